@@ -1,0 +1,273 @@
+//! The line that tells a fault.
+
+ghost use Rattle.std.specs.Prelude.{◌≤◌, length};
+
+use crate::fault::{Fault, OptionFault};
+use itoa::Buffer;
+use noc_files::{InputFault, Key, Sink, WriteFault, port_name, write_pieces};
+use noc_net::NetFault;
+use noc_route::{Entry, RouteFault, RouteRow};
+use noc_topo::{Shape, ShapeFault};
+
+/// Writes the line of a fault: `fault`, its family, its number, its name and its details (docs/FORMATS.md, "Faults").
+pub fn fault_line<W: Sink>(fault: &Fault, sink: &mut W) -> Result<(), WriteFault> {
+    match fault {
+        Fault::Joined(fault) => input_line("joined", *fault, sink),
+        Fault::Config(fault) => input_line("config", *fault, sink),
+        Fault::Traffic(fault) => input_line("traffic", *fault, sink),
+        Fault::Option(OptionFault::NoTable) => plain_line("option", "4 NoTable", sink),
+        Fault::Shape(fault) => plain_line("shape", shape_name(*fault), sink),
+        Fault::Relation(fault, shape) => relation_line(fault, shape, sink),
+        Fault::Network(fault) => network_line(*fault, sink),
+        Fault::Write(fault) => counted_line(
+            "write",
+            "1 WriteFailed",
+            " written ",
+            fault.written,
+            sink,
+        ),
+    }
+}
+
+// A fault without details.
+fn plain_line<W: Sink>(
+    family: &'static str,
+    name: &'static str,
+    sink: &mut W,
+) -> Result<(), WriteFault>
+    requires family { length family.now ≤ 20 }
+    requires title { length name.now ≤ 20 }
+{
+    write_pieces(&["fault ", family, " ", name, "\n"], sink)
+}
+
+// A fault whose only detail is a number.
+fn counted_line<W: Sink>(
+    family: &'static str,
+    name: &'static str,
+    word: &'static str,
+    number: u64,
+    sink: &mut W,
+) -> Result<(), WriteFault>
+    requires family { length family.now ≤ 20 }
+    requires title { length name.now ≤ 20 }
+    requires word { length word.now ≤ 20 }
+{
+    let mut buffer = Buffer::new();
+    write_pieces(
+        &[
+            "fault ",
+            family,
+            " ",
+            name,
+            word,
+            buffer.format(number),
+            "\n",
+        ],
+        sink,
+    )
+}
+
+// A fault of a text.
+fn input_line<W: Sink>(
+    family: &'static str,
+    fault: InputFault,
+    sink: &mut W,
+) -> Result<(), WriteFault>
+    requires { length family.now ≤ 20 }
+{
+    match fault {
+        InputFault::ReadFailed => plain_line(family, "1 ReadFailed", sink),
+        InputFault::TooLong => plain_line(family, "2 TooLong", sink),
+        InputFault::Memory => plain_line(family, "3 Memory", sink),
+        InputFault::BadToml => plain_line(family, "4 BadToml", sink),
+        InputFault::UnknownKey => plain_line(family, "5 UnknownKey", sink),
+        InputFault::MissingKey(key) => key_line(family, "6 MissingKey", key, sink),
+        InputFault::WrongType(key) => key_line(family, "7 WrongType", key, sink),
+        InputFault::BadValue(key) => key_line(family, "8 BadValue", key, sink),
+        InputFault::BadHeader => plain_line(family, "9 BadHeader", sink),
+        InputFault::BadCount { row } => counted_line(
+            family,
+            "10 BadCount",
+            " row ",
+            row as u64,
+            sink,
+        ),
+        InputFault::BadNumber { row, column } => field_line(
+            family,
+            "11 BadNumber",
+            row,
+            column,
+            sink,
+        ),
+        InputFault::BadPort { row, column } => field_line(family, "12 BadPort", row, column, sink),
+        InputFault::NoSplit => plain_line(family, "13 NoSplit", sink),
+    }
+}
+
+// A fault of a key.
+fn key_line<W: Sink>(
+    family: &'static str,
+    name: &'static str,
+    key: Key,
+    sink: &mut W,
+) -> Result<(), WriteFault>
+    requires family { length family.now ≤ 20 }
+    requires title { length name.now ≤ 20 }
+{
+    write_pieces(
+        &["fault ", family, " ", name, " key ", key.name(), "\n"],
+        sink,
+    )
+}
+
+// A fault of a field.
+fn field_line<W: Sink>(
+    family: &'static str,
+    name: &'static str,
+    row: usize,
+    column: usize,
+    sink: &mut W,
+) -> Result<(), WriteFault>
+    requires family { length family.now ≤ 20 }
+    requires title { length name.now ≤ 20 }
+{
+    let mut first = Buffer::new();
+    let mut second = Buffer::new();
+    write_pieces(
+        &[
+            "fault ",
+            family,
+            " ",
+            name,
+            " row ",
+            first.format(row),
+            " column ",
+            second.format(column),
+            "\n",
+        ],
+        sink,
+    )
+}
+
+fn shape_name(fault: ShapeFault) -> &'static str
+    ensures { length result.now ≤ 20 }
+{
+    match fault {
+        ShapeFault::BadDimensions => "1 BadDimensions",
+        ShapeFault::BadRadix => "2 BadRadix",
+        ShapeFault::TooManyNodes => "3 TooManyNodes",
+    }
+}
+
+// A fault of a relation.
+fn relation_line<W: Sink>(
+    fault: &RouteFault,
+    shape: &Shape,
+    sink: &mut W,
+) -> Result<(), WriteFault> {
+    match fault {
+        RouteFault::WrongShape => plain_line("relation", "1 WrongShape", sink),
+        RouteFault::NoLink(row) => row_line("2 NoLink", row, shape, sink),
+        RouteFault::NotMinimal(row) => row_line("3 NotMinimal", row, shape, sink),
+        RouteFault::EarlyEject(row) => row_line("4 EarlyEject", row, shape, sink),
+        RouteFault::LateHop(row) => row_line("5 LateHop", row, shape, sink),
+        RouteFault::NoWay(entry) => entry_line(entry, shape, sink),
+        RouteFault::Memory => plain_line("relation", "7 Memory", sink),
+    }
+}
+
+// A fault of a table's row.
+fn row_line<W: Sink>(
+    name: &'static str,
+    row: &RouteRow,
+    shape: &Shape,
+    sink: &mut W,
+) -> Result<(), WriteFault>
+    requires { length name.now ≤ 20 }
+{
+    let mut class = Buffer::new();
+    let mut router = Buffer::new();
+    let mut in_port = Buffer::new();
+    let mut in_vc = Buffer::new();
+    let mut dst = Buffer::new();
+    let mut out_port = Buffer::new();
+    let mut out_vc = Buffer::new();
+    write_pieces(
+        &[
+            "fault relation ",
+            name,
+            " class ",
+            class.format(row.class),
+            " router ",
+            router.format(row.router),
+            " port ",
+            port_text(shape, row.in_port, &mut in_port),
+            " vc ",
+            in_vc.format(row.in_vc),
+            " dst ",
+            dst.format(row.dst),
+            " out ",
+            port_text(shape, row.out_port, &mut out_port),
+            " vc ",
+            out_vc.format(row.out_vc),
+            "\n",
+        ],
+        sink,
+    )
+}
+
+// A fault of an entry of a relation.
+fn entry_line<W: Sink>(entry: &Entry, shape: &Shape, sink: &mut W) -> Result<(), WriteFault> {
+    let mut class = Buffer::new();
+    let mut router = Buffer::new();
+    let mut port = Buffer::new();
+    let mut vc = Buffer::new();
+    let mut dst = Buffer::new();
+    write_pieces(
+        &[
+            "fault relation 6 NoWay class ",
+            class.format(entry.class),
+            " router ",
+            router.format(entry.router),
+            " port ",
+            port_text(shape, entry.in_port, &mut port),
+            " vc ",
+            vc.format(entry.in_vc),
+            " dst ",
+            dst.format(entry.dst),
+            "\n",
+        ],
+        sink,
+    )
+}
+
+// The name of a port, or its number where the shape has no such port.
+fn port_text<'a>(shape: &Shape, port: usize, buffer: &'a mut Buffer) -> &'a str
+    ensures { length result.now ≤ 20 }
+{
+    match port_name(shape, port) {
+        Some(name) => name,
+        None => buffer.format(port),
+    }
+}
+
+// A fault of a network.
+fn network_line<W: Sink>(fault: NetFault, sink: &mut W) -> Result<(), WriteFault> {
+    match fault {
+        NetFault::SelfPacket { row } => packet_line("1 SelfPacket", row, sink),
+        NetFault::BadNode { row } => packet_line("2 BadNode", row, sink),
+        NetFault::BadClass { row } => packet_line("3 BadClass", row, sink),
+        NetFault::BadLength { row } => packet_line("4 BadLength", row, sink),
+        NetFault::TooMany => plain_line("network", "5 TooMany", sink),
+        NetFault::Memory => plain_line("network", "6 Memory", sink),
+        NetFault::BadDue { row } => packet_line("7 BadDue", row, sink),
+    }
+}
+
+// A fault of a packet.
+fn packet_line<W: Sink>(name: &'static str, row: usize, sink: &mut W) -> Result<(), WriteFault>
+    requires { length name.now ≤ 20 }
+{
+    counted_line("network", name, " row ", row as u64, sink)
+}

@@ -1,0 +1,5 @@
+pub mod WordLemmas
+pub mod ArbiterLemmas
+pub mod OfferLemmas
+pub mod SwitchLemmas
+pub mod Rounds

@@ -1,0 +1,3 @@
+pub mod Arbiter
+pub mod Allocation
+pub mod Steps

@@ -1,0 +1,18 @@
+-- One step of a pass over requesters or winners.
+use Rattle.std.specs.Prelude.{ℕ, ◌||◌, List, Option, Some, None, nat_le, nat_lt, slice_index_or, slice_set, if◌then◌else◌}
+use Rattle.noc_alloc.specs.Arbiter.{Turn, turned, turn_at}
+
+-- of the one that came first so far and a later number, the one that comes first
+abbrev pub nearer : ℕ → Option ℕ → ℕ → Option ℕ
+nearer pointer None next = Some next
+nearer pointer (Some held) next = if nat_le pointer held || nat_lt next pointer then Some held else Some next
+
+-- each arbiter's first so far, once a later requester has asked for one of them
+abbrev pub offered : List Turn → Option ℕ → ℕ → List (Option ℕ) → List (Option ℕ)
+offered turns None next held = held
+offered turns (Some o) next held = slice_set held o (nearer (turn_at turns o).pointer (slice_index_or held o None) next)
+
+-- the arbiters of the input ports after one output port's winner, if any
+abbrev pub turned_winner : Option ℕ → List (Option ℕ) → List Turn → List Turn
+turned_winner None picks turns = turns
+turned_winner (Some q) picks turns = slice_set turns q (turned (turn_at turns q) (slice_index_or picks q None))

@@ -1,0 +1,15 @@
+pub mod NumberFacts
+pub mod RowFacts
+pub mod NameFacts
+pub mod SheetFacts
+pub mod KeyFacts
+pub mod SinkFacts
+pub mod SheetLaws
+pub mod TrafficLaws
+pub mod PortFacts
+pub mod ConfigurationLaws
+pub mod PortLaws
+pub mod TableLaws
+pub mod PlainFacts
+pub mod NumeralFacts
+pub mod BelowFacts

@@ -1,0 +1,5 @@
+use Rattle.noc_files.proofs.TableLaws.{table_back}
+use Rattle.noc_files.proofs.table.written_table_is_read_back.Goals as goal
+
+pub returns : goal.returns
+returns c g grid rows h = table_back g grid rows h

@@ -1,0 +1,166 @@
+-- What a configuration says.
+use Rattle.std.specs.Prelude.{◌≡◌, ℕ, ◌≤◌, ℤ, pos, negsuc, Bool, true, List, [], ◌∷◌, codes, Option, Some, None, Result, Ok, Err, nat_le, ◌&&◌, ◌||◌, if◌then◌else◌, option_map, option_and_then, is_some}
+use Rattle.std.specs.Option.{ok_or}
+use Rattle.std.specs.Str.{IsUtf8, bytes_eq, is_utf8}
+use Rattle.toml.specs.Data.{Data, Items, no_items, item, Members, no_members, member, as_array, as_integer, as_str, array, get_member, integer, string}
+use Rattle.toml.specs.Parse.{parse_document}
+use Rattle.noc_files.specs.declared.fault.InputFault.{InputFault}
+use Rattle.noc_files.specs.declared.fault.InputFault.TheVariants.{BadToml, BadValue, MissingKey, UnknownKey, WrongType}
+use Rattle.noc_files.specs.declared.fault.Key.{Key}
+use Rattle.noc_files.specs.declared.fault.Key.TheVariants as key
+use Rattle.noc_files.specs.declared.configuration.Config.{Config}
+use Rattle.noc_topo.specs.declared.shape.Kind.{Kind}
+use Rattle.noc_topo.specs.declared.shape.Kind.TheVariants.{Mesh, Torus}
+use Rattle.noc_files.specs.declared.configuration.RuleName.{RuleName}
+use Rattle.noc_files.specs.declared.configuration.RuleName.TheVariants as rule
+use Rattle.noc_files.specs.declared.configuration.TheConstants.{MAX_CYCLES}
+use Rattle.noc_files.specs.Gives.{◌>>=◌}
+use Rattle.noc_files.specs.Keys.{key_name}
+use Rattle.noc_topo.specs.Words.{Each}
+use Rattle.noc_packet.specs.declared.limits.TheConstants.{MAX_BUFFER, MAX_CHANNELS, MAX_CLASSES}
+
+-- a configuration without where its radix lies in memory
+pub record Settings : Type 0 where
+  pub kind : Kind
+  pub radix : List ℕ
+  pub channels : ℕ
+  pub buffer : ℕ
+  pub classes : ℕ
+  pub rule : RuleName
+  pub cycles : ℕ
+
+abbrev pub settings : Config → Settings
+settings c = record { kind = c.kind; radix = c.radix.items; channels = c.channels; buffer = c.buffer; classes = c.classes; rule = c.rule; cycles = c.cycles }
+
+-- whether a text is a key of a configuration
+abbrev pub is_key : List ℕ → Bool
+is_key k =
+    bytes_eq k (codes "kind") || bytes_eq k (codes "radix") || bytes_eq k (codes "channels") || bytes_eq k (codes "buffer")
+    || bytes_eq k (codes "classes") || bytes_eq k (codes "rule") || bytes_eq k (codes "cycles")
+
+-- each key is one of a configuration
+abbrev pub all_known : Members → Bool
+all_known no_members = true
+all_known (member k d ms) = is_key k && all_known ms
+
+-- the table that a text is
+abbrev pub document_of : List ℕ → Result Members InputFault
+document_of text = if is_utf8 text then ok_or (parse_document text) BadToml else Err BadToml
+
+-- the value at a key, of the type that `as` reads
+abbrev pub typed_at : {X : Type 0} → (Data → Option X) → Key → Members → Result X InputFault
+typed_at as_type k ms = ok_or (get_member (key_name k) ms) (MissingKey k) >>= λ d. ok_or (as_type d) (WrongType k)
+
+abbrev pub word_at : Key → Members → Result (List ℕ) InputFault
+word_at = typed_at as_str
+
+-- a number from low to high
+abbrev pub within : ℕ → ℕ → ℤ → Option ℕ
+within low high (pos n) = if nat_le low n && nat_le n high then Some n else None
+within low high (negsuc n) = None
+
+abbrev pub number_in : Key → ℕ → ℕ → Members → Result ℕ InputFault
+number_in k low high ms = typed_at as_integer k ms >>= λ z. ok_or (within low high z) (BadValue k)
+
+abbrev pub kind_of : List ℕ → Option Kind
+kind_of w = if bytes_eq w (codes "mesh") then Some Mesh else if bytes_eq w (codes "torus") then Some Torus else None
+
+abbrev pub rule_of : List ℕ → Option RuleName
+rule_of w =
+    if bytes_eq w (codes "dor") then Some rule.Dor
+    else if bytes_eq w (codes "dateline") then Some rule.Dateline
+    else if bytes_eq w (codes "west-first") then Some rule.WestFirst
+    else if bytes_eq w (codes "table") then Some rule.Table
+    else None
+
+unfoldable pub kind_at : Members → Result Kind InputFault
+kind_at ms = word_at key.Kind ms >>= λ w. ok_or (kind_of w) (BadValue key.Kind)
+
+unfoldable pub rule_at : Members → Result RuleName InputFault
+rule_at ms = word_at key.Rule ms >>= λ w. ok_or (rule_of w) (BadValue key.Rule)
+
+abbrev pub all_integers : Items → Bool
+all_integers no_items = true
+all_integers (item d ds) = is_some (as_integer d) && all_integers ds
+
+-- each number from 0 to 1000
+abbrev pub lengths_of : Items → Option (List ℕ)
+lengths_of no_items = Some []
+lengths_of (item d ds) = option_and_then (λ z. option_and_then (λ n. option_map (λ ns. n ∷ ns) (lengths_of ds)) (within 0 1000 z)) (as_integer d)
+
+unfoldable pub radix_at : Members → Result (List ℕ) InputFault
+radix_at ms = typed_at as_array key.Radix ms >>= λ ds. if all_integers ds then ok_or (lengths_of ds) (BadValue key.Radix) else Err (WrongType key.Radix)
+
+-- key by key
+unfoldable pub config_at : Members → Result Settings InputFault
+config_at ms = do
+  kind ← kind_at ms
+  radix ← radix_at ms
+  channels ← number_in key.Channels 1 MAX_CHANNELS ms
+  buffer ← number_in key.Buffer 1 MAX_BUFFER ms
+  classes ← number_in key.Classes 1 MAX_CLASSES ms
+  rule ← rule_at ms
+  cycles ← number_in key.Cycles 1 MAX_CYCLES ms
+  Ok (record { kind = kind; radix = radix; channels = channels; buffer = buffer; classes = classes; rule = rule; cycles = cycles })
+
+-- numbers that a network and its run may have
+pub record KeepsLimits (c : Config) : Type 0 where
+  pub some_channels : 1 ≤ c.channels
+  pub few_channels : c.channels ≤ MAX_CHANNELS
+  pub some_buffer : 1 ≤ c.buffer
+  pub few_buffer : c.buffer ≤ MAX_BUFFER
+  pub some_classes : 1 ≤ c.classes
+  pub few_classes : c.classes ≤ MAX_CLASSES
+  pub some_cycles : 1 ≤ c.cycles
+  pub few_cycles : c.cycles ≤ MAX_CYCLES
+
+-- a document, then its keys, then key by key
+abbrev pub config_of : List ℕ → Result Settings InputFault
+config_of text = document_of text >>= λ ms. if all_known ms then config_at ms else Err UnknownKey
+
+-- ---- the same in the words of the format
+
+abbrev pub kind_word : Kind → List ℕ
+kind_word Mesh = codes "mesh"
+kind_word Torus = codes "torus"
+
+abbrev pub rule_word : RuleName → List ℕ
+rule_word rule.Dor = codes "dor"
+rule_word rule.Dateline = codes "dateline"
+rule_word rule.WestFirst = codes "west-first"
+rule_word rule.Table = codes "table"
+
+-- these numbers as the integers of an array
+abbrev pub integers : List ℕ → Items
+integers [] = no_items
+integers (n ∷ ns) = item (integer (pos n)) (integers ns)
+
+-- each key is the text of a key of a configuration
+abbrev pub HasKnownKeys : Members → Type 0
+HasKnownKeys no_members = Unit {0}
+HasKnownKeys (member text d ms) = ((k : Key) × (text ≡ key_name k)) × HasKnownKeys ms
+
+-- the value of a key
+abbrev pub HasValue : Members → Key → Data → Type 0
+HasValue ms k d = get_member (key_name k) ms ≡ Some d
+
+-- the integer of a key, and its limits
+pub record HasNumber (ms : Members) (k : Key) (low high n : ℕ) : Type 0 where
+  pub value : HasValue ms k (integer (pos n))
+  pub least : low ≤ n
+  pub most : n ≤ high
+
+-- a document in UTF-8 that has just the keys of a configuration, with these settings as their values
+pub record IsConfiguration (text : List ℕ) (s : Settings) : Type 0 where
+  pub document : Members
+  pub utf8 : IsUtf8 text
+  pub parsed : parse_document text ≡ Some document
+  pub known : HasKnownKeys document
+  pub kind : HasValue document key.Kind (string (kind_word s.kind))
+  pub radix : HasValue document key.Radix (array (integers s.radix))
+  pub radices : Each (λ k. k ≤ 1000) s.radix
+  pub channels : HasNumber document key.Channels 1 MAX_CHANNELS s.channels
+  pub buffer : HasNumber document key.Buffer 1 MAX_BUFFER s.buffer
+  pub classes : HasNumber document key.Classes 1 MAX_CLASSES s.classes
+  pub rule : HasValue document key.Rule (string (rule_word s.rule))
+  pub cycles : HasNumber document key.Cycles 1 MAX_CYCLES s.cycles

@@ -1,0 +1,47 @@
+-- The report of a router's findings in one cycle.
+use Rattle.std.specs.Prelude.{ℕ, ◌+◌, ◌*◌, slice_get, List, [], ◌∷◌, ◌++◌, decimal, codes, Option, Some, None}
+use Rattle.noc_topo.specs.Shape.{Grid}
+use Rattle.noc_route.specs.Routes.{Routes}
+use Rattle.noc_router.specs.declared.verdict.Finding.{Finding}
+use Rattle.noc_router.specs.declared.verdict.Verdict.{Verdict}
+use Rattle.noc_router.specs.declared.verdict.Verdict.TheVariants.{Empty, Granted, LostChannel, LostInput, LostSwitch, Moved, NoCredit, NoFlit, NoIdleChannel, Routed}
+use Rattle.noc_files.specs.Channels.{over_router}
+use Rattle.noc_files.specs.Ports.{name_of_port}
+use Rattle.noc_files.specs.Writing.{comma, dash_or, joined, line_end}
+
+unfoldable pub finding_header : List ℕ
+finding_header = codes "port,vc,verdict,packet,out\n"
+
+-- an output channel as port, full stop and number, or a dash, and the end of the line
+abbrev pub out_text : Grid → Option (ℕ × ℕ) → List ℕ
+out_text g None = joined (codes "-" ∷ line_end ∷ [])
+out_text g (Some (port, vc)) = joined (name_of_port g port ∷ codes "." ∷ decimal vc ∷ line_end ∷ [])
+
+-- the name of a verdict
+abbrev pub verdict_word : Verdict → List ℕ
+verdict_word Empty = codes "Empty"
+verdict_word Routed = codes "Routed"
+verdict_word Granted = codes "Granted"
+verdict_word Moved = codes "Moved"
+verdict_word NoFlit = codes "NoFlit"
+verdict_word NoIdleChannel = codes "NoIdleChannel"
+verdict_word LostChannel = codes "LostChannel"
+verdict_word NoCredit = codes "NoCredit"
+verdict_word LostInput = codes "LostInput"
+verdict_word LostSwitch = codes "LostSwitch"
+
+-- an input channel by its port and its number, its verdict, and its packet
+abbrev pub verdict_text : Grid → ℕ → ℕ → Finding → List ℕ
+verdict_text g port vc f = joined (name_of_port g port ∷ comma ∷ decimal vc ∷ comma ∷ verdict_word f.verdict ∷ comma ∷ dash_or f.packet ∷ comma ∷ [])
+
+-- the line of an input channel: its verdict, its packet, and the output channel that the verdict speaks of
+abbrev pub finding_line : Grid → ℕ → ℕ → Finding → List ℕ
+finding_line g port vc f = verdict_text g port vc f ++ out_text g f.out
+
+-- the line of an input channel, if something was found of it
+abbrev pub found_line : Routes → List Finding → ℕ → ℕ → List ℕ
+found_line relation findings port vc = elim (slice_get findings (port * relation.vcs + vc)) [ None ↦ [] | Some f ↦ finding_line relation.grid port vc f ]
+
+-- the report of a router, whose findings go by the index port*V + vc: the header, and a line for each input channel
+abbrev pub finding_report : Routes → ℕ → List Finding → List ℕ
+finding_report relation router findings = finding_header ++ over_router relation router (found_line relation findings)

@@ -1,0 +1,17 @@
+pub mod Gives
+pub mod Rows
+pub mod Sheet
+pub mod Traffic
+pub mod Configuration
+pub mod Joined
+pub mod Source
+pub mod Writing
+pub mod Latency
+pub mod Ports
+pub mod Stalls
+pub mod Summary
+pub mod Findings
+pub mod Keys
+pub mod Table
+pub mod Plain
+pub mod Channels

@@ -1,0 +1,29 @@
+-- What a file of rows under a header says, whatever a row says.
+use Rattle.std.specs.Prelude.{◌≡◌, ℕ, ◌+◌, List, [], ◌∷◌, Result, Ok, Err, if◌then◌else◌}
+use Rattle.std.specs.Cmp.Lexicographic.{pointwise}
+use Rattle.std.specs.List.{AllZip}
+use Rattle.std.specs.Str.{bytes_eq}
+use Rattle.noc_files.specs.declared.fault.InputFault.{InputFault}
+use Rattle.noc_files.specs.declared.fault.InputFault.TheVariants.{BadHeader}
+use Rattle.noc_files.specs.Gives.{◌>>=◌}
+use Rattle.noc_files.specs.Rows.{Fields}
+
+module _ {P : Type 0} (read : ℕ → Fields → Result P InputFault) where
+  -- what the rows say, from this one on
+  unfoldable pub each_from : ℕ → List Fields → Result (List P) InputFault
+  each_from row [] = Ok []
+  each_from row (fields ∷ rows) = do
+    first ← read row fields
+    others ← each_from (row + 1) rows
+    Ok (first ∷ others)
+
+  -- a row of these names, and then the rows
+  unfoldable pub sheet : Fields → List Fields → Result (List P) InputFault
+  sheet header [] = Err BadHeader
+  sheet header (names ∷ rows) = if pointwise bytes_eq names header then each_from 0 rows else Err BadHeader
+
+-- a row of these names, and below it a row for each of these values
+pub record IsSheet {P : Type 0} (Writes : Fields → P → Type 0) (header : Fields) (rows : List Fields) (values : List P) : Type 0 where
+  pub below : List Fields
+  pub under_header : rows ≡ header ∷ below
+  pub writes : AllZip Writes below values

@@ -1,0 +1,55 @@
+-- What a traffic file says.
+use Rattle.std.specs.Prelude.{ℕ, ◌^◌, ◌<◌, ◌==◌, decimal, map, List, [], ◌∷◌, length, codes, Result, Ok, Err, if◌then◌else◌}
+use Rattle.noc_files.specs.declared.fault.InputFault.{InputFault}
+use Rattle.noc_files.specs.declared.fault.InputFault.TheVariants.{BadCount}
+use Rattle.noc_packet.specs.declared.packet.Packet.{Packet}
+use Rattle.noc_files.specs.Gives.{◌>>=◌}
+use Rattle.noc_files.specs.Plain.{plain_text}
+use Rattle.noc_files.specs.Rows.{Fields, IsNumeral, number_at, rows_of}
+use Rattle.noc_files.specs.Sheet.{IsSheet, sheet}
+
+abbrev pub header : Fields
+header = codes "source" ∷ codes "destination" ∷ codes "class" ∷ codes "length" ∷ codes "due" ∷ []
+
+-- the packet of a row: first the number of fields, then the fields from left to right
+unfoldable pub packet_of : ℕ → Fields → Result Packet InputFault
+packet_of row fields = if length fields == 5 then five else Err (BadCount row)
+  where
+    five : Result Packet InputFault
+    five = do
+      source ← number_at row 0 fields
+      destination ← number_at row 1 fields
+      class ← number_at row 2 fields
+      length ← number_at row 3 fields
+      due ← number_at row 4 fields
+      Ok (record { source = source; destination = destination; class = class; length = length; due = due })
+
+abbrev pub traffic_of : List ℕ → Result (List Packet) InputFault
+traffic_of text = sheet packet_of header (rows_of text)
+
+-- five numerals, which write this packet
+abbrev pub WritesPacket : Fields → Packet → Type 0
+WritesPacket (source ∷ destination ∷ class ∷ length ∷ due ∷ []) p =
+    IsNumeral source p.source × IsNumeral destination p.destination × IsNumeral class p.class × IsNumeral length p.length × IsNumeral due p.due
+WritesPacket _ p = ⊥
+
+-- the header, and below it rows of five numerals, which write these packets
+abbrev pub IsTraffic : List ℕ → List Packet → Type 0
+IsTraffic text packets = IsSheet WritesPacket header (rows_of text) packets
+
+-- ---- the plainest traffic file of some packets
+
+-- numbers that a numeral can write
+pub record IsWritable (p : Packet) : Type 0 where
+  pub source : p.source < 2 ^ 32
+  pub destination : p.destination < 2 ^ 32
+  pub class : p.class < 2 ^ 32
+  pub length : p.length < 2 ^ 32
+  pub due : p.due < 2 ^ 32
+
+abbrev pub packet_fields : Packet → Fields
+packet_fields p = decimal p.source ∷ decimal p.destination ∷ decimal p.class ∷ decimal p.length ∷ decimal p.due ∷ []
+
+-- the header, and a line of five numbers for each packet
+abbrev pub traffic_text : List Packet → List ℕ
+traffic_text packets = plain_text (header ∷ map packet_fields packets)

@@ -1,0 +1,31 @@
+-- What a sink took of a text, and the small texts of which reports are made.
+use Rattle.std.specs.Prelude.{◌≡◌, ℕ, ◌+◌, ◌<◌, Bool, true, List, length, take, codes, decimal, Option, Some, None, Result, Ok, Err}
+use Rattle.std.specs.Io.KnownBytes.{Appends}
+use Rattle.std.specs.List.{flat_map}
+use Rattle.noc_files.specs.declared.writing.WriteFault.{WriteFault}
+
+-- A sink was given a piece of a text of which `before` bytes were taken. It took all of it, and n bytes are taken now,
+-- or it took a front of it, failed, and the fault says how many bytes of the text are taken.
+abbrev pub Puts : {S : Type 0} → (S → Option (List ℕ)) → (S → Bool) → S → S → ℕ → List ℕ → Result ℕ WriteFault → Type 0
+Puts contents failed old new before piece (Ok n) = (n ≡ before + length piece) × Appends (contents old) (contents new) piece
+Puts contents failed old new before piece (Err f) = (k : ℕ) × (k < length piece) × (f.written ≡ before + k) × Appends (contents old) (contents new) (take k piece) × (failed new ≡ true)
+
+-- a sink took all of a text, or failed after just the bytes that the fault counts
+abbrev pub Wrote : {S : Type 0} → (S → Option (List ℕ)) → (S → Bool) → S → S → List ℕ → Result (Unit {0}) WriteFault → Type 0
+Wrote contents failed old new text (Ok _) = Appends (contents old) (contents new) text
+Wrote contents failed old new text (Err f) = (f.written < length text) × Appends (contents old) (contents new) (take f.written text) × (failed new ≡ true)
+
+-- pieces one after the other
+abbrev pub joined : List (List ℕ) → List ℕ
+joined pieces = flat_map (λ piece. piece) pieces
+
+abbrev pub comma : List ℕ
+comma = codes ","
+
+abbrev pub line_end : List ℕ
+line_end = codes "\n"
+
+-- a number, or a dash
+abbrev pub dash_or : Option ℕ → List ℕ
+dash_or None = codes "-"
+dash_or (Some n) = decimal n

@@ -1,0 +1,37 @@
+//! The texts of the simulator: configurations, joined texts and files of rows are read, and reports are written.
+#![tactic(auto)]
+
+mod configuration;
+mod fault;
+mod findings;
+mod joined;
+mod latency;
+mod ports;
+mod rows;
+mod sink;
+mod source;
+mod stalls;
+mod summary;
+mod table;
+mod traffic;
+mod writing;
+
+pub use configuration::{
+    Config, MAX_CYCLES, RuleName, configuration_is_document_with_keys, read_config,
+};
+pub use fault::{InputFault, Key};
+pub use findings::write_findings;
+pub use joined::split_joined;
+pub use latency::write_latency;
+pub use ports::port_name;
+pub use rows::{plain_rows_are_read_back, rows_are_records};
+pub use sink::{Out, Sink};
+pub use source::read_all;
+pub use stalls::write_stalls;
+pub use summary::write_summary;
+pub use table::{read_table, table_is_header_and_rows, written_table_is_read_back};
+pub use traffic::{read_traffic, traffic_is_header_and_numerals, written_traffic_is_read_back};
+pub use writing::{WriteFault, write_pieces};
+
+#[cfg(test)]
+mod tests;

@@ -1,0 +1,93 @@
+//! Table files (docs/FORMATS.md).
+
+ghost use Rattle.std.specs.Prelude.{◌≡◌, ◌↔◌, ℕ, List, Ok};
+ghost use Rattle.csv.specs.Records.{fields_of};
+ghost use Rattle.noc_route.specs.declared.rule.RouteRow.{RouteRow as Route};
+ghost use Rattle.noc_topo.specs.Shape.{Grid, IsGrid};
+ghost use Rattle.noc_topo.specs.Words.{Each};
+ghost use Rattle.noc_files.specs.Gives.{Gives};
+ghost use Rattle.noc_files.specs.Table.{port_at, route_row_of, table_of, table_text, IsTable, IsWritable};
+
+use crate::fault::InputFault;
+use crate::ports::port_named;
+use crate::rows::{has_fields, next_row, number_in, rows};
+use csv::ByteRecord;
+use noc_route::RouteRow;
+use noc_topo::Shape;
+use std::alloc::Global;
+
+// The port in a column of a row.
+fn port_in(
+    shape: &Shape,
+    row: &ByteRecord,
+    index: usize,
+    column: usize,
+) -> Result<usize, InputFault>
+    ensures { result ≡ port_at shape.now index column (fields_of row.now) }
+{
+    row.get(column)
+        .and_then(|field| port_named(shape, field))
+        .ok_or(InputFault::BadPort { row: index, column })
+}
+
+// The row of a table that a row of fields says.
+#[tactic(auto, unfolding(crate::specs::Table::route_row_of))]
+fn route_row_in(shape: &Shape, row: &ByteRecord, index: usize) -> Result<RouteRow, InputFault>
+    ensures { result ≡ route_row_of shape.now index (fields_of row.now) }
+{
+    if row.len() != 7 {
+        return Err(InputFault::BadCount { row: index });
+    }
+    let class = number_in(row, index, 0)?;
+    let router = number_in(row, index, 1)?;
+    let in_port = port_in(shape, row, index, 2)?;
+    let in_vc = number_in(row, index, 3)?;
+    let dst = number_in(row, index, 4)?;
+    let out_port = port_in(shape, row, index, 5)?;
+    let out_vc = number_in(row, index, 6)?;
+    Ok(RouteRow {
+        class: class as usize,
+        router: router as usize,
+        in_port,
+        in_vc: in_vc as usize,
+        dst: dst as usize,
+        out_port,
+        out_vc: out_vc as usize,
+    })
+}
+
+/// The rows of a table file, or its first fault: `BadHeader`, and then row by row `BadCount`, `BadNumber` and `BadPort`
+/// from left to right; `Memory` where a growth was refused (docs/FORMATS.md). Ports have the names of the shape.
+pub fn read_table(alloc: Global, shape: &Shape, text: &[u8]) -> Result<Vec<RouteRow>, InputFault>
+    ensures { Gives (λ v. v.items) result (table_of shape.now text.now) }
+{
+    let mut reader = rows(alloc, text);
+    let mut row = ByteRecord::new(alloc);
+    if !next_row(&mut reader, &mut row)? {
+        return Err(InputFault::BadHeader);
+    }
+    let names = [
+        "class", "router", "in_port", "in_vc", "dst", "out_port", "out_vc",
+    ];
+    if !has_fields(&row, &names) {
+        return Err(InputFault::BadHeader);
+    }
+    let mut routes = Vec::new(alloc);
+    'rows: while next_row(&mut reader, &mut row)? {
+        let route = route_row_in(shape, &row, routes.len())?;
+        routes.push(route)?;
+    }
+    Ok(routes)
+}
+
+/// A text is read as these rows of a table exactly where its first row is the header and the rows below it are seven
+/// fields each, numerals and names of ports of the shape, which write them.
+pub fn table_is_header_and_rows()
+    ensures { (g : Grid) → IsGrid g → (text : List ℕ) (rows : List Route) → (table_of g text ≡ Ok rows) ↔ IsTable g text rows }
+{}
+
+/// The plainest table file of some rows is read back as these rows, where their numbers are at most 4294967295 and the
+/// shape has their ports.
+pub fn written_table_is_read_back()
+    ensures { (g : Grid) → IsGrid g → (rows : List Route) → Each (IsWritable g) rows → table_of g (table_text g rows) ≡ Ok rows }
+{}

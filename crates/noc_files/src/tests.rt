@@ -1,0 +1,8 @@
+// What no clause says: worked texts, readers and sinks that fail.
+
+mod configurations;
+mod inputs;
+mod reports;
+mod sinks;
+mod table_files;
+mod traffic_files;

@@ -1,0 +1,68 @@
+//! Traffic files.
+
+ghost use Rattle.std.specs.Prelude.{◌≡◌, ◌↔◌, ℕ, List, Ok};
+ghost use Rattle.csv.specs.Records.{fields_of};
+ghost use Rattle.noc_packet.specs.declared.packet.Packet.{Packet as PacketValue};
+ghost use Rattle.noc_topo.specs.Words.{Each};
+ghost use Rattle.noc_files.specs.Gives.{Gives};
+ghost use Rattle.noc_files.specs.Traffic.{packet_of, traffic_of, traffic_text, IsTraffic, IsWritable};
+
+use crate::fault::InputFault;
+use crate::rows::{has_fields, next_row, number_in, rows};
+use csv::ByteRecord;
+use noc_packet::Packet;
+use std::alloc::Global;
+
+// The packet of a row.
+#[tactic(auto, unfolding(crate::specs::Traffic::packet_of))]
+fn packet_in(row: &ByteRecord, index: usize) -> Result<Packet, InputFault>
+    ensures { result ≡ packet_of index (fields_of row.now) }
+{
+    if row.len() != 5 {
+        return Err(InputFault::BadCount { row: index });
+    }
+    let source = number_in(row, index, 0)?;
+    let destination = number_in(row, index, 1)?;
+    let class = number_in(row, index, 2)?;
+    let length = number_in(row, index, 3)?;
+    let due = number_in(row, index, 4)?;
+    Ok(Packet {
+        source,
+        destination,
+        class,
+        length,
+        due,
+    })
+}
+
+/// The packets of a traffic file, or its first fault.
+pub fn read_traffic(alloc: Global, text: &[u8]) -> Result<Vec<Packet>, InputFault>
+    ensures { Gives (λ v. v.items) result (traffic_of text.now) }
+{
+    let mut reader = rows(alloc, text);
+    let mut row = ByteRecord::new(alloc);
+    if !next_row(&mut reader, &mut row)? {
+        return Err(InputFault::BadHeader);
+    }
+    if !has_fields(&row, &["source", "destination", "class", "length", "due"]) {
+        return Err(InputFault::BadHeader);
+    }
+    let mut packets = Vec::new(alloc);
+    'rows: while next_row(&mut reader, &mut row)? {
+        let packet = packet_in(&row, packets.len())?;
+        packets.push(packet)?;
+    }
+    Ok(packets)
+}
+
+/// A text is read as these packets exactly where its first row is the header and the rows below it are five numerals
+/// each, which write them.
+pub fn traffic_is_header_and_numerals()
+    ensures { (text : List ℕ) (packets : List PacketValue) → (traffic_of text ≡ Ok packets) ↔ IsTraffic text packets }
+{}
+
+/// The plainest traffic file of some packets, a header and a line of five numbers each, is read back as these packets,
+/// where the numbers are at most 4294967295.
+pub fn written_traffic_is_read_back()
+    ensures { (packets : List PacketValue) → Each IsWritable packets → traffic_of (traffic_text packets) ≡ Ok packets }
+{}

@@ -1,0 +1,192 @@
+-- Sets of channel indices, by their bits.
+use Rattle.std.proofs.Common.{◌/◌, ◌≡◌, ℕ, ◌+◌, ◌-◌, ◌*◌, ◌%◌, ◌^◌, ◌<◌, ◌≤◌, Bool, true, false, Option, Some, None, refl, ap, sym, ◌∙◌, arith, inl, inr, w64, bit_and, bit_or, zero-mul}
+use Rattle.std.specs.Prelude.{nat_eq, ◌⊎◌, ◌&&◌, ◌||◌, not, cond}
+use Rattle.std.specs.Int.{bit_at, bit_not, trailing_zeros}
+use Rattle.std.proofs.lemmas.Bool.{eq-eqb, ne_eqb, cases_eq, cases_lt, false≢true, eqb-true, le-leb, lt-leb}
+use Rattle.std.proofs.lemmas.Nat.{or_lt, or_disjoint, shr-shr, shr_le, one_shl, and_le_l, and-not, and_comm, pow_below}
+use Rattle.std.proofs.lemmas.Nat.Bits.{bit_at-zero, bit_at-lt, bit_at_and, bit_at_above, and_pow, same_from_bits, bit_at_set_same, bit_at_set_other, bit_at_clear_same, bit_at_clear_other, bit_at-trailing_zeros}
+use Rattle.noc_packet.specs.Set.{has_bit, has_from, in_both, IsLeast}
+
+pub has_bit-one : (bits k : ℕ) → bit_at bits k ≡ 1 → has_bit bits k ≡ true
+has_bit-one bits k e = eq-eqb _ _ e
+
+pub has_bit-none : (bits k : ℕ) → bit_at bits k ≡ 0 → has_bit bits k ≡ false
+has_bit-none bits k e = ne_eqb _ _ (λ w. omega arith)
+
+pub bit_at-true : (bits k : ℕ) → has_bit bits k ≡ true → bit_at bits k ≡ 1
+bit_at-true bits k e = eqb-true _ _ e
+
+pub bit_at-false : (bits k : ℕ) → has_bit bits k ≡ false → bit_at bits k ≡ 0
+bit_at-false bits k e = at (cases_eq (bit_at bits k) 1)
+  where
+    at : (bit_at bits k ≡ 1) ⊎ (bit_at bits k ≡ 1 → ⊥) → bit_at bits k ≡ 0
+    at (inl one) = absurd (false≢true (sym e ∙ has_bit-one bits k one))
+    at (inr other) = omega (arith, bit_at-lt bits k)
+
+-- two sets with one bit have it both or neither
+pub has_bit-same : (a b k : ℕ) → bit_at a k ≡ bit_at b k → has_bit a k ≡ has_bit b k
+has_bit-same a b k e = ap (λ n. nat_eq n 1) e
+
+-- no member is past the width
+pub has_bit-above : (bits n k : ℕ) → bits < 2 ^ n → n ≤ k → has_bit bits k ≡ false
+has_bit-above bits n k bound l = has_bit-none bits k (bit_at_above bits n k bound l)
+
+pub has_bit-below : (bits n k : ℕ) → bits < 2 ^ n → has_bit bits k ≡ true → k < n
+has_bit-below bits n k bound e = at (cases_lt k n)
+  where
+    at : (k < n) ⊎ (n ≤ k) → k < n
+    at (inl l) = l
+    at (inr u) = absurd (false≢true (sym (has_bit-above bits n k bound u) ∙ e))
+
+pub has_bit-zero : (k : ℕ) → has_bit 0 k ≡ false
+has_bit-zero k = has_bit-none 0 k (bit_at-zero k)
+
+-- a set with no member is zero
+pub zero_from_none : (bits : ℕ) → ((k : ℕ) → has_bit bits k ≡ false) → bits ≡ 0
+zero_from_none bits none = same_from_bits bits 0 (λ k. bit_at-false bits k (none k) ∙ sym (bit_at-zero k))
+
+-- two sets with the same members are one
+pub same_set : (a b : ℕ) → ((k : ℕ) → has_bit a k ≡ has_bit b k) → a ≡ b
+same_set a b same = same_from_bits a b (λ k. at k (has_bit b k) refl)
+  where
+    at : (k : ℕ) (x : Bool) → has_bit b k ≡ x → bit_at a k ≡ bit_at b k
+    at k true e = bit_at-true a k (same k ∙ e) ∙ sym (bit_at-true b k e)
+    at k false e = bit_at-false a k (same k ∙ e) ∙ sym (bit_at-false b k e)
+
+-- ---- with one more
+pub with_fits : (bits k : ℕ) → bits < 2 ^ 56 → k < 56 → bit_or bits (1 * 2 ^ k % 2 ^ 64) < 2 ^ 56
+with_fits bits k bound l = rw (one_shl k 64 (omega arith)) (or_lt 56 bits (2 ^ k) bound (pow_below k 56 l))
+
+pub with_members : (bits j k : ℕ) → j < 56 → has_bit (bit_or bits (1 * 2 ^ j % 2 ^ 64)) k ≡ (nat_eq k j || has_bit bits k)
+with_members bits j k l = at (cases_eq k j)
+  where
+    at : (k ≡ j) ⊎ (k ≡ j → ⊥) → has_bit (bit_or bits (1 * 2 ^ j % 2 ^ 64)) k ≡ (nat_eq k j || has_bit bits k)
+    at (inl e) =
+        rw (eq-eqb k j e)
+        (ap (has_bit (bit_or bits (1 * 2 ^ j % 2 ^ 64))) e ∙ has_bit-one _ j (bit_at_set_same w64 bits j (omega arith)))
+    at (inr n) = rw (ne_eqb k j n) (has_bit-same _ bits k (bit_at_set_other w64 bits j (omega arith) k n))
+
+pub with_bits : (bits k : ℕ) → k < 56 → bit_or bits (1 * 2 ^ k % 2 ^ 64) ≡ cond (has_bit bits k) bits (bits + 2 ^ k)
+with_bits bits k l = at (has_bit bits k) refl
+  where
+    at : (x : Bool) → has_bit bits k ≡ x → bit_or bits (1 * 2 ^ k % 2 ^ 64) ≡ cond x bits (bits + 2 ^ k)
+    at true e = same_set _ bits (λ i. with_members bits k i l ∙ held i (cases_eq i k))
+      where
+        held : (i : ℕ) → (i ≡ k) ⊎ (i ≡ k → ⊥) → (nat_eq i k || has_bit bits i) ≡ has_bit bits i
+        held i (inl s) = rw (eq-eqb i k s) (sym (ap (has_bit bits) s ∙ e))
+        held i (inr n) = rw (ne_eqb i k n) refl
+    at false e = rw (one_shl k 64 (omega arith)) (or_disjoint bits (2 ^ k) (and_pow bits k ∙ ap (λ n. n * 2 ^ k) (bit_at-false bits k e) ∙ zero-mul (2 ^ k)))
+
+-- ---- with one less
+pub without_fits : (bits m : ℕ) → bits < 2 ^ 56 → bit_and bits m < 2 ^ 56
+without_fits bits m bound = omega (arith, and_le_l bits m)
+
+pub without_members : (bits j k : ℕ) → bits < 2 ^ 56 → j < 56 → has_bit (bit_and bits (bit_not w64 (1 * 2 ^ j % 2 ^ 64))) k ≡ (not (nat_eq k j) && has_bit bits k)
+without_members bits j k bound l = at (cases_eq k j) (cases_lt k 56)
+  where
+    at : (k ≡ j) ⊎ (k ≡ j → ⊥) → (k < 56) ⊎ (56 ≤ k) → has_bit (bit_and bits (bit_not w64 (1 * 2 ^ j % 2 ^ 64))) k ≡ (not (nat_eq k j) && has_bit bits k)
+    at (inl e) _ =
+        rw (eq-eqb k j e)
+        (ap (has_bit (bit_and bits (bit_not w64 (1 * 2 ^ j % 2 ^ 64)))) e ∙ has_bit-none _ j (bit_at_clear_same w64 bits j (omega arith)))
+    at (inr n) (inl u) = rw (ne_eqb k j n) (has_bit-same _ bits k (bit_at_clear_other w64 bits j (omega arith) k (omega arith) n))
+    at (inr n) (inr u) =
+        rw (ne_eqb k j n)
+        (has_bit-above _ 56 k (without_fits bits (bit_not w64 (1 * 2 ^ j % 2 ^ 64)) bound) u ∙ sym (has_bit-above bits 56 k bound u))
+
+pub without_bits : (bits k : ℕ) → bits < 2 ^ 56 → k < 56 → bit_and bits (bit_not w64 (1 * 2 ^ k % 2 ^ 64)) ≡ cond (has_bit bits k) (bits - 2 ^ k) bits
+without_bits bits k bound l =
+    let shifted : 1 * 2 ^ k % 2 ^ 64 ≡ 2 ^ k = one_shl k 64 (omega arith) in
+    let parts : bit_and (2 ^ 64 - 1 - 2 ^ k) bits + bit_and (2 ^ k) bits ≡ bits = and-not 64 (2 ^ k) bits (pow_below k 64 (omega arith)) (omega arith) in
+    let one : bit_and (2 ^ k) bits ≡ bit_at bits k * 2 ^ k = and_comm (2 ^ k) bits ∙ and_pow bits k in
+    let turned : bit_and bits (2 ^ 64 - 1 - 2 ^ k) ≡ bit_and (2 ^ 64 - 1 - 2 ^ k) bits = and_comm bits (2 ^ 64 - 1 - 2 ^ k) in
+    rw shifted (at (has_bit bits k) refl (2 ^ k) (bit_and bits (2 ^ 64 - 1 - 2 ^ k)) (ap (λ n. n + bit_and (2 ^ k) bits) turned ∙ parts) one)
+  where
+    at : (x : Bool) → has_bit bits k ≡ x → (p r : ℕ) → r + bit_and p bits ≡ bits → bit_and p bits ≡ bit_at bits k * p → r ≡ cond x (bits - p) bits
+    at true e p r sum one =
+        let b : bit_at bits k ≡ 1 = bit_at-true bits k e in
+        let s : bit_and p bits ≡ 1 * p = one ∙ ap (λ n. n * p) b in
+        omega arith
+    at false e p r sum one =
+        let b : bit_at bits k ≡ 0 = bit_at-false bits k e in
+        let s : bit_and p bits ≡ 0 * p = one ∙ ap (λ n. n * p) b in
+        omega arith
+
+-- ---- whether none is there
+pub is_zero-members : (bits : ℕ) → ((nat_eq bits 0 ≡ true) → (k : ℕ) → has_bit bits k ≡ false) × (((k : ℕ) → has_bit bits k ≡ false) → nat_eq bits 0 ≡ true)
+is_zero-members bits = (
+  (λ e k. ap (λ n. has_bit n k) (eqb-true bits 0 e) ∙ has_bit-zero k),
+  (λ none. eq-eqb bits 0 (zero_from_none bits none)),
+)
+
+-- ---- the least in both
+pub in_both-and : (a b k : ℕ) → in_both a b k ≡ has_bit (bit_and a b) k
+in_both-and a b k = at (has_bit a k) (has_bit b k) refl refl
+  where
+    at : (x y : Bool) → has_bit a k ≡ x → has_bit b k ≡ y → (x && y) ≡ has_bit (bit_and a b) k
+    at true true p q = sym (has_bit-one _ k (bit_at_and a b k ∙ rw (bit_at-true a k p, bit_at-true b k q) refl))
+    at true false p q = sym (has_bit-none _ k (bit_at_and a b k ∙ rw (bit_at-true a k p, bit_at-false b k q) refl))
+    at false true p q = sym (has_bit-none _ k (bit_at_and a b k ∙ rw (bit_at-false a k p, bit_at-true b k q) refl))
+    at false false p q = sym (has_bit-none _ k (bit_at_and a b k ∙ rw (bit_at-false a k p, bit_at-false b k q) refl))
+
+pub least-none : (a b : ℕ) → bit_and a b ≡ 0 → IsLeast (in_both a b) None
+least-none a b e k = in_both-and a b k ∙ ap (λ n. has_bit n k) e ∙ has_bit-zero k
+
+pub least-some : (a b : ℕ) → a < 2 ^ 56 → 0 < bit_and a b → IsLeast (in_both a b) (Some (trailing_zeros w64 (bit_and a b)))
+least-some a b bound some =
+    let fits : bit_and a b ≤ a = and_le_l a b in
+    let tz = bit_at-trailing_zeros w64 (bit_and a b) some (omega arith) in (
+      in_both-and a b _ ∙ has_bit-one _ _ tz.1,
+      (λ k l. in_both-and a b k ∙ has_bit-none _ k (tz.2 k l)),
+    )
+
+-- there is at most one least
+pub least-one : (has : ℕ → Bool) (r s : Option ℕ) → IsLeast has r → IsLeast has s → r ≡ s
+least-one has None None p q = refl
+least-one has None (Some y) p q = absurd (false≢true (sym (p y) ∙ q.0))
+least-one has (Some x) None p q = absurd (false≢true (sym (q x) ∙ p.0))
+least-one has (Some x) (Some y) p q = ap Some (at (cases_lt x y) (cases_lt y x))
+  where
+    at : (x < y) ⊎ (y ≤ x) → (y < x) ⊎ (x ≤ y) → x ≡ y
+    at (inl l) _ = absurd (false≢true (sym (q.1 x l) ∙ p.0))
+    at (inr l) (inl u) = absurd (false≢true (sym (p.1 y u) ∙ q.0))
+    at (inr l) (inr u) = omega arith
+
+pub first_of_both : (a b : Bool) → (a && b) ≡ true → a ≡ true
+first_of_both true b e = refl
+first_of_both false b e = e
+
+-- the least of both is an index
+pub least-within : (a b x : ℕ) → a < 2 ^ 56 → in_both a b x ≡ true → x < 56
+least-within a b x bound e = has_bit-below a 56 x bound (first_of_both (has_bit a x) (has_bit b x) e)
+
+-- ---- the least from an index on
+bit_at-shr : (n k i : ℕ) → bit_at (n / 2 ^ k) i ≡ bit_at n (k + i)
+bit_at-shr n k i = ap (λ x. x % 2) (shr-shr n k i)
+
+bit_at-past : (n k i : ℕ) → k ≤ i → bit_at n i ≡ bit_at (n / 2 ^ k) (i - k)
+bit_at-past n k i l =
+    let same : k + (i - k) ≡ i = omega arith in
+    ap (bit_at n) (sym same) ∙ sym (bit_at-shr n k (i - k))
+
+pub from-none : (bits from : ℕ) → bits / 2 ^ from ≡ 0 → IsLeast (has_from from bits) None
+from-none bits from e k = at (cases_lt k from)
+  where
+    at : (k < from) ⊎ (from ≤ k) → has_from from bits k ≡ false
+    at (inl l) = rw (lt-leb from k l) refl
+    at (inr u) = rw (le-leb from k u) (has_bit-none bits k (bit_at-past bits from k u ∙ ap (λ n. bit_at n (k - from)) e ∙ bit_at-zero (k - from)))
+
+pub from-some : (bits from : ℕ) → bits < 2 ^ 56 → 0 < bits / 2 ^ from → IsLeast (has_from from bits) (Some (from + trailing_zeros w64 (bits / 2 ^ from)))
+from-some bits from bound some =
+    let fits : bits / 2 ^ from ≤ bits = shr_le bits from in
+    let tz = bit_at-trailing_zeros w64 (bits / 2 ^ from) some (omega arith) in
+    let z : ℕ = trailing_zeros w64 (bits / 2 ^ from) in (
+      rw (le-leb from (from + z) (omega arith)) (has_bit-one bits _ (sym (bit_at-shr bits from z) ∙ tz.1)),
+      (λ k l. at k l (cases_lt k from)),
+    )
+  where
+    at : (k : ℕ) → k < from + trailing_zeros w64 (bits / 2 ^ from) → (k < from) ⊎ (from ≤ k) → has_from from bits k ≡ false
+    at k l (inl u) = rw (lt-leb from k u) refl
+    at k l (inr u) =
+        let fits : bits / 2 ^ from ≤ bits = shr_le bits from in
+        let tz = bit_at-trailing_zeros w64 (bits / 2 ^ from) some (omega arith) in
+        rw (le-leb from k u) (has_bit-none bits k (bit_at-past bits from k u ∙ tz.2 (k - from) (omega arith)))

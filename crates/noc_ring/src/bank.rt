@@ -1,0 +1,136 @@
+//! Rings of flits over one list of slots (Dally and Towles, chapter 17).
+
+ghost use Rattle.std.specs.Prelude.{◌≡◌, ◌+◌, ◌*◌, ◌%◌, ◌<◌, ◌≤◌, nat_le, length, IfOk, ◌∷◌};
+ghost use Rattle.std.specs.List.{slice_get};
+ghost use Rattle.noc_ring.specs.Rings.{empty_rings, ring_at, pushed, popped};
+
+use noc_packet::{Flit, Memory};
+use std::alloc::Global;
+use std::marker::Model;
+
+/// Where a ring begins in its slots, and how many flits it has.
+#[derive(Clone, Copy, Debug)]
+struct Ends {
+    head: u8,
+    len: u8,
+}
+
+/// First-in first-out buffers of flits: 1 to 56 rings, each of the same 1 to 16 places.
+#[derive(Debug, Drop)]
+pub struct Bank {
+    slots: Vec<Flit>,
+    ends: Vec<Ends>,
+    capacity: usize,
+}
+
+impl Model for Bank {
+    ghost use Rattle.noc_ring.specs.Rings.{Rings};
+
+    ghost Value = { Rings };
+
+    ghost use Rattle.noc_ring.specs.Slots.{rings_of, IsBank};
+
+    ghost view = { λ b. record { rings = rings_of b.slots.items b.capacity b.ends.items; capacity = b.capacity } };
+
+    ghost invariant = { λ b. IsBank b.slots.items b.capacity b.ends.items };
+}
+
+/// What a slot holds before a flit is put there.
+const BLANK: Flit = Flit {
+    packet: 0,
+    index: 0,
+    last: false,
+    dst: 0,
+    class: 0,
+};
+
+/// The place in a ring, for a place that may be past the ring's end once.
+fn wrapped(place: usize, capacity: usize) -> usize
+    requires { place < capacity + capacity }
+    ensures { result ≡ place % capacity }
+{
+    if place < capacity {
+        place
+    } else {
+        place - capacity
+    }
+}
+
+impl Bank {
+    /// So many empty rings, 1 to 56, each of so many places, 1 to 16. The error is for want of memory alone.
+    pub fn new(alloc: Global, rings: usize, capacity: usize) -> Result<Bank, Memory>
+        requires some_ring { 0 < rings }
+        requires rings { rings ≤ 56 }
+        requires some_place { 0 < capacity }
+        requires capacity { capacity ≤ 16 }
+        ensures { IfOk result (λ b. b ≡ empty_rings rings capacity) }
+    {
+        let slots = vec![in alloc; BLANK; rings * capacity]?;
+        let ends = vec![in alloc; Ends { head: 0, len: 0 }; rings]?;
+        Ok(Bank {
+            slots,
+            ends,
+            capacity,
+        })
+    }
+
+    /// How many flits the ring has.
+    pub fn len(&self, ring: usize) -> usize
+        requires { ring < length self.now.rings }
+        ensures count { result ≡ length (ring_at self.now ring) }
+        ensures fits { result ≤ self.now.capacity }
+    {
+        self.ends[ring].len as usize
+    }
+
+    /// Whether the ring has no place left.
+    pub fn is_full(&self, ring: usize) -> bool
+        requires { ring < length self.now.rings }
+        ensures { result ≡ nat_le self.now.capacity (length (ring_at self.now ring)) }
+    {
+        self.capacity <= self.ends[ring].len as usize
+    }
+
+    /// The flit that `pop` would give, or None where the ring is empty.
+    pub fn front(&self, ring: usize) -> Option<Flit>
+        requires { ring < length self.now.rings }
+        ensures { result ≡ slice_get (ring_at self.now ring) 0 }
+    {
+        let ends = self.ends[ring];
+        if ends.len == 0 {
+            return None;
+        }
+        Some(self.slots[ring * self.capacity + ends.head as usize])
+    }
+
+    /// Puts a flit behind those of the ring, which is not full.
+    pub fn push(&mut self, ring: usize, flit: Flit)
+        requires ring { ring < length self.old.rings }
+        requires room { length (ring_at self.old ring) < self.old.capacity }
+        ensures { self.new ≡ pushed self.old ring flit }
+    {
+        let ends = self.ends[ring];
+        let place = wrapped(ends.head as usize + ends.len as usize, self.capacity);
+        self.slots[ring * self.capacity + place] = flit;
+        self.ends[ring] = Ends {
+            head: ends.head,
+            len: ends.len + 1,
+        };
+    }
+
+    /// Takes the first flit of the ring, which is not empty.
+    pub fn pop(&mut self, ring: usize) -> Flit
+        requires ring { ring < length self.old.rings }
+        requires some { 0 < length (ring_at self.old ring) }
+        ensures first { ring_at self.old ring ≡ result ∷ ring_at self.new ring }
+        ensures rest { self.new ≡ popped self.old ring }
+    {
+        let ends = self.ends[ring];
+        let flit = self.slots[ring * self.capacity + ends.head as usize];
+        self.ends[ring] = Ends {
+            head: wrapped(ends.head as usize + 1, self.capacity) as u8,
+            len: ends.len - 1,
+        };
+        flit
+    }
+}

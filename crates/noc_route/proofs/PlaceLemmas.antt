@@ -1,0 +1,62 @@
+-- Places in the table.
+use Rattle.std.proofs.Common.{◌≡◌, ℕ, ◌+◌, ◌*◌, ◌<◌, ◌≤◌, ◌/◌, ◌%◌, true, arith, inl, inr, refl, ◌∙◌, zero-add}
+use Rattle.std.specs.Prelude.{nat_le, nat_eq, ◌&&◌, ◌⊎◌, slice_index}
+use Rattle.std.proofs.Math.Nat.{div-lt_iff_lt-mul, mul-le-mul_right, add-mul-div_right, add-mul-mod_self_right, mod-eq_of_lt, div-eq_of_lt, add_comm}
+use Rattle.std.proofs.lemmas.Bool.{lt-ltb, and_parts, leb-true, eqb-true, cases_lt}
+use Rattle.std.proofs.lemmas.Nat.{le-div}
+use Rattle.noc_packet.specs.declared.limits.TheConstants.{MAX_CHANNELS, MAX_CLASSES}
+use Rattle.noc_topo.specs.Shape.{Grid, nodes, ports}
+use Rattle.noc_route.specs.Relation.{is_right}
+use Rattle.noc_route.specs.declared.rule.Rule.TheVariants.{Dateline}
+use Rattle.noc_route.specs.Routes.{Routes, is_entry, set_at, place_of}
+
+-- element i of row a, where each row has n, comes before the end of m rows
+pub flat-below : (a m i n : ℕ) → a < m → i < n → a * n + i < m * n
+flat-below a m i n l k =
+    let rows : (a + 1) * n ≤ m * n = mul-le-mul_right n (omega arith) in
+    omega (arith, rows)
+
+pub is_entry-true : (g : Grid) (vcs classes m r p v t : ℕ) → m < classes → r < nodes g → p < ports g → v < vcs → t < nodes g → is_entry g vcs classes m r p v t ≡ true
+is_entry-true g vcs classes m r p v t a b c d e =
+    let m_ok = lt-ltb m classes a in
+    let r_ok = lt-ltb r (nodes g) b in
+    let p_ok = lt-ltb p (ports g) c in
+    let v_ok = lt-ltb v vcs d in
+    let t_ok = lt-ltb t (nodes g) e in
+    rw (m_ok, r_ok, p_ok, v_ok, t_ok) refl
+
+pub set_at-existing : (routes : Routes) (m r p v t : ℕ) → m < routes.classes → r < nodes routes.grid → p < ports routes.grid → v < routes.vcs → t < nodes routes.grid
+    → set_at routes m r p v t ≡ slice_index routes.sets (place_of routes.grid routes.vcs routes.classes m r p v t)
+set_at-existing routes m r p v t a b c d e = let there = is_entry-true routes.grid routes.vcs routes.classes m r p v t a b c d e in rw there refl
+
+-- the row and the column of element i of row a
+pub flat-div : (a n i : ℕ) → i < n → (a * n + i) / n ≡ a
+flat-div a n i l = rw (add_comm (a * n) i) (add-mul-div_right i a (omega arith) ∙ (let none : i / n ≡ 0 = div-eq_of_lt l in rw none (zero-add a)))
+
+pub flat-mod : (a n i : ℕ) → i < n → (a * n + i) % n ≡ i
+flat-mod a n i l = rw (add_comm (a * n) i) (add-mul-mod_self_right i a n ∙ mod-eq_of_lt l)
+
+-- the router of a block exists
+pub block-router : (b n c : ℕ) → 1 ≤ n → 1 ≤ c → b < n * c * n → b / n / c < n
+block-router b n c some few l =
+    let pair : b / n < n * c = (div-lt_iff_lt-mul {k = n} {x = b} {y = n * c} (omega arith)).1 l in
+    (div-lt_iff_lt-mul {k = c} {x = b / n} {y = n} (omega arith)).1 pair
+
+-- where a dateline fits, each half of a class's channels has one at least
+pub half-some : (g : Grid) (vcs classes : ℕ) → is_right g vcs classes Dateline ≡ true → 0 < vcs / classes / 2
+half-some g vcs classes e =
+    let a = and_parts _ (g.wraps && nat_eq (vcs % (2 * classes)) 0) e in
+    let b = and_parts _ (nat_eq (vcs % classes) 0) a.0 in
+    let c = and_parts _ (nat_le classes MAX_CLASSES) b.0 in
+    let d = and_parts _ (nat_le 1 classes) c.0 in
+    let f = and_parts (nat_le 1 vcs) (nat_le vcs MAX_CHANNELS) d.0 in
+    let some_vcs : 1 ≤ vcs = leb-true 1 vcs f.0 in
+    let some_classes : 1 ≤ classes = leb-true 1 classes d.1 in
+    let whole : vcs % (2 * classes) ≡ 0 = eqb-true _ 0 (and_parts g.wraps (nat_eq (vcs % (2 * classes)) 0) a.1).1 in
+    at some_vcs some_classes whole (cases_lt vcs (2 * classes))
+  where
+    at : 1 ≤ vcs → 1 ≤ classes → vcs % (2 * classes) ≡ 0 → (vcs < 2 * classes) ⊎ (2 * classes ≤ vcs) → 0 < vcs / classes / 2
+    at some_vcs some_classes whole (inl few) = let all : vcs % (2 * classes) ≡ vcs = mod-eq_of_lt few in absurd (omega arith)
+    at some_vcs some_classes whole (inr many) =
+        let two : 2 ≤ vcs / classes = le-div 2 vcs classes some_classes many in
+        le-div 1 (vcs / classes) 2 (omega arith) (omega arith)

@@ -1,0 +1,10 @@
+use Rattle.noc_topo.proofs.LinkLemmas.{padded-below}
+use Rattle.noc_route.proofs.named.Way.of.Goals as goal
+
+pub dor_port-requires-clause-here : goal.dor_port-requires-clause-here
+dor_port-requires-clause-here c =
+    rw (c.coordinates-here.ensures.value, c.args.map.now.corner) (λ i l. padded-below c.args.map.now.frame.shape c.args.router i c.coordinates-here.ensures.grid l)
+
+pub dor_port-requires-clause-there : goal.dor_port-requires-clause-there
+dor_port-requires-clause-there c =
+    rw (c.coordinates-there.ensures.value, c.args.map.now.corner) (λ i l. padded-below c.args.map.now.frame.shape c.args.dst i c.coordinates-there.ensures.grid l)

@@ -1,0 +1,168 @@
+-- Routing rules, the entries that packets reach, and the routing relation.
+use Rattle.std.specs.Prelude.{◌≡◌, ◌≢◌, ℕ, ◌+◌, ◌-◌, ◌*◌, ◌/◌, ◌%◌, ◌<◌, Bool, true, false, ◌&&◌, ◌||◌, not, IsTrue, List, [], ◌∷◌, Option, Some, None, is_some, nat_eq, nat_lt, nat_le, slice_index, if◌then◌else◌, All, Contains, ◌⊎◌}
+use Rattle.std.specs.List.{list_any}
+use Rattle.noc_topo.specs.Words.{is_some_of}
+use Rattle.noc_topo.specs.Shape.{Grid, coordinates, nodes, dimensions, is_plus, local_port, neighbour, distance}
+use Rattle.noc_packet.specs.declared.limits.TheConstants.{MAX_CHANNELS, MAX_CLASSES}
+use Rattle.noc_route.specs.Channel.{Channel, Link, Inject, Eject, arrival_of, channel_vc}
+use Rattle.noc_route.specs.Order.{numbers_before, row_numbers, row_before}
+use Rattle.noc_route.specs.declared.rule.RouteRow.{RouteRow}
+use Rattle.noc_route.specs.declared.rule.RouteFault.{RouteFault}
+use Rattle.noc_route.specs.declared.rule.RouteFault.TheVariants.{NoLink, NotMinimal, EarlyEject, LateHop}
+use Rattle.noc_route.specs.declared.rule.Rule.{Rule}
+use Rattle.noc_route.specs.declared.rule.Rule.TheVariants.{Dor, Dateline, WestFirst, Rows}
+
+-- what a relation is made of
+pub record Routing : Type 0 where
+  pub grid : Grid
+  pub vcs : ℕ
+  pub classes : ℕ
+  pub rule : Rule
+
+-- whether the numbers of channels and classes are within their limits, and the rule fits them and the shape
+abbrev pub is_right : Grid → ℕ → ℕ → Rule → Bool
+is_right g vcs classes rule =
+    nat_le 1 vcs && nat_le vcs MAX_CHANNELS && nat_le 1 classes && nat_le classes MAX_CLASSES && nat_eq (vcs % classes) 0
+    && (elim rule [
+      | Dor ↦ true
+      | Dateline ↦ g.wraps && nat_eq (vcs % (2 * classes)) 0
+      | WestFirst ↦ not g.wraps && nat_eq (dimensions g) 2
+      | Rows rows ↦ true
+    ])
+
+-- ---- ports
+
+-- the shorter way is up; where both are equally long, up
+abbrev pub goes_up : Bool → ℕ → ℕ → ℕ → Bool
+goes_up wraps k x t = if wraps then nat_le ((t + k - x) % k) ((x + k - t) % k) else nat_lt x t
+
+-- the port of dimension order: in the lowest dimension in which x and t differ
+abbrev pub dor_port_from : Bool → ℕ → List ℕ → List ℕ → List ℕ → Option ℕ
+dor_port_from wraps i [] xs ts = None
+dor_port_from wraps i (k ∷ ks) [] ts = None
+dor_port_from wraps i (k ∷ ks) (x ∷ xs) [] = None
+dor_port_from wraps i (k ∷ ks) (x ∷ xs) (t ∷ ts) =
+    if nat_eq x t
+    then dor_port_from wraps (i + 1) ks xs ts
+    else Some (if goes_up wraps k x t then 2 * i else 2 * i + 1)
+
+abbrev pub dor_port : Grid → List ℕ → List ℕ → Option ℕ
+dor_port g xs ts = dor_port_from g.wraps 0 g.radix xs ts
+
+-- down dimension 0 alone while the destination is there, and else along each port that comes nearer
+abbrev pub is_west_first : List ℕ → List ℕ → ℕ → Bool
+is_west_first xs ts port =
+    if nat_lt (slice_index ts 0) (slice_index xs 0)
+    then nat_eq port 1
+    else (nat_eq port 0 && nat_lt (slice_index xs 0) (slice_index ts 0)) || (nat_eq port 2 && nat_lt (slice_index xs 1) (slice_index ts 1)) || (nat_eq port 3 && nat_lt (slice_index ts 1) (slice_index xs 1))
+
+-- whether a rule by coordinates leads along this port, from a router at xs towards a destination at ts
+abbrev pub takes_port : Grid → Rule → List ℕ → List ℕ → ℕ → Bool
+takes_port g Dor xs ts port = is_some_of (dor_port g xs ts) port
+takes_port g Dateline xs ts port = is_some_of (dor_port g xs ts) port
+takes_port g WestFirst xs ts port = is_west_first xs ts port
+takes_port g (Rows rows) xs ts port = false
+
+-- ---- channels
+
+-- the channels of a class
+abbrev pub is_in_block : ℕ → ℕ → ℕ → ℕ → Bool
+is_in_block vcs classes m v = nat_le (m * vcs / classes) v && nat_lt v ((m + 1) * vcs / classes)
+
+-- the half of its class's channels in which a channel is
+abbrev pub resource_class : ℕ → ℕ → ℕ → ℕ
+resource_class vcs classes v = v % (vcs / classes) / (vcs / classes / 2)
+
+-- the half that the next hop along a port takes, in whose dimension the router is at x and the destination at t:
+-- the low half while the way still crosses the ends of the dimension
+abbrev pub dateline_class : ℕ → ℕ → ℕ → ℕ
+dateline_class port x t = if is_plus port then (if nat_lt t x then 0 else 1) else (if nat_lt x t then 0 else 1)
+
+-- whether a rule by coordinates may take this channel of a port that it takes
+abbrev pub takes_channel : ℕ → ℕ → Rule → ℕ → List ℕ → List ℕ → ℕ → ℕ → Bool
+takes_channel vcs classes Dateline m xs ts port v =
+    is_in_block vcs classes m v && nat_eq (resource_class vcs classes v) (dateline_class port (slice_index xs (port / 2)) (slice_index ts (port / 2)))
+takes_channel vcs classes _ m xs ts port v = is_in_block vcs classes m v
+
+-- ---- rows
+
+-- the rows of a table, none of another rule
+abbrev pub rows_of : Rule → List RouteRow
+rows_of (Rows rows) = rows.items
+rows_of _ = []
+
+-- whether a row names this entry and this output channel
+abbrev pub is_row_of : ℕ → ℕ × ℕ → ℕ → ℕ → ℕ → ℕ → RouteRow → Bool
+is_row_of m place in_vc t port v row =
+    nat_eq row.class m && nat_eq row.router place.0 && nat_eq row.in_port place.1 && nat_eq row.in_vc in_vc
+    && nat_eq row.dst t && nat_eq row.out_port port && nat_eq row.out_vc v
+
+abbrev pub has_row : List RouteRow → ℕ → ℕ × ℕ → ℕ → ℕ → ℕ → ℕ → Bool
+has_row rows m place in_vc t port v = list_any (is_row_of m place in_vc t port v) rows
+
+-- whether a router has this port, and it is local or has a link
+abbrev pub is_open : Grid → ℕ → ℕ → Bool
+is_open g router port = nat_eq port (local_port g) || is_some (neighbour g router port)
+
+-- whether what a row names exists
+abbrev pub is_real_row : Grid → ℕ → ℕ → RouteRow → Bool
+is_real_row g vcs classes row =
+    nat_lt row.class classes && nat_lt row.router (nodes g) && nat_lt row.in_vc vcs && nat_lt row.out_vc vcs && nat_lt row.dst (nodes g)
+    && is_open g row.router row.in_port && is_open g row.router row.out_port
+
+-- what is wrong with a row whose output port leads to this neighbour, or is local
+abbrev pub hop_fault : Grid → RouteRow → Option (ℕ × ℕ) → Option RouteFault
+hop_fault g row None = if nat_eq row.router row.dst then None else Some (EarlyEject row)
+hop_fault g row (Some next) =
+    if nat_eq row.router row.dst then Some (LateHop row)
+    else (if nat_lt (distance g next.0 row.dst) (distance g row.router row.dst) then None else Some (NotMinimal row))
+
+-- the first fault of a row
+abbrev pub row_fault : Grid → ℕ → ℕ → RouteRow → Option RouteFault
+row_fault g vcs classes row = if is_real_row g vcs classes row then hop_fault g row (neighbour g row.router row.out_port) else Some (NoLink row)
+
+-- a row, if it has a fault and comes before the other, and else the other
+abbrev pub earlier_fault : Grid → ℕ → ℕ → RouteRow → Option RouteRow → Option RouteRow
+earlier_fault g vcs classes row other = if is_some (row_fault g vcs classes row) && row_before row other then Some row else other
+
+-- the fault of the first row that has one, in the order of the rows' numbers
+pub record IsFirstFault (g : Grid) (vcs classes : ℕ) (rows : List RouteRow) (fault : RouteFault) : Type 0 where
+  pub row : RouteRow
+  pub there : Contains rows row
+  pub faulty : row_fault g vcs classes row ≡ Some fault
+  pub first : All (λ other. (row_fault g vcs classes other ≡ None) ⊎ (numbers_before (row_numbers other) (row_numbers row) ≡ false)) rows
+
+-- ---- the rule
+
+-- whether a rule by coordinates leads a packet of class m at router r, bound for t, on to channel v of this output port:
+-- at the destination to the ejection channels of the class
+abbrev pub is_led : Routing → ℕ → ℕ → ℕ → ℕ → ℕ → Bool
+is_led g m r t port v =
+    if nat_eq r t
+    then nat_eq port (local_port g.grid) && is_in_block g.vcs g.classes m v
+    else takes_port g.grid g.rule (coordinates g.grid.radix r) (coordinates g.grid.radix t) port
+    && takes_channel g.vcs g.classes g.rule m (coordinates g.grid.radix r) (coordinates g.grid.radix t) port v
+
+-- whether the rule leads a packet of class m, that came to this place (a router and an input port) on channel in_vc and is
+-- bound for t, on to channel v of this output port
+abbrev pub leads : Routing → ℕ → ℕ × ℕ → ℕ → ℕ → ℕ → ℕ → Bool
+leads g m place in_vc t port v = elim g.rule [ Rows rows ↦ has_row rows.items m place in_vc t port v | _ ↦ is_led g m place.0 t port v ]
+
+abbrev pub rule_at : Routing → ℕ → Option (ℕ × ℕ) → ℕ → ℕ → Channel → Bool
+rule_at g m None in_vc t o = false
+rule_at g m (Some place) in_vc t (Inject n v) = false
+rule_at g m (Some place) in_vc t (Link r p v) = nat_eq r place.0 && nat_lt p (local_port g.grid) && leads g m place in_vc t p v
+rule_at g m (Some place) in_vc t (Eject n v) = nat_eq n place.0 && leads g m place in_vc t (local_port g.grid) v
+
+-- the rule has the class m, the channel c on which a packet is, its destination t, and the next channel o
+abbrev pub rule_has : Routing → ℕ → Channel → ℕ → Channel → Bool
+rule_has g m c t o = rule_at g m (arrival_of g.grid c) (channel_vc c) t o
+
+-- the least set of entries with every injection channel, and with each link channel to which the rule leads from one of them
+pub data IsReached (g : Routing) : ℕ → Channel → ℕ → Type 0 where
+  injected : {m n v t : ℕ} → m < g.classes → n < nodes g.grid → v < g.vcs → t < nodes g.grid → t ≢ n → IsReached g m (Inject n v) t
+  led_on : {m t : ℕ} {c : Channel} {r p v : ℕ} → IsReached g m c t → IsTrue (rule_has g m c t (Link r p v)) → IsReached g m (Link r p v) t
+
+-- the relation: the rule on the entries that packets reach
+abbrev pub IsPermitted : Routing → ℕ → Channel → ℕ → Channel → Type 0
+IsPermitted g m c t o = IsReached g m c t × IsTrue (rule_has g m c t o)

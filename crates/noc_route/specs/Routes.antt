@@ -1,0 +1,72 @@
+-- A routing relation as a table of sets.
+use Rattle.std.specs.Prelude.{◌≡◌, ℕ, ◌+◌, ◌*◌, ◌/◌, ◌%◌, ◌≤◌, Bool, false, ◌&&◌, List, Option, Some, None, length, nat_eq, nat_lt, slice_index, if◌then◌else◌}
+use Rattle.noc_topo.specs.Shape.{Grid, IsGrid, nodes, ports, local_port}
+use Rattle.noc_packet.specs.Set.{has_bit}
+use Rattle.noc_packet.specs.declared.limits.TheConstants.{MAX_CHANNELS, MAX_CLASSES}
+use Rattle.noc_route.specs.Channel.{Channel, Link, Inject, Eject, arrival_of, channel_vc}
+
+-- the output channels of each entry, as bits: router by router, then by class, destination, and input channel
+pub record Routes : Type 0 where
+  pub grid : Grid
+  pub vcs : ℕ
+  pub classes : ℕ
+  pub sets : List ℕ
+
+-- how many channels a router has as outputs, and as inputs
+abbrev pub width : Grid → ℕ → ℕ
+width g vcs = ports g * vcs
+
+-- the number of a router, a class and a destination
+abbrev pub block_of : Grid → ℕ → ℕ → ℕ → ℕ → ℕ
+block_of g classes m r t = (r * classes + m) * nodes g + t
+
+-- the class, router and destination of a block
+abbrev pub block_class : Grid → ℕ → ℕ → ℕ
+block_class g classes block = block / nodes g % classes
+
+abbrev pub block_router : Grid → ℕ → ℕ → ℕ
+block_router g classes block = block / nodes g / classes
+
+abbrev pub block_dst : Grid → ℕ → ℕ
+block_dst g block = block % nodes g
+
+-- how many of these there are
+abbrev pub blocks : Grid → ℕ → ℕ
+blocks g classes = nodes g * classes * nodes g
+
+-- the place of an entry in the table
+abbrev pub place_of : Grid → ℕ → ℕ → ℕ → ℕ → ℕ → ℕ → ℕ → ℕ
+place_of g vcs classes m r p v t = block_of g classes m r t * width g vcs + (p * vcs + v)
+
+-- whether the class, router, input port, channel and destination exist
+abbrev pub is_entry : Grid → ℕ → ℕ → ℕ → ℕ → ℕ → ℕ → ℕ → Bool
+is_entry g vcs classes m r p v t = nat_lt m classes && nat_lt r (nodes g) && nat_lt p (ports g) && nat_lt v vcs && nat_lt t (nodes g)
+
+-- the set of an entry, none where it does not exist
+abbrev pub set_at : Routes → ℕ → ℕ → ℕ → ℕ → ℕ → ℕ
+set_at routes m r p v t =
+    if is_entry routes.grid routes.vcs routes.classes m r p v t
+    then slice_index routes.sets (place_of routes.grid routes.vcs routes.classes m r p v t)
+    else 0
+
+-- the limits within which a relation is made, and the size of its table
+pub record IsTable (routes : Routes) : Type 0 where
+  pub grid : IsGrid routes.grid
+  pub some_vcs : 1 ≤ routes.vcs
+  pub few_vcs : routes.vcs ≤ MAX_CHANNELS
+  pub some_classes : 1 ≤ routes.classes
+  pub few_classes : routes.classes ≤ MAX_CLASSES
+  pub long : length routes.sets ≡ blocks routes.grid routes.classes * width routes.grid routes.vcs
+
+-- whether the table leads a packet that came to this place on channel in_vc on to a channel
+abbrev pub permits_at : Routes → ℕ → Option (ℕ × ℕ) → ℕ → ℕ → Channel → Bool
+permits_at routes m None in_vc t o = false
+permits_at routes m (Some place) in_vc t (Inject n v) = false
+permits_at routes m (Some place) in_vc t (Link r p v) =
+    nat_eq r place.0 && nat_lt p (local_port routes.grid) && nat_lt v routes.vcs && has_bit (set_at routes m place.0 place.1 in_vc t) (p * routes.vcs + v)
+permits_at routes m (Some place) in_vc t (Eject n v) =
+    nat_eq n place.0 && nat_lt v routes.vcs && has_bit (set_at routes m place.0 place.1 in_vc t) (local_port routes.grid * routes.vcs + v)
+
+-- whether the table permits a packet of class m, that is on channel c and bound for t, to take channel o next
+abbrev pub permits : Routes → ℕ → Channel → ℕ → Channel → Bool
+permits routes m c t o = permits_at routes m (arrival_of routes.grid c) (channel_vc c) t o

@@ -1,0 +1,47 @@
+//! A rule's sets, before entries that no packet reaches are taken out.
+
+ghost use Rattle.std.specs.Prelude.{◌≡◌, ℕ, ◌+◌, ◌*◌, ◌<◌, ◌≤◌, length, All, true};
+ghost use Rattle.noc_packet.specs.Set.{has_bit};
+ghost use Rattle.noc_topo.specs.Shape.{IsGrid, nodes, ports};
+ghost use Rattle.noc_route.specs.Relation.{is_real_row, is_right};
+ghost use Rattle.noc_route.specs.Routes.{width, blocks};
+
+use crate::map::Map;
+use crate::named::named_set;
+use crate::rule::{RouteRow, Rule};
+use noc_packet::ChannelSet;
+
+/// Writes the sets of a rule by coordinates.
+pub fn enter_named(map: &Map, rule: &Rule, sets: &mut [ChannelSet])
+    requires right { is_right map.now.frame.shape map.now.frame.vcs map.now.frame.classes rule.now ≡ true }
+    requires long { length sets.old ≡ blocks map.now.frame.shape map.now.frame.classes * width map.now.frame.shape map.now.frame.vcs }
+{
+    let width = map.frame.width();
+    for block in 0..map.frame.blocks() {
+        let (class, router, dst) = map.frame.block_parts(block);
+        let set = named_set(map, rule, class, router, dst);
+        fill(sets, block * width, width, set);
+    }
+}
+
+/// Writes one set to `count` places from `from` on.
+fn fill(sets: &mut [ChannelSet], from: usize, count: usize, set: ChannelSet)
+    requires { from + count ≤ length sets.old }
+{
+    for i in 0..count {
+        sets[from + i] = set;
+    }
+}
+
+/// Writes the sets of a table's rows, each of which names what exists, over sets without members.
+pub fn enter_rows(map: &Map, rows: &[RouteRow], sets: &mut [ChannelSet])
+    requires long { length sets.old ≡ blocks map.now.frame.shape map.now.frame.classes * width map.now.frame.shape map.now.frame.vcs }
+    requires rows { All (λ row. is_real_row map.now.frame.shape map.now.frame.vcs map.now.frame.classes row ≡ true) rows.now }
+{
+    for row in rows {
+        let place = map
+            .frame
+            .place(row.class, row.router, row.in_port, row.in_vc, row.dst);
+        sets[place] = sets[place].with(map.frame.index(row.out_port, row.out_vc));
+    }
+}

@@ -1,0 +1,156 @@
+//! The numbers that a routing relation is over, and the places of its table.
+
+ghost use Rattle.std.specs.Prelude.{◌≡◌, ◌+◌, ◌*◌, ◌/◌, ◌<◌, ◌≤◌};
+ghost use Rattle.noc_packet.specs.declared.limits.TheConstants.{MAX_CHANNELS, MAX_CLASSES};
+ghost use Rattle.noc_topo.specs.Shape.{IsGrid, nodes, ports};
+ghost use Rattle.noc_route.specs.Relation.{is_in_block, resource_class, is_right};
+ghost use Rattle.noc_route.specs.Routes.{width, blocks, block_of, place_of, block_class, block_router, block_dst};
+
+use crate::rule::Rule;
+use noc_packet::{MAX_CHANNELS, MAX_CLASSES};
+use noc_topo::Shape;
+
+/// A shape with its numbers of channels per link and of classes.
+#[derive(Clone, Copy, Debug)]
+pub struct Frame {
+    pub shape: Shape,
+    pub vcs: usize,
+    pub classes: usize,
+    ghost some_vcs: { 1 ≤ vcs },
+    ghost few_vcs: { vcs ≤ MAX_CHANNELS },
+    ghost some_classes: { 1 ≤ classes },
+    ghost few_classes: { classes ≤ MAX_CLASSES },
+}
+
+impl Frame {
+    /// How many input channels a router has, and output channels: 3 to 28.
+    pub fn width(&self) -> usize
+        ensures value { result ≡ width self.now.shape self.now.vcs }
+        ensures few { result ≤ 28 }
+        ensures grid { IsGrid self.now.shape }
+    {
+        self.shape.ports() * self.vcs
+    }
+
+    /// How many blocks the table has: one for each router, class and destination; at most 262,144.
+    pub fn blocks(&self) -> usize
+        ensures value { result ≡ blocks self.now.shape self.now.classes }
+        ensures few { result ≤ 262144 }
+        ensures grid { IsGrid self.now.shape }
+    {
+        let nodes = self.shape.nodes();
+        nodes * self.classes * nodes
+    }
+
+    /// The number of a block.
+    pub fn block(&self, class: usize, router: usize, dst: usize) -> usize
+        requires class { class < self.now.classes }
+        requires router { router < nodes self.now.shape }
+        requires dst { dst < nodes self.now.shape }
+        ensures value { result ≡ block_of self.now.shape self.now.classes class router dst }
+        ensures within { result < blocks self.now.shape self.now.classes }
+    {
+        let nodes = self.shape.nodes();
+        (router * self.classes + class) * nodes + dst
+    }
+
+    /// The class, router and destination of a block.
+    pub fn block_parts(&self, block: usize) -> (usize, usize, usize)
+        requires { block < blocks self.now.shape self.now.classes }
+        ensures class { result.0 ≡ block_class self.now.shape self.now.classes block }
+        ensures router { result.1 ≡ block_router self.now.shape self.now.classes block }
+        ensures dst { result.2 ≡ block_dst self.now.shape block }
+        ensures range { (result.0 < self.now.classes) × (result.1 < nodes self.now.shape) × (result.2 < nodes self.now.shape) }
+        ensures grid { IsGrid self.now.shape }
+    {
+        let nodes = self.shape.nodes();
+        let pair = block / nodes;
+        (pair % self.classes, pair / self.classes, block % nodes)
+    }
+
+    /// The index of a channel of a router, as an input or as an output: at most 27.
+    pub fn index(&self, port: usize, vc: usize) -> usize
+        requires port { port < ports self.now.shape }
+        requires vc { vc < self.now.vcs }
+        ensures value { result ≡ port * self.now.vcs + vc }
+        ensures within { result < width self.now.shape self.now.vcs }
+        ensures few { result < 28 }
+    {
+        let _ports = self.shape.ports();
+        port * self.vcs + vc
+    }
+
+    /// The place in the table of an input channel of a block.
+    pub fn slot(&self, block: usize, input: usize) -> usize
+        requires block { block < blocks self.now.shape self.now.classes }
+        requires input { input < width self.now.shape self.now.vcs }
+        ensures value { result ≡ block * width self.now.shape self.now.vcs + input }
+        ensures within { result < blocks self.now.shape self.now.classes * width self.now.shape self.now.vcs }
+    {
+        let _blocks = self.blocks();
+        block * self.width() + input
+    }
+
+    /// The place of an entry in the table.
+    pub fn place(
+        &self,
+        class: usize,
+        router: usize,
+        in_port: usize,
+        in_vc: usize,
+        dst: usize,
+    ) -> usize
+        requires class { class < self.now.classes }
+        requires router { router < nodes self.now.shape }
+        requires in_port { in_port < ports self.now.shape }
+        requires in_vc { in_vc < self.now.vcs }
+        requires dst { dst < nodes self.now.shape }
+        ensures value { result ≡ place_of self.now.shape self.now.vcs self.now.classes class router in_port in_vc dst }
+        ensures within { result < blocks self.now.shape self.now.classes * width self.now.shape self.now.vcs }
+    {
+        self.slot(self.block(class, router, dst), self.index(in_port, in_vc))
+    }
+
+    /// Whether a channel is one of a class's channels.
+    pub fn is_in_block(&self, class: usize, vc: usize) -> bool
+        requires { class < self.now.classes }
+        ensures { result ≡ is_in_block self.now.vcs self.now.classes class vc }
+    {
+        let first = class * self.vcs / self.classes;
+        let end = (class + 1) * self.vcs / self.classes;
+        first <= vc && vc < end
+    }
+
+    /// The half of its class's channels in which a channel is.
+    pub fn resource_class(&self, vc: usize) -> usize
+        requires { 0 < self.now.vcs / self.now.classes / 2 }
+        ensures { result ≡ resource_class self.now.vcs self.now.classes vc }
+    {
+        let block = self.vcs / self.classes;
+        vc % block / (block / 2)
+    }
+}
+
+/// Whether the shape is a torus: the last node has a link up in dimension 0.
+pub fn is_torus(shape: &Shape) -> bool
+    ensures { result ≡ shape.now.wraps }
+{
+    shape.neighbour(shape.nodes() - 1, 0).is_some()
+}
+
+/// Whether a relation can be made of these numbers and this rule.
+pub fn is_right(shape: &Shape, vcs: usize, classes: usize, rule: &Rule) -> bool
+    ensures { result ≡ is_right shape.now vcs classes rule.now }
+{
+    if vcs == 0 || vcs > MAX_CHANNELS || classes == 0 || classes > MAX_CLASSES {
+        return false;
+    }
+    if vcs % classes != 0 {
+        return false;
+    }
+    match rule {
+        Rule::Dor | Rule::Rows(_) => true,
+        Rule::Dateline => is_torus(shape) && vcs % (2 * classes) == 0,
+        Rule::WestFirst => !is_torus(shape) && shape.dimensions() == 2,
+    }
+}

@@ -1,0 +1,146 @@
+//! The rules by coordinates: dimension order, dateline and west first (Dally and Towles, chapters 8 to 10 and 14).
+
+ghost use Rattle.std.specs.Prelude.{◌≡◌, ℕ, ◌+◌, ◌*◌, ◌<◌, ◌≤◌, IfSome, slice_index, EachIndex, IsTrue, true};
+ghost use Rattle.noc_route.specs.Relation.{is_right};
+ghost use Rattle.noc_packet.specs.Set.{has_bit};
+ghost use Rattle.noc_topo.specs.Shape.{IsGrid, nodes, ports};
+
+use crate::frame::Frame;
+use crate::map::Map;
+use crate::rule::Rule;
+use noc_packet::ChannelSet;
+
+/// The output channels by which a rule by coordinates leads a packet of this class, at this router and bound for `dst`;
+/// none by a table.
+pub fn named_set(map: &Map, rule: &Rule, class: usize, router: usize, dst: usize) -> ChannelSet
+    requires class { class < map.now.frame.classes }
+    requires router { router < nodes map.now.frame.shape }
+    requires dst { dst < nodes map.now.frame.shape }
+    requires right { is_right map.now.frame.shape map.now.frame.vcs map.now.frame.classes rule.now ≡ true }
+{
+    let vcs = map.frame.vcs;
+    let way = Way::of(map, router, dst);
+    let mut set = ChannelSet::empty();
+    for channel in 0..map.frame.width() {
+        if way.leads(&map.frame, rule, class, channel / vcs, channel % vcs) {
+            set = set.with(channel);
+        }
+    }
+    set
+}
+
+/// The coordinates of a router and a destination, and the port of dimension order between them.
+#[derive(Clone, Copy)]
+struct Way {
+    here: [usize; 3],
+    there: [usize; 3],
+    arrived: bool,
+    towards: Option<usize>,
+}
+
+impl Way {
+    fn of(map: &Map, router: usize, dst: usize) -> Way
+        requires router { router < nodes map.now.frame.shape }
+        requires dst { dst < nodes map.now.frame.shape }
+        ensures towards { IfSome result.towards (λ port. port < 6) }
+    {
+        let here = map.frame.shape.coordinates(router);
+        let there = map.frame.shape.coordinates(dst);
+        Way {
+            here,
+            there,
+            arrived: router == dst,
+            towards: dor_port(map, &here, &there),
+        }
+    }
+
+    /// Whether a rule leads along this port and channel.
+    fn leads(&self, frame: &Frame, rule: &Rule, class: usize, port: usize, vc: usize) -> bool
+        requires class { class < frame.now.classes }
+        requires port { port < ports frame.now.shape }
+        requires right { is_right frame.now.shape frame.now.vcs frame.now.classes rule.now ≡ true }
+        requires towards { IfSome self.now.towards (λ port. port < 6) }
+    {
+        if self.arrived {
+            return frame.shape.ports() == port + 1 && frame.is_in_block(class, vc);
+        }
+        self.takes_port(rule, port) && self.takes_channel(frame, rule, class, port, vc)
+    }
+
+    /// Whether a rule leads along this port, away from the destination.
+    fn takes_port(&self, rule: &Rule, port: usize) -> bool
+        requires towards { IfSome self.now.towards (λ port. port < 6) }
+        ensures link { IsTrue result → port < 6 }
+    {
+        match rule {
+            Rule::Dor | Rule::Dateline => self.towards == Some(port),
+            Rule::WestFirst => self.is_west_first(port),
+            Rule::Rows(_) => false,
+        }
+    }
+
+    /// Whether a rule takes this channel of a port that it takes.
+    fn takes_channel(
+        &self,
+        frame: &Frame,
+        rule: &Rule,
+        class: usize,
+        port: usize,
+        vc: usize,
+    ) -> bool
+        requires class { class < frame.now.classes }
+        requires port { port < 6 }
+        requires right { is_right frame.now.shape frame.now.vcs frame.now.classes rule.now ≡ true }
+    {
+        match rule {
+            Rule::Dateline => {
+                frame.is_in_block(class, vc)
+                    && frame.resource_class(vc) == self.dateline_class(port)
+            }
+            _ => frame.is_in_block(class, vc),
+        }
+    }
+
+    /// The half of a class's channels that the next hop along a port takes.
+    fn dateline_class(&self, port: usize) -> usize
+        requires { port < 6 }
+    {
+        let x = self.here[port / 2];
+        let t = self.there[port / 2];
+        let crosses = if port % 2 == 0 { t < x } else { x < t };
+        if crosses { 0 } else { 1 }
+    }
+
+    /// Whether west first takes a port.
+    fn is_west_first(&self, port: usize) -> bool
+        ensures link { IsTrue result → port < 6 }
+    {
+        if self.there[0] < self.here[0] {
+            return port == 1;
+        }
+        match port {
+            0 => self.here[0] < self.there[0],
+            2 => self.here[1] < self.there[1],
+            3 => self.there[1] < self.here[1],
+            _ => false,
+        }
+    }
+}
+
+/// The port of dimension order: in the lowest dimension in which router and destination differ.
+fn dor_port(map: &Map, here: &[usize; 3], there: &[usize; 3]) -> Option<usize>
+    requires here { EachIndex here.now (λ i. slice_index here.now i ≤ slice_index map.now.last i) }
+    requires there { EachIndex there.now (λ i. slice_index there.now i ≤ slice_index map.now.last i) }
+    ensures range { IfSome result (λ port. port < 6) }
+{
+    for i in 0..3usize {
+        if here[i] != there[i] {
+            return Some(if map.goes_up(i, here[i], there[i]) {
+                2 * i
+            } else {
+                2 * i + 1
+            });
+        }
+    }
+    None
+}

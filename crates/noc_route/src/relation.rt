@@ -1,0 +1,135 @@
+//! The routing relation.
+
+ghost use Rattle.std.specs.Prelude.{◌≡◌, ◌<◌, IfOk, IfErr, OnOk, All, None, true, length, ◌*◌};
+ghost use Rattle.noc_topo.specs.Shape.{nodes, ports};
+ghost use Rattle.noc_route.specs.Relation.{is_right, rows_of, row_fault, IsFirstFault};
+ghost use Rattle.noc_route.specs.Routes.{set_at, IsTable, blocks, width};
+
+use crate::enter::{enter_named, enter_rows};
+use crate::frame::{Frame, is_right};
+use crate::gather::gather;
+use crate::map::Map;
+use crate::rows::first_fault;
+use crate::rule::{RouteFault, Rule};
+use crate::trim::trim;
+use noc_packet::ChannelSet;
+use noc_topo::Shape;
+use std::alloc::Global;
+use std::marker::Model;
+
+/// A routing relation: the output channels that each entry permits.
+#[derive(Debug, Drop)]
+pub struct Relation {
+    frame: Frame,
+    sets: Vec<ChannelSet>,
+}
+
+impl Model for Relation {
+    ghost use Rattle.noc_route.specs.Routes.{Routes};
+
+    ghost Value = { Routes };
+
+    ghost use Rattle.noc_route.specs.Stored.{routes_of, IsSound};
+
+    ghost view = { routes_of };
+
+    ghost invariant = { IsSound };
+}
+
+impl Relation {
+    /// The relation of a rule: the rule at the entries that packets reach. Answers the first fault: `WrongShape`; `Memory`;
+    /// the fault of the first bad row, in the order of class, router, input port and channel, destination, output port and
+    /// channel; `NoWay` with the first reached entry that permits nothing, in the order of class, router, input port and
+    /// channel, and destination.
+    pub fn build(
+        alloc: Global,
+        shape: &Shape,
+        vcs: usize,
+        classes: usize,
+        rule: Rule,
+    ) -> Result<Relation, RouteFault>
+        ensures { IfOk result (λ r. (r.grid ≡ shape.now) × (r.vcs ≡ vcs) × (r.classes ≡ classes) × IsTable r) }
+    {
+        if !is_right(shape, vcs, classes, &rule) {
+            return Err(RouteFault::WrongShape);
+        }
+        let frame = Frame {
+            shape: *shape,
+            vcs,
+            classes,
+        };
+        let map = Map::new(alloc, frame)?;
+        let mut sets = vec![in alloc; ChannelSet::empty(); frame.blocks() * frame.width()]?;
+        let mut outs = vec![in alloc; ChannelSet::empty(); frame.blocks()]?;
+        enter(&map, &rule, &mut sets)?;
+        gather(&map, &sets, &mut outs);
+        match trim(&map, &mut sets, &outs) {
+            Some(entry) => Err(RouteFault::NoWay(entry)),
+            None => Ok(Relation { frame, sets }),
+        }
+    }
+
+    /// The output channels by which a packet of this class, that came to the router by this input port and channel and is
+    /// bound for `dst`, may go on.
+    pub fn permitted(
+        &self,
+        class: usize,
+        router: usize,
+        in_port: usize,
+        in_vc: usize,
+        dst: usize,
+    ) -> ChannelSet
+        requires class { class < self.now.classes }
+        requires router { router < nodes self.now.grid }
+        requires in_port { in_port < ports self.now.grid }
+        requires in_vc { in_vc < self.now.vcs }
+        requires dst { dst < nodes self.now.grid }
+        ensures value { result ≡ set_at self.now class router in_port in_vc dst }
+        ensures table { IsTable self.now }
+    {
+        self.sets[self.frame.place(class, router, in_port, in_vc, dst)]
+    }
+
+    /// The shape of the network.
+    pub fn shape(&self) -> &Shape
+        ensures value { result.now ≡ self.now.grid }
+        ensures table { IsTable self.now }
+    {
+        &self.frame.shape
+    }
+
+    /// How many virtual channels a link has, 1 to 4.
+    pub fn vcs(&self) -> usize
+        ensures value { result ≡ self.now.vcs }
+        ensures table { IsTable self.now }
+    {
+        self.frame.vcs
+    }
+
+    /// How many message classes there are, 1 to 4.
+    pub fn classes(&self) -> usize
+        ensures value { result ≡ self.now.classes }
+        ensures table { IsTable self.now }
+    {
+        self.frame.classes
+    }
+}
+
+/// Writes a rule's sets, or answers the fault of the first bad row.
+fn enter(map: &Map, rule: &Rule, sets: &mut [ChannelSet]) -> Result<(), RouteFault>
+    requires right { is_right map.now.frame.shape map.now.frame.vcs map.now.frame.classes rule.now ≡ true }
+    requires long { length sets.old ≡ blocks map.now.frame.shape map.now.frame.classes * width map.now.frame.shape map.now.frame.vcs }
+    ensures err { IfErr result (IsFirstFault map.now.frame.shape map.now.frame.vcs map.now.frame.classes (rows_of rule.now)) }
+    ensures ok { OnOk result (All (λ row. row_fault map.now.frame.shape map.now.frame.vcs map.now.frame.classes row ≡ None) (rows_of rule.now)) }
+{
+    match rule {
+        Rule::Rows(rows) => {
+            if let Some(fault) = first_fault(map, rows) {
+                return Err(fault);
+            }
+            enter_rows(map, rows, sets);
+        }
+        _ => enter_named(map, rule, sets),
+    }
+    Ok(())
+}

@@ -1,0 +1,88 @@
+//! What can be wrong with the rows of a table.
+
+ghost use Rattle.std.specs.Prelude.{◌≡◌, ◌<◌, IfNone, IfSome, All, None};
+ghost use Rattle.noc_topo.specs.Shape.{nodes};
+ghost use Rattle.noc_route.specs.Order.{row_before};
+ghost use Rattle.noc_route.specs.Relation.{IsFirstFault, earlier_fault, row_fault, is_real_row, is_open};
+
+use crate::map::Map;
+use crate::rule::{RouteFault, RouteRow, comes_before};
+
+/// The first fault of a row.
+pub fn row_fault(map: &Map, row: &RouteRow) -> Option<RouteFault>
+    ensures { result ≡ row_fault map.now.frame.shape map.now.frame.vcs map.now.frame.classes row.now }
+{
+    if !is_real(map, row) {
+        return Some(RouteFault::NoLink(*row));
+    }
+    match map.link(row.router, row.out_port) {
+        None if row.router == row.dst => None,
+        None => Some(RouteFault::EarlyEject(*row)),
+        Some(_) if row.router == row.dst => Some(RouteFault::LateHop(*row)),
+        Some((next, _)) => {
+            if map.distance(next, row.dst) < map.distance(row.router, row.dst) {
+                None
+            } else {
+                Some(RouteFault::NotMinimal(*row))
+            }
+        }
+    }
+}
+
+/// Whether the class, router, ports, channels and destination of a row exist, and its ports are local or have a link.
+fn is_real(map: &Map, row: &RouteRow) -> bool
+    ensures { result ≡ is_real_row map.now.frame.shape map.now.frame.vcs map.now.frame.classes row.now }
+{
+    let frame = &map.frame;
+    let nodes = frame.shape.nodes();
+    row.class < frame.classes
+        && row.router < nodes
+        && row.in_vc < frame.vcs
+        && row.out_vc < frame.vcs
+        && row.dst < nodes
+        && is_port(map, row.router, row.in_port)
+        && is_port(map, row.router, row.out_port)
+}
+
+/// Whether a router has a port, and it is local or has a link.
+fn is_port(map: &Map, router: usize, port: usize) -> bool
+    requires { router < nodes map.now.frame.shape }
+    ensures { result ≡ is_open map.now.frame.shape router port }
+{
+    let ports = map.frame.shape.ports();
+    port < ports && (port + 1 == ports || map.link(router, port).is_some())
+}
+
+/// The first fault among the rows, in the order of class, router, input port and channel, destination, output port and
+/// channel.
+pub fn first_fault(map: &Map, rows: &[RouteRow]) -> Option<RouteFault>
+    ensures none { IfNone result (All (λ row. row_fault map.now.frame.shape map.now.frame.vcs map.now.frame.classes row ≡ None) rows.now) }
+    ensures some { IfSome result (IsFirstFault map.now.frame.shape map.now.frame.vcs map.now.frame.classes rows.now) }
+{
+    let mut first = None;
+    for row in rows {
+        first = earlier_fault(map, row, first);
+    }
+    row_fault(map, &first?)
+}
+
+/// A row, if it has a fault and comes before the other, and else the other.
+fn earlier_fault(map: &Map, row: &RouteRow, other: Option<RouteRow>) -> Option<RouteRow>
+    ensures { result ≡ earlier_fault map.now.frame.shape map.now.frame.vcs map.now.frame.classes row.now other }
+{
+    if row_fault(map, row).is_some() && is_before(row, &other) {
+        Some(*row)
+    } else {
+        other
+    }
+}
+
+/// Whether a row comes before another, if there is one.
+fn is_before(row: &RouteRow, other: &Option<RouteRow>) -> bool
+    ensures { result ≡ row_before row.now other.now }
+{
+    match other {
+        None => true,
+        Some(other) => comes_before(&row.numbers(), &other.numbers()),
+    }
+}

@@ -1,0 +1,113 @@
+//! Routing rules, table rows and what can be wrong with them.
+
+ghost use Rattle.std.specs.Prelude.{◌≡◌, length};
+ghost use Rattle.noc_route.specs.Order.{numbers_before, row_numbers, entry_numbers};
+
+use std::alloc::AllocError;
+
+/// A routing rule (Dally and Towles, chapters 8 to 11).
+#[derive(Debug, Drop)]
+pub enum Rule {
+    /// Dimension order: the lowest dimension in which router and destination differ, by the shorter way.
+    Dor,
+    /// Dimension order on a torus, with the channels of a class in two halves, of which the low one is taken while the
+    /// way still crosses the ends of the dimension.
+    Dateline,
+    /// On a mesh of two dimensions: first down dimension 0, then every port that comes nearer.
+    WestFirst,
+    /// The output channels that these rows name.
+    Rows(Vec<RouteRow>),
+}
+
+/// A packet of class `class`, bound for node `dst`, that came to `router` on channel `in_vc` of input port `in_port`, may
+/// go on by channel `out_vc` of output port `out_port`.
+#[derive(Clone, Copy, Debug, PartialEq, Eq)]
+pub struct RouteRow {
+    pub class: usize,
+    pub router: usize,
+    pub in_port: usize,
+    pub in_vc: usize,
+    pub dst: usize,
+    pub out_port: usize,
+    pub out_vc: usize,
+}
+
+impl RouteRow {
+    /// The numbers of a row, by which rows are in order.
+    pub fn numbers(&self) -> [usize; 7]
+        ensures { result ≡ row_numbers self.now }
+    {
+        [
+            self.class,
+            self.router,
+            self.in_port,
+            self.in_vc,
+            self.dst,
+            self.out_port,
+            self.out_vc,
+        ]
+    }
+}
+
+/// Where a packet can stand for its next channel: its class, the router, the input port and channel on which it came, and
+/// its destination.
+#[derive(Clone, Copy, Debug, PartialEq, Eq)]
+pub struct Entry {
+    pub class: usize,
+    pub router: usize,
+    pub in_port: usize,
+    pub in_vc: usize,
+    pub dst: usize,
+}
+
+impl Entry {
+    /// The numbers of an entry, by which entries are in order.
+    pub fn numbers(&self) -> [usize; 5]
+        ensures { result ≡ entry_numbers self.now }
+    {
+        [self.class, self.router, self.in_port, self.in_vc, self.dst]
+    }
+}
+
+/// Whether numbers come before others as many, where the first pair that differs decides.
+pub fn comes_before(these: &[usize], others: &[usize]) -> bool
+    requires { length these.now ≡ length others.now }
+    ensures { result ≡ numbers_before these.now others.now }
+{
+    for i in 0..these.len() {
+        if these[i] != others[i] {
+            return these[i] < others[i];
+        }
+    }
+    false
+}
+
+/// Why a rule makes no relation.
+#[derive(Clone, Copy, Debug, PartialEq, Eq)]
+pub enum RouteFault {
+    /// The numbers of channels or classes are out of their limits, or the rule does not fit the shape.
+    WrongShape,
+    /// A row names what does not exist, or a port that has no link.
+    NoLink(RouteRow),
+    /// A row leads along a link that comes no nearer to the destination.
+    NotMinimal(RouteRow),
+    /// A row leads out of the network at a router that is not the destination.
+    EarlyEject(RouteRow),
+    /// A row leads along a link at the destination.
+    LateHop(RouteRow),
+    /// Packets reach this entry and nothing is permitted there.
+    NoWay(Entry),
+    /// Memory was refused.
+    Memory,
+}
+
+impl From<AllocError> for RouteFault {
+    ghost use Rattle.std.specs.Prelude.{◌≡◌};
+    ghost use Rattle.noc_route.specs.declared.rule.RouteFault.TheVariants.{Memory};
+
+    ghost from_gives = { λ _ e. e ≡ Memory };
+
+    fn from(_e: AllocError) -> RouteFault {
+        RouteFault::Memory
+    }
+}

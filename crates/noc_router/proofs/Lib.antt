@@ -1,0 +1,4 @@
+pub mod Members
+pub mod RequestLemmas
+pub mod StepRows
+pub mod VerdictRows

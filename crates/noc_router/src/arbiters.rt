@@ -1,0 +1,43 @@
+//! The arbiters of one router.
+
+ghost use Rattle.std.specs.Prelude.{◌≡◌, ◌*◌, ◌<◌, ◌≤◌, All, IfOk, vec_len};
+
+use noc_alloc::Arbiter;
+use noc_packet::Memory;
+use std::alloc::Global;
+
+/// An arbiter over all input channels for each output channel, one over its virtual channels for each
+/// input port, and one over the input ports for each output port (Dally and Towles, chapters 18 and 19).
+#[derive(Drop)]
+pub(crate) struct Arbiters {
+    pub(crate) ports: usize,
+    pub(crate) vcs: usize,
+    pub(crate) channels: Vec<Arbiter>,
+    pub(crate) inputs: Vec<Arbiter>,
+    pub(crate) outputs: Vec<Arbiter>,
+    ghost one_each_channel: { vec_len channels ≡ ports * vcs },
+    ghost one_each_input: { vec_len inputs ≡ ports },
+    ghost one_each_output: { vec_len outputs ≡ ports },
+    ghost over_channels: { All (λ turn. turn.size ≡ ports * vcs) channels.items },
+    ghost over_vcs: { All (λ turn. turn.size ≡ vcs) inputs.items },
+    ghost over_ports: { All (λ turn. turn.size ≡ ports) outputs.items },
+}
+
+impl Arbiters {
+    pub(crate) fn new(alloc: Global, ports: usize, vcs: usize) -> Result<Arbiters, Memory>
+        requires some_port { 0 < ports }
+        requires ports { ports ≤ 7 }
+        requires some_vc { 0 < vcs }
+        requires vcs { vcs ≤ 8 }
+        ensures { IfOk result (λ arbiters. (arbiters.ports ≡ ports) × (arbiters.vcs ≡ vcs)) }
+    {
+        let size = ports * vcs;
+        Ok(Arbiters {
+            ports,
+            vcs,
+            channels: vec![in alloc; Arbiter::new(size); size]?,
+            inputs: vec![in alloc; Arbiter::new(vcs); ports]?,
+            outputs: vec![in alloc; Arbiter::new(ports); ports]?,
+        })
+    }
+}

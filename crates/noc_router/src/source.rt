@@ -1,0 +1,84 @@
+//! The packets that start at a node, in their order.
+
+ghost use Rattle.std.specs.Prelude.{◌≡◌, ◌<◌, All, None};
+ghost use Rattle.std.specs.Option.{ForSome};
+ghost use Rattle.noc_router.specs.Start.{IsStart};
+
+use noc_packet::{Flit, Packet, flit_of};
+
+/// The queue of a node: its packets by due time and then by number.
+#[derive(Drop)]
+pub(crate) struct Source {
+    // The packet that is being injected or next in turn, with its number.
+    front: Option<(u32, Packet)>,
+    // The index of its next flit, and the local virtual channel of the flits after its head.
+    index: u32,
+    vc: Option<usize>,
+    // All packets, of which the first `begun` are done or in front.
+    packets: Vec<(u32, Packet)>,
+    begun: usize,
+    ghost starts: { All IsStart packets.items },
+    ghost in_front: { ForSome front (λ start. IsStart start × (index < start.1.length)) },
+}
+
+impl Source {
+    pub(crate) fn new(packets: Vec<(u32, Packet)>) -> Source
+        requires { All IsStart packets.items }
+        ensures { result.vc ≡ None }
+    {
+        Source {
+            front: packets.first().copied(),
+            index: 0,
+            vc: None,
+            packets,
+            begun: 1,
+        }
+    }
+
+    // The next packet comes to the front.
+    fn next_packet(&mut self)
+        ensures { self.new.vc ≡ None }
+    {
+        self.index = 0;
+        self.vc = None;
+        self.front = self.packets.get(self.begun).copied();
+        self.begun = self.begun.saturating_add(1);
+    }
+
+    // The next flit, if a packet is left.
+    pub(crate) fn next_flit(&self) -> Option<Flit> {
+        let (number, packet) = self.front?;
+        Some(flit_of(&packet, number as usize, self.index as usize))
+    }
+
+    // The local virtual channel of the packet in front, once its head has gone.
+    pub(crate) fn channel(&self) -> Option<usize>
+        ensures { result ≡ self.now.vc }
+    {
+        self.vc
+    }
+
+    // Whether the packet in front is due by this cycle.
+    pub(crate) fn is_due(&self, cycle: u64) -> bool {
+        match self.front {
+            Some((_, packet)) => u64::from(packet.due) <= cycle,
+            None => false,
+        }
+    }
+
+    // The next flit has gone to a local virtual channel.
+    pub(crate) fn sent(&mut self, vc: usize)
+        ensures { ForSome self.new.vc (λ v. v ≡ vc) }
+    {
+        let Some((_, packet)) = self.front else {
+            self.vc = None;
+            return;
+        };
+        if self.index + 1 < packet.length {
+            self.index += 1;
+            self.vc = Some(vc);
+        } else {
+            self.next_packet();
+        }
+    }
+}

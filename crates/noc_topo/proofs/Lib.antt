@@ -1,0 +1,4 @@
+pub mod ShapeLemmas
+pub mod LinkLemmas
+pub mod WordLemmas
+mod Examples

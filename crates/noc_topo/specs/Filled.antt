@@ -1,0 +1,6 @@
+-- Three sizes in place of one to three.
+use Rattle.std.specs.Prelude.{List, [], ◌∷◌, ◌++◌, ℕ, take}
+
+-- the sizes of all three dimensions, 1 where one is missing
+abbrev pub filled : List ℕ → List ℕ
+filled ks = take 3 (ks ++ 1 ∷ 1 ∷ 1 ∷ [])

@@ -1,0 +1,4 @@
+pub mod Words
+pub mod Shape
+pub mod Filled
+pub mod Inside

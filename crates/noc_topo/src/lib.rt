@@ -1,0 +1,7 @@
+//! Shapes of a network-on-chip: meshes and tori, their nodes, ports, links and distances.
+#![tactic(auto)]
+
+mod axis;
+mod shape;
+
+pub use shape::{Kind, Shape, ShapeFault, links_are_mutual};

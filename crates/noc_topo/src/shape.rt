@@ -1,0 +1,229 @@
+//! The shape of a network: a mesh or a torus of one to three dimensions.
+
+ghost use Rattle.std.specs.Prelude.{◌≡◌, ℕ, ◌+◌, ◌<◌, ◌≤◌, IfOk, IfSome, EachIndex, slice_index};
+ghost use Rattle.noc_topo.specs.Shape.{Grid, IsGrid, IsLinkBack, shape_of, wraps_of, nodes, dimensions, ports, local_port, padded, coordinates, distance, neighbour};
+
+use crate::axis;
+use std::marker::Model;
+
+/// What a dimension's two ends are: borders (a mesh) or joined (a torus). Dally and Towles, chapter 3.
+#[derive(Clone, Copy, Debug, PartialEq, Eq)]
+pub enum Kind {
+    Mesh,
+    Torus,
+}
+
+/// Why sizes make no shape.
+#[derive(Clone, Copy, Debug, PartialEq, Eq)]
+pub enum ShapeFault {
+    /// Not 1 to 3 dimensions.
+    BadDimensions,
+    /// A radix is not 2 to 16.
+    BadRadix,
+    /// More than 256 nodes.
+    TooManyNodes,
+}
+
+/// A mesh or a torus of 1 to 3 dimensions, each of radix 2 to 16, with at most 256 nodes.
+#[derive(Clone, Copy, Debug)]
+pub struct Shape {
+    wraps: bool,
+    sizes: [usize; 3],
+    count: usize,
+}
+
+impl Model for Shape {
+    ghost use Rattle.noc_topo.specs.Shape.{Grid};
+
+    ghost Value = { Grid };
+
+    ghost use Rattle.noc_topo.specs.Inside.{grid_of, IsSound, shape_with};
+
+    ghost view = { grid_of };
+
+    ghost invariant = { IsSound };
+
+    ghost inverse = { shape_with };
+}
+
+/// Whether the ends of a dimension are joined.
+fn are_joined(kind: Kind) -> bool
+    ensures { result ≡ wraps_of kind }
+{
+    match kind {
+        Kind::Mesh => false,
+        Kind::Torus => true,
+    }
+}
+
+impl Shape {
+    /// The shape of these sizes, lowest dimension first, or the first fault in the order
+    /// `BadDimensions`, `BadRadix`, `TooManyNodes`.
+    pub fn new(kind: Kind, radix: &[usize]) -> Result<Shape, ShapeFault>
+        ensures value { result ≡ shape_of kind radix.now }
+        ensures grid { IfOk result IsGrid }
+    {
+        if radix.is_empty() || radix.len() > 3 {
+            return Err(ShapeFault::BadDimensions);
+        }
+        if !axis::are_radices(radix) {
+            return Err(ShapeFault::BadRadix);
+        }
+        let sizes = axis::filled_sizes(radix);
+        if axis::volume(&sizes) > 256 {
+            return Err(ShapeFault::TooManyNodes);
+        }
+        Ok(Shape {
+            wraps: are_joined(kind),
+            sizes,
+            count: radix.len(),
+        })
+    }
+
+    /// How many nodes there are, 2 to 256.
+    pub fn nodes(&self) -> usize
+        ensures value { result ≡ nodes self.now }
+        ensures some { 2 ≤ result }
+        ensures few { result ≤ 256 }
+        ensures grid { IsGrid self.now }
+    {
+        axis::volume(&self.sizes)
+    }
+
+    /// How many dimensions there are, 1 to 3.
+    pub fn dimensions(&self) -> usize
+        ensures value { result ≡ dimensions self.now }
+        ensures some { 1 ≤ result }
+        ensures few { result ≤ 3 }
+        ensures grid { IsGrid self.now }
+    {
+        self.count
+    }
+
+    /// How many ports a router has, 3 to 7: two for each dimension, and the local port, which is the last.
+    pub fn ports(&self) -> usize
+        ensures value { result ≡ ports self.now }
+        ensures local { result ≡ local_port self.now + 1 }
+        ensures some { 3 ≤ result }
+        ensures few { result ≤ 7 }
+        ensures grid { IsGrid self.now }
+    {
+        2 * self.count + 1
+    }
+
+    /// The coordinates of a node, lowest dimension first, 0 where a dimension is missing.
+    pub fn coordinates(&self, node: usize) -> [usize; 3]
+        requires { node < nodes self.now }
+        ensures value { result ≡ padded (coordinates self.now.radix node) }
+        ensures range { EachIndex result (λ i. slice_index result i < 16) }
+        ensures grid { IsGrid self.now }
+    {
+        axis::split(&self.sizes, node)
+    }
+
+    /// How many hops the shortest way from one node to another has, at most 45. Dally and Towles, chapter 3.
+    pub fn distance(&self, from: usize, to: usize) -> usize
+        requires from { from < nodes self.now }
+        requires to { to < nodes self.now }
+        ensures value { result ≡ distance self.now from to }
+        ensures bound { result ≤ 45 }
+        ensures grid { IsGrid self.now }
+    {
+        let x = axis::split(&self.sizes, from);
+        let t = axis::split(&self.sizes, to);
+        axis::apart(self.wraps, self.sizes[0], x[0], t[0])
+            + axis::apart(self.wraps, self.sizes[1], x[1], t[1])
+            + axis::apart(self.wraps, self.sizes[2], x[2], t[2])
+    }
+
+    /// The neighbour to which a port leads, and the input port by which a flit enters there; None at a border of a mesh
+    /// and for the local port.
+    pub fn neighbour(&self, node: usize, port: usize) -> Option<(usize, usize)>
+        requires node { node < nodes self.now }
+        requires port { port < ports self.now }
+        ensures value { result ≡ neighbour self.now node port }
+        ensures range { IfSome result (λ to. (to.0 < nodes self.now) × (to.1 < local_port self.now)) }
+        ensures grid { IsGrid self.now }
+    {
+        if port >= 2 * self.count {
+            return None;
+        }
+        let mut place = axis::split(&self.sizes, node);
+        let dimension = port / 2;
+        place[dimension] = axis::moved(
+            self.wraps,
+            self.sizes[dimension],
+            axis::leads_up(port),
+            place[dimension],
+        )?;
+        Some((axis::join(&self.sizes, &place), axis::other_end(port)))
+    }
+}
+
+/// A law: each link leads to a node by a port other than the local one, and the port there leads back.
+/// Dally and Towles, chapter 3.
+pub fn links_are_mutual()
+    ensures { (g : Grid) (a p b q : ℕ) → IsGrid g → a < nodes g → p < ports g → neighbour g a p ≡ Some (b, q) → IsLinkBack g a p b q }
+{}
+
+#[cfg(test)]
+mod tests {
+    use super::*;
+    use std::process::Abort;
+
+    /// A shape that exists.
+    fn shape(rt: &impl Abort, kind: Kind, radix: &[usize]) -> Shape {
+        match Shape::new(kind, radix) {
+            Ok(shape) => shape,
+            Err(_) => panic!(rt; "no shape"),
+        }
+    }
+
+    #[test]
+    fn torus_of_two_by_three_leads_round(rt: HostRuntime) {
+        let torus = shape(&rt, Kind::Torus, &[2, 3]);
+        assert_eq!(rt; torus.nodes(), 6);
+        assert_eq!(rt; torus.dimensions(), 2);
+        assert_eq!(rt; torus.ports(), 5);
+        assert_eq!(rt; torus.neighbour(5, 0), Some((4, 1)));
+        assert_eq!(rt; torus.neighbour(5, 1), Some((4, 0)));
+        assert_eq!(rt; torus.neighbour(5, 2), Some((1, 3)));
+        assert_eq!(rt; torus.neighbour(5, 4), None);
+        assert_eq!(rt; torus.distance(0, 5), 2);
+    }
+
+    #[test]
+    fn mesh_of_four_by_three_has_borders(rt: HostRuntime) {
+        let mesh = shape(&rt, Kind::Mesh, &[4, 3]);
+        assert_eq!(rt; mesh.nodes(), 12);
+        assert_eq!(rt; mesh.coordinates(11), [3, 2, 0]);
+        assert_eq!(rt; mesh.neighbour(3, 0), None);
+        assert_eq!(rt; mesh.neighbour(3, 2), Some((7, 3)));
+        assert_eq!(rt; mesh.distance(0, 11), 5);
+    }
+
+    #[test]
+    fn faults_come_in_their_order(rt: HostRuntime) {
+        assert_eq!(rt;
+            Shape::new(Kind::Mesh, &[17, 2, 2, 2]).err(),
+            Some(ShapeFault::BadDimensions)
+        );
+        assert_eq!(rt;
+            Shape::new(Kind::Torus, &[]).err(),
+            Some(ShapeFault::BadDimensions)
+        );
+        assert_eq!(rt;
+            Shape::new(Kind::Mesh, &[1]).err(),
+            Some(ShapeFault::BadRadix)
+        );
+        assert_eq!(rt;
+            Shape::new(Kind::Mesh, &[17]).err(),
+            Some(ShapeFault::BadRadix)
+        );
+        assert_eq!(rt;
+            Shape::new(Kind::Torus, &[16, 16, 2]).err(),
+            Some(ShapeFault::TooManyNodes)
+        );
+        assert!(rt; Shape::new(Kind::Mesh, &[16, 16]).is_ok());
+    }
+}

@@ -1,0 +1,79 @@
+-- Output virtual channels and their credits (Dally and Towles, chapters 13 and 16).
+use Rattle.std.specs.Prelude.{◌≡◌, ℕ, ◌+◌, ◌-◌, ◌≤◌, Bool, true, false, Option, Some, None, IfSome, nat_eq, nat_lt, if◌then◌else◌}
+use Rattle.noc_packet.specs.declared.limits.TheConstants.{MAX_BUFFER}
+use Rattle.noc_vc.specs.declared.output.OutputState.{OutputState as Holder}
+use Rattle.noc_vc.specs.declared.output.OutputState.TheVariants.{Idle as Free, Owned, Draining}
+
+-- an output channel
+pub record Output : Type 0 where
+  pub holder : Holder
+  pub credit : Option ℕ  -- None for an ejection channel
+  pub places : ℕ  -- of the buffer at the other end of its link, in flits; 0 for an ejection channel
+
+abbrev pub link_output : ℕ → Output
+link_output places = record { holder = Free; credit = Some places; places = places }
+
+abbrev pub ejection_output : Output
+ejection_output = record { holder = Free; credit = None; places = 0 }
+
+abbrev pub is_free : Holder → Bool
+is_free Free = true
+is_free (Owned i p) = false
+is_free Draining = false
+
+abbrev pub is_owned : Holder → Bool
+is_owned Free = false
+is_owned (Owned i p) = true
+is_owned Draining = false
+
+abbrev pub credit_fits_at : ℕ → Option ℕ → Bool
+credit_fits_at places None = false
+credit_fits_at places (Some n) = nat_lt n places
+
+-- whether a credit fits an output channel
+abbrev pub credit_fits : Output → Bool
+credit_fits output = credit_fits_at output.places output.credit
+
+-- what is true of each output channel: no more credits than places, and one that drains still misses a credit
+pub record IsOutput (output : Output) : Type 0 where
+  pub small : output.places ≤ MAX_BUFFER
+  pub count : IfSome output.credit (λ n. n ≤ output.places)
+  pub drains : output.holder ≡ Draining → credit_fits output ≡ true
+
+-- a draining channel whose count is full again is free
+abbrev pub holder_at : ℕ → ℕ → Holder → Holder
+holder_at places count Free = Free
+holder_at places count (Owned i p) = Owned i p
+holder_at places count Draining = if nat_eq count places then Free else Draining
+
+abbrev pub credited_at : Output → Option ℕ → Output
+credited_at output None = output
+credited_at output (Some n) = record output { holder = holder_at output.places (n + 1) output.holder; credit = Some (n + 1) }
+
+-- an output channel after a credit has come
+abbrev pub credited : Output → Output
+credited output = credited_at output output.credit
+
+abbrev pub has_credit_at : Option ℕ → Bool
+has_credit_at None = true
+has_credit_at (Some n) = nat_lt 0 n
+
+-- an ejection channel, or a link channel whose count is not 0
+abbrev pub has_credit : Output → Bool
+has_credit output = has_credit_at output.credit
+
+-- .. after it was granted to a packet that waits on an input channel
+abbrev pub held : Output → ℕ → ℕ → Output
+held output input packet = record output { holder = Owned input packet }
+
+-- .. after its packet has left
+abbrev pub released : Output → Output
+released output = record output { holder = Free }
+
+abbrev pub spent_at : Bool → Output → Option ℕ → Output
+spent_at last output None = if last then released output else output
+spent_at last output (Some n) = record output { holder = if last then Draining else output.holder; credit = Some (n - 1) }
+
+-- .. after a flit has left by it, the tail or another
+abbrev pub spent : Bool → Output → Output
+spent last output = spent_at last output output.credit

@@ -1,0 +1,12 @@
+//! Virtual channels: the states of the input and output channels of one router.
+#![tactic(auto)]
+
+mod input;
+mod misfit;
+mod output;
+#[cfg(test)]
+mod tests;
+
+pub use input::{InputChannel, InputState};
+pub use misfit::Misfit;
+pub use output::{OutputChannel, OutputState};
