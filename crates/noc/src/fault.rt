@@ -1,5 +1,8 @@
 //! Everything that can be wrong with a request, and the exit status of each fault.
 
+ghost use Rattle.std.specs.Prelude.{◌≡◌};
+ghost use Rattle.noc.specs.Status.{status_of_fault};
+
 use noc_files::{InputFault, WriteFault};
 use noc_net::NetFault;
 use noc_route::RouteFault;
@@ -28,7 +31,9 @@ pub enum Fault {
 
 /// The exit status of a fault: 3 for texts, options, shapes and networks, 4 for relations, 6 where memory
 /// was refused, 7 where the report could not be written.
-pub fn status_of(fault: &Fault) -> u8 {
+pub fn status_of(fault: &Fault) -> u8
+    ensures { result ≡ status_of_fault fault.now }
+{
     match fault {
         Fault::Joined(InputFault::Memory)
         | Fault::Config(InputFault::Memory)

@@ -1,6 +1,9 @@
 //! The line that tells a fault.
 
-ghost use Rattle.std.specs.Prelude.{◌≤◌, length};
+ghost use Rattle.std.specs.Prelude.{◌≡◌, ◌≤◌, [], ◌∷◌, codes, decimal, length};
+ghost use Rattle.noc_files.specs.Keys.{key_name};
+ghost use Rattle.noc_files.specs.Writing.{Wrote};
+ghost use Rattle.noc.specs.Line.{entry_details, field_details, hop_details, input_details, input_title, line_of, line_with, net_details, net_title, port_word, route_details, route_title, row_details, shape_title};
 
 use crate::fault::{Fault, OptionFault};
 use itoa::Buffer;
@@ -10,7 +13,9 @@ use noc_route::{Entry, RouteFault, RouteRow};
 use noc_topo::{Shape, ShapeFault};
 
 /// Writes the line of a fault: `fault`, its family, its number, its name and its details (docs/FORMATS.md, "Faults").
-pub fn fault_line<W: Sink>(fault: &Fault, sink: &mut W) -> Result<(), WriteFault> {
+pub fn fault_line<W: Sink>(fault: &Fault, sink: &mut W) -> Result<(), WriteFault>
+    ensures { Wrote W.contents W.has_failed sink.old sink.new (line_of fault.now) result }
+{
     match fault {
         Fault::Joined(fault) => input_line("joined", *fault, sink),
         Fault::Config(fault) => input_line("config", *fault, sink),
@@ -30,6 +35,7 @@ pub fn fault_line<W: Sink>(fault: &Fault, sink: &mut W) -> Result<(), WriteFault
 }
 
 // A fault without details.
+#[tactic(auto, unfolding(crate::specs::Line::line_with))]
 fn plain_line<W: Sink>(
     family: &'static str,
     name: &'static str,
@@ -37,11 +43,13 @@ fn plain_line<W: Sink>(
 ) -> Result<(), WriteFault>
     requires family { length family.now ≤ 20 }
     requires title { length name.now ≤ 20 }
+    ensures { Wrote W.contents W.has_failed sink.old sink.new (line_with family.now name.now []) result }
 {
     write_pieces(&["fault ", family, " ", name, "\n"], sink)
 }
 
 // A fault whose only detail is a number.
+#[tactic(auto, unfolding(crate::specs::Line::line_with))]
 fn counted_line<W: Sink>(
     family: &'static str,
     name: &'static str,
@@ -52,6 +60,7 @@ fn counted_line<W: Sink>(
     requires family { length family.now ≤ 20 }
     requires title { length name.now ≤ 20 }
     requires word { length word.now ≤ 20 }
+    ensures { Wrote W.contents W.has_failed sink.old sink.new (line_with family.now name.now (word.now ∷ decimal number ∷ [])) result }
 {
     let mut buffer = Buffer::new();
     write_pieces(
@@ -75,6 +84,7 @@ fn input_line<W: Sink>(
     sink: &mut W,
 ) -> Result<(), WriteFault>
     requires { length family.now ≤ 20 }
+    ensures { Wrote W.contents W.has_failed sink.old sink.new (line_with family.now (input_title fault) (input_details fault)) result }
 {
     match fault {
         InputFault::ReadFailed => plain_line(family, "1 ReadFailed", sink),
@@ -106,6 +116,7 @@ fn input_line<W: Sink>(
 }
 
 // A fault of a key.
+#[tactic(auto, unfolding(crate::specs::Line::line_with))]
 fn key_line<W: Sink>(
     family: &'static str,
     name: &'static str,
@@ -114,6 +125,7 @@ fn key_line<W: Sink>(
 ) -> Result<(), WriteFault>
     requires family { length family.now ≤ 20 }
     requires title { length name.now ≤ 20 }
+    ensures { Wrote W.contents W.has_failed sink.old sink.new (line_with family.now name.now (codes " key " ∷ key_name key ∷ [])) result }
 {
     write_pieces(
         &["fault ", family, " ", name, " key ", key.name(), "\n"],
@@ -122,6 +134,7 @@ fn key_line<W: Sink>(
 }
 
 // A fault of a field.
+#[tactic(auto, unfolding(crate::specs::Line::line_with))]
 fn field_line<W: Sink>(
     family: &'static str,
     name: &'static str,
@@ -131,6 +144,7 @@ fn field_line<W: Sink>(
 ) -> Result<(), WriteFault>
     requires family { length family.now ≤ 20 }
     requires title { length name.now ≤ 20 }
+    ensures { Wrote W.contents W.has_failed sink.old sink.new (line_with family.now name.now (field_details row column)) result }
 {
     let mut first = Buffer::new();
     let mut second = Buffer::new();
@@ -151,7 +165,8 @@ fn field_line<W: Sink>(
 }
 
 fn shape_name(fault: ShapeFault) -> &'static str
-    ensures { length result.now ≤ 20 }
+    ensures title { result.now ≡ shape_title fault }
+    ensures short { length result.now ≤ 20 }
 {
     match fault {
         ShapeFault::BadDimensions => "1 BadDimensions",
@@ -161,11 +176,9 @@ fn shape_name(fault: ShapeFault) -> &'static str
 }
 
 // A fault of a relation.
-fn relation_line<W: Sink>(
-    fault: &RouteFault,
-    shape: &Shape,
-    sink: &mut W,
-) -> Result<(), WriteFault> {
+fn relation_line<W: Sink>(fault: &RouteFault, shape: &Shape, sink: &mut W) -> Result<(), WriteFault>
+    ensures { Wrote W.contents W.has_failed sink.old sink.new (line_with (codes "relation") (route_title fault.now) (route_details shape.now fault.now)) result }
+{
     match fault {
         RouteFault::WrongShape => plain_line("relation", "1 WrongShape", sink),
         RouteFault::NoLink(row) => row_line("2 NoLink", row, shape, sink),
@@ -178,6 +191,7 @@ fn relation_line<W: Sink>(
 }
 
 // A fault of a table's row.
+#[tactic(auto, unfolding(crate::specs::Line::line_with))]
 fn row_line<W: Sink>(
     name: &'static str,
     row: &RouteRow,
@@ -185,6 +199,7 @@ fn row_line<W: Sink>(
     sink: &mut W,
 ) -> Result<(), WriteFault>
     requires { length name.now ≤ 20 }
+    ensures { Wrote W.contents W.has_failed sink.old sink.new (line_with (codes "relation") name.now (hop_details shape.now row.now)) result }
 {
     let mut class = Buffer::new();
     let mut router = Buffer::new();
@@ -218,7 +233,10 @@ fn row_line<W: Sink>(
 }
 
 // A fault of an entry of a relation.
-fn entry_line<W: Sink>(entry: &Entry, shape: &Shape, sink: &mut W) -> Result<(), WriteFault> {
+#[tactic(auto, unfolding(crate::specs::Line::line_with))]
+fn entry_line<W: Sink>(entry: &Entry, shape: &Shape, sink: &mut W) -> Result<(), WriteFault>
+    ensures { Wrote W.contents W.has_failed sink.old sink.new (line_with (codes "relation") (codes "6 NoWay") (entry_details shape.now entry.now)) result }
+{
     let mut class = Buffer::new();
     let mut router = Buffer::new();
     let mut port = Buffer::new();
@@ -244,7 +262,8 @@ fn entry_line<W: Sink>(entry: &Entry, shape: &Shape, sink: &mut W) -> Result<(),
 
 // The name of a port, or its number where the shape has no such port.
 fn port_text<'a>(shape: &Shape, port: usize, buffer: &'a mut Buffer) -> &'a str
-    ensures { length result.now ≤ 20 }
+    ensures text { result.now ≡ port_word shape.now port }
+    ensures short { length result.now ≤ 20 }
 {
     match port_name(shape, port) {
         Some(name) => name,
@@ -253,7 +272,9 @@ fn port_text<'a>(shape: &Shape, port: usize, buffer: &'a mut Buffer) -> &'a str
 }
 
 // A fault of a network.
-fn network_line<W: Sink>(fault: NetFault, sink: &mut W) -> Result<(), WriteFault> {
+fn network_line<W: Sink>(fault: NetFault, sink: &mut W) -> Result<(), WriteFault>
+    ensures { Wrote W.contents W.has_failed sink.old sink.new (line_with (codes "network") (net_title fault) (net_details fault)) result }
+{
     match fault {
         NetFault::SelfPacket { row } => packet_line("1 SelfPacket", row, sink),
         NetFault::BadNode { row } => packet_line("2 BadNode", row, sink),
@@ -268,6 +289,7 @@ fn network_line<W: Sink>(fault: NetFault, sink: &mut W) -> Result<(), WriteFault
 // A fault of a packet.
 fn packet_line<W: Sink>(name: &'static str, row: usize, sink: &mut W) -> Result<(), WriteFault>
     requires { length name.now ≤ 20 }
+    ensures { Wrote W.contents W.has_failed sink.old sink.new (line_with (codes "network") name.now (row_details row)) result }
 {
     counted_line("network", name, " row ", row as u64, sink)
 }

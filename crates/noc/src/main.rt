@@ -1,6 +1,11 @@
 //! The simulator: reads a joined text from standard input and writes the latency report.
 #![tactic(auto)]
 
+ghost use Rattle.std.specs.Prelude.{◌≡◌, false, IfErr, IfNone, IsSome};
+ghost use Rattle.noc_net.specs.Network.{Run};
+ghost use Rattle.noc.specs.Answer.{bytes_of, writing_of, AsksFor, FirstFault};
+ghost use Rattle.noc.specs.Status.{is_memory};
+
 mod answer;
 mod fault;
 mod line;
@@ -35,8 +40,7 @@ fn main(rt: HostRuntime) -> ExitCode {
     }
     let text = read_all(rt.alloc(), &mut rt.reader(), INPUT_LIMIT);
     match print_answer(&rt, &joined(text)) {
-        Ok(Status::Done) => ExitCode::SUCCESS,
-        Ok(Status::Stuck) => ExitCode::from(5),
+        Ok(status) => ExitCode::from(status.code()),
         Err(fault) => {
             let _ = fault_line(&fault, &mut Out::new(rt.stderr()));
             ExitCode::from(status_of(&fault))
@@ -53,7 +57,10 @@ fn has_words(rt: &(impl Env + Alloc)) -> bool {
 }
 
 // The request for the latency report of a joined text.
-fn joined(text: Text) -> Request {
+fn joined(text: Text) -> Request
+    ensures config { result.config ≡ text }
+    ensures command { result.command ≡ Command.Joined }
+{
     Request {
         config: text,
         table: None,
@@ -64,7 +71,10 @@ fn joined(text: Text) -> Request {
 }
 
 // Writes the answer to standard output.
-fn print_answer(rt: &(impl Print + AllocGlobal), request: &Request) -> Result<Status, Fault> {
+fn print_answer(rt: &(impl Print + AllocGlobal), request: &Request) -> Result<Status, Fault>
+    ensures run { IsSome (writing_of result) → (run : Run) × AsksFor (bytes_of request.now.config) run }
+    ensures fault { IfNone (writing_of result) (IfErr result (λ f. is_memory f ≡ false → FirstFault (bytes_of request.now.config) f)) }
+{
     let writer = match BufWriter::new(rt.alloc(), io::writer(rt)) {
         Ok(writer) => writer,
         Err(_) => return Err(Fault::Joined(InputFault::Memory)),

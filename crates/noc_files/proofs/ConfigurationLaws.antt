@@ -1,6 +1,6 @@
 -- A configuration is read just where it is a document with its keys and their values.
-use Rattle.std.proofs.Common.{◌≡◌, ℕ, ◌≤◌, ℤ, pos, negsuc, ◌&&◌, ◌||◌, ◌⊎◌, inl, inr, Bool, true, false, List, [], ◌∷◌, Option, Some, None, Result, Ok, Err, codes, option_map, option_and_then, refl, sym, ap, ◌∙◌, arith, cond, le-leb}
-use Rattle.std.specs.Prelude.{nat_le, is_some}
+use Rattle.std.proofs.Common.{◌≡◌, ℕ, ◌≤◌, ℤ, pos, negsuc, ◌&&◌, ◌||◌, ◌⊎◌, inl, inr, Bool, true, false, List, [], ◌∷◌, Option, Some, None, Result, Ok, Err, codes, refl, sym, ap, ◌∙◌, arith, cond, le-leb}
+use Rattle.std.specs.Prelude.{nat_le}
 use Rattle.std.proofs.lemmas.Bool.{leb-true}
 use Rattle.std.proofs.lemmas.Option.{cond_some, none-some, same_Some}
 use Rattle.std.proofs.lemmas.Str.{IsUtf8-from_is_utf8, is_utf8-from_IsUtf8}
@@ -21,7 +21,6 @@ use Rattle.noc_files.specs.declared.fault.Key.TheVariants as key
 use Rattle.noc_files.specs.Configuration.{HasKnownKeys, HasNumber, HasValue, IsConfiguration, Settings, all_integers, all_known, config_at, config_of, document_of, integers, is_key, kind_at, kind_of, kind_word, lengths_of, number_in, radix_at, rule_at, rule_of, rule_word, typed_at, within}
 use Rattle.noc_files.specs.declared.configuration.TheConstants.{MAX_CYCLES}
 use Rattle.noc_packet.specs.declared.limits.TheConstants.{MAX_BUFFER, MAX_CHANNELS, MAX_CLASSES}
-use Rattle.noc_files.specs.Gives.{◌>>=◌}
 use Rattle.noc_files.specs.Keys.{key_name}
 use Rattle.noc_files.proofs.SheetLaws.{bind_ok, both}
 use Rattle.noc_files.proofs.TrafficLaws.{found_in}

@@ -13,3 +13,6 @@ pub mod TableLaws
 pub mod PlainFacts
 pub mod NumeralFacts
 pub mod BelowFacts
+pub mod FaultLaws
+pub mod TrafficFaults
+pub mod TableFaults

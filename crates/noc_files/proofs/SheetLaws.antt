@@ -1,5 +1,5 @@
 -- A file is read just where it is the header and a row for each value.
-use Rattle.std.proofs.Common.{◌≡◌, ℕ, suc, ◌+◌, ◌^◌, ◌<◌, ◌≤◌, ◌&&◌, Bool, true, false, List, [], ◌∷◌, length, All, Option, Some, None, Result, Ok, Err, refl, sym, ap, ◌∙◌, arith, le-leb}
+use Rattle.std.proofs.Common.{◌≡◌, ℕ, suc, ◌+◌, ◌^◌, ◌&&◌, Bool, true, false, List, [], ◌∷◌, length, All, Some, Result, Ok, Err, refl, sym, ap, ◌∙◌, arith, le-leb}
 use Rattle.std.proofs.lemmas.Bool.{eq-eqb, leb-true, lt-ltb}
 use Rattle.std.proofs.lemmas.List.Elements.{All-cons, All-nil}
 use Rattle.std.proofs.lemmas.Option.{cond_some}
@@ -8,7 +8,6 @@ use Rattle.std.specs.Prelude.{nat_le, nat_lt}
 use Rattle.std.specs.Char.{IsAsciiDigit}
 use Rattle.std.specs.Cmp.Lexicographic.{pointwise, same_text}
 use Rattle.std.specs.List.{AllZip}
-use Rattle.std.specs.Option.{ok_or}
 use Rattle.std.specs.Str.{all_ascii_digits, bytes_eq}
 use Rattle.std.specs.Str.Parse.{digits_value}
 use Rattle.noc_files.specs.declared.fault.InputFault.{InputFault}
@@ -56,7 +55,7 @@ pub bind_ok : {A B : Type 0} (r : Result A InputFault) (f : A → Result B Input
 bind_ok (Ok x) f y e = (x, refl, e)
 bind_ok (Err fault) f y e = absurd (cc)
 
-names_same : (names header : Fields) → pointwise bytes_eq names header ≡ true → names ≡ header
+pub names_same : (names header : Fields) → pointwise bytes_eq names header ≡ true → names ≡ header
 names_same [] [] e = refl
 names_same [] (h ∷ header) e = absurd (cc)
 names_same (n ∷ names) [] e = absurd (cc)
@@ -68,7 +67,7 @@ pub bytes_eq-refl : (text : List ℕ) → bytes_eq text text ≡ true
 bytes_eq-refl [] = refl
 bytes_eq-refl (c ∷ cs) = rw (eq-eqb c c refl, bytes_eq-refl cs)
 
-same_names : (header : Fields) → pointwise bytes_eq header header ≡ true
+pub same_names : (header : Fields) → pointwise bytes_eq header header ≡ true
 same_names [] = refl
 same_names (h ∷ header) = rw (bytes_eq-refl h, same_names header)
 

@@ -1,14 +1,13 @@
 -- A row is read as a row of a table just where it is seven fields that write it.
-use Rattle.std.proofs.Common.{map, refl, ◌≡◌, ℕ, ◌+◌, List, [], ◌∷◌, Option, Some, None, Result, Ok, Err, arith, false, ◌<◌, length, ◌==◌}
+use Rattle.std.proofs.Common.{map, refl, ◌≡◌, ℕ, List, [], ◌∷◌, Result, Ok, Err, arith, false, length, ◌==◌}
 use Rattle.std.specs.Option.{ok_or}
 use Rattle.csv.specs.Records.{field_at}
 use Rattle.noc_route.specs.declared.rule.RouteRow.{RouteRow}
 use Rattle.noc_topo.specs.Shape.{Grid, IsGrid}
 use Rattle.noc_files.specs.declared.fault.InputFault.{InputFault}
 use Rattle.noc_files.specs.declared.fault.InputFault.TheVariants.{BadCount, BadPort}
-use Rattle.noc_files.specs.Gives.{◌>>=◌}
 use Rattle.noc_files.specs.Ports.{IsPortName, port_of}
-use Rattle.noc_files.specs.Rows.{Fields, IsNumeral, number_of, rows_of}
+use Rattle.noc_files.specs.Rows.{Fields, rows_of}
 use Rattle.noc_files.specs.Table.{IsTable, IsWritable, WritesRoute, header, route_fields, route_row_of, table_of, table_text}
 use Rattle.noc_files.proofs.PortLaws.{is_port, port_is, port_plain}
 use Rattle.noc_topo.specs.Words.{Each}
@@ -27,7 +26,7 @@ named_at : (g : Grid) (row at : ℕ) (field : List ℕ) (p : ℕ) → port_colum
 named_at g row at field p e = port_is g field p (found_in (port_of g field) (BadPort row at) p e)
 
 module _ (g : Grid) (grid : IsGrid g) where
-  route_is : (row : ℕ) (fields : Fields) (r : RouteRow) → route_row_of g row fields ≡ Ok r → WritesRoute g fields r
+  pub route_is : (row : ℕ) (fields : Fields) (r : RouteRow) → route_row_of g row fields ≡ Ok r → WritesRoute g fields r
   unfolding route_row_of field_at
   route_is row [] r e = absurd (cc)
   route_is row (a ∷ []) r e = absurd (cc)
@@ -51,7 +50,7 @@ module _ (g : Grid) (grid : IsGrid g) where
       let refused : route_row_of g row (a ∷ b ∷ c ∷ d ∷ f ∷ h ∷ k ∷ m ∷ more) ≡ Err (BadCount row) = rw other in
       absurd (cc (refused, e))
 
-  is_route : (row : ℕ) (fields : Fields) (r : RouteRow) → WritesRoute g fields r → route_row_of g row fields ≡ Ok r
+  pub is_route : (row : ℕ) (fields : Fields) (r : RouteRow) → WritesRoute g fields r → route_row_of g row fields ≡ Ok r
   unfolding route_row_of field_at
   is_route row (a ∷ b ∷ c ∷ d ∷ f ∷ h ∷ k ∷ []) r w = rw (is_numeral a r.class w.0, is_numeral b r.router w.1, is_port g c r.in_port grid w.2, is_numeral d r.in_vc w.3, is_numeral f r.dst w.4, is_port g h r.out_port grid w.5, is_numeral k r.out_vc w.6)
   is_route row [] r w = absurd w

@@ -1,17 +1,16 @@
 -- A row is read as a packet just where it is five numerals that write it.
-use Rattle.std.proofs.Common.{map, refl, ◌≡◌, ℕ, ◌+◌, List, [], ◌∷◌, Option, Some, None, Result, Ok, Err, arith, false, ◌<◌, length, ◌==◌}
+use Rattle.std.proofs.Common.{map, refl, ◌≡◌, ℕ, List, [], ◌∷◌, Option, Some, None, Result, Ok, Err, arith, false, ◌<◌, length, ◌==◌}
 use Rattle.std.proofs.lemmas.Bool.Decides.{nat_tests}
 use Rattle.std.specs.Option.{ok_or}
 use Rattle.csv.specs.Records.{field_at}
 use Rattle.noc_packet.specs.declared.packet.Packet.{Packet}
 use Rattle.noc_files.specs.declared.fault.InputFault.{InputFault}
 use Rattle.noc_files.specs.declared.fault.InputFault.TheVariants.{BadCount, BadNumber}
-use Rattle.noc_files.specs.Gives.{◌>>=◌}
 use Rattle.noc_files.specs.Rows.{Fields, IsNumeral, number_of, rows_of}
 use Rattle.noc_files.specs.Traffic.{IsTraffic, IsWritable, WritesPacket, header, packet_fields, packet_of, traffic_of, traffic_text}
 use Rattle.noc_topo.specs.Words.{Each}
 use Rattle.std.specs.List.{AllZip}
-use Rattle.noc_files.specs.Plain.{IsPlain, IsPlainRow}
+use Rattle.noc_files.specs.Plain.{IsPlainRow}
 use Rattle.noc_files.proofs.NumeralFacts.{decimal_numeral, plain_decimal, some_decimal}
 use Rattle.noc_files.proofs.PlainFacts.{is_plain_row, plain_rows}
 use Rattle.noc_files.proofs.SheetLaws.{bind_ok, is_numeral, is_sheet, numeral_is, sheet_is}
@@ -31,7 +30,7 @@ numeral_at row at field n e = numeral_is field n (found_in (number_of field) (Ba
 pub differs : (m n : ℕ) → n < m → (m == n) ≡ false
 differs m n h = grind (arith, nat_tests)
 
-packet_is : (row : ℕ) (fields : Fields) (p : Packet) → packet_of row fields ≡ Ok p → WritesPacket fields p
+pub packet_is : (row : ℕ) (fields : Fields) (p : Packet) → packet_of row fields ≡ Ok p → WritesPacket fields p
 unfolding packet_of field_at
 packet_is row [] p e = absurd (cc)
 packet_is row (a ∷ []) p e = absurd (cc)
@@ -51,7 +50,7 @@ packet_is row (a ∷ b ∷ c ∷ d ∷ f ∷ g ∷ more) p e =
     let refused : packet_of row (a ∷ b ∷ c ∷ d ∷ f ∷ g ∷ more) ≡ Err (BadCount row) = rw other in
     absurd (cc (refused, e))
 
-is_packet : (row : ℕ) (fields : Fields) (p : Packet) → WritesPacket fields p → packet_of row fields ≡ Ok p
+pub is_packet : (row : ℕ) (fields : Fields) (p : Packet) → WritesPacket fields p → packet_of row fields ≡ Ok p
 unfolding packet_of field_at
 is_packet row (a ∷ b ∷ c ∷ d ∷ f ∷ []) p h = rw (is_numeral a p.source h.0, is_numeral b p.destination h.1, is_numeral c p.class h.2, is_numeral d p.length h.3, is_numeral f p.due h.4)
 is_packet row [] p h = absurd h

@@ -39,8 +39,12 @@ abbrev pub finding_line : Grid → ℕ → ℕ → Finding → List ℕ
 finding_line g port vc f = verdict_text g port vc f ++ out_text g f.out
 
 -- the line of an input channel, if something was found of it
+abbrev pub line_if_found : Grid → ℕ → ℕ → Option Finding → List ℕ
+line_if_found g port vc None = []
+line_if_found g port vc (Some f) = finding_line g port vc f
+
 abbrev pub found_line : Routes → List Finding → ℕ → ℕ → List ℕ
-found_line relation findings port vc = elim (slice_get findings (port * relation.vcs + vc)) [ None ↦ [] | Some f ↦ finding_line relation.grid port vc f ]
+found_line relation findings port vc = line_if_found relation.grid port vc (slice_get findings (port * relation.vcs + vc))
 
 -- the report of a router, whose findings go by the index port*V + vc: the header, and a line for each input channel
 abbrev pub finding_report : Routes → ℕ → List Finding → List ℕ

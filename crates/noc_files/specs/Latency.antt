@@ -1,5 +1,8 @@
 -- The latency report.
 use Rattle.std.specs.Prelude.{ℕ, ◌-◌, length, List, [], ◌∷◌, ◌++◌, Option, Some, None, decimal, codes}
+use Rattle.std.specs.List.{flat_map}
+use Rattle.noc_net.specs.Network.{Setup, packet_at}
+use Rattle.noc_topo.specs.Words.{below}
 use Rattle.noc_packet.specs.declared.packet.Packet.{Packet}
 use Rattle.noc_files.specs.Writing.{comma, dash_or, joined, line_end}
 
@@ -11,8 +14,24 @@ abbrev pub packet_latency : Packet → Option ℕ → Option ℕ
 packet_latency p None = None
 packet_latency p (Some cycle) = Some (cycle - p.due)
 
+-- the number of a packet and what it was made of, each before a comma
+abbrev pub packet_start : ℕ → Packet → List ℕ
+packet_start number p = joined (
+    decimal number ∷ comma ∷ decimal p.source ∷ comma ∷ decimal p.destination ∷ comma ∷ decimal p.class ∷ comma ∷ decimal p.length ∷ comma ∷ decimal p.due ∷ comma
+    ∷ [])
+
+-- the cycle in which its tail is out and its latency, or dashes
+abbrev pub packet_end : Packet → Option ℕ → List ℕ
+packet_end p out = joined (dash_or out ∷ comma ∷ dash_or (packet_latency p out) ∷ line_end ∷ [])
+
 -- the line of a packet with this number, whose tail is out in this cycle, if it is
 abbrev pub packet_line : ℕ → Packet → Option ℕ → List ℕ
-packet_line number p out = joined (
-    decimal number ∷ comma ∷ decimal p.source ∷ comma ∷ decimal p.destination ∷ comma ∷ decimal p.class ∷ comma ∷ decimal p.length ∷ comma ∷ decimal p.due
-    ∷ comma ∷ dash_or out ∷ comma ∷ dash_or (packet_latency p out) ∷ line_end ∷ [])
+packet_line number p out = packet_start number p ++ packet_end p out
+
+-- the line of the packet with this number, where the tails are out in these cycles
+abbrev pub latency_line : Setup → (ℕ → Option ℕ) → ℕ → List ℕ
+latency_line net outs number = packet_line number (packet_at net number) (outs number)
+
+-- the report of a network, where the tails are out in these cycles: the header, and a line for each packet
+abbrev pub latency_text : Setup → (ℕ → Option ℕ) → List ℕ
+latency_text net outs = latency_header ++ flat_map (latency_line net outs) (below (length net.packets))

@@ -68,3 +68,7 @@ pub record IsNumeral (field : List ℕ) (n : ℕ) : Type 0 where
   pub few : length field ≤ 10
   pub value : digits_value 10 field ≡ n
   pub fits : n < 2 ^ 32
+
+-- a field that writes some number
+abbrev pub HasNumeral : List ℕ → Type 0
+HasNumeral field = (n : ℕ) × IsNumeral field n

@@ -1,5 +1,5 @@
 -- What a file of rows under a header says, whatever a row says.
-use Rattle.std.specs.Prelude.{◌≡◌, ℕ, ◌+◌, List, [], ◌∷◌, Result, Ok, Err, if◌then◌else◌}
+use Rattle.std.specs.Prelude.{◌≡◌, ◌≢◌, ◌⊎◌, ℕ, ◌+◌, length, List, [], ◌∷◌, ◌++◌, Result, Ok, Err, if◌then◌else◌}
 use Rattle.std.specs.Cmp.Lexicographic.{pointwise}
 use Rattle.std.specs.List.{AllZip}
 use Rattle.std.specs.Str.{bytes_eq}
@@ -27,3 +27,22 @@ pub record IsSheet {P : Type 0} (Writes : Fields → P → Type 0) (header : Fie
   pub below : List Fields
   pub under_header : rows ≡ header ∷ below
   pub writes : AllZip Writes below values
+
+-- the first row with a fault, below the header and rows that write values
+pub record HasBadRow {P : Type 0} (Writes : Fields → P → Type 0) (IsRowFault : ℕ → Fields → InputFault → Type 0) (header : Fields) (rows : List Fields) (fault : InputFault) : Type 0 where
+  pub good : List Fields
+  pub bad : Fields
+  pub others : List Fields
+  pub values : List P
+  pub under_header : rows ≡ header ∷ (good ++ bad ∷ others)
+  pub writes : AllZip Writes good values
+  pub fault_is : IsRowFault (length good) bad fault
+
+-- no row of these names at first
+pub record LacksHeader (header : Fields) (rows : List Fields) (fault : InputFault) : Type 0 where
+  pub lacks : (below : List Fields) → rows ≢ header ∷ below
+  pub fault_is : fault ≡ BadHeader
+
+-- the first fault of a file: no header, or a row with a fault
+abbrev pub IsSheetFault : {P : Type 0} → (Fields → P → Type 0) → (ℕ → Fields → InputFault → Type 0) → Fields → List Fields → InputFault → Type 0
+IsSheetFault Writes IsRowFault header rows fault = LacksHeader header rows fault ⊎ HasBadRow Writes IsRowFault header rows fault

@@ -1,7 +1,8 @@
 -- The summary report.
-use Rattle.std.specs.Prelude.{ℕ, List, [], ◌∷◌, codes, Option, Some, slice_index}
+use Rattle.std.specs.Prelude.{◌≡◌, ℕ, ◌+◌, length, List, [], ◌∷◌, codes, Option, Some, slice_index}
 use Rattle.std.specs.Borrow.{Bor}
 use Rattle.std.specs.List.{flat_map}
+use Rattle.noc_net.specs.Network.{Run}
 use Rattle.noc_files.specs.Writing.{dash_or, joined, line_end}
 use Rattle.noc_files.specs.declared.summary.Summary.{Summary}
 
@@ -38,3 +39,9 @@ summary_entries s =
 
 abbrev pub summary_text : Summary → List ℕ
 summary_text s = flat_map summary_line (summary_entries s)
+
+-- a summary of a network, as far as its cycles and its packets go
+pub record SummaryFits (u : Run) (s : Summary) : Type 0 where
+  pub cycles : s.cycles ≡ u.count
+  pub packets : s.packets ≡ length u.net.packets
+  pub left : s.delivered + s.left ≡ length u.net.packets

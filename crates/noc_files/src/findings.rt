@@ -1,6 +1,7 @@
 //! The report of a router's findings in one cycle (docs/FORMATS.md).
 
-ghost use Rattle.std.specs.Prelude.{◌≡◌, ◌+◌, ◌^◌, ◌<◌, ◌≤◌, length, IfOk};
+ghost use Rattle.std.specs.Prelude.{List, ◌≡◌, ◌+◌, ◌^◌, ◌<◌, ◌≤◌, length, IfOk};
+ghost use Rattle.noc_router.specs.declared.verdict.Finding.{Finding as FindingValue};
 ghost use Rattle.std.specs.List.{flat_map};
 ghost use Rattle.noc_topo.specs.Shape.{nodes, ports};
 ghost use Rattle.noc_topo.specs.Words.{below};
@@ -248,6 +249,7 @@ pub fn write_findings<W: Sink>(
     sink: &mut W,
 ) -> Result<(), WriteFault>
     requires { router < nodes network.now.net.relation.grid }
+    ensures { (found : List FindingValue) × Wrote W.contents W.has_failed sink.old sink.new (finding_report network.now.net.relation router found) result }
 {
     write_found(network.relation(), router, network.findings(router), sink)
 }

@@ -29,8 +29,14 @@ pub use sink::{Out, Sink};
 pub use source::read_all;
 pub use stalls::write_stalls;
 pub use summary::write_summary;
-pub use table::{read_table, table_is_header_and_rows, written_table_is_read_back};
-pub use traffic::{read_traffic, traffic_is_header_and_numerals, written_traffic_is_read_back};
+pub use table::{
+    read_table, table_is_header_and_rows, table_is_refused_with_its_first_fault,
+    written_table_is_read_back,
+};
+pub use traffic::{
+    read_traffic, traffic_is_header_and_numerals, traffic_is_refused_with_its_first_fault,
+    written_traffic_is_read_back,
+};
 pub use writing::{WriteFault, write_pieces};
 
 #[cfg(test)]

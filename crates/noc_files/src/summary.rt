@@ -4,7 +4,8 @@ ghost use Rattle.std.specs.Prelude.{◌+◌, ◌*◌, ◌^◌, ◌<◌, ◌≤�
 ghost use Rattle.std.specs.Borrow.{Bor};
 ghost use Rattle.std.specs.List.{flat_map, list_all};
 ghost use Rattle.noc_topo.specs.Shape.{nodes, ports};
-ghost use Rattle.noc_files.specs.Summary.{entry_of, summary_line, summary_text};
+ghost use Rattle.noc_files.specs.declared.summary.Summary.{Summary as SummaryValue};
+ghost use Rattle.noc_files.specs.Summary.{entry_of, summary_line, summary_text, SummaryFits};
 ghost use Rattle.noc_files.specs.Writing.{Puts, Wrote};
 
 use crate::latency::latency_of;
@@ -175,7 +176,11 @@ fn column_total(network: &Network, column: usize) -> u128
 }
 
 // The summary of a network.
-fn summary_of(network: &Network) -> Summary {
+fn summary_of(network: &Network) -> Summary
+    ensures cycles { result.cycles ≡ network.now.count }
+    ensures packets { result.packets ≡ length network.now.net.packets }
+    ensures left { result.delivered + result.left ≡ length network.now.net.packets }
+{
     let packets = network.packets();
     let delivered = delivered(network);
     Summary {
@@ -202,10 +207,18 @@ fn summary_of(network: &Network) -> Summary {
     }
 }
 
+// Writes a summary.
+fn write_lines<W: Sink>(sink: &mut W, s: &Summary) -> Result<(), WriteFault>
+    ensures { Wrote W.contents W.has_failed sink.old sink.new (summary_text s.now) result }
+{
+    put_summary(sink, s)?;
+    Ok(())
+}
+
 /// Writes the summary: eighteen lines of a name and a number, over the packets and the input channels of the network.
 /// Latencies are over the packets whose tail is out.
-pub fn write_summary<W: Sink>(network: &Network, sink: &mut W) -> Result<(), WriteFault> {
-    let summary = summary_of(network);
-    put_summary(sink, &summary)?;
-    Ok(())
+pub fn write_summary<W: Sink>(network: &Network, sink: &mut W) -> Result<(), WriteFault>
+    ensures { (s : SummaryValue) × Wrote W.contents W.has_failed sink.old sink.new (summary_text s) result × SummaryFits network.now s }
+{
+    write_lines(sink, &summary_of(network))
 }

@@ -1,12 +1,13 @@
 //! Table files (docs/FORMATS.md).
 
-ghost use Rattle.std.specs.Prelude.{◌≡◌, ◌↔◌, ℕ, List, Ok};
+ghost use Rattle.std.specs.Prelude.{◌≡◌, ◌↔◌, ℕ, List, Ok, Err};
 ghost use Rattle.csv.specs.Records.{fields_of};
 ghost use Rattle.noc_route.specs.declared.rule.RouteRow.{RouteRow as Route};
 ghost use Rattle.noc_topo.specs.Shape.{Grid, IsGrid};
 ghost use Rattle.noc_topo.specs.Words.{Each};
+ghost use Rattle.noc_files.specs.declared.fault.InputFault.{InputFault as Fault};
 ghost use Rattle.noc_files.specs.Gives.{Gives};
-ghost use Rattle.noc_files.specs.Table.{port_at, route_row_of, table_of, table_text, IsTable, IsWritable};
+ghost use Rattle.noc_files.specs.Table.{port_at, route_row_of, table_of, table_text, IsTable, IsTableFault, IsWritable};
 
 use crate::fault::InputFault;
 use crate::ports::port_named;
@@ -84,6 +85,12 @@ pub fn read_table(alloc: Global, shape: &Shape, text: &[u8]) -> Result<Vec<Route
 /// fields each, numerals and names of ports of the shape, which write them.
 pub fn table_is_header_and_rows()
     ensures { (g : Grid) → IsGrid g → (text : List ℕ) (rows : List Route) → (table_of g text ≡ Ok rows) ↔ IsTable g text rows }
+{}
+
+/// A text is refused with this fault exactly where it is the first one: there is no header, or after rows of a table a
+/// row has not seven fields, or has seven, and this is the first that is no numeral or names no port of the shape.
+pub fn table_is_refused_with_its_first_fault()
+    ensures { (g : Grid) → IsGrid g → (text : List ℕ) (fault : Fault) → (table_of g text ≡ Err fault) ↔ IsTableFault g text fault }
 {}
 
 /// The plainest table file of some rows is read back as these rows, where their numbers are at most 4294967295 and the

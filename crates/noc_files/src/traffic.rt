@@ -1,11 +1,12 @@
 //! Traffic files.
 
-ghost use Rattle.std.specs.Prelude.{◌≡◌, ◌↔◌, ℕ, List, Ok};
+ghost use Rattle.std.specs.Prelude.{◌≡◌, ◌↔◌, ℕ, List, Ok, Err};
 ghost use Rattle.csv.specs.Records.{fields_of};
 ghost use Rattle.noc_packet.specs.declared.packet.Packet.{Packet as PacketValue};
 ghost use Rattle.noc_topo.specs.Words.{Each};
+ghost use Rattle.noc_files.specs.declared.fault.InputFault.{InputFault as Fault};
 ghost use Rattle.noc_files.specs.Gives.{Gives};
-ghost use Rattle.noc_files.specs.Traffic.{packet_of, traffic_of, traffic_text, IsTraffic, IsWritable};
+ghost use Rattle.noc_files.specs.Traffic.{packet_of, traffic_of, traffic_text, IsTraffic, IsTrafficFault, IsWritable};
 
 use crate::fault::InputFault;
 use crate::rows::{has_fields, next_row, number_in, rows};
@@ -59,6 +60,12 @@ pub fn read_traffic(alloc: Global, text: &[u8]) -> Result<Vec<Packet>, InputFaul
 /// each, which write them.
 pub fn traffic_is_header_and_numerals()
     ensures { (text : List ℕ) (packets : List PacketValue) → (traffic_of text ≡ Ok packets) ↔ IsTraffic text packets }
+{}
+
+/// A text is refused with this fault exactly where it is the first one: there is no header, or after rows that are
+/// packets a row has not five fields, or has five, and this is the first that is no numeral.
+pub fn traffic_is_refused_with_its_first_fault()
+    ensures { (text : List ℕ) (fault : Fault) → (traffic_of text ≡ Err fault) ↔ IsTrafficFault text fault }
 {}
 
 /// The plainest traffic file of some packets, a header and a line of five numbers each, is read back as these packets,

@@ -1,7 +1,13 @@
 pub mod ArrivalRows
 pub mod CoreRows
 pub mod FaultLemmas
+pub mod ListLemmas
 pub mod LockstepRows
 pub mod NetworkRows
+pub mod PacketLemmas
+pub mod ReaderLemmas
 pub mod ReadingRows
+pub mod RunLemmas
+pub mod StepLemmas
+pub mod WireLemmas
 pub mod WormRows

@@ -159,7 +159,7 @@ crowd-agrees = refl
 
 -- the views after each router has taken its beats
 abbrev pub views_taken : Setup → ℕ → List View
-views_taken net n = map_indexed (λ r view. all_taken net.relation (beats_at net (lockstep_at net n).wires r) view) (lockstep_at net n).views
+views_taken net n = map_indexed (λ r view. all_taken net.relation (beats_at (lockstep_at net n).wires r) view) (lockstep_at net n).views
 
 -- after the takes the views are those of the state after landings and credits, and after the injections those of the frozen state
 abbrev pub agrees_inside : Setup → ℕ → Bool

@@ -1,5 +1,6 @@
 pub mod Core
 pub mod Faults
+pub mod Halves
 pub mod Inside
 pub mod Lockstep
 pub mod Network

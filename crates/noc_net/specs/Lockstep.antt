@@ -32,18 +32,40 @@ abbrev pub by_due : List (ℕ × Packet) → List (ℕ × Packet)
 by_due [] = []
 by_due (x ∷ xs) = inserted_by_due x (by_due xs)
 
+-- behind those that are due by then
+abbrev pub inserted_after : ℕ × Packet → List (ℕ × Packet) → List (ℕ × Packet)
+inserted_after x [] = x ∷ []
+inserted_after x (y ∷ ys) = if nat_le y.1.due x.1.due then y ∷ inserted_after x ys else x ∷ y ∷ ys
+
+-- the packets of a node with their numbers, in the order in which they are injected: by due time, then by number
+abbrev pub starts_of : List Packet → ℕ → List (ℕ × Packet)
+starts_of packets r = by_due (filter (λ (one : ℕ × Packet). nat_eq one.1.source r) (enumerate_from 0 packets))
+
+-- the numbers of the packets that end at a node
+abbrev pub ends_of : List Packet → ℕ → List ℕ
+ends_of packets r = map (λ (one : ℕ × Packet). one.0) (filter (λ (one : ℕ × Packet). nat_eq one.1.destination r) (enumerate_from 0 packets))
+
+-- the beats of router r, by link port
+abbrev pub beats_at : List (List Beat) → ℕ → List Beat
+beats_at wires r = slice_index_or wires r []
+
+-- the beat that a router was sent by its neighbour at a port, where `sent` has for each router the beats that it put
+abbrev pub beat_from : List (List Beat) → Option (ℕ × ℕ) → Beat
+beat_from sent None = idle_beat
+beat_from sent (Some from) = slice_index_or (beats_at sent from.0) from.1 idle_beat
+
 module _ (net : Setup) where
   -- what router r is built for
   abbrev pub site_at : ℕ → Site
   site_at r = record { grid = net.relation.grid; node = r; vcs = net.relation.vcs; places = net.places }
 
-  -- the packets of a node with their numbers, in the order in which they are injected: by due time, then by number
+  -- the packets of a node with their numbers, in the order in which they are injected
   abbrev pub starts_at : ℕ → List (ℕ × Packet)
-  starts_at r = by_due (filter (λ (one : ℕ × Packet). nat_eq one.1.source r) (enumerate_from 0 net.packets))
+  starts_at r = starts_of net.packets r
 
   -- the numbers of the packets that end at a node
   abbrev pub ends_at : ℕ → List ℕ
-  ends_at r = map (λ (one : ℕ × Packet). one.0) (filter (λ (one : ℕ × Packet). nat_eq one.1.destination r) (enumerate_from 0 net.packets))
+  ends_at r = ends_of net.packets r
 
   -- ---- the lockstep run: each router makes one step, then the beats change places
 
@@ -58,15 +80,6 @@ module _ (net : Setup) where
     views = tabulate (nodes net.relation.grid) (λ r. opening_view (site_at r) (starts_at r) (ends_at r));
     wires = replicate (nodes net.relation.grid) (replicate (local_port net.relation.grid) idle_beat);
   }
-
-  -- the beats of router r, by link port
-  abbrev pub beats_at : List (List Beat) → ℕ → List Beat
-  beats_at wires r = slice_index_or wires r []
-
-  -- the beat that a router was sent by its neighbour at a port, where `sent` has for each router the beats that it put
-  abbrev pub beat_from : List (List Beat) → Option (ℕ × ℕ) → Beat
-  beat_from sent None = idle_beat
-  beat_from sent (Some from) = slice_index_or (beats_at sent from.0) from.1 idle_beat
 
   -- the wires after each router has put its beats
   unfoldable pub exchanged : List (List Beat) → List (List Beat)

@@ -1,15 +1,20 @@
 //! The network.
 
-ghost use Rattle.std.specs.Prelude.{◌≡◌, ◌≢◌, ◌+◌, ◌<◌, ◌≤◌, All, IfErr, IfOk, IsOk, None, Some, length, vec_len};
+ghost use Rattle.std.specs.Prelude.{◌≡◌, ◌≢◌, ℕ, ◌+◌, ◌*◌, ◌<◌, ◌≤◌, [], All, IfErr, IfOk, IfSome, IsOk, None, Some, length, map, slice_index_or, vec_len};
+ghost use Rattle.std.specs.Bool.{OnTrue};
 ghost use Rattle.std.specs.List.{slice_get};
-ghost use Rattle.noc_topo.specs.Shape.{nodes as nodes_of, ports as ports_of};
+ghost use Rattle.noc_topo.specs.Words.{map_indexed, tabulate};
+ghost use Rattle.noc_topo.specs.Shape.{nodes as nodes_of, ports as ports_of, local_port, neighbour as neighbour_of};
 ghost use Rattle.noc_router.specs.Decided.{IsDecidedFor};
-ghost use Rattle.noc_router.specs.View.{IsRelationOf};
+ghost use Rattle.noc_router.specs.View.{View, IsRelationOf, all_taken, taken, idle_beat, opening_view};
 ghost use Rattle.noc_net.specs.declared.fault.NetFault.TheVariants.{Memory as memory_fault};
-ghost use Rattle.noc_net.specs.Faults.{IsSendable, fault_of};
+ghost use Rattle.noc_net.specs.Faults.{IsSendable, IsSound, fault_of};
+ghost use Rattle.noc_net.specs.Halves.{ArePlaced, IsLinked, IsPlaced, IsSilent, beat_at, decided, emptied, incoming, received, sent_on};
+ghost use Rattle.noc_net.specs.Lockstep.{beat_from, beats_at, ends_of, starts_of};
+ghost use Rattle.noc_net.specs.Readings.{is_stuck_at, is_waiting, last_event_of, later_of, latest_of, misfits_in, misfits_of, read_arrival, router_view, waits_by};
 
 use crate::fault::NetFault;
-use crate::packets::{by_due, ends_at, first_fault, starts_at};
+use crate::packets::{ends_at, first_fault, starts_at};
 use noc_packet::{Beat, MAX_PACKETS, Memory, Packet};
 use noc_route::Relation;
 use noc_router::{Finding, Plan, Router, VERDICTS};
@@ -117,34 +122,43 @@ impl Network {
     }
 
     /// Whether cycle `count` is pending: a packet due by then has its tail not out yet.
-    pub fn pending(&self) -> bool {
+    pub fn pending(&self) -> bool
+        ensures { result ≡ waits_by self.now self.now.count }
+    {
         self.is_waiting_by(self.count)
     }
 
     // Whether a packet due by this cycle has its tail not out.
-    fn is_waiting_by(&self, cycle: u64) -> bool {
-        for number in 0..self.packets.len() {
-            if u64::from(self.packets[number].due) <= cycle && self.arrival(number).is_none() {
+    fn is_waiting_by(&self, cycle: u64) -> bool
+        ensures { result ≡ waits_by self.now cycle }
+    {
+        for number in 0..self.packets() {
+            if self.is_waiting(number, cycle) {
                 return true;
             }
         }
         false
     }
 
+    // Whether a packet is due by this cycle and has its tail not out.
+    fn is_waiting(&self, number: usize, cycle: u64) -> bool
+        requires { number < length self.now.net.packets }
+        ensures { result ≡ is_waiting self.now cycle number }
+    {
+        u64::from(self.packet(number).due) <= cycle && self.arrival(number).is_none()
+    }
+
     /// The last cycle with an event, in any router.
-    pub fn last_event(&self) -> Option<u64> {
-        let mut last = None;
-        for router in &self.routers {
-            let event = router.last_event();
-            if last < event {
-                last = event;
-            }
-        }
-        last
+    pub fn last_event(&self) -> Option<u64>
+        ensures { result ≡ last_event_of self.now }
+    {
+        latest_event(&self.routers)
     }
 
     /// Whether the last cycle was pending and had no event.
-    pub fn stuck(&self) -> bool {
+    pub fn stuck(&self) -> bool
+        ensures { result ≡ is_stuck_at self.now }
+    {
         self.count > 0
             && self.last_event() != Some(self.count - 1)
             && self.is_waiting_by(self.count - 1)
@@ -153,6 +167,7 @@ impl Network {
     /// The cycle in which the tail of a packet was out.
     pub fn arrival(&self, number: usize) -> Option<u64>
         requires { number < length self.now.net.packets }
+        ensures { result ≡ read_arrival self.now number }
     {
         self.routers[self.packets[number].destination as usize].arrival(number as u32)
     }
@@ -162,6 +177,7 @@ impl Network {
         requires router { router < nodes_of self.now.net.relation.grid }
         requires port { port < ports_of self.now.net.relation.grid }
         requires vc { vc < self.now.net.relation.vcs }
+        ensures { result ≡ slice_index_or (router_view self.now router).counts (port * self.now.net.relation.vcs + vc) [] }
     {
         self.routers[router].counts(port, vc)
     }
@@ -169,17 +185,16 @@ impl Network {
     /// What a router found in the last cycle, by input channel: none before the first cycle.
     pub fn findings(&self, router: usize) -> &[Finding]
         requires { router < nodes_of self.now.net.relation.grid }
+        ensures { result.now ≡ (router_view self.now router).findings }
     {
         self.routers[router].findings()
     }
 
     /// How many flits and credits did not fit, in all routers.
-    pub fn misfits(&self) -> u64 {
-        let mut misfits = 0u64;
-        for router in &self.routers {
-            misfits = misfits.saturating_add(router.misfits());
-        }
-        misfits
+    pub fn misfits(&self) -> u64
+        ensures { result ≡ misfits_of self.now }
+    {
+        total_misfits(&self.routers)
     }
 
     /// The packet with this number.
@@ -206,6 +221,39 @@ impl Network {
     }
 }
 
+// The last cycle with an event, in any of these routers.
+fn latest_event(routers: &[Router]) -> Option<u64>
+    ensures { result ≡ latest_of routers.now }
+{
+    let mut last = None;
+    for router in routers {
+        last = later(last, router.last_event());
+    }
+    last
+}
+
+// The later of two cycles, where there are any.
+fn later(first: Option<u64>, second: Option<u64>) -> Option<u64>
+    ensures { result ≡ later_of first second }
+{
+    match (first, second) {
+        (None, _) => second,
+        (Some(_), None) => first,
+        (Some(a), Some(b)) => { if a < b { second } else { first } }
+    }
+}
+
+// The misfits of these routers, at most the greatest number of 64 bits.
+fn total_misfits(routers: &[Router]) -> u64
+    ensures { result ≡ misfits_in routers.now }
+{
+    let mut misfits = 0u64;
+    for router in routers {
+        misfits = misfits.saturating_add(router.misfits());
+    }
+    misfits
+}
+
 // The routers of a network, by node.
 fn new_routers(
     alloc: Global,
@@ -217,14 +265,12 @@ fn new_routers(
     requires places { places ≤ 16 }
     requires few { length packets.now ≤ 20000 }
     requires sendable { All IsSendable packets.now }
-    ensures count { IfOk result (λ routers. vec_len routers ≡ nodes_of relation.now.grid) }
-    ensures relation { IfOk result (λ routers. All (λ v. IsRelationOf relation.now v) routers.items) }
+    ensures { IfOk result (λ routers. routers.items ≡ tabulate (nodes_of relation.now.grid) (λ node. opening_view (record { grid = relation.now.grid; node = node; vcs = relation.now.vcs; places = places }) (starts_of packets.now node) (ends_of packets.now node))) }
 {
     let nodes = relation.shape().nodes();
-    let order = by_due(alloc, packets)?;
     let mut routers = Vec::with_capacity(alloc, nodes)?;
     for node in 0..nodes {
-        let starts = starts_at(alloc, packets, &order, node)?;
+        let starts = starts_at(alloc, packets, node)?;
         let ends = ends_at(alloc, packets, node)?;
         routers.push(Router::new(alloc, relation, node, places, starts, ends)?)?;
     }
@@ -233,7 +279,8 @@ fn new_routers(
 
 // An idle beat on every wire.
 fn new_beats(alloc: Global, nodes: usize) -> Result<Vec<[Beat; LINKS]>, Memory>
-    ensures { IfOk result (λ beats. vec_len beats ≡ nodes) }
+    ensures count { IfOk result (λ beats. vec_len beats ≡ nodes) }
+    ensures idle { IfOk result (λ beats. All IsSilent beats.items) }
 {
     Ok(vec![in alloc; [Beat::idle(); LINKS]; nodes]?)
 }
@@ -248,9 +295,11 @@ fn decide_all(
 )
     requires plan { IsDecidedFor (ports_of relation.now.grid) relation.now.vcs plan.old }
     requires routers { All (λ v. IsRelationOf relation.now v) routers.old }
-    requires beats { length beats.old ≡ length routers.old }
+    requires count { length beats.old ≡ length routers.old }
+    requires beats { All (IsLinked relation.now.grid) beats.old }
     ensures plan { IsDecidedFor (ports_of relation.now.grid) relation.now.vcs plan.new }
-    ensures routers { All (λ v. IsRelationOf relation.now v) routers.new }
+    ensures routers { routers.new ≡ map_indexed (λ r v. decided relation.now cycle (incoming relation.now.grid (beats_at beats.old r)) v) routers.old }
+    ensures beats { All IsSilent beats.new }
 {
     for node in 0..routers.len() {
         decide(relation, plan, cycle, &mut routers[node], &mut beats[node]);
@@ -267,8 +316,10 @@ fn decide(
 )
     requires plan { IsDecidedFor (ports_of relation.now.grid) relation.now.vcs plan.old }
     requires router { IsRelationOf relation.now router.old }
+    requires beats { IsLinked relation.now.grid beats.old }
     ensures plan { IsDecidedFor (ports_of relation.now.grid) relation.now.vcs plan.new }
-    ensures router { IsRelationOf relation.now router.new }
+    ensures router { router.new ≡ decided relation.now cycle (incoming relation.now.grid beats.old) router.old }
+    ensures beats { IsSilent beats.new }
 {
     take_beats(relation, router, beats);
     router.inject(cycle);
@@ -278,42 +329,76 @@ fn decide(
 
 // One router takes the beats that came to it, and leaves idle ones.
 fn take_beats(relation: &Relation, router: &mut Router, beats: &mut [Beat; LINKS])
-    requires { IsRelationOf relation.now router.old }
-    ensures { IsRelationOf relation.now router.new }
+    requires router { IsRelationOf relation.now router.old }
+    requires beats { IsLinked relation.now.grid beats.old }
+    ensures router { router.new ≡ all_taken relation.now (incoming relation.now.grid beats.old) router.old }
+    ensures beats { IsSilent beats.new }
 {
     for port in 0..relation.shape().ports() - 1 {
-        let beat = beats[port];
-        if beat.flit.is_some() || beat.credit.is_some() {
-            router.take(relation, port, beat);
-            beats[port] = Beat::idle();
-        }
+        take_beat(relation, router, port, &mut beats[port]);
     }
 }
 
-// Each router puts its beats on the wires that leave it.
+// One router takes the beat that came to a link port, and leaves an idle one.
+fn take_beat(relation: &Relation, router: &mut Router, port: usize, beat: &mut Beat)
+    requires router { IsRelationOf relation.now router.old }
+    requires port { port < local_port relation.now.grid }
+    ensures router { router.new ≡ taken relation.now port beat.old router.old }
+    ensures beat { beat.new ≡ idle_beat }
+{
+    if is_idle(beat) {
+        return;
+    }
+    router.take(relation, port, *beat);
+    *beat = Beat::idle();
+}
+
+// Whether a beat carries nothing.
+fn is_idle(beat: &Beat) -> bool
+    ensures { OnTrue result (beat.now ≡ idle_beat) }
+{
+    beat.flit.is_none() && beat.credit.is_none()
+}
+
+// Each router puts its beats on the wires that leave it, all of which are idle.
 fn deliver_all(relation: &Relation, routers: &mut [Router], beats: &mut [[Beat; LINKS]])
-    requires routers { All (λ v. IsRelationOf relation.now v) routers.old }
-    ensures routers { All (λ v. IsRelationOf relation.now v) routers.new }
+    requires routers { ArePlaced relation.now routers.old }
+    requires nodes { length routers.old ≡ nodes_of relation.now.grid }
+    requires count { length beats.old ≡ nodes_of relation.now.grid }
+    requires beats { All IsSilent beats.old }
+    ensures routers { routers.new ≡ map emptied routers.old }
+    ensures beats { (r port : ℕ) → r < nodes_of relation.now.grid → beat_at beats.new r port ≡ beat_from (map (λ v. v.to_put) routers.old) (neighbour_of relation.now.grid r port) }
 {
     for node in 0..routers.len() {
         deliver(relation, &mut routers[node], beats);
     }
 }
 
-// One router puts its beats on the wires that leave it.
+// One router puts its beats on the wires that leave it, all of which are idle.
 fn deliver(relation: &Relation, router: &mut Router, beats: &mut [[Beat; LINKS]])
-    requires { IsRelationOf relation.now router.old }
-    ensures { IsRelationOf relation.now router.new }
+    requires router { IsPlaced relation.now router.old.site.node router.old }
+    requires node { router.old.site.node < nodes_of relation.now.grid }
+    requires count { length beats.old ≡ nodes_of relation.now.grid }
+    requires idle { (r port q : ℕ) → neighbour_of relation.now.grid r port ≡ Some (router.old.site.node, q) → beat_at beats.old r port ≡ idle_beat }
+    ensures router { router.new ≡ emptied router.old }
+    ensures beats { (r port : ℕ) → r < nodes_of relation.now.grid → beat_at beats.new r port ≡ received router.old (neighbour_of relation.now.grid r port) (beat_at beats.old r port) }
 {
     if router.is_put() {
         return;
     }
     for port in 0..relation.shape().ports() - 1 {
         let beat = router.put(port);
-        if let Some((node, entry)) = router.neighbour(port) {
-            if node < beats.len() && entry < LINKS {
-                beats[node][entry] = beat;
-            }
-        }
+        send(beats, router.neighbour(port), beat);
+    }
+}
+
+// A beat is on the wire that arrives at this router and port, where there is a link.
+fn send(beats: &mut [[Beat; LINKS]], to: Option<(usize, usize)>, beat: Beat)
+    requires few { length beats.old ≤ 256 }
+    requires within { IfSome to (λ place. (place.0 < length beats.old) × (place.1 < 6)) }
+    ensures { beats.new ≡ sent_on beats.old to beat }
+{
+    if let Some((node, entry)) = to {
+        beats[node][entry] = beat;
     }
 }

@@ -1,3 +1,13 @@
 pub mod PlaceLemmas
+pub mod BoolLemmas
 pub mod OrderLemmas
 pub mod RowLemmas
+pub mod TrimLemmas
+pub mod StuckLemmas
+pub mod NamedLemmas
+pub mod EnterLemmas
+pub mod RuleLemmas
+pub mod BuiltLemmas
+pub mod NoWayLemmas
+pub mod PermitsLemmas
+mod Examples

@@ -4,3 +4,6 @@ pub mod Relation
 pub mod Routes
 pub mod Ranks
 pub mod Stored
+pub mod Trimming
+pub mod Entered
+pub mod Built

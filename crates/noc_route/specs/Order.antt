@@ -23,4 +23,4 @@ row_before row (Some other) = numbers_before (row_numbers row) (row_numbers othe
 -- the one of two entries that comes first
 abbrev pub earlier_entry : Entry → Option Entry → Entry
 earlier_entry entry None = entry
-earlier_entry entry (Some other) = if numbers_before (entry_numbers other) (entry_numbers entry) then other else entry
+earlier_entry entry (Some other) = if numbers_before (entry_numbers entry) (entry_numbers other) then entry else other

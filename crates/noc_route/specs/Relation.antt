@@ -5,10 +5,11 @@ use Rattle.noc_topo.specs.Words.{is_some_of}
 use Rattle.noc_topo.specs.Shape.{Grid, coordinates, nodes, dimensions, is_plus, local_port, neighbour, distance}
 use Rattle.noc_packet.specs.declared.limits.TheConstants.{MAX_CHANNELS, MAX_CLASSES}
 use Rattle.noc_route.specs.Channel.{Channel, Link, Inject, Eject, arrival_of, channel_vc}
-use Rattle.noc_route.specs.Order.{numbers_before, row_numbers, row_before}
+use Rattle.noc_route.specs.Order.{numbers_before, row_numbers, row_before, entry_numbers}
 use Rattle.noc_route.specs.declared.rule.RouteRow.{RouteRow}
+use Rattle.noc_route.specs.declared.rule.Entry.{Entry}
 use Rattle.noc_route.specs.declared.rule.RouteFault.{RouteFault}
-use Rattle.noc_route.specs.declared.rule.RouteFault.TheVariants.{NoLink, NotMinimal, EarlyEject, LateHop}
+use Rattle.noc_route.specs.declared.rule.RouteFault.TheVariants.{WrongShape, NoLink, NotMinimal, EarlyEject, LateHop, NoWay, Memory}
 use Rattle.noc_route.specs.declared.rule.Rule.{Rule}
 use Rattle.noc_route.specs.declared.rule.Rule.TheVariants.{Dor, Dateline, WestFirst, Rows}
 
@@ -166,3 +167,35 @@ pub data IsReached (g : Routing) : ℕ → Channel → ℕ → Type 0 where
 -- the relation: the rule on the entries that packets reach
 abbrev pub IsPermitted : Routing → ℕ → Channel → ℕ → Channel → Type 0
 IsPermitted g m c t o = IsReached g m c t × IsTrue (rule_has g m c t o)
+
+-- ---- faults
+
+-- packets come to an entry, and the rule leads nowhere from it
+pub record IsNoWay (g : Routing) (e : Entry) : Type 0 where
+  pub channel : Channel
+  pub arrives : arrival_of g.grid channel ≡ Some (e.router, e.in_port)
+  pub vc : channel_vc channel ≡ e.in_vc
+  pub reached : IsReached g e.class channel e.dst
+  pub none : (o : Channel) → rule_has g e.class channel e.dst o ≡ false
+
+-- the first such entry, by the entries' numbers, of a rule with right numbers and without a bad row
+pub record IsFirstNoWay (g : Routing) (e : Entry) : Type 0 where
+  pub right : is_right g.grid g.vcs g.classes g.rule ≡ true
+  pub rows : All (λ row. row_fault g.grid g.vcs g.classes row ≡ None) (rows_of g.rule)
+  pub here : IsNoWay g e
+  pub first : (other : Entry) → IsNoWay g other → numbers_before (entry_numbers other) (entry_numbers e) ≡ false
+
+-- the fault of the first bad row, of a rule with right numbers
+pub record IsFirstRow (g : Routing) (fault : RouteFault) : Type 0 where
+  pub right : is_right g.grid g.vcs g.classes g.rule ≡ true
+  pub first : IsFirstFault g.grid g.vcs g.classes (rows_of g.rule) fault
+
+-- the first fault of a rule; memory may be refused wherever the numbers are right
+abbrev pub IsFaultOf : Routing → RouteFault → Type 0
+IsFaultOf g WrongShape = is_right g.grid g.vcs g.classes g.rule ≡ false
+IsFaultOf g (NoLink row) = IsFirstRow g (NoLink row)
+IsFaultOf g (NotMinimal row) = IsFirstRow g (NotMinimal row)
+IsFaultOf g (EarlyEject row) = IsFirstRow g (EarlyEject row)
+IsFaultOf g (LateHop row) = IsFirstRow g (LateHop row)
+IsFaultOf g (NoWay e) = IsFirstNoWay g e
+IsFaultOf g Memory = is_right g.grid g.vcs g.classes g.rule ≡ true

@@ -1,6 +1,6 @@
 -- A routing relation as a table of sets.
-use Rattle.std.specs.Prelude.{◌≡◌, ℕ, ◌+◌, ◌*◌, ◌/◌, ◌%◌, ◌≤◌, Bool, false, ◌&&◌, List, Option, Some, None, length, nat_eq, nat_lt, slice_index, if◌then◌else◌}
-use Rattle.noc_topo.specs.Shape.{Grid, IsGrid, nodes, ports, local_port}
+use Rattle.std.specs.Prelude.{◌≡◌, ◌≢◌, ◌⊎◌, ℕ, ◌+◌, ◌*◌, ◌/◌, ◌%◌, ◌<◌, ◌≤◌, Bool, true, false, ◌&&◌, List, Option, Some, None, length, nat_eq, nat_lt, slice_index, if◌then◌else◌}
+use Rattle.noc_topo.specs.Shape.{Grid, IsGrid, nodes, ports, local_port, neighbour, distance}
 use Rattle.noc_packet.specs.Set.{has_bit}
 use Rattle.noc_packet.specs.declared.limits.TheConstants.{MAX_CHANNELS, MAX_CLASSES}
 use Rattle.noc_route.specs.Channel.{Channel, Link, Inject, Eject, arrival_of, channel_vc}
@@ -67,6 +67,47 @@ permits_at routes m (Some place) in_vc t (Link r p v) =
 permits_at routes m (Some place) in_vc t (Eject n v) =
     nat_eq n place.0 && nat_lt v routes.vcs && has_bit (set_at routes m place.0 place.1 in_vc t) (local_port routes.grid * routes.vcs + v)
 
+-- whether a channel on which a packet can be is sent by a router that exists
+abbrev pub is_sent : Routes → Channel → Bool
+is_sent routes (Link r p v) = nat_lt r (nodes routes.grid)
+is_sent routes (Inject n v) = true
+is_sent routes (Eject n v) = false
+
 -- whether the table permits a packet of class m, that is on channel c and bound for t, to take channel o next
 abbrev pub permits : Routes → ℕ → Channel → ℕ → Channel → Bool
-permits routes m c t o = permits_at routes m (arrival_of routes.grid c) (channel_vc c) t o
+permits routes m c t o = is_sent routes c && permits_at routes m (arrival_of routes.grid c) (channel_vc c) t o
+
+-- ---- what is known of a relation that was built
+
+-- a permitted output port that is a link leads to a router that is nearer by one
+pub record HasHop (routes : Routes) (r t port : ℕ) : Type 0 where
+  pub to : ℕ × ℕ
+  pub link : neighbour routes.grid r port ≡ Some to
+  pub nearer : distance routes.grid to.0 t + 1 ≡ distance routes.grid r t
+
+-- a packet can come to a link's input by a permitted channel of the router before
+pub record HasLead (routes : Routes) (m r p v t : ℕ) : Type 0 where
+  pub router : ℕ
+  pub in_port : ℕ
+  pub in_vc : ℕ
+  pub channel : ℕ
+  pub link : neighbour routes.grid router (channel / routes.vcs) ≡ Some (r, p)
+  pub vc : channel % routes.vcs ≡ v
+  pub permitted : has_bit (set_at routes m router in_port in_vc t) channel ≡ true
+
+pub record IsRelation (routes : Routes) : Type 0 where
+  pub table : IsTable routes
+  -- what is permitted is an output channel of the router
+  pub real : (m r p v t k : ℕ) → has_bit (set_at routes m r p v t) k ≡ true → k < width routes.grid routes.vcs
+  -- over a link it comes nearer by one
+  pub nearer : (m r p v t k : ℕ) → has_bit (set_at routes m r p v t) k ≡ true → k / routes.vcs < local_port routes.grid → HasHop routes r t (k / routes.vcs)
+  -- by the local port at the destination alone
+  pub home : (m r p v t k : ℕ) → has_bit (set_at routes m r p v t) k ≡ true → k / routes.vcs ≡ local_port routes.grid → r ≡ t
+  -- each injection entry away from the destination permits something
+  pub injected : (m r v t : ℕ) → m < routes.classes → r < nodes routes.grid → v < routes.vcs → t < nodes routes.grid → t ≢ r
+      → (k : ℕ) × (has_bit (set_at routes m r (local_port routes.grid) v t) k ≡ true)
+  -- so does each entry to which a permitted link leads
+  pub led_on : (m r p v t k b q : ℕ) → has_bit (set_at routes m r p v t) k ≡ true → neighbour routes.grid r (k / routes.vcs) ≡ Some (b, q)
+      → (j : ℕ) × (has_bit (set_at routes m b q (k % routes.vcs) t) j ≡ true)
+  -- and no other entry
+  pub reached : (m r p v t k : ℕ) → has_bit (set_at routes m r p v t) k ≡ true → ((p ≡ local_port routes.grid) × (r ≢ t)) ⊎ HasLead routes m r p v t

@@ -1,10 +1,11 @@
 //! A rule's sets, before entries that no packet reaches are taken out.
 
-ghost use Rattle.std.specs.Prelude.{◌≡◌, ℕ, ◌+◌, ◌*◌, ◌<◌, ◌≤◌, length, All, true};
+ghost use Rattle.std.specs.Prelude.{◌≡◌, ℕ, ◌+◌, ◌*◌, ◌/◌, ◌%◌, ◌<◌, ◌≤◌, ◌&&◌, if◌then◌else◌, length, slice_index, nat_lt, nat_le, All, true};
 ghost use Rattle.noc_packet.specs.Set.{has_bit};
-ghost use Rattle.noc_topo.specs.Shape.{IsGrid, nodes, ports};
-ghost use Rattle.noc_route.specs.Relation.{is_real_row, is_right};
-ghost use Rattle.noc_route.specs.Routes.{width, blocks};
+ghost use Rattle.noc_route.specs.Entered.{routing_in, has_row_at};
+ghost use Rattle.noc_route.specs.Relation.{is_real_row, is_right, is_led};
+ghost use Rattle.noc_route.specs.Routes.{width, blocks, block_class, block_router, block_dst};
+ghost use Rattle.noc_route.specs.Trimming.{routes_in, block_set};
 
 use crate::map::Map;
 use crate::named::named_set;
@@ -15,6 +16,7 @@ use noc_packet::ChannelSet;
 pub fn enter_named(map: &Map, rule: &Rule, sets: &mut [ChannelSet])
     requires right { is_right map.now.frame.shape map.now.frame.vcs map.now.frame.classes rule.now ≡ true }
     requires long { length sets.old ≡ blocks map.now.frame.shape map.now.frame.classes * width map.now.frame.shape map.now.frame.vcs }
+    ensures { let f = map.now.frame in (b i k : ℕ) → b < blocks f.shape f.classes → i < width f.shape f.vcs → has_bit (block_set (routes_in f sets.new) b i) k ≡ (nat_lt k (width f.shape f.vcs) && is_led (routing_in f rule.now) (block_class f.shape f.classes b) (block_router f.shape f.classes b) (block_dst f.shape b) (k / f.vcs) (k % f.vcs)) }
 {
     let width = map.frame.width();
     for block in 0..map.frame.blocks() {
@@ -27,6 +29,7 @@ pub fn enter_named(map: &Map, rule: &Rule, sets: &mut [ChannelSet])
 /// Writes one set to `count` places from `from` on.
 fn fill(sets: &mut [ChannelSet], from: usize, count: usize, set: ChannelSet)
     requires { from + count ≤ length sets.old }
+    ensures { (j : ℕ) → slice_index sets.new j ≡ (if nat_le from j && nat_lt j (from + count) then set else slice_index sets.old j) }
 {
     for i in 0..count {
         sets[from + i] = set;
@@ -37,6 +40,8 @@ fn fill(sets: &mut [ChannelSet], from: usize, count: usize, set: ChannelSet)
 pub fn enter_rows(map: &Map, rows: &[RouteRow], sets: &mut [ChannelSet])
     requires long { length sets.old ≡ blocks map.now.frame.shape map.now.frame.classes * width map.now.frame.shape map.now.frame.vcs }
     requires rows { All (λ row. is_real_row map.now.frame.shape map.now.frame.vcs map.now.frame.classes row ≡ true) rows.now }
+    requires empty { (j : ℕ) → slice_index sets.old j ≡ 0 }
+    ensures { let f = map.now.frame in (b i k : ℕ) → b < blocks f.shape f.classes → i < width f.shape f.vcs → has_bit (block_set (routes_in f sets.new) b i) k ≡ (nat_lt k (width f.shape f.vcs) && has_row_at (routes_in f sets.new) rows.now b i k) }
 {
     for row in rows {
         let place = map

@@ -1,6 +1,6 @@
 //! The numbers that a routing relation is over, and the places of its table.
 
-ghost use Rattle.std.specs.Prelude.{◌≡◌, ◌+◌, ◌*◌, ◌/◌, ◌<◌, ◌≤◌};
+ghost use Rattle.std.specs.Prelude.{◌≡◌, ◌+◌, ◌*◌, ◌/◌, ◌<◌, ◌≤◌, IsTrue, IfNone, IfSome, true, false};
 ghost use Rattle.noc_packet.specs.declared.limits.TheConstants.{MAX_CHANNELS, MAX_CLASSES};
 ghost use Rattle.noc_topo.specs.Shape.{IsGrid, nodes, ports};
 ghost use Rattle.noc_route.specs.Relation.{is_in_block, resource_class, is_right};
@@ -16,6 +16,14 @@ pub struct Frame {
     pub shape: Shape,
     pub vcs: usize,
     pub classes: usize,
+    pub node_count: usize,
+    pub port_count: usize,
+    ghost grid: { IsGrid shape },
+    ghost all_nodes: { node_count ≡ nodes shape },
+    ghost all_ports: { port_count ≡ ports shape },
+    ghost some_nodes: { 2 ≤ node_count },
+    ghost few_nodes: { node_count ≤ 256 },
+    ghost few_ports: { port_count ≤ 7 },
     ghost some_vcs: { 1 ≤ vcs },
     ghost few_vcs: { vcs ≤ MAX_CHANNELS },
     ghost some_classes: { 1 ≤ classes },
@@ -23,23 +31,37 @@ pub struct Frame {
 }
 
 impl Frame {
+    /// The frame of these numbers, where a relation can be made of them and of this rule.
+    pub fn of(shape: &Shape, vcs: usize, classes: usize, rule: &Rule) -> Option<Frame>
+        ensures none { IfNone result (is_right shape.now vcs classes rule.now ≡ false) }
+        ensures some { IfSome result (λ frame. (is_right shape.now vcs classes rule.now ≡ true) × (frame.shape ≡ shape.now) × (frame.vcs ≡ vcs) × (frame.classes ≡ classes)) }
+    {
+        if !is_right(shape, vcs, classes, rule) {
+            return None;
+        }
+        Some(Frame {
+            shape: *shape,
+            vcs,
+            classes,
+            node_count: shape.nodes(),
+            port_count: shape.ports(),
+        })
+    }
+
     /// How many input channels a router has, and output channels: 3 to 28.
     pub fn width(&self) -> usize
         ensures value { result ≡ width self.now.shape self.now.vcs }
         ensures few { result ≤ 28 }
-        ensures grid { IsGrid self.now.shape }
     {
-        self.shape.ports() * self.vcs
+        self.port_count * self.vcs
     }
 
     /// How many blocks the table has: one for each router, class and destination; at most 262,144.
     pub fn blocks(&self) -> usize
         ensures value { result ≡ blocks self.now.shape self.now.classes }
         ensures few { result ≤ 262144 }
-        ensures grid { IsGrid self.now.shape }
     {
-        let nodes = self.shape.nodes();
-        nodes * self.classes * nodes
+        self.node_count * self.classes * self.node_count
     }
 
     /// The number of a block.
@@ -50,8 +72,7 @@ impl Frame {
         ensures value { result ≡ block_of self.now.shape self.now.classes class router dst }
         ensures within { result < blocks self.now.shape self.now.classes }
     {
-        let nodes = self.shape.nodes();
-        (router * self.classes + class) * nodes + dst
+        (router * self.classes + class) * self.node_count + dst
     }
 
     /// The class, router and destination of a block.
@@ -61,11 +82,13 @@ impl Frame {
         ensures router { result.1 ≡ block_router self.now.shape self.now.classes block }
         ensures dst { result.2 ≡ block_dst self.now.shape block }
         ensures range { (result.0 < self.now.classes) × (result.1 < nodes self.now.shape) × (result.2 < nodes self.now.shape) }
-        ensures grid { IsGrid self.now.shape }
     {
-        let nodes = self.shape.nodes();
-        let pair = block / nodes;
-        (pair % self.classes, pair / self.classes, block % nodes)
+        let pair = block / self.node_count;
+        (
+            pair % self.classes,
+            pair / self.classes,
+            block % self.node_count,
+        )
     }
 
     /// The index of a channel of a router, as an input or as an output: at most 27.
@@ -76,7 +99,6 @@ impl Frame {
         ensures within { result < width self.now.shape self.now.vcs }
         ensures few { result < 28 }
     {
-        let _ports = self.shape.ports();
         port * self.vcs + vc
     }
 
@@ -87,7 +109,6 @@ impl Frame {
         ensures value { result ≡ block * width self.now.shape self.now.vcs + input }
         ensures within { result < blocks self.now.shape self.now.classes * width self.now.shape self.now.vcs }
     {
-        let _blocks = self.blocks();
         block * self.width() + input
     }
 
@@ -139,8 +160,9 @@ pub fn is_torus(shape: &Shape) -> bool
 }
 
 /// Whether a relation can be made of these numbers and this rule.
-pub fn is_right(shape: &Shape, vcs: usize, classes: usize, rule: &Rule) -> bool
-    ensures { result ≡ is_right shape.now vcs classes rule.now }
+fn is_right(shape: &Shape, vcs: usize, classes: usize, rule: &Rule) -> bool
+    ensures value { result ≡ is_right shape.now vcs classes rule.now }
+    ensures limits { IsTrue result → (1 ≤ vcs) × (vcs ≤ MAX_CHANNELS) × (1 ≤ classes) × (classes ≤ MAX_CLASSES) }
 {
     if vcs == 0 || vcs > MAX_CHANNELS || classes == 0 || classes > MAX_CLASSES {
         return false;

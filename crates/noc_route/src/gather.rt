@@ -1,8 +1,10 @@
 //! Which channels packets leave each router by, found by falling distance to their destination.
 
-ghost use Rattle.std.specs.Prelude.{◌≡◌, ◌*◌, ◌<◌, ◌≤◌, length};
-ghost use Rattle.noc_topo.specs.Shape.{nodes};
+ghost use Rattle.std.specs.Prelude.{◌≡◌, ℕ, ◌+◌, ◌*◌, ◌/◌, ◌%◌, ◌<◌, ◌≤◌, ◌&&◌, ◌||◌, List, length};
+ghost use Rattle.noc_packet.specs.Set.{has_bit};
+ghost use Rattle.noc_topo.specs.Shape.{nodes, distance as distance_between};
 ghost use Rattle.noc_route.specs.Routes.{width, blocks, block_of};
+ghost use Rattle.noc_route.specs.Trimming.{routes_in, set_in, IsPlace, ComesNearer, IsSoundOut, IsFullOut, comes_in, any_below};
 
 use crate::map::Map;
 use noc_packet::{ChannelSet, INDICES};
@@ -15,6 +17,10 @@ const FARTHEST: usize = 45;
 pub fn gather(map: &Map, sets: &[ChannelSet], outs: &mut [ChannelSet])
     requires sets { length sets.now ≡ blocks map.now.frame.shape map.now.frame.classes * width map.now.frame.shape map.now.frame.vcs }
     requires outs { length outs.old ≡ blocks map.now.frame.shape map.now.frame.classes }
+    requires nearer { ComesNearer (routes_in map.now.frame sets.now) }
+    requires sound { IsSoundOut (routes_in map.now.frame sets.now) outs.old }
+    ensures sound { IsSoundOut (routes_in map.now.frame sets.now) outs.new }
+    ensures full { let routes = routes_in map.now.frame sets.now in (m r t : ℕ) → IsPlace routes m r t → IsFullOut routes outs.new m r t }
 {
     for step in 0..FARTHEST + 1 {
         gather_at(map, sets, outs, FARTHEST - step);
@@ -25,8 +31,13 @@ pub fn gather(map: &Map, sets: &[ChannelSet], outs: &mut [ChannelSet])
 fn gather_at(map: &Map, sets: &[ChannelSet], outs: &mut [ChannelSet], distance: usize)
     requires sets { length sets.now ≡ blocks map.now.frame.shape map.now.frame.classes * width map.now.frame.shape map.now.frame.vcs }
     requires outs { length outs.old ≡ blocks map.now.frame.shape map.now.frame.classes }
+    requires nearer { ComesNearer (routes_in map.now.frame sets.now) }
+    requires sound { IsSoundOut (routes_in map.now.frame sets.now) outs.old }
+    requires farther { let routes = routes_in map.now.frame sets.now in (m r t : ℕ) → IsPlace routes m r t → distance < distance_between routes.grid r t → IsFullOut routes outs.old m r t }
+    ensures sound { IsSoundOut (routes_in map.now.frame sets.now) outs.new }
+    ensures full { let routes = routes_in map.now.frame sets.now in (m r t : ℕ) → IsPlace routes m r t → distance ≤ distance_between routes.grid r t → IsFullOut routes outs.new m r t }
 {
-    let nodes = map.frame.shape.nodes();
+    let nodes = map.frame.node_count;
     for pair in 0..nodes * nodes {
         if map.distance(pair / nodes, pair % nodes) == distance {
             gather_pair(map, sets, outs, pair / nodes, pair % nodes);
@@ -40,6 +51,12 @@ fn gather_pair(map: &Map, sets: &[ChannelSet], outs: &mut [ChannelSet], router: 
     requires outs { length outs.old ≡ blocks map.now.frame.shape map.now.frame.classes }
     requires router { router < nodes map.now.frame.shape }
     requires dst { dst < nodes map.now.frame.shape }
+    requires nearer { ComesNearer (routes_in map.now.frame sets.now) }
+    requires sound { IsSoundOut (routes_in map.now.frame sets.now) outs.old }
+    requires farther { let routes = routes_in map.now.frame sets.now in (m r : ℕ) → IsPlace routes m r dst → distance_between routes.grid router dst < distance_between routes.grid r dst → IsFullOut routes outs.old m r dst }
+    ensures sound { IsSoundOut (routes_in map.now.frame sets.now) outs.new }
+    ensures full { let routes = routes_in map.now.frame sets.now in (m : ℕ) → IsPlace routes m router dst → IsFullOut routes outs.new m router dst }
+    ensures kept { let routes = routes_in map.now.frame sets.now in (m r t : ℕ) → IsPlace routes m r t → IsFullOut routes outs.old m r t → IsFullOut routes outs.new m r t }
 {
     for class in 0..map.frame.classes {
         let out = leaving(map, sets, outs, class, router, dst);
@@ -61,6 +78,7 @@ fn leaving(
     requires class { class < map.now.frame.classes }
     requires router { router < nodes map.now.frame.shape }
     requires dst { dst < nodes map.now.frame.shape }
+    ensures { let routes = routes_in map.now.frame sets.now in (k : ℕ) → k < width routes.grid routes.vcs → has_bit result k ≡ any_below (width routes.grid routes.vcs) (λ i. comes_in routes outs.now class router dst i && has_bit (set_in routes class router dst i) k) }
 {
     let block = map.frame.block(class, router, dst);
     let mut all = ChannelSet::empty();
@@ -87,10 +105,11 @@ pub fn is_reached(
     requires router { router < nodes map.now.frame.shape }
     requires dst { dst < nodes map.now.frame.shape }
     requires input { input < width map.now.frame.shape map.now.frame.vcs }
+    ensures { (sets : List ℕ) → result ≡ comes_in (routes_in map.now.frame sets) outs.now class router dst input }
 {
     let vcs = map.frame.vcs;
     let port = input / vcs;
-    if port + 1 == map.frame.shape.ports() {
+    if port + 1 == map.frame.port_count {
         return router != dst;
     }
     match map.link(router, port) {
@@ -104,7 +123,9 @@ pub fn is_reached(
 }
 
 /// The members of both sets.
-fn merged(set: ChannelSet, other: ChannelSet) -> ChannelSet {
+fn merged(set: ChannelSet, other: ChannelSet) -> ChannelSet
+    ensures { (k : ℕ) → k < INDICES → has_bit result k ≡ (has_bit set k || has_bit other k) }
+{
     if set == other || other.is_empty() {
         return set;
     }

@@ -34,7 +34,7 @@ impl Map {
         Ok(Map {
             frame,
             torus: is_torus(&frame.shape),
-            last: frame.shape.coordinates(frame.shape.nodes() - 1),
+            last: frame.shape.coordinates(frame.node_count - 1),
             links,
             apart,
         })
@@ -48,7 +48,7 @@ impl Map {
         ensures range { IfSome result (λ to. (to.0 < nodes self.now.frame.shape) × (to.1 < local_port self.now.frame.shape)) }
         ensures grid { IsGrid self.now.frame.shape }
     {
-        self.links[router * self.frame.shape.ports() + port]
+        self.links[router * self.frame.port_count + port]
     }
 
     /// How many hops lie between two routers, at most 45.
@@ -58,7 +58,7 @@ impl Map {
         ensures value { result ≡ distance self.now.frame.shape from to }
         ensures grid { IsGrid self.now.frame.shape }
     {
-        self.apart[from * self.frame.shape.nodes() + to]
+        self.apart[from * self.frame.node_count + to]
     }
 
     /// Whether the way up is the shorter one from x to t in dimension i, or as long as the way down.
@@ -81,8 +81,8 @@ fn links_of(alloc: Global, frame: &Frame) -> Result<Vec<Option<(usize, usize)>>,
     ensures len { IfOk result (λ links. vec_len links ≡ nodes frame.now.shape * ports frame.now.shape) }
     ensures items { IfOk result (λ links. (k : ℕ) → k < nodes frame.now.shape * ports frame.now.shape → slice_index_or links.items k None ≡ neighbour frame.now.shape (k / ports frame.now.shape) (k % ports frame.now.shape)) }
 {
-    let ports = frame.shape.ports();
-    let count = frame.shape.nodes() * ports;
+    let ports = frame.port_count;
+    let count = frame.node_count * ports;
     let mut links = Vec::with_capacity(alloc, count)?;
     for i in 0..count {
         links.push(frame.shape.neighbour(i / ports, i % ports))?;
@@ -95,7 +95,7 @@ fn distances_of(alloc: Global, frame: &Frame) -> Result<Vec<usize>, AllocError>
     ensures len { IfOk result (λ apart. vec_len apart ≡ nodes frame.now.shape * nodes frame.now.shape) }
     ensures items { IfOk result (λ apart. (k : ℕ) → k < nodes frame.now.shape * nodes frame.now.shape → slice_index apart.items k ≡ distance frame.now.shape (k / nodes frame.now.shape) (k % nodes frame.now.shape)) }
 {
-    let nodes = frame.shape.nodes();
+    let nodes = frame.node_count;
     let count = nodes * nodes;
     let mut apart = Vec::with_capacity(alloc, count)?;
     for i in 0..count {

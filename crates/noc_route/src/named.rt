@@ -1,9 +1,11 @@
 //! The rules by coordinates: dimension order, dateline and west first (Dally and Towles, chapters 8 to 10 and 14).
 
-ghost use Rattle.std.specs.Prelude.{◌≡◌, ℕ, ◌+◌, ◌*◌, ◌<◌, ◌≤◌, IfSome, slice_index, EachIndex, IsTrue, true};
-ghost use Rattle.noc_route.specs.Relation.{is_right};
+ghost use Rattle.std.specs.Prelude.{◌≡◌, ℕ, ◌/◌, ◌%◌, ◌<◌, ◌≤◌, ◌&&◌, IfSome, slice_index, EachIndex, IsTrue, nat_lt, true};
 ghost use Rattle.noc_packet.specs.Set.{has_bit};
-ghost use Rattle.noc_topo.specs.Shape.{IsGrid, nodes, ports};
+ghost use Rattle.noc_topo.specs.Shape.{Grid, nodes, ports, coordinates, padded};
+ghost use Rattle.noc_route.specs.Entered.{routing_in, IsWay};
+ghost use Rattle.noc_route.specs.Relation.{is_right, is_led, dor_port, takes_port, takes_channel, dateline_class, is_west_first};
+ghost use Rattle.noc_route.specs.Routes.{width};
 
 use crate::frame::Frame;
 use crate::map::Map;
@@ -17,6 +19,7 @@ pub fn named_set(map: &Map, rule: &Rule, class: usize, router: usize, dst: usize
     requires router { router < nodes map.now.frame.shape }
     requires dst { dst < nodes map.now.frame.shape }
     requires right { is_right map.now.frame.shape map.now.frame.vcs map.now.frame.classes rule.now ≡ true }
+    ensures { let vcs = map.now.frame.vcs in (k : ℕ) → has_bit result k ≡ (nat_lt k (width map.now.frame.shape vcs) && is_led (routing_in map.now.frame rule.now) class router dst (k / vcs) (k % vcs)) }
 {
     let vcs = map.frame.vcs;
     let way = Way::of(map, router, dst);
@@ -42,6 +45,7 @@ impl Way {
     fn of(map: &Map, router: usize, dst: usize) -> Way
         requires router { router < nodes map.now.frame.shape }
         requires dst { dst < nodes map.now.frame.shape }
+        ensures way { IsWay map.now.frame.shape result router dst }
         ensures towards { IfSome result.towards (λ port. port < 6) }
     {
         let here = map.frame.shape.coordinates(router);
@@ -60,9 +64,10 @@ impl Way {
         requires port { port < ports frame.now.shape }
         requires right { is_right frame.now.shape frame.now.vcs frame.now.classes rule.now ≡ true }
         requires towards { IfSome self.now.towards (λ port. port < 6) }
+        ensures { (r t : ℕ) → IsWay frame.now.shape self.now r t → result ≡ is_led (routing_in frame.now rule.now) class r t port vc }
     {
         if self.arrived {
-            return frame.shape.ports() == port + 1 && frame.is_in_block(class, vc);
+            return frame.port_count == port + 1 && frame.is_in_block(class, vc);
         }
         self.takes_port(rule, port) && self.takes_channel(frame, rule, class, port, vc)
     }
@@ -71,6 +76,7 @@ impl Way {
     fn takes_port(&self, rule: &Rule, port: usize) -> bool
         requires towards { IfSome self.now.towards (λ port. port < 6) }
         ensures link { IsTrue result → port < 6 }
+        ensures value { (g : Grid) (r t : ℕ) → IsWay g self.now r t → result ≡ takes_port g rule.now (coordinates g.radix r) (coordinates g.radix t) port }
     {
         match rule {
             Rule::Dor | Rule::Dateline => self.towards == Some(port),
@@ -91,6 +97,7 @@ impl Way {
         requires class { class < frame.now.classes }
         requires port { port < 6 }
         requires right { is_right frame.now.shape frame.now.vcs frame.now.classes rule.now ≡ true }
+        ensures { (g : Grid) (r t : ℕ) → IsWay g self.now r t → result ≡ takes_channel frame.now.vcs frame.now.classes rule.now class (coordinates g.radix r) (coordinates g.radix t) port vc }
     {
         match rule {
             Rule::Dateline => {
@@ -104,6 +111,7 @@ impl Way {
     /// The half of a class's channels that the next hop along a port takes.
     fn dateline_class(&self, port: usize) -> usize
         requires { port < 6 }
+        ensures { result ≡ dateline_class port (slice_index self.now.here (port / 2)) (slice_index self.now.there (port / 2)) }
     {
         let x = self.here[port / 2];
         let t = self.there[port / 2];
@@ -114,6 +122,7 @@ impl Way {
     /// Whether west first takes a port.
     fn is_west_first(&self, port: usize) -> bool
         ensures link { IsTrue result → port < 6 }
+        ensures value { result ≡ is_west_first self.now.here self.now.there port }
     {
         if self.there[0] < self.here[0] {
             return port == 1;
@@ -132,6 +141,7 @@ fn dor_port(map: &Map, here: &[usize; 3], there: &[usize; 3]) -> Option<usize>
     requires here { EachIndex here.now (λ i. slice_index here.now i ≤ slice_index map.now.last i) }
     requires there { EachIndex there.now (λ i. slice_index there.now i ≤ slice_index map.now.last i) }
     ensures range { IfSome result (λ port. port < 6) }
+    ensures value { let g = map.now.frame.shape in (r t : ℕ) → here.now ≡ padded (coordinates g.radix r) → there.now ≡ padded (coordinates g.radix t) → result ≡ dor_port g (coordinates g.radix r) (coordinates g.radix t) }
 {
     for i in 0..3usize {
         if here[i] != there[i] {

@@ -1,12 +1,15 @@
 //! The routing relation.
 
-ghost use Rattle.std.specs.Prelude.{◌≡◌, ◌<◌, IfOk, IfErr, OnOk, All, None, true, length, ◌*◌};
+ghost use Rattle.std.specs.Prelude.{◌≡◌, ◌<◌, MatchResult, IfOk, IfErr, OnOk, All, None, true, length, ◌*◌, ℕ, slice_index};
 ghost use Rattle.noc_topo.specs.Shape.{nodes, ports};
-ghost use Rattle.noc_route.specs.Relation.{is_right, rows_of, row_fault, IsFirstFault};
-ghost use Rattle.noc_route.specs.Routes.{set_at, IsTable, blocks, width};
+ghost use Rattle.noc_route.specs.Built.{routing_of, IsRelationOf};
+ghost use Rattle.noc_route.specs.Entered.{routing_in, IsEntered};
+ghost use Rattle.noc_route.specs.Relation.{is_right, rows_of, row_fault, IsFirstFault, IsFaultOf};
+ghost use Rattle.noc_route.specs.Routes.{set_at, IsRelation, blocks, width};
+ghost use Rattle.noc_route.specs.Trimming.{routes_in};
 
 use crate::enter::{enter_named, enter_rows};
-use crate::frame::{Frame, is_right};
+use crate::frame::Frame;
 use crate::gather::gather;
 use crate::map::Map;
 use crate::rows::first_fault;
@@ -48,25 +51,17 @@ impl Relation {
         classes: usize,
         rule: Rule,
     ) -> Result<Relation, RouteFault>
-        ensures { IfOk result (λ r. (r.grid ≡ shape.now) × (r.vcs ≡ vcs) × (r.classes ≡ classes) × IsTable r) }
+        ensures exact { let g = routing_of shape.now vcs classes rule in MatchResult result (IsRelationOf g) (IsFaultOf g) }
+        ensures built { IfOk result IsRelation }
     {
-        if !is_right(shape, vcs, classes, &rule) {
+        let Some(frame) = Frame::of(shape, vcs, classes, &rule) else {
             return Err(RouteFault::WrongShape);
-        }
-        let frame = Frame {
-            shape: *shape,
-            vcs,
-            classes,
         };
         let map = Map::new(alloc, frame)?;
         let mut sets = vec![in alloc; ChannelSet::empty(); frame.blocks() * frame.width()]?;
         let mut outs = vec![in alloc; ChannelSet::empty(); frame.blocks()]?;
-        enter(&map, &rule, &mut sets)?;
-        gather(&map, &sets, &mut outs);
-        match trim(&map, &mut sets, &outs) {
-            Some(entry) => Err(RouteFault::NoWay(entry)),
-            None => Ok(Relation { frame, sets }),
-        }
+        fill(&map, &rule, &mut sets, &mut outs)?;
+        Ok(Relation { frame, sets })
     }
 
     /// The output channels by which a packet of this class, that came to the router by this input port and channel and is
@@ -85,7 +80,7 @@ impl Relation {
         requires in_vc { in_vc < self.now.vcs }
         requires dst { dst < nodes self.now.grid }
         ensures value { result ≡ set_at self.now class router in_port in_vc dst }
-        ensures table { IsTable self.now }
+        ensures built { IsRelation self.now }
     {
         self.sets[self.frame.place(class, router, in_port, in_vc, dst)]
     }
@@ -93,7 +88,7 @@ impl Relation {
     /// The shape of the network.
     pub fn shape(&self) -> &Shape
         ensures value { result.now ≡ self.now.grid }
-        ensures table { IsTable self.now }
+        ensures built { IsRelation self.now }
     {
         &self.frame.shape
     }
@@ -101,7 +96,7 @@ impl Relation {
     /// How many virtual channels a link has, 1 to 4.
     pub fn vcs(&self) -> usize
         ensures value { result ≡ self.now.vcs }
-        ensures table { IsTable self.now }
+        ensures built { IsRelation self.now }
     {
         self.frame.vcs
     }
@@ -109,9 +104,32 @@ impl Relation {
     /// How many message classes there are, 1 to 4.
     pub fn classes(&self) -> usize
         ensures value { result ≡ self.now.classes }
-        ensures table { IsTable self.now }
+        ensures built { IsRelation self.now }
     {
         self.frame.classes
+    }
+}
+
+/// Writes a rule's sets at the entries that packets reach, or answers the first fault; `outs` is room.
+fn fill(
+    map: &Map,
+    rule: &Rule,
+    sets: &mut [ChannelSet],
+    outs: &mut [ChannelSet],
+) -> Result<(), RouteFault>
+    requires right { is_right map.now.frame.shape map.now.frame.vcs map.now.frame.classes rule.now ≡ true }
+    requires sets { length sets.old ≡ blocks map.now.frame.shape map.now.frame.classes * width map.now.frame.shape map.now.frame.vcs }
+    requires outs { length outs.old ≡ blocks map.now.frame.shape map.now.frame.classes }
+    requires empty { (j : ℕ) → slice_index sets.old j ≡ 0 }
+    requires unused { (j : ℕ) → slice_index outs.old j ≡ 0 }
+    ensures exact { MatchResult result (λ _. IsRelationOf (routing_in map.now.frame rule.now) (routes_in map.now.frame sets.new)) (IsFaultOf (routing_in map.now.frame rule.now)) }
+    ensures built { OnOk result (IsRelation (routes_in map.now.frame sets.new)) }
+{
+    enter(map, rule, sets)?;
+    gather(map, sets, outs);
+    match trim(map, sets, outs) {
+        Some(entry) => Err(RouteFault::NoWay(entry)),
+        None => Ok(()),
     }
 }
 
@@ -119,8 +137,10 @@ impl Relation {
 fn enter(map: &Map, rule: &Rule, sets: &mut [ChannelSet]) -> Result<(), RouteFault>
     requires right { is_right map.now.frame.shape map.now.frame.vcs map.now.frame.classes rule.now ≡ true }
     requires long { length sets.old ≡ blocks map.now.frame.shape map.now.frame.classes * width map.now.frame.shape map.now.frame.vcs }
+    requires empty { (j : ℕ) → slice_index sets.old j ≡ 0 }
     ensures err { IfErr result (IsFirstFault map.now.frame.shape map.now.frame.vcs map.now.frame.classes (rows_of rule.now)) }
     ensures ok { OnOk result (All (λ row. row_fault map.now.frame.shape map.now.frame.vcs map.now.frame.classes row ≡ None) (rows_of rule.now)) }
+    ensures entered { OnOk result (IsEntered (routing_in map.now.frame rule.now) (routes_in map.now.frame sets.new)) }
 {
     match rule {
         Rule::Rows(rows) => {
@@ -133,3 +153,6 @@ fn enter(map: &Map, rule: &Rule, sets: &mut [ChannelSet]) -> Result<(), RouteFau
     }
     Ok(())
 }
+
+#[cfg(test)]
+mod tests;

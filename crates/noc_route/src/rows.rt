@@ -34,7 +34,7 @@ fn is_real(map: &Map, row: &RouteRow) -> bool
     ensures { result ≡ is_real_row map.now.frame.shape map.now.frame.vcs map.now.frame.classes row.now }
 {
     let frame = &map.frame;
-    let nodes = frame.shape.nodes();
+    let nodes = frame.node_count;
     row.class < frame.classes
         && row.router < nodes
         && row.in_vc < frame.vcs
@@ -49,7 +49,7 @@ fn is_port(map: &Map, router: usize, port: usize) -> bool
     requires { router < nodes map.now.frame.shape }
     ensures { result ≡ is_open map.now.frame.shape router port }
 {
-    let ports = map.frame.shape.ports();
+    let ports = map.frame.port_count;
     port < ports && (port + 1 == ports || map.link(router, port).is_some())
 }
 

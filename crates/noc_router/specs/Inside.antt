@@ -1,24 +1,24 @@
 -- What a router's fields are seen as, and what is true of them.
-use Rattle.std.specs.Prelude.{◌≡◌, ℕ, ◌-◌, ◌*◌, ◌<◌, ◌≤◌, List, [], ◌∷◌, ◌++◌, map, take, drop, sum, Option, option_map, if◌then◌else◌, vec_len}
-use Rattle.std.specs.Option.{option_to_list, ForSome}
+use Rattle.std.specs.Prelude.{◌≡◌, ℕ, ◌+◌, ◌-◌, ◌*◌, ◌<◌, ◌≤◌, true, List, [], map, take, Option, None, if◌then◌else◌, slice_index_or, vec_len}
+use Rattle.std.specs.Option.{ForSome}
 use Rattle.std.specs.List.{zip}
 use Rattle.noc_packet.specs.declared.packet.Packet.{Packet}
-use Rattle.noc_topo.specs.Shape.{IsGrid, nodes, ports, local_port}
+use Rattle.noc_topo.specs.Shape.{IsGrid, nodes, ports, local_port, neighbour}
 use Rattle.noc_router.specs.declared.router.Router.TheInside.{Inside}
 use Rattle.noc_router.specs.declared.source.Source.{Source}
+use Rattle.noc_router.specs.Counts.{counts_in}
+use Rattle.noc_router.specs.Members.{AreBelow}
+use Rattle.noc_router.specs.Queue.{queue_from, sending_from}
+use Rattle.noc_router.specs.Sound.{is_awaiting}
 use Rattle.noc_router.specs.View.{View}
 
 -- the packets with a flit still at the source
 abbrev pub queue_of : Source → List (ℕ × Packet)
-queue_of source = option_to_list source.front ++ drop source.begun source.packets.items
+queue_of source = queue_from source.front source.begun source.packets.items
 
 -- the local virtual channel of the first of them, once it has begun, and its next index
 abbrev pub sending_of : Source → Option (ℕ × ℕ)
-sending_of source = option_map (λ vc. (vc, source.index)) source.vc
-
--- the ten counts of a channel: empty in the cycles that no other verdict has
-abbrev pub counts_in : ℕ → List ℕ → List ℕ
-counts_in cycles counts = (cycles - sum (drop 1 counts)) ∷ drop 1 counts
+sending_of source = sending_from source.vc source.index
 
 abbrev pub view_of : Inside → View
 view_of r = record {
@@ -48,7 +48,11 @@ pub record IsRouter (r : Inside) : Type 0 where
   pub few_vcs : r.vcs ≤ 8
   pub channels : r.channels.size ≡ r.ports * r.vcs
   pub places : r.channels.bank.capacity ≡ r.places
+  pub leads : (port : ℕ) → port < 6 → slice_index_or r.links.leads port None ≡ neighbour r.shape r.node port
+  pub loaded : AreBelow (local_port r.shape) r.links.loaded
   pub sending : ForSome r.source.vc (λ vc. vc < r.vcs)
+  -- the local channel that the source sends on awaits the next flit
+  pub awaiting : ForSome r.source.vc (λ vc. is_awaiting r.channels.inputs.items ((r.ports - 1) * r.vcs + vc) ≡ true)
   pub counts : vec_len r.tally.counts ≡ r.ports * r.vcs
   pub arbiter_ports : r.arbiters.ports ≡ r.ports
   pub arbiter_vcs : r.arbiters.vcs ≡ r.vcs

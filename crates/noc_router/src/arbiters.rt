@@ -1,6 +1,7 @@
 //! The arbiters of one router.
 
 ghost use Rattle.std.specs.Prelude.{◌≡◌, ◌*◌, ◌<◌, ◌≤◌, All, IfOk, vec_len};
+ghost use Rattle.noc_router.specs.Verdict.{opening_arbiters};
 
 use noc_alloc::Arbiter;
 use noc_packet::Memory;
@@ -29,7 +30,10 @@ impl Arbiters {
         requires ports { ports ≤ 7 }
         requires some_vc { 0 < vcs }
         requires vcs { vcs ≤ 8 }
-        ensures { IfOk result (λ arbiters. (arbiters.ports ≡ ports) × (arbiters.vcs ≡ vcs)) }
+        ensures sizes { IfOk result (λ arbiters. (arbiters.ports ≡ ports) × (arbiters.vcs ≡ vcs)) }
+        ensures channels { IfOk result (λ arbiters. arbiters.channels.items ≡ (opening_arbiters ports vcs).channels) }
+        ensures inputs { IfOk result (λ arbiters. arbiters.inputs.items ≡ (opening_arbiters ports vcs).inputs) }
+        ensures outputs { IfOk result (λ arbiters. arbiters.outputs.items ≡ (opening_arbiters ports vcs).outputs) }
     {
         let size = ports * vcs;
         Ok(Arbiters {

@@ -1,6 +1,9 @@
 //! The packets that end at a node.
 
-ghost use Rattle.std.specs.Prelude.{◌≡◌, vec_len};
+ghost use Rattle.std.specs.Prelude.{◌≡◌, IfOk, if◌then◌else◌, None, map, vec_len};
+ghost use Rattle.std.specs.List.{zip, list_any};
+ghost use Rattle.std.specs.List.Sorted.{IsStrictlyIncreasing};
+ghost use Rattle.noc_router.specs.Arrivals.{is_expected_in, noted, arrival_in};
 
 use noc_packet::Memory;
 use std::alloc::Global;
@@ -11,16 +14,22 @@ pub(crate) struct Arrivals {
     ends: Vec<u32>,
     cycles: Vec<Option<u64>>,
     ghost one_each: { vec_len cycles ≡ vec_len ends },
+    ghost rising: { IsStrictlyIncreasing ends.items },
 }
 
 impl Arrivals {
-    pub(crate) fn new(alloc: Global, ends: Vec<u32>) -> Result<Arrivals, Memory> {
+    pub(crate) fn new(alloc: Global, ends: Vec<u32>) -> Result<Arrivals, Memory>
+        requires { IsStrictlyIncreasing ends.items }
+        ensures { IfOk result (λ arrivals. zip arrivals.ends.items arrivals.cycles.items ≡ map (λ p. (p, None)) ends.items) }
+    {
         let cycles = vec![in alloc; None; ends.len()]?;
         Ok(Arrivals { ends, cycles })
     }
 
     // The cycle in which a packet's tail was out: None for one that was not built to end here.
-    pub(crate) fn cycle_of(&self, packet: u32) -> Option<u64> {
+    pub(crate) fn cycle_of(&self, packet: u32) -> Option<u64>
+        ensures { result ≡ arrival_in packet (zip self.now.ends.items self.now.cycles.items) }
+    {
         match self.ends.binary_search(&packet) {
             Ok(place) => self.cycles[place],
             Err(_) => None,
@@ -28,7 +37,10 @@ impl Arrivals {
     }
 
     // Notes that a packet's tail is out. False where the packet was not built to end here or has arrived before.
-    pub(crate) fn note(&mut self, packet: u32, cycle: u64) -> bool {
+    pub(crate) fn note(&mut self, packet: u32, cycle: u64) -> bool
+        ensures expected { result ≡ is_expected_in packet (zip self.old.ends.items self.old.cycles.items) }
+        ensures noted { zip self.new.ends.items self.new.cycles.items ≡ (if result then noted packet cycle (zip self.old.ends.items self.old.cycles.items) else zip self.old.ends.items self.old.cycles.items) }
+    {
         let Ok(place) = self.ends.binary_search(&packet) else {
             return false;
         };

@@ -4,6 +4,7 @@
 mod arbiters;
 mod arrivals;
 mod channels;
+mod findings;
 mod links;
 mod plan;
 mod requests;

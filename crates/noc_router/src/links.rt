@@ -1,7 +1,10 @@
 //! The links of a router, and the beats that are still to be put on them.
 
-ghost use Rattle.std.specs.Prelude.{◌≡◌, ◌<◌};
-ghost use Rattle.noc_topo.specs.Shape.{nodes as nodes_of};
+ghost use Rattle.std.specs.Prelude.{◌≡◌, ℕ, ◌<◌, ◌==◌, ◌||◌, ◌&&◌, not, false, IsTrue, ◌↔◌, Some, None, replicate, slice_index_or, slice_set};
+ghost use Rattle.noc_packet.specs.Set.{has_bit};
+ghost use Rattle.noc_topo.specs.Shape.{nodes as nodes_of, neighbour as neighbour_of};
+ghost use Rattle.noc_router.specs.Links.{AreLoaded};
+ghost use Rattle.noc_router.specs.View.{idle_beat};
 
 use noc_packet::{Beat, ChannelSet, Flit};
 use noc_topo::Shape;
@@ -17,11 +20,15 @@ pub(crate) struct Links {
     beats: [Beat; LINKS],
     // The ports whose beat is not idle.
     loaded: ChannelSet,
+    ghost marked: { AreLoaded 6 beats loaded },
 }
 
 impl Links {
     pub(crate) fn new(shape: &Shape, node: usize) -> Links
         requires { node < nodes_of shape.now }
+        ensures leads { (port : ℕ) → port < 6 → slice_index_or result.leads port None ≡ neighbour_of shape.now node port }
+        ensures beats { result.beats ≡ replicate 6 idle_beat }
+        ensures loaded { result.loaded ≡ 0 }
     {
         let mut leads = [None; LINKS];
         for port in 0..LINKS {
@@ -39,12 +46,17 @@ impl Links {
     // The neighbour at a port, and the port by which a flit enters there.
     pub(crate) fn neighbour(&self, port: usize) -> Option<(usize, usize)>
         requires { port < 6 }
+        ensures { result ≡ slice_index_or self.now.leads port None }
     {
         self.leads[port]
     }
 
     // Every beat is idle again.
-    pub(crate) fn clear(&mut self) {
+    pub(crate) fn clear(&mut self)
+        ensures leads { self.new.leads ≡ self.old.leads }
+        ensures beats { self.new.beats ≡ replicate 6 idle_beat }
+        ensures loaded { (k : ℕ) → has_bit self.new.loaded k ≡ false }
+    {
         for _ in 0..LINKS {
             let Some(port) = self.loaded.least_common(&self.loaded) else {
                 break;
@@ -59,6 +71,9 @@ impl Links {
     // A flit leaves by a link port.
     pub(crate) fn load_flit(&mut self, port: usize, vc: u8, flit: Flit)
         requires { port < 6 }
+        ensures leads { self.new.leads ≡ self.old.leads }
+        ensures beats { self.new.beats ≡ slice_set self.old.beats port (record (slice_index_or self.old.beats port idle_beat) { flit = Some (vc, flit) }) }
+        ensures loaded { (k : ℕ) → has_bit self.new.loaded k ≡ (k == port || has_bit self.old.loaded k) }
     {
         self.loaded = self.loaded.with(port);
         self.beats[port].flit = Some((vc, flit));
@@ -67,19 +82,28 @@ impl Links {
     // A credit returns by a link port.
     pub(crate) fn load_credit(&mut self, port: usize, vc: u8)
         requires { port < 6 }
+        ensures leads { self.new.leads ≡ self.old.leads }
+        ensures beats { self.new.beats ≡ slice_set self.old.beats port (record (slice_index_or self.old.beats port idle_beat) { credit = Some vc }) }
+        ensures loaded { (k : ℕ) → has_bit self.new.loaded k ≡ (k == port || has_bit self.old.loaded k) }
     {
         self.loaded = self.loaded.with(port);
         self.beats[port].credit = Some(vc);
     }
 
     // Whether no beat but idle ones is still to be put.
-    pub(crate) fn are_clear(&self) -> bool {
+    pub(crate) fn are_clear(&self) -> bool
+        ensures { IsTrue result ↔ ((k : ℕ) → has_bit self.now.loaded k ≡ false) }
+    {
         self.loaded.is_empty()
     }
 
     // The beat of a port, which leaves an idle one.
     pub(crate) fn unload(&mut self, port: usize) -> Beat
         requires { port < 6 }
+        ensures beat { result ≡ slice_index_or self.old.beats port idle_beat }
+        ensures leads { self.new.leads ≡ self.old.leads }
+        ensures beats { self.new.beats ≡ slice_set self.old.beats port idle_beat }
+        ensures loaded { (k : ℕ) → has_bit self.new.loaded k ≡ (not (k == port) && has_bit self.old.loaded k) }
     {
         let beat = self.beats[port];
         self.beats[port] = Beat::idle();

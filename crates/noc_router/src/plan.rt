@@ -1,14 +1,17 @@
 //! What one router decides in one cycle.
 
-ghost use Rattle.std.specs.Prelude.{◌≡◌, ℕ, ◌*◌, ◌<◌, IfOk, length, slice_set};
+ghost use Rattle.std.specs.Prelude.{◌≡◌, ℕ, ◌*◌, ◌<◌, IfOk, length, slice_index_or};
 ghost use Rattle.noc_topo.specs.Shape.{ports as ports_of};
-ghost use Rattle.noc_router.specs.Decided.{IsDecidedFor};
+ghost use Rattle.noc_router.specs.Asked.{turns_in};
+ghost use Rattle.noc_router.specs.Decided.{IsDecidedFor, no_decisions};
 ghost use Rattle.noc_router.specs.Requests.{AllBelow};
+ghost use Rattle.noc_router.specs.Verdict.{arbiters_after};
 
 use crate::arbiters::Arbiters;
+use crate::findings::Findings;
 use crate::requests::Requests;
 use crate::verdict::Finding;
-use noc_packet::{ChannelSet, Memory};
+use noc_packet::Memory;
 use noc_route::Relation;
 use std::alloc::Global;
 use std::marker::Model;
@@ -19,7 +22,7 @@ use std::marker::Model;
 #[derive(Drop)]
 pub struct Plan {
     pub(crate) requests: Requests,
-    pub(crate) findings: Vec<Finding>,
+    pub(crate) findings: Findings,
 }
 
 impl Model for Plan {
@@ -37,31 +40,15 @@ impl Model for Plan {
 impl Plan {
     /// A plan without requests, for the routers of this relation's network.
     pub fn new(alloc: Global, relation: &Relation) -> Result<Plan, Memory>
-        ensures { IfOk result (IsDecidedFor (ports_of relation.now.grid) relation.now.vcs) }
+        ensures value { IfOk result (λ plan. plan ≡ no_decisions (ports_of relation.now.grid) relation.now.vcs) }
+        ensures lengths { IfOk result (IsDecidedFor (ports_of relation.now.grid) relation.now.vcs) }
     {
         let ports = relation.shape().ports();
         let size = ports * relation.vcs();
         Ok(Plan {
             requests: Requests::new(alloc, ports, size)?,
-            findings: vec![in alloc; Finding::empty(); size]?,
+            findings: Findings::new(alloc, size)?,
         })
-    }
-
-    // No channel has a request, and every one is empty.
-    pub(crate) fn clear(&mut self)
-        ensures { (ports vcs : ℕ) → IsDecidedFor ports vcs self.old → IsDecidedFor ports vcs self.new }
-    {
-        forget(&mut self.findings, self.requests.busy());
-        self.requests.clear();
-    }
-
-    // The arbiters decide on the requests.
-    pub(crate) fn decide(&mut self, arbiters: &Arbiters)
-        requires { IsDecidedFor arbiters.now.ports arbiters.now.vcs self.old }
-        ensures lengths { IsDecidedFor arbiters.now.ports arbiters.now.vcs self.new }
-        ensures picks { AllBelow arbiters.now.vcs self.new.round.picks }
-    {
-        self.requests.decide(arbiters);
     }
 
     // The pointers of the arbiters go on past the winners.
@@ -70,6 +57,7 @@ impl Plan {
         requires picks { AllBelow arbiters.old.vcs self.now.round.picks }
         ensures ports { arbiters.new.ports ≡ arbiters.old.ports }
         ensures vcs { arbiters.new.vcs ≡ arbiters.old.vcs }
+        ensures turns { turns_in arbiters.new ≡ arbiters_after self.now.round (turns_in arbiters.old) }
     {
         self.requests.advance(arbiters);
     }
@@ -77,32 +65,8 @@ impl Plan {
     // What was found of an input channel.
     pub(crate) fn finding(&self, index: usize) -> Finding
         requires { index < length self.now.findings }
+        ensures { result ≡ slice_index_or self.now.findings index result }
     {
-        self.findings[index]
-    }
-
-    // What is found of an input channel.
-    pub(crate) fn add_finding(&mut self, index: usize, finding: Finding)
-        requires { index < length self.old.findings }
-        ensures findings { self.new.findings ≡ slice_set self.old.findings index finding }
-        ensures round { self.new.round ≡ self.old.round }
-        ensures routes { self.new.routes ≡ self.old.routes }
-    {
-        self.findings[index] = finding;
-        self.requests.note(index);
-    }
-}
-
-// Nothing is found of these channels.
-fn forget(findings: &mut [Finding], channels: ChannelSet) {
-    let mut rest = channels;
-    for _ in 0..findings.len() {
-        let Some(index) = rest.least_common(&rest) else {
-            break;
-        };
-        rest = rest.without(index);
-        if index < findings.len() {
-            findings[index] = Finding::empty();
-        }
+        self.findings.at(index)
     }
 }

@@ -1,17 +1,33 @@
 //! The router.
 
-ghost use Rattle.std.specs.Prelude.{◌≡◌, ◌+◌, ◌*◌, ◌<◌, ◌≤◌, All, IfOk, IfSome, length};
-ghost use Rattle.noc_topo.specs.Shape.{nodes as nodes_of, ports as ports_of, local_port};
+ghost use Rattle.std.specs.List.{list_all};
+ghost use Rattle.std.specs.List.Sorted.{IsStrictlyIncreasing};
+ghost use Rattle.std.specs.Prelude.{◌≡◌, ◌+◌, ◌*◌, ◌<◌, ◌≤◌, All, IfOk, IfSome, Some, true, ◌⊎◌, length, ℕ, Bool, not, None, replicate, slice_index_or, slice_set, [], false, if◌then◌else◌};
+ghost use Rattle.noc_topo.specs.Shape.{nodes as nodes_of, ports as ports_of, local_port, neighbour as neighbour_of};
+ghost use Rattle.noc_topo.specs.Words.{tabulate};
+ghost use Rattle.noc_vc.specs.Input.{is_empty};
+ghost use Rattle.noc_vc.specs.Output.{has_credit};
+ghost use Rattle.noc_router.specs.Arrivals.{arrival_in};
+ghost use Rattle.noc_router.specs.Asked.{round_in};
 ghost use Rattle.noc_router.specs.Decided.{IsDecidedFor};
+ghost use Rattle.noc_router.specs.Found.{empty_finding};
+ghost use Rattle.noc_router.specs.Injection.{next_vc, vacant_vc};
+ghost use Rattle.noc_router.specs.Links.{is_idle_beat};
 ghost use Rattle.noc_router.specs.Requests.{AllBelow};
+ghost use Rattle.noc_router.specs.Settled.{IsPlanOf, CanGrant, CanSettle, tallied, settled, settled_by, routed_at, granted_at, moved_by, credit_put, flit_put};
+ghost use Rattle.noc_router.specs.Sound.{is_awaiting};
 ghost use Rattle.noc_router.specs.Start.{IsStart};
-ghost use Rattle.noc_router.specs.View.{IsRelationOf, local_channel, size_of, view_buffer};
+ghost use Rattle.noc_router.specs.Tally.{finding_at};
+ghost use Rattle.noc_router.specs.Verdict.{Round, Unrouted, Waits, Holds, ask_of, asks_of, out_of, ready_of, ready_port, verdict_of, arbiters_after};
+ghost use Rattle.noc_router.specs.View.{IsRelationOf, local_channel, size_of, view_buffer, opening_view, with_flit, with_credit, taken, all_taken, injected, planned, committed, beat_to_put, put, idle_beats, local_step, finding_of, route_for, route_of, view_claim, view_output, view_stands, first_flit, view_input, with_arrival};
 
 use crate::arbiters::Arbiters;
 use crate::arrivals::Arrivals;
 use crate::channels::Channels;
+use crate::findings::Findings;
 use crate::links::Links;
 use crate::plan::Plan;
+use crate::requests::Requests;
 use crate::source::Source;
 use crate::tally::Tally;
 use crate::verdict::{Finding, VERDICTS, Verdict};
@@ -76,7 +92,8 @@ impl Router {
         requires some_place { 0 < places }
         requires places { places ≤ 16 }
         requires starts { All IsStart starts.items }
-        ensures { IfOk result (λ router. router.site ≡ record { grid = relation.now.grid; node = node; vcs = relation.now.vcs; places = places }) }
+        requires ends { IsStrictlyIncreasing ends.items }
+        ensures { IfOk result (λ router. router ≡ opening_view (record { grid = relation.now.grid; node = node; vcs = relation.now.vcs; places = places }) starts.items ends.items) }
     {
         let shape = *relation.shape();
         let ports = shape.ports();
@@ -105,7 +122,7 @@ impl Router {
     pub fn take(&mut self, relation: &Relation, port: usize, beat: Beat)
         requires relation { IsRelationOf relation.now self.old }
         requires port { port < local_port self.old.site.grid }
-        ensures { self.new.site ≡ self.old.site }
+        ensures { self.new ≡ taken relation.now port beat self.old }
     {
         if let Some((vc, flit)) = beat.flit {
             self.take_flit(relation, port, usize::from(vc), flit);
@@ -119,7 +136,7 @@ impl Router {
     fn take_flit(&mut self, relation: &Relation, port: usize, vc: usize, flit: Flit)
         requires relation { IsRelationOf relation.now self.old }
         requires port { port < local_port self.old.site.grid }
-        ensures { self.new.site ≡ self.old.site }
+        ensures { self.new ≡ with_flit relation.now port (Some (vc, flit)) self.old }
     {
         if vc < self.vcs
             && self.links.neighbour(port).is_some()
@@ -136,7 +153,7 @@ impl Router {
     // A credit comes for a virtual channel of a link port.
     fn take_credit(&mut self, port: usize, vc: usize)
         requires port { port < local_port self.old.site.grid }
-        ensures { self.new.site ≡ self.old.site }
+        ensures { self.new ≡ with_credit port (Some vc) self.old }
     {
         if vc < self.vcs
             && self.links.neighbour(port).is_some()
@@ -152,7 +169,7 @@ impl Router {
     /// room, or the head of the next packet that is due by this cycle, on the lowest local channel that is
     /// idle and has an empty buffer (docs/MODEL.md, "Injection").
     pub fn inject(&mut self, cycle: u64)
-        ensures { self.new.site ≡ self.old.site }
+        ensures { self.new ≡ injected cycle self.old }
     {
         self.cycle = cycle;
         let Some(flit) = self.source.next_flit() else {
@@ -166,74 +183,104 @@ impl Router {
         self.had_event = true;
     }
 
-    // The local virtual channel to which the source's next flit can go in this cycle.
+    // The local virtual channel to which the source's next flit can go in this cycle: it has room, and it is empty or
+    // awaits that flit.
     fn next_channel(&self) -> Option<usize>
+        ensures value { result ≡ next_vc self.now }
         ensures within { IfSome result (λ vc. vc < self.now.site.vcs) }
         ensures room { IfSome result (λ vc. length (view_buffer self.now (local_channel self.now.site vc)) < self.now.site.places) }
+        ensures next { IfSome result (λ vc. is_empty (view_buffer self.now (local_channel self.now.site vc)) ≡ true ⊎ is_awaiting self.now.inputs (local_channel self.now.site vc) ≡ true) }
     {
-        let first = (self.ports - 1) * self.vcs;
         match self.source.channel() {
-            Some(vc) if self.channels.has_room(first + vc) => Some(vc),
-            Some(_) => None,
-            None if self.source.is_due(self.cycle) => {
-                (0..self.vcs).find(|vc| self.channels.is_vacant(first + *vc))
+            Some(vc) => {
+                let room = self.channels.has_room((self.ports - 1) * self.vcs + vc);
+                if room { Some(vc) } else { None }
             }
+            None if self.source.is_due(self.cycle) => self.vacant_channel(),
             None => None,
         }
+    }
+
+    // The lowest local virtual channel that is idle and has an empty buffer.
+    fn vacant_channel(&self) -> Option<usize>
+        ensures value { result ≡ vacant_vc self.now }
+        ensures within { IfSome result (λ vc. vc < self.now.site.vcs) }
+        ensures empty { IfSome result (λ vc. is_empty (view_buffer self.now (local_channel self.now.site vc)) ≡ true) }
+    {
+        for vc in 0..self.vcs {
+            if self.channels.is_vacant((self.ports - 1) * self.vcs + vc) {
+                return Some(vc);
+            }
+        }
+        None
     }
 
     /// Writes into `plan` what every input channel asks for and what the arbiters decide. Nothing changes here.
     pub fn plan(&self, relation: &Relation, plan: &mut Plan)
         requires relation { IsRelationOf relation.now self.now }
         requires plan { IsDecidedFor (ports_of self.now.site.grid) self.now.site.vcs plan.old }
+        ensures value { plan.new ≡ planned relation.now self.now }
         ensures lengths { IsDecidedFor (ports_of self.now.site.grid) self.now.site.vcs plan.new }
         ensures picks { AllBelow self.now.site.vcs plan.new.round.picks }
     {
-        plan.clear();
-        self.request_all(relation, plan);
-        plan.decide(&self.arbiters);
-        self.find_all(plan);
+        plan.requests.clear();
+        plan.findings.clear();
+        self.request_all(relation, &mut plan.requests);
+        plan.requests.decide(&self.arbiters);
+        self.find_all(&plan.requests, &mut plan.findings);
     }
 
-    // What every input channel asks for.
-    fn request_all(&self, relation: &Relation, plan: &mut Plan)
+    // What every input channel asks for, where nothing is asked for yet.
+    fn request_all(&self, relation: &Relation, requests: &mut Requests)
         requires relation { IsRelationOf relation.now self.now }
-        requires plan { IsDecidedFor (ports_of self.now.site.grid) self.now.site.vcs plan.old }
-        ensures { IsDecidedFor (ports_of self.now.site.grid) self.now.site.vcs plan.new }
+        requires ports { requests.old.ports ≡ ports_of self.now.site.grid }
+        requires size { requests.old.size ≡ size_of self.now.site }
+        requires no_routes { requests.old.routes.items ≡ replicate (size_of self.now.site) 0 }
+        requires no_asks { requests.old.asks.items ≡ replicate (size_of self.now.site) None }
+        requires no_ready { requests.old.ready.items ≡ replicate (size_of self.now.site) None }
+        ensures ports { requests.new.ports ≡ requests.old.ports }
+        ensures size { requests.new.size ≡ requests.old.size }
+        ensures routes { requests.new.routes.items ≡ tabulate (size_of self.now.site) (route_of relation.now self.now) }
+        ensures asks { requests.new.asks.items ≡ asks_of (view_stands self.now) }
+        ensures ready { requests.new.ready.items ≡ ready_of self.now.site.vcs (view_stands self.now) }
     {
         let mut rest = self.channels.occupied();
-        for _ in 0..self.ports * self.vcs {
-            let Some(index) = rest.least_common(&rest) else {
-                break;
-            };
+        while let Some(index) = rest.least_common(&rest) {
             rest = rest.without(index);
-            self.request(relation, plan, index);
+            self.request(relation, requests, index);
         }
     }
 
-    // What one input channel asks for.
-    fn request(&self, relation: &Relation, plan: &mut Plan, index: usize)
+    // What one input channel asks for, where it asks for nothing yet.
+    fn request(&self, relation: &Relation, requests: &mut Requests, index: usize)
         requires relation { IsRelationOf relation.now self.now }
-        requires plan { IsDecidedFor (ports_of self.now.site.grid) self.now.site.vcs plan.old }
+        requires ports { requests.old.ports ≡ ports_of self.now.site.grid }
+        requires size { requests.old.size ≡ size_of self.now.site }
         requires index { index < size_of self.now.site }
-        ensures { IsDecidedFor (ports_of self.now.site.grid) self.now.site.vcs plan.new }
+        requires no_route { slice_index_or requests.old.routes.items index 0 ≡ 0 }
+        requires no_ask { slice_index_or requests.old.asks.items index None ≡ None }
+        requires not_ready { slice_index_or requests.old.ready.items index None ≡ None }
+        ensures ports { requests.new.ports ≡ requests.old.ports }
+        ensures size { requests.new.size ≡ requests.old.size }
+        ensures route { requests.new.routes.items ≡ slice_set requests.old.routes.items index (route_of relation.now self.now index) }
+        ensures ask { requests.new.asks.items ≡ slice_set requests.old.asks.items index (ask_of (view_claim self.now index)) }
+        ensures ready { requests.new.ready.items ≡ slice_set requests.old.ready.items index (ready_port self.now.site.vcs (view_claim self.now index) (not (is_empty (view_buffer self.now index)))) }
     {
         let front = self.channels.front(index);
         match self.channels.state(index) {
             InputState::Idle => {
                 if let Some(flit) = front {
-                    plan.requests
-                        .add_route(index, self.set_for(relation, index, &flit));
+                    requests.add_route(index, self.set_for(relation, index, &flit));
                 }
             }
             InputState::Waiting(set) => {
                 if let Some(next) = self.channels.least_idle(set) {
-                    plan.requests.add_ask(index, next);
+                    requests.add_ask(index, next);
                 }
             }
             InputState::Active(next) => {
                 if front.is_some() && self.channels.has_credit(next) {
-                    plan.requests.add_ready(index, next / self.vcs);
+                    requests.add_ready(index, next / self.vcs);
                 }
             }
         }
@@ -243,6 +290,7 @@ impl Router {
     fn set_for(&self, relation: &Relation, index: usize, flit: &Flit) -> ChannelSet
         requires relation { IsRelationOf relation.now self.now }
         requires index { index < size_of self.now.site }
+        ensures { result ≡ route_for relation.now self.now index (Some flit.now) }
     {
         let class = usize::from(flit.class);
         let destination = usize::from(flit.dst);
@@ -259,48 +307,60 @@ impl Router {
         }
     }
 
-    // What is found of every input channel.
-    fn find_all(&self, plan: &mut Plan)
-        requires { IsDecidedFor (ports_of self.now.site.grid) self.now.site.vcs plan.old }
-        ensures lengths { IsDecidedFor (ports_of self.now.site.grid) self.now.site.vcs plan.new }
-        ensures round { plan.new.round ≡ plan.old.round }
+    // What is found of every input channel, where nothing is found yet.
+    fn find_all(&self, requests: &Requests, findings: &mut Findings)
+        requires ports { requests.now.ports ≡ ports_of self.now.site.grid }
+        requires size { requests.now.size ≡ size_of self.now.site }
+        requires asks { requests.now.asks.items ≡ asks_of (view_stands self.now) }
+        requires findings { findings.old.list.items ≡ replicate (size_of self.now.site) empty_finding }
+        ensures { findings.new.list.items ≡ tabulate (size_of self.now.site) (finding_of (round_in requests.now) self.now) }
     {
         let mut rest = self.channels.occupied();
-        for _ in 0..self.ports * self.vcs {
-            let Some(index) = rest.least_common(&rest) else {
-                break;
-            };
+        while let Some(index) = rest.least_common(&rest) {
             rest = rest.without(index);
-            let finding = self.finding(plan, index);
-            plan.add_finding(index, finding);
+            findings.add(index, self.finding(requests, index));
         }
     }
 
     // What is found of one input channel.
-    fn finding(&self, plan: &Plan, index: usize) -> Finding
-        requires plan { IsDecidedFor (ports_of self.now.site.grid) self.now.site.vcs plan.now }
+    fn finding(&self, requests: &Requests, index: usize) -> Finding
+        requires ports { requests.now.ports ≡ ports_of self.now.site.grid }
+        requires size { requests.now.size ≡ size_of self.now.site }
         requires index { index < size_of self.now.site }
+        requires ask { slice_index_or requests.now.asks.items index None ≡ ask_of (view_claim self.now index) }
+        ensures { result ≡ finding_of (round_in requests.now) self.now index }
     {
-        let (verdict, next) = match self.channels.state(index) {
-            InputState::Idle => (self.verdict_on_head(index), None),
-            InputState::Waiting(_) => {
-                let ask = plan.requests.ask(index);
-                (self.verdict_on_ask(plan, index, ask), ask)
-            }
-            InputState::Active(next) => (self.verdict_on_flit(plan, index, next), Some(next)),
-        };
-        let packet = self.channels.packet(index);
-        let out = next.map(|next| (next / self.vcs, next % self.vcs));
+        let (verdict, next) = self.verdict_on(requests, index);
         Finding {
             verdict,
-            packet,
-            out,
+            packet: self.channels.packet(index),
+            out: next.map(|next| (next / self.vcs, next % self.vcs)),
+        }
+    }
+
+    // The verdict on one input channel, and the output channel that its packet asks for or owns.
+    fn verdict_on(&self, requests: &Requests, index: usize) -> (Verdict, Option<usize>)
+        requires ports { requests.now.ports ≡ ports_of self.now.site.grid }
+        requires size { requests.now.size ≡ size_of self.now.site }
+        requires index { index < size_of self.now.site }
+        requires ask { slice_index_or requests.now.asks.items index None ≡ ask_of (view_claim self.now index) }
+        ensures verdict { result.0 ≡ verdict_of self.now.site.vcs (round_in requests.now) index (view_claim self.now index) (not (is_empty (view_buffer self.now index))) }
+        ensures out { result.1 ≡ out_of (view_claim self.now index) }
+    {
+        match self.channels.state(index) {
+            InputState::Idle => (self.verdict_on_head(index), None),
+            InputState::Waiting(_) => {
+                let ask = requests.ask(index);
+                (self.verdict_on_ask(requests, index, ask), ask)
+            }
+            InputState::Active(next) => (self.verdict_on_flit(requests, index, next), Some(next)),
         }
     }
 
     // The verdict on an idle channel.
     fn verdict_on_head(&self, index: usize) -> Verdict
         requires { index < size_of self.now.site }
+        ensures { (vcs : ℕ) (round : Round) → result ≡ verdict_of vcs round index Unrouted (not (is_empty (view_buffer self.now index))) }
     {
         match self.channels.front(index) {
             Some(_) => Verdict::Routed,
@@ -309,22 +369,25 @@ impl Router {
     }
 
     // The verdict on a waiting channel, which asks for this output channel.
-    fn verdict_on_ask(&self, plan: &Plan, index: usize, ask: Option<usize>) -> Verdict
-        requires plan { IsDecidedFor (ports_of self.now.site.grid) self.now.site.vcs plan.now }
+    fn verdict_on_ask(&self, requests: &Requests, index: usize, ask: Option<usize>) -> Verdict
+        requires size { requests.now.size ≡ size_of self.now.site }
         requires ask { IfSome ask (λ next. next < size_of self.now.site) }
+        ensures { (vcs : ℕ) (has_flit : Bool) → result ≡ verdict_of vcs (round_in requests.now) index (Waits ask) has_flit }
     {
         match ask {
             None => Verdict::NoIdleChannel,
-            Some(next) if plan.requests.is_granted(index, next) => Verdict::Granted,
+            Some(next) if requests.is_granted(index, next) => Verdict::Granted,
             Some(_) => Verdict::LostChannel,
         }
     }
 
     // The verdict on a channel that owns this output channel.
-    fn verdict_on_flit(&self, plan: &Plan, index: usize, next: usize) -> Verdict
-        requires plan { IsDecidedFor (ports_of self.now.site.grid) self.now.site.vcs plan.now }
+    fn verdict_on_flit(&self, requests: &Requests, index: usize, next: usize) -> Verdict
+        requires ports { requests.now.ports ≡ ports_of self.now.site.grid }
+        requires size { requests.now.size ≡ size_of self.now.site }
         requires index { index < size_of self.now.site }
         requires next { next < size_of self.now.site }
+        ensures { result ≡ verdict_of self.now.site.vcs (round_in requests.now) index (Holds next (has_credit (view_output self.now next))) (not (is_empty (view_buffer self.now index))) }
     {
         if self.channels.front(index).is_none() {
             return Verdict::NoFlit;
@@ -333,10 +396,10 @@ impl Router {
             return Verdict::NoCredit;
         }
         let port = index / self.vcs;
-        if !plan.requests.is_picked(port, index % self.vcs) {
+        if !requests.is_picked(port, index % self.vcs) {
             return Verdict::LostInput;
         }
-        if !plan.requests.is_won(next / self.vcs, port) {
+        if !requests.is_won(next / self.vcs, port) {
             return Verdict::LostSwitch;
         }
         Verdict::Moved
@@ -346,12 +409,39 @@ impl Router {
     pub fn commit(&mut self, plan: &Plan)
         requires lengths { IsDecidedFor (ports_of self.old.site.grid) self.old.site.vcs plan.now }
         requires picks { AllBelow self.old.site.vcs plan.now.round.picks }
-        ensures { self.new.site ≡ self.old.site }
+        requires plan { IsPlanOf plan.now self.old }
+        ensures { self.new ≡ committed plan.now self.old }
     {
-        self.links.clear();
-        self.tally.begin();
+        self.count(plan);
         self.settle_all(plan);
+        self.turn(plan);
+        self.close();
+    }
+
+    // The findings of the plan are counted, and every beat is idle again.
+    fn count(&mut self, plan: &Plan)
+        requires lengths { IsDecidedFor (ports_of self.old.site.grid) self.old.site.vcs plan.now }
+        requires plan { IsPlanOf plan.now self.old }
+        ensures { self.new ≡ tallied plan.now self.old }
+    {
+        let occupied = self.channels.occupied();
+        self.tally.count(plan, occupied);
+        self.links.clear();
+    }
+
+    // The pointers of the arbiters go on past the winners.
+    fn turn(&mut self, plan: &Plan)
+        requires lengths { IsDecidedFor (ports_of self.old.site.grid) self.old.site.vcs plan.now }
+        requires picks { AllBelow self.old.site.vcs plan.now.round.picks }
+        ensures { self.new ≡ record self.old { arbiters = arbiters_after plan.now.round self.old.arbiters } }
+    {
         plan.advance(&mut self.arbiters);
+    }
+
+    // The cycle ends.
+    fn close(&mut self)
+        ensures { self.new ≡ record self.old { last_event = (if self.old.had_event then Some self.old.given else self.old.last_event); had_event = false } }
+    {
         if self.had_event {
             self.last_event = Some(self.cycle);
             self.had_event = false;
@@ -360,8 +450,10 @@ impl Router {
 
     // The verdict of every input channel takes effect.
     fn settle_all(&mut self, plan: &Plan)
-        requires { IsDecidedFor (ports_of self.old.site.grid) self.old.site.vcs plan.now }
-        ensures { self.new.site ≡ self.old.site }
+        requires lengths { IsDecidedFor (ports_of self.old.site.grid) self.old.site.vcs plan.now }
+        requires plan { IsPlanOf plan.now self.old }
+        requires beats { self.old.to_put ≡ idle_beats self.old.site }
+        ensures { self.new ≡ settled plan.now self.old }
     {
         let mut rest = self.channels.occupied();
         for _ in 0..self.ports * self.vcs {
@@ -375,49 +467,84 @@ impl Router {
 
     // The verdict of one input channel takes effect.
     fn settle(&mut self, plan: &Plan, index: usize)
-        requires plan { IsDecidedFor (ports_of self.old.site.grid) self.old.site.vcs plan.now }
+        requires lengths { IsDecidedFor (ports_of self.old.site.grid) self.old.site.vcs plan.now }
         requires index { index < size_of self.old.site }
-        ensures { self.new.site ≡ self.old.site }
+        requires can { CanSettle plan.now self.old index (finding_at plan.now.findings index).verdict }
+        ensures { self.new ≡ settled_by plan.now index self.old (finding_at plan.now.findings index).verdict }
     {
         let finding = plan.finding(index);
-        self.tally.note(index, finding);
         match finding.verdict {
-            Verdict::Routed => {
-                self.channels.route(index, plan.requests.route(index));
-                self.had_event = true;
-            }
+            Verdict::Routed => self.route_head(index, plan.requests.route(index)),
             Verdict::Granted => {
-                if let Some(next) = plan.requests.ask(index) {
-                    self.channels.grant(index, next);
-                    self.had_event = true;
+                if let Some((port, vc)) = finding.out {
+                    self.grant(index, port * self.vcs + vc);
                 }
             }
             Verdict::Moved => {
                 if let InputState::Active(next) = self.channels.state(index) {
                     self.move_flit(index, next);
-                    self.had_event = true;
                 }
             }
             _ => {}
         }
     }
 
-    // The first flit of an input channel leaves by its output channel, and a credit goes back.
+    // The head of an idle input channel gets its set of output channels.
+    fn route_head(&mut self, index: usize, set: ChannelSet)
+        requires index { index < size_of self.old.site }
+        requires idle { (view_input self.old index).phase ≡ InputState.Idle }
+        requires head { 0 < length (view_buffer self.old index) }
+        ensures { self.new ≡ routed_at index set self.old }
+    {
+        self.channels.route(index, set);
+        self.had_event = true;
+    }
+
+    // A waiting input channel gets an idle output channel.
+    fn grant(&mut self, index: usize, next: usize)
+        requires index { index < size_of self.old.site }
+        requires can { CanGrant self.old index next }
+        ensures { self.new ≡ granted_at index next self.old }
+    {
+        self.channels.grant(index, next);
+        self.had_event = true;
+    }
+
+    // The first flit of an input channel, if there is one, leaves by its output channel, and a credit goes back.
     fn move_flit(&mut self, index: usize, next: usize)
         requires index { index < size_of self.old.site }
         requires next { next < size_of self.old.site }
-        ensures { self.new.site ≡ self.old.site }
+        requires active { (view_input self.old index).phase ≡ InputState.Active next }
+        requires credit { has_credit (view_output self.old next) ≡ true }
+        ensures { self.new ≡ moved_by index next (first_flit self.old index) self.old }
     {
         let Some(flit) = self.channels.send(index, next) else {
             return;
         };
-        let from = index / self.vcs;
-        if from < self.ports - 1 {
-            self.links.load_credit(from, (index % self.vcs) as u8);
+        self.had_event = true;
+        self.put_credit(index / self.vcs, index % self.vcs);
+        self.put_flit(next / self.vcs, next % self.vcs, flit);
+    }
+
+    // A credit returns by a port; the local port has none.
+    fn put_credit(&mut self, port: usize, vc: usize)
+        requires port { port < ports_of self.old.site.grid }
+        requires vc { vc < self.old.site.vcs }
+        ensures { self.new ≡ credit_put port vc self.old }
+    {
+        if port < self.ports - 1 {
+            self.links.load_credit(port, vc as u8);
         }
-        let to = next / self.vcs;
-        if to < self.ports - 1 {
-            self.links.load_flit(to, (next % self.vcs) as u8, flit);
+    }
+
+    // A flit leaves by a port, or it has arrived.
+    fn put_flit(&mut self, port: usize, vc: usize, flit: Flit)
+        requires port { port < ports_of self.old.site.grid }
+        requires vc { vc < self.old.site.vcs }
+        ensures { self.new ≡ flit_put port vc flit self.old }
+    {
+        if port < self.ports - 1 {
+            self.links.load_flit(port, vc as u8, flit);
         } else if flit.last {
             self.arrive(flit.packet);
         }
@@ -425,7 +552,7 @@ impl Router {
 
     // The tail of a packet is out.
     fn arrive(&mut self, packet: u32)
-        ensures { self.new.site ≡ self.old.site }
+        ensures { self.new ≡ with_arrival (Some packet) self.old }
     {
         let expected = self.arrivals.note(packet, self.cycle);
         if !expected {
@@ -436,13 +563,16 @@ impl Router {
     /// The beat that `commit` left for a link port (0 to the number of link ports - 1); an idle one is left.
     pub fn put(&mut self, port: usize) -> Beat
         requires { port < local_port self.old.site.grid }
-        ensures { self.new.site ≡ self.old.site }
+        ensures beat { result ≡ beat_to_put self.old port }
+        ensures view { self.new ≡ put port self.old }
     {
         self.links.unload(port)
     }
 
     /// Whether every beat that is still to be put is idle.
-    pub fn is_put(&self) -> bool {
+    pub fn is_put(&self) -> bool
+        ensures { result ≡ list_all is_idle_beat self.now.to_put }
+    {
         self.links.are_clear()
     }
 
@@ -459,7 +589,8 @@ impl Router {
         requires plan { IsDecidedFor (ports_of self.old.site.grid) self.old.site.vcs plan.old }
         requires beats_in { length beats_in.now ≡ local_port self.old.site.grid }
         requires beats_out { length beats_out.old ≡ local_port self.old.site.grid }
-        ensures site { self.new.site ≡ self.old.site }
+        ensures view { self.new ≡ (local_step relation.now self.old beats_in.now cycle).0 }
+        ensures beats { beats_out.new ≡ (local_step relation.now self.old beats_in.now cycle).1 }
         ensures plan { IsDecidedFor (ports_of self.old.site.grid) self.old.site.vcs plan.new }
     {
         self.take_all(relation, beats_in);
@@ -473,7 +604,7 @@ impl Router {
     fn take_all(&mut self, relation: &Relation, beats: &[Beat])
         requires relation { IsRelationOf relation.now self.old }
         requires beats { length beats.now ≡ local_port self.old.site.grid }
-        ensures { self.new.site ≡ self.old.site }
+        ensures { self.new ≡ all_taken relation.now beats.now self.old }
     {
         for port in 0..beats.len() {
             self.take(relation, port, beats[port]);
@@ -483,9 +614,10 @@ impl Router {
     // Puts a beat at each link port.
     fn put_all(&mut self, beats: &mut [Beat])
         requires { length beats.old ≡ local_port self.old.site.grid }
-        ensures { self.new.site ≡ self.old.site }
+        ensures view { self.new ≡ record self.old { to_put = idle_beats self.old.site } }
+        ensures beats { beats.new ≡ self.old.to_put }
     {
-        for port in 0..beats.len() {
+        for port in 0..self.ports - 1 {
             beats[port] = self.put(port);
         }
     }
@@ -493,6 +625,7 @@ impl Router {
     /// The neighbour at a link port, and the port by which a flit enters there: None at a border of a mesh.
     pub fn neighbour(&self, port: usize) -> Option<(usize, usize)>
         requires { port < local_port self.now.site.grid }
+        ensures { result ≡ neighbour_of self.now.site.grid self.now.site.node port }
     {
         self.links.neighbour(port)
     }
@@ -508,6 +641,7 @@ impl Router {
     pub fn counts(&self, port: usize, vc: usize) -> [u64; VERDICTS]
         requires port { port < ports_of self.now.site.grid }
         requires vc { vc < self.now.site.vcs }
+        ensures { result ≡ slice_index_or self.now.counts (port * self.now.site.vcs + vc) [] }
     {
         self.tally.counts(port * self.vcs + vc)
     }
@@ -520,7 +654,9 @@ impl Router {
     }
 
     /// The cycle in which the tail of a packet was out here: None for one that was not built to end here.
-    pub fn arrival(&self, packet: u32) -> Option<u64> {
+    pub fn arrival(&self, packet: u32) -> Option<u64>
+        ensures { result ≡ arrival_in packet self.now.ends }
+    {
         self.arrivals.cycle_of(packet)
     }
 

@@ -1,7 +1,8 @@
 //! The packets that start at a node, in their order.
 
-ghost use Rattle.std.specs.Prelude.{◌≡◌, ◌<◌, All, None};
+ghost use Rattle.std.specs.Prelude.{◌≡◌, ◌≤◌, ◌<◌, ◌+◌, All, Some, None, drop, if◌then◌else◌, is_none, true, vec_len};
 ghost use Rattle.std.specs.Option.{ForSome};
+ghost use Rattle.noc_router.specs.Queue.{queue_from, sending_from, next_flit_of, is_next_last, is_due_by};
 ghost use Rattle.noc_router.specs.Start.{IsStart};
 
 use noc_packet::{Flit, Packet, flit_of};
@@ -19,12 +20,15 @@ pub(crate) struct Source {
     begun: usize,
     ghost starts: { All IsStart packets.items },
     ghost in_front: { ForSome front (λ start. IsStart start × (index < start.1.length)) },
+    ghost at_head: { is_none vc ≡ true → index ≡ 0 },
+    ghost all_begun: { is_none front ≡ true → vec_len packets ≤ begun },
 }
 
 impl Source {
     pub(crate) fn new(packets: Vec<(u32, Packet)>) -> Source
         requires { All IsStart packets.items }
-        ensures { result.vc ≡ None }
+        ensures vc { result.vc ≡ None }
+        ensures queue { queue_from result.front result.begun result.packets.items ≡ packets.items }
     {
         Source {
             front: packets.first().copied(),
@@ -37,7 +41,8 @@ impl Source {
 
     // The next packet comes to the front.
     fn next_packet(&mut self)
-        ensures { self.new.vc ≡ None }
+        ensures vc { self.new.vc ≡ None }
+        ensures queue { queue_from self.new.front self.new.begun self.new.packets.items ≡ drop self.old.begun self.old.packets.items }
     {
         self.index = 0;
         self.vc = None;
@@ -46,7 +51,9 @@ impl Source {
     }
 
     // The next flit, if a packet is left.
-    pub(crate) fn next_flit(&self) -> Option<Flit> {
+    pub(crate) fn next_flit(&self) -> Option<Flit>
+        ensures { result ≡ next_flit_of self.now.front self.now.index }
+    {
         let (number, packet) = self.front?;
         Some(flit_of(&packet, number as usize, self.index as usize))
     }
@@ -59,7 +66,9 @@ impl Source {
     }
 
     // Whether the packet in front is due by this cycle.
-    pub(crate) fn is_due(&self, cycle: u64) -> bool {
+    pub(crate) fn is_due(&self, cycle: u64) -> bool
+        ensures { result ≡ is_due_by self.now.front cycle }
+    {
         match self.front {
             Some((_, packet)) => u64::from(packet.due) <= cycle,
             None => false,
@@ -68,17 +77,16 @@ impl Source {
 
     // The next flit has gone to a local virtual channel.
     pub(crate) fn sent(&mut self, vc: usize)
-        ensures { ForSome self.new.vc (λ v. v ≡ vc) }
+        ensures vc { ForSome self.new.vc (λ v. v ≡ vc) }
+        ensures queue { queue_from self.new.front self.new.begun self.new.packets.items ≡ (if is_next_last self.old.front self.old.index then drop 1 (queue_from self.old.front self.old.begun self.old.packets.items) else queue_from self.old.front self.old.begun self.old.packets.items) }
+        ensures sending { sending_from self.new.vc self.new.index ≡ (if is_next_last self.old.front self.old.index then None else Some (vc, self.old.index + 1)) }
     {
-        let Some((_, packet)) = self.front else {
-            self.vc = None;
-            return;
-        };
-        if self.index + 1 < packet.length {
-            self.index += 1;
-            self.vc = Some(vc);
-        } else {
-            self.next_packet();
+        match self.front {
+            Some((_, packet)) if self.index + 1 < packet.length => {
+                self.index += 1;
+                self.vc = Some(vc);
+            }
+            _ => self.next_packet(),
         }
     }
 }

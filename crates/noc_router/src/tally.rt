@@ -1,8 +1,16 @@
 //! What a router has counted and found.
 
-ghost use Rattle.std.specs.Prelude.{◌≡◌, ◌<◌, IfOk, if◌then◌else◌, [], vec_len};
+ghost use Rattle.std.specs.Prelude.{◌≡◌, ℕ, ◌+◌, ◌-◌, ◌<◌, ◌^◌, ◌==◌, ◌||◌, IfOk, if◌then◌else◌, [], true, false, map, drop, min, sum, length, nat_lt, slice_index_or, slice_set, replicate, vec_len};
+ghost use Rattle.noc_packet.specs.Set.{has_bit};
+ghost use Rattle.noc_topo.specs.Words.{map_indexed};
+ghost use Rattle.noc_router.specs.Counts.{counts_in};
+ghost use Rattle.noc_router.specs.Members.{AreBelow};
+ghost use Rattle.noc_router.specs.Tally.{empty_finding, finding_at, others_at, risen_at, IsTally};
+ghost use Rattle.noc_router.specs.Verdict.{column};
+ghost use Rattle.noc_router.specs.View.{counted, decided_verdict, raised};
 
-use crate::verdict::{Finding, VERDICTS};
+use crate::plan::Plan;
+use crate::verdict::{Finding, VERDICTS, Verdict};
 use noc_packet::{ChannelSet, Memory};
 use std::alloc::Global;
 
@@ -17,16 +25,19 @@ pub(crate) struct Tally {
     counting: bool,
     // Whether a cycle has begun.
     begun: bool,
-    // The channels whose finding in the last cycle is not Empty.
+    // The channels whose finding in the last cycle may be another than Empty.
     shown: ChannelSet,
     counts: Vec<[u64; VERDICTS]>,
     findings: Vec<Finding>,
     ghost one_each: { vec_len counts ≡ vec_len findings },
+    ghost sound: { IsTally cycles counting shown counts.items findings.items },
 }
 
 impl Tally {
     pub(crate) fn new(alloc: Global, size: usize) -> Result<Tally, Memory>
-        ensures { IfOk result (λ tally. vec_len tally.counts ≡ size) }
+        ensures size { IfOk result (λ tally. vec_len tally.counts ≡ size) }
+        ensures counts { IfOk result (λ tally. map (counts_in tally.cycles) tally.counts.items ≡ replicate size (replicate 10 0)) }
+        ensures begun { IfOk result (λ tally. tally.begun ≡ false) }
     {
         Ok(Tally {
             cycles: 0,
@@ -38,41 +49,81 @@ impl Tally {
         })
     }
 
-    // Begins a cycle, in which every channel is empty until something else is noted.
-    pub(crate) fn begin(&mut self)
-        ensures { vec_len self.new.counts ≡ vec_len self.old.counts }
+    // Counts a cycle with this plan, which finds of every channel but these that it is empty.
+    pub(crate) fn count(&mut self, plan: &Plan, channels: ChannelSet)
+        requires findings { length plan.now.findings ≡ vec_len self.old.counts }
+        requires channels { AreBelow (vec_len self.old.counts) channels }
+        requires empty { (k : ℕ) → k < vec_len self.old.counts → has_bit channels k ≡ false → finding_at plan.now.findings k ≡ empty_finding }
+        ensures size { vec_len self.new.counts ≡ vec_len self.old.counts }
+        ensures begun { self.new.begun ≡ true }
+        ensures findings { self.new.findings.items ≡ plan.now.findings }
+        ensures counts { map (counts_in self.new.cycles) self.new.counts.items ≡ map_indexed (λ i counts. counted (decided_verdict plan.now i) counts) (map (counts_in self.old.cycles) self.old.counts.items) }
     {
+        self.begin();
+        let mut rest = channels;
+        for _ in 0..self.findings.len() {
+            let Some(index) = rest.least_common(&rest) else {
+                break;
+            };
+            rest = rest.without(index);
+            self.note(index, plan.finding(index));
+        }
+    }
+
+    // Begins a cycle, in which every channel is empty until something else is noted.
+    fn begin(&mut self)
+        ensures size { vec_len self.new.counts ≡ vec_len self.old.counts }
+        ensures cycles { self.new.cycles ≡ raised self.old.cycles }
+        ensures counting { self.new.counting ≡ nat_lt self.old.cycles (2 ^ 64 - 1) }
+        ensures begun { self.new.begun ≡ true }
+        ensures counts { self.new.counts.items ≡ self.old.counts.items }
+        ensures findings { (k : ℕ) → finding_at self.new.findings.items k ≡ empty_finding }
+    {
+        self.forget();
         self.begun = true;
         self.counting = self.cycles < u64::MAX;
         self.cycles = self.cycles.saturating_add(1);
+    }
+
+    // Nothing is found of any channel.
+    fn forget(&mut self)
+        ensures size { vec_len self.new.findings ≡ vec_len self.old.findings }
+        ensures cycles { self.new.cycles ≡ self.old.cycles }
+        ensures counts { self.new.counts.items ≡ self.old.counts.items }
+        ensures findings { (k : ℕ) → finding_at self.new.findings.items k ≡ empty_finding }
+    {
+        self.counting = false;
         for _ in 0..self.findings.len() {
             let Some(index) = self.shown.least_common(&self.shown) else {
                 break;
             };
+            self.findings[index] = Finding::empty();
             self.shown = self.shown.without(index);
-            if let Some(finding) = self.findings.get_mut(index) {
-                *finding = Finding::empty();
-            }
         }
     }
 
     // Notes what was found of a channel in the cycle that goes on.
-    pub(crate) fn note(&mut self, index: usize, finding: Finding)
+    fn note(&mut self, index: usize, finding: Finding)
         requires exists { index < vec_len self.old.counts }
         requires small { index < 56 }
-        ensures { vec_len self.new.counts ≡ vec_len self.old.counts }
+        requires fresh { (finding_at self.old.findings.items index).verdict ≡ Verdict.Empty }
+        ensures size { vec_len self.new.counts ≡ vec_len self.old.counts }
+        ensures cycles { self.new.cycles ≡ self.old.cycles }
+        ensures counting { self.new.counting ≡ self.old.counting }
+        ensures begun { self.new.begun ≡ self.old.begun }
+        ensures findings { self.new.findings.items ≡ slice_set self.old.findings.items index finding }
+        ensures here { others_at self.new.counts.items index ≡ (if self.old.counting then risen_at (column finding.verdict) (others_at self.old.counts.items index) else others_at self.old.counts.items index) }
+        ensures elsewhere { (k : ℕ) → (k == index) ≡ false → others_at self.new.counts.items k ≡ others_at self.old.counts.items k }
     {
+        raise(&mut self.counts[index], finding.verdict, self.counting);
         self.shown = self.shown.with(index);
         self.findings[index] = finding;
-        if self.counting {
-            let count = &mut self.counts[index][finding.verdict as usize];
-            *count = count.saturating_add(1);
-        }
     }
 
     // How often each verdict was that of a channel, in the order of the verdicts.
     pub(crate) fn counts(&self, index: usize) -> [u64; VERDICTS]
         requires { index < vec_len self.now.counts }
+        ensures { result ≡ slice_index_or (map (counts_in self.now.cycles) self.now.counts.items) index [] }
     {
         let mut counts = self.counts[index];
         let mut others = 0u64;
@@ -88,5 +139,17 @@ impl Tally {
         ensures { result.now ≡ (if self.now.begun then self.now.findings.items else []) }
     {
         if self.begun { &self.findings } else { &[] }
+    }
+}
+
+// One more of a verdict, where the cycle counts. The count of Empty is not read.
+fn raise(counts: &mut [u64; VERDICTS], verdict: Verdict, counting: bool)
+    requires room { counting ≡ true → sum (drop 1 counts.old) < 2 ^ 64 - 1 }
+    ensures length { length counts.new ≡ 10 }
+    ensures others { drop 1 counts.new ≡ (if counting then risen_at (column verdict) (drop 1 counts.old) else drop 1 counts.old) }
+{
+    if counting {
+        let count = &mut counts[verdict as usize];
+        *count = count.saturating_add(1);
     }
 }

@@ -39,8 +39,13 @@ pub struct Finding {
 }
 
 impl Finding {
+    ghost use Rattle.std.specs.Prelude.{◌≡◌};
+    ghost use Rattle.noc_router.specs.Found.{empty_finding};
+
     /// What is found of a channel that holds nothing.
-    pub(crate) fn empty() -> Finding {
+    pub(crate) fn empty() -> Finding
+        ensures { result ≡ empty_finding }
+    {
         Finding {
             verdict: Verdict::Empty,
             packet: None,

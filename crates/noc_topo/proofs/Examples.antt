@@ -1,5 +1,5 @@
 -- Small shapes, computed.
-use Rattle.std.proofs.Common.{◌≡◌, ℕ, true, false, List, [], ◌∷◌, map, Option, Some, None, Result, Ok, Err, refl}
+use Rattle.std.proofs.Common.{◌≡◌, true, false, [], ◌∷◌, map, Some, None, Ok, Err, refl}
 use Rattle.noc_topo.specs.Words.{below, tabulate, least_by}
 use Rattle.noc_topo.specs.Shape.{Grid, shape_of, neighbour, distance, coordinates, padded}
 use Rattle.noc_topo.specs.declared.shape.Kind.TheVariants.{Mesh, Torus}

@@ -1,4 +1,5 @@
 pub mod ShapeLemmas
 pub mod LinkLemmas
 pub mod WordLemmas
+pub mod DistanceLemmas
 mod Examples

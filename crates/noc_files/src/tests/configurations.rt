@@ -120,7 +120,7 @@ fn values_of_another_type(rt: HostRuntime) -> Result<(), Fail> {
 }
 
 #[test]
-fn values_out_of_range(rt: HostRuntime) -> Result<(), Fail> {
+fn words_and_radices_out_of_range(rt: HostRuntime) -> Result<(), Fail> {
     let a = rt.alloc();
     for (text, key) in [
         (b"kind = \"Mesh\"".as_slice(), Key::Kind),
@@ -130,6 +130,16 @@ fn values_out_of_range(rt: HostRuntime) -> Result<(), Fail> {
             Key::Radix,
         ),
         (b"kind = \"mesh\"\nradix = [2, 1001]".as_slice(), Key::Radix),
+    ] {
+        assert_eq!(rt; cycles(a, text), Err(InputFault::BadValue(key)));
+    }
+    Ok(())
+}
+
+#[test]
+fn numbers_out_of_range(rt: HostRuntime) -> Result<(), Fail> {
+    let a = rt.alloc();
+    for (text, key) in [
         (
             b"kind = \"mesh\"\nradix = [2]\nchannels = 5".as_slice(),
             Key::Channels,

@@ -63,7 +63,7 @@ fn the_rows_of_a_table(rt: HostRuntime) -> Result<(), Fail> {
 }
 
 #[test]
-fn tables_with_faults(rt: HostRuntime) -> Result<(), Fail> {
+fn tables_with_another_header_or_count(rt: HostRuntime) -> Result<(), Fail> {
     let a = rt.alloc();
     let shape = Shape::new(Kind::Torus, &[3, 3])?;
     for (text, fault) in [
@@ -80,6 +80,25 @@ fn tables_with_faults(rt: HostRuntime) -> Result<(), Fail> {
             b"class,router,in_port,in_vc,dst,out_port,out_vc\n0,0,local,0,1,+0\n".as_slice(),
             InputFault::BadCount { row: 0 },
         ),
+    ] {
+        assert_eq!(rt; count(a, &shape, text), Err(fault));
+    }
+    assert_eq!(rt;
+        count(
+            a,
+            &shape,
+            b"class,router,in_port,in_vc,dst,out_port,out_vc\r\n\r\n0,0,\"-1\",0,1,local,0"
+        ),
+        Ok(1)
+    );
+    Ok(())
+}
+
+#[test]
+fn tables_with_bad_fields(rt: HostRuntime) -> Result<(), Fail> {
+    let a = rt.alloc();
+    let shape = Shape::new(Kind::Torus, &[3, 3])?;
+    for (text, fault) in [
         (
             b"class,router,in_port,in_vc,dst,out_port,out_vc\n0,0,local,0,1,+1,0\n0,0,+2,x,1,+0,0\n".as_slice(),
             InputFault::BadPort { row: 1, column: 2 },
@@ -111,14 +130,6 @@ fn tables_with_faults(rt: HostRuntime) -> Result<(), Fail> {
     ] {
         assert_eq!(rt; count(a, &shape, text), Err(fault));
     }
-    assert_eq!(rt;
-        count(
-            a,
-            &shape,
-            b"class,router,in_port,in_vc,dst,out_port,out_vc\r\n\r\n0,0,\"-1\",0,1,local,0"
-        ),
-        Ok(1)
-    );
     Ok(())
 }
 

@@ -100,7 +100,7 @@ fn rows_with_another_number_of_fields(rt: HostRuntime) -> Result<(), Fail> {
 }
 
 #[test]
-fn fields_that_are_no_number(rt: HostRuntime) -> Result<(), Fail> {
+fn fields_with_other_bytes_than_digits(rt: HostRuntime) -> Result<(), Fail> {
     let a = rt.alloc();
     for (text, row, column) in [
         (
@@ -123,6 +123,16 @@ fn fields_that_are_no_number(rt: HostRuntime) -> Result<(), Fail> {
             0,
             4,
         ),
+    ] {
+        assert_eq!(rt; count(a, text), Err(InputFault::BadNumber { row, column }));
+    }
+    Ok(())
+}
+
+#[test]
+fn fields_with_too_many_digits_or_none(rt: HostRuntime) -> Result<(), Fail> {
+    let a = rt.alloc();
+    for (text, row, column) in [
         (
             b"source,destination,class,length,due\n0,4294967296,0,1,\n".as_slice(),
             0,

@@ -1,6 +1,5 @@
-use Rattle.std.proofs.Common.{◌<◌, Ok, ap, arith}
+use Rattle.std.proofs.Common.{◌<◌, Ok, arith}
 use Rattle.std.proofs.lemmas.Result.{err_from_is_err_and}
-use Rattle.noc_topo.specs.Shape.{Grid, ports}
 use Rattle.noc_files.specs.Findings.{found_line}
 use Rattle.noc_files.proofs.BelowFacts.{fault_at_number, puts_no_number, puts_number}
 use Rattle.noc_files.proofs.findings.put_channels.Goals as goal

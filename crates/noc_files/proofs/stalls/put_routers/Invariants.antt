@@ -1,5 +1,12 @@
-use Rattle.std.proofs.Common.{◌≤◌, ◌+◌, ◌*◌}
+use Rattle.std.proofs.Common.{ℕ, List, ◌≤◌, ◌+◌, ◌*◌, Ok, flat_map}
+use Rattle.noc_topo.specs.Words.{below}
+use Rattle.noc_files.specs.Channels.{over_router}
+use Rattle.noc_files.specs.Stalls.{channel_line}
+use Rattle.noc_files.specs.Writing.{Puts}
 use Rattle.noc_files.proofs.stalls.put_routers.Given as goal
 
 abbrev pub invariant-loop-router : goal.invariant-loop-router
-invariant-loop-router g l = l.written ≤ l.before + 14448 * l.router
+invariant-loop-router g l = record {
+  puts : (counts : ℕ → ℕ → ℕ → List ℕ) × Puts g.W.Sink.contents g.W.Sink.has_failed l.fn.sink l.sink l.before (flat_map (λ router. (λ (router : ℕ) (counts : ℕ → ℕ → List ℕ). over_router l.network.net.relation router (λ p vc. channel_line l.network.net.relation.grid router p vc (counts p vc))) router (counts router)) (below l.router)) (Ok l.written);
+  short : l.written ≤ l.before + 14448 * l.router;
+}

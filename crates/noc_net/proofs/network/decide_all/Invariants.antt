@@ -1,9 +1,18 @@
-use Rattle.std.specs.List.{All}
+use Rattle.std.proofs.Common.{◌≡◌, ℕ, ◌≤◌, List, [], get_or}
+use Rattle.std.specs.List.{AllWithin}
 use Rattle.noc_topo.specs.Shape.{ports}
+use Rattle.noc_packet.specs.declared.packet.Beat.{Beat}
 use Rattle.noc_router.specs.Decided.{IsDecidedFor}
-use Rattle.noc_router.specs.View.{View, IsRelationOf}
+use Rattle.noc_router.specs.View.{View}
+use Rattle.noc_net.specs.Halves.{IsSilent, decided, incoming}
+use Rattle.noc_net.proofs.ListLemmas.{IsDoneTo}
 use Rattle.noc_net.proofs.network.decide_all.Given as goal
 
--- the routers stay where they are, and the plan stays as large
+-- the routers before this node have decided
 abbrev pub invariant-loop-node : goal.invariant-loop-node
-invariant-loop-node l = All (λ (v : View). IsRelationOf l.relation v) l.routers × IsDecidedFor (ports l.relation.grid) l.relation.vcs l.plan
+invariant-loop-node l = record {
+  plan : IsDecidedFor (ports l.relation.grid) l.relation.vcs l.plan;
+  routers : IsDoneTo (λ (r : ℕ) (v : View). decided l.relation l.cycle (incoming l.relation.grid (get_or l.initial.beats r [])) v) l.initial.routers l.routers l.node;
+  silent : AllWithin IsSilent l.beats 0 l.node;
+  behind : (r : ℕ) (d : List Beat) → l.node ≤ r → get_or l.beats r d ≡ get_or l.initial.beats r d;
+}

@@ -1,7 +1,14 @@
-use Rattle.std.specs.List.{All}
-use Rattle.noc_router.specs.View.{View, IsRelationOf}
+use Rattle.std.proofs.Common.{◌≡◌, ℕ, ◌<◌, map}
+use Rattle.noc_topo.specs.Shape.{nodes, neighbour}
+use Rattle.noc_router.specs.View.{View}
+use Rattle.noc_net.specs.Halves.{beat_at, emptied}
+use Rattle.noc_net.proofs.ListLemmas.{IsDoneTo}
+use Rattle.noc_net.proofs.WireLemmas.{put_by}
 use Rattle.noc_net.proofs.network.deliver_all.Given as goal
 
--- the routers stay where they are
+-- the routers before this node have put their beats
 abbrev pub invariant-loop-node : goal.invariant-loop-node
-invariant-loop-node l = All (λ (v : View). IsRelationOf l.relation v) l.routers
+invariant-loop-node l = record {
+  routers : IsDoneTo (λ (r : ℕ) (v : View). emptied v) l.initial.routers l.routers l.node;
+  beats : (r port : ℕ) → r < nodes l.relation.grid → beat_at l.beats r port ≡ put_by l.node (map (λ (v : View). v.to_put) l.initial.routers) (neighbour l.relation.grid r port);
+}

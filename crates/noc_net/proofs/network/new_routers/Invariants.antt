@@ -1,8 +1,10 @@
-use Rattle.std.proofs.Common.{◌≡◌, vec_len}
-use Rattle.std.specs.List.{All}
-use Rattle.noc_router.specs.View.{View, IsRelationOf}
+use Rattle.std.proofs.Common.{◌≡◌, ℕ}
+use Rattle.noc_topo.specs.Words.{tabulate}
+use Rattle.noc_router.specs.View.{opening_view}
+use Rattle.noc_net.specs.Lockstep.{starts_of, ends_of}
 use Rattle.noc_net.proofs.network.new_routers.Given as goal
 
--- a router of the relation for each node so far
+-- a router for each node so far
 abbrev pub invariant-loop-node : goal.invariant-loop-node
-invariant-loop-node l = (vec_len l.routers ≡ l.node) × All (λ (v : View). IsRelationOf l.relation v) l.routers.items
+invariant-loop-node l =
+    l.routers.items ≡ tabulate l.node (λ (node : ℕ). opening_view (record { grid = l.relation.grid; node = node; vcs = l.relation.vcs; places = l.places }) (starts_of l.packets node) (ends_of l.packets node))

@@ -6,5 +6,5 @@ use Rattle.noc_route.proofs.frame.Frame.block_parts.Goals as goal
 
 pub returns-clause-range : goal.returns-clause-range
 returns-clause-range c =
-    rw c.nodes-nodes.ensures.value
+    rw c.args.self.now.all_nodes
     (mod-lt _ (omega arith), block-router c.args.block (nodes c.args.self.now.shape) c.args.self.now.classes (omega arith) (omega arith) c.requires, mod-lt _ (omega arith))

@@ -5,11 +5,11 @@ use Rattle.noc_route.proofs.PlaceLemmas.{set_at-existing}
 use Rattle.noc_route.proofs.relation.Relation.permitted.Goals as goal
 
 pub index-requires : goal.index-requires
-index-requires c = omega (arith, c.self.invariant.long, c.place.ensures.within)
+index-requires c = omega (arith, c.self.invariant.table.long, c.place.ensures.within)
 
 pub returns-clause-value : goal.returns-clause-value
 returns-clause-value c =
-    let within : c.place.result < length c.self.inside.sets.items = omega (arith, c.self.invariant.long, c.place.ensures.within) in
+    let within : c.place.result < length c.self.inside.sets.items = omega (arith, c.self.invariant.table.long, c.place.ensures.within) in
     c.index.ensures
     ∙ get_or_default c.self.inside.sets.items c.place.result c.index.result.now 0 within
     ∙ ap (λ i. get_or c.self.inside.sets.items i 0) c.place.ensures.value

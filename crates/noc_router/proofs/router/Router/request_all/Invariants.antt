@@ -1,9 +1,22 @@
-use Rattle.noc_topo.specs.Shape.{ports}
-use Rattle.noc_router.specs.Decided.{IsDecidedFor}
+use Rattle.std.proofs.Common.{◌≡◌}
+use Rattle.std.specs.Prelude.{None, not}
+use Rattle.noc_vc.specs.Input.{is_empty}
 use Rattle.noc_router.specs.Members.{AreBelow}
-use Rattle.noc_router.specs.View.{size_of}
+use Rattle.noc_router.specs.Requests.{IsFilled}
+use Rattle.noc_router.specs.Verdict.{ask_of, ready_port}
+use Rattle.noc_router.specs.View.{route_of, size_of, view_buffer, view_claim}
 use Rattle.noc_router.proofs.router.Router.request_all.Given as goal
 
--- the rest are channels of the router, and the plan stays as large
-abbrev pub invariant-loop : goal.invariant-loop
-invariant-loop l = AreBelow (size_of l.self.site) l.rest × IsDecidedFor (ports l.self.site.grid) l.self.site.vcs l.plan
+-- the requests of the channels that are not in the rest are there, and those of the rest are not
+abbrev pub invariant-loop-index : goal.invariant-loop-index
+invariant-loop-index l = record {
+  within : AreBelow (size_of l.self.site) l.rest;
+  ports : l.requests.ports ≡ l.initial.requests.ports;
+  size : l.requests.size ≡ l.initial.requests.size;
+  routes : IsFilled (size_of l.self.site) l.rest 0 (route_of l.relation l.self) l.requests.routes.items;
+  asks : IsFilled (size_of l.self.site) l.rest None (λ k. ask_of (view_claim l.self k)) l.requests.asks.items;
+  ready : IsFilled (size_of l.self.site) l.rest None (λ k. ready_port l.self.site.vcs (view_claim l.self k) (not (is_empty (view_buffer l.self k)))) l.requests.ready.items;
+}
+
+abbrev pub decreases-loop-index : goal.decreases-loop-index
+decreases-loop-index l = l.rest

@@ -1,0 +1,4 @@
+pub mod MemoryFacts
+pub mod NamedFacts
+pub mod WritingFacts
+pub mod AnswerLaws

@@ -1,0 +1,7 @@
+use Rattle.std.proofs.Common.{◌≡◌, take}
+use Rattle.noc_net.specs.Readings.{latest_of}
+use Rattle.noc_net.proofs.network.latest_event.Given as goal
+
+-- the latest of the routers so far
+abbrev pub invariant-loop-router : goal.invariant-loop-router
+invariant-loop-router l = l.last ≡ latest_of (take l.router-index l.routers)

@@ -1,0 +1,4 @@
+pub mod PlaceLemmas
+pub mod RowLemmas
+pub mod FormulaLemmas
+pub mod FallLemmas

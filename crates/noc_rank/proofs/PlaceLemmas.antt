@@ -1,0 +1,109 @@
+-- Places of link channels, and the order of numbers with many digits.
+use Rattle.std.proofs.Common.{◌≡◌, ℕ, zero, suc, ◌+◌, ◌*◌, ◌/◌, ◌%◌, ◌<◌, true, List, [], ◌∷◌, ◌++◌, length, get_or, refl, arith, inl, inr}
+use Rattle.std.proofs.Math.Nat.{div-lt_iff_lt-mul, mod-lt, zero-mul, mul_comm}
+use Rattle.std.specs.Prelude.{nat_lt, nat_eq, ◌&&◌, ◌⊎◌, is_some}
+use Rattle.std.proofs.lemmas.Bool.{lt-ltb, ltb-true, eqb-true, and_parts, or_cases, false≢true}
+use Rattle.noc_topo.specs.Shape.{Grid, nodes, local_port, neighbour}
+use Rattle.noc_topo.proofs.LinkLemmas.{IsWithin}
+use Rattle.noc_route.specs.Order.{numbers_before}
+use Rattle.noc_route.proofs.PlaceLemmas.{flat-below, flat-div, flat-mod}
+use Rattle.noc_rank.specs.Ranking.{is_place, is_channel, places, place_of}
+
+-- ---- numbers with digits of different bases
+
+-- the number with these digits after a
+abbrev pub flat : ℕ → List ℕ → List ℕ → ℕ
+flat a [] xs = a
+flat a (k ∷ ks) [] = a
+flat a (k ∷ ks) (x ∷ xs) = flat (a * k + x) ks xs
+
+pub flat-rises : (a b : ℕ) (ks xs ys : List ℕ) → IsWithin ks xs → IsWithin ks ys → a < b → flat a ks xs < flat b ks ys
+flat-rises a b [] [] [] w u l = l
+flat-rises a b (k ∷ ks) (x ∷ xs) (y ∷ ys) w u l =
+    let below : a * k + x < b * k = flat-below a b x k l w.0 in
+    flat-rises (a * k + x) (b * k + y) ks xs ys w.1 u.1 (omega arith)
+flat-rises a b [] (x ∷ xs) ys w u l = elim w [ ]
+flat-rises a b [] [] (y ∷ ys) w u l = elim u [ ]
+flat-rises a b (k ∷ ks) [] ys w u l = elim w [ ]
+flat-rises a b (k ∷ ks) (x ∷ xs) [] w u l = elim u [ ]
+
+-- what comes before by its digits is less
+pub flat-before : (a : ℕ) (ks xs ys : List ℕ) → IsWithin ks xs → IsWithin ks ys → numbers_before xs ys ≡ true → flat a ks xs < flat a ks ys
+flat-before a [] [] [] w u e = absurd (false≢true e)
+flat-before a (k ∷ ks) (x ∷ xs) (y ∷ ys) w u e = at (flat-before (a * k + y) ks xs ys w.1 u.1) (or_cases (nat_lt x y) (nat_eq x y && numbers_before xs ys) e)
+  where
+    at : (numbers_before xs ys ≡ true → flat (a * k + y) ks xs < flat (a * k + y) ks ys) → (nat_lt x y ≡ true) ⊎ ((nat_eq x y && numbers_before xs ys) ≡ true) → flat (a * k + x) ks xs < flat (a * k + y) ks ys
+    at more (inl less) = flat-rises (a * k + x) (a * k + y) ks xs ys w.1 u.1 (omega (arith, ltb-true x y less))
+    at more (inr rest) =
+        let parts = and_parts (nat_eq x y) (numbers_before xs ys) rest in
+        rw (eqb-true x y parts.0) (more parts.1)
+flat-before a [] (x ∷ xs) ys w u e = elim w [ ]
+flat-before a [] [] (y ∷ ys) w u e = elim u [ ]
+flat-before a (k ∷ ks) [] ys w u e = elim w [ ]
+flat-before a (k ∷ ks) (x ∷ xs) [] w u e = elim u [ ]
+
+-- ---- places
+
+pub is_place-parts : (g : Grid) (vcs r p v : ℕ) → is_place g vcs r p v ≡ true → (r < nodes g) × (p < local_port g) × (v < vcs)
+is_place-parts g vcs r p v e =
+    let a = and_parts (nat_lt r (nodes g) && nat_lt p (local_port g)) (nat_lt v vcs) e in
+    let b = and_parts (nat_lt r (nodes g)) (nat_lt p (local_port g)) a.0 in
+    (ltb-true r (nodes g) b.0, ltb-true p (local_port g) b.1, ltb-true v vcs a.1)
+
+pub is_place-true : (g : Grid) (vcs r p v : ℕ) → r < nodes g → p < local_port g → v < vcs → is_place g vcs r p v ≡ true
+is_place-true g vcs r p v a b c =
+    let r_ok = lt-ltb r (nodes g) a in
+    let p_ok = lt-ltb p (local_port g) b in
+    let v_ok = lt-ltb v vcs c in
+    rw (r_ok, p_ok, v_ok) refl
+
+pub is_channel-place : (g : Grid) (vcs r p v : ℕ) → is_channel g vcs r p v ≡ true → is_place g vcs r p v ≡ true
+is_channel-place g vcs r p v e = (and_parts (is_place g vcs r p v) (is_some (neighbour g r p)) e).0
+
+pub place-below : (g : Grid) (vcs r p v : ℕ) → is_place g vcs r p v ≡ true → place_of g vcs r p v < places g vcs
+place-below g vcs r p v e =
+    let parts = is_place-parts g vcs r p v e in
+    flat-below (r * local_port g + p) (nodes g * local_port g) v vcs (flat-below r (nodes g) p (local_port g) parts.0 parts.1) parts.2
+
+-- the channel of a place
+pub place-vc : (g : Grid) (vcs r p v : ℕ) → v < vcs → place_of g vcs r p v % vcs ≡ v
+place-vc g vcs r p v l = flat-mod (r * local_port g + p) vcs v l
+
+pub place-port : (g : Grid) (vcs r p v : ℕ) → p < local_port g → v < vcs → place_of g vcs r p v / vcs % local_port g ≡ p
+place-port g vcs r p v k l = rw (flat-div (r * local_port g + p) vcs v l) (flat-mod r (local_port g) p k)
+
+pub place-router : (g : Grid) (vcs r p v : ℕ) → p < local_port g → v < vcs → place_of g vcs r p v / vcs / local_port g ≡ r
+place-router g vcs r p v k l = rw (flat-div (r * local_port g + p) vcs v l) (flat-div r (local_port g) p k)
+
+pub div-mod : (x n : ℕ) → 0 < n → x / n * n + x % n ≡ x
+div-mod x n l = omega (arith, mul_comm (x / n) n)
+
+-- the place of the channel of a place
+pub place-again : (g : Grid) (vcs k : ℕ) → 0 < vcs → 0 < local_port g → place_of g vcs (k / vcs / local_port g) (k / vcs % local_port g) (k % vcs) ≡ k
+place-again g vcs k l m = rw (div-mod (k / vcs) (local_port g) m) (div-mod k vcs l)
+
+pub is_place-decoded : (g : Grid) (vcs k : ℕ) → 0 < vcs → 0 < local_port g → k < places g vcs → is_place g vcs (k / vcs / local_port g) (k / vcs % local_port g) (k % vcs) ≡ true
+is_place-decoded g vcs k l m few =
+    let pair : k / vcs < nodes g * local_port g = (div-lt_iff_lt-mul {k = vcs} {x = k} {y = nodes g * local_port g} l).1 few in
+    let router : k / vcs / local_port g < nodes g = (div-lt_iff_lt-mul {k = local_port g} {x = k / vcs} {y = nodes g} m).1 pair in
+    is_place-true g vcs _ _ _ router (mod-lt (k / vcs) m) (mod-lt k l)
+
+-- the place of what comes before comes before
+pub place-before : (g : Grid) (vcs a q w r p v : ℕ) → is_place g vcs a q w ≡ true → is_place g vcs r p v ≡ true
+    → numbers_before (a ∷ q ∷ w ∷ []) (r ∷ p ∷ v ∷ []) ≡ true → place_of g vcs a q w < place_of g vcs r p v
+place-before g vcs a q w r p v d e before =
+    let here = is_place-parts g vcs a q w d in
+    let there = is_place-parts g vcs r p v e in
+    let ks = nodes g ∷ local_port g ∷ vcs ∷ [] in
+    let l : flat 0 ks (a ∷ q ∷ w ∷ []) < flat 0 ks (r ∷ p ∷ v ∷ []) = flat-before 0 ks (a ∷ q ∷ w ∷ []) (r ∷ p ∷ v ∷ []) (here.0, (here.1, (here.2, tt))) (there.0, (there.1, (there.2, tt))) before in
+    let first : (n x : ℕ) → 0 * n + x ≡ x = λ n x. omega (arith, zero-mul n) in
+    rw (first (nodes g) a, first (nodes g) r) at l
+
+-- ---- lists that grow
+
+-- what holds of each element so far, by its place, and of one more
+pub each-push : (P : ℕ → ℕ → Type 0) (xs : List ℕ) (x : ℕ) → ((k : ℕ) → k < length xs → P k (get_or xs k 0)) → P (length xs) x → (k : ℕ) → k < length xs + 1 → P k (get_or (xs ++ x ∷ []) k 0)
+each-push P [] x all last zero l = last
+each-push P [] x all last (suc k) l = absurd (omega arith)
+each-push P (y ∷ xs) x all last zero l = all zero (omega arith)
+each-push P (y ∷ xs) x all last (suc k) l = each-push (λ i. P (suc i)) xs x (λ i m. all (suc i) (omega arith)) last k (omega arith)

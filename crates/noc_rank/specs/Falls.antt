@@ -1,0 +1,89 @@
+-- Steps that do not rise, entry by entry.
+use Rattle.std.specs.Prelude.{◌≡◌, ℕ, ◌*◌, ◌/◌, ◌%◌, ◌<◌, Bool, true, false, ◌&&◌, List, length, slice_index_or, Option, Some, None, option_map, nat_eq, nat_le, if◌then◌else◌}
+use Rattle.noc_packet.specs.Set.{has_bit}
+use Rattle.noc_topo.specs.Shape.{nodes, ports, local_port, neighbour}
+use Rattle.noc_route.specs.Routes.{Routes, set_at}
+use Rattle.noc_rank.specs.declared.rising.Fall.{Fall}
+use Rattle.noc_rank.specs.declared.fault.RankFault.{RankFault}
+use Rattle.noc_rank.specs.declared.fault.RankFault.TheVariants.{NotRising}
+use Rattle.noc_rank.specs.Ranking.{Ranking, rank_at}
+
+-- the rank of an input channel: that of the link channel that arrives there, or 0 at the local port; none without a link
+abbrev pub arrival_rank : Ranking → ℕ → ℕ → ℕ → Option ℕ
+arrival_rank k r q w =
+    if nat_eq q (local_port k.grid) then Some 0 else option_map (λ (from : ℕ × ℕ). rank_at k from.0 from.1 w) (neighbour k.grid r q)
+
+-- whether a set of router r has output channel number i, whose rank is not greater
+abbrev pub falls_to : Ranking → ℕ → ℕ → ℕ → ℕ → Bool
+falls_to k r set before i = has_bit set i && nat_le (rank_at k r (i / k.vcs) (i % k.vcs)) before
+
+-- the same where the packet came on a channel of this rank, if there is one
+abbrev pub falls_from : Ranking → ℕ → ℕ → Option ℕ → ℕ → Bool
+falls_from k r set None i = false
+falls_from k r set (Some before) i = falls_to k r set before i
+
+-- how many output channels on link ports a router has
+abbrev pub links : Ranking → ℕ
+links k = local_port k.grid * k.vcs
+
+-- the parts of the number of a class and an input channel of the network
+abbrev pub class_of : Ranking → ℕ → ℕ
+class_of k e = e / k.vcs / ports k.grid / nodes k.grid
+
+abbrev pub router_of : Ranking → ℕ → ℕ
+router_of k e = e / k.vcs / ports k.grid % nodes k.grid
+
+abbrev pub port_of : Ranking → ℕ → ℕ
+port_of k e = e / k.vcs % ports k.grid
+
+-- how many input channels the network has, with a link or without
+abbrev pub inputs : Ranking → ℕ
+inputs k = nodes k.grid * ports k.grid * k.vcs
+
+-- whether a packet of that class that came by that input channel, bound for t, may go on by output channel i without a rise
+abbrev pub falls_at : Routes → Ranking → ℕ → ℕ → ℕ → Bool
+falls_at routes k e t i =
+    falls_from k (router_of k e) (set_at routes (class_of k e) (router_of k e) (port_of k e) (e % k.vcs) t) (arrival_rank k (router_of k e) (port_of k e) (e % k.vcs)) i
+
+-- the fault that names a fall
+abbrev pub fault_of_fall : Fall → RankFault
+fault_of_fall fall =
+    NotRising (record { class = fall.step.class; router = fall.step.router; in_port = fall.step.in_port; in_vc = fall.step.in_vc; dst = fall.step.dst })
+    fall.step.out_port fall.step.out_vc fall.rank fall.next
+
+-- the least number below n with this property
+pub record IsLeastBelow (has : ℕ → Bool) (n i : ℕ) : Type 0 where
+  pub inside : i < n
+  pub holds : has i ≡ true
+  pub none : (j : ℕ) → j < i → has j ≡ false
+
+abbrev pub HasNone : (ℕ → Bool) → ℕ → Type 0
+HasNone has n = (j : ℕ) → j < n → has j ≡ false
+
+-- the first step from this entry that does not rise, over all destinations, and the ranks before and after it
+pub record IsFirstFrom (routes : Routes) (k : Ranking) (m r q w before : ℕ) (fall : Fall) : Type 0 where
+  pub index : ℕ
+  pub dst : ℕ
+  pub exists : dst < nodes k.grid
+  pub step : fall.step ≡ record { class = m; router = r; in_port = q; in_vc = w; dst = dst; out_port = index / k.vcs; out_vc = index % k.vcs }
+  pub rank : fall.rank ≡ before
+  pub next : fall.next ≡ rank_at k r (index / k.vcs) (index % k.vcs)
+  pub least : IsLeastBelow (falls_to k r (set_at routes m r q w dst) before) (links k) index
+  pub earlier : (t : ℕ) → t < dst → HasNone (falls_to k r (set_at routes m r q w t) before) (links k)
+
+-- each step at this number rises
+abbrev pub HasNoFall : Routes → Ranking → ℕ → Type 0
+HasNoFall routes k e = (t : ℕ) → t < nodes k.grid → HasNone (falls_at routes k e t) (links k)
+
+-- the first step at this number that does not rise
+pub record IsFirstAt (routes : Routes) (k : Ranking) (e : ℕ) (fall : Fall) : Type 0 where
+  pub before : ℕ
+  pub arrival : arrival_rank k (router_of k e) (port_of k e) (e % k.vcs) ≡ Some before
+  pub first : IsFirstFrom routes k (class_of k e) (router_of k e) (port_of k e) (e % k.vcs) before fall
+
+-- the first fall of a list
+pub record IsFirstOf (falls : List (Option Fall)) (fall : Fall) : Type 0 where
+  pub place : ℕ
+  pub inside : place < length falls
+  pub there : slice_index_or falls place None ≡ Some fall
+  pub first : (j : ℕ) → j < place → slice_index_or falls j None ≡ None

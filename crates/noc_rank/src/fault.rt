@@ -1,0 +1,51 @@
+//! What can be wrong with ranks.
+
+use noc_route::Entry;
+use std::alloc::AllocError;
+
+/// Why there are no ranks, or why a relation is not accepted.
+#[derive(Clone, Copy, Debug, PartialEq, Eq)]
+pub enum RankFault {
+    /// The rule has no ranks by formula, or does not fit the numbers of channels and classes or the shape.
+    NoGenerated,
+    /// A packet at this entry may go on by this link channel, whose rank `next` is not greater than `rank`, that of the
+    /// channel on which the packet is.
+    NotRising {
+        entry: Entry,
+        out_port: usize,
+        out_vc: usize,
+        rank: u32,
+        next: u32,
+    },
+    /// Memory was refused.
+    Memory,
+    /// The row, counted from 0, names no link channel of the shape.
+    UnknownChannel {
+        row: usize,
+    },
+    /// A row before this one, counted from 0, names the same channel.
+    DoubleChannel {
+        row: usize,
+    },
+    /// The rank of this row, counted from 0, is not 1 to 1,000,000.
+    BadRank {
+        row: usize,
+    },
+    /// No row names this link channel.
+    MissingChannel {
+        router: usize,
+        port: usize,
+        vc: usize,
+    },
+}
+
+impl From<AllocError> for RankFault {
+    ghost use Rattle.std.specs.Prelude.{◌≡◌};
+    ghost use Rattle.noc_rank.specs.declared.fault.RankFault.TheVariants.{Memory};
+
+    ghost from_gives = { λ _ e. e ≡ Memory };
+
+    fn from(_e: AllocError) -> RankFault {
+        RankFault::Memory
+    }
+}

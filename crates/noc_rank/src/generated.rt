@@ -1,0 +1,180 @@
+//! Ranks by formula: the order of channels behind each rule's freedom from deadlock (Dally and Towles, chapter 14).
+
+ghost use Rattle.std.specs.Prelude.{◌≡◌, ℕ, ◌+◌, ◌*◌, ◌/◌, ◌%◌, ◌<◌, ◌≤◌, IfOk, true, false, slice_index, vec_len};
+ghost use Rattle.noc_topo.specs.Shape.{IsGrid, nodes, dimensions, coordinates, local_port};
+ghost use Rattle.noc_packet.specs.declared.limits.TheConstants.{MAX_CHANNELS, MAX_CLASSES};
+ghost use Rattle.noc_route.specs.Relation.{resource_class};
+ghost use Rattle.noc_rank.specs.Ranking.{is_channel, places};
+ghost use Rattle.noc_rank.specs.Formulas.{has_ranks, passed_in, west_first_rank, formula, formula_at};
+
+use crate::place::{all_ports, is_channel, link_ports};
+use noc_packet::{MAX_CHANNELS, MAX_CLASSES};
+use noc_route::Rule;
+use noc_topo::Shape;
+use std::alloc::{AllocError, Global};
+
+/// Whether the shape is a torus: the last node has a link up in dimension 0.
+fn is_torus(shape: &Shape) -> bool
+    ensures { result ≡ shape.now.wraps }
+{
+    shape.neighbour(shape.nodes() - 1, 0).is_some()
+}
+
+/// Whether a rule fits these numbers and has ranks by formula: dimension order on a mesh, dateline and west first.
+pub fn has_ranks(shape: &Shape, vcs: usize, classes: usize, rule: &Rule) -> bool
+    ensures { result ≡ has_ranks shape.now vcs classes rule.now }
+{
+    if vcs == 0 || vcs > MAX_CHANNELS || classes == 0 || classes > MAX_CLASSES {
+        return false;
+    }
+    if vcs % classes != 0 {
+        return false;
+    }
+    match rule {
+        Rule::Dor => !is_torus(shape),
+        Rule::Dateline => is_torus(shape) && vcs % (2 * classes) == 0,
+        Rule::WestFirst => !is_torus(shape) && shape.dimensions() == 2,
+        Rule::Rows(_) => false,
+    }
+}
+
+/// The ranks by formula of all places, 0 where a port has no link.
+pub fn formula_ranks(
+    alloc: Global,
+    shape: &Shape,
+    vcs: usize,
+    classes: usize,
+    rule: &Rule,
+) -> Result<Vec<u32>, AllocError>
+    requires { has_ranks shape.now vcs classes rule.now ≡ true }
+    ensures len { IfOk result (λ ranks. vec_len ranks ≡ places shape.now vcs) }
+    ensures grid { IsGrid shape.now }
+    ensures items { IfOk result (λ ranks. (k : ℕ) → k < places shape.now vcs → slice_index ranks.items k ≡ formula_at shape.now vcs classes rule.now (k / vcs / local_port shape.now) (k / vcs % local_port shape.now) (k % vcs)) }
+    ensures some { IfOk result (λ ranks. (k : ℕ) → k < places shape.now vcs → is_channel shape.now vcs (k / vcs / local_port shape.now) (k / vcs % local_port shape.now) (k % vcs) ≡ true → 1 ≤ slice_index ranks.items k) }
+    ensures few { IfOk result (λ ranks. (k : ℕ) → k < places shape.now vcs → slice_index ranks.items k ≤ 1000) }
+{
+    let ports = link_ports(shape);
+    let count = all_ports(shape) * vcs;
+    let mut ranks = Vec::with_capacity(alloc, count)?;
+    for place in 0..count {
+        let (router, port, vc) = (place / vcs / ports, place / vcs % ports, place % vcs);
+        ranks.push(formula_at(shape, vcs, classes, rule, router, port, vc))?;
+    }
+    Ok(ranks)
+}
+
+/// The rank by formula of a channel of a link port, 0 where the port has no link.
+fn formula_at(
+    shape: &Shape,
+    vcs: usize,
+    classes: usize,
+    rule: &Rule,
+    router: usize,
+    port: usize,
+    vc: usize,
+) -> u32
+    requires ruled { has_ranks shape.now vcs classes rule.now ≡ true }
+    requires router { router < nodes shape.now }
+    requires port { port < local_port shape.now }
+    ensures value { result ≡ formula_at shape.now vcs classes rule.now router port vc }
+    ensures some { is_channel shape.now vcs router port vc ≡ true → 1 ≤ result }
+    ensures few { result ≤ 1000 }
+{
+    if !is_channel(shape, vcs, router, port, vc) {
+        return 0;
+    }
+    formula(shape, vcs, classes, rule, router, port, vc) as u32
+}
+
+/// The rank by formula of a link channel, at most 1,000.
+fn formula(
+    shape: &Shape,
+    vcs: usize,
+    classes: usize,
+    rule: &Rule,
+    router: usize,
+    port: usize,
+    vc: usize,
+) -> usize
+    requires ruled { has_ranks shape.now vcs classes rule.now ≡ true }
+    requires router { router < nodes shape.now }
+    requires port { port < local_port shape.now }
+    ensures value { result ≡ formula shape.now vcs classes rule.now router port vc }
+    ensures some { 1 ≤ result }
+    ensures few { result ≤ 1000 }
+{
+    let axis = axis_of(shape, router, port / 2);
+    match rule {
+        Rule::Dateline => {
+            32 * (port / 2) + half_of(vcs, classes, vc) * axis.size + axis.passed(port) + 1
+        }
+        Rule::WestFirst => west_first_rank(shape, router, port),
+        Rule::Dor | Rule::Rows(_) => 32 * (port / 2) + axis.passed(port) + 1,
+    }
+}
+
+/// The half of its class's channels in which a channel is.
+fn half_of(vcs: usize, classes: usize, vc: usize) -> usize
+    requires some { 0 < vcs / classes / 2 }
+    requires few { vcs ≤ 4 }
+    ensures value { result ≡ resource_class vcs classes vc }
+    ensures few { result ≤ 4 }
+{
+    let block = vcs / classes;
+    vc % block / (block / 2)
+}
+
+/// The rank of a link channel by west first: the ports down dimension 0 before all others.
+fn west_first_rank(shape: &Shape, router: usize, port: usize) -> usize
+    requires dimensions { dimensions shape.now ≡ 2 }
+    requires router { router < nodes shape.now }
+    requires port { port < 4 }
+    ensures value { result ≡ west_first_rank shape.now router port }
+    ensures some { 1 ≤ result }
+    ensures few { result ≤ 1000 }
+{
+    let first = axis_of(shape, router, 0);
+    let second = axis_of(shape, router, 1);
+    let start = first.size + first.at * (second.size + 1);
+    match port {
+        0 => start + second.size + 1,
+        1 => first.size - first.at,
+        _ => start + second.passed(port) + 1,
+    }
+}
+
+/// A coordinate in a dimension, with the size of the dimension.
+#[derive(Clone, Copy)]
+struct Axis {
+    at: usize,
+    size: usize,
+    ghost inside: { at < size },
+    ghost few: { size ≤ 16 },
+}
+
+/// The coordinate of a router in a dimension.
+fn axis_of(shape: &Shape, router: usize, dimension: usize) -> Axis
+    requires router { router < nodes shape.now }
+    requires dimension { dimension < dimensions shape.now }
+    ensures at { result.at ≡ slice_index (coordinates shape.now.radix router) dimension }
+    ensures size { result.size ≡ slice_index shape.now.radix dimension }
+    ensures grid { IsGrid shape.now }
+{
+    let at = shape.coordinates(router)[dimension];
+    let last = shape.coordinates(shape.nodes() - 1)[dimension];
+    Axis { at, size: last + 1 }
+}
+
+impl Axis {
+    /// How many routers lie behind this one, seen along a port of its dimension.
+    fn passed(self, port: usize) -> usize
+        ensures value { result ≡ passed_in self.size self.at port }
+        ensures few { result < 16 }
+    {
+        if port % 2 == 0 {
+            self.at
+        } else {
+            self.size - 1 - self.at
+        }
+    }
+}

@@ -1,0 +1,17 @@
+//! Ranks of link channels: given by rows, made by formulas, and checked against a routing relation.
+#![tactic(auto)]
+
+mod fault;
+mod generated;
+mod place;
+mod ranks;
+mod rising;
+mod rows;
+
+pub use fault::RankFault;
+pub use ranks::Ranks;
+pub use rising::{Accepted, check};
+pub use rows::RankRow;
+
+#[cfg(test)]
+mod tests;

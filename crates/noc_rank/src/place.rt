@@ -1,0 +1,46 @@
+//! Link channels, and their places in a list.
+
+ghost use Rattle.std.specs.Prelude.{◌≡◌, ℕ, ◌+◌, ◌*◌, ◌/◌, ◌%◌, ◌<◌, ◌≤◌, true};
+ghost use Rattle.noc_topo.specs.Shape.{IsGrid, nodes, local_port};
+ghost use Rattle.noc_rank.specs.Ranking.{is_place, is_channel, places, place_of};
+
+use noc_topo::Shape;
+
+/// How many link ports a router has, with a link or without: 2 to 6.
+pub fn link_ports(shape: &Shape) -> usize
+    ensures value { result ≡ local_port shape.now }
+    ensures some { 2 ≤ result }
+    ensures few { result ≤ 6 }
+    ensures grid { IsGrid shape.now }
+{
+    shape.ports() - 1
+}
+
+/// How many routers and link ports there are, at most 1,536.
+pub fn all_ports(shape: &Shape) -> usize
+    ensures value { result ≡ nodes shape.now * local_port shape.now }
+    ensures few { result ≤ 1536 }
+    ensures grid { IsGrid shape.now }
+{
+    shape.nodes() * link_ports(shape)
+}
+
+/// Whether a router sends on this channel of this port along a link.
+pub fn is_channel(shape: &Shape, vcs: usize, router: usize, port: usize, vc: usize) -> bool
+    ensures { result ≡ is_channel shape.now vcs router port vc }
+{
+    router < shape.nodes()
+        && port < link_ports(shape)
+        && vc < vcs
+        && shape.neighbour(router, port).is_some()
+}
+
+/// The place of a channel of a link port, by router, port and channel, in a list that has as many as a `usize` can count.
+pub fn place(shape: &Shape, vcs: usize, router: usize, port: usize, vc: usize) -> usize
+    requires place { is_place shape.now vcs router port vc ≡ true }
+    requires few { places shape.now vcs < 18446744073709551616 }
+    ensures value { result ≡ place_of shape.now vcs router port vc }
+    ensures within { result < places shape.now vcs }
+{
+    (router * link_ports(shape) + port) * vcs + vc
+}

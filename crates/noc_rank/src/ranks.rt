@@ -1,0 +1,104 @@
+//! Ranks of the link channels of a network.
+
+ghost use Rattle.std.specs.Prelude.{◌≡◌, ℕ, ◌<◌, ◌≤◌, IfOk, IfErr, true};
+ghost use Rattle.noc_rank.specs.Ranking.{is_place, is_channel, rank_at, IsRanking};
+ghost use Rattle.noc_rank.specs.Formulas.{IsGenerated, IsFaultOfFormula};
+ghost use Rattle.noc_rank.specs.Rows.{IsRankingOf, IsFaultOfRows};
+
+use crate::fault::RankFault;
+use crate::generated::{formula_ranks, has_ranks};
+use crate::place::{all_ports, place};
+use crate::rows::{RankRow, enter, missing};
+use noc_route::Rule;
+use noc_topo::Shape;
+use std::alloc::Global;
+use std::marker::Model;
+
+/// A rank, 1 to 1,000,000, for each link channel of a shape (Dally and Towles, chapter 14).
+#[derive(Debug, Drop)]
+pub struct Ranks {
+    shape: Shape,
+    vcs: usize,
+    ranks: Vec<u32>,
+}
+
+impl Model for Ranks {
+    ghost use Rattle.noc_rank.specs.Ranking.{Ranking};
+
+    ghost Value = { Ranking };
+
+    ghost use Rattle.noc_rank.specs.Stored.{ranking_of, IsSound};
+
+    ghost view = { ranking_of };
+
+    ghost invariant = { IsSound };
+}
+
+impl Ranks {
+    /// The ranks of these rows, one for each link channel of the shape with `vcs` channels per link. Answers the first
+    /// fault: `Memory`; row by row `UnknownChannel`, `BadRank`, `DoubleChannel`; `MissingChannel` with the first link
+    /// channel that no row names, in the order of router, port and channel.
+    pub fn from_rows(
+        alloc: Global,
+        shape: &Shape,
+        vcs: usize,
+        rows: &[RankRow],
+    ) -> Result<Ranks, RankFault>
+        ensures ok { IfOk result (IsRankingOf shape.now vcs rows.now) }
+        ensures err { IfErr result (IsFaultOfRows shape.now vcs rows.now) }
+    {
+        let places = all_ports(shape).checked_mul(vcs).ok_or(RankFault::Memory)?;
+        let mut ranks = vec![in alloc; 0u32; places]?;
+        enter(shape, vcs, rows, &mut ranks)?;
+        match missing(shape, vcs, &ranks) {
+            Some(fault) => Err(fault),
+            None => Ok(Ranks {
+                shape: *shape,
+                vcs,
+                ranks,
+            }),
+        }
+    }
+
+    /// The ranks by formula of a rule: dimension order on a mesh, dateline on a torus, and west first on a mesh of two
+    /// dimensions. Answers `NoGenerated` for another rule and where the rule does not fit the shape or the numbers of
+    /// channels and classes; else `Memory` where it was refused.
+    pub fn generated(
+        alloc: Global,
+        shape: &Shape,
+        vcs: usize,
+        classes: usize,
+        rule: &Rule,
+    ) -> Result<Ranks, RankFault>
+        ensures ok { IfOk result (IsGenerated shape.now vcs classes rule.now) }
+        ensures err { IfErr result (IsFaultOfFormula shape.now vcs classes rule.now) }
+    {
+        if !has_ranks(shape, vcs, classes, rule) {
+            return Err(RankFault::NoGenerated);
+        }
+        let ranks = formula_ranks(alloc, shape, vcs, classes, rule)?;
+        Ok(Ranks {
+            shape: *shape,
+            vcs,
+            ranks,
+        })
+    }
+
+    /// The rank of a link channel, 1 to 1,000,000.
+    pub fn rank(&self, router: usize, port: usize, vc: usize) -> u32
+        requires { is_channel self.now.grid self.now.vcs router port vc ≡ true }
+        ensures value { result ≡ rank_at self.now router port vc }
+        ensures ranking { IsRanking self.now }
+    {
+        rank_at(self, router, port, vc)
+    }
+}
+
+/// The rank of a channel of a link port, 0 where the port has no link.
+pub fn rank_at(ranks: &Ranks, router: usize, port: usize, vc: usize) -> u32
+    requires { is_place ranks.now.grid ranks.now.vcs router port vc ≡ true }
+    ensures value { result ≡ rank_at ranks.now router port vc }
+    ensures ranking { IsRanking ranks.now }
+{
+    ranks.ranks[place(&ranks.shape, ranks.vcs, router, port, vc)]
+}

@@ -1,0 +1,197 @@
+//! Ranks and relations whose answers are known.
+ghost use Rattle.std.specs.Prelude.{◌≡◌};
+
+use super::*;
+use crate::place::is_channel;
+use noc_route::{Entry, Relation, Rule};
+use noc_topo::{Kind, Shape};
+use std::alloc::Global;
+use std::process::Abort;
+
+/// A shape that exists.
+fn shape(rt: &impl Abort, kind: Kind, radix: &[usize]) -> Shape {
+    match Shape::new(kind, radix) {
+        Ok(shape) => shape,
+        Err(_) => panic!(rt; "no shape"),
+    }
+}
+
+/// A relation that can be made.
+fn relation(
+    rt: &impl Abort,
+    alloc: Global,
+    shape: &Shape,
+    vcs: usize,
+    classes: usize,
+    rule: Rule,
+) -> Relation
+    ensures grid { result.grid ≡ shape.now }
+    ensures vcs { result.vcs ≡ vcs }
+{
+    match Relation::build(alloc, shape, vcs, classes, rule) {
+        Ok(relation) => relation,
+        Err(_) => panic!(rt; "no relation"),
+    }
+}
+
+/// The rank of a link channel that exists.
+fn rank(
+    rt: &impl Abort,
+    shape: &Shape,
+    vcs: usize,
+    ranks: &Ranks,
+    router: usize,
+    port: usize,
+    vc: usize,
+) -> u32
+    requires grid { ranks.now.grid ≡ shape.now }
+    requires vcs { ranks.now.vcs ≡ vcs }
+{
+    assert!(rt; is_channel(shape, vcs, router, port, vc));
+    ranks.rank(router, port, vc)
+}
+
+fn row(router: usize, port: usize, vc: usize, rank: usize) -> RankRow {
+    RankRow {
+        router,
+        port,
+        vc,
+        rank,
+    }
+}
+
+/// The fault of rows on a line of two nodes with one channel per link.
+fn fault_on_a_line(alloc: Global, rows: &[RankRow]) -> Option<RankFault> {
+    let line = Shape::new(Kind::Mesh, &[2]).ok()?;
+    Ranks::from_rows(alloc, &line, 1, rows).err()
+}
+
+#[test]
+fn rows_that_are_refused(rt: HostRuntime) {
+    assert_eq!(rt;
+        fault_on_a_line(rt.alloc(), &[row(0, 1, 0, 1)]),
+        Some(RankFault::UnknownChannel { row: 0 }),
+        "a port at the border"
+    );
+    assert_eq!(rt;
+        fault_on_a_line(rt.alloc(), &[row(0, 2, 0, 1)]),
+        Some(RankFault::UnknownChannel { row: 0 }),
+        "the local port"
+    );
+    assert_eq!(rt;
+        fault_on_a_line(rt.alloc(), &[row(0, 0, 0, 0)]),
+        Some(RankFault::BadRank { row: 0 })
+    );
+    assert_eq!(rt;
+        fault_on_a_line(rt.alloc(), &[row(0, 0, 0, 1_000_001)]),
+        Some(RankFault::BadRank { row: 0 })
+    );
+    assert_eq!(rt;
+        fault_on_a_line(rt.alloc(), &[row(0, 0, 0, 1), row(0, 0, 0, 1)]),
+        Some(RankFault::DoubleChannel { row: 1 })
+    );
+    assert_eq!(rt;
+        fault_on_a_line(rt.alloc(), &[row(0, 0, 0, 1)]),
+        Some(RankFault::MissingChannel {
+            router: 1,
+            port: 1,
+            vc: 0
+        })
+    );
+}
+
+#[test]
+fn equal_ranks_where_no_link_leads_on(rt: HostRuntime) -> Result<(), RankFault> {
+    let line = shape(&rt, Kind::Mesh, &[2]);
+    let rows = [row(0, 0, 0, 1), row(1, 1, 0, 1)];
+    let ranks = Ranks::from_rows(rt.alloc(), &line, 1, &rows)?;
+    let dor = relation(&rt, rt.alloc(), &line, 1, 1, Rule::Dor);
+    assert_eq!(rt; check(&rt, rt.alloc(), &dor, &ranks), Ok(Accepted));
+    let circle = shape(&rt, Kind::Torus, &[2]);
+    let rows = [
+        row(0, 0, 0, 1),
+        row(0, 1, 0, 1),
+        row(1, 0, 0, 1),
+        row(1, 1, 0, 1),
+    ];
+    let ranks = Ranks::from_rows(rt.alloc(), &circle, 1, &rows)?;
+    let dor = relation(&rt, rt.alloc(), &circle, 1, 1, Rule::Dor);
+    assert_eq!(rt; check(&rt, rt.alloc(), &dor, &ranks), Ok(Accepted));
+    Ok(())
+}
+
+#[test]
+fn a_circle_of_four_falls_where_it_closes(rt: HostRuntime) -> Result<(), RankFault> {
+    let circle = shape(&rt, Kind::Torus, &[4]);
+    let rows = [
+        row(0, 0, 0, 1),
+        row(1, 0, 0, 2),
+        row(2, 0, 0, 3),
+        row(3, 0, 0, 4),
+        row(0, 1, 0, 4),
+        row(1, 1, 0, 3),
+        row(2, 1, 0, 2),
+        row(3, 1, 0, 1),
+    ];
+    let ranks = Ranks::from_rows(rt.alloc(), &circle, 1, &rows)?;
+    let dor = relation(&rt, rt.alloc(), &circle, 1, 1, Rule::Dor);
+    let entry = Entry {
+        class: 0,
+        router: 0,
+        in_port: 1,
+        in_vc: 0,
+        dst: 1,
+    };
+    assert_eq!(rt;
+        check(&rt, rt.alloc(), &dor, &ranks),
+        Err(RankFault::NotRising {
+            entry,
+            out_port: 0,
+            out_vc: 0,
+            rank: 4,
+            next: 1
+        })
+    );
+    Ok(())
+}
+
+#[test]
+fn ranks_by_formula(rt: HostRuntime) -> Result<(), RankFault> {
+    let line = shape(&rt, Kind::Mesh, &[3]);
+    let ranks = Ranks::generated(rt.alloc(), &line, 1, 1, &Rule::Dor)?;
+    assert_eq!(rt; rank(&rt, &line, 1, &ranks, 0, 0, 0), 1);
+    assert_eq!(rt; rank(&rt, &line, 1, &ranks, 1, 0, 0), 2);
+    assert_eq!(rt; rank(&rt, &line, 1, &ranks, 1, 1, 0), 2);
+    assert_eq!(rt; rank(&rt, &line, 1, &ranks, 2, 1, 0), 1);
+    let square = shape(&rt, Kind::Mesh, &[3, 3]);
+    let ranks = Ranks::generated(rt.alloc(), &square, 1, 1, &Rule::WestFirst)?;
+    assert_eq!(rt; rank(&rt, &square, 1, &ranks, 2, 1, 0), 1);
+    assert_eq!(rt; rank(&rt, &square, 1, &ranks, 3, 2, 0), 5);
+    assert_eq!(rt; rank(&rt, &square, 1, &ranks, 0, 0, 0), 7);
+    let circle = shape(&rt, Kind::Torus, &[3]);
+    assert_eq!(rt;
+        Ranks::generated(rt.alloc(), &circle, 1, 1, &Rule::Dor).err(),
+        Some(RankFault::NoGenerated)
+    );
+    Ok(())
+}
+
+#[test]
+fn dateline_rises_round_a_circle(rt: HostRuntime) -> Result<(), RankFault> {
+    let circle = shape(&rt, Kind::Torus, &[4]);
+    let ranks = Ranks::generated(rt.alloc(), &circle, 2, 1, &Rule::Dateline)?;
+    assert_eq!(rt; rank(&rt, &circle, 2, &ranks, 3, 0, 0), 4);
+    assert_eq!(rt; rank(&rt, &circle, 2, &ranks, 0, 0, 1), 5);
+    let dateline = relation(&rt, rt.alloc(), &circle, 2, 1, Rule::Dateline);
+    assert_eq!(rt; check(&rt, rt.alloc(), &dateline, &ranks), Ok(Accepted));
+    Ok(())
+}
+
+#[test]
+fn a_mesh_of_256_with_four_channels_and_classes(rt: HostRuntime) -> Result<(), RankFault> {
+    let mesh = shape(&rt, Kind::Mesh, &[16, 16]);
+    let ranks = Ranks::generated(rt.alloc(), &mesh, 4, 4, &Rule::Dor)?;
+    let dor = relation(&rt, rt.alloc(), &mesh, 4, 4, Rule::Dor);
+    assert_eq!(rt; check(&rt, rt.alloc(), &dor, &ranks), Ok(Accepted));
+    Ok(())
+}

@@ -1,0 +1,44 @@
+-- Tests in loops.
+use Rattle.std.proofs.Common.{◌≡◌, ℕ, ◌+◌, ◌<◌, ◌≤◌, Bool, true, false, refl, sym, arith, inl, inr}
+use Rattle.std.specs.Prelude.{◌||◌, ◌&&◌, ◌⊎◌, nat_lt, nat_eq}
+use Rattle.std.proofs.lemmas.Bool.{cases_lt, cases_eq, lt-ltb, le-ltb, eq-eqb, ne_eqb, false≢true}
+
+pub or-none : (b : Bool) → (b || false) ≡ b
+or-none true = refl
+or-none false = refl
+
+pub or-true : (b : Bool) → (b || true) ≡ true
+or-true true = refl
+or-true false = refl
+
+pub and-false : (b : Bool) → (b && false) ≡ false
+and-false true = refl
+and-false false = refl
+
+pub and-true : (b : Bool) → (b && true) ≡ b
+and-true true = refl
+and-true false = refl
+
+-- two tests that pass together are one
+pub same_test : (a b : Bool) → (a ≡ true → b ≡ true) → (b ≡ true → a ≡ true) → a ≡ b
+same_test true b f g = sym (f refl)
+same_test false true f g = absurd (false≢true (g refl))
+same_test false false f g = refl
+
+-- below the next number is below this one or it
+pub lt_next : (k n : ℕ) → nat_lt k (n + 1) ≡ (nat_lt k n || nat_eq k n)
+lt_next k n = at (cases_lt k n) (cases_eq k n)
+  where
+    at : (k < n) ⊎ (n ≤ k) → (k ≡ n) ⊎ (k ≡ n → ⊥) → nat_lt k (n + 1) ≡ (nat_lt k n || nat_eq k n)
+    at (inl l) e = let a = lt-ltb k n l in let b = lt-ltb k (n + 1) (omega arith) in rw (a, b) refl
+    at (inr g) (inl e) = let a = le-ltb k n g in let b = lt-ltb k (n + 1) (omega arith) in let s = eq-eqb k n e in rw (a, b, s) refl
+    at (inr g) (inr ne) = let a = le-ltb k n g in let b = le-ltb k (n + 1) (omega arith) in let s = ne_eqb k n ne in rw (a, b, s) refl
+
+-- one more number that passes, and one that does not
+pub merge_in : (e s l o : Bool) → (e ≡ true → o ≡ true) → (e || (s || (l && o))) ≡ (s || ((l || e) && o))
+merge_in true s l o h = let yes = h refl in rw (yes, or-true l, or-true s) refl
+merge_in false s l o h = rw (or-none l) refl
+
+pub merge_out : (e s l o : Bool) → (e ≡ true → o ≡ false) → (s || (l && o)) ≡ (s || ((l || e) && o))
+merge_out true s l o h = let no = h refl in rw (no, and-false l, and-false (l || true)) refl
+merge_out false s l o h = rw (or-none l) refl

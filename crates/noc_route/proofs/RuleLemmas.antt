@@ -1,0 +1,274 @@
+-- What a rule leads to.
+use Rattle.std.proofs.Common.{◌≡◌, ◌≢◌, ℕ, suc, ◌+◌, ◌*◌, ◌/◌, ◌%◌, ◌<◌, ◌≤◌, Bool, true, false, List, [], ◌∷◌, length, get_or, Option, Some, None, refl, sym, subst, ap, ◌∙◌, arith, inl, inr}
+use Rattle.std.specs.Prelude.{◌⊎◌, ◌&&◌, ◌||◌, not, nat_eq, nat_lt, nat_le, is_some, All, if◌then◌else◌}
+use Rattle.std.specs.List.{list_any}
+use Rattle.std.proofs.Math.Nat.{mul-le-mul_right, div-lt_iff_lt-mul}
+use Rattle.std.proofs.lemmas.Bool.{eq-eqb, eqb-true, false≢true, and_parts, or_cases, ltb-true, leb-true, le-ltb}
+use Rattle.noc_topo.specs.Words.{is_some_of}
+use Rattle.noc_topo.specs.Shape.{Grid, IsGrid, local_port, neighbour, distance, coordinates}
+use Rattle.noc_topo.proofs.DistanceLemmas.{hop-by_one}
+use Rattle.noc_packet.specs.declared.limits.TheConstants.{MAX_CHANNELS, MAX_CLASSES}
+use Rattle.noc_route.specs.Relation.{Routing, is_right, is_in_block, takes_port, takes_channel, is_row_of, has_row, rows_of, is_real_row, hop_fault, row_fault, leads, is_led, dor_port, is_west_first, goes_up}
+use Rattle.noc_route.specs.declared.rule.Rule.{Rule}
+use Rattle.noc_route.specs.declared.rule.Rule.TheVariants.{Dor, Dateline, WestFirst, Rows}
+use Rattle.noc_route.specs.declared.rule.RouteRow.{RouteRow}
+use Rattle.noc_route.specs.declared.rule.RouteFault.{RouteFault}
+use Rattle.noc_route.specs.declared.rule.RouteFault.TheVariants.{NoLink, NotMinimal, EarlyEject, LateHop}
+use Rattle.noc_route.proofs.EnterLemmas.{NamesIt, is_row_of-parts, IsRealRow, IsRealRow-from_test}
+use Rattle.noc_route.proofs.NamedLemmas.{NearerHop, NearerHop-dor, NearerHop-west_first, dor_port_from-some, some_of-true}
+
+-- ---- rows without a fault
+
+pub some_row : (test : RouteRow → Bool) (rows : List RouteRow) → list_any test rows ≡ true → (k : ℕ) × (k < length rows) × ((d : RouteRow) → test (get_or rows k d) ≡ true)
+some_row test [] e = absurd (false≢true e)
+some_row test (row ∷ rows) e = at (some_row test rows) (or_cases (test row) (list_any test rows) e)
+  where
+    at : (list_any test rows ≡ true → (k : ℕ) × (k < length rows) × ((d : RouteRow) → test (get_or rows k d) ≡ true)) → (test row ≡ true) ⊎ (list_any test rows ≡ true)
+        → (k : ℕ) × (k < length (row ∷ rows)) × ((d : RouteRow) → test (get_or (row ∷ rows) k d) ≡ true)
+    at more (inl here) = (0, omega arith, λ d. here)
+    at more (inr rest) = let found = more rest in (suc found.0, omega (arith, found.1), found.2)
+
+no-fault : (fault : RouteFault) → Some fault ≡ None → ⊥
+no-fault fault e = cc
+
+-- a row without a fault is real, and its hop is right
+row_fault-none : (g : Grid) (vcs classes : ℕ) (row : RouteRow) → row_fault g vcs classes row ≡ None
+    → (is_real_row g vcs classes row ≡ true) × (hop_fault g row (neighbour g row.router row.out_port) ≡ None)
+row_fault-none g vcs classes row e = at (is_real_row g vcs classes row) refl
+  where
+    at : (b : Bool) → is_real_row g vcs classes row ≡ b → (is_real_row g vcs classes row ≡ true) × (hop_fault g row (neighbour g row.router row.out_port) ≡ None)
+    at true f = (f, sym (rw f refl) ∙ e)
+    at false f = absurd (no-fault (NoLink row) (sym (rw f refl) ∙ e))
+
+-- at the local port it is at the destination
+hop_fault-home : (g : Grid) (row : RouteRow) → hop_fault g row None ≡ None → row.router ≡ row.dst
+hop_fault-home g row e = at (nat_eq row.router row.dst) refl
+  where
+    at : (b : Bool) → nat_eq row.router row.dst ≡ b → row.router ≡ row.dst
+    at true f = eqb-true row.router row.dst f
+    at false f = absurd (no-fault (EarlyEject row) (sym (rw f refl) ∙ e))
+
+-- over a link it comes nearer
+hop_fault-nearer : (g : Grid) (row : RouteRow) (next : ℕ × ℕ) → hop_fault g row (Some next) ≡ None → distance g next.0 row.dst < distance g row.router row.dst
+hop_fault-nearer g row next e = at (nat_eq row.router row.dst) refl (nat_lt (distance g next.0 row.dst) (distance g row.router row.dst)) refl
+  where
+    at : (b : Bool) → nat_eq row.router row.dst ≡ b → (c : Bool) → nat_lt (distance g next.0 row.dst) (distance g row.router row.dst) ≡ c → distance g next.0 row.dst < distance g row.router row.dst
+    at true f c h = absurd (no-fault (LateHop row) (sym (rw f refl) ∙ e))
+    at false f true h = ltb-true _ _ h
+    at false f false h = absurd (no-fault (NotMinimal row) (sym (rw (f, h) refl) ∙ e))
+
+-- ---- a rule without a fault
+
+-- what is made of right numbers, and of rows without a fault
+pub record IsFaultless (g : Routing) : Type 0 where
+  pub grid : IsGrid g.grid
+  pub right : is_right g.grid g.vcs g.classes g.rule ≡ true
+  pub rows : All (λ row. row_fault g.grid g.vcs g.classes row ≡ None) (rows_of g.rule)
+
+-- the row of a table that leads on
+pub record LeadingRow (g : Routing) (m r p v t q w : ℕ) : Type 0 where
+  pub row : RouteRow
+  pub names : NamesIt m r p v t q w row
+  pub faultless : row_fault g.grid g.vcs g.classes row ≡ None
+
+zero_row : RouteRow
+zero_row = record { class = 0; router = 0; in_port = 0; in_vc = 0; dst = 0; out_port = 0; out_vc = 0 }
+
+leading-row : (g : Routing) (rows : List RouteRow) (m r p v t q w : ℕ) → All (λ row. row_fault g.grid g.vcs g.classes row ≡ None) rows → has_row rows m (r, p) v t q w ≡ true → LeadingRow g m r p v t q w
+leading-row g rows m r p v t q w good e =
+    let found = some_row (is_row_of m (r, p) v t q w) rows e in
+    record { row = get_or rows found.0 zero_row; names = is_row_of-parts m r p v t q w (get_or rows found.0 zero_row) (found.2 zero_row); faultless = good found.0 zero_row found.1 }
+
+-- ---- the channel
+
+-- the limits of right numbers
+pub record IsRight (vcs classes : ℕ) : Type 0 where
+  pub some_vcs : 1 ≤ vcs
+  pub few_vcs : vcs ≤ MAX_CHANNELS
+  pub some_classes : 1 ≤ classes
+  pub few_classes : classes ≤ MAX_CLASSES
+
+pub IsRight-from_test : (g : Grid) (vcs classes : ℕ) (rule : Rule) → is_right g vcs classes rule ≡ true → IsRight vcs classes
+IsRight-from_test g vcs classes rule e =
+    let a = and_parts _ (elim rule [ Dor ↦ true | Dateline ↦ g.wraps && nat_eq (vcs % (2 * classes)) 0 | WestFirst ↦ not g.wraps && nat_eq (length g.radix) 2 | Rows rows ↦ true ]) e in
+    let b = and_parts _ (nat_eq (vcs % classes) 0) a.0 in
+    let c = and_parts _ (nat_le classes MAX_CLASSES) b.0 in
+    let d = and_parts _ (nat_le 1 classes) c.0 in
+    let f = and_parts (nat_le 1 vcs) (nat_le vcs MAX_CHANNELS) d.0 in
+    record { some_vcs = leb-true _ _ f.0; few_vcs = leb-true _ _ f.1; some_classes = leb-true _ _ d.1; few_classes = leb-true _ _ c.1 }
+
+block-channel : (vcs classes m v : ℕ) → 1 ≤ classes → m < classes → is_in_block vcs classes m v ≡ true → v < vcs
+block-channel vcs classes m v some l e =
+    let below : v < (m + 1) * vcs / classes = ltb-true _ _ (and_parts _ (nat_lt v ((m + 1) * vcs / classes)) e).1 in
+    let all : (m + 1) * vcs ≤ classes * vcs = mul-le-mul_right {m = m + 1} {n = classes} vcs (omega (arith, l)) in
+    let whole : (m + 1) * vcs / classes < vcs + 1 = (div-lt_iff_lt-mul {k = classes} {x = (m + 1) * vcs} {y = vcs + 1} (omega (arith, some))).1 (below_next (m + 1) vcs classes some all) in
+    omega (arith, below, whole)
+  where
+    below_next : (a b c : ℕ) → 1 ≤ c → a * b ≤ c * b → a * b < (b + 1) * c
+    below_next a b c some h = omega (arith, h, some)
+
+channel-in_block : (vcs classes : ℕ) (rule : Rule) (m : ℕ) (xs ts : List ℕ) (port v : ℕ) → takes_channel vcs classes rule m xs ts port v ≡ true → is_in_block vcs classes m v ≡ true
+channel-in_block vcs classes Dor m xs ts port v e = e
+channel-in_block vcs classes Dateline m xs ts port v e = (and_parts (is_in_block vcs classes m v) _ e).0
+channel-in_block vcs classes WestFirst m xs ts port v e = e
+channel-in_block vcs classes (Rows rows) m xs ts port v e = e
+
+abbrev of : Grid → ℕ → ℕ → Rule → Routing
+of grid vcs classes rule = record { grid = grid; vcs = vcs; classes = classes; rule = rule }
+
+-- at the destination a rule by coordinates leads to the local port, and elsewhere along a port that it takes
+pub record IsLedBy (g : Routing) (m r t p v : ℕ) : Type 0 where
+  pub block : is_in_block g.vcs g.classes m v ≡ true
+  pub way : ((r ≡ t) × (p ≡ local_port g.grid)) ⊎ ((r ≢ t) × (takes_port g.grid g.rule (coordinates g.grid.radix r) (coordinates g.grid.radix t) p ≡ true))
+
+is_led-parts : (g : Routing) (m r t p v : ℕ) → is_led g m r t p v ≡ true → IsLedBy g m r t p v
+is_led-parts g m r t p v e = at (nat_eq r t) refl
+  where
+    at : (b : Bool) → nat_eq r t ≡ b → IsLedBy g m r t p v
+    at true f =
+        let parts = and_parts (nat_eq p (local_port g.grid)) (is_in_block g.vcs g.classes m v) (sym (rw f refl) ∙ e) in
+        record { block = parts.1; way = inl (eqb-true r t f, eqb-true p (local_port g.grid) parts.0) }
+    at false f =
+        let parts = and_parts (takes_port g.grid g.rule (coordinates g.grid.radix r) (coordinates g.grid.radix t) p) _ (sym (rw f refl) ∙ e) in
+        record {
+          block = channel-in_block g.vcs g.classes g.rule m (coordinates g.grid.radix r) (coordinates g.grid.radix t) p v parts.1;
+          way = inr ((λ same. false≢true (sym f ∙ eq-eqb r t same)), parts.0);
+        }
+
+dor-link : (g : Grid) (xs ts : List ℕ) (p : ℕ) → is_some_of (dor_port g xs ts) p ≡ true → p < local_port g
+dor-link g xs ts p e =
+    let found = dor_port_from-some g.wraps 0 g.radix xs ts p (some_of-true _ p e) in
+    below (goes_up g.wraps (get_or g.radix found.0 0) (get_or xs found.0 0) (get_or ts found.0 0)) found.0 found.1 found.3
+  where
+    below : (b : Bool) (i : ℕ) → i < length g.radix → p ≡ (if b then 2 * (0 + i) else 2 * (0 + i) + 1) → p < local_port g
+    below true i l e = omega (arith, l, e)
+    below false i l e = omega (arith, l, e)
+
+-- what right numbers for west first say of the shape
+pub west-shape : (g : Grid) (vcs classes : ℕ) → is_right g vcs classes WestFirst ≡ true → (g.wraps ≡ false) × (length g.radix ≡ 2)
+west-shape g vcs classes e =
+    let a = and_parts _ (not g.wraps && nat_eq (length g.radix) 2) e in
+    let b = and_parts (not g.wraps) (nat_eq (length g.radix) 2) a.1 in
+    (flat g.wraps b.0, eqb-true _ 2 b.1)
+  where
+    flat : (b : Bool) → not b ≡ true → b ≡ false
+    flat true f = absurd (false≢true f)
+    flat false f = refl
+
+west-link : (g : Grid) (vcs classes : ℕ) (xs ts : List ℕ) (p : ℕ) → is_right g vcs classes WestFirst ≡ true → is_west_first xs ts p ≡ true → p < local_port g
+west-link g vcs classes xs ts p right e = at (nat_lt (get_or ts 0 0) (get_or xs 0 0)) refl
+  where
+    two : length g.radix ≡ 2
+    two = (west-shape g vcs classes right).1
+
+    at : (b : Bool) → nat_lt (get_or ts 0 0) (get_or xs 0 0) ≡ b → p < local_port g
+    at true f =
+        let here : nat_eq p 1 ≡ true = sym (rw f refl) ∙ e in
+        omega (arith, two, eqb-true p 1 here)
+    at false f = pick (or_cases _ _ (sym (rw f refl) ∙ e))
+      where
+        pick : (((nat_eq p 0 && nat_lt (get_or xs 0 0) (get_or ts 0 0)) || (nat_eq p 2 && nat_lt (get_or xs 1 0) (get_or ts 1 0))) ≡ true) ⊎ ((nat_eq p 3 && nat_lt (get_or ts 1 0) (get_or xs 1 0)) ≡ true) → p < local_port g
+        pick (inl q) = more (or_cases _ _ q)
+          where
+            more : ((nat_eq p 0 && nat_lt (get_or xs 0 0) (get_or ts 0 0)) ≡ true) ⊎ ((nat_eq p 2 && nat_lt (get_or xs 1 0) (get_or ts 1 0)) ≡ true) → p < local_port g
+            more (inl s) = omega (arith, two, eqb-true p 0 (and_parts (nat_eq p 0) _ s).0)
+            more (inr s) = omega (arith, two, eqb-true p 2 (and_parts (nat_eq p 2) _ s).0)
+        pick (inr q) = omega (arith, two, eqb-true p 3 (and_parts (nat_eq p 3) _ q).0)
+
+-- a rule by coordinates takes no local port away from the destination
+takes_port-link : (g : Grid) (vcs classes : ℕ) (rule : Rule) (xs ts : List ℕ) (p : ℕ) → is_right g vcs classes rule ≡ true → takes_port g rule xs ts p ≡ true → p < local_port g
+takes_port-link g vcs classes Dor xs ts p right e = dor-link g xs ts p e
+takes_port-link g vcs classes Dateline xs ts p right e = dor-link g xs ts p e
+takes_port-link g vcs classes WestFirst xs ts p right e = west-link g vcs classes xs ts p right e
+takes_port-link g vcs classes (Rows rows) xs ts p right e = absurd (false≢true e)
+
+leads-vc_at : (grid : Grid) (vcs classes : ℕ) (rule : Rule) (m r p v t q w : ℕ) → IsFaultless (of grid vcs classes rule) → m < classes → leads (of grid vcs classes rule) m (r, p) v t q w ≡ true → w < vcs
+leads-vc_at grid vcs classes Dor m r p v t q w good l e =
+    block-channel vcs classes m w (IsRight-from_test grid vcs classes Dor good.right).some_classes l (is_led-parts (of grid vcs classes Dor) m r t q w e).block
+leads-vc_at grid vcs classes Dateline m r p v t q w good l e =
+    block-channel vcs classes m w (IsRight-from_test grid vcs classes Dateline good.right).some_classes l (is_led-parts (of grid vcs classes Dateline) m r t q w e).block
+leads-vc_at grid vcs classes WestFirst m r p v t q w good l e =
+    block-channel vcs classes m w (IsRight-from_test grid vcs classes WestFirst good.right).some_classes l (is_led-parts (of grid vcs classes WestFirst) m r t q w e).block
+leads-vc_at grid vcs classes (Rows rows) m r p v t q w good l e =
+    let row = leading-row (of grid vcs classes (Rows rows)) rows.items m r p v t q w good.rows e in
+    let real = IsRealRow-from_test grid vcs classes row.row (row_fault-none grid vcs classes row.row row.faultless).0 in
+    omega (arith, real.out_vc, row.names.out_vc)
+
+pub leads-vc : (g : Routing) (m r p v t q w : ℕ) → IsFaultless g → m < g.classes → leads g m (r, p) v t q w ≡ true → w < g.vcs
+leads-vc g m r p v t q w good l e = leads-vc_at g.grid g.vcs g.classes g.rule m r p v t q w good l e
+
+-- ---- the hop
+
+named-hop : (grid : Grid) (vcs classes : ℕ) (rule : Rule) (m r t p v : ℕ) → IsGrid grid → is_right grid vcs classes rule ≡ true → p < local_port grid → is_led (of grid vcs classes rule) m r t p v ≡ true → NearerHop grid r p t
+named-hop grid vcs classes rule m r t p v sound right l e = at rule right (is_led-parts (of grid vcs classes rule) m r t p v e).way
+  where
+    at : (rule : Rule) → is_right grid vcs classes rule ≡ true
+        → ((r ≡ t) × (p ≡ local_port grid)) ⊎ ((r ≢ t) × (takes_port grid rule (coordinates grid.radix r) (coordinates grid.radix t) p ≡ true)) → NearerHop grid r p t
+    at rule right (inl home) = absurd (omega (arith, home.1, l))
+    at Dor right (inr way) = NearerHop-dor grid r p t sound l way.1
+    at Dateline right (inr way) = NearerHop-dor grid r p t sound l way.1
+    at WestFirst right (inr way) = let shape = west-shape grid vcs classes right in NearerHop-west_first grid r p t sound shape.0 shape.1 l way.1
+    at (Rows rows) right (inr way) = absurd (false≢true way.1)
+
+row-hop : (g : Routing) (m r q v t p w : ℕ) → IsGrid g.grid → p < local_port g.grid → LeadingRow g m r q v t p w → NearerHop g.grid r p t
+row-hop g m r q v t p w sound l lead = at (neighbour g.grid r p) refl
+  where
+    good : (is_real_row g.grid g.vcs g.classes lead.row ≡ true) × (hop_fault g.grid lead.row (neighbour g.grid lead.row.router lead.row.out_port) ≡ None)
+    good = row_fault-none g.grid g.vcs g.classes lead.row lead.faultless
+
+    real : IsRealRow g.grid g.vcs g.classes lead.row
+    real = IsRealRow-from_test g.grid g.vcs g.classes lead.row good.0
+
+    link : neighbour g.grid lead.row.router lead.row.out_port ≡ neighbour g.grid r p
+    link = ap (λ x. neighbour g.grid x lead.row.out_port) lead.names.router ∙ ap (neighbour g.grid r) lead.names.out_port
+
+    at : (o : Option (ℕ × ℕ)) → neighbour g.grid r p ≡ o → NearerHop g.grid r p t
+    at None e = none (or_cases (nat_eq lead.row.out_port (local_port g.grid)) (is_some (neighbour g.grid lead.row.router lead.row.out_port)) real.out_open)
+      where
+        none : (nat_eq lead.row.out_port (local_port g.grid) ≡ true) ⊎ (is_some (neighbour g.grid lead.row.router lead.row.out_port) ≡ true) → NearerHop g.grid r p t
+        none (inl home) = absurd (omega (arith, eqb-true _ _ home, lead.names.out_port, l))
+        none (inr some) = absurd (false≢true (sym (ap (is_some {T = ℕ × ℕ}) (link ∙ e)) ∙ some))
+    at (Some to) e =
+        let nearer : distance g.grid to.0 lead.row.dst < distance g.grid lead.row.router lead.row.dst = hop_fault-nearer g.grid lead.row to (sym (ap (hop_fault g.grid lead.row) (link ∙ e)) ∙ good.1) in
+        let P : ℕ → Type 0 = λ x. distance g.grid to.0 x < distance g.grid lead.row.router x in
+        let Q : ℕ → Type 0 = λ x. distance g.grid to.0 t < distance g.grid x t in
+        let closer : distance g.grid to.0 t < distance g.grid r t = subst Q lead.names.router (subst P lead.names.dst nearer) in
+        record { to = to; link = e; nearer = hop-by_one g.grid r p to.0 to.1 t sound e closer }
+
+leads-hop_at : (grid : Grid) (vcs classes : ℕ) (rule : Rule) (m r q v t p w : ℕ) → IsFaultless (of grid vcs classes rule) → p < local_port grid → leads (of grid vcs classes rule) m (r, q) v t p w ≡ true → NearerHop grid r p t
+leads-hop_at grid vcs classes Dor m r q v t p w good l e = named-hop grid vcs classes Dor m r t p w good.grid good.right l e
+leads-hop_at grid vcs classes Dateline m r q v t p w good l e = named-hop grid vcs classes Dateline m r t p w good.grid good.right l e
+leads-hop_at grid vcs classes WestFirst m r q v t p w good l e = named-hop grid vcs classes WestFirst m r t p w good.grid good.right l e
+leads-hop_at grid vcs classes (Rows rows) m r q v t p w good l e =
+    row-hop (of grid vcs classes (Rows rows)) m r q v t p w good.grid l (leading-row (of grid vcs classes (Rows rows)) rows.items m r q v t p w good.rows e)
+
+-- a link to which a rule leads comes nearer by one
+pub leads-hop : (g : Routing) (m r q v t p w : ℕ) → IsFaultless g → p < local_port g.grid → leads g m (r, q) v t p w ≡ true → NearerHop g.grid r p t
+leads-hop g m r q v t p w good l e = leads-hop_at g.grid g.vcs g.classes g.rule m r q v t p w good l e
+
+-- the local port has no link
+pub local-none : (g : Grid) (r : ℕ) → neighbour g r (local_port g) ≡ None
+local-none g r = let past : nat_lt (local_port g) (local_port g) ≡ false = le-ltb (local_port g) (local_port g) (omega arith) in rw past refl
+
+-- ---- the destination
+
+named-home : (grid : Grid) (vcs classes : ℕ) (rule : Rule) (m r t v : ℕ) → is_right grid vcs classes rule ≡ true → is_led (of grid vcs classes rule) m r t (local_port grid) v ≡ true → r ≡ t
+named-home grid vcs classes rule m r t v right e = at (is_led-parts (of grid vcs classes rule) m r t (local_port grid) v e).way
+  where
+    at : ((r ≡ t) × (local_port grid ≡ local_port grid)) ⊎ ((r ≢ t) × (takes_port grid rule (coordinates grid.radix r) (coordinates grid.radix t) (local_port grid) ≡ true)) → r ≡ t
+    at (inl home) = home.0
+    at (inr way) = absurd (omega (arith, takes_port-link grid vcs classes rule _ _ (local_port grid) right way.1))
+
+leads-home_at : (grid : Grid) (vcs classes : ℕ) (rule : Rule) (m r q v t w : ℕ) → IsFaultless (of grid vcs classes rule) → leads (of grid vcs classes rule) m (r, q) v t (local_port grid) w ≡ true → r ≡ t
+leads-home_at grid vcs classes Dor m r q v t w good e = named-home grid vcs classes Dor m r t w good.right e
+leads-home_at grid vcs classes Dateline m r q v t w good e = named-home grid vcs classes Dateline m r t w good.right e
+leads-home_at grid vcs classes WestFirst m r q v t w good e = named-home grid vcs classes WestFirst m r t w good.right e
+leads-home_at grid vcs classes (Rows rows) m r q v t w good e =
+    let lead = leading-row (of grid vcs classes (Rows rows)) rows.items m r q v t (local_port grid) w good.rows e in
+    let right = row_fault-none grid vcs classes lead.row lead.faultless in
+    let none : neighbour grid lead.row.router lead.row.out_port ≡ None = ap (neighbour grid lead.row.router) lead.names.out_port ∙ local-none grid lead.row.router in
+    sym lead.names.router ∙ hop_fault-home grid lead.row (sym (ap (hop_fault grid lead.row) none) ∙ right.1) ∙ lead.names.dst
+
+-- a rule leads to the local port at the destination alone
+pub leads-home : (g : Routing) (m r q v t w : ℕ) → IsFaultless g → leads g m (r, q) v t (local_port g.grid) w ≡ true → r ≡ t
+leads-home g m r q v t w good e = leads-home_at g.grid g.vcs g.classes g.rule m r q v t w good e

@@ -1,0 +1,313 @@
+-- What packets can come to, and the lists of channels by which they leave.
+use Rattle.std.proofs.Common.{◌≡◌, ◌≢◌, ℕ, zero, suc, ◌+◌, ◌*◌, ◌/◌, ◌%◌, ◌<◌, ◌≤◌, Bool, true, false, List, length, set, Option, Some, None, refl, sym, subst, ap, ◌∙◌, arith, inl, inr}
+use Rattle.std.specs.Prelude.{◌||◌, ◌&&◌, ◌⊎◌, not, nat_eq, slice_index}
+use Rattle.std.proofs.Math.Nat.{mod-lt, div-add-mod, mul_comm, div-lt_iff_lt-mul}
+use Rattle.std.proofs.lemmas.Nat.{div-mul-add, mod-mul-add}
+use Rattle.std.proofs.lemmas.Bool.{cases_eq, cases_lt, eq-eqb, ne_eqb, false≢true, and_parts, or_cases}
+use Rattle.std.proofs.lemmas.Bool.Decides.{eqb_tells}
+use Rattle.std.proofs.lemmas.List.{get_or-set_same, get_or-set_other}
+use Rattle.noc_packet.specs.Set.{has_bit}
+use Rattle.noc_topo.specs.Shape.{Grid, IsGrid, nodes, ports, local_port, neighbour, distance}
+use Rattle.noc_topo.proofs.LinkLemmas.{link_back, neighbour-range}
+use Rattle.noc_route.specs.Routes.{Routes, width, blocks, block_of}
+use Rattle.noc_route.specs.Trimming.{set_in, IsPlace, CanCome, injected, led, ComesNearer, CanLeave, comes_in, any_below, IsSoundOut, IsFullOut}
+use Rattle.noc_route.proofs.PlaceLemmas.{flat-below}
+use Rattle.noc_route.proofs.BoolLemmas.{or-true}
+
+-- ---- a test of the numbers below one
+
+pub any_below-some : (n : ℕ) (test : ℕ → Bool) → any_below n test ≡ true → (i : ℕ) × (i < n) × (test i ≡ true)
+any_below-some zero test e = absurd (false≢true e)
+any_below-some (suc n) test e = at (any_below-some n test) (or_cases (any_below n test) (test n) e)
+  where
+    at : (any_below n test ≡ true → (i : ℕ) × (i < n) × (test i ≡ true)) → (any_below n test ≡ true) ⊎ (test n ≡ true) → (i : ℕ) × (i < suc n) × (test i ≡ true)
+    at more (inl h) = let found = more h in (found.0, omega (arith, found.1), found.2)
+    at more (inr h) = (n, omega arith, h)
+
+pub any_below-at : (n : ℕ) (test : ℕ → Bool) (i : ℕ) → i < n → test i ≡ true → any_below n test ≡ true
+any_below-at zero test i l e = absurd (omega arith)
+any_below-at (suc n) test i l e = at (any_below-at n test i) (cases_lt i n)
+  where
+    at : (i < n → test i ≡ true → any_below n test ≡ true) → (i < n) ⊎ (n ≤ i) → (any_below n test || test n) ≡ true
+    at more (inl b) = rw (more b e) refl
+    at more (inr g) = let last : i ≡ n = omega arith in let yes : test n ≡ true = ap test (sym last) ∙ e in rw yes (or-true (any_below n test))
+
+-- ---- numbers of a relation
+
+pub record IsSized (routes : Routes) : Type 0 where
+  pub grid : IsGrid routes.grid
+  pub some_vcs : 1 ≤ routes.vcs
+
+-- an index of a channel is its port and its number there
+pub index-parts : (vcs i : ℕ) → i / vcs * vcs + i % vcs ≡ i
+index-parts vcs i = ap (λ x. x + i % vcs) (mul_comm (i / vcs) vcs) ∙ div-add-mod i vcs
+
+pub port-below : (g : Grid) (vcs i : ℕ) → 1 ≤ vcs → i < width g vcs → i / vcs < ports g
+port-below g vcs i some l = (div-lt_iff_lt-mul {k = vcs} {x = i} {y = ports g} (omega arith)).1 l
+
+pub CanCome-within : (routes : Routes) (m t r i : ℕ) → IsSized routes → CanCome routes m t r i → IsPlace routes m r t × (i < width routes.grid routes.vcs)
+CanCome-within routes m t r i sized (injected {v = v} place away l e) =
+    (place, rw e (flat-below (local_port routes.grid) (ports routes.grid) v routes.vcs (omega arith) l))
+CanCome-within routes m t r i sized (led {r = a} {i = j} {k = k} {q = q} come l has link e) =
+    let before = CanCome-within routes m t a j sized come in
+    let range = neighbour-range routes.grid a (k / routes.vcs) (Some (r, q)) sized.grid before.0.router link in
+    let vc : k % routes.vcs < routes.vcs = mod-lt k {m = routes.vcs} (omega (arith, sized.some_vcs)) in
+    (record { class = before.0.class; router = range.0; dst = before.0.dst }, rw e (flat-below q (ports routes.grid) (k % routes.vcs) routes.vcs (omega (arith, range.1)) vc))
+
+-- ---- coming in
+
+not-true : (b : Bool) → not b ≡ true → b ≡ false
+not-true true e = absurd (false≢true e)
+not-true false e = refl
+
+-- by the lists of the routers before, where the channel arrives over a link
+abbrev comes_over : Routes → List ℕ → ℕ → ℕ → ℕ → Option (ℕ × ℕ) → Bool
+comes_over routes outs m t i from =
+    elim from [
+      | None ↦ false
+      | Some from ↦ has_bit (slice_index outs (block_of routes.grid routes.classes m from.0 t)) (from.1 * routes.vcs + i % routes.vcs)
+    ]
+
+comes_in-local : (routes : Routes) (outs : List ℕ) (m r t i : ℕ) → nat_eq (i / routes.vcs) (local_port routes.grid) ≡ true → comes_in routes outs m r t i ≡ not (nat_eq r t)
+comes_in-local routes outs m r t i e = rw e refl
+
+comes_in-link : (routes : Routes) (outs : List ℕ) (m r t i : ℕ) → nat_eq (i / routes.vcs) (local_port routes.grid) ≡ false
+    → comes_in routes outs m r t i ≡ comes_over routes outs m t i (neighbour routes.grid r (i / routes.vcs))
+comes_in-link routes outs m r t i e = rw e refl
+
+-- what the lists say comes in does
+pub comes_in-sound : (routes : Routes) (outs : List ℕ) (m r t i : ℕ) → IsSized routes → IsSoundOut routes outs → IsPlace routes m r t → i < width routes.grid routes.vcs
+    → comes_in routes outs m r t i ≡ true → CanCome routes m t r i
+comes_in-sound routes outs m r t i sized sound place within e = at (eqb_tells (i / routes.vcs) (local_port routes.grid))
+  where
+    over : (from : Option (ℕ × ℕ)) → neighbour routes.grid r (i / routes.vcs) ≡ from → comes_over routes outs m t i from ≡ true → CanCome routes m t r i
+    over None link f = absurd (false≢true f)
+    over (Some (u, q)) link f =
+        let back = link_back routes.grid r (i / routes.vcs) u q sized.grid place.router link in
+        let vc : i % routes.vcs < routes.vcs = mod-lt i {m = routes.vcs} (omega (arith, sized.some_vcs)) in
+        let small : q * routes.vcs + i % routes.vcs < width routes.grid routes.vcs = flat-below q (ports routes.grid) (i % routes.vcs) routes.vcs (omega (arith, back.port)) vc in
+        let there : IsPlace routes m u t = record { class = place.class; router = back.node; dst = place.dst } in
+        let out = sound m u t (q * routes.vcs + i % routes.vcs) there small f in
+        let port : (q * routes.vcs + i % routes.vcs) / routes.vcs ≡ q = div-mul-add q routes.vcs (i % routes.vcs) vc in
+        let number : (q * routes.vcs + i % routes.vcs) % routes.vcs ≡ i % routes.vcs = mod-mul-add q routes.vcs (i % routes.vcs) vc in
+        led out.come small out.taken (ap (neighbour routes.grid u) port ∙ back.back) (sym (ap (λ x. i / routes.vcs * routes.vcs + x) number ∙ index-parts routes.vcs i))
+
+    at : ((nat_eq (i / routes.vcs) (local_port routes.grid) ≡ true) × (i / routes.vcs ≡ local_port routes.grid)) ⊎ ((nat_eq (i / routes.vcs) (local_port routes.grid) ≡ false) × (i / routes.vcs ≢ local_port routes.grid))
+        → CanCome routes m t r i
+    at (inl home) =
+        let away : nat_eq r t ≡ false = not-true _ (sym (comes_in-local routes outs m r t i home.0) ∙ e) in
+        let vc : i % routes.vcs < routes.vcs = mod-lt i {m = routes.vcs} (omega (arith, sized.some_vcs)) in
+        injected place (λ same. false≢true (sym away ∙ eq-eqb r t (sym same))) vc (sym (index-parts routes.vcs i) ∙ ap (λ p. p * routes.vcs + i % routes.vcs) home.1)
+    at (inr link) = over (neighbour routes.grid r (i / routes.vcs)) refl (sym (comes_in-link routes outs m r t i link.0) ∙ e)
+
+-- what can come in does so by the lists, where those of farther routers are full
+pub comes_in-full : (routes : Routes) (outs : List ℕ) (m r t i : ℕ) → IsSized routes → ComesNearer routes
+    → ((u : ℕ) → IsPlace routes m u t → distance routes.grid r t < distance routes.grid u t → IsFullOut routes outs m u t)
+    → CanCome routes m t r i → comes_in routes outs m r t i ≡ true
+comes_in-full routes outs m r t i sized nearer full (injected {v = v} place away l e) =
+    let home : i / routes.vcs ≡ local_port routes.grid = ap (λ x. x / routes.vcs) e ∙ div-mul-add (local_port routes.grid) routes.vcs v l in
+    let differ : nat_eq r t ≡ false = ne_eqb r t (λ same. away (sym same)) in
+    comes_in-local routes outs m r t i (eq-eqb _ _ home) ∙ ap not differ
+comes_in-full routes outs m r t i sized nearer full (led {r = a} {i = j} {k = k} {q = q} come l has link e) =
+    let before = CanCome-within routes m t a j sized come in
+    let vc : k % routes.vcs < routes.vcs = mod-lt k {m = routes.vcs} (omega (arith, sized.some_vcs)) in
+    let port : i / routes.vcs ≡ q = ap (λ x. x / routes.vcs) e ∙ div-mul-add q routes.vcs (k % routes.vcs) vc in
+    let number : i % routes.vcs ≡ k % routes.vcs = ap (λ x. x % routes.vcs) e ∙ mod-mul-add q routes.vcs (k % routes.vcs) vc in
+    let back = link_back routes.grid a (k / routes.vcs) r q sized.grid before.0.router link in
+    let other : nat_eq (i / routes.vcs) (local_port routes.grid) ≡ false = ne_eqb _ _ (λ same. omega (arith, port, same, back.port)) in
+    let from : neighbour routes.grid r (i / routes.vcs) ≡ Some (a, k / routes.vcs) = ap (neighbour routes.grid r) port ∙ back.back in
+    let index : k / routes.vcs * routes.vcs + i % routes.vcs ≡ k = ap (λ x. k / routes.vcs * routes.vcs + x) number ∙ index-parts routes.vcs k in
+    let out = full a before.0 (nearer m a t j k r q before.0 before.1 l has link) k l (record { input = j; within = before.1; come = come; taken = has }) in
+    comes_in-link routes outs m r t i other ∙ ap (comes_over routes outs m t i) from ∙ ap (has_bit (slice_index outs (block_of routes.grid routes.classes m a t))) index ∙ out
+
+-- ---- the numbers of blocks
+
+pub block-dst : (g : Grid) (classes m r t : ℕ) → t < nodes g → block_of g classes m r t % nodes g ≡ t
+block-dst g classes m r t l = mod-mul-add (r * classes + m) (nodes g) t l
+
+pub block-pair : (g : Grid) (classes m r t : ℕ) → t < nodes g → block_of g classes m r t / nodes g ≡ r * classes + m
+block-pair g classes m r t l = div-mul-add (r * classes + m) (nodes g) t l
+
+pub block-class : (g : Grid) (classes m r t : ℕ) → t < nodes g → m < classes → block_of g classes m r t / nodes g % classes ≡ m
+block-class g classes m r t l k = ap (λ x. x % classes) (block-pair g classes m r t l) ∙ mod-mul-add r classes m k
+
+pub block-sender : (g : Grid) (classes m r t : ℕ) → t < nodes g → m < classes → block_of g classes m r t / nodes g / classes ≡ r
+block-sender g classes m r t l k = ap (λ x. x / classes) (block-pair g classes m r t l) ∙ div-mul-add r classes m k
+
+pub block-below : (g : Grid) (classes m r t : ℕ) → m < classes → r < nodes g → t < nodes g → block_of g classes m r t < blocks g classes
+block-below g classes m r t a b c = flat-below (r * classes + m) (nodes g * classes) t (nodes g) (flat-below r (nodes g) m classes b a) c
+
+-- ---- one list written
+
+-- a set of the channels that leave a place, by the lists as they stand
+abbrev pub IsOutOf : Routes → List ℕ → ℕ → ℕ → ℕ → ℕ → Type 0
+IsOutOf routes outs m r t out =
+    (k : ℕ) → k < width routes.grid routes.vcs → has_bit out k ≡ any_below (width routes.grid routes.vcs) (λ i. comes_in routes outs m r t i && has_bit (set_in routes m r t i) k)
+
+-- every list of a router farther from t is full
+abbrev pub FartherFull : Routes → List ℕ → ℕ → ℕ → Type 0
+FartherFull routes outs r t = (m u : ℕ) → IsPlace routes m u t → distance routes.grid r t < distance routes.grid u t → IsFullOut routes outs m u t
+
+out-sound : (routes : Routes) (outs : List ℕ) (m r t out k : ℕ) → IsSized routes → IsSoundOut routes outs → IsPlace routes m r t → IsOutOf routes outs m r t out
+    → k < width routes.grid routes.vcs → has_bit out k ≡ true → CanLeave routes m r t k
+out-sound routes outs m r t out k sized sound place is l e =
+    let some = any_below-some (width routes.grid routes.vcs) (λ i. comes_in routes outs m r t i && has_bit (set_in routes m r t i) k) (sym (is k l) ∙ e) in
+    let parts = and_parts (comes_in routes outs m r t some.0) (has_bit (set_in routes m r t some.0) k) some.2 in
+    record { input = some.0; within = some.1; come = comes_in-sound routes outs m r t some.0 sized sound place some.1 parts.0; taken = parts.1 }
+
+out-full : (routes : Routes) (outs : List ℕ) (m r t out k : ℕ) → IsSized routes → ComesNearer routes → FartherFull routes outs r t → IsOutOf routes outs m r t out
+    → k < width routes.grid routes.vcs → CanLeave routes m r t k → has_bit out k ≡ true
+out-full routes outs m r t out k sized nearer full is l leave =
+    let come = comes_in-full routes outs m r t leave.input sized nearer (full m) leave.come in
+    is k l ∙ any_below-at (width routes.grid routes.vcs) (λ i. comes_in routes outs m r t i && has_bit (set_in routes m r t i) k) leave.input leave.within (rw (come, leave.taken) refl)
+
+-- the block is the same, and so the place, or the list is as it was
+written : (routes : Routes) (outs : List ℕ) (m r t out m' r' t' : ℕ) → IsPlace routes m r t → IsPlace routes m' r' t' → length outs ≡ blocks routes.grid routes.classes
+    → ((m' ≡ m) × (r' ≡ r) × (t' ≡ t) × (slice_index (set outs (block_of routes.grid routes.classes m r t) out) (block_of routes.grid routes.classes m' r' t') ≡ out))
+    ⊎ (slice_index (set outs (block_of routes.grid routes.classes m r t) out) (block_of routes.grid routes.classes m' r' t') ≡ slice_index outs (block_of routes.grid routes.classes m' r' t'))
+written routes outs m r t out m' r' t' place other long = at (cases_eq (block_of routes.grid routes.classes m' r' t') (block_of routes.grid routes.classes m r t))
+  where
+    at : (block_of routes.grid routes.classes m' r' t' ≡ block_of routes.grid routes.classes m r t) ⊎ (block_of routes.grid routes.classes m' r' t' ≢ block_of routes.grid routes.classes m r t)
+        → ((m' ≡ m) × (r' ≡ r) × (t' ≡ t) × (slice_index (set outs (block_of routes.grid routes.classes m r t) out) (block_of routes.grid routes.classes m' r' t') ≡ out))
+        ⊎ (slice_index (set outs (block_of routes.grid routes.classes m r t) out) (block_of routes.grid routes.classes m' r' t') ≡ slice_index outs (block_of routes.grid routes.classes m' r' t'))
+    at (inl same) =
+        let below = block-below routes.grid routes.classes m r t place.class place.router place.dst in
+        inl (
+          sym (block-class routes.grid routes.classes m' r' t' other.dst other.class) ∙ ap (λ b. b / nodes routes.grid % routes.classes) same ∙ block-class routes.grid routes.classes m r t place.dst place.class,
+          sym (block-sender routes.grid routes.classes m' r' t' other.dst other.class) ∙ ap (λ b. b / nodes routes.grid / routes.classes) same ∙ block-sender routes.grid routes.classes m r t place.dst place.class,
+          sym (block-dst routes.grid routes.classes m' r' t' other.dst) ∙ ap (λ b. b % nodes routes.grid) same ∙ block-dst routes.grid routes.classes m r t place.dst,
+          ap (slice_index (set outs (block_of routes.grid routes.classes m r t) out)) same ∙ get_or-set_same outs (block_of routes.grid routes.classes m r t) out 0 (omega (arith, long, below)),
+        )
+    at (inr differ) = inr (get_or-set_other outs (block_of routes.grid routes.classes m r t) (block_of routes.grid routes.classes m' r' t') out 0 differ)
+
+pub IsSoundOut-set : (routes : Routes) (outs : List ℕ) (m r t out : ℕ) → IsSized routes → length outs ≡ blocks routes.grid routes.classes → IsSoundOut routes outs → IsPlace routes m r t
+    → IsOutOf routes outs m r t out → IsSoundOut routes (set outs (block_of routes.grid routes.classes m r t) out)
+IsSoundOut-set routes outs m r t out sized long sound place is = λ m' r' t' k other l e. at m' r' t' k other l e (written routes outs m r t out m' r' t' place other long)
+  where
+    at : (m' r' t' k : ℕ) → IsPlace routes m' r' t' → k < width routes.grid routes.vcs
+        → has_bit (slice_index (set outs (block_of routes.grid routes.classes m r t) out) (block_of routes.grid routes.classes m' r' t')) k ≡ true
+        → ((m' ≡ m) × (r' ≡ r) × (t' ≡ t) × (slice_index (set outs (block_of routes.grid routes.classes m r t) out) (block_of routes.grid routes.classes m' r' t') ≡ out))
+        ⊎ (slice_index (set outs (block_of routes.grid routes.classes m r t) out) (block_of routes.grid routes.classes m' r' t') ≡ slice_index outs (block_of routes.grid routes.classes m' r' t'))
+        → CanLeave routes m' r' t' k
+    at m' r' t' k other l e (inl same) =
+        let here = out-sound routes outs m r t out k sized sound place is l (sym (ap (λ s. has_bit s k) same.3) ∙ e) in
+        let P : ℕ → Type 0 = λ x. CanLeave routes x r' t' k in
+        let Q : ℕ → Type 0 = λ x. CanLeave routes m x t' k in
+        let R : ℕ → Type 0 = λ x. CanLeave routes m r x k in
+        subst P (sym same.0) (subst Q (sym same.1) (subst R (sym same.2) here))
+    at m' r' t' k other l e (inr kept) = sound m' r' t' k other l (sym (ap (λ s. has_bit s k) kept) ∙ e)
+
+pub IsFullOut-set_same : (routes : Routes) (outs : List ℕ) (m r t out : ℕ) → IsSized routes → length outs ≡ blocks routes.grid routes.classes → ComesNearer routes → FartherFull routes outs r t
+    → IsPlace routes m r t → IsOutOf routes outs m r t out → IsFullOut routes (set outs (block_of routes.grid routes.classes m r t) out) m r t
+IsFullOut-set_same routes outs m r t out sized long nearer full place is = λ k l leave.
+    let below = block-below routes.grid routes.classes m r t place.class place.router place.dst in
+    ap (λ s. has_bit s k) (get_or-set_same outs (block_of routes.grid routes.classes m r t) out 0 (omega (arith, long, below)))
+    ∙ out-full routes outs m r t out k sized nearer full is l leave
+
+pub IsFullOut-set : (routes : Routes) (outs : List ℕ) (m r t out m' r' t' : ℕ) → IsSized routes → length outs ≡ blocks routes.grid routes.classes → ComesNearer routes → FartherFull routes outs r t
+    → IsPlace routes m r t → IsOutOf routes outs m r t out → IsPlace routes m' r' t' → IsFullOut routes outs m' r' t' → IsFullOut routes (set outs (block_of routes.grid routes.classes m r t) out) m' r' t'
+IsFullOut-set routes outs m r t out m' r' t' sized long nearer full place is other had = λ k l leave. at k l leave (written routes outs m r t out m' r' t' place other long)
+  where
+    at : (k : ℕ) → k < width routes.grid routes.vcs → CanLeave routes m' r' t' k
+        → ((m' ≡ m) × (r' ≡ r) × (t' ≡ t) × (slice_index (set outs (block_of routes.grid routes.classes m r t) out) (block_of routes.grid routes.classes m' r' t') ≡ out))
+        ⊎ (slice_index (set outs (block_of routes.grid routes.classes m r t) out) (block_of routes.grid routes.classes m' r' t') ≡ slice_index outs (block_of routes.grid routes.classes m' r' t'))
+        → has_bit (slice_index (set outs (block_of routes.grid routes.classes m r t) out) (block_of routes.grid routes.classes m' r' t')) k ≡ true
+    at k l leave (inl same) =
+        let P : ℕ → Type 0 = λ x. CanLeave routes x r' t' k in
+        let Q : ℕ → Type 0 = λ x. CanLeave routes m x t' k in
+        let R : ℕ → Type 0 = λ x. CanLeave routes m r x k in
+        let here = subst R same.2 (subst Q same.1 (subst P same.0 leave)) in
+        ap (λ s. has_bit s k) same.3 ∙ out-full routes outs m r t out k sized nearer full is l here
+    at k l leave (inr kept) = ap (λ s. has_bit s k) kept ∙ had k l leave
+
+-- ---- the loops over places
+
+-- the lists of the first classes at a router and a destination are full, and no list that was full is not
+pub record IsPairDone (routes : Routes) (before outs : List ℕ) (r t class : ℕ) : Type 0 where
+  pub sound : IsSoundOut routes outs
+  pub done : (m : ℕ) → m < class → IsPlace routes m r t → IsFullOut routes outs m r t
+  pub kept : (m u d : ℕ) → IsPlace routes m u d → IsFullOut routes before m u d → IsFullOut routes outs m u d
+
+pub IsPairDone-more : (routes : Routes) (before outs : List ℕ) (r t class out : ℕ) → IsSized routes → length outs ≡ blocks routes.grid routes.classes → ComesNearer routes → FartherFull routes before r t
+    → IsPlace routes class r t → IsOutOf routes outs class r t out → IsPairDone routes before outs r t class
+    → IsPairDone routes before (set outs (block_of routes.grid routes.classes class r t) out) r t (class + 1)
+IsPairDone-more routes before outs r t class out sized long nearer farther place is h =
+    let full : FartherFull routes outs r t = λ m u other l. h.kept m u t other (farther m u other l) in
+    record {
+      sound = IsSoundOut-set routes outs class r t out sized long h.sound place is;
+      done = λ m l other. at full m l other (cases_lt m class);
+      kept = λ m u d other had. IsFullOut-set routes outs class r t out m u d sized long nearer full place is other (h.kept m u d other had);
+    }
+  where
+    at : FartherFull routes outs r t → (m : ℕ) → m < class + 1 → IsPlace routes m r t → (m < class) ⊎ (class ≤ m) → IsFullOut routes (set outs (block_of routes.grid routes.classes class r t) out) m r t
+    at full m l other (inl b) = IsFullOut-set routes outs class r t out m r t sized long nearer full place is other (h.done m b other)
+    at full m l other (inr g) =
+        let last : class ≡ m = omega arith in
+        let P : ℕ → Type 0 = λ m. IsFullOut routes (set outs (block_of routes.grid routes.classes class r t) out) m r t in
+        subst P last (IsFullOut-set_same routes outs class r t out sized long nearer full place is)
+
+-- the lists of all routers farther off are full, and of the first pairs of a router and a destination at this distance
+pub record IsRingDone (routes : Routes) (outs : List ℕ) (apart pair : ℕ) : Type 0 where
+  pub sound : IsSoundOut routes outs
+  pub farther : (m r t : ℕ) → IsPlace routes m r t → apart < distance routes.grid r t → IsFullOut routes outs m r t
+  pub done : (m r t : ℕ) → IsPlace routes m r t → r * nodes routes.grid + t < pair → distance routes.grid r t ≡ apart → IsFullOut routes outs m r t
+
+-- the pair is the one whose number this is
+pair-parts : (g : Grid) (r t pair : ℕ) → t < nodes g → r * nodes g + t ≡ pair → (r ≡ pair / nodes g) × (t ≡ pair % nodes g)
+pair-parts g r t pair l e =
+    (sym (div-mul-add r (nodes g) t l) ∙ ap (λ x. x / nodes g) e, sym (mod-mul-add r (nodes g) t l) ∙ ap (λ x. x % nodes g) e)
+
+IsRingDone-next : (routes : Routes) (before outs : List ℕ) (apart pair : ℕ) → IsRingDone routes before apart pair → IsSoundOut routes outs
+    → ((m : ℕ) → IsPlace routes m (pair / nodes routes.grid) (pair % nodes routes.grid) → IsFullOut routes outs m (pair / nodes routes.grid) (pair % nodes routes.grid))
+    → ((m u d : ℕ) → IsPlace routes m u d → IsFullOut routes before m u d → IsFullOut routes outs m u d)
+    → IsRingDone routes outs apart (pair + 1)
+IsRingDone-next routes before outs apart pair h sound full kept = record {
+  sound = sound;
+  farther = λ m r t place l. kept m r t place (h.farther m r t place l);
+  done = λ m r t place l e. at m r t place e (cases_lt (r * nodes routes.grid + t) pair) l;
+}
+  where
+    at : (m r t : ℕ) → IsPlace routes m r t → distance routes.grid r t ≡ apart → (r * nodes routes.grid + t < pair) ⊎ (pair ≤ r * nodes routes.grid + t)
+        → r * nodes routes.grid + t < pair + 1 → IsFullOut routes outs m r t
+    at m r t place e (inl b) l = kept m r t place (h.done m r t place b e)
+    at m r t place e (inr g) l =
+        let same = pair-parts routes.grid r t pair place.dst (omega arith) in
+        let P : ℕ → Type 0 = λ x. IsPlace routes m x t in
+        let Q : ℕ → Type 0 = λ x. IsPlace routes m (pair / nodes routes.grid) x in
+        let here = subst Q same.1 (subst P same.0 place) in
+        let R : ℕ → Type 0 = λ x. IsFullOut routes outs m (pair / nodes routes.grid) x in
+        let S : ℕ → Type 0 = λ x. IsFullOut routes outs m x t in
+        subst S (sym same.0) (subst R (sym same.1) (full m here))
+
+pub IsRingDone-more : (routes : Routes) (before outs : List ℕ) (apart pair n : ℕ) → n ≡ nodes routes.grid → IsRingDone routes before apart pair → IsSoundOut routes outs
+    → ((m : ℕ) → IsPlace routes m (pair / n) (pair % n) → IsFullOut routes outs m (pair / n) (pair % n))
+    → ((m u d : ℕ) → IsPlace routes m u d → IsFullOut routes before m u d → IsFullOut routes outs m u d)
+    → IsRingDone routes outs apart (pair + 1)
+IsRingDone-more routes before outs apart pair n e h sound full kept =
+    let P : ℕ → Type 0 = λ n. (m : ℕ) → IsPlace routes m (pair / n) (pair % n) → IsFullOut routes outs m (pair / n) (pair % n) in
+    IsRingDone-next routes before outs apart pair h sound (subst P e full) kept
+
+-- a pair at another distance is passed over
+pub IsRingDone-passed : (routes : Routes) (outs : List ℕ) (apart pair : ℕ) → distance routes.grid (pair / nodes routes.grid) (pair % nodes routes.grid) ≢ apart
+    → IsRingDone routes outs apart pair → IsRingDone routes outs apart (pair + 1)
+IsRingDone-passed routes outs apart pair other h = record {
+  sound = h.sound;
+  farther = h.farther;
+  done = λ m r t place l e. at m r t place e (cases_lt (r * nodes routes.grid + t) pair) l;
+}
+  where
+    at : (m r t : ℕ) → IsPlace routes m r t → distance routes.grid r t ≡ apart → (r * nodes routes.grid + t < pair) ⊎ (pair ≤ r * nodes routes.grid + t)
+        → r * nodes routes.grid + t < pair + 1 → IsFullOut routes outs m r t
+    at m r t place e (inl b) l = h.done m r t place b e
+    at m r t place e (inr g) l =
+        let same = pair-parts routes.grid r t pair place.dst (omega arith) in
+        absurd (other (sym (ap (λ x. distance routes.grid x t) same.0 ∙ ap (distance routes.grid (pair / nodes routes.grid)) same.1) ∙ e))
+
+-- after the last pair
+pub IsRingDone-all : (routes : Routes) (outs : List ℕ) (apart pair : ℕ) → nodes routes.grid * nodes routes.grid ≤ pair → IsRingDone routes outs apart pair
+    → (m r t : ℕ) → IsPlace routes m r t → apart ≤ distance routes.grid r t → IsFullOut routes outs m r t
+IsRingDone-all routes outs apart pair end h m r t place l = at (cases_lt apart (distance routes.grid r t))
+  where
+    at : (apart < distance routes.grid r t) ⊎ (distance routes.grid r t ≤ apart) → IsFullOut routes outs m r t
+    at (inl f) = h.farther m r t place f
+    at (inr n) = h.done m r t place (omega (arith, flat-below r (nodes routes.grid) t (nodes routes.grid) place.router place.dst)) (omega arith)

@@ -1,0 +1,70 @@
+-- A new router.
+use Rattle.std.proofs.Common.{◌≡◌, ℕ, zero, suc, ◌+◌, ◌-◌, ◌*◌, false, List, ◌∷◌, ◌++◌, length, map, take, None, refl, ap, ◌∙◌, arith}
+use Rattle.std.specs.Prelude.{replicate}
+use Rattle.std.specs.List.{zip}
+use Rattle.std.proofs.lemmas.List.{take-replicate}
+use Rattle.std.proofs.Math.Nat.{add-mul}
+use Rattle.noc_topo.specs.Shape.{Grid, IsGrid, ports, local_port}
+use Rattle.noc_packet.specs.declared.packet.Packet.{Packet}
+use Rattle.noc_ring.specs.Rings.{empty_rings}
+use Rattle.noc_vc.specs.Input.{idle_input}
+use Rattle.noc_vc.specs.Output.{link_output, ejection_output}
+use Rattle.noc_router.specs.declared.arbiters.Arbiters.{Arbiters}
+use Rattle.noc_router.specs.declared.arrivals.Arrivals.{Arrivals}
+use Rattle.noc_router.specs.declared.channels.Channels.{Channels}
+use Rattle.noc_router.specs.declared.links.Links.{Links}
+use Rattle.noc_router.specs.declared.source.Source.{Source}
+use Rattle.noc_router.specs.declared.tally.Tally.{Tally}
+use Rattle.noc_router.specs.Counts.{counts_in}
+use Rattle.noc_router.specs.Inside.{view_of, queue_of}
+use Rattle.noc_router.specs.Verdict.{opening_arbiters}
+use Rattle.noc_router.specs.View.{idle_beat, opening_view}
+
+last_port : (d vcs : ℕ) → (2 * d + 1) * vcs - 2 * d * vcs ≡ vcs
+last_port d vcs = let e : (2 * d + 1) * vcs ≡ 2 * d * vcs + 1 * vcs = add-mul (2 * d) 1 vcs in omega arith
+
+-- the view of a router none of whose parts has done anything
+pub opening-is : (node p vcs places : ℕ) (shape : Grid) (source : Source) (channels : Channels) (links : Links) (tally : Tally) (arbiters : Arbiters) (arrivals : Arrivals) (starts : List (ℕ × Packet)) (ends : List ℕ)
+    → IsGrid shape → p ≡ ports shape → queue_of source ≡ starts → source.vc ≡ None
+    → channels.bank ≡ empty_rings (p * vcs) places → channels.inputs.items ≡ replicate (p * vcs) idle_input
+    → channels.outputs.items ≡ replicate ((p - 1) * vcs) (link_output places) ++ replicate (p * vcs - (p - 1) * vcs) ejection_output
+    → links.beats ≡ replicate 6 idle_beat
+    → map (counts_in tally.cycles) tally.counts.items ≡ replicate (p * vcs) (replicate 10 0) → tally.begun ≡ false
+    → arbiters.channels.items ≡ (opening_arbiters p vcs).channels → arbiters.inputs.items ≡ (opening_arbiters p vcs).inputs → arbiters.outputs.items ≡ (opening_arbiters p vcs).outputs
+    → zip arrivals.ends.items arrivals.cycles.items ≡ map (λ q. (q, None)) ends
+    → view_of (record {
+      node = node;
+      ports = p;
+      vcs = vcs;
+      places = places;
+      cycle = 0;
+      had_event = false;
+      last_event = None;
+      misfits = 0;
+      source = source;
+      channels = channels;
+      links = links;
+      tally = tally;
+      arbiters = arbiters;
+      arrivals = arrivals;
+      shape = shape;
+    }) ≡ opening_view (record { grid = shape; node = node; vcs = vcs; places = places }) starts ends
+opening-is node p vcs places shape source channels links tally arbiters arrivals starts ends grid ps queue vc bank inputs outputs beats counts begun turns_of_channels turns_of_inputs turns_of_outputs ended =
+    let d : ℕ = length shape.radix in
+    let before : p - 1 ≡ 2 * d = omega arith in
+    let bank_is : channels.bank ≡ empty_rings (ports shape * vcs) places = bank ∙ ap (λ n. empty_rings (n * vcs) places) ps in
+    let inputs_are : channels.inputs.items ≡ replicate (ports shape * vcs) idle_input = inputs ∙ ap (λ n. replicate (n * vcs) idle_input) ps in
+    let outputs_are : channels.outputs.items ≡ replicate (local_port shape * vcs) (link_output places) ++ replicate vcs ejection_output =
+    outputs ∙ ap (λ n. replicate ((n - 1) * vcs) (link_output places) ++ replicate (n * vcs - (n - 1) * vcs) ejection_output) ps
+    ∙ (let e : 2 * d + 1 - 1 ≡ 2 * d = omega arith in ap (λ n. replicate (n * vcs) (link_output places) ++ replicate ((2 * d + 1) * vcs - n * vcs) ejection_output) e)
+    ∙ ap (λ n. replicate (2 * d * vcs) (link_output places) ++ replicate n ejection_output) (last_port d vcs) in
+    let counts_are : map (counts_in tally.cycles) tally.counts.items ≡ replicate (ports shape * vcs) (replicate 10 0) = counts ∙ ap (λ n. replicate (n * vcs) (replicate 10 0)) ps in
+    let channels_turn : arbiters.channels.items ≡ (opening_arbiters (ports shape) vcs).channels = turns_of_channels ∙ ap (λ n. (opening_arbiters n vcs).channels) ps in
+    let inputs_turn : arbiters.inputs.items ≡ (opening_arbiters (ports shape) vcs).inputs = turns_of_inputs ∙ ap (λ n. (opening_arbiters n vcs).inputs) ps in
+    let outputs_turn : arbiters.outputs.items ≡ (opening_arbiters (ports shape) vcs).outputs = turns_of_outputs ∙ ap (λ n. (opening_arbiters n vcs).outputs) ps in
+    let beats_are : take (local_port shape) links.beats ≡ replicate (local_port shape) idle_beat = ap (take (local_port shape)) beats ∙ take-replicate (local_port shape) 6 idle_beat (omega (arith, grid.few_dimensions)) in
+    rw (bank_is, inputs_are, outputs_are, counts_are, begun, channels_turn, inputs_turn, outputs_turn, beats_are, ended, queue, vc)
+
+pub map-replicate : {X Y : Type 0} (f : X → Y) (n : ℕ) (x : X) → map f (replicate n x) ≡ replicate n (f x)
+map-replicate f zero x = refl
+map-replicate f (suc n) x = ap (λ rest. f x ∷ rest) (map-replicate f n x)

@@ -1,0 +1,83 @@
+-- What is true of a router stays true.
+use Rattle.std.proofs.Common.{◌≡◌, ℕ, ◌+◌, ◌-◌, ◌*◌, ◌<◌, Bool, true, List, Option, None, refl, ap, sym, ◌∙◌, subst, arith, length, slice_index_or, slice_set, vec_len}
+use Rattle.std.specs.Prelude.{is_some}
+use Rattle.std.proofs.lemmas.List.{get_or-set_other}
+use Rattle.std.specs.Option.{ForSome}
+use Rattle.noc_topo.specs.Shape.{Grid, IsGrid, ports, local_port, neighbour}
+use Rattle.noc_vc.specs.Input.{Input, idle_input}
+use Rattle.noc_router.specs.declared.channels.Channels.{Channels}
+use Rattle.noc_router.specs.declared.router.Router.TheInside.{Inside}
+use Rattle.noc_router.specs.Inside.{IsRouter, view_of}
+use Rattle.noc_router.specs.View.{local_channel}
+use Rattle.noc_router.specs.Members.{AreBelow}
+use Rattle.noc_router.specs.Sound.{is_awaiting, KeepsAwaiting}
+
+for_some : (P Q : ℕ → Type 0) (o : Option ℕ) → ((x : ℕ) → P x → Q x) → ForSome o P → ForSome o Q
+for_some P Q o f h = λ x e. f x (h x e)
+
+-- where the parts keep their sizes, and the input channels that await a flit still do
+pub IsRouter-kept : (r s : Inside) → IsRouter r → s.shape ≡ r.shape → s.node ≡ r.node → s.ports ≡ r.ports → s.vcs ≡ r.vcs → s.places ≡ r.places
+    → s.source.vc ≡ r.source.vc → s.channels.size ≡ r.channels.size → s.channels.bank.capacity ≡ r.channels.bank.capacity
+    → KeepsAwaiting r.channels.inputs.items s.channels.inputs.items → s.links.leads ≡ r.links.leads → AreBelow (local_port r.shape) s.links.loaded
+    → vec_len s.tally.counts ≡ vec_len r.tally.counts → s.arbiters.ports ≡ r.arbiters.ports → s.arbiters.vcs ≡ r.arbiters.vcs → IsRouter s
+IsRouter-kept r s is shape node ports_same vcs places vc size capacity keeps leads loaded counts arbiter_ports arbiter_vcs =
+    let all : r.ports * r.vcs ≡ s.ports * s.vcs = ap (λ n. n * r.vcs) (sym ports_same) ∙ ap (λ n. s.ports * n) (sym vcs) in
+    let first : (r.ports - 1) * r.vcs ≡ (s.ports - 1) * s.vcs = ap (λ n. (n - 1) * r.vcs) (sym ports_same) ∙ ap (λ n. (s.ports - 1) * n) (sym vcs) in
+    record {
+      grid = subst (λ (g : Grid). IsGrid g) (sym shape) is.grid;
+      node = rw (node, shape) is.node;
+      ports = ports_same ∙ is.ports ∙ ap ports (sym shape);
+      some_vc = rw vcs is.some_vc;
+      few_vcs = rw vcs is.few_vcs;
+      channels = size ∙ is.channels ∙ all;
+      places = capacity ∙ is.places ∙ sym places;
+      leads = λ port l. ap (λ xs. slice_index_or xs port None) leads ∙ is.leads port l ∙ ap (λ g. neighbour g r.node port) (sym shape) ∙ ap (λ n. neighbour s.shape n port) (sym node);
+      loaded = subst (λ (g : Grid). AreBelow (local_port g) s.links.loaded) (sym shape) loaded;
+      sending = rw vc (for_some (λ v. v < r.vcs) (λ v. v < s.vcs) r.source.vc (λ v l. rw vcs l) is.sending);
+      awaiting = rw vc (for_some (λ v. is_awaiting r.channels.inputs.items ((r.ports - 1) * r.vcs + v) ≡ true) (λ v. is_awaiting s.channels.inputs.items ((s.ports - 1) * s.vcs + v) ≡ true) r.source.vc
+          (λ v h. ap (λ n. is_awaiting s.channels.inputs.items (n + v)) (sym first) ∙ keeps ((r.ports - 1) * r.vcs + v) h) is.awaiting);
+      counts = counts ∙ is.counts ∙ all;
+      arbiter_ports = arbiter_ports ∙ is.arbiter_ports ∙ sym ports_same;
+      arbiter_vcs = arbiter_vcs ∙ is.arbiter_vcs ∙ sym vcs;
+    }
+
+-- the index of a local input channel
+pub local-index : (r : Inside) (vc : ℕ) → IsRouter r → (r.ports - 1) * r.vcs + vc ≡ local_channel (view_of r).site vc
+local-index r vc is =
+    let e : r.ports - 1 ≡ 2 * length r.shape.radix = omega (arith, is.ports) in
+    ap (λ n. n * r.vcs + vc) e
+
+-- .. where only its channels and its misfits change, and no input channel does
+pub IsRouter-misfit : (r : Inside) (channels : Channels) (n : ℕ) → IsRouter r → channels.size ≡ r.channels.size → channels.bank.capacity ≡ r.channels.bank.capacity
+    → channels.inputs.items ≡ r.channels.inputs.items → IsRouter (record r { channels = channels; misfits = n })
+IsRouter-misfit r channels n is size capacity inputs =
+    IsRouter-kept r (record r { channels = channels; misfits = n }) is refl refl refl refl refl refl size capacity
+    (λ i h. ap (λ (xs : List Input). is_awaiting xs i) inputs ∙ h) refl is.loaded refl refl refl
+
+-- .. where only its channels change, and whether it had an event
+pub IsRouter-channels : (r : Inside) (channels : Channels) (happened : Bool) → IsRouter r → channels.size ≡ r.channels.size → channels.bank.capacity ≡ r.channels.bank.capacity
+    → KeepsAwaiting r.channels.inputs.items channels.inputs.items → IsRouter (record r { channels = channels; had_event = happened })
+IsRouter-channels r channels happened is size capacity keeps =
+    IsRouter-kept r (record r { channels = channels; had_event = happened }) is refl refl refl refl refl refl size capacity keeps refl is.loaded refl refl refl
+
+-- .. where a flit has come to an input channel of a link port
+pub IsRouter-landed : (r : Inside) (channels : Channels) (i : ℕ) (x : Input) → IsRouter r → channels.size ≡ r.channels.size → channels.bank.capacity ≡ r.channels.bank.capacity
+    → channels.inputs.items ≡ slice_set r.channels.inputs.items i x → i < (r.ports - 1) * r.vcs → IsRouter (record r { channels = channels; had_event = true })
+IsRouter-landed r channels i x is size capacity inputs link = record {
+  grid = is.grid;
+  node = is.node;
+  ports = is.ports;
+  some_vc = is.some_vc;
+  few_vcs = is.few_vcs;
+  channels = size ∙ is.channels;
+  places = capacity ∙ is.places;
+  leads = is.leads;
+  loaded = is.loaded;
+  sending = is.sending;
+  awaiting = for_some (λ v. is_awaiting r.channels.inputs.items ((r.ports - 1) * r.vcs + v) ≡ true) (λ v. is_awaiting channels.inputs.items ((r.ports - 1) * r.vcs + v) ≡ true) r.source.vc
+      (λ v h. ap (λ (xs : List Input). is_awaiting xs ((r.ports - 1) * r.vcs + v)) inputs
+      ∙ ap (λ (input : Input). is_some input.awaited) (get_or-set_other r.channels.inputs.items i ((r.ports - 1) * r.vcs + v) x idle_input (λ same. omega arith)) ∙ h) is.awaiting;
+  counts = is.counts;
+  arbiter_ports = is.arbiter_ports;
+  arbiter_vcs = is.arbiter_vcs;
+}

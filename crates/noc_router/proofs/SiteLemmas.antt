@@ -1,0 +1,205 @@
+-- What a cycle leaves alone, and its parts in their order.
+use Rattle.std.proofs.Common.{◌≡◌, ℕ, ◌+◌, ◌*◌, ◌<◌, ◌≤◌, Bool, true, false, List, [], ◌∷◌, length, drop, get_or, set, Option, Some, None, refl, ap, sym, ◌∙◌, arith, inl, inr, subst}
+use Rattle.std.specs.Prelude.{◌⊎◌, ◌&&◌, find, nat_lt, nat_le, if◌then◌else◌}
+use Rattle.std.proofs.lemmas.Bool.{cases_eq}
+use Rattle.std.proofs.lemmas.List.{length-set, get_or-set_same, get_or-set_other, ext_get_or, get_or-replicate, length-replicate, length-take, at_drop_more, drop_all}
+use Rattle.noc_topo.specs.Words.{below, tabulate, map_indexed}
+use Rattle.noc_topo.specs.Shape.{local_port}
+use Rattle.noc_packet.specs.declared.packet.Packet.{Packet}
+use Rattle.noc_packet.specs.declared.packet.Flit.{Flit}
+use Rattle.noc_packet.specs.declared.packet.Beat.{Beat}
+use Rattle.noc_route.specs.Routes.{Routes}
+use Rattle.noc_vc.specs.Input.{fits}
+use Rattle.noc_vc.specs.Output.{credit_fits, credited}
+use Rattle.noc_router.specs.declared.router.Router.TheInside.{Inside}
+use Rattle.noc_router.specs.Inside.{IsRouter, view_of}
+use Rattle.noc_router.specs.Settled.{IsPlanOf, tallied, settled}
+use Rattle.noc_router.specs.Verdict.{arbiters_after}
+use Rattle.noc_router.specs.View.{View, Site, Decisions, with_landed, with_misfit, with_flit, with_credit, taken, taken_from, all_taken, injected, injected_from, begun_on, with_injected, is_vacant, planned, view_round, committed, tail_packet, flit_out, has_link, view_buffer, view_input, view_output, idle_beat, idle_beats, decided_verdict, buffer_after, input_after, output_after, has_event, beat_out, counted, local_channel, put}
+use Rattle.noc_router.proofs.SettleLemmas.{arrival-is}
+
+either_site : (b : Bool) (x y : View) (s : Site) → x.site ≡ s → y.site ≡ s → (if b then x else y).site ≡ s
+either_site true x y s e f = e
+either_site false x y s e f = f
+
+flit-site : (relation : Routes) (port : ℕ) (flit : Option (ℕ × Flit)) (v : View) → (with_flit relation port flit v).site ≡ v.site
+flit-site relation port None v = refl
+flit-site relation port (Some (vc, f)) v =
+    either_site (has_link v.site port && nat_lt vc v.site.vcs && fits relation v.site.node port vc v.site.places (view_buffer v (port * v.site.vcs + vc)) (view_input v (port * v.site.vcs + vc)) f)
+    (with_landed (port * v.site.vcs + vc) f v) (with_misfit v) v.site refl refl
+
+credit-site : (port : ℕ) (credit : Option ℕ) (v : View) → (with_credit port credit v).site ≡ v.site
+credit-site port None v = refl
+credit-site port (Some vc) v =
+    either_site (has_link v.site port && nat_lt vc v.site.vcs && credit_fits (view_output v (port * v.site.vcs + vc)))
+    (record v { outputs = set v.outputs (port * v.site.vcs + vc) (credited (view_output v (port * v.site.vcs + vc))); had_event = true }) (with_misfit v) v.site refl refl
+
+pub taken-site : (relation : Routes) (port : ℕ) (beat : Beat) (v : View) → (taken relation port beat v).site ≡ v.site
+unfolding taken
+taken-site relation port beat v = credit-site port beat.credit (with_flit relation port beat.flit v) ∙ flit-site relation port beat.flit v
+
+taken_from-site : (relation : Routes) (port : ℕ) (beats : List Beat) (v : View) → (taken_from relation port beats v).site ≡ v.site
+taken_from-site relation port [] v = refl
+taken_from-site relation port (beat ∷ beats) v = taken_from-site relation (port + 1) beats (taken relation port beat v) ∙ taken-site relation port beat v
+
+pub all_taken-site : (relation : Routes) (beats : List Beat) (v : View) → (all_taken relation beats v).site ≡ v.site
+unfolding all_taken
+all_taken-site relation beats v = taken_from-site relation 0 beats v
+
+begun-site : (vc : Option ℕ) (number : ℕ) (p : Packet) (rest : List (ℕ × Packet)) (v : View) → (begun_on vc number p rest v).site ≡ v.site
+begun-site None number p rest v = refl
+begun-site (Some vc) number p rest v = refl
+
+injected_from-site : (n : ℕ) (queue : List (ℕ × Packet)) (sending : Option (ℕ × ℕ)) (v : View) → (injected_from n queue sending v).site ≡ v.site
+injected_from-site n [] sending v = refl
+injected_from-site n ((number, p) ∷ rest) (Some (vc, index)) v =
+    either_site (nat_lt (length (view_buffer v (local_channel v.site vc))) v.site.places) (with_injected vc index number p rest v) v v.site refl refl
+injected_from-site n ((number, p) ∷ rest) None v =
+    either_site (nat_le p.due n) (begun_on (find (is_vacant v) (below v.site.vcs)) number p rest v) v v.site (begun-site (find (is_vacant v) (below v.site.vcs)) number p rest v) refl
+
+pub injected-site : (n : ℕ) (v : View) → (injected n v).site ≡ v.site
+unfolding injected
+injected-site n v = injected_from-site n v.queue v.sending (record v { given = n })
+
+pub settled-site : (d : Decisions) (v : View) → (settled d v).site ≡ v.site
+unfolding settled
+settled-site d v = ap (λ (x : View). x.site) (arrival-is (tail_packet (flit_out v d.round (local_port v.site.grid))) (record v {
+  buffers = map_indexed (λ i flits. buffer_after flits (decided_verdict d i)) v.buffers;
+  inputs = map_indexed (λ i input. input_after d v i input (decided_verdict d i)) v.inputs;
+  outputs = map_indexed (output_after v d.round) v.outputs;
+  had_event = has_event d v;
+  to_put = tabulate (local_port v.site.grid) (beat_out d v);
+}))
+
+pub committed-site : (d : Decisions) (v : View) → (committed d v).site ≡ v.site
+unfolding committed
+committed-site d v = ap (λ (x : View). x.site) (arrival-is (tail_packet (flit_out v d.round (local_port v.site.grid))) (record v {
+  buffers = map_indexed (λ i flits. buffer_after flits (decided_verdict d i)) v.buffers;
+  inputs = map_indexed (λ i input. input_after d v i input (decided_verdict d i)) v.inputs;
+  outputs = map_indexed (output_after v d.round) v.outputs;
+  arbiters = arbiters_after d.round v.arbiters;
+  last_event = if has_event d v then Some v.given else v.last_event;
+  counts = map_indexed (λ i counts. counted (decided_verdict d i) counts) v.counts;
+  findings = d.findings;
+  had_event = false;
+  to_put = tabulate (local_port v.site.grid) (beat_out d v);
+}))
+
+-- ---- the parts of a commit
+planned-tallied : (relation : Routes) (d : Decisions) (v : View) → planned relation v ≡ planned relation (tallied d v)
+unfolding planned view_round
+planned-tallied relation d v = refl
+
+pub plan-tallied : (d : Decisions) (v : View) → IsPlanOf d v → IsPlanOf d (tallied d v)
+plan-tallied d v plan = record {
+  relation = plan.relation;
+  fits = record { grid = plan.fits.grid; vcs = plan.fits.vcs };
+  is = plan.is ∙ planned-tallied plan.relation d v;
+}
+
+-- the pointers go on, and the cycle ends
+turned_and_closed : Decisions → View → View
+turned_and_closed d v = record v {
+  arbiters = arbiters_after d.round v.arbiters;
+  last_event = if v.had_event then Some v.given else v.last_event;
+  had_event = false;
+}
+
+pub committed-is : (d : Decisions) (v : View) → record (settled d (tallied d v)) {
+  arbiters = arbiters_after d.round (settled d (tallied d v)).arbiters;
+  last_event = if (settled d (tallied d v)).had_event then Some (settled d (tallied d v)).given else (settled d (tallied d v)).last_event;
+  had_event = false;
+} ≡ committed d v
+unfolding settled committed turned_and_closed
+committed-is d v =
+    let a = tail_packet (flit_out v d.round (local_port v.site.grid)) in
+    ap (turned_and_closed d) (arrival-is a (record v {
+      buffers = map_indexed (λ i flits. buffer_after flits (decided_verdict d i)) v.buffers;
+      inputs = map_indexed (λ i input. input_after d v i input (decided_verdict d i)) v.inputs;
+      outputs = map_indexed (output_after v d.round) v.outputs;
+      counts = map_indexed (λ i counts. counted (decided_verdict d i) counts) v.counts;
+      findings = d.findings;
+      had_event = has_event d v;
+      to_put = tabulate (local_port v.site.grid) (beat_out d v);
+    }))
+    ∙ sym (arrival-is a (record v {
+      buffers = map_indexed (λ i flits. buffer_after flits (decided_verdict d i)) v.buffers;
+      inputs = map_indexed (λ i input. input_after d v i input (decided_verdict d i)) v.inputs;
+      outputs = map_indexed (output_after v d.round) v.outputs;
+      arbiters = arbiters_after d.round v.arbiters;
+      last_event = if has_event d v then Some v.given else v.last_event;
+      counts = map_indexed (λ i counts. counted (decided_verdict d i) counts) v.counts;
+      findings = d.findings;
+      had_event = false;
+      to_put = tabulate (local_port v.site.grid) (beat_out d v);
+    }))
+
+-- ---- a take at each port
+pub taken-more : (relation : Routes) (port : ℕ) (beats : List Beat) (none : Beat) (v : View) (all : View) → port < length beats
+    → taken_from relation port (drop port beats) v ≡ all → taken_from relation (port + 1) (drop (port + 1) beats) (taken relation port (get_or beats port none) v) ≡ all
+taken-more relation port beats none v all l so_far = sym (at_drop_more (λ bs. taken_from relation port bs v) beats port none l) ∙ so_far
+
+pub taken-all : (relation : Routes) (port : ℕ) (beats : List Beat) (v : View) (all : View) → length beats ≤ port → taken_from relation port (drop port beats) v ≡ all → v ≡ all
+taken-all relation port beats v all l so_far = ap (λ bs. taken_from relation port bs v) (sym (drop_all port beats l)) ∙ so_far
+
+-- ---- a put at each port
+-- the beats before this port are put, the others are not
+pub record ArePut (v w : View) (n port : ℕ) (beats : List Beat) : Type 0 where
+  pub others : w ≡ record v { to_put = w.to_put }
+  pub count : length v.to_put ≡ n
+  pub same_count : length w.to_put ≡ n
+  pub length_out : length beats ≡ n
+  pub done : (k : ℕ) → k < port → get_or w.to_put k idle_beat ≡ idle_beat
+  pub left : (k : ℕ) → port ≤ k → get_or w.to_put k idle_beat ≡ get_or v.to_put k idle_beat
+  pub out : (k : ℕ) → k < port → get_or beats k idle_beat ≡ get_or v.to_put k idle_beat
+
+pub put-first : (v : View) (n : ℕ) (beats : List Beat) → length v.to_put ≡ n → length beats ≡ n → ArePut v v n 0 beats
+put-first v n beats c b = record {
+  others = refl;
+  count = c;
+  same_count = c;
+  length_out = b;
+  done = λ k l. absurd (omega arith);
+  left = λ k l. refl;
+  out = λ k l. absurd (omega arith);
+}
+
+pub put-more : (v w new : View) (n port : ℕ) (beats beats' : List Beat) (beat : Beat) → ArePut v w n port beats → port < n → new ≡ put port w → beat ≡ get_or w.to_put port idle_beat → beats' ≡ set beats port beat → ArePut v new n (port + 1) beats'
+put-more v w new n port beats beats' beat so_far l is one written = let P : View → Type 0 = λ x. ArePut v x n (port + 1) beats' in subst P (sym is) (record {
+  others = ap (λ (x : View). record x { to_put = set w.to_put port idle_beat }) so_far.others;
+  count = so_far.count;
+  same_count = length-set w.to_put port idle_beat ∙ so_far.same_count;
+  length_out = ap length written ∙ length-set beats port beat ∙ so_far.length_out;
+  done = λ k u. done_at k u (cases_eq k port);
+  left = λ k u. get_or-set_other w.to_put port k idle_beat idle_beat (λ e. omega arith) ∙ so_far.left k (omega arith);
+  out = λ k u. ap (λ bs. get_or bs k idle_beat) written ∙ out_at k u (cases_eq k port);
+})
+  where
+    done_at : (k : ℕ) → k < port + 1 → (k ≡ port) ⊎ (k ≡ port → ⊥) → get_or (set w.to_put port idle_beat) k idle_beat ≡ idle_beat
+    done_at k u (inl same) = ap (λ j. get_or (set w.to_put port idle_beat) j idle_beat) same ∙ get_or-set_same w.to_put port idle_beat idle_beat (let c : length w.to_put ≡ n = so_far.same_count in omega arith)
+    done_at k u (inr other) = get_or-set_other w.to_put port k idle_beat idle_beat other ∙ so_far.done k (omega arith)
+
+    out_at : (k : ℕ) → k < port + 1 → (k ≡ port) ⊎ (k ≡ port → ⊥) → get_or (set beats port beat) k idle_beat ≡ get_or v.to_put k idle_beat
+    out_at k u (inl same) =
+        ap (λ j. get_or (set beats port beat) j idle_beat) same ∙ get_or-set_same beats port beat idle_beat (let c : length beats ≡ n = so_far.length_out in omega arith) ∙ one
+        ∙ so_far.left port (omega arith) ∙ ap (λ j. get_or v.to_put j idle_beat) (sym same)
+    out_at k u (inr other) = get_or-set_other beats port k beat idle_beat other ∙ so_far.out k (omega arith)
+
+pub put-view : (v w : View) (n port : ℕ) (beats : List Beat) → ArePut v w n port beats → n ≤ port → n ≡ local_port v.site.grid → w ≡ record v { to_put = idle_beats v.site }
+put-view v w n port beats so_far l e =
+    so_far.others
+    ∙ ap (λ bs. record v { to_put = bs })
+    (ext_get_or idle_beat w.to_put (idle_beats v.site) (so_far.same_count ∙ e ∙ sym (length-replicate (local_port v.site.grid) idle_beat))
+    (λ k u. let c : length w.to_put ≡ n = so_far.same_count in so_far.done k (omega arith) ∙ sym (get_or-replicate (local_port v.site.grid) k idle_beat idle_beat (omega arith))))
+
+pub put-beats : (v w : View) (n port : ℕ) (beats : List Beat) → ArePut v w n port beats → n ≤ port → beats ≡ v.to_put
+put-beats v w n port beats so_far l =
+    ext_get_or idle_beat beats v.to_put (so_far.length_out ∙ sym so_far.count) (λ k u. let c : length beats ≡ n = so_far.length_out in so_far.out k (omega arith))
+
+pub beats_count : (r : Inside) (v : View) → view_of r ≡ v → IsRouter r → length v.to_put ≡ local_port v.site.grid
+beats_count r v e h =
+    let P : View → Type 0 = λ x. length x.to_put ≡ local_port x.site.grid in
+    subst P e (let c : length r.links.beats ≡ 6 = r.links.marked.count in omega (arith, length-take (local_port r.shape) r.links.beats, h.grid.few_dimensions))
+
+pub links_view : (r : Inside) (v : View) → view_of r ≡ v → IsRouter r → r.ports ≡ local_port v.site.grid + 1
+links_view r v e h = h.ports ∙ ap (λ (x : View). local_port x.site.grid + 1) e

@@ -1,0 +1,136 @@
+-- A beat is taken.
+use Rattle.std.proofs.Common.{◌≡◌, ℕ, ◌+◌, ◌*◌, Bool, true, false, Option, Some, None, suc, ◌<◌, List, [], ◌∷◌, ◌++◌, length, take, refl, ap, sym, ◌∙◌, arith, slice_set}
+use Rattle.std.specs.Prelude.{◌&&◌, nat_lt, slice_index_or, if◌then◌else◌}
+use Rattle.std.proofs.lemmas.List.{take_more, length-take}
+use Rattle.noc_packet.specs.declared.packet.Flit.{Flit}
+use Rattle.noc_packet.specs.declared.packet.Beat.{Beat}
+use Rattle.noc_ring.specs.Rings.{pushed}
+use Rattle.noc_route.specs.Routes.{Routes}
+use Rattle.noc_vc.specs.Input.{fits, landed}
+use Rattle.noc_vc.specs.Output.{credit_fits, credited}
+use Rattle.noc_router.specs.declared.channels.Channels.{Channels}
+use Rattle.noc_router.specs.declared.router.Router.TheInside.{Inside}
+use Rattle.noc_router.specs.Inside.{view_of}
+use Rattle.noc_router.specs.Sound.{input_at, output_at}
+use Rattle.noc_router.specs.View.{View, Site, has_link, view_buffer, view_input, view_output, raised, with_flit, with_landed, with_misfit, with_credit, taken, taken_from}
+
+-- whether a flit lands
+abbrev pub lands : Routes → ℕ → ℕ → Flit → View → Bool
+lands relation port vc f v =
+    let i = port * v.site.vcs + vc in
+    has_link v.site port && nat_lt vc v.site.vcs && fits relation v.site.node port vc v.site.places (view_buffer v i) (view_input v i) f
+
+three : (a b d : Bool) → a ≡ true → b ≡ true → d ≡ true → (a && b && d) ≡ true
+three true true true e f g = refl
+three true true false e f g = g
+three true false d e f g = f
+three false b d e f g = e
+
+not_first : (a b d : Bool) → a ≡ false → (a && b && d) ≡ false
+not_first false b d e = refl
+not_first true b d e = absurd (cc)
+
+not_second : (a b d : Bool) → b ≡ false → (a && b && d) ≡ false
+not_second false b d e = refl
+not_second true false d e = refl
+not_second true true d e = absurd (cc)
+
+not_third : (a b d : Bool) → d ≡ false → (a && b && d) ≡ false
+not_third false b d e = refl
+not_third true false d e = refl
+not_third true true d e = e
+
+pub with_flit-lands : (relation : Routes) (port vc : ℕ) (f : Flit) (v : View) → has_link v.site port ≡ true → nat_lt vc v.site.vcs ≡ true
+    → fits relation v.site.node port vc v.site.places (view_buffer v (port * v.site.vcs + vc)) (view_input v (port * v.site.vcs + vc)) f ≡ true
+    → with_flit relation port (Some (vc, f)) v ≡ with_landed (port * v.site.vcs + vc) f v
+with_flit-lands relation port vc f v link small fit =
+    ap (λ b. if b then with_landed (port * v.site.vcs + vc) f v else with_misfit v)
+    (three (has_link v.site port) (nat_lt vc v.site.vcs) (fits relation v.site.node port vc v.site.places (view_buffer v (port * v.site.vcs + vc)) (view_input v (port * v.site.vcs + vc)) f) link small fit)
+
+pub with_flit-turned : (relation : Routes) (port vc : ℕ) (f : Flit) (v : View) → lands relation port vc f v ≡ false → with_flit relation port (Some (vc, f)) v ≡ with_misfit v
+with_flit-turned relation port vc f v off = ap (λ b. if b then with_landed (port * v.site.vcs + vc) f v else with_misfit v) off
+
+pub no_link : (relation : Routes) (port vc : ℕ) (f : Flit) (v : View) → has_link v.site port ≡ false → lands relation port vc f v ≡ false
+no_link relation port vc f v e =
+    not_first (has_link v.site port) (nat_lt vc v.site.vcs) (fits relation v.site.node port vc v.site.places (view_buffer v (port * v.site.vcs + vc)) (view_input v (port * v.site.vcs + vc)) f) e
+
+pub no_channel : (relation : Routes) (port vc : ℕ) (f : Flit) (v : View) → nat_lt vc v.site.vcs ≡ false → lands relation port vc f v ≡ false
+no_channel relation port vc f v e =
+    not_second (has_link v.site port) (nat_lt vc v.site.vcs) (fits relation v.site.node port vc v.site.places (view_buffer v (port * v.site.vcs + vc)) (view_input v (port * v.site.vcs + vc)) f) e
+
+pub no_fit : (relation : Routes) (port vc : ℕ) (f : Flit) (v : View)
+    → fits relation v.site.node port vc v.site.places (view_buffer v (port * v.site.vcs + vc)) (view_input v (port * v.site.vcs + vc)) f ≡ false → lands relation port vc f v ≡ false
+no_fit relation port vc f v e =
+    not_third (has_link v.site port) (nat_lt vc v.site.vcs) (fits relation v.site.node port vc v.site.places (view_buffer v (port * v.site.vcs + vc)) (view_input v (port * v.site.vcs + vc)) f) e
+
+-- the view once a flit has landed
+pub landed-view : (r : Inside) (channels : Channels) (i : ℕ) (f : Flit) → channels.bank ≡ pushed r.channels.bank i f
+    → channels.inputs.items ≡ slice_set r.channels.inputs.items i (landed (input_at r.channels.inputs.items i) f) → channels.outputs.items ≡ r.channels.outputs.items
+    → view_of (record r { channels = channels; had_event = true }) ≡ with_landed i f (view_of r)
+landed-view r channels i f bank inputs outputs = rw (bank, inputs, outputs)
+
+-- .. once one was turned away
+pub misfit-view : (r : Inside) (channels : Channels) (n : ℕ) → channels.bank ≡ r.channels.bank
+    → channels.inputs.items ≡ r.channels.inputs.items → channels.outputs.items ≡ r.channels.outputs.items → n ≡ raised r.misfits
+    → view_of (record r { channels = channels; misfits = n }) ≡ with_misfit (view_of r)
+misfit-view r channels n bank inputs outputs more = rw (bank, inputs, outputs, more)
+
+-- a credit arrives where it fits
+pub with_credit-fits : (port vc : ℕ) (v : View) → has_link v.site port ≡ true → nat_lt vc v.site.vcs ≡ true → credit_fits (view_output v (port * v.site.vcs + vc)) ≡ true
+    → with_credit port (Some vc) v ≡ record v { outputs = slice_set v.outputs (port * v.site.vcs + vc) (credited (view_output v (port * v.site.vcs + vc))); had_event = true }
+with_credit-fits port vc v link small fit =
+    let o = port * v.site.vcs + vc in
+    let arrived : View = record v { outputs = slice_set v.outputs o (credited (view_output v o)); had_event = true } in
+    ap (λ b. if b then arrived else with_misfit v) (three (has_link v.site port) (nat_lt vc v.site.vcs) (credit_fits (view_output v o)) link small fit)
+
+-- the view once a credit has arrived
+pub credited-view : (r : Inside) (channels : Channels) (o : ℕ) → channels.bank ≡ r.channels.bank → channels.inputs.items ≡ r.channels.inputs.items
+    → channels.outputs.items ≡ slice_set r.channels.outputs.items o (credited (output_at r.channels.outputs.items o))
+    → view_of (record r { channels = channels; had_event = true })
+    ≡ record (view_of r) { outputs = slice_set r.channels.outputs.items o (credited (output_at r.channels.outputs.items o)); had_event = true }
+credited-view r channels o bank inputs outputs = rw (bank, inputs, outputs)
+
+-- ---- a router stays where it is
+
+one_of : (b : Bool) (x y : View) (site : Site) → x.site ≡ site → y.site ≡ site → (if b then x else y).site ≡ site
+one_of true x y site e f = e
+one_of false x y site e f = f
+
+flit-site : (relation : Routes) (port : ℕ) (flit : Option (ℕ × Flit)) (v : View) → (with_flit relation port flit v).site ≡ v.site
+flit-site relation port None v = refl
+flit-site relation port (Some (vc, f)) v = one_of (lands relation port vc f v) (with_landed (port * v.site.vcs + vc) f v) (with_misfit v) v.site refl refl
+
+credit-site : (port : ℕ) (credit : Option ℕ) (v : View) → (with_credit port credit v).site ≡ v.site
+credit-site port None v = refl
+credit-site port (Some vc) v =
+    let o : ℕ = port * v.site.vcs + vc in
+    one_of (has_link v.site port && nat_lt vc v.site.vcs && credit_fits (view_output v o))
+    (record v { outputs = slice_set v.outputs o (credited (view_output v o)); had_event = true }) (with_misfit v) v.site refl refl
+
+pub taken-site : (relation : Routes) (port : ℕ) (beat : Beat) (v : View) → (taken relation port beat v).site ≡ v.site
+unfolding taken
+taken-site relation port beat v = credit-site port beat.credit (with_flit relation port beat.flit v) ∙ flit-site relation port beat.flit v
+
+pub taken_from-site : (relation : Routes) (port : ℕ) (beats : List Beat) (v : View) → (taken_from relation port beats v).site ≡ v.site
+taken_from-site relation port [] v = refl
+taken_from-site relation port (beat ∷ beats) v = taken_from-site relation (port + 1) beats (taken relation port beat v) ∙ taken-site relation port beat v
+
+-- ---- one beat more
+
+taken_from-more : (relation : Routes) (port : ℕ) (beats : List Beat) (beat : Beat) (v : View)
+    → taken_from relation port (beats ++ beat ∷ []) v ≡ taken relation (port + length beats) beat (taken_from relation port beats v)
+taken_from-more relation port [] beat v = let e : port ≡ port + 0 = omega arith in ap (λ p. taken relation p beat v) e
+taken_from-more relation port (first ∷ beats) beat v =
+    let e : port + 1 + length beats ≡ port + suc (length beats) = omega arith in
+    taken_from-more relation (port + 1) beats beat (taken relation port first v)
+    ∙ ap (λ p. taken relation p beat (taken_from relation (port + 1) beats (taken relation port first v))) e
+
+pub taken_from-next : (relation : Routes) (beats : List Beat) (port : ℕ) (d : Beat) (v w : View) → port < length beats → w ≡ taken_from relation 0 (take port beats) v
+    → taken relation port (slice_index_or beats port d) w ≡ taken_from relation 0 (take (port + 1) beats) v
+taken_from-next relation beats port d v w l so_far =
+    let beat : Beat = slice_index_or beats port d in
+    let count : 0 + length (take port beats) ≡ port = omega (arith, length-take port beats) in
+    ap (taken relation port beat) so_far
+    ∙ sym (ap (λ xs. taken_from relation 0 xs v) (take_more beats port d l)
+    ∙ taken_from-more relation 0 (take port beats) beat v
+    ∙ ap (λ p. taken relation p beat (taken_from relation 0 (take port beats) v)) count)

@@ -1,0 +1,29 @@
+use Rattle.std.proofs.Common.{ℕ, ap, sym, ◌∙◌, Option, Some}
+use Rattle.noc_packet.specs.declared.packet.Flit.{Flit}
+use Rattle.noc_router.specs.View.{View, with_flit, with_credit, taken}
+use Rattle.noc_router.proofs.router.Router.take.Goals as goal
+use Rattle.noc_router.proofs.router.Router.take.Goals.{in-Some, in_default}
+
+pub returns-in-Some-credit : goal.returns-in-Some-credit
+unfolding taken
+returns-in-Some-credit c =
+    let v = c.args.self.now in
+    let g = c.args.relation.now in
+    c.take_credit.ensures
+    ∙ ap (λ vc. with_credit c.args.port (Some vc) c.match-beat.self) c.from-in-Some-credit.ensures
+    ∙ ap (λ o. with_credit c.args.port o c.match-beat.self) (sym c.in-Some-credit.is)
+    ∙ ap (λ (x : View). with_credit c.args.port c.args.beat.credit x) (elim c.match-beat.branch [
+      | in-Some w ↦ w.self-is ∙ w.take_flit.ensures ∙ ap (λ vc. with_flit g c.args.port (Some (vc, w.in-Some.flit)) v) w.from.ensures ∙ ap (λ (o : Option (ℕ × Flit)). with_flit g c.args.port o v) (sym w.in-Some.is)
+      | in_default w ↦ w.self-is ∙ ap (λ (o : Option (ℕ × Flit)). with_flit g c.args.port o v) (sym w.in_default.is)
+    ])
+
+pub returns-in_default-credit : goal.returns-in_default-credit
+unfolding taken
+returns-in_default-credit c =
+    let v = c.args.self.now in
+    let g = c.args.relation.now in
+    ap (λ o. with_credit c.args.port o c.match-beat.self) (sym c.in_default-credit.is)
+    ∙ ap (λ (x : View). with_credit c.args.port c.args.beat.credit x) (elim c.match-beat.branch [
+      | in-Some w ↦ w.self-is ∙ w.take_flit.ensures ∙ ap (λ vc. with_flit g c.args.port (Some (vc, w.in-Some.flit)) v) w.from.ensures ∙ ap (λ (o : Option (ℕ × Flit)). with_flit g c.args.port o v) (sym w.in-Some.is)
+      | in_default w ↦ w.self-is ∙ ap (λ (o : Option (ℕ × Flit)). with_flit g c.args.port o v) (sym w.in_default.is)
+    ])

@@ -1,0 +1,37 @@
+-- The requests of one router's input channels, and what is decided on them.
+use Rattle.std.specs.Prelude.{ℕ, ◌*◌, Bool, List, Option, None, length, replicate, if◌then◌else◌}
+use Rattle.noc_topo.specs.Words.{tabulate}
+use Rattle.noc_alloc.specs.Allocation.{grant_of, pick_of, winner_of}
+use Rattle.noc_router.specs.Verdict.{Turns, Round, pointers_of}
+use Rattle.noc_router.specs.declared.arbiters.Arbiters.{Arbiters}
+use Rattle.noc_router.specs.declared.requests.Requests.{Requests}
+
+-- the arbiters, as one record
+abbrev pub turns_in : Arbiters → Turns
+turns_in a = record { channels = a.channels.items; inputs = a.inputs.items; outputs = a.outputs.items }
+
+-- the answers of arbiters that were asked, or else nobody
+abbrev pub answers : Bool → List (Option ℕ) → List (Option ℕ)
+answers asked list = if asked then list else replicate (length list) None
+
+-- what the arbiters have decided
+abbrev pub round_in : Requests → Round
+round_in r = record {
+  grants = answers r.granted r.grants.items;
+  picks = answers r.switched r.picks.items;
+  wins = answers r.switched r.wins.items;
+}
+
+-- a round that nobody has asked for, with so many ports and output channels
+abbrev pub no_round : ℕ → ℕ → Round
+no_round ports size = record { grants = replicate size None; picks = replicate ports None; wins = replicate ports None }
+
+-- one round on the output channels that are asked for and the output ports to which input channels are ready to send
+abbrev pub round_on : ℕ → ℕ → List (Option ℕ) → List (Option ℕ) → Turns → Round
+round_on ports vcs asks ready arbiters =
+    let picks = tabulate ports (pick_of ready vcs (pointers_of arbiters.inputs)) in
+    record {
+      grants = tabulate (ports * vcs) (grant_of asks (ports * vcs) (pointers_of arbiters.channels));
+      picks = picks;
+      wins = tabulate ports (winner_of ready vcs ports picks (pointers_of arbiters.outputs));
+    }

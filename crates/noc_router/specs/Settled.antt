@@ -1,0 +1,125 @@
+-- How the verdict of one input channel takes effect, and all of them.
+use Rattle.std.specs.Prelude.{◌≡◌, ℕ, ◌+◌, ◌*◌, ◌/◌, ◌%◌, ◌<◌, true, List, drop, Option, Some, None, IfSome, option_map, length, nat_lt, unwrap_or, slice_index, slice_index_or, slice_set, if◌then◌else◌}
+use Rattle.noc_topo.specs.Words.{tabulate, map_indexed}
+use Rattle.noc_topo.specs.Shape.{local_port}
+use Rattle.noc_packet.specs.declared.packet.Flit.{Flit}
+use Rattle.noc_packet.specs.declared.packet.Beat.{Beat}
+use Rattle.noc_route.specs.Routes.{Routes}
+use Rattle.noc_vc.specs.Input.{is_waiting, routed, granted, sent}
+use Rattle.noc_vc.specs.Output.{is_free, has_credit, held, spent}
+use Rattle.noc_vc.specs.declared.input.InputState.{InputState}
+use Rattle.noc_vc.specs.declared.input.InputState.TheVariants.{Idle, Waiting, Active}
+use Rattle.noc_router.specs.Tally.{finding_at}
+use Rattle.noc_router.specs.declared.verdict.Verdict.{Verdict}
+use Rattle.noc_router.specs.declared.verdict.Verdict.TheVariants.{Routed, Granted, Moved}
+use Rattle.noc_router.specs.View.{View, Decisions, IsRelationOf, planned, idle_beat, idle_beats, counted, size_of, view_buffer, view_input, view_output, first_flit, flit_out, tail_packet, with_arrival, decided_verdict, buffer_after, input_after, output_after, has_event, beat_out}
+
+-- the decisions of this very view
+pub record IsPlanOf (d : Decisions) (v : View) : Type 0 where
+  pub relation : Routes
+  pub fits : IsRelationOf relation v
+  pub is : d ≡ planned relation v
+
+-- the findings are counted, and every beat is idle again
+abbrev pub tallied : Decisions → View → View
+tallied d v = record v {
+  counts = map_indexed (λ i counts. counted (decided_verdict d i) counts) v.counts;
+  findings = d.findings;
+  to_put = idle_beats v.site;
+}
+
+-- ---- one verdict
+-- the beats with this flit on this channel of a link port; a flit to the local port is on none
+abbrev pub with_flit_at : ℕ → ℕ → Flit → List Beat → List Beat
+with_flit_at port vc f beats = slice_set beats port (record (slice_index_or beats port idle_beat) { flit = Some (vc, f) })
+
+-- the beats with this credit at a link port; a credit to the local port is on none
+abbrev pub with_credit_at : ℕ → ℕ → List Beat → List Beat
+with_credit_at port vc beats = slice_set beats port (record (slice_index_or beats port idle_beat) { credit = Some vc })
+
+-- the packet whose tail leaves by this port, if it is the local one
+abbrev pub ejected : View → ℕ → Flit → Option ℕ
+ejected v port f = if nat_lt port (local_port v.site.grid) then None else (if f.last then Some f.packet else None)
+
+-- an input channel was routed
+abbrev pub routed_at : ℕ → ℕ → View → View
+routed_at i set v = record v { inputs = slice_set v.inputs i (routed (view_input v i) set); had_event = true }
+
+-- .. was granted output channel o
+abbrev pub granted_at : ℕ → ℕ → View → View
+granted_at i o v = record v {
+  inputs = slice_set v.inputs i (granted (view_input v i) o);
+  outputs = slice_set v.outputs o (held (view_output v o) i (unwrap_or (view_input v i).packet 0));
+  had_event = true;
+}
+
+-- .. has lost its first flit to output channel o
+abbrev pub sent_at : ℕ → ℕ → Flit → View → View
+sent_at i o f v = record v {
+  buffers = slice_set v.buffers i (drop 1 (view_buffer v i));
+  inputs = slice_set v.inputs i (sent (view_input v i) f);
+  outputs = slice_set v.outputs o (spent f.last (view_output v o));
+  had_event = true;
+}
+
+-- a credit leaves by a port
+abbrev pub credit_put : ℕ → ℕ → View → View
+credit_put port vc v = record v { to_put = with_credit_at port vc v.to_put }
+
+-- a flit leaves by a port, or has arrived
+abbrev pub flit_put : ℕ → ℕ → Flit → View → View
+flit_put port vc f v = with_arrival (ejected v port f) (record v { to_put = with_flit_at port vc f v.to_put })
+
+-- the first flit of an input channel, if there is one, leaves by output channel o
+abbrev pub moved_by : ℕ → ℕ → Option Flit → View → View
+moved_by i o None v = v
+moved_by i o (Some f) v = flit_put (o / v.site.vcs) (o % v.site.vcs) f (credit_put (i / v.site.vcs) (i % v.site.vcs) (sent_at i o f v))
+
+-- the output channel that the finding of channel i names
+abbrev pub found_out : Decisions → View → ℕ → Option ℕ
+found_out d v i = option_map (λ (place : ℕ × ℕ). place.0 * v.site.vcs + place.1) (finding_at d.findings i).out
+
+abbrev pub granted_by : ℕ → Option ℕ → View → View
+granted_by i None v = v
+granted_by i (Some o) v = granted_at i o v
+
+abbrev pub moved_in_phase : ℕ → InputState → View → View
+moved_in_phase i Idle v = v
+moved_in_phase i (Waiting set) v = v
+moved_in_phase i (Active o) v = moved_by i o (first_flit v i) v
+
+-- the verdict of channel i takes effect
+abbrev pub settled_by : Decisions → ℕ → View → Verdict → View
+settled_by d i v Routed = routed_at i (slice_index d.routes i) v
+settled_by d i v Granted = granted_by i (found_out d v i) v
+settled_by d i v Moved = moved_in_phase i (view_input v i).phase v
+settled_by d i v _ = v
+
+-- what holds where input channel i is granted output channel o
+pub record CanGrant (v : View) (i o : ℕ) : Type 0 where
+  pub within : o < size_of v.site
+  pub waits : is_waiting (view_input v i).phase ≡ true
+  pub free : is_free (view_output v o).holder ≡ true
+
+-- .. where it moves a flit to the output channel that it owns
+abbrev pub CanMove : View → InputState → Type 0
+CanMove v Idle = Unit {0}
+CanMove v (Waiting set) = Unit {0}
+CanMove v (Active o) = has_credit (view_output v o) ≡ true
+
+-- what a verdict says of the view
+abbrev pub CanSettle : Decisions → View → ℕ → Verdict → Type 0
+CanSettle d v i Routed = ((view_input v i).phase ≡ Idle) × (0 < length (view_buffer v i))
+CanSettle d v i Granted = IfSome (found_out d v i) (CanGrant v i)
+CanSettle d v i Moved = CanMove v (view_input v i).phase
+CanSettle d v i _ = Unit {0}
+
+-- ---- all verdicts
+unfoldable pub settled : Decisions → View → View
+settled d v = with_arrival (tail_packet (flit_out v d.round (local_port v.site.grid))) (record v {
+  buffers = map_indexed (λ i flits. buffer_after flits (decided_verdict d i)) v.buffers;
+  inputs = map_indexed (λ i input. input_after d v i input (decided_verdict d i)) v.inputs;
+  outputs = map_indexed (output_after v d.round) v.outputs;
+  had_event = has_event d v;
+  to_put = tabulate (local_port v.site.grid) (beat_out d v);
+})
