@@ -590,6 +590,7 @@ impl Router {
         requires beats_in { length beats_in.now ≡ local_port self.old.site.grid }
         requires beats_out { length beats_out.old ≡ local_port self.old.site.grid }
         ensures view { self.new ≡ (local_step relation.now self.old beats_in.now cycle).0 }
+        ensures site { self.new.site ≡ self.old.site }
         ensures beats { beats_out.new ≡ (local_step relation.now self.old beats_in.now cycle).1 }
         ensures plan { IsDecidedFor (ports_of self.old.site.grid) self.old.site.vcs plan.new }
     {

@@ -62,3 +62,9 @@ returns-clause-plan c =
     ap (λ (x : View). x.site) c.inject.ensures ∙ injected-site c.args.cycle c.take_all.new.self ∙ ap (λ (x : View). x.site) c.take_all.ensures ∙ all_taken-site c.args.relation.now c.args.beats_in.now v in
     let P : Site → Type 0 = λ s. IsDecidedFor (ports s.grid) s.vcs c.plan.new.plan in
     subst P site c.plan.ensures.lengths
+
+pub returns-clause-site : goal.returns-clause-site
+returns-clause-site c =
+    ap (λ (x : View). x.site) c.put_all.ensures.view ∙ ap (λ (x : View). x.site) c.commit.ensures ∙ committed-site c.plan.new.plan c.inject.new.self
+    ∙ ap (λ (x : View). x.site) c.inject.ensures ∙ injected-site c.args.cycle c.take_all.new.self ∙ ap (λ (x : View). x.site) c.take_all.ensures
+    ∙ all_taken-site c.args.relation.now c.args.beats_in.now c.args.self.now

@@ -1,0 +1,142 @@
+//! One router alone, over beats whose outcome is worked out by hand.
+
+ghost use Rattle.std.specs.Prelude.{◌≡◌, ◌<◌, ◌≤◌, All};
+ghost use Rattle.noc_topo.specs.Shape.{ports as ports_of, local_port};
+ghost use Rattle.noc_router.specs.Decided.{IsDecidedFor};
+ghost use Rattle.noc_router.specs.Start.{IsStart};
+ghost use Rattle.noc_router.specs.View.{IsRelationOf};
+
+use super::*;
+use noc_packet::{Beat, Flit, Packet};
+use noc_route::{Relation, Rule};
+use noc_topo::{Kind, Shape};
+use std::alloc::Global;
+use std::process::Abort;
+
+/// Dimension order on a line of two routers, in one class.
+fn line_of_two(rt: &impl Abort, alloc: Global, vcs: usize) -> Relation
+    ensures links { local_port result.grid ≡ 2 }
+    ensures vcs { result.vcs ≡ vcs }
+{
+    let Ok(shape) = Shape::new(Kind::Mesh, &[2]) else {
+        panic!(rt; "no shape");
+    };
+    assert!(rt; shape.ports() == 3);
+    match Relation::build(alloc, &shape, vcs, 1, Rule::Dor) {
+        Ok(relation) => relation,
+        Err(_) => panic!(rt; "no relation"),
+    }
+}
+
+/// Router 0 of a network, with the packets that start there.
+fn first_router(
+    rt: &impl Abort,
+    alloc: Global,
+    relation: &Relation,
+    places: usize,
+    starts: Vec<(u32, Packet)>,
+) -> Router
+    requires some_place { 0 < places }
+    requires places { places ≤ 16 }
+    requires starts { All IsStart starts.items }
+    ensures { IsRelationOf relation.now result }
+{
+    assert!(rt; relation.shape().nodes() > 0);
+    match Router::new(alloc, relation, 0, places, starts, Vec::new(alloc)) {
+        Ok(router) => router,
+        Err(_) => panic!(rt; "no router"),
+    }
+}
+
+/// A plan for the routers of a network.
+fn plan_for(rt: &impl Abort, alloc: Global, relation: &Relation) -> Plan
+    ensures { IsDecidedFor (ports_of relation.now.grid) relation.now.vcs result }
+{
+    match Plan::new(alloc, relation) {
+        Ok(plan) => plan,
+        Err(_) => panic!(rt; "no plan"),
+    }
+}
+
+/// One cycle of a router with two link ports: this beat comes to the first of them, and an idle one to the other.
+fn cycle(router: &mut Router, relation: &Relation, plan: &mut Plan, number: u64, beat: Beat)
+    requires relation { IsRelationOf relation.now router.old }
+    requires links { local_port relation.now.grid ≡ 2 }
+    requires plan { IsDecidedFor (ports_of relation.now.grid) relation.now.vcs plan.old }
+    ensures relation { IsRelationOf relation.now router.new }
+    ensures plan { IsDecidedFor (ports_of relation.now.grid) relation.now.vcs plan.new }
+{
+    let mut out = [Beat::idle(); 2];
+    router.step(relation, plan, number, &[beat, Beat::idle()], &mut out);
+}
+
+/// The first cycles of a router with two link ports, on idle beats.
+fn run_idle(router: &mut Router, relation: &Relation, plan: &mut Plan, cycles: u64)
+    requires relation { IsRelationOf relation.now router.old }
+    requires links { local_port relation.now.grid ≡ 2 }
+    requires plan { IsDecidedFor (ports_of relation.now.grid) relation.now.vcs plan.old }
+    ensures { IsRelationOf relation.now router.new }
+{
+    for number in 0..cycles {
+        cycle(router, relation, plan, number, Beat::idle());
+    }
+}
+
+/// A packet of one flit from router 0 to router 1, due at once.
+const SHORT: Packet = Packet {
+    source: 0,
+    destination: 1,
+    class: 0,
+    length: 1,
+    due: 0,
+};
+
+/// The second flit of a packet that ends at router 0.
+const STRAY: Flit = Flit {
+    packet: 0,
+    index: 1,
+    last: true,
+    dst: 0,
+    class: 0,
+};
+
+#[test]
+fn two_packets_of_one_node_start_in_two_cycles(rt: HostRuntime) {
+    let alloc = rt.alloc();
+    let relation = line_of_two(&rt, alloc, 2);
+    let Ok(starts) = vec![in alloc; (0, SHORT), (1, SHORT)] else {
+        panic!(&rt; "no list");
+    };
+    let mut router = first_router(&rt, alloc, &relation, 2, starts);
+    let mut plan = plan_for(&rt, alloc, &relation);
+    run_idle(&mut router, &relation, &mut plan, 12);
+    for vc in 0..2usize {
+        assert_eq!(rt; router.counts(2, vc), [9, 1, 1, 1, 0, 0, 0, 0, 0, 0]);
+    }
+}
+
+#[test]
+fn each_half_of_a_beat_that_does_not_fit_is_one_misfit(rt: HostRuntime) {
+    let alloc = rt.alloc();
+    let relation = line_of_two(&rt, alloc, 1);
+    let mut router = first_router(&rt, alloc, &relation, 1, Vec::new(alloc));
+    let mut plan = plan_for(&rt, alloc, &relation);
+    let beat = Beat {
+        flit: Some((0, STRAY)),
+        credit: Some(0),
+    };
+    cycle(&mut router, &relation, &mut plan, 0, beat);
+    assert_eq!(rt; router.misfits(), 2);
+    assert!(rt;
+        router
+            .findings()
+            .iter()
+            .all(|finding| finding.verdict == Verdict::Empty)
+    );
+    let beat = Beat {
+        flit: Some((1, STRAY)),
+        credit: None,
+    };
+    cycle(&mut router, &relation, &mut plan, 1, beat);
+    assert_eq!(rt; router.misfits(), 3);
+}
