@@ -225,8 +225,20 @@ pub IsMade-steps : (g : Routing) (sets left outs : List ℕ) → IsGrid g.grid �
 IsMade-steps g sets left outs grid right rows entered sound full trimmed =
     record { good = record { grid = grid; right = right; rows = rows }; entered = entered; sound = sound; full = full; trimmed = trimmed }
 
-pub IsRelationOf-made : (g : Routing) (sets left outs : List ℕ) → IsMade g sets left outs → IsRelationOf g (table g left)
-IsRelationOf-made g sets left outs made = record { grid = refl; vcs = refl; classes = refl; exact = exact g sets left outs made }
+-- where no entry is stuck, the rule leads on wherever packets come
+ways-unstuck : (g : Routing) (sets left outs : List ℕ) → IsMade g sets left outs → IsUnstuck g left outs → (e : Entry) → IsNoWay g e → ⊥
+ways-unstuck g sets left outs made unstuck e way =
+    let at = StuckAt-no_way g sets left outs made e way in
+    false≢true (sym (unstuck at.block at.input at.exists at.within) ∙ at.stuck)
+
+pub IsRelationOf-made : (g : Routing) (sets left outs : List ℕ) → IsMade g sets left outs → IsUnstuck g left outs → IsRelationOf g (table g left)
+IsRelationOf-made g sets left outs made unstuck = record {
+  faultless = record { right = made.good.right; rows = made.good.rows; ways = ways-unstuck g sets left outs made unstuck };
+  grid = refl;
+  vcs = refl;
+  classes = refl;
+  exact = exact g sets left outs made;
+}
 
 -- lists without a member say that nothing leaves
 pub IsSoundOut-none : (routes : Routes) (outs : List ℕ) → ((j : ℕ) → get_or outs j 0 ≡ 0) → IsSoundOut routes outs

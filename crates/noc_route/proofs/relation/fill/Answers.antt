@@ -30,6 +30,7 @@ returns-in-None-clause-exact c =
     IsRelationOf-made g c.enter.new.sets c.trim.new.sets c.gather.new.outs
     (IsMade-steps g c.enter.new.sets c.trim.new.sets c.gather.new.outs c.args.map.now.frame.grid c.requires.right c.in_ok-enter.ensures.ok c.in_ok-enter.ensures.entered
     c.gather.ensures.sound c.gather.ensures.full c.trim.ensures.left)
+    (IsUnstuck-none g c.trim.new.sets c.gather.new.outs (length c.enter.new.sets) (c.enter.auto.sets ∙ c.requires.sets) c.in-None.ensures.first)
 
 pub returns-in-None-clause-built : goal.returns-in-None-clause-built
 returns-in-None-clause-built c =
