@@ -16,3 +16,6 @@ pub mod BelowFacts
 pub mod FaultLaws
 pub mod TrafficFaults
 pub mod TableFaults
+pub mod RankLaws
+pub mod RankFaults
+pub mod RankFacts

@@ -7,6 +7,7 @@ mod findings;
 mod joined;
 mod latency;
 mod ports;
+mod ranks;
 mod rows;
 mod sink;
 mod source;
@@ -24,6 +25,10 @@ pub use findings::write_findings;
 pub use joined::split_joined;
 pub use latency::write_latency;
 pub use ports::port_name;
+pub use ranks::{
+    rank_file_is_header_and_rows, rank_file_is_refused_with_its_first_fault, read_ranks,
+    write_ranks,
+};
 pub use rows::{plain_rows_are_read_back, rows_are_records};
 pub use sink::{Out, Sink};
 pub use source::read_all;
