@@ -18,7 +18,8 @@ mod traffic;
 mod writing;
 
 pub use configuration::{
-    Config, MAX_CYCLES, RuleName, configuration_is_document_with_keys, read_config,
+    Config, MAX_CYCLES, RuleName, configuration_is_document_with_keys,
+    configuration_is_refused_with_its_first_fault, read_config,
 };
 pub use fault::{InputFault, Key};
 pub use findings::write_findings;
