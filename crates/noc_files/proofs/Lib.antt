@@ -21,3 +21,4 @@ pub mod RankFaults
 pub mod RankFacts
 pub mod ListingFacts
 pub mod ConfigurationFaults
+pub mod FindingFacts

@@ -22,7 +22,7 @@ pub use configuration::{
     configuration_is_refused_with_its_first_fault, read_config,
 };
 pub use fault::{InputFault, Key};
-pub use findings::write_findings;
+pub use findings::{findings_before_the_first_cycle_are_the_header, write_findings};
 pub use joined::split_joined;
 pub use latency::write_latency;
 pub use ports::port_name;
