@@ -1,11 +1,10 @@
 -- Texts and sums over the numbers below a count.
-use Rattle.std.proofs.Common.{cond, ◌==◌, false, ◌≡◌, ℕ, zero, suc, ◌+◌, ◌-◌, ◌<◌, Bool, List, [], ◌∷◌, ◌++◌, flat_map, Option, Result, Ok, Err, refl, sym, ap, ◌∙◌, arith, append_assoc, append-nil, zero-add, add-zero, sum_by}
-use Rattle.std.proofs.lemmas.Bool.{eq-eqb}
-use Rattle.std.proofs.lemmas.Bool.Decides.{nat_tests}
+use Rattle.std.proofs.Common.{◌≡◌, ℕ, zero, suc, ◌+◌, ◌-◌, ◌<◌, Bool, List, [], ◌∷◌, ◌++◌, flat_map, Option, Some, None, Result, Ok, Err, refl, sym, ap, ◌∙◌, arith, append_assoc, append-nil, zero-add, add-zero, sum}
 use Rattle.std.proofs.lemmas.Grind.{flat_map-append}
+use Rattle.std.proofs.lemmas.List.Elements.{filter_map-append}
 use Rattle.std.proofs.lemmas.List.Sums.{sum_by-append}
 use Rattle.std.proofs.KnownBytes.{Appends-nil}
-use Rattle.std.specs.List.{range_with_len}
+use Rattle.std.specs.List.{cons_option, filter_map, range_with_len}
 use Rattle.noc_topo.specs.Words.{below}
 use Rattle.noc_files.specs.declared.writing.WriteFault.{WriteFault}
 use Rattle.noc_files.specs.Writing.{Puts}
@@ -39,8 +38,33 @@ pub each_split : {X : Type 0} (f : ℕ → List X) (n count : ℕ) → n < count
 each_split f n count h =
     ap (flat_map f) (below_split n count h) ∙ flat_map-append f (below n) (n ∷ later n count) ∙ sym (append_assoc (flat_map f (below n)) (f n) (flat_map f (later n count)))
 
-pub sum_more : (f : ℕ → ℕ) (n : ℕ) → sum_by f (below (n + 1)) ≡ sum_by f (below n) + f n
-sum_more f n = rw (below_more n) (omega (arith, sum_by-append f (below n) (n ∷ [])))
+-- ---- what is found of the numbers
+
+found_more : {X : Type 0} (f : ℕ → Option X) (n : ℕ) → filter_map f (below (n + 1)) ≡ filter_map f (below n) ++ filter_map f (n ∷ [])
+found_more f n = ap (filter_map f) (below_more n) ∙ filter_map-append f (below n) (n ∷ [])
+
+-- one number more, of which x is found
+pub found_one : {X : Type 0} (f : ℕ → Option X) (n : ℕ) (x : X) → Some x ≡ f n → filter_map f (below (n + 1)) ≡ filter_map f (below n) ++ x ∷ []
+found_one {X} f n x e = found_more f n ∙ ap (λ (o : Option X). filter_map f (below n) ++ cons_option o []) (sym e)
+
+-- .. of which nothing is found
+pub found_no_more : {X : Type 0} (f : ℕ → Option X) (n : ℕ) → None ≡ f n → filter_map f (below (n + 1)) ≡ filter_map f (below n)
+found_no_more {X} f n e = found_more f n ∙ ap (λ (o : Option X). filter_map f (below n) ++ cons_option o []) (sym e) ∙ append-nil (filter_map f (below n))
+
+pub found_nothing : {X : Type 0} (f : ℕ → Option X) → filter_map f (below 0) ≡ []
+unfolding below
+found_nothing f = refl
+
+-- ---- sums of what is said of each number
+
+pub sum_more : (f : ℕ → List ℕ) (n total one : ℕ) → total ≡ sum (flat_map f (below n)) → one ≡ sum (f n) → total + one ≡ sum (flat_map f (below (n + 1)))
+sum_more f n total one so_far next =
+    let more : sum (flat_map f (below (n + 1))) ≡ sum (flat_map f (below n)) + sum (f n) = ap sum (each_more f n) ∙ sum_by-append (λ k. k) (flat_map f (below n)) (f n) in
+    rw (so_far, next) (sym more)
+
+pub sum_none : (f : ℕ → List ℕ) → 0 ≡ sum (flat_map f (below 0))
+unfolding below
+sum_none f = refl
 
 module _ {S : Type 0} (contents : S → Option (List ℕ)) (failed : S → Bool) (f : ℕ → List ℕ) where
   -- one number more
@@ -56,50 +80,3 @@ module _ {S : Type 0} (contents : S → Option (List ℕ)) (failed : S → Bool)
   pub puts_no_number : (before : ℕ) (a : S) → Puts contents failed a a before (flat_map f (below 0)) (Ok before)
   unfolding below
   puts_no_number before a = (omega arith, Appends-nil (contents a))
-
--- ---- a function that is found number by number
-
--- f with another answer at one number
-abbrev pub with_answer : {X : Type 0} → (ℕ → X) → ℕ → X → ℕ → X
-with_answer f n x k = cond (k == n) x (f k)
-
-pub answers_there : {X : Type 0} (f : ℕ → X) (n : ℕ) (x : X) → with_answer f n x n ≡ x
-answers_there f n x = rw (eq-eqb n n refl)
-
-pub answers_before : {X : Type 0} (f : ℕ → X) (n k : ℕ) (x : X) → k < n → with_answer f n x k ≡ f k
-answers_before f n k x h = let other : (k == n) ≡ false = grind (arith, nat_tests) in rw other
-
--- two functions that agree below a count give one text
-none_same : {X : Type 0} (f g : ℕ → List X) → flat_map f (below 0) ≡ flat_map g (below 0)
-unfolding below
-none_same f g = refl
-
-pub each_same : {X : Type 0} (f g : ℕ → List X) (n : ℕ) → ((k : ℕ) → k < n → f k ≡ g k) → flat_map f (below n) ≡ flat_map g (below n)
-each_same f g zero same = none_same f g
-each_same {X} f g (suc n) same =
-    let next : suc n ≡ n + 1 = omega arith in
-    let before : flat_map f (below n) ≡ flat_map g (below n) = each_same f g n (λ k h. same k (omega arith)) in
-    let parts : flat_map f (below n) ++ f n ≡ flat_map g (below n) ++ g n = ap (λ (t : List X). t ++ f n) before ∙ ap (λ (t : List X). flat_map g (below n) ++ t) (same n (omega arith)) in
-    ap (λ k. flat_map f (below k)) next ∙ each_more f n ∙ parts ∙ sym (each_more g n) ∙ sym (ap (λ k. flat_map g (below k)) next)
-
-module _ {S X : Type 0} (contents : S → Option (List ℕ)) (failed : S → Bool) (line : ℕ → X → List ℕ) where
-  -- the lines of numbers, each with its answer
-  abbrev pub lines_with : (ℕ → X) → ℕ → List ℕ
-  lines_with answers n = line n (answers n)
-
-  same_lines : (answers : ℕ → X) (n : ℕ) (x : X) → flat_map (lines_with answers) (below n) ≡ flat_map (lines_with (with_answer answers n x)) (below n)
-  same_lines answers n x = each_same (lines_with answers) (lines_with (with_answer answers n x)) n (λ k h. ap (line k) (sym (answers_before answers n k x h)))
-
-  same_line : (answers : ℕ → X) (n : ℕ) (x : X) → line n x ≡ lines_with (with_answer answers n x) n
-  same_line answers n x = ap (line n) (sym (answers_there answers n x))
-
-  -- one number more, with its answer
-  pub puts_answer : (answers : ℕ → X) (x : X) (n before w : ℕ) (a m b : S) (r : Result ℕ WriteFault) → Puts contents failed a m before (flat_map (lines_with answers) (below n)) (Ok w) → Puts contents failed m b w (line n x) r
-      → Puts contents failed a b before (flat_map (lines_with (with_answer answers n x)) (below (n + 1))) r
-  puts_answer answers x n before w a m b r first next =
-      puts_number contents failed (lines_with (with_answer answers n x)) n before w a m b r (rw (← same_lines answers n x) first) (rw (← same_line answers n x) next)
-
-  pub fault_at_answer : (answers : ℕ → X) (x : X) (n count before w : ℕ) (a m b : S) (e : WriteFault) → n < count → Puts contents failed a m before (flat_map (lines_with answers) (below n)) (Ok w) → Puts contents failed m b w (line n x) (Err e)
-      → Puts contents failed a b before (flat_map (lines_with (with_answer answers n x)) (below count)) (Err e)
-  fault_at_answer answers x n count before w a m b e h first next =
-      fault_at_number contents failed (lines_with (with_answer answers n x)) n count before w a m b e h (rw (← same_lines answers n x) first) (rw (← same_line answers n x) next)

@@ -16,3 +16,9 @@ pub mod BelowFacts
 pub mod FaultLaws
 pub mod TrafficFaults
 pub mod TableFaults
+pub mod RankLaws
+pub mod RankFaults
+pub mod RankFacts
+pub mod ListingFacts
+pub mod ConfigurationFaults
+pub mod FindingFacts

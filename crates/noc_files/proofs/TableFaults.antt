@@ -8,7 +8,8 @@ use Rattle.noc_files.specs.declared.fault.InputFault.{InputFault}
 use Rattle.noc_files.specs.declared.fault.InputFault.TheVariants.{BadCount, BadNumber, BadPort}
 use Rattle.noc_files.specs.Ports.{IsPortName, port_of}
 use Rattle.noc_files.specs.Rows.{Fields, number_of, rows_of}
-use Rattle.noc_files.specs.Table.{HasBadColumn, IsField, IsRouteFault, IsTableFault, WritesRoute, field_fault, header, is_port_column, route_row_of, table_of}
+use Rattle.noc_files.specs.Columns.{HasBadColumn, IsField, field_fault}
+use Rattle.noc_files.specs.Table.{IsRouteFault, IsTableFault, WritesRoute, header, is_port_column, route_row_of, table_of}
 use Rattle.noc_files.proofs.FaultLaws.{breaks_sheet, sheet_breaks}
 use Rattle.noc_files.proofs.PortLaws.{is_port, port_is}
 use Rattle.noc_files.proofs.SheetLaws.{is_numeral, numeral_is}
@@ -18,10 +19,10 @@ use Rattle.noc_files.proofs.TrafficLaws.{differs}
 use borrow.Author.Count.{below_more, below_none}
 
 module _ (g : Grid) (grid : IsGrid g) where
-  no_port : (field : List ℕ) → port_of g field ≡ None → ((port : ℕ) × IsPortName g field port) → ⊥
+  pub no_port : (field : List ℕ) → port_of g field ≡ None → ((port : ℕ) × IsPortName g field port) → ⊥
   no_port field e h = none-some h.0 (sym e ∙ is_port g field h.0 grid h.1)
 
-  none_named : (field : List ℕ) → (((port : ℕ) × IsPortName g field port) → ⊥) → port_of g field ≡ None
+  pub none_named : (field : List ℕ) → (((port : ℕ) × IsPortName g field port) → ⊥) → port_of g field ≡ None
   none_named field h = by (port_of g field) refl
     where
       by : (o : Option ℕ) → port_of g field ≡ o → port_of g field ≡ None
@@ -29,29 +30,29 @@ module _ (g : Grid) (grid : IsGrid g) where
       by None e = e
 
   seven_fault : (row : ℕ) (a b c d f h k : List ℕ) (fault : InputFault) → (oa : Option ℕ) → number_of a ≡ oa → (ob : Option ℕ) → number_of b ≡ ob → (oc : Option ℕ) → port_of g c ≡ oc → (od : Option ℕ) → number_of d ≡ od → (of : Option ℕ) → number_of f ≡ of → (oh : Option ℕ) → port_of g h ≡ oh → (ok : Option ℕ) → number_of k ≡ ok
-      → route_row_of g row (a ∷ b ∷ c ∷ d ∷ f ∷ h ∷ k ∷ []) ≡ Err fault → HasBadColumn g row (a ∷ b ∷ c ∷ d ∷ f ∷ h ∷ k ∷ []) fault
+      → route_row_of g row (a ∷ b ∷ c ∷ d ∷ f ∷ h ∷ k ∷ []) ≡ Err fault → HasBadColumn g 7 is_port_column row (a ∷ b ∷ c ∷ d ∷ f ∷ h ∷ k ∷ []) fault
   unfolding route_row_of field_at
   seven_fault row a b c d f h k fault None ea ob eb oc ec od ed of ef oh eh ok ek e =
       let said : Path (Result RouteRow InputFault) (Err (BadNumber row 0)) (Err fault) = rw ea at e in
-      record { seven = refl; column = 0; known = omega arith; before = below_none _; bad = no_numeral a ea; fault_is = cc }
+      record { all_there = refl; column = 0; known = omega arith; before = below_none _; bad = no_numeral a ea; fault_is = cc }
   seven_fault row a b c d f h k fault (Some na) ea None eb oc ec od ed of ef oh eh ok ek e =
       let said : Path (Result RouteRow InputFault) (Err (BadNumber row 1)) (Err fault) = rw (ea, eb) at e in
-      record { seven = refl; column = 1; known = omega arith; before = below_more _ 0 (below_none _) (na, numeral_is a na ea); bad = no_numeral b eb; fault_is = cc }
+      record { all_there = refl; column = 1; known = omega arith; before = below_more _ 0 (below_none _) (na, numeral_is a na ea); bad = no_numeral b eb; fault_is = cc }
   seven_fault row a b c d f h k fault (Some na) ea (Some nb) eb None ec od ed of ef oh eh ok ek e =
       let said : Path (Result RouteRow InputFault) (Err (BadPort row 2)) (Err fault) = rw (ea, eb, ec) at e in
-      record { seven = refl; column = 2; known = omega arith; before = below_more _ 1 (below_more _ 0 (below_none _) (na, numeral_is a na ea)) (nb, numeral_is b nb eb); bad = no_port c ec; fault_is = cc }
+      record { all_there = refl; column = 2; known = omega arith; before = below_more _ 1 (below_more _ 0 (below_none _) (na, numeral_is a na ea)) (nb, numeral_is b nb eb); bad = no_port c ec; fault_is = cc }
   seven_fault row a b c d f h k fault (Some na) ea (Some nb) eb (Some nc) ec None ed of ef oh eh ok ek e =
       let said : Path (Result RouteRow InputFault) (Err (BadNumber row 3)) (Err fault) = rw (ea, eb, ec, ed) at e in
-      record { seven = refl; column = 3; known = omega arith; before = below_more _ 2 (below_more _ 1 (below_more _ 0 (below_none _) (na, numeral_is a na ea)) (nb, numeral_is b nb eb)) (nc, port_is g c nc ec); bad = no_numeral d ed; fault_is = cc }
+      record { all_there = refl; column = 3; known = omega arith; before = below_more _ 2 (below_more _ 1 (below_more _ 0 (below_none _) (na, numeral_is a na ea)) (nb, numeral_is b nb eb)) (nc, port_is g c nc ec); bad = no_numeral d ed; fault_is = cc }
   seven_fault row a b c d f h k fault (Some na) ea (Some nb) eb (Some nc) ec (Some nd) ed None ef oh eh ok ek e =
       let said : Path (Result RouteRow InputFault) (Err (BadNumber row 4)) (Err fault) = rw (ea, eb, ec, ed, ef) at e in
-      record { seven = refl; column = 4; known = omega arith; before = below_more _ 3 (below_more _ 2 (below_more _ 1 (below_more _ 0 (below_none _) (na, numeral_is a na ea)) (nb, numeral_is b nb eb)) (nc, port_is g c nc ec)) (nd, numeral_is d nd ed); bad = no_numeral f ef; fault_is = cc }
+      record { all_there = refl; column = 4; known = omega arith; before = below_more _ 3 (below_more _ 2 (below_more _ 1 (below_more _ 0 (below_none _) (na, numeral_is a na ea)) (nb, numeral_is b nb eb)) (nc, port_is g c nc ec)) (nd, numeral_is d nd ed); bad = no_numeral f ef; fault_is = cc }
   seven_fault row a b c d f h k fault (Some na) ea (Some nb) eb (Some nc) ec (Some nd) ed (Some nf) ef None eh ok ek e =
       let said : Path (Result RouteRow InputFault) (Err (BadPort row 5)) (Err fault) = rw (ea, eb, ec, ed, ef, eh) at e in
-      record { seven = refl; column = 5; known = omega arith; before = below_more _ 4 (below_more _ 3 (below_more _ 2 (below_more _ 1 (below_more _ 0 (below_none _) (na, numeral_is a na ea)) (nb, numeral_is b nb eb)) (nc, port_is g c nc ec)) (nd, numeral_is d nd ed)) (nf, numeral_is f nf ef); bad = no_port h eh; fault_is = cc }
+      record { all_there = refl; column = 5; known = omega arith; before = below_more _ 4 (below_more _ 3 (below_more _ 2 (below_more _ 1 (below_more _ 0 (below_none _) (na, numeral_is a na ea)) (nb, numeral_is b nb eb)) (nc, port_is g c nc ec)) (nd, numeral_is d nd ed)) (nf, numeral_is f nf ef); bad = no_port h eh; fault_is = cc }
   seven_fault row a b c d f h k fault (Some na) ea (Some nb) eb (Some nc) ec (Some nd) ed (Some nf) ef (Some nh) eh None ek e =
       let said : Path (Result RouteRow InputFault) (Err (BadNumber row 6)) (Err fault) = rw (ea, eb, ec, ed, ef, eh, ek) at e in
-      record { seven = refl; column = 6; known = omega arith; before = below_more _ 5 (below_more _ 4 (below_more _ 3 (below_more _ 2 (below_more _ 1 (below_more _ 0 (below_none _) (na, numeral_is a na ea)) (nb, numeral_is b nb eb)) (nc, port_is g c nc ec)) (nd, numeral_is d nd ed)) (nf, numeral_is f nf ef)) (nh, port_is g h nh eh); bad = no_numeral k ek; fault_is = cc }
+      record { all_there = refl; column = 6; known = omega arith; before = below_more _ 5 (below_more _ 4 (below_more _ 3 (below_more _ 2 (below_more _ 1 (below_more _ 0 (below_none _) (na, numeral_is a na ea)) (nb, numeral_is b nb eb)) (nc, port_is g c nc ec)) (nd, numeral_is d nd ed)) (nf, numeral_is f nf ef)) (nh, port_is g h nh eh); bad = no_numeral k ek; fault_is = cc }
   seven_fault row a b c d f h k fault (Some na) ea (Some nb) eb (Some nc) ec (Some nd) ed (Some nf) ef (Some nh) eh (Some nk) ek e =
       let said : Path (Result RouteRow InputFault) (Ok (record { class = na; router = nb; in_port = nc; in_vc = nd; dst = nf; out_port = nh; out_vc = nk })) (Err fault) = rw (ea, eb, ec, ed, ef, eh, ek) at e in
       absurd (cc)
@@ -116,16 +117,16 @@ module _ (g : Grid) (grid : IsGrid g) where
   unfolding route_row_of
   wrong_count row fields other = rw (unlike (length fields) 7 other)
 
-  column_fault : (row : ℕ) (fields : Fields) (fault : InputFault) → HasBadColumn g row fields fault → route_row_of g row fields ≡ Err fault
-  column_fault row [] fault w = absurd (omega (arith, w.seven))
-  column_fault row (a ∷ []) fault w = absurd (omega (arith, w.seven))
-  column_fault row (a ∷ b ∷ []) fault w = absurd (omega (arith, w.seven))
-  column_fault row (a ∷ b ∷ c ∷ []) fault w = absurd (omega (arith, w.seven))
-  column_fault row (a ∷ b ∷ c ∷ d ∷ []) fault w = absurd (omega (arith, w.seven))
-  column_fault row (a ∷ b ∷ c ∷ d ∷ f ∷ []) fault w = absurd (omega (arith, w.seven))
-  column_fault row (a ∷ b ∷ c ∷ d ∷ f ∷ h ∷ []) fault w = absurd (omega (arith, w.seven))
+  column_fault : (row : ℕ) (fields : Fields) (fault : InputFault) → HasBadColumn g 7 is_port_column row fields fault → route_row_of g row fields ≡ Err fault
+  column_fault row [] fault w = absurd (omega (arith, w.all_there))
+  column_fault row (a ∷ []) fault w = absurd (omega (arith, w.all_there))
+  column_fault row (a ∷ b ∷ []) fault w = absurd (omega (arith, w.all_there))
+  column_fault row (a ∷ b ∷ c ∷ []) fault w = absurd (omega (arith, w.all_there))
+  column_fault row (a ∷ b ∷ c ∷ d ∷ []) fault w = absurd (omega (arith, w.all_there))
+  column_fault row (a ∷ b ∷ c ∷ d ∷ f ∷ []) fault w = absurd (omega (arith, w.all_there))
+  column_fault row (a ∷ b ∷ c ∷ d ∷ f ∷ h ∷ []) fault w = absurd (omega (arith, w.all_there))
   column_fault row (a ∷ b ∷ c ∷ d ∷ f ∷ h ∷ k ∷ []) fault w = bad_column row a b c d f h k fault w.column w.known w.before w.bad w.fault_is
-  column_fault row (a ∷ b ∷ c ∷ d ∷ f ∷ h ∷ k ∷ m ∷ more) fault w = absurd (omega (arith, w.seven))
+  column_fault row (a ∷ b ∷ c ∷ d ∷ f ∷ h ∷ k ∷ m ∷ more) fault w = absurd (omega (arith, w.all_there))
 
   fault_route : (row : ℕ) (fields : Fields) (fault : InputFault) → IsRouteFault g row fields fault → route_row_of g row fields ≡ Err fault
   fault_route row fields fault (inl w) = wrong_count row fields w.0 ∙ ap (λ (t : InputFault). Err t) (sym w.1)

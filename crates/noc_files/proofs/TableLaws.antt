@@ -19,10 +19,10 @@ use Rattle.noc_files.proofs.SheetLaws.{bind_ok, is_numeral, is_sheet, sheet_is}
 use Rattle.noc_files.proofs.TrafficLaws.{column, differs, found_in, numeral_at}
 
 -- the port in a column with this field
-abbrev port_column : Grid → ℕ → ℕ → List ℕ → Result ℕ InputFault
+abbrev pub port_column : Grid → ℕ → ℕ → List ℕ → Result ℕ InputFault
 port_column g row at field = ok_or (port_of g field) (BadPort row at)
 
-named_at : (g : Grid) (row at : ℕ) (field : List ℕ) (p : ℕ) → port_column g row at field ≡ Ok p → IsPortName g field p
+pub named_at : (g : Grid) (row at : ℕ) (field : List ℕ) (p : ℕ) → port_column g row at field ≡ Ok p → IsPortName g field p
 named_at g row at field p e = port_is g field p (found_in (port_of g field) (BadPort row at) p e)
 
 module _ (g : Grid) (grid : IsGrid g) where

@@ -1,5 +1,7 @@
 -- The report of a router's findings in one cycle.
 use Rattle.std.specs.Prelude.{ℕ, ◌+◌, ◌*◌, slice_get, List, [], ◌∷◌, ◌++◌, decimal, codes, Option, Some, None}
+use Rattle.noc_net.specs.Network.{Run}
+use Rattle.noc_net.specs.Readings.{router_view}
 use Rattle.noc_topo.specs.Shape.{Grid}
 use Rattle.noc_route.specs.Routes.{Routes}
 use Rattle.noc_router.specs.declared.verdict.Finding.{Finding}
@@ -49,3 +51,7 @@ found_line relation findings port vc = line_if_found relation.grid port vc (slic
 -- the report of a router, whose findings go by the index port*V + vc: the header, and a line for each input channel
 abbrev pub finding_report : Routes → ℕ → List Finding → List ℕ
 finding_report relation router findings = finding_header ++ over_router relation router (found_line relation findings)
+
+-- the report of a router of a run, which has found nothing before its first cycle
+abbrev pub findings_text : Run → ℕ → List ℕ
+findings_text u router = finding_report u.net.relation router (router_view u router).findings

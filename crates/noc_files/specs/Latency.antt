@@ -1,7 +1,8 @@
 -- The latency report.
 use Rattle.std.specs.Prelude.{ℕ, ◌-◌, length, List, [], ◌∷◌, ◌++◌, Option, Some, None, decimal, codes}
 use Rattle.std.specs.List.{flat_map}
-use Rattle.noc_net.specs.Network.{Setup, packet_at}
+use Rattle.noc_net.specs.Network.{Run, packet_at}
+use Rattle.noc_net.specs.Readings.{read_arrival}
 use Rattle.noc_topo.specs.Words.{below}
 use Rattle.noc_packet.specs.declared.packet.Packet.{Packet}
 use Rattle.noc_files.specs.Writing.{comma, dash_or, joined, line_end}
@@ -28,10 +29,10 @@ packet_end p out = joined (dash_or out ∷ comma ∷ dash_or (packet_latency p o
 abbrev pub packet_line : ℕ → Packet → Option ℕ → List ℕ
 packet_line number p out = packet_start number p ++ packet_end p out
 
--- the line of the packet with this number, where the tails are out in these cycles
-abbrev pub latency_line : Setup → (ℕ → Option ℕ) → ℕ → List ℕ
-latency_line net outs number = packet_line number (packet_at net number) (outs number)
+-- the line of packet p of a run, with the cycle in which its tail was out
+unfoldable pub latency_line : Run → ℕ → List ℕ
+latency_line u p = packet_line p (packet_at u.net p) (read_arrival u p)
 
--- the report of a network, where the tails are out in these cycles: the header, and a line for each packet
-abbrev pub latency_text : Setup → (ℕ → Option ℕ) → List ℕ
-latency_text net outs = latency_header ++ flat_map (latency_line net outs) (below (length net.packets))
+-- the report of a run: the header, and a line for each packet in order
+abbrev pub latency_text : Run → List ℕ
+latency_text u = latency_header ++ flat_map (latency_line u) (below (length u.net.packets))

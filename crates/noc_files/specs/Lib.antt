@@ -15,3 +15,5 @@ pub mod Keys
 pub mod Table
 pub mod Plain
 pub mod Channels
+pub mod Columns
+pub mod Ranks

@@ -1,8 +1,13 @@
 -- The names of ports.
-use Rattle.std.specs.Prelude.{◌≡◌, ℕ, ◌/◌, ◌==◌, ◌<◌, List, ◌++◌, codes, decimal, find, Option, Some, None, nat_lt, if◌then◌else◌}
+use Rattle.std.specs.Prelude.{◌≡◌, ℕ, ◌/◌, ◌==◌, ◌<◌, List, ◌++◌, codes, decimal, find, Option, Some, None, Result, nat_lt, if◌then◌else◌, option_and_then}
+use Rattle.std.specs.Option.{ok_or}
 use Rattle.std.specs.Str.{bytes_eq}
+use Rattle.csv.specs.Records.{field_at}
 use Rattle.noc_topo.specs.Shape.{Grid, is_plus, local_port, ports}
 use Rattle.noc_topo.specs.Words.{below}
+use Rattle.noc_files.specs.declared.fault.InputFault.{InputFault}
+use Rattle.noc_files.specs.declared.fault.InputFault.TheVariants.{BadPort}
+use Rattle.noc_files.specs.Rows.{Fields}
 
 -- whether a link leads up or down
 abbrev pub sign_of : ℕ → List ℕ
@@ -24,3 +29,7 @@ port_of g name = find (λ port. bytes_eq name (name_of_port g port)) (below (por
 pub record IsPortName (g : Grid) (name : List ℕ) (port : ℕ) : Type 0 where
   pub known : port < ports g
   pub text : name ≡ name_of_port g port
+
+-- the port in a column of a row, counted from 0
+abbrev pub port_at : Grid → ℕ → ℕ → Fields → Result ℕ InputFault
+port_at g row column fields = ok_or (option_and_then (port_of g) (field_at fields column)) (BadPort row column)

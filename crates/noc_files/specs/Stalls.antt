@@ -1,8 +1,8 @@
 -- The stall report.
-use Rattle.std.specs.Prelude.{ℕ, List, [], ◌∷◌, ◌++◌, decimal, codes}
+use Rattle.std.specs.Prelude.{ℕ, ◌+◌, ◌*◌, List, [], ◌∷◌, ◌++◌, decimal, codes, slice_index_or}
 use Rattle.std.specs.List.{flat_map}
-use Rattle.noc_route.specs.Routes.{Routes}
-use Rattle.noc_topo.specs.Shape.{Grid}
+use Rattle.noc_net.specs.Network.{Run}
+use Rattle.noc_net.specs.Readings.{router_view}
 use Rattle.noc_files.specs.Channels.{over_routers}
 use Rattle.noc_files.specs.Ports.{name_of_port}
 use Rattle.noc_files.specs.Writing.{comma, joined, line_end}
@@ -22,10 +22,14 @@ count_text count = joined (comma ∷ decimal count ∷ [])
 abbrev pub stall_line : ℕ → List ℕ → ℕ → List ℕ → List ℕ
 stall_line router port vc counts = place_text router port vc ++ flat_map count_text counts ++ line_end
 
--- the line of an input channel by its router, port and number
-abbrev pub channel_line : Grid → ℕ → ℕ → ℕ → List ℕ → List ℕ
-channel_line g router port vc counts = stall_line router (name_of_port g port) vc counts
+-- in how many cycles of a run an input channel had each verdict, as its router counted them
+unfoldable pub channel_counts : Run → ℕ → ℕ → ℕ → List ℕ
+channel_counts u router port vc = slice_index_or (router_view u router).counts (port * u.net.relation.vcs + vc) []
 
--- the report of a network whose channels have these counts: the header, and a line for each input channel
-abbrev pub stall_text : Routes → (ℕ → ℕ → ℕ → List ℕ) → List ℕ
-stall_text relation counts = stall_header ++ over_routers relation (λ router port vc. channel_line relation.grid router port vc (counts router port vc))
+-- the line of an input channel of a run
+unfoldable pub channel_line : Run → ℕ → ℕ → ℕ → List ℕ
+channel_line u router port vc = stall_line router (name_of_port u.net.relation.grid port) vc (channel_counts u router port vc)
+
+-- the report of a run: the header, and a line for each input channel
+abbrev pub stalls_text : Run → List ℕ
+stalls_text u = stall_header ++ over_routers u.net.relation (channel_line u)

@@ -1,10 +1,59 @@
 -- The summary report.
-use Rattle.std.specs.Prelude.{◌≡◌, ℕ, ◌+◌, length, List, [], ◌∷◌, codes, Option, Some, slice_index}
+use Rattle.std.specs.Prelude.{ℕ, ◌-◌, length, max, sum, fold, List, [], ◌∷◌, codes, Option, Some, None, unwrap_or, slice_index}
 use Rattle.std.specs.Borrow.{Bor}
-use Rattle.std.specs.List.{flat_map}
-use Rattle.noc_net.specs.Network.{Run}
+use Rattle.std.specs.List.{filter_map, flat_map}
+use Rattle.noc_topo.specs.Words.{below}
+use Rattle.noc_net.specs.Network.{Run, packet_at}
+use Rattle.noc_net.specs.Readings.{last_event_of, misfits_of, read_arrival}
+use Rattle.noc_files.specs.Channels.{over_routers}
+use Rattle.noc_files.specs.Latency.{packet_latency}
+use Rattle.noc_files.specs.Stalls.{channel_counts}
 use Rattle.noc_files.specs.Writing.{dash_or, joined, line_end}
 use Rattle.noc_files.specs.declared.summary.Summary.{Summary}
+
+-- ---- what it says of a run
+
+-- the latency of packet p, if its tail was out
+unfoldable pub latency_at : Run → ℕ → Option ℕ
+latency_at u p = packet_latency (packet_at u.net p) (read_arrival u p)
+
+-- the latencies of the packets whose tails were out
+abbrev pub latencies : Run → List ℕ
+latencies u = filter_map (latency_at u) (below (length u.net.packets))
+
+-- the greater of a number and the greatest of those before it, if there are any
+abbrev pub greater_of : Option ℕ → ℕ → Option ℕ
+greater_of greatest n = Some (max (unwrap_or greatest 0) n)
+
+-- the greatest of some numbers, if there are any
+abbrev pub greatest_of : List ℕ → Option ℕ
+greatest_of ns = fold greater_of None ns
+
+-- an input channel's count in a column of the stall report
+unfoldable pub column_at : Run → ℕ → ℕ → ℕ → ℕ → List ℕ
+column_at u column router port vc = slice_index (channel_counts u router port vc) column ∷ []
+
+-- the sum of a column of the stall report
+unfoldable pub column_total : Run → ℕ → ℕ
+column_total u column = sum (over_routers u.net.relation (column_at u column))
+
+unfoldable pub summary_of : Run → Summary
+summary_of u = record {
+  cycles = u.count;
+  packets = length u.net.packets;
+  delivered = length (latencies u);
+  left = length u.net.packets - length (latencies u);
+  latency_sum = sum (latencies u);
+  latency_max = greatest_of (latencies u);
+  last_event = last_event_of u;
+  misfits = misfits_of u;
+  totals =
+      column_total u 0 ∷ column_total u 1 ∷ column_total u 2 ∷ column_total u 3 ∷ column_total u 4
+      ∷ column_total u 5 ∷ column_total u 6 ∷ column_total u 7 ∷ column_total u 8 ∷ column_total u 9
+      ∷ [];
+}
+
+-- ---- its text
 
 -- a name, a space, and a number or a dash
 abbrev pub summary_line : List ℕ × Option ℕ → List ℕ
@@ -37,11 +86,10 @@ summary_entries s =
     ∷ (codes "lost_switch", Some (slice_index s.totals 9))
     ∷ []
 
-abbrev pub summary_text : Summary → List ℕ
-summary_text s = flat_map summary_line (summary_entries s)
+-- the lines of a summary
+abbrev pub summary_lines : Summary → List ℕ
+summary_lines s = flat_map summary_line (summary_entries s)
 
--- a summary of a network, as far as its cycles and its packets go
-pub record SummaryFits (u : Run) (s : Summary) : Type 0 where
-  pub cycles : s.cycles ≡ u.count
-  pub packets : s.packets ≡ length u.net.packets
-  pub left : s.delivered + s.left ≡ length u.net.packets
+-- the report of a run
+abbrev pub summary_text : Run → List ℕ
+summary_text u = summary_lines (summary_of u)

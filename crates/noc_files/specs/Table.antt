@@ -1,23 +1,18 @@
 -- What a table file says.
-use Rattle.std.specs.Prelude.{◌≡◌, ◌≢◌, ◌⊎◌, ◌||◌, Bool, true, false, slice_index_or, ℕ, ◌^◌, ◌<◌, ◌==◌, decimal, map, List, [], ◌∷◌, length, codes, Result, Ok, Err, if◌then◌else◌, option_and_then}
-use Rattle.std.specs.Option.{ok_or}
-use Rattle.csv.specs.Records.{field_at}
+use Rattle.std.specs.Prelude.{◌||◌, Bool, ℕ, ◌^◌, ◌<◌, ◌==◌, decimal, map, List, [], ◌∷◌, length, codes, Result, Ok, Err, if◌then◌else◌}
 use Rattle.noc_route.specs.declared.rule.RouteRow.{RouteRow}
 use Rattle.noc_topo.specs.Shape.{Grid, ports}
 use Rattle.noc_files.specs.declared.fault.InputFault.{InputFault}
-use Rattle.noc_files.specs.declared.fault.InputFault.TheVariants.{BadCount, BadNumber, BadPort}
+use Rattle.noc_files.specs.declared.fault.InputFault.TheVariants.{BadCount}
+use Rattle.noc_files.specs.Columns.{IsRowFault}
 use Rattle.noc_files.specs.Gives.{◌>>=◌}
-use Rattle.noc_files.specs.Ports.{IsPortName, name_of_port, port_of}
+use Rattle.noc_files.specs.Ports.{IsPortName, name_of_port, port_at}
 use Rattle.noc_files.specs.Plain.{plain_text}
-use Rattle.noc_files.specs.Rows.{Fields, HasNumeral, IsNumeral, number_at, rows_of}
+use Rattle.noc_files.specs.Rows.{Fields, IsNumeral, number_at, rows_of}
 use Rattle.noc_files.specs.Sheet.{IsSheet, IsSheetFault, sheet}
 
 abbrev pub header : Fields
 header = codes "class" ∷ codes "router" ∷ codes "in_port" ∷ codes "in_vc" ∷ codes "dst" ∷ codes "out_port" ∷ codes "out_vc" ∷ []
-
--- the port in a column of a row, counted from 0
-abbrev pub port_at : Grid → ℕ → ℕ → Fields → Result ℕ InputFault
-port_at g row column fields = ok_or (option_and_then (port_of g) (field_at fields column)) (BadPort row column)
 
 -- the row of a table: first the number of fields, then the fields from left to right
 unfoldable pub route_row_of : Grid → ℕ → Fields → Result RouteRow InputFault
@@ -51,28 +46,9 @@ IsTable g text rows = IsSheet (WritesRoute g) header (rows_of text) rows
 abbrev pub is_port_column : ℕ → Bool
 is_port_column column = column == 2 || column == 5
 
--- a field that is the name of a port, or a numeral
-abbrev pub IsField : Grid → Bool → List ℕ → Type 0
-IsField g true field = (port : ℕ) × IsPortName g field port
-IsField g false field = HasNumeral field
-
--- the fault of a field that is not
-abbrev pub field_fault : Bool → ℕ → ℕ → InputFault
-field_fault true row column = BadPort row column
-field_fault false row column = BadNumber row column
-
--- seven fields, of which this is the first that its column may not hold
-pub record HasBadColumn (g : Grid) (row : ℕ) (fields : Fields) (fault : InputFault) : Type 0 where
-  pub seven : length fields ≡ 7
-  pub column : ℕ
-  pub known : column < 7
-  pub before : (k : ℕ) → k < column → IsField g (is_port_column k) (slice_index_or fields k [])
-  pub bad : IsField g (is_port_column column) (slice_index_or fields column []) → ⊥
-  pub fault_is : fault ≡ field_fault (is_port_column column) row column
-
 -- the fault of a row: another number of fields, or a field that its column may not hold
 abbrev pub IsRouteFault : Grid → ℕ → Fields → InputFault → Type 0
-IsRouteFault g row fields fault = ((length fields ≢ 7) × (fault ≡ BadCount row)) ⊎ HasBadColumn g row fields fault
+IsRouteFault g row fields fault = IsRowFault g 7 is_port_column row fields fault
 
 -- the first fault of a table file
 abbrev pub IsTableFault : Grid → List ℕ → InputFault → Type 0

@@ -1,13 +1,13 @@
 //! The report of a router's findings in one cycle (docs/FORMATS.md).
 
-ghost use Rattle.std.specs.Prelude.{List, ◌≡◌, ◌+◌, ◌^◌, ◌<◌, ◌≤◌, length, IfOk};
-ghost use Rattle.noc_router.specs.declared.verdict.Finding.{Finding as FindingValue};
+ghost use Rattle.std.specs.Prelude.{ℕ, ◌≡◌, ◌+◌, ◌^◌, ◌<◌, ◌≤◌, length, IfOk};
 ghost use Rattle.std.specs.List.{flat_map};
+ghost use Rattle.noc_net.specs.Network.{Run};
 ghost use Rattle.noc_topo.specs.Shape.{nodes, ports};
 ghost use Rattle.noc_topo.specs.Words.{below};
 ghost use Rattle.noc_files.specs.Channels.{over_port, over_router};
 ghost use Rattle.noc_files.specs.Ports.{sign_of};
-ghost use Rattle.noc_files.specs.Findings.{finding_header, finding_line, finding_report, found_line, out_text, verdict_text, verdict_word};
+ghost use Rattle.noc_files.specs.Findings.{finding_header, finding_line, finding_report, findings_text, found_line, out_text, verdict_text, verdict_word};
 ghost use Rattle.noc_files.specs.Writing.{Puts, Wrote};
 
 use crate::ports::{has_inputs, known_name};
@@ -249,7 +249,12 @@ pub fn write_findings<W: Sink>(
     sink: &mut W,
 ) -> Result<(), WriteFault>
     requires { router < nodes network.now.net.relation.grid }
-    ensures { (found : List FindingValue) × Wrote W.contents W.has_failed sink.old sink.new (finding_report network.now.net.relation router found) result }
+    ensures { Wrote W.contents W.has_failed sink.old sink.new (findings_text network.now router) result }
 {
     write_found(network.relation(), router, network.findings(router), sink)
 }
+
+/// Before its first cycle a network has found nothing, and the report of each router is the header alone.
+pub fn findings_before_the_first_cycle_are_the_header()
+    ensures { (u : Run) (router : ℕ) → u.count ≡ 0 → findings_text u router ≡ finding_header }
+{}

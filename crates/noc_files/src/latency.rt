@@ -1,8 +1,7 @@
 //! The latency report (docs/FORMATS.md).
 
-ghost use Rattle.std.specs.Prelude.{ℕ, Option, ◌≡◌, ◌+◌, ◌^◌, ◌<◌, ◌≤◌, length, IfOk};
+ghost use Rattle.std.specs.Prelude.{◌≡◌, ◌+◌, ◌^◌, ◌<◌, ◌≤◌, length, IfOk};
 ghost use Rattle.std.specs.List.{flat_map};
-ghost use Rattle.noc_net.specs.Network.{packet_at};
 ghost use Rattle.noc_topo.specs.Words.{below};
 ghost use Rattle.noc_files.specs.Latency.{latency_header, latency_line, latency_text, packet_end, packet_latency, packet_line, packet_start};
 ghost use Rattle.noc_files.specs.Writing.{Puts, Wrote};
@@ -11,7 +10,7 @@ use crate::sink::Sink;
 use crate::writing::{WriteFault, put_all, put_pieces, shown};
 use itoa::Buffer;
 use noc_net::Network;
-use noc_packet::{MAX_PACKETS, Packet};
+use noc_packet::Packet;
 
 // Puts the header.
 #[tactic(auto, unfolding(crate::specs::Latency::latency_header))]
@@ -102,6 +101,7 @@ fn put_packet<W: Sink>(
 }
 
 // Puts the line of the packet with this number.
+#[tactic(auto, unfolding(crate::specs::Latency::latency_line))]
 fn put_line<W: Sink>(
     network: &Network,
     number: usize,
@@ -110,27 +110,20 @@ fn put_line<W: Sink>(
 ) -> Result<u64, WriteFault>
     requires number { number < length network.now.net.packets }
     requires room { before + 169 < 2 ^ 64 }
-    ensures puts { (out : Option ℕ) × Puts W.contents W.has_failed sink.old sink.new before (packet_line number (packet_at network.now.net number) out) result }
+    ensures puts { Puts W.contents W.has_failed sink.old sink.new before (latency_line network.now number) result }
     ensures short { IfOk result (λ n. n ≤ before + 169) }
 {
     let packet = network.packet(number);
     put_packet(sink, number, &packet, network.arrival(number), before)
 }
 
-// Puts the lines of the packets with numbers below this count.
-fn put_packets<W: Sink>(
-    network: &Network,
-    count: usize,
-    sink: &mut W,
-    before: u64,
-) -> Result<u64, WriteFault>
-    requires known { count ≤ length network.now.net.packets }
-    requires few { count ≤ 20000 }
-    requires room { before ≤ 55 }
-    ensures { (outs : ℕ → Option ℕ) × Puts W.contents W.has_failed sink.old sink.new before (flat_map (latency_line network.now.net outs) (below count)) result }
+// Puts the lines of all packets.
+fn put_packets<W: Sink>(network: &Network, sink: &mut W, before: u64) -> Result<u64, WriteFault>
+    requires { before ≤ 55 }
+    ensures { Puts W.contents W.has_failed sink.old sink.new before (flat_map (latency_line network.now) (below (length network.now.net.packets))) result }
 {
     let mut written = before;
-    for number in 0..count {
+    for number in 0..network.packets() {
         written = put_line(network, number, sink, written)?;
     }
     Ok(written)
@@ -139,10 +132,9 @@ fn put_packets<W: Sink>(
 /// Writes the latency report: a line for each packet in order, with the cycle in which its tail was out, and the cycles
 /// from its due time to that one; both are a dash where the tail is not out.
 pub fn write_latency<W: Sink>(network: &Network, sink: &mut W) -> Result<(), WriteFault>
-    ensures { length network.now.net.packets ≤ MAX_PACKETS → (outs : ℕ → Option ℕ) × Wrote W.contents W.has_failed sink.old sink.new (latency_text network.now.net outs) result }
+    ensures { Wrote W.contents W.has_failed sink.old sink.new (latency_text network.now) result }
 {
     let written = put_header(sink)?;
-    let count = network.packets().min(MAX_PACKETS);
-    put_packets(network, count, sink, written)?;
+    put_packets(network, sink, written)?;
     Ok(())
 }

@@ -7,6 +7,7 @@ mod findings;
 mod joined;
 mod latency;
 mod ports;
+mod ranks;
 mod rows;
 mod sink;
 mod source;
@@ -17,13 +18,18 @@ mod traffic;
 mod writing;
 
 pub use configuration::{
-    Config, MAX_CYCLES, RuleName, configuration_is_document_with_keys, read_config,
+    Config, MAX_CYCLES, RuleName, configuration_is_document_with_keys,
+    configuration_is_refused_with_its_first_fault, read_config,
 };
 pub use fault::{InputFault, Key};
-pub use findings::write_findings;
+pub use findings::{findings_before_the_first_cycle_are_the_header, write_findings};
 pub use joined::split_joined;
 pub use latency::write_latency;
 pub use ports::port_name;
+pub use ranks::{
+    rank_file_is_header_and_rows, rank_file_is_refused_with_its_first_fault, read_ranks,
+    write_ranks,
+};
 pub use rows::{plain_rows_are_read_back, rows_are_records};
 pub use sink::{Out, Sink};
 pub use source::read_all;

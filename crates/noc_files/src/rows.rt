@@ -9,10 +9,13 @@ ghost use Rattle.csv.specs.Reading.{AreRecords, default_config, error_kind, stri
 ghost use Rattle.noc_files.specs.declared.fault.InputFault.TheVariants.{Memory};
 ghost use Rattle.noc_topo.specs.Words.{Each};
 ghost use Rattle.noc_files.specs.Plain.{IsPlainRow, plain_text};
+ghost use Rattle.noc_files.specs.Ports.{port_at};
 ghost use Rattle.noc_files.specs.Rows.{Fields, IsBetweenRows, IsRefusal, number_of, number_at, rows_left, rows_of};
 
 use crate::fault::InputFault;
+use crate::ports::port_named;
 use csv::{ByteRecord, ErrorKind, Reader, ReaderBuilder};
+use noc_topo::Shape;
 use std::alloc::Global;
 
 // A reader of all the rows of a text, the header too.
@@ -93,6 +96,20 @@ pub(crate) fn number_in(row: &ByteRecord, index: usize, column: usize) -> Result
     row.get(column)
         .and_then(number)
         .ok_or(InputFault::BadNumber { row: index, column })
+}
+
+// The port in a column of a row.
+pub(crate) fn port_in(
+    shape: &Shape,
+    row: &ByteRecord,
+    index: usize,
+    column: usize,
+) -> Result<usize, InputFault>
+    ensures { result ≡ port_at shape.now index column (fields_of row.now) }
+{
+    row.get(column)
+        .and_then(|field| port_named(shape, field))
+        .ok_or(InputFault::BadPort { row: index, column })
 }
 
 /// The rows of a text are its records, all of them and in order.

@@ -1,11 +1,11 @@
 //! The stall report (docs/FORMATS.md).
 
-ghost use Rattle.std.specs.Prelude.{ℕ, List, ◌+◌, ◌^◌, ◌<◌, ◌≤◌, length, IfOk};
+ghost use Rattle.std.specs.Prelude.{◌+◌, ◌^◌, ◌<◌, ◌≤◌, length, IfOk};
 ghost use Rattle.std.specs.List.{flat_map};
 ghost use Rattle.noc_topo.specs.Shape.{nodes, ports};
 ghost use Rattle.noc_topo.specs.Words.{below};
 ghost use Rattle.noc_files.specs.Channels.{over_port, over_router, over_routers};
-ghost use Rattle.noc_files.specs.Stalls.{channel_line, count_text, place_text, stall_header, stall_line, stall_text};
+ghost use Rattle.noc_files.specs.Stalls.{channel_line, count_text, place_text, stall_header, stall_line, stalls_text};
 ghost use Rattle.noc_files.specs.Writing.{Puts, Wrote};
 
 use crate::ports::{has_inputs, known_name};
@@ -92,6 +92,7 @@ fn put_channel<W: Sink>(
 }
 
 // Puts the line of an input channel of a network.
+#[tactic(auto, unfolding(crate::specs::Stalls::channel_line, crate::specs::Stalls::channel_counts))]
 fn put_line<W: Sink>(
     network: &Network,
     router: usize,
@@ -104,7 +105,7 @@ fn put_line<W: Sink>(
     requires port { port < ports network.now.net.relation.grid }
     requires vc { vc < network.now.net.relation.vcs }
     requires room { before + 258 < 2 ^ 64 }
-    ensures puts { (counts : List ℕ) × Puts W.contents W.has_failed sink.old sink.new before (channel_line network.now.net.relation.grid router port vc counts) result }
+    ensures puts { Puts W.contents W.has_failed sink.old sink.new before (channel_line network.now router port vc) result }
     ensures short { IfOk result (λ n. n ≤ before + 258) }
 {
     let name = known_name(network.relation().shape(), port);
@@ -123,7 +124,7 @@ fn put_channels<W: Sink>(
     requires router { router < nodes network.now.net.relation.grid }
     requires port { port < ports network.now.net.relation.grid }
     requires room { before ≤ 1000000000 }
-    ensures puts { (counts : ℕ → List ℕ) × Puts W.contents W.has_failed sink.old sink.new before (flat_map (λ vc. channel_line network.now.net.relation.grid router port vc (counts vc)) (below network.now.net.relation.vcs)) result }
+    ensures puts { Puts W.contents W.has_failed sink.old sink.new before (flat_map (channel_line network.now router port) (below network.now.net.relation.vcs)) result }
     ensures short { IfOk result (λ n. n ≤ before + 2064) }
 {
     let mut written = before;
@@ -144,7 +145,7 @@ fn put_port<W: Sink>(
     requires router { router < nodes network.now.net.relation.grid }
     requires port { port < ports network.now.net.relation.grid }
     requires room { before ≤ 1000000000 }
-    ensures puts { (counts : ℕ → List ℕ) × Puts W.contents W.has_failed sink.old sink.new before (over_port network.now.net.relation router (λ port vc. channel_line network.now.net.relation.grid router port vc (counts vc)) port) result }
+    ensures puts { Puts W.contents W.has_failed sink.old sink.new before (over_port network.now.net.relation router (channel_line network.now router) port) result }
     ensures short { IfOk result (λ n. n ≤ before + 2064) }
 {
     if has_inputs(network.relation().shape(), router, port) {
@@ -163,7 +164,7 @@ fn put_router<W: Sink>(
 ) -> Result<u64, WriteFault>
     requires router { router < nodes network.now.net.relation.grid }
     requires room { before ≤ 10000000 }
-    ensures puts { (counts : ℕ → ℕ → List ℕ) × Puts W.contents W.has_failed sink.old sink.new before (over_router network.now.net.relation router (λ port vc. channel_line network.now.net.relation.grid router port vc (counts port vc))) result }
+    ensures puts { Puts W.contents W.has_failed sink.old sink.new before (over_router network.now.net.relation router (channel_line network.now router)) result }
     ensures short { IfOk result (λ n. n ≤ before + 14448) }
 {
     let mut written = before;
@@ -176,7 +177,7 @@ fn put_router<W: Sink>(
 // Puts the lines of all routers.
 fn put_routers<W: Sink>(network: &Network, sink: &mut W, before: u64) -> Result<u64, WriteFault>
     requires { before ≤ 120 }
-    ensures { (counts : ℕ → ℕ → ℕ → List ℕ) × Puts W.contents W.has_failed sink.old sink.new before (over_routers network.now.net.relation (λ router port vc. channel_line network.now.net.relation.grid router port vc (counts router port vc))) result }
+    ensures { Puts W.contents W.has_failed sink.old sink.new before (over_routers network.now.net.relation (channel_line network.now)) result }
 {
     let mut written = before;
     for router in 0..network.relation().shape().nodes() {
@@ -188,7 +189,7 @@ fn put_routers<W: Sink>(network: &Network, sink: &mut W, before: u64) -> Result<
 /// Writes the stall report: for each router, each of its input ports that is local or has a link, and each virtual
 /// channel, in rising order, in how many cycles it had each verdict.
 pub fn write_stalls<W: Sink>(network: &Network, sink: &mut W) -> Result<(), WriteFault>
-    ensures { (counts : ℕ → ℕ → ℕ → List ℕ) × Wrote W.contents W.has_failed sink.old sink.new (stall_text network.now.net.relation counts) result }
+    ensures { Wrote W.contents W.has_failed sink.old sink.new (stalls_text network.now) result }
 {
     let written = put_header(sink)?;
     put_routers(network, sink, written)?;

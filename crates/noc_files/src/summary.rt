@@ -1,11 +1,10 @@
 //! The summary report (docs/FORMATS.md).
 
-ghost use Rattle.std.specs.Prelude.{◌+◌, ◌*◌, ◌^◌, ◌<◌, ◌≤◌, length, nat_le, true, ◌≡◌, IfOk};
-ghost use Rattle.std.specs.Borrow.{Bor};
+ghost use Rattle.std.specs.Prelude.{◌+◌, ◌*◌, ◌^◌, ◌<◌, ◌≤◌, [], ◌∷◌, length, nat_le, sum, true, ◌≡◌};
 ghost use Rattle.std.specs.List.{flat_map, list_all};
 ghost use Rattle.noc_topo.specs.Shape.{nodes, ports};
-ghost use Rattle.noc_files.specs.declared.summary.Summary.{Summary as SummaryValue};
-ghost use Rattle.noc_files.specs.Summary.{entry_of, summary_line, summary_text, SummaryFits};
+ghost use Rattle.noc_files.specs.Channels.{over_port, over_router};
+ghost use Rattle.noc_files.specs.Summary.{column_at, column_total, entry_of, greatest_of, latencies, latency_at, summary_line, summary_lines, summary_of, summary_text};
 ghost use Rattle.noc_files.specs.Writing.{Puts, Wrote};
 
 use crate::latency::latency_of;
@@ -27,6 +26,14 @@ struct Summary {
     last_event: Option<u128>,
     misfits: u128,
     totals: [u128; 10],
+}
+
+// How many latencies there are, their sum, and the greatest of them.
+#[derive(Clone, Copy)]
+struct LatencyTotals {
+    count: usize,
+    sum: u128,
+    greatest: Option<u64>,
 }
 
 // Puts a line of a name of at most 15 bytes, and a number or a dash.
@@ -70,7 +77,7 @@ fn put_lines<W: Sink>(
 // Puts a summary.
 #[tactic(auto, unfolding(crate::specs::Summary::summary_entries))]
 fn put_summary<W: Sink>(sink: &mut W, s: &Summary) -> Result<u64, WriteFault>
-    ensures { Puts W.contents W.has_failed sink.old sink.new 0 (summary_text s.now) result }
+    ensures { Puts W.contents W.has_failed sink.old sink.new 0 (summary_lines s.now) result }
 {
     let entries = [
         ("cycles", Some(s.cycles)),
@@ -96,42 +103,37 @@ fn put_summary<W: Sink>(sink: &mut W, s: &Summary) -> Result<u64, WriteFault>
 }
 
 // The latency of the packet with this number, if its tail is out.
+#[tactic(auto, unfolding(crate::specs::Summary::latency_at))]
 fn latency(network: &Network, number: usize) -> Option<u64>
     requires { number < length network.now.net.packets }
+    ensures { result ≡ latency_at network.now number }
 {
     let packet = network.packet(number);
     latency_of(&packet, network.arrival(number))
 }
 
-// How many packets have their tail out.
-fn delivered(network: &Network) -> usize
-    ensures { result ≤ length network.now.net.packets }
+// Counts the latencies of the packets whose tails are out, and finds their sum and the greatest of them.
+fn latencies(network: &Network) -> LatencyTotals
+    ensures few { result.count ≤ length network.now.net.packets }
+    ensures count { result.count ≡ length (latencies network.now) }
+    ensures sum { result.sum ≡ sum (latencies network.now) }
+    ensures greatest { result.greatest ≡ greatest_of (latencies network.now) }
 {
     let mut count = 0usize;
+    let mut sum = 0u128;
+    let mut greatest: Option<u64> = None;
     for number in 0..network.packets() {
-        if latency(network, number).is_some() {
+        if let Some(latency) = latency(network, number) {
             count += 1;
+            sum += u128::from(latency);
+            greatest = Some(greatest.unwrap_or(0).max(latency));
         }
     }
-    count
-}
-
-// The sum of the latencies.
-fn latency_sum(network: &Network) -> u128 {
-    let mut sum = 0u128;
-    for number in 0..network.packets() {
-        sum += latency(network, number).map_or(0, u128::from);
+    LatencyTotals {
+        count,
+        sum,
+        greatest,
     }
-    sum
-}
-
-// The greatest latency, if a packet has its tail out.
-fn latency_max(network: &Network) -> Option<u64> {
-    let mut greatest = None;
-    for number in 0..network.packets() {
-        greatest = greatest.max(latency(network, number));
-    }
-    greatest
 }
 
 // The sum of a column of the stall report over the channels of an input port.
@@ -139,23 +141,38 @@ fn port_total(network: &Network, router: usize, port: usize, column: usize) -> u
     requires router { router < nodes network.now.net.relation.grid }
     requires port { port < ports network.now.net.relation.grid }
     requires column { column < 10 }
-    ensures { result ≤ 8 * 2 ^ 64 }
+    ensures bound { result ≤ 8 * 2 ^ 64 }
+    ensures value { result ≡ sum (over_port network.now.net.relation router (column_at network.now column router) port) }
 {
     if !has_inputs(network.relation().shape(), router, port) {
         return 0;
     }
     let mut total = 0u128;
     for vc in 0..network.relation().vcs() {
-        total += u128::from(network.counts(router, port, vc)[column]);
+        total += count_at(network, router, port, vc, column);
     }
     total
+}
+
+// An input channel's count in a column of the stall report.
+#[tactic(auto, unfolding(crate::specs::Summary::column_at, crate::specs::Stalls::channel_counts))]
+fn count_at(network: &Network, router: usize, port: usize, vc: usize, column: usize) -> u128
+    requires router { router < nodes network.now.net.relation.grid }
+    requires port { port < ports network.now.net.relation.grid }
+    requires vc { vc < network.now.net.relation.vcs }
+    requires column { column < 10 }
+    ensures bound { result < 2 ^ 64 }
+    ensures value { column_at network.now column router port vc ≡ result ∷ [] }
+{
+    u128::from(network.counts(router, port, vc)[column])
 }
 
 // The sum of a column of the stall report over the channels of a router.
 fn router_total(network: &Network, router: usize, column: usize) -> u128
     requires router { router < nodes network.now.net.relation.grid }
     requires column { column < 10 }
-    ensures { result ≤ 56 * 2 ^ 64 }
+    ensures bound { result ≤ 56 * 2 ^ 64 }
+    ensures value { result ≡ sum (over_router network.now.net.relation router (column_at network.now column router)) }
 {
     let mut total = 0u128;
     for port in 0..network.relation().shape().ports() {
@@ -165,8 +182,10 @@ fn router_total(network: &Network, router: usize, column: usize) -> u128
 }
 
 // The sum of a column of the stall report.
+#[tactic(auto, unfolding(crate::specs::Summary::column_total))]
 fn column_total(network: &Network, column: usize) -> u128
     requires { column < 10 }
+    ensures { result ≡ column_total network.now column }
 {
     let mut total = 0u128;
     for router in 0..network.relation().shape().nodes() {
@@ -176,20 +195,19 @@ fn column_total(network: &Network, column: usize) -> u128
 }
 
 // The summary of a network.
+#[tactic(auto, unfolding(crate::specs::Summary::summary_of))]
 fn summary_of(network: &Network) -> Summary
-    ensures cycles { result.cycles ≡ network.now.count }
-    ensures packets { result.packets ≡ length network.now.net.packets }
-    ensures left { result.delivered + result.left ≡ length network.now.net.packets }
+    ensures { result ≡ summary_of network.now }
 {
     let packets = network.packets();
-    let delivered = delivered(network);
+    let latencies = latencies(network);
     Summary {
         cycles: u128::from(network.count()),
         packets: packets as u128,
-        delivered: delivered as u128,
-        left: (packets - delivered) as u128,
-        latency_sum: latency_sum(network),
-        latency_max: latency_max(network).map(u128::from),
+        delivered: latencies.count as u128,
+        left: (packets - latencies.count) as u128,
+        latency_sum: latencies.sum,
+        latency_max: latencies.greatest.map(u128::from),
         last_event: network.last_event().map(u128::from),
         misfits: u128::from(network.misfits()),
         totals: [
@@ -209,7 +227,7 @@ fn summary_of(network: &Network) -> Summary
 
 // Writes a summary.
 fn write_lines<W: Sink>(sink: &mut W, s: &Summary) -> Result<(), WriteFault>
-    ensures { Wrote W.contents W.has_failed sink.old sink.new (summary_text s.now) result }
+    ensures { Wrote W.contents W.has_failed sink.old sink.new (summary_lines s.now) result }
 {
     put_summary(sink, s)?;
     Ok(())
@@ -218,7 +236,7 @@ fn write_lines<W: Sink>(sink: &mut W, s: &Summary) -> Result<(), WriteFault>
 /// Writes the summary: eighteen lines of a name and a number, over the packets and the input channels of the network.
 /// Latencies are over the packets whose tail is out.
 pub fn write_summary<W: Sink>(network: &Network, sink: &mut W) -> Result<(), WriteFault>
-    ensures { (s : SummaryValue) × Wrote W.contents W.has_failed sink.old sink.new (summary_text s) result × SummaryFits network.now s }
+    ensures { Wrote W.contents W.has_failed sink.old sink.new (summary_text network.now) result }
 {
     write_lines(sink, &summary_of(network))
 }

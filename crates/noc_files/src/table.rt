@@ -7,29 +7,14 @@ ghost use Rattle.noc_topo.specs.Shape.{Grid, IsGrid};
 ghost use Rattle.noc_topo.specs.Words.{Each};
 ghost use Rattle.noc_files.specs.declared.fault.InputFault.{InputFault as Fault};
 ghost use Rattle.noc_files.specs.Gives.{Gives};
-ghost use Rattle.noc_files.specs.Table.{port_at, route_row_of, table_of, table_text, IsTable, IsTableFault, IsWritable};
+ghost use Rattle.noc_files.specs.Table.{route_row_of, table_of, table_text, IsTable, IsTableFault, IsWritable};
 
 use crate::fault::InputFault;
-use crate::ports::port_named;
-use crate::rows::{has_fields, next_row, number_in, rows};
+use crate::rows::{has_fields, next_row, number_in, port_in, rows};
 use csv::ByteRecord;
 use noc_route::RouteRow;
 use noc_topo::Shape;
 use std::alloc::Global;
-
-// The port in a column of a row.
-fn port_in(
-    shape: &Shape,
-    row: &ByteRecord,
-    index: usize,
-    column: usize,
-) -> Result<usize, InputFault>
-    ensures { result ≡ port_at shape.now index column (fields_of row.now) }
-{
-    row.get(column)
-        .and_then(|field| port_named(shape, field))
-        .ok_or(InputFault::BadPort { row: index, column })
-}
 
 // The row of a table that a row of fields says.
 #[tactic(auto, unfolding(crate::specs::Table::route_row_of))]

@@ -1,4 +1,4 @@
-use Rattle.std.proofs.Common.{ℕ, List, ◌≤◌, ◌+◌, ◌*◌, Ok, flat_map}
+use Rattle.std.proofs.Common.{◌≤◌, ◌+◌, ◌*◌, Ok, flat_map}
 use Rattle.noc_topo.specs.Words.{below}
 use Rattle.noc_files.specs.Stalls.{channel_line}
 use Rattle.noc_files.specs.Writing.{Puts}
@@ -6,6 +6,6 @@ use Rattle.noc_files.proofs.stalls.put_channels.Given as goal
 
 abbrev pub invariant-loop-vc : goal.invariant-loop-vc
 invariant-loop-vc g l = record {
-  puts : (counts : ℕ → List ℕ) × Puts g.W.Sink.contents g.W.Sink.has_failed l.fn.sink l.sink l.before (flat_map (λ vc. (λ (vc : ℕ) (counts : List ℕ). channel_line l.network.net.relation.grid l.router l.port vc counts) vc (counts vc)) (below l.vc)) (Ok l.written);
+  puts : Puts g.W.Sink.contents g.W.Sink.has_failed l.fn.sink l.sink l.before (flat_map (channel_line l.network l.router l.port) (below l.vc)) (Ok l.written);
   short : l.written ≤ l.before + 258 * l.vc;
 }

@@ -1,7 +1,7 @@
-use Rattle.std.proofs.Common.{Err, []}
+use Rattle.std.proofs.Common.{Err}
 use Rattle.std.proofs.lemmas.Result.{err_from_is_err_and}
 use Rattle.noc_files.specs.Channels.{over_routers}
-use Rattle.noc_files.specs.Stalls.{channel_line, stall_header, stall_text}
+use Rattle.noc_files.specs.Stalls.{channel_line, stall_header, stalls_text}
 use Rattle.noc_files.proofs.SinkFacts.{puts_fault, puts_front, puts_then}
 use Rattle.noc_files.proofs.stalls.write_stalls.Goals as goal
 
@@ -9,19 +9,18 @@ pub returns-in_err-written : goal.returns-in_err-written
 returns-in_err-written g c =
     let p = err_from_is_err_and c.from_residual.result c.from_residual.ensures.1 in
     let w = g.W.Sink in
-    let relation = c.args.network.now.net.relation in
+    let run = c.args.network.now in
     let e = c.in_err-written.field-0.0 in
-    let lines = over_routers relation (λ router port vc. channel_line relation.grid router port vc []) in
+    let lines = over_routers run.net.relation (channel_line run) in
     let all = puts_front w.contents w.has_failed c.args.sink.now c.put_header.new.sink 0 stall_header lines e c.in_err-written.ensures.puts in
-    ((λ router port vc. []), rw (p.1, p.2) (puts_fault w.contents w.has_failed c.args.sink.now c.put_header.new.sink (stall_text relation (λ router port vc. [])) e all))
+    rw (p.1, p.2) (puts_fault w.contents w.has_failed c.args.sink.now c.put_header.new.sink (stalls_text run) e all)
 
 pub returns-in_err-put_routers : goal.returns-in_err-put_routers
 returns-in_err-put_routers g c =
     let p = err_from_is_err_and c.from_residual-in_err-put_routers.result c.from_residual-in_err-put_routers.ensures.1 in
     let w = g.W.Sink in
-    let relation = c.args.network.now.net.relation in
+    let run = c.args.network.now in
     let e = c.in_err-put_routers.field-0.0 in
-    let (counts, put) = c.in_err-put_routers.ensures in
-    let lines = over_routers relation (λ router port vc. channel_line relation.grid router port vc (counts router port vc)) in
-    let both = puts_then w.contents w.has_failed c.args.sink.now c.put_header.new.sink c.put_routers.new.sink 0 c.in_ok-written.written stall_header lines (Err e) c.in_ok-written.ensures.puts put in
-    (counts, rw (p.1, p.2) (puts_fault w.contents w.has_failed c.args.sink.now c.put_routers.new.sink (stall_text relation counts) e both))
+    let lines = over_routers run.net.relation (channel_line run) in
+    let both = puts_then w.contents w.has_failed c.args.sink.now c.put_header.new.sink c.put_routers.new.sink 0 c.in_ok-written.written stall_header lines (Err e) c.in_ok-written.ensures.puts c.in_err-put_routers.ensures in
+    rw (p.1, p.2) (puts_fault w.contents w.has_failed c.args.sink.now c.put_routers.new.sink (stalls_text run) e both)

@@ -1,5 +1,10 @@
-use Rattle.std.proofs.Common.{◌≤◌, ◌*◌, ◌^◌}
+use Rattle.std.proofs.Common.{◌≡◌, ◌≤◌, ◌*◌, ◌^◌, flat_map, sum}
+use Rattle.noc_topo.specs.Words.{below}
+use Rattle.noc_files.specs.Summary.{column_at}
 use Rattle.noc_files.proofs.summary.port_total.Given as goal
 
 abbrev pub invariant-loop-vc : goal.invariant-loop-vc
-invariant-loop-vc l = l.total ≤ l.vc * 2 ^ 64
+invariant-loop-vc l = record {
+  bound : l.total ≤ l.vc * 2 ^ 64;
+  so_far : l.total ≡ sum (flat_map (column_at l.network l.column l.router l.port) (below l.vc));
+}

@@ -1,0 +1,42 @@
+-- The lines of a file of ranks.
+use Rattle.std.proofs.Common.{◌≡◌, ℕ, true, false, List, [], ◌∷◌, ◌++◌, flat_map, decimal, refl, ap, ◌∙◌, append_assoc, append-nil}
+use Rattle.std.proofs.lemmas.Grind.{flat_map-append}
+use Rattle.std.proofs.lemmas.List.Folds.{flat_map-map}
+use Rattle.std.specs.Prelude.{is_some}
+use Rattle.noc_rank.specs.Ranking.{Ranking}
+use Rattle.noc_rank.specs.declared.rows.RankRow.{RankRow}
+use Rattle.noc_topo.specs.Shape.{Grid, local_port, neighbour, nodes}
+use Rattle.noc_topo.specs.Words.{below}
+use Rattle.noc_files.specs.Ports.{name_of_port}
+use Rattle.noc_files.specs.Ranks.{port_rows, rank_line, rank_row, rank_rows, router_rows}
+use Rattle.noc_files.specs.Writing.{comma, joined, line_end}
+
+pub nested : {X Y Z : Type 0} (f : Y → List Z) (h : X → List Y) (xs : List X) → flat_map f (flat_map h xs) ≡ flat_map (λ x. flat_map f (h x)) xs
+nested f h [] = refl
+nested {Z = Z} f h (x ∷ xs) = flat_map-append f (h x) (flat_map h xs) ∙ ap (λ (t : List Z). flat_map f (h x) ++ t) (nested f h xs)
+
+pieces_of_row : (a b v k c e : List ℕ) → (a ++ ((c ++ b) ++ ((c ++ v) ++ ((c ++ k) ++ [])))) ++ e ≡ a ++ (c ++ (b ++ (c ++ (v ++ (c ++ (k ++ (e ++ [])))))))
+pieces_of_row a b v k c e = simp (append_assoc, append-nil)
+
+-- the pieces of a line
+pub line_is : (g : Grid) (r : RankRow) → rank_line g r ≡ joined (decimal r.router ∷ comma ∷ name_of_port g r.port ∷ comma ∷ decimal r.vc ∷ comma ∷ decimal r.rank ∷ line_end ∷ [])
+unfolding rank_line
+line_is g r = pieces_of_row (decimal r.router) (name_of_port g r.port) (decimal r.vc) (decimal r.rank) comma line_end
+
+-- the lines of a port that has a link
+pub port_lines : (k : Ranking) (router port : ℕ) → is_some (neighbour k.grid router port) ≡ true → flat_map (rank_line k.grid) (port_rows k router port) ≡ flat_map (λ vc. rank_line k.grid (rank_row k router port vc)) (below k.vcs)
+unfolding port_rows
+port_lines k router port link = rw link (flat_map-map (rank_line k.grid) (rank_row k router port) (below k.vcs))
+
+-- .. and of one that has none
+pub no_lines : (k : Ranking) (router port : ℕ) → is_some (neighbour k.grid router port) ≡ false → flat_map (rank_line k.grid) (port_rows k router port) ≡ []
+unfolding port_rows
+no_lines k router port border = rw border refl
+
+pub router_lines : (k : Ranking) (router : ℕ) → flat_map (rank_line k.grid) (router_rows k router) ≡ flat_map (λ port. flat_map (rank_line k.grid) (port_rows k router port)) (below (local_port k.grid))
+unfolding router_rows
+router_lines k router = nested (rank_line k.grid) (port_rows k router) (below (local_port k.grid))
+
+pub all_lines : (k : Ranking) → flat_map (rank_line k.grid) (rank_rows k) ≡ flat_map (λ router. flat_map (rank_line k.grid) (router_rows k router)) (below (nodes k.grid))
+unfolding rank_rows
+all_lines k = nested (rank_line k.grid) (router_rows k) (below (nodes k.grid))

@@ -1,0 +1,37 @@
+use Rattle.std.proofs.Common.{◌≡◌, ◌<◌, ℕ, Ok, ap, arith, flat_map}
+use Rattle.std.proofs.lemmas.Result.{err_from_is_err_and}
+use Rattle.noc_topo.specs.Shape.{Grid, nodes}
+use Rattle.noc_files.specs.Ranks.{rank_line, router_rows}
+use Rattle.noc_files.proofs.BelowFacts.{fault_at_number, puts_no_number, puts_number}
+use Rattle.noc_files.proofs.RankFacts.{all_lines}
+use Rattle.noc_files.proofs.ranks.put_routers.Goals as goal
+
+pub loop-router-init : goal.loop-router-init
+loop-router-init g c =
+    let w = g.W.Sink in
+    let ranks = c.args.ranks.now in
+    record { puts = puts_no_number w.contents w.has_failed (λ (router : ℕ). flat_map (rank_line ranks.grid) (router_rows ranks router)) c.args.before c.args.sink.now; short = omega arith }
+
+pub returns-in_err-written : goal.returns-in_err-written
+returns-in_err-written g c =
+    let p = err_from_is_err_and c.from_residual.result c.from_residual.ensures.1 in
+    let w = g.W.Sink in
+    let ranks = c.args.ranks.now in
+    let known : c.loop-router.router < nodes ranks.grid = omega (arith, c.nodes-router-end.ensures.value, ap (λ (g : Grid). nodes g) c.requires.shape) in
+    let all = fault_at_number w.contents w.has_failed (λ (router : ℕ). flat_map (rank_line ranks.grid) (router_rows ranks router)) c.loop-router.router (nodes ranks.grid) c.args.before c.loop-router.written c.args.sink.now c.loop-router.sink c.put_router.new.sink c.in_err-written.field-0.0 known c.loop-router.invariant.puts c.in_err-written.ensures.puts in
+    rw (p.1, p.2, all_lines ranks) all
+
+pub loop-router-preserved : goal.loop-router-preserved
+loop-router-preserved g c =
+    let w = g.W.Sink in
+    let ranks = c.args.ranks.now in
+    record {
+      puts = puts_number w.contents w.has_failed (λ (router : ℕ). flat_map (rank_line ranks.grid) (router_rows ranks router)) c.loop-router.router c.args.before c.loop-router.written c.args.sink.now c.loop-router.sink c.put_router.new.sink (Ok c.in_ok-written.written) c.loop-router.invariant.puts c.in_ok-written.ensures.puts;
+      short = omega (arith, c.in_ok-written.ensures.short, c.loop-router.invariant.short);
+    }
+
+pub returns : goal.returns
+returns g c =
+    let ranks = c.args.ranks.now in
+    let all : c.loop-router.router ≡ nodes ranks.grid = omega (arith, c.nodes-router-end.ensures.value, ap (λ (g : Grid). nodes g) c.requires.shape) in
+    rw (all_lines ranks) (rw all at c.loop-router.invariant.puts)

@@ -1,0 +1,31 @@
+-- Rows of numerals and names of ports, and their faults.
+use Rattle.std.specs.Prelude.{◌≡◌, ◌≢◌, ◌⊎◌, ℕ, ◌<◌, Bool, true, false, List, [], length, slice_index_or}
+use Rattle.noc_topo.specs.Shape.{Grid}
+use Rattle.noc_files.specs.declared.fault.InputFault.{InputFault}
+use Rattle.noc_files.specs.declared.fault.InputFault.TheVariants.{BadCount, BadNumber, BadPort}
+use Rattle.noc_files.specs.Ports.{IsPortName}
+use Rattle.noc_files.specs.Rows.{Fields, HasNumeral}
+
+-- a field that is the name of a port, or a numeral
+abbrev pub IsField : Grid → Bool → List ℕ → Type 0
+IsField g true field = (port : ℕ) × IsPortName g field port
+IsField g false field = HasNumeral field
+
+-- the fault of a field that is not
+abbrev pub field_fault : Bool → ℕ → ℕ → InputFault
+field_fault true row column = BadPort row column
+field_fault false row column = BadNumber row column
+
+-- as many fields as there are columns, of which this is the first that its column may not hold: a name in a column of
+-- ports, a numeral in the others
+pub record HasBadColumn (g : Grid) (columns : ℕ) (is_port : ℕ → Bool) (row : ℕ) (fields : Fields) (fault : InputFault) : Type 0 where
+  pub all_there : length fields ≡ columns
+  pub column : ℕ
+  pub known : column < columns
+  pub before : (k : ℕ) → k < column → IsField g (is_port k) (slice_index_or fields k [])
+  pub bad : IsField g (is_port column) (slice_index_or fields column []) → ⊥
+  pub fault_is : fault ≡ field_fault (is_port column) row column
+
+-- the fault of a row: another number of fields, or a field that its column may not hold
+abbrev pub IsRowFault : Grid → ℕ → (ℕ → Bool) → ℕ → Fields → InputFault → Type 0
+IsRowFault g columns is_port row fields fault = ((length fields ≢ columns) × (fault ≡ BadCount row)) ⊎ HasBadColumn g columns is_port row fields fault

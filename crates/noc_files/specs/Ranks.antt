@@ -1,0 +1,98 @@
+-- What a file of ranks says, and the file of some ranks.
+use Rattle.std.specs.Prelude.{◌≡◌, ℕ, ◌==◌, Bool, true, decimal, map, List, [], ◌∷◌, ◌++◌, length, codes, is_some, Result, Ok, Err, if◌then◌else◌}
+use Rattle.std.specs.List.{flat_map}
+use Rattle.noc_topo.specs.Shape.{Grid, local_port, neighbour, nodes}
+use Rattle.noc_topo.specs.Words.{below, Each, Has, Pairs}
+use Rattle.noc_rank.specs.Ranking.{Ranking, is_channel, rank_at}
+use Rattle.noc_route.specs.Order.{numbers_before}
+use Rattle.noc_rank.specs.declared.rows.RankRow.{RankRow}
+use Rattle.noc_files.specs.declared.fault.InputFault.{InputFault}
+use Rattle.noc_files.specs.declared.fault.InputFault.TheVariants.{BadCount}
+use Rattle.noc_files.specs.Columns.{IsRowFault}
+use Rattle.noc_files.specs.Gives.{◌>>=◌}
+use Rattle.noc_files.specs.Ports.{IsPortName, name_of_port, port_at}
+use Rattle.noc_files.specs.Plain.{row_line}
+use Rattle.noc_files.specs.Rows.{Fields, IsNumeral, number_at, rows_of}
+use Rattle.noc_files.specs.Sheet.{IsSheet, IsSheetFault, sheet}
+
+abbrev pub header : Fields
+header = codes "router" ∷ codes "port" ∷ codes "vc" ∷ codes "rank" ∷ []
+
+-- the channel and the rank of a row: first the number of fields, then the fields from left to right
+unfoldable pub rank_row_of : Grid → ℕ → Fields → Result RankRow InputFault
+rank_row_of g row fields = if length fields == 4 then four else Err (BadCount row)
+  where
+    four : Result RankRow InputFault
+    four = do
+      router ← number_at row 0 fields
+      port ← port_at g row 1 fields
+      vc ← number_at row 2 fields
+      rank ← number_at row 3 fields
+      Ok (record { router = router; port = port; vc = vc; rank = rank })
+
+abbrev pub ranks_of : Grid → List ℕ → Result (List RankRow) InputFault
+ranks_of g text = sheet (rank_row_of g) header (rows_of text)
+
+-- four fields, three numerals and the name of a port, which write this row
+abbrev pub WritesRank : Grid → Fields → RankRow → Type 0
+WritesRank g (router ∷ port ∷ vc ∷ rank ∷ []) r = IsNumeral router r.router × IsPortName g port r.port × IsNumeral vc r.vc × IsNumeral rank r.rank
+WritesRank g _ r = ⊥
+
+-- the header, and below it rows of four fields, which write these rows
+abbrev pub IsRankFile : Grid → List ℕ → List RankRow → Type 0
+IsRankFile g text rows = IsSheet (WritesRank g) header (rows_of text) rows
+
+-- whether a column, counted from 0, holds the name of a port
+abbrev pub is_port_column : ℕ → Bool
+is_port_column column = column == 1
+
+-- the first fault of a file of ranks
+abbrev pub IsRankFileFault : Grid → List ℕ → InputFault → Type 0
+IsRankFileFault g text fault = IsSheetFault (WritesRank g) (IsRowFault g 4 is_port_column) header (rows_of text) fault
+
+-- ---- the file of some ranks
+
+-- a link channel with its rank
+abbrev pub rank_row : Ranking → ℕ → ℕ → ℕ → RankRow
+rank_row k router port vc = record { router = router; port = port; vc = vc; rank = rank_at k router port vc }
+
+-- the channels of a port, if it has a link
+unfoldable pub port_rows : Ranking → ℕ → ℕ → List RankRow
+port_rows k router port = if is_some (neighbour k.grid router port) then map (rank_row k router port) (below k.vcs) else []
+
+-- the link channels of a router, port by port
+unfoldable pub router_rows : Ranking → ℕ → List RankRow
+router_rows k router = flat_map (port_rows k router) (below (local_port k.grid))
+
+-- all link channels, router by router
+unfoldable pub rank_rows : Ranking → List RankRow
+rank_rows k = flat_map (router_rows k) (below (nodes k.grid))
+
+-- the fields of a row: numbers, and the name of a port
+abbrev pub rank_fields : Grid → RankRow → Fields
+rank_fields g r = decimal r.router ∷ name_of_port g r.port ∷ decimal r.vc ∷ decimal r.rank ∷ []
+
+-- the line of a row
+unfoldable pub rank_line : Grid → RankRow → List ℕ
+rank_line g r = row_line (rank_fields g r)
+
+-- the header, and a line for each link channel
+abbrev pub ranks_text : Ranking → List ℕ
+ranks_text k = row_line header ++ flat_map (rank_line k.grid) (rank_rows k)
+
+-- ---- each link channel once
+
+-- one row comes before another, by router, port and number
+abbrev pub IsBefore : RankRow → RankRow → Type 0
+IsBefore a b = numbers_before (a.router ∷ a.port ∷ a.vc ∷ []) (b.router ∷ b.port ∷ b.vc ∷ []) ≡ true
+
+-- a row of a link channel and its rank
+pub record IsRankOf (k : Ranking) (row : RankRow) : Type 0 where
+  pub channel : is_channel k.grid k.vcs row.router row.port row.vc ≡ true
+  pub rank : row.rank ≡ rank_at k row.router row.port row.vc
+
+-- each link channel once with its rank, in rising order of router, port and number
+pub record ListsRanks (k : Ranking) (rows : List RankRow) : Type 0 where
+  pub there : (r p v : ℕ) → is_channel k.grid k.vcs r p v ≡ true → Has (rank_row k r p v) rows
+  pub ranks : Each (IsRankOf k) rows
+  pub rising : Pairs IsBefore rows

@@ -1,0 +1,263 @@
+//! Rank files (docs/FORMATS.md).
+
+ghost use Rattle.std.specs.Prelude.{◌≡◌, ◌↔◌, ◌+◌, ◌^◌, ◌<◌, ◌≤◌, true, ℕ, List, Ok, Err, IfOk, IsSome, length};
+ghost use Rattle.std.specs.List.{flat_map};
+ghost use Rattle.csv.specs.Records.{fields_of};
+ghost use Rattle.noc_rank.specs.Ranking.{is_channel, IsRanking, Ranking};
+ghost use Rattle.noc_rank.specs.declared.rows.RankRow.{RankRow as RowValue};
+ghost use Rattle.noc_topo.specs.Shape.{Grid, IsGrid, local_port, neighbour, nodes};
+ghost use Rattle.noc_topo.specs.Words.{below};
+ghost use Rattle.noc_files.specs.declared.fault.InputFault.{InputFault as Fault};
+ghost use Rattle.noc_files.specs.Gives.{Gives};
+ghost use Rattle.noc_files.specs.Plain.{row_line};
+ghost use Rattle.noc_files.specs.Ranks.{header, rank_line, rank_row, rank_row_of, rank_rows, ranks_of, ranks_text, port_rows, router_rows, IsRankFile, IsRankFileFault, ListsRanks};
+ghost use Rattle.noc_files.specs.Writing.{Puts, Wrote};
+
+use crate::fault::InputFault;
+use crate::ports::known_name;
+use crate::rows::{has_fields, next_row, number_in, port_in, rows};
+use crate::sink::Sink;
+use crate::writing::{WriteFault, put_all, put_pieces};
+use csv::ByteRecord;
+use itoa::Buffer;
+use noc_packet::MAX_CHANNELS;
+use noc_rank::{RankRow, Ranks};
+use noc_topo::Shape;
+use std::alloc::Global;
+
+// The channel and the rank that a row of fields says.
+#[tactic(auto, unfolding(crate::specs::Ranks::rank_row_of))]
+fn rank_row_in(shape: &Shape, row: &ByteRecord, index: usize) -> Result<RankRow, InputFault>
+    ensures { result ≡ rank_row_of shape.now index (fields_of row.now) }
+{
+    if row.len() != 4 {
+        return Err(InputFault::BadCount { row: index });
+    }
+    let router = number_in(row, index, 0)?;
+    let port = port_in(shape, row, index, 1)?;
+    let vc = number_in(row, index, 2)?;
+    let rank = number_in(row, index, 3)?;
+    Ok(RankRow {
+        router: router as usize,
+        port,
+        vc: vc as usize,
+        rank: rank as usize,
+    })
+}
+
+/// The rows of a rank file, or its first fault: `BadHeader`, and then row by row `BadCount`, `BadNumber` and `BadPort`
+/// from left to right; `Memory` where a growth was refused (docs/FORMATS.md). Ports have the names of the shape.
+pub fn read_ranks(alloc: Global, shape: &Shape, text: &[u8]) -> Result<Vec<RankRow>, InputFault>
+    ensures { Gives (λ v. v.items) result (ranks_of shape.now text.now) }
+{
+    let mut reader = rows(alloc, text);
+    let mut row = ByteRecord::new(alloc);
+    if !next_row(&mut reader, &mut row)? {
+        return Err(InputFault::BadHeader);
+    }
+    if !has_fields(&row, &["router", "port", "vc", "rank"]) {
+        return Err(InputFault::BadHeader);
+    }
+    let mut ranks = Vec::new(alloc);
+    'rows: while next_row(&mut reader, &mut row)? {
+        let rank = rank_row_in(shape, &row, ranks.len())?;
+        ranks.push(rank)?;
+    }
+    Ok(ranks)
+}
+
+/// A text is read as these rows of ranks exactly where its first row is the header and the rows below it are four
+/// fields each, numerals and the name of a port of the shape, which write them.
+pub fn rank_file_is_header_and_rows()
+    ensures { (g : Grid) → IsGrid g → (text : List ℕ) (rows : List RowValue) → (ranks_of g text ≡ Ok rows) ↔ IsRankFile g text rows }
+{}
+
+/// A text is refused with this fault exactly where it is the first one: there is no header, or after rows of ranks a
+/// row has not four fields, or has four, and this is the first that is no numeral or names no port of the shape.
+pub fn rank_file_is_refused_with_its_first_fault()
+    ensures { (g : Grid) → IsGrid g → (text : List ℕ) (fault : Fault) → (ranks_of g text ≡ Err fault) ↔ IsRankFileFault g text fault }
+{}
+
+/// The rank file of some ranks is read back as rows that name each link channel once with its rank, in rising order of
+/// router, port and virtual channel.
+pub fn written_ranks_are_read_back()
+    ensures { (k : Ranking) → IsRanking k → k.vcs ≤ MAX_CHANNELS → (ranks_of k.grid (ranks_text k) ≡ Ok (rank_rows k)) × ListsRanks k (rank_rows k) }
+{}
+
+// Puts the header.
+fn put_header<W: Sink>(sink: &mut W) -> Result<u64, WriteFault>
+    ensures short { length (row_line header) ≤ 20 }
+    ensures puts { Puts W.contents W.has_failed sink.old sink.new 0 (row_line header) result }
+{
+    put_all(sink, b"router,port,vc,rank\n", 0)
+}
+
+// Puts the line of a row, whose port the shape has.
+fn put_row<W: Sink>(
+    shape: &Shape,
+    row: &RankRow,
+    sink: &mut W,
+    before: u64,
+) -> Result<u64, WriteFault>
+    requires port { row.now.port < local_port shape.now }
+    requires room { before + 69 < 2 ^ 64 }
+    ensures puts { Puts W.contents W.has_failed sink.old sink.new before (rank_line shape.now row.now) result }
+    ensures short { IfOk result (λ n. n ≤ before + 69) }
+{
+    let mut router = Buffer::new();
+    let mut vc = Buffer::new();
+    let mut rank = Buffer::new();
+    let pieces = [
+        router.format(row.router),
+        ",",
+        known_name(shape, row.port),
+        ",",
+        vc.format(row.vc),
+        ",",
+        rank.format(row.rank),
+        "\n",
+    ];
+    put_pieces(sink, &pieces, before)
+}
+
+// Puts the line of a link channel.
+fn put_channel<W: Sink>(
+    ranks: &Ranks,
+    shape: &Shape,
+    router: usize,
+    port: usize,
+    vc: usize,
+    sink: &mut W,
+    before: u64,
+) -> Result<u64, WriteFault>
+    requires shape { ranks.now.grid ≡ shape.now }
+    requires channel { is_channel ranks.now.grid ranks.now.vcs router port vc ≡ true }
+    requires room { before + 69 < 2 ^ 64 }
+    ensures puts { Puts W.contents W.has_failed sink.old sink.new before (rank_line ranks.now.grid (rank_row ranks.now router port vc)) result }
+    ensures short { IfOk result (λ n. n ≤ before + 69) }
+{
+    let rank = ranks.rank(router, port, vc) as usize;
+    let row = RankRow {
+        router,
+        port,
+        vc,
+        rank,
+    };
+    put_row(shape, &row, sink, before)
+}
+
+// Puts the lines of the channels of a port that has a link.
+fn put_channels<W: Sink>(
+    ranks: &Ranks,
+    shape: &Shape,
+    vcs: usize,
+    router: usize,
+    port: usize,
+    sink: &mut W,
+    before: u64,
+) -> Result<u64, WriteFault>
+    requires shape { ranks.now.grid ≡ shape.now }
+    requires vcs { ranks.now.vcs ≡ vcs }
+    requires few { vcs ≤ MAX_CHANNELS }
+    requires router { router < nodes shape.now }
+    requires port { port < local_port shape.now }
+    requires link { IsSome (neighbour shape.now router port) }
+    requires room { before ≤ 1000000 }
+    ensures puts { Puts W.contents W.has_failed sink.old sink.new before (flat_map (λ vc. rank_line ranks.now.grid (rank_row ranks.now router port vc)) (below ranks.now.vcs)) result }
+    ensures short { IfOk result (λ n. n ≤ before + 276) }
+{
+    let mut written = before;
+    for vc in 0..vcs {
+        written = put_channel(ranks, shape, router, port, vc, sink, written)?;
+    }
+    Ok(written)
+}
+
+// Puts the lines of the channels of a port, if it has a link.
+fn put_port<W: Sink>(
+    ranks: &Ranks,
+    shape: &Shape,
+    vcs: usize,
+    router: usize,
+    port: usize,
+    sink: &mut W,
+    before: u64,
+) -> Result<u64, WriteFault>
+    requires shape { ranks.now.grid ≡ shape.now }
+    requires vcs { ranks.now.vcs ≡ vcs }
+    requires few { vcs ≤ MAX_CHANNELS }
+    requires router { router < nodes shape.now }
+    requires port { port < local_port shape.now }
+    requires room { before ≤ 1000000 }
+    ensures puts { Puts W.contents W.has_failed sink.old sink.new before (flat_map (rank_line ranks.now.grid) (port_rows ranks.now router port)) result }
+    ensures short { IfOk result (λ n. n ≤ before + 276) }
+{
+    if shape.neighbour(router, port).is_some() {
+        put_channels(ranks, shape, vcs, router, port, sink, before)
+    } else {
+        Ok(before)
+    }
+}
+
+// Puts the lines of the link channels of a router.
+fn put_router<W: Sink>(
+    ranks: &Ranks,
+    shape: &Shape,
+    vcs: usize,
+    router: usize,
+    sink: &mut W,
+    before: u64,
+) -> Result<u64, WriteFault>
+    requires shape { ranks.now.grid ≡ shape.now }
+    requires vcs { ranks.now.vcs ≡ vcs }
+    requires few { vcs ≤ MAX_CHANNELS }
+    requires router { router < nodes shape.now }
+    requires room { before ≤ 900000 }
+    ensures puts { Puts W.contents W.has_failed sink.old sink.new before (flat_map (rank_line ranks.now.grid) (router_rows ranks.now router)) result }
+    ensures short { IfOk result (λ n. n ≤ before + 1656) }
+{
+    let mut written = before;
+    for port in 0..shape.ports() - 1 {
+        written = put_port(ranks, shape, vcs, router, port, sink, written)?;
+    }
+    Ok(written)
+}
+
+// Puts the lines of all link channels.
+fn put_routers<W: Sink>(
+    ranks: &Ranks,
+    shape: &Shape,
+    vcs: usize,
+    sink: &mut W,
+    before: u64,
+) -> Result<u64, WriteFault>
+    requires shape { ranks.now.grid ≡ shape.now }
+    requires vcs { ranks.now.vcs ≡ vcs }
+    requires few { vcs ≤ MAX_CHANNELS }
+    requires room { before ≤ 20 }
+    ensures { Puts W.contents W.has_failed sink.old sink.new before (flat_map (rank_line ranks.now.grid) (rank_rows ranks.now)) result }
+{
+    let mut written = before;
+    for router in 0..shape.nodes() {
+        written = put_router(ranks, shape, vcs, router, sink, written)?;
+    }
+    Ok(written)
+}
+
+/// Writes a rank file: for each router, each of its ports that has a link, and each of `vcs` virtual channels, in rising
+/// order, the rank of that channel. The shape and `vcs` are those of the ranks, at most as many as a relation has.
+pub fn write_ranks<W: Sink>(
+    ranks: &Ranks,
+    shape: &Shape,
+    vcs: usize,
+    sink: &mut W,
+) -> Result<(), WriteFault>
+    requires shape { ranks.now.grid ≡ shape.now }
+    requires vcs { ranks.now.vcs ≡ vcs }
+    requires few { vcs ≤ MAX_CHANNELS }
+    ensures { Wrote W.contents W.has_failed sink.old sink.new (ranks_text ranks.now) result }
+{
+    let written = put_header(sink)?;
+    put_routers(ranks, shape, vcs, sink, written)?;
+    Ok(())
+}
