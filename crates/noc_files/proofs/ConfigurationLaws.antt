@@ -27,19 +27,19 @@ use Rattle.noc_files.proofs.TrafficLaws.{found_in}
 
 -- ---- values of a type
 
-string_is : (d : Data) (w : List ℕ) → as_str d ≡ Some w → d ≡ string w
+pub string_is : (d : Data) (w : List ℕ) → as_str d ≡ Some w → d ≡ string w
 string_is (string s) w e = cc
 string_is _ w e = absurd (cc)
 
-integer_is : (d : Data) (z : ℤ) → as_integer d ≡ Some z → d ≡ integer z
+pub integer_is : (d : Data) (z : ℤ) → as_integer d ≡ Some z → d ≡ integer z
 integer_is (integer y) z e = cc
 integer_is _ z e = absurd (cc)
 
-array_is : (d : Data) (ds : Items) → as_array d ≡ Some ds → d ≡ array ds
+pub array_is : (d : Data) (ds : Items) → as_array d ≡ Some ds → d ≡ array ds
 array_is (array es) ds e = cc
 array_is _ ds e = absurd (cc)
 
-typed_is : {X : Type 0} (as_type : Data → Option X) (of_type : X → Data) (back : (d : Data) (x : X) → as_type d ≡ Some x → d ≡ of_type x) (k : Key) (ms : Members) (x : X)
+pub typed_is : {X : Type 0} (as_type : Data → Option X) (of_type : X → Data) (back : (d : Data) (x : X) → as_type d ≡ Some x → d ≡ of_type x) (k : Key) (ms : Members) (x : X)
     → typed_at as_type k ms ≡ Ok x → HasValue ms k (of_type x)
 typed_is as_type of_type back k ms x e =
     let first = bind_ok (ok_or (get_member (key_name k) ms) (MissingKey k)) (λ d. ok_or (as_type d) (WrongType k)) x e in
@@ -57,7 +57,7 @@ kind_is w k e = by (bytes_eq w (codes "mesh")) refl (bytes_eq w (codes "torus"))
     by false not_so true is = let one : Some Torus ≡ Some k = rw (not_so, is) at e in rw (← same_Some Torus k one) (same_text w (codes "torus") (sym is))
     by false not_so false none = let one : None ≡ Some k = rw (not_so, none) at e in absurd (none-some k one)
 
-is_kind : (k : Kind) → kind_of (kind_word k) ≡ Some k
+pub is_kind : (k : Kind) → kind_of (kind_word k) ≡ Some k
 is_kind Mesh = refl
 is_kind Torus = refl
 
@@ -71,7 +71,7 @@ rule_is w r e = by (bytes_eq w (codes "dor")) refl (bytes_eq w (codes "dateline"
     by false not_so false f false g true is = let one : Some rule.Table ≡ Some r = rw (not_so, f, g, is) at e in rw (← same_Some rule.Table r one) (same_text w (codes "table") (sym is))
     by false not_so false f false g false none = let one : None ≡ Some r = rw (not_so, f, g, none) at e in absurd (none-some r one)
 
-is_rule : (r : RuleName) → rule_of (rule_word r) ≡ Some r
+pub is_rule : (r : RuleName) → rule_of (rule_word r) ≡ Some r
 is_rule rule.Dor = refl
 is_rule rule.Dateline = refl
 is_rule rule.WestFirst = refl
@@ -86,10 +86,10 @@ within_is low high (pos m) n e =
     let limits = both (nat_le low m) (nat_le m high) test.0 in
     (ap pos test.1, rw (← test.1) (leb-true low m limits.0), rw (← test.1) (leb-true m high limits.1))
 
-is_within : (low high n : ℕ) → low ≤ n → n ≤ high → within low high (pos n) ≡ Some n
+pub is_within : (low high n : ℕ) → low ≤ n → n ≤ high → within low high (pos n) ≡ Some n
 is_within low high n least most = rw (le-leb low n least, le-leb n high most)
 
-number_is : (ms : Members) (k : Key) (low high n : ℕ) → number_in k low high ms ≡ Ok n → HasNumber ms k low high n
+pub number_is : (ms : Members) (k : Key) (low high n : ℕ) → number_in k low high ms ≡ Ok n → HasNumber ms k low high n
 number_is ms k low high n e =
     let first = bind_ok (typed_at as_integer k ms) (λ z. ok_or (within low high z) (BadValue k)) n e in
     let limits = within_is low high first.0 n (found_in (within low high first.0) (BadValue k) n first.2) in
@@ -123,7 +123,7 @@ lengths_are (item d ds) ns e = by (as_integer d) refl (λ others there. lengths_
     by None other more = let one : None ≡ Some ns = rw other at e in absurd (none-some ns one)
     by (Some z) is more = one_more d ds ns z is (within 0 1000 z) refl (lengths_of ds) refl more e
 
-are_lengths : (ns : List ℕ) → Each (λ k. k ≤ 1000) ns → (all_integers (integers ns) ≡ true) × (lengths_of (integers ns) ≡ Some ns)
+pub are_lengths : (ns : List ℕ) → Each (λ k. k ≤ 1000) ns → (all_integers (integers ns) ≡ true) × (lengths_of (integers ns) ≡ Some ns)
 are_lengths [] h = (refl, refl)
 are_lengths (n ∷ ns) h = let rest = are_lengths ns h.1 in (rest.0, rw (is_within 0 1000 n (omega arith) h.0, rest.1))
 
@@ -131,7 +131,7 @@ chosen : (b : Bool) (r : Result (List ℕ) InputFault) (fault : InputFault) (ns 
 chosen true r fault ns e = e
 chosen false r fault ns e = absurd (cc)
 
-radix_is : (ms : Members) (ns : List ℕ) → radix_at ms ≡ Ok ns → HasValue ms key.Radix (array (integers ns)) × Each (λ k. k ≤ 1000) ns
+pub radix_is : (ms : Members) (ns : List ℕ) → radix_at ms ≡ Ok ns → HasValue ms key.Radix (array (integers ns)) × Each (λ k. k ≤ 1000) ns
 unfolding radix_at
 radix_is ms ns e =
     let first = bind_ok (typed_at as_array key.Radix ms) (λ ds. cond (all_integers ds) (ok_or (lengths_of ds) (BadValue key.Radix)) (Err (WrongType key.Radix))) ns e in
@@ -179,17 +179,17 @@ is_key_name key.Classes = refl
 is_key_name key.Rule = refl
 is_key_name key.Cycles = refl
 
-keys_are : (ms : Members) → all_known ms ≡ true → HasKnownKeys ms
+pub keys_are : (ms : Members) → all_known ms ≡ true → HasKnownKeys ms
 keys_are no_members e = tt
 keys_are (member text d ms) e = let each = both (is_key text) (all_known ms) e in (key_is text each.0, keys_are ms each.1)
 
-are_keys : (ms : Members) → HasKnownKeys ms → all_known ms ≡ true
+pub are_keys : (ms : Members) → HasKnownKeys ms → all_known ms ≡ true
 are_keys no_members h = refl
 are_keys (member text d ms) h = rw (h.0.1, is_key_name h.0.0, are_keys ms h.1)
 
 -- ---- the whole
 
-kind_at_is : (ms : Members) (k : Kind) → kind_at ms ≡ Ok k → HasValue ms key.Kind (string (kind_word k))
+pub kind_at_is : (ms : Members) (k : Kind) → kind_at ms ≡ Ok k → HasValue ms key.Kind (string (kind_word k))
 unfolding kind_at
 kind_at_is ms k e =
     let first = bind_ok (typed_at as_str key.Kind ms) (λ w. ok_or (kind_of w) (BadValue key.Kind)) k e in
@@ -199,7 +199,7 @@ is_kind_at : (ms : Members) (k : Kind) → HasValue ms key.Kind (string (kind_wo
 unfolding kind_at
 is_kind_at ms k value = rw value (rw (is_kind k))
 
-rule_at_is : (ms : Members) (r : RuleName) → rule_at ms ≡ Ok r → HasValue ms key.Rule (string (rule_word r))
+pub rule_at_is : (ms : Members) (r : RuleName) → rule_at ms ≡ Ok r → HasValue ms key.Rule (string (rule_word r))
 unfolding rule_at
 rule_at_is ms r e =
     let first = bind_ok (typed_at as_str key.Rule ms) (λ w. ok_or (rule_of w) (BadValue key.Rule)) r e in
@@ -209,7 +209,7 @@ is_rule_at : (ms : Members) (r : RuleName) → HasValue ms key.Rule (string (rul
 unfolding rule_at
 is_rule_at ms r value = rw value (rw (is_rule r))
 
-document_is : (text : List ℕ) (ms : Members) → document_of text ≡ Ok ms → IsUtf8 text × (parse_document text ≡ Some ms)
+pub document_is : (text : List ℕ) (ms : Members) → document_of text ≡ Ok ms → IsUtf8 text × (parse_document text ≡ Some ms)
 document_is text ms e = by (is_utf8 text) refl
   where
     by : (b : Bool) → is_utf8 text ≡ b → IsUtf8 text × (parse_document text ≡ Some ms)

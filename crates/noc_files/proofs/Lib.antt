@@ -19,3 +19,6 @@ pub mod TableFaults
 pub mod RankLaws
 pub mod RankFaults
 pub mod RankFacts
+pub mod ListingFacts
+pub mod ConfigurationFaults
+pub mod FindingFacts

@@ -1,5 +1,5 @@
 -- What a configuration says.
-use Rattle.std.specs.Prelude.{◌≡◌, ℕ, ◌≤◌, ℤ, pos, negsuc, Bool, true, List, [], ◌∷◌, codes, Option, Some, None, Result, Ok, Err, nat_le, ◌&&◌, ◌||◌, if◌then◌else◌, option_map, option_and_then, is_some}
+use Rattle.std.specs.Prelude.{◌≡◌, ◌⊎◌, ◌++◌, ℕ, ◌≤◌, ℤ, pos, negsuc, Bool, true, List, [], ◌∷◌, codes, Option, Some, None, Result, Ok, Err, nat_le, ◌&&◌, ◌||◌, if◌then◌else◌, option_map, option_and_then, is_some}
 use Rattle.std.specs.Option.{ok_or}
 use Rattle.std.specs.Str.{IsUtf8, bytes_eq, is_utf8}
 use Rattle.toml.specs.Data.{Data, Items, no_items, item, Members, no_members, member, as_array, as_integer, as_str, array, get_member, integer, string}
@@ -164,3 +164,96 @@ pub record IsConfiguration (text : List ℕ) (s : Settings) : Type 0 where
   pub classes : HasNumber document key.Classes 1 MAX_CLASSES s.classes
   pub rule : HasValue document key.Rule (string (rule_word s.rule))
   pub cycles : HasNumber document key.Cycles 1 MAX_CYCLES s.cycles
+
+-- ---- what is wrong with a configuration
+
+-- the keys in the order in which they are looked at
+abbrev pub keys_in_order : List Key
+keys_in_order = key.Kind ∷ key.Radix ∷ key.Channels ∷ key.Buffer ∷ key.Classes ∷ key.Rule ∷ key.Cycles ∷ []
+
+abbrev pub AreIntegers : Items → Type 0
+AreIntegers no_items = Unit {0}
+AreIntegers (item d ds) = ((z : ℤ) × (d ≡ integer z)) × AreIntegers ds
+
+-- a value of the type of a key
+abbrev pub IsOfType : Key → Data → Type 0
+IsOfType key.Kind d = (w : List ℕ) × (d ≡ string w)
+IsOfType key.Radix d = (ds : Items) × (d ≡ array ds) × AreIntegers ds
+IsOfType key.Channels d = (z : ℤ) × (d ≡ integer z)
+IsOfType key.Buffer d = (z : ℤ) × (d ≡ integer z)
+IsOfType key.Classes d = (z : ℤ) × (d ≡ integer z)
+IsOfType key.Rule d = (w : List ℕ) × (d ≡ string w)
+IsOfType key.Cycles d = (z : ℤ) × (d ≡ integer z)
+
+-- an integer within limits
+abbrev pub IsIntegerIn : ℕ → ℕ → Data → Type 0
+IsIntegerIn low high d = (n : ℕ) × (d ≡ integer (pos n)) × (low ≤ n) × (n ≤ high)
+
+-- a value that a key may have
+abbrev pub IsAllowed : Key → Data → Type 0
+IsAllowed key.Kind d = (k : Kind) × (d ≡ string (kind_word k))
+IsAllowed key.Radix d = (ns : List ℕ) × (d ≡ array (integers ns)) × Each (λ n. n ≤ 1000) ns
+IsAllowed key.Channels d = IsIntegerIn 1 MAX_CHANNELS d
+IsAllowed key.Buffer d = IsIntegerIn 1 MAX_BUFFER d
+IsAllowed key.Classes d = IsIntegerIn 1 MAX_CLASSES d
+IsAllowed key.Rule d = (r : RuleName) × (d ≡ string (rule_word r))
+IsAllowed key.Cycles d = IsIntegerIn 1 MAX_CYCLES d
+
+-- a key that has a value that it may have
+abbrev pub HasAllowed : Members → Key → Type 0
+HasAllowed ms k = (d : Data) × HasValue ms k d × IsAllowed k d
+
+pub record LacksKey (ms : Members) (k : Key) (fault : InputFault) : Type 0 where
+  pub lacks : get_member (key_name k) ms ≡ None
+  pub fault_is : fault ≡ MissingKey k
+
+pub record HasOtherType (ms : Members) (k : Key) (fault : InputFault) : Type 0 where
+  pub value : Data
+  pub there : HasValue ms k value
+  pub other_type : IsOfType k value → ⊥
+  pub fault_is : fault ≡ WrongType k
+
+pub record HasBadValue (ms : Members) (k : Key) (fault : InputFault) : Type 0 where
+  pub value : Data
+  pub there : HasValue ms k value
+  pub of_type : IsOfType k value
+  pub not_allowed : IsAllowed k value → ⊥
+  pub fault_is : fault ≡ BadValue k
+
+-- the fault of a key: it is not there, its value has another type, or it is none that the key may have
+abbrev pub IsKeyFault : Members → Key → InputFault → Type 0
+IsKeyFault ms k fault = LacksKey ms k fault ⊎ (HasOtherType ms k fault ⊎ HasBadValue ms k fault)
+
+-- the first key with a fault
+pub record HasBadKey (ms : Members) (fault : InputFault) : Type 0 where
+  pub before : List Key
+  pub bad : Key
+  pub others : List Key
+  pub in_order : keys_in_order ≡ before ++ bad ∷ others
+  pub good : Each (HasAllowed ms) before
+  pub fault_is : IsKeyFault ms bad fault
+
+-- a document in UTF-8
+pub record IsDocument (text : List ℕ) (ms : Members) : Type 0 where
+  pub utf8 : IsUtf8 text
+  pub parsed : parse_document text ≡ Some ms
+
+pub record IsNoDocument (text : List ℕ) (fault : InputFault) : Type 0 where
+  pub none : (ms : Members) → IsDocument text ms → ⊥
+  pub fault_is : fault ≡ BadToml
+
+pub record HasUnknownKey (text : List ℕ) (fault : InputFault) : Type 0 where
+  pub members : Members
+  pub document : IsDocument text members
+  pub unknown : HasKnownKeys members → ⊥
+  pub fault_is : fault ≡ UnknownKey
+
+pub record HasFaultyKey (text : List ℕ) (fault : InputFault) : Type 0 where
+  pub members : Members
+  pub document : IsDocument text members
+  pub known : HasKnownKeys members
+  pub bad : HasBadKey members fault
+
+-- the first fault of a configuration: no document, a key that no configuration has, or the first key with a fault
+abbrev pub IsConfigurationFault : List ℕ → InputFault → Type 0
+IsConfigurationFault text fault = IsNoDocument text fault ⊎ (HasUnknownKey text fault ⊎ HasFaultyKey text fault)

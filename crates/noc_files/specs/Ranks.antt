@@ -1,9 +1,10 @@
 -- What a file of ranks says, and the file of some ranks.
-use Rattle.std.specs.Prelude.{ℕ, ◌==◌, Bool, decimal, map, List, [], ◌∷◌, ◌++◌, length, codes, is_some, Result, Ok, Err, if◌then◌else◌}
+use Rattle.std.specs.Prelude.{◌≡◌, ℕ, ◌==◌, Bool, true, decimal, map, List, [], ◌∷◌, ◌++◌, length, codes, is_some, Result, Ok, Err, if◌then◌else◌}
 use Rattle.std.specs.List.{flat_map}
 use Rattle.noc_topo.specs.Shape.{Grid, local_port, neighbour, nodes}
-use Rattle.noc_topo.specs.Words.{below}
-use Rattle.noc_rank.specs.Ranking.{Ranking, rank_at}
+use Rattle.noc_topo.specs.Words.{below, Each, Has, Pairs}
+use Rattle.noc_rank.specs.Ranking.{Ranking, is_channel, rank_at}
+use Rattle.noc_route.specs.Order.{numbers_before}
 use Rattle.noc_rank.specs.declared.rows.RankRow.{RankRow}
 use Rattle.noc_files.specs.declared.fault.InputFault.{InputFault}
 use Rattle.noc_files.specs.declared.fault.InputFault.TheVariants.{BadCount}
@@ -78,3 +79,20 @@ rank_line g r = row_line (rank_fields g r)
 -- the header, and a line for each link channel
 abbrev pub ranks_text : Ranking → List ℕ
 ranks_text k = row_line header ++ flat_map (rank_line k.grid) (rank_rows k)
+
+-- ---- each link channel once
+
+-- one row comes before another, by router, port and number
+abbrev pub IsBefore : RankRow → RankRow → Type 0
+IsBefore a b = numbers_before (a.router ∷ a.port ∷ a.vc ∷ []) (b.router ∷ b.port ∷ b.vc ∷ []) ≡ true
+
+-- a row of a link channel and its rank
+pub record IsRankOf (k : Ranking) (row : RankRow) : Type 0 where
+  pub channel : is_channel k.grid k.vcs row.router row.port row.vc ≡ true
+  pub rank : row.rank ≡ rank_at k row.router row.port row.vc
+
+-- each link channel once with its rank, in rising order of router, port and number
+pub record ListsRanks (k : Ranking) (rows : List RankRow) : Type 0 where
+  pub there : (r p v : ℕ) → is_channel k.grid k.vcs r p v ≡ true → Has (rank_row k r p v) rows
+  pub ranks : Each (IsRankOf k) rows
+  pub rising : Pairs IsBefore rows

@@ -6,9 +6,10 @@ ghost use Rattle.std.specs.List.{list_all};
 ghost use Rattle.std.specs.Option.{is_some, ok_or};
 ghost use Rattle.toml.specs.Data.{as_integer, get_member};
 ghost use Rattle.toml.specs.View.{items_view, table_view, view};
-ghost use Rattle.noc_files.specs.Configuration.{all_integers, all_known, config_at, config_of, document_of, is_key, kind_at, lengths_of, number_in, radix_at, rule_at, settings, within, word_at, IsConfiguration, KeepsLimits, Settings};
+ghost use Rattle.noc_files.specs.Configuration.{all_integers, all_known, config_at, config_of, document_of, is_key, kind_at, lengths_of, number_in, radix_at, rule_at, settings, within, word_at, IsConfiguration, IsConfigurationFault, KeepsLimits, Settings};
 ghost use Rattle.noc_files.specs.Gives.{Gives, result_map};
 ghost use Rattle.noc_files.specs.Keys.{key_name};
+ghost use Rattle.noc_files.specs.declared.fault.InputFault.{InputFault as Fault};
 ghost use Rattle.noc_files.specs.declared.fault.InputFault.TheVariants.{BadValue, MissingKey};
 ghost use Rattle.noc_files.specs.declared.fault.Key.TheVariants as key;
 
@@ -232,4 +233,11 @@ pub fn read_config(alloc: Global, text: &[u8]) -> Result<Config, InputFault>
 /// configuration, with these settings as their values.
 pub fn configuration_is_document_with_keys()
     ensures { (text : List ℕ) (s : Settings) → (config_of text ≡ Ok s) ↔ IsConfiguration text s }
+{}
+
+/// A text is refused with this fault exactly where it is the first one: it is no TOML document in UTF-8, or it has a key
+/// that no configuration has, or in the order of the keys this is the first that is missing, or has a value of another
+/// type, or one that it may not have.
+pub fn configuration_is_refused_with_its_first_fault()
+    ensures { (text : List ℕ) (fault : Fault) → (config_of text ≡ Err fault) ↔ IsConfigurationFault text fault }
 {}

@@ -1,7 +1,8 @@
 //! The report of a router's findings in one cycle (docs/FORMATS.md).
 
-ghost use Rattle.std.specs.Prelude.{◌≡◌, ◌+◌, ◌^◌, ◌<◌, ◌≤◌, length, IfOk};
+ghost use Rattle.std.specs.Prelude.{ℕ, ◌≡◌, ◌+◌, ◌^◌, ◌<◌, ◌≤◌, length, IfOk};
 ghost use Rattle.std.specs.List.{flat_map};
+ghost use Rattle.noc_net.specs.Network.{Run};
 ghost use Rattle.noc_topo.specs.Shape.{nodes, ports};
 ghost use Rattle.noc_topo.specs.Words.{below};
 ghost use Rattle.noc_files.specs.Channels.{over_port, over_router};
@@ -252,3 +253,8 @@ pub fn write_findings<W: Sink>(
 {
     write_found(network.relation(), router, network.findings(router), sink)
 }
+
+/// Before its first cycle a network has found nothing, and the report of each router is the header alone.
+pub fn findings_before_the_first_cycle_are_the_header()
+    ensures { (u : Run) (router : ℕ) → u.count ≡ 0 → findings_text u router ≡ finding_header }
+{}

@@ -18,10 +18,11 @@ mod traffic;
 mod writing;
 
 pub use configuration::{
-    Config, MAX_CYCLES, RuleName, configuration_is_document_with_keys, read_config,
+    Config, MAX_CYCLES, RuleName, configuration_is_document_with_keys,
+    configuration_is_refused_with_its_first_fault, read_config,
 };
 pub use fault::{InputFault, Key};
-pub use findings::write_findings;
+pub use findings::{findings_before_the_first_cycle_are_the_header, write_findings};
 pub use joined::split_joined;
 pub use latency::write_latency;
 pub use ports::port_name;

@@ -3,14 +3,14 @@
 ghost use Rattle.std.specs.Prelude.{◌≡◌, ◌↔◌, ◌+◌, ◌^◌, ◌<◌, ◌≤◌, true, ℕ, List, Ok, Err, IfOk, IsSome, length};
 ghost use Rattle.std.specs.List.{flat_map};
 ghost use Rattle.csv.specs.Records.{fields_of};
-ghost use Rattle.noc_rank.specs.Ranking.{is_channel};
+ghost use Rattle.noc_rank.specs.Ranking.{is_channel, IsRanking, Ranking};
 ghost use Rattle.noc_rank.specs.declared.rows.RankRow.{RankRow as RowValue};
 ghost use Rattle.noc_topo.specs.Shape.{Grid, IsGrid, local_port, neighbour, nodes};
 ghost use Rattle.noc_topo.specs.Words.{below};
 ghost use Rattle.noc_files.specs.declared.fault.InputFault.{InputFault as Fault};
 ghost use Rattle.noc_files.specs.Gives.{Gives};
 ghost use Rattle.noc_files.specs.Plain.{row_line};
-ghost use Rattle.noc_files.specs.Ranks.{header, rank_line, rank_row, rank_row_of, rank_rows, ranks_of, ranks_text, port_rows, router_rows, IsRankFile, IsRankFileFault};
+ghost use Rattle.noc_files.specs.Ranks.{header, rank_line, rank_row, rank_row_of, rank_rows, ranks_of, ranks_text, port_rows, router_rows, IsRankFile, IsRankFileFault, ListsRanks};
 ghost use Rattle.noc_files.specs.Writing.{Puts, Wrote};
 
 use crate::fault::InputFault;
@@ -76,6 +76,12 @@ pub fn rank_file_is_header_and_rows()
 /// row has not four fields, or has four, and this is the first that is no numeral or names no port of the shape.
 pub fn rank_file_is_refused_with_its_first_fault()
     ensures { (g : Grid) → IsGrid g → (text : List ℕ) (fault : Fault) → (ranks_of g text ≡ Err fault) ↔ IsRankFileFault g text fault }
+{}
+
+/// The rank file of some ranks is read back as rows that name each link channel once with its rank, in rising order of
+/// router, port and virtual channel.
+pub fn written_ranks_are_read_back()
+    ensures { (k : Ranking) → IsRanking k → k.vcs ≤ MAX_CHANNELS → (ranks_of k.grid (ranks_text k) ≡ Ok (rank_rows k)) × ListsRanks k (rank_rows k) }
 {}
 
 // Puts the header.

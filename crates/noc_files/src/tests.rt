@@ -2,6 +2,7 @@
 
 mod configurations;
 mod inputs;
+mod rank_files;
 mod reports;
 mod sinks;
 mod table_files;

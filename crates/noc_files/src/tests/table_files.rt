@@ -83,14 +83,12 @@ fn tables_with_another_header_or_count(rt: HostRuntime) -> Result<(), Fail> {
     ] {
         assert_eq!(rt; count(a, &shape, text), Err(fault));
     }
-    assert_eq!(rt;
-        count(
-            a,
-            &shape,
-            b"class,router,in_port,in_vc,dst,out_port,out_vc\r\n\r\n0,0,\"-1\",0,1,local,0"
-        ),
-        Ok(1)
-    );
+    for text in [
+        b"class,router,in_port,in_vc,dst,out_port,out_vc\r\n\r\n0,0,\"-1\",0,1,local,0".as_slice(),
+        b"\xEF\xBB\xBF\"class\",router,in_port,in_vc,dst,out_port,out_vc\n0,0,-1,0000000000,1,local,0\n".as_slice(),
+    ] {
+        assert_eq!(rt; count(a, &shape, text), Ok(1));
+    }
     Ok(())
 }
 
@@ -126,6 +124,10 @@ fn tables_with_bad_fields(rt: HostRuntime) -> Result<(), Fail> {
         (
             b"class,router,in_port,in_vc,dst,out_port,out_vc\n0,0,-1,0,1,local,4294967296\n".as_slice(),
             InputFault::BadNumber { row: 0, column: 6 },
+        ),
+        (
+            b"class,router,in_port,in_vc,dst,out_port,out_vc\n0,0,-1,0,18446744073709551617,local,0\n".as_slice(),
+            InputFault::BadNumber { row: 0, column: 4 },
         ),
     ] {
         assert_eq!(rt; count(a, &shape, text), Err(fault));

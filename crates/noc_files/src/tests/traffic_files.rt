@@ -144,6 +144,11 @@ fn fields_with_too_many_digits_or_none(rt: HostRuntime) -> Result<(), Fail> {
             1,
         ),
         (
+            b"source,destination,class,length,due\n0,1,0,1,18446744073709551616\n".as_slice(),
+            0,
+            4,
+        ),
+        (
             b"source,destination,class,length,due\n0,1,,1,0\n".as_slice(),
             0,
             2,
