@@ -3,10 +3,11 @@
 
     run_cases.py PROGRAM FOLDER [--seconds S] [--jobs N]
 
-A case is a folder with the files args (one word of the command line a line), stdin, expected_stdout, expected_stderr and
-expected_status. The program runs inside it. Its standard output and its status must be the expected ones, and so must its
-standard error, except where the status 2 is expected: the text about wrong words isn't fixed. Each case that fails is shown,
-and the last line is 'N passed, M failed'. The exit status is 0 where there are cases and all passed, else 1.
+A case is a folder with the files args (one word of the command line a line), expected_stdout, expected_stderr and
+expected_status, with stdin where something stands there, and with the files that the words name. The program runs inside it.
+Its standard output and its status must be the expected ones, and so must its standard error, except where the status 2 is
+expected: the text about wrong words isn't fixed. Each case that fails is shown, and the last line is 'N passed, M failed'. The
+exit status is 0 where there are cases and all passed, else 1.
 """
 import argparse
 import os
@@ -31,10 +32,10 @@ def complaints(program, case, seconds):
     """Runs one case and returns a line for each way in which it fails."""
     words = (case / "args").read_text().splitlines()
     expected_status = int((case / "expected_status").read_text())
+    stdin = case / "stdin"
+    text = stdin.read_bytes() if stdin.exists() else b""
     try:
-        ran = subprocess.run(
-            [program, *words], input=(case / "stdin").read_bytes(), capture_output=True, cwd=case, timeout=seconds
-        )
+        ran = subprocess.run([program, *words], input=text, capture_output=True, cwd=case, timeout=seconds)
     except subprocess.TimeoutExpired:
         return [f"no end within {seconds:g} s"]
     except OSError as error:

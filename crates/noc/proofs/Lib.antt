@@ -1,4 +1,4 @@
 pub mod MemoryFacts
-pub mod NamedFacts
-pub mod WritingFacts
-pub mod AnswerLaws
+pub mod OutcomeFacts
+pub mod AskedFacts
+pub mod RequestFacts

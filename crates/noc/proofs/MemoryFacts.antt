@@ -10,6 +10,12 @@ use Rattle.noc.specs.declared.fault.Fault.TheVariants as fault
 pub config_not_memory : (f : InputFault) → is_memory (fault.Config f) ≡ false → f ≢ input.Memory
 config_not_memory f h e = let r = ap (λ x. is_memory (fault.Config x)) e in cc
 
+pub table_not_memory : (f : InputFault) → is_memory (fault.Table f) ≡ false → f ≢ input.Memory
+table_not_memory f h e = let r = ap (λ x. is_memory (fault.Table x)) e in cc
+
+pub ranks_not_memory : (f : InputFault) → is_memory (fault.RankFile f) ≡ false → f ≢ input.Memory
+ranks_not_memory f h e = let r = ap (λ x. is_memory (fault.RankFile x)) e in cc
+
 pub traffic_not_memory : (f : InputFault) → is_memory (fault.Traffic f) ≡ false → f ≢ input.Memory
 traffic_not_memory f h e = let r = ap (λ x. is_memory (fault.Traffic x)) e in cc
 

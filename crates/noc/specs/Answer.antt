@@ -1,68 +1,60 @@
--- What is answered to a request: its first fault, or the report of a run.
-use Rattle.std.specs.Prelude.{Bool, ◌≡◌, ℕ, ◌<◌, List, length, Some, None, Result, Ok, Err, Vec, Option}
-use Rattle.std.specs.declared.alloc.Global.{Global}
-use Rattle.noc_packet.specs.declared.packet.Packet.{Packet}
+-- What is answered to a request: the text that is asked for and how it ended, or the first fault.
+use Rattle.std.specs.Prelude.{◌≡◌, ℕ, ◌<◌, Bool, true, false, List, length, codes, Some, Ok, Err}
 use Rattle.noc_route.specs.Routes.{Routes}
-use Rattle.noc_net.specs.Faults.{fault_of}
 use Rattle.noc_net.specs.Network.{Run}
-use Rattle.noc_net.specs.declared.fault.NetFault.{NetFault}
-use Rattle.noc_files.specs.Configuration.{Settings, config_of}
-use Rattle.noc_files.specs.Gives.{result_map}
-use Rattle.noc_files.specs.Joined.{SplitsAt, line_at}
-use Rattle.noc_files.specs.Latency.{latency_text}
-use Rattle.noc_files.specs.Traffic.{traffic_of}
-use Rattle.noc_files.specs.Writing.{Wrote}
-use Rattle.noc_files.specs.declared.writing.WriteFault.{WriteFault}
+use Rattle.noc_rank.specs.Ranking.{Ranking}
+use Rattle.noc_rank.specs.declared.fault.RankFault.{RankFault}
+use Rattle.noc_files.specs.Configuration.{Settings}
+use Rattle.noc_files.specs.Findings.{findings_text}
+use Rattle.noc_files.specs.Joined.{line_at}
+use Rattle.noc_files.specs.Ranks.{ranks_text}
 use Rattle.noc_files.specs.declared.fault.InputFault.{InputFault}
 use Rattle.noc_files.specs.declared.fault.InputFault.TheVariants as input
+use Rattle.noc.specs.Asked.{Asked, Said, ReadsAs, is_joined, owned}
+use Rattle.noc.specs.Check.{AsksForChecked, RanksFault, checked_ranks}
+use Rattle.noc.specs.Formula.{HasRanks, IsFormulaFault}
+use Rattle.noc.specs.Reports.{report_text}
+use Rattle.noc.specs.Run.{AsksForRun, PacketsFault, ending, report_of}
 use Rattle.noc.specs.Settings.{AsksForRelation, SettingsFault}
-use Rattle.noc.specs.declared.answer.Status.{Status}
+use Rattle.noc.specs.declared.request.Command.{Command}
+use Rattle.noc.specs.declared.request.Command.TheVariants as command
+use Rattle.noc.specs.declared.request.Report.{Report}
+use Rattle.noc.specs.declared.request.Request.{Request}
+use Rattle.noc.specs.declared.status.Status.{Status}
+use Rattle.noc.specs.declared.status.Status.TheVariants.{Done}
 use Rattle.noc.specs.declared.fault.Fault.{Fault}
 use Rattle.noc.specs.declared.fault.Fault.TheVariants as fault
 
--- the bytes of a file, or the fault of reading it
-abbrev pub bytes_of : Result (Vec ℕ Global) InputFault → Result (List ℕ) InputFault
-bytes_of text = result_map (λ v. v.items) text
+-- ---- the texts of a request
 
--- ---- the first fault
+-- the text that is asked for, where nothing is wrong, and how the request then ends
+pub data AsksFor (a : Asked) : List ℕ → Status → Type 0 where
+  a_report : {report : Report} {run : Run} → report_of a.command ≡ Some report → AsksForRun a run → AsksFor a (report_text report run) (ending run)
+  findings : {cycle router : ℕ} {run : Run} → a.command ≡ command.Explain cycle router → AsksForRun a run → AsksFor a (findings_text run router) Done
+  accepted : {s : Settings} {routes : Routes} → a.command ≡ command.Check → AsksForChecked a s routes → AsksFor a (codes "accepted\n") Done
+  ranks : {s : Settings} {routes : Routes} {ranking : Ranking} → a.command ≡ command.Ranks → AsksForRelation a s routes → HasRanks s routes.grid ranking → AsksFor a (ranks_text ranking) Done
 
--- of a configuration and its traffic: the configuration, its settings, the traffic, and the packets of the network
-pub data FilesFault (config traffic : List ℕ) : Fault → Type 0 where
-  bad_config : {f : InputFault} → config_of config ≡ Err f → FilesFault config traffic (fault.Config f)
-  bad_settings : {s : Settings} {f : Fault} → config_of config ≡ Ok s → SettingsFault s f → FilesFault config traffic f
-  bad_traffic : {s : Settings} {routes : Routes} {f : InputFault} → config_of config ≡ Ok s → AsksForRelation s routes → traffic_of traffic ≡ Err f → FilesFault config traffic (fault.Traffic f)
-  bad_network : {s : Settings} {routes : Routes} {packets : List Packet} {f : NetFault} → config_of config ≡ Ok s → AsksForRelation s routes → traffic_of traffic ≡ Ok packets → fault_of routes packets ≡ Some f → FilesFault config traffic (fault.Network f)
+-- a command that runs a network
+abbrev pub runs : Command → Bool
+runs command.Check = false
+runs command.Ranks = false
+runs _ = true
 
--- of a joined text: that it was not read, that it has no dividing line, and then the first fault of its two parts
-pub data FirstFault : Result (List ℕ) InputFault → Fault → Type 0 where
-  unread : {f : InputFault} → FirstFault (Err f) (fault.Joined f)
-  unsplit : {text : List ℕ} → ((i : ℕ) → i < length text → line_at text i ≡ 0) → FirstFault (Ok text) (fault.Joined input.NoSplit)
-  split : {text config traffic : List ℕ} {i : ℕ} {f : Fault} → SplitsAt text i config traffic → FilesFault config traffic f → FirstFault (Ok text) f
+-- the first fault: up to the relation, then the ranks, the traffic, and the packets of the network
+pub data TextsFault (a : Asked) : Fault → Type 0 where
+  in_settings : {f : Fault} → SettingsFault a f → TextsFault a f
+  in_formula : {s : Settings} {routes : Routes} {f : RankFault} → a.command ≡ command.Ranks → AsksForRelation a s routes → IsFormulaFault s routes.grid f → TextsFault a (fault.Rank f routes.grid)
+  in_ranks : {s : Settings} {routes : Routes} {text : Said} {f : Fault} → AsksForRelation a s routes → checked_ranks a ≡ Some text → RanksFault routes text f → TextsFault a f
+  in_packets : {s : Settings} {routes : Routes} {f : Fault} → runs a.command ≡ true → AsksForChecked a s routes → PacketsFault routes a.traffic f → TextsFault a f
 
--- ---- the run
+-- ---- a request
 
--- what a configuration and its traffic ask for, where they have no fault: a network after so many cycles
-pub record FilesAskFor (config traffic : List ℕ) (run : Run) : Type 0 where
-  pub settings : Settings
-  pub configuration : config_of config ≡ Ok settings
-  pub relation : AsksForRelation settings run.net.relation
-  pub packets : traffic_of traffic ≡ Ok run.net.packets
-  pub sound : fault_of run.net.relation run.net.packets ≡ None
-  pub places : run.net.places ≡ settings.buffer
-  pub cycles : run.count ≡ settings.cycles
+-- of a joined text: that it was not read, that it has no dividing line; and then the first fault of the texts
+pub data FirstFault (r : Request) : Fault → Type 0 where
+  unread : {f : InputFault} → is_joined r.command ≡ true → owned r.config ≡ Err f → FirstFault r (fault.Joined f)
+  unsplit : {text : List ℕ} → is_joined r.command ≡ true → owned r.config ≡ Ok text → ((i : ℕ) → i < length text → line_at text i ≡ 0) → FirstFault r (fault.Joined input.NoSplit)
+  in_texts : {a : Asked} {f : Fault} → ReadsAs r a → TextsFault a f → FirstFault r f
 
--- what a joined text asks for, where it was read, has a dividing line, and its parts have no fault
-pub data AsksFor : Result (List ℕ) InputFault → Run → Type 0 where
-  joined : {text config traffic : List ℕ} {i : ℕ} {run : Run} → SplitsAt text i config traffic → FilesAskFor config traffic run → AsksFor (Ok text) run
-
--- ---- the report
-
--- how writing the report went, where it was begun
-abbrev pub writing_of : Result Status Fault → Option (Result (Unit {0}) WriteFault)
-writing_of (Ok status) = Some (Ok tt)
-writing_of (Err (fault.Write f)) = Some (Err f)
-writing_of (Err _) = None
-
--- the latency report of a run went out, whole or up to where the sink failed
-abbrev pub ReportsLatency : {S : Type 0} → (S → Option (List ℕ)) → (S → Bool) → S → S → Run → Result (Unit {0}) WriteFault → Type 0
-ReportsLatency contents has_failed old new run writing = (outs : ℕ → Option ℕ) × Wrote contents has_failed old new (latency_text run.net outs) writing
+-- the text that a request asks for, and how it then ends
+abbrev pub Asks : Request → List ℕ → Status → Type 0
+Asks r text status = (a : Asked) × ReadsAs r a × AsksFor a text status

@@ -1,4 +1,11 @@
+pub mod Asked
 pub mod Status
 pub mod Line
+pub mod Outcome
+pub mod Options
 pub mod Settings
+pub mod Check
+pub mod Formula
+pub mod Run
+pub mod Reports
 pub mod Answer

@@ -9,6 +9,9 @@ use Rattle.noc_files.specs.declared.fault.InputFault.{InputFault}
 use Rattle.noc_files.specs.declared.fault.InputFault.TheVariants as input
 use Rattle.noc_net.specs.declared.fault.NetFault.{NetFault}
 use Rattle.noc_net.specs.declared.fault.NetFault.TheVariants as net
+use Rattle.noc_rank.specs.Rising.{step_of}
+use Rattle.noc_rank.specs.declared.fault.RankFault.{RankFault}
+use Rattle.noc_rank.specs.declared.fault.RankFault.TheVariants as rank
 use Rattle.noc_route.specs.declared.rule.Entry.{Entry}
 use Rattle.noc_route.specs.declared.rule.RouteFault.{RouteFault}
 use Rattle.noc_route.specs.declared.rule.RouteFault.TheVariants as route
@@ -28,10 +31,13 @@ line_with family title details = joined (codes "fault " ∷ family ∷ codes " "
 abbrev pub family_of : Fault → List ℕ
 family_of (fault.Joined f) = codes "joined"
 family_of (fault.Config f) = codes "config"
+family_of (fault.Table f) = codes "table"
+family_of (fault.RankFile f) = codes "ranks"
 family_of (fault.Traffic f) = codes "traffic"
 family_of (fault.Option f) = codes "option"
 family_of (fault.Shape f) = codes "shape"
 family_of (fault.Relation f g) = codes "relation"
+family_of (fault.Rank f g) = codes "rank"
 family_of (fault.Network f) = codes "network"
 family_of (fault.Write f) = codes "write"
 
@@ -53,7 +59,10 @@ input_title (input.BadPort row column) = codes "12 BadPort"
 input_title input.NoSplit = codes "13 NoSplit"
 
 abbrev pub option_title : OptionFault → List ℕ
+option_title option.BadCycle = codes "1 BadCycle"
+option_title option.BadRouter = codes "2 BadRouter"
 option_title option.NoTable = codes "4 NoTable"
+option_title option.SpareTable = codes "5 SpareTable"
 
 abbrev pub shape_title : ShapeFault → List ℕ
 shape_title shape.BadDimensions = codes "1 BadDimensions"
@@ -69,6 +78,15 @@ route_title (route.LateHop row) = codes "5 LateHop"
 route_title (route.NoWay entry) = codes "6 NoWay"
 route_title route.Memory = codes "7 Memory"
 
+abbrev pub rank_title : RankFault → List ℕ
+rank_title rank.NoGenerated = codes "1 NoGenerated"
+rank_title (rank.NotRising entry port vc before after) = codes "2 NotRising"
+rank_title rank.Memory = codes "3 Memory"
+rank_title (rank.UnknownChannel row) = codes "5 UnknownChannel"
+rank_title (rank.DoubleChannel row) = codes "6 DoubleChannel"
+rank_title (rank.MissingChannel router port vc) = codes "7 MissingChannel"
+rank_title (rank.BadRank row) = codes "8 BadRank"
+
 abbrev pub net_title : NetFault → List ℕ
 net_title (net.SelfPacket row) = codes "1 SelfPacket"
 net_title (net.BadNode row) = codes "2 BadNode"
@@ -81,10 +99,13 @@ net_title (net.BadDue row) = codes "7 BadDue"
 abbrev pub title_of : Fault → List ℕ
 title_of (fault.Joined f) = input_title f
 title_of (fault.Config f) = input_title f
+title_of (fault.Table f) = input_title f
+title_of (fault.RankFile f) = input_title f
 title_of (fault.Traffic f) = input_title f
 title_of (fault.Option f) = option_title f
 title_of (fault.Shape f) = shape_title f
 title_of (fault.Relation f g) = route_title f
+title_of (fault.Rank f g) = rank_title f
 title_of (fault.Network f) = net_title f
 title_of (fault.Write f) = codes "1 WriteFailed"
 
@@ -127,6 +148,21 @@ route_details g (route.LateHop row) = hop_details g row
 route_details g (route.NoWay entry) = entry_details g entry
 route_details g _ = []
 
+-- a step, and the ranks before and after it
+abbrev pub fall_details : Grid → RouteRow → ℕ → ℕ → List (List ℕ)
+fall_details g step before after = hop_details g step ++ (codes " ranks " ∷ decimal before ∷ codes " " ∷ decimal after ∷ [])
+
+abbrev pub channel_details : Grid → ℕ → ℕ → ℕ → List (List ℕ)
+channel_details g router port vc = codes " router " ∷ decimal router ∷ codes " port " ∷ port_word g port ∷ codes " vc " ∷ decimal vc ∷ []
+
+abbrev pub rank_details : Grid → RankFault → List (List ℕ)
+rank_details g (rank.NotRising entry port vc before after) = fall_details g (step_of entry port vc) before after
+rank_details g (rank.UnknownChannel row) = row_details row
+rank_details g (rank.DoubleChannel row) = row_details row
+rank_details g (rank.MissingChannel router port vc) = channel_details g router port vc
+rank_details g (rank.BadRank row) = row_details row
+rank_details g _ = []
+
 abbrev pub net_details : NetFault → List (List ℕ)
 net_details (net.SelfPacket row) = row_details row
 net_details (net.BadNode row) = row_details row
@@ -138,10 +174,13 @@ net_details _ = []
 abbrev pub details_of : Fault → List (List ℕ)
 details_of (fault.Joined f) = input_details f
 details_of (fault.Config f) = input_details f
+details_of (fault.Table f) = input_details f
+details_of (fault.RankFile f) = input_details f
 details_of (fault.Traffic f) = input_details f
 details_of (fault.Option f) = []
 details_of (fault.Shape f) = []
 details_of (fault.Relation f g) = route_details g f
+details_of (fault.Rank f g) = rank_details g f
 details_of (fault.Network f) = net_details f
 details_of (fault.Write f) = codes " written " ∷ decimal f.written ∷ []
 

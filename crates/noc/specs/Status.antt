@@ -2,9 +2,10 @@
 use Rattle.std.specs.Prelude.{ℕ, Bool, true, false, if◌then◌else◌}
 use Rattle.noc_files.specs.declared.fault.InputFault.TheVariants as input
 use Rattle.noc_net.specs.declared.fault.NetFault.TheVariants as net
+use Rattle.noc_rank.specs.declared.fault.RankFault.TheVariants as rank
 use Rattle.noc_route.specs.declared.rule.RouteFault.TheVariants as route
-use Rattle.noc.specs.declared.answer.Status.{Status}
-use Rattle.noc.specs.declared.answer.Status.TheVariants.{Done, Stuck}
+use Rattle.noc.specs.declared.status.Status.{Status}
+use Rattle.noc.specs.declared.status.Status.TheVariants.{Done, Stuck}
 use Rattle.noc.specs.declared.fault.Fault.{Fault}
 use Rattle.noc.specs.declared.fault.Fault.TheVariants as fault
 
@@ -17,8 +18,11 @@ status_code Stuck = 5
 abbrev pub is_memory : Fault → Bool
 is_memory (fault.Joined input.Memory) = true
 is_memory (fault.Config input.Memory) = true
+is_memory (fault.Table input.Memory) = true
+is_memory (fault.RankFile input.Memory) = true
 is_memory (fault.Traffic input.Memory) = true
 is_memory (fault.Relation route.Memory shape) = true
+is_memory (fault.Rank rank.Memory shape) = true
 is_memory (fault.Network net.Memory) = true
 is_memory _ = false
 
@@ -30,6 +34,7 @@ is_of_relation _ = false
 -- the status of each family where memory was not refused
 abbrev pub family_status : Fault → ℕ
 family_status (fault.Relation f shape) = 4
+family_status (fault.Rank f shape) = 4
 family_status (fault.Write f) = 7
 family_status _ = 3
 

@@ -5,14 +5,21 @@ ghost use Rattle.noc.specs.Status.{status_of_fault};
 
 use noc_files::{InputFault, WriteFault};
 use noc_net::NetFault;
+use noc_rank::RankFault;
 use noc_route::RouteFault;
 use noc_topo::{Shape, ShapeFault};
 
 /// A fault of the options.
 #[derive(Clone, Copy, Debug, PartialEq, Eq)]
 pub enum OptionFault {
+    /// The cycle that is to be explained is not one of the run.
+    BadCycle,
+    /// The router that is to be explained does not exist.
+    BadRouter,
     /// The rule is `table`, and there is no table file.
     NoTable,
+    /// There is a table file, and the rule is another one.
+    SpareTable,
 }
 
 /// The first fault of a request, by family (docs/FORMATS.md, "Faults").
@@ -20,16 +27,20 @@ pub enum OptionFault {
 pub enum Fault {
     Joined(InputFault),
     Config(InputFault),
+    Table(InputFault),
+    RankFile(InputFault),
     Traffic(InputFault),
     Option(OptionFault),
     Shape(ShapeFault),
     /// With the shape, which names the ports.
     Relation(RouteFault, Shape),
+    /// With the shape, which names the ports.
+    Rank(RankFault, Shape),
     Network(NetFault),
     Write(WriteFault),
 }
 
-/// The exit status of a fault: 3 for texts, options, shapes and networks, 4 for relations, 6 where memory
+/// The exit status of a fault: 3 for texts, options, shapes and networks, 4 for relations and ranks, 6 where memory
 /// was refused, 7 where the report could not be written.
 pub fn status_of(fault: &Fault) -> u8
     ensures { result ≡ status_of_fault fault.now }
@@ -37,16 +48,21 @@ pub fn status_of(fault: &Fault) -> u8
     match fault {
         Fault::Joined(InputFault::Memory)
         | Fault::Config(InputFault::Memory)
+        | Fault::Table(InputFault::Memory)
+        | Fault::RankFile(InputFault::Memory)
         | Fault::Traffic(InputFault::Memory)
         | Fault::Relation(RouteFault::Memory, _)
+        | Fault::Rank(RankFault::Memory, _)
         | Fault::Network(NetFault::Memory) => 6,
         Fault::Joined(_)
         | Fault::Config(_)
+        | Fault::Table(_)
+        | Fault::RankFile(_)
         | Fault::Traffic(_)
         | Fault::Option(_)
         | Fault::Shape(_)
         | Fault::Network(_) => 3,
-        Fault::Relation(_, _) => 4,
+        Fault::Relation(_, _) | Fault::Rank(_, _) => 4,
         Fault::Write(_) => 7,
     }
 }

@@ -3,12 +3,14 @@
 ghost use Rattle.std.specs.Prelude.{◌≡◌, ◌≤◌, [], ◌∷◌, codes, decimal, length};
 ghost use Rattle.noc_files.specs.Keys.{key_name};
 ghost use Rattle.noc_files.specs.Writing.{Wrote};
-ghost use Rattle.noc.specs.Line.{entry_details, field_details, hop_details, input_details, input_title, line_of, line_with, net_details, net_title, port_word, route_details, route_title, row_details, shape_title};
+ghost use Rattle.noc_rank.specs.Rising.{step_of};
+ghost use Rattle.noc.specs.Line.{entry_details, field_details, hop_details, input_details, input_title, line_of, line_with, channel_details, fall_details, net_details, net_title, option_title, port_word, rank_details, rank_title, route_details, route_title, row_details, shape_title};
 
 use crate::fault::{Fault, OptionFault};
 use itoa::Buffer;
 use noc_files::{InputFault, Key, Sink, WriteFault, port_name, write_pieces};
 use noc_net::NetFault;
+use noc_rank::RankFault;
 use noc_route::{Entry, RouteFault, RouteRow};
 use noc_topo::{Shape, ShapeFault};
 
@@ -19,10 +21,13 @@ pub fn fault_line<W: Sink>(fault: &Fault, sink: &mut W) -> Result<(), WriteFault
     match fault {
         Fault::Joined(fault) => input_line("joined", *fault, sink),
         Fault::Config(fault) => input_line("config", *fault, sink),
+        Fault::Table(fault) => input_line("table", *fault, sink),
+        Fault::RankFile(fault) => input_line("ranks", *fault, sink),
         Fault::Traffic(fault) => input_line("traffic", *fault, sink),
-        Fault::Option(OptionFault::NoTable) => plain_line("option", "4 NoTable", sink),
+        Fault::Option(fault) => plain_line("option", option_name(*fault), sink),
         Fault::Shape(fault) => plain_line("shape", shape_name(*fault), sink),
         Fault::Relation(fault, shape) => relation_line(fault, shape, sink),
+        Fault::Rank(fault, shape) => rank_line(fault, shape, sink),
         Fault::Network(fault) => network_line(*fault, sink),
         Fault::Write(fault) => counted_line(
             "write",
@@ -164,6 +169,18 @@ fn field_line<W: Sink>(
     )
 }
 
+fn option_name(fault: OptionFault) -> &'static str
+    ensures title { result.now ≡ option_title fault }
+    ensures short { length result.now ≤ 20 }
+{
+    match fault {
+        OptionFault::BadCycle => "1 BadCycle",
+        OptionFault::BadRouter => "2 BadRouter",
+        OptionFault::NoTable => "4 NoTable",
+        OptionFault::SpareTable => "5 SpareTable",
+    }
+}
+
 fn shape_name(fault: ShapeFault) -> &'static str
     ensures title { result.now ≡ shape_title fault }
     ensures short { length result.now ≤ 20 }
@@ -269,6 +286,132 @@ fn port_text<'a>(shape: &Shape, port: usize, buffer: &'a mut Buffer) -> &'a str
         Some(name) => name,
         None => buffer.format(port),
     }
+}
+
+// A fault of ranks.
+fn rank_line<W: Sink>(fault: &RankFault, shape: &Shape, sink: &mut W) -> Result<(), WriteFault>
+    ensures { Wrote W.contents W.has_failed sink.old sink.new (line_with (codes "rank") (rank_title fault.now) (rank_details shape.now fault.now)) result }
+{
+    match fault {
+        RankFault::NoGenerated => plain_line("rank", "1 NoGenerated", sink),
+        RankFault::NotRising {
+            entry,
+            out_port,
+            out_vc,
+            rank,
+            next,
+        } => fall_line(
+            &step_of(entry, *out_port, *out_vc),
+            *rank,
+            *next,
+            shape,
+            sink,
+        ),
+        RankFault::Memory => plain_line("rank", "3 Memory", sink),
+        RankFault::UnknownChannel { row } => rank_row_line("5 UnknownChannel", *row, sink),
+        RankFault::DoubleChannel { row } => rank_row_line("6 DoubleChannel", *row, sink),
+        RankFault::MissingChannel { router, port, vc } => {
+            channel_line(*router, *port, *vc, shape, sink)
+        }
+        RankFault::BadRank { row } => rank_row_line("8 BadRank", *row, sink),
+    }
+}
+
+// The step from an entry by an output channel.
+fn step_of(entry: &Entry, out_port: usize, out_vc: usize) -> RouteRow
+    ensures { result ≡ step_of entry.now out_port out_vc }
+{
+    RouteRow {
+        class: entry.class,
+        router: entry.router,
+        in_port: entry.in_port,
+        in_vc: entry.in_vc,
+        dst: entry.dst,
+        out_port,
+        out_vc,
+    }
+}
+
+// The fault of ranks that do not rise.
+#[tactic(auto, unfolding(crate::specs::Line::line_with))]
+fn fall_line<W: Sink>(
+    step: &RouteRow,
+    rank: u32,
+    next: u32,
+    shape: &Shape,
+    sink: &mut W,
+) -> Result<(), WriteFault>
+    ensures { Wrote W.contents W.has_failed sink.old sink.new (line_with (codes "rank") (codes "2 NotRising") (fall_details shape.now step.now rank next)) result }
+{
+    let mut class = Buffer::new();
+    let mut router = Buffer::new();
+    let mut in_port = Buffer::new();
+    let mut in_vc = Buffer::new();
+    let mut dst = Buffer::new();
+    let mut out_port = Buffer::new();
+    let mut out_vc = Buffer::new();
+    let mut before = Buffer::new();
+    let mut after = Buffer::new();
+    write_pieces(
+        &[
+            "fault rank 2 NotRising class ",
+            class.format(step.class),
+            " router ",
+            router.format(step.router),
+            " port ",
+            port_text(shape, step.in_port, &mut in_port),
+            " vc ",
+            in_vc.format(step.in_vc),
+            " dst ",
+            dst.format(step.dst),
+            " out ",
+            port_text(shape, step.out_port, &mut out_port),
+            " vc ",
+            out_vc.format(step.out_vc),
+            " ranks ",
+            before.format(rank),
+            " ",
+            after.format(next),
+            "\n",
+        ],
+        sink,
+    )
+}
+
+// A fault of a rank file's row.
+fn rank_row_line<W: Sink>(name: &'static str, row: usize, sink: &mut W) -> Result<(), WriteFault>
+    requires { length name.now ≤ 20 }
+    ensures { Wrote W.contents W.has_failed sink.old sink.new (line_with (codes "rank") name.now (row_details row)) result }
+{
+    counted_line("rank", name, " row ", row as u64, sink)
+}
+
+// The fault of a channel without a rank.
+#[tactic(auto, unfolding(crate::specs::Line::line_with))]
+fn channel_line<W: Sink>(
+    router: usize,
+    port: usize,
+    vc: usize,
+    shape: &Shape,
+    sink: &mut W,
+) -> Result<(), WriteFault>
+    ensures { Wrote W.contents W.has_failed sink.old sink.new (line_with (codes "rank") (codes "7 MissingChannel") (channel_details shape.now router port vc)) result }
+{
+    let mut first = Buffer::new();
+    let mut second = Buffer::new();
+    let mut last = Buffer::new();
+    write_pieces(
+        &[
+            "fault rank 7 MissingChannel router ",
+            first.format(router),
+            " port ",
+            port_text(shape, port, &mut second),
+            " vc ",
+            last.format(vc),
+            "\n",
+        ],
+        sink,
+    )
 }
 
 // A fault of a network.

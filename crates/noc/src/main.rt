@@ -1,58 +1,105 @@
-//! The simulator: reads a joined text from standard input and writes the latency report.
+//! The simulator: reads the files that the words name, or a joined text from standard input, and writes what is asked for.
 #![tactic(auto)]
 
-ghost use Rattle.std.specs.Prelude.{◌≡◌, false, IfErr, IfNone, IsSome};
-ghost use Rattle.noc_net.specs.Network.{Run};
-ghost use Rattle.noc.specs.Answer.{bytes_of, writing_of, AsksFor, FirstFault};
-ghost use Rattle.noc.specs.Status.{is_memory};
+ghost use Rattle.std.specs.Prelude.{◌≡◌, ⊤, is_some};
+ghost use Rattle.noc.specs.Answer.{Asks, FirstFault};
+ghost use Rattle.noc.specs.Outcome.{Ends};
 
+mod accept;
 mod answer;
+mod counted;
+mod explain;
 mod fault;
+mod formula;
 mod line;
 mod request;
+mod run;
+mod settings;
+mod status;
 #[cfg(test)]
 mod tests;
+mod words;
 
-use answer::{Status, answer};
+use answer::answer;
+use clap::error::ErrorKind;
+use counted::Counted;
 use fault::{Fault, status_of};
 use line::fault_line;
 use noc_files::{InputFault, Out, WriteFault, read_all};
 use request::{Command, Request, Text};
+use status::Status;
 use std::env;
+use std::fs::{File, Files};
 use std::io::{self, BufWriter, Write};
 use std::process::ExitCode;
 use std::rt::Env;
+use std::thread::Threads;
+use words::{Words, read_words};
 
 /// The most bytes of one input text.
 const INPUT_LIMIT: usize = 67_108_864;
 
-/// What is told where the words make no sense.
-const USAGE: &str =
-    "noc reads a joined text (a configuration, a line ---, traffic) from standard input
-and writes the latency report to standard output. It takes no words.
+/// The exit status of words that make no sense.
+const WRONG_WORDS: u8 = 2;
 
-example: noc < examples/two_routers.noc";
+// Why the words make no request.
+#[derive(Drop)]
+enum Refusal {
+    // Memory was refused.
+    Memory,
+    // A word is no text in UTF-8.
+    NotText,
+    // They make no sense, or help was asked for.
+    Words(clap::Error),
+}
 
 fn main(rt: HostRuntime) -> ExitCode {
-    if has_words(&rt) {
-        let _ = eprintln!(rt; "{USAGE}");
-        return ExitCode::from(2);
-    }
-    let text = read_all(rt.alloc(), &mut rt.reader(), INPUT_LIMIT);
-    match print_answer(&rt, &joined(text)) {
+    let request = match asked(&rt) {
+        Ok(request) => request,
+        Err(refusal) => return refused(rt.stderr(), &refusal),
+    };
+    match print_answer(&rt, &request) {
         Ok(status) => ExitCode::from(status.code()),
-        Err(fault) => {
-            let _ = fault_line(&fault, &mut Out::new(rt.stderr()));
-            ExitCode::from(status_of(&fault))
-        }
+        Err(fault) => told(rt.stderr(), &fault),
     }
 }
 
-// Whether there are words behind the program's name.
-fn has_words(rt: &(impl Env + Alloc)) -> bool {
+// Tells why the words make no request, and gives the exit status.
+fn refused<W: Write + Drop>(mut to: W, refusal: &Refusal) -> ExitCode {
+    let _ = match refusal {
+        Refusal::Memory => return told(to, &Fault::Config(InputFault::Memory)),
+        Refusal::NotText => writeln!(to, "error: a word is no text in UTF-8"),
+        Refusal::Words(error) => write!(to, "{error}"),
+    };
+    ExitCode::from(WRONG_WORDS)
+}
+
+// Tells a fault, and gives its exit status.
+fn told<W: Write + Drop>(to: W, fault: &Fault) -> ExitCode {
+    let _ = fault_line(fault, &mut Out::new(to));
+    ExitCode::from(status_of(fault))
+}
+
+// What the words of the command line ask for.
+fn asked(rt: &(impl Env + Files + Input + AllocGlobal)) -> Result<Request, Refusal> {
+    let words = all_words(rt)?;
+    if words.len() <= 1 {
+        let text = read_all(rt.alloc(), &mut rt.reader(), INPUT_LIMIT);
+        return Ok(joined(text));
+    }
+    match read_words(rt.alloc(), &words) {
+        Ok(words) => Ok(request_of(rt, &words)),
+        Err(error) if error.kind() == ErrorKind::OutOfMemory => Err(Refusal::Memory),
+        Err(error) => Err(Refusal::Words(error)),
+    }
+}
+
+// The words of the command line, the program's name first.
+fn all_words(rt: &(impl Env + AllocGlobal)) -> Result<Vec<String>, Refusal> {
     match env::args(rt) {
-        Ok(words) => words.count() > 1,
-        Err(_) => false,
+        Ok(words) => words.collect(rt.alloc()).map_err(|_| Refusal::Memory),
+        Err(error) if error.kind() == io::ErrorKind::OutOfMemory => Err(Refusal::Memory),
+        Err(_) => Err(Refusal::NotText),
     }
 }
 
@@ -70,19 +117,65 @@ fn joined(text: Text) -> Request
     }
 }
 
-// Writes the answer to standard output.
-fn print_answer(rt: &(impl Print + AllocGlobal), request: &Request) -> Result<Status, Fault>
-    ensures run { IsSome (writing_of result) → (run : Run) × AsksFor (bytes_of request.now.config) run }
-    ensures fault { IfNone (writing_of result) (IfErr result (λ f. is_memory f ≡ false → FirstFault (bytes_of request.now.config) f)) }
+// The request of the words, with the texts of the files that they name.
+fn request_of(rt: &(impl Files + AllocGlobal), words: &Words<'_>) -> Request
+    ensures command { result.command ≡ words.now.command }
+    ensures table { is_some result.table ≡ is_some words.now.table }
+    ensures ranks { is_some result.ranks ≡ is_some words.now.ranks }
 {
-    let writer = match BufWriter::new(rt.alloc(), io::writer(rt)) {
+    Request {
+        config: file_text(rt, words.config),
+        table: words
+            .table
+            .map(|name: &str| -> Text { file_text(rt, name) }),
+        ranks: words
+            .ranks
+            .map(|name: &str| -> Text { file_text(rt, name) }),
+        traffic: words
+            .traffic
+            .map_or(Err(InputFault::ReadFailed), |name: &str| -> Text {
+                file_text(rt, name)
+            }),
+        command: words.command,
+    }
+}
+
+// The bytes of a file.
+fn file_text(rt: &(impl Files + AllocGlobal), name: &str) -> Text {
+    match File::open(rt, name) {
+        Ok(mut file) => read_all(rt.alloc(), &mut file, INPUT_LIMIT),
+        Err(_) => Err(InputFault::ReadFailed),
+    }
+}
+
+// Writes the answer to standard output.
+fn print_answer(
+    rt: &(impl Print + Threads + Sync + AllocGlobal),
+    request: &Request,
+) -> Result<Status, Fault>
+    ensures { Ends (λ text writing. ⊤) ⊤ (Asks request.now) (FirstFault request.now) result }
+{
+    let writer = match BufWriter::new(rt.alloc(), Counted::new(io::writer(rt))) {
         Ok(writer) => writer,
-        Err(_) => return Err(Fault::Joined(InputFault::Memory)),
+        Err(_) => return Err(Fault::Config(InputFault::Memory)),
     };
     let mut out = Out::new(writer);
-    let status = answer(rt.alloc(), request, &mut out)?;
-    match out.into_inner().flush() {
-        Ok(()) => Ok(status),
-        Err(_) => Err(Fault::Write(WriteFault { written: 0 })),
+    let answered = answer(rt, rt.alloc(), request, &mut out);
+    let mut writer = out.into_inner();
+    match answered {
+        Ok(status) => match writer.flush() {
+            Ok(()) => Ok(status),
+            Err(_) => Err(Fault::Write(cut_off(writer))),
+        },
+        Err(Fault::Write(_)) => Err(Fault::Write(cut_off(writer))),
+        Err(fault) => Err(fault),
+    }
+}
+
+// The fault of a report of which the device took only a part. Nothing more is written.
+fn cut_off<W: Write + Drop>(writer: BufWriter<Counted<W>>) -> WriteFault {
+    let (counted, _) = writer.into_parts();
+    WriteFault {
+        written: counted.taken(),
     }
 }

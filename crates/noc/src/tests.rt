@@ -1,13 +1,19 @@
 // Worked networks, and the first fault of texts that are refused: the bytes and the status of each answer.
 
-use crate::answer::{Status, answer};
+use crate::answer::answer;
 use crate::fault::{Fault, status_of};
 use crate::joined;
 use crate::line::fault_line;
+use crate::request::Request;
+use crate::status::Status;
 use noc_files::Out;
 use std::alloc::Global;
 use std::process::Abort;
 use std::test::Fail;
+use std::thread::Threads;
+
+mod commands;
+mod devices;
 
 // What goes to standard output and to standard error, and the exit status.
 #[derive(Drop)]
@@ -17,11 +23,15 @@ struct Answer {
     status: u8,
 }
 
-fn answer_to(alloc: Global, text: &[u8]) -> Result<Answer, Fail> {
+fn answer_to(rt: &(impl Threads + Sync), alloc: Global, text: &[u8]) -> Result<Answer, Fail> {
+    let request = joined(Ok(text.to_vec(alloc)?));
+    answer_of(rt, alloc, &request)
+}
+
+fn answer_of(rt: &(impl Threads + Sync), alloc: Global, request: &Request) -> Result<Answer, Fail> {
     let mut report = Out::new(Vec::new(alloc));
     let mut line = Out::new(Vec::new(alloc));
-    let request = joined(Ok(text.to_vec(alloc)?));
-    let status = match answer(alloc, &request, &mut report) {
+    let status = match answer(rt, alloc, request, &mut report) {
         Ok(Status::Done) => 0,
         Ok(Status::Stuck) => 5,
         Err(fault) => told(&fault, &mut line),
@@ -53,7 +63,7 @@ struct Run {
     status: u8,
 }
 
-fn check_run(rt: &(impl AllocGlobal + Abort), run: &Run) -> Result<(), Fail> {
+fn check_run(rt: &(impl Threads + Sync + AllocGlobal + Abort), run: &Run) -> Result<(), Fail> {
     let alloc = rt.alloc();
     let [channels, buffer, classes] = run.numbers;
     let kind = run.kind;
@@ -66,7 +76,7 @@ fn check_run(rt: &(impl AllocGlobal + Abort), run: &Run) -> Result<(), Fail> {
     )?;
     let report = run.report;
     let expected = format!(in alloc; "{HEADER}{report}")?;
-    let answer = answer_to(alloc, text.as_bytes())?;
+    let answer = answer_to(rt, alloc, text.as_bytes())?;
     assert_eq!(rt; answer.report.as_slice(), expected.as_bytes());
     assert_eq!(rt; answer.line.len(), 0);
     assert_eq!(rt; answer.status, run.status);
@@ -206,14 +216,17 @@ struct Refusal {
     status: u8,
 }
 
-fn check_refusal(rt: &(impl AllocGlobal + Abort), refusal: &Refusal) -> Result<(), Fail> {
+fn check_refusal(
+    rt: &(impl Threads + Sync + AllocGlobal + Abort),
+    refusal: &Refusal,
+) -> Result<(), Fail> {
     let alloc = rt.alloc();
     let config = refusal.config;
     let traffic = refusal.traffic;
     let text = format!(in alloc;
         "{config}buffer = 2\ncycles = 12\n---\nsource,destination,class,length,due\n{traffic}"
     )?;
-    let answer = answer_to(alloc, text.as_bytes())?;
+    let answer = answer_to(rt, alloc, text.as_bytes())?;
     assert_eq!(rt; answer.report.len(), 0);
     assert_eq!(rt; answer.line.as_slice(), refusal.line.as_bytes());
     assert_eq!(rt; answer.status, refusal.status);
@@ -334,7 +347,7 @@ fn expected_at(cut: usize) -> (&'static str, &'static str) {
 fn a_text_cut_at_each_byte(rt: HostRuntime) -> Result<(), Fail> {
     assert_eq!(rt; TWO_ROUTERS.len(), 136);
     for cut in 0..=TWO_ROUTERS.len() {
-        let answer = answer_to(rt.alloc(), &TWO_ROUTERS[..cut])?;
+        let answer = answer_to(&rt, rt.alloc(), &TWO_ROUTERS[..cut])?;
         let (report, line) = expected_at(cut);
         assert_eq!(rt;
             answer.report.as_slice(),
@@ -357,7 +370,7 @@ fn one_packet_too_many(rt: HostRuntime) -> Result<(), Fail> {
     for _ in 1..20_001 {
         text.extend_from_slice(b"0,1,0,1,0\n")?;
     }
-    let answer = answer_to(alloc, text.as_slice())?;
+    let answer = answer_to(&rt, alloc, text.as_slice())?;
     assert_eq!(rt;
         answer.line.as_slice(),
         b"fault network 5 TooMany\n".as_slice()

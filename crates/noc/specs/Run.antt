@@ -1,0 +1,56 @@
+-- The run that is asked for.
+use Rattle.std.specs.Prelude.{◌≡◌, ℕ, ◌+◌, Bool, true, false, List, Option, Some, None, Ok, Err, if◌then◌else◌}
+use Rattle.noc_packet.specs.declared.packet.Packet.{Packet}
+use Rattle.noc_route.specs.Routes.{Routes}
+use Rattle.noc_net.specs.declared.fault.NetFault.{NetFault}
+use Rattle.noc_net.specs.Faults.{fault_of}
+use Rattle.noc_net.specs.Network.{Run, Setup}
+use Rattle.noc_net.specs.Readings.{is_stuck_at}
+use Rattle.noc_files.specs.Configuration.{Settings}
+use Rattle.noc_files.specs.Traffic.{traffic_of}
+use Rattle.noc_files.specs.declared.fault.InputFault.{InputFault}
+use Rattle.noc.specs.Asked.{Asked, Said, read_by}
+use Rattle.noc.specs.Check.{AsksForChecked}
+use Rattle.noc.specs.declared.request.Command.{Command}
+use Rattle.noc.specs.declared.request.Command.TheVariants as command
+use Rattle.noc.specs.declared.request.Report.{Report}
+use Rattle.noc.specs.declared.request.Report.TheVariants.{Latency}
+use Rattle.noc.specs.declared.fault.Fault.{Fault}
+use Rattle.noc.specs.declared.fault.Fault.TheVariants as fault
+use Rattle.noc.specs.declared.status.Status.{Status}
+use Rattle.noc.specs.declared.status.Status.TheVariants.{Done, Stuck}
+
+-- the report of a run that a command asks for
+abbrev pub report_of : Command → Option Report
+report_of command.Joined = Some Latency
+report_of (command.Run report) = Some report
+report_of _ = None
+
+-- how many cycles are run: those of the configuration, or up to the one that is to be explained
+abbrev pub cycles_of : Command → Settings → ℕ
+cycles_of (command.Explain cycle router) s = cycle + 1
+cycles_of _ s = s.cycles
+
+-- the network of a relation, of buffers with these places, and of a traffic text
+pub record IsNetworkOf (routes : Routes) (places : ℕ) (traffic : Said) (net : Setup) : Type 0 where
+  pub relation : net.relation ≡ routes
+  pub places_are : net.places ≡ places
+  pub packets : read_by traffic_of traffic ≡ Ok net.packets
+  pub sound : fault_of routes net.packets ≡ None
+
+-- the first fault: the traffic, then its packets
+pub data PacketsFault (routes : Routes) (traffic : Said) : Fault → Type 0 where
+  bad_traffic : {f : InputFault} → read_by traffic_of traffic ≡ Err f → PacketsFault routes traffic (fault.Traffic f)
+  bad_network : {packets : List Packet} {f : NetFault} → read_by traffic_of traffic ≡ Ok packets → fault_of routes packets ≡ Some f → PacketsFault routes traffic (fault.Network f)
+
+-- that network after the cycles that are asked for
+pub record AsksForRun (a : Asked) (run : Run) : Type 0 where
+  pub settings : Settings
+  pub routes : Routes
+  pub before : AsksForChecked a settings routes
+  pub network : IsNetworkOf routes settings.buffer a.traffic run.net
+  pub cycles : run.count ≡ cycles_of a.command settings
+
+-- how a run has ended
+abbrev pub ending : Run → Status
+ending run = if is_stuck_at run then Stuck else Done

@@ -1,0 +1,106 @@
+//! Running the network that is asked for.
+
+ghost use Rattle.std.specs.Prelude.{◌≡◌, ◌<◌, ◌≤◌, Some, IfErr, IfOk};
+ghost use Rattle.noc_files.specs.Gives.{Gives};
+ghost use Rattle.noc_files.specs.Traffic.{traffic_of};
+ghost use Rattle.noc_files.specs.Writing.{Wrote};
+ghost use Rattle.noc.specs.Answer.{AsksFor, TextsFault};
+ghost use Rattle.noc.specs.Asked.{asked_of, lent, read_by};
+ghost use Rattle.noc.specs.Outcome.{Ends, Refuses};
+ghost use Rattle.noc.specs.Reports.{report_text};
+ghost use Rattle.noc.specs.declared.request.Report.{Report as ReportValue};
+ghost use Rattle.noc.specs.Run.{AsksForRun, IsNetworkOf, PacketsFault, report_of};
+
+use crate::accept::accept_if_given;
+use crate::fault::Fault;
+use crate::request::{Bytes, Files, Report};
+use crate::settings::relation_of;
+use crate::status::Status;
+use noc_files::{
+    InputFault, Sink, WriteFault, read_traffic, write_latency, write_stalls, write_summary,
+};
+use noc_net::Network;
+use noc_packet::Packet;
+use noc_route::Relation;
+use std::alloc::Global;
+use std::thread::Threads;
+
+/// Runs the network for its cycles, and writes a report; ranks are checked before, if there are any.
+pub fn run<W: Sink>(
+    rt: &(impl Threads + Sync),
+    alloc: Global,
+    files: &Files<'_>,
+    report: Report,
+    sink: &mut W,
+) -> Result<Status, Fault>
+    requires { report_of files.now.command ≡ Some report }
+    ensures { Ends (Wrote W.contents W.has_failed sink.old sink.new) (sink.new ≡ sink.old) (AsksFor (asked_of files.now)) (TextsFault (asked_of files.now)) result }
+{
+    let network = run_network(rt, alloc, files)?;
+    if let Err(fault) = write_report(&network, report, sink) {
+        return Err(Fault::Write(fault));
+    }
+    if network.stuck() {
+        Ok(Status::Stuck)
+    } else {
+        Ok(Status::Done)
+    }
+}
+
+// The network after its cycles.
+fn run_network(
+    rt: &(impl Threads + Sync),
+    alloc: Global,
+    files: &Files<'_>,
+) -> Result<Network, Fault>
+    requires { (report : ReportValue) × (report_of files.now.command ≡ Some report) }
+    ensures run { IfOk result (AsksForRun (asked_of files.now)) }
+    ensures fault { IfErr result (Refuses (TextsFault (asked_of files.now))) }
+{
+    let (config, relation) = relation_of(alloc, files)?;
+    accept_if_given(rt, alloc, files.ranks, &relation)?;
+    let mut network = network_of(alloc, relation, config.buffer, files.traffic)?;
+    network.run(config.cycles);
+    Ok(network)
+}
+
+/// The network of a relation and a traffic text, before its first cycle, with `places` (1 to 16 flits) in each buffer.
+pub fn network_of(
+    alloc: Global,
+    relation: Relation,
+    places: usize,
+    traffic: Bytes<'_>,
+) -> Result<Network, Fault>
+    requires some_place { 0 < places }
+    requires places { places ≤ 16 }
+    ensures opening { IfOk result (λ n. n.count ≡ 0) }
+    ensures network { IfOk result (λ n. IsNetworkOf relation places (lent traffic.entry) n.net) }
+    ensures fault { IfErr result (Refuses (PacketsFault relation (lent traffic.entry))) }
+{
+    let packets = match packets_in(alloc, traffic) {
+        Ok(packets) => packets,
+        Err(fault) => return Err(Fault::Traffic(fault)),
+    };
+    match Network::new(alloc, relation, places, packets) {
+        Ok(network) => Ok(network),
+        Err(fault) => Err(Fault::Network(fault)),
+    }
+}
+
+// The packets that a traffic text says.
+fn packets_in(alloc: Global, text: Bytes<'_>) -> Result<Vec<Packet>, InputFault>
+    ensures { Gives (λ v. v.items) result (read_by traffic_of (lent text.entry)) }
+{
+    read_traffic(alloc, text?)
+}
+
+// Writes a report of a network.
+fn write_report<W: Sink>(network: &Network, report: Report, sink: &mut W) -> Result<(), WriteFault>
+    ensures { Wrote W.contents W.has_failed sink.old sink.new (report_text report network.now) result }
+{
+    match report {
+        Report::Summary => write_summary(network, sink),
+        Report::Latency => write_latency(network, sink),
+        Report::Stalls => write_stalls(network, sink),
+    }
+}

@@ -1,0 +1,183 @@
+//! The words of the command line.
+
+use crate::request::{Command, Report};
+use clap::error::ErrorKind;
+use clap::{Arg, ArgMatches, Error, value_parser};
+use std::alloc::{AllocError, Global};
+
+/// What the words ask for: a command, with the names of its files.
+#[derive(Clone, Copy, Debug, PartialEq, Eq)]
+pub struct Words<'a> {
+    pub command: Command,
+    pub config: &'a str,
+    pub table: Option<&'a str>,
+    pub ranks: Option<&'a str>,
+    pub traffic: Option<&'a str>,
+}
+
+const AFTER_HELP: &str =
+    "Without a command, noc reads a joined text from standard input (a configuration, a line ---, and
+traffic) and writes the latency report.
+
+Examples:
+  noc < examples/two_routers.noc
+  noc run mesh.toml traffic.csv --report summary
+  noc explain mesh.toml traffic.csv --cycle 5 --router 2
+  noc ranks torus.toml > ranks.csv
+  noc check torus.toml --ranks ranks.csv
+
+Exit status: 0 done, 2 wrong words, 3 a text, a shape, an option or a packet is refused, 4 a relation or
+ranks are refused, 5 the network is stuck, 6 memory was refused, 7 the report could not be written.";
+
+/// The words behind the program's name, which is the first word, or clap's text on why they make no sense.
+pub fn read_words<'a>(alloc: Global, words: &'a [String]) -> Result<Words<'a>, Error> {
+    let matches = program(alloc)?.try_get_matches_from(words)?;
+    match matches.subcommand() {
+        Some(("run", of)) => Ok(words_of(
+            of,
+            Command::Run {
+                report: report_of(of),
+            },
+        )),
+        Some(("explain", of)) => Ok(words_of(of, explain_of(of))),
+        Some(("check", of)) => Ok(words_of(of, Command::Check)),
+        Some((_, of)) => Ok(words_of(of, Command::Ranks)),
+        None => Err(program(alloc)?.error(ErrorKind::MissingSubcommand, "a command is missing")?),
+    }
+}
+
+// The files of a command.
+fn words_of<'a>(matches: &ArgMatches<'a>, command: Command) -> Words<'a> {
+    Words {
+        command,
+        config: matches.get_str("CONFIG").unwrap_or(""),
+        table: matches.get_str("table"),
+        ranks: matches.get_str("ranks"),
+        traffic: matches.get_str("TRAFFIC"),
+    }
+}
+
+// The report of a run.
+fn report_of(matches: &ArgMatches<'_>) -> Report {
+    match matches.get_str("report") {
+        Some("summary") => Report::Summary,
+        Some("stalls") => Report::Stalls,
+        _ => Report::Latency,
+    }
+}
+
+// The cycle and the router that are to be explained.
+fn explain_of(matches: &ArgMatches<'_>) -> Command {
+    Command::Explain {
+        cycle: matches.get_one::<u64>("cycle").unwrap_or(0),
+        router: matches.get_one::<usize>("router").unwrap_or(0),
+    }
+}
+
+// The words of the program.
+fn program<'a>(alloc: Global) -> Result<clap::Command<'a>, AllocError> {
+    clap::Command::new(alloc, "noc")
+        .about("Simulates a wormhole network-on-chip with virtual channels, cycle by cycle.")
+        .after_help(AFTER_HELP)
+        .subcommand(run_words(alloc)?)?
+        .subcommand(explain_words(alloc)?)?
+        .subcommand(check_words(alloc)?)?
+        .subcommand(ranks_words(alloc)?)
+}
+
+fn run_words<'a>(alloc: Global) -> Result<clap::Command<'a>, AllocError> {
+    clap::Command::new(alloc, "run")
+        .about("Runs the network for the configuration's cycles, and writes a report")
+        .after_help(
+            "Example: noc run mesh.toml traffic.csv --report stalls\n\nThe status is 5 where the network is stuck at the end of the run.",
+        )
+        .arg(config_word(alloc))?
+        .arg(traffic_word(alloc))?
+        .arg(table_word(alloc))?
+        .arg(ranks_word(alloc).help("Check these ranks before the run"))?
+        .arg(report_word(alloc))
+}
+
+fn explain_words<'a>(alloc: Global) -> Result<clap::Command<'a>, AllocError> {
+    clap::Command::new(alloc, "explain")
+        .about("Writes what each input channel of a router did in one cycle, and why it waited")
+        .after_help("Example: noc explain mesh.toml traffic.csv --cycle 5 --router 2")
+        .arg(config_word(alloc))?
+        .arg(traffic_word(alloc))?
+        .arg(cycle_word(alloc))?
+        .arg(router_word(alloc))?
+        .arg(table_word(alloc))
+}
+
+fn check_words<'a>(alloc: Global) -> Result<clap::Command<'a>, AllocError> {
+    clap::Command::new(alloc, "check")
+        .about(
+            "Writes 'accepted' if the ranks rise with each hop that the routing relation permits",
+        )
+        .after_help("Example: noc check torus.toml --ranks ranks.csv")
+        .arg(config_word(alloc))?
+        .arg(
+            ranks_word(alloc)
+                .required(true)
+                .help("The ranks of the channels (CSV)"),
+        )?
+        .arg(table_word(alloc))
+}
+
+fn ranks_words<'a>(alloc: Global) -> Result<clap::Command<'a>, AllocError> {
+    clap::Command::new(alloc, "ranks")
+        .about("Writes the ranks by formula of the routing rule, as a rank file")
+        .after_help("Example: noc ranks torus.toml > ranks.csv")
+        .arg(config_word(alloc))?
+        .arg(table_word(alloc))
+}
+
+fn config_word<'a>(alloc: Global) -> Arg<'a> {
+    Arg::new(alloc, "CONFIG")
+        .required(true)
+        .help("The configuration (TOML)")
+}
+
+fn traffic_word<'a>(alloc: Global) -> Arg<'a> {
+    Arg::new(alloc, "TRAFFIC")
+        .required(true)
+        .help("The packets (CSV)")
+}
+
+fn table_word<'a>(alloc: Global) -> Arg<'a> {
+    Arg::new(alloc, "table")
+        .long("table")
+        .value_name("F")
+        .help("The routing table (CSV) of the rule 'table'")
+}
+
+fn ranks_word<'a>(alloc: Global) -> Arg<'a> {
+    Arg::new(alloc, "ranks").long("ranks").value_name("F")
+}
+
+fn report_word<'a>(alloc: Global) -> Arg<'a> {
+    Arg::new(alloc, "report")
+        .long("report")
+        .value_name("REPORT")
+        .value_parser(["summary", "latency", "stalls"].as_slice())
+        .default_value("latency")
+        .help("Sums, or when each packet was out, or how often each channel had each verdict")
+}
+
+fn cycle_word<'a>(alloc: Global) -> Arg<'a> {
+    Arg::new(alloc, "cycle")
+        .long("cycle")
+        .value_name("N")
+        .required(true)
+        .value_parser(value_parser!(u64))
+        .help("The cycle, from 0 to one less than the configuration's cycles")
+}
+
+fn router_word<'a>(alloc: Global) -> Arg<'a> {
+    Arg::new(alloc, "router")
+        .long("router")
+        .value_name("R")
+        .required(true)
+        .value_parser(value_parser!(usize))
+        .help("The number of the router, from 0")
+}
