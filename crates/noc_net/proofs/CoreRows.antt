@@ -7,15 +7,16 @@ use Rattle.noc_topo.specs.Words.{below}
 use Rattle.noc_topo.specs.Shape.{local_port}
 use Rattle.noc_net.specs.Network.{Setup}
 use Rattle.noc_net.specs.Lockstep.{lockstep_at}
+use Rattle.noc_net.specs.declared.event.Event.{Event}
+use Rattle.noc_net.specs.declared.event.Event.TheVariants.{Take, Decide, Put}
 use Rattle.noc_net.specs.Core.{CoreState, Post, opening_core, is_ready, happens, after_events, is_between, wire_at}
-use Rattle.noc_net.specs.Core.{Event, Take, Decide, Put}
 use Rattle.noc_net.proofs.NetworkRows.{one_flit, draining}
 use Rattle.noc_net.proofs.LockstepRows.{lockstep_after, same_numbers, view_code}
 
 -- a core from the opening on; to open it is to open all that a core is computed by
 unfoldable pub core_from : Setup → List Event → CoreState
 unfolding lockstep_after opening_core is_ready happens after_events
-core_from net events = after_events 1000 events (opening_core net 0 (lockstep_at net 0).views (lockstep_at net 0).wires)
+core_from net events = after_events 1000 events (opening_core (record { net = net; count = 0 }))
 
 -- which of these events are permitted, one after the other
 abbrev pub answers : List Event → CoreState → List Bool

@@ -59,7 +59,7 @@ module _ (net : Setup) where
   count_rows zero = length-replicate (nodes net.relation.grid) _
   count_rows (suc n) = length-tabulate (nodes net.relation.grid) _
 
-  count_row : (n r : ℕ) → r < nodes net.relation.grid → length (beats_at (lockstep_at net n).wires r) ≡ local_port net.relation.grid
+  pub count_row : (n r : ℕ) → r < nodes net.relation.grid → length (beats_at (lockstep_at net n).wires r) ≡ local_port net.relation.grid
   unfolding lockstep_at opening_lockstep lockstep_cycle exchanged
   count_row zero r l = ap length (get_or-replicate (nodes net.relation.grid) r (replicate (local_port net.relation.grid) idle_beat) [] l) ∙ length-replicate (local_port net.relation.grid) idle_beat
   count_row (suc n) r l = ap length (get_or-tabulate (nodes net.relation.grid) r _ [] l) ∙ length-tabulate (local_port net.relation.grid) _
@@ -74,7 +74,7 @@ module _ (net : Setup) where
       (cases_lt r (nodes net.relation.grid))
 
   -- .. and so are those past the routers
-  past_wires : (n r port : ℕ) → nodes net.relation.grid ≤ r → beat_at (lockstep_at net n).wires r port ≡ idle_beat
+  pub past_wires : (n r port : ℕ) → nodes net.relation.grid ≤ r → beat_at (lockstep_at net n).wires r port ≡ idle_beat
   past_wires n r port past =
       let row : beats_at (lockstep_at net n).wires r ≡ [] = get_or_past (lockstep_at net n).wires r [] (let c = count_rows n in omega arith) in
       rw row refl
@@ -123,7 +123,7 @@ module _ (net : Setup) where
       (λ r v l. local_step-beats net.relation v (beats_at (lockstep_at net n).wires r) n
       ∙ ap (λ row. (decided net.relation n row v).to_put) (incoming_row n beats same r (let c = count_views n in omega arith)))
 
-  no_link : (r port : ℕ) → local_port net.relation.grid ≤ port → neighbour net.relation.grid r port ≡ None
+  pub no_link : (r port : ℕ) → local_port net.relation.grid ≤ port → neighbour net.relation.grid r port ≡ None
   no_link r port l = rw (le-ltb port (local_port net.relation.grid) l) refl
 
   pub next_wires : (n : ℕ) (beats after : List (List Beat)) → ((r port : ℕ) → beat_at beats r port ≡ beat_at (lockstep_at net n).wires r port)

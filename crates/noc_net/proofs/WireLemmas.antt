@@ -44,13 +44,13 @@ received_below k v None beat = beat
 received_below k v (Some from) beat = if nat_eq from.0 v.site.node && nat_lt from.1 k then beat_to_put v from.1 else beat
 
 -- ---- one port more
-abbrev at_port : ℕ → ℕ → Option (ℕ × ℕ)
+abbrev pub at_port : ℕ → ℕ → Option (ℕ × ℕ)
 at_port node port = Some (node, port)
 
 same-some : (a b c d : ℕ) → a ≡ c → b ≡ d → at_port a b ≡ at_port c d
 same-some a b c d p q = cc
 
-same-ports : (a b c d : ℕ) → at_port a b ≡ at_port c d → (a ≡ c) × (b ≡ d)
+pub same-ports : (a b c d : ℕ) → at_port a b ≡ at_port c d → (a ≡ c) × (b ≡ d)
 same-ports a b c d e =
     let none : ℕ × ℕ = (0, 0) in
     (ap (λ (o : Option (ℕ × ℕ)). (unwrap_or o none).0) e, ap (λ (o : Option (ℕ × ℕ)). (unwrap_or o none).1) e)

@@ -1,31 +1,29 @@
 -- Routers that go on by single events, each at a cycle of its own (docs/MODEL.md, "The event core").
-use Rattle.std.specs.Prelude.{ℕ, ◌+◌, Bool, true, false, ◌&&◌, ◌||◌, not, List, [], ◌∷◌, ◌++◌, map, drop, length, Option, Some, None, option_map, option_and_then, is_some, unwrap_or, slice_get, slice_index_or, slice_set, nat_eq, nat_lt, if◌then◌else◌, replicate}
+use Rattle.std.specs.Prelude.{ℕ, zero, suc, ◌+◌, Bool, true, false, ◌&&◌, ◌||◌, not, List, [], ◌∷◌, ◌++◌, map, drop, length, Option, Some, None, option_map, option_and_then, is_some, unwrap_or, slice_get, slice_index_or, slice_set, nat_eq, nat_lt, if◌then◌else◌, replicate}
 use Rattle.std.specs.List.{list_all}
-use Rattle.noc_topo.specs.Words.{below, map_indexed}
-use Rattle.noc_topo.specs.Shape.{nodes, local_port, neighbour}
+use Rattle.noc_topo.specs.Words.{below, tabulate, map_indexed}
+use Rattle.noc_topo.specs.Shape.{local_port, neighbour}
 use Rattle.noc_packet.specs.declared.packet.Beat.{Beat}
 use Rattle.noc_router.specs.View.{View, local_step, idle_beat}
-use Rattle.noc_net.specs.Network.{Setup}
+use Rattle.noc_net.specs.declared.event.Event.{Event}
+use Rattle.noc_net.specs.declared.event.Event.TheVariants.{Take, Decide, Put}
+use Rattle.noc_net.specs.Halves.{beat_at}
+use Rattle.noc_net.specs.Lockstep.{lockstep_at}
+use Rattle.noc_net.specs.Network.{Setup, Run}
 
--- what can happen to one router: a beat is taken from the wire that arrives at a port, a cycle is decided, or a beat is put at a port
-pub data Event : Type 0 where
-  Take : (router port : ℕ) → Event
-  Decide : (router : ℕ) → Event
-  Put : (router port : ℕ) → Event
-
--- one router in the core: its view, its cycle, and what it has done of that cycle
+-- one router in the core: its view, its cycle, the wires that arrive, and what it has done of its cycle
 pub record Post : Type 0 where
   pub view : View
   pub steps : ℕ  -- the cycle that it is in, or that it makes next
+  pub wires : List (List Beat)  -- for each link port, the beats on the wire that arrives there, the oldest first
   pub taken : List (Option Beat)  -- for each link port, the beat that was taken in this cycle
   pub decided : Bool
   pub unput : List (Option Beat)  -- for each link port, the beat that is still to be put in this cycle
 
--- all routers and all wires
+-- all routers, with the wires between them
 pub record CoreState : Type 0 where
   pub net : Setup
   pub posts : List Post
-  pub wires : List (List (List Beat))  -- for each router and link port, the wire that arrives there: its beats, the oldest first
 
 -- how many link ports a router has, with or without a link
 abbrev pub links : Setup → ℕ
@@ -37,35 +35,44 @@ no_beats net = replicate (links net) None
 
 -- whether a router has a link at a port
 abbrev pub is_linked : Setup → ℕ → ℕ → Bool
-is_linked net r port = nat_lt r (nodes net.relation.grid) && is_some (neighbour net.relation.grid r port)
+is_linked net r port = is_some (neighbour net.relation.grid r port)
 
 -- a router that is between its cycles
-abbrev pub rested : Setup → View → ℕ → Post
-rested net view n = record { view = view; steps = n; taken = no_beats net; decided = false; unput = no_beats net }
+abbrev pub rested : Setup → View → ℕ → List (List Beat) → Post
+rested net view n wires = record { view = view; steps = n; wires = wires; taken = no_beats net; decided = false; unput = no_beats net }
 
--- a core that begins at count n with these views, and with these beats on the wires
-unfoldable pub opening_core : Setup → ℕ → List View → List (List Beat) → CoreState
-opening_core net n views beats = record {
-  net = net;
-  posts = map (λ view. rested net view n) views;
-  wires = map_indexed (λ r beats. map_indexed (λ port beat. if is_linked net r port then beat ∷ [] else []) beats) beats;
+-- the wires that arrive at router r at count n, each with the beat in flight
+abbrev pub wires_in_flight : Setup → ℕ → ℕ → List (List Beat)
+wires_in_flight net n r = tabulate (links net) (λ port. if is_linked net r port then beat_at (lockstep_at net n).wires r port ∷ [] else [])
+
+-- the core that begins where a network is after its cycles
+unfoldable pub opening_core : Run → CoreState
+opening_core u = record {
+  net = u.net;
+  posts = map_indexed (λ r view. rested u.net view u.count (wires_in_flight u.net u.count r)) (lockstep_at u.net u.count).views;
 }
-
--- the wire that arrives at this router and port
-abbrev pub wire_at : CoreState → ℕ → ℕ → List Beat
-wire_at k r port = slice_index_or (slice_index_or k.wires r []) port []
-
--- .. with these beats
-abbrev pub with_wire : CoreState → ℕ → ℕ → List Beat → CoreState
-with_wire k r port beats = record k { wires = slice_set k.wires r (slice_set (slice_index_or k.wires r []) port beats) }
 
 -- the router with this number, if it exists
 abbrev pub post_at : CoreState → ℕ → Option Post
 post_at k r = slice_get k.posts r
 
--- .. changed by f
+-- the wire that arrives at a port
+abbrev pub wire_of : Post → ℕ → List Beat
+wire_of post port = slice_index_or post.wires port []
+
+-- .. of this router, if it exists
+abbrev pub wire_at : CoreState → ℕ → ℕ → List Beat
+wire_at k r port = unwrap_or (option_map (λ post. wire_of post port) (post_at k r)) []
+
+-- the list with the element at this index, if there is one, changed by f
+abbrev pub changed_at : {X : Type 0} → ℕ → (X → X) → List X → List X
+changed_at i f [] = []
+changed_at zero f (x ∷ xs) = f x ∷ xs
+changed_at (suc i) f (x ∷ xs) = x ∷ changed_at i f xs
+
+-- the core with router r, if it exists, changed by f
 abbrev pub with_post : ℕ → (Post → Post) → CoreState → CoreState
-with_post r f k = record k { posts = map_indexed (λ i post. if nat_eq i r then f post else post) k.posts }
+with_post r f k = record k { posts = changed_at r f k.posts }
 
 -- whether there is a beat for this port
 abbrev pub has_beat : List (Option Beat) → ℕ → Bool
@@ -75,43 +82,46 @@ has_beat beats port = is_some (slice_index_or beats port None)
 abbrev pub none_has : Setup → List (Option Beat) → Bool
 none_has net beats = list_all (λ port. not (has_beat beats port)) (below (links net))
 
--- a beat was taken at each link of router r
-abbrev pub all_taken_at : Setup → ℕ → List (Option Beat) → Bool
-all_taken_at net r beats = list_all (λ port. not (is_linked net r port) || has_beat beats port) (below (links net))
+-- there is a beat for each link of router r
+abbrev pub all_have : Setup → ℕ → List (Option Beat) → Bool
+all_have net r beats = list_all (λ port. not (is_linked net r port) || has_beat beats port) (below (links net))
 
 -- ---- when an event may happen, where a router does at most `limit` cycles
 
 -- a beat is on the wire, and this cycle has taken none there
-abbrev pub may_take : ℕ → ℕ → List Beat → Post → Bool
-may_take limit port wire post = nat_lt 0 (length wire) && not (has_beat post.taken port) && nat_lt post.steps limit
+abbrev pub may_take : ℕ → ℕ → Post → Bool
+may_take limit port post = nat_lt 0 (length (wire_of post port)) && not (has_beat post.taken port) && nat_lt post.steps limit
 
 -- all beats of this cycle are taken, and it is not decided
-abbrev pub may_decide : Setup → ℕ → ℕ → Post → Bool
-may_decide net limit r post = not post.decided && all_taken_at net r post.taken && nat_lt post.steps limit
+abbrev pub may_decide : ℕ → Setup → ℕ → Post → Bool
+may_decide limit net r post = not post.decided && all_have net r post.taken && nat_lt post.steps limit
 
 -- the beat for this port is there since the cycle was decided, and is not put yet
 abbrev pub may_put : ℕ → Post → Bool
 may_put port post = has_beat post.unput port
 
 -- whether the router exists and this holds of it
-abbrev pub holds_at : Option Post → (Post → Bool) → Bool
-holds_at post may = unwrap_or (option_map may post) false
+abbrev pub holds_at : (Post → Bool) → Option Post → Bool
+holds_at may post = unwrap_or (option_map may post) false
 
 -- whether an event may happen
 unfoldable pub is_ready : ℕ → CoreState → Event → Bool
-is_ready limit k (Take r port) = is_linked k.net r port && holds_at (post_at k r) (may_take limit port (wire_at k r port))
-is_ready limit k (Decide r) = holds_at (post_at k r) (may_decide k.net limit r)
-is_ready limit k (Put r port) = is_linked k.net r port && holds_at (post_at k r) (may_put port)
+is_ready limit k (Take r port) = is_linked k.net r port && holds_at (may_take limit port) (post_at k r)
+is_ready limit k (Decide r) = holds_at (may_decide limit k.net r) (post_at k r)
+is_ready limit k (Put r port) = is_linked k.net r port && holds_at (may_put port) (post_at k r)
 
 -- ---- what happens
 
+-- the oldest beat of a wire is taken
+abbrev pub taking : ℕ → Post → Post
+taking port post = record post {
+  wires = slice_set post.wires port (drop 1 (wire_of post port));
+  taken = slice_set post.taken port (slice_get (wire_of post port) 0);
+}
+
 -- after its last put a router is between its cycles
 abbrev pub finished : Setup → Post → Post
-finished net post = if none_has net post.unput then rested net post.view (post.steps + 1) else post
-
--- a beat is taken at a port
-abbrev pub taking : ℕ → Option Beat → Post → Post
-taking port beat post = record post { taken = slice_set post.taken port beat }
+finished net post = if none_has net post.unput then rested net post.view (post.steps + 1) post.wires else post
 
 -- one whole cycle of the view over the beats that were taken
 abbrev pub deciding : Setup → ℕ → Post → Post
@@ -128,25 +138,43 @@ abbrev pub putting : Setup → ℕ → Post → Post
 putting net port post = finished net (record post { unput = slice_set post.unput port None })
 
 -- the beat that a router has for a port
-abbrev pub beat_to_send : CoreState → ℕ → ℕ → Beat
-beat_to_send k r port = unwrap_or (option_and_then (λ (post : Post). slice_index_or post.unput port None) (post_at k r)) idle_beat
+abbrev pub beat_to_send : ℕ → Option Post → Beat
+beat_to_send port post = unwrap_or (option_and_then (λ (post : Post). slice_index_or post.unput port None) post) idle_beat
 
--- a beat goes to the end of the wire that leads to this router and port
-abbrev pub onto_wire : CoreState → Option (ℕ × ℕ) → Beat → CoreState
-onto_wire k None beat = k
-onto_wire k (Some to) beat = with_wire k to.0 to.1 (wire_at k to.0 to.1 ++ beat ∷ [])
+-- a beat comes to the end of a wire
+abbrev pub receiving : ℕ → Beat → Post → Post
+receiving port beat post = record post { wires = slice_set post.wires port (wire_of post port ++ beat ∷ []) }
+
+-- .. of the one that arrives at this router and port, if there is one
+abbrev pub onto_wire : Option (ℕ × ℕ) → Beat → CoreState → CoreState
+onto_wire None beat k = k
+onto_wire (Some to) beat k = with_post to.0 (receiving to.1 beat) k
 
 -- the core after an event that is ready
 unfoldable pub happens : CoreState → Event → CoreState
-happens k (Take r port) = with_wire (with_post r (taking port (slice_get (wire_at k r port) 0)) k) r port (drop 1 (wire_at k r port))
+happens k (Take r port) = with_post r (taking port) k
 happens k (Decide r) = with_post r (deciding k.net r) k
-happens k (Put r port) = with_post r (putting k.net port) (onto_wire k (neighbour k.net.relation.grid r port) (beat_to_send k r port))
+happens k (Put r port) = onto_wire (neighbour k.net.relation.grid r port) (beat_to_send port (post_at k r)) (with_post r (putting k.net port) k)
 
--- the core after a list of events, of which those that are not ready change nothing
+-- the core after an event, which changes nothing where it is not ready
+abbrev pub after_event : ℕ → CoreState → Event → CoreState
+after_event limit k e = if is_ready limit k e then happens k e else k
+
+-- .. after a list of events
 unfoldable pub after_events : ℕ → List Event → CoreState → CoreState
 after_events limit [] k = k
-after_events limit (e ∷ es) k = after_events limit es (if is_ready limit k e then happens k e else k)
+after_events limit (e ∷ es) k = after_events limit es (after_event limit k e)
+
+-- ---- where a router stands
 
 -- whether a router is between its cycles: no event of it since its steps last rose
 abbrev pub is_between : Setup → Post → Bool
 is_between net post = not post.decided && none_has net post.taken
+
+-- the steps of router r
+abbrev pub steps_at : CoreState → ℕ → ℕ
+steps_at k r = unwrap_or (option_map (λ (post : Post). post.steps) (post_at k r)) 0
+
+-- whether all routers are between their cycles at count n
+abbrev pub are_between : CoreState → ℕ → Bool
+are_between k n = list_all (λ (post : Post). is_between k.net post && nat_eq post.steps n) k.posts

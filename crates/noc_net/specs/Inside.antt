@@ -21,5 +21,6 @@ pub record IsNetwork (n : Inside) : Type 0 where
   pub wires : (r port : ℕ) → beat_at n.beats.items r port ≡ beat_at (lockstep_at (setup_of n) n.count).wires r port
   pub beats : vec_len n.beats ≡ nodes n.relation.grid
   pub plan : IsDecidedFor (ports n.relation.grid) n.relation.vcs n.plan
+  pub room : vec_len n.room ≡ nodes n.relation.grid
   pub packets : All (IsSound n.relation) n.packets.items
   pub few_packets : vec_len n.packets ≤ 20000

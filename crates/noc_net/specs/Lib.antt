@@ -1,9 +1,13 @@
 pub mod Core
 pub mod Faults
 pub mod Halves
+pub mod InStep
 pub mod Inside
 pub mod Lockstep
 pub mod Network
+pub mod Order
+pub mod Parts
 pub mod Progress
 pub mod Readings
+pub mod Room
 pub mod Worm

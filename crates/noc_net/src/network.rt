@@ -11,10 +11,13 @@ ghost use Rattle.noc_net.specs.declared.fault.NetFault.TheVariants.{Memory as me
 ghost use Rattle.noc_net.specs.Faults.{IsSendable, IsSound, fault_of};
 ghost use Rattle.noc_net.specs.Halves.{ArePlaced, IsLinked, IsPlaced, IsSilent, beat_at, decided, emptied, incoming, received, sent_on};
 ghost use Rattle.noc_net.specs.Lockstep.{beat_from, beats_at, ends_of, starts_of};
+ghost use Rattle.noc_net.specs.Parts.{AreParts, run_in};
 ghost use Rattle.noc_net.specs.Readings.{is_stuck_at, is_waiting, last_event_of, later_of, latest_of, misfits_in, misfits_of, read_arrival, router_view, waits_by};
 
 use crate::fault::NetFault;
 use crate::packets::{ends_at, first_fault, starts_at};
+use crate::parts::Parts;
+use crate::room::{LINKS, Room};
 use noc_packet::{Beat, MAX_PACKETS, Memory, Packet};
 use noc_route::Relation;
 use noc_router::{Finding, Plan, Router, VERDICTS};
@@ -23,9 +26,6 @@ use std::marker::Model;
 
 /// The greatest number of cycles that a network runs.
 pub const CYCLE_LIMIT: u64 = 1_000_000_000;
-
-/// The greatest number of link ports of a router.
-const LINKS: usize = 6;
 
 /// A network of routers with one wire in each direction of each link, run in lockstep.
 ///
@@ -41,6 +41,8 @@ pub struct Network {
     routers: Vec<Router>,
     // For each router and link port, the beat on the wire that arrives there.
     beats: Vec<[Beat; LINKS]>,
+    // For each router, the storage of a core.
+    room: Vec<Room>,
 }
 
 impl Model for Network {
@@ -77,6 +79,7 @@ impl Network {
         let routers = new_routers(alloc, &relation, places, &packets)?;
         let plan = Plan::new(alloc, &relation)?;
         let beats = new_beats(alloc, routers.len())?;
+        let room = new_room(alloc, routers.len())?;
         Ok(Network {
             count: 0,
             places,
@@ -85,7 +88,42 @@ impl Network {
             plan,
             routers,
             beats,
+            room,
         })
+    }
+
+    /// Takes the network apart.
+    pub fn into_parts(self) -> Parts
+        ensures network { run_in result ≡ self }
+        ensures parts { AreParts result }
+    {
+        Parts {
+            relation: self.relation,
+            buffer: self.places,
+            packets: self.packets,
+            count: self.count,
+            routers: self.routers,
+            plan: self.plan,
+            beats: self.beats,
+            room: self.room,
+        }
+    }
+
+    /// The network of these parts.
+    pub fn from_parts(parts: Parts) -> Network
+        requires { AreParts parts }
+        ensures { result ≡ run_in parts }
+    {
+        Network {
+            count: parts.count,
+            places: parts.buffer,
+            relation: parts.relation,
+            packets: parts.packets,
+            plan: parts.plan,
+            routers: parts.routers,
+            beats: parts.beats,
+            room: parts.room,
+        }
     }
 
     /// Runs one cycle: each router takes its beats, injects, decides and commits, and then all put.
@@ -283,6 +321,13 @@ fn new_beats(alloc: Global, nodes: usize) -> Result<Vec<[Beat; LINKS]>, Memory>
     ensures idle { IfOk result (λ beats. All IsSilent beats.items) }
 {
     Ok(vec![in alloc; [Beat::idle(); LINKS]; nodes]?)
+}
+
+// The storage of a core.
+fn new_room(alloc: Global, nodes: usize) -> Result<Vec<Room>, Memory>
+    ensures { IfOk result (λ room. vec_len room ≡ nodes) }
+{
+    Ok(vec![in alloc; Room::new(0); nodes]?)
 }
 
 // Each router takes the beats that came to it, injects, decides and commits.

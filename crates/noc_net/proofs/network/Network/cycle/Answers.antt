@@ -71,6 +71,7 @@ invariant_of-self c =
           (λ k q l. c.deliver_all.ensures.beats k q l ∙ ap (λ (vs : List View). beat_from (map (λ (v : View). v.to_put) vs) (neighbour c.self.inside.relation.grid k q)) now) r port;
       beats = c.self.invariant.beats;
       plan = c.decide_all.ensures.plan;
+      room = c.self.invariant.room;
       packets = c.self.invariant.packets;
       few_packets = c.self.invariant.few_packets;
     }

@@ -22,6 +22,7 @@ invariant_of-result c =
       wires = opening_wires net c.in_ok-beats.beats.items (silent_at c.in_ok-beats.beats.items c.in_ok-beats.ensures.idle);
       beats = omega (arith, c.in_ok-beats.ensures.count, c.len.ensures, c.in_ok-routers.routers.ok.0, ap length views ∙ length-tabulate (nodes c.args.relation.grid) _);
       plan = search rules;
+      room = omega (arith, c.in_ok-room.ensures, c.len-2.ensures, c.in_ok-routers.routers.ok.0, ap length views ∙ length-tabulate (nodes c.args.relation.grid) _);
       packets = subst (λ (packets : List Packet). All (IsSound c.args.relation) packets) c.deref.ensures.value c.in_default.ensures.sound;
       few_packets = search rules;
     }
