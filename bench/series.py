@@ -59,7 +59,7 @@ def main():
     parser.add_argument("program")
     parser.add_argument("--repeat", type=int, default=5, metavar="N", help="runs of which the best counts")
     options = parser.parse_args()
-    print("| routers | channels |", " | ".join(f"{name}: flits out | ns" for name in LOADS), "|")
+    print("| routers | channels |", " | ".join(f"{name}: flits out | {name}: ns" for name in LOADS), "|")
     print("|--:|--:|" + "--:|--:|" * len(LOADS))
     for radix in RADICES:
         for channels in CHANNELS:
