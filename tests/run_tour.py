@@ -3,8 +3,8 @@
 
     run_tour.py PROGRAM PAGE.. [--seconds S]
 
-A fenced block whose first line begins with '$ ' is a transcript: a line '$ COMMAND', its further lines as '> MORE', and then what
-the command prints, standard error included. A block opened with four backticks may hold lines of three. The command must
+A fenced block whose first line begins with '$ ' is a transcript: a line '$ COMMAND', its further lines as '> MORE', and then
+what the command prints, standard error included. A block opened with four backticks may hold lines of three. The command must
 print exactly that. A status other than 0 must be shown by a command '$ echo $?' right after it.
 
 Each page has a folder of its own, with a copy of examples/ and with PROGRAM as ./noc, so a command may write files there.
