@@ -3,9 +3,9 @@
 
     run_names.py PAGE..
 
-Each link of a page to a file of the repository must lead to one, and each path 'crates/..', 'docs/..', 'tests/..', 'bench/..' or
-'examples/..' in the text must be there. In a table with a column 'Contracts that carry it' each function that it names must be
-public in the crate of that row. Each name that leads nowhere is shown, and the last line is 'N passed, M failed'. The exit
+Each link of a page to a file of the repository must lead to one, and each path 'crates/..', 'docs/..', 'tests/..', 'bench/..'
+or 'examples/..' in the text must be there. In a table with a column 'Contracts that carry it' each function that it names must
+be public in the crate of that row. Each name that leads nowhere is shown, and the last line is 'N passed, M failed'. The exit
 status is 0 where there are names and all are there, else 1.
 """
 import re

@@ -3,8 +3,8 @@
 
     run_tour.py PROGRAM PAGE.. [--seconds S]
 
-A fenced block whose first line begins with '$ ' is a session: a line '$ COMMAND', its further lines as '> MORE', and then what
-the command prints, standard error included. A block opened with four backticks may hold lines of three. The command must
+A fenced block whose first line begins with '$ ' is a transcript: a line '$ COMMAND', its further lines as '> MORE', and then
+what the command prints, standard error included. A block opened with four backticks may hold lines of three. The command must
 print exactly that. A status other than 0 must be shown by a command '$ echo $?' right after it.
 
 Each page has a folder of its own, with a copy of examples/ and with PROGRAM as ./noc, so a command may write files there.
@@ -42,17 +42,17 @@ def commands_of(page):
         if not body or not body[0].startswith("$ "):
             continue
         first_line = page.count("\n", 0, block.start(2)) + 1
-        session = []
+        transcript = []
         for number, line in enumerate(body, first_line):
             if line.startswith("$ "):
-                session.append(Command(number, line[2:]))
-            elif line.startswith((">\n", "> ")) and not session[-1].output:
-                session[-1].words += line[2:] or "\n"
+                transcript.append(Command(number, line[2:]))
+            elif line.startswith((">\n", "> ")) and not transcript[-1].output:
+                transcript[-1].words += line[2:] or "\n"
             else:
-                session[-1].output += line
-        for command, following in zip(session, session[1:]):
+                transcript[-1].output += line
+        for command, following in zip(transcript, transcript[1:]):
             command.shows_status = following.words.strip() == SHOWS_STATUS
-        found += session
+        found += transcript
     return found
 
 
