@@ -195,6 +195,26 @@ fn packets_that_never_come_out(rt: HostRuntime) -> Result<(), Fail> {
 3,local,0,0,1,1,1,0,0,0,17,0,0
 ";
     assert_eq!(rt; stalls(a, &network)?.as_slice(), report.as_slice());
+    let report = b"cycles 20
+packets 4
+delivered 0
+left 4
+latency_sum 0
+latency_max -
+last_event 3
+misfits 0
+empty 92
+routed 8
+granted 4
+moved 4
+no_flit 0
+no_idle_channel 64
+lost_channel 0
+no_credit 68
+lost_input 0
+lost_switch 0
+";
+    assert_eq!(rt; summary(a, &network)?.as_slice(), report.as_slice());
     Ok(())
 }
 
