@@ -1,6 +1,6 @@
 -- A request has one first fault, but for the faults of ranks.
 use Rattle.std.proofs.Common.{◌≡◌, ◌∙◌, ℕ, ◌+◌, ◌<◌, true, false, List, [], ◌∷◌, Some, None, Result, Ok, Err, refl, subst, sym, ap, arith, length, inl, inr}
-use Rattle.std.specs.Prelude.{◌≤◌, ◌-◌, ◌*◌, ◌==◌, ◌||◌, ◌&&◌, ◌⊎◌, Bool, IsTrue, Option, Vec, All, Contains, drop, slice_index, is_some, nat_eq, nat_lt, if◌then◌else◌}
+use Rattle.std.specs.Prelude.{◌≤◌, ◌-◌, ◌==◌, ◌||◌, ◌&&◌, ◌⊎◌, Bool, IsTrue, Option, Vec, All, drop, slice_index, is_some, nat_eq, nat_lt, if◌then◌else◌}
 use Rattle.std.specs.declared.alloc.Global.{Global}
 use Rattle.std.specs.Option.{IfSome}
 use Rattle.std.proofs.lemmas.List.{drop_all}
@@ -22,7 +22,6 @@ use Rattle.noc_route.specs.declared.rule.RouteRow.{RouteRow}
 use Rattle.noc_route.specs.declared.rule.Rule.{Rule}
 use Rattle.noc_route.specs.declared.rule.Rule.TheVariants as rule
 use Rattle.noc_net.specs.Faults.{fault_from, fault_of}
-use Rattle.noc_net.specs.declared.fault.NetFault.{NetFault}
 use Rattle.noc_files.specs.Configuration.{Settings, config_of}
 use Rattle.noc_files.specs.Joined.{SplitsAt, line_at, line_len}
 use Rattle.noc_files.specs.Ranks.{ranks_of}
@@ -33,7 +32,7 @@ use Rattle.noc_files.specs.declared.configuration.RuleName.TheVariants as word
 use Rattle.noc_files.specs.declared.fault.InputFault.{InputFault}
 use Rattle.noc.specs.Answer.{FirstFault, TextsFault, in_formula, in_packets, in_ranks, in_settings, in_texts, unread, unsplit}
 use Rattle.noc.specs.Asked.{Asked, ReadsAs, Said, as_files, as_joined, is_joined, owned, parts, read_by}
-use Rattle.noc.specs.Check.{Accepts, AsksForChecked, RanksFault, bad_file, bad_ranks, bad_rows, checked_ranks}
+use Rattle.noc.specs.Check.{Accepts, RanksFault, bad_file, bad_ranks, bad_rows, checked_ranks}
 use Rattle.noc.specs.Options.{early_fault, late_fault}
 use Rattle.noc.specs.Run.{PacketsFault, bad_network, bad_traffic}
 use Rattle.noc.specs.Settings.{AsksForRelation, AsksForSettings, AsksForShape, IsRuleOf, IsTableFault, SettingsFault, bad_config, bad_option, bad_relation, bad_router, bad_shape, bad_table, in_table, named, rule_named, tabled}
