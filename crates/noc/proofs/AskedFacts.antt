@@ -1,5 +1,5 @@
 -- What follows from a request's command, and from how its texts are lent.
-use Rattle.std.proofs.Common.{◌≡◌, ℕ, Bool, true, false, List, [], Option, Some, None, Result, Ok, Err, refl, is_some, option_map, unwrap_or}
+use Rattle.std.proofs.Common.{◌≡◌, ℕ, false, List, Option, Some, None, Result, refl, is_some, option_map, unwrap_or}
 use Rattle.std.specs.Borrow.{Bor}
 use Rattle.noc_files.specs.declared.configuration.RuleName.{RuleName}
 use Rattle.noc_files.specs.declared.configuration.RuleName.TheVariants as word

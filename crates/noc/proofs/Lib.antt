@@ -2,3 +2,4 @@ pub mod MemoryFacts
 pub mod OutcomeFacts
 pub mod AskedFacts
 pub mod RequestFacts
+pub mod AnswerLaws

@@ -3,8 +3,7 @@ use Rattle.std.proofs.Common.{◌≡◌, ℕ, Bool, true, false, List, Result, O
 use Rattle.std.specs.Prelude.{if◌then◌else◌}
 use Rattle.std.specs.Result.{IfErr}
 use Rattle.noc_files.specs.declared.writing.WriteFault.{WriteFault}
-use Rattle.noc.specs.Outcome.{Ends, Refuses, is_write}
-use Rattle.noc.specs.Status.{is_memory}
+use Rattle.noc.specs.Outcome.{Ends, Refuses}
 use Rattle.noc.specs.declared.status.Status.{Status}
 use Rattle.noc.specs.declared.status.Status.TheVariants.{Done, Stuck}
 use Rattle.noc.specs.declared.fault.Fault.{Fault}

@@ -1,5 +1,5 @@
 -- What a command checks and runs, and which fault of its texts comes first.
-use Rattle.std.proofs.Common.{◌≡◌, true, List, [], Option, Some, None, Ok, refl, unwrap_or}
+use Rattle.std.proofs.Common.{◌≡◌, true, Option, Some, None, refl}
 use Rattle.std.specs.Option.{IsSomeAnd}
 use Rattle.noc_files.specs.Configuration.{Settings}
 use Rattle.noc_route.specs.Routes.{Routes}

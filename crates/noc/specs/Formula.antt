@@ -1,5 +1,5 @@
 -- Ranks by formula of the routing rule.
-use Rattle.std.specs.Prelude.{◌≡◌, Some, None}
+use Rattle.std.specs.Prelude.{◌≡◌, Some}
 use Rattle.std.specs.Option.{MatchOption}
 use Rattle.noc_topo.specs.Shape.{Grid}
 use Rattle.noc_route.specs.declared.rule.Rule.{Rule}

@@ -1,5 +1,7 @@
 //! A writer that counts what the device below it takes.
 
+ghost use Rattle.std.specs.Prelude.{◌≡◌};
+
 use std::io::{self, Write};
 
 /// A writer, and how many bytes it has taken.
@@ -11,12 +13,17 @@ pub struct Counted<W> {
 
 impl<W> Counted<W> {
     /// This writer, which has taken nothing yet.
-    pub fn new(writer: W) -> Counted<W> {
+    pub fn new(writer: W) -> Counted<W>
+        ensures writer { result.writer ≡ writer }
+        ensures taken { result.taken ≡ 0 }
+    {
         Counted { writer, taken: 0 }
     }
 
     /// How many bytes it has taken.
-    pub fn taken(&self) -> u64 {
+    pub fn taken(&self) -> u64
+        ensures { result ≡ self.now.taken }
+    {
         self.taken
     }
 }

@@ -2,6 +2,7 @@
 #![tactic(auto)]
 
 ghost use Rattle.std.specs.Prelude.{◌≡◌, ⊤, is_some};
+ghost use Rattle.std.specs.Io.Buffered.{writer_inner};
 ghost use Rattle.noc.specs.Answer.{Asks, FirstFault};
 ghost use Rattle.noc.specs.Outcome.{Ends};
 
@@ -173,7 +174,9 @@ fn print_answer(
 }
 
 // The fault of a report of which the device took only a part. Nothing more is written.
-fn cut_off<W: Write + Drop>(writer: BufWriter<Counted<W>>) -> WriteFault {
+fn cut_off<W: Write + Drop>(writer: BufWriter<Counted<W>>) -> WriteFault
+    ensures { result.written ≡ (writer_inner writer).taken }
+{
     let (counted, _) = writer.into_parts();
     WriteFault {
         written: counted.taken(),

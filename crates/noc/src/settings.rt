@@ -16,11 +16,11 @@ use noc_route::{Relation, RouteRow, Rule};
 use noc_topo::Shape;
 use std::alloc::Global;
 
-/// A configuration whose options are sound, with its shape.
+// A configuration whose options are sound, with its shape.
 #[derive(Drop)]
-pub struct Layout {
-    pub config: Config,
-    pub shape: Shape,
+struct Layout {
+    config: Config,
+    shape: Shape,
 }
 
 /// The configuration and the routing relation that are asked for, or the first fault: configuration, options, shape,

@@ -1,4 +1,4 @@
-use Rattle.std.proofs.Common.{◌≡◌, ◌∙◌, List, [], Option, Some, Ok, ap, refl, sym, option_map, unwrap_or}
+use Rattle.std.proofs.Common.{◌≡◌, ◌∙◌, [], Option, Some, Ok, ap, sym, option_map, unwrap_or}
 use Rattle.std.proofs.lemmas.Result.{err_from_is_err_and}
 use Rattle.noc.specs.Answer.{TextsFault, in_ranks, in_settings}
 use Rattle.noc.specs.Asked.{Said, asked_of, lent}

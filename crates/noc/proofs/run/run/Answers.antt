@@ -1,4 +1,4 @@
-use Rattle.std.proofs.Common.{◌≡◌, ◌∙◌, subst, sym}
+use Rattle.std.proofs.Common.{◌∙◌, subst, sym}
 use Rattle.noc.specs.Answer.{AsksFor, a_report}
 use Rattle.noc.specs.Asked.{asked_of}
 use Rattle.noc.specs.Reports.{report_text}

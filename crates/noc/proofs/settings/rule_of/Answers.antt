@@ -1,4 +1,4 @@
-use Rattle.std.proofs.Common.{◌≡◌, Some, option_map, ap, refl, sym}
+use Rattle.std.proofs.Common.{option_map, ap, refl, sym}
 use Rattle.noc.specs.Asked.{lent}
 use Rattle.noc.specs.Settings.{bad_table, named, tabled}
 use Rattle.noc.proofs.AskedFacts.{only_table}
