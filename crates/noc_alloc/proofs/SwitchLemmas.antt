@@ -1,10 +1,10 @@
 -- Picks, wins and the pointers that move.
-use Rattle.std.proofs.Common.{◌≡◌, ℕ, ◌+◌, ◌*◌, ◌<◌, Bool, true, false, List, [], ◌∷◌, length, get_or, set, take, zero, suc, Option, Some, None, refl, ap, sym, ◌∙◌, arith, inl, inr, subst, get_or-set_same, get_or-set_other}
-use Rattle.std.specs.Prelude.{All, IfSome, ◌⊎◌, ◌||◌, is_some, option_and_then, slice_range, if◌then◌else◌}
-use Rattle.std.proofs.lemmas.Bool.{cases_eq, false≢true, or_cases}
+use Rattle.std.proofs.Common.{◌≡◌, ℕ, ◌+◌, ◌*◌, ◌<◌, ◌≤◌, Bool, true, false, List, [], ◌∷◌, length, get_or, set, take, zero, suc, Option, Some, None, refl, ap, sym, ◌∙◌, arith, inl, inr, subst, get_or-set_same, get_or-set_other}
+use Rattle.std.specs.Prelude.{All, IfSome, ◌⊎◌, ◌||◌, ◌&&◌, nat_lt, is_some, option_and_then, if◌then◌else◌}
+use Rattle.std.proofs.lemmas.Bool.{cases_eq, cases_lt, false≢true, or_cases, lt-ltb, le-ltb}
+use Rattle.noc_packet.specs.Set.{has_bit}
 use Rattle.std.proofs.lemmas.Nat.{mul-add-lt}
 use Rattle.std.proofs.lemmas.List.{get_or_read}
-use Rattle.std.proofs.lemmas.List.Edits.{get_or-between}
 use Rattle.noc_topo.specs.Words.{is_some_of, tabulate}
 use Rattle.noc_alloc.specs.Arbiter.{Turn, first_in_turn, turned, turn_at, pointers_of}
 use Rattle.noc_alloc.specs.Allocation.{pick_of, picked_port, winner_of, has_won, winning_pick, moving_pick, turned_by, is_won_by, pick_won}
@@ -34,18 +34,33 @@ picked-inside ready vcs picks port n same l vs ps = at (get_or picks port None) 
     at None u = tt
     at (Some v) u = ps (port * vcs + v) None (omega (arith, in_ready (length picks) vcs port v l u))
 
--- the pick of one input port, from its part of the list
-pub pick-is : (ready : List (Option ℕ)) (vcs : ℕ) (turns : List Turn) (port : ℕ) (t : Turn) → port < length turns → length ready ≡ length turns * vcs
+-- where the channels of an input port stand among at most 56
+pub part-fits : (ports vcs port : ℕ) → port < ports → ports * vcs ≤ 56 → (port * vcs < 56) × (vcs ≤ 56)
+part-fits ports zero port l few = let z : port * zero ≡ 0 = omega arith in (omega arith, omega arith)
+part-fits ports (suc v) port l few =
+    let first : port * suc v + 0 < ports * suc v = in_ready ports (suc v) port 0 l (omega arith) in
+    let one : port * suc v + v < ports * suc v = in_ready ports (suc v) port v l (omega arith) in
+    (omega arith, omega arith)
+
+-- the pick of one input port, from its part of the set of those that are ready
+pub pick-is : (ready : List (Option ℕ)) (vcs : ℕ) (turns : List Turn) (port : ℕ) (t : Turn) (filled part : ℕ) → port < length turns
     → t ≡ get_or turns port t → t.size ≡ vcs
-    → first_in_turn t.size t.pointer (λ k. is_some (get_or (slice_range ready (port * vcs) (port * vcs + vcs)) k None)) ≡ pick_of ready vcs (pointers_of turns) port
-pick-is ready vcs turns port t l same is size =
+    → ((k : ℕ) → has_bit filled k ≡ is_some (get_or ready k None)) → ((k : ℕ) → has_bit part k ≡ (nat_lt k vcs && has_bit filled (port * vcs + k)))
+    → first_in_turn t.size t.pointer (has_bit part) ≡ pick_of ready vcs (pointers_of turns) port
+pick-is ready vcs turns port t filled part l is size members some =
     let p : get_or (pointers_of turns) port 0 ≡ t.pointer = pointer-at turns port l ∙ ap (λ (x : Turn). x.pointer) (sym (get_or_read turns port t l is (record { size = 0; pointer = 0 }))) in
-    ap (λ n. first_in_turn n t.pointer (λ k. is_some (get_or (slice_range ready (port * vcs) (port * vcs + vcs)) k None))) size
-    ∙ ap (λ q. first_in_turn vcs q (λ k. is_some (get_or (slice_range ready (port * vcs) (port * vcs + vcs)) k None))) (sym p)
-    ∙ first_in_turn-same vcs (get_or (pointers_of turns) port 0)
-    (λ k. is_some (get_or (slice_range ready (port * vcs) (port * vcs + vcs)) k None))
-    (λ k. is_some (get_or ready (port * vcs + k) None))
-    (λ k u. ap (λ (o : Option ℕ). is_some o) (get_or-between ready (port * vcs) (port * vcs + vcs) k None (omega arith)))
+    ap (λ n. first_in_turn n t.pointer (has_bit part)) size
+    ∙ ap (λ q. first_in_turn vcs q (has_bit part)) (sym p)
+    ∙ first_in_turn-same vcs (get_or (pointers_of turns) port 0) (has_bit part) (λ k. is_some (get_or ready (port * vcs + k) None))
+    (λ k u. some k ∙ ap (λ b. b && has_bit filled (port * vcs + k)) (lt-ltb k vcs u) ∙ members (port * vcs + k))
+
+-- no member of a part is past it
+pub part-below : (vcs first filled part : ℕ) → ((k : ℕ) → has_bit part k ≡ (nat_lt k vcs && has_bit filled (first + k))) → (k : ℕ) → has_bit part k ≡ true → k < vcs
+part-below vcs first filled part some k e = at (cases_lt k vcs)
+  where
+    at : (k < vcs) ⊎ (vcs ≤ k) → k < vcs
+    at (inl l) = l
+    at (inr u) = absurd (false≢true (sym (some k ∙ ap (λ b. b && has_bit filled (first + k)) (le-ltb k vcs u)) ∙ e))
 
 -- every winner is below the number of requesters
 pub tabulate-inside : (n m : ℕ) (f : ℕ → Option ℕ) (xs : List (Option ℕ)) → ((k : ℕ) → IfSome (f k) (λ y. y < m)) → xs ≡ tabulate n f → All (λ x. IfSome x (λ y. y < m)) xs

@@ -213,7 +213,7 @@ less_members bits other k bound fits = and_members bits (2 ^ 64 - 1 - other) k �
         ap (λ b. has_bit (2 ^ 64 - 1 - other) k && b) none ∙ and_false _ ∙ sym (and_false _) ∙ ap (λ b. not (has_bit other k) && b) (sym none)
 
 -- ---- the members from an index on
-pub part_members : (bits from count k : ℕ) → count < 56 → has_bit (bit_and (bits / 2 ^ from) (1 * 2 ^ count % 2 ^ 64 - 1)) k ≡ (nat_lt k count && has_bit bits (from + k))
+pub part_members : (bits from count k : ℕ) → count ≤ 56 → has_bit (bit_and (bits / 2 ^ from) (1 * 2 ^ count % 2 ^ 64 - 1)) k ≡ (nat_lt k count && has_bit bits (from + k))
 part_members bits from count k l =
     rw (one_shl count 64 (omega arith))
     (and_members (bits / 2 ^ from) (2 ^ count - 1) k ∙ ap (λ b. has_bit (2 ^ count - 1) k && b) (ap (λ n. nat_eq n 1) (bit_at-shr bits from k)) ∙ ap (λ b. b && has_bit bits (from + k)) (at (cases_lt k count)))

@@ -1,6 +1,6 @@
 //! A set of channel indices.
 
-ghost use Rattle.std.specs.Prelude.{◌≡◌, ℕ, ◌+◌, ◌-◌, ◌<◌, ◌^◌, Bool, false, ◌&&◌, ◌||◌, ◌==◌, not, nat_lt, find, IfSome, IsTrue, ◌↔◌, if◌then◌else◌};
+ghost use Rattle.std.specs.Prelude.{◌≡◌, ℕ, ◌+◌, ◌-◌, ◌<◌, ◌≤◌, ◌^◌, Bool, false, ◌&&◌, ◌||◌, ◌==◌, not, nat_lt, find, IfSome, IsTrue, ◌↔◌, if◌then◌else◌};
 ghost use Rattle.noc_packet.specs.Set.{has_bit, has_from, in_both, IsLeast};
 
 use crate::limits::INDICES;
@@ -104,10 +104,10 @@ impl ChannelSet {
         }
     }
 
-    /// The members of this set from an index on, `count` indices in all (0 to 55 each), as numbers from 0 on.
+    /// The members among the `count` indices (0 to 56) from `from` (0 to 55) on, numbered from 0.
     pub fn part(self, from: usize, count: usize) -> ChannelSet
         requires from { from < INDICES }
-        requires count { count < INDICES }
+        requires count { count ≤ INDICES }
         ensures { (k : ℕ) → has_bit result k ≡ (nat_lt k count && has_bit self (from + k)) }
     {
         ChannelSet {
