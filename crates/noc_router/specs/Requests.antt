@@ -12,10 +12,6 @@ AllBelow n xs = All (λ one. ForSome one (λ k. k < n)) xs
 abbrev pub AreQuiet : {X : Type 0} → ℕ → X → List X → Type 0
 AreQuiet set quiet xs = (k : ℕ) → has_bit set k ≡ false → slice_index_or xs k quiet ≡ quiet
 
--- nobody is named in the list where the flag is down
-abbrev pub AreSilent : Bool → List (Option ℕ) → Type 0
-AreSilent flag xs = (k : ℕ) → flag ≡ false → slice_index_or xs k None ≡ None
-
 -- each entry of the list is that of the function, but those of the members of the set are not there yet
 abbrev pub IsFilled : {X : Type 0} → ℕ → ℕ → X → (ℕ → X) → List X → Type 0
 IsFilled n rest none entry xs = (k : ℕ) → k < n → slice_index_or xs k none ≡ (if has_bit rest k then none else entry k)

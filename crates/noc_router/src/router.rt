@@ -236,13 +236,13 @@ impl Router {
         requires ports { requests.old.ports ≡ ports_of self.now.site.grid }
         requires size { requests.old.size ≡ size_of self.now.site }
         requires no_routes { requests.old.routes.items ≡ replicate (size_of self.now.site) 0 }
-        requires no_asks { requests.old.asks.items ≡ replicate (size_of self.now.site) None }
-        requires no_ready { requests.old.ready.items ≡ replicate (size_of self.now.site) None }
+        requires no_asks { requests.old.asks ≡ replicate (size_of self.now.site) None }
+        requires no_ready { requests.old.ready ≡ replicate (size_of self.now.site) None }
         ensures ports { requests.new.ports ≡ requests.old.ports }
         ensures size { requests.new.size ≡ requests.old.size }
         ensures routes { requests.new.routes.items ≡ tabulate (size_of self.now.site) (route_of relation.now self.now) }
-        ensures asks { requests.new.asks.items ≡ asks_of (view_stands self.now) }
-        ensures ready { requests.new.ready.items ≡ ready_of self.now.site.vcs (view_stands self.now) }
+        ensures asks { requests.new.asks ≡ asks_of (view_stands self.now) }
+        ensures ready { requests.new.ready ≡ ready_of self.now.site.vcs (view_stands self.now) }
     {
         let mut rest = self.channels.occupied();
         while let Some(index) = rest.least_common(&rest) {
@@ -258,13 +258,13 @@ impl Router {
         requires size { requests.old.size ≡ size_of self.now.site }
         requires index { index < size_of self.now.site }
         requires no_route { slice_index_or requests.old.routes.items index 0 ≡ 0 }
-        requires no_ask { slice_index_or requests.old.asks.items index None ≡ None }
-        requires not_ready { slice_index_or requests.old.ready.items index None ≡ None }
+        requires no_ask { slice_index_or requests.old.asks index None ≡ None }
+        requires not_ready { slice_index_or requests.old.ready index None ≡ None }
         ensures ports { requests.new.ports ≡ requests.old.ports }
         ensures size { requests.new.size ≡ requests.old.size }
         ensures route { requests.new.routes.items ≡ slice_set requests.old.routes.items index (route_of relation.now self.now index) }
-        ensures ask { requests.new.asks.items ≡ slice_set requests.old.asks.items index (ask_of (view_claim self.now index)) }
-        ensures ready { requests.new.ready.items ≡ slice_set requests.old.ready.items index (ready_port self.now.site.vcs (view_claim self.now index) (not (is_empty (view_buffer self.now index)))) }
+        ensures ask { requests.new.asks ≡ slice_set requests.old.asks index (ask_of (view_claim self.now index)) }
+        ensures ready { requests.new.ready ≡ slice_set requests.old.ready index (ready_port self.now.site.vcs (view_claim self.now index) (not (is_empty (view_buffer self.now index)))) }
     {
         let front = self.channels.front(index);
         match self.channels.state(index) {
@@ -311,7 +311,7 @@ impl Router {
     fn find_all(&self, requests: &Requests, findings: &mut Findings)
         requires ports { requests.now.ports ≡ ports_of self.now.site.grid }
         requires size { requests.now.size ≡ size_of self.now.site }
-        requires asks { requests.now.asks.items ≡ asks_of (view_stands self.now) }
+        requires asks { requests.now.asks ≡ asks_of (view_stands self.now) }
         requires findings { findings.old.list.items ≡ replicate (size_of self.now.site) empty_finding }
         ensures { findings.new.list.items ≡ tabulate (size_of self.now.site) (finding_of (round_in requests.now) self.now) }
     {
@@ -327,7 +327,7 @@ impl Router {
         requires ports { requests.now.ports ≡ ports_of self.now.site.grid }
         requires size { requests.now.size ≡ size_of self.now.site }
         requires index { index < size_of self.now.site }
-        requires ask { slice_index_or requests.now.asks.items index None ≡ ask_of (view_claim self.now index) }
+        requires ask { slice_index_or requests.now.asks index None ≡ ask_of (view_claim self.now index) }
         ensures { result ≡ finding_of (round_in requests.now) self.now index }
     {
         let (verdict, next) = self.verdict_on(requests, index);
@@ -343,7 +343,7 @@ impl Router {
         requires ports { requests.now.ports ≡ ports_of self.now.site.grid }
         requires size { requests.now.size ≡ size_of self.now.site }
         requires index { index < size_of self.now.site }
-        requires ask { slice_index_or requests.now.asks.items index None ≡ ask_of (view_claim self.now index) }
+        requires ask { slice_index_or requests.now.asks index None ≡ ask_of (view_claim self.now index) }
         ensures verdict { result.0 ≡ verdict_of self.now.site.vcs (round_in requests.now) index (view_claim self.now index) (not (is_empty (view_buffer self.now index))) }
         ensures out { result.1 ≡ out_of (view_claim self.now index) }
     {

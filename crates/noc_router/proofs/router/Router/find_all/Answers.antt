@@ -24,7 +24,7 @@ loop-index-init c =
 
 pub finding-requires-clause-ask : goal.finding-requires-clause-ask
 finding-requires-clause-ask c =
-    ask_of-stand c.args.self.now c.args.requests.now.asks.items c.in-Some.index c.requires.asks
+    ask_of-stand c.args.self.now c.args.requests.now.asks c.in-Some.index c.requires.asks
     (c.loop-index.invariant.within c.in-Some.index (least_member _ _ c.in-Some.ensures.least))
 
 pub loop-index-preserved : goal.loop-index-preserved

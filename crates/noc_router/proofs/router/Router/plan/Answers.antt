@@ -16,7 +16,7 @@ pub returns-clause-value : goal.returns-clause-value
 returns-clause-value c =
     planned-parts c.args.relation.now c.args.self.now _
     (c.decide.ensures.round
-    ∙ round-view c.self.inside c.args.self.now c.request_all.new.requests.asks.items c.request_all.new.requests.ready.items c.self.view_is c.self.invariant.arbiter_ports
+    ∙ round-view c.self.inside c.args.self.now c.request_all.new.requests.asks c.request_all.new.requests.ready c.self.view_is c.self.invariant.arbiter_ports
     c.self.invariant.arbiter_vcs c.self.invariant.ports c.request_all.ensures.asks c.request_all.ensures.ready)
     c.find_all.ensures (c.decide.ensures.routes ∙ c.request_all.ensures.routes)
 

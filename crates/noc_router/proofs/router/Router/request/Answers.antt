@@ -12,7 +12,7 @@ pub returns-else-is_some-clause-ready : goal.returns-else-is_some-clause-ready
 returns-else-is_some-clause-ready c =
     let claim : view_claim c.args.self.now c.args.index ≡ Holds c.in-Active.next (has_credit (view_output c.args.self.now c.in-Active.next)) =
     claim-in_state c.self.inside c.args.self.now c.args.index c.state.result _ c.self.view_is c.state.ensures.value c.in-Active.is in
-    entry_same None _ c.args.requests.now.ready.items c.args.index c.requires.not_ready
+    entry_same None _ c.args.requests.now.ready c.args.index c.requires.not_ready
     (elim c.else-is_some.branch [
       | else-is_some-via-then-is_some+else-has_credit w ↦ ready_port-no_credit c.args.self.now c.args.index c.in-Active.next claim
           (ap (λ (v : View). has_credit (view_output v c.in-Active.next)) (sym c.self.view_is) ∙ sym w.has_credit.ensures ∙ w.if-has_credit.false)

@@ -22,9 +22,9 @@ loop-index-init c =
       size = refl;
       routes = filled-first (size_of c.args.self.now.site) c.occupied-rest.result 0 (route_of c.args.relation.now c.args.self.now) c.args.requests.now.routes.items c.requires.no_routes
           (λ k l off. vacant-route c.args.relation.now c.args.self.now k (vacant k l off));
-      asks = filled-first (size_of c.args.self.now.site) c.occupied-rest.result None (λ k. ask_of (view_claim c.args.self.now k)) c.args.requests.now.asks.items c.requires.no_asks
+      asks = filled-first (size_of c.args.self.now.site) c.occupied-rest.result None (λ k. ask_of (view_claim c.args.self.now k)) c.args.requests.now.asks c.requires.no_asks
           (λ k l off. vacant-ask c.args.self.now k (vacant k l off));
-      ready = filled-first (size_of c.args.self.now.site) c.occupied-rest.result None (λ k. ready_port c.args.self.now.site.vcs (view_claim c.args.self.now k) (not (is_empty (view_buffer c.args.self.now k)))) c.args.requests.now.ready.items c.requires.no_ready
+      ready = filled-first (size_of c.args.self.now.site) c.occupied-rest.result None (λ k. ready_port c.args.self.now.site.vcs (view_claim c.args.self.now k) (not (is_empty (view_buffer c.args.self.now k)))) c.args.requests.now.ready c.requires.no_ready
           (λ k l off. vacant-ready c.args.self.now k (vacant k l off));
     }
 
@@ -38,12 +38,12 @@ loop-index-preserved c = record {
       c.request.new.requests.routes.items c.in-Some.index c.loop-index.invariant.routes c.without-rest.ensures.members
       (omega (arith, c.loop-index.invariant.within c.in-Some.index (least_member _ _ c.in-Some.ensures.least))) c.request.ensures.route;
   asks =
-      filled-next (size_of c.args.self.now.site) c.loop-index.rest c.without-rest.result None (λ k. ask_of (view_claim c.args.self.now k)) c.loop-index.requests.asks.items
-      c.request.new.requests.asks.items c.in-Some.index c.loop-index.invariant.asks c.without-rest.ensures.members
+      filled-next (size_of c.args.self.now.site) c.loop-index.rest c.without-rest.result None (λ k. ask_of (view_claim c.args.self.now k)) c.loop-index.requests.asks
+      c.request.new.requests.asks c.in-Some.index c.loop-index.invariant.asks c.without-rest.ensures.members
       (omega (arith, c.loop-index.invariant.within c.in-Some.index (least_member _ _ c.in-Some.ensures.least))) c.request.ensures.ask;
   ready =
-      filled-next (size_of c.args.self.now.site) c.loop-index.rest c.without-rest.result None (λ k. ready_port c.args.self.now.site.vcs (view_claim c.args.self.now k) (not (is_empty (view_buffer c.args.self.now k)))) c.loop-index.requests.ready.items
-      c.request.new.requests.ready.items c.in-Some.index c.loop-index.invariant.ready c.without-rest.ensures.members
+      filled-next (size_of c.args.self.now.site) c.loop-index.rest c.without-rest.result None (λ k. ready_port c.args.self.now.site.vcs (view_claim c.args.self.now k) (not (is_empty (view_buffer c.args.self.now k)))) c.loop-index.requests.ready
+      c.request.new.requests.ready c.in-Some.index c.loop-index.invariant.ready c.without-rest.ensures.members
       (omega (arith, c.loop-index.invariant.within c.in-Some.index (least_member _ _ c.in-Some.ensures.least))) c.request.ensures.ready;
 }
 
@@ -54,12 +54,12 @@ returns-clause-routes c =
 
 pub returns-clause-asks : goal.returns-clause-asks
 returns-clause-asks c =
-    filled-last (size_of c.args.self.now.site) c.loop-index.rest None (λ k. ask_of (view_claim c.args.self.now k)) c.loop-index.requests.asks.items c.loop-index.invariant.asks
+    filled-last (size_of c.args.self.now.site) c.loop-index.rest None (λ k. ask_of (view_claim c.args.self.now k)) c.loop-index.requests.asks c.loop-index.invariant.asks
     (none_left _ c.in_default.ensures.least) (omega arith)
     ∙ sym (asks_of-stands c.args.self.now)
 
 pub returns-clause-ready : goal.returns-clause-ready
 returns-clause-ready c =
-    filled-last (size_of c.args.self.now.site) c.loop-index.rest None (λ k. ready_port c.args.self.now.site.vcs (view_claim c.args.self.now k) (not (is_empty (view_buffer c.args.self.now k)))) c.loop-index.requests.ready.items c.loop-index.invariant.ready
+    filled-last (size_of c.args.self.now.site) c.loop-index.rest None (λ k. ready_port c.args.self.now.site.vcs (view_claim c.args.self.now k) (not (is_empty (view_buffer c.args.self.now k)))) c.loop-index.requests.ready c.loop-index.invariant.ready
     (none_left _ c.in_default.ensures.least) (omega arith)
     ∙ sym (ready_of-stands c.args.self.now)

@@ -14,8 +14,8 @@ invariant-loop-index l = record {
   ports : l.requests.ports ≡ l.initial.requests.ports;
   size : l.requests.size ≡ l.initial.requests.size;
   routes : IsFilled (size_of l.self.site) l.rest 0 (route_of l.relation l.self) l.requests.routes.items;
-  asks : IsFilled (size_of l.self.site) l.rest None (λ k. ask_of (view_claim l.self k)) l.requests.asks.items;
-  ready : IsFilled (size_of l.self.site) l.rest None (λ k. ready_port l.self.site.vcs (view_claim l.self k) (not (is_empty (view_buffer l.self k)))) l.requests.ready.items;
+  asks : IsFilled (size_of l.self.site) l.rest None (λ k. ask_of (view_claim l.self k)) l.requests.asks;
+  ready : IsFilled (size_of l.self.site) l.rest None (λ k. ready_port l.self.site.vcs (view_claim l.self k) (not (is_empty (view_buffer l.self k)))) l.requests.ready;
 }
 
 abbrev pub decreases-loop-index : goal.decreases-loop-index
