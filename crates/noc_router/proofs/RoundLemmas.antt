@@ -1,11 +1,11 @@
 -- Rounds in which nobody asks.
-use Rattle.std.proofs.Common.{◌≡◌, ℕ, ◌+◌, ◌*◌, ◌<◌, Bool, true, false, List, length, get_or, replicate, Option, Some, None, refl, ap, sym, ◌∙◌, arith}
-use Rattle.std.specs.Prelude.{IfSome, is_some, option_and_then, slice_index, if◌then◌else◌}
+use Rattle.std.proofs.Common.{◌≡◌, ℕ, ◌+◌, ◌*◌, ◌<◌, false, List, length, get_or, replicate, Option, Some, None, refl, ap, sym, ◌∙◌, arith}
+use Rattle.std.specs.Prelude.{IfSome, is_some, option_and_then, slice_index}
 use Rattle.std.proofs.lemmas.List.{get_or_default, length-replicate}
 use Rattle.noc_topo.specs.Words.{tabulate, is_some_of}
-use Rattle.noc_topo.proofs.WordLemmas.{tabulate-from_each, map_indexed-from_each}
-use Rattle.noc_alloc.specs.Arbiter.{Turn, turned, turn_at}
-use Rattle.noc_alloc.specs.Allocation.{grant_of, pick_of, winner_of, has_won, winning_pick, turned_by}
+use Rattle.noc_topo.proofs.WordLemmas.{tabulate-from_each}
+use Rattle.noc_alloc.specs.Arbiter.{Turn, turn_at}
+use Rattle.noc_alloc.specs.Allocation.{pick_of, winner_of}
 use Rattle.noc_alloc.proofs.ArbiterLemmas.{first_in_turn-none}
 use Rattle.std.specs.List.{All}
 use Rattle.noc_router.specs.Requests.{AllBelow}

@@ -4,7 +4,7 @@ ghost use Rattle.std.specs.Prelude.{◌≡◌, ◌*◌, ◌<◌, ◌≤◌, IfOk
 ghost use Rattle.noc_topo.specs.Words.{is_some_of};
 ghost use Rattle.noc_packet.specs.Set.{has_bit};
 ghost use Rattle.noc_router.specs.Members.{AreBelow};
-ghost use Rattle.noc_router.specs.Requests.{AllBelow, AreQuiet};
+ghost use Rattle.noc_router.specs.Requests.{AllBelow, AreContending, AreQuiet};
 
 use crate::arbiters::Arbiters;
 use noc_alloc::{Places, advance_channels, advance_switch, allocate_channels, allocate_switch};
@@ -22,6 +22,8 @@ pub(crate) struct Requests {
     // By input channel the output channel that it asks for, and the output port that it is ready for.
     asks: Places,
     ready: Places,
+    // The input channels that do either.
+    contending: ChannelSet,
     // By output channel the input channel, by input port the virtual channel, by output port the input port.
     grants: Places,
     picks: Places,
@@ -36,6 +38,7 @@ pub(crate) struct Requests {
     ghost a_win_each: { length wins ≡ ports },
     ghost routed_below: { AreBelow size routed },
     ghost quiet_routes: { AreQuiet routed 0 routes.items },
+    ghost contends: { AreContending contending asks ready },
     ghost asks_for_channels: { AllBelow size asks },
     ghost ready_for_ports: { AllBelow ports ready },
     ghost granted_to_channels: { AllBelow size grants },
@@ -62,6 +65,7 @@ impl Requests {
             routes: vec![in alloc; ChannelSet::empty(); size]?,
             asks: Places::new(alloc, size)?,
             ready: Places::new(alloc, size)?,
+            contending: ChannelSet::empty(),
             grants: Places::new(alloc, size)?,
             picks: Places::new(alloc, ports)?,
             wins: Places::new(alloc, ports)?,
@@ -81,6 +85,7 @@ impl Requests {
         }
         self.asks.clear();
         self.ready.clear();
+        self.contending = ChannelSet::empty();
     }
 
     // The head of an input channel gets no set.
@@ -118,6 +123,7 @@ impl Requests {
         ensures ready { self.new.ready ≡ self.old.ready }
     {
         self.asks.set(index, Some(output));
+        self.contending = self.contending.with(index);
     }
 
     // An input channel is ready to send by an output port.
@@ -131,6 +137,7 @@ impl Requests {
         ensures ready { self.new.ready ≡ slice_set self.old.ready index (Some port) }
     {
         self.ready.set(index, Some(port));
+        self.contending = self.contending.with(index);
     }
 
     // The arbiters decide on the requests.
@@ -141,6 +148,7 @@ impl Requests {
         ensures size { self.new.size ≡ self.old.size }
         ensures routes { self.new.routes.items ≡ self.old.routes.items }
         ensures asks { self.new.asks ≡ self.old.asks }
+        ensures ready { self.new.ready ≡ self.old.ready }
         ensures round { round_in self.new ≡ round_on arbiters.now.ports arbiters.now.vcs self.old.asks self.old.ready (turns_in arbiters.now) }
         ensures picks { AllBelow arbiters.now.vcs (round_in self.new).picks }
     {
@@ -169,6 +177,7 @@ impl Requests {
         ensures size { self.new.size ≡ self.old.size }
         ensures routes { self.new.routes.items ≡ self.old.routes.items }
         ensures asks { self.new.asks ≡ self.old.asks }
+        ensures ready { self.new.ready ≡ self.old.ready }
         ensures grants { (round_in self.new).grants ≡ (round_in self.old).grants }
         ensures picked { (round_in self.new).picks ≡ (round_on arbiters.now.ports arbiters.now.vcs self.old.asks self.old.ready (turns_in arbiters.now)).picks }
         ensures won { (round_in self.new).wins ≡ (round_on arbiters.now.ports arbiters.now.vcs self.old.asks self.old.ready (turns_in arbiters.now)).wins }
@@ -230,6 +239,14 @@ impl Requests {
             &mut arbiters.inputs,
             &mut arbiters.outputs,
         );
+    }
+
+    // The input channels that ask for an output channel or are ready to send.
+    pub(crate) fn contending(&self) -> ChannelSet
+        ensures members { AreContending result self.now.asks self.now.ready }
+        ensures below { AreBelow self.now.size result }
+    {
+        self.contending
     }
 
     // The set for the head of an input channel.

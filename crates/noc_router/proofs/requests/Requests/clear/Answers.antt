@@ -1,5 +1,6 @@
-use Rattle.std.proofs.Common.{◌≡◌, ◌∙◌, None, ap, length, replicate, arith}
+use Rattle.std.proofs.Common.{◌∙◌, None, ap, length, replicate, arith}
 use Rattle.noc_router.proofs.QuietLemmas.{below-none, none_left, quiet-none}
+use Rattle.noc_router.proofs.EventLemmas.{contends-none}
 use Rattle.noc_router.proofs.requests.Requests.clear.Goals as goal
 
 pub returns-clause-routes : goal.returns-clause-routes
@@ -18,3 +19,7 @@ invariant_of-self-clause-asks_for_channels c = below-none c.loop-index.self.size
 
 pub invariant_of-self-clause-ready_for_ports : goal.invariant_of-self-clause-ready_for_ports
 invariant_of-self-clause-ready_for_ports c = below-none c.loop-index.self.ports (length c.loop-index.self.ready) _ c.clear-2.ensures.value
+
+pub invariant_of-self-clause-contends : goal.invariant_of-self-clause-contends
+invariant_of-self-clause-contends c =
+    contends-none _ (length c.loop-index.self.asks) (length c.loop-index.self.ready) _ _ c.empty-self.ensures.members c.clear.ensures.value c.clear-2.ensures.value

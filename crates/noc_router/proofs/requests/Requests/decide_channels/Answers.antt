@@ -1,4 +1,4 @@
-use Rattle.std.proofs.Common.{◌≡◌, List, Option, ℕ, ap, length, ◌∙◌, arith, subst}
+use Rattle.std.proofs.Common.{List, Option, ℕ, ap, length, ◌∙◌, arith, subst}
 use Rattle.noc_topo.proofs.WordLemmas.{length-tabulate}
 use Rattle.noc_router.specs.Requests.{AllBelow}
 use Rattle.noc_router.proofs.QuietLemmas.{below-from}
