@@ -16,6 +16,7 @@ pub fn allocate_channels(asks: &Places, arbiters: &[Arbiter], grants: &mut Place
     requires sizes { All (λ (t : Turn). t.size ≡ length asks.now) arbiters.now }
     requires asks { All (λ ask. IfSome ask (λ o. o < length arbiters.now)) asks.now }
     ensures grants { grants.new ≡ tabulate (length arbiters.now) (grant_of asks.now (length asks.now) (pointers_of arbiters.now)) }
+    ensures count { length grants.new ≡ length arbiters.now }
     ensures inputs { All (λ grant. IfSome grant (λ i. i < length asks.now)) grants.new }
 {
     grants.clear();

@@ -7,7 +7,6 @@ ghost use Rattle.noc_alloc.specs.Allocation.{pick_of, picked_port, winner_of, wi
 ghost use Rattle.noc_alloc.specs.Steps.{turned_winner};
 
 use crate::arbiter::{Arbiter, offer};
-use crate::channels::advance_channels;
 use crate::places::Places;
 
 /// For each input channel that is ready, `ready` has the output port of its output channel; input port `port` has the
@@ -30,6 +29,8 @@ pub fn allocate_switch(
     requires ports { All (λ port. IfSome port (λ p. p < length outputs.now)) ready.now }
     ensures picks { picks.new ≡ tabulate (length inputs.now) (pick_of ready.now vcs (pointers_of inputs.now)) }
     ensures wins { wins.new ≡ tabulate (length outputs.now) (winner_of ready.now vcs (length inputs.now) picks.new (pointers_of outputs.now)) }
+    ensures pick_count { length picks.new ≡ length inputs.now }
+    ensures win_count { length wins.new ≡ length outputs.now }
     ensures vcs { All (λ pick. IfSome pick (λ v. v < vcs)) picks.new }
     ensures inputs { All (λ win. IfSome win (λ q. q < length inputs.now)) wins.new }
 {
@@ -115,8 +116,11 @@ pub fn advance_switch(
     ensures input_sizes { (k : ℕ) → (turn_at inputs.new k).size ≡ (turn_at inputs.old k).size }
     ensures output_sizes { (k : ℕ) → (turn_at outputs.new k).size ≡ (turn_at outputs.old k).size }
 {
-    for output in 0..wins.len() {
-        advance_winner(wins.get(output), picks, inputs);
+    let mut rest = wins.filled();
+    while let Some(output) = rest.least_common(&rest) {
+        rest = rest.without(output);
+        let winner = wins.get(output);
+        advance_winner(winner, picks, inputs);
+        outputs[output].advance(winner);
     }
-    advance_channels(wins, outputs);
 }

@@ -30,3 +30,17 @@ pub(crate) fn vc_of(index: usize, vcs: usize) -> usize
         _ => index % vcs,
     }
 }
+
+// The port and the virtual channel of a channel, with so many virtual channels of each port.
+pub(crate) fn place_of(index: usize, vcs: usize) -> (usize, usize)
+    requires { 0 < vcs }
+    ensures { result ≡ (index / vcs, index % vcs) }
+{
+    match vcs {
+        1 => (index, 0),
+        2 => (index / 2, index % 2),
+        3 => (index / 3, index % 3),
+        4 => (index / 4, index % 4),
+        _ => (index / vcs, index % vcs),
+    }
+}

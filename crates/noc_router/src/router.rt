@@ -25,7 +25,7 @@ use crate::arbiters::Arbiters;
 use crate::arrivals::Arrivals;
 use crate::channels::Channels;
 use crate::findings::Findings;
-use crate::indices::{port_of, vc_of};
+use crate::indices::{place_of, port_of, vc_of};
 use crate::links::Links;
 use crate::plan::Plan;
 use crate::requests::Requests;
@@ -336,7 +336,7 @@ impl Router {
         Finding {
             verdict,
             packet: self.channels.packet(index),
-            out: next.map(|next| (port_of(next, self.vcs), vc_of(next, self.vcs))),
+            out: next.map(|next| place_of(next, self.vcs)),
         }
     }
 

@@ -1,5 +1,6 @@
-use Rattle.std.proofs.Common.{◌≡◌, ◌<◌, length, subst}
+use Rattle.std.proofs.Common.{ap, ◌∙◌, ℕ, List, Option, ◌≡◌, ◌<◌, length, subst}
 use Rattle.std.specs.Prelude.{All, IfSome}
+use Rattle.noc_alloc.proofs.WordLemmas.{length-tabulate}
 use Rattle.noc_alloc.proofs.SwitchLemmas.{picks-inside, wins-inside}
 use Rattle.noc_alloc.proofs.switch.allocate_switch.Goals as goal
 
@@ -13,3 +14,9 @@ pub returns-clause-inputs : goal.returns-clause-inputs
 returns-clause-inputs c =
     let n : length c.pick_channels.new.picks ≡ length c.args.inputs.now = c.pick_channels.ensures.count in
     subst (λ m. All (λ win. IfSome win (λ q. q < m)) c.win_ports.new.wins) n (wins-inside _ _ _ _ _ _ _ c.win_ports.ensures)
+
+pub returns-clause-pick_count : goal.returns-clause-pick_count
+returns-clause-pick_count c = c.pick_channels.ensures.count
+
+pub returns-clause-win_count : goal.returns-clause-win_count
+returns-clause-win_count c = ap (λ (xs : List (Option ℕ)). length xs) c.win_ports.ensures ∙ length-tabulate _ _
