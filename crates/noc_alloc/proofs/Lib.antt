@@ -1,5 +1,6 @@
 pub mod WordLemmas
 pub mod ArbiterLemmas
 pub mod OfferLemmas
+pub mod PlaceLemmas
 pub mod SwitchLemmas
 pub mod Rounds

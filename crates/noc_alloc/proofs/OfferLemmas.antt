@@ -1,7 +1,8 @@
 -- Requesters that are offered one after another.
-use Rattle.std.proofs.Common.{◌≡◌, ℕ, ◌+◌, ◌<◌, List, length, get_or, set, Option, Some, None, sym, arith, inl, inr, subst, get_or-set_same, get_or-set_other}
-use Rattle.std.specs.Prelude.{All, IfSome, ◌⊎◌}
-use Rattle.std.proofs.lemmas.Bool.{cases_eq}
+use Rattle.std.proofs.Common.{◌≡◌, ℕ, zero, suc, ◌+◌, ◌-◌, ◌<◌, ◌≤◌, Bool, true, false, refl, ap, ◌∙◌, List, length, get_or, set, Option, Some, None, sym, arith, inl, inr, subst, get_or-set_same, get_or-set_other}
+use Rattle.std.specs.Prelude.{All, IfSome, ◌⊎◌, ◌&&◌, not, nat_eq, is_some}
+use Rattle.std.proofs.lemmas.Bool.{cases_eq, cases_lt, eq-eqb, ne_eqb, false≢true}
+use Rattle.noc_packet.specs.Set.{has_bit, in_both, IsLeast}
 use Rattle.std.proofs.lemmas.List.{get_or-map}
 use Rattle.noc_topo.specs.Words.{is_some_of}
 use Rattle.noc_alloc.specs.Arbiter.{Turn, pointers_of, turn_at}
@@ -45,3 +46,100 @@ nearest-offered n k turns asks held (Some out) e u same sizes inside below h o l
         subst (IsNearest n (get_or (pointers_of turns) o 0) (λ i. is_some_of (asks i) o) (k + 1))
         (sym (get_or-set_other held out o (nearer (turn_at turns out).pointer (get_or held out None) k) None other))
         (nearest-skips n (get_or (pointers_of turns) o 0) k (λ i. is_some_of (asks i) o) (get_or held o None) (is_some_of-other (asks k) o out e (λ same_out. other (sym same_out))) (h o l))
+
+-- requesters that ask for nothing change nothing
+pub nearest-past : (d n k : ℕ) (turns : List Turn) (asks : ℕ → Option ℕ) (held : List (Option ℕ)) → ((j : ℕ) → k ≤ j → j < k + d → asks j ≡ None)
+    → AllNearest n turns asks k held → AllNearest n turns asks (k + d) held
+nearest-past zero n k turns asks held none h = let e : k ≡ k + 0 = omega arith in subst (λ m. AllNearest n turns asks m held) e h
+nearest-past (suc d) n k turns asks held none h =
+    let so_far : AllNearest n turns asks (k + d) held = nearest-past d n k turns asks held (λ j l u. none j l (omega arith)) h in
+    let e : k + d + 1 ≡ k + suc d = omega arith in
+    subst (λ m. AllNearest n turns asks m held) e
+    (λ o l. nearest-skips n (get_or (pointers_of turns) o 0) (k + d) (λ i. is_some_of (asks i) o) (get_or held o None) (is_some_of-none (asks (k + d)) o (none (k + d) (omega arith) (omega arith))) (so_far o l))
+
+pub nearest-up_to : (m n k : ℕ) (turns : List Turn) (asks : ℕ → Option ℕ) (held : List (Option ℕ)) → k ≤ m → ((j : ℕ) → k ≤ j → j < m → asks j ≡ None)
+    → AllNearest n turns asks k held → AllNearest n turns asks m held
+nearest-up_to m n k turns asks held l none h =
+    let e : k + (m - k) ≡ m = omega arith in
+    subst (λ x. AllNearest n turns asks x held) e (nearest-past (m - k) n k turns asks held (λ j lj u. none j lj (omega arith)) h)
+
+-- ---- requesters that are offered from a set, the least first
+-- those below `next` have been offered, and of the others those in the set ask for something
+pub record AreOffered (n : ℕ) (turns : List Turn) (asks : ℕ → Option ℕ) (rest : ℕ) (held : List (Option ℕ)) : Type 0 where
+  pub next : ℕ
+  pub within : next ≤ n
+  pub nearest : AllNearest n turns asks next held
+  pub ahead : (j : ℕ) → has_bit rest j ≡ true → next ≤ j
+  pub below : (j : ℕ) → has_bit rest j ≡ true → j < n
+  pub silent : (j : ℕ) → next ≤ j → has_bit rest j ≡ false → asks j ≡ None
+
+pub both_has : (set k : ℕ) → in_both set set k ≡ true → has_bit set k ≡ true
+both_has set k e = at (has_bit set k) e
+  where
+    at : (b : Bool) → (b && b) ≡ true → b ≡ true
+    at true h = h
+    at false h = h
+
+pub both_lacks : (set k : ℕ) → in_both set set k ≡ false → has_bit set k ≡ false
+both_lacks set k e = at (has_bit set k) e
+  where
+    at : (b : Bool) → (b && b) ≡ false → b ≡ false
+    at true h = h
+    at false h = h
+
+none_from : (o : Option ℕ) → is_some o ≡ false → o ≡ None
+none_from None e = refl
+none_from (Some x) e = absurd (false≢true (sym e))
+
+pub offered-first : (n : ℕ) (turns : List Turn) (asks named : ℕ → Option ℕ) (rest : ℕ) (held : List (Option ℕ)) → ((o : ℕ) → o < length turns → get_or held o None ≡ None)
+    → ((k : ℕ) → has_bit rest k ≡ is_some (named k)) → ((k : ℕ) → n ≤ k → named k ≡ None) → ((k : ℕ) → named k ≡ None → asks k ≡ None) → AreOffered n turns asks rest held
+offered-first n turns asks named rest held none members past silent = record {
+  next = 0;
+  within = omega arith;
+  nearest = nearest-none n turns asks held none;
+  ahead = λ j e. omega arith;
+  below = λ j e. at j (cases_lt j n) e;
+  silent = λ j l e. silent j (none_from (named j) (sym (members j) ∙ e));
+}
+  where
+    at : (j : ℕ) → (j < n) ⊎ (n ≤ j) → has_bit rest j ≡ true → j < n
+    at j (inl l) e = l
+    at j (inr u) e = absurd (false≢true (sym (members j ∙ ap (λ (o : Option ℕ). is_some o) (past j u)) ∙ e))
+
+pub offered-next : (n : ℕ) (turns : List Turn) (asks : ℕ → Option ℕ) (rest less k : ℕ) (held : List (Option ℕ)) (r : Option ℕ) → asks k ≡ r → length held ≡ length turns
+    → All (λ (t : Turn). t.size ≡ n) turns → IfSome r (λ o. o < length turns) → IfSome r (λ o. (turn_at turns o).pointer < (turn_at turns o).size)
+    → IsLeast (in_both rest rest) (Some k) → ((j : ℕ) → has_bit less j ≡ (not (nat_eq j k) && has_bit rest j))
+    → AreOffered n turns asks rest held → AreOffered n turns asks less (offered turns r k held)
+offered-next n turns asks rest less k held r e same sizes inside below least members so_far = record {
+  next = k + 1;
+  within = let u : k < n = so_far.below k here in omega arith;
+  nearest =
+      nearest-offered n k turns asks held r e (so_far.below k here) same sizes inside below
+      (nearest-up_to k n so_far.next turns asks held (so_far.ahead k here) (λ j l u. so_far.silent j l (both_lacks rest j (least.1 j u))) so_far.nearest);
+  ahead = λ j t. after j (kept j t) (cases_lt j k) (cases_eq j k);
+  below = λ j t. so_far.below j (kept j t).1;
+  silent = λ j l t. so_far.silent j (let u : so_far.next ≤ k = so_far.ahead k here in omega arith) (gone j l t);
+}
+  where
+    here : has_bit rest k ≡ true
+    here = both_has rest k least.0
+
+    split : (a b : Bool) → (not a && b) ≡ true → (a ≡ false) × (b ≡ true)
+    split true b h = absurd (false≢true h)
+    split false b h = (refl, h)
+
+    kept : (j : ℕ) → has_bit less j ≡ true → (nat_eq j k ≡ false) × (has_bit rest j ≡ true)
+    kept j t = split (nat_eq j k) (has_bit rest j) (sym (members j) ∙ t)
+
+    after : (j : ℕ) → (nat_eq j k ≡ false) × (has_bit rest j ≡ true) → (j < k) ⊎ (k ≤ j) → (j ≡ k) ⊎ (j ≡ k → ⊥) → k + 1 ≤ j
+    after j h (inl l) _ = absurd (false≢true (sym (both_lacks rest j (least.1 j l)) ∙ h.1))
+    after j h (inr u) (inl is) = absurd (false≢true (sym h.0 ∙ eq-eqb j k is))
+    after j h (inr u) (inr other) = omega arith
+
+    gone : (j : ℕ) → k + 1 ≤ j → has_bit less j ≡ false → has_bit rest j ≡ false
+    gone j l t = sym (members j ∙ ap (λ b. not b && has_bit rest j) (ne_eqb j k (λ is. omega arith))) ∙ t
+
+pub offered-last : (n : ℕ) (turns : List Turn) (asks : ℕ → Option ℕ) (rest : ℕ) (held : List (Option ℕ)) → IsLeast (in_both rest rest) None
+    → AreOffered n turns asks rest held → AllNearest n turns asks n held
+offered-last n turns asks rest held none so_far =
+    nearest-up_to n n so_far.next turns asks held so_far.within (λ j l u. so_far.silent j l (both_lacks rest j (none j))) so_far.nearest

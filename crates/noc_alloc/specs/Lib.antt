@@ -1,3 +1,4 @@
 pub mod Arbiter
 pub mod Allocation
+pub mod Places
 pub mod Steps

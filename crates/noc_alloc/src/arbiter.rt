@@ -1,10 +1,11 @@
 //! A round-robin arbiter (Dally and Towles, chapter 18).
 
-ghost use Rattle.std.specs.Prelude.{◌≡◌, ℕ, ◌+◌, ◌-◌, ◌<◌, ◌≤◌, ◌&&◌, ◌||◌, ◌==◌, nat_le, nat_lt, true, IfSome, is_some, slice_index_or, None, Option, length};
+ghost use Rattle.std.specs.Prelude.{◌≡◌, ℕ, ◌+◌, ◌-◌, ◌<◌, ◌≤◌, ◌&&◌, ◌||◌, ◌==◌, nat_le, nat_lt, true, IfSome, None, Some, Option, length};
 ghost use Rattle.noc_packet.specs.Set.{has_bit};
 ghost use Rattle.noc_alloc.specs.Arbiter.{Turn, first_in_turn, turned, turn_at};
 ghost use Rattle.noc_alloc.specs.Steps.{nearer, offered};
 
+use crate::places::Places;
 use noc_packet::ChannelSet;
 use std::marker::Model;
 
@@ -62,20 +63,6 @@ impl Arbiter {
         asking.least_from(0)
     }
 
-    /// The place that comes first, of the places of a list as long as the size that hold something.
-    pub(crate) fn pick_filled(&self, places: &[Option<usize>]) -> Option<usize>
-        requires { length places.now ≡ self.now.size }
-        ensures { result ≡ first_in_turn self.now.size self.now.pointer (λ k. is_some (slice_index_or places.now k None)) }
-    {
-        let mut filled = ChannelSet::empty();
-        for place in 0..self.size as usize {
-            if places[place].is_some() {
-                filled = filled.with(place);
-            }
-        }
-        self.pick(filled)
-    }
-
     /// Moves the pointer to one past the winner, modulo the size. Without a winner it stays. The winner is below the size.
     pub fn advance(&mut self, winner: Option<usize>)
         requires { IfSome winner (λ w. w < self.old.size) }
@@ -88,32 +75,29 @@ impl Arbiter {
     }
 
     /// Of the requester that came first so far and a later one, that which comes first.
-    pub(crate) fn nearer(&self, held: Option<usize>, next: usize) -> Option<usize>
-        ensures value { result ≡ nearer self.now.pointer held next }
+    pub(crate) fn nearer(&self, held: Option<usize>, next: usize) -> usize
+        ensures value { nearer self.now.pointer held next ≡ Some result }
         ensures pointer { self.now.pointer < self.now.size }
     {
         let pointer = self.pointer as usize;
         match held {
-            Some(first) if pointer <= first || next < pointer => held,
-            _ => Some(next),
+            Some(first) if pointer <= first || next < pointer => first,
+            _ => next,
         }
     }
 }
 
 /// Offers a requester, which comes after all that were offered before, to the arbiter that it asks for, if any.
 /// `held` has the requester that each arbiter puts first so far.
-pub(crate) fn offer(
-    arbiters: &[Arbiter],
-    asked: Option<usize>,
-    requester: usize,
-    held: &mut [Option<usize>],
-)
+pub(crate) fn offer(arbiters: &[Arbiter], asked: Option<usize>, requester: usize, held: &mut Places)
     requires lengths { length held.old ≡ length arbiters.now }
     requires asked { IfSome asked (λ o. o < length arbiters.now) }
     ensures held { held.new ≡ offered arbiters.now asked requester held.old }
+    ensures count { length held.new ≡ length held.old }
     ensures pointer { IfSome asked (λ o. (turn_at arbiters.now o).pointer < (turn_at arbiters.now o).size) }
 {
     if let Some(output) = asked {
-        held[output] = arbiters[output].nearer(held[output], requester);
+        let first = arbiters[output].nearer(held.get(output), requester);
+        held.set(output, Some(first));
     }
 }

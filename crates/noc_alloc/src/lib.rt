@@ -3,10 +3,12 @@
 
 mod arbiter;
 mod channels;
+mod places;
 mod switch;
 #[cfg(test)]
 mod tests;
 
 pub use arbiter::Arbiter;
 pub use channels::{advance_channels, allocate_channels};
+pub use places::Places;
 pub use switch::{advance_switch, allocate_switch};

@@ -1,25 +1,25 @@
 //! The allocation of the switch, input ports first (Dally and Towles, chapter 19).
 
-ghost use Rattle.std.specs.Prelude.{◌≡◌, ℕ, ◌*◌, ◌<◌, List, Option, length, All, IfSome, slice_index_or, None};
+ghost use Rattle.std.specs.Prelude.{◌≡◌, ℕ, ◌*◌, ◌<◌, ◌≤◌, List, Option, length, All, IfSome, slice_index_or, None};
 ghost use Rattle.noc_topo.specs.Words.{tabulate};
 ghost use Rattle.noc_alloc.specs.Arbiter.{Turn, pointers_of, turn_at};
 ghost use Rattle.noc_alloc.specs.Allocation.{pick_of, picked_port, winner_of, winning_pick, moving_pick, turned_by, AreWins};
 ghost use Rattle.noc_alloc.specs.Steps.{turned_winner};
 
 use crate::arbiter::{Arbiter, offer};
-use crate::channels::advance_channels;
+use crate::places::Places;
 
 /// For each input channel that is ready, `ready` has the output port of its output channel; input port `port` has the
 /// input channels from `port * vcs` on. Each input port picks one of its `vcs` virtual channels that are ready, and each
 /// output port is won by one of the input ports whose pick goes to it. `picks` gets the virtual channel of each input
 /// port, and `wins` the input port of each output port.
 pub fn allocate_switch(
-    ready: &[Option<usize>],
+    ready: &Places,
     vcs: usize,
     inputs: &[Arbiter],
     outputs: &[Arbiter],
-    picks: &mut [Option<usize>],
-    wins: &mut [Option<usize>],
+    picks: &mut Places,
+    wins: &mut Places,
 )
     requires ready { length ready.now ≡ length inputs.now * vcs }
     requires picks { length picks.old ≡ length inputs.now }
@@ -29,6 +29,8 @@ pub fn allocate_switch(
     requires ports { All (λ port. IfSome port (λ p. p < length outputs.now)) ready.now }
     ensures picks { picks.new ≡ tabulate (length inputs.now) (pick_of ready.now vcs (pointers_of inputs.now)) }
     ensures wins { wins.new ≡ tabulate (length outputs.now) (winner_of ready.now vcs (length inputs.now) picks.new (pointers_of outputs.now)) }
+    ensures pick_count { length picks.new ≡ length inputs.now }
+    ensures win_count { length wins.new ≡ length outputs.now }
     ensures vcs { All (λ pick. IfSome pick (λ v. v < vcs)) picks.new }
     ensures inputs { All (λ win. IfSome win (λ q. q < length inputs.now)) wins.new }
 {
@@ -37,31 +39,23 @@ pub fn allocate_switch(
 }
 
 /// Picks a ready virtual channel for each input port.
-fn pick_channels(
-    ready: &[Option<usize>],
-    vcs: usize,
-    inputs: &[Arbiter],
-    picks: &mut [Option<usize>],
-)
+fn pick_channels(ready: &Places, vcs: usize, inputs: &[Arbiter], picks: &mut Places)
     requires ready { length ready.now ≡ length inputs.now * vcs }
     requires picks { length picks.old ≡ length inputs.now }
     requires sizes { All (λ (t : Turn). t.size ≡ vcs) inputs.now }
-    ensures { picks.new ≡ tabulate (length inputs.now) (pick_of ready.now vcs (pointers_of inputs.now)) }
+    ensures few { length ready.now ≤ 56 }
+    ensures count { length picks.new ≡ length inputs.now }
+    ensures picks { picks.new ≡ tabulate (length inputs.now) (pick_of ready.now vcs (pointers_of inputs.now)) }
 {
+    let filled = ready.filled();
     for port in 0..inputs.len() {
-        let first = port * vcs;
-        picks[port] = inputs[port].pick_filled(&ready[first..first + vcs]);
+        picks.set(port, inputs[port].pick(filled.part(port * vcs, vcs)));
     }
 }
 
 /// Lets each output port be won by one of the input ports whose pick goes to it.
-fn win_ports(
-    ready: &[Option<usize>],
-    vcs: usize,
-    picks: &[Option<usize>],
-    outputs: &[Arbiter],
-    wins: &mut [Option<usize>],
-)
+fn win_ports(ready: &Places, vcs: usize, picks: &Places, outputs: &[Arbiter], wins: &mut Places)
+    requires few { length ready.now ≤ 56 }
     requires ready { length ready.now ≡ length picks.now * vcs }
     requires wins { length wins.old ≡ length outputs.now }
     requires sizes { All (λ (t : Turn). t.size ≡ length picks.now) outputs.now }
@@ -69,47 +63,45 @@ fn win_ports(
     requires ports { All (λ port. IfSome port (λ p. p < length outputs.now)) ready.now }
     ensures { wins.new ≡ tabulate (length outputs.now) (winner_of ready.now vcs (length picks.now) picks.now (pointers_of outputs.now)) }
 {
-    wins.fill(None);
-    for port in 0..picks.len() {
+    wins.clear();
+    let mut rest = picks.filled();
+    while let Some(port) = rest.least_common(&rest) {
+        rest = rest.without(port);
         offer(outputs, picked_port(ready, vcs, picks, port), port, wins);
     }
 }
 
 /// The output port to which an input port's pick goes.
-fn picked_port(
-    ready: &[Option<usize>],
-    vcs: usize,
-    picks: &[Option<usize>],
-    port: usize,
-) -> Option<usize>
+fn picked_port(ready: &Places, vcs: usize, picks: &Places, port: usize) -> Option<usize>
     requires port { port < length picks.now }
+    requires few { length ready.now ≤ 56 }
     requires ready { length ready.now ≡ length picks.now * vcs }
     requires picks { All (λ pick. IfSome pick (λ v. v < vcs)) picks.now }
     ensures { result ≡ picked_port ready.now vcs picks.now port }
 {
-    match picks[port] {
-        Some(vc) => ready[port * vcs + vc],
+    match picks.get(port) {
+        Some(vc) => ready.get(port * vcs + vc),
         None => None,
     }
 }
 
 /// Moves the pointer of the input port that won an output port, if any, past its pick.
-fn advance_winner(winner: Option<usize>, picks: &[Option<usize>], inputs: &mut [Arbiter])
+fn advance_winner(winner: Option<usize>, picks: &Places, inputs: &mut [Arbiter])
     requires picks { length picks.now ≡ length inputs.old }
     requires vcs { (k : ℕ) → k < length inputs.old → IfSome (slice_index_or picks.now k None) (λ v. v < (turn_at inputs.old k).size) }
     requires winner { IfSome winner (λ q. q < length inputs.old) }
     ensures { inputs.new ≡ turned_winner winner picks.now inputs.old }
 {
     if let Some(input) = winner {
-        inputs[input].advance(picks[input]);
+        inputs[input].advance(picks.get(input));
     }
 }
 
 /// Moves the pointers past the winners: those of the output ports that were won, and those of the input ports whose pick
 /// also won an output port.
 pub fn advance_switch(
-    picks: &[Option<usize>],
-    wins: &[Option<usize>],
+    picks: &Places,
+    wins: &Places,
     inputs: &mut [Arbiter],
     outputs: &mut [Arbiter],
 )
@@ -124,8 +116,11 @@ pub fn advance_switch(
     ensures input_sizes { (k : ℕ) → (turn_at inputs.new k).size ≡ (turn_at inputs.old k).size }
     ensures output_sizes { (k : ℕ) → (turn_at outputs.new k).size ≡ (turn_at outputs.old k).size }
 {
-    for output in 0..wins.len() {
-        advance_winner(wins[output], picks, inputs);
+    let mut rest = wins.filled();
+    while let Some(output) = rest.least_common(&rest) {
+        rest = rest.without(output);
+        let winner = wins.get(output);
+        advance_winner(winner, picks, inputs);
+        outputs[output].advance(winner);
     }
-    advance_channels(wins, outputs);
 }

@@ -1,10 +1,10 @@
 -- Sets of channel indices, by their bits.
 use Rattle.std.proofs.Common.{◌/◌, ◌≡◌, ℕ, ◌+◌, ◌-◌, ◌*◌, ◌%◌, ◌^◌, ◌<◌, ◌≤◌, Bool, true, false, Option, Some, None, refl, ap, sym, ◌∙◌, arith, inl, inr, w64, bit_and, bit_or, zero-mul}
-use Rattle.std.specs.Prelude.{nat_eq, ◌⊎◌, ◌&&◌, ◌||◌, not, cond}
+use Rattle.std.specs.Prelude.{nat_eq, nat_lt, ◌⊎◌, ◌&&◌, ◌||◌, not, cond}
 use Rattle.std.specs.Int.{bit_at, bit_not, trailing_zeros}
-use Rattle.std.proofs.lemmas.Bool.{eq-eqb, ne_eqb, cases_eq, cases_lt, false≢true, eqb-true, le-leb, lt-leb}
+use Rattle.std.proofs.lemmas.Bool.{eq-eqb, ne_eqb, cases_eq, cases_lt, false≢true, eqb-true, le-leb, lt-leb, lt-ltb, le-ltb}
 use Rattle.std.proofs.lemmas.Nat.{or_lt, or_disjoint, shr-shr, shr_le, one_shl, and_le_l, and-not, and_comm, pow_below}
-use Rattle.std.proofs.lemmas.Nat.Bits.{bit_at-zero, bit_at-lt, bit_at_and, bit_at_above, and_pow, same_from_bits, bit_at_set_same, bit_at_set_other, bit_at_clear_same, bit_at_clear_other, bit_at-trailing_zeros}
+use Rattle.std.proofs.lemmas.Nat.Bits.{bit_at-zero, bit_at-lt, bit_at_and, bit_at_above, and_pow, same_from_bits, bit_at_set_same, bit_at_set_other, bit_at_clear_same, bit_at_clear_other, bit_at-trailing_zeros, bit_at_not, bit_at_ones, bit_at_ones_above}
 use Rattle.noc_packet.specs.Set.{has_bit, has_from, in_both, IsLeast}
 
 pub has_bit-one : (bits k : ℕ) → bit_at bits k ≡ 1 → has_bit bits k ≡ true
@@ -190,3 +190,34 @@ from-some bits from bound some =
         let fits : bits / 2 ^ from ≤ bits = shr_le bits from in
         let tz = bit_at-trailing_zeros w64 (bits / 2 ^ from) some (omega arith) in
         rw (le-leb from k u) (has_bit-none bits k (bit_at-past bits from k u ∙ tz.2 (k - from) (omega arith)))
+
+-- ---- less another set
+and_members : (a b k : ℕ) → has_bit (bit_and a b) k ≡ (has_bit b k && has_bit a k)
+and_members a b k = sym (in_both-and b a k ∙ ap (λ n. has_bit n k) (and_comm b a))
+
+pub less_members : (bits other k : ℕ) → bits < 2 ^ 56 → other < 2 ^ 56 → has_bit (bit_and bits (2 ^ 64 - 1 - other)) k ≡ (not (has_bit other k) && has_bit bits k)
+less_members bits other k bound fits = and_members bits (2 ^ 64 - 1 - other) k ∙ at (cases_lt k 56)
+  where
+    turned : k < 56 → (b : Bool) → has_bit other k ≡ b → has_bit (2 ^ 64 - 1 - other) k ≡ not b
+    turned l true e = has_bit-none _ k (bit_at_not w64 other k (omega arith) (omega arith) ∙ ap (λ n. 1 - n) (bit_at-true other k e))
+    turned l false e = has_bit-one _ k (bit_at_not w64 other k (omega arith) (omega arith) ∙ ap (λ n. 1 - n) (bit_at-false other k e))
+
+    and_false : (b : Bool) → (b && false) ≡ false
+    and_false true = refl
+    and_false false = refl
+
+    at : (k < 56) ⊎ (56 ≤ k) → (has_bit (2 ^ 64 - 1 - other) k && has_bit bits k) ≡ (not (has_bit other k) && has_bit bits k)
+    at (inl l) = ap (λ b. b && has_bit bits k) (turned l (has_bit other k) refl)
+    at (inr u) =
+        let none : has_bit bits k ≡ false = has_bit-above bits 56 k bound u in
+        ap (λ b. has_bit (2 ^ 64 - 1 - other) k && b) none ∙ and_false _ ∙ sym (and_false _) ∙ ap (λ b. not (has_bit other k) && b) (sym none)
+
+-- ---- the members from an index on
+pub part_members : (bits from count k : ℕ) → count ≤ 56 → has_bit (bit_and (bits / 2 ^ from) (1 * 2 ^ count % 2 ^ 64 - 1)) k ≡ (nat_lt k count && has_bit bits (from + k))
+part_members bits from count k l =
+    rw (one_shl count 64 (omega arith))
+    (and_members (bits / 2 ^ from) (2 ^ count - 1) k ∙ ap (λ b. has_bit (2 ^ count - 1) k && b) (ap (λ n. nat_eq n 1) (bit_at-shr bits from k)) ∙ ap (λ b. b && has_bit bits (from + k)) (at (cases_lt k count)))
+  where
+    at : (k < count) ⊎ (count ≤ k) → has_bit (2 ^ count - 1) k ≡ nat_lt k count
+    at (inl u) = has_bit-one _ k (bit_at_ones count k u) ∙ sym (lt-ltb k count u)
+    at (inr u) = has_bit-none _ k (bit_at_ones_above count k u) ∙ sym (le-ltb k count u)

@@ -1,6 +1,6 @@
 //! A set of channel indices.
 
-ghost use Rattle.std.specs.Prelude.{◌≡◌, ℕ, ◌+◌, ◌-◌, ◌<◌, ◌^◌, Bool, false, ◌&&◌, ◌||◌, ◌==◌, not, find, IfSome, IsTrue, ◌↔◌, if◌then◌else◌};
+ghost use Rattle.std.specs.Prelude.{◌≡◌, ℕ, ◌+◌, ◌-◌, ◌<◌, ◌≤◌, ◌^◌, Bool, false, ◌&&◌, ◌||◌, ◌==◌, not, nat_lt, find, IfSome, IsTrue, ◌↔◌, if◌then◌else◌};
 ghost use Rattle.noc_packet.specs.Set.{has_bit, has_from, in_both, IsLeast};
 
 use crate::limits::INDICES;
@@ -92,6 +92,26 @@ impl ChannelSet {
             None
         } else {
             Some(from + ahead.trailing_zeros() as usize)
+        }
+    }
+
+    /// This set less the members of the other.
+    pub fn less(self, other: ChannelSet) -> ChannelSet
+        ensures { (k : ℕ) → has_bit result k ≡ (not (has_bit other k) && has_bit self k) }
+    {
+        ChannelSet {
+            bits: self.bits & !other.bits,
+        }
+    }
+
+    /// The members among the `count` indices (0 to 56) from `from` (0 to 55) on, numbered from 0.
+    pub fn part(self, from: usize, count: usize) -> ChannelSet
+        requires from { from < INDICES }
+        requires count { count ≤ INDICES }
+        ensures { (k : ℕ) → has_bit result k ≡ (nat_lt k count && has_bit self (from + k)) }
+    {
+        ChannelSet {
+            bits: self.bits >> from & ((1 << count) - 1),
         }
     }
 }

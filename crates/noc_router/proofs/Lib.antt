@@ -1,5 +1,7 @@
+pub mod AmendLemmas
 pub mod ArrivalLemmas
 pub mod ChannelLemmas
+pub mod EventLemmas
 pub mod FilledLemmas
 pub mod FindLemmas
 pub mod InjectLemmas

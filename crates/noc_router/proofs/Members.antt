@@ -12,3 +12,12 @@ AreBelow-without n set i rest members all = λ k is. all k (second_of_both (not 
     second_of_both true b e = e
     second_of_both false true e = refl
     second_of_both false false e = e
+
+-- a member of a set less one is a member of the set
+pub without-member : (set rest i k : ℕ) → ((j : ℕ) → has_bit rest j ≡ (not (nat_eq j i) && has_bit set j)) → has_bit rest k ≡ true → has_bit set k ≡ true
+without-member set rest i k members is = second_of_both (not (nat_eq k i)) (has_bit set k) (sym (members k) ∙ is)
+  where
+    second_of_both : (a b : Bool) → (a && b) ≡ true → b ≡ true
+    second_of_both true b e = e
+    second_of_both false true e = refl
+    second_of_both false false e = e

@@ -1,6 +1,6 @@
 -- Lists in which only the members of a set have an entry of their own.
-use Rattle.std.proofs.Common.{◌≡◌, ◌≢◌, ℕ, ◌<◌, ◌≤◌, Bool, true, false, List, length, get_or, set, replicate, Option, Some, None, refl, ap, sym, ◌∙◌, arith, inl, inr}
-use Rattle.std.specs.Prelude.{nat_eq, not, ◌&&◌, ◌||◌, ◌⊎◌}
+use Rattle.std.proofs.Common.{◌≡◌, ◌≢◌, ℕ, ◌<◌, ◌≤◌, Bool, true, false, List, length, get_or, set, replicate, Option, Some, None, refl, ap, sym, ◌∙◌, arith, inl, inr, subst}
+use Rattle.std.specs.Prelude.{IfSome, nat_eq, not, ◌&&◌, ◌||◌, ◌⊎◌}
 use Rattle.std.proofs.Math.ListN.{get_or-eq_default}
 use Rattle.std.proofs.lemmas.Bool.{eq-eqb, ne_eqb, cases_eq, cases_lt, false≢true}
 use Rattle.std.proofs.lemmas.List.{get_or-set_same, get_or-set_other, get_or-replicate, length-set, length-replicate, ext_get_or, set-get_or}
@@ -8,7 +8,7 @@ use Rattle.std.proofs.lemmas.List.Elements.{All-set}
 use Rattle.std.specs.Option.{ForSome}
 use Rattle.noc_packet.specs.Set.{has_bit, in_both, IsLeast}
 use Rattle.noc_packet.proofs.SetLemmas.{has_bit-zero}
-use Rattle.noc_router.specs.Requests.{AllBelow, AreQuiet, AreSilent}
+use Rattle.noc_router.specs.Requests.{AllBelow, AreQuiet}
 
 -- b twice
 pub both_false : (b : Bool) → (b && b) ≡ false → b ≡ false
@@ -95,24 +95,12 @@ quiet-added bits more i d x xs members quiet = λ k off. get_or-set_other xs i k
 pub quiet-none : {X : Type 0} (bits : ℕ) (d : X) (xs : List X) → ((k : ℕ) → has_bit bits k ≡ false) → AreQuiet bits d xs → xs ≡ replicate (length xs) d
 quiet-none bits d xs none quiet = all_same d xs (λ k. quiet k (none k))
 
-pub silent-forgotten : (flag : Bool) (xs : List (Option ℕ)) (i : ℕ) → AreSilent flag xs → AreSilent flag (set xs i None)
-silent-forgotten flag xs i silent = λ k e. at_set_default None xs i k (silent k e)
-
-pub silent-fresh : (flag : Bool) (n : ℕ) (xs : List (Option ℕ)) → xs ≡ replicate n None → AreSilent flag xs
-silent-fresh flag n xs e = λ k _. ap (λ ys. get_or ys k None) e ∙ at_replicate None n k
-
-pub silent-none : (n : ℕ) (xs : List (Option ℕ)) → xs ≡ replicate n None → (flag : Bool) → AreSilent flag xs
-silent-none n xs e = λ flag. silent-fresh flag n xs e
-
 -- nobody is below n
 nobody_below : (n x : ℕ) → None ≡ Some x → x < n
 nobody_below n x e = cc
 
 pub below-forgotten : (n : ℕ) (xs : List (Option ℕ)) (i : ℕ) → AllBelow n xs → AllBelow n (set xs i None)
 below-forgotten n xs i all = All-set (λ one. ForSome one (λ k. k < n)) xs i None (nobody_below n) all
-
-pub silent-loud : (xs : List (Option ℕ)) → AreSilent true xs
-silent-loud xs = λ k e. absurd (false≢true (sym e))
 
 -- somebody below n
 somebody_below : (n y x : ℕ) → y < n → Some y ≡ Some x → x < n
@@ -124,3 +112,13 @@ below-added n xs i y l all = All-set (λ one. ForSome one (λ k. k < n)) xs i (S
 -- an entry that is there already
 pub entry_same : {X : Type 0} (d x : X) (xs : List X) (i : ℕ) → get_or xs i d ≡ d → x ≡ d → xs ≡ set xs i x
 entry_same d x xs i e is = sym (set-get_or xs i d) ∙ ap (set xs i) (e ∙ sym is)
+
+-- nobody is named
+pub below-none : (n count : ℕ) (xs : List (Option ℕ)) → xs ≡ replicate count None → AllBelow n xs
+below-none n count xs is k d l x e =
+    let long : length xs ≡ count = ap (λ (ys : List (Option ℕ)). length ys) is ∙ length-replicate count None in
+    nobody_below n x (sym (ap (λ ys. get_or ys k d) is ∙ get_or-replicate count k None d (omega arith)) ∙ e)
+
+-- whoever is named is below n, said another way
+pub below-from : (n : ℕ) (xs : List (Option ℕ)) → ((k : ℕ) (d : Option ℕ) → k < length xs → IfSome (get_or xs k d) (λ i. i < n)) → AllBelow n xs
+below-from n xs each k d l x e = subst (λ o. IfSome o (λ i. i < n)) e (each k d l)

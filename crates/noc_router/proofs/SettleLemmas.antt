@@ -27,12 +27,14 @@ use Rattle.noc_router.specs.declared.router.Router.TheInside.{Inside}
 use Rattle.noc_router.specs.Inside.{IsRouter, view_of}
 use Rattle.noc_router.specs.Members.{is_within}
 use Rattle.noc_router.specs.Sound.{owns, is_owned_from, is_occupied, input_at}
+use Rattle.noc_router.specs.Found.{AreEvents}
 use Rattle.noc_router.specs.Tally.{empty_finding, finding_at}
 use Rattle.noc_router.specs.Verdict.{Claim, Unrouted, Waits, Holds, ask_of, out_of, verdict_of, is_moved, is_event}
 use Rattle.noc_router.specs.View.{View, Site, Decisions, finding_of, port_and_vc, size_of, view_claim, claim_in, view_buffer, view_input, view_output, first_flit, mover, mover_to, held_by, spent_by, is_tail, flit_out, tail_packet, with_arrival, raised, decided_verdict, input_after, buffer_after, granted_to, sent_from, output_after, beat_out, idle_beat, idle_beats, has_event}
 use Rattle.noc_router.specs.declared.verdict.Verdict.{Verdict}
 use Rattle.noc_router.specs.declared.verdict.Verdict.TheVariants.{Empty, Routed, Granted, Moved, NoFlit, NoIdleChannel, LostChannel, NoCredit, LostInput, LostSwitch}
 use Rattle.noc_router.specs.declared.verdict.Finding.{Finding}
+use Rattle.noc_router.proofs.EventLemmas.{events-below}
 use Rattle.noc_router.proofs.FindLemmas.{find-none, find-same, find-at}
 use Rattle.noc_router.proofs.TallyLemmas.{verdict-at}
 use Rattle.noc_router.proofs.PlanFacts.{Lists, verdict_in, holds_flit, decided-is, verdict-is, granted-asks, is-granted, mover-is, Moves, moves-is, one_pick, claim-waits, claim-holds, claim-unrouted, verdict-granted, verdict-routed, finding-is, lists_of}
@@ -675,14 +677,6 @@ module _ (d : Decisions) (v w : View) (rest rest' index : ℕ) (whole : IsWhole 
       }
 
 -- ---- before the first channel
-waiting_busy : (p : InputState) → is_waiting p ≡ true → is_idle_phase p ≡ false
-waiting_busy Idle e = absurd (false≢true e)
-waiting_busy (Waiting set) e = refl
-waiting_busy (Active o) e = absurd (false≢true e)
-
-busy_occupied : (input : Input) (flits : List Flit) → is_idle_phase input.phase ≡ false → is_occupied input flits ≡ true
-busy_occupied input flits e = ap (λ b. not (b && is_empty flits)) e
-
 vacant_parts : (a b : Bool) → not (a && b) ≡ false → (a ≡ true) × (b ≡ true)
 vacant_parts true true e = (refl, refl)
 vacant_parts true false e = absurd (false≢true (sym e))
@@ -693,35 +687,54 @@ idle_claim v Idle e = refl
 idle_claim v (Waiting set) e = absurd (false≢true e)
 idle_claim v (Active o) e = absurd (false≢true e)
 
-module _ (d : Decisions) (v : View) (rest : ℕ) (whole : IsWhole v) (lists : Lists d v)
-    (occupied : (i : ℕ) → i < size_of v.site → has_bit rest i ≡ is_occupied (view_input v i) (view_buffer v i)) where
-  vacant-empty : (i : ℕ) → i < size_of v.site → has_bit rest i ≡ false → verdict_in d v i ≡ Empty
-  vacant-empty i l e =
-      let h = vacant_parts (is_idle_phase (view_input v i).phase) (is_empty (view_buffer v i)) (sym (occupied i l) ∙ e) in
-      ap (λ c. verdict_of v.site.vcs d.round i c (holds_flit v i)) (idle_claim v (view_input v i).phase h.0)
-      ∙ ap (λ b. verdict_of v.site.vcs d.round i Unrouted (not b)) h.1
+-- a verdict that does not take effect changes nothing
+quiet-moved : (x : Verdict) → is_event x ≡ false → is_moved x ≡ false
+quiet-moved Empty e = refl
+quiet-moved Routed e = absurd (false≢true (sym e))
+quiet-moved Granted e = absurd (false≢true (sym e))
+quiet-moved Moved e = absurd (false≢true (sym e))
+quiet-moved NoFlit e = refl
+quiet-moved NoIdleChannel e = refl
+quiet-moved LostChannel e = refl
+quiet-moved NoCredit e = refl
+quiet-moved LostInput e = refl
+quiet-moved LostSwitch e = refl
 
-  all_left : (i : ℕ) → i < size_of v.site → left_verdict d rest i ≡ Empty
+quiet-input : (d : Decisions) (v : View) (i : ℕ) (input : Input) (x : Verdict) → is_event x ≡ false → input_after d v i input x ≡ input
+quiet-input d v i input Empty e = refl
+quiet-input d v i input Routed e = absurd (false≢true (sym e))
+quiet-input d v i input Granted e = absurd (false≢true (sym e))
+quiet-input d v i input Moved e = absurd (false≢true (sym e))
+quiet-input d v i input NoFlit e = refl
+quiet-input d v i input NoIdleChannel e = refl
+quiet-input d v i input LostChannel e = refl
+quiet-input d v i input NoCredit e = refl
+quiet-input d v i input LostInput e = refl
+quiet-input d v i input LostSwitch e = refl
+
+module _ (d : Decisions) (v : View) (rest : ℕ) (whole : IsWhole v) (lists : Lists d v)
+    (events : (i : ℕ) → i < size_of v.site → has_bit rest i ≡ is_event (verdict_in d v i)) where
+  all_left : (i : ℕ) → i < size_of v.site → is_event (left_verdict d rest i) ≡ false
   all_left i l = at (has_bit rest i) refl
     where
-      at : (b : Bool) → has_bit rest i ≡ b → left_verdict d rest i ≡ Empty
-      at true e = ap (λ b. if b then Empty else decided_verdict d i) e
-      at false e = ap (λ b. if b then Empty else decided_verdict d i) e ∙ decided-is d v i lists l ∙ vacant-empty i l e
+      at : (b : Bool) → has_bit rest i ≡ b → is_event (left_verdict d rest i) ≡ false
+      at true e = ap (λ b. is_event (if b then Empty else decided_verdict d i)) e
+      at false e = ap (λ b. is_event (if b then Empty else decided_verdict d i)) e ∙ ap is_event (decided-is d v i lists l) ∙ sym (events i l) ∙ e
 
-  is_left : (i : ℕ) → i < size_of v.site → is_idle_phase (view_input v i).phase ≡ false → left rest (Some i) ≡ None
-  is_left i l e = ap (λ b. if b then None else Some i) (occupied i l ∙ busy_occupied (view_input v i) (view_buffer v i) e)
+  is_left : (i : ℕ) → i < size_of v.site → (x : Verdict) → verdict_in d v i ≡ x → is_event x ≡ true → left rest (Some i) ≡ None
+  is_left i l x e t = ap (λ b. if b then None else Some i) (events i l ∙ ap is_event e ∙ t)
 
   grant_left : (o : ℕ) → o < size_of v.site → (m : Option ℕ) → get_or d.round.grants o None ≡ m → left rest m ≡ None
   grant_left o l None e = refl
   grant_left o l (Some i) e =
       let a = granted-asks d v o i lists l e in
-      is_left i a.0 (waiting_busy (view_input v i).phase (claim-waits v (view_input v i).phase o a.1).0)
+      is_left i a.0 Granted (is-granted d v o i a.1 e) refl
 
   mover_left : (p : ℕ) → p < ports v.site.grid → (m : Option ℕ) → mover v.site d.round p ≡ m → left rest m ≡ None
   mover_left p l None e = refl
   mover_left p l (Some i) e =
       let mv = mover-is d v p i lists l e in
-      is_left i mv.within (ap is_idle_phase (claim-holds v (view_input v i).phase mv.out true mv.claim).0)
+      is_left i mv.within Moved mv.verdict refl
 
   mover_to_left : (o : ℕ) → o < size_of v.site → (m : Option ℕ) → mover_to v d.round o ≡ m → left rest m ≡ None
   mover_to_left o l None e = refl
@@ -731,7 +744,7 @@ module _ (d : Decisions) (v : View) (rest : ℕ) (whole : IsWhole v) (lists : Li
   no_credit p l =
       find-none (λ k. is_moved (left_verdict d rest (p * v.site.vcs + k))) v.site.vcs
       (λ k u. let m : p * v.site.vcs + k < v.site.vcs * ports v.site.grid = mul-add-lt p v.site.vcs k (ports v.site.grid) (omega arith) u in
-      ap is_moved (all_left (p * v.site.vcs + k) (omega arith)))
+      quiet-moved (left_verdict d rest (p * v.site.vcs + k)) (all_left (p * v.site.vcs + k) (omega arith)))
 
   beat_parts : Option (ℕ × Flit) → Option ℕ → Beat
   beat_parts x y = record { flit = x; credit = y }
@@ -748,8 +761,8 @@ module _ (d : Decisions) (v : View) (rest : ℕ) (whole : IsWhole v) (lists : Li
     n_inputs = whole.inputs;
     n_outputs = whole.outputs;
     n_beats = ap length idle ∙ length-replicate (local_port v.site.grid) idle_beat;
-    buffers = λ i l. sym (ap (buffer_after (view_buffer v i)) (all_left i l));
-    inputs = λ i l. sym (ap (input_after d v i (view_input v i)) (all_left i l));
+    buffers = λ i l. sym (ap (λ b. if b then drop 1 (view_buffer v i) else view_buffer v i) (quiet-moved (left_verdict d rest i) (all_left i l)));
+    inputs = λ i l. sym (quiet-input d v i (view_input v i) (left_verdict d rest i) (all_left i l));
     outputs = λ o l. sym (ap (λ x. spent_by v (held_by v (view_output v o) x) (left rest (mover_to v d.round o))) (grant_left o l (get_or d.round.grants o None) refl)
         ∙ ap (λ x. spent_by v (view_output v o) x) (mover_to_left o l (mover_to v d.round o) refl));
     beats = λ p l. ap (λ xs. get_or xs p idle_beat) idle ∙ get_or-replicate (local_port v.site.grid) p idle_beat idle_beat l
@@ -757,7 +770,7 @@ module _ (d : Decisions) (v : View) (rest : ℕ) (whole : IsWhole v) (lists : Li
     ends = ap (λ a. sink_ends a v.given v.ends) first-arrived;
     misfits = ap (λ a. sink_misfits a v.ends v.misfits) first-arrived;
     event_kept = λ t. t;
-    event_of = λ i l e t. absurd (false≢true (sym (ap is_event (decided-is d v i lists l ∙ vacant-empty i l e)) ∙ t));
+    event_of = λ i l e t. absurd (false≢true (sym e ∙ events i l ∙ sym (ap is_event (decided-is d v i lists l)) ∙ t));
     event_from = λ t. inl t;
   }
 
@@ -1003,9 +1016,12 @@ settling_more d v w rest rest' index new whole plan members member so_far is =
     let P : View → Type 0 = λ x. IsSettling d v rest' x in
     subst P (sym is) (settle-step d v w rest rest' index whole lists members member so_far (finding_at d.findings index).verdict (sym (verdict-is d v index lists (so_far.below index member))))
 
-pub settling_first : (d : Decisions) (v : View) (rest : ℕ) → IsWhole v → IsPlanOf d v → ((i : ℕ) → i < size_of v.site → has_bit rest i ≡ is_occupied (view_input v i) (view_buffer v i))
-    → ((k : ℕ) → has_bit rest k ≡ true → k < size_of v.site) → v.to_put ≡ idle_beats v.site → IsSettling d v rest v
-settling_first d v rest whole plan occupied below idle = settling-first d v rest whole (lists_of d v plan) occupied below idle
+pub settling_first : (d : Decisions) (v : View) (rest : ℕ) → IsWhole v → IsPlanOf d v → AreEvents rest d.findings → v.to_put ≡ idle_beats v.site → IsSettling d v rest v
+settling_first d v rest whole plan are idle =
+    let lists = lists_of d v plan in
+    let long : length d.findings ≡ size_of v.site = ap length lists.findings ∙ length-tabulate (size_of v.site) (finding_of d.round v) in
+    settling-first d v rest whole lists (λ i l. are i ∙ ap is_event (verdict-is d v i lists l))
+    (λ k e. let l : k < length d.findings = events-below rest d.findings are k e in omega arith) idle
 
 pub settling_last : (d : Decisions) (v w : View) (rest : ℕ) → IsWhole v → IsPlanOf d v → IsSettling d v rest w → ((k : ℕ) → has_bit rest k ≡ false) → w ≡ settled d v
 settling_last d v w rest whole plan so_far none = settling-last d v w rest whole (lists_of d v plan) so_far none

@@ -42,12 +42,11 @@ drop-first (y ∷ ys) x = refl
 
 -- ---- the first tally
 pub first_tally : (size set : ℕ) (counts : List (List ℕ)) (findings : List Finding) → ((k : ℕ) → has_bit set k ≡ false)
-    → counts ≡ replicate size (replicate 10 0) → findings ≡ replicate size empty_finding → IsTally 0 false set counts findings
+    → counts ≡ replicate size (replicate 10 0) → findings ≡ replicate size empty_finding → IsTally 0 set counts findings
 first_tally size bits counts findings none c f = record {
   fits = omega arith;
   ten = λ i l. ap length (ten i l);
   sums = λ i l. let h : sum (others_at counts i) ≡ 0 = ap (λ xs. sum (drop 1 xs)) (ten i l) in omega arith;
-  room = λ i l e t. absurd (false≢true t);
   within = λ i t. absurd (false≢true (sym (none i) ∙ t));
   plain = λ i l e. ap (λ xs. finding_at xs i) f ∙ get_or-replicate size i empty_finding empty_finding (let h : length findings ≡ size = ap length f ∙ length-replicate size empty_finding in omega arith);
 }
@@ -72,15 +71,14 @@ neither true b e = absurd (false≢true (sym e))
 neither false b e = (refl, e)
 
 pub noted_tally : (cycles : ℕ) (counting : Bool) (shown shown' : ℕ) (counts : List (List ℕ)) (findings : List Finding) (index : ℕ) (finding : Finding) (new : List ℕ)
-    → IsTally cycles counting shown counts findings → index < length counts → index < length findings → (finding_at findings index).verdict ≡ Empty
+    → IsTally cycles shown counts findings → index < length counts → index < length findings → (counting ≡ true → sum (others_at counts index) < cycles)
     → ((k : ℕ) → has_bit shown' k ≡ (nat_eq k index || has_bit shown k))
     → length new ≡ 10 → drop 1 new ≡ (if counting then risen_at (column finding.verdict) (others_at counts index) else others_at counts index)
-    → IsTally cycles counting shown' (set counts index new) (set findings index finding)
-noted_tally cycles counting shown shown' counts findings index finding new sound lc lf fresh members ten others = record {
+    → IsTally cycles shown' (set counts index new) (set findings index finding)
+noted_tally cycles counting shown shown' counts findings index finding new sound lc lf room members ten others = record {
   fits = sound.fits;
   ten = λ i l. ten_at i (omega (arith, length-set counts index new)) (cases_eq i index);
   sums = λ i l. sums_at i (omega (arith, length-set counts index new)) (cases_eq i index);
-  room = λ i l e t. room_at i (omega (arith, length-set counts index new)) (cases_eq i index) e t;
   within = λ i t. omega (arith, length-set findings index finding, within_at i (either (nat_eq i index) (has_bit shown i) (sym (members i) ∙ t)));
   plain = λ i l e. plain_at i (omega (arith, length-set findings index finding)) (neither (nat_eq i index) (has_bit shown i) (sym (members i) ∙ e)) (cases_eq i index);
 }
@@ -100,7 +98,7 @@ noted_tally cycles counting shown shown' counts findings index finding new sound
         let h : drop 1 new ≡ risen_at (column finding.verdict) (others_at counts index) = others ∙ ap (λ b. if b then risen_at (column finding.verdict) (others_at counts index) else others_at counts index) t in
         let r : sum (drop 1 new) ≡ sum (risen_at (column finding.verdict) (others_at counts index)) = ap sum h in
         let s : sum (risen_at (column finding.verdict) (others_at counts index)) ≤ sum (others_at counts index) + 1 = sum-risen (column finding.verdict) (others_at counts index) in
-        let m : sum (others_at counts index) < cycles = sound.room index lc fresh t in
+        let m : sum (others_at counts index) < cycles = room t in
         omega arith
     sum_new false t =
         let h : drop 1 new ≡ others_at counts index = others ∙ ap (λ b. if b then risen_at (column finding.verdict) (others_at counts index) else others_at counts index) t in
@@ -112,28 +110,6 @@ noted_tally cycles counting shown shown' counts findings index finding new sound
     sums_at i l (inl same) = let r : sum (others_at (set counts index new) i) ≡ sum (drop 1 new) = ap (λ xs. sum (drop 1 xs)) (here i same) in let s : sum (drop 1 new) ≤ cycles = sum_new counting refl in omega arith
     sums_at i l (inr other) = let r : sum (others_at (set counts index new) i) ≡ sum (others_at counts i) = ap (λ xs. sum (drop 1 xs)) (there i other) in let s : sum (others_at counts i) ≤ cycles = sound.sums i l in omega arith
 
-    -- where Empty is noted, nothing has grown
-    kept : finding.verdict ≡ Empty → counting ≡ true → sum (drop 1 new) < cycles
-    kept e t =
-        let h : drop 1 new ≡ others_at counts index =
-        others ∙ ap (λ b. if b then risen_at (column finding.verdict) (others_at counts index) else others_at counts index) t ∙ ap (λ v. risen_at (column v) (others_at counts index)) e in
-        let r : sum (drop 1 new) ≡ sum (others_at counts index) = ap sum h in
-        let m : sum (others_at counts index) < cycles = sound.room index lc fresh t in
-        omega arith
-
-    room_at : (i : ℕ) → i < length counts → (i ≡ index) ⊎ (i ≡ index → ⊥) → (finding_at (set findings index finding) i).verdict ≡ Empty → counting ≡ true → sum (others_at (set counts index new) i) < cycles
-    room_at i l (inl same) e t =
-        let f : finding_at (set findings index finding) i ≡ finding = ap (λ k. finding_at (set findings index finding) k) same ∙ get_or-set_same findings index finding empty_finding lf in
-        let v : finding.verdict ≡ Empty = ap (λ (one : Finding). one.verdict) (sym f) ∙ e in
-        let r : sum (others_at (set counts index new) i) ≡ sum (drop 1 new) = ap (λ xs. sum (drop 1 xs)) (here i same) in
-        let s : sum (drop 1 new) < cycles = kept v t in
-        omega arith
-    room_at i l (inr other) e t =
-        let f : finding_at (set findings index finding) i ≡ finding_at findings i = get_or-set_other findings index i finding empty_finding other in
-        let r : sum (others_at (set counts index new) i) ≡ sum (others_at counts i) = ap (λ xs. sum (drop 1 xs)) (there i other) in
-        let s : sum (others_at counts i) < cycles = sound.room i l (ap (λ (one : Finding). one.verdict) (sym f) ∙ e) t in
-        omega arith
-
     within_at : (i : ℕ) → (nat_eq i index ≡ true) ⊎ (has_bit shown i ≡ true) → i < length findings
     within_at i (inl t) = let e : i ≡ index = eqb-true i index t in omega arith
     within_at i (inr t) = sound.within i t
@@ -143,15 +119,14 @@ noted_tally cycles counting shown shown' counts findings index finding new sound
     plain_at i l e (inr other) = get_or-set_other findings index i finding empty_finding other ∙ sound.plain i l e.1
 
 -- ---- nothing is found of one channel any more
-pub forgotten_tally : (cycles : ℕ) (counting : Bool) (shown shown' : ℕ) (counts : List (List ℕ)) (findings : List Finding) (index : ℕ) (none : Finding)
-    → none ≡ empty_finding → counting ≡ false → IsTally cycles counting shown counts findings → index < length findings
+pub forgotten_tally : (cycles shown shown' : ℕ) (counts : List (List ℕ)) (findings : List Finding) (index : ℕ) (none : Finding)
+    → none ≡ empty_finding → IsTally cycles shown counts findings → index < length findings
     → ((k : ℕ) → has_bit shown' k ≡ (not (nat_eq k index) && has_bit shown k))
-    → IsTally cycles counting shown' counts (set findings index none)
-forgotten_tally cycles counting shown shown' counts findings index none is off sound lf members = record {
+    → IsTally cycles shown' counts (set findings index none)
+forgotten_tally cycles shown shown' counts findings index none is sound lf members = record {
   fits = sound.fits;
   ten = sound.ten;
   sums = sound.sums;
-  room = λ i l e t. absurd (false≢true (sym off ∙ t));
   within = λ i t. omega (arith, length-set findings index none, sound.within i (second (not (nat_eq i index)) (has_bit shown i) (sym (members i) ∙ t)));
   plain = λ i l e. plain_at i (omega (arith, length-set findings index none)) (sym (members i) ∙ e) (cases_eq i index);
 }
@@ -172,29 +147,45 @@ both_is set k e = at (has_bit set k) e
     at true h = h
     at false h = h
 
--- nothing is shown, so nothing is found
-pub all_plain : (cycles : ℕ) (counting : Bool) (shown : ℕ) (counts : List (List ℕ)) (findings : List Finding) → IsTally cycles counting shown counts findings → ((k : ℕ) → has_bit shown k ≡ false) → (k : ℕ) → finding_at findings k ≡ empty_finding
-all_plain cycles counting shown counts findings sound none k = at (cases_lt k (length findings))
+-- of a channel that is not shown nothing is found
+pub plain-at : (cycles shown : ℕ) (counts : List (List ℕ)) (findings : List Finding) → IsTally cycles shown counts findings → (k : ℕ) → has_bit shown k ≡ false → finding_at findings k ≡ empty_finding
+plain-at cycles shown counts findings sound k none = at (cases_lt k (length findings))
   where
     at : (k < length findings) ⊎ (length findings ≤ k) → finding_at findings k ≡ empty_finding
-    at (inl l) = sound.plain k l (none k)
+    at (inl l) = sound.plain k l none
     at (inr u) = get_or_past findings k empty_finding u
 
-pub none_shown : (cycles : ℕ) (counting : Bool) (shown : ℕ) (counts : List (List ℕ)) (findings : List Finding) → IsTally cycles counting shown counts findings → ((k : ℕ) → k < length findings → has_bit shown k ≡ false) → (k : ℕ) → has_bit shown k ≡ false
-none_shown cycles counting shown counts findings sound none k = at (has_bit shown k) refl
+-- the channels that are shown but not kept
+abbrev pub AreGone : ℕ → ℕ → ℕ → Type 0
+AreGone kept shown gone = (k : ℕ) → has_bit gone k ≡ (not (has_bit kept k) && has_bit shown k)
+
+pub gone-shown : (kept shown gone k : ℕ) → AreGone kept shown gone → has_bit gone k ≡ true → has_bit shown k ≡ true
+gone-shown kept shown gone k are e = second (not (has_bit kept k)) (has_bit shown k) (sym (are k) ∙ e)
   where
-    at : (b : Bool) → has_bit shown k ≡ b → has_bit shown k ≡ false
-    at false e = e
-    at true e = none k (sound.within k e)
+    second : (a b : Bool) → (a && b) ≡ true → b ≡ true
+    second true b h = h
+    second false b h = absurd (false≢true h)
+
+pub gone-less : (kept shown gone shown' gone' index : ℕ) → AreGone kept shown gone → ((k : ℕ) → has_bit gone' k ≡ (not (nat_eq k index) && has_bit gone k))
+    → ((k : ℕ) → has_bit shown' k ≡ (not (nat_eq k index) && has_bit shown k)) → AreGone kept shown' gone'
+gone-less kept shown gone shown' gone' index are less lessened = λ k.
+    less k ∙ ap (λ b. not (nat_eq k index) && b) (are k) ∙ turn (not (nat_eq k index)) (not (has_bit kept k)) (has_bit shown k) ∙ sym (ap (λ b. not (has_bit kept k) && b) (lessened k))
+  where
+    turn : (a b c : Bool) → (a && (b && c)) ≡ (b && (a && c))
+    turn true b c = refl
+    turn false true c = refl
+    turn false false c = refl
+
+pub none-gone : (kept shown gone k : ℕ) → AreGone kept shown gone → has_bit gone k ≡ false → has_bit kept k ≡ false → has_bit shown k ≡ false
+none-gone kept shown gone k are none off = sym (ap (λ b. not b && has_bit shown k) off) ∙ sym (are k) ∙ none
 
 -- ---- a cycle begins
-pub begun_tally : (cycles cycles' : ℕ) (counting counting' : Bool) (shown : ℕ) (counts : List (List ℕ)) (findings : List Finding)
-    → IsTally cycles counting shown counts findings → counting' ≡ nat_lt cycles (2 ^ 64 - 1) → cycles' ≡ raised cycles → IsTally cycles' counting' shown counts findings
-begun_tally cycles cycles' counting counting' shown counts findings sound c r = record {
+pub begun_tally : (cycles cycles' shown : ℕ) (counts : List (List ℕ)) (findings : List Finding)
+    → IsTally cycles shown counts findings → cycles' ≡ raised cycles → IsTally cycles' shown counts findings
+begun_tally cycles cycles' shown counts findings sound r = record {
   fits = omega arith;
   ten = sound.ten;
   sums = λ i l. let h : sum (others_at counts i) ≤ cycles = sound.sums i l in let f : cycles < 2 ^ 64 = sound.fits in let m : cycles ≤ cycles' = omega arith in omega arith;
-  room = λ i l e t. let h : sum (others_at counts i) ≤ cycles = sound.sums i l in let lt : cycles < 2 ^ 64 - 1 = ltb-true cycles (2 ^ 64 - 1) (sym c ∙ t) in let f : cycles < 2 ^ 64 = sound.fits in let m : cycles' ≡ cycles + 1 = omega arith in omega arith;
   within = sound.within;
   plain = sound.plain;
 }
@@ -240,11 +231,11 @@ pub record IsCounting (cycles0 : ℕ) (counts0 : List (List ℕ)) (found : List 
   pub counting_is : counting ≡ nat_lt cycles0 (2 ^ 64 - 1)
   pub size : length counts ≡ length counts0
   pub below : (k : ℕ) → has_bit rest k ≡ true → k < length counts0
-  pub each_finding : (k : ℕ) → k < length counts0 → finding_at findings k ≡ (if has_bit rest k then empty_finding else finding_at found k)
+  pub each_finding : (k : ℕ) → k < length counts0 → has_bit rest k ≡ false → finding_at findings k ≡ finding_at found k
   pub each_count : (k : ℕ) → k < length counts0 → others_at counts k ≡ (if has_bit rest k || not counting then others_at counts0 k else risen_at (column (finding_at found k).verdict) (others_at counts0 k))
 
 pub counting-first : (cycles0 : ℕ) (counts0 : List (List ℕ)) (found : List Finding) (channels cycles : ℕ) (counting : Bool) (counts : List (List ℕ)) (findings : List Finding)
-    → cycles ≡ raised cycles0 → counting ≡ nat_lt cycles0 (2 ^ 64 - 1) → counts ≡ counts0 → ((k : ℕ) → finding_at findings k ≡ empty_finding)
+    → cycles ≡ raised cycles0 → counting ≡ nat_lt cycles0 (2 ^ 64 - 1) → counts ≡ counts0 → ((k : ℕ) → has_bit channels k ≡ false → finding_at findings k ≡ empty_finding)
     → ((k : ℕ) → has_bit channels k ≡ true → k < length counts0)
     → ((k : ℕ) → k < length counts0 → has_bit channels k ≡ false → finding_at found k ≡ empty_finding)
     → IsCounting cycles0 counts0 found channels cycles counting counts findings
@@ -253,23 +244,27 @@ counting-first cycles0 counts0 found channels cycles counting counts findings y 
   counting_is = c;
   size = ap length same;
   below = below;
-  each_finding = λ k l. none k ∙ finding k (has_bit channels k) (λ e. empty k l e);
+  each_finding = λ k l e. none k e ∙ sym (empty k l e);
   each_count = λ k l. ap (λ xs. others_at xs k) same ∙ count k (has_bit channels k) counting (λ e. empty k l e);
 }
   where
-    finding : (k : ℕ) (b : Bool) → (b ≡ false → finding_at found k ≡ empty_finding) → empty_finding ≡ (if b then empty_finding else finding_at found k)
-    finding k true h = refl
-    finding k false h = sym (h refl)
-
     count : (k : ℕ) (b on : Bool) → (b ≡ false → finding_at found k ≡ empty_finding) → others_at counts0 k ≡ (if b || not on then others_at counts0 k else risen_at (column (finding_at found k).verdict) (others_at counts0 k))
     count k true on h = refl
     count k false true h = sym (ap (λ (one : Finding). risen_at (column one.verdict) (others_at counts0 k)) (h refl))
     count k false false h = refl
 
-pub counting-fresh : (cycles0 : ℕ) (counts0 : List (List ℕ)) (found : List Finding) (rest cycles : ℕ) (counting : Bool) (counts : List (List ℕ)) (findings : List Finding) (index : ℕ)
-    → IsCounting cycles0 counts0 found rest cycles counting counts findings → has_bit rest index ≡ true → (finding_at findings index).verdict ≡ Empty
-counting-fresh cycles0 counts0 found rest cycles counting counts findings index so_far member =
-    ap (λ (one : Finding). one.verdict) (so_far.each_finding index (so_far.below index member) ∙ ap (λ b. if b then empty_finding else finding_at found index) member)
+-- a channel that is left has room for one more
+pub counting-room : (cycles0 shown0 : ℕ) (counts0 : List (List ℕ)) (findings0 found : List Finding) (rest cycles : ℕ) (counting : Bool) (counts : List (List ℕ)) (findings : List Finding) (index : ℕ)
+    → IsTally cycles0 shown0 counts0 findings0 → IsCounting cycles0 counts0 found rest cycles counting counts findings → has_bit rest index ≡ true → counting ≡ true → sum (others_at counts index) < cycles
+counting-room cycles0 shown0 counts0 findings0 found rest cycles counting counts findings index sound so_far member on =
+    let l : index < length counts0 = so_far.below index member in
+    let before : others_at counts index ≡ others_at counts0 index =
+    so_far.each_count index l ∙ ap (λ b. if b || not counting then others_at counts0 index else risen_at (column (finding_at found index).verdict) (others_at counts0 index)) member in
+    let same : sum (others_at counts index) ≡ sum (others_at counts0 index) = ap sum before in
+    let most : sum (others_at counts0 index) ≤ cycles0 = sound.sums index l in
+    let lt : cycles0 < 2 ^ 64 - 1 = ltb-true cycles0 (2 ^ 64 - 1) (sym so_far.counting_is ∙ on) in
+    let more : cycles ≡ raised cycles0 = so_far.cycles_is in
+    omega arith
 
 pub counting-more : (cycles0 : ℕ) (counts0 : List (List ℕ)) (found : List Finding) (rest cycles : ℕ) (counting : Bool) (counts : List (List ℕ)) (findings : List Finding)
     (index rest' cycles' : ℕ) (counting' : Bool) (counts' : List (List ℕ)) (findings' : List Finding) (finding : Finding)
@@ -284,7 +279,7 @@ counting-more cycles0 counts0 found rest cycles counting counts findings index r
   counting_is = c ∙ so_far.counting_is;
   size = same ∙ so_far.size;
   below = λ k t. so_far.below k (second (not (nat_eq k index)) (has_bit rest k) (sym (members k) ∙ t));
-  each_finding = λ k l. finding_of k l (cases_eq k index);
+  each_finding = λ k l e. finding_of k l e (cases_eq k index);
   each_count = λ k l. count_of k l (cases_eq k index);
 }
   where
@@ -301,13 +296,11 @@ counting-more cycles0 counts0 found rest cycles counting counts findings index r
     inside : index < length counts0
     inside = so_far.below index member
 
-    finding_of : (k : ℕ) → k < length counts0 → (k ≡ index) ⊎ (k ≡ index → ⊥) → finding_at findings' k ≡ (if has_bit rest' k then empty_finding else finding_at found k)
-    finding_of k l (inl e) =
+    finding_of : (k : ℕ) → k < length counts0 → has_bit rest' k ≡ false → (k ≡ index) ⊎ (k ≡ index → ⊥) → finding_at findings' k ≡ finding_at found k
+    finding_of k l off (inl e) =
         ap (λ xs. finding_at xs k) fs ∙ ap (λ j. finding_at (set findings index finding) j) e ∙ get_or-set_same findings index finding empty_finding (omega (arith, inside)) ∙ is
-        ∙ ap (λ j. finding_at found j) (sym e) ∙ ap (λ b. if b then empty_finding else finding_at found k) (sym (gone k e))
-    finding_of k l (inr other) =
-        ap (λ xs. finding_at xs k) fs ∙ get_or-set_other findings index k finding empty_finding other ∙ so_far.each_finding k l
-        ∙ ap (λ b. if b then empty_finding else finding_at found k) (sym (left k other))
+        ∙ ap (λ j. finding_at found j) (sym e)
+    finding_of k l off (inr other) = ap (λ xs. finding_at xs k) fs ∙ get_or-set_other findings index k finding empty_finding other ∙ so_far.each_finding k l (sym (left k other) ∙ off)
 
     before : others_at counts index ≡ others_at counts0 index
     before = so_far.each_count index inside ∙ ap (λ b. if b || not counting then others_at counts0 index else risen_at (column (finding_at found index).verdict) (others_at counts0 index)) member
@@ -334,16 +327,16 @@ counting-more cycles0 counts0 found rest cycles counting counts findings index r
 pub counting-findings : (cycles0 : ℕ) (counts0 : List (List ℕ)) (found : List Finding) (rest cycles : ℕ) (counting : Bool) (counts : List (List ℕ)) (findings : List Finding)
     → IsCounting cycles0 counts0 found rest cycles counting counts findings → ((k : ℕ) → has_bit rest k ≡ false) → length findings ≡ length counts0 → length found ≡ length counts0 → findings ≡ found
 counting-findings cycles0 counts0 found rest cycles counting counts findings so_far none lf ld =
-    ext_get_or empty_finding findings found (lf ∙ sym ld) (λ k l. so_far.each_finding k (omega arith) ∙ ap (λ b. if b then empty_finding else finding_at found k) (none k))
+    ext_get_or empty_finding findings found (lf ∙ sym ld) (λ k l. so_far.each_finding k (omega arith) (none k))
 
 pub verdict-at : (d : Decisions) (i : ℕ) → i < length d.findings → decided_verdict d i ≡ (finding_at d.findings i).verdict
 verdict-at d i l = get_or-map (λ (finding : Finding). finding.verdict) d.findings i empty_finding Empty l
 
-pub counting-counts : (cycles0 : ℕ) (counting0 : Bool) (shown0 : ℕ) (counts0 : List (List ℕ)) (findings0 : List Finding) (d : Decisions) (rest cycles : ℕ) (counting : Bool) (counts : List (List ℕ)) (findings : List Finding)
-    → IsTally cycles0 counting0 shown0 counts0 findings0
+pub counting-counts : (cycles0 shown0 : ℕ) (counts0 : List (List ℕ)) (findings0 : List Finding) (d : Decisions) (rest cycles : ℕ) (counting : Bool) (counts : List (List ℕ)) (findings : List Finding)
+    → IsTally cycles0 shown0 counts0 findings0
     → IsCounting cycles0 counts0 d.findings rest cycles counting counts findings → ((k : ℕ) → has_bit rest k ≡ false) → length d.findings ≡ length counts0
     → map (counts_in cycles) counts ≡ map_indexed (λ i xs. counted (decided_verdict d i) xs) (map (counts_in cycles0) counts0)
-counting-counts cycles0 counting0 shown0 counts0 findings0 d rest cycles counting counts findings sound so_far none ld =
+counting-counts cycles0 shown0 counts0 findings0 d rest cycles counting counts findings sound so_far none ld =
     map_indexed-from_each (λ i xs. counted (decided_verdict d i) xs) (map (counts_in cycles0) counts0) (map (counts_in cycles) counts) [] []
     (length-map counts (counts_in cycles) ∙ so_far.size ∙ sym (length-map counts0 (counts_in cycles0)))
     (λ i l. each i (omega (arith, length-map counts0 (counts_in cycles0))))

@@ -1,5 +1,5 @@
 -- The requests of one router's input channels, and what is decided on them.
-use Rattle.std.specs.Prelude.{ℕ, ◌*◌, Bool, List, Option, None, length, replicate, if◌then◌else◌}
+use Rattle.std.specs.Prelude.{ℕ, ◌*◌, List, Option, None, replicate}
 use Rattle.noc_topo.specs.Words.{tabulate}
 use Rattle.noc_alloc.specs.Allocation.{grant_of, pick_of, winner_of}
 use Rattle.noc_router.specs.Verdict.{Turns, Round, pointers_of}
@@ -10,16 +10,12 @@ use Rattle.noc_router.specs.declared.requests.Requests.{Requests}
 abbrev pub turns_in : Arbiters → Turns
 turns_in a = record { channels = a.channels.items; inputs = a.inputs.items; outputs = a.outputs.items }
 
--- the answers of arbiters that were asked, or else nobody
-abbrev pub answers : Bool → List (Option ℕ) → List (Option ℕ)
-answers asked list = if asked then list else replicate (length list) None
-
 -- what the arbiters have decided
 abbrev pub round_in : Requests → Round
 round_in r = record {
-  grants = answers r.granted r.grants.items;
-  picks = answers r.switched r.picks.items;
-  wins = answers r.switched r.wins.items;
+  grants = r.grants;
+  picks = r.picks;
+  wins = r.wins;
 }
 
 -- a round that nobody has asked for, with so many ports and output channels

@@ -1,5 +1,5 @@
 -- Lists of requests and winners.
-use Rattle.std.specs.Prelude.{◌≡◌, ℕ, ◌<◌, Bool, false, List, Option, None, slice_index_or, if◌then◌else◌}
+use Rattle.std.specs.Prelude.{◌≡◌, ℕ, ◌<◌, false, List, Option, None, slice_index_or, ◌||◌, is_some, if◌then◌else◌}
 use Rattle.std.specs.List.{All}
 use Rattle.std.specs.Option.{ForSome}
 use Rattle.noc_packet.specs.Set.{has_bit}
@@ -12,9 +12,9 @@ AllBelow n xs = All (λ one. ForSome one (λ k. k < n)) xs
 abbrev pub AreQuiet : {X : Type 0} → ℕ → X → List X → Type 0
 AreQuiet set quiet xs = (k : ℕ) → has_bit set k ≡ false → slice_index_or xs k quiet ≡ quiet
 
--- nobody is named in the list where the flag is down
-abbrev pub AreSilent : Bool → List (Option ℕ) → Type 0
-AreSilent flag xs = (k : ℕ) → flag ≡ false → slice_index_or xs k None ≡ None
+-- the set has just the channels that ask for an output channel or are ready for a port
+abbrev pub AreContending : ℕ → List (Option ℕ) → List (Option ℕ) → Type 0
+AreContending set asks ready = (k : ℕ) → has_bit set k ≡ (is_some (slice_index_or asks k None) || is_some (slice_index_or ready k None))
 
 -- each entry of the list is that of the function, but those of the members of the set are not there yet
 abbrev pub IsFilled : {X : Type 0} → ℕ → ℕ → X → (ℕ → X) → List X → Type 0

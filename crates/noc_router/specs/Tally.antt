@@ -1,5 +1,5 @@
 -- What a router counts of its input channels.
-use Rattle.std.specs.Prelude.{◌≡◌, ℕ, zero, suc, ◌+◌, ◌^◌, ◌<◌, ◌≤◌, Bool, true, false, List, [], drop, sum, length, None, slice_index, slice_index_or, slice_set}
+use Rattle.std.specs.Prelude.{◌≡◌, ℕ, zero, suc, ◌+◌, ◌^◌, ◌<◌, ◌≤◌, true, false, List, [], drop, sum, length, None, slice_index, slice_index_or, slice_set}
 use Rattle.noc_packet.specs.Set.{has_bit}
 use Rattle.noc_router.specs.declared.verdict.Verdict.TheVariants.{Empty}
 use Rattle.noc_router.specs.declared.verdict.Finding.{Finding}
@@ -22,11 +22,9 @@ risen_at zero others = others
 risen_at (suc k) others = slice_set others k (slice_index others k + 1)
 
 -- no channel had its verdicts in more cycles than there were
-pub record IsTally (cycles : ℕ) (counting : Bool) (shown : ℕ) (counts : List (List ℕ)) (findings : List Finding) : Type 0 where
+pub record IsTally (cycles : ℕ) (shown : ℕ) (counts : List (List ℕ)) (findings : List Finding) : Type 0 where
   pub fits : cycles < 2 ^ 64
   pub ten : (i : ℕ) → i < length counts → length (slice_index_or counts i []) ≡ 10
   pub sums : (i : ℕ) → i < length counts → sum (others_at counts i) ≤ cycles
-  -- a channel with nothing but Empty in a cycle that counts has room for one more
-  pub room : (i : ℕ) → i < length counts → (finding_at findings i).verdict ≡ Empty → counting ≡ true → sum (others_at counts i) < cycles
   pub within : (i : ℕ) → has_bit shown i ≡ true → i < length findings
   pub plain : (i : ℕ) → i < length findings → has_bit shown i ≡ false → finding_at findings i ≡ empty_finding

@@ -300,7 +300,7 @@ fn is_idle(output: &OutputChannel) -> bool
 }
 
 // A set with this index or without it, as is said.
-fn marked(set: ChannelSet, index: usize, is_member: bool) -> ChannelSet
+pub(crate) fn marked(set: ChannelSet, index: usize, is_member: bool) -> ChannelSet
     requires { index < 56 }
     ensures here { has_bit result index ≡ is_member }
     ensures others { (k : ℕ) → k ≢ index → has_bit result k ≡ has_bit set k }

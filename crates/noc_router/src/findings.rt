@@ -3,9 +3,10 @@
 ghost use Rattle.std.specs.Prelude.{◌≡◌, ◌<◌, ◌≤◌, true, IfOk, replicate, slice_set, vec_len, slice_index_or};
 ghost use Rattle.noc_packet.specs.Set.{has_bit};
 ghost use Rattle.noc_router.specs.Members.{AreBelow};
-ghost use Rattle.noc_router.specs.Found.{AreUnnoted, empty_finding};
+ghost use Rattle.noc_router.specs.Found.{AreEvents, AreUnnoted, empty_finding};
 
-use crate::verdict::Finding;
+use crate::channels::marked;
+use crate::verdict::{Finding, Verdict, is_event};
 use noc_packet::{ChannelSet, Memory};
 use std::alloc::Global;
 
@@ -14,9 +15,12 @@ use std::alloc::Global;
 pub(crate) struct Findings {
     // The input channels of which something may be found.
     noted: ChannelSet,
+    // The input channels whose verdict takes effect.
+    events: ChannelSet,
     list: Vec<Finding>,
     ghost few: { vec_len list ≤ 56 },
     ghost noted_below: { AreBelow (vec_len list) noted },
+    ghost are_events: { AreEvents events list.items },
     ghost others_empty: { AreUnnoted noted list.items },
 }
 
@@ -28,6 +32,7 @@ impl Findings {
     {
         Ok(Findings {
             noted: ChannelSet::empty(),
+            events: ChannelSet::empty(),
             list: vec![in alloc; Finding::empty(); size]?,
         })
     }
@@ -49,6 +54,7 @@ impl Findings {
     {
         self.list[index] = Finding::empty();
         self.noted = self.noted.without(index);
+        self.events = self.events.without(index);
     }
 
     // What is found of an input channel.
@@ -58,6 +64,24 @@ impl Findings {
     {
         self.list[index] = finding;
         self.noted = self.noted.with(index);
+        self.events = marked(self.events, index, is_event(finding.verdict));
+    }
+
+    // An input channel of which something is found has this verdict.
+    pub(crate) fn amend(&mut self, index: usize, verdict: Verdict)
+        requires { index < vec_len self.old.list }
+        ensures { self.new.list.items ≡ slice_set self.old.list.items index (record (slice_index_or self.old.list.items index empty_finding) { verdict = verdict }) }
+    {
+        self.list[index].verdict = verdict;
+        self.noted = self.noted.with(index);
+        self.events = marked(self.events, index, is_event(verdict));
+    }
+
+    // The input channels whose verdict takes effect.
+    pub(crate) fn events(&self) -> ChannelSet
+        ensures { AreEvents result self.now.list.items }
+    {
+        self.events
     }
 
     // What was found of an input channel.

@@ -5,6 +5,7 @@ mod arbiters;
 mod arrivals;
 mod channels;
 mod findings;
+mod indices;
 mod links;
 mod plan;
 mod requests;

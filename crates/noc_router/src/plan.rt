@@ -4,6 +4,7 @@ ghost use Rattle.std.specs.Prelude.{◌≡◌, ℕ, ◌*◌, ◌<◌, IfOk, leng
 ghost use Rattle.noc_topo.specs.Shape.{ports as ports_of};
 ghost use Rattle.noc_router.specs.Asked.{turns_in};
 ghost use Rattle.noc_router.specs.Decided.{IsDecidedFor, no_decisions};
+ghost use Rattle.noc_router.specs.Found.{AreEvents};
 ghost use Rattle.noc_router.specs.Requests.{AllBelow};
 ghost use Rattle.noc_router.specs.Verdict.{arbiters_after};
 
@@ -11,7 +12,7 @@ use crate::arbiters::Arbiters;
 use crate::findings::Findings;
 use crate::requests::Requests;
 use crate::verdict::Finding;
-use noc_packet::Memory;
+use noc_packet::{ChannelSet, Memory};
 use noc_route::Relation;
 use std::alloc::Global;
 use std::marker::Model;
@@ -60,6 +61,13 @@ impl Plan {
         ensures turns { turns_in arbiters.new ≡ arbiters_after self.now.round (turns_in arbiters.old) }
     {
         self.requests.advance(arbiters);
+    }
+
+    // The input channels whose verdict takes effect.
+    pub(crate) fn events(&self) -> ChannelSet
+        ensures { AreEvents result self.now.findings }
+    {
+        self.findings.events()
     }
 
     // What was found of an input channel.

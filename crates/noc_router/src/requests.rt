@@ -1,13 +1,13 @@
 //! The requests of one router's input channels in one cycle, and what its arbiters decide on them.
 
-ghost use Rattle.std.specs.Prelude.{◌≡◌, ◌*◌, ◌<◌, ◌≤◌, IfOk, IfSome, true, Some, None, ℕ, replicate, slice_index_or, slice_set, vec_len};
+ghost use Rattle.std.specs.Prelude.{◌≡◌, ◌*◌, ◌<◌, ◌≤◌, IfOk, IfSome, true, Some, None, length, replicate, slice_index_or, slice_set, vec_len};
 ghost use Rattle.noc_topo.specs.Words.{is_some_of};
 ghost use Rattle.noc_packet.specs.Set.{has_bit};
 ghost use Rattle.noc_router.specs.Members.{AreBelow};
-ghost use Rattle.noc_router.specs.Requests.{AllBelow, AreQuiet, AreSilent};
+ghost use Rattle.noc_router.specs.Requests.{AllBelow, AreContending, AreQuiet};
 
 use crate::arbiters::Arbiters;
-use noc_alloc::{advance_channels, advance_switch, allocate_channels, allocate_switch};
+use noc_alloc::{Places, advance_channels, advance_switch, allocate_channels, allocate_switch};
 use noc_packet::{ChannelSet, Memory};
 use std::alloc::Global;
 
@@ -16,39 +16,33 @@ use std::alloc::Global;
 pub(crate) struct Requests {
     ports: usize,
     size: usize,
-    // The input channels that may have a request, and whether some may ask for an output channel or be ready to send.
-    busy: ChannelSet,
-    some_ask: bool,
-    some_ready: bool,
-    // Whether the arbiters have decided on each of the two.
-    granted: bool,
-    switched: bool,
-    // By input channel: the set for its head, the output channel that it asks for, the output port that it is ready for.
+    // The input channels whose head may get a set, and by input channel that set.
+    routed: ChannelSet,
     routes: Vec<ChannelSet>,
-    asks: Vec<Option<usize>>,
-    ready: Vec<Option<usize>>,
+    // By input channel the output channel that it asks for, and the output port that it is ready for.
+    asks: Places,
+    ready: Places,
+    // The input channels that do either.
+    contending: ChannelSet,
     // By output channel the input channel, by input port the virtual channel, by output port the input port.
-    grants: Vec<Option<usize>>,
-    picks: Vec<Option<usize>>,
-    wins: Vec<Option<usize>>,
+    grants: Places,
+    picks: Places,
+    wins: Places,
     ghost few_ports: { ports ≤ 7 },
     ghost few: { size ≤ 56 },
     ghost a_route_each: { vec_len routes ≡ size },
-    ghost an_ask_each: { vec_len asks ≡ size },
-    ghost a_port_each: { vec_len ready ≡ size },
-    ghost a_grant_each: { vec_len grants ≡ size },
-    ghost a_pick_each: { vec_len picks ≡ ports },
-    ghost a_win_each: { vec_len wins ≡ ports },
-    ghost busy_below: { AreBelow size busy },
-    ghost quiet_routes: { AreQuiet busy 0 routes.items },
-    ghost quiet_asks: { AreQuiet busy None asks.items },
-    ghost quiet_ready: { AreQuiet busy None ready.items },
-    ghost silent_asks: { AreSilent some_ask asks.items },
-    ghost silent_ready: { AreSilent some_ready ready.items },
-    ghost asks_for_channels: { AllBelow size asks.items },
-    ghost ready_for_ports: { AllBelow ports ready.items },
-    ghost granted_to_channels: { AllBelow size grants.items },
-    ghost won_by_ports: { AllBelow ports wins.items },
+    ghost an_ask_each: { length asks ≡ size },
+    ghost a_port_each: { length ready ≡ size },
+    ghost a_grant_each: { length grants ≡ size },
+    ghost a_pick_each: { length picks ≡ ports },
+    ghost a_win_each: { length wins ≡ ports },
+    ghost routed_below: { AreBelow size routed },
+    ghost quiet_routes: { AreQuiet routed 0 routes.items },
+    ghost contends: { AreContending contending asks ready },
+    ghost asks_for_channels: { AllBelow size asks },
+    ghost ready_for_ports: { AllBelow ports ready },
+    ghost granted_to_channels: { AllBelow size grants },
+    ghost won_by_ports: { AllBelow ports wins },
 }
 
 impl Requests {
@@ -67,17 +61,14 @@ impl Requests {
         Ok(Requests {
             ports,
             size,
-            busy: ChannelSet::empty(),
-            some_ask: false,
-            some_ready: false,
-            granted: false,
-            switched: false,
+            routed: ChannelSet::empty(),
             routes: vec![in alloc; ChannelSet::empty(); size]?,
-            asks: nobody(alloc, size)?,
-            ready: nobody(alloc, size)?,
-            grants: nobody(alloc, size)?,
-            picks: nobody(alloc, ports)?,
-            wins: nobody(alloc, ports)?,
+            asks: Places::new(alloc, size)?,
+            ready: Places::new(alloc, size)?,
+            contending: ChannelSet::empty(),
+            grants: Places::new(alloc, size)?,
+            picks: Places::new(alloc, ports)?,
+            wins: Places::new(alloc, ports)?,
         })
     }
 
@@ -86,27 +77,26 @@ impl Requests {
         ensures ports { self.new.ports ≡ self.old.ports }
         ensures size { self.new.size ≡ self.old.size }
         ensures routes { self.new.routes.items ≡ replicate self.old.size 0 }
-        ensures asks { self.new.asks.items ≡ replicate self.old.size None }
-        ensures ready { self.new.ready.items ≡ replicate self.old.size None }
+        ensures asks { self.new.asks ≡ replicate self.old.size None }
+        ensures ready { self.new.ready ≡ replicate self.old.size None }
     {
-        while let Some(index) = self.busy.least_common(&self.busy) {
+        while let Some(index) = self.routed.least_common(&self.routed) {
             self.forget(index);
         }
-        self.some_ask = false;
-        self.some_ready = false;
+        self.asks.clear();
+        self.ready.clear();
+        self.contending = ChannelSet::empty();
     }
 
-    // An input channel has no request.
+    // The head of an input channel gets no set.
     fn forget(&mut self, index: usize)
         requires { index < self.old.size }
         ensures ports { self.new.ports ≡ self.old.ports }
         ensures size { self.new.size ≡ self.old.size }
-        ensures fewer { has_bit self.old.busy index ≡ true → self.new.busy < self.old.busy }
+        ensures fewer { has_bit self.old.routed index ≡ true → self.new.routed < self.old.routed }
     {
-        self.asks[index] = None;
-        self.ready[index] = None;
         self.routes[index] = ChannelSet::empty();
-        self.busy = self.busy.without(index);
+        self.routed = self.routed.without(index);
     }
 
     // The head of an input channel is to get this set.
@@ -115,10 +105,10 @@ impl Requests {
         ensures ports { self.new.ports ≡ self.old.ports }
         ensures size { self.new.size ≡ self.old.size }
         ensures routes { self.new.routes.items ≡ slice_set self.old.routes.items index set }
-        ensures asks { self.new.asks.items ≡ self.old.asks.items }
-        ensures ready { self.new.ready.items ≡ self.old.ready.items }
+        ensures asks { self.new.asks ≡ self.old.asks }
+        ensures ready { self.new.ready ≡ self.old.ready }
     {
-        self.busy = self.busy.with(index);
+        self.routed = self.routed.with(index);
         self.routes[index] = set;
     }
 
@@ -129,12 +119,11 @@ impl Requests {
         ensures ports { self.new.ports ≡ self.old.ports }
         ensures size { self.new.size ≡ self.old.size }
         ensures routes { self.new.routes.items ≡ self.old.routes.items }
-        ensures asks { self.new.asks.items ≡ slice_set self.old.asks.items index (Some output) }
-        ensures ready { self.new.ready.items ≡ self.old.ready.items }
+        ensures asks { self.new.asks ≡ slice_set self.old.asks index (Some output) }
+        ensures ready { self.new.ready ≡ self.old.ready }
     {
-        self.busy = self.busy.with(index);
-        self.some_ask = true;
-        self.asks[index] = Some(output);
+        self.asks.set(index, Some(output));
+        self.contending = self.contending.with(index);
     }
 
     // An input channel is ready to send by an output port.
@@ -144,12 +133,11 @@ impl Requests {
         ensures ports { self.new.ports ≡ self.old.ports }
         ensures size { self.new.size ≡ self.old.size }
         ensures routes { self.new.routes.items ≡ self.old.routes.items }
-        ensures asks { self.new.asks.items ≡ self.old.asks.items }
-        ensures ready { self.new.ready.items ≡ slice_set self.old.ready.items index (Some port) }
+        ensures asks { self.new.asks ≡ self.old.asks }
+        ensures ready { self.new.ready ≡ slice_set self.old.ready index (Some port) }
     {
-        self.busy = self.busy.with(index);
-        self.some_ready = true;
-        self.ready[index] = Some(port);
+        self.ready.set(index, Some(port));
+        self.contending = self.contending.with(index);
     }
 
     // The arbiters decide on the requests.
@@ -159,8 +147,9 @@ impl Requests {
         ensures ports { self.new.ports ≡ self.old.ports }
         ensures size { self.new.size ≡ self.old.size }
         ensures routes { self.new.routes.items ≡ self.old.routes.items }
-        ensures asks { self.new.asks.items ≡ self.old.asks.items }
-        ensures round { round_in self.new ≡ round_on arbiters.now.ports arbiters.now.vcs self.old.asks.items self.old.ready.items (turns_in arbiters.now) }
+        ensures asks { self.new.asks ≡ self.old.asks }
+        ensures ready { self.new.ready ≡ self.old.ready }
+        ensures round { round_in self.new ≡ round_on arbiters.now.ports arbiters.now.vcs self.old.asks self.old.ready (turns_in arbiters.now) }
         ensures picks { AllBelow arbiters.now.vcs (round_in self.new).picks }
     {
         self.decide_channels(arbiters);
@@ -173,14 +162,11 @@ impl Requests {
         ensures ports { self.new.ports ≡ self.old.ports }
         ensures size { self.new.size ≡ self.old.size }
         ensures routes { self.new.routes.items ≡ self.old.routes.items }
-        ensures asks { self.new.asks.items ≡ self.old.asks.items }
-        ensures ready { self.new.ready.items ≡ self.old.ready.items }
-        ensures granted { (round_in self.new).grants ≡ (round_on arbiters.now.ports arbiters.now.vcs self.old.asks.items self.old.ready.items (turns_in arbiters.now)).grants }
+        ensures asks { self.new.asks ≡ self.old.asks }
+        ensures ready { self.new.ready ≡ self.old.ready }
+        ensures granted { (round_in self.new).grants ≡ (round_on arbiters.now.ports arbiters.now.vcs self.old.asks self.old.ready (turns_in arbiters.now)).grants }
     {
-        self.granted = self.some_ask;
-        if self.some_ask {
-            allocate_channels(&self.asks, &arbiters.channels, &mut self.grants);
-        }
+        allocate_channels(&self.asks, &arbiters.channels, &mut self.grants);
     }
 
     // The arbiters of the switch decide on the requests.
@@ -190,23 +176,26 @@ impl Requests {
         ensures ports { self.new.ports ≡ self.old.ports }
         ensures size { self.new.size ≡ self.old.size }
         ensures routes { self.new.routes.items ≡ self.old.routes.items }
-        ensures asks { self.new.asks.items ≡ self.old.asks.items }
+        ensures asks { self.new.asks ≡ self.old.asks }
+        ensures ready { self.new.ready ≡ self.old.ready }
         ensures grants { (round_in self.new).grants ≡ (round_in self.old).grants }
-        ensures picked { (round_in self.new).picks ≡ (round_on arbiters.now.ports arbiters.now.vcs self.old.asks.items self.old.ready.items (turns_in arbiters.now)).picks }
-        ensures won { (round_in self.new).wins ≡ (round_on arbiters.now.ports arbiters.now.vcs self.old.asks.items self.old.ready.items (turns_in arbiters.now)).wins }
+        ensures picked { (round_in self.new).picks ≡ (round_on arbiters.now.ports arbiters.now.vcs self.old.asks self.old.ready (turns_in arbiters.now)).picks }
+        ensures won { (round_in self.new).wins ≡ (round_on arbiters.now.ports arbiters.now.vcs self.old.asks self.old.ready (turns_in arbiters.now)).wins }
         ensures picks { AllBelow arbiters.now.vcs (round_in self.new).picks }
     {
-        self.switched = self.some_ready;
-        if self.some_ready {
-            allocate_switch(
-                &self.ready,
-                arbiters.vcs,
-                &arbiters.inputs,
-                &arbiters.outputs,
-                &mut self.picks,
-                &mut self.wins,
-            );
+        if self.ready.filled().is_empty() {
+            self.picks.clear();
+            self.wins.clear();
+            return;
         }
+        allocate_switch(
+            &self.ready,
+            arbiters.vcs,
+            &arbiters.inputs,
+            &arbiters.outputs,
+            &mut self.picks,
+            &mut self.wins,
+        );
     }
 
     // The pointers go on past the winners.
@@ -231,9 +220,7 @@ impl Requests {
         ensures inputs { arbiters.new.inputs.items ≡ arbiters.old.inputs.items }
         ensures outputs { arbiters.new.outputs.items ≡ arbiters.old.outputs.items }
     {
-        if self.granted {
-            advance_channels(&self.grants, &mut arbiters.channels);
-        }
+        advance_channels(&self.grants, &mut arbiters.channels);
     }
 
     // The pointers of the ports go on past the winners.
@@ -246,14 +233,20 @@ impl Requests {
         ensures inputs { arbiters.new.inputs.items ≡ (arbiters_after (round_in self.now) (turns_in arbiters.old)).inputs }
         ensures outputs { arbiters.new.outputs.items ≡ (arbiters_after (round_in self.now) (turns_in arbiters.old)).outputs }
     {
-        if self.switched {
-            advance_switch(
-                &self.picks,
-                &self.wins,
-                &mut arbiters.inputs,
-                &mut arbiters.outputs,
-            );
-        }
+        advance_switch(
+            &self.picks,
+            &self.wins,
+            &mut arbiters.inputs,
+            &mut arbiters.outputs,
+        );
+    }
+
+    // The input channels that ask for an output channel or are ready to send.
+    pub(crate) fn contending(&self) -> ChannelSet
+        ensures members { AreContending result self.now.asks self.now.ready }
+        ensures below { AreBelow self.now.size result }
+    {
+        self.contending
     }
 
     // The set for the head of an input channel.
@@ -267,10 +260,10 @@ impl Requests {
     // The output channel that a waiting input channel asks for.
     pub(crate) fn ask(&self, index: usize) -> Option<usize>
         requires { index < self.now.size }
-        ensures value { result ≡ slice_index_or self.now.asks.items index None }
+        ensures value { result ≡ slice_index_or self.now.asks index None }
         ensures within { IfSome result (λ output. output < self.now.size) }
     {
-        self.asks[index]
+        self.asks.get(index)
     }
 
     // Whether an output channel goes to an input channel that asks for it.
@@ -278,7 +271,7 @@ impl Requests {
         requires { output < self.now.size }
         ensures { result ≡ is_some_of (slice_index_or (round_in self.now).grants output None) index }
     {
-        self.granted && self.grants[output] == Some(index)
+        self.grants.get(output) == Some(index)
     }
 
     // Whether an input port picked one of its virtual channels that is ready.
@@ -286,7 +279,7 @@ impl Requests {
         requires { port < self.now.ports }
         ensures { result ≡ is_some_of (slice_index_or (round_in self.now).picks port None) vc }
     {
-        self.switched && self.picks[port] == Some(vc)
+        self.picks.get(port) == Some(vc)
     }
 
     // Whether an output port goes to an input port.
@@ -294,15 +287,6 @@ impl Requests {
         requires { output < self.now.ports }
         ensures { result ≡ is_some_of (slice_index_or (round_in self.now).wins output None) port }
     {
-        self.switched && self.wins[output] == Some(port)
+        self.wins.get(output) == Some(port)
     }
-}
-
-// A list in which nobody is named.
-fn nobody(alloc: Global, count: usize) -> Result<Vec<Option<usize>>, Memory>
-    ensures items { IfOk result (λ list. list.items ≡ replicate count None) }
-    ensures count { IfOk result (λ list. vec_len list ≡ count) }
-    ensures below { IfOk result (λ list. (n : ℕ) → AllBelow n list.items) }
-{
-    Ok(vec![in alloc; None; count]?)
 }

@@ -2,13 +2,13 @@
 
 ghost use Rattle.std.specs.List.{list_all};
 ghost use Rattle.std.specs.List.Sorted.{IsStrictlyIncreasing};
-ghost use Rattle.std.specs.Prelude.{◌≡◌, ◌+◌, ◌*◌, ◌<◌, ◌≤◌, All, IfOk, IfSome, Some, true, ◌⊎◌, length, ℕ, Bool, not, None, replicate, slice_index_or, slice_set, [], false, if◌then◌else◌};
+ghost use Rattle.std.specs.Prelude.{◌≡◌, ◌+◌, ◌*◌, ◌<◌, ◌≤◌, All, IfOk, IfSome, Some, true, ◌⊎◌, length, ℕ, Bool, not, ◌||◌, is_some, option_map, None, replicate, slice_index_or, slice_set, [], false, if◌then◌else◌};
 ghost use Rattle.noc_topo.specs.Shape.{nodes as nodes_of, ports as ports_of, local_port, neighbour as neighbour_of};
 ghost use Rattle.noc_topo.specs.Words.{tabulate};
 ghost use Rattle.noc_vc.specs.Input.{is_empty};
 ghost use Rattle.noc_vc.specs.Output.{has_credit};
 ghost use Rattle.noc_router.specs.Arrivals.{arrival_in};
-ghost use Rattle.noc_router.specs.Asked.{round_in};
+ghost use Rattle.noc_router.specs.Asked.{no_round, round_in};
 ghost use Rattle.noc_router.specs.Decided.{IsDecidedFor};
 ghost use Rattle.noc_router.specs.Found.{empty_finding};
 ghost use Rattle.noc_router.specs.Injection.{next_vc, vacant_vc};
@@ -18,13 +18,14 @@ ghost use Rattle.noc_router.specs.Settled.{IsPlanOf, CanGrant, CanSettle, tallie
 ghost use Rattle.noc_router.specs.Sound.{is_awaiting};
 ghost use Rattle.noc_router.specs.Start.{IsStart};
 ghost use Rattle.noc_router.specs.Tally.{finding_at};
-ghost use Rattle.noc_router.specs.Verdict.{Round, Unrouted, Waits, Holds, ask_of, asks_of, out_of, ready_of, ready_port, verdict_of, arbiters_after};
-ghost use Rattle.noc_router.specs.View.{IsRelationOf, local_channel, size_of, view_buffer, opening_view, with_flit, with_credit, taken, all_taken, injected, planned, committed, beat_to_put, put, idle_beats, local_step, finding_of, route_for, route_of, view_claim, view_output, view_stands, first_flit, view_input, with_arrival};
+ghost use Rattle.noc_router.specs.Verdict.{Waits, Holds, ask_of, asks_of, out_of, ready_of, ready_port, verdict_of, arbiters_after};
+ghost use Rattle.noc_router.specs.View.{IsRelationOf, local_channel, size_of, view_buffer, opening_view, with_flit, with_credit, taken, all_taken, injected, planned, committed, beat_to_put, put, idle_beats, local_step, finding_of, route_for, route_of, view_claim, view_output, view_stands, first_flit, view_input, port_and_vc, with_arrival};
 
 use crate::arbiters::Arbiters;
 use crate::arrivals::Arrivals;
 use crate::channels::Channels;
 use crate::findings::Findings;
+use crate::indices::{place_of, port_of, vc_of};
 use crate::links::Links;
 use crate::plan::Plan;
 use crate::requests::Requests;
@@ -225,63 +226,83 @@ impl Router {
     {
         plan.requests.clear();
         plan.findings.clear();
-        self.request_all(relation, &mut plan.requests);
+        self.request_all(relation, &mut plan.requests, &mut plan.findings);
         plan.requests.decide(&self.arbiters);
-        self.find_all(&plan.requests, &mut plan.findings);
+        self.amend_all(&plan.requests, &mut plan.findings);
     }
 
-    // What every input channel asks for, where nothing is asked for yet.
-    fn request_all(&self, relation: &Relation, requests: &mut Requests)
+    // What every input channel asks for, where nothing is asked for yet, and what is found of it while nobody gets anything.
+    fn request_all(&self, relation: &Relation, requests: &mut Requests, findings: &mut Findings)
         requires relation { IsRelationOf relation.now self.now }
         requires ports { requests.old.ports ≡ ports_of self.now.site.grid }
         requires size { requests.old.size ≡ size_of self.now.site }
         requires no_routes { requests.old.routes.items ≡ replicate (size_of self.now.site) 0 }
-        requires no_asks { requests.old.asks.items ≡ replicate (size_of self.now.site) None }
-        requires no_ready { requests.old.ready.items ≡ replicate (size_of self.now.site) None }
+        requires no_asks { requests.old.asks ≡ replicate (size_of self.now.site) None }
+        requires no_ready { requests.old.ready ≡ replicate (size_of self.now.site) None }
+        requires findings { findings.old.list.items ≡ replicate (size_of self.now.site) empty_finding }
         ensures ports { requests.new.ports ≡ requests.old.ports }
         ensures size { requests.new.size ≡ requests.old.size }
         ensures routes { requests.new.routes.items ≡ tabulate (size_of self.now.site) (route_of relation.now self.now) }
-        ensures asks { requests.new.asks.items ≡ asks_of (view_stands self.now) }
-        ensures ready { requests.new.ready.items ≡ ready_of self.now.site.vcs (view_stands self.now) }
+        ensures asks { requests.new.asks ≡ asks_of (view_stands self.now) }
+        ensures ready { requests.new.ready ≡ ready_of self.now.site.vcs (view_stands self.now) }
+        ensures findings { findings.new.list.items ≡ tabulate (size_of self.now.site) (finding_of (no_round (ports_of self.now.site.grid) (size_of self.now.site)) self.now) }
     {
         let mut rest = self.channels.occupied();
         while let Some(index) = rest.least_common(&rest) {
             rest = rest.without(index);
-            self.request(relation, requests, index);
+            let (verdict, next) = self.request(relation, requests, index);
+            findings.add(index, self.finding(index, verdict, next));
         }
     }
 
-    // What one input channel asks for, where it asks for nothing yet.
-    fn request(&self, relation: &Relation, requests: &mut Requests, index: usize)
+    // What one input channel asks for, where it asks for nothing yet. The answer is its verdict while nobody gets anything,
+    // and the output channel that its packet asks for or owns.
+    fn request(
+        &self,
+        relation: &Relation,
+        requests: &mut Requests,
+        index: usize,
+    ) -> (Verdict, Option<usize>)
         requires relation { IsRelationOf relation.now self.now }
         requires ports { requests.old.ports ≡ ports_of self.now.site.grid }
         requires size { requests.old.size ≡ size_of self.now.site }
         requires index { index < size_of self.now.site }
         requires no_route { slice_index_or requests.old.routes.items index 0 ≡ 0 }
-        requires no_ask { slice_index_or requests.old.asks.items index None ≡ None }
-        requires not_ready { slice_index_or requests.old.ready.items index None ≡ None }
+        requires no_ask { slice_index_or requests.old.asks index None ≡ None }
+        requires not_ready { slice_index_or requests.old.ready index None ≡ None }
         ensures ports { requests.new.ports ≡ requests.old.ports }
         ensures size { requests.new.size ≡ requests.old.size }
         ensures route { requests.new.routes.items ≡ slice_set requests.old.routes.items index (route_of relation.now self.now index) }
-        ensures ask { requests.new.asks.items ≡ slice_set requests.old.asks.items index (ask_of (view_claim self.now index)) }
-        ensures ready { requests.new.ready.items ≡ slice_set requests.old.ready.items index (ready_port self.now.site.vcs (view_claim self.now index) (not (is_empty (view_buffer self.now index)))) }
+        ensures ask { requests.new.asks ≡ slice_set requests.old.asks index (ask_of (view_claim self.now index)) }
+        ensures ready { requests.new.ready ≡ slice_set requests.old.ready index (ready_port self.now.site.vcs (view_claim self.now index) (not (is_empty (view_buffer self.now index)))) }
+        ensures verdict { result.0 ≡ verdict_of self.now.site.vcs (no_round (ports_of self.now.site.grid) (size_of self.now.site)) index (view_claim self.now index) (not (is_empty (view_buffer self.now index))) }
+        ensures out { result.1 ≡ out_of (view_claim self.now index) }
     {
         let front = self.channels.front(index);
         match self.channels.state(index) {
             InputState::Idle => {
-                if let Some(flit) = front {
-                    requests.add_route(index, self.set_for(relation, index, &flit));
-                }
+                let Some(flit) = front else {
+                    return (Verdict::Empty, None);
+                };
+                requests.add_route(index, self.set_for(relation, index, &flit));
+                (Verdict::Routed, None)
             }
             InputState::Waiting(set) => {
-                if let Some(next) = self.channels.least_idle(set) {
-                    requests.add_ask(index, next);
-                }
+                let Some(next) = self.channels.least_idle(set) else {
+                    return (Verdict::NoIdleChannel, None);
+                };
+                requests.add_ask(index, next);
+                (Verdict::LostChannel, Some(next))
             }
             InputState::Active(next) => {
-                if front.is_some() && self.channels.has_credit(next) {
-                    requests.add_ready(index, next / self.vcs);
+                if front.is_none() {
+                    return (Verdict::NoFlit, Some(next));
                 }
+                if !self.channels.has_credit(next) {
+                    return (Verdict::NoCredit, Some(next));
+                }
+                requests.add_ready(index, port_of(next, self.vcs));
+                (Verdict::LostInput, Some(next))
             }
         }
     }
@@ -298,8 +319,8 @@ impl Router {
             relation.permitted(
                 class,
                 self.node,
-                index / self.vcs,
-                index % self.vcs,
+                port_of(index, self.vcs),
+                vc_of(index, self.vcs),
                 destination,
             )
         } else {
@@ -307,99 +328,75 @@ impl Router {
         }
     }
 
-    // What is found of every input channel, where nothing is found yet.
-    fn find_all(&self, requests: &Requests, findings: &mut Findings)
-        requires ports { requests.now.ports ≡ ports_of self.now.site.grid }
-        requires size { requests.now.size ≡ size_of self.now.site }
-        requires asks { requests.now.asks.items ≡ asks_of (view_stands self.now) }
-        requires findings { findings.old.list.items ≡ replicate (size_of self.now.site) empty_finding }
-        ensures { findings.new.list.items ≡ tabulate (size_of self.now.site) (finding_of (round_in requests.now) self.now) }
+    // What is found of one input channel with this verdict, whose packet asks for or owns this output channel.
+    fn finding(&self, index: usize, verdict: Verdict, next: Option<usize>) -> Finding
+        requires { index < size_of self.now.site }
+        ensures { result ≡ record { verdict = verdict; packet = (view_input self.now index).packet; out = option_map (port_and_vc self.now.site) next } }
     {
-        let mut rest = self.channels.occupied();
-        while let Some(index) = rest.least_common(&rest) {
-            rest = rest.without(index);
-            findings.add(index, self.finding(requests, index));
-        }
-    }
-
-    // What is found of one input channel.
-    fn finding(&self, requests: &Requests, index: usize) -> Finding
-        requires ports { requests.now.ports ≡ ports_of self.now.site.grid }
-        requires size { requests.now.size ≡ size_of self.now.site }
-        requires index { index < size_of self.now.site }
-        requires ask { slice_index_or requests.now.asks.items index None ≡ ask_of (view_claim self.now index) }
-        ensures { result ≡ finding_of (round_in requests.now) self.now index }
-    {
-        let (verdict, next) = self.verdict_on(requests, index);
         Finding {
             verdict,
             packet: self.channels.packet(index),
-            out: next.map(|next| (next / self.vcs, next % self.vcs)),
+            out: next.map(|next| place_of(next, self.vcs)),
         }
     }
 
-    // The verdict on one input channel, and the output channel that its packet asks for or owns.
-    fn verdict_on(&self, requests: &Requests, index: usize) -> (Verdict, Option<usize>)
+    // What is found of every input channel, once the arbiters have decided.
+    fn amend_all(&self, requests: &Requests, findings: &mut Findings)
+        requires ports { requests.now.ports ≡ ports_of self.now.site.grid }
+        requires size { requests.now.size ≡ size_of self.now.site }
+        requires asks { requests.now.asks ≡ asks_of (view_stands self.now) }
+        requires ready { requests.now.ready ≡ ready_of self.now.site.vcs (view_stands self.now) }
+        requires findings { findings.old.list.items ≡ tabulate (size_of self.now.site) (finding_of (no_round (ports_of self.now.site.grid) (size_of self.now.site)) self.now) }
+        ensures { findings.new.list.items ≡ tabulate (size_of self.now.site) (finding_of (round_in requests.now) self.now) }
+    {
+        let mut rest = requests.contending();
+        while let Some(index) = rest.least_common(&rest) {
+            rest = rest.without(index);
+            findings.amend(index, self.verdict_on(requests, index));
+        }
+    }
+
+    // The verdict on one input channel that asks for an output channel or is ready to send.
+    fn verdict_on(&self, requests: &Requests, index: usize) -> Verdict
         requires ports { requests.now.ports ≡ ports_of self.now.site.grid }
         requires size { requests.now.size ≡ size_of self.now.site }
         requires index { index < size_of self.now.site }
-        requires ask { slice_index_or requests.now.asks.items index None ≡ ask_of (view_claim self.now index) }
-        ensures verdict { result.0 ≡ verdict_of self.now.site.vcs (round_in requests.now) index (view_claim self.now index) (not (is_empty (view_buffer self.now index))) }
-        ensures out { result.1 ≡ out_of (view_claim self.now index) }
+        requires ask { slice_index_or requests.now.asks index None ≡ ask_of (view_claim self.now index) }
+        requires contends { is_some (ask_of (view_claim self.now index)) || is_some (ready_port self.now.site.vcs (view_claim self.now index) (not (is_empty (view_buffer self.now index)))) ≡ true }
+        ensures { result ≡ verdict_of self.now.site.vcs (round_in requests.now) index (view_claim self.now index) (not (is_empty (view_buffer self.now index))) }
     {
         match self.channels.state(index) {
-            InputState::Idle => (self.verdict_on_head(index), None),
-            InputState::Waiting(_) => {
-                let ask = requests.ask(index);
-                (self.verdict_on_ask(requests, index, ask), ask)
-            }
-            InputState::Active(next) => (self.verdict_on_flit(requests, index, next), Some(next)),
+            InputState::Idle => Verdict::Empty,
+            InputState::Waiting(_) => self.verdict_on_ask(requests, index),
+            InputState::Active(next) => self.verdict_on_flit(requests, index, next),
         }
     }
 
-    // The verdict on an idle channel.
-    fn verdict_on_head(&self, index: usize) -> Verdict
-        requires { index < size_of self.now.site }
-        ensures { (vcs : ℕ) (round : Round) → result ≡ verdict_of vcs round index Unrouted (not (is_empty (view_buffer self.now index))) }
-    {
-        match self.channels.front(index) {
-            Some(_) => Verdict::Routed,
-            None => Verdict::Empty,
-        }
-    }
-
-    // The verdict on a waiting channel, which asks for this output channel.
-    fn verdict_on_ask(&self, requests: &Requests, index: usize, ask: Option<usize>) -> Verdict
+    // The verdict on a waiting channel, by what it asks for.
+    fn verdict_on_ask(&self, requests: &Requests, index: usize) -> Verdict
         requires size { requests.now.size ≡ size_of self.now.site }
-        requires ask { IfSome ask (λ next. next < size_of self.now.site) }
-        ensures { (vcs : ℕ) (has_flit : Bool) → result ≡ verdict_of vcs (round_in requests.now) index (Waits ask) has_flit }
+        requires index { index < size_of self.now.site }
+        ensures { (vcs : ℕ) (has_flit : Bool) → result ≡ verdict_of vcs (round_in requests.now) index (Waits (slice_index_or requests.now.asks index None)) has_flit }
     {
-        match ask {
+        match requests.ask(index) {
             None => Verdict::NoIdleChannel,
             Some(next) if requests.is_granted(index, next) => Verdict::Granted,
             Some(_) => Verdict::LostChannel,
         }
     }
 
-    // The verdict on a channel that owns this output channel.
+    // The verdict on a channel that is ready to send by this output channel.
     fn verdict_on_flit(&self, requests: &Requests, index: usize, next: usize) -> Verdict
         requires ports { requests.now.ports ≡ ports_of self.now.site.grid }
-        requires size { requests.now.size ≡ size_of self.now.site }
         requires index { index < size_of self.now.site }
         requires next { next < size_of self.now.site }
-        ensures { result ≡ verdict_of self.now.site.vcs (round_in requests.now) index (Holds next (has_credit (view_output self.now next))) (not (is_empty (view_buffer self.now index))) }
+        ensures { result ≡ verdict_of self.now.site.vcs (round_in requests.now) index (Holds next true) true }
     {
-        if self.channels.front(index).is_none() {
-            return Verdict::NoFlit;
-        }
-        if !self.channels.has_credit(next) {
-            return Verdict::NoCredit;
-        }
-        let port = index / self.vcs;
-        if !requests.is_picked(port, index % self.vcs) {
+        let port = port_of(index, self.vcs);
+        if !requests.is_picked(port, vc_of(index, self.vcs)) {
             return Verdict::LostInput;
         }
-        if !requests.is_won(next / self.vcs, port) {
+        if !requests.is_won(port_of(next, self.vcs), port) {
             return Verdict::LostSwitch;
         }
         Verdict::Moved
@@ -455,7 +452,7 @@ impl Router {
         requires beats { self.old.to_put ≡ idle_beats self.old.site }
         ensures { self.new ≡ settled plan.now self.old }
     {
-        let mut rest = self.channels.occupied();
+        let mut rest = plan.events();
         for _ in 0..self.ports * self.vcs {
             let Some(index) = rest.least_common(&rest) else {
                 break;
@@ -522,8 +519,8 @@ impl Router {
             return;
         };
         self.had_event = true;
-        self.put_credit(index / self.vcs, index % self.vcs);
-        self.put_flit(next / self.vcs, next % self.vcs, flit);
+        self.put_credit(port_of(index, self.vcs), vc_of(index, self.vcs));
+        self.put_flit(port_of(next, self.vcs), vc_of(next, self.vcs), flit);
     }
 
     // A credit returns by a port; the local port has none.

@@ -30,7 +30,7 @@ pub(crate) struct Tally {
     counts: Vec<[u64; VERDICTS]>,
     findings: Vec<Finding>,
     ghost one_each: { vec_len counts ≡ vec_len findings },
-    ghost sound: { IsTally cycles counting shown counts.items findings.items },
+    ghost sound: { IsTally cycles shown counts.items findings.items },
 }
 
 impl Tally {
@@ -59,7 +59,7 @@ impl Tally {
         ensures findings { self.new.findings.items ≡ plan.now.findings }
         ensures counts { map (counts_in self.new.cycles) self.new.counts.items ≡ map_indexed (λ i counts. counted (decided_verdict plan.now i) counts) (map (counts_in self.old.cycles) self.old.counts.items) }
     {
-        self.begin();
+        self.begin(channels);
         let mut rest = channels;
         for _ in 0..self.findings.len() {
             let Some(index) = rest.least_common(&rest) else {
@@ -70,33 +70,31 @@ impl Tally {
         }
     }
 
-    // Begins a cycle, in which every channel is empty until something else is noted.
-    fn begin(&mut self)
+    // Begins a cycle, in which every channel but these is empty.
+    fn begin(&mut self, channels: ChannelSet)
         ensures size { vec_len self.new.counts ≡ vec_len self.old.counts }
         ensures cycles { self.new.cycles ≡ raised self.old.cycles }
         ensures counting { self.new.counting ≡ nat_lt self.old.cycles (2 ^ 64 - 1) }
         ensures begun { self.new.begun ≡ true }
         ensures counts { self.new.counts.items ≡ self.old.counts.items }
-        ensures findings { (k : ℕ) → finding_at self.new.findings.items k ≡ empty_finding }
+        ensures findings { (k : ℕ) → has_bit channels k ≡ false → finding_at self.new.findings.items k ≡ empty_finding }
     {
-        self.forget();
+        self.forget(channels);
         self.begun = true;
         self.counting = self.cycles < u64::MAX;
         self.cycles = self.cycles.saturating_add(1);
     }
 
-    // Nothing is found of any channel.
-    fn forget(&mut self)
+    // Nothing is found of any channel but these.
+    fn forget(&mut self, channels: ChannelSet)
         ensures size { vec_len self.new.findings ≡ vec_len self.old.findings }
         ensures cycles { self.new.cycles ≡ self.old.cycles }
         ensures counts { self.new.counts.items ≡ self.old.counts.items }
-        ensures findings { (k : ℕ) → finding_at self.new.findings.items k ≡ empty_finding }
+        ensures findings { (k : ℕ) → has_bit channels k ≡ false → finding_at self.new.findings.items k ≡ empty_finding }
     {
-        self.counting = false;
-        for _ in 0..self.findings.len() {
-            let Some(index) = self.shown.least_common(&self.shown) else {
-                break;
-            };
+        let mut gone = self.shown.less(channels);
+        while let Some(index) = gone.least_common(&gone) {
+            gone = gone.without(index);
             self.findings[index] = Finding::empty();
             self.shown = self.shown.without(index);
         }
@@ -106,7 +104,7 @@ impl Tally {
     fn note(&mut self, index: usize, finding: Finding)
         requires exists { index < vec_len self.old.counts }
         requires small { index < 56 }
-        requires fresh { (finding_at self.old.findings.items index).verdict ≡ Verdict.Empty }
+        requires room { self.old.counting ≡ true → sum (others_at self.old.counts.items index) < self.old.cycles }
         ensures size { vec_len self.new.counts ≡ vec_len self.old.counts }
         ensures cycles { self.new.cycles ≡ self.old.cycles }
         ensures counting { self.new.counting ≡ self.old.counting }

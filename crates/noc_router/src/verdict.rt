@@ -1,5 +1,8 @@
 //! The ten verdicts, and what a router finds of an input channel.
 
+ghost use Rattle.std.specs.Prelude.{◌≡◌};
+ghost use Rattle.noc_router.specs.Verdict.{is_event};
+
 /// How many verdicts there are.
 pub const VERDICTS: usize = 10;
 
@@ -52,4 +55,11 @@ impl Finding {
             out: None,
         }
     }
+}
+
+// Whether a verdict takes effect: a route, a grant or a move.
+pub(crate) fn is_event(verdict: Verdict) -> bool
+    ensures { result ≡ is_event verdict }
+{
+    matches!(verdict, Verdict::Routed | Verdict::Granted | Verdict::Moved)
 }

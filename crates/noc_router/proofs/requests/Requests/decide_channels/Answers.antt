@@ -1,9 +1,11 @@
-use Rattle.std.proofs.Common.{ap, ◌∙◌, ◌*◌, arith}
-use Rattle.noc_router.specs.Asked.{answers}
-use Rattle.noc_router.proofs.RoundLemmas.{answers-none, grant_of-none}
+use Rattle.std.proofs.Common.{List, Option, ℕ, ap, length, ◌∙◌, arith, subst}
+use Rattle.noc_topo.proofs.WordLemmas.{length-tabulate}
+use Rattle.noc_router.specs.Requests.{AllBelow}
+use Rattle.noc_router.proofs.QuietLemmas.{below-from}
 use Rattle.noc_router.proofs.requests.Requests.decide_channels.Goals as goal
 
-pub returns-else-self-clause-granted : goal.returns-else-self-clause-granted
-returns-else-self-clause-granted c =
-    ap (λ some. answers some c.args.self.now.grants.items) c.if-self.false
-    ∙ answers-none (c.args.arbiters.now.ports * c.args.arbiters.now.vcs) _ c.args.self.now.grants.items (omega arith) (grant_of-none _ _ _ (λ k. c.args.self.now.silent_asks k c.if-self.false))
+pub invariant_of-self-clause-a_grant_each : goal.invariant_of-self-clause-a_grant_each
+invariant_of-self-clause-a_grant_each c = ap (λ (xs : List (Option ℕ)). length xs) c.allocate_channels.ensures.grants ∙ length-tabulate _ _ ∙ omega (arith, ap length c.deref.ensures.value)
+
+pub invariant_of-self-clause-granted_to_channels : goal.invariant_of-self-clause-granted_to_channels
+invariant_of-self-clause-granted_to_channels c = subst (λ n. AllBelow n c.allocate_channels.new.grants) c.args.self.now.an_ask_each (below-from _ _ c.allocate_channels.ensures.inputs)

@@ -1,18 +1,13 @@
-use Rattle.std.proofs.Common.{◌≡◌, ◌∙◌, ℕ, List, None, ap, arith, get_or, length, subst, sym, vec_len}
+use Rattle.std.proofs.Common.{◌≡◌, ◌∙◌, ℕ, List, ap, arith, length, subst, sym, vec_len}
 use Rattle.std.specs.List.{All}
 use Rattle.std.proofs.lemmas.List.{with_items_is}
 use Rattle.noc_alloc.specs.Arbiter.{Turn, turn_at}
-use Rattle.noc_router.specs.Requests.{AllBelow}
-use Rattle.noc_alloc.specs.Allocation.{winning_pick}
-use Rattle.noc_router.specs.Asked.{answers}
-use Rattle.noc_router.proofs.RoundLemmas.{nobody_answers, nobody_wins, picks-fit, sizes-kept, turned_by-nobody}
+use Rattle.noc_router.proofs.RoundLemmas.{picks-fit, sizes-kept}
 use Rattle.noc_router.proofs.requests.Requests.turn_switch.Goals as goal
 
 pub advance_switch-requires-clause-vcs : goal.advance_switch-requires-clause-vcs
 advance_switch-requires-clause-vcs c =
-    let picked : AllBelow c.args.arbiters.now.vcs c.args.self.now.picks.items =
-    subst (λ asked. AllBelow c.args.arbiters.now.vcs (answers asked c.args.self.now.picks.items)) c.if-self.true c.requires.picks in
-    rw (c.deref.ensures.value, c.deref_mut.ensures.value) (picks-fit c.args.arbiters.now.vcs c.args.arbiters.now.inputs.items c.args.self.now.picks.items c.args.arbiters.now.over_vcs (omega arith) picked)
+    rw c.deref_mut.ensures.value (picks-fit c.args.arbiters.now.vcs c.args.arbiters.now.inputs.items c.args.self.now.picks c.args.arbiters.now.over_vcs (omega arith) c.requires.picks)
 
 pub invariant_of-arbiters-clause-over_vcs : goal.invariant_of-arbiters-clause-over_vcs
 invariant_of-arbiters-clause-over_vcs c =
@@ -28,18 +23,8 @@ pub invariant_of-arbiters-clause-over_ports : goal.invariant_of-arbiters-clause-
 invariant_of-arbiters-clause-over_ports c =
     let before : List Turn = c.args.arbiters.now.outputs.items in
     let after : List Turn = c.advance_switch.new.outputs in
-    let same : length after ≡ vec_len c.args.arbiters.now.outputs = omega (arith, ap length c.deref_mut-then-self.ensures.value) in
+    let same : length after ≡ vec_len c.args.arbiters.now.outputs = omega (arith, ap length c.deref_mut-2.ensures.value) in
     let kept : (k : ℕ) → (turn_at after k).size ≡ (turn_at before k).size =
-    λ k. c.advance_switch.ensures.output_sizes k ∙ ap (λ turns. (turn_at turns k).size) c.deref_mut-then-self.ensures.value in
+    λ k. c.advance_switch.ensures.output_sizes k ∙ ap (λ turns. (turn_at turns k).size) c.deref_mut-2.ensures.value in
     subst (All (λ (t : Turn). t.size ≡ c.args.arbiters.now.ports)) (sym (with_items_is c.args.arbiters.now.outputs after same))
     (sizes-kept c.args.arbiters.now.ports before after (omega arith) c.args.arbiters.now.over_ports kept)
-
-pub returns-else-self-clause-inputs : goal.returns-else-self-clause-inputs
-returns-else-self-clause-inputs c =
-    turned_by-nobody _ _
-    (λ k. ap (λ asked. winning_pick (answers asked c.args.self.now.picks.items) (answers c.args.self.now.switched c.args.self.now.wins.items) k) c.if-self.false
-    ∙ nobody_wins c.args.self.now.picks.items (answers c.args.self.now.switched c.args.self.now.wins.items) k)
-
-pub returns-else-self-clause-outputs : goal.returns-else-self-clause-outputs
-returns-else-self-clause-outputs c =
-    turned_by-nobody _ _ (λ k. ap (λ asked. get_or (answers asked c.args.self.now.wins.items) k None) c.if-self.false ∙ nobody_answers c.args.self.now.wins.items k)

@@ -1,7 +1,7 @@
 use Rattle.std.proofs.Common.{arith}
 use Rattle.noc_router.proofs.LinkLemmas.{none_below-more, none_from_search}
 use Rattle.noc_router.proofs.TallyLemmas.{both_is}
-use Rattle.noc_router.proofs.SettleLemmas.{can_settle, settling_first, settling_more, settling_last, none_left, whole_view, occupied_view, below_view, size_view}
+use Rattle.noc_router.proofs.SettleLemmas.{can_settle, settling_first, settling_more, settling_last, none_left, whole_view, size_view}
 use Rattle.noc_router.proofs.router.Router.settle_all.Goals as goal
 
 pub loop-init : goal.loop-init
@@ -9,8 +9,7 @@ loop-init c =
     let r = c.self.inside in
     let v = c.args.self.now in
     let whole = whole_view r v c.self.view_is c.self.invariant in (
-      settling_first c.args.plan.now v c.occupied-rest.result whole c.requires.plan (occupied_view r v c.occupied-rest.result c.self.view_is c.self.invariant c.occupied-rest.ensures.members)
-          (below_view r v c.occupied-rest.result c.self.view_is c.self.invariant c.occupied-rest.ensures.below) c.requires.beats,
+      settling_first c.args.plan.now v c.events-rest.result whole c.requires.plan c.events-rest.ensures c.requires.beats,
       whole,
       λ k l. absurd (omega arith),
     )

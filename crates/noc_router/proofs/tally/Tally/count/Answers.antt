@@ -1,7 +1,7 @@
 use Rattle.std.proofs.Common.{◌∙◌, arith}
 use Rattle.std.proofs.lemmas.List.{get_or_read}
 use Rattle.noc_router.specs.Tally.{empty_finding}
-use Rattle.noc_router.proofs.TallyLemmas.{counting-first, counting-fresh, counting-more, counting-findings, counting-counts, counting-none, both_is}
+use Rattle.noc_router.proofs.TallyLemmas.{counting-first, counting-room, counting-more, counting-findings, counting-counts, counting-none, both_is}
 use Rattle.noc_router.proofs.LinkLemmas.{none_below-more, none_from_search}
 use Rattle.noc_router.proofs.tally.Tally.count.Goals as goal
 
@@ -16,11 +16,11 @@ loop-init c =
       λ k l. absurd (omega arith),
     )
 
-pub note-requires-clause-fresh : goal.note-requires-clause-fresh
-note-requires-clause-fresh c =
+pub note-requires-clause-room : goal.note-requires-clause-room
+note-requires-clause-room c =
     let t = c.args.self.now in
     let s = c.loop.self in
-    counting-fresh t.cycles t.counts.items c.args.plan.now.findings c.loop.rest s.cycles s.counting s.counts.items s.findings.items c.in-Some.index c.loop.invariant.0 (both_is c.loop.rest c.in-Some.index c.in-Some.ensures.least.0)
+    counting-room t.cycles t.shown t.counts.items t.findings.items c.args.plan.now.findings c.loop.rest s.cycles s.counting s.counts.items s.findings.items c.in-Some.index t.sound c.loop.invariant.0 (both_is c.loop.rest c.in-Some.index c.in-Some.ensures.least.0)
 
 pub loop-preserved : goal.loop-preserved
 loop-preserved c =
@@ -54,7 +54,7 @@ returns-after-loop-clause-counts c =
     let d = c.args.plan.now in
     let none = counting-none t.cycles t.counts.items d.findings c.loop.rest s.cycles s.counting s.counts.items s.findings.items c.loop.invariant.0
     (λ k l. c.loop.invariant.3 k (omega (arith, t.counts.ok.0, c.len-end.ensures, c.begin.new.self.one_each, c.begin.ensures.size, c.loop-test.false))) in
-    counting-counts t.cycles t.counting t.shown t.counts.items t.findings.items d c.loop.rest s.cycles s.counting s.counts.items s.findings.items t.sound c.loop.invariant.0 none
+    counting-counts t.cycles t.shown t.counts.items t.findings.items d c.loop.rest s.cycles s.counting s.counts.items s.findings.items t.sound c.loop.invariant.0 none
     (omega (arith, t.counts.ok.0, c.requires.findings))
 
 pub returns-in_default-clause-findings : goal.returns-in_default-clause-findings
@@ -70,5 +70,5 @@ returns-in_default-clause-counts c =
     let t = c.args.self.now in
     let s = c.loop.self in
     let d = c.args.plan.now in
-    counting-counts t.cycles t.counting t.shown t.counts.items t.findings.items d c.loop.rest s.cycles s.counting s.counts.items s.findings.items t.sound c.loop.invariant.0 (none_from_search c.loop.rest c.in_default.ensures.least)
+    counting-counts t.cycles t.shown t.counts.items t.findings.items d c.loop.rest s.cycles s.counting s.counts.items s.findings.items t.sound c.loop.invariant.0 (none_from_search c.loop.rest c.in_default.ensures.least)
     (omega (arith, t.counts.ok.0, c.requires.findings))

@@ -11,7 +11,7 @@ invariant_of-self-clause-sound c =
     let t = c.args.self.now in
     let here : c.index_mut.result.now ≡ get_or t.counts.items c.args.index [] = get_or_read t.counts.items c.args.index c.index_mut.result.now (omega (arith, t.counts.ok.0)) c.index_mut.ensures.value [] in
     noted_tally t.cycles t.counting t.shown c.with-self.result t.counts.items t.findings.items c.args.index c.args.finding c.raise.new.counts t.sound
-    (omega (arith, t.counts.ok.0)) (omega (arith, t.counts.ok.0, t.findings.ok.0, t.one_each)) c.requires.fresh c.with-self.ensures.members c.raise.ensures.length
+    (omega (arith, t.counts.ok.0)) (omega (arith, t.counts.ok.0, t.findings.ok.0, t.one_each)) c.requires.room c.with-self.ensures.members c.raise.ensures.length
     (c.raise.ensures.others ∙ ap (λ (xs : List ℕ). if t.counting then risen_at (column c.args.finding.verdict) (drop 1 xs) else drop 1 xs) here)
 
 pub raise-requires : goal.raise-requires
@@ -19,4 +19,4 @@ raise-requires c =
     let t = c.args.self.now in
     let here : c.index_mut.result.now ≡ get_or t.counts.items c.args.index [] = get_or_read t.counts.items c.args.index c.index_mut.result.now (omega (arith, t.counts.ok.0)) c.index_mut.ensures.value [] in
     let same : sum (drop 1 c.index_mut.result.now) ≡ sum (others_at t.counts.items c.args.index) = ap (λ (xs : List ℕ). sum (drop 1 xs)) here in
-    record { room = λ on. omega (arith, same, t.sound.fits, t.sound.room c.args.index (omega (arith, t.counts.ok.0)) c.requires.fresh on) }
+    record { room = λ on. omega (arith, same, t.sound.fits, c.requires.room on) }
