@@ -152,7 +152,7 @@ take_in_step limit k x p sound link ready = record {
 
 -- ---- a router changes, and its wires stay
 
-kept_wire : (x r port : ℕ) (f : Post → Post) (k : CoreState) (before post : Post) → ((one : Post) → (f one).wires ≡ one.wires)
+pub kept_wire : (x r port : ℕ) (f : Post → Post) (k : CoreState) (before post : Post) → ((one : Post) → (f one).wires ≡ one.wires)
     → post_at k r ≡ Some before → post_at (with_post x f k) r ≡ Some post → wire_of post port ≡ wire_of before port
 kept_wire x r port f k before post keeps at at_now =
     ⊎_elim

@@ -61,7 +61,7 @@ steps_of k = map (λ (post : Post). post.steps) k.posts
 -- whether each router that is between its cycles has its view in the lockstep run at its own cycle
 abbrev pub core_agrees : Setup → CoreState → ℕ → Bool
 core_agrees net k r =
-    list_all (λ (post : Post). not (is_between net post) || same_numbers (view_code post.view) (view_code (slice_index_or (lockstep_at net post.steps).views r post.view)))
+    list_all (λ (post : Post). not (is_between post) || same_numbers (view_code post.view) (view_code (slice_index_or (lockstep_at net post.steps).views r post.view)))
     (slice_index_or (map (λ (post : Post). post ∷ []) k.posts) r [])
 
 -- seven cycles, from the last router to the first

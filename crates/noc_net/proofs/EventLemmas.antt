@@ -1,7 +1,8 @@
 -- What one event that is ready does to the cycles of a router.
-use Rattle.std.proofs.Common.{◌≡◌, ◌≢◌, ℕ, ◌+◌, ◌<◌, ◌≤◌, Bool, true, false, not, ◌&&◌, ◌||◌, List, [], ◌∷◌, length, get_or, set, drop, map, Option, Some, None, option_map, is_some, slice_get, refl, ap, sym, subst, ◌∙◌, ◌⊎◌, inl, inr, ⊎_elim, arith, eq-eqb, ne_eqb}
+use Rattle.std.proofs.Common.{◌≡◌, ◌≢◌, ℕ, ◌+◌, ◌<◌, ◌≤◌, Bool, true, false, not, ◌&&◌, ◌||◌, List, [], ◌∷◌, length, get_or, set, drop, map, Option, Some, None, option_map, is_some, is_none, slice_get, refl, ap, sym, subst, ◌∙◌, ◌⊎◌, inl, inr, ⊎_elim, arith, eq-eqb, ne_eqb}
 use Rattle.std.specs.Prelude.{slice_index_or, nat_eq, nat_lt, unwrap_or, if◌then◌else◌}
-use Rattle.std.proofs.lemmas.Bool.{cases_eq, cases_lt, not-true, and_parts, ltb-true}
+use Rattle.std.proofs.lemmas.List.Folds.{list_all_at}
+use Rattle.std.proofs.lemmas.Bool.{true_from_ne_false, false≢true, cases_eq, cases_lt, not-true, and_parts, ltb-true}
 use Rattle.noc_topo.specs.Words.{below, map_indexed}
 use Rattle.noc_topo.specs.Shape.{IsGrid, neighbour, nodes}
 use Rattle.noc_topo.proofs.WordLemmas.{get_or-map_indexed}
@@ -30,11 +31,20 @@ linked_when net r port to e = ap is_some e
 
 -- ---- the end of a cycle
 
-pub none_at : (net : Setup) (beats : List (Option Beat)) (port : ℕ) → none_has net beats ≡ true → port < links net → has_beat beats port ≡ false
-none_at net beats port e l = not-true (has_beat beats port) (all_below (λ p. not (has_beat beats p)) (links net) port e l)
+pub none_at : (beats : List (Option Beat)) (port : ℕ) → none_has beats ≡ true → has_beat beats port ≡ false
+none_at beats port e =
+    ⊎_elim
+    (λ (l : port < length beats). by (get_or beats port None) (true_from_ne_false (is_none (get_or beats port None))
+    (λ f. false≢true (sym (list_all_at (λ beat. is_none beat) beats port None l f) ∙ e))))
+    (λ (past : length beats ≤ port). has_past beats port past)
+    (cases_lt port (length beats))
+  where
+    by : (beat : Option Beat) → is_none beat ≡ true → is_some beat ≡ false
+    by None f = refl
+    by (Some beat) f = sym f
 
 pub finished-taken : (net : Setup) (post : Post) (port : ℕ) → has_beat post.taken port ≡ true → cycle_taken port (finished net post) ≡ cycle_taken port post
-finished-taken net post port here = by (none_has net post.unput)
+finished-taken net post port here = by (none_has post.unput)
   where
     by : (b : Bool) → cycle_taken port (if b then rested net post.view (post.steps + 1) post.wires else post) ≡ cycle_taken port post
     by true =
@@ -42,17 +52,17 @@ finished-taken net post port here = by (none_has net post.unput)
         ap (λ c. post.steps + 1 + one_if c) (has_none (links net) port) ∙ same ∙ sym (ap (λ c. post.steps + one_if c) here)
     by false = refl
 
-pub finished-put : (net : Setup) (post : Post) (port : ℕ) → post.decided ≡ true → port < links net → cycle_put port (finished net post) ≡ cycle_put port post
-finished-put net post port decided l = by (none_has net post.unput) refl
+pub finished-put : (net : Setup) (post : Post) (port : ℕ) → post.decided ≡ true → cycle_put port (finished net post) ≡ cycle_put port post
+finished-put net post port decided = by (none_has post.unput) refl
   where
-    by : (b : Bool) → none_has net post.unput ≡ b → cycle_put port (if b then rested net post.view (post.steps + 1) post.wires else post) ≡ cycle_put port post
+    by : (b : Bool) → none_has post.unput ≡ b → cycle_put port (if b then rested net post.view (post.steps + 1) post.wires else post) ≡ cycle_put port post
     by true e =
         let same : post.steps + 1 + 1 + 0 ≡ post.steps + 1 + 1 = omega arith in
-        same ∙ sym (ap (λ c. post.steps + 1 + one_if (c && not (has_beat post.unput port))) decided ∙ ap (λ c. post.steps + 1 + one_if (not c)) (none_at net post.unput port e l))
+        same ∙ sym (ap (λ c. post.steps + 1 + one_if (c && not (has_beat post.unput port))) decided ∙ ap (λ c. post.steps + 1 + one_if (not c)) (none_at post.unput port e))
     by false e = refl
 
 pub finished-cycle : (net : Setup) (post : Post) → post.decided ≡ true → cycle_of (finished net post) ≡ cycle_of post
-finished-cycle net post decided = by (none_has net post.unput)
+finished-cycle net post decided = by (none_has post.unput)
   where
     by : (b : Bool) → cycle_of (if b then rested net post.view (post.steps + 1) post.wires else post) ≡ cycle_of post
     by true =
@@ -61,7 +71,7 @@ finished-cycle net post decided = by (none_has net post.unput)
     by false = refl
 
 pub finished-wires : (net : Setup) (post : Post) → (finished net post).wires ≡ post.wires
-finished-wires net post = by (none_has net post.unput)
+finished-wires net post = by (none_has post.unput)
   where
     by : (b : Bool) → (if b then rested net post.view (post.steps + 1) post.wires else post).wires ≡ post.wires
     by true = refl
@@ -185,7 +195,7 @@ moves-deciding limit net x post ready count =
       put = λ port linked.
           let within = linked_port net x port linked in
           let has : has_beat (decided_post net x post).unput port ≡ true = ap is_some (has_decided net x beats port (omega arith) linked) in
-          finished-put net (decided_post net x post) port refl within
+          finished-put net (decided_post net x post) port refl
           ∙ ap (λ c. post.steps + 1 + one_if (true && not c)) has
           ∙ sym (ap (λ c. post.steps + 1 + one_if (c && not (has_beat post.unput port))) parts.0)
           ∙ one_more (cycle_put port post) false refl;
@@ -205,7 +215,7 @@ moves-putting limit net x p post sound link ready =
     let decided = sound.some_unput p ready in
     record {
       taken = λ port linked. finished-taken net (put_post p post) port (sound.all_taken decided port linked) ∙ one_more (cycle_taken port post) false refl;
-      put = λ port linked. finished-put net (put_post p post) port decided (linked_port net x port linked) ∙ here port decided;
+      put = λ port linked. finished-put net (put_post p post) port decided ∙ here port decided;
       cycle = finished-cycle net (put_post p post) decided ∙ one_more (cycle_of post) false refl;
     }
   where

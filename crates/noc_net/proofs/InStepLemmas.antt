@@ -28,7 +28,7 @@ use Rattle.noc_net.proofs.SentLemmas.{count_sent, next_view, sent_beat, step_of,
 -- ---- one router
 
 pub finished_in_step : (limit : ℕ) (net : Setup) (r : ℕ) (post : Post) → IsPostInStep limit net r post → post.decided ≡ true → IsPostInStep limit net r (finished net post)
-finished_in_step limit net r post sound decided = by (none_has net post.unput)
+finished_in_step limit net r post sound decided = by (none_has post.unput)
   where
     no_beat : (port : ℕ) (beat : Beat) → slice_index_or (no_beats net) port None ≡ Some beat → ⊥
     no_beat port beat e = false≢true (sym (has_none (links net) port) ∙ ap is_some e)

@@ -12,8 +12,10 @@ pub mod PacketLemmas
 pub mod PostLemmas
 pub mod ReaderLemmas
 pub mod ReadingRows
+pub mod RoomLemmas
 pub mod RunLemmas
 pub mod SentLemmas
 pub mod StepLemmas
+pub mod StoredLemmas
 pub mod WireLemmas
 pub mod WormRows

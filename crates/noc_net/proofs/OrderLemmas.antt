@@ -24,7 +24,7 @@ use Rattle.noc_net.specs.Order.{KeepsStep, KeepsWire, decides, happening, is_dec
 use Rattle.noc_net.proofs.CoreLemmas.{get_some, happens_in_step, moves, router_there, router_within}
 use Rattle.noc_net.proofs.EventLemmas.{Moves, linked_port, linked_when, none_at}
 use Rattle.noc_net.proofs.InStepLemmas.{holds_some}
-use Rattle.noc_net.proofs.PostLemmas.{all_below, has_none, none_when}
+use Rattle.noc_net.proofs.PostLemmas.{all_below, has_none, none_when, same_post}
 use Rattle.noc_net.proofs.RunLemmas.{count_views}
 
 -- ---- the core of a network after its cycles
@@ -256,33 +256,25 @@ room_for_beat limit k sound r port s q post sender at_r at_s to has =
 
 -- ---- between the cycles
 
-between-decided : (net : Setup) (post : Post) → is_between net post ≡ true → post.decided ≡ false
-between-decided net post e = not-true post.decided (and_parts (not post.decided) (none_has net post.taken) e).0
+between-decided : (post : Post) → is_between post ≡ true → post.decided ≡ false
+between-decided post e = not-true post.decided (and_parts (not post.decided) (none_has post.taken) e).0
 
-between-taken : (net : Setup) (post : Post) (port : ℕ) → is_between net post ≡ true → port < links net → cycle_taken port post ≡ post.steps
-between-taken net post port e l =
+between-taken : (post : Post) (port : ℕ) → is_between post ≡ true → cycle_taken port post ≡ post.steps
+between-taken post port e =
     let same : post.steps + 0 ≡ post.steps = omega arith in
-    ap (λ c. post.steps + one_if c) (none_at net post.taken port (and_parts (not post.decided) (none_has net post.taken) e).1 l) ∙ same
+    ap (λ c. post.steps + one_if c) (none_at post.taken port (and_parts (not post.decided) (none_has post.taken) e).1) ∙ same
 
-between-put : (net : Setup) (post : Post) (port : ℕ) → is_between net post ≡ true → cycle_put port post ≡ post.steps + 1
-between-put net post port e =
+between-put : (post : Post) (port : ℕ) → is_between post ≡ true → cycle_put port post ≡ post.steps + 1
+between-put post port e =
     let same : post.steps + 1 + 0 ≡ post.steps + 1 = omega arith in
-    ap (λ c. post.steps + 1 + one_if (c && not (has_beat post.unput port))) (between-decided net post e) ∙ same
+    ap (λ c. post.steps + 1 + one_if (c && not (has_beat post.unput port))) (between-decided post e) ∙ same
 
-between-cycle : (net : Setup) (post : Post) → is_between net post ≡ true → cycle_of post ≡ post.steps
-between-cycle net post e =
+pub between-cycle : (post : Post) → is_between post ≡ true → cycle_of post ≡ post.steps
+between-cycle post e =
     let same : post.steps + 0 ≡ post.steps = omega arith in
-    ap (λ c. post.steps + one_if c) (between-decided net post e) ∙ same
+    ap (λ c. post.steps + one_if c) (between-decided post e) ∙ same
 
 -- ---- all routers between their cycles at one count
-
--- a router by its parts
-abbrev made : View → ℕ → List (List Beat) → List (Option Beat) → Bool → List (Option Beat) → Post
-made view n wires taken decided unput = record { view = view; steps = n; wires = wires; taken = taken; decided = decided; unput = unput }
-
-same_post : (u v : View) (m n : ℕ) (a b : List (List Beat)) (c d : List (Option Beat)) (x y : Bool) (e f : List (Option Beat))
-    → u ≡ v → m ≡ n → a ≡ b → c ≡ d → x ≡ y → e ≡ f → made u m a c x e ≡ made v n b d y f
-same_post u v m n a b c d x y e f p q r s t w = cc
 
 no_beat_at_all : (net : Setup) (beats : List (Option Beat)) → length beats ≡ links net → ((port : ℕ) → port < links net → has_beat beats port ≡ false) → beats ≡ no_beats net
 no_beat_at_all net beats count none =
@@ -296,12 +288,12 @@ all_routers p posts r post all at =
 
 module _ (limit n : ℕ) (k : CoreState) (sound : IsInStep limit k) (all : are_between k n ≡ true) where
   -- a router of such a core
-  here_between : (r : ℕ) (post : Post) → post_at k r ≡ Some post → (is_between k.net post ≡ true) × (post.steps ≡ n)
+  pub here_between : (r : ℕ) (post : Post) → post_at k r ≡ Some post → (is_between post ≡ true) × (post.steps ≡ n)
   here_between r post at =
-      let parts = and_parts (is_between k.net post) (nat_eq post.steps n) (all_routers (λ (p : Post). is_between k.net p && nat_eq p.steps n) k.posts r post all at) in
+      let parts = and_parts (is_between post) (nat_eq post.steps n) (all_routers (λ (p : Post). is_between p && nat_eq p.steps n) k.posts r post all at) in
       (parts.0, eqb-true post.steps n parts.1)
 
-  wire_there : (r port : ℕ) (post : Post) → post_at k r ≡ Some post → port < links k.net
+  pub wire_there : (r port : ℕ) (post : Post) → post_at k r ≡ Some post → port < links k.net
       → wire_of post port ≡ (if is_linked k.net r port then beat_at (lockstep_at k.net n).wires r port ∷ [] else [])
   wire_there r port post at l = by (neighbour k.net.relation.grid r port) refl
     where
@@ -315,8 +307,8 @@ module _ (limit n : ℕ) (k : CoreState) (sound : IsInStep limit k) (all : are_b
           let holds = sound.wires r port s q post source.0 at source.1 e in
           let mine = here_between r post at in
           let its = here_between s source.0 source.1 in
-          let taken : cycle_taken port post ≡ n = between-taken k.net post port mine.0 l ∙ mine.1 in
-          let put : cycle_put q source.0 ≡ n + 1 = between-put k.net source.0 q its.0 ∙ ap (λ m. m + 1) its.1 in
+          let taken : cycle_taken port post ≡ n = between-taken post port mine.0 ∙ mine.1 in
+          let put : cycle_put q source.0 ≡ n + 1 = between-put source.0 q its.0 ∙ ap (λ m. m + 1) its.1 in
           let one : n + 1 - n ≡ 1 = omega arith in
           holds.beats ∙ ap (λ a. beats_of_cycles k.net r port a (cycle_put q source.0)) taken ∙ ap (beats_of_cycles k.net r port n) put
           ∙ ap (λ c. map (λ m. beat_at (lockstep_at k.net m).wires r port) (range_with_len n c)) one
@@ -328,12 +320,12 @@ module _ (limit n : ℕ) (k : CoreState) (sound : IsInStep limit k) (all : are_b
   rests r post view at seen =
       let here = here_between r post at in
       let in_step = sound.posts r post at in
-      let decided = between-decided k.net post here.0 in
-      let cycle : cycle_of post ≡ n = between-cycle k.net post here.0 ∙ here.1 in
+      let decided = between-decided post here.0 in
+      let cycle : cycle_of post ≡ n = between-cycle post here.0 ∙ here.1 in
       let view_is : post.view ≡ view = same_Some post.view view (sym in_step.view ∙ ap (λ m. slice_get (lockstep_at k.net m).views r) cycle ∙ seen) in
       let wires_are : post.wires ≡ wires_in_flight k.net n r =
       tabulate-from_each (links k.net) (λ port. if is_linked k.net r port then beat_at (lockstep_at k.net n).wires r port ∷ [] else []) post.wires [] in_step.wires (λ port l. wire_there r port post at l) in
-      let taken_is = no_beat_at_all k.net post.taken in_step.taken (λ port l. none_at k.net post.taken port (and_parts (not post.decided) (none_has k.net post.taken) here.0).1 l) in
+      let taken_is = no_beat_at_all k.net post.taken in_step.taken (λ port l. none_at post.taken port (and_parts (not post.decided) (none_has post.taken) here.0).1) in
       let unput_is = no_beat_at_all k.net post.unput in_step.unput (λ port l. false_from_ne_true (has_beat post.unput port) (λ e. false≢true (sym decided ∙ in_step.some_unput port e))) in
       same_post post.view view post.steps n post.wires (wires_in_flight k.net n r) post.taken (no_beats k.net) post.decided false post.unput (no_beats k.net)
       view_is here.1 wires_are taken_is decided unput_is
@@ -369,7 +361,7 @@ keeps_step u limit events grid = subst (λ (net : Setup). KeepsStep net u.count 
       (sym (ap (λ n. slice_get (lockstep_at end.net n).views r) cycle) ∙ in_step.view));
   steps = λ r post at between.
       let start = way r post at in
-      sym (between-cycle end.net post between) ∙ start.2.1.cycle ∙ ap (λ c. c + decides r happened) start.2.0.cycle;
+      sym (between-cycle post between) ∙ start.2.1.cycle ∙ ap (λ c. c + decides r happened) start.2.0.cycle;
   wires = λ r port s q post sender at_r at_s to.
       let back = link_back end.net.relation.grid r port s q sound.grid (router_within limit end sound r post at_r) to in
       let link = linked_when end.net r port (s, q) to in
@@ -382,11 +374,11 @@ keeps_step u limit events grid = subst (λ (net : Setup). KeepsStep net u.count 
         beats = omega (arith, count, holds.order, receiver.2.1.taken port link, receiver.2.0.taken port, source.2.1.put q link_back, source.2.0.put q);
         few = few_beats limit end sound r port s q post sender at_r at_s to;
         between = λ mine its.
-            let taken = between-taken end.net post port mine (linked_port end.net r port link) in
-            let put = between-put end.net sender q its in
+            let taken = between-taken post port mine in
+            let put = between-put sender q its in
             let there = sound.wires s q r port sender post at_s at_r back.back in
-            let taken_back = between-taken end.net sender q its (linked_port end.net s q link_back) in
-            let put_back = between-put end.net post port mine in (
+            let taken_back = between-taken sender q its in
+            let put_back = between-put post port mine in (
               omega (arith, count, holds.order),
               holds.beats ∙ ap (λ a. beats_of_cycles end.net r port a (cycle_put q sender)) taken ∙ ap (beats_of_cycles end.net r port post.steps) put,
               omega (arith, holds.order),

@@ -9,6 +9,7 @@ use Rattle.std.proofs.lemmas.Option.{none-some, same_Some, slice_get_within}
 use Rattle.noc_topo.specs.Words.{below}
 use Rattle.noc_topo.proofs.WordLemmas.{length-below, get_or-below}
 use Rattle.noc_packet.specs.declared.packet.Beat.{Beat}
+use Rattle.noc_router.specs.View.{View}
 use Rattle.noc_net.specs.Core.{CoreState, Post, changed_at, has_beat, holds_at, post_at, with_post}
 
 -- ---- an element that is changed
@@ -93,3 +94,11 @@ has_set_same beats port beat l = ap is_some (get_or-set_same beats port beat Non
 
 pub has_set_other : (beats : List (Option Beat)) (i port : ℕ) (beat : Option Beat) → port ≢ i → has_beat (set beats i beat) port ≡ has_beat beats port
 has_set_other beats i port beat n = ap is_some (get_or-set_other beats i port beat None n)
+
+-- a router by its parts
+abbrev pub made : View → ℕ → List (List Beat) → List (Option Beat) → Bool → List (Option Beat) → Post
+made view n wires taken decided unput = record { view = view; steps = n; wires = wires; taken = taken; decided = decided; unput = unput }
+
+pub same_post : (u v : View) (m n : ℕ) (a b : List (List Beat)) (c d : List (Option Beat)) (x y : Bool) (e f : List (Option Beat))
+    → u ≡ v → m ≡ n → a ≡ b → c ≡ d → x ≡ y → e ≡ f → made u m a c x e ≡ made v n b d y f
+same_post u v m n a b c d x y e f p q r s t w = cc

@@ -95,6 +95,9 @@ pub local_step-beats : (relation : Routes) (v : View) (beats : List Beat) (n : �
 unfolding decided local_step
 local_step-beats relation v beats n = refl
 
+pub site-local_step : (relation : Routes) (v : View) (beats : List Beat) (n : ℕ) → (local_step relation v beats n).0.site ≡ v.site
+site-local_step relation v beats n = ap (λ (w : View). w.site) (local_step-view relation v beats n) ∙ site-decided relation n beats v
+
 pub IsRelationOf-same_site : (relation : Routes) (v w : View) → w.site ≡ v.site → IsRelationOf relation v → IsRelationOf relation w
 IsRelationOf-same_site relation v w same fits = record {
   grid = fits.grid ∙ ap (λ (s : Site). s.grid) (sym same);

@@ -159,7 +159,7 @@ all_idle (beat ∷ beats) e =
 pub put_already : (v : View) (n : ℕ) → list_all (λ (beat : Beat). is_none beat.flit && is_none beat.credit) v.to_put ≡ true → length v.to_put ≡ local_port v.site.grid → v ≡ emptied v
 put_already v n e count = ap (λ (beats : List Beat). record v { to_put = beats }) (all_idle v.to_put e ∙ ap (λ k. replicate k idle_beat) count)
 
-get_or-idle : (n q : ℕ) → get_or (replicate n idle_beat) q idle_beat ≡ idle_beat
+pub get_or-idle : (n q : ℕ) → get_or (replicate n idle_beat) q idle_beat ≡ idle_beat
 get_or-idle zero q = refl
 get_or-idle (suc n) zero = refl
 get_or-idle (suc n) (suc q) = get_or-idle n q

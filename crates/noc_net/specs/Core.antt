@@ -1,5 +1,5 @@
 -- Routers that go on by single events, each at a cycle of its own (docs/MODEL.md, "The event core").
-use Rattle.std.specs.Prelude.{ℕ, zero, suc, ◌+◌, Bool, true, false, ◌&&◌, ◌||◌, not, List, [], ◌∷◌, ◌++◌, map, drop, length, Option, Some, None, option_map, option_and_then, is_some, unwrap_or, slice_get, slice_index_or, slice_set, nat_eq, nat_lt, if◌then◌else◌, replicate}
+use Rattle.std.specs.Prelude.{ℕ, zero, suc, ◌+◌, Bool, true, false, ◌&&◌, ◌||◌, not, List, [], ◌∷◌, ◌++◌, map, drop, length, Option, Some, None, option_map, option_and_then, is_some, is_none, unwrap_or, slice_get, slice_index_or, slice_set, nat_eq, nat_lt, if◌then◌else◌, replicate}
 use Rattle.std.specs.List.{list_all}
 use Rattle.noc_topo.specs.Words.{below, tabulate, map_indexed}
 use Rattle.noc_topo.specs.Shape.{local_port, neighbour}
@@ -79,8 +79,8 @@ abbrev pub has_beat : List (Option Beat) → ℕ → Bool
 has_beat beats port = is_some (slice_index_or beats port None)
 
 -- there is no beat for any port
-abbrev pub none_has : Setup → List (Option Beat) → Bool
-none_has net beats = list_all (λ port. not (has_beat beats port)) (below (links net))
+abbrev pub none_has : List (Option Beat) → Bool
+none_has beats = list_all (λ beat. is_none beat) beats
 
 -- there is a beat for each link of router r
 abbrev pub all_have : Setup → ℕ → List (Option Beat) → Bool
@@ -121,7 +121,7 @@ taking port post = record post {
 
 -- after its last put a router is between its cycles
 abbrev pub finished : Setup → Post → Post
-finished net post = if none_has net post.unput then rested net post.view (post.steps + 1) post.wires else post
+finished net post = if none_has post.unput then rested net post.view (post.steps + 1) post.wires else post
 
 -- one whole cycle of the view over the beats that were taken
 abbrev pub deciding : Setup → ℕ → Post → Post
@@ -168,8 +168,8 @@ after_events limit (e ∷ es) k = after_events limit es (after_event limit k e)
 -- ---- where a router stands
 
 -- whether a router is between its cycles: no event of it since its steps last rose
-abbrev pub is_between : Setup → Post → Bool
-is_between net post = not post.decided && none_has net post.taken
+abbrev pub is_between : Post → Bool
+is_between post = not post.decided && none_has post.taken
 
 -- the steps of router r
 abbrev pub steps_at : CoreState → ℕ → ℕ
@@ -177,4 +177,8 @@ steps_at k r = unwrap_or (option_map (λ (post : Post). post.steps) (post_at k r
 
 -- whether all routers are between their cycles at count n
 abbrev pub are_between : CoreState → ℕ → Bool
-are_between k n = list_all (λ (post : Post). is_between k.net post && nat_eq post.steps n) k.posts
+are_between k n = list_all (λ (post : Post). is_between post && nat_eq post.steps n) k.posts
+
+-- the view of router r, if it exists
+abbrev pub view_at : CoreState → ℕ → Option View
+view_at k r = option_map (λ (post : Post). post.view) (post_at k r)

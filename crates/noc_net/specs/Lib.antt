@@ -10,4 +10,5 @@ pub mod Parts
 pub mod Progress
 pub mod Readings
 pub mod Room
+pub mod Stored
 pub mod Worm

@@ -48,7 +48,7 @@ pub record KeepsWire (net : Setup) (events : List Event) (r port : ℕ) (post : 
   pub few : length (wire_of post port) ≤ 2
   -- between the cycles of both ends it holds the beats of the lockstep run from the receiver's cycle to the sender's, and the
   -- ends are at most one cycle apart
-  pub between : is_between net post ≡ true → is_between net sender ≡ true →
+  pub between : is_between post ≡ true → is_between sender ≡ true →
       (length (wire_of post port) + post.steps ≡ sender.steps + 1)
       × (wire_of post port ≡ beats_of_cycles net r port post.steps (sender.steps + 1))
       × (post.steps ≤ sender.steps + 1)
@@ -60,7 +60,7 @@ pub record KeepsStep (net : Setup) (count : ℕ) (events : List Event) (k : Core
   -- each router has the view of the lockstep run, with its findings, at the count of its last Decide
   pub views : (r : ℕ) (post : Post) → post_at k r ≡ Some post → post.view ≡ slice_index_or (lockstep_at net (count + decides r events)).views r post.view
   -- .. which is its own number of steps where it is between its cycles
-  pub steps : (r : ℕ) (post : Post) → post_at k r ≡ Some post → is_between net post ≡ true → post.steps ≡ count + decides r events
+  pub steps : (r : ℕ) (post : Post) → post_at k r ≡ Some post → is_between post ≡ true → post.steps ≡ count + decides r events
   pub wires : (r port s q : ℕ) (post sender : Post) → post_at k r ≡ Some post → post_at k s ≡ Some sender → neighbour net.relation.grid r port ≡ Some (s, q)
       → KeepsWire net events r port post s q sender
   -- where all routers are between their cycles at one count, the core is the one of the network after so many cycles

@@ -1,9 +1,16 @@
 //! What a core keeps of one router.
 
-ghost use Rattle.std.specs.Prelude.{◌≡◌, false, None, replicate};
+ghost use Rattle.std.specs.Prelude.{◌≡◌, ℕ, ◌<◌, ◌≤◌, ◌&&◌, ◌++◌, ◌∷◌, [], None, false, is_none, is_some, length, map, replicate, slice_index_or, take, true, unwrap_or};
+ghost use Rattle.noc_topo.specs.Shape.{local_port, neighbour as neighbour_of};
+ghost use Rattle.noc_router.specs.View.{View, idle_beat, local_step};
+ghost use Rattle.noc_net.specs.Core.{all_have, finished, is_between, may_decide, may_put, may_take, none_has, putting, receiving, taking, wire_of};
+ghost use Rattle.noc_net.specs.Network.{Setup};
+ghost use Rattle.noc_net.specs.Room.{front_of, opened_post, post_of, rests_at, unput_for, wires_in};
 
+use crate::network::CYCLE_LIMIT;
 use crate::wire::Wire;
 use noc_packet::Beat;
+use noc_router::Router;
 
 /// The greatest number of link ports of a router.
 pub(crate) const LINKS: usize = 6;
@@ -11,12 +18,12 @@ pub(crate) const LINKS: usize = 6;
 /// The storage of a core for one router: the wires that arrive there, and what the router has done of its cycle.
 #[derive(Clone, Copy)]
 pub struct Room {
-    pub(crate) steps: u64,
-    pub(crate) decided: bool,
-    pub(crate) wires: [Wire; LINKS],
+    steps: u64,
+    decided: bool,
+    wires: [Wire; LINKS],
     // The beats that were taken in this cycle, and those that are still to be put.
-    pub(crate) taken: [Option<Beat>; LINKS],
-    pub(crate) unput: [Option<Beat>; LINKS],
+    taken: [Option<Beat>; LINKS],
+    unput: [Option<Beat>; LINKS],
 }
 
 impl Room {
@@ -32,4 +39,180 @@ impl Room {
             unput: [None; LINKS],
         }
     }
+
+    // A router between its cycles, with the beats in flight on its wires.
+    pub(crate) fn opened(router: &Router, links: usize, steps: u64, beats: &[Beat; LINKS]) -> Room
+        requires links { links ≡ local_port router.now.site.grid }
+        requires few { links ≤ 6 }
+        ensures { post_of links router.now result ≡ opened_post links router.now steps beats.now }
+    {
+        let mut room = Room::new(steps);
+        for port in 0..links {
+            room.wires[port] = Wire::opened(router.neighbour(port).is_some(), beats[port]);
+        }
+        room
+    }
+
+    // The cycle that the router is in, or that it makes next.
+    pub(crate) fn steps(&self) -> u64
+        ensures { result ≡ self.now.steps }
+    {
+        self.steps
+    }
+
+    // How many beats are on the wire that arrives at a port.
+    pub(crate) fn beats(&self, port: usize) -> usize
+        requires { port < 6 }
+        ensures { result ≡ length (slice_index_or (wires_in self.now) port []) }
+    {
+        self.wires[port].len()
+    }
+
+    // Whether a beat can be taken at a link port.
+    pub(crate) fn may_take(&self, port: usize) -> bool
+        requires { port < 6 }
+        ensures { (links : ℕ) (view : View) → port < links → result ≡ may_take CYCLE_LIMIT port (post_of links view self.now) }
+    {
+        self.wires[port].len() > 0 && self.taken[port].is_none() && self.steps < CYCLE_LIMIT
+    }
+
+    // The oldest beat of a wire is taken.
+    pub(crate) fn take(&mut self, port: usize)
+        requires { port < 6 }
+        ensures { (links : ℕ) (view : View) → port < links → post_of links view self.new ≡ taking port (post_of links view self.old) }
+    {
+        let mut wire = self.wires[port];
+        self.taken[port] = wire.pop();
+        self.wires[port] = wire;
+    }
+
+    // Whether the cycle can be made.
+    pub(crate) fn may_decide(&self, router: &Router, links: usize) -> bool
+        requires links { links ≡ local_port router.now.site.grid }
+        requires few { links ≤ 6 }
+        ensures { (net : Setup) (view : View) → net.relation.grid ≡ router.now.site.grid → result ≡ may_decide CYCLE_LIMIT net router.now.site.node (post_of links view self.now) }
+    {
+        !self.decided && self.steps < CYCLE_LIMIT && self.has_all(router, links)
+    }
+
+    // Whether a beat is taken at each link.
+    fn has_all(&self, router: &Router, links: usize) -> bool
+        requires links { links ≡ local_port router.now.site.grid }
+        requires few { links ≤ 6 }
+        ensures { (net : Setup) → net.relation.grid ≡ router.now.site.grid → result ≡ all_have net router.now.site.node (take links self.now.taken) }
+    {
+        for port in 0..links {
+            if self.lacks(router, port) {
+                return false;
+            }
+        }
+        true
+    }
+
+    // Whether a link port has a link at which no beat is taken yet.
+    fn lacks(&self, router: &Router, port: usize) -> bool
+        requires port { port < local_port router.now.site.grid }
+        requires few { port < 6 }
+        ensures { result ≡ (is_none (slice_index_or self.now.taken port None) && is_some (neighbour_of router.now.site.grid router.now.site.node port)) }
+    {
+        self.taken[port].is_none() && router.neighbour(port).is_some()
+    }
+
+    // The beats that were taken, idle ones where there are none.
+    pub(crate) fn beats_taken(&self) -> [Beat; LINKS]
+        ensures { result ≡ map (λ beat. unwrap_or beat idle_beat) self.now.taken }
+    {
+        let mut beats = [Beat::idle(); LINKS];
+        for port in 0..LINKS {
+            beats[port] = self.taken[port].unwrap_or(Beat::idle());
+        }
+        beats
+    }
+
+    // The cycle is made: these beats are to be put where there are links.
+    pub(crate) fn decide(&mut self, router: &Router, links: usize, beats: &[Beat; LINKS])
+        requires links { links ≡ local_port router.now.site.grid }
+        requires few { links ≤ 6 }
+        requires steps { self.old.steps < CYCLE_LIMIT }
+        ensures { (net : Setup) (view : View) → net.relation.grid ≡ router.now.site.grid → post_of links view self.new ≡ finished net (record (post_of links view self.old) { decided = true; unput = unput_for net router.now.site.node (take links beats.now) }) }
+    {
+        self.decided = true;
+        for port in 0..links {
+            self.unput[port] = router.neighbour(port).is_some().then_some(beats[port]);
+        }
+        self.finish(links);
+    }
+
+    // Whether the beat for a link port can be put.
+    pub(crate) fn may_put(&self, port: usize) -> bool
+        requires { port < 6 }
+        ensures { (links : ℕ) (view : View) → port < links → result ≡ may_put port (post_of links view self.now) }
+    {
+        self.unput[port].is_some()
+    }
+
+    // The beat for a link port is put.
+    pub(crate) fn put(&mut self, port: usize, links: usize) -> Beat
+        requires port { port < links }
+        requires few { links ≤ 6 }
+        requires steps { self.old.steps < CYCLE_LIMIT }
+        ensures beat { result ≡ unwrap_or (slice_index_or self.old.unput port None) idle_beat }
+        ensures post { (net : Setup) (view : View) → local_port net.relation.grid ≡ links → post_of links view self.new ≡ putting net port (post_of links view self.old) }
+    {
+        let beat = self.unput[port].unwrap_or(Beat::idle());
+        self.unput[port] = None;
+        self.finish(links);
+        beat
+    }
+
+    // After its last put the router is between its cycles.
+    fn finish(&mut self, links: usize)
+        requires few { links ≤ 6 }
+        requires steps { self.old.steps < CYCLE_LIMIT }
+        ensures { (net : Setup) (view : View) → local_port net.relation.grid ≡ links → post_of links view self.new ≡ finished net (post_of links view self.old) }
+    {
+        if have_none(&self.unput[..links]) {
+            let wires = self.wires;
+            *self = Room::new(self.steps + 1);
+            self.wires = wires;
+        }
+    }
+
+    // A beat comes to the end of a wire.
+    pub(crate) fn receive(&mut self, port: usize, beat: Beat)
+        requires port { port < 6 }
+        requires room { length (slice_index_or (wires_in self.old) port []) < 2 }
+        ensures { (links : ℕ) (view : View) → port < links → post_of links view self.new ≡ receiving port beat (post_of links view self.old) }
+    {
+        let mut wire = self.wires[port];
+        wire.push(beat);
+        self.wires[port] = wire;
+    }
+
+    // Whether the router is between its cycles at a count.
+    pub(crate) fn rests_at(&self, links: usize, count: u64) -> bool
+        requires { links ≤ 6 }
+        ensures { result ≡ rests_at links count self.now }
+    {
+        !self.decided && self.steps == count && have_none(&self.taken[..links])
+    }
+
+    // The oldest beats of the wires, idle ones where there are none.
+    pub(crate) fn front(&self, links: usize) -> [Beat; LINKS]
+        requires { links ≤ 6 }
+        ensures { (port : ℕ) → slice_index_or result port idle_beat ≡ front_of (slice_index_or (take links (wires_in self.now)) port []) }
+    {
+        let mut beats = [Beat::idle(); LINKS];
+        for port in 0..links {
+            beats[port] = self.wires[port].oldest();
+        }
+        beats
+    }
+}
+
+// Whether there is no beat for any port.
+fn have_none(beats: &[Option<Beat>]) -> bool
+    ensures { result ≡ none_has beats.now }
+{
+    beats.iter().all(|beat| beat.is_none())
 }

@@ -1,8 +1,8 @@
 //! One wire of a core.
 
-ghost use Rattle.std.specs.Prelude.{◌≡◌, ◌<◌, ◌++◌, ◌∷◌, [], drop, length};
+ghost use Rattle.std.specs.Prelude.{◌≡◌, ◌<◌, ◌++◌, ◌∷◌, [], drop, if◌then◌else◌, length};
 ghost use Rattle.std.specs.List.{slice_get};
-ghost use Rattle.noc_net.specs.Room.{wire_beats};
+ghost use Rattle.noc_net.specs.Room.{front_of, wire_beats};
 
 use noc_packet::Beat;
 
@@ -15,6 +15,13 @@ pub(crate) enum Wire {
 }
 
 impl Wire {
+    // One beat, where there is a link.
+    pub(crate) fn opened(linked: bool, beat: Beat) -> Wire
+        ensures { wire_beats result ≡ (if linked then beat ∷ [] else []) }
+    {
+        if linked { Wire::One(beat) } else { Wire::Empty }
+    }
+
     // How many beats are on it.
     pub(crate) fn len(&self) -> usize
         ensures { result ≡ length (wire_beats self.now) }
@@ -41,6 +48,16 @@ impl Wire {
                 *self = Wire::One(second);
                 Some(first)
             }
+        }
+    }
+
+    // The oldest beat, or an idle one.
+    pub(crate) fn oldest(&self) -> Beat
+        ensures { result ≡ front_of (wire_beats self.now) }
+    {
+        match self {
+            Wire::Empty => Beat::idle(),
+            Wire::One(first) | Wire::Two(first, _) => *first,
         }
     }
 

@@ -1,0 +1,102 @@
+use Rattle.std.proofs.Common.{◌≡◌, ◌<◌, ℕ, Some, slice_get, refl, ap, sym, subst, ◌∙◌, arith}
+use Rattle.noc_topo.specs.Shape.{Grid, local_port, ports}
+use Rattle.noc_router.specs.Decided.{IsDecidedFor}
+use Rattle.noc_router.specs.View.{Site}
+use Rattle.noc_net.specs.declared.event.Event.TheVariants.{Decide}
+use Rattle.noc_net.specs.declared.network.TheConstants.{CYCLE_LIMIT}
+use Rattle.noc_net.specs.Core.{CoreState, Post, deciding, happens}
+use Rattle.noc_net.specs.Lockstep.{site_at}
+use Rattle.noc_net.specs.Parts.{setup_in}
+use Rattle.noc_net.specs.Room.{post_of}
+use Rattle.noc_net.specs.Stored.{core_in}
+use Rattle.noc_net.proofs.CoreLemmas.{router_within}
+use Rattle.noc_net.proofs.EventLemmas.{may_decide-parts}
+use Rattle.noc_net.proofs.StoredLemmas.{in_step_after, read_post, read_room, read_router, ready_decide, ready_here, router_changed, router_relation, router_site}
+use Rattle.noc_net.proofs.event_core.Core.decide.Goals as goal
+
+pub index_mut-requires : goal.index_mut-requires
+index_mut-requires c =
+    let own = core_in c.self.inside.parts in
+    let ready = ready_decide own c.args.router (ready_here c.args.self.now own (Decide c.args.router) c.self.view_is c.requires) in
+    omega (arith, router_within CYCLE_LIMIT own c.self.invariant.in_step c.args.router ready.0 ready.1, c.self.invariant.routers)
+
+pub index_mut-requires-2 : goal.index_mut-requires-2
+index_mut-requires-2 c =
+    let own = core_in c.self.inside.parts in
+    let ready = ready_decide own c.args.router (ready_here c.args.self.now own (Decide c.args.router) c.self.view_is c.requires) in
+    omega (arith, router_within CYCLE_LIMIT own c.self.invariant.in_step c.args.router ready.0 ready.1, c.self.invariant.room)
+
+pub decide-requires-clause-relation : goal.decide-requires-clause-relation
+decide-requires-clause-relation c =
+    let parts = c.self.inside.parts in
+    let own = core_in parts in
+    let sound = c.self.invariant.in_step in
+    let ready = ready_decide own c.args.router (ready_here c.args.self.now own (Decide c.args.router) c.self.view_is c.requires) in
+    let at_router = read_router parts sound c.self.invariant.routers c.args.router ready.0 ready.1 c.index_mut.result.now c.index_mut.ensures.value in
+    let at_room = read_room parts sound c.self.invariant.room c.args.router ready.0 ready.1 c.index_mut-2.result.now c.index_mut-2.ensures.value in
+    router_relation parts c.args.router c.index_mut.result.now (router_site parts sound c.args.router c.index_mut.result.now c.index_mut-2.result.now at_router at_room)
+
+pub decide-requires-clause-plan : goal.decide-requires-clause-plan
+decide-requires-clause-plan c =
+    let parts = c.self.inside.parts in
+    let own = core_in parts in
+    let sound = c.self.invariant.in_step in
+    let ready = ready_decide own c.args.router (ready_here c.args.self.now own (Decide c.args.router) c.self.view_is c.requires) in
+    let at_router = read_router parts sound c.self.invariant.routers c.args.router ready.0 ready.1 c.index_mut.result.now c.index_mut.ensures.value in
+    let at_room = read_room parts sound c.self.invariant.room c.args.router ready.0 ready.1 c.index_mut-2.result.now c.index_mut-2.ensures.value in
+    let site = router_site parts sound c.args.router c.index_mut.result.now c.index_mut-2.result.now at_router at_room in
+    subst (λ (s : Site). IsDecidedFor (ports s.grid) s.vcs parts.plan) (sym site) c.self.invariant.plan
+
+pub decide-requires-clause-steps : goal.decide-requires-clause-steps
+decide-requires-clause-steps c =
+    let parts = c.self.inside.parts in
+    let own = core_in parts in
+    let sound = c.self.invariant.in_step in
+    let ready = ready_decide own c.args.router (ready_here c.args.self.now own (Decide c.args.router) c.self.view_is c.requires) in
+    let at_router = read_router parts sound c.self.invariant.routers c.args.router ready.0 ready.1 c.index_mut.result.now c.index_mut.ensures.value in
+    let at_room = read_room parts sound c.self.invariant.room c.args.router ready.0 ready.1 c.index_mut-2.result.now c.index_mut-2.ensures.value in
+    let is = read_post parts c.args.router ready.0 c.index_mut.result.now c.index_mut-2.result.now ready.1 at_router at_room in
+    let below = (may_decide-parts CYCLE_LIMIT own.net c.args.router ready.0 ready.2).2 in
+    subst (λ (post : Post). post.steps < CYCLE_LIMIT) is below
+
+pub invariant_of-self : goal.invariant_of-self
+unfolding happens
+invariant_of-self c =
+    let parts = c.self.inside.parts in
+    let own = core_in parts in
+    let sound = c.self.invariant.in_step in
+    let here = ready_here c.args.self.now own (Decide c.args.router) c.self.view_is c.requires in
+    let ready = ready_decide own c.args.router here in
+    let at_router = read_router parts sound c.self.invariant.routers c.args.router ready.0 ready.1 c.index_mut.result.now c.index_mut.ensures.value in
+    let at_room = read_room parts sound c.self.invariant.room c.args.router ready.0 ready.1 c.index_mut-2.result.now c.index_mut-2.ensures.value in
+    let site = router_site parts sound c.args.router c.index_mut.result.now c.index_mut-2.result.now at_router at_room in
+    let post = post_of (local_port parts.relation.grid) c.index_mut.result.now c.index_mut-2.result.now in
+    record {
+      in_step = in_step_after own _ (Decide c.args.router) sound here
+          (router_changed parts c.args.router c.index_mut.result.now c.decide.new.router c.index_mut-2.result.now c.decide.new.room (deciding own.net c.args.router)
+          c.index_mut.ensures.value c.index_mut-2.ensures.value
+          (c.decide.ensures.post own.net refl ∙ ap (λ (s : Site). deciding own.net s.node post) site));
+      routers = c.self.invariant.routers;
+      beats = c.self.invariant.beats;
+      room = c.self.invariant.room;
+      plan = subst (λ (s : Site). IsDecidedFor (ports s.grid) s.vcs c.decide.new.plan) site c.decide.ensures.plan;
+      packets = c.self.invariant.packets;
+      few_packets = c.self.invariant.few_packets;
+    }
+
+pub returns : goal.returns
+unfolding happens
+returns c =
+    let parts = c.self.inside.parts in
+    let own = core_in parts in
+    let sound = c.self.invariant.in_step in
+    let here = ready_here c.args.self.now own (Decide c.args.router) c.self.view_is c.requires in
+    let ready = ready_decide own c.args.router here in
+    let at_router = read_router parts sound c.self.invariant.routers c.args.router ready.0 ready.1 c.index_mut.result.now c.index_mut.ensures.value in
+    let at_room = read_room parts sound c.self.invariant.room c.args.router ready.0 ready.1 c.index_mut-2.result.now c.index_mut-2.ensures.value in
+    let site = router_site parts sound c.args.router c.index_mut.result.now c.index_mut-2.result.now at_router at_room in
+    let post = post_of (local_port parts.relation.grid) c.index_mut.result.now c.index_mut-2.result.now in
+    router_changed parts c.args.router c.index_mut.result.now c.decide.new.router c.index_mut-2.result.now c.decide.new.room (deciding own.net c.args.router)
+    c.index_mut.ensures.value c.index_mut-2.ensures.value
+    (c.decide.ensures.post own.net refl ∙ ap (λ (s : Site). deciding own.net s.node post) site)
+    ∙ ap (λ (k : CoreState). happens k (Decide c.args.router)) c.self.view_is
