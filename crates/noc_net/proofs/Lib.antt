@@ -1,9 +1,11 @@
 pub mod ArrivalRows
+pub mod BufferLemmas
 pub mod CoreLemmas
 pub mod CoreRows
 pub mod EventLemmas
 pub mod FaultLemmas
 pub mod InStepLemmas
+pub mod LawLemmas
 pub mod ListLemmas
 pub mod LockstepRows
 pub mod NetworkRows
@@ -15,5 +17,7 @@ pub mod ReadingRows
 pub mod RunLemmas
 pub mod SentLemmas
 pub mod StepLemmas
+pub mod VerdictLemmas
 pub mod WireLemmas
+pub mod WormLemmas
 pub mod WormRows

@@ -1,3 +1,4 @@
+pub mod Buffers
 pub mod Core
 pub mod Faults
 pub mod Halves
@@ -10,4 +11,5 @@ pub mod Parts
 pub mod Progress
 pub mod Readings
 pub mod Room
+pub mod Verdicts
 pub mod Worm
