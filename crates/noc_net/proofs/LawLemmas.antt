@@ -4,7 +4,7 @@ use Rattle.std.specs.Prelude.{◌⊎◌, if◌then◌else◌, filter, nat_eq, na
 use Rattle.std.specs.List.{enumerate_from}
 use Rattle.std.proofs.lemmas.Bool.{cases_lt}
 use Rattle.std.proofs.lemmas.List.{get_or-map, length-map, get_or-replicate, get_or_past, length-replicate}
-use Rattle.std.proofs.lemmas.Option.{get_or_from_slice_get, same_Some}
+use Rattle.std.proofs.lemmas.Option.{get_or_from_slice_get, same_Some, slice_get_within}
 use Rattle.noc_topo.specs.Words.{Each, tabulate, map_indexed}
 use Rattle.noc_topo.specs.Shape.{nodes, local_port, neighbour}
 use Rattle.noc_topo.proofs.WordLemmas.{length-tabulate, get_or-tabulate, length-map_indexed, get_or-map_indexed}
@@ -14,7 +14,7 @@ use Rattle.noc_packet.specs.declared.packet.Beat.{Beat}
 use Rattle.noc_vc.specs.Input.{idle_input}
 use Rattle.noc_vc.specs.declared.input.InputState.{InputState}
 use Rattle.noc_vc.specs.declared.input.InputState.TheVariants.{Active}
-use Rattle.noc_router.specs.View.{Site, View, Decisions, local_step, opening_view, idle_beat, view_buffer, view_input, size_of, planned, committed, with_arrival, with_misfit, tail_packet, flit_out}
+use Rattle.noc_router.specs.View.{Site, View, Decisions, local_step, opening_view, idle_beat, view_buffer, view_input, size_of, finding_of, planned, committed, with_arrival, with_misfit, tail_packet, flit_out}
 use Rattle.noc_router.specs.declared.verdict.Finding.{Finding}
 use Rattle.noc_router.proofs.PlanFacts.{Lists, lists_of}
 use Rattle.noc_net.specs.Buffers.{HoldsOnePacket}
@@ -230,3 +230,17 @@ module _ (net : Setup) where
       let same : (step_of net n r view).0 ≡ after = same_Some (step_of net n r view).0 after (sym (next_view net n r view e) ∙ f) in
       right-listed (planned net.relation F) F (lists-at F r kept) (owned-below F r kept) i finding
       (sym (ap (λ (xs : List Finding). slice_get xs i) (sym (ap (λ (v : View). v.findings) same) ∙ step-findings n r view)) ∙ g)
+
+  -- a finding is of a channel that there is
+  pub found-inside : (n r i : ℕ) (view after : View) (finding : Finding) → 0 < net.places → slice_get (lockstep_at net n).views r ≡ Some view
+      → slice_get (lockstep_at net (n + 1)).views r ≡ Some after → slice_get after.findings i ≡ Some finding → i < size net
+  found-inside n r i view after finding some e f g =
+      let F = frozen_view net n r view in
+      let kept = frozen-at some n r view e in
+      let same : (step_of net n r view).0 ≡ after = same_Some (step_of net n r view).0 after (sym (next_view net n r view e) ∙ f) in
+      let is : after.findings ≡ (planned net.relation F).findings = sym (ap (λ (v : View). v.findings) same) ∙ step-findings n r view in
+      let inside : i < length after.findings = slice_get_within after.findings i finding g in
+      let count : length after.findings ≡ size_of F.site =
+      ap length is ∙ ap length (lists-at F r kept).findings ∙ length-tabulate (size_of F.site) (finding_of (planned net.relation F).round F) in
+      let there : size_of F.site ≡ size net = ap size_of kept.site in
+      omega arith

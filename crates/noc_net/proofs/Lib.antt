@@ -4,6 +4,7 @@ pub mod CoreLemmas
 pub mod CoreRows
 pub mod EventLemmas
 pub mod FaultLemmas
+pub mod GrantLemmas
 pub mod InStepLemmas
 pub mod LawLemmas
 pub mod ListLemmas

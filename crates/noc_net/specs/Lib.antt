@@ -1,6 +1,7 @@
 pub mod Buffers
 pub mod Core
 pub mod Faults
+pub mod Grants
 pub mod Halves
 pub mod InStep
 pub mod Inside
