@@ -1,9 +1,12 @@
 pub mod ArrivalRows
+pub mod BufferLemmas
 pub mod CoreLemmas
 pub mod CoreRows
 pub mod EventLemmas
 pub mod FaultLemmas
+pub mod GrantLemmas
 pub mod InStepLemmas
+pub mod LawLemmas
 pub mod ListLemmas
 pub mod LockstepRows
 pub mod NetworkRows
@@ -17,5 +20,7 @@ pub mod RunLemmas
 pub mod SentLemmas
 pub mod StepLemmas
 pub mod StoredLemmas
+pub mod VerdictLemmas
 pub mod WireLemmas
+pub mod WormLemmas
 pub mod WormRows

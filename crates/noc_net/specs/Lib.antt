@@ -1,5 +1,7 @@
+pub mod Buffers
 pub mod Core
 pub mod Faults
+pub mod Grants
 pub mod Halves
 pub mod InStep
 pub mod Inside
@@ -11,4 +13,5 @@ pub mod Progress
 pub mod Readings
 pub mod Room
 pub mod Stored
+pub mod Verdicts
 pub mod Worm

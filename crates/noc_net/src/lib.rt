@@ -4,6 +4,7 @@
 mod event;
 mod event_core;
 mod fault;
+mod laws;
 mod network;
 mod order;
 mod packets;
@@ -16,6 +17,10 @@ mod wire;
 pub use event::{Event, NotReady};
 pub use event_core::Core;
 pub use fault::NetFault;
+pub use laws::{
+    a_granted_channel_is_permitted, a_verdict_is_the_first_condition_that_fails,
+    buffers_hold_one_packet_each,
+};
 pub use network::{CYCLE_LIMIT, Network};
 pub use order::every_order_of_events_is_lockstep;
 pub use parts::Parts;
