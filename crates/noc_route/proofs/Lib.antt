@@ -10,4 +10,6 @@ pub mod RuleLemmas
 pub mod BuiltLemmas
 pub mod NoWayLemmas
 pub mod PermitsLemmas
+pub mod PinnedLemmas
+pub mod OneFaultLemmas
 mod Examples

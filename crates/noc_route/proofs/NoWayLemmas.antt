@@ -15,7 +15,7 @@ use Rattle.noc_route.specs.Built.{IsRelationOf}
 use Rattle.noc_route.specs.declared.rule.RouteRow.{RouteRow}
 use Rattle.noc_route.specs.declared.rule.RouteFault.{RouteFault}
 use Rattle.noc_route.specs.declared.rule.RouteFault.TheVariants.{WrongShape, NoLink, NotMinimal, EarlyEject, LateHop, NoWay, Memory}
-use Rattle.noc_route.specs.Routes.{Routes, width, blocks, block_of, block_class, block_router, block_dst}
+use Rattle.noc_route.specs.Routes.{Routes, IsTable, width, blocks, block_of, block_class, block_router, block_dst}
 use Rattle.noc_route.specs.Trimming.{set_in, block_set, left_at, comes_in, comes_at, is_stuck_at, entry_at, IsNoEarlier, IsStuckFirst, IsFirstStuck, IsPlace, CanCome, IsSoundOut, IsFullOut}
 use Rattle.noc_route.specs.Entered.{IsEntered}
 use Rattle.noc_route.specs.declared.rule.Entry.{Entry}
@@ -23,7 +23,7 @@ use Rattle.noc_route.proofs.PlaceLemmas.{flat-below, block-router}
 use Rattle.noc_route.proofs.TrimLemmas.{index-parts, port-below, CanCome-within, comes_in-sound, block-dst, block-class, block-sender, block-below}
 use Rattle.noc_route.proofs.EnterLemmas.{block-whole}
 use Rattle.noc_route.proofs.RuleLemmas.{IsFaultless, IsRight-from_test, leads-vc}
-use Rattle.noc_route.proofs.BuiltLemmas.{table, sized, some_vcs, member-leads, leads-member, next-link, next-eject, no-inject, ComesOn-reached, CameOn-come, rule-link, rule-eject, IsMade, IsUnstuck, comes-true, kept-set, exact}
+use Rattle.noc_route.proofs.BuiltLemmas.{table, sized, some_vcs, member-leads, leads-member, next-link, next-eject, no-inject, ComesOn-reached, CameOn-come, rule-link, rule-eject, IsMade, IsUnstuck, comes-true, kept-set, exact, IsRelation-made}
 
 -- ---- an empty set leads nowhere
 
@@ -231,12 +231,13 @@ ways-unstuck g sets left outs made unstuck e way =
     let at = StuckAt-no_way g sets left outs made e way in
     false≢true (sym (unstuck at.block at.input at.exists at.within) ∙ at.stuck)
 
-pub IsRelationOf-made : (g : Routing) (sets left outs : List ℕ) → IsMade g sets left outs → IsUnstuck g left outs → IsRelationOf g (table g left)
-IsRelationOf-made g sets left outs made unstuck = record {
+pub IsRelationOf-made : (g : Routing) (sets left outs : List ℕ) → IsMade g sets left outs → IsUnstuck g left outs → IsTable (table g left) → IsRelationOf g (table g left)
+IsRelationOf-made g sets left outs made unstuck size = record {
   faultless = record { right = made.good.right; rows = made.good.rows; ways = ways-unstuck g sets left outs made unstuck };
   grid = refl;
   vcs = refl;
   classes = refl;
+  built = IsRelation-made g sets left outs made unstuck size;
   exact = exact g sets left outs made;
 }
 

@@ -3,7 +3,7 @@ use Rattle.std.specs.Prelude.{◌≡◌, ℕ, ◌↔◌, true, All, None, IsTrue
 use Rattle.noc_topo.specs.Shape.{Grid}
 use Rattle.noc_route.specs.Channel.{Channel}
 use Rattle.noc_route.specs.Relation.{Routing, IsPermitted, IsNoWay, is_right, row_fault, rows_of}
-use Rattle.noc_route.specs.Routes.{Routes, permits}
+use Rattle.noc_route.specs.Routes.{Routes, permits, IsRelation}
 use Rattle.noc_route.specs.declared.rule.Entry.{Entry}
 use Rattle.noc_route.specs.declared.rule.Rule.{Rule}
 
@@ -16,10 +16,11 @@ pub record IsFaultless (g : Routing) : Type 0 where
   pub rows : All (λ row. row_fault g.grid g.vcs g.classes row ≡ None) (rows_of g.rule)
   pub ways : (e : Entry) → IsNoWay g e → ⊥
 
--- a table permits exactly what the routing relation of a rule without a fault does
+-- a table permits exactly what the routing relation of a rule without a fault does, and its sets are empty everywhere else
 pub record IsRelationOf (g : Routing) (routes : Routes) : Type 0 where
   pub faultless : IsFaultless g
   pub grid : routes.grid ≡ g.grid
   pub vcs : routes.vcs ≡ g.vcs
   pub classes : routes.classes ≡ g.classes
+  pub built : IsRelation routes
   pub exact : (m : ℕ) (c : Channel) (t : ℕ) (o : Channel) → IsTrue (permits routes m c t o) ↔ IsPermitted g m c t o

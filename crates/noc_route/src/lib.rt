@@ -4,6 +4,7 @@
 mod enter;
 mod frame;
 mod gather;
+mod laws;
 mod map;
 mod named;
 mod relation;
@@ -11,5 +12,6 @@ mod rows;
 mod rule;
 mod trim;
 
+pub use laws::{a_rule_has_a_relation_or_a_fault, a_rule_has_one_relation};
 pub use relation::Relation;
 pub use rule::{Entry, RouteFault, RouteRow, Rule};

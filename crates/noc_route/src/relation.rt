@@ -122,8 +122,7 @@ fn fill(
     requires outs { length outs.old ≡ blocks map.now.frame.shape map.now.frame.classes }
     requires empty { (j : ℕ) → slice_index sets.old j ≡ 0 }
     requires unused { (j : ℕ) → slice_index outs.old j ≡ 0 }
-    ensures exact { MatchResult result (λ _. IsRelationOf (routing_in map.now.frame rule.now) (routes_in map.now.frame sets.new)) (IsFaultOf (routing_in map.now.frame rule.now)) }
-    ensures built { OnOk result (IsRelation (routes_in map.now.frame sets.new)) }
+    ensures { MatchResult result (λ _. IsRelationOf (routing_in map.now.frame rule.now) (routes_in map.now.frame sets.new)) (IsFaultOf (routing_in map.now.frame rule.now)) }
 {
     enter(map, rule, sets)?;
     gather(map, sets, outs);

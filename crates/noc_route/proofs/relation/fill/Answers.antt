@@ -2,12 +2,12 @@ use Rattle.std.proofs.Common.{◌∙◌, ℕ, length, subst}
 use Rattle.std.proofs.lemmas.Result.{err_from_is_err_and}
 use Rattle.noc_route.specs.Entered.{routing_in}
 use Rattle.noc_route.specs.Trimming.{routes_in, IsStuckFirst}
-use Rattle.noc_route.proofs.BuiltLemmas.{ComesNearer-entered, IsRelation-made}
+use Rattle.noc_route.proofs.BuiltLemmas.{ComesNearer-entered}
 use Rattle.noc_route.proofs.NoWayLemmas.{IsFaultOf-row, IsMade-steps, IsRelationOf-made, IsFirstNoWay-stuck, IsUnstuck-none}
 use Rattle.noc_route.proofs.relation.fill.Goals as goal
 
-pub returns-in_err-enter-clause-exact : goal.returns-in_err-enter-clause-exact
-returns-in_err-enter-clause-exact c =
+pub returns-in_err-enter : goal.returns-in_err-enter
+returns-in_err-enter c =
     let p = err_from_is_err_and c.from_residual.result c.from_residual.ensures.1 in
     rw (p.1, p.2) (IsFaultOf-row (routing_in c.args.map.now.frame c.args.rule.now) c.in_err-enter.field-0.0 c.requires.right c.in_err-enter.ensures.err)
 
@@ -16,30 +16,22 @@ gather-requires-clause-nearer c =
     ComesNearer-entered (routing_in c.args.map.now.frame c.args.rule.now) c.enter.new.sets
     (record { grid = c.args.map.now.frame.grid; right = c.requires.right; rows = c.in_ok-enter.ensures.ok }) c.in_ok-enter.ensures.entered
 
-pub returns-in-Some-clause-exact : goal.returns-in-Some-clause-exact
-returns-in-Some-clause-exact c =
+pub returns-in-Some : goal.returns-in-Some
+returns-in-Some c =
     let g = routing_in c.args.map.now.frame c.args.rule.now in
     let made = IsMade-steps g c.enter.new.sets c.trim.new.sets c.gather.new.outs c.args.map.now.frame.grid c.requires.right c.in_ok-enter.ensures.ok c.in_ok-enter.ensures.entered
     c.gather.ensures.sound c.gather.ensures.full c.trim.ensures.left in
     let P : ℕ → Type 0 = λ n. IsStuckFirst (routes_in c.args.map.now.frame c.trim.new.sets) c.gather.new.outs n c.in-Some.entry in
     IsFirstNoWay-stuck g c.enter.new.sets c.trim.new.sets c.gather.new.outs c.in-Some.entry made (subst P (c.enter.auto.sets ∙ c.requires.sets) c.in-Some.ensures.first)
 
-pub returns-in-None-clause-exact : goal.returns-in-None-clause-exact
-returns-in-None-clause-exact c =
-    let g = routing_in c.args.map.now.frame c.args.rule.now in
-    IsRelationOf-made g c.enter.new.sets c.trim.new.sets c.gather.new.outs
-    (IsMade-steps g c.enter.new.sets c.trim.new.sets c.gather.new.outs c.args.map.now.frame.grid c.requires.right c.in_ok-enter.ensures.ok c.in_ok-enter.ensures.entered
-    c.gather.ensures.sound c.gather.ensures.full c.trim.ensures.left)
-    (IsUnstuck-none g c.trim.new.sets c.gather.new.outs (length c.enter.new.sets) (c.enter.auto.sets ∙ c.requires.sets) c.in-None.ensures.first)
-
-pub returns-in-None-clause-built : goal.returns-in-None-clause-built
-returns-in-None-clause-built c =
+pub returns-in-None : goal.returns-in-None
+returns-in-None c =
     let f = c.args.map.now.frame in
     let g = routing_in f c.args.rule.now in
     let made = IsMade-steps g c.enter.new.sets c.trim.new.sets c.gather.new.outs f.grid c.requires.right c.in_ok-enter.ensures.ok c.in_ok-enter.ensures.entered
     c.gather.ensures.sound c.gather.ensures.full c.trim.ensures.left in
     let unstuck = IsUnstuck-none g c.trim.new.sets c.gather.new.outs (length c.enter.new.sets) (c.enter.auto.sets ∙ c.requires.sets) c.in-None.ensures.first in
-    IsRelation-made g c.enter.new.sets c.trim.new.sets c.gather.new.outs made unstuck
+    IsRelationOf-made g c.enter.new.sets c.trim.new.sets c.gather.new.outs made unstuck
     (record {
       grid = f.grid;
       some_vcs = f.some_vcs;
