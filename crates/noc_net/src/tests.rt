@@ -144,3 +144,5 @@ fn a_router_waits_for_its_neighbour(rt: HostRuntime) -> Result<(), Fail> {
     }
     Ok(())
 }
+
+mod one_router;

@@ -12,8 +12,6 @@ mod requests;
 mod router;
 mod source;
 mod tally;
-#[cfg(test)]
-mod tests;
 mod verdict;
 
 pub use plan::Plan;

@@ -6,9 +6,9 @@ ghost use Rattle.noc_router.specs.Decided.{IsDecidedFor};
 ghost use Rattle.noc_router.specs.Start.{IsStart};
 ghost use Rattle.noc_router.specs.View.{IsRelationOf};
 
-use super::*;
 use noc_packet::{Beat, Flit, Packet};
 use noc_route::{Relation, Rule};
+use noc_router::{Plan, Router, Verdict};
 use noc_topo::{Kind, Shape};
 use std::alloc::Global;
 use std::process::Abort;
