@@ -11,20 +11,6 @@ pub record IsDoneTo {X : Type 0} (f : ℕ → X → X) (xs ys : List X) (i : ℕ
   pub before : (k : ℕ) (d : X) → k < i → k < length xs → get_or ys k d ≡ f k (get_or xs k d)
   pub behind : (k : ℕ) (d : X) → i ≤ k → get_or ys k d ≡ get_or xs k d
 
-pub done_none : {X : Type 0} (f : ℕ → X → X) (xs : List X) → IsDoneTo f xs xs 0
-done_none f xs = record { count = refl; before = λ k d l m. absurd (omega arith); behind = λ k d l. refl }
-
-pub done_more : {X : Type 0} (f : ℕ → X → X) (xs ys : List X) (i : ℕ) (y : X) → IsDoneTo f xs ys i → i < length xs
-    → ((d : X) → y ≡ f i (get_or xs i d)) → IsDoneTo f xs (set ys i y) (i + 1)
-done_more f xs ys i y done l is = record {
-  count = length-set ys i y ∙ done.count;
-  before = λ k d m n. ⊎_elim (λ (e : k ≡ i).
-      let here : get_or (set ys i y) i d ≡ y = get_or-set_same ys i y d (omega (arith, done.count)) in
-      rw e (here ∙ is d))
-      (λ (e : k ≢ i). get_or-set_other ys i k y d e ∙ done.before k d (omega arith) n) (cases_eq k i);
-  behind = λ k d m. get_or-set_other ys i k y d (omega arith) ∙ done.behind k d (omega arith);
-}
-
 pub done_all : {X : Type 0} (f : ℕ → X → X) (xs ys : List X) → IsDoneTo f xs ys (length xs) → ys ≡ map_indexed f xs
 done_all f xs ys done =
     same_lists ys (map_indexed f xs) (done.count ∙ sym (length-map_indexed f xs))

@@ -218,9 +218,6 @@ post_of_router parts sound routers rooms r l view read =
 pub router_exists : (k : CoreState) → IsInStep CYCLE_LIMIT k → (r : ℕ) → is_some (post_at k r) ≡ true → r < nodes k.net.relation.grid
 router_exists k sound r e = let post = some_when (post_at k r) e in router_within CYCLE_LIMIT k sound r post.0 post.1
 
-pub router_exists-test : (k : CoreState) → IsInStep CYCLE_LIMIT k → (r : ℕ) → r < nodes k.net.relation.grid → is_some (post_at k r) ≡ true
-router_exists-test k sound r l = ap is_some (router_there CYCLE_LIMIT k sound r l).1
-
 pub no_router : (k : CoreState) → IsInStep CYCLE_LIMIT k → (r : ℕ) → nodes k.net.relation.grid ≤ r → post_at k r ≡ None
 no_router k sound r past = slice_get_past k.posts r (omega (arith, sound.count))
 

@@ -18,9 +18,6 @@ use Rattle.noc_net.specs.Lockstep.{beat_from}
 abbrev pub drained : ℕ → List Beat → List Beat
 drained k beats = replicate k idle_beat ++ drop k beats
 
-pub drained_none : (beats : List Beat) → drained 0 beats ≡ beats
-drained_none beats = refl
-
 pub drained_at : (k : ℕ) (beats : List Beat) → k < length beats → get_or (drained k beats) k idle_beat ≡ get_or beats k idle_beat
 drained_at k beats l = rw (drop_more beats k idle_beat l) (get_or_at (replicate k idle_beat) (get_or beats k idle_beat) (drop (k + 1) beats) idle_beat k (length-replicate k idle_beat))
 
@@ -118,30 +115,6 @@ received_more g sound v k old wires node count long so_far (Some (b, q)) to r p 
         sent_other wires b q r p (beat_to_put v k) (let back = link_back g v.site.node k b q sound node to in omega (arith, back.node)) n
         ∙ so_far r p l ∙ sym (received_same k v (neighbour g r p) (beat_at old r p) other)
 
-received_none : (v : View) (from : Option (ℕ × ℕ)) (beat : Beat) → received_below 0 v from beat ≡ beat
-received_none v None beat = refl
-received_none v (Some (a, q)) beat = drops (nat_eq a v.site.node)
-  where
-    drops : (b : Bool) → (if b && nat_lt q 0 then beat_to_put v q else beat) ≡ beat
-    drops true = rw (le-ltb q 0 (omega arith)) refl
-    drops false = refl
-
--- nothing is put yet
-pub received_start : (g : Grid) (v : View) (old : List (List Beat)) (r p : ℕ) → beat_at old r p ≡ received_below 0 v (neighbour g r p) (beat_at old r p)
-received_start g v old r p = sym (received_none v (neighbour g r p) (beat_at old r p))
-
--- all is put
-pub received_all : (g : Grid) (sound : IsGrid g) (v : View) (r p : ℕ) → r < nodes g → (from : Option (ℕ × ℕ)) → neighbour g r p ≡ from → (beat : Beat)
-    → received_below (local_port g) v from beat ≡ received v from beat
-received_all g sound v r p l None e beat = refl
-received_all g sound v r p l (Some (a, q)) e beat =
-    let back = link_back g r p a q sound l e in
-    rw (lt-ltb q (local_port g) back.port) (and_true (nat_eq a v.site.node))
-  where
-    and_true : (b : Bool) → (if b && true then beat_to_put v q else beat) ≡ (if b then beat_to_put v q else beat)
-    and_true true = refl
-    and_true false = refl
-
 -- ---- routers that have nothing to put
 idle_from : (f : Option (ℕ × Flit)) (c : Option ℕ) → is_none f ≡ true → is_none c ≡ true → record { flit = f; credit = c } ≡ idle_beat
 idle_from None None p q = refl
@@ -193,10 +166,6 @@ rows_kept wires (Some (b, q)) beat long i l =
     rw (e, here, length-set (get_or wires b []) q beat) (long b (omega arith)))
     (λ (d : i ≢ b). ap length (get_or-set_other wires b i (set (get_or wires b []) q beat) [] d) ∙ long i (omega arith))
     (cases_eq i b)
-
--- all beats are put
-pub drained_all : (k : ℕ) (beats : List Beat) → length beats ≡ k → drained k beats ≡ replicate k idle_beat
-drained_all k beats count = ap (λ xs. replicate k idle_beat ++ xs) (drop_all k beats (omega arith)) ∙ append-nil (replicate k idle_beat)
 
 -- a place that got an idle beat has one
 pub set_idle : (beats : List Beat) (i : ℕ) (beat : Beat) → beat ≡ idle_beat → get_or (set beats i beat) i idle_beat ≡ idle_beat

@@ -45,7 +45,8 @@ impl Model for Core {
 impl Core {
     /// The core that begins where a network is: every router at the network's count, the beats in flight on the wires.
     pub fn new(network: Network) -> Core
-        ensures { result ≡ opening_core network }
+        ensures core { result ≡ opening_core network }
+        ensures net { result.net ≡ network.net }
     {
         let mut parts = network.into_parts();
         let links = parts.relation.shape().ports() - 1;

@@ -102,47 +102,75 @@ fn arrival(network: &Network, number: usize) -> Option<u64> {
     }
 }
 
+/// Whether each event is ready or not, as it should be.
+fn agree(core: &mut Core, answers: &[(Event, bool)]) -> bool
+    ensures { core.new.net ≡ core.old.net }
+{
+    for (event, ready) in answers {
+        if core.apply(*event).is_ok() != *ready {
+            return false;
+        }
+    }
+    true
+}
+
+/// The steps of two routers in a line, and the beats on the wires between them, towards the second and back.
+fn stand(core: &Core) -> [u64; 4]
+    requires { core.now.net.relation.grid ≡ record { wraps = false; radix = 2 ∷ [] } }
+{
+    [
+        core.steps(0),
+        core.steps(1),
+        core.beats(1, 1) as u64,
+        core.beats(0, 0) as u64,
+    ]
+}
+
 #[test]
-fn a_router_waits_for_its_neighbour(rt: HostRuntime) -> Result<(), Fail> {
-    let network = line(&rt, rt.alloc(), 2, Vec::new(rt.alloc()));
-    let mut core = Core::new(network);
-    assert!(rt; core.findings(0).is_empty());
-    let answers = [
+fn a_router_waits_for_its_neighbour(rt: HostRuntime) {
+    let mut core = Core::new(line(&rt, rt.alloc(), 2, Vec::new(rt.alloc())));
+    let first = [
         (Event::Take(0, 0), true),
         (Event::Take(0, 0), false),
         (Event::Decide(1), false),
         (Event::Decide(0), true),
         (Event::Put(0, 0), true),
         (Event::Put(0, 0), false),
+        (Event::Take(0, 0), false),
+        (Event::Take(0, 2), false),
+        (Event::Take(5, 0), false),
     ];
-    for (event, ready) in answers {
-        assert_eq!(rt; core.apply(event).is_ok(), ready);
-    }
-    assert_eq!(rt; core.findings(0).len(), 3);
-    assert_eq!(rt; core.steps(0), 1);
-    assert_eq!(rt; core.steps(1), 0);
-    assert_eq!(rt; core.beats(1, 1), 2);
-    assert_eq!(rt; core.beats(0, 0), 0);
-    assert_eq!(rt; core.apply(Event::Take(0, 0)), Err(NotReady));
-    assert_eq!(rt; core.apply(Event::Take(0, 2)), Err(NotReady));
-    assert_eq!(rt; core.apply(Event::Take(5, 0)), Err(NotReady));
+    assert!(rt; agree(&mut core, &first));
+    assert_eq!(rt; stand(&core), [1, 0, 2, 0]);
     let Err(mut core) = core.finish() else {
         panic!(rt; "finished")
     };
-    for event in [Event::Take(1, 1), Event::Decide(1), Event::Put(1, 1)] {
-        assert_eq!(rt; core.apply(event), Ok(()));
-    }
-    assert_eq!(rt; core.steps(0), 1);
-    assert_eq!(rt; core.steps(1), 1);
-    assert_eq!(rt; core.beats(0, 0), 1);
-    assert_eq!(rt; core.beats(1, 1), 1);
-    assert_eq!(rt; core.apply(Event::Take(0, 2)), Err(NotReady));
-    assert_eq!(rt; core.apply(Event::Take(5, 0)), Err(NotReady));
+    let second = [
+        (Event::Take(1, 1), true),
+        (Event::Decide(1), true),
+        (Event::Put(1, 1), true),
+        (Event::Take(0, 2), false),
+        (Event::Take(5, 0), false),
+    ];
+    assert!(rt; agree(&mut core, &second));
+    assert_eq!(rt; stand(&core), [1, 1, 1, 1]);
     match core.finish() {
         Ok(network) => assert_eq!(rt; network.count(), 1),
         Err(_) => panic!(rt; "not finished"),
     }
-    Ok(())
+}
+
+#[test]
+fn nothing_is_found_before_a_decide(rt: HostRuntime) {
+    let mut core = Core::new(line(&rt, rt.alloc(), 2, Vec::new(rt.alloc())));
+    assert!(rt; core.findings(0).is_empty());
+    assert!(rt;
+        agree(
+            &mut core,
+            &[(Event::Take(0, 0), true), (Event::Decide(0), true)]
+        )
+    );
+    assert_eq!(rt; core.findings(0).len(), 3);
 }
 
 mod one_router;

@@ -62,8 +62,8 @@ invariant_of-result c =
       few_packets = sound.few_packets;
     }
 
-pub returns : goal.returns
-returns c =
+pub returns-clause-core : goal.returns-clause-core
+returns-clause-core c =
     let parts = c.into_parts-parts.result in
     let sound = c.into_parts-parts.ensures.parts in
     let count : c.ports-links.result - 1 ≡ local_port parts.relation.grid = omega (arith, c.ports-links.ensures.local, ap local_port c.shape.ensures.value) in
@@ -77,3 +77,6 @@ returns c =
     ∙ ap (λ n. opened_post n view parts.count (get_or c.deref-2.result.now r [])) count
     ∙ ap (λ (beats : List (List Beat)). opened_post (local_port parts.relation.grid) view parts.count (get_or beats r [])) c.deref-2.ensures.value)
     ∙ ap opening_core c.into_parts-parts.ensures.network
+
+pub returns-clause-net : goal.returns-clause-net
+returns-clause-net c = ap (λ (u : Run). u.net) c.into_parts-parts.ensures.network
