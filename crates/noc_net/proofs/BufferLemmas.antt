@@ -56,7 +56,7 @@ pub record IsKept (net : Setup) (r : ℕ) (v : View) : Type 0 where
 
 module _ (net : Setup) (r : ℕ) where
   -- ---- places of channels
-  in_size : (port vc : ℕ) → port < local_port net.relation.grid + 1 → vc < net.relation.vcs → port * net.relation.vcs + vc < size net
+  pub in_size : (port vc : ℕ) → port < local_port net.relation.grid + 1 → vc < net.relation.vcs → port * net.relation.vcs + vc < size net
   in_size port vc l u =
       let m : port * net.relation.vcs + vc < net.relation.vcs * (local_port net.relation.grid + 1) = mul-add-lt port net.relation.vcs vc (local_port net.relation.grid + 1) l u in
       omega arith
@@ -94,7 +94,7 @@ module _ (net : Setup) (r : ℕ) where
   misfit-kept v kept = record { site = kept.site; n_buffers = kept.n_buffers; n_inputs = kept.n_inputs; channels = kept.channels; queue = kept.queue; source = kept.source }
 
   -- only ports below the last have a link
-  linked-below : (port : ℕ) → has_link (site_at net r) port ≡ true → port < local_port net.relation.grid
+  pub linked-below : (port : ℕ) → has_link (site_at net r) port ≡ true → port < local_port net.relation.grid
   linked-below port e = at (cases_lt port (local_port net.relation.grid))
     where
       at : (port < local_port net.relation.grid) ⊎ (local_port net.relation.grid ≤ port) → port < local_port net.relation.grid
@@ -277,13 +277,13 @@ module _ (net : Setup) (r : ℕ) where
 
   -- a router that stands at its place, with its decisions
   module _ (u : View) (kept : IsKept net r (record u { site = site_at net r })) where
-    abbrev here : View
+    abbrev pub here : View
     here = record u { site = site_at net r }
 
-    abbrev plan : Decisions
+    abbrev pub plan : Decisions
     plan = planned net.relation here
 
-    lists : Lists plan here
+    pub lists : Lists plan here
     lists = lists_of plan here (record { relation = net.relation; fits = record { grid = refl; vcs = refl }; is = refl })
 
     routes-at : (i : ℕ) → i < size net → slice_index plan.routes i ≡ route_of net.relation here i
@@ -367,7 +367,7 @@ module _ (net : Setup) (r : ℕ) where
         → get_or (map_indexed (λ j flits. buffer_after flits (decided_verdict plan j)) here.buffers) i [] ≡ buffer_after (view_buffer here i) (decided_verdict plan i)
     buffer-at i l = get_or-map_indexed (λ j flits. buffer_after flits (decided_verdict plan j)) here.buffers i [] [] (let n = kept.n_buffers in omega arith)
 
-    input-at : (i : ℕ) → i < size net
+    pub input-at : (i : ℕ) → i < size net
         → get_or (map_indexed (λ j input. input_after plan here j input (decided_verdict plan j)) here.inputs) i idle_input ≡ input_after plan here i (view_input here i) (decided_verdict plan i)
     input-at i l = get_or-map_indexed (λ j input. input_after plan here j input (decided_verdict plan j)) here.inputs i idle_input idle_input (let n = kept.n_inputs in omega arith)
 

@@ -11,6 +11,7 @@ pub mod ListLemmas
 pub mod LockstepRows
 pub mod NetworkRows
 pub mod OrderLemmas
+pub mod OwnerLemmas
 pub mod PacketLemmas
 pub mod PostLemmas
 pub mod ReaderLemmas

@@ -152,7 +152,7 @@ module _ (net : Setup) (r i : ℕ) where
         by_relation = idle-by_relation net r i input.phase (Some f.packet) idle;
       })
 
-  awaited-is : (f : Flit) (a : Option Awaited) → is_awaited f a ≡ true → a ≡ Some (awaited_as f)
+  pub awaited-is : (f : Flit) (a : Option Awaited) → is_awaited f a ≡ true → a ≡ Some (awaited_as f)
   awaited-is f None e = absurd (false≢true e)
   awaited-is f (Some a) e =
       let p1 = and_parts _ _ e in

@@ -5,7 +5,7 @@ ghost use Rattle.noc_router.specs.View.{View};
 ghost use Rattle.noc_router.specs.declared.verdict.Verdict.TheVariants.{Granted, Moved};
 ghost use Rattle.noc_router.specs.declared.verdict.Finding.{Finding as FindingValue};
 ghost use Rattle.noc_net.specs.Buffers.{HoldsOnePacket};
-ghost use Rattle.noc_net.specs.Grants.{NamesPermitted};
+ghost use Rattle.noc_net.specs.Grants.{MovesByOwn, NamesPermitted};
 ghost use Rattle.noc_net.specs.Lockstep.{lockstep_at};
 ghost use Rattle.noc_net.specs.Network.{Setup};
 ghost use Rattle.noc_net.specs.Verdicts.{IsRightFinding, frozen_view};
@@ -31,4 +31,12 @@ pub fn a_granted_channel_is_permitted()
     ensures { (net : Setup) (n r i : ℕ) (view after : View) (finding : FindingValue) → 0 < net.places
         → slice_get (lockstep_at net n).views r ≡ Some view → slice_get (lockstep_at net (n + 1)).views r ≡ Some after
         → slice_get after.findings i ≡ Some finding → (finding.verdict ≡ Granted) ⊎ (finding.verdict ≡ Moved) → NamesPermitted net r i finding }
+{}
+
+/// A flit moves only by a channel of its packet: where one moves, it is of the packet that the finding names, and the output
+/// channel by which it goes is owned by that packet, from that input channel.
+pub fn a_flit_moves_by_a_channel_of_its_packet()
+    ensures { (net : Setup) (n r i : ℕ) (view after : View) (finding : FindingValue) → 0 < net.places
+        → slice_get (lockstep_at net n).views r ≡ Some view → slice_get (lockstep_at net (n + 1)).views r ≡ Some after
+        → slice_get after.findings i ≡ Some finding → finding.verdict ≡ Moved → MovesByOwn (frozen_view net n r view) i finding }
 {}
