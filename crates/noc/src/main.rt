@@ -11,6 +11,7 @@ mod counted;
 mod explain;
 mod fault;
 mod formula;
+mod laws;
 mod line;
 mod request;
 mod run;
