@@ -26,16 +26,6 @@ is_memory (fault.Rank rank.Memory shape) = true
 is_memory (fault.Network net.Memory) = true
 is_memory _ = false
 
--- the rule made no relation
-abbrev pub is_of_relation : Fault → Bool
-is_of_relation (fault.Relation f shape) = true
-is_of_relation _ = false
-
--- the ranks of a rank file, or those by formula, are refused
-abbrev pub is_of_ranks : Fault → Bool
-is_of_ranks (fault.Rank f shape) = true
-is_of_ranks _ = false
-
 -- the status of each family where memory was not refused
 abbrev pub family_status : Fault → ℕ
 family_status (fault.Relation f shape) = 4

@@ -1,13 +1,10 @@
 //! What is answered to a request.
 
-ghost use Rattle.std.specs.Prelude.{◌≡◌, false, IfErr, IfOk};
+ghost use Rattle.std.specs.Prelude.{◌≡◌, IfErr, IfOk};
 ghost use Rattle.noc_files.specs.Writing.{Wrote};
 ghost use Rattle.noc.specs.Answer.{Asks, AsksFor, FirstFault, TextsFault};
 ghost use Rattle.noc.specs.Asked.{ReadsAs, asked_of};
 ghost use Rattle.noc.specs.Outcome.{Ends, Refuses};
-ghost use Rattle.noc.specs.Status.{is_memory, is_of_ranks, is_of_relation};
-ghost use Rattle.noc.specs.declared.fault.Fault.{Fault as FaultValue};
-ghost use Rattle.noc.specs.declared.request.Request.{Request as RequestValue};
 
 use crate::accept::answer_check;
 use crate::explain::explain;
@@ -70,11 +67,3 @@ fn answer_files<W: Sink>(
         Command::Ranks => answer_ranks(alloc, files, sink),
     }
 }
-
-/// A request has one first fault at most, where memory is not refused and the fault is none of its ranks: two of them are
-/// the same, if both or neither are faults of the routing relation.
-pub fn a_request_has_one_first_fault()
-    ensures { (r : RequestValue) (f g : FaultValue) → is_memory f ≡ false → is_memory g ≡ false
-        → is_of_ranks f ≡ false → is_of_ranks g ≡ false → is_of_relation f ≡ is_of_relation g
-        → FirstFault r f → FirstFault r g → f ≡ g }
-{}

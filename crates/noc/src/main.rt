@@ -12,6 +12,7 @@ mod counted;
 mod explain;
 mod fault;
 mod formula;
+mod laws;
 mod line;
 mod request;
 mod run;

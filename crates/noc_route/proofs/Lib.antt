@@ -12,4 +12,5 @@ pub mod NoWayLemmas
 pub mod PermitsLemmas
 pub mod PinnedLemmas
 pub mod OneFaultLemmas
+pub mod AlikeLemmas
 mod Examples
