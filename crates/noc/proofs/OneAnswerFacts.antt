@@ -1,44 +1,29 @@
 -- A request asks for one text, or has one first fault.
-use Rattle.std.proofs.Common.{◌≡◌, ◌≢◌, ℕ, ◌+◌, ◌-◌, ◌<◌, ◌≤◌, Bool, true, false, List, [], length, drop, Option, Some, None, Result, Ok, Err, refl, sym, subst, ap, ◌∙◌, arith, inl, inr}
-use Rattle.std.specs.Prelude.{◌⊎◌, ◌==◌, ◌||◌, slice_index, if◌then◌else◌}
-use Rattle.std.specs.Option.{IfSome, MatchOption}
-use Rattle.std.proofs.lemmas.List.{drop_all}
-use Rattle.std.proofs.lemmas.Bool.{cases_lt, cases_order, false≢true}
+use Rattle.std.proofs.Common.{◌≡◌, ◌≢◌, ℕ, ◌-◌, List, Some, Ok, refl, sym, subst, ap, ◌∙◌, arith, inl, inr}
+use Rattle.std.proofs.lemmas.Bool.{cases_order, false≢true}
 use Rattle.noc_topo.specs.Shape.{Grid}
 use Rattle.noc_route.specs.Routes.{Routes}
-use Rattle.noc_route.specs.declared.rule.Rule.{Rule}
-use Rattle.noc_net.specs.Faults.{fault_of}
 use Rattle.noc_net.specs.Network.{Run, Setup}
-use Rattle.noc_net.specs.declared.fault.NetFault.{NetFault}
-use Rattle.noc_packet.specs.declared.packet.Packet.{Packet}
-use Rattle.noc_rank.specs.Formulas.{IsFaultOfFormula, IsGenerated}
+use Rattle.noc_rank.specs.Formulas.{IsGenerated}
 use Rattle.noc_rank.specs.Ranking.{Ranking}
-use Rattle.noc_rank.specs.declared.fault.RankFault.{RankFault}
 use Rattle.noc_rank.specs.declared.fault.RankFault.TheVariants as rank
-use Rattle.noc_rank.specs.declared.rows.RankRow.{RankRow}
 use Rattle.noc_files.specs.Configuration.{Settings}
 use Rattle.noc_files.specs.Findings.{findings_text}
-use Rattle.noc_files.specs.Joined.{SplitsAt, line_at, line_len}
-use Rattle.noc_files.specs.Ranks.{ranks_of, ranks_text}
-use Rattle.noc_files.specs.Traffic.{traffic_of}
-use Rattle.noc_files.specs.declared.fault.InputFault.{InputFault}
-use Rattle.noc.specs.Answer.{Asks, AsksFor, a_report, findings, accepted, ranks, TextsFault, in_settings, in_formula, in_ranks, in_packets, runs, FirstFault, unread, unsplit, in_texts}
-use Rattle.noc.specs.Asked.{Asked, Said, ReadsAs, as_files, as_joined, files_of, is_joined, owned, parts, read_by}
-use Rattle.noc.specs.Check.{Accepts, AsksForChecked, HasRanking, RanksFault, bad_file, bad_rows, bad_ranks, checked_by, checked_ranks}
-use Rattle.noc.specs.Formula.{HasRanks, IsFormulaFault}
+use Rattle.noc_files.specs.Joined.{SplitsAt, line_at}
+use Rattle.noc_files.specs.Ranks.{ranks_text}
+use Rattle.noc.specs.Answer.{Asks, AsksFor, a_report, findings, accepted, ranks}
+use Rattle.noc.specs.Asked.{Asked, ReadsAs, as_files, as_joined, parts}
+use Rattle.noc.specs.Formula.{HasRanks}
 use Rattle.noc.specs.Reports.{report_text}
-use Rattle.noc.specs.Run.{AsksForRun, IsNetworkOf, PacketsFault, bad_traffic, bad_network, cycles_of, ending, report_of}
-use Rattle.noc.specs.Settings.{AsksForRelation, rule_named}
-use Rattle.noc.specs.Status.{is_memory}
-use Rattle.noc.specs.declared.fault.Fault.{Fault}
+use Rattle.noc.specs.Run.{AsksForRun, IsNetworkOf, cycles_of, ending, report_of}
 use Rattle.noc.specs.declared.fault.Fault.TheVariants as fault
 use Rattle.noc.specs.declared.request.Command.{Command}
 use Rattle.noc.specs.declared.request.Command.TheVariants as command
 use Rattle.noc.specs.declared.request.Report.{Report}
 use Rattle.noc.specs.declared.request.Request.{Request}
 use Rattle.noc.specs.declared.status.Status.{Status}
-use Rattle.noc.proofs.OneRankingFacts.{one-ranking, one-generated, formula-fault, no-formula-fault, no-rows-fault, one-rows-fault, no-check-fault, one-check-fault}
-use Rattle.noc.proofs.OneSettingsFacts.{one_relation_asked, no_settings_fault, one_settings_fault}
+use Rattle.noc.proofs.OneRankingFacts.{one-generated}
+use Rattle.noc.proofs.OneSettingsFacts.{one_relation_asked}
 
 -- ---- commands
 

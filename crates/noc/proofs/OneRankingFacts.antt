@@ -1,11 +1,11 @@
 -- Rows and formulas have one ranking, and one first fault; so has a check of ranks.
-use Rattle.std.proofs.Common.{◌≡◌, ◌≢◌, ℕ, ◌+◌, ◌*◌, ◌/◌, ◌%◌, ◌<◌, ◌≤◌, Bool, true, false, List, [], ◌∷◌, length, get_or, Option, Some, None, refl, sym, subst, ap, ◌∙◌, arith, inl, inr}
-use Rattle.std.specs.Prelude.{◌⊎◌, ◌&&◌, slice_get, slice_index}
+use Rattle.std.proofs.Common.{◌≡◌, ◌≢◌, ℕ, ◌+◌, ◌*◌, ◌/◌, ◌%◌, ◌<◌, Bool, true, false, List, [], ◌∷◌, length, get_or, Some, None, refl, sym, subst, ap, ◌∙◌, arith, inl, inr}
+use Rattle.std.specs.Prelude.{◌⊎◌, slice_get}
 use Rattle.std.proofs.lemmas.Bool.{cases_order, false≢true, and_parts}
 use Rattle.std.proofs.lemmas.List.{ext_get_or}
 use Rattle.noc_topo.specs.Shape.{Grid, IsGrid, nodes, local_port}
-use Rattle.noc_route.specs.Channel.{Channel, arrival_of, channel_vc, Link}
-use Rattle.noc_route.specs.Order.{numbers_before, row_numbers}
+use Rattle.noc_route.specs.Channel.{arrival_of, channel_vc, Link}
+use Rattle.noc_route.specs.Order.{numbers_before}
 use Rattle.noc_route.specs.Ranks.{rank_of}
 use Rattle.noc_route.specs.Routes.{Routes, permits_at, is_sent}
 use Rattle.noc_route.specs.declared.rule.Entry.{Entry}
@@ -14,9 +14,9 @@ use Rattle.noc_route.specs.declared.rule.RouteRow.{RouteRow}
 use Rattle.noc_route.proofs.BuiltLemmas.{same-channel}
 use Rattle.noc_route.proofs.OneFaultLemmas.{one_place, one_row}
 use Rattle.noc_rank.specs.Formulas.{IsGenerated, IsFaultOfFormula}
-use Rattle.noc_rank.specs.Ranking.{Ranking, IsRanking, is_place, is_channel, place_of, places, rank_at}
+use Rattle.noc_rank.specs.Ranking.{Ranking, IsRanking, is_place, places, rank_at}
 use Rattle.noc_rank.specs.Rising.{IsFall, IsFirstFall, IsRankedBy, IsFaultOfCheck, step_of}
-use Rattle.noc_rank.specs.Rows.{AreGood, IsFirstRowFault, IsFirstMissing, IsFaultOfRows, IsRankingOf, has_row, row_fault}
+use Rattle.noc_rank.specs.Rows.{AreGood, IsFirstRowFault, IsFirstMissing, IsFaultOfRows, IsRankingOf, row_fault}
 use Rattle.noc_rank.specs.declared.fault.RankFault.{RankFault}
 use Rattle.noc_rank.specs.declared.fault.RankFault.TheVariants.{NoGenerated, NotRising, Memory, UnknownChannel, DoubleChannel, BadRank, MissingChannel}
 use Rattle.noc_rank.specs.declared.rows.RankRow.{RankRow}

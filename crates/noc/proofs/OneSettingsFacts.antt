@@ -1,7 +1,5 @@
 -- A request's texts ask for one relation, and have one first fault before it.
-use Rattle.std.proofs.Common.{◌≡◌, ◌≢◌, ℕ, Bool, true, false, Option, Some, None, Result, Ok, Err, refl, sym, subst, ap, ◌∙◌, is_some, inl, inr}
-use Rattle.std.specs.Prelude.{◌⊎◌, Vec}
-use Rattle.std.specs.declared.alloc.Global.{Global}
+use Rattle.std.proofs.Common.{◌≡◌, ◌≢◌, ℕ, false, Option, Some, None, Result, Ok, Err, refl, sym, subst, ap, ◌∙◌, is_some}
 use Rattle.std.proofs.lemmas.Bool.{false≢true}
 use Rattle.noc_topo.specs.Shape.{Grid, shape_of}
 use Rattle.noc_topo.specs.declared.shape.ShapeFault.{ShapeFault}
@@ -10,9 +8,8 @@ use Rattle.noc_route.specs.Relation.{IsFaultOf}
 use Rattle.noc_route.specs.Routes.{Routes}
 use Rattle.noc_route.specs.declared.rule.RouteFault.{RouteFault}
 use Rattle.noc_route.specs.declared.rule.RouteFault.TheVariants as route
-use Rattle.noc_route.specs.declared.rule.RouteRow.{RouteRow}
 use Rattle.noc_route.specs.declared.rule.Rule.{Rule}
-use Rattle.noc_route.proofs.AlikeLemmas.{AreAlike, AreAlike-same, AreAlike-rows, AreAlike-turned, IsRelationOf-alike, IsFaultOf-alike}
+use Rattle.noc_route.proofs.AlikeLemmas.{AreAlike, AreAlike-same, AreAlike-rows, IsRelationOf-alike, IsFaultOf-alike}
 use Rattle.noc_route.proofs.OneFaultLemmas.{only-memory, one-fault}
 use Rattle.noc_route.proofs.PinnedLemmas.{one-relation}
 use Rattle.noc_files.specs.Configuration.{Settings, config_of}

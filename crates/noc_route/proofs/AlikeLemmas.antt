@@ -1,12 +1,12 @@
 -- Rules that lead alike have the same relation and the same faults.
-use Rattle.std.proofs.Common.{◌≡◌, ℕ, Bool, true, false, List, Option, Some, None, refl, sym, subst, ap, ◌∙◌}
+use Rattle.std.proofs.Common.{◌≡◌, ℕ, List, Option, Some, None, refl, sym, subst, ap, ◌∙◌}
 use Rattle.std.specs.Prelude.{◌&&◌, All, nat_eq, nat_lt, Vec}
 use Rattle.std.specs.declared.alloc.Global.{Global}
 use Rattle.noc_topo.specs.Shape.{Grid, local_port}
-use Rattle.noc_route.specs.Built.{IsRelationOf, IsFaultless, routing_of}
+use Rattle.noc_route.specs.Built.{IsRelationOf, routing_of}
 use Rattle.noc_route.specs.Channel.{Channel, Link, Inject, Eject, arrival_of, channel_vc}
-use Rattle.noc_route.specs.Relation.{Routing, is_right, leads, has_row, rule_at, rule_has, rows_of, row_fault, IsReached, injected, led_on, IsPermitted, IsNoWay, IsFirstNoWay, IsFirstRow, IsFirstFault, IsFaultOf}
-use Rattle.noc_route.specs.Routes.{Routes, permits}
+use Rattle.noc_route.specs.Relation.{is_right, leads, has_row, rule_at, rule_has, rows_of, row_fault, IsReached, injected, led_on, IsPermitted, IsNoWay, IsFirstRow, IsFirstFault, IsFaultOf}
+use Rattle.noc_route.specs.Routes.{Routes}
 use Rattle.noc_route.specs.declared.rule.Entry.{Entry}
 use Rattle.noc_route.specs.declared.rule.RouteRow.{RouteRow}
 use Rattle.noc_route.specs.declared.rule.RouteFault.{RouteFault}
