@@ -1,23 +1,23 @@
 -- A core in step stays in step, whatever event comes.
-use Rattle.std.proofs.Common.{◌≡◌, ◌≢◌, ℕ, zero, suc, ◌+◌, ◌-◌, ◌<◌, ◌≤◌, Bool, true, false, not, ◌&&◌, List, [], ◌∷◌, ◌++◌, length, get_or, set, drop, Option, Some, None, option_map, is_some, slice_get, refl, ap, sym, subst, ◌∙◌, ◌⊎◌, inl, inr, ⊎_elim, arith}
-use Rattle.std.specs.Prelude.{slice_index_or, nat_eq, nat_lt, unwrap_or, option_and_then, if◌then◌else◌}
-use Rattle.std.proofs.lemmas.Bool.{cases_eq, and_parts, false≢true}
+use Rattle.std.proofs.Common.{◌≡◌, ◌≢◌, ℕ, zero, suc, ◌+◌, ◌<◌, Bool, true, false, not, ◌&&◌, List, [], ◌∷◌, ◌++◌, length, get_or, set, drop, Option, Some, option_map, slice_get, refl, ap, sym, subst, ◌∙◌, ◌⊎◌, inl, inr, ⊎_elim, arith}
+use Rattle.std.specs.Prelude.{unwrap_or}
+use Rattle.std.proofs.lemmas.Bool.{cases_eq, and_parts}
 use Rattle.std.proofs.lemmas.List.{get_or-set_same, get_or-set_other}
 use Rattle.std.proofs.lemmas.Option.{same_Some, slice_get_within}
-use Rattle.noc_topo.specs.Shape.{IsGrid, IsLinkBack, neighbour, nodes}
+use Rattle.noc_topo.specs.Shape.{IsLinkBack, neighbour, nodes}
 use Rattle.noc_topo.proofs.LinkLemmas.{link_back}
 use Rattle.noc_packet.specs.declared.packet.Beat.{Beat}
 use Rattle.noc_router.specs.View.{idle_beat}
 use Rattle.noc_net.specs.declared.event.Event.{Event}
 use Rattle.noc_net.specs.declared.event.Event.TheVariants.{Take, Decide, Put}
-use Rattle.noc_net.specs.Core.{CoreState, Post, after_event, beat_to_send, deciding, finished, happens, has_beat, holds_at, is_linked, is_ready, links, may_decide, may_put, may_take, onto_wire, post_at, putting, receiving, taking, wire_of, with_post}
+use Rattle.noc_net.specs.Core.{CoreState, Post, beat_to_send, deciding, happens, has_beat, holds_at, is_linked, is_ready, may_decide, may_put, may_take, onto_wire, post_at, putting, receiving, taking, wire_of, with_post}
 use Rattle.noc_net.specs.Halves.{beat_at}
-use Rattle.noc_net.specs.InStep.{HoldsCycles, IsInStep, IsPostInStep, beats_of_cycles, cycle_of, cycle_put, cycle_taken, one_if}
+use Rattle.noc_net.specs.InStep.{IsInStep, IsPostInStep, cycle_put, cycle_taken, one_if}
 use Rattle.noc_net.specs.Lockstep.{lockstep_at}
 use Rattle.noc_net.specs.Network.{Setup}
-use Rattle.noc_net.specs.Order.{is_decide, is_put, is_take}
-use Rattle.noc_net.proofs.EventLemmas.{Moves, all_at, both, decided_post, finished-wires, linked_port, linked_when, may_decide-parts, may_take-parts, moves-deciding, moves-decide_other, moves-put_other, moves-putting, moves-take_other, moves-taking, not_first, not_second, put_post}
-use Rattle.noc_net.proofs.InStepLemmas.{decided_in_step, finished_in_step, holds_first, holds_put, holds_same, holds_some, holds_taken, put_in_step, receiving_in_step, taking_in_step, view_now}
+use Rattle.noc_net.specs.Order.{is_put, is_take}
+use Rattle.noc_net.proofs.EventLemmas.{Moves, both, decided_post, finished-wires, linked_port, linked_when, may_decide-parts, may_take-parts, moves-deciding, moves-decide_other, moves-put_other, moves-putting, moves-take_other, moves-taking, not_first, not_second, put_post}
+use Rattle.noc_net.proofs.InStepLemmas.{decided_in_step, finished_in_step, holds_first, holds_put, holds_same, holds_taken, put_in_step, receiving_in_step, taking_in_step, view_now}
 use Rattle.noc_net.proofs.PostLemmas.{beat_when, get_changed_other, get_changed_same, length-changed_at, post_before, router_when, some_when}
 use Rattle.noc_net.proofs.SentLemmas.{count_sent}
 use Rattle.noc_net.proofs.WireLemmas.{same-ports}

@@ -1,20 +1,20 @@
 -- What one event that is ready does to the cycles of a router.
-use Rattle.std.proofs.Common.{◌≡◌, ◌≢◌, ℕ, ◌+◌, ◌<◌, ◌≤◌, Bool, true, false, not, ◌&&◌, ◌||◌, List, [], ◌∷◌, length, get_or, set, drop, map, Option, Some, None, option_map, is_some, is_none, slice_get, refl, ap, sym, subst, ◌∙◌, ◌⊎◌, inl, inr, ⊎_elim, arith, eq-eqb, ne_eqb}
+use Rattle.std.proofs.Common.{◌≡◌, ◌≢◌, ℕ, ◌+◌, ◌<◌, ◌≤◌, Bool, true, false, not, ◌&&◌, ◌||◌, List, [], ◌∷◌, length, get_or, set, map, Option, Some, None, is_some, is_none, slice_get, refl, ap, sym, ◌∙◌, ⊎_elim, arith, eq-eqb, ne_eqb}
 use Rattle.std.specs.Prelude.{slice_index_or, nat_eq, nat_lt, unwrap_or, if◌then◌else◌}
 use Rattle.std.proofs.lemmas.List.Folds.{list_all_at}
 use Rattle.std.proofs.lemmas.Bool.{true_from_ne_false, false≢true, cases_eq, cases_lt, not-true, and_parts, ltb-true}
-use Rattle.noc_topo.specs.Words.{below, map_indexed}
-use Rattle.noc_topo.specs.Shape.{IsGrid, neighbour, nodes}
+use Rattle.noc_topo.specs.Words.{map_indexed}
+use Rattle.noc_topo.specs.Shape.{neighbour}
 use Rattle.noc_topo.proofs.WordLemmas.{get_or-map_indexed}
 use Rattle.noc_packet.specs.declared.packet.Beat.{Beat}
-use Rattle.noc_router.specs.View.{View, local_step, idle_beat}
+use Rattle.noc_router.specs.View.{local_step, idle_beat}
 use Rattle.noc_net.specs.declared.event.Event.{Event}
 use Rattle.noc_net.specs.declared.event.Event.TheVariants.{Take, Decide, Put}
-use Rattle.noc_net.specs.Core.{CoreState, Post, all_have, deciding, finished, happens, has_beat, is_linked, is_ready, links, may_decide, may_put, may_take, none_has, onto_wire, post_at, putting, receiving, rested, taking, wire_of, with_post}
-use Rattle.noc_net.specs.InStep.{IsInStep, IsPostInStep, cycle_of, cycle_put, cycle_taken, one_if}
+use Rattle.noc_net.specs.Core.{Post, all_have, deciding, finished, has_beat, is_linked, links, may_decide, may_put, may_take, none_has, putting, rested, taking, wire_of}
+use Rattle.noc_net.specs.InStep.{IsPostInStep, cycle_of, cycle_put, cycle_taken, one_if}
 use Rattle.noc_net.specs.Network.{Setup}
 use Rattle.noc_net.specs.Order.{is_decide, is_put, is_take}
-use Rattle.noc_net.proofs.PostLemmas.{all_below, beat_when, has_none, has_past, has_set_other, has_set_same, post_before, router_when, some_when}
+use Rattle.noc_net.proofs.PostLemmas.{all_below, has_none, has_past, has_set_other, has_set_same}
 use Rattle.noc_net.proofs.RunLemmas.{no_link}
 
 -- a port with a link is a link port

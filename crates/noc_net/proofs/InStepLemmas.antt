@@ -1,29 +1,25 @@
 -- Each event that is ready keeps a core in step.
-use Rattle.std.proofs.Common.{◌≡◌, ◌≢◌, ℕ, suc, ◌+◌, ◌-◌, ◌<◌, ◌≤◌, Bool, true, false, not, ◌&&◌, ◌||◌, List, [], ◌∷◌, ◌++◌, length, get_or, set, drop, map, replicate, Option, Some, None, option_map, is_some, slice_get, refl, ap, sym, subst, ◌∙◌, ◌⊎◌, inl, inr, ⊎_elim, arith, add-one}
-use Rattle.std.specs.Prelude.{slice_index_or, nat_eq, nat_lt, unwrap_or, option_and_then, if◌then◌else◌}
+use Rattle.std.proofs.Common.{◌≡◌, ◌≢◌, ℕ, suc, ◌+◌, ◌-◌, ◌<◌, Bool, true, false, List, [], ◌∷◌, ◌++◌, length, get_or, set, drop, map, Option, Some, None, is_some, slice_get, refl, ap, sym, subst, ◌∙◌, ⊎_elim, arith}
+use Rattle.std.specs.Prelude.{slice_index_or, unwrap_or, if◌then◌else◌}
 use Rattle.std.specs.List.{range_with_len}
-use Rattle.std.proofs.lemmas.Bool.{cases_eq, cases_lt, not-true, and_parts, ltb-true, false≢true}
+use Rattle.std.proofs.lemmas.Bool.{cases_eq, false≢true}
 use Rattle.std.proofs.lemmas.List.{ext_get_or, get_or-map, get_or-set_same, get_or-set_other, length-map, length-replicate, length-set}
 use Rattle.std.proofs.lemmas.List.FromFn.{length-map-range_with_len, map-range_with_len_more}
-use Rattle.std.proofs.lemmas.Option.{none-some, same_Some, slice_get_within, slice_get-get_or}
-use Rattle.noc_topo.specs.Words.{below, map_indexed}
-use Rattle.noc_topo.specs.Shape.{IsGrid, IsLinkBack, neighbour, nodes}
+use Rattle.std.proofs.lemmas.Option.{none-some, same_Some}
+use Rattle.noc_topo.specs.Shape.{IsGrid, neighbour, nodes}
 use Rattle.noc_topo.proofs.LinkLemmas.{link_back}
 use Rattle.noc_topo.proofs.WordLemmas.{length-map_indexed}
 use Rattle.noc_packet.specs.declared.packet.Beat.{Beat}
-use Rattle.noc_router.specs.View.{View, local_step, idle_beat}
-use Rattle.noc_net.specs.declared.event.Event.{Event}
-use Rattle.noc_net.specs.declared.event.Event.TheVariants.{Take, Decide, Put}
-use Rattle.noc_net.specs.Core.{CoreState, Post, all_have, beat_to_send, deciding, finished, happens, has_beat, is_linked, is_ready, links, may_decide, may_put, may_take, no_beats, none_has, onto_wire, post_at, putting, receiving, rested, taking, wire_of, with_post}
+use Rattle.noc_router.specs.View.{local_step, idle_beat}
+use Rattle.noc_net.specs.Core.{Post, all_have, finished, has_beat, is_linked, links, may_decide, no_beats, none_has, receiving, rested, taking, wire_of}
 use Rattle.noc_net.specs.Halves.{beat_at}
-use Rattle.noc_net.specs.InStep.{HoldsCycles, IsInStep, IsPostInStep, beats_of_cycles, cycle_of, cycle_put, cycle_taken, one_if}
+use Rattle.noc_net.specs.InStep.{HoldsCycles, IsPostInStep, beats_of_cycles, cycle_of, one_if}
 use Rattle.noc_net.specs.Lockstep.{beats_at, lockstep_at}
 use Rattle.noc_net.specs.Network.{Setup}
-use Rattle.noc_net.specs.Order.{is_decide, is_put, is_take}
-use Rattle.noc_net.proofs.EventLemmas.{Moves, all_at, both, decided_post, finished-wires, front_some, has_decided, linked_port, linked_when, may_decide-parts, may_take-parts, moves-deciding, moves-decide_other, moves-put_other, moves-putting, moves-take_other, moves-taking, put_post}
-use Rattle.noc_net.proofs.PostLemmas.{all_below, beat_when, get_changed_other, get_changed_same, has_none, has_set_other, has_set_same, length-changed_at, none_when, post_before, router_when, some_when}
+use Rattle.noc_net.proofs.EventLemmas.{all_at, decided_post, front_some, has_decided, linked_port, linked_when, may_decide-parts, put_post}
+use Rattle.noc_net.proofs.PostLemmas.{has_none, has_set_other, has_set_same, none_when}
 use Rattle.noc_net.proofs.RunLemmas.{count_row}
-use Rattle.noc_net.proofs.SentLemmas.{count_sent, next_view, sent_beat, step_of, unlinked_beat, view_within}
+use Rattle.noc_net.proofs.SentLemmas.{count_sent, next_view, sent_beat, unlinked_beat, view_within}
 
 -- ---- one router
 

@@ -1,5 +1,5 @@
 -- What every list of events has in common.
-use Rattle.std.proofs.Common.{◌≡◌, ◌≢◌, ℕ, zero, suc, ◌+◌, ◌-◌, ◌<◌, ◌≤◌, Bool, true, false, cond, not, ◌&&◌, List, [], ◌∷◌, length, map, get_or, replicate, Option, Some, None, is_some, slice_get, count_by, refl, ap, sym, subst, ◌∙◌, ⊎_elim, arith, eqb-true}
+use Rattle.std.proofs.Common.{◌≡◌, ℕ, ◌+◌, ◌-◌, ◌<◌, ◌≤◌, Bool, true, false, cond, not, ◌&&◌, List, [], ◌∷◌, length, map, get_or, Option, Some, None, is_some, slice_get, count_by, refl, ap, sym, subst, ◌∙◌, ⊎_elim, arith, eqb-true}
 use Rattle.std.specs.Prelude.{slice_index_or, nat_eq, if◌then◌else◌}
 use Rattle.std.specs.List.{list_all, range_with_len}
 use Rattle.std.proofs.lemmas.Bool.{cases_lt, and_parts, false≢true, not-true, true_from_ne_false, false_from_ne_true}
@@ -7,24 +7,24 @@ use Rattle.std.proofs.lemmas.List.{ext_get_or, same_lists, get_or_past, get_or-r
 use Rattle.std.proofs.lemmas.List.Folds.{list_all_at}
 use Rattle.std.proofs.lemmas.List.Sums.{sum_by-cons}
 use Rattle.std.proofs.lemmas.Option.{same_Some, slice_get_within, get_or_from_slice_get}
-use Rattle.noc_topo.specs.Words.{below, map_indexed, tabulate}
-use Rattle.noc_topo.specs.Shape.{IsGrid, neighbour, nodes}
+use Rattle.noc_topo.specs.Words.{map_indexed}
+use Rattle.noc_topo.specs.Shape.{IsGrid, neighbour}
 use Rattle.noc_topo.proofs.LinkLemmas.{link_back}
 use Rattle.noc_topo.proofs.WordLemmas.{length-tabulate, get_or-tabulate, tabulate-from_each, length-map_indexed, get_or-map_indexed}
 use Rattle.noc_packet.specs.declared.packet.Beat.{Beat}
-use Rattle.noc_router.specs.View.{View, opening_view}
+use Rattle.noc_router.specs.View.{View}
 use Rattle.noc_net.specs.declared.event.Event.{Event}
 use Rattle.noc_net.specs.declared.event.Event.TheVariants.{Take, Decide, Put}
 use Rattle.noc_net.specs.Core.{CoreState, Post, after_event, after_events, are_between, happens, has_beat, is_between, is_linked, is_ready, links, no_beats, none_has, onto_wire, opening_core, post_at, rested, wire_of, wires_in_flight}
 use Rattle.noc_net.specs.Halves.{beat_at}
 use Rattle.noc_net.specs.InStep.{HoldsCycles, IsInStep, IsPostInStep, beats_of_cycles, cycle_of, cycle_put, cycle_taken, one_if}
-use Rattle.noc_net.specs.Lockstep.{lockstep_at, site_at}
+use Rattle.noc_net.specs.Lockstep.{lockstep_at}
 use Rattle.noc_net.specs.Network.{Setup, Run}
-use Rattle.noc_net.specs.Order.{KeepsStep, KeepsWire, decides, happening, is_decide, is_put, is_take, puts, takes}
+use Rattle.noc_net.specs.Order.{KeepsStep, decides, happening, is_decide, is_put, is_take, puts, takes}
 use Rattle.noc_net.proofs.CoreLemmas.{get_some, happens_in_step, moves, router_there, router_within}
 use Rattle.noc_net.proofs.EventLemmas.{Moves, linked_port, linked_when, none_at}
 use Rattle.noc_net.proofs.InStepLemmas.{holds_some}
-use Rattle.noc_net.proofs.PostLemmas.{all_below, has_none, none_when, same_post}
+use Rattle.noc_net.proofs.PostLemmas.{has_none, none_when, same_post}
 use Rattle.noc_net.proofs.RunLemmas.{count_views}
 
 -- ---- the core of a network after its cycles

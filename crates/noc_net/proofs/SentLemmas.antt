@@ -1,6 +1,6 @@
 -- What a router of the lockstep run sees and sends in one cycle.
-use Rattle.std.proofs.Common.{◌≡◌, ℕ, zero, suc, ◌+◌, ◌<◌, ◌≤◌, List, [], length, map, get_or, slice_get, Option, Some, None, refl, ap, sym, subst, ◌∙◌, ⊎_elim, arith, add-one, replicate}
-use Rattle.std.proofs.lemmas.List.{get_or-map, length-map, get_or-replicate, get_or_past}
+use Rattle.std.proofs.Common.{◌≡◌, ℕ, zero, suc, ◌+◌, ◌<◌, ◌≤◌, List, [], length, map, get_or, slice_get, Some, None, ap, sym, ◌∙◌, ⊎_elim, arith, add-one, replicate}
+use Rattle.std.proofs.lemmas.List.{get_or-map, length-map, get_or-replicate}
 use Rattle.std.proofs.lemmas.Option.{slice_get_within, slice_get-get_or, get_or_from_slice_get}
 use Rattle.std.proofs.lemmas.Bool.{cases_lt}
 use Rattle.noc_topo.specs.Words.{map_indexed, tabulate}

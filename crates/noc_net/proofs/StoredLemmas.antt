@@ -1,8 +1,8 @@
 -- What the fields of a core say of it.
-use Rattle.std.proofs.Common.{◌≡◌, ℕ, zero, suc, ◌+◌, ◌<◌, ◌≤◌, Bool, true, false, ◌&&◌, List, [], ◌∷◌, length, get_or, set, take, slice_get, Option, Some, None, is_some, vec_len, refl, ap, sym, subst, ◌∙◌, ⊎_elim, arith}
+use Rattle.std.proofs.Common.{◌≡◌, ℕ, zero, suc, ◌<◌, ◌≤◌, Bool, true, false, ◌&&◌, List, [], ◌∷◌, length, get_or, set, take, slice_get, Option, Some, None, is_some, vec_len, refl, ap, sym, subst, ◌∙◌, ⊎_elim, arith}
 use Rattle.std.specs.Vec.{with_item}
 use Rattle.std.proofs.lemmas.Bool.{and_parts, cases_lt, false≢true}
-use Rattle.std.proofs.lemmas.Option.{same_Some, slice_get_past, slice_get_within, slice_get-get_or, get_or_from_slice_get}
+use Rattle.std.proofs.lemmas.Option.{same_Some, slice_get_past, slice_get-get_or, get_or_from_slice_get}
 use Rattle.std.specs.Prelude.{if◌then◌else◌}
 use Rattle.std.specs.List.{list_all}
 use Rattle.std.proofs.lemmas.List.{get_or-take, get_or_past, length-set, same_lists}
@@ -10,14 +10,14 @@ use Rattle.noc_topo.specs.Words.{map_indexed, tabulate}
 use Rattle.noc_topo.proofs.WordLemmas.{get_or-map_indexed, get_or-tabulate, length-map_indexed, length-tabulate, tabulate-from_each}
 use Rattle.noc_topo.proofs.LinkLemmas.{link_back, nodes-some}
 use Rattle.noc_packet.specs.declared.packet.Beat.{Beat}
-use Rattle.noc_topo.specs.Shape.{IsGrid, local_port, neighbour, nodes}
+use Rattle.noc_topo.specs.Shape.{local_port, neighbour, nodes}
 use Rattle.noc_router.specs.View.{Site, View, IsRelationOf, idle_beat}
 use Rattle.noc_net.specs.declared.event.Event.{Event}
 use Rattle.noc_net.specs.declared.event.Event.TheVariants.{Take, Decide, Put}
 use Rattle.noc_net.specs.declared.network.TheConstants.{CYCLE_LIMIT}
 use Rattle.noc_net.specs.declared.parts.Parts.{Parts}
 use Rattle.noc_net.specs.declared.room.Room.{Room}
-use Rattle.noc_net.specs.Core.{CoreState, Post, are_between, opening_core, rested, wires_in_flight, beat_to_send, changed_at, happens, has_beat, holds_at, onto_wire, putting, receiving, wire_of, is_linked, is_ready, links, may_decide, may_put, may_take, post_at, with_post}
+use Rattle.noc_net.specs.Core.{CoreState, Post, are_between, opening_core, rested, wires_in_flight, beat_to_send, changed_at, happens, has_beat, holds_at, onto_wire, putting, receiving, is_linked, is_ready, may_decide, may_put, may_take, post_at, with_post}
 use Rattle.noc_net.specs.InStep.{IsInStep, cycle_of}
 use Rattle.noc_net.specs.Halves.{beat_at}
 use Rattle.noc_net.specs.Lockstep.{lockstep_at, site_at}
@@ -27,7 +27,7 @@ use Rattle.noc_net.specs.Parts.{AreParts, run_in, setup_in}
 use Rattle.noc_net.specs.Room.{front_of, opened_post, opening_wires, post_of, posts_of, rests_at, wires_in}
 use Rattle.noc_net.specs.Stored.{core_in}
 use Rattle.noc_net.proofs.CoreLemmas.{get_some, happens_in_step, kept_wire, router_there, router_within}
-use Rattle.noc_net.proofs.EventLemmas.{finished-wires, linked_port, put_post}
+use Rattle.noc_net.proofs.EventLemmas.{finished-wires, put_post}
 use Rattle.noc_net.proofs.OrderLemmas.{between-cycle, here_between, room_for_beat, wire_there}
 use Rattle.noc_net.proofs.PostLemmas.{none_when, router_when, some_when}
 use Rattle.noc_net.proofs.SentLemmas.{unlinked_beat, view_site}

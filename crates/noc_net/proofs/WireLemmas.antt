@@ -1,8 +1,8 @@
 -- The beats on the wires, while the routers put theirs one after another.
-use Rattle.std.proofs.Common.{◌≡◌, ◌≢◌, ℕ, zero, suc, ◌+◌, ◌<◌, ◌≤◌, Bool, true, false, List, [], ◌∷◌, ◌++◌, length, get_or, set, drop, Option, Some, None, refl, ap, sym, ◌∙◌, ⊎_elim, arith, replicate}
+use Rattle.std.proofs.Common.{◌≡◌, ◌≢◌, ℕ, zero, suc, ◌+◌, ◌<◌, ◌≤◌, true, false, List, [], ◌∷◌, ◌++◌, length, get_or, set, drop, Option, Some, None, refl, ap, sym, ◌∙◌, ⊎_elim, arith, replicate}
 use Rattle.std.specs.Prelude.{IfSome, if◌then◌else◌, ◌&&◌, nat_eq, nat_lt, is_none, unwrap_or}
 use Rattle.std.specs.List.{list_all}
-use Rattle.std.proofs.lemmas.List.{get_or_at, set_at, length-replicate, replicate_more, drop_more, drop_all, append-nil}
+use Rattle.std.proofs.lemmas.List.{get_or_at, set_at, length-replicate, replicate_more, drop_more}
 use Rattle.std.proofs.lemmas.Bool.{cases_eq, cases_lt, lt-ltb, le-ltb, and_parts}
 use Rattle.std.proofs.lemmas.Bool.Decides.{eqb_tells}
 use Rattle.std.proofs.lemmas.List.{get_or-set_same, get_or-set_other, length-set}

@@ -1,12 +1,12 @@
 -- Every permitted order of events gives the same network (docs/MODEL.md, "The event core").
-use Rattle.std.specs.Prelude.{◌≡◌, ℕ, ◌+◌, ◌-◌, ◌≤◌, Bool, true, false, ◌&&◌, List, [], ◌∷◌, length, count_by, Option, Some, None, slice_index_or, nat_eq, if◌then◌else◌}
-use Rattle.noc_topo.specs.Shape.{IsGrid, nodes, neighbour}
+use Rattle.std.specs.Prelude.{◌≡◌, ℕ, ◌+◌, ◌≤◌, Bool, true, false, ◌&&◌, List, [], ◌∷◌, length, count_by, Some, slice_index_or, nat_eq, if◌then◌else◌}
+use Rattle.noc_topo.specs.Shape.{nodes, neighbour}
 use Rattle.noc_net.specs.declared.event.Event.{Event}
 use Rattle.noc_net.specs.declared.event.Event.TheVariants.{Take, Decide, Put}
-use Rattle.noc_net.specs.Core.{CoreState, Post, opening_core, is_ready, happens, after_events, post_at, wire_of, is_linked, is_between, are_between}
+use Rattle.noc_net.specs.Core.{CoreState, Post, opening_core, is_ready, happens, post_at, wire_of, is_between, are_between}
 use Rattle.noc_net.specs.InStep.{beats_of_cycles}
 use Rattle.noc_net.specs.Lockstep.{lockstep_at}
-use Rattle.noc_net.specs.Network.{Setup, Run}
+use Rattle.noc_net.specs.Network.{Setup}
 
 -- the events of a list that happen, one after the other: those that are ready
 unfoldable pub happening : ℕ → List Event → CoreState → List Event

@@ -1,5 +1,5 @@
 -- What a core's fields are seen as, and what is true of them.
-use Rattle.std.specs.Prelude.{◌≡◌, ℕ, ◌≤◌, vec_len}
+use Rattle.std.specs.Prelude.{◌≡◌, ◌≤◌, vec_len}
 use Rattle.std.specs.List.{All}
 use Rattle.noc_topo.specs.Shape.{local_port, nodes, ports}
 use Rattle.noc_router.specs.Decided.{IsDecidedFor}

@@ -1,9 +1,9 @@
-use Rattle.std.proofs.Common.{◌≡◌, ℕ, ◌-◌, ◌++◌, List, [], true, length, map, take, drop, refl, ap, sym, ◌∙◌, arith, length-take-le, replicate, unwrap_or}
-use Rattle.noc_topo.specs.Shape.{Grid, local_port}
+use Rattle.std.proofs.Common.{◌≡◌, ◌-◌, ◌++◌, List, true, length, map, take, drop, refl, ap, sym, ◌∙◌, arith, length-take-le, replicate, unwrap_or}
+use Rattle.noc_topo.specs.Shape.{local_port}
 use Rattle.noc_packet.specs.declared.packet.Beat.{Beat}
 use Rattle.noc_route.specs.Routes.{Routes}
 use Rattle.noc_router.specs.View.{Site, View, idle_beat, local_step}
-use Rattle.noc_net.specs.Core.{deciding, finished}
+use Rattle.noc_net.specs.Core.{finished}
 use Rattle.noc_net.specs.Room.{post_of, unput_for, wires_in}
 use Rattle.noc_net.proofs.PostLemmas.{same_post}
 use Rattle.noc_net.proofs.RoomLemmas.{take_front, take_of_map}

@@ -1,12 +1,10 @@
-use Rattle.std.proofs.Common.{◌≡◌, ◌<◌, ℕ, Some, slice_get, refl, ap, sym, subst, ◌∙◌, arith}
-use Rattle.noc_topo.specs.Shape.{Grid, local_port, ports}
+use Rattle.std.proofs.Common.{◌<◌, refl, ap, sym, subst, ◌∙◌, arith}
+use Rattle.noc_topo.specs.Shape.{local_port, ports}
 use Rattle.noc_router.specs.Decided.{IsDecidedFor}
 use Rattle.noc_router.specs.View.{Site}
 use Rattle.noc_net.specs.declared.event.Event.TheVariants.{Decide}
 use Rattle.noc_net.specs.declared.network.TheConstants.{CYCLE_LIMIT}
 use Rattle.noc_net.specs.Core.{CoreState, Post, deciding, happens}
-use Rattle.noc_net.specs.Lockstep.{site_at}
-use Rattle.noc_net.specs.Parts.{setup_in}
 use Rattle.noc_net.specs.Room.{post_of}
 use Rattle.noc_net.specs.Stored.{core_in}
 use Rattle.noc_net.proofs.CoreLemmas.{router_within}

@@ -1,4 +1,4 @@
-use Rattle.std.proofs.Common.{◌≡◌, ◌<◌, ℕ, List, [], Bool, true, false, Option, Some, get_or, length, option_map, slice_get, take, unwrap_or, vec_len, ap, sym, subst, ◌∙◌, arith}
+use Rattle.std.proofs.Common.{◌≡◌, List, [], true, false, Option, get_or, length, option_map, slice_get, take, unwrap_or, ap, sym, ◌∙◌, arith}
 use Rattle.std.specs.List.{list_all}
 use Rattle.std.proofs.lemmas.List.{with_items_is}
 use Rattle.noc_topo.specs.Shape.{local_port, nodes}
@@ -7,8 +7,6 @@ use Rattle.noc_net.specs.declared.network.TheConstants.{CYCLE_LIMIT}
 use Rattle.noc_net.specs.declared.room.Room.{Room}
 use Rattle.noc_net.specs.Core.{CoreState, Post, are_between, opening_core, steps_at}
 use Rattle.noc_net.specs.Halves.{beat_at}
-use Rattle.noc_net.specs.Network.{Run}
-use Rattle.noc_net.specs.Parts.{setup_in}
 use Rattle.noc_net.specs.Room.{front_of, rests_at, wires_in}
 use Rattle.noc_net.specs.Stored.{core_in}
 use Rattle.noc_net.proofs.OrderLemmas.{whole_core}

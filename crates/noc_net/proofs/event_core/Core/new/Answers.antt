@@ -1,11 +1,11 @@
-use Rattle.std.proofs.Common.{◌≡◌, ◌<◌, ◌-◌, ℕ, List, [], Some, get_or, length, slice_get, vec_len, ap, sym, subst, ◌∙◌, arith}
+use Rattle.std.proofs.Common.{◌≡◌, ◌-◌, List, [], Some, get_or, length, slice_get, ap, sym, subst, ◌∙◌, arith}
 use Rattle.std.proofs.lemmas.List.{with_items_is}
 use Rattle.noc_topo.specs.Shape.{IsGrid, local_port, nodes}
 use Rattle.noc_packet.specs.declared.packet.Beat.{Beat}
 use Rattle.noc_router.specs.View.{Site, View}
 use Rattle.noc_net.specs.declared.network.TheConstants.{CYCLE_LIMIT}
 use Rattle.noc_net.specs.declared.room.Room.{Room}
-use Rattle.noc_net.specs.Core.{CoreState, opening_core}
+use Rattle.noc_net.specs.Core.{opening_core}
 use Rattle.noc_net.specs.InStep.{IsInStep}
 use Rattle.noc_net.specs.Lockstep.{lockstep_at}
 use Rattle.noc_net.specs.Network.{Run}

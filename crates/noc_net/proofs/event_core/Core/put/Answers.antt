@@ -1,17 +1,15 @@
-use Rattle.std.proofs.Common.{◌≡◌, ◌<◌, ℕ, [], Bool, true, None, Option, Some, get_or, is_some, length, slice_get, unwrap_or, refl, ap, sym, subst, ◌∙◌, arith}
+use Rattle.std.proofs.Common.{◌≡◌, ◌<◌, None, Option, Some, get_or, is_some, unwrap_or, ap, sym, subst, ◌∙◌, arith}
 use Rattle.std.proofs.lemmas.Bool.{false≢true}
 use Rattle.std.proofs.lemmas.List.{get_or-take}
-use Rattle.noc_topo.specs.Shape.{Grid, local_port, neighbour, nodes}
+use Rattle.noc_topo.specs.Shape.{local_port}
 use Rattle.noc_topo.proofs.LinkLemmas.{link_back}
 use Rattle.noc_packet.specs.declared.packet.Beat.{Beat}
-use Rattle.noc_router.specs.View.{Site, View, idle_beat}
+use Rattle.noc_router.specs.View.{Site, idle_beat}
 use Rattle.noc_net.specs.declared.event.Event.TheVariants.{Put}
 use Rattle.noc_net.specs.declared.network.TheConstants.{CYCLE_LIMIT}
-use Rattle.noc_net.specs.declared.room.Room.{Room}
-use Rattle.noc_net.specs.Core.{CoreState, Post, beat_to_send, happens, is_linked, post_at, putting, receiving}
-use Rattle.noc_net.specs.Lockstep.{site_at}
+use Rattle.noc_net.specs.Core.{CoreState, Post, beat_to_send, happens, post_at, putting}
 use Rattle.noc_net.specs.Parts.{setup_in}
-use Rattle.noc_net.specs.Room.{post_of, wires_in}
+use Rattle.noc_net.specs.Room.{post_of}
 use Rattle.noc_net.specs.Stored.{core_in}
 use Rattle.noc_net.proofs.CoreLemmas.{get_some, router_within}
 use Rattle.noc_net.proofs.EventLemmas.{linked_port}

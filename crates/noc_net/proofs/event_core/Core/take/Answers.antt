@@ -1,4 +1,4 @@
-use Rattle.std.proofs.Common.{◌≡◌, ◌<◌, ap, ◌∙◌, arith}
+use Rattle.std.proofs.Common.{ap, ◌∙◌, arith}
 use Rattle.noc_topo.specs.Shape.{local_port}
 use Rattle.noc_net.specs.declared.event.Event.TheVariants.{Take}
 use Rattle.noc_net.specs.declared.network.TheConstants.{CYCLE_LIMIT}

@@ -1,4 +1,4 @@
-use Rattle.std.proofs.Common.{◌≡◌, ℕ, ◌<◌, None, Option, get_or, length, unwrap_or, ap, ◌∙◌, length-set, arith}
+use Rattle.std.proofs.Common.{◌≡◌, None, Option, get_or, unwrap_or, ap, ◌∙◌, length-set, arith}
 use Rattle.noc_packet.specs.declared.packet.Beat.{Beat}
 use Rattle.noc_router.specs.View.{idle_beat}
 use Rattle.noc_net.proofs.RoomLemmas.{each_more, map-from_each}

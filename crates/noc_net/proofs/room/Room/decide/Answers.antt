@@ -1,13 +1,12 @@
-use Rattle.std.proofs.Common.{◌≡◌, ℕ, ◌<◌, ◌≤◌, List, Option, Some, None, true, get_or, is_some, length, map, take, refl, ap, sym, ◌∙◌, arith, length-set, length-take-le}
+use Rattle.std.proofs.Common.{◌≡◌, ℕ, ◌<◌, ◌≤◌, List, Some, None, true, get_or, is_some, length, map, take, refl, ap, sym, ◌∙◌, arith, length-set, length-take-le}
 use Rattle.std.specs.Prelude.{if◌then◌else◌}
 use Rattle.std.proofs.lemmas.List.{get_or-take}
 use Rattle.noc_topo.specs.Shape.{Grid, neighbour, local_port}
-use Rattle.noc_topo.specs.Words.{map_indexed}
 use Rattle.noc_topo.proofs.WordLemmas.{map_indexed-from_each}
 use Rattle.noc_packet.specs.declared.packet.Beat.{Beat}
 use Rattle.noc_router.specs.View.{idle_beat}
 use Rattle.noc_net.specs.declared.wire.Wire.{Wire}
-use Rattle.noc_net.specs.Core.{Post, finished, is_linked}
+use Rattle.noc_net.specs.Core.{finished, is_linked}
 use Rattle.noc_net.specs.Room.{unput_for, wire_beats, wires_in}
 use Rattle.noc_net.proofs.PostLemmas.{same_post}
 use Rattle.noc_net.proofs.RoomLemmas.{each_more, then_some_is}

@@ -1,4 +1,4 @@
-use Rattle.std.proofs.Common.{◌≡◌, ◌≢◌, ℕ, ◌<◌, ◌≤◌, List, [], get_or, length, take, replicate, refl, ap, sym, ◌∙◌, ⊎_elim, arith, length-set, length-take-le}
+use Rattle.std.proofs.Common.{◌≡◌, ◌≢◌, ◌<◌, ◌≤◌, [], get_or, length, take, replicate, refl, ap, sym, ◌∙◌, ⊎_elim, arith, length-set, length-take-le}
 use Rattle.std.proofs.lemmas.Bool.{cases_lt}
 use Rattle.std.proofs.lemmas.List.{get_or-map, get_or-set_other, get_or-take, get_or_past, length-map}
 use Rattle.noc_packet.specs.declared.packet.Beat.{Beat}

@@ -1,6 +1,6 @@
-use Rattle.std.proofs.Common.{◌≡◌, ℕ, ◌<◌, ◌≤◌, List, [], ◌∷◌, None, false, get_or, is_some, length, map, replicate, set, take, refl, ap, sym, subst, ◌∙◌, arith, length-set, length-take-le}
+use Rattle.std.proofs.Common.{◌≡◌, ◌<◌, ◌≤◌, List, [], ◌∷◌, None, false, get_or, is_some, length, replicate, take, refl, ap, ◌∙◌, arith, length-set, length-take-le}
 use Rattle.std.specs.Prelude.{if◌then◌else◌}
-use Rattle.std.proofs.lemmas.List.{get_or-take, get_or_default, length-map}
+use Rattle.std.proofs.lemmas.List.{get_or-take, length-map}
 use lib.Seq.{map-set}
 use Rattle.noc_topo.specs.Shape.{neighbour, local_port}
 use Rattle.noc_topo.proofs.WordLemmas.{tabulate-from_each}

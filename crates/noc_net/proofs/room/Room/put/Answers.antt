@@ -1,4 +1,4 @@
-use Rattle.std.proofs.Common.{ap, sym, ◌∙◌, None, Option, List}
+use Rattle.std.proofs.Common.{ap, ◌∙◌, None, Option, List}
 use Rattle.noc_packet.specs.declared.packet.Beat.{Beat}
 use Rattle.noc_net.specs.Core.{finished}
 use Rattle.noc_net.specs.Room.{post_of}
