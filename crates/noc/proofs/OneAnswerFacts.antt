@@ -1,12 +1,11 @@
 -- A request asks for one text, or has one first fault.
-use Rattle.std.proofs.Common.{◌≡◌, ◌≢◌, ℕ, ◌-◌, List, Some, Ok, refl, sym, subst, ap, ◌∙◌, arith, inl, inr}
+use Rattle.std.proofs.Common.{◌≡◌, ℕ, List, Some, Ok, refl, sym, subst, ap, ◌∙◌, arith, inl, inr}
 use Rattle.std.proofs.lemmas.Bool.{cases_order, false≢true}
 use Rattle.noc_topo.specs.Shape.{Grid}
 use Rattle.noc_route.specs.Routes.{Routes}
 use Rattle.noc_net.specs.Network.{Run, Setup}
 use Rattle.noc_rank.specs.Formulas.{IsGenerated}
 use Rattle.noc_rank.specs.Ranking.{Ranking}
-use Rattle.noc_rank.specs.declared.fault.RankFault.TheVariants as rank
 use Rattle.noc_files.specs.Configuration.{Settings}
 use Rattle.noc_files.specs.Findings.{findings_text}
 use Rattle.noc_files.specs.Joined.{SplitsAt, line_at}
@@ -16,7 +15,6 @@ use Rattle.noc.specs.Asked.{Asked, ReadsAs, as_files, as_joined, parts}
 use Rattle.noc.specs.Formula.{HasRanks}
 use Rattle.noc.specs.Reports.{report_text}
 use Rattle.noc.specs.Run.{AsksForRun, IsNetworkOf, cycles_of, ending, report_of}
-use Rattle.noc.specs.declared.fault.Fault.TheVariants as fault
 use Rattle.noc.specs.declared.request.Command.{Command}
 use Rattle.noc.specs.declared.request.Command.TheVariants as command
 use Rattle.noc.specs.declared.request.Report.{Report}

@@ -1,11 +1,11 @@
 -- One router: what stays true of its input channels and of its source whatever beats come.
-use Rattle.std.proofs.Common.{◌≡◌, ◌≢◌, ℕ, zero, suc, ◌+◌, ◌*◌, ◌/◌, ◌%◌, ◌<◌, ◌≤◌, Bool, true, false, List, [], ◌∷◌, ◌++◌, length, drop, get_or, set, Option, Some, None, refl, ap, sym, ◌∙◌, arith, subst, inl, inr, ⊎_elim, replicate}
+use Rattle.std.proofs.Common.{◌≡◌, ◌≢◌, ℕ, suc, ◌+◌, ◌*◌, ◌/◌, ◌%◌, ◌<◌, ◌≤◌, Bool, true, false, List, [], ◌∷◌, ◌++◌, length, drop, get_or, set, Option, Some, None, refl, ap, sym, ◌∙◌, arith, subst, inl, inr}
 use Rattle.std.specs.Prelude.{◌⊎◌, ◌&&◌, not, if◌then◌else◌, find, nat_lt, nat_le, slice_get, slice_index, is_some, option_and_then, option_map}
 use Rattle.std.proofs.lemmas.Bool.{cases_eq, cases_lt, false≢true, and_parts, ltb-true, le-ltb}
 use Rattle.std.proofs.lemmas.Nat.{mul-add-lt}
-use Rattle.std.proofs.lemmas.List.{length-set, get_or-set_same, get_or-set_other, get_or_past, get_or-replicate, length-replicate}
+use Rattle.std.proofs.lemmas.List.{length-set, get_or-set_same, get_or-set_other, get_or_past}
 use Rattle.noc_topo.specs.Words.{Each, below, tabulate, map_indexed}
-use Rattle.noc_topo.specs.Shape.{neighbour, ports, local_port}
+use Rattle.noc_topo.specs.Shape.{neighbour, local_port}
 use Rattle.noc_topo.proofs.WordLemmas.{length-tabulate, get_or-tabulate, length-map_indexed, get_or-map_indexed}
 use Rattle.noc_packet.specs.Packet.{flit_at}
 use Rattle.noc_packet.specs.Set.{has_bit}
@@ -13,13 +13,13 @@ use Rattle.noc_packet.specs.declared.packet.Packet.{Packet}
 use Rattle.noc_packet.specs.declared.packet.Flit.{Flit}
 use Rattle.noc_packet.specs.declared.packet.Beat.{Beat}
 use Rattle.noc_route.specs.Routes.{set_at}
-use Rattle.noc_vc.specs.Input.{Input, idle_input, is_idle_phase, is_empty, next_of, fits, landed, routed, granted, sent}
+use Rattle.noc_vc.specs.Input.{Input, idle_input, is_idle_phase, is_empty, fits, landed, routed, sent}
 use Rattle.noc_vc.specs.Output.{is_free}
 use Rattle.noc_vc.specs.declared.input.Awaited.{Awaited}
 use Rattle.noc_vc.specs.declared.input.InputState.{InputState}
 use Rattle.noc_vc.specs.declared.input.InputState.TheVariants.{Idle, Waiting, Active}
-use Rattle.noc_router.specs.Verdict.{Claim, Unrouted, Waits, Holds, ask_of, out_of, verdict_of}
-use Rattle.noc_router.specs.View.{Site, View, Decisions, view_buffer, view_input, view_output, size_of, has_link, with_landed, with_flit, with_misfit, with_credit, taken, taken_from, all_taken, local_channel, with_injected, is_vacant, begun_on, injected_from, injected, asked_for, claim_in, view_claim, route_of, route_for, first_flit, planned, decided_verdict, input_after, buffer_after, granted_to, sent_from, with_arrival, committed, flit_out, tail_packet, beat_out, idle_beat, mover, local_step, opening_view}
+use Rattle.noc_router.specs.Verdict.{Claim, Waits, ask_of, out_of}
+use Rattle.noc_router.specs.View.{Site, View, Decisions, view_buffer, view_input, view_output, has_link, with_landed, with_flit, with_misfit, with_credit, taken, taken_from, all_taken, local_channel, with_injected, is_vacant, begun_on, injected_from, injected, asked_for, claim_in, view_claim, route_of, route_for, first_flit, planned, decided_verdict, input_after, buffer_after, granted_to, sent_from, with_arrival, committed, flit_out, tail_packet, beat_out, idle_beat, mover, local_step}
 use Rattle.noc_router.specs.declared.verdict.Verdict.{Verdict}
 use Rattle.noc_router.specs.declared.verdict.Verdict.TheVariants.{Empty, Routed, Granted, Moved, NoFlit, NoIdleChannel, LostChannel, NoCredit, LostInput, LostSwitch}
 use Rattle.noc_router.proofs.FindLemmas.{find-some}
@@ -27,7 +27,7 @@ use Rattle.noc_router.proofs.PlanFacts.{Lists, lists_of, decided-is, holds_flit,
 use Rattle.noc_net.specs.Buffers.{AreInOrder, IsAsSent}
 use Rattle.noc_net.specs.Lockstep.{site_at}
 use Rattle.noc_net.specs.Network.{Setup, packet_at, size}
-use Rattle.noc_net.proofs.WormLemmas.{IsHeld, awaited_as, EndsBefore, no_tail, held-next, held-head, held-fits, held-routed, held-granted, held-sent, opening-held}
+use Rattle.noc_net.proofs.WormLemmas.{IsHeld, awaited_as, EndsBefore, no_tail, held-next, held-head, held-fits, held-routed, held-granted, held-sent}
 
 -- a beat brings a flit as its source has it, or none
 abbrev pub IsTrueFlit : Setup → Option (ℕ × Flit) → Type 0

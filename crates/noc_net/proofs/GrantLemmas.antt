@@ -1,5 +1,5 @@
 -- What is granted is permitted, and a flit moves by what its packet was granted.
-use Rattle.std.proofs.Common.{◌≡◌, ◌≢◌, ℕ, zero, suc, ◌+◌, ◌*◌, ◌/◌, ◌%◌, ◌<◌, ◌≤◌, Bool, true, false, List, [], ◌∷◌, ◌++◌, length, map, get_or, replicate, length-append, Option, Some, None, refl, ap, sym, ◌∙◌, arith, subst, inl, inr}
+use Rattle.std.proofs.Common.{◌≡◌, ℕ, zero, suc, ◌+◌, ◌*◌, ◌/◌, ◌%◌, ◌<◌, List, [], ◌∷◌, ◌++◌, length, map, get_or, replicate, length-append, Option, Some, refl, ap, sym, ◌∙◌, arith, subst, inl, inr}
 use Rattle.std.specs.Prelude.{◌⊎◌, option_map, slice_get}
 use Rattle.std.proofs.lemmas.List.{get_or-map, get_or-replicate, length-replicate}
 use Rattle.std.proofs.lemmas.Option.{get_or_from_slice_get}
@@ -13,7 +13,7 @@ use Rattle.noc_vc.specs.Input.{Input, idle_input}
 use Rattle.noc_vc.specs.Output.{ejection_output, link_output}
 use Rattle.noc_vc.specs.declared.input.InputState.{InputState}
 use Rattle.noc_vc.specs.declared.input.InputState.TheVariants.{Idle, Waiting, Active}
-use Rattle.noc_router.specs.View.{Site, View, opening_view, size_of, view_buffer, view_input, port_and_vc}
+use Rattle.noc_router.specs.View.{Site, View, opening_view, view_buffer, view_input, port_and_vc}
 use Rattle.noc_router.specs.declared.verdict.Verdict.TheVariants.{Granted, Moved}
 use Rattle.noc_router.specs.declared.verdict.Finding.{Finding}
 use Rattle.noc_net.specs.Grants.{MovesByOwn, NamesPermitted}

@@ -14,12 +14,12 @@ use Rattle.noc_packet.specs.declared.packet.Beat.{Beat}
 use Rattle.noc_vc.specs.Input.{idle_input}
 use Rattle.noc_vc.specs.declared.input.InputState.{InputState}
 use Rattle.noc_vc.specs.declared.input.InputState.TheVariants.{Active}
-use Rattle.noc_router.specs.View.{Site, View, Decisions, local_step, opening_view, idle_beat, view_buffer, view_input, size_of, finding_of, planned, committed, with_arrival, with_misfit, tail_packet, flit_out}
+use Rattle.noc_router.specs.View.{Site, View, Decisions, local_step, opening_view, idle_beat, view_input, size_of, finding_of, planned, committed, with_arrival, with_misfit, tail_packet, flit_out}
 use Rattle.noc_router.specs.declared.verdict.Finding.{Finding}
 use Rattle.noc_router.proofs.PlanFacts.{Lists, lists_of}
 use Rattle.noc_net.specs.Buffers.{HoldsOnePacket}
 use Rattle.noc_net.specs.Halves.{beat_at}
-use Rattle.noc_net.specs.Lockstep.{lockstep_at, lockstep_cycle, opening_lockstep, exchanged, beats_at, beat_from, site_at, starts_at, ends_at, starts_of, by_due, inserted_by_due}
+use Rattle.noc_net.specs.Lockstep.{lockstep_at, lockstep_cycle, opening_lockstep, exchanged, beats_at, beat_from, site_at, starts_at, ends_at, by_due, inserted_by_due}
 use Rattle.noc_net.specs.Network.{Setup, packet_at, size}
 use Rattle.noc_net.specs.Verdicts.{IsRightFinding, frozen_view}
 use Rattle.noc_net.proofs.BufferLemmas.{IsKept, IsNumbered, IsTrueFlit, AwaitsNext, frozen-kept, step-kept, step-sends}

@@ -1,9 +1,9 @@
 -- One router: an input channel whose packet owns an output channel is the owner that this names, whatever beats come.
-use Rattle.std.proofs.Common.{◌≡◌, ◌≢◌, ℕ, zero, suc, ◌+◌, ◌*◌, ◌/◌, ◌%◌, ◌<◌, ◌≤◌, Bool, true, false, List, [], ◌∷◌, ◌++◌, length, drop, get_or, set, Option, Some, None, refl, ap, sym, ◌∙◌, arith, subst, inl, inr, replicate, length-append}
-use Rattle.std.specs.Prelude.{◌⊎◌, ◌&&◌, not, if◌then◌else◌, find, nat_lt, nat_le, slice_get, unwrap_or}
+use Rattle.std.proofs.Common.{◌≡◌, ◌≢◌, ℕ, zero, suc, ◌+◌, ◌*◌, ◌/◌, ◌<◌, Bool, true, false, List, [], ◌∷◌, length, get_or, set, Option, Some, None, refl, ap, sym, ◌∙◌, arith, subst, inl, inr}
+use Rattle.std.specs.Prelude.{◌⊎◌, ◌&&◌, if◌then◌else◌, find, nat_lt, nat_le, unwrap_or}
 use Rattle.std.proofs.lemmas.Bool.{cases_eq, false≢true, and_parts, ltb-true}
 use Rattle.std.proofs.Math.Nat.{div-lt_iff_lt-mul}
-use Rattle.std.proofs.lemmas.List.{length-set, get_or-set_same, get_or-set_other, get_or-replicate, length-replicate}
+use Rattle.std.proofs.lemmas.List.{length-set, get_or-set_same, get_or-set_other}
 use Rattle.noc_topo.specs.Words.{below, map_indexed}
 use Rattle.noc_topo.specs.Shape.{ports, local_port}
 use Rattle.noc_topo.proofs.WordLemmas.{length-map_indexed, get_or-map_indexed}
@@ -11,18 +11,18 @@ use Rattle.noc_packet.specs.Packet.{flit_at}
 use Rattle.noc_packet.specs.declared.packet.Packet.{Packet}
 use Rattle.noc_packet.specs.declared.packet.Flit.{Flit}
 use Rattle.noc_packet.specs.declared.packet.Beat.{Beat}
-use Rattle.noc_vc.specs.Input.{Input, idle_input, is_idle_phase, is_empty, is_awaited, fits, is_expected, landed, granted, is_waiting, sent}
-use Rattle.noc_vc.specs.Output.{Output, ejection_output, link_output, is_free, credit_fits, credited, credited_at, held, spent, spent_at}
+use Rattle.noc_vc.specs.Input.{Input, idle_input, is_idle_phase, is_awaited, fits, is_expected, landed, granted, is_waiting}
+use Rattle.noc_vc.specs.Output.{Output, ejection_output, is_free, credited, credited_at, held, spent, spent_at}
 use Rattle.noc_vc.specs.declared.input.InputState.{InputState}
 use Rattle.noc_vc.specs.declared.input.InputState.TheVariants.{Idle, Waiting, Active}
 use Rattle.noc_vc.specs.declared.output.OutputState.{OutputState}
-use Rattle.noc_vc.specs.declared.output.OutputState.TheVariants.{Idle as Free, Owned, Draining}
-use Rattle.noc_router.specs.Verdict.{Claim, Unrouted, Waits, Holds, ask_of, out_of}
-use Rattle.noc_router.specs.View.{Site, View, Decisions, view_buffer, view_input, view_output, size_of, has_link, with_landed, with_flit, with_misfit, with_credit, taken, taken_from, all_taken, local_channel, with_injected, is_vacant, begun_on, injected_from, injected, view_claim, first_flit, planned, decided_verdict, input_after, granted_to, sent_from, with_arrival, committed, flit_out, tail_packet, idle_beat, mover_to, held_by, spent_by, is_tail, output_after, local_step, opening_view}
+use Rattle.noc_vc.specs.declared.output.OutputState.TheVariants.{Owned}
+use Rattle.noc_router.specs.Verdict.{Claim, Waits, ask_of, out_of}
+use Rattle.noc_router.specs.View.{Site, View, Decisions, view_buffer, view_input, view_output, has_link, with_landed, with_flit, with_misfit, with_credit, taken, taken_from, all_taken, local_channel, with_injected, is_vacant, begun_on, injected_from, injected, view_claim, first_flit, planned, decided_verdict, input_after, granted_to, sent_from, with_arrival, committed, flit_out, tail_packet, idle_beat, mover_to, held_by, spent_by, is_tail, output_after, local_step}
 use Rattle.noc_router.specs.declared.verdict.Verdict.{Verdict}
 use Rattle.noc_router.specs.declared.verdict.Verdict.TheVariants.{Empty, Routed, Granted, Moved, NoFlit, NoIdleChannel, LostChannel, NoCredit, LostInput, LostSwitch}
 use Rattle.noc_router.proofs.FindLemmas.{find-some}
-use Rattle.noc_router.proofs.PlanFacts.{Lists, decided-is, holds_flit, verdict_in, verdict-granted, verdict-moved, claim-waits, claim-holds, granted-asks, Mover, mover-is}
+use Rattle.noc_router.proofs.PlanFacts.{decided-is, holds_flit, verdict_in, verdict-granted, claim-waits, claim-holds, granted-asks, mover-is}
 use Rattle.noc_router.proofs.SettleLemmas.{arrival-is, mover_to-is}
 use Rattle.noc_net.specs.Lockstep.{site_at}
 use Rattle.noc_net.specs.Network.{Setup, size}

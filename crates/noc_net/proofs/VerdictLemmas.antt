@@ -1,13 +1,13 @@
 -- The verdict of an input channel is the one whose condition holds.
-use Rattle.std.proofs.Common.{◌≡◌, ◌≢◌, ℕ, zero, suc, ◌+◌, ◌*◌, ◌/◌, ◌%◌, ◌<◌, ◌≤◌, Bool, true, false, List, [], ◌∷◌, length, map, get_or, Option, Some, None, refl, ap, sym, ◌∙◌, arith, subst, inl, inr, ⊎_elim}
-use Rattle.std.specs.Prelude.{◌⊎◌, ◌&&◌, not, ◌↔◌, if◌then◌else◌, find, is_some, option_and_then, option_map, unwrap_or, nat_eq, slice_get, slice_index}
+use Rattle.std.proofs.Common.{◌≡◌, ◌≢◌, ℕ, zero, suc, ◌+◌, ◌*◌, ◌/◌, ◌%◌, ◌<◌, ◌≤◌, Bool, true, false, List, [], ◌∷◌, length, get_or, Option, Some, None, refl, ap, sym, ◌∙◌, arith, subst, ⊎_elim}
+use Rattle.std.specs.Prelude.{◌&&◌, not, if◌then◌else◌, find, is_some, option_and_then, option_map, unwrap_or, nat_eq, slice_get, slice_index}
 use Rattle.std.specs.List.{range_with_len}
 use Rattle.std.proofs.lemmas.Bool.{cases_eq, false≢true}
 use Rattle.std.proofs.lemmas.Nat.{mul-add-lt}
 use Rattle.std.proofs.Math.Nat.{div-lt_iff_lt-mul}
 use Rattle.std.proofs.lemmas.List.{get_or-map}
 use Rattle.std.proofs.lemmas.Option.{slice_get_within, get_or_from_slice_get}
-use Rattle.noc_topo.specs.Words.{below, tabulate, is_some_of}
+use Rattle.noc_topo.specs.Words.{below, is_some_of}
 use Rattle.noc_topo.specs.Shape.{ports}
 use Rattle.noc_topo.proofs.WordLemmas.{length-tabulate, get_or-tabulate}
 use Rattle.noc_packet.specs.Set.{has_bit}
@@ -17,7 +17,7 @@ use Rattle.noc_alloc.specs.Allocation.{grant_of, pick_of as code_pick, picked_po
 use Rattle.noc_alloc.proofs.ArbiterLemmas.{first_in_turn-same, first_in_turn-picks}
 use Rattle.noc_alloc.proofs.WordLemmas.{is_some_of-true, is_some_of-some}
 use Rattle.noc_vc.specs.Input.{is_empty}
-use Rattle.noc_vc.specs.Output.{is_free, has_credit}
+use Rattle.noc_vc.specs.Output.{has_credit}
 use Rattle.noc_vc.specs.declared.input.InputState.{InputState}
 use Rattle.noc_vc.specs.declared.input.InputState.TheVariants.{Idle, Waiting, Active}
 use Rattle.noc_router.specs.Verdict.{Claim, Unrouted, Waits, Holds, Stand, ask_of, out_of, asks_of, ready_of, ready_port, verdict_of, pointers_of}
@@ -28,7 +28,7 @@ use Rattle.noc_router.specs.declared.verdict.Finding.{Finding}
 use Rattle.noc_router.proofs.ChannelLemmas.{find-below, find-below-none}
 use Rattle.noc_router.proofs.FindLemmas.{find-some}
 use Rattle.noc_router.proofs.PlanFacts.{Lists, verdict_in, holds_flit}
-use Rattle.noc_net.specs.Verdicts.{AsksFor, IsRightFinding, Says, HasFlit, HasCredit, NoneIdle, IsPicked, WinsChannel, WinsSwitch, is_idle, asks_in, first_to_ask, can_send, pick_of, goes_through, pick_goes_through, winner_of}
+use Rattle.noc_net.specs.Verdicts.{AsksFor, IsRightFinding, Says, is_idle, asks_in, first_to_ask, can_send, pick_of, goes_through, pick_goes_through, winner_of}
 
 -- ---- the first number that passes a test
 in_range-least : (p : ℕ → Bool) (n a x k : ℕ) → find p (range_with_len a n) ≡ Some x → a ≤ k → k < x → p k ≡ false

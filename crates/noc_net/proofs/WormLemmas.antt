@@ -1,12 +1,10 @@
 -- One input channel with its buffer: what stays true of it whatever lands, is routed, granted or sent.
-use Rattle.std.proofs.Common.{◌≡◌, ◌≢◌, ℕ, ◌+◌, ◌/◌, ◌%◌, ◌<◌, ◌≤◌, Bool, true, false, List, [], ◌∷◌, ◌++◌, length, Option, Some, None, refl, ap, sym, ◌∙◌, arith, subst, drop, length-append}
-use Rattle.std.specs.Prelude.{IfSome, if◌then◌else◌, nat_eq, nat_lt, ◌&&◌, slice_get}
+use Rattle.std.proofs.Common.{◌≡◌, ℕ, ◌+◌, ◌/◌, ◌%◌, ◌<◌, ◌≤◌, Bool, true, false, List, [], ◌∷◌, ◌++◌, length, Option, Some, None, refl, ap, sym, ◌∙◌, arith, subst, length-append}
+use Rattle.std.specs.Prelude.{if◌then◌else◌}
 use Rattle.std.proofs.lemmas.Bool.{false≢true, and_parts, ltb-true, eqb-true}
 use Rattle.noc_topo.specs.Words.{Each}
-use Rattle.noc_packet.specs.Packet.{flit_at}
 use Rattle.noc_packet.specs.Set.{has_bit}
 use Rattle.noc_packet.specs.declared.packet.Flit.{Flit}
-use Rattle.noc_packet.specs.declared.limits.TheConstants.{MAX_LENGTH}
 use Rattle.noc_route.specs.Routes.{set_at}
 use Rattle.noc_vc.specs.Input.{Input, idle_input, is_idle_phase, is_empty, next_of, is_awaited, fits, is_expected, landed, routed, granted, sent}
 use Rattle.noc_vc.specs.declared.input.Awaited.{Awaited}

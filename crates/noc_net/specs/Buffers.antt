@@ -1,9 +1,8 @@
 -- What a buffer holds: no more flits than it has places, all of one packet (Dally and Towles, chapters 12 and 13).
-use Rattle.std.specs.Prelude.{◌≡◌, ℕ, ◌+◌, ◌≤◌, Bool, false, List, [], ◌∷◌, length, Some}
+use Rattle.std.specs.Prelude.{◌≡◌, ℕ, ◌+◌, ◌≤◌, false, List, [], ◌∷◌, length, Some}
 use Rattle.noc_topo.specs.Words.{Each}
 use Rattle.noc_packet.specs.Packet.{flit_at}
 use Rattle.noc_packet.specs.declared.packet.Flit.{Flit}
-use Rattle.noc_vc.specs.Input.{Input}
 use Rattle.noc_router.specs.View.{View, view_buffer, view_input}
 use Rattle.noc_net.specs.Network.{Setup, packet_at}
 

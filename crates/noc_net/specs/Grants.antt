@@ -3,7 +3,6 @@ use Rattle.std.specs.Prelude.{◌≡◌, ℕ, ◌/◌, ◌%◌, true, Some}
 use Rattle.noc_packet.specs.Set.{has_bit}
 use Rattle.noc_packet.specs.declared.packet.Flit.{Flit}
 use Rattle.noc_route.specs.Routes.{set_at}
-use Rattle.noc_vc.specs.Output.{Output}
 use Rattle.noc_vc.specs.declared.output.OutputState.TheVariants.{Owned}
 use Rattle.noc_router.specs.View.{View, view_output, first_flit, port_and_vc}
 use Rattle.noc_router.specs.declared.verdict.Finding.{Finding}

@@ -1,12 +1,12 @@
 -- What each verdict says of an input channel (docs/MODEL.md, "Verdicts"; Dally and Towles, chapter 16).
-use Rattle.std.specs.Prelude.{◌≡◌, ℕ, ◌+◌, ◌*◌, ◌/◌, ◌%◌, ◌<◌, Bool, true, false, ◌&&◌, not, List, [], length, Option, Some, None, option_map, unwrap_or, nat_eq, ◌↔◌}
+use Rattle.std.specs.Prelude.{◌≡◌, ℕ, ◌+◌, ◌*◌, ◌/◌, ◌%◌, ◌<◌, Bool, true, false, ◌&&◌, not, List, length, Option, Some, option_map, unwrap_or, nat_eq, ◌↔◌}
 use Rattle.noc_topo.specs.Words.{is_some_of}
 use Rattle.noc_topo.specs.Shape.{ports}
 use Rattle.noc_packet.specs.Set.{has_bit}
 use Rattle.noc_packet.specs.declared.packet.Flit.{Flit}
-use Rattle.noc_alloc.specs.Arbiter.{Turn, first_in_turn, turn_at}
-use Rattle.noc_vc.specs.Input.{Input, is_empty}
-use Rattle.noc_vc.specs.Output.{Output, is_free, has_credit}
+use Rattle.noc_alloc.specs.Arbiter.{first_in_turn, turn_at}
+use Rattle.noc_vc.specs.Input.{is_empty}
+use Rattle.noc_vc.specs.Output.{is_free, has_credit}
 use Rattle.noc_vc.specs.declared.input.InputState.{InputState}
 use Rattle.noc_vc.specs.declared.input.InputState.TheVariants.{Idle, Waiting, Active}
 use Rattle.noc_router.specs.View.{View, all_taken, injected, view_buffer, view_input, view_output, size_of, asked_for, port_and_vc}
