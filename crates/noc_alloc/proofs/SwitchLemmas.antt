@@ -1,15 +1,15 @@
 -- Picks, wins and the pointers that move.
 use Rattle.std.proofs.Common.{◌≡◌, ℕ, ◌+◌, ◌-◌, ◌*◌, ◌<◌, ◌≤◌, Bool, true, false, List, [], ◌∷◌, length, get_or, set, take, zero, suc, Option, Some, None, refl, ap, sym, ◌∙◌, arith, inl, inr, subst, get_or-set_same, get_or-set_other}
-use Rattle.std.specs.Prelude.{All, IfSome, ◌⊎◌, ◌||◌, ◌&&◌, not, nat_eq, nat_lt, is_some, option_and_then, if◌then◌else◌}
+use Rattle.std.specs.Prelude.{All, IfSome, ◌⊎◌, ◌||◌, ◌&&◌, not, nat_eq, nat_lt, is_some, if◌then◌else◌}
 use Rattle.std.proofs.lemmas.Bool.{cases_eq, cases_lt, eq-eqb, ne_eqb, false≢true, or_cases, lt-ltb, le-ltb}
 use Rattle.noc_packet.specs.Set.{has_bit, in_both, IsLeast}
 use Rattle.std.proofs.lemmas.Nat.{mul-add-lt}
 use Rattle.std.proofs.lemmas.List.{get_or_read, get_or_past}
 use Rattle.noc_topo.specs.Words.{is_some_of, tabulate}
 use Rattle.noc_alloc.specs.Arbiter.{Turn, first_in_turn, turned, turn_at, pointers_of}
-use Rattle.noc_alloc.specs.Allocation.{pick_of, picked_port, winner_of, has_won, winning_pick, moving_pick, turned_by, is_won_by, pick_won}
+use Rattle.noc_alloc.specs.Allocation.{grant_of, pick_of, picked_port, winner_of, has_won, winning_pick, moving_pick, turned_by, is_won_by, pick_won}
 use Rattle.noc_alloc.specs.Steps.{turned_winner}
-use Rattle.noc_alloc.proofs.WordLemmas.{map_indexed-from_each, length-map_indexed, get_or-map_indexed, get_or-tabulate, length-tabulate, is_some_of-true, is_some_of-some, is_some_of-none, is_some_of-other}
+use Rattle.noc_alloc.proofs.WordLemmas.{map_indexed-from_each, length-map_indexed, get_or-map_indexed, get_or-tabulate, length-tabulate, tabulate-from_each, is_some_of-true, is_some_of-some, is_some_of-none, is_some_of-other}
 use Rattle.noc_alloc.proofs.ArbiterLemmas.{first_in_turn-same, first_in_turn-picks}
 use Rattle.noc_alloc.proofs.OfferLemmas.{pointer-at, both_has, both_lacks}
 
@@ -25,15 +25,6 @@ first_in_turn-below n p asks = at (first_in_turn n p asks) refl
     at None e = tt
     at (Some y) e = (first_in_turn-picks n p y asks e).1
 
-pub picked-inside : (ready : List (Option ℕ)) (vcs : ℕ) (picks : List (Option ℕ)) (port n : ℕ) → length ready ≡ length picks * vcs → port < length picks
-    → All (λ pick. IfSome pick (λ v. v < vcs)) picks → All (λ r. IfSome r (λ p. p < n)) ready
-    → IfSome (picked_port ready vcs picks port) (λ p. p < n)
-picked-inside ready vcs picks port n same l vs ps = at (get_or picks port None) (vs port None l)
-  where
-    at : (o : Option ℕ) → IfSome o (λ v. v < vcs) → IfSome (option_and_then (λ v. get_or ready (port * vcs + v) None) o) (λ p. p < n)
-    at None u = tt
-    at (Some v) u = ps (port * vcs + v) None (omega (arith, in_ready (length picks) vcs port v l u))
-
 -- where the channels of an input port stand among at most 56
 pub part-fits : (ports vcs port : ℕ) → port < ports → ports * vcs ≤ 56 → (port * vcs < 56) × (vcs ≤ 56)
 part-fits ports zero port l few = let z : port * zero ≡ 0 = omega arith in (omega arith, omega arith)
@@ -42,17 +33,27 @@ part-fits ports (suc v) port l few =
     let one : port * suc v + v < ports * suc v = in_ready ports (suc v) port v l (omega arith) in
     (omega arith, omega arith)
 
+-- the virtual channel that an input port picks of a set of input channels
+abbrev pub pick_from : ℕ → ℕ → List ℕ → ℕ → Option ℕ
+pick_from ready vcs pointers port = first_in_turn vcs (get_or pointers port 0) (λ v. has_bit ready (port * vcs + v))
+
 -- the pick of one input port, from its part of the set of those that are ready
-pub pick-is : (ready : List (Option ℕ)) (vcs : ℕ) (turns : List Turn) (port : ℕ) (t : Turn) (filled part : ℕ) → port < length turns
+pub pick-is : (vcs : ℕ) (turns : List Turn) (port : ℕ) (t : Turn) (ready part : ℕ) → port < length turns
     → t ≡ get_or turns port t → t.size ≡ vcs
-    → ((k : ℕ) → has_bit filled k ≡ is_some (get_or ready k None)) → ((k : ℕ) → has_bit part k ≡ (nat_lt k vcs && has_bit filled (port * vcs + k)))
-    → first_in_turn t.size t.pointer (has_bit part) ≡ pick_of ready vcs (pointers_of turns) port
-pick-is ready vcs turns port t filled part l is size members some =
+    → ((k : ℕ) → has_bit part k ≡ (nat_lt k vcs && has_bit ready (port * vcs + k)))
+    → first_in_turn t.size t.pointer (has_bit part) ≡ pick_from ready vcs (pointers_of turns) port
+pick-is vcs turns port t ready part l is size some =
     let p : get_or (pointers_of turns) port 0 ≡ t.pointer = pointer-at turns port l ∙ ap (λ (x : Turn). x.pointer) (sym (get_or_read turns port t l is (record { size = 0; pointer = 0 }))) in
     ap (λ n. first_in_turn n t.pointer (has_bit part)) size
     ∙ ap (λ q. first_in_turn vcs q (has_bit part)) (sym p)
-    ∙ first_in_turn-same vcs (get_or (pointers_of turns) port 0) (has_bit part) (λ k. is_some (get_or ready (port * vcs + k) None))
-    (λ k u. some k ∙ ap (λ b. b && has_bit filled (port * vcs + k)) (lt-ltb k vcs u) ∙ members (port * vcs + k))
+    ∙ first_in_turn-same vcs (get_or (pointers_of turns) port 0) (has_bit part) (λ k. has_bit ready (port * vcs + k))
+    (λ k u. some k ∙ ap (λ b. b && has_bit ready (port * vcs + k)) (lt-ltb k vcs u))
+
+-- .. by the requests, where those that ask are the members of the set
+pub pick_from-asked : (asked : List (Option ℕ)) (vcs : ℕ) (pointers : List ℕ) (ready port : ℕ) → ((k : ℕ) → has_bit ready k ≡ is_some (get_or asked k None))
+    → pick_from ready vcs pointers port ≡ pick_of asked vcs pointers port
+pick_from-asked asked vcs pointers ready port members =
+    first_in_turn-same vcs (get_or pointers port 0) (λ v. has_bit ready (port * vcs + v)) (λ v. is_some (get_or asked (port * vcs + v) None)) (λ v u. members (port * vcs + v))
 
 -- no member of a part is past it
 pub part-below : (vcs first filled part : ℕ) → ((k : ℕ) → has_bit part k ≡ (nat_lt k vcs && has_bit filled (first + k))) → (k : ℕ) → has_bit part k ≡ true → k < vcs
@@ -68,11 +69,14 @@ tabulate-inside n m f xs inside is k d l =
     let same : length xs ≡ n = ap (λ (ys : List (Option ℕ)). length ys) is ∙ length-tabulate n f in
     subst (λ o. IfSome o (λ y. y < m)) (sym (ap (λ ys. get_or ys k d) is ∙ get_or-tabulate n k f d (omega arith))) (inside k)
 
-pub wins-inside : (ready : List (Option ℕ)) (vcs ports n : ℕ) (picks : List (Option ℕ)) (ps : List ℕ) (wins : List (Option ℕ)) → wins ≡ tabulate n (winner_of ready vcs ports picks ps) → All (λ win. IfSome win (λ q. q < ports)) wins
-wins-inside ready vcs ports n picks ps wins is = tabulate-inside n ports (winner_of ready vcs ports picks ps) wins (λ k. first_in_turn-below ports (get_or ps k 0) (λ q. is_some_of (picked_port ready vcs picks q) k)) is
-
-pub picks-inside : (ready : List (Option ℕ)) (vcs : ℕ) (ps : List ℕ) (n : ℕ) (picks : List (Option ℕ)) → picks ≡ tabulate n (pick_of ready vcs ps) → All (λ pick. IfSome pick (λ v. v < vcs)) picks
-picks-inside ready vcs ps n picks is = tabulate-inside n vcs (pick_of ready vcs ps) picks (λ k. first_in_turn-below vcs (get_or ps k 0) (λ v. is_some (get_or ready (k * vcs + v) None))) is
+-- the winners of the output ports, where each input port asks for the output port to which its pick goes
+pub wins-are : (goes ready : List (Option ℕ)) (vcs ports n : ℕ) (picks : List (Option ℕ)) (pointers : List ℕ) (wins : List (Option ℕ))
+    → ((q : ℕ) → get_or goes q None ≡ picked_port ready vcs picks q) → wins ≡ tabulate n (grant_of goes ports pointers) → wins ≡ tabulate n (winner_of ready vcs ports picks pointers)
+wins-are goes ready vcs ports n picks pointers wins same is =
+    is
+    ∙ tabulate-from_each n (winner_of ready vcs ports picks pointers) (tabulate n (grant_of goes ports pointers)) None (length-tabulate n (grant_of goes ports pointers))
+    (λ k l. get_or-tabulate n k (grant_of goes ports pointers) None l
+    ∙ first_in_turn-same ports (get_or pointers k 0) (λ q. is_some_of (get_or goes q None) k) (λ q. is_some_of (picked_port ready vcs picks q) k) (λ q u. ap (λ o. is_some_of o k) (same q)))
 
 -- ---- pointers
 -- to turn twice to one winner is to turn once

@@ -11,4 +11,4 @@ mod tests;
 pub use arbiter::Arbiter;
 pub use channels::{advance_channels, allocate_channels};
 pub use places::Places;
-pub use switch::{advance_switch, allocate_switch};
+pub use switch::{advance_switch, pick_channels, win_ports};

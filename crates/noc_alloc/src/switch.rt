@@ -1,88 +1,43 @@
 //! The allocation of the switch, input ports first (Dally and Towles, chapter 19).
 
-ghost use Rattle.std.specs.Prelude.{◌≡◌, ℕ, ◌*◌, ◌<◌, ◌≤◌, List, Option, length, All, IfSome, slice_index_or, None};
+ghost use Rattle.std.specs.Prelude.{◌≡◌, ℕ, ◌*◌, ◌<◌, ◌≤◌, List, Option, length, All, IfSome, is_some, slice_index_or, None};
+ghost use Rattle.noc_packet.specs.Set.{has_bit};
 ghost use Rattle.noc_topo.specs.Words.{tabulate};
 ghost use Rattle.noc_alloc.specs.Arbiter.{Turn, pointers_of, turn_at};
 ghost use Rattle.noc_alloc.specs.Allocation.{pick_of, picked_port, winner_of, winning_pick, moving_pick, turned_by, AreWins};
 ghost use Rattle.noc_alloc.specs.Steps.{turned_winner};
 
-use crate::arbiter::{Arbiter, offer};
+use crate::arbiter::Arbiter;
+use crate::channels::allocate_channels;
 use crate::places::Places;
+use noc_packet::ChannelSet;
 
-/// For each input channel that is ready, `ready` has the output port of its output channel; input port `port` has the
-/// input channels from `port * vcs` on. Each input port picks one of its `vcs` virtual channels that are ready, and each
-/// output port is won by one of the input ports whose pick goes to it. `picks` gets the virtual channel of each input
-/// port, and `wins` the input port of each output port.
-pub fn allocate_switch(
-    ready: &Places,
-    vcs: usize,
-    inputs: &[Arbiter],
-    outputs: &[Arbiter],
-    picks: &mut Places,
-    wins: &mut Places,
-)
-    requires ready { length ready.now ≡ length inputs.now * vcs }
-    requires picks { length picks.old ≡ length inputs.now }
-    requires wins { length wins.old ≡ length outputs.now }
-    requires input_sizes { All (λ (t : Turn). t.size ≡ vcs) inputs.now }
-    requires output_sizes { All (λ (t : Turn). t.size ≡ length inputs.now) outputs.now }
-    requires ports { All (λ port. IfSome port (λ p. p < length outputs.now)) ready.now }
-    ensures picks { picks.new ≡ tabulate (length inputs.now) (pick_of ready.now vcs (pointers_of inputs.now)) }
-    ensures wins { wins.new ≡ tabulate (length outputs.now) (winner_of ready.now vcs (length inputs.now) picks.new (pointers_of outputs.now)) }
-    ensures pick_count { length picks.new ≡ length inputs.now }
-    ensures win_count { length wins.new ≡ length outputs.now }
-    ensures vcs { All (λ pick. IfSome pick (λ v. v < vcs)) picks.new }
-    ensures inputs { All (λ win. IfSome win (λ q. q < length inputs.now)) wins.new }
-{
-    pick_channels(ready, vcs, inputs, picks);
-    win_ports(ready, vcs, picks, outputs, wins);
-}
-
-/// Picks a ready virtual channel for each input port.
-fn pick_channels(ready: &Places, vcs: usize, inputs: &[Arbiter], picks: &mut Places)
-    requires ready { length ready.now ≡ length inputs.now * vcs }
+/// Each input port picks one of its `vcs` virtual channels that are ready: the one that its arbiter puts first. Input
+/// port `port` has the input channels from `port * vcs` on; `picks` gets the virtual channel of each input port.
+pub fn pick_channels(ready: ChannelSet, vcs: usize, inputs: &[Arbiter], picks: &mut Places)
+    requires few { length inputs.now * vcs ≤ 56 }
     requires picks { length picks.old ≡ length inputs.now }
     requires sizes { All (λ (t : Turn). t.size ≡ vcs) inputs.now }
-    ensures few { length ready.now ≤ 56 }
     ensures count { length picks.new ≡ length inputs.now }
-    ensures picks { picks.new ≡ tabulate (length inputs.now) (pick_of ready.now vcs (pointers_of inputs.now)) }
+    ensures vcs { All (λ pick. IfSome pick (λ v. v < vcs)) picks.new }
+    ensures picks { (asked : List (Option ℕ)) → ((k : ℕ) → has_bit ready k ≡ is_some (slice_index_or asked k None)) → picks.new ≡ tabulate (length inputs.now) (pick_of asked vcs (pointers_of inputs.now)) }
 {
-    let filled = ready.filled();
     for port in 0..inputs.len() {
-        picks.set(port, inputs[port].pick(filled.part(port * vcs, vcs)));
+        picks.set(port, inputs[port].pick(ready.part(port * vcs, vcs)));
     }
 }
 
-/// Lets each output port be won by one of the input ports whose pick goes to it.
-fn win_ports(ready: &Places, vcs: usize, picks: &Places, outputs: &[Arbiter], wins: &mut Places)
-    requires few { length ready.now ≤ 56 }
-    requires ready { length ready.now ≡ length picks.now * vcs }
+/// For each input port `goes` has the output port to which its pick goes. Each output port is won by one of the input
+/// ports whose pick goes to it: the one that its arbiter puts first. `wins` gets that input port.
+pub fn win_ports(goes: &Places, outputs: &[Arbiter], wins: &mut Places)
     requires wins { length wins.old ≡ length outputs.now }
-    requires sizes { All (λ (t : Turn). t.size ≡ length picks.now) outputs.now }
-    requires picks { All (λ pick. IfSome pick (λ v. v < vcs)) picks.now }
-    requires ports { All (λ port. IfSome port (λ p. p < length outputs.now)) ready.now }
-    ensures { wins.new ≡ tabulate (length outputs.now) (winner_of ready.now vcs (length picks.now) picks.now (pointers_of outputs.now)) }
+    requires sizes { All (λ (t : Turn). t.size ≡ length goes.now) outputs.now }
+    requires ports { All (λ port. IfSome port (λ p. p < length outputs.now)) goes.now }
+    ensures count { length wins.new ≡ length outputs.now }
+    ensures inputs { All (λ win. IfSome win (λ q. q < length goes.now)) wins.new }
+    ensures wins { (ready : List (Option ℕ)) (vcs : ℕ) (picks : List (Option ℕ)) → ((q : ℕ) → slice_index_or goes.now q None ≡ picked_port ready vcs picks q) → wins.new ≡ tabulate (length outputs.now) (winner_of ready vcs (length goes.now) picks (pointers_of outputs.now)) }
 {
-    wins.clear();
-    let mut rest = picks.filled();
-    while let Some(port) = rest.least_common(&rest) {
-        rest = rest.without(port);
-        offer(outputs, picked_port(ready, vcs, picks, port), port, wins);
-    }
-}
-
-/// The output port to which an input port's pick goes.
-fn picked_port(ready: &Places, vcs: usize, picks: &Places, port: usize) -> Option<usize>
-    requires port { port < length picks.now }
-    requires few { length ready.now ≤ 56 }
-    requires ready { length ready.now ≡ length picks.now * vcs }
-    requires picks { All (λ pick. IfSome pick (λ v. v < vcs)) picks.now }
-    ensures { result ≡ picked_port ready.now vcs picks.now port }
-{
-    match picks.get(port) {
-        Some(vc) => ready.get(port * vcs + vc),
-        None => None,
-    }
+    allocate_channels(goes, outputs, wins);
 }
 
 /// Moves the pointer of the input port that won an output port, if any, past its pick.

@@ -1,7 +1,10 @@
 //! Rounds of arbiters and allocators that were worked out by hand.
 
+ghost use Rattle.std.specs.Prelude.{◌≡◌, ◌<◌, All, IfSome, length};
+ghost use Rattle.noc_alloc.specs.Arbiter.{Turn};
+
 use crate::{
-    Arbiter, Places, advance_channels, advance_switch, allocate_channels, allocate_switch,
+    Arbiter, Places, advance_channels, advance_switch, allocate_channels, pick_channels, win_ports,
 };
 use noc_packet::ChannelSet;
 use std::test::Fail;
@@ -63,22 +66,55 @@ fn a_channel_that_two_ask_for_goes_round(rt: HostRuntime) -> Result<(), Fail> {
     Ok(())
 }
 
+// One round of a switch with three ports of two virtual channels.
+fn go_round(
+    ready: ChannelSet,
+    goes: &Places,
+    inputs: &mut [Arbiter],
+    outputs: &mut [Arbiter],
+    picks: &mut Places,
+    wins: &mut Places,
+)
+    requires inputs { length inputs.old ≡ 3 }
+    requires input_sizes { All (λ (t : Turn). t.size ≡ 2) inputs.old }
+    requires outputs { length outputs.old ≡ 3 }
+    requires output_sizes { All (λ (t : Turn). t.size ≡ 3) outputs.old }
+    requires goes { length goes.now ≡ 3 }
+    requires ports { All (λ port. IfSome port (λ p. p < 3)) goes.now }
+    requires picks { length picks.old ≡ 3 }
+    requires wins { length wins.old ≡ 3 }
+    ensures picks { length picks.new ≡ 3 }
+    ensures inputs { length inputs.new ≡ 3 }
+    ensures outputs { length outputs.new ≡ 3 }
+{
+    pick_channels(ready, 2, inputs, picks);
+    win_ports(goes, outputs, wins);
+    advance_switch(picks, wins, inputs, outputs);
+}
+
 #[test]
 fn an_input_port_that_loses_the_switch_keeps_its_turn(rt: HostRuntime) -> Result<(), Fail> {
-    let mut ready = Places::new(rt.alloc(), 6)?;
-    ready.set(0, Some(2));
-    ready.set(1, Some(1));
-    ready.set(2, Some(2));
+    let ready = ChannelSet::empty().with(0).with(1).with(2);
+    let mut goes = Places::new(rt.alloc(), 3)?;
+    goes.set(0, Some(2));
+    goes.set(1, Some(2));
     let mut inputs = vec![in rt.alloc(); Arbiter::new(2); 3]?;
     let mut outputs = vec![in rt.alloc(); Arbiter::new(3); 3]?;
     outputs[2].advance(Some(0));
     assert_eq!(rt; outputs[2].pointer(), 1);
     let mut picks = Places::new(rt.alloc(), 3)?;
     let mut wins = Places::new(rt.alloc(), 3)?;
-    allocate_switch(&ready, 2, &inputs, &outputs, &mut picks, &mut wins);
+    go_round(
+        ready,
+        &goes,
+        &mut inputs,
+        &mut outputs,
+        &mut picks,
+        &mut wins,
+    );
     assert_eq!(rt; picks.filled(), ChannelSet::empty().with(0).with(1));
+    assert_eq!(rt; picks.get(0), Some(0));
     assert_eq!(rt; wins.filled(), ChannelSet::empty().with(2));
-    advance_switch(&picks, &wins, &mut inputs, &mut outputs);
     assert_eq!(rt; inputs[0].pointer(), 0);
     assert_eq!(rt; inputs[1].pointer(), 1);
     assert_eq!(rt; inputs[2].pointer(), 0);

@@ -44,6 +44,3 @@ pub use traffic::{
     written_traffic_is_read_back,
 };
 pub use writing::{WriteFault, write_pieces};
-
-#[cfg(test)]
-mod tests;

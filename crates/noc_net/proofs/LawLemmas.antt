@@ -231,16 +231,20 @@ module _ (net : Setup) where
       right-listed (planned net.relation F) F (lists-at F r kept) (owned-below F r kept) i finding
       (sym (ap (λ (xs : List Finding). slice_get xs i) (sym (ap (λ (v : View). v.findings) same) ∙ step-findings n r view)) ∙ g)
 
-  -- a finding is of a channel that there is
-  pub found-inside : (n r i : ℕ) (view after : View) (finding : Finding) → 0 < net.places → slice_get (lockstep_at net n).views r ≡ Some view
-      → slice_get (lockstep_at net (n + 1)).views r ≡ Some after → slice_get after.findings i ≡ Some finding → i < size net
-  found-inside n r i view after finding some e f g =
+  -- there is a finding of each channel
+  pub found-count : (n r : ℕ) (view after : View) → 0 < net.places → slice_get (lockstep_at net n).views r ≡ Some view
+      → slice_get (lockstep_at net (n + 1)).views r ≡ Some after → length after.findings ≡ size net
+  found-count n r view after some e f =
       let F = frozen_view net n r view in
       let kept = frozen-at some n r view e in
       let same : (step_of net n r view).0 ≡ after = same_Some (step_of net n r view).0 after (sym (next_view net n r view e) ∙ f) in
       let is : after.findings ≡ (planned net.relation F).findings = sym (ap (λ (v : View). v.findings) same) ∙ step-findings n r view in
+      ap length is ∙ ap length (lists-at F r kept).findings ∙ length-tabulate (size_of F.site) (finding_of (planned net.relation F).round F) ∙ ap size_of kept.site
+
+  -- a finding is of a channel that there is
+  pub found-inside : (n r i : ℕ) (view after : View) (finding : Finding) → 0 < net.places → slice_get (lockstep_at net n).views r ≡ Some view
+      → slice_get (lockstep_at net (n + 1)).views r ≡ Some after → slice_get after.findings i ≡ Some finding → i < size net
+  found-inside n r i view after finding some e f g =
       let inside : i < length after.findings = slice_get_within after.findings i finding g in
-      let count : length after.findings ≡ size_of F.site =
-      ap length is ∙ ap length (lists-at F r kept).findings ∙ length-tabulate (size_of F.site) (finding_of (planned net.relation F).round F) in
-      let there : size_of F.site ≡ size net = ap size_of kept.site in
+      let count : length after.findings ≡ size net = found-count n r view after some e f in
       omega arith

@@ -1,13 +1,13 @@
 //! What holds of every network in every cycle.
 
-ghost use Rattle.std.specs.Prelude.{◌≡◌, ◌⊎◌, ◌+◌, ◌<◌, ℕ, Some, slice_get};
+ghost use Rattle.std.specs.Prelude.{◌≡◌, ◌⊎◌, ◌+◌, ◌<◌, ℕ, Some, length, slice_get};
 ghost use Rattle.noc_router.specs.View.{View};
 ghost use Rattle.noc_router.specs.declared.verdict.Verdict.TheVariants.{Granted, Moved};
 ghost use Rattle.noc_router.specs.declared.verdict.Finding.{Finding as FindingValue};
 ghost use Rattle.noc_net.specs.Buffers.{HoldsOnePacket};
 ghost use Rattle.noc_net.specs.Grants.{MovesByOwn, NamesPermitted};
 ghost use Rattle.noc_net.specs.Lockstep.{lockstep_at};
-ghost use Rattle.noc_net.specs.Network.{Setup};
+ghost use Rattle.noc_net.specs.Network.{Setup, size};
 ghost use Rattle.noc_net.specs.Verdicts.{IsRightFinding, frozen_view};
 
 /// Buffers never overflow and never mix packets: in every cycle each input buffer of each router holds at most as many flits
@@ -16,11 +16,15 @@ pub fn buffers_hold_one_packet_each()
     ensures { (net : Setup) (n r i : ℕ) (view : View) → 0 < net.places → slice_get (lockstep_at net n).views r ≡ Some view → HoldsOnePacket net view i }
 {}
 
-/// Each verdict is the one whose condition holds, and each stall names the first condition that fails: a channel is granted
-/// exactly where it waits, the channel that it asks for is the first idle one that is permitted and arbitration picks its
-/// request; a flit moves exactly where its packet owns the next channel, that has a credit and the flit wins the switch.
+/// Each input channel has one finding. Its verdict is the one whose condition holds, and each stall names the first condition
+/// that fails: a channel is granted exactly where it waits, the channel that it asks for is the first idle one that is
+/// permitted and arbitration picks its request; a flit moves exactly where its packet owns the next channel, that has a credit
+/// and the flit wins the switch.
 pub fn a_verdict_is_the_first_condition_that_fails()
-    ensures { (net : Setup) (n r i : ℕ) (view after : View) (finding : FindingValue) → 0 < net.places
+    ensures each { (net : Setup) (n r : ℕ) (view after : View) → 0 < net.places
+        → slice_get (lockstep_at net n).views r ≡ Some view → slice_get (lockstep_at net (n + 1)).views r ≡ Some after
+        → length after.findings ≡ size net }
+    ensures right { (net : Setup) (n r i : ℕ) (view after : View) (finding : FindingValue) → 0 < net.places
         → slice_get (lockstep_at net n).views r ≡ Some view → slice_get (lockstep_at net (n + 1)).views r ≡ Some after
         → slice_get after.findings i ≡ Some finding → IsRightFinding (frozen_view net n r view) i finding }
 {}

@@ -428,10 +428,9 @@ fn deliver(relation: &Relation, router: &mut Router, beats: &mut [[Beat; LINKS]]
     ensures router { router.new ≡ emptied router.old }
     ensures beats { (r port : ℕ) → r < nodes_of relation.now.grid → beat_at beats.new r port ≡ received router.old (neighbour_of relation.now.grid r port) (beat_at beats.old r port) }
 {
-    if router.is_put() {
-        return;
-    }
-    for port in 0..relation.shape().ports() - 1 {
+    let mut rest = router.loaded();
+    while let Some(port) = rest.least_common(&rest) {
+        rest = rest.without(port);
         let beat = router.put(port);
         send(beats, router.neighbour(port), beat);
     }

@@ -4,7 +4,7 @@ use Rattle.std.specs.Prelude.{nat_eq, nat_lt, ◌⊎◌, ◌&&◌, ◌||◌, not
 use Rattle.std.specs.Int.{bit_at, bit_not, trailing_zeros}
 use Rattle.std.proofs.lemmas.Bool.{eq-eqb, ne_eqb, cases_eq, cases_lt, false≢true, eqb-true, le-leb, lt-leb, lt-ltb, le-ltb}
 use Rattle.std.proofs.lemmas.Nat.{or_lt, or_disjoint, shr-shr, shr_le, one_shl, and_le_l, and-not, and_comm, pow_below}
-use Rattle.std.proofs.lemmas.Nat.Bits.{bit_at-zero, bit_at-lt, bit_at_and, bit_at_above, and_pow, same_from_bits, bit_at_set_same, bit_at_set_other, bit_at_clear_same, bit_at_clear_other, bit_at-trailing_zeros, bit_at_not, bit_at_ones, bit_at_ones_above}
+use Rattle.std.proofs.lemmas.Nat.Bits.{bit_at-zero, bit_at-lt, bit_at_and, bit_at_or, bit_at_above, and_pow, same_from_bits, bit_at_set_same, bit_at_set_other, bit_at_clear_same, bit_at_clear_other, bit_at-trailing_zeros, bit_at_not, bit_at_ones, bit_at_ones_above}
 use Rattle.noc_packet.specs.Set.{has_bit, has_from, in_both, IsLeast}
 
 pub has_bit-one : (bits k : ℕ) → bit_at bits k ≡ 1 → has_bit bits k ≡ true
@@ -190,6 +190,19 @@ from-some bits from bound some =
         let fits : bits / 2 ^ from ≤ bits = shr_le bits from in
         let tz = bit_at-trailing_zeros w64 (bits / 2 ^ from) some (omega arith) in
         rw (le-leb from k u) (has_bit-none bits k (bit_at-past bits from k u ∙ tz.2 (k - from) (omega arith)))
+
+-- ---- the members of both sets, and of either
+pub both_members : (a b k : ℕ) → has_bit (bit_and a b) k ≡ (has_bit a k && has_bit b k)
+both_members a b k = sym (in_both-and a b k)
+
+pub either_members : (a b k : ℕ) → has_bit (bit_or a b) k ≡ (has_bit a k || has_bit b k)
+either_members a b k = at (has_bit a k) (has_bit b k) refl refl
+  where
+    at : (x y : Bool) → has_bit a k ≡ x → has_bit b k ≡ y → has_bit (bit_or a b) k ≡ (x || y)
+    at true true p q = has_bit-one _ k (bit_at_or a b k ∙ rw (bit_at-true a k p, bit_at-true b k q) refl)
+    at true false p q = has_bit-one _ k (bit_at_or a b k ∙ rw (bit_at-true a k p, bit_at-false b k q) refl)
+    at false true p q = has_bit-one _ k (bit_at_or a b k ∙ rw (bit_at-false a k p, bit_at-true b k q) refl)
+    at false false p q = has_bit-none _ k (bit_at_or a b k ∙ rw (bit_at-false a k p, bit_at-false b k q) refl)
 
 -- ---- less another set
 and_members : (a b k : ℕ) → has_bit (bit_and a b) k ≡ (has_bit b k && has_bit a k)

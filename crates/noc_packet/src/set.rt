@@ -104,6 +104,24 @@ impl ChannelSet {
         }
     }
 
+    /// The members of both sets.
+    pub fn both(self, other: ChannelSet) -> ChannelSet
+        ensures { (k : ℕ) → has_bit result k ≡ (has_bit self k && has_bit other k) }
+    {
+        ChannelSet {
+            bits: self.bits & other.bits,
+        }
+    }
+
+    /// The members of either set.
+    pub fn either(self, other: ChannelSet) -> ChannelSet
+        ensures { (k : ℕ) → has_bit result k ≡ (has_bit self k || has_bit other k) }
+    {
+        ChannelSet {
+            bits: self.bits | other.bits,
+        }
+    }
+
     /// The members among the `count` indices (0 to 56) from `from` (0 to 55) on, numbered from 0.
     pub fn part(self, from: usize, count: usize) -> ChannelSet
         requires from { from < INDICES }

@@ -33,12 +33,3 @@ lt_next k n = at (cases_lt k n) (cases_eq k n)
     at (inl l) e = let a = lt-ltb k n l in let b = lt-ltb k (n + 1) (omega arith) in rw (a, b) refl
     at (inr g) (inl e) = let a = le-ltb k n g in let b = lt-ltb k (n + 1) (omega arith) in let s = eq-eqb k n e in rw (a, b, s) refl
     at (inr g) (inr ne) = let a = le-ltb k n g in let b = le-ltb k (n + 1) (omega arith) in let s = ne_eqb k n ne in rw (a, b, s) refl
-
--- one more number that passes, and one that does not
-pub merge_in : (e s l o : Bool) → (e ≡ true → o ≡ true) → (e || (s || (l && o))) ≡ (s || ((l || e) && o))
-merge_in true s l o h = let yes = h refl in rw (yes, or-true l, or-true s) refl
-merge_in false s l o h = rw (or-none l) refl
-
-pub merge_out : (e s l o : Bool) → (e ≡ true → o ≡ false) → (s || (l && o)) ≡ (s || ((l || e) && o))
-merge_out true s l o h = let no = h refl in rw (no, and-false l, and-false (l || true)) refl
-merge_out false s l o h = rw (or-none l) refl

@@ -7,7 +7,7 @@ ghost use Rattle.noc_route.specs.Routes.{width, blocks, block_of};
 ghost use Rattle.noc_route.specs.Trimming.{routes_in, set_in, IsPlace, ComesNearer, IsSoundOut, IsFullOut, comes_in, any_below};
 
 use crate::map::Map;
-use noc_packet::{ChannelSet, INDICES};
+use noc_packet::ChannelSet;
 
 /// The greatest distance of two nodes, in hops.
 const FARTHEST: usize = 45;
@@ -84,7 +84,7 @@ fn leaving(
     let mut all = ChannelSet::empty();
     for input in 0..map.frame.width() {
         if is_reached(map, outs, class, router, dst, input) {
-            all = merged(all, sets[map.frame.slot(block, input)]);
+            all = all.either(sets[map.frame.slot(block, input)]);
         }
     }
     all
@@ -120,20 +120,4 @@ pub fn is_reached(
             )
         }
     }
-}
-
-/// The members of both sets.
-fn merged(set: ChannelSet, other: ChannelSet) -> ChannelSet
-    ensures { (k : ℕ) → k < INDICES → has_bit result k ≡ (has_bit set k || has_bit other k) }
-{
-    if set == other || other.is_empty() {
-        return set;
-    }
-    let mut all = set;
-    for channel in 0..INDICES {
-        if other.contains(channel) {
-            all = all.with(channel);
-        }
-    }
-    all
 }

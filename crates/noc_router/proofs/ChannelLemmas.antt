@@ -2,6 +2,7 @@
 use Rattle.std.proofs.Common.{◌≡◌, ◌≢◌, ℕ, zero, suc, ◌+◌, ◌-◌, ◌<◌, ◌≤◌, Bool, true, false, List, [], ◌∷◌, ◌++◌, length, drop, Option, Some, None, refl, ap, sym, subst, ◌∙◌, inl, inr, arith, get_or-set_same, get_or-set_other, slice_index_or, slice_set}
 use Rattle.std.specs.Prelude.{◌⊎◌, nat_eq, nat_lt, not, ◌&&◌, ◌||◌, is_some, if◌then◌else◌, find, replicate}
 use Rattle.std.specs.List.{All, range_with_len}
+use Rattle.std.specs.Option.{option_eq}
 use Rattle.std.proofs.lemmas.Bool.{cases_eq, false≢true, eq-eqb, ne_eqb, eqb-true, lt-ltb, ltb-true}
 use Rattle.std.proofs.lemmas.List.{get_or_default, set-get_or, get_or-replicate, length-replicate, length-append}
 use Rattle.std.proofs.lemmas.List.Elements.{All-append, All-replicate}
@@ -10,15 +11,16 @@ use Rattle.noc_packet.specs.Set.{has_bit, in_both, IsLeast}
 use Rattle.noc_packet.specs.declared.packet.Flit.{Flit}
 use Rattle.noc_ring.specs.Rings.{Rings, ring_at, pushed, popped, empty_rings}
 use Rattle.noc_route.specs.Routes.{Routes}
-use Rattle.noc_vc.specs.Input.{Input, idle_input, is_idle_phase, is_waiting, is_empty, next_of, may_begin, is_expected, fits, landed, routed, granted, sent}
-use Rattle.noc_vc.specs.Output.{Output, ejection_output, link_output, is_free, is_owned, holder_at, credited_at, credited, held, spent_at, spent}
+use Rattle.noc_vc.specs.Input.{Input, idle_input, is_idle_phase, is_waiting, is_active, is_empty, next_of, may_begin, is_expected, fits, landed, routed, granted, sent}
+use Rattle.noc_vc.specs.Output.{Output, ejection_output, link_output, is_free, is_owned, has_credit_at, has_credit, holder_at, credited_at, credited, held, spent_at, spent}
 use Rattle.noc_vc.specs.declared.input.Awaited.{Awaited}
 use Rattle.noc_vc.specs.declared.input.InputState.{InputState}
 use Rattle.noc_vc.specs.declared.input.InputState.TheVariants.{Idle, Waiting, Active}
 use Rattle.noc_vc.specs.declared.output.OutputState.{OutputState}
 use Rattle.noc_vc.specs.declared.output.OutputState.TheVariants.{Idle as Free, Owned, Draining}
+use Rattle.noc_router.specs.declared.channels.Standing.{Standing}
 use Rattle.noc_router.specs.Members.{AreBelow, is_within}
-use Rattle.noc_router.specs.Sound.{is_occupied, owns, is_owned_from, is_worm, is_worm_of, AreSound}
+use Rattle.noc_router.specs.Sound.{KeepsAwaiting, is_awaiting, is_occupied, is_supplied, owns, is_owned_from, is_worm, is_worm_of, AreSound, AreStanding, Sets}
 
 -- ---- an element of a list is replaced
 
@@ -31,52 +33,80 @@ each-set P xs i y d l here other k = at (cases_eq k i)
     at (inl e) = rw e (rw (get_or-set_same xs i y d l) here)
     at (inr n) = rw (get_or-set_other xs i k y d n) (other k n)
 
--- a set that differs at i alone, which is below n
-below-changed : (n set rest i : ℕ) → i < n → ((k : ℕ) → k ≢ i → has_bit rest k ≡ has_bit set k) → AreBelow n set → AreBelow n rest
-below-changed n set rest i l same all = λ k is. at k is (cases_eq k i)
+-- ---- a set of channels changes
+
+-- a set that holds i as is said, and every other number as before
+pub record IsMarked (before after i : ℕ) (here : Bool) : Type 0 where
+  pub at : has_bit after i ≡ here
+  pub others : (k : ℕ) → k ≢ i → has_bit after k ≡ has_bit before k
+
+-- one member more
+pub marked-with : (before after i : ℕ) → ((k : ℕ) → has_bit after k ≡ (nat_eq k i || has_bit before k)) → IsMarked before after i true
+marked-with before after i members = record {
+  at = members i ∙ ap (λ b. b || has_bit before i) (eq-eqb i i refl);
+  others = λ k other. members k ∙ ap (λ b. b || has_bit before k) (ne_eqb k i other);
+}
+
+-- one member less
+pub marked-without : (before after i : ℕ) → ((k : ℕ) → has_bit after k ≡ (not (nat_eq k i) && has_bit before k)) → IsMarked before after i false
+marked-without before after i members = record {
+  at = members i ∙ ap (λ b. not b && has_bit before i) (eq-eqb i i refl);
+  others = λ k other. members k ∙ ap (λ b. not b && has_bit before k) (ne_eqb k i other);
+}
+
+-- a set that stays as it is
+marked-same : (set i : ℕ) (here : Bool) → has_bit set i ≡ here → IsMarked set set i here
+marked-same set i here is = record { at = is; others = λ k other. refl }
+
+-- a set is marked below n
+below-marked : (n before after i : ℕ) (here : Bool) → i < n → IsMarked before after i here → AreBelow n before → AreBelow n after
+below-marked n before after i here l marked all = λ k is. at k is (cases_eq k i)
   where
-    at : (k : ℕ) → has_bit rest k ≡ true → (k ≡ i) ⊎ (k ≢ i) → k < n
+    at : (k : ℕ) → has_bit after k ≡ true → (k ≡ i) ⊎ (k ≢ i) → k < n
     at k is (inl e) = omega arith
-    at k is (inr other) = all k (sym (same k other) ∙ is)
+    at k is (inr other) = all k (sym (marked.others k other) ∙ is)
 
--- a set with one member more
-pub with-other : (set rest i : ℕ) → ((k : ℕ) → has_bit rest k ≡ (nat_eq k i || has_bit set k)) → (k : ℕ) → k ≢ i → has_bit rest k ≡ has_bit set k
-with-other set rest i members k other = members k ∙ ap (λ b. b || has_bit set k) (ne_eqb k i other)
-
-pub with-here : (set rest i : ℕ) → ((k : ℕ) → has_bit rest k ≡ (nat_eq k i || has_bit set k)) → has_bit rest i ≡ true
-with-here set rest i members = members i ∙ ap (λ b. b || has_bit set i) (eq-eqb i i refl)
-
--- a set with one member less
-pub without-other : (set rest i : ℕ) → ((k : ℕ) → has_bit rest k ≡ (not (nat_eq k i) && has_bit set k)) → (k : ℕ) → k ≢ i → has_bit rest k ≡ has_bit set k
-without-other set rest i members k other = members k ∙ ap (λ b. not b && has_bit set k) (ne_eqb k i other)
-
-pub without-here : (set rest i : ℕ) → ((k : ℕ) → has_bit rest k ≡ (not (nat_eq k i) && has_bit set k)) → has_bit rest i ≡ false
-without-here set rest i members = members i ∙ ap (λ b. not b && has_bit set i) (eq-eqb i i refl)
+-- what the members of a marked set are, where that of one element is replaced
+marked-each : {X : Type 0} (test : X → Bool) (n before after i : ℕ) (xs : List X) (y d : X) → i < length xs → IsMarked before after i (test y)
+    → ((k : ℕ) → k < n → has_bit before k ≡ test (slice_index_or xs k d))
+    → (k : ℕ) → k < n → has_bit after k ≡ test (slice_index_or (slice_set xs i y) k d)
+marked-each test n before after i xs y d inside marked each =
+    each-set (λ k x. k < n → has_bit after k ≡ test x) xs i y d inside (λ _. marked.at) (λ k other l. marked.others k other ∙ each k l)
 
 -- ---- the channels stay sound
 
 -- one input channel gets another state and other flits, and the output channels are owned from it alone otherwise than before
-pub AreSound-changed : (size occupied idle : ℕ) (buffers : List (List Flit)) (inputs : List Input) (outputs after : List Output) (rest free i : ℕ) (x : Input) (flits : List Flit)
-    → AreSound size occupied idle buffers inputs outputs → length buffers ≡ size → length inputs ≡ size → i < size
-    → ((k : ℕ) → k ≢ i → has_bit rest k ≡ has_bit occupied k) → has_bit rest i ≡ is_occupied x flits
-    → AreBelow size free → ((o : ℕ) → o < size → has_bit free o ≡ is_free (slice_index_or after o ejection_output).holder)
-    → is_within size x.phase ≡ true → (has_bit rest i ≡ false → x.packet ≡ None) → is_worm_of x flits ≡ true
+AreSound-changed : (size : ℕ) (sets next : Sets) (buffers : List (List Flit)) (inputs : List Input) (outputs after : List Output) (i : ℕ) (x : Input) (flits : List Flit)
+    → AreSound size sets buffers inputs outputs → length buffers ≡ size → length inputs ≡ size → i < size
+    → IsMarked sets.filled next.filled i (not (is_empty flits)) → IsMarked sets.waiting next.waiting i (is_waiting x.phase)
+    → IsMarked sets.active next.active i (is_active x.phase) → IsMarked sets.supplied next.supplied i (is_supplied after x.phase)
+    → AreBelow size next.idle → ((o : ℕ) → o < size → has_bit next.idle o ≡ is_free (slice_index_or after o ejection_output).holder)
+    → ((k : ℕ) → k < size → k ≢ i → is_supplied after (slice_index_or inputs k idle_input).phase ≡ is_supplied outputs (slice_index_or inputs k idle_input).phase)
+    → is_within size x.phase ≡ true → (is_occupied x flits ≡ false → x.packet ≡ None) → is_worm_of x flits ≡ true
     → ((o : ℕ) → o < size → owns x.phase o ≡ is_owned_from (slice_index_or after o ejection_output).holder i)
     → ((k o : ℕ) → o < size → k ≢ i → is_owned_from (slice_index_or after o ejection_output).holder k ≡ is_owned_from (slice_index_or outputs o ejection_output).holder k)
-    → AreSound size rest free (slice_set buffers i flits) (slice_set inputs i x) after
-AreSound-changed size occupied idle buffers inputs outputs after rest free i x flits s rings each l same here free_below free_is within gone worm owned others =
+    → AreSound size next (slice_set buffers i flits) (slice_set inputs i x) after
+AreSound-changed size sets next buffers inputs outputs after i x flits s rings each l filled waiting active supplied idle_below idle_is supplies within gone worm owned others =
     let in_rings : i < length buffers = omega arith in
     let in_inputs : i < length inputs = omega arith in
     record {
-      occupied_below = below-changed size occupied rest i l same s.occupied_below;
-      idle_below = free_below;
-      occupied_is = each-set (λ k input. k < size → has_bit rest k ≡ is_occupied input (slice_index_or (slice_set buffers i flits) k [])) inputs i x idle_input in_inputs
-          (λ _. rw (get_or-set_same buffers i flits [] in_rings) here)
-          (λ k n u. rw (get_or-set_other buffers i k flits [] n) (same k n ∙ s.occupied_is k u));
-      idle_is = free_is;
+      filled_below = below-marked size sets.filled next.filled i _ l filled s.filled_below;
+      waiting_below = below-marked size sets.waiting next.waiting i _ l waiting s.waiting_below;
+      active_below = below-marked size sets.active next.active i _ l active s.active_below;
+      supplied_below = below-marked size sets.supplied next.supplied i _ l supplied s.supplied_below;
+      idle_below = idle_below;
+      filled_is = marked-each (λ (fs : List Flit). not (is_empty fs)) size sets.filled next.filled i buffers flits [] in_rings filled s.filled_is;
+      waiting_is = marked-each (λ (input : Input). is_waiting input.phase) size sets.waiting next.waiting i inputs x idle_input in_inputs waiting s.waiting_is;
+      active_is = marked-each (λ (input : Input). is_active input.phase) size sets.active next.active i inputs x idle_input in_inputs active s.active_is;
+      supplied_is = each-set (λ k input. k < size → has_bit next.supplied k ≡ is_supplied after input.phase) inputs i x idle_input in_inputs
+          (λ _. supplied.at)
+          (λ k n u. supplied.others k n ∙ s.supplied_is k u ∙ sym (supplies k u n));
+      idle_is = idle_is;
       owned_below = each-set (λ k input. k < size → is_within size input.phase ≡ true) inputs i x idle_input in_inputs (λ _. within) (λ k n u. s.owned_below k u);
-      vacant = each-set (λ k input. k < size → has_bit rest k ≡ false → input.packet ≡ None) inputs i x idle_input in_inputs
-          (λ _. gone) (λ k n u off. s.vacant k u (sym (same k n) ∙ off));
+      owner_below = λ k o u from. owner k o u from (cases_eq k i);
+      vacant = each-set (λ k input. k < size → is_occupied input (slice_index_or (slice_set buffers i flits) k []) ≡ false → input.packet ≡ None) inputs i x idle_input in_inputs
+          (λ _. rw (get_or-set_same buffers i flits [] in_rings) gone)
+          (λ k n u. rw (get_or-set_other buffers i k flits [] n) (s.vacant k u));
       owners = λ k o u v. each-set (λ j input. j < size → owns input.phase o ≡ is_owned_from (slice_index_or after o ejection_output).holder j) inputs i x idle_input in_inputs
           (λ _. owned o v)
           (λ j n w. s.owners j o w v ∙ sym (others j o v n)) k u;
@@ -84,34 +114,84 @@ AreSound-changed size occupied idle buffers inputs outputs after rest free i x f
           (λ _. rw (get_or-set_same buffers i flits [] in_rings) worm)
           (λ k n u. rw (get_or-set_other buffers i k flits [] n) (s.worms k u));
     }
+  where
+    owner : (k o : ℕ) → o < size → is_owned_from (slice_index_or after o ejection_output).holder k ≡ true → (k ≡ i) ⊎ (k ≢ i) → k < size
+    owner k o u from (inl e) = omega arith
+    owner k o u from (inr n) = s.owner_below k o u (sym (others k o u n) ∙ from)
 
--- .. where no output channel changes hands
-pub AreSound-input : (size occupied idle : ℕ) (buffers : List (List Flit)) (inputs : List Input) (outputs : List Output) (rest i : ℕ) (x : Input) (flits : List Flit)
-    → AreSound size occupied idle buffers inputs outputs → length buffers ≡ size → length inputs ≡ size → i < size
-    → ((k : ℕ) → k ≢ i → has_bit rest k ≡ has_bit occupied k) → has_bit rest i ≡ is_occupied x flits
-    → x.phase ≡ (slice_index_or inputs i idle_input).phase → (has_bit rest i ≡ false → x.packet ≡ None) → is_worm_of x flits ≡ true
-    → AreSound size rest idle (slice_set buffers i flits) (slice_set inputs i x) outputs
-AreSound-input size occupied idle buffers inputs outputs rest i x flits s rings each l same here phase gone worm =
-    AreSound-changed size occupied idle buffers inputs outputs outputs rest idle i x flits s rings each l same here s.idle_below s.idle_is
-    (ap (is_within size) phase ∙ s.owned_below i l) gone worm
-    (λ o u. ap (λ p. owns p o) phase ∙ s.owners i o l u) (λ k o u n. refl)
+-- .. where no output channel changes
+AreSound-input : (size : ℕ) (sets next : Sets) (buffers : List (List Flit)) (inputs : List Input) (outputs : List Output) (i : ℕ) (x : Input) (flits : List Flit)
+    → AreSound size sets buffers inputs outputs → length buffers ≡ size → length inputs ≡ size → i < size
+    → IsMarked sets.filled next.filled i (not (is_empty flits)) → IsMarked sets.waiting next.waiting i (is_waiting x.phase)
+    → next.active ≡ sets.active → next.supplied ≡ sets.supplied → next.idle ≡ sets.idle
+    → is_active x.phase ≡ is_active (slice_index_or inputs i idle_input).phase → is_supplied outputs x.phase ≡ is_supplied outputs (slice_index_or inputs i idle_input).phase
+    → is_within size x.phase ≡ true → (is_occupied x flits ≡ false → x.packet ≡ None) → is_worm_of x flits ≡ true
+    → ((o : ℕ) → owns x.phase o ≡ owns (slice_index_or inputs i idle_input).phase o)
+    → AreSound size next (slice_set buffers i flits) (slice_set inputs i x) outputs
+AreSound-input size sets next buffers inputs outputs i x flits s rings each l filled waiting same_active same_supplied same_idle acts has within gone worm owned =
+    AreSound-changed size sets next buffers inputs outputs outputs i x flits s rings each l filled waiting
+    (record { at = ap (λ set. has_bit set i) same_active ∙ s.active_is i l ∙ sym acts; others = λ k n. ap (λ set. has_bit set k) same_active })
+    (record { at = ap (λ set. has_bit set i) same_supplied ∙ s.supplied_is i l ∙ sym has; others = λ k n. ap (λ set. has_bit set k) same_supplied })
+    (subst (AreBelow size) (sym same_idle) s.idle_below)
+    (λ o u. ap (λ set. has_bit set o) same_idle ∙ s.idle_is o u)
+    (λ k u n. refl) within gone worm
+    (λ o u. owned o ∙ s.owners i o l u) (λ k o u n. refl)
 
--- one output channel gets another state
-pub AreSound-output : (size occupied idle : ℕ) (buffers : List (List Flit)) (inputs : List Input) (outputs : List Output) (free o : ℕ) (y : Output)
-    → AreSound size occupied idle buffers inputs outputs → length outputs ≡ size → o < size
-    → ((k : ℕ) → k ≢ o → has_bit free k ≡ has_bit idle k) → has_bit free o ≡ is_free y.holder
+-- an output channel that a packet does not own says nothing of its supply
+is_supplied-other : (outputs : List Output) (o : ℕ) (y : Output) (phase : InputState) → owns phase o ≡ false → is_supplied (slice_set outputs o y) phase ≡ is_supplied outputs phase
+is_supplied-other outputs o y Idle e = refl
+is_supplied-other outputs o y (Waiting set) e = refl
+is_supplied-other outputs o y (Active q) e = ap has_credit (get_or-set_other outputs o q y ejection_output (λ same. false≢true (sym e ∙ eq-eqb q o same)))
+
+-- .. where one output channel changes too, which no other input channel owns
+AreSound-turned : (size : ℕ) (sets next : Sets) (buffers : List (List Flit)) (inputs : List Input) (outputs : List Output) (i o : ℕ) (x : Input) (flits : List Flit) (y : Output)
+    → AreSound size sets buffers inputs outputs → length buffers ≡ size → length inputs ≡ size → length outputs ≡ size → i < size → o < size
+    → IsMarked sets.filled next.filled i (not (is_empty flits)) → IsMarked sets.waiting next.waiting i (is_waiting x.phase)
+    → IsMarked sets.active next.active i (is_active x.phase) → IsMarked sets.supplied next.supplied i (is_supplied (slice_set outputs o y) x.phase)
+    → IsMarked sets.idle next.idle o (is_free y.holder)
+    → is_within size x.phase ≡ true → (is_occupied x flits ≡ false → x.packet ≡ None) → is_worm_of x flits ≡ true
+    → owns x.phase o ≡ is_owned_from y.holder i
+    → ((q : ℕ) → q ≢ o → owns x.phase q ≡ owns (slice_index_or inputs i idle_input).phase q)
+    → ((k : ℕ) → k ≢ i → is_owned_from (slice_index_or outputs o ejection_output).holder k ≡ false)
+    → ((k : ℕ) → k ≢ i → is_owned_from y.holder k ≡ false)
+    → AreSound size next (slice_set buffers i flits) (slice_set inputs i x) (slice_set outputs o y)
+AreSound-turned size sets next buffers inputs outputs i o x flits y s rings each outs l u filled waiting active supplied idle within gone worm owned rest before after =
+    let inside : o < length outputs = omega arith in
+    AreSound-changed size sets next buffers inputs outputs (slice_set outputs o y) i x flits s rings each l filled waiting active supplied
+    (below-marked size sets.idle next.idle o _ u idle s.idle_below)
+    (marked-each (λ (output : Output). is_free output.holder) size sets.idle next.idle o outputs y ejection_output inside idle s.idle_is)
+    (λ k v n. is_supplied-other outputs o y (slice_index_or inputs k idle_input).phase (s.owners k o v u ∙ before k n))
+    within gone worm
+    (each-set (λ q (output : Output). q < size → owns x.phase q ≡ is_owned_from output.holder i) outputs o y ejection_output inside (λ _. owned) (λ q n v. rest q n ∙ s.owners i q l v))
+    (λ k q v n. each-set (λ j (output : Output). is_owned_from output.holder k ≡ is_owned_from (slice_index_or outputs j ejection_output).holder k) outputs o y ejection_output inside
+    (after k n ∙ sym (before k n))
+    (λ j m. refl) q)
+
+-- one output channel gets another state, which nobody else owns than before
+AreSound-output : (size : ℕ) (sets : Sets) (idle supplied : ℕ) (buffers : List (List Flit)) (inputs : List Input) (outputs : List Output) (o : ℕ) (y : Output)
+    → AreSound size sets buffers inputs outputs → length outputs ≡ size → o < size
+    → IsMarked sets.idle idle o (is_free y.holder) → AreBelow size supplied
+    → ((i : ℕ) → i < size → has_bit supplied i ≡ is_supplied (slice_set outputs o y) (slice_index_or inputs i idle_input).phase)
     → ((k : ℕ) → is_owned_from y.holder k ≡ is_owned_from (slice_index_or outputs o ejection_output).holder k)
-    → AreSound size occupied free buffers inputs (slice_set outputs o y)
-AreSound-output size occupied idle buffers inputs outputs free o y s each l same here owned =
-    let in_outputs : o < length outputs = omega arith in
+    → AreSound size (record sets { supplied = supplied; idle = idle }) buffers inputs (slice_set outputs o y)
+AreSound-output size sets idle supplied buffers inputs outputs o y s each l marked supplied_below supplied_is owned =
+    let inside : o < length outputs = omega arith in
     record {
-      occupied_below = s.occupied_below;
-      idle_below = below-changed size idle free o l same s.idle_below;
-      occupied_is = s.occupied_is;
-      idle_is = each-set (λ k output. k < size → has_bit free k ≡ is_free output.holder) outputs o y ejection_output in_outputs (λ _. here) (λ k n u. same k n ∙ s.idle_is k u);
+      filled_below = s.filled_below;
+      waiting_below = s.waiting_below;
+      active_below = s.active_below;
+      supplied_below = supplied_below;
+      idle_below = below-marked size sets.idle idle o _ l marked s.idle_below;
+      filled_is = s.filled_is;
+      waiting_is = s.waiting_is;
+      active_is = s.active_is;
+      supplied_is = supplied_is;
+      idle_is = marked-each (λ (output : Output). is_free output.holder) size sets.idle idle o outputs y ejection_output inside marked s.idle_is;
       owned_below = s.owned_below;
+      owner_below = λ i k. each-set (λ j (output : Output). j < size → is_owned_from output.holder i ≡ true → i < size) outputs o y ejection_output inside
+          (λ w from. s.owner_below i o w (sym (owned i) ∙ from)) (λ j n w. s.owner_below i j w) k;
       vacant = s.vacant;
-      owners = λ i k u v. each-set (λ j output. j < size → owns (slice_index_or inputs i idle_input).phase j ≡ is_owned_from output.holder i) outputs o y ejection_output in_outputs
+      owners = λ i k u v. each-set (λ j (output : Output). j < size → owns (slice_index_or inputs i idle_input).phase j ≡ is_owned_from output.holder i) outputs o y ejection_output inside
           (λ w. s.owners i o u w ∙ sym (owned i)) (λ j n w. s.owners i j u w) k v;
       worms = s.worms;
     }
@@ -191,45 +271,42 @@ fits-next g router port vc places flits input f e = at input.phase input.awaited
     at (Active o) None w = absurd (false≢true w)
     at (Active o) (Some a) w = either (is_empty flits) true refl
 
-is_occupied-more : (input : Input) (flits : List Flit) (f : Flit) → is_occupied input (flits ++ f ∷ []) ≡ true
-is_occupied-more input [] f = ap not (none (is_idle_phase input.phase))
-  where
-    none : (b : Bool) → (b && false) ≡ false
-    none true = refl
-    none false = refl
-is_occupied-more input (g ∷ rest) f = ap not (none (is_idle_phase input.phase))
-  where
-    none : (b : Bool) → (b && false) ≡ false
-    none true = refl
-    none false = refl
+-- flits behind which another lands
+not_empty-more : (flits : List Flit) (f : Flit) → is_empty (flits ++ f ∷ []) ≡ false
+not_empty-more [] f = refl
+not_empty-more (g ∷ rest) f = refl
 
 -- a flit lands
-pub AreSound-landed : (size occupied idle : ℕ) (before after : Rings) (inputs : List Input) (outputs : List Output) (rest i : ℕ) (old new : Input) (f : Flit)
-    → AreSound size occupied idle before.rings inputs outputs → length before.rings ≡ size → length inputs ≡ size → i < size
-    → ((k : ℕ) → has_bit rest k ≡ (nat_eq k i || has_bit occupied k))
+pub AreSound-landed : (size : ℕ) (sets : Sets) (before after : Rings) (inputs : List Input) (outputs : List Output) (filled i : ℕ) (old new : Input) (f : Flit)
+    → AreSound size sets before.rings inputs outputs → length before.rings ≡ size → length inputs ≡ size → i < size
+    → ((k : ℕ) → has_bit filled k ≡ (nat_eq k i || has_bit sets.filled k))
     → old ≡ slice_index_or inputs i idle_input → new ≡ landed old f → after ≡ pushed before i f
     → (is_empty (ring_at before i) || is_some old.awaited) ≡ true
-    → AreSound size rest idle after.rings (slice_set inputs i new) outputs
-AreSound-landed size occupied idle before after inputs outputs rest i old new f s rings each l members at is pushes next =
+    → AreSound size (record sets { filled = filled }) after.rings (slice_set inputs i new) outputs
+AreSound-landed size sets before after inputs outputs filled i old new f s rings each l members at is pushes more =
     let flits : List Flit = ring_at before i in
     let input : Input = slice_index_or inputs i idle_input in
+    let some : not (is_empty (flits ++ f ∷ [])) ≡ true = ap not (not_empty-more flits f) in
+    let marked : IsMarked sets.filled filled i true = marked-with sets.filled filled i members in
     rw (pushes, is, at)
-    (AreSound-input size occupied idle before.rings inputs outputs rest i (landed input f) (flits ++ f ∷ []) s rings each l
-    (with-other occupied rest i members)
-    (with-here occupied rest i members ∙ sym (is_occupied-more (landed input f) flits f))
-    refl
-    (λ off. absurd (false≢true (sym off ∙ with-here occupied rest i members)))
-    (is_worm-landed (is_some input.packet) (is_some input.awaited) flits f (s.worms i l) (ap (λ (x : Input). is_empty flits || is_some x.awaited) (sym at) ∙ next)))
-
-not_empty : {X : Type 0} (xs : List X) → 0 < length xs → is_empty xs ≡ false
-not_empty [] l = absurd (omega arith)
-not_empty (x ∷ xs) l = refl
+    (AreSound-input size sets (record sets { filled = filled }) before.rings inputs outputs i (landed input f) (flits ++ f ∷ []) s rings each l
+    (record { at = marked.at ∙ sym some; others = marked.others })
+    (marked-same sets.waiting i (is_waiting input.phase) (s.waiting_is i l))
+    refl refl refl refl refl
+    (s.owned_below i l)
+    (λ off. absurd (false≢true (sym off ∙ occupied (is_idle_phase input.phase) (is_empty (flits ++ f ∷ [])) (not_empty-more flits f))))
+    (is_worm-landed (is_some input.packet) (is_some input.awaited) flits f (s.worms i l) (ap (λ (x : Input). is_empty flits || is_some x.awaited) (sym at) ∙ more))
+    (λ o. refl))
+  where
+    occupied : (a b : Bool) → b ≡ false → not (a && b) ≡ true
+    occupied true b e = ap not e
+    occupied false b e = refl
 
 -- the packet of an idle channel that holds a flit
-pub packet-there : (size occupied idle : ℕ) (bank : Rings) (inputs : List Input) (outputs : List Output) (i : ℕ) (old : Input)
-    → AreSound size occupied idle bank.rings inputs outputs → i < size → old ≡ slice_index_or inputs i idle_input → 0 < length (ring_at bank i)
+pub packet-there : (size : ℕ) (sets : Sets) (bank : Rings) (inputs : List Input) (outputs : List Output) (i : ℕ) (old : Input)
+    → AreSound size sets bank.rings inputs outputs → i < size → old ≡ slice_index_or inputs i idle_input → 0 < length (ring_at bank i)
     → is_some old.packet ≡ true
-packet-there size occupied idle bank inputs outputs i old s l at some =
+packet-there size sets bank inputs outputs i old s l at some =
     rw at (there (ring_at bank i) (s.worms i l) some)
   where
     there : (flits : List Flit) → is_worm_of (slice_index_or inputs i idle_input) flits ≡ true → 0 < length flits → is_some (slice_index_or inputs i idle_input).packet ≡ true
@@ -237,73 +314,64 @@ packet-there size occupied idle bank inputs outputs i old s l at some =
     there (f ∷ flits) w u = is_worm-packet (is_some (slice_index_or inputs i idle_input).packet) (is_some (slice_index_or inputs i idle_input).awaited) f flits w
 
 -- the head of an idle channel is routed
-pub AreSound-routed : (size occupied idle : ℕ) (bank : Rings) (inputs : List Input) (outputs : List Output) (i set : ℕ) (old new : Input)
-    → AreSound size occupied idle bank.rings inputs outputs → length bank.rings ≡ size → length inputs ≡ size → i < size
-    → old ≡ slice_index_or inputs i idle_input → new ≡ routed old set → old.phase ≡ Idle → 0 < length (ring_at bank i)
-    → AreSound size occupied idle bank.rings (slice_set inputs i new) outputs
-AreSound-routed size occupied idle bank inputs outputs i set old new s rings each l at is phase some =
+pub AreSound-routed : (size : ℕ) (sets : Sets) (bank : Rings) (inputs : List Input) (outputs : List Output) (waiting i set : ℕ) (old new : Input)
+    → AreSound size sets bank.rings inputs outputs → length bank.rings ≡ size → length inputs ≡ size → i < size
+    → ((k : ℕ) → has_bit waiting k ≡ (nat_eq k i || has_bit sets.waiting k))
+    → old ≡ slice_index_or inputs i idle_input → new ≡ routed old set → (slice_index_or inputs i idle_input).phase ≡ Idle
+    → AreSound size (record sets { waiting = waiting }) bank.rings (slice_set inputs i new) outputs
+AreSound-routed size sets bank inputs outputs waiting i set old new s rings each l members at is was =
     let input : Input = slice_index_or inputs i idle_input in
-    let was : input.phase ≡ Idle = ap (λ (x : Input). x.phase) (sym at) ∙ phase in
-    let here : has_bit occupied i ≡ true =
-    s.occupied_is i l ∙ ap (λ b. not (is_idle_phase input.phase && b)) (not_empty (ring_at bank i) some) ∙ ap (λ p. not (is_idle_phase p && false)) was in
-    rw (is, at) (subst (λ (rs : List (List Flit)). AreSound size occupied idle rs (slice_set inputs i (routed input set)) outputs) (set-get_or bank.rings i [])
-    (AreSound-changed size occupied idle bank.rings inputs outputs outputs occupied idle i (routed input set) (ring_at bank i) s rings each l
-    (λ k n. refl)
-    here
-    s.idle_below s.idle_is
+    rw (is, at) (subst (λ (rs : List (List Flit)). AreSound size (record sets { waiting = waiting }) rs (slice_set inputs i (routed input set)) outputs) (set-get_or bank.rings i [])
+    (AreSound-input size sets (record sets { waiting = waiting }) bank.rings inputs outputs i (routed input set) (ring_at bank i) s rings each l
+    (marked-same sets.filled i (not (is_empty (ring_at bank i))) (s.filled_is i l))
+    (marked-with sets.waiting waiting i members)
+    refl refl refl (ap is_active (sym was)) (ap (is_supplied outputs) (sym was))
     refl
-    (λ off. absurd (false≢true (sym off ∙ here)))
+    (λ off. absurd (false≢true (sym off)))
     (s.worms i l)
-    (λ o u. ap (λ p. owns p o) (sym was) ∙ s.owners i o l u)
-    (λ k o u n. refl)))
+    (λ o. ap (λ p. owns p o) (sym was))))
 
 is_waiting-nothing : (phase : InputState) → is_waiting phase ≡ true → (o : ℕ) → owns phase o ≡ false
 is_waiting-nothing Idle w o = absurd (false≢true w)
 is_waiting-nothing (Waiting set) w o = refl
 is_waiting-nothing (Active q) w o = absurd (false≢true w)
 
-is_waiting-occupied : (phase : InputState) → is_waiting phase ≡ true → (b : Bool) → not (is_idle_phase phase && b) ≡ true
-is_waiting-occupied Idle w b = absurd (false≢true w)
-is_waiting-occupied (Waiting set) w b = refl
-is_waiting-occupied (Active q) w b = refl
+is_free-nobody : (holder : OutputState) → is_free holder ≡ true → (k : ℕ) → is_owned_from holder k ≡ false
+is_free-nobody Free e k = refl
+is_free-nobody (Owned j p) e k = absurd (false≢true e)
+is_free-nobody Draining e k = refl
 
--- the holder of a free output channel
-pub free-is : (holder : OutputState) → is_free holder ≡ true → holder ≡ Free
-free-is Free e = refl
-free-is (Owned j p) e = absurd (false≢true e)
-free-is Draining e = absurd (false≢true e)
+-- a count of credits that is not 0
+pub has_credit-count : (credit : Option ℕ) → not (option_eq nat_eq credit (Some 0)) ≡ has_credit_at credit
+has_credit-count None = refl
+has_credit-count (Some zero) = refl
+has_credit-count (Some (suc n)) = ap not (ne_eqb (suc n) 0 (λ e. omega arith)) ∙ sym (lt-ltb 0 (suc n) (omega arith))
 
 -- a waiting channel is granted a free output channel
-pub AreSound-granted : (size occupied idle : ℕ) (bank : Rings) (inputs : List Input) (outputs : List Output) (free i o p : ℕ) (old new : Input) (out after : Output)
-    → AreSound size occupied idle bank.rings inputs outputs → length bank.rings ≡ size → length inputs ≡ size → length outputs ≡ size → i < size → o < size
-    → ((k : ℕ) → has_bit free k ≡ (not (nat_eq k o) && has_bit idle k))
-    → old ≡ slice_index_or inputs i idle_input → new ≡ granted old o → is_waiting old.phase ≡ true
-    → out ≡ slice_index_or outputs o ejection_output → after ≡ held out i p → out.holder ≡ Free
-    → AreSound size occupied free bank.rings (slice_set inputs i new) (slice_set outputs o after)
-AreSound-granted size occupied idle bank inputs outputs free i o p old new out after s rings each outs l u members at is waits there holds was =
+pub AreSound-granted : (size : ℕ) (sets next : Sets) (bank : Rings) (inputs : List Input) (outputs : List Output) (i o p : ℕ) (old new : Input) (out after : Output)
+    → AreSound size sets bank.rings inputs outputs → length bank.rings ≡ size → length inputs ≡ size → length outputs ≡ size → i < size → o < size
+    → next.filled ≡ sets.filled → IsMarked sets.waiting next.waiting i false → IsMarked sets.active next.active i true
+    → IsMarked sets.supplied next.supplied i (has_credit after) → IsMarked sets.idle next.idle o false
+    → old ≡ slice_index_or inputs i idle_input → new ≡ granted old o → is_waiting (slice_index_or inputs i idle_input).phase ≡ true
+    → after ≡ held out i p → is_free (slice_index_or outputs o ejection_output).holder ≡ true
+    → AreSound size next bank.rings (slice_set inputs i new) (slice_set outputs o after)
+AreSound-granted size sets next bank inputs outputs i o p old new out after s rings each outs l u same waiting active supplied idle at is waits holds free =
     let input : Input = slice_index_or inputs i idle_input in
-    let output : Output = slice_index_or outputs o ejection_output in
-    let w : is_waiting input.phase ≡ true = ap (λ (x : Input). is_waiting x.phase) (sym at) ∙ waits in
-    let v : output.holder ≡ Free = ap (λ (x : Output). x.holder) (sym there) ∙ was in
-    let here : has_bit occupied i ≡ true = s.occupied_is i l ∙ is_waiting-occupied input.phase w (is_empty (ring_at bank i)) in
     let inside : o < length outputs = omega arith in
-    rw (is, at, holds, there) (subst (λ (rs : List (List Flit)). AreSound size occupied free rs (slice_set inputs i (granted input o)) (slice_set outputs o (held output i p))) (set-get_or bank.rings i [])
-    (AreSound-changed size occupied idle bank.rings inputs outputs (slice_set outputs o (held output i p)) occupied free i (granted input o) (ring_at bank i) s rings each l
-    (λ k n. refl)
-    here
-    (below-changed size idle free o u (without-other idle free o members) s.idle_below)
-    (each-set (λ k (x : Output). k < size → has_bit free k ≡ is_free x.holder) outputs o (held output i p) ejection_output inside
-    (λ _. without-here idle free o members)
-    (λ k n r. without-other idle free o members k n ∙ s.idle_is k r))
+    let holder : after.holder ≡ Owned i p = ap (λ (x : Output). x.holder) holds in
+    rw (is, at) (subst (λ (rs : List (List Flit)). AreSound size next rs (slice_set inputs i (granted input o)) (slice_set outputs o after)) (set-get_or bank.rings i [])
+    (AreSound-turned size sets next bank.rings inputs outputs i o (granted input o) (ring_at bank i) after s rings each outs l u
+    (record { at = ap (λ set. has_bit set i) same ∙ s.filled_is i l; others = λ k n. ap (λ set. has_bit set k) same })
+    waiting active
+    (record { at = supplied.at ∙ ap has_credit (sym (get_or-set_same outputs o after ejection_output inside)); others = supplied.others })
+    (record { at = idle.at ∙ ap is_free (sym holder); others = idle.others })
     (lt-ltb o size u)
-    (λ off. absurd (false≢true (sym off ∙ here)))
+    (λ off. absurd (false≢true (sym off)))
     (s.worms i l)
-    (each-set (λ k (x : Output). k < size → nat_eq o k ≡ is_owned_from x.holder i) outputs o (held output i p) ejection_output inside
-    (λ _. eq-eqb o o refl ∙ sym (eq-eqb i i refl))
-    (λ k n r. ne_eqb o k (λ e. n (sym e)) ∙ sym (is_waiting-nothing input.phase w k) ∙ s.owners i k l r))
-    (λ k q r n. each-set (λ j (x : Output). is_owned_from x.holder k ≡ is_owned_from (slice_index_or outputs j ejection_output).holder k) outputs o (held output i p) ejection_output inside
-    (ne_eqb i k (λ e. n (sym e)) ∙ ap (λ h. is_owned_from h k) (sym v))
-    (λ j m. refl) q)))
+    (eq-eqb o o refl ∙ sym (ap (λ h. is_owned_from h i) holder ∙ eq-eqb i i refl))
+    (λ q n. ne_eqb o q (λ e. n (sym e)) ∙ sym (is_waiting-nothing input.phase waits q))
+    (λ k n. is_free-nobody (slice_index_or outputs o ejection_output).holder free k)
+    (λ k n. ap (λ h. is_owned_from h k) holder ∙ ne_eqb i k (λ e. n (sym e)))))
 
 -- a credit leaves the owner of an output channel
 credited-owner : (output : Output) (k : ℕ) → is_owned_from (credited output).holder k ≡ is_owned_from output.holder k
@@ -322,19 +390,108 @@ credited-owner output k = at output.credit
     at None = refl
     at (Some n) = held_at output.places (n + 1) output.holder
 
--- a credit comes to an output channel, where it fits
-pub AreSound-credited : (size occupied idle : ℕ) (buffers : List (List Flit)) (inputs : List Input) (outputs : List Output) (free o : ℕ) (out after : Output) (taken : Bool)
-    → AreSound size occupied idle buffers inputs outputs → length outputs ≡ size → o < size
-    → has_bit free o ≡ is_free after.holder → ((k : ℕ) → k ≢ o → has_bit free k ≡ has_bit idle k)
-    → out ≡ slice_index_or outputs o ejection_output → after ≡ (if taken then credited out else out)
-    → AreSound size occupied free buffers inputs (slice_set outputs o after)
-AreSound-credited size occupied idle buffers inputs outputs free o out after taken s outs l here same there is =
-    AreSound-output size occupied idle buffers inputs outputs free o after s outs l same here
-    (λ k. ap (λ (x : Output). is_owned_from x.holder k) is ∙ owner taken k ∙ ap (λ (x : Output). is_owned_from x.holder k) there)
+-- an output channel to which a credit came has one
+credited-supplied : (output : Output) → has_credit (credited output) ≡ true
+credited-supplied output = at output.credit refl
   where
-    owner : (b : Bool) (k : ℕ) → is_owned_from (if b then credited out else out).holder k ≡ is_owned_from out.holder k
-    owner true k = credited-owner out k
-    owner false k = refl
+    at : (credit : Option ℕ) → output.credit ≡ credit → has_credit (credited_at output credit) ≡ true
+    at None e = ap has_credit_at e
+    at (Some n) e = lt-ltb 0 (n + 1) (omega arith)
+
+-- an output channel stays as it was
+pub AreSound-same : (size : ℕ) (sets : Sets) (buffers : List (List Flit)) (inputs : List Input) (outputs : List Output) (o : ℕ) (y : Output)
+    → AreSound size sets buffers inputs outputs → y ≡ slice_index_or outputs o ejection_output → AreSound size sets buffers inputs (slice_set outputs o y)
+AreSound-same size sets buffers inputs outputs o y s same = subst (AreSound size sets buffers inputs) (sym (ap (slice_set outputs o) same ∙ set-get_or outputs o ejection_output)) s
+
+-- a credit comes to an output channel that no packet owns
+pub AreSound-returned : (size : ℕ) (sets : Sets) (idle : ℕ) (buffers : List (List Flit)) (inputs : List Input) (outputs : List Output) (o : ℕ) (out after : Output)
+    → AreSound size sets buffers inputs outputs → length outputs ≡ size → o < size
+    → IsMarked sets.idle idle o (is_free after.holder)
+    → out ≡ slice_index_or outputs o ejection_output → after ≡ credited out → is_owned after.holder ≡ false
+    → AreSound size (record sets { idle = idle }) buffers inputs (slice_set outputs o after)
+AreSound-returned size sets idle buffers inputs outputs o out after s outs l marked there is nobody =
+    let output : Output = slice_index_or outputs o ejection_output in
+    let owned : (k : ℕ) → is_owned_from after.holder k ≡ is_owned_from output.holder k = λ k. ap (λ (x : Output). is_owned_from x.holder k) is ∙ credited-owner out k ∙ ap (λ (x : Output). is_owned_from x.holder k) there in
+    AreSound-output size sets idle sets.supplied buffers inputs outputs o after s outs l marked s.supplied_below
+    (λ i u. s.supplied_is i u ∙ sym (is_supplied-other outputs o after (slice_index_or inputs i idle_input).phase (s.owners i o u l ∙ sym (owned i) ∙ none after.holder nobody i)))
+    owned
+  where
+    none : (holder : OutputState) → is_owned holder ≡ false → (k : ℕ) → is_owned_from holder k ≡ false
+    none Free e k = refl
+    none (Owned j p) e k = absurd (false≢true (sym e))
+    none Draining e k = refl
+
+-- .. and that still misses a credit
+pub AreSound-drained : (size : ℕ) (sets : Sets) (buffers : List (List Flit)) (inputs : List Input) (outputs : List Output) (o : ℕ) (out after : Output)
+    → AreSound size sets buffers inputs outputs → length outputs ≡ size → o < size
+    → out ≡ slice_index_or outputs o ejection_output → after ≡ credited out → after.holder ≡ Draining
+    → AreSound size sets buffers inputs (slice_set outputs o after)
+AreSound-drained size sets buffers inputs outputs o out after s outs l there is holds =
+    AreSound-returned size sets sets.idle buffers inputs outputs o out after s outs l
+    (marked-same sets.idle o (is_free after.holder)
+    (s.idle_is o l ∙ ap (λ (x : Output). is_free x.holder) (sym there) ∙ free out (ap (λ (x : Output). is_free x.holder) (sym is) ∙ ap is_free holds) ∙ sym (ap is_free holds)))
+    there is (ap is_owned holds)
+  where
+    free_at : (places count : ℕ) (holder : OutputState) → is_free (holder_at places count holder) ≡ false → is_free holder ≡ false
+    free_at places count Free e = e
+    free_at places count (Owned j p) e = refl
+    free_at places count Draining e = refl
+
+    free : (output : Output) → is_free (credited output).holder ≡ false → is_free output.holder ≡ false
+    free output = at output.credit
+      where
+        at : (credit : Option ℕ) → is_free (credited_at output credit).holder ≡ false → is_free output.holder ≡ false
+        at None e = e
+        at (Some n) e = free_at output.places (n + 1) output.holder e
+
+-- the input channel from which an output channel is owned exists
+pub owner-small : (size : ℕ) (sets : Sets) (buffers : List (List Flit)) (inputs : List Input) (outputs : List Output) (o j p : ℕ) (out after : Output)
+    → AreSound size sets buffers inputs outputs → o < size
+    → out ≡ slice_index_or outputs o ejection_output → after ≡ credited out → after.holder ≡ Owned j p
+    → j < size
+owner-small size sets buffers inputs outputs o j p out after s l there is holds =
+    s.owner_below j o l
+    (ap (λ (x : Output). is_owned_from x.holder j) (sym there) ∙ sym (credited-owner out j) ∙ ap (λ (x : Output). is_owned_from x.holder j) (sym is) ∙ ap (λ h. is_owned_from h j) holds ∙ eq-eqb j j refl)
+
+-- a credit comes to an output channel that the packet of input channel j owns
+pub AreSound-supplied : (size : ℕ) (sets : Sets) (supplied : ℕ) (buffers : List (List Flit)) (inputs : List Input) (outputs : List Output) (o j p : ℕ) (out after : Output)
+    → AreSound size sets buffers inputs outputs → length outputs ≡ size → o < size
+    → ((k : ℕ) → has_bit supplied k ≡ (nat_eq k j || has_bit sets.supplied k))
+    → out ≡ slice_index_or outputs o ejection_output → after ≡ credited out → after.holder ≡ Owned j p
+    → AreSound size (record sets { supplied = supplied }) buffers inputs (slice_set outputs o after)
+AreSound-supplied size sets supplied buffers inputs outputs o j p out after s outs l members there is holds =
+    let output : Output = slice_index_or outputs o ejection_output in
+    let inside : o < length outputs = omega arith in
+    let marked : IsMarked sets.supplied supplied j true = marked-with sets.supplied supplied j members in
+    let owned : (k : ℕ) → is_owned_from after.holder k ≡ is_owned_from output.holder k = λ k. ap (λ (x : Output). is_owned_from x.holder k) is ∙ credited-owner out k ∙ ap (λ (x : Output). is_owned_from x.holder k) there in
+    let from : (k : ℕ) → is_owned_from output.holder k ≡ nat_eq j k = λ k. sym (owned k) ∙ ap (λ h. is_owned_from h k) holds in
+    let free : is_free output.holder ≡ false = not_free output.holder (from j ∙ eq-eqb j j refl) in
+    AreSound-output size sets sets.idle supplied buffers inputs outputs o after s outs l
+    (marked-same sets.idle o (is_free after.holder) (s.idle_is o l ∙ free ∙ sym (ap is_free holds)))
+    (below-marked size sets.supplied supplied j true (owner-small size sets buffers inputs outputs o j p out after s l there is holds) marked s.supplied_below)
+    (λ i u. at i u marked inside from (cases_eq i j))
+    owned
+  where
+    not_free : (holder : OutputState) → is_owned_from holder j ≡ true → is_free holder ≡ false
+    not_free Free e = absurd (false≢true e)
+    not_free (Owned k q) e = refl
+    not_free Draining e = absurd (false≢true e)
+
+    supplied_by : (phase : InputState) → o < length outputs → owns phase o ≡ true → is_supplied (slice_set outputs o after) phase ≡ true
+    supplied_by Idle inside e = absurd (false≢true e)
+    supplied_by (Waiting set) inside e = absurd (false≢true e)
+    supplied_by (Active q) inside e =
+        ap (λ k. has_credit (slice_index_or (slice_set outputs o after) k ejection_output)) (eqb-true q o e)
+        ∙ ap has_credit (get_or-set_same outputs o after ejection_output inside ∙ is) ∙ credited-supplied out
+
+    at : (i : ℕ) → i < size → IsMarked sets.supplied supplied j true → o < length outputs
+        → ((k : ℕ) → is_owned_from (slice_index_or outputs o ejection_output).holder k ≡ nat_eq j k) → (i ≡ j) ⊎ (i ≢ j)
+        → has_bit supplied i ≡ is_supplied (slice_set outputs o after) (slice_index_or inputs i idle_input).phase
+    at i u marked inside from (inl e) =
+        ap (has_bit supplied) e ∙ marked.at ∙ sym (supplied_by (slice_index_or inputs i idle_input).phase inside (s.owners i o u l ∙ from i ∙ eq-eqb j i (sym e)))
+    at i u marked inside from (inr n) =
+        marked.others i n ∙ s.supplied_is i u
+        ∙ sym (is_supplied-other outputs o after (slice_index_or inputs i idle_input).phase (s.owners i o u l ∙ from i ∙ ne_eqb j i (λ e. n (sym e))))
 
 -- the holder of an output channel that is owned from one input channel
 owned-is : (holder : OutputState) (i : ℕ) → is_owned_from holder i ≡ true → (p : ℕ) × (holder ≡ Owned i p)
@@ -357,59 +514,74 @@ spent-gone output k = at output.credit
     at (Some n) = refl
 
 -- the output channel that an active input channel owns
-pub owner-there : (size occupied idle : ℕ) (bank : Rings) (inputs : List Input) (outputs : List Output) (i o : ℕ)
-    → AreSound size occupied idle bank.rings inputs outputs → i < size → o < size → (slice_index_or inputs i idle_input).phase ≡ Active o
+pub owner-there : (size : ℕ) (sets : Sets) (bank : Rings) (inputs : List Input) (outputs : List Output) (i o : ℕ)
+    → AreSound size sets bank.rings inputs outputs → i < size → o < size → (slice_index_or inputs i idle_input).phase ≡ Active o
     → is_owned_from (slice_index_or outputs o ejection_output).holder i ≡ true
-owner-there size occupied idle bank inputs outputs i o s l u phase = sym (s.owners i o l u) ∙ ap (λ p. owns p o) phase ∙ eq-eqb o o refl
+owner-there size sets bank inputs outputs i o s l u phase = sym (s.owners i o l u) ∙ ap (λ p. owns p o) phase ∙ eq-eqb o o refl
 
+-- a count of flits that is not 0
+pub filled-count : {X : Type 0} (xs : List X) → nat_lt 0 (length xs) ≡ not (is_empty xs)
+filled-count [] = refl
+filled-count (x ∷ xs) = lt-ltb 0 (length (x ∷ xs)) (omega arith)
+
+-- an output channel that is owned from some input channel is owned
 pub is_owned-from : (holder : OutputState) (i : ℕ) → is_owned_from holder i ≡ true → is_owned holder ≡ true
 is_owned-from Free i e = e
 is_owned-from (Owned j p) i e = refl
 is_owned-from Draining i e = e
 
 -- the first flit of an active channel leaves
-pub AreSound-sent : (size occupied idle : ℕ) (before after : Rings) (inputs : List Input) (outputs : List Output) (rest free i o : ℕ) (old new : Input) (out left : Output) (f : Flit)
-    → AreSound size occupied idle before.rings inputs outputs → length before.rings ≡ size → length inputs ≡ size → length outputs ≡ size → i < size → o < size
-    → has_bit rest i ≡ not f.last → ((k : ℕ) → k ≢ i → has_bit rest k ≡ has_bit occupied k)
-    → has_bit free o ≡ is_free left.holder → ((k : ℕ) → k ≢ o → has_bit free k ≡ has_bit idle k)
+pub AreSound-sent : (size : ℕ) (sets next : Sets) (before after : Rings) (inputs : List Input) (outputs : List Output) (i o : ℕ) (old new : Input) (out left : Output) (f : Flit)
+    → AreSound size sets before.rings inputs outputs → length before.rings ≡ size → length inputs ≡ size → length outputs ≡ size → i < size → o < size
+    → IsMarked sets.filled next.filled i (not (is_empty (ring_at after i))) → next.waiting ≡ sets.waiting → IsMarked sets.active next.active i (not f.last)
+    → IsMarked sets.supplied next.supplied i (not f.last && has_credit left) → IsMarked sets.idle next.idle o (is_free left.holder)
     → ring_at before i ≡ f ∷ ring_at after i → after ≡ popped before i
     → old ≡ slice_index_or inputs i idle_input → new ≡ sent old f → (slice_index_or inputs i idle_input).phase ≡ Active o
     → out ≡ slice_index_or outputs o ejection_output → left ≡ spent f.last out
-    → AreSound size rest free after.rings (slice_set inputs i new) (slice_set outputs o left)
-AreSound-sent size occupied idle before after inputs outputs rest free i o old new out left f s rings each outs l u here same free_here free_same first pops at is phase there spends =
+    → AreSound size next after.rings (slice_set inputs i new) (slice_set outputs o left)
+AreSound-sent size sets next before after inputs outputs i o old new out left f s rings each outs l u filled same active supplied idle first pops at is phase there spends =
     let input : Input = slice_index_or inputs i idle_input in
     let output : Output = slice_index_or outputs o ejection_output in
     let flits : List Flit = ring_at after i in
     let inside : o < length outputs = omega arith in
     let leaves : left ≡ spent f.last output = spends ∙ ap (spent f.last) there in
     let worm : is_worm_of input (f ∷ flits) ≡ true = sym (ap (is_worm_of input) first) ∙ s.worms i l in
+    let own : (p : ℕ) × (output.holder ≡ Owned i p) = owned-is output.holder i (owner-there size sets before inputs outputs i o s l u phase) in
+    let alone : (k : ℕ) → k ≢ i → is_owned_from output.holder k ≡ false = λ k n. ap (λ h. is_owned_from h k) own.1 ∙ ne_eqb i k (λ e. n (sym e)) in
     rw (pops, is, at, ap (drop 1) first)
-    (AreSound-changed size occupied idle before.rings inputs outputs (slice_set outputs o left) rest free i (sent input f) flits s rings each l
-    same
-    (here ∙ held_then f.last refl input flits phase worm)
-    (below-changed size idle free o u free_same s.idle_below)
-    (each-set (λ k (x : Output). k < size → has_bit free k ≡ is_free x.holder) outputs o left ejection_output inside (λ _. free_here) (λ k n r. free_same k n ∙ s.idle_is k r))
+    (AreSound-turned size sets next before.rings inputs outputs i o (sent input f) flits left s rings each outs l u
+    filled
+    (record { at = ap (λ set. has_bit set i) same ∙ s.waiting_is i l ∙ waits_then f.last; others = λ k n. ap (λ set. has_bit set k) same })
+    (record { at = active.at ∙ acts_then f.last; others = active.others })
+    (record { at = supplied.at ∙ supplied_then f.last inside; others = supplied.others })
+    idle
     (within_then f.last (s.owned_below i l))
-    (λ off. gone_then f.last (sym here ∙ off))
+    (gone_then f.last)
     (worm_then f.last refl worm)
-    (each-set (λ k (x : Output). k < size → owns (sent input f).phase k ≡ is_owned_from x.holder i) outputs o left ejection_output inside
-    (λ _. owner_then f.last (s.owners i o l u) ∙ ap (λ (x : Output). is_owned_from x.holder i) (sym leaves))
-    (λ k n r. other_then f.last k (ne_eqb o k (λ e. n (sym e))) ∙ s.owners i k l r))
-    (λ k q r n. each-set (λ j (x : Output). is_owned_from x.holder k ≡ is_owned_from (slice_index_or outputs j ejection_output).holder k) outputs o left ejection_output inside
-    (ap (λ (x : Output). is_owned_from x.holder k) leaves ∙ left_then f.last k (ne_eqb i k (λ e. n (sym e))))
-    (λ j m. refl) q))
+    (owner_then f.last (s.owners i o l u) ∙ ap (λ (x : Output). is_owned_from x.holder i) (sym leaves))
+    (λ q n. other_then f.last q (ne_eqb o q (λ e. n (sym e))))
+    alone
+    (λ k n. ap (λ (x : Output). is_owned_from x.holder k) leaves ∙ left_then f.last k (alone k n)))
   where
-    held_then : (last : Bool) → f.last ≡ last → (input : Input) (flits : List Flit) → input.phase ≡ Active o → is_worm_of input (f ∷ flits) ≡ true → not last ≡ is_occupied (if last then idle_input else input) flits
-    held_then true e input flits p w = ap (λ (x : List Flit). not (is_empty x)) (sym (is_worm-tail (is_some input.packet) (is_some input.awaited) f flits w e).0)
-    held_then false e input flits p w = ap (λ x. not (is_idle_phase x && is_empty flits)) (sym p)
+    waits_then : (last : Bool) → is_waiting (slice_index_or inputs i idle_input).phase ≡ is_waiting (if last then idle_input else slice_index_or inputs i idle_input).phase
+    waits_then true = ap is_waiting phase
+    waits_then false = refl
+
+    acts_then : (last : Bool) → not last ≡ is_active (if last then idle_input else slice_index_or inputs i idle_input).phase
+    acts_then true = refl
+    acts_then false = sym (ap is_active phase)
+
+    supplied_then : (last : Bool) → o < length outputs → (not last && has_credit left) ≡ is_supplied (slice_set outputs o left) (if last then idle_input else slice_index_or inputs i idle_input).phase
+    supplied_then true inside = refl
+    supplied_then false inside = sym (ap (is_supplied (slice_set outputs o left)) phase ∙ ap has_credit (get_or-set_same outputs o left ejection_output inside))
 
     within_then : (last : Bool) → is_within size (slice_index_or inputs i idle_input).phase ≡ true → is_within size (if last then idle_input else slice_index_or inputs i idle_input).phase ≡ true
     within_then true w = refl
     within_then false w = w
 
-    gone_then : (last : Bool) → not last ≡ false → (if last then idle_input else slice_index_or inputs i idle_input).packet ≡ None
-    gone_then true e = refl
-    gone_then false e = absurd (false≢true (sym e))
+    gone_then : (last : Bool) → is_occupied (if last then idle_input else slice_index_or inputs i idle_input) (ring_at after i) ≡ false → (if last then idle_input else slice_index_or inputs i idle_input).packet ≡ None
+    gone_then true off = refl
+    gone_then false off = absurd (false≢true (sym off ∙ ap (λ p. not (is_idle_phase p && is_empty (ring_at after i))) phase))
 
     worm_then : (last : Bool) → f.last ≡ last → is_worm_of (slice_index_or inputs i idle_input) (f ∷ ring_at after i) ≡ true → is_worm_of (if last then idle_input else slice_index_or inputs i idle_input) (ring_at after i) ≡ true
     worm_then true e w = ap (is_worm false false) (is_worm-tail (is_some (slice_index_or inputs i idle_input).packet) (is_some (slice_index_or inputs i idle_input).awaited) f (ring_at after i) w e).0
@@ -424,16 +596,129 @@ AreSound-sent size occupied idle before after inputs outputs rest free i o old n
     other_then true k e = sym (ap (λ p. owns p k) phase ∙ e)
     other_then false k e = refl
 
-    left_then : (last : Bool) (k : ℕ) → nat_eq i k ≡ false → is_owned_from (spent last (slice_index_or outputs o ejection_output)).holder k ≡ is_owned_from (slice_index_or outputs o ejection_output).holder k
-    left_then true k e =
-        let own : (p : ℕ) × ((slice_index_or outputs o ejection_output).holder ≡ Owned i p) = owned-is (slice_index_or outputs o ejection_output).holder i (owner-there size occupied idle before inputs outputs i o s l u phase) in
-        spent-gone (slice_index_or outputs o ejection_output) k ∙ sym (ap (λ h. is_owned_from h k) own.1 ∙ e)
-    left_then false k e = ap (λ h. is_owned_from h k) (spent-kept (slice_index_or outputs o ejection_output))
+    left_then : (last : Bool) (k : ℕ) → is_owned_from (slice_index_or outputs o ejection_output).holder k ≡ false → is_owned_from (spent last (slice_index_or outputs o ejection_output)).holder k ≡ false
+    left_then true k e = spent-gone (slice_index_or outputs o ejection_output) k
+    left_then false k e = ap (λ h. is_owned_from h k) (spent-kept (slice_index_or outputs o ejection_output)) ∙ e
 
+-- .. and each channel that awaits a flit still does, since nothing is awaited behind a tail
+pub KeepsAwaiting-sent : (size : ℕ) (sets : Sets) (before after : Rings) (inputs : List Input) (outputs : List Output) (i : ℕ) (old new : Input) (f : Flit)
+    → AreSound size sets before.rings inputs outputs → length inputs ≡ size → i < size
+    → ring_at before i ≡ f ∷ ring_at after i → old ≡ slice_index_or inputs i idle_input → new ≡ sent old f
+    → KeepsAwaiting inputs (slice_set inputs i new)
+KeepsAwaiting-sent size sets before after inputs outputs i old new f s each l first at is =
+    each-set (λ k (x : Input). is_awaiting inputs k ≡ true → is_some x.awaited ≡ true) inputs i new idle_input (omega arith)
+    (λ awaits. ap (λ (x : Input). is_some x.awaited) (is ∙ ap (λ (x : Input). sent x f) at)
+    ∙ awaited_then f.last refl (sym (ap (is_worm_of (slice_index_or inputs i idle_input)) first) ∙ s.worms i l) awaits)
+    (λ k n awaits. awaits)
+  where
+    awaited_then : (last : Bool) → f.last ≡ last → is_worm_of (slice_index_or inputs i idle_input) (f ∷ ring_at after i) ≡ true → is_awaiting inputs i ≡ true
+        → is_some (if last then idle_input else slice_index_or inputs i idle_input).awaited ≡ true
+    awaited_then true e w awaits = absurd (false≢true (sym (is_worm-tail (is_some (slice_index_or inputs i idle_input).packet) (is_some (slice_index_or inputs i idle_input).awaited) f (ring_at after i) w e).1 ∙ awaits))
+    awaited_then false e w awaits = awaits
+
+-- of two tests one holds
 pub next-either : (a b : Bool) → (a ≡ true) ⊎ (b ≡ true) → (a || b) ≡ true
 next-either true b e = refl
 next-either false b (inl e) = absurd (false≢true e)
 next-either false b (inr e) = e
+
+-- ---- what the sets say of the input channels
+
+-- the input channels that hold a packet or a flit
+pub occupied-is : (size : ℕ) (sets : Sets) (buffers : List (List Flit)) (inputs : List Input) (outputs : List Output) (first all : ℕ)
+    → AreSound size sets buffers inputs outputs
+    → ((k : ℕ) → has_bit first k ≡ (has_bit sets.filled k || has_bit sets.waiting k)) → ((k : ℕ) → has_bit all k ≡ (has_bit first k || has_bit sets.active k))
+    → (i : ℕ) → i < size → has_bit all i ≡ is_occupied (slice_index_or inputs i idle_input) (slice_index_or buffers i [])
+occupied-is size sets buffers inputs outputs first all s firsts alls i l =
+    alls i ∙ ap (λ b. b || has_bit sets.active i) (firsts i)
+    ∙ ap (λ b. (b || has_bit sets.waiting i) || has_bit sets.active i) (s.filled_is i l)
+    ∙ ap (λ b. (not (is_empty (slice_index_or buffers i [])) || b) || has_bit sets.active i) (s.waiting_is i l)
+    ∙ ap (λ b. (not (is_empty (slice_index_or buffers i [])) || is_waiting (slice_index_or inputs i idle_input).phase) || b) (s.active_is i l)
+    ∙ at (slice_index_or inputs i idle_input).phase (is_empty (slice_index_or buffers i []))
+  where
+    at : (phase : InputState) (none : Bool) → ((not none || is_waiting phase) || is_active phase) ≡ not (is_idle_phase phase && none)
+    at Idle true = refl
+    at Idle false = refl
+    at (Waiting set) true = refl
+    at (Waiting set) false = refl
+    at (Active o) true = refl
+    at (Active o) false = refl
+
+-- .. are below the size
+pub occupied-below : (size : ℕ) (sets : Sets) (buffers : List (List Flit)) (inputs : List Input) (outputs : List Output) (first all : ℕ)
+    → AreSound size sets buffers inputs outputs
+    → ((k : ℕ) → has_bit first k ≡ (has_bit sets.filled k || has_bit sets.waiting k)) → ((k : ℕ) → has_bit all k ≡ (has_bit first k || has_bit sets.active k))
+    → AreBelow size all
+occupied-below size sets buffers inputs outputs first all s firsts alls = λ k is.
+    one_of (k < size) (has_bit first k) (has_bit sets.active k)
+    (λ e. one_of (k < size) (has_bit sets.filled k) (has_bit sets.waiting k) (s.filled_below k) (s.waiting_below k) (sym (firsts k) ∙ e))
+    (s.active_below k) (sym (alls k) ∙ is)
+  where
+    one_of : (P : Type 0) (a b : Bool) → (a ≡ true → P) → (b ≡ true → P) → (a || b) ≡ true → P
+    one_of P true b f g e = f refl
+    one_of P false b f g e = g e
+
+-- what the input channels can go on with
+pub AreStanding-by : (size : ℕ) (sets : Sets) (buffers : List (List Flit)) (inputs : List Input) (outputs : List Output) (sendable rest : ℕ) (t : Standing)
+    → AreSound size sets buffers inputs outputs
+    → ((k : ℕ) → has_bit sendable k ≡ (has_bit sets.active k && has_bit sets.filled k)) → ((k : ℕ) → has_bit rest k ≡ (not (has_bit sets.waiting k) && has_bit sets.filled k))
+    → ((k : ℕ) → has_bit t.heads k ≡ (not (has_bit sets.active k) && has_bit rest k)) → t.waiting ≡ sets.waiting
+    → ((k : ℕ) → has_bit t.starved k ≡ (not (has_bit sets.filled k) && has_bit sets.active k))
+    → ((k : ℕ) → has_bit t.unsupplied k ≡ (not (has_bit sets.supplied k) && has_bit sendable k)) → ((k : ℕ) → has_bit t.ready k ≡ (has_bit sendable k && has_bit sets.supplied k))
+    → AreStanding size buffers inputs outputs t
+AreStanding-by size sets buffers inputs outputs sendable rest t s sends rests heads waits starved unsupplied ready = record {
+  heads_below = λ k is. s.filled_below k (second_of (not (has_bit sets.waiting k)) (has_bit sets.filled k) (sym (rests k) ∙ second_of (not (has_bit sets.active k)) (has_bit rest k) (sym (heads k) ∙ is)));
+  waiting_below = λ k is. s.waiting_below k (ap (λ set. has_bit set k) (sym waits) ∙ is);
+  starved_below = λ k is. s.active_below k (second_of (not (has_bit sets.filled k)) (has_bit sets.active k) (sym (starved k) ∙ is));
+  unsupplied_below = λ k is. s.filled_below k (second_of (has_bit sets.active k) (has_bit sets.filled k) (sym (sends k) ∙ second_of (not (has_bit sets.supplied k)) (has_bit sendable k) (sym (unsupplied k) ∙ is)));
+  ready_below = λ k is. s.supplied_below k (second_of (has_bit sendable k) (has_bit sets.supplied k) (sym (ready k) ∙ is));
+  heads = λ i l. heads_at i (slice_index_or inputs i idle_input).phase (is_empty (slice_index_or buffers i [])) (s.filled_is i l) (s.waiting_is i l) (s.active_is i l);
+  waiting = λ i l. ap (λ set. has_bit set i) waits ∙ s.waiting_is i l;
+  starved = λ i l. starved_at i (is_active (slice_index_or inputs i idle_input).phase) (is_empty (slice_index_or buffers i [])) (s.filled_is i l) (s.active_is i l);
+  unsupplied = λ i l. unsupplied_at i (is_active (slice_index_or inputs i idle_input).phase) (not (is_empty (slice_index_or buffers i []))) (is_supplied outputs (slice_index_or inputs i idle_input).phase)
+      (s.active_is i l) (s.filled_is i l) (s.supplied_is i l);
+  ready = λ i l. ready_at i (is_active (slice_index_or inputs i idle_input).phase) (not (is_empty (slice_index_or buffers i []))) (is_supplied outputs (slice_index_or inputs i idle_input).phase)
+      (s.active_is i l) (s.filled_is i l) (s.supplied_is i l);
+}
+  where
+    heads_at : (i : ℕ) (phase : InputState) (none : Bool) → has_bit sets.filled i ≡ not none → has_bit sets.waiting i ≡ is_waiting phase → has_bit sets.active i ≡ is_active phase
+        → has_bit t.heads i ≡ (is_idle_phase phase && not none)
+    heads_at i Idle none f w a = heads i ∙ ap (λ b. not b && has_bit rest i) a ∙ rests i ∙ ap (λ b. not b && has_bit sets.filled i) w ∙ f
+    heads_at i (Waiting set) none f w a = heads i ∙ ap (λ b. not b && has_bit rest i) a ∙ rests i ∙ ap (λ b. not b && has_bit sets.filled i) w
+    heads_at i (Active o) none f w a = heads i ∙ ap (λ b. not b && has_bit rest i) a
+
+    starved_at : (i : ℕ) (acts none : Bool) → has_bit sets.filled i ≡ not none → has_bit sets.active i ≡ acts → has_bit t.starved i ≡ (acts && none)
+    starved_at i acts none f a = starved i ∙ ap (λ b. not b && has_bit sets.active i) f ∙ ap (λ b. not (not none) && b) a ∙ turned acts none
+      where
+        turned : (a b : Bool) → (not (not b) && a) ≡ (a && b)
+        turned true true = refl
+        turned true false = refl
+        turned false true = refl
+        turned false false = refl
+
+    unsupplied_at : (i : ℕ) (acts some has : Bool) → has_bit sets.active i ≡ acts → has_bit sets.filled i ≡ some → has_bit sets.supplied i ≡ has
+        → has_bit t.unsupplied i ≡ (acts && (some && not has))
+    unsupplied_at i acts some has a f h =
+        unsupplied i ∙ ap (λ b. not b && has_bit sendable i) h ∙ ap (λ b. not has && b) (sends i)
+        ∙ ap (λ b. not has && (b && has_bit sets.filled i)) a ∙ ap (λ b. not has && (acts && b)) f ∙ turned acts some has
+      where
+        turned : (a b c : Bool) → (not c && (a && b)) ≡ (a && (b && not c))
+        turned true true true = refl
+        turned true true false = refl
+        turned true false true = refl
+        turned true false false = refl
+        turned false b true = refl
+        turned false b false = refl
+
+    ready_at : (i : ℕ) (acts some has : Bool) → has_bit sets.active i ≡ acts → has_bit sets.filled i ≡ some → has_bit sets.supplied i ≡ has
+        → has_bit t.ready i ≡ (acts && (some && has))
+    ready_at i acts some has a f h =
+        ready i ∙ ap (λ b. has_bit sendable i && b) h ∙ ap (λ b. b && has) (sends i)
+        ∙ ap (λ b. (b && has_bit sets.filled i) && has) a ∙ ap (λ b. (acts && b) && has) f ∙ turned acts some
+      where
+        turned : (a b : Bool) → ((a && b) && has) ≡ (a && (b && has))
+        turned true b = refl
+        turned false b = refl
 
 -- ---- the first number of a set
 
@@ -457,6 +742,7 @@ pub find-below : (p : ℕ → Bool) (n x : ℕ) → x < n → p x ≡ true → (
 unfolding below
 find-below p n x l e h = find-some p n 0 x (omega arith) (omega arith) e h
 
+-- .. where none passes it
 pub find-below-none : (p : ℕ → Bool) (n : ℕ) → ((k : ℕ) → k < n → p k ≡ false) → find p (below n) ≡ None
 unfolding below
 find-below-none p n h = find-none p n 0 (λ k l u. h k (omega arith))
@@ -475,12 +761,13 @@ find-least n set other p (Some x) least all same =
 -- ---- new channels
 
 -- channels of which each is idle and empty
-pub AreSound-opening : (size links places occupied idle : ℕ) (bank : Rings) (inputs : List Input) (outputs : List Output)
-    → links ≤ size → ((k : ℕ) → has_bit occupied k ≡ false) → ((k : ℕ) → has_bit idle k ≡ nat_lt k size)
+pub AreSound-opening : (size links places : ℕ) (sets : Sets) (bank : Rings) (inputs : List Input) (outputs : List Output)
+    → links ≤ size → ((k : ℕ) → has_bit sets.filled k ≡ false) → ((k : ℕ) → has_bit sets.waiting k ≡ false) → ((k : ℕ) → has_bit sets.active k ≡ false)
+    → ((k : ℕ) → has_bit sets.supplied k ≡ false) → ((k : ℕ) → has_bit sets.idle k ≡ nat_lt k size)
     → bank ≡ empty_rings size places → inputs ≡ replicate size idle_input
     → outputs ≡ replicate links (link_output places) ++ replicate (size - links) ejection_output
-    → AreSound size occupied idle bank.rings inputs outputs
-AreSound-opening size links places occupied idle bank inputs outputs few none each rings ins outs =
+    → AreSound size sets bank.rings inputs outputs
+AreSound-opening size links places sets bank inputs outputs few filled waiting active supplied each rings ins outs =
     let empty : (i : ℕ) → i < size → ring_at bank i ≡ [] = λ i l. ap (λ (b : Rings). ring_at b i) rings ∙ get_or-replicate size i [] [] l in
     let input : (i : ℕ) → i < size → slice_index_or inputs i idle_input ≡ idle_input = λ i l. ap (λ (xs : List Input). slice_index_or xs i idle_input) ins ∙ get_or-replicate size i idle_input idle_input l in
     let whole : length outputs ≡ size = ap length outs ∙ length-append (replicate links (link_output places)) (replicate (size - links) ejection_output)
@@ -491,11 +778,18 @@ AreSound-opening size links places occupied idle bank inputs outputs few none ea
     (All-replicate (λ (x : Output). x.holder ≡ Free) (size - links) ejection_output refl)) in
     let holder : (o : ℕ) → o < size → (slice_index_or outputs o ejection_output).holder ≡ Free = λ o l. all o ejection_output (omega arith) in
     record {
-      occupied_below = λ k is. absurd (false≢true (sym (none k) ∙ is));
+      filled_below = λ k is. absurd (false≢true (sym (filled k) ∙ is));
+      waiting_below = λ k is. absurd (false≢true (sym (waiting k) ∙ is));
+      active_below = λ k is. absurd (false≢true (sym (active k) ∙ is));
+      supplied_below = λ k is. absurd (false≢true (sym (supplied k) ∙ is));
       idle_below = λ k is. ltb-true k size (sym (each k) ∙ is);
-      occupied_is = λ i l. none i ∙ sym (ap (λ (x : Input). is_occupied x (ring_at bank i)) (input i l) ∙ ap (is_occupied idle_input) (empty i l));
+      filled_is = λ i l. filled i ∙ sym (ap (λ (fs : List Flit). not (is_empty fs)) (empty i l));
+      waiting_is = λ i l. waiting i ∙ sym (ap (λ (x : Input). is_waiting x.phase) (input i l));
+      active_is = λ i l. active i ∙ sym (ap (λ (x : Input). is_active x.phase) (input i l));
+      supplied_is = λ i l. supplied i ∙ sym (ap (λ (x : Input). is_supplied outputs x.phase) (input i l));
       idle_is = λ o l. each o ∙ lt-ltb o size l ∙ sym (ap is_free (holder o l));
       owned_below = λ i l. ap (λ (x : Input). is_within size x.phase) (input i l);
+      owner_below = λ i o l from. absurd (false≢true (sym (ap (λ h. is_owned_from h i) (holder o l)) ∙ from));
       vacant = λ i l off. ap (λ (x : Input). x.packet) (input i l);
       owners = λ i o l u. ap (λ (x : Input). owns x.phase o) (input i l) ∙ sym (ap (λ h. is_owned_from h i) (holder o u));
       worms = λ i l. ap (λ (x : Input). is_worm_of x (ring_at bank i)) (input i l) ∙ ap (is_worm_of idle_input) (empty i l);

@@ -12,6 +12,7 @@ use Rattle.noc_vc.specs.Output.{link_output, ejection_output}
 use Rattle.noc_router.specs.declared.arbiters.Arbiters.{Arbiters}
 use Rattle.noc_router.specs.declared.arrivals.Arrivals.{Arrivals}
 use Rattle.noc_router.specs.declared.channels.Channels.{Channels}
+use Rattle.noc_router.specs.declared.indices.Indices.{Indices}
 use Rattle.noc_router.specs.declared.links.Links.{Links}
 use Rattle.noc_router.specs.declared.source.Source.{Source}
 use Rattle.noc_router.specs.declared.tally.Tally.{Tally}
@@ -24,7 +25,7 @@ last_port : (d vcs : ℕ) → (2 * d + 1) * vcs - 2 * d * vcs ≡ vcs
 last_port d vcs = let e : (2 * d + 1) * vcs ≡ 2 * d * vcs + 1 * vcs = add-mul (2 * d) 1 vcs in omega arith
 
 -- the view of a router none of whose parts has done anything
-pub opening-is : (node p vcs places : ℕ) (shape : Grid) (source : Source) (channels : Channels) (links : Links) (tally : Tally) (arbiters : Arbiters) (arrivals : Arrivals) (starts : List (ℕ × Packet)) (ends : List ℕ)
+pub opening-is : (node p vcs places : ℕ) (shape : Grid) (source : Source) (channels : Channels) (links : Links) (tally : Tally) (arbiters : Arbiters) (arrivals : Arrivals) (indices : Indices) (starts : List (ℕ × Packet)) (ends : List ℕ)
     → IsGrid shape → p ≡ ports shape → queue_of source ≡ starts → source.vc ≡ None
     → channels.bank ≡ empty_rings (p * vcs) places → channels.inputs.items ≡ replicate (p * vcs) idle_input
     → channels.outputs.items ≡ replicate ((p - 1) * vcs) (link_output places) ++ replicate (p * vcs - (p - 1) * vcs) ejection_output
@@ -47,9 +48,10 @@ pub opening-is : (node p vcs places : ℕ) (shape : Grid) (source : Source) (cha
       tally = tally;
       arbiters = arbiters;
       arrivals = arrivals;
+      indices = indices;
       shape = shape;
     }) ≡ opening_view (record { grid = shape; node = node; vcs = vcs; places = places }) starts ends
-opening-is node p vcs places shape source channels links tally arbiters arrivals starts ends grid ps queue vc bank inputs outputs beats counts begun turns_of_channels turns_of_inputs turns_of_outputs ended =
+opening-is node p vcs places shape source channels links tally arbiters arrivals indices starts ends grid ps queue vc bank inputs outputs beats counts begun turns_of_channels turns_of_inputs turns_of_outputs ended =
     let d : ℕ = length shape.radix in
     let before : p - 1 ≡ 2 * d = omega arith in
     let bank_is : channels.bank ≡ empty_rings (ports shape * vcs) places = bank ∙ ap (λ n. empty_rings (n * vcs) places) ps in

@@ -146,7 +146,7 @@ pub lists_of : (d : Decisions) (v : View) → IsPlanOf d v → Lists d v
 lists_of d v plan = let P : Decisions → Type 0 = λ x. Lists x v in subst P (sym plan.is) (lists_of_round plan.relation v)
 
 -- a channel below the size asks for and is ready for what its claim says
-asks-at : (v : View) (i : ℕ) → i < size_of v.site → get_or (asks_of (view_stands v)) i None ≡ ask_of (view_claim v i)
+pub asks-at : (v : View) (i : ℕ) → i < size_of v.site → get_or (asks_of (view_stands v)) i None ≡ ask_of (view_claim v i)
 asks-at v i l =
     get_or-map (λ (stand : Stand). ask_of stand.claim) (view_stands v) i (view_stand v i) None (omega (arith, length-tabulate (size_of v.site) (view_stand v)))
     ∙ ap (λ (stand : Stand). ask_of stand.claim) (get_or-tabulate (size_of v.site) i (view_stand v) (view_stand v i) l)

@@ -1,20 +1,20 @@
 -- What a router plans, put together.
-use Rattle.std.proofs.Common.{◌≡◌, ℕ, ◌<◌, List, Option, ap, arith, sym, subst, ◌∙◌}
+use Rattle.std.proofs.Common.{◌≡◌, ℕ, ◌*◌, ◌<◌, true, List, length, get_or, replicate, Option, None, ap, arith, sym, ◌∙◌}
 use Rattle.noc_topo.specs.Words.{tabulate}
 use Rattle.noc_topo.specs.Shape.{ports}
-use Rattle.noc_topo.proofs.WordLemmas.{get_or-tabulate, length-tabulate}
+use Rattle.noc_topo.proofs.WordLemmas.{length-tabulate, tabulate-from_each}
+use Rattle.std.proofs.lemmas.Bool.{false≢true}
+use Rattle.std.proofs.lemmas.List.{ext_get_or, get_or-replicate, length-replicate}
 use Rattle.noc_route.specs.Routes.{Routes}
-use Rattle.noc_alloc.specs.Allocation.{pick_of}
-use Rattle.std.specs.Option.{ForSome}
-use Rattle.noc_alloc.proofs.ArbiterLemmas.{first_in_turn-picks}
 use Rattle.noc_router.specs.declared.router.Router.TheInside.{Inside}
-use Rattle.noc_router.specs.declared.verdict.Finding.{Finding}
-use Rattle.noc_router.specs.Asked.{round_on, turns_in}
-use Rattle.noc_router.specs.Decided.{IsDecidedFor}
+use Rattle.noc_router.specs.declared.verdict.Verdict.{Verdict}
+use Rattle.noc_router.specs.declared.verdict.Verdict.TheVariants.{Empty}
+use Rattle.noc_router.specs.Asked.{grants_on, no_round, picks_on, round_on, turns_in, wins_on}
+use Rattle.noc_router.specs.Decided.{IsDecidedFor, no_outcome}
 use Rattle.noc_router.specs.Inside.{view_of}
-use Rattle.noc_router.specs.Verdict.{Round, asks_of, pointers_of, ready_of}
-use Rattle.noc_router.specs.Requests.{AllBelow}
-use Rattle.noc_router.specs.View.{View, Decisions, finding_of, planned, route_of, size_of, view_round, view_stands}
+use Rattle.noc_router.specs.Verdict.{Round, Turns, asks_of, is_event, ready_of}
+use Rattle.noc_router.specs.View.{Outcome, View, finding_of, outcome, route_of, size_of, view_round, view_stands}
+use Rattle.noc_router.proofs.StandLemmas.{asks_of-stands}
 
 -- a round on the requests of a view is the round of that view
 pub round-view : (r : Inside) (v : View) (asks ready : List (Option ℕ)) → view_of r ≡ v → r.arbiters.ports ≡ r.ports → r.arbiters.vcs ≡ r.vcs → r.ports ≡ ports r.shape
@@ -31,36 +31,71 @@ round-view r v asks ready view as_ports as_vcs as_shape asked readied =
     ∙ ap (λ xs. round_on (ports v.site.grid) v.site.vcs (asks_of (view_stands v)) xs (turns_in r.arbiters)) readied
     ∙ ap (round_on (ports v.site.grid) v.site.vcs (asks_of (view_stands v)) (ready_of v.site.vcs (view_stands v))) turns
 
--- decisions by their parts
-decisions : Round → List Finding → List ℕ → Decisions
-decisions round findings routes = record { round = round; findings = findings; routes = routes }
+rounds : List (Option ℕ) → List (Option ℕ) → List (Option ℕ) → Round
+rounds grants picks wins = record { grants = grants; picks = picks; wins = wins }
 
-same_decisions : (a b : Round) (f g : List Finding) (q r : List ℕ) → a ≡ b → f ≡ g → q ≡ r → decisions a f q ≡ decisions b g r
-same_decisions a b f g q r rounds findings routes = cc
+same_round : (a b f g x y : List (Option ℕ)) → a ≡ b → f ≡ g → x ≡ y → rounds a f x ≡ rounds b g y
+same_round a b f g x y grants picks wins = cc
 
--- decisions that have each part of the plan are the plan
-pub planned-parts : (relation : Routes) (v : View) (d : Decisions) → d.round ≡ view_round v → d.findings ≡ tabulate (size_of v.site) (finding_of d.round v)
-    → d.routes ≡ tabulate (size_of v.site) (route_of relation v) → d ≡ planned relation v
-unfolding planned decisions
-planned-parts relation v d round findings routes =
-    same_decisions d.round (view_round v) d.findings _ d.routes _ round (findings ∙ ap (λ one. tabulate (size_of v.site) (finding_of one v)) round) routes
+-- what has each part of a round is that round
+pub round-made : (m vcs : ℕ) (asks ready : List (Option ℕ)) (turns : Turns) (round : Round) → round.grants ≡ grants_on m vcs asks turns → round.picks ≡ picks_on m vcs ready turns
+    → round.wins ≡ wins_on m vcs ready round.picks turns → round ≡ round_on m vcs asks ready turns
+unfolding rounds
+round-made m vcs asks ready turns round grants picks wins =
+    same_round round.grants (grants_on m vcs asks turns) round.picks (picks_on m vcs ready turns) round.wins (wins_on m vcs ready (picks_on m vcs ready turns) turns) grants picks
+    (wins ∙ ap (λ xs. wins_on m vcs ready xs turns) picks)
+
+-- outcomes by their parts
+parts : Round → List (Option ℕ) → List Verdict → List ℕ → Outcome
+parts round asks verdicts routes = record { round = round; asks = asks; verdicts = verdicts; routes = routes }
+
+same_parts : (a b : Round) (f g : List (Option ℕ)) (w x : List Verdict) (q r : List ℕ) → a ≡ b → f ≡ g → w ≡ x → q ≡ r → parts a f w q ≡ parts b g x r
+same_parts a b f g w x q r rounds asks verdicts routes = cc
+
+-- what has each part of the outcome is the outcome
+pub outcome-parts : (relation : Routes) (v : View) (p : Outcome) → p.round ≡ view_round v → p.asks ≡ asks_of (view_stands v)
+    → length p.verdicts ≡ size_of v.site → ((k : ℕ) → k < size_of v.site → get_or p.verdicts k Empty ≡ (finding_of p.round v k).verdict)
+    → p.routes ≡ tabulate (size_of v.site) (route_of relation v) → p ≡ outcome relation v
+unfolding outcome parts
+outcome-parts relation v p round asks long verdicts routes =
+    same_parts p.round (view_round v) p.asks _ p.verdicts _ p.routes _ round asks
+    (tabulate-from_each (size_of v.site) (λ i. (finding_of (view_round v) v i).verdict) p.verdicts Empty long (λ k l. verdicts k l ∙ ap (λ r. (finding_of r v k).verdict) round)) routes
 
 -- .. which is as long as it should be
-pub planned-lengths : (relation : Routes) (v : View) → IsDecidedFor (ports v.site.grid) v.site.vcs (planned relation v)
-unfolding planned view_round
-planned-lengths relation v = record {
+pub outcome-lengths : (relation : Routes) (v : View) → IsDecidedFor (ports v.site.grid) v.site.vcs (outcome relation v)
+unfolding outcome view_round
+outcome-lengths relation v = record {
   grants = length-tabulate _ _;
   picks = length-tabulate _ _;
   wins = length-tabulate _ _;
-  findings = length-tabulate _ _;
+  asks = ap (λ (xs : List (Option ℕ)). length xs) (asks_of-stands v) ∙ length-tabulate _ _;
+  verdicts = length-tabulate _ _;
   routes = length-tabulate _ _;
 }
 
--- .. and in which each input port picks one of its virtual channels
-pub planned-picks : (relation : Routes) (v : View) → AllBelow v.site.vcs (planned relation v).round.picks
-unfolding planned view_round
-planned-picks relation v i d l =
-    let picks : ℕ → Option ℕ = pick_of (ready_of v.site.vcs (view_stands v)) v.site.vcs (pointers_of v.arbiters.inputs) in
-    let within : i < ports v.site.grid = omega (arith, length-tabulate (ports v.site.grid) picks) in
-    subst (λ pick. ForSome pick (λ vc. vc < v.site.vcs)) (sym (get_or-tabulate (ports v.site.grid) i picks d within))
-    (λ vc e. (first_in_turn-picks v.site.vcs _ vc _ e).1)
+-- ---- no request
+-- what has no request, and every channel empty
+pub no_outcome-parts : (m vcs : ℕ) (p : Outcome) → p.round ≡ no_round m (m * vcs) → p.asks ≡ replicate (m * vcs) None → length p.verdicts ≡ m * vcs
+    → ((k : ℕ) → k < m * vcs → get_or p.verdicts k Empty ≡ Empty) → p.routes ≡ replicate (m * vcs) 0 → p ≡ no_outcome m vcs
+unfolding parts
+no_outcome-parts m vcs p round asks long verdicts routes =
+    same_parts p.round _ p.asks _ p.verdicts _ p.routes _ round asks
+    (ext_get_or Empty p.verdicts (replicate (m * vcs) Empty) (long ∙ sym (length-replicate (m * vcs) Empty)) (λ k l. verdicts k (omega arith) ∙ sym (get_or-replicate (m * vcs) k Empty Empty (omega arith)))) routes
+
+-- .. is as long as it should be
+pub no_outcome-lengths : (m vcs : ℕ) → IsDecidedFor m vcs (no_outcome m vcs)
+no_outcome-lengths m vcs = record {
+  grants = length-replicate _ _;
+  picks = length-replicate _ _;
+  wins = length-replicate _ _;
+  asks = length-replicate _ _;
+  verdicts = length-replicate _ _;
+  routes = length-replicate _ _;
+}
+
+empty_event : (x : Verdict) → x ≡ Empty → is_event x ≡ true → ⊥
+empty_event x e h = false≢true (sym (ap is_event e) ∙ h)
+
+-- .. and has no event
+pub no_event : (x : Verdict) (k n : ℕ) → x ≡ Empty → is_event x ≡ true → k < n
+no_event x k n e h = absurd (empty_event x e h)

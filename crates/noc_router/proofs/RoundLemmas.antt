@@ -1,11 +1,11 @@
 -- Rounds in which nobody asks.
 use Rattle.std.proofs.Common.{◌≡◌, ℕ, ◌+◌, ◌*◌, ◌<◌, false, List, length, get_or, replicate, Option, Some, None, refl, ap, sym, ◌∙◌, arith}
-use Rattle.std.specs.Prelude.{IfSome, is_some, option_and_then, slice_index}
+use Rattle.std.specs.Prelude.{IfSome, is_some, slice_index}
 use Rattle.std.proofs.lemmas.List.{get_or_default, length-replicate}
-use Rattle.noc_topo.specs.Words.{tabulate, is_some_of}
+use Rattle.noc_topo.specs.Words.{tabulate}
 use Rattle.noc_topo.proofs.WordLemmas.{tabulate-from_each}
 use Rattle.noc_alloc.specs.Arbiter.{Turn, turn_at}
-use Rattle.noc_alloc.specs.Allocation.{pick_of, winner_of}
+use Rattle.noc_alloc.specs.Allocation.{pick_of}
 use Rattle.noc_alloc.proofs.ArbiterLemmas.{first_in_turn-none}
 use Rattle.std.specs.List.{All}
 use Rattle.noc_router.specs.Requests.{AllBelow}
@@ -29,16 +29,6 @@ nobody-ready set ready members none k = at (get_or ready k None) (sym (members k
 
 pub pick_of-none : (ready : List (Option ℕ)) (vcs : ℕ) (pointers : List ℕ) → ((k : ℕ) → get_or ready k None ≡ None) → (port : ℕ) → pick_of ready vcs pointers port ≡ None
 pick_of-none ready vcs pointers none port = first_in_turn-none vcs (slice_index pointers port) _ (λ y _. ap is_some (none (port * vcs + y)))
-
-picked_port-none : (ready : List (Option ℕ)) (vcs port : ℕ) (pick : Option ℕ) → ((k : ℕ) → get_or ready k None ≡ None)
-    → option_and_then (λ v. get_or ready (port * vcs + v) None) pick ≡ None
-picked_port-none ready vcs port None none = refl
-picked_port-none ready vcs port (Some v) none = none (port * vcs + v)
-
-pub winner_of-none : (ready : List (Option ℕ)) (vcs ports : ℕ) (picks : List (Option ℕ)) (pointers : List ℕ) → ((k : ℕ) → get_or ready k None ≡ None)
-    → (port : ℕ) → winner_of ready vcs ports picks pointers port ≡ None
-winner_of-none ready vcs ports picks pointers none port =
-    first_in_turn-none ports (slice_index pointers port) _ (λ q _. ap (λ o. is_some_of o port) (picked_port-none ready vcs q (get_or picks q None) none))
 
 -- each pick is one of those that its arbiter is over
 pub picks-fit : (vcs : ℕ) (turns : List Turn) (picks : List (Option ℕ)) → All (λ (t : Turn). t.size ≡ vcs) turns → length picks ≡ length turns → AllBelow vcs picks

@@ -19,8 +19,8 @@ for_some P Q o f h = λ x e. f x (h x e)
 pub IsRouter-kept : (r s : Inside) → IsRouter r → s.shape ≡ r.shape → s.node ≡ r.node → s.ports ≡ r.ports → s.vcs ≡ r.vcs → s.places ≡ r.places
     → s.source.vc ≡ r.source.vc → s.channels.size ≡ r.channels.size → s.channels.bank.capacity ≡ r.channels.bank.capacity
     → KeepsAwaiting r.channels.inputs.items s.channels.inputs.items → s.links.leads ≡ r.links.leads → AreBelow (local_port r.shape) s.links.loaded
-    → vec_len s.tally.counts ≡ vec_len r.tally.counts → s.arbiters.ports ≡ r.arbiters.ports → s.arbiters.vcs ≡ r.arbiters.vcs → IsRouter s
-IsRouter-kept r s is shape node ports_same vcs places vc size capacity keeps leads loaded counts arbiter_ports arbiter_vcs =
+    → vec_len s.tally.counts ≡ vec_len r.tally.counts → s.arbiters.ports ≡ r.arbiters.ports → s.arbiters.vcs ≡ r.arbiters.vcs → s.indices.size ≡ r.indices.size → s.indices.vcs ≡ r.indices.vcs → IsRouter s
+IsRouter-kept r s is shape node ports_same vcs places vc size capacity keeps leads loaded counts arbiter_ports arbiter_vcs indices index_vcs =
     let all : r.ports * r.vcs ≡ s.ports * s.vcs = ap (λ n. n * r.vcs) (sym ports_same) ∙ ap (λ n. s.ports * n) (sym vcs) in
     let first : (r.ports - 1) * r.vcs ≡ (s.ports - 1) * s.vcs = ap (λ n. (n - 1) * r.vcs) (sym ports_same) ∙ ap (λ n. (s.ports - 1) * n) (sym vcs) in
     record {
@@ -39,6 +39,8 @@ IsRouter-kept r s is shape node ports_same vcs places vc size capacity keeps lea
       counts = counts ∙ is.counts ∙ all;
       arbiter_ports = arbiter_ports ∙ is.arbiter_ports ∙ sym ports_same;
       arbiter_vcs = arbiter_vcs ∙ is.arbiter_vcs ∙ sym vcs;
+      indices = indices ∙ is.indices ∙ all;
+      index_vcs = index_vcs ∙ is.index_vcs ∙ sym vcs;
     }
 
 -- the index of a local input channel
@@ -52,13 +54,13 @@ pub IsRouter-misfit : (r : Inside) (channels : Channels) (n : ℕ) → IsRouter 
     → channels.inputs.items ≡ r.channels.inputs.items → IsRouter (record r { channels = channels; misfits = n })
 IsRouter-misfit r channels n is size capacity inputs =
     IsRouter-kept r (record r { channels = channels; misfits = n }) is refl refl refl refl refl refl size capacity
-    (λ i h. ap (λ (xs : List Input). is_awaiting xs i) inputs ∙ h) refl is.loaded refl refl refl
+    (λ i h. ap (λ (xs : List Input). is_awaiting xs i) inputs ∙ h) refl is.loaded refl refl refl refl refl
 
 -- .. where only its channels change, and whether it had an event
 pub IsRouter-channels : (r : Inside) (channels : Channels) (happened : Bool) → IsRouter r → channels.size ≡ r.channels.size → channels.bank.capacity ≡ r.channels.bank.capacity
     → KeepsAwaiting r.channels.inputs.items channels.inputs.items → IsRouter (record r { channels = channels; had_event = happened })
 IsRouter-channels r channels happened is size capacity keeps =
-    IsRouter-kept r (record r { channels = channels; had_event = happened }) is refl refl refl refl refl refl size capacity keeps refl is.loaded refl refl refl
+    IsRouter-kept r (record r { channels = channels; had_event = happened }) is refl refl refl refl refl refl size capacity keeps refl is.loaded refl refl refl refl refl
 
 -- .. where a flit has come to an input channel of a link port
 pub IsRouter-landed : (r : Inside) (channels : Channels) (i : ℕ) (x : Input) → IsRouter r → channels.size ≡ r.channels.size → channels.bank.capacity ≡ r.channels.bank.capacity
@@ -80,4 +82,6 @@ IsRouter-landed r channels i x is size capacity inputs link = record {
   counts = is.counts;
   arbiter_ports = is.arbiter_ports;
   arbiter_vcs = is.arbiter_vcs;
+  indices = is.indices;
+  index_vcs = is.index_vcs;
 }

@@ -13,31 +13,28 @@ use Rattle.noc_topo.specs.Shape.{ports, local_port}
 use Rattle.noc_packet.specs.Set.{has_bit}
 use Rattle.noc_packet.specs.declared.packet.Flit.{Flit}
 use Rattle.noc_packet.specs.declared.packet.Beat.{Beat}
-use Rattle.noc_vc.specs.Input.{Input, idle_input, is_waiting, is_empty, is_idle_phase, routed, granted, sent}
+use Rattle.noc_vc.specs.Input.{Input, idle_input, is_waiting, is_empty, routed, granted, sent}
 use Rattle.noc_vc.specs.Output.{Output, ejection_output, is_free, has_credit, held, spent}
 use Rattle.noc_vc.specs.declared.input.InputState.{InputState}
-use Rattle.noc_vc.specs.declared.input.InputState.TheVariants.{Idle, Waiting, Active}
+use Rattle.noc_vc.specs.declared.input.InputState.TheVariants.{Active}
 use Rattle.noc_vc.specs.declared.output.OutputState.{OutputState}
 use Rattle.noc_vc.specs.declared.output.OutputState.TheVariants.{Idle as Free, Owned, Draining}
 use Rattle.noc_alloc.proofs.WordLemmas.{is_some_of-true, is_some_of-some}
 use Rattle.noc_router.specs.Arrivals.{is_expected_in, noted}
 use Rattle.noc_router.specs.Settled.{IsPlanOf, CanGrant, CanMove, CanSettle, found_out, settled, settled_by, routed_at, granted_at, granted_by, with_flit_at, with_credit_at, ejected, moved_by, moved_in_phase}
-use Rattle.noc_ring.specs.Rings.{ring_at}
 use Rattle.noc_router.specs.declared.router.Router.TheInside.{Inside}
 use Rattle.noc_router.specs.Inside.{IsRouter, view_of}
 use Rattle.noc_router.specs.Members.{is_within}
-use Rattle.noc_router.specs.Sound.{owns, is_owned_from, is_occupied, input_at}
-use Rattle.noc_router.specs.Found.{AreEvents}
+use Rattle.noc_router.specs.Sound.{owns, is_owned_from}
 use Rattle.noc_router.specs.Tally.{empty_finding, finding_at}
-use Rattle.noc_router.specs.Verdict.{Claim, Unrouted, Waits, Holds, ask_of, out_of, verdict_of, is_moved, is_event}
-use Rattle.noc_router.specs.View.{View, Site, Decisions, finding_of, port_and_vc, size_of, view_claim, claim_in, view_buffer, view_input, view_output, first_flit, mover, mover_to, held_by, spent_by, is_tail, flit_out, tail_packet, with_arrival, raised, decided_verdict, input_after, buffer_after, granted_to, sent_from, output_after, beat_out, idle_beat, idle_beats, has_event}
+use Rattle.noc_router.specs.Verdict.{Waits, Holds, ask_of, out_of, is_moved, is_event}
+use Rattle.noc_router.specs.View.{View, Site, Decisions, finding_of, port_and_vc, size_of, view_claim, view_buffer, view_input, view_output, first_flit, mover, mover_to, held_by, spent_by, is_tail, flit_out, tail_packet, with_arrival, raised, decided_verdict, input_after, buffer_after, granted_to, sent_from, output_after, beat_out, idle_beat, idle_beats, has_event}
 use Rattle.noc_router.specs.declared.verdict.Verdict.{Verdict}
 use Rattle.noc_router.specs.declared.verdict.Verdict.TheVariants.{Empty, Routed, Granted, Moved, NoFlit, NoIdleChannel, LostChannel, NoCredit, LostInput, LostSwitch}
 use Rattle.noc_router.specs.declared.verdict.Finding.{Finding}
-use Rattle.noc_router.proofs.EventLemmas.{events-below}
 use Rattle.noc_router.proofs.FindLemmas.{find-none, find-same, find-at}
 use Rattle.noc_router.proofs.TallyLemmas.{verdict-at}
-use Rattle.noc_router.proofs.PlanFacts.{Lists, verdict_in, holds_flit, decided-is, verdict-is, granted-asks, is-granted, mover-is, Moves, moves-is, one_pick, claim-waits, claim-holds, claim-unrouted, verdict-granted, verdict-routed, finding-is, lists_of}
+use Rattle.noc_router.proofs.PlanFacts.{Lists, verdict_in, holds_flit, decided-is, granted-asks, is-granted, mover-is, Moves, moves-is, one_pick, claim-waits, claim-holds, claim-unrouted, verdict-granted, verdict-routed, finding-is, lists_of}
 
 -- ---- the sink
 -- the arrivals and the misfits after a packet has arrived
@@ -227,9 +224,6 @@ module _ (d : Decisions) (v w : View) (rest rest' index : ℕ) (whole : IsWhole 
 
   input-here : view_input w index ≡ view_input v index
   input-here = so_far.inputs index inside ∙ ap (input_after d v index (view_input v index)) (verdict-here rest rest' index members member d)
-
-  flit-here : first_flit w index ≡ first_flit v index
-  flit-here = ap (λ (flits : List Flit). slice_get flits 0) buffer-here
 
   buffers-step : (bs : List (List Flit)) → get_or bs index [] ≡ buffer_after (view_buffer v index) (decided_verdict d index) → ((i : ℕ) → i ≢ index → get_or bs i [] ≡ view_buffer w i)
       → (i : ℕ) → i < size_of v.site → get_or bs i [] ≡ buffer_after (view_buffer v i) (left_verdict d rest' i)
@@ -677,16 +671,6 @@ module _ (d : Decisions) (v w : View) (rest rest' index : ℕ) (whole : IsWhole 
       }
 
 -- ---- before the first channel
-vacant_parts : (a b : Bool) → not (a && b) ≡ false → (a ≡ true) × (b ≡ true)
-vacant_parts true true e = (refl, refl)
-vacant_parts true false e = absurd (false≢true (sym e))
-vacant_parts false b e = absurd (false≢true (sym e))
-
-idle_claim : (v : View) (p : InputState) → is_idle_phase p ≡ true → claim_in v p ≡ Unrouted
-idle_claim v Idle e = refl
-idle_claim v (Waiting set) e = absurd (false≢true e)
-idle_claim v (Active o) e = absurd (false≢true e)
-
 -- a verdict that does not take effect changes nothing
 quiet-moved : (x : Verdict) → is_event x ≡ false → is_moved x ≡ false
 quiet-moved Empty e = refl
@@ -879,7 +863,7 @@ module _ (d : Decisions) (v w : View) (rest : ℕ) (whole : IsWhole v) (lists : 
       }))
 
 -- ---- what a verdict says of the view, and what it does
-found-some : (d : Decisions) (v : View) (i o : ℕ) → Lists d v → i < size_of v.site → out_of (view_claim v i) ≡ Some o → found_out d v i ≡ Some o
+pub found-some : (d : Decisions) (v : View) (i o : ℕ) → Lists d v → i < size_of v.site → out_of (view_claim v i) ≡ Some o → found_out d v i ≡ Some o
 found-some d v i o lists l e =
     ap (λ (f : Finding). option_map (λ (place : ℕ × ℕ). place.0 * v.site.vcs + place.1) f.out) (finding-is d v i lists l)
     ∙ ap (λ (x : Option ℕ). option_map (λ (place : ℕ × ℕ). place.0 * v.site.vcs + place.1) (option_map (port_and_vc v.site) x)) e
@@ -942,10 +926,11 @@ module _ (d : Decisions) (v w : View) (rest rest' index : ℕ) (whole : IsWhole 
         free = ap (λ (x : Output). is_free x.holder) (asked-out o claim g) ∙ free.1;
       })
 
-  can-moved : Moves d v index → CanMove w (view_input w index).phase
+  can-moved : Moves d v index → CanMove w index (view_input w index).phase
   can-moved mv =
-      let P : InputState → Type 0 = λ p. CanMove w p in
-      subst P (sym (ap (λ (x : Input). x.phase) input_is ∙ mv.phase)) (ap has_credit (owned-out mv) ∙ mv.credit)
+      let P : InputState → Type 0 = λ p. CanMove w index p in
+      subst P (sym (ap (λ (x : Input). x.phase) input_is ∙ mv.phase))
+      (ap has_credit (owned-out mv) ∙ mv.credit, full_length (view_buffer w index) (ap (λ flits. not (is_empty flits)) buffer_is ∙ mv.flit))
 
   can-settle : (x : Verdict) → verdict_in d v index ≡ x → CanSettle d w index x
   can-settle Routed e =
@@ -1004,24 +989,23 @@ module _ (d : Decisions) (v w : View) (rest rest' index : ℕ) (whole : IsWhole 
 
 -- ---- the whole
 pub can_settle : (d : Decisions) (v w : View) (rest rest' index : ℕ) → IsWhole v → IsPlanOf d v → ((k : ℕ) → has_bit rest' k ≡ (not (nat_eq k index) && has_bit rest k)) → has_bit rest index ≡ true
-    → IsSettling d v rest w → CanSettle d w index (finding_at d.findings index).verdict
+    → IsSettling d v rest w → CanSettle d w index (decided_verdict d index)
 can_settle d v w rest rest' index whole plan members member so_far =
     let lists = lists_of d v plan in
-    can-settle d v w rest rest' index whole lists members member so_far (finding_at d.findings index).verdict (sym (verdict-is d v index lists (so_far.below index member)))
+    can-settle d v w rest rest' index whole lists members member so_far (decided_verdict d index) (sym (decided-is d v index lists (so_far.below index member)))
 
 pub settling_more : (d : Decisions) (v w : View) (rest rest' index : ℕ) (new : View) → IsWhole v → IsPlanOf d v → ((k : ℕ) → has_bit rest' k ≡ (not (nat_eq k index) && has_bit rest k)) → has_bit rest index ≡ true
-    → IsSettling d v rest w → new ≡ settled_by d index w (finding_at d.findings index).verdict → IsSettling d v rest' new
+    → IsSettling d v rest w → new ≡ settled_by d index w (decided_verdict d index) → IsSettling d v rest' new
 settling_more d v w rest rest' index new whole plan members member so_far is =
     let lists = lists_of d v plan in
     let P : View → Type 0 = λ x. IsSettling d v rest' x in
-    subst P (sym is) (settle-step d v w rest rest' index whole lists members member so_far (finding_at d.findings index).verdict (sym (verdict-is d v index lists (so_far.below index member))))
+    subst P (sym is) (settle-step d v w rest rest' index whole lists members member so_far (decided_verdict d index) (sym (decided-is d v index lists (so_far.below index member))))
 
-pub settling_first : (d : Decisions) (v : View) (rest : ℕ) → IsWhole v → IsPlanOf d v → AreEvents rest d.findings → v.to_put ≡ idle_beats v.site → IsSettling d v rest v
-settling_first d v rest whole plan are idle =
+pub settling_first : (d : Decisions) (v : View) (rest : ℕ) → IsWhole v → IsPlanOf d v → ((i : ℕ) → i < size_of v.site → has_bit rest i ≡ is_event (decided_verdict d i))
+    → ((k : ℕ) → has_bit rest k ≡ true → k < size_of v.site) → v.to_put ≡ idle_beats v.site → IsSettling d v rest v
+settling_first d v rest whole plan are below idle =
     let lists = lists_of d v plan in
-    let long : length d.findings ≡ size_of v.site = ap length lists.findings ∙ length-tabulate (size_of v.site) (finding_of d.round v) in
-    settling-first d v rest whole lists (λ i l. are i ∙ ap is_event (verdict-is d v i lists l))
-    (λ k e. let l : k < length d.findings = events-below rest d.findings are k e in omega arith) idle
+    settling-first d v rest whole lists (λ i l. are i l ∙ ap is_event (decided-is d v i lists l)) below idle
 
 pub settling_last : (d : Decisions) (v w : View) (rest : ℕ) → IsWhole v → IsPlanOf d v → IsSettling d v rest w → ((k : ℕ) → has_bit rest k ≡ false) → w ≡ settled d v
 settling_last d v w rest whole plan so_far none = settling-last d v w rest whole (lists_of d v plan) so_far none
@@ -1053,32 +1037,5 @@ whole_of r h =
 pub whole_view : (r : Inside) (v : View) → view_of r ≡ v → IsRouter r → IsWhole v
 whole_view r v e h = let P : View → Type 0 = λ x. IsWhole x in subst P e (whole_of r h)
 
-pub occupied_view : (r : Inside) (v : View) (set : ℕ) → view_of r ≡ v → IsRouter r → ((i : ℕ) → i < r.channels.size → has_bit set i ≡ is_occupied (input_at r.channels.inputs.items i) (ring_at r.channels.bank i))
-    → (i : ℕ) → i < size_of v.site → has_bit set i ≡ is_occupied (view_input v i) (view_buffer v i)
-occupied_view r v set e h members =
-    let n : r.channels.size ≡ size_of (view_of r).site = h.channels ∙ ap (λ p. p * r.vcs) h.ports in
-    let P : View → Type 0 = λ x. (i : ℕ) → i < size_of x.site → has_bit set i ≡ is_occupied (view_input x i) (view_buffer x i) in
-    subst P e (λ i l. members i (subst (λ k. i < k) (sym n) l))
-
-pub below_view : (r : Inside) (v : View) (set : ℕ) → view_of r ≡ v → IsRouter r → ((k : ℕ) → has_bit set k ≡ true → k < r.channels.size) → (k : ℕ) → has_bit set k ≡ true → k < size_of v.site
-below_view r v set e h below =
-    let n : r.channels.size ≡ size_of (view_of r).site = h.channels ∙ ap (λ p. p * r.vcs) h.ports in
-    let P : View → Type 0 = λ x. (k : ℕ) → has_bit set k ≡ true → k < size_of x.site in
-    subst P e (λ k t. subst (λ m. k < m) n (below k t))
-
 pub size_view : (r : Inside) (v : View) → view_of r ≡ v → IsRouter r → size_of v.site ≡ r.ports * r.vcs
 size_view r v e h = sym (ap (λ (x : View). size_of x.site) e) ∙ ap (λ p. p * r.vcs) (sym h.ports)
-
--- nothing is found of a channel that is not occupied
-pub vacant_finding : (d : Decisions) (v : View) (rest : ℕ) → IsPlanOf d v → ((i : ℕ) → i < size_of v.site → has_bit rest i ≡ is_occupied (view_input v i) (view_buffer v i))
-    → (i : ℕ) → i < size_of v.site → has_bit rest i ≡ false → (view_input v i).packet ≡ None → finding_at d.findings i ≡ empty_finding
-vacant_finding d v rest plan occupied i l e no_packet =
-    let h = vacant_parts (is_idle_phase (view_input v i).phase) (is_empty (view_buffer v i)) (sym (occupied i l) ∙ e) in
-    let claim : view_claim v i ≡ Unrouted = idle_claim v (view_input v i).phase h.0 in
-    finding-is d v i (lists_of d v plan) l
-    ∙ ap (λ c. found c (holds_flit v i) (view_input v i).packet) claim
-    ∙ ap (λ b. found Unrouted (not b) (view_input v i).packet) h.1
-    ∙ ap (λ x. found Unrouted false x) no_packet
-  where
-    found : Claim → Bool → Option ℕ → Finding
-    found c b p = record { verdict = verdict_of v.site.vcs d.round i c b; packet = p; out = option_map (port_and_vc v.site) (out_of c) }

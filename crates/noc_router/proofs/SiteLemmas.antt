@@ -13,9 +13,9 @@ use Rattle.noc_vc.specs.Input.{fits}
 use Rattle.noc_vc.specs.Output.{credit_fits, credited}
 use Rattle.noc_router.specs.declared.router.Router.TheInside.{Inside}
 use Rattle.noc_router.specs.Inside.{IsRouter, view_of}
-use Rattle.noc_router.specs.Settled.{IsPlanOf, tallied, settled}
+use Rattle.noc_router.specs.Settled.{tallied, settled}
 use Rattle.noc_router.specs.Verdict.{arbiters_after}
-use Rattle.noc_router.specs.View.{View, Site, Decisions, with_landed, with_misfit, with_flit, with_credit, taken, taken_from, all_taken, injected, injected_from, begun_on, with_injected, is_vacant, planned, view_round, committed, tail_packet, flit_out, has_link, view_buffer, view_input, view_output, idle_beat, idle_beats, decided_verdict, buffer_after, input_after, output_after, has_event, beat_out, counted, local_channel, put}
+use Rattle.noc_router.specs.View.{View, Site, Decisions, with_landed, with_misfit, with_flit, with_credit, taken, taken_from, all_taken, injected, injected_from, begun_on, with_injected, is_vacant, committed, tail_packet, flit_out, has_link, view_buffer, view_input, view_output, idle_beat, idle_beats, decided_verdict, buffer_after, input_after, output_after, has_event, beat_out, counted, local_channel, put}
 use Rattle.noc_router.proofs.SettleLemmas.{arrival-is}
 
 either_site : (b : Bool) (x y : View) (s : Site) → x.site ≡ s → y.site ≡ s → (if b then x else y).site ≡ s
@@ -86,17 +86,6 @@ committed-site d v = ap (λ (x : View). x.site) (arrival-is (tail_packet (flit_o
 }))
 
 -- ---- the parts of a commit
-planned-tallied : (relation : Routes) (d : Decisions) (v : View) → planned relation v ≡ planned relation (tallied d v)
-unfolding planned view_round
-planned-tallied relation d v = refl
-
-pub plan-tallied : (d : Decisions) (v : View) → IsPlanOf d v → IsPlanOf d (tallied d v)
-plan-tallied d v plan = record {
-  relation = plan.relation;
-  fits = record { grid = plan.fits.grid; vcs = plan.fits.vcs };
-  is = plan.is ∙ planned-tallied plan.relation d v;
-}
-
 -- the pointers go on, and the cycle ends
 turned_and_closed : Decisions → View → View
 turned_and_closed d v = record v {

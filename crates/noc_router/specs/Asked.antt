@@ -22,12 +22,24 @@ round_in r = record {
 abbrev pub no_round : ℕ → ℕ → Round
 no_round ports size = record { grants = replicate size None; picks = replicate ports None; wins = replicate ports None }
 
+-- the input channel that each output channel goes to
+abbrev pub grants_on : ℕ → ℕ → List (Option ℕ) → Turns → List (Option ℕ)
+grants_on ports vcs asks arbiters = tabulate (ports * vcs) (grant_of asks (ports * vcs) (pointers_of arbiters.channels))
+
+-- the virtual channel that each input port picks
+abbrev pub picks_on : ℕ → ℕ → List (Option ℕ) → Turns → List (Option ℕ)
+picks_on ports vcs ready arbiters = tabulate ports (pick_of ready vcs (pointers_of arbiters.inputs))
+
+-- the input port that wins each output port
+abbrev pub wins_on : ℕ → ℕ → List (Option ℕ) → List (Option ℕ) → Turns → List (Option ℕ)
+wins_on ports vcs ready picks arbiters = tabulate ports (winner_of ready vcs ports picks (pointers_of arbiters.outputs))
+
 -- one round on the output channels that are asked for and the output ports to which input channels are ready to send
 abbrev pub round_on : ℕ → ℕ → List (Option ℕ) → List (Option ℕ) → Turns → Round
 round_on ports vcs asks ready arbiters =
-    let picks = tabulate ports (pick_of ready vcs (pointers_of arbiters.inputs)) in
+    let picks = picks_on ports vcs ready arbiters in
     record {
-      grants = tabulate (ports * vcs) (grant_of asks (ports * vcs) (pointers_of arbiters.channels));
+      grants = grants_on ports vcs asks arbiters;
       picks = picks;
-      wins = tabulate ports (winner_of ready vcs ports picks (pointers_of arbiters.outputs));
+      wins = wins_on ports vcs ready picks arbiters;
     }

@@ -1,21 +1,23 @@
--- The decisions of a router with so many ports and virtual channels.
-use Rattle.std.specs.Prelude.{◌≡◌, ℕ, ◌*◌, length, replicate}
+-- The outcome of a router with so many ports and virtual channels.
+use Rattle.std.specs.Prelude.{◌≡◌, ℕ, ◌*◌, None, length, replicate}
 use Rattle.noc_router.specs.Asked.{no_round}
-use Rattle.noc_router.specs.Found.{empty_finding}
-use Rattle.noc_router.specs.View.{Decisions}
+use Rattle.noc_router.specs.View.{Outcome}
+use Rattle.noc_router.specs.declared.verdict.Verdict.TheVariants.{Empty}
 
--- a decision for each output channel, port and input channel
-pub record IsDecidedFor (ports vcs : ℕ) (d : Decisions) : Type 0 where
-  pub grants : length d.round.grants ≡ ports * vcs
-  pub picks : length d.round.picks ≡ ports
-  pub wins : length d.round.wins ≡ ports
-  pub findings : length d.findings ≡ ports * vcs
-  pub routes : length d.routes ≡ ports * vcs
+-- an entry for each output channel, port and input channel
+pub record IsDecidedFor (ports vcs : ℕ) (p : Outcome) : Type 0 where
+  pub grants : length p.round.grants ≡ ports * vcs
+  pub picks : length p.round.picks ≡ ports
+  pub wins : length p.round.wins ≡ ports
+  pub asks : length p.asks ≡ ports * vcs
+  pub verdicts : length p.verdicts ≡ ports * vcs
+  pub routes : length p.routes ≡ ports * vcs
 
--- no request, and nothing found
-abbrev pub no_decisions : ℕ → ℕ → Decisions
-no_decisions ports vcs = record {
+-- no request, and every channel empty
+abbrev pub no_outcome : ℕ → ℕ → Outcome
+no_outcome ports vcs = record {
   round = no_round ports (ports * vcs);
-  findings = replicate (ports * vcs) empty_finding;
+  asks = replicate (ports * vcs) None;
+  verdicts = replicate (ports * vcs) Empty;
   routes = replicate (ports * vcs) 0;
 }

@@ -12,7 +12,9 @@ pub mod Queue
 pub mod Requests
 pub mod Settled
 pub mod Sound
+pub mod Standing
 pub mod Start
 pub mod Tally
 pub mod Verdict
+pub mod VerdictSets
 pub mod View

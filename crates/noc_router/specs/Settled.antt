@@ -5,20 +5,45 @@ use Rattle.noc_topo.specs.Shape.{local_port}
 use Rattle.noc_packet.specs.declared.packet.Flit.{Flit}
 use Rattle.noc_packet.specs.declared.packet.Beat.{Beat}
 use Rattle.noc_route.specs.Routes.{Routes}
-use Rattle.noc_vc.specs.Input.{is_waiting, routed, granted, sent}
+use Rattle.noc_vc.specs.Input.{Input, is_waiting, routed, granted, sent}
 use Rattle.noc_vc.specs.Output.{is_free, has_credit, held, spent}
 use Rattle.noc_vc.specs.declared.input.InputState.{InputState}
 use Rattle.noc_vc.specs.declared.input.InputState.TheVariants.{Idle, Waiting, Active}
+use Rattle.noc_router.specs.Sound.{input_at, named}
 use Rattle.noc_router.specs.Tally.{finding_at}
 use Rattle.noc_router.specs.declared.verdict.Verdict.{Verdict}
-use Rattle.noc_router.specs.declared.verdict.Verdict.TheVariants.{Routed, Granted, Moved}
-use Rattle.noc_router.specs.View.{View, Decisions, IsRelationOf, planned, idle_beat, idle_beats, counted, size_of, view_buffer, view_input, view_output, first_flit, flit_out, tail_packet, with_arrival, decided_verdict, buffer_after, input_after, output_after, has_event, beat_out}
+use Rattle.noc_router.specs.declared.verdict.Verdict.TheVariants.{Empty, Routed, Granted, Moved}
+use Rattle.noc_router.specs.declared.verdict.Finding.{Finding}
+use Rattle.noc_router.specs.Verdict.{out_of}
+use Rattle.noc_router.specs.View.{View, Decisions, Outcome, IsRelationOf, planned, outcome, port_and_vc, view_claim, idle_beat, idle_beats, counted, size_of, view_buffer, view_input, view_output, first_flit, flit_out, tail_packet, with_arrival, decided_verdict, buffer_after, input_after, output_after, has_event, beat_out}
 
 -- the decisions of this very view
 pub record IsPlanOf (d : Decisions) (v : View) : Type 0 where
   pub relation : Routes
   pub fits : IsRelationOf relation v
   pub is : d ≡ planned relation v
+
+-- the outcome of this very view
+pub record IsOutcomeOf (p : Outcome) (v : View) : Type 0 where
+  pub relation : Routes
+  pub fits : IsRelationOf relation v
+  pub is : p ≡ outcome relation v
+
+-- the verdict of input channel i
+abbrev pub outcome_verdict : Outcome → ℕ → Verdict
+outcome_verdict p i = slice_index_or p.verdicts i Empty
+
+-- what is found of input channel i with this verdict
+abbrev pub found_with : View → Verdict → ℕ → Finding
+found_with v verdict i = record { verdict = verdict; packet = (view_input v i).packet; out = option_map (port_and_vc v.site) (out_of (view_claim v i)) }
+
+-- the decisions of a view with this outcome
+abbrev pub decisions_by : Outcome → View → Decisions
+decisions_by p v = record { round = p.round; findings = tabulate (size_of v.site) (λ i. found_with v (outcome_verdict p i) i); routes = p.routes }
+
+-- the same, by the outcome and the state of the input channels
+abbrev pub finding_by : Outcome → ℕ → List Input → ℕ → Finding
+finding_by p vcs inputs i = named vcs (input_at inputs i) (outcome_verdict p i) (slice_index_or p.asks i None)
 
 -- the findings are counted, and every beat is idle again
 abbrev pub tallied : Decisions → View → View
@@ -95,6 +120,13 @@ settled_by d i v Granted = granted_by i (found_out d v i) v
 settled_by d i v Moved = moved_in_phase i (view_input v i).phase v
 settled_by d i v _ = v
 
+-- the same, by the outcome
+abbrev pub effect_of : Outcome → ℕ → View → Verdict → View
+effect_of p i v Routed = routed_at i (slice_index p.routes i) v
+effect_of p i v Granted = granted_by i (slice_index_or p.asks i None) v
+effect_of p i v Moved = moved_in_phase i (view_input v i).phase v
+effect_of p i v _ = v
+
 -- what holds where input channel i is granted output channel o
 pub record CanGrant (v : View) (i o : ℕ) : Type 0 where
   pub within : o < size_of v.site
@@ -102,17 +134,24 @@ pub record CanGrant (v : View) (i o : ℕ) : Type 0 where
   pub free : is_free (view_output v o).holder ≡ true
 
 -- .. where it moves a flit to the output channel that it owns
-abbrev pub CanMove : View → InputState → Type 0
-CanMove v Idle = Unit {0}
-CanMove v (Waiting set) = Unit {0}
-CanMove v (Active o) = has_credit (view_output v o) ≡ true
+abbrev pub CanMove : View → ℕ → InputState → Type 0
+CanMove v i Idle = Unit {0}
+CanMove v i (Waiting set) = Unit {0}
+CanMove v i (Active o) = (has_credit (view_output v o) ≡ true) × (0 < length (view_buffer v i))
 
 -- what a verdict says of the view
 abbrev pub CanSettle : Decisions → View → ℕ → Verdict → Type 0
 CanSettle d v i Routed = ((view_input v i).phase ≡ Idle) × (0 < length (view_buffer v i))
 CanSettle d v i Granted = IfSome (found_out d v i) (CanGrant v i)
-CanSettle d v i Moved = CanMove v (view_input v i).phase
+CanSettle d v i Moved = CanMove v i (view_input v i).phase
 CanSettle d v i _ = Unit {0}
+
+-- the same, by the outcome
+abbrev pub CanTakeEffect : Outcome → View → ℕ → Verdict → Type 0
+CanTakeEffect p v i Routed = ((view_input v i).phase ≡ Idle) × (0 < length (view_buffer v i))
+CanTakeEffect p v i Granted = IfSome (slice_index_or p.asks i None) (CanGrant v i)
+CanTakeEffect p v i Moved = CanMove v i (view_input v i).phase
+CanTakeEffect p v i _ = Unit {0}
 
 -- ---- all verdicts
 unfoldable pub settled : Decisions → View → View

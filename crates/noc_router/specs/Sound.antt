@@ -1,14 +1,18 @@
 -- What is true of the channels of one router: what its sets of channels have, and which input channel owns which output channel.
-use Rattle.std.specs.Prelude.{◌≡◌, ℕ, ◌<◌, Bool, true, false, ◌&&◌, not, List, [], ◌∷◌, None, is_some, nat_eq, slice_index_or, if◌then◌else◌}
+use Rattle.std.specs.Prelude.{◌≡◌, ℕ, ◌<◌, ◌/◌, ◌%◌, Bool, true, false, ◌&&◌, not, List, [], ◌∷◌, find, Option, Some, None, is_some, option_map, nat_eq, slice_index_or, if◌then◌else◌}
+use Rattle.noc_topo.specs.Words.{below}
 use Rattle.noc_packet.specs.Set.{has_bit}
 use Rattle.noc_packet.specs.declared.packet.Flit.{Flit}
-use Rattle.noc_vc.specs.Input.{Input, idle_input, is_idle_phase, is_empty}
-use Rattle.noc_vc.specs.Output.{Output, ejection_output, is_free}
+use Rattle.noc_vc.specs.Input.{Input, idle_input, is_active, is_idle_phase, is_empty, is_waiting}
+use Rattle.noc_vc.specs.Output.{Output, ejection_output, has_credit, is_free}
 use Rattle.noc_vc.specs.declared.input.InputState.{InputState}
 use Rattle.noc_vc.specs.declared.input.InputState.TheVariants.{Idle, Waiting, Active}
 use Rattle.noc_vc.specs.declared.output.OutputState.{OutputState}
 use Rattle.noc_vc.specs.declared.output.OutputState.TheVariants.{Idle as Free, Owned, Draining}
 use Rattle.noc_router.specs.Members.{AreBelow, is_within}
+use Rattle.noc_router.specs.declared.channels.Standing.{Standing}
+use Rattle.noc_router.specs.declared.verdict.Verdict.{Verdict}
+use Rattle.noc_router.specs.declared.verdict.Finding.{Finding}
 
 -- the input channel with this index, an idle one where it does not exist
 abbrev pub input_at : List Input → ℕ → Input
@@ -53,13 +57,63 @@ is_awaiting inputs i = is_some (slice_index_or inputs i idle_input).awaited
 abbrev pub KeepsAwaiting : List Input → List Input → Type 0
 KeepsAwaiting before after = (i : ℕ) → is_awaiting before i ≡ true → is_awaiting after i ≡ true
 
--- the channels of a router, by index, with the sets of those that are occupied and of those that are idle
-pub record AreSound (size : ℕ) (occupied : ℕ) (idle : ℕ) (buffers : List (List Flit)) (inputs : List Input) (outputs : List Output) : Type 0 where
-  pub occupied_below : AreBelow size occupied
-  pub idle_below : AreBelow size idle
-  pub occupied_is : (i : ℕ) → i < size → has_bit occupied i ≡ is_occupied (slice_index_or inputs i idle_input) (slice_index_or buffers i [])
-  pub idle_is : (o : ℕ) → o < size → has_bit idle o ≡ is_free (slice_index_or outputs o ejection_output).holder
+-- whether the packet of an input channel in this state owns an output channel that has a credit
+abbrev pub is_supplied : List Output → InputState → Bool
+is_supplied outputs Idle = false
+is_supplied outputs (Waiting set) = false
+is_supplied outputs (Active output) = has_credit (slice_index_or outputs output ejection_output)
+
+-- the output channel that an input channel in this state asks for
+abbrev pub asked_in : ℕ → List Output → InputState → Option ℕ
+asked_in size outputs Idle = None
+asked_in size outputs (Waiting set) = find (λ o. has_bit set o && is_free (slice_index_or outputs o ejection_output).holder) (below size)
+asked_in size outputs (Active output) = None
+
+-- the output channel that it asks for or owns
+abbrev pub out_in : InputState → Option ℕ → Option ℕ
+out_in Idle ask = None
+out_in (Waiting set) ask = ask
+out_in (Active output) ask = Some output
+
+-- what is found of an input channel with this verdict, that asks for this output channel
+abbrev pub named : ℕ → Input → Verdict → Option ℕ → Finding
+named vcs input verdict ask = record { verdict = verdict; packet = input.packet; out = option_map (λ o. (o / vcs, o % vcs)) (out_in input.phase ask) }
+
+-- the sets that a router keeps of its channels
+pub record Sets : Type 0 where
+  pub filled : ℕ  -- the input channels whose buffer holds a flit
+  pub waiting : ℕ  -- .. whose packet waits for an output channel
+  pub active : ℕ  -- .. whose packet owns one
+  pub supplied : ℕ  -- .. that has a credit
+  pub idle : ℕ  -- the output channels that are idle
+
+-- the channels of a router, by index, with its sets
+pub record AreSound (size : ℕ) (sets : Sets) (buffers : List (List Flit)) (inputs : List Input) (outputs : List Output) : Type 0 where
+  pub filled_below : AreBelow size sets.filled
+  pub waiting_below : AreBelow size sets.waiting
+  pub active_below : AreBelow size sets.active
+  pub supplied_below : AreBelow size sets.supplied
+  pub idle_below : AreBelow size sets.idle
+  pub filled_is : (i : ℕ) → i < size → has_bit sets.filled i ≡ not (is_empty (slice_index_or buffers i []))
+  pub waiting_is : (i : ℕ) → i < size → has_bit sets.waiting i ≡ is_waiting (slice_index_or inputs i idle_input).phase
+  pub active_is : (i : ℕ) → i < size → has_bit sets.active i ≡ is_active (slice_index_or inputs i idle_input).phase
+  pub supplied_is : (i : ℕ) → i < size → has_bit sets.supplied i ≡ is_supplied outputs (slice_index_or inputs i idle_input).phase
+  pub idle_is : (o : ℕ) → o < size → has_bit sets.idle o ≡ is_free (slice_index_or outputs o ejection_output).holder
   pub owned_below : (i : ℕ) → i < size → is_within size (slice_index_or inputs i idle_input).phase ≡ true
-  pub vacant : (i : ℕ) → i < size → has_bit occupied i ≡ false → (slice_index_or inputs i idle_input).packet ≡ None
+  pub owner_below : (i o : ℕ) → o < size → is_owned_from (slice_index_or outputs o ejection_output).holder i ≡ true → i < size
+  pub vacant : (i : ℕ) → i < size → is_occupied (slice_index_or inputs i idle_input) (slice_index_or buffers i []) ≡ false → (slice_index_or inputs i idle_input).packet ≡ None
   pub owners : (i o : ℕ) → i < size → o < size → owns (slice_index_or inputs i idle_input).phase o ≡ is_owned_from (slice_index_or outputs o ejection_output).holder i
   pub worms : (i : ℕ) → i < size → is_worm_of (slice_index_or inputs i idle_input) (slice_index_or buffers i []) ≡ true
+
+-- what the input channels can go on with: each that holds something is in one of the sets
+pub record AreStanding (size : ℕ) (buffers : List (List Flit)) (inputs : List Input) (outputs : List Output) (s : Standing) : Type 0 where
+  pub heads_below : AreBelow size s.heads
+  pub waiting_below : AreBelow size s.waiting
+  pub starved_below : AreBelow size s.starved
+  pub unsupplied_below : AreBelow size s.unsupplied
+  pub ready_below : AreBelow size s.ready
+  pub heads : (i : ℕ) → i < size → has_bit s.heads i ≡ (is_idle_phase (slice_index_or inputs i idle_input).phase && not (is_empty (slice_index_or buffers i [])))
+  pub waiting : (i : ℕ) → i < size → has_bit s.waiting i ≡ is_waiting (slice_index_or inputs i idle_input).phase
+  pub starved : (i : ℕ) → i < size → has_bit s.starved i ≡ (is_active (slice_index_or inputs i idle_input).phase && is_empty (slice_index_or buffers i []))
+  pub unsupplied : (i : ℕ) → i < size → has_bit s.unsupplied i ≡ (is_active (slice_index_or inputs i idle_input).phase && (not (is_empty (slice_index_or buffers i [])) && not (is_supplied outputs (slice_index_or inputs i idle_input).phase)))
+  pub ready : (i : ℕ) → i < size → has_bit s.ready i ≡ (is_active (slice_index_or inputs i idle_input).phase && (not (is_empty (slice_index_or buffers i [])) && is_supplied outputs (slice_index_or inputs i idle_input).phase))

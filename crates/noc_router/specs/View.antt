@@ -13,7 +13,7 @@ use Rattle.noc_vc.specs.Input.{Input, idle_input, is_idle_phase, is_empty, fits,
 use Rattle.noc_vc.specs.Output.{Output, link_output, ejection_output, is_free, credit_fits, credited, has_credit, held, spent}
 use Rattle.noc_vc.specs.declared.input.InputState.{InputState}
 use Rattle.noc_vc.specs.declared.input.InputState.TheVariants.{Idle, Waiting, Active}
-use Rattle.noc_router.specs.Verdict.{Turns, opening_arbiters, Claim, Unrouted, Waits, Holds, Stand, ask_of, out_of, Round, round_of, verdict_of, is_moved, is_event, column, arbiters_after}
+use Rattle.noc_router.specs.Verdict.{Turns, opening_arbiters, Claim, Unrouted, Waits, Holds, Stand, ask_of, asks_of, out_of, Round, round_of, verdict_of, is_moved, is_event, column, arbiters_after}
 use Rattle.noc_router.specs.declared.verdict.Verdict.{Verdict}
 use Rattle.noc_router.specs.declared.verdict.Verdict.TheVariants.{Empty, Routed, Granted, Moved}
 use Rattle.noc_router.specs.declared.verdict.Finding.{Finding}
@@ -225,6 +225,21 @@ unfoldable pub planned : Routes → View → Decisions
 planned relation v = record {
   round = view_round v;
   findings = tabulate (size_of v.site) (finding_of (view_round v) v);
+  routes = tabulate (size_of v.site) (route_of relation v);
+}
+
+-- what a plan keeps of it: the packet of each channel and its output channel are those of the view
+pub record Outcome : Type 0 where
+  pub round : Round
+  pub asks : List (Option ℕ)  -- for each input channel, the output channel that it asks for
+  pub verdicts : List Verdict
+  pub routes : List ℕ
+
+unfoldable pub outcome : Routes → View → Outcome
+outcome relation v = record {
+  round = view_round v;
+  asks = asks_of (view_stands v);
+  verdicts = tabulate (size_of v.site) (λ i. (finding_of (view_round v) v i).verdict);
   routes = tabulate (size_of v.site) (route_of relation v);
 }
 

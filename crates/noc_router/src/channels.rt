@@ -1,6 +1,6 @@
 //! The buffers, input channels and output channels of one router.
 
-ghost use Rattle.std.specs.Prelude.{◌≡◌, ◌≢◌, ℕ, ◌≤◌, ◌<◌, ◌-◌, ◌++◌, ◌&&◌, find, true, false, None, IfOk, IfSome, IfNone, IsTrue, ◌↔◌, is_some, length, nat_lt, ◌⊎◌, Some, slice_get, slice_set, unwrap_or, vec_len, if◌then◌else◌, replicate};
+ghost use Rattle.std.specs.Prelude.{◌≡◌, ◌≢◌, ℕ, ◌≤◌, ◌<◌, ◌-◌, ◌++◌, ◌&&◌, find, true, false, None, IfOk, IfSome, is_some, length, nat_lt, ◌⊎◌, Some, slice_get, slice_index_or, slice_set, unwrap_or, vec_len, if◌then◌else◌, replicate};
 ghost use Rattle.noc_topo.specs.Shape.{nodes as nodes_of, ports as ports_of};
 ghost use Rattle.noc_topo.specs.Words.{below};
 ghost use Rattle.noc_packet.specs.Set.{has_bit};
@@ -8,20 +8,43 @@ ghost use Rattle.noc_ring.specs.Rings.{empty_rings, ring_at, pushed, popped};
 ghost use Rattle.noc_vc.specs.Input.{idle_input, is_idle_phase, is_waiting, is_empty, fits, landed, routed, granted, sent};
 ghost use Rattle.noc_vc.specs.Output.{ejection_output, link_output, is_free, is_owned, has_credit, credit_fits, credited, held, spent};
 ghost use Rattle.noc_router.specs.Members.{AreBelow, is_within};
-ghost use Rattle.noc_router.specs.Sound.{input_at, output_at, is_occupied, is_awaiting, KeepsAwaiting, AreSound};
+ghost use Rattle.noc_router.specs.Sound.{input_at, output_at, is_occupied, is_awaiting, KeepsAwaiting, AreSound, AreStanding, asked_in, named};
 
+use crate::indices::Indices;
+use crate::plan::Plan;
+use crate::verdict::{Finding, Verdict};
 use noc_packet::{ChannelSet, Flit, Memory};
 use noc_ring::Bank;
 use noc_route::Relation;
 use noc_vc::{InputChannel, InputState, Misfit, OutputChannel, OutputState};
 use std::alloc::Global;
 
+/// What the input channels of a router that hold something can go on with, by the state of their packet.
+#[derive(Clone, Copy)]
+pub(crate) struct Standing {
+    // A head that is not routed.
+    pub(crate) heads: ChannelSet,
+    // A packet that waits for an output channel.
+    pub(crate) waiting: ChannelSet,
+    // A packet that owns one, whose next flit is not there.
+    pub(crate) starved: ChannelSet,
+    // .. whose next flit is there, where the output channel has no credit.
+    pub(crate) unsupplied: ChannelSet,
+    // .. where it has one.
+    pub(crate) ready: ChannelSet,
+}
+
 /// The channels of one router, by index: port * V + virtual channel.
 #[derive(Drop)]
 pub(crate) struct Channels {
     size: usize,
-    // The input channels that hold a packet or a flit, and the output channels that are idle.
-    occupied: ChannelSet,
+    // The input channels whose buffer holds a flit, whose packet waits for an output channel, whose packet owns one, and
+    // of the last those whose output channel has a credit.
+    filled: ChannelSet,
+    waiting: ChannelSet,
+    active: ChannelSet,
+    supplied: ChannelSet,
+    // The output channels that are idle.
     idle: ChannelSet,
     bank: Bank,
     inputs: Vec<InputChannel>,
@@ -31,7 +54,7 @@ pub(crate) struct Channels {
     ghost an_input_each: { vec_len inputs ≡ size },
     ghost an_output_each: { vec_len outputs ≡ size },
     ghost some_place: { 0 < bank.capacity },
-    ghost sound: { AreSound size occupied idle bank.rings inputs.items outputs.items },
+    ghost sound: { AreSound size (record { filled = filled; waiting = waiting; active = active; supplied = supplied; idle = idle }) bank.rings inputs.items outputs.items },
 }
 
 impl Channels {
@@ -61,7 +84,10 @@ impl Channels {
         outputs.resize(size, OutputChannel::ejection())?;
         Ok(Channels {
             size,
-            occupied: ChannelSet::empty(),
+            filled: ChannelSet::empty(),
+            waiting: ChannelSet::empty(),
+            active: ChannelSet::empty(),
+            supplied: ChannelSet::empty(),
             idle: all_channels(size),
             bank,
             inputs,
@@ -75,7 +101,21 @@ impl Channels {
         ensures members { (i : ℕ) → i < self.now.size → has_bit result i ≡ is_occupied (input_at self.now.inputs.items i) (ring_at self.now.bank i) }
         ensures vacant { (i : ℕ) → i < self.now.size → has_bit result i ≡ false → (input_at self.now.inputs.items i).packet ≡ None }
     {
-        self.occupied
+        self.filled.either(self.waiting).either(self.active)
+    }
+
+    // What the input channels that hold something can go on with.
+    pub(crate) fn standing(&self) -> Standing
+        ensures { AreStanding self.now.size self.now.bank.rings self.now.inputs.items self.now.outputs.items result }
+    {
+        let sendable = self.active.both(self.filled);
+        Standing {
+            heads: self.filled.less(self.waiting).less(self.active),
+            waiting: self.waiting,
+            starved: self.active.less(self.filled),
+            unsupplied: sendable.less(self.supplied),
+            ready: sendable.both(self.supplied),
+        }
     }
 
     // A flit comes to an input channel, which is virtual channel `vc` of an input port of this router. False where it
@@ -103,7 +143,7 @@ impl Channels {
         let input = &mut self.inputs[index];
         match input.land(&mut self.bank, index, relation, router, port, vc, flit) {
             Ok(()) => {
-                self.occupied = self.occupied.with(index);
+                self.filled = self.filled.with(index);
                 true
             }
             Err(Misfit) => false,
@@ -123,7 +163,7 @@ impl Channels {
         ensures places { self.new.bank.capacity ≡ self.old.bank.capacity }
     {
         self.inputs[index].inject(&mut self.bank, index, flit);
-        self.occupied = self.occupied.with(index);
+        self.filled = self.filled.with(index);
     }
 
     // A credit arrives at an output channel. False where it does not fit, and then nothing has changed.
@@ -137,9 +177,15 @@ impl Channels {
         ensures places { self.new.bank.capacity ≡ self.old.bank.capacity }
     {
         let output = &mut self.outputs[index];
-        let taken = output.credit_back().is_ok();
-        self.idle = marked(self.idle, index, is_idle(output));
-        taken
+        if output.credit_back().is_err() {
+            return false;
+        }
+        match output.state() {
+            OutputState::Idle => self.idle = self.idle.with(index),
+            OutputState::Owned(input, _) => self.supplied = self.supplied.with(input),
+            OutputState::Draining => {}
+        }
+        true
     }
 
     // The state of an input channel.
@@ -151,20 +197,50 @@ impl Channels {
         self.inputs[index].state()
     }
 
+    // The output channel that a waiting input channel asks for: the least of the idle ones in its set.
+    pub(crate) fn asked(&self, index: usize) -> Option<usize>
+        requires { index < self.now.size }
+        ensures value { result ≡ asked_in self.now.size self.now.outputs.items (input_at self.now.inputs.items index).phase }
+        ensures within { IfSome result (λ output. output < self.now.size) }
+    {
+        match self.inputs[index].state() {
+            InputState::Waiting(set) => self.least_idle(set),
+            _ => None,
+        }
+    }
+
+    // What is found of an input channel with this verdict, by a plan of these channels.
+    pub(crate) fn finding(
+        &self,
+        indices: &Indices,
+        plan: &Plan,
+        index: usize,
+        verdict: Verdict,
+    ) -> Finding
+        requires index { index < self.now.size }
+        requires indices { indices.now.size ≡ self.now.size }
+        requires asks { length plan.now.asks ≡ self.now.size }
+        ensures { result ≡ named indices.now.vcs (input_at self.now.inputs.items index) verdict (slice_index_or plan.now.asks index None) }
+    {
+        let input = &self.inputs[index];
+        let out = match input.state() {
+            InputState::Idle => None,
+            InputState::Waiting(_) => plan.ask(index),
+            InputState::Active(next) => Some(next),
+        };
+        Finding {
+            verdict,
+            packet: input.packet(),
+            out: out.map(|next| indices.place(next)),
+        }
+    }
+
     // The least of the idle output channels in a set.
     pub(crate) fn least_idle(&self, set: ChannelSet) -> Option<usize>
         ensures value { result ≡ find (λ o. has_bit set o && is_free (output_at self.now.outputs.items o).holder) (below self.now.size) }
         ensures within { IfSome result (λ output. output < self.now.size) }
     {
         set.least_common(&self.idle)
-    }
-
-    // Whether an output channel has a credit, as an ejection channel always has.
-    pub(crate) fn has_credit(&self, index: usize) -> bool
-        requires { index < self.now.size }
-        ensures { result ≡ has_credit (output_at self.now.outputs.items index) }
-    {
-        self.outputs[index].credit() != Some(0)
     }
 
     // Whether the buffer of an input channel has room for a flit.
@@ -191,36 +267,30 @@ impl Channels {
         self.bank.front(index)
     }
 
-    // The packet of an input channel: that of the head that landed, until its tail has left.
-    pub(crate) fn packet(&self, index: usize) -> Option<u32>
-        requires { index < self.now.size }
-        ensures { result ≡ (input_at self.now.inputs.items index).packet }
-    {
-        self.inputs[index].packet()
-    }
-
     // The head in the buffer of an idle input channel gets its set of output channels.
     pub(crate) fn route(&mut self, index: usize, set: ChannelSet)
-        requires { index < self.old.size }
-        ensures inputs { (input_at self.old.inputs.items index).phase ≡ InputState.Idle → 0 < length (ring_at self.old.bank index) → self.new.inputs.items ≡ slice_set self.old.inputs.items index (routed (input_at self.old.inputs.items index) set) }
+        requires exists { index < self.old.size }
+        requires idle { (input_at self.old.inputs.items index).phase ≡ InputState.Idle }
+        requires head { 0 < length (ring_at self.old.bank index) }
+        ensures inputs { self.new.inputs.items ≡ slice_set self.old.inputs.items index (routed (input_at self.old.inputs.items index) set) }
         ensures bank { self.new.bank ≡ self.old.bank }
         ensures outputs { self.new.outputs.items ≡ self.old.outputs.items }
         ensures size { self.new.size ≡ self.old.size }
         ensures places { self.new.bank.capacity ≡ self.old.bank.capacity }
         ensures awaits { KeepsAwaiting self.old.inputs.items self.new.inputs.items }
     {
-        let input = &mut self.inputs[index];
-        if input.state() == InputState::Idle && self.bank.len(index) > 0 {
-            input.route(set);
-        }
+        self.inputs[index].route(set);
+        self.waiting = self.waiting.with(index);
     }
 
     // A waiting input channel gets an idle output channel.
     pub(crate) fn grant(&mut self, index: usize, next: usize)
         requires input { index < self.old.size }
         requires output { next < self.old.size }
-        ensures inputs { is_waiting (input_at self.old.inputs.items index).phase ≡ true → is_free (output_at self.old.outputs.items next).holder ≡ true → self.new.inputs.items ≡ slice_set self.old.inputs.items index (granted (input_at self.old.inputs.items index) next) }
-        ensures outputs { is_waiting (input_at self.old.inputs.items index).phase ≡ true → is_free (output_at self.old.outputs.items next).holder ≡ true → self.new.outputs.items ≡ slice_set self.old.outputs.items next (held (output_at self.old.outputs.items next) index (unwrap_or (input_at self.old.inputs.items index).packet 0)) }
+        requires waits { is_waiting (input_at self.old.inputs.items index).phase ≡ true }
+        requires free { is_free (output_at self.old.outputs.items next).holder ≡ true }
+        ensures inputs { self.new.inputs.items ≡ slice_set self.old.inputs.items index (granted (input_at self.old.inputs.items index) next) }
+        ensures outputs { self.new.outputs.items ≡ slice_set self.old.outputs.items next (held (output_at self.old.outputs.items next) index (unwrap_or (input_at self.old.inputs.items index).packet 0)) }
         ensures bank { self.new.bank ≡ self.old.bank }
         ensures size { self.new.size ≡ self.old.size }
         ensures places { self.new.bank.capacity ≡ self.old.bank.capacity }
@@ -228,36 +298,16 @@ impl Channels {
     {
         let input = &mut self.inputs[index];
         let output = &mut self.outputs[next];
-        if let (InputState::Waiting(_), OutputState::Idle) = (input.state(), output.state()) {
-            output.hold(index, input.packet().unwrap_or(0));
-            input.grant(next);
-            self.idle = self.idle.without(next);
-        }
+        output.hold(index, input.packet().unwrap_or(0));
+        input.grant(next);
+        self.idle = self.idle.without(next);
+        self.waiting = self.waiting.without(index);
+        self.active = self.active.with(index);
+        self.supplied = marked(self.supplied, index, output.credit() != Some(0));
     }
 
-    // The first flit of an active input channel leaves by its output channel, where that has a credit.
-    pub(crate) fn send(&mut self, index: usize, next: usize) -> Option<Flit>
-        requires input { index < self.old.size }
-        requires output { next < self.old.size }
-        ensures value { (input_at self.old.inputs.items index).phase ≡ InputState.Active next → has_credit (output_at self.old.outputs.items next) ≡ true → result ≡ slice_get (ring_at self.old.bank index) 0 }
-        ensures bank { self.new.bank ≡ (if is_some result then popped self.old.bank index else self.old.bank) }
-        ensures inputs { IfSome result (λ flit. self.new.inputs.items ≡ slice_set self.old.inputs.items index (sent (input_at self.old.inputs.items index) flit)) }
-        ensures outputs { IfSome result (λ flit. self.new.outputs.items ≡ slice_set self.old.outputs.items next (spent flit.last (output_at self.old.outputs.items next))) }
-        ensures inputs_stay { IfNone result (self.new.inputs.items ≡ self.old.inputs.items) }
-        ensures outputs_stay { IfNone result (self.new.outputs.items ≡ self.old.outputs.items) }
-        ensures size { self.new.size ≡ self.old.size }
-        ensures places { self.new.bank.capacity ≡ self.old.bank.capacity }
-        ensures awaits { KeepsAwaiting self.old.inputs.items self.new.inputs.items }
-    {
-        let is_owner = self.inputs[index].state() == InputState::Active(next);
-        if !is_owner || self.bank.len(index) == 0 || !self.has_credit(next) {
-            return None;
-        }
-        Some(self.send_front(index, next))
-    }
-
-    // The first flit of an input channel leaves by the output channel that its packet owns.
-    fn send_front(&mut self, index: usize, next: usize) -> Flit
+    // The first flit of an input channel leaves by the output channel that its packet owns, which has a credit.
+    pub(crate) fn send(&mut self, index: usize, next: usize) -> Flit
         requires input { index < self.old.size }
         requires output { next < self.old.size }
         requires owned { (input_at self.old.inputs.items index).phase ≡ InputState.Active next }
@@ -268,13 +318,17 @@ impl Channels {
         ensures inputs { self.new.inputs.items ≡ slice_set self.old.inputs.items index (sent (input_at self.old.inputs.items index) result) }
         ensures outputs { self.new.outputs.items ≡ slice_set self.old.outputs.items next (spent result.last (output_at self.old.outputs.items next)) }
         ensures size { self.new.size ≡ self.old.size }
+        ensures places { self.new.bank.capacity ≡ self.old.bank.capacity }
         ensures awaits { KeepsAwaiting self.old.inputs.items self.new.inputs.items }
     {
         let flit = self.inputs[index].send(&mut self.bank, index);
         let output = &mut self.outputs[next];
         spend(output, flit.last);
-        self.occupied = marked(self.occupied, index, !flit.last);
+        let supplied = !flit.last && output.credit() != Some(0);
         self.idle = marked(self.idle, next, is_idle(output));
+        self.filled = marked(self.filled, index, self.bank.len(index) > 0);
+        self.active = marked(self.active, index, !flit.last);
+        self.supplied = marked(self.supplied, index, supplied);
         flit
     }
 }

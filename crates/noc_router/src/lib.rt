@@ -4,7 +4,6 @@
 mod arbiters;
 mod arrivals;
 mod channels;
-mod findings;
 mod indices;
 mod links;
 mod plan;
@@ -13,6 +12,7 @@ mod router;
 mod source;
 mod tally;
 mod verdict;
+mod verdict_sets;
 
 pub use plan::Plan;
 pub use router::Router;

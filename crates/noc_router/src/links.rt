@@ -90,11 +90,11 @@ impl Links {
         self.beats[port].credit = Some(vc);
     }
 
-    // Whether no beat but idle ones is still to be put.
-    pub(crate) fn are_clear(&self) -> bool
-        ensures { IsTrue result ↔ ((k : ℕ) → has_bit self.now.loaded k ≡ false) }
+    // The ports whose beat is not idle.
+    pub(crate) fn loaded(&self) -> ChannelSet
+        ensures { result ≡ self.now.loaded }
     {
-        self.loaded.is_empty()
+        self.loaded
     }
 
     // The beat of a port, which leaves an idle one.

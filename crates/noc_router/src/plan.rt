@@ -1,39 +1,39 @@
 //! What one router decides in one cycle.
 
-ghost use Rattle.std.specs.Prelude.{◌≡◌, ℕ, ◌*◌, ◌<◌, IfOk, length, slice_index_or};
+ghost use Rattle.std.specs.Prelude.{◌≡◌, ℕ, ◌<◌, IfOk, IfSome, length, slice_index, slice_index_or, None};
 ghost use Rattle.noc_topo.specs.Shape.{ports as ports_of};
+ghost use Rattle.noc_packet.specs.Set.{has_bit};
 ghost use Rattle.noc_router.specs.Asked.{turns_in};
-ghost use Rattle.noc_router.specs.Decided.{IsDecidedFor, no_decisions};
-ghost use Rattle.noc_router.specs.Found.{AreEvents};
+ghost use Rattle.noc_router.specs.Decided.{IsDecidedFor, no_outcome};
 ghost use Rattle.noc_router.specs.Requests.{AllBelow};
-ghost use Rattle.noc_router.specs.Verdict.{arbiters_after};
+ghost use Rattle.noc_router.specs.declared.verdict.Verdict.TheVariants.{Empty};
+ghost use Rattle.noc_router.specs.Verdict.{arbiters_after, is_event, is_granted, is_moved};
 
 use crate::arbiters::Arbiters;
-use crate::findings::Findings;
 use crate::requests::Requests;
-use crate::verdict::Finding;
+use crate::verdict_sets::VerdictSets;
 use noc_packet::{ChannelSet, Memory};
 use noc_route::Relation;
 use std::alloc::Global;
 use std::marker::Model;
 
-/// What one router's arbiters decide in one cycle, the sets for its heads, and what it finds of each input channel.
+/// What one router's arbiters decide in one cycle, the sets for its heads, and the verdict on each input channel.
 ///
 /// One plan serves all routers of a network, one after the other.
 #[derive(Drop)]
 pub struct Plan {
     pub(crate) requests: Requests,
-    pub(crate) findings: Findings,
+    pub(crate) verdicts: VerdictSets,
 }
 
 impl Model for Plan {
-    ghost use Rattle.noc_router.specs.View.{Decisions};
+    ghost use Rattle.noc_router.specs.View.{Outcome};
 
-    ghost Value = { Decisions };
+    ghost Value = { Outcome };
 
-    ghost use Rattle.noc_router.specs.Planned.{decisions_of, IsPlan};
+    ghost use Rattle.noc_router.specs.Planned.{outcome_in, IsPlan};
 
-    ghost view = { decisions_of };
+    ghost view = { outcome_in };
 
     ghost invariant = { IsPlan };
 }
@@ -41,14 +41,14 @@ impl Model for Plan {
 impl Plan {
     /// A plan without requests, for the routers of this relation's network.
     pub fn new(alloc: Global, relation: &Relation) -> Result<Plan, Memory>
-        ensures value { IfOk result (λ plan. plan ≡ no_decisions (ports_of relation.now.grid) relation.now.vcs) }
+        ensures value { IfOk result (λ plan. plan ≡ no_outcome (ports_of relation.now.grid) relation.now.vcs) }
         ensures lengths { IfOk result (IsDecidedFor (ports_of relation.now.grid) relation.now.vcs) }
     {
         let ports = relation.shape().ports();
         let size = ports * relation.vcs();
         Ok(Plan {
             requests: Requests::new(alloc, ports, size)?,
-            findings: Findings::new(alloc, size)?,
+            verdicts: VerdictSets::empty(),
         })
     }
 
@@ -65,16 +65,41 @@ impl Plan {
 
     // The input channels whose verdict takes effect.
     pub(crate) fn events(&self) -> ChannelSet
-        ensures { AreEvents result self.now.findings }
+        ensures { (k : ℕ) → has_bit result k ≡ is_event (slice_index_or self.now.verdicts k Empty) }
     {
-        self.findings.events()
+        self.verdicts.events()
     }
 
-    // What was found of an input channel.
-    pub(crate) fn finding(&self, index: usize) -> Finding
-        requires { index < length self.now.findings }
-        ensures { result ≡ slice_index_or self.now.findings index result }
+    // Whether the verdict on an input channel is Moved.
+    pub(crate) fn is_moved(&self, index: usize) -> bool
+        requires { index < length self.now.verdicts }
+        ensures { result ≡ is_moved (slice_index_or self.now.verdicts index Empty) }
     {
-        self.findings.at(index)
+        self.verdicts.moved.contains(index)
+    }
+
+    // .. is Granted.
+    pub(crate) fn is_granted(&self, index: usize) -> bool
+        requires { index < length self.now.verdicts }
+        ensures { result ≡ is_granted (slice_index_or self.now.verdicts index Empty) }
+    {
+        !self.verdicts.moved.contains(index) && self.verdicts.granted.contains(index)
+    }
+
+    // The output channel that an input channel asks for.
+    pub(crate) fn ask(&self, index: usize) -> Option<usize>
+        requires { index < length self.now.asks }
+        ensures value { result ≡ slice_index_or self.now.asks index None }
+        ensures within { IfSome result (λ output. output < length self.now.asks) }
+    {
+        self.requests.ask(index)
+    }
+
+    // The set for the head of an input channel.
+    pub(crate) fn route(&self, index: usize) -> ChannelSet
+        requires { index < length self.now.routes }
+        ensures { result ≡ slice_index self.now.routes index }
+    {
+        self.requests.route(index)
     }
 }

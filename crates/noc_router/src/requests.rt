@@ -1,13 +1,17 @@
 //! The requests of one router's input channels in one cycle, and what its arbiters decide on them.
 
-ghost use Rattle.std.specs.Prelude.{◌≡◌, ◌*◌, ◌<◌, ◌≤◌, IfOk, IfSome, true, Some, None, length, replicate, slice_index_or, slice_set, vec_len};
+ghost use Rattle.std.specs.Prelude.{◌≡◌, ℕ, ◌*◌, ◌<◌, ◌≤◌, IfOk, IfSome, List, Option, true, Some, None, is_some, length, replicate, slice_index_or, slice_set, vec_len};
 ghost use Rattle.noc_topo.specs.Words.{is_some_of};
+ghost use Rattle.noc_alloc.specs.Allocation.{picked_port};
 ghost use Rattle.noc_packet.specs.Set.{has_bit};
 ghost use Rattle.noc_router.specs.Members.{AreBelow};
-ghost use Rattle.noc_router.specs.Requests.{AllBelow, AreContending, AreQuiet};
+ghost use Rattle.noc_router.specs.Requests.{AllBelow, AreQuiet, is_given};
 
 use crate::arbiters::Arbiters;
-use noc_alloc::{Places, advance_channels, advance_switch, allocate_channels, allocate_switch};
+use crate::channels::marked;
+use noc_alloc::{
+    Places, advance_channels, advance_switch, allocate_channels, pick_channels, win_ports,
+};
 use noc_packet::{ChannelSet, Memory};
 use std::alloc::Global;
 
@@ -19,11 +23,9 @@ pub(crate) struct Requests {
     // The input channels whose head may get a set, and by input channel that set.
     routed: ChannelSet,
     routes: Vec<ChannelSet>,
-    // By input channel the output channel that it asks for, and the output port that it is ready for.
+    // By input channel the output channel that it asks for, and by input port the output port to which its pick goes.
     asks: Places,
-    ready: Places,
-    // The input channels that do either.
-    contending: ChannelSet,
+    goes: Places,
     // By output channel the input channel, by input port the virtual channel, by output port the input port.
     grants: Places,
     picks: Places,
@@ -32,21 +34,20 @@ pub(crate) struct Requests {
     ghost few: { size ≤ 56 },
     ghost a_route_each: { vec_len routes ≡ size },
     ghost an_ask_each: { length asks ≡ size },
-    ghost a_port_each: { length ready ≡ size },
+    ghost a_way_each: { length goes ≡ ports },
     ghost a_grant_each: { length grants ≡ size },
     ghost a_pick_each: { length picks ≡ ports },
     ghost a_win_each: { length wins ≡ ports },
     ghost routed_below: { AreBelow size routed },
     ghost quiet_routes: { AreQuiet routed 0 routes.items },
-    ghost contends: { AreContending contending asks ready },
     ghost asks_for_channels: { AllBelow size asks },
-    ghost ready_for_ports: { AllBelow ports ready },
+    ghost goes_to_ports: { AllBelow ports goes },
     ghost granted_to_channels: { AllBelow size grants },
     ghost won_by_ports: { AllBelow ports wins },
 }
 
 impl Requests {
-    ghost use Rattle.noc_router.specs.Asked.{no_round, round_in, round_on, turns_in};
+    ghost use Rattle.noc_router.specs.Asked.{grants_on, no_round, picks_on, round_in, turns_in, wins_on};
     ghost use Rattle.noc_router.specs.Verdict.{arbiters_after};
 
     // No requests, for routers with so many ports, and so many channels in and out.
@@ -56,6 +57,7 @@ impl Requests {
         ensures ports { IfOk result (λ requests. requests.ports ≡ ports) }
         ensures size { IfOk result (λ requests. requests.size ≡ size) }
         ensures routes { IfOk result (λ requests. requests.routes.items ≡ replicate size 0) }
+        ensures asks { IfOk result (λ requests. requests.asks ≡ replicate size None) }
         ensures round { IfOk result (λ requests. round_in requests ≡ no_round ports size) }
     {
         Ok(Requests {
@@ -64,8 +66,7 @@ impl Requests {
             routed: ChannelSet::empty(),
             routes: vec![in alloc; ChannelSet::empty(); size]?,
             asks: Places::new(alloc, size)?,
-            ready: Places::new(alloc, size)?,
-            contending: ChannelSet::empty(),
+            goes: Places::new(alloc, ports)?,
             grants: Places::new(alloc, size)?,
             picks: Places::new(alloc, ports)?,
             wins: Places::new(alloc, ports)?,
@@ -78,14 +79,13 @@ impl Requests {
         ensures size { self.new.size ≡ self.old.size }
         ensures routes { self.new.routes.items ≡ replicate self.old.size 0 }
         ensures asks { self.new.asks ≡ replicate self.old.size None }
-        ensures ready { self.new.ready ≡ replicate self.old.size None }
+        ensures goes { self.new.goes ≡ replicate self.old.ports None }
     {
         while let Some(index) = self.routed.least_common(&self.routed) {
             self.forget(index);
         }
         self.asks.clear();
-        self.ready.clear();
-        self.contending = ChannelSet::empty();
+        self.goes.clear();
     }
 
     // The head of an input channel gets no set.
@@ -106,7 +106,7 @@ impl Requests {
         ensures size { self.new.size ≡ self.old.size }
         ensures routes { self.new.routes.items ≡ slice_set self.old.routes.items index set }
         ensures asks { self.new.asks ≡ self.old.asks }
-        ensures ready { self.new.ready ≡ self.old.ready }
+        ensures goes { self.new.goes ≡ self.old.goes }
     {
         self.routed = self.routed.with(index);
         self.routes[index] = set;
@@ -120,82 +120,70 @@ impl Requests {
         ensures size { self.new.size ≡ self.old.size }
         ensures routes { self.new.routes.items ≡ self.old.routes.items }
         ensures asks { self.new.asks ≡ slice_set self.old.asks index (Some output) }
-        ensures ready { self.new.ready ≡ self.old.ready }
+        ensures goes { self.new.goes ≡ self.old.goes }
     {
         self.asks.set(index, Some(output));
-        self.contending = self.contending.with(index);
-    }
-
-    // An input channel is ready to send by an output port.
-    pub(crate) fn add_ready(&mut self, index: usize, port: usize)
-        requires input { index < self.old.size }
-        requires port { port < self.old.ports }
-        ensures ports { self.new.ports ≡ self.old.ports }
-        ensures size { self.new.size ≡ self.old.size }
-        ensures routes { self.new.routes.items ≡ self.old.routes.items }
-        ensures asks { self.new.asks ≡ self.old.asks }
-        ensures ready { self.new.ready ≡ slice_set self.old.ready index (Some port) }
-    {
-        self.ready.set(index, Some(port));
-        self.contending = self.contending.with(index);
-    }
-
-    // The arbiters decide on the requests.
-    pub(crate) fn decide(&mut self, arbiters: &Arbiters)
-        requires ports { arbiters.now.ports ≡ self.old.ports }
-        requires size { arbiters.now.ports * arbiters.now.vcs ≡ self.old.size }
-        ensures ports { self.new.ports ≡ self.old.ports }
-        ensures size { self.new.size ≡ self.old.size }
-        ensures routes { self.new.routes.items ≡ self.old.routes.items }
-        ensures asks { self.new.asks ≡ self.old.asks }
-        ensures ready { self.new.ready ≡ self.old.ready }
-        ensures round { round_in self.new ≡ round_on arbiters.now.ports arbiters.now.vcs self.old.asks self.old.ready (turns_in arbiters.now) }
-        ensures picks { AllBelow arbiters.now.vcs (round_in self.new).picks }
-    {
-        self.decide_channels(arbiters);
-        self.decide_switch(arbiters);
     }
 
     // The arbiters of the output channels decide on the requests.
-    fn decide_channels(&mut self, arbiters: &Arbiters)
+    pub(crate) fn grant_all(&mut self, arbiters: &Arbiters)
         requires size { arbiters.now.ports * arbiters.now.vcs ≡ self.old.size }
         ensures ports { self.new.ports ≡ self.old.ports }
         ensures size { self.new.size ≡ self.old.size }
         ensures routes { self.new.routes.items ≡ self.old.routes.items }
         ensures asks { self.new.asks ≡ self.old.asks }
-        ensures ready { self.new.ready ≡ self.old.ready }
-        ensures granted { (round_in self.new).grants ≡ (round_on arbiters.now.ports arbiters.now.vcs self.old.asks self.old.ready (turns_in arbiters.now)).grants }
+        ensures goes { self.new.goes ≡ self.old.goes }
+        ensures grants { (round_in self.new).grants ≡ grants_on arbiters.now.ports arbiters.now.vcs self.old.asks (turns_in arbiters.now) }
     {
         allocate_channels(&self.asks, &arbiters.channels, &mut self.grants);
     }
 
-    // The arbiters of the switch decide on the requests.
-    fn decide_switch(&mut self, arbiters: &Arbiters)
+    // Each input port picks one of its channels that are ready to send.
+    pub(crate) fn pick(&mut self, ready: ChannelSet, arbiters: &Arbiters)
         requires ports { arbiters.now.ports ≡ self.old.ports }
         requires size { arbiters.now.ports * arbiters.now.vcs ≡ self.old.size }
         ensures ports { self.new.ports ≡ self.old.ports }
         ensures size { self.new.size ≡ self.old.size }
         ensures routes { self.new.routes.items ≡ self.old.routes.items }
         ensures asks { self.new.asks ≡ self.old.asks }
-        ensures ready { self.new.ready ≡ self.old.ready }
+        ensures goes { self.new.goes ≡ self.old.goes }
         ensures grants { (round_in self.new).grants ≡ (round_in self.old).grants }
-        ensures picked { (round_in self.new).picks ≡ (round_on arbiters.now.ports arbiters.now.vcs self.old.asks self.old.ready (turns_in arbiters.now)).picks }
-        ensures won { (round_in self.new).wins ≡ (round_on arbiters.now.ports arbiters.now.vcs self.old.asks self.old.ready (turns_in arbiters.now)).wins }
-        ensures picks { AllBelow arbiters.now.vcs (round_in self.new).picks }
+        ensures picks { (asked : List (Option ℕ)) → ((k : ℕ) → has_bit ready k ≡ is_some (slice_index_or asked k None)) → (round_in self.new).picks ≡ picks_on arbiters.now.ports arbiters.now.vcs asked (turns_in arbiters.now) }
+        ensures within { AllBelow arbiters.now.vcs (round_in self.new).picks }
     {
-        if self.ready.filled().is_empty() {
+        if ready.is_empty() {
             self.picks.clear();
-            self.wins.clear();
             return;
         }
-        allocate_switch(
-            &self.ready,
-            arbiters.vcs,
-            &arbiters.inputs,
-            &arbiters.outputs,
-            &mut self.picks,
-            &mut self.wins,
-        );
+        pick_channels(ready, arbiters.vcs, &arbiters.inputs, &mut self.picks);
+    }
+
+    // The pick of an input port goes to an output port.
+    pub(crate) fn add_way(&mut self, port: usize, output: usize)
+        requires input { port < self.old.ports }
+        requires output { output < self.old.ports }
+        ensures ports { self.new.ports ≡ self.old.ports }
+        ensures size { self.new.size ≡ self.old.size }
+        ensures routes { self.new.routes.items ≡ self.old.routes.items }
+        ensures asks { self.new.asks ≡ self.old.asks }
+        ensures goes { self.new.goes ≡ slice_set self.old.goes port (Some output) }
+        ensures round { round_in self.new ≡ round_in self.old }
+    {
+        self.goes.set(port, Some(output));
+    }
+
+    // Each output port is won by one of the input ports whose pick goes to it.
+    pub(crate) fn win(&mut self, arbiters: &Arbiters)
+        requires ports { arbiters.now.ports ≡ self.old.ports }
+        ensures ports { self.new.ports ≡ self.old.ports }
+        ensures size { self.new.size ≡ self.old.size }
+        ensures routes { self.new.routes.items ≡ self.old.routes.items }
+        ensures asks { self.new.asks ≡ self.old.asks }
+        ensures grants { (round_in self.new).grants ≡ (round_in self.old).grants }
+        ensures picks { (round_in self.new).picks ≡ (round_in self.old).picks }
+        ensures wins { (ready : List (Option ℕ)) (vcs : ℕ) (picks : List (Option ℕ)) → ((q : ℕ) → slice_index_or self.old.goes q None ≡ picked_port ready vcs picks q) → (round_in self.new).wins ≡ wins_on arbiters.now.ports vcs ready picks (turns_in arbiters.now) }
+    {
+        win_ports(&self.goes, &arbiters.outputs, &mut self.wins);
     }
 
     // The pointers go on past the winners.
@@ -241,12 +229,50 @@ impl Requests {
         );
     }
 
-    // The input channels that ask for an output channel or are ready to send.
-    pub(crate) fn contending(&self) -> ChannelSet
-        ensures members { AreContending result self.now.asks self.now.ready }
-        ensures below { AreBelow self.now.size result }
+    // The input channels that ask for an output channel.
+    pub(crate) fn asking(&self) -> ChannelSet
+        ensures { (k : ℕ) → has_bit result k ≡ is_some (slice_index_or self.now.asks k None) }
     {
-        self.contending
+        self.asks.filled()
+    }
+
+    // The input channels that get the output channel that they ask for.
+    pub(crate) fn granted(&self) -> ChannelSet
+        ensures { (k : ℕ) → has_bit result k ≡ is_given (round_in self.now).grants (slice_index_or self.now.asks k None) k }
+    {
+        let mut granted = ChannelSet::empty();
+        let mut rest = self.asks.filled();
+        while let Some(index) = rest.least_common(&rest) {
+            rest = rest.without(index);
+            granted = marked(granted, index, self.is_granted(index));
+        }
+        granted
+    }
+
+    // Whether an input channel gets the output channel that it asks for.
+    fn is_granted(&self, index: usize) -> bool
+        requires { index < self.now.size }
+        ensures { result ≡ is_given (round_in self.now).grants (slice_index_or self.now.asks index None) index }
+    {
+        match self.asks.get(index) {
+            Some(output) => self.grants.get(output) == Some(index),
+            None => false,
+        }
+    }
+
+    // The input ports that picked a channel.
+    pub(crate) fn picking(&self) -> ChannelSet
+        ensures { (q : ℕ) → has_bit result q ≡ is_some (slice_index_or (round_in self.now).picks q None) }
+    {
+        self.picks.filled()
+    }
+
+    // The virtual channel that an input port picked.
+    pub(crate) fn picked(&self, port: usize) -> Option<usize>
+        requires { port < self.now.ports }
+        ensures { result ≡ slice_index_or (round_in self.now).picks port None }
+    {
+        self.picks.get(port)
     }
 
     // The set for the head of an input channel.
@@ -264,22 +290,6 @@ impl Requests {
         ensures within { IfSome result (λ output. output < self.now.size) }
     {
         self.asks.get(index)
-    }
-
-    // Whether an output channel goes to an input channel that asks for it.
-    pub(crate) fn is_granted(&self, index: usize, output: usize) -> bool
-        requires { output < self.now.size }
-        ensures { result ≡ is_some_of (slice_index_or (round_in self.now).grants output None) index }
-    {
-        self.grants.get(output) == Some(index)
-    }
-
-    // Whether an input port picked one of its virtual channels that is ready.
-    pub(crate) fn is_picked(&self, port: usize, vc: usize) -> bool
-        requires { port < self.now.ports }
-        ensures { result ≡ is_some_of (slice_index_or (round_in self.now).picks port None) vc }
-    {
-        self.picks.get(port) == Some(vc)
     }
 
     // Whether an output port goes to an input port.

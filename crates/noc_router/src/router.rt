@@ -1,11 +1,12 @@
 //! The router.
 
-ghost use Rattle.std.specs.List.{list_all};
 ghost use Rattle.std.specs.List.Sorted.{IsStrictlyIncreasing};
-ghost use Rattle.std.specs.Prelude.{◌≡◌, ◌+◌, ◌*◌, ◌<◌, ◌≤◌, All, IfOk, IfSome, Some, true, ◌⊎◌, length, ℕ, Bool, not, ◌||◌, is_some, option_map, None, replicate, slice_index_or, slice_set, [], false, if◌then◌else◌};
-ghost use Rattle.noc_topo.specs.Shape.{nodes as nodes_of, ports as ports_of, local_port, neighbour as neighbour_of};
+ghost use Rattle.std.specs.Prelude.{◌≡◌, ◌+◌, ◌*◌, ◌<◌, ◌≤◌, All, IfOk, IfSome, Some, true, ◌⊎◌, length, ℕ, Bool, not, ◌&&◌, None, replicate, slice_index_or, [], false, if◌then◌else◌};
+ghost use Rattle.noc_topo.specs.Shape.{IsGrid, nodes as nodes_of, ports as ports_of, local_port, neighbour as neighbour_of};
 ghost use Rattle.noc_topo.specs.Words.{tabulate};
-ghost use Rattle.noc_vc.specs.Input.{is_empty};
+ghost use Rattle.noc_alloc.specs.Allocation.{picked_port};
+ghost use Rattle.noc_router.specs.Members.{AreBelow};
+ghost use Rattle.noc_vc.specs.Input.{is_active, is_empty};
 ghost use Rattle.noc_vc.specs.Output.{has_credit};
 ghost use Rattle.noc_router.specs.Arrivals.{arrival_in};
 ghost use Rattle.noc_router.specs.Asked.{no_round, round_in};
@@ -13,25 +14,29 @@ ghost use Rattle.noc_router.specs.Decided.{IsDecidedFor};
 ghost use Rattle.noc_router.specs.Found.{empty_finding};
 ghost use Rattle.noc_router.specs.Injection.{next_vc, vacant_vc};
 ghost use Rattle.noc_router.specs.Links.{is_idle_beat};
-ghost use Rattle.noc_router.specs.Requests.{AllBelow};
-ghost use Rattle.noc_router.specs.Settled.{IsPlanOf, CanGrant, CanSettle, tallied, settled, settled_by, routed_at, granted_at, moved_by, credit_put, flit_put};
+ghost use Rattle.noc_router.specs.Requests.{AllBelow, AreAmong};
+ghost use Rattle.noc_router.specs.Settled.{IsOutcomeOf, CanGrant, CanTakeEffect, decisions_by, effect_of, outcome_verdict, tallied, settled, routed_at, granted_at, moved_by, credit_put, flit_put};
 ghost use Rattle.noc_router.specs.Sound.{is_awaiting};
+ghost use Rattle.noc_router.specs.Standing.{AreHeads, ArePicks, AreWaiting, IsPickedIn, IsStanding, is_won_from};
+ghost use Rattle.noc_router.specs.VerdictSets.{verdict_by};
+ghost use Rattle.noc_route.specs.Routes.{Routes};
+ghost use Rattle.noc_packet.specs.Set.{has_bit};
 ghost use Rattle.noc_router.specs.Start.{IsStart};
 ghost use Rattle.noc_router.specs.Tally.{finding_at};
-ghost use Rattle.noc_router.specs.Verdict.{Waits, Holds, ask_of, asks_of, out_of, ready_of, ready_port, verdict_of, arbiters_after};
-ghost use Rattle.noc_router.specs.View.{IsRelationOf, local_channel, size_of, view_buffer, opening_view, with_flit, with_credit, taken, all_taken, injected, planned, committed, beat_to_put, put, idle_beats, local_step, finding_of, route_for, route_of, view_claim, view_output, view_stands, first_flit, view_input, port_and_vc, with_arrival};
+ghost use Rattle.noc_router.specs.Verdict.{asks_of, is_event, ready_of, arbiters_after};
+ghost use Rattle.noc_router.specs.View.{IsRelationOf, local_channel, size_of, view_buffer, opening_view, with_flit, with_credit, taken, all_taken, injected, planned, outcome, committed, beat_to_put, put, idle_beats, local_step, finding_of, route_for, route_of, view_claim, view_output, view_stands, first_flit, view_input, port_and_vc, with_arrival};
 
 use crate::arbiters::Arbiters;
 use crate::arrivals::Arrivals;
-use crate::channels::Channels;
-use crate::findings::Findings;
-use crate::indices::{place_of, port_of, vc_of};
+use crate::channels::{Channels, Standing, marked};
+use crate::indices::Indices;
 use crate::links::Links;
 use crate::plan::Plan;
 use crate::requests::Requests;
 use crate::source::Source;
 use crate::tally::Tally;
-use crate::verdict::{Finding, VERDICTS, Verdict};
+use crate::verdict::{Finding, VERDICTS};
+use crate::verdict_sets::VerdictSets;
 use noc_packet::{Beat, ChannelSet, Flit, Memory, Packet};
 use noc_route::Relation;
 use noc_topo::Shape;
@@ -61,6 +66,7 @@ pub struct Router {
     tally: Tally,
     arbiters: Arbiters,
     arrivals: Arrivals,
+    indices: Indices,
     shape: Shape,
 }
 
@@ -114,6 +120,7 @@ impl Router {
             tally: Tally::new(alloc, ports * vcs)?,
             arbiters: Arbiters::new(alloc, ports, vcs)?,
             arrivals: Arrivals::new(alloc, ends)?,
+            indices: Indices::new(alloc, ports * vcs, vcs)?,
             shape,
         })
     }
@@ -220,90 +227,157 @@ impl Router {
     pub fn plan(&self, relation: &Relation, plan: &mut Plan)
         requires relation { IsRelationOf relation.now self.now }
         requires plan { IsDecidedFor (ports_of self.now.site.grid) self.now.site.vcs plan.old }
-        ensures value { plan.new ≡ planned relation.now self.now }
+        ensures value { plan.new ≡ outcome relation.now self.now }
         ensures lengths { IsDecidedFor (ports_of self.now.site.grid) self.now.site.vcs plan.new }
         ensures picks { AllBelow self.now.site.vcs plan.new.round.picks }
     {
+        let standing = self.channels.standing();
         plan.requests.clear();
-        plan.findings.clear();
-        self.request_all(relation, &mut plan.requests, &mut plan.findings);
-        plan.requests.decide(&self.arbiters);
-        self.amend_all(&plan.requests, &mut plan.findings);
+        self.route_heads(relation, standing.heads, &mut plan.requests);
+        self.ask_for_channels(standing.waiting, &mut plan.requests);
+        plan.requests.grant_all(&self.arbiters);
+        plan.requests.pick(standing.ready, &self.arbiters);
+        let picked = self.find_ways(&mut plan.requests);
+        plan.requests.win(&self.arbiters);
+        plan.verdicts = self.verdicts(&standing, picked, &plan.requests);
     }
 
-    // What every input channel asks for, where nothing is asked for yet, and what is found of it while nobody gets anything.
-    fn request_all(&self, relation: &Relation, requests: &mut Requests, findings: &mut Findings)
+    // The sets for the heads that are not routed, where there are none yet.
+    fn route_heads(&self, relation: &Relation, heads: ChannelSet, requests: &mut Requests)
         requires relation { IsRelationOf relation.now self.now }
-        requires ports { requests.old.ports ≡ ports_of self.now.site.grid }
+        requires heads { AreHeads self.now heads }
         requires size { requests.old.size ≡ size_of self.now.site }
-        requires no_routes { requests.old.routes.items ≡ replicate (size_of self.now.site) 0 }
-        requires no_asks { requests.old.asks ≡ replicate (size_of self.now.site) None }
-        requires no_ready { requests.old.ready ≡ replicate (size_of self.now.site) None }
-        requires findings { findings.old.list.items ≡ replicate (size_of self.now.site) empty_finding }
+        requires none { requests.old.routes.items ≡ replicate (size_of self.now.site) 0 }
         ensures ports { requests.new.ports ≡ requests.old.ports }
         ensures size { requests.new.size ≡ requests.old.size }
         ensures routes { requests.new.routes.items ≡ tabulate (size_of self.now.site) (route_of relation.now self.now) }
-        ensures asks { requests.new.asks ≡ asks_of (view_stands self.now) }
-        ensures ready { requests.new.ready ≡ ready_of self.now.site.vcs (view_stands self.now) }
-        ensures findings { findings.new.list.items ≡ tabulate (size_of self.now.site) (finding_of (no_round (ports_of self.now.site.grid) (size_of self.now.site)) self.now) }
+        ensures asks { requests.new.asks ≡ requests.old.asks }
+        ensures goes { requests.new.goes ≡ requests.old.goes }
     {
-        let mut rest = self.channels.occupied();
+        let mut rest = heads;
         while let Some(index) = rest.least_common(&rest) {
             rest = rest.without(index);
-            let (verdict, next) = self.request(relation, requests, index);
-            findings.add(index, self.finding(index, verdict, next));
+            requests.add_route(index, self.route_for(relation, index));
         }
     }
 
-    // What one input channel asks for, where it asks for nothing yet. The answer is its verdict while nobody gets anything,
-    // and the output channel that its packet asks for or owns.
-    fn request(
-        &self,
-        relation: &Relation,
-        requests: &mut Requests,
-        index: usize,
-    ) -> (Verdict, Option<usize>)
+    // The set for the head in the buffer of an input channel.
+    fn route_for(&self, relation: &Relation, index: usize) -> ChannelSet
         requires relation { IsRelationOf relation.now self.now }
-        requires ports { requests.old.ports ≡ ports_of self.now.site.grid }
-        requires size { requests.old.size ≡ size_of self.now.site }
         requires index { index < size_of self.now.site }
-        requires no_route { slice_index_or requests.old.routes.items index 0 ≡ 0 }
-        requires no_ask { slice_index_or requests.old.asks index None ≡ None }
-        requires not_ready { slice_index_or requests.old.ready index None ≡ None }
+        ensures { result ≡ route_for relation.now self.now index (first_flit self.now index) }
+    {
+        match self.channels.front(index) {
+            Some(flit) => self.set_for(relation, index, &flit),
+            None => ChannelSet::empty(),
+        }
+    }
+
+    // What the waiting channels ask for, where nothing is asked for yet.
+    fn ask_for_channels(&self, waiting: ChannelSet, requests: &mut Requests)
+        requires waiting { AreWaiting self.now waiting }
+        requires size { requests.old.size ≡ size_of self.now.site }
+        requires none { requests.old.asks ≡ replicate (size_of self.now.site) None }
         ensures ports { requests.new.ports ≡ requests.old.ports }
         ensures size { requests.new.size ≡ requests.old.size }
-        ensures route { requests.new.routes.items ≡ slice_set requests.old.routes.items index (route_of relation.now self.now index) }
-        ensures ask { requests.new.asks ≡ slice_set requests.old.asks index (ask_of (view_claim self.now index)) }
-        ensures ready { requests.new.ready ≡ slice_set requests.old.ready index (ready_port self.now.site.vcs (view_claim self.now index) (not (is_empty (view_buffer self.now index)))) }
-        ensures verdict { result.0 ≡ verdict_of self.now.site.vcs (no_round (ports_of self.now.site.grid) (size_of self.now.site)) index (view_claim self.now index) (not (is_empty (view_buffer self.now index))) }
-        ensures out { result.1 ≡ out_of (view_claim self.now index) }
+        ensures routes { requests.new.routes.items ≡ requests.old.routes.items }
+        ensures asks { requests.new.asks ≡ asks_of (view_stands self.now) }
+        ensures goes { requests.new.goes ≡ requests.old.goes }
     {
-        let front = self.channels.front(index);
-        match self.channels.state(index) {
-            InputState::Idle => {
-                let Some(flit) = front else {
-                    return (Verdict::Empty, None);
-                };
-                requests.add_route(index, self.set_for(relation, index, &flit));
-                (Verdict::Routed, None)
-            }
-            InputState::Waiting(set) => {
-                let Some(next) = self.channels.least_idle(set) else {
-                    return (Verdict::NoIdleChannel, None);
-                };
+        let mut rest = waiting;
+        while let Some(index) = rest.least_common(&rest) {
+            rest = rest.without(index);
+            if let Some(next) = self.channels.asked(index) {
                 requests.add_ask(index, next);
-                (Verdict::LostChannel, Some(next))
             }
+        }
+    }
+
+    // The output ports to which the picks of the input ports go, where none is known yet. All picks are ready to send; they
+    // are given back as a set of input channels.
+    fn find_ways(&self, requests: &mut Requests) -> ChannelSet
+        requires ports { requests.old.ports ≡ ports_of self.now.site.grid }
+        requires size { requests.old.size ≡ size_of self.now.site }
+        requires none { requests.old.goes ≡ replicate (ports_of self.now.site.grid) None }
+        requires within { AllBelow self.now.site.vcs (round_in requests.old).picks }
+        requires ready { ArePicks self.now (round_in requests.old).picks }
+        ensures ports { requests.new.ports ≡ requests.old.ports }
+        ensures size { requests.new.size ≡ requests.old.size }
+        ensures routes { requests.new.routes.items ≡ requests.old.routes.items }
+        ensures asks { requests.new.asks ≡ requests.old.asks }
+        ensures round { round_in requests.new ≡ round_in requests.old }
+        ensures goes { (q : ℕ) → slice_index_or requests.new.goes q None ≡ picked_port (ready_of self.now.site.vcs (view_stands self.now)) self.now.site.vcs (round_in requests.old).picks q }
+        ensures below { AreBelow (size_of self.now.site) result }
+        ensures picked { IsPickedIn self.now (round_in requests.old).picks result }
+    {
+        let mut picked = ChannelSet::empty();
+        let mut rest = requests.picking();
+        while let Some(port) = rest.least_common(&rest) {
+            rest = rest.without(port);
+            if let Some(vc) = requests.picked(port) {
+                let index = port * self.vcs + vc;
+                if let InputState::Active(next) = self.channels.state(index) {
+                    picked = picked.with(index);
+                    requests.add_way(port, self.indices.place(next).0);
+                }
+            }
+        }
+        picked
+    }
+
+    // The verdict on every input channel, once the arbiters have decided.
+    fn verdicts(&self, standing: &Standing, picked: ChannelSet, requests: &Requests) -> VerdictSets
+        requires standing { IsStanding self.now standing.now }
+        requires ports { requests.now.ports ≡ ports_of self.now.site.grid }
+        requires size { requests.now.size ≡ size_of self.now.site }
+        requires asks { requests.now.asks ≡ asks_of (view_stands self.now) }
+        requires ready { AreAmong standing.now.ready picked }
+        requires picked { IsPickedIn self.now (round_in requests.now).picks picked }
+        ensures verdicts { (k : ℕ) → k < size_of self.now.site → verdict_by result k ≡ (finding_of (round_in requests.now) self.now k).verdict }
+        ensures events { (k : ℕ) → is_event (verdict_by result k) ≡ true → k < size_of self.now.site }
+    {
+        let asking = requests.asking();
+        let granted = requests.granted();
+        let moved = self.moving(requests, picked);
+        VerdictSets {
+            moved,
+            granted,
+            routed: standing.heads,
+            no_flit: standing.starved,
+            no_idle_channel: standing.waiting.less(asking),
+            lost_channel: asking.less(granted),
+            no_credit: standing.unsupplied,
+            lost_input: standing.ready.less(picked),
+            lost_switch: picked.less(moved),
+        }
+    }
+
+    // Those of the picked channels, all of which are ready, whose input port won their output port.
+    fn moving(&self, requests: &Requests, picked: ChannelSet) -> ChannelSet
+        requires picked { (k : ℕ) → has_bit picked k ≡ true → (k < size_of self.now.site) × (is_active (view_input self.now k).phase ≡ true) }
+        requires ports { requests.now.ports ≡ ports_of self.now.site.grid }
+        ensures { (k : ℕ) → has_bit result k ≡ (has_bit picked k && is_won_from self.now (round_in requests.now) k (view_input self.now k).phase) }
+    {
+        let mut moving = ChannelSet::empty();
+        let mut rest = picked;
+        while let Some(index) = rest.least_common(&rest) {
+            rest = rest.without(index);
+            moving = marked(moving, index, self.is_won(requests, index));
+        }
+        moving
+    }
+
+    // Whether the input port of an active channel won its output port.
+    fn is_won(&self, requests: &Requests, index: usize) -> bool
+        requires index { index < size_of self.now.site }
+        requires ports { requests.now.ports ≡ ports_of self.now.site.grid }
+        ensures { result ≡ is_won_from self.now (round_in requests.now) index (view_input self.now index).phase }
+    {
+        match self.channels.state(index) {
             InputState::Active(next) => {
-                if front.is_none() {
-                    return (Verdict::NoFlit, Some(next));
-                }
-                if !self.channels.has_credit(next) {
-                    return (Verdict::NoCredit, Some(next));
-                }
-                requests.add_ready(index, port_of(next, self.vcs));
-                (Verdict::LostInput, Some(next))
+                requests.is_won(self.indices.place(next).0, self.indices.place(index).0)
             }
+            _ => false,
         }
     }
 
@@ -316,98 +390,19 @@ impl Router {
         let class = usize::from(flit.class);
         let destination = usize::from(flit.dst);
         if class < relation.classes() && destination < relation.shape().nodes() {
-            relation.permitted(
-                class,
-                self.node,
-                port_of(index, self.vcs),
-                vc_of(index, self.vcs),
-                destination,
-            )
+            let (port, vc) = self.indices.place(index);
+            relation.permitted(class, self.node, port, vc, destination)
         } else {
             ChannelSet::empty()
         }
-    }
-
-    // What is found of one input channel with this verdict, whose packet asks for or owns this output channel.
-    fn finding(&self, index: usize, verdict: Verdict, next: Option<usize>) -> Finding
-        requires { index < size_of self.now.site }
-        ensures { result ≡ record { verdict = verdict; packet = (view_input self.now index).packet; out = option_map (port_and_vc self.now.site) next } }
-    {
-        Finding {
-            verdict,
-            packet: self.channels.packet(index),
-            out: next.map(|next| place_of(next, self.vcs)),
-        }
-    }
-
-    // What is found of every input channel, once the arbiters have decided.
-    fn amend_all(&self, requests: &Requests, findings: &mut Findings)
-        requires ports { requests.now.ports ≡ ports_of self.now.site.grid }
-        requires size { requests.now.size ≡ size_of self.now.site }
-        requires asks { requests.now.asks ≡ asks_of (view_stands self.now) }
-        requires ready { requests.now.ready ≡ ready_of self.now.site.vcs (view_stands self.now) }
-        requires findings { findings.old.list.items ≡ tabulate (size_of self.now.site) (finding_of (no_round (ports_of self.now.site.grid) (size_of self.now.site)) self.now) }
-        ensures { findings.new.list.items ≡ tabulate (size_of self.now.site) (finding_of (round_in requests.now) self.now) }
-    {
-        let mut rest = requests.contending();
-        while let Some(index) = rest.least_common(&rest) {
-            rest = rest.without(index);
-            findings.amend(index, self.verdict_on(requests, index));
-        }
-    }
-
-    // The verdict on one input channel that asks for an output channel or is ready to send.
-    fn verdict_on(&self, requests: &Requests, index: usize) -> Verdict
-        requires ports { requests.now.ports ≡ ports_of self.now.site.grid }
-        requires size { requests.now.size ≡ size_of self.now.site }
-        requires index { index < size_of self.now.site }
-        requires ask { slice_index_or requests.now.asks index None ≡ ask_of (view_claim self.now index) }
-        requires contends { is_some (ask_of (view_claim self.now index)) || is_some (ready_port self.now.site.vcs (view_claim self.now index) (not (is_empty (view_buffer self.now index)))) ≡ true }
-        ensures { result ≡ verdict_of self.now.site.vcs (round_in requests.now) index (view_claim self.now index) (not (is_empty (view_buffer self.now index))) }
-    {
-        match self.channels.state(index) {
-            InputState::Idle => Verdict::Empty,
-            InputState::Waiting(_) => self.verdict_on_ask(requests, index),
-            InputState::Active(next) => self.verdict_on_flit(requests, index, next),
-        }
-    }
-
-    // The verdict on a waiting channel, by what it asks for.
-    fn verdict_on_ask(&self, requests: &Requests, index: usize) -> Verdict
-        requires size { requests.now.size ≡ size_of self.now.site }
-        requires index { index < size_of self.now.site }
-        ensures { (vcs : ℕ) (has_flit : Bool) → result ≡ verdict_of vcs (round_in requests.now) index (Waits (slice_index_or requests.now.asks index None)) has_flit }
-    {
-        match requests.ask(index) {
-            None => Verdict::NoIdleChannel,
-            Some(next) if requests.is_granted(index, next) => Verdict::Granted,
-            Some(_) => Verdict::LostChannel,
-        }
-    }
-
-    // The verdict on a channel that is ready to send by this output channel.
-    fn verdict_on_flit(&self, requests: &Requests, index: usize, next: usize) -> Verdict
-        requires ports { requests.now.ports ≡ ports_of self.now.site.grid }
-        requires index { index < size_of self.now.site }
-        requires next { next < size_of self.now.site }
-        ensures { result ≡ verdict_of self.now.site.vcs (round_in requests.now) index (Holds next true) true }
-    {
-        let port = port_of(index, self.vcs);
-        if !requests.is_picked(port, vc_of(index, self.vcs)) {
-            return Verdict::LostInput;
-        }
-        if !requests.is_won(port_of(next, self.vcs), port) {
-            return Verdict::LostSwitch;
-        }
-        Verdict::Moved
     }
 
     /// Lets the verdicts of the plan of this state take effect.
     pub fn commit(&mut self, plan: &Plan)
         requires lengths { IsDecidedFor (ports_of self.old.site.grid) self.old.site.vcs plan.now }
         requires picks { AllBelow self.old.site.vcs plan.now.round.picks }
-        requires plan { IsPlanOf plan.now self.old }
-        ensures { self.new ≡ committed plan.now self.old }
+        requires plan { IsOutcomeOf plan.now self.old }
+        ensures { (relation : Routes) → plan.now ≡ outcome relation self.old → self.new ≡ committed (planned relation self.old) self.old }
     {
         self.count(plan);
         self.settle_all(plan);
@@ -415,14 +410,13 @@ impl Router {
         self.close();
     }
 
-    // The findings of the plan are counted, and every beat is idle again.
+    // The verdicts are counted, and every beat is idle again.
     fn count(&mut self, plan: &Plan)
         requires lengths { IsDecidedFor (ports_of self.old.site.grid) self.old.site.vcs plan.now }
-        requires plan { IsPlanOf plan.now self.old }
-        ensures { self.new ≡ tallied plan.now self.old }
+        requires plan { IsOutcomeOf plan.now self.old }
+        ensures { self.new ≡ tallied (decisions_by plan.now self.old) self.old }
     {
-        let occupied = self.channels.occupied();
-        self.tally.count(plan, occupied);
+        self.tally.count(&self.channels, &self.indices, plan);
         self.links.clear();
     }
 
@@ -448,9 +442,9 @@ impl Router {
     // The verdict of every input channel takes effect.
     fn settle_all(&mut self, plan: &Plan)
         requires lengths { IsDecidedFor (ports_of self.old.site.grid) self.old.site.vcs plan.now }
-        requires plan { IsPlanOf plan.now self.old }
+        requires plan { IsOutcomeOf plan.now self.old }
         requires beats { self.old.to_put ≡ idle_beats self.old.site }
-        ensures { self.new ≡ settled plan.now self.old }
+        ensures { self.new ≡ settled (decisions_by plan.now self.old) self.old }
     {
         let mut rest = plan.events();
         for _ in 0..self.ports * self.vcs {
@@ -466,23 +460,20 @@ impl Router {
     fn settle(&mut self, plan: &Plan, index: usize)
         requires lengths { IsDecidedFor (ports_of self.old.site.grid) self.old.site.vcs plan.now }
         requires index { index < size_of self.old.site }
-        requires can { CanSettle plan.now self.old index (finding_at plan.now.findings index).verdict }
-        ensures { self.new ≡ settled_by plan.now index self.old (finding_at plan.now.findings index).verdict }
+        requires event { is_event (outcome_verdict plan.now index) ≡ true }
+        requires can { CanTakeEffect plan.now self.old index (outcome_verdict plan.now index) }
+        ensures { self.new ≡ effect_of plan.now index self.old (outcome_verdict plan.now index) }
     {
-        let finding = plan.finding(index);
-        match finding.verdict {
-            Verdict::Routed => self.route_head(index, plan.requests.route(index)),
-            Verdict::Granted => {
-                if let Some((port, vc)) = finding.out {
-                    self.grant(index, port * self.vcs + vc);
-                }
+        if plan.is_moved(index) {
+            if let InputState::Active(next) = self.channels.state(index) {
+                self.move_flit(index, next);
             }
-            Verdict::Moved => {
-                if let InputState::Active(next) = self.channels.state(index) {
-                    self.move_flit(index, next);
-                }
+        } else if plan.is_granted(index) {
+            if let Some(next) = plan.ask(index) {
+                self.grant(index, next);
             }
-            _ => {}
+        } else {
+            self.route_head(index, plan.route(index));
         }
     }
 
@@ -507,20 +498,21 @@ impl Router {
         self.had_event = true;
     }
 
-    // The first flit of an input channel, if there is one, leaves by its output channel, and a credit goes back.
+    // The first flit of an input channel leaves by its output channel, and a credit goes back.
     fn move_flit(&mut self, index: usize, next: usize)
         requires index { index < size_of self.old.site }
         requires next { next < size_of self.old.site }
         requires active { (view_input self.old index).phase ≡ InputState.Active next }
         requires credit { has_credit (view_output self.old next) ≡ true }
+        requires some { 0 < length (view_buffer self.old index) }
         ensures { self.new ≡ moved_by index next (first_flit self.old index) self.old }
     {
-        let Some(flit) = self.channels.send(index, next) else {
-            return;
-        };
+        let flit = self.channels.send(index, next);
         self.had_event = true;
-        self.put_credit(port_of(index, self.vcs), vc_of(index, self.vcs));
-        self.put_flit(port_of(next, self.vcs), vc_of(next, self.vcs), flit);
+        let (port, vc) = self.indices.place(index);
+        self.put_credit(port, vc);
+        let (port, vc) = self.indices.place(next);
+        self.put_flit(port, vc, flit);
     }
 
     // A credit returns by a port; the local port has none.
@@ -566,11 +558,13 @@ impl Router {
         self.links.unload(port)
     }
 
-    /// Whether every beat that is still to be put is idle.
-    pub fn is_put(&self) -> bool
-        ensures { result ≡ list_all is_idle_beat self.now.to_put }
+    /// The link ports whose beat that is still to be put is not idle.
+    pub fn loaded(&self) -> ChannelSet
+        ensures grid { IsGrid self.now.site.grid }
+        ensures within { (port : ℕ) → has_bit result port ≡ true → port < local_port self.now.site.grid }
+        ensures each { (port : ℕ) → port < local_port self.now.site.grid → has_bit result port ≡ not (is_idle_beat (beat_to_put self.now port)) }
     {
-        self.links.are_clear()
+        self.links.loaded()
     }
 
     /// One whole cycle: the beats that came, one for each link port, and the beats that go out.

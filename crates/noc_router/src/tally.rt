@@ -1,14 +1,20 @@
 //! What a router has counted and found.
 
-ghost use Rattle.std.specs.Prelude.{◌≡◌, ℕ, ◌+◌, ◌-◌, ◌<◌, ◌^◌, ◌==◌, ◌||◌, IfOk, if◌then◌else◌, [], true, false, map, drop, min, sum, length, nat_lt, slice_index_or, slice_set, replicate, vec_len};
+ghost use Rattle.std.specs.Prelude.{◌≡◌, ℕ, ◌+◌, ◌-◌, ◌<◌, ◌^◌, ◌==◌, ◌&&◌, not, List, None, IfOk, if◌then◌else◌, [], true, false, map, drop, min, sum, length, nat_lt, slice_index_or, slice_set, replicate, vec_len};
 ghost use Rattle.noc_packet.specs.Set.{has_bit};
-ghost use Rattle.noc_topo.specs.Words.{map_indexed};
+ghost use Rattle.noc_topo.specs.Words.{map_indexed, tabulate};
 ghost use Rattle.noc_router.specs.Counts.{counts_in};
 ghost use Rattle.noc_router.specs.Members.{AreBelow};
-ghost use Rattle.noc_router.specs.Tally.{empty_finding, finding_at, others_at, risen_at, IsTally};
+ghost use Rattle.noc_ring.specs.Rings.{ring_at};
+ghost use Rattle.noc_router.specs.Sound.{input_at, is_occupied, named};
+ghost use Rattle.noc_router.specs.Settled.{finding_by, outcome_verdict};
+ghost use Rattle.noc_router.specs.declared.verdict.Finding.{Finding as FindingValue};
+ghost use Rattle.noc_router.specs.Tally.{empty_finding, finding_at, others_at, risen_at, IsCounting, IsTally, is_empty_verdict};
 ghost use Rattle.noc_router.specs.Verdict.{column};
-ghost use Rattle.noc_router.specs.View.{counted, decided_verdict, raised};
+ghost use Rattle.noc_router.specs.View.{counted, raised};
 
+use crate::channels::Channels;
+use crate::indices::Indices;
 use crate::plan::Plan;
 use crate::verdict::{Finding, VERDICTS, Verdict};
 use noc_packet::{ChannelSet, Memory};
@@ -49,25 +55,130 @@ impl Tally {
         })
     }
 
-    // Counts a cycle with this plan, which finds of every channel but these that it is empty.
-    pub(crate) fn count(&mut self, plan: &Plan, channels: ChannelSet)
-        requires findings { length plan.now.findings ≡ vec_len self.old.counts }
-        requires channels { AreBelow (vec_len self.old.counts) channels }
-        requires empty { (k : ℕ) → k < vec_len self.old.counts → has_bit channels k ≡ false → finding_at plan.now.findings k ≡ empty_finding }
+    // Counts a cycle with this plan of these channels, in which just the occupied ones have another verdict than Empty.
+    pub(crate) fn count(&mut self, channels: &Channels, indices: &Indices, plan: &Plan)
+        requires channels { channels.now.size ≡ vec_len self.old.counts }
+        requires indices { indices.now.size ≡ vec_len self.old.counts }
+        requires asks { length plan.now.asks ≡ vec_len self.old.counts }
+        requires verdicts { length plan.now.verdicts ≡ vec_len self.old.counts }
+        requires occupied { (k : ℕ) → k < vec_len self.old.counts → is_occupied (input_at channels.now.inputs.items k) (ring_at channels.now.bank k) ≡ not (is_empty_verdict (outcome_verdict plan.now k)) }
         ensures size { vec_len self.new.counts ≡ vec_len self.old.counts }
         ensures begun { self.new.begun ≡ true }
-        ensures findings { self.new.findings.items ≡ plan.now.findings }
-        ensures counts { map (counts_in self.new.cycles) self.new.counts.items ≡ map_indexed (λ i counts. counted (decided_verdict plan.now i) counts) (map (counts_in self.old.cycles) self.old.counts.items) }
+        ensures findings { self.new.findings.items ≡ tabulate (vec_len self.old.counts) (finding_by plan.now indices.now.vcs channels.now.inputs.items) }
+        ensures counts { map (counts_in self.new.cycles) self.new.counts.items ≡ map_indexed (λ i counts. counted (outcome_verdict plan.now i) counts) (map (counts_in self.old.cycles) self.old.counts.items) }
     {
-        self.begin(channels);
-        let mut rest = channels;
-        for _ in 0..self.findings.len() {
-            let Some(index) = rest.least_common(&rest) else {
-                break;
-            };
-            rest = rest.without(index);
-            self.note(index, plan.finding(index));
+        let occupied = channels.occupied();
+        self.begin(occupied);
+        let sets = &plan.verdicts;
+        let mut rest = occupied;
+        rest = self.note_all(channels, indices, plan, rest, sets.moved, Verdict::Moved);
+        rest = self.note_all(
+            channels,
+            indices,
+            plan,
+            rest,
+            sets.granted,
+            Verdict::Granted,
+        );
+        rest = self.note_all(channels, indices, plan, rest, sets.routed, Verdict::Routed);
+        rest = self.note_all(channels, indices, plan, rest, sets.no_flit, Verdict::NoFlit);
+        rest = self.note_all(
+            channels,
+            indices,
+            plan,
+            rest,
+            sets.no_idle_channel,
+            Verdict::NoIdleChannel,
+        );
+        rest = self.note_all(
+            channels,
+            indices,
+            plan,
+            rest,
+            sets.lost_channel,
+            Verdict::LostChannel,
+        );
+        rest = self.note_all(
+            channels,
+            indices,
+            plan,
+            rest,
+            sets.no_credit,
+            Verdict::NoCredit,
+        );
+        rest = self.note_all(
+            channels,
+            indices,
+            plan,
+            rest,
+            sets.lost_input,
+            Verdict::LostInput,
+        );
+        self.note_all(
+            channels,
+            indices,
+            plan,
+            rest,
+            sets.lost_switch,
+            Verdict::LostSwitch,
+        );
+    }
+
+    // Notes for those channels of a set that are left that they have this verdict. The answer is what is left then.
+    fn note_all(
+        &mut self,
+        channels: &Channels,
+        indices: &Indices,
+        plan: &Plan,
+        left: ChannelSet,
+        set: ChannelSet,
+        verdict: Verdict,
+    ) -> ChannelSet
+        requires channels { channels.now.size ≡ vec_len self.old.counts }
+        requires indices { indices.now.size ≡ vec_len self.old.counts }
+        requires asks { length plan.now.asks ≡ vec_len self.old.counts }
+        requires left { AreBelow (vec_len self.old.counts) left }
+        requires room { (k : ℕ) → has_bit left k ≡ true → self.old.counting ≡ true → sum (others_at self.old.counts.items k) < self.old.cycles }
+        ensures size { vec_len self.new.counts ≡ vec_len self.old.counts }
+        ensures begun { self.new.begun ≡ self.old.begun }
+        ensures left { (k : ℕ) → has_bit result k ≡ (not (has_bit set k) && has_bit left k) }
+        ensures room { (k : ℕ) → has_bit result k ≡ true → self.new.counting ≡ true → sum (others_at self.new.counts.items k) < self.new.cycles }
+        ensures counting { (cycles : ℕ) (counts : List (List ℕ)) (found : List FindingValue) → ((k : ℕ) → has_bit left k ≡ true → has_bit set k ≡ true → finding_at found k ≡ named indices.now.vcs (input_at channels.now.inputs.items k) verdict (slice_index_or plan.now.asks k None)) → IsCounting cycles counts found left self.old.cycles self.old.counting self.old.counts.items self.old.findings.items → IsCounting cycles counts found result self.new.cycles self.new.counting self.new.counts.items self.new.findings.items }
+    {
+        if set.is_empty() {
+            return left;
         }
+        self.note_each(channels, indices, plan, left, set, verdict)
+    }
+
+    // The same, by a loop; apart, so that the test for an empty set costs no call.
+    #[inline(never)]
+    fn note_each(
+        &mut self,
+        channels: &Channels,
+        indices: &Indices,
+        plan: &Plan,
+        left: ChannelSet,
+        set: ChannelSet,
+        verdict: Verdict,
+    ) -> ChannelSet
+        requires channels { channels.now.size ≡ vec_len self.old.counts }
+        requires indices { indices.now.size ≡ vec_len self.old.counts }
+        requires asks { length plan.now.asks ≡ vec_len self.old.counts }
+        requires left { AreBelow (vec_len self.old.counts) left }
+        requires room { (k : ℕ) → has_bit left k ≡ true → self.old.counting ≡ true → sum (others_at self.old.counts.items k) < self.old.cycles }
+        ensures size { vec_len self.new.counts ≡ vec_len self.old.counts }
+        ensures begun { self.new.begun ≡ self.old.begun }
+        ensures left { (k : ℕ) → has_bit result k ≡ (not (has_bit set k) && has_bit left k) }
+        ensures room { (k : ℕ) → has_bit result k ≡ true → self.new.counting ≡ true → sum (others_at self.new.counts.items k) < self.new.cycles }
+        ensures counting { (cycles : ℕ) (counts : List (List ℕ)) (found : List FindingValue) → ((k : ℕ) → has_bit left k ≡ true → has_bit set k ≡ true → finding_at found k ≡ named indices.now.vcs (input_at channels.now.inputs.items k) verdict (slice_index_or plan.now.asks k None)) → IsCounting cycles counts found left self.old.cycles self.old.counting self.old.counts.items self.old.findings.items → IsCounting cycles counts found result self.new.cycles self.new.counting self.new.counts.items self.new.findings.items }
+    {
+        let mut rest = left;
+        while let Some(index) = set.least_common(&rest) {
+            rest = rest.without(index);
+            self.note(index, channels.finding(indices, plan, index, verdict));
+        }
+        rest
     }
 
     // Begins a cycle, in which every channel but these is empty.

@@ -1,7 +1,7 @@
 use Rattle.std.proofs.Common.{◌≡◌, ℕ, ap, sym, ◌∙◌, subst}
 use Rattle.noc_topo.specs.Shape.{ports}
 use Rattle.noc_router.specs.Decided.{IsDecidedFor}
-use Rattle.noc_router.specs.View.{View, Decisions, IsRelationOf, all_taken, injected, planned, committed}
+use Rattle.noc_router.specs.View.{View, IsRelationOf, all_taken, injected, planned, committed}
 use Rattle.noc_net.specs.Halves.{decided, incoming}
 use Rattle.noc_net.proofs.StepLemmas.{site-all_taken, site-injected, IsRelationOf-same_site}
 use Rattle.noc_net.proofs.network.decide.Goals as goal
@@ -44,5 +44,5 @@ unfolding decided
 returns-clause-router c =
     let frozen : c.inject.new.self ≡ injected c.args.cycle (all_taken c.args.relation.now (incoming c.args.relation.now.grid c.args.beats.now) c.args.router.now) =
     c.inject.ensures ∙ ap (injected c.args.cycle) c.take_beats.ensures.router in
-    c.commit.ensures ∙ ap (λ (d : Decisions). committed d c.inject.new.self) c.plan.ensures.value
+    c.commit.ensures c.args.relation.now c.plan.ensures.value
     ∙ ap (λ (v : View). committed (planned c.args.relation.now v) v) frozen

@@ -1,11 +1,6 @@
 use Rattle.std.proofs.Common.{arith}
 use Rattle.noc_router.proofs.QuietLemmas.{below-added}
-use Rattle.noc_router.proofs.EventLemmas.{contends-ask}
 use Rattle.noc_router.proofs.requests.Requests.add_ask.Goals as goal
 
 pub invariant_of-self-clause-asks_for_channels : goal.invariant_of-self-clause-asks_for_channels
 invariant_of-self-clause-asks_for_channels c = rw c.set.ensures.value (below-added c.args.self.now.size c.args.self.now.asks c.args.index c.args.output (omega arith) c.args.self.now.asks_for_channels)
-
-pub invariant_of-self-clause-contends : goal.invariant_of-self-clause-contends
-invariant_of-self-clause-contends c =
-    rw c.set.ensures.value (contends-ask c.args.self.now.contending c.with-self.result c.args.index c.args.output c.args.self.now.asks c.args.self.now.ready (omega (arith, c.args.self.now.an_ask_each)) c.with-self.ensures.members c.args.self.now.contends)

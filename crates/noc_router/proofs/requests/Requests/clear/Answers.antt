@@ -1,6 +1,5 @@
 use Rattle.std.proofs.Common.{◌∙◌, None, ap, length, replicate, arith}
 use Rattle.noc_router.proofs.QuietLemmas.{below-none, none_left, quiet-none}
-use Rattle.noc_router.proofs.EventLemmas.{contends-none}
 use Rattle.noc_router.proofs.requests.Requests.clear.Goals as goal
 
 pub returns-clause-routes : goal.returns-clause-routes
@@ -11,15 +10,11 @@ returns-clause-routes c =
 pub returns-clause-asks : goal.returns-clause-asks
 returns-clause-asks c = c.clear.ensures.value ∙ ap (λ n. replicate n None) (omega (arith, c.loop-index.self.an_ask_each, c.loop-index.invariant.1))
 
-pub returns-clause-ready : goal.returns-clause-ready
-returns-clause-ready c = c.clear-2.ensures.value ∙ ap (λ n. replicate n None) (omega (arith, c.loop-index.self.a_port_each, c.loop-index.invariant.1))
+pub returns-clause-goes : goal.returns-clause-goes
+returns-clause-goes c = c.clear-2.ensures.value ∙ ap (λ n. replicate n None) (omega (arith, c.loop-index.self.a_way_each, c.loop-index.invariant.0))
 
 pub invariant_of-self-clause-asks_for_channels : goal.invariant_of-self-clause-asks_for_channels
 invariant_of-self-clause-asks_for_channels c = below-none c.loop-index.self.size (length c.loop-index.self.asks) _ c.clear.ensures.value
 
-pub invariant_of-self-clause-ready_for_ports : goal.invariant_of-self-clause-ready_for_ports
-invariant_of-self-clause-ready_for_ports c = below-none c.loop-index.self.ports (length c.loop-index.self.ready) _ c.clear-2.ensures.value
-
-pub invariant_of-self-clause-contends : goal.invariant_of-self-clause-contends
-invariant_of-self-clause-contends c =
-    contends-none _ (length c.loop-index.self.asks) (length c.loop-index.self.ready) _ _ c.empty-self.ensures.members c.clear.ensures.value c.clear-2.ensures.value
+pub invariant_of-self-clause-goes_to_ports : goal.invariant_of-self-clause-goes_to_ports
+invariant_of-self-clause-goes_to_ports c = below-none c.loop-index.self.ports (length c.loop-index.self.goes) _ c.clear-2.ensures.value

@@ -1,13 +1,12 @@
 -- In each of the new lists nobody is named.
 use Rattle.noc_router.proofs.QuietLemmas.{below-none, quiet-fresh}
-use Rattle.noc_router.proofs.EventLemmas.{contends-none}
 use Rattle.noc_router.proofs.requests.Requests.new.Goals as goal
 
 pub invariant_of-result-clause-asks_for_channels : goal.invariant_of-result-clause-asks_for_channels
 invariant_of-result-clause-asks_for_channels c = below-none c.args.size c.args.size _ c.in_ok-new.ensures
 
-pub invariant_of-result-clause-ready_for_ports : goal.invariant_of-result-clause-ready_for_ports
-invariant_of-result-clause-ready_for_ports c = below-none c.args.ports c.args.size _ c.in_ok-new-2.ensures
+pub invariant_of-result-clause-goes_to_ports : goal.invariant_of-result-clause-goes_to_ports
+invariant_of-result-clause-goes_to_ports c = below-none c.args.ports c.args.ports _ c.in_ok-new-2.ensures
 
 pub invariant_of-result-clause-granted_to_channels : goal.invariant_of-result-clause-granted_to_channels
 invariant_of-result-clause-granted_to_channels c = below-none c.args.size c.args.size _ c.in_ok-new-3.ensures
@@ -17,6 +16,3 @@ invariant_of-result-clause-won_by_ports c = below-none c.args.ports c.args.ports
 
 pub invariant_of-result-clause-quiet_routes : goal.invariant_of-result-clause-quiet_routes
 invariant_of-result-clause-quiet_routes c = quiet-fresh _ 0 c.args.size _ ((rw c.empty-2.ensures.bits at c.in_ok-vec.ensures.items_if_clones_equal) (λ _ same. same))
-
-pub invariant_of-result-clause-contends : goal.invariant_of-result-clause-contends
-invariant_of-result-clause-contends c = contends-none _ c.args.size c.args.size _ _ c.empty-3.ensures.members c.in_ok-new.ensures c.in_ok-new-2.ensures

@@ -34,26 +34,29 @@ commit-requires-clause-plan c =
 pub put_all-requires : goal.put_all-requires
 put_all-requires c =
     let v = c.args.self.now in
+    let relation = c.args.relation.now in
     let site : c.commit.new.self.site ≡ v.site =
-    ap (λ (x : View). x.site) c.commit.ensures ∙ committed-site c.plan.new.plan c.inject.new.self
-    ∙ ap (λ (x : View). x.site) c.inject.ensures ∙ injected-site c.args.cycle c.take_all.new.self ∙ ap (λ (x : View). x.site) c.take_all.ensures ∙ all_taken-site c.args.relation.now c.args.beats_in.now v in
+    ap (λ (x : View). x.site) (c.commit.ensures relation c.plan.ensures.value) ∙ committed-site (planned relation c.inject.new.self) c.inject.new.self
+    ∙ ap (λ (x : View). x.site) c.inject.ensures ∙ injected-site c.args.cycle c.take_all.new.self ∙ ap (λ (x : View). x.site) c.take_all.ensures ∙ all_taken-site relation c.args.beats_in.now v in
     c.requires.beats_out ∙ ap (λ (s : Site). local_port s.grid) (sym site)
 
 pub returns-clause-view : goal.returns-clause-view
 unfolding local_step
 returns-clause-view c =
+    let relation = c.args.relation.now in
     c.put_all.ensures.view
     ∙ ap (λ (x : View). record x { to_put = idle_beats x.site })
-    (c.commit.ensures ∙ ap (λ p. committed p c.inject.new.self) c.plan.ensures.value
-    ∙ ap (λ (x : View). committed (planned c.args.relation.now x) x) (c.inject.ensures ∙ ap (injected c.args.cycle) c.take_all.ensures))
+    (c.commit.ensures relation c.plan.ensures.value
+    ∙ ap (λ (x : View). committed (planned relation x) x) (c.inject.ensures ∙ ap (injected c.args.cycle) c.take_all.ensures))
 
 pub returns-clause-beats : goal.returns-clause-beats
 unfolding local_step
 returns-clause-beats c =
+    let relation = c.args.relation.now in
     c.put_all.ensures.beats
     ∙ ap (λ (x : View). x.to_put)
-    (c.commit.ensures ∙ ap (λ p. committed p c.inject.new.self) c.plan.ensures.value
-    ∙ ap (λ (x : View). committed (planned c.args.relation.now x) x) (c.inject.ensures ∙ ap (injected c.args.cycle) c.take_all.ensures))
+    (c.commit.ensures relation c.plan.ensures.value
+    ∙ ap (λ (x : View). committed (planned relation x) x) (c.inject.ensures ∙ ap (injected c.args.cycle) c.take_all.ensures))
 
 pub returns-clause-plan : goal.returns-clause-plan
 returns-clause-plan c =
@@ -65,6 +68,7 @@ returns-clause-plan c =
 
 pub returns-clause-site : goal.returns-clause-site
 returns-clause-site c =
-    ap (λ (x : View). x.site) c.put_all.ensures.view ∙ ap (λ (x : View). x.site) c.commit.ensures ∙ committed-site c.plan.new.plan c.inject.new.self
+    let relation = c.args.relation.now in
+    ap (λ (x : View). x.site) c.put_all.ensures.view ∙ ap (λ (x : View). x.site) (c.commit.ensures relation c.plan.ensures.value) ∙ committed-site (planned relation c.inject.new.self) c.inject.new.self
     ∙ ap (λ (x : View). x.site) c.inject.ensures ∙ injected-site c.args.cycle c.take_all.new.self ∙ ap (λ (x : View). x.site) c.take_all.ensures
-    ∙ all_taken-site c.args.relation.now c.args.beats_in.now c.args.self.now
+    ∙ all_taken-site relation c.args.beats_in.now c.args.self.now

@@ -1,0 +1,146 @@
+use noc_files::{InputFault, read_all, split_joined};
+use std::io;
+use std::io::{ErrorKind, Read};
+use std::test::Fail;
+
+// Gives the bytes of a text one for each read, and says how often it was read.
+#[derive(Drop)]
+struct Drip<'a> {
+    rest: &'a [u8],
+    reads: usize,
+}
+
+impl Read for Drip<'_> {
+    fn read(&mut self, buf: &mut [u8]) -> io::Result<usize> {
+        self.reads = self.reads.saturating_add(1);
+        if self.rest.is_empty() || buf.is_empty() {
+            return Ok(0);
+        }
+        buf[0] = self.rest[0];
+        self.rest = &self.rest[1..];
+        Ok(1)
+    }
+}
+
+// Fails at one of its reads, and gives a byte at each other one.
+#[derive(Drop)]
+struct Failing {
+    reads: usize,
+    fails_at: usize,
+}
+
+impl Read for Failing {
+    fn read(&mut self, buf: &mut [u8]) -> io::Result<usize> {
+        self.reads = self.reads.saturating_add(1);
+        if self.reads == self.fails_at {
+            return Err(io::Error::from(ErrorKind::Interrupted));
+        }
+        if buf.is_empty() {
+            return Ok(0);
+        }
+        buf[0] = b'x';
+        Ok(1)
+    }
+}
+
+// Fills whatever it is given, and never ends.
+#[derive(Drop)]
+struct Endless;
+
+impl Read for Endless {
+    fn read(&mut self, buf: &mut [u8]) -> io::Result<usize> {
+        Ok(buf.len())
+    }
+}
+
+#[test]
+fn bytes_one_by_one_up_to_the_limit(rt: HostRuntime) -> Result<(), Fail> {
+    let mut reader = Drip {
+        rest: b"0123456789",
+        reads: 0,
+    };
+    let bytes = read_all(rt.alloc(), &mut reader, 10)?;
+    assert_eq!(rt; bytes.as_slice(), b"0123456789".as_slice());
+    assert_eq!(rt; reader.reads, 11);
+    Ok(())
+}
+
+#[test]
+fn one_byte_above_the_limit(rt: HostRuntime) {
+    let mut reader = Drip {
+        rest: b"0123456789a",
+        reads: 0,
+    };
+    assert_eq!(rt;
+        read_all(rt.alloc(), &mut reader, 10).err(),
+        Some(InputFault::TooLong)
+    );
+    assert_eq!(rt; reader.reads, 11);
+    let mut none = Drip {
+        rest: b"",
+        reads: 0,
+    };
+    assert!(rt; read_all(rt.alloc(), &mut none, 0).is_ok());
+    assert_eq!(rt; none.reads, 1);
+}
+
+#[test]
+fn a_reader_that_fails_is_read_no_more(rt: HostRuntime) {
+    for fails_at in 1..12usize {
+        let mut reader = Failing { reads: 0, fails_at };
+        assert_eq!(rt;
+            read_all(rt.alloc(), &mut reader, 11).err(),
+            Some(InputFault::ReadFailed)
+        );
+        assert_eq!(rt; reader.reads, fails_at);
+    }
+}
+
+#[test]
+fn a_reader_without_an_end(rt: HostRuntime) {
+    assert_eq!(rt;
+        read_all(rt.alloc(), &mut Endless, 10).err(),
+        Some(InputFault::TooLong)
+    );
+    assert_eq!(rt;
+        read_all(rt.alloc(), &mut Endless, 10_000).err(),
+        Some(InputFault::TooLong)
+    );
+}
+
+#[test]
+fn more_bytes_than_one_read_gives(rt: HostRuntime) -> Result<(), Fail> {
+    let text = vec![in rt.alloc(); 7u8; 10_000]?;
+    let mut rest = text.as_slice();
+    let bytes = read_all(rt.alloc(), &mut rest, 10_000)?;
+    assert_eq!(rt; bytes.as_slice(), text.as_slice());
+    assert!(rt; rest.is_empty());
+    Ok(())
+}
+
+#[test]
+fn a_joined_text_is_split_at_its_first_line_of_dashes(rt: HostRuntime) {
+    assert_eq!(rt;
+        split_joined(b"a = 1\n---\nb\n---\n"),
+        Some((b"a = 1\n".as_slice(), b"b\n---\n".as_slice()))
+    );
+    assert_eq!(rt;
+        split_joined(b"---\r\nb"),
+        Some((b"".as_slice(), b"b".as_slice()))
+    );
+    assert_eq!(rt;
+        split_joined(b"a\n----\n---\n"),
+        Some((b"a\n----\n".as_slice(), b"".as_slice()))
+    );
+    for text in [
+        b"".as_slice(),
+        b"a\n---".as_slice(),
+        b"a---\nb".as_slice(),
+        b" ---\nb".as_slice(),
+        b"--- \nb".as_slice(),
+        b"---\rb".as_slice(),
+        b"a\r---\r\nb".as_slice(),
+    ] {
+        assert!(rt; split_joined(text).is_none());
+    }
+}

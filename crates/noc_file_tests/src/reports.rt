@@ -1,0 +1,267 @@
+ghost use Rattle.std.specs.Prelude.{◌<◌, ◌≤◌, IfOk, ◌≡◌};
+ghost use Rattle.noc_topo.specs.Shape.{nodes};
+
+use noc_files::{
+    Out, WriteFault, read_table, read_traffic, write_findings, write_latency, write_stalls,
+    write_summary,
+};
+use noc_net::Network;
+use noc_route::{Relation, Rule};
+use noc_topo::{Kind, Shape};
+use std::alloc::Global;
+use std::test::Fail;
+
+// A network of this relation after so many cycles of this traffic.
+fn network(
+    alloc: Global,
+    relation: Relation,
+    places: usize,
+    traffic: &[u8],
+    cycles: u64,
+) -> Result<Network, Fail>
+    requires some_place { 0 < places }
+    requires places { places ≤ 16 }
+    requires cycles { cycles ≤ 1000 }
+    ensures { IfOk result (λ n. n.net.relation.grid ≡ relation.grid) }
+{
+    let mut network = Network::new(alloc, relation, places, read_traffic(alloc, traffic)?)?;
+    network.run(cycles);
+    Ok(network)
+}
+
+// The latency report of a network.
+fn latency(alloc: Global, network: &Network) -> Result<Vec<u8>, WriteFault> {
+    let mut out = Out::new(Vec::new(alloc));
+    write_latency(network, &mut out)?;
+    Ok(out.into_inner())
+}
+
+// The stall report of a network.
+fn stalls(alloc: Global, network: &Network) -> Result<Vec<u8>, WriteFault> {
+    let mut out = Out::new(Vec::new(alloc));
+    write_stalls(network, &mut out)?;
+    Ok(out.into_inner())
+}
+
+// The summary of a network.
+fn summary(alloc: Global, network: &Network) -> Result<Vec<u8>, WriteFault> {
+    let mut out = Out::new(Vec::new(alloc));
+    write_summary(network, &mut out)?;
+    Ok(out.into_inner())
+}
+
+// The findings of a router.
+fn findings(alloc: Global, network: &Network, router: usize) -> Result<Vec<u8>, WriteFault>
+    requires { router < nodes network.now.net.relation.grid }
+{
+    let mut out = Out::new(Vec::new(alloc));
+    write_findings(network, router, &mut out)?;
+    Ok(out.into_inner())
+}
+
+// Two nodes in a line, no packets, one cycle.
+#[test]
+fn a_network_without_packets(rt: HostRuntime) -> Result<(), Fail> {
+    let a = rt.alloc();
+    let line = Shape::new(Kind::Mesh, &[2])?;
+    let relation = Relation::build(a, &line, 1, 1, Rule::Dor)?;
+    let network = network(a, relation, 2, b"source,destination,class,length,due\n", 1)?;
+    let report = b"packet,source,destination,class,length,due,out,latency\n";
+    assert_eq!(rt; latency(a, &network)?.as_slice(), report.as_slice());
+    let report =
+        b"router,port,vc,empty,routed,granted,moved,no_flit,no_idle_channel,lost_channel,no_credit,lost_input,lost_switch
+0,+0,0,1,0,0,0,0,0,0,0,0,0
+0,local,0,1,0,0,0,0,0,0,0,0,0
+1,-0,0,1,0,0,0,0,0,0,0,0,0
+1,local,0,1,0,0,0,0,0,0,0,0,0
+";
+    assert_eq!(rt; stalls(a, &network)?.as_slice(), report.as_slice());
+    let report = b"cycles 1
+packets 0
+delivered 0
+left 0
+latency_sum 0
+latency_max -
+last_event -
+misfits 0
+empty 4
+routed 0
+granted 0
+moved 0
+no_flit 0
+no_idle_channel 0
+lost_channel 0
+no_credit 0
+lost_input 0
+lost_switch 0
+";
+    assert_eq!(rt; summary(a, &network)?.as_slice(), report.as_slice());
+    Ok(())
+}
+
+// One packet of one flit from one node of a line to the other, eight cycles.
+#[test]
+fn a_packet_over_one_link(rt: HostRuntime) -> Result<(), Fail> {
+    let a = rt.alloc();
+    let line = Shape::new(Kind::Mesh, &[2])?;
+    let relation = Relation::build(a, &line, 1, 1, Rule::Dor)?;
+    let traffic = b"source,destination,class,length,due\n0,1,0,1,0\n";
+    let network = network(a, relation, 2, traffic, 8)?;
+    let report = b"packet,source,destination,class,length,due,out,latency\n0,0,1,0,1,0,5,5\n";
+    assert_eq!(rt; latency(a, &network)?.as_slice(), report.as_slice());
+    let report = b"cycles 8
+packets 1
+delivered 1
+left 0
+latency_sum 5
+latency_max 5
+last_event 6
+misfits 0
+empty 26
+routed 2
+granted 2
+moved 2
+no_flit 0
+no_idle_channel 0
+lost_channel 0
+no_credit 0
+lost_input 0
+lost_switch 0
+";
+    assert_eq!(rt; summary(a, &network)?.as_slice(), report.as_slice());
+    Ok(())
+}
+
+// Two packets to the end of a line of three nodes, twenty cycles.
+#[test]
+fn two_packets_to_one_node(rt: HostRuntime) -> Result<(), Fail> {
+    let a = rt.alloc();
+    let line = Shape::new(Kind::Mesh, &[3])?;
+    let relation = Relation::build(a, &line, 1, 1, Rule::Dor)?;
+    let traffic = b"source,destination,class,length,due\n0,2,0,1,0\n1,2,0,1,0\n";
+    let network = network(a, relation, 2, traffic, 20)?;
+    let report = b"packet,source,destination,class,length,due,out,latency
+0,0,2,0,1,0,10,10
+1,1,2,0,1,0,5,5
+";
+    assert_eq!(rt; latency(a, &network)?.as_slice(), report.as_slice());
+    let report =
+        b"router,port,vc,empty,routed,granted,moved,no_flit,no_idle_channel,lost_channel,no_credit,lost_input,lost_switch
+0,+0,0,20,0,0,0,0,0,0,0,0,0
+0,local,0,17,1,1,1,0,0,0,0,0,0
+1,+0,0,20,0,0,0,0,0,0,0,0,0
+1,-0,0,15,1,1,1,0,2,0,0,0,0
+1,local,0,17,1,1,1,0,0,0,0,0,0
+2,-0,0,14,2,2,2,0,0,0,0,0,0
+2,local,0,20,0,0,0,0,0,0,0,0,0
+";
+    assert_eq!(rt; stalls(a, &network)?.as_slice(), report.as_slice());
+    Ok(())
+}
+
+// Four packets that wait for each other around a ring of four nodes, twenty cycles.
+#[test]
+fn packets_that_never_come_out(rt: HostRuntime) -> Result<(), Fail> {
+    let a = rt.alloc();
+    let ring = Shape::new(Kind::Torus, &[4])?;
+    let relation = Relation::build(a, &ring, 1, 1, Rule::Dor)?;
+    let traffic = b"source,destination,class,length,due
+0,2,0,4,0
+1,3,0,4,0
+2,0,0,4,0
+3,1,0,4,0
+";
+    let network = network(a, relation, 1, traffic, 20)?;
+    let report = b"packet,source,destination,class,length,due,out,latency
+0,0,2,0,4,0,-,-
+1,1,3,0,4,0,-,-
+2,2,0,0,4,0,-,-
+3,3,1,0,4,0,-,-
+";
+    assert_eq!(rt; latency(a, &network)?.as_slice(), report.as_slice());
+    let report =
+        b"router,port,vc,empty,routed,granted,moved,no_flit,no_idle_channel,lost_channel,no_credit,lost_input,lost_switch
+0,+0,0,20,0,0,0,0,0,0,0,0,0
+0,-0,0,3,1,0,0,0,16,0,0,0,0
+0,local,0,0,1,1,1,0,0,0,17,0,0
+1,+0,0,20,0,0,0,0,0,0,0,0,0
+1,-0,0,3,1,0,0,0,16,0,0,0,0
+1,local,0,0,1,1,1,0,0,0,17,0,0
+2,+0,0,20,0,0,0,0,0,0,0,0,0
+2,-0,0,3,1,0,0,0,16,0,0,0,0
+2,local,0,0,1,1,1,0,0,0,17,0,0
+3,+0,0,20,0,0,0,0,0,0,0,0,0
+3,-0,0,3,1,0,0,0,16,0,0,0,0
+3,local,0,0,1,1,1,0,0,0,17,0,0
+";
+    assert_eq!(rt; stalls(a, &network)?.as_slice(), report.as_slice());
+    let report = b"cycles 20
+packets 4
+delivered 0
+left 4
+latency_sum 0
+latency_max -
+last_event 3
+misfits 0
+empty 92
+routed 8
+granted 4
+moved 4
+no_flit 0
+no_idle_channel 64
+lost_channel 0
+no_credit 68
+lost_input 0
+lost_switch 0
+";
+    assert_eq!(rt; summary(a, &network)?.as_slice(), report.as_slice());
+    Ok(())
+}
+
+// The same packets with two channels by resource class: what router 2 finds in cycle 5.
+#[test]
+fn findings_of_a_router(rt: HostRuntime) -> Result<(), Fail> {
+    let a = rt.alloc();
+    let ring = Shape::new(Kind::Torus, &[4])?;
+    let relation = Relation::build(a, &ring, 2, 1, Rule::Dateline)?;
+    let traffic = b"source,destination,class,length,due
+0,2,0,4,0
+1,3,0,4,0
+2,0,0,4,0
+3,1,0,4,0
+";
+    let network = network(a, relation, 1, traffic, 6)?;
+    assert!(rt; 2 < network.relation().shape().nodes());
+    let report = b"port,vc,verdict,packet,out
++0,0,Empty,-,-
++0,1,Empty,-,-
+-0,0,Empty,-,-
+-0,1,Moved,1,+0.1
+local,0,NoCredit,2,+0.0
+local,1,Empty,-,-
+";
+    assert_eq!(rt; findings(a, &network, 2)?.as_slice(), report.as_slice());
+    Ok(())
+}
+
+// A table of two nodes, before its first cycle.
+#[test]
+fn findings_before_the_first_cycle(rt: HostRuntime) -> Result<(), Fail> {
+    let a = rt.alloc();
+    let line = Shape::new(Kind::Mesh, &[2])?;
+    let table = b"class,router,in_port,in_vc,dst,out_port,out_vc
+0,0,local,0,1,+0,0
+0,0,local,1,1,+0,0
+0,1,local,0,0,-0,0
+0,1,local,1,0,-0,0
+0,1,-0,0,1,local,0
+0,0,+0,0,0,local,0
+";
+    let rows = read_table(a, &line, table)?;
+    let relation = Relation::build(a, &line, 2, 1, Rule::Rows(rows))?;
+    let network = network(a, relation, 2, b"source,destination,class,length,due\n", 0)?;
+    assert!(rt; 1 < network.relation().shape().nodes());
+    let report = b"port,vc,verdict,packet,out\n";
+    assert_eq!(rt; findings(a, &network, 1)?.as_slice(), report.as_slice());
+    Ok(())
+}

@@ -1,0 +1,69 @@
+use noc_files::{Out, Sink, WriteFault, write_pieces};
+use std::io;
+use std::io::Write;
+use std::test::Fail;
+
+// Takes one byte for each call into a buffer, and nothing once it is full. It says how often it was called.
+#[derive(Drop)]
+struct Narrow<'a> {
+    taken: &'a mut [u8],
+    count: usize,
+    calls: usize,
+}
+
+impl Write for Narrow<'_> {
+    fn write(&mut self, buf: &[u8]) -> io::Result<usize> {
+        self.calls = self.calls.saturating_add(1);
+        if buf.is_empty() || self.taken.len() <= self.count {
+            return Ok(0);
+        }
+        self.taken[self.count] = buf[0];
+        self.count += 1;
+        Ok(1)
+    }
+
+    fn flush(&mut self) -> io::Result<()> {
+        Ok(())
+    }
+}
+
+const PIECES: [&str; 5] = ["fault ", "", "network", " 4", "\n"];
+
+#[test]
+fn pieces_go_out_in_order(rt: HostRuntime) -> Result<(), Fail> {
+    let mut out = Out::new(Vec::new(rt.alloc()));
+    assert_eq!(rt; write_pieces(&PIECES, &mut out), Ok(()));
+    assert!(rt; !out.failed());
+    assert_eq!(rt;
+        out.into_inner().as_slice(),
+        b"fault network 4\n".as_slice()
+    );
+    Ok(())
+}
+
+#[test]
+fn a_sink_that_takes_some_bytes_and_then_nothing(rt: HostRuntime) -> Result<(), Fail> {
+    let text = b"fault network 4\n".as_slice();
+    for count in 0..17usize {
+        let mut room = vec![in rt.alloc(); 0u8; count]?;
+        let mut out = Out::new(Narrow {
+            taken: room.as_mut_slice(),
+            count: 0,
+            calls: 0,
+        });
+        let answer = write_pieces(&PIECES, &mut out);
+        assert_eq!(rt; out.failed(), count < 16);
+        let narrow = out.into_inner();
+        assert_eq!(rt; narrow.count, count);
+        if count < 16 {
+            let written = count as u64;
+            assert_eq!(rt; answer, Err(WriteFault { written }));
+            assert_eq!(rt; narrow.calls, count + 1);
+        } else {
+            assert_eq!(rt; answer, Ok(()));
+            assert_eq!(rt; narrow.calls, count);
+        }
+        assert!(rt; text.starts_with(room.as_slice()));
+    }
+    Ok(())
+}

@@ -1,0 +1,188 @@
+-- What the outcome of a view says of its channels, and the decisions that it is rebuilt to.
+use Rattle.std.proofs.Common.{◌≡◌, ℕ, ◌+◌, ◌*◌, ◌<◌, ◌≤◌, Bool, true, false, List, [], length, get_or, Option, Some, None, refl, ap, sym, ◌∙◌, arith, inl, inr, subst}
+use Rattle.std.specs.Prelude.{IfSome, ◌⊎◌, ◌/◌, ◌%◌, ◌&&◌, not, option_map, nat_eq, if◌then◌else◌}
+use Rattle.std.proofs.lemmas.Bool.{cases_lt, false≢true}
+use Rattle.std.proofs.lemmas.List.{get_or_past}
+use Rattle.noc_topo.specs.Words.{map_indexed, tabulate, is_some_of}
+use Rattle.noc_topo.proofs.WordLemmas.{get_or-map_indexed, get_or-tabulate, length-map_indexed, length-tabulate, map_indexed-from_each, tabulate-from_each}
+use Rattle.noc_packet.specs.Set.{has_bit}
+use Rattle.noc_route.specs.Routes.{Routes}
+use Rattle.noc_vc.specs.Input.{is_idle_phase}
+use Rattle.noc_vc.specs.declared.input.InputState.{InputState}
+use Rattle.noc_vc.specs.declared.input.InputState.TheVariants.{Idle, Waiting, Active}
+use Rattle.noc_router.specs.Settled.{CanGrant, CanSettle, CanTakeEffect, IsOutcomeOf, IsPlanOf, decisions_by, effect_of, finding_by, found_out, found_with, granted_by, outcome_verdict, settled_by, tallied}
+use Rattle.noc_router.specs.Sound.{is_occupied, out_in}
+use Rattle.noc_router.specs.Tally.{empty_finding, finding_at, is_empty_verdict}
+use Rattle.noc_router.specs.Verdict.{Round, Waits, Holds, ask_of, out_of, is_event, verdict_of}
+use Rattle.noc_router.specs.View.{View, Site, Outcome, Decisions, asked_for, claim_in, counted, decided_verdict, finding_of, outcome, planned, port_and_vc, route_of, size_of, view_buffer, view_claim, view_input, view_round, idle_beats}
+use Rattle.noc_router.specs.declared.verdict.Verdict.{Verdict}
+use Rattle.noc_router.specs.declared.verdict.Verdict.TheVariants.{Empty, Routed, Granted, Moved, NoFlit, NoIdleChannel, LostChannel, NoCredit, LostInput, LostSwitch}
+use Rattle.noc_router.specs.declared.verdict.Finding.{Finding}
+use Rattle.noc_router.proofs.PlanFacts.{asks-at, decided-is, holds_flit, lists_of, verdict-granted}
+use Rattle.noc_router.proofs.SettleLemmas.{IsSettling, IsWhole, can_settle, found-some, settling_first, settling_more, site-kept}
+use Rattle.noc_router.proofs.TallyLemmas.{verdict-at}
+
+-- ---- the decisions of an outcome
+-- the verdict of a channel is that of the outcome
+pub decided-outcome : (p : Outcome) (v : View) (i : ℕ) → i < size_of v.site → decided_verdict (decisions_by p v) i ≡ outcome_verdict p i
+decided-outcome p v i l =
+    verdict-at (decisions_by p v) i (omega (arith, length-tabulate (size_of v.site) (λ k. found_with v (outcome_verdict p k) k)))
+    ∙ ap (λ (f : Finding). f.verdict) (get_or-tabulate (size_of v.site) i (λ k. found_with v (outcome_verdict p k) k) empty_finding l)
+
+decisions-planned : (relation : Routes) (v : View) → decisions_by (outcome relation v) v ≡ planned relation v
+unfolding outcome planned
+decisions-planned relation v =
+    let f : ℕ → Finding = λ i. found_with v (outcome_verdict (outcome relation v) i) i in
+    ap (λ fs. record { round = view_round v; findings = fs; routes = tabulate (size_of v.site) (route_of relation v) })
+    (tabulate-from_each (size_of v.site) (finding_of (view_round v) v) (tabulate (size_of v.site) f) empty_finding (length-tabulate (size_of v.site) f)
+    (λ i l. get_or-tabulate (size_of v.site) i f empty_finding l
+    ∙ ap (λ x. found_with v x i) (get_or-tabulate (size_of v.site) i (λ k. (finding_of (view_round v) v k).verdict) Empty l)))
+
+-- .. they are what is planned
+pub decisions-are : (relation : Routes) (p : Outcome) (v : View) → p ≡ outcome relation v → decisions_by p v ≡ planned relation v
+decisions-are relation p v e = ap (λ x. decisions_by x v) e ∙ decisions-planned relation v
+
+pub plan_of : (p : Outcome) (v : View) → IsOutcomeOf p v → IsPlanOf (decisions_by p v) v
+plan_of p v is = record { relation = is.relation; fits = is.fits; is = decisions-are is.relation p v is.is }
+
+-- ---- what an outcome says of one channel
+-- the output channel that it asks for
+pub outcome-ask : (p : Outcome) (v : View) (i : ℕ) → IsOutcomeOf p v → i < size_of v.site → get_or p.asks i None ≡ ask_of (view_claim v i)
+unfolding outcome
+outcome-ask p v i is l = ap (λ (x : Outcome). get_or x.asks i None) is.is ∙ asks-at v i l
+
+-- the verdict on it
+outcome-verdict : (p : Outcome) (v : View) (i : ℕ) → IsOutcomeOf p v → i < size_of v.site → outcome_verdict p i ≡ verdict_of v.site.vcs p.round i (view_claim v i) (holds_flit v i)
+outcome-verdict p v i is l = sym (decided-outcome p v i l) ∙ decided-is (decisions_by p v) v i (lists_of (decisions_by p v) v (plan_of p v is)) l
+
+full_verdict : (v : View) (round : Round) (i : ℕ) (phase : InputState) (empty : Bool) → not (is_idle_phase phase && empty) ≡ not (is_empty_verdict (verdict_of v.site.vcs round i (claim_in v phase) (not empty)))
+full_verdict v round i Idle true = refl
+full_verdict v round i Idle false = refl
+full_verdict v round i (Waiting set) empty = waits (asked_for v set)
+  where
+    given : (b : Bool) → true ≡ not (is_empty_verdict (if b then Granted else LostChannel))
+    given true = refl
+    given false = refl
+
+    waits : (ask : Option ℕ) → true ≡ not (is_empty_verdict (verdict_of v.site.vcs round i (Waits ask) (not empty)))
+    waits None = refl
+    waits (Some o) = given (is_some_of (get_or round.grants o None) i)
+full_verdict v round i (Active o) empty = holds _ empty
+  where
+    moves : (a b : Bool) → true ≡ not (is_empty_verdict (if a then (if b then Moved else LostSwitch) else LostInput))
+    moves true true = refl
+    moves true false = refl
+    moves false b = refl
+
+    holds : (credit none : Bool) → true ≡ not (is_empty_verdict (verdict_of v.site.vcs round i (Holds o credit) (not none)))
+    holds credit true = refl
+    holds false false = refl
+    holds true false = moves (is_some_of (get_or round.picks (i / v.site.vcs) None) (i % v.site.vcs)) (is_some_of (get_or round.wins (o / v.site.vcs) None) (i / v.site.vcs))
+
+-- a channel that holds something has another verdict than Empty
+pub outcome-occupied : (p : Outcome) (v : View) (i : ℕ) → IsOutcomeOf p v → i < size_of v.site → is_occupied (view_input v i) (view_buffer v i) ≡ not (is_empty_verdict (outcome_verdict p i))
+outcome-occupied p v i is l = full_verdict v p.round i (view_input v i).phase _ ∙ sym (ap (λ x. not (is_empty_verdict x)) (outcome-verdict p v i is l))
+
+-- what is found of it, by its state
+pub outcome-finding : (p : Outcome) (v : View) (i : ℕ) → IsOutcomeOf p v → i < size_of v.site → finding_by p v.site.vcs v.inputs i ≡ found_with v (outcome_verdict p i) i
+outcome-finding p v i is l =
+    ap (λ x. record { verdict = outcome_verdict p i; packet = (view_input v i).packet; out = option_map (port_and_vc v.site) x }) (named_in (view_input v i).phase (get_or p.asks i None) (outcome-ask p v i is l))
+  where
+    named_in : (phase : InputState) (ask : Option ℕ) → ask ≡ ask_of (claim_in v phase) → out_in phase ask ≡ out_of (claim_in v phase)
+    named_in Idle ask e = refl
+    named_in (Waiting set) ask e = e
+    named_in (Active o) ask e = refl
+
+-- ---- all channels are counted
+pub counted-outcome : (p : Outcome) (v : View) (counts : List (List ℕ)) → length counts ≡ size_of v.site
+    → map_indexed (λ i xs. counted (outcome_verdict p i) xs) counts ≡ map_indexed (λ i xs. counted (decided_verdict (decisions_by p v) i) xs) counts
+counted-outcome p v counts n =
+    let f : ℕ → List ℕ → List ℕ = λ i xs. counted (outcome_verdict p i) xs in
+    map_indexed-from_each (λ i xs. counted (decided_verdict (decisions_by p v) i) xs) counts (map_indexed f counts) [] [] (length-map_indexed f counts)
+    (λ i l. get_or-map_indexed f counts i [] [] l ∙ ap (λ x. counted x (get_or counts i [])) (sym (decided-outcome p v i (omega arith))))
+
+pub found-outcome : (p : Outcome) (v : View) (n : ℕ) → IsOutcomeOf p v → n ≡ size_of v.site → tabulate n (finding_by p v.site.vcs v.inputs) ≡ (decisions_by p v).findings
+found-outcome p v n is e =
+    let f : ℕ → Finding = finding_by p v.site.vcs v.inputs in
+    tabulate-from_each (size_of v.site) (λ i. found_with v (outcome_verdict p i) i) (tabulate n f) empty_finding (length-tabulate n f ∙ e)
+    (λ i l. get_or-tabulate n i f empty_finding (omega arith) ∙ outcome-finding p v i is l)
+
+-- .. which leaves the outcome as it is
+outcome-counted : (relation : Routes) (d : Decisions) (v : View) → outcome relation v ≡ outcome relation (tallied d v)
+unfolding outcome view_round
+outcome-counted relation d v = refl
+
+pub outcome-tallied : (p : Outcome) (d : Decisions) (v : View) → IsOutcomeOf p v → IsOutcomeOf p (tallied d v)
+outcome-tallied p d v is = record {
+  relation = is.relation;
+  fits = record { grid = is.fits.grid; vcs = is.fits.vcs };
+  is = is.is ∙ outcome-counted is.relation d v;
+}
+
+-- ---- the verdict of one channel takes effect
+module _ (p : Outcome) (v w : View) (i : ℕ) (is : IsOutcomeOf p v) (l : i < size_of v.site) (site : w.site ≡ v.site) where
+  -- the output channel that it gets is the one that it asks for
+  found-ask : outcome_verdict p i ≡ Granted → found_out (decisions_by p v) w i ≡ get_or p.asks i None
+  found-ask e =
+      let d = decisions_by p v in
+      let g = verdict-granted v.site.vcs p.round i (view_claim v i) (holds_flit v i) (sym (outcome-verdict p v i is l) ∙ e) in
+      ap (λ (s : Site). option_map (λ (place : ℕ × ℕ). place.0 * s.vcs + place.1) (finding_at d.findings i).out) site
+      ∙ found-some d v i g.0 (lists_of d v (plan_of p v is)) l (ap out_of g.1) ∙ sym (outcome-ask p v i is l ∙ ap ask_of g.1)
+
+  can_take-is : (x : Verdict) → outcome_verdict p i ≡ x → CanSettle (decisions_by p v) w i x → CanTakeEffect p w i x
+  can_take-is Routed e can = can
+  can_take-is Granted e can = let P : Option ℕ → Type 0 = λ o. IfSome o (CanGrant w i) in subst P (found-ask e) can
+  can_take-is Moved e can = can
+  can_take-is Empty e can = can
+  can_take-is NoFlit e can = can
+  can_take-is NoIdleChannel e can = can
+  can_take-is LostChannel e can = can
+  can_take-is NoCredit e can = can
+  can_take-is LostInput e can = can
+  can_take-is LostSwitch e can = can
+
+  effect-is : (x : Verdict) → outcome_verdict p i ≡ x → effect_of p i w x ≡ settled_by (decisions_by p v) i w x
+  effect-is Routed e = refl
+  effect-is Granted e = ap (λ o. granted_by i o w) (sym (found-ask e))
+  effect-is Moved e = refl
+  effect-is Empty e = refl
+  effect-is NoFlit e = refl
+  effect-is NoIdleChannel e = refl
+  effect-is LostChannel e = refl
+  effect-is NoCredit e = refl
+  effect-is LostInput e = refl
+  effect-is LostSwitch e = refl
+
+-- a verdict that is left can take effect
+pub can_take : (p : Outcome) (v w : View) (rest rest' index : ℕ) → IsWhole v → IsOutcomeOf p v → ((k : ℕ) → has_bit rest' k ≡ (not (nat_eq k index) && has_bit rest k)) → has_bit rest index ≡ true
+    → IsSettling (decisions_by p v) v rest w → CanTakeEffect p w index (outcome_verdict p index)
+can_take p v w rest rest' index whole is members member so_far =
+    let d = decisions_by p v in
+    let l : index < size_of v.site = so_far.below index member in
+    let P : Verdict → Type 0 = λ x. CanSettle d w index x in
+    can_take-is p v w index is l (site-kept d v w rest so_far) (outcome_verdict p index) refl
+    (subst P (decided-outcome p v index l) (can_settle d v w rest rest' index whole (plan_of p v is) members member so_far))
+
+-- .. and is not left then
+pub effect_more : (p : Outcome) (v w : View) (rest rest' index : ℕ) (new : View) → IsWhole v → IsOutcomeOf p v → ((k : ℕ) → has_bit rest' k ≡ (not (nat_eq k index) && has_bit rest k)) → has_bit rest index ≡ true
+    → IsSettling (decisions_by p v) v rest w → new ≡ effect_of p index w (outcome_verdict p index) → IsSettling (decisions_by p v) v rest' new
+effect_more p v w rest rest' index new whole is members member so_far e =
+    let d = decisions_by p v in
+    let l : index < size_of v.site = so_far.below index member in
+    settling_more d v w rest rest' index new whole (plan_of p v is) members member so_far
+    (e ∙ effect-is p v w index is l (site-kept d v w rest so_far) (outcome_verdict p index) refl ∙ ap (settled_by d index w) (sym (decided-outcome p v index l)))
+
+-- an event is the verdict of an input channel
+event-below : (p : Outcome) (n k : ℕ) → length p.verdicts ≡ n → is_event (outcome_verdict p k) ≡ true → k < n
+event-below p n k long e = at (cases_lt k n)
+  where
+    at : (k < n) ⊎ (n ≤ k) → k < n
+    at (inl l) = l
+    at (inr u) = absurd (false≢true (sym (ap is_event (get_or_past p.verdicts k Empty (omega arith))) ∙ e))
+
+-- where all events are left, nothing has taken effect
+pub effect_first : (p : Outcome) (v : View) (rest : ℕ) → IsWhole v → IsOutcomeOf p v → length p.verdicts ≡ size_of v.site → ((k : ℕ) → has_bit rest k ≡ is_event (outcome_verdict p k))
+    → v.to_put ≡ idle_beats v.site → IsSettling (decisions_by p v) v rest v
+effect_first p v rest whole is long events idle =
+    settling_first (decisions_by p v) v rest whole (plan_of p v is) (λ i l. events i ∙ ap is_event (sym (decided-outcome p v i l)))
+    (λ k e. event-below p (size_of v.site) k long (sym (events k) ∙ e)) idle

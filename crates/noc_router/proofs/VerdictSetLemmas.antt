@@ -1,0 +1,232 @@
+-- The verdicts that the sets of channels say.
+use Rattle.std.proofs.Common.{◌≡◌, ℕ, ◌/◌, ◌%◌, ◌<◌, ◌≤◌, Bool, true, false, List, length, get_or, Option, Some, None, refl, ap, sym, ◌∙◌, arith, inl, inr}
+use Rattle.std.specs.Prelude.{◌&&◌, ◌||◌, ◌⊎◌, not, is_some, if◌then◌else◌}
+use Rattle.std.proofs.lemmas.Bool.{cases_lt, false≢true}
+use Rattle.std.proofs.lemmas.List.{get_or_past}
+use Rattle.noc_topo.specs.Words.{tabulate, is_some_of}
+use Rattle.noc_topo.proofs.WordLemmas.{get_or-tabulate, length-tabulate}
+use Rattle.noc_packet.specs.Set.{has_bit}
+use Rattle.noc_vc.specs.Input.{is_active, is_empty, is_idle_phase, is_waiting}
+use Rattle.noc_vc.specs.Output.{has_credit}
+use Rattle.noc_vc.specs.declared.input.InputState.{InputState}
+use Rattle.noc_vc.specs.declared.input.InputState.TheVariants.{Idle, Waiting, Active}
+use Rattle.noc_router.specs.Planned.{outcome_in}
+use Rattle.noc_router.specs.Requests.{AreAmong, is_given}
+use Rattle.noc_router.specs.Sound.{is_supplied}
+use Rattle.noc_router.specs.Standing.{IsStanding, is_won_from}
+use Rattle.noc_router.specs.Verdict.{Round, Unrouted, Waits, Holds, ask_of, is_event, is_granted, is_moved, verdict_of}
+use Rattle.noc_router.specs.VerdictSets.{verdict_by}
+use Rattle.noc_router.specs.View.{Outcome, View, asked_for, claim_in, finding_of, size_of, view_buffer, view_claim, view_input, view_output}
+use Rattle.noc_router.specs.declared.channels.Standing.{Standing}
+use Rattle.noc_router.specs.declared.plan.Plan.TheInside.{Inside}
+use Rattle.noc_router.specs.declared.verdict.Verdict.{Verdict}
+use Rattle.noc_router.specs.declared.verdict.Verdict.TheVariants.{Empty, Routed, Granted, Moved, NoFlit, NoIdleChannel, LostChannel, NoCredit, LostInput, LostSwitch}
+use Rattle.noc_router.specs.declared.verdict_sets.VerdictSets.{VerdictSets}
+
+-- the first verdict in whose set a channel is, by whether it is in each
+first : Bool → Bool → Bool → Bool → Bool → Bool → Bool → Bool → Bool → Verdict
+first moved granted routed no_flit no_idle_channel lost_channel no_credit lost_input lost_switch =
+    if moved then Moved
+    else if granted then Granted
+    else if routed then Routed
+    else if no_flit then NoFlit
+    else if no_idle_channel then NoIdleChannel
+    else if lost_channel then LostChannel
+    else if no_credit then NoCredit
+    else if lost_input then LostInput
+    else if lost_switch then LostSwitch
+    else Empty
+
+first_by : (sets : VerdictSets) (k : ℕ)
+    → verdict_by sets k ≡ first (has_bit sets.moved k) (has_bit sets.granted k) (has_bit sets.routed k) (has_bit sets.no_flit k) (has_bit sets.no_idle_channel k) (has_bit sets.lost_channel k) (has_bit sets.no_credit k)
+    (has_bit sets.lost_input k) (has_bit sets.lost_switch k)
+unfolding first
+first_by sets k = refl
+
+same_first : (a b c d e f g h i p q r s t u v w x : Bool) → a ≡ p → b ≡ q → c ≡ r → d ≡ s → e ≡ t → f ≡ u → g ≡ v → h ≡ w → i ≡ x → first a b c d e f g h i ≡ first p q r s t u v w x
+same_first a b c d e f g h i p q r s t u v w x ap_ bq cr ds et fu gv hw ix = cc
+
+-- ---- which verdicts take effect
+first_event : (m g r a b c d e f : Bool) → is_event (first m g r a b c d e f) ≡ (m || (g || r))
+unfolding first
+first_event true g r a b c d e f = refl
+first_event false true r a b c d e f = refl
+first_event false false true a b c d e f = refl
+first_event false false false true b c d e f = refl
+first_event false false false false true c d e f = refl
+first_event false false false false false true d e f = refl
+first_event false false false false false false true e f = refl
+first_event false false false false false false false true f = refl
+first_event false false false false false false false false true = refl
+first_event false false false false false false false false false = refl
+
+first_moved : (m g r a b c d e f : Bool) → is_moved (first m g r a b c d e f) ≡ m
+unfolding first
+first_moved true g r a b c d e f = refl
+first_moved false true r a b c d e f = refl
+first_moved false false true a b c d e f = refl
+first_moved false false false true b c d e f = refl
+first_moved false false false false true c d e f = refl
+first_moved false false false false false true d e f = refl
+first_moved false false false false false false true e f = refl
+first_moved false false false false false false false true f = refl
+first_moved false false false false false false false false true = refl
+first_moved false false false false false false false false false = refl
+
+first_granted : (m g r a b c d e f : Bool) → is_granted (first m g r a b c d e f) ≡ (not m && g)
+unfolding first
+first_granted true g r a b c d e f = refl
+first_granted false true r a b c d e f = refl
+first_granted false false true a b c d e f = refl
+first_granted false false false true b c d e f = refl
+first_granted false false false false true c d e f = refl
+first_granted false false false false false true d e f = refl
+first_granted false false false false false false true e f = refl
+first_granted false false false false false false false true f = refl
+first_granted false false false false false false false false true = refl
+first_granted false false false false false false false false false = refl
+
+-- whether a verdict is an event, by the sets
+event-by : (sets : VerdictSets) (k : ℕ) → is_event (verdict_by sets k) ≡ (has_bit sets.moved k || (has_bit sets.granted k || has_bit sets.routed k))
+event-by sets k = ap is_event (first_by sets k) ∙ first_event _ _ _ _ _ _ _ _ _
+
+-- whether it is Moved
+pub moved-by : (sets : VerdictSets) (k : ℕ) → is_moved (verdict_by sets k) ≡ has_bit sets.moved k
+moved-by sets k = ap is_moved (first_by sets k) ∙ first_moved _ _ _ _ _ _ _ _ _
+
+-- whether it is Granted
+pub granted-by : (sets : VerdictSets) (k : ℕ) → is_granted (verdict_by sets k) ≡ (not (has_bit sets.moved k) && has_bit sets.granted k)
+granted-by sets k = ap is_granted (first_by sets k) ∙ first_granted _ _ _ _ _ _ _ _ _
+
+-- an event is one of the channels where those that move, are granted something or are routed are
+pub event-below : (sets : VerdictSets) (k n : ℕ) → (has_bit sets.moved k ≡ true → k < n) → (has_bit sets.granted k ≡ true → k < n) → (has_bit sets.routed k ≡ true → k < n)
+    → is_event (verdict_by sets k) ≡ true → k < n
+event-below sets k n moved granted routed e = at (has_bit sets.moved k) refl (has_bit sets.granted k) refl (has_bit sets.routed k) refl (sym (event-by sets k) ∙ e)
+  where
+    at : (m : Bool) → has_bit sets.moved k ≡ m → (g : Bool) → has_bit sets.granted k ≡ g → (r : Bool) → has_bit sets.routed k ≡ r → (has_bit sets.moved k || (has_bit sets.granted k || has_bit sets.routed k)) ≡ true → k < n
+    at true is g has r was h = moved is
+    at false is true has r was h = granted has
+    at false is false has true was h = routed was
+    at false is false has false was h = absurd (false≢true (sym (ap (λ b. b || (has_bit sets.granted k || has_bit sets.routed k)) is ∙ ap (λ b. b || has_bit sets.routed k) has ∙ was) ∙ h))
+
+first_of_both : (a b : Bool) → (a && b) ≡ true → a ≡ true
+first_of_both true b e = refl
+first_of_both false b e = e
+
+-- a member of a set that passes a test too
+pub member-passes : (set part k : ℕ) (test : Bool) → has_bit part k ≡ (has_bit set k && test) → has_bit part k ≡ true → has_bit set k ≡ true
+member-passes set part k test is e = first_of_both (has_bit set k) test (sym is ∙ e)
+
+-- a part is what it has in common with the whole
+pub among-both : (set part k : ℕ) → AreAmong set part → has_bit part k ≡ (has_bit set k && has_bit part k)
+among-both set part k among = at (has_bit part k) refl
+  where
+    none : (b : Bool) → false ≡ (b && false)
+    none true = refl
+    none false = refl
+
+    at : (b : Bool) → has_bit part k ≡ b → b ≡ (has_bit set k && b)
+    at true e = sym (ap (λ x. x && true) (among k e))
+    at false e = none (has_bit set k)
+
+-- who is given something asks for it
+pub given-below : (grants asks : List (Option ℕ)) (k : ℕ) → is_given grants (get_or asks k None) k ≡ true → k < length asks
+given-below grants asks k e = at (cases_lt k (length asks))
+  where
+    at : (k < length asks) ⊎ (length asks ≤ k) → k < length asks
+    at (inl l) = l
+    at (inr u) = absurd (false≢true (sym (ap (λ o. is_given grants o k) (get_or_past asks k None u)) ∙ e))
+
+-- ---- the verdicts of a plan
+-- whether a channel of a plan has an event
+pub event-at : (n : ℕ) (sets : VerdictSets) (k : ℕ) → (is_event (verdict_by sets k) ≡ true → k < n) → is_event (verdict_by sets k) ≡ is_event (get_or (tabulate n (verdict_by sets)) k Empty)
+event-at n sets k below = at (cases_lt k n)
+  where
+    none : (b : Bool) → is_event (verdict_by sets k) ≡ b → n ≤ k → is_event (verdict_by sets k) ≡ false
+    none false e u = e
+    none true e u = let l : k < n = below e in absurd (omega arith)
+
+    at : (k < n) ⊎ (n ≤ k) → is_event (verdict_by sets k) ≡ is_event (get_or (tabulate n (verdict_by sets)) k Empty)
+    at (inl l) = ap is_event (sym (get_or-tabulate n k (verdict_by sets) Empty l))
+    at (inr u) = none (is_event (verdict_by sets k)) refl u ∙ sym (ap is_event (get_or_past (tabulate n (verdict_by sets)) k Empty (omega (arith, length-tabulate n (verdict_by sets)))))
+
+-- the verdict of a plan on one of its channels
+pub plan-verdict : (p : Inside) (o : Outcome) (i : ℕ) → outcome_in p ≡ o → i < length o.verdicts → (i < p.requests.size) × (get_or o.verdicts i Empty ≡ verdict_by p.verdicts i)
+plan-verdict p o i view l =
+    let same : length o.verdicts ≡ p.requests.size = sym (ap (λ (x : Outcome). length x.verdicts) view) ∙ length-tabulate p.requests.size (verdict_by p.verdicts) in
+    let within : i < p.requests.size = omega arith in
+    (within, sym (ap (λ (x : Outcome). get_or x.verdicts i Empty) view) ∙ get_or-tabulate p.requests.size i (verdict_by p.verdicts) Empty within)
+
+-- ---- the verdict on a channel
+-- the first verdict of a channel in this state, whose buffer may be empty, and which its port may have picked
+abbrev first_in : Bool → Bool → Bool → Bool → Bool → Bool → Bool → Bool → Bool → Verdict
+first_in idle waits active supplied won granted asks empty picked =
+    let ready = active && (not empty && supplied) in
+    let chosen = ready && picked in
+    let moved = chosen && won in
+    first moved granted (idle && not empty) (active && empty) (not asks && waits) (not granted && asks) (active && (not empty && not supplied)) (not chosen && ready) (not moved && chosen)
+
+idle_verdict : (vcs : ℕ) (round : Round) (k : ℕ) (empty picked : Bool) → first_in true false false false false false false empty picked ≡ verdict_of vcs round k Unrouted (not empty)
+unfolding first
+idle_verdict vcs round k true picked = refl
+idle_verdict vcs round k false picked = refl
+
+waiting_verdict : (vcs : ℕ) (round : Round) (k : ℕ) (ask : Option ℕ) (empty picked : Bool)
+    → first_in false true false false false (is_given round.grants ask k) (is_some ask) empty picked ≡ verdict_of vcs round k (Waits ask) (not empty)
+unfolding first
+waiting_verdict vcs round k None empty picked = refl
+waiting_verdict vcs round k (Some o) empty picked = at (is_some_of (get_or round.grants o None) k)
+  where
+    at : (granted : Bool) → first_in false true false false false granted true empty picked ≡ (if granted then Granted else LostChannel)
+    at true = refl
+    at false = refl
+
+sent_verdict : (picked won : Bool) → first_in false false true true won false false false picked ≡ (if picked then (if won then Moved else LostSwitch) else LostInput)
+unfolding first
+sent_verdict true true = refl
+sent_verdict true false = refl
+sent_verdict false won = refl
+
+active_verdict : (vcs : ℕ) (round : Round) (k o : ℕ) (credit empty picked : Bool) → picked ≡ is_some_of (get_or round.picks (k / vcs) None) (k % vcs)
+    → first_in false false true credit (is_some_of (get_or round.wins (o / vcs) None) (k / vcs)) false false empty picked ≡ verdict_of vcs round k (Holds o credit) (not empty)
+unfolding first
+active_verdict vcs round k o credit true picked is = refl
+active_verdict vcs round k o false false picked is = refl
+active_verdict vcs round k o true false picked is =
+    sent_verdict picked (is_some_of (get_or round.wins (o / vcs) None) (k / vcs))
+    ∙ ap (λ b. if b then (if is_some_of (get_or round.wins (o / vcs) None) (k / vcs) then Moved else LostSwitch) else LostInput) is
+
+state_verdict : (v : View) (round : Round) (k : ℕ) (phase : InputState) (empty picked : Bool) → picked ≡ is_some_of (get_or round.picks (k / v.site.vcs) None) (k % v.site.vcs)
+    → first_in (is_idle_phase phase) (is_waiting phase) (is_active phase) (is_supplied v.outputs phase) (is_won_from v round k phase) (is_given round.grants (ask_of (claim_in v phase)) k)
+    (is_some (ask_of (claim_in v phase))) empty picked
+    ≡ verdict_of v.site.vcs round k (claim_in v phase) (not empty)
+state_verdict v round k Idle empty picked is = idle_verdict v.site.vcs round k empty picked
+state_verdict v round k (Waiting set) empty picked is = waiting_verdict v.site.vcs round k (asked_for v set) empty picked
+state_verdict v round k (Active o) empty picked is = active_verdict v.site.vcs round k o (has_credit (view_output v o)) empty picked is
+
+-- the sets of a round, by the sets of what the channels can go on with
+pub record AreVerdicts (v : View) (round : Round) (s : Standing) (asking picked : ℕ) (sets : VerdictSets) (k : ℕ) : Type 0 where
+  pub asks : has_bit asking k ≡ is_some (ask_of (view_claim v k))
+  pub draws : has_bit picked k ≡ is_some_of (get_or round.picks (k / v.site.vcs) None) (k % v.site.vcs)
+  pub picks : has_bit picked k ≡ (has_bit s.ready k && has_bit picked k)
+  pub moved : has_bit sets.moved k ≡ (has_bit picked k && is_won_from v round k (view_input v k).phase)
+  pub granted : has_bit sets.granted k ≡ is_given round.grants (ask_of (view_claim v k)) k
+  pub routed : sets.routed ≡ s.heads
+  pub no_flit : sets.no_flit ≡ s.starved
+  pub no_idle_channel : has_bit sets.no_idle_channel k ≡ (not (has_bit asking k) && has_bit s.waiting k)
+  pub lost_channel : has_bit sets.lost_channel k ≡ (not (has_bit sets.granted k) && has_bit asking k)
+  pub no_credit : sets.no_credit ≡ s.unsupplied
+  pub lost_input : has_bit sets.lost_input k ≡ (not (has_bit picked k) && has_bit s.ready k)
+  pub lost_switch : has_bit sets.lost_switch k ≡ (not (has_bit sets.moved k) && has_bit picked k)
+
+-- .. give each channel its verdict
+pub verdict-on : (v : View) (round : Round) (s : Standing) (asking picked : ℕ) (sets : VerdictSets) (k : ℕ) → k < size_of v.site → IsStanding v s → AreVerdicts v round s asking picked sets k
+    → verdict_by sets k ≡ (finding_of round v k).verdict
+verdict-on v round s asking picked sets k l standing are =
+    let heads = standing.heads k l in
+    let waits = standing.waiting k l in
+    let starved = standing.starved k l in
+    let unsupplied = standing.unsupplied k l in
+    let ready = standing.ready k l in
+    first_by sets k ∙ same_first _ _ _ _ _ _ _ _ _ _ _ _ _ _ _ _ _ _ (cc) (cc) (cc) (cc) (cc) (cc) (cc) (cc) (cc)
+    ∙ state_verdict v round k (view_input v k).phase (is_empty (view_buffer v k)) (has_bit picked k) are.draws

@@ -1,0 +1,19 @@
+use Rattle.std.proofs.Common.{◌≡◌, None}
+use Rattle.noc_router.specs.Requests.{AreAmong, IsFilled}
+use Rattle.noc_router.specs.Verdict.{ask_of}
+use Rattle.noc_router.specs.View.{size_of, view_claim}
+use Rattle.noc_router.proofs.router.Router.ask_for_channels.Given as goal
+
+-- what the waiting channels ask for is there, but for the rest
+abbrev pub invariant-loop-index : goal.invariant-loop-index
+invariant-loop-index l = record {
+  among : AreAmong l.fn.waiting l.rest;
+  ports : l.requests.ports ≡ l.initial.requests.ports;
+  size : l.requests.size ≡ l.initial.requests.size;
+  routes : l.requests.routes.items ≡ l.initial.requests.routes.items;
+  asks : IsFilled (size_of l.self.site) l.rest None (λ k. ask_of (view_claim l.self k)) l.requests.asks;
+  goes : l.requests.goes ≡ l.initial.requests.goes;
+}
+
+abbrev pub decreases-loop-index : goal.decreases-loop-index
+decreases-loop-index l = l.rest
