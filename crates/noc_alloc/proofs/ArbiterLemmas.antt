@@ -102,24 +102,13 @@ module _ (key : ℕ → ℕ) (asks : ℕ → Bool) where
           one (inl s) = let ya : a ≡ y = sym s ∙ is in (ap asks (sym ya) ∙ h, omega arith, omega arith)
           one (inr s) = let r = rest y (s.1 ∙ ap Some (sym s.2 ∙ is)) in (r.0, omega arith, omega arith)
 
-  -- where one asks, one is picked
-  least_in-some : (n a x : ℕ) → a ≤ x → x < a + n → asks x ≡ true → (y : ℕ) × (least_in a n ≡ Some y)
-  unfolding least_in least_by
-  least_in-some zero a x l u t = absurd (omega arith)
-  least_in-some (suc n) a x l u t = at (asks a) refl (cases_eq a x) (λ other. least_in-some n (a + 1) x (omega arith) (omega arith) t)
-    where
-      at : (b : Bool) → asks a ≡ b → (a ≡ x) ⊎ (a ≡ x → ⊥) → (a ≢ x → (y : ℕ) × (least_in (a + 1) n ≡ Some y)) → (y : ℕ) × (least_in a (suc n) ≡ Some y)
-      at true h c rest = (lesser_by key a (least_in (a + 1) n), least_in-asks a n h)
-      at false h (inl same) rest = absurd (false≢true (sym h ∙ ap asks same ∙ t))
-      at false h (inr other) rest = let r = rest other in (r.0, least_in-skips a n h ∙ r.1)
-
 -- the distance in turn, at and past the pointer, and before it
 turn-at : (n p x : ℕ) → p ≤ x → x < n → distance_in_turn n p x ≡ x - p
 turn-at n p x l u =
     let e : x + (n - p) ≡ (x - p) + n = omega arith in
     rw e (add-mod_right (x - p) n ∙ mod-eq_of_lt (omega arith))
 
-turn-before : (n p x : ℕ) → x < p → p ≤ n → distance_in_turn n p x ≡ x + (n - p)
+turn-before : (n p x : ℕ) → x < p → x < n → distance_in_turn n p x ≡ x + (n - p)
 turn-before n p x l u = mod-eq_of_lt (omega arith)
 
 unfolds : (n p : ℕ) (asks : ℕ → Bool) → first_in_turn n p asks ≡ least_in (distance_in_turn n p) asks 0 n
@@ -150,11 +139,11 @@ first_in_turn-before n p x asks l u t free lower =
     unfolds n p asks
     ∙ least_in-is (distance_in_turn n p) asks x n 0 (omega arith) (omega arith) t
     (λ y _ below_n ty other.
-    rw (turn-before n p x l u) (farther y below_n ty other (cases_lt y p) (cases_lt y x)))
+    rw (turn-before n p x l (omega arith)) (farther y below_n ty other (cases_lt y p) (cases_lt y x)))
   where
     farther : (y : ℕ) → y < 0 + n → asks y ≡ true → y ≢ x → (y < p) ⊎ (p ≤ y) → (y < x) ⊎ (x ≤ y) → x + (n - p) < distance_in_turn n p y
     farther y below_n ty other (inl before) (inl less) = absurd (false≢true (sym (lower y less) ∙ ty))
-    farther y below_n ty other (inl before) (inr more) = rw (turn-before n p y before u) (omega arith)
+    farther y below_n ty other (inl before) (inr more) = rw (turn-before n p y before (omega arith)) (omega arith)
     farther y below_n ty other (inr after) _ = absurd (false≢true (sym (free y after (omega arith)) ∙ ty))
 
 pub first_in_turn-none : (n p : ℕ) (asks : ℕ → Bool) → ((y : ℕ) → y < n → asks y ≡ false) → first_in_turn n p asks ≡ None
@@ -163,13 +152,10 @@ first_in_turn-none n p asks free = unfolds n p asks ∙ least_in-none (distance_
 pub first_in_turn-picks : (n p y : ℕ) (asks : ℕ → Bool) → first_in_turn n p asks ≡ Some y → (asks y ≡ true) × (y < n)
 first_in_turn-picks n p y asks e = let r = least_in-picks (distance_in_turn n p) asks n 0 y (sym (unfolds n p asks) ∙ e) in (r.0, omega arith)
 
-pub first_in_turn-some : (n p x : ℕ) (asks : ℕ → Bool) → x < n → asks x ≡ true → (y : ℕ) × (first_in_turn n p asks ≡ Some y)
-first_in_turn-some n p x asks u t = let r = least_in-some (distance_in_turn n p) asks n 0 x (omega arith) (omega arith) t in (r.0, unfolds n p asks ∙ r.1)
-
 -- ---- the one that comes first so far, of the requesters below k
 abbrev pub IsNearest : ℕ → ℕ → (ℕ → Bool) → ℕ → Option ℕ → Type 0
 IsNearest n p asks k None = (y : ℕ) → y < k → asks y ≡ false
-IsNearest n p asks k (Some x) = (asks x ≡ true) × (x < k) × (p < n) × ((y : ℕ) → y < k → asks y ≡ true → y ≢ x → distance_in_turn n p x < distance_in_turn n p y)
+IsNearest n p asks k (Some x) = (asks x ≡ true) × (x < k) × ((y : ℕ) → y < k → asks y ≡ true → y ≢ x → distance_in_turn n p x < distance_in_turn n p y)
 
 -- of all requesters
 pub nearest-is : (n p : ℕ) (asks : ℕ → Bool) (r : Option ℕ) → IsNearest n p asks n r → r ≡ first_in_turn n p asks
@@ -177,7 +163,7 @@ nearest-is n p asks None h = sym (first_in_turn-none n p asks h)
 nearest-is n p asks (Some x) h =
     sym (unfolds n p asks
     ∙ least_in-is (distance_in_turn n p) asks x n 0 (omega arith) (omega (arith, h.1)) h.0
-    (λ y _ u ty other. h.3 y (omega arith) ty other))
+    (λ y _ u ty other. h.2 y (omega arith) ty other))
 
 -- one that does not ask changes nothing
 pub nearest-skips : (n p k : ℕ) (asks : ℕ → Bool) (r : Option ℕ) → asks k ≡ false → IsNearest n p asks k r → IsNearest n p asks (k + 1) r
@@ -186,19 +172,19 @@ nearest-skips n p k asks None e h = λ y l. at y l (cases_eq y k)
     at : (y : ℕ) → y < k + 1 → (y ≡ k) ⊎ (y ≡ k → ⊥) → asks y ≡ false
     at y l (inl same) = ap asks same ∙ e
     at y l (inr other) = h y (omega arith)
-nearest-skips n p k asks (Some x) e h = (h.0, omega (arith, h.1), h.2, (λ y l ty other. at y l ty other (cases_eq y k)))
+nearest-skips n p k asks (Some x) e h = (h.0, omega (arith, h.1), (λ y l ty other. at y l ty other (cases_eq y k)))
   where
     at : (y : ℕ) → y < k + 1 → asks y ≡ true → y ≢ x → (y ≡ k) ⊎ (y ≡ k → ⊥) → distance_in_turn n p x < distance_in_turn n p y
     at y l ty other (inl same) = absurd (false≢true (sym e ∙ sym (ap asks same) ∙ ty))
-    at y l ty other (inr less) = h.3 y (omega arith) ty other
+    at y l ty other (inr less) = h.2 y (omega arith) ty other
 
 -- the first that asks
-pub nearest-one : (n p k : ℕ) (asks : ℕ → Bool) → p < n → asks k ≡ true → IsNearest n p asks k None → IsNearest n p asks (k + 1) (Some k)
-nearest-one n p k asks l e h = (e, omega arith, l, (λ y u ty other. absurd (false≢true (sym (h y (omega arith)) ∙ ty))))
+pub nearest-one : (n p k : ℕ) (asks : ℕ → Bool) → asks k ≡ true → IsNearest n p asks k None → IsNearest n p asks (k + 1) (Some k)
+nearest-one n p k asks e h = (e, omega arith, (λ y u ty other. absurd (false≢true (sym (h y (omega arith)) ∙ ty))))
 
 -- the one held so far comes first
 pub nearest-held : (n p k x : ℕ) (asks : ℕ → Bool) → k < n → (p ≤ x) ⊎ (k < p) → IsNearest n p asks k (Some x) → IsNearest n p asks (k + 1) (Some x)
-nearest-held n p k x asks u side h = (h.0, omega (arith, h.1), h.2, (λ y l ty other. at y l ty other (cases_eq y k)))
+nearest-held n p k x asks u side h = (h.0, omega (arith, h.1), (λ y l ty other. at y l ty other (cases_eq y k)))
   where
     nearer-than : (p ≤ x) ⊎ (k < p) → distance_in_turn n p x < distance_in_turn n p k
     nearer-than (inl after) =
@@ -206,29 +192,28 @@ nearest-held n p k x asks u side h = (h.0, omega (arith, h.1), h.2, (λ y l ty o
         rw (turn-at n p x after (omega arith), turn-at n p k (omega arith) u) (omega arith)
     nearer-than (inr before) =
         let lx : x < k = h.1 in
-        let lp : p < n = h.2 in
-        rw (turn-before n p x (omega arith) (omega arith), turn-before n p k before (omega arith)) (omega arith)
+        rw (turn-before n p x (omega arith) (omega arith), turn-before n p k before u) (omega arith)
 
     at : (y : ℕ) → y < k + 1 → asks y ≡ true → y ≢ x → (y ≡ k) ⊎ (y ≡ k → ⊥) → distance_in_turn n p x < distance_in_turn n p y
     at y l ty other (inl same) = subst (λ z. distance_in_turn n p x < distance_in_turn n p z) (sym same) (nearer-than side)
-    at y l ty other (inr less) = h.3 y (omega arith) ty other
+    at y l ty other (inr less) = h.2 y (omega arith) ty other
 
 -- the later one comes first
 pub nearest-next : (n p k x : ℕ) (asks : ℕ → Bool) → k < n → x < p → p ≤ k → asks k ≡ true → IsNearest n p asks k (Some x) → IsNearest n p asks (k + 1) (Some k)
-nearest-next n p k x asks u before after e h = (e, omega arith, h.2, (λ y l ty other. at y l ty other (cases_eq y x)))
+nearest-next n p k x asks u before after e h = (e, omega arith, (λ y l ty other. at y l ty other (cases_eq y x)))
   where
     nearer-than : distance_in_turn n p k < distance_in_turn n p x
     nearer-than =
-        let lp : p < n = h.2 in
+        let lx : x < k = h.1 in
         rw (turn-at n p k after u, turn-before n p x before (omega arith)) (omega arith)
 
     at : (y : ℕ) → y < k + 1 → asks y ≡ true → y ≢ k → (y ≡ x) ⊎ (y ≡ x → ⊥) → distance_in_turn n p k < distance_in_turn n p y
     at y l ty other (inl same) = subst (λ z. distance_in_turn n p k < distance_in_turn n p z) (sym same) nearer-than
-    at y l ty other (inr less) = let far : distance_in_turn n p x < distance_in_turn n p y = h.3 y (omega arith) ty less in omega (arith, nearer-than)
+    at y l ty other (inr less) = let far : distance_in_turn n p x < distance_in_turn n p y = h.2 y (omega arith) ty less in omega (arith, nearer-than)
 
-pub nearest-asks : (n p k : ℕ) (asks : ℕ → Bool) (r : Option ℕ) → k < n → p < n → asks k ≡ true → IsNearest n p asks k r → IsNearest n p asks (k + 1) (nearer p r k)
-nearest-asks n p k asks None u lp e h = nearest-one n p k asks lp e h
-nearest-asks n p k asks (Some x) u lp e h = at (nat_le p x) (nat_lt k p) refl refl
+pub nearest-asks : (n p k : ℕ) (asks : ℕ → Bool) (r : Option ℕ) → k < n → asks k ≡ true → IsNearest n p asks k r → IsNearest n p asks (k + 1) (nearer p r k)
+nearest-asks n p k asks None u e h = nearest-one n p k asks e h
+nearest-asks n p k asks (Some x) u e h = at (nat_le p x) (nat_lt k p) refl refl
   where
     at : (a b : Bool) → nat_le p x ≡ a → nat_lt k p ≡ b → IsNearest n p asks (k + 1) (if a || b then Some x else Some k)
     at true b ea eb = nearest-held n p k x asks u (inl (leb-true p x ea)) h

@@ -1,6 +1,6 @@
 -- Requesters that are offered one after another.
 use Rattle.std.proofs.Common.{◌≡◌, ℕ, zero, suc, ◌+◌, ◌-◌, ◌<◌, ◌≤◌, Bool, true, false, refl, ap, ◌∙◌, List, length, get_or, set, Option, Some, None, sym, arith, inl, inr, subst, get_or-set_same, get_or-set_other}
-use Rattle.std.specs.Prelude.{All, IfSome, ◌⊎◌, ◌&&◌, not, nat_eq, is_some}
+use Rattle.std.specs.Prelude.{All, ◌⊎◌, ◌&&◌, not, nat_eq, is_some}
 use Rattle.std.proofs.lemmas.Bool.{cases_eq, cases_lt, eq-eqb, ne_eqb, false≢true}
 use Rattle.noc_packet.specs.Set.{has_bit, in_both, IsLeast}
 use Rattle.std.proofs.lemmas.List.{get_or-map}
@@ -21,21 +21,18 @@ pub nearest-none : (n : ℕ) (turns : List Turn) (asks : ℕ → Option ℕ) (he
 nearest-none n turns asks held none o l =
     subst (IsNearest n (get_or (pointers_of turns) o 0) (λ i. is_some_of (asks i) o) 0) (sym (none o l)) (λ y u. absurd (omega arith))
 
-pub nearest-offered : (n k : ℕ) (turns : List Turn) (asks : ℕ → Option ℕ) (held : List (Option ℕ)) (r : Option ℕ) → asks k ≡ r → k < n → length held ≡ length turns
+pub nearest-offered : (n k : ℕ) (turns : List Turn) (asks : ℕ → Option ℕ) (held : List (Option ℕ)) (out : ℕ) → asks k ≡ Some out → k < n → length held ≡ length turns
     → All (λ (t : Turn). t.size ≡ n) turns
-    → IfSome r (λ o. o < length turns)
-    → IfSome r (λ o. (turn_at turns o).pointer < (turn_at turns o).size)
-    → AllNearest n turns asks k held → AllNearest n turns asks (k + 1) (offered turns r k held)
-nearest-offered n k turns asks held None e u same sizes inside below h o l =
-    nearest-skips n (get_or (pointers_of turns) o 0) k (λ i. is_some_of (asks i) o) (get_or held o None) (is_some_of-none (asks k) o e) (h o l)
-nearest-offered n k turns asks held (Some out) e u same sizes inside below h o l = at (cases_eq o out)
+    → out < length turns
+    → AllNearest n turns asks k held → AllNearest n turns asks (k + 1) (offered turns out k held)
+nearest-offered n k turns asks held out e u same sizes inside h o l = at (cases_eq o out)
   where
     ours : IsNearest n (get_or (pointers_of turns) out 0) (λ i. is_some_of (asks i) out) (k + 1) (nearer (turn_at turns out).pointer (get_or held out None) k)
     ours =
         let p : get_or (pointers_of turns) out 0 ≡ (turn_at turns out).pointer = pointer-at turns out inside in
         let s : (turn_at turns out).size ≡ n = sizes out (record { size = 0; pointer = 0 }) inside in
         subst (λ q. IsNearest n (get_or (pointers_of turns) out 0) (λ i. is_some_of (asks i) out) (k + 1) (nearer q (get_or held out None) k)) p
-        (nearest-asks n (get_or (pointers_of turns) out 0) k (λ i. is_some_of (asks i) out) (get_or held out None) u (omega arith) (is_some_of-some (asks k) out e) (h out inside))
+        (nearest-asks n (get_or (pointers_of turns) out 0) k (λ i. is_some_of (asks i) out) (get_or held out None) u (is_some_of-some (asks k) out e) (h out inside))
 
     at : (o ≡ out) ⊎ (o ≡ out → ⊥) → IsNearest n (get_or (pointers_of turns) o 0) (λ i. is_some_of (asks i) o) (k + 1) (get_or (set held out (nearer (turn_at turns out).pointer (get_or held out None) k)) o None)
     at (inl is) =
@@ -106,16 +103,17 @@ offered-first n turns asks named rest held none members past silent = record {
     at j (inl l) e = l
     at j (inr u) e = absurd (false≢true (sym (members j ∙ ap (λ (o : Option ℕ). is_some o) (past j u)) ∙ e))
 
-pub offered-next : (n : ℕ) (turns : List Turn) (asks : ℕ → Option ℕ) (rest less k : ℕ) (held : List (Option ℕ)) (r : Option ℕ) → asks k ≡ r → length held ≡ length turns
-    → All (λ (t : Turn). t.size ≡ n) turns → IfSome r (λ o. o < length turns) → IfSome r (λ o. (turn_at turns o).pointer < (turn_at turns o).size)
+offered-to : (n : ℕ) (turns : List Turn) (asks : ℕ → Option ℕ) (rest k : ℕ) (held : List (Option ℕ)) → IsLeast (in_both rest rest) (Some k) → AreOffered n turns asks rest held → AllNearest n turns asks k held
+offered-to n turns asks rest k held least so_far =
+    nearest-up_to k n so_far.next turns asks held (so_far.ahead k (both_has rest k least.0)) (λ j l u. so_far.silent j l (both_lacks rest j (least.1 j u))) so_far.nearest
+
+offered-less : (n : ℕ) (turns : List Turn) (asks : ℕ → Option ℕ) (rest less k : ℕ) (held more : List (Option ℕ))
     → IsLeast (in_both rest rest) (Some k) → ((j : ℕ) → has_bit less j ≡ (not (nat_eq j k) && has_bit rest j))
-    → AreOffered n turns asks rest held → AreOffered n turns asks less (offered turns r k held)
-offered-next n turns asks rest less k held r e same sizes inside below least members so_far = record {
+    → AreOffered n turns asks rest held → AllNearest n turns asks (k + 1) more → AreOffered n turns asks less more
+offered-less n turns asks rest less k held more least members so_far one_more = record {
   next = k + 1;
   within = let u : k < n = so_far.below k here in omega arith;
-  nearest =
-      nearest-offered n k turns asks held r e (so_far.below k here) same sizes inside below
-      (nearest-up_to k n so_far.next turns asks held (so_far.ahead k here) (λ j l u. so_far.silent j l (both_lacks rest j (least.1 j u))) so_far.nearest);
+  nearest = one_more;
   ahead = λ j t. after j (kept j t) (cases_lt j k) (cases_eq j k);
   below = λ j t. so_far.below j (kept j t).1;
   silent = λ j l t. so_far.silent j (let u : so_far.next ≤ k = so_far.ahead k here in omega arith) (gone j l t);
@@ -138,6 +136,22 @@ offered-next n turns asks rest less k held r e same sizes inside below least mem
 
     gone : (j : ℕ) → k + 1 ≤ j → has_bit less j ≡ false → has_bit rest j ≡ false
     gone j l t = sym (members j ∙ ap (λ b. not b && has_bit rest j) (ne_eqb j k (λ is. omega arith))) ∙ t
+
+pub offered-next : (n : ℕ) (turns : List Turn) (asks : ℕ → Option ℕ) (rest less k : ℕ) (held : List (Option ℕ)) (o : ℕ) → asks k ≡ Some o → length held ≡ length turns
+    → All (λ (t : Turn). t.size ≡ n) turns → o < length turns
+    → IsLeast (in_both rest rest) (Some k) → ((j : ℕ) → has_bit less j ≡ (not (nat_eq j k) && has_bit rest j))
+    → AreOffered n turns asks rest held → AreOffered n turns asks less (offered turns o k held)
+offered-next n turns asks rest less k held o e same sizes inside least members so_far =
+    offered-less n turns asks rest less k held (offered turns o k held) least members so_far
+    (nearest-offered n k turns asks held o e (so_far.below k (both_has rest k least.0)) same sizes inside (offered-to n turns asks rest k held least so_far))
+
+-- one that asks for nothing
+pub offered-skip : (n : ℕ) (turns : List Turn) (asks : ℕ → Option ℕ) (rest less k : ℕ) (held : List (Option ℕ)) → asks k ≡ None
+    → IsLeast (in_both rest rest) (Some k) → ((j : ℕ) → has_bit less j ≡ (not (nat_eq j k) && has_bit rest j))
+    → AreOffered n turns asks rest held → AreOffered n turns asks less held
+offered-skip n turns asks rest less k held e least members so_far =
+    offered-less n turns asks rest less k held held least members so_far
+    (λ o l. nearest-skips n (get_or (pointers_of turns) o 0) k (λ i. is_some_of (asks i) o) (get_or held o None) (is_some_of-none (asks k) o e) (offered-to n turns asks rest k held least so_far o l))
 
 pub offered-last : (n : ℕ) (turns : List Turn) (asks : ℕ → Option ℕ) (rest : ℕ) (held : List (Option ℕ)) → IsLeast (in_both rest rest) None
     → AreOffered n turns asks rest held → AllNearest n turns asks n held

@@ -7,9 +7,9 @@ use Rattle.std.proofs.lemmas.Nat.{mul-add-lt}
 use Rattle.std.proofs.lemmas.List.{get_or_read, get_or_past}
 use Rattle.noc_topo.specs.Words.{is_some_of, tabulate}
 use Rattle.noc_alloc.specs.Arbiter.{Turn, first_in_turn, turned, turn_at, pointers_of}
-use Rattle.noc_alloc.specs.Allocation.{grant_of, pick_of, picked_port, winner_of, has_won, winning_pick, moving_pick, turned_by, is_won_by, pick_won}
+use Rattle.noc_alloc.specs.Allocation.{pick_of, picked_port, winner_of, has_won, winning_pick, moving_pick, turned_by, is_won_by, pick_won}
 use Rattle.noc_alloc.specs.Steps.{turned_winner}
-use Rattle.noc_alloc.proofs.WordLemmas.{map_indexed-from_each, length-map_indexed, get_or-map_indexed, get_or-tabulate, length-tabulate, tabulate-from_each, is_some_of-true, is_some_of-some, is_some_of-none, is_some_of-other}
+use Rattle.noc_alloc.proofs.WordLemmas.{map_indexed-from_each, length-map_indexed, get_or-map_indexed, get_or-tabulate, length-tabulate, is_some_of-true, is_some_of-some, is_some_of-none, is_some_of-other}
 use Rattle.noc_alloc.proofs.ArbiterLemmas.{first_in_turn-same, first_in_turn-picks}
 use Rattle.noc_alloc.proofs.OfferLemmas.{pointer-at, both_has, both_lacks}
 
@@ -24,14 +24,6 @@ first_in_turn-below n p asks = at (first_in_turn n p asks) refl
     at : (r : Option ℕ) → first_in_turn n p asks ≡ r → IfSome r (λ y. y < n)
     at None e = tt
     at (Some y) e = (first_in_turn-picks n p y asks e).1
-
--- where the channels of an input port stand among at most 56
-pub part-fits : (ports vcs port : ℕ) → port < ports → ports * vcs ≤ 56 → (port * vcs < 56) × (vcs ≤ 56)
-part-fits ports zero port l few = let z : port * zero ≡ 0 = omega arith in (omega arith, omega arith)
-part-fits ports (suc v) port l few =
-    let first : port * suc v + 0 < ports * suc v = in_ready ports (suc v) port 0 l (omega arith) in
-    let one : port * suc v + v < ports * suc v = in_ready ports (suc v) port v l (omega arith) in
-    (omega arith, omega arith)
 
 -- the virtual channel that an input port picks of a set of input channels
 abbrev pub pick_from : ℕ → ℕ → List ℕ → ℕ → Option ℕ
@@ -68,15 +60,6 @@ pub tabulate-inside : (n m : ℕ) (f : ℕ → Option ℕ) (xs : List (Option �
 tabulate-inside n m f xs inside is k d l =
     let same : length xs ≡ n = ap (λ (ys : List (Option ℕ)). length ys) is ∙ length-tabulate n f in
     subst (λ o. IfSome o (λ y. y < m)) (sym (ap (λ ys. get_or ys k d) is ∙ get_or-tabulate n k f d (omega arith))) (inside k)
-
--- the winners of the output ports, where each input port asks for the output port to which its pick goes
-pub wins-are : (goes ready : List (Option ℕ)) (vcs ports n : ℕ) (picks : List (Option ℕ)) (pointers : List ℕ) (wins : List (Option ℕ))
-    → ((q : ℕ) → get_or goes q None ≡ picked_port ready vcs picks q) → wins ≡ tabulate n (grant_of goes ports pointers) → wins ≡ tabulate n (winner_of ready vcs ports picks pointers)
-wins-are goes ready vcs ports n picks pointers wins same is =
-    is
-    ∙ tabulate-from_each n (winner_of ready vcs ports picks pointers) (tabulate n (grant_of goes ports pointers)) None (length-tabulate n (grant_of goes ports pointers))
-    (λ k l. get_or-tabulate n k (grant_of goes ports pointers) None l
-    ∙ first_in_turn-same ports (get_or pointers k 0) (λ q. is_some_of (get_or goes q None) k) (λ q. is_some_of (picked_port ready vcs picks q) k) (λ q u. ap (λ o. is_some_of o k) (same q)))
 
 -- ---- pointers
 -- to turn twice to one winner is to turn once

@@ -1,9 +1,9 @@
 //! A round-robin arbiter (Dally and Towles, chapter 18).
 
-ghost use Rattle.std.specs.Prelude.{◌≡◌, ℕ, ◌+◌, ◌-◌, ◌<◌, ◌≤◌, ◌&&◌, ◌||◌, ◌==◌, nat_le, nat_lt, true, IfSome, None, Some, Option, length};
+ghost use Rattle.std.specs.Prelude.{◌≡◌, ℕ, ◌+◌, ◌-◌, ◌<◌, ◌≤◌, ◌&&◌, ◌||◌, ◌==◌, nat_le, nat_lt, true, All, IfSome, None, Some, Option, length, slice_index_or};
 ghost use Rattle.noc_packet.specs.Set.{has_bit};
 ghost use Rattle.noc_alloc.specs.Arbiter.{Turn, first_in_turn, turned, turn_at};
-ghost use Rattle.noc_alloc.specs.Steps.{nearer, offered};
+ghost use Rattle.noc_alloc.specs.Steps.{farther, nearer, offered};
 
 use crate::places::Places;
 use noc_packet::ChannelSet;
@@ -76,8 +76,7 @@ impl Arbiter {
 
     /// Of the requester that came first so far and a later one, that which comes first.
     pub(crate) fn nearer(&self, held: Option<usize>, next: usize) -> usize
-        ensures value { nearer self.now.pointer held next ≡ Some result }
-        ensures pointer { self.now.pointer < self.now.size }
+        ensures { nearer self.now.pointer held next ≡ Some result }
     {
         let pointer = self.pointer as usize;
         match held {
@@ -87,17 +86,30 @@ impl Arbiter {
     }
 }
 
-/// Offers a requester, which comes after all that were offered before, to the arbiter that it asks for, if any.
-/// `held` has the requester that each arbiter puts first so far.
-pub(crate) fn offer(arbiters: &[Arbiter], asked: Option<usize>, requester: usize, held: &mut Places)
+/// Offers a requester, which comes after all that were offered before, to the arbiter that it asks for. `held` has the
+/// requester that each arbiter puts first so far. Of that one and this one the arbiter holds the one that comes first;
+/// the other is given back, if there were two.
+pub fn offer(
+    arbiters: &[Arbiter],
+    asked: usize,
+    requester: usize,
+    held: &mut Places,
+) -> Option<usize>
     requires lengths { length held.old ≡ length arbiters.now }
-    requires asked { IfSome asked (λ o. o < length arbiters.now) }
+    requires asked { asked < length arbiters.now }
     ensures held { held.new ≡ offered arbiters.now asked requester held.old }
     ensures count { length held.new ≡ length held.old }
-    ensures pointer { IfSome asked (λ o. (turn_at arbiters.now o).pointer < (turn_at arbiters.now o).size) }
+    ensures other { result ≡ farther (turn_at arbiters.now asked).pointer (slice_index_or held.old asked None) requester }
+    ensures within { (n : ℕ) → requester < n → All (λ one. IfSome one (λ r. r < n)) held.old → All (λ one. IfSome one (λ r. r < n)) held.new }
+    ensures other_within { (n : ℕ) → requester < n → All (λ one. IfSome one (λ r. r < n)) held.old → IfSome result (λ r. r < n) }
 {
-    if let Some(output) = asked {
-        let first = arbiters[output].nearer(held.get(output), requester);
-        held.set(output, Some(first));
+    let before = held.get(asked);
+    let first = arbiters[asked].nearer(before, requester);
+    held.set(asked, Some(first));
+    let before = before?;
+    if first == requester {
+        Some(before)
+    } else {
+        Some(requester)
     }
 }

@@ -23,7 +23,9 @@ pub fn allocate_channels(asks: &Places, arbiters: &[Arbiter], grants: &mut Place
     let mut rest = asks.filled();
     while let Some(input) = rest.least_common(&rest) {
         rest = rest.without(input);
-        offer(arbiters, asks.get(input), input, grants);
+        if let Some(output) = asks.get(input) {
+            offer(arbiters, output, input, grants);
+        }
     }
 }
 

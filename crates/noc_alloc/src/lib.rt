@@ -8,7 +8,7 @@ mod switch;
 #[cfg(test)]
 mod tests;
 
-pub use arbiter::Arbiter;
+pub use arbiter::{Arbiter, offer};
 pub use channels::{advance_channels, allocate_channels};
 pub use places::Places;
-pub use switch::{advance_switch, pick_channels, win_ports};
+pub use switch::{advance_switch, pick_channel};

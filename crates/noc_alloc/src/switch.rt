@@ -2,42 +2,24 @@
 
 ghost use Rattle.std.specs.Prelude.{◌≡◌, ℕ, ◌*◌, ◌<◌, ◌≤◌, List, Option, length, All, IfSome, is_some, slice_index_or, None};
 ghost use Rattle.noc_packet.specs.Set.{has_bit};
-ghost use Rattle.noc_topo.specs.Words.{tabulate};
 ghost use Rattle.noc_alloc.specs.Arbiter.{Turn, pointers_of, turn_at};
-ghost use Rattle.noc_alloc.specs.Allocation.{pick_of, picked_port, winner_of, winning_pick, moving_pick, turned_by, AreWins};
+ghost use Rattle.noc_alloc.specs.Allocation.{pick_of, winning_pick, moving_pick, turned_by, AreWins};
 ghost use Rattle.noc_alloc.specs.Steps.{turned_winner};
 
 use crate::arbiter::Arbiter;
-use crate::channels::allocate_channels;
 use crate::places::Places;
 use noc_packet::ChannelSet;
 
-/// Each input port picks one of its `vcs` virtual channels that are ready: the one that its arbiter puts first. Input
-/// port `port` has the input channels from `port * vcs` on; `picks` gets the virtual channel of each input port.
-pub fn pick_channels(ready: ChannelSet, vcs: usize, inputs: &[Arbiter], picks: &mut Places)
+/// The one of its `vcs` virtual channels that are ready which an input port picks: that which its arbiter puts first.
+/// Input port `port` has the input channels from `port * vcs` on.
+pub fn pick_channel(ready: ChannelSet, vcs: usize, inputs: &[Arbiter], port: usize) -> Option<usize>
     requires few { length inputs.now * vcs ≤ 56 }
-    requires picks { length picks.old ≡ length inputs.now }
+    requires port { port < length inputs.now }
     requires sizes { All (λ (t : Turn). t.size ≡ vcs) inputs.now }
-    ensures count { length picks.new ≡ length inputs.now }
-    ensures vcs { All (λ pick. IfSome pick (λ v. v < vcs)) picks.new }
-    ensures picks { (asked : List (Option ℕ)) → ((k : ℕ) → has_bit ready k ≡ is_some (slice_index_or asked k None)) → picks.new ≡ tabulate (length inputs.now) (pick_of asked vcs (pointers_of inputs.now)) }
+    ensures vc { IfSome result (λ v. v < vcs) }
+    ensures pick { (asked : List (Option ℕ)) → ((k : ℕ) → has_bit ready k ≡ is_some (slice_index_or asked k None)) → result ≡ pick_of asked vcs (pointers_of inputs.now) port }
 {
-    for port in 0..inputs.len() {
-        picks.set(port, inputs[port].pick(ready.part(port * vcs, vcs)));
-    }
-}
-
-/// For each input port `goes` has the output port to which its pick goes. Each output port is won by one of the input
-/// ports whose pick goes to it: the one that its arbiter puts first. `wins` gets that input port.
-pub fn win_ports(goes: &Places, outputs: &[Arbiter], wins: &mut Places)
-    requires wins { length wins.old ≡ length outputs.now }
-    requires sizes { All (λ (t : Turn). t.size ≡ length goes.now) outputs.now }
-    requires ports { All (λ port. IfSome port (λ p. p < length outputs.now)) goes.now }
-    ensures count { length wins.new ≡ length outputs.now }
-    ensures inputs { All (λ win. IfSome win (λ q. q < length goes.now)) wins.new }
-    ensures wins { (ready : List (Option ℕ)) (vcs : ℕ) (picks : List (Option ℕ)) → ((q : ℕ) → slice_index_or goes.now q None ≡ picked_port ready vcs picks q) → wins.new ≡ tabulate (length outputs.now) (winner_of ready vcs (length goes.now) picks (pointers_of outputs.now)) }
-{
-    allocate_channels(goes, outputs, wins);
+    inputs[port].pick(ready.part(port * vcs, vcs))
 }
 
 /// Moves the pointer of the input port that won an output port, if any, past its pick.

@@ -4,7 +4,7 @@ ghost use Rattle.std.specs.Prelude.{◌≡◌, ◌<◌, All, IfSome, length};
 ghost use Rattle.noc_alloc.specs.Arbiter.{Turn};
 
 use crate::{
-    Arbiter, Places, advance_channels, advance_switch, allocate_channels, pick_channels, win_ports,
+    Arbiter, Places, advance_channels, advance_switch, allocate_channels, offer, pick_channel,
 };
 use noc_packet::ChannelSet;
 use std::test::Fail;
@@ -66,7 +66,40 @@ fn a_channel_that_two_ask_for_goes_round(rt: HostRuntime) -> Result<(), Fail> {
     Ok(())
 }
 
-// One round of a switch with three ports of two virtual channels.
+// The pick of one of three input ports of two virtual channels each is offered to the output port that it goes to, if
+// any; gives the input port that loses it.
+fn pick_and_offer(
+    ready: ChannelSet,
+    goes: &Places,
+    port: usize,
+    inputs: &[Arbiter],
+    outputs: &[Arbiter],
+    picks: &mut Places,
+    wins: &mut Places,
+) -> Option<usize>
+    requires port { port < 3 }
+    requires inputs { length inputs.now ≡ 3 }
+    requires input_sizes { All (λ (t : Turn). t.size ≡ 2) inputs.now }
+    requires outputs { length outputs.now ≡ 3 }
+    requires goes { length goes.now ≡ 3 }
+    requires ports { All (λ port. IfSome port (λ p. p < 3)) goes.now }
+    requires picks { length picks.old ≡ 3 }
+    requires vcs { All (λ pick. IfSome pick (λ v. v < 2)) picks.old }
+    requires wins { length wins.old ≡ 3 }
+    requires winners { All (λ win. IfSome win (λ q. q < 3)) wins.old }
+    ensures picks { length picks.new ≡ 3 }
+    ensures vcs { All (λ pick. IfSome pick (λ v. v < 2)) picks.new }
+    ensures wins { length wins.new ≡ 3 }
+    ensures winners { All (λ win. IfSome win (λ q. q < 3)) wins.new }
+{
+    picks.set(port, pick_channel(ready, 2, inputs, port));
+    match goes.get(port) {
+        Some(output) => offer(outputs, output, port, wins),
+        None => None,
+    }
+}
+
+// One round of a switch with three ports of two virtual channels; gives the input ports that lose, as they do.
 fn go_round(
     ready: ChannelSet,
     goes: &Places,
@@ -74,7 +107,7 @@ fn go_round(
     outputs: &mut [Arbiter],
     picks: &mut Places,
     wins: &mut Places,
-)
+) -> (Option<usize>, Option<usize>, Option<usize>)
     requires inputs { length inputs.old ≡ 3 }
     requires input_sizes { All (λ (t : Turn). t.size ≡ 2) inputs.old }
     requires outputs { length outputs.old ≡ 3 }
@@ -87,9 +120,13 @@ fn go_round(
     ensures inputs { length inputs.new ≡ 3 }
     ensures outputs { length outputs.new ≡ 3 }
 {
-    pick_channels(ready, 2, inputs, picks);
-    win_ports(goes, outputs, wins);
+    picks.clear();
+    wins.clear();
+    let first = pick_and_offer(ready, goes, 0, inputs, outputs, picks, wins);
+    let second = pick_and_offer(ready, goes, 1, inputs, outputs, picks, wins);
+    let third = pick_and_offer(ready, goes, 2, inputs, outputs, picks, wins);
     advance_switch(picks, wins, inputs, outputs);
+    (first, second, third)
 }
 
 #[test]
@@ -104,7 +141,7 @@ fn an_input_port_that_loses_the_switch_keeps_its_turn(rt: HostRuntime) -> Result
     assert_eq!(rt; outputs[2].pointer(), 1);
     let mut picks = Places::new(rt.alloc(), 3)?;
     let mut wins = Places::new(rt.alloc(), 3)?;
-    go_round(
+    let losers = go_round(
         ready,
         &goes,
         &mut inputs,
@@ -112,6 +149,7 @@ fn an_input_port_that_loses_the_switch_keeps_its_turn(rt: HostRuntime) -> Result
         &mut picks,
         &mut wins,
     );
+    assert_eq!(rt; losers, (None, Some(0), None));
     assert_eq!(rt; picks.filled(), ChannelSet::empty().with(0).with(1));
     assert_eq!(rt; picks.get(0), Some(0));
     assert_eq!(rt; wins.filled(), ChannelSet::empty().with(2));

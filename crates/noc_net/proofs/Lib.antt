@@ -21,6 +21,7 @@ pub mod RunLemmas
 pub mod SentLemmas
 pub mod StepLemmas
 pub mod StoredLemmas
+pub mod UnseenLemmas
 pub mod VerdictLemmas
 pub mod WireLemmas
 pub mod WormLemmas

@@ -13,7 +13,7 @@ use Rattle.noc_net.specs.Lockstep.{lockstep_at, lockstep_cycle, opening_lockstep
 use Rattle.noc_net.specs.Network.{Setup}
 use Rattle.noc_net.proofs.StepLemmas.{local_step-view, local_step-beats, site-decided, count-decided}
 
-map_map_indexed : {X Y Z W : Type 0} (f : Y → W) (g : ℕ → X → Y) (k : Z → W) (h : ℕ → X → Z) (xs : List X) (d : X) (y : Y) (z : Z)
+pub map_map_indexed : {X Y Z W : Type 0} (f : Y → W) (g : ℕ → X → Y) (k : Z → W) (h : ℕ → X → Z) (xs : List X) (d : X) (y : Y) (z : Z)
     → ((r : ℕ) (x : X) → r < length xs → f (g r x) ≡ k (h r x)) → map f (map_indexed g xs) ≡ map k (map_indexed h xs)
 map_map_indexed f g k h xs d y z same =
     let n : length (map f (map_indexed g xs)) ≡ length xs = length-map (map_indexed g xs) f ∙ length-map_indexed g xs in

@@ -1,5 +1,5 @@
 -- The beats on the wires, while the routers put theirs one after another.
-use Rattle.std.proofs.Common.{◌≡◌, ◌≢◌, ℕ, zero, suc, ◌<◌, ◌≤◌, Bool, true, false, List, [], ◌∷◌, length, get_or, set, Option, Some, None, refl, ap, sym, ◌∙◌, ⊎_elim, arith, replicate}
+use Rattle.std.proofs.Common.{◌≡◌, ◌≢◌, ℕ, zero, suc, ◌<◌, ◌≤◌, Bool, true, false, List, [], length, get_or, set, Option, Some, None, refl, ap, sym, ◌∙◌, ⊎_elim, arith, replicate}
 use Rattle.std.specs.Prelude.{IfSome, if◌then◌else◌, ◌&&◌, not, nat_eq, nat_lt, is_none, unwrap_or}
 use Rattle.std.proofs.lemmas.List.{ext_get_or, get_or_past, length-replicate}
 use Rattle.std.proofs.lemmas.Bool.{cases_eq, cases_lt, false≢true}
@@ -9,7 +9,7 @@ use Rattle.noc_topo.specs.Shape.{Grid, IsGrid, nodes, local_port, neighbour}
 use Rattle.noc_topo.proofs.LinkLemmas.{link_back}
 use Rattle.noc_packet.specs.declared.packet.Beat.{Beat}
 use Rattle.noc_packet.specs.declared.packet.Flit.{Flit}
-use Rattle.noc_packet.specs.Set.{has_bit}
+use Rattle.noc_packet.specs.Set.{has_bit, in_both, IsLeast}
 use Rattle.noc_router.specs.Links.{is_idle_beat}
 use Rattle.noc_router.specs.View.{View, idle_beat, beat_to_put}
 use Rattle.noc_net.specs.Halves.{beat_at, received, sent_on}
@@ -115,8 +115,8 @@ get_or-idle (suc n) zero = refl
 get_or-idle (suc n) (suc q) = get_or-idle n q
 
 -- a port that is not loaded has an idle beat
-pub unloaded : (v : View) (loaded n : ℕ) → length v.to_put ≡ n → ((p : ℕ) → p < n → has_bit loaded p ≡ not (is_idle_beat (beat_to_put v p))) → (p : ℕ) → has_bit loaded p ≡ false → beat_to_put v p ≡ idle_beat
-unloaded v loaded n count each p off = ⊎_elim (λ (l : p < n). idle (beat_to_put v p) (sym (each p l) ∙ off)) (λ (u : n ≤ p). get_or_past v.to_put p idle_beat (omega arith)) (cases_lt p n)
+pub unloaded : (beats : List Beat) (loaded n : ℕ) → length beats ≡ n → ((p : ℕ) → p < n → has_bit loaded p ≡ not (is_idle_beat (get_or beats p idle_beat))) → (p : ℕ) → has_bit loaded p ≡ false → get_or beats p idle_beat ≡ idle_beat
+unloaded beats loaded n count each p off = ⊎_elim (λ (l : p < n). idle (get_or beats p idle_beat) (sym (each p l) ∙ off)) (λ (u : n ≤ p). get_or_past beats p idle_beat (omega arith)) (cases_lt p n)
   where
     on : (b : Bool) → not b ≡ false → b ≡ true
     on true e = refl
@@ -126,10 +126,10 @@ unloaded v loaded n count each p off = ⊎_elim (λ (l : p < n). idle (beat_to_p
     idle beat e = idle_from beat.flit beat.credit (on (is_idle_beat beat) e)
 
 -- at first the loaded ports are left
-pub left-first : (v : View) (loaded : ℕ) → ((p : ℕ) → has_bit loaded p ≡ false → beat_to_put v p ≡ idle_beat) → AreLeft loaded v.to_put v.to_put
-left-first v loaded none port = at (has_bit loaded port) refl
+pub left-first : (beats : List Beat) (loaded : ℕ) → ((p : ℕ) → has_bit loaded p ≡ false → get_or beats p idle_beat ≡ idle_beat) → AreLeft loaded beats beats
+left-first beats loaded none port = at (has_bit loaded port) refl
   where
-    at : (b : Bool) → has_bit loaded port ≡ b → get_or v.to_put port idle_beat ≡ (if b then get_or v.to_put port idle_beat else idle_beat)
+    at : (b : Bool) → has_bit loaded port ≡ b → get_or beats port idle_beat ≡ (if b then get_or beats port idle_beat else idle_beat)
     at true e = refl
     at false e = none port e
 
@@ -157,6 +157,14 @@ left-more rest rest' k before after members l left port =
 -- the beat of a port that is left
 pub left-at : (rest k : ℕ) (before after : List Beat) → AreLeft rest before after → has_bit rest k ≡ true → get_or after k idle_beat ≡ get_or before k idle_beat
 left-at rest k before after left e = left k ∙ ap (λ b. if b then get_or before k idle_beat else idle_beat) e
+
+-- before the least port that is left all beats are idle
+pub left-before : (rest k : ℕ) (before after : List Beat) → IsLeast (in_both rest rest) (Some k) → AreLeft rest before after → (p : ℕ) → p < k → get_or after p idle_beat ≡ idle_beat
+left-before rest k before after least left p l = left p ∙ ap (λ b. if b then get_or before p idle_beat else idle_beat) (both_false (has_bit rest p) (least.1 p l))
+  where
+    both_false : (b : Bool) → (b && b) ≡ false → b ≡ false
+    both_false true e = e
+    both_false false e = refl
 
 -- .. and in the end none is left
 pub left-none : (rest n : ℕ) (before after : List Beat) → ((p : ℕ) → has_bit rest p ≡ false) → length after ≡ n → AreLeft rest before after → after ≡ replicate n idle_beat
@@ -190,9 +198,3 @@ rows_kept wires (Some (b, q)) beat long i l =
     rw (e, here, length-set (get_or wires b []) q beat) (long b (omega arith)))
     (λ (d : i ≢ b). ap length (get_or-set_other wires b i (set (get_or wires b []) q beat) [] d) ∙ long i (omega arith))
     (cases_eq i b)
-
--- a place that got an idle beat has one
-pub set_idle : (beats : List Beat) (i : ℕ) (beat : Beat) → beat ≡ idle_beat → get_or (set beats i beat) i idle_beat ≡ idle_beat
-set_idle [] i beat e = refl
-set_idle (b ∷ beats) zero beat e = e
-set_idle (b ∷ beats) (suc i) beat e = set_idle beats i beat e

@@ -13,5 +13,6 @@ pub mod Progress
 pub mod Readings
 pub mod Room
 pub mod Stored
+pub mod Unseen
 pub mod Verdicts
 pub mod Worm

@@ -1,7 +1,9 @@
 //! What holds of every network in every cycle.
 
-ghost use Rattle.std.specs.Prelude.{◌≡◌, ◌⊎◌, ◌+◌, ◌<◌, ℕ, Some, length, slice_get};
-ghost use Rattle.noc_router.specs.View.{View};
+ghost use Rattle.std.specs.Prelude.{◌≡◌, ◌⊎◌, ◌+◌, ◌<◌, ℕ, List, Some, length, slice_get};
+ghost use Rattle.noc_packet.specs.declared.packet.Beat.{Beat};
+ghost use Rattle.noc_route.specs.Routes.{Routes};
+ghost use Rattle.noc_router.specs.View.{View, local_step};
 ghost use Rattle.noc_router.specs.declared.verdict.Verdict.TheVariants.{Granted, Moved};
 ghost use Rattle.noc_router.specs.declared.verdict.Finding.{Finding as FindingValue};
 ghost use Rattle.noc_net.specs.Buffers.{HoldsOnePacket};
@@ -43,4 +45,11 @@ pub fn a_flit_moves_by_a_channel_of_its_packet()
     ensures { (net : Setup) (n r i : ℕ) (view after : View) (finding : FindingValue) → 0 < net.places
         → slice_get (lockstep_at net n).views r ≡ Some view → slice_get (lockstep_at net (n + 1)).views r ≡ Some after
         → slice_get after.findings i ≡ Some finding → finding.verdict ≡ Moved → MovesByOwn (frozen_view net n r view) i finding }
+{}
+
+/// What was found changes nothing of what comes: from a view with any other findings a cycle over the same beats gives the same
+/// view and the same beats to put. So a run in which nobody reads the findings of a cycle goes on as one in which they are read.
+pub fn findings_change_nothing()
+    ensures { (relation : Routes) (view : View) (findings : List FindingValue) (beats : List Beat) (n : ℕ)
+        → local_step relation (record view { findings = findings }) beats n ≡ local_step relation view beats n }
 {}

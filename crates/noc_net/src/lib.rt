@@ -20,6 +20,7 @@ pub use fault::NetFault;
 pub use laws::{
     a_flit_moves_by_a_channel_of_its_packet, a_granted_channel_is_permitted,
     a_verdict_is_the_first_condition_that_fails, buffers_hold_one_packet_each,
+    findings_change_nothing,
 };
 pub use network::{CYCLE_LIMIT, Network};
 pub use order::every_order_of_events_is_lockstep;

@@ -1,24 +1,26 @@
 //! The network.
 
 ghost use Rattle.std.specs.Prelude.{◌≡◌, ◌≢◌, ℕ, ◌+◌, ◌*◌, ◌<◌, ◌≤◌, [], All, IfErr, IfOk, IfSome, IsOk, None, Some, length, map, slice_index_or, vec_len};
-ghost use Rattle.std.specs.Bool.{OnTrue};
 ghost use Rattle.std.specs.List.{slice_get};
 ghost use Rattle.noc_topo.specs.Words.{map_indexed, tabulate};
 ghost use Rattle.noc_topo.specs.Shape.{nodes as nodes_of, ports as ports_of, local_port, neighbour as neighbour_of};
 ghost use Rattle.noc_router.specs.Decided.{IsDecidedFor};
-ghost use Rattle.noc_router.specs.View.{View, IsRelationOf, all_taken, taken, idle_beat, opening_view};
+ghost use Rattle.noc_router.specs.Links.{AreLoaded, is_idle_beat};
+ghost use Rattle.noc_router.specs.View.{View, IsRelationOf, all_taken, injected, idle_beat, opening_view};
 ghost use Rattle.noc_net.specs.declared.fault.NetFault.TheVariants.{Memory as memory_fault};
 ghost use Rattle.noc_net.specs.Faults.{IsSendable, IsSound, fault_of};
 ghost use Rattle.noc_net.specs.Halves.{ArePlaced, IsLinked, IsPlaced, IsSilent, beat_at, decided, emptied, incoming, received, sent_on};
 ghost use Rattle.noc_net.specs.Lockstep.{beat_from, beats_at, ends_of, starts_of};
+ghost use Rattle.noc_net.specs.Network.{Setup};
 ghost use Rattle.noc_net.specs.Parts.{AreParts, run_in};
 ghost use Rattle.noc_net.specs.Readings.{is_stuck_at, is_waiting, last_event_of, later_of, latest_of, misfits_in, misfits_of, read_arrival, router_view, waits_by};
+ghost use Rattle.noc_net.specs.Unseen.{AreInStep, AreInStepUnseen, advanced};
 
 use crate::fault::NetFault;
 use crate::packets::{ends_at, first_fault, starts_at};
 use crate::parts::Parts;
 use crate::room::{LINKS, Room};
-use noc_packet::{Beat, MAX_PACKETS, Memory, Packet};
+use noc_packet::{Beat, ChannelSet, MAX_PACKETS, Memory, Packet};
 use noc_route::Relation;
 use noc_router::{Finding, Plan, Router, VERDICTS};
 use std::alloc::Global;
@@ -131,15 +133,7 @@ impl Network {
         requires { self.old.count < CYCLE_LIMIT }
         ensures { self.new ≡ record self.old { count = self.old.count + 1 } }
     {
-        decide_all(
-            &self.relation,
-            &mut self.plan,
-            self.count,
-            &mut self.routers,
-            &mut self.beats,
-        );
-        deliver_all(&self.relation, &mut self.routers, &mut self.beats);
-        self.count += 1;
+        self.run(1);
     }
 
     /// Runs so many cycles.
@@ -147,9 +141,18 @@ impl Network {
         requires { self.old.count + cycles ≤ CYCLE_LIMIT }
         ensures { self.new ≡ record self.old { count = self.old.count + cycles } }
     {
-        for _ in 0..cycles {
-            self.cycle();
+        if cycles == 0 {
+            return;
         }
+        run_all(
+            &self.relation,
+            &mut self.plan,
+            self.count,
+            self.count + cycles - 1,
+            &mut self.routers,
+            &mut self.beats,
+        );
+        self.count += cycles;
     }
 
     /// How many cycles have run.
@@ -330,6 +333,89 @@ fn new_room(alloc: Global, nodes: usize) -> Result<Vec<Room>, Memory>
     Ok(vec![in alloc; Room::new(0); nodes]?)
 }
 
+// Runs the cycles from `first` to `last`. Nobody reads what is found before the last.
+fn run_all(
+    relation: &Relation,
+    plan: &mut Plan,
+    first: u64,
+    last: u64,
+    routers: &mut [Router],
+    beats: &mut [[Beat; LINKS]],
+)
+    requires order { first ≤ last }
+    requires plan { IsDecidedFor (ports_of relation.now.grid) relation.now.vcs plan.old }
+    requires in_step { (net : Setup) × (net.relation ≡ relation.now) × AreInStep net first routers.old beats.old }
+    requires count { length beats.old ≡ nodes_of relation.now.grid }
+    ensures plan { IsDecidedFor (ports_of relation.now.grid) relation.now.vcs plan.new }
+    ensures in_step { (net : Setup) → net.relation ≡ relation.now → AreInStep net first routers.old beats.old → AreInStep net (last + 1) routers.new beats.new }
+{
+    skip(relation, plan, first, last, routers, beats);
+    decide_all(relation, plan, last, routers, beats);
+    deliver_all(relation, routers, beats);
+}
+
+// Runs the cycles from `first` to before `end`, and leaves the findings as they were.
+fn skip(
+    relation: &Relation,
+    plan: &mut Plan,
+    first: u64,
+    end: u64,
+    routers: &mut [Router],
+    beats: &mut [[Beat; LINKS]],
+)
+    requires order { first ≤ end }
+    requires plan { IsDecidedFor (ports_of relation.now.grid) relation.now.vcs plan.old }
+    requires in_step { (net : Setup) × (net.relation ≡ relation.now) × AreInStepUnseen net first routers.old beats.old }
+    requires count { length beats.old ≡ nodes_of relation.now.grid }
+    ensures plan { IsDecidedFor (ports_of relation.now.grid) relation.now.vcs plan.new }
+    ensures in_step { (net : Setup) → net.relation ≡ relation.now → AreInStepUnseen net first routers.old beats.old → AreInStepUnseen net end routers.new beats.new }
+{
+    for cycle in first..end {
+        advance_all(relation, plan, cycle, routers, beats);
+        deliver_all(relation, routers, beats);
+    }
+}
+
+// Each router takes the beats that came to it, injects, decides and commits, and leaves its findings as they were.
+fn advance_all(
+    relation: &Relation,
+    plan: &mut Plan,
+    cycle: u64,
+    routers: &mut [Router],
+    beats: &mut [[Beat; LINKS]],
+)
+    requires plan { IsDecidedFor (ports_of relation.now.grid) relation.now.vcs plan.old }
+    requires routers { All (λ v. IsRelationOf relation.now v) routers.old }
+    requires count { length beats.old ≡ length routers.old }
+    requires beats { All (IsLinked relation.now.grid) beats.old }
+    ensures plan { IsDecidedFor (ports_of relation.now.grid) relation.now.vcs plan.new }
+    ensures routers { routers.new ≡ map_indexed (λ r v. advanced relation.now cycle (incoming relation.now.grid (beats_at beats.old r)) v) routers.old }
+    ensures beats { All IsSilent beats.new }
+{
+    for node in 0..routers.len() {
+        advance(relation, plan, cycle, &mut routers[node], &mut beats[node]);
+    }
+}
+
+// One router takes the beats that came to it, injects, decides and commits, and leaves its findings as they were.
+fn advance(
+    relation: &Relation,
+    plan: &mut Plan,
+    cycle: u64,
+    router: &mut Router,
+    beats: &mut [Beat; LINKS],
+)
+    requires plan { IsDecidedFor (ports_of relation.now.grid) relation.now.vcs plan.old }
+    requires router { IsRelationOf relation.now router.old }
+    requires beats { IsLinked relation.now.grid beats.old }
+    ensures plan { IsDecidedFor (ports_of relation.now.grid) relation.now.vcs plan.new }
+    ensures router { router.new ≡ advanced relation.now cycle (incoming relation.now.grid beats.old) router.old }
+    ensures beats { IsSilent beats.new }
+{
+    receive(relation, cycle, router, beats);
+    router.advance(relation, plan);
+}
+
 // Each router takes the beats that came to it, injects, decides and commits.
 fn decide_all(
     relation: &Relation,
@@ -366,10 +452,21 @@ fn decide(
     ensures router { router.new ≡ decided relation.now cycle (incoming relation.now.grid beats.old) router.old }
     ensures beats { IsSilent beats.new }
 {
-    take_beats(relation, router, beats);
-    router.inject(cycle);
+    receive(relation, cycle, router, beats);
     router.plan(relation, plan);
     router.commit(plan);
+}
+
+// One router takes the beats that came to it, and injects.
+fn receive(relation: &Relation, cycle: u64, router: &mut Router, beats: &mut [Beat; LINKS])
+    requires router { IsRelationOf relation.now router.old }
+    requires beats { IsLinked relation.now.grid beats.old }
+    ensures site { router.new.site ≡ router.old.site }
+    ensures router { router.new ≡ injected cycle (all_taken relation.now (incoming relation.now.grid beats.old) router.old) }
+    ensures beats { IsSilent beats.new }
+{
+    take_beats(relation, router, beats);
+    router.inject(cycle);
 }
 
 // One router takes the beats that came to it, and leaves idle ones.
@@ -379,30 +476,32 @@ fn take_beats(relation: &Relation, router: &mut Router, beats: &mut [Beat; LINKS
     ensures router { router.new ≡ all_taken relation.now (incoming relation.now.grid beats.old) router.old }
     ensures beats { IsSilent beats.new }
 {
-    for port in 0..relation.shape().ports() - 1 {
-        take_beat(relation, router, port, &mut beats[port]);
+    let mut rest = arrived(beats);
+    while let Some(port) = rest.least_common(&rest) {
+        rest = rest.without(port);
+        router.take(relation, port, beats[port]);
+        beats[port] = Beat::idle();
     }
 }
 
-// One router takes the beat that came to a link port, and leaves an idle one.
-fn take_beat(relation: &Relation, router: &mut Router, port: usize, beat: &mut Beat)
-    requires router { IsRelationOf relation.now router.old }
-    requires port { port < local_port relation.now.grid }
-    ensures router { router.new ≡ taken relation.now port beat.old router.old }
-    ensures beat { beat.new ≡ idle_beat }
+// The ports with a beat that carries something. They are found without a branch for each, since none could be foreseen.
+fn arrived(beats: &[Beat; LINKS]) -> ChannelSet
+    ensures { AreLoaded 6 beats.now result }
 {
-    if is_idle(beat) {
-        return;
+    let mut ports = ChannelSet::empty();
+    for port in 0..LINKS {
+        if !is_idle(&beats[port]) {
+            ports = ports.with(port);
+        }
     }
-    router.take(relation, port, *beat);
-    *beat = Beat::idle();
+    ports
 }
 
 // Whether a beat carries nothing.
 fn is_idle(beat: &Beat) -> bool
-    ensures { OnTrue result (beat.now ≡ idle_beat) }
+    ensures { result ≡ is_idle_beat beat.now }
 {
-    beat.flit.is_none() && beat.credit.is_none()
+    beat.flit.is_none() & beat.credit.is_none()
 }
 
 // Each router puts its beats on the wires that leave it, all of which are idle.

@@ -1,9 +1,10 @@
 -- Sets of channel indices, by their bits.
 use Rattle.std.proofs.Common.{◌/◌, ◌≡◌, ℕ, ◌+◌, ◌-◌, ◌*◌, ◌%◌, ◌^◌, ◌<◌, ◌≤◌, Bool, true, false, Option, Some, None, refl, ap, sym, ◌∙◌, arith, inl, inr, w64, bit_and, bit_or, zero-mul}
-use Rattle.std.specs.Prelude.{nat_eq, nat_lt, ◌⊎◌, ◌&&◌, ◌||◌, not, cond}
+use Rattle.std.specs.Prelude.{nat_eq, nat_le, nat_lt, ◌⊎◌, ◌&&◌, ◌||◌, not, cond}
 use Rattle.std.specs.Int.{bit_at, bit_not, trailing_zeros}
 use Rattle.std.proofs.lemmas.Bool.{eq-eqb, ne_eqb, cases_eq, cases_lt, false≢true, eqb-true, le-leb, lt-leb, lt-ltb, le-ltb}
 use Rattle.std.proofs.lemmas.Nat.{or_lt, or_disjoint, shr-shr, shr_le, one_shl, and_le_l, and-not, and_comm, pow_below}
+use Rattle.std.proofs.Math.Nat.{pow-le-pow_right}
 use Rattle.std.proofs.lemmas.Nat.Bits.{bit_at-zero, bit_at-lt, bit_at_and, bit_at_or, bit_at_above, and_pow, same_from_bits, bit_at_set_same, bit_at_set_other, bit_at_clear_same, bit_at_clear_other, bit_at-trailing_zeros, bit_at_not, bit_at_ones, bit_at_ones_above}
 use Rattle.noc_packet.specs.Set.{has_bit, has_from, in_both, IsLeast}
 
@@ -234,3 +235,16 @@ part_members bits from count k l =
     at : (k < count) ⊎ (count ≤ k) → has_bit (2 ^ count - 1) k ≡ nat_lt k count
     at (inl u) = has_bit-one _ k (bit_at_ones count k u) ∙ sym (lt-ltb k count u)
     at (inr u) = has_bit-none _ k (bit_at_ones_above count k u) ∙ sym (le-ltb k count u)
+
+-- ---- the members no less than an index
+pub ones_fit : (index : ℕ) → index ≤ 56 → 2 ^ index - 1 < 2 ^ 56
+ones_fit index l = let some : 2 ^ index ≤ 2 ^ 56 = pow-le-pow_right (omega arith) l in omega arith
+
+pub from_members : (bits index k : ℕ) → bits < 2 ^ 56 → index ≤ 56 → has_bit (bit_and bits (bit_not w64 (1 * 2 ^ index % 2 ^ 64 - 1))) k ≡ has_from index bits k
+from_members bits index k bound l =
+    rw (one_shl index 64 (omega arith))
+    (less_members bits (2 ^ index - 1) k bound (ones_fit index l) ∙ ap (λ b. b && has_bit bits k) (at (cases_lt k index)))
+  where
+    at : (k < index) ⊎ (index ≤ k) → not (has_bit (2 ^ index - 1) k) ≡ nat_le index k
+    at (inl u) = ap not (has_bit-one _ k (bit_at_ones index k u)) ∙ sym (lt-leb index k u)
+    at (inr u) = ap not (has_bit-none _ k (bit_at_ones_above index k u)) ∙ sym (le-leb index k u)

@@ -122,6 +122,17 @@ impl ChannelSet {
         }
     }
 
+    /// The members that are no less than the index, which is 0 to 56.
+    pub fn from(self, index: usize) -> ChannelSet
+        requires { index ≤ INDICES }
+        ensures members { (k : ℕ) → has_bit result k ≡ has_from index self k }
+        ensures bits { result ≤ self }
+    {
+        ChannelSet {
+            bits: self.bits & !((1 << index) - 1),
+        }
+    }
+
     /// The members among the `count` indices (0 to 56) from `from` (0 to 55) on, numbered from 0.
     pub fn part(self, from: usize, count: usize) -> ChannelSet
         requires from { from < INDICES }

@@ -107,6 +107,8 @@ fn the_least_index_of_two_sets_is_in_both(rt: HostRuntime) -> Result<(), Fail> {
     assert_eq!(rt; low.least_from(2), Some(4));
     assert_eq!(rt; low.least_from(55), Some(55));
     assert_eq!(rt; low.without(55).least_from(5), None);
+    assert_eq!(rt; low.from(4), ChannelSet::empty().with(4).with(55));
+    assert_eq!(rt; low.from(56), ChannelSet::empty());
     Ok(())
 }
 

@@ -67,16 +67,13 @@ index-is : (channel : Option ℕ) (index : ℕ) → (is_none channel ≡ true �
 index-is None index zero_there = sym (zero_there refl)
 index-is (Some vc) index zero_there = refl
 
--- a flit that has no place to go stays
-pub stays-view : (r : Inside) (n : ℕ) (flit : Flit) → next_flit_of r.source.front r.source.index ≡ Some flit → next_vc (view_of (record r { cycle = n })) ≡ None
-    → view_of (record r { cycle = n }) ≡ injected n (view_of r)
-stays-view r n flit some none = at r.source.front refl some
+-- where no local channel can take a flit, none goes
+pub stays-view : (r : Inside) (n : ℕ) → next_vc (view_of (record r { cycle = n })) ≡ None → view_of (record r { cycle = n }) ≡ injected n (view_of r)
+stays-view r n none = at (queue_of r.source) refl
   where
-    at : (front : Option (ℕ × Packet)) → r.source.front ≡ front → next_flit_of front r.source.index ≡ Some flit → view_of (record r { cycle = n }) ≡ injected n (view_of r)
-    at None there e = absurd (cc)
-    at (Some (number, p)) there e =
-        sym (injected-front n number p (drop r.source.begun r.source.packets.items) (view_of r) None
-        (ap (λ front. queue_from front r.source.begun r.source.packets.items) there) none)
+    at : (queue : List (ℕ × Packet)) → queue_of r.source ≡ queue → view_of (record r { cycle = n }) ≡ injected n (view_of r)
+    at [] whole = sym (injected-nothing n (view_of r) whole)
+    at ((number, p) ∷ rest) whole = sym (injected-front n number p rest (view_of r) None whole none)
 
 -- a flit goes to a local channel
 pub goes-view : (r : Inside) (n vc i : ℕ) (flit : Flit) (channels : Channels) (source : Source)

@@ -1,5 +1,6 @@
 pub mod ArrivalLemmas
 pub mod ChannelLemmas
+pub mod CountLemmas
 pub mod FilledLemmas
 pub mod FindLemmas
 pub mod InjectLemmas
@@ -18,8 +19,10 @@ pub mod SettleLemmas
 pub mod SiteLemmas
 pub mod StandLemmas
 pub mod StepRows
+pub mod SwitchLemmas
 pub mod TakeLemmas
 pub mod TallyLemmas
+pub mod VacantLemmas
 pub mod VerdictRows
 pub mod VerdictSetLemmas
 pub mod WayLemmas

@@ -1,5 +1,5 @@
 -- A new router.
-use Rattle.std.proofs.Common.{◌≡◌, ℕ, zero, suc, ◌+◌, ◌-◌, ◌*◌, false, List, ◌∷◌, ◌++◌, length, map, take, None, refl, ap, ◌∙◌, arith}
+use Rattle.std.proofs.Common.{◌≡◌, ℕ, ◌+◌, ◌-◌, ◌*◌, false, List, ◌++◌, length, map, take, None, ap, ◌∙◌, arith}
 use Rattle.std.specs.Prelude.{replicate}
 use Rattle.std.specs.List.{zip}
 use Rattle.std.proofs.lemmas.List.{take-replicate}
@@ -16,7 +16,7 @@ use Rattle.noc_router.specs.declared.indices.Indices.{Indices}
 use Rattle.noc_router.specs.declared.links.Links.{Links}
 use Rattle.noc_router.specs.declared.source.Source.{Source}
 use Rattle.noc_router.specs.declared.tally.Tally.{Tally}
-use Rattle.noc_router.specs.Counts.{counts_in}
+use Rattle.noc_router.specs.Counts.{counts_from}
 use Rattle.noc_router.specs.Inside.{view_of, queue_of}
 use Rattle.noc_router.specs.Verdict.{opening_arbiters}
 use Rattle.noc_router.specs.View.{idle_beat, opening_view}
@@ -30,7 +30,7 @@ pub opening-is : (node p vcs places : ℕ) (shape : Grid) (source : Source) (cha
     → channels.bank ≡ empty_rings (p * vcs) places → channels.inputs.items ≡ replicate (p * vcs) idle_input
     → channels.outputs.items ≡ replicate ((p - 1) * vcs) (link_output places) ++ replicate (p * vcs - (p - 1) * vcs) ejection_output
     → links.beats ≡ replicate 6 idle_beat
-    → map (counts_in tally.cycles) tally.counts.items ≡ replicate (p * vcs) (replicate 10 0) → tally.begun ≡ false
+    → counts_from tally.cycles tally.counters tally.counts.items ≡ replicate (p * vcs) (replicate 10 0) → tally.begun ≡ false
     → arbiters.channels.items ≡ (opening_arbiters p vcs).channels → arbiters.inputs.items ≡ (opening_arbiters p vcs).inputs → arbiters.outputs.items ≡ (opening_arbiters p vcs).outputs
     → zip arrivals.ends.items arrivals.cycles.items ≡ map (λ q. (q, None)) ends
     → view_of (record {
@@ -60,13 +60,9 @@ opening-is node p vcs places shape source channels links tally arbiters arrivals
     outputs ∙ ap (λ n. replicate ((n - 1) * vcs) (link_output places) ++ replicate (n * vcs - (n - 1) * vcs) ejection_output) ps
     ∙ (let e : 2 * d + 1 - 1 ≡ 2 * d = omega arith in ap (λ n. replicate (n * vcs) (link_output places) ++ replicate ((2 * d + 1) * vcs - n * vcs) ejection_output) e)
     ∙ ap (λ n. replicate (2 * d * vcs) (link_output places) ++ replicate n ejection_output) (last_port d vcs) in
-    let counts_are : map (counts_in tally.cycles) tally.counts.items ≡ replicate (ports shape * vcs) (replicate 10 0) = counts ∙ ap (λ n. replicate (n * vcs) (replicate 10 0)) ps in
+    let counts_are : counts_from tally.cycles tally.counters tally.counts.items ≡ replicate (ports shape * vcs) (replicate 10 0) = counts ∙ ap (λ n. replicate (n * vcs) (replicate 10 0)) ps in
     let channels_turn : arbiters.channels.items ≡ (opening_arbiters (ports shape) vcs).channels = turns_of_channels ∙ ap (λ n. (opening_arbiters n vcs).channels) ps in
     let inputs_turn : arbiters.inputs.items ≡ (opening_arbiters (ports shape) vcs).inputs = turns_of_inputs ∙ ap (λ n. (opening_arbiters n vcs).inputs) ps in
     let outputs_turn : arbiters.outputs.items ≡ (opening_arbiters (ports shape) vcs).outputs = turns_of_outputs ∙ ap (λ n. (opening_arbiters n vcs).outputs) ps in
     let beats_are : take (local_port shape) links.beats ≡ replicate (local_port shape) idle_beat = ap (take (local_port shape)) beats ∙ take-replicate (local_port shape) 6 idle_beat (omega (arith, grid.few_dimensions)) in
     rw (bank_is, inputs_are, outputs_are, counts_are, begun, channels_turn, inputs_turn, outputs_turn, beats_are, ended, queue, vc)
-
-pub map-replicate : {X Y : Type 0} (f : X → Y) (n : ℕ) (x : X) → map f (replicate n x) ≡ replicate n (f x)
-map-replicate f zero x = refl
-map-replicate f (suc n) x = ap (λ rest. f x ∷ rest) (map-replicate f n x)

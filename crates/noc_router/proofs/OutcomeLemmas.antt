@@ -14,7 +14,7 @@ use Rattle.noc_router.specs.Settled.{CanGrant, CanSettle, CanTakeEffect, IsOutco
 use Rattle.noc_router.specs.Sound.{is_occupied, out_in}
 use Rattle.noc_router.specs.Tally.{empty_finding, finding_at, is_empty_verdict}
 use Rattle.noc_router.specs.Verdict.{Round, Waits, Holds, ask_of, out_of, is_event, verdict_of}
-use Rattle.noc_router.specs.View.{View, Site, Outcome, Decisions, asked_for, claim_in, counted, decided_verdict, finding_of, outcome, planned, port_and_vc, route_of, size_of, view_buffer, view_claim, view_input, view_round, idle_beats}
+use Rattle.noc_router.specs.View.{View, Site, Outcome, Decisions, asked_for, claim_in, committed, counted, decided_verdict, finding_of, outcome, planned, port_and_vc, route_of, size_of, view_buffer, view_claim, view_input, view_round, idle_beats}
 use Rattle.noc_router.specs.declared.verdict.Verdict.{Verdict}
 use Rattle.noc_router.specs.declared.verdict.Verdict.TheVariants.{Empty, Routed, Granted, Moved, NoFlit, NoIdleChannel, LostChannel, NoCredit, LostInput, LostSwitch}
 use Rattle.noc_router.specs.declared.verdict.Finding.{Finding}
@@ -118,6 +118,23 @@ outcome-tallied p d v is = record {
   fits = record { grid = is.fits.grid; vcs = is.fits.vcs };
   is = is.is ∙ outcome-counted is.relation d v;
 }
+
+-- ---- the findings are shown, of which nothing is read in a cycle
+pub outcome-shown : (relation : Routes) (v : View) (findings : List Finding) → outcome relation v ≡ outcome relation (record v { findings = findings })
+unfolding outcome view_round
+outcome-shown relation v findings = refl
+
+pub outcome_of-shown : (p : Outcome) (v : View) (findings : List Finding) → IsOutcomeOf p v → IsOutcomeOf p (record v { findings = findings })
+outcome_of-shown p v findings is = record {
+  relation = is.relation;
+  fits = record { grid = is.fits.grid; vcs = is.fits.vcs };
+  is = is.is ∙ outcome-shown is.relation v findings;
+}
+
+pub committed-from-shown : (relation : Routes) (v : View) (findings : List Finding)
+    → committed (planned relation (record v { findings = findings })) (record v { findings = findings }) ≡ committed (planned relation v) v
+unfolding planned view_round committed
+committed-from-shown relation v findings = refl
 
 -- ---- the verdict of one channel takes effect
 module _ (p : Outcome) (v w : View) (i : ℕ) (is : IsOutcomeOf p v) (l : i < size_of v.site) (site : w.site ≡ v.site) where

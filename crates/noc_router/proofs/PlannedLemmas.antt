@@ -11,25 +11,26 @@ use Rattle.noc_router.specs.declared.verdict.Verdict.{Verdict}
 use Rattle.noc_router.specs.declared.verdict.Verdict.TheVariants.{Empty}
 use Rattle.noc_router.specs.Asked.{grants_on, no_round, picks_on, round_on, turns_in, wins_on}
 use Rattle.noc_router.specs.Decided.{IsDecidedFor, no_outcome}
-use Rattle.noc_router.specs.Inside.{view_of}
+use Rattle.noc_router.specs.Inside.{IsRouter, view_of}
 use Rattle.noc_router.specs.Verdict.{Round, Turns, asks_of, is_event, ready_of}
 use Rattle.noc_router.specs.View.{Outcome, View, finding_of, outcome, route_of, size_of, view_round, view_stands}
 use Rattle.noc_router.proofs.StandLemmas.{asks_of-stands}
 
+-- the grants by the arbiters of a router are those of its view
+pub grants-view : (r : Inside) (v : View) (asks : List (Option ℕ)) → view_of r ≡ v → IsRouter r
+    → grants_on r.arbiters.ports r.arbiters.vcs asks (turns_in r.arbiters) ≡ grants_on (ports v.site.grid) v.site.vcs asks v.arbiters
+grants-view r v asks view is =
+    let grid : r.arbiters.ports ≡ ports v.site.grid = is.arbiter_ports ∙ is.ports ∙ ap (λ (w : View). ports w.site.grid) view in
+    let vcs : r.arbiters.vcs ≡ v.site.vcs = is.arbiter_vcs ∙ ap (λ (w : View). w.site.vcs) view in
+    ap (λ n. grants_on n r.arbiters.vcs asks (turns_in r.arbiters)) grid
+    ∙ ap (λ n. grants_on (ports v.site.grid) n asks (turns_in r.arbiters)) vcs
+    ∙ ap (λ (w : View). grants_on (ports v.site.grid) v.site.vcs asks w.arbiters) view
+
 -- a round on the requests of a view is the round of that view
-pub round-view : (r : Inside) (v : View) (asks ready : List (Option ℕ)) → view_of r ≡ v → r.arbiters.ports ≡ r.ports → r.arbiters.vcs ≡ r.vcs → r.ports ≡ ports r.shape
-    → asks ≡ asks_of (view_stands v) → ready ≡ ready_of v.site.vcs (view_stands v)
-    → round_on r.arbiters.ports r.arbiters.vcs asks ready (turns_in r.arbiters) ≡ view_round v
+pub round-view : (v : View) (asks : List (Option ℕ)) → asks ≡ asks_of (view_stands v)
+    → round_on (ports v.site.grid) v.site.vcs asks (ready_of v.site.vcs (view_stands v)) v.arbiters ≡ view_round v
 unfolding view_round
-round-view r v asks ready view as_ports as_vcs as_shape asked readied =
-    let grid : r.arbiters.ports ≡ ports v.site.grid = as_ports ∙ as_shape ∙ ap (λ (w : View). ports w.site.grid) view in
-    let vcs : r.arbiters.vcs ≡ v.site.vcs = as_vcs ∙ ap (λ (w : View). w.site.vcs) view in
-    let turns : turns_in r.arbiters ≡ v.arbiters = ap (λ (w : View). w.arbiters) view in
-    ap (λ n. round_on n r.arbiters.vcs asks ready (turns_in r.arbiters)) grid
-    ∙ ap (λ n. round_on (ports v.site.grid) n asks ready (turns_in r.arbiters)) vcs
-    ∙ ap (λ xs. round_on (ports v.site.grid) v.site.vcs xs ready (turns_in r.arbiters)) asked
-    ∙ ap (λ xs. round_on (ports v.site.grid) v.site.vcs (asks_of (view_stands v)) xs (turns_in r.arbiters)) readied
-    ∙ ap (round_on (ports v.site.grid) v.site.vcs (asks_of (view_stands v)) (ready_of v.site.vcs (view_stands v))) turns
+round-view v asks asked = ap (λ xs. round_on (ports v.site.grid) v.site.vcs xs (ready_of v.site.vcs (view_stands v)) v.arbiters) asked
 
 rounds : List (Option ℕ) → List (Option ℕ) → List (Option ℕ) → Round
 rounds grants picks wins = record { grants = grants; picks = picks; wins = wins }

@@ -1,5 +1,5 @@
--- Rounds in which nobody asks.
-use Rattle.std.proofs.Common.{◌≡◌, ℕ, ◌+◌, ◌*◌, ◌<◌, false, List, length, get_or, replicate, Option, Some, None, refl, ap, sym, ◌∙◌, arith}
+-- Rounds in which nobody asks, picks and arbiters of one round.
+use Rattle.std.proofs.Common.{◌≡◌, ℕ, ◌+◌, ◌*◌, ◌<◌, List, length, get_or, replicate, Option, Some, None, refl, ap, sym, ◌∙◌, arith}
 use Rattle.std.specs.Prelude.{IfSome, is_some, slice_index}
 use Rattle.std.proofs.lemmas.List.{get_or_default, length-replicate}
 use Rattle.noc_topo.specs.Words.{tabulate}
@@ -9,8 +9,6 @@ use Rattle.noc_alloc.specs.Allocation.{pick_of}
 use Rattle.noc_alloc.proofs.ArbiterLemmas.{first_in_turn-none}
 use Rattle.std.specs.List.{All}
 use Rattle.noc_router.specs.Requests.{AllBelow}
-use Rattle.noc_packet.specs.Set.{has_bit}
-use Rattle.std.proofs.lemmas.Bool.{false≢true}
 use Rattle.noc_router.proofs.QuietLemmas.{at_replicate}
 
 -- a table of nobody
@@ -18,14 +16,6 @@ pub tabulate-none : (n : ℕ) (f : ℕ → Option ℕ) (xs : List (Option ℕ)) 
 tabulate-none n f xs count is long none =
     tabulate-from_each n f xs None (ap (λ (ys : List (Option ℕ)). length ys) is ∙ length-replicate count None ∙ long)
     (λ k l. ap (λ ys. get_or ys k None) is ∙ at_replicate None count k ∙ sym (none k))
-
--- nobody is ready where the set of those that are is empty
-pub nobody-ready : (set : ℕ) (ready : List (Option ℕ)) → ((k : ℕ) → has_bit set k ≡ is_some (get_or ready k None)) → ((k : ℕ) → has_bit set k ≡ false) → (k : ℕ) → get_or ready k None ≡ None
-nobody-ready set ready members none k = at (get_or ready k None) (sym (members k) ∙ none k)
-  where
-    at : (o : Option ℕ) → is_some o ≡ false → o ≡ None
-    at None e = refl
-    at (Some x) e = absurd (false≢true (sym e))
 
 pub pick_of-none : (ready : List (Option ℕ)) (vcs : ℕ) (pointers : List ℕ) → ((k : ℕ) → get_or ready k None ≡ None) → (port : ℕ) → pick_of ready vcs pointers port ≡ None
 pick_of-none ready vcs pointers none port = first_in_turn-none vcs (slice_index pointers port) _ (λ y _. ap is_some (none (port * vcs + y)))

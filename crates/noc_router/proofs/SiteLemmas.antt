@@ -16,7 +16,7 @@ use Rattle.noc_router.specs.Inside.{IsRouter, view_of}
 use Rattle.noc_router.specs.Settled.{tallied, settled}
 use Rattle.noc_router.specs.Verdict.{arbiters_after}
 use Rattle.noc_router.specs.View.{View, Site, Decisions, with_landed, with_misfit, with_flit, with_credit, taken, taken_from, all_taken, injected, injected_from, begun_on, with_injected, is_vacant, committed, tail_packet, flit_out, has_link, view_buffer, view_input, view_output, idle_beat, idle_beats, decided_verdict, buffer_after, input_after, output_after, has_event, beat_out, counted, local_channel, put}
-use Rattle.noc_router.proofs.SettleLemmas.{arrival-is}
+use Rattle.noc_router.proofs.SettleLemmas.{arrival-is, sink_ends, sink_misfits}
 
 either_site : (b : Bool) (x y : View) (s : Site) → x.site ≡ s → y.site ≡ s → (if b then x else y).site ≡ s
 either_site true x y s e f = e
@@ -61,67 +61,59 @@ pub injected-site : (n : ℕ) (v : View) → (injected n v).site ≡ v.site
 unfolding injected
 injected-site n v = injected_from-site n v.queue v.sending (record v { given = n })
 
-pub settled-site : (d : Decisions) (v : View) → (settled d v).site ≡ v.site
-unfolding settled
-settled-site d v = ap (λ (x : View). x.site) (arrival-is (tail_packet (flit_out v d.round (local_port v.site.grid))) (record v {
+-- ---- the parts of a commit
+-- what takes effect of all verdicts, but for what the sink does with the tail that leaves
+abbrev unsunk : Decisions → View → View
+unsunk d v = record v {
   buffers = map_indexed (λ i flits. buffer_after flits (decided_verdict d i)) v.buffers;
   inputs = map_indexed (λ i input. input_after d v i input (decided_verdict d i)) v.inputs;
   outputs = map_indexed (output_after v d.round) v.outputs;
   had_event = has_event d v;
   to_put = tabulate (local_port v.site.grid) (beat_out d v);
-}))
+}
 
-pub committed-site : (d : Decisions) (v : View) → (committed d v).site ≡ v.site
-unfolding committed
-committed-site d v = ap (λ (x : View). x.site) (arrival-is (tail_packet (flit_out v d.round (local_port v.site.grid))) (record v {
-  buffers = map_indexed (λ i flits. buffer_after flits (decided_verdict d i)) v.buffers;
-  inputs = map_indexed (λ i input. input_after d v i input (decided_verdict d i)) v.inputs;
-  outputs = map_indexed (output_after v d.round) v.outputs;
-  arbiters = arbiters_after d.round v.arbiters;
-  last_event = if has_event d v then Some v.given else v.last_event;
-  counts = map_indexed (λ i counts. counted (decided_verdict d i) counts) v.counts;
-  findings = d.findings;
-  had_event = false;
-  to_put = tabulate (local_port v.site.grid) (beat_out d v);
-}))
-
--- ---- the parts of a commit
 -- the pointers go on, and the cycle ends
-turned_and_closed : Decisions → View → View
+abbrev turned_and_closed : Decisions → View → View
 turned_and_closed d v = record v {
   arbiters = arbiters_after d.round v.arbiters;
   last_event = if v.had_event then Some v.given else v.last_event;
   had_event = false;
 }
 
-pub committed-is : (d : Decisions) (v : View) → record (settled d (tallied d v)) {
-  arbiters = arbiters_after d.round (settled d (tallied d v)).arbiters;
-  last_event = if (settled d (tallied d v)).had_event then Some (settled d (tallied d v)).given else (settled d (tallied d v)).last_event;
-  had_event = false;
-} ≡ committed d v
-unfolding settled committed turned_and_closed
-committed-is d v =
+-- the verdicts are counted and shown
+abbrev counted_and_shown : Decisions → View → View
+counted_and_shown d v = record v {
+  counts = map_indexed (λ i counts. counted (decided_verdict d i) counts) v.counts;
+  findings = d.findings;
+}
+
+-- the arrival and the misfit of the tail that leaves
+abbrev sunk : Decisions → View → View → View
+sunk d v w =
     let a = tail_packet (flit_out v d.round (local_port v.site.grid)) in
-    ap (turned_and_closed d) (arrival-is a (record v {
-      buffers = map_indexed (λ i flits. buffer_after flits (decided_verdict d i)) v.buffers;
-      inputs = map_indexed (λ i input. input_after d v i input (decided_verdict d i)) v.inputs;
-      outputs = map_indexed (output_after v d.round) v.outputs;
-      counts = map_indexed (λ i counts. counted (decided_verdict d i) counts) v.counts;
-      findings = d.findings;
-      had_event = has_event d v;
-      to_put = tabulate (local_port v.site.grid) (beat_out d v);
-    }))
-    ∙ sym (arrival-is a (record v {
-      buffers = map_indexed (λ i flits. buffer_after flits (decided_verdict d i)) v.buffers;
-      inputs = map_indexed (λ i input. input_after d v i input (decided_verdict d i)) v.inputs;
-      outputs = map_indexed (output_after v d.round) v.outputs;
-      arbiters = arbiters_after d.round v.arbiters;
-      last_event = if has_event d v then Some v.given else v.last_event;
-      counts = map_indexed (λ i counts. counted (decided_verdict d i) counts) v.counts;
-      findings = d.findings;
-      had_event = false;
-      to_put = tabulate (local_port v.site.grid) (beat_out d v);
-    }))
+    record w { ends = sink_ends a v.given v.ends; misfits = sink_misfits a v.ends v.misfits }
+
+pub settled-parts : (d : Decisions) (v : View) → settled d v ≡ sunk d v (unsunk d v)
+unfolding settled
+settled-parts d v = arrival-is (tail_packet (flit_out v d.round (local_port v.site.grid))) (unsunk d v)
+
+pub committed-parts : (d : Decisions) (v : View) → committed d v ≡ sunk d v (turned_and_closed d (counted_and_shown d (unsunk d v)))
+unfolding committed
+committed-parts d v = arrival-is (tail_packet (flit_out v d.round (local_port v.site.grid))) (turned_and_closed d (counted_and_shown d (unsunk d v)))
+
+pub settled-site : (d : Decisions) (v : View) → (settled d v).site ≡ v.site
+settled-site d v = ap (λ (x : View). x.site) (settled-parts d v)
+
+pub committed-site : (d : Decisions) (v : View) → (committed d v).site ≡ v.site
+committed-site d v = ap (λ (x : View). x.site) (committed-parts d v)
+
+-- what is counted, settled, turned and closed is committed, but for the findings
+pub committed-is : (d : Decisions) (v : View) → turned_and_closed d (settled d (tallied d v)) ≡ record (committed d v) { findings = v.findings }
+committed-is d v = ap (turned_and_closed d) (settled-parts d (tallied d v)) ∙ sym (ap (λ (x : View). record x { findings = v.findings }) (committed-parts d v))
+
+-- .. which are those of the plan
+pub committed-shown : (d : Decisions) (v : View) → record (committed d v) { findings = d.findings } ≡ committed d v
+committed-shown d v = ap (λ (x : View). record x { findings = d.findings }) (committed-parts d v) ∙ sym (committed-parts d v)
 
 -- ---- a take at each port
 pub taken-more : (relation : Routes) (port : ℕ) (beats : List Beat) (none : Beat) (v : View) (all : View) → port < length beats

@@ -1,12 +1,12 @@
 -- What a router's fields are seen as, and what is true of them.
-use Rattle.std.specs.Prelude.{◌≡◌, ℕ, ◌+◌, ◌-◌, ◌*◌, ◌<◌, ◌≤◌, true, List, [], map, take, Option, None, if◌then◌else◌, slice_index_or, vec_len}
+use Rattle.std.specs.Prelude.{◌≡◌, ℕ, ◌+◌, ◌-◌, ◌*◌, ◌<◌, ◌≤◌, true, List, [], take, Option, None, if◌then◌else◌, slice_index_or, vec_len}
 use Rattle.std.specs.Option.{ForSome}
 use Rattle.std.specs.List.{zip}
 use Rattle.noc_packet.specs.declared.packet.Packet.{Packet}
 use Rattle.noc_topo.specs.Shape.{IsGrid, nodes, ports, local_port, neighbour}
 use Rattle.noc_router.specs.declared.router.Router.TheInside.{Inside}
 use Rattle.noc_router.specs.declared.source.Source.{Source}
-use Rattle.noc_router.specs.Counts.{counts_in}
+use Rattle.noc_router.specs.Counts.{counts_from}
 use Rattle.noc_router.specs.Members.{AreBelow}
 use Rattle.noc_router.specs.Queue.{queue_from, sending_from}
 use Rattle.noc_router.specs.Sound.{is_awaiting}
@@ -32,7 +32,7 @@ view_of r = record {
   ends = zip r.arrivals.ends.items r.arrivals.cycles.items;
   misfits = r.misfits;
   last_event = r.last_event;
-  counts = map (counts_in r.tally.cycles) r.tally.counts.items;
+  counts = counts_from r.tally.cycles r.tally.counters r.tally.counts.items;
   findings = if r.tally.begun then r.tally.findings.items else [];
   given = r.cycle;
   had_event = r.had_event;

@@ -1,5 +1,5 @@
 -- Lists of requests and winners.
-use Rattle.std.specs.Prelude.{◌≡◌, ℕ, ◌<◌, ◌/◌, ◌%◌, Bool, true, false, List, Option, Some, None, slice_index_or, if◌then◌else◌}
+use Rattle.std.specs.Prelude.{◌≡◌, ℕ, ◌+◌, ◌*◌, ◌<◌, Bool, true, false, List, Option, Some, None, option_map, slice_index_or, if◌then◌else◌}
 use Rattle.noc_topo.specs.Words.{is_some_of}
 use Rattle.std.specs.List.{All}
 use Rattle.std.specs.Option.{ForSome}
@@ -30,6 +30,6 @@ AreAmong whole part = (k : ℕ) → has_bit part k ≡ true → has_bit whole k 
 abbrev pub IsMarked : ℕ → (ℕ → Bool) → ℕ → Type 0
 IsMarked rest test set = (k : ℕ) → has_bit set k ≡ (if has_bit rest k then false else test k)
 
--- the set has just the channels that their ports picked, of so many virtual channels, but those of the rest of the ports are not there yet
-abbrev pub ArePicked : ℕ → ℕ → ℕ → List (Option ℕ) → ℕ → Type 0
-ArePicked size vcs rest picks set = (k : ℕ) → k < size → has_bit set k ≡ (if has_bit rest (k / vcs) then false else is_some_of (slice_index_or picks (k / vcs) None) (k % vcs))
+-- the input channel that an input port picked, of so many virtual channels
+abbrev pub pick_in : ℕ → List (Option ℕ) → ℕ → Option ℕ
+pick_in vcs picks port = option_map (λ vc. port * vcs + vc) (slice_index_or picks port None)

@@ -45,11 +45,10 @@ decisions_by p v = record { round = p.round; findings = tabulate (size_of v.site
 abbrev pub finding_by : Outcome → ℕ → List Input → ℕ → Finding
 finding_by p vcs inputs i = named vcs (input_at inputs i) (outcome_verdict p i) (slice_index_or p.asks i None)
 
--- the findings are counted, and every beat is idle again
+-- the verdicts are counted, and every beat is idle again
 abbrev pub tallied : Decisions → View → View
 tallied d v = record v {
   counts = map_indexed (λ i counts. counted (decided_verdict d i) counts) v.counts;
-  findings = d.findings;
   to_put = idle_beats v.site;
 }
 

@@ -4,6 +4,7 @@
 mod arbiters;
 mod arrivals;
 mod channels;
+mod counter;
 mod indices;
 mod links;
 mod plan;

@@ -2,7 +2,7 @@
 
 ghost use Rattle.std.specs.Prelude.{◌≡◌, ℕ, ◌<◌, ◌==◌, ◌||◌, ◌&&◌, not, false, IsTrue, ◌↔◌, Some, None, replicate, slice_index_or, slice_set};
 ghost use Rattle.noc_packet.specs.Set.{has_bit};
-ghost use Rattle.noc_topo.specs.Shape.{nodes as nodes_of, neighbour as neighbour_of};
+ghost use Rattle.noc_topo.specs.Shape.{nodes as nodes_of, ports as ports_of, neighbour as neighbour_of};
 ghost use Rattle.noc_router.specs.Links.{AreLoaded};
 ghost use Rattle.noc_router.specs.View.{idle_beat};
 
@@ -15,8 +15,8 @@ pub(crate) const LINKS: usize = 6;
 /// Where each link port leads, and the beat that leaves by it.
 #[derive(Drop)]
 pub(crate) struct Links {
-    // The neighbour at a port, and the port by which a flit enters there.
-    leads: [Option<(usize, usize)>; LINKS],
+    // The neighbour at a port, and the port by which a flit enters there, in a byte each.
+    leads: [Option<(u8, u8)>; LINKS],
     beats: [Beat; LINKS],
     // The ports whose beat is not idle.
     loaded: ChannelSet,
@@ -33,7 +33,7 @@ impl Links {
         let mut leads = [None; LINKS];
         for port in 0..LINKS {
             if port < shape.ports() {
-                leads[port] = shape.neighbour(node, port);
+                leads[port] = lead(shape, node, port);
             }
         }
         Links {
@@ -48,7 +48,10 @@ impl Links {
         requires { port < 6 }
         ensures { result ≡ slice_index_or self.now.leads port None }
     {
-        self.leads[port]
+        match self.leads[port] {
+            Some((node, entry)) => Some((usize::from(node), usize::from(entry))),
+            None => None,
+        }
     }
 
     // Every beat is idle again.
@@ -110,4 +113,14 @@ impl Links {
         self.loaded = self.loaded.without(port);
         beat
     }
+}
+
+// Where a port leads, in a byte each: there are at most 256 nodes.
+fn lead(shape: &Shape, node: usize, port: usize) -> Option<(u8, u8)>
+    requires node { node < nodes_of shape.now }
+    requires port { port < ports_of shape.now }
+    ensures { result ≡ neighbour_of shape.now node port }
+{
+    let (neighbour, entry) = shape.neighbour(node, port)?;
+    Some((neighbour as u8, entry as u8))
 }

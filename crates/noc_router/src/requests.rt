@@ -1,17 +1,16 @@
 //! The requests of one router's input channels in one cycle, and what its arbiters decide on them.
 
-ghost use Rattle.std.specs.Prelude.{◌≡◌, ℕ, ◌*◌, ◌<◌, ◌≤◌, IfOk, IfSome, List, Option, true, Some, None, is_some, length, replicate, slice_index_or, slice_set, vec_len};
-ghost use Rattle.noc_topo.specs.Words.{is_some_of};
-ghost use Rattle.noc_alloc.specs.Allocation.{picked_port};
+ghost use Rattle.std.specs.Prelude.{◌≡◌, ℕ, ◌*◌, ◌<◌, ◌≤◌, IfOk, IfSome, List, Option, true, Some, None, is_some, length, option_and_then, replicate, slice_index_or, slice_set, vec_len};
+ghost use Rattle.noc_alloc.specs.Allocation.{pick_of};
+ghost use Rattle.noc_alloc.specs.Arbiter.{turn_at};
+ghost use Rattle.noc_alloc.specs.Steps.{farther, offered};
 ghost use Rattle.noc_packet.specs.Set.{has_bit};
 ghost use Rattle.noc_router.specs.Members.{AreBelow};
-ghost use Rattle.noc_router.specs.Requests.{AllBelow, AreQuiet, is_given};
+ghost use Rattle.noc_router.specs.Requests.{AllBelow, AreQuiet, is_given, pick_in};
 
 use crate::arbiters::Arbiters;
 use crate::channels::marked;
-use noc_alloc::{
-    Places, advance_channels, advance_switch, allocate_channels, pick_channels, win_ports,
-};
+use noc_alloc::{Places, advance_channels, advance_switch, allocate_channels, offer, pick_channel};
 use noc_packet::{ChannelSet, Memory};
 use std::alloc::Global;
 
@@ -23,9 +22,8 @@ pub(crate) struct Requests {
     // The input channels whose head may get a set, and by input channel that set.
     routed: ChannelSet,
     routes: Vec<ChannelSet>,
-    // By input channel the output channel that it asks for, and by input port the output port to which its pick goes.
+    // By input channel the output channel that it asks for.
     asks: Places,
-    goes: Places,
     // By output channel the input channel, by input port the virtual channel, by output port the input port.
     grants: Places,
     picks: Places,
@@ -34,21 +32,19 @@ pub(crate) struct Requests {
     ghost few: { size ≤ 56 },
     ghost a_route_each: { vec_len routes ≡ size },
     ghost an_ask_each: { length asks ≡ size },
-    ghost a_way_each: { length goes ≡ ports },
     ghost a_grant_each: { length grants ≡ size },
     ghost a_pick_each: { length picks ≡ ports },
     ghost a_win_each: { length wins ≡ ports },
     ghost routed_below: { AreBelow size routed },
     ghost quiet_routes: { AreQuiet routed 0 routes.items },
     ghost asks_for_channels: { AllBelow size asks },
-    ghost goes_to_ports: { AllBelow ports goes },
     ghost granted_to_channels: { AllBelow size grants },
     ghost won_by_ports: { AllBelow ports wins },
 }
 
 impl Requests {
-    ghost use Rattle.noc_router.specs.Asked.{grants_on, no_round, picks_on, round_in, turns_in, wins_on};
-    ghost use Rattle.noc_router.specs.Verdict.{arbiters_after};
+    ghost use Rattle.noc_router.specs.Asked.{grants_on, no_round, round_in, turns_in};
+    ghost use Rattle.noc_router.specs.Verdict.{arbiters_after, pointers_of};
 
     // No requests, for routers with so many ports, and so many channels in and out.
     pub(crate) fn new(alloc: Global, ports: usize, size: usize) -> Result<Requests, Memory>
@@ -66,7 +62,6 @@ impl Requests {
             routed: ChannelSet::empty(),
             routes: vec![in alloc; ChannelSet::empty(); size]?,
             asks: Places::new(alloc, size)?,
-            goes: Places::new(alloc, ports)?,
             grants: Places::new(alloc, size)?,
             picks: Places::new(alloc, ports)?,
             wins: Places::new(alloc, ports)?,
@@ -79,13 +74,11 @@ impl Requests {
         ensures size { self.new.size ≡ self.old.size }
         ensures routes { self.new.routes.items ≡ replicate self.old.size 0 }
         ensures asks { self.new.asks ≡ replicate self.old.size None }
-        ensures goes { self.new.goes ≡ replicate self.old.ports None }
     {
         while let Some(index) = self.routed.least_common(&self.routed) {
             self.forget(index);
         }
         self.asks.clear();
-        self.goes.clear();
     }
 
     // The head of an input channel gets no set.
@@ -106,7 +99,6 @@ impl Requests {
         ensures size { self.new.size ≡ self.old.size }
         ensures routes { self.new.routes.items ≡ slice_set self.old.routes.items index set }
         ensures asks { self.new.asks ≡ self.old.asks }
-        ensures goes { self.new.goes ≡ self.old.goes }
     {
         self.routed = self.routed.with(index);
         self.routes[index] = set;
@@ -120,7 +112,6 @@ impl Requests {
         ensures size { self.new.size ≡ self.old.size }
         ensures routes { self.new.routes.items ≡ self.old.routes.items }
         ensures asks { self.new.asks ≡ slice_set self.old.asks index (Some output) }
-        ensures goes { self.new.goes ≡ self.old.goes }
     {
         self.asks.set(index, Some(output));
     }
@@ -132,58 +123,71 @@ impl Requests {
         ensures size { self.new.size ≡ self.old.size }
         ensures routes { self.new.routes.items ≡ self.old.routes.items }
         ensures asks { self.new.asks ≡ self.old.asks }
-        ensures goes { self.new.goes ≡ self.old.goes }
         ensures grants { (round_in self.new).grants ≡ grants_on arbiters.now.ports arbiters.now.vcs self.old.asks (turns_in arbiters.now) }
     {
         allocate_channels(&self.asks, &arbiters.channels, &mut self.grants);
     }
 
-    // Each input port picks one of its channels that are ready to send.
-    pub(crate) fn pick(&mut self, ready: ChannelSet, arbiters: &Arbiters)
+    // No input port has picked a channel, and no output port is won.
+    pub(crate) fn clear_switch(&mut self)
+        ensures ports { self.new.ports ≡ self.old.ports }
+        ensures size { self.new.size ≡ self.old.size }
+        ensures routes { self.new.routes.items ≡ self.old.routes.items }
+        ensures asks { self.new.asks ≡ self.old.asks }
+        ensures grants { (round_in self.new).grants ≡ (round_in self.old).grants }
+        ensures picks { (round_in self.new).picks ≡ replicate self.old.ports None }
+        ensures wins { (round_in self.new).wins ≡ replicate self.old.ports None }
+    {
+        self.picks.clear();
+        self.wins.clear();
+    }
+
+    // An input port picks one of its channels that are ready to send, if it has one: its virtual channel.
+    pub(crate) fn pick(
+        &mut self,
+        ready: ChannelSet,
+        port: usize,
+        arbiters: &Arbiters,
+    ) -> Option<usize>
+        requires port { port < self.old.ports }
         requires ports { arbiters.now.ports ≡ self.old.ports }
         requires size { arbiters.now.ports * arbiters.now.vcs ≡ self.old.size }
         ensures ports { self.new.ports ≡ self.old.ports }
         ensures size { self.new.size ≡ self.old.size }
         ensures routes { self.new.routes.items ≡ self.old.routes.items }
         ensures asks { self.new.asks ≡ self.old.asks }
-        ensures goes { self.new.goes ≡ self.old.goes }
         ensures grants { (round_in self.new).grants ≡ (round_in self.old).grants }
-        ensures picks { (asked : List (Option ℕ)) → ((k : ℕ) → has_bit ready k ≡ is_some (slice_index_or asked k None)) → (round_in self.new).picks ≡ picks_on arbiters.now.ports arbiters.now.vcs asked (turns_in arbiters.now) }
-        ensures within { AllBelow arbiters.now.vcs (round_in self.new).picks }
+        ensures wins { (round_in self.new).wins ≡ (round_in self.old).wins }
+        ensures picks { (round_in self.new).picks ≡ slice_set (round_in self.old).picks port result }
+        ensures pick { (asked : List (Option ℕ)) → ((k : ℕ) → has_bit ready k ≡ is_some (slice_index_or asked k None)) → result ≡ pick_of asked arbiters.now.vcs (pointers_of (turns_in arbiters.now).inputs) port }
+        ensures within { IfSome result (λ vc. vc < arbiters.now.vcs) }
     {
-        if ready.is_empty() {
-            self.picks.clear();
-            return;
-        }
-        pick_channels(ready, arbiters.vcs, &arbiters.inputs, &mut self.picks);
+        let pick = pick_channel(ready, arbiters.vcs, &arbiters.inputs, port);
+        self.picks.set(port, pick);
+        pick
     }
 
-    // The pick of an input port goes to an output port.
-    pub(crate) fn add_way(&mut self, port: usize, output: usize)
+    // The pick of an input port goes to an output port, which is won by the nearer of this input port and of the one that
+    // has won it so far. The input channel that the other has picked is given back.
+    pub(crate) fn offer(&mut self, port: usize, output: usize, arbiters: &Arbiters) -> Option<usize>
         requires input { port < self.old.ports }
         requires output { output < self.old.ports }
-        ensures ports { self.new.ports ≡ self.old.ports }
-        ensures size { self.new.size ≡ self.old.size }
-        ensures routes { self.new.routes.items ≡ self.old.routes.items }
-        ensures asks { self.new.asks ≡ self.old.asks }
-        ensures goes { self.new.goes ≡ slice_set self.old.goes port (Some output) }
-        ensures round { round_in self.new ≡ round_in self.old }
-    {
-        self.goes.set(port, Some(output));
-    }
-
-    // Each output port is won by one of the input ports whose pick goes to it.
-    pub(crate) fn win(&mut self, arbiters: &Arbiters)
         requires ports { arbiters.now.ports ≡ self.old.ports }
+        requires size { arbiters.now.ports * arbiters.now.vcs ≡ self.old.size }
+        requires picks { AllBelow arbiters.now.vcs (round_in self.old).picks }
         ensures ports { self.new.ports ≡ self.old.ports }
         ensures size { self.new.size ≡ self.old.size }
         ensures routes { self.new.routes.items ≡ self.old.routes.items }
         ensures asks { self.new.asks ≡ self.old.asks }
         ensures grants { (round_in self.new).grants ≡ (round_in self.old).grants }
         ensures picks { (round_in self.new).picks ≡ (round_in self.old).picks }
-        ensures wins { (ready : List (Option ℕ)) (vcs : ℕ) (picks : List (Option ℕ)) → ((q : ℕ) → slice_index_or self.old.goes q None ≡ picked_port ready vcs picks q) → (round_in self.new).wins ≡ wins_on arbiters.now.ports vcs ready picks (turns_in arbiters.now) }
+        ensures wins { (round_in self.new).wins ≡ offered (turns_in arbiters.now).outputs output port (round_in self.old).wins }
+        ensures loser { result ≡ option_and_then (pick_in arbiters.now.vcs (round_in self.old).picks) (farther (turn_at (turns_in arbiters.now).outputs output).pointer (slice_index_or (round_in self.old).wins output None) port) }
+        ensures within { IfSome result (λ index. index < self.new.size) }
     {
-        win_ports(&self.goes, &arbiters.outputs, &mut self.wins);
+        let loser = offer(&arbiters.outputs, output, port, &mut self.wins)?;
+        let vc = self.picks.get(loser)?;
+        Some(loser * arbiters.vcs + vc)
     }
 
     // The pointers go on past the winners.
@@ -260,21 +264,6 @@ impl Requests {
         }
     }
 
-    // The input ports that picked a channel.
-    pub(crate) fn picking(&self) -> ChannelSet
-        ensures { (q : ℕ) → has_bit result q ≡ is_some (slice_index_or (round_in self.now).picks q None) }
-    {
-        self.picks.filled()
-    }
-
-    // The virtual channel that an input port picked.
-    pub(crate) fn picked(&self, port: usize) -> Option<usize>
-        requires { port < self.now.ports }
-        ensures { result ≡ slice_index_or (round_in self.now).picks port None }
-    {
-        self.picks.get(port)
-    }
-
     // The set for the head of an input channel.
     pub(crate) fn route(&self, index: usize) -> ChannelSet
         requires { index < self.now.size }
@@ -290,13 +279,5 @@ impl Requests {
         ensures within { IfSome result (λ output. output < self.now.size) }
     {
         self.asks.get(index)
-    }
-
-    // Whether an output port goes to an input port.
-    pub(crate) fn is_won(&self, output: usize, port: usize) -> bool
-        requires { output < self.now.ports }
-        ensures { result ≡ is_some_of (slice_index_or (round_in self.now).wins output None) port }
-    {
-        self.wins.get(output) == Some(port)
     }
 }

@@ -1,34 +1,35 @@
 //! The router.
 
 ghost use Rattle.std.specs.List.Sorted.{IsStrictlyIncreasing};
-ghost use Rattle.std.specs.Prelude.{◌≡◌, ◌+◌, ◌*◌, ◌<◌, ◌≤◌, All, IfOk, IfSome, Some, true, ◌⊎◌, length, ℕ, Bool, not, ◌&&◌, None, replicate, slice_index_or, [], false, if◌then◌else◌};
+ghost use Rattle.std.specs.Prelude.{◌≡◌, ◌+◌, ◌*◌, ◌<◌, ◌≤◌, All, IfOk, IfSome, Some, map, true, ◌⊎◌, length, ℕ, Bool, not, ◌&&◌, None, replicate, slice_index_or, [], false, if◌then◌else◌};
 ghost use Rattle.noc_topo.specs.Shape.{IsGrid, nodes as nodes_of, ports as ports_of, local_port, neighbour as neighbour_of};
 ghost use Rattle.noc_topo.specs.Words.{tabulate};
-ghost use Rattle.noc_alloc.specs.Allocation.{picked_port};
+ghost use Rattle.noc_alloc.specs.Steps.{offered};
 ghost use Rattle.noc_router.specs.Members.{AreBelow};
 ghost use Rattle.noc_vc.specs.Input.{is_active, is_empty};
 ghost use Rattle.noc_vc.specs.Output.{has_credit};
 ghost use Rattle.noc_router.specs.Arrivals.{arrival_in};
-ghost use Rattle.noc_router.specs.Asked.{no_round, round_in};
+ghost use Rattle.noc_router.specs.Asked.{no_round, picks_on, round_in, wins_on};
 ghost use Rattle.noc_router.specs.Decided.{IsDecidedFor};
 ghost use Rattle.noc_router.specs.Found.{empty_finding};
 ghost use Rattle.noc_router.specs.Injection.{next_vc, vacant_vc};
 ghost use Rattle.noc_router.specs.Links.{is_idle_beat};
 ghost use Rattle.noc_router.specs.Requests.{AllBelow, AreAmong};
 ghost use Rattle.noc_router.specs.Settled.{IsOutcomeOf, CanGrant, CanTakeEffect, decisions_by, effect_of, outcome_verdict, tallied, settled, routed_at, granted_at, moved_by, credit_put, flit_put};
-ghost use Rattle.noc_router.specs.Sound.{is_awaiting};
-ghost use Rattle.noc_router.specs.Standing.{AreHeads, ArePicks, AreWaiting, IsPickedIn, IsStanding, is_won_from};
+ghost use Rattle.noc_router.specs.Sound.{is_awaiting, is_occupied};
+ghost use Rattle.noc_router.specs.Standing.{AreHeads, AreReady, AreWaiting, HaveWon, IsPickedIn, IsStanding, loser_of, way_of};
 ghost use Rattle.noc_router.specs.VerdictSets.{verdict_by};
 ghost use Rattle.noc_route.specs.Routes.{Routes};
 ghost use Rattle.noc_packet.specs.Set.{has_bit};
 ghost use Rattle.noc_router.specs.Start.{IsStart};
 ghost use Rattle.noc_router.specs.Tally.{finding_at};
 ghost use Rattle.noc_router.specs.Verdict.{asks_of, is_event, ready_of, arbiters_after};
-ghost use Rattle.noc_router.specs.View.{IsRelationOf, local_channel, size_of, view_buffer, opening_view, with_flit, with_credit, taken, all_taken, injected, planned, outcome, committed, beat_to_put, put, idle_beats, local_step, finding_of, route_for, route_of, view_claim, view_output, view_stands, first_flit, view_input, port_and_vc, with_arrival};
+ghost use Rattle.noc_router.specs.View.{IsRelationOf, local_channel, size_of, view_buffer, opening_view, with_flit, with_credit, taken, all_taken, injected, planned, outcome, committed, beat_to_put, put, idle_beats, local_step, finding_of, route_for, route_of, view_claim, view_output, view_stands, first_flit, view_input, port_and_vc, with_arrival, counted};
+ghost use Rattle.noc_router.specs.declared.verdict.Verdict.TheVariants.{Empty};
 
 use crate::arbiters::Arbiters;
 use crate::arrivals::Arrivals;
-use crate::channels::{Channels, Standing, marked};
+use crate::channels::{Channels, Standing};
 use crate::indices::Indices;
 use crate::links::Links;
 use crate::plan::Plan;
@@ -180,10 +181,10 @@ impl Router {
         ensures { self.new ≡ injected cycle self.old }
     {
         self.cycle = cycle;
-        let Some(flit) = self.source.next_flit() else {
+        let Some(vc) = self.next_channel() else {
             return;
         };
-        let Some(vc) = self.next_channel() else {
+        let Some(flit) = self.source.next_flit() else {
             return;
         };
         self.channels.inject((self.ports - 1) * self.vcs + vc, flit);
@@ -236,10 +237,8 @@ impl Router {
         self.route_heads(relation, standing.heads, &mut plan.requests);
         self.ask_for_channels(standing.waiting, &mut plan.requests);
         plan.requests.grant_all(&self.arbiters);
-        plan.requests.pick(standing.ready, &self.arbiters);
-        let picked = self.find_ways(&mut plan.requests);
-        plan.requests.win(&self.arbiters);
-        plan.verdicts = self.verdicts(&standing, picked, &plan.requests);
+        let (picked, moved) = self.allocate_switch(standing.ready, &mut plan.requests);
+        plan.verdicts = self.verdicts(&standing, picked, moved, &plan.requests);
     }
 
     // The sets for the heads that are not routed, where there are none yet.
@@ -252,7 +251,6 @@ impl Router {
         ensures size { requests.new.size ≡ requests.old.size }
         ensures routes { requests.new.routes.items ≡ tabulate (size_of self.now.site) (route_of relation.now self.now) }
         ensures asks { requests.new.asks ≡ requests.old.asks }
-        ensures goes { requests.new.goes ≡ requests.old.goes }
     {
         let mut rest = heads;
         while let Some(index) = rest.least_common(&rest) {
@@ -282,7 +280,6 @@ impl Router {
         ensures size { requests.new.size ≡ requests.old.size }
         ensures routes { requests.new.routes.items ≡ requests.old.routes.items }
         ensures asks { requests.new.asks ≡ asks_of (view_stands self.now) }
-        ensures goes { requests.new.goes ≡ requests.old.goes }
     {
         let mut rest = waiting;
         while let Some(index) = rest.least_common(&rest) {
@@ -293,52 +290,93 @@ impl Router {
         }
     }
 
-    // The output ports to which the picks of the input ports go, where none is known yet. All picks are ready to send; they
-    // are given back as a set of input channels.
-    fn find_ways(&self, requests: &mut Requests) -> ChannelSet
+    // The switch is allocated to channels that are ready to send: each input port picks one of them, and each output port is
+    // won by one of the picks that go to it. Gives the channels that were picked, and those of them that won.
+    fn allocate_switch(
+        &self,
+        ready: ChannelSet,
+        requests: &mut Requests,
+    ) -> (ChannelSet, ChannelSet)
+        requires ready { AreReady self.now ready }
         requires ports { requests.old.ports ≡ ports_of self.now.site.grid }
         requires size { requests.old.size ≡ size_of self.now.site }
-        requires none { requests.old.goes ≡ replicate (ports_of self.now.site.grid) None }
-        requires within { AllBelow self.now.site.vcs (round_in requests.old).picks }
-        requires ready { ArePicks self.now (round_in requests.old).picks }
         ensures ports { requests.new.ports ≡ requests.old.ports }
         ensures size { requests.new.size ≡ requests.old.size }
         ensures routes { requests.new.routes.items ≡ requests.old.routes.items }
         ensures asks { requests.new.asks ≡ requests.old.asks }
-        ensures round { round_in requests.new ≡ round_in requests.old }
-        ensures goes { (q : ℕ) → slice_index_or requests.new.goes q None ≡ picked_port (ready_of self.now.site.vcs (view_stands self.now)) self.now.site.vcs (round_in requests.old).picks q }
-        ensures below { AreBelow (size_of self.now.site) result }
-        ensures picked { IsPickedIn self.now (round_in requests.old).picks result }
+        ensures grants { (round_in requests.new).grants ≡ (round_in requests.old).grants }
+        ensures picks { (round_in requests.new).picks ≡ picks_on (ports_of self.now.site.grid) self.now.site.vcs (ready_of self.now.site.vcs (view_stands self.now)) self.now.arbiters }
+        ensures wins { (round_in requests.new).wins ≡ wins_on (ports_of self.now.site.grid) self.now.site.vcs (ready_of self.now.site.vcs (view_stands self.now)) (round_in requests.new).picks self.now.arbiters }
+        ensures within { AllBelow self.now.site.vcs (round_in requests.new).picks }
+        ensures among { AreAmong ready result.0 }
+        ensures picked { IsPickedIn self.now (round_in requests.new).picks result.0 }
+        ensures moved { HaveWon self.now (round_in requests.new) result.0 result.1 }
     {
         let mut picked = ChannelSet::empty();
-        let mut rest = requests.picking();
-        while let Some(port) = rest.least_common(&rest) {
-            rest = rest.without(port);
-            if let Some(vc) = requests.picked(port) {
+        let mut lost = ChannelSet::empty();
+        let mut rest = ready;
+        requests.clear_switch();
+        while let Some(first) = rest.least_common(&rest) {
+            let (port, _) = self.indices.place(first);
+            rest = rest.from((port + 1) * self.vcs);
+            if let Some(vc) = requests.pick(ready, port, &self.arbiters) {
                 let index = port * self.vcs + vc;
-                if let InputState::Active(next) = self.channels.state(index) {
-                    picked = picked.with(index);
-                    requests.add_way(port, self.indices.place(next).0);
+                picked = picked.with(index);
+                if let Some(loser) = self.offer_way(port, index, requests) {
+                    lost = lost.with(loser);
                 }
             }
         }
-        picked
+        (picked, picked.less(lost))
+    }
+
+    // The pick of an input port, an active channel, goes to the output port of its output channel. Gives the pick that
+    // loses that output port, if it is not the only one that goes there so far.
+    fn offer_way(&self, port: usize, index: usize, requests: &mut Requests) -> Option<usize>
+        requires port { port < ports_of self.now.site.grid }
+        requires index { index < size_of self.now.site }
+        requires active { is_active (view_input self.now index).phase ≡ true }
+        requires ports { requests.old.ports ≡ ports_of self.now.site.grid }
+        requires size { requests.old.size ≡ size_of self.now.site }
+        requires picks { AllBelow self.now.site.vcs (round_in requests.old).picks }
+        ensures ports { requests.new.ports ≡ requests.old.ports }
+        ensures size { requests.new.size ≡ requests.old.size }
+        ensures routes { requests.new.routes.items ≡ requests.old.routes.items }
+        ensures asks { requests.new.asks ≡ requests.old.asks }
+        ensures grants { (round_in requests.new).grants ≡ (round_in requests.old).grants }
+        ensures picks { (round_in requests.new).picks ≡ (round_in requests.old).picks }
+        ensures way { IfSome (way_of self.now index) (λ output. output < ports_of self.now.site.grid) }
+        ensures wins { (output : ℕ) → way_of self.now index ≡ Some output → (round_in requests.new).wins ≡ offered self.now.arbiters.outputs output port (round_in requests.old).wins }
+        ensures loser { (output : ℕ) → way_of self.now index ≡ Some output → result ≡ loser_of self.now (round_in requests.old) output port }
+        ensures within { IfSome result (λ loser. loser < size_of self.now.site) }
+    {
+        match self.channels.state(index) {
+            InputState::Active(next) => {
+                requests.offer(port, self.indices.place(next).0, &self.arbiters)
+            }
+            _ => None,
+        }
     }
 
     // The verdict on every input channel, once the arbiters have decided.
-    fn verdicts(&self, standing: &Standing, picked: ChannelSet, requests: &Requests) -> VerdictSets
+    fn verdicts(
+        &self,
+        standing: &Standing,
+        picked: ChannelSet,
+        moved: ChannelSet,
+        requests: &Requests,
+    ) -> VerdictSets
         requires standing { IsStanding self.now standing.now }
-        requires ports { requests.now.ports ≡ ports_of self.now.site.grid }
         requires size { requests.now.size ≡ size_of self.now.site }
         requires asks { requests.now.asks ≡ asks_of (view_stands self.now) }
         requires ready { AreAmong standing.now.ready picked }
         requires picked { IsPickedIn self.now (round_in requests.now).picks picked }
+        requires moved { HaveWon self.now (round_in requests.now) picked moved }
         ensures verdicts { (k : ℕ) → k < size_of self.now.site → verdict_by result k ≡ (finding_of (round_in requests.now) self.now k).verdict }
         ensures events { (k : ℕ) → is_event (verdict_by result k) ≡ true → k < size_of self.now.site }
     {
         let asking = requests.asking();
         let granted = requests.granted();
-        let moved = self.moving(requests, picked);
         VerdictSets {
             moved,
             granted,
@@ -349,35 +387,6 @@ impl Router {
             no_credit: standing.unsupplied,
             lost_input: standing.ready.less(picked),
             lost_switch: picked.less(moved),
-        }
-    }
-
-    // Those of the picked channels, all of which are ready, whose input port won their output port.
-    fn moving(&self, requests: &Requests, picked: ChannelSet) -> ChannelSet
-        requires picked { (k : ℕ) → has_bit picked k ≡ true → (k < size_of self.now.site) × (is_active (view_input self.now k).phase ≡ true) }
-        requires ports { requests.now.ports ≡ ports_of self.now.site.grid }
-        ensures { (k : ℕ) → has_bit result k ≡ (has_bit picked k && is_won_from self.now (round_in requests.now) k (view_input self.now k).phase) }
-    {
-        let mut moving = ChannelSet::empty();
-        let mut rest = picked;
-        while let Some(index) = rest.least_common(&rest) {
-            rest = rest.without(index);
-            moving = marked(moving, index, self.is_won(requests, index));
-        }
-        moving
-    }
-
-    // Whether the input port of an active channel won its output port.
-    fn is_won(&self, requests: &Requests, index: usize) -> bool
-        requires index { index < size_of self.now.site }
-        requires ports { requests.now.ports ≡ ports_of self.now.site.grid }
-        ensures { result ≡ is_won_from self.now (round_in requests.now) index (view_input self.now index).phase }
-    {
-        match self.channels.state(index) {
-            InputState::Active(next) => {
-                requests.is_won(self.indices.place(next).0, self.indices.place(index).0)
-            }
-            _ => false,
         }
     }
 
@@ -404,10 +413,54 @@ impl Router {
         requires plan { IsOutcomeOf plan.now self.old }
         ensures { (relation : Routes) → plan.now ≡ outcome relation self.old → self.new ≡ committed (planned relation self.old) self.old }
     {
+        self.show(plan);
+        self.take_effect(plan);
+    }
+
+    /// Plans and commits a cycle whose findings nobody reads: those of the last cycle that was committed by `commit` stay.
+    pub fn advance(&mut self, relation: &Relation, plan: &mut Plan)
+        requires relation { IsRelationOf relation.now self.old }
+        requires plan { IsDecidedFor (ports_of self.old.site.grid) self.old.site.vcs plan.old }
+        ensures view { self.new ≡ record (committed (planned relation.now self.old) self.old) { findings = self.old.findings } }
+        ensures plan { IsDecidedFor (ports_of self.old.site.grid) self.old.site.vcs plan.new }
+    {
+        if self.channels.occupied().is_empty() {
+            self.pass();
+        } else {
+            self.plan(relation, plan);
+            self.take_effect(plan);
+        }
+    }
+
+    // A cycle in which no input channel holds anything.
+    fn pass(&mut self)
+        requires vacant { (i : ℕ) → i < size_of self.old.site → is_occupied (view_input self.old i) (view_buffer self.old i) ≡ false }
+        ensures { (relation : Routes) → self.new ≡ record (committed (planned relation self.old) self.old) { findings = self.old.findings } }
+    {
+        self.count_empty();
+        self.close();
+    }
+
+    // The verdicts of the plan of this state take effect; the findings stay.
+    fn take_effect(&mut self, plan: &Plan)
+        requires lengths { IsDecidedFor (ports_of self.old.site.grid) self.old.site.vcs plan.now }
+        requires picks { AllBelow self.old.site.vcs plan.now.round.picks }
+        requires plan { IsOutcomeOf plan.now self.old }
+        ensures { (relation : Routes) → plan.now ≡ outcome relation self.old → self.new ≡ record (committed (planned relation self.old) self.old) { findings = self.old.findings } }
+    {
         self.count(plan);
         self.settle_all(plan);
         self.turn(plan);
         self.close();
+    }
+
+    // The findings are those of this plan.
+    fn show(&mut self, plan: &Plan)
+        requires lengths { IsDecidedFor (ports_of self.old.site.grid) self.old.site.vcs plan.now }
+        requires plan { IsOutcomeOf plan.now self.old }
+        ensures { self.new ≡ record self.old { findings = (decisions_by plan.now self.old).findings } }
+    {
+        self.tally.show(&self.channels, &self.indices, plan);
     }
 
     // The verdicts are counted, and every beat is idle again.
@@ -416,7 +469,15 @@ impl Router {
         requires plan { IsOutcomeOf plan.now self.old }
         ensures { self.new ≡ tallied (decisions_by plan.now self.old) self.old }
     {
-        self.tally.count(&self.channels, &self.indices, plan);
+        self.tally.count(&self.channels, plan);
+        self.links.clear();
+    }
+
+    // Every input channel is counted as empty, and every beat is idle again.
+    fn count_empty(&mut self)
+        ensures { self.new ≡ record self.old { counts = map (counted Empty) self.old.counts; to_put = idle_beats self.old.site } }
+    {
+        self.tally.count_empty();
         self.links.clear();
     }
 

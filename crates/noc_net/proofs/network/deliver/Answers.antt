@@ -15,12 +15,12 @@ pub loop-port-init : goal.loop-port-init
 loop-port-init c =
     let v = c.args.router.now in
     let grid : local_port v.site.grid ≡ local_port c.args.relation.now.grid = sym (ap local_port c.requires.router.built_for.grid) in
-    let none = unloaded v c.loaded-rest.result (local_port v.site.grid) (c.requires.router.beats ∙ sym grid) c.loaded-rest.ensures.each in
+    let none = unloaded v.to_put c.loaded-rest.result (local_port v.site.grid) (c.requires.router.beats ∙ sym grid) c.loaded-rest.ensures.each in
     record {
       router = refl;
       below = λ port e. omega (arith, grid, c.loaded-rest.ensures.within port e);
       count = c.requires.router.beats;
-      left = left-first v c.loaded-rest.result none;
+      left = left-first v.to_put c.loaded-rest.result none;
       beats = λ r port l. received-first v c.loaded-rest.result none (neighbour c.args.relation.now.grid r port) (beat_at c.args.beats.now r port) (λ q e. c.requires.idle r port q e);
       rows = λ i l. search rules;
     }

@@ -1,13 +1,21 @@
-use Rattle.std.proofs.Common.{◌≡◌, ℕ, ◌<◌, ◌≤◌, get_or, drop}
-use Rattle.noc_router.specs.View.{IsRelationOf, taken_from, all_taken, idle_beat}
+use Rattle.std.proofs.Common.{◌≡◌, ℕ, ◌<◌, true, length}
+use Rattle.noc_topo.specs.Shape.{local_port}
+use Rattle.noc_packet.specs.Set.{has_bit}
+use Rattle.noc_router.specs.View.{IsRelationOf, all_taken}
 use Rattle.noc_net.specs.Halves.{incoming}
+use Rattle.noc_net.proofs.WireLemmas.{AreLeft}
 use Rattle.noc_net.proofs.network.take_beats.Given as goal
 
--- the beats before this port are taken
+-- to take the beats that are left is to take all from the beginning
 abbrev pub invariant-loop-port : goal.invariant-loop-port
 invariant-loop-port l = record {
   built_for : IsRelationOf l.relation l.router;
-  rest : taken_from l.relation l.port (drop l.port (incoming l.relation.grid l.initial.beats)) l.router ≡ all_taken l.relation (incoming l.relation.grid l.initial.beats) l.initial.router;
-  before : (port : ℕ) → port < l.port → get_or l.beats port idle_beat ≡ idle_beat;
-  behind : (port : ℕ) → l.port ≤ port → get_or l.beats port idle_beat ≡ get_or l.initial.beats port idle_beat;
+  within : (port : ℕ) → has_bit l.rest port ≡ true → port < 6;
+  below : (port : ℕ) → has_bit l.rest port ≡ true → port < local_port l.relation.grid;
+  count : length l.beats ≡ 6;
+  left : AreLeft l.rest l.initial.beats l.beats;
+  taken : all_taken l.relation (incoming l.relation.grid l.beats) l.router ≡ all_taken l.relation (incoming l.relation.grid l.initial.beats) l.initial.router;
 }
+
+abbrev pub decreases-loop-port : goal.decreases-loop-port
+decreases-loop-port l = l.rest

@@ -18,10 +18,10 @@ loop-port-preserved c =
     let new = c.if-port-ports.leads in
     elim c.if-port-ports.branch [
       | then-port-ports w ↦ (
-        leads-more g node port old new c.loop-port.invariant.0 (λ k l. set-kept old new port k w.neighbour.result w.leads-is (omega arith))
-            (set-here old new port w.neighbour.result w.leads-is (omega (arith, c.loop-port.invariant.2)) ∙ w.neighbour.ensures.value),
-        (λ k l. set-kept old new port k w.neighbour.result w.leads-is (omega arith) ∙ c.loop-port.invariant.1 k (omega arith)),
-        ap length w.leads-is ∙ length-set old port w.neighbour.result ∙ c.loop-port.invariant.2,
+        leads-more g node port old new c.loop-port.invariant.0 (λ k l. set-kept old new port k w.lead.result w.leads-is (omega arith))
+            (set-here old new port w.lead.result w.leads-is (omega (arith, c.loop-port.invariant.2)) ∙ w.lead.ensures),
+        (λ k l. set-kept old new port k w.lead.result w.leads-is (omega arith) ∙ c.loop-port.invariant.1 k (omega arith)),
+        ap length w.leads-is ∙ length-set old port w.lead.result ∙ c.loop-port.invariant.2,
       )
       | else-port-ports w ↦ (
         leads-more g node port old new c.loop-port.invariant.0 (λ k l. ap (λ zs. get_or zs k None) w.leads-is)

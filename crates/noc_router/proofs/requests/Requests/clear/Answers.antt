@@ -10,11 +10,5 @@ returns-clause-routes c =
 pub returns-clause-asks : goal.returns-clause-asks
 returns-clause-asks c = c.clear.ensures.value ∙ ap (λ n. replicate n None) (omega (arith, c.loop-index.self.an_ask_each, c.loop-index.invariant.1))
 
-pub returns-clause-goes : goal.returns-clause-goes
-returns-clause-goes c = c.clear-2.ensures.value ∙ ap (λ n. replicate n None) (omega (arith, c.loop-index.self.a_way_each, c.loop-index.invariant.0))
-
 pub invariant_of-self-clause-asks_for_channels : goal.invariant_of-self-clause-asks_for_channels
 invariant_of-self-clause-asks_for_channels c = below-none c.loop-index.self.size (length c.loop-index.self.asks) _ c.clear.ensures.value
-
-pub invariant_of-self-clause-goes_to_ports : goal.invariant_of-self-clause-goes_to_ports
-invariant_of-self-clause-goes_to_ports c = below-none c.loop-index.self.ports (length c.loop-index.self.goes) _ c.clear-2.ensures.value

@@ -24,7 +24,6 @@ loop-index-preserved-in-Some-asked c =
       asks =
           filled-next (size_of v.site) c.loop-index.rest c.without-rest.result None (λ k. ask_of (view_claim v k)) before.asks after.asks i c.loop-index.invariant.asks c.without-rest.ensures.members
           (omega arith) (c.add_ask.ensures.asks ∙ ap (set before.asks i) asked);
-      goes = c.add_ask.ensures.goes ∙ c.loop-index.invariant.goes;
     }
 
 pub loop-index-preserved : goal.loop-index-preserved
@@ -40,7 +39,6 @@ loop-index-preserved c =
       asks =
           filled-skip (size_of v.site) c.loop-index.rest c.without-rest.result None (λ k. ask_of (view_claim v k)) c.loop-index.requests.asks i c.loop-index.invariant.asks c.without-rest.ensures.members here
           (sym (asked-view c.self.inside v i None c.self.view_is c.self.invariant c.in_default-asked.ensures.value));
-      goes = c.loop-index.invariant.goes;
     }
 
 pub returns-clause-asks : goal.returns-clause-asks

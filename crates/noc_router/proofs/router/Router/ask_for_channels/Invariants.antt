@@ -12,7 +12,6 @@ invariant-loop-index l = record {
   size : l.requests.size ≡ l.initial.requests.size;
   routes : l.requests.routes.items ≡ l.initial.requests.routes.items;
   asks : IsFilled (size_of l.self.site) l.rest None (λ k. ask_of (view_claim l.self k)) l.requests.asks;
-  goes : l.requests.goes ≡ l.initial.requests.goes;
 }
 
 abbrev pub decreases-loop-index : goal.decreases-loop-index

@@ -1,44 +1,37 @@
-use Rattle.std.proofs.Common.{◌≡◌, false, Some, ap, sym, ◌∙◌, subst}
-use Rattle.std.specs.Prelude.{if◌then◌else◌}
+use Rattle.std.proofs.Common.{ap, sym, ◌∙◌, subst}
 use Rattle.noc_topo.specs.Shape.{ports}
 use Rattle.noc_router.specs.Decided.{IsDecidedFor}
 use Rattle.noc_router.specs.Requests.{AllBelow}
-use Rattle.noc_router.specs.Settled.{IsOutcomeOf, decisions_by, settled}
-use Rattle.noc_router.specs.Verdict.{arbiters_after}
-use Rattle.noc_router.specs.View.{Site, View, committed}
-use Rattle.noc_router.proofs.OutcomeLemmas.{decisions-are, outcome-tallied}
-use Rattle.noc_router.proofs.SiteLemmas.{committed-is, settled-site}
+use Rattle.noc_router.specs.Settled.{IsOutcomeOf, decisions_by}
+use Rattle.noc_router.specs.View.{Decisions, View, committed, outcome, planned}
+use Rattle.noc_router.proofs.OutcomeLemmas.{committed-from-shown, decisions-are, outcome-shown, outcome_of-shown}
+use Rattle.noc_router.proofs.SiteLemmas.{committed-shown}
 use Rattle.noc_router.proofs.router.Router.commit.Goals as goal
 
-pub settle_all-requires-clause-plan : goal.settle_all-requires-clause-plan
-settle_all-requires-clause-plan c =
+pub take_effect-requires-clause-lengths : goal.take_effect-requires-clause-lengths
+take_effect-requires-clause-lengths c =
+    let P : View → Type 0 = λ x. IsDecidedFor (ports x.site.grid) x.site.vcs c.args.plan.now in
+    subst P (sym c.show.ensures) c.requires.lengths
+
+pub take_effect-requires-clause-picks : goal.take_effect-requires-clause-picks
+take_effect-requires-clause-picks c =
+    let P : View → Type 0 = λ x. AllBelow x.site.vcs c.args.plan.now.round.picks in
+    subst P (sym c.show.ensures) c.requires.picks
+
+pub take_effect-requires-clause-plan : goal.take_effect-requires-clause-plan
+take_effect-requires-clause-plan c =
     let p = c.args.plan.now in
     let v = c.args.self.now in
     let P : View → Type 0 = λ x. IsOutcomeOf p x in
-    subst P (sym c.count.ensures) (outcome-tallied p (decisions_by p v) v c.requires.plan)
-
-pub turn-requires-clause-lengths : goal.turn-requires-clause-lengths
-turn-requires-clause-lengths c =
-    let site : c.settle_all.new.self.site ≡ c.args.self.now.site =
-    ap (λ (v : View). v.site) c.settle_all.ensures ∙ settled-site (decisions_by c.args.plan.now c.count.new.self) c.count.new.self ∙ ap (λ (v : View). v.site) c.count.ensures in
-    let P : Site → Type 0 = λ s. IsDecidedFor (ports s.grid) s.vcs c.args.plan.now in
-    subst P (sym site) c.requires.lengths
-
-pub turn-requires-clause-picks : goal.turn-requires-clause-picks
-turn-requires-clause-picks c =
-    let site : c.settle_all.new.self.site ≡ c.args.self.now.site =
-    ap (λ (v : View). v.site) c.settle_all.ensures ∙ settled-site (decisions_by c.args.plan.now c.count.new.self) c.count.new.self ∙ ap (λ (v : View). v.site) c.count.ensures in
-    let P : Site → Type 0 = λ s. AllBelow s.vcs c.args.plan.now.round.picks in
-    subst P (sym site) c.requires.picks
+    subst P (sym c.show.ensures) (outcome_of-shown p v (decisions_by p v).findings c.requires.plan)
 
 pub returns : goal.returns
 returns c = λ relation is.
     let p = c.args.plan.now in
     let v = c.args.self.now in
-    let d = decisions_by p v in
-    c.close.ensures
-    ∙ ap (λ (x : View). record x { last_event = (if x.had_event then Some x.given else x.last_event); had_event = false }) c.turn.ensures
-    ∙ ap (λ (x : View). record x { arbiters = arbiters_after d.round x.arbiters; last_event = (if x.had_event then Some x.given else x.last_event); had_event = false })
-    (c.settle_all.ensures ∙ ap (λ x. settled (decisions_by p x) x) c.count.ensures)
-    ∙ committed-is d v
-    ∙ ap (λ x. committed x v) (decisions-are relation p v is)
+    let findings = (decisions_by p v).findings in
+    c.take_effect.ensures relation (is ∙ outcome-shown relation v findings ∙ ap (outcome relation) (sym c.show.ensures))
+    ∙ ap (λ (x : View). record (committed (planned relation x) x) { findings = x.findings }) c.show.ensures
+    ∙ ap (λ (x : View). record x { findings = findings }) (committed-from-shown relation v findings)
+    ∙ ap (λ (d : Decisions). record (committed (planned relation v) v) { findings = d.findings }) (decisions-are relation p v is)
+    ∙ committed-shown (planned relation v) v

@@ -1,13 +1,12 @@
 use Rattle.std.proofs.Common.{◌≡◌, ◌*◌, [], length, ap, sym, ◌∙◌, arith, subst, take}
 use Rattle.std.specs.Prelude.{if◌then◌else◌}
-use Rattle.std.proofs.lemmas.List.{length-map, take-replicate}
+use Rattle.std.proofs.lemmas.List.{take-replicate}
 use Rattle.noc_topo.specs.Shape.{local_port}
-use Rattle.noc_router.specs.Counts.{counts_in}
 use Rattle.noc_router.specs.Inside.{view_of}
-use Rattle.noc_router.specs.Settled.{IsOutcomeOf, decisions_by, finding_by, tallied}
-use Rattle.noc_topo.specs.Words.{tabulate}
+use Rattle.noc_router.specs.Settled.{IsOutcomeOf, decisions_by, tallied}
 use Rattle.noc_router.specs.View.{View, idle_beat, size_of}
-use Rattle.noc_router.proofs.OutcomeLemmas.{counted-outcome, found-outcome, outcome-occupied}
+use Rattle.noc_router.proofs.CountLemmas.{counts-length}
+use Rattle.noc_router.proofs.OutcomeLemmas.{counted-outcome, outcome-occupied}
 use Rattle.noc_router.proofs.router.Router.count.Goals as goal
 
 pub count-requires-clause-occupied : goal.count-requires-clause-occupied
@@ -26,14 +25,11 @@ returns c =
     let p = c.args.plan.now in
     let t = c.count.new.self in
     let d = decisions_by p v in
-    let P : View → Type 0 = λ x. IsOutcomeOf p x in
-    let is : IsOutcomeOf p v = subst P (sym c.self.view_is) c.requires.plan in
     let size : size_of v.site ≡ r.ports * r.vcs = ap (λ n. n * r.vcs) (sym h.ports) in
-    let n : length v.counts ≡ size_of v.site = length-map r.tally.counts.items (counts_in r.tally.cycles) ∙ sym r.tally.counts.ok.0 ∙ h.counts ∙ sym size in
+    let n : length v.counts ≡ size_of v.site = counts-length r.tally.cycles r.tally.counters r.tally.counts.items ∙ sym r.tally.counts.ok.0 ∙ h.counts ∙ sym size in
     let beats = take-replicate (local_port r.shape) 6 idle_beat (omega (arith, h.grid.few_dimensions)) in
     ap (λ x. record v { counts = x; findings = (if t.begun then t.findings.items else []); to_put = take (local_port r.shape) c.clear.new.self.beats }) (c.count.ensures.counts ∙ counted-outcome p v v.counts n)
     ∙ ap (λ b. record (tallied d v) { findings = (if b then t.findings.items else []); to_put = take (local_port r.shape) c.clear.new.self.beats }) c.count.ensures.begun
-    ∙ ap (λ x. record (tallied d v) { findings = x; to_put = take (local_port r.shape) c.clear.new.self.beats })
-    (c.count.ensures.findings ∙ ap (λ vcs. tabulate r.tally.counts.len (finding_by p vcs r.channels.inputs.items)) h.index_vcs ∙ found-outcome p v r.tally.counts.len is (h.counts ∙ sym size))
+    ∙ ap (λ x. record (tallied d v) { findings = (if r.tally.begun then x else []); to_put = take (local_port r.shape) c.clear.new.self.beats }) c.count.ensures.findings
     ∙ ap (λ x. record (tallied d v) { to_put = x }) (ap (take (local_port r.shape)) c.clear.ensures.beats ∙ beats)
     ∙ ap (λ x. tallied (decisions_by p x) x) c.self.view_is

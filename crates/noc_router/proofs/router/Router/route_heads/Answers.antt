@@ -23,7 +23,6 @@ loop-index-preserved c =
           filled-next (size_of v.site) c.loop-index.rest c.without-rest.result 0 (route_of c.args.relation.now v) before.routes.items after.routes.items i c.loop-index.invariant.routes c.without-rest.ensures.members
           (omega arith) (c.add_route.ensures.routes ∙ ap (set before.routes.items i) (c.route_for.ensures ∙ head-route c.args.relation.now v c.args.heads i c.requires.heads l here));
       asks = c.add_route.ensures.asks ∙ c.loop-index.invariant.asks;
-      goes = c.add_route.ensures.goes ∙ c.loop-index.invariant.goes;
     }
 
 pub returns-clause-routes : goal.returns-clause-routes

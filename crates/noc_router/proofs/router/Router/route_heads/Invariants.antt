@@ -11,7 +11,6 @@ invariant-loop-index l = record {
   size : l.requests.size ≡ l.initial.requests.size;
   routes : IsFilled (size_of l.self.site) l.rest 0 (route_of l.relation l.self) l.requests.routes.items;
   asks : l.requests.asks ≡ l.initial.requests.asks;
-  goes : l.requests.goes ≡ l.initial.requests.goes;
 }
 
 abbrev pub decreases-loop-index : goal.decreases-loop-index

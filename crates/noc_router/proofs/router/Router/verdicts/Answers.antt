@@ -21,7 +21,7 @@ returns-clause-verdicts c = λ k l.
       asks = c.asking-asking.ensures k ∙ ap is_some ask;
       draws = c.requires.picked k l;
       picks = among-both c.args.standing.now.ready c.args.picked k c.requires.ready;
-      moved = c.moving-moved.ensures k;
+      moved = c.requires.moved k;
       granted = c.granted-granted.ensures k ∙ ap (λ o. is_given round.grants o k) ask;
       routed = refl;
       no_flit = refl;
@@ -37,8 +37,8 @@ returns-clause-events c = λ k e.
     let v = c.args.self.now in
     let r = c.args.requests.now in
     let s = c.args.standing.now in
-    let moved : has_bit c.moving-moved.result k ≡ true → k < size_of v.site =
-    λ is. c.requires.standing.ready_below k (c.requires.ready k (member-passes c.args.picked c.moving-moved.result k (is_won_from v (round_in r) k (view_input v k).phase) (c.moving-moved.ensures k) is)) in
+    let moved : has_bit c.args.moved k ≡ true → k < size_of v.site =
+    λ is. c.requires.standing.ready_below k (c.requires.ready k (member-passes c.args.picked c.args.moved k (is_won_from v (round_in r) k (view_input v k).phase) (c.requires.moved k) is)) in
     let granted : has_bit c.granted-granted.result k ≡ true → k < size_of v.site =
     λ is. let l : k < length r.asks = given-below (round_in r).grants r.asks k (sym (c.granted-granted.ensures k) ∙ is) in omega (arith, r.an_ask_each, c.requires.size) in
     event-below _ k (size_of v.site) moved granted (c.requires.standing.heads_below k) e

@@ -1,16 +1,31 @@
-use Rattle.std.proofs.Common.{◌≡◌, ◌+◌, List, ℕ, [], length, ap, sum, drop, get_or, arith}
+use Rattle.std.proofs.Common.{◌≡◌, [], get_or, ap, sym, ◌∙◌, arith}
 use Rattle.std.proofs.lemmas.List.{get_or_read}
-use Rattle.std.proofs.lemmas.List.Sums.{sum_by-drop_more}
-use Rattle.noc_router.specs.Tally.{others_at}
+use Rattle.noc_router.specs.Counts.{count_at, no_counter}
+use Rattle.noc_router.specs.declared.counter.Counter.{Counter}
+use Rattle.noc_router.proofs.CountLemmas.{counter_has, counts-at, made-first, made-last, made-more}
 use Rattle.noc_router.proofs.tally.Tally.counts.Goals as goal
+
+pub loop-verdict-init : goal.loop-verdict-init
+loop-verdict-init c =
+    let t = c.args.self.now in
+    let i = c.args.index in
+    made-first t.counters i (get_or t.counts.items i []) c.index.result.now (get_or_read t.counts.items i c.index.result.now (omega (arith, t.counts.ok.0)) c.index.ensures []) (t.sound.ten i (omega (arith, t.counts.ok.0)))
 
 pub loop-verdict-preserved : goal.loop-verdict-preserved
 loop-verdict-preserved c =
     let t = c.args.self.now in
-    let xs = c.index.result.now in
-    let here : xs ≡ get_or t.counts.items c.args.index [] = get_or_read t.counts.items c.args.index xs (omega (arith, t.counts.ok.0)) c.index.ensures [] in
-    let same : sum (drop 1 xs) ≡ sum (others_at t.counts.items c.args.index) = ap (λ (ys : List ℕ). sum (drop 1 ys)) here in
-    let so_far : c.loop-verdict.others + sum (drop c.loop-verdict.verdict xs) ≡ sum (drop 1 xs) = c.loop-verdict.invariant in
-    let ten = ap (λ (ys : List ℕ). length ys) here in
-    let step = sum_by-drop_more (λ x. x) xs c.loop-verdict.verdict 0 (omega (arith, ten, t.sound.ten c.args.index (omega (arith, t.counts.ok.0)))) in
-    omega (arith, so_far, step, same, c.saturating_add-others.ensures, t.sound.fits, t.sound.sums c.args.index (omega (arith, t.counts.ok.0)))
+    let i = c.args.index in
+    let j = c.loop-verdict.verdict in
+    let had : c.count.result ≡ counter_has t.counters i j =
+    c.count.ensures ∙ ap (λ (x : Counter). count_at x i) (sym c.index-self-verdict.is ∙ get_or_read t.counters j c.index-self-verdict.result (omega (arith, t.sound.counters_each, c.loop-verdict-test.true)) c.index-self-verdict.is no_counter) in
+    made-more t.counters i j (get_or t.counts.items i []) c.loop-verdict.counts c.loop-verdict.others t.cycles c.saturating_add.result c.saturating_add-others.result c.loop-verdict.invariant
+    (omega (arith, c.loop-verdict.auto.verdict)) (omega (arith, c.loop-verdict-test.true)) (t.sound.ten i (omega (arith, t.counts.ok.0))) (t.sound.sums i (omega (arith, t.counts.ok.0))) t.sound.fits
+    (omega (arith, had, c.saturating_add.ensures)) c.saturating_add-others.ensures
+
+pub returns : goal.returns
+returns c =
+    let t = c.args.self.now in
+    let i = c.args.index in
+    made-last t.counters i c.loop-verdict.verdict (get_or t.counts.items i []) c.loop-verdict.counts c.loop-verdict.others t.cycles c.saturating_sub.result c.loop-verdict.invariant
+    c.loop-verdict-test.false (t.sound.ten i (omega (arith, t.counts.ok.0))) c.saturating_sub.ensures
+    ∙ sym (counts-at t.cycles t.counters t.counts.items i (omega (arith, t.counts.ok.0)))

@@ -1,6 +1,7 @@
-use Rattle.std.proofs.Common.{◌≡◌, ◌+◌, drop, sum}
+use Rattle.std.proofs.Common.{[], get_or}
+use Rattle.noc_router.proofs.CountLemmas.{IsMade}
 use Rattle.noc_router.proofs.tally.Tally.counts.Given as goal
 
--- the sum so far, of the counts behind the first
+-- the counts so far are whole, and their sum is known
 abbrev pub invariant-loop-verdict : goal.invariant-loop-verdict
-invariant-loop-verdict l = l.others + sum (drop l.verdict l.counts) ≡ sum (drop 1 l.counts)
+invariant-loop-verdict l = IsMade l.self.counters l.index l.verdict (get_or l.self.counts.items l.index []) l.counts l.others

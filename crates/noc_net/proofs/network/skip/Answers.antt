@@ -1,0 +1,59 @@
+use Rattle.std.proofs.Common.{◌≡◌, ◌+◌, length, arith}
+use Rattle.noc_topo.specs.Shape.{nodes}
+use Rattle.noc_net.specs.Network.{Setup}
+use Rattle.noc_net.specs.Unseen.{AreInStepUnseen}
+use Rattle.noc_net.proofs.UnseenLemmas.{of_relation, to_relation, from_relation, unseen-count, unseen-relation, unseen-linked, unseen-placed, next-unseen}
+use Rattle.noc_net.proofs.network.skip.Goals as goal
+
+pub advance_all-requires-clause-routers : goal.advance_all-requires-clause-routers
+advance_all-requires-clause-routers c =
+    let some = c.requires.in_step in
+    let net : Setup = of_relation c.args.relation.now some.0 in
+    let now : AreInStepUnseen net c.loop-cycle.cycle c.loop-cycle.routers c.loop-cycle.beats =
+    to_relation (λ net. AreInStepUnseen net c.loop-cycle.cycle c.loop-cycle.routers c.loop-cycle.beats) c.args.relation.now some.0 some.1 (c.loop-cycle.invariant.in_step some.0 some.1 some.2) in
+    unseen-relation net c.loop-cycle.cycle c.loop-cycle.routers c.loop-cycle.beats now
+
+pub advance_all-requires-clause-count : goal.advance_all-requires-clause-count
+advance_all-requires-clause-count c =
+    let some = c.requires.in_step in
+    let net : Setup = of_relation c.args.relation.now some.0 in
+    let now : AreInStepUnseen net c.loop-cycle.cycle c.loop-cycle.routers c.loop-cycle.beats =
+    to_relation (λ net. AreInStepUnseen net c.loop-cycle.cycle c.loop-cycle.routers c.loop-cycle.beats) c.args.relation.now some.0 some.1 (c.loop-cycle.invariant.in_step some.0 some.1 some.2) in
+    omega (arith, c.loop-cycle.invariant.count, unseen-count net c.loop-cycle.cycle c.loop-cycle.routers c.loop-cycle.beats now)
+
+pub advance_all-requires-clause-beats : goal.advance_all-requires-clause-beats
+advance_all-requires-clause-beats c =
+    let some = c.requires.in_step in
+    let net : Setup = of_relation c.args.relation.now some.0 in
+    let now : AreInStepUnseen net c.loop-cycle.cycle c.loop-cycle.routers c.loop-cycle.beats =
+    to_relation (λ net. AreInStepUnseen net c.loop-cycle.cycle c.loop-cycle.routers c.loop-cycle.beats) c.args.relation.now some.0 some.1 (c.loop-cycle.invariant.in_step some.0 some.1 some.2) in
+    unseen-linked net c.loop-cycle.cycle c.loop-cycle.routers c.loop-cycle.beats now
+
+pub deliver_all-requires-clause-routers : goal.deliver_all-requires-clause-routers
+deliver_all-requires-clause-routers c =
+    let some = c.requires.in_step in
+    let net : Setup = of_relation c.args.relation.now some.0 in
+    let now : AreInStepUnseen net c.loop-cycle.cycle c.loop-cycle.routers c.loop-cycle.beats =
+    to_relation (λ net. AreInStepUnseen net c.loop-cycle.cycle c.loop-cycle.routers c.loop-cycle.beats) c.args.relation.now some.0 some.1 (c.loop-cycle.invariant.in_step some.0 some.1 some.2) in
+    rw c.advance_all.ensures.routers (unseen-placed net c.loop-cycle.cycle c.loop-cycle.routers c.loop-cycle.beats now)
+
+pub deliver_all-requires-clause-nodes : goal.deliver_all-requires-clause-nodes
+deliver_all-requires-clause-nodes c =
+    let some = c.requires.in_step in
+    let net : Setup = of_relation c.args.relation.now some.0 in
+    let now : AreInStepUnseen net c.loop-cycle.cycle c.loop-cycle.routers c.loop-cycle.beats =
+    to_relation (λ net. AreInStepUnseen net c.loop-cycle.cycle c.loop-cycle.routers c.loop-cycle.beats) c.args.relation.now some.0 some.1 (c.loop-cycle.invariant.in_step some.0 some.1 some.2) in
+    omega (arith, c.advance_all.auto.routers, unseen-count net c.loop-cycle.cycle c.loop-cycle.routers c.loop-cycle.beats now)
+
+pub loop-cycle-preserved : goal.loop-cycle-preserved
+loop-cycle-preserved c =
+    let count : length c.deliver_all.new.beats ≡ nodes c.args.relation.now.grid = omega (arith, c.deliver_all.auto.beats, c.advance_all.auto.beats, c.loop-cycle.invariant.count) in
+    record {
+      plan = c.advance_all.ensures.plan;
+      in_step = λ net is first.
+          from_relation (λ net. AreInStepUnseen net (c.loop-cycle.cycle + 1) c.deliver_all.new.routers c.deliver_all.new.beats) c.args.relation.now net is
+          (next-unseen (of_relation c.args.relation.now net) c.loop-cycle.cycle c.loop-cycle.routers c.advance_all.new.routers c.deliver_all.new.routers c.loop-cycle.beats c.deliver_all.new.beats
+          (to_relation (λ net. AreInStepUnseen net c.loop-cycle.cycle c.loop-cycle.routers c.loop-cycle.beats) c.args.relation.now net is (c.loop-cycle.invariant.in_step net is first))
+          c.advance_all.ensures.routers c.deliver_all.ensures.routers count c.deliver_all.ensures.beats);
+      count = count;
+    }

@@ -1,0 +1,266 @@
+-- The ten counts of each channel: what is written down, and what the counters have.
+use Rattle.std.proofs.Common.{◌≡◌, ◌≢◌, ℕ, zero, suc, ◌+◌, ◌-◌, ◌*◌, ◌^◌, ◌<◌, ◌≤◌, Bool, true, false, List, [], ◌∷◌, length, drop, get_or, set, sum, refl, ap, sym, ◌∙◌, arith, inl, inr, subst, replicate}
+use Rattle.std.specs.Prelude.{◌⊎◌, min, nat_lt, if◌then◌else◌}
+use Rattle.std.proofs.Math.ListN.{drop_of_length-le}
+use Rattle.std.proofs.lemmas.Bool.{cases_eq, cases_lt, ltb-true, ltb-false}
+use Rattle.std.proofs.lemmas.List.{length-set, get_or-set_same, get_or-set_other, get_or-replicate, length-replicate, ext_get_or, length-drop, get_or-drop, drop-set-add, set_past}
+use Rattle.std.proofs.lemmas.List.Sums.{sum_by-set, sum_by-cons, sum_by-drop_more, get_or-le-sum_by}
+use Rattle.noc_router.specs.declared.counter.Counter.{Counter}
+use Rattle.noc_router.specs.declared.verdict.Verdict.{Verdict}
+use Rattle.noc_router.specs.declared.verdict.Verdict.TheVariants.{Empty}
+use Rattle.noc_router.specs.Counts.{count_at, counts_from, counts_in, no_counter, one_if, whole_counts}
+use Rattle.noc_router.specs.Tally.{others_in, risen_at}
+use Rattle.noc_router.specs.Verdict.{column}
+use Rattle.noc_router.specs.View.{counted, raised}
+use Rattle.noc_topo.specs.Words.{map_indexed}
+use Rattle.noc_topo.proofs.WordLemmas.{get_or-map_indexed, length-map_indexed, map_indexed-from_each}
+
+-- ---- one more in a list
+sum-raised : (xs : List ℕ) (k : ℕ) → k < length xs → sum (set xs k (get_or xs k 0 + 1)) ≡ sum xs + 1
+sum-raised xs k l = omega (arith, sum_by-set (λ x. x) xs k (get_or xs k 0 + 1) 0 l)
+
+-- the sum of the nine grows by at most one
+pub sum-risen : (n : ℕ) (xs : List ℕ) → sum (risen_at n xs) ≤ sum xs + 1
+sum-risen zero xs = omega arith
+sum-risen (suc k) xs = at (cases_lt k (length xs))
+  where
+    at : (k < length xs) ⊎ (length xs ≤ k) → sum (set xs k (get_or xs k 0 + 1)) ≤ sum xs + 1
+    at (inl l) = omega (arith, sum-raised xs k l)
+    at (inr u) = rw (set_past xs k (get_or xs k 0 + 1) u) (omega arith)
+
+-- a list with n more in place j, where b says so
+abbrev pub more_at : Bool → ℕ → ℕ → List ℕ → List ℕ
+more_at b n j xs = if b then set xs j (get_or xs j 0 + n) else xs
+
+pub more-length : (b : Bool) (n j : ℕ) (xs : List ℕ) → length (more_at b n j xs) ≡ length xs
+more-length true n j xs = length-set xs j (get_or xs j 0 + n)
+more-length false n j xs = refl
+
+more-here : (b : Bool) (n j : ℕ) (xs : List ℕ) → j < length xs → get_or (more_at b n j xs) j 0 ≡ get_or xs j 0 + n * one_if b
+more-here true n j xs l = let e : get_or (set xs j (get_or xs j 0 + n)) j 0 ≡ get_or xs j 0 + n = get_or-set_same xs j (get_or xs j 0 + n) 0 l in omega arith
+more-here false n j xs l = omega arith
+
+more-there : (b : Bool) (n j m : ℕ) (xs : List ℕ) → m ≢ j → get_or (more_at b n j xs) m 0 ≡ get_or xs m 0
+more-there true n j m xs other = get_or-set_other xs j m (get_or xs j 0 + n) 0 other
+more-there false n j m xs other = refl
+
+-- .. its tail
+drop-risen : (n : ℕ) (xs : List ℕ) → 0 < n → drop 1 (set xs n (get_or xs n 0 + 1)) ≡ risen_at n (drop 1 xs)
+drop-risen zero xs l = absurd (omega arith)
+drop-risen (suc k) xs l =
+    let n : 1 + k ≡ suc k = omega arith in
+    ap (λ m. drop 1 (set xs m (get_or xs m 0 + 1))) (sym n)
+    ∙ drop-set-add 1 xs k (get_or xs (1 + k) 0 + 1)
+    ∙ ap (λ x. set (drop 1 xs) k (x + 1)) (sym (get_or-drop 1 xs k 0))
+
+pub drop-more : (b : Bool) (n : ℕ) (xs : List ℕ) → 0 < n → drop 1 (more_at b 1 n xs) ≡ (if b then risen_at n (drop 1 xs) else drop 1 xs)
+drop-more true n xs l = drop-risen n xs l
+drop-more false n xs l = refl
+
+-- ---- what is written down, and what the counters have
+-- how much the counter of a verdict has for channel i
+abbrev pub counter_has : List Counter → ℕ → ℕ → ℕ
+counter_has counters i j = count_at (get_or counters j no_counter) i
+
+pub whole-length : (counters : List Counter) (i : ℕ) (counts : List ℕ) → length (whole_counts counters i counts) ≡ length counts
+whole-length counters i counts = length-map_indexed (λ j n. n + counter_has counters i j) counts
+
+whole-at : (counters : List Counter) (i j : ℕ) (counts : List ℕ) → j < length counts → get_or (whole_counts counters i counts) j 0 ≡ get_or counts j 0 + counter_has counters i j
+whole-at counters i j counts l = get_or-map_indexed (λ k n. n + counter_has counters i k) counts j 0 0 l
+
+-- counters that have nothing add nothing
+pub whole-none : (counters : List Counter) (i : ℕ) (counts : List ℕ) → ((j : ℕ) → j < length counts → counter_has counters i j ≡ 0) → whole_counts counters i counts ≡ counts
+whole-none counters i counts none =
+    ext_get_or 0 (whole_counts counters i counts) counts (whole-length counters i counts)
+    (λ j l. let small : j < length counts = omega (arith, whole-length counters i counts) in omega (arith, whole-at counters i j counts small, none j small))
+
+-- no count of the nine is above their sum
+pub whole-below : (counters : List Counter) (i j : ℕ) (counts : List ℕ) → 0 < j → j < length counts → get_or counts j 0 + counter_has counters i j ≤ sum (drop 1 (whole_counts counters i counts))
+whole-below counters i zero counts some l = absurd (omega arith)
+whole-below counters i (suc k) counts some l =
+    let whole = whole_counts counters i counts in
+    let n : 1 + k ≡ suc k = omega arith in
+    let at : get_or (drop 1 whole) k 0 ≡ get_or whole (suc k) 0 = get_or-drop 1 whole k 0 ∙ ap (λ m. get_or whole m 0) n in
+    let long : length whole ≡ length counts = whole-length counters i counts in
+    let le : get_or (drop 1 whole) k 0 ≤ sum (drop 1 whole) = get_or-le-sum_by (λ x. x) (drop 1 whole) k 0 (omega (arith, length-drop 1 whole)) in
+    omega (arith, whole-at counters i (suc k) counts l)
+
+-- .. that of the verdict that is counted
+whole-raised_here : (counters : List Counter) (i j : ℕ) (new : Counter) (here full : Bool) (counts : List ℕ) → j < length counters → j < length counts
+    → count_at new i + 16 * one_if full ≡ counter_has counters i j + one_if here
+    → get_or (whole_counts (set counters j new) i (more_at full 16 j counts)) j 0 ≡ get_or (more_at here 1 j (whole_counts counters i counts)) j 0
+whole-raised_here counters i j new here full counts few l is =
+    let whole = whole_counts counters i counts in
+    let now = whole-at (set counters j new) i j (more_at full 16 j counts) (omega (arith, more-length full 16 j counts)) in
+    let had : counter_has (set counters j new) i j ≡ count_at new i = ap (λ (c : Counter). count_at c i) (get_or-set_same counters j new no_counter few) in
+    let later = more-here here 1 j whole (omega (arith, whole-length counters i counts)) in
+    omega (arith, now, had, later, is, more-here full 16 j counts l, whole-at counters i j counts l)
+
+-- .. those of the others
+whole-raised_there : (counters : List Counter) (i j m : ℕ) (new : Counter) (here full : Bool) (counts : List ℕ) → m ≢ j → m < length counts
+    → get_or (whole_counts (set counters j new) i (more_at full 16 j counts)) m 0 ≡ get_or (more_at here 1 j (whole_counts counters i counts)) m 0
+whole-raised_there counters i j m new here full counts other l =
+    let whole = whole_counts counters i counts in
+    let now = whole-at (set counters j new) i m (more_at full 16 j counts) (omega (arith, more-length full 16 j counts)) in
+    let had : counter_has (set counters j new) i m ≡ counter_has counters i m = ap (λ (c : Counter). count_at c i) (get_or-set_other counters j m new no_counter other) in
+    let later = more-there here 1 j m whole other in
+    omega (arith, now, had, later, more-there full 16 j m counts other, whole-at counters i m counts l)
+
+-- a counter counts one more of a channel, or has sixteen written down with it
+pub whole-raised : (counters : List Counter) (i j : ℕ) (new : Counter) (here full : Bool) (counts : List ℕ) → j < length counters → j < length counts
+    → count_at new i + 16 * one_if full ≡ counter_has counters i j + one_if here
+    → whole_counts (set counters j new) i (more_at full 16 j counts) ≡ more_at here 1 j (whole_counts counters i counts)
+whole-raised counters i j new here full counts few ten is =
+    let now = whole_counts (set counters j new) i (more_at full 16 j counts) in
+    let later = more_at here 1 j (whole_counts counters i counts) in
+    let now_long : length now ≡ length counts = whole-length (set counters j new) i (more_at full 16 j counts) ∙ more-length full 16 j counts in
+    let later_long : length later ≡ length counts = more-length here 1 j (whole_counts counters i counts) ∙ whole-length counters i counts in
+    ext_get_or 0 now later (now_long ∙ sym later_long) (λ m l. at m (omega arith) (cases_eq m j))
+  where
+    at : (m : ℕ) → m < length counts → (m ≡ j) ⊎ (m ≡ j → ⊥)
+        → get_or (whole_counts (set counters j new) i (more_at full 16 j counts)) m 0 ≡ get_or (more_at here 1 j (whole_counts counters i counts)) m 0
+    at m l (inl same) =
+        subst (λ n. get_or (whole_counts (set counters j new) i (more_at full 16 j counts)) n 0 ≡ get_or (more_at here 1 j (whole_counts counters i counts)) n 0) (sym same)
+        (whole-raised_here counters i j new here full counts few ten is)
+    at m l (inr other) = whole-raised_there counters i j m new here full counts other l
+
+-- ---- the ten counts of a channel, with the nine behind Empty
+counts-from : (cycles first : ℕ) (new t : List ℕ) → drop 1 new ≡ t → cycles - sum t ≡ first → counts_in cycles new ≡ first ∷ t
+counts-from cycles first new t e f = ap (λ xs. (cycles - sum xs) ∷ xs) e ∙ ap (λ x. x ∷ t) f
+
+counted-step : (b : Bool) (n cycles first : ℕ) (t new : List ℕ) → first + sum t ≡ cycles → nat_lt cycles (2 ^ 64 - 1) ≡ b → n ≤ length t → cycles < 2 ^ 64
+    → drop 1 new ≡ (if b then risen_at n t else t)
+    → counts_in (raised cycles) new ≡ (if b then set (first ∷ t) n (get_or (first ∷ t) n 0 + 1) else (first ∷ t))
+counted-step true zero cycles first t new s c l fits is =
+    let lt : cycles < 2 ^ 64 - 1 = ltb-true cycles (2 ^ 64 - 1) c in
+    counts-from (raised cycles) (first + 1) new t is (omega arith)
+counted-step true (suc k) cycles first t new s c l fits is =
+    let lt : cycles < 2 ^ 64 - 1 = ltb-true cycles (2 ^ 64 - 1) c in
+    let more : sum (set t k (get_or t k 0 + 1)) ≡ sum t + 1 = sum-raised t k (omega arith) in
+    counts-from (raised cycles) first new (set t k (get_or t k 0 + 1)) is (omega arith)
+counted-step false n cycles first t new s c l fits is =
+    let ge : 2 ^ 64 - 1 ≤ cycles = ltb-false cycles (2 ^ 64 - 1) c in
+    counts-from (raised cycles) first new t is (omega arith)
+
+-- the ten counts rise as the nine do
+counted-is : (cycles n : ℕ) (v : Verdict) (counts new : List ℕ) → column v ≡ n → n < 10 → length counts ≡ 10 → sum (drop 1 counts) ≤ cycles → cycles < 2 ^ 64
+    → drop 1 new ≡ (if nat_lt cycles (2 ^ 64 - 1) then risen_at n (drop 1 counts) else drop 1 counts)
+    → counts_in (raised cycles) new ≡ counted v (counts_in cycles counts)
+counted-is cycles n v counts new col small ten s fits is =
+    let t = drop 1 counts in
+    let first = cycles - sum t in
+    let whole : sum (first ∷ t) ≡ cycles = let h : sum (first ∷ t) ≡ first + sum t = sum_by-cons (λ x. x) first t in omega arith in
+    let step = counted-step (nat_lt cycles (2 ^ 64 - 1)) n cycles first t new (omega arith) refl (omega (arith, length-drop 1 counts)) fits is in
+    step
+    ∙ ap (λ k. if nat_lt cycles (2 ^ 64 - 1) then set (first ∷ t) k (get_or (first ∷ t) k 0 + 1) else (first ∷ t)) (sym col)
+    ∙ ap (λ total. if nat_lt total (2 ^ 64 - 1) then set (first ∷ t) (column v) (get_or (first ∷ t) (column v) 0 + 1) else (first ∷ t)) (sym whole)
+
+-- a verdict has a place below ten
+column-small : (v : Verdict) → column v < 10
+column-small Empty = omega arith
+column-small _ = omega arith
+
+-- ---- the counts of all channels
+pub counts-length : (cycles : ℕ) (counters : List Counter) (counts : List (List ℕ)) → length (counts_from cycles counters counts) ≡ length counts
+counts-length cycles counters counts = length-map_indexed (λ i written. counts_in cycles (whole_counts counters i written)) counts
+
+pub counts-at : (cycles : ℕ) (counters : List Counter) (counts : List (List ℕ)) (i : ℕ) → i < length counts
+    → get_or (counts_from cycles counters counts) i [] ≡ counts_in cycles (whole_counts counters i (get_or counts i []))
+counts-at cycles counters counts i l = get_or-map_indexed (λ k written. counts_in cycles (whole_counts counters k written)) counts i [] [] l
+
+-- after a cycle in which the nine of each channel rise as its verdict says
+pub counting-counts : (cycles0 : ℕ) (counters0 : List Counter) (counts0 : List (List ℕ)) (cycles : ℕ) (counters : List Counter) (counts : List (List ℕ)) (verdict : ℕ → Verdict)
+    → cycles0 < 2 ^ 64 → ((i : ℕ) → i < length counts0 → length (get_or counts0 i []) ≡ 10) → ((i : ℕ) → i < length counts0 → sum (others_in counters0 counts0 i) ≤ cycles0)
+    → cycles ≡ raised cycles0 → length counts ≡ length counts0
+    → ((i : ℕ) → i < length counts0 → others_in counters counts i ≡ (if nat_lt cycles0 (2 ^ 64 - 1) then risen_at (column (verdict i)) (others_in counters0 counts0 i) else others_in counters0 counts0 i))
+    → counts_from cycles counters counts ≡ map_indexed (λ i xs. counted (verdict i) xs) (counts_from cycles0 counters0 counts0)
+counting-counts cycles0 counters0 counts0 cycles counters counts verdict fits ten sums y same others =
+    map_indexed-from_each (λ i xs. counted (verdict i) xs) (counts_from cycles0 counters0 counts0) (counts_from cycles counters counts) [] []
+    (counts-length cycles counters counts ∙ same ∙ sym (counts-length cycles0 counters0 counts0))
+    (λ i l. each i (omega (arith, counts-length cycles0 counters0 counts0)))
+  where
+    each : (i : ℕ) → i < length counts0 → get_or (counts_from cycles counters counts) i [] ≡ counted (verdict i) (get_or (counts_from cycles0 counters0 counts0) i [])
+    each i l =
+        let before = whole_counts counters0 i (get_or counts0 i []) in
+        let now = whole_counts counters i (get_or counts i []) in
+        counts-at cycles counters counts i (omega arith)
+        ∙ ap (λ n. counts_in n now) y
+        ∙ counted-is cycles0 (column (verdict i)) (verdict i) before now refl (column-small (verdict i)) (whole-length counters0 i (get_or counts0 i []) ∙ ten i l) (sums i l) fits (others i l)
+        ∙ ap (counted (verdict i)) (sym (counts-at cycles0 counters0 counts0 i l))
+
+-- the first counts
+pub first-counts : (size : ℕ) (counters : List Counter) (counts : List (List ℕ)) → ((i j : ℕ) → j < 10 → counter_has counters i j ≡ 0) → counts ≡ replicate size (replicate 10 0)
+    → counts_from 0 counters counts ≡ replicate size (replicate 10 0)
+first-counts size counters counts none is =
+    ext_get_or [] (counts_from 0 counters counts) (replicate size (replicate 10 0)) (counts-length 0 counters counts ∙ ap length is)
+    (λ i l. let small : i < length counts = omega (arith, counts-length 0 counters counts) in each i small)
+  where
+    each : (i : ℕ) → i < length counts → get_or (counts_from 0 counters counts) i [] ≡ get_or (replicate size (replicate 10 0)) i []
+    each i l =
+        let long : length counts ≡ size = ap length is ∙ length-replicate size (replicate 10 0) in
+        let here : get_or (replicate size (replicate 10 0)) i [] ≡ replicate 10 0 = get_or-replicate size i (replicate 10 0) [] (omega arith) in
+        let written : get_or counts i [] ≡ replicate 10 0 = ap (λ (xs : List (List ℕ)). get_or xs i []) is ∙ here in
+        counts-at 0 counters counts i l
+        ∙ ap (λ xs. counts_in 0 (whole_counts counters i xs)) written
+        ∙ ap (counts_in 0) (whole-none counters i (replicate 10 0) (λ j small. none i j small))
+        ∙ sym here
+
+-- ---- the counts of one channel, made whole one by one from place 1 on
+-- the counts from 1 to before j are whole, those from j on are as written, and the sum of those that are whole is known
+pub record IsMade (counters : List Counter) (i j : ℕ) (written counts : List ℕ) (others : ℕ) : Type 0 where
+  pub ten : length counts ≡ 10
+  pub done : (k : ℕ) → 0 < k → k < j → get_or counts k 0 ≡ get_or (whole_counts counters i written) k 0
+  pub ahead : (k : ℕ) → j ≤ k → get_or counts k 0 ≡ get_or written k 0
+  pub so_far : others + sum (drop j (whole_counts counters i written)) ≡ sum (drop 1 (whole_counts counters i written))
+
+-- at first none is
+pub made-first : (counters : List Counter) (i : ℕ) (written counts : List ℕ) → counts ≡ written → length written ≡ 10 → IsMade counters i 1 written counts 0
+made-first counters i written counts same ten = record {
+  ten = ap length same ∙ ten;
+  done = λ k some small. absurd (omega arith);
+  ahead = λ k l. ap (λ xs. get_or xs k 0) same;
+  so_far = omega arith;
+}
+
+-- .. one more
+pub made-more : (counters : List Counter) (i j : ℕ) (written counts : List ℕ) (others cycles value others' : ℕ) → IsMade counters i j written counts others → 0 < j → j < 10 → length written ≡ 10
+    → sum (drop 1 (whole_counts counters i written)) ≤ cycles → cycles < 2 ^ 64
+    → value ≡ min (get_or counts j 0 + counter_has counters i j) (2 ^ 64 - 1) → others' ≡ min (others + get_or (set counts j value) j 0) (2 ^ 64 - 1)
+    → IsMade counters i (j + 1) written (set counts j value) others'
+made-more counters i j written counts others cycles value others' made some small ten le fits is plus =
+    let whole = whole_counts counters i written in
+    let at : get_or whole j 0 ≡ get_or written j 0 + counter_has counters i j = whole-at counters i j written (omega arith) in
+    let here : get_or (set counts j value) j 0 ≡ value = get_or-set_same counts j value 0 (omega (arith, made.ten)) in
+    let now : value ≡ get_or whole j 0 = omega (arith, made.ahead j (omega arith), whole-below counters i j written some (omega arith)) in
+    let step : sum (drop j whole) ≡ get_or whole j 0 + sum (drop (j + 1) whole) = sum_by-drop_more (λ x. x) whole j 0 (omega (arith, whole-length counters i written)) in
+    record {
+      ten = length-set counts j value ∙ made.ten;
+      done = λ k first l. at_most k first l (cases_eq k j) (here ∙ now);
+      ahead = λ k l. get_or-set_other counts j k value 0 (λ e. absurd (omega arith)) ∙ made.ahead k (omega arith);
+      so_far = omega (arith, made.so_far, step, here, now);
+    }
+  where
+    at_most : (k : ℕ) → 0 < k → k < j + 1 → (k ≡ j) ⊎ (k ≡ j → ⊥) → get_or (set counts j value) j 0 ≡ get_or (whole_counts counters i written) j 0
+        → get_or (set counts j value) k 0 ≡ get_or (whole_counts counters i written) k 0
+    at_most k first l (inl same) e = subst (λ n. get_or (set counts j value) n 0 ≡ get_or (whole_counts counters i written) n 0) (sym same) e
+    at_most k first l (inr other) e = get_or-set_other counts j k value 0 other ∙ made.done k first (omega arith)
+
+-- .. all of them, and that of Empty
+pub made-last : (counters : List Counter) (i j : ℕ) (written counts : List ℕ) (others cycles first : ℕ) → IsMade counters i j written counts others → 10 ≤ j → length written ≡ 10 → first ≡ cycles - others
+    → set counts 0 first ≡ counts_in cycles (whole_counts counters i written)
+made-last counters i j written counts others cycles first made end ten is =
+    let whole = whole_counts counters i written in
+    let long : length whole ≡ 10 = whole-length counters i written ∙ ten in
+    let none : drop j whole ≡ [] = drop_of_length-le whole (omega arith) in
+    let all : others ≡ sum (drop 1 whole) = let e : sum (drop j whole) ≡ 0 = ap sum none in omega (arith, made.so_far) in
+    ext_get_or 0 (set counts 0 first) (counts_in cycles whole) (let e : length (drop 1 whole) ≡ length whole - 1 = length-drop 1 whole in omega (arith, length-set counts 0 first, made.ten))
+    (λ k l. at k (omega (arith, length-set counts 0 first, made.ten)) (is ∙ ap (λ n. cycles - n) all))
+  where
+    at : (k : ℕ) → k < 10 → first ≡ cycles - sum (drop 1 (whole_counts counters i written)) → get_or (set counts 0 first) k 0 ≡ get_or (counts_in cycles (whole_counts counters i written)) k 0
+    at zero l e = get_or-set_same counts 0 first 0 (omega (arith, made.ten)) ∙ e
+    at (suc k) l e =
+        let n : 1 + k ≡ suc k = omega arith in
+        get_or-set_other counts 0 (suc k) first 0 (λ zero_is. absurd (omega arith))
+        ∙ made.done (suc k) (omega arith) (omega arith)
+        ∙ ap (λ m. get_or (whole_counts counters i written) m 0) (sym n)
+        ∙ sym (get_or-drop 1 (whole_counts counters i written) k 0)
