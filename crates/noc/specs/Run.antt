@@ -5,7 +5,7 @@ use Rattle.noc_route.specs.Routes.{Routes}
 use Rattle.noc_net.specs.declared.fault.NetFault.{NetFault}
 use Rattle.noc_net.specs.Faults.{fault_of}
 use Rattle.noc_net.specs.Network.{Run, Setup}
-use Rattle.noc_net.specs.Readings.{is_stuck_at}
+use Rattle.noc_net.specs.Progress.{is_stuck}
 use Rattle.noc_files.specs.Configuration.{Settings}
 use Rattle.noc_files.specs.Traffic.{traffic_of}
 use Rattle.noc_files.specs.declared.fault.InputFault.{InputFault}
@@ -53,4 +53,4 @@ pub record AsksForRun (a : Asked) (run : Run) : Type 0 where
 
 -- how a run has ended
 abbrev pub ending : Run → Status
-ending run = if is_stuck_at run then Stuck else Done
+ending run = if is_stuck run.net run.count then Stuck else Done

@@ -1,7 +1,7 @@
 -- The report of a router's findings in one cycle.
 use Rattle.std.specs.Prelude.{ℕ, ◌+◌, ◌*◌, slice_get, List, [], ◌∷◌, ◌++◌, decimal, codes, Option, Some, None}
 use Rattle.noc_net.specs.Network.{Run}
-use Rattle.noc_net.specs.Readings.{router_view}
+use Rattle.noc_net.specs.Lockstep.{findings_before}
 use Rattle.noc_topo.specs.Shape.{Grid}
 use Rattle.noc_route.specs.Routes.{Routes}
 use Rattle.noc_router.specs.declared.verdict.Finding.{Finding}
@@ -54,4 +54,4 @@ finding_report relation router findings = finding_header ++ over_router relation
 
 -- the report of a router of a run, which has found nothing before its first cycle
 abbrev pub findings_text : Run → ℕ → List ℕ
-findings_text u router = finding_report u.net.relation router (router_view u router).findings
+findings_text u router = finding_report u.net.relation router (findings_before u.net u.count router)

@@ -1,8 +1,7 @@
 -- The latency report.
 use Rattle.std.specs.Prelude.{ℕ, ◌-◌, length, List, [], ◌∷◌, ◌++◌, Option, Some, None, decimal, codes}
 use Rattle.std.specs.List.{flat_map}
-use Rattle.noc_net.specs.Network.{Run, packet_at}
-use Rattle.noc_net.specs.Readings.{read_arrival}
+use Rattle.noc_net.specs.Network.{Run, arrival_in, packet_at, state_at}
 use Rattle.noc_topo.specs.Words.{below}
 use Rattle.noc_packet.specs.declared.packet.Packet.{Packet}
 use Rattle.noc_files.specs.Writing.{comma, dash_or, joined, line_end}
@@ -31,7 +30,7 @@ packet_line number p out = packet_start number p ++ packet_end p out
 
 -- the line of packet p of a run, with the cycle in which its tail was out
 unfoldable pub latency_line : Run → ℕ → List ℕ
-latency_line u p = packet_line p (packet_at u.net p) (read_arrival u p)
+latency_line u p = packet_line p (packet_at u.net p) (arrival_in u.net (state_at u.net u.count) p)
 
 -- the report of a run: the header, and a line for each packet in order
 abbrev pub latency_text : Run → List ℕ

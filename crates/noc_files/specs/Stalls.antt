@@ -1,8 +1,8 @@
 -- The stall report.
-use Rattle.std.specs.Prelude.{ℕ, ◌+◌, ◌*◌, List, [], ◌∷◌, ◌++◌, decimal, codes, slice_index_or}
+use Rattle.std.specs.Prelude.{ℕ, ◌+◌, ◌*◌, List, [], ◌∷◌, ◌++◌, decimal, codes}
 use Rattle.std.specs.List.{flat_map}
 use Rattle.noc_net.specs.Network.{Run}
-use Rattle.noc_net.specs.Readings.{router_view}
+use Rattle.noc_net.specs.Lockstep.{counts_before}
 use Rattle.noc_files.specs.Channels.{over_routers}
 use Rattle.noc_files.specs.Ports.{name_of_port}
 use Rattle.noc_files.specs.Writing.{comma, joined, line_end}
@@ -22,9 +22,9 @@ count_text count = joined (comma ∷ decimal count ∷ [])
 abbrev pub stall_line : ℕ → List ℕ → ℕ → List ℕ → List ℕ
 stall_line router port vc counts = place_text router port vc ++ flat_map count_text counts ++ line_end
 
--- in how many cycles of a run an input channel had each verdict, as its router counted them
+-- in how many cycles of a run an input channel had each verdict
 unfoldable pub channel_counts : Run → ℕ → ℕ → ℕ → List ℕ
-channel_counts u router port vc = slice_index_or (router_view u router).counts (port * u.net.relation.vcs + vc) []
+channel_counts u router port vc = counts_before u.net u.count router (port * u.net.relation.vcs + vc)
 
 -- the line of an input channel of a run
 unfoldable pub channel_line : Run → ℕ → ℕ → ℕ → List ℕ

@@ -3,8 +3,8 @@ use Rattle.std.specs.Prelude.{ℕ, ◌-◌, length, max, sum, fold, List, [], �
 use Rattle.std.specs.Borrow.{Bor}
 use Rattle.std.specs.List.{filter_map, flat_map}
 use Rattle.noc_topo.specs.Words.{below}
-use Rattle.noc_net.specs.Network.{Run, packet_at}
-use Rattle.noc_net.specs.Readings.{last_event_of, misfits_of, read_arrival}
+use Rattle.noc_net.specs.Network.{Run, arrival_in, packet_at, state_at}
+use Rattle.noc_net.specs.Progress.{last_event_before}
 use Rattle.noc_files.specs.Channels.{over_routers}
 use Rattle.noc_files.specs.Latency.{packet_latency}
 use Rattle.noc_files.specs.Stalls.{channel_counts}
@@ -15,7 +15,7 @@ use Rattle.noc_files.specs.declared.summary.Summary.{Summary}
 
 -- the latency of packet p, if its tail was out
 unfoldable pub latency_at : Run → ℕ → Option ℕ
-latency_at u p = packet_latency (packet_at u.net p) (read_arrival u p)
+latency_at u p = packet_latency (packet_at u.net p) (arrival_in u.net (state_at u.net u.count) p)
 
 -- the latencies of the packets whose tails were out
 abbrev pub latencies : Run → List ℕ
@@ -45,8 +45,8 @@ summary_of u = record {
   left = length u.net.packets - length (latencies u);
   latency_sum = sum (latencies u);
   latency_max = greatest_of (latencies u);
-  last_event = last_event_of u;
-  misfits = misfits_of u;
+  last_event = last_event_before u.net u.count;
+  misfits = 0;
   totals =
       column_total u 0 ∷ column_total u 1 ∷ column_total u 2 ∷ column_total u 3 ∷ column_total u 4
       ∷ column_total u 5 ∷ column_total u 6 ∷ column_total u 7 ∷ column_total u 8 ∷ column_total u 9

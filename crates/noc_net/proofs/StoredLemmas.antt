@@ -12,25 +12,27 @@ use Rattle.noc_topo.proofs.LinkLemmas.{link_back, nodes-some}
 use Rattle.noc_packet.specs.declared.packet.Beat.{Beat}
 use Rattle.noc_topo.specs.Shape.{local_port, neighbour, nodes}
 use Rattle.noc_router.specs.View.{Site, View, IsRelationOf, idle_beat}
-use Rattle.noc_net.specs.declared.event.Event.{Event}
-use Rattle.noc_net.specs.declared.event.Event.TheVariants.{Take, Decide, Put}
-use Rattle.noc_net.specs.declared.network.TheConstants.{CYCLE_LIMIT}
+use Rattle.noc_model.specs.declared.event.Event.{Event}
+use Rattle.noc_model.specs.declared.event.Event.TheVariants.{Take, Decide, Put}
+use Rattle.noc_model.specs.declared.limits.TheConstants.{CYCLE_LIMIT}
 use Rattle.noc_net.specs.declared.parts.Parts.{Parts}
 use Rattle.noc_net.specs.declared.room.Room.{Room}
-use Rattle.noc_net.specs.Core.{CoreState, Post, are_between, opening_core, rested, wires_in_flight, beat_to_send, changed_at, happens, has_beat, holds_at, onto_wire, putting, receiving, is_linked, is_ready, may_decide, may_put, may_take, post_at, with_post}
-use Rattle.noc_net.specs.InStep.{IsInStep, cycle_of}
-use Rattle.noc_net.specs.Halves.{beat_at}
-use Rattle.noc_net.specs.Lockstep.{lockstep_at, site_at}
-use Rattle.noc_net.specs.Network.{Run, Setup}
-use Rattle.noc_net.proofs.RunLemmas.{count_views, linked_wires, past_wires}
+use Rattle.noc_model.specs.Core.{CoreState, Post, are_between, rested, beat_to_send, changed_at, happens, has_beat, holds_at, onto_wire, putting, receiving, is_linked, is_ready, may_decide, may_put, may_take, post_at, with_post}
+use Rattle.noc_model.specs.InStep.{AreWithin, IsInStep, cycle_of, lockstep_core, lockstep_wires}
+use Rattle.noc_model.specs.Halves.{beat_at}
+use Rattle.noc_model.specs.Lockstep.{lockstep_at, site_at}
+use Rattle.noc_model.specs.Network.{Run, Setup}
+use Rattle.noc_model.proofs.RunLemmas.{count_views, linked_wires, past_wires}
 use Rattle.noc_net.specs.Parts.{AreParts, run_in, setup_in}
 use Rattle.noc_net.specs.Room.{front_of, opened_post, opening_wires, post_of, posts_of, rests_at, wires_in}
 use Rattle.noc_net.specs.Stored.{core_in}
-use Rattle.noc_net.proofs.CoreLemmas.{get_some, happens_in_step, kept_wire, router_there, router_within}
-use Rattle.noc_net.proofs.EventLemmas.{finished-wires, put_post}
-use Rattle.noc_net.proofs.OrderLemmas.{between-cycle, here_between, room_for_beat, wire_there}
-use Rattle.noc_net.proofs.PostLemmas.{none_when, router_when, some_when}
-use Rattle.noc_net.proofs.SentLemmas.{unlinked_beat, view_site}
+use Rattle.noc_model.proofs.CoreLemmas.{get_some, happens_in_step, kept_wire, router_there, router_within}
+use Rattle.noc_model.proofs.EventLemmas.{finished-wires, put_post}
+use Rattle.noc_model.proofs.LimitLemmas.{happens-within}
+use Rattle.noc_model.proofs.OrderLemmas.{between-cycle, here_between, room_for_beat, wire_there}
+use Rattle.noc_net.proofs.PartsLemmas.{views-in_step, wires-in_step}
+use Rattle.noc_model.proofs.PostLemmas.{none_when, router_when, some_when}
+use Rattle.noc_model.proofs.SentLemmas.{unlinked_beat, view_site}
 
 -- ---- each router with its room
 
@@ -92,6 +94,9 @@ ready_put k r port ready =
 
 pub in_step_after : (own next : CoreState) (e : Event) → IsInStep CYCLE_LIMIT own → is_ready CYCLE_LIMIT own e ≡ true → next ≡ happens own e → IsInStep CYCLE_LIMIT next
 in_step_after own next e sound ready is = subst (IsInStep CYCLE_LIMIT) (sym is) (happens_in_step CYCLE_LIMIT own e sound ready)
+
+pub within_after : (own next : CoreState) (e : Event) → IsInStep CYCLE_LIMIT own → AreWithin CYCLE_LIMIT own → is_ready CYCLE_LIMIT own e ≡ true → next ≡ happens own e → AreWithin CYCLE_LIMIT next
+within_after own next e sound within ready is = subst (AreWithin CYCLE_LIMIT) (sym is) (happens-within CYCLE_LIMIT own e sound within ready)
 
 pub few_links : (k : CoreState) → IsInStep CYCLE_LIMIT k → local_port k.net.relation.grid ≤ 6
 few_links k sound = omega (arith, sound.grid.few_dimensions)
@@ -233,35 +238,35 @@ unready true may (Some post) e = absurd (false≢true (sym e))
 pub opened_core : (parts : Parts) (rooms : List Room) → AreParts parts → length rooms ≡ nodes parts.relation.grid
     → ((r : ℕ) (view : View) (one : Room) → slice_get parts.routers.items r ≡ Some view → slice_get rooms r ≡ Some one
     → post_of (local_port parts.relation.grid) view one ≡ opened_post (local_port parts.relation.grid) view parts.count (get_or parts.beats.items r []))
-    → record { net = setup_in parts; posts = posts_of (local_port parts.relation.grid) parts.routers.items rooms } ≡ opening_core (run_in parts)
-unfolding opening_core
+    → record { net = setup_in parts; posts = posts_of (local_port parts.relation.grid) parts.routers.items rooms } ≡ lockstep_core (run_in parts)
+unfolding lockstep_core
 opened_core parts rooms sound count opened =
     let net = setup_in parts in
     let n = parts.count in
     let size = local_port parts.relation.grid in
-    let begun = λ (r : ℕ) (view : View). rested net view n (wires_in_flight net n r) in
-    let routers : length parts.routers.items ≡ nodes parts.relation.grid = ap length sound.views ∙ count_views net n in
+    let begun = λ (r : ℕ) (view : View). rested net view n (lockstep_wires net n r) in
+    let routers : length parts.routers.items ≡ nodes parts.relation.grid = ap length (views-in_step parts sound) ∙ count_views net n in
     let posts : length (posts_of (local_port parts.relation.grid) parts.routers.items rooms) ≡ length rooms = length-posts_of size parts.routers.items rooms (omega arith) in
-    let begun_count : length (map_indexed (λ (r : ℕ) (view : View). rested net view n (wires_in_flight net n r)) (lockstep_at net n).views) ≡ length (lockstep_at net n).views = length-map_indexed begun (lockstep_at net n).views in
+    let begun_count : length (map_indexed (λ (r : ℕ) (view : View). rested net view n (lockstep_wires net n r)) (lockstep_at net n).views) ≡ length (lockstep_at net n).views = length-map_indexed begun (lockstep_at net n).views in
     ap (λ (posts : List Post). record { net = net; posts = posts })
-    (same_lists (posts_of size parts.routers.items rooms) (map_indexed begun (lockstep_at net n).views) (omega (arith, ap length sound.views))
+    (same_lists (posts_of size parts.routers.items rooms) (map_indexed begun (lockstep_at net n).views) (omega (arith, ap length (views-in_step parts sound)))
     (λ r d l.
     let view = get_some parts.routers.items r (omega arith) in
     let one = get_some rooms r (omega arith) in
-    let seen : slice_get (lockstep_at net n).views r ≡ Some view.0 = sym (ap (λ (views : List View). slice_get views r) sound.views) ∙ view.1 in
+    let seen : slice_get (lockstep_at net n).views r ≡ Some view.0 = sym (ap (λ (views : List View). slice_get views r) (views-in_step parts sound)) ∙ view.1 in
     let site = view_site net n r view.0 seen in
     let row = get_or parts.beats.items r [] in
-    let wires : opening_wires view.0.site.grid view.0.site.node row ≡ wires_in_flight net n r =
+    let wires : opening_wires view.0.site.grid view.0.site.node row ≡ lockstep_wires net n r =
     ap (λ (s : Site). opening_wires s.grid s.node row) site
     ∙ tabulate-from_each size (λ port. if is_linked net r port then beat_at (lockstep_at net n).wires r port ∷ [] else [])
     (tabulate size (λ port. if is_linked net r port then get_or row port idle_beat ∷ [] else [])) [] (length-tabulate size _)
     (λ port m. get_or-tabulate size port (λ port. if is_linked net r port then get_or row port idle_beat ∷ [] else []) [] m
-    ∙ ap (λ (beat : Beat). if is_linked net r port then beat ∷ [] else []) (sound.wires r port)) in
+    ∙ ap (λ (beat : Beat). if is_linked net r port then beat ∷ [] else []) (wires-in_step parts sound r port)) in
     get_or_from_slice_get (posts_of size parts.routers.items rooms) r (post_of size view.0 one.0) d (post_there size parts.routers.items rooms r view.0 one.0 view.1 one.1)
     ∙ opened r view.0 one.0 view.1 one.1
     ∙ ap (λ (ws : List (List Beat)). rested net view.0 n ws) wires
     ∙ ap (begun r) (sym (get_or_from_slice_get (lockstep_at net n).views r view.0 view.0 seen))
-    ∙ sym (get_or-map_indexed begun (lockstep_at net n).views r view.0 d (omega (arith, ap length sound.views)))))
+    ∙ sym (get_or-map_indexed begun (lockstep_at net n).views r view.0 d (omega (arith, ap length (views-in_step parts sound))))))
 
 -- where all routers rest at a count
 pub all_rest : (size n : ℕ) (net : Setup) (views : List View) (rooms : List Room) → length views ≡ length rooms
@@ -322,6 +327,16 @@ rested_wires parts n beats sound routers rooms count all landed r port =
 
 pub some_node : (k : CoreState) → IsInStep CYCLE_LIMIT k → 0 < nodes k.net.relation.grid
 some_node k sound = omega (arith, nodes-some k.net.relation.grid sound.grid)
+
+-- where all routers are between their cycles at a count, that is within the limit
+pub steps-within : (parts : Parts) (n : ℕ) → IsInStep CYCLE_LIMIT (core_in parts) → AreWithin CYCLE_LIMIT (core_in parts) → are_between (core_in parts) n ≡ true → n ≤ CYCLE_LIMIT
+steps-within parts n sound within all =
+    let some : 0 < length (core_in parts).posts = omega (arith, sound.count, some_node (core_in parts) sound) in
+    let post = get_some (core_in parts).posts 0 some in
+    let between = here_between CYCLE_LIMIT n (core_in parts) sound all 0 post.0 post.1 in
+    let cycle : cycle_of post.0 ≡ n = between-cycle post.0 between.0 ∙ between.1 in
+    let low = within 0 post.0 post.1 in
+    omega arith
 
 -- the run that a core is at
 abbrev pub run_of_core : CoreState → ℕ → Run

@@ -1,5 +1,5 @@
 -- Why packets make no network (docs/FORMATS.md, "Fault lines").
-use Rattle.std.specs.Prelude.{ℕ, ◌+◌, ◌<◌, ◌≤◌, ◌||◌, List, [], ◌∷◌, Option, Some, None, length, nat_eq, nat_le, nat_lt, if◌then◌else◌}
+use Rattle.std.specs.Prelude.{ℕ, ◌+◌, ◌<◌, ◌||◌, List, [], ◌∷◌, Option, Some, None, length, nat_eq, nat_le, nat_lt, if◌then◌else◌}
 use Rattle.noc_topo.specs.Shape.{nodes}
 use Rattle.noc_packet.specs.declared.packet.Packet.{Packet}
 use Rattle.noc_packet.specs.declared.limits.TheConstants.{MAX_LENGTH, MAX_DUE, MAX_PACKETS}
@@ -34,12 +34,3 @@ fault_of relation packets = if nat_lt MAX_PACKETS (length packets) then Some Too
 -- a packet within the limits, which has a flit
 abbrev pub IsSendable : Packet → Type 0
 IsSendable p = IsWithinLimits p × (0 < p.length)
-
--- a packet without a fault
-pub record IsSound (relation : Routes) (p : Packet) : Type 0 where
-  pub source : p.source < nodes relation.grid
-  pub destination : p.destination < nodes relation.grid
-  pub class : p.class < relation.classes
-  pub some_flit : 0 < p.length
-  pub length : p.length ≤ MAX_LENGTH
-  pub due : p.due ≤ MAX_DUE

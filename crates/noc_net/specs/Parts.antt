@@ -1,13 +1,14 @@
 -- A network taken apart (docs/MODEL.md, "One router and the whole network").
 use Rattle.std.specs.Prelude.{◌≡◌, ℕ, ◌≤◌, vec_len}
-use Rattle.std.specs.List.{All}
 use Rattle.noc_topo.specs.Shape.{nodes, ports}
+use Rattle.noc_topo.specs.Words.{tabulate}
 use Rattle.noc_router.specs.Decided.{IsDecidedFor}
+use Rattle.noc_model.specs.declared.limits.TheConstants.{CYCLE_LIMIT}
+use Rattle.noc_model.specs.Good.{IsGoodSetup}
+use Rattle.noc_model.specs.Halves.{beat_at}
+use Rattle.noc_model.specs.Lockstep.{beats_in, view_at}
+use Rattle.noc_model.specs.Network.{Setup, Run, state_at}
 use Rattle.noc_net.specs.declared.parts.Parts.{Parts}
-use Rattle.noc_net.specs.Faults.{IsSound}
-use Rattle.noc_net.specs.Halves.{beat_at}
-use Rattle.noc_net.specs.Lockstep.{lockstep_at}
-use Rattle.noc_net.specs.Network.{Setup, Run}
 
 abbrev pub setup_in : Parts → Setup
 setup_in parts = record { relation = parts.relation; places = parts.buffer; packets = parts.packets.items }
@@ -16,13 +17,13 @@ setup_in parts = record { relation = parts.relation; places = parts.buffer; pack
 abbrev pub run_in : Parts → Run
 run_in parts = record { net = setup_in parts; count = parts.count }
 
--- the routers with their findings and the beats in flight are those of the lockstep run at that count, idle where there is no
--- link; the plan is of that relation; there is room for each router; and the packets have no fault
+-- the setup is good; each router has its view of the network's state at that count, with its findings; the beats in flight are those
+-- of that state, idle where there is no link; the plan is of that relation; and there is room for each router
 pub record AreParts (parts : Parts) : Type 0 where
-  pub views : parts.routers.items ≡ (lockstep_at (setup_in parts) parts.count).views
-  pub wires : (r port : ℕ) → beat_at parts.beats.items r port ≡ beat_at (lockstep_at (setup_in parts) parts.count).wires r port
+  pub good : IsGoodSetup (setup_in parts)
+  pub within : parts.count ≤ CYCLE_LIMIT
+  pub views : parts.routers.items ≡ tabulate (nodes parts.relation.grid) (view_at (setup_in parts) parts.count)
+  pub wires : (r port : ℕ) → beat_at parts.beats.items r port ≡ beat_at (beats_in (setup_in parts) (state_at (setup_in parts) parts.count)) r port
   pub beats : vec_len parts.beats ≡ nodes parts.relation.grid
   pub plan : IsDecidedFor (ports parts.relation.grid) parts.relation.vcs parts.plan
   pub room : vec_len parts.room ≡ nodes parts.relation.grid
-  pub packets : All (IsSound parts.relation) parts.packets.items
-  pub few_packets : vec_len parts.packets ≤ 20000

@@ -1,14 +1,13 @@
 -- What a core's fields are seen as, and what is true of them.
-use Rattle.std.specs.Prelude.{◌≡◌, ◌≤◌, vec_len}
-use Rattle.std.specs.List.{All}
+use Rattle.std.specs.Prelude.{◌≡◌, vec_len}
 use Rattle.noc_topo.specs.Shape.{local_port, nodes, ports}
 use Rattle.noc_router.specs.Decided.{IsDecidedFor}
 use Rattle.noc_net.specs.declared.event_core.Core.TheInside.{Inside}
-use Rattle.noc_net.specs.declared.network.TheConstants.{CYCLE_LIMIT}
+use Rattle.noc_model.specs.declared.limits.TheConstants.{CYCLE_LIMIT}
 use Rattle.noc_net.specs.declared.parts.Parts.{Parts}
-use Rattle.noc_net.specs.Core.{CoreState}
-use Rattle.noc_net.specs.Faults.{IsSound}
-use Rattle.noc_net.specs.InStep.{IsInStep}
+use Rattle.noc_model.specs.Core.{CoreState}
+use Rattle.noc_model.specs.Good.{IsGoodSetup}
+use Rattle.noc_model.specs.InStep.{AreWithin, IsInStep}
 use Rattle.noc_net.specs.Parts.{setup_in}
 use Rattle.noc_net.specs.Room.{posts_of}
 
@@ -19,12 +18,12 @@ core_in parts = record { net = setup_in parts; posts = posts_of (local_port part
 abbrev pub core_of : Inside → CoreState
 core_of c = core_in c.parts
 
--- the core is in step, there are room and beats for each router, and the packets have no fault
+-- the setup is good, the core is in step and no router past the limit, and there are room and beats for each router
 pub record IsCore (c : Inside) : Type 0 where
+  pub good : IsGoodSetup (setup_in c.parts)
   pub in_step : IsInStep CYCLE_LIMIT (core_in c.parts)
+  pub within : AreWithin CYCLE_LIMIT (core_in c.parts)
   pub routers : vec_len c.parts.routers ≡ nodes c.parts.relation.grid
   pub beats : vec_len c.parts.beats ≡ nodes c.parts.relation.grid
   pub room : vec_len c.parts.room ≡ nodes c.parts.relation.grid
   pub plan : IsDecidedFor (ports c.parts.relation.grid) c.parts.relation.vcs c.parts.plan
-  pub packets : All (IsSound c.parts.relation) c.parts.packets.items
-  pub few_packets : vec_len c.parts.packets ≤ 20000

@@ -6,16 +6,16 @@ ghost use Rattle.noc_topo.specs.Shape.{local_port, neighbour as neighbour_of, no
 ghost use Rattle.noc_topo.specs.Words.{map_indexed};
 ghost use Rattle.noc_router.specs.Decided.{IsDecidedFor};
 ghost use Rattle.noc_router.specs.View.{IsRelationOf, View};
-ghost use Rattle.noc_net.specs.Core.{after_event, are_between, deciding, happens, is_linked, is_ready, opening_core, post_at, steps_at, view_at, wire_at};
-ghost use Rattle.noc_net.specs.Halves.{beat_at};
-ghost use Rattle.noc_net.specs.Network.{Setup};
+ghost use Rattle.noc_model.specs.Core.{after_event, are_between, deciding, happens, is_linked, is_ready, opening_core, post_at, steps_at, view_of_post, wire_at};
+ghost use Rattle.noc_model.specs.Halves.{beat_at};
+ghost use Rattle.noc_model.specs.Network.{Setup};
 ghost use Rattle.noc_net.specs.declared.room.Room.{Room};
 ghost use Rattle.noc_net.specs.Room.{front_of, opened_post, post_of, rests_at, wires_in};
 
-use crate::event::{Event, NotReady};
-use crate::network::{CYCLE_LIMIT, Network};
+use crate::network::Network;
 use crate::parts::Parts;
 use crate::room::{LINKS, Room};
+use noc_model::{CYCLE_LIMIT, Event, NotReady};
 use noc_packet::Beat;
 use noc_route::Relation;
 use noc_router::{Finding, Plan, Router};
@@ -31,7 +31,7 @@ pub struct Core {
 }
 
 impl Model for Core {
-    ghost use Rattle.noc_net.specs.Core.{CoreState};
+    ghost use Rattle.noc_model.specs.Core.{CoreState};
 
     ghost Value = { CoreState };
 
@@ -197,7 +197,7 @@ impl Core {
     /// found in the cycle before the core began, and nothing at count 0.
     pub fn findings(&self, router: usize) -> &[Finding]
         requires { router < nodes_of self.now.net.relation.grid }
-        ensures { (view : View) → view_at self.now router ≡ Some view → result.now ≡ view.findings }
+        ensures { (view : View) → view_of_post self.now router ≡ Some view → result.now ≡ view.findings }
     {
         self.parts.routers[router].findings()
     }

@@ -1,33 +1,35 @@
 //! The network.
 
-ghost use Rattle.std.specs.Prelude.{◌≡◌, ◌≢◌, ℕ, ◌+◌, ◌*◌, ◌<◌, ◌≤◌, [], All, IfErr, IfOk, IfSome, IsOk, None, Some, length, map, slice_index_or, vec_len};
+ghost use Rattle.std.specs.Prelude.{◌≡◌, ℕ, ◌+◌, ◌*◌, ◌<◌, ◌≤◌, ◌&&◌, All, Err, IfErr, IfOk, IfSome, None, Some, false, is_none, length, map, nat_le, vec_len};
 ghost use Rattle.std.specs.List.{slice_get};
 ghost use Rattle.noc_topo.specs.Words.{map_indexed, tabulate};
 ghost use Rattle.noc_topo.specs.Shape.{nodes as nodes_of, ports as ports_of, local_port, neighbour as neighbour_of};
+ghost use Rattle.noc_route.specs.Ranks.{IsRankedBy, Ranking};
 ghost use Rattle.noc_router.specs.Decided.{IsDecidedFor};
 ghost use Rattle.noc_router.specs.Links.{AreLoaded, is_idle_beat};
 ghost use Rattle.noc_router.specs.View.{View, IsRelationOf, all_taken, injected, idle_beat, opening_view};
 ghost use Rattle.noc_net.specs.declared.fault.NetFault.TheVariants.{Memory as memory_fault};
-ghost use Rattle.noc_net.specs.Faults.{IsSendable, IsSound, fault_of};
-ghost use Rattle.noc_net.specs.Halves.{ArePlaced, IsLinked, IsPlaced, IsSilent, beat_at, decided, emptied, incoming, received, sent_on};
-ghost use Rattle.noc_net.specs.Lockstep.{beat_from, beats_at, ends_of, starts_of};
-ghost use Rattle.noc_net.specs.Network.{Setup};
+ghost use Rattle.noc_net.specs.declared.fault.NetFault.{NetFault as NetFaultValue};
+ghost use Rattle.noc_net.specs.Faults.{IsSendable, fault_of};
+ghost use Rattle.noc_model.specs.Halves.{ArePlaced, IsLinked, IsPlaced, IsSilent, beat_at, decided, emptied, incoming, received, sent_on};
+ghost use Rattle.noc_model.specs.Lockstep.{beat_from, beats_at, counts_before, ends_of, findings_before, starts_of};
+ghost use Rattle.noc_model.specs.Good.{IsGoodSetup};
+ghost use Rattle.noc_model.specs.Network.{Setup, arrival_in, packet_at, state_at};
+ghost use Rattle.noc_model.specs.Progress.{is_pending, is_stuck, last_event_before};
 ghost use Rattle.noc_net.specs.Parts.{AreParts, run_in};
-ghost use Rattle.noc_net.specs.Readings.{is_stuck_at, is_waiting, last_event_of, later_of, latest_of, misfits_in, misfits_of, read_arrival, router_view, waits_by};
-ghost use Rattle.noc_net.specs.Unseen.{AreInStep, AreInStepUnseen, advanced};
+ghost use Rattle.noc_net.specs.Latest.{later_of, latest_of};
+ghost use Rattle.noc_model.specs.Unseen.{AreInStep, AreInStepUnseen, advanced};
 
 use crate::fault::NetFault;
 use crate::packets::{ends_at, first_fault, starts_at};
 use crate::parts::Parts;
 use crate::room::{LINKS, Room};
+use noc_model::CYCLE_LIMIT;
 use noc_packet::{Beat, ChannelSet, MAX_PACKETS, Memory, Packet};
 use noc_route::Relation;
 use noc_router::{Finding, Plan, Router, VERDICTS};
 use std::alloc::Global;
 use std::marker::Model;
-
-/// The greatest number of cycles that a network runs.
-pub const CYCLE_LIMIT: u64 = 1_000_000_000;
 
 /// A network of routers with one wire in each direction of each link, run in lockstep.
 ///
@@ -35,20 +37,11 @@ pub const CYCLE_LIMIT: u64 = 1_000_000_000;
 /// cycles that it has run. What its readers answer follows from them (docs/MODEL.md).
 #[derive(Drop)]
 pub struct Network {
-    count: u64,
-    places: usize,
-    relation: Relation,
-    packets: Vec<Packet>,
-    plan: Plan,
-    routers: Vec<Router>,
-    // For each router and link port, the beat on the wire that arrives there.
-    beats: Vec<[Beat; LINKS]>,
-    // For each router, the storage of a core.
-    room: Vec<Room>,
+    parts: Parts,
 }
 
 impl Model for Network {
-    ghost use Rattle.noc_net.specs.Network.{Run};
+    ghost use Rattle.noc_model.specs.Network.{Run};
 
     ghost Value = { Run };
 
@@ -62,7 +55,9 @@ impl Model for Network {
 impl Network {
     /// A network at count 0 with `places` (1 to 16 flits) in each buffer, or the first fault: too many
     /// packets; then packet by packet a node that does not exist, a packet from a node to itself, a class
-    /// that does not exist, a length, a due time; then memory.
+    /// that does not exist, a length, a due time; then memory, where the packets have no fault.
+    ///
+    /// What it makes is good: all laws of a network hold of it.
     pub fn new(
         alloc: Global,
         relation: Relation,
@@ -72,8 +67,9 @@ impl Network {
         requires some_place { 0 < places }
         requires places { places ≤ 16 }
         ensures made { IfOk result (λ n. n ≡ record { net = record { relation = relation; places = places; packets = packets.items }; count = 0 }) }
-        ensures fault { IfErr result (λ e. e ≢ memory_fault → fault_of relation packets.items ≡ Some e) }
-        ensures sound { IsOk result → fault_of relation packets.items ≡ None }
+        ensures good { IfOk result (λ n. IsGoodSetup n.net) }
+        ensures fault { (e : NetFaultValue) → fault_of relation packets.items ≡ Some e → result ≡ Err e }
+        ensures memory { fault_of relation packets.items ≡ None → IfErr result (λ e. e ≡ memory_fault) }
     {
         if let Some(fault) = first_fault(&relation, &packets) {
             return Err(fault);
@@ -83,95 +79,84 @@ impl Network {
         let beats = new_beats(alloc, routers.len())?;
         let room = new_room(alloc, routers.len())?;
         Ok(Network {
-            count: 0,
-            places,
-            relation,
-            packets,
-            plan,
-            routers,
-            beats,
-            room,
+            parts: Parts {
+                relation,
+                buffer: places,
+                packets,
+                count: 0,
+                routers,
+                plan,
+                beats,
+                room,
+            },
         })
     }
 
-    /// Takes the network apart.
+    /// Takes the network apart: its routers with their findings, and its beats in flight, are those of its state at its count.
     pub fn into_parts(self) -> Parts
         ensures network { run_in result ≡ self }
         ensures parts { AreParts result }
     {
-        Parts {
-            relation: self.relation,
-            buffer: self.places,
-            packets: self.packets,
-            count: self.count,
-            routers: self.routers,
-            plan: self.plan,
-            beats: self.beats,
-            room: self.room,
-        }
+        self.parts
     }
 
-    /// The network of these parts.
+    /// The network of these parts, which are those of a network at their count.
     pub fn from_parts(parts: Parts) -> Network
         requires { AreParts parts }
         ensures { result ≡ run_in parts }
     {
-        Network {
-            count: parts.count,
-            places: parts.buffer,
-            relation: parts.relation,
-            packets: parts.packets,
-            plan: parts.plan,
-            routers: parts.routers,
-            beats: parts.beats,
-            room: parts.room,
-        }
+        Network { parts }
     }
 
-    /// Runs one cycle: each router takes its beats, injects, decides and commits, and then all put.
+    /// Runs one cycle: each router takes its beats, injects, decides and commits, and then all put. A network whose relation
+    /// is ranked is not stuck afterwards.
     pub fn cycle(&mut self)
         requires { self.old.count < CYCLE_LIMIT }
-        ensures { self.new ≡ record self.old { count = self.old.count + 1 } }
+        ensures value { self.new ≡ record self.old { count = self.old.count + 1 } }
+        ensures unstuck { (ranks : Ranking) → IsRankedBy self.new.net.relation ranks → is_stuck self.new.net self.new.count ≡ false }
     {
         self.run(1);
     }
 
-    /// Runs so many cycles.
+    /// Runs so many cycles. A network whose relation is ranked is not stuck afterwards.
     pub fn run(&mut self, cycles: u64)
         requires { self.old.count + cycles ≤ CYCLE_LIMIT }
-        ensures { self.new ≡ record self.old { count = self.old.count + cycles } }
+        ensures value { self.new ≡ record self.old { count = self.old.count + cycles } }
+        ensures unstuck { (ranks : Ranking) → IsRankedBy self.new.net.relation ranks → is_stuck self.new.net self.new.count ≡ false }
     {
+        let first = self.parts.count;
         if cycles == 0 {
             return;
         }
+        let parts = &mut self.parts;
         run_all(
-            &self.relation,
-            &mut self.plan,
-            self.count,
-            self.count + cycles - 1,
-            &mut self.routers,
-            &mut self.beats,
+            &parts.relation,
+            &mut parts.plan,
+            first,
+            first + cycles - 1,
+            &mut parts.routers,
+            &mut parts.beats,
         );
-        self.count += cycles;
+        parts.count = first + cycles;
     }
 
     /// How many cycles have run.
     pub fn count(&self) -> u64
         ensures { result ≡ self.now.count }
     {
-        self.count
+        self.parts.count
     }
 
     /// Whether cycle `count` is pending: a packet due by then has its tail not out yet.
     pub fn pending(&self) -> bool
-        ensures { result ≡ waits_by self.now self.now.count }
+        ensures { result ≡ is_pending self.now.net self.now.count (state_at self.now.net self.now.count) }
     {
-        self.is_waiting_by(self.count)
+        self.is_waiting_by(self.parts.count)
     }
 
     // Whether a packet due by this cycle has its tail not out.
     fn is_waiting_by(&self, cycle: u64) -> bool
-        ensures { result ≡ waits_by self.now cycle }
+        ensures { result ≡ is_pending self.now.net cycle (state_at self.now.net self.now.count) }
     {
         for number in 0..self.packets() {
             if self.is_waiting(number, cycle) {
@@ -184,58 +169,71 @@ impl Network {
     // Whether a packet is due by this cycle and has its tail not out.
     fn is_waiting(&self, number: usize, cycle: u64) -> bool
         requires { number < length self.now.net.packets }
-        ensures { result ≡ is_waiting self.now cycle number }
+        ensures { result ≡ (nat_le (packet_at self.now.net number).due cycle && is_none (arrival_in self.now.net (state_at self.now.net self.now.count) number)) }
     {
         u64::from(self.packet(number).due) <= cycle && self.arrival(number).is_none()
     }
 
     /// The last cycle with an event, in any router.
     pub fn last_event(&self) -> Option<u64>
-        ensures { result ≡ last_event_of self.now }
+        ensures { result ≡ last_event_before self.now.net self.now.count }
     {
-        latest_event(&self.routers)
+        latest_event(&self.parts.routers)
     }
 
-    /// Whether the last cycle was pending and had no event.
+    /// Whether the last cycle was pending and had no event: never where the relation is ranked.
     pub fn stuck(&self) -> bool
-        ensures { result ≡ is_stuck_at self.now }
+        ensures value { result ≡ is_stuck self.now.net self.now.count }
+        ensures ranked { (ranks : Ranking) → IsRankedBy self.now.net.relation ranks → result ≡ false }
     {
-        self.count > 0
-            && self.last_event() != Some(self.count - 1)
-            && self.is_waiting_by(self.count - 1)
+        match self.parts.count.checked_sub(1) {
+            Some(last) => self.is_stuck_since(last),
+            None => false,
+        }
+    }
+
+    // Whether the last cycle, which is this one, was pending and had no event.
+    fn is_stuck_since(&self, last: u64) -> bool
+        requires good { IsGoodSetup self.now.net }
+        requires last { last + 1 ≡ self.now.count }
+        ensures { result ≡ is_stuck self.now.net self.now.count }
+    {
+        self.last_event() != Some(last) && self.is_waiting_by(last)
     }
 
     /// The cycle in which the tail of a packet was out.
     pub fn arrival(&self, number: usize) -> Option<u64>
         requires { number < length self.now.net.packets }
-        ensures { result ≡ read_arrival self.now number }
+        ensures { result ≡ arrival_in self.now.net (state_at self.now.net self.now.count) number }
     {
-        self.routers[self.packets[number].destination as usize].arrival(number as u32)
+        let parts = &self.parts;
+        parts.routers[parts.packets[number].destination as usize].arrival(number as u32)
     }
 
-    /// In how many cycles each verdict was that of an input channel, in the order of `Verdict`.
+    /// In how many of the cycles each verdict was that of an input channel, in the order of `Verdict`. The ten counts add up to
+    /// the cycles (`noc_views::counts_add_up`).
     pub fn counts(&self, router: usize, port: usize, vc: usize) -> [u64; VERDICTS]
         requires router { router < nodes_of self.now.net.relation.grid }
         requires port { port < ports_of self.now.net.relation.grid }
         requires vc { vc < self.now.net.relation.vcs }
-        ensures { result ≡ slice_index_or (router_view self.now router).counts (port * self.now.net.relation.vcs + vc) [] }
+        ensures { result ≡ counts_before self.now.net self.now.count router (port * self.now.net.relation.vcs + vc) }
     {
-        self.routers[router].counts(port, vc)
+        self.parts.routers[router].counts(port, vc)
     }
 
     /// What a router found in the last cycle, by input channel: none before the first cycle.
     pub fn findings(&self, router: usize) -> &[Finding]
         requires { router < nodes_of self.now.net.relation.grid }
-        ensures { result.now ≡ (router_view self.now router).findings }
+        ensures { result.now ≡ findings_before self.now.net self.now.count router }
     {
-        self.routers[router].findings()
+        self.parts.routers[router].findings()
     }
 
-    /// How many flits and credits did not fit, in all routers.
+    /// How many flits and credits did not fit, in all routers: none ever does.
     pub fn misfits(&self) -> u64
-        ensures { result ≡ misfits_of self.now }
+        ensures { result ≡ 0 }
     {
-        total_misfits(&self.routers)
+        total_misfits(&self.parts.routers)
     }
 
     /// The packet with this number.
@@ -243,22 +241,23 @@ impl Network {
         requires { number < length self.now.net.packets }
         ensures { slice_get self.now.net.packets number ≡ Some result }
     {
-        self.packets[number]
+        self.parts.packets[number]
     }
 
-    /// How many packets there are.
+    /// How many packets there are. Whoever has a network knows that it is good, so that all laws hold of it.
     pub fn packets(&self) -> usize
         ensures value { result ≡ length self.now.net.packets }
         ensures few { result ≤ MAX_PACKETS }
+        ensures good { IsGoodSetup self.now.net }
     {
-        self.packets.len()
+        self.parts.packets.len()
     }
 
     /// The routing relation.
     pub fn relation(&self) -> &Relation
         ensures { result.now ≡ self.now.net.relation }
     {
-        &self.relation
+        &self.parts.relation
     }
 }
 
@@ -284,9 +283,10 @@ fn later(first: Option<u64>, second: Option<u64>) -> Option<u64>
     }
 }
 
-// The misfits of these routers, at most the greatest number of 64 bits.
+// The misfits of these routers, which have none.
 fn total_misfits(routers: &[Router]) -> u64
-    ensures { result ≡ misfits_in routers.now }
+    requires { All (λ v. v.misfits ≡ 0) routers.now }
+    ensures { result ≡ 0 }
 {
     let mut misfits = 0u64;
     for router in routers {

@@ -3,10 +3,10 @@ use Rattle.noc_topo.specs.Shape.{ports}
 use Rattle.noc_router.specs.Decided.{IsDecidedFor}
 use Rattle.noc_router.specs.View.{View, IsRelationOf, planned, committed}
 use Rattle.noc_router.specs.declared.verdict.Finding.{Finding}
-use Rattle.noc_net.specs.Halves.{decided, incoming}
-use Rattle.noc_net.specs.Unseen.{advanced}
-use Rattle.noc_net.proofs.StepLemmas.{IsRelationOf-same_site}
-use Rattle.noc_net.proofs.UnseenLemmas.{frozen-findings}
+use Rattle.noc_model.specs.Halves.{decided, incoming}
+use Rattle.noc_model.specs.Unseen.{advanced}
+use Rattle.noc_model.proofs.StepLemmas.{IsRelationOf-same_site}
+use Rattle.noc_model.proofs.UnseenLemmas.{frozen-findings}
 use Rattle.noc_net.proofs.network.advance.Goals as goal
 
 pub advance-requires-clause-relation : goal.advance-requires-clause-relation

@@ -1,8 +1,8 @@
 use Rattle.std.proofs.Common.{◌≡◌, ℕ, [], length, get_or, subst, arith}
 use Rattle.noc_router.specs.View.{View}
-use Rattle.noc_net.specs.Halves.{incoming}
-use Rattle.noc_net.specs.Unseen.{advanced}
-use Rattle.noc_net.proofs.ListLemmas.{IsDoneTo, done_all}
+use Rattle.noc_model.specs.Halves.{incoming}
+use Rattle.noc_model.specs.Unseen.{advanced}
+use Rattle.noc_model.proofs.ListLemmas.{IsDoneTo, done_all}
 use Rattle.noc_net.proofs.network.advance_all.Goals as goal
 
 pub returns-clause-routers : goal.returns-clause-routers

@@ -4,9 +4,9 @@ use Rattle.noc_topo.specs.Shape.{ports}
 use Rattle.noc_packet.specs.declared.packet.Beat.{Beat}
 use Rattle.noc_router.specs.Decided.{IsDecidedFor}
 use Rattle.noc_router.specs.View.{View}
-use Rattle.noc_net.specs.Halves.{IsSilent, incoming}
-use Rattle.noc_net.specs.Unseen.{advanced}
-use Rattle.noc_net.proofs.ListLemmas.{IsDoneTo}
+use Rattle.noc_model.specs.Halves.{IsSilent, incoming}
+use Rattle.noc_model.specs.Unseen.{advanced}
+use Rattle.noc_model.proofs.ListLemmas.{IsDoneTo}
 use Rattle.noc_net.proofs.network.advance_all.Given as goal
 
 -- the routers before this node have decided

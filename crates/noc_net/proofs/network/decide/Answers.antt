@@ -2,8 +2,8 @@ use Rattle.std.proofs.Common.{ℕ, ap, sym, ◌∙◌, subst}
 use Rattle.noc_topo.specs.Shape.{ports}
 use Rattle.noc_router.specs.Decided.{IsDecidedFor}
 use Rattle.noc_router.specs.View.{View, IsRelationOf, planned, committed}
-use Rattle.noc_net.specs.Halves.{decided}
-use Rattle.noc_net.proofs.StepLemmas.{IsRelationOf-same_site}
+use Rattle.noc_model.specs.Halves.{decided}
+use Rattle.noc_model.proofs.StepLemmas.{IsRelationOf-same_site}
 use Rattle.noc_net.proofs.network.decide.Goals as goal
 
 pub plan-requires-clause-relation : goal.plan-requires-clause-relation

@@ -1,5 +1,5 @@
 use Rattle.std.proofs.Common.{◌≡◌, take}
-use Rattle.noc_net.specs.Readings.{latest_of}
+use Rattle.noc_net.specs.Latest.{latest_of}
 use Rattle.noc_net.proofs.network.latest_event.Given as goal
 
 -- the latest of the routers so far

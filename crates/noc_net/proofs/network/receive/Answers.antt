@@ -1,6 +1,6 @@
 use Rattle.std.proofs.Common.{ap, ◌∙◌}
 use Rattle.noc_router.specs.View.{View}
-use Rattle.noc_net.proofs.StepLemmas.{site-all_taken, site-injected}
+use Rattle.noc_model.proofs.StepLemmas.{site-all_taken, site-injected}
 use Rattle.noc_net.proofs.network.receive.Goals as goal
 
 pub returns-clause-site : goal.returns-clause-site

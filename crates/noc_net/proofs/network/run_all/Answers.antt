@@ -1,10 +1,10 @@
 use Rattle.std.proofs.Common.{◌≡◌, ◌+◌, length, ◌∙◌, subst, sym, arith}
 use Rattle.noc_topo.specs.Shape.{nodes}
-use Rattle.noc_net.specs.Halves.{ArePlaced}
-use Rattle.noc_net.specs.Network.{Setup}
-use Rattle.noc_net.specs.Unseen.{AreInStep, AreInStepUnseen}
-use Rattle.noc_net.proofs.RunLemmas.{placed_halfway}
-use Rattle.noc_net.proofs.UnseenLemmas.{of_relation, to_relation, from_relation, to_unseen, unseen-count, unseen-relation, unseen-linked, unseen-halfway, next-seen}
+use Rattle.noc_model.specs.Halves.{ArePlaced}
+use Rattle.noc_model.specs.Network.{Setup}
+use Rattle.noc_model.specs.Unseen.{AreInStep, AreInStepUnseen}
+use Rattle.noc_model.proofs.RunLemmas.{placed_halfway}
+use Rattle.noc_model.proofs.UnseenLemmas.{of_relation, to_relation, from_relation, to_unseen, unseen-count, unseen-relation, unseen-linked, unseen-halfway, next-seen}
 use Rattle.noc_net.proofs.network.run_all.Goals as goal
 
 pub skip-requires-clause-in_step : goal.skip-requires-clause-in_step

@@ -1,8 +1,8 @@
 use Rattle.std.proofs.Common.{◌≡◌, ◌+◌, length, arith}
 use Rattle.noc_topo.specs.Shape.{nodes}
-use Rattle.noc_net.specs.Network.{Setup}
-use Rattle.noc_net.specs.Unseen.{AreInStepUnseen}
-use Rattle.noc_net.proofs.UnseenLemmas.{of_relation, to_relation, from_relation, unseen-count, unseen-relation, unseen-linked, unseen-placed, next-unseen}
+use Rattle.noc_model.specs.Network.{Setup}
+use Rattle.noc_model.specs.Unseen.{AreInStepUnseen}
+use Rattle.noc_model.proofs.UnseenLemmas.{of_relation, to_relation, from_relation, unseen-count, unseen-relation, unseen-linked, unseen-placed, next-unseen}
 use Rattle.noc_net.proofs.network.skip.Goals as goal
 
 pub advance_all-requires-clause-routers : goal.advance_all-requires-clause-routers

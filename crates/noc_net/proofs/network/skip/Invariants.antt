@@ -1,8 +1,8 @@
 use Rattle.std.proofs.Common.{◌≡◌, length}
 use Rattle.noc_topo.specs.Shape.{nodes, ports}
 use Rattle.noc_router.specs.Decided.{IsDecidedFor}
-use Rattle.noc_net.specs.Network.{Setup}
-use Rattle.noc_net.specs.Unseen.{AreInStepUnseen}
+use Rattle.noc_model.specs.Network.{Setup}
+use Rattle.noc_model.specs.Unseen.{AreInStepUnseen}
 use Rattle.noc_net.proofs.network.skip.Given as goal
 
 -- the cycles before this one have run

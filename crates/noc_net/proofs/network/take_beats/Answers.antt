@@ -8,9 +8,9 @@ use Rattle.noc_packet.specs.declared.packet.Beat.{Beat}
 use Rattle.noc_router.specs.Links.{is_idle_beat}
 use Rattle.noc_router.specs.View.{View, all_taken, idle_beat}
 use Rattle.noc_router.proofs.QuietLemmas.{least_member, none_left}
-use Rattle.noc_net.specs.Halves.{incoming}
-use Rattle.noc_net.proofs.StepLemmas.{taken_more, taken_end, site-taken, IsRelationOf-same_site}
-use Rattle.noc_net.proofs.WireLemmas.{AreLeft, left-before, left-first, left-more, unloaded}
+use Rattle.noc_model.specs.Halves.{incoming}
+use Rattle.noc_model.proofs.StepLemmas.{taken_more, taken_end, site-taken, IsRelationOf-same_site}
+use Rattle.noc_model.proofs.WireLemmas.{AreLeft, left-before, left-first, left-more, unloaded}
 use Rattle.noc_net.proofs.network.take_beats.Goals as goal
 
 pub loop-port-init : goal.loop-port-init

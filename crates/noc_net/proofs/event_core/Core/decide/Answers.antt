@@ -2,14 +2,14 @@ use Rattle.std.proofs.Common.{◌<◌, refl, ap, sym, subst, ◌∙◌, arith}
 use Rattle.noc_topo.specs.Shape.{local_port, ports}
 use Rattle.noc_router.specs.Decided.{IsDecidedFor}
 use Rattle.noc_router.specs.View.{Site}
-use Rattle.noc_net.specs.declared.event.Event.TheVariants.{Decide}
-use Rattle.noc_net.specs.declared.network.TheConstants.{CYCLE_LIMIT}
-use Rattle.noc_net.specs.Core.{CoreState, Post, deciding, happens}
+use Rattle.noc_model.specs.declared.event.Event.TheVariants.{Decide}
+use Rattle.noc_model.specs.declared.limits.TheConstants.{CYCLE_LIMIT}
+use Rattle.noc_model.specs.Core.{CoreState, Post, deciding, happens}
 use Rattle.noc_net.specs.Room.{post_of}
 use Rattle.noc_net.specs.Stored.{core_in}
-use Rattle.noc_net.proofs.CoreLemmas.{router_within}
-use Rattle.noc_net.proofs.EventLemmas.{may_decide-parts}
-use Rattle.noc_net.proofs.StoredLemmas.{in_step_after, read_post, read_room, read_router, ready_decide, ready_here, router_changed, router_relation, router_site}
+use Rattle.noc_model.proofs.CoreLemmas.{router_within}
+use Rattle.noc_model.proofs.EventLemmas.{may_decide-parts}
+use Rattle.noc_net.proofs.StoredLemmas.{within_after, in_step_after, read_post, read_room, read_router, ready_decide, ready_here, router_changed, router_relation, router_site}
 use Rattle.noc_net.proofs.event_core.Core.decide.Goals as goal
 
 pub index_mut-requires : goal.index_mut-requires
@@ -70,7 +70,12 @@ invariant_of-self c =
     let site = router_site parts sound c.args.router c.index_mut.result.now c.index_mut-2.result.now at_router at_room in
     let post = post_of (local_port parts.relation.grid) c.index_mut.result.now c.index_mut-2.result.now in
     record {
+      good = c.self.invariant.good;
       in_step = in_step_after own _ (Decide c.args.router) sound here
+          (router_changed parts c.args.router c.index_mut.result.now c.decide.new.router c.index_mut-2.result.now c.decide.new.room (deciding own.net c.args.router)
+          c.index_mut.ensures.value c.index_mut-2.ensures.value
+          (c.decide.ensures.post own.net refl ∙ ap (λ (s : Site). deciding own.net s.node post) site));
+      within = within_after own _ (Decide c.args.router) sound c.self.invariant.within here
           (router_changed parts c.args.router c.index_mut.result.now c.decide.new.router c.index_mut-2.result.now c.decide.new.room (deciding own.net c.args.router)
           c.index_mut.ensures.value c.index_mut-2.ensures.value
           (c.decide.ensures.post own.net refl ∙ ap (λ (s : Site). deciding own.net s.node post) site));
@@ -78,8 +83,6 @@ invariant_of-self c =
       beats = c.self.invariant.beats;
       room = c.self.invariant.room;
       plan = subst (λ (s : Site). IsDecidedFor (ports s.grid) s.vcs c.decide.new.plan) site c.decide.ensures.plan;
-      packets = c.self.invariant.packets;
-      few_packets = c.self.invariant.few_packets;
     }
 
 pub returns : goal.returns

@@ -3,14 +3,17 @@ use Rattle.std.specs.List.{list_all}
 use Rattle.std.proofs.lemmas.List.{with_items_is}
 use Rattle.noc_topo.specs.Shape.{local_port, nodes}
 use Rattle.noc_packet.specs.declared.packet.Beat.{Beat}
-use Rattle.noc_net.specs.declared.network.TheConstants.{CYCLE_LIMIT}
+use Rattle.noc_model.specs.declared.limits.TheConstants.{CYCLE_LIMIT}
 use Rattle.noc_net.specs.declared.room.Room.{Room}
-use Rattle.noc_net.specs.Core.{CoreState, Post, are_between, opening_core, steps_at}
-use Rattle.noc_net.specs.Halves.{beat_at}
+use Rattle.noc_model.specs.Core.{CoreState, Post, are_between, opening_core, steps_at}
+use Rattle.noc_model.specs.Halves.{beat_at}
 use Rattle.noc_net.specs.Room.{front_of, rests_at, wires_in}
 use Rattle.noc_net.specs.Stored.{core_in}
-use Rattle.noc_net.proofs.OrderLemmas.{whole_core}
-use Rattle.noc_net.proofs.StoredLemmas.{all_rest, post_of_room, run_of_core, some_node, rested_views, rested_wires}
+use Rattle.noc_model.proofs.OrderLemmas.{whole_core}
+use Rattle.noc_views.proofs.Opening.{opening-is}
+use Rattle.noc_net.specs.Parts.{setup_in}
+use Rattle.noc_net.proofs.PartsLemmas.{parts-in_step}
+use Rattle.noc_net.proofs.StoredLemmas.{steps-within, all_rest, post_of_room, run_of_core, some_node, rested_views, rested_wires}
 use Rattle.noc_net.proofs.event_core.Core.finish.Goals as goal
 
 pub returns-then-not-all_rest_at-clause-whole : goal.returns-then-not-all_rest_at-clause-whole
@@ -68,7 +71,9 @@ returns-clause-same c =
     ∙ ap (λ (rooms : List Room). list_all (rests_at c.links-links.result c.steps-count.result) rooms) c.deref.ensures.value
     ∙ ap (λ n. list_all (rests_at n c.steps-count.result) parts.room.items) links
     ∙ sym (all_rest size c.steps-count.result own.net parts.routers.items parts.room.items (omega (arith, sound.routers, sound.room, parts.routers.ok.0, parts.room.ok.0)))) in
-    ap opening_core c.from_parts.ensures ∙ sym (whole_core CYCLE_LIMIT c.steps-count.result own sound.in_step all) ∙ c.self.view_is
+    ap opening_core c.from_parts.ensures
+    ∙ opening-is (record { net = setup_in parts; count = c.steps-count.result }) sound.good (steps-within parts c.steps-count.result sound.in_step sound.within all)
+    ∙ sym (whole_core CYCLE_LIMIT c.steps-count.result own sound.in_step all) ∙ c.self.view_is
 
 pub from_parts-requires : goal.from_parts-requires
 from_parts-requires c =
@@ -86,15 +91,12 @@ from_parts-requires c =
     let rooms : length parts.room.items ≡ nodes parts.relation.grid = omega (arith, sound.room, parts.room.ok.0) in
     let beats : length c.land_all.new.beats ≡ nodes parts.relation.grid = omega (arith, c.land_all.auto.beats, c.deref_mut.ensures.len, sound.beats) in
     let items = with_items_is parts.beats c.land_all.new.beats (omega (arith, beats, sound.beats)) in
-    record {
+    parts-in_step _ sound.good (steps-within parts c.steps-count.result sound.in_step sound.within all)
+    (record {
       views = rested_views parts c.steps-count.result sound.in_step routers rooms all;
       wires = λ r port. ap (λ (rows : List (List Beat)). beat_at rows r port) items
           ∙ rested_wires parts c.steps-count.result c.land_all.new.beats sound.in_step routers rooms beats all
           (λ r one port at. c.land_all.ensures r one port (ap (λ (rooms : List Room). slice_get rooms r) c.deref-2.ensures.value ∙ at)
           ∙ ap (λ n. front_of (get_or (take n (wires_in one)) port [])) links) r port;
-      beats = sound.beats;
-      plan = sound.plan;
-      room = sound.room;
-      packets = sound.packets;
-      few_packets = sound.few_packets;
-    }
+    })
+    sound.beats sound.plan sound.room

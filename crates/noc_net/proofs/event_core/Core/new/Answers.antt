@@ -3,17 +3,20 @@ use Rattle.std.proofs.lemmas.List.{with_items_is}
 use Rattle.noc_topo.specs.Shape.{IsGrid, local_port, nodes}
 use Rattle.noc_packet.specs.declared.packet.Beat.{Beat}
 use Rattle.noc_router.specs.View.{Site, View}
-use Rattle.noc_net.specs.declared.network.TheConstants.{CYCLE_LIMIT}
+use Rattle.noc_model.specs.declared.limits.TheConstants.{CYCLE_LIMIT}
 use Rattle.noc_net.specs.declared.room.Room.{Room}
-use Rattle.noc_net.specs.Core.{opening_core}
-use Rattle.noc_net.specs.InStep.{IsInStep}
-use Rattle.noc_net.specs.Lockstep.{lockstep_at}
-use Rattle.noc_net.specs.Network.{Run}
+use Rattle.noc_model.specs.Core.{opening_core}
+use Rattle.noc_model.specs.InStep.{AreWithin, IsInStep}
+use Rattle.noc_model.specs.Lockstep.{lockstep_at}
+use Rattle.noc_model.specs.Network.{Run}
 use Rattle.noc_net.specs.Parts.{run_in, setup_in}
 use Rattle.noc_net.specs.Room.{opened_post, post_of, posts_of}
-use Rattle.noc_net.proofs.OrderLemmas.{opening_in_step}
-use Rattle.noc_net.proofs.RunLemmas.{count_views}
-use Rattle.noc_net.proofs.SentLemmas.{view_site}
+use Rattle.noc_model.proofs.LimitLemmas.{opening-within}
+use Rattle.noc_model.proofs.OrderLemmas.{opening_in_step}
+use Rattle.noc_model.proofs.RunLemmas.{count_views}
+use Rattle.noc_model.proofs.SentLemmas.{view_site}
+use Rattle.noc_views.proofs.Opening.{opening-is}
+use Rattle.noc_net.proofs.PartsLemmas.{views-in_step}
 use Rattle.noc_net.proofs.StoredLemmas.{opened_core}
 use Rattle.noc_net.proofs.event_core.Core.new.Goals as goal
 
@@ -21,7 +24,7 @@ pub open_all-requires-clause-links : goal.open_all-requires-clause-links
 open_all-requires-clause-links c = λ r view at.
     let parts = c.into_parts-parts.result in
     let sound = c.into_parts-parts.ensures.parts in
-    let seen : slice_get (lockstep_at (setup_in parts) parts.count).views r ≡ Some view = sym (ap (λ (views : List View). slice_get views r) (c.deref.ensures.value ∙ sound.views)) ∙ at in
+    let seen : slice_get (lockstep_at (setup_in parts) parts.count).views r ≡ Some view = sym (ap (λ (views : List View). slice_get views r) (c.deref.ensures.value ∙ (views-in_step parts sound))) ∙ at in
     let site = view_site (setup_in parts) parts.count r view seen in
     ap (λ (s : Site). local_port s.grid) site ∙ sym (let count : c.ports-links.result - 1 ≡ local_port parts.relation.grid = omega (arith, c.ports-links.ensures.local, ap local_port c.shape.ensures.value) in count)
 
@@ -29,13 +32,13 @@ pub open_all-requires-clause-beats : goal.open_all-requires-clause-beats
 open_all-requires-clause-beats c =
     let parts = c.into_parts-parts.result in
     let sound = c.into_parts-parts.ensures.parts in
-    omega (arith, c.deref.ensures.len, c.deref-2.ensures.len, sound.beats, parts.routers.ok.0, ap length sound.views, count_views (setup_in parts) parts.count)
+    omega (arith, c.deref.ensures.len, c.deref-2.ensures.len, sound.beats, parts.routers.ok.0, ap length (views-in_step parts sound), count_views (setup_in parts) parts.count)
 
 pub open_all-requires-clause-room : goal.open_all-requires-clause-room
 open_all-requires-clause-room c =
     let parts = c.into_parts-parts.result in
     let sound = c.into_parts-parts.ensures.parts in
-    omega (arith, c.deref.ensures.len, c.deref_mut.ensures.len, sound.room, parts.routers.ok.0, ap length sound.views, count_views (setup_in parts) parts.count)
+    omega (arith, c.deref.ensures.len, c.deref_mut.ensures.len, sound.room, parts.routers.ok.0, ap length (views-in_step parts sound), count_views (setup_in parts) parts.count)
 
 pub invariant_of-result : goal.invariant_of-result
 invariant_of-result c =
@@ -53,13 +56,13 @@ invariant_of-result c =
     ∙ ap (λ n. opened_post n view parts.count (get_or c.deref-2.result.now r [])) count
     ∙ ap (λ (beats : List (List Beat)). opened_post (local_port parts.relation.grid) view parts.count (get_or beats r [])) c.deref-2.ensures.value) in
     record {
+      good = sound.good;
       in_step = subst (IsInStep CYCLE_LIMIT) (sym is) (opening_in_step CYCLE_LIMIT (run_in parts) grid);
-      routers = omega (arith, parts.routers.ok.0, ap length sound.views, count_views (setup_in parts) parts.count);
+      within = subst (AreWithin CYCLE_LIMIT) (sym is) (opening-within CYCLE_LIMIT (run_in parts) sound.within);
+      routers = omega (arith, parts.routers.ok.0, ap length (views-in_step parts sound), count_views (setup_in parts) parts.count);
       beats = sound.beats;
       room = sound.room;
       plan = sound.plan;
-      packets = sound.packets;
-      few_packets = sound.few_packets;
     }
 
 pub returns-clause-core : goal.returns-clause-core
@@ -76,6 +79,7 @@ returns-clause-core c =
     ∙ c.open_all.ensures r view one (ap (λ (views : List View). slice_get views r) c.deref.ensures.value ∙ at) at_one
     ∙ ap (λ n. opened_post n view parts.count (get_or c.deref-2.result.now r [])) count
     ∙ ap (λ (beats : List (List Beat)). opened_post (local_port parts.relation.grid) view parts.count (get_or beats r [])) c.deref-2.ensures.value)
+    ∙ sym (opening-is (run_in parts) sound.good sound.within)
     ∙ ap opening_core c.into_parts-parts.ensures.network
 
 pub returns-clause-net : goal.returns-clause-net

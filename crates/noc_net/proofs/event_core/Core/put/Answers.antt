@@ -5,15 +5,15 @@ use Rattle.noc_topo.specs.Shape.{local_port}
 use Rattle.noc_topo.proofs.LinkLemmas.{link_back}
 use Rattle.noc_packet.specs.declared.packet.Beat.{Beat}
 use Rattle.noc_router.specs.View.{Site, idle_beat}
-use Rattle.noc_net.specs.declared.event.Event.TheVariants.{Put}
-use Rattle.noc_net.specs.declared.network.TheConstants.{CYCLE_LIMIT}
-use Rattle.noc_net.specs.Core.{CoreState, Post, beat_to_send, happens, post_at, putting}
+use Rattle.noc_model.specs.declared.event.Event.TheVariants.{Put}
+use Rattle.noc_model.specs.declared.limits.TheConstants.{CYCLE_LIMIT}
+use Rattle.noc_model.specs.Core.{CoreState, Post, beat_to_send, happens, post_at, putting}
 use Rattle.noc_net.specs.Parts.{setup_in}
 use Rattle.noc_net.specs.Room.{post_of}
 use Rattle.noc_net.specs.Stored.{core_in}
-use Rattle.noc_net.proofs.CoreLemmas.{get_some, router_within}
-use Rattle.noc_net.proofs.EventLemmas.{linked_port}
-use Rattle.noc_net.proofs.StoredLemmas.{few_links, in_step_after, place_of_link, put_changed, read_post, read_room, read_router, ready_here, ready_put, room_at_end, router_site}
+use Rattle.noc_model.proofs.CoreLemmas.{get_some, router_within}
+use Rattle.noc_model.proofs.EventLemmas.{linked_port}
+use Rattle.noc_net.proofs.StoredLemmas.{few_links, in_step_after, within_after, place_of_link, put_changed, read_post, read_room, read_router, ready_here, ready_put, room_at_end, router_site}
 use Rattle.noc_net.proofs.event_core.Core.put.Goals as goal
 
 pub index-requires : goal.index-requires
@@ -124,7 +124,13 @@ invariant_of-self c =
     ∙ sym (ap (beat_to_send c.args.port) ready.1.1 ∙ ap (λ (post : Post). unwrap_or (get_or post.unput c.args.port None) idle_beat) is
     ∙ ap (λ (one : Option Beat). unwrap_or one idle_beat) (get_or-take n c.index_mut.result.now.unput c.args.port None (linked_port own.net c.args.router c.args.port ready.0))) in
     record {
+      good = c.self.invariant.good;
       in_step = in_step_after own _ (Put c.args.router c.args.port) sound here
+          (put_changed parts c.args.router c.args.port c.in-Some.node c.in-Some.entry c.put-beat.result c.index_mut.result.now c.put-beat.new.self c.index_mut-in-Some.result.now c.receive.new.self to
+          c.index_mut.ensures.value
+          (λ v. ap (λ n. post_of n v c.put-beat.new.self) count ∙ c.put-beat.ensures.post (setup_in parts) v count ∙ ap (λ n. putting (setup_in parts) c.args.port (post_of n v c.index_mut.result.now)) (sym count))
+          c.index_mut-in-Some.ensures.value (λ v. c.receive.ensures n v back.port) beat);
+      within = within_after own _ (Put c.args.router c.args.port) sound c.self.invariant.within here
           (put_changed parts c.args.router c.args.port c.in-Some.node c.in-Some.entry c.put-beat.result c.index_mut.result.now c.put-beat.new.self c.index_mut-in-Some.result.now c.receive.new.self to
           c.index_mut.ensures.value
           (λ v. ap (λ n. post_of n v c.put-beat.new.self) count ∙ c.put-beat.ensures.post (setup_in parts) v count ∙ ap (λ n. putting (setup_in parts) c.args.port (post_of n v c.index_mut.result.now)) (sym count))
@@ -133,8 +139,6 @@ invariant_of-self c =
       beats = c.self.invariant.beats;
       room = c.self.invariant.room;
       plan = c.self.invariant.plan;
-      packets = c.self.invariant.packets;
-      few_packets = c.self.invariant.few_packets;
     }
 
 pub returns-in-Some : goal.returns-in-Some

@@ -1,6 +1,6 @@
 use Rattle.std.proofs.Common.{◌<◌, Option, unwrap_or, option_map, ap, sym, subst, ◌∙◌}
 use Rattle.noc_topo.specs.Shape.{nodes}
-use Rattle.noc_net.specs.Core.{CoreState, Post, steps_at}
+use Rattle.noc_model.specs.Core.{CoreState, Post, steps_at}
 use Rattle.noc_net.proofs.StoredLemmas.{post_of_room}
 use Rattle.noc_net.proofs.event_core.Core.steps.Goals as goal
 

@@ -1,12 +1,12 @@
 use Rattle.std.proofs.Common.{ap, ◌∙◌, arith}
 use Rattle.noc_topo.specs.Shape.{local_port}
-use Rattle.noc_net.specs.declared.event.Event.TheVariants.{Take}
-use Rattle.noc_net.specs.declared.network.TheConstants.{CYCLE_LIMIT}
-use Rattle.noc_net.specs.Core.{CoreState, happens, taking}
+use Rattle.noc_model.specs.declared.event.Event.TheVariants.{Take}
+use Rattle.noc_model.specs.declared.limits.TheConstants.{CYCLE_LIMIT}
+use Rattle.noc_model.specs.Core.{CoreState, happens, taking}
 use Rattle.noc_net.specs.Stored.{core_in}
-use Rattle.noc_net.proofs.CoreLemmas.{router_within}
-use Rattle.noc_net.proofs.EventLemmas.{linked_port}
-use Rattle.noc_net.proofs.StoredLemmas.{few_links, in_step_after, ready_here, ready_take, room_changed}
+use Rattle.noc_model.proofs.CoreLemmas.{router_within}
+use Rattle.noc_model.proofs.EventLemmas.{linked_port}
+use Rattle.noc_net.proofs.StoredLemmas.{few_links, in_step_after, within_after, ready_here, ready_take, room_changed}
 use Rattle.noc_net.proofs.event_core.Core.take.Goals as goal
 
 pub index_mut-requires : goal.index_mut-requires
@@ -30,14 +30,15 @@ invariant_of-self c =
     let ready = ready_here c.args.self.now own event c.self.view_is c.requires in
     let link = linked_port own.net c.args.router c.args.port (ready_take own c.args.router c.args.port ready).0 in
     record {
+      good = c.self.invariant.good;
       in_step = in_step_after own _ event c.self.invariant.in_step ready
+          (room_changed parts c.args.router c.index_mut.result.now c.take.new.self (taking c.args.port) c.index_mut.ensures.value (λ v. c.take.ensures (local_port parts.relation.grid) v link));
+      within = within_after own _ event c.self.invariant.in_step c.self.invariant.within ready
           (room_changed parts c.args.router c.index_mut.result.now c.take.new.self (taking c.args.port) c.index_mut.ensures.value (λ v. c.take.ensures (local_port parts.relation.grid) v link));
       routers = c.self.invariant.routers;
       beats = c.self.invariant.beats;
       room = c.self.invariant.room;
       plan = c.self.invariant.plan;
-      packets = c.self.invariant.packets;
-      few_packets = c.self.invariant.few_packets;
     }
 
 pub returns : goal.returns

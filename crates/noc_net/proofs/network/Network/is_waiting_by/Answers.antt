@@ -1,16 +1,21 @@
-use Rattle.std.proofs.Common.{length, sym, arith}
-use Rattle.noc_net.specs.Readings.{is_waiting}
+use Rattle.std.proofs.Common.{ℕ, Bool, length, sym, arith}
+use Rattle.std.specs.Prelude.{◌&&◌, is_none, nat_le}
+use Rattle.noc_model.specs.Network.{Run, arrival_in, packet_at, state_at}
 use Rattle.noc_net.proofs.ReaderLemmas.{none_more, some_here, none_all}
 use Rattle.noc_net.proofs.network.Network.is_waiting_by.Goals as goal
 
+-- packet p was due by a cycle and has its tail not out
+abbrev waits : Run → ℕ → ℕ → Bool
+waits u cycle p = nat_le (packet_at u.net p).due cycle && is_none (arrival_in u.net (state_at u.net u.count) p)
+
 pub returns-then-is_waiting : goal.returns-then-is_waiting
 returns-then-is_waiting c =
-    sym (some_here (is_waiting c.args.self.now c.args.cycle) (length c.args.self.now.net.packets) c.loop-number.number (omega (arith, c.packets-number-end.ensures.value)) (sym c.if-is_waiting.ensures))
+    sym (some_here (waits c.args.self.now c.args.cycle) (length c.args.self.now.net.packets) c.loop-number.number (omega (arith, c.packets-number-end.ensures.value)) (sym c.if-is_waiting.ensures))
 
 pub loop-number-preserved : goal.loop-number-preserved
 loop-number-preserved c =
-    none_more (is_waiting c.args.self.now c.args.cycle) (length c.args.self.now.net.packets) c.loop-number.number (omega (arith, c.packets-number-end.ensures.value)) c.loop-number.invariant (sym c.if-is_waiting.ensures)
+    none_more (waits c.args.self.now c.args.cycle) (length c.args.self.now.net.packets) c.loop-number.number (omega (arith, c.packets-number-end.ensures.value)) c.loop-number.invariant (sym c.if-is_waiting.ensures)
 
 pub returns : goal.returns
 returns c =
-    sym (none_all (is_waiting c.args.self.now c.args.cycle) (length c.args.self.now.net.packets) c.loop-number.number (omega (arith, c.packets-number-end.ensures.value)) c.loop-number.invariant)
+    sym (none_all (waits c.args.self.now c.args.cycle) (length c.args.self.now.net.packets) c.loop-number.number (omega (arith, c.packets-number-end.ensures.value)) c.loop-number.invariant)

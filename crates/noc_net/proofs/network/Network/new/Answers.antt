@@ -1,14 +1,14 @@
 use Rattle.std.proofs.Common.{◌≡◌, List, length, ap, sym, ◌∙◌, arith, rules, subst}
-use Rattle.std.specs.List.{All}
 use Rattle.noc_topo.specs.Words.{tabulate}
 use Rattle.noc_topo.specs.Shape.{nodes}
 use Rattle.noc_topo.proofs.WordLemmas.{length-tabulate}
 use Rattle.noc_packet.specs.declared.packet.Packet.{Packet}
 use Rattle.noc_router.specs.View.{opening_view}
-use Rattle.noc_net.specs.Faults.{IsSound}
-use Rattle.noc_net.specs.Lockstep.{starts_of, ends_of}
-use Rattle.noc_net.specs.Network.{Setup}
-use Rattle.noc_net.proofs.RunLemmas.{opening_views, opening_wires, silent_at}
+use Rattle.noc_model.specs.Good.{IsGoodSetup}
+use Rattle.noc_model.specs.Lockstep.{starts_of, ends_of}
+use Rattle.noc_model.specs.Network.{Setup}
+use Rattle.noc_model.proofs.RunLemmas.{opening_views, opening_wires, silent_at}
+use Rattle.noc_net.proofs.PartsLemmas.{parts-in_step}
 use Rattle.noc_net.proofs.network.Network.new.Goals as goal
 
 pub invariant_of-result : goal.invariant_of-result
@@ -17,12 +17,13 @@ invariant_of-result c =
     let views : c.in_ok-routers.routers.items ≡ tabulate (nodes c.args.relation.grid) (λ node. opening_view (record { grid = c.args.relation.grid; node = node; vcs = c.args.relation.vcs; places = c.args.places }) (starts_of c.args.packets.items node) (ends_of c.args.packets.items node)) =
     c.in_ok-routers.ensures
     ∙ ap (λ (packets : List Packet). tabulate (nodes c.args.relation.grid) (λ node. opening_view (record { grid = c.args.relation.grid; node = node; vcs = c.args.relation.vcs; places = c.args.places }) (starts_of packets node) (ends_of packets node))) c.deref-2.ensures.value in
-    record {
+    let good : IsGoodSetup net = subst (λ (packets : List Packet). IsGoodSetup (record { relation = c.args.relation; places = c.args.places; packets = packets })) c.deref.ensures.value
+    (c.in_default.ensures.good c.args.places c.requires.some_place) in
+    parts-in_step _ good (omega arith)
+    (record {
       views = views ∙ sym (opening_views net);
       wires = opening_wires net c.in_ok-beats.beats.items (silent_at c.in_ok-beats.beats.items c.in_ok-beats.ensures.idle);
-      beats = omega (arith, c.in_ok-beats.ensures.count, c.len.ensures, c.in_ok-routers.routers.ok.0, ap length views ∙ length-tabulate (nodes c.args.relation.grid) _);
-      plan = search rules;
-      room = omega (arith, c.in_ok-room.ensures, c.len-2.ensures, c.in_ok-routers.routers.ok.0, ap length views ∙ length-tabulate (nodes c.args.relation.grid) _);
-      packets = subst (λ (packets : List Packet). All (IsSound c.args.relation) packets) c.deref.ensures.value c.in_default.ensures.sound;
-      few_packets = search rules;
-    }
+    })
+    (omega (arith, c.in_ok-beats.ensures.count, c.len.ensures, c.in_ok-routers.routers.ok.0, ap length views ∙ length-tabulate (nodes c.args.relation.grid) _))
+    (search rules)
+    (omega (arith, c.in_ok-room.ensures, c.len-2.ensures, c.in_ok-routers.routers.ok.0, ap length views ∙ length-tabulate (nodes c.args.relation.grid) _))

@@ -1,0 +1,15 @@
+pub mod ArrivalRows
+pub mod CoreLemmas
+pub mod CoreRows
+pub mod EventLemmas
+pub mod InStepLemmas
+pub mod LimitLemmas
+pub mod ListLemmas
+pub mod NetworkRows
+pub mod OrderLemmas
+pub mod PostLemmas
+pub mod RunLemmas
+pub mod SentLemmas
+pub mod StepLemmas
+pub mod UnseenLemmas
+pub mod WireLemmas

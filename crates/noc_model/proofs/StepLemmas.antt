@@ -1,0 +1,168 @@
+-- What taking, injecting and committing leave of a router, and the two halves of its step.
+use Rattle.std.proofs.Common.{◌≡◌, ◌≢◌, ℕ, zero, suc, ◌+◌, ◌<◌, ◌≤◌, Bool, true, false, List, [], ◌∷◌, length, get_or, set, Option, Some, None, refl, ap, sym, ◌∙◌, ⊎_elim, arith}
+use Rattle.std.specs.Prelude.{if◌then◌else◌, find, nat_le}
+use Rattle.std.proofs.lemmas.Bool.{cases_eq, cases_lt}
+use Rattle.std.proofs.lemmas.List.{get_or-set_same, get_or-set_other, get_or_past, length-set}
+use Rattle.noc_topo.specs.Words.{below}
+use Rattle.noc_topo.specs.Shape.{Grid, local_port}
+use Rattle.noc_topo.proofs.WordLemmas.{length-tabulate, get_or-tabulate, tabulate-from_each}
+use Rattle.noc_packet.specs.declared.packet.Packet.{Packet}
+use Rattle.noc_packet.specs.declared.packet.Flit.{Flit}
+use Rattle.noc_packet.specs.declared.packet.Beat.{Beat}
+use Rattle.noc_route.specs.Routes.{Routes}
+use Rattle.noc_router.specs.View.{Site, View, Decisions, IsRelationOf, taken, taken_from, all_taken, injected, injected_from, begun_on, is_vacant, planned, committed, local_step, with_flit, with_credit, with_arrival, tail_packet, flit_out, idle_beat}
+use Rattle.noc_model.specs.Halves.{IsSilent, decided, emptied, incoming}
+
+-- a choice of two views of one site
+either_site : (b : Bool) (x y : View) (s : Site) → x.site ≡ s → y.site ≡ s → (if b then x else y).site ≡ s
+either_site true x y s p q = p
+either_site false x y s p q = q
+
+either_count : (b : Bool) (x y : View) (n : ℕ) → length x.to_put ≡ n → length y.to_put ≡ n → length (if b then x else y).to_put ≡ n
+either_count true x y n p q = p
+either_count false x y n p q = q
+
+site-with_flit : (relation : Routes) (port : ℕ) (f : Option (ℕ × Flit)) (v : View) → (with_flit relation port f v).site ≡ v.site
+site-with_flit relation port None v = refl
+site-with_flit relation port (Some (vc, f)) v = either_site _ _ _ v.site refl refl
+
+site-with_credit : (port : ℕ) (c : Option ℕ) (v : View) → (with_credit port c v).site ≡ v.site
+site-with_credit port None v = refl
+site-with_credit port (Some vc) v = either_site _ _ _ v.site refl refl
+
+pub site-taken : (relation : Routes) (port : ℕ) (beat : Beat) (v : View) → (taken relation port beat v).site ≡ v.site
+unfolding taken
+site-taken relation port beat v = site-with_credit port beat.credit (with_flit relation port beat.flit v) ∙ site-with_flit relation port beat.flit v
+
+site-taken_from : (relation : Routes) (port : ℕ) (beats : List Beat) (v : View) → (taken_from relation port beats v).site ≡ v.site
+site-taken_from relation port [] v = refl
+site-taken_from relation port (beat ∷ beats) v = site-taken_from relation (port + 1) beats (taken relation port beat v) ∙ site-taken relation port beat v
+
+pub site-all_taken : (relation : Routes) (beats : List Beat) (v : View) → (all_taken relation beats v).site ≡ v.site
+unfolding all_taken
+site-all_taken relation beats v = site-taken_from relation 0 beats v
+
+site-begun_on : (vc : Option ℕ) (number : ℕ) (p : Packet) (rest : List (ℕ × Packet)) (v : View) → (begun_on vc number p rest v).site ≡ v.site
+site-begun_on None number p rest v = refl
+site-begun_on (Some vc) number p rest v = refl
+
+site-injected_from : (n : ℕ) (queue : List (ℕ × Packet)) (sending : Option (ℕ × ℕ)) (v : View) → (injected_from n queue sending v).site ≡ v.site
+site-injected_from n [] sending v = refl
+site-injected_from n ((number, p) ∷ rest) (Some (vc, index)) v = either_site _ _ _ v.site refl refl
+site-injected_from n ((number, p) ∷ rest) None v =
+    either_site (nat_le p.due n) (begun_on (find (is_vacant v) (below v.site.vcs)) number p rest v) v v.site
+    (site-begun_on (find (is_vacant v) (below v.site.vcs)) number p rest v) refl
+
+pub site-injected : (n : ℕ) (v : View) → (injected n v).site ≡ v.site
+unfolding injected
+site-injected n v = site-injected_from n v.queue v.sending (record v { given = n })
+
+site-with_arrival : (p : Option ℕ) (v : View) → (with_arrival p v).site ≡ v.site
+site-with_arrival None v = refl
+site-with_arrival (Some p) v = either_site _ _ _ v.site refl refl
+
+count-with_arrival : (p : Option ℕ) (v : View) → length (with_arrival p v).to_put ≡ length v.to_put
+count-with_arrival None v = refl
+count-with_arrival (Some p) v = either_count _ _ _ (length v.to_put) refl refl
+
+pub site-committed : (d : Decisions) (v : View) → (committed d v).site ≡ v.site
+unfolding committed
+site-committed d v = site-with_arrival (tail_packet (flit_out v d.round (local_port v.site.grid))) _
+
+pub count-committed : (d : Decisions) (v : View) → length (committed d v).to_put ≡ local_port v.site.grid
+unfolding committed
+count-committed d v = count-with_arrival (tail_packet (flit_out v d.round (local_port v.site.grid))) _ ∙ length-tabulate (local_port v.site.grid) _
+
+pub site-decided : (relation : Routes) (n : ℕ) (beats : List Beat) (v : View) → (decided relation n beats v).site ≡ v.site
+unfolding decided
+site-decided relation n beats v =
+    let taken_site : (all_taken relation beats v).site ≡ v.site = site-all_taken relation beats v in
+    let injected_site : (injected n (all_taken relation beats v)).site ≡ v.site = site-injected n (all_taken relation beats v) ∙ taken_site in
+    site-committed (planned relation (injected n (all_taken relation beats v))) (injected n (all_taken relation beats v)) ∙ injected_site
+
+pub count-decided : (relation : Routes) (n : ℕ) (beats : List Beat) (v : View) → length (decided relation n beats v).to_put ≡ local_port v.site.grid
+unfolding decided
+count-decided relation n beats v =
+    let frozen = injected n (all_taken relation beats v) in
+    let injected_site : (injected n (all_taken relation beats v)).site ≡ v.site = site-injected n (all_taken relation beats v) ∙ site-all_taken relation beats v in
+    count-committed (planned relation frozen) frozen ∙ ap (λ (s : Site). local_port s.grid) injected_site
+
+-- the whole step is the first half, and then all beats are put
+pub local_step-view : (relation : Routes) (v : View) (beats : List Beat) (n : ℕ) → (local_step relation v beats n).0 ≡ emptied (decided relation n beats v)
+unfolding decided local_step
+local_step-view relation v beats n = refl
+
+pub local_step-beats : (relation : Routes) (v : View) (beats : List Beat) (n : ℕ) → (local_step relation v beats n).1 ≡ (decided relation n beats v).to_put
+unfolding decided local_step
+local_step-beats relation v beats n = refl
+
+pub site-local_step : (relation : Routes) (v : View) (beats : List Beat) (n : ℕ) → (local_step relation v beats n).0.site ≡ v.site
+site-local_step relation v beats n = ap (λ (w : View). w.site) (local_step-view relation v beats n) ∙ site-decided relation n beats v
+
+pub IsRelationOf-same_site : (relation : Routes) (v w : View) → w.site ≡ v.site → IsRelationOf relation v → IsRelationOf relation w
+IsRelationOf-same_site relation v w same fits = record {
+  grid = fits.grid ∙ ap (λ (s : Site). s.grid) (sym same);
+  vcs = fits.vcs ∙ ap (λ (s : Site). s.vcs) (sym same);
+}
+
+-- ---- taking port by port
+
+-- an idle beat changes nothing
+taken-idle : (relation : Routes) (port : ℕ) (beat : Beat) (v : View) → beat ≡ idle_beat → taken relation port beat v ≡ v
+unfolding taken
+taken-idle relation port beat v idle = ap (λ b. with_credit port b.credit (with_flit relation port b.flit v)) idle
+
+-- .. nor do idle beats at all ports
+taken-silent : (relation : Routes) (port : ℕ) (beats : List Beat) (v : View) → IsSilent beats → taken_from relation port beats v ≡ v
+taken-silent relation port [] v silent = refl
+taken-silent relation port (beat ∷ beats) v silent =
+    ap (taken_from relation (port + 1) beats) (taken-idle relation port beat v (silent 0)) ∙ taken-silent relation (port + 1) beats v (λ k. silent (suc k))
+
+-- the first beat that is not idle may be taken before the others
+taken-first : (relation : Routes) (port : ℕ) (beats : List Beat) (i : ℕ) (v : View) → i < length beats → ((k : ℕ) → k < i → get_or beats k idle_beat ≡ idle_beat)
+    → taken_from relation port (set beats i idle_beat) (taken relation (port + i) (get_or beats i idle_beat) v) ≡ taken_from relation port beats v
+taken-first relation port [] i v l idle = absurd (omega arith)
+taken-first relation port (beat ∷ beats) zero v l idle =
+    let at : port + zero ≡ port = omega arith in
+    ap (taken_from relation (port + 1) beats) (taken-idle relation port idle_beat (taken relation (port + zero) beat v) refl ∙ ap (λ (k : ℕ). taken relation k beat v) at)
+taken-first relation port (beat ∷ beats) (suc i) v l idle =
+    let at : port + suc i ≡ port + 1 + i = omega arith in
+    ap (taken_from relation (port + 1) (set beats i idle_beat)) (taken-idle relation port beat (taken relation (port + suc i) (get_or beats i idle_beat) v) (idle 0 (omega arith)))
+    ∙ ap (λ (k : ℕ). taken_from relation (port + 1) (set beats i idle_beat) (taken relation k (get_or beats i idle_beat) v)) at
+    ∙ taken-first relation (port + 1) beats i v (omega arith) (λ k m. idle (suc k) (omega arith))
+    ∙ ap (taken_from relation (port + 1) beats) (sym (taken-idle relation port beat v (idle 0 (omega arith))))
+
+-- the beats for the link ports, where that of one of them is idle now
+incoming-set : (grid : Grid) (beats : List Beat) (port : ℕ) → port < local_port grid → port < length beats → incoming grid (set beats port idle_beat) ≡ set (incoming grid beats) port idle_beat
+unfolding incoming
+incoming-set grid beats port l m =
+    let count : length (incoming grid beats) ≡ local_port grid = length-tabulate (local_port grid) (λ k. get_or beats k idle_beat) in
+    let count_set : length (set (incoming grid beats) port idle_beat) ≡ local_port grid = length-set (incoming grid beats) port idle_beat ∙ count in
+    sym (tabulate-from_each (local_port grid) (λ k. get_or (set beats port idle_beat) k idle_beat) (set (incoming grid beats) port idle_beat) idle_beat count_set
+    (λ k u. ⊎_elim
+    (λ (e : k ≡ port). rw (e, get_or-set_same (incoming grid beats) port idle_beat idle_beat (omega (arith, count))) (sym (get_or-set_same beats port idle_beat idle_beat m)))
+    (λ (d : k ≢ port). get_or-set_other (incoming grid beats) port k idle_beat idle_beat d
+    ∙ get_or-tabulate (local_port grid) k (λ i. get_or beats i idle_beat) idle_beat u
+    ∙ sym (get_or-set_other beats port k idle_beat idle_beat d))
+    (cases_eq k port)))
+
+-- one beat more is taken
+pub taken_more : (relation : Routes) (grid : Grid) (beats : List Beat) (port : ℕ) (v : View) → port < local_port grid → port < length beats
+    → ((k : ℕ) → k < port → get_or beats k idle_beat ≡ idle_beat)
+    → all_taken relation (incoming grid (set beats port idle_beat)) (taken relation port (get_or beats port idle_beat) v) ≡ all_taken relation (incoming grid beats) v
+unfolding all_taken incoming
+taken_more relation grid beats port v l m idle =
+    let at : (k : ℕ) → k < local_port grid → get_or (incoming grid beats) k idle_beat ≡ get_or beats k idle_beat = λ k u. get_or-tabulate (local_port grid) k (λ i. get_or beats i idle_beat) idle_beat u in
+    let from_zero : port ≡ 0 + port = omega arith in
+    ap (λ row. taken_from relation 0 row (taken relation port (get_or beats port idle_beat) v)) (incoming-set grid beats port l m)
+    ∙ ap (λ (beat : Beat). taken_from relation 0 (set (incoming grid beats) port idle_beat) (taken relation port beat v)) (sym (at port l))
+    ∙ ap (λ (k : ℕ). taken_from relation 0 (set (incoming grid beats) port idle_beat) (taken relation k (get_or (incoming grid beats) port idle_beat) v)) from_zero
+    ∙ taken-first relation 0 (incoming grid beats) port v (let n = length-tabulate (local_port grid) (λ k. get_or beats k idle_beat) in omega arith) (λ k u. at k (omega arith) ∙ idle k u)
+
+-- .. and in the end there is none
+pub taken_end : (relation : Routes) (grid : Grid) (beats : List Beat) (v : View) → IsSilent beats → all_taken relation (incoming grid beats) v ≡ v
+unfolding all_taken incoming
+taken_end relation grid beats v silent = taken-silent relation 0 (incoming grid beats) v (λ port.
+    ⊎_elim (λ (l : port < local_port grid). get_or-tabulate (local_port grid) port (λ k. get_or beats k idle_beat) idle_beat l ∙ silent port)
+    (λ (past : local_port grid ≤ port). get_or_past (incoming grid beats) port idle_beat (let n = length-tabulate (local_port grid) (λ k. get_or beats k idle_beat) in omega arith))
+    (cases_lt port (local_port grid)))

@@ -1,0 +1,10 @@
+pub mod Core
+pub mod Good
+pub mod Halves
+pub mod InStep
+pub mod Lockstep
+pub mod Network
+pub mod Order
+pub mod Progress
+pub mod Unseen
+pub mod Worm

@@ -1,0 +1,14 @@
+//! What holds of every router.
+
+ghost use Rattle.std.specs.Prelude.{◌≡◌, ℕ, List};
+ghost use Rattle.noc_packet.specs.declared.packet.Beat.{Beat};
+ghost use Rattle.noc_route.specs.Routes.{Routes};
+ghost use Rattle.noc_router.specs.View.{View, local_step};
+ghost use Rattle.noc_router.specs.declared.verdict.Finding.{Finding as FindingValue};
+
+/// What was found changes nothing of what comes: from a view with any other findings a cycle over the same beats gives the same
+/// view and the same beats to put. So a run in which nobody reads the findings of a cycle goes on as one in which they are read.
+pub fn findings_change_nothing()
+    ensures { (relation : Routes) (view : View) (findings : List FindingValue) (beats : List Beat) (n : ℕ)
+        → local_step relation (record view { findings = findings }) beats n ≡ local_step relation view beats n }
+{}

@@ -1,0 +1,12 @@
+use Rattle.std.proofs.Common.{◌∙◌, ap, subst}
+use Rattle.noc_model.specs.Good.{IsGoodSetup}
+use Rattle.noc_model.specs.Network.{Run}
+use Rattle.noc_progress.proofs.Theorems.{accepted-never-stuck}
+use Rattle.noc_net.proofs.network.Network.stuck.Goals as goal
+
+pub is_stuck_since-requires-clause-good : goal.is_stuck_since-requires-clause-good
+is_stuck_since-requires-clause-good c = subst (λ (u : Run). IsGoodSetup u.net) c.self.view_is c.self.invariant.good
+
+pub returns-in-Some-clause-ranked : goal.returns-in-Some-clause-ranked
+returns-in-Some-clause-ranked c = λ ranks ranked.
+    c.is_stuck_since.ensures ∙ accepted-never-stuck c.args.self.now.net ranks (subst (λ (u : Run). IsGoodSetup u.net) c.self.view_is c.self.invariant.good) ranked c.args.self.now.count

@@ -1,0 +1,71 @@
+-- What holds of every network that was made: where ranks rise along its relation each pending cycle has an event; each event is
+-- one less to come; and by the last due time and the budget all packets are out.
+use Rattle.std.proofs.Common.{◌≡◌, ℕ, suc, ◌+◌, ◌<◌, ◌≤◌, true, false, length, Option, Some}
+use Rattle.noc_route.specs.Ranks.{IsRankedBy, Ranking, rank_at}
+use Rattle.noc_model.specs.Network.{Setup, packet_at, state_at, frozen_at, network_cycle, arrival_in}
+use Rattle.noc_model.specs.Progress.{remainder, budget, events, is_pending, is_stuck}
+use Rattle.noc_model.specs.Good.{IsGoodSetup}
+use Rattle.noc_ownership.proofs.BuiltLemmas.{good-built, good-wired}
+use Rattle.noc_ownership.proofs.Facts.{whole-at, whole-frozen_at, queued-frozen_at, led-frozen_at}
+use Rattle.noc_progress.specs.Built.{IsBuilt}
+use Rattle.noc_progress.proofs.BuiltLemmas.{built-good, nearer-good}
+use Rattle.noc_progress.specs.Escape.{HasEscape}
+use Rattle.noc_progress.proofs.EscapeLemmas.{distance-within, escape-rising}
+use Rattle.noc_progress.proofs.WormFacts.{IsChain}
+use Rattle.noc_progress.proofs.ProgressLemmas.{pending-event, never-stuck}
+use Rattle.noc_progress.proofs.ChainLemmas.{chain-whole}
+use Rattle.noc_progress.proofs.CountableLemmas.{flies, frees, starts, distinct-sorted}
+use Rattle.noc_progress.proofs.HeadLemmas.{heads-whole, moves-whole}
+use Rattle.noc_progress.proofs.RemainderLaw.{IsCountable, cycle-falls}
+use Rattle.noc_progress.proofs.OpeningLemmas.{opening-budget}
+use Rattle.noc_progress.proofs.DrainLemmas.{arrives-by, idle-by}
+
+module _ (net : Setup) (good : IsGoodSetup net) where
+  pub built : IsBuilt net
+  built = built-good net good
+
+  chain : (n : ℕ) → IsChain net (frozen_at net n)
+  chain n = chain-whole net (good-built net good) (frozen_at net n) (whole-frozen_at net good n) (queued-frozen_at net good n) (led-frozen_at net good n) (good-wired net good)
+
+  pub countable : (n : ℕ) → IsCountable net n (state_at net n)
+  countable n = record {
+    flies = flies net (good-built net good) (good-wired net good) (state_at net n) (whole-at net good n);
+    frees = frees net (good-built net good) (good-wired net good) (state_at net n) (whole-at net good n);
+    starts = starts net (good-built net good) (good-wired net good) (state_at net n) (whole-at net good n) n;
+    heads = heads-whole net (good-built net good) (good-wired net good) (frozen_at net n) (whole-frozen_at net good n) n;
+    moves = moves-whole net (good-built net good) (good-wired net good) (frozen_at net n) (whole-frozen_at net good n) n;
+  }
+
+  -- each cycle lowers what is left by its events
+  pub each-cycle : (n : ℕ) → remainder net (state_at net n) ≡ remainder net (network_cycle net n (state_at net n)) + events net n (state_at net n)
+  each-cycle n = cycle-falls net n (state_at net n) (countable n) (distinct-sorted (state_at net n).at (whole-at net good n).sound.keyed.sorted)
+
+  each-cycle-falls : (n : ℕ) → remainder net (state_at net n) ≡ remainder net (state_at net (suc n)) + events net n (state_at net n)
+  unfolding state_at
+  each-cycle-falls n = each-cycle n
+
+  module _ (ranks : ℕ → ℕ → ℕ → Option ℕ) (ranked : HasEscape net.relation ranks) where
+    -- each pending cycle has an event
+    pub each-pending : (n : ℕ) → is_pending net n (state_at net n) ≡ true → 0 < events net n (state_at net n)
+    each-pending = pending-event net built chain (nearer-good net good) 45 (distance-within net good.relation.table.grid) ranks ranked
+
+    -- so the network is stuck at no count
+    pub not-stuck : (n : ℕ) → is_stuck net n ≡ false
+    not-stuck = never-stuck net built chain (nearer-good net good) 45 (distance-within net good.relation.table.grid) ranks ranked
+
+    module _ (last : ℕ) (due : (p : ℕ) → p < length net.packets → (packet_at net p).due ≤ last) where
+      -- all packets arrive before the last due time and the budget
+      pub each-arrives : (n : ℕ) → last + budget net ≤ n → (p : ℕ) → p < length net.packets → (m : ℕ) × (arrival_in net (state_at net n) p ≡ Some m) × (m < last + budget net)
+      unfolding state_at
+      each-arrives = arrives-by net last due each-cycle-falls (opening-budget net) each-pending
+
+      pub each-idle : (n : ℕ) → last + budget net ≤ n → is_pending net n (state_at net n) ≡ false
+      unfolding state_at
+      each-idle = idle-by net last due each-cycle-falls (opening-budget net) each-pending
+
+-- what the check of ranks accepts: each link channel has a rank, and each permitted step rises
+pub accepted-escape : (net : Setup) (k : Ranking) → IsGoodSetup net → IsRankedBy net.relation k → HasEscape net.relation (λ r p v. Some (rank_at k r p v))
+accepted-escape net k made ranked = escape-rising net made (rank_at k) ranked
+
+pub accepted-never-stuck : (net : Setup) (k : Ranking) → IsGoodSetup net → IsRankedBy net.relation k → (n : ℕ) → is_stuck net n ≡ false
+accepted-never-stuck net k made ranked = not-stuck net made (λ r p v. Some (rank_at k r p v)) (accepted-escape net k made ranked)
