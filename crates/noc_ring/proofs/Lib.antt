@@ -2,3 +2,4 @@ pub mod HeldLemmas
 pub mod PlaceLemmas
 pub mod RingLemmas
 pub mod Rows
+pub mod Sends

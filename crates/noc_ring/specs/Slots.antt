@@ -4,6 +4,11 @@ use Rattle.std.specs.List.{range_with_len}
 use Rattle.noc_packet.specs.declared.packet.Flit.{Flit}
 use Rattle.noc_ring.specs.declared.bank.Ends.{Ends}
 
+-- what a block of places holds: a flit for each place, and whether the place holds it
+pub record Held : Type 0 where
+  pub flits : List Flit
+  pub filled : List Bool
+
 abbrev pub blank : Flit
 blank = record { packet = 0; index = 0; last = false; dst = 0; class = 0 }
 
@@ -40,7 +45,7 @@ pub record IsBank (slots : List Flit) (capacity many : ℕ) (ends : List Ends) :
   pub heads : (r : ℕ) → r < many → (slice_index_or ends r no_ends).head < capacity
   pub lens : (r : ℕ) → r < many → (slice_index_or ends r no_ends).len ≤ capacity
 
--- each flit of a ring stands in a slot that holds one
-abbrev pub AreHeld : List Bool → ℕ → ℕ → List Ends → Type 0
-AreHeld filled capacity rings ends = (r i : ℕ) → r < rings → i < (slice_index_or ends r no_ends).len
-    → slice_index_or filled (slot_of (r * capacity) capacity (slice_index_or ends r no_ends).head i) false ≡ true
+-- each slot is known to hold a flit or not to, and each flit of a ring stands in a slot that holds one
+pub record AreHeld (filled : List Bool) (capacity many : ℕ) (ends : List Ends) : Type 0 where
+  pub whole : length filled ≡ many * capacity
+  pub held : (r i : ℕ) → r < many → i < (slice_index_or ends r no_ends).len → slice_index_or filled (slot_of (r * capacity) capacity (slice_index_or ends r no_ends).head i) false ≡ true

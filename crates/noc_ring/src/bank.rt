@@ -33,12 +33,11 @@ impl Model for Bank {
 
     ghost Value = { Rings };
 
-    ghost use Rattle.std.specs.Mem.Slots.{slots_items, slots_filled};
     ghost use Rattle.noc_ring.specs.Slots.{rings_of, IsBank, AreHeld};
 
-    ghost view = { λ b. record { rings = rings_of (slots_items b.places.slots) b.capacity b.rings b.ends; capacity = b.capacity } };
+    ghost view = { λ b. record { rings = rings_of b.places.flits b.capacity b.rings b.ends; capacity = b.capacity } };
 
-    ghost invariant = { λ b. IsBank (slots_items b.places.slots) b.capacity b.rings b.ends × AreHeld (slots_filled b.places.slots) b.capacity b.rings b.ends };
+    ghost invariant = { λ b. IsBank b.places.flits b.capacity b.rings b.ends × AreHeld b.places.filled b.capacity b.rings b.ends };
 }
 
 /// The place in a ring, for a place that may be past the ring's end once.

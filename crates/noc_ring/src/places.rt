@@ -7,7 +7,7 @@ use core::slots::{Lease, Slots, release, reserve};
 use noc_packet::{Flit, Memory};
 use std::alloc::Global;
 use std::fmt;
-use std::marker::{Send, Sync};
+use std::marker::{Model, Send, Sync};
 
 /// What stands nowhere in a bank: `reserve` takes the number of places from a list, and reads nothing of it.
 const BLANK: Flit = Flit {
@@ -23,55 +23,86 @@ const MOST: usize = 896;
 
 static AS_MANY: [Flit; MOST] = [BLANK; MOST];
 
-/// Places for flits in one block of memory, each of which is empty or holds a flit.
-pub(crate) struct Places {
+/// One block of memory for flits, and the right to free it.
+struct Block {
     slots: Slots<Flit>,
     lease: Lease<Flit, Global>,
     alloc: Global,
     ghost leased: { (lease_ptr lease ≡ slots_ptr slots) × (lease_len lease ≡ slots_len slots) × (lease_heap lease ≡ alloc) },
 }
 
+/// Places for flits in one block of memory, each of which is empty or holds a flit. The drop frees the block.
+pub(crate) struct Places {
+    block: Block,
+}
+
+impl Model for Places {
+    ghost use Rattle.std.specs.Mem.Slots.{slots_items, slots_filled};
+    ghost use base.Fml.{ftrue};
+    ghost use Rattle.noc_ring.specs.Slots.{Held};
+
+    ghost Value = { Held };
+
+    ghost view = { λ p. record { flits = slots_items p.block.slots; filled = slots_filled p.block.slots } };
+
+    // It owns what its block owns. A struct with this member may go to another thread by a proof of its own.
+    ghost also_owns = { λ _. ftrue };
+
+    ghost also_shares = { λ _ _ _. ftrue };
+}
+
+// What it owns names no thread.
+unsafe impl Send for Places {}
+
+unsafe impl Sync for Places {}
+
 impl Places {
+    fn of(block: Block) -> Places
+        ensures { (result.flits ≡ slots_items block.slots) × (result.filled ≡ slots_filled block.slots) }
+    {
+        Places { block }
+    }
+
     /// So many empty places, at most 896. The error is for want of memory alone.
     pub(crate) fn new(alloc: Global, count: usize) -> Result<Places, Memory>
         requires { count ≤ 896 }
-        ensures { IfOk result (λ p. length (slots_items p.slots) ≡ count) }
+        ensures { IfOk result (λ p. (length p.flits ≡ count) × (length p.filled ≡ count)) }
     {
         let (slots, lease) = unsafe { reserve(&alloc, &AS_MANY[..count])? };
-        Ok(Places {
+        Ok(Places::of(Block {
             slots,
             lease,
             alloc,
-        })
+        }))
     }
 
     /// The flit that a place holds.
     pub(crate) fn get(&self, place: usize) -> Flit
-        requires place { place < length (slots_items self.now.slots) }
-        requires holds { slice_index_or (slots_filled self.now.slots) place false ≡ true }
-        ensures { result ≡ slice_index_or (slots_items self.now.slots) place result }
+        requires place { place < length self.now.flits }
+        requires holds { slice_index_or self.now.filled place false ≡ true }
+        ensures { result ≡ slice_index_or self.now.flits place result }
     {
-        *self.slots.get(place)
+        *self.block.slots.get(place)
     }
 
     /// Puts a flit at a place.
     pub(crate) fn put(&mut self, place: usize, flit: Flit)
-        requires { place < length (slots_items self.old.slots) }
-        ensures items { slots_items self.new.slots ≡ slice_set (slots_items self.old.slots) place flit }
-        ensures filled { slots_filled self.new.slots ≡ slice_set (slots_filled self.old.slots) place true }
+        requires { place < length self.old.flits }
+        ensures flits { self.new.flits ≡ slice_set self.old.flits place flit }
+        ensures filled { self.new.filled ≡ slice_set self.old.filled place true }
     {
-        self.slots.put(place, flit);
+        self.block.slots.put(place, flit);
     }
 
     /// Takes the flit that a place holds, and leaves the place empty.
     pub(crate) fn take(&mut self, place: usize) -> Flit
-        requires place { place < length (slots_items self.old.slots) }
-        requires holds { slice_index_or (slots_filled self.old.slots) place false ≡ true }
-        ensures value { result ≡ slice_index_or (slots_items self.old.slots) place result }
-        ensures items { slots_items self.new.slots ≡ slots_items self.old.slots }
-        ensures filled { slots_filled self.new.slots ≡ slice_set (slots_filled self.old.slots) place false }
+        requires place { place < length self.old.flits }
+        requires holds { slice_index_or self.old.filled place false ≡ true }
+        ensures value { result ≡ slice_index_or self.old.flits place result }
+        ensures flits { self.new.flits ≡ self.old.flits }
+        ensures filled { self.new.filled ≡ slice_set self.old.filled place false }
     {
-        self.slots.take(place)
+        self.block.slots.take(place)
     }
 }
 
@@ -83,15 +114,12 @@ impl fmt::Debug for Places {
 
 impl Drop for Places {
     fn drop(self) {
-        let Places {
+        let Places { block } = self;
+        let Block {
             slots,
             lease,
             alloc,
-        } = self;
+        } = block;
         release(&alloc, slots, lease);
     }
 }
-
-unsafe impl Send for Places {}
-
-unsafe impl Sync for Places {}

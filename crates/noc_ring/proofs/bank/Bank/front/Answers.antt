@@ -1,6 +1,5 @@
 use Rattle.std.proofs.Common.{ap, sym, arith}
 use Rattle.std.specs.List.{slice_get}
-use Rattle.std.specs.Mem.Slots.{slots_filled}
 use Rattle.std.proofs.lemmas.Option.{slice_get_past}
 use Rattle.noc_ring.specs.Rings.{ring_at}
 use Rattle.noc_ring.proofs.RingLemmas.{ring-known, slot, front-is}
@@ -34,7 +33,7 @@ get-requires-clause-place c = let ring = ring-known c.self.invariant.0 c.self.vi
 pub get-requires-clause-holds : goal.get-requires-clause-holds
 get-requires-clause-holds c =
     let ring = ring-known c.self.invariant.0 c.self.view_is c.requires in
-    front-held (slots_filled c.self.inside.places.slots) ring c.self.invariant.1 (omega arith)
+    front-held c.self.inside.places.filled ring c.self.invariant.1 (omega arith)
 
 pub returns : goal.returns
 returns c =

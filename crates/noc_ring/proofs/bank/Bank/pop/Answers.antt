@@ -1,5 +1,4 @@
 use Rattle.std.proofs.Common.{ap, sym, ◌∙◌, ◌∷◌, arith}
-use Rattle.std.specs.Mem.Slots.{slots_items, slots_filled}
 use Rattle.noc_ring.specs.Rings.{Rings, ring_at}
 use Rattle.noc_ring.proofs.RingLemmas.{ring-known, slot, place-below, set-ends_fits, popped-is, front-is, ring_at-popped}
 use Rattle.noc_ring.proofs.HeldLemmas.{front-held, pop-held}
@@ -33,7 +32,7 @@ take-flit-requires-clause-place c = let ring = ring-known c.self.invariant.0 c.s
 pub take-flit-requires-clause-holds : goal.take-flit-requires-clause-holds
 take-flit-requires-clause-holds c =
     let ring = ring-known c.self.invariant.0 c.self.view_is c.requires.ring in
-    front-held (slots_filled c.self.inside.places.slots) ring c.self.invariant.1 (omega (arith, ring.count, c.requires.some))
+    front-held c.self.inside.places.filled ring c.self.invariant.1 (omega (arith, ring.count, c.requires.some))
 
 pub wrapped-requires : goal.wrapped-requires
 wrapped-requires c =
@@ -48,16 +47,16 @@ overflow_sub-self c =
 pub invariant_of-self : goal.invariant_of-self
 invariant_of-self c =
     let ring = ring-known c.self.invariant.0 c.self.view_is c.requires.ring in
-    rw (c.take-flit.ensures.items) (rw (c.take-flit.ensures.filled)
+    rw (c.take-flit.ensures.flits) (rw (c.take-flit.ensures.filled)
     (
       set-ends_fits _ _ _ _ _ _ c.self.invariant.0 ring.inside (place-below ring _ _ c.wrapped.ensures) (omega (arith, ring.len_within)),
-      pop-held (slots_filled c.self.inside.places.slots) ring c.self.invariant.1 _ (omega (arith, ring.count, c.requires.some)) c.wrapped.ensures,
+      pop-held c.self.inside.places.filled ring c.self.invariant.1 _ (omega (arith, ring.count, c.requires.some)) c.wrapped.ensures,
     ))
 
 pub returns-clause-rest : goal.returns-clause-rest
 returns-clause-rest c =
     let ring = ring-known c.self.invariant.0 c.self.view_is c.requires.ring in
-    rw (c.take-flit.ensures.items) (popped-is ring _ (omega (arith, ring.count, c.requires.some)) c.wrapped.ensures)
+    rw (c.take-flit.ensures.flits) (popped-is ring _ (omega (arith, ring.count, c.requires.some)) c.wrapped.ensures)
 
 pub returns-clause-first : goal.returns-clause-first
 returns-clause-first c =

@@ -1,5 +1,4 @@
 use Rattle.std.proofs.Common.{ap, arith, ◌∙◌}
-use Rattle.std.specs.Mem.Slots.{slots_items, slots_filled, slots_counts}
 use Rattle.noc_ring.proofs.RingLemmas.{ring-known, slot, place-below, set-fits, pushed-is}
 use Rattle.noc_ring.proofs.HeldLemmas.{push-held}
 use Rattle.noc_ring.proofs.bank.Bank.push.Goals as goal
@@ -44,14 +43,13 @@ overflow_add-self c =
 pub invariant_of-self : goal.invariant_of-self
 invariant_of-self c =
     let ring = ring-known c.self.invariant.0 c.self.view_is c.requires.ring in
-    rw (c.put.ensures.items) (rw (c.put.ensures.filled)
+    rw (c.put.ensures.flits) (rw (c.put.ensures.filled)
     (
       set-fits _ _ _ _ _ _ c.args.flit _ c.self.invariant.0 ring.inside ring.head_below (omega (arith, ring.count, ring.capacity, c.requires.room)),
-      push-held (slots_filled c.self.inside.places.slots) ring c.self.invariant.1 (omega (arith, (slots_counts c.self.inside.places.slots).0, (slots_counts c.self.inside.places.slots).1)) _
-      (omega (arith, ring.count, ring.capacity, c.requires.room)) c.wrapped-place.ensures,
+      push-held c.self.inside.places.filled ring c.self.invariant.1 _ (omega (arith, ring.count, ring.capacity, c.requires.room)) c.wrapped-place.ensures,
     ))
 
 pub returns : goal.returns
 returns c =
     let ring = ring-known c.self.invariant.0 c.self.view_is c.requires.ring in
-    rw (c.put.ensures.items) (pushed-is ring _ c.args.flit (omega (arith, ring.count, ring.capacity, c.requires.room)) c.wrapped-place.ensures)
+    rw (c.put.ensures.flits) (pushed-is ring _ c.args.flit (omega (arith, ring.count, ring.capacity, c.requires.room)) c.wrapped-place.ensures)
