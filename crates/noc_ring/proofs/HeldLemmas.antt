@@ -62,13 +62,17 @@ push-held {slots} {c} {many} {ends} {v} {r} filled ring held p room place =
   where
     h : ℕ
     h = (get_or ends r no_ends).head
+
     n : ℕ
     n = (get_or ends r no_ends).len
+
     below : p < c
     below = place-below ring p (h + n) place
+
     earlier : (i : ℕ) → i < n + 1 → (i ≡ n) ⊎ (i ≡ n → ⊥) → (r * c + (h + i) % c ≡ r * c + p → ⊥) → i < n
     earlier i l (inl last) other = absurd (other (ap (λ k. r * c + (h + k) % c) last ∙ ap (λ k. r * c + k) (sym place)))
     earlier i l (inr less) other = omega arith
+
     at : (i : ℕ) → (r * c + (h + i) % c ≡ r * c + p) ⊎ (r * c + (h + i) % c ≡ r * c + p → ⊥) → i < n + 1 → get_or (set filled (r * c + p) true) (r * c + (h + i) % c) false ≡ true
     at i (inl same) l = ap (λ k. get_or (set filled (r * c + p) true) k false) same ∙ get_or-set_same filled (r * c + p) true false (omega (arith, slot ring p below, held.whole, ring.is_bank.whole))
     at i (inr other) l = get_or-set_other filled (r * c + p) (r * c + (h + i) % c) true false other ∙ held.held r i ring.inside (earlier i l (cases_eq i n) other)
@@ -79,17 +83,19 @@ pub pop-held : {slots : List Flit} {c many : ℕ} {ends : List Ends} {v : Rings}
 pop-held {slots} {c} {many} {ends} {v} {r} filled ring held p some place =
     held-set filled (set filled (r * c + h) false) c many ends r (record { head = p; len = n - 1 }) held (omega (arith, ring.listed, ring.is_bank.table)) (length-set filled (r * c + h) false)
     (λ i l.
-      let shift : (p + i) % c ≡ (h + (i + 1)) % c = ap (λ k. (k + i) % c) place ∙ next_head h c i ring.head_below (omega (arith, ring.len_within)) in
-      ap (λ k. get_or (set filled (r * c + h) false) (r * c + k) false) shift
-      ∙ get_or-set_other filled (r * c + h) (r * c + (h + (i + 1)) % c) false false (later i l)
-      ∙ held.held r (i + 1) ring.inside (omega arith))
+    let shift : (p + i) % c ≡ (h + (i + 1)) % c = ap (λ k. (k + i) % c) place ∙ next_head h c i ring.head_below (omega (arith, ring.len_within)) in
+    ap (λ k. get_or (set filled (r * c + h) false) (r * c + k) false) shift
+    ∙ get_or-set_other filled (r * c + h) (r * c + (h + (i + 1)) % c) false false (later i l)
+    ∙ held.held r (i + 1) ring.inside (omega arith))
     (λ q s other low. get_or-set_other filled (r * c + h) (q * c + s) false false (rings_apart q r c s h other low ring.head_below))
     ring.is_bank.some
   where
     h : ℕ
     h = (get_or ends r no_ends).head
+
     n : ℕ
     n = (get_or ends r no_ends).len
+
     later : (i : ℕ) → i < n - 1 → r * c + (h + (i + 1)) % c ≢ r * c + h
     later i l same =
         let here : (h + 0) % c ≡ h = ap (λ k. k % c) (let y : h + 0 ≡ h = omega arith in y) ∙ mod-eq_of_lt ring.head_below in

@@ -9,7 +9,7 @@ use std::alloc::Global;
 use std::fmt;
 use std::marker::{Model, Send, Sync};
 
-/// What stands nowhere in a bank: `reserve` takes the number of places from a list, and reads nothing of it.
+/// A flit for the list below alone: nothing puts it into a bank.
 const BLANK: Flit = Flit {
     packet: 0,
     index: 0,
@@ -21,6 +21,7 @@ const BLANK: Flit = Flit {
 /// The most places of a bank: 56 rings of 16.
 const MOST: usize = 896;
 
+/// `reserve` takes the number of places from the length of a list, and reads nothing else of it.
 static AS_MANY: [Flit; MOST] = [BLANK; MOST];
 
 /// One block of memory for flits, and the right to free it.
@@ -68,6 +69,7 @@ impl Places {
         requires { count ≤ 896 }
         ensures { IfOk result (λ p. (length p.flits ≡ count) × (length p.filled ≡ count)) }
     {
+        // `unsafe`, since a value in a place is forgotten when another is put there or the block goes. A flit is plain data.
         let (slots, lease) = unsafe { reserve(&alloc, &AS_MANY[..count])? };
         Ok(Places::of(Block {
             slots,

@@ -47,8 +47,7 @@ overflow_sub-self c =
 pub invariant_of-self : goal.invariant_of-self
 invariant_of-self c =
     let ring = ring-known c.self.invariant.0 c.self.view_is c.requires.ring in
-    rw (c.take-flit.ensures.flits) (rw (c.take-flit.ensures.filled)
-    (
+    rw (c.take-flit.ensures.flits) (rw (c.take-flit.ensures.filled) (
       set-ends_fits _ _ _ _ _ _ c.self.invariant.0 ring.inside (place-below ring _ _ c.wrapped.ensures) (omega (arith, ring.len_within)),
       pop-held c.self.inside.places.filled ring c.self.invariant.1 _ (omega (arith, ring.count, c.requires.some)) c.wrapped.ensures,
     ))

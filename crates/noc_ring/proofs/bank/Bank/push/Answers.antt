@@ -1,4 +1,4 @@
-use Rattle.std.proofs.Common.{ap, arith, ◌∙◌}
+use Rattle.std.proofs.Common.{arith}
 use Rattle.noc_ring.proofs.RingLemmas.{ring-known, slot, place-below, set-fits, pushed-is}
 use Rattle.noc_ring.proofs.HeldLemmas.{push-held}
 use Rattle.noc_ring.proofs.bank.Bank.push.Goals as goal
@@ -43,8 +43,7 @@ overflow_add-self c =
 pub invariant_of-self : goal.invariant_of-self
 invariant_of-self c =
     let ring = ring-known c.self.invariant.0 c.self.view_is c.requires.ring in
-    rw (c.put.ensures.flits) (rw (c.put.ensures.filled)
-    (
+    rw (c.put.ensures.flits) (rw (c.put.ensures.filled) (
       set-fits _ _ _ _ _ _ c.args.flit _ c.self.invariant.0 ring.inside ring.head_below (omega (arith, ring.count, ring.capacity, c.requires.room)),
       push-held c.self.inside.places.filled ring c.self.invariant.1 _ (omega (arith, ring.count, ring.capacity, c.requires.room)) c.wrapped-place.ensures,
     ))

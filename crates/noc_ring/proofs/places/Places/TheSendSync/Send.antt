@@ -1,4 +1,4 @@
-use denote.Param.Send.{IsSend, sendable, view_send, owning_send, struct_send, AllSend}
+use denote.Param.Send.{IsSend, view_send, owning_send, struct_send, AllSend}
 use denote.Struct.Struct.{exits_of}
 use denote.Struct.Owning.{shape, fields, to}
 use Rattle.noc_ring.proofs.Sends.{Block-send, quiet}

@@ -1,7 +1,7 @@
 -- The block goes into the struct.
 use Rattle.std.proofs.Common.{◌≡◌, List, [], ◌∷◌, ◌++◌, refl}
 use Rattle.std.proofs.raw_atomic.Walks.{proved}
-use base.Logic.{SProp, emp}
+use base.Logic.{emp}
 use base.Fml.{ftrue, feq, fsep}
 use mir.Val.{Val, vstruct, vcons, vnil, of_list}
 use contract.Monad.{fact, fact_i}
@@ -11,7 +11,7 @@ use types.Part.{agg}
 use types.Run.{enter, of_opd, no_more, and_then, returns}
 use types.ByLocal.{alloc_all, pass_all, free_all, look_at, get, sets}
 use denote.Exit.{yes}
-use denote.RattleType.{RattleType, Valss, owns}
+use denote.RattleType.{Valss, owns}
 use denote.Signature.{plain, types_at}
 use denote.Steps.{nothing}
 use denote.Triple.Entry.{alive}
