@@ -65,152 +65,137 @@ ring_in-other slots q r c h n p flit other l =
     (rings_apart q r c ((h + (0 + i)) % c) p other (mod_below (h + (0 + i)) c (omega arith)) l))
 
 -- ---- all rings
-pub length-rings_of : (slots : List Flit) (c : ℕ) (ends : List Ends) → length (rings_of slots c ends) ≡ length ends
-length-rings_of slots c ends = length-map-range_with_len (ring_of slots c ends) 0 (length ends)
+pub length-rings_of : (slots : List Flit) (c many : ℕ) (ends : List Ends) → length (rings_of slots c many ends) ≡ many
+length-rings_of slots c many ends = length-map-range_with_len (ring_of slots c ends) 0 many
 
-pub get_or-rings_of : (slots : List Flit) (c : ℕ) (ends : List Ends) (r : ℕ) → r < length ends → get_or (rings_of slots c ends) r [] ≡ ring_of slots c ends r
-get_or-rings_of slots c ends r l = get_or-map-range_with_len (ring_of slots c ends) 0 (length ends) r r [] l (omega arith)
+pub get_or-rings_of : (slots : List Flit) (c many : ℕ) (ends : List Ends) (r : ℕ) → r < many → get_or (rings_of slots c many ends) r [] ≡ ring_of slots c ends r
+get_or-rings_of slots c many ends r l = get_or-map-range_with_len (ring_of slots c ends) 0 many r r [] l (omega arith)
 
 -- where ring r alone has changed
-pub rings_of-set : (slots after : List Flit) (c : ℕ) (ends : List Ends) (r : ℕ) (e : Ends) (ring : List Flit) → r < length ends
+pub rings_of-set : (slots after : List Flit) (c many : ℕ) (ends : List Ends) (r : ℕ) (e : Ends) (ring : List Flit) → r < many → many ≤ length ends
     → ring_in after (r * c) c e.head e.len ≡ ring
-    → ((q : ℕ) → q < length ends → q ≢ r → ring_of after c ends q ≡ ring_of slots c ends q)
-    → rings_of after c (set ends r e) ≡ set (rings_of slots c ends) r ring
-rings_of-set slots after c ends r e ring l here others =
-    let n : length (set ends r e) ≡ length ends = length-set ends r e in
-    let m : length (rings_of after c (set ends r e)) ≡ length (set ends r e) = length-rings_of after c (set ends r e) in
-    let k : length (set (rings_of slots c ends) r ring) ≡ length (rings_of slots c ends) = length-set (rings_of slots c ends) r ring in
-    let j : length (rings_of slots c ends) ≡ length ends = length-rings_of slots c ends in
-    ext_get_or [] (rings_of after c (set ends r e)) (set (rings_of slots c ends) r ring) (m ∙ n ∙ sym j ∙ sym k)
-    (λ q u. get_or-rings_of after c (set ends r e) q (omega arith) ∙ at q (omega arith) (cases_eq q r))
+    → ((q : ℕ) → q < many → q ≢ r → ring_of after c ends q ≡ ring_of slots c ends q)
+    → rings_of after c many (set ends r e) ≡ set (rings_of slots c many ends) r ring
+rings_of-set slots after c many ends r e ring l all here others =
+    let m : length (rings_of after c many (set ends r e)) ≡ many = length-rings_of after c many (set ends r e) in
+    let k : length (set (rings_of slots c many ends) r ring) ≡ length (rings_of slots c many ends) = length-set (rings_of slots c many ends) r ring in
+    let j : length (rings_of slots c many ends) ≡ many = length-rings_of slots c many ends in
+    ext_get_or [] (rings_of after c many (set ends r e)) (set (rings_of slots c many ends) r ring) (m ∙ sym j ∙ sym k)
+    (λ q u. get_or-rings_of after c many (set ends r e) q (omega arith) ∙ at q (omega arith) (cases_eq q r))
   where
-    at : (q : ℕ) → q < length ends → (q ≡ r) ⊎ (q ≡ r → ⊥) → ring_of after c (set ends r e) q ≡ get_or (set (rings_of slots c ends) r ring) q []
+    at : (q : ℕ) → q < many → (q ≡ r) ⊎ (q ≡ r → ⊥) → ring_of after c (set ends r e) q ≡ get_or (set (rings_of slots c many ends) r ring) q []
     at q u (inl same) =
-        let j : length (rings_of slots c ends) ≡ length ends = length-rings_of slots c ends in
-        let ours : get_or (set ends r e) q no_ends ≡ e = ap (λ i. get_or (set ends r e) i no_ends) same ∙ get_or-set_same ends r e no_ends l in
+        let j : length (rings_of slots c many ends) ≡ many = length-rings_of slots c many ends in
+        let ours : get_or (set ends r e) q no_ends ≡ e = ap (λ i. get_or (set ends r e) i no_ends) same ∙ get_or-set_same ends r e no_ends (omega arith) in
         ap (λ (x : Ends). ring_in after (q * c) c x.head x.len) ours
         ∙ ap (λ i. ring_in after (i * c) c e.head e.len) same
         ∙ here
-        ∙ sym (ap (λ i. get_or (set (rings_of slots c ends) r ring) i []) same ∙ get_or-set_same (rings_of slots c ends) r ring [] (omega arith))
+        ∙ sym (ap (λ i. get_or (set (rings_of slots c many ends) r ring) i []) same ∙ get_or-set_same (rings_of slots c many ends) r ring [] (omega arith))
     at q u (inr other) =
         ap (λ (x : Ends). ring_in after (q * c) c x.head x.len) (get_or-set_other ends r q e no_ends other)
         ∙ others q u other
-        ∙ sym (get_or-set_other (rings_of slots c ends) r q ring [] other ∙ get_or-rings_of slots c ends q u)
+        ∙ sym (get_or-set_other (rings_of slots c many ends) r q ring [] other ∙ get_or-rings_of slots c many ends q u)
 
-pub rings_of-push : (slots : List Flit) (c : ℕ) (ends : List Ends) (r : ℕ) (flit : Flit) → IsBank slots c ends → r < length ends
+pub rings_of-push : (slots : List Flit) (c many : ℕ) (ends : List Ends) (r : ℕ) (flit : Flit) → IsBank slots c many ends → r < many
     → (get_or ends r no_ends).len < c
-    → rings_of (set slots (r * c + ((get_or ends r no_ends).head + (get_or ends r no_ends).len) % c) flit) c (set ends r (record { head = (get_or ends r no_ends).head; len = (get_or ends r no_ends).len + 1 }))
-    ≡ set (rings_of slots c ends) r (ring_of slots c ends r ++ flit ∷ [])
-rings_of-push slots c ends r flit bank l room =
+    → rings_of (set slots (r * c + ((get_or ends r no_ends).head + (get_or ends r no_ends).len) % c) flit) c many (set ends r (record { head = (get_or ends r no_ends).head; len = (get_or ends r no_ends).len + 1 }))
+    ≡ set (rings_of slots c many ends) r (ring_of slots c ends r ++ flit ∷ [])
+rings_of-push slots c many ends r flit bank l room =
     let h : ℕ = (get_or ends r no_ends).head in
     let n : ℕ = (get_or ends r no_ends).len in
     let p : ℕ = (h + n) % c in
     let head : h < c = bank.heads r l in
     let low : (h + n) % c < c = mod_below (h + n) c bank.some in
-    let fits : r * c + p < length slots = omega (arith, bank.whole, in_slots r (length ends) c p l low) in
-    rings_of-set slots (set slots (r * c + p) flit) c ends r (record { head = h; len = n + 1 }) (ring_of slots c ends r ++ flit ∷ []) l
+    let fits : r * c + p < length slots = omega (arith, bank.whole, in_slots r many c p l low) in
+    rings_of-set slots (set slots (r * c + p) flit) c many ends r (record { head = h; len = n + 1 }) (ring_of slots c ends r ++ flit ∷ []) l (omega (arith, bank.rings, bank.table))
     (ring_in-push slots (r * c) c h n flit head room fits)
     (λ q u other. ring_in-other slots q r c _ _ p flit other low)
 
-pub rings_of-pop : (slots : List Flit) (c : ℕ) (ends : List Ends) (r : ℕ) → IsBank slots c ends → r < length ends
+pub rings_of-pop : (slots : List Flit) (c many : ℕ) (ends : List Ends) (r : ℕ) → IsBank slots c many ends → r < many
     → 0 < (get_or ends r no_ends).len
-    → rings_of slots c (set ends r (record { head = ((get_or ends r no_ends).head + 1) % c; len = (get_or ends r no_ends).len - 1 }))
-    ≡ set (rings_of slots c ends) r (drop 1 (ring_of slots c ends r))
-rings_of-pop slots c ends r bank l some =
+    → rings_of slots c many (set ends r (record { head = ((get_or ends r no_ends).head + 1) % c; len = (get_or ends r no_ends).len - 1 }))
+    ≡ set (rings_of slots c many ends) r (drop 1 (ring_of slots c ends r))
+rings_of-pop slots c many ends r bank l some =
     let h : ℕ = (get_or ends r no_ends).head in
     let n : ℕ = (get_or ends r no_ends).len in
-    rings_of-set slots slots c ends r (record { head = (h + 1) % c; len = n - 1 }) (drop 1 (ring_of slots c ends r)) l
+    rings_of-set slots slots c many ends r (record { head = (h + 1) % c; len = n - 1 }) (drop 1 (ring_of slots c ends r)) l (omega (arith, bank.rings, bank.table))
     (sym (ap (drop 1) (ring_in-pop slots (r * c) c h n (bank.heads r l) some (bank.lens r l))))
     (λ q u other. refl)
 
 -- ---- a bank, seen as its rings
-abbrev pub bank_of : List Flit → ℕ → List Ends → Rings
-bank_of slots c ends = record { rings = rings_of slots c ends; capacity = c }
+abbrev pub bank_of : List Flit → ℕ → ℕ → List Ends → Rings
+bank_of slots c many ends = record { rings = rings_of slots c many ends; capacity = c }
 
--- a ring that the value has is one of the ends
-pub ring-exists : {slots : List Flit} {c : ℕ} {ends : List Ends} {v : Rings} {r : ℕ} → IsBank slots c ends → bank_of slots c ends ≡ v → r < length v.rings → r < length ends
-ring-exists {slots} {c} {ends} {v} bank is l =
-    let n : length (rings_of slots c ends) ≡ length v.rings = ap (λ (w : Rings). length w.rings) is in
-    omega (arith, length-rings_of slots c ends)
-
--- what is known of ring r of a bank, once its ends were read
-pub record IsRing (slots : List Flit) (c : ℕ) (ends : List Ends) (v : Rings) (r : ℕ) (e : Ends) : Type 0 where
-  pub is_view : bank_of slots c ends ≡ v
-  pub is_bank : IsBank slots c ends
-  pub inside : r < length ends
-  pub at : get_or ends r no_ends ≡ e
-  pub head_below : e.head < c
-  pub len_within : e.len ≤ c
-  pub count : length (ring_at v r) ≡ e.len
+-- what is known of ring r of a bank
+pub record IsRing (slots : List Flit) (c many : ℕ) (ends : List Ends) (v : Rings) (r : ℕ) : Type 0 where
+  pub is_view : bank_of slots c many ends ≡ v
+  pub is_bank : IsBank slots c many ends
+  pub inside : r < many
+  pub listed : r < 56
+  pub head_below : (get_or ends r no_ends).head < c
+  pub len_within : (get_or ends r no_ends).len ≤ c
+  pub count : length (ring_at v r) ≡ (get_or ends r no_ends).len
   pub capacity : v.capacity ≡ c
   pub few_slots : length slots ≤ 896
 
-ring_at-is : (slots : List Flit) (c : ℕ) (ends : List Ends) (v : Rings) (r : ℕ) → bank_of slots c ends ≡ v → r < length ends → ring_at v r ≡ ring_of slots c ends r
-ring_at-is slots c ends v r is l = ap (λ (w : Rings). ring_at w r) (sym is) ∙ get_or-rings_of slots c ends r l
+ring_at-is : (slots : List Flit) (c many : ℕ) (ends : List Ends) (v : Rings) (r : ℕ) → bank_of slots c many ends ≡ v → r < many → ring_at v r ≡ ring_of slots c ends r
+ring_at-is slots c many ends v r is l = ap (λ (w : Rings). ring_at w r) (sym is) ∙ get_or-rings_of slots c many ends r l
 
-pub ring-read : {slots : List Flit} {c : ℕ} {ends : List Ends} {v : Rings} {r : ℕ} {e : Ends} → IsBank slots c ends → bank_of slots c ends ≡ v → r < length v.rings → e ≡ get_or ends r e
-    → IsRing slots c ends v r e
-ring-read {slots} {c} {ends} {v} {r} {e} bank is l was =
-    let inside : r < length ends = ring-exists bank is l in
-    let at : get_or ends r no_ends ≡ e = sym (get_or_read ends r e inside was no_ends) in
-    let head : (get_or ends r no_ends).head ≡ e.head = ap (λ (x : Ends). x.head) at in
-    let len : (get_or ends r no_ends).len ≡ e.len = ap (λ (x : Ends). x.len) at in
-    let few : length ends * c ≤ 56 * 16 = mul-le (length ends) c 56 16 bank.rings bank.small in
+pub ring-known : {slots : List Flit} {c many : ℕ} {ends : List Ends} {v : Rings} {r : ℕ} → IsBank slots c many ends → bank_of slots c many ends ≡ v → r < length v.rings → IsRing slots c many ends v r
+ring-known {slots} {c} {many} {ends} {v} {r} bank is l =
+    let n : length (rings_of slots c many ends) ≡ length v.rings = ap (λ (w : Rings). length w.rings) is in
+    let inside : r < many = omega (arith, length-rings_of slots c many ends) in
+    let few : many * c ≤ 56 * 16 = mul-le many c 56 16 bank.rings bank.small in
     record {
       is_view = is;
       is_bank = bank;
       inside = inside;
-      at = at;
-      head_below = omega (arith, bank.heads r inside);
-      len_within = omega (arith, bank.lens r inside);
-      count = ap length (ring_at-is slots c ends v r is inside) ∙ length-ring_in slots (r * c) c _ _ ∙ len;
+      listed = omega (arith, bank.rings);
+      head_below = bank.heads r inside;
+      len_within = bank.lens r inside;
+      count = ap length (ring_at-is slots c many ends v r is inside) ∙ length-ring_in slots (r * c) c _ _;
       capacity = ap (λ (w : Rings). w.capacity) (sym is);
       few_slots = omega (arith, bank.whole);
     }
 
 -- a place of the ring is one of the slots
-pub slot : {slots : List Flit} {c : ℕ} {ends : List Ends} {v : Rings} {r : ℕ} {e : Ends} → IsRing slots c ends v r e → (p : ℕ) → p < c → r * c + p < length slots
-slot {c} {ends} {r} ring p u = omega (arith, ring.is_bank.whole, in_slots r (length ends) c p ring.inside u)
+pub slot : {slots : List Flit} {c many : ℕ} {ends : List Ends} {v : Rings} {r : ℕ} → IsRing slots c many ends v r → (p : ℕ) → p < c → r * c + p < length slots
+slot {c} {many} {r} ring p u = omega (arith, ring.is_bank.whole, in_slots r many c p ring.inside u)
 
 -- what a place becomes once it is wrapped
-pub place-below : {slots : List Flit} {c : ℕ} {ends : List Ends} {v : Rings} {r : ℕ} {e : Ends} → IsRing slots c ends v r e → (p n : ℕ) → p ≡ n % c → p < c
+pub place-below : {slots : List Flit} {c many : ℕ} {ends : List Ends} {v : Rings} {r : ℕ} → IsRing slots c many ends v r → (p n : ℕ) → p ≡ n % c → p < c
 place-below {c} ring p n is = let low : n % c < c = mod_below n c ring.is_bank.some in omega arith
 
 -- ---- after a push and a pop
-pub pushed-is : {slots : List Flit} {c : ℕ} {ends : List Ends} {v : Rings} {r : ℕ} {e : Ends} → IsRing slots c ends v r e → (p : ℕ) (flit : Flit) → e.len < c → p ≡ (e.head + e.len) % c
-    → bank_of (set slots (r * c + p) flit) c (set ends r (record { head = e.head; len = e.len + 1 })) ≡ pushed v r flit
-pushed-is {slots} {c} {ends} {v} {r} {e} ring p flit room place =
-    let f : Ends → Rings = λ (x : Ends). bank_of (set slots (r * c + (x.head + x.len) % c) flit) c (set ends r (record { head = x.head; len = x.len + 1 })) in
-    ap (λ k. bank_of (set slots (r * c + k) flit) c (set ends r (record { head = e.head; len = e.len + 1 }))) place
-    ∙ ap f (sym ring.at)
+pub pushed-is : {slots : List Flit} {c many : ℕ} {ends : List Ends} {v : Rings} {r : ℕ} → IsRing slots c many ends v r → (p : ℕ) (flit : Flit) → (get_or ends r no_ends).len < c
+    → p ≡ ((get_or ends r no_ends).head + (get_or ends r no_ends).len) % c
+    → bank_of (set slots (r * c + p) flit) c many (set ends r (record { head = (get_or ends r no_ends).head; len = (get_or ends r no_ends).len + 1 })) ≡ pushed v r flit
+pushed-is {slots} {c} {many} {ends} {v} {r} ring p flit room place =
+    ap (λ k. bank_of (set slots (r * c + k) flit) c many (set ends r (record { head = (get_or ends r no_ends).head; len = (get_or ends r no_ends).len + 1 }))) place
     ∙ ap (λ (rs : List (List Flit)). let w : Rings = record { rings = rs; capacity = c } in w)
-    (rings_of-push slots c ends r flit ring.is_bank ring.inside (let s : (get_or ends r no_ends).len ≡ e.len = ap (λ (x : Ends). x.len) ring.at in omega arith)
-    ∙ ap (λ xs. set (rings_of slots c ends) r (xs ++ flit ∷ [])) (sym (get_or-rings_of slots c ends r ring.inside)))
+    (rings_of-push slots c many ends r flit ring.is_bank ring.inside room
+    ∙ ap (λ xs. set (rings_of slots c many ends) r (xs ++ flit ∷ [])) (sym (get_or-rings_of slots c many ends r ring.inside)))
     ∙ ap (λ (w : Rings). pushed w r flit) ring.is_view
 
-pub popped-is : {slots : List Flit} {c : ℕ} {ends : List Ends} {v : Rings} {r : ℕ} {e : Ends} → IsRing slots c ends v r e → (h : ℕ) → 0 < e.len → h ≡ (e.head + 1) % c
-    → bank_of slots c (set ends r (record { head = h; len = e.len - 1 })) ≡ popped v r
-popped-is {slots} {c} {ends} {v} {r} {e} ring h some place =
-    let f : Ends → Rings = λ (x : Ends). bank_of slots c (set ends r (record { head = (x.head + 1) % c; len = x.len - 1 })) in
-    ap (λ k. bank_of slots c (set ends r (record { head = k; len = e.len - 1 }))) place
-    ∙ ap f (sym ring.at)
+pub popped-is : {slots : List Flit} {c many : ℕ} {ends : List Ends} {v : Rings} {r : ℕ} → IsRing slots c many ends v r → (h : ℕ) → 0 < (get_or ends r no_ends).len → h ≡ ((get_or ends r no_ends).head + 1) % c
+    → bank_of slots c many (set ends r (record { head = h; len = (get_or ends r no_ends).len - 1 })) ≡ popped v r
+popped-is {slots} {c} {many} {ends} {v} {r} ring h some place =
+    ap (λ k. bank_of slots c many (set ends r (record { head = k; len = (get_or ends r no_ends).len - 1 }))) place
     ∙ ap (λ (rs : List (List Flit)). let w : Rings = record { rings = rs; capacity = c } in w)
-    (rings_of-pop slots c ends r ring.is_bank ring.inside (let s : (get_or ends r no_ends).len ≡ e.len = ap (λ (x : Ends). x.len) ring.at in omega arith)
-    ∙ ap (λ xs. set (rings_of slots c ends) r (drop 1 xs)) (sym (get_or-rings_of slots c ends r ring.inside)))
+    (rings_of-pop slots c many ends r ring.is_bank ring.inside some
+    ∙ ap (λ xs. set (rings_of slots c many ends) r (drop 1 xs)) (sym (get_or-rings_of slots c many ends r ring.inside)))
     ∙ ap (λ (w : Rings). popped w r) ring.is_view
 
 -- the first flit of a ring, as it was read
-pub front-is : {slots : List Flit} {c : ℕ} {ends : List Ends} {v : Rings} {r : ℕ} {e : Ends} → IsRing slots c ends v r e → (flit : Flit) → 0 < e.len → flit ≡ get_or slots (r * c + e.head) flit
-    → ring_at v r ≡ flit ∷ drop 1 (ring_at v r)
-front-is {slots} {c} {ends} {v} {r} {e} ring flit some was =
-    let s : (get_or ends r no_ends).len ≡ e.len = ap (λ (x : Ends). x.len) ring.at in
-    let h : (get_or ends r no_ends).head ≡ e.head = ap (λ (x : Ends). x.head) ring.at in
-    let whole : ring_at v r ≡ ring_of slots c ends r = ring_at-is slots c ends v r ring.is_view ring.inside in
-    let parts = ring_in-pop slots (r * c) c (get_or ends r no_ends).head (get_or ends r no_ends).len (ring.is_bank.heads r ring.inside) (omega arith) (ring.is_bank.lens r ring.inside) in
+pub front-is : {slots : List Flit} {c many : ℕ} {ends : List Ends} {v : Rings} {r : ℕ} → IsRing slots c many ends v r → (flit : Flit) → 0 < (get_or ends r no_ends).len
+    → flit ≡ get_or slots (r * c + (get_or ends r no_ends).head) flit → ring_at v r ≡ flit ∷ drop 1 (ring_at v r)
+front-is {slots} {c} {many} {ends} {v} {r} ring flit some was =
+    let h : ℕ = (get_or ends r no_ends).head in
+    let n : ℕ = (get_or ends r no_ends).len in
+    let whole : ring_at v r ≡ ring_of slots c ends r = ring_at-is slots c many ends v r ring.is_view ring.inside in
+    let parts = ring_in-pop slots (r * c) c h n ring.head_below some ring.len_within in
     whole ∙ parts
-    ∙ ap (λ k. get_or slots (r * c + k) blank ∷ ring_in slots (r * c) c (((get_or ends r no_ends).head + 1) % c) ((get_or ends r no_ends).len - 1)) h
-    ∙ ap (λ x. x ∷ ring_in slots (r * c) c (((get_or ends r no_ends).head + 1) % c) ((get_or ends r no_ends).len - 1))
-    (sym (get_or_read slots (r * c + e.head) flit (slot ring e.head ring.head_below) was blank))
+    ∙ ap (λ x. x ∷ ring_in slots (r * c) c ((h + 1) % c) (n - 1)) (sym (get_or_read slots (r * c + h) flit (slot ring h ring.head_below) was blank))
     ∙ ap (λ xs. flit ∷ xs) (sym (ap (drop 1) (whole ∙ parts)))
 
 -- the ring that is left after a pop
@@ -218,25 +203,24 @@ pub ring_at-popped : (v : Rings) (r : ℕ) → r < length v.rings → ring_at (p
 ring_at-popped v r l = get_or-set_same v.rings r (drop 1 (ring_at v r)) [] l
 
 -- ---- a new bank
-pub new-is : (n c : ℕ) (ends : List Ends) (slots : List Flit) → 0 < c → ends ≡ replicate n no_ends → bank_of slots c ends ≡ empty_rings n c
-new-is n c ends slots some is =
-    let m : length ends ≡ n = ap length is ∙ length-replicate n no_ends in
-    let k : length (rings_of slots c ends) ≡ length ends = length-rings_of slots c ends in
+pub new-is : (n c : ℕ) (ends : List Ends) (slots : List Flit) → n ≤ 56 → ends ≡ replicate 56 no_ends → bank_of slots c n ends ≡ empty_rings n c
+new-is n c ends slots few is =
+    let k : length (rings_of slots c n ends) ≡ n = length-rings_of slots c n ends in
     let j : length (replicate n (let none : List Flit = [] in none)) ≡ n = length-replicate n (let none : List Flit = [] in none) in
     ap (λ (rs : List (List Flit)). let w : Rings = record { rings = rs; capacity = c } in w)
-    (ext_get_or [] (rings_of slots c ends) (replicate n []) (k ∙ m ∙ sym j)
+    (ext_get_or [] (rings_of slots c n ends) (replicate n []) (k ∙ sym j)
     (λ r l. let u : r < n = omega arith in
-    get_or-rings_of slots c ends r (omega arith)
-    ∙ ap (λ (x : Ends). ring_in slots (r * c) c x.head x.len) (ap (λ es. get_or es r no_ends) is ∙ get_or-replicate n r no_ends no_ends u)
+    get_or-rings_of slots c n ends r u
+    ∙ ap (λ (x : Ends). ring_in slots (r * c) c x.head x.len) (ap (λ es. get_or es r no_ends) is ∙ get_or-replicate 56 r no_ends no_ends (omega arith))
     ∙ sym (get_or-replicate n r [] [] u)))
 
-pub new-fits : (n c : ℕ) (ends : List Ends) (slots : List Flit) → n ≤ 56 → 0 < c → c ≤ 16 → ends ≡ replicate n no_ends → slots ≡ replicate (n * c) blank → IsBank slots c ends
+pub new-fits : (n c : ℕ) (ends : List Ends) (slots : List Flit) → n ≤ 56 → 0 < c → c ≤ 16 → ends ≡ replicate 56 no_ends → length slots ≡ n * c → IsBank slots c n ends
 new-fits n c ends slots l some small is all =
-    let m : length ends ≡ n = ap length is ∙ length-replicate n no_ends in
-    let each : (r : ℕ) → r < length ends → get_or ends r no_ends ≡ no_ends = λ r u. ap (λ es. get_or es r no_ends) is ∙ get_or-replicate n r no_ends no_ends (omega arith) in
+    let each : (r : ℕ) → r < n → get_or ends r no_ends ≡ no_ends = λ r u. ap (λ es. get_or es r no_ends) is ∙ get_or-replicate 56 r no_ends no_ends (omega arith) in
     record {
-      whole = ap length all ∙ length-replicate (n * c) blank ∙ ap (λ k. k * c) (sym m);
-      rings = omega arith;
+      whole = all;
+      rings = l;
+      table = ap length is ∙ length-replicate 56 no_ends;
       some = some;
       small = small;
       heads = λ r u. let h : (get_or ends r no_ends).head ≡ 0 = ap (λ (x : Ends). x.head) (each r u) in omega arith;
@@ -244,25 +228,26 @@ new-fits n c ends slots l some small is all =
     }
 
 -- a write keeps a bank
-pub set-fits : (slots : List Flit) (c : ℕ) (ends : List Ends) (r p : ℕ) (flit : Flit) (e : Ends) → IsBank slots c ends → r < length ends → e.head < c → e.len ≤ c
-    → IsBank (set slots p flit) c (set ends r e)
-set-fits slots c ends r p flit e bank l head len =
+pub set-fits : (slots : List Flit) (c many : ℕ) (ends : List Ends) (r p : ℕ) (flit : Flit) (e : Ends) → IsBank slots c many ends → r < many → e.head < c → e.len ≤ c
+    → IsBank (set slots p flit) c many (set ends r e)
+set-fits slots c many ends r p flit e bank l head len =
     let n : length (set ends r e) ≡ length ends = length-set ends r e in
     let m : length (set slots p flit) ≡ length slots = length-set slots p flit in
     record {
-      whole = m ∙ bank.whole ∙ ap (λ k. k * c) (sym n);
-      rings = omega (arith, bank.rings);
+      whole = m ∙ bank.whole;
+      rings = bank.rings;
+      table = n ∙ bank.table;
       some = bank.some;
       small = bank.small;
-      heads = λ q u. at (λ (x : Ends). x.head < c) q (omega arith) head (bank.heads q (omega arith)) (cases_eq q r);
-      lens = λ q u. at (λ (x : Ends). x.len ≤ c) q (omega arith) len (bank.lens q (omega arith)) (cases_eq q r);
+      heads = λ q u. at (λ (x : Ends). x.head < c) q head (bank.heads q u) (cases_eq q r);
+      lens = λ q u. at (λ (x : Ends). x.len ≤ c) q len (bank.lens q u) (cases_eq q r);
     }
   where
-    at : (P : Ends → Type 0) (q : ℕ) → q < length ends → P e → P (get_or ends q no_ends) → (q ≡ r) ⊎ (q ≡ r → ⊥) → P (get_or (set ends r e) q no_ends)
-    at P q u new old (inl same) = subst P (sym (ap (λ i. get_or (set ends r e) i no_ends) same ∙ get_or-set_same ends r e no_ends l)) new
-    at P q u new old (inr other) = subst P (sym (get_or-set_other ends r q e no_ends other)) old
+    at : (P : Ends → Type 0) (q : ℕ) → P e → P (get_or ends q no_ends) → (q ≡ r) ⊎ (q ≡ r → ⊥) → P (get_or (set ends r e) q no_ends)
+    at P q new old (inl same) = subst P (sym (ap (λ i. get_or (set ends r e) i no_ends) same ∙ get_or-set_same ends r e no_ends (omega (arith, bank.rings, bank.table)))) new
+    at P q new old (inr other) = subst P (sym (get_or-set_other ends r q e no_ends other)) old
 
-pub set-ends_fits : (slots : List Flit) (c : ℕ) (ends : List Ends) (r : ℕ) (e : Ends) → IsBank slots c ends → r < length ends → e.head < c → e.len ≤ c
-    → IsBank slots c (set ends r e)
-set-ends_fits slots c ends r e bank l head len =
-    subst (λ (s : List Flit). IsBank s c (set ends r e)) (set-get_or slots 0 blank) (set-fits slots c ends r 0 (get_or slots 0 blank) e bank l head len)
+pub set-ends_fits : (slots : List Flit) (c many : ℕ) (ends : List Ends) (r : ℕ) (e : Ends) → IsBank slots c many ends → r < many → e.head < c → e.len ≤ c
+    → IsBank slots c many (set ends r e)
+set-ends_fits slots c many ends r e bank l head len =
+    subst (λ (s : List Flit). IsBank s c many (set ends r e)) (set-get_or slots 0 blank) (set-fits slots c many ends r 0 (get_or slots 0 blank) e bank l head len)

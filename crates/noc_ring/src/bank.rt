@@ -4,9 +4,13 @@ ghost use Rattle.std.specs.Prelude.{◌≡◌, ◌+◌, ◌*◌, ◌%◌, ◌<�
 ghost use Rattle.std.specs.List.{slice_get};
 ghost use Rattle.noc_ring.specs.Rings.{empty_rings, ring_at, pushed, popped};
 
+use crate::places::Places;
 use noc_packet::{Flit, Memory};
 use std::alloc::Global;
 use std::marker::Model;
+
+/// The most rings of a bank.
+const MOST_RINGS: usize = 56;
 
 /// Where a ring begins in its slots, and how many flits it has.
 #[derive(Clone, Copy, Debug)]
@@ -18,8 +22,9 @@ struct Ends {
 /// First-in first-out buffers of flits: 1 to 56 rings, each of the same 1 to 16 places.
 #[derive(Debug, Drop)]
 pub struct Bank {
-    slots: Vec<Flit>,
-    ends: Vec<Ends>,
+    places: Places,
+    ends: [Ends; MOST_RINGS],
+    rings: usize,
     capacity: usize,
 }
 
@@ -28,21 +33,12 @@ impl Model for Bank {
 
     ghost Value = { Rings };
 
-    ghost use Rattle.noc_ring.specs.Slots.{rings_of, IsBank};
+    ghost use Rattle.noc_ring.specs.Slots.{rings_of, IsBank, AreHeld};
 
-    ghost view = { λ b. record { rings = rings_of b.slots.items b.capacity b.ends.items; capacity = b.capacity } };
+    ghost view = { λ b. record { rings = rings_of b.places.flits b.capacity b.rings b.ends; capacity = b.capacity } };
 
-    ghost invariant = { λ b. IsBank b.slots.items b.capacity b.ends.items };
+    ghost invariant = { λ b. IsBank b.places.flits b.capacity b.rings b.ends × AreHeld b.places.filled b.capacity b.rings b.ends };
 }
-
-/// What a slot holds before a flit is put there.
-const BLANK: Flit = Flit {
-    packet: 0,
-    index: 0,
-    last: false,
-    dst: 0,
-    class: 0,
-};
 
 /// The place in a ring, for a place that may be past the ring's end once.
 fn wrapped(place: usize, capacity: usize) -> usize
@@ -65,11 +61,10 @@ impl Bank {
         requires capacity { capacity ≤ 16 }
         ensures { IfOk result (λ b. b ≡ empty_rings rings capacity) }
     {
-        let slots = vec![in alloc; BLANK; rings * capacity]?;
-        let ends = vec![in alloc; Ends { head: 0, len: 0 }; rings]?;
         Ok(Bank {
-            slots,
-            ends,
+            places: Places::new(alloc, rings * capacity)?,
+            ends: [Ends { head: 0, len: 0 }; MOST_RINGS],
+            rings,
             capacity,
         })
     }
@@ -80,7 +75,8 @@ impl Bank {
         ensures count { result ≡ length (ring_at self.now ring) }
         ensures fits { result ≤ self.now.capacity }
     {
-        self.ends[ring].len as usize
+        let ends = &self.ends;
+        ends[ring].len as usize
     }
 
     /// Whether the ring has no place left.
@@ -96,11 +92,12 @@ impl Bank {
         requires { ring < length self.now.rings }
         ensures { result ≡ slice_get (ring_at self.now ring) 0 }
     {
+        let capacity = self.capacity;
         let ends = self.ends[ring];
         if ends.len == 0 {
             return None;
         }
-        Some(self.slots[ring * self.capacity + ends.head as usize])
+        Some(self.places.get(ring * capacity + ends.head as usize))
     }
 
     /// Puts a flit behind those of the ring, which is not full.
@@ -109,9 +106,10 @@ impl Bank {
         requires room { length (ring_at self.old ring) < self.old.capacity }
         ensures { self.new ≡ pushed self.old ring flit }
     {
+        let capacity = self.capacity;
         let ends = self.ends[ring];
-        let place = wrapped(ends.head as usize + ends.len as usize, self.capacity);
-        self.slots[ring * self.capacity + place] = flit;
+        let place = wrapped(ends.head as usize + ends.len as usize, capacity);
+        self.places.put(ring * capacity + place, flit);
         self.ends[ring] = Ends {
             head: ends.head,
             len: ends.len + 1,
@@ -125,10 +123,11 @@ impl Bank {
         ensures first { ring_at self.old ring ≡ result ∷ ring_at self.new ring }
         ensures rest { self.new ≡ popped self.old ring }
     {
+        let capacity = self.capacity;
         let ends = self.ends[ring];
-        let flit = self.slots[ring * self.capacity + ends.head as usize];
+        let flit = self.places.take(ring * capacity + ends.head as usize);
         self.ends[ring] = Ends {
-            head: wrapped(ends.head as usize + 1, self.capacity) as u8,
+            head: wrapped(ends.head as usize + 1, capacity) as u8,
             len: ends.len - 1,
         };
         flit

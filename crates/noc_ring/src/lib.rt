@@ -2,6 +2,7 @@
 #![tactic(auto)]
 
 mod bank;
+mod places;
 #[cfg(test)]
 mod tests;
 

@@ -1,0 +1,127 @@
+//! The memory of a bank: places for flits in one block, empty until a flit is put there.
+
+ghost use Rattle.std.specs.Prelude.{◌≡◌, ℕ, ◌<◌, ◌≤◌, true, false, length, IfOk, slice_set, slice_index_or};
+ghost use Rattle.std.specs.Mem.Slots.{slots_items, slots_filled, slots_ptr, slots_len, lease_ptr, lease_len, lease_heap};
+
+use core::slots::{Lease, Slots, release, reserve};
+use noc_packet::{Flit, Memory};
+use std::alloc::Global;
+use std::fmt;
+use std::marker::{Model, Send, Sync};
+
+/// A flit for the list below alone: nothing puts it into a bank.
+const BLANK: Flit = Flit {
+    packet: 0,
+    index: 0,
+    last: false,
+    dst: 0,
+    class: 0,
+};
+
+/// The most places of a bank: 56 rings of 16.
+const MOST: usize = 896;
+
+/// `reserve` takes the number of places from the length of a list, and reads nothing else of it.
+static AS_MANY: [Flit; MOST] = [BLANK; MOST];
+
+/// One block of memory for flits, and the right to free it.
+struct Block {
+    slots: Slots<Flit>,
+    lease: Lease<Flit, Global>,
+    alloc: Global,
+    ghost leased: { (lease_ptr lease ≡ slots_ptr slots) × (lease_len lease ≡ slots_len slots) × (lease_heap lease ≡ alloc) },
+}
+
+/// Places for flits in one block of memory, each of which is empty or holds a flit. The drop frees the block.
+pub(crate) struct Places {
+    block: Block,
+}
+
+impl Model for Places {
+    ghost use Rattle.std.specs.Mem.Slots.{slots_items, slots_filled};
+    ghost use base.Fml.{ftrue};
+    ghost use Rattle.noc_ring.specs.Slots.{Held};
+
+    ghost Value = { Held };
+
+    ghost view = { λ p. record { flits = slots_items p.block.slots; filled = slots_filled p.block.slots } };
+
+    // It owns what its block owns. A struct with this member may go to another thread by a proof of its own.
+    ghost also_owns = { λ _. ftrue };
+
+    ghost also_shares = { λ _ _ _. ftrue };
+}
+
+// What it owns names no thread.
+unsafe impl Send for Places {}
+
+unsafe impl Sync for Places {}
+
+impl Places {
+    fn of(block: Block) -> Places
+        ensures { (result.flits ≡ slots_items block.slots) × (result.filled ≡ slots_filled block.slots) }
+    {
+        Places { block }
+    }
+
+    /// So many empty places, at most 896. The error is for want of memory alone.
+    pub(crate) fn new(alloc: Global, count: usize) -> Result<Places, Memory>
+        requires { count ≤ 896 }
+        ensures { IfOk result (λ p. (length p.flits ≡ count) × (length p.filled ≡ count)) }
+    {
+        // `unsafe`, since a value in a place is forgotten when another is put there or the block goes. A flit is plain data.
+        let (slots, lease) = unsafe { reserve(&alloc, &AS_MANY[..count])? };
+        Ok(Places::of(Block {
+            slots,
+            lease,
+            alloc,
+        }))
+    }
+
+    /// The flit that a place holds.
+    pub(crate) fn get(&self, place: usize) -> Flit
+        requires place { place < length self.now.flits }
+        requires holds { slice_index_or self.now.filled place false ≡ true }
+        ensures { result ≡ slice_index_or self.now.flits place result }
+    {
+        *self.block.slots.get(place)
+    }
+
+    /// Puts a flit at a place.
+    pub(crate) fn put(&mut self, place: usize, flit: Flit)
+        requires { place < length self.old.flits }
+        ensures flits { self.new.flits ≡ slice_set self.old.flits place flit }
+        ensures filled { self.new.filled ≡ slice_set self.old.filled place true }
+    {
+        self.block.slots.put(place, flit);
+    }
+
+    /// Takes the flit that a place holds, and leaves the place empty.
+    pub(crate) fn take(&mut self, place: usize) -> Flit
+        requires place { place < length self.old.flits }
+        requires holds { slice_index_or self.old.filled place false ≡ true }
+        ensures value { result ≡ slice_index_or self.old.flits place result }
+        ensures flits { self.new.flits ≡ self.old.flits }
+        ensures filled { self.new.filled ≡ slice_set self.old.filled place false }
+    {
+        self.block.slots.take(place)
+    }
+}
+
+impl fmt::Debug for Places {
+    fn fmt<W: fmt::Write>(&self, f: &mut fmt::Formatter<W>) -> fmt::Result {
+        f.write_str("Places")
+    }
+}
+
+impl Drop for Places {
+    fn drop(self) {
+        let Places { block } = self;
+        let Block {
+            slots,
+            lease,
+            alloc,
+        } = block;
+        release(&alloc, slots, lease);
+    }
+}
