@@ -5,7 +5,7 @@ use Rattle.noc_topo.specs.Shape.{Grid}
 use Rattle.noc_route.specs.Routes.{Routes}
 use Rattle.noc_net.specs.Network.{Run, Setup}
 use Rattle.noc_rank.specs.Formulas.{IsGenerated}
-use Rattle.noc_rank.specs.Ranking.{Ranking}
+use Rattle.noc_route.specs.Ranks.{Ranking}
 use Rattle.noc_files.specs.Configuration.{Settings}
 use Rattle.noc_files.specs.Findings.{findings_text}
 use Rattle.noc_files.specs.Joined.{SplitsAt, line_at}

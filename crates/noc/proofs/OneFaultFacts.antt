@@ -10,7 +10,7 @@ use Rattle.noc_route.specs.declared.rule.Rule.{Rule}
 use Rattle.noc_net.specs.Faults.{fault_of}
 use Rattle.noc_net.specs.Network.{Run, Setup}
 use Rattle.noc_rank.specs.Formulas.{IsFaultOfFormula}
-use Rattle.noc_rank.specs.Ranking.{Ranking}
+use Rattle.noc_route.specs.Ranks.{Ranking}
 use Rattle.noc_rank.specs.Rising.{IsFaultOfCheck}
 use Rattle.noc_rank.specs.Rows.{IsFaultOfRows, IsRankingOf}
 use Rattle.noc_rank.specs.declared.fault.RankFault.{RankFault}

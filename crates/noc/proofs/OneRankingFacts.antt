@@ -6,7 +6,7 @@ use Rattle.std.proofs.lemmas.List.{ext_get_or}
 use Rattle.noc_topo.specs.Shape.{Grid, IsGrid, nodes, local_port}
 use Rattle.noc_route.specs.Channel.{arrival_of, channel_vc, Link}
 use Rattle.noc_route.specs.Order.{numbers_before}
-use Rattle.noc_route.specs.Ranks.{rank_of}
+use Rattle.noc_route.specs.Ranks.{rank_of, Ranking, is_place, places, rank_at, IsRankedBy}
 use Rattle.noc_route.specs.Routes.{Routes, permits_at, is_sent}
 use Rattle.noc_route.specs.declared.rule.Entry.{Entry}
 use Rattle.noc_route.specs.declared.rule.Rule.{Rule}
@@ -14,8 +14,8 @@ use Rattle.noc_route.specs.declared.rule.RouteRow.{RouteRow}
 use Rattle.noc_route.proofs.BuiltLemmas.{same-channel}
 use Rattle.noc_route.proofs.OneFaultLemmas.{one_place, one_row}
 use Rattle.noc_rank.specs.Formulas.{IsGenerated, IsFaultOfFormula}
-use Rattle.noc_rank.specs.Ranking.{Ranking, IsRanking, is_place, places, rank_at}
-use Rattle.noc_rank.specs.Rising.{IsFall, IsFirstFall, IsRankedBy, IsFaultOfCheck, step_of}
+use Rattle.noc_rank.specs.Ranking.{IsRanking}
+use Rattle.noc_rank.specs.Rising.{IsFall, IsFirstFall, IsFaultOfCheck, step_of}
 use Rattle.noc_rank.specs.Rows.{AreGood, IsFirstRowFault, IsFirstMissing, IsFaultOfRows, IsRankingOf, row_fault}
 use Rattle.noc_rank.specs.declared.fault.RankFault.{RankFault}
 use Rattle.noc_rank.specs.declared.fault.RankFault.TheVariants.{NoGenerated, NotRising, Memory, UnknownChannel, DoubleChannel, BadRank, MissingChannel}

@@ -2,7 +2,7 @@
 use Rattle.std.specs.Prelude.{◌≡◌, ℕ, ◌<◌, Bool, true, false, List, length, codes, Some, Ok, Err}
 use Rattle.noc_route.specs.Routes.{Routes}
 use Rattle.noc_net.specs.Network.{Run}
-use Rattle.noc_rank.specs.Ranking.{Ranking}
+use Rattle.noc_route.specs.Ranks.{Ranking}
 use Rattle.noc_rank.specs.declared.fault.RankFault.{RankFault}
 use Rattle.noc_files.specs.Configuration.{Settings}
 use Rattle.noc_files.specs.Findings.{findings_text}

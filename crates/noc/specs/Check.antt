@@ -2,8 +2,8 @@
 use Rattle.std.specs.Prelude.{◌≡◌, List, [], Option, Some, None, Ok, Err, unwrap_or}
 use Rattle.std.specs.Option.{IfSome}
 use Rattle.noc_route.specs.Routes.{Routes}
-use Rattle.noc_rank.specs.Ranking.{Ranking}
-use Rattle.noc_rank.specs.Rising.{IsRankedBy, IsFaultOfCheck}
+use Rattle.noc_route.specs.Ranks.{Ranking, IsRankedBy}
+use Rattle.noc_rank.specs.Rising.{IsFaultOfCheck}
 use Rattle.noc_rank.specs.Rows.{IsRankingOf, IsFaultOfRows}
 use Rattle.noc_rank.specs.declared.fault.RankFault.{RankFault}
 use Rattle.noc_rank.specs.declared.rows.RankRow.{RankRow}

@@ -4,7 +4,7 @@ use Rattle.std.specs.Option.{MatchOption}
 use Rattle.noc_topo.specs.Shape.{Grid}
 use Rattle.noc_route.specs.declared.rule.Rule.{Rule}
 use Rattle.noc_rank.specs.Formulas.{IsGenerated, IsFaultOfFormula}
-use Rattle.noc_rank.specs.Ranking.{Ranking}
+use Rattle.noc_route.specs.Ranks.{Ranking}
 use Rattle.noc_rank.specs.declared.fault.RankFault.{RankFault}
 use Rattle.noc_rank.specs.declared.fault.RankFault.TheVariants.{NoGenerated}
 use Rattle.noc_files.specs.Configuration.{Settings}

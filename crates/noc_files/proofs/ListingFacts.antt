@@ -7,7 +7,8 @@ use Rattle.std.proofs.lemmas.Bool.Decides.{nat_tests}
 use Rattle.std.proofs.lemmas.List.Concat.{flat_map_single}
 use Rattle.std.proofs.lemmas.List.Folds.{flat_map-map}
 use Rattle.noc_route.specs.Order.{numbers_before}
-use Rattle.noc_rank.specs.Ranking.{IsRanking, Ranking, is_channel}
+use Rattle.noc_route.specs.Ranks.{Ranking, is_channel}
+use Rattle.noc_rank.specs.Ranking.{IsRanking}
 use Rattle.noc_rank.specs.declared.rows.RankRow.{RankRow}
 use Rattle.noc_topo.specs.Shape.{Grid, local_port, neighbour, nodes}
 use Rattle.noc_topo.specs.Words.{below, Each, Has, Pairs}

@@ -3,7 +3,7 @@ use Rattle.std.proofs.Common.{◌≡◌, ℕ, true, false, List, [], ◌∷◌, 
 use Rattle.std.proofs.lemmas.Grind.{flat_map-append}
 use Rattle.std.proofs.lemmas.List.Folds.{flat_map-map}
 use Rattle.std.specs.Prelude.{is_some}
-use Rattle.noc_rank.specs.Ranking.{Ranking}
+use Rattle.noc_route.specs.Ranks.{Ranking}
 use Rattle.noc_rank.specs.declared.rows.RankRow.{RankRow}
 use Rattle.noc_topo.specs.Shape.{Grid, local_port, neighbour, nodes}
 use Rattle.noc_topo.specs.Words.{below}

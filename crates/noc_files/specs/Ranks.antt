@@ -3,7 +3,7 @@ use Rattle.std.specs.Prelude.{◌≡◌, ℕ, ◌==◌, Bool, true, decimal, map
 use Rattle.std.specs.List.{flat_map}
 use Rattle.noc_topo.specs.Shape.{Grid, local_port, neighbour, nodes}
 use Rattle.noc_topo.specs.Words.{below, Each, Has, Pairs}
-use Rattle.noc_rank.specs.Ranking.{Ranking, is_channel, rank_at}
+use Rattle.noc_route.specs.Ranks.{Ranking, is_channel, rank_at}
 use Rattle.noc_route.specs.Order.{numbers_before}
 use Rattle.noc_rank.specs.declared.rows.RankRow.{RankRow}
 use Rattle.noc_files.specs.declared.fault.InputFault.{InputFault}

@@ -10,7 +10,8 @@ use Rattle.noc_route.specs.declared.rule.Rule.{Rule}
 use Rattle.noc_route.specs.declared.rule.Rule.TheVariants.{Dateline, WestFirst}
 use Rattle.noc_route.proofs.PlaceLemmas.{half-some}
 use Rattle.noc_rank.specs.declared.rows.TheConstants.{MAX_RANK}
-use Rattle.noc_rank.specs.Ranking.{Ranking, IsRanking, is_place, is_channel, places, place_of, rank_at}
+use Rattle.noc_route.specs.Ranks.{Ranking, is_place, is_channel, places, place_of, rank_at}
+use Rattle.noc_rank.specs.Ranking.{IsRanking}
 use Rattle.noc_rank.specs.Formulas.{has_ranks, formula_at, IsGenerated}
 use Rattle.noc_rank.proofs.PlaceLemmas.{is_place-parts, is_channel-place, place-below, place-router, place-port, place-vc}
 

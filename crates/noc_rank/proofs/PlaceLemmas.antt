@@ -7,7 +7,7 @@ use Rattle.noc_topo.specs.Shape.{Grid, nodes, local_port, neighbour}
 use Rattle.noc_topo.proofs.LinkLemmas.{IsWithin}
 use Rattle.noc_route.specs.Order.{numbers_before}
 use Rattle.noc_route.proofs.PlaceLemmas.{flat-below, flat-div, flat-mod}
-use Rattle.noc_rank.specs.Ranking.{is_place, is_channel, places, place_of}
+use Rattle.noc_route.specs.Ranks.{is_place, is_channel, places, place_of}
 
 -- ---- numbers with digits of different bases
 

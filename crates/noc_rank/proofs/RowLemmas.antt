@@ -12,7 +12,8 @@ use Rattle.noc_rank.specs.declared.rows.RankRow.{RankRow}
 use Rattle.noc_rank.specs.declared.rows.TheConstants.{MAX_RANK}
 use Rattle.noc_rank.specs.declared.fault.RankFault.{RankFault}
 use Rattle.noc_rank.specs.declared.fault.RankFault.TheVariants.{NoGenerated, NotRising, Memory, UnknownChannel, BadRank, DoubleChannel, MissingChannel}
-use Rattle.noc_rank.specs.Ranking.{Ranking, IsRanking, is_place, is_channel, places, place_of, rank_at}
+use Rattle.noc_route.specs.Ranks.{Ranking, is_place, is_channel, places, place_of, rank_at}
+use Rattle.noc_rank.specs.Ranking.{IsRanking}
 use Rattle.noc_rank.specs.Rows.{is_rank, is_row_of, has_row, rank_in, fault_of, row_fault, AreGood, IsFirstRowFault, IsFirstMissing, IsFaultOfRows, IsRankingOf}
 use Rattle.noc_rank.specs.Entered.{IsRight, IsEntered, IsWhole, IsFirstGap}
 use Rattle.noc_rank.proofs.PlaceLemmas.{is_place-parts, is_channel-place, place-below, place-vc, place-port, place-router, place-again, place-before}

@@ -5,7 +5,7 @@ use Rattle.noc_topo.specs.Words.{Each}
 use Rattle.noc_rank.specs.declared.rows.RankRow.{RankRow}
 use Rattle.noc_rank.specs.declared.fault.RankFault.{RankFault}
 use Rattle.noc_rank.specs.declared.fault.RankFault.TheVariants.{MissingChannel}
-use Rattle.noc_rank.specs.Ranking.{is_place, is_channel, places, place_of}
+use Rattle.noc_route.specs.Ranks.{is_place, is_channel, places, place_of}
 use Rattle.noc_rank.specs.Rows.{is_rank, rank_in, AreGood}
 
 -- a row names a link channel, with a rank within the limits

@@ -6,7 +6,7 @@ use Rattle.noc_route.specs.Routes.{Routes, set_at}
 use Rattle.noc_rank.specs.declared.rising.Fall.{Fall}
 use Rattle.noc_rank.specs.declared.fault.RankFault.{RankFault}
 use Rattle.noc_rank.specs.declared.fault.RankFault.TheVariants.{NotRising}
-use Rattle.noc_rank.specs.Ranking.{Ranking, rank_at}
+use Rattle.noc_route.specs.Ranks.{Ranking, rank_at}
 
 -- the rank of an input channel: that of the link channel that arrives there, or 0 at the local port; none without a link
 abbrev pub arrival_rank : Ranking → ℕ → ℕ → ℕ → Option ℕ

@@ -6,7 +6,8 @@ use Rattle.noc_route.specs.declared.rule.Rule.{Rule}
 use Rattle.noc_route.specs.declared.rule.Rule.TheVariants.{Dor, Dateline, WestFirst, Rows}
 use Rattle.noc_rank.specs.declared.fault.RankFault.{RankFault}
 use Rattle.noc_rank.specs.declared.fault.RankFault.TheVariants.{NoGenerated, Memory}
-use Rattle.noc_rank.specs.Ranking.{Ranking, IsRanking, is_channel, rank_at}
+use Rattle.noc_route.specs.Ranks.{Ranking, is_channel, rank_at}
+use Rattle.noc_rank.specs.Ranking.{IsRanking}
 
 -- whether a relation of this rule can be made, and the rule has ranks by formula: dimension order on a mesh alone, a table never
 abbrev pub has_ranks : Grid → ℕ → ℕ → Rule → Bool

@@ -1,20 +1,13 @@
--- Ranks that rise along a relation (Dally and Towles, chapter 14).
-use Rattle.std.specs.Prelude.{◌≡◌, ℕ, ◌<◌, ◌≤◌, false, Some, IsTrue, ⊤}
+-- Steps at which ranks do not rise (Dally and Towles, chapter 14).
+use Rattle.std.specs.Prelude.{◌≡◌, ℕ, ◌≤◌, false, Some, IsTrue, ⊤}
 use Rattle.noc_route.specs.Channel.{Channel, Link, arrival_of, channel_vc}
 use Rattle.noc_route.specs.Order.{numbers_before, row_numbers}
-use Rattle.noc_route.specs.Ranks.{rank_of}
+use Rattle.noc_route.specs.Ranks.{rank_of, Ranking, rank_at}
 use Rattle.noc_route.specs.Routes.{Routes, permits}
 use Rattle.noc_route.specs.declared.rule.RouteRow.{RouteRow}
 use Rattle.noc_route.specs.declared.rule.Entry.{Entry}
 use Rattle.noc_rank.specs.declared.fault.RankFault.{RankFault}
 use Rattle.noc_rank.specs.declared.fault.RankFault.TheVariants.{NotRising, Memory}
-use Rattle.noc_rank.specs.Ranking.{Ranking, rank_at}
-
--- each step onto a link channel that the relation permits rises; an injection channel counts as 0
-abbrev pub IsRankedBy : Routes → Ranking → Type 0
-IsRankedBy routes k =
-    (m : ℕ) (c : Channel) (t r p v : ℕ) → IsTrue (permits routes m c t (Link r p v))
-    → rank_of (rank_at k) c < rank_at k r p v
 
 -- a packet that came to this entry, on a channel of rank `before`, may go on by this link channel, whose rank `after` is not greater
 pub record IsFall (routes : Routes) (k : Ranking) (step : RouteRow) (before after : ℕ) : Type 0 where

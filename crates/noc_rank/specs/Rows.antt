@@ -7,7 +7,8 @@ use Rattle.noc_rank.specs.declared.rows.TheConstants.{MAX_RANK}
 use Rattle.noc_rank.specs.declared.rows.RankRow.{RankRow}
 use Rattle.noc_rank.specs.declared.fault.RankFault.{RankFault}
 use Rattle.noc_rank.specs.declared.fault.RankFault.TheVariants.{Memory, UnknownChannel, DoubleChannel, BadRank, MissingChannel}
-use Rattle.noc_rank.specs.Ranking.{Ranking, IsRanking, is_channel, rank_at}
+use Rattle.noc_route.specs.Ranks.{Ranking, is_channel, rank_at}
+use Rattle.noc_rank.specs.Ranking.{IsRanking}
 
 abbrev pub is_rank : ℕ → Bool
 is_rank n = nat_le 1 n && nat_le n MAX_RANK

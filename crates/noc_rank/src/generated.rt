@@ -4,7 +4,7 @@ ghost use Rattle.std.specs.Prelude.{◌≡◌, ℕ, ◌+◌, ◌*◌, ◌/◌, �
 ghost use Rattle.noc_topo.specs.Shape.{IsGrid, nodes, dimensions, coordinates, local_port};
 ghost use Rattle.noc_packet.specs.declared.limits.TheConstants.{MAX_CHANNELS, MAX_CLASSES};
 ghost use Rattle.noc_route.specs.Relation.{resource_class};
-ghost use Rattle.noc_rank.specs.Ranking.{is_channel, places};
+ghost use Rattle.noc_route.specs.Ranks.{is_channel, places};
 ghost use Rattle.noc_rank.specs.Formulas.{has_ranks, passed_in, west_first_rank, formula, formula_at};
 
 use crate::place::{all_ports, is_channel, link_ports};

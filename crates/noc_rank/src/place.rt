@@ -2,7 +2,7 @@
 
 ghost use Rattle.std.specs.Prelude.{◌≡◌, ℕ, ◌+◌, ◌*◌, ◌/◌, ◌%◌, ◌<◌, ◌≤◌, true};
 ghost use Rattle.noc_topo.specs.Shape.{IsGrid, nodes, local_port};
-ghost use Rattle.noc_rank.specs.Ranking.{is_place, is_channel, places, place_of};
+ghost use Rattle.noc_route.specs.Ranks.{is_place, is_channel, places, place_of};
 
 use noc_topo::Shape;
 

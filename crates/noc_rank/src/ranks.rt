@@ -1,7 +1,8 @@
 //! Ranks of the link channels of a network.
 
 ghost use Rattle.std.specs.Prelude.{◌≡◌, ℕ, ◌<◌, ◌≤◌, IfOk, IfErr, true};
-ghost use Rattle.noc_rank.specs.Ranking.{is_place, is_channel, rank_at, IsRanking};
+ghost use Rattle.noc_route.specs.Ranks.{is_place, is_channel, rank_at};
+ghost use Rattle.noc_rank.specs.Ranking.{IsRanking};
 ghost use Rattle.noc_rank.specs.Formulas.{IsGenerated, IsFaultOfFormula};
 ghost use Rattle.noc_rank.specs.Rows.{IsRankingOf, IsFaultOfRows};
 
@@ -23,7 +24,7 @@ pub struct Ranks {
 }
 
 impl Model for Ranks {
-    ghost use Rattle.noc_rank.specs.Ranking.{Ranking};
+    ghost use Rattle.noc_route.specs.Ranks.{Ranking};
 
     ghost Value = { Ranking };
 

@@ -3,12 +3,9 @@
 ghost use Rattle.std.specs.Prelude.{◌≡◌, ℕ, ◌+◌, ◌*◌, ◌/◌, ◌%◌, ◌<◌, ◌≤◌, OnOk, IfOk, IfErr, IfSome, IfNone, MatchOption, None, length, slice_index_or};
 ghost use Rattle.noc_topo.specs.Shape.{nodes, ports};
 ghost use Rattle.noc_route.specs.Routes.{set_at};
-ghost use Rattle.noc_route.specs.Relation.{Routing};
-ghost use Rattle.noc_route.specs.Built.{IsRelationOf};
-ghost use Rattle.noc_route.specs.Ranks.{IsRanked};
+ghost use Rattle.noc_route.specs.Ranks.{rank_at, IsRankedBy};
 ghost use Rattle.noc_rank.specs.declared.fault.RankFault.TheVariants.{Memory};
-ghost use Rattle.noc_rank.specs.Ranking.{rank_at};
-ghost use Rattle.noc_rank.specs.Rising.{IsRankedBy, IsFaultOfCheck};
+ghost use Rattle.noc_rank.specs.Rising.{IsFaultOfCheck};
 ghost use Rattle.noc_rank.specs.Falls.{fault_of_fall, arrival_rank, falls_to, links, inputs, IsLeastBelow, HasNone, HasNoFall, IsFirstFrom, IsFirstAt, IsFirstOf};
 
 use crate::fault::RankFault;
@@ -38,8 +35,7 @@ pub fn check(
     requires vcs { relation.now.vcs ≡ ranks.now.vcs }
     ensures ok { OnOk result (IsRankedBy relation.now ranks.now) }
     ensures err { IfErr result (IsFaultOfCheck relation.now ranks.now) }
-    ensures ranked { (g : Routing) → IsRelationOf g relation.now → OnOk result (IsRanked g (rank_at ranks.now)) }
-    ensures refused { (g : Routing) → IsRelationOf g relation.now → IsRanked g (rank_at ranks.now) → IfErr result (λ e. e ≡ Memory) }
+    ensures refused { IsRankedBy relation.now ranks.now → IfErr result (λ e. e ≡ Memory) }
 {
     let count = relation.classes()
         * relation.shape().nodes()

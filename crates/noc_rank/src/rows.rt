@@ -1,7 +1,7 @@
 //! Ranks that are given row by row.
 
 ghost use Rattle.std.specs.Prelude.{◌≡◌, ℕ, ◌<◌, ◌≤◌, IfErr, IfSome, IfNone, IsOk, OnOk, OnErr, length, slice_index, true, nat_lt, Some};
-ghost use Rattle.noc_rank.specs.Ranking.{is_place, is_channel, places, place_of};
+ghost use Rattle.noc_route.specs.Ranks.{is_place, is_channel, places, place_of};
 ghost use Rattle.noc_rank.specs.Rows.{is_rank, fault_of, IsFirstRowFault};
 ghost use Rattle.noc_rank.specs.Entered.{IsEntered, IsWhole, IsFirstGap};
 

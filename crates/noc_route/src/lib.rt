@@ -12,6 +12,8 @@ mod rows;
 mod rule;
 mod trim;
 
-pub use laws::{a_rule_has_a_relation_or_a_fault, a_rule_has_one_relation};
+pub use laws::{
+    a_relation_is_ranked_as_its_rule, a_rule_has_a_relation_or_a_fault, a_rule_has_one_relation,
+};
 pub use relation::Relation;
 pub use rule::{Entry, RouteFault, RouteRow, Rule};

@@ -1,5 +1,5 @@
 use Rattle.std.proofs.Common.{◌≡◌, ℕ, ◌<◌, ◌≤◌, ◌/◌, ◌%◌, true, get_or, vec_len}
-use Rattle.noc_rank.specs.Ranking.{is_channel}
+use Rattle.noc_route.specs.Ranks.{is_channel}
 use Rattle.noc_rank.specs.Formulas.{formula_at}
 use Rattle.noc_rank.proofs.generated.formula_ranks.Given as goal
 

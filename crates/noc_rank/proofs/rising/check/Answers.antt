@@ -8,7 +8,7 @@ use Rattle.noc_rank.specs.declared.fault.RankFault.{RankFault}
 use Rattle.noc_rank.specs.declared.rising.Fall.{Fall}
 use Rattle.noc_rank.specs.Rising.{IsFaultOfCheck}
 use Rattle.noc_rank.specs.Falls.{inputs, HasNoFall, IsFirstAt, IsFirstOf}
-use Rattle.noc_rank.proofs.FallLemmas.{AreFirst, count-inputs, check-ok, check-err, IsRanked-of, only_memory}
+use Rattle.noc_rank.proofs.FallLemmas.{AreFirst, count-inputs, check-ok, check-err, only_memory}
 use Rattle.noc_rank.proofs.rising.check.Goals as goal
 
 pub collect-requires-clause-ready : goal.collect-requires-clause-ready
@@ -59,8 +59,5 @@ returns-clause-err g c =
     let P : RankFault → Type 0 = λ e. IsFaultOfCheck relation k e in
     subst P (sym c.fault.ensures) (check-err relation k n h.0 c.in-Some.fall c.requires.shape c.requires.vcs c.vcs.ensures.built.table.grid all first)
 
-pub returns-in-None-clause-ranked : goal.returns-in-None-clause-ranked
-returns-in-None-clause-ranked g c = λ r same. IsRanked-of c.args.relation.now c.args.ranks.now r same (returns-in-None-clause-ok g c)
-
 pub returns-clause-refused : goal.returns-clause-refused
-returns-clause-refused g c = λ r same ranked. only_memory c.args.relation.now c.args.ranks.now r c.fault.result same ranked (returns-clause-err g c)
+returns-clause-refused g c = λ rising. only_memory c.args.relation.now c.args.ranks.now c.fault.result rising (returns-clause-err g c)

@@ -1,5 +1,5 @@
 use Rattle.std.proofs.Common.{◌≡◌, ◌/◌, ◌%◌, true, ℕ, sym, subst, ◌∙◌, arith}
-use Rattle.noc_rank.specs.Ranking.{is_place}
+use Rattle.noc_route.specs.Ranks.{is_place}
 use Rattle.noc_rank.proofs.FallLemmas.{is_place-index}
 use Rattle.noc_rank.proofs.rising.first_from.Goals as goal
 

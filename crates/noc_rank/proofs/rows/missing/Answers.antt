@@ -1,7 +1,7 @@
 use Rattle.std.proofs.Common.{◌≡◌, ◌/◌, ◌%◌, ◌<◌, ◌*◌, true, false, ℕ, sym, subst, ◌∙◌, arith}
 use Rattle.std.proofs.lemmas.Bool.{false≢true}
 use Rattle.noc_topo.specs.Shape.{nodes, local_port}
-use Rattle.noc_rank.specs.Ranking.{is_channel}
+use Rattle.noc_route.specs.Ranks.{is_channel}
 use Rattle.noc_rank.specs.Entered.{IsFirstGap}
 use Rattle.noc_rank.specs.declared.fault.RankFault.TheVariants.{MissingChannel}
 use Rattle.noc_rank.proofs.RowLemmas.{IsWhole-more, IsFirstGap-here, vcs-some}

@@ -1,5 +1,5 @@
 use Rattle.std.proofs.Common.{◌≡◌, length, sym, ◌∙◌, arith}
-use Rattle.noc_rank.specs.Ranking.{places}
+use Rattle.noc_route.specs.Ranks.{places}
 use Rattle.noc_rank.proofs.FormulaLemmas.{IsRanking-listed, IsGenerated-listed}
 use Rattle.noc_rank.proofs.ranks.Ranks.generated.Goals as goal
 
