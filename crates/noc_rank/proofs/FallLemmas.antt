@@ -1,7 +1,6 @@
 -- Steps that do not rise.
-use Rattle.std.proofs.Common.{◌≡◌, ℕ, zero, suc, ◌+◌, ◌*◌, ◌/◌, ◌%◌, ◌<◌, ◌≤◌, Bool, true, false, List, [], ◌∷◌, length, get_or, Option, Some, None, refl, ap, sym, subst, ◌∙◌, arith, inl, inr, zero-add}
+use Rattle.std.proofs.Common.{◌≡◌, ℕ, ◌+◌, ◌*◌, ◌/◌, ◌%◌, ◌<◌, ◌≤◌, Bool, true, false, List, [], ◌∷◌, Option, Some, None, refl, ap, sym, subst, ◌∙◌, arith, inl, inr}
 use Rattle.std.specs.Prelude.{nat_lt, nat_le, nat_eq, ◌&&◌, ◌⊎◌, IfNone, IfSome, MatchOption, option_map, if◌then◌else◌}
-use Rattle.std.specs.List.{range_with_len, AllZip}
 use Rattle.std.proofs.Math.Nat.{div-lt_iff_lt-mul, mul_assoc, mod-lt, zero-mul}
 use Rattle.std.proofs.lemmas.Option.{none-some, same_Some, some_pair_parts}
 use Rattle.std.proofs.lemmas.Bool.{lt-ltb, ltb-true, leb-true, leb-false, le-leb, eqb-true, eq-eqb, ne_eqb, and_parts, false≢true, cases_lt}
@@ -12,14 +11,12 @@ use Rattle.noc_topo.proofs.LinkLemmas.{link_back}
 use Rattle.noc_route.specs.Channel.{Channel, Link, Inject, Eject, arrival_of, channel_vc}
 use Rattle.noc_route.specs.Order.{numbers_before, row_numbers}
 use Rattle.noc_route.specs.Ranks.{rank_of, Ranking, is_place, rank_at, IsRankedBy}
-use Rattle.noc_rank.specs.declared.fault.RankFault.{RankFault}
-use Rattle.noc_rank.specs.declared.fault.RankFault.TheVariants.{NoGenerated, NotRising, Memory, UnknownChannel, DoubleChannel, BadRank, MissingChannel}
 use Rattle.noc_route.specs.Routes.{Routes, is_entry, set_at, is_sent, permits, permits_at}
 use Rattle.noc_route.specs.declared.rule.RouteRow.{RouteRow}
 use Rattle.noc_route.proofs.PlaceLemmas.{flat-below, flat-div, flat-mod}
 use Rattle.noc_rank.specs.declared.rising.Fall.{Fall}
-use Rattle.noc_rank.specs.Rising.{IsFall, IsFirstFall, IsFaultOfCheck}
-use Rattle.noc_rank.specs.Falls.{arrival_rank, falls_to, falls_from, falls_at, links, inputs, class_of, router_of, port_of, IsLeastBelow, HasNone, IsFirstFrom, HasNoFall, IsFirstAt, IsFirstOf}
+use Rattle.noc_rank.specs.Rising.{IsFall, IsFirstFall}
+use Rattle.noc_rank.specs.Falls.{arrival_rank, falls_to, falls_from, falls_at, links, inputs, class_of, router_of, port_of, IsLeastBelow, HasNone, IsFirstFrom, HasNoFall, IsFirstAt}
 use Rattle.noc_rank.proofs.PlaceLemmas.{flat, flat-rises, flat-before, is_place-true, div-mod}
 
 -- ---- numbers of entries
@@ -59,21 +56,6 @@ first_at-match routes k e before v p n o a b c =
     → IfSome o (IsFirstFrom routes k (e / v / p / n) (e / v / p % n) (e / v % p) (e % v) before)
     → MatchOption o (HasNoFall routes k e) (IsFirstAt routes k e) in
     subst (λ x. P x p n) (sym a) (subst (λ x. P k.vcs x n) (sym b) (subst (λ x. P k.vcs (ports k.grid) x) (sym c) (first_at-core routes k e before o)))
-
--- ---- a list of falls
-
--- what is known of each number of a range and the element in its place
-pub at_number : {X : Type 0} (R : ℕ → X → Type 0) (a n : ℕ) (xs : List X) (d : X) → AllZip R (range_with_len a n) xs → (length xs ≡ n) × ((i : ℕ) → i < n → R (a + i) (get_or xs i d))
-at_number R a zero [] d all = (refl, λ i l. absurd (omega arith))
-at_number R a zero (x ∷ xs) d all = absurd all
-at_number R a (suc n) [] d all = absurd all
-at_number R a (suc n) (x ∷ xs) d all =
-    let rest = at_number R (a + 1) n xs d all.1 in
-    (ap suc rest.0, at all.0 rest.1)
-  where
-    at : R a x → ((i : ℕ) → i < n → R (a + 1 + i) (get_or xs i d)) → (i : ℕ) → i < suc n → R (a + i) (get_or (x ∷ xs) i d)
-    at first rest zero l = let same : a ≡ a + zero = omega arith in subst (λ m. R m x) same first
-    at first rest (suc i) l = let same : a + 1 + i ≡ a + suc i = omega arith in subst (λ m. R m (get_or xs i d)) same (rest i (omega arith))
 
 -- ---- the relation over ranks of the same shape
 
@@ -137,7 +119,7 @@ link_rank k r q w a p link e =
     rw away (ap (option_map (λ (from : ℕ × ℕ). rank_at k from.0 from.1 w)) e)
 
 module _ (routes : Routes) (ranks : List ℕ) (sound : IsGrid routes.grid) where
-  abbrev over : Ranking
+  abbrev pub over : Ranking
   over = record { grid = routes.grid; vcs = routes.vcs; ranks = ranks }
 
   step_of : (m : ℕ) (c : Channel) (t r p v : ℕ) → permits routes m c t (Link r p v) ≡ true → IsStep routes over m c t r p v
@@ -401,65 +383,3 @@ module _ (routes : Routes) (ranks : List ℕ) (sound : IsGrid routes.grid) where
       subst (λ s. IsFirstFall routes over s fall.rank fall.next) (sym f.step)
       (subst (λ a. IsFirstFall routes over (step_at_number e f.dst f.index) a fall.next) (sym f.rank)
       (subst (λ b. IsFirstFall routes over (step_at_number e f.dst f.index) at.before b) (sym f.next) whole))
-
--- ---- all entries
-
-pub count-inputs : (k : Ranking) (c n p v : ℕ) → n ≡ nodes k.grid → p ≡ ports k.grid → v ≡ k.vcs → c * n * p * v ≡ c * inputs k
-count-inputs k c n p v node port vcs =
-    ap (λ x. c * x * p * v) node ∙ ap (λ x. c * nodes k.grid * x * v) port ∙ ap (λ x. c * nodes k.grid * ports k.grid * x) vcs
-    ∙ ap (λ x. x * k.vcs) (mul_assoc c (nodes k.grid) (ports k.grid)) ∙ mul_assoc c (nodes k.grid * ports k.grid) k.vcs
-
--- what is known of the first fall of each entry
-abbrev pub AreFirst : Routes → Ranking → ℕ → List (Option Fall) → Type 0
-AreFirst routes k n falls = AllZip (λ e o. MatchOption o (HasNoFall routes k e) (IsFirstAt routes k e)) (range_with_len 0 n) falls
-
-none_at : (routes : Routes) (k : Ranking) (n : ℕ) (falls : List (Option Fall)) (e : ℕ) → AreFirst routes k n falls → e < n → get_or falls e None ≡ None → HasNoFall routes k e
-none_at routes k n falls e all l none =
-    let R : ℕ → Option Fall → Type 0 = λ e o. MatchOption o (HasNoFall routes k e) (IsFirstAt routes k e) in
-    let here : R (0 + e) (get_or falls e None) = (at_number R 0 n falls None all).1 e l in
-    subst (λ m. HasNoFall routes k m) (zero-add e) (subst (R (0 + e)) none here)
-
-some_at : (routes : Routes) (k : Ranking) (n : ℕ) (falls : List (Option Fall)) (e : ℕ) (fall : Fall) → AreFirst routes k n falls → e < n → get_or falls e None ≡ Some fall → IsFirstAt routes k e fall
-some_at routes k n falls e fall all l some =
-    let R : ℕ → Option Fall → Type 0 = λ e o. MatchOption o (HasNoFall routes k e) (IsFirstAt routes k e) in
-    let here : R (0 + e) (get_or falls e None) = (at_number R 0 n falls None all).1 e l in
-    subst (λ m. IsFirstAt routes k m fall) (zero-add e) (subst (R (0 + e)) some here)
-
-length_is : (routes : Routes) (k : Ranking) (n : ℕ) (falls : List (Option Fall)) → AreFirst routes k n falls → length falls ≡ n
-length_is routes k n falls all = (at_number (λ e o. MatchOption o (HasNoFall routes k e) (IsFirstAt routes k e)) 0 n falls None all).0
-
--- the ranks, over the shape and the channels of the relation
-same_over : (routes : Routes) (k : Ranking) (sound : IsGrid routes.grid) → routes.grid ≡ k.grid → routes.vcs ≡ k.vcs → over routes k.ranks sound ≡ k
-same_over routes k sound grid vcs = λ i. record { grid = grid i; vcs = vcs i; ranks = k.ranks }
-
-pub check-ok : (routes : Routes) (k : Ranking) (n : ℕ) (falls : List (Option Fall)) → routes.grid ≡ k.grid → routes.vcs ≡ k.vcs → IsGrid routes.grid → n ≡ routes.classes * inputs k
-    → AreFirst routes k n falls → ((j : ℕ) → j < length falls → get_or falls j None ≡ None) → IsRankedBy routes k
-check-ok routes k n falls grid vcs sound count all none =
-    let P : Ranking → Type 0 = λ x. n ≡ routes.classes * inputs x → AreFirst routes x n falls → IsRankedBy routes x in
-    let core : P (over routes k.ranks sound) = λ m h. ranked routes k.ranks sound
-    (λ e l. let here : e < n = omega (arith, m, l) in none_at routes (over routes k.ranks sound) n falls e h here (none e (omega (arith, here, length_is routes k n falls all)))) in
-    subst P (same_over routes k sound grid vcs) core count all
-
-pub check-err : (routes : Routes) (k : Ranking) (n : ℕ) (falls : List (Option Fall)) (fall : Fall) → routes.grid ≡ k.grid → routes.vcs ≡ k.vcs → IsGrid routes.grid
-    → AreFirst routes k n falls → IsFirstOf falls fall → IsFirstFall routes k fall.step fall.rank fall.next
-check-err routes k n falls fall grid vcs sound all first =
-    let inside : first.place < n = omega (arith, first.inside, length_is routes k n falls all) in
-    let P : Ranking → Type 0 = λ x. AreFirst routes x n falls → IsFirstFall routes x fall.step fall.rank fall.next in
-    let core : P (over routes k.ranks sound) = λ h. first_fall routes k.ranks sound first.place fall (some_at routes (over routes k.ranks sound) n falls first.place fall h inside first.there)
-    (λ f l. none_at routes (over routes k.ranks sound) n falls f h (omega (arith, l, inside)) (first.first f l)) in
-    subst P (same_over routes k sound grid vcs) core all
-
--- ---- ranks that rise
-
--- ranks that rise are refused for want of memory alone
-pub only_memory : (routes : Routes) (k : Ranking) (fault : RankFault) → IsRankedBy routes k → IsFaultOfCheck routes k fault → fault ≡ Memory
-only_memory routes k Memory rising h = refl
-only_memory routes k (NotRising entry port vc before after) rising h =
-    let f = h.fall in
-    let rises : rank_of (rank_at k) f.from < rank_at k entry.router port vc = rising entry.class f.from entry.dst entry.router port vc f.permitted in
-    absurd (omega (arith, rises, f.before_is, f.after_is, f.falls))
-only_memory routes k NoGenerated rising h = absurd h
-only_memory routes k (UnknownChannel i) rising h = absurd h
-only_memory routes k (DoubleChannel i) rising h = absurd h
-only_memory routes k (BadRank i) rising h = absurd h
-only_memory routes k (MissingChannel r p v) rising h = absurd h

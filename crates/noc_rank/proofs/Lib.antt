@@ -6,3 +6,4 @@ pub mod StepLemmas
 pub mod RiseLemmas
 pub mod WestLemmas
 pub mod AcceptedLemmas
+pub mod CheckLemmas
