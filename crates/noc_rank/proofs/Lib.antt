@@ -7,3 +7,4 @@ pub mod RiseLemmas
 pub mod WestLemmas
 pub mod AcceptedLemmas
 pub mod CheckLemmas
+pub mod RingLemmas

@@ -172,6 +172,11 @@ NearerHop-from_step g r p t sound l step =
     one_less : (b a x y : ℕ) → b + x ≡ a + y → y + 1 ≡ x → b + 1 ≡ a
     one_less b a x y e f = omega (arith, e, f)
 
+-- a port of a dimension, counted from the next one
+port-next : (b : Bool) (j i : ℕ) → (if b then 2 * (j + 1 + i) else 2 * (j + 1 + i) + 1) ≡ (if b then 2 * (j + suc i) else 2 * (j + suc i) + 1)
+port-next true j i = omega arith
+port-next false j i = omega arith
+
 -- the dimension of a port of dimension order: the lowest in which the coordinates differ
 pub dor_port_from-some : (wraps : Bool) (j : ℕ) (ks xs ts : List ℕ) (p : ℕ) → dor_port_from wraps j ks xs ts ≡ Some p
     → (i : ℕ) × (i < length ks) × (get_or xs i 0 ≢ get_or ts i 0) × (p ≡ (if goes_up wraps (get_or ks i 0) (get_or xs i 0) (get_or ts i 0) then 2 * (j + i) else 2 * (j + i) + 1))
@@ -191,8 +196,7 @@ dor_port_from-some wraps j (k ∷ ks) (x ∷ xs) (t ∷ ts) p e = at (dor_port_f
     at more (inl same) =
         let like : nat_eq x t ≡ true = eq-eqb x t same in
         let rest = more (sym (rw like refl) ∙ e) in
-        let place : j + 1 + rest.0 ≡ j + suc rest.0 = omega arith in
-        (suc rest.0, omega (arith, rest.1), rest.2, rest.3 ∙ rw place refl, lower same rest.0 rest.4)
+        (suc rest.0, omega (arith, rest.1), rest.2, rest.3 ∙ port-next (goes_up wraps (get_or ks rest.0 0) (get_or xs rest.0 0) (get_or ts rest.0 0)) j rest.0, lower same rest.0 rest.4)
       where
         lower : x ≡ t → (i : ℕ) → ((l : ℕ) → l < i → get_or xs l 0 ≡ get_or ts l 0) → (l : ℕ) → l < suc i → get_or (x ∷ xs) l 0 ≡ get_or (t ∷ ts) l 0
         lower same i rest zero below = same
