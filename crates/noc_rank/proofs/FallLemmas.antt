@@ -1,7 +1,6 @@
 -- Steps that do not rise.
-use Rattle.std.proofs.Common.{◌≡◌, ℕ, zero, suc, ◌+◌, ◌*◌, ◌/◌, ◌%◌, ◌<◌, ◌≤◌, Bool, true, false, List, [], ◌∷◌, length, get_or, Option, Some, None, refl, ap, sym, subst, ◌∙◌, arith, inl, inr, zero-add}
+use Rattle.std.proofs.Common.{◌≡◌, ℕ, ◌+◌, ◌*◌, ◌/◌, ◌%◌, ◌<◌, ◌≤◌, Bool, true, false, List, [], ◌∷◌, Option, Some, None, refl, ap, sym, subst, ◌∙◌, arith, inl, inr}
 use Rattle.std.specs.Prelude.{nat_lt, nat_le, nat_eq, ◌&&◌, ◌⊎◌, IfNone, IfSome, MatchOption, option_map, if◌then◌else◌}
-use Rattle.std.specs.List.{range_with_len, AllZip}
 use Rattle.std.proofs.Math.Nat.{div-lt_iff_lt-mul, mul_assoc, mod-lt, zero-mul}
 use Rattle.std.proofs.lemmas.Option.{none-some, same_Some, some_pair_parts}
 use Rattle.std.proofs.lemmas.Bool.{lt-ltb, ltb-true, leb-true, leb-false, le-leb, eqb-true, eq-eqb, ne_eqb, and_parts, false≢true, cases_lt}
@@ -12,14 +11,22 @@ use Rattle.noc_topo.proofs.LinkLemmas.{link_back}
 use Rattle.noc_route.specs.Channel.{Channel, Link, Inject, Eject, arrival_of, channel_vc}
 use Rattle.noc_route.specs.Order.{numbers_before, row_numbers}
 use Rattle.noc_route.specs.Ranks.{rank_of, Ranking, is_place, rank_at, IsRankedBy}
+<<<<<<< HEAD
 use Rattle.noc_rank.specs.declared.fault.RankFault.{RankFault}
 use Rattle.noc_rank.specs.declared.fault.RankFault.TheVariants.{NoGenerated, NotRising, Memory, UnknownChannel, DoubleChannel, BadRank, MissingChannel}
+=======
+>>>>>>> ranks
 use Rattle.noc_route.specs.Routes.{Routes, is_entry, set_at, is_sent, permits, permits_at}
 use Rattle.noc_route.specs.declared.rule.RouteRow.{RouteRow}
 use Rattle.noc_route.proofs.PlaceLemmas.{flat-below, flat-div, flat-mod}
 use Rattle.noc_rank.specs.declared.rising.Fall.{Fall}
+<<<<<<< HEAD
 use Rattle.noc_rank.specs.Rising.{IsFall, IsFirstFall, IsFaultOfCheck}
 use Rattle.noc_rank.specs.Falls.{arrival_rank, falls_to, falls_from, falls_at, links, inputs, class_of, router_of, port_of, IsLeastBelow, HasNone, IsFirstFrom, HasNoFall, IsFirstAt, IsFirstOf}
+=======
+use Rattle.noc_rank.specs.Rising.{IsFall, IsFirstFall}
+use Rattle.noc_rank.specs.Falls.{arrival_rank, falls_to, falls_from, falls_at, links, inputs, class_of, router_of, port_of, IsLeastBelow, HasNone, IsFirstFrom, HasNoFall, IsFirstAt}
+>>>>>>> ranks
 use Rattle.noc_rank.proofs.PlaceLemmas.{flat, flat-rises, flat-before, is_place-true, div-mod}
 
 -- ---- numbers of entries
@@ -59,21 +66,6 @@ first_at-match routes k e before v p n o a b c =
     → IfSome o (IsFirstFrom routes k (e / v / p / n) (e / v / p % n) (e / v % p) (e % v) before)
     → MatchOption o (HasNoFall routes k e) (IsFirstAt routes k e) in
     subst (λ x. P x p n) (sym a) (subst (λ x. P k.vcs x n) (sym b) (subst (λ x. P k.vcs (ports k.grid) x) (sym c) (first_at-core routes k e before o)))
-
--- ---- a list of falls
-
--- what is known of each number of a range and the element in its place
-pub at_number : {X : Type 0} (R : ℕ → X → Type 0) (a n : ℕ) (xs : List X) (d : X) → AllZip R (range_with_len a n) xs → (length xs ≡ n) × ((i : ℕ) → i < n → R (a + i) (get_or xs i d))
-at_number R a zero [] d all = (refl, λ i l. absurd (omega arith))
-at_number R a zero (x ∷ xs) d all = absurd all
-at_number R a (suc n) [] d all = absurd all
-at_number R a (suc n) (x ∷ xs) d all =
-    let rest = at_number R (a + 1) n xs d all.1 in
-    (ap suc rest.0, at all.0 rest.1)
-  where
-    at : R a x → ((i : ℕ) → i < n → R (a + 1 + i) (get_or xs i d)) → (i : ℕ) → i < suc n → R (a + i) (get_or (x ∷ xs) i d)
-    at first rest zero l = let same : a ≡ a + zero = omega arith in subst (λ m. R m x) same first
-    at first rest (suc i) l = let same : a + 1 + i ≡ a + suc i = omega arith in subst (λ m. R m (get_or xs i d)) same (rest i (omega arith))
 
 -- ---- the relation over ranks of the same shape
 
@@ -137,7 +129,7 @@ link_rank k r q w a p link e =
     rw away (ap (option_map (λ (from : ℕ × ℕ). rank_at k from.0 from.1 w)) e)
 
 module _ (routes : Routes) (ranks : List ℕ) (sound : IsGrid routes.grid) where
-  abbrev over : Ranking
+  abbrev pub over : Ranking
   over = record { grid = routes.grid; vcs = routes.vcs; ranks = ranks }
 
   step_of : (m : ℕ) (c : Channel) (t r p v : ℕ) → permits routes m c t (Link r p v) ≡ true → IsStep routes over m c t r p v
@@ -401,6 +393,7 @@ module _ (routes : Routes) (ranks : List ℕ) (sound : IsGrid routes.grid) where
       subst (λ s. IsFirstFall routes over s fall.rank fall.next) (sym f.step)
       (subst (λ a. IsFirstFall routes over (step_at_number e f.dst f.index) a fall.next) (sym f.rank)
       (subst (λ b. IsFirstFall routes over (step_at_number e f.dst f.index) at.before b) (sym f.next) whole))
+<<<<<<< HEAD
 
 -- ---- all entries
 
@@ -463,3 +456,5 @@ only_memory routes k (UnknownChannel i) rising h = absurd h
 only_memory routes k (DoubleChannel i) rising h = absurd h
 only_memory routes k (BadRank i) rising h = absurd h
 only_memory routes k (MissingChannel r p v) rising h = absurd h
+=======
+>>>>>>> ranks

@@ -1,5 +1,5 @@
 -- Steps that do not rise, entry by entry.
-use Rattle.std.specs.Prelude.{◌≡◌, ℕ, ◌*◌, ◌/◌, ◌%◌, ◌<◌, Bool, true, false, ◌&&◌, List, length, slice_index_or, Option, Some, None, option_map, nat_eq, nat_le, if◌then◌else◌}
+use Rattle.std.specs.Prelude.{◌≡◌, ℕ, ◌*◌, ◌/◌, ◌%◌, ◌<◌, Bool, true, false, ◌&&◌, Option, Some, None, option_map, nat_eq, nat_le, if◌then◌else◌}
 use Rattle.noc_packet.specs.Set.{has_bit}
 use Rattle.noc_topo.specs.Shape.{nodes, ports, local_port, neighbour}
 use Rattle.noc_route.specs.Routes.{Routes, set_at}
@@ -80,10 +80,3 @@ pub record IsFirstAt (routes : Routes) (k : Ranking) (e : ℕ) (fall : Fall) : T
   pub before : ℕ
   pub arrival : arrival_rank k (router_of k e) (port_of k e) (e % k.vcs) ≡ Some before
   pub first : IsFirstFrom routes k (class_of k e) (router_of k e) (port_of k e) (e % k.vcs) before fall
-
--- the first fall of a list
-pub record IsFirstOf (falls : List (Option Fall)) (fall : Fall) : Type 0 where
-  pub place : ℕ
-  pub inside : place < length falls
-  pub there : slice_index_or falls place None ≡ Some fall
-  pub first : (j : ℕ) → j < place → slice_index_or falls j None ≡ None

@@ -1,5 +1,9 @@
 -- Steps at which ranks do not rise (Dally and Towles, chapter 14).
+<<<<<<< HEAD
 use Rattle.std.specs.Prelude.{◌≡◌, ℕ, ◌≤◌, false, Some, IsTrue, ⊤}
+=======
+use Rattle.std.specs.Prelude.{◌≡◌, ℕ, ◌≤◌, false, Some, IsTrue}
+>>>>>>> ranks
 use Rattle.noc_route.specs.Channel.{Channel, Link, arrival_of, channel_vc}
 use Rattle.noc_route.specs.Order.{numbers_before, row_numbers}
 use Rattle.noc_route.specs.Ranks.{rank_of, Ranking, rank_at}
@@ -7,7 +11,11 @@ use Rattle.noc_route.specs.Routes.{Routes, permits}
 use Rattle.noc_route.specs.declared.rule.RouteRow.{RouteRow}
 use Rattle.noc_route.specs.declared.rule.Entry.{Entry}
 use Rattle.noc_rank.specs.declared.fault.RankFault.{RankFault}
+<<<<<<< HEAD
 use Rattle.noc_rank.specs.declared.fault.RankFault.TheVariants.{NotRising, Memory}
+=======
+use Rattle.noc_rank.specs.declared.fault.RankFault.TheVariants.{NotRising}
+>>>>>>> ranks
 
 -- a packet that came to this entry, on a channel of rank `before`, may go on by this link channel, whose rank `after` is not greater
 pub record IsFall (routes : Routes) (k : Ranking) (step : RouteRow) (before after : ℕ) : Type 0 where
@@ -28,8 +36,7 @@ pub record IsFirstFall (routes : Routes) (k : Ranking) (step : RouteRow) (before
 abbrev pub step_of : Entry → ℕ → ℕ → RouteRow
 step_of e port vc = record { class = e.class; router = e.router; in_port = e.in_port; in_vc = e.in_vc; dst = e.dst; out_port = port; out_vc = vc }
 
--- why a relation is not accepted; memory is the allocator's matter
+-- why a relation is not accepted
 abbrev pub IsFaultOfCheck : Routes → Ranking → RankFault → Type 0
-IsFaultOfCheck routes k Memory = ⊤
 IsFaultOfCheck routes k (NotRising entry port vc before after) = IsFirstFall routes k (step_of entry port vc) before after
 IsFaultOfCheck routes k _ = ⊥

@@ -2,40 +2,29 @@
 
 ghost use Rattle.std.specs.Prelude.{◌≡◌, ℕ, ◌+◌, ◌*◌, ◌/◌, ◌%◌, ◌<◌, ◌≤◌, IfOk, true, false, slice_index, vec_len};
 ghost use Rattle.noc_topo.specs.Shape.{IsGrid, nodes, dimensions, coordinates, local_port};
+<<<<<<< HEAD
 ghost use Rattle.noc_packet.specs.declared.limits.TheConstants.{MAX_CHANNELS, MAX_CLASSES};
 ghost use Rattle.noc_route.specs.Relation.{resource_class};
+=======
+>>>>>>> ranks
 ghost use Rattle.noc_route.specs.Ranks.{is_channel, places};
 ghost use Rattle.noc_rank.specs.Formulas.{has_ranks, passed_in, west_first_rank, formula, formula_at};
 
 use crate::place::{all_ports, is_channel, link_ports};
-use noc_packet::{MAX_CHANNELS, MAX_CLASSES};
-use noc_route::Rule;
+use noc_route::{Rule, is_right, is_torus, resource_class};
 use noc_topo::Shape;
 use std::alloc::{AllocError, Global};
-
-/// Whether the shape is a torus: the last node has a link up in dimension 0.
-fn is_torus(shape: &Shape) -> bool
-    ensures { result ≡ shape.now.wraps }
-{
-    shape.neighbour(shape.nodes() - 1, 0).is_some()
-}
 
 /// Whether a rule fits these numbers and has ranks by formula: dimension order on a mesh, dateline and west first.
 pub fn has_ranks(shape: &Shape, vcs: usize, classes: usize, rule: &Rule) -> bool
     ensures { result ≡ has_ranks shape.now vcs classes rule.now }
 {
-    if vcs == 0 || vcs > MAX_CHANNELS || classes == 0 || classes > MAX_CLASSES {
-        return false;
-    }
-    if vcs % classes != 0 {
-        return false;
-    }
-    match rule {
-        Rule::Dor => !is_torus(shape),
-        Rule::Dateline => is_torus(shape) && vcs % (2 * classes) == 0,
-        Rule::WestFirst => !is_torus(shape) && shape.dimensions() == 2,
-        Rule::Rows(_) => false,
-    }
+    is_right(shape, vcs, classes, rule)
+        && match rule {
+            Rule::Dor => !is_torus(shape),
+            Rule::Dateline | Rule::WestFirst => true,
+            Rule::Rows(_) => false,
+        }
 }
 
 /// The ranks by formula of all places, 0 where a port has no link.
@@ -106,22 +95,11 @@ fn formula(
     let axis = axis_of(shape, router, port / 2);
     match rule {
         Rule::Dateline => {
-            32 * (port / 2) + half_of(vcs, classes, vc) * axis.size + axis.passed(port) + 1
+            32 * (port / 2) + resource_class(vcs, classes, vc) * axis.size + axis.passed(port) + 1
         }
         Rule::WestFirst => west_first_rank(shape, router, port),
         Rule::Dor | Rule::Rows(_) => 32 * (port / 2) + axis.passed(port) + 1,
     }
-}
-
-/// The half of its class's channels in which a channel is.
-fn half_of(vcs: usize, classes: usize, vc: usize) -> usize
-    requires some { 0 < vcs / classes / 2 }
-    requires few { vcs ≤ 4 }
-    ensures value { result ≡ resource_class vcs classes vc }
-    ensures few { result ≤ 4 }
-{
-    let block = vcs / classes;
-    vc % block / (block / 2)
 }
 
 /// The rank of a link channel by west first: the ports down dimension 0 before all others.

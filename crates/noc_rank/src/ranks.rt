@@ -48,7 +48,8 @@ impl Ranks {
         ensures ok { IfOk result (IsRankingOf shape.now vcs rows.now) }
         ensures err { IfErr result (IsFaultOfRows shape.now vcs rows.now) }
     {
-        let places = all_ports(shape).checked_mul(vcs).ok_or(RankFault::Memory)?;
+        // more places than there are numbers are more than any allocator gives
+        let places = all_ports(shape).saturating_mul(vcs);
         let mut ranks = vec![in alloc; 0u32; places]?;
         enter(shape, vcs, rows, &mut ranks)?;
         match missing(shape, vcs, &ranks) {

@@ -1,12 +1,18 @@
 //! Checking that ranks rise along a routing relation (Dally and Towles, chapter 14).
 
-ghost use Rattle.std.specs.Prelude.{◌≡◌, ℕ, ◌+◌, ◌*◌, ◌/◌, ◌%◌, ◌<◌, ◌≤◌, OnOk, IfOk, IfErr, IfSome, IfNone, MatchOption, None, length, slice_index_or};
+ghost use Rattle.std.specs.Prelude.{◌≡◌, ℕ, ◌+◌, ◌*◌, ◌/◌, ◌%◌, ◌<◌, ◌≤◌, ◌↔◌, IsOk, OnOk, IfErr, IfSome, IfNone, MatchOption, false};
 ghost use Rattle.noc_topo.specs.Shape.{nodes, ports};
 ghost use Rattle.noc_route.specs.Routes.{set_at};
+<<<<<<< HEAD
 ghost use Rattle.noc_route.specs.Ranks.{rank_at, IsRankedBy};
 ghost use Rattle.noc_rank.specs.declared.fault.RankFault.TheVariants.{Memory};
 ghost use Rattle.noc_rank.specs.Rising.{IsFaultOfCheck};
 ghost use Rattle.noc_rank.specs.Falls.{fault_of_fall, arrival_rank, falls_to, links, inputs, IsLeastBelow, HasNone, HasNoFall, IsFirstFrom, IsFirstAt, IsFirstOf};
+=======
+ghost use Rattle.noc_route.specs.Ranks.{IsRankedBy};
+ghost use Rattle.noc_rank.specs.Rising.{IsFaultOfCheck, IsFirstFall};
+ghost use Rattle.noc_rank.specs.Falls.{fault_of_fall, arrival_rank, falls_to, links, inputs, IsLeastBelow, HasNone, HasNoFall, IsFirstFrom, IsFirstAt};
+>>>>>>> ranks
 
 use crate::fault::RankFault;
 use crate::place::link_ports;
@@ -24,10 +30,11 @@ pub struct Accepted;
 
 /// Whether the ranks rise with each step onto a link channel that the relation permits, where an injection channel counts
 /// as 0. Answers `NotRising` with the first step that does not rise, in the order of class, router, input port and
-/// channel, destination, output port and channel; `Memory` where it was refused. Looks at the entries in parallel.
+/// channel, destination, output port and channel. Looks at the entries in parallel and keeps nothing, so `_alloc` is not
+/// asked and `Memory` is never answered.
 pub fn check(
     rt: &(impl Threads + Sync),
-    alloc: Global,
+    _alloc: Global,
     relation: &Relation,
     ranks: &Ranks,
 ) -> Result<Accepted, RankFault>
@@ -35,25 +42,36 @@ pub fn check(
     requires vcs { relation.now.vcs ≡ ranks.now.vcs }
     ensures ok { OnOk result (IsRankedBy relation.now ranks.now) }
     ensures err { IfErr result (IsFaultOfCheck relation.now ranks.now) }
+<<<<<<< HEAD
     ensures refused { IsRankedBy relation.now ranks.now → IfErr result (λ e. e ≡ Memory) }
+=======
+    ensures accepted { IsRankedBy relation.now ranks.now → IsOk result }
+{
+    match first_fall(rt, relation, ranks) {
+        None => Ok(Accepted),
+        Some(fall) => Err(fall.fault()),
+    }
+}
+
+/// The first step of the relation that does not rise.
+fn first_fall(rt: &(impl Threads + Sync), relation: &Relation, ranks: &Ranks) -> Option<Fall>
+    requires shape { relation.now.grid ≡ ranks.now.grid }
+    requires vcs { relation.now.vcs ≡ ranks.now.vcs }
+    ensures { MatchOption result (IsRankedBy relation.now ranks.now) (λ fall. IsFirstFall relation.now ranks.now fall.step fall.rank fall.next) }
+>>>>>>> ranks
 {
     let count = relation.classes()
         * relation.shape().nodes()
         * relation.shape().ports()
         * relation.vcs();
-    let falls: Vec<Option<Fall>> = (0..count)
-        .into_par_iter()
-        .map(
-            |number: usize| -> Option<Fall>
-                requires { (relation.now.grid ≡ ranks.now.grid) × (relation.now.vcs ≡ ranks.now.vcs) × (number < relation.now.classes * inputs ranks.now) }
-                ensures { MatchOption result (HasNoFall relation.entry.now ranks.entry.now number) (IsFirstAt relation.entry.now ranks.entry.now number) }
-            { first_at(relation, ranks, number) },
-        )
-        .collect(rt, alloc)?;
-    match first_of(&falls) {
-        None => Ok(Accepted),
-        Some(fall) => Err(fall.fault()),
-    }
+    let number = (0..count).into_par_iter().find_first(
+        rt,
+        |number: &usize| -> bool
+            requires { (relation.now.grid ≡ ranks.now.grid) × (relation.now.vcs ≡ ranks.now.vcs) × (number.now < relation.now.classes * inputs ranks.now) }
+            ensures { (result ≡ false) ↔ HasNoFall relation.entry.now ranks.entry.now number.now }
+        { first_at(relation, ranks, *number).is_some() },
+    )?;
+    first_at(relation, ranks, number)
 }
 
 /// A step that does not rise, with the ranks before and after it.
@@ -84,19 +102,6 @@ impl Fall {
             next: self.next,
         }
     }
-}
-
-/// The first fall of a list.
-fn first_of(falls: &[Option<Fall>]) -> Option<Fall>
-    ensures none { IfNone result ((j : ℕ) → j < length falls.now → slice_index_or falls.now j None ≡ None) }
-    ensures some { IfSome result (IsFirstOf falls.now) }
-{
-    for fall in falls {
-        if fall.is_some() {
-            return *fall;
-        }
-    }
-    None
 }
 
 /// The first step that does not rise of those that packets of a class take that came by an input channel, both by number.

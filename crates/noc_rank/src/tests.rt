@@ -98,6 +98,12 @@ fn rows_that_are_refused(rt: HostRuntime) {
             vc: 0
         })
     );
+    let line = shape(&rt, Kind::Mesh, &[2]);
+    assert_eq!(rt;
+        Ranks::from_rows(rt.alloc(), &line, usize::MAX, &[]).err(),
+        Some(RankFault::Memory),
+        "more channels than memory has room for"
+    );
 }
 
 #[test]

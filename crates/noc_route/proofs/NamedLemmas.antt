@@ -99,7 +99,7 @@ and_next_not false l b h = rw (or-none l) refl
 -- ---- a step in one dimension, by the shorter way
 
 -- the way up and the way down, where the destination is above
-round-above : (k x t : ℕ) → x < t → t < k → ((t + k - x) % k ≡ t - x) × ((x + k - t) % k ≡ x + k - t)
+pub round-above : (k x t : ℕ) → x < t → t < k → ((t + k - x) % k ≡ t - x) × ((x + k - t) % k ≡ x + k - t)
 round-above k x t l m =
     let split : t + k - x ≡ (t - x) + k * 1 = omega arith in
     (ap (λ n. n % k) split ∙ add-mul-mod_self_left (t - x) k 1 ∙ mod-eq_of_lt {n = t - x} {m = k} (omega arith), mod-eq_of_lt {n = x + k - t} {m = k} (omega arith))
@@ -172,33 +172,44 @@ NearerHop-from_step g r p t sound l step =
     one_less : (b a x y : ℕ) → b + x ≡ a + y → y + 1 ≡ x → b + 1 ≡ a
     one_less b a x y e f = omega (arith, e, f)
 
--- the dimension of a port of dimension order
+-- a port of a dimension, counted from the next one
+port-next : (b : Bool) (j i : ℕ) → (if b then 2 * (j + 1 + i) else 2 * (j + 1 + i) + 1) ≡ (if b then 2 * (j + suc i) else 2 * (j + suc i) + 1)
+port-next true j i = omega arith
+port-next false j i = omega arith
+
+-- the dimension of a port of dimension order: the lowest in which the coordinates differ
 pub dor_port_from-some : (wraps : Bool) (j : ℕ) (ks xs ts : List ℕ) (p : ℕ) → dor_port_from wraps j ks xs ts ≡ Some p
     → (i : ℕ) × (i < length ks) × (get_or xs i 0 ≢ get_or ts i 0) × (p ≡ (if goes_up wraps (get_or ks i 0) (get_or xs i 0) (get_or ts i 0) then 2 * (j + i) else 2 * (j + i) + 1))
+    × ((l : ℕ) → l < i → get_or xs l 0 ≡ get_or ts l 0)
 dor_port_from-some wraps j [] xs ts p e = let never : None ≡ Some p = e in absurd (cc never)
 dor_port_from-some wraps j (k ∷ ks) [] ts p e = let never : None ≡ Some p = e in absurd (cc never)
 dor_port_from-some wraps j (k ∷ ks) (x ∷ xs) [] p e = let never : None ≡ Some p = e in absurd (cc never)
 dor_port_from-some wraps j (k ∷ ks) (x ∷ xs) (t ∷ ts) p e = at (dor_port_from-some wraps (j + 1) ks xs ts p) (cases_eq x t)
   where
     at : (dor_port_from wraps (j + 1) ks xs ts ≡ Some p
-        → (i : ℕ) × (i < length ks) × (get_or xs i 0 ≢ get_or ts i 0) × (p ≡ (if goes_up wraps (get_or ks i 0) (get_or xs i 0) (get_or ts i 0) then 2 * (j + 1 + i) else 2 * (j + 1 + i) + 1)))
+        → (i : ℕ) × (i < length ks) × (get_or xs i 0 ≢ get_or ts i 0) × (p ≡ (if goes_up wraps (get_or ks i 0) (get_or xs i 0) (get_or ts i 0) then 2 * (j + 1 + i) else 2 * (j + 1 + i) + 1))
+        × ((l : ℕ) → l < i → get_or xs l 0 ≡ get_or ts l 0))
         → (x ≡ t) ⊎ (x ≢ t)
         → (i : ℕ) × (i < length (k ∷ ks)) × (get_or (x ∷ xs) i 0 ≢ get_or (t ∷ ts) i 0)
         × (p ≡ (if goes_up wraps (get_or (k ∷ ks) i 0) (get_or (x ∷ xs) i 0) (get_or (t ∷ ts) i 0) then 2 * (j + i) else 2 * (j + i) + 1))
+        × ((l : ℕ) → l < i → get_or (x ∷ xs) l 0 ≡ get_or (t ∷ ts) l 0)
     at more (inl same) =
         let like : nat_eq x t ≡ true = eq-eqb x t same in
         let rest = more (sym (rw like refl) ∙ e) in
-        let place : j + 1 + rest.0 ≡ j + suc rest.0 = omega arith in
-        (suc rest.0, omega (arith, rest.1), rest.2, rest.3 ∙ rw place refl)
+        (suc rest.0, omega (arith, rest.1), rest.2, rest.3 ∙ port-next (goes_up wraps (get_or ks rest.0 0) (get_or xs rest.0 0) (get_or ts rest.0 0)) j rest.0, lower same rest.0 rest.4)
+      where
+        lower : x ≡ t → (i : ℕ) → ((l : ℕ) → l < i → get_or xs l 0 ≡ get_or ts l 0) → (l : ℕ) → l < suc i → get_or (x ∷ xs) l 0 ≡ get_or (t ∷ ts) l 0
+        lower same i rest zero below = same
+        lower same i rest (suc l) below = rest l (omega arith)
     at more (inr differ) =
         let unlike : nat_eq x t ≡ false = ne_eqb x t differ in
         let here : Some (if goes_up wraps k x t then 2 * j else 2 * j + 1) ≡ Some p = sym (rw unlike refl) ∙ e in
         let port : (if goes_up wraps k x t then 2 * j else 2 * j + 1) ≡ p = cc in
         let place : j + 0 ≡ j = omega arith in
-        (0, omega arith, differ, sym port ∙ rw place refl)
+        (0, omega arith, differ, sym port ∙ rw place refl, λ l below. absurd (omega arith))
 
 -- a port leads up or down in its dimension
-port-up : (b : Bool) (i p : ℕ) → p ≡ (if b then 2 * (0 + i) else 2 * (0 + i) + 1) → (p / 2 ≡ i) × (is_plus p ≡ b)
+pub port-up : (b : Bool) (i p : ℕ) → p ≡ (if b then 2 * (0 + i) else 2 * (0 + i) + 1) → (p / 2 ≡ i) × (is_plus p ≡ b)
 port-up true i p e = (omega (arith, e), eq-eqb (p % 2) 0 (omega (arith, e)))
 port-up false i p e = (omega (arith, e), ne_eqb (p % 2) 0 (λ z. omega (arith, e, z)))
 

@@ -1,7 +1,7 @@
 //! The numbers that a routing relation is over, and the places of its table.
 
 ghost use Rattle.std.specs.Prelude.{◌≡◌, ◌+◌, ◌*◌, ◌/◌, ◌<◌, ◌≤◌, IsTrue, IfNone, IfSome, true, false};
-ghost use Rattle.noc_packet.specs.declared.limits.TheConstants.{MAX_CHANNELS, MAX_CLASSES};
+ghost use Rattle.noc_packet.specs.declared.limits.TheConstants.{MAX_CHANNELS, MAX_CLASSES, MAX_NODES};
 ghost use Rattle.noc_topo.specs.Shape.{IsGrid, nodes, ports};
 ghost use Rattle.noc_route.specs.Relation.{is_in_block, resource_class, is_right};
 ghost use Rattle.noc_route.specs.Routes.{width, blocks, block_of, place_of, block_class, block_router, block_dst};
@@ -22,7 +22,7 @@ pub struct Frame {
     ghost all_nodes: { node_count ≡ nodes shape },
     ghost all_ports: { port_count ≡ ports shape },
     ghost some_nodes: { 2 ≤ node_count },
-    ghost few_nodes: { node_count ≤ 256 },
+    ghost few_nodes: { node_count ≤ MAX_NODES },
     ghost few_ports: { port_count ≤ 7 },
     ghost some_vcs: { 1 ≤ vcs },
     ghost few_vcs: { vcs ≤ MAX_CHANNELS },
@@ -48,18 +48,18 @@ impl Frame {
         })
     }
 
-    /// How many input channels a router has, and output channels: 3 to 28.
+    /// How many input channels a router has, and output channels.
     pub fn width(&self) -> usize
         ensures value { result ≡ width self.now.shape self.now.vcs }
-        ensures few { result ≤ 28 }
+        ensures few { result ≤ 7 * MAX_CHANNELS }
     {
         self.port_count * self.vcs
     }
 
-    /// How many blocks the table has: one for each router, class and destination; at most 262,144.
+    /// How many blocks the table has: one for each router, class and destination.
     pub fn blocks(&self) -> usize
         ensures value { result ≡ blocks self.now.shape self.now.classes }
-        ensures few { result ≤ 262144 }
+        ensures few { result ≤ MAX_NODES * MAX_CLASSES * MAX_NODES }
     {
         self.node_count * self.classes * self.node_count
     }
@@ -91,13 +91,13 @@ impl Frame {
         )
     }
 
-    /// The index of a channel of a router, as an input or as an output: at most 27.
+    /// The index of a channel of a router, as an input or as an output.
     pub fn index(&self, port: usize, vc: usize) -> usize
         requires port { port < ports self.now.shape }
         requires vc { vc < self.now.vcs }
         ensures value { result ≡ port * self.now.vcs + vc }
         ensures within { result < width self.now.shape self.now.vcs }
-        ensures few { result < 28 }
+        ensures few { result < 7 * MAX_CHANNELS }
     {
         port * self.vcs + vc
     }
@@ -141,15 +141,16 @@ impl Frame {
         let end = (class + 1) * self.vcs / self.classes;
         first <= vc && vc < end
     }
+}
 
-    /// The half of its class's channels in which a channel is.
-    pub fn resource_class(&self, vc: usize) -> usize
-        requires { 0 < self.now.vcs / self.now.classes / 2 }
-        ensures { result ≡ resource_class self.now.vcs self.now.classes vc }
-    {
-        let block = self.vcs / self.classes;
-        vc % block / (block / 2)
-    }
+/// The half of its class's channels in which a channel is: 0, 1, or 2 for the odd one at the end.
+pub fn resource_class(vcs: usize, classes: usize, vc: usize) -> usize
+    requires { 0 < vcs / classes / 2 }
+    ensures value { result ≡ resource_class vcs classes vc }
+    ensures few { result ≤ 2 }
+{
+    let block = vcs / classes;
+    vc % block / (block / 2)
 }
 
 /// Whether the shape is a torus: the last node has a link up in dimension 0.
@@ -159,8 +160,9 @@ pub fn is_torus(shape: &Shape) -> bool
     shape.neighbour(shape.nodes() - 1, 0).is_some()
 }
 
-/// Whether a relation can be made of these numbers and this rule.
-fn is_right(shape: &Shape, vcs: usize, classes: usize, rule: &Rule) -> bool
+/// Whether a relation can be made of these numbers and this rule: 1 to 4 channels and classes, the classes divide the
+/// channels, and the rule fits them and the shape (docs/MODEL.md).
+pub fn is_right(shape: &Shape, vcs: usize, classes: usize, rule: &Rule) -> bool
     ensures value { result ≡ is_right shape.now vcs classes rule.now }
     ensures limits { IsTrue result → (1 ≤ vcs) × (vcs ≤ MAX_CHANNELS) × (1 ≤ classes) × (classes ≤ MAX_CLASSES) }
 {

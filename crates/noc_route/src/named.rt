@@ -7,7 +7,7 @@ ghost use Rattle.noc_route.specs.Entered.{routing_in, IsWay};
 ghost use Rattle.noc_route.specs.Relation.{is_right, is_led, dor_port, takes_port, takes_channel, dateline_class, is_west_first};
 ghost use Rattle.noc_route.specs.Routes.{width};
 
-use crate::frame::Frame;
+use crate::frame::{Frame, resource_class};
 use crate::map::Map;
 use crate::rule::Rule;
 use noc_packet::ChannelSet;
@@ -102,7 +102,7 @@ impl Way {
         match rule {
             Rule::Dateline => {
                 frame.is_in_block(class, vc)
-                    && frame.resource_class(vc) == self.dateline_class(port)
+                    && resource_class(frame.vcs, frame.classes, vc) == self.dateline_class(port)
             }
             _ => frame.is_in_block(class, vc),
         }

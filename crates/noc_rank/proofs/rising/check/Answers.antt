@@ -1,28 +1,20 @@
-use Rattle.std.proofs.Common.{◌≡◌, ◌*◌, ◌-◌, ◌<◌, ℕ, List, Option, None, length, get_or, sym, ap, subst, ◌∙◌, arith}
-use Rattle.std.specs.Prelude.{MatchOption}
-use Rattle.std.specs.List.{range_with_len, AllZip}
-use Rattle.rayon.specs.Numbers.{nat_range}
-use Rattle.rayon.proofs.ToStd.{nat_range-All}
-use Rattle.noc_topo.specs.Shape.{nodes, ports}
+use Rattle.std.proofs.Common.{sym, subst}
 use Rattle.noc_rank.specs.declared.fault.RankFault.{RankFault}
-use Rattle.noc_rank.specs.declared.rising.Fall.{Fall}
 use Rattle.noc_rank.specs.Rising.{IsFaultOfCheck}
+<<<<<<< HEAD
 use Rattle.noc_rank.specs.Falls.{inputs, HasNoFall, IsFirstAt, IsFirstOf}
 use Rattle.noc_rank.proofs.FallLemmas.{AreFirst, count-inputs, check-ok, check-err, only_memory}
+=======
+use Rattle.noc_rank.proofs.CheckLemmas.{none-refused}
+>>>>>>> ranks
 use Rattle.noc_rank.proofs.rising.check.Goals as goal
 
-pub collect-requires-clause-ready : goal.collect-requires-clause-ready
-collect-requires-clause-ready g c κs ls =
-    let ends = c.into_par_iter.ensures in
-    let relation = c.args.relation.now in
-    let k = c.args.ranks.now in
-    let n = c.classes.result * c.nodes.result * c.ports.result * c.vcs.result in
-    let count : n ≡ relation.classes * inputs k
-    = ap (λ x. x * c.nodes.result * c.ports.result * c.vcs.result) c.classes.ensures.value
-    ∙ count-inputs k relation.classes c.nodes.result c.ports.result c.vcs.result (c.nodes.ensures.value ∙ ap nodes (c.shape.ensures.value ∙ c.requires.shape)) (c.ports.ensures.value ∙ ap ports (c.shape-2.ensures.value ∙ c.requires.shape)) (c.vcs.ensures.value ∙ c.requires.vcs) in
-    let inside = nat_range-All (λ i. (relation.grid ≡ k.grid) × (relation.vcs ≡ k.vcs) × (i < relation.classes * inputs k)) 0 n (λ i low high. (c.requires.shape, c.requires.vcs, subst (λ m. i < m) count high)) in
-    rw (c.map.ensures.base, c.map.ensures.f, ends.0, ends.1) (λ j d lt. (inside j d lt, λ y p. tt))
+pub returns-in-Some-clause-err : goal.returns-in-Some-clause-err
+returns-in-Some-clause-err g c =
+    let P : RankFault → Type 0 = IsFaultOfCheck c.args.relation.now c.args.ranks.now in
+    subst P (sym c.fault.ensures) c.in-Some.ensures
 
+<<<<<<< HEAD
 pub returns-in-None-clause-ok : goal.returns-in-None-clause-ok
 returns-in-None-clause-ok g c =
     let h = c.in_ok-falls.ensures in
@@ -61,3 +53,7 @@ returns-clause-err g c =
 
 pub returns-clause-refused : goal.returns-clause-refused
 returns-clause-refused g c = λ rising. only_memory c.args.relation.now c.args.ranks.now c.fault.result rising (returns-clause-err g c)
+=======
+pub returns-in-Some-clause-accepted : goal.returns-in-Some-clause-accepted
+returns-in-Some-clause-accepted g c = λ rising. absurd (none-refused c.args.relation.now c.args.ranks.now c.fault.result rising (returns-in-Some-clause-err g c))
+>>>>>>> ranks

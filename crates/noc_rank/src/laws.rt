@@ -1,0 +1,22 @@
+//! Which rules have ranks that make their relations ranked.
+
+ghost use Rattle.std.specs.Prelude.{◌≡◌, ◌∷◌, [], true};
+ghost use Rattle.noc_route.specs.Built.{IsRelationOf, routing_of};
+ghost use Rattle.noc_route.specs.Ranks.{Ranking, IsRankedBy};
+ghost use Rattle.noc_route.specs.Relation.{Routing};
+ghost use Rattle.noc_route.specs.Routes.{Routes};
+ghost use Rattle.noc_route.specs.declared.rule.Rule.TheVariants.{Dor};
+ghost use Rattle.noc_rank.specs.Formulas.{has_ranks, IsGenerated};
+
+/// Each relation of dimension order on a mesh, of dateline, and of west first is ranked, whatever the shape and the numbers
+/// of channels and classes: by its ranks by formula, and so there are ranks that make it ranked.
+pub fn formula_ranks_are_accepted()
+    ensures accepted { (g : Routing) (routes : Routes) (ranks : Ranking) → IsRelationOf g routes → IsGenerated g.grid g.vcs g.classes g.rule ranks → IsRankedBy routes ranks }
+    ensures exist { (g : Routing) (routes : Routes) → IsRelationOf g routes → has_ranks g.grid g.vcs g.classes g.rule ≡ true → (ranks : Ranking) × IsRankedBy routes ranks }
+{}
+
+/// No ranks at all make dimension order on a ring of four routers with one channel per link ranked, so each full list of
+/// ranks is refused: four hops up close a circle.
+pub fn a_ring_of_four_has_no_ranks()
+    ensures { (routes : Routes) (ranks : Ranking) → IsRelationOf (routing_of (record { wraps = true; radix = 4 ∷ [] }) 1 1 Dor) routes → IsRankedBy routes ranks → ⊥ }
+{}
