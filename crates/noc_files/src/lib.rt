@@ -9,6 +9,7 @@ mod latency;
 mod ports;
 mod ranks;
 mod rows;
+mod sheet;
 mod sink;
 mod source;
 mod stalls;

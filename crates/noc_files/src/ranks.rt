@@ -15,7 +15,8 @@ ghost use Rattle.noc_files.specs.Writing.{Puts, Wrote};
 
 use crate::fault::InputFault;
 use crate::ports::known_name;
-use crate::rows::{has_fields, next_row, number_in, port_in, rows};
+use crate::rows::{number_in, port_in};
+use crate::sheet::read_sheet;
 use crate::sink::Sink;
 use crate::writing::{WriteFault, put_all, put_pieces};
 use csv::ByteRecord;
@@ -50,20 +51,10 @@ fn rank_row_in(shape: &Shape, row: &ByteRecord, index: usize) -> Result<RankRow,
 pub fn read_ranks(alloc: Global, shape: &Shape, text: &[u8]) -> Result<Vec<RankRow>, InputFault>
     ensures { Gives (λ v. v.items) result (ranks_of shape.now text.now) }
 {
-    let mut reader = rows(alloc, text);
-    let mut row = ByteRecord::new(alloc);
-    if !next_row(&mut reader, &mut row)? {
-        return Err(InputFault::BadHeader);
-    }
-    if !has_fields(&row, &["router", "port", "vc", "rank"]) {
-        return Err(InputFault::BadHeader);
-    }
-    let mut ranks = Vec::new(alloc);
-    'rows: while next_row(&mut reader, &mut row)? {
-        let rank = rank_row_in(shape, &row, ranks.len())?;
-        ranks.push(rank)?;
-    }
-    Ok(ranks)
+    let header = ["router", "port", "vc", "rank"];
+    read_sheet(alloc, text, &header, |row, index| {
+        rank_row_in(shape, row, index)
+    })
 }
 
 /// A text is read as these rows of ranks exactly where its first row is the header and the rows below it are four
