@@ -6,6 +6,7 @@ mod fault;
 mod findings;
 mod joined;
 mod latency;
+mod listing;
 mod ports;
 mod ranks;
 mod rows;
