@@ -25,8 +25,8 @@ module _ {P : Type 0} (read : ℕ → Fields → Result P InputFault) where
   sheet header (names ∷ rows) = if pointwise bytes_eq names header then each_from 0 rows else Err BadHeader
 
 -- each row, with its number, is read as is said of its fields
-abbrev pub Reads : {P : Type 0} → (Bor Row → ℕ → Result P InputFault → Type 0) → (ℕ → Fields → Result P InputFault) → Type 0
-Reads post said = (row : Bor Row) (index : ℕ) (read : Result _ InputFault) → index < 2 ^ 64 → post row index read → read ≡ said index (fields_of row.now)
+abbrev pub ReadsRows : {P : Type 0} → (Bor Row → ℕ → Result P InputFault → Type 0) → (ℕ → Fields → Result P InputFault) → Type 0
+ReadsRows post said = (row : Bor Row) (index : ℕ) (read : Result _ InputFault) → index < 2 ^ 64 → post row index read → read ≡ said index (fields_of row.now)
 
 -- a row of these names, and below it a row for each of these values
 pub record IsSheet {P : Type 0} (Writes : Fields → P → Type 0) (header : Fields) (rows : List Fields) (values : List P) : Type 0 where

@@ -4,7 +4,7 @@ ghost use Rattle.std.specs.Prelude.{◌≡◌, ℕ, Result, map};
 ghost use Rattle.noc_files.specs.declared.fault.InputFault.{InputFault as Fault};
 ghost use Rattle.noc_files.specs.Gives.{Gives};
 ghost use Rattle.noc_files.specs.Rows.{Fields, rows_of};
-ghost use Rattle.noc_files.specs.Sheet.{Reads, sheet};
+ghost use Rattle.noc_files.specs.Sheet.{ReadsRows, sheet};
 
 use crate::fault::InputFault;
 use crate::rows::{has_fields, next_row, rows};
@@ -19,7 +19,7 @@ pub(crate) fn read_sheet<V: Drop, F: Fn(&ByteRecord, usize) -> Result<V, InputFa
     read: F,
 ) -> Result<Vec<V>, InputFault>
     requires { F.IsAlwaysCallable read }
-    ensures { (said : ℕ → Fields → Result V Fault) → Reads (F.post read) said → Gives (λ v. v.items) result (sheet said (map (λ n. n.now) header.now) (rows_of text.now)) }
+    ensures { (said : ℕ → Fields → Result V Fault) → ReadsRows (F.post read) said → Gives (λ v. v.items) result (sheet said (map (λ n. n.now) header.now) (rows_of text.now)) }
 {
     let mut reader = rows(alloc, text);
     let mut row = ByteRecord::new(alloc);
