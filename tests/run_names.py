@@ -5,7 +5,8 @@
 
 Each link of a page to a file of the repository must lead to one, and each path 'crates/..', 'docs/..', 'tests/..', 'bench/..'
 or 'examples/..' in the text must be there. In a table with a column 'Contracts that carry it' each function that it names must
-be public in the crate of that row. Each name that leads nowhere is shown, and the last line is 'N passed, M failed'. The exit
+be public in the crate of that row. In a table with the columns 'Definitions' and 'File' each definition must stand in a file of its
+row, and in a page with such a table each file of specs/ must be in it or in a table with the columns 'Crate' and 'Files'. Each name that leads nowhere is shown, and the last line is 'N passed, M failed'. The exit
 status is 0 where there are names and all are there, else 1.
 """
 import re
@@ -50,10 +51,44 @@ def contracts(page):
                 yield f"{crate}'s {name}", has_public(crate, name)
 
 
+def cells_under(page, *heads):
+    """The cells of each row of the page's tables whose last columns have these heads."""
+    inside = False
+    for line in page.read_text().splitlines():
+        cells = [cell.strip() for cell in line.split("|")[1:-1]]
+        inside = line.startswith("|") and (inside or cells[-len(heads):] == list(heads))
+        if inside and CODE.search(line):
+            yield cells[-len(heads):]
+
+
+def stands_in(name, files):
+    """Whether one of the files declares this definition."""
+    declared = re.compile(rf"^ *(?:(?:abbrev|unfoldable|pub|record|data) +)*{re.escape(name)}(?: |$)", re.MULTILINE)
+    return any(file.exists() and declared.search(file.read_text()) for file in files)
+
+
+def definitions(page):
+    """The definitions of the page's tables and whether they stand there, and whether each file of specs/ is named."""
+    known = set()
+    for names, paths in cells_under(page, "Definitions", "File"):
+        first, *others = paths.split(", ")
+        files = [TOP / first, *((TOP / first).with_name(other) for other in others)]
+        known.update(files)
+        for name in CODE.findall(names):
+            yield f"definition {name}", stands_in(name, files)
+    if known:
+        for crate, names in cells_under(page, "Crate", "Files"):
+            (crate,) = CODE.findall(crate)
+            known.update(TOP / "crates" / crate / "specs" / f"{name}.antt" for name in CODE.findall(names))
+        for file in sorted({*known, *TOP.glob("crates/*/specs/*.antt")}):
+            if file.name != "Lib.antt":
+                yield f"file {file.relative_to(TOP)}", file in known and file.exists()
+
+
 def main():
     passed = failed = 0
     for page in map(Path, sys.argv[1:]):
-        for name, is_there in [*links(page), *contracts(page)]:
+        for name, is_there in [*links(page), *contracts(page), *definitions(page)]:
             passed += is_there
             failed += not is_there
             if not is_there:

@@ -33,6 +33,7 @@ use Rattle.noc.specs.declared.request.Command.{Command}
 use Rattle.noc.specs.declared.request.Command.TheVariants as command
 use Rattle.noc.specs.declared.request.Request.{Request}
 use Rattle.noc.specs.declared.status.Status.{Status}
+use Rattle.noc.proofs.MemoryFacts.{network_not_memory, ranks_not_memory, traffic_not_memory}
 use Rattle.noc.proofs.OneAnswerFacts.{kind, reports, explains, checks, ranked, one_reading}
 use Rattle.noc.proofs.OneRankingFacts.{one-ranking, formula-fault, no-formula-fault, no-rows-fault, one-rows-fault, no-check-fault, one-check-fault}
 use Rattle.noc.proofs.OneSettingsFacts.{one_relation_asked, no_settings_fault, one_settings_fault}
@@ -82,7 +83,7 @@ rows_first routes text rows f k p e bad given =
 
 accepts_none : (routes : Routes) (text : Said) (f : Fault) → is_memory f ≡ false → Accepts routes text → RanksFault routes text f → ⊥
 accepts_none routes text f p h (bad_file {f = i} e) =
-    let never : Ok h.ranks.rows ≡ Err i = sym h.ranks.read ∙ e in
+    let never : Ok h.ranks.rows ≡ Err i = sym h.ranks.read ∙ e (ranks_not_memory i p) in
     cc never
 accepts_none routes text f p h (bad_rows {rows = rows} {f = i} e bad) =
     let both : Ok rows ≡ Ok h.ranks.rows = sym e ∙ h.ranks.read in
@@ -95,17 +96,17 @@ accepts_none routes text f p h (bad_ranks {ranking = k} {f = i} given bad) =
     no-check-fault routes h.ranking i (not_memory i routes.grid p) h.rising (subst P ranking bad)
 
 one_ranks_fault : (routes : Routes) (text : Said) (f k : Fault) → IsGrid routes.grid → is_memory f ≡ false → is_memory k ≡ false → RanksFault routes text f → RanksFault routes text k → f ≡ k
-one_ranks_fault routes text f k grid p q (bad_file {f = i} e) (bad_file {f = j} d) = (let both : Err i ≡ Err j = sym e ∙ d in cc)
-one_ranks_fault routes text f k grid p q (bad_file {f = i} e) (bad_rows {rows = rows} d bad) = (let never : Err i ≡ Ok rows = sym e ∙ d in absurd (cc never))
-one_ranks_fault routes text f k grid p q (bad_file {f = i} e) (bad_ranks given bad) = (let never : Err i ≡ Ok given.rows = sym e ∙ given.read in absurd (cc never))
-one_ranks_fault routes text f k grid p q (bad_rows {rows = rows} d bad) (bad_file {f = i} e) = (let never : Err i ≡ Ok rows = sym e ∙ d in absurd (cc never))
+one_ranks_fault routes text f k grid p q (bad_file {f = i} e) (bad_file {f = j} d) = (let both : Err i ≡ Err j = sym (e (ranks_not_memory i p)) ∙ d (ranks_not_memory j q) in cc)
+one_ranks_fault routes text f k grid p q (bad_file {f = i} e) (bad_rows {rows = rows} d bad) = (let never : Err i ≡ Ok rows = sym (e (ranks_not_memory i p)) ∙ d in absurd (cc never))
+one_ranks_fault routes text f k grid p q (bad_file {f = i} e) (bad_ranks given bad) = (let never : Err i ≡ Ok given.rows = sym (e (ranks_not_memory i p)) ∙ given.read in absurd (cc never))
+one_ranks_fault routes text f k grid p q (bad_rows {rows = rows} d bad) (bad_file {f = i} e) = (let never : Err i ≡ Ok rows = sym (e (ranks_not_memory i q)) ∙ d in absurd (cc never))
 one_ranks_fault routes text f k grid p q (bad_rows {rows = rows} {f = i} e bad) (bad_rows {rows = others} {f = j} d worse) =
     let both : Ok others ≡ Ok rows = sym d ∙ e in
     let same : others ≡ rows = cc in
     let P : List RankRow → Type 0 = λ z. IsFaultOfRows routes.grid routes.vcs z j in
     ap (λ z. fault.Rank z routes.grid) (one-rows-fault routes.grid routes.vcs rows i j (not_memory i routes.grid p) (not_memory j routes.grid q) bad (subst P same worse))
 one_ranks_fault routes text f k grid p q (bad_rows {rows = rows} {f = i} e bad) (bad_ranks {ranking = j} given worse) = absurd (rows_first routes text rows i j p e bad given)
-one_ranks_fault routes text f k grid p q (bad_ranks given bad) (bad_file {f = i} e) = (let never : Err i ≡ Ok given.rows = sym e ∙ given.read in absurd (cc never))
+one_ranks_fault routes text f k grid p q (bad_ranks given bad) (bad_file {f = i} e) = (let never : Err i ≡ Ok given.rows = sym (e (ranks_not_memory i q)) ∙ given.read in absurd (cc never))
 one_ranks_fault routes text f k grid p q (bad_ranks {ranking = j} given worse) (bad_rows {rows = rows} {f = i} e bad) = absurd (rows_first routes text rows i j q e bad given)
 one_ranks_fault routes text f k grid p q (bad_ranks {ranking = m} {f = i} given bad) (bad_ranks {ranking = n} {f = j} other worse) =
     let ranking : n ≡ m = one_given routes text n m other given in
@@ -114,22 +115,22 @@ one_ranks_fault routes text f k grid p q (bad_ranks {ranking = m} {f = i} given 
 
 -- ---- packets
 
-network_none : (routes : Routes) (places : ℕ) (traffic : Said) (net : Setup) (f : Fault) → IsNetworkOf routes places traffic net → PacketsFault routes traffic f → ⊥
-network_none routes places traffic net f h (bad_traffic {f = i} e) = (let never : Ok net.packets ≡ Err i = sym h.packets ∙ e in cc never)
-network_none routes places traffic net f h (bad_network {packets = ps} {f = i} e bad) =
+network_none : (routes : Routes) (places : ℕ) (traffic : Said) (net : Setup) (f : Fault) → is_memory f ≡ false → IsNetworkOf routes places traffic net → PacketsFault routes traffic f → ⊥
+network_none routes places traffic net f p h (bad_traffic {f = i} e) = (let never : Ok net.packets ≡ Err i = sym h.packets ∙ e (traffic_not_memory i p) in cc never)
+network_none routes places traffic net f p h (bad_network {packets = ps} {f = i} e bad) =
     let both : Ok net.packets ≡ Ok ps = sym h.packets ∙ e in
     let same : net.packets ≡ ps = cc in
-    let never : None ≡ Some i = sym h.sound ∙ ap (fault_of routes) same ∙ bad in
+    let never : None ≡ Some i = sym h.sound ∙ ap (fault_of routes) same ∙ bad (network_not_memory i p) in
     cc never
 
-one_packets_fault : (routes : Routes) (traffic : Said) (f k : Fault) → PacketsFault routes traffic f → PacketsFault routes traffic k → f ≡ k
-one_packets_fault routes traffic f k (bad_traffic {f = i} e) (bad_traffic {f = j} d) = (let both : Err i ≡ Err j = sym e ∙ d in cc)
-one_packets_fault routes traffic f k (bad_traffic {f = i} e) (bad_network {packets = ps} d bad) = (let never : Err i ≡ Ok ps = sym e ∙ d in absurd (cc never))
-one_packets_fault routes traffic f k (bad_network {packets = ps} d bad) (bad_traffic {f = i} e) = (let never : Err i ≡ Ok ps = sym e ∙ d in absurd (cc never))
-one_packets_fault routes traffic f k (bad_network {packets = ps} {f = i} e bad) (bad_network {packets = qs} {f = j} d worse) =
+one_packets_fault : (routes : Routes) (traffic : Said) (f k : Fault) → is_memory f ≡ false → is_memory k ≡ false → PacketsFault routes traffic f → PacketsFault routes traffic k → f ≡ k
+one_packets_fault routes traffic f k p q (bad_traffic {f = i} e) (bad_traffic {f = j} d) = (let both : Err i ≡ Err j = sym (e (traffic_not_memory i p)) ∙ d (traffic_not_memory j q) in cc)
+one_packets_fault routes traffic f k p q (bad_traffic {f = i} e) (bad_network {packets = ps} d bad) = (let never : Err i ≡ Ok ps = sym (e (traffic_not_memory i p)) ∙ d in absurd (cc never))
+one_packets_fault routes traffic f k p q (bad_network {packets = ps} d bad) (bad_traffic {f = i} e) = (let never : Err i ≡ Ok ps = sym (e (traffic_not_memory i q)) ∙ d in absurd (cc never))
+one_packets_fault routes traffic f k p q (bad_network {packets = ps} {f = i} e bad) (bad_network {packets = qs} {f = j} d worse) =
     let both : Ok ps ≡ Ok qs = sym e ∙ d in
     let same : ps ≡ qs = cc in
-    let faults : Some i ≡ Some j = sym bad ∙ ap (fault_of routes) same ∙ worse in
+    let faults : Some i ≡ Some j = sym (bad (network_not_memory i p)) ∙ ap (fault_of routes) same ∙ worse (network_not_memory j q) in
     cc
 
 -- ---- formulas
@@ -154,10 +155,10 @@ module _ (a : Asked) where
       let Q : Routes → Type 0 = λ z. RanksFault z text f in
       accepts_none x text f p (subst P e h.accepted) (subst Q (sym (one_relation_asked a s t x y h.relation asks).1) bad)
 
-  no_packets_fault : (run : Run) (t : Settings) (y : Routes) (f : Fault) → AsksForRun a run → AsksForRelation a t y → PacketsFault y a.traffic f → ⊥
-  no_packets_fault run t y f h asks bad =
+  no_packets_fault : (run : Run) (t : Settings) (y : Routes) (f : Fault) → is_memory f ≡ false → AsksForRun a run → AsksForRelation a t y → PacketsFault y a.traffic f → ⊥
+  no_packets_fault run t y f p h asks bad =
       let Q : Routes → Type 0 = λ z. PacketsFault z a.traffic f in
-      network_none h.routes h.settings.buffer a.traffic run.net f h.network (subst Q (sym (one_relation_asked a h.settings t h.routes y h.before.relation asks).1) bad)
+      network_none h.routes h.settings.buffer a.traffic run.net f p h.network (subst Q (sym (one_relation_asked a h.settings t h.routes y h.before.relation asks).1) bad)
 
   -- no ranks are checked by a command that asks for ranks
   no_check : (text : Said) → a.command ≡ command.Ranks → checked_ranks a ≡ Some text → ⊥
@@ -171,7 +172,7 @@ module _ (a : Asked) where
   run_none run f p other h (in_settings bad) = no_settings_fault a h.settings h.routes f p h.before.relation bad
   run_none run f p other h (in_formula e x bad) = other e
   run_none run f p other h (in_ranks {s = t} {routes = y} {text = text} x e bad) = no_ranks_fault h.settings t h.routes y text f p h.before x e bad
-  run_none run f p other h (in_packets {s = t} {routes = y} e x bad) = no_packets_fault run t y f h x.relation bad
+  run_none run f p other h (in_packets {s = t} {routes = y} e x bad) = no_packets_fault run t y f p h x.relation bad
 
   text_none : (text : List ℕ) (status : Status) (f : Fault) → is_memory f ≡ false → AsksFor a text status → TextsFault a f → ⊥
   text_none text status f p (a_report {report = m} {run = u} e x) bad = run_none u f p (λ d. omega (arith, reports a.command m e, ranked a.command d)) x bad
@@ -217,7 +218,7 @@ module _ (a : Asked) where
   one_texts_fault f k p q (in_packets {s = s} {routes = m} e asks x) (in_packets {s = t} {routes = n} d other y) =
       let same = one_relation_asked a t s n m other.relation asks.relation in
       let Q : Routes → Type 0 = λ z. PacketsFault z a.traffic k in
-      one_packets_fault m a.traffic f k x (subst Q same.1 y)
+      one_packets_fault m a.traffic f k p q x (subst Q same.1 y)
 
 -- ---- a request has a text or a fault
 

@@ -23,6 +23,7 @@ use Rattle.noc.specs.Status.{is_memory}
 use Rattle.noc.specs.declared.fault.Fault.{Fault}
 use Rattle.noc.specs.declared.fault.Fault.TheVariants as fault
 use Rattle.noc.specs.declared.fault.OptionFault.{OptionFault}
+use Rattle.noc.proofs.MemoryFacts.{config_not_memory, table_not_memory}
 
 -- ---- up to the shape, step by step
 
@@ -65,14 +66,14 @@ data At (a : Asked) (f : Fault) : Type 0 where
   table : {s : Settings} {g : Grid} → AsksForShape a s g → IsTableFault a.table g s.rule f → At a f
   relation : {s : Settings} {g : Grid} {r : Rule} {h : RouteFault} → f ≡ fault.Relation h g → AsksForShape a s g → IsRuleOf a.table g s.rule r → IsFaultOf (routing_of g s.channels s.classes r) h → At a f
 
-at : (a : Asked) (f : Fault) → SettingsFault a f → At a f
+at : (a : Asked) (f : Fault) → is_memory f ≡ false → SettingsFault a f → At a f
 unfolding shaped after_config after_early after_shape after_late
-at a f (bad_config e) = before (ap (after_config a) e)
-at a f (bad_option {s = s} e h) = before (ap (after_config a) e ∙ ap (after_early a s) h)
-at a f (bad_shape {s = s} h e) = before (shaped-settings a s h ∙ ap (after_shape a s) e)
-at a f (bad_router {s = s} {g = g} h e k) = before (shaped-settings a s h ∙ ap (after_shape a s) e ∙ ap (after_late s g) k)
-at a f (in_table h k) = table h k
-at a f (bad_relation h r k) = relation refl h r k
+at a f p (bad_config {f = i} e) = before (ap (after_config a) (e (config_not_memory i p)))
+at a f p (bad_option {s = s} e h) = before (ap (after_config a) e ∙ ap (after_early a s) h)
+at a f p (bad_shape {s = s} h e) = before (shaped-settings a s h ∙ ap (after_shape a s) e)
+at a f p (bad_router {s = s} {g = g} h e k) = before (shaped-settings a s h ∙ ap (after_shape a s) e ∙ ap (after_late s g) k)
+at a f p (in_table h k) = table h k
+at a f p (bad_relation h r k) = relation refl h r k
 
 no_shape_after : (a : Asked) (f : Fault) (s : Settings) (g : Grid) → shaped a ≡ Err f → AsksForShape a s g → ⊥
 no_shape_after a f s g e h = let never : Err f ≡ Ok (record { settings = s; grid = g }) = sym e ∙ shaped-ok a s g h in cc never
@@ -99,19 +100,19 @@ alike t g vcs classes name r s (tabled {text = x} {rows = v} e h) (tabled {text 
     let both : Ok v.items ≡ Ok w.items = sym h ∙ ap (read_by (table_of g)) text ∙ k in
     AreAlike-rows g vcs classes v w (cc)
 
-no_rule_after : (t : Option Said) (g : Grid) (name : RuleName) (r : Rule) (f : Fault) → IsRuleOf t g name r → IsTableFault t g name f → ⊥
-no_rule_after t g name r f (named e) (bad_table d k) = cc
-no_rule_after t g name r f (tabled {text = x} {rows = v} e h) (bad_table {text = y} {f = i} d k) =
+no_rule_after : (t : Option Said) (g : Grid) (name : RuleName) (r : Rule) (f : Fault) → is_memory f ≡ false → IsRuleOf t g name r → IsTableFault t g name f → ⊥
+no_rule_after t g name r f p (named e) (bad_table d k) = cc
+no_rule_after t g name r f p (tabled {text = x} {rows = v} e h) (bad_table {text = y} {f = i} d k) =
     let texts : Some x ≡ Some y = sym e ∙ d in
     let text : x ≡ y = cc in
-    let never : Ok v.items ≡ Err i = sym h ∙ ap (read_by (table_of g)) text ∙ k in
+    let never : Ok v.items ≡ Err i = sym h ∙ ap (read_by (table_of g)) text ∙ k (table_not_memory i p) in
     cc never
 
-one_table_fault : (t : Option Said) (g : Grid) (name : RuleName) (f k : Fault) → IsTableFault t g name f → IsTableFault t g name k → f ≡ k
-one_table_fault t g name f k (bad_table {text = x} {f = i} e h) (bad_table {text = y} {f = j} d u) =
+one_table_fault : (t : Option Said) (g : Grid) (name : RuleName) (f k : Fault) → is_memory f ≡ false → is_memory k ≡ false → IsTableFault t g name f → IsTableFault t g name k → f ≡ k
+one_table_fault t g name f k p q (bad_table {text = x} {f = i} e h) (bad_table {text = y} {f = j} d u) =
     let texts : Some x ≡ Some y = sym e ∙ d in
     let text : x ≡ y = cc in
-    let both : Err i ≡ Err j = sym h ∙ ap (read_by (table_of g)) text ∙ u in
+    let both : Err i ≡ Err j = sym (h (table_not_memory i p)) ∙ ap (read_by (table_of g)) text ∙ u (table_not_memory j q) in
     cc
 
 not_memory : (f : RouteFault) (g : Grid) → is_memory (fault.Relation f g) ≡ false → f ≢ route.Memory
@@ -145,7 +146,7 @@ no_relation_at : (a : Asked) (s : Settings) (routes : Routes) (f : Fault) → is
 no_relation_at a s routes f p asks (before e) = no_shape_after a f s asks.grid e asks.shape
 no_relation_at a s routes f p asks (table {s = t} {g = g} h k) =
     let found = asking a t s g routes h asks in
-    no_rule_after a.table g t.rule found.1.routing f found.1.rule k
+    no_rule_after a.table g t.rule found.1.routing f p found.1.rule k
 no_relation_at a s routes f p asks (relation {s = t} {g = g} {r = r} {h = i} e h rule bad) =
     let found = (asking a t s g routes h asks).1 in
     let like = alike a.table g t.channels t.classes t.rule found.routing r found.rule rule in
@@ -153,25 +154,25 @@ no_relation_at a s routes f p asks (relation {s = t} {g = g} {r = r} {h = i} e h
     not_memory i g (ap is_memory (sym e) ∙ p) only
 
 pub no_settings_fault : (a : Asked) (s : Settings) (routes : Routes) (f : Fault) → is_memory f ≡ false → AsksForRelation a s routes → SettingsFault a f → ⊥
-no_settings_fault a s routes f p asks bad = no_relation_at a s routes f p asks (at a f bad)
+no_settings_fault a s routes f p asks bad = no_relation_at a s routes f p asks (at a f p bad)
 
 -- ---- the first fault
 
 module _ (a : Asked) where
   -- the same table's fault, or a fault of the same rule's relation
-  tables : (f k : Fault) (s t : Settings) (g h : Grid) → AsksForShape a s g → AsksForShape a t h → IsTableFault a.table g s.rule f → IsTableFault a.table h t.rule k → f ≡ k
-  tables f k s t g h x y bad other =
+  tables : (f k : Fault) (s t : Settings) (g h : Grid) → is_memory f ≡ false → is_memory k ≡ false → AsksForShape a s g → AsksForShape a t h → IsTableFault a.table g s.rule f → IsTableFault a.table h t.rule k → f ≡ k
+  tables f k s t g h p q x y bad other =
       let same = same_shaped a s t g h x y in
       let P : Settings → Type 0 = λ z. IsTableFault a.table h z.rule k in
       let Q : Grid → Type 0 = λ z. IsTableFault a.table z s.rule k in
-      one_table_fault a.table g s.rule f k bad (subst Q same.1 (subst P same.0 other))
+      one_table_fault a.table g s.rule f k p q bad (subst Q same.1 (subst P same.0 other))
 
-  table_first : (f : Fault) (s t : Settings) (g h : Grid) (r : Rule) → AsksForShape a s g → AsksForShape a t h → IsTableFault a.table g s.rule f → IsRuleOf a.table h t.rule r → ⊥
-  table_first f s t g h r x y bad rule =
+  table_first : (f : Fault) (s t : Settings) (g h : Grid) (r : Rule) → is_memory f ≡ false → AsksForShape a s g → AsksForShape a t h → IsTableFault a.table g s.rule f → IsRuleOf a.table h t.rule r → ⊥
+  table_first f s t g h r p x y bad rule =
       let same = same_shaped a s t g h x y in
       let P : Settings → Type 0 = λ z. IsRuleOf a.table h z.rule r in
       let Q : Grid → Type 0 = λ z. IsRuleOf a.table z s.rule r in
-      no_rule_after a.table g s.rule r f (subst Q same.1 (subst P same.0 rule)) bad
+      no_rule_after a.table g s.rule r f p (subst Q same.1 (subst P same.0 rule)) bad
 
   -- a fault of a rule at a shape that is asked for
   record Failing (s : Settings) (g : Grid) (f : RouteFault) : Type 0 where
@@ -195,12 +196,12 @@ module _ (a : Asked) where
   one_at f k p q (before e) (table {s = s} {g = g} h u) = absurd (no_shape_after a f s g e h)
   one_at f k p q (before e) (relation {s = s} {g = g} d h r u) = absurd (no_shape_after a f s g e h)
   one_at f k p q (table {s = s} {g = g} h u) (before d) = absurd (no_shape_after a k s g d h)
-  one_at f k p q (table {s = s} {g = g} h u) (table {s = t} {g = i} v w) = tables f k s t g i h v u w
-  one_at f k p q (table {s = s} {g = g} h u) (relation {s = t} {g = i} {r = r} d v rule w) = absurd (table_first f s t g i r h v u rule)
+  one_at f k p q (table {s = s} {g = g} h u) (table {s = t} {g = i} v w) = tables f k s t g i p q h v u w
+  one_at f k p q (table {s = s} {g = g} h u) (relation {s = t} {g = i} {r = r} d v rule w) = absurd (table_first f s t g i r p h v u rule)
   one_at f k p q (relation {s = s} {g = g} e h r u) (before d) = absurd (no_shape_after a k s g d h)
-  one_at f k p q (relation {s = s} {g = g} {r = r} e h rule u) (table {s = t} {g = i} v w) = absurd (table_first k t s i g r v h w rule)
+  one_at f k p q (relation {s = s} {g = g} {r = r} e h rule u) (table {s = t} {g = i} v w) = absurd (table_first k t s i g r q v h w rule)
   one_at f k p q (relation {s = s} {g = g} {r = r} {h = x} e h rule u) (relation {s = t} {g = i} {r = o} {h = y} d v other w) =
       e ∙ relations x y s t g i (not_memory x g (ap is_memory (sym e) ∙ p)) (not_memory y i (ap is_memory (sym d) ∙ q)) h v (record { routing = r; rule = rule; bad = u }) (record { routing = o; rule = other; bad = w }) ∙ sym d
 
   pub one_settings_fault : (f k : Fault) → is_memory f ≡ false → is_memory k ≡ false → SettingsFault a f → SettingsFault a k → f ≡ k
-  one_settings_fault f k p q x y = one_at f k p q (at a f x) (at a k y)
+  one_settings_fault f k p q x y = one_at f k p q (at a f p x) (at a k q y)

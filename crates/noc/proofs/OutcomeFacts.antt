@@ -11,7 +11,7 @@ use Rattle.noc.specs.declared.fault.Fault.TheVariants as fault
 
 -- a fault that one step refuses with is refused with by what it is a step of
 pub refuses_more : (P Q : Fault → Type 0) (f : Fault) → (P f → Q f) → Refuses P f → Refuses Q f
-refuses_more P Q f more r = (r.0, λ memory. more (r.1 memory))
+refuses_more P Q f more r = (r.0, more r.1)
 
 -- it ends a request
 module _ (Wrote : List ℕ → Result (Unit {0}) WriteFault → Type 0) (IsUnwritten : Type 0) (Asks : List ℕ → Status → Type 0) (IsFirst : Fault → Type 0) where
@@ -34,16 +34,16 @@ module _ (Wrote : List ℕ → Result (Unit {0}) WriteFault → Type 0) (IsUnwri
       → Ends Wrote IsUnwritten Asks IsFirst result → Ends Wrote IsUnwritten Asks' IsFirst' result
   ends_more Asks' IsFirst' (Ok status) asks first e = (e.0, asks e.0 status e.1, e.2)
   ends_more Asks' IsFirst' (Err (fault.Write f)) asks first e = (e.0, e.1, asks e.0 e.1 e.2, e.3)
-  ends_more Asks' IsFirst' (Err (fault.Joined f)) asks first e = (e.0, λ memory. first _ (e.1 memory))
-  ends_more Asks' IsFirst' (Err (fault.Config f)) asks first e = (e.0, λ memory. first _ (e.1 memory))
-  ends_more Asks' IsFirst' (Err (fault.Table f)) asks first e = (e.0, λ memory. first _ (e.1 memory))
-  ends_more Asks' IsFirst' (Err (fault.RankFile f)) asks first e = (e.0, λ memory. first _ (e.1 memory))
-  ends_more Asks' IsFirst' (Err (fault.Traffic f)) asks first e = (e.0, λ memory. first _ (e.1 memory))
-  ends_more Asks' IsFirst' (Err (fault.Option f)) asks first e = (e.0, λ memory. first _ (e.1 memory))
-  ends_more Asks' IsFirst' (Err (fault.Shape f)) asks first e = (e.0, λ memory. first _ (e.1 memory))
-  ends_more Asks' IsFirst' (Err (fault.Relation f g)) asks first e = (e.0, λ memory. first _ (e.1 memory))
-  ends_more Asks' IsFirst' (Err (fault.Rank f g)) asks first e = (e.0, λ memory. first _ (e.1 memory))
-  ends_more Asks' IsFirst' (Err (fault.Network f)) asks first e = (e.0, λ memory. first _ (e.1 memory))
+  ends_more Asks' IsFirst' (Err (fault.Joined f)) asks first e = (e.0, first _ e.1)
+  ends_more Asks' IsFirst' (Err (fault.Config f)) asks first e = (e.0, first _ e.1)
+  ends_more Asks' IsFirst' (Err (fault.Table f)) asks first e = (e.0, first _ e.1)
+  ends_more Asks' IsFirst' (Err (fault.RankFile f)) asks first e = (e.0, first _ e.1)
+  ends_more Asks' IsFirst' (Err (fault.Traffic f)) asks first e = (e.0, first _ e.1)
+  ends_more Asks' IsFirst' (Err (fault.Option f)) asks first e = (e.0, first _ e.1)
+  ends_more Asks' IsFirst' (Err (fault.Shape f)) asks first e = (e.0, first _ e.1)
+  ends_more Asks' IsFirst' (Err (fault.Relation f g)) asks first e = (e.0, first _ e.1)
+  ends_more Asks' IsFirst' (Err (fault.Rank f g)) asks first e = (e.0, first _ e.1)
+  ends_more Asks' IsFirst' (Err (fault.Network f)) asks first e = (e.0, first _ e.1)
 
 -- a step that refuses, in a result
 pub if_err_more : {A : Type 0} (P Q : Fault → Type 0) (result : Result A Fault) → ((f : Fault) → P f → Q f) → IfErr result (Refuses P) → IfErr result (Refuses Q)

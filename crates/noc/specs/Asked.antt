@@ -1,10 +1,11 @@
 -- What is asked of the program: a command, and the texts of its files.
-use Rattle.std.specs.Prelude.{◌≡◌, ℕ, Bool, true, false, List, Option, None, Result, Ok, Vec, option_map}
+use Rattle.std.specs.Prelude.{◌≡◌, ◌≢◌, ℕ, Bool, true, false, List, Option, None, Result, Ok, Err, Vec, option_map}
 use Rattle.std.specs.Borrow.{Bor}
 use Rattle.std.specs.declared.alloc.Global.{Global}
 use Rattle.noc_files.specs.Gives.{◌>>=◌, result_map}
 use Rattle.noc_files.specs.Joined.{SplitsAt}
 use Rattle.noc_files.specs.declared.fault.InputFault.{InputFault}
+use Rattle.noc_files.specs.declared.fault.InputFault.TheVariants.{Memory}
 use Rattle.noc.specs.declared.request.Command.{Command}
 use Rattle.noc.specs.declared.request.Command.TheVariants.{Joined}
 use Rattle.noc.specs.declared.request.Files.{Files}
@@ -17,6 +18,10 @@ Said = Result (List ℕ) InputFault
 -- what a text says, if it was read
 abbrev pub read_by : {X : Type 0} → (List ℕ → Result X InputFault) → Said → Result X InputFault
 read_by said text = text >>= said
+
+-- why a text is not read: memory was refused, or this is its first fault
+abbrev pub IsUnread : {X : Type 0} → (List ℕ → Result X InputFault) → Said → InputFault → Type 0
+IsUnread said text f = f ≢ Memory → read_by said text ≡ Err f
 
 -- a command, and the texts at which it looks
 pub record Asked : Type 0 where

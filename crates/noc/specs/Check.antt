@@ -10,7 +10,7 @@ use Rattle.noc_rank.specs.declared.rows.RankRow.{RankRow}
 use Rattle.noc_files.specs.Configuration.{Settings}
 use Rattle.noc_files.specs.Ranks.{ranks_of}
 use Rattle.noc_files.specs.declared.fault.InputFault.{InputFault}
-use Rattle.noc.specs.Asked.{Asked, Said, read_by}
+use Rattle.noc.specs.Asked.{Asked, IsUnread, Said, read_by}
 use Rattle.noc.specs.Settings.{AsksForRelation}
 use Rattle.noc.specs.declared.fault.Fault.{Fault}
 use Rattle.noc.specs.declared.fault.Fault.TheVariants as fault
@@ -31,7 +31,7 @@ pub record Accepts (routes : Routes) (text : Said) : Type 0 where
 
 -- the first fault: the rank file, its rows, the check
 pub data RanksFault (routes : Routes) (text : Said) : Fault → Type 0 where
-  bad_file : {f : InputFault} → read_by (ranks_of routes.grid) text ≡ Err f → RanksFault routes text (fault.RankFile f)
+  bad_file : {f : InputFault} → IsUnread (ranks_of routes.grid) text f → RanksFault routes text (fault.RankFile f)
   bad_rows : {rows : List RankRow} {f : RankFault} → read_by (ranks_of routes.grid) text ≡ Ok rows → IsFaultOfRows routes.grid routes.vcs rows f → RanksFault routes text (fault.Rank f routes.grid)
   bad_ranks : {ranking : Ranking} {f : RankFault} → HasRanking routes text ranking → IsFaultOfCheck routes ranking f → RanksFault routes text (fault.Rank f routes.grid)
 

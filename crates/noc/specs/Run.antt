@@ -1,15 +1,16 @@
 -- The run that is asked for.
-use Rattle.std.specs.Prelude.{◌≡◌, ℕ, ◌+◌, List, Option, Some, None, Ok, Err, if◌then◌else◌}
+use Rattle.std.specs.Prelude.{◌≡◌, ◌≢◌, ℕ, ◌+◌, List, Option, Some, None, Ok, Err, if◌then◌else◌}
 use Rattle.noc_packet.specs.declared.packet.Packet.{Packet}
 use Rattle.noc_route.specs.Routes.{Routes}
 use Rattle.noc_net.specs.declared.fault.NetFault.{NetFault}
+use Rattle.noc_net.specs.declared.fault.NetFault.TheVariants as net
 use Rattle.noc_net.specs.Faults.{fault_of}
 use Rattle.noc_net.specs.Network.{Run, Setup}
 use Rattle.noc_net.specs.Progress.{is_stuck}
 use Rattle.noc_files.specs.Configuration.{Settings}
 use Rattle.noc_files.specs.Traffic.{traffic_of}
 use Rattle.noc_files.specs.declared.fault.InputFault.{InputFault}
-use Rattle.noc.specs.Asked.{Asked, Said, read_by}
+use Rattle.noc.specs.Asked.{Asked, IsUnread, Said, read_by}
 use Rattle.noc.specs.Check.{AsksForChecked}
 use Rattle.noc.specs.declared.request.Command.{Command}
 use Rattle.noc.specs.declared.request.Command.TheVariants as command
@@ -40,8 +41,8 @@ pub record IsNetworkOf (routes : Routes) (places : ℕ) (traffic : Said) (net : 
 
 -- the first fault: the traffic, then its packets
 pub data PacketsFault (routes : Routes) (traffic : Said) : Fault → Type 0 where
-  bad_traffic : {f : InputFault} → read_by traffic_of traffic ≡ Err f → PacketsFault routes traffic (fault.Traffic f)
-  bad_network : {packets : List Packet} {f : NetFault} → read_by traffic_of traffic ≡ Ok packets → fault_of routes packets ≡ Some f → PacketsFault routes traffic (fault.Network f)
+  bad_traffic : {f : InputFault} → IsUnread traffic_of traffic f → PacketsFault routes traffic (fault.Traffic f)
+  bad_network : {packets : List Packet} {f : NetFault} → read_by traffic_of traffic ≡ Ok packets → (f ≢ net.Memory → fault_of routes packets ≡ Some f) → PacketsFault routes traffic (fault.Network f)
 
 -- that network after the cycles that are asked for
 pub record AsksForRun (a : Asked) (run : Run) : Type 0 where

@@ -15,7 +15,7 @@ use Rattle.noc_files.specs.Table.{table_of}
 use Rattle.noc_files.specs.declared.configuration.RuleName.{RuleName}
 use Rattle.noc_files.specs.declared.configuration.RuleName.TheVariants as word
 use Rattle.noc_files.specs.declared.fault.InputFault.{InputFault}
-use Rattle.noc.specs.Asked.{Asked, Said, read_by}
+use Rattle.noc.specs.Asked.{Asked, IsUnread, Said, read_by}
 use Rattle.noc.specs.Options.{early_fault, late_fault}
 use Rattle.noc.specs.declared.fault.Fault.{Fault}
 use Rattle.noc.specs.declared.fault.Fault.TheVariants as fault
@@ -44,9 +44,9 @@ pub data IsRuleOf (table : Option Said) (g : Grid) : RuleName → Rule → Type 
   named : {name : RuleName} {r : Rule} → rule_named name ≡ Some r → IsRuleOf table g name r
   tabled : {text : Said} {rows : Vec RouteRow Global} → table ≡ Some text → read_by (table_of g) text ≡ Ok rows.items → IsRuleOf table g word.Table (rule.Rows rows)
 
--- a table file is read, and this is its first fault
+-- a table file is to be read, and this is why it is not
 pub data IsTableFault (table : Option Said) (g : Grid) : RuleName → Fault → Type 0 where
-  bad_table : {text : Said} {f : InputFault} → table ≡ Some text → read_by (table_of g) text ≡ Err f → IsTableFault table g word.Table (fault.Table f)
+  bad_table : {text : Said} {f : InputFault} → table ≡ Some text → IsUnread (table_of g) text f → IsTableFault table g word.Table (fault.Table f)
 
 -- the routing relation of that rule on that shape, with the channels and the classes of the settings
 pub record AsksForRelation (a : Asked) (s : Settings) (routes : Routes) : Type 0 where
@@ -58,7 +58,7 @@ pub record AsksForRelation (a : Asked) (s : Settings) (routes : Routes) : Type 0
 
 -- the first fault: the configuration, the options, the shape, the options once more, the table, the relation
 pub data SettingsFault (a : Asked) : Fault → Type 0 where
-  bad_config : {f : InputFault} → read_by config_of a.config ≡ Err f → SettingsFault a (fault.Config f)
+  bad_config : {f : InputFault} → IsUnread config_of a.config f → SettingsFault a (fault.Config f)
   bad_option : {s : Settings} {f : OptionFault} → read_by config_of a.config ≡ Ok s → early_fault a.command (is_some a.table) s ≡ Some f → SettingsFault a (fault.Option f)
   bad_shape : {s : Settings} {f : ShapeFault} → AsksForSettings a s → shape_of s.kind s.radix ≡ Err f → SettingsFault a (fault.Shape f)
   bad_router : {s : Settings} {g : Grid} {f : OptionFault} → AsksForSettings a s → shape_of s.kind s.radix ≡ Ok g → late_fault a.command g ≡ Some f → SettingsFault a (fault.Option f)

@@ -22,7 +22,7 @@ pub enum OptionFault {
     SpareTable,
 }
 
-/// The first fault of a request, by family (docs/FORMATS.md, "Faults").
+/// The first fault of a request, by family (docs/FORMATS.md, "Fault lines").
 #[derive(Clone, Copy, Debug)]
 pub enum Fault {
     Joined(InputFault),

@@ -14,7 +14,7 @@ use noc_rank::RankFault;
 use noc_route::{Entry, RouteFault, RouteRow};
 use noc_topo::{Shape, ShapeFault};
 
-/// Writes the line of a fault: `fault`, its family, its number, its name and its details (docs/FORMATS.md, "Faults").
+/// Writes the line of a fault: `fault`, its family, its number, its name and its details (docs/FORMATS.md, "Fault lines").
 pub fn fault_line<W: Sink>(fault: &Fault, sink: &mut W) -> Result<(), WriteFault>
     ensures { Wrote W.contents W.has_failed sink.old sink.new (line_of fault.now) result }
 {

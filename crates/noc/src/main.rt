@@ -3,7 +3,7 @@
 
 ghost use Rattle.std.specs.Prelude.{◌≡◌, ⊤, is_some};
 ghost use Rattle.std.specs.Io.Buffered.{writer_inner};
-ghost use Rattle.noc.specs.Answer.{Asks, FirstFault};
+ghost use Rattle.noc.specs.Answer.{Asks, ToldFault};
 ghost use Rattle.noc.specs.Outcome.{Ends};
 
 mod accept;
@@ -155,7 +155,7 @@ fn print_answer(
     rt: &(impl Print + Threads + Sync + AllocGlobal),
     request: &Request,
 ) -> Result<Status, Fault>
-    ensures { Ends (λ text writing. ⊤) ⊤ (Asks request.now) (FirstFault request.now) result }
+    ensures { Ends (λ text writing. ⊤) ⊤ (Asks request.now) (ToldFault request.now) result }
 {
     let writer = match BufWriter::new(rt.alloc(), Counted::new(io::writer(rt))) {
         Ok(writer) => writer,

@@ -38,6 +38,15 @@ pub each_split : {X : Type 0} (f : ℕ → List X) (n count : ℕ) → n < count
 each_split f n count h =
     ap (flat_map f) (below_split n count h) ∙ flat_map-append f (below n) (n ∷ later n count) ∙ sym (append_assoc (flat_map f (below n)) (f n) (flat_map f (later n count)))
 
+-- what is said of each number alike is alike
+pub each_same : {X : Type 0} (f h : ℕ → List X) (n : ℕ) → ((k : ℕ) → k < n → f k ≡ h k) → flat_map f (below n) ≡ flat_map h (below n)
+unfolding below
+each_same f h zero same = refl
+each_same {X} f h (suc n) same =
+    let next : suc n ≡ n + 1 = omega arith in
+    let before : flat_map f (below n) ≡ flat_map h (below n) = each_same f h n (λ k less. same k (omega arith)) in
+    ap (λ k. flat_map f (below k)) next ∙ each_more f n ∙ ap (λ (t : List X). t ++ f n) before ∙ ap (λ (t : List X). flat_map h (below n) ++ t) (same n (omega arith)) ∙ sym (each_more h n) ∙ ap (λ k. flat_map h (below k)) (sym next)
+
 -- ---- what is found of the numbers
 
 found_more : {X : Type 0} (f : ℕ → Option X) (n : ℕ) → filter_map f (below (n + 1)) ≡ filter_map f (below n) ++ filter_map f (n ∷ [])

@@ -1,5 +1,6 @@
 -- The lines of a file of ranks.
-use Rattle.std.proofs.Common.{◌≡◌, ℕ, true, false, List, [], ◌∷◌, ◌++◌, flat_map, decimal, refl, ap, ◌∙◌, append_assoc, append-nil}
+use Rattle.std.proofs.Common.{◌≡◌, ℕ, ◌<◌, ◌==◌, Bool, true, false, arith, List, [], ◌∷◌, ◌++◌, flat_map, decimal, refl, ap, ◌∙◌, append_assoc, append-nil}
+use Rattle.std.proofs.lemmas.Bool.Decides.{nat_tests}
 use Rattle.std.proofs.lemmas.Grind.{flat_map-append}
 use Rattle.std.proofs.lemmas.List.Folds.{flat_map-map}
 use Rattle.std.specs.Prelude.{is_some}
@@ -7,9 +8,11 @@ use Rattle.noc_route.specs.Ranks.{Ranking}
 use Rattle.noc_rank.specs.declared.rows.RankRow.{RankRow}
 use Rattle.noc_topo.specs.Shape.{Grid, local_port, neighbour, nodes}
 use Rattle.noc_topo.specs.Words.{below}
+use Rattle.noc_files.specs.Channels.{lines_of_port, lines_of_router, lines_of_routers}
 use Rattle.noc_files.specs.Ports.{name_of_port}
 use Rattle.noc_files.specs.Ranks.{port_rows, rank_line, rank_row, rank_rows, router_rows}
 use Rattle.noc_files.specs.Writing.{comma, joined, line_end}
+use Rattle.noc_files.proofs.BelowFacts.{each_same}
 
 pub nested : {X Y Z : Type 0} (f : Y → List Z) (h : X → List Y) (xs : List X) → flat_map f (flat_map h xs) ≡ flat_map (λ x. flat_map f (h x)) xs
 nested f h [] = refl
@@ -23,20 +26,28 @@ pub line_is : (g : Grid) (r : RankRow) → rank_line g r ≡ joined (decimal r.r
 unfolding rank_line
 line_is g r = pieces_of_row (decimal r.router) (name_of_port g r.port) (decimal r.vc) (decimal r.rank) comma line_end
 
--- the lines of a port that has a link
-pub port_lines : (k : Ranking) (router port : ℕ) → is_some (neighbour k.grid router port) ≡ true → flat_map (rank_line k.grid) (port_rows k router port) ≡ flat_map (λ vc. rank_line k.grid (rank_row k router port vc)) (below k.vcs)
+-- the lines of a port
+port_lines : (k : Ranking) (router port : ℕ) → port < local_port k.grid
+    → flat_map (rank_line k.grid) (port_rows k router port) ≡ lines_of_port k.grid k.vcs router (λ p vc. rank_line k.grid (rank_row k router p vc)) port
 unfolding port_rows
-port_lines k router port link = rw link (flat_map-map (rank_line k.grid) (rank_row k router port) (below k.vcs))
+port_lines k router port known = by (is_some (neighbour k.grid router port)) refl
+  where
+    not_local : (port == local_port k.grid) ≡ false
+    not_local = grind (arith, nat_tests)
 
--- .. and of one that has none
-pub no_lines : (k : Ranking) (router port : ℕ) → is_some (neighbour k.grid router port) ≡ false → flat_map (rank_line k.grid) (port_rows k router port) ≡ []
-unfolding port_rows
-no_lines k router port border = rw border refl
+    by : (b : Bool) → is_some (neighbour k.grid router port) ≡ b → flat_map (rank_line k.grid) (port_rows k router port) ≡ lines_of_port k.grid k.vcs router (λ p vc. rank_line k.grid (rank_row k router p vc)) port
+    by true link = rw (link, not_local) (flat_map-map (rank_line k.grid) (rank_row k router port) (below k.vcs))
+    by false border = rw (border, not_local) refl
 
-pub router_lines : (k : Ranking) (router : ℕ) → flat_map (rank_line k.grid) (router_rows k router) ≡ flat_map (λ port. flat_map (rank_line k.grid) (port_rows k router port)) (below (local_port k.grid))
+router_lines : (k : Ranking) (router : ℕ) → flat_map (rank_line k.grid) (router_rows k router) ≡ lines_of_router k.grid (local_port k.grid) k.vcs router (λ port vc. rank_line k.grid (rank_row k router port vc))
 unfolding router_rows
-router_lines k router = nested (rank_line k.grid) (port_rows k router) (below (local_port k.grid))
+router_lines k router =
+    nested (rank_line k.grid) (port_rows k router) (below (local_port k.grid))
+    ∙ each_same (λ port. flat_map (rank_line k.grid) (port_rows k router port)) (lines_of_port k.grid k.vcs router (λ port vc. rank_line k.grid (rank_row k router port vc))) (local_port k.grid) (port_lines k router)
 
-pub all_lines : (k : Ranking) → flat_map (rank_line k.grid) (rank_rows k) ≡ flat_map (λ router. flat_map (rank_line k.grid) (router_rows k router)) (below (nodes k.grid))
+-- the lines of all link channels
+pub all_lines : (k : Ranking) → flat_map (rank_line k.grid) (rank_rows k) ≡ lines_of_routers k.grid (local_port k.grid) k.vcs (λ router port vc. rank_line k.grid (rank_row k router port vc))
 unfolding rank_rows
-all_lines k = nested (rank_line k.grid) (router_rows k) (below (nodes k.grid))
+all_lines k =
+    nested (rank_line k.grid) (router_rows k) (below (nodes k.grid))
+    ∙ each_same (λ router. flat_map (rank_line k.grid) (router_rows k router)) (λ router. lines_of_router k.grid (local_port k.grid) k.vcs router (λ port vc. rank_line k.grid (rank_row k router port vc))) (nodes k.grid) (λ router known. router_lines k router)

@@ -5,7 +5,7 @@ use Rattle.noc_rank.specs.declared.rows.RankRow.{RankRow}
 use Rattle.noc_topo.specs.Shape.{Grid, IsGrid}
 use Rattle.noc_files.specs.declared.fault.InputFault.{InputFault}
 use Rattle.noc_files.specs.declared.fault.InputFault.TheVariants.{BadCount, BadNumber, BadPort}
-use Rattle.noc_files.specs.Columns.{HasBadColumn, IsField, IsRowFault, field_fault}
+use Rattle.noc_files.specs.Columns.{HasBadField, IsField, IsFieldFault, field_fault}
 use Rattle.noc_files.specs.Ports.{port_of}
 use Rattle.noc_files.specs.Rows.{Fields, number_of, rows_of}
 use Rattle.noc_files.specs.Ranks.{IsRankFileFault, WritesRank, header, is_port_column, rank_row_of, ranks_of}
@@ -20,7 +20,7 @@ use borrow.Author.Count.{below_more, below_none}
 
 module _ (g : Grid) (grid : IsGrid g) where
   four_fault : (row : ℕ) (a b c d : List ℕ) (fault : InputFault) → (oa : Option ℕ) → number_of a ≡ oa → (ob : Option ℕ) → port_of g b ≡ ob → (oc : Option ℕ) → number_of c ≡ oc → (od : Option ℕ) → number_of d ≡ od
-      → rank_row_of g row (a ∷ b ∷ c ∷ d ∷ []) ≡ Err fault → HasBadColumn g 4 is_port_column row (a ∷ b ∷ c ∷ d ∷ []) fault
+      → rank_row_of g row (a ∷ b ∷ c ∷ d ∷ []) ≡ Err fault → HasBadField g 4 is_port_column row (a ∷ b ∷ c ∷ d ∷ []) fault
   unfolding rank_row_of field_at
   four_fault row a b c d fault None ea ob eb oc ec od ed e =
       let said : Path (Result RankRow InputFault) (Err (BadNumber row 0)) (Err fault) = rw ea at e in
@@ -38,7 +38,7 @@ module _ (g : Grid) (grid : IsGrid g) where
       let said : Path (Result RankRow InputFault) (Ok (record { router = na; port = nb; vc = nc; rank = nd })) (Err fault) = rw (ea, eb, ec, ed) at e in
       absurd (cc)
 
-  rank_fault : (row : ℕ) (fields : Fields) (fault : InputFault) → rank_row_of g row fields ≡ Err fault → IsRowFault g 4 is_port_column row fields fault
+  rank_fault : (row : ℕ) (fields : Fields) (fault : InputFault) → rank_row_of g row fields ≡ Err fault → IsFieldFault g 4 is_port_column row fields fault
   unfolding rank_row_of field_at
   rank_fault row [] fault e = inl ((λ same. omega arith), cc)
   rank_fault row (a ∷ []) fault e = inl ((λ same. omega arith), cc)
@@ -73,7 +73,7 @@ module _ (g : Grid) (grid : IsGrid g) where
   unfolding rank_row_of
   wrong_count row fields other = rw (unlike (length fields) 4 other)
 
-  column_fault : (row : ℕ) (fields : Fields) (fault : InputFault) → HasBadColumn g 4 is_port_column row fields fault → rank_row_of g row fields ≡ Err fault
+  column_fault : (row : ℕ) (fields : Fields) (fault : InputFault) → HasBadField g 4 is_port_column row fields fault → rank_row_of g row fields ≡ Err fault
   column_fault row [] fault w = absurd (omega (arith, w.all_there))
   column_fault row (a ∷ []) fault w = absurd (omega (arith, w.all_there))
   column_fault row (a ∷ b ∷ []) fault w = absurd (omega (arith, w.all_there))
@@ -81,13 +81,13 @@ module _ (g : Grid) (grid : IsGrid g) where
   column_fault row (a ∷ b ∷ c ∷ d ∷ []) fault w = bad_column row a b c d fault w.column w.known w.before w.bad w.fault_is
   column_fault row (a ∷ b ∷ c ∷ d ∷ f ∷ more) fault w = absurd (omega (arith, w.all_there))
 
-  fault_rank : (row : ℕ) (fields : Fields) (fault : InputFault) → IsRowFault g 4 is_port_column row fields fault → rank_row_of g row fields ≡ Err fault
+  fault_rank : (row : ℕ) (fields : Fields) (fault : InputFault) → IsFieldFault g 4 is_port_column row fields fault → rank_row_of g row fields ≡ Err fault
   fault_rank row fields fault (inl w) = wrong_count row fields w.0 ∙ ap (λ (t : InputFault). Err t) (sym w.1)
   fault_rank row fields fault (inr w) = column_fault row fields fault w
 
   -- a text is refused with this fault just where it is its first
   pub rank_file_fault : (text : List ℕ) (fault : InputFault) → ranks_of g text ≡ Err fault → IsRankFileFault g text fault
-  rank_file_fault text fault e = sheet_breaks (rank_row_of g) (WritesRank g) (IsRowFault g 4 is_port_column) (rank_is g grid) (is_rank g grid) rank_fault fault_rank header (rows_of text) fault e
+  rank_file_fault text fault e = sheet_breaks (rank_row_of g) (WritesRank g) (IsFieldFault g 4 is_port_column) (rank_is g grid) (is_rank g grid) rank_fault fault_rank header (rows_of text) fault e
 
   pub fault_rank_file : (text : List ℕ) (fault : InputFault) → IsRankFileFault g text fault → ranks_of g text ≡ Err fault
-  fault_rank_file text fault w = breaks_sheet (rank_row_of g) (WritesRank g) (IsRowFault g 4 is_port_column) (rank_is g grid) (is_rank g grid) rank_fault fault_rank header (rows_of text) fault w
+  fault_rank_file text fault w = breaks_sheet (rank_row_of g) (WritesRank g) (IsFieldFault g 4 is_port_column) (rank_is g grid) (is_rank g grid) rank_fault fault_rank header (rows_of text) fault w

@@ -22,18 +22,20 @@ whole (Ok ps) = refl
 whole (Err f) = refl
 
 module _ {P : Type 0} (read : ℕ → Fields → Result P InputFault) where
-  pub goes_on : (before : List P) (row : ℕ) (all rows : List Fields) (fields : Fields) (p : P) (total : Result (List P) InputFault) → all ≡ fields ∷ rows → Ok p ≡ read row fields
+  pub goes_on : (before : List P) (row index : ℕ) (all rows : List Fields) (fields : Fields) (p : P) (total : Result (List P) InputFault) → all ≡ fields ∷ rows → Ok p ≡ read index fields → index ≡ row
       → after before (each_from read row all) ≡ total → after (before ++ p ∷ []) (each_from read (row + 1) rows) ≡ total
   unfolding each_from
-  goes_on before row all rows fields p total split took so_far =
-      let one : after before (each_from read row all) ≡ after (before ++ p ∷ []) (each_from read (row + 1) rows) = rw (split, ← took) (regroup before p (each_from read (row + 1) rows)) in
+  goes_on before row index all rows fields p total split took at so_far =
+      let here : Ok p ≡ read row fields = took ∙ ap (λ n. read n fields) at in
+      let one : after before (each_from read row all) ≡ after (before ++ p ∷ []) (each_from read (row + 1) rows) = rw (split, ← here) (regroup before p (each_from read (row + 1) rows)) in
       sym one ∙ so_far
 
-  pub stops : (before : List P) (row : ℕ) (all rows : List Fields) (fields : Fields) (e : InputFault) (total : Result (List P) InputFault) → all ≡ fields ∷ rows → Err e ≡ read row fields
+  pub stops : (before : List P) (row index : ℕ) (all rows : List Fields) (fields : Fields) (e : InputFault) (total : Result (List P) InputFault) → all ≡ fields ∷ rows → Err e ≡ read index fields → index ≡ row
       → after before (each_from read row all) ≡ total → total ≡ Err e
   unfolding each_from
-  stops before row all rows fields e total split took so_far =
-      let one : after before (each_from read row all) ≡ Err e = rw (split, ← took) in
+  stops before row index all rows fields e total split took at so_far =
+      let here : Err e ≡ read row fields = took ∙ ap (λ n. read n fields) at in
+      let one : after before (each_from read row all) ≡ Err e = rw (split, ← here) in
       sym so_far ∙ one
 
   pub ends : (before : List P) (row : ℕ) (all : List Fields) (total : Result (List P) InputFault) → all ≡ [] → after before (each_from read row all) ≡ total → total ≡ Ok before

@@ -8,7 +8,7 @@ use Rattle.noc_files.specs.declared.fault.InputFault.{InputFault}
 use Rattle.noc_files.specs.declared.fault.InputFault.TheVariants.{BadCount, BadNumber, BadPort}
 use Rattle.noc_files.specs.Ports.{IsPortName, port_of}
 use Rattle.noc_files.specs.Rows.{Fields, number_of, rows_of}
-use Rattle.noc_files.specs.Columns.{HasBadColumn, IsField, field_fault}
+use Rattle.noc_files.specs.Columns.{HasBadField, IsField, field_fault}
 use Rattle.noc_files.specs.Table.{IsRouteFault, IsTableFault, WritesRoute, header, is_port_column, route_row_of, table_of}
 use Rattle.noc_files.proofs.FaultLaws.{breaks_sheet, sheet_breaks}
 use Rattle.noc_files.proofs.PortLaws.{is_port, port_is}
@@ -30,7 +30,7 @@ module _ (g : Grid) (grid : IsGrid g) where
       by None e = e
 
   seven_fault : (row : ℕ) (a b c d f h k : List ℕ) (fault : InputFault) → (oa : Option ℕ) → number_of a ≡ oa → (ob : Option ℕ) → number_of b ≡ ob → (oc : Option ℕ) → port_of g c ≡ oc → (od : Option ℕ) → number_of d ≡ od → (of : Option ℕ) → number_of f ≡ of → (oh : Option ℕ) → port_of g h ≡ oh → (ok : Option ℕ) → number_of k ≡ ok
-      → route_row_of g row (a ∷ b ∷ c ∷ d ∷ f ∷ h ∷ k ∷ []) ≡ Err fault → HasBadColumn g 7 is_port_column row (a ∷ b ∷ c ∷ d ∷ f ∷ h ∷ k ∷ []) fault
+      → route_row_of g row (a ∷ b ∷ c ∷ d ∷ f ∷ h ∷ k ∷ []) ≡ Err fault → HasBadField g 7 is_port_column row (a ∷ b ∷ c ∷ d ∷ f ∷ h ∷ k ∷ []) fault
   unfolding route_row_of field_at
   seven_fault row a b c d f h k fault None ea ob eb oc ec od ed of ef oh eh ok ek e =
       let said : Path (Result RouteRow InputFault) (Err (BadNumber row 0)) (Err fault) = rw ea at e in
@@ -117,7 +117,7 @@ module _ (g : Grid) (grid : IsGrid g) where
   unfolding route_row_of
   wrong_count row fields other = rw (unlike (length fields) 7 other)
 
-  column_fault : (row : ℕ) (fields : Fields) (fault : InputFault) → HasBadColumn g 7 is_port_column row fields fault → route_row_of g row fields ≡ Err fault
+  column_fault : (row : ℕ) (fields : Fields) (fault : InputFault) → HasBadField g 7 is_port_column row fields fault → route_row_of g row fields ≡ Err fault
   column_fault row [] fault w = absurd (omega (arith, w.all_there))
   column_fault row (a ∷ []) fault w = absurd (omega (arith, w.all_there))
   column_fault row (a ∷ b ∷ []) fault w = absurd (omega (arith, w.all_there))

@@ -7,7 +7,8 @@ use Rattle.noc_packet.specs.declared.packet.Packet.{Packet}
 use Rattle.noc_files.specs.declared.fault.InputFault.{InputFault}
 use Rattle.noc_files.specs.declared.fault.InputFault.TheVariants.{BadCount, BadNumber}
 use Rattle.noc_files.specs.Rows.{Fields, HasNumeral, number_of, rows_of}
-use Rattle.noc_files.specs.Traffic.{HasBadColumn, IsPacketFault, IsTrafficFault, WritesPacket, header, packet_of, traffic_of}
+use Rattle.noc_files.specs.Columns.{HasBadColumn}
+use Rattle.noc_files.specs.Traffic.{IsPacketFault, IsTrafficFault, WritesPacket, header, packet_of, traffic_of}
 use Rattle.noc_files.proofs.FaultLaws.{breaks_sheet, sheet_breaks}
 use Rattle.noc_files.proofs.SheetLaws.{is_numeral, numeral_is}
 use Rattle.noc_files.proofs.TrafficLaws.{differs, is_packet, packet_is}
@@ -24,23 +25,23 @@ none_of field h = by (number_of field) refl
     by None e = e
 
 five_fault : (row : ℕ) (a b c d f : List ℕ) (fault : InputFault) → (oa : Option ℕ) → number_of a ≡ oa → (ob : Option ℕ) → number_of b ≡ ob → (oc : Option ℕ) → number_of c ≡ oc → (od : Option ℕ) → number_of d ≡ od → (of : Option ℕ) → number_of f ≡ of
-    → packet_of row (a ∷ b ∷ c ∷ d ∷ f ∷ []) ≡ Err fault → HasBadColumn row (a ∷ b ∷ c ∷ d ∷ f ∷ []) fault
+    → packet_of row (a ∷ b ∷ c ∷ d ∷ f ∷ []) ≡ Err fault → HasBadColumn 5 (λ _. HasNumeral) BadNumber row (a ∷ b ∷ c ∷ d ∷ f ∷ []) fault
 unfolding packet_of field_at
 five_fault row a b c d f fault None ea ob eb oc ec od ed of ef e =
     let said : Path (Result Packet InputFault) (Err (BadNumber row 0)) (Err fault) = rw ea at e in
-    record { five = refl; column = 0; known = omega arith; before = below_none _; bad = no_numeral a ea; fault_is = cc }
+    record { all_there = refl; column = 0; known = omega arith; before = below_none _; bad = no_numeral a ea; fault_is = cc }
 five_fault row a b c d f fault (Some na) ea None eb oc ec od ed of ef e =
     let said : Path (Result Packet InputFault) (Err (BadNumber row 1)) (Err fault) = rw (ea, eb) at e in
-    record { five = refl; column = 1; known = omega arith; before = below_more _ 0 (below_none _) (na, numeral_is a na ea); bad = no_numeral b eb; fault_is = cc }
+    record { all_there = refl; column = 1; known = omega arith; before = below_more _ 0 (below_none _) (na, numeral_is a na ea); bad = no_numeral b eb; fault_is = cc }
 five_fault row a b c d f fault (Some na) ea (Some nb) eb None ec od ed of ef e =
     let said : Path (Result Packet InputFault) (Err (BadNumber row 2)) (Err fault) = rw (ea, eb, ec) at e in
-    record { five = refl; column = 2; known = omega arith; before = below_more _ 1 (below_more _ 0 (below_none _) (na, numeral_is a na ea)) (nb, numeral_is b nb eb); bad = no_numeral c ec; fault_is = cc }
+    record { all_there = refl; column = 2; known = omega arith; before = below_more _ 1 (below_more _ 0 (below_none _) (na, numeral_is a na ea)) (nb, numeral_is b nb eb); bad = no_numeral c ec; fault_is = cc }
 five_fault row a b c d f fault (Some na) ea (Some nb) eb (Some nc) ec None ed of ef e =
     let said : Path (Result Packet InputFault) (Err (BadNumber row 3)) (Err fault) = rw (ea, eb, ec, ed) at e in
-    record { five = refl; column = 3; known = omega arith; before = below_more _ 2 (below_more _ 1 (below_more _ 0 (below_none _) (na, numeral_is a na ea)) (nb, numeral_is b nb eb)) (nc, numeral_is c nc ec); bad = no_numeral d ed; fault_is = cc }
+    record { all_there = refl; column = 3; known = omega arith; before = below_more _ 2 (below_more _ 1 (below_more _ 0 (below_none _) (na, numeral_is a na ea)) (nb, numeral_is b nb eb)) (nc, numeral_is c nc ec); bad = no_numeral d ed; fault_is = cc }
 five_fault row a b c d f fault (Some na) ea (Some nb) eb (Some nc) ec (Some nd) ed None ef e =
     let said : Path (Result Packet InputFault) (Err (BadNumber row 4)) (Err fault) = rw (ea, eb, ec, ed, ef) at e in
-    record { five = refl; column = 4; known = omega arith; before = below_more _ 3 (below_more _ 2 (below_more _ 1 (below_more _ 0 (below_none _) (na, numeral_is a na ea)) (nb, numeral_is b nb eb)) (nc, numeral_is c nc ec)) (nd, numeral_is d nd ed); bad = no_numeral f ef; fault_is = cc }
+    record { all_there = refl; column = 4; known = omega arith; before = below_more _ 3 (below_more _ 2 (below_more _ 1 (below_more _ 0 (below_none _) (na, numeral_is a na ea)) (nb, numeral_is b nb eb)) (nc, numeral_is c nc ec)) (nd, numeral_is d nd ed); bad = no_numeral f ef; fault_is = cc }
 five_fault row a b c d f fault (Some na) ea (Some nb) eb (Some nc) ec (Some nd) ed (Some nf) ef e =
     let said : Path (Result Packet InputFault) (Ok (record { source = na; destination = nb; class = nc; length = nd; due = nf })) (Err fault) = rw (ea, eb, ec, ed, ef) at e in
     absurd (cc)
@@ -90,14 +91,14 @@ wrong_count : (row : ℕ) (fields : Fields) → length fields ≢ 5 → packet_o
 unfolding packet_of
 wrong_count row fields other = rw (unlike (length fields) 5 other)
 
-column_fault : (row : ℕ) (fields : Fields) (fault : InputFault) → HasBadColumn row fields fault → packet_of row fields ≡ Err fault
-column_fault row [] fault h = absurd (omega (arith, h.five))
-column_fault row (a ∷ []) fault h = absurd (omega (arith, h.five))
-column_fault row (a ∷ b ∷ []) fault h = absurd (omega (arith, h.five))
-column_fault row (a ∷ b ∷ c ∷ []) fault h = absurd (omega (arith, h.five))
-column_fault row (a ∷ b ∷ c ∷ d ∷ []) fault h = absurd (omega (arith, h.five))
+column_fault : (row : ℕ) (fields : Fields) (fault : InputFault) → HasBadColumn 5 (λ _. HasNumeral) BadNumber row fields fault → packet_of row fields ≡ Err fault
+column_fault row [] fault h = absurd (omega (arith, h.all_there))
+column_fault row (a ∷ []) fault h = absurd (omega (arith, h.all_there))
+column_fault row (a ∷ b ∷ []) fault h = absurd (omega (arith, h.all_there))
+column_fault row (a ∷ b ∷ c ∷ []) fault h = absurd (omega (arith, h.all_there))
+column_fault row (a ∷ b ∷ c ∷ d ∷ []) fault h = absurd (omega (arith, h.all_there))
 column_fault row (a ∷ b ∷ c ∷ d ∷ f ∷ []) fault h = bad_column row a b c d f fault h.column h.known h.before h.bad h.fault_is
-column_fault row (a ∷ b ∷ c ∷ d ∷ f ∷ g ∷ more) fault h = absurd (omega (arith, h.five))
+column_fault row (a ∷ b ∷ c ∷ d ∷ f ∷ g ∷ more) fault h = absurd (omega (arith, h.all_there))
 
 fault_packet : (row : ℕ) (fields : Fields) (fault : InputFault) → IsPacketFault row fields fault → packet_of row fields ≡ Err fault
 fault_packet row fields fault (inl h) = wrong_count row fields h.0 ∙ ap (λ (t : InputFault). Err t) (sym h.1)

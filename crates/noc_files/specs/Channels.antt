@@ -9,14 +9,25 @@ use Rattle.noc_route.specs.Routes.{Routes}
 abbrev pub is_input : Grid → ℕ → ℕ → Bool
 is_input g router port = port == local_port g || is_some (neighbour g router port)
 
--- what is said of the channels of an input port, one after the other
+module _ {X : Type 0} (g : Grid) where
+  -- what is said of the channels of an input port, one after the other
+  abbrev pub lines_of_port : ℕ → ℕ → (ℕ → ℕ → List X) → ℕ → List X
+  lines_of_port vcs router said port = if is_input g router port then flat_map (said port) (below vcs) else []
+
+  -- what is said of the input channels of a router, port by port over so many of its ports
+  abbrev pub lines_of_router : ℕ → ℕ → ℕ → (ℕ → ℕ → List X) → List X
+  lines_of_router listed vcs router said = flat_map (lines_of_port vcs router said) (below listed)
+
+  -- what is said of the input channels of all routers, router by router
+  abbrev pub lines_of_routers : ℕ → ℕ → (ℕ → ℕ → ℕ → List X) → List X
+  lines_of_routers listed vcs said = flat_map (λ router. lines_of_router listed vcs router (said router)) (below (nodes g))
+
+-- .. of an input port, a router and all routers of a relation
 abbrev pub over_port : {X : Type 0} → Routes → ℕ → (ℕ → ℕ → List X) → ℕ → List X
-over_port relation router said port = if is_input relation.grid router port then flat_map (said port) (below relation.vcs) else []
+over_port relation router said port = lines_of_port relation.grid relation.vcs router said port
 
--- what is said of the input channels of a router, port by port
 abbrev pub over_router : {X : Type 0} → Routes → ℕ → (ℕ → ℕ → List X) → List X
-over_router relation router said = flat_map (over_port relation router said) (below (ports relation.grid))
+over_router relation router said = lines_of_router relation.grid (ports relation.grid) relation.vcs router said
 
--- what is said of all input channels, router by router
 abbrev pub over_routers : {X : Type 0} → Routes → (ℕ → ℕ → ℕ → List X) → List X
-over_routers relation said = flat_map (λ router. over_router relation router (said router)) (below (nodes relation.grid))
+over_routers relation said = lines_of_routers relation.grid (ports relation.grid) relation.vcs said

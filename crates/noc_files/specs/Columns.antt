@@ -16,16 +16,24 @@ abbrev pub field_fault : Bool → ℕ → ℕ → InputFault
 field_fault true row column = BadPort row column
 field_fault false row column = BadNumber row column
 
--- as many fields as there are columns, of which this is the first that its column may not hold: a name in a column of
--- ports, a numeral in the others
-pub record HasBadColumn (g : Grid) (columns : ℕ) (is_port : ℕ → Bool) (row : ℕ) (fields : Fields) (fault : InputFault) : Type 0 where
-  pub all_there : length fields ≡ columns
-  pub column : ℕ
-  pub known : column < columns
-  pub before : (k : ℕ) → k < column → IsField g (is_port k) (slice_index_or fields k [])
-  pub bad : IsField g (is_port column) (slice_index_or fields column []) → ⊥
-  pub fault_is : fault ≡ field_fault (is_port column) row column
+module _ (columns : ℕ) (Holds : ℕ → List ℕ → Type 0) (fault_at : ℕ → ℕ → InputFault) where
+  -- as many fields as there are columns, of which this is the first that its column may not hold
+  pub record HasBadColumn (row : ℕ) (fields : Fields) (fault : InputFault) : Type 0 where
+    pub all_there : length fields ≡ columns
+    pub column : ℕ
+    pub known : column < columns
+    pub before : (k : ℕ) → k < column → Holds k (slice_index_or fields k [])
+    pub bad : Holds column (slice_index_or fields column []) → ⊥
+    pub fault_is : fault ≡ fault_at row column
 
--- the fault of a row: another number of fields, or a field that its column may not hold
-abbrev pub IsRowFault : Grid → ℕ → (ℕ → Bool) → ℕ → Fields → InputFault → Type 0
-IsRowFault g columns is_port row fields fault = ((length fields ≢ columns) × (fault ≡ BadCount row)) ⊎ HasBadColumn g columns is_port row fields fault
+  -- the fault of a row: another number of fields, or a field that its column may not hold
+  abbrev pub IsRowFault : ℕ → Fields → InputFault → Type 0
+  IsRowFault row fields fault = ((length fields ≢ columns) × (fault ≡ BadCount row)) ⊎ HasBadColumn row fields fault
+
+-- the same where some columns hold names of ports and the others numerals
+module _ (g : Grid) (columns : ℕ) (is_port : ℕ → Bool) where
+  abbrev pub HasBadField : ℕ → Fields → InputFault → Type 0
+  HasBadField row fields fault = HasBadColumn columns (λ k. IsField g (is_port k)) (λ at k. field_fault (is_port k) at k) row fields fault
+
+  abbrev pub IsFieldFault : ℕ → Fields → InputFault → Type 0
+  IsFieldFault row fields fault = IsRowFault columns (λ k. IsField g (is_port k)) (λ at k. field_fault (is_port k) at k) row fields fault

@@ -1,5 +1,5 @@
 -- The report of a router's findings in one cycle.
-use Rattle.std.specs.Prelude.{ℕ, ◌+◌, ◌*◌, slice_get, List, [], ◌∷◌, ◌++◌, decimal, codes, Option, Some, None}
+use Rattle.std.specs.Prelude.{ℕ, ◌+◌, ◌*◌, slice_get, List, [], ◌∷◌, ◌++◌, decimal, codes, Option, Some, None, unwrap_or}
 use Rattle.noc_net.specs.Network.{Run}
 use Rattle.noc_net.specs.Lockstep.{findings_before}
 use Rattle.noc_topo.specs.Shape.{Grid}
@@ -8,7 +8,7 @@ use Rattle.noc_router.specs.declared.verdict.Finding.{Finding}
 use Rattle.noc_router.specs.declared.verdict.Verdict.{Verdict}
 use Rattle.noc_router.specs.declared.verdict.Verdict.TheVariants.{Empty, Granted, LostChannel, LostInput, LostSwitch, Moved, NoCredit, NoFlit, NoIdleChannel, Routed}
 use Rattle.noc_files.specs.Channels.{over_router}
-use Rattle.noc_files.specs.Ports.{name_of_port}
+use Rattle.noc_files.specs.Ports.{name_of_port, port_text}
 use Rattle.noc_files.specs.Writing.{comma, dash_or, joined, line_end}
 
 unfoldable pub finding_header : List ℕ
@@ -17,7 +17,7 @@ finding_header = codes "port,vc,verdict,packet,out\n"
 -- an output channel as port, full stop and number, or a dash, and the end of the line
 abbrev pub out_text : Grid → Option (ℕ × ℕ) → List ℕ
 out_text g None = joined (codes "-" ∷ line_end ∷ [])
-out_text g (Some (port, vc)) = joined (name_of_port g port ∷ codes "." ∷ decimal vc ∷ line_end ∷ [])
+out_text g (Some (port, vc)) = joined (unwrap_or (port_text g port) (codes "-") ∷ codes "." ∷ decimal vc ∷ line_end ∷ [])
 
 -- the name of a verdict
 abbrev pub verdict_word : Verdict → List ℕ

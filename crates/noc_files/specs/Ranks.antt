@@ -8,7 +8,7 @@ use Rattle.noc_route.specs.Order.{numbers_before}
 use Rattle.noc_rank.specs.declared.rows.RankRow.{RankRow}
 use Rattle.noc_files.specs.declared.fault.InputFault.{InputFault}
 use Rattle.noc_files.specs.declared.fault.InputFault.TheVariants.{BadCount}
-use Rattle.noc_files.specs.Columns.{IsRowFault}
+use Rattle.noc_files.specs.Columns.{IsFieldFault}
 use Rattle.noc_files.specs.Gives.{◌>>=◌}
 use Rattle.noc_files.specs.Ports.{IsPortName, name_of_port, port_at}
 use Rattle.noc_files.specs.Plain.{row_line}
@@ -48,7 +48,7 @@ is_port_column column = column == 1
 
 -- the first fault of a file of ranks
 abbrev pub IsRankFileFault : Grid → List ℕ → InputFault → Type 0
-IsRankFileFault g text fault = IsSheetFault (WritesRank g) (IsRowFault g 4 is_port_column) header (rows_of text) fault
+IsRankFileFault g text fault = IsSheetFault (WritesRank g) (IsFieldFault g 4 is_port_column) header (rows_of text) fault
 
 -- ---- the file of some ranks
 

@@ -1,5 +1,7 @@
 -- What a file of rows under a header says, whatever a row says.
-use Rattle.std.specs.Prelude.{◌≡◌, ◌≢◌, ◌⊎◌, ℕ, ◌+◌, length, List, [], ◌∷◌, ◌++◌, Result, Ok, Err, if◌then◌else◌}
+use Rattle.std.specs.Prelude.{◌≡◌, ◌≢◌, ◌⊎◌, ℕ, ◌+◌, ◌^◌, ◌<◌, length, List, [], ◌∷◌, ◌++◌, Result, Ok, Err, if◌then◌else◌}
+use Rattle.std.specs.Borrow.{Bor}
+use Rattle.csv.specs.Records.{Row, fields_of}
 use Rattle.std.specs.Cmp.Lexicographic.{pointwise}
 use Rattle.std.specs.List.{AllZip}
 use Rattle.std.specs.Str.{bytes_eq}
@@ -21,6 +23,10 @@ module _ {P : Type 0} (read : ℕ → Fields → Result P InputFault) where
   unfoldable pub sheet : Fields → List Fields → Result (List P) InputFault
   sheet header [] = Err BadHeader
   sheet header (names ∷ rows) = if pointwise bytes_eq names header then each_from 0 rows else Err BadHeader
+
+-- each row, with its number, is read as is said of its fields
+abbrev pub ReadsRows : {P : Type 0} → (Bor Row → ℕ → Result P InputFault → Type 0) → (ℕ → Fields → Result P InputFault) → Type 0
+ReadsRows post said = (row : Bor Row) (index : ℕ) (read : Result _ InputFault) → index < 2 ^ 64 → post row index read → read ≡ said index (fields_of row.now)
 
 -- a row of these names, and below it a row for each of these values
 pub record IsSheet {P : Type 0} (Writes : Fields → P → Type 0) (header : Fields) (rows : List Fields) (values : List P) : Type 0 where

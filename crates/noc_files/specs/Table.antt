@@ -4,7 +4,7 @@ use Rattle.noc_route.specs.declared.rule.RouteRow.{RouteRow}
 use Rattle.noc_topo.specs.Shape.{Grid, ports}
 use Rattle.noc_files.specs.declared.fault.InputFault.{InputFault}
 use Rattle.noc_files.specs.declared.fault.InputFault.TheVariants.{BadCount}
-use Rattle.noc_files.specs.Columns.{IsRowFault}
+use Rattle.noc_files.specs.Columns.{IsFieldFault}
 use Rattle.noc_files.specs.Gives.{◌>>=◌}
 use Rattle.noc_files.specs.Ports.{IsPortName, name_of_port, port_at}
 use Rattle.noc_files.specs.Plain.{plain_text}
@@ -48,7 +48,7 @@ is_port_column column = column == 2 || column == 5
 
 -- the fault of a row: another number of fields, or a field that its column may not hold
 abbrev pub IsRouteFault : Grid → ℕ → Fields → InputFault → Type 0
-IsRouteFault g row fields fault = IsRowFault g 7 is_port_column row fields fault
+IsRouteFault g row fields fault = IsFieldFault g 7 is_port_column row fields fault
 
 -- the first fault of a table file
 abbrev pub IsTableFault : Grid → List ℕ → InputFault → Type 0

@@ -1,8 +1,9 @@
 -- What a traffic file says.
-use Rattle.std.specs.Prelude.{◌≡◌, ◌≢◌, ◌⊎◌, slice_index_or, ℕ, ◌^◌, ◌<◌, ◌==◌, decimal, map, List, [], ◌∷◌, length, codes, Result, Ok, Err, if◌then◌else◌}
+use Rattle.std.specs.Prelude.{ℕ, ◌^◌, ◌<◌, ◌==◌, decimal, map, List, [], ◌∷◌, length, codes, Result, Ok, Err, if◌then◌else◌}
 use Rattle.noc_files.specs.declared.fault.InputFault.{InputFault}
 use Rattle.noc_files.specs.declared.fault.InputFault.TheVariants.{BadCount, BadNumber}
 use Rattle.noc_packet.specs.declared.packet.Packet.{Packet}
+use Rattle.noc_files.specs.Columns.{IsRowFault}
 use Rattle.noc_files.specs.Gives.{◌>>=◌}
 use Rattle.noc_files.specs.Plain.{plain_text}
 use Rattle.noc_files.specs.Rows.{Fields, HasNumeral, IsNumeral, number_at, rows_of}
@@ -37,18 +38,9 @@ WritesPacket _ p = ⊥
 abbrev pub IsTraffic : List ℕ → List Packet → Type 0
 IsTraffic text packets = IsSheet WritesPacket header (rows_of text) packets
 
--- five fields, of which this is the first that is no numeral
-pub record HasBadColumn (row : ℕ) (fields : Fields) (fault : InputFault) : Type 0 where
-  pub five : length fields ≡ 5
-  pub column : ℕ
-  pub known : column < 5
-  pub before : (k : ℕ) → k < column → HasNumeral (slice_index_or fields k [])
-  pub bad : HasNumeral (slice_index_or fields column []) → ⊥
-  pub fault_is : fault ≡ BadNumber row column
-
 -- the fault of a row: another number of fields, or a field that is no numeral
 abbrev pub IsPacketFault : ℕ → Fields → InputFault → Type 0
-IsPacketFault row fields fault = ((length fields ≢ 5) × (fault ≡ BadCount row)) ⊎ HasBadColumn row fields fault
+IsPacketFault row fields fault = IsRowFault 5 (λ _. HasNumeral) BadNumber row fields fault
 
 -- the first fault of a traffic file
 abbrev pub IsTrafficFault : List ℕ → InputFault → Type 0

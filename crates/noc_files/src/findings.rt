@@ -1,41 +1,20 @@
 //! The report of a router's findings in one cycle (docs/FORMATS.md).
 
 ghost use Rattle.std.specs.Prelude.{ℕ, ◌≡◌, ◌+◌, ◌^◌, ◌<◌, ◌≤◌, length, IfOk};
-ghost use Rattle.std.specs.List.{flat_map};
 ghost use Rattle.noc_net.specs.Network.{Run};
 ghost use Rattle.noc_topo.specs.Shape.{nodes, ports};
-ghost use Rattle.noc_topo.specs.Words.{below};
-ghost use Rattle.noc_files.specs.Channels.{over_port, over_router};
-ghost use Rattle.noc_files.specs.Ports.{sign_of};
-ghost use Rattle.noc_files.specs.Findings.{finding_header, finding_line, finding_report, findings_text, found_line, out_text, verdict_text, verdict_word};
+ghost use Rattle.noc_files.specs.Findings.{finding_header, finding_line, findings_text, found_line, out_text, verdict_text, verdict_word};
 ghost use Rattle.noc_files.specs.Writing.{Puts, Wrote};
 
-use crate::ports::{has_inputs, known_name};
+use crate::listing::{Lines, write_router};
+use crate::ports::{known_name, port_name};
 use crate::sink::Sink;
-use crate::writing::{WriteFault, put_all, put_pieces, shown};
+use crate::writing::{WriteFault, put_pieces, shown};
 use itoa::Buffer;
 use noc_net::Network;
 use noc_route::Relation;
 use noc_router::{Finding, Verdict};
 use noc_topo::Shape;
-
-// Puts the header.
-#[tactic(auto, unfolding(crate::specs::Findings::finding_header))]
-fn put_header<W: Sink>(sink: &mut W) -> Result<u64, WriteFault>
-    ensures short { length finding_header ≤ 27 }
-    ensures puts { Puts W.contents W.has_failed sink.old sink.new 0 finding_header result }
-{
-    let header = "port,vc,verdict,packet,out\n";
-    put_all(sink, header.as_bytes(), 0)
-}
-
-// The sign of a link.
-fn sign(port: usize) -> &'static str
-    ensures text { result.now ≡ sign_of port }
-    ensures short { length result.now ≤ 1 }
-{
-    if port % 2 == 0 { "+" } else { "-" }
-}
 
 // Puts an output channel, or a dash where there is none, and ends the line.
 fn put_out<W: Sink>(
@@ -44,24 +23,16 @@ fn put_out<W: Sink>(
     sink: &mut W,
     before: u64,
 ) -> Result<u64, WriteFault>
-    requires { before + 43 < 2 ^ 64 }
-    ensures short { length (out_text shape.now out) ≤ 43 }
+    requires { before + 27 < 2 ^ 64 }
+    ensures short { length (out_text shape.now out) ≤ 27 }
     ensures puts { Puts W.contents W.has_failed sink.old sink.new before (out_text shape.now out) result }
 {
     let Some((port, vc)) = out else {
         return put_pieces(sink, &["-", "\n"], before);
     };
+    let name = port_name(shape, port).unwrap_or("-");
     let mut number = Buffer::new();
-    let vc = number.format(vc);
-    if port == 2 * shape.dimensions() {
-        return put_pieces(sink, &["local", ".", vc, "\n"], before);
-    }
-    let mut dimension = Buffer::new();
-    put_pieces(
-        sink,
-        &[sign(port), dimension.format(port / 2), ".", vc, "\n"],
-        before,
-    )
+    put_pieces(sink, &[name, ".", number.format(vc), "\n"], before)
 }
 
 // The name of a verdict.
@@ -135,114 +106,61 @@ fn put_finding<W: Sink>(
     before: u64,
 ) -> Result<u64, WriteFault>
     requires port { port < ports shape.now }
-    requires room { before + 105 < 2 ^ 64 }
+    requires room { before + 89 < 2 ^ 64 }
     ensures puts { Puts W.contents W.has_failed sink.old sink.new before (finding_line shape.now port vc finding.now) result }
-    ensures short { IfOk result (λ n. n ≤ before + 105) }
+    ensures short { IfOk result (λ n. n ≤ before + 89) }
 {
     let judged = put_verdict(shape, port, vc, finding, sink, before)?;
     put_out(shape, finding.out, sink, judged)
 }
 
-// Puts the line of an input channel, if something was found of it.
-fn put_line<W: Sink>(
-    relation: &Relation,
-    port: usize,
-    vc: usize,
-    findings: &[Finding],
-    sink: &mut W,
-    before: u64,
-) -> Result<u64, WriteFault>
-    requires port { port < ports relation.now.grid }
-    requires vc { vc < relation.now.vcs }
-    requires room { before + 105 < 2 ^ 64 }
-    ensures puts { Puts W.contents W.has_failed sink.old sink.new before (found_line relation.now findings.now port vc) result }
-    ensures short { IfOk result (λ n. n ≤ before + 105) }
-{
-    match findings.get(port * relation.vcs() + vc) {
-        Some(finding) => put_finding(relation.shape(), port, vc, finding, sink, before),
-        None => Ok(before),
-    }
+// What a router found of its input channels, by their indices.
+#[derive(Drop)]
+struct Found<'a> {
+    relation: &'a Relation,
+    findings: &'a [Finding],
 }
 
-// Puts the lines of an input port, if it is local or has a link.
-fn put_port<W: Sink>(
-    relation: &Relation,
-    router: usize,
-    port: usize,
-    findings: &[Finding],
-    sink: &mut W,
-    before: u64,
-) -> Result<u64, WriteFault>
-    requires router { router < nodes relation.now.grid }
-    requires port { port < ports relation.now.grid }
-    requires room { before ≤ 1000000 }
-    ensures puts { Puts W.contents W.has_failed sink.old sink.new before (over_port relation.now router (found_line relation.now findings.now) port) result }
-    ensures short { IfOk result (λ n. n ≤ before + 840) }
-{
-    if has_inputs(relation.shape(), router, port) {
-        put_channels(relation, port, findings, sink, before)
-    } else {
-        Ok(before)
-    }
-}
+impl<'a> Lines for Found<'a> {
+    ghost grid = { λ s. s.relation.now.grid };
 
-// Puts the lines of the channels of an input port.
-fn put_channels<W: Sink>(
-    relation: &Relation,
-    port: usize,
-    findings: &[Finding],
-    sink: &mut W,
-    before: u64,
-) -> Result<u64, WriteFault>
-    requires port { port < ports relation.now.grid }
-    requires room { before ≤ 1000000 }
-    ensures puts { Puts W.contents W.has_failed sink.old sink.new before (flat_map (found_line relation.now findings.now port) (below relation.now.vcs)) result }
-    ensures short { IfOk result (λ n. n ≤ before + 840) }
-{
-    let mut written = before;
-    for vc in 0..relation.vcs() {
-        written = put_line(relation, port, vc, findings, sink, written)?;
-    }
-    Ok(written)
-}
+    ghost listed = { λ s. ports s.relation.now.grid };
 
-// Puts the lines of all input channels of a router.
-fn put_router<W: Sink>(
-    relation: &Relation,
-    router: usize,
-    findings: &[Finding],
-    sink: &mut W,
-    before: u64,
-) -> Result<u64, WriteFault>
-    requires router { router < nodes relation.now.grid }
-    requires room { before ≤ 27 }
-    ensures { Puts W.contents W.has_failed sink.old sink.new before (over_router relation.now router (found_line relation.now findings.now)) result }
-{
-    let mut written = before;
-    for port in 0..relation.shape().ports() {
-        written = put_port(relation, router, port, findings, sink, written)?;
-    }
-    Ok(written)
-}
+    ghost vcs = { λ s. s.relation.now.vcs };
 
-// Writes the report of these findings of a router.
-fn write_found<W: Sink>(
-    relation: &Relation,
-    router: usize,
-    findings: &[Finding],
-    sink: &mut W,
-) -> Result<(), WriteFault>
-    requires { router < nodes relation.now.grid }
-    ensures { Wrote W.contents W.has_failed sink.old sink.new (finding_report relation.now router findings.now) result }
-{
-    let written = put_header(sink)?;
-    put_router(relation, router, findings, sink, written)?;
-    Ok(())
+    ghost said = { λ s router. found_line s.relation.now s.findings.now };
+
+    fn shape(&self) -> &Shape {
+        self.relation.shape()
+    }
+
+    fn listed(&self) -> usize {
+        self.relation.shape().ports()
+    }
+
+    fn vcs(&self) -> usize {
+        self.relation.vcs()
+    }
+
+    fn put_line<W: Sink>(
+        &self,
+        _: usize,
+        port: usize,
+        vc: usize,
+        sink: &mut W,
+        before: u64,
+    ) -> Result<u64, WriteFault> {
+        match self.findings.get(port * self.relation.vcs() + vc) {
+            Some(finding) => put_finding(self.relation.shape(), port, vc, finding, sink, before),
+            None => Ok(before),
+        }
+    }
 }
 
 /// Writes what a router found in the last cycle: for each of its input channels, in the order of the stall report, its
 /// verdict, its packet, and the output channel that the packet owns, is granted or asked for. There are no lines before
 /// the first cycle. The router exists.
+#[tactic(auto, unfolding(crate::specs::Findings::finding_header))]
 pub fn write_findings<W: Sink>(
     network: &Network,
     router: usize,
@@ -251,7 +169,11 @@ pub fn write_findings<W: Sink>(
     requires { router < nodes network.now.net.relation.grid }
     ensures { Wrote W.contents W.has_failed sink.old sink.new (findings_text network.now router) result }
 {
-    write_found(network.relation(), router, network.findings(router), sink)
+    let found = Found {
+        relation: network.relation(),
+        findings: network.findings(router),
+    };
+    write_router("port,vc,verdict,packet,out\n", &found, router, sink)
 }
 
 /// Before its first cycle a network has found nothing, and the report of each router is the header alone.

@@ -3,8 +3,13 @@
 ghost use Rattle.std.specs.Prelude.{◌≡◌, ◌↔◌, ◌+◌, ◌^◌, ◌<◌, ◌≤◌, true, ℕ, List, Ok, Err, IfOk, IsSome, length};
 ghost use Rattle.std.specs.List.{flat_map};
 ghost use Rattle.csv.specs.Records.{fields_of};
+<<<<<<< HEAD
 ghost use Rattle.noc_route.specs.Ranks.{is_channel, Ranking};
 ghost use Rattle.noc_rank.specs.Ranking.{IsRanking};
+=======
+ghost use Rattle.noc_packet.specs.declared.limits.TheConstants.{MAX_CHANNELS as FEW};
+ghost use Rattle.noc_rank.specs.Ranking.{is_channel, IsRanking, Ranking};
+>>>>>>> files
 ghost use Rattle.noc_rank.specs.declared.rows.RankRow.{RankRow as RowValue};
 ghost use Rattle.noc_topo.specs.Shape.{Grid, IsGrid, local_port, neighbour, nodes};
 ghost use Rattle.noc_topo.specs.Words.{below};
@@ -15,10 +20,12 @@ ghost use Rattle.noc_files.specs.Ranks.{header, rank_line, rank_row, rank_row_of
 ghost use Rattle.noc_files.specs.Writing.{Puts, Wrote};
 
 use crate::fault::InputFault;
+use crate::listing::{Lines, write_routers};
 use crate::ports::known_name;
-use crate::rows::{has_fields, next_row, number_in, port_in, rows};
+use crate::rows::{number_in, port_in};
+use crate::sheet::read_sheet;
 use crate::sink::Sink;
-use crate::writing::{WriteFault, put_all, put_pieces};
+use crate::writing::{WriteFault, put_pieces};
 use csv::ByteRecord;
 use itoa::Buffer;
 use noc_packet::MAX_CHANNELS;
@@ -51,20 +58,10 @@ fn rank_row_in(shape: &Shape, row: &ByteRecord, index: usize) -> Result<RankRow,
 pub fn read_ranks(alloc: Global, shape: &Shape, text: &[u8]) -> Result<Vec<RankRow>, InputFault>
     ensures { Gives (λ v. v.items) result (ranks_of shape.now text.now) }
 {
-    let mut reader = rows(alloc, text);
-    let mut row = ByteRecord::new(alloc);
-    if !next_row(&mut reader, &mut row)? {
-        return Err(InputFault::BadHeader);
-    }
-    if !has_fields(&row, &["router", "port", "vc", "rank"]) {
-        return Err(InputFault::BadHeader);
-    }
-    let mut ranks = Vec::new(alloc);
-    'rows: while next_row(&mut reader, &mut row)? {
-        let rank = rank_row_in(shape, &row, ranks.len())?;
-        ranks.push(rank)?;
-    }
-    Ok(ranks)
+    let header = ["router", "port", "vc", "rank"];
+    read_sheet(alloc, text, &header, |row, index| {
+        rank_row_in(shape, row, index)
+    })
 }
 
 /// A text is read as these rows of ranks exactly where its first row is the header and the rows below it are four
@@ -84,14 +81,6 @@ pub fn rank_file_is_refused_with_its_first_fault()
 pub fn written_ranks_are_read_back()
     ensures { (k : Ranking) → IsRanking k → k.vcs ≤ MAX_CHANNELS → (ranks_of k.grid (ranks_text k) ≡ Ok (rank_rows k)) × ListsRanks k (rank_rows k) }
 {}
-
-// Puts the header.
-fn put_header<W: Sink>(sink: &mut W) -> Result<u64, WriteFault>
-    ensures short { length (row_line header) ≤ 20 }
-    ensures puts { Puts W.contents W.has_failed sink.old sink.new 0 (row_line header) result }
-{
-    put_all(sink, b"router,port,vc,rank\n", 0)
-}
 
 // Puts the line of a row, whose port the shape has.
 fn put_row<W: Sink>(
@@ -121,128 +110,54 @@ fn put_row<W: Sink>(
     put_pieces(sink, &pieces, before)
 }
 
-// Puts the line of a link channel.
-fn put_channel<W: Sink>(
-    ranks: &Ranks,
-    shape: &Shape,
-    router: usize,
-    port: usize,
-    vc: usize,
-    sink: &mut W,
-    before: u64,
-) -> Result<u64, WriteFault>
-    requires shape { ranks.now.grid ≡ shape.now }
-    requires channel { is_channel ranks.now.grid ranks.now.vcs router port vc ≡ true }
-    requires room { before + 69 < 2 ^ 64 }
-    ensures puts { Puts W.contents W.has_failed sink.old sink.new before (rank_line ranks.now.grid (rank_row ranks.now router port vc)) result }
-    ensures short { IfOk result (λ n. n ≤ before + 69) }
-{
-    let rank = ranks.rank(router, port, vc) as usize;
-    let row = RankRow {
-        router,
-        port,
-        vc,
-        rank,
-    };
-    put_row(shape, &row, sink, before)
+// Some ranks with their shape and how many channels each link has.
+#[derive(Drop)]
+struct Listed<'a> {
+    ranks: &'a Ranks,
+    shape: &'a Shape,
+    vcs: usize,
+    ghost same: { ranks.now.grid ≡ shape.now },
+    ghost count: { ranks.now.vcs ≡ vcs },
+    ghost few: { vcs ≤ FEW },
 }
 
-// Puts the lines of the channels of a port that has a link.
-fn put_channels<W: Sink>(
-    ranks: &Ranks,
-    shape: &Shape,
-    vcs: usize,
-    router: usize,
-    port: usize,
-    sink: &mut W,
-    before: u64,
-) -> Result<u64, WriteFault>
-    requires shape { ranks.now.grid ≡ shape.now }
-    requires vcs { ranks.now.vcs ≡ vcs }
-    requires few { vcs ≤ MAX_CHANNELS }
-    requires router { router < nodes shape.now }
-    requires port { port < local_port shape.now }
-    requires link { IsSome (neighbour shape.now router port) }
-    requires room { before ≤ 1000000 }
-    ensures puts { Puts W.contents W.has_failed sink.old sink.new before (flat_map (λ vc. rank_line ranks.now.grid (rank_row ranks.now router port vc)) (below ranks.now.vcs)) result }
-    ensures short { IfOk result (λ n. n ≤ before + 276) }
-{
-    let mut written = before;
-    for vc in 0..vcs {
-        written = put_channel(ranks, shape, router, port, vc, sink, written)?;
-    }
-    Ok(written)
-}
+impl<'a> Lines for Listed<'a> {
+    ghost grid = { λ s. s.ranks.now.grid };
 
-// Puts the lines of the channels of a port, if it has a link.
-fn put_port<W: Sink>(
-    ranks: &Ranks,
-    shape: &Shape,
-    vcs: usize,
-    router: usize,
-    port: usize,
-    sink: &mut W,
-    before: u64,
-) -> Result<u64, WriteFault>
-    requires shape { ranks.now.grid ≡ shape.now }
-    requires vcs { ranks.now.vcs ≡ vcs }
-    requires few { vcs ≤ MAX_CHANNELS }
-    requires router { router < nodes shape.now }
-    requires port { port < local_port shape.now }
-    requires room { before ≤ 1000000 }
-    ensures puts { Puts W.contents W.has_failed sink.old sink.new before (flat_map (rank_line ranks.now.grid) (port_rows ranks.now router port)) result }
-    ensures short { IfOk result (λ n. n ≤ before + 276) }
-{
-    if shape.neighbour(router, port).is_some() {
-        put_channels(ranks, shape, vcs, router, port, sink, before)
-    } else {
-        Ok(before)
-    }
-}
+    ghost listed = { λ s. local_port s.ranks.now.grid };
 
-// Puts the lines of the link channels of a router.
-fn put_router<W: Sink>(
-    ranks: &Ranks,
-    shape: &Shape,
-    vcs: usize,
-    router: usize,
-    sink: &mut W,
-    before: u64,
-) -> Result<u64, WriteFault>
-    requires shape { ranks.now.grid ≡ shape.now }
-    requires vcs { ranks.now.vcs ≡ vcs }
-    requires few { vcs ≤ MAX_CHANNELS }
-    requires router { router < nodes shape.now }
-    requires room { before ≤ 900000 }
-    ensures puts { Puts W.contents W.has_failed sink.old sink.new before (flat_map (rank_line ranks.now.grid) (router_rows ranks.now router)) result }
-    ensures short { IfOk result (λ n. n ≤ before + 1656) }
-{
-    let mut written = before;
-    for port in 0..shape.ports() - 1 {
-        written = put_port(ranks, shape, vcs, router, port, sink, written)?;
-    }
-    Ok(written)
-}
+    ghost vcs = { λ s. s.ranks.now.vcs };
 
-// Puts the lines of all link channels.
-fn put_routers<W: Sink>(
-    ranks: &Ranks,
-    shape: &Shape,
-    vcs: usize,
-    sink: &mut W,
-    before: u64,
-) -> Result<u64, WriteFault>
-    requires shape { ranks.now.grid ≡ shape.now }
-    requires vcs { ranks.now.vcs ≡ vcs }
-    requires few { vcs ≤ MAX_CHANNELS }
-    requires room { before ≤ 20 }
-    ensures { Puts W.contents W.has_failed sink.old sink.new before (flat_map (rank_line ranks.now.grid) (rank_rows ranks.now)) result }
-{
-    let mut written = before;
-    for router in 0..shape.nodes() {
-        written = put_router(ranks, shape, vcs, router, sink, written)?;
+    ghost said = { λ s router port vc. rank_line s.ranks.now.grid (rank_row s.ranks.now router port vc) };
+
+    fn shape(&self) -> &Shape {
+        self.shape
     }
-    Ok(written)
+
+    fn listed(&self) -> usize {
+        self.shape.ports() - 1
+    }
+
+    fn vcs(&self) -> usize {
+        self.vcs
+    }
+
+    fn put_line<W: Sink>(
+        &self,
+        router: usize,
+        port: usize,
+        vc: usize,
+        sink: &mut W,
+        before: u64,
+    ) -> Result<u64, WriteFault> {
+        let row = RankRow {
+            router,
+            port,
+            vc,
+            rank: self.ranks.rank(router, port, vc) as usize,
+        };
+        put_row(self.shape, &row, sink, before)
+    }
 }
 
 /// Writes a rank file: for each router, each of its ports that has a link, and each of `vcs` virtual channels, in rising
@@ -258,7 +173,6 @@ pub fn write_ranks<W: Sink>(
     requires few { vcs ≤ MAX_CHANNELS }
     ensures { Wrote W.contents W.has_failed sink.old sink.new (ranks_text ranks.now) result }
 {
-    let written = put_header(sink)?;
-    put_routers(ranks, shape, vcs, sink, written)?;
-    Ok(())
+    let listed = Listed { ranks, shape, vcs };
+    write_routers("router,port,vc,rank\n", &listed, sink)
 }

@@ -2,29 +2,18 @@
 
 ghost use Rattle.std.specs.Prelude.{◌+◌, ◌^◌, ◌<◌, ◌≤◌, length, IfOk};
 ghost use Rattle.std.specs.List.{flat_map};
-ghost use Rattle.noc_topo.specs.Shape.{nodes, ports};
-ghost use Rattle.noc_topo.specs.Words.{below};
-ghost use Rattle.noc_files.specs.Channels.{over_port, over_router, over_routers};
-ghost use Rattle.noc_files.specs.Stalls.{channel_line, count_text, place_text, stall_header, stall_line, stalls_text};
+ghost use Rattle.noc_topo.specs.Shape.{ports};
+ghost use Rattle.noc_files.specs.Stalls.{channel_line, count_text, place_text, stall_line, stalls_text};
 ghost use Rattle.noc_files.specs.Writing.{Puts, Wrote};
 
-use crate::ports::{has_inputs, known_name};
+use crate::listing::{Lines, write_routers};
+use crate::ports::known_name;
 use crate::sink::Sink;
 use crate::writing::{WriteFault, put_all, put_pieces};
 use itoa::Buffer;
 use noc_net::Network;
 use noc_router::VERDICTS;
-
-// Puts the header.
-#[tactic(auto, unfolding(crate::specs::Stalls::stall_header))]
-fn put_header<W: Sink>(sink: &mut W) -> Result<u64, WriteFault>
-    ensures short { length stall_header ≤ 120 }
-    ensures puts { Puts W.contents W.has_failed sink.old sink.new 0 stall_header result }
-{
-    let header =
-        "router,port,vc,empty,routed,granted,moved,no_flit,no_idle_channel,lost_channel,no_credit,lost_input,lost_switch\n";
-    put_all(sink, header.as_bytes(), 0)
-}
+use noc_topo::Shape;
 
 // Puts a comma and a number.
 fn put_count<W: Sink>(sink: &mut W, count: u64, before: u64) -> Result<u64, WriteFault>
@@ -91,107 +80,50 @@ fn put_channel<W: Sink>(
     put_all(sink, b"\n", counted)
 }
 
-// Puts the line of an input channel of a network.
-#[tactic(auto, unfolding(crate::specs::Stalls::channel_line, crate::specs::Stalls::channel_counts))]
-fn put_line<W: Sink>(
-    network: &Network,
-    router: usize,
-    port: usize,
-    vc: usize,
-    sink: &mut W,
-    before: u64,
-) -> Result<u64, WriteFault>
-    requires router { router < nodes network.now.net.relation.grid }
-    requires port { port < ports network.now.net.relation.grid }
-    requires vc { vc < network.now.net.relation.vcs }
-    requires room { before + 258 < 2 ^ 64 }
-    ensures puts { Puts W.contents W.has_failed sink.old sink.new before (channel_line network.now router port vc) result }
-    ensures short { IfOk result (λ n. n ≤ before + 258) }
-{
-    let name = known_name(network.relation().shape(), port);
-    let counts = network.counts(router, port, vc);
-    put_channel(sink, router, name, vc, &counts, before)
-}
+// The lines of a network are those of its stall report.
+impl Lines for Network {
+    ghost grid = { λ n. n.net.relation.grid };
 
-// Puts the lines of the channels of an input port.
-fn put_channels<W: Sink>(
-    network: &Network,
-    router: usize,
-    port: usize,
-    sink: &mut W,
-    before: u64,
-) -> Result<u64, WriteFault>
-    requires router { router < nodes network.now.net.relation.grid }
-    requires port { port < ports network.now.net.relation.grid }
-    requires room { before ≤ 1000000000 }
-    ensures puts { Puts W.contents W.has_failed sink.old sink.new before (flat_map (channel_line network.now router port) (below network.now.net.relation.vcs)) result }
-    ensures short { IfOk result (λ n. n ≤ before + 2064) }
-{
-    let mut written = before;
-    for vc in 0..network.relation().vcs() {
-        written = put_line(network, router, port, vc, sink, written)?;
-    }
-    Ok(written)
-}
+    ghost listed = { λ n. ports n.net.relation.grid };
 
-// Puts the lines of an input port, if it is local or has a link.
-fn put_port<W: Sink>(
-    network: &Network,
-    router: usize,
-    port: usize,
-    sink: &mut W,
-    before: u64,
-) -> Result<u64, WriteFault>
-    requires router { router < nodes network.now.net.relation.grid }
-    requires port { port < ports network.now.net.relation.grid }
-    requires room { before ≤ 1000000000 }
-    ensures puts { Puts W.contents W.has_failed sink.old sink.new before (over_port network.now.net.relation router (channel_line network.now router) port) result }
-    ensures short { IfOk result (λ n. n ≤ before + 2064) }
-{
-    if has_inputs(network.relation().shape(), router, port) {
-        put_channels(network, router, port, sink, before)
-    } else {
-        Ok(before)
-    }
-}
+    ghost vcs = { λ n. n.net.relation.vcs };
 
-// Puts the lines of a router.
-fn put_router<W: Sink>(
-    network: &Network,
-    router: usize,
-    sink: &mut W,
-    before: u64,
-) -> Result<u64, WriteFault>
-    requires router { router < nodes network.now.net.relation.grid }
-    requires room { before ≤ 10000000 }
-    ensures puts { Puts W.contents W.has_failed sink.old sink.new before (over_router network.now.net.relation router (channel_line network.now router)) result }
-    ensures short { IfOk result (λ n. n ≤ before + 14448) }
-{
-    let mut written = before;
-    for port in 0..network.relation().shape().ports() {
-        written = put_port(network, router, port, sink, written)?;
-    }
-    Ok(written)
-}
+    ghost said = { channel_line };
 
-// Puts the lines of all routers.
-fn put_routers<W: Sink>(network: &Network, sink: &mut W, before: u64) -> Result<u64, WriteFault>
-    requires { before ≤ 120 }
-    ensures { Puts W.contents W.has_failed sink.old sink.new before (over_routers network.now.net.relation (channel_line network.now)) result }
-{
-    let mut written = before;
-    for router in 0..network.relation().shape().nodes() {
-        written = put_router(network, router, sink, written)?;
+    fn shape(&self) -> &Shape {
+        self.relation().shape()
     }
-    Ok(written)
+
+    fn listed(&self) -> usize {
+        self.relation().shape().ports()
+    }
+
+    fn vcs(&self) -> usize {
+        self.relation().vcs()
+    }
+
+    #[tactic(auto, unfolding(crate::specs::Stalls::channel_line, crate::specs::Stalls::channel_counts))]
+    fn put_line<W: Sink>(
+        &self,
+        router: usize,
+        port: usize,
+        vc: usize,
+        sink: &mut W,
+        before: u64,
+    ) -> Result<u64, WriteFault> {
+        let name = known_name(self.relation().shape(), port);
+        let counts = self.counts(router, port, vc);
+        put_channel(sink, router, name, vc, &counts, before)
+    }
 }
 
 /// Writes the stall report: for each router, each of its input ports that is local or has a link, and each virtual
 /// channel, in rising order, in how many cycles it had each verdict.
+#[tactic(auto, unfolding(crate::specs::Stalls::stall_header))]
 pub fn write_stalls<W: Sink>(network: &Network, sink: &mut W) -> Result<(), WriteFault>
     ensures { Wrote W.contents W.has_failed sink.old sink.new (stalls_text network.now) result }
 {
-    let written = put_header(sink)?;
-    put_routers(network, sink, written)?;
-    Ok(())
+    let header =
+        "router,port,vc,empty,routed,granted,moved,no_flit,no_idle_channel,lost_channel,no_credit,lost_input,lost_switch\n";
+    write_routers(header, network, sink)
 }

@@ -10,7 +10,8 @@ ghost use Rattle.noc_files.specs.Gives.{Gives};
 ghost use Rattle.noc_files.specs.Table.{route_row_of, table_of, table_text, IsTable, IsTableFault, IsWritable};
 
 use crate::fault::InputFault;
-use crate::rows::{has_fields, next_row, number_in, port_in, rows};
+use crate::rows::{number_in, port_in};
+use crate::sheet::read_sheet;
 use csv::ByteRecord;
 use noc_route::RouteRow;
 use noc_topo::Shape;
@@ -47,23 +48,12 @@ fn route_row_in(shape: &Shape, row: &ByteRecord, index: usize) -> Result<RouteRo
 pub fn read_table(alloc: Global, shape: &Shape, text: &[u8]) -> Result<Vec<RouteRow>, InputFault>
     ensures { Gives (λ v. v.items) result (table_of shape.now text.now) }
 {
-    let mut reader = rows(alloc, text);
-    let mut row = ByteRecord::new(alloc);
-    if !next_row(&mut reader, &mut row)? {
-        return Err(InputFault::BadHeader);
-    }
-    let names = [
+    let header = [
         "class", "router", "in_port", "in_vc", "dst", "out_port", "out_vc",
     ];
-    if !has_fields(&row, &names) {
-        return Err(InputFault::BadHeader);
-    }
-    let mut routes = Vec::new(alloc);
-    'rows: while next_row(&mut reader, &mut row)? {
-        let route = route_row_in(shape, &row, routes.len())?;
-        routes.push(route)?;
-    }
-    Ok(routes)
+    read_sheet(alloc, text, &header, |row, index| {
+        route_row_in(shape, row, index)
+    })
 }
 
 /// A text is read as these rows of a table exactly where its first row is the header and the rows below it are seven

@@ -9,7 +9,8 @@ ghost use Rattle.noc_files.specs.Gives.{Gives};
 ghost use Rattle.noc_files.specs.Traffic.{packet_of, traffic_of, traffic_text, IsTraffic, IsTrafficFault, IsWritable};
 
 use crate::fault::InputFault;
-use crate::rows::{has_fields, next_row, number_in, rows};
+use crate::rows::number_in;
+use crate::sheet::read_sheet;
 use csv::ByteRecord;
 use noc_packet::Packet;
 use std::alloc::Global;
@@ -40,20 +41,8 @@ fn packet_in(row: &ByteRecord, index: usize) -> Result<Packet, InputFault>
 pub fn read_traffic(alloc: Global, text: &[u8]) -> Result<Vec<Packet>, InputFault>
     ensures { Gives (λ v. v.items) result (traffic_of text.now) }
 {
-    let mut reader = rows(alloc, text);
-    let mut row = ByteRecord::new(alloc);
-    if !next_row(&mut reader, &mut row)? {
-        return Err(InputFault::BadHeader);
-    }
-    if !has_fields(&row, &["source", "destination", "class", "length", "due"]) {
-        return Err(InputFault::BadHeader);
-    }
-    let mut packets = Vec::new(alloc);
-    'rows: while next_row(&mut reader, &mut row)? {
-        let packet = packet_in(&row, packets.len())?;
-        packets.push(packet)?;
-    }
-    Ok(packets)
+    let header = ["source", "destination", "class", "length", "due"];
+    read_sheet(alloc, text, &header, packet_in)
 }
 
 /// A text is read as these packets exactly where its first row is the header and the rows below it are five numerals

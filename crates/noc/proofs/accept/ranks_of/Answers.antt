@@ -1,18 +1,17 @@
-use Rattle.std.proofs.Common.{◌≡◌, Ok, Err, refl, subst}
+use Rattle.std.proofs.Common.{◌≡◌, Ok, refl, subst}
 use Rattle.noc_files.specs.Ranks.{ranks_of}
-use Rattle.noc.specs.Asked.{lent, read_by}
+use Rattle.noc.specs.Asked.{IsUnread, lent, read_by}
 use Rattle.noc.specs.Check.{bad_file, bad_rows}
-use Rattle.noc.proofs.MemoryFacts.{ranks_not_memory}
 use Rattle.noc.proofs.accept.ranks_of.Goals as goal
 
 pub returns-in-Err-clause-fault : goal.returns-in-Err-clause-fault
 returns-in-Err-clause-fault c =
-    (refl, λ memory. bad_file (subst (λ g. read_by (ranks_of g) (lent c.args.text) ≡ Err c.in-Err.fault) c.shape.ensures.value (c.in-Err.ensures (ranks_not_memory _ memory))))
+    (refl, bad_file (subst (λ g. IsUnread (ranks_of g) (lent c.args.text) c.in-Err.fault) c.shape.ensures.value c.in-Err.ensures))
 
 pub returns-clause-fault : goal.returns-clause-fault
 returns-clause-fault c = (
   refl,
-  λ memory. rw c.shape-in-Err-from_rows.ensures.value
+  rw c.shape-in-Err-from_rows.ensures.value
       (bad_rows {f = c.in-Err-from_rows.fault} (subst (λ g. read_by (ranks_of g) (lent c.args.text) ≡ Ok c.in-Ok.rows.items) c.shape.ensures.value c.in-Ok.ensures)
       (rw (← c.shape-2.ensures.value, ← c.vcs.ensures.value, ← c.deref.ensures.value) c.in-Err-from_rows.ensures.err)),
 )

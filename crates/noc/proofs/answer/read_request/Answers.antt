@@ -9,7 +9,7 @@ pub returns-in_default : goal.returns-in_default
 returns-in_default c = record { files = rw c.files_of.ensures (as_files (not_joined _ c.in_default.not-Joined)); fault = tt }
 
 pub returns-in-Err-clause-fault : goal.returns-in-Err-clause-fault
-returns-in-Err-clause-fault c = (refl, λ memory. unread (ap is_joined c.in-Joined.is) (ap owned c.in-Err.is))
+returns-in-Err-clause-fault c = (refl, unread (ap is_joined c.in-Joined.is) (ap owned c.in-Err.is))
 
 pub returns-in-Some-clause-files : goal.returns-in-Some-clause-files
 returns-in-Some-clause-files c =
@@ -19,4 +19,4 @@ returns-in-Some-clause-files c =
 pub returns-in-None-clause-fault : goal.returns-in-None-clause-fault
 returns-in-None-clause-fault c =
     let text : owned c.args.request.now.config ≡ Ok c.as_slice-text.result.now = (let e : owned c.args.request.now.config ≡ Ok c.in-Ok.text.items = ap owned c.in-Ok.is in let v = c.as_slice-text.ensures.value in cc) in
-    (refl, λ memory. unsplit (ap is_joined c.in-Joined.is) text c.in-None.ensures)
+    (refl, unsplit (ap is_joined c.in-Joined.is) text c.in-None.ensures)

@@ -21,7 +21,7 @@ returns-in_err-config g c =
 pub returns-in-Err : goal.returns-in-Err
 returns-in-Err g c = (
   refl,
-  λ memory. rw c.shape-shape.ensures.value
+  rw c.shape-shape.ensures.value
       (in_formula c.requires c.in_ok-config.ensures.relation (subst (λ g. IsFormulaFault (settings c.in_ok-config.config) g c.in-Err.fault) c.shape-shape.ensures.value c.in-Err.ensures.fault)),
 )
 

@@ -1,25 +1,24 @@
 use Rattle.std.proofs.Common.{refl, sym}
 use Rattle.noc.specs.Settings.{bad_config, bad_option, bad_router, bad_shape}
 use Rattle.noc.proofs.AskedFacts.{is_some-lent}
-use Rattle.noc.proofs.MemoryFacts.{config_not_memory}
 use Rattle.noc.proofs.settings.layout_of.Goals as goal
 
 pub returns-in-Err-clause-fault : goal.returns-in-Err-clause-fault
-returns-in-Err-clause-fault c = (refl, λ memory. bad_config (c.in-Err.ensures.value (config_not_memory _ memory)))
+returns-in-Err-clause-fault c = (refl, bad_config (c.in-Err.ensures.value))
 
 pub returns-in-Some-clause-fault : goal.returns-in-Some-clause-fault
-returns-in-Some-clause-fault c = (refl, λ memory. bad_option c.in-Ok.ensures.value (rw (is_some-lent c.args.files.now.table, ← c.is_some.ensures) (sym c.in-Some.ensures)))
+returns-in-Some-clause-fault c = (refl, bad_option c.in-Ok.ensures.value (rw (is_some-lent c.args.files.now.table, ← c.is_some.ensures) (sym c.in-Some.ensures)))
 
 pub returns-in-Err-new-clause-fault : goal.returns-in-Err-new-clause-fault
 returns-in-Err-new-clause-fault c = (
   refl,
-  λ memory. bad_shape (record { configuration = c.in-Ok.ensures.value; options = rw (is_some-lent c.args.files.now.table, ← c.is_some.ensures) (sym c.in_default.ensures) })
+  bad_shape (record { configuration = c.in-Ok.ensures.value; options = rw (is_some-lent c.args.files.now.table, ← c.is_some.ensures) (sym c.in_default.ensures) })
       (rw (← c.as_slice.ensures.value) (sym c.in-Err-new.ensures.value)),
 )
 
 pub returns-in-Some-late_fault-clause-fault : goal.returns-in-Some-late_fault-clause-fault
 returns-in-Some-late_fault-clause-fault c = (
   refl,
-  λ memory. bad_router (record { configuration = c.in-Ok.ensures.value; options = rw (is_some-lent c.args.files.now.table, ← c.is_some.ensures) (sym c.in_default.ensures) })
+  bad_router (record { configuration = c.in-Ok.ensures.value; options = rw (is_some-lent c.args.files.now.table, ← c.is_some.ensures) (sym c.in_default.ensures) })
       (rw (← c.as_slice.ensures.value) (sym c.in-Ok-new.ensures.value)) (sym c.in-Some-late_fault.ensures),
 )

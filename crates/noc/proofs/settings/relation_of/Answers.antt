@@ -13,4 +13,4 @@ returns-in_err-rule-clause-fault c =
     (λ first. in_table c.in_ok-config.ensures.shape first) c.in_err-rule.ensures.fault)
 
 pub returns-in-Err-clause-fault : goal.returns-in-Err-clause-fault
-returns-in-Err-clause-fault c = (refl, λ memory. bad_relation c.in_ok-config.ensures.shape c.in_ok-rule.ensures.rule c.in-Err.ensures.exact)
+returns-in-Err-clause-fault c = (refl, bad_relation c.in_ok-config.ensures.shape c.in_ok-rule.ensures.rule c.in-Err.ensures.exact)

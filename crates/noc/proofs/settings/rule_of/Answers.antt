@@ -2,7 +2,6 @@ use Rattle.std.proofs.Common.{option_map, ap, refl, sym}
 use Rattle.noc.specs.Asked.{lent}
 use Rattle.noc.specs.Settings.{bad_table, named, tabled}
 use Rattle.noc.proofs.AskedFacts.{only_table}
-use Rattle.noc.proofs.MemoryFacts.{table_not_memory}
 use Rattle.noc.proofs.settings.rule_of.Goals as goal
 
 pub returns-in-Some-default-clause-rule : goal.returns-in-Some-default-clause-rule
@@ -13,4 +12,4 @@ returns-in-Ok-clause-rule c = rw (only_table _ (sym c.in-None-Some.ensures)) (ta
 
 pub returns-in-Err-clause-fault : goal.returns-in-Err-clause-fault
 returns-in-Err-clause-fault c =
-    (refl, λ memory. rw (only_table _ (sym c.in-None-Some.ensures)) (bad_table (ap (option_map lent) c.in-None-Some.is-1) (c.in-Err.ensures (table_not_memory _ memory))))
+    (refl, rw (only_table _ (sym c.in-None-Some.ensures)) (bad_table (ap (option_map lent) c.in-None-Some.is-1) (c.in-Err.ensures)))

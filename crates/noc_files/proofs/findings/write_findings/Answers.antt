@@ -1,4 +1,6 @@
+use Rattle.noc_files.specs.Findings.{finding_header}
 use Rattle.noc_files.proofs.findings.write_findings.Goals as goal
 
 pub returns : goal.returns
-returns g c = rw (← c.findings.ensures, ← c.relation.ensures) c.write_found.ensures
+unfolding finding_header
+returns g c = rw (c.relation.ensures, c.findings.ensures) at c.write_router.ensures

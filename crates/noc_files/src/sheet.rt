@@ -1,0 +1,38 @@
+//! Files of rows under a header.
+
+ghost use Rattle.std.specs.Prelude.{◌≡◌, ℕ, Result, map};
+ghost use Rattle.noc_files.specs.declared.fault.InputFault.{InputFault as Fault};
+ghost use Rattle.noc_files.specs.Gives.{Gives};
+ghost use Rattle.noc_files.specs.Rows.{Fields, rows_of};
+ghost use Rattle.noc_files.specs.Sheet.{ReadsRows, sheet};
+
+use crate::fault::InputFault;
+use crate::rows::{has_fields, next_row, rows};
+use csv::ByteRecord;
+use std::alloc::Global;
+
+// What the rows under this header say, by what each row is read as, or the first fault.
+pub(crate) fn read_sheet<V: Drop, F: Fn(&ByteRecord, usize) -> Result<V, InputFault> + Drop>(
+    alloc: Global,
+    text: &[u8],
+    header: &[&str],
+    read: F,
+) -> Result<Vec<V>, InputFault>
+    requires { F.IsAlwaysCallable read }
+    ensures { (said : ℕ → Fields → Result V Fault) → ReadsRows (F.post read) said → Gives (λ v. v.items) result (sheet said (map (λ n. n.now) header.now) (rows_of text.now)) }
+{
+    let mut reader = rows(alloc, text);
+    let mut row = ByteRecord::new(alloc);
+    if !next_row(&mut reader, &mut row)? {
+        return Err(InputFault::BadHeader);
+    }
+    if !has_fields(&row, header) {
+        return Err(InputFault::BadHeader);
+    }
+    let mut values = Vec::new(alloc);
+    'rows: while next_row(&mut reader, &mut row)? {
+        let value = read(&row, values.len())?;
+        values.push(value)?;
+    }
+    Ok(values)
+}
