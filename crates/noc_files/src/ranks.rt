@@ -3,13 +3,9 @@
 ghost use Rattle.std.specs.Prelude.{◌≡◌, ◌↔◌, ◌+◌, ◌^◌, ◌<◌, ◌≤◌, true, ℕ, List, Ok, Err, IfOk, IsSome, length};
 ghost use Rattle.std.specs.List.{flat_map};
 ghost use Rattle.csv.specs.Records.{fields_of};
-<<<<<<< HEAD
+ghost use Rattle.noc_packet.specs.declared.limits.TheConstants.{MAX_CHANNELS as FEW};
 ghost use Rattle.noc_route.specs.Ranks.{is_channel, Ranking};
 ghost use Rattle.noc_rank.specs.Ranking.{IsRanking};
-=======
-ghost use Rattle.noc_packet.specs.declared.limits.TheConstants.{MAX_CHANNELS as FEW};
-ghost use Rattle.noc_rank.specs.Ranking.{is_channel, IsRanking, Ranking};
->>>>>>> files
 ghost use Rattle.noc_rank.specs.declared.rows.RankRow.{RankRow as RowValue};
 ghost use Rattle.noc_topo.specs.Shape.{Grid, IsGrid, local_port, neighbour, nodes};
 ghost use Rattle.noc_topo.specs.Words.{below};

@@ -11,22 +11,12 @@ use Rattle.noc_topo.proofs.LinkLemmas.{link_back}
 use Rattle.noc_route.specs.Channel.{Channel, Link, Inject, Eject, arrival_of, channel_vc}
 use Rattle.noc_route.specs.Order.{numbers_before, row_numbers}
 use Rattle.noc_route.specs.Ranks.{rank_of, Ranking, is_place, rank_at, IsRankedBy}
-<<<<<<< HEAD
-use Rattle.noc_rank.specs.declared.fault.RankFault.{RankFault}
-use Rattle.noc_rank.specs.declared.fault.RankFault.TheVariants.{NoGenerated, NotRising, Memory, UnknownChannel, DoubleChannel, BadRank, MissingChannel}
-=======
->>>>>>> ranks
 use Rattle.noc_route.specs.Routes.{Routes, is_entry, set_at, is_sent, permits, permits_at}
 use Rattle.noc_route.specs.declared.rule.RouteRow.{RouteRow}
 use Rattle.noc_route.proofs.PlaceLemmas.{flat-below, flat-div, flat-mod}
 use Rattle.noc_rank.specs.declared.rising.Fall.{Fall}
-<<<<<<< HEAD
-use Rattle.noc_rank.specs.Rising.{IsFall, IsFirstFall, IsFaultOfCheck}
-use Rattle.noc_rank.specs.Falls.{arrival_rank, falls_to, falls_from, falls_at, links, inputs, class_of, router_of, port_of, IsLeastBelow, HasNone, IsFirstFrom, HasNoFall, IsFirstAt, IsFirstOf}
-=======
 use Rattle.noc_rank.specs.Rising.{IsFall, IsFirstFall}
 use Rattle.noc_rank.specs.Falls.{arrival_rank, falls_to, falls_from, falls_at, links, inputs, class_of, router_of, port_of, IsLeastBelow, HasNone, IsFirstFrom, HasNoFall, IsFirstAt}
->>>>>>> ranks
 use Rattle.noc_rank.proofs.PlaceLemmas.{flat, flat-rises, flat-before, is_place-true, div-mod}
 
 -- ---- numbers of entries
@@ -393,68 +383,3 @@ module _ (routes : Routes) (ranks : List ℕ) (sound : IsGrid routes.grid) where
       subst (λ s. IsFirstFall routes over s fall.rank fall.next) (sym f.step)
       (subst (λ a. IsFirstFall routes over (step_at_number e f.dst f.index) a fall.next) (sym f.rank)
       (subst (λ b. IsFirstFall routes over (step_at_number e f.dst f.index) at.before b) (sym f.next) whole))
-<<<<<<< HEAD
-
--- ---- all entries
-
-pub count-inputs : (k : Ranking) (c n p v : ℕ) → n ≡ nodes k.grid → p ≡ ports k.grid → v ≡ k.vcs → c * n * p * v ≡ c * inputs k
-count-inputs k c n p v node port vcs =
-    ap (λ x. c * x * p * v) node ∙ ap (λ x. c * nodes k.grid * x * v) port ∙ ap (λ x. c * nodes k.grid * ports k.grid * x) vcs
-    ∙ ap (λ x. x * k.vcs) (mul_assoc c (nodes k.grid) (ports k.grid)) ∙ mul_assoc c (nodes k.grid * ports k.grid) k.vcs
-
--- what is known of the first fall of each entry
-abbrev pub AreFirst : Routes → Ranking → ℕ → List (Option Fall) → Type 0
-AreFirst routes k n falls = AllZip (λ e o. MatchOption o (HasNoFall routes k e) (IsFirstAt routes k e)) (range_with_len 0 n) falls
-
-none_at : (routes : Routes) (k : Ranking) (n : ℕ) (falls : List (Option Fall)) (e : ℕ) → AreFirst routes k n falls → e < n → get_or falls e None ≡ None → HasNoFall routes k e
-none_at routes k n falls e all l none =
-    let R : ℕ → Option Fall → Type 0 = λ e o. MatchOption o (HasNoFall routes k e) (IsFirstAt routes k e) in
-    let here : R (0 + e) (get_or falls e None) = (at_number R 0 n falls None all).1 e l in
-    subst (λ m. HasNoFall routes k m) (zero-add e) (subst (R (0 + e)) none here)
-
-some_at : (routes : Routes) (k : Ranking) (n : ℕ) (falls : List (Option Fall)) (e : ℕ) (fall : Fall) → AreFirst routes k n falls → e < n → get_or falls e None ≡ Some fall → IsFirstAt routes k e fall
-some_at routes k n falls e fall all l some =
-    let R : ℕ → Option Fall → Type 0 = λ e o. MatchOption o (HasNoFall routes k e) (IsFirstAt routes k e) in
-    let here : R (0 + e) (get_or falls e None) = (at_number R 0 n falls None all).1 e l in
-    subst (λ m. IsFirstAt routes k m fall) (zero-add e) (subst (R (0 + e)) some here)
-
-length_is : (routes : Routes) (k : Ranking) (n : ℕ) (falls : List (Option Fall)) → AreFirst routes k n falls → length falls ≡ n
-length_is routes k n falls all = (at_number (λ e o. MatchOption o (HasNoFall routes k e) (IsFirstAt routes k e)) 0 n falls None all).0
-
--- the ranks, over the shape and the channels of the relation
-same_over : (routes : Routes) (k : Ranking) (sound : IsGrid routes.grid) → routes.grid ≡ k.grid → routes.vcs ≡ k.vcs → over routes k.ranks sound ≡ k
-same_over routes k sound grid vcs = λ i. record { grid = grid i; vcs = vcs i; ranks = k.ranks }
-
-pub check-ok : (routes : Routes) (k : Ranking) (n : ℕ) (falls : List (Option Fall)) → routes.grid ≡ k.grid → routes.vcs ≡ k.vcs → IsGrid routes.grid → n ≡ routes.classes * inputs k
-    → AreFirst routes k n falls → ((j : ℕ) → j < length falls → get_or falls j None ≡ None) → IsRankedBy routes k
-check-ok routes k n falls grid vcs sound count all none =
-    let P : Ranking → Type 0 = λ x. n ≡ routes.classes * inputs x → AreFirst routes x n falls → IsRankedBy routes x in
-    let core : P (over routes k.ranks sound) = λ m h. ranked routes k.ranks sound
-    (λ e l. let here : e < n = omega (arith, m, l) in none_at routes (over routes k.ranks sound) n falls e h here (none e (omega (arith, here, length_is routes k n falls all)))) in
-    subst P (same_over routes k sound grid vcs) core count all
-
-pub check-err : (routes : Routes) (k : Ranking) (n : ℕ) (falls : List (Option Fall)) (fall : Fall) → routes.grid ≡ k.grid → routes.vcs ≡ k.vcs → IsGrid routes.grid
-    → AreFirst routes k n falls → IsFirstOf falls fall → IsFirstFall routes k fall.step fall.rank fall.next
-check-err routes k n falls fall grid vcs sound all first =
-    let inside : first.place < n = omega (arith, first.inside, length_is routes k n falls all) in
-    let P : Ranking → Type 0 = λ x. AreFirst routes x n falls → IsFirstFall routes x fall.step fall.rank fall.next in
-    let core : P (over routes k.ranks sound) = λ h. first_fall routes k.ranks sound first.place fall (some_at routes (over routes k.ranks sound) n falls first.place fall h inside first.there)
-    (λ f l. none_at routes (over routes k.ranks sound) n falls f h (omega (arith, l, inside)) (first.first f l)) in
-    subst P (same_over routes k sound grid vcs) core all
-
--- ---- ranks that rise
-
--- ranks that rise are refused for want of memory alone
-pub only_memory : (routes : Routes) (k : Ranking) (fault : RankFault) → IsRankedBy routes k → IsFaultOfCheck routes k fault → fault ≡ Memory
-only_memory routes k Memory rising h = refl
-only_memory routes k (NotRising entry port vc before after) rising h =
-    let f = h.fall in
-    let rises : rank_of (rank_at k) f.from < rank_at k entry.router port vc = rising entry.class f.from entry.dst entry.router port vc f.permitted in
-    absurd (omega (arith, rises, f.before_is, f.after_is, f.falls))
-only_memory routes k NoGenerated rising h = absurd h
-only_memory routes k (UnknownChannel i) rising h = absurd h
-only_memory routes k (DoubleChannel i) rising h = absurd h
-only_memory routes k (BadRank i) rising h = absurd h
-only_memory routes k (MissingChannel r p v) rising h = absurd h
-=======
->>>>>>> ranks

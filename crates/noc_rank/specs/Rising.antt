@@ -1,9 +1,5 @@
 -- Steps at which ranks do not rise (Dally and Towles, chapter 14).
-<<<<<<< HEAD
-use Rattle.std.specs.Prelude.{◌≡◌, ℕ, ◌≤◌, false, Some, IsTrue, ⊤}
-=======
 use Rattle.std.specs.Prelude.{◌≡◌, ℕ, ◌≤◌, false, Some, IsTrue}
->>>>>>> ranks
 use Rattle.noc_route.specs.Channel.{Channel, Link, arrival_of, channel_vc}
 use Rattle.noc_route.specs.Order.{numbers_before, row_numbers}
 use Rattle.noc_route.specs.Ranks.{rank_of, Ranking, rank_at}
@@ -11,11 +7,7 @@ use Rattle.noc_route.specs.Routes.{Routes, permits}
 use Rattle.noc_route.specs.declared.rule.RouteRow.{RouteRow}
 use Rattle.noc_route.specs.declared.rule.Entry.{Entry}
 use Rattle.noc_rank.specs.declared.fault.RankFault.{RankFault}
-<<<<<<< HEAD
-use Rattle.noc_rank.specs.declared.fault.RankFault.TheVariants.{NotRising, Memory}
-=======
 use Rattle.noc_rank.specs.declared.fault.RankFault.TheVariants.{NotRising}
->>>>>>> ranks
 
 -- a packet that came to this entry, on a channel of rank `before`, may go on by this link channel, whose rank `after` is not greater
 pub record IsFall (routes : Routes) (k : Ranking) (step : RouteRow) (before after : ℕ) : Type 0 where

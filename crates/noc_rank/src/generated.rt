@@ -2,11 +2,6 @@
 
 ghost use Rattle.std.specs.Prelude.{◌≡◌, ℕ, ◌+◌, ◌*◌, ◌/◌, ◌%◌, ◌<◌, ◌≤◌, IfOk, true, false, slice_index, vec_len};
 ghost use Rattle.noc_topo.specs.Shape.{IsGrid, nodes, dimensions, coordinates, local_port};
-<<<<<<< HEAD
-ghost use Rattle.noc_packet.specs.declared.limits.TheConstants.{MAX_CHANNELS, MAX_CLASSES};
-ghost use Rattle.noc_route.specs.Relation.{resource_class};
-=======
->>>>>>> ranks
 ghost use Rattle.noc_route.specs.Ranks.{is_channel, places};
 ghost use Rattle.noc_rank.specs.Formulas.{has_ranks, passed_in, west_first_rank, formula, formula_at};
 

@@ -3,16 +3,9 @@
 ghost use Rattle.std.specs.Prelude.{◌≡◌, ℕ, ◌+◌, ◌*◌, ◌/◌, ◌%◌, ◌<◌, ◌≤◌, ◌↔◌, IsOk, OnOk, IfErr, IfSome, IfNone, MatchOption, false};
 ghost use Rattle.noc_topo.specs.Shape.{nodes, ports};
 ghost use Rattle.noc_route.specs.Routes.{set_at};
-<<<<<<< HEAD
-ghost use Rattle.noc_route.specs.Ranks.{rank_at, IsRankedBy};
-ghost use Rattle.noc_rank.specs.declared.fault.RankFault.TheVariants.{Memory};
-ghost use Rattle.noc_rank.specs.Rising.{IsFaultOfCheck};
-ghost use Rattle.noc_rank.specs.Falls.{fault_of_fall, arrival_rank, falls_to, links, inputs, IsLeastBelow, HasNone, HasNoFall, IsFirstFrom, IsFirstAt, IsFirstOf};
-=======
 ghost use Rattle.noc_route.specs.Ranks.{IsRankedBy};
 ghost use Rattle.noc_rank.specs.Rising.{IsFaultOfCheck, IsFirstFall};
 ghost use Rattle.noc_rank.specs.Falls.{fault_of_fall, arrival_rank, falls_to, links, inputs, IsLeastBelow, HasNone, HasNoFall, IsFirstFrom, IsFirstAt};
->>>>>>> ranks
 
 use crate::fault::RankFault;
 use crate::place::link_ports;
@@ -42,9 +35,6 @@ pub fn check(
     requires vcs { relation.now.vcs ≡ ranks.now.vcs }
     ensures ok { OnOk result (IsRankedBy relation.now ranks.now) }
     ensures err { IfErr result (IsFaultOfCheck relation.now ranks.now) }
-<<<<<<< HEAD
-    ensures refused { IsRankedBy relation.now ranks.now → IfErr result (λ e. e ≡ Memory) }
-=======
     ensures accepted { IsRankedBy relation.now ranks.now → IsOk result }
 {
     match first_fall(rt, relation, ranks) {
@@ -58,7 +48,6 @@ fn first_fall(rt: &(impl Threads + Sync), relation: &Relation, ranks: &Ranks) ->
     requires shape { relation.now.grid ≡ ranks.now.grid }
     requires vcs { relation.now.vcs ≡ ranks.now.vcs }
     ensures { MatchOption result (IsRankedBy relation.now ranks.now) (λ fall. IsFirstFall relation.now ranks.now fall.step fall.rank fall.next) }
->>>>>>> ranks
 {
     let count = relation.classes()
         * relation.shape().nodes()

@@ -12,10 +12,7 @@ mod rows;
 mod rule;
 mod trim;
 
-<<<<<<< HEAD
-=======
 pub use frame::{is_right, is_torus, resource_class};
->>>>>>> ranks
 pub use laws::{
     a_relation_is_ranked_as_its_rule, a_rule_has_a_relation_or_a_fault, a_rule_has_one_relation,
 };
