@@ -104,7 +104,7 @@ class Moment:
             return Step(place, "", said, inside)
         # (a node brings in one packet at a time, by due time and then by number)
         first = max(inside, key=lambda found: (self.run.packet(found.packet).due, found.packet))
-        return Step(place, "", f"packet {first.packet} comes in before it", [first])
+        return Step(place, "", f"packet {first.packet} comes in first", [first])
 
 
 def owners(pairs):
@@ -148,7 +148,7 @@ def no_idle_channel(moment, place, out):
             port, number = split(channel)
             router = network.neighbour(place.router, port)
             owner = moment.place_of(router, f"{opposite(port)}.{number}")
-            said.append((channel, "", f"drains: the end of packet {owner.packet} is still at router {router}"))
+            said.append((channel, "", f"the end of packet {owner.packet} is still at router {router}"))
         waits_for.append(owner)
     return in_words(said), waits_for
 
@@ -157,9 +157,10 @@ def in_words(needed):
     """What is needed: channels, each with who has it, or with how it drains."""
     if len(needed) == 1:
         ((channel, owner, drains),) = needed
-        return f"It needs {channel}, and {owner} it" if owner else f"It needs {channel}, which {drains}"
+        return f"It needs {channel}, " + (f"and {owner} it" if owner else f"which drains: {drains}")
     names = " or ".join(channel for channel, _, _ in needed)
-    return f"It needs {names}. " + "; ".join(f"{owner} {channel} {drains}".strip() for channel, owner, drains in needed)
+    said = [f"{owner} {channel}" if owner else f"{channel} drains ({drains})" for channel, owner, drains in needed]
+    return f"It needs {names}: {', '.join(said)}"
 
 
 def lost_channel(moment, place, out):
