@@ -154,8 +154,6 @@ class Run:
         self.network = read_network(config)
         self.files = [str(config), str(traffic)] + (["--table", str(table)] if table else [])
         self.table = read_table(table) if table else None
-        if self.network.rule not in RULES and self.table is None:
-            refuse(f"the rule '{self.network.rule}' is not known here, or there is no --table")
         self.known = {}
 
     @cached_property
@@ -188,8 +186,10 @@ class Run:
             return self.table.get((packet.message_class, router, port, number, packet.destination), [])
         if router == packet.destination:
             found = [("local", number) for number in self.network.block(packet.message_class)]
-        else:
+        elif self.network.rule in RULES:
             found = RULES[self.network.rule](self.network, packet.message_class, router, packet.destination)
+        else:
+            refuse(f"the rule '{self.network.rule}' is not known here")
         return [f"{port}.{number}" for port, number in found]
 
 
