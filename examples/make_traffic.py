@@ -142,7 +142,7 @@ def traffic(network, destination, load, length, seed=1, cycles=None, classes=(0,
         refuse(f"noc takes due times up to {LATEST_DUE}: give --cycles")
     lines = [",".join(map(str, row)) for row in rows(network, destination, load, length, seed, cycles, classes)]
     if MOST_PACKETS < len(lines):
-        refuse(f"{len(lines)} packets, and noc takes {MOST_PACKETS} at most: lower the load or give --cycles")
+        refuse(f"{len(lines)} packets, and noc takes {MOST_PACKETS} at most: lower the load or the number of cycles")
     return "\n".join([HEADER, *lines, ""])
 
 

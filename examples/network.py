@@ -104,11 +104,15 @@ def read_network(path):
         text = Path(path).read_bytes().decode("utf-8-sig")
         settings = tomllib.loads(re.sub(r"\\x([0-9A-Fa-f]{2})", r"\\u00\1", text))
         settings["radix"] = tuple(settings["radix"])
-        return Network(**settings)
+        network = Network(**settings)
     except OSError as error:
         refuse(f"{path}: {error.strerror}")
     except (ValueError, TypeError, KeyError) as error:
         refuse(f"{path} is no configuration: {error}")
+    numbers = [*network.radix, network.channels, network.buffer, network.classes, network.cycles]
+    if not all(type(number) is int and 0 < number for number in numbers):
+        refuse(f"{path} is no configuration: a value is no number above 0")
+    return network
 
 
 # ---- routing rules

@@ -241,7 +241,8 @@ WRONG = [
     ("a class that does not exist", LINE, "uniform 0.1 1 --classes 1"),
     ("a spot that does not exist", LINE, "hot-spot 0.1 1 --spots 3"),
     ("more packets than the program takes", config("mesh", [16, 16], 1, 2, 1, "dor", 100), "uniform 1 1"),
-    ("no configuration", "kind = 1 2", "uniform 0.1 1"),
+    ("no document", "kind = 1 2", "uniform 0.1 1"),
+    ("a radix of letters", LINE.replace("[3]", "\"33\""), "uniform 0.1 1"),
 ]
 
 
