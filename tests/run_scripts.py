@@ -4,7 +4,7 @@
     run_scripts.py PROGRAM
 
 What is expected was worked out by hand from docs/MODEL.md or the definitions of the patterns; on made networks the steps of
-why.py are held against the findings of PROGRAM. Each check that fails is shown, and the last line is 'N passed, M failed'. The
+why.py and the lives of timeline.py are held against the reports of PROGRAM. Each check that fails is shown, and the last line is 'N passed, M failed'. The
 exit status is 0 where all passed, else 1.
 """
 import re
@@ -96,7 +96,10 @@ def why_tells_what_is_no_wait(folder):
 def made_networks(count):
     """Small networks of all rules with more traffic than they take."""
     random = Random(1)
-    below = lambda bound: int(random.random() * bound)
+
+    def below(bound):
+        return int(random.random() * bound)
+
     for number in range(count):
         rule = ["dor", "dateline", "west-first"][number % 3]
         kind = {"dor": ["mesh", "torus"][below(2)], "dateline": "torus", "west-first": "mesh"}[rule]
@@ -108,12 +111,14 @@ def made_networks(count):
         yield config(kind, radix, channels, 1 + below(3), classes, rule, 40), HEADER + "".join(lines)
 
 
-WHOLE = """
+READ = """
 import sys
 sys.path.insert(0, "examples")
-import network, why
+import network, timeline, why
 
 run = network.Run("c", "t")
+"""
+STEPS = """
 for cycle in (7, 19, 33):
     moment = why.Moment(run, cycle)
     for router in range(run.network.nodes):
@@ -123,17 +128,36 @@ for cycle in (7, 19, 33):
     for number in range(len(run.packets)):
         assert why.lines(moment, run.packet(number))
 """
+LIVES = """
+for number in range(len(run.packets)):
+    packet = run.packet(number)
+    stays = [stay for stay in timeline.life(run, packet) if stay.channel != timeline.QUEUE]
+    assert all(run.network.distance(one.router, other.router) == 1 for one, other in zip(stays, stays[1:])), number
+    if packet.out is not None:
+        assert (stays[0].router, stays[-1].router) == (packet.source, packet.destination), number
+        assert stays[-1].first + len(stays[-1].kinds) - 1 == packet.out, number
+        assert all(stay.kinds.count("moved") == packet.length for stay in stays), number
+"""
 
 
-def steps_agree_with_the_program(folder):
-    """Every channel that a packet has, gets or loses is permitted; what is permitted and not idle has a packet; all steps end."""
-    for text, traffic in made_networks(6):
+def holds_on_made_networks(folder, count, script):
+    for text, traffic in made_networks(count):
         folder.put(c=text, t=traffic)
-        ran = subprocess.run([sys.executable, "-c", WHOLE], cwd=folder.path, capture_output=True, text=True, timeout=60)
+        ran = subprocess.run([sys.executable, "-c", READ + script], cwd=folder.path, capture_output=True, text=True, timeout=60)
         if ran.returncode:
             print(ran.stderr)
             return False
     return True
+
+
+def steps_agree_with_the_program(folder):
+    """Every channel that a packet has, gets or loses is permitted; what is permitted and not idle has a packet; all steps end."""
+    return holds_on_made_networks(folder, 6, STEPS)
+
+
+def lives_agree_with_the_program(folder):
+    """Hop by hop from source to destination, all flits at each router, and the last one out in the cycle of the latency report."""
+    return holds_on_made_networks(folder, 3, LIVES)
 
 
 # ---- timeline.py
@@ -283,6 +307,7 @@ CHECKS = [
     timeline_shows_a_packet_alone,
     timeline_shows_a_wait,
     bars_lie_at_their_cycles,
+    lives_agree_with_the_program,
     patterns_are_those_of_the_book,
     nodes_that_send_to_themselves_send_nothing,
     a_third_goes_to_the_spots,
