@@ -9,12 +9,12 @@ router's number, that share, the reason that most of these cycles have, and the 
 equals the first in the report). Python 3.11 or later; nothing else is needed.
 """
 import csv
-import math
 import sys
-import tomllib
 from collections import Counter
 from dataclasses import dataclass, field
 from html import escape
+
+from network import read_network, refuse
 
 # What each stall means, in the order of the report's columns.
 REASONS = {
@@ -60,24 +60,24 @@ def most(counts):
     return key if count else "\u2013"
 
 
-def read_radix(path):
-    with open(path, "rb") as file:
-        radix = tomllib.load(file)["radix"]
-    if len(radix) != 2:
-        sys.exit(f"plot_stalls: {path} has {len(radix)} dimensions, and a picture has two")
-    return radix
+def read_shape(path):
+    """The radices of a configuration, and how many routers it has."""
+    network = read_network(path)
+    if len(network.radix) != 2:
+        refuse(f"{path} has {len(network.radix)} dimensions, and a picture has two")
+    return network.radix, network.nodes
 
 
 def read_routers(lines, count):
     """Adds up the lines of a report by router."""
     rows = csv.DictReader(lines)
     if rows.fieldnames != HEADER:
-        sys.exit("plot_stalls: what comes in is no stall report")
+        refuse("what comes in is no stall report")
     routers = {}
     for row in rows:
         routers.setdefault(int(row["router"]), Router()).add(f"{row['port']}.{row['vc']}", row)
     if set(routers) != set(range(count)):
-        sys.exit("plot_stalls: the report has other routers than the configuration")
+        refuse("the report has other routers than the configuration")
     return routers
 
 
@@ -190,8 +190,8 @@ def picture(name, columns, rows, routers):
 def main():
     if len(sys.argv) != 2:
         sys.exit("usage: plot_stalls.py CONFIG < STALLS > PICTURE.svg")
-    columns, rows = radix = read_radix(sys.argv[1])
-    routers = read_routers(sys.stdin, math.prod(radix))
+    (columns, rows), nodes = read_shape(sys.argv[1])
+    routers = read_routers(sys.stdin, nodes)
     name = sys.argv[1].rsplit("/", 1)[-1].removesuffix(".toml")
     sys.stdout.write(picture(name, columns, rows, routers))
 

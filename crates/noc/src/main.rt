@@ -1,13 +1,15 @@
 //! The simulator: reads the files that the words name, or a joined text from standard input, and writes what is asked for.
 #![tactic(auto)]
 
-ghost use Rattle.std.specs.Prelude.{◌≡◌, ⊤, is_some};
+ghost use Rattle.std.specs.Prelude.{◌≡◌, ⊤, is_some, IfSome};
 ghost use Rattle.std.specs.Io.Buffered.{writer_inner};
 ghost use Rattle.noc.specs.Answer.{Asks, ToldFault};
+ghost use Rattle.noc.specs.Line.{line_of};
 ghost use Rattle.noc.specs.Outcome.{Ends};
 
 mod accept;
 mod answer;
+mod collected;
 mod counted;
 mod explain;
 mod fault;
@@ -24,6 +26,7 @@ mod words;
 
 use answer::answer;
 use clap::error::ErrorKind;
+use collected::Collected;
 use counted::Counted;
 use fault::{Fault, status_of};
 use line::fault_line;
@@ -31,6 +34,7 @@ use noc_files::{InputFault, Out, WriteFault, read_all};
 use request::{Command, Request, Text};
 use status::Status;
 use std::env;
+use std::env::FillError;
 use std::fs::{File, Files};
 use std::io::{self, BufWriter, Write};
 use std::process::ExitCode;
@@ -49,8 +53,8 @@ const WRONG_WORDS: u8 = 2;
 enum Refusal {
     // Memory was refused.
     Memory,
-    // A word is no text in UTF-8.
-    NotText,
+    // A word is no text in UTF-8: its number, the program's name being 0, where the word is not too long to be looked at.
+    NotText(Option<usize>),
     // They make no sense, or help was asked for.
     Words(clap::Error),
 }
@@ -70,16 +74,34 @@ fn main(rt: HostRuntime) -> ExitCode {
 fn refused<W: Write + Drop>(mut to: W, refusal: &Refusal) -> ExitCode {
     let _ = match refusal {
         Refusal::Memory => return told(to, &Fault::Config(InputFault::Memory)),
-        Refusal::NotText => writeln!(to, "error: a word is no text in UTF-8"),
+        Refusal::NotText(None) => writeln!(to, "error: a word is no text in UTF-8"),
+        Refusal::NotText(Some(number)) => {
+            let mut line = Collected::new();
+            let _ = writeln!(line, "error: word {number} is no text in UTF-8");
+            to.write_all(line.text())
+        }
         Refusal::Words(error) => write!(to, "{error}"),
     };
     ExitCode::from(WRONG_WORDS)
 }
 
-// Tells a fault, and gives its exit status.
-fn told<W: Write + Drop>(to: W, fault: &Fault) -> ExitCode {
-    let _ = fault_line(fault, &mut Out::new(to));
+// Tells a fault, and gives its exit status. The line goes out in one write, so that programs side by side, with one file for
+// their errors, leave whole lines there.
+fn told<W: Write + Drop>(mut to: W, fault: &Fault) -> ExitCode {
+    let _ = match collected_line(fault) {
+        Some(line) => to.write_all(line.text()).is_ok(),
+        None => fault_line(fault, &mut Out::new(to)).is_ok(),
+    };
     ExitCode::from(status_of(fault))
+}
+
+// The line of a fault, or none where it is longer than the room for it.
+fn collected_line(fault: &Fault) -> Option<Collected>
+    ensures { IfSome result (λ line. line ≡ line_of fault.now) }
+{
+    let mut out = Out::new(Collected::new());
+    fault_line(fault, &mut out).ok()?;
+    Some(out.into_inner())
 }
 
 // What the words of the command line ask for.
@@ -101,8 +123,21 @@ fn all_words(rt: &(impl Env + AllocGlobal)) -> Result<Vec<String>, Refusal> {
     match env::args(rt) {
         Ok(words) => words.collect(rt.alloc()).map_err(|_| Refusal::Memory),
         Err(error) if error.kind() == io::ErrorKind::OutOfMemory => Err(Refusal::Memory),
-        Err(_) => Err(Refusal::NotText),
+        Err(_) => Err(Refusal::NotText(wrong_word(rt))),
     }
+}
+
+// The number of the first word that is no text in UTF-8, of words of less than 4096 bytes.
+fn wrong_word(rt: &impl Env) -> Option<usize> {
+    let mut room = [0u8; 4096];
+    for number in 0..usize::MAX {
+        match rt.arg(number, &mut room) {
+            Ok(length) if str::from_utf8(&room[..length]).is_err() => return Some(number),
+            Ok(_) | Err(FillError::TooLong) => {}
+            Err(FillError::NotPresent) => break,
+        }
+    }
+    None
 }
 
 // The request for the latency report of a joined text.

@@ -15,9 +15,18 @@ pub struct Words<'a> {
     pub traffic: Option<&'a str>,
 }
 
+const USAGE: &str = "noc COMMAND ..
+       noc < JOINED";
+
 const AFTER_HELP: &str =
-    "Without a command, noc reads a joined text from standard input (a configuration, a line ---, and
-traffic) and writes the latency report.
+    "Without a command, noc reads JOINED from standard input (a configuration, a line ---, and traffic),
+and writes the latency report.
+
+A configuration (TOML) has these keys:
+  kind, radix, channels, buffer, classes, rule, cycles
+Traffic (CSV) has this header, and a line for each packet:
+  source,destination,class,length,due
+docs/FORMATS.md tells all of the files, the reports and the fault lines.
 
 Examples:
   noc < examples/two_routers.noc
@@ -26,8 +35,23 @@ Examples:
   noc ranks torus.toml > ranks.csv
   noc check torus.toml --ranks ranks.csv
 
-Exit status: 0 done, 2 wrong words, 3 a text, a shape, an option or a packet is refused, 4 a relation or
-ranks are refused, 5 the network is stuck, 6 memory was refused, 7 the report could not be written.";
+Exit status:
+  0  done
+  2  the words make no sense, or ask for help
+  3  a text, a shape, an option or a packet is refused
+  4  a relation or ranks are refused
+  5  the network is stuck
+  6  memory was refused
+  7  the report could not be written";
+
+const AFTER_RUN_HELP: &str = "Reports:
+  latency  when each packet was out, and how long that took
+  stalls   how often each input channel had each verdict: what it did, or why it waited
+  summary  the sums of both over the whole network
+
+Example: noc run mesh.toml traffic.csv --report stalls
+
+The status is 5 where the network is stuck at the end of the run.";
 
 /// The words behind the program's name, which is the first word, or clap's text on why they make no sense.
 pub fn read_words<'a>(alloc: Global, words: &'a [String]) -> Result<Words<'a>, Error> {
@@ -78,6 +102,7 @@ fn explain_of(matches: &ArgMatches<'_>) -> Command {
 fn program<'a>(alloc: Global) -> Result<clap::Command<'a>, AllocError> {
     clap::Command::new(alloc, "noc")
         .about("Simulates a wormhole network-on-chip with virtual channels, cycle by cycle.")
+        .override_usage(USAGE)
         .after_help(AFTER_HELP)
         .subcommand(run_words(alloc)?)?
         .subcommand(explain_words(alloc)?)?
@@ -88,9 +113,7 @@ fn program<'a>(alloc: Global) -> Result<clap::Command<'a>, AllocError> {
 fn run_words<'a>(alloc: Global) -> Result<clap::Command<'a>, AllocError> {
     clap::Command::new(alloc, "run")
         .about("Runs the network for the configuration's cycles, and writes a report")
-        .after_help(
-            "Example: noc run mesh.toml traffic.csv --report stalls\n\nThe status is 5 where the network is stuck at the end of the run.",
-        )
+        .after_help(AFTER_RUN_HELP)
         .arg(config_word(alloc))?
         .arg(traffic_word(alloc))?
         .arg(table_word(alloc))?
@@ -139,9 +162,9 @@ fn config_word<'a>(alloc: Global) -> Arg<'a> {
 }
 
 fn traffic_word<'a>(alloc: Global) -> Arg<'a> {
-    Arg::new(alloc, "TRAFFIC")
-        .required(true)
-        .help("The packets (CSV)")
+    Arg::new(alloc, "TRAFFIC").required(true).help(
+        "The packets (CSV; header: source,destination,class,length,due)",
+    )
 }
 
 fn table_word<'a>(alloc: Global) -> Arg<'a> {
@@ -161,7 +184,7 @@ fn report_word<'a>(alloc: Global) -> Arg<'a> {
         .value_name("REPORT")
         .value_parser(["summary", "latency", "stalls"].as_slice())
         .default_value("latency")
-        .help("Sums, or when each packet was out, or how often each channel had each verdict")
+        .help("What to write of the run, see below")
 }
 
 fn cycle_word<'a>(alloc: Global) -> Arg<'a> {

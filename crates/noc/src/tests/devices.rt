@@ -4,6 +4,7 @@ use crate::answer::answer;
 use crate::fault::{Fault, OptionFault, status_of};
 use crate::line::fault_line;
 use crate::request::{Command, Report, Request};
+use crate::told;
 use noc_files::{Out, WriteFault};
 use std::alloc::Global;
 use std::io::{self, Write};
@@ -114,5 +115,41 @@ fn a_fault_keeps_its_status_where_its_line_is_cut_off(rt: HostRuntime) -> Result
         Err(WriteFault { written: 5 })
     );
     assert_eq!(rt; status_of(&fault), 3);
+    Ok(())
+}
+
+// Takes all of each write, and counts writes and bytes.
+#[derive(Drop)]
+struct Whole<'a> {
+    writes: &'a mut usize,
+    taken: &'a mut usize,
+}
+
+impl Write for Whole<'_> {
+    fn write(&mut self, bytes: &[u8]) -> io::Result<usize> {
+        *self.writes = self.writes.saturating_add(1);
+        *self.taken = self.taken.saturating_add(bytes.len());
+        Ok(bytes.len())
+    }
+
+    fn flush(&mut self) -> io::Result<()> {
+        Ok(())
+    }
+}
+
+#[test]
+fn a_fault_line_is_one_write(rt: HostRuntime) -> Result<(), Fail> {
+    let mut writes = 0;
+    let mut taken = 0;
+    let fault = Fault::Write(WriteFault { written: 106 });
+    told(
+        Whole {
+            writes: &mut writes,
+            taken: &mut taken,
+        },
+        &fault,
+    );
+    assert_eq!(rt; writes, 1);
+    assert_eq!(rt; taken, "fault write 1 WriteFailed written 106\n".len());
     Ok(())
 }

@@ -1,0 +1,231 @@
+"""What the scripts of this folder share: configurations, shapes, routing rules, and calls of noc.
+
+Nodes, ports and rules are those of docs/MODEL.md. A channel is named by its port, a full stop and its number, as in 'local.0'.
+"""
+import csv
+import math
+import os
+import re
+import subprocess
+import sys
+import tomllib
+from concurrent.futures import ThreadPoolExecutor
+from dataclasses import dataclass
+from functools import cached_property
+from pathlib import Path
+
+NOC = Path(__file__).resolve().parent.parent / "noc"
+DONE, STUCK = 0, 5
+# The verdicts of a channel whose packet has the output channel that stands beside it.
+OWNING = {"Moved", "NoFlit", "NoCredit", "LostInput", "LostSwitch"}
+
+
+def script_name():
+    return Path(sys.argv[0]).stem
+
+
+def refuse(reason):
+    """Ends the script with a line that says why."""
+    sys.exit(f"{script_name()}: {reason}")
+
+
+@dataclass(frozen=True)
+class Network:
+    """A configuration, and what follows from it."""
+
+    kind: str
+    radix: tuple
+    channels: int
+    buffer: int
+    classes: int
+    rule: str
+    cycles: int
+
+    @cached_property
+    def nodes(self):
+        return math.prod(self.radix)
+
+    @cached_property
+    def ports(self):
+        links = [sign + str(dimension) for dimension in range(len(self.radix)) for sign in "+-"]
+        return [*links, "local"]
+
+    def coordinates(self, node):
+        places = []
+        for k in self.radix:
+            node, x = divmod(node, k)
+            places.append(x)
+        return places
+
+    def node_at(self, places):
+        node = 0
+        for k, x in zip(reversed(self.radix), reversed(places)):
+            node = node * k + x
+        return node
+
+    def neighbour(self, router, port):
+        """The router to which a port leads, or None."""
+        if port == "local":
+            return None
+        places, dimension = self.coordinates(router), int(port[1:])
+        k = self.radix[dimension]
+        x = places[dimension] + (1 if port[0] == "+" else -1)
+        if self.kind == "mesh" and not 0 <= x < k:
+            return None
+        places[dimension] = x % k
+        return self.node_at(places)
+
+    def distance(self, one, other):
+        def way(k, x, t):
+            return min((t - x) % k, (x - t) % k) if self.kind == "torus" else abs(t - x)
+
+        return sum(map(way, self.radix, self.coordinates(one), self.coordinates(other)))
+
+    def block(self, message_class):
+        """The numbers of a class's channels."""
+        size = self.channels // self.classes
+        return list(range(message_class * size, (message_class + 1) * size))
+
+
+def opposite(port):
+    """The port by which a flit comes in that left by this one."""
+    return ("-" if port[0] == "+" else "+") + port[1:]
+
+
+def split(channel):
+    """The port and the number of a channel."""
+    port, number = channel.split(".")
+    return port, int(number)
+
+
+def read_network(path):
+    """Reads a configuration that noc accepts; with a byte order mark, and with the escapes of TOML 1.1, as noc does."""
+    try:
+        text = Path(path).read_bytes().decode("utf-8-sig")
+        settings = tomllib.loads(re.sub(r"\\x([0-9A-Fa-f]{2})", r"\\u00\1", text))
+        settings["radix"] = tuple(settings["radix"])
+        network = Network(**settings)
+    except OSError as error:
+        refuse(f"{path}: {error.strerror}")
+    except (ValueError, TypeError, KeyError) as error:
+        refuse(f"{path} is no configuration: {error}")
+    numbers = [*network.radix, network.channels, network.buffer, network.classes, network.cycles]
+    if not all(type(number) is int and 0 < number for number in numbers):
+        refuse(f"{path} is no configuration: a value is no number above 0")
+    return network
+
+
+# ---- routing rules
+
+
+def dimension_order_port(network, router, destination):
+    for dimension, (k, x, t) in enumerate(zip(network.radix, network.coordinates(router), network.coordinates(destination))):
+        if x != t:
+            goes_up = (t - x) % k <= (x - t) % k if network.kind == "torus" else x < t
+            return f"{'+' if goes_up else '-'}{dimension}"
+    return None
+
+
+def dor(network, message_class, router, destination):
+    port = dimension_order_port(network, router, destination)
+    return [(port, number) for number in network.block(message_class)]
+
+
+def dateline(network, message_class, router, destination):
+    """As dimension order, by the low half of the class's channels while the way still crosses the ends of the dimension."""
+    port = dimension_order_port(network, router, destination)
+    dimension = int(port[1:])
+    x, t = network.coordinates(router)[dimension], network.coordinates(destination)[dimension]
+    crosses = t < x if port[0] == "+" else x < t
+    block = network.block(message_class)
+    half = len(block) // 2
+    return [(port, number) for number in (block[:half] if crosses else block[half:])]
+
+
+def west_first(network, message_class, router, destination):
+    (x, y), (a, b) = network.coordinates(router), network.coordinates(destination)
+    ports = ["-0"] if a < x else ["+0"] * (x < a) + ["+1"] * (y < b) + ["-1"] * (b < y)
+    return [(port, number) for port in ports for number in network.block(message_class)]
+
+
+RULES = {"dor": dor, "dateline": dateline, "west-first": west_first}
+
+
+class Run:
+    """A network with its traffic, as noc runs it."""
+
+    def __init__(self, config, traffic, table=None):
+        self.network = read_network(config)
+        self.files = [str(config), str(traffic)] + (["--table", str(table)] if table else [])
+        self.table = read_table(table) if table else None
+        self.known = {}
+
+    @cached_property
+    def packets(self):
+        """The latency report, a row for each packet."""
+        return list(csv.DictReader(report_of("run", *self.files).splitlines()))
+
+    def packet(self, number):
+        if not 0 <= number < len(self.packets):
+            refuse(f"there is no packet {number}: the traffic has {len(self.packets)}")
+        return Packet(number, self.packets[number])
+
+    def explain(self, cycle, router):
+        """The findings on a router in a cycle: each input channel with its row."""
+        if (cycle, router) not in self.known:
+            text = report_of("explain", *self.files, "--cycle", str(cycle), "--router", str(router))
+            rows = csv.DictReader(text.splitlines())
+            self.known[cycle, router] = {f"{row['port']}.{row['vc']}": row for row in rows}
+        return self.known[cycle, router]
+
+    def explain_all(self, places):
+        """The findings on several pairs of cycle and router, some side by side."""
+        with ThreadPoolExecutor(os.cpu_count()) as pool:
+            return list(pool.map(lambda place: self.explain(*place), places))
+
+    def permitted(self, packet, router, channel):
+        """The output channels that a packet may take that came to a router by an input channel."""
+        if self.table is not None:
+            port, number = split(channel)
+            return self.table.get((packet.message_class, router, port, number, packet.destination), [])
+        if router == packet.destination:
+            found = [("local", number) for number in self.network.block(packet.message_class)]
+        elif self.network.rule in RULES:
+            found = RULES[self.network.rule](self.network, packet.message_class, router, packet.destination)
+        else:
+            refuse(f"the rule '{self.network.rule}' is not known here")
+        return [f"{port}.{number}" for port, number in found]
+
+
+class Packet:
+    """A line of the latency report."""
+
+    def __init__(self, number, row):
+        self.number = number
+        self.source, self.destination = int(row["source"]), int(row["destination"])
+        self.message_class, self.length, self.due = int(row["class"]), int(row["length"]), int(row["due"])
+        self.out = None if row["out"] == "-" else int(row["out"])
+
+
+def read_table(path):
+    """The output channels that a routing table permits at each entry, by port and number."""
+    entries = {}
+    with open(path, encoding="utf-8-sig", newline="") as file:
+        for row in csv.DictReader(file):
+            where = (int(row["class"]), int(row["router"]), row["in_port"], int(row["in_vc"]), int(row["dst"]))
+            entries.setdefault(where, set()).add(f"{row['out_port']}.{int(row['out_vc'])}")
+    return {where: sorted(channels, key=order_of) for where, channels in entries.items()}
+
+
+def order_of(channel):
+    """Channels in the order of their index: by port and number."""
+    port, number = split(channel)
+    return (port == "local", port[1:], port[0] == "-", number)
+
+
+def report_of(*words, **given):
+    """What noc writes; where it refuses, the script ends with its line and its status."""
+    ran = subprocess.run([NOC, *words], stdout=subprocess.PIPE, text=True, **given)
+    if ran.returncode not in (DONE, STUCK):
+        sys.exit(ran.returncode)
+    return ran.stdout
