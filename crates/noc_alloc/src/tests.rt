@@ -41,8 +41,6 @@ fn a_channel_that_two_ask_for_goes_round(rt: HostRuntime) -> Result<(), Fail> {
     assert_eq!(rt; arbiters[0].pointer(), 0);
     assert_eq!(rt; arbiters[1].pointer(), 2);
     assert_eq!(rt; arbiters[2].pointer(), 0);
-    allocate_channels(&asks, &arbiters, &mut grants);
-    assert_eq!(rt; grants, [Some(4), Some(3), None]);
     Ok(())
 }
 
