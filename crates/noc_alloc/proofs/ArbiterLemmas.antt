@@ -7,7 +7,6 @@ use Rattle.std.proofs.Math.Nat.{mod-eq_of_lt, add-mod_right}
 use Rattle.noc_topo.specs.Words.{below, least_by, lesser_by}
 use Rattle.noc_packet.specs.Set.{has_bit, has_from, IsLeast}
 use Rattle.noc_alloc.specs.Arbiter.{distance_in_turn, first_in_turn}
-use Rattle.noc_alloc.specs.Steps.{nearer}
 
 module _ (key : ℕ → ℕ) (asks : ℕ → Bool) where
   least_in : ℕ → ℕ → Option ℕ
@@ -210,15 +209,6 @@ nearest-next n p k x asks u before after e h = (e, omega arith, (λ y l ty other
     at : (y : ℕ) → y < k + 1 → asks y ≡ true → y ≢ k → (y ≡ x) ⊎ (y ≡ x → ⊥) → distance_in_turn n p k < distance_in_turn n p y
     at y l ty other (inl same) = subst (λ z. distance_in_turn n p k < distance_in_turn n p z) (sym same) nearer-than
     at y l ty other (inr less) = let far : distance_in_turn n p x < distance_in_turn n p y = h.2 y (omega arith) ty less in omega (arith, nearer-than)
-
-pub nearest-asks : (n p k : ℕ) (asks : ℕ → Bool) (r : Option ℕ) → k < n → asks k ≡ true → IsNearest n p asks k r → IsNearest n p asks (k + 1) (nearer p r k)
-nearest-asks n p k asks None u e h = nearest-one n p k asks e h
-nearest-asks n p k asks (Some x) u e h = at (nat_le p x) (nat_lt k p) refl refl
-  where
-    at : (a b : Bool) → nat_le p x ≡ a → nat_lt k p ≡ b → IsNearest n p asks (k + 1) (if a || b then Some x else Some k)
-    at true b ea eb = nearest-held n p k x asks u (inl (leb-true p x ea)) h
-    at false true ea eb = nearest-held n p k x asks u (inr (ltb-true k p eb)) h
-    at false false ea eb = nearest-next n p k x asks u (leb-false p x ea) (ltb-false k p eb) e h
 
 -- ---- a set of requesters
 pub ahead_is : (n p x bits : ℕ) → has_from p bits x ≡ true → ((k : ℕ) → k < x → has_from p bits k ≡ false) → x < n

@@ -1,6 +1,5 @@
 pub mod WordLemmas
 pub mod ArbiterLemmas
-pub mod OfferLemmas
-pub mod PlaceLemmas
+pub mod AskingLemmas
 pub mod SwitchLemmas
 pub mod Rounds

@@ -4,14 +4,13 @@ use Rattle.std.specs.Prelude.{All, IfSome, ◌⊎◌, ◌||◌, ◌&&◌, not, n
 use Rattle.std.proofs.lemmas.Bool.{cases_eq, cases_lt, eq-eqb, ne_eqb, false≢true, or_cases, lt-ltb, le-ltb}
 use Rattle.noc_packet.specs.Set.{has_bit, in_both, IsLeast}
 use Rattle.std.proofs.lemmas.Nat.{mul-add-lt}
-use Rattle.std.proofs.lemmas.List.{get_or_read, get_or_past}
+use Rattle.std.proofs.lemmas.List.{get_or-map}
 use Rattle.noc_topo.specs.Words.{is_some_of, tabulate}
 use Rattle.noc_alloc.specs.Arbiter.{Turn, first_in_turn, turned, turn_at, pointers_of}
 use Rattle.noc_alloc.specs.Allocation.{pick_of, picked_port, winner_of, has_won, winning_pick, moving_pick, turned_by, is_won_by, pick_won}
 use Rattle.noc_alloc.specs.Steps.{turned_winner}
 use Rattle.noc_alloc.proofs.WordLemmas.{map_indexed-from_each, length-map_indexed, get_or-map_indexed, get_or-tabulate, length-tabulate, is_some_of-true, is_some_of-some, is_some_of-none, is_some_of-other}
-use Rattle.noc_alloc.proofs.ArbiterLemmas.{first_in_turn-same, first_in_turn-picks}
-use Rattle.noc_alloc.proofs.OfferLemmas.{pointer-at, both_has, both_lacks}
+use Rattle.noc_alloc.proofs.ArbiterLemmas.{first_in_turn-picks}
 
 -- the index of an input channel is one of a list with so many for each port
 pub in_ready : (ports vcs port v : ℕ) → port < ports → v < vcs → port * vcs + v < ports * vcs
@@ -25,35 +24,8 @@ first_in_turn-below n p asks = at (first_in_turn n p asks) refl
     at None e = tt
     at (Some y) e = (first_in_turn-picks n p y asks e).1
 
--- the virtual channel that an input port picks of a set of input channels
-abbrev pub pick_from : ℕ → ℕ → List ℕ → ℕ → Option ℕ
-pick_from ready vcs pointers port = first_in_turn vcs (get_or pointers port 0) (λ v. has_bit ready (port * vcs + v))
-
--- the pick of one input port, from its part of the set of those that are ready
-pub pick-is : (vcs : ℕ) (turns : List Turn) (port : ℕ) (t : Turn) (ready part : ℕ) → port < length turns
-    → t ≡ get_or turns port t → t.size ≡ vcs
-    → ((k : ℕ) → has_bit part k ≡ (nat_lt k vcs && has_bit ready (port * vcs + k)))
-    → first_in_turn t.size t.pointer (has_bit part) ≡ pick_from ready vcs (pointers_of turns) port
-pick-is vcs turns port t ready part l is size some =
-    let p : get_or (pointers_of turns) port 0 ≡ t.pointer = pointer-at turns port l ∙ ap (λ (x : Turn). x.pointer) (sym (get_or_read turns port t l is (record { size = 0; pointer = 0 }))) in
-    ap (λ n. first_in_turn n t.pointer (has_bit part)) size
-    ∙ ap (λ q. first_in_turn vcs q (has_bit part)) (sym p)
-    ∙ first_in_turn-same vcs (get_or (pointers_of turns) port 0) (has_bit part) (λ k. has_bit ready (port * vcs + k))
-    (λ k u. some k ∙ ap (λ b. b && has_bit ready (port * vcs + k)) (lt-ltb k vcs u))
-
--- .. by the requests, where those that ask are the members of the set
-pub pick_from-asked : (asked : List (Option ℕ)) (vcs : ℕ) (pointers : List ℕ) (ready port : ℕ) → ((k : ℕ) → has_bit ready k ≡ is_some (get_or asked k None))
-    → pick_from ready vcs pointers port ≡ pick_of asked vcs pointers port
-pick_from-asked asked vcs pointers ready port members =
-    first_in_turn-same vcs (get_or pointers port 0) (λ v. has_bit ready (port * vcs + v)) (λ v. is_some (get_or asked (port * vcs + v) None)) (λ v u. members (port * vcs + v))
-
--- no member of a part is past it
-pub part-below : (vcs first filled part : ℕ) → ((k : ℕ) → has_bit part k ≡ (nat_lt k vcs && has_bit filled (first + k))) → (k : ℕ) → has_bit part k ≡ true → k < vcs
-part-below vcs first filled part some k e = at (cases_lt k vcs)
-  where
-    at : (k < vcs) ⊎ (vcs ≤ k) → k < vcs
-    at (inl l) = l
-    at (inr u) = absurd (false≢true (sym (some k ∙ ap (λ b. b && has_bit filled (first + k)) (le-ltb k vcs u)) ∙ e))
+pub pointer-at : (turns : List Turn) (o : ℕ) → o < length turns → get_or (pointers_of turns) o 0 ≡ (turn_at turns o).pointer
+pointer-at turns o l = get_or-map (λ (t : Turn). t.pointer) turns o (record { size = 0; pointer = 0 }) 0 l
 
 -- every winner is below the number of requesters
 pub tabulate-inside : (n m : ℕ) (f : ℕ → Option ℕ) (xs : List (Option ℕ)) → ((k : ℕ) → IfSome (f k) (λ y. y < m)) → xs ≡ tabulate n f → All (λ x. IfSome x (λ y. y < m)) xs
@@ -124,6 +96,41 @@ turned-more before after picks wins i (Some q) e l same inside h k u = at (cases
         ∙ ap (λ b. turned (turn_at before k) (if b then get_or picks k None else None))
         (sym (has_won-more wins i k l ∙ ap (λ b. has_won (take i wins) k || b) (is_some_of-other (get_or wins i None) k q e (λ same_port. other (sym same_port))) ∙ or_false (has_won (take i wins) k)))
 
+-- the arbiters below i have turned
+abbrev pub AreTurnedBelow : List Turn → List (Option ℕ) → ℕ → List Turn → Type 0
+AreTurnedBelow before wins i after = (k : ℕ) → turn_at after k ≡ (if nat_lt k i then turned (turn_at before k) (get_or wins k None) else turn_at before k)
+
+-- .. one more
+pub turned_below-more : (before after : List Turn) (wins : List (Option ℕ)) (i : ℕ) (new : Turn) → i < length after → new ≡ turned (turn_at before i) (get_or wins i None)
+    → AreTurnedBelow before wins i after → AreTurnedBelow before wins (i + 1) (set after i new)
+turned_below-more before after wins i new l is so_far k = at (cases_eq k i) (cases_lt k i)
+  where
+    at : (k ≡ i) ⊎ (k ≡ i → ⊥) → (k < i) ⊎ (i ≤ k) → turn_at (set after i new) k ≡ (if nat_lt k (i + 1) then turned (turn_at before k) (get_or wins k None) else turn_at before k)
+    at (inl same) _ =
+        ap (turn_at (set after i new)) same ∙ get_or-set_same after i new (record { size = 0; pointer = 0 }) l ∙ is
+        ∙ ap (λ j. turned (turn_at before j) (get_or wins j None)) (sym same)
+        ∙ sym (ap (λ b. if b then turned (turn_at before k) (get_or wins k None) else turn_at before k) (lt-ltb k (i + 1) (omega arith)))
+    at (inr other) (inl less) =
+        get_or-set_other after i k new (record { size = 0; pointer = 0 }) other ∙ so_far k
+        ∙ ap (λ b. if b then turned (turn_at before k) (get_or wins k None) else turn_at before k) (lt-ltb k i less ∙ sym (lt-ltb k (i + 1) (omega arith)))
+    at (inr other) (inr more) =
+        get_or-set_other after i k new (record { size = 0; pointer = 0 }) other ∙ so_far k
+        ∙ ap (λ b. if b then turned (turn_at before k) (get_or wins k None) else turn_at before k) (le-ltb k i more ∙ sym (le-ltb k (i + 1) (omega arith)))
+
+-- .. all of them
+pub turned_below-all : (before after : List Turn) (wins : List (Option ℕ)) (i : ℕ) → length before ≤ i → length after ≡ length before
+    → AreTurnedBelow before wins i after → after ≡ turned_by (λ k. get_or wins k None) before
+turned_below-all before after wins i all same turns =
+    map_indexed-from_each (λ k (t : Turn). turned t (get_or wins k None)) before after (record { size = 0; pointer = 0 }) (record { size = 0; pointer = 0 }) same
+    (λ k l. turns k ∙ ap (λ b. if b then turned (turn_at before k) (get_or wins k None) else turn_at before k) (lt-ltb k i (omega arith)))
+
+-- an arbiter that turns is over as many as before
+pub turned_by-sizes : (winner : ℕ → Option ℕ) (before after : List Turn) (n : ℕ) → after ≡ turned_by winner before → All (λ (t : Turn). t.size ≡ n) before → All (λ (t : Turn). t.size ≡ n) after
+turned_by-sizes winner before after n is sizes k d l =
+    let f : ℕ → Turn → Turn = λ i t. turned t (winner i) in
+    let u : k < length before = omega (arith, ap (λ (ts : List Turn). length ts) is, length-map_indexed f before) in
+    ap (λ (ts : List Turn). (get_or ts k d).size) is ∙ ap (λ (t : Turn). t.size) (get_or-map_indexed f before k d d u) ∙ sizes k d u
+
 -- ---- an input port has won exactly where its pick won the output port that it goes to
 has_won-at : (wins : List (Option ℕ)) (port : ℕ) → has_won wins port ≡ true → (o : ℕ) × (o < length wins) × (get_or wins o None ≡ Some port)
 has_won-at [] port e = absurd (false≢true e)
@@ -183,99 +190,3 @@ moved-by_requests ready vcs ports ps picks wins turns is =
     (λ port. ap (λ b. if b then get_or picks port None else None)
     (let P : List (Option ℕ) → Type 0 = λ ws. has_won ws port ≡ pick_won ready vcs picks ws port in
     subst P (sym is) (won-is_pick_won ready vcs ports (length wins) picks ps port)))
-
--- output ports that nobody wins change nothing
-turned-past : (d : ℕ) (before after : List Turn) (picks wins : List (Option ℕ)) (i : ℕ) → i + d ≤ length wins → length after ≡ length before → ((j : ℕ) → i ≤ j → j < i + d → get_or wins j None ≡ None)
-    → AllTurned before picks wins i after → AllTurned before picks wins (i + d) after
-turned-past zero before after picks wins i l same none h = let e : i ≡ i + 0 = omega arith in subst (λ m. AllTurned before picks wins m after) e h
-turned-past (suc d) before after picks wins i l same none h =
-    let so_far : AllTurned before picks wins (i + d) after = turned-past d before after picks wins i (omega arith) same (λ j lj u. none j lj (omega arith)) h in
-    let e : i + d + 1 ≡ i + suc d = omega arith in
-    subst (λ m. AllTurned before picks wins m after) e (turned-more before after picks wins (i + d) None (none (i + d) (omega arith) (omega arith)) (omega arith) same tt so_far)
-
--- the output ports that are not left have been looked at, those below `next` among them
-pub record AreTurned (before : List Turn) (picks wins : List (Option ℕ)) (rest : ℕ) (after : List Turn) : Type 0 where
-  pub next : ℕ
-  pub within : next ≤ length wins
-  pub turned_to : AllTurned before picks wins next after
-  pub ahead : (j : ℕ) → has_bit rest j ≡ true → next ≤ j
-  pub below : (j : ℕ) → has_bit rest j ≡ true → j < length wins
-  pub silent : (j : ℕ) → next ≤ j → has_bit rest j ≡ false → get_or wins j None ≡ None
-
-pub turned-first : (before : List Turn) (picks wins : List (Option ℕ)) (rest : ℕ) → ((k : ℕ) → has_bit rest k ≡ is_some (get_or wins k None)) → AreTurned before picks wins rest before
-turned-first before picks wins rest members = record {
-  next = 0;
-  within = omega arith;
-  turned_to = λ k l. refl;
-  ahead = λ j e. omega arith;
-  below = λ j e. at j (cases_lt j (length wins)) e;
-  silent = λ j l e. none_from (get_or wins j None) (sym (members j) ∙ e);
-}
-  where
-    none_from : (o : Option ℕ) → is_some o ≡ false → o ≡ None
-    none_from None e = refl
-    none_from (Some x) e = absurd (false≢true (sym e))
-
-    at : (j : ℕ) → (j < length wins) ⊎ (length wins ≤ j) → has_bit rest j ≡ true → j < length wins
-    at j (inl l) e = l
-    at j (inr u) e = absurd (false≢true (sym (members j ∙ ap (λ (o : Option ℕ). is_some o) (get_or_past wins j None u)) ∙ e))
-
-pub turned-next : (before after : List Turn) (picks wins : List (Option ℕ)) (rest less k : ℕ) (r : Option ℕ) → get_or wins k None ≡ r → length after ≡ length before → IfSome r (λ q. q < length before)
-    → IsLeast (in_both rest rest) (Some k) → ((j : ℕ) → has_bit less j ≡ (not (nat_eq j k) && has_bit rest j))
-    → AreTurned before picks wins rest after → AreTurned before picks wins less (turned_winner r picks after)
-turned-next before after picks wins rest less k r e same inside least members so_far = record {
-  next = k + 1;
-  within = let u : k < length wins = so_far.below k here in omega arith;
-  turned_to =
-      let n : so_far.next ≤ k = so_far.ahead k here in
-      let u : k < length wins = so_far.below k here in
-      let same_next : so_far.next + (k - so_far.next) ≡ k = omega arith in
-      turned-more before after picks wins k r e u same inside
-      (subst (λ m. AllTurned before picks wins m after) same_next
-      (turned-past (k - so_far.next) before after picks wins so_far.next (omega arith) same (λ j l v. so_far.silent j l (both_lacks rest j (least.1 j (omega arith)))) so_far.turned_to));
-  ahead = λ j t. after_k j (kept j t) (cases_lt j k) (cases_eq j k);
-  below = λ j t. so_far.below j (kept j t).1;
-  silent = λ j l t. so_far.silent j (let n : so_far.next ≤ k = so_far.ahead k here in omega arith) (gone j l t);
-}
-  where
-    here : has_bit rest k ≡ true
-    here = both_has rest k least.0
-
-    split : (a b : Bool) → (not a && b) ≡ true → (a ≡ false) × (b ≡ true)
-    split true b h = absurd (false≢true h)
-    split false b h = (refl, h)
-
-    kept : (j : ℕ) → has_bit less j ≡ true → (nat_eq j k ≡ false) × (has_bit rest j ≡ true)
-    kept j t = split (nat_eq j k) (has_bit rest j) (sym (members j) ∙ t)
-
-    after_k : (j : ℕ) → (nat_eq j k ≡ false) × (has_bit rest j ≡ true) → (j < k) ⊎ (k ≤ j) → (j ≡ k) ⊎ (j ≡ k → ⊥) → k + 1 ≤ j
-    after_k j h (inl l) _ = absurd (false≢true (sym (both_lacks rest j (least.1 j l)) ∙ h.1))
-    after_k j h (inr u) (inl is) = absurd (false≢true (sym h.0 ∙ eq-eqb j k is))
-    after_k j h (inr u) (inr other) = omega arith
-
-    gone : (j : ℕ) → k + 1 ≤ j → has_bit less j ≡ false → has_bit rest j ≡ false
-    gone j l t = sym (members j ∙ ap (λ b. not b && has_bit rest j) (ne_eqb j k (λ is. omega arith))) ∙ t
-
-pub turned-last : (before after : List Turn) (picks wins : List (Option ℕ)) (rest : ℕ) → IsLeast (in_both rest rest) None → length after ≡ length before → AreTurned before picks wins rest after
-    → AllTurned before picks wins (length wins) after
-turned-last before after picks wins rest none same so_far =
-    let n : so_far.next ≤ length wins = so_far.within in
-    let e : so_far.next + (length wins - so_far.next) ≡ length wins = omega arith in
-    subst (λ m. AllTurned before picks wins m after) e
-    (turned-past (length wins - so_far.next) before after picks wins so_far.next (omega arith) same (λ j l u. so_far.silent j l (both_lacks rest j (none j))) so_far.turned_to)
-
--- the pointer of one output port more
-pub turned-one : (before outputs : List Turn) (wins : List (Option ℕ)) (rest less k : ℕ) (new : Turn) → ((j : ℕ) → has_bit less j ≡ (not (nat_eq j k) && has_bit rest j)) → k < length outputs
-    → ((j : ℕ) → turn_at outputs j ≡ (if has_bit rest j then turn_at before j else turned (turn_at before j) (get_or wins j None)))
-    → new ≡ turned (turn_at before k) (get_or wins k None)
-    → (j : ℕ) → turn_at (set outputs k new) j ≡ (if has_bit less j then turn_at before j else turned (turn_at before j) (get_or wins j None))
-turned-one before outputs wins rest less k new members l so_far is j = at (cases_eq j k)
-  where
-    at : (j ≡ k) ⊎ (j ≡ k → ⊥) → turn_at (set outputs k new) j ≡ (if has_bit less j then turn_at before j else turned (turn_at before j) (get_or wins j None))
-    at (inl same) =
-        ap (turn_at (set outputs k new)) same ∙ get_or-set_same outputs k new (record { size = 0; pointer = 0 }) l ∙ is
-        ∙ ap (λ i. turned (turn_at before i) (get_or wins i None)) (sym same)
-        ∙ ap (λ b. if b then turn_at before j else turned (turn_at before j) (get_or wins j None)) (sym (members j ∙ ap (λ b. not b && has_bit rest j) (eq-eqb j k same)))
-    at (inr other) =
-        get_or-set_other outputs k j new (record { size = 0; pointer = 0 }) other ∙ so_far j
-        ∙ ap (λ b. if b then turn_at before j else turned (turn_at before j) (get_or wins j None)) (sym (members j ∙ ap (λ b. not b && has_bit rest j) (ne_eqb j k other)))

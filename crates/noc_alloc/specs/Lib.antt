@@ -1,4 +1,3 @@
 pub mod Arbiter
 pub mod Allocation
-pub mod Places
 pub mod Steps

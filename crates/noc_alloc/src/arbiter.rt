@@ -1,12 +1,10 @@
 //! A round-robin arbiter (Dally and Towles, chapter 18).
 
-ghost use Rattle.std.specs.Prelude.{◌≡◌, ℕ, ◌+◌, ◌-◌, ◌<◌, ◌≤◌, ◌&&◌, ◌||◌, ◌==◌, nat_le, nat_lt, true, All, IfSome, None, Some, Option, length, slice_index_or};
+ghost use Rattle.std.specs.Prelude.{◌≡◌, ℕ, ◌<◌, ◌≤◌, true, IfSome};
 ghost use Rattle.noc_packet.specs.Set.{has_bit};
-ghost use Rattle.noc_alloc.specs.Arbiter.{Turn, first_in_turn, turned, turn_at};
-ghost use Rattle.noc_alloc.specs.Steps.{farther, nearer, offered};
+ghost use Rattle.noc_alloc.specs.Arbiter.{first_in_turn, turned};
 
-use crate::places::Places;
-use noc_packet::ChannelSet;
+use noc_packet::{ChannelSet, INDICES};
 use std::marker::Model;
 
 /// An arbiter over 1 to 56 requesters, numbered from 0. The requester at its pointer comes first, then those behind it,
@@ -19,13 +17,14 @@ pub struct Arbiter {
 
 impl Model for Arbiter {
     ghost use Rattle.std.specs.Prelude.{◌<◌, ◌≤◌};
+    ghost use Rattle.noc_packet.specs.declared.limits.TheConstants.{INDICES};
     ghost use Rattle.noc_alloc.specs.Arbiter.{Turn};
 
     ghost Value = { Turn };
 
     ghost view = { λ a. record { size = a.size; pointer = a.pointer } };
 
-    ghost invariant = { λ a. (a.pointer < a.size) × (a.size ≤ 56) };
+    ghost invariant = { λ a. (a.pointer < a.size) × (a.size ≤ INDICES) };
 
     ghost inverse = { λ t. record { size = t.size; pointer = t.pointer } };
 }
@@ -34,13 +33,21 @@ impl Arbiter {
     /// An arbiter over so many requesters, 1 to 56, with its pointer at 0.
     pub fn new(size: usize) -> Arbiter
         requires some { 0 < size }
-        requires few { size ≤ 56 }
+        requires few { size ≤ INDICES }
         ensures { result ≡ record { size = size; pointer = 0 } }
     {
         Arbiter {
             size: size as u8,
             pointer: 0,
         }
+    }
+
+    /// Over how many requesters it is: 1 to 56.
+    pub fn size(&self) -> usize
+        ensures value { result ≡ self.now.size }
+        ensures few { result ≤ INDICES }
+    {
+        self.size as usize
     }
 
     /// The requester that comes first.
@@ -72,44 +79,5 @@ impl Arbiter {
             let next = winner as u8 + 1;
             self.pointer = if next == self.size { 0 } else { next };
         }
-    }
-
-    /// Of the requester that came first so far and a later one, that which comes first.
-    pub(crate) fn nearer(&self, held: Option<usize>, next: usize) -> usize
-        ensures { nearer self.now.pointer held next ≡ Some result }
-    {
-        let pointer = self.pointer as usize;
-        match held {
-            Some(first) if pointer <= first || next < pointer => first,
-            _ => next,
-        }
-    }
-}
-
-/// Offers a requester, which comes after all that were offered before, to the arbiter that it asks for. `held` has the
-/// requester that each arbiter puts first so far. Of that one and this one the arbiter holds the one that comes first;
-/// the other is given back, if there were two.
-pub fn offer(
-    arbiters: &[Arbiter],
-    asked: usize,
-    requester: usize,
-    held: &mut Places,
-) -> Option<usize>
-    requires lengths { length held.old ≡ length arbiters.now }
-    requires asked { asked < length arbiters.now }
-    ensures held { held.new ≡ offered arbiters.now asked requester held.old }
-    ensures count { length held.new ≡ length held.old }
-    ensures other { result ≡ farther (turn_at arbiters.now asked).pointer (slice_index_or held.old asked None) requester }
-    ensures within { (n : ℕ) → requester < n → All (λ one. IfSome one (λ r. r < n)) held.old → All (λ one. IfSome one (λ r. r < n)) held.new }
-    ensures other_within { (n : ℕ) → requester < n → All (λ one. IfSome one (λ r. r < n)) held.old → IfSome result (λ r. r < n) }
-{
-    let before = held.get(asked);
-    let first = arbiters[asked].nearer(before, requester);
-    held.set(asked, Some(first));
-    let before = before?;
-    if first == requester {
-        Some(before)
-    } else {
-        Some(requester)
     }
 }

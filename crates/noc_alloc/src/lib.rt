@@ -3,12 +3,10 @@
 
 mod arbiter;
 mod channels;
-mod places;
 mod switch;
 #[cfg(test)]
 mod tests;
 
-pub use arbiter::{Arbiter, offer};
+pub use arbiter::Arbiter;
 pub use channels::{advance_channels, allocate_channels};
-pub use places::Places;
-pub use switch::{advance_switch, pick_channel};
+pub use switch::{advance_switch, allocate_switch};

@@ -1,13 +1,13 @@
 -- One input channel and one output channel of a router change.
 use Rattle.std.proofs.Common.{◌≡◌, ◌≢◌, ℕ, zero, suc, ◌+◌, ◌-◌, ◌<◌, ◌≤◌, Bool, true, false, List, [], ◌∷◌, ◌++◌, length, drop, Option, Some, None, refl, ap, sym, subst, ◌∙◌, inl, inr, arith, get_or-set_same, get_or-set_other, slice_index_or, slice_set}
-use Rattle.std.specs.Prelude.{◌⊎◌, nat_eq, nat_lt, not, ◌&&◌, ◌||◌, is_some, if◌then◌else◌, find, replicate}
-use Rattle.std.specs.List.{All, range_with_len}
+use Rattle.std.specs.Prelude.{◌⊎◌, nat_eq, nat_lt, not, ◌&&◌, ◌||◌, is_some, if◌then◌else◌, replicate}
+use Rattle.std.specs.List.{All}
 use Rattle.std.specs.Option.{option_eq}
 use Rattle.std.proofs.lemmas.Bool.{cases_eq, false≢true, eq-eqb, ne_eqb, eqb-true, lt-ltb, ltb-true}
 use Rattle.std.proofs.lemmas.List.{get_or_default, set-get_or, get_or-replicate, length-replicate, length-append}
 use Rattle.std.proofs.lemmas.List.Elements.{All-append, All-replicate}
 use Rattle.noc_topo.specs.Words.{below}
-use Rattle.noc_packet.specs.Set.{has_bit, in_both, IsLeast}
+use Rattle.noc_packet.specs.Set.{has_bit}
 use Rattle.noc_packet.specs.declared.packet.Flit.{Flit}
 use Rattle.noc_ring.specs.Rings.{Rings, ring_at, pushed, popped, empty_rings}
 use Rattle.noc_route.specs.Routes.{Routes}
@@ -719,44 +719,6 @@ AreStanding-by size sets buffers inputs outputs sendable rest t s sends rests he
         turned : (a b : Bool) → ((a && b) && has) ≡ (a && (b && has))
         turned true b = refl
         turned false b = refl
-
--- ---- the first number of a set
-
-find-none : (p : ℕ → Bool) (m a : ℕ) → ((k : ℕ) → a ≤ k → k < a + m → p k ≡ false) → find p (range_with_len a m) ≡ None
-find-none p zero a h = refl
-find-none p (suc m) a h =
-    ap (λ b. if b then Some a else find p (range_with_len (a + 1) m)) (h a (omega arith) (omega arith))
-    ∙ find-none p m (a + 1) (λ k l u. h k (omega arith) (omega arith))
-
-find-some : (p : ℕ → Bool) (m a x : ℕ) → a ≤ x → x < a + m → p x ≡ true → ((k : ℕ) → k < x → p k ≡ false) → find p (range_with_len a m) ≡ Some x
-find-some p zero a x l u e h = absurd (omega arith)
-find-some p (suc m) a x l u e h =
-    first_or (cases_eq a x) (λ n. find-some p m (a + 1) x (omega arith) (omega arith) e h)
-  where
-    first_or : (a ≡ x) ⊎ (a ≢ x) → (a ≢ x → find p (range_with_len (a + 1) m) ≡ Some x) → (if p a then Some a else find p (range_with_len (a + 1) m)) ≡ Some x
-    first_or (inl same) rest = ap (λ b. if b then Some a else find p (range_with_len (a + 1) m)) (ap p same ∙ e) ∙ ap Some same
-    first_or (inr other) rest = ap (λ b. if b then Some a else find p (range_with_len (a + 1) m)) (h a (omega arith)) ∙ rest other
-
--- the first number below n that passes a test
-pub find-below : (p : ℕ → Bool) (n x : ℕ) → x < n → p x ≡ true → ((k : ℕ) → k < x → p k ≡ false) → find p (below n) ≡ Some x
-unfolding below
-find-below p n x l e h = find-some p n 0 x (omega arith) (omega arith) e h
-
--- .. where none passes it
-pub find-below-none : (p : ℕ → Bool) (n : ℕ) → ((k : ℕ) → k < n → p k ≡ false) → find p (below n) ≡ None
-unfolding below
-find-below-none p n h = find-none p n 0 (λ k l u. h k (omega arith))
-
--- the least number that is in two sets, of which the second says below n what a test says
-pub find-least : (n set other : ℕ) (p : ℕ → Bool) (r : Option ℕ) → IsLeast (in_both set other) r → AreBelow n other
-    → ((k : ℕ) → k < n → has_bit other k ≡ p k) → r ≡ find (λ k. has_bit set k && p k) (below n)
-unfolding below
-find-least n set other p None least all same =
-    sym (find-none (λ k. has_bit set k && p k) n 0 (λ k l u. ap (λ b. has_bit set k && b) (sym (same k (omega arith))) ∙ least k))
-find-least n set other p (Some x) least all same =
-    let u : x < n = all x (second_of (has_bit set x) (has_bit other x) least.0) in
-    sym (find-some (λ k. has_bit set k && p k) n 0 x (omega arith) (omega arith) (ap (λ b. has_bit set x && b) (sym (same x u)) ∙ least.0)
-    (λ k l. ap (λ b. has_bit set k && b) (sym (same k (omega arith))) ∙ least.1 k l))
 
 -- ---- new channels
 

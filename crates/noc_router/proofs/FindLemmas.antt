@@ -1,9 +1,11 @@
 -- The first of the numbers below n that pass a test.
-use Rattle.std.proofs.Common.{◌≡◌, ◌≢◌, ℕ, zero, suc, ◌+◌, ◌<◌, ◌≤◌, Bool, true, false, Some, None, refl, ap, sym, ◌∙◌, arith, inl, inr}
-use Rattle.std.specs.Prelude.{◌⊎◌, find}
+use Rattle.std.proofs.Common.{◌≡◌, ◌≢◌, ℕ, zero, suc, ◌+◌, ◌<◌, ◌≤◌, Bool, true, false, Option, Some, None, refl, ap, sym, ◌∙◌, arith, inl, inr}
+use Rattle.std.specs.Prelude.{◌⊎◌, ◌&&◌, find, if◌then◌else◌}
 use Rattle.std.specs.List.{range_with_len}
-use Rattle.std.proofs.lemmas.Bool.{cases_eq}
+use Rattle.std.proofs.lemmas.Bool.{cases_eq, false≢true}
 use Rattle.noc_topo.specs.Words.{below}
+use Rattle.noc_packet.specs.Set.{has_bit, in_both, IsLeast}
+use Rattle.noc_router.specs.Members.{AreBelow}
 
 in_range-none : (p : ℕ → Bool) (n a : ℕ) → ((k : ℕ) → a ≤ k → k < a + n → p k ≡ false) → find p (range_with_len a n) ≡ None
 in_range-none p zero a h = refl
@@ -51,3 +53,31 @@ find-at p n x u t only = in_range-at p n 0 x (omega arith) (omega arith) t (λ k
 pub find-some : (p : ℕ → Bool) (n x : ℕ) → find p (below n) ≡ Some x → (p x ≡ true) × (x < n)
 unfolding below
 find-some p n x e = let r = in_range-some p n 0 x e in (r.0, omega (arith, r.2))
+
+in_range-first : (p : ℕ → Bool) (m a x : ℕ) → a ≤ x → x < a + m → p x ≡ true → ((k : ℕ) → k < x → p k ≡ false) → find p (range_with_len a m) ≡ Some x
+in_range-first p zero a x l u e h = absurd (omega arith)
+in_range-first p (suc m) a x l u e h =
+    first_or (cases_eq a x) (λ n. in_range-first p m (a + 1) x (omega arith) (omega arith) e h)
+  where
+    first_or : (a ≡ x) ⊎ (a ≢ x) → (a ≢ x → find p (range_with_len (a + 1) m) ≡ Some x) → (if p a then Some a else find p (range_with_len (a + 1) m)) ≡ Some x
+    first_or (inl same) rest = ap (λ b. if b then Some a else find p (range_with_len (a + 1) m)) (ap p same ∙ e) ∙ ap Some same
+    first_or (inr other) rest = ap (λ b. if b then Some a else find p (range_with_len (a + 1) m)) (h a (omega arith)) ∙ rest other
+
+-- one that passes, where none below it does
+pub find-below : (p : ℕ → Bool) (n x : ℕ) → x < n → p x ≡ true → ((k : ℕ) → k < x → p k ≡ false) → find p (below n) ≡ Some x
+unfolding below
+find-below p n x l e h = in_range-first p n 0 x (omega arith) (omega arith) e h
+
+second_of : (a b : Bool) → (a && b) ≡ true → b ≡ true
+second_of true b e = e
+second_of false b e = absurd (false≢true e)
+
+-- the least number that is in two sets, of which the second says below n what a test says
+pub find-least : (n set other : ℕ) (p : ℕ → Bool) (r : Option ℕ) → IsLeast (in_both set other) r → AreBelow n other
+    → ((k : ℕ) → k < n → has_bit other k ≡ p k) → r ≡ find (λ k. has_bit set k && p k) (below n)
+find-least n set other p None least all same =
+    sym (find-none (λ k. has_bit set k && p k) n (λ k l. ap (λ b. has_bit set k && b) (sym (same k l)) ∙ least k))
+find-least n set other p (Some x) least all same =
+    let u : x < n = all x (second_of (has_bit set x) (has_bit other x) least.0) in
+    sym (find-below (λ k. has_bit set k && p k) n x u (ap (λ b. has_bit set x && b) (sym (same x u)) ∙ least.0)
+    (λ k l. ap (λ b. has_bit set k && b) (sym (same k (omega arith))) ∙ least.1 k l))

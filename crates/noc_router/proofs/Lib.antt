@@ -6,9 +6,11 @@ pub mod FindLemmas
 pub mod InjectLemmas
 pub mod LinkLemmas
 pub mod Members
+pub mod OfferLemmas
 pub mod OpeningLemmas
 pub mod OutcomeLemmas
 pub mod PickedLemmas
+pub mod PlaceLemmas
 pub mod PlanFacts
 pub mod PlannedLemmas
 pub mod PutLemmas
@@ -22,6 +24,7 @@ pub mod StepRows
 pub mod SwitchLemmas
 pub mod TakeLemmas
 pub mod TallyLemmas
+pub mod TurnLemmas
 pub mod VacantLemmas
 pub mod VerdictRows
 pub mod VerdictSetLemmas

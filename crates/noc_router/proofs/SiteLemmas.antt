@@ -38,7 +38,7 @@ pub taken-site : (relation : Routes) (port : ℕ) (beat : Beat) (v : View) → (
 unfolding taken
 taken-site relation port beat v = credit-site port beat.credit (with_flit relation port beat.flit v) ∙ flit-site relation port beat.flit v
 
-taken_from-site : (relation : Routes) (port : ℕ) (beats : List Beat) (v : View) → (taken_from relation port beats v).site ≡ v.site
+pub taken_from-site : (relation : Routes) (port : ℕ) (beats : List Beat) (v : View) → (taken_from relation port beats v).site ≡ v.site
 taken_from-site relation port [] v = refl
 taken_from-site relation port (beat ∷ beats) v = taken_from-site relation (port + 1) beats (taken relation port beat v) ∙ taken-site relation port beat v
 

@@ -14,9 +14,9 @@ use Rattle.noc_vc.specs.declared.input.InputState.{InputState}
 use Rattle.noc_vc.specs.declared.input.InputState.TheVariants.{Idle, Waiting, Active}
 use Rattle.noc_alloc.specs.Allocation.{is_won_by, pick_of, picked_port, winner_of}
 use Rattle.noc_alloc.specs.Arbiter.{Turn, pointers_of, turn_at}
-use Rattle.noc_alloc.specs.Steps.{farther, nearer, offered}
+use Rattle.noc_router.specs.Offers.{farther, nearer, offered}
 use Rattle.noc_alloc.proofs.ArbiterLemmas.{first_in_turn-none, first_in_turn-picks, IsNearest, nearest-is}
-use Rattle.noc_alloc.proofs.OfferLemmas.{AllNearest, both_lacks, nearest-none, nearest-offered, nearest-up_to}
+use Rattle.noc_router.proofs.OfferLemmas.{AllNearest, both_lacks, nearest-none, nearest-offered, nearest-up_to}
 use Rattle.noc_alloc.proofs.WordLemmas.{is_some_of-true, is_some_of-some}
 use Rattle.noc_router.specs.Asked.{picks_on, turns_in, wins_on}
 use Rattle.noc_router.specs.declared.router.Router.TheInside.{Inside}

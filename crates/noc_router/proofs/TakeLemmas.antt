@@ -90,31 +90,6 @@ pub credited-view : (r : Inside) (channels : Channels) (o : ℕ) → channels.ba
     ≡ record (view_of r) { outputs = slice_set r.channels.outputs.items o (credited (output_at r.channels.outputs.items o)); had_event = true }
 credited-view r channels o bank inputs outputs = rw (bank, inputs, outputs)
 
--- ---- a router stays where it is
-
-one_of : (b : Bool) (x y : View) (site : Site) → x.site ≡ site → y.site ≡ site → (if b then x else y).site ≡ site
-one_of true x y site e f = e
-one_of false x y site e f = f
-
-flit-site : (relation : Routes) (port : ℕ) (flit : Option (ℕ × Flit)) (v : View) → (with_flit relation port flit v).site ≡ v.site
-flit-site relation port None v = refl
-flit-site relation port (Some (vc, f)) v = one_of (lands relation port vc f v) (with_landed (port * v.site.vcs + vc) f v) (with_misfit v) v.site refl refl
-
-credit-site : (port : ℕ) (credit : Option ℕ) (v : View) → (with_credit port credit v).site ≡ v.site
-credit-site port None v = refl
-credit-site port (Some vc) v =
-    let o : ℕ = port * v.site.vcs + vc in
-    one_of (has_link v.site port && nat_lt vc v.site.vcs && credit_fits (view_output v o))
-    (record v { outputs = slice_set v.outputs o (credited (view_output v o)); had_event = true }) (with_misfit v) v.site refl refl
-
-pub taken-site : (relation : Routes) (port : ℕ) (beat : Beat) (v : View) → (taken relation port beat v).site ≡ v.site
-unfolding taken
-taken-site relation port beat v = credit-site port beat.credit (with_flit relation port beat.flit v) ∙ flit-site relation port beat.flit v
-
-pub taken_from-site : (relation : Routes) (port : ℕ) (beats : List Beat) (v : View) → (taken_from relation port beats v).site ≡ v.site
-taken_from-site relation port [] v = refl
-taken_from-site relation port (beat ∷ beats) v = taken_from-site relation (port + 1) beats (taken relation port beat v) ∙ taken-site relation port beat v
-
 -- ---- one beat more
 
 taken_from-more : (relation : Routes) (port : ℕ) (beats : List Beat) (beat : Beat) (v : View)

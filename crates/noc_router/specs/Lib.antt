@@ -7,6 +7,8 @@ pub mod Injection
 pub mod Inside
 pub mod Links
 pub mod Members
+pub mod Offers
+pub mod Places
 pub mod Planned
 pub mod Queue
 pub mod Requests

@@ -4,7 +4,7 @@ use Rattle.noc_topo.specs.Words.{is_some_of}
 use Rattle.noc_packet.specs.Set.{has_bit}
 use Rattle.noc_alloc.specs.Allocation.{is_won_by}
 use Rattle.noc_alloc.specs.Arbiter.{turn_at}
-use Rattle.noc_alloc.specs.Steps.{farther}
+use Rattle.noc_router.specs.Offers.{farther}
 use Rattle.noc_vc.specs.Input.{is_active, is_empty, is_idle_phase, is_waiting}
 use Rattle.noc_vc.specs.declared.input.InputState.{InputState}
 use Rattle.noc_vc.specs.declared.input.InputState.TheVariants.{Idle, Waiting, Active}

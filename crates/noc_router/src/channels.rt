@@ -4,6 +4,7 @@ ghost use Rattle.std.specs.Prelude.{◌≡◌, ◌≢◌, ℕ, ◌≤◌, ◌<�
 ghost use Rattle.noc_topo.specs.Shape.{nodes as nodes_of, ports as ports_of};
 ghost use Rattle.noc_topo.specs.Words.{below};
 ghost use Rattle.noc_packet.specs.Set.{has_bit};
+ghost use Rattle.noc_packet.specs.declared.limits.TheConstants.{INDICES};
 ghost use Rattle.noc_ring.specs.Rings.{empty_rings, ring_at, pushed, popped};
 ghost use Rattle.noc_vc.specs.Input.{idle_input, is_idle_phase, is_waiting, is_empty, fits, landed, routed, granted, sent};
 ghost use Rattle.noc_vc.specs.Output.{ejection_output, link_output, is_free, is_owned, has_credit, credit_fits, credited, held, spent};
@@ -13,7 +14,7 @@ ghost use Rattle.noc_router.specs.Sound.{input_at, output_at, is_occupied, is_aw
 use crate::indices::Indices;
 use crate::plan::Plan;
 use crate::verdict::{Finding, Verdict};
-use noc_packet::{ChannelSet, Flit, Memory};
+use noc_packet::{ChannelSet, Flit, MAX_BUFFER, Memory};
 use noc_ring::Bank;
 use noc_route::Relation;
 use noc_vc::{InputChannel, InputState, Misfit, OutputChannel, OutputState};
@@ -49,7 +50,7 @@ pub(crate) struct Channels {
     bank: Bank,
     inputs: Vec<InputChannel>,
     outputs: Vec<OutputChannel>,
-    ghost few: { size ≤ 56 },
+    ghost few: { size ≤ INDICES },
     ghost a_ring_each: { length bank.rings ≡ size },
     ghost an_input_each: { vec_len inputs ≡ size },
     ghost an_output_each: { vec_len outputs ≡ size },
@@ -67,10 +68,10 @@ impl Channels {
         places: usize,
     ) -> Result<Channels, Memory>
         requires some { 0 < size }
-        requires few { size ≤ 56 }
+        requires few { size ≤ INDICES }
         requires links { links ≤ size }
         requires some_place { 0 < places }
-        requires places { places ≤ 16 }
+        requires places { places ≤ MAX_BUFFER }
         ensures size { IfOk result (λ channels. channels.size ≡ size) }
         ensures bank { IfOk result (λ channels. channels.bank ≡ empty_rings size places) }
         ensures inputs { IfOk result (λ channels. channels.inputs.items ≡ replicate size idle_input) }
@@ -355,7 +356,7 @@ fn is_idle(output: &OutputChannel) -> bool
 
 // A set with this index or without it, as is said.
 pub(crate) fn marked(set: ChannelSet, index: usize, is_member: bool) -> ChannelSet
-    requires { index < 56 }
+    requires { index < INDICES }
     ensures here { has_bit result index ≡ is_member }
     ensures others { (k : ℕ) → k ≢ index → has_bit result k ≡ has_bit set k }
 {
@@ -368,7 +369,7 @@ pub(crate) fn marked(set: ChannelSet, index: usize, is_member: bool) -> ChannelS
 
 // The set of the first `size` channels.
 fn all_channels(size: usize) -> ChannelSet
-    requires { size ≤ 56 }
+    requires { size ≤ INDICES }
     ensures { (k : ℕ) → has_bit result k ≡ nat_lt k size }
 {
     let mut set = ChannelSet::empty();

@@ -4,7 +4,7 @@ ghost use Rattle.std.specs.Prelude.{◌≡◌, ℕ, ◌+◌, ◌*◌, ◌<◌, t
 ghost use Rattle.noc_packet.specs.Set.{has_bit};
 ghost use Rattle.noc_router.specs.Counts.{count_at, one_if};
 
-use noc_packet::ChannelSet;
+use noc_packet::{ChannelSet, INDICES};
 
 /// For each channel a count of 0 to 15: of each of its four bits, the channels whose count has it.
 ///
@@ -49,7 +49,7 @@ impl Counter {
 
     // What it has for a channel.
     pub(crate) fn count(&self, index: usize) -> u64
-        requires { index < 56 }
+        requires { index < INDICES }
         ensures { result ≡ count_at self.now index }
     {
         u64::from(self.ones.contains(index))

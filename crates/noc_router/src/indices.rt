@@ -2,7 +2,7 @@
 
 ghost use Rattle.std.specs.Prelude.{◌≡◌, ℕ, ◌<◌, ◌≤◌, ◌/◌, ◌%◌, IfOk, slice_index_or, vec_len};
 
-use noc_packet::Memory;
+use noc_packet::{INDICES, Memory};
 use std::alloc::Global;
 
 /// The port and the virtual channel of each index of a router: a table, since a division is slow.
@@ -18,7 +18,7 @@ pub(crate) struct Indices {
 impl Indices {
     // So many indices, with so many virtual channels of each port.
     pub(crate) fn new(alloc: Global, size: usize, vcs: usize) -> Result<Indices, Memory>
-        requires few { size ≤ 56 }
+        requires few { size ≤ INDICES }
         requires some_vc { 0 < vcs }
         ensures size { IfOk result (λ indices. indices.size ≡ size) }
         ensures vcs { IfOk result (λ indices. indices.vcs ≡ vcs) }

@@ -1,12 +1,14 @@
 //! One router: its channels, its source and its sink, and one cycle of it over all beats.
 #![tactic(auto)]
 
+mod allocation;
 mod arbiters;
 mod arrivals;
 mod channels;
 mod counter;
 mod indices;
 mod links;
+mod places;
 mod plan;
 mod requests;
 mod router;

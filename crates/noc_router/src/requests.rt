@@ -3,14 +3,16 @@
 ghost use Rattle.std.specs.Prelude.{◌≡◌, ℕ, ◌*◌, ◌<◌, ◌≤◌, IfOk, IfSome, List, Option, true, Some, None, is_some, length, option_and_then, replicate, slice_index_or, slice_set, vec_len};
 ghost use Rattle.noc_alloc.specs.Allocation.{pick_of};
 ghost use Rattle.noc_alloc.specs.Arbiter.{turn_at};
-ghost use Rattle.noc_alloc.specs.Steps.{farther, offered};
+ghost use Rattle.noc_router.specs.Offers.{farther, offered};
 ghost use Rattle.noc_packet.specs.Set.{has_bit};
+ghost use Rattle.noc_packet.specs.declared.limits.TheConstants.{INDICES};
 ghost use Rattle.noc_router.specs.Members.{AreBelow};
 ghost use Rattle.noc_router.specs.Requests.{AllBelow, AreQuiet, is_given, pick_in};
 
+use crate::allocation::{advance_channels, advance_switch, allocate_channels, offer, pick_channel};
 use crate::arbiters::Arbiters;
 use crate::channels::marked;
-use noc_alloc::{Places, advance_channels, advance_switch, allocate_channels, offer, pick_channel};
+use crate::places::Places;
 use noc_packet::{ChannelSet, Memory};
 use std::alloc::Global;
 
@@ -29,7 +31,7 @@ pub(crate) struct Requests {
     picks: Places,
     wins: Places,
     ghost few_ports: { ports ≤ 7 },
-    ghost few: { size ≤ 56 },
+    ghost few: { size ≤ INDICES },
     ghost a_route_each: { vec_len routes ≡ size },
     ghost an_ask_each: { length asks ≡ size },
     ghost a_grant_each: { length grants ≡ size },
@@ -49,7 +51,7 @@ impl Requests {
     // No requests, for routers with so many ports, and so many channels in and out.
     pub(crate) fn new(alloc: Global, ports: usize, size: usize) -> Result<Requests, Memory>
         requires ports { ports ≤ 7 }
-        requires size { size ≤ 56 }
+        requires size { size ≤ INDICES }
         ensures ports { IfOk result (λ requests. requests.ports ≡ ports) }
         ensures size { IfOk result (λ requests. requests.size ≡ size) }
         ensures routes { IfOk result (λ requests. requests.routes.items ≡ replicate size 0) }

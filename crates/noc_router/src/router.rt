@@ -4,7 +4,7 @@ ghost use Rattle.std.specs.List.Sorted.{IsStrictlyIncreasing};
 ghost use Rattle.std.specs.Prelude.{◌≡◌, ◌+◌, ◌*◌, ◌<◌, ◌≤◌, All, IfOk, IfSome, Some, map, true, ◌⊎◌, length, ℕ, Bool, not, ◌&&◌, None, replicate, slice_index_or, [], false, if◌then◌else◌};
 ghost use Rattle.noc_topo.specs.Shape.{IsGrid, nodes as nodes_of, ports as ports_of, local_port, neighbour as neighbour_of};
 ghost use Rattle.noc_topo.specs.Words.{tabulate};
-ghost use Rattle.noc_alloc.specs.Steps.{offered};
+ghost use Rattle.noc_router.specs.Offers.{offered};
 ghost use Rattle.noc_router.specs.Members.{AreBelow};
 ghost use Rattle.noc_vc.specs.Input.{is_active, is_empty};
 ghost use Rattle.noc_vc.specs.Output.{has_credit};
@@ -38,7 +38,7 @@ use crate::source::Source;
 use crate::tally::Tally;
 use crate::verdict::{Finding, VERDICTS};
 use crate::verdict_sets::VerdictSets;
-use noc_packet::{Beat, ChannelSet, Flit, Memory, Packet};
+use noc_packet::{Beat, ChannelSet, Flit, MAX_BUFFER, Memory, Packet};
 use noc_route::Relation;
 use noc_topo::Shape;
 use noc_vc::InputState;
@@ -98,7 +98,7 @@ impl Router {
     ) -> Result<Router, Memory>
         requires node { node < nodes_of relation.now.grid }
         requires some_place { 0 < places }
-        requires places { places ≤ 16 }
+        requires places { places ≤ MAX_BUFFER }
         requires starts { All IsStart starts.items }
         requires ends { IsStrictlyIncreasing ends.items }
         ensures { IfOk result (λ router. router ≡ opening_view (record { grid = relation.now.grid; node = node; vcs = relation.now.vcs; places = places }) starts.items ends.items) }
@@ -406,18 +406,17 @@ impl Router {
         }
     }
 
-    /// Lets the verdicts of the plan of this state take effect.
+    /// Lets the verdicts of the plan of this state take effect, and keeps its findings.
     pub fn commit(&mut self, plan: &Plan)
-        requires lengths { IsDecidedFor (ports_of self.old.site.grid) self.old.site.vcs plan.now }
-        requires picks { AllBelow self.old.site.vcs plan.now.round.picks }
-        requires plan { IsOutcomeOf plan.now self.old }
+        requires { IsOutcomeOf plan.now self.old }
         ensures { (relation : Routes) → plan.now ≡ outcome relation self.old → self.new ≡ committed (planned relation self.old) self.old }
     {
         self.show(plan);
         self.take_effect(plan);
     }
 
-    /// Plans and commits a cycle whose findings nobody reads: those of the last cycle that was committed by `commit` stay.
+    /// Plans and commits a cycle whose findings nobody reads: `findings` stay those of the last cycle that ended with
+    /// `commit` or `step`.
     pub fn advance(&mut self, relation: &Relation, plan: &mut Plan)
         requires relation { IsRelationOf relation.now self.old }
         requires plan { IsDecidedFor (ports_of self.old.site.grid) self.old.site.vcs plan.old }
@@ -683,7 +682,8 @@ impl Router {
         self.links.neighbour(port)
     }
 
-    /// What was found in the last cycle, by input channel (port * V + virtual channel): none before the first cycle.
+    /// What was found in the last cycle that ended with `commit` or `step`, by input channel (port * V + virtual channel):
+    /// none before the first. `advance` leaves it as it is.
     pub fn findings(&self) -> &[Finding]
         ensures { result.now ≡ self.now.findings }
     {

@@ -2,6 +2,7 @@
 
 ghost use Rattle.std.specs.Prelude.{◌≡◌, ℕ, ◌+◌, ◌^◌, ◌<◌, ◌≤◌, ◌&&◌, not, None, IfOk, if◌then◌else◌, [], true, false, length, map, sum, slice_index, slice_index_or, slice_set, replicate, vec_len};
 ghost use Rattle.noc_packet.specs.Set.{has_bit};
+ghost use Rattle.noc_packet.specs.declared.limits.TheConstants.{INDICES};
 ghost use Rattle.noc_topo.specs.Words.{map_indexed, tabulate};
 ghost use Rattle.noc_router.specs.Counts.{counts_from};
 ghost use Rattle.noc_router.specs.Members.{AreBelow};
@@ -37,13 +38,13 @@ pub(crate) struct Tally {
     counts: Vec<[u64; VERDICTS]>,
     findings: Vec<Finding>,
     ghost one_each: { vec_len counts ≡ vec_len findings },
-    ghost few: { vec_len counts ≤ 56 },
+    ghost few: { vec_len counts ≤ INDICES },
     ghost sound: { IsTally cycles shown counters counts.items findings.items },
 }
 
 impl Tally {
     pub(crate) fn new(alloc: Global, size: usize) -> Result<Tally, Memory>
-        requires few { size ≤ 56 }
+        requires few { size ≤ INDICES }
         ensures size { IfOk result (λ tally. vec_len tally.counts ≡ size) }
         ensures counts { IfOk result (λ tally. counts_from tally.cycles tally.counters tally.counts.items ≡ replicate size (replicate 10 0)) }
         ensures begun { IfOk result (λ tally. tally.begun ≡ false) }

@@ -121,7 +121,7 @@ impl Shape {
         axis::split(&self.sizes, node)
     }
 
-    /// How many hops the shortest way from one node to another has, at most 45. Dally and Towles, chapter 3.
+    /// How many hops the shortest way from one node to another has, at most 15 in each dimension. Dally and Towles, chapter 3.
     pub fn distance(&self, from: usize, to: usize) -> usize
         requires from { from < nodes self.now }
         requires to { to < nodes self.now }

@@ -1,13 +1,9 @@
-use Rattle.std.proofs.Common.{◌∙◌, ap, None, get_or}
-use Rattle.std.specs.Prelude.{if◌then◌else◌}
-use Rattle.noc_alloc.specs.Arbiter.{Turn, turned, turn_at}
-use Rattle.noc_alloc.proofs.OfferLemmas.{both_lacks}
-use Rattle.noc_alloc.proofs.WordLemmas.{map_indexed-from_each}
+use Rattle.std.proofs.Common.{None, get_or, arith}
+use Rattle.noc_alloc.proofs.SwitchLemmas.{turned_below-all, turned_by-sizes}
 use Rattle.noc_alloc.proofs.channels.advance_channels.Goals as goal
 
 pub returns-clause-pointers : goal.returns-clause-pointers
-returns-clause-pointers c =
-    map_indexed-from_each (λ i (t : Turn). turned t (get_or c.args.grants.now i None)) c.args.arbiters.now c.loop-output.arbiters (record { size = 0; pointer = 0 }) (record { size = 0; pointer = 0 })
-    c.loop-output.auto.arbiters
-    (λ i l. c.loop-output.invariant.turns i
-    ∙ ap (λ b. if b then turn_at c.args.arbiters.now i else turned (turn_at c.args.arbiters.now i) (get_or c.args.grants.now i None)) (both_lacks c.loop-output.rest i (c.in_default.ensures.least i)))
+returns-clause-pointers c = turned_below-all c.args.arbiters.now c.loop-output.arbiters c.args.grants.now c.loop-output.output (omega (arith, c.requires.lengths)) c.loop-output.auto.arbiters c.loop-output.invariant
+
+pub returns-clause-sizes : goal.returns-clause-sizes
+returns-clause-sizes c = λ n. turned_by-sizes (λ o. get_or c.args.grants.now o None) c.args.arbiters.now c.loop-output.arbiters n (returns-clause-pointers c)

@@ -1,9 +1,7 @@
-use Rattle.std.proofs.Common.{◌≡◌, length, get_or, None}
-use Rattle.noc_alloc.proofs.OfferLemmas.{AreOffered}
+use Rattle.std.proofs.Common.{◌≡◌, ℕ, ◌<◌, None, get_or, length}
+use Rattle.noc_alloc.specs.Arbiter.{pointers_of}
+use Rattle.noc_alloc.specs.Allocation.{grant_of}
 use Rattle.noc_alloc.proofs.channels.allocate_channels.Given as goal
 
-abbrev pub invariant-loop-input : goal.invariant-loop-input
-invariant-loop-input l = AreOffered (length l.asks) l.arbiters (λ i. get_or l.asks i None) l.rest l.grants × (length l.grants ≡ length l.arbiters)
-
-abbrev pub decreases-loop-input : goal.decreases-loop-input
-decreases-loop-input l = l.rest
+abbrev pub invariant-loop-output : goal.invariant-loop-output
+invariant-loop-output l = ((k : ℕ) → k < l.output → get_or l.grants k None ≡ grant_of l.asks (length l.asks) (pointers_of l.arbiters) k) × (length l.grants ≡ length l.arbiters)

@@ -15,8 +15,8 @@ plan-requires-clause-plan c =
     subst (λ (vcs : ℕ). IsDecidedFor (ports c.receive.new.router.site.grid) vcs c.args.plan.now) fits.vcs
     (subst (λ grid. IsDecidedFor (ports grid) c.args.relation.now.vcs c.args.plan.now) fits.grid c.requires.plan)
 
-pub commit-requires-clause-plan : goal.commit-requires-clause-plan
-commit-requires-clause-plan c = record {
+pub commit-requires : goal.commit-requires
+commit-requires c = record {
   relation = c.args.relation.now;
   fits = IsRelationOf-same_site c.args.relation.now c.args.router.now c.receive.new.router c.receive.ensures.site c.requires.router;
   is = c.plan.ensures.value;

@@ -1,6 +1,6 @@
 use Rattle.noc_vc.specs.Output.{is_free}
 use Rattle.noc_router.specs.Sound.{output_at}
-use Rattle.noc_router.proofs.ChannelLemmas.{find-least}
+use Rattle.noc_router.proofs.FindLemmas.{find-least}
 use Rattle.noc_router.proofs.channels.Channels.least_idle.Goals as goal
 
 pub returns-clause-value : goal.returns-clause-value

@@ -3,7 +3,7 @@ use Rattle.std.specs.Prelude.{IfSome, option_and_then, ◌||◌}
 use Rattle.noc_topo.specs.Shape.{ports as ports_of}
 use Rattle.noc_packet.specs.Set.{has_bit}
 use Rattle.noc_alloc.specs.Arbiter.{turn_at}
-use Rattle.noc_alloc.specs.Steps.{farther, offered}
+use Rattle.noc_router.specs.Offers.{farther, offered}
 use Rattle.noc_router.specs.Standing.{way_of}
 use Rattle.noc_router.specs.Requests.{AllBelow, pick_in}
 use Rattle.noc_router.specs.Verdict.{ready_of}

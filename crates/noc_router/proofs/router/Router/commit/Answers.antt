@@ -4,26 +4,29 @@ use Rattle.noc_router.specs.Decided.{IsDecidedFor}
 use Rattle.noc_router.specs.Requests.{AllBelow}
 use Rattle.noc_router.specs.Settled.{IsOutcomeOf, decisions_by}
 use Rattle.noc_router.specs.View.{Decisions, View, committed, outcome, planned}
-use Rattle.noc_router.proofs.OutcomeLemmas.{committed-from-shown, decisions-are, outcome-shown, outcome_of-shown}
+use Rattle.noc_router.proofs.OutcomeLemmas.{committed-from-shown, decisions-are, outcome-decided, outcome-picks, outcome-shown, outcome_of-shown}
 use Rattle.noc_router.proofs.SiteLemmas.{committed-shown}
 use Rattle.noc_router.proofs.router.Router.commit.Goals as goal
+
+pub show-requires-clause-lengths : goal.show-requires-clause-lengths
+show-requires-clause-lengths c = outcome-decided c.args.plan.now c.args.self.now c.requires
 
 pub take_effect-requires-clause-lengths : goal.take_effect-requires-clause-lengths
 take_effect-requires-clause-lengths c =
     let P : View → Type 0 = λ x. IsDecidedFor (ports x.site.grid) x.site.vcs c.args.plan.now in
-    subst P (sym c.show.ensures) c.requires.lengths
+    subst P (sym c.show.ensures) (outcome-decided c.args.plan.now c.args.self.now c.requires)
 
 pub take_effect-requires-clause-picks : goal.take_effect-requires-clause-picks
 take_effect-requires-clause-picks c =
     let P : View → Type 0 = λ x. AllBelow x.site.vcs c.args.plan.now.round.picks in
-    subst P (sym c.show.ensures) c.requires.picks
+    subst P (sym c.show.ensures) (outcome-picks c.args.plan.now c.args.self.now c.requires)
 
 pub take_effect-requires-clause-plan : goal.take_effect-requires-clause-plan
 take_effect-requires-clause-plan c =
     let p = c.args.plan.now in
     let v = c.args.self.now in
     let P : View → Type 0 = λ x. IsOutcomeOf p x in
-    subst P (sym c.show.ensures) (outcome_of-shown p v (decisions_by p v).findings c.requires.plan)
+    subst P (sym c.show.ensures) (outcome_of-shown p v (decisions_by p v).findings c.requires)
 
 pub returns : goal.returns
 returns c = λ relation is.

@@ -20,8 +20,8 @@ plan-requires-clause-plan c =
     let P : Site → Type 0 = λ s. IsDecidedFor (ports s.grid) s.vcs c.args.plan.now in
     subst P (sym site) c.requires.plan
 
-pub commit-requires-clause-plan : goal.commit-requires-clause-plan
-commit-requires-clause-plan c =
+pub commit-requires : goal.commit-requires
+commit-requires c =
     let v = c.args.self.now in
     let site : c.inject.new.self.site ≡ v.site =
     ap (λ (x : View). x.site) c.inject.ensures ∙ injected-site c.args.cycle c.take_all.new.self ∙ ap (λ (x : View). x.site) c.take_all.ensures ∙ all_taken-site c.args.relation.now c.args.beats_in.now v in

@@ -2,7 +2,8 @@ use Rattle.std.proofs.Common.{ap, take, arith, sym, ◌∙◌}
 use Rattle.std.proofs.lemmas.List.{take_all}
 use Rattle.noc_topo.specs.Shape.{local_port}
 use Rattle.noc_router.specs.View.{Site, taken_from, all_taken}
-use Rattle.noc_router.proofs.TakeLemmas.{taken_from-site, taken_from-next}
+use Rattle.noc_router.proofs.SiteLemmas.{taken_from-site}
+use Rattle.noc_router.proofs.TakeLemmas.{taken_from-next}
 use Rattle.noc_router.proofs.router.Router.take_all.Goals as goal
 
 pub take-requires-clause-relation : goal.take-requires-clause-relation

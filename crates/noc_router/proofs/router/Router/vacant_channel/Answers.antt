@@ -4,7 +4,7 @@ use Rattle.noc_ring.specs.Rings.{ring_at}
 use Rattle.noc_vc.specs.Input.{is_empty, is_idle_phase}
 use Rattle.noc_router.specs.Sound.{input_at}
 use Rattle.noc_router.specs.View.{View, is_vacant}
-use Rattle.noc_router.proofs.ChannelLemmas.{find-below, find-below-none}
+use Rattle.noc_router.proofs.FindLemmas.{find-below, find-none}
 use Rattle.noc_router.proofs.RouterLemmas.{local-index}
 use Rattle.noc_router.proofs.router.Router.vacant_channel.Goals as goal
 
@@ -22,4 +22,4 @@ pub returns-clause-value : goal.returns-clause-value
 returns-clause-value c =
     let v = c.args.self.now in
     let vcs : c.self.inside.vcs ≡ v.site.vcs = ap (λ (x : View). x.site.vcs) c.self.view_is in
-    sym (find-below-none (is_vacant v) v.site.vcs (λ k l. c.loop-vc.invariant k (omega arith)))
+    sym (find-none (is_vacant v) v.site.vcs (λ k l. c.loop-vc.invariant k (omega arith)))

@@ -1,0 +1,145 @@
+//! The two allocations of a router over lists of places, each of which looks at those alone that ask or win.
+//!
+//! They decide what `noc_alloc` decides over slices, and are proved against the same definitions.
+
+ghost use Rattle.std.specs.Prelude.{◌≡◌, ℕ, ◌*◌, ◌<◌, ◌≤◌, List, Option, length, All, IfSome, Some, None, is_some, slice_index_or};
+ghost use Rattle.noc_topo.specs.Words.{tabulate};
+ghost use Rattle.noc_packet.specs.Set.{has_bit};
+ghost use Rattle.noc_alloc.specs.Arbiter.{Turn, pointers_of, turn_at};
+ghost use Rattle.noc_alloc.specs.Allocation.{grant_of, pick_of, winning_pick, turned_by};
+ghost use Rattle.noc_alloc.specs.Steps.{turned_winner};
+ghost use Rattle.noc_router.specs.Offers.{farther, nearer, offered};
+
+use crate::places::Places;
+use noc_alloc::Arbiter;
+use noc_packet::{ChannelSet, INDICES};
+
+// For each input channel `asks` has the output channel that it asks for, and `arbiters` has an arbiter over the input
+// channels for each output channel. Each output channel that is asked for is granted to the input channel that its
+// arbiter puts first; `grants` gets that input channel.
+pub(crate) fn allocate_channels(asks: &Places, arbiters: &[Arbiter], grants: &mut Places)
+    requires lengths { length grants.old ≡ length arbiters.now }
+    requires sizes { All (λ (t : Turn). t.size ≡ length asks.now) arbiters.now }
+    requires asks { All (λ ask. IfSome ask (λ o. o < length arbiters.now)) asks.now }
+    ensures grants { grants.new ≡ tabulate (length arbiters.now) (grant_of asks.now (length asks.now) (pointers_of arbiters.now)) }
+    ensures count { length grants.new ≡ length arbiters.now }
+    ensures inputs { All (λ grant. IfSome grant (λ i. i < length asks.now)) grants.new }
+{
+    grants.clear();
+    let mut rest = asks.filled();
+    while let Some(input) = rest.least_common(&rest) {
+        rest = rest.without(input);
+        if let Some(output) = asks.get(input) {
+            offer(arbiters, output, input, grants);
+        }
+    }
+}
+
+// Of the requester that came first so far and a later one, that which comes first.
+fn nearer(arbiter: &Arbiter, held: Option<usize>, next: usize) -> usize
+    ensures { nearer arbiter.now.pointer held next ≡ Some result }
+{
+    let pointer = arbiter.pointer();
+    match held {
+        Some(first) if pointer <= first || next < pointer => first,
+        _ => next,
+    }
+}
+
+// Offers a requester, which comes after all that were offered before, to the arbiter that it asks for. `held` has the
+// requester that each arbiter puts first so far. Of that one and this one the arbiter holds the one that comes first;
+// the other is given back, if there were two.
+pub(crate) fn offer(
+    arbiters: &[Arbiter],
+    asked: usize,
+    requester: usize,
+    held: &mut Places,
+) -> Option<usize>
+    requires lengths { length held.old ≡ length arbiters.now }
+    requires asked { asked < length arbiters.now }
+    ensures held { held.new ≡ offered arbiters.now asked requester held.old }
+    ensures count { length held.new ≡ length held.old }
+    ensures other { result ≡ farther (turn_at arbiters.now asked).pointer (slice_index_or held.old asked None) requester }
+    ensures within { (n : ℕ) → requester < n → All (λ one. IfSome one (λ r. r < n)) held.old → All (λ one. IfSome one (λ r. r < n)) held.new }
+    ensures other_within { (n : ℕ) → requester < n → All (λ one. IfSome one (λ r. r < n)) held.old → IfSome result (λ r. r < n) }
+{
+    let before = held.get(asked);
+    let first = nearer(&arbiters[asked], before, requester);
+    held.set(asked, Some(first));
+    let before = before?;
+    if first == requester {
+        Some(before)
+    } else {
+        Some(requester)
+    }
+}
+
+// Moves the pointer of each output channel's arbiter past the input channel that was granted.
+pub(crate) fn advance_channels(grants: &Places, arbiters: &mut [Arbiter])
+    requires lengths { length grants.now ≡ length arbiters.old }
+    requires grants { (k : ℕ) → k < length arbiters.old → IfSome (slice_index_or grants.now k None) (λ w. w < (turn_at arbiters.old k).size) }
+    ensures pointers { arbiters.new ≡ turned_by (λ o. slice_index_or grants.now o None) arbiters.old }
+    ensures sizes { (k : ℕ) → (turn_at arbiters.new k).size ≡ (turn_at arbiters.old k).size }
+{
+    let mut rest = grants.filled();
+    while let Some(output) = rest.least_common(&rest) {
+        rest = rest.without(output);
+        arbiters[output].advance(grants.get(output));
+    }
+}
+
+// The one of its `vcs` virtual channels that are ready which an input port picks: that which its arbiter puts first.
+// Input port `port` has the input channels from `port * vcs` on.
+pub(crate) fn pick_channel(
+    ready: ChannelSet,
+    vcs: usize,
+    inputs: &[Arbiter],
+    port: usize,
+) -> Option<usize>
+    requires few { length inputs.now * vcs ≤ INDICES }
+    requires port { port < length inputs.now }
+    requires sizes { All (λ (t : Turn). t.size ≡ vcs) inputs.now }
+    ensures vc { IfSome result (λ v. v < vcs) }
+    ensures pick { (asked : List (Option ℕ)) → ((k : ℕ) → has_bit ready k ≡ is_some (slice_index_or asked k None)) → result ≡ pick_of asked vcs (pointers_of inputs.now) port }
+{
+    inputs[port].pick(ready.part(port * vcs, vcs))
+}
+
+// Moves the pointer of the input port that won an output port, if any, past its pick.
+fn advance_winner(winner: Option<usize>, picks: &Places, inputs: &mut [Arbiter])
+    requires picks { length picks.now ≡ length inputs.old }
+    requires vcs { (k : ℕ) → k < length inputs.old → IfSome (slice_index_or picks.now k None) (λ v. v < (turn_at inputs.old k).size) }
+    requires winner { IfSome winner (λ q. q < length inputs.old) }
+    ensures { inputs.new ≡ turned_winner winner picks.now inputs.old }
+{
+    if let Some(input) = winner {
+        inputs[input].advance(picks.get(input));
+    }
+}
+
+// Moves the pointers past the winners: those of the output ports that were won, and those of the input ports whose pick
+// also won an output port.
+pub(crate) fn advance_switch(
+    picks: &Places,
+    wins: &Places,
+    inputs: &mut [Arbiter],
+    outputs: &mut [Arbiter],
+)
+    requires picks { length picks.now ≡ length inputs.old }
+    requires wins { length wins.now ≡ length outputs.old }
+    requires vcs { (k : ℕ) → k < length inputs.old → IfSome (slice_index_or picks.now k None) (λ v. v < (turn_at inputs.old k).size) }
+    requires ports { (k : ℕ) → k < length outputs.old → IfSome (slice_index_or wins.now k None) (λ q. q < (turn_at outputs.old k).size) }
+    requires winners { All (λ win. IfSome win (λ q. q < length inputs.old)) wins.now }
+    ensures inputs { inputs.new ≡ turned_by (winning_pick picks.now wins.now) inputs.old }
+    ensures outputs { outputs.new ≡ turned_by (λ p. slice_index_or wins.now p None) outputs.old }
+    ensures input_sizes { (k : ℕ) → (turn_at inputs.new k).size ≡ (turn_at inputs.old k).size }
+    ensures output_sizes { (k : ℕ) → (turn_at outputs.new k).size ≡ (turn_at outputs.old k).size }
+{
+    let mut rest = wins.filled();
+    while let Some(output) = rest.least_common(&rest) {
+        rest = rest.without(output);
+        let winner = wins.get(output);
+        advance_winner(winner, picks, inputs);
+        outputs[output].advance(winner);
+    }
+}
