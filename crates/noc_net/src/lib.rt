@@ -22,7 +22,7 @@ pub use laws::{
     a_verdict_is_the_first_condition_that_fails, buffers_hold_one_packet_each,
     findings_change_nothing,
 };
-pub use network::{CYCLE_LIMIT, Network};
+pub use network::{CYCLE_LIMIT, Network, advance, decide, deliver};
 pub use order::every_order_of_events_is_lockstep;
 pub use parts::Parts;
-pub use room::Room;
+pub use room::{LINKS, Room};
