@@ -27,7 +27,7 @@ module _ (net : Setup) (sound : IsGrid net.relation.grid) (n first count : ℕ) 
     (own-beats : (r q : ℕ) → is_own first count r ≡ true → beat_at b r q ≡ beat_at B r q)
     (idle-beats : (r q : ℕ) → is_own first count r ≡ false → beat_at b r q ≡ idle_beat)
     (b-count : length b ≡ nodes net.relation.grid)
-    (I O I0 O0 : List (Option End)) (slots : AreSlots net.relation.grid B (nodes net.relation.grid * 6) I0 O0)
+    (I O I0 O0 : List (Option End)) (workers : ℕ) (slots : AreSlots net.relation.grid workers B (nodes net.relation.grid * 6) I0 O0)
     (left-in : (m : ℕ) → first * 6 ≤ m → get_or I m None ≡ get_or I0 m None) (left-out : AreLeftOut net.relation.grid (first * 6) O0 O)
     (V U : List End) (ins : AreTakenIn net.relation.grid first count ((first + count) * 6) I V) (outs : AreTakenOut net.relation.grid first count ((first + count) * 6) O U) where
   abbrev pub own_views : List View

@@ -111,8 +111,8 @@ module _ (grid : Grid) (sound : IsGrid grid) (first count k : ℕ) (O : List (Op
       }
 
 -- a ring more
-pub slots-more : (grid : Grid) (wires : List (List Beat)) (k : ℕ) (I O : List (Option End)) (i o : Option End) → AreSlots grid wires k I O → IsSlot grid (k / 6) (k % 6) (beat_at wires (k / 6) (k % 6)) i o → AreSlots grid wires (k + 1) (I ++ i ∷ []) (O ++ o ∷ [])
-slots-more grid wires k I O i o a s =
+pub slots-more : (grid : Grid) (workers : ℕ) (wires : List (List Beat)) (k : ℕ) (I O : List (Option End)) (i o : Option End) → AreSlots grid workers wires k I O → IsSlot grid workers (k / 6) (k % 6) (beat_at wires (k / 6) (k % 6)) i o → AreSlots grid workers wires (k + 1) (I ++ i ∷ []) (O ++ o ∷ [])
+slots-more grid workers wires k I O i o a s =
     record {
       ins = length_push I i ∙ ap (λ z. z + 1) a.ins;
       outs = length_push O o ∙ ap (λ z. z + 1) a.outs;
@@ -120,15 +120,15 @@ slots-more grid wires k I O i o a s =
           ⊎_elim (λ (less : m < k).
           let x = get_or_append_left I (i ∷ []) None m (let z = a.ins in omega arith) in
           let y = get_or_append_left O (o ∷ []) None m (let z = a.outs in omega arith) in
-          subst (λ (q : Option End). IsSlot grid (m / 6) (m % 6) (beat_at wires (m / 6) (m % 6)) (get_or (I ++ i ∷ []) m None) q) (sym y)
-          (subst (λ (q : Option End). IsSlot grid (m / 6) (m % 6) (beat_at wires (m / 6) (m % 6)) q (get_or O m None)) (sym x) (a.each m less)))
+          subst (λ (q : Option End). IsSlot grid workers (m / 6) (m % 6) (beat_at wires (m / 6) (m % 6)) (get_or (I ++ i ∷ []) m None) q) (sym y)
+          (subst (λ (q : Option End). IsSlot grid workers (m / 6) (m % 6) (beat_at wires (m / 6) (m % 6)) q (get_or O m None)) (sym x) (a.each m less)))
           (λ (past : k ≤ m).
           let e : k ≡ m = omega arith in
           let x = get_or_push I i None m (a.ins ∙ e) in
           let y = get_or_push O o None m (a.outs ∙ e) in
-          subst (λ (q : Option End). IsSlot grid (m / 6) (m % 6) (beat_at wires (m / 6) (m % 6)) (get_or (I ++ i ∷ []) m None) q) (sym y)
-          (subst (λ (q : Option End). IsSlot grid (m / 6) (m % 6) (beat_at wires (m / 6) (m % 6)) q o) (sym x)
-          (subst (λ (z : ℕ). IsSlot grid (z / 6) (z % 6) (beat_at wires (z / 6) (z % 6)) i o) e s)))
+          subst (λ (q : Option End). IsSlot grid workers (m / 6) (m % 6) (beat_at wires (m / 6) (m % 6)) (get_or (I ++ i ∷ []) m None) q) (sym y)
+          (subst (λ (q : Option End). IsSlot grid workers (m / 6) (m % 6) (beat_at wires (m / 6) (m % 6)) q o) (sym x)
+          (subst (λ (z : ℕ). IsSlot grid workers (z / 6) (z % 6) (beat_at wires (z / 6) (z % 6)) i o) e s)))
           (cases_lt m k);
     }
 

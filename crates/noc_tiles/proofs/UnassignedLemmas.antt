@@ -20,33 +20,41 @@ use Rattle.noc_tiles.specs.Rings.{AreLeftOut, AreSlots, AreTakenIn, AreTakenOut,
 use Rattle.noc_tiles.specs.Partition.{InFlight, IsTile, AreUnassigned, IsWire, AreWires, index_of, routers_of}
 use Rattle.noc_tiles.specs.declared.tile.Tile.{Tile}
 use Rattle.noc_tiles.proofs.ClearLemmas.{place_at}
+use Rattle.noc_tiles.specs.Starts.{tile_start}
 use Rattle.noc_tiles.proofs.SentLemmas.{own-true}
+use Rattle.noc_tiles.proofs.StartsLemmas.{apart-out, apart-in}
 use Rattle.noc_tiles.proofs.BoundaryLemmas.{vec-length}
 use Rattle.noc_tiles.proofs.PartitionLemmas.{own_views, views-count, parts-fit, tile-covers, in-at, out-at, place-in, place-out}
 
-linked-some : (first count : ℕ) (x : Option (ℕ × ℕ)) → is_inside first count x ≡ false → is_some x ≡ true
-linked-some first count None h = absurd (false≢true (sym h))
-linked-some first count (Some p) h = refl
+outside-some : (first count : ℕ) (x : Option (ℕ × ℕ)) → is_inside first count x ≡ false → (from : ℕ × ℕ) × (x ≡ Some from) × (is_own first count from.0 ≡ false)
+outside-some first count None h = absurd (false≢true (sym h))
+outside-some first count (Some p) h = (p, refl, h)
 
-module _ (net : Setup) (sound : IsGrid net.relation.grid) (first count : ℕ) (wide : first + count ≤ nodes net.relation.grid) (B : List (List Beat)) (I0 O0 I O : List (Option End)) (U : AreUnassigned net first B I0 O0 I O) where
+module _ (net : Setup) (sound : IsGrid net.relation.grid) (workers first count : ℕ) (wide : first + count ≤ nodes net.relation.grid) (B : List (List Beat)) (I0 O0 I O : List (Option End)) (U : AreUnassigned net workers first B I0 O0 I O) (w : ℕ) (one-of : w < workers)
+    (first-is : first ≡ tile_start (nodes net.relation.grid) workers w) (end-is : first + count ≡ tile_start (nodes net.relation.grid) workers (w + 1)) where
   pub all-in : (m : ℕ) → first * 6 ≤ m → m < (first + count) * 6 → is_inside first count (neighbour net.relation.grid (m / 6) (m % 6)) ≡ false → is_some (get_or I m None) ≡ true
   all-in m l h out =
-      ap (λ (s : Option End). is_some s) (U.left_in m l) ∙ ((U.slots.each m (omega arith)).linked (linked-some first count (neighbour net.relation.grid (m / 6) (m % 6)) out)).0
+      let f = outside-some first count (neighbour net.relation.grid (m / 6) (m % 6)) out in
+      let own : is_own first count (m / 6) ≡ true = own-true first count (m / 6) (omega arith) (omega arith) in
+      ap (λ (s : Option End). is_some s) (U.left_in m l)
+      ∙ ((U.slots.each m (omega arith)).apart f.0 f.1 (apart-out (nodes net.relation.grid) workers w first count one-of first-is end-is (m / 6) f.0.0 own f.2)).0
 
   pub all-out : (k at : ℕ) → first * 6 ≤ k → k < (first + count) * 6 → LeadsTo net.relation.grid first count k at → is_some (get_or O at None) ≡ true
-  all-out k at l h w =
+  all-out k at l h g =
       let s_in : k / 6 < nodes net.relation.grid = omega arith in
-      let back = link_back net.relation.grid (k / 6) (k % 6) w.r w.q sound s_in w.to in
-      let node = w.node in
-      let port = w.port in
-      let a : (w.r * 6 + w.q) / 6 ≡ w.r = omega arith in
-      let c : (w.r * 6 + w.q) % 6 ≡ w.q = omega arith in
-      let linked : is_some (neighbour net.relation.grid ((w.r * 6 + w.q) / 6) ((w.r * 6 + w.q) % 6)) ≡ true = ap (λ (s : Option (ℕ × ℕ)). is_some s) (ap₂ (neighbour net.relation.grid) a c ∙ back.back) in
-      ap (λ z. is_some (get_or O z None)) w.is
-      ∙ (ap (λ (s : Option End). is_some s) (U.left_out (k / 6) (k % 6) w.r w.q s_in (omega arith) w.to (omega arith))
-      ∙ ((U.slots.each (w.r * 6 + w.q) (omega arith)).linked linked).1)
+      let back = link_back net.relation.grid (k / 6) (k % 6) g.r g.q sound s_in g.to in
+      let node = g.node in
+      let port = g.port in
+      let a : (g.r * 6 + g.q) / 6 ≡ g.r = omega arith in
+      let c : (g.r * 6 + g.q) % 6 ≡ g.q = omega arith in
+      let linked : neighbour net.relation.grid ((g.r * 6 + g.q) / 6) ((g.r * 6 + g.q) % 6) ≡ Some (place_at (k / 6) (k % 6)) = ap₂ (neighbour net.relation.grid) a c ∙ back.back in
+      let own : is_own first count (k / 6) ≡ true = own-true first count (k / 6) (omega arith) (omega arith) in
+      let apart = apart-in (nodes net.relation.grid) workers w first count one-of first-is end-is (k / 6) ((g.r * 6 + g.q) / 6) own (ap (is_own first count) a ∙ g.other) in
+      ap (λ z. is_some (get_or O z None)) g.is
+      ∙ (ap (λ (s : Option End). is_some s) (U.left_out (k / 6) (k % 6) g.r g.q s_in (omega arith) g.to (omega arith))
+      ∙ ((U.slots.each (g.r * 6 + g.q) (omega arith)).apart (place_at (k / 6) (k % 6)) linked apart).1)
 
-  pub unassigned-more : (I' O' : List (Option End)) → ((m : ℕ) → (first + count) * 6 ≤ m → get_or I' m None ≡ get_or I m None) → AreLeftOut net.relation.grid ((first + count) * 6) O O' → AreUnassigned net (first + count) B I0 O0 I' O'
+  pub unassigned-more : (I' O' : List (Option End)) → ((m : ℕ) → (first + count) * 6 ≤ m → get_or I' m None ≡ get_or I m None) → AreLeftOut net.relation.grid ((first + count) * 6) O O' → AreUnassigned net workers (first + count) B I0 O0 I' O'
   unassigned-more I' O' li lo = record {
     slots = U.slots;
     left_in = λ m l. li m l ∙ U.left_in m (omega arith);
@@ -64,8 +72,8 @@ module _ (net : Setup) (sound : IsGrid net.relation.grid) (first count : ℕ) (w
     new-tile =
         let V = inlets t in
         let W = outlets t in
-        let S = parts-fit net sound n first count wide B t.beats.items flight own idle size I O I0 O0 U.slots U.left_in U.left_out V W ins outs in
-        let vc : length t.routers.items ≡ count = ap length views ∙ views-count net sound n first count wide B t.beats.items flight own idle size I O I0 O0 U.slots U.left_in U.left_out V W ins outs in
+        let S = parts-fit net sound n first count wide B t.beats.items flight own idle size I O I0 O0 workers U.slots U.left_in U.left_out V W ins outs in
+        let vc : length t.routers.items ≡ count = ap length views ∙ views-count net sound n first count wide B t.beats.items flight own idle size I O I0 O0 workers U.slots U.left_in U.left_out V W ins outs in
         let few = sound.few_dimensions in
         let P : ℕ → Type 0 = λ z. PartsFit net.relation z (places V) (places W) (take count (drop first (lockstep_at net n).views)) t.beats.items in
         let Q : List View → Type 0 = λ z. PartsFit net.relation t.first (places V) (places W) z t.beats.items in
@@ -84,27 +92,27 @@ module _ (net : Setup) (sound : IsGrid net.relation.grid) (first count : ℕ) (w
               let Z : ℕ → Type 0 = λ z. is_inside t.first (length t.routers.items) (neighbour net.relation.grid (z + c) q) ≡ true ⊎ ((j : ℕ) × (j < length (places V)) × (get_or (places V) j (0, 0) ≡ place_at (z + c) q)) in
               subst Z (sym is-first)
               (⊎_elim (λ z. inl (fv (neighbour net.relation.grid (first + c) q) ∙ z)) (λ z. inr z)
-              (tile-covers net sound n first count wide B t.beats.items flight own idle size I O I0 O0 U.slots U.left_in U.left_out V W ins outs c q (omega arith)));
+              (tile-covers net sound n first count wide B t.beats.items flight own idle size I O I0 O0 workers U.slots U.left_in U.left_out V W ins outs c q (omega arith)));
           crossing = λ j l.
-              let p = place-in net sound n first count wide B t.beats.items flight own idle size I O I0 O0 U.slots U.left_in U.left_out V W ins outs j l in
-              let a = in-at net sound n first count wide B t.beats.items flight own idle size I O I0 O0 U.slots U.left_in U.left_out V W ins outs j p.0 p.1 in
+              let p = place-in net sound n first count wide B t.beats.items flight own idle size I O I0 O0 workers U.slots U.left_in U.left_out V W ins outs j l in
+              let a = in-at net sound n first count wide B t.beats.items flight own idle size I O I0 O0 workers U.slots U.left_in U.left_out V W ins outs j p.0 p.1 in
               fv _ ∙ (ap (λ (z : ℕ × ℕ). is_inside first count (neighbour net.relation.grid z.0 z.1)) (p.2 ∙ a.at) ∙ a.outside);
           from = λ o l.
-              let p = place-out net sound n first count wide B t.beats.items flight own idle size I O I0 O0 U.slots U.left_in U.left_out V W ins outs o l in
-              let a = out-at net sound n first count wide B t.beats.items flight own idle size I O I0 O0 U.slots U.left_in U.left_out V W ins outs o p.0 p.1 in
+              let p = place-out net sound n first count wide B t.beats.items flight own idle size I O I0 O0 workers U.slots U.left_in U.left_out V W ins outs o l in
+              let a = out-at net sound n first count wide B t.beats.items flight own idle size I O I0 O0 workers U.slots U.left_in U.left_out V W ins outs o p.0 p.1 in
               ff _ ∙ (ap (λ (z : ℕ × ℕ). is_from first count (neighbour net.relation.grid z.0 z.1)) (p.2 ∙ a.at) ∙ a.from);
           ins = λ j e l.
-              let a = in-at net sound n first count wide B t.beats.items flight own idle size I O I0 O0 U.slots U.left_in U.left_out V W ins outs j e l in
+              let a = in-at net sound n first count wide B t.beats.items flight own idle size I O I0 O0 workers U.slots U.left_in U.left_out V W ins outs j e l in
               let m : (a.m / 6) * 6 + a.m % 6 ≡ a.m = omega arith in
               ap (λ (z : ℕ × ℕ). get_or I0 (index_of z) None) a.at ∙ (ap (λ z. get_or I0 z None) m ∙ a.slot);
           outs = λ o e l.
-              let a = out-at net sound n first count wide B t.beats.items flight own idle size I O I0 O0 U.slots U.left_in U.left_out V W ins outs o e l in
+              let a = out-at net sound n first count wide B t.beats.items flight own idle size I O I0 O0 workers U.slots U.left_in U.left_out V W ins outs o e l in
               ap (λ (z : ℕ × ℕ). get_or O0 (index_of z) None) a.at ∙ a.slot;
         }
 
 -- the slots are those of wires
-pub slots-wires : (net : Setup) (n : ℕ) (B : List (List Beat)) (I O : List (Option End)) → InFlight net n B → AreSlots net.relation.grid B (nodes net.relation.grid * 6) I O → AreWires net n I O
-slots-wires net n B I O flight S k i o hi ho =
+pub slots-wires : (net : Setup) (n workers : ℕ) (B : List (List Beat)) (I O : List (Option End)) → InFlight net n B → AreSlots net.relation.grid workers B (nodes net.relation.grid * 6) I O → AreWires net n I O
+slots-wires net n workers B I O flight S k i o hi ho =
     ⊎_elim (λ (l : k < nodes net.relation.grid * 6).
     let s = S.each k l in
     let x = s.ins i hi in

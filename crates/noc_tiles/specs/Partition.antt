@@ -85,8 +85,8 @@ pub record IsPartition (net : Setup) (n k : ℕ) (I O : List (Option End)) (ts :
   pub rings : AreWires net n I O
 
 -- the ends of the rings of the routers from `first` on are still in their slots: I0 and O0 are the slots when all were there
-pub record AreUnassigned (net : Setup) (first : ℕ) (B : List (List Beat)) (I0 O0 I O : List (Option End)) : Type 0 where
-  pub slots : AreSlots net.relation.grid B (nodes net.relation.grid * 6) I0 O0
+pub record AreUnassigned (net : Setup) (workers first : ℕ) (B : List (List Beat)) (I0 O0 I O : List (Option End)) : Type 0 where
+  pub slots : AreSlots net.relation.grid workers B (nodes net.relation.grid * 6) I0 O0
   pub left_in : (m : ℕ) → first * 6 ≤ m → get_or I m None ≡ get_or I0 m None
   pub left_out : AreLeftOut net.relation.grid (first * 6) O0 O
 

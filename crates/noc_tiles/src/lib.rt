@@ -11,6 +11,7 @@ mod phases;
 mod rings;
 mod run;
 mod single;
+mod starts;
 mod stop;
 mod threads;
 mod tile;

@@ -7,12 +7,14 @@ ghost use Rattle.noc_net.specs.Halves.{IsPlaced, beat_at};
 ghost use Rattle.noc_net.specs.Network.{Setup};
 ghost use Rattle.noc_net.specs.Lockstep.{lockstep_at};
 ghost use Rattle.noc_tiles.specs.Ends.{End};
+ghost use Rattle.noc_tiles.specs.Starts.{tile_start};
 ghost use Rattle.noc_tiles.specs.TileStep.{is_inside, is_own};
 ghost use Rattle.noc_tiles.specs.Rings.{AreLeftOut, AreSlots, LeadsTo, in_slots, out_slots};
 ghost use Rattle.noc_tiles.specs.Partition.{InFlight, IsPartition, IsTile, AreUnassigned, setup_of};
 
 use crate::frame::Frame;
 use crate::rings::{Rings, make_rings, take_ins, take_outs};
+use crate::starts::tile_start;
 use crate::tile::{Outcome, Tile};
 use crate::wires::{Inlet, Outlet};
 use noc_packet::{Beat, Memory};
@@ -44,7 +46,6 @@ fn new_tile(
     frame: &Frame,
     worker: usize,
     first: usize,
-    cycles: u64,
     routers: Vec<Router>,
     beats: &[[Beat; 6]],
     ins: &mut Vec<Option<Inlet>>,
@@ -52,18 +53,22 @@ fn new_tile(
 ) -> Result<Tile, Memory>
     requires size_in { vec_len ins.old ≡ nodes_of frame.now.relation.grid * 6 }
     requires size_out { vec_len outs.old ≡ nodes_of frame.now.relation.grid * 6 }
+    requires workers { frame.now.workers ≤ 16 }
     requires wide { first + vec_len routers ≤ nodes_of frame.now.relation.grid }
+    requires worker { worker < frame.now.workers }
+    requires first { first ≡ tile_start (nodes_of frame.now.relation.grid) frame.now.workers worker }
+    requires last { first + vec_len routers ≡ tile_start (nodes_of frame.now.relation.grid) frame.now.workers (worker + 1) }
     requires beats { length beats.now ≡ nodes_of frame.now.relation.grid }
     requires flight { InFlight (setup_of frame.now) frame.now.count beats.now }
     requires views { routers.items ≡ take (vec_len routers) (drop first (lockstep_at (setup_of frame.now) frame.now.count).views) }
-    requires end { frame.now.count + cycles < 2 ^ 64 }
-    requires partition { (I0 : List (Option End)) × (O0 : List (Option End)) × AreUnassigned (setup_of frame.now) first beats.now I0 O0 (in_slots ins.old.items) (out_slots outs.old.items) }
+    requires end { frame.now.count + frame.now.cycles < 2 ^ 64 }
+    requires partition { (I0 : List (Option End)) × (O0 : List (Option End)) × AreUnassigned (setup_of frame.now) frame.now.workers first beats.now I0 O0 (in_slots ins.old.items) (out_slots outs.old.items) }
     ensures size_in { vec_len ins.new ≡ vec_len ins.old }
     ensures size_out { vec_len outs.new ≡ vec_len outs.old }
     ensures first { IfOk result (λ t. t.first ≡ first) }
     ensures routers { IfOk result (λ t. t.routers.items ≡ routers.items) }
-    ensures tile { IfOk result (λ t. (I0 O0 : List (Option End)) → AreUnassigned (setup_of frame.now) first beats.now I0 O0 (in_slots ins.old.items) (out_slots outs.old.items) → IsTile (setup_of frame.now) frame.now.count cycles I0 O0 t) }
-    ensures left { IsOk result → (I0 O0 : List (Option End)) → AreUnassigned (setup_of frame.now) first beats.now I0 O0 (in_slots ins.old.items) (out_slots outs.old.items) → AreUnassigned (setup_of frame.now) (first + vec_len routers) beats.now I0 O0 (in_slots ins.new.items) (out_slots outs.new.items) }
+    ensures tile { IfOk result (λ t. (I0 O0 : List (Option End)) → AreUnassigned (setup_of frame.now) frame.now.workers first beats.now I0 O0 (in_slots ins.old.items) (out_slots outs.old.items) → IsTile (setup_of frame.now) frame.now.count frame.now.cycles I0 O0 t) }
+    ensures left { IsOk result → (I0 O0 : List (Option End)) → AreUnassigned (setup_of frame.now) frame.now.workers first beats.now I0 O0 (in_slots ins.old.items) (out_slots outs.old.items) → AreUnassigned (setup_of frame.now) frame.now.workers (first + vec_len routers) beats.now I0 O0 (in_slots ins.new.items) (out_slots outs.new.items) }
 {
     let shape = frame.relation.shape();
     let _nodes = shape.nodes();
@@ -76,7 +81,7 @@ fn new_tile(
         worker,
         first,
         start: frame.count,
-        cycles,
+        cycles: frame.cycles,
         done: 0,
         outcome: Outcome::Whole,
         routers,
@@ -87,48 +92,31 @@ fn new_tile(
     })
 }
 
-// Where a tile ends that begins at `first`, where so many workers are left.
-fn next_end(nodes: usize, first: usize, left: usize) -> usize
-    requires first { first ≤ nodes }
-    requires left { 0 < left }
-    ensures low { first ≤ result }
-    ensures high { result ≤ nodes }
-    ensures last { left ≡ 1 → result ≡ nodes }
-{
-    if left == 1 {
-        nodes
-    } else {
-        first + ((nodes - first) / left).min(nodes - first)
-    }
-}
-
 /// As many tiles as there are workers, with a ring on each wire between two of them.
 pub(crate) fn partition(
     alloc: Global,
     frame: &Frame,
     routers: Vec<Router>,
     beats: &[[Beat; 6]],
-    cycles: u64,
-    workers: usize,
 ) -> Result<Vec<Tile>, Memory>
-    requires workers { (0 < workers) × (workers ≤ 16) }
+    requires workers { (0 < frame.now.workers) × (frame.now.workers ≤ 16) }
     requires beats { length beats.now ≡ nodes_of frame.now.relation.grid }
     requires flight { InFlight (setup_of frame.now) frame.now.count beats.now }
     requires views { routers.items ≡ (lockstep_at (setup_of frame.now) frame.now.count).views }
-    requires end { frame.now.count + cycles < 2 ^ 64 }
-    ensures { IfOk result (λ v. (I : List (Option End)) × (O : List (Option End)) × IsPartition (setup_of frame.now) frame.now.count cycles I O v.items) }
+    requires end { frame.now.count + frame.now.cycles < 2 ^ 64 }
+    ensures { IfOk result (λ v. (I : List (Option End)) × (O : List (Option End)) × IsPartition (setup_of frame.now) frame.now.count frame.now.cycles I O v.items) }
 {
     let shape = frame.relation.shape();
     let nodes = shape.nodes();
-    let Rings { mut ins, mut outs } = make_rings(alloc, shape, beats)?;
+    let Rings { mut ins, mut outs } = make_rings(alloc, shape, frame.workers, beats)?;
     let mut tiles = Vec::new(alloc);
     let mut rest = routers;
     let mut first = 0;
-    for worker in 0..workers {
-        let end = next_end(nodes, first, workers - worker);
+    for worker in 0..frame.workers {
+        let end = tile_start(nodes, frame.workers, worker + 1);
         let tail = rest.split_off(end - first)?;
         let tile = new_tile(
-            alloc, frame, worker, first, cycles, rest, beats, &mut ins, &mut outs,
+            alloc, frame, worker, first, rest, beats, &mut ins, &mut outs,
         )?;
         tiles.push(tile)?;
         rest = tail;

@@ -1,11 +1,13 @@
 //! The rings on the wires between tiles.
 
-ghost use Rattle.std.specs.Prelude.{ℕ, ◌≡◌, ◌+◌, ◌*◌, ◌/◌, ◌%◌, ◌<◌, ◌≤◌, ◌++◌, [], ◌∷◌, Some, None, false, true, get_or, map, length, option_map, is_some, vec_len, IfOk, IfSome, IfNone, IsOk, OnOk};
+ghost use Rattle.std.specs.Prelude.{ℕ, ◌≡◌, ◌+◌, ◌*◌, ◌/◌, ◌%◌, ◌<◌, ◌≤◌, ◌++◌, [], ◌∷◌, Some, None, false, true, get_or, map, length, option_map, is_some, vec_len, IfOk, IsFalse, IfSome, IfNone, IsOk, OnOk};
 ghost use Rattle.noc_topo.specs.Shape.{IsGrid, nodes as nodes_of, neighbour as neighbour_of};
 ghost use Rattle.noc_tiles.specs.Ends.{inlet, outlet};
+ghost use Rattle.noc_tiles.specs.Starts.{AreTogether};
 ghost use Rattle.noc_tiles.specs.TileStep.{is_inside, is_own};
 ghost use Rattle.noc_tiles.specs.Rings.{AreLeftOut, AreSlots, AreTakenIn, AreTakenOut, LeadsTo, IsSlot, held, in_slots, out_slots, without};
 
+use crate::starts::are_together;
 use crate::wires::{Inlet, Outlet};
 use noc_packet::Beat;
 use noc_topo::Shape;
@@ -46,37 +48,56 @@ fn new_ring(
     ))
 }
 
-// .. where a link arrives.
+// Whether the wire that arrives at a port comes from another tile.
+fn comes_from_other(shape: &Shape, workers: usize, router: usize, port: usize) -> bool
+    requires router { router < nodes_of shape.now }
+    requires workers { (0 < workers) × (workers ≤ 16) }
+    ensures { IsFalse result → (from : ℕ × ℕ) → neighbour_of shape.now router port ≡ Some from → AreTogether (nodes_of shape.now) workers router from.0 }
+{
+    if port >= shape.ports() {
+        return false;
+    }
+    match shape.neighbour(router, port) {
+        Some((from, _)) => !are_together(shape.nodes(), workers, router, from),
+        None => false,
+    }
+}
+
+// The two ends of a ring on a wire between two tiles, with the beat that is in flight. Other wires have none.
 fn slot(
     alloc: Global,
     shape: &Shape,
+    workers: usize,
     router: usize,
     port: usize,
     beat: Beat,
 ) -> Result<(Option<Inlet>, Option<Outlet>), AllocError>
-    requires { router < nodes_of shape.now }
-    ensures { IfOk result (λ s. IsSlot shape.now router port beat (option_map inlet s.0) (option_map outlet s.1)) }
+    requires router { router < nodes_of shape.now }
+    requires workers { (0 < workers) × (workers ≤ 16) }
+    ensures { IfOk result (λ s. IsSlot shape.now workers router port beat (option_map inlet s.0) (option_map outlet s.1)) }
 {
-    if port >= shape.ports() || shape.neighbour(router, port).is_none() {
+    if !comes_from_other(shape, workers, router, port) {
         return Ok((None, None));
     }
     let (one, other) = new_ring(alloc, router, port, beat)?;
     Ok((Some(one), Some(other)))
 }
 
-/// A ring on each wire, with the beat that is in flight.
+/// A ring on each wire between two tiles, with the beat that is in flight.
 pub(crate) fn make_rings(
     alloc: Global,
     shape: &Shape,
+    workers: usize,
     beats: &[[Beat; 6]],
 ) -> Result<Rings, AllocError>
-    requires { length beats.now ≡ nodes_of shape.now }
-    ensures { IfOk result (λ r. AreSlots shape.now beats.now (nodes_of shape.now * 6) (in_slots r.ins.items) (out_slots r.outs.items)) }
+    requires beats { length beats.now ≡ nodes_of shape.now }
+    requires workers { (0 < workers) × (workers ≤ 16) }
+    ensures { IfOk result (λ r. AreSlots shape.now workers beats.now (nodes_of shape.now * 6) (in_slots r.ins.items) (out_slots r.outs.items)) }
 {
     let mut ins = Vec::new(alloc);
     let mut outs = Vec::new(alloc);
     for k in 0..shape.nodes() * 6 {
-        let (one, other) = slot(alloc, shape, k / 6, k % 6, beats[k / 6][k % 6])?;
+        let (one, other) = slot(alloc, shape, workers, k / 6, k % 6, beats[k / 6][k % 6])?;
         ins.push(one)?;
         outs.push(other)?;
     }

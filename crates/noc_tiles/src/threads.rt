@@ -84,13 +84,12 @@ pub(crate) fn run_threads<R: Threads + Wait + Sync, G: Gate>(
     alloc: Global,
     frame: Frame,
     tiles: Vec<Tile>,
-    cycles: u64,
     gate: &G,
 ) -> Result<Network, RunFault>
     requires frame { IsFrame frame }
-    requires partition { (I : List (Option End)) × (O : List (Option End)) × IsPartition (setup_of frame) frame.count cycles I O tiles.items }
-    requires end { frame.count + cycles ≤ cycle_limit }
-    ensures net { IfOk result (λ v. v ≡ record { net = setup_of frame; count = frame.count + cycles }) }
+    requires partition { (I : List (Option End)) × (O : List (Option End)) × IsPartition (setup_of frame) frame.count frame.cycles I O tiles.items }
+    requires end { frame.count + frame.cycles ≤ cycle_limit }
+    ensures net { IfOk result (λ v. v ≡ record { net = setup_of frame; count = frame.count + frame.cycles }) }
     ensures lost { IfErr result (λ e. e ≡ LostWorker → G.opens gate.now ≡ false) }
 {
     let stop = Stop::new();
@@ -119,7 +118,7 @@ pub(crate) fn run_threads<R: Threads + Wait + Sync, G: Gate>(
         relation: frame.relation,
         buffer: frame.buffer,
         packets: frame.packets,
-        count: frame.count + cycles,
+        count: frame.count + frame.cycles,
         routers,
         plan: frame.plan,
         beats,

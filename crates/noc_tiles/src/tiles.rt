@@ -50,9 +50,11 @@ pub fn run_tiles<R: Threads + Wait + Sync, G: Gate>(
         count,
         plan,
         room,
+        cycles,
+        workers,
     };
-    let Ok(tiles) = partition(alloc, &frame, routers, &beats, cycles, workers) else {
+    let Ok(tiles) = partition(alloc, &frame, routers, &beats) else {
         return Err(RunFault::Memory);
     };
-    run_threads(rt, alloc, frame, tiles, cycles, gate)
+    run_threads(rt, alloc, frame, tiles, gate)
 }

@@ -9,6 +9,8 @@ use Rattle.noc_tiles.specs.Partition.{IsTile, AreUnassigned, routers_of, setup_o
 use Rattle.noc_tiles.specs.declared.tile.Tile.{Tile}
 use Rattle.noc_tiles.proofs.BoundaryLemmas.{vec-length}
 use Rattle.noc_tiles.proofs.PartitionLoop.{tiles-more, firsts-more, views-more}
+use Rattle.noc_tiles.specs.Starts.{tile_start}
+use Rattle.noc_tiles.proofs.StartsLemmas.{start-step, start-end}
 use Rattle.noc_tiles.proofs.UnassignedLemmas.{slots-wires}
 use Rattle.noc_tiles.proofs.partition.partition.Goals as goal
 
@@ -21,8 +23,11 @@ split_off-requires c =
     let v = vec-length c.loop-worker.rest in
     let g : nodes c.shape-shape.result.now ≡ nodes net.relation.grid = ap nodes c.shape-shape.ensures.value in
     let e = c.nodes-nodes.ensures.value in
-    let h = c.next_end-end.ensures.high in
-    let l = c.next_end-end.ensures.low in
+    let N = c.nodes-nodes.result in
+    let h = c.tile_start-end.ensures.within in
+    let s : c.tile_start-end.result ≡ tile_start N c.args.frame.now.workers (c.loop-worker.worker + 1) = c.tile_start-end.ensures.start in
+    let f : c.loop-worker.first ≡ tile_start N c.args.frame.now.workers c.loop-worker.worker = c.loop-worker.invariant.start ∙ ap (λ z. tile_start z c.args.frame.now.workers c.loop-worker.worker) (sym (e ∙ g)) in
+    let l = start-step N c.args.frame.now.workers (c.requires.workers).0 c.loop-worker.worker in
     omega arith
 
 pub loop-worker-preserved : goal.loop-worker-preserved
@@ -33,11 +38,16 @@ loop-worker-preserved c =
     let v = c.loop-worker.invariant in
     let w = c.loop-worker.worker in
     let first = c.loop-worker.first in
-    let end = c.next_end-end.result in
+    let end = c.tile_start-end.result in
     let g : nodes c.shape-shape.result.now ≡ nodes net.relation.grid = ap nodes c.shape-shape.ensures.value in
     let en = c.nodes-nodes.ensures.value in
-    let h = c.next_end-end.ensures.high in
-    let l = c.next_end-end.ensures.low in
+    let W = c.args.frame.now.workers in
+    let N = nodes net.relation.grid in
+    let h = c.tile_start-end.ensures.within in
+    let s : end ≡ tile_start N W (w + 1) = c.tile_start-end.ensures.start ∙ ap (λ z. tile_start z W (w + 1)) (en ∙ g) in
+    let step : tile_start N W w ≤ tile_start N W (w + 1) = start-step N W (c.requires.workers).0 w in
+    let f : first ≡ tile_start N W w = v.start in
+    let l : first ≤ end = omega arith in
     let I0 = in_slots c.in_ok-ins.field-0.ins.items in
     let O0 = out_slots c.in_ok-ins.field-0.outs.items in
     let T = c.in_ok-tile.tile in
@@ -54,18 +64,18 @@ loop-worker-preserved c =
     let long_v : first ≤ length V = omega arith in
     let push : c.push.new.self.items ≡ ts ++ T ∷ [] = search rules in
     record {
-      last = λ z. c.next_end-end.ensures.last (omega arith) ∙ (en ∙ g);
+      start = s;
       low = omega arith;
       size_in = c.in_ok-tile.ensures.size_in ∙ v.size_in;
       size_out = c.in_ok-tile.ensures.size_out ∙ v.size_out;
       rest = tail ∙ (drop-drop (end - first) first V ∙ ap (λ z. drop z V) sum);
-      unassigned = subst (λ (z : ℕ). AreUnassigned net z c.args.beats.now I0 O0 (in_slots c.new_tile.new.ins.items) (out_slots c.new_tile.new.outs.items)) (ap (λ z. first + z) long ∙ sum) (c.in_ok-tile.ensures.left refl I0 O0 v.unassigned);
+      unassigned = subst (λ (z : ℕ). AreUnassigned net c.args.frame.now.workers z c.args.beats.now I0 O0 (in_slots c.new_tile.new.ins.items) (out_slots c.new_tile.new.outs.items)) (ap (λ z. first + z) long ∙ sum) (c.in_ok-tile.ensures.left refl I0 O0 v.unassigned);
       count = search (rules, arith);
-      tiles = subst (λ (z : List Tile). (t : ℕ) (d : Tile) → t < w + 1 → IsTile net n c.args.cycles I0 O0 (get_or z t d)) (sym push)
-          (tiles-more net n c.args.cycles w first end I0 O0 V ts T tc l c.in_ok-tile.ensures.first v.views long_v routers v.tiles (c.in_ok-tile.ensures.tile I0 O0 v.unassigned));
+      tiles = subst (λ (z : List Tile). (t : ℕ) (d : Tile) → t < w + 1 → IsTile net n c.args.frame.now.cycles I0 O0 (get_or z t d)) (sym push)
+          (tiles-more net n c.args.frame.now.cycles w first end I0 O0 V ts T tc l c.in_ok-tile.ensures.first v.views long_v routers v.tiles (c.in_ok-tile.ensures.tile I0 O0 v.unassigned));
       firsts = subst (λ (z : List Tile). (t : ℕ) (d : Tile) → t < w + 1 → (get_or z t d).first ≡ length (flat_map routers_of (take t z))) (sym push)
-          (firsts-more net n c.args.cycles w first end I0 O0 V ts T tc l c.in_ok-tile.ensures.first v.views long_v routers v.firsts);
-      views = ap (flat_map routers_of) push ∙ views-more net n c.args.cycles w first end I0 O0 V ts T tc l c.in_ok-tile.ensures.first v.views long_v routers;
+          (firsts-more net n c.args.frame.now.cycles w first end I0 O0 V ts T tc l c.in_ok-tile.ensures.first v.views long_v routers v.firsts);
+      views = ap (flat_map routers_of) push ∙ views-more net n c.args.frame.now.cycles w first end I0 O0 V ts T tc l c.in_ok-tile.ensures.first v.views long_v routers;
     }
 
 pub returns : goal.returns
@@ -77,8 +87,8 @@ returns c =
     let I0 = in_slots c.in_ok-ins.field-0.ins.items in
     let O0 = out_slots c.in_ok-ins.field-0.outs.items in
     let sound : IsGrid net.relation.grid = subst IsGrid c.shape-shape.ensures.value c.nodes-nodes.ensures.grid in
-    let end : c.loop-worker.worker ≡ c.args.workers = search (rules, arith) in
-    let first = v.last end in
+    let end : c.loop-worker.worker ≡ c.args.frame.now.workers = search (rules, arith) in
+    let first : c.loop-worker.first ≡ nodes net.relation.grid = v.start ∙ (ap (tile_start (nodes net.relation.grid) c.args.frame.now.workers) end ∙ start-end (nodes net.relation.grid) c.args.frame.now.workers (c.requires.workers).0) in
     let cv = count_views net n in
     let tc : length c.loop-worker.tiles.items ≡ c.loop-worker.worker = sym (vec-length c.loop-worker.tiles) ∙ v.count in (
       I0,
@@ -88,6 +98,6 @@ returns c =
         tiles = λ t d l. v.tiles t d (omega arith);
         firsts = λ t d l. v.firsts t d (omega arith);
         views = v.views ∙ take_all c.loop-worker.first V (omega arith);
-        rings = slots-wires net n c.args.beats.now I0 O0 c.requires.flight v.unassigned.slots;
+        rings = slots-wires net n c.args.frame.now.workers c.args.beats.now I0 O0 c.requires.flight v.unassigned.slots;
       },
     )
