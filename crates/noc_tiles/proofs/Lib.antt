@@ -9,6 +9,7 @@ pub mod FlatLemmas
 pub mod GatherLemmas
 pub mod PartitionLemmas
 pub mod PartitionLoop
+pub mod PartsLemmas
 pub mod RingLemmas
 pub mod RunLemmas
 pub mod SentLemmas

@@ -5,12 +5,13 @@ use Rattle.std.proofs.lemmas.List.{length-map, with_items_is}
 use Rattle.noc_topo.specs.Shape.{nodes}
 use Rattle.noc_packet.specs.declared.packet.Beat.{Beat}
 use Rattle.noc_net.specs.Halves.{beat_at}
-use Rattle.noc_net.specs.Parts.{AreParts}
+use Rattle.noc_net.specs.declared.parts.Parts.{Parts}
 use Rattle.noc_tiles.specs.Ends.{inlet, outlet}
 use Rattle.noc_tiles.specs.Tiles.{AllCanRun, inlets, outlets}
 use Rattle.noc_tiles.specs.Partition.{setup_of, rows_of}
 use Rattle.noc_tiles.proofs.BoundaryLemmas.{AllRuns, all_runs, same_count, vec-length}
 use Rattle.noc_tiles.proofs.GatherLemmas.{tile_in, all_can, can_empty, can-empty-as, empties-as, fits, in-count, rows-length, views-done, wires-done}
+use Rattle.noc_tiles.proofs.PartsLemmas.{parts-again}
 use Rattle.noc_tiles.proofs.threads.run_threads.Goals as goal
 
 pub run_all-requires-after_bounds : goal.run_all-requires-after_bounds
@@ -78,12 +79,16 @@ from_parts-requires g c =
     let C = empties-as (map inlet all.ins.items) (flat_map inlets ys) (map outlet all.outs.items) (flat_map outlets ys) (vec_len all.ins) (length (flat_map inlets ys)) c.deref_mut.result.now (flat_map rows_of ys) c.empty_all.new.beats
     G.ins G.outs i (was ∙ G.beats) c.empty_all.ensures in
     let now : (with_items all.beats c.empty_all.new.beats).items ≡ c.empty_all.new.beats = with_items_is all.beats c.empty_all.new.beats (c.empty_all.ensures.same ∙ (ap length was ∙ sym (vec-length all.beats))) in
-    record {
-      views = G.routers ∙ views-done net n k I O xs ys W r d C.left;
-      wires = λ s q. ap (λ (b : List (List Beat)). beat_at b s q) now ∙ wires-done net n k I O xs ys W r d C.left c.empty_all.new.beats C s q;
-      beats = vec-length all.beats ∙ rows;
-      plan = c.requires.frame.plan;
-      room = c.requires.frame.room;
-      packets = c.requires.frame.packets;
-      few_packets = c.requires.frame.few_packets;
-    }
+    let Q : Parts = record {
+      relation = c.args.frame.relation;
+      buffer = c.args.frame.buffer;
+      packets = c.args.frame.packets;
+      count = n + k;
+      routers = all.routers;
+      plan = c.args.frame.plan;
+      beats = with_items all.beats c.empty_all.new.beats;
+      room = c.args.frame.room;
+    } in
+    parts-again Q (G.routers ∙ views-done net n k I O xs ys W r d C.left)
+    (λ s q. ap (λ (b : List (List Beat)). beat_at b s q) now ∙ wires-done net n k I O xs ys W r d C.left c.empty_all.new.beats C s q) (vec-length all.beats ∙ rows) c.requires.frame.plan c.requires.frame.room c.requires.frame.packets
+    c.requires.frame.few_packets
