@@ -10,3 +10,5 @@ mod networks;
 mod reports;
 #[cfg(test)]
 mod threads;
+#[cfg(test)]
+mod tile;

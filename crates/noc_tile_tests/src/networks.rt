@@ -12,6 +12,16 @@ use std::sync::Wait;
 use std::test::Fail;
 use std::thread::Threads;
 
+/// A line of two routers, with a packet from one to the other.
+pub fn line_of_two(alloc: Global) -> Result<Network, Fail>
+    ensures { IfOk result (λ n. n.count ≡ 0) }
+{
+    let shape = Shape::new(Kind::Mesh, &[2])?;
+    let relation = Relation::build(alloc, &shape, 1, 1, Rule::Dor)?;
+    let traffic = b"source,destination,class,length,due\n0,1,0,1,0\n";
+    Ok(Network::new(alloc, relation, 2, read_traffic(alloc, traffic)?)?)
+}
+
 /// A line of three routers, in which one packet waits for the channel of another.
 pub fn line_of_three(alloc: Global) -> Result<Network, Fail>
     ensures { IfOk result (λ n. n.count ≡ 0) }
