@@ -11,7 +11,7 @@ use Rattle.noc.specs.declared.request.Command.TheVariants as command
 
 pub not_joined : (x : Command) → (x ≡ command.Joined → ⊥) → is_joined x ≡ false
 not_joined command.Joined other = absurd (other refl)
-not_joined (command.Run report) other = refl
+not_joined (command.Run workers report) other = refl
 not_joined (command.Explain cycle router) other = refl
 not_joined command.Check other = refl
 not_joined command.Ranks other = refl

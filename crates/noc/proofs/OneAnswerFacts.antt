@@ -28,14 +28,14 @@ use Rattle.noc.proofs.OneSettingsFacts.{one_relation_asked}
 -- what a command asks for, by number: a report, an explanation, a check, ranks
 abbrev pub kind : Command → ℕ
 kind command.Joined = 0
-kind (command.Run report) = 0
+kind (command.Run workers report) = 0
 kind (command.Explain cycle router) = 1
 kind command.Check = 2
 kind command.Ranks = 3
 
 pub reports : (x : Command) (report : Report) → report_of x ≡ Some report → kind x ≡ 0
 reports command.Joined report h = refl
-reports (command.Run other) report h = refl
+reports (command.Run workers other) report h = refl
 reports (command.Explain cycle router) report h = cc
 reports command.Check report h = cc
 reports command.Ranks report h = cc

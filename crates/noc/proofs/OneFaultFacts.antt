@@ -43,21 +43,21 @@ not_memory f g p e = false≢true (sym p ∙ ap (λ x. is_memory (fault.Rank x g
 
 unchecked-ranks : (x : Command) (given : Option Said) → kind x ≡ 3 → checked_by x given ≡ None
 unchecked-ranks command.Joined given e = absurd (omega (arith, e))
-unchecked-ranks (command.Run report) given e = absurd (omega (arith, e))
+unchecked-ranks (command.Run workers report) given e = absurd (omega (arith, e))
 unchecked-ranks (command.Explain cycle router) given e = absurd (omega (arith, e))
 unchecked-ranks command.Check given e = absurd (omega (arith, e))
 unchecked-ranks command.Ranks given e = refl
 
 still-check : (x : Command) → kind x ≡ 2 → runs x ≡ false
 still-check command.Joined e = absurd (omega (arith, e))
-still-check (command.Run report) e = absurd (omega (arith, e))
+still-check (command.Run workers report) e = absurd (omega (arith, e))
 still-check (command.Explain cycle router) e = absurd (omega (arith, e))
 still-check command.Check e = refl
 still-check command.Ranks e = absurd (omega (arith, e))
 
 still-ranks : (x : Command) → kind x ≡ 3 → runs x ≡ false
 still-ranks command.Joined e = absurd (omega (arith, e))
-still-ranks (command.Run report) e = absurd (omega (arith, e))
+still-ranks (command.Run workers report) e = absurd (omega (arith, e))
 still-ranks (command.Explain cycle router) e = absurd (omega (arith, e))
 still-ranks command.Check e = absurd (omega (arith, e))
 still-ranks command.Ranks e = refl

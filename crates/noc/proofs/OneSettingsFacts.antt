@@ -18,7 +18,7 @@ use Rattle.noc_files.specs.declared.configuration.RuleName.{RuleName}
 use Rattle.noc_files.specs.declared.fault.InputFault.{InputFault}
 use Rattle.noc.specs.Asked.{Asked, Said, read_by}
 use Rattle.noc.specs.Options.{early_fault, late_fault}
-use Rattle.noc.specs.Settings.{AsksForSettings, AsksForShape, AsksForRelation, IsRuleOf, named, tabled, IsTableFault, bad_table, SettingsFault, bad_config, bad_option, bad_shape, bad_router, in_table, bad_relation}
+use Rattle.noc.specs.Settings.{AsksForSettings, AsksForShape, AsksForRelation, IsRuleOf, named, tabled, IsTableFault, bad_table, SettingsFault, bad_config, bad_option, bad_shape, bad_late_option, in_table, bad_relation}
 use Rattle.noc.specs.Status.{is_memory}
 use Rattle.noc.specs.declared.fault.Fault.{Fault}
 use Rattle.noc.specs.declared.fault.Fault.TheVariants as fault
@@ -71,7 +71,7 @@ unfolding shaped after_config after_early after_shape after_late
 at a f p (bad_config {f = i} e) = before (ap (after_config a) (e (config_not_memory i p)))
 at a f p (bad_option {s = s} e h) = before (ap (after_config a) e ∙ ap (after_early a s) h)
 at a f p (bad_shape {s = s} h e) = before (shaped-settings a s h ∙ ap (after_shape a s) e)
-at a f p (bad_router {s = s} {g = g} h e k) = before (shaped-settings a s h ∙ ap (after_shape a s) e ∙ ap (after_late s g) k)
+at a f p (bad_late_option {s = s} {g = g} h e k) = before (shaped-settings a s h ∙ ap (after_shape a s) e ∙ ap (after_late s g) k)
 at a f p (in_table h k) = table h k
 at a f p (bad_relation h r k) = relation refl h r k
 

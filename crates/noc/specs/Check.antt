@@ -38,7 +38,7 @@ pub data RanksFault (routes : Routes) (text : Said) : Fault → Type 0 where
 -- the ranks that a command checks: those of a run if there are any, and those of `check`, where none are an empty text
 abbrev pub checked_by : Command → Option Said → Option Said
 checked_by Joined ranks = ranks
-checked_by (Run report) ranks = ranks
+checked_by (Run workers report) ranks = ranks
 checked_by Check ranks = Some (unwrap_or ranks (Ok []))
 checked_by _ ranks = None
 

@@ -17,6 +17,8 @@ use Rattle.noc_route.specs.declared.rule.RouteFault.{RouteFault}
 use Rattle.noc_route.specs.declared.rule.RouteFault.TheVariants as route
 use Rattle.noc_route.specs.declared.rule.RouteRow.{RouteRow}
 use Rattle.noc_topo.specs.declared.shape.ShapeFault.{ShapeFault}
+use Rattle.noc_tiles.specs.declared.fault.RunFault.{RunFault}
+use Rattle.noc_tiles.specs.declared.fault.RunFault.TheVariants as run
 use Rattle.noc.specs.declared.fault.OptionFault.{OptionFault}
 use Rattle.noc.specs.declared.fault.OptionFault.TheVariants as option
 use Rattle.noc.specs.declared.fault.Fault.{Fault}
@@ -39,6 +41,7 @@ family_of (fault.Shape f) = codes "shape"
 family_of (fault.Relation f g) = codes "relation"
 family_of (fault.Rank f g) = codes "rank"
 family_of (fault.Network f) = codes "network"
+family_of (fault.Run f) = codes "run"
 family_of (fault.Write f) = codes "write"
 
 -- ---- numbers with their names
@@ -61,6 +64,7 @@ input_title input.NoSplit = codes "13 NoSplit"
 abbrev pub option_title : OptionFault → List ℕ
 option_title option.BadCycle = codes "1 BadCycle"
 option_title option.BadRouter = codes "2 BadRouter"
+option_title option.BadWorkers = codes "3 BadWorkers"
 option_title option.NoTable = codes "4 NoTable"
 option_title option.SpareTable = codes "5 SpareTable"
 
@@ -96,6 +100,11 @@ net_title net.TooMany = codes "5 TooMany"
 net_title net.Memory = codes "6 Memory"
 net_title (net.BadDue row) = codes "7 BadDue"
 
+abbrev pub run_title : RunFault → List ℕ
+run_title run.Memory = codes "1 Memory"
+run_title run.NoWorker = codes "2 NoWorker"
+run_title run.LostWorker = codes "3 LostWorker"
+
 abbrev pub title_of : Fault → List ℕ
 title_of (fault.Joined f) = input_title f
 title_of (fault.Config f) = input_title f
@@ -107,6 +116,7 @@ title_of (fault.Shape f) = shape_title f
 title_of (fault.Relation f g) = route_title f
 title_of (fault.Rank f g) = rank_title f
 title_of (fault.Network f) = net_title f
+title_of (fault.Run f) = run_title f
 title_of (fault.Write f) = codes "1 WriteFailed"
 
 -- ---- details
@@ -182,6 +192,7 @@ details_of (fault.Shape f) = []
 details_of (fault.Relation f g) = route_details g f
 details_of (fault.Rank f g) = rank_details g f
 details_of (fault.Network f) = net_details f
+details_of (fault.Run f) = []
 details_of (fault.Write f) = codes " written " ∷ decimal f.written ∷ []
 
 -- ---- the line of a fault

@@ -1,13 +1,13 @@
 -- The options of a request: whether they go together, with the configuration, and with the shape.
-use Rattle.std.specs.Prelude.{ℕ, Bool, true, false, ◌&&◌, not, Option, Some, None, nat_le, if◌then◌else◌}
+use Rattle.std.specs.Prelude.{ℕ, Bool, true, false, ◌&&◌, not, Option, Some, None, nat_le, nat_lt, if◌then◌else◌}
 use Rattle.noc_topo.specs.Shape.{Grid, nodes}
 use Rattle.noc_files.specs.Configuration.{Settings}
 use Rattle.noc_files.specs.declared.configuration.RuleName.{RuleName}
 use Rattle.noc_files.specs.declared.configuration.RuleName.TheVariants as word
 use Rattle.noc.specs.declared.fault.OptionFault.{OptionFault}
-use Rattle.noc.specs.declared.fault.OptionFault.TheVariants.{BadCycle, BadRouter, NoTable, SpareTable}
+use Rattle.noc.specs.declared.fault.OptionFault.TheVariants.{BadCycle, BadRouter, BadWorkers, NoTable, SpareTable}
 use Rattle.noc.specs.declared.request.Command.{Command}
-use Rattle.noc.specs.declared.request.Command.TheVariants.{Explain}
+use Rattle.noc.specs.declared.request.Command.TheVariants.{Run, Explain}
 
 abbrev pub is_table : RuleName → Bool
 is_table word.Table = true
@@ -30,7 +30,8 @@ or_else (Some fault) later = Some fault
 abbrev pub early_fault : Command → Bool → Settings → Option OptionFault
 early_fault command has_table s = or_else (table_fault s.rule has_table) (cycle_fault command s.cycles)
 
--- and after it: a router to be explained that does not exist
+-- and after it: more workers than routers, or a router to be explained that does not exist
 abbrev pub late_fault : Command → Grid → Option OptionFault
+late_fault (Run workers report) g = if nat_lt (nodes g) workers then Some BadWorkers else None
 late_fault (Explain cycle router) g = if nat_le (nodes g) router then Some BadRouter else None
 late_fault _ g = None

@@ -1,5 +1,5 @@
 -- The run that is asked for.
-use Rattle.std.specs.Prelude.{◌≡◌, ◌≢◌, ℕ, ◌+◌, List, Option, Some, None, Ok, Err, if◌then◌else◌}
+use Rattle.std.specs.Prelude.{◌≡◌, ◌≢◌, ℕ, ◌+◌, ◌<◌, ◌≤◌, List, Option, Some, None, Ok, Err, if◌then◌else◌}
 use Rattle.noc_packet.specs.declared.packet.Packet.{Packet}
 use Rattle.noc_route.specs.Routes.{Routes}
 use Rattle.noc_net.specs.declared.fault.NetFault.{NetFault}
@@ -24,8 +24,17 @@ use Rattle.noc.specs.declared.status.Status.TheVariants.{Done, Stuck}
 -- the report of a run that a command asks for
 abbrev pub report_of : Command → Option Report
 report_of command.Joined = Some Latency
-report_of (command.Run report) = Some report
+report_of (command.Run workers report) = Some report
 report_of _ = None
+
+-- how many workers a command has
+abbrev pub workers_of : Command → ℕ
+workers_of (command.Run workers report) = workers
+workers_of _ = 1
+
+-- 1 to 16 workers
+abbrev pub HasWorkers : Command → Type 0
+HasWorkers x = (0 < workers_of x) × (workers_of x ≤ 16)
 
 -- how many cycles are run: those of the configuration, or up to the one that is to be explained
 abbrev pub cycles_of : Command → Settings → ℕ

@@ -61,6 +61,6 @@ pub data SettingsFault (a : Asked) : Fault → Type 0 where
   bad_config : {f : InputFault} → IsUnread config_of a.config f → SettingsFault a (fault.Config f)
   bad_option : {s : Settings} {f : OptionFault} → read_by config_of a.config ≡ Ok s → early_fault a.command (is_some a.table) s ≡ Some f → SettingsFault a (fault.Option f)
   bad_shape : {s : Settings} {f : ShapeFault} → AsksForSettings a s → shape_of s.kind s.radix ≡ Err f → SettingsFault a (fault.Shape f)
-  bad_router : {s : Settings} {g : Grid} {f : OptionFault} → AsksForSettings a s → shape_of s.kind s.radix ≡ Ok g → late_fault a.command g ≡ Some f → SettingsFault a (fault.Option f)
+  bad_late_option : {s : Settings} {g : Grid} {f : OptionFault} → AsksForSettings a s → shape_of s.kind s.radix ≡ Ok g → late_fault a.command g ≡ Some f → SettingsFault a (fault.Option f)
   in_table : {s : Settings} {g : Grid} {f : Fault} → AsksForShape a s g → IsTableFault a.table g s.rule f → SettingsFault a f
   bad_relation : {s : Settings} {g : Grid} {r : Rule} {f : RouteFault} → AsksForShape a s g → IsRuleOf a.table g s.rule r → IsFaultOf (routing_of g s.channels s.classes r) f → SettingsFault a (fault.Relation f g)

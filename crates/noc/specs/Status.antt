@@ -4,6 +4,7 @@ use Rattle.noc_files.specs.declared.fault.InputFault.TheVariants as input
 use Rattle.noc_net.specs.declared.fault.NetFault.TheVariants as net
 use Rattle.noc_rank.specs.declared.fault.RankFault.TheVariants as rank
 use Rattle.noc_route.specs.declared.rule.RouteFault.TheVariants as route
+use Rattle.noc_tiles.specs.declared.fault.RunFault.TheVariants as run
 use Rattle.noc.specs.declared.status.Status.{Status}
 use Rattle.noc.specs.declared.status.Status.TheVariants.{Done, Stuck}
 use Rattle.noc.specs.declared.fault.Fault.{Fault}
@@ -24,12 +25,14 @@ is_memory (fault.Traffic input.Memory) = true
 is_memory (fault.Relation route.Memory shape) = true
 is_memory (fault.Rank rank.Memory shape) = true
 is_memory (fault.Network net.Memory) = true
+is_memory (fault.Run run.Memory) = true
 is_memory _ = false
 
 -- the status of each family where memory was not refused
 abbrev pub family_status : Fault → ℕ
 family_status (fault.Relation f shape) = 4
 family_status (fault.Rank f shape) = 4
+family_status (fault.Run f) = 6
 family_status (fault.Write f) = 7
 family_status _ = 3
 

@@ -10,6 +10,7 @@ ghost use Rattle.noc.specs.Answer.{AsksFor, TextsFault};
 ghost use Rattle.noc.specs.Asked.{asked_of, lent, read_by};
 ghost use Rattle.noc.specs.Check.{Accepts, AsksForChecked, HasRanking, RanksFault};
 ghost use Rattle.noc.specs.Outcome.{Ends, Refuses};
+ghost use Rattle.noc.specs.Run.{workers_of};
 
 use crate::fault::Fault;
 use crate::request::{Bytes, Command, Files};
@@ -30,7 +31,7 @@ pub fn answer_check<W: Sink>(
     sink: &mut W,
 ) -> Result<Status, Fault>
     requires { files.now.command ≡ Command.Check }
-    ensures { Ends (Wrote W.contents W.has_failed sink.old sink.new) (sink.new ≡ sink.old) (AsksFor (asked_of files.now)) (TextsFault (asked_of files.now)) result }
+    ensures { Ends (workers_of files.now.command) (Wrote W.contents W.has_failed sink.old sink.new) (sink.new ≡ sink.old) (AsksFor (asked_of files.now)) (TextsFault (asked_of files.now)) result }
 {
     accept_files(rt, alloc, files)?;
     match write_pieces(&["accepted\n"], sink) {

@@ -5,28 +5,49 @@ ghost use Rattle.noc_files.specs.Writing.{Wrote};
 ghost use Rattle.noc.specs.Answer.{Asks, AsksFor, FirstFault, TextsFault};
 ghost use Rattle.noc.specs.Asked.{ReadsAs, asked_of};
 ghost use Rattle.noc.specs.Outcome.{Ends, Refuses};
+ghost use Rattle.noc.specs.Run.{HasWorkers, workers_of};
 
 use crate::accept::answer_check;
 use crate::explain::explain;
 use crate::fault::Fault;
 use crate::formula::answer_ranks;
 use crate::request::{Command, Files, Report, Request, files_of, parts};
-use crate::run::run;
+use crate::run::{run, run_by_workers};
 use crate::status::Status;
 use noc_files::{InputFault, Sink, split_joined};
 use std::alloc::Global;
+use std::sync::Wait;
 use std::thread::Threads;
 
 /// Writes the report that is asked for, or answers the first fault, with nothing written before it but the bytes that a
 /// write fault counts. The order is: joined text, configuration, options, shape, table, relation, ranks, check, traffic,
 /// network, run, report. `explain` and `ranks` look at no rank file, `check` and `ranks` at no traffic.
-pub fn answer<W: Sink>(
+pub fn answer<R: Threads + Wait + Sync, W: Sink>(
+    rt: &R,
+    alloc: Global,
+    request: &Request,
+    sink: &mut W,
+) -> Result<Status, Fault>
+    requires { HasWorkers request.now.command }
+    ensures { Ends (workers_of request.now.command) (Wrote W.contents W.has_failed sink.old sink.new) (sink.new ≡ sink.old) (Asks request.now) (FirstFault request.now) result }
+{
+    match request.command {
+        Command::Run { workers, report } if 1 < workers => {
+            run_by_workers(rt, alloc, &files_of(request), workers, report, sink)
+        }
+        _ => answer_one(rt, alloc, request, sink),
+    }
+}
+
+/// The same without the right to wait, for every request but a run by two or more workers.
+pub fn answer_one<W: Sink>(
     rt: &(impl Threads + Sync),
     alloc: Global,
     request: &Request,
     sink: &mut W,
 ) -> Result<Status, Fault>
-    ensures { Ends (Wrote W.contents W.has_failed sink.old sink.new) (sink.new ≡ sink.old) (Asks request.now) (FirstFault request.now) result }
+    requires { workers_of request.now.command ≡ 1 }
+    ensures { Ends (workers_of request.now.command) (Wrote W.contents W.has_failed sink.old sink.new) (sink.new ≡ sink.old) (Asks request.now) (FirstFault request.now) result }
 {
     let files = read_request(request)?;
     answer_files(rt, alloc, &files, sink)
@@ -57,11 +78,11 @@ fn answer_files<W: Sink>(
     files: &Files<'_>,
     sink: &mut W,
 ) -> Result<Status, Fault>
-    ensures { Ends (Wrote W.contents W.has_failed sink.old sink.new) (sink.new ≡ sink.old) (AsksFor (asked_of files.now)) (TextsFault (asked_of files.now)) result }
+    ensures { Ends (workers_of files.now.command) (Wrote W.contents W.has_failed sink.old sink.new) (sink.new ≡ sink.old) (AsksFor (asked_of files.now)) (TextsFault (asked_of files.now)) result }
 {
     match files.command {
         Command::Joined => run(rt, alloc, files, Report::Latency, sink),
-        Command::Run { report } => run(rt, alloc, files, report, sink),
+        Command::Run { workers: _, report } => run(rt, alloc, files, report, sink),
         Command::Explain { cycle, router } => explain(alloc, files, cycle, router, sink),
         Command::Check => answer_check(rt, alloc, files, sink),
         Command::Ranks => answer_ranks(alloc, files, sink),

@@ -6,7 +6,7 @@ ghost use Rattle.noc_files.specs.Writing.{Wrote};
 ghost use Rattle.noc.specs.Answer.{AsksFor, TextsFault};
 ghost use Rattle.noc.specs.Asked.{asked_of};
 ghost use Rattle.noc.specs.Outcome.{Ends, Refuses};
-ghost use Rattle.noc.specs.Run.{AsksForRun};
+ghost use Rattle.noc.specs.Run.{AsksForRun, workers_of};
 
 use crate::fault::Fault;
 use crate::request::{Command, Files};
@@ -26,7 +26,7 @@ pub fn explain<W: Sink>(
     sink: &mut W,
 ) -> Result<Status, Fault>
     requires { files.now.command ≡ Command.Explain cycle router }
-    ensures { Ends (Wrote W.contents W.has_failed sink.old sink.new) (sink.new ≡ sink.old) (AsksFor (asked_of files.now)) (TextsFault (asked_of files.now)) result }
+    ensures { Ends (workers_of files.now.command) (Wrote W.contents W.has_failed sink.old sink.new) (sink.new ≡ sink.old) (AsksFor (asked_of files.now)) (TextsFault (asked_of files.now)) result }
 {
     let network = network_after(alloc, files, cycle, router)?;
     match write_findings(&network, router, sink) {

@@ -7,6 +7,7 @@ use noc_files::{InputFault, WriteFault};
 use noc_net::NetFault;
 use noc_rank::RankFault;
 use noc_route::RouteFault;
+use noc_tiles::RunFault;
 use noc_topo::{Shape, ShapeFault};
 
 /// A fault of the options.
@@ -16,6 +17,8 @@ pub enum OptionFault {
     BadCycle,
     /// The router that is to be explained does not exist.
     BadRouter,
+    /// There are more workers than routers.
+    BadWorkers,
     /// The rule is `table`, and there is no table file.
     NoTable,
     /// There is a table file, and the rule is another one.
@@ -37,11 +40,13 @@ pub enum Fault {
     /// With the shape, which names the ports.
     Rank(RankFault, Shape),
     Network(NetFault),
+    /// Only where two or more workers run.
+    Run(RunFault),
     Write(WriteFault),
 }
 
 /// The exit status of a fault: 3 for texts, options, shapes and networks, 4 for relations and ranks, 6 where memory
-/// was refused, 7 where the report could not be written.
+/// or a worker was refused, 7 where the report could not be written.
 pub fn status_of(fault: &Fault) -> u8
     ensures { result ≡ status_of_fault fault.now }
 {
@@ -53,7 +58,8 @@ pub fn status_of(fault: &Fault) -> u8
         | Fault::Traffic(InputFault::Memory)
         | Fault::Relation(RouteFault::Memory, _)
         | Fault::Rank(RankFault::Memory, _)
-        | Fault::Network(NetFault::Memory) => 6,
+        | Fault::Network(NetFault::Memory)
+        | Fault::Run(_) => 6,
         Fault::Joined(_)
         | Fault::Config(_)
         | Fault::Table(_)

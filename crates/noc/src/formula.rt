@@ -7,6 +7,7 @@ ghost use Rattle.noc.specs.Answer.{AsksFor, TextsFault};
 ghost use Rattle.noc.specs.Asked.{asked_of};
 ghost use Rattle.noc.specs.Formula.{HasRanks, IsFormulaFault};
 ghost use Rattle.noc.specs.Outcome.{Ends, Refuses};
+ghost use Rattle.noc.specs.Run.{workers_of};
 
 use crate::fault::Fault;
 use crate::request::{Command, Files};
@@ -24,7 +25,7 @@ pub fn answer_ranks<W: Sink>(
     sink: &mut W,
 ) -> Result<Status, Fault>
     requires { files.now.command ≡ Command.Ranks }
-    ensures { Ends (Wrote W.contents W.has_failed sink.old sink.new) (sink.new ≡ sink.old) (AsksFor (asked_of files.now)) (TextsFault (asked_of files.now)) result }
+    ensures { Ends (workers_of files.now.command) (Wrote W.contents W.has_failed sink.old sink.new) (sink.new ≡ sink.old) (AsksFor (asked_of files.now)) (TextsFault (asked_of files.now)) result }
 {
     let (config, relation) = relation_of(alloc, files)?;
     let shape = relation.shape();

@@ -4,7 +4,7 @@ ghost use Rattle.std.specs.Prelude.{◌≡◌, ◌≤◌, [], ◌∷◌, codes, 
 ghost use Rattle.noc_files.specs.Keys.{key_name};
 ghost use Rattle.noc_files.specs.Writing.{Wrote};
 ghost use Rattle.noc_rank.specs.Rising.{step_of};
-ghost use Rattle.noc.specs.Line.{entry_details, field_details, hop_details, input_details, input_title, line_of, line_with, channel_details, fall_details, net_details, net_title, option_title, port_word, rank_details, rank_title, route_details, route_title, row_details, shape_title};
+ghost use Rattle.noc.specs.Line.{entry_details, field_details, hop_details, input_details, input_title, line_of, line_with, channel_details, fall_details, net_details, net_title, option_title, port_word, rank_details, rank_title, run_title, route_details, route_title, row_details, shape_title};
 
 use crate::fault::{Fault, OptionFault};
 use itoa::Buffer;
@@ -12,6 +12,7 @@ use noc_files::{InputFault, Key, Sink, WriteFault, port_name, write_pieces};
 use noc_net::NetFault;
 use noc_rank::RankFault;
 use noc_route::{Entry, RouteFault, RouteRow};
+use noc_tiles::RunFault;
 use noc_topo::{Shape, ShapeFault};
 
 /// Writes the line of a fault: `fault`, its family, its number, its name and its details (docs/FORMATS.md, "Fault lines").
@@ -29,6 +30,7 @@ pub fn fault_line<W: Sink>(fault: &Fault, sink: &mut W) -> Result<(), WriteFault
         Fault::Relation(fault, shape) => relation_line(fault, shape, sink),
         Fault::Rank(fault, shape) => rank_line(fault, shape, sink),
         Fault::Network(fault) => network_line(*fault, sink),
+        Fault::Run(fault) => plain_line("run", run_name(*fault), sink),
         Fault::Write(fault) => counted_line(
             "write",
             "1 WriteFailed",
@@ -176,6 +178,7 @@ fn option_name(fault: OptionFault) -> &'static str
     match fault {
         OptionFault::BadCycle => "1 BadCycle",
         OptionFault::BadRouter => "2 BadRouter",
+        OptionFault::BadWorkers => "3 BadWorkers",
         OptionFault::NoTable => "4 NoTable",
         OptionFault::SpareTable => "5 SpareTable",
     }
@@ -189,6 +192,17 @@ fn shape_name(fault: ShapeFault) -> &'static str
         ShapeFault::BadDimensions => "1 BadDimensions",
         ShapeFault::BadRadix => "2 BadRadix",
         ShapeFault::TooManyNodes => "3 TooManyNodes",
+    }
+}
+
+fn run_name(fault: RunFault) -> &'static str
+    ensures title { result.now ≡ run_title fault }
+    ensures short { length result.now ≤ 20 }
+{
+    match fault {
+        RunFault::Memory => "1 Memory",
+        RunFault::NoWorker => "2 NoWorker",
+        RunFault::LostWorker => "3 LostWorker",
     }
 }
 

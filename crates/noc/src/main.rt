@@ -1,11 +1,12 @@
 //! The simulator: reads the files that the words name, or a joined text from standard input, and writes what is asked for.
 #![tactic(auto)]
 
-ghost use Rattle.std.specs.Prelude.{◌≡◌, ⊤, is_some, IfSome};
+ghost use Rattle.std.specs.Prelude.{◌≡◌, ⊤, is_some, IfOk, IfSome};
 ghost use Rattle.std.specs.Io.Buffered.{writer_inner};
 ghost use Rattle.noc.specs.Answer.{Asks, ToldFault};
 ghost use Rattle.noc.specs.Line.{line_of};
 ghost use Rattle.noc.specs.Outcome.{Ends};
+ghost use Rattle.noc.specs.Run.{HasWorkers, workers_of};
 
 mod accept;
 mod answer;
@@ -39,6 +40,7 @@ use std::fs::{File, Files};
 use std::io::{self, BufWriter, Write};
 use std::process::ExitCode;
 use std::rt::Env;
+use std::sync::Wait;
 use std::thread::Threads;
 use words::{Words, read_words};
 
@@ -105,7 +107,9 @@ fn collected_line(fault: &Fault) -> Option<Collected>
 }
 
 // What the words of the command line ask for.
-fn asked(rt: &(impl Env + Files + Input + AllocGlobal)) -> Result<Request, Refusal> {
+fn asked(rt: &(impl Env + Files + Input + AllocGlobal)) -> Result<Request, Refusal>
+    ensures { IfOk result (λ request. HasWorkers request.command) }
+{
     let words = all_words(rt)?;
     if words.len() <= 1 {
         let text = read_all(rt.alloc(), &mut rt.reader(), INPUT_LIMIT);
@@ -187,10 +191,11 @@ fn file_text(rt: &(impl Files + AllocGlobal), name: &str) -> Text {
 
 // Writes the answer to standard output.
 fn print_answer(
-    rt: &(impl Print + Threads + Sync + AllocGlobal),
+    rt: &(impl Print + Threads + Wait + Sync + AllocGlobal),
     request: &Request,
 ) -> Result<Status, Fault>
-    ensures { Ends (λ text writing. ⊤) ⊤ (Asks request.now) (ToldFault request.now) result }
+    requires { HasWorkers request.now.command }
+    ensures { Ends (workers_of request.now.command) (λ text writing. ⊤) ⊤ (Asks request.now) (ToldFault request.now) result }
 {
     let writer = match BufWriter::new(rt.alloc(), Counted::new(io::writer(rt))) {
         Ok(writer) => writer,

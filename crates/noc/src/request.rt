@@ -27,8 +27,8 @@ pub enum Report {
 pub enum Command {
     /// The latency report of a joined text, which stands in `config`; no other text is looked at.
     Joined,
-    /// A report of a run. The ranks are checked before it, if there are any.
-    Run { report: Report },
+    /// A report of a run by 1 to 16 workers. The ranks are checked before it, if there are any.
+    Run { workers: usize, report: Report },
     /// What a router found in a cycle.
     Explain { cycle: u64, router: usize },
     /// Whether the ranks rise along the routing relation. No ranks are an empty text.

@@ -1,15 +1,16 @@
 //! Running the network that is asked for.
 
-ghost use Rattle.std.specs.Prelude.{◌≡◌, ◌<◌, ◌≤◌, Some, IfErr, IfOk};
+ghost use Rattle.std.specs.Prelude.{◌≡◌, ◌<◌, ◌≤◌, Ok, Some, IfErr, IfOk};
 ghost use Rattle.noc_files.specs.Gives.{Gives};
 ghost use Rattle.noc_files.specs.Traffic.{traffic_of};
 ghost use Rattle.noc_files.specs.Writing.{Wrote};
+ghost use Rattle.noc_net.specs.declared.network.TheConstants.{CYCLE_LIMIT as cycle_limit};
 ghost use Rattle.noc.specs.Answer.{AsksFor, TextsFault};
 ghost use Rattle.noc.specs.Asked.{asked_of, lent, read_by};
-ghost use Rattle.noc.specs.Outcome.{Ends, Refuses};
+ghost use Rattle.noc.specs.Outcome.{Ends, IsWriteFault, Refuses};
 ghost use Rattle.noc.specs.Reports.{report_text};
 ghost use Rattle.noc.specs.declared.request.Report.{Report as ReportValue};
-ghost use Rattle.noc.specs.Run.{AsksForRun, IsNetworkOf, PacketsFault, report_of};
+ghost use Rattle.noc.specs.Run.{AsksForRun, IsNetworkOf, PacketsFault, ending, report_of, workers_of};
 
 use crate::accept::accept_if_given;
 use crate::fault::Fault;
@@ -19,10 +20,12 @@ use crate::status::Status;
 use noc_files::{
     InputFault, Sink, WriteFault, read_traffic, write_latency, write_stalls, write_summary,
 };
-use noc_net::Network;
+use noc_net::{CYCLE_LIMIT, Network};
 use noc_packet::Packet;
 use noc_route::Relation;
+use noc_tiles::{AllOpen, run_tiles};
 use std::alloc::Global;
+use std::sync::Wait;
 use std::thread::Threads;
 
 /// Runs the network for its cycles, and writes a report; ranks are checked before, if there are any.
@@ -34,10 +37,58 @@ pub fn run<W: Sink>(
     sink: &mut W,
 ) -> Result<Status, Fault>
     requires { report_of files.now.command ≡ Some report }
-    ensures { Ends (Wrote W.contents W.has_failed sink.old sink.new) (sink.new ≡ sink.old) (AsksFor (asked_of files.now)) (TextsFault (asked_of files.now)) result }
+    ensures { Ends (workers_of files.now.command) (Wrote W.contents W.has_failed sink.old sink.new) (sink.new ≡ sink.old) (AsksFor (asked_of files.now)) (TextsFault (asked_of files.now)) result }
 {
-    let network = run_network(rt, alloc, files)?;
-    if let Err(fault) = write_report(&network, report, sink) {
+    let (mut network, cycles) = opening_network(rt, alloc, files)?;
+    network.run(cycles);
+    report_on(&network, report, sink)
+}
+
+/// The same by two or more workers.
+pub fn run_by_workers<R: Threads + Wait + Sync, W: Sink>(
+    rt: &R,
+    alloc: Global,
+    files: &Files<'_>,
+    workers: usize,
+    report: Report,
+    sink: &mut W,
+) -> Result<Status, Fault>
+    requires report { report_of files.now.command ≡ Some report }
+    requires workers { workers_of files.now.command ≡ workers }
+    requires number { (1 < workers) × (workers ≤ 16) }
+    ensures { Ends (workers_of files.now.command) (Wrote W.contents W.has_failed sink.old sink.new) (sink.new ≡ sink.old) (AsksFor (asked_of files.now)) (TextsFault (asked_of files.now)) result }
+{
+    let (network, cycles) = opening_network(rt, alloc, files)?;
+    match run_tiles(rt, alloc, network, cycles, workers, &AllOpen) {
+        Ok(network) => report_on(&network, report, sink),
+        Err(fault) => Err(Fault::Run(fault)),
+    }
+}
+
+// The network before its first cycle, and how many cycles it is to run.
+fn opening_network(
+    rt: &(impl Threads + Sync),
+    alloc: Global,
+    files: &Files<'_>,
+) -> Result<(Network, u64), Fault>
+    requires { (report : ReportValue) × (report_of files.now.command ≡ Some report) }
+    ensures opening { IfOk result (λ r. r.0.count ≡ 0) }
+    ensures cycles { IfOk result (λ r. r.1 ≤ cycle_limit) }
+    ensures run { IfOk result (λ r. AsksForRun (asked_of files.now) (record { net = r.0.net; count = r.1 })) }
+    ensures fault { IfErr result (Refuses (TextsFault (asked_of files.now))) }
+{
+    let (config, relation) = relation_of(alloc, files)?;
+    accept_if_given(rt, alloc, files.ranks, &relation)?;
+    let network = network_of(alloc, relation, config.buffer, files.traffic)?;
+    Ok((network, config.cycles))
+}
+
+// Writes a report of a network that has run, and says how the run has ended.
+fn report_on<W: Sink>(network: &Network, report: Report, sink: &mut W) -> Result<Status, Fault>
+    ensures status { IfOk result (λ status. (status ≡ ending network.now) × Wrote W.contents W.has_failed sink.old sink.new (report_text report network.now) (Ok tt)) }
+    ensures fault { IfErr result (IsWriteFault (Wrote W.contents W.has_failed sink.old sink.new (report_text report network.now))) }
+{
+    if let Err(fault) = write_report(network, report, sink) {
         return Err(Fault::Write(fault));
     }
     if network.stuck() {
@@ -45,23 +96,6 @@ pub fn run<W: Sink>(
     } else {
         Ok(Status::Done)
     }
-}
-
-// The network after its cycles.
-fn run_network(
-    rt: &(impl Threads + Sync),
-    alloc: Global,
-    files: &Files<'_>,
-) -> Result<Network, Fault>
-    requires { (report : ReportValue) × (report_of files.now.command ≡ Some report) }
-    ensures run { IfOk result (AsksForRun (asked_of files.now)) }
-    ensures fault { IfErr result (Refuses (TextsFault (asked_of files.now))) }
-{
-    let (config, relation) = relation_of(alloc, files)?;
-    accept_if_given(rt, alloc, files.ranks, &relation)?;
-    let mut network = network_of(alloc, relation, config.buffer, files.traffic)?;
-    network.run(config.cycles);
-    Ok(network)
 }
 
 /// The network of a relation and a traffic text, before its first cycle, with `places` (1 to 16 flits) in each buffer.

@@ -102,11 +102,14 @@ fn cycle_fault(command: Command, cycles: u64) -> Option<OptionFault>
     }
 }
 
-// The fault of a router to be explained that does not exist.
+// The fault of more workers than routers, or of a router to be explained that does not exist.
 fn late_fault(command: Command, shape: &Shape) -> Option<OptionFault>
     ensures { result ≡ late_fault command shape.now }
 {
     match command {
+        Command::Run { workers, report: _ } if shape.nodes() < workers => {
+            Some(OptionFault::BadWorkers)
+        }
         Command::Explain { cycle: _, router } if shape.nodes() <= router => {
             Some(OptionFault::BadRouter)
         }

@@ -1,5 +1,7 @@
 // Worked networks, and the first fault of texts that are refused: the bytes and the status of each answer.
 
+ghost use Rattle.noc.specs.Run.{HasWorkers};
+
 use crate::answer::answer;
 use crate::fault::{Fault, status_of};
 use crate::joined;
@@ -9,6 +11,7 @@ use crate::status::Status;
 use noc_files::Out;
 use std::alloc::Global;
 use std::process::Abort;
+use std::sync::Wait;
 use std::test::Fail;
 use std::thread::Threads;
 
@@ -23,12 +26,22 @@ struct Answer {
     status: u8,
 }
 
-fn answer_to(rt: &(impl Threads + Sync), alloc: Global, text: &[u8]) -> Result<Answer, Fail> {
+fn answer_to(
+    rt: &(impl Threads + Wait + Sync),
+    alloc: Global,
+    text: &[u8],
+) -> Result<Answer, Fail> {
     let request = joined(Ok(text.to_vec(alloc)?));
     answer_of(rt, alloc, &request)
 }
 
-fn answer_of(rt: &(impl Threads + Sync), alloc: Global, request: &Request) -> Result<Answer, Fail> {
+fn answer_of(
+    rt: &(impl Threads + Wait + Sync),
+    alloc: Global,
+    request: &Request,
+) -> Result<Answer, Fail>
+    requires { HasWorkers request.now.command }
+{
     let mut report = Out::new(Vec::new(alloc));
     let mut line = Out::new(Vec::new(alloc));
     let status = match answer(rt, alloc, request, &mut report) {
@@ -63,7 +76,10 @@ struct Run {
     status: u8,
 }
 
-fn check_run(rt: &(impl Threads + Sync + AllocGlobal + Abort), run: &Run) -> Result<(), Fail> {
+fn check_run(
+    rt: &(impl Threads + Wait + Sync + AllocGlobal + Abort),
+    run: &Run,
+) -> Result<(), Fail> {
     let alloc = rt.alloc();
     let [channels, buffer, classes] = run.numbers;
     let kind = run.kind;
@@ -217,7 +233,7 @@ struct Refusal {
 }
 
 fn check_refusal(
-    rt: &(impl Threads + Sync + AllocGlobal + Abort),
+    rt: &(impl Threads + Wait + Sync + AllocGlobal + Abort),
     refusal: &Refusal,
 ) -> Result<(), Fail> {
     let alloc = rt.alloc();

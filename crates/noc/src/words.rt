@@ -1,5 +1,8 @@
 //! The words of the command line.
 
+ghost use Rattle.std.specs.Prelude.{◌≡◌, ◌<◌, ◌≤◌, IfOk, IfSome};
+ghost use Rattle.noc.specs.Run.{HasWorkers};
+
 use crate::request::{Command, Report};
 use clap::error::ErrorKind;
 use clap::{Arg, ArgMatches, Error, value_parser};
@@ -41,7 +44,7 @@ Exit status:
   3  a text, a shape, an option or a packet is refused
   4  a relation or ranks are refused
   5  the network is stuck
-  6  memory was refused
+  6  memory or a worker was refused
   7  the report could not be written";
 
 const AFTER_RUN_HELP: &str = "Reports:
@@ -54,15 +57,24 @@ Example: noc run mesh.toml traffic.csv --report stalls
 The status is 5 where the network is stuck at the end of the run.";
 
 /// The words behind the program's name, which is the first word, or clap's text on why they make no sense.
-pub fn read_words<'a>(alloc: Global, words: &'a [String]) -> Result<Words<'a>, Error> {
+pub fn read_words<'a>(alloc: Global, words: &'a [String]) -> Result<Words<'a>, Error>
+    ensures { IfOk result (λ words. HasWorkers words.command) }
+{
     let matches = program(alloc)?.try_get_matches_from(words)?;
     match matches.subcommand() {
-        Some(("run", of)) => Ok(words_of(
-            of,
-            Command::Run {
-                report: report_of(of),
-            },
-        )),
+        Some(("run", of)) => match workers_of(of) {
+            Some(workers) => Ok(words_of(
+                of,
+                Command::Run {
+                    workers,
+                    report: report_of(of),
+                },
+            )),
+            None => Err(program(alloc)?.error(
+                ErrorKind::ValueValidation,
+                "--workers is a number from 1 to 16",
+            )?),
+        },
         Some(("explain", of)) => Ok(words_of(of, explain_of(of))),
         Some(("check", of)) => Ok(words_of(of, Command::Check)),
         Some((_, of)) => Ok(words_of(of, Command::Ranks)),
@@ -71,7 +83,9 @@ pub fn read_words<'a>(alloc: Global, words: &'a [String]) -> Result<Words<'a>, E
 }
 
 // The files of a command.
-fn words_of<'a>(matches: &ArgMatches<'a>, command: Command) -> Words<'a> {
+fn words_of<'a>(matches: &ArgMatches<'a>, command: Command) -> Words<'a>
+    ensures { result.command ≡ command }
+{
     Words {
         command,
         config: matches.get_str("CONFIG").unwrap_or(""),
@@ -79,6 +93,14 @@ fn words_of<'a>(matches: &ArgMatches<'a>, command: Command) -> Words<'a> {
         ranks: matches.get_str("ranks"),
         traffic: matches.get_str("TRAFFIC"),
     }
+}
+
+// The workers of a run, if they are 1 to 16.
+fn workers_of(matches: &ArgMatches<'_>) -> Option<usize>
+    ensures { IfSome result (λ workers. (0 < workers) × (workers ≤ 16)) }
+{
+    let workers = matches.get_one::<usize>("workers").unwrap_or(1);
+    (1 <= workers && workers <= 16).then_some(workers)
 }
 
 // The report of a run.
@@ -91,7 +113,9 @@ fn report_of(matches: &ArgMatches<'_>) -> Report {
 }
 
 // The cycle and the router that are to be explained.
-fn explain_of(matches: &ArgMatches<'_>) -> Command {
+fn explain_of(matches: &ArgMatches<'_>) -> Command
+    ensures { HasWorkers result }
+{
     Command::Explain {
         cycle: matches.get_one::<u64>("cycle").unwrap_or(0),
         router: matches.get_one::<usize>("router").unwrap_or(0),
@@ -118,6 +142,7 @@ fn run_words<'a>(alloc: Global) -> Result<clap::Command<'a>, AllocError> {
         .arg(traffic_word(alloc))?
         .arg(table_word(alloc))?
         .arg(ranks_word(alloc).help("Check these ranks before the run"))?
+        .arg(workers_word(alloc))?
         .arg(report_word(alloc))
 }
 
@@ -185,6 +210,15 @@ fn report_word<'a>(alloc: Global) -> Arg<'a> {
         .value_parser(["summary", "latency", "stalls"].as_slice())
         .default_value("latency")
         .help("What to write of the run, see below")
+}
+
+fn workers_word<'a>(alloc: Global) -> Arg<'a> {
+    Arg::new(alloc, "workers")
+        .long("workers")
+        .value_name("N")
+        .value_parser(value_parser!(usize))
+        .default_value("1")
+        .help("How many threads run the routers: 1 to 16, and at most one for each router")
 }
 
 fn cycle_word<'a>(alloc: Global) -> Arg<'a> {

@@ -13,7 +13,7 @@ mod wire;
 
 pub use event_core::Core;
 pub use fault::NetFault;
-pub use network::Network;
+pub use network::{Network, advance, decide, deliver};
 pub use noc_model::{CYCLE_LIMIT, Event, NotReady};
 pub use parts::Parts;
-pub use room::Room;
+pub use room::{LINKS, Room};

@@ -397,8 +397,8 @@ fn advance_all(
     }
 }
 
-// One router takes the beats that came to it, injects, decides and commits, and leaves its findings as they were.
-fn advance(
+/// One router takes the beats that came to it, injects, decides and commits, and leaves its findings as they were.
+pub fn advance(
     relation: &Relation,
     plan: &mut Plan,
     cycle: u64,
@@ -437,8 +437,8 @@ fn decide_all(
     }
 }
 
-// One router takes the beats that came to it, injects, decides and commits.
-fn decide(
+/// One router takes the beats that came to it, injects, decides and commits.
+pub fn decide(
     relation: &Relation,
     plan: &mut Plan,
     cycle: u64,
@@ -518,8 +518,8 @@ fn deliver_all(relation: &Relation, routers: &mut [Router], beats: &mut [[Beat; 
     }
 }
 
-// One router puts its beats on the wires that leave it, all of which are idle.
-fn deliver(relation: &Relation, router: &mut Router, beats: &mut [[Beat; LINKS]])
+/// One router puts its beats on the wires that leave it, all of which are idle.
+pub fn deliver(relation: &Relation, router: &mut Router, beats: &mut [[Beat; LINKS]])
     requires router { IsPlaced relation.now router.old.site.node router.old }
     requires node { router.old.site.node < nodes_of relation.now.grid }
     requires count { length beats.old ≡ nodes_of relation.now.grid }

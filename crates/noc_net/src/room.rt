@@ -13,7 +13,7 @@ use noc_packet::Beat;
 use noc_router::Router;
 
 /// The greatest number of link ports of a router.
-pub(crate) const LINKS: usize = 6;
+pub const LINKS: usize = 6;
 
 /// The storage of a core for one router: the wires that arrive there, and what the router has done of its cycle.
 #[derive(Clone, Copy)]

@@ -23,6 +23,7 @@ fn request(alloc: Global, config: &str, traffic: &str, command: Command) -> Resu
 fn a_ring_is_stuck_from_its_fifth_cycle_on(rt: HostRuntime) -> Result<(), Fail> {
     let alloc = rt.alloc();
     let command = Command::Run {
+        workers: 1,
         report: Report::Latency,
     };
     for cycles in 1..=20u64 {
@@ -41,6 +42,7 @@ fn a_ring_is_stuck_from_its_fifth_cycle_on(rt: HostRuntime) -> Result<(), Fail> 
 fn a_ring_with_a_dateline_is_never_stuck(rt: HostRuntime) -> Result<(), Fail> {
     let alloc = rt.alloc();
     let command = Command::Run {
+        workers: 1,
         report: Report::Latency,
     };
     for cycles in 1..=60u64 {

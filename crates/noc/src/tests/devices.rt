@@ -61,6 +61,7 @@ fn two_packets_on_a_line(alloc: Global) -> Result<Request, Fail> {
         ranks: None,
         traffic: Ok(traffic.to_vec(alloc)?),
         command: Command::Run {
+            workers: 1,
             report: Report::Stalls,
         },
     })

@@ -1,13 +1,21 @@
-use Rattle.std.proofs.Common.{◌≡◌}
+use Rattle.std.proofs.Common.{◌≡◌, ap, sym, subst}
 use Rattle.noc_files.specs.Writing.{Wrote}
 use Rattle.noc.specs.Answer.{Asks, AsksFor, FirstFault, TextsFault, in_texts}
-use Rattle.noc.specs.Asked.{asked_of}
+use Rattle.noc.specs.Asked.{Asked, ReadsAs, as_files, asked_of, files_of, is_joined}
+use Rattle.noc.specs.Outcome.{Ends}
+use Rattle.noc.specs.Run.{workers_of}
+use Rattle.noc.specs.declared.request.Command.{Command}
 use Rattle.noc.proofs.OutcomeFacts.{ends_more}
 use Rattle.noc.proofs.answer.answer.Goals as goal
 
-pub returns : goal.returns
-returns g c =
-    let a = asked_of c.in_ok-files.files in
-    ends_more (Wrote g.W.Sink.contents g.W.Sink.has_failed c.args.sink.now c.answer_files.new.sink) (c.answer_files.new.sink ≡ c.args.sink.now) (AsksFor a) (TextsFault a)
-    (Asks c.args.request.now) (FirstFault c.args.request.now) c.answer_files.result
-    (λ text status asks. (a, c.in_ok-files.ensures.files, asks)) (λ f first. in_texts c.in_ok-files.ensures.files first) c.answer_files.ensures
+pub returns-in-Run : goal.returns-in-Run
+returns-in-Run g c =
+    let r = c.args.request.now in
+    let a = asked_of c.files_of.result in
+    let same : a ≡ files_of r = c.files_of.ensures in
+    let command : a.command ≡ r.command = ap (λ (z : Asked). z.command) same in
+    let reads : ReadsAs r a = subst (ReadsAs r) (sym same) (as_files (ap is_joined c.in-Run.is)) in
+    let written = Wrote g.W.Sink.contents g.W.Sink.has_failed c.args.sink.now c.run_by_workers.new.sink in
+    let E : Command → Type 0 = λ x. Ends (workers_of x) written (c.run_by_workers.new.sink ≡ c.args.sink.now) (AsksFor a) (TextsFault a) c.run_by_workers.result in
+    ends_more (workers_of r.command) written (c.run_by_workers.new.sink ≡ c.args.sink.now) (AsksFor a) (TextsFault a) (Asks r) (FirstFault r) c.run_by_workers.result
+    (λ text status asks. (a, reads, asks)) (λ f first. in_texts reads first) (subst E command c.run_by_workers.ensures)

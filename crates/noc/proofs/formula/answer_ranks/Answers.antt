@@ -6,6 +6,7 @@ use Rattle.noc_files.specs.Writing.{Wrote}
 use Rattle.noc.specs.Answer.{AsksFor, TextsFault, in_formula, in_settings, ranks}
 use Rattle.noc.specs.Asked.{asked_of}
 use Rattle.noc.specs.Formula.{HasRanks, IsFormulaFault}
+use Rattle.noc.specs.Run.{workers_of}
 use Rattle.noc.specs.Settings.{SettingsFault}
 use Rattle.noc.specs.declared.status.Status.TheVariants.{Done}
 use Rattle.noc.proofs.OutcomeFacts.{ends_refused, refuses_more}
@@ -15,7 +16,7 @@ pub returns-in_err-config : goal.returns-in_err-config
 returns-in_err-config g c =
     let a = asked_of c.args.files.now in
     let p = err_from_is_err_and c.from_residual.result c.from_residual.ensures.1 in
-    rw (p.1, p.2) (ends_refused (Wrote g.W.Sink.contents g.W.Sink.has_failed c.args.sink.now c.args.sink.now) (c.args.sink.now ≡ c.args.sink.now) (AsksFor a) (TextsFault a) _ refl
+    rw (p.1, p.2) (ends_refused (workers_of c.args.files.now.command) (Wrote g.W.Sink.contents g.W.Sink.has_failed c.args.sink.now c.args.sink.now) (c.args.sink.now ≡ c.args.sink.now) (AsksFor a) (TextsFault a) _ refl
     (refuses_more (SettingsFault a) (TextsFault a) _ (λ first. in_settings first) c.in_err-config.ensures.fault))
 
 pub returns-in-Err : goal.returns-in-Err

@@ -1,24 +1,17 @@
-use Rattle.std.proofs.Common.{◌∙◌, subst, sym}
-use Rattle.noc.specs.Answer.{AsksFor, a_report}
+use Rattle.std.proofs.Common.{◌≡◌}
+use Rattle.noc_files.specs.Writing.{Wrote}
+use Rattle.noc.specs.Answer.{AsksFor, TextsFault, a_report}
 use Rattle.noc.specs.Asked.{asked_of}
 use Rattle.noc.specs.Reports.{report_text}
-use Rattle.noc.specs.Run.{ending}
-use Rattle.noc.proofs.OutcomeFacts.{ends_done, ends_stuck}
+use Rattle.noc.specs.Run.{AsksForRun, ending, workers_of}
+use Rattle.noc.proofs.OutcomeFacts.{ends_reported}
+use Rattle.noc.proofs.RequestFacts.{ran}
 use Rattle.noc.proofs.run.run.Goals as goal
-
-pub returns-in-Err : goal.returns-in-Err
-returns-in-Err g c =
-    let run = c.in_ok-network.network in
-    (report_text c.args.report run, ending run, a_report c.requires c.in_ok-network.ensures.run, c.in-Err.ensures)
-
-pub returns-then-stuck : goal.returns-then-stuck
-returns-then-stuck g c =
-    let run = c.in_ok-network.network in
-    let text = report_text c.args.report run in
-    (text, subst (AsksFor (asked_of c.args.files.now) text) (ends_stuck _ (sym c.stuck.ensures ∙ c.if-stuck.true)) (a_report c.requires c.in_ok-network.ensures.run), c.in_default.ensures)
 
 pub returns : goal.returns
 returns g c =
-    let run = c.in_ok-network.network in
-    let text = report_text c.args.report run in
-    (text, subst (AsksFor (asked_of c.args.files.now) text) (ends_done _ (sym c.stuck.ensures ∙ c.if-stuck.false)) (a_report c.requires c.in_ok-network.ensures.run), c.in_default.ensures)
+    let a = asked_of c.args.files.now in
+    let net = c.run.new.self in
+    let asks : AsksForRun a net = ran a c.in_ok-network.network net c.in_ok-network.cycles c.in_ok-network.ensures.opening c.in_ok-network.ensures.run c.run.ensures in
+    ends_reported (workers_of c.args.files.now.command) (Wrote g.W.Sink.contents g.W.Sink.has_failed c.args.sink.now c.report_on.new.sink) (c.report_on.new.sink ≡ c.args.sink.now) (AsksFor a) (TextsFault a)
+    (report_text c.args.report net) (ending net) c.report_on.result (a_report c.requires asks) c.report_on.ensures.status c.report_on.ensures.fault

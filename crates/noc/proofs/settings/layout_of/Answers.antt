@@ -1,5 +1,5 @@
 use Rattle.std.proofs.Common.{refl, sym}
-use Rattle.noc.specs.Settings.{bad_config, bad_option, bad_router, bad_shape}
+use Rattle.noc.specs.Settings.{bad_config, bad_option, bad_late_option, bad_shape}
 use Rattle.noc.proofs.AskedFacts.{is_some-lent}
 use Rattle.noc.proofs.settings.layout_of.Goals as goal
 
@@ -19,6 +19,6 @@ returns-in-Err-new-clause-fault c = (
 pub returns-in-Some-late_fault-clause-fault : goal.returns-in-Some-late_fault-clause-fault
 returns-in-Some-late_fault-clause-fault c = (
   refl,
-  bad_router (record { configuration = c.in-Ok.ensures.value; options = rw (is_some-lent c.args.files.now.table, ← c.is_some.ensures) (sym c.in_default.ensures) })
+  bad_late_option (record { configuration = c.in-Ok.ensures.value; options = rw (is_some-lent c.args.files.now.table, ← c.is_some.ensures) (sym c.in_default.ensures) })
       (rw (← c.as_slice.ensures.value) (sym c.in-Ok-new.ensures.value)) (sym c.in-Some-late_fault.ensures),
 )

@@ -8,8 +8,8 @@ use Rattle.noc.specs.Check.{Accepts, AsksForChecked, RanksFault}
 use Rattle.noc.specs.Run.{PacketsFault}
 use Rattle.noc.specs.Settings.{SettingsFault}
 use Rattle.noc.proofs.OutcomeFacts.{refuses_more}
-use Rattle.noc.proofs.RequestFacts.{checked-report, in_checked_ranks, runs-report}
-use Rattle.noc.proofs.run.run_network.Goals as goal
+use Rattle.noc.proofs.RequestFacts.{checked-report, cycles-report, in_checked_ranks, runs-report}
+use Rattle.noc.proofs.run.opening_network.Goals as goal
 
 pub returns-in_err-config-clause-fault : goal.returns-in_err-config-clause-fault
 returns-in_err-config-clause-fault g c =
@@ -36,3 +36,18 @@ returns-in_err-network-clause-fault g c =
     } in
     rw (p.1, p.2) (refuses_more (PacketsFault c.in_ok-config.relation a.traffic) (TextsFault a) _
     (λ first. in_packets (runs-report _ _ c.requires.1) checked first) c.in_err-network.ensures.fault)
+
+pub returns-clause-run : goal.returns-clause-run
+returns-clause-run g c =
+    let a = asked_of c.args.files.now in
+    let ranks = option_map lent c.args.files.now.ranks in
+    record {
+      settings = settings c.in_ok-config.config;
+      routes = c.in_ok-config.relation;
+      before = record {
+        relation = c.in_ok-config.ensures.relation;
+        accepted = subst (λ t. IfSome t (Accepts c.in_ok-config.relation)) (sym (checked-report _ _ ranks c.requires.1)) c.in_ok-accept_if_given.ensures.accepted;
+      };
+      network = c.in_ok-network.ensures.network;
+      cycles = cycles-report a.command c.requires.0 (settings c.in_ok-config.config) c.requires.1;
+    }

@@ -1,0 +1,98 @@
+use Rattle.std.proofs.Common.{◌≡◌, ◌≢◌, ◌⊎◌, inl, inr, ℕ, ◌+◌, ◌<◌, ◌≤◌, List, [], map, length, get_or, set, vec_len, Some, refl, ap, sym, ◌∙◌, subst, arith, rules}
+use Rattle.std.proofs.lemmas.List.{length-map, length-set}
+use Rattle.noc_packet.specs.declared.packet.Beat.{Beat}
+use Rattle.noc_net.proofs.WireLemmas.{rows_kept}
+use Rattle.noc_tiles.specs.Ends.{End, outlet}
+use Rattle.noc_tiles.specs.TileStep.{places}
+use Rattle.noc_tiles.specs.declared.wires.Outlet.{Outlet}
+use Rattle.noc_tiles.proofs.ClearLemmas.{place-of, Cleared, cleared-more}
+use Rattle.noc_tiles.proofs.phases.clear_all.Goals as goal
+
+pub loop-k-init : goal.loop-k-init
+loop-k-init c = record {
+  size = refl;
+  rows = λ i l. search rules;
+  beats = λ r q. inr (λ o l. absurd (omega arith), refl);
+}
+
+pub bounds-beats-end : goal.bounds-beats-end
+bounds-beats-end c =
+    let k = c.loop-k.k in
+    let end = c.index-end.result.now in
+    let os = c.args.ends.now.items in
+    let l : k < length os = search (rules, arith) in
+    let l' : k < length (places (map outlet os)) = rw (length-map, length-map) l in
+    let at : get_or (places (map outlet os)) k (0, 0) ≡ (end.router, end.port) = place-of outlet os k end (0, 0) l ∙ ap (λ (o : Outlet). (outlet o).at) (sym c.index-end.ensures) in
+    let w = c.requires k l' in
+    let r_in : end.router < length c.args.beats.now = let e = ap (λ (z : ℕ × ℕ). z.0) at in omega (arith, w.0, e) in
+    let p_in : end.port < 6 = let e = ap (λ (z : ℕ × ℕ). z.1) at in omega (arith, w.1, e) in
+    omega (arith, r_in, c.loop-k.invariant.size)
+
+pub offset_bounds-beats-end : goal.offset_bounds-beats-end
+offset_bounds-beats-end c =
+    let k = c.loop-k.k in
+    let end = c.index-end.result.now in
+    let os = c.args.ends.now.items in
+    let l : k < length os = search (rules, arith) in
+    let l' : k < length (places (map outlet os)) = rw (length-map, length-map) l in
+    let at : get_or (places (map outlet os)) k (0, 0) ≡ (end.router, end.port) = place-of outlet os k end (0, 0) l ∙ ap (λ (o : Outlet). (outlet o).at) (sym c.index-end.ensures) in
+    let w = c.requires k l' in
+    let r_in : end.router < length c.args.beats.now = let e = ap (λ (z : ℕ × ℕ). z.0) at in omega (arith, w.0, e) in
+    let p_in : end.port < 6 = let e = ap (λ (z : ℕ × ℕ). z.1) at in omega (arith, w.1, e) in
+    let b : end.router < length c.loop-k.beats = omega (arith, r_in, c.loop-k.invariant.size) in
+    search (rules, arith)
+
+pub bounds-beats-end-in-loop-k : goal.bounds-beats-end-in-loop-k
+bounds-beats-end-in-loop-k c =
+    let k = c.loop-k.k in
+    let end = c.index-end.result.now in
+    let os = c.args.ends.now.items in
+    let l : k < length os = search (rules, arith) in
+    let l' : k < length (places (map outlet os)) = rw (length-map, length-map) l in
+    let at : get_or (places (map outlet os)) k (0, 0) ≡ (end.router, end.port) = place-of outlet os k end (0, 0) l ∙ ap (λ (o : Outlet). (outlet o).at) (sym c.index-end.ensures) in
+    let w = c.requires k l' in
+    let r_in : end.router < length c.args.beats.now = let e = ap (λ (z : ℕ × ℕ). z.0) at in omega (arith, w.0, e) in
+    let p_in : end.port < 6 = let e = ap (λ (z : ℕ × ℕ). z.1) at in omega (arith, w.1, e) in
+    p_in
+
+pub offset_bounds-beats-end-in-loop-k : goal.offset_bounds-beats-end-in-loop-k
+offset_bounds-beats-end-in-loop-k c =
+    let k = c.loop-k.k in
+    let end = c.index-end.result.now in
+    let os = c.args.ends.now.items in
+    let l : k < length os = search (rules, arith) in
+    let l' : k < length (places (map outlet os)) = rw (length-map, length-map) l in
+    let at : get_or (places (map outlet os)) k (0, 0) ≡ (end.router, end.port) = place-of outlet os k end (0, 0) l ∙ ap (λ (o : Outlet). (outlet o).at) (sym c.index-end.ensures) in
+    let w = c.requires k l' in
+    let r_in : end.router < length c.args.beats.now = let e = ap (λ (z : ℕ × ℕ). z.0) at in omega (arith, w.0, e) in
+    let p_in : end.port < 6 = let e = ap (λ (z : ℕ × ℕ). z.1) at in omega (arith, w.1, e) in
+    search (rules, arith)
+
+pub loop-k-preserved : goal.loop-k-preserved
+loop-k-preserved c =
+    let k = c.loop-k.k in
+    let end = c.index-end.result.now in
+    let os = c.args.ends.now.items in
+    let l : k < length os = search (rules, arith) in
+    let l' : k < length (places (map outlet os)) = rw (length-map, length-map) l in
+    let at : get_or (places (map outlet os)) k (0, 0) ≡ (end.router, end.port) = place-of outlet os k end (0, 0) l ∙ ap (λ (o : Outlet). (outlet o).at) (sym c.index-end.ensures) in
+    let w = c.requires k l' in
+    let r_in : end.router < length c.args.beats.now = let e = ap (λ (z : ℕ × ℕ). z.0) at in omega (arith, w.0, e) in
+    let p_in : end.port < 6 = let e = ap (λ (z : ℕ × ℕ). z.1) at in omega (arith, w.1, e) in
+    let bs = c.loop-k.beats in
+    let v = c.loop-k.invariant in
+    let b : end.router < length bs = omega (arith, r_in, v.size) in
+    let long : end.port < length (get_or bs end.router []) = omega (arith, p_in, v.rows end.router b) in
+    record {
+      size = length-set bs end.router (set (get_or bs end.router []) end.port c.idle.result) ∙ v.size;
+      rows = rows_kept bs (Some (end.router, end.port)) c.idle.result v.rows;
+      beats = λ r q. cleared-more (places (map outlet os)) c.args.beats.now bs k end.router end.port c.idle.result c.idle.ensures at b long r q (v.beats r q);
+    }
+
+pub returns-clause-beats : goal.returns-clause-beats
+returns-clause-beats c =
+    let ps = places (map outlet c.args.ends.now.items) in
+    let end : c.loop-k.k ≡ length ps =
+    let q : c.loop-k.k ≡ length c.args.ends.now.items = search (rules, arith) in
+    q ∙ sym (length-map (map outlet c.args.ends.now.items) (λ (w : End). w.at) ∙ length-map c.args.ends.now.items outlet) in
+    λ r q. subst (λ k. Cleared ps c.args.beats.now c.loop-k.beats k r q) end (c.loop-k.invariant.beats r q)

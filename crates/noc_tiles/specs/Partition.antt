@@ -1,0 +1,95 @@
+-- All tiles of a network, and the network again.
+use Rattle.std.specs.Prelude.{ℕ, true, false, ◌≡◌, ◌⊎◌, ◌+◌, ◌*◌, ◌<◌, ◌≤◌, List, [], ◌∷◌, take, drop, map, length, get_or, Option, Some, None, vec_len}
+use Rattle.std.specs.List.{All, flat_map}
+use Rattle.noc_topo.specs.Shape.{IsGrid, nodes, ports, neighbour}
+use Rattle.noc_packet.specs.declared.packet.Beat.{Beat}
+use Rattle.noc_router.specs.Decided.{IsDecidedFor}
+use Rattle.noc_router.specs.View.{View}
+use Rattle.noc_net.specs.Faults.{IsSound}
+use Rattle.noc_net.specs.Halves.{beat_at}
+use Rattle.noc_net.specs.Lockstep.{lockstep_at}
+use Rattle.noc_net.specs.Network.{Setup}
+use Rattle.noc_tiles.specs.Ends.{End, inlet, outlet}
+use Rattle.noc_tiles.specs.TileStep.{places, is_from, is_inside}
+use Rattle.noc_tiles.specs.Rings.{AreLeftOut, AreSlots}
+use Rattle.noc_tiles.specs.Tiles.{CanRun, inlets, outlets}
+use Rattle.noc_tiles.specs.declared.frame.Frame.{Frame}
+use Rattle.noc_tiles.specs.declared.frame.Gathered.{Gathered}
+use Rattle.noc_tiles.specs.declared.tile.Tile.{Tile}
+use Rattle.noc_tiles.specs.declared.tile.Outcome.TheVariants.{Whole}
+
+abbrev pub setup_of : Frame → Setup
+setup_of f = record { relation = f.relation; places = f.buffer; packets = f.packets.items }
+
+-- what a network keeps while its tiles run
+pub record IsFrame (f : Frame) : Type 0 where
+  pub plan : IsDecidedFor (ports f.relation.grid) f.relation.vcs f.plan
+  pub room : vec_len f.room ≡ nodes f.relation.grid
+  pub packets : All (IsSound f.relation) f.packets.items
+  pub few_packets : vec_len f.packets ≤ 20000
+
+abbrev pub routers_of : Tile → List View
+routers_of t = t.routers.items
+
+-- the rows of the tile's own routers
+abbrev pub rows_of : Tile → List (List Beat)
+rows_of t = take (length t.routers.items) (drop t.first t.beats.items)
+
+-- the routers and the wires of all tiles, one tile after another
+pub record IsGathered (g : Gathered) (ts : List Tile) : Type 0 where
+  pub routers : g.routers.items ≡ flat_map routers_of ts
+  pub beats : g.beats.items ≡ flat_map rows_of ts
+  pub ins : map inlet g.ins.items ≡ flat_map inlets ts
+  pub outs : map outlet g.outs.items ≡ flat_map outlets ts
+
+-- every tile has made its cycles
+abbrev pub AllWhole : List Tile → Type 0
+AllWhole ts = (t : ℕ) (d : Tile) → t < length ts → (get_or ts t d).outcome ≡ Whole
+
+-- a place by one number
+abbrev pub index_of : ℕ × ℕ → ℕ
+index_of p = p.0 * 6 + p.1
+
+-- the two ends of a fresh ring, with the beat in flight in it
+pub record IsWire (net : Setup) (n : ℕ) (i o : End) : Type 0 where
+  pub ring : o.ring ≡ i.ring
+  pub fresh : i.past ≡ []
+  pub beat : o.past ≡ beat_at (lockstep_at net n).wires i.at.0 i.at.1 ∷ []
+
+-- the ends that stand for one place are those of one ring
+abbrev pub AreWires : Setup → ℕ → List (Option End) → List (Option End) → Type 0
+AreWires net n I O = (k : ℕ) (i o : End) → get_or I k None ≡ Some i → get_or O k None ≡ Some o → IsWire net n i o
+
+-- a tile of the network at count n, to run k cycles, with ends from I and O
+pub record IsTile (net : Setup) (n k : ℕ) (I O : List (Option End)) (t : Tile) : Type 0 where
+  pub can : CanRun net.relation t
+  pub start : t.start ≡ n
+  pub cycles : t.cycles ≡ k
+  pub wires : (c q : ℕ) → c < length t.routers.items → is_inside t.first (length t.routers.items) (neighbour net.relation.grid (t.first + c) q) ≡ true
+      → beat_at t.beats.items (t.first + c) q ≡ beat_at (lockstep_at net n).wires (t.first + c) q
+  pub covers : (c q : ℕ) → c < length t.routers.items → is_inside t.first (length t.routers.items) (neighbour net.relation.grid (t.first + c) q) ≡ true
+      ⊎ ((j : ℕ) × (j < length (places (inlets t))) × (get_or (places (inlets t)) j (0, 0) ≡ (t.first + c, q)))
+  pub crossing : (j : ℕ) → j < length (places (inlets t))
+      → is_inside t.first (length t.routers.items) (neighbour net.relation.grid (get_or (places (inlets t)) j (0, 0)).0 (get_or (places (inlets t)) j (0, 0)).1) ≡ false
+  pub from : (o : ℕ) → o < length (places (outlets t))
+      → is_from t.first (length t.routers.items) (neighbour net.relation.grid (get_or (places (outlets t)) o (0, 0)).0 (get_or (places (outlets t)) o (0, 0)).1) ≡ true
+  pub ins : (j : ℕ) (e : End) → j < length (inlets t) → get_or I (index_of (get_or (inlets t) j e).at) None ≡ Some (get_or (inlets t) j e)
+  pub outs : (o : ℕ) (e : End) → o < length (outlets t) → get_or O (index_of (get_or (outlets t) o e).at) None ≡ Some (get_or (outlets t) o e)
+
+-- tiles that are cut from the network at count n, to run k cycles, with a ring on each wire between two of them
+pub record IsPartition (net : Setup) (n k : ℕ) (I O : List (Option End)) (ts : List Tile) : Type 0 where
+  pub grid : IsGrid net.relation.grid
+  pub tiles : (t : ℕ) (d : Tile) → t < length ts → IsTile net n k I O (get_or ts t d)
+  pub firsts : (t : ℕ) (d : Tile) → t < length ts → (get_or ts t d).first ≡ length (flat_map routers_of (take t ts))
+  pub views : flat_map routers_of ts ≡ (lockstep_at net n).views
+  pub rings : AreWires net n I O
+
+-- the ends of the rings of the routers from `first` on are still in their slots: I0 and O0 are the slots when all were there
+pub record AreUnassigned (net : Setup) (workers first : ℕ) (B : List (List Beat)) (I0 O0 I O : List (Option End)) : Type 0 where
+  pub slots : AreSlots net.relation.grid workers B (nodes net.relation.grid * 6) I0 O0
+  pub left_in : (m : ℕ) → first * 6 ≤ m → get_or I m None ≡ get_or I0 m None
+  pub left_out : AreLeftOut net.relation.grid (first * 6) O0 O
+
+-- the beats are those in flight
+abbrev pub InFlight : Setup → ℕ → List (List Beat) → Type 0
+InFlight net n B = (r q : ℕ) → beat_at B r q ≡ beat_at (lockstep_at net n).wires r q

@@ -1,0 +1,68 @@
+-- The ends of the rings, before the tiles have them.
+use Rattle.std.specs.Prelude.{ℕ, true, false, ◌≡◌, ◌⊎◌, ◌+◌, ◌*◌, ◌/◌, ◌%◌, ◌<◌, ◌≤◌, List, [], ◌∷◌, map, length, get_or, Option, Some, None, option_map, is_some, slice_set}
+use Rattle.noc_topo.specs.Shape.{Grid, nodes, neighbour}
+use Rattle.noc_packet.specs.declared.packet.Beat.{Beat}
+use Rattle.noc_net.specs.Halves.{beat_at}
+use Rattle.noc_tiles.specs.Ends.{End, inlet, outlet}
+use Rattle.noc_tiles.specs.Starts.{AreApart}
+use Rattle.noc_tiles.specs.TileStep.{is_own, is_from, is_inside}
+use Rattle.noc_tiles.specs.declared.wires.Inlet.{Inlet}
+use Rattle.noc_tiles.specs.declared.wires.Outlet.{Outlet}
+
+abbrev pub in_slots : List (Option Inlet) → List (Option End)
+in_slots slots = map (λ (s : Option Inlet). option_map inlet s) slots
+
+abbrev pub out_slots : List (Option Outlet) → List (Option End)
+out_slots slots = map (λ (s : Option Outlet). option_map outlet s) slots
+
+-- the two ends of a fresh ring on the wire that arrives at this place, with its beat, where it comes from another tile
+pub record IsSlot (grid : Grid) (workers r q : ℕ) (beat : Beat) (i o : Option End) : Type 0 where
+  pub ins : (e : End) → i ≡ Some e → (e.at ≡ (r, q)) × (e.past ≡ [])
+  pub outs : (e : End) → o ≡ Some e → (e.at ≡ (r, q)) × (e.past ≡ beat ∷ [])
+  pub both : (a b : End) → i ≡ Some a → o ≡ Some b → b.ring ≡ a.ring
+  pub apart : (from : ℕ × ℕ) → neighbour grid r q ≡ Some from → AreApart (nodes grid) workers r from.0 → (is_some i ≡ true) × (is_some o ≡ true)
+
+-- .. for each place, the place (r, q) at r * 6 + q
+pub record AreSlots (grid : Grid) (workers : ℕ) (wires : List (List Beat)) (count : ℕ) (I O : List (Option End)) : Type 0 where
+  pub ins : length I ≡ count
+  pub outs : length O ≡ count
+  pub each : (k : ℕ) → k < count → IsSlot grid workers (k / 6) (k % 6) (beat_at wires (k / 6) (k % 6)) (get_or I k None) (get_or O k None)
+
+-- the slots without what stands at this place
+abbrev pub without : {X : Type 0} → Option ℕ → List (Option X) → List (Option X)
+without None slots = slots
+without (Some k) slots = slice_set slots k None
+
+-- the element of an option
+abbrev pub one_of : {X : Type 0} → Option X → List X
+one_of None = []
+one_of (Some x) = x ∷ []
+
+-- .. which is this
+abbrev pub held : {X : Type 0} → Option ℕ → List (Option X) → List X
+held None slots = []
+held (Some k) slots = one_of (get_or slots k None)
+
+-- port k goes to the place with this number, at none of these routers
+pub record LeadsTo (grid : Grid) (first count k at : ℕ) : Type 0 where
+  pub r : ℕ
+  pub q : ℕ
+  pub to : neighbour grid (k / 6) (k % 6) ≡ Some (r, q)
+  pub node : r < nodes grid
+  pub port : q < 6
+  pub other : is_own first count r ≡ false
+  pub is : at ≡ r * 6 + q
+
+-- the ends in `ends` were taken from the slots before k, of the wires that come to these routers from others
+pub record AreTakenIn (grid : Grid) (first count k : ℕ) (I : List (Option End)) (ends : List End) : Type 0 where
+  pub each : (j : ℕ) (e : End) → j < length ends → (m : ℕ) × (first * 6 ≤ m) × (m < k) × (is_inside first count (neighbour grid (m / 6) (m % 6)) ≡ false) × (get_or I m None ≡ Some (get_or ends j e))
+  pub covers : (m : ℕ) → first * 6 ≤ m → m < k → (is_inside first count (neighbour grid (m / 6) (m % 6)) ≡ true) ⊎ ((j : ℕ) × (j < length ends) × ((e : End) → get_or I m None ≡ Some (get_or ends j e)))
+
+-- .. of the wires that go from these routers, by port k, to others
+pub record AreTakenOut (grid : Grid) (first count k : ℕ) (O : List (Option End)) (ends : List End) : Type 0 where
+  pub each : (o : ℕ) (e : End) → o < length ends → (r : ℕ) × (q : ℕ) × (r < nodes grid) × (q < 6) × (is_own first count r ≡ false) × (is_from first count (neighbour grid r q) ≡ true) × (get_or O (r * 6 + q) None ≡ Some (get_or ends o e))
+  pub covers : (m r q : ℕ) → first * 6 ≤ m → m < k → neighbour grid (m / 6) (m % 6) ≡ Some (r, q) → is_own first count r ≡ false → (o : ℕ) × (o < length ends) × ((e : End) → get_or O (r * 6 + q) None ≡ Some (get_or ends o e))
+
+-- what goes out by port p of router s, from place k on, still has its end
+abbrev pub AreLeftOut : Grid → ℕ → List (Option End) → List (Option End) → Type 0
+AreLeftOut grid k O now = (s p r q : ℕ) → s < nodes grid → p < 6 → neighbour grid s p ≡ Some (r, q) → k ≤ s * 6 + p → get_or now (r * 6 + q) None ≡ get_or O (r * 6 + q) None

@@ -1,0 +1,48 @@
+//! The rings, when all workers have come back.
+
+ghost use Rattle.std.specs.Prelude.{ℕ, ◌≡◌, ◌+◌, ◌<◌, ◌++◌, [], ◌∷◌, map, length, get_or, vec_len};
+ghost use Rattle.noc_tiles.specs.Ends.{inlet, outlet};
+ghost use Rattle.noc_tiles.specs.Emptying.{CanEmpty, Empties};
+ghost use Rattle.noc_tiles.specs.declared.wires.Outlet.{Outlet as outlet_value};
+
+use crate::wires::{Inlet, Outlet};
+use noc_packet::Beat;
+
+// The beat that is left in the ring of the two ends.
+fn empty_ring(i: &mut Inlet, o: &mut Outlet) -> Beat
+    requires ring { (outlet o.old).ring ≡ (inlet i.old).ring }
+    requires one { length (outlet o.old).past ≡ length (inlet i.old).past + 1 }
+    ensures fifo { (outlet o.old).past ≡ (inlet i.old).past ++ result ∷ [] }
+    ensures outlet { outlet o.new ≡ outlet o.old }
+{
+    i.end.slots_beside(&mut o.end);
+    i.end.pop_known()
+}
+
+// The place of the outlet of the wire that arrives at this router and port.
+fn find_outlet(outs: &Vec<Outlet>, router: usize, port: usize) -> usize
+    requires { (o : ℕ) × (o < vec_len outs.now) × ((d : outlet_value) → (outlet (get_or outs.now.items o d)).at ≡ (router, port)) }
+    ensures within { result < vec_len outs.now }
+    ensures at { (d : outlet_value) → (outlet (get_or outs.now.items result d)).at ≡ (router, port) }
+{
+    for k in 0..outs.len() {
+        if outs[k].router == router && outs[k].port == port {
+            return k;
+        }
+    }
+    unreachable!()
+}
+
+// Takes the beats that are left in the rings, and puts each on its wire.
+pub(crate) fn empty_all(ins: &mut Vec<Inlet>, outs: &mut Vec<Outlet>, beats: &mut [[Beat; 6]])
+    requires { CanEmpty (length beats.old) (map inlet ins.old.items) (map outlet outs.old.items) }
+    ensures { Empties (map inlet ins.old.items) (map outlet outs.old.items) (vec_len ins.old) beats.old beats.new }
+{
+    for one in ins.iter_mut() {
+        let router = one.router;
+        let port = one.port;
+        let o = find_outlet(outs, router, port);
+        let beat = empty_ring(one, &mut outs[o]);
+        beats[router][port] = beat;
+    }
+}

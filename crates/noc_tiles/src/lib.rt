@@ -1,0 +1,27 @@
+//! Networks run by worker threads, each with a tile of the routers.
+#![tactic(auto)]
+
+mod emptying;
+mod fault;
+mod frame;
+mod gate;
+mod halves;
+mod partition;
+mod phases;
+mod rings;
+mod run;
+mod single;
+mod starts;
+mod stop;
+mod threads;
+mod tile;
+mod tiles;
+mod wires;
+
+pub use fault::RunFault;
+pub use gate::{AllOpen, Gate};
+pub use run::run_tile;
+pub use stop::Stop;
+pub use tile::{Outcome, Tile};
+pub use tiles::run_tiles;
+pub use wires::{Inlet, Outlet};

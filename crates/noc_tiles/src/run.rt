@@ -1,0 +1,90 @@
+//! The run of a tile.
+
+ghost use Rattle.std.specs.Prelude.{List, ◌≡◌, ◌+◌, ◌<◌, ◌^◌, ◌↔◌, true, false, IsTrue, IsFalse};
+ghost use Rattle.noc_packet.specs.declared.packet.Beat.{Beat as beat_value};
+ghost use Rattle.noc_topo.specs.Shape.{ports as ports_of};
+ghost use Rattle.noc_router.specs.Decided.{IsDecidedFor};
+ghost use Rattle.noc_tiles.specs.Tiles.{IsReady, IsSameTile, Cycles, Runs};
+ghost use Rattle.noc_tiles.specs.declared.tile.Outcome.TheVariants.{Whole, Closed, Stopped};
+
+use crate::gate::Gate;
+use crate::phases::{clear_all, decide_all, deliver_all, put_all, take_all};
+use crate::stop::Stop;
+use crate::tile::{Outcome, Tile};
+use noc_route::Relation;
+use std::sync::Wait;
+
+// One cycle of a tile. False where the flag was seen raised.
+fn cycle(
+    rt: &impl Wait,
+    relation: &Relation,
+    tile: &mut Tile,
+    cycle: u64,
+    seen: bool,
+    stop: &Stop,
+) -> bool
+    requires { IsReady relation.now tile.old }
+    ensures same { IsSameTile tile.old tile.new }
+    ensures plan { IsDecidedFor (ports_of relation.now.grid) relation.now.vcs tile.new.plan }
+    ensures done { (tile.new.done ≡ tile.old.done) × (tile.new.outcome ≡ tile.old.outcome) }
+    ensures ready { IsTrue result → IsReady relation.now tile.new }
+    ensures ran { IsTrue result → (row : List beat_value) × Cycles relation.now seen cycle tile.old tile.new row }
+    ensures stopped { IsFalse result → stop.now ≡ true }
+{
+    if !take_all(rt, &mut tile.ins, &mut tile.beats, stop) {
+        return false;
+    }
+    decide_all(
+        relation,
+        &mut tile.plan,
+        cycle,
+        seen,
+        tile.first,
+        &mut tile.routers,
+        &mut tile.beats,
+    );
+    deliver_all(relation, tile.first, &mut tile.routers, &mut tile.beats);
+    if !put_all(rt, &mut tile.outs, &tile.beats, stop) {
+        return false;
+    }
+    clear_all(&tile.outs, &mut tile.beats);
+    true
+}
+
+/// Runs a tile's cycles as the beats come. Before each one the gate is asked, with the network's count; where it does not let
+/// the worker pass, the flag is raised.
+pub fn run_tile<G: Gate>(
+    rt: &impl Wait,
+    relation: &Relation,
+    tile: Tile,
+    stop: &Stop,
+    gate: &G,
+) -> Tile
+    requires ready { IsReady relation.now tile }
+    requires done { tile.done ≡ 0 }
+    requires end { tile.start + tile.cycles < 2 ^ 64 }
+    ensures same { IsSameTile tile result }
+    ensures plan { IsDecidedFor (ports_of relation.now.grid) relation.now.vcs result.plan }
+    ensures whole { (result.outcome ≡ Whole) ↔ (result.done ≡ tile.cycles) }
+    ensures ran { result.outcome ≡ Whole → Runs relation.now tile.cycles tile result }
+    ensures closed { result.outcome ≡ Closed → G.opens gate.now ≡ false }
+    ensures stopped { result.outcome ≡ Stopped → stop.now ≡ true }
+{
+    let mut tile = tile;
+    for c in 0..tile.cycles {
+        let now = tile.start + c;
+        if !gate.pass(tile.worker, now) {
+            stop.raise();
+            tile.outcome = Outcome::Closed;
+            return tile;
+        }
+        let seen = c + 1 == tile.cycles;
+        if !cycle(rt, relation, &mut tile, now, seen, stop) {
+            tile.outcome = Outcome::Stopped;
+            return tile;
+        }
+        tile.done = c + 1;
+    }
+    tile.outcome = Outcome::Whole;
+    tile
+}

@@ -1,0 +1,60 @@
+//! A network run by workers.
+
+ghost use Rattle.std.specs.Prelude.{◌≡◌, ◌+◌, ◌<◌, ◌≤◌, true, false, IfErr, IfOk, IsOk};
+ghost use Rattle.noc_net.specs.declared.network.TheConstants.{CYCLE_LIMIT as cycle_limit};
+ghost use Rattle.noc_tiles.specs.declared.fault.RunFault.TheVariants.{LostWorker};
+
+use crate::fault::RunFault;
+use crate::frame::Frame;
+use crate::gate::Gate;
+use crate::partition::partition;
+use crate::single::run_single;
+use crate::threads::run_threads;
+use noc_net::{Network, Parts};
+use std::alloc::Global;
+use std::sync::Wait;
+use std::thread::Threads;
+
+/// Runs so many cycles, with 1 to 16 workers that each have a tile of the routers.
+pub fn run_tiles<R: Threads + Wait + Sync, G: Gate>(
+    rt: &R,
+    alloc: Global,
+    network: Network,
+    cycles: u64,
+    workers: usize,
+    gate: &G,
+) -> Result<Network, RunFault>
+    requires workers { (0 < workers) × (workers ≤ 16) }
+    requires end { network.count + cycles ≤ cycle_limit }
+    ensures net { IfOk result (λ v. v ≡ record network { count = network.count + cycles }) }
+    ensures lost { IfErr result (λ e. e ≡ LostWorker → G.opens gate.now ≡ false) }
+    ensures one { workers ≡ 1 → G.opens gate.now ≡ true → IsOk result }
+{
+    if workers == 1 {
+        return run_single(rt, alloc, network, cycles, gate);
+    }
+    let Parts {
+        relation,
+        buffer,
+        packets,
+        count,
+        routers,
+        plan,
+        beats,
+        room,
+    } = network.into_parts();
+    let frame = Frame {
+        relation,
+        buffer,
+        packets,
+        count,
+        plan,
+        room,
+        cycles,
+        workers,
+    };
+    let Ok(tiles) = partition(alloc, &frame, routers, &beats) else {
+        return Err(RunFault::Memory);
+    };
+    run_threads(rt, alloc, frame, tiles, gate)
+}

@@ -1,0 +1,111 @@
+//! The wires between tiles.
+
+ghost use Rattle.std.specs.Prelude.{◌≡◌, ◌++◌, [], ◌∷◌, true, IfSome, IfNone, IsTrue, IsFalse};
+ghost use Rattle.rtrb.specs.Ring.{sent, received, SameProducer, SameConsumer};
+
+use crate::stop::Stop;
+use noc_packet::Beat;
+use rtrb::{Consumer, Producer};
+use std::sync::Wait;
+use std::{hint, thread};
+
+/// The end of a wire that arrives at a router and a link port of the tile.
+#[derive(Drop)]
+pub struct Inlet {
+    /// The router where the wire arrives.
+    pub router: usize,
+    /// The link port where it arrives.
+    pub port: usize,
+    /// The end of the ring.
+    pub end: Consumer<Beat>,
+}
+
+/// The end of a wire that leaves the tile: it arrives at a router and a link port of another one.
+#[derive(Drop)]
+pub struct Outlet {
+    /// The router where the wire arrives.
+    pub router: usize,
+    /// The link port where it arrives.
+    pub port: usize,
+    /// The end of the ring.
+    pub end: Producer<Beat>,
+}
+
+// How often a worker that waits looks again before it gives its processor to others.
+const LOOKS: u32 = 500;
+
+// Rests between two looks, after so many of them; gives how many that are now.
+fn rested(looks: u32) -> u32 {
+    if looks < LOOKS {
+        hint::spin_loop();
+        looks + 1
+    } else {
+        thread::yield_now();
+        0
+    }
+}
+
+// Waits for a beat. `None` where the flag was seen raised.
+fn pop_waiting(rt: &impl Wait, end: &mut Consumer<Beat>, stop: &Stop) -> Option<Beat>
+    ensures ring { SameConsumer end.old end.new }
+    ensures some { IfSome result (λ x. received end.new ≡ received end.old ++ x ∷ []) }
+    ensures none { IfNone result ((received end.new ≡ received end.old) × (stop.now ≡ true)) }
+{
+    let mut looks = 0u32;
+    for _ in rt.forever() {
+        if let Ok(beat) = end.pop() {
+            return Some(beat);
+        }
+        if stop.raised() {
+            return None;
+        }
+        looks = rested(looks);
+    }
+    unreachable!()
+}
+
+// Waits until the beat is pushed. False where the flag was seen raised.
+fn push_waiting(rt: &impl Wait, end: &mut Producer<Beat>, beat: Beat, stop: &Stop) -> bool
+    ensures ring { SameProducer end.old end.new }
+    ensures pushed { IsTrue result → sent end.new ≡ sent end.old ++ beat ∷ [] }
+    ensures stopped { IsFalse result → (sent end.new ≡ sent end.old) × (stop.now ≡ true) }
+{
+    let mut looks = 0u32;
+    for _ in rt.forever() {
+        if end.push(beat).is_ok() {
+            return true;
+        }
+        if stop.raised() {
+            return false;
+        }
+        looks = rested(looks);
+    }
+    unreachable!()
+}
+
+impl Inlet {
+    ghost use Rattle.std.specs.Prelude.{◌≡◌, true, MatchOption};
+    ghost use Rattle.noc_tiles.specs.Wire.{grown};
+    ghost use Rattle.noc_tiles.specs.Ends.{inlet};
+
+    pub(crate) fn take(&mut self, rt: &impl Wait, stop: &Stop) -> Option<Beat>
+        ensures same { ((inlet self.new).at ≡ (inlet self.old).at) × ((inlet self.new).ring ≡ (inlet self.old).ring) }
+        ensures took { MatchOption result (stop.now ≡ true) (λ x. inlet self.new ≡ grown (inlet self.old) x) }
+    {
+        pop_waiting(rt, &mut self.end, stop)
+    }
+}
+
+impl Outlet {
+    ghost use Rattle.std.specs.Prelude.{◌≡◌, true, IsTrue, IsFalse};
+    ghost use Rattle.noc_tiles.specs.Wire.{grown};
+    ghost use Rattle.noc_tiles.specs.Ends.{outlet};
+
+    pub(crate) fn put(&mut self, rt: &impl Wait, beat: Beat, stop: &Stop) -> bool
+        ensures same { ((outlet self.new).at ≡ (outlet self.old).at) × ((outlet self.new).ring ≡ (outlet self.old).ring) }
+        ensures put { IsTrue result → outlet self.new ≡ grown (outlet self.old) beat }
+        ensures stopped { IsFalse result → stop.now ≡ true }
+    {
+        push_waiting(rt, &mut self.end, beat, stop)
+    }
+}
