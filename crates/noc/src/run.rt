@@ -4,7 +4,7 @@ ghost use Rattle.std.specs.Prelude.{◌≡◌, ◌<◌, ◌≤◌, Ok, Some, IfE
 ghost use Rattle.noc_files.specs.Gives.{Gives};
 ghost use Rattle.noc_files.specs.Traffic.{traffic_of};
 ghost use Rattle.noc_files.specs.Writing.{Wrote};
-ghost use Rattle.noc_net.specs.declared.network.TheConstants.{CYCLE_LIMIT as cycle_limit};
+ghost use Rattle.noc_model.specs.declared.limits.TheConstants.{CYCLE_LIMIT as cycle_limit};
 ghost use Rattle.noc.specs.Answer.{AsksFor, TextsFault};
 ghost use Rattle.noc.specs.Asked.{asked_of, lent, read_by};
 ghost use Rattle.noc.specs.Outcome.{Ends, IsWriteFault, Refuses};

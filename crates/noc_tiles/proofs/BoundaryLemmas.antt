@@ -12,7 +12,7 @@ use Rattle.noc_router.specs.View.{View, idle_beat}
 use Rattle.noc_net.specs.Halves.{beat_at}
 use Rattle.noc_net.specs.Lockstep.{lockstep_at}
 use Rattle.noc_net.specs.Network.{Setup}
-use Rattle.noc_net.proofs.RunLemmas.{count_views}
+use Rattle.noc_model.proofs.RunLemmas.{count_views}
 use Rattle.noc_tiles.specs.Wire.{Wire}
 use Rattle.noc_tiles.specs.Ends.{End, inlet, outlet}
 use Rattle.noc_tiles.specs.TileStep.{Layout, TileState, is_own, is_from, is_inside, places, fed_all, cycled, after, puts, put_in}

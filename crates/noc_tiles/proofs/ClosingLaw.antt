@@ -11,8 +11,8 @@ use Rattle.noc_router.specs.View.{View, local_step, idle_beat}
 use Rattle.noc_net.specs.Halves.{beat_at}
 use Rattle.noc_net.specs.Lockstep.{lockstep_at, beats_at}
 use Rattle.noc_net.specs.Network.{Setup}
-use Rattle.noc_net.proofs.RunLemmas.{count_views, count_row}
-use Rattle.noc_net.proofs.SentLemmas.{step_of, next_view, sent_beat, unlinked_beat}
+use Rattle.noc_model.proofs.RunLemmas.{count_views, count_row}
+use Rattle.noc_model.proofs.SentLemmas.{step_of, next_view, sent_beat, unlinked_beat}
 use Rattle.noc_tiles.specs.TileStep.{Layout, TileState, is_own, is_from, is_inside, beat_among, filled, arrived, steps, sent_of, out_at, after_steps, put_by, cycled, after, puts}
 use Rattle.noc_tiles.proofs.CycleLemmas.{some_view, no_link}
 use Rattle.noc_tiles.proofs.FillLemmas.{HasOrGets, filled_right}

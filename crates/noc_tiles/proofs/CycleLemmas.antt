@@ -12,8 +12,8 @@ use Rattle.noc_route.specs.Routes.{Routes}
 use Rattle.noc_router.specs.View.{Site, View, IsRelationOf, idle_beat, local_step, opening_view}
 use Rattle.noc_net.specs.Halves.{IsPlaced, beat_at, decided, emptied, incoming}
 use Rattle.noc_net.specs.Unseen.{unseen}
-use Rattle.noc_net.proofs.RunLemmas.{map_map_indexed}
-use Rattle.noc_net.proofs.StepLemmas.{local_step-view, local_step-beats, site-decided, count-decided}
+use Rattle.noc_model.proofs.RunLemmas.{map_map_indexed}
+use Rattle.noc_model.proofs.StepLemmas.{local_step-view, local_step-beats, site-decided, count-decided}
 use Rattle.noc_tiles.specs.TileStep.{Layout, TileState, Wires, with_beat, filled, is_own, is_from, beat_among, beat_of, arrived, steps, sent_of, out_at, after_steps, put_by}
 use Rattle.noc_tiles.specs.Tiles.{AreWithin, PartsFit}
 use Rattle.noc_tiles.proofs.ClearLemmas.{Cleared, place_at}

@@ -11,7 +11,7 @@ use Rattle.noc_router.specs.View.{View, idle_beat}
 use Rattle.noc_net.specs.Halves.{beat_at}
 use Rattle.noc_net.specs.Lockstep.{lockstep_at}
 use Rattle.noc_net.specs.Network.{Setup}
-use Rattle.noc_net.proofs.RunLemmas.{count_views, past_wires}
+use Rattle.noc_model.proofs.RunLemmas.{count_views, past_wires}
 use Rattle.noc_tiles.specs.Ends.{End, inlet, outlet}
 use Rattle.noc_tiles.specs.TileStep.{Layout, TileState, is_inside, places, after, puts, put_in}
 use Rattle.noc_tiles.specs.Tiles.{CanRun, AllCanRun, inlets, outlets, layout_of, state_of}

@@ -5,7 +5,9 @@ use Rattle.noc_topo.specs.Shape.{IsGrid, nodes, ports, local_port}
 use Rattle.noc_packet.specs.declared.packet.Beat.{Beat}
 use Rattle.noc_router.specs.Decided.{IsDecidedFor}
 use Rattle.noc_router.specs.View.{View}
-use Rattle.noc_net.specs.Faults.{IsSound}
+use Rattle.noc_net.specs.Good.{IsGoodSetup}
+use Rattle.noc_net.proofs.PartsLemmas.{parts-in_step, views-in_step, wires-in_step}
+use Rattle.noc_model.specs.declared.limits.TheConstants.{CYCLE_LIMIT}
 use Rattle.noc_net.specs.Halves.{beat_at}
 use Rattle.noc_net.specs.Lockstep.{lockstep_at}
 use Rattle.noc_net.specs.Network.{Setup}
@@ -23,10 +25,10 @@ use Rattle.noc_tiles.proofs.SingleLemmas.{set-all}
 -- what parts say of the lockstep run
 module _ (P : Parts) (A : AreParts P) where
   pub parts-views : P.routers.items ≡ (lockstep_at (setup_in P) P.count).views
-  parts-views = A.views
+  parts-views = views-in_step P A
 
   pub parts-flight : InFlight (setup_in P) P.count P.beats.items
-  parts-flight = A.wires
+  parts-flight = wires-in_step P A
 
   pub parts-beats : length P.beats.items ≡ nodes P.relation.grid
   parts-beats = sym (vec-length P.beats) ∙ A.beats
@@ -43,7 +45,7 @@ module _ (P : Parts) (A : AreParts P) where
             (set-all (setup_in P) P.count t.first P.routers.items P.beats.items first parts-views parts-beats parts-flight);
       }
 
--- parts of the lockstep run, where the rest is sound
-pub parts-again : (P : Parts) → P.routers.items ≡ (lockstep_at (setup_in P) P.count).views → InFlight (setup_in P) P.count P.beats.items → vec_len P.beats ≡ nodes P.relation.grid
-    → IsDecidedFor (ports P.relation.grid) P.relation.vcs P.plan → vec_len P.room ≡ nodes P.relation.grid → All (IsSound P.relation) P.packets.items → vec_len P.packets ≤ 20000 → AreParts P
-parts-again P views wires beats plan room packets few = record { views = views; wires = wires; beats = beats; plan = plan; room = room; packets = packets; few_packets = few }
+-- parts of the lockstep run, where the setup is good and the count within the limit
+pub parts-again : (P : Parts) → IsGoodSetup (setup_in P) → P.count ≤ CYCLE_LIMIT → P.routers.items ≡ (lockstep_at (setup_in P) P.count).views → InFlight (setup_in P) P.count P.beats.items
+    → vec_len P.beats ≡ nodes P.relation.grid → IsDecidedFor (ports P.relation.grid) P.relation.vcs P.plan → vec_len P.room ≡ nodes P.relation.grid → AreParts P
+parts-again P good within views wires beats plan room = parts-in_step P good within (record { views = views; wires = wires }) beats plan room

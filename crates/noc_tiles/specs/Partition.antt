@@ -5,7 +5,7 @@ use Rattle.noc_topo.specs.Shape.{IsGrid, nodes, ports, neighbour}
 use Rattle.noc_packet.specs.declared.packet.Beat.{Beat}
 use Rattle.noc_router.specs.Decided.{IsDecidedFor}
 use Rattle.noc_router.specs.View.{View}
-use Rattle.noc_net.specs.Faults.{IsSound}
+use Rattle.noc_net.specs.Good.{IsGoodSetup}
 use Rattle.noc_net.specs.Halves.{beat_at}
 use Rattle.noc_net.specs.Lockstep.{lockstep_at}
 use Rattle.noc_net.specs.Network.{Setup}
@@ -25,8 +25,7 @@ setup_of f = record { relation = f.relation; places = f.buffer; packets = f.pack
 pub record IsFrame (f : Frame) : Type 0 where
   pub plan : IsDecidedFor (ports f.relation.grid) f.relation.vcs f.plan
   pub room : vec_len f.room ≡ nodes f.relation.grid
-  pub packets : All (IsSound f.relation) f.packets.items
-  pub few_packets : vec_len f.packets ≤ 20000
+  pub good : IsGoodSetup (setup_of f)
 
 abbrev pub routers_of : Tile → List View
 routers_of t = t.routers.items

@@ -1,7 +1,7 @@
 //! A network run by workers.
 
 ghost use Rattle.std.specs.Prelude.{◌≡◌, ◌+◌, ◌<◌, ◌≤◌, true, false, IfErr, IfOk, IsOk};
-ghost use Rattle.noc_net.specs.declared.network.TheConstants.{CYCLE_LIMIT as cycle_limit};
+ghost use Rattle.noc_model.specs.declared.limits.TheConstants.{CYCLE_LIMIT as cycle_limit};
 ghost use Rattle.noc_tiles.specs.declared.fault.RunFault.TheVariants.{LostWorker};
 
 use crate::fault::RunFault;

@@ -3,7 +3,7 @@ use Rattle.std.specs.List.{flat_map}
 use Rattle.std.proofs.lemmas.List.{drop-drop, length-drop, take_all}
 use Rattle.noc_topo.specs.Shape.{Grid, IsGrid, nodes}
 use Rattle.noc_net.specs.Lockstep.{lockstep_at}
-use Rattle.noc_net.proofs.RunLemmas.{count_views}
+use Rattle.noc_model.proofs.RunLemmas.{count_views}
 use Rattle.noc_tiles.specs.Rings.{AreSlots, in_slots, out_slots}
 use Rattle.noc_tiles.specs.Partition.{IsTile, AreUnassigned, routers_of, setup_of}
 use Rattle.noc_tiles.specs.declared.tile.Tile.{Tile}

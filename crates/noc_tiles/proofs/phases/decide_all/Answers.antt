@@ -5,7 +5,7 @@ use Rattle.noc_topo.proofs.WordLemmas.{length-map_indexed, get_or-map_indexed}
 use Rattle.noc_router.specs.View.{View}
 use Rattle.noc_net.specs.Halves.{decided, incoming}
 use Rattle.noc_net.specs.Unseen.{unseen}
-use Rattle.noc_net.proofs.ListLemmas.{IsDoneTo, done_all}
+use Rattle.noc_model.proofs.ListLemmas.{IsDoneTo, done_all}
 use Rattle.noc_tiles.proofs.phases.decide_all.Goals as goal
 
 pub returns-clause-routers : goal.returns-clause-routers

@@ -42,4 +42,4 @@ from_parts-requires g c =
     let runs = c.run_tile-tile.ensures.ran c.in-Whole.is in
     let Q : Parts =
     record { relation = P.relation; buffer = P.buffer; packets = P.packets; count = P.count + k; routers = b.routers; plan = b.plan; beats = b.beats; room = P.room } in
-    parts-again Q (all-views net P.count k a b all same runs) (all-wires net P.count k a b all same runs) (same.size ∙ A.beats) c.run_tile-tile.ensures.plan A.room A.packets A.few_packets
+    parts-again Q A.good (omega arith) (all-views net P.count k a b all same runs) (all-wires net P.count k a b all same runs) (same.size ∙ A.beats) c.run_tile-tile.ensures.plan A.room

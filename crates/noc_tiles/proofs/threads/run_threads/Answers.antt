@@ -89,6 +89,5 @@ from_parts-requires g c =
       beats = with_items all.beats c.empty_all.new.beats;
       room = c.args.frame.room;
     } in
-    parts-again Q (G.routers ∙ views-done net n k I O xs ys W r d C.left)
-    (λ s q. ap (λ (b : List (List Beat)). beat_at b s q) now ∙ wires-done net n k I O xs ys W r d C.left c.empty_all.new.beats C s q) (vec-length all.beats ∙ rows) c.requires.frame.plan c.requires.frame.room c.requires.frame.packets
-    c.requires.frame.few_packets
+    parts-again Q c.requires.frame.good c.requires.end (G.routers ∙ views-done net n k I O xs ys W r d C.left)
+    (λ s q. ap (λ (b : List (List Beat)). beat_at b s q) now ∙ wires-done net n k I O xs ys W r d C.left c.empty_all.new.beats C s q) (vec-length all.beats ∙ rows) c.requires.frame.plan c.requires.frame.room
