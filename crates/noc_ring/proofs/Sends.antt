@@ -17,7 +17,7 @@ use Rattle.core.specs.contracts.slots.Lease as Lease
 use Rattle.std.proofs.Crossing.{frees}
 use Rattle.std.specs.contracts.alloc.Global as Global
 use Rattle.noc_packet.specs.contracts.packet.Flit as Flit
-use Rattle.noc_ring.specs.contracts.places.Block as Block
+use Rattle.noc_ring.specs.contracts.store.Block as Block
 use denote.Struct.Declared.{shape as shape-of}
 
 pub quiet : {D X : Type 0} (to : D → X) (e : Exit X) → Quiet e → Quiet (hidden (under to e))

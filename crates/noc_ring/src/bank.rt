@@ -4,7 +4,7 @@ ghost use Rattle.std.specs.Prelude.{◌≡◌, ◌+◌, ◌*◌, ◌%◌, ◌<�
 ghost use Rattle.std.specs.List.{slice_get};
 ghost use Rattle.noc_ring.specs.Rings.{empty_rings, ring_at, pushed, popped};
 
-use crate::places::Places;
+use crate::store::Store;
 use noc_packet::{Flit, Memory};
 use std::alloc::Global;
 use std::marker::Model;
@@ -22,7 +22,7 @@ struct Ends {
 /// First-in first-out buffers of flits: 1 to 56 rings, each of the same 1 to 16 places.
 #[derive(Debug, Drop)]
 pub struct Bank {
-    places: Places,
+    store: Store,
     ends: [Ends; MOST_RINGS],
     rings: usize,
     capacity: usize,
@@ -35,9 +35,9 @@ impl Model for Bank {
 
     ghost use Rattle.noc_ring.specs.Slots.{rings_of, IsBank, AreHeld};
 
-    ghost view = { λ b. record { rings = rings_of b.places.flits b.capacity b.rings b.ends; capacity = b.capacity } };
+    ghost view = { λ b. record { rings = rings_of b.store.flits b.capacity b.rings b.ends; capacity = b.capacity } };
 
-    ghost invariant = { λ b. IsBank b.places.flits b.capacity b.rings b.ends × AreHeld b.places.filled b.capacity b.rings b.ends };
+    ghost invariant = { λ b. IsBank b.store.flits b.capacity b.rings b.ends × AreHeld b.store.filled b.capacity b.rings b.ends };
 }
 
 /// The place in a ring, for a place that may be past the ring's end once.
@@ -62,7 +62,7 @@ impl Bank {
         ensures { IfOk result (λ b. b ≡ empty_rings rings capacity) }
     {
         Ok(Bank {
-            places: Places::new(alloc, rings * capacity)?,
+            store: Store::new(alloc, rings * capacity)?,
             ends: [Ends { head: 0, len: 0 }; MOST_RINGS],
             rings,
             capacity,
@@ -97,7 +97,7 @@ impl Bank {
         if ends.len == 0 {
             return None;
         }
-        Some(self.places.get(ring * capacity + ends.head as usize))
+        Some(self.store.get(ring * capacity + ends.head as usize))
     }
 
     /// Puts a flit behind those of the ring, which is not full.
@@ -109,7 +109,7 @@ impl Bank {
         let capacity = self.capacity;
         let ends = self.ends[ring];
         let place = wrapped(ends.head as usize + ends.len as usize, capacity);
-        self.places.put(ring * capacity + place, flit);
+        self.store.put(ring * capacity + place, flit);
         self.ends[ring] = Ends {
             head: ends.head,
             len: ends.len + 1,
@@ -125,7 +125,7 @@ impl Bank {
     {
         let capacity = self.capacity;
         let ends = self.ends[ring];
-        let flit = self.places.take(ring * capacity + ends.head as usize);
+        let flit = self.store.take(ring * capacity + ends.head as usize);
         self.ends[ring] = Ends {
             head: wrapped(ends.head as usize + 1, capacity) as u8,
             len: ends.len - 1,

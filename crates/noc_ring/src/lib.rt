@@ -2,7 +2,7 @@
 #![tactic(auto)]
 
 mod bank;
-mod places;
+mod store;
 #[cfg(test)]
 mod tests;
 

@@ -33,7 +33,7 @@ get-requires-clause-place c = let ring = ring-known c.self.invariant.0 c.self.vi
 pub get-requires-clause-holds : goal.get-requires-clause-holds
 get-requires-clause-holds c =
     let ring = ring-known c.self.invariant.0 c.self.view_is c.requires in
-    front-held c.self.inside.places.filled ring c.self.invariant.1 (omega arith)
+    front-held c.self.inside.store.filled ring c.self.invariant.1 (omega arith)
 
 pub returns : goal.returns
 returns c =

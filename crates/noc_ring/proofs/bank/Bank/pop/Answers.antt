@@ -32,7 +32,7 @@ take-flit-requires-clause-place c = let ring = ring-known c.self.invariant.0 c.s
 pub take-flit-requires-clause-holds : goal.take-flit-requires-clause-holds
 take-flit-requires-clause-holds c =
     let ring = ring-known c.self.invariant.0 c.self.view_is c.requires.ring in
-    front-held c.self.inside.places.filled ring c.self.invariant.1 (omega (arith, ring.count, c.requires.some))
+    front-held c.self.inside.store.filled ring c.self.invariant.1 (omega (arith, ring.count, c.requires.some))
 
 pub wrapped-requires : goal.wrapped-requires
 wrapped-requires c =
@@ -49,7 +49,7 @@ invariant_of-self c =
     let ring = ring-known c.self.invariant.0 c.self.view_is c.requires.ring in
     rw (c.take-flit.ensures.flits) (rw (c.take-flit.ensures.filled) (
       set-ends_fits _ _ _ _ _ _ c.self.invariant.0 ring.inside (place-below ring _ _ c.wrapped.ensures) (omega (arith, ring.len_within)),
-      pop-held c.self.inside.places.filled ring c.self.invariant.1 _ (omega (arith, ring.count, c.requires.some)) c.wrapped.ensures,
+      pop-held c.self.inside.store.filled ring c.self.invariant.1 _ (omega (arith, ring.count, c.requires.some)) c.wrapped.ensures,
     ))
 
 pub returns-clause-rest : goal.returns-clause-rest

@@ -45,7 +45,7 @@ invariant_of-self c =
     let ring = ring-known c.self.invariant.0 c.self.view_is c.requires.ring in
     rw (c.put.ensures.flits) (rw (c.put.ensures.filled) (
       set-fits _ _ _ _ _ _ c.args.flit _ c.self.invariant.0 ring.inside ring.head_below (omega (arith, ring.count, ring.capacity, c.requires.room)),
-      push-held c.self.inside.places.filled ring c.self.invariant.1 _ (omega (arith, ring.count, ring.capacity, c.requires.room)) c.wrapped-place.ensures,
+      push-held c.self.inside.store.filled ring c.self.invariant.1 _ (omega (arith, ring.count, ring.capacity, c.requires.room)) c.wrapped-place.ensures,
     ))
 
 pub returns : goal.returns

@@ -33,11 +33,11 @@ struct Block {
 }
 
 /// Places for flits in one block of memory, each of which is empty or holds a flit. The drop frees the block.
-pub(crate) struct Places {
+pub(crate) struct Store {
     block: Block,
 }
 
-impl Model for Places {
+impl Model for Store {
     ghost use Rattle.std.specs.Mem.Slots.{slots_items, slots_filled};
     ghost use base.Fml.{ftrue};
     ghost use Rattle.noc_ring.specs.Slots.{Held};
@@ -53,25 +53,25 @@ impl Model for Places {
 }
 
 // What it owns names no thread.
-unsafe impl Send for Places {}
+unsafe impl Send for Store {}
 
-unsafe impl Sync for Places {}
+unsafe impl Sync for Store {}
 
-impl Places {
-    fn of(block: Block) -> Places
+impl Store {
+    fn of(block: Block) -> Store
         ensures { (result.flits ≡ slots_items block.slots) × (result.filled ≡ slots_filled block.slots) }
     {
-        Places { block }
+        Store { block }
     }
 
     /// So many empty places, at most 896. The error is for want of memory alone.
-    pub(crate) fn new(alloc: Global, count: usize) -> Result<Places, Memory>
+    pub(crate) fn new(alloc: Global, count: usize) -> Result<Store, Memory>
         requires { count ≤ 896 }
         ensures { IfOk result (λ p. (length p.flits ≡ count) × (length p.filled ≡ count)) }
     {
         // `unsafe`, since a value in a place is forgotten when another is put there or the block goes. A flit is plain data.
         let (slots, lease) = unsafe { reserve(&alloc, &AS_MANY[..count])? };
-        Ok(Places::of(Block {
+        Ok(Store::of(Block {
             slots,
             lease,
             alloc,
@@ -108,15 +108,15 @@ impl Places {
     }
 }
 
-impl fmt::Debug for Places {
+impl fmt::Debug for Store {
     fn fmt<W: fmt::Write>(&self, f: &mut fmt::Formatter<W>) -> fmt::Result {
-        f.write_str("Places")
+        f.write_str("Store")
     }
 }
 
-impl Drop for Places {
+impl Drop for Store {
     fn drop(self) {
-        let Places { block } = self;
+        let Store { block } = self;
         let Block {
             slots,
             lease,

@@ -18,14 +18,14 @@ use denote.Triple.Entry.{alive}
 use denote.Triple.Walked.{Stays, walk_of, stay_dropped, ends_at}
 use Rattle.core.proofs.alloc.Calls.{Goes-blank}
 use Rattle.std.specs.Mem.Slots.{slots_items, slots_filled}
-use Rattle.noc_ring.specs.contracts.places.Block.{the_row as Block, the_type as Fields}
-use Rattle.noc_ring.proofs.places.Block.TheLaws as block
-use Rattle.noc_ring.specs.contracts.places.Places as C
-use Rattle.noc_ring.specs.contracts.places.Places.of as f
-use Rattle.noc_ring.specs.declared.places.Places.TheInside.{Inside}
-use Rattle.noc_ring.proofs.places.Places.TheInside.TheLaws as inner
-use Rattle.noc_ring.proofs.places.Places.of.Statement.{statement}
-use Rattle.noc_ring.proofs.places.Places.of.Code as code
+use Rattle.noc_ring.specs.contracts.store.Block.{the_row as Block, the_type as Fields}
+use Rattle.noc_ring.proofs.store.Block.TheLaws as block
+use Rattle.noc_ring.specs.contracts.store.Store as C
+use Rattle.noc_ring.specs.contracts.store.Store.of as f
+use Rattle.noc_ring.specs.declared.store.Store.TheInside.{Inside}
+use Rattle.noc_ring.proofs.store.Store.TheInside.TheLaws as inner
+use Rattle.noc_ring.proofs.store.Store.of.Statement.{statement}
+use Rattle.noc_ring.proofs.store.Store.of.Code as code
 
 abbrev stayed : Stays f.ended.signature.params f.ended.kept
 stayed = (stay_dropped (plain (λ _. Block)) yes, tt)
