@@ -97,7 +97,8 @@ impl Network {
         ensures network { run_in result ≡ self }
         ensures parts { AreParts result }
     {
-        self.parts
+        let Network { parts } = self;
+        parts
     }
 
     /// The network of these parts, which are those of a network at their count.
