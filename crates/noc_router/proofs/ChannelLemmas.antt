@@ -6,7 +6,7 @@ use Rattle.std.specs.Option.{option_eq}
 use Rattle.std.proofs.lemmas.Bool.{cases_eq, false≢true, eq-eqb, ne_eqb, eqb-true, lt-ltb, ltb-true}
 use Rattle.std.proofs.lemmas.List.{get_or_default, set-get_or, get_or-replicate, length-replicate, length-append}
 use Rattle.std.proofs.lemmas.List.Elements.{All-append, All-replicate}
-use Rattle.noc_topo.specs.Words.{below}
+pub use Rattle.noc_router.proofs.FindLemmas.{find-below, find-none as find-below-none}
 use Rattle.noc_packet.specs.Set.{has_bit}
 use Rattle.noc_packet.specs.declared.packet.Flit.{Flit}
 use Rattle.noc_ring.specs.Rings.{Rings, ring_at, pushed, popped, empty_rings}
