@@ -1,5 +1,6 @@
 pub mod Emptying
 pub mod Ends
+pub mod Faults
 pub mod TileStep
 pub mod Rings
 pub mod Starts

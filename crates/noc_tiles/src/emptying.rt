@@ -6,6 +6,7 @@ ghost use Rattle.noc_tiles.specs.Emptying.{CanEmpty, Empties};
 ghost use Rattle.noc_tiles.specs.declared.wires.Outlet.{Outlet as outlet_value};
 
 use crate::wires::{Inlet, Outlet};
+use noc_net::LINKS;
 use noc_packet::Beat;
 
 // The beat that is left in the ring of the two ends.
@@ -34,7 +35,7 @@ fn find_outlet(outs: &Vec<Outlet>, router: usize, port: usize) -> usize
 }
 
 // Takes the beats that are left in the rings, and puts each on its wire.
-pub(crate) fn empty_all(ins: &mut Vec<Inlet>, outs: &mut Vec<Outlet>, beats: &mut [[Beat; 6]])
+pub(crate) fn empty_all(ins: &mut Vec<Inlet>, outs: &mut Vec<Outlet>, beats: &mut [[Beat; LINKS]])
     requires { CanEmpty (length beats.old) (map inlet ins.old.items) (map outlet outs.old.items) }
     ensures { Empties (map inlet ins.old.items) (map outlet outs.old.items) (vec_len ins.old) beats.old beats.new }
 {

@@ -17,6 +17,7 @@ use crate::rings::{Rings, make_rings, take_ins, take_outs};
 use crate::starts::tile_start;
 use crate::tile::{Outcome, Tile};
 use crate::wires::{Inlet, Outlet};
+use noc_net::LINKS;
 use noc_packet::{Beat, Memory};
 use noc_router::{Plan, Router};
 use std::alloc::{AllocError, Global};
@@ -24,16 +25,16 @@ use std::alloc::{AllocError, Global};
 // The wires of a network but for the routers from `first` to before `end`, where the beats are those in flight.
 fn own_beats(
     alloc: Global,
-    beats: &[[Beat; 6]],
+    beats: &[[Beat; LINKS]],
     first: usize,
     count: usize,
-) -> Result<Vec<[Beat; 6]>, AllocError>
+) -> Result<Vec<[Beat; LINKS]>, AllocError>
     requires { first + count ≤ length beats.now }
     ensures size { IfOk result (λ v. vec_len v ≡ length beats.now) }
     ensures own { IfOk result (λ v. (r q : ℕ) → is_own first count r ≡ true → beat_at v.items r q ≡ beat_at beats.now r q) }
     ensures idle { IfOk result (λ v. (r q : ℕ) → is_own first count r ≡ false → beat_at v.items r q ≡ idle_beat) }
 {
-    let mut all = vec![in alloc; [Beat::idle(); 6]; beats.len()]?;
+    let mut all = vec![in alloc; [Beat::idle(); LINKS]; beats.len()]?;
     for r in first..first + count {
         all[r] = beats[r];
     }
@@ -47,7 +48,7 @@ fn new_tile(
     worker: usize,
     first: usize,
     routers: Vec<Router>,
-    beats: &[[Beat; 6]],
+    beats: &[[Beat; LINKS]],
     ins: &mut Vec<Option<Inlet>>,
     outs: &mut Vec<Option<Outlet>>,
 ) -> Result<Tile, Memory>
@@ -97,7 +98,7 @@ pub(crate) fn partition(
     alloc: Global,
     frame: &Frame,
     routers: Vec<Router>,
-    beats: &[[Beat; 6]],
+    beats: &[[Beat; LINKS]],
 ) -> Result<Vec<Tile>, Memory>
     requires workers { (0 < frame.now.workers) × (frame.now.workers ≤ 16) }
     requires beats { length beats.now ≡ nodes_of frame.now.relation.grid }

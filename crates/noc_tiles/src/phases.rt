@@ -15,7 +15,7 @@ ghost use Rattle.noc_tiles.specs.Tiles.{AreWithin};
 
 use crate::stop::Stop;
 use crate::wires::{Inlet, Outlet};
-use noc_net::{advance, decide, deliver};
+use noc_net::{LINKS, advance, decide, deliver};
 use noc_packet::Beat;
 use noc_route::Relation;
 use noc_router::{Plan, Router};
@@ -25,7 +25,7 @@ use std::sync::Wait;
 pub(crate) fn take_all(
     rt: &impl Wait,
     ins: &mut Vec<Inlet>,
-    beats: &mut [[Beat; 6]],
+    beats: &mut [[Beat; LINKS]],
     stop: &Stop,
 ) -> bool
     requires { AreWithin (length beats.old) 6 (places (map inlet ins.old.items)) }
@@ -51,7 +51,7 @@ fn decide_router(
     cycle: u64,
     seen: bool,
     router: &mut Router,
-    beats: &mut [Beat; 6],
+    beats: &mut [Beat; LINKS],
 )
     requires plan { IsDecidedFor (ports_of relation.now.grid) relation.now.vcs plan.old }
     requires router { IsRelationOf relation.now router.old }
@@ -76,7 +76,7 @@ pub(crate) fn decide_all(
     seen: bool,
     first: usize,
     routers: &mut Vec<Router>,
-    beats: &mut [[Beat; 6]],
+    beats: &mut [[Beat; LINKS]],
 )
     requires plan { IsDecidedFor (ports_of relation.now.grid) relation.now.vcs plan.old }
     requires routers { All (λ v. IsRelationOf relation.now v) routers.old.items }
@@ -106,7 +106,7 @@ pub(crate) fn deliver_all(
     relation: &Relation,
     first: usize,
     routers: &mut Vec<Router>,
-    beats: &mut [[Beat; 6]],
+    beats: &mut [[Beat; LINKS]],
 )
     requires routers { (i : ℕ) (d : View) → i < vec_len routers.old → IsPlaced relation.now (first + i) (get_or routers.old.items i d) }
     requires within { first + vec_len routers.old ≤ nodes_of relation.now.grid }
@@ -125,7 +125,7 @@ pub(crate) fn deliver_all(
 pub(crate) fn put_all(
     rt: &impl Wait,
     ends: &mut Vec<Outlet>,
-    beats: &[[Beat; 6]],
+    beats: &[[Beat; LINKS]],
     stop: &Stop,
 ) -> bool
     requires { AreWithin (length beats.now) 6 (places (map outlet ends.old.items)) }
@@ -143,7 +143,7 @@ pub(crate) fn put_all(
 }
 
 // The beats that went to other tiles are idle again.
-pub(crate) fn clear_all(ends: &Vec<Outlet>, beats: &mut [[Beat; 6]])
+pub(crate) fn clear_all(ends: &Vec<Outlet>, beats: &mut [[Beat; LINKS]])
     requires { AreWithin (length beats.old) 6 (places (map outlet ends.now.items)) }
     ensures count { length beats.new ≡ length beats.old }
     ensures beats { (r q : ℕ) → ((o : ℕ) × (o < length (places (map outlet ends.now.items))) × (get_or (places (map outlet ends.now.items)) o (0, 0) ≡ (r, q)) × (beat_at beats.new r q ≡ idle_beat))

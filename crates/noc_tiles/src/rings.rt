@@ -9,12 +9,13 @@ ghost use Rattle.noc_tiles.specs.Rings.{AreLeftOut, AreSlots, AreTakenIn, AreTak
 
 use crate::starts::are_together;
 use crate::wires::{Inlet, Outlet};
+use noc_net::LINKS;
 use noc_packet::Beat;
 use noc_topo::Shape;
 use rtrb::RingBuffer;
 use std::alloc::{AllocError, Global};
 
-/// The ends of the rings, by the place where the wire arrives: port q of router r at r * 6 + q.
+/// The ends of the rings, by the place where the wire arrives: port q of router r at r * LINKS + q.
 #[derive(Drop)]
 pub(crate) struct Rings {
     pub ins: Vec<Option<Inlet>>,
@@ -88,7 +89,7 @@ pub(crate) fn make_rings(
     alloc: Global,
     shape: &Shape,
     workers: usize,
-    beats: &[[Beat; 6]],
+    beats: &[[Beat; LINKS]],
 ) -> Result<Rings, AllocError>
     requires beats { length beats.now ≡ nodes_of shape.now }
     requires workers { (0 < workers) × (workers ≤ 16) }
@@ -96,8 +97,15 @@ pub(crate) fn make_rings(
 {
     let mut ins = Vec::new(alloc);
     let mut outs = Vec::new(alloc);
-    for k in 0..shape.nodes() * 6 {
-        let (one, other) = slot(alloc, shape, workers, k / 6, k % 6, beats[k / 6][k % 6])?;
+    for k in 0..shape.nodes() * LINKS {
+        let (one, other) = slot(
+            alloc,
+            shape,
+            workers,
+            k / LINKS,
+            k % LINKS,
+            beats[k / LINKS][k % LINKS],
+        )?;
         ins.push(one)?;
         outs.push(other)?;
     }
@@ -137,7 +145,7 @@ fn coming(shape: &Shape, first: usize, count: usize, k: usize) -> Option<usize>
     ensures some { IfSome result (λ at. (at ≡ k) × (is_inside first count (neighbour_of shape.now (k / 6) (k % 6)) ≡ false)) }
     ensures none { IfNone result (is_inside first count (neighbour_of shape.now (k / 6) (k % 6)) ≡ true) }
 {
-    other_at(shape, first, count, k / 6, k % 6)?;
+    other_at(shape, first, count, k / LINKS, k % LINKS)?;
     Some(k)
 }
 
@@ -149,8 +157,8 @@ fn going(shape: &Shape, first: usize, count: usize, k: usize) -> Option<usize>
     ensures grid { IsGrid shape.now }
     ensures none { IfNone result (is_inside first count (neighbour_of shape.now (k / 6) (k % 6)) ≡ true) }
 {
-    let (router, port) = other_at(shape, first, count, k / 6, k % 6)?;
-    Some(router * 6 + port)
+    let (router, port) = other_at(shape, first, count, k / LINKS, k % LINKS)?;
+    Some(router * LINKS + port)
 }
 
 // What stands in a slot goes to the end of a list.
@@ -190,7 +198,7 @@ pub(crate) fn take_ins(
     ensures rest { IsOk result → (m : ℕ) → (first + count) * 6 ≤ m → get_or (in_slots slots.new.items) m None ≡ get_or (in_slots slots.old.items) m None }
 {
     let mut ins = Vec::new(alloc);
-    for k in first * 6..(first + count) * 6 {
+    for k in first * LINKS..(first + count) * LINKS {
         move_end(slots, coming(shape, first, count, k), &mut ins)?;
     }
     Ok(ins)
@@ -212,7 +220,7 @@ pub(crate) fn take_outs(
     ensures rest { IsOk result → AreLeftOut shape.now ((first + count) * 6) (out_slots slots.old.items) (out_slots slots.new.items) }
 {
     let mut outs = Vec::new(alloc);
-    for k in first * 6..(first + count) * 6 {
+    for k in first * LINKS..(first + count) * LINKS {
         move_end(slots, going(shape, first, count, k), &mut outs)?;
     }
     Ok(outs)
