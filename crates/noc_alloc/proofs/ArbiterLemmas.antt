@@ -1,8 +1,8 @@
 -- The requester that comes first.
 use Rattle.std.proofs.Common.{◌≡◌, ◌≢◌, ℕ, zero, suc, ◌+◌, ◌-◌, ◌<◌, ◌≤◌, Bool, true, false, cond, ◌∷◌, Option, Some, None, refl, ap, sym, ◌∙◌, arith, inl, inr, subst}
-use Rattle.std.specs.Prelude.{filter, IfSome, is_some, nat_le, nat_lt, ◌⊎◌, ◌&&◌, ◌||◌, if◌then◌else◌}
+use Rattle.std.specs.Prelude.{filter, IfSome, is_some, nat_le, ◌⊎◌, ◌&&◌}
 use Rattle.std.specs.List.{range_with_len}
-use Rattle.std.proofs.lemmas.Bool.{cases_eq, le-leb, lt-leb, cases_lt, false≢true, leb-true, leb-false, ltb-true, ltb-false, and_parts}
+use Rattle.std.proofs.lemmas.Bool.{cases_eq, le-leb, lt-leb, cases_lt, false≢true, leb-true, and_parts}
 use Rattle.std.proofs.Math.Nat.{mod-eq_of_lt, add-mod_right}
 use Rattle.noc_topo.specs.Words.{below, least_by, lesser_by}
 use Rattle.noc_packet.specs.Set.{has_bit, has_from, IsLeast}

@@ -1,7 +1,7 @@
 -- The set of those that ask, looked through from 0 on, and who of them comes first.
-use Rattle.std.proofs.Common.{◌≡◌, ℕ, ◌+◌, ◌<◌, ◌≤◌, Bool, true, false, Option, refl, ap, sym, ◌∙◌, arith, inl, inr}
+use Rattle.std.proofs.Common.{◌≡◌, ℕ, ◌+◌, ◌<◌, ◌≤◌, Bool, true, false, ap, sym, ◌∙◌, arith, inl, inr}
 use Rattle.std.specs.Prelude.{◌⊎◌, ◌||◌, ◌&&◌, nat_eq, nat_lt}
-use Rattle.std.proofs.lemmas.Bool.{cases_eq, cases_lt, eq-eqb, ne_eqb, false≢true, lt-ltb, le-ltb, ltb-true, and_parts}
+use Rattle.std.proofs.lemmas.Bool.{cases_eq, cases_lt, eq-eqb, ne_eqb, lt-ltb, le-ltb, ltb-true, and_parts}
 use Rattle.noc_packet.specs.Set.{has_bit}
 use Rattle.noc_alloc.specs.Arbiter.{first_in_turn}
 use Rattle.noc_alloc.proofs.ArbiterLemmas.{first_in_turn-same}

@@ -1,13 +1,12 @@
 -- Picks, wins and the pointers that move.
-use Rattle.std.proofs.Common.{◌≡◌, ℕ, ◌+◌, ◌-◌, ◌*◌, ◌<◌, ◌≤◌, Bool, true, false, List, [], ◌∷◌, length, get_or, set, take, zero, suc, Option, Some, None, refl, ap, sym, ◌∙◌, arith, inl, inr, subst, get_or-set_same, get_or-set_other}
-use Rattle.std.specs.Prelude.{All, IfSome, ◌⊎◌, ◌||◌, ◌&&◌, not, nat_eq, nat_lt, is_some, if◌then◌else◌}
-use Rattle.std.proofs.lemmas.Bool.{cases_eq, cases_lt, eq-eqb, ne_eqb, false≢true, or_cases, lt-ltb, le-ltb}
-use Rattle.noc_packet.specs.Set.{has_bit, in_both, IsLeast}
+use Rattle.std.proofs.Common.{◌≡◌, ℕ, ◌+◌, ◌*◌, ◌<◌, ◌≤◌, Bool, true, false, List, [], ◌∷◌, length, get_or, set, take, zero, suc, Option, Some, None, refl, ap, sym, ◌∙◌, arith, inl, inr, subst, get_or-set_same, get_or-set_other}
+use Rattle.std.specs.Prelude.{All, IfSome, ◌⊎◌, ◌||◌, nat_lt, if◌then◌else◌}
+use Rattle.std.proofs.lemmas.Bool.{cases_eq, cases_lt, false≢true, or_cases, lt-ltb, le-ltb}
 use Rattle.std.proofs.lemmas.Nat.{mul-add-lt}
 use Rattle.std.proofs.lemmas.List.{get_or-map}
 use Rattle.noc_topo.specs.Words.{is_some_of, tabulate}
 use Rattle.noc_alloc.specs.Arbiter.{Turn, first_in_turn, turned, turn_at, pointers_of}
-use Rattle.noc_alloc.specs.Allocation.{pick_of, picked_port, winner_of, has_won, winning_pick, moving_pick, turned_by, is_won_by, pick_won}
+use Rattle.noc_alloc.specs.Allocation.{picked_port, winner_of, has_won, winning_pick, moving_pick, turned_by, is_won_by, pick_won}
 use Rattle.noc_alloc.specs.Steps.{turned_winner}
 use Rattle.noc_alloc.proofs.WordLemmas.{map_indexed-from_each, length-map_indexed, get_or-map_indexed, get_or-tabulate, length-tabulate, is_some_of-true, is_some_of-some, is_some_of-none, is_some_of-other}
 use Rattle.noc_alloc.proofs.ArbiterLemmas.{first_in_turn-picks}

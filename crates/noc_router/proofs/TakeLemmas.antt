@@ -1,5 +1,5 @@
 -- A beat is taken.
-use Rattle.std.proofs.Common.{◌≡◌, ℕ, ◌+◌, ◌*◌, Bool, true, false, Option, Some, None, suc, ◌<◌, List, [], ◌∷◌, ◌++◌, length, take, refl, ap, sym, ◌∙◌, arith, slice_set}
+use Rattle.std.proofs.Common.{◌≡◌, ℕ, ◌+◌, ◌*◌, Bool, true, false, Some, suc, ◌<◌, List, [], ◌∷◌, ◌++◌, length, take, refl, ap, sym, ◌∙◌, arith, slice_set}
 use Rattle.std.specs.Prelude.{◌&&◌, nat_lt, slice_index_or, if◌then◌else◌}
 use Rattle.std.proofs.lemmas.List.{take_more, length-take}
 use Rattle.noc_packet.specs.declared.packet.Flit.{Flit}
@@ -12,7 +12,7 @@ use Rattle.noc_router.specs.declared.channels.Channels.{Channels}
 use Rattle.noc_router.specs.declared.router.Router.TheInside.{Inside}
 use Rattle.noc_router.specs.Inside.{view_of}
 use Rattle.noc_router.specs.Sound.{input_at, output_at}
-use Rattle.noc_router.specs.View.{View, Site, has_link, view_buffer, view_input, view_output, raised, with_flit, with_landed, with_misfit, with_credit, taken, taken_from}
+use Rattle.noc_router.specs.View.{View, has_link, view_buffer, view_input, view_output, raised, with_flit, with_landed, with_misfit, with_credit, taken, taken_from}
 
 -- whether a flit lands
 abbrev pub lands : Routes → ℕ → ℕ → Flit → View → Bool
