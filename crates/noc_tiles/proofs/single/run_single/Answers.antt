@@ -1,5 +1,5 @@
-use Rattle.std.proofs.Common.{rules, arith, ◌≡◌, ℕ, ◌+◌, ◌<◌, ◌≤◌, length, vec_len, [], refl, ap, sym, ◌∙◌, subst}
-use Rattle.noc_topo.specs.Shape.{IsGrid, nodes, local_port}
+use Rattle.std.proofs.Common.{rules, arith, ◌+◌, refl, ◌∙◌, subst}
+use Rattle.noc_topo.specs.Shape.{IsGrid}
 use Rattle.noc_net.specs.Parts.{setup_in}
 use Rattle.noc_net.specs.declared.parts.Parts.{Parts}
 use Rattle.noc_tiles.specs.Tiles.{IsReady}
