@@ -1,31 +1,25 @@
 -- From the tiles that came back to the network.
-use Rattle.std.proofs.Common.{◌≡◌, ◌≢◌, ◌⊎◌, inl, inr, ℕ, zero, suc, ◌+◌, ◌-◌, ◌<◌, ◌≤◌, Bool, true, false, List, [], ◌∷◌, ◌++◌, map, length, get_or, take, drop, Vec, Global, vec_len, Option, Some, None, refl, ap, ap₂, sym, ◌∙◌, arith, subst, rules, ⊎_elim}
-use Rattle.std.specs.Prelude.{IfSome}
+use Rattle.std.proofs.Common.{◌≡◌, ◌≢◌, inl, inr, ℕ, zero, suc, ◌+◌, ◌<◌, ◌≤◌, Bool, true, false, List, [], ◌∷◌, ◌++◌, length, get_or, take, Vec, Global, vec_len, Option, Some, None, refl, ap, sym, ◌∙◌, arith, subst, ⊎_elim}
 use Rattle.std.specs.List.{flat_map}
-use Rattle.std.proofs.lemmas.Bool.{cases_eq, cases_lt, false≢true}
-use Rattle.std.proofs.lemmas.List.{get_or-map, length-map, length-append, get_or_push, get_or_append_left, get_or-take, get_or-drop, length-take-le, length-drop, take_all, same_lists}
-use Rattle.noc_topo.specs.Shape.{IsGrid, neighbour, nodes, local_port}
+use Rattle.std.proofs.lemmas.Bool.{cases_lt, false≢true}
+use Rattle.std.proofs.lemmas.List.{get_or-map, length-map, length-append, get_or_push, get_or_append_left, take_all}
+use Rattle.noc_topo.specs.Shape.{neighbour, nodes}
 use Rattle.noc_topo.proofs.LinkLemmas.{neighbour-range}
 use Rattle.noc_packet.specs.declared.packet.Beat.{Beat}
 use Rattle.noc_route.specs.Routes.{Routes}
 use Rattle.noc_router.specs.View.{View, idle_beat}
 use Rattle.noc_net.specs.Halves.{beat_at}
-use Rattle.noc_net.specs.Lockstep.{lockstep_at}
 use Rattle.noc_net.specs.Network.{Setup}
 use Rattle.noc_model.proofs.RunLemmas.{count_views}
-use Rattle.noc_tiles.specs.Wire.{Wire}
-use Rattle.noc_tiles.specs.Ends.{End, inlet, outlet}
-use Rattle.noc_tiles.specs.TileStep.{Layout, TileState, is_own, is_from, is_inside, places, fed_all, cycled, after, puts, put_in}
-use Rattle.noc_tiles.specs.Tiles.{IsReady, IsSameTile, CanRun, AllCanRun, Ended, AllEnded, Runs, inlets, outlets, layout_of, state_of}
-use Rattle.noc_tiles.specs.Emptying.{CanEmpty, Empties, Left}
-use Rattle.noc_tiles.specs.Partition.{AllWhole, IsPartition, IsTile, IsWire, index_of, routers_of, rows_of}
+use Rattle.noc_tiles.specs.Ends.{End}
+use Rattle.noc_tiles.specs.TileStep.{Layout, TileState, is_own, is_from, is_inside, places, fed_all, cycled, after, puts}
+use Rattle.noc_tiles.specs.Tiles.{IsReady, IsSameTile, AllEnded, Runs, inlets, outlets, layout_of, state_of}
+use Rattle.noc_tiles.specs.Partition.{AllWhole, IsPartition, IsWire, index_of, routers_of}
 use Rattle.noc_tiles.specs.declared.tile.Tile.{Tile}
-use Rattle.noc_tiles.specs.declared.tile.Outcome.TheVariants.{Whole}
 use Rattle.noc_tiles.proofs.FlatLemmas.{offset, flat-at, offset-lt, apart, Found, flat-find, column, fed_all-at, length-puts, length-put_by, puts-at}
 use Rattle.noc_tiles.proofs.RunLemmas.{length-fed_all}
-use Rattle.noc_tiles.proofs.SentLemmas.{own-true, own-false, own-within, past-rows}
-use Rattle.noc_tiles.proofs.EndsLemmas.{some_item}
-use Rattle.noc_tiles.proofs.ClosingLaw.{Trace, TilesRan, Agrees, closing, together, Together, carried, put_at, state_at, wire, carried-right, steps-count, views-after}
+use Rattle.noc_tiles.proofs.SentLemmas.{own-true, own-false, own-within}
+use Rattle.noc_tiles.proofs.ClosingLaw.{Trace, carried, wire, steps-count, views-after}
 
 -- ---- the runs of the tiles, one by one
 

@@ -1,5 +1,5 @@
 -- The beats that went to other tiles become idle, one after another.
-use Rattle.std.proofs.Common.{◌≡◌, ◌≢◌, ◌⊎◌, inl, inr, ℕ, ◌+◌, ◌<◌, ◌≤◌, Bool, true, false, List, [], map, length, get_or, set, refl, ap, ap₂, sym, ◌∙◌, arith, subst, below_more}
+use Rattle.std.proofs.Common.{◌≡◌, ◌≢◌, ◌⊎◌, inl, inr, ℕ, ◌+◌, ◌<◌, Bool, List, [], map, length, get_or, set, ap, ap₂, sym, ◌∙◌, arith, below_more}
 use Rattle.std.specs.Prelude.{nat_eq, ◌&&◌, if◌then◌else◌}
 use Rattle.std.proofs.lemmas.Bool.Decides.{eqb_tells}
 use Rattle.std.proofs.lemmas.List.{length-map, get_or-map}
@@ -7,7 +7,7 @@ use Rattle.noc_packet.specs.declared.packet.Beat.{Beat}
 use Rattle.noc_router.specs.View.{idle_beat}
 use Rattle.noc_net.specs.Halves.{beat_at}
 use Rattle.noc_tiles.specs.Wire.{Wire}
-use Rattle.noc_tiles.specs.TileStep.{places, with_beat}
+use Rattle.noc_tiles.specs.TileStep.{places}
 use Rattle.noc_tiles.proofs.TileStepLemmas.{Tells, beat_at-set}
 
 pub place-of : {X A : Type 0} (f : X → Wire A) (xs : List X) (i : ℕ) (d : X) (e : ℕ × ℕ) → i < length xs → get_or (places (map f xs)) i e ≡ (f (get_or xs i d)).at

@@ -1,7 +1,7 @@
 -- The runs of the tiles together are the lockstep run.
-use Rattle.std.proofs.Common.{◌≡◌, ◌⊎◌, inl, inr, ℕ, zero, suc, ◌+◌, ◌-◌, ◌<◌, ◌≤◌, Bool, true, false, List, [], ◌∷◌, ◌++◌, map, length, get_or, take, slice_get, Option, Some, None, refl, ap, ap₂, sym, ◌∙◌, arith, subst, ⊎_elim}
+use Rattle.std.proofs.Common.{◌≡◌, ◌⊎◌, inl, inr, ℕ, zero, suc, ◌+◌, ◌-◌, ◌<◌, ◌≤◌, true, List, [], map, length, get_or, take, slice_get, Option, Some, None, refl, ap, ap₂, sym, ◌∙◌, arith, subst, ⊎_elim}
 use Rattle.std.specs.Prelude.{if◌then◌else◌}
-use Rattle.std.proofs.lemmas.Bool.{cases_lt, false≢true}
+use Rattle.std.proofs.lemmas.Bool.{cases_lt}
 use Rattle.std.proofs.lemmas.List.{take_more, length-take-le, length-map, get_or-map}
 use Rattle.std.proofs.lemmas.Option.{slice_get-get_or, get_or_from_slice_get}
 use Rattle.noc_topo.specs.Shape.{local_port, neighbour, nodes}
@@ -13,7 +13,7 @@ use Rattle.noc_net.specs.Lockstep.{lockstep_at, beats_at}
 use Rattle.noc_net.specs.Network.{Setup}
 use Rattle.noc_model.proofs.RunLemmas.{count_views, count_row}
 use Rattle.noc_model.proofs.SentLemmas.{step_of, next_view, sent_beat, unlinked_beat}
-use Rattle.noc_tiles.specs.TileStep.{Layout, TileState, is_own, is_from, is_inside, beat_among, filled, arrived, steps, sent_of, out_at, after_steps, put_by, cycled, after, puts}
+use Rattle.noc_tiles.specs.TileStep.{Layout, TileState, is_own, is_from, is_inside, beat_among, filled, arrived, steps, sent_of, out_at, after_steps, put_by, cycled, after}
 use Rattle.noc_tiles.proofs.CycleLemmas.{some_view, no_link}
 use Rattle.noc_tiles.proofs.FillLemmas.{HasOrGets, filled_right}
 use Rattle.noc_tiles.proofs.RunLemmas.{after-more}

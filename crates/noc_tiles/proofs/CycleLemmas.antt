@@ -9,15 +9,15 @@ use Rattle.noc_topo.specs.Shape.{local_port, neighbour, nodes}
 use Rattle.noc_topo.proofs.WordLemmas.{length-tabulate, get_or-tabulate, tabulate-from_each, length-map_indexed, get_or-map_indexed}
 use Rattle.noc_packet.specs.declared.packet.Beat.{Beat}
 use Rattle.noc_route.specs.Routes.{Routes}
-use Rattle.noc_router.specs.View.{Site, View, IsRelationOf, idle_beat, local_step, opening_view}
+use Rattle.noc_router.specs.View.{Site, View, idle_beat, local_step, opening_view}
 use Rattle.noc_net.specs.Halves.{IsPlaced, beat_at, decided, emptied, incoming}
 use Rattle.noc_net.specs.Unseen.{unseen}
 use Rattle.noc_model.proofs.RunLemmas.{map_map_indexed}
 use Rattle.noc_model.proofs.StepLemmas.{local_step-view, local_step-beats, site-decided, count-decided}
 use Rattle.noc_tiles.specs.TileStep.{Layout, TileState, Wires, with_beat, filled, is_own, is_from, beat_among, beat_of, arrived, steps, sent_of, out_at, after_steps, put_by}
-use Rattle.noc_tiles.specs.Tiles.{AreWithin, PartsFit}
+use Rattle.noc_tiles.specs.Tiles.{PartsFit}
 use Rattle.noc_tiles.proofs.ClearLemmas.{Cleared, place_at}
-use Rattle.noc_tiles.proofs.TileStepLemmas.{Tells, filled-nil}
+use Rattle.noc_tiles.proofs.TileStepLemmas.{Tells}
 use Rattle.noc_tiles.proofs.SentLemmas.{past-rows, sent_by}
 use Rattle.std.proofs.lemmas.Bool.Decides.{eqb_tells}
 

@@ -1,28 +1,28 @@
 -- The tiles that came back, put together: all is as in the lockstep run.
-use Rattle.std.proofs.Common.{◌≡◌, ◌≢◌, ◌⊎◌, inl, inr, ℕ, zero, suc, ◌+◌, ◌-◌, ◌<◌, ◌≤◌, Bool, true, false, List, [], ◌∷◌, ◌++◌, map, length, get_or, take, drop, vec_len, Option, Some, None, refl, ap, ap₂, sym, ◌∙◌, arith, subst, ⊎_elim}
+use Rattle.std.proofs.Common.{◌≡◌, ◌≢◌, ◌⊎◌, inl, inr, ℕ, zero, suc, ◌+◌, ◌<◌, ◌≤◌, List, [], ◌∷◌, ◌++◌, length, get_or, take, drop, Option, refl, ap, sym, ◌∙◌, arith, subst, ⊎_elim}
 use Rattle.std.specs.List.{flat_map}
-use Rattle.std.proofs.lemmas.Bool.{cases_lt, false≢true}
+use Rattle.std.proofs.lemmas.Bool.{cases_lt}
 use Rattle.std.proofs.lemmas.List.{get_or-map, length-map, get_or-take, get_or-drop, length-take-le, length-drop, take_all, same_lists}
-use Rattle.noc_topo.specs.Shape.{neighbour, nodes, local_port}
+use Rattle.noc_topo.specs.Shape.{nodes}
 use Rattle.noc_topo.proofs.LinkLemmas.{nodes-some}
 use Rattle.noc_route.specs.Routes.{Routes}
 use Rattle.noc_packet.specs.declared.packet.Beat.{Beat}
-use Rattle.noc_router.specs.View.{View, idle_beat}
+use Rattle.noc_router.specs.View.{idle_beat}
 use Rattle.noc_net.specs.Halves.{beat_at}
 use Rattle.noc_net.specs.Lockstep.{lockstep_at}
 use Rattle.noc_net.specs.Network.{Setup}
 use Rattle.noc_model.proofs.RunLemmas.{count_views, past_wires}
-use Rattle.noc_tiles.specs.Ends.{End, inlet, outlet}
-use Rattle.noc_tiles.specs.TileStep.{Layout, TileState, is_inside, places, after, puts, put_in}
+use Rattle.noc_tiles.specs.Ends.{End}
+use Rattle.noc_tiles.specs.TileStep.{TileState, places, after, puts, put_in}
 use Rattle.noc_tiles.specs.Tiles.{CanRun, AllCanRun, inlets, outlets, layout_of, state_of}
 use Rattle.noc_tiles.specs.Emptying.{CanEmpty, Empties, Left}
-use Rattle.noc_tiles.specs.Partition.{IsPartition, IsTile, IsWire, routers_of, rows_of}
+use Rattle.noc_tiles.specs.Partition.{IsPartition, routers_of, rows_of}
 use Rattle.noc_tiles.specs.declared.tile.Tile.{Tile}
 use Rattle.noc_tiles.proofs.FlatLemmas.{offset, flat-at, offset-lt, Found, flat-find, column, length-puts, puts-at}
 use Rattle.noc_tiles.proofs.SentLemmas.{past-rows}
 use Rattle.noc_tiles.proofs.EndsLemmas.{some_item}
-use Rattle.noc_tiles.proofs.BoundaryLemmas.{AllRuns, RunsBy, received_of, runs_at, same_count, offset-same, flat-same, offset-two, flat-two, Moved, given, inlet-at, outlet-at, length-inlets, length-outlets, vec-length, found-get, place-get, stream, stream-last, length-after, set_at, owner, far_end-flat, wire-of, Carries}
-use Rattle.noc_tiles.proofs.ClosingLaw.{Trace, TilesRan, Agrees, closing, together, carried, put_at, state_at, wire, carried-right}
+use Rattle.noc_tiles.proofs.BoundaryLemmas.{AllRuns, RunsBy, received_of, runs_at, same_count, offset-same, flat-same, offset-two, flat-two, Moved, inlet-at, outlet-at, length-inlets, length-outlets, vec-length, found-get, place-get, stream, stream-last, length-after, set_at, owner, far_end-flat, wire-of, Carries}
+use Rattle.noc_tiles.proofs.ClosingLaw.{Trace, TilesRan, Agrees, closing, together, carried, state_at, wire, carried-right}
 
 module _ (net : Setup) (n k : ℕ) (I O : List (Option End)) (xs ys : List Tile) (W : IsPartition net n k I O xs) (r : AllRuns net.relation k xs ys) (d : Tile) where
   abbrev rows_at : ℕ → List (List Beat)

@@ -1,7 +1,7 @@
 -- A tile that is cut from a network.
-use Rattle.std.proofs.Common.{◌≡◌, ◌⊎◌, inl, inr, ℕ, zero, suc, ◌+◌, ◌-◌, ◌*◌, ◌/◌, ◌%◌, ◌<◌, ◌≤◌, Bool, true, false, List, [], ◌∷◌, map, length, get_or, take, drop, vec_len, Option, Some, None, refl, ap, ap₂, sym, ◌∙◌, arith, subst, ⊎_elim}
+use Rattle.std.proofs.Common.{◌≡◌, ◌⊎◌, inl, inr, ℕ, ◌+◌, ◌*◌, ◌/◌, ◌%◌, ◌<◌, ◌≤◌, true, false, List, length, get_or, take, drop, Option, Some, None, refl, ap, ap₂, sym, ◌∙◌, arith, subst, ⊎_elim}
 use Rattle.std.proofs.lemmas.Bool.{cases_lt, false≢true}
-use Rattle.std.proofs.lemmas.List.{get_or-take, get_or-drop, length-take-le, length-drop, get_or-map, length-map}
+use Rattle.std.proofs.lemmas.List.{get_or-take, get_or-drop, length-take-le, length-drop, length-map}
 use Rattle.noc_topo.specs.Shape.{IsGrid, neighbour, nodes, local_port}
 use Rattle.noc_topo.proofs.LinkLemmas.{link_back}
 use Rattle.noc_packet.specs.declared.packet.Beat.{Beat}
@@ -13,10 +13,9 @@ use Rattle.noc_model.proofs.RunLemmas.{count_views, linked_wires}
 use Rattle.noc_tiles.specs.Ends.{End}
 use Rattle.noc_tiles.specs.TileStep.{is_own, is_from, is_inside, places}
 use Rattle.noc_tiles.specs.Tiles.{PartsFit}
-use Rattle.noc_tiles.specs.Rings.{AreLeftOut, AreSlots, AreTakenIn, AreTakenOut, IsSlot}
-use Rattle.noc_tiles.specs.Partition.{index_of}
+use Rattle.noc_tiles.specs.Rings.{AreLeftOut, AreSlots, AreTakenIn, AreTakenOut}
 use Rattle.noc_tiles.proofs.ClearLemmas.{place_at}
-use Rattle.noc_tiles.proofs.CycleLemmas.{cases_bool, no_link, some_view}
+use Rattle.noc_tiles.proofs.CycleLemmas.{cases_bool, no_link}
 use Rattle.noc_tiles.proofs.SentLemmas.{own-true, own-within}
 use Rattle.noc_tiles.proofs.BoundaryLemmas.{place-get}
 use Rattle.noc_tiles.proofs.EndsLemmas.{some_item}

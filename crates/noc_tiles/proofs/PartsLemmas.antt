@@ -1,21 +1,17 @@
 -- The parts of a network and the lockstep run, both ways. Nothing else in this crate uses what the parts of a network promise.
-use Rattle.std.proofs.Common.{◌≡◌, ℕ, ◌≤◌, List, [], map, length, vec_len, refl, ap, sym, ◌∙◌, subst, arith}
+use Rattle.std.proofs.Common.{◌≡◌, ◌≤◌, [], map, length, vec_len, ap, sym, ◌∙◌, subst, arith}
 use Rattle.std.specs.List.{All}
-use Rattle.noc_topo.specs.Shape.{IsGrid, nodes, ports, local_port}
-use Rattle.noc_packet.specs.declared.packet.Beat.{Beat}
+use Rattle.noc_topo.specs.Shape.{IsGrid, nodes, ports}
 use Rattle.noc_router.specs.Decided.{IsDecidedFor}
-use Rattle.noc_router.specs.View.{View}
 use Rattle.noc_net.specs.Good.{IsGoodSetup}
 use Rattle.noc_net.proofs.PartsLemmas.{parts-in_step, views-in_step, wires-in_step}
 use Rattle.noc_model.specs.declared.limits.TheConstants.{CYCLE_LIMIT}
-use Rattle.noc_net.specs.Halves.{beat_at}
 use Rattle.noc_net.specs.Lockstep.{lockstep_at}
-use Rattle.noc_net.specs.Network.{Setup}
 use Rattle.noc_net.specs.Parts.{AreParts, setup_in}
 use Rattle.noc_net.specs.declared.parts.Parts.{Parts}
 use Rattle.noc_tiles.specs.Ends.{inlet, outlet}
 use Rattle.noc_tiles.specs.Partition.{InFlight}
-use Rattle.noc_tiles.specs.Tiles.{IsReady, PartsFit, inlets, outlets}
+use Rattle.noc_tiles.specs.Tiles.{IsReady, inlets, outlets}
 use Rattle.noc_tiles.specs.TileStep.{places}
 use Rattle.noc_tiles.specs.declared.tile.Tile.{Tile}
 use Rattle.noc_tiles.proofs.BoundaryLemmas.{vec-length}

@@ -1,17 +1,16 @@
 -- The ends of rings go from the slots to the tiles.
-use Rattle.std.proofs.Common.{◌≡◌, ◌≢◌, ◌⊎◌, inl, inr, ℕ, zero, suc, ◌+◌, ◌*◌, ◌/◌, ◌%◌, ◌<◌, ◌≤◌, Bool, true, false, List, [], ◌∷◌, ◌++◌, map, length, get_or, set, Option, Some, None, refl, ap, ap₂, sym, ◌∙◌, arith, subst, ⊎_elim}
+use Rattle.std.proofs.Common.{◌≡◌, ◌≢◌, ◌⊎◌, inl, inr, ℕ, ◌+◌, ◌*◌, ◌/◌, ◌%◌, ◌<◌, ◌≤◌, Bool, true, false, List, [], ◌∷◌, ◌++◌, map, length, get_or, Option, Some, None, refl, ap, ap₂, sym, ◌∙◌, arith, subst, ⊎_elim}
 use Rattle.std.specs.Prelude.{option_map, is_some, IfSome, IfNone}
-use Rattle.std.proofs.lemmas.Bool.{cases_eq, cases_lt, false≢true}
-use Rattle.std.proofs.lemmas.List.{append-nil, length_push, length-map, map-append, map-set, get_or-map, get_or_append_left, get_or_push, get_or-set_same, get_or-set_other, get_or_past}
+use Rattle.std.proofs.lemmas.Bool.{cases_lt, false≢true}
+use Rattle.std.proofs.lemmas.List.{append-nil, length_push, length-map, map-append, get_or-map, get_or_append_left, get_or_push, get_or-set_other, get_or_past}
 use Rattle.noc_topo.specs.Shape.{Grid, IsGrid, neighbour, nodes}
 use Rattle.noc_topo.proofs.LinkLemmas.{link_back}
 use Rattle.noc_packet.specs.declared.packet.Beat.{Beat}
 use Rattle.noc_net.specs.Halves.{beat_at}
 use Rattle.noc_model.proofs.WireLemmas.{same-ports}
-use Rattle.noc_tiles.specs.Ends.{End, inlet, outlet}
+use Rattle.noc_tiles.specs.Ends.{End}
 use Rattle.noc_tiles.specs.TileStep.{is_own, is_from, is_inside}
-use Rattle.noc_tiles.specs.Rings.{AreLeftOut, AreSlots, AreTakenIn, AreTakenOut, LeadsTo, IsSlot, held, in_slots, one_of, out_slots, without}
-use Rattle.noc_tiles.proofs.CycleLemmas.{cases_bool}
+use Rattle.noc_tiles.specs.Rings.{AreLeftOut, AreSlots, AreTakenIn, AreTakenOut, LeadsTo, IsSlot, held, one_of, without}
 use Rattle.noc_tiles.proofs.SentLemmas.{own-true}
 
 -- the views of slots, after one was emptied

@@ -1,7 +1,7 @@
 -- One more cycle of a tile's run.
-use Rattle.std.proofs.Common.{◌≡◌, ℕ, zero, suc, ◌+◌, ◌-◌, ◌<◌, ◌≤◌, Bool, true, List, [], ◌∷◌, ◌++◌, map, length, get_or, refl, ap, ap₂, sym, ◌∙◌, arith, subst, below_more}
+use Rattle.std.proofs.Common.{◌≡◌, ℕ, suc, ◌+◌, ◌<◌, ◌≤◌, Bool, true, List, [], ◌∷◌, ◌++◌, map, length, get_or, refl, ap, ap₂, sym, ◌∙◌, arith, below_more}
 use Rattle.std.proofs.lemmas.List.{length_push, get_or_append_left, get_or_push, length-map, get_or-map, same_lists}
-use Rattle.noc_topo.specs.Words.{tabulate, map_indexed}
+use Rattle.noc_topo.specs.Words.{map_indexed}
 use Rattle.noc_topo.specs.Shape.{local_port, nodes}
 use Rattle.noc_topo.proofs.WordLemmas.{length-map_indexed, get_or-map_indexed}
 use Rattle.noc_packet.specs.declared.packet.Beat.{Beat}
@@ -11,7 +11,7 @@ use Rattle.noc_net.specs.Halves.{beat_at}
 use Rattle.noc_net.specs.Unseen.{unseen}
 use Rattle.noc_model.proofs.UnseenLemmas.{findings-local_step}
 use Rattle.noc_tiles.specs.Wire.{Wire}
-use Rattle.noc_tiles.specs.TileStep.{Layout, TileState, fed, fed_all, names, places, filled, arrived, steps, after_steps, put_by, cycled, put_in, after, puts}
+use Rattle.noc_tiles.specs.TileStep.{Layout, TileState, fed, fed_all, places, filled, arrived, steps, after_steps, put_by, cycled, put_in, after, puts}
 use Rattle.noc_tiles.specs.Tiles.{IsReady, IsSameTile, Cycles, Runs, inlets, outlets, layout_of, state_of}
 use Rattle.noc_tiles.specs.declared.tile.Tile.{Tile}
 use Rattle.noc_tiles.proofs.TileStepLemmas.{length-fed, places-names, filled-same}

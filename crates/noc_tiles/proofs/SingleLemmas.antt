@@ -1,26 +1,25 @@
 -- A network in one tile.
-use Rattle.std.proofs.Common.{◌≡◌, ◌⊎◌, inl, inr, ℕ, zero, suc, ◌+◌, ◌<◌, ◌≤◌, Bool, true, false, List, [], ◌∷◌, ◌++◌, length, get_or, take, drop, map, vec_len, Option, Some, None, refl, ap, sym, ◌∙◌, arith, subst, ⊎_elim}
+use Rattle.std.proofs.Common.{◌≡◌, inl, inr, ℕ, zero, suc, ◌+◌, ◌<◌, true, List, [], ◌∷◌, length, get_or, take, drop, map, Option, Some, None, refl, ap, sym, ◌∙◌, arith, subst, ⊎_elim}
 use Rattle.std.specs.List.{flat_map}
-use Rattle.std.proofs.lemmas.Bool.{false≢true}
 use Rattle.std.proofs.lemmas.List.{append-nil, take_all}
-use Rattle.noc_topo.specs.Shape.{IsGrid, neighbour, nodes, local_port}
+use Rattle.noc_topo.specs.Shape.{IsGrid, neighbour, nodes}
 use Rattle.noc_topo.proofs.LinkLemmas.{neighbour-range}
 use Rattle.noc_packet.specs.declared.packet.Beat.{Beat}
-use Rattle.noc_router.specs.View.{View, idle_beat}
+use Rattle.noc_router.specs.View.{View}
 use Rattle.noc_net.specs.Halves.{beat_at}
 use Rattle.noc_net.specs.Lockstep.{lockstep_at}
 use Rattle.noc_net.specs.Network.{Setup}
 use Rattle.noc_model.proofs.RunLemmas.{count_views, linked_wires, past_wires}
 use Rattle.noc_tiles.specs.Ends.{End}
 use Rattle.noc_tiles.specs.TileStep.{is_own, is_from, is_inside}
-use Rattle.noc_tiles.specs.Tiles.{CanRun, IsReady, PartsFit, Runs, IsSameTile, inlets, outlets}
+use Rattle.noc_tiles.specs.Tiles.{CanRun, PartsFit, Runs, IsSameTile, inlets, outlets}
 use Rattle.noc_tiles.specs.Emptying.{Empties}
 use Rattle.noc_tiles.specs.Partition.{IsPartition, IsTile, routers_of, rows_of}
 use Rattle.noc_tiles.specs.declared.tile.Tile.{Tile}
 use Rattle.noc_tiles.proofs.SentLemmas.{own-true, own-outside}
 use Rattle.noc_tiles.proofs.StartLemmas.{placed_views}
-use Rattle.noc_tiles.proofs.BoundaryLemmas.{AllRuns, Ran, vec-length}
-use Rattle.noc_tiles.proofs.GatherLemmas.{views-done, wires-done, rows-length}
+use Rattle.noc_tiles.proofs.BoundaryLemmas.{AllRuns, vec-length}
+use Rattle.noc_tiles.proofs.GatherLemmas.{views-done, wires-done}
 
 -- all routers and wires of the lockstep run at count n are in the tile
 pub record IsAll (net : Setup) (n k : ℕ) (t : Tile) : Type 0 where

@@ -1,10 +1,9 @@
 -- Tile after tile is cut from a network.
-use Rattle.std.proofs.Common.{◌≡◌, ◌⊎◌, inl, inr, ℕ, zero, suc, ◌+◌, ◌-◌, ◌*◌, ◌/◌, ◌%◌, ◌<◌, ◌≤◌, ◌^◌, Bool, true, false, List, [], ◌∷◌, ◌++◌, map, length, get_or, take, drop, vec_len, Option, Some, None, refl, ap, ap₂, sym, ◌∙◌, arith, subst, ⊎_elim}
+use Rattle.std.proofs.Common.{◌≡◌, ◌⊎◌, inl, inr, ℕ, ◌+◌, ◌*◌, ◌/◌, ◌%◌, ◌<◌, ◌≤◌, ◌^◌, true, false, List, [], ◌∷◌, length, get_or, take, drop, Option, Some, None, refl, ap, ap₂, sym, ◌∙◌, arith, subst, ⊎_elim}
 use Rattle.std.specs.Prelude.{is_some}
-use Rattle.std.specs.List.{flat_map}
 use Rattle.std.proofs.lemmas.Bool.{cases_lt, false≢true}
 use Rattle.std.proofs.lemmas.List.{get_or_past}
-use Rattle.noc_topo.specs.Shape.{IsGrid, neighbour, nodes, ports, local_port}
+use Rattle.noc_topo.specs.Shape.{IsGrid, neighbour, nodes, ports}
 use Rattle.noc_topo.proofs.LinkLemmas.{link_back}
 use Rattle.noc_packet.specs.declared.packet.Beat.{Beat}
 use Rattle.noc_router.specs.Decided.{IsDecidedFor}
@@ -12,19 +11,17 @@ use Rattle.noc_router.specs.View.{View, idle_beat}
 use Rattle.noc_net.specs.Halves.{beat_at}
 use Rattle.noc_net.specs.Lockstep.{lockstep_at}
 use Rattle.noc_net.specs.Network.{Setup}
-use Rattle.noc_model.proofs.RunLemmas.{count_views}
 use Rattle.noc_tiles.specs.Ends.{End}
 use Rattle.noc_tiles.specs.TileStep.{is_own, is_from, is_inside, places}
-use Rattle.noc_tiles.specs.Tiles.{CanRun, PartsFit, inlets, outlets}
+use Rattle.noc_tiles.specs.Tiles.{PartsFit, inlets, outlets}
 use Rattle.noc_tiles.specs.Rings.{AreLeftOut, AreSlots, AreTakenIn, AreTakenOut, LeadsTo}
-use Rattle.noc_tiles.specs.Partition.{InFlight, IsTile, AreUnassigned, IsWire, AreWires, index_of, routers_of}
+use Rattle.noc_tiles.specs.Partition.{InFlight, IsTile, AreUnassigned, AreWires, index_of}
 use Rattle.noc_tiles.specs.declared.tile.Tile.{Tile}
 use Rattle.noc_tiles.proofs.ClearLemmas.{place_at}
 use Rattle.noc_tiles.specs.Starts.{tile_start}
 use Rattle.noc_tiles.proofs.SentLemmas.{own-true}
 use Rattle.noc_tiles.proofs.StartsLemmas.{apart-out, apart-in}
-use Rattle.noc_tiles.proofs.BoundaryLemmas.{vec-length}
-use Rattle.noc_tiles.proofs.PartitionLemmas.{own_views, views-count, parts-fit, tile-covers, in-at, out-at, place-in, place-out}
+use Rattle.noc_tiles.proofs.PartitionLemmas.{views-count, parts-fit, tile-covers, in-at, out-at, place-in, place-out}
 
 outside-some : (first count : ℕ) (x : Option (ℕ × ℕ)) → is_inside first count x ≡ false → (from : ℕ × ℕ) × (x ≡ Some from) × (is_own first count from.0 ≡ false)
 outside-some first count None h = absurd (false≢true (sym h))

@@ -1,5 +1,5 @@
 -- A tile as a function of the beats that it receives.
-use Rattle.std.specs.Prelude.{ℕ, zero, suc, ◌≡◌, ◌+◌, ◌-◌, ◌<◌, List, [], ◌∷◌, map, length, get_or, Option, Some, None, Bool, true, false, nat_eq, nat_le, nat_lt, ◌&&◌, if◌then◌else◌}
+use Rattle.std.specs.Prelude.{ℕ, suc, ◌+◌, ◌-◌, List, [], ◌∷◌, map, length, Option, Some, None, Bool, true, false, nat_eq, nat_le, nat_lt, ◌&&◌, if◌then◌else◌}
 use Rattle.noc_topo.specs.Words.{tabulate, map_indexed}
 use Rattle.noc_topo.specs.Shape.{local_port, neighbour}
 use Rattle.noc_packet.specs.declared.packet.Beat.{Beat}

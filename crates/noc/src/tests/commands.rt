@@ -1,5 +1,7 @@
 // Requests for commands, whose texts stand in memory.
 
+ghost use Rattle.std.specs.Prelude.{◌≡◌, IfOk};
+
 use super::{Answer, answer_of};
 use crate::request::{Command, Report, Request};
 use noc_files::InputFault;
@@ -9,7 +11,9 @@ use std::test::Fail;
 const DEADLOCKED_RING: &str =
     "source,destination,class,length,due\n0,2,0,4,0\n1,3,0,4,0\n2,0,0,4,0\n3,1,0,4,0\n";
 
-fn request(alloc: Global, config: &str, traffic: &str, command: Command) -> Result<Request, Fail> {
+fn request(alloc: Global, config: &str, traffic: &str, command: Command) -> Result<Request, Fail>
+    ensures { IfOk result (λ request. request.command ≡ command) }
+{
     Ok(Request {
         config: Ok(config.as_bytes().to_vec(alloc)?),
         table: None,

@@ -1,5 +1,8 @@
 // Devices that take some bytes of an answer and then no more.
 
+ghost use Rattle.std.specs.Prelude.{IfOk};
+ghost use Rattle.noc.specs.Run.{HasWorkers};
+
 use crate::answer::answer;
 use crate::fault::{Fault, OptionFault, status_of};
 use crate::line::fault_line;
@@ -51,7 +54,9 @@ const STALLS: &str =
 2,local,0,20,0,0,0,0,0,0,0,0,0
 ";
 
-fn two_packets_on_a_line(alloc: Global) -> Result<Request, Fail> {
+fn two_packets_on_a_line(alloc: Global) -> Result<Request, Fail>
+    ensures { IfOk result (λ request. HasWorkers request.command) }
+{
     let config =
         b"kind = \"mesh\"\nradix = [3]\nchannels = 1\nbuffer = 2\nclasses = 1\nrule = \"dor\"\ncycles = 20\n";
     let traffic = b"source,destination,class,length,due\n0,2,0,1,0\n1,2,0,1,0\n";

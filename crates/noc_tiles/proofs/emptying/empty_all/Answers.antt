@@ -1,9 +1,7 @@
-use Rattle.std.proofs.Common.{rules, arith, ℕ, ◌≡◌, ◌+◌, ◌<◌, ◌≤◌, ◌++◌, [], ◌∷◌, map, length, get_or, set, vec_len, Some, ap, sym, ◌∙◌, subst, refl}
-use Rattle.std.proofs.lemmas.List.{length-map, length-set, get_or-set_other, map-set, set-get_or}
+use Rattle.std.proofs.Common.{rules, arith, ◌≡◌, ◌<◌, [], map, length, get_or, set, Some, ap, sym, ◌∙◌, subst, refl}
+use Rattle.std.proofs.lemmas.List.{length-map, get_or-set_other, map-set, set-get_or}
 use Rattle.noc_model.proofs.WireLemmas.{rows_kept}
 use Rattle.noc_tiles.specs.Ends.{End, inlet, outlet}
-use Rattle.noc_tiles.specs.Emptying.{CanEmpty, Empties, Left}
-use Rattle.noc_tiles.specs.declared.wires.Inlet.{Inlet}
 use Rattle.noc_tiles.specs.declared.wires.Outlet.{Outlet}
 use Rattle.noc_tiles.proofs.EndsLemmas.{empties-more, view-rest, view-at, length-views, meets, leaves}
 use Rattle.noc_tiles.proofs.emptying.empty_all.Goals as goal

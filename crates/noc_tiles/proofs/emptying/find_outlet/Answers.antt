@@ -1,4 +1,4 @@
-use Rattle.std.proofs.Common.{rules, arith, ◌<◌, vec_len, length}
+use Rattle.std.proofs.Common.{rules, arith, ◌<◌, length}
 use Rattle.noc_tiles.proofs.EndsLemmas.{some_item}
 use Rattle.noc_tiles.proofs.emptying.find_outlet.Goals as goal
 

@@ -1,4 +1,4 @@
-use Rattle.std.proofs.Common.{ℕ, ◌≡◌, ◌≢◌, ◌<◌, get_or}
+use Rattle.std.proofs.Common.{ℕ, ◌≢◌, ◌<◌, get_or}
 use Rattle.noc_tiles.specs.Ends.{outlet}
 use Rattle.noc_tiles.specs.declared.wires.Outlet.{Outlet}
 use Rattle.noc_tiles.proofs.emptying.find_outlet.Given as goal

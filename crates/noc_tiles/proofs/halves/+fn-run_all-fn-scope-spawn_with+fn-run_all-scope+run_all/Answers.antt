@@ -1,8 +1,8 @@
-use Rattle.std.proofs.Common.{rules, arith, ◌≡◌, ◌++◌, Bool, List, IfOk, IfErr, IsOk, ◌<◌, ◌≤◌, ◌/◌, vec_len, ℕ, length, subst, sym, take, drop, ap, ◌∙◌, Vec, Global, Result}
-use Rattle.noc_tiles.specs.Tiles.{AllCanRun, AllEnded, CanRun, Ended}
+use Rattle.std.proofs.Common.{rules, arith, ◌<◌, ◌/◌, vec_len, subst, sym, ap, ◌∙◌, Vec, Global}
+use Rattle.noc_tiles.specs.Tiles.{AllCanRun}
 use Rattle.noc_tiles.specs.declared.tile.Tile.{Tile}
 use Rattle.noc_tiles.specs.declared.halves.RunsOf.{RunsOf}
-use Rattle.noc_tiles.proofs.EndedLemmas.{AllEnded-append, AllCanRun-take, AllCanRun-drop, both_ended}
+use Rattle.noc_tiles.proofs.EndedLemmas.{AllCanRun-take, AllCanRun-drop, both_ended}
 use Rattle.noc_tiles.proofs.halves.+fn-run_all-fn-scope-spawn_with+fn-run_all-scope+run_all.Goals as goal
 
 pub scope-returns : goal.scope-returns

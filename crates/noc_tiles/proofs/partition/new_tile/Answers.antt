@@ -1,7 +1,7 @@
-use Rattle.std.proofs.Common.{◌≡◌, ℕ, ◌+◌, ◌*◌, ◌/◌, ◌%◌, ◌<◌, ◌≤◌, List, Option, length, vec_len, map, take, drop, refl, ap, sym, ◌∙◌, subst, arith}
+use Rattle.std.proofs.Common.{◌≡◌, ◌+◌, ◌*◌, ◌/◌, ◌%◌, ◌<◌, ◌≤◌, vec_len, map, take, drop, refl, ap, sym, ◌∙◌, subst, arith}
 use Rattle.noc_topo.specs.Shape.{Grid, IsGrid, neighbour, nodes}
 use Rattle.noc_net.specs.Lockstep.{lockstep_at}
-use Rattle.noc_tiles.specs.Ends.{End, inlet, outlet}
+use Rattle.noc_tiles.specs.Ends.{inlet, outlet}
 use Rattle.noc_tiles.specs.Rings.{AreLeftOut, AreTakenIn, AreTakenOut, LeadsTo, in_slots, out_slots}
 use Rattle.noc_tiles.specs.Partition.{setup_of}
 use Rattle.noc_tiles.specs.declared.tile.Tile.{Tile}

@@ -1,4 +1,4 @@
-use Rattle.std.proofs.Common.{◌≡◌, ◌⊎◌, ℕ, ◌+◌, ◌<◌, ◌≤◌, length, vec_len}
+use Rattle.std.proofs.Common.{◌≡◌, ◌⊎◌, ℕ, ◌<◌, ◌≤◌, length, vec_len}
 use Rattle.noc_router.specs.View.{idle_beat}
 use Rattle.noc_net.specs.Halves.{beat_at}
 use Rattle.noc_tiles.proofs.partition.own_beats.Given as goal

@@ -1,10 +1,10 @@
-use Rattle.std.proofs.Common.{◌≡◌, ℕ, ◌+◌, ◌-◌, ◌*◌, ◌<◌, ◌≤◌, List, [], ◌∷◌, ◌++◌, length, get_or, take, drop, vec_len, refl, ap, sym, ◌∙◌, subst, arith, rules}
+use Rattle.std.proofs.Common.{◌≡◌, ℕ, ◌+◌, ◌-◌, ◌<◌, ◌≤◌, List, [], ◌∷◌, ◌++◌, length, get_or, take, drop, vec_len, refl, ap, sym, ◌∙◌, subst, arith, rules}
 use Rattle.std.specs.List.{flat_map}
 use Rattle.std.proofs.lemmas.List.{drop-drop, length-drop, take_all}
-use Rattle.noc_topo.specs.Shape.{Grid, IsGrid, nodes}
+use Rattle.noc_topo.specs.Shape.{IsGrid, nodes}
 use Rattle.noc_net.specs.Lockstep.{lockstep_at}
 use Rattle.noc_model.proofs.RunLemmas.{count_views}
-use Rattle.noc_tiles.specs.Rings.{AreSlots, in_slots, out_slots}
+use Rattle.noc_tiles.specs.Rings.{in_slots, out_slots}
 use Rattle.noc_tiles.specs.Partition.{IsTile, AreUnassigned, routers_of, setup_of}
 use Rattle.noc_tiles.specs.declared.tile.Tile.{Tile}
 use Rattle.noc_tiles.proofs.BoundaryLemmas.{vec-length}

@@ -1,4 +1,4 @@
-use Rattle.std.proofs.Common.{◌≡◌, ℕ, ◌+◌, ◌*◌, ◌/◌, ◌<◌, ◌≤◌, length, get_or, take, drop, vec_len}
+use Rattle.std.proofs.Common.{◌≡◌, ℕ, ◌*◌, ◌<◌, ◌≤◌, length, get_or, take, drop, vec_len}
 use Rattle.std.specs.List.{flat_map}
 use Rattle.noc_topo.specs.Shape.{nodes}
 use Rattle.noc_net.specs.Lockstep.{lockstep_at}

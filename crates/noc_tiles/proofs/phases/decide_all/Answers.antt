@@ -1,4 +1,4 @@
-use Rattle.std.proofs.Common.{◌≡◌, ℕ, ◌+◌, ◌<◌, ◌≤◌, true, List, [], length, get_or, map, vec_len, ap, sym, ◌∙◌, arith, rules, subst}
+use Rattle.std.proofs.Common.{◌≡◌, ℕ, ◌+◌, ◌<◌, [], length, get_or, map, ap, sym, ◌∙◌, arith, rules, subst}
 use Rattle.std.proofs.lemmas.List.{length-map, get_or-map, same_lists}
 use Rattle.noc_topo.specs.Words.{map_indexed}
 use Rattle.noc_topo.proofs.WordLemmas.{length-map_indexed, get_or-map_indexed}

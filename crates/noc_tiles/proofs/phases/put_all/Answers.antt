@@ -1,11 +1,10 @@
-use Rattle.std.proofs.Common.{ℕ, List, ◌≡◌, ◌+◌, ◌<◌, ◌≤◌, [], ◌∷◌, ◌++◌, map, take, drop, length, vec_len, get_or, set, sym, ◌∙◌, ap, arith, refl, rules}
-use Rattle.std.proofs.lemmas.List.{length-map, length-take-le, take_more, take_at, take_all, get_or_read, get_or-map, length-set}
-use Rattle.noc_packet.specs.declared.packet.Beat.{Beat}
+use Rattle.std.proofs.Common.{ℕ, ◌≡◌, ◌<◌, [], ◌∷◌, ◌++◌, map, take, drop, length, get_or, set, sym, ◌∙◌, ap, arith, refl, rules}
+use Rattle.std.proofs.lemmas.List.{length-map, length-take-le, take_more, take_at, take_all, get_or-map, length-set}
 use Rattle.noc_router.specs.View.{idle_beat}
 use Rattle.noc_net.specs.Halves.{beat_at}
 use Rattle.noc_tiles.specs.Ends.{End, outlet}
 use Rattle.noc_tiles.specs.TileStep.{fed, places, names}
-use Rattle.noc_tiles.proofs.TileStepLemmas.{names-fed, names-set, fed-nil, length-same, place-at, within-at, one-more}
+use Rattle.noc_tiles.proofs.TileStepLemmas.{names-fed, names-set, fed-nil, place-at, within-at, one-more}
 use Rattle.noc_tiles.proofs.phases.put_all.Goals as goal
 
 pub loop-one-init : goal.loop-one-init

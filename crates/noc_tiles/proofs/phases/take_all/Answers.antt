@@ -1,10 +1,9 @@
-use Rattle.std.proofs.Common.{ℕ, List, ◌≡◌, ◌+◌, ◌<◌, ◌≤◌, [], ◌∷◌, ◌++◌, map, length, vec_len, get_or, set, take, drop, sym, ◌∙◌, ap, arith, refl, rules, subst, Some}
-use Rattle.std.proofs.lemmas.List.{length_push, length-map, take_at, length-set, get_or_read}
-use Rattle.noc_packet.specs.declared.packet.Beat.{Beat}
+use Rattle.std.proofs.Common.{ℕ, ◌≡◌, ◌+◌, ◌<◌, [], ◌∷◌, ◌++◌, map, length, get_or, set, drop, sym, ◌∙◌, ap, arith, refl, rules, Some}
+use Rattle.std.proofs.lemmas.List.{length_push, length-map, take_at, length-set}
 use Rattle.noc_net.specs.Halves.{beat_at}
 use Rattle.noc_model.proofs.WireLemmas.{rows_kept}
 use Rattle.noc_tiles.specs.Ends.{End, inlet}
-use Rattle.noc_tiles.specs.TileStep.{fed, places, filled, names, with_beat}
+use Rattle.noc_tiles.specs.TileStep.{places, filled, names}
 use Rattle.noc_tiles.proofs.TileStepLemmas.{names-fed, names-set, fed-nil, filled-nil, length-same, place-at, within-at, one-more, filled-more, beat_at-set, with_beat-same}
 use Rattle.noc_tiles.proofs.phases.take_all.Goals as goal
 

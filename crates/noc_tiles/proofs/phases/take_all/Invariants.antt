@@ -1,4 +1,4 @@
-use Rattle.std.proofs.Common.{ℕ, List, ◌≡◌, ◌<◌, [], map, length, get_or, vec_len}
+use Rattle.std.proofs.Common.{ℕ, List, ◌≡◌, ◌<◌, [], map, length, get_or}
 use Rattle.noc_packet.specs.declared.packet.Beat.{Beat}
 use Rattle.noc_net.specs.Halves.{beat_at}
 use Rattle.noc_tiles.specs.Ends.{inlet}

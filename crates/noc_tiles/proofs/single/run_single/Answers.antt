@@ -1,5 +1,6 @@
-use Rattle.std.proofs.Common.{rules, arith, ◌≡◌, ℕ, ◌+◌, ◌<◌, ◌≤◌, length, vec_len, [], refl, ap, sym, ◌∙◌, subst}
-use Rattle.noc_topo.specs.Shape.{IsGrid, nodes, local_port}
+use Rattle.std.proofs.Common.{rules, arith, ◌+◌, refl, ◌∙◌, subst}
+use Rattle.noc_topo.specs.Shape.{IsGrid}
+use Rattle.noc_net.specs.Network.{Run}
 use Rattle.noc_net.specs.Parts.{setup_in}
 use Rattle.noc_net.specs.declared.parts.Parts.{Parts}
 use Rattle.noc_tiles.specs.Tiles.{IsReady}
@@ -42,4 +43,4 @@ from_parts-requires g c =
     let runs = c.run_tile-tile.ensures.ran c.in-Whole.is in
     let Q : Parts =
     record { relation = P.relation; buffer = P.buffer; packets = P.packets; count = P.count + k; routers = b.routers; plan = b.plan; beats = b.beats; room = P.room } in
-    parts-again Q A.good (omega arith) (all-views net P.count k a b all same runs) (all-wires net P.count k a b all same runs) (same.size ∙ A.beats) c.run_tile-tile.ensures.plan A.room
+    parts-again Q A.good (omega (arith, c.requires.end, ap (λ (u : Run). u.count) c.into_parts-relation.ensures.network)) (all-views net P.count k a b all same runs) (all-wires net P.count k a b all same runs) (same.size ∙ A.beats) c.run_tile-tile.ensures.plan A.room

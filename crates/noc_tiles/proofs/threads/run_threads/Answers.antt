@@ -1,4 +1,4 @@
-use Rattle.std.proofs.Common.{rules, arith, ◌≡◌, ℕ, ◌+◌, ◌<◌, ◌≤◌, List, map, length, vec_len, get_or, refl, ap, sym, ◌∙◌, subst}
+use Rattle.std.proofs.Common.{rules, arith, ◌≡◌, ◌+◌, List, map, length, vec_len, get_or, refl, ap, sym, ◌∙◌}
 use Rattle.std.specs.List.{flat_map}
 use Rattle.std.specs.Vec.{with_items}
 use Rattle.std.proofs.lemmas.List.{length-map, with_items_is}
@@ -9,8 +9,8 @@ use Rattle.noc_net.specs.declared.parts.Parts.{Parts}
 use Rattle.noc_tiles.specs.Ends.{inlet, outlet}
 use Rattle.noc_tiles.specs.Tiles.{AllCanRun, inlets, outlets}
 use Rattle.noc_tiles.specs.Partition.{setup_of, rows_of}
-use Rattle.noc_tiles.proofs.BoundaryLemmas.{AllRuns, all_runs, same_count, vec-length}
-use Rattle.noc_tiles.proofs.GatherLemmas.{tile_in, all_can, can_empty, can-empty-as, empties-as, fits, in-count, rows-length, views-done, wires-done}
+use Rattle.noc_tiles.proofs.BoundaryLemmas.{all_runs, same_count, vec-length}
+use Rattle.noc_tiles.proofs.GatherLemmas.{tile_in, all_can, can_empty, can-empty-as, empties-as, fits, rows-length, views-done, wires-done}
 use Rattle.noc_tiles.proofs.PartsLemmas.{parts-again}
 use Rattle.noc_tiles.proofs.threads.run_threads.Goals as goal
 
