@@ -13,6 +13,7 @@ pub mod NetworkRows
 pub mod OrderLemmas
 pub mod OwnerLemmas
 pub mod PacketLemmas
+pub mod PointerRows
 pub mod PostLemmas
 pub mod ReaderLemmas
 pub mod ReadingRows
