@@ -22,3 +22,4 @@ pub mod RankFacts
 pub mod ListingFacts
 pub mod ConfigurationFaults
 pub mod FindingFacts
+pub mod GreatestFacts

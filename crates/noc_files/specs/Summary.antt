@@ -1,8 +1,8 @@
 -- The summary report.
-use Rattle.std.specs.Prelude.{ℕ, ◌-◌, length, max, sum, fold, List, [], ◌∷◌, codes, Option, Some, None, unwrap_or, slice_index}
+use Rattle.std.specs.Prelude.{ℕ, ◌-◌, ◌≤◌, length, max, sum, fold, List, [], ◌∷◌, codes, Option, Some, None, unwrap_or, slice_index}
 use Rattle.std.specs.Borrow.{Bor}
 use Rattle.std.specs.List.{filter_map, flat_map}
-use Rattle.noc_topo.specs.Words.{below}
+use Rattle.noc_topo.specs.Words.{below, Each, Has}
 use Rattle.noc_net.specs.Network.{Run, arrival_in, packet_at, state_at}
 use Rattle.noc_net.specs.Progress.{last_event_before}
 use Rattle.noc_files.specs.Channels.{over_routers}
@@ -28,6 +28,11 @@ greater_of greatest n = Some (max (unwrap_or greatest 0) n)
 -- the greatest of some numbers, if there are any
 abbrev pub greatest_of : List ℕ → Option ℕ
 greatest_of ns = fold greater_of None ns
+
+-- the greatest of some numbers: one of them, and none of them is above it
+pub record IsGreatest (ns : List ℕ) (m : ℕ) : Type 0 where
+  pub one_of_them : Has m ns
+  pub none_above : Each (λ n. n ≤ m) ns
 
 -- an input channel's count in a column of the stall report
 unfoldable pub column_at : Run → ℕ → ℕ → ℕ → ℕ → List ℕ

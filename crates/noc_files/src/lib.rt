@@ -36,7 +36,7 @@ pub use rows::{plain_rows_are_read_back, rows_are_records};
 pub use sink::{Out, Sink};
 pub use source::read_all;
 pub use stalls::write_stalls;
-pub use summary::write_summary;
+pub use summary::{the_greatest_is_one_of_them, write_summary};
 pub use table::{
     read_table, table_is_header_and_rows, table_is_refused_with_its_first_fault,
     written_table_is_read_back,

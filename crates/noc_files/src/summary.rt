@@ -1,10 +1,10 @@
 //! The summary report (docs/FORMATS.md).
 
-ghost use Rattle.std.specs.Prelude.{◌+◌, ◌*◌, ◌^◌, ◌<◌, ◌≤◌, [], ◌∷◌, length, nat_le, sum, true, ◌≡◌};
+ghost use Rattle.std.specs.Prelude.{◌+◌, ◌*◌, ◌^◌, ◌<◌, ◌≤◌, [], ◌∷◌, length, nat_le, sum, true, ◌≡◌, ℕ, List, Some, None};
 ghost use Rattle.std.specs.List.{flat_map, list_all};
 ghost use Rattle.noc_topo.specs.Shape.{nodes, ports};
 ghost use Rattle.noc_files.specs.Channels.{over_port, over_router};
-ghost use Rattle.noc_files.specs.Summary.{column_at, column_total, entry_of, greatest_of, latencies, latency_at, summary_line, summary_lines, summary_of, summary_text};
+ghost use Rattle.noc_files.specs.Summary.{IsGreatest, column_at, column_total, entry_of, greatest_of, latencies, latency_at, summary_line, summary_lines, summary_of, summary_text};
 ghost use Rattle.noc_files.specs.Writing.{Puts, Wrote};
 
 use crate::latency::latency_of;
@@ -135,6 +135,13 @@ fn latencies(network: &Network) -> LatencyTotals
         greatest,
     }
 }
+
+/// The greatest latency of a summary is one of the latencies, and none of them is above it; there is none only where there are
+/// no latencies.
+pub fn the_greatest_is_one_of_them()
+    ensures greatest { (ns : List ℕ) (m : ℕ) → greatest_of ns ≡ Some m → IsGreatest ns m }
+    ensures none { (ns : List ℕ) → greatest_of ns ≡ None → ns ≡ [] }
+{}
 
 // The sum of a column of the stall report over the channels of an input port.
 fn port_total(network: &Network, router: usize, port: usize, column: usize) -> u128

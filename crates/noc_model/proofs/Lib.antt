@@ -7,6 +7,7 @@ pub mod LimitLemmas
 pub mod ListLemmas
 pub mod NetworkRows
 pub mod OrderLemmas
+pub mod PointerRows
 pub mod PostLemmas
 pub mod RunLemmas
 pub mod SentLemmas
