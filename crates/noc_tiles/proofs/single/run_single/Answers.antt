@@ -1,4 +1,4 @@
-use Rattle.std.proofs.Common.{rules, arith, ◌+◌, refl, ◌∙◌, subst}
+use Rattle.std.proofs.Common.{rules, arith, ◌+◌, refl, ap, ◌∙◌, subst}
 use Rattle.noc_topo.specs.Shape.{IsGrid}
 use Rattle.noc_net.specs.Network.{Run}
 use Rattle.noc_net.specs.Parts.{setup_in}
