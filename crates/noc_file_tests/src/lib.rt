@@ -5,6 +5,8 @@
 #[cfg(test)]
 mod configurations;
 #[cfg(test)]
+mod cycles;
+#[cfg(test)]
 mod inputs;
 #[cfg(test)]
 mod rank_files;
