@@ -1,6 +1,7 @@
 pub mod MemoryFacts
 pub mod OutcomeFacts
 pub mod AskedFacts
+pub mod RankedFacts
 pub mod RequestFacts
 pub mod OneRankingFacts
 pub mod OneSettingsFacts

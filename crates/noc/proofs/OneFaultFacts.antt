@@ -24,7 +24,10 @@ use Rattle.noc.specs.Answer.{Asks, AsksFor, a_report, findings, accepted, ranks,
 use Rattle.noc.specs.Asked.{Asked, Said, ReadsAs, as_files, as_joined, is_joined, owned, read_by}
 use Rattle.noc.specs.Check.{Accepts, AsksForChecked, HasRanking, RanksFault, bad_file, bad_rows, bad_ranks, checked_by, checked_ranks}
 use Rattle.noc.specs.Formula.{HasRanks, IsFormulaFault}
-use Rattle.noc.specs.Run.{AsksForRun, IsNetworkOf, PacketsFault, bad_traffic, bad_network}
+use Rattle.noc_net.specs.declared.fault.NetFault.{NetFault}
+use Rattle.noc_net.specs.declared.fault.NetFault.TheVariants as net
+use Rattle.noc_packet.specs.declared.packet.Packet.{Packet}
+use Rattle.noc.specs.Run.{AsksForRun, IsNetworkOf, IsUnmade, PacketsFault, bad_traffic, bad_network}
 use Rattle.noc.specs.Settings.{AsksForRelation, rule_named}
 use Rattle.noc.specs.Status.{is_memory}
 use Rattle.noc.specs.declared.fault.Fault.{Fault}
@@ -115,12 +118,16 @@ one_ranks_fault routes text f k grid p q (bad_ranks {ranking = m} {f = i} given 
 
 -- ---- packets
 
+unmade : (routes : Routes) (packets : List Packet) (f : NetFault) → f ≢ net.Memory → IsUnmade routes packets f → fault_of routes packets ≡ Some f
+unmade routes packets f p (inl e) = e
+unmade routes packets f p (inr m) = absurd (p m.0)
+
 network_none : (routes : Routes) (places : ℕ) (traffic : Said) (net : Setup) (f : Fault) → is_memory f ≡ false → IsNetworkOf routes places traffic net → PacketsFault routes traffic f → ⊥
 network_none routes places traffic net f p h (bad_traffic {f = i} e) = (let never : Ok net.packets ≡ Err i = sym h.packets ∙ e (traffic_not_memory i p) in cc never)
 network_none routes places traffic net f p h (bad_network {packets = ps} {f = i} e bad) =
     let both : Ok net.packets ≡ Ok ps = sym h.packets ∙ e in
     let same : net.packets ≡ ps = cc in
-    let never : None ≡ Some i = sym h.sound ∙ ap (fault_of routes) same ∙ bad (network_not_memory i p) in
+    let never : None ≡ Some i = sym h.sound ∙ ap (fault_of routes) same ∙ unmade routes ps i (network_not_memory i p) bad in
     cc never
 
 one_packets_fault : (routes : Routes) (traffic : Said) (f k : Fault) → is_memory f ≡ false → is_memory k ≡ false → PacketsFault routes traffic f → PacketsFault routes traffic k → f ≡ k
@@ -130,7 +137,7 @@ one_packets_fault routes traffic f k p q (bad_network {packets = ps} d bad) (bad
 one_packets_fault routes traffic f k p q (bad_network {packets = ps} {f = i} e bad) (bad_network {packets = qs} {f = j} d worse) =
     let both : Ok ps ≡ Ok qs = sym e ∙ d in
     let same : ps ≡ qs = cc in
-    let faults : Some i ≡ Some j = sym (bad (network_not_memory i p)) ∙ ap (fault_of routes) same ∙ worse (network_not_memory j q) in
+    let faults : Some i ≡ Some j = sym (unmade routes ps i (network_not_memory i p) bad) ∙ ap (fault_of routes) same ∙ unmade routes qs j (network_not_memory j q) worse in
     cc
 
 -- ---- formulas

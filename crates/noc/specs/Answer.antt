@@ -1,5 +1,5 @@
 -- What is answered to a request: the text that is asked for and how it ended, or the first fault.
-use Rattle.std.specs.Prelude.{◌≡◌, ◌⊎◌, ℕ, ◌<◌, Bool, true, false, List, length, codes, Some, Ok, Err}
+use Rattle.std.specs.Prelude.{◌≡◌, ◌⊎◌, ℕ, ◌<◌, Bool, true, false, List, length, codes, is_some, Some, Ok, Err}
 use Rattle.noc_route.specs.Routes.{Routes}
 use Rattle.noc_net.specs.Network.{Run}
 use Rattle.noc_route.specs.Ranks.{Ranking}
@@ -58,6 +58,10 @@ pub data FirstFault (r : Request) : Fault → Type 0 where
 -- the text that a request asks for, and how it then ends
 abbrev pub Asks : Request → List ℕ → Status → Type 0
 Asks r text status = (a : Asked) × ReadsAs r a × AsksFor a text status
+
+-- a request for a run that comes with ranks
+abbrev pub IsRankedRun : Request → Type 0
+IsRankedRun r = (workers : ℕ) × (report : Report) × (r.command ≡ command.Run workers report) × (is_some r.ranks ≡ true)
 
 -- the fault that is told: the first one, or want of memory for what is to be written, told as that of the configuration
 abbrev pub ToldFault : Request → Fault → Type 0

@@ -1,10 +1,11 @@
 -- The run that is asked for.
-use Rattle.std.specs.Prelude.{◌≡◌, ◌≢◌, ℕ, ◌+◌, ◌<◌, ◌≤◌, List, Option, Some, None, Ok, Err, if◌then◌else◌}
+use Rattle.std.specs.Prelude.{◌≡◌, ◌⊎◌, ℕ, ◌+◌, ◌<◌, ◌≤◌, List, Option, Some, None, Ok, Err, if◌then◌else◌}
 use Rattle.noc_packet.specs.declared.packet.Packet.{Packet}
 use Rattle.noc_route.specs.Routes.{Routes}
 use Rattle.noc_net.specs.declared.fault.NetFault.{NetFault}
 use Rattle.noc_net.specs.declared.fault.NetFault.TheVariants as net
 use Rattle.noc_net.specs.Faults.{fault_of}
+use Rattle.noc_net.specs.Good.{IsGoodSetup}
 use Rattle.noc_net.specs.Network.{Run, Setup}
 use Rattle.noc_net.specs.Progress.{is_stuck}
 use Rattle.noc_files.specs.Configuration.{Settings}
@@ -47,11 +48,16 @@ pub record IsNetworkOf (routes : Routes) (places : ℕ) (traffic : Said) (net : 
   pub places_are : net.places ≡ places
   pub packets : read_by traffic_of traffic ≡ Ok net.packets
   pub sound : fault_of routes net.packets ≡ None
+  pub good : IsGoodSetup net
+
+-- why no network is made of packets: this is their first fault, or memory was refused where they have none
+abbrev pub IsUnmade : Routes → List Packet → NetFault → Type 0
+IsUnmade routes packets f = (fault_of routes packets ≡ Some f) ⊎ ((f ≡ net.Memory) × (fault_of routes packets ≡ None))
 
 -- the first fault: the traffic, then its packets
 pub data PacketsFault (routes : Routes) (traffic : Said) : Fault → Type 0 where
   bad_traffic : {f : InputFault} → IsUnread traffic_of traffic f → PacketsFault routes traffic (fault.Traffic f)
-  bad_network : {packets : List Packet} {f : NetFault} → read_by traffic_of traffic ≡ Ok packets → (f ≢ net.Memory → fault_of routes packets ≡ Some f) → PacketsFault routes traffic (fault.Network f)
+  bad_network : {packets : List Packet} {f : NetFault} → read_by traffic_of traffic ≡ Ok packets → IsUnmade routes packets f → PacketsFault routes traffic (fault.Network f)
 
 -- that network after the cycles that are asked for
 pub record AsksForRun (a : Asked) (run : Run) : Type 0 where

@@ -2,10 +2,11 @@
 
 ghost use Rattle.std.specs.Prelude.{◌≡◌, IfErr, IfOk};
 ghost use Rattle.noc_files.specs.Writing.{Wrote};
-ghost use Rattle.noc.specs.Answer.{Asks, AsksFor, FirstFault, TextsFault};
+ghost use Rattle.noc.specs.Answer.{Asks, AsksFor, FirstFault, IsRankedRun, TextsFault};
 ghost use Rattle.noc.specs.Asked.{ReadsAs, asked_of};
 ghost use Rattle.noc.specs.Outcome.{Ends, Refuses};
 ghost use Rattle.noc.specs.Run.{HasWorkers, workers_of};
+ghost use Rattle.noc.specs.declared.status.Status.TheVariants.{Done as done};
 
 use crate::accept::answer_check;
 use crate::explain::explain;
@@ -22,6 +23,8 @@ use std::thread::Threads;
 /// Writes the report that is asked for, or answers the first fault, with nothing written before it but the bytes that a
 /// write fault counts. The order is: joined text, configuration, options, shape, table, relation, ranks, check, traffic,
 /// network, run, report. `explain` and `ranks` look at no rank file, `check` and `ranks` at no traffic.
+///
+/// A `run` with a rank file that ends without a fault is done, and never stuck.
 pub fn answer<R: Threads + Wait + Sync, W: Sink>(
     rt: &R,
     alloc: Global,
@@ -29,7 +32,8 @@ pub fn answer<R: Threads + Wait + Sync, W: Sink>(
     sink: &mut W,
 ) -> Result<Status, Fault>
     requires { HasWorkers request.now.command }
-    ensures { Ends (workers_of request.now.command) (Wrote W.contents W.has_failed sink.old sink.new) (sink.new ≡ sink.old) (Asks request.now) (FirstFault request.now) result }
+    ensures ends { Ends (workers_of request.now.command) (Wrote W.contents W.has_failed sink.old sink.new) (sink.new ≡ sink.old) (Asks request.now) (FirstFault request.now) result }
+    ensures ranked { IsRankedRun request.now → IfOk result (λ status. status ≡ done) }
 {
     match request.command {
         Command::Run { workers, report } if 1 < workers => {
@@ -47,7 +51,8 @@ pub fn answer_one<W: Sink>(
     sink: &mut W,
 ) -> Result<Status, Fault>
     requires { workers_of request.now.command ≡ 1 }
-    ensures { Ends (workers_of request.now.command) (Wrote W.contents W.has_failed sink.old sink.new) (sink.new ≡ sink.old) (Asks request.now) (FirstFault request.now) result }
+    ensures ends { Ends (workers_of request.now.command) (Wrote W.contents W.has_failed sink.old sink.new) (sink.new ≡ sink.old) (Asks request.now) (FirstFault request.now) result }
+    ensures ranked { IsRankedRun request.now → IfOk result (λ status. status ≡ done) }
 {
     let files = read_request(request)?;
     answer_files(rt, alloc, &files, sink)

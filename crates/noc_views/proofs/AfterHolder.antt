@@ -160,10 +160,12 @@ module _ (net : Setup) (good : IsGood net) (F : State) (x : IsOrderedFrozen net 
       let never : (p : ℕ) → Has (c, p) F.own → ⊥ = λ p h. idle-none net F c p idle h in
       let unrouted = no_route (has_channel F.routed c) refl never in
       let empty : count_in net F c ≡ 0 = unowned-empty net good.built F x.whole.sound.keyed x.whole.sound.worm c never in
-      let a = input-at net good c member in
-      (ap (verdict_at net F c) a.2.arrives
-      ∙ ap (λ b. verdict_of net.relation.vcs (round_at net F a.0) (a.1 / net.relation.vcs * net.relation.vcs + channel_vc c) (cond b (claim_with net F a.0 c (next_channel net F c)) Unrouted) (nat_lt 0 (count_in net F c))) unrouted
-      ∙ ap (λ k. verdict_of net.relation.vcs (round_at net F a.0) (a.1 / net.relation.vcs * net.relation.vcs + channel_vc c) Unrouted (nat_lt 0 k)) empty, unrouted)
+      let a = input-at net good c member in (
+        ap (verdict_at net F c) a.2.arrives
+            ∙ ap (λ b. verdict_of net.relation.vcs (round_at net F a.0) (a.1 / net.relation.vcs * net.relation.vcs + channel_vc c) (cond b (claim_with net F a.0 c (next_channel net F c)) Unrouted) (nat_lt 0 (count_in net F c))) unrouted
+            ∙ ap (λ k. verdict_of net.relation.vcs (round_at net F a.0) (a.1 / net.relation.vcs * net.relation.vcs + channel_vc c) Unrouted (nat_lt 0 k)) empty,
+        unrouted,
+      )
     where
       no_route : (b : Bool) → has_channel F.routed c ≡ b → ((p : ℕ) → Has (c, p) F.own → ⊥) → has_channel F.routed c ≡ false
       no_route false k never = k

@@ -198,12 +198,12 @@ module _ (net : Setup) (good : IsGood net) (F : State) (x : IsOrderedFrozen net 
             by : (d : Channel) → d ≡ c → seen_input net T r i (Some c) ≡ idle_input
             by (Link a b v) e =
                 let own : Has (c, p) T.own = subst (λ (y : Channel). Has (y, p) T.own) e
-                    (Rattle.noc_views.proofs.AfterLemmas.owned-kept net good F x n (Link a b v) p (subst (λ (y : Channel). Has (y, p) F.own) (sym e) h.0) refl) in
+                (Rattle.noc_views.proofs.AfterLemmas.owned-kept net good F x n (Link a b v) p (subst (λ (y : Channel). Has (y, p) F.own) (sym e) h.0) refl) in
                 let o : owner_of net T c ≡ Some p = owner-at net good.built T (whole net good F x n).sound.keyed (wormT net good F x n) c p own in
                 let past : is_past net c (goal net p) (tail_place net T p) ≡ true = tail-past net good F x n c p h ∙ leaves in
                 let gone : is_present net T c p ≡ false = ap (λ b. nat_lt 0 (come_count net T c p) && not b) past ∙ none (nat_lt 0 (come_count net T c p)) in
                 let all : come_count net T c p ≡ (packet_at net p).length = count-all net good.built T (whole net good F x n).sound.keyed (wormT net good F x n) p c (own, h.1)
-                    (Rattle.std.proofs.lemmas.Bool.or_right (Rattle.noc_model.specs.Network.is_in c (tail_place net T p)) (is_past net c (goal net p) (tail_place net T p)) past) in
+                (Rattle.std.proofs.lemmas.Bool.or_right (Rattle.noc_model.specs.Network.is_in c (tail_place net T p)) (is_past net c (goal net p) (tail_place net T p)) past) in
                 let some = good.built.some_flit p (x.whole.sound.worm.known c p h.0) in
                 let last : option_and_then next_of (last_come net T c p) ≡ None
                 = ap (λ k. option_and_then next_of (if nat_eq k 0 then None else Some (flit_at (packet_at net p) p (k - 1)))) all

@@ -155,7 +155,7 @@ module _ (net : Setup) (good : IsGood net) (F : State) (x : IsOrderedFrozen net 
           by (Link a b w) is =
               let before : owner_of net F (Link a b w) ≡ Some p = ap (owner_of net F) (sym is) ∙ own in
               let sent = sent-kept net good F x n p (Link a b w) (holds (Link a b w) is, (λ z. z))
-                  (λ d m. nothing-moves net good F x n r l v seen o u k d p (last_of net p) (subst (λ (y : Channel). Moves net good F x n p (last_of net p) d y) (sym is) m)) in
+              (λ d m. nothing-moves net good F x n r l v seen o u k d p (last_of net p) (subst (λ (y : Channel). Moves net good F x n p (last_of net p) d y) (sym is) m)) in
               let holder = holder-kept (Link a b w) before (owner-link a b w is) sent (λ z. (link-kept net good F x n r o p a b w is (holds (Link a b w) is) z (none-leaves (Link a b w) is k)).same) in
               ap (λ h. link_out h (credit_of net T (Link a b w))) holder ∙ ap (link_out (seen_holder net F r (Link a b w) (owner_of net F (Link a b w)))) (credit-idle (Link a b w) is refl k)
           by (Inject a w) is = absurd (not-inject a w is)

@@ -66,8 +66,8 @@ module _ (net : Setup) (good : IsGood net) (F : State) (x : IsOrderedFrozen net 
       at (Some c) e =
           let r = injection-own net good.built F x.whole.sound.keyed x.whole.sound.worm p node c e in
           let own = inject-kept net good.built good.wired F x.whole.sound.keyed x.whole.sound.worm n x.whole.sound.still node r.0 p r.2
-              (λ t.
-              let z : Source ≡ In (Inject node r.0) = sym tail ∙ (tail-of net good.built good.wired F x.whole.sound.keyed x.whole.sound.worm n x.whole.sound.still (Inject node r.0) p r.2 t).1.there in cc z) in
+          (λ t.
+          let z : Source ≡ In (Inject node r.0) = sym tail ∙ (tail-of net good.built good.wired F x.whole.sound.keyed x.whole.sound.worm n x.whole.sound.still (Inject node r.0) p r.2 t).1.there in cc z) in
           injection-at net good.built T (whole net good F x n).sound.keyed (wormT net good F x n) p node r.0 own ∙ sym (e ∙ ap Some r.1)
       at None e = injection-none net good.built T (whole net good F x n).sound.keyed (wormT net good F x n) p node (λ v h. by v (was-owned net good F x n (Inject node v) p h)) ∙ sym e
         where

@@ -120,9 +120,10 @@ module _ (net : Setup) (good : IsGood net) (M : State) (x : IsOrderedFrozen net 
       by None e = (seen.buffer i k ∙ ap (seen_flits net M) e ∙ sym (ap (seen_flits net T) e), seen.input i k ∙ ap (seen_input net M r i) e ∙ sym (ap (seen_input net T r i) e))
       by (Some c) e =
           let at = arriving-at net good r i c l k e in
-          let quiet = quiet-here none i c at in
-          (seen.buffer i k ∙ ap (seen_flits net M) e ∙ sym (ap (seen_flits net T) e ∙ flits-quiet net good M x n c quiet),
-          seen.input i k ∙ ap (seen_input net M r i) e ∙ sym (ap (seen_input net T r i) e ∙ input-quiet net good M x n r i c (not-eject net good at) quiet))
+          let quiet = quiet-here none i c at in (
+            seen.buffer i k ∙ ap (seen_flits net M) e ∙ sym (ap (seen_flits net T) e ∙ flits-quiet net good M x n c quiet),
+            seen.input i k ∙ ap (seen_input net M r i) e ∙ sym (ap (seen_input net T r i) e ∙ input-quiet net good M x n r i c (not-eject net good at) quiet),
+          )
 
   nothing : injection_at net M n r ≡ None → IsInjected net M n r v u
   nothing none = record {
@@ -202,20 +203,23 @@ module _ (net : Setup) (good : IsGood net) (M : State) (x : IsOrderedFrozen net 
         rest-of apart None e = (seen.buffer j k ∙ ap (seen_flits net M) e ∙ sym (ap (seen_flits net T) e), seen.input j k ∙ ap (seen_input net M r j) e ∙ sym (ap (seen_input net T r j) e))
         rest-of apart (Some c) e =
             let at = arriving-at net good r j c l k e in
-            let q = quiet apart c e at in
-            (seen.buffer j k ∙ ap (seen_flits net M) e ∙ sym (ap (seen_flits net T) e ∙ flits-quiet net good M x n c q),
-            seen.input j k ∙ ap (seen_input net M r j) e ∙ sym (ap (seen_input net T r j) e ∙ input-quiet net good M x n r j c (not-eject net good at) q))
+            let q = quiet apart c e at in (
+              seen.buffer j k ∙ ap (seen_flits net M) e ∙ sym (ap (seen_flits net T) e ∙ flits-quiet net good M x n c q),
+              seen.input j k ∙ ap (seen_input net M r j) e ∙ sym (ap (seen_input net T r j) e ∙ input-quiet net good M x n r j c (not-eject net good at) q),
+            )
 
         by : (j ≡ local_channel v.site w) ⊎ (j ≡ local_channel v.site w → ⊥) → (view_buffer done j ≡ seen_flits net T (arriving net r j)) × (view_input done j ≡ seen_input net T r j (arriving net r j))
-        by (inl e) =
-            (ap (λ y. get_or (set v.buffers (local_channel v.site w) (view_buffer v (local_channel v.site w) ++ f ∷ [])) y []) e ∙ get_or-set_same v.buffers (local_channel v.site w) (view_buffer v (local_channel v.site w) ++ f ∷ []) [] nb ∙ buffer-here
-            ∙ sym (ap (λ y. seen_flits net T (arriving net r y)) e ∙ ap (seen_flits net T) at-i.found),
-            ap (λ y. get_or (set v.inputs (local_channel v.site w) (landed (view_input v (local_channel v.site w)) f)) y idle_input) e ∙ get_or-set_same v.inputs (local_channel v.site w) (landed (view_input v (local_channel v.site w)) f) idle_input ni ∙ input-here
-            ∙ sym (ap (λ y. seen_input net T r y (arriving net r y)) e ∙ ap (seen_input net T r (local_channel v.site w)) at-i.found))
+        by (inl e) = (
+          ap (λ y. get_or (set v.buffers (local_channel v.site w) (view_buffer v (local_channel v.site w) ++ f ∷ [])) y []) e ∙ get_or-set_same v.buffers (local_channel v.site w) (view_buffer v (local_channel v.site w) ++ f ∷ []) [] nb ∙ buffer-here
+              ∙ sym (ap (λ y. seen_flits net T (arriving net r y)) e ∙ ap (seen_flits net T) at-i.found),
+          ap (λ y. get_or (set v.inputs (local_channel v.site w) (landed (view_input v (local_channel v.site w)) f)) y idle_input) e ∙ get_or-set_same v.inputs (local_channel v.site w) (landed (view_input v (local_channel v.site w)) f) idle_input ni ∙ input-here
+              ∙ sym (ap (λ y. seen_input net T r y (arriving net r y)) e ∙ ap (seen_input net T r (local_channel v.site w)) at-i.found),
+        )
         by (inr apart) =
-            let q = rest-of apart (arriving net r j) refl in
-            (get_or-set_other v.buffers (local_channel v.site w) j (view_buffer v (local_channel v.site w) ++ f ∷ []) [] apart ∙ q.0,
-            get_or-set_other v.inputs (local_channel v.site w) j (landed (view_input v (local_channel v.site w)) f) idle_input apart ∙ q.1)
+            let q = rest-of apart (arriving net r j) refl in (
+              get_or-set_other v.buffers (local_channel v.site w) j (view_buffer v (local_channel v.site w) ++ f ∷ []) [] apart ∙ q.0,
+              get_or-set_other v.inputs (local_channel v.site w) j (landed (view_input v (local_channel v.site w)) f) idle_input apart ∙ q.1,
+            )
 
     last-is : f.last ≡ nat_eq ((entered net good M x n r l one found).flit + 1) (packet_at net one.packet).length
     last-is = ap (λ j. nat_eq (j + 1) (packet_at net one.packet).length) index_is

@@ -22,7 +22,7 @@ listed-from p at (suc n) a (f ∷ fs) s each all =
     let e2 : f.place ≡ at a = mine.1 ∙ ap at e1 in
     let head : record { packet = f.packet; index = f.index; place = f.place } ≡ record { packet = p; index = a; place = at a } = cc in
     let tail : fs ≡ map (λ i. record { packet = p; index = i; place = at i }) (range_with_len (a + 1) n) = listed-from p at n (a + 1) fs s.1 (λ g h. let k = each g (inr h) in let m = behind g h in (k.0, k.1, omega (arith, m, e1), omega (arith, k.3)))
-        (λ i l u. other i l u (all i (omega arith) (omega arith))) in
+    (λ i l u. other i l u (all i (omega arith) (omega arith))) in
     ap (λ (g : Located). g ∷ fs) head ∙ ap (λ (gs : List Located). record { packet = p; index = a; place = at a } ∷ gs) tail
   where
     behind : (g : Located) → Has g fs → f.index < g.index

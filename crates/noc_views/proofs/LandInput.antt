@@ -148,8 +148,8 @@ module _ (net : Setup) (good : IsGood net) (S : State) (x : IsOrdered net S) whe
             left-case : is_past net c (goal net p) (tail_place net S p) ≡ true → seen_input net (mid net S) r i (Some c) ≡ seen_input net S r i (Some c)
             left-case k =
                 let unrouted = no_route (λ q hq kq.
-                    let same : q ≡ p = Rattle.noc_views.proofs.SourceLemmas.same-owner net good S (keyed net good S x) (worm net good S x) c q p hq h.0 in
-                    false≢true (sym kq ∙ ap (λ j. is_past net c (goal net j) (tail_place net S j)) same ∙ k)) in
+                let same : q ≡ p = Rattle.noc_views.proofs.SourceLemmas.same-owner net good S (keyed net good S x) (worm net good S x) c q p hq h.0 in
+                false≢true (sym kq ∙ ap (λ j. is_past net c (goal net j) (tail_place net S j)) same ∙ k)) in
                 let link : is_link c ≡ true = link-of c refl k in
                 let owner = owner-freed net good S x c p e (and_from _ _ link k) in
                 let all = count-all net good.built S (keyed net good S x) (worm net good S x) p c h (or_right (is_in c (tail_place net S p)) (is_past net c (goal net p) (tail_place net S p)) k) in

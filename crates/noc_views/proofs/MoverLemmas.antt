@@ -149,11 +149,13 @@ module _ (net : Setup) (good : IsGood net) (F : State) (x : IsOrderedFrozen net 
       let holds : claim_of net F r c ≡ Holds mv.out true = sym (claim-some net good F x r l v seen i c at.1.index at.1.found at.1) ∙ mv.claim in
       let next = (claim-holds net F r c mv.out true holds).1 in
       let same : next.0 ≡ leaving net r o = same_Some _ _ (sym next.1 ∙ m.goes) in
-      let out : mv.out ≡ o = sym next.2 ∙ ap (output_index net.relation.grid net.relation.vcs) same ∙ (leaving-from net good r o u).is_index in
-      (i, ap (λ k. option_and_then (λ a. if is_some_of (out_of (view_claim v a)) o then Some a else None) (mover v.site D.round (k / v.site.vcs))) (sym out)
-      ∙ ap (option_and_then (λ a. if is_some_of (out_of (view_claim v a)) o then Some a else None)) mv.mover
-      ∙ ap (λ (k : Claim). if is_some_of (out_of k) o then Some i else None) mv.claim
-      ∙ ap (λ b. if b then Some i else None) (is_some_of-some (Some mv.out) o (ap Some out)))
+      let out : mv.out ≡ o = sym next.2 ∙ ap (output_index net.relation.grid net.relation.vcs) same ∙ (leaving-from net good r o u).is_index in (
+        i,
+        ap (λ k. option_and_then (λ a. if is_some_of (out_of (view_claim v a)) o then Some a else None) (mover v.site D.round (k / v.site.vcs))) (sym out)
+            ∙ ap (option_and_then (λ a. if is_some_of (out_of (view_claim v a)) o then Some a else None)) mv.mover
+            ∙ ap (λ (k : Claim). if is_some_of (out_of k) o then Some i else None) mv.claim
+            ∙ ap (λ b. if b then Some i else None) (is_some_of-some (Some mv.out) o (ap Some out)),
+      )
 
   pub nothing-moves : (o : ℕ) → o < size net → mover_to v D.round o ≡ None → (c : Channel) (p j : ℕ) → Moves net good F x n p j c (leaving net r o) → ⊥
   nothing-moves o u e c p j m = let k = moves-mover o p j c u m in none-some k.0 (sym e ∙ k.1)
@@ -207,6 +209,7 @@ module _ (net : Setup) (good : IsGood net) (F : State) (x : IsOrderedFrozen net 
   given-grant o p c u g =
       let f = leaving-from net good r o u in
       let router : g.router ≡ r = same_Some _ _ (sym (begins-at net good g.router g.index) ∙ ap begin g.is_output ∙ begins-at net good r o) in
-      let index : g.index ≡ o = sym (Rattle.noc_ownership.proofs.GrantLemmas.index-output net g.router g.index) ∙ ap (output_index net.relation.grid net.relation.vcs) g.is_output ∙ f.is_index in
-      (g.port * net.relation.vcs + Rattle.noc_route.specs.Channel.channel_vc c,
-      ap (λ (y : Rattle.noc_router.specs.Verdict.Round). get_or y.grants o None) same_round ∙ ap (λ y. get_or (round_at net F y).grants o None) (sym router) ∙ ap (λ y. get_or (round_at net F g.router).grants y None) (sym index) ∙ g.won)
+      let index : g.index ≡ o = sym (Rattle.noc_ownership.proofs.GrantLemmas.index-output net g.router g.index) ∙ ap (output_index net.relation.grid net.relation.vcs) g.is_output ∙ f.is_index in (
+        g.port * net.relation.vcs + Rattle.noc_route.specs.Channel.channel_vc c,
+        ap (λ (y : Rattle.noc_router.specs.Verdict.Round). get_or y.grants o None) same_round ∙ ap (λ y. get_or (round_at net F y).grants o None) (sym router) ∙ ap (λ y. get_or (round_at net F g.router).grants y None) (sym index) ∙ g.won,
+      )

@@ -105,9 +105,10 @@ module _ (net : Setup) (good : IsGood net) (S : State) (x : IsOrdered net S) (r 
         by : (i / net.relation.vcs ≡ k) ⊎ (i / net.relation.vcs ≡ k → ⊥)
             → (seen_flits net (at_port k i) (arriving net r i) ≡ seen_flits net (at_port (k + 1) i) (arriving net r i)) × (seen_input net (at_port k i) r i (arriving net r i) ≡ seen_input net (at_port (k + 1) i) r i (arriving net r i))
         by (inl e) =
-            let z = at e (arriving net r i) refl in
-            (ap (λ (T : State). seen_flits net T (arriving net r i)) (here-before i e) ∙ z.0 ∙ sym (ap (λ (T : State). seen_flits net T (arriving net r i)) (here-after i e)),
-            ap (λ (T : State). seen_input net T r i (arriving net r i)) (here-before i e) ∙ z.1 ∙ sym (ap (λ (T : State). seen_input net T r i (arriving net r i)) (here-after i e)))
+            let z = at e (arriving net r i) refl in (
+              ap (λ (T : State). seen_flits net T (arriving net r i)) (here-before i e) ∙ z.0 ∙ sym (ap (λ (T : State). seen_flits net T (arriving net r i)) (here-after i e)),
+              ap (λ (T : State). seen_input net T r i (arriving net r i)) (here-before i e) ∙ z.1 ∙ sym (ap (λ (T : State). seen_input net T r i (arriving net r i)) (here-after i e)),
+            )
         by (inr e) = (ap (λ (T : State). seen_flits net T (arriving net r i)) (elsewhere i e), ap (λ (T : State). seen_input net T r i (arriving net r i)) (elsewhere i e))
 
     -- the input channels of this port

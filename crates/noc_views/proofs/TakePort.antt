@@ -267,7 +267,7 @@ module _ (net : Setup) (good : IsGood net) (S : State) (x : IsOrdered net S) (r 
       by None e landed =
           let w : View = with_flit net.relation k (beat_by net S r k (neighbour net.relation.grid r k)).flit v in
           let done : IsUpTo net good S x r l v0 (k + 1) w = no-credit (is_some (beat_by net S r k (neighbour net.relation.grid r k)).flit) w landed
-              (ap (λ (b : Beat). is_some (beat_by net S r k (neighbour net.relation.grid r k)).flit || is_some b.credit) (ap (beat_by net S r k) e)) (λ vc u. unlinked e vc) in
+          (ap (λ (b : Beat). is_some (beat_by net S r k (neighbour net.relation.grid r k)).flit || is_some b.credit) (ap (beat_by net S r k) e)) (λ vc u. unlinked e vc) in
           subst (λ (c : Option ℕ). IsUpTo net good S x r l v0 (k + 1) (with_credit k c w)) (sym (ap (λ (b : Beat). b.credit) (ap (beat_by net S r k) e))) done
       by (Some from) e landed = credit (find (λ vc. has_channel S.back (Link r k vc)) (below net.relation.vcs)) refl
         where
@@ -282,12 +282,12 @@ module _ (net : Setup) (good : IsGood net) (S : State) (x : IsOrdered net S) (r 
           credit None z =
               let c = credit-is ∙ z in
               let done = no-credit (is_some (beat_by net S r k (neighbour net.relation.grid r k)).flit) (with_flit net.relation k (beat_by net S r k (neighbour net.relation.grid r k)).flit v) landed
-                  (ap (λ (q : Option ℕ). is_some (beat_by net S r k (neighbour net.relation.grid r k)).flit || is_some q) c)
-                  (λ vc u. find-fails (λ j. has_channel S.back (Link r k j)) (below net.relation.vcs) vc z (has-below vc net.relation.vcs u)) in
+              (ap (λ (q : Option ℕ). is_some (beat_by net S r k (neighbour net.relation.grid r k)).flit || is_some q) c)
+              (λ vc u. find-fails (λ j. has_channel S.back (Link r k j)) (below net.relation.vcs) vc z (has-below vc net.relation.vcs u)) in
               subst (λ (q : Option ℕ). IsUpTo net good S x r l v0 (k + 1) (with_credit k q (with_flit net.relation k (beat_by net S r k (neighbour net.relation.grid r k)).flit v))) (sym c) done
           credit (Some vc) z =
               let c = credit-is ∙ z in
               let f = find-some (λ j. has_channel S.back (Link r k j)) net.relation.vcs vc z in
               let done = credit-comes (is_some (beat_by net S r k (neighbour net.relation.grid r k)).flit) (with_flit net.relation k (beat_by net S r k (neighbour net.relation.grid r k)).flit v) landed vc f.1 (ap is_some e) f.0
-                  (ap (λ (q : Option ℕ). is_some (beat_by net S r k (neighbour net.relation.grid r k)).flit || is_some q) c) in
+              (ap (λ (q : Option ℕ). is_some (beat_by net S r k (neighbour net.relation.grid r k)).flit || is_some q) c) in
               subst (λ (q : Option ℕ). IsUpTo net good S x r l v0 (k + 1) (with_credit k q (with_flit net.relation k (beat_by net S r k (neighbour net.relation.grid r k)).flit v))) (sym c) done

@@ -6,10 +6,11 @@ use Rattle.noc.specs.Outcome.{Ends}
 use Rattle.noc.specs.Run.{workers_of}
 use Rattle.noc.specs.declared.request.Command.{Command}
 use Rattle.noc.proofs.OutcomeFacts.{ends_more}
+use Rattle.noc.proofs.RankedFacts.{ends-done}
 use Rattle.noc.proofs.answer.answer.Goals as goal
 
-pub returns-in-Run : goal.returns-in-Run
-returns-in-Run g c =
+pub returns-in-Run-clause-ends : goal.returns-in-Run-clause-ends
+returns-in-Run-clause-ends g c =
     let r = c.args.request.now in
     let a = asked_of c.files_of.result in
     let same : a ≡ files_of r = c.files_of.ensures in
@@ -19,3 +20,8 @@ returns-in-Run g c =
     let E : Command → Type 0 = λ x. Ends (workers_of x) written (c.run_by_workers.new.sink ≡ c.args.sink.now) (AsksFor a) (TextsFault a) c.run_by_workers.result in
     ends_more (workers_of r.command) written (c.run_by_workers.new.sink ≡ c.args.sink.now) (AsksFor a) (TextsFault a) (Asks r) (FirstFault r) c.run_by_workers.result
     (λ text status asks. (a, reads, asks)) (λ f first. in_texts reads first) (subst E command c.run_by_workers.ensures)
+
+pub returns-in-Run-clause-ranked : goal.returns-in-Run-clause-ranked
+returns-in-Run-clause-ranked g c = λ ranked.
+    ends-done (workers_of c.args.request.now.command) c.args.request.now (Wrote g.W.Sink.contents g.W.Sink.has_failed c.args.sink.now c.run_by_workers.new.sink)
+    (c.run_by_workers.new.sink ≡ c.args.sink.now) (FirstFault c.args.request.now) c.run_by_workers.result (returns-in-Run-clause-ends g c) ranked

@@ -15,8 +15,7 @@ use Rattle.noc_net.proofs.network.Network.run.Goals as goal
 
 pub run_all-requires-clause-in_step : goal.run_all-requires-clause-in_step
 run_all-requires-clause-in_step c =
-    let parts = c.self.inside.parts in
-    (
+    let parts = c.self.inside.parts in (
       setup_in parts,
       refl,
       record {
