@@ -1,3 +1,5 @@
+//! Networks run cycle by cycle: when flits move, and when a network comes to rest.
+
 ghost use Rattle.std.specs.Prelude.{◌<◌, ◌≤◌};
 
 use noc_files::{Out, read_traffic, write_summary};

@@ -15,6 +15,8 @@ mod reports;
 #[cfg(test)]
 mod sinks;
 #[cfg(test)]
+mod stuck;
+#[cfg(test)]
 mod table_files;
 #[cfg(test)]
 mod traffic_files;

@@ -35,7 +35,7 @@ pub use ranks::{
 pub use rows::{plain_rows_are_read_back, rows_are_records};
 pub use sink::{Out, Sink};
 pub use source::read_all;
-pub use stalls::write_stalls;
+pub use stalls::{the_counts_of_a_line_add_up, write_stalls};
 pub use summary::{the_greatest_is_one_of_them, write_summary};
 pub use table::{
     read_table, table_is_header_and_rows, table_is_refused_with_its_first_fault,

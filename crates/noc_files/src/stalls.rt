@@ -1,9 +1,10 @@
 //! The stall report (docs/FORMATS.md).
 
-ghost use Rattle.std.specs.Prelude.{◌+◌, ◌^◌, ◌<◌, ◌≤◌, length, IfOk};
+ghost use Rattle.std.specs.Prelude.{◌≡◌, ◌+◌, ◌^◌, ◌<◌, ◌≤◌, ℕ, length, sum, IfOk};
 ghost use Rattle.std.specs.List.{flat_map};
 ghost use Rattle.noc_topo.specs.Shape.{ports};
-ghost use Rattle.noc_files.specs.Stalls.{channel_line, count_text, place_text, stall_line, stalls_text};
+ghost use Rattle.noc_net.specs.Network.{Run as RunValue};
+ghost use Rattle.noc_files.specs.Stalls.{channel_counts, channel_line, count_text, place_text, stall_line, stalls_text};
 ghost use Rattle.noc_files.specs.Writing.{Puts, Wrote};
 
 use crate::listing::{Lines, write_routers};
@@ -127,3 +128,8 @@ pub fn write_stalls<W: Sink>(network: &Network, sink: &mut W) -> Result<(), Writ
         "router,port,vc,empty,routed,granted,moved,no_flit,no_idle_channel,lost_channel,no_credit,lost_input,lost_switch\n";
     write_routers(header, network, sink)
 }
+
+/// The ten counts of a line of the stall report add up to the cycles of the run.
+pub fn the_counts_of_a_line_add_up()
+    ensures { (u : RunValue) (router port vc : ℕ) → sum (channel_counts u router port vc) ≡ u.count }
+{}

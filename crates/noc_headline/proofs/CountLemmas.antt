@@ -16,6 +16,7 @@ use Rattle.noc_model.specs.InStep.{IsInStep, cycle_of, cycle_put, cycle_taken, o
 use Rattle.noc_model.specs.Order.{decides, happening, is_decide, is_put, is_take, puts, takes}
 use Rattle.noc_model.proofs.CoreLemmas.{happens_in_step, moves}
 use Rattle.noc_model.proofs.EventLemmas.{Moves}
+use Rattle.noc_model.proofs.LimitLemmas.{decides-below}
 use Rattle.noc_model.proofs.OrderLemmas.{net-happens}
 use Rattle.noc_model.proofs.PostLemmas.{has_none}
 
@@ -59,20 +60,6 @@ base_further b es = record {
 }
 
 module _ (limit : ℕ) (net : Setup) where
-  not-decided : (b : Bool) → not b ≡ true → one_if b ≡ 0
-  not-decided true e = absurd (cc e)
-  not-decided false e = refl
-
-  decides-below : (k : CoreState) (r : ℕ) (post : Post) → post_at k r ≡ Some post → is_ready limit k (Decide r) ≡ true → cycle_of post < limit
-  unfolding is_ready
-  decides-below k r post at ready =
-      let may : may_decide limit k.net r post ≡ true = sym (ap (holds_at (may_decide limit k.net r)) at) ∙ ready in
-      let parts = and_parts (not post.decided && all_have k.net r post.taken) (nat_lt post.steps limit) may in
-      let free = and_parts (not post.decided) (all_have k.net r post.taken) parts.0 in
-      let low : post.steps < limit = ltb-true _ _ parts.1 in
-      let none : one_if post.decided ≡ 0 = not-decided post.decided free.0 in
-      omega arith
-
   happens-at : (k : CoreState) (e : Event) (b : Base) → k.net ≡ net → IsInStep limit k → AllStandAt limit net k b → is_ready limit k e ≡ true → AllStandAt limit net (happens k e) (base_with b e)
   happens-at k e b same sound there ready r post at = stands
     where
@@ -95,7 +82,7 @@ module _ (limit : ℕ) (net : Setup) where
           one true same =
               let here : is_ready limit k (Decide r) ≡ true = ap (λ y. is_ready limit k (Decide y)) (eqb-true r x same) ∙ can in
               let seen = was.seen in
-              let l = decides-below k r first.0 first.1 here in omega arith
+              let l = decides-below limit k r first.0 first.1 here in omega arith
 
       stands : StandsAt limit net (base_with b e) r post
       stands = record {

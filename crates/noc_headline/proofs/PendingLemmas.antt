@@ -16,6 +16,7 @@ use Rattle.noc_ownership.proofs.Facts.{mid_at, whole-at}
 use Rattle.noc_ownership.proofs.Members.{list_any-from}
 use Rattle.noc_ownership.proofs.OpeningLemmas.{below-has}
 use Rattle.noc_ownership.proofs.PlaceLemmas.{place-of-flit}
+use Rattle.noc_views.proofs.LastEvent.{flying, some-counted, some-listed}
 use Rattle.noc_views.proofs.OrderedStates.{ordered-frozen}
 use Rattle.noc_views.proofs.PlaceLemmas.{input-at}
 use Rattle.noc_views.proofs.Theorem.{good-network}
@@ -25,29 +26,11 @@ use Rattle.noc_headline.specs.Pending.{IsPendingIn, HappensIn, lands, credit, in
 use Rattle.noc_headline.proofs.SaysLemmas.{verdict-says}
 use Rattle.noc_headline.proofs.StartLemmas.{injected-flit}
 
-some-counted : {X : Type 0} (t : X → Bool) (xs : List X) → 0 < count_by t xs → (x : X) × Has x xs × (t x ≡ true)
-some-counted t [] l = absurd (omega arith)
-some-counted {X = X} t (x ∷ xs) l = at (t x) refl (sum_by-cons (λ y. cond (t y) 1 0) x xs) (some-counted t xs)
-  where
-    at : (b : Bool) → t x ≡ b → count_by t (x ∷ xs) ≡ cond b 1 0 + count_by t xs → (0 < count_by t xs → (y : X) × Has y xs × (t y ≡ true)) → (y : X) × Has y (x ∷ xs) × (t y ≡ true)
-    at true e k rest = (x, inl refl, e)
-    at false e k rest = let r = rest (omega arith) in (r.0, inr r.1, r.2)
-
-some-listed : {X : Type 0} (xs : List X) → 0 < length xs → (x : X) × Has x xs
-some-listed [] l = absurd (omega arith)
-some-listed (x ∷ xs) l = (x, inl refl)
-
 not-out : (place : Place) → ((m : ℕ) → place ≢ Out m) → is_none (out_cycle place) ≡ true
 not-out Source none = refl
 not-out (On c) none = refl
 not-out (In c) none = refl
 not-out (Out m) none = absurd (none m refl)
-
-flying : (place : Place) → is_flying place ≡ true → (c : Channel) × (place ≡ On c)
-flying Source e = absurd (false≢true e)
-flying (On c) e = (c, refl)
-flying (In c) e = absurd (false≢true e)
-flying (Out m) e = absurd (false≢true e)
 
 turning : (v : Verdict) → is_event v ≡ true → (v ≡ Routed) ⊎ ((v ≡ Granted) ⊎ (v ≡ Moved))
 turning Empty e = absurd (false≢true e)

@@ -26,7 +26,7 @@ use Rattle.noc_views.proofs.OrderedStates.{ordered-state}
 use Rattle.noc_views.proofs.PlaceLemmas.{IsAt, arriving-at, arrives-in, has-below, input-at}
 use Rattle.noc_views.proofs.Theorem.{good-network}
 
-some-counted : {X : Type 0} (t : X → Bool) (xs : List X) → 0 < count_by t xs → (x : X) × Has x xs × (t x ≡ true)
+pub some-counted : {X : Type 0} (t : X → Bool) (xs : List X) → 0 < count_by t xs → (x : X) × Has x xs × (t x ≡ true)
 some-counted t [] l = absurd (omega arith)
 some-counted {X = X} t (x ∷ xs) l = at (t x) refl (sum_by-cons (λ y. cond (t y) 1 0) x xs) (some-counted t xs)
   where
@@ -55,11 +55,11 @@ listed-some : {X : Type 0} (xs : List X) (x : X) → Has x xs → 0 < length xs
 listed-some [] x h = elim h [ ]
 listed-some (y ∷ ys) x h = omega arith
 
-some-listed : {X : Type 0} (xs : List X) → 0 < length xs → (x : X) × Has x xs
+pub some-listed : {X : Type 0} (xs : List X) → 0 < length xs → (x : X) × Has x xs
 some-listed [] l = absurd (omega arith)
 some-listed (x ∷ xs) l = (x, inl refl)
 
-flying : (place : Place) → is_flying place ≡ true → (c : Channel) × (place ≡ On c)
+pub flying : (place : Place) → is_flying place ≡ true → (c : Channel) × (place ≡ On c)
 flying Source e = absurd (false≢true e)
 flying (On c) e = (c, refl)
 flying (In c) e = absurd (false≢true e)

@@ -25,7 +25,6 @@ pub mod LandOutput
 pub mod Joined
 pub mod KeyLemmas
 pub mod LastEvent
-pub mod LedLemmas
 pub mod MoverLemmas
 pub mod NextLemmas
 pub mod Opening
