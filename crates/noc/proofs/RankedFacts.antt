@@ -1,5 +1,5 @@
 -- A run whose ranks were accepted is never stuck.
-use Rattle.std.proofs.Common.{◌≡◌, ◌<◌, ℕ, Bool, true, false, cond, List, Option, Some, None, Ok, Err, Result, is_some, option_map, refl, ap, sym, ◌∙◌, subst}
+use Rattle.std.proofs.Common.{◌≡◌, ℕ, true, false, cond, List, Option, Some, None, Ok, Err, Result, is_some, option_map, refl, ap, sym, ◌∙◌, subst}
 use Rattle.std.specs.Option.{IfSome}
 use Rattle.std.specs.Result.{IfOk}
 use Rattle.noc_route.specs.Routes.{Routes}
@@ -8,17 +8,15 @@ use Rattle.noc_net.specs.Network.{Run}
 use Rattle.noc_progress.proofs.Theorems.{accepted-never-stuck}
 use Rattle.noc_files.specs.declared.writing.WriteFault.{WriteFault}
 use Rattle.noc.specs.Answer.{Asks, AsksFor, IsRankedRun, a_report, findings, accepted, ranks}
-use Rattle.noc.specs.Asked.{Asked, ReadsAs, Said, as_files, as_joined, is_joined, owned}
+use Rattle.noc.specs.Asked.{Asked, Said, as_files, as_joined, is_joined, owned}
 use Rattle.noc.specs.Check.{Accepts, checked_by, checked_ranks}
 use Rattle.noc.specs.Outcome.{Ends}
 use Rattle.noc.specs.Run.{AsksForRun, ending}
 use Rattle.noc.specs.declared.request.Command.{Command}
-use Rattle.noc.specs.declared.request.Command.TheVariants as command
 use Rattle.noc.specs.declared.request.Request.{Request}
 use Rattle.noc.specs.declared.status.Status.{Status}
 use Rattle.noc.specs.declared.status.Status.TheVariants.{Done, Stuck}
 use Rattle.noc.specs.declared.fault.Fault.{Fault}
-use Rattle.noc.specs.declared.fault.Fault.TheVariants as fault
 
 -- a run whose ranks are checked ends done
 run-done : (a : Asked) (run : Run) (text : Said) → checked_ranks a ≡ Some text → AsksForRun a run → ending run ≡ Done

@@ -1,5 +1,5 @@
 -- Ranks from a rank file, and the check that they rise along a routing relation.
-use Rattle.std.specs.Prelude.{◌≡◌, List, [], Option, Some, None, Ok, Err, unwrap_or}
+use Rattle.std.specs.Prelude.{◌≡◌, List, [], Option, Some, None, Ok, unwrap_or}
 use Rattle.std.specs.Option.{IfSome}
 use Rattle.noc_route.specs.Routes.{Routes}
 use Rattle.noc_route.specs.Ranks.{Ranking, IsRankedBy}

@@ -1,5 +1,5 @@
 -- The greatest of some numbers is one of them, and none of them is above it.
-use Rattle.std.proofs.Common.{◌≡◌, ℕ, ◌≤◌, List, [], ◌∷◌, Option, Some, None, sym, ◌∙◌, inl, inr, refl}
+use Rattle.std.proofs.Common.{◌≡◌, ℕ, ◌≤◌, List, [], ◌∷◌, Some, None, sym, ◌∙◌, inl, inr, refl}
 use Rattle.std.specs.Prelude.{◌⊎◌, max, fold}
 use Rattle.std.proofs.Math.Nat.{le-max_left, le-max_right, max-eq_left, max-eq_right}
 use Rattle.std.proofs.Common.{arith}

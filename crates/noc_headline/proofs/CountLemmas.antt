@@ -1,15 +1,15 @@
 -- Each Take, Decide and Put is one cycle more of a router and its ports, and no router goes past the limit.
 use Rattle.std.proofs.Common.{◌≡◌, ℕ, ◌+◌, ◌<◌, ◌≤◌, Bool, true, false, List, [], ◌∷◌, length, Some, refl, ap, sym, ◌∙◌, count_by, subst, arith}
-use Rattle.std.specs.Prelude.{not, nat_lt, nat_eq, if◌then◌else◌, ◌&&◌}
+use Rattle.std.specs.Prelude.{nat_eq, if◌then◌else◌}
 use Rattle.std.proofs.lemmas.List.Sums.{sum_by-cons}
 use Rattle.std.proofs.lemmas.Option.{get_or_from_slice_get, slice_get_within}
-use Rattle.std.proofs.lemmas.Bool.{and_parts, ltb-true, eqb-true}
+use Rattle.std.proofs.lemmas.Bool.{eqb-true}
 use Rattle.noc_topo.specs.Words.{tabulate}
 use Rattle.noc_topo.specs.Shape.{nodes}
 use Rattle.noc_topo.proofs.WordLemmas.{length-tabulate, get_or-tabulate}
 use Rattle.noc_model.specs.declared.event.Event.{Event}
 use Rattle.noc_model.specs.declared.event.Event.TheVariants.{Take, Decide, Put}
-use Rattle.noc_model.specs.Core.{CoreState, Post, after_events, happens, is_linked, is_ready, links, may_decide, all_have, holds_at, opening_core, post_at, rested, wires_in_flight}
+use Rattle.noc_model.specs.Core.{CoreState, Post, after_events, happens, is_linked, is_ready, links, opening_core, post_at, rested, wires_in_flight}
 use Rattle.noc_model.specs.Lockstep.{view_at}
 use Rattle.noc_model.specs.Network.{Run, Setup}
 use Rattle.noc_model.specs.InStep.{IsInStep, cycle_of, cycle_put, cycle_taken, one_if}

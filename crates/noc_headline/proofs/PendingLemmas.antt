@@ -1,8 +1,7 @@
 -- With accepted ranks something happens in each pending cycle.
-use Rattle.std.proofs.Common.{◌≡◌, ◌≢◌, ℕ, ◌+◌, ◌<◌, ◌≤◌, Bool, true, false, cond, List, [], ◌∷◌, length, count_by, Some, refl, ◌∙◌, inl, inr, arith}
+use Rattle.std.proofs.Common.{◌≡◌, ◌≢◌, ℕ, ◌<◌, ◌≤◌, true, length, count_by, Some, refl, ◌∙◌, inl, inr, arith}
 use Rattle.std.specs.Prelude.{◌⊎◌, ◌&&◌, nat_le, is_none}
 use Rattle.std.proofs.lemmas.Bool.{false≢true, and_from, le-leb, cases_lt}
-use Rattle.std.proofs.lemmas.List.Sums.{sum_by-cons}
 use Rattle.noc_topo.specs.Words.{Has, below}
 use Rattle.noc_route.specs.Ranks.{IsRankedBy, Ranking, rank_at}
 use Rattle.noc_route.specs.Channel.{Channel}

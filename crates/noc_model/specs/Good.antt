@@ -1,5 +1,5 @@
 -- What a network has that was made, so that all laws hold of it, and words on its flits and buffers.
-use Rattle.std.specs.Prelude.{ℕ, ◌≢◌, ◌+◌, ◌<◌, ◌≤◌, List, length, if◌then◌else◌}
+use Rattle.std.specs.Prelude.{ℕ, ◌≢◌, ◌+◌, ◌<◌, ◌≤◌, length, if◌then◌else◌}
 use Rattle.std.specs.List.{All}
 use Rattle.noc_topo.specs.Shape.{nodes}
 use Rattle.noc_packet.specs.declared.packet.Packet.{Packet}

@@ -5,7 +5,7 @@ use Rattle.noc_topo.specs.Shape.{IsGrid, distance}
 use Rattle.noc_topo.proofs.DistanceLemmas.{distance-bound}
 use Rattle.noc_route.specs.Channel.{Channel, Link, Inject, Eject}
 use Rattle.noc_route.specs.Ranks.{rank_of}
-use Rattle.noc_route.specs.Routes.{Routes, permits}
+use Rattle.noc_route.specs.Routes.{permits}
 use Rattle.noc_route.proofs.PermitsLemmas.{permits-inject, permits-home}
 use Rattle.noc_model.specs.Network.{Setup, end_of, end_distance}
 use Rattle.noc_model.specs.Good.{IsGoodSetup}

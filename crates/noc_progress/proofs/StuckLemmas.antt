@@ -1,5 +1,5 @@
 -- A cycle without an event leaves every flit where it is, so whether it was stuck can be told from the state after it.
-use Rattle.std.proofs.Common.{◌+◌, ◌≡◌, ℕ, zero, suc, ◌-◌, ◌<◌, ◌≤◌, Bool, true, false, cond, List, [], ◌∷◌, length, Option, Some, None, refl, ap, ap₂, sym, ◌∙◌, arith, inl, inr}
+use Rattle.std.proofs.Common.{◌≡◌, ℕ, zero, suc, ◌≤◌, Bool, true, false, cond, List, [], ◌∷◌, length, Option, Some, None, refl, ap, ap₂, sym, ◌∙◌, arith, inl, inr}
 use Rattle.std.specs.Prelude.{nat_eq, nat_le, nat_lt, not, is_none, ◌&&◌, ◌||◌}
 use Rattle.std.specs.List.{list_any}
 use Rattle.std.proofs.lemmas.Bool.{true≢false, false_from_ne_true, and_left, and_right, lt-ltb, le-ltb, ne_eqb, eq-eqb}
@@ -9,7 +9,6 @@ use Rattle.noc_router.specs.Verdict.{is_event, is_moved}
 use Rattle.noc_model.specs.Network.{Setup, Located, Place, Source, On, In, Out, packet_at, state_at, frozen_at, network_cycle, after_verdicts, moved_place, is_the_flit, first_in, gone_to, next_channel, verdict_in, arrival_in}
 use Rattle.noc_model.specs.Progress.{events, is_pending, is_stuck, last_event_before}
 use Rattle.noc_ownership.proofs.BufferLemmas.{is_moved-true}
-use Rattle.noc_ownership.proofs.GrantLemmas.{Has-below}
 use Rattle.noc_model.specs.Good.{IsGoodSetup}
 use Rattle.noc_progress.proofs.ProgressLemmas.{map-same, at-same, quiet-frozen}
 use Rattle.noc_progress.proofs.Theorems.{countable}

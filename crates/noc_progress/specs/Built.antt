@@ -1,5 +1,5 @@
 -- What progress needs of a network: its parts fit each other, and no packet reaches a place from which nothing is permitted.
-use Rattle.std.specs.Prelude.{◌≡◌, ℕ, ◌<◌, IsTrue, length, Some, None}
+use Rattle.std.specs.Prelude.{◌≡◌, ℕ, ◌<◌, IsTrue, length, Some}
 use Rattle.noc_topo.specs.Shape.{nodes, neighbour}
 use Rattle.noc_route.specs.Channel.{Channel, Link, Inject, Eject}
 use Rattle.noc_route.specs.Ranks.{rank_of}

@@ -1,6 +1,5 @@
 -- The parts of a network and the lockstep run, both ways. Nothing else in this crate uses what the parts of a network promise.
 use Rattle.std.proofs.Common.{◌≡◌, ◌≤◌, [], map, length, vec_len, ap, sym, ◌∙◌, subst, arith}
-use Rattle.std.specs.List.{All}
 use Rattle.noc_topo.specs.Shape.{IsGrid, nodes, ports}
 use Rattle.noc_router.specs.Decided.{IsDecidedFor}
 use Rattle.noc_net.specs.Good.{IsGoodSetup}

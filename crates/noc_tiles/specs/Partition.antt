@@ -1,6 +1,6 @@
 -- All tiles of a network, and the network again.
 use Rattle.std.specs.Prelude.{ℕ, true, false, ◌≡◌, ◌⊎◌, ◌+◌, ◌*◌, ◌<◌, ◌≤◌, List, [], ◌∷◌, take, drop, map, length, get_or, Option, Some, None, vec_len}
-use Rattle.std.specs.List.{All, flat_map}
+use Rattle.std.specs.List.{flat_map}
 use Rattle.noc_topo.specs.Shape.{IsGrid, nodes, ports, neighbour}
 use Rattle.noc_packet.specs.declared.packet.Beat.{Beat}
 use Rattle.noc_router.specs.Decided.{IsDecidedFor}

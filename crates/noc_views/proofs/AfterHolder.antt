@@ -1,23 +1,19 @@
 -- After the verdicts: the holder of an output channel.
-use Rattle.std.proofs.Common.{◌≡◌, ◌≢◌, ℕ, zero, suc, ◌+◌, ◌-◌, ◌*◌, ◌/◌, ◌%◌, ◌<◌, ◌≤◌, Bool, true, false, cond, List, [], ◌∷◌, length, Option, Some, None, refl, ap, sym, ◌∙◌, inl, inr, subst, arith}
-use Rattle.std.specs.Prelude.{◌⊎◌, ◌&&◌, ◌||◌, not, nat_lt, if◌then◌else◌}
-use Rattle.std.specs.List.{list_any}
-use Rattle.std.proofs.lemmas.Bool.{false≢true, true≢false, le-ltb, or_cases, and_from}
-use Rattle.std.proofs.lemmas.Option.{none-some, same_Some}
+use Rattle.std.proofs.Common.{◌≡◌, ℕ, ◌+◌, ◌*◌, ◌/◌, ◌<◌, Bool, true, false, cond, length, Some, None, refl, ap, sym, ◌∙◌, inl, inr, subst, arith}
+use Rattle.std.specs.Prelude.{◌&&◌, ◌||◌, not, nat_lt}
+use Rattle.std.proofs.lemmas.Bool.{false≢true, true≢false, le-ltb}
 use Rattle.noc_topo.specs.Words.{Has}
 use Rattle.noc_route.specs.Channel.{Channel, Link, Inject, Eject, is_link, same_channel, channel_vc}
-use Rattle.noc_vc.specs.declared.output.OutputState.{OutputState}
-use Rattle.noc_vc.specs.declared.output.OutputState.TheVariants.{Idle as Free, Owned, Draining}
-use Rattle.noc_model.specs.Lockstep.{has_come, come_count, seen_holder, seen_source}
+use Rattle.noc_model.specs.Lockstep.{has_come, come_count, seen_source}
 use Rattle.noc_model.specs.Network.{Setup, State, Located, Place, Source, On, In, Out, size, leaving, place_of, tail_place, is_on, is_in, is_past, owner_of, leads_from, verdict_in, tail_leaves, is_released, after_verdicts, all_inputs, has_channel, count_in, count_on, next_channel, verdict_at, round_at, claim_with}
 use Rattle.noc_ownership.proofs.BufferLemmas.{same_channel-refl, same_channel-true}
-use Rattle.noc_ownership.proofs.MoveLemmas.{IsNext, IsFirst, IsMoved, IsMoving, moved-or-not, next-once, is_in-is}
+use Rattle.noc_ownership.proofs.MoveLemmas.{IsFirst, IsMoved, moved-or-not}
 use Rattle.noc_ownership.proofs.PathLemmas.{IsEject}
 use Rattle.noc_ownership.proofs.PlaceLemmas.{IsValid, flit-there}
 use Rattle.noc_ownership.proofs.RoutedRecord.{IsHeld}
 use Rattle.noc_ownership.proofs.SourceOf.{has-source}
 use Rattle.noc_ownership.proofs.WormRecord.{IsPlaced, goal, last_of, far_of, valid-last}
-use Rattle.noc_views.proofs.AfterLemmas.{whole, wormT, Moves, Next, come-kept, step, held-kept, tail-past, come-gone}
+use Rattle.noc_views.proofs.AfterLemmas.{whole, wormT, Moves, Next, held-kept, come-gone}
 use Rattle.noc_router.specs.Verdict.{Unrouted, is_routed, is_moved, verdict_of}
 use Rattle.noc_router.specs.declared.verdict.Verdict.TheVariants.{Empty, Moved}
 use Rattle.noc_ownership.proofs.InjectionRoom.{filter-none}
@@ -30,7 +26,7 @@ use Rattle.noc_views.proofs.AfterOutput.{on-none}
 use Rattle.noc_views.proofs.ComeLemmas.{count-all}
 use Rattle.noc_views.proofs.NextLemmas.{one-next}
 use Rattle.noc_views.proofs.Ordered.{IsGood, IsOrderedFrozen}
-use Rattle.noc_views.proofs.PlaceLemmas.{IsAt, input-at}
+use Rattle.noc_views.proofs.PlaceLemmas.{input-at}
 use Rattle.noc_views.proofs.SourceLemmas.{at-router, source-is, not-end}
 
 module _ (net : Setup) (good : IsGood net) (F : State) (x : IsOrderedFrozen net F) (n : ℕ) where

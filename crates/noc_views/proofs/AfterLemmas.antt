@@ -1,28 +1,26 @@
 -- After the verdicts: who owns what, how many flits have come to a buffer, and where tails are.
-use Rattle.std.proofs.Common.{◌≡◌, ◌≢◌, ℕ, zero, suc, ◌+◌, ◌-◌, ◌*◌, ◌/◌, ◌%◌, ◌<◌, ◌≤◌, Bool, true, false, cond, List, [], ◌∷◌, ◌++◌, map, length, Option, Some, None, refl, ap, sym, ◌∙◌, inl, inr, subst, arith}
-use Rattle.std.specs.Prelude.{filter, find, option_map, option_and_then, unwrap_or, count_by, ◌⊎◌, nat_eq, nat_lt, nat_le, not, ◌&&◌, ◌||◌}
-use Rattle.std.specs.List.{list_any, filter_map}
-use Rattle.std.proofs.lemmas.Bool.{false≢true, true≢false, ltb-true, lt-ltb, le-ltb, ltb-false, cases_eq, cases_lt, eqb-true, eq-eqb, and_parts, and_from, not-true, or_right}
-use Rattle.std.proofs.lemmas.Option.{none-some, same_Some}
+use Rattle.std.proofs.Common.{◌≡◌, ℕ, ◌+◌, ◌<◌, ◌≤◌, Bool, true, false, length, Option, Some, None, refl, ap, sym, ◌∙◌, inl, inr, subst, arith}
+use Rattle.std.specs.Prelude.{filter, ◌⊎◌, nat_eq, nat_lt, not, ◌||◌}
+use Rattle.std.specs.List.{filter_map}
+use Rattle.std.proofs.lemmas.Bool.{false≢true, true≢false, lt-ltb, le-ltb, cases_eq, cases_lt, eqb-true, not-true, or_right}
 use Rattle.noc_topo.specs.Words.{Has}
-use Rattle.noc_route.specs.Channel.{Channel, Link, Inject, Eject, is_link, same_channel}
-use Rattle.noc_model.specs.Network.{Setup, State, Located, Place, Source, On, In, Out, packet_at, place_of, tail_place, flits_of, is_in, is_past, is_on, gone_to, moved_place, leads_from, next_channel, owner_of, has_channel, verdict_in, is_released, tail_leaves, after_verdicts, all_inputs, granted_pair}
+use Rattle.noc_route.specs.Channel.{Channel, Link, Inject, Eject, same_channel}
+use Rattle.noc_model.specs.Network.{Setup, State, Located, Place, In, place_of, tail_place, is_in, is_past, gone_to, moved_place, verdict_in, is_released, tail_leaves, after_verdicts, all_inputs, granted_pair}
 use Rattle.noc_model.specs.Lockstep.{has_come, come_count}
-use Rattle.noc_router.specs.declared.verdict.Verdict.TheVariants.{Moved, Granted}
+use Rattle.noc_router.specs.declared.verdict.Verdict.TheVariants.{Moved}
 use Rattle.noc_ownership.proofs.BufferLemmas.{same_channel-refl, same_channel-true}
 use Rattle.noc_ownership.proofs.GrantLemmas.{IsGrant, granted-is}
-use Rattle.noc_ownership.proofs.Members.{Has-append, Has-left, Has-right, Has-filter, Has-kept, Has-filter_map}
+use Rattle.noc_ownership.proofs.Members.{Has-append, Has-right, Has-filter, Has-filter_map}
 use Rattle.noc_views.proofs.PlaceLemmas.{Has-filter_mapped}
-use Rattle.noc_ownership.proofs.MoveLemmas.{IsNext, IsFirst, IsMoving, IsStaying, IsMoved, moved-or-not, same-far, far-link, far-eject, next-is, next-once, leads-end, no-end-eject, next-no-eject, is_in-is}
-use Rattle.noc_ownership.proofs.OwnedLemmas.{owner-has, owner-is, once-same, idle-none}
+use Rattle.noc_ownership.proofs.MoveLemmas.{IsNext, IsFirst, IsMoving, IsMoved, moved-or-not, same-far, far-link, far-eject, next-no-eject}
 use Rattle.noc_ownership.proofs.PathLemmas.{IsEject}
 use Rattle.noc_ownership.proofs.PlaceLemmas.{IsValid, IsKeyed, place-of-flit, place-stepped}
-use Rattle.noc_ownership.proofs.RoutedRecord.{IsHeld, Come, HasNext}
-use Rattle.noc_ownership.proofs.RoutedState.{IsWhole, IsWholeFrozen, whole-verdicts}
-use Rattle.noc_ownership.proofs.VerdictPhase.{kept-left, owned-before, tail-of, leaves-tail}
-use Rattle.noc_ownership.proofs.WormRecord.{IsWorm, class_of, goal, last_of, far_of, valid-last, valid-first}
+use Rattle.noc_ownership.proofs.RoutedRecord.{IsHeld}
+use Rattle.noc_ownership.proofs.RoutedState.{IsWhole, whole-verdicts}
+use Rattle.noc_ownership.proofs.VerdictPhase.{kept-left, tail-of, leaves-tail}
+use Rattle.noc_ownership.proofs.WormRecord.{IsWorm, goal, last_of, far_of, valid-last}
 use Rattle.noc_views.proofs.Ordered.{IsGood, IsOrderedFrozen}
-use Rattle.noc_views.proofs.StepLemmas.{count-step, any-step}
+use Rattle.noc_views.proofs.StepLemmas.{count-step}
 
 module _ (net : Setup) (good : IsGood net) (F : State) (x : IsOrderedFrozen net F) (n : ℕ) where
   abbrev pub T : State

@@ -1,25 +1,22 @@
 -- After the verdicts: what is routed, and the next channel of each channel.
-use Rattle.std.proofs.Common.{◌≡◌, ◌≢◌, ℕ, ◌+◌, ◌/◌, ◌%◌, ◌<◌, Bool, true, false, cond, List, [], ◌∷◌, ◌++◌, length, Option, Some, None, refl, ap, sym, ◌∙◌, inl, inr, subst, arith}
-use Rattle.std.specs.Prelude.{filter, find, option_map, option_and_then, unwrap_or, ◌⊎◌, not, ◌&&◌, ◌||◌}
-use Rattle.std.specs.List.{list_any}
-use Rattle.std.proofs.lemmas.Bool.{false≢true, true≢false, and_parts, not-true}
-use Rattle.std.proofs.lemmas.Option.{none-some, same_Some}
+use Rattle.std.proofs.Common.{◌≡◌, ℕ, Bool, true, false, Option, Some, None, refl, ap, sym, ◌∙◌}
+use Rattle.std.specs.Prelude.{filter, option_map, unwrap_or, not, ◌&&◌, ◌||◌}
+use Rattle.std.proofs.lemmas.Bool.{false≢true, and_parts}
 use Rattle.noc_topo.specs.Words.{Has}
 use Rattle.noc_route.specs.Channel.{Channel, Link, Inject, Eject, same_channel}
 use Rattle.noc_router.specs.Verdict.{is_routed, is_granted, is_moved}
 use Rattle.noc_router.specs.declared.verdict.Verdict.{Verdict}
-use Rattle.noc_router.specs.declared.verdict.Verdict.TheVariants.{Routed, Granted, Moved}
+use Rattle.noc_router.specs.declared.verdict.Verdict.TheVariants.{Granted}
 use Rattle.noc_model.specs.Network.{Setup, State, place_of, owner_of, owned_by, next_channel, leads_from, has_channel, verdict_in, tail_leaves, tail_leaves_to, is_released, after_verdicts, all_inputs, granted_pair}
-use Rattle.noc_ownership.proofs.BufferLemmas.{same_channel-refl, same_channel-true}
+use Rattle.noc_ownership.proofs.BufferLemmas.{same_channel-true}
 use Rattle.noc_ownership.proofs.GrantLemmas.{IsGrant}
 use Rattle.noc_ownership.proofs.Members.{list_any-has}
 use Rattle.noc_ownership.proofs.MoveLemmas.{IsNext, next-is, next-once, leads-end, no-end-eject}
 use Rattle.noc_ownership.proofs.OwnedLemmas.{owner-has, of-has}
-use Rattle.noc_ownership.proofs.PathLemmas.{IsEject}
 use Rattle.noc_ownership.proofs.RoutedRecord.{IsHeld}
 use Rattle.noc_ownership.proofs.RoutedVerdicts.{has-channel}
 use Rattle.noc_ownership.proofs.WormRecord.{class_of, goal}
-use Rattle.noc_views.proofs.AfterLemmas.{T, whole, wormT, Next, WasOwned, was-owned, kept, given, owned-kept, owned-given, held-kept}
+use Rattle.noc_views.proofs.AfterLemmas.{whole, wormT, Next, WasOwned, was-owned, kept, given, owned-kept, owned-given, held-kept}
 use Rattle.noc_views.proofs.NextLemmas.{channel-filter, channel-append, next-at, next-none, no-next}
 use Rattle.noc_views.proofs.Ordered.{IsGood, IsOrderedFrozen}
 

@@ -1,22 +1,21 @@
 -- After the verdicts: how many flits are on a wire and in a buffer, and how many credits there are.
-use Rattle.std.proofs.Common.{◌≡◌, ◌≢◌, ℕ, zero, suc, ◌+◌, ◌-◌, ◌*◌, ◌<◌, ◌≤◌, Bool, true, false, cond, List, [], ◌∷◌, map, length, Option, Some, None, refl, ap, sym, ◌∙◌, inl, inr, subst, arith}
-use Rattle.std.specs.Prelude.{filter, ◌⊎◌, ◌&&◌, not, if◌then◌else◌}
+use Rattle.std.proofs.Common.{◌≡◌, ℕ, zero, suc, ◌+◌, ◌-◌, ◌≤◌, Bool, true, false, length, refl, ap, sym, ◌∙◌, inl, inr, subst, arith}
+use Rattle.std.specs.Prelude.{◌⊎◌, ◌&&◌, if◌then◌else◌}
 use Rattle.std.proofs.lemmas.Bool.{false≢true}
 use Rattle.std.proofs.lemmas.List.{length-drop}
 use Rattle.noc_topo.specs.Words.{Has}
-use Rattle.noc_route.specs.Channel.{Channel, Link, Inject, Eject, is_link, same_channel}
+use Rattle.noc_route.specs.Channel.{Channel, is_link}
 use Rattle.noc_router.specs.Verdict.{is_moved}
-use Rattle.noc_router.specs.declared.verdict.Verdict.TheVariants.{Moved}
 use Rattle.noc_model.specs.Network.{Setup, State, Located, Place, Source, On, In, Out, place_of, is_on, is_in, count_on, count_in, credit_of, has_channel, verdict_in, next_channel, after_verdicts, all_inputs, gone_to, moved_place}
-use Rattle.noc_ownership.proofs.BufferLemmas.{same_channel-refl, same_channel-true, buffer-moved, buffer-stays, is_moved-true, next-some}
+use Rattle.noc_ownership.proofs.BufferLemmas.{same_channel-true, buffer-moved, buffer-stays, is_moved-true, next-some}
 use Rattle.noc_ownership.proofs.InjectionRoom.{filter-none}
 use Rattle.noc_ownership.proofs.Members.{Has-mapped, Has-map}
-use Rattle.noc_ownership.proofs.MoveLemmas.{IsNext, IsMoving, next-once, leads-end, no-end-eject}
+use Rattle.noc_ownership.proofs.MoveLemmas.{next-once}
 use Rattle.noc_ownership.proofs.PlaceLemmas.{place-of-flit}
 use Rattle.noc_ownership.proofs.RoomLemmas.{count-one_more, filter-some, Gains}
 use Rattle.noc_ownership.proofs.RoutedVerdicts.{has-channel}
 use Rattle.noc_ownership.proofs.VerdictRoom.{comes-on, moved-facts, sorted-distinct}
-use Rattle.noc_views.proofs.AfterLemmas.{step, Moves, whole}
+use Rattle.noc_views.proofs.AfterLemmas.{step, Moves}
 use Rattle.noc_views.proofs.NextLemmas.{channel-filter}
 use Rattle.noc_views.proofs.Ordered.{IsGood, IsOrderedFrozen}
 use Rattle.noc_views.proofs.SourceLemmas.{same-owner, next-owner, not-end}

@@ -1,12 +1,12 @@
 -- Which flits of a packet have come to the buffer of a channel that it holds: the first ones, as the weights of their places tell.
-use Rattle.std.proofs.Common.{◌≡◌, ◌≢◌, ℕ, zero, suc, ◌+◌, ◌-◌, ◌*◌, ◌<◌, ◌≤◌, Bool, true, false, cond, List, [], ◌∷◌, map, length, Option, Some, None, refl, ap, sym, ◌∙◌, inl, inr, subst, arith}
-use Rattle.std.specs.Prelude.{count_by, ◌⊎◌, nat_eq, nat_lt, nat_le, ◌||◌}
-use Rattle.std.proofs.lemmas.Bool.{false≢true, true≢false, ltb-true, lt-ltb, le-ltb, ltb-false, leb-true, le-leb, leb-false, lt-leb, cases_eq, cases_lt, or_right, or_left, or_cases, eq-eqb}
+use Rattle.std.proofs.Common.{◌≡◌, ℕ, ◌+◌, ◌*◌, ◌<◌, ◌≤◌, Bool, true, false, refl, ap, sym, ◌∙◌, inl, inr, arith}
+use Rattle.std.specs.Prelude.{◌⊎◌, nat_eq, nat_lt, nat_le, ◌||◌}
+use Rattle.std.proofs.lemmas.Bool.{false≢true, ltb-true, lt-ltb, le-ltb, leb-true, le-leb, lt-leb, cases_eq, or_right, or_left, or_cases, eq-eqb}
 use Rattle.noc_topo.specs.Words.{Has}
 use Rattle.noc_topo.specs.Shape.{distance}
 use Rattle.noc_route.specs.Channel.{Channel, Link, Inject, Eject, same_channel}
 use Rattle.noc_route.proofs.BoolLemmas.{same_test}
-use Rattle.noc_model.specs.Network.{Setup, State, Located, Place, Source, On, In, Out, packet_at, place_of, flits_of, tail_place, end_distance, is_past}
+use Rattle.noc_model.specs.Network.{Setup, State, Located, Place, Source, On, In, Out, packet_at, place_of, flits_of, tail_place}
 use Rattle.noc_model.specs.Lockstep.{has_come, come_count}
 use Rattle.noc_model.specs.Progress.{weight, hops, head_place}
 use Rattle.noc_ownership.proofs.BuiltRecord.{IsBuilt}

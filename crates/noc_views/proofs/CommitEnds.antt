@@ -1,22 +1,18 @@
 -- A tail that is out is noted as the arrival of its packet, and never as a misfit.
 use Rattle.std.proofs.Common.{◌≡◌, ◌≢◌, ℕ, zero, suc, ◌+◌, ◌-◌, ◌*◌, ◌/◌, ◌%◌, ◌<◌, ◌≤◌, Bool, true, false, cond, List, [], ◌∷◌, map, length, get_or, Option, Some, None, refl, ap, sym, ◌∙◌, inl, inr, subst, arith}
-use Rattle.std.specs.Prelude.{filter, find, option_map, option_and_then, is_none, ◌⊎◌, ◌&&◌, ◌||◌, not, nat_eq, if◌then◌else◌}
+use Rattle.std.specs.Prelude.{filter, is_none, ◌⊎◌, ◌&&◌, nat_eq, if◌then◌else◌}
 use Rattle.std.specs.List.{list_any, enumerate_from}
-use Rattle.std.proofs.lemmas.Bool.{false≢true, true≢false, eqb-true, eq-eqb, ne_eqb, and_from, cases_eq}
-use Rattle.std.proofs.lemmas.Option.{none-some, same_Some}
+use Rattle.std.proofs.lemmas.Bool.{false≢true, eqb-true, eq-eqb, ne_eqb, and_from, cases_eq}
 use Rattle.noc_topo.specs.Words.{Has}
 use Rattle.noc_topo.specs.Shape.{nodes, ports, local_port}
 use Rattle.noc_packet.specs.declared.packet.Packet.{Packet}
-use Rattle.noc_packet.specs.declared.packet.Flit.{Flit}
 use Rattle.noc_route.specs.Channel.{Channel, Link, Inject, Eject}
 use Rattle.noc_router.specs.View.{Site, View, Decisions, planned, flit_out, tail_packet, with_arrival, mover}
-use Rattle.noc_model.specs.Lockstep.{ends_at, ends_of}
-use Rattle.noc_model.specs.Network.{Setup, State, Located, Place, Source, On, In, Out, size, leaving, packet_at, place_of, tail_place, out_cycle, gone_to, after_verdicts}
-use Rattle.noc_ownership.proofs.BufferLemmas.{find-passes}
+use Rattle.noc_model.specs.Lockstep.{ends_at}
+use Rattle.noc_model.specs.Network.{Setup, State, On, In, Out, size, leaving, packet_at, place_of, tail_place, out_cycle, gone_to, after_verdicts}
 use Rattle.noc_ownership.proofs.Members.{Has-map, Has-mapped, Has-filter, Has-kept, list_any-from}
-use Rattle.noc_ownership.proofs.MoveLemmas.{IsNext, IsMoved, moved-or-not, next-once}
-use Rattle.noc_ownership.proofs.PlaceLemmas.{IsValid}
-use Rattle.noc_ownership.proofs.WormRecord.{goal, last_of, valid-last}
+use Rattle.noc_ownership.proofs.MoveLemmas.{IsMoved, moved-or-not, next-once}
+use Rattle.noc_ownership.proofs.WormRecord.{last_of, valid-last}
 use Rattle.noc_views.proofs.AfterLemmas.{Moves}
 use Rattle.noc_views.proofs.MoverLemmas.{MoverTo}
 use Rattle.noc_views.proofs.Ordered.{IsGood, IsOrderedFrozen}

@@ -1,27 +1,24 @@
 -- A grant takes effect on the output channel that is granted, and with it all output channels are those of the state.
-use Rattle.std.proofs.Common.{◌≡◌, ℕ, ◌<◌, Bool, true, false, cond, Option, Some, None, get_or, refl, ap, sym, ◌∙◌, inl, inr, subst, arith}
-use Rattle.std.specs.Prelude.{◌⊎◌, ◌&&◌, ◌||◌, not, nat_lt, unwrap_or, option_and_then, if◌then◌else◌}
-use Rattle.std.proofs.lemmas.Bool.{false≢true, lt-ltb, or_left, or_right}
-use Rattle.std.proofs.lemmas.Option.{none-some}
+use Rattle.std.proofs.Common.{◌≡◌, ℕ, ◌<◌, true, false, cond, Option, Some, None, get_or, refl, ap, sym, ◌∙◌, inl, inr, subst, arith}
+use Rattle.std.specs.Prelude.{◌&&◌, not, nat_lt, unwrap_or, if◌then◌else◌}
+use Rattle.std.proofs.lemmas.Bool.{lt-ltb, or_left, or_right}
 use Rattle.noc_topo.specs.Words.{Has}
 use Rattle.noc_topo.specs.Shape.{nodes}
 use Rattle.noc_route.specs.Channel.{Channel, Link, Inject, Eject, is_link, begin}
 use Rattle.noc_vc.specs.Input.{Input}
-use Rattle.noc_vc.specs.Output.{Output, held}
+use Rattle.noc_vc.specs.Output.{held}
 use Rattle.noc_vc.specs.declared.output.OutputState.TheVariants.{Owned, Draining}
 use Rattle.noc_router.specs.View.{View, Decisions, view_input, view_output, planned, mover_to, output_after}
 use Rattle.noc_model.specs.Lockstep.{seen_input, seen_output, seen_holder, seen_source, is_present, come_count, has_come}
-use Rattle.noc_model.specs.Network.{Setup, State, Place, In, size, leaving, place_of, owner_of, has_channel, is_in, is_past, credit_of, tail_place, after_verdicts, all_inputs}
+use Rattle.noc_model.specs.Network.{Setup, State, Place, size, leaving, owner_of, is_in, is_past, credit_of, tail_place, after_verdicts}
 use Rattle.noc_model.specs.Progress.{head_place}
 use Rattle.noc_ownership.proofs.BufferLemmas.{same_channel-refl}
-use Rattle.noc_ownership.proofs.PathLemmas.{IsEject}
 use Rattle.noc_ownership.proofs.RoutedRecord.{IsHeld, Come}
 use Rattle.noc_ownership.proofs.WormRecord.{goal}
 use Rattle.noc_views.proofs.AfterHolder.{is_sent_on, given-unsent}
 use Rattle.noc_views.proofs.AfterInput.{seen-held}
 use Rattle.noc_views.proofs.AfterLemmas.{whole, wormT, owned-given}
 use Rattle.noc_views.proofs.AfterNext.{giver-kept}
-use Rattle.noc_views.proofs.CommitInput.{claim-waits}
 use Rattle.noc_views.proofs.CommitOutput.{after-is, no-mover, credit-idle, idle-out, stays-out, moved-out, link_out, eject_out, holder-at}
 use Rattle.noc_views.proofs.ComeLemmas.{count-some}
 use Rattle.noc_views.proofs.MoverLemmas.{GivenTo, grant-given}

@@ -1,7 +1,7 @@
 -- The verdicts take effect on the buffers and the input channels of a view.
-use Rattle.std.proofs.Common.{◌≡◌, ◌≢◌, ℕ, zero, suc, ◌+◌, ◌-◌, ◌*◌, ◌/◌, ◌%◌, ◌<◌, ◌≤◌, Bool, true, false, cond, List, [], ◌∷◌, ◌++◌, map, length, drop, get_or, Option, Some, None, refl, ap, sym, ◌∙◌, inl, inr, subst, arith}
-use Rattle.std.specs.Prelude.{filter, find, option_map, option_and_then, unwrap_or, ◌⊎◌, not, ◌&&◌, ◌||◌, nat_lt, nat_eq, slice_get, slice_index, if◌then◌else◌}
-use Rattle.std.proofs.lemmas.Bool.{false≢true, true≢false, and_parts, cases_lt}
+use Rattle.std.proofs.Common.{◌≡◌, ℕ, ◌/◌, ◌%◌, ◌<◌, ◌≤◌, Bool, true, false, cond, List, [], ◌∷◌, map, length, drop, get_or, Option, Some, None, refl, ap, sym, ◌∙◌, inl, inr, arith}
+use Rattle.std.specs.Prelude.{filter, find, option_map, option_and_then, ◌⊎◌, ◌&&◌, nat_lt, slice_get, slice_index, if◌then◌else◌}
+use Rattle.std.proofs.lemmas.Bool.{false≢true, cases_lt}
 use Rattle.std.proofs.lemmas.Option.{none-some, same_Some}
 use Rattle.std.proofs.lemmas.List.{get_or-map, get_or_past}
 use Rattle.noc_topo.specs.Words.{tabulate, Has}
@@ -11,8 +11,7 @@ use Rattle.noc_packet.specs.Packet.{flit_at}
 use Rattle.noc_packet.specs.declared.packet.Flit.{Flit}
 use Rattle.noc_route.specs.Channel.{Channel, output_index}
 use Rattle.noc_route.specs.Routes.{set_at}
-use Rattle.noc_vc.specs.Input.{Input, idle_input, is_idle_phase, is_empty}
-use Rattle.noc_vc.specs.declared.input.InputState.{InputState}
+use Rattle.noc_vc.specs.Input.{Input, idle_input, is_idle_phase}
 use Rattle.noc_vc.specs.declared.input.InputState.TheVariants.{Idle, Waiting, Active}
 use Rattle.noc_router.specs.Verdict.{Claim, Unrouted, Waits, Holds, verdict_of, is_routed, is_granted, is_moved, ask_of}
 use Rattle.noc_router.specs.View.{Site, View, Decisions, size_of, view_buffer, view_input, view_claim, planned, decided_verdict, buffer_after, input_after, granted_to, sent_from, first_flit, route_of, route_for}
@@ -26,7 +25,6 @@ use Rattle.noc_ownership.proofs.BufferLemmas.{find-passes, buffer-moved, buffer-
 use Rattle.noc_ownership.proofs.GrantLemmas.{IsGrant, granted-is}
 use Rattle.noc_ownership.proofs.Members.{Has-kept, find-has}
 use Rattle.noc_ownership.proofs.OwnedLemmas.{owner-has, owner-is}
-use Rattle.noc_ownership.proofs.PathLemmas.{IsEject}
 use Rattle.noc_ownership.proofs.RoomLemmas.{unowned-empty}
 use Rattle.noc_ownership.proofs.RoutedRecord.{IsHeld}
 use Rattle.noc_ownership.proofs.Unmixed.{in-buffer}

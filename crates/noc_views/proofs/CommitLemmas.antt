@@ -1,19 +1,17 @@
 -- The verdicts take effect: a view that showed the frozen state shows the state after the verdicts.
-use Rattle.std.proofs.Common.{◌≡◌, ℕ, ◌+◌, ◌<◌, Bool, false, cond, List, [], map, length, get_or, Option, Some, None, refl, ap, sym, ◌∙◌, subst, arith}
-use Rattle.std.specs.Prelude.{filter, ◌||◌, if◌then◌else◌}
+use Rattle.std.proofs.Common.{◌≡◌, ℕ, ◌<◌, false, cond, [], map, length, get_or, Some, refl, ap, sym, ◌∙◌, subst, arith}
+use Rattle.std.specs.Prelude.{◌||◌, if◌then◌else◌}
 use Rattle.std.specs.List.{list_any}
 use Rattle.noc_topo.specs.Words.{below, tabulate, map_indexed}
 use Rattle.noc_topo.specs.Shape.{nodes, local_port, neighbour, IsLinkBack}
 use Rattle.noc_topo.proofs.LinkLemmas.{link_back}
 use Rattle.noc_topo.proofs.WordLemmas.{get_or-map_indexed, length-map_indexed, get_or-tabulate}
-use Rattle.noc_packet.specs.declared.packet.Beat.{Beat}
-use Rattle.noc_packet.specs.declared.packet.Flit.{Flit}
-use Rattle.noc_vc.specs.Input.{Input, idle_input}
-use Rattle.noc_vc.specs.Output.{Output, ejection_output}
+use Rattle.noc_vc.specs.Input.{idle_input}
+use Rattle.noc_vc.specs.Output.{ejection_output}
 use Rattle.noc_router.specs.Verdict.{Round, is_event, arbiters_after}
-use Rattle.noc_router.specs.View.{Site, View, Decisions, planned, committed, with_arrival, flit_out, tail_packet, buffer_after, input_after, output_after, decided_verdict, counted, has_event, beat_out, idle_beat, view_buffer, view_input, view_output}
-use Rattle.noc_model.specs.Lockstep.{finding_in, starts_at, ends_at, has_flit_at_source, seen_sending, beat_by}
-use Rattle.noc_model.specs.Network.{Setup, State, size, arriving, leaving, arbiters_at, round_at, first_waiting, out_cycle, tail_place, after_verdicts}
+use Rattle.noc_router.specs.View.{Site, View, Decisions, planned, committed, buffer_after, input_after, output_after, decided_verdict, counted, has_event, beat_out, idle_beat}
+use Rattle.noc_model.specs.Lockstep.{starts_at, ends_at, beat_by}
+use Rattle.noc_model.specs.Network.{Setup, State, size, round_at, out_cycle, tail_place, after_verdicts}
 use Rattle.noc_views.proofs.CommitEnds.{arrival-noted}
 use Rattle.noc_views.proofs.CommitGrant.{output-commit}
 use Rattle.noc_views.proofs.CommitInput.{buffer-commit, input-commit}

@@ -1,42 +1,34 @@
 -- The verdicts take effect on the output channels of a view.
-use Rattle.std.proofs.Common.{◌≡◌, ◌≢◌, ℕ, zero, suc, ◌+◌, ◌-◌, ◌*◌, ◌/◌, ◌%◌, ◌<◌, ◌≤◌, Bool, true, false, cond, List, [], ◌∷◌, length, get_or, Option, Some, None, refl, ap, sym, ◌∙◌, inl, inr, subst, arith}
-use Rattle.std.specs.Prelude.{find, option_map, option_and_then, unwrap_or, ◌⊎◌, ◌&&◌, ◌||◌, not, nat_lt, if◌then◌else◌}
-use Rattle.std.specs.List.{list_any}
-use Rattle.std.proofs.lemmas.Bool.{false≢true, true≢false, lt-ltb, and_from, or_left, or_right, ne_eqb}
-use Rattle.std.proofs.lemmas.Option.{none-some, same_Some}
+use Rattle.std.proofs.Common.{◌≡◌, ℕ, ◌<◌, Bool, true, false, cond, get_or, Option, Some, None, refl, ap, sym, ◌∙◌, subst}
+use Rattle.std.specs.Prelude.{option_map, unwrap_or, ◌&&◌, ◌||◌}
+use Rattle.std.proofs.lemmas.Bool.{true≢false, and_from}
+use Rattle.std.proofs.lemmas.Option.{none-some}
 use Rattle.noc_topo.specs.Words.{Has}
 use Rattle.noc_topo.specs.Shape.{nodes}
-use Rattle.noc_packet.specs.declared.packet.Flit.{Flit}
 use Rattle.noc_route.specs.Channel.{Channel, Link, Inject, Eject, is_link, same_channel, begin}
-use Rattle.noc_vc.specs.Input.{Input}
-use Rattle.noc_vc.specs.Output.{Output, held, spent, spent_at}
+use Rattle.noc_vc.specs.Output.{Output, spent}
 use Rattle.noc_vc.specs.declared.output.OutputState.{OutputState}
 use Rattle.noc_vc.specs.declared.output.OutputState.TheVariants.{Idle as Free, Owned, Draining}
 use Rattle.noc_router.specs.Verdict.{is_moved}
-use Rattle.noc_router.specs.View.{View, Decisions, view_input, view_output, planned, first_flit, mover_to, held_by, spent_by, output_after, is_tail as is_tail_flit}
+use Rattle.noc_router.specs.View.{View, Decisions, view_output, planned, first_flit, mover_to, held_by, spent_by, output_after, is_tail as is_tail_flit}
 use Rattle.noc_router.specs.declared.verdict.Verdict.{Verdict}
-use Rattle.noc_router.specs.declared.verdict.Verdict.TheVariants.{Empty, Granted, Moved}
-use Rattle.noc_model.specs.Lockstep.{seen_input, seen_output, seen_holder, seen_source, is_present, come_count, has_come}
+use Rattle.noc_model.specs.Lockstep.{seen_output, seen_holder, seen_source, has_come}
 use Rattle.noc_model.specs.Network.{Setup, State, Located, Place, On, size, leaving, place_of, owner_of, owned_by, has_channel, verdict_in, tail_leaves, tail_leaves_to, is_tail, is_released, is_on, is_past, first_in, credit_of, count_on, tail_place, after_verdicts, all_inputs, next_channel}
-use Rattle.noc_model.specs.Progress.{head_place}
 use Rattle.noc_ownership.proofs.BufferLemmas.{same_channel-refl}
-use Rattle.noc_ownership.proofs.GrantLemmas.{IsGrant}
 use Rattle.noc_ownership.proofs.Members.{list_any-from}
-use Rattle.noc_ownership.proofs.MoveLemmas.{IsNext, next-once}
+use Rattle.noc_ownership.proofs.MoveLemmas.{next-once}
 use Rattle.noc_ownership.proofs.OwnedLemmas.{owner-has, has-of, idle-none}
-use Rattle.noc_ownership.proofs.PlaceLemmas.{flit-there}
-use Rattle.noc_ownership.proofs.RoutedRecord.{IsHeld}
 use Rattle.noc_ownership.proofs.VerdictPhase.{leaves-tail}
 use Rattle.noc_ownership.proofs.WormRecord.{goal, last_of}
-use Rattle.noc_views.proofs.AfterHolder.{is_sent_on, sent-kept, KeepsSource, link-kept, eject-kept, tail-moves, given-unsent}
-use Rattle.noc_views.proofs.AfterLemmas.{whole, wormT, Moves, Next, step, owned-kept, owned-given, was-owned, WasOwned, kept, given}
+use Rattle.noc_views.proofs.AfterHolder.{is_sent_on, sent-kept, link-kept, eject-kept, tail-moves}
+use Rattle.noc_views.proofs.AfterLemmas.{whole, wormT, Moves, Next, owned-kept, was-owned, WasOwned, kept, given}
 use Rattle.noc_views.proofs.AfterOutput.{on-none, on-one, credit-stays, credit-spent}
 use Rattle.noc_views.proofs.CommitInput.{first-is}
-use Rattle.noc_views.proofs.MoverLemmas.{MoverTo, GivenTo, mover-moves, moves-mover, nothing-moves, grant-given, given-grant}
+use Rattle.noc_views.proofs.MoverLemmas.{MoverTo, mover-moves, nothing-moves, grant-given, given-grant}
 use Rattle.noc_views.proofs.NextLemmas.{owner-at, owner-none}
 use Rattle.noc_views.proofs.Ordered.{IsGood, IsOrderedFrozen}
 use Rattle.noc_views.proofs.PlaceLemmas.{begins-at}
-use Rattle.noc_views.proofs.SourceLemmas.{same-owner, source-is, not-end}
+use Rattle.noc_views.proofs.SourceLemmas.{same-owner}
 use Rattle.noc_views.specs.Seen.{IsSeen}
 
 module _ (net : Setup) (good : IsGood net) (F : State) (x : IsOrderedFrozen net F) (n r : ℕ) (l : r < nodes net.relation.grid) (v : View) (seen : IsSeen net F r v) where

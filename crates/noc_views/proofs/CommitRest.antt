@@ -1,32 +1,28 @@
 -- The verdicts take effect on what waits at the source, on the arbiters and on what is counted.
-use Rattle.std.proofs.Common.{◌≡◌, ◌≢◌, ℕ, zero, suc, ◌+◌, ◌-◌, ◌<◌, ◌≤◌, Bool, true, false, cond, List, [], ◌∷◌, map, length, get_or, Option, Some, None, refl, ap, sym, ◌∙◌, inl, inr, subst, arith}
-use Rattle.std.specs.Prelude.{filter, find, count_by, option_map, unwrap_or, ◌⊎◌, ◌&&◌, ◌||◌, not, nat_eq}
+use Rattle.std.proofs.Common.{◌≡◌, ℕ, ◌<◌, false, List, [], length, get_or, Option, Some, None, refl, ap, sym, ◌∙◌, arith}
+use Rattle.std.specs.Prelude.{find, count_by, option_map, unwrap_or, ◌||◌, not, nat_eq}
 use Rattle.std.specs.List.{list_any}
-use Rattle.std.proofs.lemmas.Bool.{false≢true, true≢false, eqb-true}
-use Rattle.std.proofs.lemmas.Option.{none-some, same_Some}
+use Rattle.std.proofs.lemmas.Option.{none-some}
 use Rattle.noc_topo.specs.Words.{below, tabulate, map_indexed, Has}
 use Rattle.noc_topo.specs.Shape.{nodes}
 use Rattle.noc_topo.proofs.WordLemmas.{get_or-map_indexed, length-map_indexed, map_indexed-from_each}
 use Rattle.noc_route.specs.Channel.{Channel, Link, Inject, Eject, channel_vc}
-use Rattle.noc_route.specs.Routes.{permits}
-use Rattle.noc_router.specs.Verdict.{Turns, Round, is_event, arbiters_after}
+use Rattle.noc_router.specs.Verdict.{is_event, arbiters_after}
 use Rattle.noc_router.specs.View.{View, Decisions, planned, counted, has_event, decided_verdict}
 use Rattle.noc_router.specs.declared.verdict.Verdict.{Verdict}
 use Rattle.noc_router.specs.declared.verdict.Verdict.TheVariants.{Empty}
 use Rattle.noc_router.specs.declared.verdict.Finding.{Finding}
 use Rattle.noc_model.specs.Lockstep.{finding_in, seen_sending}
-use Rattle.noc_model.specs.Network.{Setup, State, Located, Place, Source, On, In, Out, size, arriving, packet_at, place_of, tail_place, flits_of, owned_by, is_at_source, is_injection_of, first_waiting, arbiters_at, round_at, verdict_in, tail_leaves, gone_to, after_verdicts}
+use Rattle.noc_model.specs.Network.{Setup, State, Located, Source, In, size, arriving, tail_place, flits_of, owned_by, is_at_source, is_injection_of, first_waiting, arbiters_at, round_at, verdict_in, gone_to, after_verdicts}
 use Rattle.noc_ownership.proofs.InjectionState.{waiting-is}
 use Rattle.noc_ownership.proofs.PathLemmas.{no-inject}
-use Rattle.noc_ownership.proofs.PlaceLemmas.{IsValid}
 use Rattle.noc_ownership.proofs.VerdictPhase.{inject-kept, tail-of}
-use Rattle.noc_ownership.proofs.WormRecord.{class_of, goal, last_of}
+use Rattle.noc_ownership.proofs.WormRecord.{class_of, goal}
 use Rattle.noc_views.proofs.AfterLemmas.{whole, wormT, step, goes, Goes, stays, moves, was-owned, WasOwned, kept, given}
 use Rattle.noc_views.proofs.CommitInput.{decided-none, decided-some}
-use Rattle.noc_views.proofs.MoverLemmas.{same_round}
 use Rattle.noc_views.proofs.Ordered.{IsGood, IsOrderedFrozen}
 use Rattle.noc_views.proofs.Phases.{verdict_by}
-use Rattle.noc_views.proofs.SourceState.{any-same, any-map, injection-at, injection-own, injection-none, waiting-same, queue-same}
+use Rattle.noc_views.proofs.SourceState.{any-same, any-map, injection-at, injection-own, injection-none, waiting-same}
 use Rattle.noc_views.proofs.StandLemmas.{InputCase, none, some, input-case, findings-are}
 use Rattle.noc_views.proofs.StepLemmas.{count-step, any-step}
 use Rattle.noc_views.specs.Seen.{IsSeen}

@@ -1,5 +1,5 @@
 -- The counts of a channel, one cycle more.
-use Rattle.std.proofs.Common.{◌≡◌, ℕ, zero, suc, ◌+◌, ◌-◌, ◌^◌, ◌<◌, ◌≤◌, Bool, true, false, cond, List, [], ◌∷◌, ◌++◌, length, map, get_or, set, sum, refl, ap, sym, ◌∙◌, arith, inl, inr, add-one, add-zero, zero-add, ⊎_elim}
+use Rattle.std.proofs.Common.{◌≡◌, ℕ, zero, suc, ◌+◌, ◌-◌, ◌^◌, ◌<◌, Bool, true, cond, List, [], ◌∷◌, ◌++◌, length, get_or, set, sum, refl, ap, sym, ◌∙◌, arith, inl, inr, add-one, add-zero, zero-add}
 use Rattle.std.specs.Prelude.{count_by, nat_eq, ◌⊎◌, nat_lt}
 use Rattle.std.proofs.lemmas.Bool.{cases_eq, lt-ltb, eq-eqb, ne_eqb}
 use Rattle.std.proofs.lemmas.List.Sums.{sum_by-append, sum_by-set}

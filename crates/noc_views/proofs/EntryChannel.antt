@@ -1,33 +1,31 @@
 -- After the injections: the channel on which a source injects.
-use Rattle.std.proofs.Common.{◌≡◌, ◌≢◌, ℕ, zero, suc, ◌+◌, ◌-◌, ◌*◌, ◌<◌, ◌≤◌, Bool, true, false, cond, List, [], ◌∷◌, ◌++◌, map, length, Option, Some, None, refl, ap, sym, ◌∙◌, inl, inr, subst, arith}
-use Rattle.std.specs.Prelude.{filter, find, option_map, option_and_then, ◌⊎◌, ◌&&◌, ◌||◌, not, nat_eq, nat_lt, nat_le, if◌then◌else◌}
+use Rattle.std.proofs.Common.{◌≡◌, ◌≢◌, ℕ, ◌+◌, ◌-◌, ◌<◌, ◌≤◌, Bool, true, false, [], ◌∷◌, ◌++◌, map, Option, Some, None, refl, ap, sym, ◌∙◌, inl, inr, subst, arith}
+use Rattle.std.specs.Prelude.{find, option_and_then, ◌⊎◌, ◌&&◌, not, nat_eq, nat_lt, if◌then◌else◌}
 use Rattle.std.proofs.lemmas.Bool.{false≢true, true≢false, cases_eq, ne_eqb, lt-ltb, le-leb, cases_order, or_left}
-use Rattle.std.proofs.lemmas.Option.{none-some, same_Some}
 use Rattle.std.proofs.lemmas.List.{map-append}
 use Rattle.noc_topo.specs.Words.{below, Has}
 use Rattle.noc_topo.specs.Shape.{nodes}
 use Rattle.noc_packet.specs.Packet.{flit_at}
 use Rattle.noc_packet.specs.declared.packet.Flit.{Flit}
-use Rattle.noc_route.specs.Channel.{Channel, Link, Inject, Eject, same_channel}
-use Rattle.noc_vc.specs.Input.{Input, landed, next_of}
+use Rattle.noc_route.specs.Channel.{Channel, Inject}
+use Rattle.noc_vc.specs.Input.{landed, next_of}
 use Rattle.noc_vc.specs.declared.input.InputState.{InputState}
 use Rattle.noc_model.specs.Lockstep.{has_come, come_count, seen_flits, seen_input, seen_phase, is_present, last_come}
-use Rattle.noc_model.specs.Network.{Setup, State, Located, Place, Source, On, In, Out, Injection, packet_at, place_of, tail_place, buffer_of, owner_of, has_channel, is_in, is_past, injections, injection_at, injected_place, after_injection}
-use Rattle.noc_model.specs.Progress.{weight, hops}
+use Rattle.noc_model.specs.Network.{Setup, State, Located, Place, Source, In, Injection, packet_at, place_of, tail_place, buffer_of, owner_of, has_channel, is_in, is_past, injections, injection_at, after_injection}
 use Rattle.noc_ownership.proofs.BufferLemmas.{same_channel-refl, same_channel-true}
 use Rattle.noc_ownership.proofs.InjectionPhase.{IsEntry, light, source-behind, apart-same}
 use Rattle.noc_ownership.proofs.InjectionState.{entry-of, entries-apart}
-use Rattle.noc_ownership.proofs.OwnedLemmas.{owner-has, idle-none}
+use Rattle.noc_ownership.proofs.OwnedLemmas.{owner-has}
 use Rattle.noc_ownership.proofs.PathLemmas.{IsEject}
-use Rattle.noc_ownership.proofs.PlaceLemmas.{IsValid, place-of-flit, flit-there, sorted-same}
+use Rattle.noc_ownership.proofs.PlaceLemmas.{IsValid, place-of-flit, flit-there}
 use Rattle.noc_ownership.proofs.RoutedRecord.{IsHeld}
 use Rattle.noc_ownership.proofs.Unmixed.{in-buffer}
 use Rattle.noc_ownership.proofs.Members.{Has-kept}
-use Rattle.noc_ownership.proofs.WormRecord.{IsPlaced, goal, last_of, valid-last, valid-below}
-use Rattle.noc_views.proofs.AfterInput.{made, seen-held, seen-unowned}
+use Rattle.noc_ownership.proofs.WormRecord.{IsPlaced, goal, valid-below}
+use Rattle.noc_views.proofs.AfterInput.{made, seen-held}
 use Rattle.noc_views.proofs.ComeLemmas.{come-level}
 use Rattle.noc_views.proofs.EntryLemmas.{T, step, keyed, worm, wormT, keyedT, routedT, Enters, Moved, moved, still, enters, to-place, owned-left}
-use Rattle.noc_views.proofs.EntryView.{phase-same, injected-misses, injected-keeps}
+use Rattle.noc_views.proofs.EntryView.{phase-same, injected-keeps}
 use Rattle.noc_views.proofs.KeyLemmas.{count-places}
 use Rattle.noc_views.proofs.NextLemmas.{owner-at}
 use Rattle.noc_views.proofs.Ordered.{IsGood, IsOrderedFrozen}

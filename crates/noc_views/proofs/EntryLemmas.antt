@@ -1,24 +1,17 @@
 -- After the injections: what is the same at each router, but on the channel on which its source injects.
-use Rattle.std.proofs.Common.{◌≡◌, ◌≢◌, ℕ, zero, suc, ◌+◌, ◌-◌, ◌*◌, ◌<◌, ◌≤◌, Bool, true, false, cond, List, [], ◌∷◌, ◌++◌, map, length, Option, Some, None, refl, ap, sym, ◌∙◌, inl, inr, subst, arith}
-use Rattle.std.specs.Prelude.{filter, find, count_by, option_map, option_and_then, unwrap_or, ◌⊎◌, ◌&&◌, ◌||◌, not, nat_eq, nat_lt, if◌then◌else◌}
-use Rattle.std.specs.List.{list_any}
-use Rattle.std.proofs.lemmas.Bool.{false≢true, true≢false, eqb-true, eq-eqb, cases_eq, le-ltb}
-use Rattle.std.proofs.lemmas.Option.{none-some, same_Some}
-use Rattle.noc_topo.specs.Words.{below, Has}
-use Rattle.noc_topo.specs.Shape.{nodes, distance}
-use Rattle.noc_packet.specs.Packet.{flit_at}
-use Rattle.noc_packet.specs.declared.packet.Flit.{Flit}
-use Rattle.noc_route.specs.Channel.{Channel, Link, Inject, Eject, same_channel, is_link}
-use Rattle.noc_vc.specs.Input.{Input}
-use Rattle.noc_vc.specs.Output.{Output}
-use Rattle.noc_vc.specs.declared.input.InputState.{InputState}
-use Rattle.noc_model.specs.Lockstep.{has_come, come_count, seen_flits, seen_input, seen_output, seen_phase, seen_phase_with, seen_set, seen_holder, seen_source, goes_on_by, is_present, last_come}
-use Rattle.noc_model.specs.Network.{Setup, State, Located, Place, Source, On, In, Out, Injection, size, arriving, leaving, packet_at, place_of, tail_place, flits_of, buffer_of, count_in, count_on, credit_of, owner_of, owned_by, next_channel, leads_from, has_channel, is_in, is_on, is_past, is_at_source, injections, injection_at, injected_place, after_injection}
+use Rattle.std.proofs.Common.{◌≡◌, ◌≢◌, ℕ, ◌<◌, ◌≤◌, Bool, true, false, length, Option, Some, None, refl, ap, sym, ◌∙◌, inl, inr, subst, arith}
+use Rattle.std.specs.Prelude.{find, option_and_then, ◌⊎◌, ◌||◌, nat_eq, nat_lt}
+use Rattle.std.proofs.lemmas.Bool.{false≢true, eqb-true, cases_eq, le-ltb}
+use Rattle.noc_topo.specs.Words.{Has}
+use Rattle.noc_topo.specs.Shape.{distance}
+use Rattle.noc_route.specs.Channel.{Channel, Link, Inject, Eject, same_channel}
+use Rattle.noc_model.specs.Lockstep.{has_come, come_count}
+use Rattle.noc_model.specs.Network.{Setup, State, Located, Place, Source, In, Injection, place_of, owner_of, owned_by, next_channel, leads_from, injections, injected_place, after_injection}
 use Rattle.noc_model.specs.Progress.{hops}
-use Rattle.noc_ownership.proofs.BufferLemmas.{same_channel-refl, same_channel-true, filter-kept}
+use Rattle.noc_ownership.proofs.BufferLemmas.{same_channel-true}
 use Rattle.noc_ownership.proofs.InjectionPhase.{IsEntry, IsEntered, IsInjected}
 use Rattle.noc_ownership.proofs.InjectionState.{all_entries, entries-are, entries-apart, entries-move, worm-after_injection, keyed-after_injection}
-use Rattle.noc_ownership.proofs.Members.{Has-append, Has-left, Has-filter_map}
+use Rattle.noc_ownership.proofs.Members.{Has-left}
 use Rattle.noc_ownership.proofs.MoveLemmas.{IsNext, next-is}
 use Rattle.noc_ownership.proofs.OwnedLemmas.{owner-has, idle-none}
 use Rattle.noc_ownership.proofs.PathLemmas.{IsEject}
@@ -26,10 +19,9 @@ use Rattle.noc_ownership.proofs.PlaceLemmas.{IsKeyed, IsValid, place-of-flit, pl
 use Rattle.noc_ownership.proofs.RoutedInjection.{split, is-new, added, routed-injection}
 use Rattle.noc_ownership.proofs.RoutedRecord.{IsHeld, IsRoutedFrozen}
 use Rattle.noc_ownership.proofs.WormRecord.{IsWorm, IsNear, goal, last_of, far_of}
-use Rattle.noc_views.proofs.AfterInput.{made, seen-held, seen-unowned}
 use Rattle.noc_views.proofs.NextLemmas.{owner-at, owner-none, next-at, next-none, no-next}
 use Rattle.noc_views.proofs.Ordered.{IsGood, IsOrderedFrozen}
-use Rattle.noc_views.proofs.StepLemmas.{count-step, any-step}
+use Rattle.noc_views.proofs.StepLemmas.{count-step}
 
 module _ (net : Setup) (good : IsGood net) (M : State) (x : IsOrderedFrozen net M) (n : ℕ) where
   abbrev pub T : State

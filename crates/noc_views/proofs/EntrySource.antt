@@ -1,27 +1,25 @@
 -- After the injections: what waits at the source of a router.
-use Rattle.std.proofs.Common.{◌≡◌, ◌≢◌, ℕ, zero, suc, ◌+◌, ◌-◌, ◌<◌, ◌≤◌, Bool, true, false, cond, List, [], ◌∷◌, map, length, Option, Some, None, refl, ap, sym, ◌∙◌, inl, inr, subst, arith}
-use Rattle.std.specs.Prelude.{filter, find, count_by, option_map, ◌⊎◌, ◌&&◌, not, nat_eq, if◌then◌else◌}
+use Rattle.std.proofs.Common.{◌≡◌, ◌≢◌, ℕ, ◌+◌, ◌<◌, ◌≤◌, Bool, true, false, List, [], ◌∷◌, length, Option, Some, None, refl, ap, sym, ◌∙◌, inl, inr, subst, arith}
+use Rattle.std.specs.Prelude.{filter, find, count_by, option_map, ◌⊎◌, ◌&&◌, not, nat_eq}
 use Rattle.std.specs.List.{list_any}
-use Rattle.std.proofs.lemmas.Bool.{false≢true, true≢false, eq-eqb, eqb-true, ne_eqb, cases_eq}
+use Rattle.std.proofs.lemmas.Bool.{eq-eqb, eqb-true, ne_eqb, cases_eq}
 use Rattle.std.proofs.lemmas.Option.{none-some, same_Some}
 use Rattle.noc_topo.specs.Words.{below, Has}
 use Rattle.noc_topo.specs.Shape.{nodes}
-use Rattle.noc_packet.specs.Packet.{flit_at}
 use Rattle.noc_packet.specs.declared.packet.Packet.{Packet}
 use Rattle.noc_route.specs.Channel.{Channel, Inject, channel_vc}
 use Rattle.noc_model.specs.Lockstep.{starts_at, has_flit_at_source, seen_sending}
 use Rattle.noc_model.specs.Network.{Setup, State, Located, Place, Source, In, Injection, packet_at, place_of, tail_place, flits_of, owned_by, is_at_source, is_injection_of, first_waiting, injections, injection_at, after_injection}
 use Rattle.noc_ownership.proofs.FirstOfNode.{Precedes}
-use Rattle.noc_ownership.proofs.InjectionPhase.{IsEntry, source-behind}
+use Rattle.noc_ownership.proofs.InjectionPhase.{source-behind}
 use Rattle.noc_ownership.proofs.InjectionState.{waiting-is}
 use Rattle.noc_ownership.proofs.Members.{Has-filter, Has-kept, Has-filter_map, list_any-from}
 use Rattle.noc_ownership.proofs.PlaceLemmas.{IsValid, place-of-flit, flit-there}
-use Rattle.noc_ownership.proofs.WormRecord.{last_of, valid-last, valid-first, valid-below}
-use Rattle.noc_views.proofs.EntryChannel.{entered, is_entry, member, own}
-use Rattle.noc_views.proofs.EntryLemmas.{step, keyed, worm, wormT, keyedT, entry, Moved, moved, still, enters, to-place, owned-left, WasHeld, was-held, held, begun}
+use Rattle.noc_ownership.proofs.WormRecord.{last_of, valid-last, valid-below}
+use Rattle.noc_views.proofs.EntryChannel.{entered, is_entry, own}
+use Rattle.noc_views.proofs.EntryLemmas.{step, keyed, worm, wormT, keyedT, Moved, moved, still, enters, to-place, owned-left, WasHeld, was-held, held, begun}
 use Rattle.noc_views.proofs.KeyLemmas.{count-places}
 use Rattle.noc_views.proofs.Ordered.{IsGood, IsOrderedFrozen}
-use Rattle.noc_views.proofs.PlaceLemmas.{has-below}
 use Rattle.noc_views.proofs.QueueLemmas.{IsAhead, Queue, empty, front, queue-case, waits, in-starts, filter-both, filter-others}
 use Rattle.noc_views.proofs.SourceState.{filter-same, injection-at, injection-own, injection-none}
 use Rattle.noc_views.proofs.StepLemmas.{count-step, any-step}

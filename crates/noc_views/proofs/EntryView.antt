@@ -1,31 +1,25 @@
 -- After the injections: each channel of a router as the state shows it.
-use Rattle.std.proofs.Common.{◌≡◌, ◌≢◌, ℕ, zero, suc, ◌+◌, ◌-◌, ◌*◌, ◌<◌, ◌≤◌, Bool, true, false, cond, List, [], ◌∷◌, ◌++◌, map, length, Option, Some, None, refl, ap, sym, ◌∙◌, inl, inr, subst, arith}
-use Rattle.std.specs.Prelude.{filter, find, count_by, option_map, option_and_then, unwrap_or, ◌⊎◌, ◌&&◌, ◌||◌, not, nat_eq, nat_lt, if◌then◌else◌}
-use Rattle.std.proofs.lemmas.Bool.{false≢true, true≢false, cases_eq, ne_eqb, lt-ltb, and_right}
-use Rattle.std.proofs.lemmas.Option.{none-some, same_Some}
-use Rattle.std.proofs.lemmas.List.{map-append}
+use Rattle.std.proofs.Common.{◌≡◌, ◌≢◌, ℕ, suc, ◌-◌, ◌<◌, Bool, true, false, cond, List, [], ◌∷◌, map, length, Option, Some, None, refl, ap, sym, ◌∙◌, inl, inr, subst}
+use Rattle.std.specs.Prelude.{filter, find, option_map, option_and_then, unwrap_or, ◌⊎◌, ◌&&◌, ◌||◌, not, nat_eq, nat_lt, if◌then◌else◌}
+use Rattle.std.proofs.lemmas.Bool.{false≢true}
 use Rattle.noc_topo.specs.Words.{below, Has}
 use Rattle.noc_packet.specs.Packet.{flit_at}
 use Rattle.noc_packet.specs.declared.packet.Flit.{Flit}
 use Rattle.noc_route.specs.Channel.{Channel, Link, Inject, Eject, same_channel, is_link}
-use Rattle.noc_vc.specs.Input.{Input, landed, next_of}
-use Rattle.noc_vc.specs.Output.{Output}
+use Rattle.noc_vc.specs.Input.{next_of}
 use Rattle.noc_vc.specs.declared.input.InputState.{InputState}
-use Rattle.noc_vc.specs.declared.input.InputState.TheVariants.{Idle, Waiting, Active}
+use Rattle.noc_vc.specs.declared.input.InputState.TheVariants.{Idle, Waiting}
 use Rattle.noc_vc.specs.declared.output.OutputState.TheVariants.{Owned, Draining}
 use Rattle.noc_model.specs.Lockstep.{has_come, come_count, seen_flits, seen_input, seen_output, seen_phase, seen_phase_with, seen_set, seen_holder, seen_source, goes_on_by, is_present, last_come}
-use Rattle.noc_model.specs.Network.{Setup, State, Located, Place, Source, On, In, Out, Injection, size, arriving, leaving, packet_at, place_of, tail_place, buffer_of, count_in, count_on, credit_of, owner_of, next_channel, has_channel, is_in, is_on, is_past, is_at_source, injections, injected_place, is_the_flit, first_at_source, after_injection}
-use Rattle.noc_model.specs.Progress.{weight, hops}
-use Rattle.noc_ownership.proofs.BufferLemmas.{same_channel-refl, same_channel-true, filter-kept}
-use Rattle.noc_ownership.proofs.Members.{find-has, find-some}
-use Rattle.noc_ownership.proofs.OwnedLemmas.{owner-has, idle-none}
+use Rattle.noc_model.specs.Network.{Setup, State, Located, Place, Source, On, In, Out, Injection, size, arriving, packet_at, tail_place, buffer_of, count_in, count_on, credit_of, owner_of, next_channel, has_channel, is_in, is_on, is_past, is_at_source, injections, injected_place, is_the_flit, first_at_source, after_injection}
+use Rattle.noc_ownership.proofs.BufferLemmas.{same_channel-true, filter-kept}
+use Rattle.noc_ownership.proofs.Members.{find-has}
+use Rattle.noc_ownership.proofs.OwnedLemmas.{owner-has}
 use Rattle.noc_ownership.proofs.PathLemmas.{IsEject}
-use Rattle.noc_ownership.proofs.PlaceLemmas.{IsValid}
 use Rattle.noc_ownership.proofs.RoutedRecord.{IsHeld}
-use Rattle.noc_ownership.proofs.WormRecord.{goal, last_of, valid-last, valid-below}
+use Rattle.noc_ownership.proofs.WormRecord.{goal, last_of, valid-last}
 use Rattle.noc_views.proofs.AfterInput.{made, seen-held, seen-unowned}
-use Rattle.noc_views.proofs.EntryLemmas.{T, step, keyed, worm, wormT, keyedT, routedT, entry, Enters, Goes, goes, stays, goes_in, Quiet, owner-quiet, next-same, come-quiet, count-quiet, owned-left}
-use Rattle.noc_views.proofs.NextLemmas.{owner-at}
+use Rattle.noc_views.proofs.EntryLemmas.{step, worm, routedT, Goes, goes, stays, goes_in, Quiet, owner-quiet, next-same, come-quiet, count-quiet, owned-left}
 use Rattle.noc_views.proofs.Ordered.{IsGood, IsOrderedFrozen}
 
 module _ (net : Setup) (good : IsGood net) (M : State) (x : IsOrderedFrozen net M) (n : ℕ) where

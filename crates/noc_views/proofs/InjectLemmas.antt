@@ -1,5 +1,5 @@
 -- The source of a router injects: a view that showed the state after the credits shows the frozen state.
-use Rattle.std.proofs.Common.{◌≡◌, ◌≢◌, ℕ, zero, suc, ◌+◌, ◌-◌, ◌*◌, ◌/◌, ◌%◌, ◌<◌, ◌≤◌, Bool, true, false, cond, List, [], ◌∷◌, ◌++◌, map, length, get_or, set, Option, Some, None, refl, ap, sym, ◌∙◌, inl, inr, subst, arith}
+use Rattle.std.proofs.Common.{◌≡◌, ◌≢◌, ℕ, zero, suc, ◌+◌, ◌*◌, ◌/◌, ◌%◌, ◌<◌, Bool, true, false, cond, List, [], ◌∷◌, ◌++◌, map, length, get_or, set, Option, Some, None, refl, ap, sym, ◌∙◌, inl, inr, subst, arith}
 use Rattle.std.specs.Prelude.{filter, find, count_by, option_map, option_and_then, is_some, is_none, ◌⊎◌, ◌&&◌, ◌||◌, not, nat_eq, nat_lt, nat_le, if◌then◌else◌}
 use Rattle.std.proofs.lemmas.Bool.{false≢true, true≢false, eq-eqb, cases_eq, or_cases, lt-ltb}
 use Rattle.std.proofs.lemmas.Option.{none-some, same_Some}
@@ -20,12 +20,11 @@ use Rattle.noc_model.specs.Progress.{head_place}
 use Rattle.noc_ownership.proofs.InjectionPhase.{IsEntry}
 use Rattle.noc_ownership.proofs.InjectionState.{waiting-is}
 use Rattle.noc_ownership.proofs.OwnedLemmas.{owner-has, idle-none}
-use Rattle.noc_ownership.proofs.PathLemmas.{IsEject}
-use Rattle.noc_ownership.proofs.PlaceLemmas.{IsValid, flit-there}
+use Rattle.noc_ownership.proofs.PlaceLemmas.{flit-there}
 use Rattle.noc_ownership.proofs.RoomLemmas.{unowned-empty}
 use Rattle.noc_ownership.proofs.RoutedRecord.{IsHeld}
 use Rattle.noc_ownership.proofs.WormRecord.{goal, last_of, valid-last, valid-first}
-use Rattle.noc_views.proofs.EntryChannel.{entered, is_entry, flits-in, input-in}
+use Rattle.noc_views.proofs.EntryChannel.{entered, flits-in, input-in}
 use Rattle.noc_views.proofs.EntryLemmas.{keyed, worm, entry, Quiet, Goes, goes, stays, goes_in}
 use Rattle.noc_views.proofs.EntrySource.{queue-none, sending-none, queue-more, queue-last, sending-more, sending-last, count-was, entry-here}
 use Rattle.noc_views.proofs.EntryView.{flits-quiet, input-quiet, output-quiet}
@@ -35,7 +34,7 @@ use Rattle.noc_views.proofs.Phases.{IsInjected}
 use Rattle.noc_views.proofs.PlaceLemmas.{IsAt, arriving-at, input-at, same-place, not-eject, in-size, begins-at, mod-below}
 use Rattle.noc_views.proofs.QueueLemmas.{IsAhead, Queue, empty, front, queue-case}
 use Rattle.noc_views.proofs.SourceState.{injection-own}
-use Rattle.noc_views.specs.Seen.{IsSeen, IsAsNoted}
+use Rattle.noc_views.specs.Seen.{IsSeen}
 
 module _ (net : Setup) (good : IsGood net) (M : State) (x : IsOrderedFrozen net M) (n r : ℕ) (l : r < nodes net.relation.grid) (v : View) (seen : IsSeen net M r v) where
   abbrev T : State

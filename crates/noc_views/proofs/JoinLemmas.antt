@@ -1,9 +1,9 @@
 -- The lockstep run shows the run of the network, by induction on its cycles.
-use Rattle.std.proofs.Common.{◌≡◌, ℕ, zero, suc, ◌+◌, ◌-◌, ◌^◌, ◌<◌, ◌≤◌, Bool, true, false, cond, List, [], length, map, get_or, Option, Some, None, refl, ap, sym, ◌∙◌, subst, replicate, arith}
-use Rattle.std.specs.Prelude.{◌||◌, is_some, option_map, unwrap_or}
+use Rattle.std.proofs.Common.{◌≡◌, ℕ, zero, suc, ◌-◌, ◌^◌, ◌<◌, ◌≤◌, cond, List, [], length, map, get_or, Option, Some, None, refl, ap, sym, ◌∙◌, subst, replicate, arith}
+use Rattle.std.specs.Prelude.{◌||◌, is_some}
 use Rattle.std.specs.List.{list_any}
 use Rattle.std.proofs.lemmas.List.{length-map, get_or-map, get_or-replicate, length-replicate}
-use Rattle.noc_topo.specs.Words.{below, tabulate, map_indexed, is_some_of}
+use Rattle.noc_topo.specs.Words.{below, tabulate, map_indexed}
 use Rattle.noc_topo.specs.Shape.{IsGrid, nodes, neighbour, local_port}
 use Rattle.noc_topo.proofs.WordLemmas.{get_or-tabulate, length-tabulate, tabulate-from_each, length-map_indexed, get_or-map_indexed}
 use Rattle.noc_topo.proofs.LinkLemmas.{neighbour-range}
@@ -11,14 +11,13 @@ use Rattle.noc_packet.specs.declared.packet.Beat.{Beat}
 use Rattle.noc_router.specs.Verdict.{is_event}
 use Rattle.noc_router.specs.View.{Site, View, all_taken, injected, planned, committed, counted, local_step, idle_beat, idle_beats, opening_view}
 use Rattle.noc_router.specs.declared.verdict.Verdict.{Verdict}
-use Rattle.noc_router.specs.declared.verdict.Verdict.TheVariants.{Empty}
 use Rattle.noc_model.specs.declared.limits.TheConstants.{CYCLE_LIMIT}
-use Rattle.noc_model.specs.Network.{Setup, State, Located, size, arriving, opening_state, state_at, frozen_at, frozen, after_landing, after_credits, after_injection, after_verdicts, network_cycle, injection_at, verdict_in_cycle}
-use Rattle.noc_model.specs.Lockstep.{Lockstep, lockstep_at, lockstep_cycle, opening_lockstep, exchanged, beats_at, beat_from, beat_by, beats_in, view_in, view_at, site_at, starts_at, ends_at, flies_to, has_event_at, last_event_at, counts_before, findings_before}
+use Rattle.noc_model.specs.Network.{Setup, State, size, opening_state, state_at, frozen_at, frozen, after_injection, after_verdicts, network_cycle, injection_at, verdict_in_cycle}
+use Rattle.noc_model.specs.Lockstep.{lockstep_at, lockstep_cycle, opening_lockstep, exchanged, beats_at, beat_from, beat_by, beats_in, view_in, view_at, site_at, starts_at, ends_at, has_event_at, counts_before}
 use Rattle.noc_model.proofs.RunLemmas.{count_views}
 use Rattle.noc_views.proofs.Ordered.{IsGood, IsOrdered, IsOrderedFrozen}
-use Rattle.noc_views.proofs.Phases.{mid, has_arrival, IsTaken, IsInjected, IsCommitted, ArePhases, verdict_by}
-use Rattle.noc_views.specs.Seen.{AreSeen, IsSeen, IsAsNoted}
+use Rattle.noc_views.proofs.Phases.{mid, IsTaken, IsInjected, IsCommitted, ArePhases, verdict_by}
+use Rattle.noc_views.specs.Seen.{AreSeen, IsSeen}
 use Rattle.noc_views.proofs.CountLemmas.{counted-next}
 use Rattle.noc_views.proofs.OpeningLemmas.{no-beat}
 use Rattle.noc_views.proofs.ViewLemmas.{view_at-seen, is_view_at}

@@ -1,7 +1,7 @@
 -- The lockstep run shows the run of the network: all phases together.
-use Rattle.std.proofs.Common.{◌≡◌, ℕ, ◌≤◌}
+use Rattle.std.proofs.Common.{ℕ, ◌≤◌}
 use Rattle.noc_model.specs.declared.limits.TheConstants.{CYCLE_LIMIT}
-use Rattle.noc_model.specs.Network.{Setup, State, state_at, frozen_at}
+use Rattle.noc_model.specs.Network.{Setup, state_at, frozen_at}
 use Rattle.noc_views.proofs.CommitLemmas.{commits}
 use Rattle.noc_views.proofs.InjectLemmas.{injects}
 use Rattle.noc_views.proofs.JoinLemmas.{all-seen}

@@ -1,12 +1,12 @@
 -- The flits of a packet, in order, and how many of them pass a test that only the first ones pass.
-use Rattle.std.proofs.Common.{◌≡◌, ◌≢◌, ℕ, zero, suc, ◌+◌, ◌-◌, ◌<◌, ◌≤◌, Bool, true, false, cond, List, [], ◌∷◌, ◌++◌, map, length, Option, Some, None, refl, ap, sym, ◌∙◌, inl, inr, subst, arith, zero-add}
-use Rattle.std.specs.Prelude.{filter, count_by, ◌⊎◌, nat_eq, nat_lt}
+use Rattle.std.proofs.Common.{◌≡◌, ℕ, zero, suc, ◌+◌, ◌<◌, ◌≤◌, Bool, true, false, cond, List, [], ◌∷◌, map, length, refl, ap, sym, ◌∙◌, inl, inr, subst, arith, zero-add}
+use Rattle.std.specs.Prelude.{count_by, nat_eq}
 use Rattle.std.specs.List.{range_with_len}
-use Rattle.std.proofs.lemmas.Bool.{false≢true, eqb-true, eq-eqb, cases_lt}
-use Rattle.noc_topo.specs.Words.{below, Has, Each, Pairs}
+use Rattle.std.proofs.lemmas.Bool.{eqb-true, eq-eqb}
+use Rattle.noc_topo.specs.Words.{below, Has, Pairs}
 use Rattle.noc_model.specs.Network.{Setup, State, Located, Place, flits_of, place_of, packet_at}
 use Rattle.noc_ownership.proofs.Members.{each-at, Has-filter, Has-kept, Pairs-filter}
-use Rattle.noc_ownership.proofs.PlaceLemmas.{IsSortedPair, IsValid, IsKeyed, place-of-flit}
+use Rattle.noc_ownership.proofs.PlaceLemmas.{IsSortedPair, IsKeyed, place-of-flit}
 use Rattle.noc_views.proofs.StepLemmas.{count-cons}
 
 -- flits of one packet in order, just those with the n indices from a on

@@ -1,39 +1,29 @@
 -- After the landings and the credits: each input channel as the state shows it, and each flit that lands fits.
-use Rattle.std.proofs.Common.{◌≡◌, ◌≢◌, ℕ, zero, suc, ◌+◌, ◌-◌, ◌*◌, ◌/◌, ◌%◌, ◌<◌, ◌≤◌, Bool, true, false, cond, List, [], ◌∷◌, ◌++◌, map, length, Option, Some, None, refl, ap, sym, ◌∙◌, inl, inr, subst, arith}
-use Rattle.std.specs.Prelude.{filter, find, option_map, option_and_then, ◌⊎◌, ◌&&◌, ◌||◌, not, nat_eq, nat_lt, nat_le, if◌then◌else◌}
-use Rattle.std.proofs.lemmas.Bool.{false≢true, true≢false, cases_eq, cases_lt, lt-ltb, le-leb, ne_eqb, eq-eqb, eqb-true, or_right, or_cases, or_left, and_from}
-use Rattle.std.proofs.lemmas.Option.{none-some, same_Some}
-use Rattle.std.proofs.lemmas.List.{map-append, length-map}
+use Rattle.std.proofs.Common.{◌≡◌, ℕ, ◌+◌, ◌-◌, ◌<◌, Bool, true, false, cond, List, [], ◌∷◌, map, length, Option, Some, None, refl, ap, sym, ◌∙◌, inl, inr, subst, arith}
+use Rattle.std.specs.Prelude.{filter, find, option_map, option_and_then, ◌&&◌, not, nat_eq, nat_lt, if◌then◌else◌}
+use Rattle.std.proofs.lemmas.Bool.{false≢true, ne_eqb, eq-eqb, or_right, and_from}
+use Rattle.std.proofs.lemmas.Option.{none-some}
 use Rattle.noc_topo.specs.Words.{Has}
-use Rattle.noc_topo.specs.Shape.{nodes, neighbour}
 use Rattle.noc_packet.specs.Packet.{flit_at}
 use Rattle.noc_packet.specs.declared.packet.Flit.{Flit}
-use Rattle.noc_packet.specs.declared.limits.TheConstants.{MAX_LENGTH}
 use Rattle.noc_route.specs.Channel.{Channel, Link, Inject, Eject, same_channel, is_link}
-use Rattle.noc_route.specs.Routes.{set_at}
-use Rattle.noc_vc.specs.Input.{Input, idle_input, landed as landed_on, next_of, fits, is_expected, is_awaited, is_empty, may_begin}
-use Rattle.noc_vc.specs.declared.input.Awaited.{Awaited}
+use Rattle.noc_vc.specs.Input.{next_of}
 use Rattle.noc_vc.specs.declared.input.InputState.{InputState}
-use Rattle.noc_vc.specs.declared.input.InputState.TheVariants.{Idle, Waiting, Active}
+use Rattle.noc_vc.specs.declared.input.InputState.TheVariants.{Idle, Waiting}
 use Rattle.noc_model.specs.Lockstep.{flit_on, has_come, come_count, seen_flits, seen_input, seen_phase, seen_phase_with, seen_set, is_present, last_come}
-use Rattle.noc_model.specs.Network.{Setup, State, Located, Place, Source, On, In, Out, packet_at, place_of, tail_place, buffer_of, count_in, count_on, is_on, is_in, is_past, landed_place, owner_of, next_channel, has_channel, after_landing, after_credits}
-use Rattle.noc_model.specs.Progress.{weight, head_place}
-use Rattle.noc_ownership.proofs.BufferLemmas.{same_channel-refl, same_channel-true, filter-kept, find-passes}
-use Rattle.noc_ownership.proofs.Members.{Has-kept, find-has, find-fails}
+use Rattle.noc_model.specs.Network.{Setup, State, Located, Place, Source, On, In, Out, packet_at, tail_place, is_on, is_in, is_past, landed_place, owner_of, next_channel, has_channel, after_landing, after_credits}
+use Rattle.noc_ownership.proofs.BufferLemmas.{same_channel-refl, same_channel-true}
+use Rattle.noc_ownership.proofs.Members.{find-fails}
 use Rattle.noc_ownership.proofs.OwnedLemmas.{owner-has, idle-none}
 use Rattle.noc_ownership.proofs.PathLemmas.{IsEject}
-use Rattle.noc_ownership.proofs.PlaceLemmas.{IsValid, place-of-flit, flit-there}
 use Rattle.noc_ownership.proofs.RoutedRecord.{IsHeld}
-use Rattle.noc_ownership.proofs.Unmixed.{in-buffer}
-use Rattle.noc_ownership.proofs.WormRecord.{IsPlaced, goal, last_of, far_of, valid-last, valid-first, valid-below}
+use Rattle.noc_ownership.proofs.WormRecord.{goal}
 use Rattle.noc_views.proofs.AfterInput.{made, seen-held, seen-unowned}
-use Rattle.noc_views.proofs.ComeLemmas.{come-level, come-behind, count-to, count-all}
-use Rattle.noc_views.proofs.KeyLemmas.{count-places}
-use Rattle.noc_views.proofs.LandLemmas.{M, keyed, worm, sound, keyedM, wormM, landed, landed-tail, past-landed, come-landed, owner-still, owner-gone, owner-freed, next-still, wire-weight}
+use Rattle.noc_views.proofs.ComeLemmas.{count-all}
+use Rattle.noc_views.proofs.LandLemmas.{keyed, worm, landed-tail, past-landed, come-landed, owner-still, owner-gone, owner-freed, next-still}
 use Rattle.noc_views.proofs.Ordered.{IsGood, IsOrdered}
 use Rattle.noc_views.proofs.Phases.{mid}
-use Rattle.noc_views.proofs.PlaceLemmas.{IsAt, not-eject}
-use Rattle.noc_views.proofs.StepLemmas.{count-step, filter-last}
+use Rattle.noc_views.proofs.StepLemmas.{count-step}
 
 module _ (net : Setup) (good : IsGood net) (S : State) (x : IsOrdered net S) where
   abbrev flit_of : Located → Flit

@@ -1,20 +1,18 @@
 -- After the landings and the credits: owners, next channels, and where flits are.
-use Rattle.std.proofs.Common.{◌≡◌, ◌≢◌, ℕ, zero, suc, ◌+◌, ◌-◌, ◌*◌, ◌<◌, ◌≤◌, Bool, true, false, cond, List, [], ◌∷◌, ◌++◌, map, length, Option, Some, None, refl, ap, sym, ◌∙◌, inl, inr, subst, arith}
-use Rattle.std.specs.Prelude.{filter, find, option_map, option_and_then, ◌⊎◌, ◌&&◌, ◌||◌, not, nat_eq, nat_lt, nat_le}
-use Rattle.std.proofs.lemmas.Bool.{false≢true, true≢false, cases_eq, cases_order, lt-ltb, ltb-true, leb-true, le-leb, not-true, and_from, and_parts}
-use Rattle.std.proofs.lemmas.Option.{none-some, same_Some}
+use Rattle.std.proofs.Common.{◌≡◌, ℕ, ◌+◌, ◌*◌, ◌<◌, ◌≤◌, Bool, true, false, length, Option, Some, None, refl, ap, sym, ◌∙◌, inl, inr, arith}
+use Rattle.std.specs.Prelude.{◌⊎◌, ◌&&◌, ◌||◌, not}
+use Rattle.std.proofs.lemmas.Bool.{true≢false, cases_eq, not-true}
 use Rattle.noc_topo.specs.Words.{Has}
 use Rattle.noc_route.specs.Channel.{Channel, Link, Inject, Eject, same_channel, is_link}
-use Rattle.noc_model.specs.Lockstep.{has_come, come_count}
-use Rattle.noc_model.specs.Network.{Setup, State, Located, Place, Source, On, In, Out, packet_at, place_of, tail_place, is_on, is_in, is_past, is_freed, landed_place, owner_of, next_channel, leads_from, has_channel, after_landing, after_credits}
-use Rattle.noc_model.specs.Progress.{weight, hops, head_place}
-use Rattle.noc_ownership.proofs.BufferLemmas.{same_channel-refl, same_channel-true}
+use Rattle.noc_model.specs.Lockstep.{has_come}
+use Rattle.noc_model.specs.Network.{Setup, State, Located, Place, Source, On, In, Out, place_of, tail_place, is_on, is_past, is_freed, landed_place, owner_of, next_channel, after_landing, after_credits}
+use Rattle.noc_model.specs.Progress.{weight}
+use Rattle.noc_ownership.proofs.BufferLemmas.{same_channel-true}
 use Rattle.noc_ownership.proofs.Members.{Has-filter, Has-kept}
-use Rattle.noc_ownership.proofs.MoveLemmas.{IsNext, next-is, same-far, far-link, far-eject}
+use Rattle.noc_ownership.proofs.MoveLemmas.{IsNext, next-is, same-far, far-link}
 use Rattle.noc_ownership.proofs.OwnedLemmas.{owner-has, idle-none}
-use Rattle.noc_ownership.proofs.PathLemmas.{IsEject}
-use Rattle.noc_ownership.proofs.PlaceLemmas.{IsKeyed, IsValid, place-stepped, place-of-flit}
-use Rattle.noc_ownership.proofs.RoutedRecord.{IsHeld, past-earlier}
+use Rattle.noc_ownership.proofs.PlaceLemmas.{IsKeyed, IsValid, place-stepped}
+use Rattle.noc_ownership.proofs.RoutedRecord.{past-earlier}
 use Rattle.noc_ownership.proofs.Sound.{IsSoundFrozen, sound-landed, sound-credits}
 use Rattle.noc_ownership.proofs.WormRecord.{IsWorm, IsPlaced, goal, last_of, far_of, valid-last}
 use Rattle.noc_views.proofs.NextLemmas.{owner-at, owner-none, next-at, next-none, no-next}

@@ -1,16 +1,15 @@
 -- After the landings and the credits: each output channel as the state shows it, and each credit that comes fits.
-use Rattle.std.proofs.Common.{◌≡◌, ◌≢◌, ℕ, zero, suc, ◌+◌, ◌-◌, ◌*◌, ◌/◌, ◌%◌, ◌<◌, ◌≤◌, Bool, true, false, cond, List, [], ◌∷◌, map, length, Option, Some, None, refl, ap, sym, ◌∙◌, inl, inr, subst, arith}
-use Rattle.std.specs.Prelude.{filter, ◌⊎◌, ◌&&◌, ◌||◌, not, nat_eq, nat_lt, if◌then◌else◌}
-use Rattle.std.proofs.lemmas.Bool.{false≢true, true≢false, cases_eq, lt-ltb, ltb-true, le-ltb, le-leb, ne_eqb, eq-eqb, or_left, or_right, and_from}
-use Rattle.std.proofs.lemmas.Option.{none-some, same_Some}
+use Rattle.std.proofs.Common.{◌≡◌, ◌≢◌, ℕ, zero, suc, ◌+◌, ◌-◌, ◌*◌, ◌<◌, ◌≤◌, Bool, true, false, cond, length, Option, Some, None, refl, ap, sym, ◌∙◌, inl, inr, subst, arith}
+use Rattle.std.specs.Prelude.{◌⊎◌, ◌&&◌, ◌||◌}
+use Rattle.std.proofs.lemmas.Bool.{false≢true, true≢false, lt-ltb, ltb-true, le-ltb, le-leb, ne_eqb, eq-eqb, or_left, or_right}
 use Rattle.noc_topo.specs.Words.{Has}
 use Rattle.noc_topo.specs.Shape.{nodes}
-use Rattle.noc_route.specs.Channel.{Channel, Link, Inject, Eject, same_channel, is_link, begin}
+use Rattle.noc_route.specs.Channel.{Channel, Link, Inject, Eject, same_channel, is_link}
 use Rattle.noc_vc.specs.Output.{Output, credited, credit_fits, holder_at}
 use Rattle.noc_vc.specs.declared.output.OutputState.{OutputState}
 use Rattle.noc_vc.specs.declared.output.OutputState.TheVariants.{Idle as Free, Owned, Draining}
 use Rattle.noc_model.specs.Lockstep.{has_come, seen_output, seen_holder, seen_source}
-use Rattle.noc_model.specs.Network.{Setup, State, Located, Place, Source, On, In, Out, size, leaving, place_of, tail_place, is_on, is_in, is_past, owner_of, leads_from, has_channel, credit_of, count_in, count_on, landed_place, after_landing, after_credits}
+use Rattle.noc_model.specs.Network.{Setup, State, Located, Place, Source, On, In, Out, leaving, place_of, tail_place, is_on, is_in, is_past, owner_of, leads_from, has_channel, credit_of, count_in, count_on, landed_place, after_credits}
 use Rattle.noc_model.specs.Progress.{weight, hops}
 use Rattle.noc_ownership.proofs.BufferLemmas.{same_channel-refl, same_channel-true}
 use Rattle.noc_ownership.proofs.MoveLemmas.{IsNext, far-link, far-eject}
@@ -20,13 +19,12 @@ use Rattle.noc_ownership.proofs.PlaceLemmas.{IsValid, place-of-flit, flit-there}
 use Rattle.noc_ownership.proofs.RoomLemmas.{landed-count, filter-some}
 use Rattle.noc_ownership.proofs.RoutedRecord.{IsHeld}
 use Rattle.noc_ownership.proofs.SourceOf.{has-source}
-use Rattle.noc_ownership.proofs.WormRecord.{IsPlaced, goal, last_of, far_of, valid-last, valid-below}
+use Rattle.noc_ownership.proofs.WormRecord.{IsPlaced, goal, last_of, far_of, valid-last}
 use Rattle.noc_views.proofs.AfterOutput.{one_if}
-use Rattle.noc_views.proofs.ComeLemmas.{come-level, come-before}
-use Rattle.noc_views.proofs.LandLemmas.{keyed, worm, sound, keyedM, wormM, landed-tail, past-landed, sent-landed, owned-still, owner-still, owner-gone, owner-freed, wire-weight}
+use Rattle.noc_views.proofs.ComeLemmas.{come-level}
+use Rattle.noc_views.proofs.LandLemmas.{keyed, worm, sound, keyedM, wormM, landed-tail, sent-landed, owned-still, owner-still, owner-gone, owner-freed, wire-weight}
 use Rattle.noc_views.proofs.Ordered.{IsGood, IsOrdered}
 use Rattle.noc_views.proofs.Phases.{mid}
-use Rattle.noc_views.proofs.PlaceLemmas.{begins-at}
 use Rattle.noc_views.proofs.SourceLemmas.{at-router, source-is, not-end}
 
 module _ (net : Setup) (good : IsGood net) (S : State) (x : IsOrdered net S) where

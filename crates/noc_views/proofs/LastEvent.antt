@@ -2,14 +2,13 @@
 use Rattle.std.proofs.Common.{◌≡◌, ℕ, zero, suc, ◌+◌, ◌<◌, ◌≤◌, Bool, true, false, cond, List, [], ◌∷◌, length, Option, Some, None, is_some, refl, ap, sym, ◌∙◌, subst, inl, inr, arith}
 use Rattle.std.specs.Prelude.{◌⊎◌, ◌||◌, count_by, nat_lt, unwrap_or, option_map}
 use Rattle.std.specs.List.{list_any}
-use Rattle.std.proofs.lemmas.Bool.{false≢true, cases_lt, eq-eqb, eqb-true, lt-ltb, ltb-true, le-ltb, or_cases, or_left, or_right}
+use Rattle.std.proofs.lemmas.Bool.{false≢true, cases_lt, eq-eqb, lt-ltb, ltb-true, or_cases, or_left, or_right}
 use Rattle.std.proofs.lemmas.Option.{same_Some}
 use Rattle.std.proofs.lemmas.List.Sums.{sum_by-cons}
 use Rattle.noc_topo.specs.Words.{Has, below, is_some_of}
 use Rattle.noc_topo.specs.Shape.{nodes}
 use Rattle.noc_route.specs.Channel.{Channel, Link, Inject, Eject, begin, is_link, same_channel}
 use Rattle.noc_router.specs.Verdict.{is_event}
-use Rattle.noc_router.specs.declared.verdict.Verdict.{Verdict}
 use Rattle.noc_router.specs.declared.verdict.Verdict.TheVariants.{Empty}
 use Rattle.noc_model.specs.Good.{IsGoodSetup}
 use Rattle.noc_model.specs.Lockstep.{flies_to, has_event_at, last_event_at}
@@ -21,9 +20,9 @@ use Rattle.noc_ownership.proofs.GrantLemmas.{Has-below}
 use Rattle.noc_ownership.proofs.Members.{Has-filter_map, Has-filter_mapped, list_any-has, list_any-from}
 use Rattle.noc_ownership.proofs.PlaceLemmas.{place-of-flit}
 use Rattle.noc_ownership.proofs.StateWords.{IsEject, IsPlaced}
-use Rattle.noc_views.proofs.Ordered.{IsGood, IsOrdered}
+use Rattle.noc_views.proofs.Ordered.{IsGood}
 use Rattle.noc_views.proofs.OrderedStates.{ordered-state}
-use Rattle.noc_views.proofs.PlaceLemmas.{IsAt, arriving-at, arrives-in, has-below, input-at}
+use Rattle.noc_views.proofs.PlaceLemmas.{arriving-at, arrives-in, has-below, input-at}
 use Rattle.noc_views.proofs.Theorem.{good-network}
 
 pub some-counted : {X : Type 0} (t : X → Bool) (xs : List X) → 0 < count_by t xs → (x : X) × Has x xs × (t x ≡ true)

@@ -1,23 +1,22 @@
 -- Who moves through an output channel, and to whom it is granted, by the view and by the state.
-use Rattle.std.proofs.Common.{◌≡◌, ◌≢◌, ℕ, zero, suc, ◌+◌, ◌-◌, ◌*◌, ◌/◌, ◌%◌, ◌<◌, ◌≤◌, Bool, true, false, cond, List, [], ◌∷◌, length, get_or, Option, Some, None, refl, ap, sym, ◌∙◌, inl, inr, subst, arith}
-use Rattle.std.specs.Prelude.{find, option_map, option_and_then, ◌⊎◌, ◌&&◌, not, nat_lt, if◌then◌else◌}
-use Rattle.std.proofs.lemmas.Bool.{false≢true, true≢false}
+use Rattle.std.proofs.Common.{◌≡◌, ℕ, ◌+◌, ◌*◌, ◌/◌, ◌<◌, true, get_or, Some, None, refl, ap, sym, ◌∙◌, subst, arith}
+use Rattle.std.specs.Prelude.{option_and_then, if◌then◌else◌}
 use Rattle.std.proofs.lemmas.Option.{none-some, same_Some}
 use Rattle.noc_topo.specs.Words.{is_some_of, Has}
 use Rattle.noc_topo.specs.Shape.{nodes, ports}
 use Rattle.noc_alloc.proofs.WordLemmas.{is_some_of-some}
 use Rattle.noc_route.specs.Channel.{Channel, begin, output_index, same_channel}
 use Rattle.noc_router.specs.Verdict.{Claim, Unrouted, Waits, Holds, out_of}
-use Rattle.noc_router.specs.View.{Site, View, Decisions, size_of, view_claim, view_round, planned, finding_of, mover, mover_to}
+use Rattle.noc_router.specs.View.{Site, View, Decisions, size_of, view_claim, view_round, planned, mover, mover_to}
 use Rattle.noc_router.specs.declared.verdict.Verdict.TheVariants.{Granted, Moved}
 use Rattle.noc_router.proofs.PlanFacts.{Lists, Mover, mover-is, moves-is, granted-asks, is-granted, verdict_in as verdict_at_view}
 use Rattle.noc_router.proofs.SettleLemmas.{mover_to-is}
 use Rattle.noc_model.specs.Network.{Setup, State, Located, Place, In, size, arriving, leaving, place_of, owner_of, next_channel, leads_from, verdict_in, claim_of, count_in, first_in, is_in, round_at}
-use Rattle.noc_ownership.proofs.BufferLemmas.{find-passes, same_channel-true}
+use Rattle.noc_ownership.proofs.BufferLemmas.{find-passes}
 use Rattle.noc_ownership.proofs.GrantLemmas.{IsGrant}
 use Rattle.noc_ownership.proofs.Members.{find-has}
 use Rattle.noc_ownership.proofs.MoveLemmas.{IsNext, first-is as first-of, is_in-is}
-use Rattle.noc_ownership.proofs.OwnedLemmas.{owner-has, owner-is, idle-none}
+use Rattle.noc_ownership.proofs.OwnedLemmas.{owner-is}
 use Rattle.noc_ownership.proofs.RoutedRecord.{IsHeld}
 use Rattle.noc_views.proofs.AfterLemmas.{Moves, Goes, goes, stays, moves, step}
 use Rattle.noc_views.proofs.CommitInput.{d, first-some, first-packet, claim-holds, given-at, Given, won-below}

@@ -1,16 +1,15 @@
 -- Owners and next channels of a state, from who holds what.
-use Rattle.std.proofs.Common.{◌≡◌, ◌≢◌, ℕ, ◌+◌, Bool, true, false, cond, List, [], ◌∷◌, ◌++◌, Option, Some, None, refl, ap, sym, ◌∙◌, inl, inr, subst, arith}
-use Rattle.std.specs.Prelude.{filter, find, option_map, option_and_then, ◌⊎◌, ◌&&◌, ◌||◌, not}
-use Rattle.std.specs.List.{list_any}
-use Rattle.std.proofs.lemmas.Bool.{false≢true, true≢false}
-use Rattle.std.proofs.lemmas.Option.{none-some, same_Some}
+use Rattle.std.proofs.Common.{◌≡◌, ℕ, Bool, true, false, List, [], ◌∷◌, ◌++◌, Option, Some, None, refl, ap, sym, ◌∙◌, inl, inr, subst, arith}
+use Rattle.std.specs.Prelude.{filter, find, option_and_then, ◌&&◌, ◌||◌}
+use Rattle.std.proofs.lemmas.Bool.{false≢true}
+use Rattle.std.proofs.lemmas.Option.{none-some}
 use Rattle.noc_topo.specs.Words.{Has}
 use Rattle.noc_route.specs.Channel.{Channel, Link, Inject, Eject, same_channel}
 use Rattle.noc_model.specs.Network.{Setup, State, place_of, owner_of, owned_by, next_channel, leads_from, has_channel}
 use Rattle.noc_model.specs.Worm.{IsPath}
 use Rattle.noc_ownership.proofs.BuiltRecord.{IsBuilt}
 use Rattle.noc_ownership.proofs.BufferLemmas.{find-passes, same_channel-true}
-use Rattle.noc_ownership.proofs.Members.{find-has, find-some, find-fails}
+use Rattle.noc_ownership.proofs.Members.{find-has, find-some}
 use Rattle.noc_ownership.proofs.MoveLemmas.{IsNext, same-far, far-link, far-eject, next-is}
 use Rattle.noc_ownership.proofs.OwnedLemmas.{of, of-has, has-of, owner-has, owner-is}
 use Rattle.noc_ownership.proofs.PathLemmas.{IsEject, path-tail, ends-at-eject}

@@ -1,5 +1,5 @@
 -- A core opened on a network begins where its routers are in lockstep, and the counts of a channel add up.
-use Rattle.std.proofs.Common.{◌≡◌, ℕ, suc, ◌+◌, ◌-◌, ◌^◌, ◌<◌, ◌≤◌, List, [], ◌∷◌, length, get_or, sum, refl, ap, sym, ◌∙◌, arith}
+use Rattle.std.proofs.Common.{◌≡◌, ℕ, suc, ◌+◌, ◌-◌, ◌^◌, ◌<◌, ◌≤◌, List, [], ◌∷◌, length, sum, ap, sym, ◌∙◌, arith}
 use Rattle.std.specs.Prelude.{if◌then◌else◌}
 use Rattle.std.specs.List.{All}
 use Rattle.std.proofs.lemmas.List.{same_lists}
@@ -10,13 +10,13 @@ use Rattle.noc_topo.proofs.WordLemmas.{length-tabulate, get_or-tabulate, length-
 use Rattle.noc_packet.specs.declared.packet.Beat.{Beat}
 use Rattle.noc_router.specs.View.{View}
 use Rattle.noc_model.specs.declared.limits.TheConstants.{CYCLE_LIMIT}
-use Rattle.noc_model.specs.Core.{Post, CoreState, is_linked, links, opening_core, rested, wires_in_flight}
+use Rattle.noc_model.specs.Core.{Post, is_linked, links, opening_core, rested, wires_in_flight}
 use Rattle.noc_model.specs.Good.{IsGoodSetup}
 use Rattle.noc_model.specs.Halves.{beat_at}
 use Rattle.noc_model.specs.InStep.{lockstep_core, lockstep_wires}
-use Rattle.noc_model.specs.Lockstep.{Lockstep, beats_in, counts_before, lockstep_at, lockstep_cycle, view_at}
-use Rattle.noc_model.specs.Network.{Run, Setup, state_at, verdict_in_cycle}
-use Rattle.noc_views.specs.Seen.{AreSeen, shown_at}
+use Rattle.noc_model.specs.Lockstep.{counts_before, lockstep_at, lockstep_cycle, view_at}
+use Rattle.noc_model.specs.Network.{Run, Setup, verdict_in_cycle}
+use Rattle.noc_views.specs.Seen.{shown_at}
 use Rattle.noc_views.proofs.CountLemmas.{sum-counts}
 use Rattle.noc_views.proofs.Theorem.{lockstep-is_state}
 

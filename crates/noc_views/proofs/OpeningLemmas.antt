@@ -1,16 +1,15 @@
 -- The opening state: every flit at its source.
-use Rattle.std.proofs.Common.{◌≡◌, ℕ, zero, suc, ◌+◌, ◌<◌, Bool, true, false, cond, List, [], ◌∷◌, ◌++◌, map, Option, Some, None, refl, ap, sym, ◌∙◌}
-use Rattle.std.specs.Prelude.{find, filter, option_map, option_and_then, is_some}
-use Rattle.std.specs.List.{flat_map, enumerate_from, range_with_len}
+use Rattle.std.proofs.Common.{◌≡◌, ℕ, Bool, false, List, [], ◌∷◌, ◌++◌, map, Option, Some, None, refl, ap, ◌∙◌}
+use Rattle.std.specs.Prelude.{find, option_map, option_and_then, is_some}
+use Rattle.std.specs.List.{flat_map, enumerate_from}
 use Rattle.noc_topo.specs.Words.{below}
 use Rattle.noc_packet.specs.declared.packet.Packet.{Packet}
 use Rattle.noc_packet.specs.declared.packet.Flit.{Flit}
-use Rattle.noc_packet.specs.declared.packet.Beat.{Beat}
 use Rattle.noc_route.specs.Channel.{Channel, Link}
 use Rattle.noc_router.specs.View.{idle_beat}
 use Rattle.noc_router.proofs.FindLemmas.{find-none}
 use Rattle.noc_model.specs.Lockstep.{beat_by, flit_on}
-use Rattle.noc_model.specs.Network.{Setup, State, Located, Place, Source, is_on, is_in, opening_state}
+use Rattle.noc_model.specs.Network.{Setup, Located, Source, is_on, opening_state}
 
 -- the flits of one packet at its source
 abbrev pub sent : ℕ × Packet → List Located

@@ -1,20 +1,20 @@
 -- A new router shows the opening state.
-use Rattle.std.proofs.Common.{◌≡◌, ℕ, zero, suc, ◌+◌, ◌-◌, ◌*◌, ◌/◌, ◌%◌, ◌<◌, ◌≤◌, Bool, true, false, cond, List, [], ◌∷◌, ◌++◌, map, length, get_or, replicate, Option, Some, None, refl, ap, sym, ◌∙◌, inl, inr, subst, arith, length-append}
-use Rattle.std.specs.Prelude.{filter, find, count_by, option_map, ◌⊎◌, nat_eq}
-use Rattle.std.specs.List.{list_any, enumerate_from}
+use Rattle.std.proofs.Common.{◌≡◌, ℕ, zero, suc, ◌+◌, ◌-◌, ◌*◌, ◌/◌, ◌%◌, ◌<◌, Bool, true, List, [], ◌∷◌, ◌++◌, map, length, get_or, replicate, Option, Some, None, refl, ap, sym, ◌∙◌, inl, inr, arith, length-append}
+use Rattle.std.specs.Prelude.{filter, nat_eq}
+use Rattle.std.specs.List.{enumerate_from}
 use Rattle.std.proofs.lemmas.Bool.{eq-eqb}
 use Rattle.std.proofs.lemmas.Nat.{div-add-mod'}
 use Rattle.std.proofs.lemmas.List.{length-replicate, get_or-replicate}
 use Rattle.noc_topo.specs.Words.{below, tabulate, Has}
 use Rattle.noc_topo.specs.Shape.{nodes, ports, local_port}
-use Rattle.noc_topo.proofs.WordLemmas.{get_or-tabulate, length-tabulate, tabulate-from_each}
+use Rattle.noc_topo.proofs.WordLemmas.{tabulate-from_each}
 use Rattle.noc_packet.specs.declared.packet.Packet.{Packet}
 use Rattle.noc_packet.specs.Packet.{flit_at}
-use Rattle.noc_route.specs.Channel.{Channel, Link, Inject, Eject}
+use Rattle.noc_route.specs.Channel.{Channel, Link, Eject}
 use Rattle.noc_vc.specs.Input.{idle_input}
-use Rattle.noc_vc.specs.Output.{Output, ejection_output, link_output}
-use Rattle.noc_router.specs.Verdict.{Turns, opening_arbiters, column}
-use Rattle.noc_router.specs.View.{View, opening_view, idle_beats, view_output}
+use Rattle.noc_vc.specs.Output.{ejection_output, link_output}
+use Rattle.noc_router.specs.Verdict.{opening_arbiters}
+use Rattle.noc_router.specs.View.{View, opening_view, view_output}
 use Rattle.noc_model.specs.Lockstep.{view_at, site_at, starts_at, ends_at, seen_flits, seen_input, seen_output, seen_sending, has_flit_at_source, counts_before}
 use Rattle.noc_model.specs.Network.{Setup, State, Located, Place, Source, size, arriving, leaving, packet_at, tail_place, flits_of, is_at_source, is_in, is_on, count_in, count_on, credit_of, first_waiting, out_cycle, opening_state, state_at}
 use Rattle.noc_ownership.proofs.Members.{Has-kept, list_any-from}

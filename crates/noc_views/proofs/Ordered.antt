@@ -1,11 +1,11 @@
 -- What is asked of a network and of its states: the ownership laws, and four facts more.
-use Rattle.std.specs.Prelude.{◌≡◌, ◌≢◌, ℕ, ◌<◌, true, false, List, length, Some}
+use Rattle.std.specs.Prelude.{◌≡◌, ◌≢◌, ℕ, ◌<◌, true, false, length, Some}
 use Rattle.noc_topo.specs.Words.{Has}
 use Rattle.noc_topo.specs.Shape.{nodes, neighbour}
-use Rattle.noc_route.specs.Channel.{Channel, Link, Inject, Eject, is_link}
+use Rattle.noc_route.specs.Channel.{Channel, Link, Eject, is_link}
 use Rattle.noc_route.specs.Routes.{set_at, IsRelation}
 use Rattle.noc_model.specs.Good.{IsGoodPacket}
-use Rattle.noc_model.specs.Network.{Setup, State, Place, On, packet_at, place_of, has_channel, all_inputs}
+use Rattle.noc_model.specs.Network.{Setup, State, On, packet_at, place_of, has_channel, all_inputs}
 use Rattle.noc_ownership.proofs.BuiltRecord.{IsBuilt}
 use Rattle.noc_ownership.proofs.FirstOfNode.{IsQueued}
 use Rattle.noc_ownership.proofs.GrantLemmas.{IsWired}

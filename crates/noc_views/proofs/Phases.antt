@@ -1,9 +1,8 @@
 -- What each phase of a cycle does to a view that shows a state: it shows the state after the same phase of the whole network.
-use Rattle.std.specs.Prelude.{◌≡◌, ℕ, ◌+◌, ◌<◌, Bool, false, ◌||◌, List, length, Some, option_map, unwrap_or, is_some, if◌then◌else◌, slice_index_or}
+use Rattle.std.specs.Prelude.{◌≡◌, ℕ, ◌<◌, Bool, false, ◌||◌, length, Some, option_map, unwrap_or, is_some, if◌then◌else◌, slice_index_or}
 use Rattle.std.specs.List.{list_any}
 use Rattle.noc_topo.specs.Words.{below, tabulate, map_indexed, is_some_of}
-use Rattle.noc_topo.specs.Shape.{nodes, neighbour, local_port}
-use Rattle.noc_packet.specs.declared.packet.Beat.{Beat}
+use Rattle.noc_topo.specs.Shape.{nodes, neighbour}
 use Rattle.noc_route.specs.Channel.{begin}
 use Rattle.noc_router.specs.Verdict.{is_event}
 use Rattle.noc_router.specs.View.{View, all_taken, injected, planned, committed, counted, idle_beat, opening_view}

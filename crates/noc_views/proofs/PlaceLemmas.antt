@@ -1,22 +1,21 @@
 -- Where channels are: the input channel with an index, and the index of an output channel.
-use Rattle.std.proofs.Common.{◌≡◌, ◌≢◌, ℕ, zero, suc, ◌+◌, ◌*◌, ◌/◌, ◌%◌, ◌<◌, ◌≤◌, Bool, true, false, cond, List, [], ◌∷◌, ◌++◌, Option, Some, None, refl, ap, sym, ◌∙◌, inl, inr, subst, arith}
+use Rattle.std.proofs.Common.{◌≡◌, ℕ, zero, suc, ◌+◌, ◌*◌, ◌/◌, ◌%◌, ◌<◌, ◌≤◌, Bool, true, false, cond, List, [], ◌∷◌, Option, Some, None, refl, ap, sym, ◌∙◌, inl, inr, subst, arith}
 use Rattle.std.specs.Prelude.{◌⊎◌, nat_eq, nat_lt, option_map, ◌&&◌}
 use Rattle.std.specs.List.{flat_map, filter_map, cons_option, range_with_len}
-use Rattle.std.proofs.lemmas.Bool.{false≢true, eqb-true, eq-eqb, ne_eqb, lt-ltb, and_from, eqb-false, cases_eq}
+use Rattle.std.proofs.lemmas.Bool.{eqb-true, eq-eqb, ne_eqb, lt-ltb, eqb-false, cases_eq}
 use Rattle.std.proofs.lemmas.Option.{none-some, same_Some}
 use Rattle.std.proofs.lemmas.Nat.{div-add-mod', div-mul-add, mod-mul-add}
 use Rattle.std.proofs.Math.Nat.{div-lt_iff_lt-mul, mod-lt}
 use Rattle.noc_topo.specs.Words.{below, Has}
-use Rattle.noc_topo.specs.Shape.{Grid, IsGrid, nodes, ports, local_port, neighbour, IsLinkBack}
+use Rattle.noc_topo.specs.Shape.{IsGrid, nodes, ports, local_port, neighbour, IsLinkBack}
 use Rattle.noc_topo.proofs.LinkLemmas.{link_back}
 use Rattle.noc_packet.specs.Set.{has_bit}
-use Rattle.noc_route.specs.Channel.{Channel, Link, Inject, Eject, arrival_of, begin, channel_vc, input_at, inputs, output_at, output_index, is_link}
+use Rattle.noc_route.specs.Channel.{Channel, Link, Inject, Eject, arrival_of, begin, channel_vc, input_at, inputs, output_index}
 use Rattle.noc_route.specs.Routes.{is_sent, permits, permits_at, set_at}
-use Rattle.noc_model.specs.Network.{Setup, State, size, arriving, leaving, leads_from, end_of, next_channel, all_inputs}
+use Rattle.noc_model.specs.Network.{Setup, size, arriving, leaving, all_inputs}
 use Rattle.noc_ownership.proofs.GrantLemmas.{Has-below}
 use Rattle.noc_ownership.proofs.Members.{Has-append, Has-left, Has-right, Has-filter_map}
 use Rattle.noc_ownership.proofs.PathLemmas.{IsEject}
-use Rattle.noc_ownership.proofs.MoveLemmas.{leads-end}
 use Rattle.noc_views.proofs.Ordered.{IsGood}
 
 pub Has-flat_map : {X Y : Type 0} (f : X → List Y) (y : Y) (xs : List X) → Has y (flat_map f xs) → (x : X) × Has x xs × Has y (f x)

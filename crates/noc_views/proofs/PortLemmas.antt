@@ -1,33 +1,30 @@
 -- What leaves by a port: by the view, and by the state.
-use Rattle.std.proofs.Common.{◌≡◌, ◌≢◌, ℕ, zero, suc, ◌+◌, ◌-◌, ◌*◌, ◌/◌, ◌%◌, ◌<◌, ◌≤◌, Bool, true, false, cond, List, [], ◌∷◌, map, length, get_or, Option, Some, None, refl, ap, sym, ◌∙◌, inl, inr, subst, arith}
-use Rattle.std.specs.Prelude.{filter, find, option_map, option_and_then, is_some, ◌⊎◌, ◌&&◌, ◌||◌, not, nat_eq, if◌then◌else◌}
+use Rattle.std.proofs.Common.{◌≡◌, ℕ, ◌+◌, ◌*◌, ◌/◌, ◌%◌, ◌<◌, true, false, Option, Some, None, refl, ap, sym, ◌∙◌, inl, inr, subst, arith}
+use Rattle.std.specs.Prelude.{find, option_map, option_and_then, is_some, ◌⊎◌, ◌&&◌, nat_eq, if◌then◌else◌}
 use Rattle.std.proofs.lemmas.Bool.{false≢true, true≢false}
 use Rattle.std.proofs.lemmas.Option.{none-some, same_Some}
 use Rattle.std.proofs.lemmas.Nat.{div-add-mod', div-mul-add, mod-mul-add}
-use Rattle.noc_topo.specs.Words.{below, is_some_of, Has}
+use Rattle.noc_topo.specs.Words.{below}
 use Rattle.noc_topo.specs.Shape.{nodes, ports, local_port, neighbour, IsLinkBack}
 use Rattle.noc_topo.proofs.LinkLemmas.{link_back}
 use Rattle.noc_packet.specs.Packet.{flit_at}
 use Rattle.noc_packet.specs.declared.packet.Flit.{Flit}
-use Rattle.noc_packet.specs.declared.packet.Beat.{Beat}
-use Rattle.noc_alloc.proofs.WordLemmas.{is_some_of-some}
-use Rattle.noc_route.specs.Channel.{Channel, Link, Inject, Eject, same_channel, is_link}
+use Rattle.noc_route.specs.Channel.{Channel, Link, Inject, is_link}
 use Rattle.noc_router.specs.Verdict.{Claim, Holds, out_of, is_moved}
 use Rattle.noc_router.specs.View.{Site, View, Decisions, view_claim, planned, mover, mover_to, flit_out, first_flit, beat_out, decided_verdict}
-use Rattle.noc_router.specs.declared.verdict.Verdict.TheVariants.{Moved}
 use Rattle.noc_router.proofs.FindLemmas.{find-same, find-at, find-none}
-use Rattle.noc_router.proofs.PlanFacts.{Mover, mover-is}
+use Rattle.noc_router.proofs.PlanFacts.{mover-is}
 use Rattle.noc_router.proofs.SettleLemmas.{mover_to-is}
 use Rattle.noc_model.specs.Lockstep.{flit_on, beat_by}
-use Rattle.noc_model.specs.Network.{Setup, State, Located, Place, On, size, arriving, leaving, packet_at, has_channel, is_on, first_in, verdict_in, count_on, gone_to, after_verdicts, all_inputs}
-use Rattle.noc_ownership.proofs.BufferLemmas.{same_channel-refl, same_channel-true, find-passes}
+use Rattle.noc_model.specs.Network.{Setup, State, Located, size, arriving, leaving, packet_at, has_channel, is_on, verdict_in, gone_to, after_verdicts, all_inputs}
+use Rattle.noc_ownership.proofs.BufferLemmas.{same_channel-refl, find-passes}
 use Rattle.noc_ownership.proofs.Members.{find-has, find-some, Has-map, Has-mapped}
-use Rattle.noc_ownership.proofs.MoveLemmas.{IsNext, next-once}
+use Rattle.noc_ownership.proofs.MoveLemmas.{next-once}
 use Rattle.noc_ownership.proofs.RoutedVerdicts.{has-channel}
 use Rattle.noc_views.proofs.AfterLemmas.{Moves, step}
 use Rattle.noc_views.proofs.AfterOutput.{comes, on-none}
 use Rattle.noc_views.proofs.CommitInput.{first-is, decided-some}
-use Rattle.noc_views.proofs.MoverLemmas.{MoverTo, lists, from-mover, moves-mover, nothing-moves}
+use Rattle.noc_views.proofs.MoverLemmas.{MoverTo, lists, from-mover, moves-mover}
 use Rattle.noc_views.proofs.NextLemmas.{channel-filter}
 use Rattle.noc_views.proofs.Ordered.{IsGood, IsOrderedFrozen}
 use Rattle.noc_views.proofs.PlaceLemmas.{IsAt, arriving-at, arrives-in, link-from, in-size, port-below}

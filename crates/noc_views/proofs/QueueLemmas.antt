@@ -1,18 +1,18 @@
 -- The packets that wait at a node: in the order of the queue the first is the one that the state names, and no number stands twice.
-use Rattle.std.proofs.Common.{◌≡◌, ◌≢◌, ℕ, zero, suc, ◌+◌, ◌-◌, ◌<◌, ◌≤◌, Bool, true, false, cond, List, [], ◌∷◌, ◌++◌, map, length, get_or, Option, Some, None, refl, ap, sym, ◌∙◌, inl, inr, subst, arith}
-use Rattle.std.specs.Prelude.{filter, find, ◌⊎◌, ◌&&◌, not, nat_eq, nat_le}
+use Rattle.std.proofs.Common.{◌≡◌, ◌≢◌, ℕ, ◌+◌, ◌<◌, ◌≤◌, Bool, true, false, cond, List, [], ◌∷◌, length, Option, Some, None, refl, ap, sym, ◌∙◌, inl, inr, subst, arith}
+use Rattle.std.specs.Prelude.{filter, ◌⊎◌, ◌&&◌, not, nat_eq, nat_le}
 use Rattle.std.specs.List.{list_any, enumerate_from}
-use Rattle.std.proofs.lemmas.Bool.{false≢true, true≢false, eq-eqb, eqb-true, ne_eqb, and_from, and_parts, leb-true, leb-false, cases_order, cases_eq}
-use Rattle.std.proofs.lemmas.Option.{none-some, same_Some}
-use Rattle.noc_topo.specs.Words.{below, Has, Each, Pairs, least_by}
+use Rattle.std.proofs.lemmas.Bool.{eq-eqb, eqb-true, ne_eqb, and_from, and_parts, leb-true, leb-false, cases_order}
+use Rattle.std.proofs.lemmas.Option.{none-some}
+use Rattle.noc_topo.specs.Words.{below, Has, Pairs, least_by}
 use Rattle.noc_packet.specs.declared.packet.Packet.{Packet}
-use Rattle.noc_model.specs.Lockstep.{inserted_by_due, by_due, starts_at, starts_of, has_flit_at_source}
+use Rattle.noc_model.specs.Lockstep.{inserted_by_due, by_due, starts_at, has_flit_at_source}
 use Rattle.noc_model.specs.Network.{Setup, State, Located, packet_at, flits_of, is_at_source, first_waiting}
 use Rattle.noc_ownership.proofs.FirstOfNode.{Precedes, least_by-first}
 use Rattle.noc_ownership.proofs.GrantLemmas.{Has-below}
 use Rattle.noc_ownership.proofs.InjectionState.{least_by-has}
 use Rattle.noc_ownership.proofs.Members.{each-at, each-from, Has-filter, Has-kept, Pairs-filter}
-use Rattle.noc_views.proofs.CommitEnds.{enumerate-has, enumerate-member, no_packet}
+use Rattle.noc_views.proofs.CommitEnds.{enumerate-has, enumerate-member}
 use Rattle.noc_views.proofs.PlaceLemmas.{has-below}
 
 -- a comes before b: it is due before it, or as early with a smaller number

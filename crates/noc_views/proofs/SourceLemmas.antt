@@ -1,10 +1,10 @@
 -- The input channel from which an output channel is owned.
-use Rattle.std.proofs.Common.{◌≡◌, ◌≢◌, ℕ, ◌+◌, ◌*◌, ◌/◌, ◌%◌, ◌<◌, Bool, true, false, cond, List, Option, Some, None, refl, ap, sym, ◌∙◌, inl, inr, subst, arith}
-use Rattle.std.specs.Prelude.{find, option_map, option_and_then, unwrap_or, ◌⊎◌}
+use Rattle.std.proofs.Common.{◌≡◌, ℕ, ◌<◌, true, false, Option, Some, None, refl, ap, sym, ◌∙◌, subst}
+use Rattle.std.specs.Prelude.{find, option_map, option_and_then, unwrap_or}
 use Rattle.std.proofs.lemmas.Bool.{false≢true}
 use Rattle.std.proofs.lemmas.Option.{none-some, same_Some}
-use Rattle.noc_topo.specs.Words.{below, Has}
-use Rattle.noc_route.specs.Channel.{Channel, Link, Inject, Eject, same_channel, begin}
+use Rattle.noc_topo.specs.Words.{Has}
+use Rattle.noc_route.specs.Channel.{Channel, same_channel}
 use Rattle.noc_router.proofs.FindLemmas.{find-at}
 use Rattle.noc_model.specs.Lockstep.{seen_source, goes_on_by}
 use Rattle.noc_model.specs.Network.{Setup, State, size, arriving, leaving, place_of, owner_of, owned_by, next_channel, leads_from, all_inputs}

@@ -1,20 +1,19 @@
 -- What waits at a source in a state, and the injection channel of a packet.
-use Rattle.std.proofs.Common.{◌≡◌, ◌≢◌, ℕ, zero, suc, ◌+◌, ◌-◌, ◌<◌, ◌≤◌, Bool, true, false, cond, List, [], ◌∷◌, map, length, Option, Some, None, refl, ap, sym, ◌∙◌, inl, inr, subst, arith}
-use Rattle.std.specs.Prelude.{filter, find, count_by, ◌⊎◌, ◌&&◌, ◌||◌, not, nat_eq}
+use Rattle.std.proofs.Common.{◌≡◌, ℕ, Bool, true, cond, List, [], ◌∷◌, map, length, Option, Some, None, refl, ap, ◌∙◌, inl, inr, subst}
+use Rattle.std.specs.Prelude.{filter, find, ◌&&◌, ◌||◌, nat_eq}
 use Rattle.std.specs.List.{list_any}
 use Rattle.std.proofs.lemmas.Bool.{false≢true, eq-eqb, eqb-true}
-use Rattle.std.proofs.lemmas.Option.{none-some, same_Some}
 use Rattle.noc_topo.specs.Words.{below, Has, least_by}
 use Rattle.noc_packet.specs.declared.packet.Packet.{Packet}
 use Rattle.noc_route.specs.Channel.{Channel, Link, Inject, Eject}
 use Rattle.noc_model.specs.Lockstep.{has_flit_at_source}
-use Rattle.noc_model.specs.Network.{Setup, State, Located, Place, Source, On, In, Out, packet_at, place_of, flits_of, owned_by, is_at_source, is_injection_of, first_waiting}
+use Rattle.noc_model.specs.Network.{Setup, State, Located, packet_at, place_of, flits_of, owned_by, is_at_source, is_injection_of, first_waiting}
 use Rattle.noc_ownership.proofs.BuiltRecord.{IsBuilt}
 use Rattle.noc_ownership.proofs.BufferLemmas.{find-passes}
 use Rattle.noc_ownership.proofs.InjectionPhase.{two-injects}
-use Rattle.noc_ownership.proofs.Members.{find-has, find-some, find-fails, Has-filter, Has-kept, list_any-has}
-use Rattle.noc_ownership.proofs.OwnedLemmas.{of, of-has, has-of}
-use Rattle.noc_ownership.proofs.PlaceLemmas.{IsKeyed, IsValid, place-of-flit}
+use Rattle.noc_ownership.proofs.Members.{find-has, find-some}
+use Rattle.noc_ownership.proofs.OwnedLemmas.{of-has, has-of}
+use Rattle.noc_ownership.proofs.PlaceLemmas.{IsKeyed}
 use Rattle.noc_ownership.proofs.WormRecord.{IsWorm}
 
 -- two tests that agree on a list leave the same of it

@@ -1,10 +1,10 @@
 -- From a view that shows a frozen state, each input channel stands where it stands in that state, and so all verdicts are those of the state.
-use Rattle.std.proofs.Common.{◌≡◌, ℕ, zero, suc, ◌+◌, ◌*◌, ◌/◌, ◌%◌, ◌<◌, Bool, true, false, cond, List, [], ◌∷◌, map, length, get_or, Option, Some, None, refl, ap, sym, ◌∙◌, inl, inr, subst, arith}
-use Rattle.std.specs.Prelude.{find, option_and_then, option_map, unwrap_or, not, nat_lt, ◌&&◌, ◌||◌, is_none}
+use Rattle.std.proofs.Common.{◌≡◌, ℕ, suc, ◌+◌, ◌*◌, ◌/◌, ◌%◌, ◌<◌, Bool, true, false, cond, List, [], ◌∷◌, map, length, Option, Some, None, refl, ap, sym, ◌∙◌, subst, arith}
+use Rattle.std.specs.Prelude.{find, option_and_then, option_map, not, nat_lt, ◌&&◌, ◌||◌, is_none}
 use Rattle.std.proofs.lemmas.Bool.{lt-ltb, false≢true}
 use Rattle.std.proofs.lemmas.Nat.{div-add-mod'}
 use Rattle.noc_topo.specs.Words.{below, tabulate, Has}
-use Rattle.noc_topo.specs.Shape.{nodes, ports, local_port, neighbour}
+use Rattle.noc_topo.specs.Shape.{nodes, ports, local_port}
 use Rattle.noc_topo.proofs.WordLemmas.{get_or-tabulate, length-tabulate, tabulate-from_each}
 use Rattle.noc_packet.specs.Set.{has_bit}
 use Rattle.noc_packet.specs.declared.packet.Flit.{Flit}
@@ -13,9 +13,8 @@ use Rattle.noc_route.specs.Channel.{Channel, Link, Inject, Eject, is_link, outpu
 use Rattle.noc_route.specs.Routes.{permits, set_at}
 use Rattle.noc_vc.specs.Input.{Input, is_empty}
 use Rattle.noc_vc.specs.Output.{Output, is_free, has_credit as has_credit_out}
-use Rattle.noc_vc.specs.declared.input.InputState.{InputState}
-use Rattle.noc_vc.specs.declared.input.InputState.TheVariants.{Idle, Waiting, Active}
-use Rattle.noc_vc.specs.declared.output.OutputState.TheVariants.{Idle as Free, Owned, Draining}
+use Rattle.noc_vc.specs.declared.input.InputState.TheVariants.{Idle}
+use Rattle.noc_vc.specs.declared.output.OutputState.TheVariants.{Owned, Draining}
 use Rattle.noc_router.specs.Verdict.{Claim, Unrouted, Waits, Holds, Stand, Round, Turns, round_of, verdict_of, out_of}
 use Rattle.noc_router.specs.View.{Site, View, size_of, view_buffer, view_input, view_output, asked_for, claim_in, view_claim, view_stand, view_stands, view_round, planned, finding_of, port_and_vc}
 use Rattle.noc_router.specs.declared.verdict.Verdict.{Verdict}
@@ -23,10 +22,9 @@ use Rattle.noc_router.specs.declared.verdict.Verdict.TheVariants.{Empty}
 use Rattle.noc_router.specs.declared.verdict.Finding.{Finding}
 use Rattle.noc_router.proofs.FindLemmas.{find-same}
 use Rattle.noc_model.specs.Lockstep.{site_at, seen_flits, seen_input, seen_phase, seen_phase_with, seen_set, seen_output, seen_holder, seen_source, has_come, finding_in}
-use Rattle.noc_model.specs.Network.{Setup, State, Located, size, arriving, leaving, packet_at, owner_of, next_channel, has_channel, has_credit, is_idle, ask, claim_of, claim_with, stand_of, stands_at, arbiters_at, round_at, verdict_in, verdict_at, count_in, buffer_of, is_on, tail_place, leads_from}
+use Rattle.noc_model.specs.Network.{Setup, State, Located, size, arriving, leaving, packet_at, owner_of, next_channel, has_channel, has_credit, is_idle, ask, claim_of, claim_with, stand_of, stands_at, round_at, verdict_in, verdict_at, count_in, buffer_of, is_on, tail_place, leads_from}
 use Rattle.noc_ownership.proofs.MoveLemmas.{IsNext, next-is, leads-end}
-use Rattle.noc_ownership.proofs.OwnedLemmas.{owner-has, owner-is}
-use Rattle.noc_ownership.proofs.RoutedRecord.{IsHeld}
+use Rattle.noc_ownership.proofs.OwnedLemmas.{owner-is}
 use Rattle.noc_views.proofs.Ordered.{IsGood, IsOrderedFrozen}
 use Rattle.noc_views.proofs.PlaceLemmas.{IsAt, IsFrom, arriving-at, input-at, permits-at, leaving-from, eject-from, link-from, same-place}
 use Rattle.noc_views.specs.Seen.{IsSeen}

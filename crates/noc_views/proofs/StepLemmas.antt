@@ -1,13 +1,13 @@
 -- A step that moves flits: what it leaves of the flits of a packet.
-use Rattle.std.proofs.Common.{◌≡◌, ℕ, zero, suc, ◌+◌, ◌<◌, Bool, true, false, cond, List, [], ◌∷◌, ◌++◌, map, length, Option, Some, None, refl, ap, sym, ◌∙◌, inl, inr, arith, zero-add}
-use Rattle.std.specs.Prelude.{filter, find, ◌⊎◌, count_by, ◌||◌, ◌&&◌, nat_eq, option_map, unwrap_or}
+use Rattle.std.proofs.Common.{◌≡◌, ◌+◌, ◌<◌, Bool, true, false, cond, List, [], ◌∷◌, ◌++◌, map, refl, ap, sym, ◌∙◌, inl, inr, arith, zero-add}
+use Rattle.std.specs.Prelude.{filter, ◌⊎◌, count_by, ◌||◌}
 use Rattle.std.specs.List.{list_any}
 use Rattle.std.proofs.lemmas.List.Sums.{sum_by-append}
 use Rattle.std.proofs.lemmas.Bool.{true≢false}
 use Rattle.noc_topo.specs.Words.{Has, Pairs}
 use Rattle.noc_ownership.proofs.Members.{each-at}
 use Rattle.noc_ownership.proofs.PlaceLemmas.{IsSortedPair}
-use Rattle.noc_model.specs.Network.{Setup, State, Located, Place, flits_of}
+use Rattle.noc_model.specs.Network.{Located}
 
 pub count-cons : {X : Type 0} (t : X → Bool) (x : X) (xs : List X) → count_by t (x ∷ xs) ≡ cond (t x) 1 0 + count_by t xs
 count-cons t x xs = sum_by-append (λ y. cond (t y) 1 0) (x ∷ []) xs ∙ ap (λ k. k + count_by t xs) (zero-add (cond (t x) 1 0))

@@ -1,6 +1,6 @@
 -- A router takes all its beats.
-use Rattle.std.proofs.Common.{◌≡◌, ◌≢◌, ℕ, zero, suc, ◌+◌, ◌-◌, ◌*◌, ◌/◌, ◌%◌, ◌<◌, ◌≤◌, Bool, true, false, cond, List, [], ◌∷◌, ◌++◌, map, length, get_or, Option, Some, None, refl, ap, sym, ◌∙◌, inl, inr, subst, arith}
-use Rattle.std.specs.Prelude.{filter, find, count_by, option_map, option_and_then, is_some, ◌⊎◌, ◌&&◌, ◌||◌, not, nat_eq, nat_lt, if◌then◌else◌}
+use Rattle.std.proofs.Common.{◌≡◌, ℕ, zero, suc, ◌+◌, ◌/◌, ◌%◌, ◌<◌, Bool, true, false, List, [], map, Option, Some, None, refl, ap, sym, ◌∙◌, inl, inr, subst, arith}
+use Rattle.std.specs.Prelude.{find, count_by, option_map, option_and_then, is_some, ◌⊎◌, ◌||◌, not, nat_eq, if◌then◌else◌}
 use Rattle.std.specs.List.{list_any, range_with_len}
 use Rattle.std.proofs.lemmas.Bool.{false≢true, true≢false, lt-ltb, le-ltb, ltb-true, eq-eqb, or_left, or_right, or_cases}
 use Rattle.std.proofs.lemmas.Option.{none-some, same_Some}
@@ -8,33 +8,31 @@ use Rattle.noc_topo.specs.Words.{below, tabulate, is_some_of, Has}
 use Rattle.noc_topo.specs.Shape.{nodes, local_port, neighbour, IsLinkBack}
 use Rattle.noc_topo.proofs.LinkLemmas.{link_back}
 use Rattle.noc_topo.proofs.WordLemmas.{get_or-tabulate}
-use Rattle.noc_packet.specs.declared.packet.Packet.{Packet}
 use Rattle.noc_packet.specs.declared.packet.Flit.{Flit}
 use Rattle.noc_packet.specs.declared.packet.Beat.{Beat}
-use Rattle.noc_route.specs.Channel.{Channel, Link, Inject, Eject, begin, channel_vc, is_link, same_channel, arrival_of}
+use Rattle.noc_route.specs.Channel.{Channel, Link, Inject, Eject, begin, channel_vc, same_channel}
 use Rattle.noc_route.proofs.BoolLemmas.{same_test}
 use Rattle.noc_router.specs.View.{View, taken, taken_from, all_taken}
-use Rattle.noc_model.specs.Lockstep.{beat_by, beats_at, beats_in, flit_on, flies_to, seen_flits, seen_input, seen_output, seen_sending, starts_at, ends_at, has_flit_at_source}
-use Rattle.noc_model.specs.Network.{Setup, State, Located, Place, Source, On, In, Out, size, arriving, leaving, packet_at, place_of, tail_place, flits_of, owned_by, arbiters_at, first_waiting, is_at_source, is_on, is_injection_of, landed_place, out_cycle, end_of, has_channel, after_landing, after_credits}
-use Rattle.noc_alloc.proofs.WordLemmas.{is_some_of-true, is_some_of-some}
+use Rattle.noc_model.specs.Lockstep.{beat_by, beats_at, beats_in, flit_on, flies_to, seen_flits, seen_input, seen_output, seen_sending, starts_at, ends_at}
+use Rattle.noc_model.specs.Network.{Setup, State, Located, Place, Source, On, In, Out, size, arriving, leaving, packet_at, tail_place, flits_of, owned_by, arbiters_at, first_waiting, is_at_source, is_on, is_injection_of, landed_place, out_cycle, end_of, has_channel, after_landing, after_credits}
+use Rattle.noc_alloc.proofs.WordLemmas.{is_some_of-true}
 use Rattle.noc_packet.specs.Packet.{flit_at}
 use Rattle.noc_ownership.proofs.BufferLemmas.{same_channel-refl, same_channel-true, find-passes}
-use Rattle.noc_ownership.proofs.InjectionState.{waiting-is}
 use Rattle.noc_ownership.proofs.Members.{find-has, find-some, list_any-has, list_any-from}
 use Rattle.noc_ownership.proofs.PlaceLemmas.{place-of-flit}
-use Rattle.noc_ownership.proofs.WormRecord.{IsPlaced, last_of, valid-last}
+use Rattle.noc_ownership.proofs.WormRecord.{IsPlaced}
 use Rattle.noc_views.proofs.CommitEnds.{map-each, ends-here}
 use Rattle.noc_views.proofs.LandInput.{flits-none, input-none}
-use Rattle.noc_views.proofs.LandLemmas.{keyed, worm, keyedM, wormM, landed, landed-tail, owned-before, owned-still}
+use Rattle.noc_views.proofs.LandLemmas.{keyed, worm, keyedM, wormM, landed-tail, owned-before, owned-still}
 use Rattle.noc_views.proofs.LandOutput.{eject-same}
 use Rattle.noc_views.proofs.Ordered.{IsGood, IsOrdered}
 use Rattle.noc_views.proofs.Phases.{mid, has_arrival, IsTaken}
-use Rattle.noc_views.proofs.PlaceLemmas.{IsAt, arriving-at, input-at, mod-below, not-eject, OutputCase, ejects, links, output-case, port-below, has-below}
+use Rattle.noc_views.proofs.PlaceLemmas.{IsAt, input-at, mod-below, OutputCase, ejects, links, output-case, has-below}
 use Rattle.noc_views.proofs.SourceState.{injection-at, injection-own, injection-none, waiting-same, queue-same}
 use Rattle.noc_views.proofs.StepLemmas.{count-step, any-step}
 use Rattle.noc_views.proofs.TakeLemmas.{at_port, came, IsUpTo}
 use Rattle.noc_views.proofs.TakePort.{port-taken}
-use Rattle.noc_views.specs.Seen.{IsSeen, IsAsNoted}
+use Rattle.noc_views.specs.Seen.{IsSeen}
 
 module _ (net : Setup) (good : IsGood net) (S : State) (x : IsOrdered net S) where
   -- ---- what landings and credits leave of the sources

@@ -1,28 +1,25 @@
 -- A router takes its beats: a view that showed the state shows it after the landings and the credits, and there is no misfit.
-use Rattle.std.proofs.Common.{◌≡◌, ◌≢◌, ℕ, zero, suc, ◌+◌, ◌-◌, ◌*◌, ◌/◌, ◌%◌, ◌<◌, ◌≤◌, Bool, true, false, cond, List, [], ◌∷◌, ◌++◌, map, length, get_or, set, Option, Some, None, refl, ap, sym, ◌∙◌, inl, inr, subst, arith}
-use Rattle.std.specs.Prelude.{filter, find, option_map, option_and_then, is_some, ◌⊎◌, ◌&&◌, ◌||◌, not, nat_eq, nat_lt, if◌then◌else◌}
+use Rattle.std.proofs.Common.{◌≡◌, ℕ, ◌+◌, ◌*◌, ◌/◌, ◌%◌, ◌<◌, ◌≤◌, Bool, true, false, cond, List, [], ◌∷◌, ◌++◌, length, Option, Some, None, refl, ap, sym, ◌∙◌, inl, inr, subst, arith}
+use Rattle.std.specs.Prelude.{option_map, is_some, ◌⊎◌, ◌&&◌, ◌||◌, nat_eq, nat_lt, if◌then◌else◌}
 use Rattle.std.specs.List.{list_any}
 use Rattle.std.proofs.lemmas.Bool.{false≢true, true≢false, cases_eq, cases_lt, lt-ltb, le-ltb, and_from}
-use Rattle.std.proofs.lemmas.Option.{none-some, same_Some}
+use Rattle.std.proofs.lemmas.Option.{same_Some}
 use Rattle.std.proofs.lemmas.List.{length-set, get_or-set_same, get_or-set_other}
 use Rattle.std.proofs.lemmas.Nat.{div-add-mod', div-mul-add, mod-mul-add}
-use Rattle.noc_topo.specs.Words.{below, tabulate, Has}
-use Rattle.noc_topo.specs.Shape.{nodes, ports, local_port, neighbour}
+use Rattle.noc_topo.specs.Words.{below}
+use Rattle.noc_topo.specs.Shape.{nodes, local_port, neighbour}
 use Rattle.noc_packet.specs.declared.packet.Flit.{Flit}
 use Rattle.noc_packet.specs.declared.packet.Beat.{Beat}
-use Rattle.noc_route.specs.Channel.{Channel, Link, Inject, Eject, channel_vc, is_link}
+use Rattle.noc_route.specs.Channel.{Channel, Link, Inject}
 use Rattle.noc_vc.specs.Input.{Input, idle_input, fits, landed as landed_on}
-use Rattle.noc_vc.specs.Output.{Output, ejection_output, credited, credit_fits}
-use Rattle.noc_router.specs.View.{Site, View, has_link, view_buffer, view_input, view_output, with_landed, with_flit, with_credit, with_misfit, taken, idle_beat}
-use Rattle.noc_router.proofs.FindLemmas.{find-some}
+use Rattle.noc_router.specs.View.{Site, View, has_link, view_buffer, view_input, view_output, with_landed, with_flit, with_misfit}
 use Rattle.noc_model.specs.Lockstep.{beat_by, flit_on, seen_flits, seen_input, seen_output, starts_at, ends_at, has_flit_at_source, seen_sending}
-use Rattle.noc_model.specs.Network.{Setup, State, size, arriving, leaving, has_channel, arbiters_at, first_waiting, out_cycle, tail_place}
+use Rattle.noc_model.specs.Network.{Setup, State, size, arriving, leaving}
 use Rattle.noc_views.proofs.LandFlit.{flits-some, input-some, fits-some}
 use Rattle.noc_views.proofs.LandInput.{flits-none, input-none}
-use Rattle.noc_views.proofs.LandOutput.{link-same, link-credited, credit-fits, eject-same}
 use Rattle.noc_views.proofs.Ordered.{IsGood, IsOrdered}
 use Rattle.noc_views.proofs.Phases.{mid}
-use Rattle.noc_views.proofs.PlaceLemmas.{IsAt, arriving-at, input-at, not-eject, in-size, mod-below, OutputCase, ejects, links, output-case, link-from}
+use Rattle.noc_views.proofs.PlaceLemmas.{IsAt, arriving-at, not-eject, in-size, mod-below}
 use Rattle.noc_views.specs.Seen.{IsSeen, IsAsNoted}
 
 module _ (net : Setup) (good : IsGood net) (S : State) (x : IsOrdered net S) (r : ℕ) (l : r < nodes net.relation.grid) (v0 : View) where

@@ -1,19 +1,19 @@
 -- A router takes the beat of one port.
-use Rattle.std.proofs.Common.{◌≡◌, ◌≢◌, ℕ, zero, suc, ◌+◌, ◌-◌, ◌*◌, ◌/◌, ◌%◌, ◌<◌, ◌≤◌, Bool, true, false, cond, List, [], ◌∷◌, ◌++◌, map, length, get_or, set, Option, Some, None, refl, ap, sym, ◌∙◌, inl, inr, subst, arith}
+use Rattle.std.proofs.Common.{◌≡◌, ℕ, ◌+◌, ◌*◌, ◌/◌, ◌%◌, ◌<◌, Bool, true, false, cond, List, [], ◌∷◌, ◌++◌, length, get_or, set, Option, Some, None, refl, ap, sym, ◌∙◌, inl, inr, subst, arith}
 use Rattle.std.specs.Prelude.{find, option_map, option_and_then, is_some, ◌⊎◌, ◌&&◌, ◌||◌, nat_lt, if◌then◌else◌}
 use Rattle.std.specs.List.{list_any}
 use Rattle.std.proofs.lemmas.Bool.{false≢true, true≢false, cases_eq, lt-ltb, and_from}
 use Rattle.std.proofs.lemmas.Option.{none-some, same_Some}
 use Rattle.std.proofs.lemmas.List.{length-set, get_or-set_same, get_or-set_other}
-use Rattle.std.proofs.lemmas.Nat.{div-add-mod', div-mul-add, mod-mul-add}
+use Rattle.std.proofs.lemmas.Nat.{div-add-mod', div-mul-add}
 use Rattle.noc_topo.specs.Words.{below, Has}
 use Rattle.noc_topo.specs.Shape.{nodes, local_port, neighbour}
 use Rattle.noc_topo.proofs.WordLemmas.{below-next}
 use Rattle.noc_packet.specs.declared.packet.Flit.{Flit}
 use Rattle.noc_packet.specs.declared.packet.Beat.{Beat}
-use Rattle.noc_route.specs.Channel.{Channel, Link, Eject, Inject}
+use Rattle.noc_route.specs.Channel.{Channel, Link, Inject}
 use Rattle.noc_vc.specs.Output.{Output, ejection_output, credited, credit_fits}
-use Rattle.noc_router.specs.View.{Site, View, has_link, view_output, with_flit, with_credit, with_misfit, taken, idle_beat}
+use Rattle.noc_router.specs.View.{Site, View, has_link, view_output, with_flit, with_credit, with_misfit, taken}
 use Rattle.noc_router.proofs.FindLemmas.{find-some}
 use Rattle.noc_model.specs.Lockstep.{beat_by, flit_on, seen_output}
 use Rattle.noc_model.specs.Network.{Setup, State, Located, On, size, arriving, leaving, has_channel, is_on, packet_at}
@@ -24,7 +24,7 @@ use Rattle.noc_ownership.proofs.PlaceLemmas.{place-of-flit, sorted-same}
 use Rattle.noc_views.proofs.LandOutput.{link-same, link-credited, credit-fits, eject-same}
 use Rattle.noc_views.proofs.Ordered.{IsGood, IsOrdered}
 use Rattle.noc_views.proofs.Phases.{mid}
-use Rattle.noc_views.proofs.PlaceLemmas.{IsAt, input-at, in-size, mod-below, has-below, OutputCase, ejects, links, output-case, link-from}
+use Rattle.noc_views.proofs.PlaceLemmas.{input-at, in-size, mod-below, has-below, OutputCase, ejects, links, output-case, link-from}
 use Rattle.noc_views.proofs.TakeLemmas.{at_port, came, IsUpTo, IsLanded, no-flit, with-flit, elsewhere, here-before, here-after, vcs-is, site-is}
 use Rattle.noc_views.specs.Seen.{IsSeen}
 

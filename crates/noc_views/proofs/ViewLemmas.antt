@@ -1,6 +1,5 @@
 -- Views by their parts.
-use Rattle.std.proofs.Common.{◌≡◌, ℕ, ◌-◌, ◌<◌, Bool, false, List, [], length, map, get_or, Option, refl, ap, sym, ◌∙◌}
-use Rattle.std.specs.Prelude.{filter}
+use Rattle.std.proofs.Common.{◌≡◌, ℕ, ◌-◌, Bool, false, List, [], Option, refl}
 use Rattle.noc_topo.specs.Words.{tabulate}
 use Rattle.noc_topo.proofs.WordLemmas.{get_or-tabulate, length-tabulate, tabulate-from_each}
 use Rattle.noc_packet.specs.declared.packet.Packet.{Packet}
@@ -11,8 +10,8 @@ use Rattle.noc_vc.specs.Output.{Output, ejection_output}
 use Rattle.noc_router.specs.Verdict.{Turns}
 use Rattle.noc_router.specs.View.{Site, View, idle_beats}
 use Rattle.noc_router.specs.declared.verdict.Finding.{Finding}
-use Rattle.noc_model.specs.Lockstep.{view_in, view_at, site_at, starts_at, ends_at, seen_flits, seen_input, seen_output, seen_sending, has_flit_at_source, last_event_at, counts_before, findings_before}
-use Rattle.noc_model.specs.Network.{Setup, State, size, arriving, leaving, arbiters_at, first_waiting, out_cycle, tail_place, state_at}
+use Rattle.noc_model.specs.Lockstep.{view_in, view_at, site_at, seen_flits, seen_input, seen_output, last_event_at, counts_before, findings_before}
+use Rattle.noc_model.specs.Network.{Setup, State, size, arriving, leaving, state_at}
 use Rattle.noc_views.specs.Seen.{IsSeen}
 
 abbrev pub made : Site → List (List Flit) → List Input → List Output → Turns → List (ℕ × Packet) → Option (ℕ × ℕ) → List (ℕ × Option ℕ) → ℕ → Option ℕ → List (List ℕ) → List Finding → ℕ → Bool → List Beat → View

@@ -1,5 +1,4 @@
 use Rattle.std.proofs.Common.{◌≡◌, Option, Some, None, Ok, Err, Result, refl, ap, sym, ◌∙◌, inl, inr}
-use Rattle.noc_packet.specs.declared.packet.Packet.{Packet}
 use Rattle.noc_net.specs.Faults.{fault_of}
 use Rattle.noc_net.specs.Network.{Run}
 use Rattle.noc_net.specs.declared.fault.NetFault.{NetFault}

@@ -1,4 +1,4 @@
-use Rattle.std.proofs.Common.{◌≡◌, ℕ, zero, suc, ◌<◌, refl, ap, sym, ◌∙◌, subst, arith}
+use Rattle.std.proofs.Common.{◌≡◌, ℕ, ◌<◌, refl, ap, sym, ◌∙◌, subst, arith}
 use Rattle.noc_topo.specs.Shape.{nodes}
 use Rattle.noc_router.specs.View.{View}
 use Rattle.noc_model.specs.Lockstep.{findings_before, view_at}

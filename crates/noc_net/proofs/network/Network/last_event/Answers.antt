@@ -1,4 +1,3 @@
-use Rattle.std.proofs.Common.{◌≡◌, ◌∙◌}
 use Rattle.noc_net.proofs.ReaderLemmas.{latest-is}
 use Rattle.noc_net.proofs.network.Network.last_event.Goals as goal
 

@@ -5,9 +5,7 @@ use Rattle.noc_model.specs.declared.limits.TheConstants.{CYCLE_LIMIT}
 use Rattle.noc_model.specs.Good.{IsGoodSetup}
 use Rattle.noc_model.specs.Halves.{beat_at}
 use Rattle.noc_model.specs.Network.{Run}
-use Rattle.noc_model.specs.Progress.{is_stuck}
 use Rattle.noc_model.specs.Unseen.{AreInStep}
-use Rattle.noc_route.specs.Ranks.{rank_at}
 use Rattle.noc_progress.proofs.Theorems.{accepted-never-stuck}
 use Rattle.noc_net.specs.Parts.{setup_in}
 use Rattle.noc_net.proofs.PartsLemmas.{parts-in_step, views-in_step, wires-in_step}
