@@ -1,0 +1,321 @@
+#!/usr/bin/env python3
+"""Looks how a program ends on files, devices, words and memory that are not as they should be.
+
+    run_process.py PROGRAM
+
+Each call's status, standard output and standard error are given by the rules of docs/FORMATS.md, and never by what PROGRAM said.
+The texts cut after each byte are held against a reader of the formats in cut_texts.py. Each call that fails is shown, and the
+last line is 'N passed, M failed'. The exit status is 0 where all passed, else 1.
+"""
+import array
+import fcntl
+import os
+import resource
+import shutil
+import subprocess
+import sys
+import tempfile
+import termios
+import time
+from pathlib import Path
+
+from cut_texts import cut_texts
+from fault_lines import status_of
+
+LIMIT = 67_108_864
+NOBODY = 65534
+PIPE_SIZE = 4096
+SECONDS = 60
+AMPLE = 1000
+TABLE_HEADER = b"class,router,in_port,in_vc,dst,out_port,out_vc\n"
+TRAFFIC_HEADER = b"source,destination,class,length,due\n"
+REPORT_HEADER = b"packet,source,destination,class,length,due,out,latency\n"
+EMPTY_CHANNELS = b"port,vc,verdict,packet,out\n+0,0,Empty,-,-\nlocal,0,Empty,-,-\n"
+# Two routers with the routes of a table file, ranks that rise, and one packet, which is out after five cycles.
+CONFIG = b'kind = "mesh"\nradix = [2]\nchannels = 1\nbuffer = 2\nclasses = 1\nrule = "table"\ncycles = 8\n'
+PLAIN = CONFIG.replace(b"table", b"dor")
+TABLE = TABLE_HEADER + b"0,0,local,0,1,+0,0\n0,1,-0,0,1,local,0\n0,1,local,0,0,-0,0\n0,0,+0,0,0,local,0\n"
+RANKS = b"router,port,vc,rank\n0,+0,0,1\n1,-0,0,1\n"
+TRAFFIC = TRAFFIC_HEADER + b"0,1,0,1,0\n"
+REPORT = REPORT_HEADER + b"0,0,1,0,1,0,5,5\n"
+FILES = {"config": CONFIG, "traffic": TRAFFIC, "table": TABLE, "ranks": RANKS}
+# Each command with the files that it takes, in the order in which their faults are looked for, and its answer.
+COMMANDS = {
+    "run": (["run", "config", "traffic", "--table", "table", "--ranks", "ranks"], ["config", "table", "ranks", "traffic"], REPORT),
+    "explain": (["explain", "config", "traffic", "--cycle", "7", "--router", "0", "--table", "table"], ["config", "table", "traffic"],
+                EMPTY_CHANNELS),
+    "check": (["check", "config", "--ranks", "ranks", "--table", "table"], ["config", "table", "ranks"], b"accepted\n"),
+    "ranks": (["ranks", "config", "--table", "table"], ["config", "table"], b"fault rank 1 NoGenerated\n"),
+}
+NO_WORDS_OF_NOC = [
+    ["walk"], ["run"], ["run", "plain"], ["run", "plain", "traffic", "ranks"], ["run", "plain", "traffic", "--cycle", "1"],
+    ["run", "plain", "traffic", "--workers"], ["run", "plain", "traffic", "--workers", "0"], ["run", "plain", "traffic", "--workers", "17"],
+    ["run", "plain", "traffic", "--workers", "-1"], ["run", "plain", "traffic", "--workers", "two"],
+    ["run", "plain", "traffic", "--workers", ""],
+    ["run", "plain", "traffic", "--workers", "1", "--workers", "1"], ["run", "plain", "traffic", "--report", "all"],
+    ["run", "plain", "traffic", "--report"], ["run", "plain", "traffic", "--table"], ["run", "plain", "traffic", "--ranks"],
+    ["run", "plain", "traffic", "--wrong"], ["run", "-plain", "traffic"], ["explain", "plain", "traffic"],
+    ["explain", "plain", "traffic", "--cycle", "1"], ["explain", "plain", "traffic", "--router", "1"],
+    ["explain", "plain", "traffic", "--cycle", "18446744073709551616", "--router", "0"],
+    ["explain", "plain", "traffic", "--cycle", "1.0", "--router", "0"], ["explain", "plain", "traffic", "--cycle", " 1", "--router", "0"],
+    ["explain", "plain", "traffic", "--cycle", "1", "--router", "0", "--ranks", "ranks"], ["check", "plain"], ["check", "--ranks", "ranks"],
+    ["check", "plain", "traffic", "--ranks", "ranks"], ["ranks"], ["ranks", "plain", "traffic"], ["ranks", "plain", "--ranks", "ranks"],
+    ["--workers", "1"], ["--help"], ["help"], ["run", "--help"], ["plain"], [""], ["run", b"\xff", "traffic"], [b"\xff"],
+]
+
+
+class Calls:
+    """Calls of a program in a folder of files, and how many ended as they should."""
+
+    def __init__(self, program, folder):
+        self.program, self.folder = folder / "noc", folder
+        shutil.copy(program, self.program)
+        for path in (folder, self.program):
+            path.chmod(0o755)
+        self.put(plain=PLAIN, **FILES)
+        self.passed = self.failed = 0
+
+    def put(self, **texts):
+        for name, text in texts.items():
+            (self.folder / name).write_bytes(text)
+
+    def run(self, words, given=b"", **how):
+        """Calls the program; `how` says what its streams are, and what is done before it starts."""
+        how = {"stdout": subprocess.PIPE, "stderr": subprocess.PIPE, "timeout": SECONDS} | how
+        if "stdin" not in how:
+            how["input"] = given
+        try:
+            return subprocess.run([self.program, *words], cwd=self.folder, **how)
+        except subprocess.TimeoutExpired:
+            return subprocess.CompletedProcess(words, "no end", b"", b"")
+
+    def count(self, name, is_right, ran):
+        self.passed += is_right
+        self.failed += not is_right
+        if not is_right:
+            print(f"{name}: status {ran.returncode}, {(ran.stdout or b'')[:200]!r}, {(ran.stderr or b'')[:200]!r}")
+
+    def answers(self, name, words, answer, status=0, **how):
+        """The answer is a report, or a fault line, with which the page's status comes."""
+        ran = self.run(words, **how)
+        is_fault = answer.startswith(b"fault ")
+        wanted = (status_of(answer), b"", answer) if is_fault else (status, answer, b"")
+        self.count(f"{name} {words}", (ran.returncode, ran.stdout or b"", ran.stderr or b"") == wanted, ran)
+
+
+def rights_dropped():
+    """Where the tests run as root, which may read all, the call is another user's."""
+    if os.geteuid() == 0:
+        os.setgroups([])
+        os.setgid(NOBODY)
+        os.setuid(NOBODY)
+
+
+def inputs_that_cannot_be_read(calls):
+    """A missing file, a folder and a file without the right to read, for each input of each command."""
+    calls.put(locked=b"")
+    (calls.folder / "locked").chmod(0)
+    for name, (words, kinds, answer) in COMMANDS.items():
+        calls.answers(f"{name} on whole files", words, answer)
+        for kind in kinds:
+            fault = f"fault {kind} 1 ReadFailed\n".encode()
+            for other in ("missing", ".", "", "plain/file"):
+                calls.answers(f"{name} on no {kind}", [other if word == kind else word for word in words], fault)
+            locked = ["locked" if word == kind else word for word in words]
+            calls.answers(f"{name} on a locked {kind}", locked, fault, preexec_fn=rights_dropped)
+    closed = b"fault joined 1 ReadFailed\n"
+    calls.answers("standard input closed", [], closed, preexec_fn=lambda: os.close(0))
+    folder = os.open(calls.folder, os.O_RDONLY)
+    calls.answers("standard input is a folder", [], closed, stdin=folder)
+    os.close(folder)
+    with open("/dev/null", "wb") as written:
+        calls.answers("standard input is for writing", [], closed, stdin=written)
+
+
+def inputs_at_the_limit(calls):
+    """A text with as many bytes as are allowed is read, and with one more it is not."""
+    for name, kinds in (("run", ["config", "table", "ranks", "traffic"]), ("check", ["config", "table", "ranks"])):
+        for kind in kinds:
+            calls.put(long=b"")
+            os.truncate(calls.folder / "long", LIMIT + 1)
+            words = ["long" if word == kind else word for word in COMMANDS[name][0]]
+            calls.answers(f"{name} on a long {kind}", words, f"fault {kind} 2 TooLong\n".encode())
+    with open(calls.folder / "long", "rb") as long:
+        calls.answers("a long joined text", [], b"fault joined 2 TooLong\n", stdin=long)
+    calls.put(long=TRAFFIC + b"\n" * (LIMIT - len(TRAFFIC)))
+    calls.answers("traffic at the limit", ["run", "plain", "long"], REPORT)
+    with open(calls.folder / "long", "ab") as long:
+        long.write(b"\n")
+    calls.answers("traffic beyond the limit", ["run", "plain", "long"], b"fault traffic 2 TooLong\n")
+    (calls.folder / "long").unlink()
+
+
+def names(calls):
+    """Names with spaces, line ends and dashes; `-` is a name like another."""
+    given = {"two words": PLAIN, "-c": PLAIN, "-t": TRAFFIC, "--ranks": RANKS, "-": PLAIN, "a\nb": TRAFFIC, "ä": PLAIN, "=": RANKS}
+    calls.put(**given)
+    for words in (["two words", "traffic"], ["--", "-c", "-t"], ["./-c", "./-t"], ["-", "traffic"], ["--", "-", "-t"], ["ä", "a\nb"],
+                  ["plain", "traffic", "--ranks", "./--ranks"], ["--ranks=./--ranks", "--", "-c", "-t"], ["--ranks", "=", "-", "a\nb"],
+                  ["--ranks==", "plain", "traffic"]):
+        calls.answers("a name", ["run", *words], REPORT)
+    calls.answers("a name of standard input", ["run", "/dev/stdin", "traffic"], REPORT, given=PLAIN)
+    calls.answers("a name of 5000 letters", ["run", "a" * 5000, "traffic"], b"fault config 1 ReadFailed\n")
+
+
+def wrong_words(calls):
+    """Words that make no sense, or ask for help: a text on standard error, whatever the files hold."""
+    for words in NO_WORDS_OF_NOC:
+        ran = calls.run(words)
+        is_right = ran.returncode == 2 and not ran.stdout and ran.stderr.endswith(b"\n")
+        calls.count(f"wrong words {words}", is_right, ran)
+
+
+def outputs_that_fail(calls):
+    """Standard output closed, a full device, and a pipe that nobody reads: no byte of a report is taken."""
+    nothing = b"fault write 1 WriteFailed written 0\n"
+    stuck = PLAIN.replace(b"mesh", b"torus").replace(b"[2]", b"[4]")
+    calls.put(stuck=stuck, ring=TRAFFIC_HEADER + b"0,2,0,64,0\n1,3,0,64,0\n2,0,0,64,0\n3,1,0,64,0\n", far=stuck.replace(b" 8", b" 60"))
+    wanted = [(words, answer if answer.startswith(b"fault") else nothing) for words, _, answer in COMMANDS.values()]
+    wanted += [([], nothing), (["ranks", "plain"], nothing), (["run", "far", "ring"], nothing), (["run", "missing", "traffic"],
+               b"fault config 1 ReadFailed\n")]
+    for words, fault in wanted:
+        given = PLAIN + b"---\n" + TRAFFIC
+        calls.answers("output closed", words, fault, given=given, preexec_fn=lambda: os.close(1))
+        with open("/dev/full", "wb") as full:
+            calls.answers("a full device", words, fault, given=given, stdout=full)
+        for_reading, for_writing = os.pipe()
+        os.close(for_reading)
+        calls.answers("a pipe without a reader", words, fault, given=given, stdout=for_writing)
+        os.close(for_writing)
+    ran = calls.run(["run", "far", "ring", "--report", "summary"])
+    calls.count("the ring is stuck", ran.returncode == 5 and b"delivered 0\n" in ran.stdout and not ran.stderr, ran)
+    for words, status in ((["run", "missing", "traffic"], 3), (["ranks", "far"], 4), (["walk"], 2)):
+        ran = calls.run(words, preexec_fn=lambda: os.close(2))
+        calls.count(f"errors closed {words}", (ran.returncode, ran.stdout, ran.stderr) == (status, b"", b""), ran)
+
+
+def late_packets(count):
+    """Packets that are due after the run of one cycle, and its report."""
+    rows = [b"%d,%d,0,%d,9" % (number % 2, 1 - number % 2, 1 + number % 64) for number in range(count)]
+    report = b"".join(b"%d,%s,-,-\n" % numbered for numbered in enumerate(rows))
+    return TRAFFIC_HEADER + b"\n".join(rows) + b"\n", REPORT_HEADER + report
+
+
+def pipe_that_closes_early(calls):
+    """The reader takes one byte of a full pipe and goes: the report's first bytes are out, as many as the pipe holds."""
+    traffic, report = late_packets(1000)
+    calls.put(late=traffic, short=PLAIN.replace(b" 8", b" 1"))
+    calls.answers("late packets", ["run", "short", "late"], report)
+    for_reading, for_writing = os.pipe()
+    size = fcntl.fcntl(for_writing, fcntl.F_SETPIPE_SZ, PIPE_SIZE)
+    ran = subprocess.Popen([calls.program, "run", "short", "late"], cwd=calls.folder, stdout=for_writing, stderr=subprocess.PIPE)
+    os.close(for_writing)
+    held, until = array.array("i", [0]), time.monotonic() + SECONDS
+    while held[0] < size and ran.poll() is None and time.monotonic() < until:
+        time.sleep(0.001)
+        fcntl.ioctl(for_reading, termios.FIONREAD, held)
+    taken = os.read(for_reading, 1) if held[0] else b""
+    os.close(for_reading)
+    error = ran.communicate(timeout=SECONDS)[1]
+    ended = subprocess.CompletedProcess(ran.args, ran.returncode, taken, error)
+    wanted = f"fault write 1 WriteFailed written {size}\n".encode()
+    calls.count("a pipe that closes early", (ran.returncode, taken, error) == (7, report[:1], wanted), ended)
+
+
+def order_of_faults(calls):
+    """Where several files are bad at once, the first in the page's order is told."""
+    calls.put(bad=b"\xff", selfish=TRAFFIC_HEADER + b"1,1,0,1,0\n", wide=CONFIG.replace(b"[2]", b"[17]"),
+              odd=CONFIG.replace(b"classes = 1", b"classes = 2"))
+    for words, kinds, _ in COMMANDS.values():
+        for number, kind in enumerate(kinds):
+            missing = ["missing" if word in kinds[number:] else word for word in words]
+            calls.answers("all missing from here on", missing, f"fault {kind} 1 ReadFailed\n".encode())
+    files = ["--table", "missing", "--ranks", "missing"]
+    calls.answers("the key before the table", ["run", "bad", "missing", *files], b"fault config 4 BadToml\n")
+    calls.answers("the spare table before all", ["run", "plain", "missing", *files], b"fault option 5 SpareTable\n")
+    calls.answers("the shape before the table", ["run", "wide", "missing", *files], b"fault shape 2 BadRadix\n")
+    calls.answers("workers before the table", ["run", "config", "missing", *files, "--workers", "3"], b"fault option 3 BadWorkers\n")
+    calls.answers("the header before the relation", ["run", "odd", "missing", "--table", "ranks"], b"fault table 9 BadHeader\n")
+    calls.answers("the relation before the ranks", ["run", "odd", "missing", "--table", "table", "--ranks", "missing"],
+                  b"fault relation 1 WrongShape\n")
+    calls.answers("the ranks before the traffic", ["run", "plain", "bad", "--ranks", "traffic"], b"fault ranks 9 BadHeader\n")
+    calls.answers("the traffic's packets last", ["run", "plain", "selfish", "--ranks", "ranks"], b"fault network 1 SelfPacket row 0\n")
+    joined = {b"": b"joined 13 NoSplit", b"\xff": b"joined 13 NoSplit", b"\xff\n---\n\xff": b"config 4 BadToml",
+              CONFIG + b"---\n\xff": b"option 4 NoTable", PLAIN + b"---\n\xff": b"traffic 9 BadHeader"}
+    for text, fault in joined.items():
+        calls.answers(f"joined {text[-9:]}", [], b"fault " + fault + b"\n", given=text)
+
+
+def bytes_that_are_no_text(calls):
+    """A byte that is no UTF-8 is no TOML, no header, no number and no port."""
+    for at, fault in ((0, "config 4 BadToml"), (CONFIG.index(b"mesh"), "config 4 BadToml"), (len(CONFIG), "config 4 BadToml")):
+        calls.put(other=CONFIG[:at] + b"\xff" + CONFIG[at + 1:])
+        calls.answers("a byte of the configuration", ["ranks", "other", "--table", "table"], f"fault {fault}\n".encode())
+    calls.put(other=PLAIN + b"# \xc3\x28\n")
+    calls.answers("a byte of a comment", ["ranks", "other"], b"fault config 4 BadToml\n")
+    places = {"table": [(0, "9 BadHeader"), (3, "11 BadNumber row 2 column 3"), (2, "12 BadPort row 2 column 2")],
+              "ranks": [(0, "9 BadHeader"), (3, "11 BadNumber row 1 column 3"), (1, "12 BadPort row 1 column 1")],
+              "traffic": [(0, "9 BadHeader"), (4, "11 BadNumber row 0 column 4")]}
+    for kind, changes in places.items():
+        for column, fault in changes:
+            lines = FILES[kind].split(b"\n")
+            row = int(fault.split()[3]) + 1 if "row" in fault else 0
+            fields = lines[row].split(b",")
+            fields[column] = b"\xff" + fields[column][1:]
+            lines[row] = b",".join(fields)
+            calls.put(other=b"\n".join(lines))
+            words = ["other" if word == kind else word for word in COMMANDS["run"][0]]
+            calls.answers(f"a byte of {kind}", words, f"fault {kind} {fault}\n".encode())
+
+
+def rising_ranks(side):
+    """Ranks of a square mesh by dimension order: along the first dimension, then along the second."""
+    lines = ["router,port,vc,rank"]
+    for router in range(side * side):
+        for dimension, place in enumerate((router % side, router // side)):
+            base = side * dimension
+            lines += [f"{router},+{dimension},0,{base + place + 1}"] if place < side - 1 else []
+            lines += [f"{router},-{dimension},0,{base + side - place}"] if place else []
+    return "\n".join(lines).encode() + b"\n"
+
+
+def bounded_memory(calls):
+    """Under each bound on its memory the program answers, or says that memory or a thread was refused.
+
+    Below 4 MB the loader itself may not find the room for the C library, and says so before the program begins.
+    """
+    traffic, report = late_packets(20000)
+    square = PLAIN.replace(b"[2]", b"[8, 8]")
+    calls.put(late=traffic, short=PLAIN.replace(b" 8", b" 1"), square=square, rising=rising_ranks(8))
+    wanted = [([], REPORT), (COMMANDS["run"][0], REPORT), (["run", "short", "late"], report),
+              (["run", "plain", "traffic", "--workers", "2"], REPORT), (["check", "square", "--ranks", "rising"], b"accepted\n")]
+    for megabytes in (3, 3.1, 3.3, 3.6, 4, 5, 6, 8, 11, 16, 24, 40, 100, AMPLE):
+        bound = (int(megabytes * 2**20), int(megabytes * 2**20))
+        for words, answer in wanted:
+            ran = calls.run(words, given=PLAIN + b"---\n" + TRAFFIC,
+                            preexec_fn=lambda: resource.setrlimit(resource.RLIMIT_AS, bound))
+            is_refused = (ran.returncode, ran.stdout) == (6, b"") and status_of(ran.stderr) == 6 and megabytes < AMPLE
+            is_answer = (ran.returncode, ran.stdout, ran.stderr) == (0, answer, b"")
+            is_loader = (ran.returncode, ran.stdout) == (127, b"") and b"while loading shared libraries" in ran.stderr and megabytes < 4
+            calls.count(f"{megabytes} MB {words}", is_refused or is_answer or is_loader, ran)
+
+
+GROUPS = [inputs_that_cannot_be_read, inputs_at_the_limit, names, wrong_words, outputs_that_fail, pipe_that_closes_early, order_of_faults,
+          bytes_that_are_no_text, bounded_memory, cut_texts]
+
+
+def main():
+    if len(sys.argv) != 2:
+        print(__doc__)
+        return 2
+    os.umask(0o022)
+    with tempfile.TemporaryDirectory() as name:
+        calls = Calls(Path(sys.argv[1]).resolve(), Path(name))
+        for group in GROUPS:
+            group(calls)
+    print(f"{calls.passed} passed, {calls.failed} failed")
+    return 0 if calls.passed and not calls.failed else 1
+
+
+if __name__ == "__main__":
+    sys.exit(main())
