@@ -1,3 +1,5 @@
+//! Configurations: texts with every key, and the first fault of texts that are refused.
+
 use noc_files::{Config, InputFault, Key, RuleName, read_config};
 use noc_topo::Kind;
 use std::alloc::Global;

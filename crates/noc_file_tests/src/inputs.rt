@@ -1,3 +1,5 @@
+//! Bytes that are read to their end or up to a limit, readers that fail, and joined texts that are split.
+
 use noc_files::{InputFault, read_all, split_joined};
 use std::io;
 use std::io::{ErrorKind, Read};

@@ -1,3 +1,5 @@
+//! Reports of worked networks, byte by byte.
+
 ghost use Rattle.std.specs.Prelude.{◌<◌, ◌≤◌, IfOk, ◌≡◌};
 ghost use Rattle.noc_topo.specs.Shape.{nodes};
 

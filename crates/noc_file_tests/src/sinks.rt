@@ -1,3 +1,5 @@
+//! Devices that take some bytes and then no more.
+
 use noc_files::{Out, Sink, WriteFault, write_pieces};
 use std::io;
 use std::io::Write;

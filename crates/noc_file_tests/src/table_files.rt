@@ -1,3 +1,5 @@
+//! Routing tables: rows that are read, the first fault of tables that are refused, and the names of ports.
+
 use noc_files::{InputFault, port_name, read_table};
 use noc_route::RouteRow;
 use noc_topo::{Kind, Shape};

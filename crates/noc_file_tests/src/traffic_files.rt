@@ -1,3 +1,5 @@
+//! Traffic files: packets that are read, and the first fault of files that are refused.
+
 use noc_files::{InputFault, read_traffic};
 use noc_packet::Packet;
 use std::alloc::Global;
