@@ -118,12 +118,23 @@ def read_network(path):
 # ---- routing rules
 
 
-def dimension_order_port(network, router, destination):
+def nearer_ports(network, router, destination):
+    """In each dimension in which the nodes differ the port of the shorter way, the one up where both are equally long."""
     for dimension, (k, x, t) in enumerate(zip(network.radix, network.coordinates(router), network.coordinates(destination))):
         if x != t:
             goes_up = (t - x) % k <= (x - t) % k if network.kind == "torus" else x < t
-            return f"{'+' if goes_up else '-'}{dimension}"
-    return None
+            yield f"{'+' if goes_up else '-'}{dimension}"
+
+
+def dimension_order_port(network, router, destination):
+    return next(nearer_ports(network, router, destination), None)
+
+
+def crosses_the_ends(network, router, destination, port):
+    """Whether the way along a port still crosses the ends of its dimension."""
+    dimension = int(port[1:])
+    x, t = network.coordinates(router)[dimension], network.coordinates(destination)[dimension]
+    return t < x if port[0] == "+" else x < t
 
 
 def dor(network, message_class, router, destination):
@@ -134,12 +145,9 @@ def dor(network, message_class, router, destination):
 def dateline(network, message_class, router, destination):
     """As dimension order, by the low half of the class's channels while the way still crosses the ends of the dimension."""
     port = dimension_order_port(network, router, destination)
-    dimension = int(port[1:])
-    x, t = network.coordinates(router)[dimension], network.coordinates(destination)[dimension]
-    crosses = t < x if port[0] == "+" else x < t
     block = network.block(message_class)
     half = len(block) // 2
-    return [(port, number) for number in (block[:half] if crosses else block[half:])]
+    return [(port, number) for number in (block[:half] if crosses_the_ends(network, router, destination, port) else block[half:])]
 
 
 def west_first(network, message_class, router, destination):
@@ -148,7 +156,17 @@ def west_first(network, message_class, router, destination):
     return [(port, number) for port in ports for number in network.block(message_class)]
 
 
-RULES = {"dor": dor, "dateline": dateline, "west-first": west_first}
+def adaptive(network, message_class, router, destination):
+    """By an escape channel as by dimension order, on a torus by one of two as by a dateline, and by the others along every port
+    that comes nearer."""
+    ports = list(nearer_ports(network, router, destination))
+    torus = network.kind == "torus"
+    block = network.block(message_class)
+    escape = block[1] if torus and not crosses_the_ends(network, router, destination, ports[0]) else block[0]
+    return [(ports[0], escape)] + [(port, number) for port in ports for number in block[2 if torus else 1:]]
+
+
+RULES = {"dor": dor, "dateline": dateline, "west-first": west_first, "adaptive": adaptive}
 
 
 class Run:

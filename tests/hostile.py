@@ -27,7 +27,7 @@ TWO_RANKS = b"router,port,vc,rank\n0,+0,0,1\n1,-0,0,1\n"
 TWO = b'kind = "mesh"\nradix = [2]\nchannels = 1\nbuffer = 2\nclasses = 1\nrule = "table"\ncycles = 8\n'
 NUMBERS = [0, 1, 2, 3, 4, 5, 16, 17, 64, 65, 256, 1000, 1001, 2000, 4294967295, 4294967296, 2**63, 2**64, -1]
 PIECES = [b",", b'"', b"\n", b"\r\n", b"\r", b"#", b"=", b"[", b"]", b"{a=1}", b"---\n", b"'''", b"\\u00", b" ", b"\0", b"\xff",
-          b"\xef\xbb\xbf", b"+0", b"-0", b"+1", b"-2", b"local", b"mesh", b"torus", b"dor", b"dateline", b"west-first", b"table",
+          b"\xef\xbb\xbf", b"+0", b"-0", b"+1", b"-2", b"local", b"mesh", b"torus", b"dor", b"dateline", b"west-first", b"adaptive", b"table",
           b"1e9", b"0x10", b"1979-05-27"]
 
 
@@ -43,6 +43,8 @@ def sets():
     traffic = TRAFFIC + b"0,1,0,1,0\n1,0,0,64,3\n"
     yield {"config": TWO, "traffic": traffic, "table": table, "ranks": TWO_RANKS}
     yield {"config": TWO.replace(b"table", b"dor"), "traffic": traffic, "ranks": TWO_RANKS}
+    adaptive = TWO.replace(b"table", b"adaptive").replace(b"channels = 1", b"channels = 2")
+    yield {"config": adaptive, "traffic": traffic, "ranks": TWO_RANKS + b"0,+0,1,adaptive\n1,-0,1,adaptive\n"}
 
 
 SETS = list(sets())

@@ -21,6 +21,7 @@ from pathlib import Path
 
 from cut_texts import cut_texts
 from fault_lines import status_of
+from refused_growth import refused_growths
 
 LIMIT = 67_108_864
 NOBODY = 65534
@@ -301,7 +302,7 @@ def bounded_memory(calls):
 
 
 GROUPS = [inputs_that_cannot_be_read, inputs_at_the_limit, names, wrong_words, outputs_that_fail, pipe_that_closes_early, order_of_faults,
-          bytes_that_are_no_text, bounded_memory, cut_texts]
+          bytes_that_are_no_text, bounded_memory, refused_growths, cut_texts]
 
 
 def main():

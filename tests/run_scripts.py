@@ -101,11 +101,16 @@ def made_networks(count):
         return int(random.random() * bound)
 
     for number in range(count):
-        rule = ["dor", "dateline", "west-first"][number % 3]
-        kind = {"dor": ["mesh", "torus"][below(2)], "dateline": "torus", "west-first": "mesh"}[rule]
+        rule = ["dor", "dateline", "west-first", "adaptive"][number % 4]
+        either = ["mesh", "torus"][below(2)]
+        kind = {"dor": either, "dateline": "torus", "west-first": "mesh", "adaptive": either}[rule]
         radix = [2 + below(3), 2 + below(3)]
         classes, nodes = 1 + below(2), radix[0] * radix[1]
-        channels = classes * (2 if rule == "dateline" else 1 + below(2))
+        if rule == "adaptive":
+            channels = 3 + below(2) if kind == "torus" else classes * 2
+            classes = 1 if kind == "torus" else classes
+        else:
+            channels = classes * (2 if rule == "dateline" else 1 + below(2))
         rows = [(below(nodes), below(nodes), below(classes), 1 + below(9), below(12)) for _ in range(3 * nodes)]
         lines = [",".join(map(str, row)) + "\n" for row in rows if row[0] != row[1]]
         yield config(kind, radix, channels, 1 + below(3), classes, rule, 40), HEADER + "".join(lines)
@@ -299,6 +304,13 @@ def curves_lie_at_their_loads(folder):
     return right and up and fills[0] == fills[1] != fills[2] == "#ffffff" and "mesh" in names
 
 
+def limits_are_those_of_the_definition(folder):
+    """One flit over one hop takes nine events, and is out in cycle 5; 64 flits over seven, due at 3, take 1488."""
+    folder.put(c=LINE.replace("[3]", "[8]"), one=HEADER + "0,1,0,1,0\n", long=HEADER + "0,7,0,64,3\n", none=HEADER)
+    said = [folder.run("limit", "c", traffic).stdout for traffic in ("one", "long", "none")]
+    return said == ["limit 9, all out after 6 cycles\n", "limit 1491, all out after 90 cycles\n", "limit 0, all out after 0 cycles\n"]
+
+
 CHECKS = [
     why_tells_of_a_channel_that_drains,
     why_tells_of_the_queue,
@@ -315,6 +327,7 @@ CHECKS = [
     a_seed_gives_the_same_bytes,
     a_configuration_is_read_as_the_program_does,
     curves_lie_at_their_loads,
+    limits_are_those_of_the_definition,
 ]
 
 

@@ -11,7 +11,7 @@ use Rattle.noc.specs.declared.request.Command.TheVariants as command
 
 pub not_joined : (x : Command) → (x ≡ command.Joined → ⊥) → is_joined x ≡ false
 not_joined command.Joined other = absurd (other refl)
-not_joined (command.Run workers report) other = refl
+not_joined (command.Run workers report drain) other = refl
 not_joined (command.Explain cycle router) other = refl
 not_joined command.Check other = refl
 not_joined command.Ranks other = refl
@@ -21,6 +21,7 @@ pub only_table : (name : RuleName) → rule_named name ≡ None → name ≡ wor
 only_table word.Dor h = cc
 only_table word.Dateline h = cc
 only_table word.WestFirst h = cc
+only_table word.Adaptive h = cc
 only_table word.Table h = refl
 
 -- a text is there whether it is lent or not

@@ -1,9 +1,11 @@
+pub mod DrainFacts
 pub mod MemoryFacts
 pub mod OutcomeFacts
 pub mod AskedFacts
 pub mod RankedFacts
 pub mod RequestFacts
 pub mod OneRankingFacts
+pub mod OneCheckFacts
 pub mod OneSettingsFacts
 pub mod OneAnswerFacts
 pub mod OneFaultFacts

@@ -12,14 +12,16 @@ use Rattle.noc_files.specs.Joined.{SplitsAt, line_at}
 use Rattle.noc_files.specs.Ranks.{ranks_text}
 use Rattle.noc.specs.Answer.{Asks, AsksFor, a_report, findings, accepted, ranks}
 use Rattle.noc.specs.Asked.{Asked, ReadsAs, as_files, as_joined, parts}
+use Rattle.noc.specs.Drain.{RunsTo}
 use Rattle.noc.specs.Formula.{HasRanks}
 use Rattle.noc.specs.Reports.{report_text}
-use Rattle.noc.specs.Run.{AsksForRun, IsNetworkOf, cycles_of, ending, report_of}
+use Rattle.noc.specs.Run.{AsksForRun, IsNetworkOf, cycles_of, ending, is_draining, report_of}
 use Rattle.noc.specs.declared.request.Command.{Command}
 use Rattle.noc.specs.declared.request.Command.TheVariants as command
 use Rattle.noc.specs.declared.request.Report.{Report}
 use Rattle.noc.specs.declared.request.Request.{Request}
 use Rattle.noc.specs.declared.status.Status.{Status}
+use Rattle.noc.proofs.DrainFacts.{ends-once}
 use Rattle.noc.proofs.OneRankingFacts.{one-generated}
 use Rattle.noc.proofs.OneSettingsFacts.{one_relation_asked}
 
@@ -28,14 +30,14 @@ use Rattle.noc.proofs.OneSettingsFacts.{one_relation_asked}
 -- what a command asks for, by number: a report, an explanation, a check, ranks
 abbrev pub kind : Command → ℕ
 kind command.Joined = 0
-kind (command.Run workers report) = 0
+kind (command.Run workers report drain) = 0
 kind (command.Explain cycle router) = 1
 kind command.Check = 2
 kind command.Ranks = 3
 
 pub reports : (x : Command) (report : Report) → report_of x ≡ Some report → kind x ≡ 0
 reports command.Joined report h = refl
-reports (command.Run workers other) report h = refl
+reports (command.Run workers other drain) report h = refl
 reports (command.Explain cycle router) report h = cc
 reports command.Check report h = cc
 reports command.Ranks report h = cc
@@ -64,7 +66,9 @@ module _ (a : Asked) where
   one_run u v x y =
       let same = one_relation_asked a x.settings y.settings x.routes y.routes x.before.relation y.before.relation in
       let net = same_net x.routes y.routes x.settings y.settings u.net v.net same.1 same.0 x.network y.network in
-      let count : u.count ≡ v.count = x.cycles ∙ ap (cycles_of a.command) same.0 ∙ sym y.cycles in
+      let P : Setup → Settings → Type 0 = λ z s. RunsTo (is_draining a.command) z (cycles_of a.command s) v.count in
+      let other : P u.net x.settings = subst (λ s. P u.net s) (sym same.0) (subst (λ z. P z y.settings) (sym net) y.cycles) in
+      let count : u.count ≡ v.count = ends-once u.net (is_draining a.command) (cycles_of a.command x.settings) u.count v.count x.cycles other in
       λ i. record { net = net i; count = count i }
 
   one_formula : (s t : Settings) (g h : Grid) (k j : Ranking) → s ≡ t → g ≡ h → HasRanks s g k → HasRanks t h j → k ≡ j

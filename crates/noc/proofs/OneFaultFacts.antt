@@ -11,7 +11,7 @@ use Rattle.noc_net.specs.Faults.{fault_of}
 use Rattle.noc_net.specs.Network.{Run, Setup}
 use Rattle.noc_rank.specs.Formulas.{IsFaultOfFormula}
 use Rattle.noc_route.specs.Ranks.{Ranking}
-use Rattle.noc_rank.specs.Rising.{IsFaultOfCheck}
+use Rattle.noc_rank.specs.Faults.{IsFaultOfCheck}
 use Rattle.noc_rank.specs.Rows.{IsFaultOfRows, IsRankingOf}
 use Rattle.noc_rank.specs.declared.fault.RankFault.{RankFault}
 use Rattle.noc_rank.specs.declared.fault.RankFault.TheVariants as rank
@@ -38,7 +38,8 @@ use Rattle.noc.specs.declared.request.Request.{Request}
 use Rattle.noc.specs.declared.status.Status.{Status}
 use Rattle.noc.proofs.MemoryFacts.{network_not_memory, ranks_not_memory, traffic_not_memory}
 use Rattle.noc.proofs.OneAnswerFacts.{kind, reports, explains, checks, ranked, one_reading}
-use Rattle.noc.proofs.OneRankingFacts.{one-ranking, formula-fault, no-formula-fault, no-rows-fault, one-rows-fault, no-check-fault, one-check-fault}
+use Rattle.noc.proofs.OneCheckFacts.{no-check-fault, one-check-fault}
+use Rattle.noc.proofs.OneRankingFacts.{one-ranking, formula-fault, no-formula-fault, no-rows-fault, one-rows-fault}
 use Rattle.noc.proofs.OneSettingsFacts.{one_relation_asked, no_settings_fault, one_settings_fault}
 
 not_memory : (f : RankFault) (g : Grid) → is_memory (fault.Rank f g) ≡ false → f ≢ rank.Memory
@@ -46,21 +47,21 @@ not_memory f g p e = false≢true (sym p ∙ ap (λ x. is_memory (fault.Rank x g
 
 unchecked-ranks : (x : Command) (given : Option Said) → kind x ≡ 3 → checked_by x given ≡ None
 unchecked-ranks command.Joined given e = absurd (omega (arith, e))
-unchecked-ranks (command.Run workers report) given e = absurd (omega (arith, e))
+unchecked-ranks (command.Run workers report drain) given e = absurd (omega (arith, e))
 unchecked-ranks (command.Explain cycle router) given e = absurd (omega (arith, e))
 unchecked-ranks command.Check given e = absurd (omega (arith, e))
 unchecked-ranks command.Ranks given e = refl
 
 still-check : (x : Command) → kind x ≡ 2 → runs x ≡ false
 still-check command.Joined e = absurd (omega (arith, e))
-still-check (command.Run workers report) e = absurd (omega (arith, e))
+still-check (command.Run workers report drain) e = absurd (omega (arith, e))
 still-check (command.Explain cycle router) e = absurd (omega (arith, e))
 still-check command.Check e = refl
 still-check command.Ranks e = absurd (omega (arith, e))
 
 still-ranks : (x : Command) → kind x ≡ 3 → runs x ≡ false
 still-ranks command.Joined e = absurd (omega (arith, e))
-still-ranks (command.Run workers report) e = absurd (omega (arith, e))
+still-ranks (command.Run workers report drain) e = absurd (omega (arith, e))
 still-ranks (command.Explain cycle router) e = absurd (omega (arith, e))
 still-ranks command.Check e = absurd (omega (arith, e))
 still-ranks command.Ranks e = refl

@@ -1,7 +1,8 @@
 -- What is answered to a request: the text that is asked for and how it ended, or the first fault.
 use Rattle.std.specs.Prelude.{◌≡◌, ◌⊎◌, ℕ, ◌<◌, Bool, true, false, List, length, codes, is_some, Some, Ok, Err}
 use Rattle.noc_route.specs.Routes.{Routes}
-use Rattle.noc_net.specs.Network.{Run}
+use Rattle.noc_net.specs.Limit.{are_all_out}
+use Rattle.noc_net.specs.Network.{Run, state_at}
 use Rattle.noc_route.specs.Ranks.{Ranking}
 use Rattle.noc_rank.specs.declared.fault.RankFault.{RankFault}
 use Rattle.noc_files.specs.Configuration.{Settings}
@@ -61,7 +62,17 @@ Asks r text status = (a : Asked) × ReadsAs r a × AsksFor a text status
 
 -- a request for a run that comes with ranks
 abbrev pub IsRankedRun : Request → Type 0
-IsRankedRun r = (workers : ℕ) × (report : Report) × (r.command ≡ command.Run workers report) × (is_some r.ranks ≡ true)
+IsRankedRun r = (workers : ℕ) × (report : Report) × (drain : Bool) × (r.command ≡ command.Run workers report drain) × (is_some r.ranks ≡ true)
+
+-- .. and is to drain
+abbrev pub IsRankedDrain : Request → Type 0
+IsRankedDrain r = (workers : ℕ) × (report : Report) × (r.command ≡ command.Run workers report true) × (is_some r.ranks ≡ true)
+
+-- the text that a request asks for is the report of a run in which every packet has arrived
+abbrev pub AsksForArrivals : Request → List ℕ → Type 0
+AsksForArrivals r text =
+    (a : Asked) × (report : Report) × (run : Run) × ReadsAs r a × (report_of a.command ≡ Some report) × AsksForRun a run × (text ≡ report_text report run)
+    × (are_all_out run.net (state_at run.net run.count) ≡ true)
 
 -- the fault that is told: the first one, or want of memory for what is to be written, told as that of the configuration
 abbrev pub ToldFault : Request → Fault → Type 0

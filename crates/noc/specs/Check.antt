@@ -3,7 +3,7 @@ use Rattle.std.specs.Prelude.{◌≡◌, List, [], Option, Some, None, Ok, unwra
 use Rattle.std.specs.Option.{IfSome}
 use Rattle.noc_route.specs.Routes.{Routes}
 use Rattle.noc_route.specs.Ranks.{Ranking, IsRankedBy}
-use Rattle.noc_rank.specs.Rising.{IsFaultOfCheck}
+use Rattle.noc_rank.specs.Faults.{IsFaultOfCheck}
 use Rattle.noc_rank.specs.Rows.{IsRankingOf, IsFaultOfRows}
 use Rattle.noc_rank.specs.declared.fault.RankFault.{RankFault}
 use Rattle.noc_rank.specs.declared.rows.RankRow.{RankRow}
@@ -38,7 +38,7 @@ pub data RanksFault (routes : Routes) (text : Said) : Fault → Type 0 where
 -- the ranks that a command checks: those of a run if there are any, and those of `check`, where none are an empty text
 abbrev pub checked_by : Command → Option Said → Option Said
 checked_by Joined ranks = ranks
-checked_by (Run workers report) ranks = ranks
+checked_by (Run workers report drain) ranks = ranks
 checked_by Check ranks = Some (unwrap_or ranks (Ok []))
 checked_by _ ranks = None
 

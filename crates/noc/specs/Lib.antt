@@ -5,6 +5,7 @@ pub mod Outcome
 pub mod Options
 pub mod Settings
 pub mod Check
+pub mod Drain
 pub mod Formula
 pub mod Run
 pub mod Reports

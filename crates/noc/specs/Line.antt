@@ -9,9 +9,10 @@ use Rattle.noc_files.specs.declared.fault.InputFault.{InputFault}
 use Rattle.noc_files.specs.declared.fault.InputFault.TheVariants as input
 use Rattle.noc_net.specs.declared.fault.NetFault.{NetFault}
 use Rattle.noc_net.specs.declared.fault.NetFault.TheVariants as net
-use Rattle.noc_rank.specs.Rising.{step_of}
+use Rattle.noc_rank.specs.Faults.{step_of}
 use Rattle.noc_rank.specs.declared.fault.RankFault.{RankFault}
 use Rattle.noc_rank.specs.declared.fault.RankFault.TheVariants as rank
+use Rattle.noc_rank.specs.declared.place.LinkChannel.{LinkChannel}
 use Rattle.noc_route.specs.declared.rule.Entry.{Entry}
 use Rattle.noc_route.specs.declared.rule.RouteFault.{RouteFault}
 use Rattle.noc_route.specs.declared.rule.RouteFault.TheVariants as route
@@ -85,7 +86,9 @@ route_title route.Memory = codes "7 Memory"
 abbrev pub rank_title : RankFault → List ℕ
 rank_title rank.NoGenerated = codes "1 NoGenerated"
 rank_title (rank.NotRising entry port vc before after) = codes "2 NotRising"
+rank_title (rank.NotRisingTo e o before after) = codes "2 NotRising"
 rank_title rank.Memory = codes "3 Memory"
+rank_title (rank.NoEscape entry) = codes "4 NoEscape"
 rank_title (rank.UnknownChannel row) = codes "5 UnknownChannel"
 rank_title (rank.DoubleChannel row) = codes "6 DoubleChannel"
 rank_title (rank.MissingChannel router port vc) = codes "7 MissingChannel"
@@ -158,15 +161,25 @@ route_details g (route.LateHop row) = hop_details g row
 route_details g (route.NoWay entry) = entry_details g entry
 route_details g _ = []
 
+abbrev pub both_ranks : ℕ → ℕ → List (List ℕ)
+both_ranks before after = codes " ranks " ∷ decimal before ∷ codes " " ∷ decimal after ∷ []
+
 -- a step, and the ranks before and after it
 abbrev pub fall_details : Grid → RouteRow → ℕ → ℕ → List (List ℕ)
-fall_details g step before after = hop_details g step ++ (codes " ranks " ∷ decimal before ∷ codes " " ∷ decimal after ∷ [])
+fall_details g step before after = hop_details g step ++ both_ranks before after
 
 abbrev pub channel_details : Grid → ℕ → ℕ → ℕ → List (List ℕ)
 channel_details g router port vc = codes " router " ∷ decimal router ∷ codes " port " ∷ port_word g port ∷ codes " vc " ∷ decimal vc ∷ []
 
+-- two link channels and their ranks
+abbrev pub descent_details : Grid → LinkChannel → LinkChannel → ℕ → ℕ → List (List ℕ)
+descent_details g e o before after =
+    channel_details g e.router e.port e.vc ++ (codes " to router " ∷ decimal o.router ∷ codes " port " ∷ port_word g o.port ∷ codes " vc " ∷ decimal o.vc ∷ both_ranks before after)
+
 abbrev pub rank_details : Grid → RankFault → List (List ℕ)
 rank_details g (rank.NotRising entry port vc before after) = fall_details g (step_of entry port vc) before after
+rank_details g (rank.NotRisingTo e o before after) = descent_details g e o before after
+rank_details g (rank.NoEscape entry) = entry_details g entry
 rank_details g (rank.UnknownChannel row) = row_details row
 rank_details g (rank.DoubleChannel row) = row_details row
 rank_details g (rank.MissingChannel router port vc) = channel_details g router port vc

@@ -32,6 +32,6 @@ early_fault command has_table s = or_else (table_fault s.rule has_table) (cycle_
 
 -- and after it: more workers than routers, or a router to be explained that does not exist
 abbrev pub late_fault : Command → Grid → Option OptionFault
-late_fault (Run workers report) g = if nat_lt (nodes g) workers then Some BadWorkers else None
+late_fault (Run workers report drain) g = if nat_lt (nodes g) workers then Some BadWorkers else None
 late_fault (Explain cycle router) g = if nat_le (nodes g) router then Some BadRouter else None
 late_fault _ g = None

@@ -26,6 +26,7 @@ abbrev pub rule_named : RuleName → Option Rule
 rule_named word.Dor = Some rule.Dor
 rule_named word.Dateline = Some rule.Dateline
 rule_named word.WestFirst = Some rule.WestFirst
+rule_named word.Adaptive = Some rule.Adaptive
 rule_named word.Table = None
 
 -- the settings of a configuration, whose options are sound as far as they need no shape

@@ -1,8 +1,8 @@
 //! What is answered to a request.
 
-ghost use Rattle.std.specs.Prelude.{◌≡◌, IfErr, IfOk};
+ghost use Rattle.std.specs.Prelude.{◌≡◌, ℕ, IfErr, IfOk, List, Ok};
 ghost use Rattle.noc_files.specs.Writing.{Wrote};
-ghost use Rattle.noc.specs.Answer.{Asks, AsksFor, FirstFault, IsRankedRun, TextsFault};
+ghost use Rattle.noc.specs.Answer.{Asks, AsksFor, AsksForArrivals, FirstFault, IsRankedDrain, IsRankedRun, TextsFault};
 ghost use Rattle.noc.specs.Asked.{ReadsAs, asked_of};
 ghost use Rattle.noc.specs.Outcome.{Ends, Refuses};
 ghost use Rattle.noc.specs.Run.{HasWorkers, workers_of};
@@ -24,7 +24,7 @@ use std::thread::Threads;
 /// write fault counts. The order is: joined text, configuration, options, shape, table, relation, ranks, check, traffic,
 /// network, run, report. `explain` and `ranks` look at no rank file, `check` and `ranks` at no traffic.
 ///
-/// A `run` with a rank file that ends without a fault is done, and never stuck.
+/// A `run` with a rank file that ends without a fault is done, and never stuck. Where it is to drain, every packet has arrived.
 pub fn answer<R: Threads + Wait + Sync, W: Sink>(
     rt: &R,
     alloc: Global,
@@ -34,10 +34,15 @@ pub fn answer<R: Threads + Wait + Sync, W: Sink>(
     requires { HasWorkers request.now.command }
     ensures ends { Ends (workers_of request.now.command) (Wrote W.contents W.has_failed sink.old sink.new) (sink.new ≡ sink.old) (Asks request.now) (FirstFault request.now) result }
     ensures ranked { IsRankedRun request.now → IfOk result (λ status. status ≡ done) }
+    ensures drained { IsRankedDrain request.now → IfOk result (λ _. (text : List ℕ) × AsksForArrivals request.now text × Wrote W.contents W.has_failed sink.old sink.new text (Ok tt)) }
 {
     match request.command {
-        Command::Run { workers, report } if 1 < workers => {
-            run_by_workers(rt, alloc, &files_of(request), workers, report, sink)
+        Command::Run {
+            workers,
+            report,
+            drain,
+        } if 1 < workers => {
+            run_by_workers(rt, alloc, &files_of(request), workers, report, drain, sink)
         }
         _ => answer_one(rt, alloc, request, sink),
     }
@@ -53,6 +58,7 @@ pub fn answer_one<W: Sink>(
     requires { workers_of request.now.command ≡ 1 }
     ensures ends { Ends (workers_of request.now.command) (Wrote W.contents W.has_failed sink.old sink.new) (sink.new ≡ sink.old) (Asks request.now) (FirstFault request.now) result }
     ensures ranked { IsRankedRun request.now → IfOk result (λ status. status ≡ done) }
+    ensures drained { IsRankedDrain request.now → IfOk result (λ _. (text : List ℕ) × AsksForArrivals request.now text × Wrote W.contents W.has_failed sink.old sink.new text (Ok tt)) }
 {
     let files = read_request(request)?;
     answer_files(rt, alloc, &files, sink)
@@ -86,8 +92,12 @@ fn answer_files<W: Sink>(
     ensures { Ends (workers_of files.now.command) (Wrote W.contents W.has_failed sink.old sink.new) (sink.new ≡ sink.old) (AsksFor (asked_of files.now)) (TextsFault (asked_of files.now)) result }
 {
     match files.command {
-        Command::Joined => run(rt, alloc, files, Report::Latency, sink),
-        Command::Run { workers: _, report } => run(rt, alloc, files, report, sink),
+        Command::Joined => run(rt, alloc, files, Report::Latency, false, sink),
+        Command::Run {
+            workers: _,
+            report,
+            drain,
+        } => run(rt, alloc, files, report, drain, sink),
         Command::Explain { cycle, router } => explain(alloc, files, cycle, router, sink),
         Command::Check => answer_check(rt, alloc, files, sink),
         Command::Ranks => answer_ranks(alloc, files, sink),

@@ -3,14 +3,14 @@
 ghost use Rattle.std.specs.Prelude.{◌≡◌, ◌≤◌, [], ◌∷◌, codes, decimal, length};
 ghost use Rattle.noc_files.specs.Keys.{key_name};
 ghost use Rattle.noc_files.specs.Writing.{Wrote};
-ghost use Rattle.noc_rank.specs.Rising.{step_of};
-ghost use Rattle.noc.specs.Line.{entry_details, field_details, hop_details, input_details, input_title, line_of, line_with, channel_details, fall_details, net_details, net_title, option_title, port_word, rank_details, rank_title, run_title, route_details, route_title, row_details, shape_title};
+ghost use Rattle.noc_rank.specs.Faults.{step_of};
+ghost use Rattle.noc.specs.Line.{entry_details, field_details, hop_details, input_details, input_title, line_of, line_with, channel_details, descent_details, fall_details, net_details, net_title, option_title, port_word, rank_details, rank_title, run_title, route_details, route_title, row_details, shape_title};
 
 use crate::fault::{Fault, OptionFault};
 use itoa::Buffer;
 use noc_files::{InputFault, Key, Sink, WriteFault, port_name, write_pieces};
 use noc_net::NetFault;
-use noc_rank::RankFault;
+use noc_rank::{LinkChannel, RankFault};
 use noc_route::{Entry, RouteFault, RouteRow};
 use noc_tiles::RunFault;
 use noc_topo::{Shape, ShapeFault};
@@ -216,7 +216,7 @@ fn relation_line<W: Sink>(fault: &RouteFault, shape: &Shape, sink: &mut W) -> Re
         RouteFault::NotMinimal(row) => row_line("3 NotMinimal", row, shape, sink),
         RouteFault::EarlyEject(row) => row_line("4 EarlyEject", row, shape, sink),
         RouteFault::LateHop(row) => row_line("5 LateHop", row, shape, sink),
-        RouteFault::NoWay(entry) => entry_line(entry, shape, sink),
+        RouteFault::NoWay(entry) => entry_line("relation", "6 NoWay", entry, shape, sink),
         RouteFault::Memory => plain_line("relation", "7 Memory", sink),
     }
 }
@@ -265,8 +265,16 @@ fn row_line<W: Sink>(
 
 // A fault of an entry of a relation.
 #[tactic(auto, unfolding(crate::specs::Line::line_with))]
-fn entry_line<W: Sink>(entry: &Entry, shape: &Shape, sink: &mut W) -> Result<(), WriteFault>
-    ensures { Wrote W.contents W.has_failed sink.old sink.new (line_with (codes "relation") (codes "6 NoWay") (entry_details shape.now entry.now)) result }
+fn entry_line<W: Sink>(
+    family: &'static str,
+    name: &'static str,
+    entry: &Entry,
+    shape: &Shape,
+    sink: &mut W,
+) -> Result<(), WriteFault>
+    requires family { length family.now ≤ 20 }
+    requires title { length name.now ≤ 20 }
+    ensures { Wrote W.contents W.has_failed sink.old sink.new (line_with family.now name.now (entry_details shape.now entry.now)) result }
 {
     let mut class = Buffer::new();
     let mut router = Buffer::new();
@@ -275,7 +283,11 @@ fn entry_line<W: Sink>(entry: &Entry, shape: &Shape, sink: &mut W) -> Result<(),
     let mut dst = Buffer::new();
     write_pieces(
         &[
-            "fault relation 6 NoWay class ",
+            "fault ",
+            family,
+            " ",
+            name,
+            " class ",
             class.format(entry.class),
             " router ",
             router.format(entry.router),
@@ -321,7 +333,14 @@ fn rank_line<W: Sink>(fault: &RankFault, shape: &Shape, sink: &mut W) -> Result<
             shape,
             sink,
         ),
+        RankFault::NotRisingTo {
+            from,
+            to,
+            rank,
+            next,
+        } => descent_line(from, to, *rank, *next, shape, sink),
         RankFault::Memory => plain_line("rank", "3 Memory", sink),
+        RankFault::NoEscape(entry) => entry_line("rank", "4 NoEscape", entry, shape, sink),
         RankFault::UnknownChannel { row } => rank_row_line("5 UnknownChannel", *row, sink),
         RankFault::DoubleChannel { row } => rank_row_line("6 DoubleChannel", *row, sink),
         RankFault::MissingChannel { router, port, vc } => {
@@ -382,6 +401,50 @@ fn fall_line<W: Sink>(
             port_text(shape, step.out_port, &mut out_port),
             " vc ",
             out_vc.format(step.out_vc),
+            " ranks ",
+            before.format(rank),
+            " ",
+            after.format(next),
+            "\n",
+        ],
+        sink,
+    )
+}
+
+// The fault of ranks that do not rise from one channel to another.
+#[tactic(auto, unfolding(crate::specs::Line::line_with))]
+fn descent_line<W: Sink>(
+    from: &LinkChannel,
+    to: &LinkChannel,
+    rank: u32,
+    next: u32,
+    shape: &Shape,
+    sink: &mut W,
+) -> Result<(), WriteFault>
+    ensures { Wrote W.contents W.has_failed sink.old sink.new (line_with (codes "rank") (codes "2 NotRising") (descent_details shape.now from.now to.now rank next)) result }
+{
+    let mut router = Buffer::new();
+    let mut port = Buffer::new();
+    let mut vc = Buffer::new();
+    let mut to_router = Buffer::new();
+    let mut to_port = Buffer::new();
+    let mut to_vc = Buffer::new();
+    let mut before = Buffer::new();
+    let mut after = Buffer::new();
+    write_pieces(
+        &[
+            "fault rank 2 NotRising router ",
+            router.format(from.router),
+            " port ",
+            port_text(shape, from.port, &mut port),
+            " vc ",
+            vc.format(from.vc),
+            " to router ",
+            to_router.format(to.router),
+            " port ",
+            port_text(shape, to.port, &mut to_port),
+            " vc ",
+            to_vc.format(to.vc),
             " ranks ",
             before.format(rank),
             " ",

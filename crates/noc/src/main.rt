@@ -12,6 +12,7 @@ mod accept;
 mod answer;
 mod collected;
 mod counted;
+mod drain;
 mod explain;
 mod fault;
 mod formula;

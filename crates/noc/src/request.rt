@@ -27,10 +27,18 @@ pub enum Report {
 pub enum Command {
     /// The latency report of a joined text, which stands in `config`; no other text is looked at.
     Joined,
-    /// A report of a run by 1 to 16 workers. The ranks are checked before it, if there are any.
-    Run { workers: usize, report: Report },
+    /// A report of a run by 1 to 16 workers. The ranks are checked before it, if there are any. It may go on until every packet
+    /// is out, or to the network's limit.
+    Run {
+        workers: usize,
+        report: Report,
+        drain: bool,
+    },
     /// What a router found in a cycle.
-    Explain { cycle: u64, router: usize },
+    Explain {
+        cycle: u64,
+        router: usize,
+    },
     /// Whether the ranks rise along the routing relation. No ranks are an empty text.
     Check,
     /// The ranks by formula of the routing rule.

@@ -1,29 +1,30 @@
 //! Running the network that is asked for.
 
-ghost use Rattle.std.specs.Prelude.{◌≡◌, ◌<◌, ◌≤◌, Ok, Some, IfErr, IfOk};
+ghost use Rattle.std.specs.Prelude.{◌≡◌, ℕ, ◌<◌, ◌≤◌, Ok, Some, IfErr, IfOk};
 ghost use Rattle.noc_files.specs.Gives.{Gives};
 ghost use Rattle.noc_files.specs.Traffic.{traffic_of};
 ghost use Rattle.noc_files.specs.Writing.{Wrote};
-ghost use Rattle.noc_model.specs.declared.limits.TheConstants.{CYCLE_LIMIT as cycle_limit};
 ghost use Rattle.noc.specs.Answer.{AsksFor, TextsFault};
 ghost use Rattle.noc.specs.Asked.{asked_of, lent, read_by};
+ghost use Rattle.noc.specs.Drain.{RunsTo};
 ghost use Rattle.noc.specs.Outcome.{Ends, IsWriteFault, Refuses};
 ghost use Rattle.noc.specs.Reports.{report_text};
 ghost use Rattle.noc.specs.declared.request.Report.{Report as ReportValue};
-ghost use Rattle.noc.specs.Run.{AsksForRun, IsNetworkOf, PacketsFault, ending, report_of, workers_of};
+ghost use Rattle.noc.specs.Run.{AsksForRun, IsNetworkOf, PacketsFault, ending, is_draining, report_of, workers_of};
 
 use crate::accept::accept_if_given;
+use crate::drain::{run_to_end, run_to_end_by_workers};
 use crate::fault::Fault;
 use crate::request::{Bytes, Files, Report};
 use crate::settings::relation_of;
 use crate::status::Status;
 use noc_files::{
-    InputFault, Sink, WriteFault, read_traffic, write_latency, write_stalls, write_summary,
+    InputFault, MAX_CYCLES, Sink, WriteFault, read_traffic, write_latency, write_stalls,
+    write_summary,
 };
-use noc_net::{CYCLE_LIMIT, Network};
-use noc_packet::Packet;
+use noc_net::Network;
+use noc_packet::{MAX_BUFFER, Packet};
 use noc_route::Relation;
-use noc_tiles::{AllOpen, run_tiles};
 use std::alloc::Global;
 use std::sync::Wait;
 use std::thread::Threads;
@@ -34,13 +35,15 @@ pub fn run<W: Sink>(
     alloc: Global,
     files: &Files<'_>,
     report: Report,
+    drain: bool,
     sink: &mut W,
 ) -> Result<Status, Fault>
-    requires { report_of files.now.command ≡ Some report }
+    requires report { report_of files.now.command ≡ Some report }
+    requires drain { is_draining files.now.command ≡ drain }
     ensures { Ends (workers_of files.now.command) (Wrote W.contents W.has_failed sink.old sink.new) (sink.new ≡ sink.old) (AsksFor (asked_of files.now)) (TextsFault (asked_of files.now)) result }
 {
     let (mut network, cycles) = opening_network(rt, alloc, files)?;
-    network.run(cycles);
+    run_to_end(&mut network, cycles, drain);
     report_on(&network, report, sink)
 }
 
@@ -51,21 +54,23 @@ pub fn run_by_workers<R: Threads + Wait + Sync, W: Sink>(
     files: &Files<'_>,
     workers: usize,
     report: Report,
+    drain: bool,
     sink: &mut W,
 ) -> Result<Status, Fault>
     requires report { report_of files.now.command ≡ Some report }
+    requires drain { is_draining files.now.command ≡ drain }
     requires workers { workers_of files.now.command ≡ workers }
     requires number { (1 < workers) × (workers ≤ 16) }
     ensures { Ends (workers_of files.now.command) (Wrote W.contents W.has_failed sink.old sink.new) (sink.new ≡ sink.old) (AsksFor (asked_of files.now)) (TextsFault (asked_of files.now)) result }
 {
     let (network, cycles) = opening_network(rt, alloc, files)?;
-    match run_tiles(rt, alloc, network, cycles, workers, &AllOpen) {
+    match run_to_end_by_workers(rt, alloc, network, cycles, workers, drain) {
         Ok(network) => report_on(&network, report, sink),
         Err(fault) => Err(Fault::Run(fault)),
     }
 }
 
-// The network before its first cycle, and how many cycles it is to run.
+// The network before its first cycle, and how many cycles it is to run at least.
 fn opening_network(
     rt: &(impl Threads + Sync),
     alloc: Global,
@@ -73,8 +78,8 @@ fn opening_network(
 ) -> Result<(Network, u64), Fault>
     requires { (report : ReportValue) × (report_of files.now.command ≡ Some report) }
     ensures opening { IfOk result (λ r. r.0.count ≡ 0) }
-    ensures cycles { IfOk result (λ r. r.1 ≤ cycle_limit) }
-    ensures run { IfOk result (λ r. AsksForRun (asked_of files.now) (record { net = r.0.net; count = r.1 })) }
+    ensures cycles { IfOk result (λ r. r.1 ≤ MAX_CYCLES) }
+    ensures run { IfOk result (λ r. (end : ℕ) → RunsTo (is_draining files.now.command) r.0.net r.1 end → AsksForRun (asked_of files.now) (record { net = r.0.net; count = end })) }
     ensures fault { IfErr result (Refuses (TextsFault (asked_of files.now))) }
 {
     let (config, relation) = relation_of(alloc, files)?;
@@ -106,7 +111,7 @@ pub fn network_of(
     traffic: Bytes<'_>,
 ) -> Result<Network, Fault>
     requires some_place { 0 < places }
-    requires places { places ≤ 16 }
+    requires places { places ≤ MAX_BUFFER }
     ensures opening { IfOk result (λ n. n.count ≡ 0) }
     ensures network { IfOk result (λ n. IsNetworkOf relation places (lent traffic.entry) n.net) }
     ensures fault { IfErr result (Refuses (PacketsFault relation (lent traffic.entry))) }

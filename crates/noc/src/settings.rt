@@ -85,7 +85,7 @@ fn table_fault(name: RuleName, has_table: bool) -> Option<OptionFault>
 {
     match (name, has_table) {
         (RuleName::Table, false) => Some(OptionFault::NoTable),
-        (RuleName::Dor | RuleName::Dateline | RuleName::WestFirst, true) => {
+        (RuleName::Dor | RuleName::Dateline | RuleName::WestFirst | RuleName::Adaptive, true) => {
             Some(OptionFault::SpareTable)
         }
         _ => None,
@@ -107,9 +107,11 @@ fn late_fault(command: Command, shape: &Shape) -> Option<OptionFault>
     ensures { result ≡ late_fault command shape.now }
 {
     match command {
-        Command::Run { workers, report: _ } if shape.nodes() < workers => {
-            Some(OptionFault::BadWorkers)
-        }
+        Command::Run {
+            workers,
+            report: _,
+            drain: _,
+        } if shape.nodes() < workers => { Some(OptionFault::BadWorkers) }
         Command::Explain { cycle: _, router } if shape.nodes() <= router => {
             Some(OptionFault::BadRouter)
         }
@@ -146,6 +148,7 @@ pub fn named_rule(name: RuleName) -> Option<Rule>
         RuleName::Dor => Some(Rule::Dor),
         RuleName::Dateline => Some(Rule::Dateline),
         RuleName::WestFirst => Some(Rule::WestFirst),
+        RuleName::Adaptive => Some(Rule::Adaptive),
         RuleName::Table => None,
     }
 }

@@ -17,6 +17,7 @@ use std::thread::Threads;
 
 mod commands;
 mod devices;
+mod drain;
 
 // What goes to standard output and to standard error, and the exit status.
 #[derive(Drop)]
@@ -302,7 +303,7 @@ fn configurations_that_are_refused(rt: HostRuntime) -> Result<(), Fail> {
             3,
         ),
         (
-            "kind = \"mesh\"\nradix = [2]\nchannels = 5\nclasses = 1\nrule = \"dor\"\n",
+            "kind = \"mesh\"\nradix = [2]\nchannels = 9\nclasses = 1\nrule = \"dor\"\n",
             "fault config 8 BadValue key channels\n",
             3,
         ),

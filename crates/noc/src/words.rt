@@ -5,7 +5,7 @@ ghost use Rattle.noc.specs.Run.{HasWorkers};
 
 use crate::request::{Command, Report};
 use clap::error::ErrorKind;
-use clap::{Arg, ArgMatches, Error, value_parser};
+use clap::{Arg, ArgAction, ArgMatches, Error, value_parser};
 use std::alloc::{AllocError, Global};
 
 /// What the words ask for: a command, with the names of its files.
@@ -52,7 +52,13 @@ const AFTER_RUN_HELP: &str = "Reports:
   stalls   how often each input channel had each verdict: what it did, or why it waited
   summary  the sums of both over the whole network
 
-Example: noc run mesh.toml traffic.csv --report stalls
+With --drain, where packets may still be out after the configuration's cycles, the run goes on:
+every 64 cycles it ends if all packets are out, and it ends at the limit, which is the last due
+time and the number of events that the traffic takes. With ranks, all packets are out by then.
+
+Examples:
+  noc run mesh.toml traffic.csv --report stalls
+  noc run mesh.toml traffic.csv --drain --report summary
 
 The status is 5 where the network is stuck at the end of the run.";
 
@@ -68,6 +74,7 @@ pub fn read_words<'a>(alloc: Global, words: &'a [String]) -> Result<Words<'a>, E
                 Command::Run {
                     workers,
                     report: report_of(of),
+                    drain: of.get_flag("drain"),
                 },
             )),
             None => Err(program(alloc)?.error(
@@ -143,6 +150,7 @@ fn run_words<'a>(alloc: Global) -> Result<clap::Command<'a>, AllocError> {
         .arg(table_word(alloc))?
         .arg(ranks_word(alloc).help("Check these ranks before the run"))?
         .arg(workers_word(alloc))?
+        .arg(drain_word(alloc))?
         .arg(report_word(alloc))
 }
 
@@ -219,6 +227,13 @@ fn workers_word<'a>(alloc: Global) -> Arg<'a> {
         .value_parser(value_parser!(usize))
         .default_value("1")
         .help("How many threads run the routers: 1 to 16, and at most one for each router")
+}
+
+fn drain_word<'a>(alloc: Global) -> Arg<'a> {
+    Arg::new(alloc, "drain")
+        .long("drain")
+        .action(ArgAction::SetTrue)
+        .help("Run on until every packet is out, or to the network's limit, see below")
 }
 
 fn cycle_word<'a>(alloc: Global) -> Arg<'a> {

@@ -143,7 +143,7 @@ fn numbers_out_of_range(rt: HostRuntime) -> Result<(), Fail> {
     let a = rt.alloc();
     for (text, key) in [
         (
-            b"kind = \"mesh\"\nradix = [2]\nchannels = 5".as_slice(),
+            b"kind = \"mesh\"\nradix = [2]\nchannels = 9".as_slice(),
             Key::Channels,
         ),
         (
@@ -163,7 +163,7 @@ fn numbers_out_of_range(rt: HostRuntime) -> Result<(), Fail> {
             Key::Classes,
         ),
         (
-            b"kind = \"mesh\"\nradix = [2]\nchannels = 1\nbuffer = 1\nclasses = 1\nrule = \"adaptive\"".as_slice(),
+            b"kind = \"mesh\"\nradix = [2]\nchannels = 1\nbuffer = 1\nclasses = 1\nrule = \"odd-even\"".as_slice(),
             Key::Rule,
         ),
         (

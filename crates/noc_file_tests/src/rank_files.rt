@@ -30,26 +30,32 @@ fn written(alloc: Global, ranks: &Ranks, shape: &Shape, vcs: usize) -> Result<Ve
 #[test]
 fn the_rows_of_a_rank_file(rt: HostRuntime) -> Result<(), Fail> {
     let plane = Shape::new(Kind::Mesh, &[2, 2])?;
-    let text = b"router,port,vc,rank\n0,+0,0,1\n3,-1,2,1000000\n4294967295,local,007,0\n";
+    let text = b"router,port,vc,rank\n0,+0,0,1\n3,-1,2,1000000\n4294967295,local,007,0\n1,-0,0,adaptive\n";
     let rows = read_ranks(rt.alloc(), &plane, text)?;
     let want = [
         RankRow {
             router: 0,
             port: 0,
             vc: 0,
-            rank: 1,
+            rank: Some(1),
         },
         RankRow {
             router: 3,
             port: 3,
             vc: 2,
-            rank: 1_000_000,
+            rank: Some(1_000_000),
         },
         RankRow {
             router: 4294967295,
             port: 4,
             vc: 7,
-            rank: 0,
+            rank: Some(0),
+        },
+        RankRow {
+            router: 1,
+            port: 1,
+            vc: 0,
+            rank: None,
         },
     ];
     assert_eq!(rt; rows.as_slice(), want.as_slice());
@@ -139,11 +145,15 @@ fn rank_files_with_bad_fields(rt: HostRuntime) -> Result<(), Fail> {
             InputFault::BadNumber { row: 0, column: 3 },
         ),
         (
+            b"router,port,vc,rank\n0,+0,adaptive,1\n".as_slice(),
+            InputFault::BadNumber { row: 0, column: 2 },
+        ),
+        (
             b"router,port,vc,rank\n0,+0,0,99999999999999999999\n".as_slice(),
             InputFault::BadNumber { row: 0, column: 3 },
         ),
         (
-            b"router,port,vc,rank\n0,+0,0,adaptive\n".as_slice(),
+            b"router,port,vc,rank\n0,+0,0,Adaptive\n".as_slice(),
             InputFault::BadNumber { row: 0, column: 3 },
         ),
     ] {
@@ -170,12 +180,12 @@ fn a_rank_file_that_is_written(rt: HostRuntime) -> Result<(), Fail> {
 fn a_rank_file_that_is_read_and_written(rt: HostRuntime) -> Result<(), Fail> {
     let a = rt.alloc();
     let line = Shape::new(Kind::Mesh, &[2])?;
-    let text = b"router,port,vc,rank\n1,-0,1,30\n0,+0,1,2\n0,+0,0,1000000\n1,-0,0,7\n";
+    let text = b"router,port,vc,rank\n1,-0,1,30\n0,+0,1,adaptive\n0,+0,0,1000000\n1,-0,0,7\n";
     let rows = read_ranks(a, &line, text)?;
     let ranks = Ranks::from_rows(a, &line, 2, rows.as_slice())?;
     assert_eq!(rt;
         written(a, &ranks, &line, 2)?.as_slice(),
-        b"router,port,vc,rank\n0,+0,0,1000000\n0,+0,1,2\n1,-0,0,7\n1,-0,1,30\n".as_slice()
+        b"router,port,vc,rank\n0,+0,0,1000000\n0,+0,1,adaptive\n1,-0,0,7\n1,-0,1,30\n".as_slice()
     );
     Ok(())
 }

@@ -62,19 +62,22 @@ is_kind Mesh = refl
 is_kind Torus = refl
 
 rule_is : (w : List ℕ) (r : RuleName) → rule_of w ≡ Some r → w ≡ rule_word r
-rule_is w r e = by (bytes_eq w (codes "dor")) refl (bytes_eq w (codes "dateline")) refl (bytes_eq w (codes "west-first")) refl (bytes_eq w (codes "table")) refl
+rule_is w r e = by (bytes_eq w (codes "dor")) refl (bytes_eq w (codes "dateline")) refl (bytes_eq w (codes "west-first")) refl (bytes_eq w (codes "adaptive")) refl (bytes_eq w (codes "table")) refl
   where
-    by : (a : Bool) → bytes_eq w (codes "dor") ≡ a → (b : Bool) → bytes_eq w (codes "dateline") ≡ b → (c : Bool) → bytes_eq w (codes "west-first") ≡ c → (d : Bool) → bytes_eq w (codes "table") ≡ d → w ≡ rule_word r
-    by true is b f c g d h = let one : Some rule.Dor ≡ Some r = rw is at e in rw (← same_Some rule.Dor r one) (same_text w (codes "dor") (sym is))
-    by false not_so true is c g d h = let one : Some rule.Dateline ≡ Some r = rw (not_so, is) at e in rw (← same_Some rule.Dateline r one) (same_text w (codes "dateline") (sym is))
-    by false not_so false f true is d h = let one : Some rule.WestFirst ≡ Some r = rw (not_so, f, is) at e in rw (← same_Some rule.WestFirst r one) (same_text w (codes "west-first") (sym is))
-    by false not_so false f false g true is = let one : Some rule.Table ≡ Some r = rw (not_so, f, g, is) at e in rw (← same_Some rule.Table r one) (same_text w (codes "table") (sym is))
-    by false not_so false f false g false none = let one : None ≡ Some r = rw (not_so, f, g, none) at e in absurd (none-some r one)
+    by : (a : Bool) → bytes_eq w (codes "dor") ≡ a → (b : Bool) → bytes_eq w (codes "dateline") ≡ b → (c : Bool) → bytes_eq w (codes "west-first") ≡ c → (d : Bool) → bytes_eq w (codes "adaptive") ≡ d
+        → (k : Bool) → bytes_eq w (codes "table") ≡ k → w ≡ rule_word r
+    by true is b f c g d h k i = let one : Some rule.Dor ≡ Some r = rw is at e in rw (← same_Some rule.Dor r one) (same_text w (codes "dor") (sym is))
+    by false not_so true is c g d h k i = let one : Some rule.Dateline ≡ Some r = rw (not_so, is) at e in rw (← same_Some rule.Dateline r one) (same_text w (codes "dateline") (sym is))
+    by false not_so false f true is d h k i = let one : Some rule.WestFirst ≡ Some r = rw (not_so, f, is) at e in rw (← same_Some rule.WestFirst r one) (same_text w (codes "west-first") (sym is))
+    by false not_so false f false g true is k i = let one : Some rule.Adaptive ≡ Some r = rw (not_so, f, g, is) at e in rw (← same_Some rule.Adaptive r one) (same_text w (codes "adaptive") (sym is))
+    by false not_so false f false g false h true is = let one : Some rule.Table ≡ Some r = rw (not_so, f, g, h, is) at e in rw (← same_Some rule.Table r one) (same_text w (codes "table") (sym is))
+    by false not_so false f false g false h false none = let one : None ≡ Some r = rw (not_so, f, g, h, none) at e in absurd (none-some r one)
 
 pub is_rule : (r : RuleName) → rule_of (rule_word r) ≡ Some r
 is_rule rule.Dor = refl
 is_rule rule.Dateline = refl
 is_rule rule.WestFirst = refl
+is_rule rule.Adaptive = refl
 is_rule rule.Table = refl
 
 -- ---- numbers

@@ -1,5 +1,5 @@
 -- A file of ranks has each link channel once with its rank, and is read back.
-use Rattle.std.proofs.Common.{◌≡◌, inl, inr, ℕ, zero, suc, ◌+◌, ◌^◌, ◌<◌, Bool, true, false, List, [], ◌∷◌, ◌++◌, flat_map, map, Ok, refl, sym, ap, arith, subst}
+use Rattle.std.proofs.Common.{◌≡◌, inl, inr, ℕ, zero, suc, ◌+◌, ◌^◌, ◌<◌, Bool, true, false, List, [], ◌∷◌, ◌++◌, flat_map, map, Option, Some, None, Ok, refl, sym, ap, ◌∙◌, arith, subst}
 use Rattle.std.specs.Prelude.{◌&&◌, is_some, nat_lt}
 use Rattle.std.specs.List.{AllZip}
 use Rattle.std.proofs.lemmas.Bool.{leb-true, lt-ltb}
@@ -12,11 +12,11 @@ use Rattle.noc_rank.specs.Ranking.{IsRanking}
 use Rattle.noc_rank.specs.declared.rows.RankRow.{RankRow}
 use Rattle.noc_topo.specs.Shape.{Grid, local_port, neighbour, nodes}
 use Rattle.noc_topo.specs.Words.{below, Each, Has, Pairs}
-use Rattle.noc_files.specs.Plain.{IsPlainRow, plain_text, row_line}
-use Rattle.noc_files.specs.Ranks.{IsBefore, IsRankOf, ListsRanks, WritesRank, header, port_rows, rank_fields, rank_line, rank_row, rank_rows, ranks_of, ranks_text, router_rows}
+use Rattle.noc_files.specs.Plain.{IsPlain, IsPlainRow, plain_text, row_line}
+use Rattle.noc_files.specs.Ranks.{IsBefore, IsRankField, IsRankOf, ListsRanks, WritesRank, adaptive, header, port_rows, rank_fields, rank_line, rank_row, rank_rows, rank_text, ranks_of, ranks_text, router_rows}
 use Rattle.noc_files.proofs.BelowFacts.{each_more, each_split, later}
 use Rattle.noc_files.proofs.NumeralFacts.{decimal_numeral, plain_decimal, some_decimal}
-use Rattle.noc_files.proofs.PlainFacts.{is_plain_row, plain_rows}
+use Rattle.noc_files.proofs.PlainFacts.{bytes_are_plain, is_plain_row, plain_rows}
 use Rattle.noc_files.proofs.PortLaws.{port_plain}
 use Rattle.noc_files.proofs.RankLaws.{is_rank_file}
 use Rattle.noc_files.proofs.SheetLaws.{both}
@@ -174,15 +174,32 @@ ranks_listed k = record { there = each_there k; ranks = each_rank k; rising = al
 
 -- ---- the file is read back
 
+-- a rank is below the limit
+rank_fits : (k : Ranking) → IsRanking k → (row : RankRow) → IsRankOf k row → (n : ℕ) → row.rank ≡ Some n → n < 2 ^ 32
+rank_fits k ranking row h n e = let high = ranking.high row.router row.port row.vc n (sym h.rank ∙ e) in omega (arith, high)
+
+rank_plain : (k : Ranking) → IsRanking k → (row : RankRow) → IsRankOf k row → Each IsPlain (rank_text row.rank)
+rank_plain k ranking row h = by row.rank refl
+  where
+    by : (rank : Option ℕ) → row.rank ≡ rank → Each IsPlain (rank_text rank)
+    by None e = bytes_are_plain adaptive refl
+    by (Some n) e = plain_decimal n (let fits = rank_fits k ranking row h n e in omega (arith, fits))
+
+rank_written : (k : Ranking) → IsRanking k → (row : RankRow) → IsRankOf k row → IsRankField (rank_text row.rank) row.rank
+rank_written k ranking row h = by row.rank refl
+  where
+    by : (rank : Option ℕ) → row.rank ≡ rank → IsRankField (rank_text rank) rank
+    by None e = refl
+    by (Some n) e = decimal_numeral n (rank_fits k ranking row h n e)
+
 ranks_plain : (k : Ranking) → IsRanking k → k.vcs < 2 ^ 32 → (rows : List RankRow) → Each (IsRankOf k) rows → Each IsPlainRow (map (rank_fields k.grid) rows)
 ranks_plain k ranking few [] h = tt
 ranks_plain k ranking few (row ∷ rows) h =
-    let place = there_parts k.grid k.vcs row.router row.port row.vc h.0.channel in
-    let high = ranking.high row.router row.port row.vc in (
+    let place = there_parts k.grid k.vcs row.router row.port row.vc h.0.channel in (
       (
         some_decimal row.router (omega (arith, place.router, ranking.grid.few_nodes)),
         plain_decimal row.router (omega (arith, place.router, ranking.grid.few_nodes)),
-        (port_plain k.grid row.port ranking.grid (omega (arith, place.port)), (plain_decimal row.vc (omega (arith, place.vc)), (plain_decimal row.rank (omega (arith, high, h.0.rank)), tt))),
+        (port_plain k.grid row.port ranking.grid (omega (arith, place.port)), (plain_decimal row.vc (omega (arith, place.vc)), (rank_plain k ranking row h.0, tt))),
       ),
       ranks_plain k ranking few rows h.1,
     )
@@ -190,13 +207,12 @@ ranks_plain k ranking few (row ∷ rows) h =
 ranks_written : (k : Ranking) → IsRanking k → k.vcs < 2 ^ 32 → (rows : List RankRow) → Each (IsRankOf k) rows → AllZip (WritesRank k.grid) (map (rank_fields k.grid) rows) rows
 ranks_written k ranking few [] h = tt
 ranks_written k ranking few (row ∷ rows) h =
-    let place = there_parts k.grid k.vcs row.router row.port row.vc h.0.channel in
-    let high = ranking.high row.router row.port row.vc in (
+    let place = there_parts k.grid k.vcs row.router row.port row.vc h.0.channel in (
       (
         decimal_numeral row.router (omega (arith, place.router, ranking.grid.few_nodes)),
         record { known = omega (arith, place.port); text = refl },
         decimal_numeral row.vc (omega (arith, place.vc)),
-        decimal_numeral row.rank (omega (arith, high, h.0.rank)),
+        rank_written k ranking row h.0,
       ),
       ranks_written k ranking few rows h.1,
     )

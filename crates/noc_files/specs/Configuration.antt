@@ -70,6 +70,7 @@ rule_of w =
     if bytes_eq w (codes "dor") then Some rule.Dor
     else if bytes_eq w (codes "dateline") then Some rule.Dateline
     else if bytes_eq w (codes "west-first") then Some rule.WestFirst
+    else if bytes_eq w (codes "adaptive") then Some rule.Adaptive
     else if bytes_eq w (codes "table") then Some rule.Table
     else None
 
@@ -128,6 +129,7 @@ abbrev pub rule_word : RuleName → List ℕ
 rule_word rule.Dor = codes "dor"
 rule_word rule.Dateline = codes "dateline"
 rule_word rule.WestFirst = codes "west-first"
+rule_word rule.Adaptive = codes "adaptive"
 rule_word rule.Table = codes "table"
 
 -- these numbers as the integers of an array

@@ -1,22 +1,37 @@
 -- What a file of ranks says, and the file of some ranks.
-use Rattle.std.specs.Prelude.{◌≡◌, ℕ, ◌==◌, Bool, true, decimal, map, List, [], ◌∷◌, ◌++◌, length, codes, is_some, Result, Ok, Err, if◌then◌else◌}
+use Rattle.std.specs.Prelude.{◌≡◌, ℕ, zero, suc, ◌==◌, true, decimal, map, List, [], ◌∷◌, ◌++◌, length, codes, is_some, Option, Some, None, option_map, option_and_then, Result, Ok, Err, if◌then◌else◌}
 use Rattle.std.specs.List.{flat_map}
+use Rattle.std.specs.Option.{ok_or}
+use Rattle.std.specs.Str.{bytes_eq}
+use Rattle.csv.specs.Records.{field_at}
 use Rattle.noc_topo.specs.Shape.{Grid, local_port, neighbour, nodes}
 use Rattle.noc_topo.specs.Words.{below, Each, Has, Pairs}
 use Rattle.noc_route.specs.Ranks.{Ranking, is_channel, rank_at}
 use Rattle.noc_route.specs.Order.{numbers_before}
 use Rattle.noc_rank.specs.declared.rows.RankRow.{RankRow}
 use Rattle.noc_files.specs.declared.fault.InputFault.{InputFault}
-use Rattle.noc_files.specs.declared.fault.InputFault.TheVariants.{BadCount}
-use Rattle.noc_files.specs.Columns.{IsFieldFault}
+use Rattle.noc_files.specs.declared.fault.InputFault.TheVariants.{BadCount, BadNumber}
+use Rattle.noc_files.specs.Columns.{IsRowFault, field_fault}
 use Rattle.noc_files.specs.Gives.{◌>>=◌}
 use Rattle.noc_files.specs.Ports.{IsPortName, name_of_port, port_at}
 use Rattle.noc_files.specs.Plain.{row_line}
-use Rattle.noc_files.specs.Rows.{Fields, IsNumeral, number_at, rows_of}
+use Rattle.noc_files.specs.Rows.{Fields, HasNumeral, IsNumeral, number_at, number_of, rows_of}
 use Rattle.noc_files.specs.Sheet.{IsSheet, IsSheetFault, sheet}
 
 abbrev pub header : Fields
 header = codes "router" ∷ codes "port" ∷ codes "vc" ∷ codes "rank" ∷ []
+
+-- the word in the column of ranks where a channel is adaptive
+abbrev pub adaptive : List ℕ
+adaptive = codes "adaptive"
+
+-- the rank that a field writes: a number, or none by the word
+abbrev pub rank_of : List ℕ → Option (Option ℕ)
+rank_of field = if bytes_eq field adaptive then Some None else option_map Some (number_of field)
+
+-- the rank in a column of a row, counted from 0
+abbrev pub rank_in : ℕ → ℕ → Fields → Result (Option ℕ) InputFault
+rank_in row column fields = ok_or (option_and_then rank_of (field_at fields column)) (BadNumber row column)
 
 -- the channel and the rank of a row: first the number of fields, then the fields from left to right
 unfoldable pub rank_row_of : Grid → ℕ → Fields → Result RankRow InputFault
@@ -27,28 +42,40 @@ rank_row_of g row fields = if length fields == 4 then four else Err (BadCount ro
       router ← number_at row 0 fields
       port ← port_at g row 1 fields
       vc ← number_at row 2 fields
-      rank ← number_at row 3 fields
+      rank ← rank_in row 3 fields
       Ok (record { router = router; port = port; vc = vc; rank = rank })
 
 abbrev pub ranks_of : Grid → List ℕ → Result (List RankRow) InputFault
 ranks_of g text = sheet (rank_row_of g) header (rows_of text)
 
--- four fields, three numerals and the name of a port, which write this row
+-- a field that writes this rank: a numeral, or the word where there is none
+abbrev pub IsRankField : List ℕ → Option ℕ → Type 0
+IsRankField field None = field ≡ adaptive
+IsRankField field (Some n) = IsNumeral field n
+
+-- four fields, a router, the name of a port, a channel and a rank, which write this row
 abbrev pub WritesRank : Grid → Fields → RankRow → Type 0
-WritesRank g (router ∷ port ∷ vc ∷ rank ∷ []) r = IsNumeral router r.router × IsPortName g port r.port × IsNumeral vc r.vc × IsNumeral rank r.rank
+WritesRank g (router ∷ port ∷ vc ∷ rank ∷ []) r = IsNumeral router r.router × IsPortName g port r.port × IsNumeral vc r.vc × IsRankField rank r.rank
 WritesRank g _ r = ⊥
 
 -- the header, and below it rows of four fields, which write these rows
 abbrev pub IsRankFile : Grid → List ℕ → List RankRow → Type 0
 IsRankFile g text rows = IsSheet (WritesRank g) header (rows_of text) rows
 
--- whether a column, counted from 0, holds the name of a port
-abbrev pub is_port_column : ℕ → Bool
-is_port_column column = column == 1
+-- what a column, counted from 0, may hold
+abbrev pub MayHold : Grid → ℕ → List ℕ → Type 0
+MayHold g zero field = HasNumeral field
+MayHold g (suc zero) field = (port : ℕ) × IsPortName g field port
+MayHold g (suc (suc zero)) field = HasNumeral field
+MayHold g _ field = (rank : Option ℕ) × IsRankField field rank
+
+-- the fault of a row: another number of fields, or a field that its column may not hold, of which that of column 1 is no name of a port
+abbrev pub IsRankRowFault : Grid → ℕ → Fields → InputFault → Type 0
+IsRankRowFault g row fields fault = IsRowFault 4 (MayHold g) (λ at column. field_fault (column == 1) at column) row fields fault
 
 -- the first fault of a file of ranks
 abbrev pub IsRankFileFault : Grid → List ℕ → InputFault → Type 0
-IsRankFileFault g text fault = IsSheetFault (WritesRank g) (IsFieldFault g 4 is_port_column) header (rows_of text) fault
+IsRankFileFault g text fault = IsSheetFault (WritesRank g) (IsRankRowFault g) header (rows_of text) fault
 
 -- ---- the file of some ranks
 
@@ -68,9 +95,14 @@ router_rows k router = flat_map (port_rows k router) (below (local_port k.grid))
 unfoldable pub rank_rows : Ranking → List RankRow
 rank_rows k = flat_map (router_rows k) (below (nodes k.grid))
 
--- the fields of a row: numbers, and the name of a port
+-- a rank, or the word where there is none
+abbrev pub rank_text : Option ℕ → List ℕ
+rank_text None = adaptive
+rank_text (Some n) = decimal n
+
+-- the fields of a row: a router, the name of a port, a channel and a rank
 abbrev pub rank_fields : Grid → RankRow → Fields
-rank_fields g r = decimal r.router ∷ name_of_port g r.port ∷ decimal r.vc ∷ decimal r.rank ∷ []
+rank_fields g r = decimal r.router ∷ name_of_port g r.port ∷ decimal r.vc ∷ rank_text r.rank ∷ []
 
 -- the line of a row
 unfoldable pub rank_line : Grid → RankRow → List ℕ

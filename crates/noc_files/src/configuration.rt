@@ -31,6 +31,7 @@ pub enum RuleName {
     Dor,
     Dateline,
     WestFirst,
+    Adaptive,
     Table,
 }
 
@@ -146,6 +147,7 @@ fn rule_in(table: &Table) -> Result<RuleName, InputFault>
         "dor" => Ok(RuleName::Dor),
         "dateline" => Ok(RuleName::Dateline),
         "west-first" => Ok(RuleName::WestFirst),
+        "adaptive" => Ok(RuleName::Adaptive),
         "table" => Ok(RuleName::Table),
         _ => Err(InputFault::BadValue(Key::Rule)),
     }

@@ -11,11 +11,8 @@ ghost use Rattle.noc_files.specs.declared.listing.TheConstants.{LONGEST_LINE};
 use crate::ports::has_inputs;
 use crate::sink::Sink;
 use crate::writing::{WriteFault, put_all};
-use noc_packet::{MAX_CHANNELS, MAX_NODES};
+use noc_packet::{MAX_CHANNELS, MAX_NODES, MAX_PORTS};
 use noc_topo::Shape;
-
-// The most ports of a router.
-const MAX_PORTS: usize = 7;
 
 // The most bytes of the line on a channel, and of the lines on a port, a router and all routers.
 pub(crate) const LONGEST_LINE: u64 = 258;

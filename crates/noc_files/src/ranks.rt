@@ -12,13 +12,13 @@ ghost use Rattle.noc_topo.specs.Words.{below};
 ghost use Rattle.noc_files.specs.declared.fault.InputFault.{InputFault as Fault};
 ghost use Rattle.noc_files.specs.Gives.{Gives};
 ghost use Rattle.noc_files.specs.Plain.{row_line};
-ghost use Rattle.noc_files.specs.Ranks.{header, rank_line, rank_row, rank_row_of, rank_rows, ranks_of, ranks_text, port_rows, router_rows, IsRankFile, IsRankFileFault, ListsRanks};
+ghost use Rattle.noc_files.specs.Ranks.{header, rank_in, rank_line, rank_of, rank_row, rank_row_of, rank_rows, rank_text, ranks_of, ranks_text, port_rows, router_rows, IsRankFile, IsRankFileFault, ListsRanks};
 ghost use Rattle.noc_files.specs.Writing.{Puts, Wrote};
 
 use crate::fault::InputFault;
 use crate::listing::{Lines, write_routers};
 use crate::ports::known_name;
-use crate::rows::{number_in, port_in};
+use crate::rows::{number, number_in, port_in};
 use crate::sheet::read_sheet;
 use crate::sink::Sink;
 use crate::writing::{WriteFault, put_pieces};
@@ -28,6 +28,31 @@ use noc_packet::MAX_CHANNELS;
 use noc_rank::{RankRow, Ranks};
 use noc_topo::Shape;
 use std::alloc::Global;
+
+// The word in the column of ranks where a channel is adaptive.
+const ADAPTIVE: &str = "adaptive";
+
+// The rank that a field writes: a number, or none by the word.
+fn rank(field: &[u8]) -> Option<Option<usize>>
+    ensures { result ≡ rank_of field.now }
+{
+    if field == ADAPTIVE.as_bytes() {
+        return Some(None);
+    }
+    match number(field) {
+        Some(number) => Some(Some(number as usize)),
+        None => None,
+    }
+}
+
+// The rank in a column of a row.
+fn rank_in(row: &ByteRecord, index: usize, column: usize) -> Result<Option<usize>, InputFault>
+    ensures { result ≡ rank_in index column (fields_of row.now) }
+{
+    row.get(column)
+        .and_then(rank)
+        .ok_or(InputFault::BadNumber { row: index, column })
+}
 
 // The channel and the rank that a row of fields says.
 #[tactic(auto, unfolding(crate::specs::Ranks::rank_row_of))]
@@ -40,17 +65,18 @@ fn rank_row_in(shape: &Shape, row: &ByteRecord, index: usize) -> Result<RankRow,
     let router = number_in(row, index, 0)?;
     let port = port_in(shape, row, index, 1)?;
     let vc = number_in(row, index, 2)?;
-    let rank = number_in(row, index, 3)?;
+    let rank = rank_in(row, index, 3)?;
     Ok(RankRow {
         router: router as usize,
         port,
         vc: vc as usize,
-        rank: rank as usize,
+        rank,
     })
 }
 
 /// The rows of a rank file, or its first fault: `BadHeader`, and then row by row `BadCount`, `BadNumber` and `BadPort`
-/// from left to right; `Memory` where a growth was refused (docs/FORMATS.md). Ports have the names of the shape.
+/// from left to right; `Memory` where a growth was refused (docs/FORMATS.md). Ports have the names of the shape; a rank is
+/// a number, or the word `adaptive`.
 pub fn read_ranks(alloc: Global, shape: &Shape, text: &[u8]) -> Result<Vec<RankRow>, InputFault>
     ensures { Gives (λ v. v.items) result (ranks_of shape.now text.now) }
 {
@@ -61,13 +87,14 @@ pub fn read_ranks(alloc: Global, shape: &Shape, text: &[u8]) -> Result<Vec<RankR
 }
 
 /// A text is read as these rows of ranks exactly where its first row is the header and the rows below it are four
-/// fields each, numerals and the name of a port of the shape, which write them.
+/// fields each, numerals, the name of a port of the shape, and a numeral or the word `adaptive`, which write them.
 pub fn rank_file_is_header_and_rows()
     ensures { (g : Grid) → IsGrid g → (text : List ℕ) (rows : List RowValue) → (ranks_of g text ≡ Ok rows) ↔ IsRankFile g text rows }
 {}
 
 /// A text is refused with this fault exactly where it is the first one: there is no header, or after rows of ranks a
-/// row has not four fields, or has four, and this is the first that is no numeral or names no port of the shape.
+/// row has not four fields, or has four, and this is the first that is no numeral, names no port of the shape, or as a
+/// rank is neither a numeral nor the word `adaptive`.
 pub fn rank_file_is_refused_with_its_first_fault()
     ensures { (g : Grid) → IsGrid g → (text : List ℕ) (fault : Fault) → (ranks_of g text ≡ Err fault) ↔ IsRankFileFault g text fault }
 {}
@@ -77,6 +104,17 @@ pub fn rank_file_is_refused_with_its_first_fault()
 pub fn written_ranks_are_read_back()
     ensures { (k : Ranking) → IsRanking k → k.vcs ≤ MAX_CHANNELS → (ranks_of k.grid (ranks_text k) ≡ Ok (rank_rows k)) × ListsRanks k (rank_rows k) }
 {}
+
+// A rank, or the word where there is none.
+fn shown_rank(buffer: &mut Buffer, rank: Option<usize>) -> &str
+    ensures text { result.now ≡ rank_text rank }
+    ensures short { length result.now ≤ 20 }
+{
+    match rank {
+        Some(rank) => buffer.format(rank),
+        None => ADAPTIVE,
+    }
+}
 
 // Puts the line of a row, whose port the shape has.
 fn put_row<W: Sink>(
@@ -100,7 +138,7 @@ fn put_row<W: Sink>(
         ",",
         vc.format(row.vc),
         ",",
-        rank.format(row.rank),
+        shown_rank(&mut rank, row.rank),
         "\n",
     ];
     put_pieces(sink, &pieces, before)
@@ -146,18 +184,23 @@ impl<'a> Lines for Listed<'a> {
         sink: &mut W,
         before: u64,
     ) -> Result<u64, WriteFault> {
+        let rank = match self.ranks.rank(router, port, vc) {
+            Some(rank) => Some(rank as usize),
+            None => None,
+        };
         let row = RankRow {
             router,
             port,
             vc,
-            rank: self.ranks.rank(router, port, vc) as usize,
+            rank,
         };
         put_row(self.shape, &row, sink, before)
     }
 }
 
 /// Writes a rank file: for each router, each of its ports that has a link, and each of `vcs` virtual channels, in rising
-/// order, the rank of that channel. The shape and `vcs` are those of the ranks, at most as many as a relation has.
+/// order, the rank of that channel, or the word `adaptive` where it has none. The shape and `vcs` are those of the ranks, at
+/// most as many as a relation has.
 pub fn write_ranks<W: Sink>(
     ranks: &Ranks,
     shape: &Shape,

@@ -13,6 +13,7 @@ use crate::sink::Sink;
 use crate::writing::{WriteFault, put_pieces, shown_wide};
 use itoa::Buffer;
 use noc_net::Network;
+use noc_packet::{INDICES, MAX_CHANNELS};
 
 // What the summary says of a network.
 #[derive(Clone, Copy, Debug, PartialEq, Eq)]
@@ -148,7 +149,7 @@ fn port_total(network: &Network, router: usize, port: usize, column: usize) -> u
     requires router { router < nodes network.now.net.relation.grid }
     requires port { port < ports network.now.net.relation.grid }
     requires column { column < 10 }
-    ensures bound { result ≤ 8 * 2 ^ 64 }
+    ensures bound { result ≤ MAX_CHANNELS * 2 ^ 64 }
     ensures value { result ≡ sum (over_port network.now.net.relation router (column_at network.now column router) port) }
 {
     if !has_inputs(network.relation().shape(), router, port) {
@@ -178,7 +179,7 @@ fn count_at(network: &Network, router: usize, port: usize, vc: usize, column: us
 fn router_total(network: &Network, router: usize, column: usize) -> u128
     requires router { router < nodes network.now.net.relation.grid }
     requires column { column < 10 }
-    ensures bound { result ≤ 56 * 2 ^ 64 }
+    ensures bound { result ≤ INDICES * 2 ^ 64 }
     ensures value { result ≡ sum (over_router network.now.net.relation router (column_at network.now column router)) }
 {
     let mut total = 0u128;

@@ -1,9 +1,9 @@
 -- With accepted ranks something happens in each pending cycle.
-use Rattle.std.proofs.Common.{◌≡◌, ◌≢◌, ℕ, ◌<◌, ◌≤◌, true, length, count_by, Some, refl, ◌∙◌, inl, inr, arith}
+use Rattle.std.proofs.Common.{◌≡◌, ◌≢◌, ℕ, ◌<◌, ◌≤◌, true, length, count_by, refl, ◌∙◌, inl, inr, arith}
 use Rattle.std.specs.Prelude.{◌⊎◌, ◌&&◌, nat_le, is_none}
 use Rattle.std.proofs.lemmas.Bool.{false≢true, and_from, le-leb, cases_lt}
 use Rattle.noc_topo.specs.Words.{Has, below}
-use Rattle.noc_route.specs.Ranks.{IsRankedBy, Ranking, rank_at}
+use Rattle.noc_route.specs.Ranks.{IsRankedBy, Ranking}
 use Rattle.noc_route.specs.Channel.{Channel}
 use Rattle.noc_router.specs.Verdict.{is_event}
 use Rattle.noc_router.specs.declared.verdict.Verdict.{Verdict}
@@ -19,7 +19,7 @@ use Rattle.noc_views.proofs.LastEvent.{flying, some-counted, some-listed}
 use Rattle.noc_views.proofs.OrderedStates.{ordered-frozen}
 use Rattle.noc_views.proofs.PlaceLemmas.{input-at}
 use Rattle.noc_views.proofs.Theorem.{good-network}
-use Rattle.noc_progress.proofs.Theorems.{accepted-escape, each-pending}
+use Rattle.noc_progress.proofs.Theorems.{each-pending}
 use Rattle.noc_headline.specs.Headline.{Says}
 use Rattle.noc_headline.specs.Pending.{IsPendingIn, HappensIn, lands, credit, injects, turns}
 use Rattle.noc_headline.proofs.SaysLemmas.{verdict-says}
@@ -92,4 +92,4 @@ module _ (net : Setup) (good : IsGoodSetup net) (n : ℕ) where
 
 pub ranked-happens : (net : Setup) (ranks : Ranking) (n : ℕ) → IsGoodSetup net → IsRankedBy net.relation ranks → IsPendingIn net n → HappensIn net n
 ranked-happens net ranks n good ranked w =
-    happens net good n (each-pending net good (λ r p v. Some (rank_at ranks r p v)) (accepted-escape net ranks good ranked) n (pending net good n w))
+    happens net good n (each-pending net good ranks ranked n (pending net good n w))

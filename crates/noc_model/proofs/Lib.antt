@@ -12,5 +12,6 @@ pub mod PostLemmas
 pub mod RunLemmas
 pub mod SentLemmas
 pub mod StepLemmas
+pub mod StillRun
 pub mod UnseenLemmas
 pub mod WireLemmas

@@ -1,4 +1,5 @@
 pub mod FaultLemmas
+pub mod LimitLemmas
 pub mod PacketLemmas
 pub mod PartsLemmas
 pub mod ReaderLemmas

@@ -3,6 +3,8 @@
 
 mod event_core;
 mod fault;
+mod jump;
+mod limit;
 mod network;
 mod packets;
 mod parts;
@@ -13,6 +15,7 @@ mod wire;
 
 pub use event_core::Core;
 pub use fault::NetFault;
+pub use limit::MAX_LIMIT;
 pub use network::{Network, advance, decide, deliver};
 pub use noc_model::{CYCLE_LIMIT, Event, NotReady};
 pub use parts::Parts;

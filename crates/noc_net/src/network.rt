@@ -18,14 +18,16 @@ ghost use Rattle.noc_model.specs.Network.{Setup, arrival_in, packet_at, state_at
 ghost use Rattle.noc_model.specs.Progress.{is_pending, is_stuck, last_event_before};
 ghost use Rattle.noc_net.specs.Parts.{AreParts, run_in};
 ghost use Rattle.noc_net.specs.Latest.{later_of, latest_of};
+ghost use Rattle.noc_net.specs.Limit.{limit_of};
 ghost use Rattle.noc_model.specs.Unseen.{AreInStep, AreInStepUnseen, advanced};
 
 use crate::fault::NetFault;
+use crate::jump::jump;
 use crate::packets::{ends_at, first_fault, starts_at};
 use crate::parts::Parts;
 use crate::room::{LINKS, Room};
 use noc_model::CYCLE_LIMIT;
-use noc_packet::{Beat, ChannelSet, MAX_PACKETS, Memory, Packet};
+use noc_packet::{Beat, ChannelSet, MAX_BUFFER, MAX_PACKETS, Memory, Packet};
 use noc_route::Relation;
 use noc_router::{Finding, Plan, Router, VERDICTS};
 use std::alloc::Global;
@@ -65,7 +67,7 @@ impl Network {
         packets: Vec<Packet>,
     ) -> Result<Network, NetFault>
         requires some_place { 0 < places }
-        requires places { places ≤ 16 }
+        requires places { places ≤ MAX_BUFFER }
         ensures made { IfOk result (λ n. n ≡ record { net = record { relation = relation; places = places; packets = packets.items }; count = 0 }) }
         ensures good { IfOk result (λ n. IsGoodSetup n.net) }
         ensures fault { (e : NetFaultValue) → fault_of relation packets.items ≡ Some e → result ≡ Err e }
@@ -148,9 +150,11 @@ impl Network {
         self.parts.count
     }
 
-    /// Whether cycle `count` is pending: a packet due by then has its tail not out yet.
+    /// Whether cycle `count` is pending: a packet due by then has its tail not out yet. None is where the relation is ranked and
+    /// the limit is reached.
     pub fn pending(&self) -> bool
-        ensures { result ≡ is_pending self.now.net self.now.count (state_at self.now.net self.now.count) }
+        ensures value { result ≡ is_pending self.now.net self.now.count (state_at self.now.net self.now.count) }
+        ensures ranked { (ranks : Ranking) → IsRankedBy self.now.net.relation ranks → limit_of self.now.net ≤ self.now.count → result ≡ false }
     {
         self.is_waiting_by(self.parts.count)
     }
@@ -202,10 +206,11 @@ impl Network {
         self.last_event() != Some(last) && self.is_waiting_by(last)
     }
 
-    /// The cycle in which the tail of a packet was out.
+    /// The cycle in which the tail of a packet was out: one below the limit where the relation is ranked and the limit is reached.
     pub fn arrival(&self, number: usize) -> Option<u64>
         requires { number < length self.now.net.packets }
-        ensures { result ≡ arrival_in self.now.net (state_at self.now.net self.now.count) number }
+        ensures value { result ≡ arrival_in self.now.net (state_at self.now.net self.now.count) number }
+        ensures ranked { (ranks : Ranking) → IsRankedBy self.now.net.relation ranks → limit_of self.now.net ≤ self.now.count → (cycle : ℕ) × (result ≡ Some cycle) × (cycle < limit_of self.now.net) }
     {
         let parts = &self.parts;
         parts.routers[parts.packets[number].destination as usize].arrival(number as u32)
@@ -304,8 +309,8 @@ fn new_routers(
     packets: &[Packet],
 ) -> Result<Vec<Router>, Memory>
     requires some_place { 0 < places }
-    requires places { places ≤ 16 }
-    requires few { length packets.now ≤ 20000 }
+    requires places { places ≤ MAX_BUFFER }
+    requires few { length packets.now ≤ MAX_PACKETS }
     requires sendable { All IsSendable packets.now }
     ensures { IfOk result (λ routers. routers.items ≡ tabulate (nodes_of relation.now.grid) (λ node. opening_view (record { grid = relation.now.grid; node = node; vcs = relation.now.vcs; places = places }) (starts_of packets.now node) (ends_of packets.now node))) }
 {
@@ -355,7 +360,7 @@ fn run_all(
     deliver_all(relation, routers, beats);
 }
 
-// Runs the cycles from `first` to before `end`, and leaves the findings as they were.
+// Runs the cycles from `first` to before `end`, and leaves the findings as they were. Those in which nothing happens are run at once.
 fn skip(
     relation: &Relation,
     plan: &mut Plan,
@@ -371,9 +376,11 @@ fn skip(
     ensures plan { IsDecidedFor (ports_of relation.now.grid) relation.now.vcs plan.new }
     ensures in_step { (net : Setup) → net.relation ≡ relation.now → AreInStepUnseen net first routers.old beats.old → AreInStepUnseen net end routers.new beats.new }
 {
-    for cycle in first..end {
+    let mut cycle = first;
+    while cycle < end {
         advance_all(relation, plan, cycle, routers, beats);
         deliver_all(relation, routers, beats);
+        cycle = jump(relation, plan, cycle, end, routers, beats);
     }
 }
 
@@ -486,7 +493,7 @@ fn take_beats(relation: &Relation, router: &mut Router, beats: &mut [Beat; LINKS
 }
 
 // The ports with a beat that carries something. They are found without a branch for each, since none could be foreseen.
-fn arrived(beats: &[Beat; LINKS]) -> ChannelSet
+pub(crate) fn arrived(beats: &[Beat; LINKS]) -> ChannelSet
     ensures { AreLoaded 6 beats.now result }
 {
     let mut ports = ChannelSet::empty();

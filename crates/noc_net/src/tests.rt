@@ -173,4 +173,5 @@ fn nothing_is_found_before_a_decide(rt: HostRuntime) {
     assert_eq!(rt; core.findings(0).len(), 3);
 }
 
+mod jumps;
 mod one_router;

@@ -10,6 +10,7 @@ mod tests;
 
 pub use limits::{
     INDICES, MAX_BUFFER, MAX_CHANNELS, MAX_CLASSES, MAX_DUE, MAX_LENGTH, MAX_NODES, MAX_PACKETS,
+    MAX_PORTS,
 };
 pub use memory::Memory;
 pub use packet::{Beat, Flit, Packet, flit_of};

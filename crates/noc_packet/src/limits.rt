@@ -6,6 +6,9 @@ pub const MAX_PACKETS: usize = 20_000;
 /// The most nodes of one network.
 pub const MAX_NODES: usize = 256;
 
+/// The most ports of one router: two for each of three dimensions, and the local port.
+pub const MAX_PORTS: usize = 7;
+
 /// The most flits of one packet.
 pub const MAX_LENGTH: u32 = 64;
 
@@ -13,7 +16,7 @@ pub const MAX_LENGTH: u32 = 64;
 pub const MAX_DUE: u32 = 1_000_000;
 
 /// The most virtual channels of one link.
-pub const MAX_CHANNELS: usize = 4;
+pub const MAX_CHANNELS: usize = 8;
 
 /// The most places, in flits, of one buffer.
 pub const MAX_BUFFER: usize = 16;
@@ -21,5 +24,7 @@ pub const MAX_BUFFER: usize = 16;
 /// The most message classes.
 pub const MAX_CLASSES: usize = 4;
 
-/// How many indices a set of channels is over: 0 to 55.
+/// How many indices a set of channels is over: 0 to 55, one for each channel of a router.
 pub const INDICES: usize = 56;
+
+const _: () = prove!(INDICES == MAX_PORTS * MAX_CHANNELS);

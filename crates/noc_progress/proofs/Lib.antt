@@ -3,7 +3,7 @@ pub mod BuiltLemmas
 pub mod ChainLemmas
 pub mod CountableLemmas
 pub mod DrainLemmas
-pub mod EscapeLemmas
+pub mod DistanceBound
 pub mod HasLemmas
 pub mod HeadLemmas
 pub mod InjectionPhase

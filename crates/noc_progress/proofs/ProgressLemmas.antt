@@ -1,15 +1,16 @@
 -- A pending cycle has an event, where ranks have an escape and the worms of each frozen state are in order.
 use Rattle.std.proofs.Common.{◌≡◌, ℕ, zero, suc, ◌<◌, ◌≤◌, Bool, true, false, Option, List, [], ◌∷◌, ◌++◌, map, refl, ap, ap₂, ◌∙◌, arith, inl, inr, subst, append-nil}
-use Rattle.std.specs.Prelude.{count_by, find, nat_eq, ◌&&◌, filter}
+use Rattle.std.specs.Prelude.{count_by, find, nat_eq, ◌&&◌, filter, IsTrue}
 use Rattle.std.proofs.lemmas.Bool.{true≢false, and_left, and_right, ne_eqb}
 use Rattle.std.proofs.lemmas.List.{nil_from_length}
 use Rattle.noc_model.specs.Network.{end_distance, after_injection, In, Injection, Located, On, Out, Place, Setup, Source, State, after_credits, after_landing, all_inputs, frozen, injected_place, injections, landed_place, state_at, verdict_in}
 use Rattle.noc_model.specs.Progress.{events, is_flying, is_pending, is_stuck}
 use Rattle.noc_progress.specs.Built.{IsBuilt}
 use Rattle.noc_route.specs.Channel.{Channel}
+use Rattle.noc_route.specs.Ranks.{IsRanked}
+use Rattle.noc_route.specs.Routes.{permits}
 use Rattle.noc_router.specs.Verdict.{is_event}
 use Rattle.noc_topo.specs.Words.{Has}
-use Rattle.noc_progress.specs.Escape.{HasEscape}
 use Rattle.noc_progress.proofs.HasLemmas.{none-counted}
 use Rattle.noc_progress.proofs.WormFacts.{IsNearing, IsChain, IsQuiet}
 use Rattle.noc_progress.proofs.QuietLemmas.{quiet-absurd}
@@ -71,7 +72,7 @@ module _ (net : Setup) (n : ℕ) (S : State) (none : events net n S ≡ 0) where
 
 module _ (net : Setup) (built : IsBuilt net) (worms : (n : ℕ) → IsChain net (frozen net n (state_at net n)))
     (nearer : IsNearing net) (bound : ℕ) (within : (c : Channel) (t : ℕ) → end_distance net.relation c t ≤ bound)
-    (ranks : ℕ → ℕ → ℕ → Option ℕ) (ranked : HasEscape net.relation ranks) where
+    (ranks : ℕ → ℕ → ℕ → Option ℕ) (ranked : IsRanked (λ m c t o. IsTrue (permits net.relation m c t o)) net.relation.grid ranks) where
   -- each pending cycle has an event
   pub pending-event : (n : ℕ) → is_pending net n (state_at net n) ≡ true → 0 < events net n (state_at net n)
   pending-event n pending = at (events net n (state_at net n)) refl

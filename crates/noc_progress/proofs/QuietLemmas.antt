@@ -7,6 +7,7 @@ use Rattle.std.proofs.lemmas.Nat.{div-mul-add, mod-mul-add}
 use Rattle.noc_topo.specs.Words.{Has, below}
 use Rattle.noc_topo.specs.Shape.{distance, local_port, nodes, ports}
 use Rattle.noc_route.specs.Channel.{Channel, Link, Inject, Eject, channel_vc}
+use Rattle.noc_route.specs.Ranks.{LeadsTo, direct, through, IsRanked}
 use Rattle.noc_route.specs.Routes.{permits}
 use Rattle.noc_router.specs.Verdict.{Unrouted, Waits, verdict_of}
 use Rattle.noc_model.specs.Network.{Setup, State, Located, Place, Source, On, In, Out, size, packet_at, leaving, owner_of, owned_by, next_channel, end_of, end_distance, claim_of, claim_with, ask, is_idle, has_credit, count_in, has_channel, first_waiting, flits_of, is_at_source, is_injection_of, injection_at, injection_with, beginning, round_at, tail_place, out_cycle}
@@ -16,7 +17,6 @@ use Rattle.noc_ownership.proofs.Members.{Has-filter, Has-kept, find-some, list_a
 use Rattle.noc_ownership.proofs.OpeningLemmas.{below-has}
 use Rattle.noc_ownership.proofs.GrantLemmas.{Has-below}
 use Rattle.noc_progress.specs.Built.{IsReal, IsBuilt, LeadsOn}
-use Rattle.noc_progress.specs.Escape.{LeadsTo, direct, through, HasEscape}
 use Rattle.noc_progress.proofs.HasLemmas.{has-filter_map, map-has, find-has, least-some}
 use Rattle.noc_progress.proofs.RouterLemmas.{IsInput, grant-given, index_below, neighbour-below}
 use Rattle.noc_progress.proofs.WormFacts.{IsNearing, IsChain, IsQuiet}
@@ -24,7 +24,7 @@ use Rattle.noc_progress.proofs.WormLemmas.{is_input, owner-has, has-owner, tail-
 
 module _ (net : Setup) (F : State) (built : IsBuilt net) (worm : IsChain net F) (n : ℕ) (quiet : IsQuiet net n F)
     (nearer : IsNearing net) (bound : ℕ) (within : (c : Channel) (t : ℕ) → end_distance net.relation c t ≤ bound)
-    (ranks : ℕ → ℕ → ℕ → Option ℕ) (ranked : HasEscape net.relation ranks) where
+    (ranks : ℕ → ℕ → ℕ → Option ℕ) (ranked : IsRanked (λ m c t o. IsTrue (permits net.relation m c t o)) net.relation.grid ranks) where
   -- how far the end of a channel is from where packet p goes
   abbrev far : ℕ → Channel → ℕ
   far p c = end_distance net.relation c (packet_at net p).destination
@@ -103,7 +103,7 @@ module _ (net : Setup) (F : State) (built : IsBuilt net) (worm : IsChain net F) 
 
   -- no owned channel with a rank is led to from c, with packet p
   IsFree : ℕ → Channel → Type 0
-  IsFree p c = (a q w k x : ℕ) → LeadsTo net.relation ranks (packet_at net p).class (packet_at net p).destination c (Link a q w) → ranks a q w ≡ Some k → Has (Link a q w, x) F.own → ⊥
+  IsFree p c = (a q w k x : ℕ) → LeadsTo (λ m c t o. IsTrue (permits net.relation m c t o)) ranks (packet_at net p).class (packet_at net p).destination c (Link a q w) → ranks a q w ≡ Some k → Has (Link a q w, x) F.own → ⊥
 
   -- no head waits at c
   waits-absurd : (c : Channel) (p r port : ℕ) → IsInput net c r port → owner_of net F c ≡ Some p → claim_of net F r c ≡ Waits (ask net F r c) → IsFree p c → ⊥
@@ -130,7 +130,7 @@ module _ (net : Setup) (F : State) (built : IsBuilt net) (worm : IsChain net F) 
       -- elsewhere a channel with a rank
       away : r ≢ (packet_at net p).destination → ⊥
       away other =
-          let e = ranked.escape (packet_at net p).class (packet_at net p).destination c (leaving net r lead.0) r lead.2 ends other in
+          let e = ranked.escape (packet_at net p).class (packet_at net p).destination c (leaving net r lead.0) r port lead.2 input.arrives other in
           let real = built.real (packet_at net p).class c (packet_at net p).destination (Link r e.0 e.1) e.3 in
           let same = leaving-index r e.0 e.1 real in
           let l = real-index net F built worm (Link r e.0 e.1) real in

@@ -1,6 +1,6 @@
 -- What holds of every network that was made: where ranks rise along its relation each pending cycle has an event; each event is
 -- one less to come; and by the last due time and the budget all packets are out.
-use Rattle.std.proofs.Common.{◌≡◌, ℕ, suc, ◌+◌, ◌<◌, ◌≤◌, true, false, length, Option, Some}
+use Rattle.std.proofs.Common.{◌≡◌, ℕ, suc, ◌+◌, ◌<◌, ◌≤◌, true, false, length, Some}
 use Rattle.noc_route.specs.Ranks.{IsRankedBy, Ranking, rank_at}
 use Rattle.noc_model.specs.Network.{Setup, packet_at, state_at, frozen_at, network_cycle, arrival_in}
 use Rattle.noc_model.specs.Progress.{remainder, budget, events, is_pending, is_stuck}
@@ -9,8 +9,7 @@ use Rattle.noc_ownership.proofs.BuiltLemmas.{good-built, good-wired}
 use Rattle.noc_ownership.proofs.Facts.{whole-at, whole-frozen_at, queued-frozen_at, led-frozen_at}
 use Rattle.noc_progress.specs.Built.{IsBuilt}
 use Rattle.noc_progress.proofs.BuiltLemmas.{built-good, nearer-good}
-use Rattle.noc_progress.specs.Escape.{HasEscape}
-use Rattle.noc_progress.proofs.EscapeLemmas.{distance-within, escape-rising}
+use Rattle.noc_progress.proofs.DistanceBound.{distance-within}
 use Rattle.noc_progress.proofs.WormFacts.{IsChain}
 use Rattle.noc_progress.proofs.ProgressLemmas.{pending-event, never-stuck}
 use Rattle.noc_progress.proofs.ChainLemmas.{chain-whole}
@@ -44,14 +43,14 @@ module _ (net : Setup) (good : IsGoodSetup net) where
   unfolding state_at
   each-cycle-falls n = each-cycle n
 
-  module _ (ranks : ℕ → ℕ → ℕ → Option ℕ) (ranked : HasEscape net.relation ranks) where
+  module _ (ranks : Ranking) (ranked : IsRankedBy net.relation ranks) where
     -- each pending cycle has an event
     pub each-pending : (n : ℕ) → is_pending net n (state_at net n) ≡ true → 0 < events net n (state_at net n)
-    each-pending = pending-event net built chain (nearer-good net good) 45 (distance-within net good.relation.table.grid) ranks ranked
+    each-pending = pending-event net built chain (nearer-good net good) 30 (distance-within net good.relation.table.grid) (rank_at ranks) ranked
 
     -- so the network is stuck at no count
     pub not-stuck : (n : ℕ) → is_stuck net n ≡ false
-    not-stuck = never-stuck net built chain (nearer-good net good) 45 (distance-within net good.relation.table.grid) ranks ranked
+    not-stuck = never-stuck net built chain (nearer-good net good) 30 (distance-within net good.relation.table.grid) (rank_at ranks) ranked
 
     module _ (last : ℕ) (due : (p : ℕ) → p < length net.packets → (packet_at net p).due ≤ last) where
       -- all packets arrive before the last due time and the budget
@@ -62,10 +61,3 @@ module _ (net : Setup) (good : IsGoodSetup net) where
       pub each-idle : (n : ℕ) → last + budget net ≤ n → is_pending net n (state_at net n) ≡ false
       unfolding state_at
       each-idle = idle-by net last due each-cycle-falls (opening-budget net) each-pending
-
--- what the check of ranks accepts: each link channel has a rank, and each permitted step rises
-pub accepted-escape : (net : Setup) (k : Ranking) → IsGoodSetup net → IsRankedBy net.relation k → HasEscape net.relation (λ r p v. Some (rank_at k r p v))
-accepted-escape net k made ranked = escape-rising net made (rank_at k) ranked
-
-pub accepted-never-stuck : (net : Setup) (k : Ranking) → IsGoodSetup net → IsRankedBy net.relation k → (n : ℕ) → is_stuck net n ≡ false
-accepted-never-stuck net k made ranked = not-stuck net made (λ r p v. Some (rank_at k r p v)) (accepted-escape net k made ranked)

@@ -2,7 +2,6 @@
 use Rattle.std.specs.Prelude.{◌≡◌, ℕ, ◌<◌, IsTrue, length, Some}
 use Rattle.noc_topo.specs.Shape.{nodes, neighbour}
 use Rattle.noc_route.specs.Channel.{Channel, Link, Inject, Eject}
-use Rattle.noc_route.specs.Ranks.{rank_of}
 use Rattle.noc_route.specs.Routes.{permits}
 use Rattle.noc_model.specs.Network.{Setup, size, packet_at, leaving}
 
@@ -27,7 +26,3 @@ module _ (net : Setup) where
         → LeadsOn (packet_at net p).class (Inject (packet_at net p).source v) (packet_at net p).destination (packet_at net p).source
     pub goes_on : (m : ℕ) (c : Channel) (t r q v a b : ℕ) → IsTrue (permits net.relation m c t (Link r q v)) → neighbour net.relation.grid r q ≡ Some (a, b)
         → LeadsOn m (Link r q v) t a
-
-  -- each permitted step onto a link channel rises
-  abbrev pub IsRising : (ℕ → ℕ → ℕ → ℕ) → Type 0
-  IsRising ranks = (m : ℕ) (c : Channel) (t r q v : ℕ) → IsTrue (permits net.relation m c t (Link r q v)) → rank_of ranks c < ranks r q v

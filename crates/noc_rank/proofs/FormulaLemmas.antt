@@ -1,7 +1,8 @@
 -- Ranks by formula.
-use Rattle.std.proofs.Common.{◌≡◌, ℕ, ◌+◌, ◌-◌, ◌/◌, ◌%◌, ◌<◌, ◌≤◌, Bool, true, false, List, length, get_or, refl, arith}
-use Rattle.std.specs.Prelude.{nat_le, nat_eq, not, ◌&&◌, if◌then◌else◌}
+use Rattle.std.proofs.Common.{◌≡◌, ℕ, ◌+◌, ◌-◌, ◌/◌, ◌%◌, ◌<◌, ◌≤◌, Bool, true, false, List, Option, Some, None, length, get_or, refl, sym, subst, ◌∙◌, arith}
+use Rattle.std.specs.Prelude.{nat_le, nat_eq, not, ◌&&◌, IfSome, if◌then◌else◌}
 use Rattle.std.proofs.lemmas.Bool.{leb-true, eqb-true, and_parts}
+use Rattle.std.proofs.lemmas.Option.{none-some}
 use Rattle.noc_packet.specs.declared.limits.TheConstants.{MAX_CHANNELS, MAX_CLASSES}
 use Rattle.noc_topo.specs.Shape.{Grid, IsGrid, nodes, dimensions, local_port, coordinates, padded}
 use Rattle.noc_topo.proofs.LinkLemmas.{AreRadices-from_test, AreRadices-at, IsWithin-at, IsWithin-coordinates, corner-at, get_or-padded}
@@ -9,11 +10,10 @@ use Rattle.noc_route.specs.Relation.{is_right}
 use Rattle.noc_route.specs.declared.rule.Rule.{Rule}
 use Rattle.noc_route.specs.declared.rule.Rule.TheVariants.{Dateline, WestFirst}
 use Rattle.noc_route.proofs.PlaceLemmas.{half-some}
-use Rattle.noc_rank.specs.declared.rows.TheConstants.{MAX_RANK}
 use Rattle.noc_route.specs.Ranks.{Ranking, is_place, is_channel, places, place_of, rank_at}
 use Rattle.noc_rank.specs.Ranking.{IsRanking}
 use Rattle.noc_rank.specs.Formulas.{has_ranks, formula_at, IsGenerated}
-use Rattle.noc_rank.proofs.PlaceLemmas.{is_place-parts, is_channel-place, place-below, place-router, place-port, place-vc}
+use Rattle.noc_rank.proofs.PlaceLemmas.{is_place-parts, place-below, place-router, place-port, place-vc}
 
 -- ---- what a rule with ranks has
 
@@ -54,41 +54,47 @@ coordinate-inside g r i sound l =
 
 -- ---- a list of ranks by formula
 
-module _ (g : Grid) (vcs classes : ℕ) (rule : Rule) (ranks : List ℕ) (long : length ranks ≡ places g vcs)
-    (items : (k : ℕ) → k < places g vcs → get_or ranks k 0 ≡ formula_at g vcs classes rule (k / vcs / local_port g) (k / vcs % local_port g) (k % vcs)) where
+module _ (g : Grid) (vcs classes : ℕ) (rule : Rule) (ranks : List (Option ℕ)) (long : length ranks ≡ places g vcs)
+    (items : (k : ℕ) → k < places g vcs → get_or ranks k None ≡ formula_at g vcs classes rule (k / vcs / local_port g) (k / vcs % local_port g) (k % vcs)) where
   abbrev listed : Ranking
   listed = record { grid = g; vcs = vcs; ranks = ranks }
 
-  at_place : (r p v : ℕ) → is_place g vcs r p v ≡ true → get_or ranks (place_of g vcs r p v) 0 ≡ formula_at g vcs classes rule r p v
+  at_place : (r p v : ℕ) → is_place g vcs r p v ≡ true → get_or ranks (place_of g vcs r p v) None ≡ formula_at g vcs classes rule r p v
   at_place r p v e =
       let parts = is_place-parts g vcs r p v e in
       let here = items (place_of g vcs r p v) (place-below g vcs r p v e) in
       rw (place-router g vcs r p v parts.1 parts.2, place-port g vcs r p v parts.1 parts.2, place-vc g vcs r p v parts.2) at here
 
-  at_any : (r p v : ℕ) (b : Bool) → is_place g vcs r p v ≡ b → (if b then get_or ranks (place_of g vcs r p v) 0 else 0) ≡ formula_at g vcs classes rule r p v
+  at_any : (r p v : ℕ) (b : Bool) → is_place g vcs r p v ≡ b → (if b then get_or ranks (place_of g vcs r p v) None else None) ≡ formula_at g vcs classes rule r p v
   at_any r p v true e = at_place r p v e
   at_any r p v false e = rw e refl
 
   pub listed-rank_at : (r p v : ℕ) → rank_at listed r p v ≡ formula_at g vcs classes rule r p v
   listed-rank_at r p v = at_any r p v (is_place g vcs r p v) refl
 
-  -- the list is ranks where those of link channels are within the limits
-  pub IsRanking-listed : IsGrid g
-      → ((k : ℕ) → k < places g vcs → is_channel g vcs (k / vcs / local_port g) (k / vcs % local_port g) (k % vcs) ≡ true → 1 ≤ get_or ranks k 0)
-      → ((k : ℕ) → k < places g vcs → get_or ranks k 0 ≤ 1000) → IsRanking listed
-  IsRanking-listed sound some few = record { grid = sound; long = long; low = low_at; high = λ r p v. high_at r p v (is_place g vcs r p v) refl }
+  -- the list is ranks where each of them is within the limits
+  pub IsRanking-listed : IsGrid g → ((k : ℕ) → k < places g vcs → IfSome (get_or ranks k None) (λ n. 1 ≤ n)) → ((k : ℕ) → k < places g vcs → IfSome (get_or ranks k None) (λ n. n ≤ 1000)) → IsRanking listed
+  IsRanking-listed sound some few = record {
+    grid = sound;
+    long = long;
+    real = λ r p v n e. real_at r p v n (is_channel g vcs r p v) refl (sym (listed-rank_at r p v) ∙ e);
+    low = λ r p v n e. (within r p v n (is_place g vcs r p v) refl e).0;
+    high = λ r p v n e. omega (arith, (within r p v n (is_place g vcs r p v) refl e).1);
+  }
     where
-      low_at : (r p v : ℕ) → is_channel g vcs r p v ≡ true → 1 ≤ rank_at listed r p v
-      low_at r p v e =
-          let here : is_place g vcs r p v ≡ true = is_channel-place g vcs r p v e in
-          let parts = is_place-parts g vcs r p v here in
-          let there = some (place_of g vcs r p v) (place-below g vcs r p v here) in
-          let low = rw (place-router g vcs r p v parts.1 parts.2, place-port g vcs r p v parts.1 parts.2, place-vc g vcs r p v parts.2) at there in
-          rw here (low e)
+      real_at : (r p v n : ℕ) (b : Bool) → is_channel g vcs r p v ≡ b → formula_at g vcs classes rule r p v ≡ Some n → is_channel g vcs r p v ≡ true
+      real_at r p v n true e f = e
+      real_at r p v n false e f = absurd (none-some n (sym (rw e refl) ∙ f))
 
-      high_at : (r p v : ℕ) (b : Bool) → is_place g vcs r p v ≡ b → (if b then get_or ranks (place_of g vcs r p v) 0 else 0) ≤ MAX_RANK
-      high_at r p v true e = omega (arith, few (place_of g vcs r p v) (place-below g vcs r p v e))
-      high_at r p v false e = omega arith
+      within : (r p v n : ℕ) (b : Bool) → is_place g vcs r p v ≡ b → rank_at listed r p v ≡ Some n → (1 ≤ n) × (n ≤ 1000)
+      within r p v n true e f =
+          let there : get_or ranks (place_of g vcs r p v) None ≡ Some n = sym (rw e refl) ∙ f in
+          let low = some (place_of g vcs r p v) (place-below g vcs r p v e) in
+          let high = few (place_of g vcs r p v) (place-below g vcs r p v e) in
+          let L : Option ℕ → Type 0 = λ o. IfSome o (λ n. 1 ≤ n) in
+          let H : Option ℕ → Type 0 = λ o. IfSome o (λ n. n ≤ 1000) in
+          (subst L there low, subst H there high)
+      within r p v n false e f = absurd (none-some n (sym (rw e refl) ∙ f))
 
   pub IsGenerated-listed : has_ranks g vcs classes rule ≡ true → IsRanking listed → IsGenerated g vcs classes rule listed
   IsGenerated-listed ruled sound = record { ruled = ruled; grid = refl; vcs_are = refl; ranking = sound; ranks = listed-rank_at }

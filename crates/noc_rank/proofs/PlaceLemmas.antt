@@ -1,13 +1,13 @@
 -- Places of link channels, and the order of numbers with many digits.
-use Rattle.std.proofs.Common.{◌≡◌, ℕ, zero, suc, ◌+◌, ◌*◌, ◌/◌, ◌%◌, ◌<◌, true, List, [], ◌∷◌, ◌++◌, length, get_or, refl, arith, inl, inr}
-use Rattle.std.proofs.Math.Nat.{div-lt_iff_lt-mul, mod-lt, zero-mul, mul_comm}
+use Rattle.std.proofs.Common.{◌≡◌, ℕ, zero, suc, ◌+◌, ◌*◌, ◌/◌, ◌%◌, ◌<◌, ◌≤◌, true, None, List, [], ◌∷◌, ◌++◌, length, get_or, refl, ap, sym, ◌∙◌, arith, inl, inr}
+use Rattle.std.proofs.Math.Nat.{div-lt_iff_lt-mul, mod-lt, zero-mul, mul-zero, mul_comm}
 use Rattle.std.specs.Prelude.{nat_lt, nat_eq, ◌&&◌, ◌⊎◌, is_some}
-use Rattle.std.proofs.lemmas.Bool.{lt-ltb, ltb-true, eqb-true, and_parts, or_cases, false≢true}
+use Rattle.std.proofs.lemmas.Bool.{lt-ltb, ltb-true, eqb-true, and_parts, or_cases, cases_lt, false≢true}
 use Rattle.noc_topo.specs.Shape.{Grid, nodes, local_port, neighbour}
 use Rattle.noc_topo.proofs.LinkLemmas.{IsWithin}
 use Rattle.noc_route.specs.Order.{numbers_before}
 use Rattle.noc_route.proofs.PlaceLemmas.{flat-below, flat-div, flat-mod}
-use Rattle.noc_route.specs.Ranks.{is_place, is_channel, places, place_of}
+use Rattle.noc_route.specs.Ranks.{Ranking, is_place, is_channel, places, place_of, rank_at}
 
 -- ---- numbers with digits of different bases
 
@@ -75,6 +75,16 @@ place-port g vcs r p v k l = rw (flat-div (r * local_port g + p) vcs v l) (flat-
 pub place-router : (g : Grid) (vcs r p v : ℕ) → p < local_port g → v < vcs → place_of g vcs r p v / vcs / local_port g ≡ r
 place-router g vcs r p v k l = rw (flat-div (r * local_port g + p) vcs v l) (flat-div r (local_port g) p k)
 
+-- places are of one channel each
+pub place-same : (g : Grid) (vcs r p v a q w : ℕ) → is_place g vcs r p v ≡ true → is_place g vcs a q w ≡ true → place_of g vcs r p v ≡ place_of g vcs a q w → (r ≡ a) × (p ≡ q) × (v ≡ w)
+place-same g vcs r p v a q w d e same =
+    let here = is_place-parts g vcs r p v d in
+    let there = is_place-parts g vcs a q w e in (
+      sym (place-router g vcs r p v here.1 here.2) ∙ ap (λ k. k / vcs / local_port g) same ∙ place-router g vcs a q w there.1 there.2,
+      sym (place-port g vcs r p v here.1 here.2) ∙ ap (λ k. k / vcs % local_port g) same ∙ place-port g vcs a q w there.1 there.2,
+      sym (place-vc g vcs r p v here.2) ∙ ap (λ k. k % vcs) same ∙ place-vc g vcs a q w there.2,
+    )
+
 pub div-mod : (x n : ℕ) → 0 < n → x / n * n + x % n ≡ x
 div-mod x n l = omega (arith, mul_comm (x / n) n)
 
@@ -87,6 +97,39 @@ is_place-decoded g vcs k l m few =
     let pair : k / vcs < nodes g * local_port g = (div-lt_iff_lt-mul {k = vcs} {x = k} {y = nodes g * local_port g} l).1 few in
     let router : k / vcs / local_port g < nodes g = (div-lt_iff_lt-mul {k = local_port g} {x = k / vcs} {y = nodes g} m).1 pair in
     is_place-true g vcs _ _ _ router (mod-lt (k / vcs) m) (mod-lt k l)
+
+-- a list that has a place has channels
+pub vcs-some : (n vcs k : ℕ) → k < n * vcs → 0 < vcs
+vcs-some n vcs k l = at (cases_lt 0 vcs)
+  where
+    at : (0 < vcs) ⊎ (vcs ≤ 0) → 0 < vcs
+    at (inl some) = some
+    at (inr none) = let empty : vcs ≡ 0 = omega arith in absurd (omega (arith, mul-zero n, ap (λ v. n * v) empty))
+
+-- the place of an output channel on a link port, by its index
+pub is_place-index : (g : Grid) (vcs r i : ℕ) → 0 < vcs → r < nodes g → i < local_port g * vcs → is_place g vcs r (i / vcs) (i % vcs) ≡ true
+is_place-index g vcs r i some here l =
+    let port : i / vcs < local_port g = (div-lt_iff_lt-mul {k = vcs} {x = i} {y = local_port g} some).1 l in
+    let vc : i % vcs < vcs = omega arith in
+    is_place-true g vcs r (i / vcs) (i % vcs) here port vc
+
+pub output-place : (g : Grid) (vcs r i : ℕ) → 0 < vcs → place_of g vcs r (i / vcs) (i % vcs) ≡ r * local_port g * vcs + i
+output-place g vcs r i some =
+    let whole : (r * local_port g + i / vcs) * vcs ≡ r * local_port g * vcs + i / vcs * vcs = omega arith in
+    omega (arith, whole, div-mod i vcs some)
+
+-- the rank of an output channel on a link port, by its index
+pub output-known : (k : Ranking) (r i : ℕ) → r < nodes k.grid → i < local_port k.grid * k.vcs → r * local_port k.grid * k.vcs + i < places k.grid k.vcs
+output-known k r i here l =
+    let some : 0 < k.vcs = vcs-some (local_port k.grid) k.vcs i l in
+    let there = is_place-index k.grid k.vcs r i some here l in
+    omega (arith, place-below k.grid k.vcs r (i / k.vcs) (i % k.vcs) there, output-place k.grid k.vcs r i some)
+
+pub output-rank : (k : Ranking) (r i : ℕ) → r < nodes k.grid → i < local_port k.grid * k.vcs → get_or k.ranks (r * local_port k.grid * k.vcs + i) None ≡ rank_at k r (i / k.vcs) (i % k.vcs)
+output-rank k r i here l =
+    let some : 0 < k.vcs = vcs-some (local_port k.grid) k.vcs i l in
+    let there = is_place-index k.grid k.vcs r i some here l in
+    ap (λ n. get_or k.ranks n None) (sym (output-place k.grid k.vcs r i some)) ∙ sym (rw there refl)
 
 -- the place of what comes before comes before
 pub place-before : (g : Grid) (vcs a q w r p v : ℕ) → is_place g vcs a q w ≡ true → is_place g vcs r p v ≡ true
@@ -102,8 +145,8 @@ place-before g vcs a q w r p v d e before =
 -- ---- lists that grow
 
 -- what holds of each element so far, by its place, and of one more
-pub each-push : (P : ℕ → ℕ → Type 0) (xs : List ℕ) (x : ℕ) → ((k : ℕ) → k < length xs → P k (get_or xs k 0)) → P (length xs) x → (k : ℕ) → k < length xs + 1 → P k (get_or (xs ++ x ∷ []) k 0)
-each-push P [] x all last zero l = last
-each-push P [] x all last (suc k) l = absurd (omega arith)
-each-push P (y ∷ xs) x all last zero l = all zero (omega arith)
-each-push P (y ∷ xs) x all last (suc k) l = each-push (λ i. P (suc i)) xs x (λ i m. all (suc i) (omega arith)) last k (omega arith)
+pub each-push : {X : Type 0} (d : X) (P : ℕ → X → Type 0) (xs : List X) (x : X) → ((k : ℕ) → k < length xs → P k (get_or xs k d)) → P (length xs) x → (k : ℕ) → k < length xs + 1 → P k (get_or (xs ++ x ∷ []) k d)
+each-push d P [] x all last zero l = last
+each-push d P [] x all last (suc k) l = absurd (omega arith)
+each-push d P (y ∷ xs) x all last zero l = all zero (omega arith)
+each-push d P (y ∷ xs) x all last (suc k) l = each-push d (λ i. P (suc i)) xs x (λ i m. all (suc i) (omega arith)) last k (omega arith)

@@ -1,17 +1,16 @@
 -- Rows, and the list into which they are entered.
-use Rattle.std.proofs.Common.{◌≡◌, ◌≢◌, ℕ, ◌+◌, ◌*◌, ◌/◌, ◌%◌, ◌<◌, ◌≤◌, Bool, true, false, List, [], ◌∷◌, ◌++◌, length, take, get_or, set, Some, None, refl, ap, sym, subst, ◌∙◌, arith, inl, inr}
-use Rattle.std.specs.Prelude.{nat_lt, nat_le, nat_eq, ◌&&◌, ◌⊎◌, slice_get, slice_index, if◌then◌else◌}
-use Rattle.std.proofs.Math.Nat.{mul-zero}
+use Rattle.std.proofs.Common.{◌≡◌, ◌≢◌, ℕ, ◌+◌, ◌/◌, ◌%◌, ◌<◌, ◌≤◌, Bool, true, false, List, [], ◌∷◌, ◌++◌, length, take, get_or, set, Option, Some, None, refl, ap, sym, subst, ◌∙◌, arith, inl, inr}
+use Rattle.std.specs.Prelude.{nat_le, nat_eq, ◌&&◌, ◌⊎◌, slice_get, if◌then◌else◌}
 use Rattle.std.proofs.Math.Seq.{take-length}
-use Rattle.std.proofs.lemmas.Bool.{lt-ltb, leb-true, eqb-true, eq-eqb, and_parts, false≢true, cases_lt}
+use Rattle.std.proofs.lemmas.Bool.{leb-true, eqb-true, eq-eqb, and_parts, false≢true, cases_lt}
 use Rattle.std.proofs.lemmas.List.{length-set, get_or-set_same, get_or-set_other, take_more}
-use Rattle.std.proofs.lemmas.Option.{slice_get_within, get_or_from_slice_get, same_Some}
+use Rattle.std.proofs.lemmas.Option.{slice_get_within, get_or_from_slice_get, same_Some, none-some}
 use Rattle.noc_topo.specs.Shape.{Grid, IsGrid, local_port}
 use Rattle.noc_topo.specs.Words.{Each}
 use Rattle.noc_rank.specs.declared.rows.RankRow.{RankRow}
 use Rattle.noc_rank.specs.declared.rows.TheConstants.{MAX_RANK}
 use Rattle.noc_rank.specs.declared.fault.RankFault.{RankFault}
-use Rattle.noc_rank.specs.declared.fault.RankFault.TheVariants.{NoGenerated, NotRising, Memory, UnknownChannel, BadRank, DoubleChannel, MissingChannel}
+use Rattle.noc_rank.specs.declared.fault.RankFault.TheVariants.{NoGenerated, NotRising, NotRisingTo, NoEscape, Memory, UnknownChannel, BadRank, DoubleChannel, MissingChannel}
 use Rattle.noc_route.specs.Ranks.{Ranking, is_place, is_channel, places, place_of, rank_at}
 use Rattle.noc_rank.specs.Ranking.{IsRanking}
 use Rattle.noc_rank.specs.Rows.{is_rank, is_row_of, has_row, rank_in, fault_of, row_fault, AreGood, IsFirstRowFault, IsFirstMissing, IsFaultOfRows, IsRankingOf}
@@ -38,7 +37,7 @@ fault_of-same g vcs a b i row same = at (is_channel g vcs row.router row.port ro
 
 -- ---- the ranks of rows
 
-is_rank-parts : (n : ℕ) → is_rank n ≡ true → (1 ≤ n) × (n ≤ MAX_RANK)
+is_rank-parts : (n : ℕ) → is_rank (Some n) ≡ true → (1 ≤ n) × (n ≤ MAX_RANK)
 is_rank-parts n e = let parts = and_parts (nat_le 1 n) (nat_le n MAX_RANK) e in (leb-true 1 n parts.0, leb-true n MAX_RANK parts.1)
 
 is_row_of-parts : (r p v : ℕ) (row : RankRow) → is_row_of r p v row ≡ true → (row.router ≡ r) × (row.port ≡ p) × (row.vc ≡ v)
@@ -54,28 +53,31 @@ is_row_of-true r p v row a b d =
     let z = eq-eqb row.vc v d in
     rw (x, y, z) refl
 
--- rows with ranks above 0 give a channel a rank above 0 where one of them names it
-pub named-by_rank : (g : Grid) (vcs : ℕ) (rows : List RankRow) (r p v : ℕ) → Each (IsRight g vcs) rows → nat_lt 0 (rank_in rows r p v) ≡ has_row rows r p v
-named-by_rank g vcs [] r p v good = refl
-named-by_rank g vcs (row ∷ rows) r p v good = at (named-by_rank g vcs rows r p v good.1) (is_row_of r p v row) refl
+-- a rank that rows give is within the limits
+pub rank_in-within : (g : Grid) (vcs : ℕ) (rows : List RankRow) (r p v n : ℕ) → Each (IsRight g vcs) rows → rank_in rows r p v ≡ Some n → (1 ≤ n) × (n ≤ MAX_RANK)
+rank_in-within g vcs [] r p v n good e = absurd (none-some n e)
+rank_in-within g vcs (row ∷ rows) r p v n good e = at (rank_in-within g vcs rows r p v n good.1) (is_row_of r p v row) refl
   where
-    at : nat_lt 0 (rank_in rows r p v) ≡ has_row rows r p v → (b : Bool) → is_row_of r p v row ≡ b → nat_lt 0 (rank_in (row ∷ rows) r p v) ≡ has_row (row ∷ rows) r p v
-    at rest true e = let some : nat_lt 0 row.rank ≡ true = lt-ltb 0 row.rank (omega (arith, (is_rank-parts row.rank good.0.limits).0)) in rw (e, some) refl
-    at rest false e = rw e rest
+    at : (rank_in rows r p v ≡ Some n → (1 ≤ n) × (n ≤ MAX_RANK)) → (b : Bool) → is_row_of r p v row ≡ b → (1 ≤ n) × (n ≤ MAX_RANK)
+    at rest true f =
+        let same : row.rank ≡ Some n = sym (rw f refl) ∙ e in
+        is_rank-parts n (ap is_rank (sym same) ∙ good.0.limits)
+    at rest false f = rest (sym (rw f refl) ∙ e)
 
-pub rank_in-high : (g : Grid) (vcs : ℕ) (rows : List RankRow) (r p v : ℕ) → Each (IsRight g vcs) rows → rank_in rows r p v ≤ MAX_RANK
-rank_in-high g vcs [] r p v good = omega arith
-rank_in-high g vcs (row ∷ rows) r p v good = at (rank_in-high g vcs rows r p v good.1) (is_row_of r p v row) refl
+-- and of a link channel
+pub rank_in-real : (g : Grid) (vcs : ℕ) (rows : List RankRow) (r p v n : ℕ) → Each (IsRight g vcs) rows → rank_in rows r p v ≡ Some n → is_channel g vcs r p v ≡ true
+rank_in-real g vcs [] r p v n good e = absurd (none-some n e)
+rank_in-real g vcs (row ∷ rows) r p v n good e = at (rank_in-real g vcs rows r p v n good.1) (is_row_of r p v row) refl
   where
-    at : rank_in rows r p v ≤ MAX_RANK → (b : Bool) → is_row_of r p v row ≡ b → rank_in (row ∷ rows) r p v ≤ MAX_RANK
-    at rest true e = rw e (is_rank-parts row.rank good.0.limits).1
-    at rest false e = rw e rest
+    at : (rank_in rows r p v ≡ Some n → is_channel g vcs r p v ≡ true) → (b : Bool) → is_row_of r p v row ≡ b → is_channel g vcs r p v ≡ true
+    at rest true f = let parts = is_row_of-parts r p v row f in rw (parts.0, parts.1, parts.2) at good.0.channel
+    at rest false f = rest (sym (rw f refl) ∙ e)
 
-pub rank_in-none : (rows : List RankRow) (r p v : ℕ) → has_row rows r p v ≡ false → rank_in rows r p v ≡ 0
+pub rank_in-none : (rows : List RankRow) (r p v : ℕ) → has_row rows r p v ≡ false → rank_in rows r p v ≡ None
 rank_in-none [] r p v e = refl
 rank_in-none (row ∷ rows) r p v e = at (rank_in-none rows r p v) (is_row_of r p v row) refl
   where
-    at : (has_row rows r p v ≡ false → rank_in rows r p v ≡ 0) → (b : Bool) → is_row_of r p v row ≡ b → rank_in (row ∷ rows) r p v ≡ 0
+    at : (has_row rows r p v ≡ false → rank_in rows r p v ≡ None) → (b : Bool) → is_row_of r p v row ≡ b → rank_in (row ∷ rows) r p v ≡ None
     at rest true f = absurd (false≢true (sym e ∙ rw f refl))
     at rest false f = rw f (rest (sym (rw f) ∙ e))
 
@@ -109,36 +111,57 @@ rank_in-push_other (x ∷ rows) row r p v e = at (rank_in-push_other rows row r 
     at rest true f = rw f refl
     at rest false f = rw f rest
 
+pub has_row-push_same : (rows : List RankRow) (row : RankRow) (r p v : ℕ) → is_row_of r p v row ≡ true → has_row (rows ++ row ∷ []) r p v ≡ true
+has_row-push_same [] row r p v e = rw e refl
+has_row-push_same (x ∷ rows) row r p v e = at (has_row-push_same rows row r p v e) (is_row_of r p v x) refl
+  where
+    at : has_row (rows ++ row ∷ []) r p v ≡ true → (b : Bool) → is_row_of r p v x ≡ b → has_row ((x ∷ rows) ++ row ∷ []) r p v ≡ true
+    at rest true f = rw f refl
+    at rest false f = rw f rest
+
+pub has_row-push_other : (rows : List RankRow) (row : RankRow) (r p v : ℕ) → is_row_of r p v row ≡ false → has_row (rows ++ row ∷ []) r p v ≡ has_row rows r p v
+has_row-push_other [] row r p v e = rw e refl
+has_row-push_other (x ∷ rows) row r p v e = at (has_row-push_other rows row r p v e) (is_row_of r p v x) refl
+  where
+    at : has_row (rows ++ row ∷ []) r p v ≡ has_row rows r p v → (b : Bool) → is_row_of r p v x ≡ b → has_row ((x ∷ rows) ++ row ∷ []) r p v ≡ has_row (x ∷ rows) r p v
+    at rest true f = rw f refl
+    at rest false f = rw f rest
+
 Each-push : {X : Type 0} (P : X → Type 0) (xs : List X) (y : X) → Each P xs → P y → Each P (xs ++ y ∷ [])
 Each-push P [] y all p = (p, tt)
 Each-push P (x ∷ xs) y all p = (all.0, Each-push P xs y all.1 p)
 
 -- ---- entering
 
-pub IsEntered-blank : (g : Grid) (vcs : ℕ) (rows : List RankRow) (ranks : List ℕ) → length ranks ≡ places g vcs → ((k : ℕ) → k < places g vcs → get_or ranks k 0 ≡ 0) → IsEntered g vcs rows 0 ranks
-IsEntered-blank g vcs rows ranks long blank = record {
+pub IsEntered-blank : (g : Grid) (vcs : ℕ) (rows : List RankRow) (ranks : List (Option ℕ)) (named : List Bool) → length ranks ≡ places g vcs → length named ≡ places g vcs
+    → ((k : ℕ) → k < places g vcs → get_or ranks k None ≡ None) → ((k : ℕ) → k < places g vcs → get_or named k false ≡ false) → IsEntered g vcs rows 0 ranks named
+IsEntered-blank g vcs rows ranks named long all blank free = record {
   long = long;
+  all = all;
   good = λ i row l. absurd (omega arith);
   right = none rows;
   stored = λ r p v e. blank (place_of g vcs r p v) (place-below g vcs r p v e) ∙ nothing rows r p v;
+  noted = λ r p v e. free (place_of g vcs r p v) (place-below g vcs r p v e) ∙ unnamed rows r p v;
 }
   where
     none : (rows : List RankRow) → Each (IsRight g vcs) (take 0 rows)
     none [] = tt
     none (row ∷ rows) = tt
 
-    nothing : (rows : List RankRow) (r p v : ℕ) → 0 ≡ rank_in (take 0 rows) r p v
+    nothing : (rows : List RankRow) (r p v : ℕ) → None ≡ rank_in (take 0 rows) r p v
     nothing [] r p v = refl
     nothing (row ∷ rows) r p v = refl
 
--- the fault of a row as the list of ranks shows it
-pub row_fault-stored : (g : Grid) (vcs : ℕ) (rows : List RankRow) (n : ℕ) (ranks : List ℕ) (row : RankRow) → IsEntered g vcs rows n ranks
-    → fault_of g vcs (nat_lt 0 (slice_index ranks (place_of g vcs row.router row.port row.vc))) n row ≡ row_fault g vcs rows n row
-row_fault-stored g vcs rows n ranks row entered =
-    fault_of-same g vcs (nat_lt 0 (slice_index ranks (place_of g vcs row.router row.port row.vc))) (has_row (take n rows) row.router row.port row.vc) n row
-    (λ channel.
-    ap (nat_lt 0) (entered.stored row.router row.port row.vc (is_channel-place g vcs row.router row.port row.vc channel))
-    ∙ named-by_rank g vcs (take n rows) row.router row.port row.vc entered.right)
+    unnamed : (rows : List RankRow) (r p v : ℕ) → false ≡ has_row (take 0 rows) r p v
+    unnamed [] r p v = refl
+    unnamed (row ∷ rows) r p v = refl
+
+-- the fault of a row as the list of named channels shows it
+pub row_fault-stored : (g : Grid) (vcs : ℕ) (rows : List RankRow) (n : ℕ) (ranks : List (Option ℕ)) (named : List Bool) (row : RankRow) → IsEntered g vcs rows n ranks named
+    → fault_of g vcs (get_or named (place_of g vcs row.router row.port row.vc) false) n row ≡ row_fault g vcs rows n row
+row_fault-stored g vcs rows n ranks named row entered =
+    fault_of-same g vcs (get_or named (place_of g vcs row.router row.port row.vc) false) (has_row (take n rows) row.router row.port row.vc) n row
+    (λ channel. entered.noted row.router row.port row.vc (is_channel-place g vcs row.router row.port row.vc channel))
 
 AreGood-more : (g : Grid) (vcs : ℕ) (rows : List RankRow) (n : ℕ) (row : RankRow) → slice_get rows n ≡ Some row → row_fault g vcs rows n row ≡ None → AreGood g vcs rows n → AreGood g vcs rows (n + 1)
 AreGood-more g vcs rows n row there none good i other l e = at (cases_lt i n)
@@ -160,64 +183,81 @@ place-differs g vcs r p v row d e unlike same =
     let vc = sym (place-vc g vcs row.router row.port row.vc there.2) ∙ ap (λ k. k % vcs) (sym same) ∙ place-vc g vcs r p v here.2 in
     false≢true (sym unlike ∙ is_row_of-true r p v row router port vc)
 
-pub IsEntered-more : (g : Grid) (vcs : ℕ) (rows : List RankRow) (n : ℕ) (ranks : List ℕ) (row : RankRow) → slice_get rows n ≡ Some row → row_fault g vcs rows n row ≡ None
-    → IsEntered g vcs rows n ranks → IsEntered g vcs rows (n + 1) (set ranks (place_of g vcs row.router row.port row.vc) row.rank)
-IsEntered-more g vcs rows n ranks row there none entered =
+pub IsEntered-more : (g : Grid) (vcs : ℕ) (rows : List RankRow) (n : ℕ) (ranks : List (Option ℕ)) (named : List Bool) (row : RankRow) → slice_get rows n ≡ Some row → row_fault g vcs rows n row ≡ None
+    → IsEntered g vcs rows n ranks named
+    → IsEntered g vcs rows (n + 1) (set ranks (place_of g vcs row.router row.port row.vc) row.rank) (set named (place_of g vcs row.router row.port row.vc) true)
+IsEntered-more g vcs rows n ranks named row there none entered =
     let facts = fault_of-none g vcs (has_row (take n rows) row.router row.port row.vc) n row none in
     let k = place_of g vcs row.router row.port row.vc in
     let more : take (n + 1) rows ≡ take n rows ++ row ∷ [] = take_more rows n row (slice_get_within rows n row there) ∙ ap (λ x. take n rows ++ x ∷ []) (get_or_from_slice_get rows n row row there) in
     let known : is_place g vcs row.router row.port row.vc ≡ true = is_channel-place g vcs row.router row.port row.vc facts.0.channel in
     record {
       long = length-set ranks k row.rank ∙ entered.long;
+      all = length-set named k true ∙ entered.all;
       good = AreGood-more g vcs rows n row there none entered.good;
       right = rw more (Each-push (IsRight g vcs) (take n rows) row entered.right facts.0);
-      stored = λ r p v e. rw more (at facts.1 known r p v e (is_row_of r p v row) refl);
+      stored = λ r p v e. rw more (stored_at facts.1 known r p v e (is_row_of r p v row) refl);
+      noted = λ r p v e. rw more (noted_at known r p v e (is_row_of r p v row) refl);
     }
   where
-    at : has_row (take n rows) row.router row.port row.vc ≡ false → is_place g vcs row.router row.port row.vc ≡ true → (r p v : ℕ) → is_place g vcs r p v ≡ true → (b : Bool) → is_row_of r p v row ≡ b
-        → get_or (set ranks (place_of g vcs row.router row.port row.vc) row.rank) (place_of g vcs r p v) 0 ≡ rank_in (take n rows ++ row ∷ []) r p v
-    at fresh known r p v e true f =
+    same_place : (r p v : ℕ) → is_row_of r p v row ≡ true → place_of g vcs r p v ≡ (place_of g vcs row.router row.port row.vc)
+    same_place r p v f = let parts = is_row_of-parts r p v row f in rw (parts.0, parts.1, parts.2) refl
+
+    stored_at : has_row (take n rows) row.router row.port row.vc ≡ false → is_place g vcs row.router row.port row.vc ≡ true → (r p v : ℕ) → is_place g vcs r p v ≡ true → (b : Bool) → is_row_of r p v row ≡ b
+        → get_or (set ranks (place_of g vcs row.router row.port row.vc) row.rank) (place_of g vcs r p v) None ≡ rank_in (take n rows ++ row ∷ []) r p v
+    stored_at fresh known r p v e true f =
         let parts = is_row_of-parts r p v row f in
-        let below : place_of g vcs row.router row.port row.vc < length ranks = omega (arith, entered.long, place-below g vcs row.router row.port row.vc known) in
-        let same : place_of g vcs r p v ≡ place_of g vcs row.router row.port row.vc = rw (parts.0, parts.1, parts.2) refl in
+        let below : (place_of g vcs row.router row.port row.vc) < length ranks = omega (arith, entered.long, place-below g vcs row.router row.port row.vc known) in
         let free : has_row (take n rows) r p v ≡ false = rw (parts.0, parts.1, parts.2) at fresh in
-        ap (λ k. get_or (set ranks (place_of g vcs row.router row.port row.vc) row.rank) k 0) same
-        ∙ get_or-set_same ranks (place_of g vcs row.router row.port row.vc) row.rank 0 below
+        ap (λ k. get_or (set ranks (place_of g vcs row.router row.port row.vc) row.rank) k None) (same_place r p v f)
+        ∙ get_or-set_same ranks (place_of g vcs row.router row.port row.vc) row.rank None below
         ∙ sym (rank_in-push_same (take n rows) row r p v f free)
-    at fresh known r p v e false f =
-        get_or-set_other ranks (place_of g vcs row.router row.port row.vc) (place_of g vcs r p v) row.rank 0 (place-differs g vcs r p v row e known f)
+    stored_at fresh known r p v e false f =
+        get_or-set_other ranks (place_of g vcs row.router row.port row.vc) (place_of g vcs r p v) row.rank None (place-differs g vcs r p v row e known f)
         ∙ entered.stored r p v e
         ∙ sym (rank_in-push_other (take n rows) row r p v f)
 
+    noted_at : is_place g vcs row.router row.port row.vc ≡ true → (r p v : ℕ) → is_place g vcs r p v ≡ true → (b : Bool) → is_row_of r p v row ≡ b
+        → get_or (set named (place_of g vcs row.router row.port row.vc) true) (place_of g vcs r p v) false ≡ has_row (take n rows ++ row ∷ []) r p v
+    noted_at known r p v e true f =
+        let below : (place_of g vcs row.router row.port row.vc) < length named = omega (arith, entered.all, place-below g vcs row.router row.port row.vc known) in
+        ap (λ k. get_or (set named (place_of g vcs row.router row.port row.vc) true) k false) (same_place r p v f)
+        ∙ get_or-set_same named (place_of g vcs row.router row.port row.vc) true false below
+        ∙ sym (has_row-push_same (take n rows) row r p v f)
+    noted_at known r p v e false f =
+        get_or-set_other named (place_of g vcs row.router row.port row.vc) (place_of g vcs r p v) true false (place-differs g vcs r p v row e known f)
+        ∙ entered.noted r p v e
+        ∙ sym (has_row-push_other (take n rows) row r p v f)
+
 -- ---- when all rows are entered
 
-module _ (g : Grid) (vcs : ℕ) (rows : List RankRow) (ranks : List ℕ) (entered : IsEntered g vcs rows (length rows) ranks) where
+module _ (g : Grid) (vcs : ℕ) (rows : List RankRow) (ranks : List (Option ℕ)) (named : List Bool) (entered : IsEntered g vcs rows (length rows) ranks named) where
   all_good : (n : ℕ) → AreGood g vcs rows n
   all_good n i row l e = entered.good i row (slice_get_within rows i row e) e
 
   all_right : Each (IsRight g vcs) rows
   all_right = rw take-length at entered.right
 
-  all_stored : (r p v : ℕ) → is_place g vcs r p v ≡ true → get_or ranks (place_of g vcs r p v) 0 ≡ rank_in rows r p v
+  all_stored : (r p v : ℕ) → is_place g vcs r p v ≡ true → get_or ranks (place_of g vcs r p v) None ≡ rank_in rows r p v
   all_stored r p v e = entered.stored r p v e ∙ ap (λ xs. rank_in xs r p v) (take-length rows)
 
-  named-stored : (r p v : ℕ) → is_place g vcs r p v ≡ true → nat_lt 0 (get_or ranks (place_of g vcs r p v) 0) ≡ has_row rows r p v
-  named-stored r p v e = ap (nat_lt 0) (all_stored r p v e) ∙ named-by_rank g vcs rows r p v all_right
+  all_noted : (r p v : ℕ) → is_place g vcs r p v ≡ true → get_or named (place_of g vcs r p v) false ≡ has_row rows r p v
+  all_noted r p v e = entered.noted r p v e ∙ ap (λ xs. has_row xs r p v) (take-length rows)
 
-  full-before : (n : ℕ) → IsWhole g vcs ranks n → (r p v : ℕ) → is_channel g vcs r p v ≡ true → place_of g vcs r p v < n → has_row rows r p v ≡ true
-  full-before n whole r p v e l = sym (named-stored r p v (is_channel-place g vcs r p v e)) ∙ lt-ltb 0 _ (whole r p v e l)
+  full-before : (n : ℕ) → IsWhole g vcs named n → (r p v : ℕ) → is_channel g vcs r p v ≡ true → place_of g vcs r p v < n → has_row rows r p v ≡ true
+  full-before n whole r p v e l = sym (all_noted r p v (is_channel-place g vcs r p v e)) ∙ whole r p v e l
 
-  pub IsFirstMissing-from_gap : (r p v : ℕ) → is_channel g vcs r p v ≡ true → get_or ranks (place_of g vcs r p v) 0 ≡ 0 → IsWhole g vcs ranks (place_of g vcs r p v) → IsFirstMissing g vcs rows r p v
+  pub IsFirstMissing-from_gap : (r p v : ℕ) → is_channel g vcs r p v ≡ true → get_or named (place_of g vcs r p v) false ≡ false → IsWhole g vcs named (place_of g vcs r p v) → IsFirstMissing g vcs rows r p v
   IsFirstMissing-from_gap r p v e none whole =
       let here = is_channel-place g vcs r p v e in
       record {
         good = all_good;
         channel = e;
-        missing = sym (named-stored r p v here) ∙ rw none refl;
+        missing = sym (all_noted r p v here) ∙ none;
         first = λ a q w f before. full-before (place_of g vcs r p v) whole a q w f (place-before g vcs a q w r p v (is_channel-place g vcs a q w f) here before);
       }
 
-  at_place : (r p v : ℕ) → (b : Bool) → is_place g vcs r p v ≡ b → (if b then get_or ranks (place_of g vcs r p v) 0 else 0) ≡ rank_in rows r p v
+  at_place : (r p v : ℕ) → (b : Bool) → is_place g vcs r p v ≡ b → (if b then get_or ranks (place_of g vcs r p v) None else None) ≡ rank_in rows r p v
   at_place r p v true e = all_stored r p v e
   at_place r p v false e = sym (rank_in-none rows r p v (has_row-place g vcs rows r p v all_right e))
 
@@ -225,33 +265,29 @@ module _ (g : Grid) (vcs : ℕ) (rows : List RankRow) (ranks : List ℕ) (entere
   abbrev ranking : Ranking
   ranking = record { grid = g; vcs = vcs; ranks = ranks }
 
-  high_at : (r p v : ℕ) → rank_at ranking r p v ≤ MAX_RANK
-  high_at r p v = rw (at_place r p v (is_place g vcs r p v) refl) (rank_in-high g vcs rows r p v all_right)
+  real_at : (r p v n : ℕ) → rank_at ranking r p v ≡ Some n → is_channel g vcs r p v ≡ true
+  real_at r p v n e = rank_in-real g vcs rows r p v n all_right (sym (at_place r p v (is_place g vcs r p v) refl) ∙ e)
 
-  low_at : IsWhole g vcs ranks (length ranks) → (r p v : ℕ) → is_channel g vcs r p v ≡ true → 1 ≤ rank_at ranking r p v
-  low_at whole r p v e =
-      let here = is_channel-place g vcs r p v e in
-      let below : place_of g vcs r p v < length ranks = omega (arith, entered.long, place-below g vcs r p v here) in
-      let some = whole r p v e below in
-      rw here some
+  within_at : (r p v n : ℕ) → rank_at ranking r p v ≡ Some n → (1 ≤ n) × (n ≤ MAX_RANK)
+  within_at r p v n e = rank_in-within g vcs rows r p v n all_right (sym (at_place r p v (is_place g vcs r p v) refl) ∙ e)
 
-  pub IsRanking-entered : IsGrid g → IsWhole g vcs ranks (length ranks) → IsRanking ranking
-  IsRanking-entered sound whole = record { grid = sound; long = entered.long; low = low_at whole; high = high_at }
+  pub IsRanking-entered : IsGrid g → IsRanking ranking
+  IsRanking-entered sound = record { grid = sound; long = entered.long; real = real_at; low = λ r p v n e. (within_at r p v n e).0; high = λ r p v n e. (within_at r p v n e).1 }
 
-  pub IsRankingOf-entered : IsGrid g → IsWhole g vcs ranks (length ranks) → IsRankingOf g vcs rows ranking
+  pub IsRankingOf-entered : IsGrid g → IsWhole g vcs named (length named) → IsRankingOf g vcs rows ranking
   IsRankingOf-entered sound whole = record {
     grid = refl;
     vcs_are = refl;
-    ranking = IsRanking-entered sound whole;
+    ranking = IsRanking-entered sound;
     good = all_good;
-    full = λ r p v e. full-before (length ranks) whole r p v e (omega (arith, entered.long, place-below g vcs r p v (is_channel-place g vcs r p v e)));
+    full = λ r p v e. full-before (length named) whole r p v e (omega (arith, entered.all, place-below g vcs r p v (is_channel-place g vcs r p v e)));
     ranks = λ r p v. at_place r p v (is_place g vcs r p v) refl;
   }
 
-  pub IsFaultOfRows-gap : (fault : RankFault) → IsFirstGap g vcs ranks fault → IsFaultOfRows g vcs rows fault
+  pub IsFaultOfRows-gap : (fault : RankFault) → IsFirstGap g vcs named fault → IsFaultOfRows g vcs rows fault
   IsFaultOfRows-gap fault gap =
       let P : RankFault → Type 0 = λ f. IsFaultOfRows g vcs rows f in
-      subst P (sym gap.named) (IsFirstMissing-from_gap gap.router gap.port gap.vc gap.channel gap.zero gap.first)
+      subst P (sym gap.named) (IsFirstMissing-from_gap gap.router gap.port gap.vc gap.channel gap.free gap.first)
 
 -- the fault of a row is a fault of the rows
 pub IsFaultOfRows-row : (g : Grid) (vcs : ℕ) (rows : List RankRow) (fault : RankFault) → IsFirstRowFault g vcs rows fault → IsFaultOfRows g vcs rows fault
@@ -265,16 +301,18 @@ IsFaultOfRows-row g vcs rows (MissingChannel r p v) h = absurd (never (is_channe
     never false b d x y z = let n : Some (UnknownChannel h.number) ≡ Some (MissingChannel r p v) = sym (rw x) ∙ h.faulty in cc n
 IsFaultOfRows-row g vcs rows NoGenerated h = h
 IsFaultOfRows-row g vcs rows (NotRising entry q w a b) h = h
+IsFaultOfRows-row g vcs rows (NotRisingTo e o a b) h = h
+IsFaultOfRows-row g vcs rows (NoEscape e) h = h
 IsFaultOfRows-row g vcs rows (UnknownChannel i) h = h
 IsFaultOfRows-row g vcs rows (DoubleChannel i) h = h
 IsFaultOfRows-row g vcs rows (BadRank i) h = h
 
--- ---- the first link channel with rank 0
+-- ---- the first link channel that is not named
 
-pub IsWhole-more : (g : Grid) (vcs : ℕ) (ranks : List ℕ) (n : ℕ) → (is_channel g vcs (n / vcs / local_port g) (n / vcs % local_port g) (n % vcs) ≡ true → 0 < get_or ranks n 0) → IsWhole g vcs ranks n → IsWhole g vcs ranks (n + 1)
-IsWhole-more g vcs ranks n here whole r p v e l = at (cases_lt (place_of g vcs r p v) n)
+pub IsWhole-more : (g : Grid) (vcs : ℕ) (named : List Bool) (n : ℕ) → (is_channel g vcs (n / vcs / local_port g) (n / vcs % local_port g) (n % vcs) ≡ true → get_or named n false ≡ true) → IsWhole g vcs named n → IsWhole g vcs named (n + 1)
+IsWhole-more g vcs named n here whole r p v e l = at (cases_lt (place_of g vcs r p v) n)
   where
-    at : (place_of g vcs r p v < n) ⊎ (n ≤ place_of g vcs r p v) → 0 < get_or ranks (place_of g vcs r p v) 0
+    at : (place_of g vcs r p v < n) ⊎ (n ≤ place_of g vcs r p v) → get_or named (place_of g vcs r p v) false ≡ true
     at (inl less) = whole r p v e less
     at (inr more) =
         let parts = is_place-parts g vcs r p v (is_channel-place g vcs r p v e) in
@@ -284,9 +322,9 @@ IsWhole-more g vcs ranks n here whole r p v e l = at (cases_lt (place_of g vcs r
         let vc : n % vcs ≡ v = rw (← same) (place-vc g vcs r p v parts.2) in
         rw same (here (rw (router, port, vc) e))
 
-pub IsFirstGap-here : (g : Grid) (vcs : ℕ) (ranks : List ℕ) (n : ℕ) → 0 < vcs → 0 < local_port g → is_channel g vcs (n / vcs / local_port g) (n / vcs % local_port g) (n % vcs) ≡ true
-    → get_or ranks n 0 ≡ 0 → IsWhole g vcs ranks n → IsFirstGap g vcs ranks (MissingChannel (n / vcs / local_port g) (n / vcs % local_port g) (n % vcs))
-IsFirstGap-here g vcs ranks n some ports e none whole =
+pub IsFirstGap-here : (g : Grid) (vcs : ℕ) (named : List Bool) (n : ℕ) → 0 < vcs → 0 < local_port g → is_channel g vcs (n / vcs / local_port g) (n / vcs % local_port g) (n % vcs) ≡ true
+    → get_or named n false ≡ false → IsWhole g vcs named n → IsFirstGap g vcs named (MissingChannel (n / vcs / local_port g) (n / vcs % local_port g) (n % vcs))
+IsFirstGap-here g vcs named n some ports e none whole =
     let again : place_of g vcs (n / vcs / local_port g) (n / vcs % local_port g) (n % vcs) ≡ n = place-again g vcs n some ports in
     record {
       router = n / vcs / local_port g;
@@ -294,14 +332,6 @@ IsFirstGap-here g vcs ranks n some ports e none whole =
       vc = n % vcs;
       named = refl;
       channel = e;
-      zero = rw again none;
+      free = rw again none;
       first = rw again whole;
     }
-
--- a list that has a place has channels
-pub vcs-some : (n vcs k : ℕ) → k < n * vcs → 0 < vcs
-vcs-some n vcs k l = at (cases_lt 0 vcs)
-  where
-    at : (0 < vcs) ⊎ (vcs ≤ 0) → 0 < vcs
-    at (inl some) = some
-    at (inr none) = let empty : vcs ≡ 0 = omega arith in absurd (omega (arith, mul-zero n, ap (λ v. n * v) empty))

@@ -1,5 +1,5 @@
 -- Steps that do not rise, entry by entry.
-use Rattle.std.specs.Prelude.{◌≡◌, ℕ, ◌*◌, ◌/◌, ◌%◌, ◌<◌, Bool, true, false, ◌&&◌, Option, Some, None, option_map, nat_eq, nat_le, if◌then◌else◌}
+use Rattle.std.specs.Prelude.{◌≡◌, ℕ, ◌*◌, ◌/◌, ◌%◌, ◌<◌, Bool, true, false, ◌&&◌, Option, Some, None, nat_le}
 use Rattle.noc_packet.specs.Set.{has_bit}
 use Rattle.noc_topo.specs.Shape.{nodes, ports, local_port, neighbour}
 use Rattle.noc_route.specs.Routes.{Routes, set_at}
@@ -8,14 +8,23 @@ use Rattle.noc_rank.specs.declared.fault.RankFault.{RankFault}
 use Rattle.noc_rank.specs.declared.fault.RankFault.TheVariants.{NotRising}
 use Rattle.noc_route.specs.Ranks.{Ranking, rank_at}
 
--- the rank of an input channel: that of the link channel that arrives there, or 0 at the local port; none without a link
+-- the rank of the link channel number w that is sent from here
+abbrev pub rank_from : Ranking → ℕ → Option (ℕ × ℕ) → Option ℕ
+rank_from k w None = None
+rank_from k w (Some from) = rank_at k from.0 from.1 w
+
+-- the rank of the link channel that arrives at an input channel, if there is one and it has a rank
 abbrev pub arrival_rank : Ranking → ℕ → ℕ → ℕ → Option ℕ
-arrival_rank k r q w =
-    if nat_eq q (local_port k.grid) then Some 0 else option_map (λ (from : ℕ × ℕ). rank_at k from.0 from.1 w) (neighbour k.grid r q)
+arrival_rank k r q w = rank_from k w (neighbour k.grid r q)
+
+-- whether there is a rank, and it is not greater than the one before
+abbrev pub is_not_above : ℕ → Option ℕ → Bool
+is_not_above before None = false
+is_not_above before (Some after) = nat_le after before
 
 -- whether a set of router r has output channel number i, whose rank is not greater
 abbrev pub falls_to : Ranking → ℕ → ℕ → ℕ → ℕ → Bool
-falls_to k r set before i = has_bit set i && nat_le (rank_at k r (i / k.vcs) (i % k.vcs)) before
+falls_to k r set before i = has_bit set i && is_not_above before (rank_at k r (i / k.vcs) (i % k.vcs))
 
 -- the same where the packet came on a channel of this rank, if there is one
 abbrev pub falls_from : Ranking → ℕ → ℕ → Option ℕ → ℕ → Bool
@@ -67,7 +76,7 @@ pub record IsFirstFrom (routes : Routes) (k : Ranking) (m r q w before : ℕ) (f
   pub exists : dst < nodes k.grid
   pub step : fall.step ≡ record { class = m; router = r; in_port = q; in_vc = w; dst = dst; out_port = index / k.vcs; out_vc = index % k.vcs }
   pub rank : fall.rank ≡ before
-  pub next : fall.next ≡ rank_at k r (index / k.vcs) (index % k.vcs)
+  pub next : rank_at k r (index / k.vcs) (index % k.vcs) ≡ Some fall.next
   pub least : IsLeastBelow (falls_to k r (set_at routes m r q w dst) before) (links k) index
   pub earlier : (t : ℕ) → t < dst → HasNone (falls_to k r (set_at routes m r q w t) before) (links k)
 

@@ -1,9 +1,9 @@
 -- Ranks by formula.
-use Rattle.std.specs.Prelude.{◌≡◌, ℕ, ◌+◌, ◌-◌, ◌*◌, ◌/◌, Bool, true, false, ◌&&◌, not, nat_eq, slice_index, if◌then◌else◌}
+use Rattle.std.specs.Prelude.{◌≡◌, ℕ, ◌+◌, ◌-◌, ◌*◌, ◌/◌, Bool, true, false, ◌&&◌, not, Option, Some, None, nat_eq, slice_index, if◌then◌else◌}
 use Rattle.noc_topo.specs.Shape.{Grid, coordinates, is_plus}
-use Rattle.noc_route.specs.Relation.{is_right, resource_class}
+use Rattle.noc_route.specs.Relation.{is_right, resource_class, place_in_class, is_escape}
 use Rattle.noc_route.specs.declared.rule.Rule.{Rule}
-use Rattle.noc_route.specs.declared.rule.Rule.TheVariants.{Dor, Dateline, WestFirst, Rows}
+use Rattle.noc_route.specs.declared.rule.Rule.TheVariants.{Dor, Dateline, WestFirst, Adaptive, Rows}
 use Rattle.noc_rank.specs.declared.fault.RankFault.{RankFault}
 use Rattle.noc_rank.specs.declared.fault.RankFault.TheVariants.{NoGenerated, Memory}
 use Rattle.noc_route.specs.Ranks.{Ranking, is_channel, rank_at}
@@ -11,7 +11,7 @@ use Rattle.noc_rank.specs.Ranking.{IsRanking}
 
 -- whether a relation of this rule can be made, and the rule has ranks by formula: dimension order on a mesh alone, a table never
 abbrev pub has_ranks : Grid → ℕ → ℕ → Rule → Bool
-has_ranks g vcs classes rule = is_right g vcs classes rule && (elim rule [ Dor ↦ not g.wraps | Dateline ↦ true | WestFirst ↦ true | Rows rows ↦ false ])
+has_ranks g vcs classes rule = is_right g vcs classes rule && (elim rule [ Dor ↦ not g.wraps | Dateline ↦ true | WestFirst ↦ true | Adaptive ↦ true | Rows rows ↦ false ])
 
 -- how many routers lie behind coordinate x of a dimension of size k, seen along this port
 abbrev pub passed_in : ℕ → ℕ → ℕ → ℕ
@@ -31,15 +31,21 @@ west_first_rank g r p =
     else (if nat_eq p 0 then columns + x * (rows + 1) + rows + 1 else columns + x * (rows + 1) + passed g r p + 1)
 
 -- the rank of a link channel by a rule: dimension by dimension, and along each port in the order of its links;
--- by dateline the low half of the channels before the high half
+-- by dateline the low half of the channels before the high half, and by adaptive the low escape channel before the high one
 abbrev pub formula : Grid → ℕ → ℕ → Rule → ℕ → ℕ → ℕ → ℕ
 formula g vcs classes Dateline r p v = 32 * (p / 2) + resource_class vcs classes v * slice_index g.radix (p / 2) + passed g r p + 1
 formula g vcs classes WestFirst r p v = west_first_rank g r p
+formula g vcs classes Adaptive r p v = 32 * (p / 2) + place_in_class vcs classes v * slice_index g.radix (p / 2) + passed g r p + 1
 formula g vcs classes _ r p v = 32 * (p / 2) + passed g r p + 1
 
--- the same for a channel of any link port, 0 where the port has no link
-abbrev pub formula_at : Grid → ℕ → ℕ → Rule → ℕ → ℕ → ℕ → ℕ
-formula_at g vcs classes rule r p v = if is_channel g vcs r p v then formula g vcs classes rule r p v else 0
+-- whether a rule gives this channel of a link a rank: all, but the adaptive ones
+abbrev pub is_numbered : Grid → ℕ → ℕ → Rule → ℕ → Bool
+is_numbered g vcs classes Adaptive v = is_escape g vcs classes v
+is_numbered g vcs classes _ v = true
+
+-- the same for a channel of any link port, none where the port has no link or the channel is adaptive
+abbrev pub formula_at : Grid → ℕ → ℕ → Rule → ℕ → ℕ → ℕ → Option ℕ
+formula_at g vcs classes rule r p v = if is_channel g vcs r p v && is_numbered g vcs classes rule v then Some (formula g vcs classes rule r p v) else None
 
 -- the ranks by formula of a rule that has them
 pub record IsGenerated (g : Grid) (vcs classes : ℕ) (rule : Rule) (k : Ranking) : Type 0 where

@@ -5,3 +5,7 @@ pub mod Entered
 pub mod Formulas
 pub mod Rising
 pub mod Falls
+pub mod Faults
+pub mod Bare
+pub mod Ahead
+pub mod Descents

@@ -10,8 +10,10 @@ use Rattle.noc_rank.specs.declared.fault.RankFault.TheVariants.{Memory, UnknownC
 use Rattle.noc_route.specs.Ranks.{Ranking, is_channel, rank_at}
 use Rattle.noc_rank.specs.Ranking.{IsRanking}
 
-abbrev pub is_rank : ℕ → Bool
-is_rank n = nat_le 1 n && nat_le n MAX_RANK
+-- whether a rank, if there is one, is within the limits
+abbrev pub is_rank : Option ℕ → Bool
+is_rank None = true
+is_rank (Some n) = nat_le 1 n && nat_le n MAX_RANK
 
 -- whether a row names this channel
 abbrev pub is_row_of : ℕ → ℕ → ℕ → RankRow → Bool
@@ -21,9 +23,9 @@ is_row_of r p v row = nat_eq row.router r && nat_eq row.port p && nat_eq row.vc 
 abbrev pub has_row : List RankRow → ℕ → ℕ → ℕ → Bool
 has_row rows r p v = list_any (is_row_of r p v) rows
 
--- the rank that the rows give a channel, 0 where none names it
-abbrev pub rank_in : List RankRow → ℕ → ℕ → ℕ → ℕ
-rank_in [] r p v = 0
+-- the rank that the rows give a channel, none where none names it
+abbrev pub rank_in : List RankRow → ℕ → ℕ → ℕ → Option ℕ
+rank_in [] r p v = None
 rank_in (row ∷ rows) r p v = if is_row_of r p v row then row.rank else rank_in rows r p v
 
 -- the first fault of row number i, where `named` says whether a row before it names its channel

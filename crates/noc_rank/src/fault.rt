@@ -1,5 +1,6 @@
 //! What can be wrong with ranks.
 
+use crate::place::LinkChannel;
 use noc_route::Entry;
 use std::alloc::AllocError;
 
@@ -8,8 +9,8 @@ use std::alloc::AllocError;
 pub enum RankFault {
     /// The rule has no ranks by formula, or does not fit the numbers of channels and classes or the shape.
     NoGenerated,
-    /// A packet at this entry may go on by this link channel, whose rank `next` is not greater than `rank`, that of the
-    /// channel on which the packet is.
+    /// Each link channel has a rank, and a packet at this entry may go on by this link channel, whose rank `next` is not
+    /// greater than `rank`, that of the channel on which the packet is.
     NotRising {
         entry: Entry,
         out_port: usize,
@@ -17,6 +18,17 @@ pub enum RankFault {
         rank: u32,
         next: u32,
     },
+    /// Some link channels are adaptive, and a packet may come on from one channel with a rank to another, directly or
+    /// through adaptive channels, whose rank `next` is not greater than `rank`, that of the first.
+    NotRisingTo {
+        from: LinkChannel,
+        to: LinkChannel,
+        rank: u32,
+        next: u32,
+    },
+    /// Some link channels are adaptive, and a packet comes to this entry, away from its destination, and may go on by no
+    /// channel with a rank.
+    NoEscape(Entry),
     /// Memory was refused.
     Memory,
     /// The row, counted from 0, names no link channel of the shape.

@@ -1,41 +1,41 @@
 //! Ranks by formula: the order of channels behind each rule's freedom from deadlock (Dally and Towles, chapter 14).
 
-ghost use Rattle.std.specs.Prelude.{◌≡◌, ℕ, ◌+◌, ◌*◌, ◌/◌, ◌%◌, ◌<◌, ◌≤◌, IfOk, true, false, slice_index, vec_len};
+ghost use Rattle.std.specs.Prelude.{◌≡◌, ℕ, ◌+◌, ◌*◌, ◌/◌, ◌%◌, ◌<◌, ◌≤◌, IfOk, IfSome, Option, Some, None, is_some, true, false, slice_index, slice_index_or, vec_len};
 ghost use Rattle.noc_topo.specs.Shape.{IsGrid, nodes, dimensions, coordinates, local_port};
 ghost use Rattle.noc_route.specs.Ranks.{is_channel, places};
-ghost use Rattle.noc_rank.specs.Formulas.{has_ranks, passed_in, west_first_rank, formula, formula_at};
+ghost use Rattle.noc_rank.specs.Formulas.{has_ranks, is_numbered, passed_in, west_first_rank, formula, formula_at};
 
 use crate::place::{all_ports, is_channel, link_ports};
-use noc_route::{Rule, is_right, is_torus, resource_class};
+use noc_route::{Rule, escapes, is_right, is_torus, resource_class};
 use noc_topo::Shape;
 use std::alloc::{AllocError, Global};
 
-/// Whether a rule fits these numbers and has ranks by formula: dimension order on a mesh, dateline and west first.
+/// Whether a rule fits these numbers and has ranks by formula: dimension order on a mesh, dateline, west first and adaptive.
 pub fn has_ranks(shape: &Shape, vcs: usize, classes: usize, rule: &Rule) -> bool
     ensures { result ≡ has_ranks shape.now vcs classes rule.now }
 {
     is_right(shape, vcs, classes, rule)
         && match rule {
             Rule::Dor => !is_torus(shape),
-            Rule::Dateline | Rule::WestFirst => true,
+            Rule::Dateline | Rule::WestFirst | Rule::Adaptive => true,
             Rule::Rows(_) => false,
         }
 }
 
-/// The ranks by formula of all places, 0 where a port has no link.
+/// The ranks by formula of all places, none where a port has no link and for adaptive channels.
 pub fn formula_ranks(
     alloc: Global,
     shape: &Shape,
     vcs: usize,
     classes: usize,
     rule: &Rule,
-) -> Result<Vec<u32>, AllocError>
+) -> Result<Vec<Option<u32>>, AllocError>
     requires { has_ranks shape.now vcs classes rule.now ≡ true }
     ensures len { IfOk result (λ ranks. vec_len ranks ≡ places shape.now vcs) }
     ensures grid { IsGrid shape.now }
-    ensures items { IfOk result (λ ranks. (k : ℕ) → k < places shape.now vcs → slice_index ranks.items k ≡ formula_at shape.now vcs classes rule.now (k / vcs / local_port shape.now) (k / vcs % local_port shape.now) (k % vcs)) }
-    ensures some { IfOk result (λ ranks. (k : ℕ) → k < places shape.now vcs → is_channel shape.now vcs (k / vcs / local_port shape.now) (k / vcs % local_port shape.now) (k % vcs) ≡ true → 1 ≤ slice_index ranks.items k) }
-    ensures few { IfOk result (λ ranks. (k : ℕ) → k < places shape.now vcs → slice_index ranks.items k ≤ 1000) }
+    ensures items { IfOk result (λ ranks. (k : ℕ) → k < places shape.now vcs → slice_index_or ranks.items k None ≡ formula_at shape.now vcs classes rule.now (k / vcs / local_port shape.now) (k / vcs % local_port shape.now) (k % vcs)) }
+    ensures some { IfOk result (λ ranks. (k : ℕ) → k < places shape.now vcs → IfSome (slice_index_or ranks.items k None) (λ n. 1 ≤ n)) }
+    ensures few { IfOk result (λ ranks. (k : ℕ) → k < places shape.now vcs → IfSome (slice_index_or ranks.items k None) (λ n. n ≤ 1000)) }
 {
     let ports = link_ports(shape);
     let count = all_ports(shape) * vcs;
@@ -47,7 +47,7 @@ pub fn formula_ranks(
     Ok(ranks)
 }
 
-/// The rank by formula of a channel of a link port, 0 where the port has no link.
+/// The rank by formula of a channel of a link port, none where the port has no link or the channel is adaptive.
 fn formula_at(
     shape: &Shape,
     vcs: usize,
@@ -56,21 +56,32 @@ fn formula_at(
     router: usize,
     port: usize,
     vc: usize,
-) -> u32
+) -> Option<u32>
     requires ruled { has_ranks shape.now vcs classes rule.now ≡ true }
     requires router { router < nodes shape.now }
     requires port { port < local_port shape.now }
     ensures value { result ≡ formula_at shape.now vcs classes rule.now router port vc }
-    ensures some { is_channel shape.now vcs router port vc ≡ true → 1 ≤ result }
-    ensures few { result ≤ 1000 }
+    ensures some { IfSome result (λ n. 1 ≤ n) }
+    ensures few { IfSome result (λ n. n ≤ 1000) }
 {
-    if !is_channel(shape, vcs, router, port, vc) {
-        return 0;
+    if !is_channel(shape, vcs, router, port, vc) || !is_numbered(shape, vcs, classes, rule, vc) {
+        return None;
     }
-    formula(shape, vcs, classes, rule, router, port, vc) as u32
+    Some(formula(shape, vcs, classes, rule, router, port, vc) as u32)
 }
 
-/// The rank by formula of a link channel, at most 1,000.
+/// Whether a rule gives this channel of a link a rank: all, but the adaptive ones.
+fn is_numbered(shape: &Shape, vcs: usize, classes: usize, rule: &Rule, vc: usize) -> bool
+    requires { has_ranks shape.now vcs classes rule.now ≡ true }
+    ensures { result ≡ is_numbered shape.now vcs classes rule.now vc }
+{
+    match rule {
+        Rule::Adaptive => vc % (vcs / classes) < escapes(shape),
+        _ => true,
+    }
+}
+
+/// The rank by formula of a link channel that has one, at most 1,000.
 fn formula(
     shape: &Shape,
     vcs: usize,
@@ -83,6 +94,7 @@ fn formula(
     requires ruled { has_ranks shape.now vcs classes rule.now ≡ true }
     requires router { router < nodes shape.now }
     requires port { port < local_port shape.now }
+    requires numbered { is_numbered shape.now vcs classes rule.now vc ≡ true }
     ensures value { result ≡ formula shape.now vcs classes rule.now router port vc }
     ensures some { 1 ≤ result }
     ensures few { result ≤ 1000 }
@@ -93,6 +105,9 @@ fn formula(
             32 * (port / 2) + resource_class(vcs, classes, vc) * axis.size + axis.passed(port) + 1
         }
         Rule::WestFirst => west_first_rank(shape, router, port),
+        Rule::Adaptive => {
+            32 * (port / 2) + vc % (vcs / classes) * axis.size + axis.passed(port) + 1
+        }
         Rule::Dor | Rule::Rows(_) => 32 * (port / 2) + axis.passed(port) + 1,
     }
 }

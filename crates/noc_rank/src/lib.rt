@@ -1,6 +1,10 @@
 //! Ranks of link channels: given by rows, made by formulas, and checked against a routing relation.
 #![tactic(auto)]
 
+mod accept;
+mod ahead;
+mod bare;
+mod descent;
 mod fault;
 mod generated;
 mod laws;
@@ -9,10 +13,11 @@ mod ranks;
 mod rising;
 mod rows;
 
+pub use accept::{Accepted, check};
 pub use fault::RankFault;
 pub use laws::{a_ring_of_four_has_no_ranks, formula_ranks_are_accepted};
+pub use place::LinkChannel;
 pub use ranks::Ranks;
-pub use rising::{Accepted, check};
 pub use rows::RankRow;
 
 #[cfg(test)]

@@ -6,6 +6,14 @@ ghost use Rattle.noc_route.specs.Ranks.{is_place, is_channel, places, place_of};
 
 use noc_topo::Shape;
 
+/// A virtual channel of a link, named by the router that sends on it, its port and its number.
+#[derive(Clone, Copy, Debug, PartialEq, Eq)]
+pub struct LinkChannel {
+    pub router: usize,
+    pub port: usize,
+    pub vc: usize,
+}
+
 /// How many link ports a router has, with a link or without: 2 to 6.
 pub fn link_ports(shape: &Shape) -> usize
     ensures value { result ≡ local_port shape.now }

@@ -1,6 +1,7 @@
 //! Ranks of the link channels of a network.
 
-ghost use Rattle.std.specs.Prelude.{◌≡◌, ℕ, ◌<◌, ◌≤◌, IfOk, IfErr, true};
+ghost use Rattle.std.specs.Prelude.{◌≡◌, ℕ, ◌+◌, ◌*◌, ◌/◌, ◌%◌, ◌<◌, ◌≤◌, IfOk, IfErr, IfSome, true};
+ghost use Rattle.noc_topo.specs.Shape.{nodes, local_port};
 ghost use Rattle.noc_route.specs.Ranks.{is_place, is_channel, rank_at};
 ghost use Rattle.noc_rank.specs.Ranking.{IsRanking};
 ghost use Rattle.noc_rank.specs.Formulas.{IsGenerated, IsFaultOfFormula};
@@ -8,19 +9,19 @@ ghost use Rattle.noc_rank.specs.Rows.{IsRankingOf, IsFaultOfRows};
 
 use crate::fault::RankFault;
 use crate::generated::{formula_ranks, has_ranks};
-use crate::place::{all_ports, place};
+use crate::place::{all_ports, link_ports, place};
 use crate::rows::{RankRow, enter, missing};
 use noc_route::Rule;
 use noc_topo::Shape;
 use std::alloc::Global;
 use std::marker::Model;
 
-/// A rank, 1 to 1,000,000, for each link channel of a shape (Dally and Towles, chapter 14).
+/// A rank, 1 to 1,000,000, for each link channel of a shape, or none for an adaptive one (Dally and Towles, chapter 14).
 #[derive(Debug, Drop)]
 pub struct Ranks {
     shape: Shape,
     vcs: usize,
-    ranks: Vec<u32>,
+    ranks: Vec<Option<u32>>,
 }
 
 impl Model for Ranks {
@@ -50,9 +51,10 @@ impl Ranks {
     {
         // more places than there are numbers are more than any allocator gives
         let places = all_ports(shape).saturating_mul(vcs);
-        let mut ranks = vec![in alloc; 0u32; places]?;
-        enter(shape, vcs, rows, &mut ranks)?;
-        match missing(shape, vcs, &ranks) {
+        let mut ranks = vec![in alloc; None::<u32>; places]?;
+        let mut named = vec![in alloc; false; places]?;
+        enter(shape, vcs, rows, &mut ranks, &mut named)?;
+        match missing(shape, vcs, &named) {
             Some(fault) => Err(fault),
             None => Ok(Ranks {
                 shape: *shape,
@@ -62,8 +64,8 @@ impl Ranks {
         }
     }
 
-    /// The ranks by formula of a rule: dimension order on a mesh, dateline on a torus, and west first on a mesh of two
-    /// dimensions. Answers `NoGenerated` for another rule and where the rule does not fit the shape or the numbers of
+    /// The ranks by formula of a rule: dimension order on a mesh, dateline on a torus, west first on a mesh of two dimensions,
+    /// and adaptive, whose adaptive channels have none. Answers `NoGenerated` for another rule and where the rule does not fit the shape or the numbers of
     /// channels and classes; else `Memory` where it was refused.
     pub fn generated(
         alloc: Global,
@@ -86,8 +88,8 @@ impl Ranks {
         })
     }
 
-    /// The rank of a link channel, 1 to 1,000,000.
-    pub fn rank(&self, router: usize, port: usize, vc: usize) -> u32
+    /// The rank of a link channel, 1 to 1,000,000; None of an adaptive one.
+    pub fn rank(&self, router: usize, port: usize, vc: usize) -> Option<u32>
         requires { is_channel self.now.grid self.now.vcs router port vc ≡ true }
         ensures value { result ≡ rank_at self.now router port vc }
         ensures ranking { IsRanking self.now }
@@ -96,11 +98,29 @@ impl Ranks {
     }
 }
 
-/// The rank of a channel of a link port, 0 where the port has no link.
-pub fn rank_at(ranks: &Ranks, router: usize, port: usize, vc: usize) -> u32
+/// The rank of a channel of a link port; None of an adaptive one, and where the port has no link.
+pub fn rank_at(ranks: &Ranks, router: usize, port: usize, vc: usize) -> Option<u32>
     requires { is_place ranks.now.grid ranks.now.vcs router port vc ≡ true }
     ensures value { result ≡ rank_at ranks.now router port vc }
     ensures ranking { IsRanking ranks.now }
 {
     ranks.ranks[place(&ranks.shape, ranks.vcs, router, port, vc)]
+}
+
+/// The rank of an output channel of a router on a link port, by its index, port times channels plus channel.
+pub fn output_rank(ranks: &Ranks, router: usize, index: usize) -> Option<u32>
+    requires router { router < nodes ranks.now.grid }
+    requires index { index < local_port ranks.now.grid * ranks.now.vcs }
+    ensures value { result ≡ rank_at ranks.now router (index / ranks.now.vcs) (index % ranks.now.vcs) }
+    ensures ranking { IsRanking ranks.now }
+{
+    ranks.ranks[router * link_ports(&ranks.shape) * ranks.vcs + index]
+}
+
+/// The ranks of all places, router by router, then by link port and channel.
+pub fn list(ranks: &Ranks) -> &[Option<u32>]
+    ensures value { result.now ≡ ranks.now.ranks }
+    ensures ranking { IsRanking ranks.now }
+{
+    &ranks.ranks
 }

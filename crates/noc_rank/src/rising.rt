@@ -1,53 +1,29 @@
-//! Checking that ranks rise along a routing relation (Dally and Towles, chapter 14).
+//! Steps from one channel to the next along which ranks do not rise.
 
-ghost use Rattle.std.specs.Prelude.{◌≡◌, ℕ, ◌+◌, ◌*◌, ◌/◌, ◌%◌, ◌<◌, ◌≤◌, ◌↔◌, IsOk, OnOk, IfErr, IfSome, IfNone, MatchOption, false};
+ghost use Rattle.std.specs.Prelude.{◌≡◌, ℕ, ◌+◌, ◌*◌, ◌/◌, ◌%◌, ◌<◌, ◌≤◌, ◌↔◌, IfSome, IfNone, MatchOption, Some, false, true};
 ghost use Rattle.noc_topo.specs.Shape.{nodes, ports};
+ghost use Rattle.noc_packet.specs.declared.limits.TheConstants.{INDICES};
 ghost use Rattle.noc_route.specs.Routes.{set_at};
-ghost use Rattle.noc_route.specs.Ranks.{IsRankedBy};
-ghost use Rattle.noc_rank.specs.Rising.{IsFaultOfCheck, IsFirstFall};
+ghost use Rattle.noc_route.specs.Ranks.{rank_at};
+ghost use Rattle.noc_rank.specs.Rising.{IsRising, IsFirstFall};
 ghost use Rattle.noc_rank.specs.Falls.{fault_of_fall, arrival_rank, falls_to, links, inputs, IsLeastBelow, HasNone, HasNoFall, IsFirstFrom, IsFirstAt};
 
 use crate::fault::RankFault;
 use crate::place::link_ports;
-use crate::ranks::{Ranks, rank_at};
+use crate::ranks::{Ranks, output_rank, rank_at};
 use noc_packet::ChannelSet;
 use noc_route::{Entry, Relation, RouteRow};
 use noc_topo::Shape;
 use rayon::prelude::*;
-use std::alloc::Global;
 use std::thread::Threads;
 
-/// The answer that a relation is ranked: the ranks rise with each step onto a link channel that it permits.
-#[derive(Clone, Copy, Debug, PartialEq, Eq)]
-pub struct Accepted;
-
-/// Whether the ranks rise with each step onto a link channel that the relation permits, where an injection channel counts
-/// as 0. Answers `NotRising` with the first step that does not rise, in the order of class, router, input port and
-/// channel, destination, output port and channel. Looks at the entries in parallel and keeps nothing, so `_alloc` is not
-/// asked and `Memory` is never answered.
-pub fn check(
-    rt: &(impl Threads + Sync),
-    _alloc: Global,
-    relation: &Relation,
-    ranks: &Ranks,
-) -> Result<Accepted, RankFault>
+/// The first step of the relation from one channel with a rank to the next that does not rise, in the order of class,
+/// router, input port and channel, destination, output port and channel. Looks at the entries in parallel and takes no
+/// memory.
+pub fn first_fall(rt: &(impl Threads + Sync), relation: &Relation, ranks: &Ranks) -> Option<Fall>
     requires shape { relation.now.grid ≡ ranks.now.grid }
     requires vcs { relation.now.vcs ≡ ranks.now.vcs }
-    ensures ok { OnOk result (IsRankedBy relation.now ranks.now) }
-    ensures err { IfErr result (IsFaultOfCheck relation.now ranks.now) }
-    ensures accepted { IsRankedBy relation.now ranks.now → IsOk result }
-{
-    match first_fall(rt, relation, ranks) {
-        None => Ok(Accepted),
-        Some(fall) => Err(fall.fault()),
-    }
-}
-
-/// The first step of the relation that does not rise.
-fn first_fall(rt: &(impl Threads + Sync), relation: &Relation, ranks: &Ranks) -> Option<Fall>
-    requires shape { relation.now.grid ≡ ranks.now.grid }
-    requires vcs { relation.now.vcs ≡ ranks.now.vcs }
-    ensures { MatchOption result (IsRankedBy relation.now ranks.now) (λ fall. IsFirstFall relation.now ranks.now fall.step fall.rank fall.next) }
+    ensures { MatchOption result (IsRising relation.now ranks.now) (λ fall. IsFirstFall relation.now ranks.now fall.step fall.rank fall.next) }
 {
     let count = relation.classes()
         * relation.shape().nodes()
@@ -65,7 +41,7 @@ fn first_fall(rt: &(impl Threads + Sync), relation: &Relation, ranks: &Ranks) ->
 
 /// A step that does not rise, with the ranks before and after it.
 #[derive(Clone, Copy)]
-struct Fall {
+pub struct Fall {
     step: RouteRow,
     rank: u32,
     next: u32,
@@ -73,7 +49,7 @@ struct Fall {
 
 impl Fall {
     /// The fault that names it.
-    fn fault(self) -> RankFault
+    pub fn fault(self) -> RankFault
         ensures { result ≡ fault_of_fall self }
     {
         let step = self.step;
@@ -111,7 +87,7 @@ fn first_at(relation: &Relation, ranks: &Ranks, number: usize) -> Option<Fall>
     first_from(relation, ranks, class, router, port, vc, rank)
 }
 
-/// The rank of an input channel: that of the link channel that arrives there, 0 at the local port, None without a link.
+/// The rank of the link channel that arrives at an input channel, if there is one and it has a rank.
 fn arrival_rank(shape: &Shape, ranks: &Ranks, router: usize, port: usize, vc: usize) -> Option<u32>
     requires shape { shape.now ≡ ranks.now.grid }
     requires router { router < nodes ranks.now.grid }
@@ -119,11 +95,8 @@ fn arrival_rank(shape: &Shape, ranks: &Ranks, router: usize, port: usize, vc: us
     requires vc { vc < ranks.now.vcs }
     ensures { result ≡ arrival_rank ranks.now router port vc }
 {
-    if port == link_ports(shape) {
-        return Some(0);
-    }
     let (sender, out_port) = shape.neighbour(router, port)?;
-    Some(rank_at(ranks, sender, out_port, vc))
+    rank_at(ranks, sender, out_port, vc)
 }
 
 /// The first step from an entry that does not rise, over all destinations, where `rank` is that of the input channel.
@@ -148,7 +121,7 @@ fn first_from(
     let vcs = relation.vcs();
     for dst in 0..relation.shape().nodes() {
         let set = relation.permitted(class, router, in_port, in_vc, dst);
-        if let Some(index) = first_to(relation, ranks, router, set, rank) {
+        if let Some((index, next)) = first_to(relation, ranks, router, set, rank) {
             let (out_port, out_vc) = (index / vcs, index % vcs);
             let step = RouteRow {
                 class,
@@ -159,32 +132,46 @@ fn first_from(
                 out_port,
                 out_vc,
             };
-            let next = rank_at(ranks, router, out_port, out_vc);
             return Some(Fall { step, rank, next });
         }
     }
     None
 }
 
-/// The first channel on a link port in a set of a router whose rank is not greater than `rank`, by its index.
+/// The first channel on a link port in a set of a router whose rank is not greater than `rank`, by its index, with its rank.
 fn first_to(
     relation: &Relation,
     ranks: &Ranks,
     router: usize,
     set: ChannelSet,
     rank: u32,
-) -> Option<usize>
+) -> Option<(usize, u32)>
     requires shape { relation.now.grid ≡ ranks.now.grid }
     requires vcs { relation.now.vcs ≡ ranks.now.vcs }
     requires router { router < nodes ranks.now.grid }
     ensures none { IfNone result (HasNone (falls_to ranks.now router set rank) (links ranks.now)) }
-    ensures some { IfSome result (IsLeastBelow (falls_to ranks.now router set rank) (links ranks.now)) }
+    ensures some { IfSome result (λ found. IsLeastBelow (falls_to ranks.now router set rank) (links ranks.now) found.0 × (rank_at ranks.now router (found.0 / ranks.now.vcs) (found.0 % ranks.now.vcs) ≡ Some found.1)) }
 {
     let vcs = relation.vcs();
     for index in 0..link_ports(relation.shape()) * vcs {
-        if set.contains(index) && rank_at(ranks, router, index / vcs, index % vcs) <= rank {
-            return Some(index);
+        if let Some(next) = falls_to(ranks, router, set, index, rank) {
+            return Some((index, next));
         }
     }
     None
+}
+
+/// The rank of a channel on a link port, by its index, if it is in the set and its rank is not greater than `rank`.
+fn falls_to(ranks: &Ranks, router: usize, set: ChannelSet, index: usize, rank: u32) -> Option<u32>
+    requires router { router < nodes ranks.now.grid }
+    requires index { index < links ranks.now }
+    requires few { index < INDICES }
+    ensures none { IfNone result (falls_to ranks.now router set rank index ≡ false) }
+    ensures some { IfSome result (λ next. (falls_to ranks.now router set rank index ≡ true) × (rank_at ranks.now router (index / ranks.now.vcs) (index % ranks.now.vcs) ≡ Some next)) }
+{
+    if !set.contains(index) {
+        return None;
+    }
+    let next = output_rank(ranks, router, index)?;
+    if next <= rank { Some(next) } else { None }
 }

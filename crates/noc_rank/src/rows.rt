@@ -1,6 +1,6 @@
 //! Ranks that are given row by row.
 
-ghost use Rattle.std.specs.Prelude.{◌≡◌, ℕ, ◌<◌, ◌≤◌, IfErr, IfSome, IfNone, IsOk, OnOk, OnErr, length, slice_index, true, nat_lt, Some};
+ghost use Rattle.std.specs.Prelude.{◌≡◌, ℕ, ◌<◌, ◌≤◌, IfErr, IfSome, IfNone, IsOk, OnOk, OnErr, length, slice_index_or, true, false, Some};
 ghost use Rattle.noc_route.specs.Ranks.{is_place, is_channel, places, place_of};
 ghost use Rattle.noc_rank.specs.Rows.{is_rank, fault_of, IsFirstRowFault};
 ghost use Rattle.noc_rank.specs.Entered.{IsEntered, IsWhole, IsFirstGap};
@@ -12,72 +12,98 @@ use noc_topo::Shape;
 /// The greatest rank.
 pub const MAX_RANK: usize = 1_000_000;
 
-/// A link channel, named by the router that sends on it, its port and its number, with its rank.
+/// A link channel, named by the router that sends on it, its port and its number, with its rank, 1 to 1,000,000; None says
+/// that the channel is adaptive.
 #[derive(Clone, Copy, Debug, PartialEq, Eq)]
 pub struct RankRow {
     pub router: usize,
     pub port: usize,
     pub vc: usize,
-    pub rank: usize,
+    pub rank: Option<usize>,
 }
 
-/// Writes the ranks of the rows over a list of zeros, or answers the fault of the first bad row.
+/// Writes the ranks of the rows over a list without ranks, and notes the channels that they name; or answers the fault of
+/// the first bad row.
 pub fn enter(
     shape: &Shape,
     vcs: usize,
     rows: &[RankRow],
-    ranks: &mut [u32],
+    ranks: &mut [Option<u32>],
+    named: &mut [bool],
 ) -> Result<(), RankFault>
     requires few { places shape.now vcs < 18446744073709551616 }
-    requires blank { IsEntered shape.now vcs rows.now 0 ranks.old }
+    requires blank { IsEntered shape.now vcs rows.now 0 ranks.old named.old }
     ensures err { IfErr result (IsFirstRowFault shape.now vcs rows.now) }
-    ensures ok { OnOk result (IsEntered shape.now vcs rows.now (length rows.now) ranks.new) }
+    ensures ok { OnOk result (IsEntered shape.now vcs rows.now (length rows.now) ranks.new named.new) }
 {
     for (number, row) in rows.iter().enumerate() {
-        if let Some(fault) = row_fault(shape, vcs, ranks, number, row) {
+        if let Some(fault) = row_fault(shape, vcs, named, number, row) {
             return Err(fault);
         }
-        ranks[place(shape, vcs, row.router, row.port, row.vc)] = row.rank as u32;
+        let place = place(shape, vcs, row.router, row.port, row.vc);
+        ranks[place] = stored(row.rank);
+        named[place] = true;
     }
     Ok(())
 }
 
-/// What is wrong with a row, where the channels that the rows before it name have ranks other than 0.
+/// What is wrong with a row, where `named` says which channels the rows before it name.
 fn row_fault(
     shape: &Shape,
     vcs: usize,
-    ranks: &[u32],
+    named: &[bool],
     number: usize,
     row: &RankRow,
 ) -> Option<RankFault>
     requires few { places shape.now vcs < 18446744073709551616 }
-    requires long { length ranks.now ≡ places shape.now vcs }
-    ensures { result ≡ fault_of shape.now vcs (nat_lt 0 (slice_index ranks.now (place_of shape.now vcs row.now.router row.now.port row.now.vc))) number row.now }
+    requires long { length named.now ≡ places shape.now vcs }
+    ensures { result ≡ fault_of shape.now vcs (slice_index_or named.now (place_of shape.now vcs row.now.router row.now.port row.now.vc) false) number row.now }
 {
     if !is_channel(shape, vcs, row.router, row.port, row.vc) {
         return Some(RankFault::UnknownChannel { row: number });
     }
-    if row.rank == 0 || row.rank > MAX_RANK {
+    if !is_rank(row.rank) {
         return Some(RankFault::BadRank { row: number });
     }
-    if ranks[place(shape, vcs, row.router, row.port, row.vc)] > 0 {
+    if named[place(shape, vcs, row.router, row.port, row.vc)] {
         return Some(RankFault::DoubleChannel { row: number });
     }
     None
 }
 
-/// The first link channel with rank 0, in the order of router, port and channel.
-pub fn missing(shape: &Shape, vcs: usize, ranks: &[u32]) -> Option<RankFault>
-    requires { length ranks.now ≡ places shape.now vcs }
-    ensures none { IfNone result (IsWhole shape.now vcs ranks.now (length ranks.now)) }
-    ensures some { IfSome result (IsFirstGap shape.now vcs ranks.now) }
+/// Whether a rank, if there is one, is 1 to 1,000,000.
+fn is_rank(rank: Option<usize>) -> bool
+    ensures { result ≡ is_rank rank }
+{
+    match rank {
+        Some(rank) => 1 <= rank && rank <= MAX_RANK,
+        None => true,
+    }
+}
+
+/// A rank as it is stored.
+fn stored(rank: Option<usize>) -> Option<u32>
+    requires { is_rank rank ≡ true }
+    ensures { result ≡ rank }
+{
+    match rank {
+        Some(rank) => Some(rank as u32),
+        None => None,
+    }
+}
+
+/// The first link channel that no row names, in the order of router, port and channel.
+pub fn missing(shape: &Shape, vcs: usize, named: &[bool]) -> Option<RankFault>
+    requires { length named.now ≡ places shape.now vcs }
+    ensures none { IfNone result (IsWhole shape.now vcs named.now (length named.now)) }
+    ensures some { IfSome result (IsFirstGap shape.now vcs named.now) }
 {
     let ports = link_ports(shape);
-    for place in 0..ranks.len() {
+    for place in 0..named.len() {
         let router = place / vcs / ports;
         let port = place / vcs % ports;
         let vc = place % vcs;
-        if ranks[place] == 0 && is_channel(shape, vcs, router, port, vc) {
+        if !named[place] && is_channel(shape, vcs, router, port, vc) {
             return Some(RankFault::MissingChannel { router, port, vc });
         }
     }

@@ -1,5 +1,5 @@
 //! Ranks and relations whose answers are known.
-ghost use Rattle.std.specs.Prelude.{◌≡◌};
+ghost use Rattle.std.specs.Prelude.{◌≡◌, IfOk};
 
 use super::*;
 use crate::place::is_channel;
@@ -43,7 +43,7 @@ fn rank(
     router: usize,
     port: usize,
     vc: usize,
-) -> u32
+) -> Option<u32>
     requires grid { ranks.now.grid ≡ shape.now }
     requires vcs { ranks.now.vcs ≡ vcs }
 {
@@ -56,7 +56,16 @@ fn row(router: usize, port: usize, vc: usize, rank: usize) -> RankRow {
         router,
         port,
         vc,
-        rank,
+        rank: Some(rank),
+    }
+}
+
+fn adaptive(router: usize, port: usize, vc: usize) -> RankRow {
+    RankRow {
+        router,
+        port,
+        vc,
+        rank: None,
     }
 }
 
@@ -165,15 +174,15 @@ fn a_circle_of_four_falls_where_it_closes(rt: HostRuntime) -> Result<(), RankFau
 fn ranks_by_formula(rt: HostRuntime) -> Result<(), RankFault> {
     let line = shape(&rt, Kind::Mesh, &[3]);
     let ranks = Ranks::generated(rt.alloc(), &line, 1, 1, &Rule::Dor)?;
-    assert_eq!(rt; rank(&rt, &line, 1, &ranks, 0, 0, 0), 1);
-    assert_eq!(rt; rank(&rt, &line, 1, &ranks, 1, 0, 0), 2);
-    assert_eq!(rt; rank(&rt, &line, 1, &ranks, 1, 1, 0), 2);
-    assert_eq!(rt; rank(&rt, &line, 1, &ranks, 2, 1, 0), 1);
+    assert_eq!(rt; rank(&rt, &line, 1, &ranks, 0, 0, 0), Some(1));
+    assert_eq!(rt; rank(&rt, &line, 1, &ranks, 1, 0, 0), Some(2));
+    assert_eq!(rt; rank(&rt, &line, 1, &ranks, 1, 1, 0), Some(2));
+    assert_eq!(rt; rank(&rt, &line, 1, &ranks, 2, 1, 0), Some(1));
     let square = shape(&rt, Kind::Mesh, &[3, 3]);
     let ranks = Ranks::generated(rt.alloc(), &square, 1, 1, &Rule::WestFirst)?;
-    assert_eq!(rt; rank(&rt, &square, 1, &ranks, 2, 1, 0), 1);
-    assert_eq!(rt; rank(&rt, &square, 1, &ranks, 3, 2, 0), 5);
-    assert_eq!(rt; rank(&rt, &square, 1, &ranks, 0, 0, 0), 7);
+    assert_eq!(rt; rank(&rt, &square, 1, &ranks, 2, 1, 0), Some(1));
+    assert_eq!(rt; rank(&rt, &square, 1, &ranks, 3, 2, 0), Some(5));
+    assert_eq!(rt; rank(&rt, &square, 1, &ranks, 0, 0, 0), Some(7));
     let circle = shape(&rt, Kind::Torus, &[3]);
     assert_eq!(rt;
         Ranks::generated(rt.alloc(), &circle, 1, 1, &Rule::Dor).err(),
@@ -186,8 +195,8 @@ fn ranks_by_formula(rt: HostRuntime) -> Result<(), RankFault> {
 fn dateline_rises_round_a_circle(rt: HostRuntime) -> Result<(), RankFault> {
     let circle = shape(&rt, Kind::Torus, &[4]);
     let ranks = Ranks::generated(rt.alloc(), &circle, 2, 1, &Rule::Dateline)?;
-    assert_eq!(rt; rank(&rt, &circle, 2, &ranks, 3, 0, 0), 4);
-    assert_eq!(rt; rank(&rt, &circle, 2, &ranks, 0, 0, 1), 5);
+    assert_eq!(rt; rank(&rt, &circle, 2, &ranks, 3, 0, 0), Some(4));
+    assert_eq!(rt; rank(&rt, &circle, 2, &ranks, 0, 0, 1), Some(5));
     let dateline = relation(&rt, rt.alloc(), &circle, 2, 1, Rule::Dateline);
     assert_eq!(rt; check(&rt, rt.alloc(), &dateline, &ranks), Ok(Accepted));
     Ok(())
@@ -199,5 +208,99 @@ fn a_mesh_of_256_with_four_channels_and_classes(rt: HostRuntime) -> Result<(), R
     let ranks = Ranks::generated(rt.alloc(), &mesh, 4, 4, &Rule::Dor)?;
     let dor = relation(&rt, rt.alloc(), &mesh, 4, 4, Rule::Dor);
     assert_eq!(rt; check(&rt, rt.alloc(), &dor, &ranks), Ok(Accepted));
+    Ok(())
+}
+
+#[test]
+fn adaptive_channels_have_no_rank(rt: HostRuntime) -> Result<(), RankFault> {
+    assert_eq!(rt;
+        fault_on_a_line(rt.alloc(), &[adaptive(0, 0, 0), row(0, 0, 0, 1)]),
+        Some(RankFault::DoubleChannel { row: 1 })
+    );
+    assert_eq!(rt;
+        fault_on_a_line(rt.alloc(), &[adaptive(0, 0, 0)]),
+        Some(RankFault::MissingChannel {
+            router: 1,
+            port: 1,
+            vc: 0
+        })
+    );
+    let line = shape(&rt, Kind::Mesh, &[2]);
+    let rows = [adaptive(0, 0, 0), row(1, 1, 0, 7)];
+    let ranks = Ranks::from_rows(rt.alloc(), &line, 1, &rows)?;
+    assert_eq!(rt; rank(&rt, &line, 1, &ranks, 0, 0, 0), None);
+    assert_eq!(rt; rank(&rt, &line, 1, &ranks, 1, 1, 0), Some(7));
+    Ok(())
+}
+
+#[test]
+fn no_escape_where_all_are_adaptive(rt: HostRuntime) -> Result<(), RankFault> {
+    let line = shape(&rt, Kind::Mesh, &[2]);
+    let rows = [
+        adaptive(0, 0, 0),
+        adaptive(0, 0, 1),
+        adaptive(1, 1, 0),
+        adaptive(1, 1, 1),
+    ];
+    let ranks = Ranks::from_rows(rt.alloc(), &line, 2, &rows)?;
+    let dor = relation(&rt, rt.alloc(), &line, 2, 1, Rule::Dor);
+    let entry = Entry {
+        class: 0,
+        router: 0,
+        in_port: 2,
+        in_vc: 0,
+        dst: 1,
+    };
+    assert_eq!(rt;
+        check(&rt, rt.alloc(), &dor, &ranks),
+        Err(RankFault::NoEscape(entry))
+    );
+    Ok(())
+}
+
+/// Ranks on a line of three nodes with two channels per link, of which channel 1 is adaptive; `second` is the rank of the
+/// channel from node 1 up to node 2.
+fn ranks_on_a_line(alloc: Global, shape: &Shape, second: usize) -> Result<Ranks, RankFault>
+    ensures { IfOk result (λ ranks. (ranks.grid ≡ shape.now) × (ranks.vcs ≡ 2)) }
+{
+    let rows = [
+        row(0, 0, 0, 2),
+        adaptive(0, 0, 1),
+        row(1, 0, 0, second),
+        adaptive(1, 0, 1),
+        row(1, 1, 0, 2),
+        adaptive(1, 1, 1),
+        row(2, 1, 0, 1),
+        adaptive(2, 1, 1),
+    ];
+    Ranks::from_rows(alloc, shape, 2, &rows)
+}
+
+#[test]
+fn equal_ranks_beside_adaptive_channels(rt: HostRuntime) -> Result<(), RankFault> {
+    let line = shape(&rt, Kind::Mesh, &[3]);
+    let dor = relation(&rt, rt.alloc(), &line, 2, 1, Rule::Dor);
+    let rising = ranks_on_a_line(rt.alloc(), &line, 3)?;
+    assert_eq!(rt; check(&rt, rt.alloc(), &dor, &rising), Ok(Accepted));
+    let level = ranks_on_a_line(rt.alloc(), &line, 2)?;
+    let from = LinkChannel {
+        router: 0,
+        port: 0,
+        vc: 0,
+    };
+    let to = LinkChannel {
+        router: 1,
+        port: 0,
+        vc: 0,
+    };
+    assert_eq!(rt;
+        check(&rt, rt.alloc(), &dor, &level),
+        Err(RankFault::NotRisingTo {
+            from,
+            to,
+            rank: 2,
+            next: 2
+        })
+    );
     Ok(())
 }

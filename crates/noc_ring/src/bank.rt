@@ -5,12 +5,9 @@ ghost use Rattle.std.specs.List.{slice_get};
 ghost use Rattle.noc_ring.specs.Rings.{empty_rings, ring_at, pushed, popped};
 
 use crate::store::Store;
-use noc_packet::{Flit, Memory};
+use noc_packet::{Flit, INDICES, MAX_BUFFER, Memory};
 use std::alloc::Global;
 use std::marker::Model;
-
-/// The most rings of a bank.
-const MOST_RINGS: usize = 56;
 
 /// Where a ring begins in its slots, and how many flits it has.
 #[derive(Clone, Copy, Debug)]
@@ -23,7 +20,7 @@ struct Ends {
 #[derive(Debug, Drop)]
 pub struct Bank {
     store: Store,
-    ends: [Ends; MOST_RINGS],
+    ends: [Ends; INDICES],
     rings: usize,
     capacity: usize,
 }
@@ -56,14 +53,14 @@ impl Bank {
     /// So many empty rings, 1 to 56, each of so many places, 1 to 16. The error is for want of memory alone.
     pub fn new(alloc: Global, rings: usize, capacity: usize) -> Result<Bank, Memory>
         requires some_ring { 0 < rings }
-        requires rings { rings ≤ 56 }
+        requires rings { rings ≤ INDICES }
         requires some_place { 0 < capacity }
-        requires capacity { capacity ≤ 16 }
+        requires capacity { capacity ≤ MAX_BUFFER }
         ensures { IfOk result (λ b. b ≡ empty_rings rings capacity) }
     {
         Ok(Bank {
             store: Store::new(alloc, rings * capacity)?,
-            ends: [Ends { head: 0, len: 0 }; MOST_RINGS],
+            ends: [Ends { head: 0, len: 0 }; INDICES],
             rings,
             capacity,
         })

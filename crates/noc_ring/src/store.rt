@@ -4,7 +4,7 @@ ghost use Rattle.std.specs.Prelude.{◌≡◌, ℕ, ◌<◌, ◌≤◌, true, fa
 ghost use Rattle.std.specs.Mem.Slots.{slots_items, slots_filled, slots_ptr, slots_len, lease_ptr, lease_len, lease_heap};
 
 use core::slots::{Lease, Slots, release, reserve};
-use noc_packet::{Flit, Memory};
+use noc_packet::{Flit, INDICES, MAX_BUFFER, Memory};
 use std::alloc::Global;
 use std::fmt;
 use std::marker::{Model, Send, Sync};
@@ -18,8 +18,8 @@ const BLANK: Flit = Flit {
     class: 0,
 };
 
-/// The most places of a bank: 56 rings of 16.
-const MOST: usize = 896;
+/// The most places of a bank.
+const MOST: usize = INDICES * MAX_BUFFER;
 
 /// `reserve` takes the number of places from the length of a list, and reads nothing else of it.
 static AS_MANY: [Flit; MOST] = [BLANK; MOST];

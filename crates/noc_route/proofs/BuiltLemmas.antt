@@ -10,11 +10,11 @@ use Rattle.noc_packet.specs.Set.{has_bit}
 use Rattle.noc_packet.proofs.SetLemmas.{has_bit-zero, zero_from_none}
 use Rattle.noc_route.specs.Channel.{Channel, Link, Inject, Eject, arrival_of, channel_vc}
 use Rattle.noc_route.specs.Relation.{Routing, leads, rule_at, rule_has, IsReached, injected, led_on, IsPermitted}
-use Rattle.noc_route.specs.Routes.{Routes, width, blocks, block_of, is_entry, set_at, permits, permits_at, is_sent, IsTable, IsRelation, HasLead}
-use Rattle.noc_route.specs.Trimming.{set_in, block_set, left_at, comes_in, comes_at, is_stuck_at, any_below, IsPlace, CanCome, injected as come_injected, led as come_led, ComesNearer, IsSoundOut, IsFullOut}
+use Rattle.noc_route.specs.Routes.{Routes, width, pages, page_of, is_entry, set_at, permits, permits_at, is_sent, IsTable, IsRelation, HasLead}
+use Rattle.noc_route.specs.Trimming.{set_in, page_set, left_at, comes_in, comes_at, is_stuck_at, any_below, IsPlace, CanCome, injected as come_injected, led as come_led, ComesNearer, IsSoundOut, IsFullOut}
 use Rattle.noc_route.specs.Entered.{IsEntered}
 use Rattle.noc_route.proofs.PlaceLemmas.{flat-below, is_entry-true}
-use Rattle.noc_route.proofs.TrimLemmas.{IsSized, any_below-some, any_below-at, index-parts, port-below, CanCome-within, comes_in-sound, comes_in-full, block-dst, block-class, block-sender, block-below}
+use Rattle.noc_route.proofs.TrimLemmas.{IsSized, any_below-some, any_below-at, index-parts, port-below, CanCome-within, comes_in-sound, comes_in-full, page-dst, page-class, page-sender, page-below}
 use Rattle.noc_route.proofs.RuleLemmas.{IsFaultless, IsRight-from_test, leads-vc, leads-hop, leads-home}
 
 -- a table over the numbers of a rule
@@ -207,19 +207,19 @@ pub record IsMade (g : Routing) (sets left outs : List ℕ) : Type 0 where
   pub entered : IsEntered g (table g sets)
   pub sound : IsSoundOut (table g sets) outs
   pub full : (m r t : ℕ) → IsPlace (table g sets) m r t → IsFullOut (table g sets) outs m r t
-  pub trimmed : (b i : ℕ) → b < blocks g.grid g.classes → i < width g.grid g.vcs → block_set (table g left) b i ≡ left_at (table g sets) outs b i
+  pub trimmed : (b i : ℕ) → b < pages g.grid g.classes → i < width g.grid g.vcs → page_set (table g left) b i ≡ left_at (table g sets) outs b i
 
 -- the set that is left at a place
 pub set-left : (g : Routing) (sets left outs : List ℕ) → IsMade g sets left outs → (m r t i : ℕ) → IsPlace (table g sets) m r t → i < width g.grid g.vcs
     → set_in (table g left) m r t i ≡ (if comes_in (table g sets) outs m r t i then set_in (table g sets) m r t i else 0)
 set-left g sets left outs made m r t i place l =
-    let b = block_of g.grid g.classes m r t in
+    let b = page_of g.grid g.classes m r t in
     let R = table g sets in
     let kept = λ (m' r' t' : ℕ). if comes_in R outs m' r' t' i then set_in R m r t i else 0 in
-    made.trimmed b i (block-below g.grid g.classes m r t place.class place.router place.dst) l
-    ∙ ap (λ x. kept x (b / nodes g.grid / g.classes) (b % nodes g.grid)) (block-class g.grid g.classes m r t place.dst place.class)
-    ∙ ap (λ x. kept m x (b % nodes g.grid)) (block-sender g.grid g.classes m r t place.dst place.class)
-    ∙ ap (kept m r) (block-dst g.grid g.classes m r t place.dst)
+    made.trimmed b i (page-below g.grid g.classes m r t place.class place.router place.dst) l
+    ∙ ap (λ x. kept x (b / nodes g.grid / g.classes) (b % nodes g.grid)) (page-class g.grid g.classes m r t place.dst place.class)
+    ∙ ap (λ x. kept m x (b % nodes g.grid)) (page-sender g.grid g.classes m r t place.dst place.class)
+    ∙ ap (kept m r) (page-dst g.grid g.classes m r t place.dst)
 
 -- packets come exactly by the lists
 pub comes-true : (g : Routing) (sets left outs : List ℕ) → IsMade g sets left outs → (m r t i : ℕ) → CanCome (table g sets) m t r i → comes_in (table g sets) outs m r t i ≡ true
@@ -380,21 +380,21 @@ some_member set n within e = at (any_below n (has_bit set)) refl
 
 -- no entry to which packets come is empty
 abbrev pub IsUnstuck : Routing → List ℕ → List ℕ → Type 0
-IsUnstuck g left outs = (b i : ℕ) → b < blocks g.grid g.classes → i < width g.grid g.vcs → is_stuck_at (table g left) outs b i ≡ false
+IsUnstuck g left outs = (b i : ℕ) → b < pages g.grid g.classes → i < width g.grid g.vcs → is_stuck_at (table g left) outs b i ≡ false
 
 -- where packets come, something is permitted
 come-permits : (g : Routing) (sets left outs : List ℕ) → IsMade g sets left outs → IsUnstuck g left outs → (m r t i : ℕ) → CanCome (table g sets) m t r i
     → (k : ℕ) × (has_bit (set_in (table g left) m r t i) k ≡ true)
 come-permits g sets left outs made unstuck m r t i come =
     let within = CanCome-within (table g sets) m t r i (sized g sets made.good) come in
-    let b = block_of g.grid g.classes m r t in
-    let below = block-below g.grid g.classes m r t within.0.class within.0.router within.0.dst in
+    let b = page_of g.grid g.classes m r t in
+    let below = page-below g.grid g.classes m r t within.0.class within.0.router within.0.dst in
     let came = λ (m r t : ℕ). comes_in (table g sets) outs m r t i in
     let comes : comes_at (table g left) outs b i ≡ true
-    = ap (λ x. came x (b / nodes g.grid / g.classes) (b % nodes g.grid)) (block-class g.grid g.classes m r t within.0.dst within.0.class)
-    ∙ ap (λ x. came m x (b % nodes g.grid)) (block-sender g.grid g.classes m r t within.0.dst within.0.class)
-    ∙ ap (came m r) (block-dst g.grid g.classes m r t within.0.dst) ∙ comes-true g sets left outs made m r t i come in
-    let free : nat_eq (set_in (table g left) m r t i) 0 ≡ false = sym (ap (λ x. x && nat_eq (block_set (table g left) b i) 0) comes) ∙ unstuck b i below within.1 in
+    = ap (λ x. came x (b / nodes g.grid / g.classes) (b % nodes g.grid)) (page-class g.grid g.classes m r t within.0.dst within.0.class)
+    ∙ ap (λ x. came m x (b % nodes g.grid)) (page-sender g.grid g.classes m r t within.0.dst within.0.class)
+    ∙ ap (came m r) (page-dst g.grid g.classes m r t within.0.dst) ∙ comes-true g sets left outs made m r t i come in
+    let free : nat_eq (set_in (table g left) m r t i) 0 ≡ false = sym (ap (λ x. x && nat_eq (page_set (table g left) b i) 0) comes) ∙ unstuck b i below within.1 in
     some_member (set_in (table g left) m r t i) (width g.grid g.vcs)
     (λ k has. (member-leads g sets m r t i k made.entered within.0 within.1 (member-come g sets left outs made m r t i k within.0 within.1 has).1).0) free
 

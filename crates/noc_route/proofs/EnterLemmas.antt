@@ -8,15 +8,15 @@ use Rattle.std.proofs.lemmas.List.Folds.{list_any_more}
 use Rattle.noc_packet.specs.Set.{has_bit}
 use Rattle.noc_topo.specs.Shape.{Grid, nodes, ports, local_port, neighbour}
 use Rattle.noc_route.specs.Relation.{Routing, is_row_of, is_open, is_real_row, rows_of, leads, is_led}
-use Rattle.noc_route.specs.Routes.{Routes, width, blocks, block_of, block_class, block_router, block_dst, place_of}
-use Rattle.noc_route.specs.Trimming.{block_set}
+use Rattle.noc_route.specs.Routes.{Routes, width, pages, page_of, page_class, page_router, page_dst, place_of}
+use Rattle.noc_route.specs.Trimming.{page_set}
 use Rattle.noc_packet.proofs.SetLemmas.{has_bit-zero}
 use Rattle.noc_route.specs.Entered.{has_row_at, IsEntered}
 use Rattle.noc_route.specs.declared.rule.Rule.{Rule}
-use Rattle.noc_route.specs.declared.rule.Rule.TheVariants.{Dor, Dateline, WestFirst, Rows}
+use Rattle.noc_route.specs.declared.rule.Rule.TheVariants.{Dor, Dateline, WestFirst, Adaptive, Rows}
 use Rattle.noc_route.specs.declared.rule.RouteRow.{RouteRow}
 use Rattle.noc_route.proofs.PlaceLemmas.{flat-below}
-use Rattle.noc_route.proofs.TrimLemmas.{index-parts, block-dst, block-class, block-sender, block-below}
+use Rattle.noc_route.proofs.TrimLemmas.{index-parts, page-dst, page-class, page-sender, page-below}
 use Rattle.noc_route.proofs.BoolLemmas.{same_test, or-none, or-true, and-false}
 
 -- ---- one set in a row of places
@@ -55,38 +55,38 @@ filled_to-before sets from count value j a =
     at true e = absurd (omega (arith, leb-true from j e))
     at false e = e
 
--- ---- the sets of the first blocks
+-- ---- the sets of the first pages
 
--- each set of the first blocks has the bits of this test
+-- each set of the first pages has the bits of this test
 abbrev pub AreEntered : Routes → List ℕ → (ℕ → ℕ → Bool) → ℕ → Type 0
-AreEntered routes sets test block =
-    (b i k : ℕ) → b < block → b < blocks routes.grid routes.classes → i < width routes.grid routes.vcs → has_bit (block_set (record routes { sets = sets }) b i) k ≡ test b k
+AreEntered routes sets test page =
+    (b i k : ℕ) → b < page → b < pages routes.grid routes.classes → i < width routes.grid routes.vcs → has_bit (page_set (record routes { sets = sets }) b i) k ≡ test b k
 
-pub AreEntered-more : (routes : Routes) (sets new : List ℕ) (value block : ℕ) (test : ℕ → ℕ → Bool)
-    → ((j : ℕ) → get_or new j 0 ≡ filled_to sets (block * width routes.grid routes.vcs) (width routes.grid routes.vcs) value j)
-    → ((k : ℕ) → has_bit value k ≡ test block k)
-    → AreEntered routes sets test block → AreEntered routes new test (block + 1)
-AreEntered-more routes sets new value block test written is h = λ b i k l m n. at b i k l m n (cases_lt b block)
+pub AreEntered-more : (routes : Routes) (sets new : List ℕ) (value page : ℕ) (test : ℕ → ℕ → Bool)
+    → ((j : ℕ) → get_or new j 0 ≡ filled_to sets (page * width routes.grid routes.vcs) (width routes.grid routes.vcs) value j)
+    → ((k : ℕ) → has_bit value k ≡ test page k)
+    → AreEntered routes sets test page → AreEntered routes new test (page + 1)
+AreEntered-more routes sets new value page test written is h = λ b i k l m n. at b i k l m n (cases_lt b page)
   where
-    at : (b i k : ℕ) → b < block + 1 → b < blocks routes.grid routes.classes → i < width routes.grid routes.vcs → (b < block) ⊎ (block ≤ b)
+    at : (b i k : ℕ) → b < page + 1 → b < pages routes.grid routes.classes → i < width routes.grid routes.vcs → (b < page) ⊎ (page ≤ b)
         → has_bit (get_or new (b * width routes.grid routes.vcs + i) 0) k ≡ test b k
     at b i k l m n (inl f) =
         ap (λ s. has_bit s k)
         (written (b * width routes.grid routes.vcs + i)
-        ∙ filled_to-before sets (block * width routes.grid routes.vcs) (width routes.grid routes.vcs) value (b * width routes.grid routes.vcs + i) (flat-below b block i (width routes.grid routes.vcs) f n))
+        ∙ filled_to-before sets (page * width routes.grid routes.vcs) (width routes.grid routes.vcs) value (b * width routes.grid routes.vcs + i) (flat-below b page i (width routes.grid routes.vcs) f n))
         ∙ h b i k f m n
     at b i k l m n (inr g) =
-        let last : block ≡ b = omega arith in
+        let last : page ≡ b = omega arith in
         let P : ℕ → Type 0 = λ b. has_bit (get_or new (b * width routes.grid routes.vcs + i) 0) k ≡ test b k in
         subst P last
         (ap (λ s. has_bit s k)
-        (written (block * width routes.grid routes.vcs + i)
-        ∙ filled_to-inside sets (block * width routes.grid routes.vcs) (width routes.grid routes.vcs) value (block * width routes.grid routes.vcs + i) (omega arith) (omega arith))
+        (written (page * width routes.grid routes.vcs + i)
+        ∙ filled_to-inside sets (page * width routes.grid routes.vcs) (width routes.grid routes.vcs) value (page * width routes.grid routes.vcs + i) (omega arith) (omega arith))
         ∙ is k)
 
 -- ---- one row more
 
--- what it is for a row to name an entry of a block and an output channel
+-- what it is for a row to name an entry of a page and an output channel
 pub record NamesIt (m r p v t q w : ℕ) (row : RouteRow) : Type 0 where
   pub class : row.class ≡ m
   pub router : row.router ≡ r
@@ -139,36 +139,36 @@ pub record IsWithinTable (routes : Routes) (row : RouteRow) : Type 0 where
 abbrev pub row_place : Routes → RouteRow → ℕ
 row_place routes row = place_of routes.grid routes.vcs routes.classes row.class row.router row.in_port row.in_vc row.dst
 
--- the number of a block, of its parts
-pub block-whole : (g : Grid) (classes b : ℕ) → block_of g classes (block_class g classes b) (block_router g classes b) (block_dst g b) ≡ b
-block-whole g classes b =
+-- the number of a page, of its parts
+pub page-whole : (g : Grid) (classes b : ℕ) → page_of g classes (page_class g classes b) (page_router g classes b) (page_dst g b) ≡ b
+page-whole g classes b =
     ap (λ x. x * nodes g + b % nodes g) (index-parts classes (b / nodes g)) ∙ index-parts (nodes g) b
 
 named-place : (routes : Routes) (b i k : ℕ) (row : RouteRow)
-    → NamesIt (block_class routes.grid routes.classes b) (block_router routes.grid routes.classes b) (i / routes.vcs) (i % routes.vcs) (block_dst routes.grid b) (k / routes.vcs) (k % routes.vcs) row
+    → NamesIt (page_class routes.grid routes.classes b) (page_router routes.grid routes.classes b) (i / routes.vcs) (i % routes.vcs) (page_dst routes.grid b) (k / routes.vcs) (k % routes.vcs) row
     → (b * width routes.grid routes.vcs + i ≡ row_place routes row) × (k ≡ row.out_port * routes.vcs + row.out_vc)
 named-place routes b i k row h =
-    let block : block_of routes.grid routes.classes row.class row.router row.dst ≡ b
-    = ap (λ x. block_of routes.grid routes.classes x row.router row.dst) h.class ∙ ap (λ x. block_of routes.grid routes.classes (block_class routes.grid routes.classes b) x row.dst) h.router
-    ∙ ap (block_of routes.grid routes.classes (block_class routes.grid routes.classes b) (block_router routes.grid routes.classes b)) h.dst ∙ block-whole routes.grid routes.classes b in
+    let page : page_of routes.grid routes.classes row.class row.router row.dst ≡ b
+    = ap (λ x. page_of routes.grid routes.classes x row.router row.dst) h.class ∙ ap (λ x. page_of routes.grid routes.classes (page_class routes.grid routes.classes b) x row.dst) h.router
+    ∙ ap (page_of routes.grid routes.classes (page_class routes.grid routes.classes b) (page_router routes.grid routes.classes b)) h.dst ∙ page-whole routes.grid routes.classes b in
     let input : row.in_port * routes.vcs + row.in_vc ≡ i = ap (λ x. x * routes.vcs + row.in_vc) h.in_port ∙ ap (λ x. i / routes.vcs * routes.vcs + x) h.in_vc ∙ index-parts routes.vcs i in
     let output : row.out_port * routes.vcs + row.out_vc ≡ k = ap (λ x. x * routes.vcs + row.out_vc) h.out_port ∙ ap (λ x. k / routes.vcs * routes.vcs + x) h.out_vc ∙ index-parts routes.vcs k in
-    (sym (ap (λ x. x * width routes.grid routes.vcs + (row.in_port * routes.vcs + row.in_vc)) block ∙ ap (λ x. b * width routes.grid routes.vcs + x) input), sym output)
+    (sym (ap (λ x. x * width routes.grid routes.vcs + (row.in_port * routes.vcs + row.in_vc)) page ∙ ap (λ x. b * width routes.grid routes.vcs + x) input), sym output)
 
 place-named : (routes : Routes) (b i k : ℕ) (row : RouteRow) → IsWithinTable routes row → i < width routes.grid routes.vcs
     → b * width routes.grid routes.vcs + i ≡ row_place routes row → k ≡ row.out_port * routes.vcs + row.out_vc
-    → NamesIt (block_class routes.grid routes.classes b) (block_router routes.grid routes.classes b) (i / routes.vcs) (i % routes.vcs) (block_dst routes.grid b) (k / routes.vcs) (k % routes.vcs) row
+    → NamesIt (page_class routes.grid routes.classes b) (page_router routes.grid routes.classes b) (i / routes.vcs) (i % routes.vcs) (page_dst routes.grid b) (k / routes.vcs) (k % routes.vcs) row
 place-named routes b i k row within l e f =
     let w = width routes.grid routes.vcs in
     let small : row.in_port * routes.vcs + row.in_vc < w = flat-below row.in_port (ports routes.grid) row.in_vc routes.vcs within.in_port within.in_vc in
-    let block : b ≡ block_of routes.grid routes.classes row.class row.router row.dst = sym (div-mul-add b w i l) ∙ ap (λ x. x / w) e ∙ div-mul-add _ w (row.in_port * routes.vcs + row.in_vc) small in
+    let page : b ≡ page_of routes.grid routes.classes row.class row.router row.dst = sym (div-mul-add b w i l) ∙ ap (λ x. x / w) e ∙ div-mul-add _ w (row.in_port * routes.vcs + row.in_vc) small in
     let input : i ≡ row.in_port * routes.vcs + row.in_vc = sym (mod-mul-add b w i l) ∙ ap (λ x. x % w) e ∙ mod-mul-add _ w (row.in_port * routes.vcs + row.in_vc) small in
     record {
-      class = sym (ap (block_class routes.grid routes.classes) block ∙ block-class routes.grid routes.classes row.class row.router row.dst within.dst within.class);
-      router = sym (ap (block_router routes.grid routes.classes) block ∙ block-sender routes.grid routes.classes row.class row.router row.dst within.dst within.class);
+      class = sym (ap (page_class routes.grid routes.classes) page ∙ page-class routes.grid routes.classes row.class row.router row.dst within.dst within.class);
+      router = sym (ap (page_router routes.grid routes.classes) page ∙ page-sender routes.grid routes.classes row.class row.router row.dst within.dst within.class);
       in_port = sym (ap (λ x. x / routes.vcs) input ∙ div-mul-add row.in_port routes.vcs row.in_vc within.in_vc);
       in_vc = sym (ap (λ x. x % routes.vcs) input ∙ mod-mul-add row.in_port routes.vcs row.in_vc within.in_vc);
-      dst = sym (ap (block_dst routes.grid) block ∙ block-dst routes.grid routes.classes row.class row.router row.dst within.dst);
+      dst = sym (ap (page_dst routes.grid) page ∙ page-dst routes.grid routes.classes row.class row.router row.dst within.dst);
       out_port = sym (ap (λ x. x / routes.vcs) f ∙ div-mul-add row.out_port routes.vcs row.out_vc within.out_vc);
       out_vc = sym (ap (λ x. x % routes.vcs) f ∙ mod-mul-add row.out_port routes.vcs row.out_vc within.out_vc);
     }
@@ -176,20 +176,20 @@ place-named routes b i k row within l e f =
 -- each set has the bits of the first rows
 abbrev pub HasRows : Routes → List ℕ → List RouteRow → ℕ → Type 0
 HasRows routes sets rows n =
-    (b i k : ℕ) → b < blocks routes.grid routes.classes → i < width routes.grid routes.vcs
-    → has_bit (block_set (record routes { sets = sets }) b i) k ≡ (nat_lt k (width routes.grid routes.vcs) && has_row_at routes (take n rows) b i k)
+    (b i k : ℕ) → b < pages routes.grid routes.classes → i < width routes.grid routes.vcs
+    → has_bit (page_set (record routes { sets = sets }) b i) k ≡ (nat_lt k (width routes.grid routes.vcs) && has_row_at routes (take n rows) b i k)
 
 -- a channel of the row, or one that was there
 or_within : (e l r : Bool) → (e ≡ true → l ≡ true) → (e || (l && r)) ≡ (l && (r || e))
 or_within true l r h = let yes = h refl in rw (yes, or-true r) refl
 or_within false l r h = rw (or-none r) refl
 
--- whether a row names an entry of a block and an output channel
+-- whether a row names an entry of a page and an output channel
 abbrev row_at : Routes → ℕ → ℕ → ℕ → RouteRow → Bool
 row_at routes b i k =
-    is_row_of (block_class routes.grid routes.classes b) (block_router routes.grid routes.classes b, i / routes.vcs) (i % routes.vcs) (block_dst routes.grid b) (k / routes.vcs) (k % routes.vcs)
+    is_row_of (page_class routes.grid routes.classes b) (page_router routes.grid routes.classes b, i / routes.vcs) (i % routes.vcs) (page_dst routes.grid b) (k / routes.vcs) (k % routes.vcs)
 
-pub HasRows-more : (routes : Routes) (sets : List ℕ) (rows : List RouteRow) (n : ℕ) (row : RouteRow) (value : ℕ) → length sets ≡ blocks routes.grid routes.classes * width routes.grid routes.vcs
+pub HasRows-more : (routes : Routes) (sets : List ℕ) (rows : List RouteRow) (n : ℕ) (row : RouteRow) (value : ℕ) → length sets ≡ pages routes.grid routes.classes * width routes.grid routes.vcs
     → n < length rows → ((d : RouteRow) → get_or rows n d ≡ row) → IsWithinTable routes row
     → ((k : ℕ) → has_bit value k ≡ (nat_eq k (row.out_port * routes.vcs + row.out_vc) || has_bit (get_or sets (row_place routes row) 0) k))
     → HasRows routes sets rows n → HasRows routes (set sets (row_place routes row) value) rows (n + 1)
@@ -198,11 +198,11 @@ HasRows-more routes sets rows n row value long l here within is h = λ b i k m o
     = list_any_more (row_at routes b i k) rows n row l ∙ ap (λ x. has_row_at routes (take n rows) b i k || row_at routes b i k x) (here row) in
     at b i k m o (cases_eq (b * width routes.grid routes.vcs + i) (row_place routes row)) ∙ ap (λ x. nat_lt k (width routes.grid routes.vcs) && x) (sym more)
   where
-    at : (b i k : ℕ) → b < blocks routes.grid routes.classes → i < width routes.grid routes.vcs
+    at : (b i k : ℕ) → b < pages routes.grid routes.classes → i < width routes.grid routes.vcs
         → (b * width routes.grid routes.vcs + i ≡ row_place routes row) ⊎ (b * width routes.grid routes.vcs + i ≢ row_place routes row)
         → has_bit (get_or (set sets (row_place routes row) value) (b * width routes.grid routes.vcs + i) 0) k ≡ (nat_lt k (width routes.grid routes.vcs) && (has_row_at routes (take n rows) b i k || row_at routes b i k row))
     at b i k m o (inl e) =
-        let inside : row_place routes row < length sets = omega (arith, long, e, flat-below b (blocks routes.grid routes.classes) i (width routes.grid routes.vcs) m o) in
+        let inside : row_place routes row < length sets = omega (arith, long, e, flat-below b (pages routes.grid routes.classes) i (width routes.grid routes.vcs) m o) in
         let same : nat_eq k (row.out_port * routes.vcs + row.out_vc) ≡ row_at routes b i k row
         = same_test _ _ (λ q. is_row_of-all _ _ _ _ _ _ _ row (place-named routes b i k row within o e (eqb-true _ _ q)))
         (λ q. eq-eqb _ _ (named-place routes b i k row (is_row_of-parts _ _ _ _ _ _ _ row q)).1) in
@@ -289,23 +289,25 @@ pub leads-named : (grid : Grid) (vcs classes : ℕ) (rule : Rule) (m r p v t q w
 leads-named grid vcs classes Dor m r p v t q w other = refl
 leads-named grid vcs classes Dateline m r p v t q w other = refl
 leads-named grid vcs classes WestFirst m r p v t q w other = refl
+leads-named grid vcs classes Adaptive m r p v t q w other = refl
 leads-named grid vcs classes (Rows rows) m r p v t q w other = absurd (other rows refl)
 
--- the sets of all places, by those of all blocks
-pub IsEntered-from_blocks : (g : Routing) (routes : Routes)
-    → ((b i k : ℕ) → b < blocks routes.grid routes.classes → i < width routes.grid routes.vcs → has_bit (block_set routes b i) k
-    ≡ (nat_lt k (width routes.grid routes.vcs) && leads g (block_class routes.grid routes.classes b) (block_router routes.grid routes.classes b, i / routes.vcs) (i % routes.vcs) (block_dst routes.grid b) (k / routes.vcs) (k % routes.vcs)))
+-- the sets of all places, by those of all pages
+pub IsEntered-from_pages : (g : Routing) (routes : Routes)
+    → ((b i k : ℕ) → b < pages routes.grid routes.classes → i < width routes.grid routes.vcs → has_bit (page_set routes b i) k
+    ≡ (nat_lt k (width routes.grid routes.vcs) && leads g (page_class routes.grid routes.classes b) (page_router routes.grid routes.classes b, i / routes.vcs) (i % routes.vcs) (page_dst routes.grid b) (k / routes.vcs) (k % routes.vcs)))
     → IsEntered g routes
-IsEntered-from_blocks g routes h m r t i k place l =
-    let b = block_of routes.grid routes.classes m r t in
+IsEntered-from_pages g routes h m r t i k place l =
+    let b = page_of routes.grid routes.classes m r t in
     let led = λ (m r t : ℕ). nat_lt k (width routes.grid routes.vcs) && leads g m (r, i / routes.vcs) (i % routes.vcs) t (k / routes.vcs) (k % routes.vcs) in
-    h b i k (block-below routes.grid routes.classes m r t place.class place.router place.dst) l
-    ∙ ap (λ x. led x (block_router routes.grid routes.classes b) (block_dst routes.grid b)) (block-class routes.grid routes.classes m r t place.dst place.class)
-    ∙ ap (λ x. led m x (block_dst routes.grid b)) (block-sender routes.grid routes.classes m r t place.dst place.class)
-    ∙ ap (led m r) (block-dst routes.grid routes.classes m r t place.dst)
+    h b i k (page-below routes.grid routes.classes m r t place.class place.router place.dst) l
+    ∙ ap (λ x. led x (page_router routes.grid routes.classes b) (page_dst routes.grid b)) (page-class routes.grid routes.classes m r t place.dst place.class)
+    ∙ ap (λ x. led m x (page_dst routes.grid b)) (page-sender routes.grid routes.classes m r t place.dst place.class)
+    ∙ ap (led m r) (page-dst routes.grid routes.classes m r t place.dst)
 
 pub rows_of-named : (rule : Rule) → ((rows : Vec RouteRow Global) → rule ≡ Rows rows → ⊥) → rows_of rule ≡ []
 rows_of-named Dor other = refl
 rows_of-named Dateline other = refl
 rows_of-named WestFirst other = refl
+rows_of-named Adaptive other = refl
 rows_of-named (Rows rows) other = absurd (other rows refl)

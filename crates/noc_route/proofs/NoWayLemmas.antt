@@ -15,13 +15,13 @@ use Rattle.noc_route.specs.Built.{IsRelationOf}
 use Rattle.noc_route.specs.declared.rule.RouteRow.{RouteRow}
 use Rattle.noc_route.specs.declared.rule.RouteFault.{RouteFault}
 use Rattle.noc_route.specs.declared.rule.RouteFault.TheVariants.{WrongShape, NoLink, NotMinimal, EarlyEject, LateHop, NoWay, Memory}
-use Rattle.noc_route.specs.Routes.{Routes, IsTable, width, blocks, block_of, block_class, block_router, block_dst}
-use Rattle.noc_route.specs.Trimming.{set_in, block_set, left_at, comes_in, comes_at, is_stuck_at, entry_at, IsNoEarlier, IsStuckFirst, IsFirstStuck, IsPlace, CanCome, IsSoundOut, IsFullOut}
+use Rattle.noc_route.specs.Routes.{Routes, IsTable, width, pages, page_of, page_class, page_router, page_dst}
+use Rattle.noc_route.specs.Trimming.{set_in, page_set, left_at, comes_in, comes_at, is_stuck_at, entry_at, IsNoEarlier, IsStuckFirst, IsFirstStuck, IsPlace, CanCome, IsSoundOut, IsFullOut}
 use Rattle.noc_route.specs.Entered.{IsEntered}
 use Rattle.noc_route.specs.declared.rule.Entry.{Entry}
-use Rattle.noc_route.proofs.PlaceLemmas.{flat-below, block-router}
-use Rattle.noc_route.proofs.TrimLemmas.{index-parts, port-below, CanCome-within, comes_in-sound, block-dst, block-class, block-sender, block-below}
-use Rattle.noc_route.proofs.EnterLemmas.{block-whole}
+use Rattle.noc_route.proofs.PlaceLemmas.{flat-below, page-router}
+use Rattle.noc_route.proofs.TrimLemmas.{index-parts, port-below, CanCome-within, comes_in-sound, page-dst, page-class, page-sender, page-below}
+use Rattle.noc_route.proofs.EnterLemmas.{page-whole}
 use Rattle.noc_route.proofs.RuleLemmas.{IsFaultless, IsRight-from_test, leads-vc}
 use Rattle.noc_route.proofs.BuiltLemmas.{table, sized, some_vcs, member-leads, leads-member, next-link, next-eject, no-inject, ComesOn-reached, CameOn-come, rule-link, rule-eject, IsMade, IsUnstuck, comes-true, kept-set, exact, IsRelation-made}
 
@@ -83,26 +83,26 @@ none-empty g sets good entered m t r i c place l e f none = zero_from_none (set_
 
 -- ---- stuck entries
 
-IsNoWay-stuck : (g : Routing) (sets left outs : List ℕ) → IsMade g sets left outs → (b i : ℕ) → b < blocks g.grid g.classes → i < width g.grid g.vcs → is_stuck_at (table g left) outs b i ≡ true
+IsNoWay-stuck : (g : Routing) (sets left outs : List ℕ) → IsMade g sets left outs → (b i : ℕ) → b < pages g.grid g.classes → i < width g.grid g.vcs → is_stuck_at (table g left) outs b i ≡ true
     → IsNoWay g (entry_at (table g left) b i)
 IsNoWay-stuck g sets left outs made b i l k stuck =
-    let m = block_class g.grid g.classes b in
-    let r = block_router g.grid g.classes b in
-    let t = block_dst g.grid b in
+    let m = page_class g.grid g.classes b in
+    let r = page_router g.grid g.classes b in
+    let t = page_dst g.grid b in
     let right = IsRight-from_test g.grid g.vcs g.classes g.rule made.good.right in
     let some = nodes-some g.grid made.good.grid in
     let place : IsPlace (table g sets) m r t
     = record {
       class = mod-lt (b / nodes g.grid) {m = g.classes} (omega (arith, right.some_classes));
-      router = block-router b (nodes g.grid) g.classes (omega (arith, some)) right.some_classes l;
+      router = page-router b (nodes g.grid) g.classes (omega (arith, some)) right.some_classes l;
       dst = mod-lt b {m = nodes g.grid} (omega (arith, some));
     } in
-    let parts = and_parts (comes_at (table g left) outs b i) (nat_eq (block_set (table g left) b i) 0) stuck in
+    let parts = and_parts (comes_at (table g left) outs b i) (nat_eq (page_set (table g left) b i) 0) stuck in
     let come = comes_in-sound (table g sets) outs m r t i (sized g sets made.good) made.sound place k parts.0 in
     let came = CameOn-come g sets made.good made.entered m t r i come in
-    let kept : block_set (table g left) b i ≡ block_set (table g sets) b i = made.trimmed b i l k ∙ ap (λ x. if x then block_set (table g sets) b i else 0) parts.0 in
+    let kept : page_set (table g left) b i ≡ page_set (table g sets) b i = made.trimmed b i l k ∙ ap (λ x. if x then page_set (table g sets) b i else 0) parts.0 in
     let zero : set_in (table g sets) m r t i ≡ 0
-    = ap (λ x. slice_index sets (x * width g.grid g.vcs + i)) (block-whole g.grid g.classes b) ∙ sym kept ∙ eqb-true _ 0 parts.1 in
+    = ap (λ x. slice_index sets (x * width g.grid g.vcs + i)) (page-whole g.grid g.classes b) ∙ sym kept ∙ eqb-true _ 0 parts.1 in
     record {
       channel = came.channel;
       arrives = came.arrives;
@@ -111,61 +111,61 @@ IsNoWay-stuck g sets left outs made b i l k stuck =
       none = empty-none g sets made.good made.entered m t r i came.channel came.reached came.arrives came.vc zero;
     }
 
--- the block and input of an entry with no way, at which packets are stuck
+-- the page and input of an entry with no way, at which packets are stuck
 record StuckAt (g : Routing) (left outs : List ℕ) (e : Entry) : Type 0 where
-  block : ℕ
+  page : ℕ
   input : ℕ
-  exists : block < blocks g.grid g.classes
+  exists : page < pages g.grid g.classes
   within : input < width g.grid g.vcs
-  stuck : is_stuck_at (table g left) outs block input ≡ true
-  numbers : entry_numbers (entry_at (table g left) block input) ≡ entry_numbers e
+  stuck : is_stuck_at (table g left) outs page input ≡ true
+  numbers : entry_numbers (entry_at (table g left) page input) ≡ entry_numbers e
 
 StuckAt-no_way : (g : Routing) (sets left outs : List ℕ) → IsMade g sets left outs → (e : Entry) → IsNoWay g e → StuckAt g left outs e
 StuckAt-no_way g sets left outs made e h =
     let on = ComesOn-reached g sets made.good made.entered e.class h.channel e.dst h.reached (e.router, e.in_port) h.arrives in
     let i = e.in_port * g.vcs + channel_vc h.channel in
     let within = CanCome-within (table g sets) e.class e.dst e.router i (sized g sets made.good) on.come in
-    let b = block_of g.grid g.classes e.class e.router e.dst in
+    let b = page_of g.grid g.classes e.class e.router e.dst in
     let port : i / g.vcs ≡ e.in_port = div-mul-add e.in_port g.vcs (channel_vc h.channel) on.vc in
     let number : i % g.vcs ≡ channel_vc h.channel = mod-mul-add e.in_port g.vcs (channel_vc h.channel) on.vc in
-    let class = block-class g.grid g.classes e.class e.router e.dst within.0.dst within.0.class in
-    let router = block-sender g.grid g.classes e.class e.router e.dst within.0.dst within.0.class in
-    let dst = block-dst g.grid g.classes e.class e.router e.dst within.0.dst in
+    let class = page-class g.grid g.classes e.class e.router e.dst within.0.dst within.0.class in
+    let router = page-sender g.grid g.classes e.class e.router e.dst within.0.dst within.0.class in
+    let dst = page-dst g.grid g.classes e.class e.router e.dst within.0.dst in
     let arrives : arrival_of g.grid h.channel ≡ Some (e.router, i / g.vcs) = h.arrives ∙ ap (λ x. Some (e.router, x)) (sym port) in
     let zero = none-empty g sets made.good made.entered e.class e.dst e.router i h.channel within.0 within.1 arrives (sym number) h.none in
     let came = λ (m r t : ℕ). comes_in (table g sets) outs m r t i in
     let comes : comes_at (table g left) outs b i ≡ true
     = ap (λ x. came x (b / nodes g.grid / g.classes) (b % nodes g.grid)) class ∙ ap (λ x. came e.class x (b % nodes g.grid)) router ∙ ap (came e.class e.router) dst
     ∙ comes-true g sets left outs made e.class e.router e.dst i on.come in
-    let empty : nat_eq (block_set (table g left) b i) 0 ≡ true = eq-eqb _ 0 (kept-set g sets left outs made e.class e.router e.dst i on.come ∙ zero) in
+    let empty : nat_eq (page_set (table g left) b i) 0 ≡ true = eq-eqb _ 0 (kept-set g sets left outs made e.class e.router e.dst i on.come ∙ zero) in
     record {
-      block = b;
+      page = b;
       input = i;
-      exists = block-below g.grid g.classes e.class e.router e.dst within.0.class within.0.router within.0.dst;
+      exists = page-below g.grid g.classes e.class e.router e.dst within.0.class within.0.router within.0.dst;
       within = within.1;
       stuck = rw (comes, empty) refl;
       numbers = rw (class, router, dst, port, number, h.vc) refl;
     }
 
-pub IsFirstNoWay-stuck : (g : Routing) (sets left outs : List ℕ) (e : Entry) → IsMade g sets left outs → IsStuckFirst (table g left) outs (blocks g.grid g.classes * width g.grid g.vcs) e → IsFirstNoWay g e
+pub IsFirstNoWay-stuck : (g : Routing) (sets left outs : List ℕ) (e : Entry) → IsMade g sets left outs → IsStuckFirst (table g left) outs (pages g.grid g.classes * width g.grid g.vcs) e → IsFirstNoWay g e
 IsFirstNoWay-stuck g sets left outs e made h =
     let P : Entry → Type 0 = λ e. IsNoWay g e in
     record {
       right = made.good.right;
       rows = made.good.rows;
-      here = subst P (sym h.entry) (IsNoWay-stuck g sets left outs made h.block h.input h.exists h.within h.stuck);
+      here = subst P (sym h.entry) (IsNoWay-stuck g sets left outs made h.page h.input h.exists h.within h.stuck);
       first = λ other way.
           let at = StuckAt-no_way g sets left outs made other way in
-          later other at (h.first at.block at.input at.exists at.within (flat-below at.block (blocks g.grid g.classes) at.input (width g.grid g.vcs) at.exists at.within));
+          later other at (h.first at.page at.input at.exists at.within (flat-below at.page (pages g.grid g.classes) at.input (width g.grid g.vcs) at.exists at.within));
     }
   where
-    later : (other : Entry) → (at : StuckAt g left outs other) → IsNoEarlier (table g left) outs at.block at.input e → numbers_before (entry_numbers other) (entry_numbers e) ≡ false
+    later : (other : Entry) → (at : StuckAt g left outs other) → IsNoEarlier (table g left) outs at.page at.input e → numbers_before (entry_numbers other) (entry_numbers e) ≡ false
     later other at (inl free) = absurd (false≢true (sym free ∙ at.stuck))
     later other at (inr after) = ap (λ ns. numbers_before ns (entry_numbers e)) (sym at.numbers) ∙ after
 
 -- where no entry is stuck, something is permitted wherever packets come
-pub IsUnstuck-none : (g : Routing) (left outs : List ℕ) (n : ℕ) → n ≡ blocks g.grid g.classes * width g.grid g.vcs → IsFirstStuck (table g left) outs n None → IsUnstuck g left outs
-IsUnstuck-none g left outs n e h = λ b i l k. h b i l k (omega (arith, e, flat-below b (blocks g.grid g.classes) i (width g.grid g.vcs) l k))
+pub IsUnstuck-none : (g : Routing) (left outs : List ℕ) (n : ℕ) → n ≡ pages g.grid g.classes * width g.grid g.vcs → IsFirstStuck (table g left) outs n None → IsUnstuck g left outs
+IsUnstuck-none g left outs n e h = λ b i l k. h b i l k (omega (arith, e, flat-below b (pages g.grid g.classes) i (width g.grid g.vcs) l k))
 
 -- ---- what building makes, and its faults
 
@@ -221,7 +221,7 @@ IsFaultOf-row g fault right h = row_fault-kind g h.row fault h.faulty (record { 
 
 pub IsMade-steps : (g : Routing) (sets left outs : List ℕ) → IsGrid g.grid → is_right g.grid g.vcs g.classes g.rule ≡ true → All (λ row. row_fault g.grid g.vcs g.classes row ≡ None) (rows_of g.rule)
     → IsEntered g (table g sets) → IsSoundOut (table g sets) outs → ((m r t : ℕ) → IsPlace (table g sets) m r t → IsFullOut (table g sets) outs m r t)
-    → ((b i : ℕ) → b < blocks g.grid g.classes → i < width g.grid g.vcs → block_set (table g left) b i ≡ left_at (table g sets) outs b i) → IsMade g sets left outs
+    → ((b i : ℕ) → b < pages g.grid g.classes → i < width g.grid g.vcs → page_set (table g left) b i ≡ left_at (table g sets) outs b i) → IsMade g sets left outs
 IsMade-steps g sets left outs grid right rows entered sound full trimmed =
     record { good = record { grid = grid; right = right; rows = rows }; entered = entered; sound = sound; full = full; trimmed = trimmed }
 
@@ -229,7 +229,7 @@ IsMade-steps g sets left outs grid right rows entered sound full trimmed =
 ways-unstuck : (g : Routing) (sets left outs : List ℕ) → IsMade g sets left outs → IsUnstuck g left outs → (e : Entry) → IsNoWay g e → ⊥
 ways-unstuck g sets left outs made unstuck e way =
     let at = StuckAt-no_way g sets left outs made e way in
-    false≢true (sym (unstuck at.block at.input at.exists at.within) ∙ at.stuck)
+    false≢true (sym (unstuck at.page at.input at.exists at.within) ∙ at.stuck)
 
 pub IsRelationOf-made : (g : Routing) (sets left outs : List ℕ) → IsMade g sets left outs → IsUnstuck g left outs → IsTable (table g left) → IsRelationOf g (table g left)
 IsRelationOf-made g sets left outs made unstuck size = record {
@@ -244,4 +244,4 @@ IsRelationOf-made g sets left outs made unstuck size = record {
 -- lists without a member say that nothing leaves
 pub IsSoundOut-none : (routes : Routes) (outs : List ℕ) → ((j : ℕ) → get_or outs j 0 ≡ 0) → IsSoundOut routes outs
 IsSoundOut-none routes outs none = λ m r t k place l e.
-    absurd (false≢true (sym (has_bit-zero k) ∙ sym (ap (λ s. has_bit s k) (none (block_of routes.grid routes.classes m r t))) ∙ e))
+    absurd (false≢true (sym (has_bit-zero k) ∙ sym (ap (λ s. has_bit s k) (none (page_of routes.grid routes.classes m r t))) ∙ e))

@@ -11,10 +11,10 @@ use Rattle.noc_packet.proofs.SetLemmas.{same_set}
 use Rattle.noc_route.specs.Built.{IsRelationOf}
 use Rattle.noc_route.specs.Channel.{Channel, Link, Inject, Eject, arrival_of, channel_vc}
 use Rattle.noc_route.specs.Relation.{Routing}
-use Rattle.noc_route.specs.Routes.{Routes, width, blocks, block_class, block_router, block_dst, set_at, permits, permits_at, is_sent, IsTable, IsRelation}
-use Rattle.noc_route.proofs.PlaceLemmas.{block-router}
+use Rattle.noc_route.specs.Routes.{Routes, width, pages, page_class, page_router, page_dst, set_at, permits, permits_at, is_sent, IsTable, IsRelation}
+use Rattle.noc_route.proofs.PlaceLemmas.{page-router}
 use Rattle.noc_route.proofs.TrimLemmas.{index-parts, port-below}
-use Rattle.noc_route.proofs.EnterLemmas.{block-whole}
+use Rattle.noc_route.proofs.EnterLemmas.{page-whole}
 use Rattle.noc_route.proofs.BuiltLemmas.{table, Exists, set_at-member, set_at-exists}
 
 module _ (g : Routing) where
@@ -99,26 +99,26 @@ module _ (g : Routing) where
 
   -- each place of a table is that of an entry
   place-entry : (sets : List ℕ) (j : ℕ) → IsTable (table g sets) → j < length sets
-      → (let b = j / width g.grid g.vcs in let i = j % width g.grid g.vcs in get_or sets j 0 ≡ set_at (table g sets) (block_class g.grid g.classes b) (block_router g.grid g.classes b) (i / g.vcs) (i % g.vcs) (block_dst g.grid b))
+      → (let b = j / width g.grid g.vcs in let i = j % width g.grid g.vcs in get_or sets j 0 ≡ set_at (table g sets) (page_class g.grid g.classes b) (page_router g.grid g.classes b) (i / g.vcs) (i % g.vcs) (page_dst g.grid b))
   place-entry sets j size l =
       let w = width g.grid g.vcs in
       let b = j / w in
       let i = j % w in
       let wide : 0 < w = (let one : 1 * g.vcs ≤ w = mul-le-mul_right g.vcs (omega arith) in omega (arith, one, size.some_vcs)) in
-      let block : b < blocks g.grid g.classes = (div-lt_iff_lt-mul {k = w} {x = j} {y = blocks g.grid g.classes} wide).1 (omega (arith, l, size.long)) in
+      let page : b < pages g.grid g.classes = (div-lt_iff_lt-mul {k = w} {x = j} {y = pages g.grid g.classes} wide).1 (omega (arith, l, size.long)) in
       let some : 1 ≤ nodes g.grid = omega (arith, nodes-some g.grid size.grid) in
-      let there : Exists (table g sets) (block_class g.grid g.classes b) (block_router g.grid g.classes b) (i / g.vcs) (i % g.vcs) (block_dst g.grid b)
+      let there : Exists (table g sets) (page_class g.grid g.classes b) (page_router g.grid g.classes b) (i / g.vcs) (i % g.vcs) (page_dst g.grid b)
       = record {
         place = record {
           class = mod-lt (b / nodes g.grid) {m = g.classes} (omega (arith, size.some_classes));
-          router = block-router b (nodes g.grid) g.classes some size.some_classes block;
+          router = page-router b (nodes g.grid) g.classes some size.some_classes page;
           dst = mod-lt b {m = nodes g.grid} (omega (arith, some));
         };
         port = port-below g.grid g.vcs i size.some_vcs (mod-lt j {m = w} wide);
         vc = mod-lt i {m = g.vcs} (omega (arith, size.some_vcs));
       } in
       let index : b * w + i ≡ j = index-parts w j in
-      sym (set_at-exists (table g sets) _ _ _ _ _ there ∙ ap (λ x. slice_index sets (x * w + (i / g.vcs * g.vcs + i % g.vcs))) (block-whole g.grid g.classes b)
+      sym (set_at-exists (table g sets) _ _ _ _ _ there ∙ ap (λ x. slice_index sets (x * w + (i / g.vcs * g.vcs + i % g.vcs))) (page-whole g.grid g.classes b)
       ∙ ap (λ x. slice_index sets (b * w + x)) (index-parts g.vcs i) ∙ ap (slice_index sets) index)
 
   same-sets : (xs ys : List ℕ) → IsRelationOf g (table g xs) → IsRelationOf g (table g ys) → xs ≡ ys

@@ -36,9 +36,9 @@ flat-div a n i l = rw (add_comm (a * n) i) (add-mul-div_right i a (omega arith) 
 pub flat-mod : (a n i : ℕ) → i < n → (a * n + i) % n ≡ i
 flat-mod a n i l = rw (add_comm (a * n) i) (add-mul-mod_self_right i a n ∙ mod-eq_of_lt l)
 
--- the router of a block exists
-pub block-router : (b n c : ℕ) → 1 ≤ n → 1 ≤ c → b < n * c * n → b / n / c < n
-block-router b n c some few l =
+-- the router of a page exists
+pub page-router : (b n c : ℕ) → 1 ≤ n → 1 ≤ c → b < n * c * n → b / n / c < n
+page-router b n c some few l =
     let pair : b / n < n * c = (div-lt_iff_lt-mul {k = n} {x = b} {y = n * c} (omega arith)).1 l in
     (div-lt_iff_lt-mul {k = c} {x = b / n} {y = n} (omega arith)).1 pair
 

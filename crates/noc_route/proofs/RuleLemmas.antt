@@ -8,13 +8,14 @@ use Rattle.noc_topo.specs.Words.{is_some_of}
 use Rattle.noc_topo.specs.Shape.{Grid, IsGrid, local_port, neighbour, distance, coordinates}
 use Rattle.noc_topo.proofs.DistanceLemmas.{hop-by_one}
 use Rattle.noc_packet.specs.declared.limits.TheConstants.{MAX_CHANNELS, MAX_CLASSES}
-use Rattle.noc_route.specs.Relation.{Routing, is_right, is_in_block, takes_port, takes_channel, is_row_of, has_row, rows_of, is_real_row, hop_fault, row_fault, leads, is_led, dor_port, is_west_first, goes_up}
+use Rattle.noc_route.specs.Relation.{Routing, is_right, escapes, is_in_block, takes_port, takes_channel, is_row_of, has_row, rows_of, is_real_row, hop_fault, row_fault, leads, is_led, dor_port, is_west_first, goes_up}
 use Rattle.noc_route.specs.declared.rule.Rule.{Rule}
-use Rattle.noc_route.specs.declared.rule.Rule.TheVariants.{Dor, Dateline, WestFirst, Rows}
+use Rattle.noc_route.specs.declared.rule.Rule.TheVariants.{Dor, Dateline, WestFirst, Adaptive, Rows}
 use Rattle.noc_route.specs.declared.rule.RouteRow.{RouteRow}
 use Rattle.noc_route.specs.declared.rule.RouteFault.{RouteFault}
 use Rattle.noc_route.specs.declared.rule.RouteFault.TheVariants.{NoLink, NotMinimal, EarlyEject, LateHop}
 use Rattle.noc_route.proofs.EnterLemmas.{NamesIt, is_row_of-parts, IsRealRow, IsRealRow-from_test}
+use Rattle.noc_route.proofs.AdaptiveLemmas.{nearer-link, NearerHop-adaptive}
 use Rattle.noc_route.proofs.NamedLemmas.{NearerHop, NearerHop-dor, NearerHop-west_first, dor_port_from-some, some_of-true}
 
 -- ---- rows without a fault
@@ -90,15 +91,15 @@ pub record IsRight (vcs classes : ℕ) : Type 0 where
 
 pub IsRight-from_test : (g : Grid) (vcs classes : ℕ) (rule : Rule) → is_right g vcs classes rule ≡ true → IsRight vcs classes
 IsRight-from_test g vcs classes rule e =
-    let a = and_parts _ (elim rule [ Dor ↦ true | Dateline ↦ g.wraps && nat_eq (vcs % (2 * classes)) 0 | WestFirst ↦ not g.wraps && nat_eq (length g.radix) 2 | Rows rows ↦ true ]) e in
+    let a = and_parts _ (elim rule [ Dor ↦ true | Dateline ↦ g.wraps && nat_eq (vcs % (2 * classes)) 0 | WestFirst ↦ not g.wraps && nat_eq (length g.radix) 2 | Adaptive ↦ nat_lt (escapes g) (vcs / classes) | Rows rows ↦ true ]) e in
     let b = and_parts _ (nat_eq (vcs % classes) 0) a.0 in
     let c = and_parts _ (nat_le classes MAX_CLASSES) b.0 in
     let d = and_parts _ (nat_le 1 classes) c.0 in
     let f = and_parts (nat_le 1 vcs) (nat_le vcs MAX_CHANNELS) d.0 in
     record { some_vcs = leb-true _ _ f.0; few_vcs = leb-true _ _ f.1; some_classes = leb-true _ _ d.1; few_classes = leb-true _ _ c.1 }
 
-block-channel : (vcs classes m v : ℕ) → 1 ≤ classes → m < classes → is_in_block vcs classes m v ≡ true → v < vcs
-block-channel vcs classes m v some l e =
+page-channel : (vcs classes m v : ℕ) → 1 ≤ classes → m < classes → is_in_block vcs classes m v ≡ true → v < vcs
+page-channel vcs classes m v some l e =
     let below : v < (m + 1) * vcs / classes = ltb-true _ _ (and_parts _ (nat_lt v ((m + 1) * vcs / classes)) e).1 in
     let all : (m + 1) * vcs ≤ classes * vcs = mul-le-mul_right {m = m + 1} {n = classes} vcs (omega (arith, l)) in
     let whole : (m + 1) * vcs / classes < vcs + 1 = (div-lt_iff_lt-mul {k = classes} {x = (m + 1) * vcs} {y = vcs + 1} (omega (arith, some))).1 (below_next (m + 1) vcs classes some all) in
@@ -107,18 +108,19 @@ block-channel vcs classes m v some l e =
     below_next : (a b c : ℕ) → 1 ≤ c → a * b ≤ c * b → a * b < (b + 1) * c
     below_next a b c some h = omega (arith, h, some)
 
-channel-in_block : (vcs classes : ℕ) (rule : Rule) (m : ℕ) (xs ts : List ℕ) (port v : ℕ) → takes_channel vcs classes rule m xs ts port v ≡ true → is_in_block vcs classes m v ≡ true
-channel-in_block vcs classes Dor m xs ts port v e = e
-channel-in_block vcs classes Dateline m xs ts port v e = (and_parts (is_in_block vcs classes m v) _ e).0
-channel-in_block vcs classes WestFirst m xs ts port v e = e
-channel-in_block vcs classes (Rows rows) m xs ts port v e = e
+channel-in_block : (g : Grid) (vcs classes : ℕ) (rule : Rule) (m : ℕ) (xs ts : List ℕ) (port v : ℕ) → takes_channel g vcs classes rule m xs ts port v ≡ true → is_in_block vcs classes m v ≡ true
+channel-in_block g vcs classes Dor m xs ts port v e = e
+channel-in_block g vcs classes Dateline m xs ts port v e = (and_parts (is_in_block vcs classes m v) _ e).0
+channel-in_block g vcs classes WestFirst m xs ts port v e = e
+channel-in_block g vcs classes Adaptive m xs ts port v e = (and_parts (is_in_block vcs classes m v) _ e).0
+channel-in_block g vcs classes (Rows rows) m xs ts port v e = e
 
 abbrev of : Grid → ℕ → ℕ → Rule → Routing
 of grid vcs classes rule = record { grid = grid; vcs = vcs; classes = classes; rule = rule }
 
 -- at the destination a rule by coordinates leads to the local port, and elsewhere along a port that it takes
 pub record IsLedBy (g : Routing) (m r t p v : ℕ) : Type 0 where
-  pub block : is_in_block g.vcs g.classes m v ≡ true
+  pub page : is_in_block g.vcs g.classes m v ≡ true
   pub way : ((r ≡ t) × (p ≡ local_port g.grid)) ⊎ ((r ≢ t) × (takes_port g.grid g.rule (coordinates g.grid.radix r) (coordinates g.grid.radix t) p ≡ true))
 
 is_led-parts : (g : Routing) (m r t p v : ℕ) → is_led g m r t p v ≡ true → IsLedBy g m r t p v
@@ -127,11 +129,11 @@ is_led-parts g m r t p v e = at (nat_eq r t) refl
     at : (b : Bool) → nat_eq r t ≡ b → IsLedBy g m r t p v
     at true f =
         let parts = and_parts (nat_eq p (local_port g.grid)) (is_in_block g.vcs g.classes m v) (sym (rw f refl) ∙ e) in
-        record { block = parts.1; way = inl (eqb-true r t f, eqb-true p (local_port g.grid) parts.0) }
+        record { page = parts.1; way = inl (eqb-true r t f, eqb-true p (local_port g.grid) parts.0) }
     at false f =
         let parts = and_parts (takes_port g.grid g.rule (coordinates g.grid.radix r) (coordinates g.grid.radix t) p) _ (sym (rw f refl) ∙ e) in
         record {
-          block = channel-in_block g.vcs g.classes g.rule m (coordinates g.grid.radix r) (coordinates g.grid.radix t) p v parts.1;
+          page = channel-in_block g.grid g.vcs g.classes g.rule m (coordinates g.grid.radix r) (coordinates g.grid.radix t) p v parts.1;
           way = inr ((λ same. false≢true (sym f ∙ eq-eqb r t same)), parts.0);
         }
 
@@ -176,19 +178,22 @@ west-link g vcs classes xs ts p right e = at (nat_lt (get_or ts 0 0) (get_or xs 
         pick (inr q) = omega (arith, two, eqb-true p 3 (and_parts (nat_eq p 3) _ q).0)
 
 -- a rule by coordinates takes no local port away from the destination
-takes_port-link : (g : Grid) (vcs classes : ℕ) (rule : Rule) (xs ts : List ℕ) (p : ℕ) → is_right g vcs classes rule ≡ true → takes_port g rule xs ts p ≡ true → p < local_port g
-takes_port-link g vcs classes Dor xs ts p right e = dor-link g xs ts p e
-takes_port-link g vcs classes Dateline xs ts p right e = dor-link g xs ts p e
-takes_port-link g vcs classes WestFirst xs ts p right e = west-link g vcs classes xs ts p right e
-takes_port-link g vcs classes (Rows rows) xs ts p right e = absurd (false≢true e)
+takes_port-link : (g : Grid) (vcs classes : ℕ) (rule : Rule) (r t p : ℕ) → is_right g vcs classes rule ≡ true → takes_port g rule (coordinates g.radix r) (coordinates g.radix t) p ≡ true → p < local_port g
+takes_port-link g vcs classes Dor r t p right e = dor-link g (coordinates g.radix r) (coordinates g.radix t) p e
+takes_port-link g vcs classes Dateline r t p right e = dor-link g (coordinates g.radix r) (coordinates g.radix t) p e
+takes_port-link g vcs classes WestFirst r t p right e = west-link g vcs classes (coordinates g.radix r) (coordinates g.radix t) p right e
+takes_port-link g vcs classes Adaptive r t p right e = nearer-link g r t p e
+takes_port-link g vcs classes (Rows rows) r t p right e = absurd (false≢true e)
 
 leads-vc_at : (grid : Grid) (vcs classes : ℕ) (rule : Rule) (m r p v t q w : ℕ) → IsFaultless (of grid vcs classes rule) → m < classes → leads (of grid vcs classes rule) m (r, p) v t q w ≡ true → w < vcs
 leads-vc_at grid vcs classes Dor m r p v t q w good l e =
-    block-channel vcs classes m w (IsRight-from_test grid vcs classes Dor good.right).some_classes l (is_led-parts (of grid vcs classes Dor) m r t q w e).block
+    page-channel vcs classes m w (IsRight-from_test grid vcs classes Dor good.right).some_classes l (is_led-parts (of grid vcs classes Dor) m r t q w e).page
 leads-vc_at grid vcs classes Dateline m r p v t q w good l e =
-    block-channel vcs classes m w (IsRight-from_test grid vcs classes Dateline good.right).some_classes l (is_led-parts (of grid vcs classes Dateline) m r t q w e).block
+    page-channel vcs classes m w (IsRight-from_test grid vcs classes Dateline good.right).some_classes l (is_led-parts (of grid vcs classes Dateline) m r t q w e).page
 leads-vc_at grid vcs classes WestFirst m r p v t q w good l e =
-    block-channel vcs classes m w (IsRight-from_test grid vcs classes WestFirst good.right).some_classes l (is_led-parts (of grid vcs classes WestFirst) m r t q w e).block
+    page-channel vcs classes m w (IsRight-from_test grid vcs classes WestFirst good.right).some_classes l (is_led-parts (of grid vcs classes WestFirst) m r t q w e).page
+leads-vc_at grid vcs classes Adaptive m r p v t q w good l e =
+    page-channel vcs classes m w (IsRight-from_test grid vcs classes Adaptive good.right).some_classes l (is_led-parts (of grid vcs classes Adaptive) m r t q w e).page
 leads-vc_at grid vcs classes (Rows rows) m r p v t q w good l e =
     let row = leading-row (of grid vcs classes (Rows rows)) rows.items m r p v t q w good.rows e in
     let real = IsRealRow-from_test grid vcs classes row.row (row_fault-none grid vcs classes row.row row.faultless).0 in
@@ -208,6 +213,7 @@ named-hop grid vcs classes rule m r t p v sound right l e = at rule right (is_le
     at Dor right (inr way) = NearerHop-dor grid r p t sound l way.1
     at Dateline right (inr way) = NearerHop-dor grid r p t sound l way.1
     at WestFirst right (inr way) = let shape = west-shape grid vcs classes right in NearerHop-west_first grid r p t sound shape.0 shape.1 l way.1
+    at Adaptive right (inr way) = NearerHop-adaptive grid r p t sound l way.1
     at (Rows rows) right (inr way) = absurd (false≢true way.1)
 
 row-hop : (g : Routing) (m r q v t p w : ℕ) → IsGrid g.grid → p < local_port g.grid → LeadingRow g m r q v t p w → NearerHop g.grid r p t
@@ -239,6 +245,7 @@ leads-hop_at : (grid : Grid) (vcs classes : ℕ) (rule : Rule) (m r q v t p w : 
 leads-hop_at grid vcs classes Dor m r q v t p w good l e = named-hop grid vcs classes Dor m r t p w good.grid good.right l e
 leads-hop_at grid vcs classes Dateline m r q v t p w good l e = named-hop grid vcs classes Dateline m r t p w good.grid good.right l e
 leads-hop_at grid vcs classes WestFirst m r q v t p w good l e = named-hop grid vcs classes WestFirst m r t p w good.grid good.right l e
+leads-hop_at grid vcs classes Adaptive m r q v t p w good l e = named-hop grid vcs classes Adaptive m r t p w good.grid good.right l e
 leads-hop_at grid vcs classes (Rows rows) m r q v t p w good l e =
     row-hop (of grid vcs classes (Rows rows)) m r q v t p w good.grid l (leading-row (of grid vcs classes (Rows rows)) rows.items m r q v t p w good.rows e)
 
@@ -257,12 +264,13 @@ named-home grid vcs classes rule m r t v right e = at (is_led-parts (of grid vcs
   where
     at : ((r ≡ t) × (local_port grid ≡ local_port grid)) ⊎ ((r ≢ t) × (takes_port grid rule (coordinates grid.radix r) (coordinates grid.radix t) (local_port grid) ≡ true)) → r ≡ t
     at (inl home) = home.0
-    at (inr way) = absurd (omega (arith, takes_port-link grid vcs classes rule _ _ (local_port grid) right way.1))
+    at (inr way) = absurd (omega (arith, takes_port-link grid vcs classes rule r t (local_port grid) right way.1))
 
 leads-home_at : (grid : Grid) (vcs classes : ℕ) (rule : Rule) (m r q v t w : ℕ) → IsFaultless (of grid vcs classes rule) → leads (of grid vcs classes rule) m (r, q) v t (local_port grid) w ≡ true → r ≡ t
 leads-home_at grid vcs classes Dor m r q v t w good e = named-home grid vcs classes Dor m r t w good.right e
 leads-home_at grid vcs classes Dateline m r q v t w good e = named-home grid vcs classes Dateline m r t w good.right e
 leads-home_at grid vcs classes WestFirst m r q v t w good e = named-home grid vcs classes WestFirst m r t w good.right e
+leads-home_at grid vcs classes Adaptive m r q v t w good e = named-home grid vcs classes Adaptive m r t w good.right e
 leads-home_at grid vcs classes (Rows rows) m r q v t w good e =
     let lead = leading-row (of grid vcs classes (Rows rows)) rows.items m r q v t (local_port grid) w good.rows e in
     let right = row_fault-none grid vcs classes lead.row lead.faultless in

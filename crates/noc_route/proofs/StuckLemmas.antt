@@ -5,8 +5,8 @@ use Rattle.std.proofs.lemmas.Nat.{div-mul-add, mod-mul-add}
 use Rattle.std.proofs.lemmas.Bool.{cases_eq, cases_lt, false≢true}
 use Rattle.std.proofs.lemmas.List.{get_or-set_same, get_or-set_other}
 use Rattle.noc_route.specs.Order.{numbers_before, entry_numbers, earlier_entry}
-use Rattle.noc_route.specs.Routes.{Routes, width, blocks}
-use Rattle.noc_route.specs.Trimming.{block_set, comes_at, left_at, is_stuck_at, entry_at, IsNoEarlier, IsStuckFirst, IsFirstStuck}
+use Rattle.noc_route.specs.Routes.{Routes, width, pages}
+use Rattle.noc_route.specs.Trimming.{page_set, comes_at, left_at, is_stuck_at, entry_at, IsNoEarlier, IsStuckFirst, IsFirstStuck}
 use Rattle.noc_route.specs.declared.rule.Entry.{Entry}
 use Rattle.noc_route.proofs.OrderLemmas.{before-not-self, before-trans}
 use Rattle.noc_route.proofs.PlaceLemmas.{flat-below}
@@ -35,12 +35,12 @@ pub IsFirstStuck-passed : (routes : Routes) (outs : List ℕ) (b i : ℕ) (first
     → IsFirstStuck routes outs (b * width routes.grid routes.vcs + i) first → IsFirstStuck routes outs (b * width routes.grid routes.vcs + i + 1) first
 IsFirstStuck-passed routes outs b i None l free h = λ b' i' m l' n. at b' i' m l' (next_place (width routes.grid routes.vcs) b i b' i' l l' n)
   where
-    at : (b' i' : ℕ) → b' < blocks routes.grid routes.classes → i' < width routes.grid routes.vcs
+    at : (b' i' : ℕ) → b' < pages routes.grid routes.classes → i' < width routes.grid routes.vcs
         → (b' * width routes.grid routes.vcs + i' < b * width routes.grid routes.vcs + i) ⊎ ((b' ≡ b) × (i' ≡ i)) → is_stuck_at routes outs b' i' ≡ false
     at b' i' m l' (inl n) = h b' i' m l' n
     at b' i' m l' (inr same) = ap (λ x. is_stuck_at routes outs x i') same.0 ∙ ap (is_stuck_at routes outs b) same.1 ∙ free
 IsFirstStuck-passed routes outs b i (Some e) l free h = record {
-  block = h.block;
+  page = h.page;
   input = h.input;
   exists = h.exists;
   within = h.within;
@@ -49,7 +49,7 @@ IsFirstStuck-passed routes outs b i (Some e) l free h = record {
   first = λ b' i' m l' n. at b' i' m l' (next_place (width routes.grid routes.vcs) b i b' i' l l' n);
 }
   where
-    at : (b' i' : ℕ) → b' < blocks routes.grid routes.classes → i' < width routes.grid routes.vcs
+    at : (b' i' : ℕ) → b' < pages routes.grid routes.classes → i' < width routes.grid routes.vcs
         → (b' * width routes.grid routes.vcs + i' < b * width routes.grid routes.vcs + i) ⊎ ((b' ≡ b) × (i' ≡ i)) → IsNoEarlier routes outs b' i' e
     at b' i' m l' (inl n) = h.first b' i' m l' n
     at b' i' m l' (inr same) = IsNoEarlier-at routes outs b i b' i' e same.0 same.1 (inl free)
@@ -65,11 +65,11 @@ IsNoEarlier-before routes outs b i e first before (inr later) = at (numbers_befo
     at false f = inr f
     at true f = absurd (false≢true (sym later ∙ before-trans (entry_numbers (entry_at routes b i)) (entry_numbers first) (entry_numbers e) refl refl f before))
 
-IsStuckFirst-new : (routes : Routes) (outs : List ℕ) (b i : ℕ) (first : Option Entry) → b < blocks routes.grid routes.classes → i < width routes.grid routes.vcs → is_stuck_at routes outs b i ≡ true
+IsStuckFirst-new : (routes : Routes) (outs : List ℕ) (b i : ℕ) (first : Option Entry) → b < pages routes.grid routes.classes → i < width routes.grid routes.vcs → is_stuck_at routes outs b i ≡ true
     → ((e : Entry) → first ≡ Some e → numbers_before (entry_numbers (entry_at routes b i)) (entry_numbers e) ≡ true)
     → IsFirstStuck routes outs (b * width routes.grid routes.vcs + i) first → IsStuckFirst routes outs (b * width routes.grid routes.vcs + i + 1) (entry_at routes b i)
 IsStuckFirst-new routes outs b i first m l stuck before h = record {
-  block = b;
+  page = b;
   input = i;
   exists = m;
   within = l;
@@ -79,7 +79,7 @@ IsStuckFirst-new routes outs b i first m l stuck before h = record {
 }
   where
     at : (first : Option Entry) → ((e : Entry) → first ≡ Some e → numbers_before (entry_numbers (entry_at routes b i)) (entry_numbers e) ≡ true)
-        → IsFirstStuck routes outs (b * width routes.grid routes.vcs + i) first → (b' i' : ℕ) → b' < blocks routes.grid routes.classes → i' < width routes.grid routes.vcs
+        → IsFirstStuck routes outs (b * width routes.grid routes.vcs + i) first → (b' i' : ℕ) → b' < pages routes.grid routes.classes → i' < width routes.grid routes.vcs
         → (b' * width routes.grid routes.vcs + i' < b * width routes.grid routes.vcs + i) ⊎ ((b' ≡ b) × (i' ≡ i)) → IsNoEarlier routes outs b' i' (entry_at routes b i)
     at None before h b' i' m' l' (inl n) = inl (h b' i' m' l' n)
     at (Some e) before h b' i' m' l' (inl n) = IsNoEarlier-before routes outs b' i' e (entry_at routes b i) (before e refl) (h.first b' i' m' l' n)
@@ -88,7 +88,7 @@ IsStuckFirst-new routes outs b i first m l stuck before h = record {
 IsStuckFirst-kept : (routes : Routes) (outs : List ℕ) (b i : ℕ) (e : Entry) → i < width routes.grid routes.vcs → numbers_before (entry_numbers (entry_at routes b i)) (entry_numbers e) ≡ false
     → IsStuckFirst routes outs (b * width routes.grid routes.vcs + i) e → IsStuckFirst routes outs (b * width routes.grid routes.vcs + i + 1) e
 IsStuckFirst-kept routes outs b i e l later h = record {
-  block = h.block;
+  page = h.page;
   input = h.input;
   exists = h.exists;
   within = h.within;
@@ -97,12 +97,12 @@ IsStuckFirst-kept routes outs b i e l later h = record {
   first = λ b' i' m' l' n. at b' i' m' l' (next_place (width routes.grid routes.vcs) b i b' i' l l' n);
 }
   where
-    at : (b' i' : ℕ) → b' < blocks routes.grid routes.classes → i' < width routes.grid routes.vcs
+    at : (b' i' : ℕ) → b' < pages routes.grid routes.classes → i' < width routes.grid routes.vcs
         → (b' * width routes.grid routes.vcs + i' < b * width routes.grid routes.vcs + i) ⊎ ((b' ≡ b) × (i' ≡ i)) → IsNoEarlier routes outs b' i' e
     at b' i' m' l' (inl n) = h.first b' i' m' l' n
     at b' i' m' l' (inr same) = IsNoEarlier-at routes outs b i b' i' e same.0 same.1 (inr later)
 
-pub IsStuckFirst-earlier : (routes : Routes) (outs : List ℕ) (b i : ℕ) (first : Option Entry) → b < blocks routes.grid routes.classes → i < width routes.grid routes.vcs → is_stuck_at routes outs b i ≡ true
+pub IsStuckFirst-earlier : (routes : Routes) (outs : List ℕ) (b i : ℕ) (first : Option Entry) → b < pages routes.grid routes.classes → i < width routes.grid routes.vcs → is_stuck_at routes outs b i ≡ true
     → IsFirstStuck routes outs (b * width routes.grid routes.vcs + i) first
     → IsStuckFirst routes outs (b * width routes.grid routes.vcs + i + 1) (earlier_entry (entry_at routes b i) first)
 IsStuckFirst-earlier routes outs b i None m l stuck h = IsStuckFirst-new routes outs b i None m l stuck (λ e never. absurd (cc never)) h
@@ -121,20 +121,20 @@ IsStuckFirst-earlier routes outs b i (Some o) m l stuck h = at (numbers_before (
 -- ---- another table with the same entries stuck
 
 pub IsFirstStuck-same : (routes : Routes) (sets outs : List ℕ) (n : ℕ) (first : Option Entry)
-    → ((b i : ℕ) → b < blocks routes.grid routes.classes → i < width routes.grid routes.vcs → is_stuck_at (record routes { sets = sets }) outs b i ≡ is_stuck_at routes outs b i)
+    → ((b i : ℕ) → b < pages routes.grid routes.classes → i < width routes.grid routes.vcs → is_stuck_at (record routes { sets = sets }) outs b i ≡ is_stuck_at routes outs b i)
     → IsFirstStuck routes outs n first → IsFirstStuck (record routes { sets = sets }) outs n first
 IsFirstStuck-same routes sets outs n None same h = λ b i m l k. same b i m l ∙ h b i m l k
 IsFirstStuck-same routes sets outs n (Some e) same h = record {
-  block = h.block;
+  page = h.page;
   input = h.input;
   exists = h.exists;
   within = h.within;
   entry = h.entry;
-  stuck = same h.block h.input h.exists h.within ∙ h.stuck;
+  stuck = same h.page h.input h.exists h.within ∙ h.stuck;
   first = λ b i m l k. at b i m l (h.first b i m l k);
 }
   where
-    at : (b i : ℕ) → b < blocks routes.grid routes.classes → i < width routes.grid routes.vcs → IsNoEarlier routes outs b i e → IsNoEarlier (record routes { sets = sets }) outs b i e
+    at : (b i : ℕ) → b < pages routes.grid routes.classes → i < width routes.grid routes.vcs → IsNoEarlier routes outs b i e → IsNoEarlier (record routes { sets = sets }) outs b i e
     at b i m l (inl free) = inl (same b i m l ∙ free)
     at b i m l (inr later) = inr later
 
@@ -155,18 +155,18 @@ IsFirstStuck-emptied routes outs n b i first l none h = IsFirstStuck-same routes
 
 -- ---- the loops
 
--- the first inputs of a block are trimmed, and no other set is changed
-pub record IsBlockTrimmed (routes : Routes) (sets outs : List ℕ) (block input : ℕ) (first : Option Entry) : Type 0 where
-  pub left : (i : ℕ) → i < input → i < width routes.grid routes.vcs → block_set (record routes { sets = sets }) block i ≡ left_at routes outs block i
-  pub later : (i : ℕ) → input ≤ i → i < width routes.grid routes.vcs → block_set (record routes { sets = sets }) block i ≡ block_set routes block i
-  pub others : (b i : ℕ) → i < width routes.grid routes.vcs → b ≢ block → block_set (record routes { sets = sets }) b i ≡ block_set routes b i
-  pub stuck : IsFirstStuck (record routes { sets = sets }) outs (block * width routes.grid routes.vcs + input) first
+-- the first inputs of a page are trimmed, and no other set is changed
+pub record IsBlockTrimmed (routes : Routes) (sets outs : List ℕ) (page input : ℕ) (first : Option Entry) : Type 0 where
+  pub left : (i : ℕ) → i < input → i < width routes.grid routes.vcs → page_set (record routes { sets = sets }) page i ≡ left_at routes outs page i
+  pub later : (i : ℕ) → input ≤ i → i < width routes.grid routes.vcs → page_set (record routes { sets = sets }) page i ≡ page_set routes page i
+  pub others : (b i : ℕ) → i < width routes.grid routes.vcs → b ≢ page → page_set (record routes { sets = sets }) b i ≡ page_set routes b i
+  pub stuck : IsFirstStuck (record routes { sets = sets }) outs (page * width routes.grid routes.vcs + input) first
 
--- the first blocks are trimmed
-pub record AreTrimmed (routes : Routes) (sets outs : List ℕ) (block : ℕ) (first : Option Entry) : Type 0 where
-  pub left : (b i : ℕ) → b < block → b < blocks routes.grid routes.classes → i < width routes.grid routes.vcs → block_set (record routes { sets = sets }) b i ≡ left_at routes outs b i
-  pub later : (b i : ℕ) → block ≤ b → i < width routes.grid routes.vcs → block_set (record routes { sets = sets }) b i ≡ block_set routes b i
-  pub stuck : IsFirstStuck (record routes { sets = sets }) outs (block * width routes.grid routes.vcs) first
+-- the first pages are trimmed
+pub record AreTrimmed (routes : Routes) (sets outs : List ℕ) (page : ℕ) (first : Option Entry) : Type 0 where
+  pub left : (b i : ℕ) → b < page → b < pages routes.grid routes.classes → i < width routes.grid routes.vcs → page_set (record routes { sets = sets }) b i ≡ left_at routes outs b i
+  pub later : (b i : ℕ) → page ≤ b → i < width routes.grid routes.vcs → page_set (record routes { sets = sets }) b i ≡ page_set routes b i
+  pub stuck : IsFirstStuck (record routes { sets = sets }) outs (page * width routes.grid routes.vcs) first
 
 entry_set-other : (c : Bool) (sets : List ℕ) (p j : ℕ) → j ≢ p → get_or (if c then sets else set sets p 0) j 0 ≡ get_or sets j 0
 entry_set-other true sets p j other = refl
@@ -176,50 +176,50 @@ entry_set-here : (c : Bool) (sets : List ℕ) (p : ℕ) → p < length sets → 
 entry_set-here true sets p l = refl
 entry_set-here false sets p l = get_or-set_same sets p 0 0 l
 
-pub IsBlockTrimmed-more : (routes : Routes) (sets new outs : List ℕ) (block input : ℕ) (first next : Option Entry) → block < blocks routes.grid routes.classes → input < width routes.grid routes.vcs
-    → length sets ≡ blocks routes.grid routes.classes * width routes.grid routes.vcs
-    → new ≡ (if comes_at routes outs block input then sets else set sets (block * width routes.grid routes.vcs + input) 0)
-    → IsFirstStuck (record routes { sets = new }) outs (block * width routes.grid routes.vcs + input + 1) next
-    → IsBlockTrimmed routes sets outs block input first → IsBlockTrimmed routes new outs block (input + 1) next
-IsBlockTrimmed-more routes sets new outs block input first next m l long is stuck h =
+pub IsBlockTrimmed-more : (routes : Routes) (sets new outs : List ℕ) (page input : ℕ) (first next : Option Entry) → page < pages routes.grid routes.classes → input < width routes.grid routes.vcs
+    → length sets ≡ pages routes.grid routes.classes * width routes.grid routes.vcs
+    → new ≡ (if comes_at routes outs page input then sets else set sets (page * width routes.grid routes.vcs + input) 0)
+    → IsFirstStuck (record routes { sets = new }) outs (page * width routes.grid routes.vcs + input + 1) next
+    → IsBlockTrimmed routes sets outs page input first → IsBlockTrimmed routes new outs page (input + 1) next
+IsBlockTrimmed-more routes sets new outs page input first next m l long is stuck h =
     let w = width routes.grid routes.vcs in
-    let here : block * w + input < length sets = omega (arith, long, flat-below block (blocks routes.grid routes.classes) input w m l) in
-    let P : List ℕ → Type 0 = λ new. IsFirstStuck (record routes { sets = new }) outs (block * w + input + 1) next → IsBlockTrimmed routes new outs block (input + 1) next in
-    let at : (b i : ℕ) → b * w + i ≢ block * w + input → get_or new (b * w + i) 0 ≡ get_or sets (b * w + i) 0
-    = λ b i other. ap (λ s. get_or s (b * w + i) 0) is ∙ entry_set-other (comes_at routes outs block input) sets (block * w + input) (b * w + i) other in
+    let here : page * w + input < length sets = omega (arith, long, flat-below page (pages routes.grid routes.classes) input w m l) in
+    let P : List ℕ → Type 0 = λ new. IsFirstStuck (record routes { sets = new }) outs (page * w + input + 1) next → IsBlockTrimmed routes new outs page (input + 1) next in
+    let at : (b i : ℕ) → b * w + i ≢ page * w + input → get_or new (b * w + i) 0 ≡ get_or sets (b * w + i) 0
+    = λ b i other. ap (λ s. get_or s (b * w + i) 0) is ∙ entry_set-other (comes_at routes outs page input) sets (page * w + input) (b * w + i) other in
     record {
       left = λ i n k. front here at i k (cases_lt i input) n;
-      later = λ i n k. at block i (λ e. omega (arith, (same_place w block input block i l k e).1, n)) ∙ h.later i (omega (arith, n)) k;
-      others = λ b i k other. at b i (λ e. other (same_place w block input b i l k e).0) ∙ h.others b i k other;
-      stuck = let Q : ℕ → Type 0 = λ n. IsFirstStuck (record routes { sets = new }) outs n next in subst Q (add_assoc (block * w) input 1) stuck;
+      later = λ i n k. at page i (λ e. omega (arith, (same_place w page input page i l k e).1, n)) ∙ h.later i (omega (arith, n)) k;
+      others = λ b i k other. at b i (λ e. other (same_place w page input b i l k e).0) ∙ h.others b i k other;
+      stuck = let Q : ℕ → Type 0 = λ n. IsFirstStuck (record routes { sets = new }) outs n next in subst Q (add_assoc (page * w) input 1) stuck;
     }
   where
-    front : block * width routes.grid routes.vcs + input < length sets
-        → ((b i : ℕ) → b * width routes.grid routes.vcs + i ≢ block * width routes.grid routes.vcs + input → get_or new (b * width routes.grid routes.vcs + i) 0 ≡ get_or sets (b * width routes.grid routes.vcs + i) 0)
-        → (i : ℕ) → i < width routes.grid routes.vcs → (i < input) ⊎ (input ≤ i) → i < input + 1 → block_set (record routes { sets = new }) block i ≡ left_at routes outs block i
-    front here at i k (inl f) n = at block i (λ e. omega (arith, (same_place (width routes.grid routes.vcs) block input block i l k e).1, f)) ∙ h.left i f k
+    front : page * width routes.grid routes.vcs + input < length sets
+        → ((b i : ℕ) → b * width routes.grid routes.vcs + i ≢ page * width routes.grid routes.vcs + input → get_or new (b * width routes.grid routes.vcs + i) 0 ≡ get_or sets (b * width routes.grid routes.vcs + i) 0)
+        → (i : ℕ) → i < width routes.grid routes.vcs → (i < input) ⊎ (input ≤ i) → i < input + 1 → page_set (record routes { sets = new }) page i ≡ left_at routes outs page i
+    front here at i k (inl f) n = at page i (λ e. omega (arith, (same_place (width routes.grid routes.vcs) page input page i l k e).1, f)) ∙ h.left i f k
     front here at i k (inr g) n =
         let last : input ≡ i = omega arith in
-        let P : ℕ → Type 0 = λ i. block_set (record routes { sets = new }) block i ≡ left_at routes outs block i in
+        let P : ℕ → Type 0 = λ i. page_set (record routes { sets = new }) page i ≡ left_at routes outs page i in
         subst P last
-        (ap (λ s. get_or s (block * width routes.grid routes.vcs + input) 0) is
-        ∙ entry_set-here (comes_at routes outs block input) sets (block * width routes.grid routes.vcs + input) here
-        ∙ ap (λ s. if comes_at routes outs block input then s else 0) (h.later input (omega arith) l))
+        (ap (λ s. get_or s (page * width routes.grid routes.vcs + input) 0) is
+        ∙ entry_set-here (comes_at routes outs page input) sets (page * width routes.grid routes.vcs + input) here
+        ∙ ap (λ s. if comes_at routes outs page input then s else 0) (h.later input (omega arith) l))
 
-pub AreTrimmed-more : (routes : Routes) (sets new outs : List ℕ) (block : ℕ) (first next : Option Entry) → block < blocks routes.grid routes.classes
-    → ((i : ℕ) → i < width routes.grid routes.vcs → block_set (record routes { sets = new }) block i ≡ left_at (record routes { sets = sets }) outs block i)
-    → ((b i : ℕ) → i < width routes.grid routes.vcs → b ≢ block → block_set (record routes { sets = new }) b i ≡ block_set (record routes { sets = sets }) b i)
-    → IsFirstStuck (record routes { sets = new }) outs ((block + 1) * width routes.grid routes.vcs) next
-    → AreTrimmed routes sets outs block first → AreTrimmed routes new outs (block + 1) next
-AreTrimmed-more routes sets new outs block first next m here others stuck h = record {
-  left = λ b i n k l. front b i k l (cases_lt b block) n;
+pub AreTrimmed-more : (routes : Routes) (sets new outs : List ℕ) (page : ℕ) (first next : Option Entry) → page < pages routes.grid routes.classes
+    → ((i : ℕ) → i < width routes.grid routes.vcs → page_set (record routes { sets = new }) page i ≡ left_at (record routes { sets = sets }) outs page i)
+    → ((b i : ℕ) → i < width routes.grid routes.vcs → b ≢ page → page_set (record routes { sets = new }) b i ≡ page_set (record routes { sets = sets }) b i)
+    → IsFirstStuck (record routes { sets = new }) outs ((page + 1) * width routes.grid routes.vcs) next
+    → AreTrimmed routes sets outs page first → AreTrimmed routes new outs (page + 1) next
+AreTrimmed-more routes sets new outs page first next m here others stuck h = record {
+  left = λ b i n k l. front b i k l (cases_lt b page) n;
   later = λ b i n l. others b i l (λ e. omega (arith, e, n)) ∙ h.later b i (omega (arith, n)) l;
   stuck = stuck;
 }
   where
-    front : (b i : ℕ) → b < blocks routes.grid routes.classes → i < width routes.grid routes.vcs → (b < block) ⊎ (block ≤ b) → b < block + 1 → block_set (record routes { sets = new }) b i ≡ left_at routes outs b i
+    front : (b i : ℕ) → b < pages routes.grid routes.classes → i < width routes.grid routes.vcs → (b < page) ⊎ (page ≤ b) → b < page + 1 → page_set (record routes { sets = new }) b i ≡ left_at routes outs b i
     front b i k l (inl f) n = others b i l (λ e. omega (arith, e, f)) ∙ h.left b i f k l
     front b i k l (inr g) n =
-        let last : block ≡ b = omega arith in
-        let P : ℕ → Type 0 = λ b. block_set (record routes { sets = new }) b i ≡ left_at routes outs b i in
-        subst P last (here i l ∙ ap (λ s. if comes_at routes outs block i then s else 0) (h.later block i (omega arith) l))
+        let last : page ≡ b = omega arith in
+        let P : ℕ → Type 0 = λ b. page_set (record routes { sets = new }) b i ≡ left_at routes outs b i in
+        subst P last (here i l ∙ ap (λ s. if comes_at routes outs page i then s else 0) (h.later page i (omega arith) l))

@@ -9,7 +9,7 @@ use Rattle.std.proofs.lemmas.List.{get_or-set_same, get_or-set_other}
 use Rattle.noc_packet.specs.Set.{has_bit}
 use Rattle.noc_topo.specs.Shape.{Grid, IsGrid, nodes, ports, local_port, neighbour, distance}
 use Rattle.noc_topo.proofs.LinkLemmas.{link_back, neighbour-range}
-use Rattle.noc_route.specs.Routes.{Routes, width, blocks, block_of}
+use Rattle.noc_route.specs.Routes.{Routes, width, pages, page_of}
 use Rattle.noc_route.specs.Trimming.{set_in, IsPlace, CanCome, injected, led, ComesNearer, CanLeave, comes_in, any_below, IsSoundOut, IsFullOut}
 use Rattle.noc_route.proofs.PlaceLemmas.{flat-below}
 use Rattle.noc_route.proofs.BoolLemmas.{or-true}
@@ -65,7 +65,7 @@ abbrev comes_over : Routes → List ℕ → ℕ → ℕ → ℕ → Option (ℕ 
 comes_over routes outs m t i from =
     elim from [
       | None ↦ false
-      | Some from ↦ has_bit (slice_index outs (block_of routes.grid routes.classes m from.0 t)) (from.1 * routes.vcs + i % routes.vcs)
+      | Some from ↦ has_bit (slice_index outs (page_of routes.grid routes.classes m from.0 t)) (from.1 * routes.vcs + i % routes.vcs)
     ]
 
 comes_in-local : (routes : Routes) (outs : List ℕ) (m r t i : ℕ) → nat_eq (i / routes.vcs) (local_port routes.grid) ≡ true → comes_in routes outs m r t i ≡ not (nat_eq r t)
@@ -118,24 +118,24 @@ comes_in-full routes outs m r t i sized nearer full (led {r = a} {i = j} {k = k}
     let from : neighbour routes.grid r (i / routes.vcs) ≡ Some (a, k / routes.vcs) = ap (neighbour routes.grid r) port ∙ back.back in
     let index : k / routes.vcs * routes.vcs + i % routes.vcs ≡ k = ap (λ x. k / routes.vcs * routes.vcs + x) number ∙ index-parts routes.vcs k in
     let out = full a before.0 (nearer m a t j k r q before.0 before.1 l has link) k l (record { input = j; within = before.1; come = come; taken = has }) in
-    comes_in-link routes outs m r t i other ∙ ap (comes_over routes outs m t i) from ∙ ap (has_bit (slice_index outs (block_of routes.grid routes.classes m a t))) index ∙ out
+    comes_in-link routes outs m r t i other ∙ ap (comes_over routes outs m t i) from ∙ ap (has_bit (slice_index outs (page_of routes.grid routes.classes m a t))) index ∙ out
 
--- ---- the numbers of blocks
+-- ---- the numbers of pages
 
-pub block-dst : (g : Grid) (classes m r t : ℕ) → t < nodes g → block_of g classes m r t % nodes g ≡ t
-block-dst g classes m r t l = mod-mul-add (r * classes + m) (nodes g) t l
+pub page-dst : (g : Grid) (classes m r t : ℕ) → t < nodes g → page_of g classes m r t % nodes g ≡ t
+page-dst g classes m r t l = mod-mul-add (r * classes + m) (nodes g) t l
 
-pub block-pair : (g : Grid) (classes m r t : ℕ) → t < nodes g → block_of g classes m r t / nodes g ≡ r * classes + m
-block-pair g classes m r t l = div-mul-add (r * classes + m) (nodes g) t l
+pub page-pair : (g : Grid) (classes m r t : ℕ) → t < nodes g → page_of g classes m r t / nodes g ≡ r * classes + m
+page-pair g classes m r t l = div-mul-add (r * classes + m) (nodes g) t l
 
-pub block-class : (g : Grid) (classes m r t : ℕ) → t < nodes g → m < classes → block_of g classes m r t / nodes g % classes ≡ m
-block-class g classes m r t l k = ap (λ x. x % classes) (block-pair g classes m r t l) ∙ mod-mul-add r classes m k
+pub page-class : (g : Grid) (classes m r t : ℕ) → t < nodes g → m < classes → page_of g classes m r t / nodes g % classes ≡ m
+page-class g classes m r t l k = ap (λ x. x % classes) (page-pair g classes m r t l) ∙ mod-mul-add r classes m k
 
-pub block-sender : (g : Grid) (classes m r t : ℕ) → t < nodes g → m < classes → block_of g classes m r t / nodes g / classes ≡ r
-block-sender g classes m r t l k = ap (λ x. x / classes) (block-pair g classes m r t l) ∙ div-mul-add r classes m k
+pub page-sender : (g : Grid) (classes m r t : ℕ) → t < nodes g → m < classes → page_of g classes m r t / nodes g / classes ≡ r
+page-sender g classes m r t l k = ap (λ x. x / classes) (page-pair g classes m r t l) ∙ div-mul-add r classes m k
 
-pub block-below : (g : Grid) (classes m r t : ℕ) → m < classes → r < nodes g → t < nodes g → block_of g classes m r t < blocks g classes
-block-below g classes m r t a b c = flat-below (r * classes + m) (nodes g * classes) t (nodes g) (flat-below r (nodes g) m classes b a) c
+pub page-below : (g : Grid) (classes m r t : ℕ) → m < classes → r < nodes g → t < nodes g → page_of g classes m r t < pages g classes
+page-below g classes m r t a b c = flat-below (r * classes + m) (nodes g * classes) t (nodes g) (flat-below r (nodes g) m classes b a) c
 
 -- ---- one list written
 
@@ -161,33 +161,33 @@ out-full routes outs m r t out k sized nearer full is l leave =
     let come = comes_in-full routes outs m r t leave.input sized nearer (full m) leave.come in
     is k l ∙ any_below-at (width routes.grid routes.vcs) (λ i. comes_in routes outs m r t i && has_bit (set_in routes m r t i) k) leave.input leave.within (rw (come, leave.taken) refl)
 
--- the block is the same, and so the place, or the list is as it was
-written : (routes : Routes) (outs : List ℕ) (m r t out m' r' t' : ℕ) → IsPlace routes m r t → IsPlace routes m' r' t' → length outs ≡ blocks routes.grid routes.classes
-    → ((m' ≡ m) × (r' ≡ r) × (t' ≡ t) × (slice_index (set outs (block_of routes.grid routes.classes m r t) out) (block_of routes.grid routes.classes m' r' t') ≡ out))
-    ⊎ (slice_index (set outs (block_of routes.grid routes.classes m r t) out) (block_of routes.grid routes.classes m' r' t') ≡ slice_index outs (block_of routes.grid routes.classes m' r' t'))
-written routes outs m r t out m' r' t' place other long = at (cases_eq (block_of routes.grid routes.classes m' r' t') (block_of routes.grid routes.classes m r t))
+-- the page is the same, and so the place, or the list is as it was
+written : (routes : Routes) (outs : List ℕ) (m r t out m' r' t' : ℕ) → IsPlace routes m r t → IsPlace routes m' r' t' → length outs ≡ pages routes.grid routes.classes
+    → ((m' ≡ m) × (r' ≡ r) × (t' ≡ t) × (slice_index (set outs (page_of routes.grid routes.classes m r t) out) (page_of routes.grid routes.classes m' r' t') ≡ out))
+    ⊎ (slice_index (set outs (page_of routes.grid routes.classes m r t) out) (page_of routes.grid routes.classes m' r' t') ≡ slice_index outs (page_of routes.grid routes.classes m' r' t'))
+written routes outs m r t out m' r' t' place other long = at (cases_eq (page_of routes.grid routes.classes m' r' t') (page_of routes.grid routes.classes m r t))
   where
-    at : (block_of routes.grid routes.classes m' r' t' ≡ block_of routes.grid routes.classes m r t) ⊎ (block_of routes.grid routes.classes m' r' t' ≢ block_of routes.grid routes.classes m r t)
-        → ((m' ≡ m) × (r' ≡ r) × (t' ≡ t) × (slice_index (set outs (block_of routes.grid routes.classes m r t) out) (block_of routes.grid routes.classes m' r' t') ≡ out))
-        ⊎ (slice_index (set outs (block_of routes.grid routes.classes m r t) out) (block_of routes.grid routes.classes m' r' t') ≡ slice_index outs (block_of routes.grid routes.classes m' r' t'))
+    at : (page_of routes.grid routes.classes m' r' t' ≡ page_of routes.grid routes.classes m r t) ⊎ (page_of routes.grid routes.classes m' r' t' ≢ page_of routes.grid routes.classes m r t)
+        → ((m' ≡ m) × (r' ≡ r) × (t' ≡ t) × (slice_index (set outs (page_of routes.grid routes.classes m r t) out) (page_of routes.grid routes.classes m' r' t') ≡ out))
+        ⊎ (slice_index (set outs (page_of routes.grid routes.classes m r t) out) (page_of routes.grid routes.classes m' r' t') ≡ slice_index outs (page_of routes.grid routes.classes m' r' t'))
     at (inl same) =
-        let below = block-below routes.grid routes.classes m r t place.class place.router place.dst in
+        let below = page-below routes.grid routes.classes m r t place.class place.router place.dst in
         inl (
-          sym (block-class routes.grid routes.classes m' r' t' other.dst other.class) ∙ ap (λ b. b / nodes routes.grid % routes.classes) same ∙ block-class routes.grid routes.classes m r t place.dst place.class,
-          sym (block-sender routes.grid routes.classes m' r' t' other.dst other.class) ∙ ap (λ b. b / nodes routes.grid / routes.classes) same ∙ block-sender routes.grid routes.classes m r t place.dst place.class,
-          sym (block-dst routes.grid routes.classes m' r' t' other.dst) ∙ ap (λ b. b % nodes routes.grid) same ∙ block-dst routes.grid routes.classes m r t place.dst,
-          ap (slice_index (set outs (block_of routes.grid routes.classes m r t) out)) same ∙ get_or-set_same outs (block_of routes.grid routes.classes m r t) out 0 (omega (arith, long, below)),
+          sym (page-class routes.grid routes.classes m' r' t' other.dst other.class) ∙ ap (λ b. b / nodes routes.grid % routes.classes) same ∙ page-class routes.grid routes.classes m r t place.dst place.class,
+          sym (page-sender routes.grid routes.classes m' r' t' other.dst other.class) ∙ ap (λ b. b / nodes routes.grid / routes.classes) same ∙ page-sender routes.grid routes.classes m r t place.dst place.class,
+          sym (page-dst routes.grid routes.classes m' r' t' other.dst) ∙ ap (λ b. b % nodes routes.grid) same ∙ page-dst routes.grid routes.classes m r t place.dst,
+          ap (slice_index (set outs (page_of routes.grid routes.classes m r t) out)) same ∙ get_or-set_same outs (page_of routes.grid routes.classes m r t) out 0 (omega (arith, long, below)),
         )
-    at (inr differ) = inr (get_or-set_other outs (block_of routes.grid routes.classes m r t) (block_of routes.grid routes.classes m' r' t') out 0 differ)
+    at (inr differ) = inr (get_or-set_other outs (page_of routes.grid routes.classes m r t) (page_of routes.grid routes.classes m' r' t') out 0 differ)
 
-pub IsSoundOut-set : (routes : Routes) (outs : List ℕ) (m r t out : ℕ) → IsSized routes → length outs ≡ blocks routes.grid routes.classes → IsSoundOut routes outs → IsPlace routes m r t
-    → IsOutOf routes outs m r t out → IsSoundOut routes (set outs (block_of routes.grid routes.classes m r t) out)
+pub IsSoundOut-set : (routes : Routes) (outs : List ℕ) (m r t out : ℕ) → IsSized routes → length outs ≡ pages routes.grid routes.classes → IsSoundOut routes outs → IsPlace routes m r t
+    → IsOutOf routes outs m r t out → IsSoundOut routes (set outs (page_of routes.grid routes.classes m r t) out)
 IsSoundOut-set routes outs m r t out sized long sound place is = λ m' r' t' k other l e. at m' r' t' k other l e (written routes outs m r t out m' r' t' place other long)
   where
     at : (m' r' t' k : ℕ) → IsPlace routes m' r' t' → k < width routes.grid routes.vcs
-        → has_bit (slice_index (set outs (block_of routes.grid routes.classes m r t) out) (block_of routes.grid routes.classes m' r' t')) k ≡ true
-        → ((m' ≡ m) × (r' ≡ r) × (t' ≡ t) × (slice_index (set outs (block_of routes.grid routes.classes m r t) out) (block_of routes.grid routes.classes m' r' t') ≡ out))
-        ⊎ (slice_index (set outs (block_of routes.grid routes.classes m r t) out) (block_of routes.grid routes.classes m' r' t') ≡ slice_index outs (block_of routes.grid routes.classes m' r' t'))
+        → has_bit (slice_index (set outs (page_of routes.grid routes.classes m r t) out) (page_of routes.grid routes.classes m' r' t')) k ≡ true
+        → ((m' ≡ m) × (r' ≡ r) × (t' ≡ t) × (slice_index (set outs (page_of routes.grid routes.classes m r t) out) (page_of routes.grid routes.classes m' r' t') ≡ out))
+        ⊎ (slice_index (set outs (page_of routes.grid routes.classes m r t) out) (page_of routes.grid routes.classes m' r' t') ≡ slice_index outs (page_of routes.grid routes.classes m' r' t'))
         → CanLeave routes m' r' t' k
     at m' r' t' k other l e (inl same) =
         let here = out-sound routes outs m r t out k sized sound place is l (sym (ap (λ s. has_bit s k) same.3) ∙ e) in
@@ -197,21 +197,21 @@ IsSoundOut-set routes outs m r t out sized long sound place is = λ m' r' t' k o
         subst P (sym same.0) (subst Q (sym same.1) (subst R (sym same.2) here))
     at m' r' t' k other l e (inr kept) = sound m' r' t' k other l (sym (ap (λ s. has_bit s k) kept) ∙ e)
 
-pub IsFullOut-set_same : (routes : Routes) (outs : List ℕ) (m r t out : ℕ) → IsSized routes → length outs ≡ blocks routes.grid routes.classes → ComesNearer routes → FartherFull routes outs r t
-    → IsPlace routes m r t → IsOutOf routes outs m r t out → IsFullOut routes (set outs (block_of routes.grid routes.classes m r t) out) m r t
+pub IsFullOut-set_same : (routes : Routes) (outs : List ℕ) (m r t out : ℕ) → IsSized routes → length outs ≡ pages routes.grid routes.classes → ComesNearer routes → FartherFull routes outs r t
+    → IsPlace routes m r t → IsOutOf routes outs m r t out → IsFullOut routes (set outs (page_of routes.grid routes.classes m r t) out) m r t
 IsFullOut-set_same routes outs m r t out sized long nearer full place is = λ k l leave.
-    let below = block-below routes.grid routes.classes m r t place.class place.router place.dst in
-    ap (λ s. has_bit s k) (get_or-set_same outs (block_of routes.grid routes.classes m r t) out 0 (omega (arith, long, below)))
+    let below = page-below routes.grid routes.classes m r t place.class place.router place.dst in
+    ap (λ s. has_bit s k) (get_or-set_same outs (page_of routes.grid routes.classes m r t) out 0 (omega (arith, long, below)))
     ∙ out-full routes outs m r t out k sized nearer full is l leave
 
-pub IsFullOut-set : (routes : Routes) (outs : List ℕ) (m r t out m' r' t' : ℕ) → IsSized routes → length outs ≡ blocks routes.grid routes.classes → ComesNearer routes → FartherFull routes outs r t
-    → IsPlace routes m r t → IsOutOf routes outs m r t out → IsPlace routes m' r' t' → IsFullOut routes outs m' r' t' → IsFullOut routes (set outs (block_of routes.grid routes.classes m r t) out) m' r' t'
+pub IsFullOut-set : (routes : Routes) (outs : List ℕ) (m r t out m' r' t' : ℕ) → IsSized routes → length outs ≡ pages routes.grid routes.classes → ComesNearer routes → FartherFull routes outs r t
+    → IsPlace routes m r t → IsOutOf routes outs m r t out → IsPlace routes m' r' t' → IsFullOut routes outs m' r' t' → IsFullOut routes (set outs (page_of routes.grid routes.classes m r t) out) m' r' t'
 IsFullOut-set routes outs m r t out m' r' t' sized long nearer full place is other had = λ k l leave. at k l leave (written routes outs m r t out m' r' t' place other long)
   where
     at : (k : ℕ) → k < width routes.grid routes.vcs → CanLeave routes m' r' t' k
-        → ((m' ≡ m) × (r' ≡ r) × (t' ≡ t) × (slice_index (set outs (block_of routes.grid routes.classes m r t) out) (block_of routes.grid routes.classes m' r' t') ≡ out))
-        ⊎ (slice_index (set outs (block_of routes.grid routes.classes m r t) out) (block_of routes.grid routes.classes m' r' t') ≡ slice_index outs (block_of routes.grid routes.classes m' r' t'))
-        → has_bit (slice_index (set outs (block_of routes.grid routes.classes m r t) out) (block_of routes.grid routes.classes m' r' t')) k ≡ true
+        → ((m' ≡ m) × (r' ≡ r) × (t' ≡ t) × (slice_index (set outs (page_of routes.grid routes.classes m r t) out) (page_of routes.grid routes.classes m' r' t') ≡ out))
+        ⊎ (slice_index (set outs (page_of routes.grid routes.classes m r t) out) (page_of routes.grid routes.classes m' r' t') ≡ slice_index outs (page_of routes.grid routes.classes m' r' t'))
+        → has_bit (slice_index (set outs (page_of routes.grid routes.classes m r t) out) (page_of routes.grid routes.classes m' r' t')) k ≡ true
     at k l leave (inl same) =
         let P : ℕ → Type 0 = λ x. CanLeave routes x r' t' k in
         let Q : ℕ → Type 0 = λ x. CanLeave routes m x t' k in
@@ -228,9 +228,9 @@ pub record IsPairDone (routes : Routes) (before outs : List ℕ) (r t class : �
   pub done : (m : ℕ) → m < class → IsPlace routes m r t → IsFullOut routes outs m r t
   pub kept : (m u d : ℕ) → IsPlace routes m u d → IsFullOut routes before m u d → IsFullOut routes outs m u d
 
-pub IsPairDone-more : (routes : Routes) (before outs : List ℕ) (r t class out : ℕ) → IsSized routes → length outs ≡ blocks routes.grid routes.classes → ComesNearer routes → FartherFull routes before r t
+pub IsPairDone-more : (routes : Routes) (before outs : List ℕ) (r t class out : ℕ) → IsSized routes → length outs ≡ pages routes.grid routes.classes → ComesNearer routes → FartherFull routes before r t
     → IsPlace routes class r t → IsOutOf routes outs class r t out → IsPairDone routes before outs r t class
-    → IsPairDone routes before (set outs (block_of routes.grid routes.classes class r t) out) r t (class + 1)
+    → IsPairDone routes before (set outs (page_of routes.grid routes.classes class r t) out) r t (class + 1)
 IsPairDone-more routes before outs r t class out sized long nearer farther place is h =
     let full : FartherFull routes outs r t = λ m u other l. h.kept m u t other (farther m u other l) in
     record {
@@ -239,11 +239,11 @@ IsPairDone-more routes before outs r t class out sized long nearer farther place
       kept = λ m u d other had. IsFullOut-set routes outs class r t out m u d sized long nearer full place is other (h.kept m u d other had);
     }
   where
-    at : FartherFull routes outs r t → (m : ℕ) → m < class + 1 → IsPlace routes m r t → (m < class) ⊎ (class ≤ m) → IsFullOut routes (set outs (block_of routes.grid routes.classes class r t) out) m r t
+    at : FartherFull routes outs r t → (m : ℕ) → m < class + 1 → IsPlace routes m r t → (m < class) ⊎ (class ≤ m) → IsFullOut routes (set outs (page_of routes.grid routes.classes class r t) out) m r t
     at full m l other (inl b) = IsFullOut-set routes outs class r t out m r t sized long nearer full place is other (h.done m b other)
     at full m l other (inr g) =
         let last : class ≡ m = omega arith in
-        let P : ℕ → Type 0 = λ m. IsFullOut routes (set outs (block_of routes.grid routes.classes class r t) out) m r t in
+        let P : ℕ → Type 0 = λ m. IsFullOut routes (set outs (page_of routes.grid routes.classes class r t) out) m r t in
         subst P last (IsFullOut-set_same routes outs class r t out sized long nearer full place is)
 
 -- the lists of all routers farther off are full, and of the first pairs of a router and a destination at this distance

@@ -1,9 +1,9 @@
 -- A rule's sets, before entries that no packet reaches are taken out.
-use Rattle.std.specs.Prelude.{◌≡◌, ℕ, ◌/◌, ◌%◌, ◌<◌, ◌&&◌, Bool, List, nat_eq, nat_lt}
+use Rattle.std.specs.Prelude.{◌≡◌, ℕ, ◌/◌, ◌%◌, ◌<◌, ◌&&◌, Bool, false, List, nat_eq, nat_lt, slice_index_or}
 use Rattle.noc_topo.specs.Shape.{Grid, coordinates, padded}
 use Rattle.noc_packet.specs.Set.{has_bit}
-use Rattle.noc_route.specs.Relation.{Routing, dor_port, leads, has_row}
-use Rattle.noc_route.specs.Routes.{Routes, width, block_class, block_router, block_dst}
+use Rattle.noc_route.specs.Relation.{Routing, dor_port, is_nearer, leads, has_row}
+use Rattle.noc_route.specs.Routes.{Routes, width, page_class, page_router, page_dst}
 use Rattle.noc_route.specs.Trimming.{set_in, IsPlace}
 use Rattle.noc_route.specs.declared.frame.Frame.{Frame}
 use Rattle.noc_route.specs.declared.rule.RouteRow.{RouteRow}
@@ -20,6 +20,7 @@ pub record IsWay (g : Grid) (way : Way) (r t : ℕ) : Type 0 where
   pub there : way.there ≡ padded (coordinates g.radix t)
   pub arrived : way.arrived ≡ nat_eq r t
   pub towards : way.towards ≡ dor_port g (coordinates g.radix r) (coordinates g.radix t)
+  pub nearer : (port : ℕ) → slice_index_or way.nearer port false ≡ is_nearer g (coordinates g.radix r) (coordinates g.radix t) port
 
 -- each set has the output channels to which the rule leads
 abbrev pub IsEntered : Routing → Routes → Type 0
@@ -27,7 +28,7 @@ IsEntered g routes =
     (m r t i k : ℕ) → IsPlace routes m r t → i < width routes.grid routes.vcs
     → has_bit (set_in routes m r t i) k ≡ (nat_lt k (width routes.grid routes.vcs) && leads g m (r, i / routes.vcs) (i % routes.vcs) t (k / routes.vcs) (k % routes.vcs))
 
--- whether one of the rows names this input channel of a block and this output channel
+-- whether one of the rows names this input channel of a page and this output channel
 abbrev pub has_row_at : Routes → List RouteRow → ℕ → ℕ → ℕ → Bool
 has_row_at routes rows b i k =
-    has_row rows (block_class routes.grid routes.classes b) (block_router routes.grid routes.classes b, i / routes.vcs) (i % routes.vcs) (block_dst routes.grid b) (k / routes.vcs) (k % routes.vcs)
+    has_row rows (page_class routes.grid routes.classes b) (page_router routes.grid routes.classes b, i / routes.vcs) (i % routes.vcs) (page_dst routes.grid b) (k / routes.vcs) (k % routes.vcs)

@@ -11,7 +11,7 @@ use Rattle.noc_route.specs.declared.rule.Entry.{Entry}
 use Rattle.noc_route.specs.declared.rule.RouteFault.{RouteFault}
 use Rattle.noc_route.specs.declared.rule.RouteFault.TheVariants.{WrongShape, NoLink, NotMinimal, EarlyEject, LateHop, NoWay, Memory}
 use Rattle.noc_route.specs.declared.rule.Rule.{Rule}
-use Rattle.noc_route.specs.declared.rule.Rule.TheVariants.{Dor, Dateline, WestFirst, Rows}
+use Rattle.noc_route.specs.declared.rule.Rule.TheVariants.{Dor, Dateline, WestFirst, Adaptive, Rows}
 
 -- what a relation is made of
 pub record Routing : Type 0 where
@@ -19,6 +19,10 @@ pub record Routing : Type 0 where
   pub vcs : ℕ
   pub classes : ℕ
   pub rule : Rule
+
+-- how many channels of each class, its lowest, are escape channels of the rule `adaptive`
+abbrev pub escapes : Grid → ℕ
+escapes g = if g.wraps then 2 else 1
 
 -- whether the numbers of channels and classes are within their limits, and the rule fits them and the shape
 abbrev pub is_right : Grid → ℕ → ℕ → Rule → Bool
@@ -28,6 +32,7 @@ is_right g vcs classes rule =
       | Dor ↦ true
       | Dateline ↦ g.wraps && nat_eq (vcs % (2 * classes)) 0
       | WestFirst ↦ not g.wraps && nat_eq (dimensions g) 2
+      | Adaptive ↦ nat_lt (escapes g) (vcs / classes)
       | Rows rows ↦ true
     ])
 
@@ -57,11 +62,19 @@ is_west_first xs ts port =
     then nat_eq port 1
     else (nat_eq port 0 && nat_lt (slice_index xs 0) (slice_index ts 0)) || (nat_eq port 2 && nat_lt (slice_index xs 1) (slice_index ts 1)) || (nat_eq port 3 && nat_lt (slice_index ts 1) (slice_index xs 1))
 
+-- a port along the shorter way in its dimension, and up where both are equally long
+abbrev pub is_nearer : Grid → List ℕ → List ℕ → ℕ → Bool
+is_nearer g xs ts port =
+    let i = port / 2 in
+    not (nat_eq (slice_index xs i) (slice_index ts i))
+    && (if goes_up g.wraps (slice_index g.radix i) (slice_index xs i) (slice_index ts i) then is_plus port else not (is_plus port))
+
 -- whether a rule by coordinates leads along this port, from a router at xs towards a destination at ts
 abbrev pub takes_port : Grid → Rule → List ℕ → List ℕ → ℕ → Bool
 takes_port g Dor xs ts port = is_some_of (dor_port g xs ts) port
 takes_port g Dateline xs ts port = is_some_of (dor_port g xs ts) port
 takes_port g WestFirst xs ts port = is_west_first xs ts port
+takes_port g Adaptive xs ts port = is_nearer g xs ts port
 takes_port g (Rows rows) xs ts port = false
 
 -- ---- channels
@@ -79,11 +92,27 @@ resource_class vcs classes v = v % (vcs / classes) / (vcs / classes / 2)
 abbrev pub dateline_class : ℕ → ℕ → ℕ → ℕ
 dateline_class port x t = if is_plus port then (if nat_lt t x then 0 else 1) else (if nat_lt x t then 0 else 1)
 
+-- the place of a channel among those of its class
+abbrev pub place_in_class : ℕ → ℕ → ℕ → ℕ
+place_in_class vcs classes v = v % (vcs / classes)
+
+-- whether a channel is an escape channel of `adaptive`; its other channels are adaptive
+abbrev pub is_escape : Grid → ℕ → ℕ → ℕ → Bool
+is_escape g vcs classes v = nat_lt (place_in_class vcs classes v) (escapes g)
+
+-- the escape channel of dimension order: on a torus the one for the half that a dateline takes
+abbrev pub is_escape_taken : Grid → ℕ → ℕ → List ℕ → List ℕ → ℕ → ℕ → Bool
+is_escape_taken g vcs classes xs ts port v =
+    is_some_of (dor_port g xs ts) port
+    && nat_eq (place_in_class vcs classes v) (if g.wraps then dateline_class port (slice_index xs (port / 2)) (slice_index ts (port / 2)) else 0)
+
 -- whether a rule by coordinates may take this channel of a port that it takes
-abbrev pub takes_channel : ℕ → ℕ → Rule → ℕ → List ℕ → List ℕ → ℕ → ℕ → Bool
-takes_channel vcs classes Dateline m xs ts port v =
+abbrev pub takes_channel : Grid → ℕ → ℕ → Rule → ℕ → List ℕ → List ℕ → ℕ → ℕ → Bool
+takes_channel g vcs classes Dateline m xs ts port v =
     is_in_block vcs classes m v && nat_eq (resource_class vcs classes v) (dateline_class port (slice_index xs (port / 2)) (slice_index ts (port / 2)))
-takes_channel vcs classes _ m xs ts port v = is_in_block vcs classes m v
+takes_channel g vcs classes Adaptive m xs ts port v =
+    is_in_block vcs classes m v && (not (is_escape g vcs classes v) || is_escape_taken g vcs classes xs ts port v)
+takes_channel g vcs classes _ m xs ts port v = is_in_block vcs classes m v
 
 -- ---- rows
 
@@ -142,7 +171,7 @@ is_led g m r t port v =
     if nat_eq r t
     then nat_eq port (local_port g.grid) && is_in_block g.vcs g.classes m v
     else takes_port g.grid g.rule (coordinates g.grid.radix r) (coordinates g.grid.radix t) port
-    && takes_channel g.vcs g.classes g.rule m (coordinates g.grid.radix r) (coordinates g.grid.radix t) port v
+    && takes_channel g.grid g.vcs g.classes g.rule m (coordinates g.grid.radix r) (coordinates g.grid.radix t) port v
 
 -- whether the rule leads a packet of class m, that came to this place (a router and an input port) on channel in_vc and is
 -- bound for t, on to channel v of this output port

@@ -17,26 +17,26 @@ abbrev pub width : Grid → ℕ → ℕ
 width g vcs = ports g * vcs
 
 -- the number of a router, a class and a destination
-abbrev pub block_of : Grid → ℕ → ℕ → ℕ → ℕ → ℕ
-block_of g classes m r t = (r * classes + m) * nodes g + t
+abbrev pub page_of : Grid → ℕ → ℕ → ℕ → ℕ → ℕ
+page_of g classes m r t = (r * classes + m) * nodes g + t
 
--- the class, router and destination of a block
-abbrev pub block_class : Grid → ℕ → ℕ → ℕ
-block_class g classes block = block / nodes g % classes
+-- the class, router and destination of a page
+abbrev pub page_class : Grid → ℕ → ℕ → ℕ
+page_class g classes page = page / nodes g % classes
 
-abbrev pub block_router : Grid → ℕ → ℕ → ℕ
-block_router g classes block = block / nodes g / classes
+abbrev pub page_router : Grid → ℕ → ℕ → ℕ
+page_router g classes page = page / nodes g / classes
 
-abbrev pub block_dst : Grid → ℕ → ℕ
-block_dst g block = block % nodes g
+abbrev pub page_dst : Grid → ℕ → ℕ
+page_dst g page = page % nodes g
 
 -- how many of these there are
-abbrev pub blocks : Grid → ℕ → ℕ
-blocks g classes = nodes g * classes * nodes g
+abbrev pub pages : Grid → ℕ → ℕ
+pages g classes = nodes g * classes * nodes g
 
 -- the place of an entry in the table
 abbrev pub place_of : Grid → ℕ → ℕ → ℕ → ℕ → ℕ → ℕ → ℕ → ℕ
-place_of g vcs classes m r p v t = block_of g classes m r t * width g vcs + (p * vcs + v)
+place_of g vcs classes m r p v t = page_of g classes m r t * width g vcs + (p * vcs + v)
 
 -- whether the class, router, input port, channel and destination exist
 abbrev pub is_entry : Grid → ℕ → ℕ → ℕ → ℕ → ℕ → ℕ → ℕ → Bool
@@ -56,7 +56,7 @@ pub record IsTable (routes : Routes) : Type 0 where
   pub few_vcs : routes.vcs ≤ MAX_CHANNELS
   pub some_classes : 1 ≤ routes.classes
   pub few_classes : routes.classes ≤ MAX_CLASSES
-  pub long : length routes.sets ≡ blocks routes.grid routes.classes * width routes.grid routes.vcs
+  pub long : length routes.sets ≡ pages routes.grid routes.classes * width routes.grid routes.vcs
 
 -- whether the table leads a packet that came to this place on channel in_vc on to a channel
 abbrev pub permits_at : Routes → ℕ → Option (ℕ × ℕ) → ℕ → ℕ → Channel → Bool

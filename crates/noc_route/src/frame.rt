@@ -1,14 +1,14 @@
 //! The numbers that a routing relation is over, and the places of its table.
 
 ghost use Rattle.std.specs.Prelude.{◌≡◌, ◌+◌, ◌*◌, ◌/◌, ◌<◌, ◌≤◌, IsTrue, IfNone, IfSome, true, false};
-ghost use Rattle.noc_packet.specs.declared.limits.TheConstants.{MAX_CHANNELS, MAX_CLASSES, MAX_NODES};
+ghost use Rattle.noc_packet.specs.declared.limits.TheConstants.{INDICES, MAX_CHANNELS, MAX_CLASSES, MAX_NODES, MAX_PORTS};
 ghost use Rattle.noc_topo.specs.Shape.{IsGrid, nodes, ports};
-ghost use Rattle.noc_route.specs.Relation.{is_in_block, resource_class, is_right};
-ghost use Rattle.noc_route.specs.Routes.{width, blocks, block_of, place_of, block_class, block_router, block_dst};
+ghost use Rattle.noc_route.specs.Relation.{is_in_block, resource_class, escapes, is_right};
+ghost use Rattle.noc_route.specs.Routes.{width, pages, page_of, place_of, page_class, page_router, page_dst};
 
 use crate::rule::Rule;
 use noc_packet::{MAX_CHANNELS, MAX_CLASSES};
-use noc_topo::Shape;
+use noc_topo::{Kind, Shape};
 
 /// A shape with its numbers of channels per link and of classes.
 #[derive(Clone, Copy, Debug)]
@@ -23,7 +23,7 @@ pub struct Frame {
     ghost all_ports: { port_count ≡ ports shape },
     ghost some_nodes: { 2 ≤ node_count },
     ghost few_nodes: { node_count ≤ MAX_NODES },
-    ghost few_ports: { port_count ≤ 7 },
+    ghost few_ports: { port_count ≤ MAX_PORTS },
     ghost some_vcs: { 1 ≤ vcs },
     ghost few_vcs: { vcs ≤ MAX_CHANNELS },
     ghost some_classes: { 1 ≤ classes },
@@ -51,43 +51,43 @@ impl Frame {
     /// How many input channels a router has, and output channels.
     pub fn width(&self) -> usize
         ensures value { result ≡ width self.now.shape self.now.vcs }
-        ensures few { result ≤ 7 * MAX_CHANNELS }
+        ensures few { result ≤ INDICES }
     {
         self.port_count * self.vcs
     }
 
-    /// How many blocks the table has: one for each router, class and destination.
-    pub fn blocks(&self) -> usize
-        ensures value { result ≡ blocks self.now.shape self.now.classes }
+    /// How many pages the table has: one for each router, class and destination.
+    pub fn pages(&self) -> usize
+        ensures value { result ≡ pages self.now.shape self.now.classes }
         ensures few { result ≤ MAX_NODES * MAX_CLASSES * MAX_NODES }
     {
         self.node_count * self.classes * self.node_count
     }
 
-    /// The number of a block.
-    pub fn block(&self, class: usize, router: usize, dst: usize) -> usize
+    /// The number of a page.
+    pub fn page(&self, class: usize, router: usize, dst: usize) -> usize
         requires class { class < self.now.classes }
         requires router { router < nodes self.now.shape }
         requires dst { dst < nodes self.now.shape }
-        ensures value { result ≡ block_of self.now.shape self.now.classes class router dst }
-        ensures within { result < blocks self.now.shape self.now.classes }
+        ensures value { result ≡ page_of self.now.shape self.now.classes class router dst }
+        ensures within { result < pages self.now.shape self.now.classes }
     {
         (router * self.classes + class) * self.node_count + dst
     }
 
-    /// The class, router and destination of a block.
-    pub fn block_parts(&self, block: usize) -> (usize, usize, usize)
-        requires { block < blocks self.now.shape self.now.classes }
-        ensures class { result.0 ≡ block_class self.now.shape self.now.classes block }
-        ensures router { result.1 ≡ block_router self.now.shape self.now.classes block }
-        ensures dst { result.2 ≡ block_dst self.now.shape block }
+    /// The class, router and destination of a page.
+    pub fn page_parts(&self, page: usize) -> (usize, usize, usize)
+        requires { page < pages self.now.shape self.now.classes }
+        ensures class { result.0 ≡ page_class self.now.shape self.now.classes page }
+        ensures router { result.1 ≡ page_router self.now.shape self.now.classes page }
+        ensures dst { result.2 ≡ page_dst self.now.shape page }
         ensures range { (result.0 < self.now.classes) × (result.1 < nodes self.now.shape) × (result.2 < nodes self.now.shape) }
     {
-        let pair = block / self.node_count;
+        let pair = page / self.node_count;
         (
             pair % self.classes,
             pair / self.classes,
-            block % self.node_count,
+            page % self.node_count,
         )
     }
 
@@ -97,19 +97,19 @@ impl Frame {
         requires vc { vc < self.now.vcs }
         ensures value { result ≡ port * self.now.vcs + vc }
         ensures within { result < width self.now.shape self.now.vcs }
-        ensures few { result < 7 * MAX_CHANNELS }
+        ensures few { result < INDICES }
     {
         port * self.vcs + vc
     }
 
-    /// The place in the table of an input channel of a block.
-    pub fn slot(&self, block: usize, input: usize) -> usize
-        requires block { block < blocks self.now.shape self.now.classes }
+    /// The place in the table of an input channel of a page.
+    pub fn slot(&self, page: usize, input: usize) -> usize
+        requires page { page < pages self.now.shape self.now.classes }
         requires input { input < width self.now.shape self.now.vcs }
-        ensures value { result ≡ block * width self.now.shape self.now.vcs + input }
-        ensures within { result < blocks self.now.shape self.now.classes * width self.now.shape self.now.vcs }
+        ensures value { result ≡ page * width self.now.shape self.now.vcs + input }
+        ensures within { result < pages self.now.shape self.now.classes * width self.now.shape self.now.vcs }
     {
-        block * self.width() + input
+        page * self.width() + input
     }
 
     /// The place of an entry in the table.
@@ -127,9 +127,9 @@ impl Frame {
         requires in_vc { in_vc < self.now.vcs }
         requires dst { dst < nodes self.now.shape }
         ensures value { result ≡ place_of self.now.shape self.now.vcs self.now.classes class router in_port in_vc dst }
-        ensures within { result < blocks self.now.shape self.now.classes * width self.now.shape self.now.vcs }
+        ensures within { result < pages self.now.shape self.now.classes * width self.now.shape self.now.vcs }
     {
-        self.slot(self.block(class, router, dst), self.index(in_port, in_vc))
+        self.slot(self.page(class, router, dst), self.index(in_port, in_vc))
     }
 
     /// Whether a channel is one of a class's channels.
@@ -153,11 +153,19 @@ pub fn resource_class(vcs: usize, classes: usize, vc: usize) -> usize
     vc % block / (block / 2)
 }
 
-/// Whether the shape is a torus: the last node has a link up in dimension 0.
+/// Whether the shape is a torus.
 pub fn is_torus(shape: &Shape) -> bool
     ensures { result ≡ shape.now.wraps }
 {
-    shape.neighbour(shape.nodes() - 1, 0).is_some()
+    shape.kind() == Kind::Torus
+}
+
+/// How many channels of each class, its lowest, are escape channels of the rule `Adaptive`: 1 on a mesh, 2 on a torus.
+pub fn escapes(shape: &Shape) -> usize
+    ensures value { result ≡ escapes shape.now }
+    ensures few { result ≤ 2 }
+{
+    if is_torus(shape) { 2 } else { 1 }
 }
 
 /// Whether a relation can be made of these numbers and this rule: 1 to 4 channels and classes, the classes divide the
@@ -176,5 +184,6 @@ pub fn is_right(shape: &Shape, vcs: usize, classes: usize, rule: &Rule) -> bool
         Rule::Dor | Rule::Rows(_) => true,
         Rule::Dateline => is_torus(shape) && vcs % (2 * classes) == 0,
         Rule::WestFirst => !is_torus(shape) && shape.dimensions() == 2,
+        Rule::Adaptive => vcs / classes > escapes(shape),
     }
 }

@@ -3,34 +3,32 @@
 ghost use Rattle.std.specs.Prelude.{◌≡◌, ℕ, ◌+◌, ◌*◌, ◌/◌, ◌%◌, ◌<◌, ◌≤◌, ◌&&◌, ◌||◌, List, length};
 ghost use Rattle.noc_packet.specs.Set.{has_bit};
 ghost use Rattle.noc_topo.specs.Shape.{nodes, distance as distance_between};
-ghost use Rattle.noc_route.specs.Routes.{width, blocks, block_of};
+ghost use Rattle.noc_route.specs.Routes.{width, pages, page_of};
 ghost use Rattle.noc_route.specs.Trimming.{routes_in, set_in, IsPlace, ComesNearer, IsSoundOut, IsFullOut, comes_in, any_below};
 
 use crate::map::Map;
 use noc_packet::ChannelSet;
-
-/// The greatest distance of two nodes, in hops.
-const FARTHEST: usize = 45;
+use noc_topo::MAX_DISTANCE;
 
 /// Writes the channels by which packets leave each router, by class and destination. A packet comes nearer with each hop,
 /// so what reaches a router is known once the routers farther off are done.
 pub fn gather(map: &Map, sets: &[ChannelSet], outs: &mut [ChannelSet])
-    requires sets { length sets.now ≡ blocks map.now.frame.shape map.now.frame.classes * width map.now.frame.shape map.now.frame.vcs }
-    requires outs { length outs.old ≡ blocks map.now.frame.shape map.now.frame.classes }
+    requires sets { length sets.now ≡ pages map.now.frame.shape map.now.frame.classes * width map.now.frame.shape map.now.frame.vcs }
+    requires outs { length outs.old ≡ pages map.now.frame.shape map.now.frame.classes }
     requires nearer { ComesNearer (routes_in map.now.frame sets.now) }
     requires sound { IsSoundOut (routes_in map.now.frame sets.now) outs.old }
     ensures sound { IsSoundOut (routes_in map.now.frame sets.now) outs.new }
     ensures full { let routes = routes_in map.now.frame sets.now in (m r t : ℕ) → IsPlace routes m r t → IsFullOut routes outs.new m r t }
 {
-    for step in 0..FARTHEST + 1 {
-        gather_at(map, sets, outs, FARTHEST - step);
+    for step in 0..MAX_DISTANCE + 1 {
+        gather_at(map, sets, outs, MAX_DISTANCE - step);
     }
 }
 
 /// The same for the routers at one distance from the destination.
 fn gather_at(map: &Map, sets: &[ChannelSet], outs: &mut [ChannelSet], distance: usize)
-    requires sets { length sets.now ≡ blocks map.now.frame.shape map.now.frame.classes * width map.now.frame.shape map.now.frame.vcs }
-    requires outs { length outs.old ≡ blocks map.now.frame.shape map.now.frame.classes }
+    requires sets { length sets.now ≡ pages map.now.frame.shape map.now.frame.classes * width map.now.frame.shape map.now.frame.vcs }
+    requires outs { length outs.old ≡ pages map.now.frame.shape map.now.frame.classes }
     requires nearer { ComesNearer (routes_in map.now.frame sets.now) }
     requires sound { IsSoundOut (routes_in map.now.frame sets.now) outs.old }
     requires farther { let routes = routes_in map.now.frame sets.now in (m r t : ℕ) → IsPlace routes m r t → distance < distance_between routes.grid r t → IsFullOut routes outs.old m r t }
@@ -47,8 +45,8 @@ fn gather_at(map: &Map, sets: &[ChannelSet], outs: &mut [ChannelSet], distance: 
 
 /// The same for one router and one destination.
 fn gather_pair(map: &Map, sets: &[ChannelSet], outs: &mut [ChannelSet], router: usize, dst: usize)
-    requires sets { length sets.now ≡ blocks map.now.frame.shape map.now.frame.classes * width map.now.frame.shape map.now.frame.vcs }
-    requires outs { length outs.old ≡ blocks map.now.frame.shape map.now.frame.classes }
+    requires sets { length sets.now ≡ pages map.now.frame.shape map.now.frame.classes * width map.now.frame.shape map.now.frame.vcs }
+    requires outs { length outs.old ≡ pages map.now.frame.shape map.now.frame.classes }
     requires router { router < nodes map.now.frame.shape }
     requires dst { dst < nodes map.now.frame.shape }
     requires nearer { ComesNearer (routes_in map.now.frame sets.now) }
@@ -60,7 +58,7 @@ fn gather_pair(map: &Map, sets: &[ChannelSet], outs: &mut [ChannelSet], router: 
 {
     for class in 0..map.frame.classes {
         let out = leaving(map, sets, outs, class, router, dst);
-        outs[map.frame.block(class, router, dst)] = out;
+        outs[map.frame.page(class, router, dst)] = out;
     }
 }
 
@@ -73,18 +71,18 @@ fn leaving(
     router: usize,
     dst: usize,
 ) -> ChannelSet
-    requires sets { length sets.now ≡ blocks map.now.frame.shape map.now.frame.classes * width map.now.frame.shape map.now.frame.vcs }
-    requires outs { length outs.now ≡ blocks map.now.frame.shape map.now.frame.classes }
+    requires sets { length sets.now ≡ pages map.now.frame.shape map.now.frame.classes * width map.now.frame.shape map.now.frame.vcs }
+    requires outs { length outs.now ≡ pages map.now.frame.shape map.now.frame.classes }
     requires class { class < map.now.frame.classes }
     requires router { router < nodes map.now.frame.shape }
     requires dst { dst < nodes map.now.frame.shape }
     ensures { let routes = routes_in map.now.frame sets.now in (k : ℕ) → k < width routes.grid routes.vcs → has_bit result k ≡ any_below (width routes.grid routes.vcs) (λ i. comes_in routes outs.now class router dst i && has_bit (set_in routes class router dst i) k) }
 {
-    let block = map.frame.block(class, router, dst);
+    let page = map.frame.page(class, router, dst);
     let mut all = ChannelSet::empty();
     for input in 0..map.frame.width() {
         if is_reached(map, outs, class, router, dst, input) {
-            all = all.either(sets[map.frame.slot(block, input)]);
+            all = all.either(sets[map.frame.slot(page, input)]);
         }
     }
     all
@@ -100,7 +98,7 @@ pub fn is_reached(
     dst: usize,
     input: usize,
 ) -> bool
-    requires outs { length outs.now ≡ blocks map.now.frame.shape map.now.frame.classes }
+    requires outs { length outs.now ≡ pages map.now.frame.shape map.now.frame.classes }
     requires class { class < map.now.frame.classes }
     requires router { router < nodes map.now.frame.shape }
     requires dst { dst < nodes map.now.frame.shape }
@@ -115,7 +113,7 @@ pub fn is_reached(
     match map.link(router, port) {
         None => false,
         Some((sender, out_port)) => {
-            outs[map.frame.block(class, sender, dst)].contains(
+            outs[map.frame.page(class, sender, dst)].contains(
                 map.frame.index(out_port, input % vcs),
             )
         }

@@ -1,10 +1,10 @@
 //! What every rule has in common.
 
-ghost use Rattle.std.specs.Prelude.{◌≡◌, ◌↔◌};
+ghost use Rattle.std.specs.Prelude.{◌≡◌, ◌↔◌, ℕ, Option, IsTrue};
 ghost use Rattle.noc_route.specs.Built.{IsRelationOf};
-ghost use Rattle.noc_route.specs.Ranks.{Ranking, rank_at, IsRankedBy, IsRanked};
+ghost use Rattle.noc_route.specs.Ranks.{Ranking, rank_at, IsRanked, IsRankedBy, IsRankedRule, AreAllRanked, IsRising};
 ghost use Rattle.noc_route.specs.Relation.{IsFaultOf, Routing};
-ghost use Rattle.noc_route.specs.Routes.{Routes};
+ghost use Rattle.noc_route.specs.Routes.{Routes, IsRelation, permits};
 ghost use Rattle.noc_route.specs.declared.rule.RouteFault.{RouteFault as RouteFaultValue};
 ghost use Rattle.noc_route.specs.declared.rule.RouteFault.TheVariants.{Memory};
 
@@ -18,7 +18,14 @@ pub fn a_rule_has_a_relation_or_a_fault()
     ensures { (g : Routing) (routes : Routes) (fault : RouteFaultValue) → IsRelationOf g routes → IsFaultOf g fault → fault ≡ Memory }
 {}
 
-/// Ranks rise along the relation of a rule exactly where they rise with each step that the rule permits.
+/// A relation is ranked exactly where its rule is, by the steps that the rule permits.
 pub fn a_relation_is_ranked_as_its_rule()
-    ensures { (g : Routing) (routes : Routes) (ranks : Ranking) → IsRelationOf g routes → IsRankedBy routes ranks ↔ IsRanked g (rank_at ranks) }
+    ensures { (g : Routing) (routes : Routes) (ranks : Ranking) → IsRelationOf g routes → IsRankedBy routes ranks ↔ IsRankedRule g (rank_at ranks) }
+{}
+
+/// Where each link channel has a rank, a relation is ranked exactly where ranks rise with each permitted step from one link channel to
+/// the next.
+pub fn ranks_of_all_channels_need_only_rise()
+    ensures { (routes : Routes) (ranks : ℕ → ℕ → ℕ → Option ℕ) → IsRelation routes → AreAllRanked routes ranks
+        → IsRanked (λ m c t o. IsTrue (permits routes m c t o)) routes.grid ranks ↔ IsRising routes ranks }
 {}

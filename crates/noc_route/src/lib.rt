@@ -12,9 +12,10 @@ mod rows;
 mod rule;
 mod trim;
 
-pub use frame::{is_right, is_torus, resource_class};
+pub use frame::{escapes, is_right, is_torus, resource_class};
 pub use laws::{
     a_relation_is_ranked_as_its_rule, a_rule_has_a_relation_or_a_fault, a_rule_has_one_relation,
+    ranks_of_all_channels_need_only_rise,
 };
 pub use relation::Relation;
 pub use rule::{Entry, RouteFault, RouteRow, Rule};

@@ -51,7 +51,7 @@ impl Map {
         self.links[router * self.frame.port_count + port]
     }
 
-    /// How many hops lie between two routers, at most 45.
+    /// How many hops lie between two routers, at most `MAX_DISTANCE`.
     pub fn distance(&self, from: usize, to: usize) -> usize
         requires from { from < nodes self.now.frame.shape }
         requires to { to < nodes self.now.frame.shape }

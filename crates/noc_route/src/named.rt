@@ -1,13 +1,13 @@
-//! The rules by coordinates: dimension order, dateline and west first (Dally and Towles, chapters 8 to 10 and 14).
+//! The rules by coordinates: dimension order, dateline, west first and adaptive (Dally and Towles, chapters 8 to 10 and 14).
 
-ghost use Rattle.std.specs.Prelude.{◌≡◌, ℕ, ◌/◌, ◌%◌, ◌<◌, ◌≤◌, ◌&&◌, IfSome, slice_index, EachIndex, IsTrue, nat_lt, true};
+ghost use Rattle.std.specs.Prelude.{◌≡◌, ℕ, ◌/◌, ◌%◌, ◌<◌, ◌≤◌, ◌&&◌, IfSome, slice_index, slice_index_or, EachIndex, IsTrue, nat_lt, true, false};
 ghost use Rattle.noc_packet.specs.Set.{has_bit};
 ghost use Rattle.noc_topo.specs.Shape.{Grid, nodes, ports, coordinates, padded};
 ghost use Rattle.noc_route.specs.Entered.{routing_in, IsWay};
-ghost use Rattle.noc_route.specs.Relation.{is_right, is_led, dor_port, takes_port, takes_channel, dateline_class, is_west_first};
+ghost use Rattle.noc_route.specs.Relation.{is_right, is_led, dor_port, is_nearer, takes_port, takes_channel, place_in_class, is_escape_taken, dateline_class, is_west_first};
 ghost use Rattle.noc_route.specs.Routes.{width};
 
-use crate::frame::{Frame, resource_class};
+use crate::frame::{Frame, escapes, is_torus, resource_class};
 use crate::map::Map;
 use crate::rule::Rule;
 use noc_packet::ChannelSet;
@@ -32,13 +32,14 @@ pub fn named_set(map: &Map, rule: &Rule, class: usize, router: usize, dst: usize
     set
 }
 
-/// The coordinates of a router and a destination, and the port of dimension order between them.
+/// The coordinates of a router and a destination, the port of dimension order between them, and the ports that come nearer.
 #[derive(Clone, Copy)]
 struct Way {
     here: [usize; 3],
     there: [usize; 3],
     arrived: bool,
     towards: Option<usize>,
+    nearer: [bool; 6],
 }
 
 impl Way {
@@ -55,6 +56,7 @@ impl Way {
             there,
             arrived: router == dst,
             towards: dor_port(map, &here, &there),
+            nearer: nearer_ports(map, &here, &there),
         }
     }
 
@@ -81,6 +83,7 @@ impl Way {
         match rule {
             Rule::Dor | Rule::Dateline => self.towards == Some(port),
             Rule::WestFirst => self.is_west_first(port),
+            Rule::Adaptive => port < 6 && self.nearer[port],
             Rule::Rows(_) => false,
         }
     }
@@ -97,15 +100,37 @@ impl Way {
         requires class { class < frame.now.classes }
         requires port { port < 6 }
         requires right { is_right frame.now.shape frame.now.vcs frame.now.classes rule.now ≡ true }
-        ensures { (g : Grid) (r t : ℕ) → IsWay g self.now r t → result ≡ takes_channel frame.now.vcs frame.now.classes rule.now class (coordinates g.radix r) (coordinates g.radix t) port vc }
+        ensures { let f = frame.now in (r t : ℕ) → IsWay f.shape self.now r t → result ≡ takes_channel f.shape f.vcs f.classes rule.now class (coordinates f.shape.radix r) (coordinates f.shape.radix t) port vc }
     {
+        if !frame.is_in_block(class, vc) {
+            return false;
+        }
         match rule {
             Rule::Dateline => {
-                frame.is_in_block(class, vc)
-                    && resource_class(frame.vcs, frame.classes, vc) == self.dateline_class(port)
+                resource_class(frame.vcs, frame.classes, vc) == self.dateline_class(port)
             }
-            _ => frame.is_in_block(class, vc),
+            Rule::Adaptive => {
+                let place = vc % (frame.vcs / frame.classes);
+                place >= escapes(&frame.shape) || self.takes_escape(frame, port, place)
+            }
+            _ => true,
         }
+    }
+
+    /// Whether an escape channel, by its place among those of its class, is taken along a port.
+    fn takes_escape(&self, frame: &Frame, port: usize, place: usize) -> bool
+        requires { port < 6 }
+        ensures { let f = frame.now in (r t v : ℕ) → IsWay f.shape self.now r t → place ≡ place_in_class f.vcs f.classes v → result ≡ is_escape_taken f.shape f.vcs f.classes (coordinates f.shape.radix r) (coordinates f.shape.radix t) port v }
+    {
+        if self.towards != Some(port) {
+            return false;
+        }
+        let taken = if is_torus(&frame.shape) {
+            self.dateline_class(port)
+        } else {
+            0
+        };
+        place == taken
     }
 
     /// The half of a class's channels that the next hop along a port takes.
@@ -133,6 +158,37 @@ impl Way {
             3 => self.there[1] < self.here[1],
             _ => false,
         }
+    }
+}
+
+/// Which of the link ports come nearer.
+fn nearer_ports(map: &Map, here: &[usize; 3], there: &[usize; 3]) -> [bool; 6]
+    requires here { EachIndex here.now (λ i. slice_index here.now i ≤ slice_index map.now.last i) }
+    requires there { EachIndex there.now (λ i. slice_index there.now i ≤ slice_index map.now.last i) }
+    ensures { let g = map.now.frame.shape in (r t : ℕ) → here.now ≡ padded (coordinates g.radix r) → there.now ≡ padded (coordinates g.radix t) → (port : ℕ) → slice_index_or result port false ≡ is_nearer g (coordinates g.radix r) (coordinates g.radix t) port }
+{
+    let mut nearer = [false; 6];
+    for port in 0..6usize {
+        nearer[port] = is_nearer(map, here, there, port);
+    }
+    nearer
+}
+
+/// Whether a link port leads along the shorter way in its dimension, or up where both are equally long.
+fn is_nearer(map: &Map, here: &[usize; 3], there: &[usize; 3], port: usize) -> bool
+    requires port { port < 6 }
+    requires here { EachIndex here.now (λ i. slice_index here.now i ≤ slice_index map.now.last i) }
+    requires there { EachIndex there.now (λ i. slice_index there.now i ≤ slice_index map.now.last i) }
+    ensures { let g = map.now.frame.shape in (r t : ℕ) → here.now ≡ padded (coordinates g.radix r) → there.now ≡ padded (coordinates g.radix t) → result ≡ is_nearer g (coordinates g.radix r) (coordinates g.radix t) port }
+{
+    let i = port / 2;
+    if here[i] == there[i] {
+        return false;
+    }
+    if map.goes_up(i, here[i], there[i]) {
+        port % 2 == 0
+    } else {
+        port % 2 != 0
     }
 }
 

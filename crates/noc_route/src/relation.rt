@@ -5,7 +5,7 @@ ghost use Rattle.noc_topo.specs.Shape.{nodes, ports};
 ghost use Rattle.noc_route.specs.Built.{routing_of, IsRelationOf};
 ghost use Rattle.noc_route.specs.Entered.{routing_in, IsEntered};
 ghost use Rattle.noc_route.specs.Relation.{is_right, rows_of, row_fault, IsFirstFault, IsFaultOf};
-ghost use Rattle.noc_route.specs.Routes.{set_at, IsRelation, blocks, width};
+ghost use Rattle.noc_route.specs.Routes.{set_at, IsRelation, pages, width};
 ghost use Rattle.noc_route.specs.Trimming.{routes_in};
 
 use crate::enter::{enter_named, enter_rows};
@@ -58,8 +58,8 @@ impl Relation {
             return Err(RouteFault::WrongShape);
         };
         let map = Map::new(alloc, frame)?;
-        let mut sets = vec![in alloc; ChannelSet::empty(); frame.blocks() * frame.width()]?;
-        let mut outs = vec![in alloc; ChannelSet::empty(); frame.blocks()]?;
+        let mut sets = vec![in alloc; ChannelSet::empty(); frame.pages() * frame.width()]?;
+        let mut outs = vec![in alloc; ChannelSet::empty(); frame.pages()]?;
         fill(&map, &rule, &mut sets, &mut outs)?;
         Ok(Relation { frame, sets })
     }
@@ -118,8 +118,8 @@ fn fill(
     outs: &mut [ChannelSet],
 ) -> Result<(), RouteFault>
     requires right { is_right map.now.frame.shape map.now.frame.vcs map.now.frame.classes rule.now ≡ true }
-    requires sets { length sets.old ≡ blocks map.now.frame.shape map.now.frame.classes * width map.now.frame.shape map.now.frame.vcs }
-    requires outs { length outs.old ≡ blocks map.now.frame.shape map.now.frame.classes }
+    requires sets { length sets.old ≡ pages map.now.frame.shape map.now.frame.classes * width map.now.frame.shape map.now.frame.vcs }
+    requires outs { length outs.old ≡ pages map.now.frame.shape map.now.frame.classes }
     requires empty { (j : ℕ) → slice_index sets.old j ≡ 0 }
     requires unused { (j : ℕ) → slice_index outs.old j ≡ 0 }
     ensures { MatchResult result (λ _. IsRelationOf (routing_in map.now.frame rule.now) (routes_in map.now.frame sets.new)) (IsFaultOf (routing_in map.now.frame rule.now)) }
@@ -135,7 +135,7 @@ fn fill(
 /// Writes a rule's sets, or answers the fault of the first bad row.
 fn enter(map: &Map, rule: &Rule, sets: &mut [ChannelSet]) -> Result<(), RouteFault>
     requires right { is_right map.now.frame.shape map.now.frame.vcs map.now.frame.classes rule.now ≡ true }
-    requires long { length sets.old ≡ blocks map.now.frame.shape map.now.frame.classes * width map.now.frame.shape map.now.frame.vcs }
+    requires long { length sets.old ≡ pages map.now.frame.shape map.now.frame.classes * width map.now.frame.shape map.now.frame.vcs }
     requires empty { (j : ℕ) → slice_index sets.old j ≡ 0 }
     ensures err { IfErr result (IsFirstFault map.now.frame.shape map.now.frame.vcs map.now.frame.classes (rows_of rule.now)) }
     ensures ok { OnOk result (All (λ row. row_fault map.now.frame.shape map.now.frame.vcs map.now.frame.classes row ≡ None) (rows_of rule.now)) }

@@ -15,6 +15,9 @@ pub enum Rule {
     Dateline,
     /// On a mesh of two dimensions: first down dimension 0, then every port that comes nearer.
     WestFirst,
+    /// The lowest channel of each class, on a torus the two lowest, is an escape channel: it is taken as by dimension order,
+    /// on a torus the one or the other as by a dateline. The other channels are taken along every port that comes nearer.
+    Adaptive,
     /// The output channels that these rows name.
     Rows(Vec<RouteRow>),
 }

@@ -2,8 +2,8 @@
 
 ghost use Rattle.std.specs.Prelude.{◌≡◌, ◌≢◌, ℕ, None, ◌+◌, ◌*◌, ◌<◌, if◌then◌else◌, length, slice_set};
 ghost use Rattle.noc_route.specs.Order.{earlier_entry};
-ghost use Rattle.noc_route.specs.Routes.{width, blocks};
-ghost use Rattle.noc_route.specs.Trimming.{routes_in, block_set, comes_at, left_at, entry_at, IsFirstStuck};
+ghost use Rattle.noc_route.specs.Routes.{width, pages};
+ghost use Rattle.noc_route.specs.Trimming.{routes_in, page_set, comes_at, left_at, entry_at, IsFirstStuck};
 
 use crate::gather::is_reached;
 use crate::map::Map;
@@ -14,35 +14,35 @@ use noc_packet::ChannelSet;
 /// router. Returns the first entry that is reached and has an empty set, in the order of class, router, input port and
 /// channel, and destination.
 pub fn trim(map: &Map, sets: &mut [ChannelSet], outs: &[ChannelSet]) -> Option<Entry>
-    requires sets { length sets.old ≡ blocks map.now.frame.shape map.now.frame.classes * width map.now.frame.shape map.now.frame.vcs }
-    requires outs { length outs.now ≡ blocks map.now.frame.shape map.now.frame.classes }
-    ensures left { (b i : ℕ) → b < blocks map.now.frame.shape map.now.frame.classes → i < width map.now.frame.shape map.now.frame.vcs → block_set (routes_in map.now.frame sets.new) b i ≡ left_at (routes_in map.now.frame sets.old) outs.now b i }
+    requires sets { length sets.old ≡ pages map.now.frame.shape map.now.frame.classes * width map.now.frame.shape map.now.frame.vcs }
+    requires outs { length outs.now ≡ pages map.now.frame.shape map.now.frame.classes }
+    ensures left { (b i : ℕ) → b < pages map.now.frame.shape map.now.frame.classes → i < width map.now.frame.shape map.now.frame.vcs → page_set (routes_in map.now.frame sets.new) b i ≡ left_at (routes_in map.now.frame sets.old) outs.now b i }
     ensures first { IsFirstStuck (routes_in map.now.frame sets.new) outs.now (length sets.old) result }
 {
     let mut first = None;
-    for block in 0..map.frame.blocks() {
-        first = trim_block(map, sets, outs, block, first);
+    for page in 0..map.frame.pages() {
+        first = trim_page(map, sets, outs, page, first);
     }
     first
 }
 
-/// The same for one block; `first` is the first such entry among the blocks before.
-fn trim_block(
+/// The same for one page; `first` is the first such entry among the pages before.
+fn trim_page(
     map: &Map,
     sets: &mut [ChannelSet],
     outs: &[ChannelSet],
-    block: usize,
+    page: usize,
     first: Option<Entry>,
 ) -> Option<Entry>
-    requires sets { length sets.old ≡ blocks map.now.frame.shape map.now.frame.classes * width map.now.frame.shape map.now.frame.vcs }
-    requires outs { length outs.now ≡ blocks map.now.frame.shape map.now.frame.classes }
-    requires block { block < blocks map.now.frame.shape map.now.frame.classes }
-    requires first { IsFirstStuck (routes_in map.now.frame sets.old) outs.now (block * width map.now.frame.shape map.now.frame.vcs) first }
-    ensures left { (i : ℕ) → i < width map.now.frame.shape map.now.frame.vcs → block_set (routes_in map.now.frame sets.new) block i ≡ left_at (routes_in map.now.frame sets.old) outs.now block i }
-    ensures others { (b i : ℕ) → i < width map.now.frame.shape map.now.frame.vcs → b ≢ block → block_set (routes_in map.now.frame sets.new) b i ≡ block_set (routes_in map.now.frame sets.old) b i }
-    ensures first { IsFirstStuck (routes_in map.now.frame sets.new) outs.now ((block + 1) * width map.now.frame.shape map.now.frame.vcs) result }
+    requires sets { length sets.old ≡ pages map.now.frame.shape map.now.frame.classes * width map.now.frame.shape map.now.frame.vcs }
+    requires outs { length outs.now ≡ pages map.now.frame.shape map.now.frame.classes }
+    requires page { page < pages map.now.frame.shape map.now.frame.classes }
+    requires first { IsFirstStuck (routes_in map.now.frame sets.old) outs.now (page * width map.now.frame.shape map.now.frame.vcs) first }
+    ensures left { (i : ℕ) → i < width map.now.frame.shape map.now.frame.vcs → page_set (routes_in map.now.frame sets.new) page i ≡ left_at (routes_in map.now.frame sets.old) outs.now page i }
+    ensures others { (b i : ℕ) → i < width map.now.frame.shape map.now.frame.vcs → b ≢ page → page_set (routes_in map.now.frame sets.new) b i ≡ page_set (routes_in map.now.frame sets.old) b i }
+    ensures first { IsFirstStuck (routes_in map.now.frame sets.new) outs.now ((page + 1) * width map.now.frame.shape map.now.frame.vcs) result }
 {
-    let (class, router, dst) = map.frame.block_parts(block);
+    let (class, router, dst) = map.frame.page_parts(page);
     let vcs = map.frame.vcs;
     let mut first = first;
     for input in 0..map.frame.width() {
@@ -53,31 +53,31 @@ fn trim_block(
             in_vc: input % vcs,
             dst,
         };
-        first = trim_entry(map, sets, outs, block, input, entry, first);
+        first = trim_entry(map, sets, outs, page, input, entry, first);
     }
     first
 }
 
-/// The same for one entry, that of an input channel of a block; `first` is the first such entry among those before.
+/// The same for one entry, that of an input channel of a page; `first` is the first such entry among those before.
 fn trim_entry(
     map: &Map,
     sets: &mut [ChannelSet],
     outs: &[ChannelSet],
-    block: usize,
+    page: usize,
     input: usize,
     entry: Entry,
     first: Option<Entry>,
 ) -> Option<Entry>
-    requires sets { length sets.old ≡ blocks map.now.frame.shape map.now.frame.classes * width map.now.frame.shape map.now.frame.vcs }
-    requires outs { length outs.now ≡ blocks map.now.frame.shape map.now.frame.classes }
-    requires block { block < blocks map.now.frame.shape map.now.frame.classes }
+    requires sets { length sets.old ≡ pages map.now.frame.shape map.now.frame.classes * width map.now.frame.shape map.now.frame.vcs }
+    requires outs { length outs.now ≡ pages map.now.frame.shape map.now.frame.classes }
+    requires page { page < pages map.now.frame.shape map.now.frame.classes }
     requires input { input < width map.now.frame.shape map.now.frame.vcs }
-    requires entry { entry ≡ entry_at (routes_in map.now.frame sets.old) block input }
-    requires first { IsFirstStuck (routes_in map.now.frame sets.old) outs.now (block * width map.now.frame.shape map.now.frame.vcs + input) first }
-    ensures sets { sets.new ≡ (if comes_at (routes_in map.now.frame sets.old) outs.now block input then sets.old else slice_set sets.old (block * width map.now.frame.shape map.now.frame.vcs + input) 0) }
-    ensures first { IsFirstStuck (routes_in map.now.frame sets.new) outs.now (block * width map.now.frame.shape map.now.frame.vcs + input + 1) result }
+    requires entry { entry ≡ entry_at (routes_in map.now.frame sets.old) page input }
+    requires first { IsFirstStuck (routes_in map.now.frame sets.old) outs.now (page * width map.now.frame.shape map.now.frame.vcs + input) first }
+    ensures sets { sets.new ≡ (if comes_at (routes_in map.now.frame sets.old) outs.now page input then sets.old else slice_set sets.old (page * width map.now.frame.shape map.now.frame.vcs + input) 0) }
+    ensures first { IsFirstStuck (routes_in map.now.frame sets.new) outs.now (page * width map.now.frame.shape map.now.frame.vcs + input + 1) result }
 {
-    let place = map.frame.slot(block, input);
+    let place = map.frame.slot(page, input);
     if !is_reached(map, outs, entry.class, entry.router, entry.dst, input) {
         sets[place] = ChannelSet::empty();
         return first;

@@ -9,7 +9,7 @@ use Rattle.noc_router.specs.declared.counter.Counter.{Counter}
 use Rattle.noc_router.specs.declared.verdict.Verdict.{Verdict}
 use Rattle.noc_router.specs.declared.verdict.Verdict.TheVariants.{Empty}
 use Rattle.noc_router.specs.Counts.{count_at, counts_from, counts_in, no_counter, one_if, whole_counts}
-use Rattle.noc_router.specs.Tally.{others_in, risen_at}
+use Rattle.noc_router.specs.Tally.{others_in, risen_at, risen_by}
 use Rattle.noc_router.specs.Verdict.{column}
 use Rattle.noc_router.specs.View.{counted, raised}
 use Rattle.noc_topo.specs.Words.{map_indexed}
@@ -36,26 +36,26 @@ pub more-length : (b : Bool) (n j : ℕ) (xs : List ℕ) → length (more_at b n
 more-length true n j xs = length-set xs j (get_or xs j 0 + n)
 more-length false n j xs = refl
 
-more-here : (b : Bool) (n j : ℕ) (xs : List ℕ) → j < length xs → get_or (more_at b n j xs) j 0 ≡ get_or xs j 0 + n * one_if b
+pub more-here : (b : Bool) (n j : ℕ) (xs : List ℕ) → j < length xs → get_or (more_at b n j xs) j 0 ≡ get_or xs j 0 + n * one_if b
 more-here true n j xs l = let e : get_or (set xs j (get_or xs j 0 + n)) j 0 ≡ get_or xs j 0 + n = get_or-set_same xs j (get_or xs j 0 + n) 0 l in omega arith
 more-here false n j xs l = omega arith
 
-more-there : (b : Bool) (n j m : ℕ) (xs : List ℕ) → m ≢ j → get_or (more_at b n j xs) m 0 ≡ get_or xs m 0
+pub more-there : (b : Bool) (n j m : ℕ) (xs : List ℕ) → m ≢ j → get_or (more_at b n j xs) m 0 ≡ get_or xs m 0
 more-there true n j m xs other = get_or-set_other xs j m (get_or xs j 0 + n) 0 other
 more-there false n j m xs other = refl
 
 -- .. its tail
-drop-risen : (n : ℕ) (xs : List ℕ) → 0 < n → drop 1 (set xs n (get_or xs n 0 + 1)) ≡ risen_at n (drop 1 xs)
-drop-risen zero xs l = absurd (omega arith)
-drop-risen (suc k) xs l =
+drop-risen : (a n : ℕ) (xs : List ℕ) → 0 < n → drop 1 (set xs n (get_or xs n 0 + a)) ≡ risen_by a n (drop 1 xs)
+drop-risen a zero xs l = absurd (omega arith)
+drop-risen a (suc k) xs l =
     let n : 1 + k ≡ suc k = omega arith in
-    ap (λ m. drop 1 (set xs m (get_or xs m 0 + 1))) (sym n)
-    ∙ drop-set-add 1 xs k (get_or xs (1 + k) 0 + 1)
-    ∙ ap (λ x. set (drop 1 xs) k (x + 1)) (sym (get_or-drop 1 xs k 0))
+    ap (λ m. drop 1 (set xs m (get_or xs m 0 + a))) (sym n)
+    ∙ drop-set-add 1 xs k (get_or xs (1 + k) 0 + a)
+    ∙ ap (λ x. set (drop 1 xs) k (x + a)) (sym (get_or-drop 1 xs k 0))
 
-pub drop-more : (b : Bool) (n : ℕ) (xs : List ℕ) → 0 < n → drop 1 (more_at b 1 n xs) ≡ (if b then risen_at n (drop 1 xs) else drop 1 xs)
-drop-more true n xs l = drop-risen n xs l
-drop-more false n xs l = refl
+pub drop-more : (b : Bool) (a n : ℕ) (xs : List ℕ) → 0 < n → drop 1 (more_at b a n xs) ≡ (if b then risen_by a n (drop 1 xs) else drop 1 xs)
+drop-more true a n xs l = drop-risen a n xs l
+drop-more false a n xs l = refl
 
 -- ---- what is written down, and what the counters have
 -- how much the counter of a verdict has for channel i
@@ -65,7 +65,7 @@ counter_has counters i j = count_at (get_or counters j no_counter) i
 pub whole-length : (counters : List Counter) (i : ℕ) (counts : List ℕ) → length (whole_counts counters i counts) ≡ length counts
 whole-length counters i counts = length-map_indexed (λ j n. n + counter_has counters i j) counts
 
-whole-at : (counters : List Counter) (i j : ℕ) (counts : List ℕ) → j < length counts → get_or (whole_counts counters i counts) j 0 ≡ get_or counts j 0 + counter_has counters i j
+pub whole-at : (counters : List Counter) (i j : ℕ) (counts : List ℕ) → j < length counts → get_or (whole_counts counters i counts) j 0 ≡ get_or counts j 0 + counter_has counters i j
 whole-at counters i j counts l = get_or-map_indexed (λ k n. n + counter_has counters i k) counts j 0 0 l
 
 -- counters that have nothing add nothing
@@ -143,7 +143,7 @@ counted-step false n cycles first t new s c l fits is =
     counts-from (raised cycles) first new t is (omega arith)
 
 -- the ten counts rise as the nine do
-counted-is : (cycles n : ℕ) (v : Verdict) (counts new : List ℕ) → column v ≡ n → n < 10 → length counts ≡ 10 → sum (drop 1 counts) ≤ cycles → cycles < 2 ^ 64
+pub counted-is : (cycles n : ℕ) (v : Verdict) (counts new : List ℕ) → column v ≡ n → n < 10 → length counts ≡ 10 → sum (drop 1 counts) ≤ cycles → cycles < 2 ^ 64
     → drop 1 new ≡ (if nat_lt cycles (2 ^ 64 - 1) then risen_at n (drop 1 counts) else drop 1 counts)
     → counts_in (raised cycles) new ≡ counted v (counts_in cycles counts)
 counted-is cycles n v counts new col small ten s fits is =
@@ -156,7 +156,7 @@ counted-is cycles n v counts new col small ten s fits is =
     ∙ ap (λ total. if nat_lt total (2 ^ 64 - 1) then set (first ∷ t) (column v) (get_or (first ∷ t) (column v) 0 + 1) else (first ∷ t)) (sym whole)
 
 -- a verdict has a place below ten
-column-small : (v : Verdict) → column v < 10
+pub column-small : (v : Verdict) → column v < 10
 column-small Empty = omega arith
 column-small _ = omega arith
 

@@ -21,6 +21,7 @@ pub mod SettleLemmas
 pub mod SiteLemmas
 pub mod StandLemmas
 pub mod StepRows
+pub mod StillLemmas
 pub mod SwitchLemmas
 pub mod TakeLemmas
 pub mod TallyLemmas
@@ -28,4 +29,5 @@ pub mod TurnLemmas
 pub mod VacantLemmas
 pub mod VerdictRows
 pub mod VerdictSetLemmas
+pub mod WaitLemmas
 pub mod WayLemmas

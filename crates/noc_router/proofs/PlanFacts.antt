@@ -138,7 +138,7 @@ pub record Lists (d : Decisions) (v : View) : Type 0 where
   pub wins : d.round.wins ≡ tabulate (ports v.site.grid) (winner_of (ready_of v.site.vcs (view_stands v)) v.site.vcs (ports v.site.grid) d.round.picks (pointers_of v.arbiters.outputs))
   pub findings : d.findings ≡ tabulate (size_of v.site) (finding_of d.round v)
 
-lists_of_round : (relation : _) (v : View) → Lists (planned relation v) v
+pub lists_of_round : (relation : _) (v : View) → Lists (planned relation v) v
 unfolding planned view_round
 lists_of_round relation v = record { grants = refl; picks = refl; wins = refl; findings = refl }
 

@@ -48,7 +48,7 @@ others-raised : (counters : List Counter) (counts counts' : List (List ℕ)) (i 
 others-raised counters counts counts' i j new here full some few ten written is =
     ap (λ xs. drop 1 (whole_counts (set counters j new) i xs)) written
     ∙ ap (drop 1) (whole-raised counters i j new here full (get_or counts i []) few ten is)
-    ∙ drop-more here j (whole_counts counters i (get_or counts i [])) some
+    ∙ drop-more here 1 j (whole_counts counters i (get_or counts i [])) some
 
 -- a verdict that is counted for the members of a set: the counter of the verdict is another, and sixteen are written down for the members of the other set
 pub record IsRaised (counters : List Counter) (counts : List (List ℕ)) (here full j : ℕ) (new : Counter) (counts' : List (List ℕ)) : Type 0 where
@@ -268,7 +268,7 @@ first_in [] k = Empty
 first_in ((bits, v) ∷ sets) k = if has_bit bits k then v else first_in sets k
 
 -- the verdict of a channel that holds nothing
-empty_is : (v : Verdict) → not (is_empty_verdict v) ≡ false → Empty ≡ v
+pub empty_is : (v : Verdict) → not (is_empty_verdict v) ≡ false → Empty ≡ v
 empty_is Empty e = refl
 empty_is Routed e = absurd (false≢true (sym e))
 empty_is Granted e = absurd (false≢true (sym e))

@@ -16,6 +16,7 @@ pub mod Settled
 pub mod Sound
 pub mod Standing
 pub mod Start
+pub mod Still
 pub mod Tally
 pub mod Verdict
 pub mod VerdictSets

@@ -12,10 +12,14 @@ use Rattle.noc_router.specs.declared.verdict.Finding.{Finding}
 abbrev pub finding_at : List Finding → ℕ → Finding
 finding_at findings i = slice_index_or findings i empty_finding
 
--- the counts of the nine verdicts behind Empty, with one more for the verdict with this place in the order
+-- the counts of the nine verdicts behind Empty, with n more for the verdict with this place in the order
+abbrev pub risen_by : ℕ → ℕ → List ℕ → List ℕ
+risen_by n zero others = others
+risen_by n (suc k) others = slice_set others k (slice_index others k + n)
+
+-- .. with one more
 abbrev pub risen_at : ℕ → List ℕ → List ℕ
-risen_at zero others = others
-risen_at (suc k) others = slice_set others k (slice_index others k + 1)
+risen_at = risen_by 1
 
 -- the counts of channel i of the nine verdicts behind Empty, with what the counters have
 abbrev pub others_in : List Counter → List (List ℕ) → ℕ → List ℕ

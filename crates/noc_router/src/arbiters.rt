@@ -1,6 +1,7 @@
 //! The arbiters of one router.
 
 ghost use Rattle.std.specs.Prelude.{◌≡◌, ◌*◌, ◌<◌, ◌≤◌, All, IfOk, vec_len};
+ghost use Rattle.noc_packet.specs.declared.limits.TheConstants.{MAX_CHANNELS, MAX_PORTS};
 ghost use Rattle.noc_router.specs.Verdict.{opening_arbiters};
 
 use noc_alloc::Arbiter;
@@ -27,9 +28,9 @@ pub(crate) struct Arbiters {
 impl Arbiters {
     pub(crate) fn new(alloc: Global, ports: usize, vcs: usize) -> Result<Arbiters, Memory>
         requires some_port { 0 < ports }
-        requires ports { ports ≤ 7 }
+        requires ports { ports ≤ MAX_PORTS }
         requires some_vc { 0 < vcs }
-        requires vcs { vcs ≤ 8 }
+        requires vcs { vcs ≤ MAX_CHANNELS }
         ensures sizes { IfOk result (λ arbiters. (arbiters.ports ≡ ports) × (arbiters.vcs ≡ vcs)) }
         ensures channels { IfOk result (λ arbiters. arbiters.channels.items ≡ (opening_arbiters ports vcs).channels) }
         ensures inputs { IfOk result (λ arbiters. arbiters.inputs.items ≡ (opening_arbiters ports vcs).inputs) }

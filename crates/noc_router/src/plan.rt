@@ -11,6 +11,7 @@ ghost use Rattle.noc_router.specs.Verdict.{arbiters_after, is_event, is_granted,
 
 use crate::arbiters::Arbiters;
 use crate::requests::Requests;
+use crate::verdict::Verdict;
 use crate::verdict_sets::VerdictSets;
 use noc_packet::{ChannelSet, Memory};
 use noc_route::Relation;
@@ -84,6 +85,14 @@ impl Plan {
         ensures { result ≡ is_granted (slice_index_or self.now.verdicts index Empty) }
     {
         !self.verdicts.moved.contains(index) && self.verdicts.granted.contains(index)
+    }
+
+    // The verdict on an input channel.
+    pub(crate) fn verdict(&self, index: usize) -> Verdict
+        requires { index < length self.now.verdicts }
+        ensures { result ≡ slice_index_or self.now.verdicts index Empty }
+    {
+        self.verdicts.verdict(index)
     }
 
     // The output channel that an input channel asks for.

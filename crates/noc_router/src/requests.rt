@@ -5,7 +5,7 @@ ghost use Rattle.noc_alloc.specs.Allocation.{pick_of};
 ghost use Rattle.noc_alloc.specs.Arbiter.{turn_at};
 ghost use Rattle.noc_router.specs.Offers.{farther, offered};
 ghost use Rattle.noc_packet.specs.Set.{has_bit};
-ghost use Rattle.noc_packet.specs.declared.limits.TheConstants.{INDICES};
+ghost use Rattle.noc_packet.specs.declared.limits.TheConstants.{INDICES, MAX_PORTS};
 ghost use Rattle.noc_router.specs.Members.{AreBelow};
 ghost use Rattle.noc_router.specs.Requests.{AllBelow, AreQuiet, is_given, pick_in};
 
@@ -30,7 +30,7 @@ pub(crate) struct Requests {
     grants: Places,
     picks: Places,
     wins: Places,
-    ghost few_ports: { ports ≤ 7 },
+    ghost few_ports: { ports ≤ MAX_PORTS },
     ghost few: { size ≤ INDICES },
     ghost a_route_each: { vec_len routes ≡ size },
     ghost an_ask_each: { length asks ≡ size },
@@ -50,7 +50,7 @@ impl Requests {
 
     // No requests, for routers with so many ports, and so many channels in and out.
     pub(crate) fn new(alloc: Global, ports: usize, size: usize) -> Result<Requests, Memory>
-        requires ports { ports ≤ 7 }
+        requires ports { ports ≤ MAX_PORTS }
         requires size { size ≤ INDICES }
         ensures ports { IfOk result (λ requests. requests.ports ≡ ports) }
         ensures size { IfOk result (λ requests. requests.size ≡ size) }

@@ -1,7 +1,7 @@
 //! The router.
 
 ghost use Rattle.std.specs.List.Sorted.{IsStrictlyIncreasing};
-ghost use Rattle.std.specs.Prelude.{◌≡◌, ◌+◌, ◌*◌, ◌<◌, ◌≤◌, All, IfOk, IfSome, Some, map, true, ◌⊎◌, length, ℕ, Bool, not, ◌&&◌, None, replicate, slice_index_or, [], false, if◌then◌else◌};
+ghost use Rattle.std.specs.Prelude.{◌≡◌, ◌+◌, ◌-◌, ◌*◌, ◌<◌, ◌≤◌, All, IfOk, IfSome, Some, map, true, ◌⊎◌, length, ℕ, Bool, not, ◌&&◌, None, replicate, slice_index_or, [], false, if◌then◌else◌};
 ghost use Rattle.noc_topo.specs.Shape.{IsGrid, nodes as nodes_of, ports as ports_of, local_port, neighbour as neighbour_of};
 ghost use Rattle.noc_topo.specs.Words.{tabulate};
 ghost use Rattle.noc_router.specs.Offers.{offered};
@@ -22,6 +22,7 @@ ghost use Rattle.noc_router.specs.VerdictSets.{verdict_by};
 ghost use Rattle.noc_route.specs.Routes.{Routes};
 ghost use Rattle.noc_packet.specs.Set.{has_bit};
 ghost use Rattle.noc_router.specs.Start.{IsStart};
+ghost use Rattle.noc_router.specs.Still.{IsHeldBefore, takes_effect, waited};
 ghost use Rattle.noc_router.specs.Tally.{finding_at};
 ghost use Rattle.noc_router.specs.Verdict.{asks_of, is_event, ready_of, arbiters_after};
 ghost use Rattle.noc_router.specs.View.{IsRelationOf, local_channel, size_of, view_buffer, opening_view, with_flit, with_credit, taken, all_taken, injected, planned, outcome, committed, beat_to_put, put, idle_beats, local_step, finding_of, route_for, route_of, view_claim, view_output, view_stands, first_flit, view_input, port_and_vc, with_arrival, counted};
@@ -423,12 +424,67 @@ impl Router {
         ensures view { self.new ≡ record (committed (planned relation.now self.old) self.old) { findings = self.old.findings } }
         ensures plan { IsDecidedFor (ports_of self.old.site.grid) self.old.site.vcs plan.new }
     {
-        if self.channels.occupied().is_empty() {
+        if self.holds_nothing() {
             self.pass();
         } else {
             self.plan(relation, plan);
             self.take_effect(plan);
         }
+    }
+
+    /// Whether no verdict takes effect in a cycle in which nothing comes and nothing is injected.
+    pub fn is_still(&self, relation: &Relation, plan: &mut Plan) -> bool
+        requires relation { IsRelationOf relation.now self.now }
+        requires plan { IsDecidedFor (ports_of self.now.site.grid) self.now.site.vcs plan.old }
+        ensures value { result ≡ not (takes_effect relation.now self.now) }
+        ensures plan { IsDecidedFor (ports_of self.now.site.grid) self.now.site.vcs plan.new }
+    {
+        if self.holds_nothing() {
+            return true;
+        }
+        self.plan(relation, plan);
+        plan.events().is_empty()
+    }
+
+    /// The first cycle in which `inject` would inject a flit, if nothing happens before: 0 where it would in any, None where in none.
+    pub fn next_injection(&self) -> Option<u64>
+        ensures before { (end : ℕ) → IfSome result (λ due. end ≤ due) → IsHeldBefore end self.now }
+        ensures due { IfSome result (λ due. (injected due self.now).had_event ≡ true) }
+    {
+        let due = self.source.next_due()?;
+        match self.source.channel() {
+            Some(vc) => {
+                let room = self.channels.has_room((self.ports - 1) * self.vcs + vc);
+                if room { Some(0) } else { None }
+            }
+            None if self.vacant_channel().is_some() => Some(due),
+            None => None,
+        }
+    }
+
+    /// The cycles from `first` to before `end` at once, where nothing happens in any of them: nothing comes, nothing is injected, and
+    /// no verdict takes effect, so that the same verdicts are counted in each. `findings` stay.
+    pub fn wait(&mut self, relation: &Relation, plan: &mut Plan, first: u64, end: u64)
+        requires relation { IsRelationOf relation.now self.old }
+        requires plan { IsDecidedFor (ports_of self.old.site.grid) self.old.site.vcs plan.old }
+        requires order { first < end }
+        ensures view { self.new ≡ waited relation.now (end - first) (end - 1) self.old }
+        ensures plan { IsDecidedFor (ports_of self.old.site.grid) self.old.site.vcs plan.new }
+    {
+        self.cycle = end - 1;
+        if self.holds_nothing() {
+            self.tally.count_empty(end - first);
+        } else {
+            self.plan(relation, plan);
+            self.tally.count_more(&self.channels, plan, end - first);
+        }
+    }
+
+    // Whether no input channel holds a packet or a flit.
+    fn holds_nothing(&self) -> bool
+        ensures { result ≡ true → (i : ℕ) → i < size_of self.now.site → is_occupied (view_input self.now i) (view_buffer self.now i) ≡ false }
+    {
+        self.channels.occupied().is_empty()
     }
 
     // A cycle in which no input channel holds anything.
@@ -476,7 +532,7 @@ impl Router {
     fn count_empty(&mut self)
         ensures { self.new ≡ record self.old { counts = map (counted Empty) self.old.counts; to_put = idle_beats self.old.site } }
     {
-        self.tally.count_empty();
+        self.tally.count_empty(1);
         self.links.clear();
     }
 

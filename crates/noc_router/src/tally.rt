@@ -1,6 +1,6 @@
 //! What a router has counted and found.
 
-ghost use Rattle.std.specs.Prelude.{◌≡◌, ℕ, ◌+◌, ◌^◌, ◌<◌, ◌≤◌, ◌&&◌, not, None, IfOk, if◌then◌else◌, [], true, false, length, map, sum, slice_index, slice_index_or, slice_set, replicate, vec_len};
+ghost use Rattle.std.specs.Prelude.{◌≡◌, ℕ, ◌+◌, ◌^◌, ◌<◌, ◌≤◌, ◌&&◌, not, None, IfOk, if◌then◌else◌, [], true, false, length, map, sum, nat_eq, slice_index, slice_index_or, slice_set, replicate, vec_len};
 ghost use Rattle.noc_packet.specs.Set.{has_bit};
 ghost use Rattle.noc_packet.specs.declared.limits.TheConstants.{INDICES};
 ghost use Rattle.noc_topo.specs.Words.{map_indexed, tabulate};
@@ -9,9 +9,10 @@ ghost use Rattle.noc_router.specs.Members.{AreBelow};
 ghost use Rattle.noc_ring.specs.Rings.{ring_at};
 ghost use Rattle.noc_router.specs.Sound.{input_at, is_occupied, named};
 ghost use Rattle.noc_router.specs.Settled.{finding_by, outcome_verdict};
-ghost use Rattle.noc_router.specs.Tally.{empty_finding, finding_at, others_in, risen_at, IsTally, is_empty_verdict};
+ghost use Rattle.noc_router.specs.Tally.{empty_finding, finding_at, others_in, risen_at, risen_by, IsTally, is_empty_verdict};
 ghost use Rattle.noc_router.specs.Verdict.{column};
 ghost use Rattle.noc_router.specs.declared.verdict.Verdict.TheVariants.{Empty};
+ghost use Rattle.noc_router.specs.Still.{counted_times};
 ghost use Rattle.noc_router.specs.View.{counted};
 
 use crate::channels::Channels;
@@ -86,14 +87,48 @@ impl Tally {
         self.raise(rest, sets.lost_switch, Verdict::LostSwitch);
     }
 
-    // Counts a cycle in which every channel is empty.
-    pub(crate) fn count_empty(&mut self)
+    // Counts so many more cycles with this plan of these channels, in which just the occupied ones have another verdict than Empty.
+    pub(crate) fn count_more(&mut self, channels: &Channels, plan: &Plan, cycles: u64)
+        requires channels { channels.now.size ≡ vec_len self.old.counts }
+        requires verdicts { length plan.now.verdicts ≡ vec_len self.old.counts }
+        requires occupied { (k : ℕ) → k < vec_len self.old.counts → is_occupied (input_at channels.now.inputs.items k) (ring_at channels.now.bank k) ≡ not (is_empty_verdict (outcome_verdict plan.now k)) }
         ensures size { vec_len self.new.counts ≡ vec_len self.old.counts }
         ensures begun { self.new.begun ≡ self.old.begun }
         ensures findings { self.new.findings.items ≡ self.old.findings.items }
-        ensures counts { counts_from self.new.cycles self.new.counters self.new.counts.items ≡ map (counted Empty) (counts_from self.old.cycles self.old.counters self.old.counts.items) }
+        ensures counts { counts_from self.new.cycles self.new.counters self.new.counts.items ≡ map_indexed (λ i counts. counted_times cycles (outcome_verdict plan.now i) counts) (counts_from self.old.cycles self.old.counters self.old.counts.items) }
     {
-        self.cycles = self.cycles.saturating_add(1);
+        let more = cycles.min(u64::MAX - self.cycles);
+        self.cycles += more;
+        let mut rest = channels.occupied();
+        while let Some(index) = rest.least_common(&rest) {
+            rest = rest.without(index);
+            self.add(index, plan.verdict(index), more);
+        }
+    }
+
+    // So many more of a verdict for one channel, which can count them.
+    fn add(&mut self, index: usize, verdict: Verdict, cycles: u64)
+        requires verdict { 0 < column verdict }
+        requires index { index < vec_len self.old.counts }
+        requires room { sum (others_in self.old.counters self.old.counts.items index) + cycles ≤ self.old.cycles }
+        ensures size { vec_len self.new.counts ≡ vec_len self.old.counts }
+        ensures cycles { self.new.cycles ≡ self.old.cycles }
+        ensures begun { self.new.begun ≡ self.old.begun }
+        ensures findings { self.new.findings.items ≡ self.old.findings.items }
+        ensures counters { self.new.counters ≡ self.old.counters }
+        ensures others { (k : ℕ) → k < vec_len self.old.counts → others_in self.new.counters self.new.counts.items k ≡ (if nat_eq k index then risen_by cycles (column verdict) (others_in self.old.counters self.old.counts.items k) else others_in self.old.counters self.old.counts.items k) }
+    {
+        self.counts[index][place_of(verdict)] += cycles;
+    }
+
+    // Counts so many more cycles in which every channel is empty.
+    pub(crate) fn count_empty(&mut self, cycles: u64)
+        ensures size { vec_len self.new.counts ≡ vec_len self.old.counts }
+        ensures begun { self.new.begun ≡ self.old.begun }
+        ensures findings { self.new.findings.items ≡ self.old.findings.items }
+        ensures counts { counts_from self.new.cycles self.new.counters self.new.counts.items ≡ map (counted_times cycles Empty) (counts_from self.old.cycles self.old.counters self.old.counts.items) }
+    {
+        self.cycles = self.cycles.saturating_add(cycles);
     }
 
     // One more of a verdict for those channels of a set that are left, each of which can count one more. The answer is what is left then.

@@ -19,7 +19,8 @@ use Rattle.noc_tiles.specs.declared.tile.Tile.{Tile}
 use Rattle.noc_tiles.proofs.FlatLemmas.{offset, flat-at, offset-lt, apart, Found, flat-find, column, fed_all-at, length-puts, length-put_by, puts-at}
 use Rattle.noc_tiles.proofs.RunLemmas.{length-fed_all}
 use Rattle.noc_tiles.proofs.SentLemmas.{own-true, own-false, own-within}
-use Rattle.noc_tiles.proofs.ClosingLaw.{Trace, carried, wire, steps-count, views-after}
+use Rattle.noc_tiles.specs.Together.{Trace, carried, wire}
+use Rattle.noc_tiles.proofs.ClosingLaw.{steps-count, views-after}
 
 -- ---- the runs of the tiles, one by one
 

@@ -8,22 +8,17 @@ use Rattle.noc_topo.specs.Shape.{local_port, neighbour, nodes}
 use Rattle.noc_topo.proofs.WordLemmas.{tabulate-from_each, get_or-map_indexed, length-map_indexed}
 use Rattle.noc_packet.specs.declared.packet.Beat.{Beat}
 use Rattle.noc_router.specs.View.{View, local_step, idle_beat}
-use Rattle.noc_net.specs.Halves.{beat_at}
-use Rattle.noc_net.specs.Lockstep.{lockstep_at, beats_at}
-use Rattle.noc_net.specs.Network.{Setup}
+use Rattle.noc_model.specs.Halves.{beat_at}
+use Rattle.noc_model.specs.Lockstep.{lockstep_at, beats_at}
+use Rattle.noc_model.specs.Network.{Setup}
 use Rattle.noc_model.proofs.RunLemmas.{count_views, count_row}
 use Rattle.noc_model.proofs.SentLemmas.{step_of, next_view, sent_beat, unlinked_beat}
 use Rattle.noc_tiles.specs.TileStep.{Layout, TileState, is_own, is_from, is_inside, beat_among, filled, arrived, steps, sent_of, out_at, after_steps, put_by, cycled, after}
+use Rattle.noc_tiles.specs.Together.{Trace, Agrees, TilesRan, carried, put_at, steps_at, tile_at, wire}
 use Rattle.noc_tiles.proofs.CycleLemmas.{some_view, no_link}
 use Rattle.noc_tiles.proofs.FillLemmas.{HasOrGets, filled_right}
 use Rattle.noc_tiles.proofs.RunLemmas.{after-more}
 use Rattle.noc_tiles.proofs.SentLemmas.{own-true, own-within}
-
--- a run of a tile: its layout, its state at the start, and the rows of beats that it received
-pub record Trace : Type 0 where
-  pub layout : Layout
-  pub state : TileState
-  pub rows : List (List Beat)
 
 pub steps-count : (net : Setup) (P : Layout) (n : ℕ) (T : TileState) (row : List Beat) → length (steps net.relation P n T row) ≡ length T.views
 unfolding steps
@@ -51,82 +46,39 @@ from_inside first count None e = refl
 from_inside first count (Some p) e = e
 
 module _ (net : Setup) (n : ℕ) where
-  abbrev pub state_at : Trace → ℕ → TileState
-  state_at t i = after net.relation t.layout n t.state (take i t.rows)
-
-  abbrev pub steps_at : Trace → ℕ → List (View × List Beat)
-  steps_at t i = steps net.relation t.layout (n + i) (state_at t i) (get_or t.rows i [])
-
-  abbrev pub put_at : Trace → ℕ → List Beat
-  put_at t i = put_by net.relation t.layout (steps_at t i)
-
-  -- the beat of the lockstep run on a wire, at this count
-  abbrev pub wire : ℕ → ℕ → ℕ → Beat
-  wire i r q = beat_at (lockstep_at net i).wires r q
-
-  -- the beat that a wire brings in cycle i: first w, and then what is put at o
-  abbrev pub carried : Beat → Trace → ℕ → ℕ → Beat
-  carried w t o zero = w
-  carried w t o (suc i) = get_or (put_at t i) o idle_beat
-
-  -- no other tile sends on the wire that arrives at port q of router c of the tile
-  abbrev pub IsInner : Trace → ℕ → ℕ → Type 0
-  IsInner t c q = is_inside t.layout.first (length t.state.views) (neighbour net.relation.grid (t.layout.first + c) q) ≡ true
-
-  -- the state of the tile is that of the lockstep run, after i cycles
-  pub record Agrees (t : Trace) (i : ℕ) : Type 0 where
-    pub many : length (state_at t i).views ≡ length t.state.views
-    pub views : (c : ℕ) (d : View) → c < length t.state.views → get_or (state_at t i).views c d ≡ get_or (lockstep_at net (n + i)).views (t.layout.first + c) d
-    pub wires : (c q : ℕ) → c < length t.state.views → IsInner t c q → (state_at t i).wires (t.layout.first + c) q ≡ wire (n + i) (t.layout.first + c) q
-
   -- what it puts in cycle i are the beats of the lockstep run
   abbrev pub PutsRight : Trace → ℕ → Type 0
-  PutsRight t i = (o : ℕ) → o < length t.layout.outs → get_or (put_at t i) o idle_beat ≡ wire (n + suc i) (get_or t.layout.outs o (0, 0)).0 (get_or t.layout.outs o (0, 0)).1
+  PutsRight t i = (o : ℕ) → o < length t.layout.outs → get_or (put_at net n t i) o idle_beat ≡ wire net n (n + suc i) (get_or t.layout.outs o (0, 0)).0 (get_or t.layout.outs o (0, 0)).1
 
   abbrev pub RowRight : Trace → ℕ → Type 0
-  RowRight t i = (j : ℕ) → j < length t.layout.ins → get_or (get_or t.rows i []) j idle_beat ≡ wire (n + i) (get_or t.layout.ins j (0, 0)).0 (get_or t.layout.ins j (0, 0)).1
+  RowRight t i = (j : ℕ) → j < length t.layout.ins → get_or (get_or t.rows i []) j idle_beat ≡ wire net n (n + i) (get_or t.layout.ins j (0, 0)).0 (get_or t.layout.ins j (0, 0)).1
 
-  -- m tiles of the network at count n, that ran k cycles
-  pub record TilesRan (k m : ℕ) (T : ℕ → Trace) : Type 0 where
-    pub within : (t : ℕ) → t < m → (T t).layout.first + length (T t).state.views ≤ nodes net.relation.grid
-    pub views : (t c : ℕ) (d : View) → t < m → c < length (T t).state.views → get_or (T t).state.views c d ≡ get_or (lockstep_at net n).views ((T t).layout.first + c) d
-    pub wires : (t c q : ℕ) → t < m → c < length (T t).state.views → IsInner (T t) c q → (T t).state.wires ((T t).layout.first + c) q ≡ wire n ((T t).layout.first + c) q
-    pub outs : (t o : ℕ) → t < m → o < length (T t).layout.outs
-        → ((get_or (T t).layout.outs o (0, 0)).0 < nodes net.relation.grid)
-        × (is_from (T t).layout.first (length (T t).state.views) (neighbour net.relation.grid (get_or (T t).layout.outs o (0, 0)).0 (get_or (T t).layout.outs o (0, 0)).1) ≡ true)
-    pub covers : (t c q : ℕ) → t < m → c < length (T t).state.views → IsInner (T t) c q ⊎ ((j : ℕ) × (j < length (T t).layout.ins) × (get_or (T t).layout.ins j (0, 0) ≡ ((T t).layout.first + c, q)))
-    pub count : (t : ℕ) → t < m → length (T t).rows ≡ k
-    pub width : (t i : ℕ) → t < m → i < k → length (get_or (T t).rows i []) ≡ length (T t).layout.ins
-    pub wired : (t j : ℕ) → t < m → j < length (T t).layout.ins
-        → (u : ℕ) × (o : ℕ) × (u < m) × (o < length (T u).layout.outs) × (get_or (T u).layout.outs o (0, 0) ≡ get_or (T t).layout.ins j (0, 0))
-        × ((i : ℕ) → i < k → get_or (get_or (T t).rows i []) j idle_beat ≡ carried (wire n (get_or (T t).layout.ins j (0, 0)).0 (get_or (T t).layout.ins j (0, 0)).1) (T u) o i)
-
-  pub state_at-next : (t : Trace) (i : ℕ) → i < length t.rows → state_at t (suc i) ≡ after_steps net.relation t.layout (steps_at t i)
+  pub state_at-next : (t : Trace) (i : ℕ) → i < length t.rows → tile_at net n t (suc i) ≡ after_steps net.relation t.layout (steps_at net n t i)
   state_at-next t i l =
       let e : suc i ≡ i + 1 = omega arith in
       ap (λ q. after net.relation t.layout n t.state (take q t.rows)) e
       ∙ (ap (after net.relation t.layout n t.state) (take_more t.rows i [] l)
       ∙ (after-more net.relation t.layout n t.state (take i t.rows) (get_or t.rows i [])
-      ∙ ap (λ q. cycled net.relation t.layout (n + q) (state_at t i) (get_or t.rows i [])) (length-take-le i t.rows (omega arith))))
+      ∙ ap (λ q. cycled net.relation t.layout (n + q) (tile_at net n t i) (get_or t.rows i [])) (length-take-le i t.rows (omega arith))))
 
-  module _ (k m : ℕ) (T : ℕ → Trace) (tiled : TilesRan k m T) where
-    -- every wire that arrives at the tile has the beat of the lockstep run, once the row is in
-    full-right : (t i : ℕ) → t < m → i < k → Agrees (T t) i → RowRight (T t) i → (c q : ℕ) → c < length (T t).state.views
-        → filled (state_at (T t) i).wires (T t).layout.ins (get_or (T t).rows i []) ((T t).layout.first + c) q ≡ wire (n + i) ((T t).layout.first + c) q
+  module _ (k m : ℕ) (T : ℕ → Trace) (tiled : TilesRan net n k m T) where
+    -- every wire net n that arrives at the tile has the beat of the lockstep run, once the row is in
+    full-right : (t i : ℕ) → t < m → i < k → Agrees net n (T t) i → RowRight (T t) i → (c q : ℕ) → c < length (T t).state.views
+        → filled (tile_at net n (T t) i).wires (T t).layout.ins (get_or (T t).rows i []) ((T t).layout.first + c) q ≡ wire net n (n + i) ((T t).layout.first + c) q
     full-right t i tm ik a right c q l =
         let P = (T t).layout in
         let row = get_or (T t).rows i [] in
         let w : length row ≡ length P.ins = tiled.width t i tm ik in
-        let has : HasOrGets (state_at (T t) i).wires P.ins row (wire (n + i)) (P.first + c) q =
+        let has : HasOrGets (tile_at net n (T t) i).wires P.ins row (wire net n (n + i)) (P.first + c) q =
         ⊎_elim (λ h. inl (a.wires c q l h)) (λ h. inr (h.0, h.1, (let z = h.1 in omega arith), h.2)) (tiled.covers t c q tm l) in
-        filled_right (state_at (T t) i).wires P.ins row (wire (n + i)) (P.first + c) q (λ j h h'. right j h') has
+        filled_right (tile_at net n (T t) i).wires P.ins row (wire net n (n + i)) (P.first + c) q (λ j h h'. right j h') has
 
     -- each router makes what it makes in the lockstep run
-    step-right : (t i : ℕ) → t < m → i < k → Agrees (T t) i → RowRight (T t) i → (c : ℕ) (d : View) (e : View × List Beat) → c < length (T t).state.views
-        → get_or (steps_at (T t) i) c e ≡ step_of net (n + i) ((T t).layout.first + c) (get_or (lockstep_at net (n + i)).views ((T t).layout.first + c) d)
+    step-right : (t i : ℕ) → t < m → i < k → Agrees net n (T t) i → RowRight (T t) i → (c : ℕ) (d : View) (e : View × List Beat) → c < length (T t).state.views
+        → get_or (steps_at net n (T t) i) c e ≡ step_of net (n + i) ((T t).layout.first + c) (get_or (lockstep_at net (n + i)).views ((T t).layout.first + c) d)
     step-right t i tm ik a right c d e l =
         let P = (T t).layout in
-        let S = state_at (T t) i in
+        let S = tile_at net n (T t) i in
         let row = get_or (T t).rows i [] in
         let r = P.first + c in
         let r_in : P.first + c < nodes net.relation.grid = let z = tiled.within t tm in omega arith in
@@ -141,21 +93,21 @@ module _ (net : Setup) (n : ℕ) where
     in-links : (r q : ℕ) (p : ℕ × ℕ) → neighbour net.relation.grid r q ≡ Some p → q < local_port net.relation.grid
     in-links r q p e = ⊎_elim (λ (l : q < local_port net.relation.grid). l) (λ (h : local_port net.relation.grid ≤ q). let z = no_link net.relation r q h in absurd (cc (z, e))) (cases_lt q (local_port net.relation.grid))
 
-    -- what goes out on a wire of the tile is the beat of the lockstep run
-    out-right : (t i : ℕ) → t < m → i < k → Agrees (T t) i → RowRight (T t) i → (r q : ℕ) → r < nodes net.relation.grid → (from : Option (ℕ × ℕ)) → neighbour net.relation.grid r q ≡ from
-        → is_inside (T t).layout.first (length (T t).state.views) from ≡ true → out_at net.relation (T t).layout (steps_at (T t) i) r q ≡ wire (n + i + 1) r q
+    -- what goes out on a wire net n of the tile is the beat of the lockstep run
+    out-right : (t i : ℕ) → t < m → i < k → Agrees net n (T t) i → RowRight (T t) i → (r q : ℕ) → r < nodes net.relation.grid → (from : Option (ℕ × ℕ)) → neighbour net.relation.grid r q ≡ from
+        → is_inside (T t).layout.first (length (T t).state.views) from ≡ true → out_at net.relation (T t).layout (steps_at net n (T t) i) r q ≡ wire net n (n + i + 1) r q
     out-right t i tm ik a right r q l None e h =
-        ap (λ from. beat_among (T t).layout.first (length (sent_of net.relation (T t).layout (steps_at (T t) i))) (sent_of net.relation (T t).layout (steps_at (T t) i)) from) e
+        ap (λ from. beat_among (T t).layout.first (length (sent_of net.relation (T t).layout (steps_at net n (T t) i))) (sent_of net.relation (T t).layout (steps_at net n (T t) i)) from) e
         ∙ sym (unlinked_beat net (n + i + 1) r q e)
     out-right t i tm ik a right r q l (Some (s, p)) e h =
         let P = (T t).layout in
-        let S = steps_at (T t) i in
+        let S = steps_at net n (T t) i in
         let sent = sent_of net.relation P S in
         let d = some_view net.relation in
         let own = own-within P.first (length (T t).state.views) s h in
         let own0 = own.0 in
         let own1 = own.1 in
-        let sc : length S ≡ length (T t).state.views = steps-count net P (n + i) (state_at (T t) i) (get_or (T t).rows i []) ∙ a.many in
+        let sc : length S ≡ length (T t).state.views = steps-count net P (n + i) (tile_at net n (T t) i) (get_or (T t).rows i []) ∙ a.many in
         let c : s - P.first < length (T t).state.views = omega arith in
         let back : P.first + (s - P.first) ≡ s = omega arith in
         let s_in : s < nodes net.relation.grid = let z = tiled.within t tm in omega arith in
@@ -170,15 +122,15 @@ module _ (net : Setup) (n : ℕ) where
         ∙ ap (λ z. (step_of net (n + i) z (get_or (lockstep_at net (n + i)).views z d)).1) back))
         ∙ sym (sent_beat net (n + i) s p r q v (has-view (n + i) s d s_in) l (in-links r q (s, p) e) e)))
 
-    next-agrees : (t i : ℕ) → t < m → i < k → Agrees (T t) i → RowRight (T t) i → Agrees (T t) (suc i)
+    next-agrees : (t i : ℕ) → t < m → i < k → Agrees net n (T t) i → RowRight (T t) i → Agrees net n (T t) (suc i)
     next-agrees t i tm ik a right =
         let P = (T t).layout in
-        let S = steps_at (T t) i in
+        let S = steps_at net n (T t) i in
         let d0 = some_view net.relation in
         let rows : i < length (T t).rows = let z = tiled.count t tm in omega arith in
-        let is : state_at (T t) (suc i) ≡ after_steps net.relation P S = state_at-next (T t) i rows in
-        let vs : (state_at (T t) (suc i)).views ≡ map (λ (s : View × List Beat). s.0) S = ap (λ (z : TileState). z.views) is ∙ views-after net P S in
-        let sc : length S ≡ length (T t).state.views = steps-count net P (n + i) (state_at (T t) i) (get_or (T t).rows i []) ∙ a.many in
+        let is : tile_at net n (T t) (suc i) ≡ after_steps net.relation P S = state_at-next (T t) i rows in
+        let vs : (tile_at net n (T t) (suc i)).views ≡ map (λ (s : View × List Beat). s.0) S = ap (λ (z : TileState). z.views) is ∙ views-after net P S in
+        let sc : length S ≡ length (T t).state.views = steps-count net P (n + i) (tile_at net n (T t) i) (get_or (T t).rows i []) ∙ a.many in
         let wide = tiled.within t tm in
         let more : n + i + 1 ≡ n + suc i = omega arith in
         record {
@@ -196,39 +148,39 @@ module _ (net : Setup) (n : ℕ) where
               ap (λ (z : TileState). z.wires (P.first + c) q) is
               ∙ (wires-after net P S (P.first + c) q (own-true P.first (length S) (P.first + c) (omega arith) (omega arith))
               ∙ (out-right t i tm ik a right (P.first + c) q r_in (neighbour net.relation.grid (P.first + c) q) refl h
-              ∙ ap (λ z. wire z (P.first + c) q) more));
+              ∙ ap (λ z. wire net n z (P.first + c) q) more));
         }
 
-    puts-right : (t i : ℕ) → t < m → i < k → Agrees (T t) i → RowRight (T t) i → PutsRight (T t) i
+    puts-right : (t i : ℕ) → t < m → i < k → Agrees net n (T t) i → RowRight (T t) i → PutsRight (T t) i
     puts-right t i tm ik a right o l =
         let P = (T t).layout in
         let p = get_or P.outs o (0, 0) in
         let w = tiled.outs t o tm l in
         let from = neighbour net.relation.grid p.0 p.1 in
-        put_by-at net P (steps_at (T t) i) o l
+        put_by-at net P (steps_at net n (T t) i) o l
         ∙ (out-right t i tm ik a right p.0 p.1 w.0 from refl (from_inside P.first (length (T t).state.views) from w.1)
-        ∙ ap (λ z. wire z p.0 p.1) (omega arith))
+        ∙ ap (λ z. wire net n z p.0 p.1) (omega arith))
 
     -- what is known of all tiles after i cycles
     pub record Together (i : ℕ) : Type 0 where
-      pub agree : (t : ℕ) → t < m → Agrees (T t) i
+      pub agree : (t : ℕ) → t < m → Agrees net n (T t) i
       pub put : (t c : ℕ) → t < m → c < i → PutsRight (T t) c
 
     row-by : (t : ℕ) → t < m → (j : ℕ) → j < length (T t).layout.ins → (i : ℕ) → i < k → Together i
-        → get_or (get_or (T t).rows i []) j idle_beat ≡ wire (n + i) (get_or (T t).layout.ins j (0, 0)).0 (get_or (T t).layout.ins j (0, 0)).1
+        → get_or (get_or (T t).rows i []) j idle_beat ≡ wire net n (n + i) (get_or (T t).layout.ins j (0, 0)).0 (get_or (T t).layout.ins j (0, 0)).1
     row-by t tm j l zero ik g =
         let p = get_or (T t).layout.ins j (0, 0) in
-        (tiled.wired t j tm l).5 zero ik ∙ ap (λ z. wire z p.0 p.1) (omega arith)
+        (tiled.wired t j tm l).5 zero ik ∙ ap (λ z. wire net n z p.0 p.1) (omega arith)
     row-by t tm j l (suc i) ik g =
         let w = tiled.wired t j tm l in
-        w.5 (suc i) ik ∙ (g.put w.0 i w.2 (omega arith) w.1 w.3 ∙ ap (λ (p : ℕ × ℕ). wire (n + suc i) p.0 p.1) w.4)
+        w.5 (suc i) ik ∙ (g.put w.0 i w.2 (omega arith) w.1 w.3 ∙ ap (λ (p : ℕ × ℕ). wire net n (n + suc i) p.0 p.1) w.4)
 
     start : Together 0
     start = record {
       agree = λ t tm. record {
         many = refl;
         views = λ c d l. tiled.views t c d tm l ∙ ap (λ z. get_or (lockstep_at net z).views ((T t).layout.first + c) d) (omega arith);
-        wires = λ c q l h. tiled.wires t c q tm l h ∙ ap (λ z. wire z ((T t).layout.first + c) q) (omega arith);
+        wires = λ c q l h. tiled.wires t c q tm l h ∙ ap (λ z. wire net n z ((T t).layout.first + c) q) (omega arith);
       };
       put = λ t c tm l. absurd (omega arith);
     }
@@ -251,10 +203,10 @@ module _ (net : Setup) (n : ℕ) where
         below c i h = grind arith
 
     -- the law
-    pub closing : (t : ℕ) → t < m → Agrees (T t) k
+    pub closing : (t : ℕ) → t < m → Agrees net n (T t) k
     closing t tm = (together k (omega arith)).agree t tm
 
-    -- what a wire brings is the beat of the lockstep run
-    pub carried-right : (u o : ℕ) (p : ℕ × ℕ) → u < m → o < length (T u).layout.outs → get_or (T u).layout.outs o (0, 0) ≡ p → (i : ℕ) → Together i → carried (wire n p.0 p.1) (T u) o i ≡ wire (n + i) p.0 p.1
-    carried-right u o p um ol e zero g = ap (λ z. wire z p.0 p.1) (omega arith)
-    carried-right u o p um ol e (suc i) g = g.put u i um (omega arith) o ol ∙ ap (λ (z : ℕ × ℕ). wire (n + suc i) z.0 z.1) e
+    -- what a wire net n brings is the beat of the lockstep run
+    pub carried-right : (u o : ℕ) (p : ℕ × ℕ) → u < m → o < length (T u).layout.outs → get_or (T u).layout.outs o (0, 0) ≡ p → (i : ℕ) → Together i → carried net n (wire net n n p.0 p.1) (T u) o i ≡ wire net n (n + i) p.0 p.1
+    carried-right u o p um ol e zero g = ap (λ z. wire net n z p.0 p.1) (omega arith)
+    carried-right u o p um ol e (suc i) g = g.put u i um (omega arith) o ol ∙ ap (λ (z : ℕ × ℕ). wire net n (n + suc i) z.0 z.1) e

@@ -22,7 +22,8 @@ use Rattle.noc_tiles.proofs.FlatLemmas.{offset, flat-at, offset-lt, Found, flat-
 use Rattle.noc_tiles.proofs.SentLemmas.{past-rows}
 use Rattle.noc_tiles.proofs.EndsLemmas.{some_item}
 use Rattle.noc_tiles.proofs.BoundaryLemmas.{AllRuns, RunsBy, received_of, runs_at, same_count, offset-same, flat-same, offset-two, flat-two, Moved, inlet-at, outlet-at, length-inlets, length-outlets, vec-length, found-get, place-get, stream, stream-last, length-after, set_at, owner, far_end-flat, wire-of, Carries}
-use Rattle.noc_tiles.proofs.ClosingLaw.{Trace, TilesRan, Agrees, closing, together, carried, state_at, wire, carried-right}
+use Rattle.noc_tiles.specs.Together.{Trace, TilesRan, Agrees, carried, tile_at, wire}
+use Rattle.noc_tiles.proofs.ClosingLaw.{closing, together, carried-right}
 
 module _ (net : Setup) (n k : ℕ) (I O : List (Option End)) (xs ys : List Tile) (W : IsPartition net n k I O xs) (r : AllRuns net.relation k xs ys) (d : Tile) where
   abbrev rows_at : ℕ → List (List Beat)
@@ -260,7 +261,7 @@ module _ (net : Setup) (n k : ℕ) (I O : List (Option End)) (xs ys : List Tile)
     agrees t l = closing net n k (length xs) traces tiled t l
 
     -- the part of a tile that came back
-    part-is : (t : ℕ) → t < length xs → after net.relation (layout_of (get_or xs t d)) (get_or xs t d).start (state_of (get_or xs t d)) (rows_at t) ≡ state_at net n (traces t) k
+    part-is : (t : ℕ) → t < length xs → after net.relation (layout_of (get_or xs t d)) (get_or xs t d).start (state_of (get_or xs t d)) (rows_at t) ≡ tile_at net n (traces t) k
     part-is t l =
         let a = get_or xs t d in
         let rows = rows_at t in
@@ -303,7 +304,7 @@ module _ (net : Setup) (n k : ℕ) (I O : List (Option End)) (xs ys : List Tile)
         ∙ (get_or-take (length b.routers.items) (drop b.first b.beats.items) c [] G.in_part
         ∙ (get_or-drop b.first b.beats.items c [] ∙ ap (λ z. get_or b.beats.items (z + c) []) first)) in
         let r_in : a.first + c < nodes net.relation.grid = omega arith in
-        let done : beat_at (flat_map rows_of ys) s q ≡ (state_at net n (traces t) k).wires (a.first + c) q =
+        let done : beat_at (flat_map rows_of ys) s q ≡ (tile_at net n (traces t) k).wires (a.first + c) q =
         ap (λ (z : List Beat). get_or z q idle_beat) row ∙ (run.wires (a.first + c) q r_in ∙ ap (λ (z : TileState). z.wires (a.first + c) q) (part-is t l)) in
         done
         ∙ (⊎_elim (λ z. (agrees t l).wires c q F.in_part z)

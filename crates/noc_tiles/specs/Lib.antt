@@ -7,3 +7,4 @@ pub mod Starts
 pub mod Tiles
 pub mod Partition
 pub mod Wire
+pub mod Together

@@ -6,6 +6,7 @@ mod fault;
 mod frame;
 mod gate;
 mod halves;
+mod laws;
 mod partition;
 mod phases;
 mod rings;
@@ -20,6 +21,7 @@ mod wires;
 
 pub use fault::RunFault;
 pub use gate::{AllOpen, Gate};
+pub use laws::tiles_that_ran_apart_are_in_lockstep;
 pub use run::run_tile;
 pub use stop::Stop;
 pub use tile::{Outcome, Tile};

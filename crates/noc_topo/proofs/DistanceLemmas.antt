@@ -1,8 +1,9 @@
 -- Distances.
-use Rattle.std.proofs.Common.{◌≡◌, ℕ, zero, suc, ◌+◌, ◌-◌, ◌*◌, ◌/◌, ◌<◌, ◌≤◌, Bool, true, false, List, [], ◌∷◌, length, get_or, set, Some, None, refl, sym, ap, ◌∙◌, arith, inl, inr}
+use Rattle.std.proofs.Common.{◌≡◌, ℕ, zero, suc, ◌+◌, ◌-◌, ◌*◌, ◌/◌, ◌<◌, ◌≤◌, Bool, true, false, List, [], ◌∷◌, length, get_or, set, sum, Some, None, refl, sym, ap, ◌∙◌, subst, arith, inl, inr, add-mul, mul-le-mul_left, mul-one}
 use Rattle.std.specs.Prelude.{◌⊎◌}
 use Rattle.std.proofs.lemmas.Bool.{cases_lt, lt-ltb, le-ltb}
-use Rattle.noc_topo.specs.Shape.{Grid, IsGrid, coordinates, distance, distance_in, distance_of, moved_in, neighbour, is_plus}
+use Rattle.std.proofs.lemmas.List.Sums.{sum_by-cons}
+use Rattle.noc_topo.specs.Shape.{Grid, IsGrid, coordinates, distance, distance_in, distance_of, moved_in, neighbour, is_plus, product}
 use Rattle.noc_topo.proofs.ShapeLemmas.{length-coordinates}
 use Rattle.noc_topo.proofs.LinkLemmas.{IsWithin, IsWithin-coordinates, IsWithin-set, IsWithin-at, AreRadices, AreRadices-from_test, AreRadices-at, coordinates-node_at, Hop, hop_of}
 
@@ -10,18 +11,53 @@ pub distance_in-below : (wraps : Bool) (k x t : ℕ) → x < k → t < k → dis
 distance_in-below true k x t a b = omega arith
 distance_in-below false k x t a b = omega arith
 
-distance_of-bound : (wraps : Bool) (ks xs ts : List ℕ) → AreRadices ks → IsWithin ks xs → IsWithin ks ts → distance_of wraps ks xs ts ≤ 15 * length ks
+-- each dimension has at most one hop less than nodes
+distance_of-bound : (wraps : Bool) (ks xs ts : List ℕ) → AreRadices ks → IsWithin ks xs → IsWithin ks ts → distance_of wraps ks xs ts + length ks ≤ sum ks
 distance_of-bound wraps [] xs ts r a b = omega arith
-distance_of-bound wraps (k ∷ ks) [] ts r a b = omega arith
-distance_of-bound wraps (k ∷ ks) (x ∷ xs) [] r a b = omega arith
+distance_of-bound wraps (k ∷ ks) [] ts r a b = elim a [ ]
+distance_of-bound wraps (k ∷ ks) (x ∷ xs) [] r a b = elim b [ ]
 distance_of-bound wraps (k ∷ ks) (x ∷ xs) (t ∷ ts) r a b =
-    omega (arith, r.1, distance_in-below wraps k x t a.0 b.0, distance_of-bound wraps ks xs ts r.2 a.1 b.1)
+    omega (arith, distance_in-below wraps k x t a.0 b.0, distance_of-bound wraps ks xs ts r.2 a.1 b.1, sum_by-cons (λ y. y) k ks)
 
--- no two nodes are more than 45 hops apart
-pub distance-bound : (g : Grid) (a b : ℕ) → IsGrid g → distance g a b ≤ 45
+-- two radices of which the sum is great have a great product
+pair-product : (b c : ℕ) → b ≤ 16 → c ≤ 16 → 16 * b + 16 * c ≤ b * c + 256
+pair-product b c l m =
+    let i = 16 - b in
+    let whole : b + i ≡ 16 = omega arith in
+    let split : 16 * c ≡ b * c + i * c = ap (λ x. x * c) (sym whole) ∙ add-mul b i c in
+    let few : i * c ≤ i * 16 = mul-le-mul_left i m in
+    omega arith
+
+-- .. and so has a third radix with them
+more-product : (a many : ℕ) → 2 ≤ a → 32 ≤ many → 32 * a + 2 * many ≤ a * many + 64
+more-product a many l m =
+    let i = a - 2 in
+    let whole : a ≡ 2 + i = omega arith in
+    let split : a * many ≡ 2 * many + i * many = ap (λ x. x * many) whole ∙ add-mul 2 i many in
+    let few : i * 32 ≤ i * many = mul-le-mul_left i m in
+    omega arith
+
+-- radices of at most 256 nodes
+few-hops : (ks : List ℕ) → AreRadices ks → length ks ≤ 3 → product ks ≤ 256 → sum ks ≤ 30 + length ks
+few-hops [] r l p = omega arith
+few-hops (a ∷ []) r l p = omega (arith, r.1)
+few-hops (a ∷ b ∷ []) r l p = omega (arith, r.1, r.2.1)
+few-hops (a ∷ b ∷ c ∷ []) r l p =
+    let pair = pair-product b c r.2.1 r.2.2.1 in
+    let nodes : a * (b * c) ≤ 256 = subst (λ x. a * (b * x) ≤ 256) (mul-one c) p in
+    elim (cases_lt (a + b + c) 34) [
+      | inl few ↦ omega arith
+      | inr many ↦ let more = more-product a (b * c) r.0 (omega (arith, r.1)) in absurd (omega (arith, r.1))
+    ]
+few-hops (a ∷ b ∷ c ∷ d ∷ ks) r l p = absurd (omega (arith, l))
+
+-- no two nodes are more than 30 hops apart
+pub distance-bound : (g : Grid) (a b : ℕ) → IsGrid g → distance g a b ≤ 30
 distance-bound g a b sound =
     let radices = AreRadices-from_test g.radix sound.sizes in
-    omega (arith, sound.few_dimensions, distance_of-bound g.wraps g.radix (coordinates g.radix a) (coordinates g.radix b) radices (IsWithin-coordinates g.radix a radices) (IsWithin-coordinates g.radix b radices))
+    let hops = distance_of-bound g.wraps g.radix (coordinates g.radix a) (coordinates g.radix b) radices (IsWithin-coordinates g.radix a radices) (IsWithin-coordinates g.radix b radices) in
+    let sizes = few-hops g.radix radices sound.few_dimensions sound.few_nodes in
+    omega arith
 
 -- ---- one coordinate changed
 

@@ -1,7 +1,7 @@
 -- Each link leads back.
-use Rattle.std.proofs.Common.{◌≡◌, ◌≢◌, ℕ, zero, suc, ◌+◌, ◌-◌, ◌*◌, ◌/◌, ◌%◌, ◌<◌, ◌≤◌, Bool, true, false, cond, List, [], ◌∷◌, length, map, get_or, set, Option, Some, None, refl, ap, sym, subst, ◌∙◌, arith, inl, inr, zero-add}
+use Rattle.std.proofs.Common.{◌≡◌, ◌≢◌, ℕ, zero, suc, ◌+◌, ◌-◌, ◌*◌, ◌/◌, ◌%◌, ◌<◌, ◌≤◌, Bool, true, false, cond, List, [], ◌∷◌, length, map, get_or, set, Option, Some, None, refl, ap, sym, ◌∙◌, arith, inl, inr, zero-add}
 use Rattle.std.proofs.Math.Nat.{add-mul-mod_self_left, add-mul-div_left, mod-eq_of_lt, div-eq_of_lt, mod-add-div, mod-lt, mul-le-mul_left, div-lt_iff_lt-mul}
-use Rattle.std.specs.Prelude.{IfSome, option_map, is_some, if◌then◌else◌, nat_lt, nat_le, nat_eq, ◌⊎◌}
+use Rattle.std.specs.Prelude.{IfSome, option_map, nat_lt, nat_le, nat_eq, ◌⊎◌}
 use Rattle.std.specs.List.{list_all}
 use Rattle.std.proofs.lemmas.Bool.{cases_lt, lt-ltb, le-ltb, and_parts, leb-true}
 use Rattle.std.proofs.lemmas.Bool.Decides.{eqb_tells}
@@ -256,33 +256,6 @@ coordinates-last [] r = refl
 coordinates-last (k ∷ ks) r =
     let some : 1 ≤ k = omega (arith, r.0) in
     rw (last-mod k (product ks) some (product-some ks r.2), last-div k (product ks) some (product-some ks r.2)) (ap (λ xs. (k - 1) ∷ xs) (coordinates-last ks r.2))
-
-last_step : (g : Grid) (k : ℕ) (ks : List ℕ) → g.radix ≡ k ∷ ks → IsGrid g → is_some (moved_in g.wraps (get_or g.radix 0 0) true (get_or (coordinates g.radix (nodes g - 1)) 0 0)) ≡ g.wraps
-last_step g k ks e sound =
-    let radices = AreRadices-from_test g.radix sound.sizes in
-    let last = coordinates-last g.radix radices in
-    let P : List ℕ → Type 0 = λ ks. AreRadices ks in
-    let size = subst P e radices in
-    let stop : nat_lt (k - 1 + 1) k ≡ false = le-ltb (k - 1 + 1) k (omega (arith, size.0)) in
-    rw (last, e, stop) (wrapped g.wraps)
-  where
-    wrapped : (wraps : Bool) → is_some {T = ℕ} (if wraps then Some 0 else None) ≡ wraps
-    wrapped true = refl
-    wrapped false = refl
-
--- the last node has a link up in dimension 0 on a torus alone
-pub last-link : (g : Grid) → IsGrid g → is_some (neighbour g (nodes g - 1) 0) ≡ g.wraps
-last-link g sound = at g.radix refl
-  where
-    kept : (o : Option ℕ) → is_some (option_map (led g (nodes g - 1) 0) o) ≡ is_some o
-    kept None = refl
-    kept (Some x) = refl
-
-    at : (ks : List ℕ) → g.radix ≡ ks → is_some (neighbour g (nodes g - 1) 0) ≡ g.wraps
-    at [] e = absurd (omega (arith, sound.some_dimensions, ap (length {A = ℕ}) e))
-    at (k ∷ ks) e =
-        let link : nat_lt 0 (local_port g) ≡ true = lt-ltb 0 (local_port g) (omega (arith, sound.some_dimensions)) in
-        rw link (kept (moved_in g.wraps (get_or g.radix 0 0) true (get_or (coordinates g.radix (nodes g - 1)) 0 0)) ∙ last_step g k ks e sound)
 
 -- where a port leads, if it leads anywhere, there are a node and a link port
 pub neighbour-range : (g : Grid) (a p : ℕ) (o : Option (ℕ × ℕ)) → IsGrid g → a < nodes g → neighbour g a p ≡ o → IfSome o (λ to. (to.0 < nodes g) × (to.1 < local_port g))

@@ -4,4 +4,4 @@
 mod axis;
 mod shape;
 
-pub use shape::{Kind, Shape, ShapeFault, links_are_mutual};
+pub use shape::{Kind, MAX_DISTANCE, Shape, ShapeFault, links_are_mutual};

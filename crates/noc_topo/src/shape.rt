@@ -6,6 +6,9 @@ ghost use Rattle.noc_topo.specs.Shape.{Grid, IsGrid, IsLinkBack, shape_of, wraps
 use crate::axis;
 use std::marker::Model;
 
+/// The most hops that the shortest way between two nodes has, from corner to corner of a mesh of 16 by 16.
+pub const MAX_DISTANCE: usize = 30;
+
 /// What a dimension's two ends are: borders (a mesh) or joined (a torus). Dally and Towles, chapter 3.
 #[derive(Clone, Copy, Debug, PartialEq, Eq)]
 pub enum Kind {
@@ -80,6 +83,25 @@ impl Shape {
         })
     }
 
+    /// Whether it is a mesh or a torus.
+    pub fn kind(&self) -> Kind
+        ensures { wraps_of result ≡ self.now.wraps }
+    {
+        if self.wraps { Kind::Torus } else { Kind::Mesh }
+    }
+
+    /// How many nodes lie along a dimension, 0 to `dimensions` - 1: 2 to 16.
+    pub fn radix(&self, dimension: usize) -> usize
+        requires { dimension < dimensions self.now }
+        ensures value { result ≡ slice_index self.now.radix dimension }
+        ensures some { 2 ≤ result }
+        ensures few { result ≤ 16 }
+        ensures grid { IsGrid self.now }
+    {
+        let sizes = &self.sizes;
+        sizes[dimension]
+    }
+
     /// How many nodes there are, 2 to 256.
     pub fn nodes(&self) -> usize
         ensures value { result ≡ nodes self.now }
@@ -121,12 +143,12 @@ impl Shape {
         axis::split(&self.sizes, node)
     }
 
-    /// How many hops the shortest way from one node to another has, at most 15 in each dimension. Dally and Towles, chapter 3.
+    /// How many hops the shortest way from one node to another has, at most `MAX_DISTANCE`. Dally and Towles, chapter 3.
     pub fn distance(&self, from: usize, to: usize) -> usize
         requires from { from < nodes self.now }
         requires to { to < nodes self.now }
         ensures value { result ≡ distance self.now from to }
-        ensures bound { result ≤ 45 }
+        ensures bound { result ≤ MAX_DISTANCE }
         ensures grid { IsGrid self.now }
     {
         let x = axis::split(&self.sizes, from);
@@ -184,6 +206,9 @@ mod tests {
         let torus = shape(&rt, Kind::Torus, &[2, 3]);
         assert_eq!(rt; torus.nodes(), 6);
         assert_eq!(rt; torus.dimensions(), 2);
+        assert_eq!(rt; torus.kind(), Kind::Torus);
+        assert_eq!(rt; torus.radix(0), 2);
+        assert_eq!(rt; torus.radix(1), 3);
         assert_eq!(rt; torus.ports(), 5);
         assert_eq!(rt; torus.neighbour(5, 0), Some((4, 1)));
         assert_eq!(rt; torus.neighbour(5, 1), Some((4, 0)));
@@ -196,6 +221,7 @@ mod tests {
     fn mesh_of_four_by_three_has_borders(rt: HostRuntime) {
         let mesh = shape(&rt, Kind::Mesh, &[4, 3]);
         assert_eq!(rt; mesh.nodes(), 12);
+        assert_eq!(rt; mesh.kind(), Kind::Mesh);
         assert_eq!(rt; mesh.coordinates(11), [3, 2, 0]);
         assert_eq!(rt; mesh.neighbour(3, 0), None);
         assert_eq!(rt; mesh.neighbour(3, 2), Some((7, 3)));

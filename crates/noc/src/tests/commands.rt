@@ -8,10 +8,15 @@ use noc_files::InputFault;
 use std::alloc::Global;
 use std::test::Fail;
 
-const DEADLOCKED_RING: &str =
+pub(super) const DEADLOCKED_RING: &str =
     "source,destination,class,length,due\n0,2,0,4,0\n1,3,0,4,0\n2,0,0,4,0\n3,1,0,4,0\n";
 
-fn request(alloc: Global, config: &str, traffic: &str, command: Command) -> Result<Request, Fail>
+pub(super) fn request(
+    alloc: Global,
+    config: &str,
+    traffic: &str,
+    command: Command,
+) -> Result<Request, Fail>
     ensures { IfOk result (λ request. request.command ≡ command) }
 {
     Ok(Request {
@@ -29,6 +34,7 @@ fn a_ring_is_stuck_from_its_fifth_cycle_on(rt: HostRuntime) -> Result<(), Fail> 
     let command = Command::Run {
         workers: 1,
         report: Report::Latency,
+        drain: false,
     };
     for cycles in 1..=20u64 {
         let config = format!(in alloc;
@@ -48,6 +54,7 @@ fn a_ring_with_a_dateline_is_never_stuck(rt: HostRuntime) -> Result<(), Fail> {
     let command = Command::Run {
         workers: 1,
         report: Report::Latency,
+        drain: false,
     };
     for cycles in 1..=60u64 {
         let config = format!(in alloc;

@@ -68,6 +68,7 @@ fn two_packets_on_a_line(alloc: Global) -> Result<Request, Fail>
         command: Command::Run {
             workers: 1,
             report: Report::Stalls,
+            drain: false,
         },
     })
 }

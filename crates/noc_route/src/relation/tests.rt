@@ -122,6 +122,27 @@ fn square_of_nine_goes_west_first(rt: HostRuntime) {
 }
 
 #[test]
+fn square_of_nine_keeps_an_escape_channel(rt: HostRuntime) {
+    let mesh = shape(&rt, Kind::Mesh, &[3, 3]);
+    let relation = built(&rt, rt.alloc(), &mesh, 2, 1, Rule::Adaptive);
+    assert!(rt; permits(&rt, &relation, entry(0, 4, 0, 8), &[0, 1, 5]));
+    assert!(rt; permits(&rt, &relation, entry(1, 1, 1, 8), &[0, 1, 5]));
+    assert!(rt; permits(&rt, &relation, entry(2, 1, 0, 8), &[4, 5]));
+    assert!(rt; permits(&rt, &relation, entry(1, 3, 0, 8), &[]));
+    assert!(rt; permits(&rt, &relation, entry(8, 3, 1, 8), &[8, 9]));
+}
+
+#[test]
+fn ring_of_four_keeps_two_escape_channels(rt: HostRuntime) {
+    let torus = shape(&rt, Kind::Torus, &[4]);
+    let relation = built(&rt, rt.alloc(), &torus, 3, 1, Rule::Adaptive);
+    assert!(rt; permits(&rt, &relation, entry(3, 2, 0, 1), &[0, 2]));
+    assert!(rt; permits(&rt, &relation, entry(0, 1, 0, 1), &[1, 2]));
+    assert!(rt; permits(&rt, &relation, entry(0, 2, 0, 2), &[1, 2]));
+    assert!(rt; permits(&rt, &relation, entry(0, 2, 0, 3), &[3, 5]));
+}
+
+#[test]
 fn table_needs_no_rows_that_are_not_reached(rt: HostRuntime) -> Result<(), AllocError> {
     let mesh = shape(&rt, Kind::Mesh, &[2]);
     let first = row((0, 2, 0), 1, (0, 0));
@@ -189,7 +210,7 @@ fn numbers_and_shapes_that_do_not_fit_are_refused(rt: HostRuntime) {
         RouteFault::WrongShape
     );
     assert_eq!(rt;
-        fault(&rt, rt.alloc(), &row, 5, 1, Rule::Dor),
+        fault(&rt, rt.alloc(), &row, 9, 1, Rule::Dor),
         RouteFault::WrongShape
     );
     assert_eq!(rt;
@@ -206,6 +227,19 @@ fn numbers_and_shapes_that_do_not_fit_are_refused(rt: HostRuntime) {
     );
     assert_eq!(rt;
         fault(&rt, rt.alloc(), &ring, 3, 1, Rule::Dateline),
+        RouteFault::WrongShape
+    );
+    assert_eq!(rt;
+        fault(&rt, rt.alloc(), &row, 1, 1, Rule::Adaptive),
+        RouteFault::WrongShape
+    );
+    assert_eq!(rt;
+        fault(&rt, rt.alloc(), &row, 2, 2, Rule::Adaptive),
+        RouteFault::WrongShape
+    );
+    let circle = shape(&rt, Kind::Torus, &[4]);
+    assert_eq!(rt;
+        fault(&rt, rt.alloc(), &circle, 2, 1, Rule::Adaptive),
         RouteFault::WrongShape
     );
 }

@@ -6,7 +6,7 @@ use Rattle.noc.specs.Outcome.{Ends}
 use Rattle.noc.specs.Run.{workers_of}
 use Rattle.noc.specs.declared.request.Command.{Command}
 use Rattle.noc.proofs.OutcomeFacts.{ends_more}
-use Rattle.noc.proofs.RankedFacts.{ends-done}
+use Rattle.noc.proofs.RankedFacts.{ends-done, ends-drained}
 use Rattle.noc.proofs.answer.answer.Goals as goal
 
 pub returns-in-Run-clause-ends : goal.returns-in-Run-clause-ends
@@ -24,4 +24,9 @@ returns-in-Run-clause-ends g c =
 pub returns-in-Run-clause-ranked : goal.returns-in-Run-clause-ranked
 returns-in-Run-clause-ranked g c = λ ranked.
     ends-done (workers_of c.args.request.now.command) c.args.request.now (Wrote g.W.Sink.contents g.W.Sink.has_failed c.args.sink.now c.run_by_workers.new.sink)
+    (c.run_by_workers.new.sink ≡ c.args.sink.now) (FirstFault c.args.request.now) c.run_by_workers.result (returns-in-Run-clause-ends g c) ranked
+
+pub returns-in-Run-clause-drained : goal.returns-in-Run-clause-drained
+returns-in-Run-clause-drained g c = λ ranked.
+    ends-drained (workers_of c.args.request.now.command) c.args.request.now (Wrote g.W.Sink.contents g.W.Sink.has_failed c.args.sink.now c.run_by_workers.new.sink)
     (c.run_by_workers.new.sink ≡ c.args.sink.now) (FirstFault c.args.request.now) c.run_by_workers.result (returns-in-Run-clause-ends g c) ranked

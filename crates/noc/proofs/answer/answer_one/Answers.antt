@@ -6,7 +6,7 @@ use Rattle.noc.specs.Outcome.{Ends}
 use Rattle.noc.specs.Run.{workers_of}
 use Rattle.noc.proofs.OutcomeFacts.{ends_more}
 use Rattle.noc.proofs.RequestFacts.{same-workers}
-use Rattle.noc.proofs.RankedFacts.{ends-done}
+use Rattle.noc.proofs.RankedFacts.{ends-done, ends-drained}
 use Rattle.noc.proofs.answer.answer_one.Goals as goal
 
 pub returns-clause-ends : goal.returns-clause-ends
@@ -21,4 +21,9 @@ returns-clause-ends g c =
 pub returns-clause-ranked : goal.returns-clause-ranked
 returns-clause-ranked g c = λ ranked.
     ends-done (workers_of c.args.request.now.command) c.args.request.now (Wrote g.W.Sink.contents g.W.Sink.has_failed c.args.sink.now c.answer_files.new.sink)
+    (c.answer_files.new.sink ≡ c.args.sink.now) (FirstFault c.args.request.now) c.answer_files.result (returns-clause-ends g c) ranked
+
+pub returns-clause-drained : goal.returns-clause-drained
+returns-clause-drained g c = λ ranked.
+    ends-drained (workers_of c.args.request.now.command) c.args.request.now (Wrote g.W.Sink.contents g.W.Sink.has_failed c.args.sink.now c.answer_files.new.sink)
     (c.answer_files.new.sink ≡ c.args.sink.now) (FirstFault c.args.request.now) c.answer_files.result (returns-clause-ends g c) ranked

@@ -5,7 +5,8 @@ use Rattle.noc_files.specs.Configuration.{settings}
 use Rattle.noc.specs.Answer.{TextsFault, in_packets, in_settings}
 use Rattle.noc.specs.Asked.{asked_of, lent}
 use Rattle.noc.specs.Check.{Accepts, AsksForChecked, RanksFault}
-use Rattle.noc.specs.Run.{PacketsFault}
+use Rattle.noc.specs.Drain.{RunsTo}
+use Rattle.noc.specs.Run.{PacketsFault, is_draining}
 use Rattle.noc.specs.Settings.{SettingsFault}
 use Rattle.noc.proofs.OutcomeFacts.{refuses_more}
 use Rattle.noc.proofs.RequestFacts.{checked-report, cycles-report, in_checked_ranks, runs-report}
@@ -38,7 +39,7 @@ returns-in_err-network-clause-fault g c =
     (λ first. in_packets (runs-report _ _ c.requires.1) checked first) c.in_err-network.ensures.fault)
 
 pub returns-clause-run : goal.returns-clause-run
-returns-clause-run g c =
+returns-clause-run g c = λ end lasts.
     let a = asked_of c.args.files.now in
     let ranks = option_map lent c.args.files.now.ranks in
     record {
@@ -49,5 +50,5 @@ returns-clause-run g c =
         accepted = subst (λ t. IfSome t (Accepts c.in_ok-config.relation)) (sym (checked-report _ _ ranks c.requires.1)) c.in_ok-accept_if_given.ensures.accepted;
       };
       network = c.in_ok-network.ensures.network;
-      cycles = cycles-report a.command c.requires.0 (settings c.in_ok-config.config) c.requires.1;
+      cycles = subst (λ n. RunsTo (is_draining a.command) c.in_ok-network.network.net n end) (cycles-report a.command c.requires.0 (settings c.in_ok-config.config) c.requires.1) lasts;
     }

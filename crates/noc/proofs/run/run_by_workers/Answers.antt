@@ -12,6 +12,6 @@ pub returns-in-Ok : goal.returns-in-Ok
 returns-in-Ok g c =
     let a = asked_of c.args.files.now in
     let net = c.in-Ok.network in
-    let asks : AsksForRun a net = ran a c.in_ok-network.network net c.in_ok-network.cycles c.in_ok-network.ensures.opening c.in_ok-network.ensures.run c.in-Ok.ensures.net in
+    let asks : AsksForRun a net = ran a c.args.drain c.in_ok-network.network net c.in_ok-network.cycles c.requires.drain c.in_ok-network.ensures.run c.in-Ok.ensures.net c.in-Ok.ensures.end in
     ends_reported (workers_of c.args.files.now.command) (Wrote g.W.Sink.contents g.W.Sink.has_failed c.args.sink.now c.report_on.new.sink) (c.report_on.new.sink ≡ c.args.sink.now) (AsksFor a) (TextsFault a)
     (report_text c.args.report net) (ending net) c.report_on.result (a_report c.requires.report asks) c.report_on.ensures.status c.report_on.ensures.fault

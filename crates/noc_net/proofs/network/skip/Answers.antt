@@ -45,15 +45,27 @@ deliver_all-requires-clause-nodes c =
     to_relation (λ net. AreInStepUnseen net c.loop-cycle.cycle c.loop-cycle.routers c.loop-cycle.beats) c.args.relation.now some.0 some.1 (c.loop-cycle.invariant.in_step some.0 some.1 some.2) in
     omega (arith, c.advance_all.auto.routers, unseen-count net c.loop-cycle.cycle c.loop-cycle.routers c.loop-cycle.beats now)
 
+pub jump-cycle-requires-clause-routers : goal.jump-cycle-requires-clause-routers
+jump-cycle-requires-clause-routers c =
+    let some = c.requires.in_step in
+    let net : Setup = of_relation c.args.relation.now some.0 in
+    let count : length c.deliver_all.new.beats ≡ nodes c.args.relation.now.grid = omega (arith, c.deliver_all.auto.beats, c.advance_all.auto.beats, c.loop-cycle.invariant.count) in
+    let now : AreInStepUnseen net c.loop-cycle.cycle c.loop-cycle.routers c.loop-cycle.beats =
+    to_relation (λ net. AreInStepUnseen net c.loop-cycle.cycle c.loop-cycle.routers c.loop-cycle.beats) c.args.relation.now some.0 some.1 (c.loop-cycle.invariant.in_step some.0 some.1 some.2) in
+    unseen-relation net (c.loop-cycle.cycle + 1) c.deliver_all.new.routers c.deliver_all.new.beats
+    (next-unseen net c.loop-cycle.cycle c.loop-cycle.routers c.advance_all.new.routers c.deliver_all.new.routers c.loop-cycle.beats c.deliver_all.new.beats now
+    c.advance_all.ensures.routers c.deliver_all.ensures.routers count c.deliver_all.ensures.beats)
+
 pub loop-cycle-preserved : goal.loop-cycle-preserved
 loop-cycle-preserved c =
     let count : length c.deliver_all.new.beats ≡ nodes c.args.relation.now.grid = omega (arith, c.deliver_all.auto.beats, c.advance_all.auto.beats, c.loop-cycle.invariant.count) in
     record {
-      plan = c.advance_all.ensures.plan;
-      in_step = λ net is first.
-          from_relation (λ net. AreInStepUnseen net (c.loop-cycle.cycle + 1) c.deliver_all.new.routers c.deliver_all.new.beats) c.args.relation.now net is
+      order = c.jump-cycle.ensures.within;
+      plan = c.jump-cycle.ensures.plan;
+      in_step = λ net is first. c.jump-cycle.ensures.in_step net is
+          (from_relation (λ net. AreInStepUnseen net (c.loop-cycle.cycle + 1) c.deliver_all.new.routers c.deliver_all.new.beats) c.args.relation.now net is
           (next-unseen (of_relation c.args.relation.now net) c.loop-cycle.cycle c.loop-cycle.routers c.advance_all.new.routers c.deliver_all.new.routers c.loop-cycle.beats c.deliver_all.new.beats
           (to_relation (λ net. AreInStepUnseen net c.loop-cycle.cycle c.loop-cycle.routers c.loop-cycle.beats) c.args.relation.now net is (c.loop-cycle.invariant.in_step net is first))
-          c.advance_all.ensures.routers c.deliver_all.ensures.routers count c.deliver_all.ensures.beats);
+          c.advance_all.ensures.routers c.deliver_all.ensures.routers count c.deliver_all.ensures.beats));
       count = count;
     }

@@ -4,29 +4,30 @@ use Rattle.noc_topo.specs.Shape.{nodes, local_port}
 use Rattle.noc_route.specs.Ranks.{is_channel}
 use Rattle.noc_rank.specs.Entered.{IsFirstGap}
 use Rattle.noc_rank.specs.declared.fault.RankFault.TheVariants.{MissingChannel}
-use Rattle.noc_rank.proofs.RowLemmas.{IsWhole-more, IsFirstGap-here, vcs-some}
+use Rattle.noc_rank.proofs.PlaceLemmas.{vcs-some}
+use Rattle.noc_rank.proofs.RowLemmas.{IsWhole-more, IsFirstGap-here}
 use Rattle.noc_rank.proofs.rows.missing.Goals as goal
-use Rattle.noc_rank.proofs.rows.missing.Goals.{else-ranks-place-eq0-via-then-ranks-place-eq0+else-is_channel, else-ranks-place-eq0-via-else-ranks-place-eq0}
+use Rattle.noc_rank.proofs.rows.missing.Goals.{else-not-named-place-via-then-not-named-place+else-is_channel, else-not-named-place-via-else-not-named-place}
 
 pub returns-then-is_channel-clause-some : goal.returns-then-is_channel-clause-some
 returns-then-is_channel-clause-some c =
     let g = c.args.shape.now in
     let n = c.loop-place.place in
     let some : 0 < c.args.vcs = vcs-some (nodes g * local_port g) c.args.vcs n (omega (arith, c.requires)) in
-    let P : ℕ → Type 0 = λ ports. IsFirstGap g c.args.vcs c.args.ranks.now (MissingChannel (n / c.args.vcs / ports) (n / c.args.vcs % ports) (n % c.args.vcs)) in
+    let P : ℕ → Type 0 = λ ports. IsFirstGap g c.args.vcs c.args.named.now (MissingChannel (n / c.args.vcs / ports) (n / c.args.vcs % ports) (n % c.args.vcs)) in
     let there : is_channel g c.args.vcs (n / c.args.vcs / local_port g) (n / c.args.vcs % local_port g) (n % c.args.vcs) ≡ true = rw c.link_ports-ports.ensures.value at (sym c.is_channel.ensures ∙ c.if-is_channel.true) in
-    subst P (sym c.link_ports-ports.ensures.value) (IsFirstGap-here g c.args.vcs c.args.ranks.now n some (omega (arith, c.link_ports-ports.ensures.value, c.link_ports-ports.ensures.some)) there c.if-ranks-place-eq0.true c.loop-place.invariant)
+    subst P (sym c.link_ports-ports.ensures.value) (IsFirstGap-here g c.args.vcs c.args.named.now n some (omega (arith, c.link_ports-ports.ensures.value, c.link_ports-ports.ensures.some)) there c.if-not-named-place.true c.loop-place.invariant)
 
 pub loop-place-preserved : goal.loop-place-preserved
 loop-place-preserved c =
     let g = c.args.shape.now in
     let n = c.loop-place.place in
-    IsWhole-more g c.args.vcs c.args.ranks.now n
+    IsWhole-more g c.args.vcs c.args.named.now n
     (λ there.
-    elim c.else-ranks-place-eq0.branch [
-      | else-ranks-place-eq0-via-then-ranks-place-eq0+else-is_channel w ↦
+    elim c.else-not-named-place.branch [
+      | else-not-named-place-via-then-not-named-place+else-is_channel w ↦
           let unlike : is_channel g c.args.vcs (n / c.args.vcs / local_port g) (n / c.args.vcs % local_port g) (n % c.args.vcs) ≡ false = rw c.link_ports-ports.ensures.value at (sym w.is_channel.ensures ∙ w.if-is_channel.false) in
           absurd (false≢true (sym unlike ∙ there))
-      | else-ranks-place-eq0-via-else-ranks-place-eq0 w ↦ omega (arith, w.if-ranks-place-eq0.false)
+      | else-not-named-place-via-else-not-named-place w ↦ w.if-not-named-place.false
     ])
     c.loop-place.invariant

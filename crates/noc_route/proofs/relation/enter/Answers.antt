@@ -1,11 +1,11 @@
 use Rattle.std.proofs.Common.{◌∙◌, ◌/◌, ◌%◌, subst, sym, ap, arith}
 use Rattle.std.specs.Prelude.{◌&&◌, nat_lt}
 use Rattle.noc_route.specs.Entered.{routing_in, has_row_at, IsEntered}
-use Rattle.noc_route.specs.Routes.{width, block_class, block_router, block_dst}
+use Rattle.noc_route.specs.Routes.{width, page_class, page_router, page_dst}
 use Rattle.noc_route.specs.Trimming.{routes_in}
 use Rattle.noc_route.specs.declared.rule.Rule.{Rule}
 use Rattle.noc_route.specs.declared.rule.Rule.TheVariants.{Rows}
-use Rattle.noc_route.proofs.EnterLemmas.{IsEntered-from_blocks, leads-named, rows_of-named}
+use Rattle.noc_route.proofs.EnterLemmas.{IsEntered-from_pages, leads-named, rows_of-named}
 use Rattle.noc_route.proofs.relation.enter.Goals as goal
 
 pub returns-in_default-first_fault-clause-entered : goal.returns-in_default-first_fault-clause-entered
@@ -14,7 +14,7 @@ returns-in_default-first_fault-clause-entered c =
     let routes = routes_in f c.enter_rows.new.sets in
     let P : Rule → Type 0 = λ rule. IsEntered (routing_in f rule) routes in
     subst P (sym c.in-Rows.is)
-    (IsEntered-from_blocks (routing_in f (Rows c.in-Rows.rows)) routes
+    (IsEntered-from_pages (routing_in f (Rows c.in-Rows.rows)) routes
     (λ b i k m l. c.enter_rows.ensures b i k m l ∙ ap (λ rows. nat_lt k (width f.shape f.vcs) && has_row_at routes rows b i k) c.deref-in-Rows.ensures.value))
 
 pub returns-in_default-clause-ok : goal.returns-in_default-clause-ok
@@ -25,9 +25,9 @@ returns-in_default-clause-entered c =
     let f = c.args.map.now.frame in
     let routes = routes_in f c.enter_named.new.sets in
     let w = width f.shape f.vcs in
-    IsEntered-from_blocks (routing_in f c.args.rule.now) routes
+    IsEntered-from_pages (routing_in f c.args.rule.now) routes
     (λ b i k m l.
     c.enter_named.ensures b i k m l
     ∙ ap (λ x. nat_lt k w && x)
     (sym
-    (leads-named f.shape f.vcs f.classes c.args.rule.now (block_class f.shape f.classes b) (block_router f.shape f.classes b) (i / f.vcs) (i % f.vcs) (block_dst f.shape b) (k / f.vcs) (k % f.vcs) c.in_default.not-Rows)))
+    (leads-named f.shape f.vcs f.classes c.args.rule.now (page_class f.shape f.classes b) (page_router f.shape f.classes b) (i / f.vcs) (i % f.vcs) (page_dst f.shape b) (k / f.vcs) (k % f.vcs) c.in_default.not-Rows)))

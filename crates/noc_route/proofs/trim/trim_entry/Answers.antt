@@ -4,9 +4,9 @@ use Rattle.std.proofs.lemmas.List.{get_or_default}
 use Rattle.noc_topo.specs.Shape.{nodes}
 use Rattle.noc_route.specs.Order.{earlier_entry}
 use Rattle.noc_route.specs.Routes.{width}
-use Rattle.noc_route.specs.Trimming.{routes_in, comes_in, comes_at, block_set, is_stuck_at, IsFirstStuck, IsStuckFirst}
+use Rattle.noc_route.specs.Trimming.{routes_in, comes_in, comes_at, page_set, is_stuck_at, IsFirstStuck, IsStuckFirst}
 use Rattle.noc_route.specs.declared.rule.Entry.{Entry}
-use Rattle.noc_route.proofs.PlaceLemmas.{block-router}
+use Rattle.noc_route.proofs.PlaceLemmas.{page-router}
 use Rattle.noc_route.proofs.StuckLemmas.{IsFirstStuck-passed, IsStuckFirst-earlier, IsFirstStuck-emptied}
 use Rattle.noc_route.proofs.BoolLemmas.{and-false}
 use Rattle.noc_route.proofs.trim.trim_entry.Goals as goal
@@ -15,44 +15,44 @@ pub is_reached-requires-clause-router : goal.is_reached-requires-clause-router
 is_reached-requires-clause-router c =
     let P : Entry → Type 0 = λ e. e.router < nodes c.args.map.now.frame.shape in
     subst P (sym c.requires.entry)
-    (block-router c.args.block (nodes c.args.map.now.frame.shape) c.args.map.now.frame.classes (omega (arith, c.args.map.now.frame.all_nodes, c.args.map.now.frame.some_nodes)) c.args.map.now.frame.some_classes c.requires.block)
+    (page-router c.args.page (nodes c.args.map.now.frame.shape) c.args.map.now.frame.classes (omega (arith, c.args.map.now.frame.all_nodes, c.args.map.now.frame.some_nodes)) c.args.map.now.frame.some_classes c.requires.page)
 
 pub returns-then-not-is_reached-clause-first : goal.returns-then-not-is_reached-clause-first
 returns-then-not-is_reached-clause-first c =
     let routes = routes_in c.args.map.now.frame c.args.sets.now in
     let w = width c.args.map.now.frame.shape c.args.map.now.frame.vcs in
-    let none : comes_at routes c.args.outs.now c.args.block c.args.input ≡ false
+    let none : comes_at routes c.args.outs.now c.args.page c.args.input ≡ false
     = ap (λ (e : Entry). comes_in routes c.args.outs.now e.class e.router e.dst c.args.input) (sym c.requires.entry) ∙ sym (c.is_reached.ensures c.args.sets.now) ∙ c.if-not-is_reached.true in
-    let P : ℕ → Type 0 = λ place. IsFirstStuck (routes_in c.args.map.now.frame (set c.args.sets.now place c.empty.result)) c.args.outs.now (c.args.block * w + c.args.input + 1) c.args.first in
-    let Q : ℕ → Type 0 = λ s. IsFirstStuck (routes_in c.args.map.now.frame (set c.args.sets.now (c.args.block * w + c.args.input) s)) c.args.outs.now (c.args.block * w + c.args.input + 1) c.args.first in
-    let free : is_stuck_at routes c.args.outs.now c.args.block c.args.input ≡ false = ap (λ b. b && nat_eq (block_set routes c.args.block c.args.input) 0) none in
+    let P : ℕ → Type 0 = λ place. IsFirstStuck (routes_in c.args.map.now.frame (set c.args.sets.now place c.empty.result)) c.args.outs.now (c.args.page * w + c.args.input + 1) c.args.first in
+    let Q : ℕ → Type 0 = λ s. IsFirstStuck (routes_in c.args.map.now.frame (set c.args.sets.now (c.args.page * w + c.args.input) s)) c.args.outs.now (c.args.page * w + c.args.input + 1) c.args.first in
+    let free : is_stuck_at routes c.args.outs.now c.args.page c.args.input ≡ false = ap (λ b. b && nat_eq (page_set routes c.args.page c.args.input) 0) none in
     subst P (sym c.slot-place.ensures.value)
     (subst Q (sym c.empty.ensures.bits)
-    (IsFirstStuck-emptied routes c.args.outs.now (c.args.block * w + c.args.input + 1) c.args.block c.args.input c.args.first c.requires.input none
-    (IsFirstStuck-passed routes c.args.outs.now c.args.block c.args.input c.args.first c.requires.input free c.requires.first)))
+    (IsFirstStuck-emptied routes c.args.outs.now (c.args.page * w + c.args.input + 1) c.args.page c.args.input c.args.first c.requires.input none
+    (IsFirstStuck-passed routes c.args.outs.now c.args.page c.args.input c.args.first c.requires.input free c.requires.first)))
 
 pub returns-then-is_empty-clause-first : goal.returns-then-is_empty-clause-first
 returns-then-is_empty-clause-first c =
     let routes = routes_in c.args.map.now.frame c.args.sets.now in
     let w = width c.args.map.now.frame.shape c.args.map.now.frame.vcs in
-    let comes : comes_at routes c.args.outs.now c.args.block c.args.input ≡ true
+    let comes : comes_at routes c.args.outs.now c.args.page c.args.input ≡ true
     = ap (λ (e : Entry). comes_in routes c.args.outs.now e.class e.router e.dst c.args.input) (sym c.requires.entry) ∙ sym (c.is_reached.ensures c.args.sets.now) ∙ c.if-not-is_reached.false in
     let within : c.slot-place.result < length c.args.sets.now = omega (arith, c.slot-place.ensures.within, c.requires.sets) in
-    let empty : nat_eq (block_set routes c.args.block c.args.input) 0 ≡ true
+    let empty : nat_eq (page_set routes c.args.page c.args.input) 0 ≡ true
     = ap (λ place. nat_eq (get_or c.args.sets.now place 0) 0) (sym c.slot-place.ensures.value)
     ∙ ap (λ s. nat_eq s 0) (get_or_default c.args.sets.now c.slot-place.result 0 _ within) ∙ sym c.is_empty.ensures.bits ∙ c.if-is_empty.true in
-    let stuck : is_stuck_at routes c.args.outs.now c.args.block c.args.input ≡ true = rw (comes, empty) refl in
-    let P : Entry → Type 0 = λ e. IsStuckFirst routes c.args.outs.now (c.args.block * w + c.args.input + 1) e in
+    let stuck : is_stuck_at routes c.args.outs.now c.args.page c.args.input ≡ true = rw (comes, empty) refl in
+    let P : Entry → Type 0 = λ e. IsStuckFirst routes c.args.outs.now (c.args.page * w + c.args.input + 1) e in
     subst P (sym (c.earlier.ensures ∙ ap (λ e. earlier_entry e c.args.first) c.requires.entry))
-    (IsStuckFirst-earlier routes c.args.outs.now c.args.block c.args.input c.args.first c.requires.block c.requires.input stuck c.requires.first)
+    (IsStuckFirst-earlier routes c.args.outs.now c.args.page c.args.input c.args.first c.requires.page c.requires.input stuck c.requires.first)
 
 pub returns-clause-first : goal.returns-clause-first
 returns-clause-first c =
     let routes = routes_in c.args.map.now.frame c.args.sets.now in
     let within : c.slot-place.result < length c.args.sets.now = omega (arith, c.slot-place.ensures.within, c.requires.sets) in
-    let some : nat_eq (block_set routes c.args.block c.args.input) 0 ≡ false
+    let some : nat_eq (page_set routes c.args.page c.args.input) 0 ≡ false
     = ap (λ place. nat_eq (get_or c.args.sets.now place 0) 0) (sym c.slot-place.ensures.value)
     ∙ ap (λ s. nat_eq s 0) (get_or_default c.args.sets.now c.slot-place.result 0 _ within) ∙ sym c.is_empty.ensures.bits ∙ c.if-is_empty.false in
-    let free : is_stuck_at routes c.args.outs.now c.args.block c.args.input ≡ false
-    = ap (λ b. comes_at routes c.args.outs.now c.args.block c.args.input && b) some ∙ and-false (comes_at routes c.args.outs.now c.args.block c.args.input) in
-    IsFirstStuck-passed routes c.args.outs.now c.args.block c.args.input c.args.first c.requires.input free c.requires.first
+    let free : is_stuck_at routes c.args.outs.now c.args.page c.args.input ≡ false
+    = ap (λ b. comes_at routes c.args.outs.now c.args.page c.args.input && b) some ∙ and-false (comes_at routes c.args.outs.now c.args.page c.args.input) in
+    IsFirstStuck-passed routes c.args.outs.now c.args.page c.args.input c.args.first c.requires.input free c.requires.first

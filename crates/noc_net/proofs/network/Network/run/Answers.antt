@@ -6,7 +6,7 @@ use Rattle.noc_model.specs.Good.{IsGoodSetup}
 use Rattle.noc_model.specs.Halves.{beat_at}
 use Rattle.noc_model.specs.Network.{Run}
 use Rattle.noc_model.specs.Unseen.{AreInStep}
-use Rattle.noc_progress.proofs.Theorems.{accepted-never-stuck}
+use Rattle.noc_progress.proofs.Theorems.{not-stuck}
 use Rattle.noc_net.specs.Parts.{setup_in}
 use Rattle.noc_net.proofs.PartsLemmas.{parts-in_step, views-in_step, wires-in_step}
 use Rattle.noc_net.proofs.network.Network.run.Goals as goal
@@ -43,7 +43,7 @@ invariant_of-self c =
 
 pub returns-then-cycles-eq0-clause-unstuck : goal.returns-then-cycles-eq0-clause-unstuck
 returns-then-cycles-eq0-clause-unstuck c = λ ranks ranked.
-    accepted-never-stuck c.args.self.now.net ranks (subst (λ (u : Run). IsGoodSetup u.net) c.self.view_is c.self.invariant.good) ranked c.args.self.now.count
+    not-stuck c.args.self.now.net (subst (λ (u : Run). IsGoodSetup u.net) c.self.view_is c.self.invariant.good) ranks ranked c.args.self.now.count
 
 pub returns-clause-unstuck : goal.returns-clause-unstuck
-returns-clause-unstuck c = λ ranks ranked. accepted-never-stuck _ ranks c.self.invariant.good ranked _
+returns-clause-unstuck c = λ ranks ranked. not-stuck _ c.self.invariant.good ranks ranked _

@@ -1,7 +1,7 @@
 use Rattle.std.proofs.Common.{◌∙◌, subst}
 use Rattle.noc_model.specs.Good.{IsGoodSetup}
 use Rattle.noc_model.specs.Network.{Run}
-use Rattle.noc_progress.proofs.Theorems.{accepted-never-stuck}
+use Rattle.noc_progress.proofs.Theorems.{not-stuck}
 use Rattle.noc_net.proofs.network.Network.stuck.Goals as goal
 
 pub is_stuck_since-requires-clause-good : goal.is_stuck_since-requires-clause-good
@@ -9,4 +9,4 @@ is_stuck_since-requires-clause-good c = subst (λ (u : Run). IsGoodSetup u.net) 
 
 pub returns-in-Some-clause-ranked : goal.returns-in-Some-clause-ranked
 returns-in-Some-clause-ranked c = λ ranks ranked.
-    c.is_stuck_since.ensures ∙ accepted-never-stuck c.args.self.now.net ranks (subst (λ (u : Run). IsGoodSetup u.net) c.self.view_is c.self.invariant.good) ranked c.args.self.now.count
+    c.is_stuck_since.ensures ∙ not-stuck c.args.self.now.net (subst (λ (u : Run). IsGoodSetup u.net) c.self.view_is c.self.invariant.good) ranks ranked c.args.self.now.count

@@ -2,4 +2,4 @@ use Rattle.noc_route.proofs.PlaceLemmas.{flat-below}
 use Rattle.noc_route.proofs.frame.Frame.slot.Goals as goal
 
 pub returns-clause-within : goal.returns-clause-within
-returns-clause-within c = rw c.width.ensures.value (flat-below c.args.block _ c.args.input _ c.requires.block c.requires.input)
+returns-clause-within c = rw c.width.ensures.value (flat-below c.args.page _ c.args.input _ c.requires.page c.requires.input)

@@ -1,5 +1,7 @@
-use Rattle.std.proofs.Common.{arith}
-use Rattle.noc_topo.proofs.ShapeLemmas.{distance-stored, sizes-stored}
+use Rattle.std.proofs.Common.{arith, subst}
+use Rattle.noc_topo.specs.Shape.{IsGrid}
+use Rattle.noc_topo.proofs.DistanceLemmas.{distance-bound}
+use Rattle.noc_topo.proofs.ShapeLemmas.{distance-stored}
 use Rattle.noc_topo.proofs.shape.Shape.distance.Goals as goal
 
 pub returns-clause-value : goal.returns-clause-value
@@ -9,7 +11,5 @@ returns-clause-value c =
 
 pub returns-clause-bound : goal.returns-clause-bound
 returns-clause-bound c =
-    let first = sizes-stored c.self.inside c.self.invariant 0 (omega arith) in
-    let second = sizes-stored c.self.inside c.self.invariant 1 (omega arith) in
-    let third = sizes-stored c.self.inside c.self.invariant 2 (omega arith) in
-    omega arith
+    let far = distance-bound c.args.self.now c.args.from c.args.to (subst IsGrid c.self.view_is c.self.invariant.shape) in
+    omega (arith, returns-clause-value c, far)

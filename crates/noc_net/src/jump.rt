@@ -1,0 +1,120 @@
+//! Time that jumps: cycles in which nothing happens are run at once.
+
+ghost use Rattle.std.specs.Prelude.{◌≡◌, ℕ, ◌+◌, ◌-◌, ◌<◌, ◌≤◌, All, length, map, true};
+ghost use Rattle.noc_topo.specs.Shape.{nodes as nodes_of, ports as ports_of};
+ghost use Rattle.noc_router.specs.Decided.{IsDecidedFor};
+ghost use Rattle.noc_router.specs.Still.{IsHeldBefore, waited};
+ghost use Rattle.noc_router.specs.View.{IsRelationOf};
+ghost use Rattle.noc_model.specs.Halves.{IsSilent};
+ghost use Rattle.noc_model.specs.Network.{Setup};
+ghost use Rattle.noc_model.specs.Unseen.{AreInStepUnseen};
+ghost use Rattle.noc_net.specs.Jump.{AreStill, had_event_in};
+
+use crate::network::arrived;
+use crate::room::LINKS;
+use noc_packet::Beat;
+use noc_route::Relation;
+use noc_router::{Plan, Router};
+
+// Where cycle `last` had no event and nothing happens in those after it, runs them, as far as the next injection or `end`. Gives
+// the cycle that is next.
+pub(crate) fn jump(
+    relation: &Relation,
+    plan: &mut Plan,
+    last: u64,
+    end: u64,
+    routers: &mut [Router],
+    beats: &[[Beat; LINKS]],
+) -> u64
+    requires order { last < end }
+    requires plan { IsDecidedFor (ports_of relation.now.grid) relation.now.vcs plan.old }
+    requires routers { All (λ v. IsRelationOf relation.now v) routers.old }
+    requires count { length beats.now ≡ nodes_of relation.now.grid }
+    ensures plan { IsDecidedFor (ports_of relation.now.grid) relation.now.vcs plan.new }
+    ensures later { last < result }
+    ensures within { result ≤ end }
+    ensures in_step { (net : Setup) → net.relation ≡ relation.now → AreInStepUnseen net (last + 1) routers.old beats.now → AreInStepUnseen net result routers.new beats.now }
+{
+    let first = last + 1;
+    if had_event(last, routers) {
+        return first;
+    }
+    let until = first_injection(end, routers);
+    if until <= first {
+        return first;
+    }
+    if !all_silent(beats) {
+        return first;
+    }
+    if !all_still(relation, plan, routers) {
+        return first;
+    }
+    wait_all(relation, plan, first, until, routers);
+    until
+}
+
+// Whether a router had an event in this cycle, which is the last.
+fn had_event(cycle: u64, routers: &[Router]) -> bool
+    ensures { result ≡ had_event_in cycle routers.now }
+{
+    for router in routers {
+        if router.last_event() == Some(cycle) {
+            return true;
+        }
+    }
+    false
+}
+
+// Before which cycle, at most `end`, no router injects if nothing happens.
+fn first_injection(end: u64, routers: &[Router]) -> u64
+    ensures within { result ≤ end }
+    ensures held { All (IsHeldBefore result) routers.now }
+{
+    let mut until = end;
+    for router in routers {
+        if let Some(due) = router.next_injection() {
+            until = until.min(due);
+        }
+    }
+    until
+}
+
+// Whether no beat is in flight.
+fn all_silent(beats: &[[Beat; LINKS]]) -> bool
+    ensures { result ≡ true → All IsSilent beats.now }
+{
+    for row in beats {
+        if !arrived(row).is_empty() {
+            return false;
+        }
+    }
+    true
+}
+
+// Whether no verdict takes effect in any router.
+fn all_still(relation: &Relation, plan: &mut Plan, routers: &[Router]) -> bool
+    requires plan { IsDecidedFor (ports_of relation.now.grid) relation.now.vcs plan.old }
+    requires routers { All (λ v. IsRelationOf relation.now v) routers.now }
+    ensures plan { IsDecidedFor (ports_of relation.now.grid) relation.now.vcs plan.new }
+    ensures still { result ≡ true → AreStill relation.now routers.now }
+{
+    for router in routers {
+        if !router.is_still(relation, plan) {
+            return false;
+        }
+    }
+    true
+}
+
+// Each router makes the cycles from `first` to before `end`, in which nothing happens.
+fn wait_all(relation: &Relation, plan: &mut Plan, first: u64, end: u64, routers: &mut [Router])
+    requires order { first < end }
+    requires plan { IsDecidedFor (ports_of relation.now.grid) relation.now.vcs plan.old }
+    requires routers { All (λ v. IsRelationOf relation.now v) routers.old }
+    ensures plan { IsDecidedFor (ports_of relation.now.grid) relation.now.vcs plan.new }
+    ensures routers { routers.new ≡ map (waited relation.now (end - first) (end - 1)) routers.old }
+{
+    for node in 0..routers.len() {
+        routers[node].wait(relation, plan, first, end);
+    }
+}

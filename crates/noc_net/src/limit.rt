@@ -1,0 +1,81 @@
+//! By when all packets of a network have to be out, and whether they are.
+
+ghost use Rattle.std.specs.Prelude.{◌≡◌, ◌+◌, ◌*◌, ◌<◌, ◌≤◌, length, true};
+ghost use Rattle.noc_route.specs.Ranks.{IsRankedBy, Ranking};
+ghost use Rattle.noc_model.specs.Good.{IsGoodSetup};
+ghost use Rattle.noc_model.specs.Network.{packet_at, state_at};
+ghost use Rattle.noc_model.specs.Progress.{budget, hops};
+ghost use Rattle.noc_net.specs.Limit.{are_all_out, last_due, limit_of};
+
+use crate::network::Network;
+use noc_packet::{MAX_DUE, MAX_LENGTH, MAX_PACKETS};
+use noc_topo::MAX_DISTANCE;
+
+// The most events that it takes to bring one packet out.
+const MAX_EVENTS: u64 = MAX_LENGTH as u64 * (3 * MAX_DISTANCE as u64 + 2)
+    + 2 * (MAX_DISTANCE as u64 + 1);
+
+/// The greatest limit that a network has, in cycles: 120,000,000.
+pub const MAX_LIMIT: u64 = MAX_DUE as u64 + MAX_PACKETS as u64 * MAX_EVENTS;
+
+impl Network {
+    /// The count by which every packet is out where the relation is ranked: the last due time and the budget. It is 0 without
+    /// packets.
+    pub fn limit(&self) -> u64
+        ensures value { result ≡ limit_of self.now.net }
+        ensures few { result ≤ MAX_LIMIT }
+    {
+        self.last_due() + self.budget()
+    }
+
+    // The greatest due time of the packets, 0 where there are none.
+    fn last_due(&self) -> u64
+        ensures value { result ≡ last_due self.now.net.packets }
+        ensures few { result ≤ MAX_DUE }
+    {
+        let mut last = 0u32;
+        for number in 0..self.packets() {
+            last = last.max(self.packet(number).due);
+        }
+        u64::from(last)
+    }
+
+    // How many events it takes to bring every packet out.
+    fn budget(&self) -> u64
+        ensures value { result ≡ budget self.now.net }
+        ensures few { result ≤ MAX_PACKETS * MAX_EVENTS }
+    {
+        let mut events = 0u64;
+        for number in 0..self.packets() {
+            events += self.events_of(number);
+        }
+        events
+    }
+
+    // How many events it takes to bring a packet out: of each flit an injection, a move at each router, and a landing and a credit
+    // for each hop; and of the head to be routed and granted at each router.
+    fn events_of(&self, number: usize) -> u64
+        requires number { number < length self.now.net.packets }
+        requires good { IsGoodSetup self.now.net }
+        ensures value { result ≡ (packet_at self.now.net number).length * (3 * hops self.now.net number + 2) + 2 * (hops self.now.net number + 1) }
+        ensures few { result ≤ MAX_EVENTS }
+    {
+        let packet = self.packet(number);
+        let shape = self.relation().shape();
+        let hops = shape.distance(packet.source as usize, packet.destination as usize) as u64;
+        u64::from(packet.length) * (3 * hops + 2) + 2 * (hops + 1)
+    }
+
+    /// Whether the tail of every packet is out: where the relation is ranked, at the limit at the latest.
+    pub fn all_out(&self) -> bool
+        ensures value { result ≡ are_all_out self.now.net (state_at self.now.net self.now.count) }
+        ensures ranked { (ranks : Ranking) → IsRankedBy self.now.net.relation ranks → limit_of self.now.net ≤ self.now.count → result ≡ true }
+    {
+        for number in 0..self.packets() {
+            if self.arrival(number).is_none() {
+                return false;
+            }
+        }
+        true
+    }
+}

@@ -1,0 +1,38 @@
+-- The least of numbers over all classes and destinations.
+use Rattle.std.proofs.Common.{◌≡◌, ℕ, ◌+◌, ◌*◌, ◌/◌, ◌%◌, ◌<◌, ◌≤◌, Option, sym, subst, arith, inl, inr}
+use Rattle.std.specs.Prelude.{◌⊎◌}
+use Rattle.std.proofs.lemmas.Bool.{cases_lt}
+use Rattle.noc_topo.specs.Shape.{nodes}
+use Rattle.noc_route.specs.Routes.{Routes}
+use Rattle.noc_route.proofs.PlaceLemmas.{flat-below, flat-div, flat-mod}
+use Rattle.noc_rank.specs.Ahead.{IsLeastOf, lesser}
+use Rattle.noc_rank.specs.Descents.{IsOverFirst, IsOver}
+use Rattle.noc_rank.proofs.LeastLemmas.{least-same, least-either}
+
+pub over-more : (routes : Routes) (P : ℕ → ℕ → ℕ → Type 0) (i : ℕ) (best value : Option ℕ) → IsLeastOf (IsOverFirst routes P i) best → IsLeastOf (P (i / nodes routes.grid) (i % nodes routes.grid)) value
+    → IsLeastOf (IsOverFirst routes P (i + 1)) (lesser best value)
+over-more routes P i best value old new = least-same _ _ (lesser best value) to from (least-either _ _ best value old new)
+  where
+    to : (n : ℕ) → IsOverFirst routes P i n ⊎ P (i / nodes routes.grid) (i % nodes routes.grid) n → IsOverFirst routes P (i + 1) n
+    to n (inl h) = record { number = h.number; below = omega (arith, h.below); holds = h.holds }
+    to n (inr h) = record { number = i; below = omega arith; holds = h }
+
+    from : (n : ℕ) → IsOverFirst routes P (i + 1) n → IsOverFirst routes P i n ⊎ P (i / nodes routes.grid) (i % nodes routes.grid) n
+    from n h = at (cases_lt h.number i)
+      where
+        at : (h.number < i) ⊎ (i ≤ h.number) → IsOverFirst routes P i n ⊎ P (i / nodes routes.grid) (i % nodes routes.grid) n
+        at (inl less) = inl (record { number = h.number; below = less; holds = h.holds })
+        at (inr last) =
+            let same : h.number ≡ i = omega (arith, last, h.below) in
+            inr (subst (λ x. P (x / nodes routes.grid) (x % nodes routes.grid) n) same h.holds)
+
+-- what holds for a class and a destination that exist holds over all of them
+pub over-one : (routes : Routes) (P : ℕ → ℕ → ℕ → Type 0) (m t n : ℕ) → m < routes.classes → t < nodes routes.grid → P m t n → IsOver routes P n
+over-one routes P m t n a b h =
+    let class : (m * nodes routes.grid + t) / nodes routes.grid ≡ m = flat-div m (nodes routes.grid) t b in
+    let dst : (m * nodes routes.grid + t) % nodes routes.grid ≡ t = flat-mod m (nodes routes.grid) t b in
+    record {
+      number = m * nodes routes.grid + t;
+      below = flat-below m routes.classes t (nodes routes.grid) a b;
+      holds = subst (λ x. P x ((m * nodes routes.grid + t) % nodes routes.grid) n) (sym class) (subst (λ x. P m x n) (sym dst) h);
+    }

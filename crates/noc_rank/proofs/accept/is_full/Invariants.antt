@@ -1,0 +1,8 @@
+use Rattle.std.proofs.Common.{◌≡◌, ◌<◌, ◌/◌, ◌%◌, ℕ, true}
+use Rattle.std.specs.Prelude.{is_some}
+use Rattle.noc_route.specs.Ranks.{is_channel, rank_at}
+use Rattle.noc_rank.proofs.accept.is_full.Given as goal
+
+abbrev pub invariant-loop-place : goal.invariant-loop-place
+invariant-loop-place l = (n : ℕ) → n < l.place
+    → is_channel l.ranks.grid l.ranks.vcs (n / l.vcs / l.ports) (n / l.vcs % l.ports) (n % l.vcs) ≡ true → is_some (rank_at l.ranks (n / l.vcs / l.ports) (n / l.vcs % l.ports) (n % l.vcs)) ≡ true

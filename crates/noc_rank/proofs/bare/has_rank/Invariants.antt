@@ -1,0 +1,6 @@
+use Rattle.std.proofs.Common.{ℕ, ◌<◌}
+use Rattle.noc_rank.specs.Bare.{IsRankedIn}
+use Rattle.noc_rank.proofs.bare.has_rank.Given as goal
+
+abbrev pub invariant-loop-index : goal.invariant-loop-index
+invariant-loop-index l = (i : ℕ) → i < l.index → IsRankedIn l.ranks l.router l.set i → ⊥

@@ -1,0 +1,6 @@
+use Rattle.noc_rank.specs.Ahead.{IsLeastOf}
+use Rattle.noc_rank.specs.Descents.{IsOverFirst, IsAheadAt}
+use Rattle.noc_rank.proofs.descent.first_end.Given as goal
+
+abbrev pub invariant-loop-number : goal.invariant-loop-number
+invariant-loop-number l = IsLeastOf (IsOverFirst l.relation (λ m t n. IsAheadAt l.relation l.ranks l.marks m t l.start n) l.number) l.first

@@ -1,0 +1,6 @@
+use Rattle.noc_rank.specs.Ahead.{IsLeastOf}
+use Rattle.noc_rank.specs.Descents.{IsOverFirst, IsStartBy}
+use Rattle.noc_rank.proofs.descent.first_start.Given as goal
+
+abbrev pub invariant-loop-number : goal.invariant-loop-number
+invariant-loop-number l = IsLeastOf (IsOverFirst l.relation (IsStartBy l.relation l.ranks) l.number) l.first

@@ -1,0 +1,112 @@
+//! Checking ranks against a routing relation (Dally and Towles, chapter 14).
+
+ghost use Rattle.std.specs.Prelude.{◌≡◌, ℕ, ◌+◌, ◌*◌, ◌/◌, ◌%◌, ◌<◌, ◌≤◌, ◌↔◌, IsOk, OnOk, IfErr, IfSome, IfNone, IsTrue, is_some, true, false};
+ghost use Rattle.noc_packet.specs.declared.limits.TheConstants.{MAX_CHANNELS};
+ghost use Rattle.noc_route.specs.Ranks.{IsRankedBy, is_channel, rank_at};
+ghost use Rattle.noc_route.specs.Routes.{IsRelation};
+ghost use Rattle.noc_rank.specs.Rising.{IsFull};
+ghost use Rattle.noc_rank.specs.Faults.{IsFaultOfCheck};
+ghost use Rattle.noc_rank.specs.declared.fault.RankFault.TheVariants.{Memory};
+
+use crate::bare::first_bare;
+use crate::descent::first_descent;
+use crate::fault::RankFault;
+use crate::place::{all_ports, is_channel, link_ports};
+use crate::ranks::{Ranks, rank_at};
+use crate::rising::first_fall;
+use noc_route::Relation;
+use noc_topo::Shape;
+use std::alloc::Global;
+use std::thread::Threads;
+
+/// The answer that a relation is ranked.
+#[derive(Clone, Copy, Debug, PartialEq, Eq)]
+pub struct Accepted;
+
+/// Whether the relation is ranked by these ranks.
+///
+/// Where each link channel has a rank: whether ranks rise with each permitted step from one link channel to the next. Answers
+/// `NotRising` with the first step that does not rise, in the order of class, router, input port and channel, destination,
+/// output port and channel. Looks at the entries in parallel and takes no memory, so `Memory` is never answered.
+///
+/// Where some are adaptive: answers `NoEscape` with the first entry, in the order of class, router, input port and channel,
+/// and destination, to which packets come, away from their destination, and which permits no channel with a rank; then
+/// `Memory` where it was refused; then `NotRisingTo` with the first two channels, in the order of router, port and channel,
+/// such that packets come on from the first to the second, directly or through adaptive channels, whose rank is not greater.
+pub fn check(
+    rt: &(impl Threads + Sync),
+    alloc: Global,
+    relation: &Relation,
+    ranks: &Ranks,
+) -> Result<Accepted, RankFault>
+    requires shape { relation.now.grid ≡ ranks.now.grid }
+    requires vcs { relation.now.vcs ≡ ranks.now.vcs }
+    ensures ok { OnOk result (IsRankedBy relation.now ranks.now) }
+    ensures err { IfErr result (IsFaultOfCheck relation.now ranks.now) }
+    ensures accepted { IsFull ranks.now → IsRankedBy relation.now ranks.now → IsOk result }
+    ensures refused { IsRankedBy relation.now ranks.now → IfErr result (λ fault. fault ≡ Memory) }
+{
+    if is_full(relation.shape(), relation.vcs(), ranks) {
+        return check_steps(rt, relation, ranks);
+    }
+    if let Some(entry) = first_bare(rt, relation, ranks) {
+        return Err(RankFault::NoEscape(entry));
+    }
+    match first_descent(alloc, relation, ranks)? {
+        None => Ok(Accepted),
+        Some(descent) => Err(descent.fault()),
+    }
+}
+
+/// Whether each link channel has a rank.
+fn is_full(shape: &Shape, vcs: usize, ranks: &Ranks) -> bool
+    requires shape { shape.now ≡ ranks.now.grid }
+    requires vcs { vcs ≡ ranks.now.vcs }
+    requires few { vcs ≤ MAX_CHANNELS }
+    ensures { IsTrue result ↔ IsFull ranks.now }
+{
+    let ports = link_ports(shape);
+    for place in 0..all_ports(shape) * vcs {
+        let (router, port, vc) = (place / vcs / ports, place / vcs % ports, place % vcs);
+        if is_adaptive(shape, vcs, ranks, router, port, vc) {
+            return false;
+        }
+    }
+    true
+}
+
+/// Whether this is a link channel without a rank.
+fn is_adaptive(
+    shape: &Shape,
+    vcs: usize,
+    ranks: &Ranks,
+    router: usize,
+    port: usize,
+    vc: usize,
+) -> bool
+    requires shape { shape.now ≡ ranks.now.grid }
+    requires vcs { vcs ≡ ranks.now.vcs }
+    ensures { (result ≡ false) ↔ (is_channel ranks.now.grid ranks.now.vcs router port vc ≡ true → is_some (rank_at ranks.now router port vc) ≡ true) }
+{
+    is_channel(shape, vcs, router, port, vc) && rank_at(ranks, router, port, vc).is_none()
+}
+
+/// Where each link channel has a rank, whether ranks rise with each step.
+fn check_steps(
+    rt: &(impl Threads + Sync),
+    relation: &Relation,
+    ranks: &Ranks,
+) -> Result<Accepted, RankFault>
+    requires shape { relation.now.grid ≡ ranks.now.grid }
+    requires vcs { relation.now.vcs ≡ ranks.now.vcs }
+    requires full { IsFull ranks.now }
+    requires built { IsRelation relation.now }
+    ensures ok { OnOk result (IsRankedBy relation.now ranks.now) }
+    ensures err { IfErr result (IsFaultOfCheck relation.now ranks.now) }
+    ensures accepted { IsRankedBy relation.now ranks.now → IsOk result }
+{
+    match first_fall(rt, relation, ranks) {
+        None => Ok(Accepted),
+        Some(fall) => Err(fall.fault()),
+    }
+}

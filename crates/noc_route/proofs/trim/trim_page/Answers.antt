@@ -1,0 +1,17 @@
+use Rattle.std.proofs.Common.{◌≡◌, ◌+◌, ◌*◌, ℕ, subst, ◌∙◌, arith}
+use Rattle.noc_route.specs.Routes.{width}
+use Rattle.noc_route.specs.Trimming.{routes_in, IsFirstStuck}
+use Rattle.noc_route.proofs.StuckLemmas.{IsBlockTrimmed-more}
+use Rattle.noc_route.proofs.trim.trim_page.Goals as goal
+
+pub loop-input-preserved : goal.loop-input-preserved
+loop-input-preserved c =
+    IsBlockTrimmed-more (routes_in c.args.map.now.frame c.args.sets.now) c.loop-input.sets c.trim_entry-first.new.sets c.args.outs.now c.args.page c.loop-input.input c.loop-input.first c.trim_entry-first.result
+    c.requires.page (omega (arith, c.width-input-end.ensures.value)) (c.loop-input.auto.sets ∙ c.requires.sets) c.trim_entry-first.ensures.sets c.trim_entry-first.ensures.first c.loop-input.invariant
+
+pub returns-clause-first : goal.returns-clause-first
+returns-clause-first c =
+    let P : ℕ → Type 0 = λ n. IsFirstStuck (routes_in c.args.map.now.frame c.loop-input.sets) c.args.outs.now n c.loop-input.first in
+    let w = width c.args.map.now.frame.shape c.args.map.now.frame.vcs in
+    let done : c.args.page * w + c.loop-input.input ≡ (c.args.page + 1) * w = omega (arith, c.width-input-end.ensures.value) in
+    subst P done c.loop-input.invariant.stuck
