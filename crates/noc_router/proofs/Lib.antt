@@ -9,13 +9,13 @@ pub mod Members
 pub mod OfferLemmas
 pub mod OpeningLemmas
 pub mod OutcomeLemmas
+pub mod PassedLemmas
 pub mod PickedLemmas
 pub mod PlaceLemmas
 pub mod PlanFacts
 pub mod PlannedLemmas
 pub mod PutLemmas
 pub mod QuietLemmas
-pub mod RoundLemmas
 pub mod RouterLemmas
 pub mod SettleLemmas
 pub mod SiteLemmas

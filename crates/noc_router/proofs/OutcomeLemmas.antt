@@ -1,6 +1,6 @@
 -- What the outcome of a view says of its channels, and the decisions that it is rebuilt to.
 use Rattle.std.proofs.Common.{◌≡◌, ℕ, ◌+◌, ◌*◌, ◌<◌, ◌≤◌, Bool, true, false, List, [], length, get_or, Option, Some, None, refl, ap, sym, ◌∙◌, arith, inl, inr, subst}
-use Rattle.std.specs.Prelude.{IfSome, ◌⊎◌, ◌/◌, ◌%◌, ◌&&◌, not, is_some, option_map, nat_eq, if◌then◌else◌}
+use Rattle.std.specs.Prelude.{IfSome, ◌⊎◌, ◌/◌, ◌%◌, ◌&&◌, not, option_map, nat_eq, if◌then◌else◌}
 use Rattle.std.proofs.lemmas.Bool.{cases_lt, false≢true}
 use Rattle.std.proofs.lemmas.List.{get_or_past}
 use Rattle.noc_topo.specs.Shape.{ports}
@@ -11,15 +11,12 @@ use Rattle.noc_route.specs.Routes.{Routes}
 use Rattle.noc_vc.specs.Input.{is_idle_phase}
 use Rattle.noc_vc.specs.declared.input.InputState.{InputState}
 use Rattle.noc_vc.specs.declared.input.InputState.TheVariants.{Idle, Waiting, Active}
-use Rattle.noc_alloc.specs.Allocation.{pick_of}
-use Rattle.noc_alloc.proofs.SwitchLemmas.{first_in_turn-below, tabulate-inside}
 use Rattle.noc_router.specs.Decided.{IsDecidedFor}
-use Rattle.noc_router.specs.Requests.{AllBelow}
 use Rattle.noc_router.specs.Settled.{CanGrant, CanSettle, CanTakeEffect, IsOutcomeOf, IsPlanOf, decisions_by, effect_of, finding_by, found_out, found_with, granted_by, outcome_verdict, settled_by, tallied}
 use Rattle.noc_router.specs.Sound.{is_occupied, out_in}
 use Rattle.noc_router.specs.Tally.{empty_finding, finding_at, is_empty_verdict}
-use Rattle.noc_router.specs.Verdict.{Round, Waits, Holds, ask_of, out_of, is_event, verdict_of, pointers_of, ready_of}
-use Rattle.noc_router.specs.View.{View, Site, Outcome, Decisions, asked_for, claim_in, committed, counted, decided_verdict, finding_of, outcome, planned, port_and_vc, route_of, size_of, view_buffer, view_claim, view_input, view_round, view_stands, idle_beats}
+use Rattle.noc_router.specs.Verdict.{Round, Waits, Holds, ask_of, out_of, is_event, verdict_of}
+use Rattle.noc_router.specs.View.{View, Site, Outcome, Decisions, asked_for, claim_in, committed, counted, decided_verdict, finding_of, outcome, planned, port_and_vc, route_of, size_of, view_buffer, view_claim, view_input, view_round, idle_beats}
 use Rattle.noc_router.specs.declared.verdict.Verdict.{Verdict}
 use Rattle.noc_router.specs.declared.verdict.Verdict.TheVariants.{Empty, Routed, Granted, Moved, NoFlit, NoIdleChannel, LostChannel, NoCredit, LostInput, LostSwitch}
 use Rattle.noc_router.specs.declared.verdict.Finding.{Finding}
@@ -51,23 +48,9 @@ decisions-are relation p v e = ap (λ x. decisions_by x v) e ∙ decisions-plann
 pub plan_of : (p : Outcome) (v : View) → IsOutcomeOf p v → IsPlanOf (decisions_by p v) v
 plan_of p v is = record { relation = is.relation; fits = is.fits; is = decisions-are is.relation p v is.is }
 
--- it has an entry for each channel and port, and each pick is a virtual channel
+-- it has an entry for each channel and port
 pub outcome-decided : (p : Outcome) (v : View) → IsOutcomeOf p v → IsDecidedFor (ports v.site.grid) v.site.vcs p
 outcome-decided p v is = subst (IsDecidedFor (ports v.site.grid) v.site.vcs) (sym is.is) (outcome-lengths is.relation v)
-
-below_named : (n : ℕ) (o : Option ℕ) → IfSome o (λ y. y < n) → (x : ℕ) → o ≡ Some x → x < n
-below_named n None h x e = absurd (cc e)
-below_named n (Some y) h x e = let same : y ≡ x = cc in omega arith
-
-pub outcome-picks : (p : Outcome) (v : View) → IsOutcomeOf p v → AllBelow v.site.vcs p.round.picks
-unfolding outcome view_round
-outcome-picks p v is k d l =
-    let pointers = pointers_of v.arbiters.inputs in
-    let ready = ready_of v.site.vcs (view_stands v) in
-    below_named v.site.vcs (get_or p.round.picks k d)
-    (tabulate-inside (ports v.site.grid) v.site.vcs (pick_of ready v.site.vcs pointers) p.round.picks
-    (λ port. first_in_turn-below v.site.vcs (get_or pointers port 0) (λ vc. is_some (get_or ready (port * v.site.vcs + vc) None)))
-    (ap (λ (x : Outcome). x.round.picks) is.is) k d l)
 
 -- ---- what an outcome says of one channel
 -- the output channel that it asks for

@@ -129,18 +129,18 @@ module _ (rest rest' index : ℕ) (members : (k : ℕ) → has_bit rest' k ≡ (
   verdict-gone : (d : Decisions) (k : ℕ) → k ≡ index → left_verdict d rest' k ≡ decided_verdict d k
   verdict-gone d k e = ap (λ b. if b then Empty else decided_verdict d k) (gone k e)
 
-  left-kept : (m : Option ℕ) → m ≢ Some index → left rest' m ≡ left rest m
+  pub left-kept : (m : Option ℕ) → m ≢ Some index → left rest' m ≡ left rest m
   left-kept None other = refl
   left-kept (Some k) other = ap (λ b. if b then None else Some k) (kept k (λ e. other (ap Some e)))
 
   left-here : (m : Option ℕ) → m ≡ Some index → left rest m ≡ None
   left-here m e = ap (left rest) e ∙ ap (λ b. if b then None else Some index) member
 
-  left-gone : (m : Option ℕ) → m ≡ Some index → left rest' m ≡ Some index
+  pub left-gone : (m : Option ℕ) → m ≡ Some index → left rest' m ≡ Some index
   left-gone m e = ap (left rest') e ∙ ap (λ b. if b then None else Some index) (gone index refl)
 
   -- a flit that does not move leaves no credit
-  credit-kept : (d : Decisions) (v : View) (p : ℕ) → is_moved (decided_verdict d index) ≡ false → credit_by d v rest' p ≡ credit_by d v rest p
+  pub credit-kept : (d : Decisions) (v : View) (p : ℕ) → is_moved (decided_verdict d index) ≡ false → credit_by d v rest' p ≡ credit_by d v rest p
   credit-kept d v p e =
       find-same (λ vc. is_moved (left_verdict d rest' (p * v.site.vcs + vc))) (λ vc. is_moved (left_verdict d rest (p * v.site.vcs + vc))) v.site.vcs
       (λ vc l. at (p * v.site.vcs + vc) (cases_eq (p * v.site.vcs + vc) index))
@@ -152,7 +152,7 @@ module _ (rest rest' index : ℕ) (members : (k : ℕ) → has_bit rest' k ≡ (
           ∙ sym (ap is_moved (ap (left_verdict d rest) same ∙ verdict-here d))
 
 -- ---- who is granted, and who moves
-port_below : (v : View) (o : ℕ) → 0 < v.site.vcs → o < size_of v.site → o / v.site.vcs < ports v.site.grid
+pub port_below : (v : View) (o : ℕ) → 0 < v.site.vcs → o < size_of v.site → o / v.site.vcs < ports v.site.grid
 port_below v o some l = (div-lt_iff_lt-mul some).1 l
 
 pub mover_to-is : (d : Decisions) (v : View) (o i : ℕ) → mover_to v d.round o ≡ Some i → (mover v.site d.round (o / v.site.vcs) ≡ Some i) × (out_of (view_claim v i) ≡ Some o)
@@ -201,7 +201,7 @@ module _ (d : Decisions) (v : View) (whole : IsWhole v) (lists : Lists d v) wher
   not_granted : (index o : ℕ) → o < size_of v.site → verdict_in d v index ≢ Granted → get_or d.round.grants o None ≢ Some index
   not_granted index o l other g = let a = granted-asks d v o index lists l g in other (is-granted d v o index a.1 g)
 
-  not_mover : (index p : ℕ) → p < ports v.site.grid → verdict_in d v index ≢ Moved → mover v.site d.round p ≢ Some index
+  pub not_mover : (index p : ℕ) → p < ports v.site.grid → verdict_in d v index ≢ Moved → mover v.site d.round p ≢ Some index
   not_mover index p l other m = let mv = mover-is d v p index lists l m in other mv.verdict
 
   not_mover_to : (index o : ℕ) → o < size_of v.site → verdict_in d v index ≢ Moved → mover_to v d.round o ≢ Some index
@@ -219,10 +219,10 @@ module _ (d : Decisions) (v w : View) (rest rest' index : ℕ) (whole : IsWhole 
   below-step : (k : ℕ) → has_bit rest' k ≡ true → k < size_of v.site
   below-step k t = so_far.below k (second (not (nat_eq k index)) (has_bit rest k) (sym (members k) ∙ t))
 
-  buffer-here : view_buffer w index ≡ view_buffer v index
+  pub buffer-here : view_buffer w index ≡ view_buffer v index
   buffer-here = so_far.buffers index inside ∙ ap (buffer_after (view_buffer v index)) (verdict-here rest rest' index members member d)
 
-  input-here : view_input w index ≡ view_input v index
+  pub input-here : view_input w index ≡ view_input v index
   input-here = so_far.inputs index inside ∙ ap (input_after d v index (view_input v index)) (verdict-here rest rest' index members member d)
 
   buffers-step : (bs : List (List Flit)) → get_or bs index [] ≡ buffer_after (view_buffer v index) (decided_verdict d index) → ((i : ℕ) → i ≢ index → get_or bs i [] ≡ view_buffer w i)
@@ -555,13 +555,13 @@ module _ (d : Decisions) (v w : View) (rest rest' index : ℕ) (whole : IsWhole 
       ∙ ap (λ (x : Option Flit). option_map (λ y. (mv.out % v.site.vcs, y)) x) first
       ∙ ap (λ n. Some (n, f)) (sym vc_is)
 
-  flit-elsewhere : (p : ℕ) → p < ports v.site.grid → p ≢ to → left rest' (mover v.site d.round p) ≡ left rest (mover v.site d.round p)
+  pub flit-elsewhere : (p : ℕ) → p < ports v.site.grid → p ≢ to → left rest' (mover v.site d.round p) ≡ left rest (mover v.site d.round p)
   flit-elsewhere p l other = left-kept rest rest' index members member (mover v.site d.round p) (other_port p l other)
 
   back_in : back < v.site.vcs
   back_in = let m : index % v.site.vcs < v.site.vcs = mod-lt index whole.some_vc in omega arith
 
-  credit-from : (p : ℕ) → p < ports v.site.grid → from ≡ p → credit_by d v rest' p ≡ Some back
+  pub credit-from : (p : ℕ) → p < ports v.site.grid → from ≡ p → credit_by d v rest' p ≡ Some back
   credit-from p l same =
       find-at (λ k. is_moved (left_verdict d rest' (p * v.site.vcs + k))) v.site.vcs back back_in
       (ap is_moved (verdict-gone rest rest' index members member d (p * v.site.vcs + back) here) ∙ ap (λ k. is_moved (decided_verdict d k)) here ∙ ap is_moved e)
@@ -582,13 +582,13 @@ module _ (d : Decisions) (v w : View) (rest rest' index : ℕ) (whole : IsWhole 
           let col : j % v.site.vcs ≡ k = mod-mul-add p v.site.vcs k u in
           sym col ∙ one_pick d v j index whole.some_vc moved verdict_now (row ∙ sym same ∙ from_is) ∙ sym back_is
 
-  credit-elsewhere : (p : ℕ) → p ≢ from → credit_by d v rest' p ≡ credit_by d v rest p
+  pub credit-elsewhere : (p : ℕ) → p ≢ from → credit_by d v rest' p ≡ credit_by d v rest p
   credit-elsewhere p other =
       find-same (λ k. is_moved (left_verdict d rest' (p * v.site.vcs + k))) (λ k. is_moved (left_verdict d rest (p * v.site.vcs + k))) v.site.vcs
       (λ k u. ap is_moved (verdict-kept rest rest' index members member d (p * v.site.vcs + k)
       (λ same. other (sym (div-mul-add p v.site.vcs k u) ∙ ap (λ j. j / v.site.vcs) same ∙ sym from_is))))
 
-  to_in : to < ports v.site.grid
+  pub to_in : to < ports v.site.grid
   to_in = let h : mv.out / v.site.vcs < ports v.site.grid = port_below v mv.out whole.some_vc out_in in omega arith
 
   -- the sink after the move
@@ -714,7 +714,7 @@ module _ (d : Decisions) (v : View) (rest : ℕ) (whole : IsWhole v) (lists : Li
       let a = granted-asks d v o i lists l e in
       is_left i a.0 Granted (is-granted d v o i a.1 e) refl
 
-  mover_left : (p : ℕ) → p < ports v.site.grid → (m : Option ℕ) → mover v.site d.round p ≡ m → left rest m ≡ None
+  pub mover_left : (p : ℕ) → p < ports v.site.grid → (m : Option ℕ) → mover v.site d.round p ≡ m → left rest m ≡ None
   mover_left p l None e = refl
   mover_left p l (Some i) e =
       let mv = mover-is d v p i lists l e in
@@ -724,10 +724,10 @@ module _ (d : Decisions) (v : View) (rest : ℕ) (whole : IsWhole v) (lists : Li
   mover_to_left o l None e = refl
   mover_to_left o l (Some i) e = mover_left (o / v.site.vcs) (port_below v o whole.some_vc l) (Some i) (mover_to-is d v o i e).0
 
-  no_credit : (p : ℕ) → p < local_port v.site.grid → credit_by d v rest p ≡ None
+  pub no_credit : (p : ℕ) → p < ports v.site.grid → credit_by d v rest p ≡ None
   no_credit p l =
       find-none (λ k. is_moved (left_verdict d rest (p * v.site.vcs + k))) v.site.vcs
-      (λ k u. let m : p * v.site.vcs + k < v.site.vcs * ports v.site.grid = mul-add-lt p v.site.vcs k (ports v.site.grid) (omega arith) u in
+      (λ k u. let m : p * v.site.vcs + k < v.site.vcs * ports v.site.grid = mul-add-lt p v.site.vcs k (ports v.site.grid) l u in
       quiet-moved (left_verdict d rest (p * v.site.vcs + k)) (all_left (p * v.site.vcs + k) (omega arith)))
 
   beat_parts : Option (ℕ × Flit) → Option ℕ → Beat
@@ -750,7 +750,7 @@ module _ (d : Decisions) (v : View) (rest : ℕ) (whole : IsWhole v) (lists : Li
     outputs = λ o l. sym (ap (λ x. spent_by v (held_by v (view_output v o) x) (left rest (mover_to v d.round o))) (grant_left o l (get_or d.round.grants o None) refl)
         ∙ ap (λ x. spent_by v (view_output v o) x) (mover_to_left o l (mover_to v d.round o) refl));
     beats = λ p l. ap (λ xs. get_or xs p idle_beat) idle ∙ get_or-replicate (local_port v.site.grid) p idle_beat idle_beat l
-        ∙ sym (ap (λ x. beat_parts (flit_by v x) (credit_by d v rest p)) (mover_left p (omega arith) (mover v.site d.round p) refl) ∙ ap (λ y. beat_parts None y) (no_credit p l));
+        ∙ sym (ap (λ x. beat_parts (flit_by v x) (credit_by d v rest p)) (mover_left p (omega arith) (mover v.site d.round p) refl) ∙ ap (λ y. beat_parts None y) (no_credit p (omega arith)));
     ends = ap (λ a. sink_ends a v.given v.ends) first-arrived;
     misfits = ap (λ a. sink_misfits a v.ends v.misfits) first-arrived;
     event_kept = λ t. t;
@@ -779,10 +779,10 @@ or_right true b e = refl
 or_right false b e = e
 
 module _ (d : Decisions) (v w : View) (rest : ℕ) (whole : IsWhole v) (lists : Lists d v) (so_far : IsSettling d v rest w) (none : (k : ℕ) → has_bit rest k ≡ false) where
-  verdict-all : (k : ℕ) → left_verdict d rest k ≡ decided_verdict d k
+  pub verdict-all : (k : ℕ) → left_verdict d rest k ≡ decided_verdict d k
   verdict-all k = ap (λ b. if b then Empty else decided_verdict d k) (none k)
 
-  left-all : (m : Option ℕ) → left rest m ≡ m
+  pub left-all : (m : Option ℕ) → left rest m ≡ m
   left-all None = refl
   left-all (Some k) = ap (λ b. if b then None else Some k) (none k)
 

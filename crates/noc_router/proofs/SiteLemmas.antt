@@ -14,7 +14,7 @@ use Rattle.noc_vc.specs.Output.{credit_fits, credited}
 use Rattle.noc_router.specs.declared.router.Router.TheInside.{Inside}
 use Rattle.noc_router.specs.Inside.{IsRouter, view_of}
 use Rattle.noc_router.specs.Settled.{tallied, settled}
-use Rattle.noc_router.specs.Verdict.{arbiters_after}
+use Rattle.noc_router.specs.Verdict.{Turns, arbiters_after}
 use Rattle.noc_router.specs.View.{View, Site, Decisions, with_landed, with_misfit, with_flit, with_credit, taken, taken_from, all_taken, injected, injected_from, begun_on, with_injected, is_vacant, committed, tail_packet, flit_out, has_link, view_buffer, view_input, view_output, idle_beat, idle_beats, decided_verdict, buffer_after, input_after, output_after, has_event, beat_out, counted, local_channel, put}
 use Rattle.noc_router.proofs.SettleLemmas.{arrival-is, sink_ends, sink_misfits}
 
@@ -107,9 +107,13 @@ settled-site d v = ap (λ (x : View). x.site) (settled-parts d v)
 pub committed-site : (d : Decisions) (v : View) → (committed d v).site ≡ v.site
 committed-site d v = ap (λ (x : View). x.site) (committed-parts d v)
 
+-- the pointers are these, and the cycle ends
+abbrev pub closed_with : Turns → View → View
+closed_with turns v = record v { arbiters = turns; last_event = (if v.had_event then Some v.given else v.last_event); had_event = false }
+
 -- what is counted, settled, turned and closed is committed, but for the findings
-pub committed-is : (d : Decisions) (v : View) → turned_and_closed d (settled d (tallied d v)) ≡ record (committed d v) { findings = v.findings }
-committed-is d v = ap (turned_and_closed d) (settled-parts d (tallied d v)) ∙ sym (ap (λ (x : View). record x { findings = v.findings }) (committed-parts d v))
+pub committed-is : (d : Decisions) (v : View) → closed_with (arbiters_after d.round v.arbiters) (settled d (tallied d v)) ≡ record (committed d v) { findings = v.findings }
+committed-is d v = ap (closed_with (arbiters_after d.round v.arbiters)) (settled-parts d (tallied d v)) ∙ sym (ap (λ (x : View). record x { findings = v.findings }) (committed-parts d v))
 
 -- .. which are those of the plan
 pub committed-shown : (d : Decisions) (v : View) → record (committed d v) { findings = d.findings } ≡ committed d v

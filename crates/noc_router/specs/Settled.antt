@@ -4,6 +4,7 @@ use Rattle.noc_topo.specs.Words.{tabulate, map_indexed}
 use Rattle.noc_topo.specs.Shape.{local_port}
 use Rattle.noc_packet.specs.declared.packet.Flit.{Flit}
 use Rattle.noc_packet.specs.declared.packet.Beat.{Beat}
+use Rattle.noc_alloc.specs.Arbiter.{Turn, turned, turn_at}
 use Rattle.noc_route.specs.Routes.{Routes}
 use Rattle.noc_vc.specs.Input.{Input, is_waiting, routed, granted, sent}
 use Rattle.noc_vc.specs.Output.{is_free, has_credit, held, spent}
@@ -151,6 +152,31 @@ CanTakeEffect p v i Routed = ((view_input v i).phase ≡ Idle) × (0 < length (v
 CanTakeEffect p v i Granted = IfSome (slice_index_or p.asks i None) (CanGrant v i)
 CanTakeEffect p v i Moved = CanMove v i (view_input v i).phase
 CanTakeEffect p v i _ = Unit {0}
+
+-- ---- the pointers of the switch
+-- an arbiter of the list goes on past a winner
+abbrev pub turned_past : ℕ → ℕ → List Turn → List Turn
+turned_past k winner turns = slice_set turns k (turned (turn_at turns k) (Some winner))
+
+-- those of the ports of input channel i and output channel o go on past this input channel, which has sent to it
+abbrev pub switch_past : ℕ → ℕ → View → View
+switch_past i o v = record v {
+  arbiters = record v.arbiters {
+    inputs = turned_past (i / v.site.vcs) (i % v.site.vcs) v.arbiters.inputs;
+    outputs = turned_past (o / v.site.vcs) (i / v.site.vcs) v.arbiters.outputs;
+  };
+}
+
+-- .. where input channel i was in this state
+abbrev pub passed_in_phase : ℕ → InputState → View → View
+passed_in_phase i Idle v = v
+passed_in_phase i (Waiting set) v = v
+passed_in_phase i (Active o) v = switch_past i o v
+
+-- .. and had this verdict
+abbrev pub passed_by : ℕ → InputState → Verdict → View → View
+passed_by i phase Moved v = passed_in_phase i phase v
+passed_by i phase _ v = v
 
 -- ---- all verdicts
 unfoldable pub settled : Decisions → View → View

@@ -5,7 +5,6 @@ ghost use Rattle.noc_topo.specs.Shape.{ports as ports_of};
 ghost use Rattle.noc_packet.specs.Set.{has_bit};
 ghost use Rattle.noc_router.specs.Asked.{turns_in};
 ghost use Rattle.noc_router.specs.Decided.{IsDecidedFor, no_outcome};
-ghost use Rattle.noc_router.specs.Requests.{AllBelow};
 ghost use Rattle.noc_router.specs.declared.verdict.Verdict.TheVariants.{Empty};
 ghost use Rattle.noc_router.specs.Verdict.{arbiters_after, is_event, is_granted, is_moved};
 
@@ -53,13 +52,12 @@ impl Plan {
         })
     }
 
-    // The pointers of the arbiters go on past the winners.
+    // The pointers of the output channels go on past the input channels that they were granted to.
     pub(crate) fn advance(&self, arbiters: &mut Arbiters)
         requires lengths { IsDecidedFor arbiters.old.ports arbiters.old.vcs self.now }
-        requires picks { AllBelow arbiters.old.vcs self.now.round.picks }
         ensures ports { arbiters.new.ports ≡ arbiters.old.ports }
         ensures vcs { arbiters.new.vcs ≡ arbiters.old.vcs }
-        ensures turns { turns_in arbiters.new ≡ arbiters_after self.now.round (turns_in arbiters.old) }
+        ensures turns { turns_in arbiters.new ≡ record (turns_in arbiters.old) { channels = (arbiters_after self.now.round (turns_in arbiters.old)).channels } }
     {
         self.requests.advance(arbiters);
     }

@@ -9,7 +9,7 @@ ghost use Rattle.noc_packet.specs.declared.limits.TheConstants.{INDICES, MAX_POR
 ghost use Rattle.noc_router.specs.Members.{AreBelow};
 ghost use Rattle.noc_router.specs.Requests.{AllBelow, AreQuiet, is_given, pick_in};
 
-use crate::allocation::{advance_channels, advance_switch, allocate_channels, offer, pick_channel};
+use crate::allocation::{advance_channels, allocate_channels, offer, pick_channel};
 use crate::arbiters::Arbiters;
 use crate::channels::marked;
 use crate::places::Places;
@@ -192,21 +192,8 @@ impl Requests {
         Some(loser * arbiters.vcs + vc)
     }
 
-    // The pointers go on past the winners.
-    pub(crate) fn advance(&self, arbiters: &mut Arbiters)
-        requires ports { arbiters.old.ports ≡ self.now.ports }
-        requires size { arbiters.old.ports * arbiters.old.vcs ≡ self.now.size }
-        requires picks { AllBelow arbiters.old.vcs (round_in self.now).picks }
-        ensures ports { arbiters.new.ports ≡ arbiters.old.ports }
-        ensures vcs { arbiters.new.vcs ≡ arbiters.old.vcs }
-        ensures turns { turns_in arbiters.new ≡ arbiters_after (round_in self.now) (turns_in arbiters.old) }
-    {
-        self.turn_channels(arbiters);
-        self.turn_switch(arbiters);
-    }
-
     // The pointers of the output channels go on past the input channels that they were granted to.
-    fn turn_channels(&self, arbiters: &mut Arbiters)
+    pub(crate) fn advance(&self, arbiters: &mut Arbiters)
         requires size { arbiters.old.ports * arbiters.old.vcs ≡ self.now.size }
         ensures ports { arbiters.new.ports ≡ arbiters.old.ports }
         ensures vcs { arbiters.new.vcs ≡ arbiters.old.vcs }
@@ -215,24 +202,6 @@ impl Requests {
         ensures outputs { arbiters.new.outputs.items ≡ arbiters.old.outputs.items }
     {
         advance_channels(&self.grants, &mut arbiters.channels);
-    }
-
-    // The pointers of the ports go on past the winners.
-    fn turn_switch(&self, arbiters: &mut Arbiters)
-        requires ports { arbiters.old.ports ≡ self.now.ports }
-        requires picks { AllBelow arbiters.old.vcs (round_in self.now).picks }
-        ensures ports { arbiters.new.ports ≡ arbiters.old.ports }
-        ensures vcs { arbiters.new.vcs ≡ arbiters.old.vcs }
-        ensures channels { arbiters.new.channels.items ≡ arbiters.old.channels.items }
-        ensures inputs { arbiters.new.inputs.items ≡ (arbiters_after (round_in self.now) (turns_in arbiters.old)).inputs }
-        ensures outputs { arbiters.new.outputs.items ≡ (arbiters_after (round_in self.now) (turns_in arbiters.old)).outputs }
-    {
-        advance_switch(
-            &self.picks,
-            &self.wins,
-            &mut arbiters.inputs,
-            &mut arbiters.outputs,
-        );
     }
 
     // The input channels that ask for an output channel.

@@ -15,7 +15,7 @@ ghost use Rattle.noc_router.specs.Found.{empty_finding};
 ghost use Rattle.noc_router.specs.Injection.{next_vc, vacant_vc};
 ghost use Rattle.noc_router.specs.Links.{is_idle_beat};
 ghost use Rattle.noc_router.specs.Requests.{AllBelow, AreAmong};
-ghost use Rattle.noc_router.specs.Settled.{IsOutcomeOf, CanGrant, CanTakeEffect, decisions_by, effect_of, outcome_verdict, tallied, settled, routed_at, granted_at, moved_by, credit_put, flit_put};
+ghost use Rattle.noc_router.specs.Settled.{IsOutcomeOf, CanGrant, CanTakeEffect, decisions_by, effect_of, outcome_verdict, passed_by, switch_past, tallied, settled, routed_at, granted_at, moved_by, credit_put, flit_put};
 ghost use Rattle.noc_router.specs.Sound.{is_awaiting, is_occupied};
 ghost use Rattle.noc_router.specs.Standing.{AreHeads, AreReady, AreWaiting, HaveWon, IsPickedIn, IsStanding, loser_of, way_of};
 ghost use Rattle.noc_router.specs.VerdictSets.{verdict_by};
@@ -499,7 +499,6 @@ impl Router {
     // The verdicts of the plan of this state take effect; the findings stay.
     fn take_effect(&mut self, plan: &Plan)
         requires lengths { IsDecidedFor (ports_of self.old.site.grid) self.old.site.vcs plan.now }
-        requires picks { AllBelow self.old.site.vcs plan.now.round.picks }
         requires plan { IsOutcomeOf plan.now self.old }
         ensures { (relation : Routes) → plan.now ≡ outcome relation self.old → self.new ≡ record (committed (planned relation self.old) self.old) { findings = self.old.findings } }
     {
@@ -536,11 +535,10 @@ impl Router {
         self.links.clear();
     }
 
-    // The pointers of the arbiters go on past the winners.
+    // The pointers of the output channels go on past the input channels that they were granted to.
     fn turn(&mut self, plan: &Plan)
         requires lengths { IsDecidedFor (ports_of self.old.site.grid) self.old.site.vcs plan.now }
-        requires picks { AllBelow self.old.site.vcs plan.now.round.picks }
-        ensures { self.new ≡ record self.old { arbiters = arbiters_after plan.now.round self.old.arbiters } }
+        ensures { self.new ≡ record self.old { arbiters = record self.old.arbiters { channels = (arbiters_after plan.now.round self.old.arbiters).channels } } }
     {
         plan.advance(&mut self.arbiters);
     }
@@ -555,12 +553,12 @@ impl Router {
         }
     }
 
-    // The verdict of every input channel takes effect.
+    // The verdict of every input channel takes effect, and the pointers of the switch go on past the winners.
     fn settle_all(&mut self, plan: &Plan)
         requires lengths { IsDecidedFor (ports_of self.old.site.grid) self.old.site.vcs plan.now }
         requires plan { IsOutcomeOf plan.now self.old }
         requires beats { self.old.to_put ≡ idle_beats self.old.site }
-        ensures { self.new ≡ settled (decisions_by plan.now self.old) self.old }
+        ensures { self.new ≡ record (settled (decisions_by plan.now self.old) self.old) { arbiters = record (arbiters_after plan.now.round self.old.arbiters) { channels = self.old.arbiters.channels } } }
     {
         let mut rest = plan.events();
         for _ in 0..self.ports * self.vcs {
@@ -572,17 +570,18 @@ impl Router {
         }
     }
 
-    // The verdict of one input channel takes effect.
+    // The verdict of one input channel takes effect, and the pointers of the switch go on past it, if it moves.
     fn settle(&mut self, plan: &Plan, index: usize)
         requires lengths { IsDecidedFor (ports_of self.old.site.grid) self.old.site.vcs plan.now }
         requires index { index < size_of self.old.site }
         requires event { is_event (outcome_verdict plan.now index) ≡ true }
         requires can { CanTakeEffect plan.now self.old index (outcome_verdict plan.now index) }
-        ensures { self.new ≡ effect_of plan.now index self.old (outcome_verdict plan.now index) }
+        ensures { self.new ≡ passed_by index (view_input self.old index).phase (outcome_verdict plan.now index) (effect_of plan.now index self.old (outcome_verdict plan.now index)) }
     {
         if plan.is_moved(index) {
             if let InputState::Active(next) = self.channels.state(index) {
                 self.move_flit(index, next);
+                self.turn_switch(index, next);
             }
         } else if plan.is_granted(index) {
             if let Some(next) = plan.ask(index) {
@@ -629,6 +628,17 @@ impl Router {
         self.put_credit(port, vc);
         let (port, vc) = self.indices.place(next);
         self.put_flit(port, vc, flit);
+    }
+
+    // The pointers of the switch go on past an input channel that has sent to an output channel.
+    fn turn_switch(&mut self, index: usize, next: usize)
+        requires index { index < size_of self.old.site }
+        requires next { next < size_of self.old.site }
+        ensures { self.new ≡ switch_past index next self.old }
+    {
+        let (port, vc) = self.indices.place(index);
+        let (output, _) = self.indices.place(next);
+        self.arbiters.turn_switch(port, vc, output);
     }
 
     // A credit returns by a port; the local port has none.

@@ -1,10 +1,9 @@
 use Rattle.std.proofs.Common.{ap, sym, ◌∙◌, subst}
 use Rattle.noc_topo.specs.Shape.{ports}
 use Rattle.noc_router.specs.Decided.{IsDecidedFor}
-use Rattle.noc_router.specs.Requests.{AllBelow}
 use Rattle.noc_router.specs.Settled.{IsOutcomeOf, decisions_by}
 use Rattle.noc_router.specs.View.{Decisions, View, committed, outcome, planned}
-use Rattle.noc_router.proofs.OutcomeLemmas.{committed-from-shown, decisions-are, outcome-decided, outcome-picks, outcome-shown, outcome_of-shown}
+use Rattle.noc_router.proofs.OutcomeLemmas.{committed-from-shown, decisions-are, outcome-decided, outcome-shown, outcome_of-shown}
 use Rattle.noc_router.proofs.SiteLemmas.{committed-shown}
 use Rattle.noc_router.proofs.router.Router.commit.Goals as goal
 
@@ -15,11 +14,6 @@ pub take_effect-requires-clause-lengths : goal.take_effect-requires-clause-lengt
 take_effect-requires-clause-lengths c =
     let P : View → Type 0 = λ x. IsDecidedFor (ports x.site.grid) x.site.vcs c.args.plan.now in
     subst P (sym c.show.ensures) (outcome-decided c.args.plan.now c.args.self.now c.requires)
-
-pub take_effect-requires-clause-picks : goal.take_effect-requires-clause-picks
-take_effect-requires-clause-picks c =
-    let P : View → Type 0 = λ x. AllBelow x.site.vcs c.args.plan.now.round.picks in
-    subst P (sym c.show.ensures) (outcome-picks c.args.plan.now c.args.self.now c.requires)
 
 pub take_effect-requires-clause-plan : goal.take_effect-requires-clause-plan
 take_effect-requires-clause-plan c =

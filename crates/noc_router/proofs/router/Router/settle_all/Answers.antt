@@ -1,11 +1,12 @@
-use Rattle.std.proofs.Common.{arith, sym, ◌∙◌}
+use Rattle.std.proofs.Common.{ap, arith, sym, ◌∙◌}
 use Rattle.std.specs.Prelude.{not, nat_eq}
 use Rattle.noc_packet.specs.Set.{has_bit}
-use Rattle.noc_router.specs.Settled.{decisions_by}
+use Rattle.noc_router.specs.Settled.{decisions_by, outcome_verdict}
 use Rattle.noc_router.proofs.LinkLemmas.{none_below-more, none_from_search}
-use Rattle.noc_router.proofs.OutcomeLemmas.{can_take, effect_first, effect_more, plan_of}
+use Rattle.noc_router.proofs.OutcomeLemmas.{can_take, effect_first, effect_more}
+use Rattle.noc_router.proofs.PassedLemmas.{can_take-turns, each-view, effect-turns, passed-all, passing-more, passing_first, with_turns}
 use Rattle.noc_router.proofs.QuietLemmas.{least_member}
-use Rattle.noc_router.proofs.SettleLemmas.{settling_last, none_left, whole_view, size_view}
+use Rattle.noc_router.proofs.SettleLemmas.{none_left, whole_view, size_view}
 use Rattle.noc_router.proofs.TallyLemmas.{second-of}
 use Rattle.noc_router.proofs.router.Router.settle_all.Goals as goal
 
@@ -13,38 +14,54 @@ pub loop-init : goal.loop-init
 loop-init c =
     let r = c.self.inside in
     let v = c.args.self.now in
-    let whole = whole_view r v c.self.view_is c.self.invariant in (
-      effect_first c.args.plan.now v c.events-rest.result whole c.requires.plan c.requires.lengths.verdicts c.events-rest.ensures c.requires.beats,
-      whole,
-      λ k l. absurd (omega arith),
-      λ k e. sym (c.events-rest.ensures k) ∙ e,
-    )
+    let whole = whole_view r v c.self.view_is c.self.invariant in
+    let each = each-view r v c.self.view_is c.self.invariant in
+    record {
+      whole = whole;
+      each = each;
+      settling = effect_first c.args.plan.now v c.events-rest.result whole c.requires.plan c.requires.lengths.verdicts c.events-rest.ensures c.requires.beats;
+      passing = passing_first c.args.plan.now v c.events-rest.result whole c.requires.plan each c.events-rest.ensures;
+      below = λ k l. absurd (omega arith);
+      events = λ k e. sym (c.events-rest.ensures k) ∙ e;
+    }
 
 pub settle-requires-clause-event : goal.settle-requires-clause-event
-settle-requires-clause-event c = c.loop.invariant.3 c.in-Some.index (least_member c.loop.rest c.in-Some.index c.in-Some.ensures.least)
+settle-requires-clause-event c = c.loop.invariant.events c.in-Some.index (least_member c.loop.rest c.in-Some.index c.in-Some.ensures.least)
 
 pub settle-requires-clause-can : goal.settle-requires-clause-can
 settle-requires-clause-can c =
-    can_take c.args.plan.now c.args.self.now c.loop.self c.loop.rest c.without-rest.result c.in-Some.index c.loop.invariant.1 c.requires.plan c.without-rest.ensures.members
-    (least_member c.loop.rest c.in-Some.index c.in-Some.ensures.least) c.loop.invariant.0
+    let p = c.args.plan.now in
+    let v = c.args.self.now in
+    let i = c.in-Some.index in
+    can_take-turns p v.arbiters c.loop.self i (outcome_verdict p i)
+    (can_take p v (with_turns v.arbiters c.loop.self) c.loop.rest c.without-rest.result i c.loop.invariant.whole c.requires.plan c.without-rest.ensures.members
+    (least_member c.loop.rest i c.in-Some.ensures.least) c.loop.invariant.settling)
 
 pub loop-preserved : goal.loop-preserved
-loop-preserved c = (
-  effect_more c.args.plan.now c.args.self.now c.loop.self c.loop.rest c.without-rest.result c.in-Some.index c.settle.new.self c.loop.invariant.1 c.requires.plan c.without-rest.ensures.members
-      (least_member c.loop.rest c.in-Some.index c.in-Some.ensures.least) c.loop.invariant.0 c.settle.ensures,
-  c.loop.invariant.1,
-  none_below-more c.loop.counter c.in-Some.index c.loop.rest c.without-rest.result c.in-Some.ensures.least c.without-rest.ensures.members c.loop.invariant.2,
-  λ k e. c.loop.invariant.3 k (second-of (not (nat_eq k c.in-Some.index)) (has_bit c.loop.rest k) (sym (c.without-rest.ensures.members k) ∙ e)),
-)
+loop-preserved c =
+    let p = c.args.plan.now in
+    let v = c.args.self.now in
+    let i = c.in-Some.index in
+    let member = least_member c.loop.rest i c.in-Some.ensures.least in
+    record {
+      whole = c.loop.invariant.whole;
+      each = c.loop.invariant.each;
+      settling = effect_more p v (with_turns v.arbiters c.loop.self) c.loop.rest c.without-rest.result i (with_turns v.arbiters c.settle.new.self) c.loop.invariant.whole c.requires.plan c.without-rest.ensures.members
+          member c.loop.invariant.settling (ap (with_turns v.arbiters) c.settle.ensures ∙ effect-turns p v.arbiters c.loop.self i (outcome_verdict p i));
+      passing = passing-more p v c.loop.self c.loop.rest c.without-rest.result i c.settle.new.self c.loop.invariant.whole c.requires.plan c.without-rest.ensures.members member c.loop.invariant.settling c.loop.invariant.passing c.settle.ensures;
+      below = none_below-more c.loop.counter i c.loop.rest c.without-rest.result c.in-Some.ensures.least c.without-rest.ensures.members c.loop.invariant.below;
+      events = λ k e. c.loop.invariant.events k (second-of (not (nat_eq k i)) (has_bit c.loop.rest k) (sym (c.without-rest.ensures.members k) ∙ e));
+    }
 
 pub returns-after-loop : goal.returns-after-loop
 returns-after-loop c =
     let v = c.args.self.now in
     let d = decisions_by c.args.plan.now v in
-    settling_last d v c.loop.self c.loop.rest c.loop.invariant.1 (plan_of c.args.plan.now v c.requires.plan) c.loop.invariant.0
-    (none_left d v c.loop.self c.loop.rest c.loop.invariant.0 (λ k l. c.loop.invariant.2 k (omega (arith, c.loop-test.false, size_view c.self.inside v c.self.view_is c.self.invariant))))
+    passed-all c.args.plan.now v c.loop.self c.loop.rest c.loop.invariant.whole c.loop.invariant.each c.requires.plan
+    (none_left d v (with_turns v.arbiters c.loop.self) c.loop.rest c.loop.invariant.settling (λ k l. c.loop.invariant.below k (omega (arith, c.loop-test.false, size_view c.self.inside v c.self.view_is c.self.invariant))))
+    c.loop.invariant.settling c.loop.invariant.passing
 
 pub returns-in_default : goal.returns-in_default
 returns-in_default c =
-    let v = c.args.self.now in
-    settling_last (decisions_by c.args.plan.now v) v c.loop.self c.loop.rest c.loop.invariant.1 (plan_of c.args.plan.now v c.requires.plan) c.loop.invariant.0 (none_from_search c.loop.rest c.in_default.ensures.least)
+    passed-all c.args.plan.now c.args.self.now c.loop.self c.loop.rest c.loop.invariant.whole c.loop.invariant.each c.requires.plan (none_from_search c.loop.rest c.in_default.ensures.least)
+    c.loop.invariant.settling c.loop.invariant.passing
