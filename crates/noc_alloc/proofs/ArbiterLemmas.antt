@@ -1,11 +1,11 @@
 -- The requester that comes first.
 use Rattle.std.proofs.Common.{◌≡◌, ◌≢◌, ℕ, zero, suc, ◌+◌, ◌-◌, ◌<◌, ◌≤◌, Bool, true, false, cond, ◌∷◌, Option, Some, None, refl, ap, sym, ◌∙◌, arith, inl, inr, subst}
-use Rattle.std.specs.Prelude.{filter, IfSome, is_some, nat_le, ◌⊎◌, ◌&&◌}
+use Rattle.std.specs.Prelude.{filter, IfSome, nat_le, ◌⊎◌, ◌&&◌}
 use Rattle.std.specs.List.{range_with_len}
 use Rattle.std.proofs.lemmas.Bool.{cases_eq, le-leb, lt-leb, cases_lt, false≢true, leb-true, and_parts}
 use Rattle.std.proofs.Math.Nat.{mod-eq_of_lt, add-mod_right}
 use Rattle.noc_topo.specs.Words.{below, least_by, lesser_by}
-use Rattle.noc_packet.specs.Set.{has_bit, has_from, IsLeast}
+use Rattle.noc_packet.specs.Set.{has_bit, has_from, in_both, IsLeast}
 use Rattle.noc_alloc.specs.Arbiter.{distance_in_turn, first_in_turn}
 
 module _ (key : ℕ → ℕ) (asks : ℕ → Bool) where
@@ -245,12 +245,29 @@ first_in_turn-same n p asks other same = ap (least_by (distance_in_turn n p)) (f
         ap (λ b. cond b (a ∷ filter asks (range_with_len (a + 1) m)) (filter asks (range_with_len (a + 1) m))) (h a (omega arith) (omega arith))
         ∙ ap (λ xs. cond (other a) (a ∷ xs) xs) (filters m (a + 1) (λ k l u. h k (omega arith) (omega arith)))
 
-pub picked-ahead : (n p bits : ℕ) (r : Option ℕ) → is_some r ≡ true → IsLeast (has_from p bits) r → ((k : ℕ) → has_bit bits k ≡ true → k < n) → r ≡ first_in_turn n p (has_bit bits)
-picked-ahead n p bits None some least members = absurd (false≢true some)
-picked-ahead n p bits (Some x) some least members =
-    sym (ahead_is n p x bits least.0 least.1 (members x (and_parts (nat_le p x) (has_bit bits x) least.0).1))
+-- ---- the least of the requesters from the pointer on, or of all
+both_is : (b : Bool) → (b && b) ≡ b
+both_is true = refl
+both_is false = refl
 
-pub picked-behind : (n p bits : ℕ) (ahead r : Option ℕ) → p ≤ n → is_some ahead ≡ false → IsLeast (has_from p bits) ahead → IsLeast (has_from 0 bits) r → r ≡ first_in_turn n p (has_bit bits)
-picked-behind n p bits (Some a) r lp none before least = absurd (false≢true (sym none))
-picked-behind n p bits None None lp none before least = sym (nobody_is n p bits least)
-picked-behind n p bits None (Some x) lp none before least = sym (behind_is n p x bits lp before least.0 least.1)
+least-same : (has other : ℕ → Bool) (r : Option ℕ) → ((k : ℕ) → has k ≡ other k) → IsLeast has r → IsLeast other r
+least-same has other None same least = λ k. sym (same k) ∙ least k
+least-same has other (Some x) same least = (sym (same x) ∙ least.0, λ k l. sym (same k) ∙ least.1 k l)
+
+-- some are ahead
+pub picked-ahead : (n p bits ahead : ℕ) (r : Option ℕ) → ((k : ℕ) → has_bit ahead k ≡ has_from p bits k) → (((k : ℕ) → has_bit ahead k ≡ false) → ⊥) → IsLeast (in_both ahead ahead) r
+    → ((k : ℕ) → has_bit bits k ≡ true → k < n) → r ≡ first_in_turn n p (has_bit bits)
+picked-ahead n p bits ahead r are some least members = at r (least-same (in_both ahead ahead) (has_from p bits) r (λ k. both_is (has_bit ahead k) ∙ are k) least)
+  where
+    at : (r : Option ℕ) → IsLeast (has_from p bits) r → r ≡ first_in_turn n p (has_bit bits)
+    at None none = absurd (some (λ k. are k ∙ none k))
+    at (Some x) first = sym (ahead_is n p x bits first.0 first.1 (members x (and_parts (nat_le p x) (has_bit bits x) first.0).1))
+
+-- none is
+pub picked-behind : (n p bits ahead : ℕ) (r : Option ℕ) → p ≤ n → ((k : ℕ) → has_bit ahead k ≡ has_from p bits k) → ((k : ℕ) → has_bit ahead k ≡ false) → IsLeast (in_both bits bits) r → r ≡ first_in_turn n p (has_bit bits)
+picked-behind n p bits ahead r lp are none least =
+    at r (least-same (in_both bits bits) (has_from 0 bits) r (λ k. both_is (has_bit bits k) ∙ sym (ap (λ b. b && has_bit bits k) (le-leb 0 k (omega arith)))) least)
+  where
+    at : (r : Option ℕ) → IsLeast (has_from 0 bits) r → r ≡ first_in_turn n p (has_bit bits)
+    at None nobody = sym (nobody_is n p bits nobody)
+    at (Some x) first = sym (behind_is n p x bits lp (λ k. sym (are k) ∙ none k) first.0 first.1)

@@ -63,11 +63,9 @@ impl Arbiter {
         requires { (k : ℕ) → has_bit asking k ≡ true → k < self.now.size }
         ensures { result ≡ first_in_turn self.now.size self.now.pointer (has_bit asking) }
     {
-        let ahead = asking.least_from(self.pointer as usize);
-        if ahead.is_some() {
-            return ahead;
-        }
-        asking.least_from(0)
+        let ahead = asking.from(self.pointer as usize);
+        let first = if ahead.is_empty() { asking } else { ahead };
+        first.least_common(&first)
     }
 
     /// Moves the pointer to one past the winner, modulo the size. Without a winner it stays. The winner is below the size.

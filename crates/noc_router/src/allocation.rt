@@ -41,8 +41,14 @@ fn nearer(arbiter: &Arbiter, held: Option<usize>, next: usize) -> usize
 {
     let pointer = arbiter.pointer();
     match held {
-        Some(first) if pointer <= first || next < pointer => first,
-        _ => next,
+        Some(first) => {
+            if (pointer <= first) | (next < pointer) {
+                first
+            } else {
+                next
+            }
+        }
+        None => next,
     }
 }
 

@@ -1,14 +1,18 @@
-use Rattle.std.proofs.Common.{sym, ◌∙◌, arith}
+use Rattle.std.proofs.Common.{ℕ, refl, subst, arith}
+use Rattle.std.proofs.lemmas.Bool.{false≢true}
+use Rattle.noc_packet.specs.Set.{in_both, IsLeast}
 use Rattle.noc_alloc.proofs.ArbiterLemmas.{picked-ahead, picked-behind}
 use Rattle.noc_alloc.proofs.arbiter.Arbiter.pick.Goals as goal
-
-pub returns-then-is_some : goal.returns-then-is_some
-returns-then-is_some c =
-    let members = rw (← c.self.view_is) at c.requires in
-    rw (← c.self.view_is)
-    (picked-ahead c.self.inside.size c.self.inside.pointer c.args.asking c.least_from-ahead.result (sym c.is_some.ensures ∙ c.if-is_some.true) c.least_from-ahead.ensures members)
+use Rattle.noc_alloc.proofs.arbiter.Arbiter.pick.Goals.{then-is_empty, else-is_empty}
 
 pub returns : goal.returns
 returns c =
+    let P : ℕ → Type 0 = λ set. IsLeast (in_both set set) c.least_common.result in
+    let members = rw (← c.self.view_is) at c.requires in
     rw (← c.self.view_is)
-    (picked-behind c.self.inside.size c.self.inside.pointer c.args.asking c.least_from-ahead.result c.least_from.result (omega arith) (sym c.is_some.ensures ∙ c.if-is_some.false) c.least_from-ahead.ensures c.least_from.ensures)
+    (elim c.if-is_empty.branch [
+      | then-is_empty w ↦ picked-behind c.self.inside.size c.self.inside.pointer c.args.asking c.from-ahead.result c.least_common.result (omega arith) c.from-ahead.ensures.members
+          (w.if-is_empty.ensures.members.0 refl) (subst P w.first-is c.least_common.ensures.least)
+      | else-is_empty w ↦ picked-ahead c.self.inside.size c.self.inside.pointer c.args.asking c.from-ahead.result c.least_common.result c.from-ahead.ensures.members
+          (λ none. false≢true (w.if-is_empty.ensures.members.1 none)) (subst P w.first-is c.least_common.ensures.least) members
+    ])
