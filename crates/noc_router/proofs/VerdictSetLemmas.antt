@@ -1,8 +1,8 @@
 -- The verdicts that the sets of channels say.
-use Rattle.std.proofs.Common.{◌≡◌, ℕ, ◌/◌, ◌%◌, ◌<◌, ◌≤◌, Bool, true, false, List, length, get_or, Option, Some, None, refl, ap, sym, ◌∙◌, arith, inl, inr}
-use Rattle.std.specs.Prelude.{◌&&◌, ◌||◌, ◌⊎◌, not, is_some, if◌then◌else◌}
-use Rattle.std.proofs.lemmas.Bool.{cases_lt, false≢true}
-use Rattle.std.proofs.lemmas.List.{get_or_past}
+use Rattle.std.proofs.Common.{◌≡◌, ℕ, zero, suc, ◌+◌, ◌/◌, ◌%◌, ◌<◌, ◌≤◌, Bool, true, false, List, [], ◌∷◌, length, map, get_or, set, replicate, Option, Some, None, refl, ap, sym, ◌∙◌, arith, inl, inr}
+use Rattle.std.specs.Prelude.{◌&&◌, ◌||◌, ◌⊎◌, nat_eq, not, is_some, if◌then◌else◌}
+use Rattle.std.proofs.lemmas.Bool.{cases_eq, cases_lt, eq-eqb, ne_eqb, false≢true}
+use Rattle.std.proofs.lemmas.List.{get_or_past, get_or-map, get_or-replicate, get_or-set_same, get_or-set_other, length-replicate}
 use Rattle.noc_topo.specs.Words.{tabulate, is_some_of}
 use Rattle.noc_topo.proofs.WordLemmas.{get_or-tabulate, length-tabulate}
 use Rattle.noc_packet.specs.Set.{has_bit}
@@ -10,11 +10,13 @@ use Rattle.noc_vc.specs.Input.{is_active, is_empty, is_idle_phase, is_waiting}
 use Rattle.noc_vc.specs.Output.{has_credit}
 use Rattle.noc_vc.specs.declared.input.InputState.{InputState}
 use Rattle.noc_vc.specs.declared.input.InputState.TheVariants.{Idle, Waiting, Active}
+use Rattle.noc_router.specs.Counts.{one_at, one_if}
 use Rattle.noc_router.specs.Planned.{outcome_in}
 use Rattle.noc_router.specs.Requests.{AreAmong, is_given}
 use Rattle.noc_router.specs.Sound.{is_supplied}
 use Rattle.noc_router.specs.Standing.{IsStanding, is_won_from}
-use Rattle.noc_router.specs.Verdict.{Round, Unrouted, Waits, Holds, ask_of, is_event, is_granted, is_moved, verdict_of}
+use Rattle.noc_router.specs.Tally.{risen_at}
+use Rattle.noc_router.specs.Verdict.{Round, Unrouted, Waits, Holds, ask_of, column, is_event, is_granted, is_moved, verdict_of}
 use Rattle.noc_router.specs.VerdictSets.{verdict_by}
 use Rattle.noc_router.specs.View.{Outcome, View, asked_for, claim_in, finding_of, size_of, view_buffer, view_claim, view_input, view_output}
 use Rattle.noc_router.specs.declared.channels.Standing.{Standing}
@@ -85,6 +87,72 @@ first_granted false false false false false false true e f = refl
 first_granted false false false false false false false true f = refl
 first_granted false false false false false false false false true = refl
 first_granted false false false false false false false false false = refl
+
+-- 1 for the first verdict in whose set a channel is, and 0 for each other one, by place
+pub firsts : Bool → Bool → Bool → Bool → Bool → Bool → Bool → Bool → Bool → List ℕ
+firsts m g r a b c d e f =
+    let x1 = m || g in
+    let x2 = x1 || r in
+    let x3 = x2 || a in
+    let x4 = x3 || b in
+    let x5 = x4 || c in
+    let x6 = x5 || d in
+    let x7 = x6 || e in
+    0 ∷ one_if (not x1 && r) ∷ one_if (not m && g) ∷ one_if m ∷ one_if (not x2 && a) ∷ one_if (not x3 && b) ∷ one_if (not x4 && c) ∷ one_if (not x5 && d) ∷ one_if (not x6 && e) ∷ one_if (not x7 && f) ∷ []
+
+firsts_one : (m g r a b c d e f : Bool) → firsts m g r a b c d e f ≡ 0 ∷ risen_at (column (first m g r a b c d e f)) (replicate 9 0)
+unfolding first firsts
+firsts_one true g r a b c d e f = refl
+firsts_one false true r a b c d e f = refl
+firsts_one false false true a b c d e f = refl
+firsts_one false false false true b c d e f = refl
+firsts_one false false false false true c d e f = refl
+firsts_one false false false false false true d e f = refl
+firsts_one false false false false false false true e f = refl
+firsts_one false false false false false false false true f = refl
+firsts_one false false false false false false false false true = refl
+firsts_one false false false false false false false false false = refl
+
+-- one more of none
+one-risen : (n j : ℕ) → 0 < j → j < 10 → get_or (0 ∷ risen_at n (replicate 9 0)) j 0 ≡ one_if (nat_eq n j)
+one-risen n zero some l = absurd (omega arith)
+one-risen zero (suc m) some l = get_or-replicate 9 m 0 0 (omega arith) ∙ ap one_if (sym (ne_eqb zero (suc m) (λ e. absurd (omega arith))))
+one-risen (suc k) (suc m) some l = at (cases_eq m k)
+  where
+    at : (m ≡ k) ⊎ (m ≡ k → ⊥) → get_or (set (replicate 9 0) k (get_or (replicate 9 0) k 0 + 1)) m 0 ≡ one_if (nat_eq (suc k) (suc m))
+    at (inl same) =
+        let small : k < 9 = omega arith in
+        let none : get_or (replicate 9 0) k 0 + 1 ≡ 1 = ap (λ n. n + 1) (get_or-replicate 9 k 0 0 small) in
+        ap (λ i. get_or (set (replicate 9 0) k (get_or (replicate 9 0) k 0 + 1)) i 0) same
+        ∙ get_or-set_same (replicate 9 0) k (get_or (replicate 9 0) k 0 + 1) 0 (omega (arith, length-replicate {A = ℕ} 9 0))
+        ∙ none
+        ∙ ap one_if (sym (eq-eqb (suc k) (suc m) (ap suc (sym same))))
+    at (inr other) =
+        get_or-set_other (replicate 9 0) k m (get_or (replicate 9 0) k 0 + 1) 0 other
+        ∙ get_or-replicate 9 m 0 0 (omega arith)
+        ∙ ap one_if (sym (ne_eqb (suc k) (suc m) (λ e. other (sym (omega arith)))))
+
+-- the channels that have a verdict, where these sets are those of the first verdicts
+pub one-each : (sets : VerdictSets) (rows : List ℕ) (k j : ℕ) → 0 < j → j < 10
+    → map (λ s. one_if (has_bit s k)) rows
+    ≡ firsts (has_bit sets.moved k) (has_bit sets.granted k) (has_bit sets.routed k) (has_bit sets.no_flit k) (has_bit sets.no_idle_channel k) (has_bit sets.lost_channel k) (has_bit sets.no_credit k) (has_bit sets.lost_input k) (has_bit sets.lost_switch k)
+    → length rows ≡ 10 → one_at rows j k ≡ one_if (nat_eq (column (verdict_by sets k)) j)
+one-each sets rows k j some few are long =
+    sym (get_or-map (λ s. one_if (has_bit s k)) rows j 0 0 (omega arith))
+    ∙ ap (λ (xs : List ℕ). get_or xs j 0) (are ∙ firsts_one _ _ _ _ _ _ _ _ _)
+    ∙ one-risen _ j some few
+    ∙ ap (λ (v : Verdict). one_if (nat_eq (column v) j)) (sym (first_by sets k))
+
+-- the sets, each less those before it
+pub rows_first : (k none m g r a b c d e f x1 x2 x3 x4 x5 x6 x7 g' r' a' b' c' d' e' f' : ℕ) → has_bit none k ≡ false
+    → has_bit x1 k ≡ (has_bit m k || has_bit g k) → has_bit x2 k ≡ (has_bit x1 k || has_bit r k) → has_bit x3 k ≡ (has_bit x2 k || has_bit a k) → has_bit x4 k ≡ (has_bit x3 k || has_bit b k)
+    → has_bit x5 k ≡ (has_bit x4 k || has_bit c k) → has_bit x6 k ≡ (has_bit x5 k || has_bit d k) → has_bit x7 k ≡ (has_bit x6 k || has_bit e k)
+    → has_bit g' k ≡ (not (has_bit m k) && has_bit g k) → has_bit r' k ≡ (not (has_bit x1 k) && has_bit r k) → has_bit a' k ≡ (not (has_bit x2 k) && has_bit a k) → has_bit b' k ≡ (not (has_bit x3 k) && has_bit b k)
+    → has_bit c' k ≡ (not (has_bit x4 k) && has_bit c k) → has_bit d' k ≡ (not (has_bit x5 k) && has_bit d k) → has_bit e' k ≡ (not (has_bit x6 k) && has_bit e k) → has_bit f' k ≡ (not (has_bit x7 k) && has_bit f k)
+    → map (λ s. one_if (has_bit s k)) (none ∷ r' ∷ g' ∷ m ∷ a' ∷ b' ∷ c' ∷ d' ∷ e' ∷ f' ∷ [])
+    ≡ firsts (has_bit m k) (has_bit g k) (has_bit r k) (has_bit a k) (has_bit b k) (has_bit c k) (has_bit d k) (has_bit e k) (has_bit f k)
+unfolding firsts
+rows_first k none m g r a b c d e f x1 x2 x3 x4 x5 x6 x7 g' r' a' b' c' d' e' f' h h1 h2 h3 h4 h5 h6 h7 hg hr ha hb hc hd he hf = cc
 
 -- whether a verdict is an event, by the sets
 event-by : (sets : VerdictSets) (k : ℕ) → is_event (verdict_by sets k) ≡ (has_bit sets.moved k || (has_bit sets.granted k || has_bit sets.routed k))

@@ -524,7 +524,7 @@ impl Router {
         requires plan { IsOutcomeOf plan.now self.old }
         ensures { self.new ≡ tallied (decisions_by plan.now self.old) self.old }
     {
-        self.tally.count(&self.channels, plan);
+        self.tally.count(plan);
         self.links.clear();
     }
 

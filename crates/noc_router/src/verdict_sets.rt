@@ -1,9 +1,11 @@
 //! The verdicts of one router as sets of input channels.
 
-ghost use Rattle.std.specs.Prelude.{◌≡◌, ℕ, ◌<◌};
+ghost use Rattle.std.specs.Prelude.{◌≡◌, ℕ, ◌<◌, ◌==◌};
 ghost use Rattle.noc_packet.specs.Set.{has_bit};
-ghost use Rattle.noc_router.specs.Verdict.{is_event};
+ghost use Rattle.noc_router.specs.Counts.{one_at, one_if};
+ghost use Rattle.noc_router.specs.Verdict.{column, is_event};
 
+use crate::digit::Sets;
 use crate::verdict::Verdict;
 use noc_packet::{ChannelSet, INDICES};
 
@@ -42,6 +44,41 @@ impl VerdictSets {
             lost_input: none,
             lost_switch: none,
         }
+    }
+
+    // The channels with each verdict, by its place in the order of the verdicts: none for Empty.
+    #[inline(always)]
+    pub(crate) fn each(&self) -> Sets
+        ensures { (j k : ℕ) → 0 < j → j < 10 → one_at result j k ≡ one_if (column (verdict_by self.now k) == j) }
+    {
+        let before = self.moved;
+        let granted = self.granted.less(before);
+        let before = before.either(self.granted);
+        let routed = self.routed.less(before);
+        let before = before.either(self.routed);
+        let no_flit = self.no_flit.less(before);
+        let before = before.either(self.no_flit);
+        let no_idle_channel = self.no_idle_channel.less(before);
+        let before = before.either(self.no_idle_channel);
+        let lost_channel = self.lost_channel.less(before);
+        let before = before.either(self.lost_channel);
+        let no_credit = self.no_credit.less(before);
+        let before = before.either(self.no_credit);
+        let lost_input = self.lost_input.less(before);
+        let before = before.either(self.lost_input);
+        let lost_switch = self.lost_switch.less(before);
+        [
+            ChannelSet::empty(),
+            routed,
+            granted,
+            self.moved,
+            no_flit,
+            no_idle_channel,
+            lost_channel,
+            no_credit,
+            lost_input,
+            lost_switch,
+        ]
     }
 
     // The channels whose verdict takes effect.
