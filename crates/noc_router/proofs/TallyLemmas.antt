@@ -11,8 +11,8 @@ use Rattle.noc_vc.specs.declared.input.InputState.{InputState}
 use Rattle.noc_vc.specs.declared.input.InputState.TheVariants.{Idle, Waiting, Active}
 use Rattle.noc_router.specs.declared.counters.Counters.{Counters}
 use Rattle.noc_router.specs.declared.plan.Plan.TheInside.{Inside}
-use Rattle.noc_router.specs.Planned.{outcome_in}
-use Rattle.noc_router.specs.VerdictSets.{verdict_by}
+use Rattle.noc_router.specs.Planned.{IsPlan, outcome_in}
+use Rattle.noc_router.specs.VerdictSets.{sets_with, verdict_by}
 use Rattle.noc_router.specs.declared.verdict.Verdict.{Verdict}
 use Rattle.noc_router.specs.declared.verdict.Verdict.TheVariants.{Empty, Routed, Granted, Moved, NoFlit, NoIdleChannel, LostChannel, NoCredit, LostInput, LostSwitch}
 use Rattle.noc_router.specs.declared.verdict.Finding.{Finding}
@@ -346,6 +346,12 @@ pub plan_verdict : (p : Inside) (q : Outcome) (n k : ℕ) → outcome_in p ≡ q
 plan_verdict p q n k e long l =
     let size : p.requests.size ≡ n = sym (length-tabulate p.requests.size (verdict_by p.verdicts)) ∙ ap (λ (x : Outcome). length x.verdicts) e ∙ long in
     sym (ap (λ (x : Outcome). outcome_verdict x k) e) ∙ get_or-tabulate p.requests.size k (verdict_by p.verdicts) Empty (omega arith)
+
+-- .. each of which is in one of them at most
+pub plan_apart : (p : Inside) (q : Outcome) (n k : ℕ) → outcome_in p ≡ q → IsPlan p → length q.verdicts ≡ n → k < n → sets_with p.verdicts k ≤ 1
+plan_apart p q n k e plan long l =
+    let size : p.requests.size ≡ n = sym (length-tabulate p.requests.size (verdict_by p.verdicts)) ∙ ap (λ (x : Outcome). length x.verdicts) e ∙ long in
+    plan.apart k (omega arith)
 
 -- what is found of a channel without a packet that asks for nothing
 pub vacant-found : (vcs : ℕ) (input : Input) (flits : List Flit) (ask : Option ℕ) → is_occupied input flits ≡ false → input.packet ≡ None → named vcs input Empty ask ≡ empty_finding

@@ -11,7 +11,7 @@ ghost use Rattle.noc_router.specs.Sound.{input_at, is_occupied, named};
 ghost use Rattle.noc_router.specs.Settled.{finding_by, outcome_verdict};
 ghost use Rattle.noc_router.specs.Tally.{empty_finding, finding_at, others_in, risen_at, risen_by, IsTally, is_empty_verdict};
 ghost use Rattle.noc_router.specs.Verdict.{column};
-ghost use Rattle.noc_router.specs.VerdictSets.{verdict_by};
+ghost use Rattle.noc_router.specs.VerdictSets.{sets_with, verdict_by};
 ghost use Rattle.noc_router.specs.declared.verdict.Verdict.TheVariants.{Empty};
 ghost use Rattle.noc_router.specs.Still.{counted_times};
 ghost use Rattle.noc_router.specs.View.{counted};
@@ -64,6 +64,7 @@ impl Tally {
     }
 
     // Counts a cycle with this plan.
+    #[inline(never)]
     pub(crate) fn count(&mut self, plan: &Plan)
         requires verdicts { length plan.now.verdicts ≡ vec_len self.old.counts }
         ensures size { vec_len self.new.counts ≡ vec_len self.old.counts }
@@ -85,6 +86,7 @@ impl Tally {
     #[inline(always)]
     fn keep(&mut self, verdicts: &VerdictSets)
         requires more { self.old.cycles < 2 ^ 64 - 1 }
+        requires apart { (k : ℕ) → k < vec_len self.old.counts → sets_with verdicts.now k ≤ 1 }
         requires room { self.old.counters.units.kept < 7 }
         ensures size { vec_len self.new.counts ≡ vec_len self.old.counts }
         ensures begun { self.new.begun ≡ self.old.begun }
@@ -100,6 +102,7 @@ impl Tally {
     #[inline(never)]
     fn carry(&mut self, verdicts: &VerdictSets)
         requires more { self.old.cycles < 2 ^ 64 - 1 }
+        requires apart { (k : ℕ) → k < vec_len self.old.counts → sets_with verdicts.now k ≤ 1 }
         ensures size { vec_len self.new.counts ≡ vec_len self.old.counts }
         ensures begun { self.new.begun ≡ self.old.begun }
         ensures findings { self.new.findings.items ≡ self.old.findings.items }

@@ -21,7 +21,7 @@ write_down-requires-clause-room c = λ k j l some few.
     let small : k < length t.counts.items = omega (arith, l, ap length c.deref_mut.ensures.value) in
     let one = nat_eq (column (verdict_by c.args.verdicts.now k)) j in
     let sum : count_at c.add.new.self j k + 512 * one_at c.in-Some.full j k ≡ count_at t.counters j k + one_if one =
-    ap (λ n. count_at c.add.new.self j k + 512 * n) (sym (carried-some c.add.result c.in-Some.full j k c.in-Some.is)) ∙ c.add.ensures j k few ∙ ap (λ n. count_at t.counters j k + n) (c.each.ensures j k some few) in
+    ap (λ n. count_at c.add.new.self j k + 512 * n) (sym (carried-some c.add.result c.in-Some.full j k c.in-Some.is)) ∙ c.add.ensures j k few ∙ ap (λ n. count_at t.counters j k + n) (c.each.ensures j k (c.requires.apart k (omega (arith, small, t.counts.ok.0))) some few) in
     let fits : get_or (get_or t.counts.items k []) j 0 + 512 * one_at c.in-Some.full j k < 2 ^ 64 =
     carried-fits t.cycles t.shown t.counters t.counts.items t.findings.items k j (count_at c.add.new.self j k) (512 * one_at c.in-Some.full j k) one c.requires.more t.sound small some few sum in
     subst (λ (xs : List (List ℕ)). get_or (get_or xs k []) j 0 + 512 * one_at c.in-Some.full j k < 2 ^ 64) (sym c.deref_mut.ensures.value) fits
@@ -43,7 +43,7 @@ invariant_of-self-clause-sound c =
     subst (λ xs. IsTally (t.cycles + 1) t.shown c.add.new.self xs t.findings.items) (sym back)
     (counted_tally t.cycles t.shown t.counters t.counts.items t.findings.items column_of c.add.new.self written c.requires.more t.sound
     (counted-by t.counters t.counts.items column_of c.add.new.self written c.each.result c.add.result
-    c.add.ensures (λ j k l some few. c.each.ensures j k some few) long (λ k l. c.write_down.ensures.ten k (within k l))
+    c.add.ensures (λ j k l some few. c.each.ensures j k (c.requires.apart k (omega (arith, l, c.args.self.now.counts.ok.0))) some few) long (λ k l. c.write_down.ensures.ten k (within k l))
     (λ k j l some few. c.write_down.ensures.each k j (within k l) some few
     ∙ ap (λ (xs : List (List ℕ)). get_or (get_or xs k []) j 0 + 512 * one_at c.in-Some.full j k) same
     ∙ ap (λ n. get_or (get_or t.counts.items k []) j 0 + 512 * n) (sym (carried-some c.add.result c.in-Some.full j k c.in-Some.is)))))
@@ -60,7 +60,7 @@ returns-in-Some-clause-others c = λ k l.
     ap (λ xs. others_in c.add.new.self xs k) back
     ∙ counted-others t.cycles t.shown t.counters t.counts.items t.findings.items column_of c.add.new.self written t.sound
     (counted-by t.counters t.counts.items column_of c.add.new.self written c.each.result c.add.result
-    c.add.ensures (λ j k l some few. c.each.ensures j k some few) long (λ k l. c.write_down.ensures.ten k (within k l))
+    c.add.ensures (λ j k l some few. c.each.ensures j k (c.requires.apart k (omega (arith, l, c.args.self.now.counts.ok.0))) some few) long (λ k l. c.write_down.ensures.ten k (within k l))
     (λ k j l some few. c.write_down.ensures.each k j (within k l) some few
     ∙ ap (λ (xs : List (List ℕ)). get_or (get_or xs k []) j 0 + 512 * one_at c.in-Some.full j k) same
     ∙ ap (λ n. get_or (get_or t.counts.items k []) j 0 + 512 * n) (sym (carried-some c.add.result c.in-Some.full j k c.in-Some.is))))
@@ -72,7 +72,7 @@ invariant_of-self-in_default-clause-sound c =
     let column_of : ℕ → ℕ = λ k. column (verdict_by c.args.verdicts.now k) in
     counted_tally t.cycles t.shown t.counters t.counts.items t.findings.items column_of c.add.new.self t.counts.items c.requires.more t.sound
     (counted-by t.counters t.counts.items column_of c.add.new.self t.counts.items c.each.result c.add.result
-    c.add.ensures (λ j k l some few. c.each.ensures j k some few) refl t.sound.ten (λ k j l some few. carried-none c.add.result j k (get_or (get_or t.counts.items k []) j 0) c.in_default.is))
+    c.add.ensures (λ j k l some few. c.each.ensures j k (c.requires.apart k (omega (arith, l, c.args.self.now.counts.ok.0))) some few) refl t.sound.ten (λ k j l some few. carried-none c.add.result j k (get_or (get_or t.counts.items k []) j 0) c.in_default.is))
 
 pub returns-in_default-clause-others : goal.returns-in_default-clause-others
 returns-in_default-clause-others c = λ k l.
@@ -80,5 +80,5 @@ returns-in_default-clause-others c = λ k l.
     let column_of : ℕ → ℕ = λ k. column (verdict_by c.args.verdicts.now k) in
     counted-others t.cycles t.shown t.counters t.counts.items t.findings.items column_of c.add.new.self t.counts.items t.sound
     (counted-by t.counters t.counts.items column_of c.add.new.self t.counts.items c.each.result c.add.result
-    c.add.ensures (λ j k l some few. c.each.ensures j k some few) refl t.sound.ten (λ k j l some few. carried-none c.add.result j k (get_or (get_or t.counts.items k []) j 0) c.in_default.is))
+    c.add.ensures (λ j k l some few. c.each.ensures j k (c.requires.apart k (omega (arith, l, c.args.self.now.counts.ok.0))) some few) refl t.sound.ten (λ k j l some few. carried-none c.add.result j k (get_or (get_or t.counts.items k []) j 0) c.in_default.is))
     k (omega (arith, l, t.counts.ok.0))

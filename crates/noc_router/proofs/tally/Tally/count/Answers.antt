@@ -6,7 +6,7 @@ use Rattle.noc_router.specs.Tally.{others_in, risen_at}
 use Rattle.noc_router.specs.Verdict.{column}
 use Rattle.noc_router.specs.declared.verdict.Verdict.{Verdict}
 use Rattle.noc_router.proofs.CountLemmas.{counting-counts}
-use Rattle.noc_router.proofs.TallyLemmas.{plan_verdict}
+use Rattle.noc_router.proofs.TallyLemmas.{plan_apart, plan_verdict}
 use Rattle.noc_router.proofs.tally.Tally.count.Goals as goal
 
 -- where the cycles are the greatest number nothing is counted any more
@@ -43,3 +43,9 @@ returns-else-is_full-clause-counts c =
     c.keep.ensures.others i small
     ∙ ap (λ (v : Verdict). risen_at (column v) (others_in t.counters t.counts.items i)) (sym (plan_verdict c.plan.inside c.args.plan.now (vec_len t.counts) i c.plan.view_is c.requires.verdicts small))
     ∙ ap (λ b. if b then risen_at (column (verdict i)) (others_in t.counters t.counts.items i) else others_in t.counters t.counts.items i) (sym more))
+
+pub carry-requires-clause-apart : goal.carry-requires-clause-apart
+carry-requires-clause-apart c = λ k l. plan_apart c.plan.inside c.args.plan.now (vec_len c.args.self.now.counts) k c.plan.view_is c.plan.invariant c.requires.verdicts l
+
+pub keep-requires-clause-apart : goal.keep-requires-clause-apart
+keep-requires-clause-apart c = λ k l. plan_apart c.plan.inside c.args.plan.now (vec_len c.args.self.now.counts) k c.plan.view_is c.plan.invariant c.requires.verdicts l

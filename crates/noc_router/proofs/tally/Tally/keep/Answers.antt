@@ -11,7 +11,7 @@ invariant_of-self-clause-sound c =
     let column_of : ℕ → ℕ = λ k. column (verdict_by c.args.verdicts.now k) in
     counted_tally t.cycles t.shown t.counters t.counts.items t.findings.items column_of c.keep.new.self t.counts.items c.requires.more t.sound
     (counted-by t.counters t.counts.items column_of c.keep.new.self t.counts.items c.each.result None
-    (λ j k few. none_of _ _ (c.keep.ensures j k few)) (λ j k l some few. c.each.ensures j k some few) refl t.sound.ten (λ k j l some few. omega arith))
+    (λ j k few. none_of _ _ (c.keep.ensures j k few)) (λ j k l some few. c.each.ensures j k (c.requires.apart k (omega (arith, l, c.args.self.now.counts.ok.0))) some few) refl t.sound.ten (λ k j l some few. omega arith))
   where
     none_of : (a b : ℕ) → a ≡ b → a + 512 * 0 ≡ b
     none_of a b e = omega arith
@@ -22,7 +22,7 @@ returns-clause-others c = λ k l.
     let column_of : ℕ → ℕ = λ k. column (verdict_by c.args.verdicts.now k) in
     counted-others t.cycles t.shown t.counters t.counts.items t.findings.items column_of c.keep.new.self t.counts.items t.sound
     (counted-by t.counters t.counts.items column_of c.keep.new.self t.counts.items c.each.result None
-    (λ j k few. none_of _ _ (c.keep.ensures j k few)) (λ j k l some few. c.each.ensures j k some few) refl t.sound.ten (λ k j l some few. omega arith))
+    (λ j k few. none_of _ _ (c.keep.ensures j k few)) (λ j k l some few. c.each.ensures j k (c.requires.apart k (omega (arith, l, c.args.self.now.counts.ok.0))) some few) refl t.sound.ten (λ k j l some few. omega arith))
     k (omega (arith, l, t.counts.ok.0))
   where
     none_of : (a b : ℕ) → a ≡ b → a + 512 * 0 ≡ b
