@@ -6,7 +6,6 @@ use Rattle.std.proofs.lemmas.List.{length-set, get_or-set_same, get_or-set_other
 use Rattle.std.proofs.lemmas.List.Sums.{sum_by-set}
 use Rattle.noc_router.specs.declared.counters.Counters.{Counters}
 use Rattle.noc_router.specs.declared.verdict.Verdict.{Verdict}
-use Rattle.noc_router.specs.declared.verdict.Verdict.TheVariants.{Empty}
 use Rattle.noc_router.specs.declared.verdict.Finding.{Finding}
 use Rattle.noc_router.specs.Counts.{counts_from, counts_in, whole_counts}
 use Rattle.noc_router.specs.Still.{counted_times}
@@ -101,10 +100,6 @@ waiting-counts k cycles0 counters0 counts0 cycles counters counts verdict fits t
         ∙ ap (λ n. counts_in n now) y
         ∙ counted_times-is k cycles0 (column (verdict i)) (verdict i) before now refl (column-small (verdict i)) (whole-length counters0 i (get_or counts0 i []) ∙ ten i l) (sums i l) fits (others i l)
         ∙ ap (counted_times k (verdict i)) (sym (counts-at cycles0 counters0 counts0 i l))
-
--- .. where every channel is empty
-pub waiting-empty : (k cycles0 : ℕ) (counters : Counters) (counts : List (List ℕ)) (i : ℕ) → others_in counters counts i ≡ risen_by (min k (2 ^ 64 - 1 - cycles0)) (column Empty) (others_in counters counts i)
-waiting-empty k cycles0 counters counts i = refl
 
 -- ---- so many more of a verdict for one channel
 whole-more : (counters : Counters) (i a j : ℕ) (counts : List ℕ) → j < length counts
