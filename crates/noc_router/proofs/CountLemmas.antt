@@ -1,14 +1,14 @@
 -- The ten counts of each channel: what is written down, and what the counters have.
 use Rattle.std.proofs.Common.{◌≡◌, ◌≢◌, ℕ, zero, suc, ◌+◌, ◌-◌, ◌*◌, ◌^◌, ◌<◌, ◌≤◌, Bool, true, false, List, [], ◌∷◌, length, drop, get_or, set, sum, refl, ap, sym, ◌∙◌, arith, inl, inr, subst, replicate}
-use Rattle.std.specs.Prelude.{◌⊎◌, min, nat_lt, if◌then◌else◌}
+use Rattle.std.specs.Prelude.{◌⊎◌, min, nat_eq, nat_lt, if◌then◌else◌}
 use Rattle.std.proofs.Math.ListN.{drop_of_length-le}
-use Rattle.std.proofs.lemmas.Bool.{cases_eq, cases_lt, ltb-true, ltb-false}
+use Rattle.std.proofs.lemmas.Bool.{cases_eq, cases_lt, eq-eqb, ne_eqb, ltb-true, ltb-false}
 use Rattle.std.proofs.lemmas.List.{length-set, get_or-set_same, get_or-set_other, get_or-replicate, length-replicate, ext_get_or, length-drop, get_or-drop, drop-set-add, set_past}
 use Rattle.std.proofs.lemmas.List.Sums.{sum_by-set, sum_by-cons, sum_by-drop_more, get_or-le-sum_by}
-use Rattle.noc_router.specs.declared.counter.Counter.{Counter}
+use Rattle.noc_router.specs.declared.counters.Counters.{Counters}
 use Rattle.noc_router.specs.declared.verdict.Verdict.{Verdict}
 use Rattle.noc_router.specs.declared.verdict.Verdict.TheVariants.{Empty}
-use Rattle.noc_router.specs.Counts.{count_at, counts_from, counts_in, no_counter, one_if, whole_counts}
+use Rattle.noc_router.specs.Counts.{count_at, counts_from, counts_in, one_if, whole_counts}
 use Rattle.noc_router.specs.Tally.{others_in, risen_at, risen_by}
 use Rattle.noc_router.specs.Verdict.{column}
 use Rattle.noc_router.specs.View.{counted, raised}
@@ -58,24 +58,24 @@ drop-more true a n xs l = drop-risen a n xs l
 drop-more false a n xs l = refl
 
 -- ---- what is written down, and what the counters have
--- how much the counter of a verdict has for channel i
-abbrev pub counter_has : List Counter → ℕ → ℕ → ℕ
-counter_has counters i j = count_at (get_or counters j no_counter) i
+-- how much the counters have for channel i of the verdict in place j
+abbrev pub counter_has : Counters → ℕ → ℕ → ℕ
+counter_has counters i j = count_at counters j i
 
-pub whole-length : (counters : List Counter) (i : ℕ) (counts : List ℕ) → length (whole_counts counters i counts) ≡ length counts
+pub whole-length : (counters : Counters) (i : ℕ) (counts : List ℕ) → length (whole_counts counters i counts) ≡ length counts
 whole-length counters i counts = length-map_indexed (λ j n. n + counter_has counters i j) counts
 
-pub whole-at : (counters : List Counter) (i j : ℕ) (counts : List ℕ) → j < length counts → get_or (whole_counts counters i counts) j 0 ≡ get_or counts j 0 + counter_has counters i j
+pub whole-at : (counters : Counters) (i j : ℕ) (counts : List ℕ) → j < length counts → get_or (whole_counts counters i counts) j 0 ≡ get_or counts j 0 + counter_has counters i j
 whole-at counters i j counts l = get_or-map_indexed (λ k n. n + counter_has counters i k) counts j 0 0 l
 
 -- counters that have nothing add nothing
-pub whole-none : (counters : List Counter) (i : ℕ) (counts : List ℕ) → ((j : ℕ) → j < length counts → counter_has counters i j ≡ 0) → whole_counts counters i counts ≡ counts
+pub whole-none : (counters : Counters) (i : ℕ) (counts : List ℕ) → ((j : ℕ) → j < length counts → counter_has counters i j ≡ 0) → whole_counts counters i counts ≡ counts
 whole-none counters i counts none =
     ext_get_or 0 (whole_counts counters i counts) counts (whole-length counters i counts)
     (λ j l. let small : j < length counts = omega (arith, whole-length counters i counts) in omega (arith, whole-at counters i j counts small, none j small))
 
 -- no count of the nine is above their sum
-pub whole-below : (counters : List Counter) (i j : ℕ) (counts : List ℕ) → 0 < j → j < length counts → get_or counts j 0 + counter_has counters i j ≤ sum (drop 1 (whole_counts counters i counts))
+pub whole-below : (counters : Counters) (i j : ℕ) (counts : List ℕ) → 0 < j → j < length counts → get_or counts j 0 + counter_has counters i j ≤ sum (drop 1 (whole_counts counters i counts))
 whole-below counters i zero counts some l = absurd (omega arith)
 whole-below counters i (suc k) counts some l =
     let whole = whole_counts counters i counts in
@@ -85,44 +85,39 @@ whole-below counters i (suc k) counts some l =
     let le : get_or (drop 1 whole) k 0 ≤ sum (drop 1 whole) = get_or-le-sum_by (λ x. x) (drop 1 whole) k 0 (omega (arith, length-drop 1 whole)) in
     omega (arith, whole-at counters i (suc k) counts l)
 
--- .. that of the verdict that is counted
-whole-raised_here : (counters : List Counter) (i j : ℕ) (new : Counter) (here full : Bool) (counts : List ℕ) → j < length counters → j < length counts
-    → count_at new i + 16 * one_if full ≡ counter_has counters i j + one_if here
-    → get_or (whole_counts (set counters j new) i (more_at full 16 j counts)) j 0 ≡ get_or (more_at here 1 j (whole_counts counters i counts)) j 0
-whole-raised_here counters i j new here full counts few l is =
-    let whole = whole_counts counters i counts in
-    let now = whole-at (set counters j new) i j (more_at full 16 j counts) (omega (arith, more-length full 16 j counts)) in
-    let had : counter_has (set counters j new) i j ≡ count_at new i = ap (λ (c : Counter). count_at c i) (get_or-set_same counters j new no_counter few) in
-    let later = more-here here 1 j whole (omega (arith, whole-length counters i counts)) in
-    omega (arith, now, had, later, is, more-here full 16 j counts l, whole-at counters i j counts l)
-
--- .. those of the others
-whole-raised_there : (counters : List Counter) (i j m : ℕ) (new : Counter) (here full : Bool) (counts : List ℕ) → m ≢ j → m < length counts
-    → get_or (whole_counts (set counters j new) i (more_at full 16 j counts)) m 0 ≡ get_or (more_at here 1 j (whole_counts counters i counts)) m 0
-whole-raised_there counters i j m new here full counts other l =
-    let whole = whole_counts counters i counts in
-    let now = whole-at (set counters j new) i m (more_at full 16 j counts) (omega (arith, more-length full 16 j counts)) in
-    let had : counter_has (set counters j new) i m ≡ counter_has counters i m = ap (λ (c : Counter). count_at c i) (get_or-set_other counters j m new no_counter other) in
-    let later = more-there here 1 j m whole other in
-    omega (arith, now, had, later, more-there full 16 j m counts other, whole-at counters i m counts l)
-
--- a counter counts one more of a channel, or has sixteen written down with it
-pub whole-raised : (counters : List Counter) (i j : ℕ) (new : Counter) (here full : Bool) (counts : List ℕ) → j < length counters → j < length counts
-    → count_at new i + 16 * one_if full ≡ counter_has counters i j + one_if here
-    → whole_counts (set counters j new) i (more_at full 16 j counts) ≡ more_at here 1 j (whole_counts counters i counts)
-whole-raised counters i j new here full counts few ten is =
-    let now = whole_counts (set counters j new) i (more_at full 16 j counts) in
-    let later = more_at here 1 j (whole_counts counters i counts) in
-    let now_long : length now ≡ length counts = whole-length (set counters j new) i (more_at full 16 j counts) ∙ more-length full 16 j counts in
-    let later_long : length later ≡ length counts = more-length here 1 j (whole_counts counters i counts) ∙ whole-length counters i counts in
-    ext_get_or 0 now later (now_long ∙ sym later_long) (λ m l. at m (omega arith) (cases_eq m j))
+-- ---- a verdict is counted
+-- a list in which the verdict in place n has one more, and the others are as they were
+risen-each : (n : ℕ) (old new : List ℕ) → length old ≡ 10 → length new ≡ 10 → ((j : ℕ) → 0 < j → j < 10 → get_or new j 0 ≡ get_or old j 0 + one_if (nat_eq n j)) → drop 1 new ≡ risen_at n (drop 1 old)
+risen-each zero old new ten_old ten_new each =
+    ext_get_or 0 (drop 1 new) (drop 1 old) (omega (arith, length-drop 1 new, length-drop 1 old))
+    (λ m l. at m (omega (arith, length-drop 1 new)))
   where
-    at : (m : ℕ) → m < length counts → (m ≡ j) ⊎ (m ≡ j → ⊥)
-        → get_or (whole_counts (set counters j new) i (more_at full 16 j counts)) m 0 ≡ get_or (more_at here 1 j (whole_counts counters i counts)) m 0
+    at : (m : ℕ) → m < 9 → get_or (drop 1 new) m 0 ≡ get_or (drop 1 old) m 0
+    at m l =
+        let none : one_if (nat_eq zero (1 + m)) ≡ 0 = ap one_if (ne_eqb zero (1 + m) (λ e. absurd (omega arith))) in
+        omega (arith, get_or-drop 1 new m 0, get_or-drop 1 old m 0, each (1 + m) (omega arith) (omega arith), none)
+risen-each (suc k) old new ten_old ten_new each =
+    ext_get_or 0 (drop 1 new) (set (drop 1 old) k (get_or (drop 1 old) k 0 + 1)) (omega (arith, length-drop 1 new, length-drop 1 old, length-set (drop 1 old) k (get_or (drop 1 old) k 0 + 1)))
+    (λ m l. at m (omega (arith, length-drop 1 new)) (cases_eq m k))
+  where
+    at : (m : ℕ) → m < 9 → (m ≡ k) ⊎ (m ≡ k → ⊥) → get_or (drop 1 new) m 0 ≡ get_or (set (drop 1 old) k (get_or (drop 1 old) k 0 + 1)) m 0
     at m l (inl same) =
-        subst (λ n. get_or (whole_counts (set counters j new) i (more_at full 16 j counts)) n 0 ≡ get_or (more_at here 1 j (whole_counts counters i counts)) n 0) (sym same)
-        (whole-raised_here counters i j new here full counts few ten is)
-    at m l (inr other) = whole-raised_there counters i j m new here full counts other l
+        let one : one_if (nat_eq (suc k) (1 + m)) ≡ 1 = ap one_if (eq-eqb (suc k) (1 + m) (omega arith)) in
+        let here : get_or (set (drop 1 old) k (get_or (drop 1 old) k 0 + 1)) m 0 ≡ get_or (drop 1 old) k 0 + 1 =
+        ap (λ i. get_or (set (drop 1 old) k (get_or (drop 1 old) k 0 + 1)) i 0) same ∙ get_or-set_same (drop 1 old) k (get_or (drop 1 old) k 0 + 1) 0 (omega (arith, length-drop 1 old)) in
+        let was : get_or (drop 1 old) m 0 ≡ get_or (drop 1 old) k 0 = ap (λ i. get_or (drop 1 old) i 0) same in
+        omega (arith, here, was, get_or-drop 1 new m 0, get_or-drop 1 old m 0, each (1 + m) (omega arith) (omega arith), one)
+    at m l (inr other) =
+        let none : one_if (nat_eq (suc k) (1 + m)) ≡ 0 = ap one_if (ne_eqb (suc k) (1 + m) (λ e. other (omega arith))) in
+        omega (arith, get_or-set_other (drop 1 old) k m (get_or (drop 1 old) k 0 + 1) 0 other, get_or-drop 1 new m 0, get_or-drop 1 old m 0, each (1 + m) (omega arith) (omega arith), none)
+
+-- the counters of a verdict count one more of channel i, or have some written down with it
+pub whole-risen : (old new : Counters) (i n : ℕ) (was now : List ℕ) → length was ≡ 10 → length now ≡ 10
+    → ((j : ℕ) → 0 < j → j < 10 → get_or now j 0 + counter_has new i j ≡ get_or was j 0 + counter_has old i j + one_if (nat_eq n j))
+    → drop 1 (whole_counts new i now) ≡ risen_at n (drop 1 (whole_counts old i was))
+whole-risen old new i n was now ten_was ten_now each =
+    risen-each n (whole_counts old i was) (whole_counts new i now) (whole-length old i was ∙ ten_was) (whole-length new i now ∙ ten_now)
+    (λ j some few. omega (arith, whole-at new i j now (omega (arith, ten_now)), whole-at old i j was (omega (arith, ten_was)), each j some few))
 
 -- ---- the ten counts of a channel, with the nine behind Empty
 counts-from : (cycles first : ℕ) (new t : List ℕ) → drop 1 new ≡ t → cycles - sum t ≡ first → counts_in cycles new ≡ first ∷ t
@@ -161,15 +156,15 @@ column-small Empty = omega arith
 column-small _ = omega arith
 
 -- ---- the counts of all channels
-pub counts-length : (cycles : ℕ) (counters : List Counter) (counts : List (List ℕ)) → length (counts_from cycles counters counts) ≡ length counts
+pub counts-length : (cycles : ℕ) (counters : Counters) (counts : List (List ℕ)) → length (counts_from cycles counters counts) ≡ length counts
 counts-length cycles counters counts = length-map_indexed (λ i written. counts_in cycles (whole_counts counters i written)) counts
 
-pub counts-at : (cycles : ℕ) (counters : List Counter) (counts : List (List ℕ)) (i : ℕ) → i < length counts
+pub counts-at : (cycles : ℕ) (counters : Counters) (counts : List (List ℕ)) (i : ℕ) → i < length counts
     → get_or (counts_from cycles counters counts) i [] ≡ counts_in cycles (whole_counts counters i (get_or counts i []))
 counts-at cycles counters counts i l = get_or-map_indexed (λ k written. counts_in cycles (whole_counts counters k written)) counts i [] [] l
 
 -- after a cycle in which the nine of each channel rise as its verdict says
-pub counting-counts : (cycles0 : ℕ) (counters0 : List Counter) (counts0 : List (List ℕ)) (cycles : ℕ) (counters : List Counter) (counts : List (List ℕ)) (verdict : ℕ → Verdict)
+pub counting-counts : (cycles0 : ℕ) (counters0 : Counters) (counts0 : List (List ℕ)) (cycles : ℕ) (counters : Counters) (counts : List (List ℕ)) (verdict : ℕ → Verdict)
     → cycles0 < 2 ^ 64 → ((i : ℕ) → i < length counts0 → length (get_or counts0 i []) ≡ 10) → ((i : ℕ) → i < length counts0 → sum (others_in counters0 counts0 i) ≤ cycles0)
     → cycles ≡ raised cycles0 → length counts ≡ length counts0
     → ((i : ℕ) → i < length counts0 → others_in counters counts i ≡ (if nat_lt cycles0 (2 ^ 64 - 1) then risen_at (column (verdict i)) (others_in counters0 counts0 i) else others_in counters0 counts0 i))
@@ -189,7 +184,7 @@ counting-counts cycles0 counters0 counts0 cycles counters counts verdict fits te
         ∙ ap (counted (verdict i)) (sym (counts-at cycles0 counters0 counts0 i l))
 
 -- the first counts
-pub first-counts : (size : ℕ) (counters : List Counter) (counts : List (List ℕ)) → ((i j : ℕ) → j < 10 → counter_has counters i j ≡ 0) → counts ≡ replicate size (replicate 10 0)
+pub first-counts : (size : ℕ) (counters : Counters) (counts : List (List ℕ)) → ((i j : ℕ) → j < 10 → counter_has counters i j ≡ 0) → counts ≡ replicate size (replicate 10 0)
     → counts_from 0 counters counts ≡ replicate size (replicate 10 0)
 first-counts size counters counts none is =
     ext_get_or [] (counts_from 0 counters counts) (replicate size (replicate 10 0)) (counts-length 0 counters counts ∙ ap length is)
@@ -207,14 +202,14 @@ first-counts size counters counts none is =
 
 -- ---- the counts of one channel, made whole one by one from place 1 on
 -- the counts from 1 to before j are whole, those from j on are as written, and the sum of those that are whole is known
-pub record IsMade (counters : List Counter) (i j : ℕ) (written counts : List ℕ) (others : ℕ) : Type 0 where
+pub record IsMade (counters : Counters) (i j : ℕ) (written counts : List ℕ) (others : ℕ) : Type 0 where
   pub ten : length counts ≡ 10
   pub done : (k : ℕ) → 0 < k → k < j → get_or counts k 0 ≡ get_or (whole_counts counters i written) k 0
   pub ahead : (k : ℕ) → j ≤ k → get_or counts k 0 ≡ get_or written k 0
   pub so_far : others + sum (drop j (whole_counts counters i written)) ≡ sum (drop 1 (whole_counts counters i written))
 
 -- at first none is
-pub made-first : (counters : List Counter) (i : ℕ) (written counts : List ℕ) → counts ≡ written → length written ≡ 10 → IsMade counters i 1 written counts 0
+pub made-first : (counters : Counters) (i : ℕ) (written counts : List ℕ) → counts ≡ written → length written ≡ 10 → IsMade counters i 1 written counts 0
 made-first counters i written counts same ten = record {
   ten = ap length same ∙ ten;
   done = λ k some small. absurd (omega arith);
@@ -223,7 +218,7 @@ made-first counters i written counts same ten = record {
 }
 
 -- .. one more
-pub made-more : (counters : List Counter) (i j : ℕ) (written counts : List ℕ) (others cycles value others' : ℕ) → IsMade counters i j written counts others → 0 < j → j < 10 → length written ≡ 10
+pub made-more : (counters : Counters) (i j : ℕ) (written counts : List ℕ) (others cycles value others' : ℕ) → IsMade counters i j written counts others → 0 < j → j < 10 → length written ≡ 10
     → sum (drop 1 (whole_counts counters i written)) ≤ cycles → cycles < 2 ^ 64
     → value ≡ min (get_or counts j 0 + counter_has counters i j) (2 ^ 64 - 1) → others' ≡ min (others + get_or (set counts j value) j 0) (2 ^ 64 - 1)
     → IsMade counters i (j + 1) written (set counts j value) others'
@@ -246,7 +241,7 @@ made-more counters i j written counts others cycles value others' made some smal
     at_most k first l (inr other) e = get_or-set_other counts j k value 0 other ∙ made.done k first (omega arith)
 
 -- .. all of them, and that of Empty
-pub made-last : (counters : List Counter) (i j : ℕ) (written counts : List ℕ) (others cycles first : ℕ) → IsMade counters i j written counts others → 10 ≤ j → length written ≡ 10 → first ≡ cycles - others
+pub made-last : (counters : Counters) (i j : ℕ) (written counts : List ℕ) (others cycles first : ℕ) → IsMade counters i j written counts others → 10 ≤ j → length written ≡ 10 → first ≡ cycles - others
     → set counts 0 first ≡ counts_in cycles (whole_counts counters i written)
 made-last counters i j written counts others cycles first made end ten is =
     let whole = whole_counts counters i written in

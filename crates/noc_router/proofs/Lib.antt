@@ -1,6 +1,7 @@
 pub mod ArrivalLemmas
 pub mod ChannelLemmas
 pub mod CountLemmas
+pub mod DigitLemmas
 pub mod FilledLemmas
 pub mod FindLemmas
 pub mod InjectLemmas

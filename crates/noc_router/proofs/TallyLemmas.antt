@@ -1,6 +1,7 @@
 -- What a router counts of its input channels.
-use Rattle.std.proofs.Common.{◌≡◌, ℕ, ◌+◌, ◌*◌, ◌^◌, ◌<◌, ◌≤◌, Bool, true, false, List, [], ◌∷◌, length, drop, get_or, set, sum, refl, ap, sym, ◌∙◌, arith, inl, inr, replicate, Option, None}
+use Rattle.std.proofs.Common.{◌≡◌, ℕ, ◌+◌, ◌-◌, ◌*◌, ◌^◌, ◌<◌, ◌≤◌, Bool, true, false, List, [], ◌∷◌, ◌++◌, length, drop, take, get_or, set, sum, refl, ap, sym, ◌∙◌, arith, inl, inr, replicate, Option, None}
 use Rattle.std.specs.Prelude.{◌/◌, ◌%◌, ◌&&◌, ◌||◌, ◌⊎◌, option_map, not, nat_eq, if◌then◌else◌}
+use Rattle.std.proofs.Math.Seq.{take-append_seam}
 use Rattle.std.proofs.lemmas.Bool.{cases_eq, cases_lt, eq-eqb, ne_eqb, eqb-true, false≢true}
 use Rattle.std.proofs.lemmas.List.{length-set, get_or-set_same, get_or-set_other, get_or-replicate, length-replicate, get_or-map, get_or_past}
 use Rattle.noc_packet.specs.Set.{has_bit}
@@ -8,29 +9,29 @@ use Rattle.noc_packet.specs.declared.packet.Flit.{Flit}
 use Rattle.noc_vc.specs.Input.{Input, is_empty, is_idle_phase}
 use Rattle.noc_vc.specs.declared.input.InputState.{InputState}
 use Rattle.noc_vc.specs.declared.input.InputState.TheVariants.{Idle, Waiting, Active}
-use Rattle.noc_router.specs.declared.counter.Counter.{Counter}
+use Rattle.noc_router.specs.declared.counters.Counters.{Counters}
 use Rattle.noc_router.specs.declared.plan.Plan.TheInside.{Inside}
-use Rattle.noc_router.specs.Planned.{outcome_in}
-use Rattle.noc_router.specs.VerdictSets.{verdict_by}
+use Rattle.noc_router.specs.Planned.{IsPlan, outcome_in}
+use Rattle.noc_router.specs.VerdictSets.{sets_with, verdict_by}
 use Rattle.noc_router.specs.declared.verdict.Verdict.{Verdict}
 use Rattle.noc_router.specs.declared.verdict.Verdict.TheVariants.{Empty, Routed, Granted, Moved, NoFlit, NoIdleChannel, LostChannel, NoCredit, LostInput, LostSwitch}
 use Rattle.noc_router.specs.declared.verdict.Finding.{Finding}
-use Rattle.noc_router.specs.Counts.{count_at, one_if, whole_counts}
+use Rattle.noc_router.specs.Counts.{carried_at, count_at, one_at, one_if, whole_counts}
 use Rattle.noc_router.specs.Settled.{outcome_verdict}
 use Rattle.noc_router.specs.Sound.{is_occupied, named, out_in}
 use Rattle.noc_router.specs.Tally.{IsTally, empty_finding, finding_at, is_empty_verdict, others_in, risen_at}
 use Rattle.noc_router.specs.View.{Decisions, Outcome, decided_verdict}
-use Rattle.noc_router.proofs.CountLemmas.{counter_has, drop-more, more-length, more_at, sum-risen, whole-below, whole-none, whole-raised}
+use Rattle.noc_router.proofs.CountLemmas.{counter_has, sum-risen, whole-below, whole-none, whole-risen}
+use Rattle.noc_router.proofs.DigitLemmas.{one-small}
 use Rattle.noc_topo.proofs.WordLemmas.{get_or-tabulate, length-tabulate}
 
 -- ---- the first tally
 -- nothing is counted yet
-pub first_tally : (size bits : ℕ) (counters : List Counter) (counts : List (List ℕ)) (findings : List Finding) → ((k : ℕ) → has_bit bits k ≡ false)
-    → length counters ≡ 10 → ((i j : ℕ) → j < 10 → counter_has counters i j ≡ 0)
+pub first_tally : (size bits : ℕ) (counters : Counters) (counts : List (List ℕ)) (findings : List Finding) → ((k : ℕ) → has_bit bits k ≡ false)
+    → ((i j : ℕ) → j < 10 → counter_has counters i j ≡ 0)
     → counts ≡ replicate size (replicate 10 0) → findings ≡ replicate size empty_finding → IsTally 0 bits counters counts findings
-first_tally size bits counters counts findings none each nothing c f = record {
+first_tally size bits counters counts findings none nothing c f = record {
   fits = omega arith;
-  counters_each = each;
   ten = λ i l. ap length (ten i l);
   sums = λ i l. let h : sum (others_in counters counts i) ≡ 0 = ap (λ xs. sum (drop 1 (whole_counts counters i xs))) (ten i l) ∙ ap (λ xs. sum (drop 1 xs)) (whole-none counters i (replicate 10 0) (λ j small. nothing i j small)) in omega arith;
   within = λ i t. absurd (false≢true (sym (none i) ∙ t));
@@ -40,78 +41,70 @@ first_tally size bits counters counts findings none each nothing c f = record {
     ten : (i : ℕ) → i < length counts → get_or counts i [] ≡ replicate 10 0
     ten i l = ap (λ xs. get_or xs i []) c ∙ get_or-replicate size i (replicate 10 0) [] (let h : length counts ≡ size = ap length c ∙ length-replicate size (replicate 10 0) in omega arith)
 
--- ---- a verdict is counted
--- the counts of one channel of the nine verdicts, where a counter is another and sixteen may be written down
-others-raised : (counters : List Counter) (counts counts' : List (List ℕ)) (i j : ℕ) (new : Counter) (here full : Bool) → 0 < j → j < length counters → j < length (get_or counts i [])
-    → get_or counts' i [] ≡ more_at full 16 j (get_or counts i []) → count_at new i + 16 * one_if full ≡ counter_has counters i j + one_if here
-    → others_in (set counters j new) counts' i ≡ (if here then risen_at j (others_in counters counts i) else others_in counters counts i)
-others-raised counters counts counts' i j new here full some few ten written is =
-    ap (λ xs. drop 1 (whole_counts (set counters j new) i xs)) written
-    ∙ ap (drop 1) (whole-raised counters i j new here full (get_or counts i []) few ten is)
-    ∙ drop-more here 1 j (whole_counts counters i (get_or counts i [])) some
-
--- a verdict that is counted for the members of a set: the counter of the verdict is another, and sixteen are written down for the members of the other set
-pub record IsRaised (counters : List Counter) (counts : List (List ℕ)) (here full j : ℕ) (new : Counter) (counts' : List (List ℕ)) : Type 0 where
-  pub some : 0 < j
-  pub small : j < 10
-  pub sum : (k : ℕ) → count_at new k + 16 * one_if (has_bit full k) ≡ counter_has counters k j + one_if (has_bit here k)
+-- ---- a verdict is counted of each channel
+-- the counters count one more of the verdict of each channel, or have some written down with it
+pub record IsCounted (counters : Counters) (counts : List (List ℕ)) (column_of : ℕ → ℕ) (counters' : Counters) (counts' : List (List ℕ)) : Type 0 where
   pub size : length counts' ≡ length counts
-  pub written : (k : ℕ) → get_or counts' k [] ≡ more_at (has_bit full k) 16 j (get_or counts k [])
+  pub ten : (k : ℕ) → k < length counts → length (get_or counts' k []) ≡ 10
+  pub each : (k j : ℕ) → k < length counts → 0 < j → j < 10 → get_or (get_or counts' k []) j 0 + count_at counters' j k ≡ get_or (get_or counts k []) j 0 + count_at counters j k + one_if (nat_eq (column_of k) j)
 
--- .. the counts of each channel
-pub raised-others : (cycles shown : ℕ) (counters : List Counter) (counts : List (List ℕ)) (findings : List Finding) (here full j : ℕ) (new : Counter) (counts' : List (List ℕ))
-    → IsTally cycles shown counters counts findings → IsRaised counters counts here full j new counts' → (k : ℕ) → k < length counts
-    → others_in (set counters j new) counts' k ≡ (if has_bit here k then risen_at j (others_in counters counts k) else others_in counters counts k)
-raised-others cycles shown counters counts findings here full j new counts' sound are k l =
-    others-raised counters counts counts' k j new (has_bit here k) (has_bit full k) are.some (omega (arith, sound.counters_each, are.small)) (omega (arith, sound.ten k l, are.small)) (are.written k) (are.sum k)
+-- .. by sets of channels, of which some may have 512 written down
+pub counted-by : (counters : Counters) (counts : List (List ℕ)) (column_of : ℕ → ℕ) (counters' : Counters) (counts' : List (List ℕ)) (sets : List ℕ) (carry : Option (List ℕ))
+    → ((j k : ℕ) → j < 10 → count_at counters' j k + 512 * carried_at carry j k ≡ count_at counters j k + one_at sets j k)
+    → ((j k : ℕ) → k < length counts → 0 < j → j < 10 → one_at sets j k ≡ one_if (nat_eq (column_of k) j))
+    → length counts' ≡ length counts → ((k : ℕ) → k < length counts → length (get_or counts' k []) ≡ 10)
+    → ((k j : ℕ) → k < length counts → 0 < j → j < 10 → get_or (get_or counts' k []) j 0 ≡ get_or (get_or counts k []) j 0 + 512 * carried_at carry j k)
+    → IsCounted counters counts column_of counters' counts'
+counted-by counters counts column_of counters' counts' sets carry added verdicts size ten written = record {
+  size = size;
+  ten = ten;
+  each = λ k j l some few. sum_of _ _ _ _ _ _ _ (added j k few) (verdicts j k l some few) (written k j l some few);
+}
+  where
+    sum_of : (now had now_c had_c carried one one' : ℕ) → now_c + 512 * carried ≡ had_c + one → one ≡ one' → now ≡ had + 512 * carried → now + now_c ≡ had + had_c + one'
+    sum_of now had now_c had_c carried one one' a b d = omega arith
 
--- .. is a tally, where each member can count one more
-pub raised_tally : (cycles shown : ℕ) (counters : List Counter) (counts : List (List ℕ)) (findings : List Finding) (here full j : ℕ) (new : Counter) (counts' : List (List ℕ))
-    → IsTally cycles shown counters counts findings → IsRaised counters counts here full j new counts' → ((k : ℕ) → has_bit here k ≡ true → sum (others_in counters counts k) < cycles)
-    → IsTally cycles shown (set counters j new) counts' findings
-raised_tally cycles shown counters counts findings here full j new counts' sound are room = record {
-  fits = sound.fits;
-  counters_each = length-set counters j new ∙ sound.counters_each;
-  ten = λ i l. ap length (are.written i) ∙ more-length (has_bit full i) 16 j (get_or counts i []) ∙ sound.ten i (omega (arith, are.size));
-  sums = λ i l. sums_at i (omega (arith, are.size)) (has_bit here i) refl;
+-- .. the nine counts of each channel
+pub counted-others : (cycles shown : ℕ) (counters : Counters) (counts : List (List ℕ)) (findings : List Finding) (column_of : ℕ → ℕ) (counters' : Counters) (counts' : List (List ℕ))
+    → IsTally cycles shown counters counts findings → IsCounted counters counts column_of counters' counts' → (k : ℕ) → k < length counts
+    → others_in counters' counts' k ≡ risen_at (column_of k) (others_in counters counts k)
+counted-others cycles shown counters counts findings column_of counters' counts' sound are k l =
+    whole-risen counters counters' k (column_of k) (get_or counts k []) (get_or counts' k []) (sound.ten k l) (are.ten k l) (λ j some few. are.each k j l some few)
+
+-- a list that is written back as a whole
+pub written-back : (n : ℕ) (new old : List (List ℕ)) → n ≡ length new → take n (new ++ drop (length new) old) ≡ new
+written-back n new old e = ap (λ m. take m (new ++ drop (length new) old)) e ∙ take-append_seam new (drop (length new) old)
+
+-- .. is a tally of a cycle more
+pub counted_tally : (cycles shown : ℕ) (counters : Counters) (counts : List (List ℕ)) (findings : List Finding) (column_of : ℕ → ℕ) (counters' : Counters) (counts' : List (List ℕ))
+    → cycles < 2 ^ 64 - 1 → IsTally cycles shown counters counts findings → IsCounted counters counts column_of counters' counts' → IsTally (cycles + 1) shown counters' counts' findings
+counted_tally cycles shown counters counts findings column_of counters' counts' more sound are = record {
+  fits = omega arith;
+  ten = λ i l. are.ten i (omega (arith, are.size));
+  sums = λ i l. sums_at i (omega (arith, are.size));
   within = sound.within;
   plain = sound.plain;
 }
   where
-    sums_at : (i : ℕ) → i < length counts → (b : Bool) → has_bit here i ≡ b → sum (others_in (set counters j new) counts' i) ≤ cycles
-    sums_at i l true t =
-        let e = raised-others cycles shown counters counts findings here full j new counts' sound are i l ∙ ap (λ b. if b then risen_at j (others_in counters counts i) else others_in counters counts i) t in
-        let n : sum (others_in (set counters j new) counts' i) ≡ sum (risen_at j (others_in counters counts i)) = ap sum e in
-        let m : sum (others_in counters counts i) < cycles = room i t in
-        omega (arith, n, sum-risen j (others_in counters counts i))
-    sums_at i l false t =
-        let e = raised-others cycles shown counters counts findings here full j new counts' sound are i l ∙ ap (λ b. if b then risen_at j (others_in counters counts i) else others_in counters counts i) t in
-        let n : sum (others_in (set counters j new) counts' i) ≡ sum (others_in counters counts i) = ap sum e in
-        let m : sum (others_in counters counts i) ≤ cycles = sound.sums i l in
-        omega arith
+    sums_at : (i : ℕ) → i < length counts → sum (others_in counters' counts' i) ≤ cycles + 1
+    sums_at i l =
+        let e : sum (others_in counters' counts' i) ≡ sum (risen_at (column_of i) (others_in counters counts i)) = ap sum (counted-others cycles shown counters counts findings column_of counters' counts' sound are i l) in
+        omega (arith, e, sum-risen (column_of i) (others_in counters counts i), sound.sums i l)
 
--- .. there is room for sixteen more
-pub raised-fits : (cycles shown : ℕ) (counters : List Counter) (counts : List (List ℕ)) (findings : List Finding) (here full j : ℕ) (new : Counter)
-    → IsTally cycles shown counters counts findings → 0 < j → j < 10 → ((k : ℕ) → count_at new k + 16 * one_if (has_bit full k) ≡ counter_has counters k j + one_if (has_bit here k))
-    → (k : ℕ) → k < length counts → sum (others_in counters counts k) < cycles → has_bit full k ≡ true → get_or (get_or counts k []) j 0 + 16 < 2 ^ 64
-raised-fits cycles shown counters counts findings here full j new sound some small is k l room t =
-    let had : count_at new k + 16 ≡ counter_has counters k j + one_if (has_bit here k) = let e : 16 * one_if (has_bit full k) ≡ 16 = ap (λ b. 16 * one_if b) t in omega (arith, is k) in
-    let one : one_if (has_bit here k) ≤ 1 = at_most (has_bit here k) in
-    let le : get_or (get_or counts k []) j 0 + counter_has counters k j ≤ sum (others_in counters counts k) = whole-below counters k j (get_or counts k []) some (omega (arith, sound.ten k l)) in
-    omega (arith, sound.fits)
-  where
-    at_most : (b : Bool) → one_if b ≤ 1
-    at_most true = omega arith
-    at_most false = omega arith
+-- .. there is room for what is written down
+pub carried-fits : (cycles shown : ℕ) (counters : Counters) (counts : List (List ℕ)) (findings : List Finding) (k j now more : ℕ) (one : Bool) → cycles < 2 ^ 64 - 1
+    → IsTally cycles shown counters counts findings → k < length counts → 0 < j → j < 10 → now + more ≡ count_at counters j k + one_if one → get_or (get_or counts k []) j 0 + more < 2 ^ 64
+carried-fits cycles shown counters counts findings k j now more one room sound l some few is =
+    let le : get_or (get_or counts k []) j 0 + count_at counters j k ≤ sum (others_in counters counts k) = whole-below counters k j (get_or counts k []) some (omega (arith, sound.ten k l)) in
+    omega (arith, le, sound.sums k l, is, one-small one)
 
 -- ---- one channel more is shown
 -- a tally with this finding
-pub shown_tally : (cycles shown shown' : ℕ) (counters : List Counter) (counts : List (List ℕ)) (findings : List Finding) (index : ℕ) (finding : Finding)
+pub shown_tally : (cycles shown shown' : ℕ) (counters : Counters) (counts : List (List ℕ)) (findings : List Finding) (index : ℕ) (finding : Finding)
     → IsTally cycles shown counters counts findings → index < length findings → ((k : ℕ) → has_bit shown' k ≡ (nat_eq k index || has_bit shown k))
     → IsTally cycles shown' counters counts (set findings index finding)
 shown_tally cycles shown shown' counters counts findings index finding sound lf members = record {
   fits = sound.fits;
-  counters_each = sound.counters_each;
   ten = sound.ten;
   sums = sound.sums;
   within = λ i t. omega (arith, length-set findings index finding, within_at i (either (nat_eq i index) (has_bit shown i) (sym (members i) ∙ t)));
@@ -136,13 +129,12 @@ shown_tally cycles shown shown' counters counts findings index finding sound lf 
 
 -- ---- nothing is found of one channel any more
 -- a tally without this finding
-pub forgotten_tally : (cycles shown shown' : ℕ) (counters : List Counter) (counts : List (List ℕ)) (findings : List Finding) (index : ℕ) (none : Finding)
+pub forgotten_tally : (cycles shown shown' : ℕ) (counters : Counters) (counts : List (List ℕ)) (findings : List Finding) (index : ℕ) (none : Finding)
     → none ≡ empty_finding → IsTally cycles shown counters counts findings → index < length findings
     → ((k : ℕ) → has_bit shown' k ≡ (not (nat_eq k index) && has_bit shown k))
     → IsTally cycles shown' counters counts (set findings index none)
 forgotten_tally cycles shown shown' counters counts findings index none is sound lf members = record {
   fits = sound.fits;
-  counters_each = sound.counters_each;
   ten = sound.ten;
   sums = sound.sums;
   within = λ i t. omega (arith, length-set findings index none, sound.within i (second (not (nat_eq i index)) (has_bit shown i) (sym (members i) ∙ t)));
@@ -158,7 +150,7 @@ forgotten_tally cycles shown shown' counters counts findings index none is sound
     plain_at i l e (inr other) = get_or-set_other findings index i none empty_finding other ∙ sound.plain i l (ap (λ b. not b && has_bit shown i) (sym (ne_eqb i index other)) ∙ e)
 
 -- of a channel that is not shown nothing is found
-pub plain-at : (cycles shown : ℕ) (counters : List Counter) (counts : List (List ℕ)) (findings : List Finding) → IsTally cycles shown counters counts findings → (k : ℕ) → has_bit shown k ≡ false → finding_at findings k ≡ empty_finding
+pub plain-at : (cycles shown : ℕ) (counters : Counters) (counts : List (List ℕ)) (findings : List Finding) → IsTally cycles shown counters counts findings → (k : ℕ) → has_bit shown k ≡ false → finding_at findings k ≡ empty_finding
 plain-at cycles shown counters counts findings sound k none = at (cases_lt k (length findings))
   where
     at : (k < length findings) ⊎ (length findings ≤ k) → finding_at findings k ≡ empty_finding
@@ -354,6 +346,12 @@ pub plan_verdict : (p : Inside) (q : Outcome) (n k : ℕ) → outcome_in p ≡ q
 plan_verdict p q n k e long l =
     let size : p.requests.size ≡ n = sym (length-tabulate p.requests.size (verdict_by p.verdicts)) ∙ ap (λ (x : Outcome). length x.verdicts) e ∙ long in
     sym (ap (λ (x : Outcome). outcome_verdict x k) e) ∙ get_or-tabulate p.requests.size k (verdict_by p.verdicts) Empty (omega arith)
+
+-- .. each of which is in one of them at most
+pub plan_apart : (p : Inside) (q : Outcome) (n k : ℕ) → outcome_in p ≡ q → IsPlan p → length q.verdicts ≡ n → k < n → sets_with p.verdicts k ≤ 1
+plan_apart p q n k e plan long l =
+    let size : p.requests.size ≡ n = sym (length-tabulate p.requests.size (verdict_by p.verdicts)) ∙ ap (λ (x : Outcome). length x.verdicts) e ∙ long in
+    plan.apart k (omega arith)
 
 -- what is found of a channel without a packet that asks for nothing
 pub vacant-found : (vcs : ℕ) (input : Input) (flits : List Flit) (ask : Option ℕ) → is_occupied input flits ≡ false → input.packet ≡ None → named vcs input Empty ask ≡ empty_finding

@@ -1,8 +1,8 @@
 -- The verdicts that the sets of channels say.
-use Rattle.std.proofs.Common.{◌≡◌, ℕ, ◌/◌, ◌%◌, ◌<◌, ◌≤◌, Bool, true, false, List, length, get_or, Option, Some, None, refl, ap, sym, ◌∙◌, arith, inl, inr}
-use Rattle.std.specs.Prelude.{◌&&◌, ◌||◌, ◌⊎◌, not, is_some, if◌then◌else◌}
-use Rattle.std.proofs.lemmas.Bool.{cases_lt, false≢true}
-use Rattle.std.proofs.lemmas.List.{get_or_past}
+use Rattle.std.proofs.Common.{◌≡◌, ℕ, zero, suc, ◌+◌, ◌/◌, ◌%◌, ◌<◌, ◌≤◌, Bool, true, false, List, [], ◌∷◌, length, drop, map, get_or, set, replicate, Option, Some, None, refl, ap, sym, ◌∙◌, arith, inl, inr}
+use Rattle.std.specs.Prelude.{◌&&◌, ◌||◌, ◌⊎◌, nat_eq, not, is_some, if◌then◌else◌}
+use Rattle.std.proofs.lemmas.Bool.{cases_eq, cases_lt, eq-eqb, ne_eqb, false≢true}
+use Rattle.std.proofs.lemmas.List.{get_or_past, get_or-map, get_or-replicate, get_or-set_same, get_or-set_other, length-replicate}
 use Rattle.noc_topo.specs.Words.{tabulate, is_some_of}
 use Rattle.noc_topo.proofs.WordLemmas.{get_or-tabulate, length-tabulate}
 use Rattle.noc_packet.specs.Set.{has_bit}
@@ -10,12 +10,14 @@ use Rattle.noc_vc.specs.Input.{is_active, is_empty, is_idle_phase, is_waiting}
 use Rattle.noc_vc.specs.Output.{has_credit}
 use Rattle.noc_vc.specs.declared.input.InputState.{InputState}
 use Rattle.noc_vc.specs.declared.input.InputState.TheVariants.{Idle, Waiting, Active}
+use Rattle.noc_router.specs.Counts.{one_at, one_if}
 use Rattle.noc_router.specs.Planned.{outcome_in}
 use Rattle.noc_router.specs.Requests.{AreAmong, is_given}
 use Rattle.noc_router.specs.Sound.{is_supplied}
 use Rattle.noc_router.specs.Standing.{IsStanding, is_won_from}
-use Rattle.noc_router.specs.Verdict.{Round, Unrouted, Waits, Holds, ask_of, is_event, is_granted, is_moved, verdict_of}
-use Rattle.noc_router.specs.VerdictSets.{verdict_by}
+use Rattle.noc_router.specs.Tally.{risen_at}
+use Rattle.noc_router.specs.Verdict.{Round, Unrouted, Waits, Holds, ask_of, column, is_event, is_granted, is_moved, verdict_of}
+use Rattle.noc_router.specs.VerdictSets.{sets_with, verdict_by}
 use Rattle.noc_router.specs.View.{Outcome, View, asked_for, claim_in, finding_of, size_of, view_buffer, view_claim, view_input, view_output}
 use Rattle.noc_router.specs.declared.channels.Standing.{Standing}
 use Rattle.noc_router.specs.declared.plan.Plan.TheInside.{Inside}
@@ -85,6 +87,57 @@ first_granted false false false false false false true e f = refl
 first_granted false false false false false false false true f = refl
 first_granted false false false false false false false false true = refl
 first_granted false false false false false false false false false = refl
+
+-- whether a channel is in each of the sets, 1 or 0 by the place of the verdict, where it is in one set at most
+nine_same : (x1 x2 x3 x4 x5 x6 x7 x8 x9 y1 y2 y3 y4 y5 y6 y7 y8 y9 : ℕ) → x1 ≡ y1 → x2 ≡ y2 → x3 ≡ y3 → x4 ≡ y4 → x5 ≡ y5 → x6 ≡ y6 → x7 ≡ y7 → x8 ≡ y8 → x9 ≡ y9
+    → 0 ∷ x1 ∷ x2 ∷ x3 ∷ x4 ∷ x5 ∷ x6 ∷ x7 ∷ x8 ∷ x9 ∷ [] ≡ 0 ∷ y1 ∷ y2 ∷ y3 ∷ y4 ∷ y5 ∷ y6 ∷ y7 ∷ y8 ∷ y9 ∷ []
+nine_same x1 x2 x3 x4 x5 x6 x7 x8 x9 y1 y2 y3 y4 y5 y6 y7 y8 y9 e1 e2 e3 e4 e5 e6 e7 e8 e9 = cc
+
+one_set : (m g r a b c d e f : Bool) → one_if m + one_if g + one_if r + one_if a + one_if b + one_if c + one_if d + one_if e + one_if f ≤ 1
+    → 0 ∷ one_if r ∷ one_if g ∷ one_if m ∷ one_if a ∷ one_if b ∷ one_if c ∷ one_if d ∷ one_if e ∷ one_if f ∷ [] ≡ 0 ∷ risen_at (column (first m g r a b c d e f)) (replicate 9 0)
+unfolding first
+one_set true g r a b c d e f s = nine_same (one_if r) (one_if g) (one_if true) (one_if a) (one_if b) (one_if c) (one_if d) (one_if e) (one_if f) 0 0 1 0 0 0 0 0 0 (omega (arith, s)) (omega (arith, s)) refl (omega (arith, s)) (omega (arith, s)) (omega (arith, s)) (omega (arith, s)) (omega (arith, s)) (omega (arith, s))
+one_set false true r a b c d e f s = nine_same (one_if r) (one_if true) (one_if false) (one_if a) (one_if b) (one_if c) (one_if d) (one_if e) (one_if f) 0 1 0 0 0 0 0 0 0 (omega (arith, s)) refl refl (omega (arith, s)) (omega (arith, s)) (omega (arith, s)) (omega (arith, s)) (omega (arith, s)) (omega (arith, s))
+one_set false false true a b c d e f s = nine_same (one_if true) (one_if false) (one_if false) (one_if a) (one_if b) (one_if c) (one_if d) (one_if e) (one_if f) 1 0 0 0 0 0 0 0 0 refl refl refl (omega (arith, s)) (omega (arith, s)) (omega (arith, s)) (omega (arith, s)) (omega (arith, s)) (omega (arith, s))
+one_set false false false true b c d e f s = nine_same (one_if false) (one_if false) (one_if false) (one_if true) (one_if b) (one_if c) (one_if d) (one_if e) (one_if f) 0 0 0 1 0 0 0 0 0 refl refl refl refl (omega (arith, s)) (omega (arith, s)) (omega (arith, s)) (omega (arith, s)) (omega (arith, s))
+one_set false false false false true c d e f s = nine_same (one_if false) (one_if false) (one_if false) (one_if false) (one_if true) (one_if c) (one_if d) (one_if e) (one_if f) 0 0 0 0 1 0 0 0 0 refl refl refl refl refl (omega (arith, s)) (omega (arith, s)) (omega (arith, s)) (omega (arith, s))
+one_set false false false false false true d e f s = nine_same (one_if false) (one_if false) (one_if false) (one_if false) (one_if false) (one_if true) (one_if d) (one_if e) (one_if f) 0 0 0 0 0 1 0 0 0 refl refl refl refl refl refl (omega (arith, s)) (omega (arith, s)) (omega (arith, s))
+one_set false false false false false false true e f s = nine_same (one_if false) (one_if false) (one_if false) (one_if false) (one_if false) (one_if false) (one_if true) (one_if e) (one_if f) 0 0 0 0 0 0 1 0 0 refl refl refl refl refl refl refl (omega (arith, s)) (omega (arith, s))
+one_set false false false false false false false true f s = nine_same (one_if false) (one_if false) (one_if false) (one_if false) (one_if false) (one_if false) (one_if false) (one_if true) (one_if f) 0 0 0 0 0 0 0 1 0 refl refl refl refl refl refl refl refl (omega (arith, s))
+one_set false false false false false false false false true s = nine_same (one_if false) (one_if false) (one_if false) (one_if false) (one_if false) (one_if false) (one_if false) (one_if false) (one_if true) 0 0 0 0 0 0 0 0 1 refl refl refl refl refl refl refl refl refl
+one_set false false false false false false false false false s = refl
+
+-- one more of none
+one-risen : (n j : ℕ) → 0 < j → j < 10 → get_or (0 ∷ risen_at n (replicate 9 0)) j 0 ≡ one_if (nat_eq n j)
+one-risen n zero some l = absurd (omega arith)
+one-risen zero (suc m) some l = get_or-replicate 9 m 0 0 (omega arith) ∙ ap one_if (sym (ne_eqb zero (suc m) (λ e. absurd (omega arith))))
+one-risen (suc k) (suc m) some l = at (cases_eq m k)
+  where
+    at : (m ≡ k) ⊎ (m ≡ k → ⊥) → get_or (set (replicate 9 0) k (get_or (replicate 9 0) k 0 + 1)) m 0 ≡ one_if (nat_eq (suc k) (suc m))
+    at (inl same) =
+        let small : k < 9 = omega arith in
+        let none : get_or (replicate 9 0) k 0 + 1 ≡ 1 = ap (λ n. n + 1) (get_or-replicate 9 k 0 0 small) in
+        ap (λ i. get_or (set (replicate 9 0) k (get_or (replicate 9 0) k 0 + 1)) i 0) same
+        ∙ get_or-set_same (replicate 9 0) k (get_or (replicate 9 0) k 0 + 1) 0 (omega (arith, length-replicate {A = ℕ} 9 0))
+        ∙ none
+        ∙ ap one_if (sym (eq-eqb (suc k) (suc m) (ap suc (sym same))))
+    at (inr other) =
+        get_or-set_other (replicate 9 0) k m (get_or (replicate 9 0) k 0 + 1) 0 other
+        ∙ get_or-replicate 9 m 0 0 (omega arith)
+        ∙ ap one_if (sym (ne_eqb (suc k) (suc m) (λ e. other (sym (omega arith)))))
+
+-- the channels that have a verdict
+pub one-each : (sets : VerdictSets) (none k j : ℕ) → sets_with sets k ≤ 1 → 0 < j → j < 10 → has_bit none k ≡ false
+    → one_at (none ∷ sets.routed ∷ sets.granted ∷ sets.moved ∷ sets.no_flit ∷ sets.no_idle_channel ∷ sets.lost_channel ∷ sets.no_credit ∷ sets.lost_input ∷ sets.lost_switch ∷ []) j k
+    ≡ one_if (nat_eq (column (verdict_by sets k)) j)
+one-each sets none k j apart some few no_member =
+    let rows = none ∷ sets.routed ∷ sets.granted ∷ sets.moved ∷ sets.no_flit ∷ sets.no_idle_channel ∷ sets.lost_channel ∷ sets.no_credit ∷ sets.lost_input ∷ sets.lost_switch ∷ [] in
+    sym (get_or-map (λ s. one_if (has_bit s k)) rows j 0 0 few)
+    ∙ ap (λ b. get_or (one_if b ∷ map (λ s. one_if (has_bit s k)) (drop 1 rows)) j 0) no_member
+    ∙ ap (λ (xs : List ℕ). get_or xs j 0)
+    (one_set (has_bit sets.moved k) (has_bit sets.granted k) (has_bit sets.routed k) (has_bit sets.no_flit k) (has_bit sets.no_idle_channel k) (has_bit sets.lost_channel k) (has_bit sets.no_credit k) (has_bit sets.lost_input k) (has_bit sets.lost_switch k) apart)
+    ∙ one-risen _ j some few
+    ∙ ap (λ (v : Verdict). one_if (nat_eq (column v) j)) (sym (first_by sets k))
 
 -- whether a verdict is an event, by the sets
 event-by : (sets : VerdictSets) (k : ℕ) → is_event (verdict_by sets k) ≡ (has_bit sets.moved k || (has_bit sets.granted k || has_bit sets.routed k))
@@ -204,6 +257,46 @@ state_verdict v round k Idle empty picked is = idle_verdict v.site.vcs round k e
 state_verdict v round k (Waiting set) empty picked is = waiting_verdict v.site.vcs round k (asked_for v set) empty picked
 state_verdict v round k (Active o) empty picked is = active_verdict v.site.vcs round k o (has_credit (view_output v o)) empty picked is
 
+-- in how many sets a channel in this state is
+abbrev sets_in : Bool → Bool → Bool → Bool → Bool → Bool → Bool → Bool → Bool → ℕ
+sets_in idle waits active supplied won granted asks empty picked =
+    let ready = active && (not empty && supplied) in
+    let chosen = ready && picked in
+    let moved = chosen && won in
+    one_if moved + one_if granted + one_if (idle && not empty) + one_if (active && empty) + one_if (not asks && waits) + one_if (not granted && asks) + one_if (active && (not empty && not supplied))
+    + one_if (not chosen && ready) + one_if (not moved && chosen)
+
+idle_sets : (empty picked : Bool) → sets_in true false false false false false false empty picked ≤ 1
+idle_sets true picked = omega arith
+idle_sets false picked = omega arith
+
+waiting_sets : (round : Round) (k : ℕ) (ask : Option ℕ) (empty picked : Bool) → sets_in false true false false false (is_given round.grants ask k) (is_some ask) empty picked ≤ 1
+waiting_sets round k None empty picked = omega arith
+waiting_sets round k (Some o) empty picked = at (is_some_of (get_or round.grants o None) k)
+  where
+    at : (granted : Bool) → sets_in false true false false false granted true empty picked ≤ 1
+    at true = omega arith
+    at false = omega arith
+
+active_sets : (supplied won empty picked : Bool) → sets_in false false true supplied won false false empty picked ≤ 1
+active_sets supplied won true picked = omega arith
+active_sets false won false picked = omega arith
+active_sets true won false false = omega arith
+active_sets true true false true = omega arith
+active_sets true false false true = omega arith
+
+state_sets : (v : View) (round : Round) (k : ℕ) (phase : InputState) (empty picked : Bool)
+    → sets_in (is_idle_phase phase) (is_waiting phase) (is_active phase) (is_supplied v.outputs phase) (is_won_from v round k phase) (is_given round.grants (ask_of (claim_in v phase)) k)
+    (is_some (ask_of (claim_in v phase))) empty picked ≤ 1
+state_sets v round k Idle empty picked = idle_sets empty picked
+state_sets v round k (Waiting set) empty picked = waiting_sets round k (asked_for v set) empty picked
+state_sets v round k (Active o) empty picked = active_sets (has_credit (view_output v o)) (is_won_from v round k (Active o)) empty picked
+
+same_sets : (a b c d e f g h i p q r s t u v w x : Bool) → a ≡ p → b ≡ q → c ≡ r → d ≡ s → e ≡ t → f ≡ u → g ≡ v → h ≡ w → i ≡ x
+    → one_if p + one_if q + one_if r + one_if s + one_if t + one_if u + one_if v + one_if w + one_if x ≤ 1 → one_if a + one_if b + one_if c + one_if d + one_if e + one_if f + one_if g + one_if h + one_if i ≤ 1
+same_sets a b c d e f g h i p q r s t u v w x ap_ bq cr ds et fu gv hw ix few =
+    omega (arith, few, ap one_if ap_, ap one_if bq, ap one_if cr, ap one_if ds, ap one_if et, ap one_if fu, ap one_if gv, ap one_if hw, ap one_if ix)
+
 -- the sets of a round, by the sets of what the channels can go on with
 pub record AreVerdicts (v : View) (round : Round) (s : Standing) (asking picked : ℕ) (sets : VerdictSets) (k : ℕ) : Type 0 where
   pub asks : has_bit asking k ≡ is_some (ask_of (view_claim v k))
@@ -230,3 +323,15 @@ verdict-on v round s asking picked sets k l standing are =
     let ready = standing.ready k l in
     first_by sets k ∙ same_first _ _ _ _ _ _ _ _ _ _ _ _ _ _ _ _ _ _ (cc) (cc) (cc) (cc) (cc) (cc) (cc) (cc) (cc)
     ∙ state_verdict v round k (view_input v k).phase (is_empty (view_buffer v k)) (has_bit picked k) are.draws
+
+-- .. have each channel once at most
+pub apart-on : (v : View) (round : Round) (s : Standing) (asking picked : ℕ) (sets : VerdictSets) (k : ℕ) → k < size_of v.site → IsStanding v s → AreVerdicts v round s asking picked sets k
+    → sets_with sets k ≤ 1
+apart-on v round s asking picked sets k l standing are =
+    let heads = standing.heads k l in
+    let waits = standing.waiting k l in
+    let starved = standing.starved k l in
+    let unsupplied = standing.unsupplied k l in
+    let ready = standing.ready k l in
+    same_sets _ _ _ _ _ _ _ _ _ _ _ _ _ _ _ _ _ _ (cc) (cc) (cc) (cc) (cc) (cc) (cc) (cc) (cc)
+    (state_sets v round k (view_input v k).phase (is_empty (view_buffer v k)) (has_bit picked k))

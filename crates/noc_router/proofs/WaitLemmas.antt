@@ -4,9 +4,8 @@ use Rattle.std.specs.Prelude.{◌⊎◌, min, nat_eq, nat_lt, if◌then◌else�
 use Rattle.std.proofs.lemmas.Bool.{cases_eq, cases_lt, eq-eqb, ne_eqb, ltb-true, ltb-false}
 use Rattle.std.proofs.lemmas.List.{length-set, get_or-set_same, get_or-set_other, ext_get_or, length-drop, set-get_or, set-set, set_past}
 use Rattle.std.proofs.lemmas.List.Sums.{sum_by-set}
-use Rattle.noc_router.specs.declared.counter.Counter.{Counter}
+use Rattle.noc_router.specs.declared.counters.Counters.{Counters}
 use Rattle.noc_router.specs.declared.verdict.Verdict.{Verdict}
-use Rattle.noc_router.specs.declared.verdict.Verdict.TheVariants.{Empty}
 use Rattle.noc_router.specs.declared.verdict.Finding.{Finding}
 use Rattle.noc_router.specs.Counts.{counts_from, counts_in, whole_counts}
 use Rattle.noc_router.specs.Still.{counted_times}
@@ -83,7 +82,7 @@ counted_times-is (suc k) cycles n v counts new col small ten s fits is =
 
 -- ---- the counts of all channels
 -- after so many cycles in which the nine of each channel rise as its verdict says
-pub waiting-counts : (k cycles0 : ℕ) (counters0 : List Counter) (counts0 : List (List ℕ)) (cycles : ℕ) (counters : List Counter) (counts : List (List ℕ)) (verdict : ℕ → Verdict)
+pub waiting-counts : (k cycles0 : ℕ) (counters0 : Counters) (counts0 : List (List ℕ)) (cycles : ℕ) (counters : Counters) (counts : List (List ℕ)) (verdict : ℕ → Verdict)
     → cycles0 < 2 ^ 64 → ((i : ℕ) → i < length counts0 → length (get_or counts0 i []) ≡ 10) → ((i : ℕ) → i < length counts0 → sum (others_in counters0 counts0 i) ≤ cycles0)
     → cycles ≡ min (cycles0 + k) (2 ^ 64 - 1) → length counts ≡ length counts0
     → ((i : ℕ) → i < length counts0 → others_in counters counts i ≡ risen_by (min k (2 ^ 64 - 1 - cycles0)) (column (verdict i)) (others_in counters0 counts0 i))
@@ -102,12 +101,8 @@ waiting-counts k cycles0 counters0 counts0 cycles counters counts verdict fits t
         ∙ counted_times-is k cycles0 (column (verdict i)) (verdict i) before now refl (column-small (verdict i)) (whole-length counters0 i (get_or counts0 i []) ∙ ten i l) (sums i l) fits (others i l)
         ∙ ap (counted_times k (verdict i)) (sym (counts-at cycles0 counters0 counts0 i l))
 
--- .. where every channel is empty
-pub waiting-empty : (k cycles0 : ℕ) (counters : List Counter) (counts : List (List ℕ)) (i : ℕ) → others_in counters counts i ≡ risen_by (min k (2 ^ 64 - 1 - cycles0)) (column Empty) (others_in counters counts i)
-waiting-empty k cycles0 counters counts i = refl
-
 -- ---- so many more of a verdict for one channel
-whole-more : (counters : List Counter) (i a j : ℕ) (counts : List ℕ) → j < length counts
+whole-more : (counters : Counters) (i a j : ℕ) (counts : List ℕ) → j < length counts
     → whole_counts counters i (set counts j (get_or counts j 0 + a)) ≡ set (whole_counts counters i counts) j (get_or (whole_counts counters i counts) j 0 + a)
 whole-more counters i a j counts ten =
     let now = whole_counts counters i (more_at true a j counts) in
@@ -128,7 +123,7 @@ whole-more counters i a j counts ten =
         omega (arith, at_now, at_later, more-there true a j m counts other, whole-at counters i m counts l)
 
 -- the nine counts of each channel, where channel `index` has so many more
-pub added-others : (counters : List Counter) (counts : List (List ℕ)) (index a j : ℕ) → 0 < j → j < length (get_or counts index []) → index < length counts → (k : ℕ)
+pub added-others : (counters : Counters) (counts : List (List ℕ)) (index a j : ℕ) → 0 < j → j < length (get_or counts index []) → index < length counts → (k : ℕ)
     → others_in counters (set counts index (set (get_or counts index []) j (get_or (get_or counts index []) j 0 + a))) k
     ≡ (if nat_eq k index then risen_by a j (others_in counters counts k) else others_in counters counts k)
 added-others counters counts index a j some ten l k = at (cases_eq k index)
@@ -152,12 +147,11 @@ added-others counters counts index a j some ten l k = at (cases_eq k index)
         ∙ ap (λ b. if b then risen_by a j (others_in counters counts k) else others_in counters counts k) (sym (ne_eqb k index other))
 
 -- .. is a tally, where it can count them
-pub added_tally : (cycles shown : ℕ) (counters : List Counter) (counts : List (List ℕ)) (findings : List Finding) (index a j : ℕ) → IsTally cycles shown counters counts findings
+pub added_tally : (cycles shown : ℕ) (counters : Counters) (counts : List (List ℕ)) (findings : List Finding) (index a j : ℕ) → IsTally cycles shown counters counts findings
     → 0 < j → j < 10 → index < length counts → sum (others_in counters counts index) + a ≤ cycles
     → IsTally cycles shown counters (set counts index (set (get_or counts index []) j (get_or (get_or counts index []) j 0 + a))) findings
 added_tally cycles shown counters counts findings index a j sound some small l room = record {
   fits = sound.fits;
-  counters_each = sound.counters_each;
   ten = λ i m. ten_at i (omega (arith, length-set counts index more)) (cases_eq i index);
   sums = λ i m. sums_at i (omega (arith, length-set counts index more)) (cases_eq i index);
   within = sound.within;
@@ -189,7 +183,7 @@ added_tally cycles shown counters counts findings index a j sound some small l r
         omega (arith, now, sound.sums i m)
 
 -- .. there is room for them in what is written down
-pub added-fits : (cycles shown : ℕ) (counters : List Counter) (counts : List (List ℕ)) (findings : List Finding) (index a j : ℕ) → IsTally cycles shown counters counts findings
+pub added-fits : (cycles shown : ℕ) (counters : Counters) (counts : List (List ℕ)) (findings : List Finding) (index a j : ℕ) → IsTally cycles shown counters counts findings
     → 0 < j → j < 10 → index < length counts → sum (others_in counters counts index) + a ≤ cycles → get_or (get_or counts index []) j 0 + a < 2 ^ 64
 added-fits cycles shown counters counts findings index a j sound some small l room =
     let le : get_or (get_or counts index []) j 0 + counter_has counters index j ≤ sum (others_in counters counts index) = whole-below counters index j (get_or counts index []) some (omega (arith, sound.ten index l)) in

@@ -1,29 +1,44 @@
 -- The ten counts of each channel.
-use Rattle.std.specs.Prelude.{ℕ, ◌+◌, ◌*◌, ◌-◌, Bool, List, ◌∷◌, drop, sum, slice_index_or, if◌then◌else◌}
+use Rattle.std.specs.Prelude.{ℕ, ◌+◌, ◌*◌, ◌-◌, Bool, List, ◌∷◌, Option, None, Some, drop, sum, take, slice_index_or, if◌then◌else◌}
+use Rattle.std.specs.List.{sum_by}
 use Rattle.noc_packet.specs.Set.{has_bit}
 use Rattle.noc_topo.specs.Words.{map_indexed}
-use Rattle.noc_router.specs.declared.counter.Counter.{Counter}
+use Rattle.noc_router.specs.declared.counters.Counters.{Counters}
+use Rattle.noc_router.specs.declared.digit.Digit.{Digit}
 
 -- 1 where it is true
 abbrev pub one_if : Bool → ℕ
 one_if b = if b then 1 else 0
 
--- how much a counter has for channel i, 0 to 15
-abbrev pub count_at : Counter → ℕ → ℕ
-count_at c i = one_if (has_bit c.ones i) + 2 * one_if (has_bit c.twos i) + 4 * one_if (has_bit c.fours i) + 8 * one_if (has_bit c.eights i)
+-- 1 where channel k is in the set of the verdict in place j
+abbrev pub one_at : List ℕ → ℕ → ℕ → ℕ
+one_at sets j k = one_if (has_bit (slice_index_or sets j 0) k)
 
--- a counter that has 0 for every channel
-abbrev pub no_counter : Counter
-no_counter = record { ones = 0; twos = 0; fours = 0; eights = 0 }
+-- .. if there are sets
+abbrev pub carried_at : Option (List ℕ) → ℕ → ℕ → ℕ
+carried_at None j k = 0
+carried_at (Some sets) j k = one_at sets j k
+
+-- the digit of the verdict in place j and channel k, 0 to 7
+abbrev pub added_at : Digit → ℕ → ℕ → ℕ
+added_at d j k = one_at d.ones j k + 2 * one_at d.twos j k + 4 * one_at d.fours j k
+
+-- .. with what is to be added to it
+abbrev pub digit_at : Digit → ℕ → ℕ → ℕ
+digit_at d j k = added_at d j k + sum_by (λ sets. one_at sets j k) (take d.kept d.recent)
+
+-- the count of the verdict in place j and channel k
+abbrev pub count_at : Counters → ℕ → ℕ → ℕ
+count_at c j k = digit_at c.units j k + 8 * digit_at c.eights j k + 64 * digit_at c.sixty_fours j k
 
 -- empty in the cycles that no other verdict has
 abbrev pub counts_in : ℕ → List ℕ → List ℕ
 counts_in cycles counts = (cycles - sum (drop 1 counts)) ∷ drop 1 counts
 
 -- the counts of channel i of all ten verdicts, that of Empty of no meaning: what is written down, and what the counters have
-abbrev pub whole_counts : List Counter → ℕ → List ℕ → List ℕ
-whole_counts counters i counts = map_indexed (λ column count. count + count_at (slice_index_or counters column no_counter) i) counts
+abbrev pub whole_counts : Counters → ℕ → List ℕ → List ℕ
+whole_counts counters i counts = map_indexed (λ column count. count + count_at counters column i) counts
 
 -- the counts of each channel after so many cycles
-abbrev pub counts_from : ℕ → List Counter → List (List ℕ) → List (List ℕ)
+abbrev pub counts_from : ℕ → Counters → List (List ℕ) → List (List ℕ)
 counts_from cycles counters counts = map_indexed (λ i written. counts_in cycles (whole_counts counters i written)) counts

@@ -1,10 +1,10 @@
 -- What a plan's fields are seen as.
-use Rattle.std.specs.Prelude.{◌≡◌, ℕ, ◌<◌, true}
+use Rattle.std.specs.Prelude.{◌≡◌, ℕ, ◌<◌, ◌≤◌, true}
 use Rattle.noc_topo.specs.Words.{tabulate}
 use Rattle.noc_router.specs.declared.plan.Plan.TheInside.{Inside}
 use Rattle.noc_router.specs.Asked.{round_in}
 use Rattle.noc_router.specs.Verdict.{is_event}
-use Rattle.noc_router.specs.VerdictSets.{verdict_by}
+use Rattle.noc_router.specs.VerdictSets.{sets_with, verdict_by}
 use Rattle.noc_router.specs.View.{Outcome}
 
 abbrev pub outcome_in : Inside → Outcome
@@ -15,6 +15,7 @@ outcome_in p = record {
   routes = p.requests.routes.items;
 }
 
--- a verdict that takes effect is that of an input channel
-abbrev pub IsPlan : Inside → Type 0
-IsPlan p = (k : ℕ) → is_event (verdict_by p.verdicts k) ≡ true → k < p.requests.size
+-- a verdict that takes effect is that of an input channel, and each of these is in one of the sets at most
+pub record IsPlan (p : Inside) : Type 0 where
+  pub events : (k : ℕ) → is_event (verdict_by p.verdicts k) ≡ true → k < p.requests.size
+  pub apart : (k : ℕ) → k < p.requests.size → sets_with p.verdicts k ≤ 1

@@ -4,7 +4,7 @@ use Rattle.noc_packet.specs.Set.{has_bit}
 pub use Rattle.noc_router.specs.Found.{empty_finding}
 use Rattle.noc_router.specs.declared.verdict.Verdict.{Verdict}
 use Rattle.noc_router.specs.declared.verdict.Verdict.TheVariants.{Empty}
-use Rattle.noc_router.specs.declared.counter.Counter.{Counter}
+use Rattle.noc_router.specs.declared.counters.Counters.{Counters}
 use Rattle.noc_router.specs.Counts.{whole_counts}
 use Rattle.noc_router.specs.declared.verdict.Finding.{Finding}
 
@@ -22,13 +22,12 @@ abbrev pub risen_at : ℕ → List ℕ → List ℕ
 risen_at = risen_by 1
 
 -- the counts of channel i of the nine verdicts behind Empty, with what the counters have
-abbrev pub others_in : List Counter → List (List ℕ) → ℕ → List ℕ
+abbrev pub others_in : Counters → List (List ℕ) → ℕ → List ℕ
 others_in counters counts i = drop 1 (whole_counts counters i (slice_index_or counts i []))
 
 -- no channel had its verdicts in more cycles than there were
-pub record IsTally (cycles : ℕ) (shown : ℕ) (counters : List Counter) (counts : List (List ℕ)) (findings : List Finding) : Type 0 where
+pub record IsTally (cycles : ℕ) (shown : ℕ) (counters : Counters) (counts : List (List ℕ)) (findings : List Finding) : Type 0 where
   pub fits : cycles < 2 ^ 64
-  pub counters_each : length counters ≡ 10
   pub ten : (i : ℕ) → i < length counts → length (slice_index_or counts i []) ≡ 10
   pub sums : (i : ℕ) → i < length counts → sum (others_in counters counts i) ≤ cycles
   pub within : (i : ℕ) → has_bit shown i ≡ true → i < length findings

@@ -1,6 +1,7 @@
 -- The verdict of an input channel, by the sets of those that have each verdict.
-use Rattle.std.specs.Prelude.{ℕ, if◌then◌else◌}
+use Rattle.std.specs.Prelude.{ℕ, ◌+◌, if◌then◌else◌}
 use Rattle.noc_packet.specs.Set.{has_bit}
+use Rattle.noc_router.specs.Counts.{one_if}
 use Rattle.noc_router.specs.declared.verdict_sets.VerdictSets.{VerdictSets}
 use Rattle.noc_router.specs.declared.verdict.Verdict.{Verdict}
 use Rattle.noc_router.specs.declared.verdict.Verdict.TheVariants.{Empty, Routed, Granted, Moved, NoFlit, NoIdleChannel, LostChannel, NoCredit, LostInput, LostSwitch}
@@ -18,3 +19,9 @@ verdict_by sets i =
     else if has_bit sets.lost_input i then LostInput
     else if has_bit sets.lost_switch i then LostSwitch
     else Empty
+
+-- in how many of the sets channel i is
+abbrev pub sets_with : VerdictSets → ℕ → ℕ
+sets_with sets i =
+    one_if (has_bit sets.moved i) + one_if (has_bit sets.granted i) + one_if (has_bit sets.routed i) + one_if (has_bit sets.no_flit i) + one_if (has_bit sets.no_idle_channel i)
+    + one_if (has_bit sets.lost_channel i) + one_if (has_bit sets.no_credit i) + one_if (has_bit sets.lost_input i) + one_if (has_bit sets.lost_switch i)

@@ -1,11 +1,13 @@
 //! One router: its channels, its source and its sink, and one cycle of it over all beats.
 #![tactic(auto)]
 
+mod adder;
 mod allocation;
 mod arbiters;
 mod arrivals;
 mod channels;
-mod counter;
+mod counters;
+mod digit;
 mod indices;
 mod links;
 mod places;

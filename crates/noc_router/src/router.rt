@@ -18,7 +18,7 @@ ghost use Rattle.noc_router.specs.Requests.{AllBelow, AreAmong};
 ghost use Rattle.noc_router.specs.Settled.{IsOutcomeOf, CanGrant, CanTakeEffect, decisions_by, effect_of, outcome_verdict, passed_by, switch_past, tallied, settled, routed_at, granted_at, moved_by, credit_put, flit_put};
 ghost use Rattle.noc_router.specs.Sound.{is_awaiting, is_occupied};
 ghost use Rattle.noc_router.specs.Standing.{AreHeads, AreReady, AreWaiting, HaveWon, IsPickedIn, IsStanding, loser_of, way_of};
-ghost use Rattle.noc_router.specs.VerdictSets.{verdict_by};
+ghost use Rattle.noc_router.specs.VerdictSets.{sets_with, verdict_by};
 ghost use Rattle.noc_route.specs.Routes.{Routes};
 ghost use Rattle.noc_packet.specs.Set.{has_bit};
 ghost use Rattle.noc_router.specs.Start.{IsStart};
@@ -372,6 +372,7 @@ impl Router {
         requires moved { HaveWon self.now (round_in requests.now) picked moved }
         ensures verdicts { (k : ℕ) → k < size_of self.now.site → verdict_by result k ≡ (finding_of (round_in requests.now) self.now k).verdict }
         ensures events { (k : ℕ) → is_event (verdict_by result k) ≡ true → k < size_of self.now.site }
+        ensures apart { (k : ℕ) → k < size_of self.now.site → sets_with result k ≤ 1 }
     {
         let asking = requests.asking();
         let granted = requests.granted();
@@ -520,7 +521,7 @@ impl Router {
         requires plan { IsOutcomeOf plan.now self.old }
         ensures { self.new ≡ tallied (decisions_by plan.now self.old) self.old }
     {
-        self.tally.count(&self.channels, plan);
+        self.tally.count(plan);
         self.links.clear();
     }
 

@@ -1,25 +1,28 @@
 //! What a router has counted and found.
 
-ghost use Rattle.std.specs.Prelude.{◌≡◌, ℕ, ◌+◌, ◌^◌, ◌<◌, ◌≤◌, ◌&&◌, not, None, IfOk, if◌then◌else◌, [], true, false, length, map, sum, nat_eq, slice_index, slice_index_or, slice_set, replicate, vec_len};
+ghost use Rattle.std.specs.Prelude.{◌≡◌, ℕ, ◌+◌, ◌-◌, ◌*◌, ◌^◌, ◌<◌, ◌≤◌, ◌&&◌, not, None, IfOk, if◌then◌else◌, [], true, false, length, map, sum, nat_eq, slice_index, slice_index_or, slice_set, replicate, vec_len};
 ghost use Rattle.noc_packet.specs.Set.{has_bit};
 ghost use Rattle.noc_packet.specs.declared.limits.TheConstants.{INDICES};
 ghost use Rattle.noc_topo.specs.Words.{map_indexed, tabulate};
-ghost use Rattle.noc_router.specs.Counts.{counts_from};
+ghost use Rattle.noc_router.specs.Counts.{counts_from, one_at};
 ghost use Rattle.noc_router.specs.Members.{AreBelow};
 ghost use Rattle.noc_ring.specs.Rings.{ring_at};
 ghost use Rattle.noc_router.specs.Sound.{input_at, is_occupied, named};
 ghost use Rattle.noc_router.specs.Settled.{finding_by, outcome_verdict};
 ghost use Rattle.noc_router.specs.Tally.{empty_finding, finding_at, others_in, risen_at, risen_by, IsTally, is_empty_verdict};
 ghost use Rattle.noc_router.specs.Verdict.{column};
+ghost use Rattle.noc_router.specs.VerdictSets.{sets_with, verdict_by};
 ghost use Rattle.noc_router.specs.declared.verdict.Verdict.TheVariants.{Empty};
 ghost use Rattle.noc_router.specs.Still.{counted_times};
 ghost use Rattle.noc_router.specs.View.{counted};
 
 use crate::channels::Channels;
-use crate::counter::Counter;
+use crate::counters::Counters;
+use crate::digit::Sets;
 use crate::indices::Indices;
 use crate::plan::Plan;
 use crate::verdict::{Finding, VERDICTS, Verdict};
+use crate::verdict_sets::VerdictSets;
 use noc_packet::{ChannelSet, Memory};
 use std::alloc::Global;
 
@@ -34,8 +37,8 @@ pub(crate) struct Tally {
     begun: bool,
     // The channels whose finding may be another than Empty.
     shown: ChannelSet,
-    // By verdict, for each channel what is not written down in its counts.
-    counters: [Counter; VERDICTS],
+    // What is not written down in the counts.
+    counters: Counters,
     counts: Vec<[u64; VERDICTS]>,
     findings: Vec<Finding>,
     ghost one_each: { vec_len counts ≡ vec_len findings },
@@ -54,17 +57,16 @@ impl Tally {
             cycles: 0,
             begun: false,
             shown: ChannelSet::empty(),
-            counters: [Counter::new(); VERDICTS],
+            counters: Counters::new(),
             counts: vec![in alloc; [0; VERDICTS]; size]?,
             findings: vec![in alloc; Finding::empty(); size]?,
         })
     }
 
-    // Counts a cycle with this plan of these channels, in which just the occupied ones have another verdict than Empty.
-    pub(crate) fn count(&mut self, channels: &Channels, plan: &Plan)
-        requires channels { channels.now.size ≡ vec_len self.old.counts }
+    // Counts a cycle with this plan.
+    #[inline(never)]
+    pub(crate) fn count(&mut self, plan: &Plan)
         requires verdicts { length plan.now.verdicts ≡ vec_len self.old.counts }
-        requires occupied { (k : ℕ) → k < vec_len self.old.counts → is_occupied (input_at channels.now.inputs.items k) (ring_at channels.now.bank k) ≡ not (is_empty_verdict (outcome_verdict plan.now k)) }
         ensures size { vec_len self.new.counts ≡ vec_len self.old.counts }
         ensures begun { self.new.begun ≡ self.old.begun }
         ensures findings { self.new.findings.items ≡ self.old.findings.items }
@@ -73,18 +75,44 @@ impl Tally {
         if self.cycles == u64::MAX {
             return;
         }
+        if self.counters.is_full() {
+            self.carry(&plan.verdicts);
+        } else {
+            self.keep(&plan.verdicts);
+        }
+    }
+
+    // Counts a cycle with these verdicts, where nothing is to be carried on.
+    #[inline(always)]
+    fn keep(&mut self, verdicts: &VerdictSets)
+        requires more { self.old.cycles < 2 ^ 64 - 1 }
+        requires apart { (k : ℕ) → k < vec_len self.old.counts → sets_with verdicts.now k ≤ 1 }
+        requires room { self.old.counters.units.kept < 7 }
+        ensures size { vec_len self.new.counts ≡ vec_len self.old.counts }
+        ensures begun { self.new.begun ≡ self.old.begun }
+        ensures findings { self.new.findings.items ≡ self.old.findings.items }
+        ensures cycles { self.new.cycles ≡ self.old.cycles + 1 }
+        ensures others { (k : ℕ) → k < vec_len self.old.counts → others_in self.new.counters self.new.counts.items k ≡ risen_at (column (verdict_by verdicts.now k)) (others_in self.old.counters self.old.counts.items k) }
+    {
         self.cycles += 1;
-        let sets = &plan.verdicts;
-        let mut rest = channels.occupied();
-        rest = self.raise(rest, sets.moved, Verdict::Moved);
-        rest = self.raise(rest, sets.granted, Verdict::Granted);
-        rest = self.raise(rest, sets.routed, Verdict::Routed);
-        rest = self.raise(rest, sets.no_flit, Verdict::NoFlit);
-        rest = self.raise(rest, sets.no_idle_channel, Verdict::NoIdleChannel);
-        rest = self.raise(rest, sets.lost_channel, Verdict::LostChannel);
-        rest = self.raise(rest, sets.no_credit, Verdict::NoCredit);
-        rest = self.raise(rest, sets.lost_input, Verdict::LostInput);
-        self.raise(rest, sets.lost_switch, Verdict::LostSwitch);
+        self.counters.keep(verdicts.each());
+    }
+
+    // Counts a cycle with these verdicts.
+    #[inline(never)]
+    fn carry(&mut self, verdicts: &VerdictSets)
+        requires more { self.old.cycles < 2 ^ 64 - 1 }
+        requires apart { (k : ℕ) → k < vec_len self.old.counts → sets_with verdicts.now k ≤ 1 }
+        ensures size { vec_len self.new.counts ≡ vec_len self.old.counts }
+        ensures begun { self.new.begun ≡ self.old.begun }
+        ensures findings { self.new.findings.items ≡ self.old.findings.items }
+        ensures cycles { self.new.cycles ≡ self.old.cycles + 1 }
+        ensures others { (k : ℕ) → k < vec_len self.old.counts → others_in self.new.counters self.new.counts.items k ≡ risen_at (column (verdict_by verdicts.now k)) (others_in self.old.counters self.old.counts.items k) }
+    {
+        self.cycles += 1;
+        if let Some(full) = self.counters.add(&verdicts.each()) {
+            write_down(&mut self.counts, &full);
+        }
     }
 
     // Counts so many more cycles with this plan of these channels, in which just the occupied ones have another verdict than Empty.
@@ -129,45 +157,6 @@ impl Tally {
         ensures counts { counts_from self.new.cycles self.new.counters self.new.counts.items ≡ map (counted_times cycles Empty) (counts_from self.old.cycles self.old.counters self.old.counts.items) }
     {
         self.cycles = self.cycles.saturating_add(cycles);
-    }
-
-    // One more of a verdict for those channels of a set that are left, each of which can count one more. The answer is what is left then.
-    #[inline(always)]
-    fn raise(&mut self, left: ChannelSet, set: ChannelSet, verdict: Verdict) -> ChannelSet
-        requires verdict { 0 < column verdict }
-        requires below { AreBelow (vec_len self.old.counts) left }
-        requires room { (k : ℕ) → has_bit left k ≡ true → sum (others_in self.old.counters self.old.counts.items k) < self.old.cycles }
-        ensures size { vec_len self.new.counts ≡ vec_len self.old.counts }
-        ensures cycles { self.new.cycles ≡ self.old.cycles }
-        ensures begun { self.new.begun ≡ self.old.begun }
-        ensures findings { self.new.findings.items ≡ self.old.findings.items }
-        ensures left { (k : ℕ) → has_bit result k ≡ (not (has_bit set k) && has_bit left k) }
-        ensures below { AreBelow (vec_len self.new.counts) result }
-        ensures room { (k : ℕ) → has_bit result k ≡ true → sum (others_in self.new.counters self.new.counts.items k) < self.new.cycles }
-        ensures others { (k : ℕ) → k < vec_len self.old.counts → others_in self.new.counters self.new.counts.items k ≡ (if has_bit left k && has_bit set k then risen_at (column verdict) (others_in self.old.counters self.old.counts.items k) else others_in self.old.counters self.old.counts.items k) }
-    {
-        let here = left.both(set);
-        if !here.is_empty() {
-            self.raise_each(here, verdict);
-        }
-        left.less(set)
-    }
-
-    // One more of a verdict for each of these channels, each of which can count one more.
-    fn raise_each(&mut self, here: ChannelSet, verdict: Verdict)
-        requires verdict { 0 < column verdict }
-        requires below { AreBelow (vec_len self.old.counts) here }
-        requires room { (k : ℕ) → has_bit here k ≡ true → sum (others_in self.old.counters self.old.counts.items k) < self.old.cycles }
-        ensures size { vec_len self.new.counts ≡ vec_len self.old.counts }
-        ensures cycles { self.new.cycles ≡ self.old.cycles }
-        ensures begun { self.new.begun ≡ self.old.begun }
-        ensures findings { self.new.findings.items ≡ self.old.findings.items }
-        ensures others { (k : ℕ) → k < vec_len self.old.counts → others_in self.new.counters self.new.counts.items k ≡ (if has_bit here k then risen_at (column verdict) (others_in self.old.counters self.old.counts.items k) else others_in self.old.counters self.old.counts.items k) }
-    {
-        let full = self.counters[place_of(verdict)].add(here);
-        if !full.is_empty() {
-            write_down(&mut self.counts, full, verdict);
-        }
     }
 
     // Shows what is found of these channels by this plan of them, in which just the occupied ones have another verdict than Empty.
@@ -300,7 +289,7 @@ impl Tally {
         let mut counts = self.counts[index];
         let mut others = 0u64;
         for verdict in 1..VERDICTS {
-            counts[verdict] = counts[verdict].saturating_add(self.counters[verdict].count(index));
+            counts[verdict] = counts[verdict].saturating_add(self.counters.count(verdict, index));
             others = others.saturating_add(counts[verdict]);
         }
         counts[0] = self.cycles.saturating_sub(others);
@@ -315,19 +304,32 @@ impl Tally {
     }
 }
 
-// Sixteen more of a verdict for each of these channels.
-#[inline(never)]
-fn write_down(counts: &mut [[u64; VERDICTS]], full: ChannelSet, verdict: Verdict)
-    requires below { AreBelow (length counts.old) full }
-    requires room { (k : ℕ) → has_bit full k ≡ true → slice_index (slice_index_or counts.old k []) (column verdict) + 16 < 2 ^ 64 }
+// 512 more for the members of the set of each verdict.
+fn write_down(counts: &mut [[u64; VERDICTS]], full: &Sets)
+    requires few { length counts.old ≤ INDICES }
+    requires ten { (k : ℕ) → k < length counts.old → length (slice_index_or counts.old k []) ≡ 10 }
+    requires room { (k j : ℕ) → k < length counts.old → 0 < j → j < 10 → slice_index (slice_index_or counts.old k []) j + 512 * one_at full.now j k < 2 ^ 64 }
     ensures length { length counts.new ≡ length counts.old }
-    ensures each { (k : ℕ) → slice_index_or counts.new k [] ≡ (if has_bit full k then slice_set (slice_index_or counts.old k []) (column verdict) (slice_index (slice_index_or counts.old k []) (column verdict) + 16) else slice_index_or counts.old k []) }
+    ensures ten { (k : ℕ) → k < length counts.old → length (slice_index_or counts.new k []) ≡ 10 }
+    ensures each { (k j : ℕ) → k < length counts.old → 0 < j → j < 10 → slice_index (slice_index_or counts.new k []) j ≡ slice_index (slice_index_or counts.old k []) j + 512 * one_at full.now j k }
 {
-    let mut rest = full;
-    while let Some(index) = rest.least_common(&rest) {
-        rest = rest.without(index);
-        counts[index][place_of(verdict)] += 16;
+    for index in 0..counts.len() {
+        counts[index] = raised(counts[index], full, index);
     }
+}
+
+// The counts of one channel, with 512 more of each verdict in whose set it is.
+fn raised(counts: [u64; VERDICTS], full: &Sets, index: usize) -> [u64; VERDICTS]
+    requires index { index < INDICES }
+    requires room { (j : ℕ) → 0 < j → j < 10 → slice_index counts j + 512 * one_at full.now j index < 2 ^ 64 }
+    ensures length { length result ≡ 10 }
+    ensures each { (j : ℕ) → 0 < j → j < 10 → slice_index result j ≡ slice_index counts j + 512 * one_at full.now j index }
+{
+    let mut raised = counts;
+    for verdict in 1..VERDICTS {
+        raised[verdict] += 512 * u64::from(full[verdict].contains(index));
+    }
+    raised
 }
 
 // The place of a verdict in the order of the verdicts.

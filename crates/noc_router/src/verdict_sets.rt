@@ -1,19 +1,21 @@
 //! The verdicts of one router as sets of input channels.
 
-ghost use Rattle.std.specs.Prelude.{◌≡◌, ℕ, ◌<◌};
+ghost use Rattle.std.specs.Prelude.{◌≡◌, ℕ, ◌<◌, ◌≤◌, ◌==◌};
 ghost use Rattle.noc_packet.specs.Set.{has_bit};
-ghost use Rattle.noc_router.specs.Verdict.{is_event};
+ghost use Rattle.noc_router.specs.Counts.{one_at, one_if};
+ghost use Rattle.noc_router.specs.Verdict.{column, is_event};
 
+use crate::digit::Sets;
 use crate::verdict::Verdict;
 use noc_packet::{ChannelSet, INDICES};
 
 /// For each verdict but Empty the input channels that have it. A channel has the first verdict in whose set it is, and
-/// Empty where it is in none.
+/// Empty where it is in none. No channel of a plan is in two of them.
 #[derive(Clone, Copy)]
 pub(crate) struct VerdictSets {
-    pub(crate) moved: ChannelSet,
-    pub(crate) granted: ChannelSet,
     pub(crate) routed: ChannelSet,
+    pub(crate) granted: ChannelSet,
+    pub(crate) moved: ChannelSet,
     pub(crate) no_flit: ChannelSet,
     pub(crate) no_idle_channel: ChannelSet,
     pub(crate) lost_channel: ChannelSet,
@@ -23,18 +25,19 @@ pub(crate) struct VerdictSets {
 }
 
 impl VerdictSets {
-    ghost use Rattle.noc_router.specs.VerdictSets.{verdict_by};
+    ghost use Rattle.noc_router.specs.VerdictSets.{sets_with, verdict_by};
     ghost use Rattle.noc_router.specs.declared.verdict.Verdict.TheVariants.{Empty};
 
     // Every channel is empty.
     pub(crate) fn empty() -> VerdictSets
-        ensures { (k : ℕ) → verdict_by result k ≡ Empty }
+        ensures verdicts { (k : ℕ) → verdict_by result k ≡ Empty }
+        ensures sets { (k : ℕ) → sets_with result k ≡ 0 }
     {
         let none = ChannelSet::empty();
         VerdictSets {
-            moved: none,
-            granted: none,
             routed: none,
+            granted: none,
+            moved: none,
             no_flit: none,
             no_idle_channel: none,
             lost_channel: none,
@@ -42,6 +45,25 @@ impl VerdictSets {
             lost_input: none,
             lost_switch: none,
         }
+    }
+
+    // The channels with each verdict, by its place in the order of the verdicts: none for Empty.
+    #[inline(always)]
+    pub(crate) fn each(&self) -> Sets
+        ensures { (j k : ℕ) → sets_with self.now k ≤ 1 → 0 < j → j < 10 → one_at result j k ≡ one_if (column (verdict_by self.now k) == j) }
+    {
+        [
+            ChannelSet::empty(),
+            self.routed,
+            self.granted,
+            self.moved,
+            self.no_flit,
+            self.no_idle_channel,
+            self.lost_channel,
+            self.no_credit,
+            self.lost_input,
+            self.lost_switch,
+        ]
     }
 
     // The channels whose verdict takes effect.

@@ -1,18 +1,12 @@
-use Rattle.std.proofs.Common.{◌≡◌, ℕ, [], length, get_or, true}
-use Rattle.std.specs.Prelude.{◌&&◌, not}
-use Rattle.noc_packet.specs.Set.{has_bit}
-use Rattle.noc_router.specs.Verdict.{column}
-use Rattle.noc_router.proofs.CountLemmas.{more_at}
+use Rattle.std.proofs.Common.{◌≡◌, ℕ, ◌+◌, ◌*◌, ◌<◌, ◌≤◌, [], length, get_or}
+use Rattle.noc_router.specs.Counts.{one_at}
 use Rattle.noc_router.proofs.tally.write_down.Given as goal
 
--- sixteen more for the members that are not left any more
+-- the channels before this one have 512 more, the others are as they were
 abbrev pub invariant-loop-index : goal.invariant-loop-index
 invariant-loop-index l = record {
-  length : length l.counts ≡ length l.fn.counts;
-  left : (k : ℕ) → has_bit l.rest k ≡ true → has_bit l.fn.full k ≡ true;
-  each : (k : ℕ) → get_or l.counts k [] ≡ more_at (has_bit l.fn.full k && not (has_bit l.rest k)) 16 (column l.fn.verdict) (get_or l.fn.counts k []);
+  size : length l.counts ≡ length l.fn.counts;
+  ten : (k : ℕ) → k < length l.fn.counts → length (get_or l.counts k []) ≡ 10;
+  done : (k j : ℕ) → k < l.index → 0 < j → j < 10 → get_or (get_or l.counts k []) j 0 ≡ get_or (get_or l.fn.counts k []) j 0 + 512 * one_at l.full j k;
+  ahead : (k : ℕ) → l.index ≤ k → get_or l.counts k [] ≡ get_or l.fn.counts k [];
 }
-
--- one member less each time
-abbrev pub decreases-loop-index : goal.decreases-loop-index
-decreases-loop-index l = l.rest

@@ -7,4 +7,4 @@ use Rattle.noc_router.proofs.plan.Plan.events.Goals as goal
 
 pub returns : goal.returns
 returns c = λ k.
-    c.events.ensures k ∙ event-at c.self.inside.requests.size c.self.inside.verdicts k (c.self.invariant k) ∙ ap (λ (x : Outcome). is_event (get_or x.verdicts k Empty)) c.self.view_is
+    c.events.ensures k ∙ event-at c.self.inside.requests.size c.self.inside.verdicts k (c.self.invariant.events k) ∙ ap (λ (x : Outcome). is_event (get_or x.verdicts k Empty)) c.self.view_is

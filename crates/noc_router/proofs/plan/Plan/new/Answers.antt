@@ -9,7 +9,10 @@ use Rattle.noc_router.proofs.PlannedLemmas.{no_event, no_outcome-lengths, no_out
 use Rattle.noc_router.proofs.plan.Plan.new.Goals as goal
 
 pub invariant_of-result : goal.invariant_of-result
-invariant_of-result c = λ k e. no_event (verdict_by c.empty.result k) k c.in_ok-new.field-0.size (c.empty.ensures k) e
+invariant_of-result c = record {
+  events = λ k e. no_event (verdict_by c.empty.result k) k c.in_ok-new.field-0.size (c.empty.ensures.verdicts k) e;
+  apart = λ k l. omega (arith, c.empty.ensures.sets k);
+}
 
 pub returns-clause-value : goal.returns-clause-value
 returns-clause-value c =
@@ -18,7 +21,7 @@ returns-clause-value c =
     let vcs = c.vcs.result in
     let long : length (tabulate r.size (verdict_by c.empty.result)) ≡ m * vcs = length-tabulate r.size (verdict_by c.empty.result) ∙ c.in_ok-new.ensures.size in
     no_outcome-parts m vcs _ c.in_ok-new.ensures.round c.in_ok-new.ensures.asks long
-    (λ k l. get_or-tabulate r.size k (verdict_by c.empty.result) Empty (omega (arith, c.in_ok-new.ensures.size)) ∙ c.empty.ensures k) c.in_ok-new.ensures.routes
+    (λ k l. get_or-tabulate r.size k (verdict_by c.empty.result) Empty (omega (arith, c.in_ok-new.ensures.size)) ∙ c.empty.ensures.verdicts k) c.in_ok-new.ensures.routes
     ∙ ap (λ n. no_outcome n vcs) (c.ports-ports.ensures.value ∙ ap ports c.shape.ensures.value) ∙ ap (no_outcome (ports c.args.relation.now.grid)) c.vcs.ensures.value
 
 pub returns-clause-lengths : goal.returns-clause-lengths

@@ -1,21 +1,13 @@
-use Rattle.std.proofs.Common.{◌≡◌, ◌*◌, [], length, ap, sym, ◌∙◌, arith, subst, take}
+use Rattle.std.proofs.Common.{◌≡◌, ◌*◌, [], length, ap, sym, ◌∙◌, arith, take}
 use Rattle.std.specs.Prelude.{if◌then◌else◌}
 use Rattle.std.proofs.lemmas.List.{take-replicate}
 use Rattle.noc_topo.specs.Shape.{local_port}
 use Rattle.noc_router.specs.Inside.{view_of}
-use Rattle.noc_router.specs.Settled.{IsOutcomeOf, decisions_by, tallied}
-use Rattle.noc_router.specs.View.{View, idle_beat, size_of}
+use Rattle.noc_router.specs.Settled.{decisions_by, tallied}
+use Rattle.noc_router.specs.View.{idle_beat, size_of}
 use Rattle.noc_router.proofs.CountLemmas.{counts-length}
-use Rattle.noc_router.proofs.OutcomeLemmas.{counted-outcome, outcome-occupied}
+use Rattle.noc_router.proofs.OutcomeLemmas.{counted-outcome}
 use Rattle.noc_router.proofs.router.Router.count.Goals as goal
-
-pub count-requires-clause-occupied : goal.count-requires-clause-occupied
-count-requires-clause-occupied c = λ k l.
-    let r = c.self.inside in
-    let h = c.self.invariant in
-    let P : View → Type 0 = λ v. IsOutcomeOf c.args.plan.now v in
-    let size : size_of (view_of r).site ≡ r.ports * r.vcs = ap (λ n. n * r.vcs) (sym h.ports) in
-    outcome-occupied c.args.plan.now (view_of r) k (subst P (sym c.self.view_is) c.requires.plan) (omega (arith, l, h.counts, size))
 
 pub returns : goal.returns
 returns c =

@@ -44,3 +44,15 @@ returns-clause-value c =
 pub returns-clause-lengths : goal.returns-clause-lengths
 returns-clause-lengths c =
     subst (IsDecidedFor (ports c.args.self.now.site.grid) c.args.self.now.site.vcs) (sym (returns-clause-value c)) (outcome-lengths c.args.relation.now c.args.self.now)
+
+pub invariant_of-plan : goal.invariant_of-plan
+invariant_of-plan c =
+    let v = c.args.self.now in
+    let n = c.allocate_switch.new.requests in
+    let before : c.plan.inside.requests.size ≡ size_of v.site =
+    sym c.plan.inside.requests.an_ask_each ∙ ap (λ (o : Outcome). length o.asks) c.plan.view_is ∙ c.requires.plan.asks in
+    let size : n.size ≡ size_of v.site = c.allocate_switch.ensures.size ∙ c.grant_all.ensures.size ∙ c.ask_for_channels.ensures.size ∙ c.route_heads.ensures.size ∙ c.clear.ensures.size ∙ before in
+    record {
+      events = λ k e. let l = c.verdicts-plan-inside.ensures.events k e in omega arith;
+      apart = λ k l. c.verdicts-plan-inside.ensures.apart k (omega arith);
+    }

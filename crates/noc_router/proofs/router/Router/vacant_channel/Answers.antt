@@ -1,9 +1,9 @@
-use Rattle.std.proofs.Common.{◌≡◌, ℕ, suc, ◌+◌, ◌-◌, ◌*◌, ◌<◌, ◌≤◌, Bool, true, false, Option, Some, None, ap, sym, ◌∙◌, subst, arith}
+use Rattle.std.proofs.Common.{◌≡◌, ℕ, suc, ◌+◌, ◌-◌, ◌*◌, ◌<◌, ◌≤◌, Bool, true, false, Some, None, ap, sym, ◌∙◌, arith}
 use Rattle.std.specs.Prelude.{◌&&◌, nat_lt, nat_le, find}
 use Rattle.std.proofs.lemmas.Bool.{lt-ltb, le-leb, leb-true, ltb-true, false≢true}
 use Rattle.std.proofs.Math.Nat.{suc-mul}
 use Rattle.noc_topo.specs.Words.{below}
-use Rattle.noc_packet.specs.Set.{has_bit, has_from, IsLeast}
+use Rattle.noc_packet.specs.Set.{has_bit, has_from}
 use Rattle.noc_ring.specs.Rings.{ring_at}
 use Rattle.noc_vc.specs.Input.{is_empty, is_idle_phase}
 use Rattle.noc_router.specs.Sound.{input_at}

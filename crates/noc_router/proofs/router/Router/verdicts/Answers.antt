@@ -7,7 +7,7 @@ use Rattle.noc_router.specs.Standing.{is_won_from}
 use Rattle.noc_router.specs.Verdict.{ask_of}
 use Rattle.noc_router.specs.View.{size_of, view_claim, view_input}
 use Rattle.noc_router.proofs.StandLemmas.{ask_of-stand}
-use Rattle.noc_router.proofs.VerdictSetLemmas.{among-both, event-below, given-below, member-passes, verdict-on}
+use Rattle.noc_router.proofs.VerdictSetLemmas.{among-both, apart-on, event-below, given-below, member-passes, verdict-on}
 use Rattle.noc_router.proofs.router.Router.verdicts.Goals as goal
 
 pub returns-clause-verdicts : goal.returns-clause-verdicts
@@ -17,6 +17,28 @@ returns-clause-verdicts c = λ k l.
     let round = round_in r in
     let ask : get_or r.asks k None ≡ ask_of (view_claim v k) = ask_of-stand v r.asks k c.requires.asks l in
     verdict-on v round c.args.standing.now c.asking-asking.result c.args.picked _ k l c.requires.standing
+    (record {
+      asks = c.asking-asking.ensures k ∙ ap is_some ask;
+      draws = c.requires.picked k l;
+      picks = among-both c.args.standing.now.ready c.args.picked k c.requires.ready;
+      moved = c.requires.moved k;
+      granted = c.granted-granted.ensures k ∙ ap (λ o. is_given round.grants o k) ask;
+      routed = refl;
+      no_flit = refl;
+      no_idle_channel = c.less.ensures k;
+      lost_channel = c.less-2.ensures k;
+      no_credit = refl;
+      lost_input = c.less-3.ensures k;
+      lost_switch = c.less-4.ensures k;
+    })
+
+pub returns-clause-apart : goal.returns-clause-apart
+returns-clause-apart c = λ k l.
+    let v = c.args.self.now in
+    let r = c.args.requests.now in
+    let round = round_in r in
+    let ask : get_or r.asks k None ≡ ask_of (view_claim v k) = ask_of-stand v r.asks k c.requires.asks l in
+    apart-on v round c.args.standing.now c.asking-asking.result c.args.picked _ k l c.requires.standing
     (record {
       asks = c.asking-asking.ensures k ∙ ap is_some ask;
       draws = c.requires.picked k l;

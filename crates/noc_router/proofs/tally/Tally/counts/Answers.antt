@@ -1,8 +1,6 @@
-use Rattle.std.proofs.Common.{◌≡◌, [], get_or, ap, sym, ◌∙◌, arith}
+use Rattle.std.proofs.Common.{[], get_or, sym, ◌∙◌, arith}
 use Rattle.std.proofs.lemmas.List.{get_or_read}
-use Rattle.noc_router.specs.Counts.{count_at, no_counter}
-use Rattle.noc_router.specs.declared.counter.Counter.{Counter}
-use Rattle.noc_router.proofs.CountLemmas.{counter_has, counts-at, made-first, made-last, made-more}
+use Rattle.noc_router.proofs.CountLemmas.{counts-at, made-first, made-last, made-more}
 use Rattle.noc_router.proofs.tally.Tally.counts.Goals as goal
 
 pub loop-verdict-init : goal.loop-verdict-init
@@ -16,11 +14,9 @@ loop-verdict-preserved c =
     let t = c.args.self.now in
     let i = c.args.index in
     let j = c.loop-verdict.verdict in
-    let had : c.count.result ≡ counter_has t.counters i j =
-    c.count.ensures ∙ ap (λ (x : Counter). count_at x i) (sym c.index-self-verdict.is ∙ get_or_read t.counters j c.index-self-verdict.result (omega (arith, t.sound.counters_each, c.loop-verdict-test.true)) c.index-self-verdict.is no_counter) in
     made-more t.counters i j (get_or t.counts.items i []) c.loop-verdict.counts c.loop-verdict.others t.cycles c.saturating_add.result c.saturating_add-others.result c.loop-verdict.invariant
     (omega (arith, c.loop-verdict.auto.verdict)) (omega (arith, c.loop-verdict-test.true)) (t.sound.ten i (omega (arith, t.counts.ok.0))) (t.sound.sums i (omega (arith, t.counts.ok.0))) t.sound.fits
-    (omega (arith, had, c.saturating_add.ensures)) c.saturating_add-others.ensures
+    (omega (arith, c.count.ensures, c.saturating_add.ensures)) c.saturating_add-others.ensures
 
 pub returns : goal.returns
 returns c =

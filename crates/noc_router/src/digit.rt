@@ -1,0 +1,137 @@
+//! One digit of the counts of all verdicts and channels.
+
+ghost use Rattle.std.specs.Prelude.{◌≡◌, ◌≢◌, ℕ, ◌+◌, ◌*◌, ◌<◌, ◌≤◌, IsTrue, ◌↔◌, [], length, slice_index_or};
+ghost use Rattle.noc_packet.specs.declared.limits.TheConstants.{INDICES};
+ghost use Rattle.noc_packet.specs.Set.{has_bit};
+
+use crate::adder::add_three;
+use crate::verdict::VERDICTS;
+use noc_packet::{ChannelSet, INDICES};
+
+/// For each verdict, by its place in the order of the verdicts, a set of channels.
+pub(crate) type Sets = [ChannelSet; VERDICTS];
+
+// How many cycles are kept before they are added.
+const KEPT: usize = 7;
+
+/// For each verdict and channel one digit, 0 to 7, of a count, and the sets of up to seven cycles that are still to be added to it.
+///
+/// The sets of eight cycles are added at once, by a few operations on words and with no branch for what they hold.
+#[derive(Clone, Copy, Debug)]
+pub(crate) struct Digit {
+    recent: [Sets; KEPT],
+    pub(crate) kept: usize,
+    // Of each bit of the digit, the channels whose digit has it.
+    ones: Sets,
+    twos: Sets,
+    fours: Sets,
+    ghost few: { kept ≤ 7 },
+    ghost seven: { length recent ≡ 7 },
+    ghost ten_each: { (n : ℕ) → n < 7 → length (slice_index_or recent n []) ≡ 10 },
+    ghost ten_ones: { length ones ≡ 10 },
+    ghost ten_twos: { length twos ≡ 10 },
+    ghost ten_fours: { length fours ≡ 10 },
+}
+
+impl Digit {
+    ghost use Rattle.noc_router.specs.Counts.{added_at, carried_at, digit_at, one_at, one_if};
+
+    // No counts.
+    pub(crate) fn new() -> Digit
+        ensures { (j k : ℕ) → j < 10 → digit_at result j k ≡ 0 }
+    {
+        let none = [ChannelSet::empty(); VERDICTS];
+        Digit {
+            recent: [none; KEPT],
+            kept: 0,
+            ones: none,
+            twos: none,
+            fours: none,
+        }
+    }
+
+    // Whether no further sets can be kept before those that are kept are added.
+    pub(crate) fn is_full(&self) -> bool
+        ensures { IsTrue result ↔ (self.now.kept ≡ 7) }
+    {
+        self.kept == KEPT
+    }
+
+    // One more for each member of the set of each verdict, where there is room to keep the sets.
+    #[inline(always)]
+    pub(crate) fn keep(&mut self, sets: Sets)
+        requires { self.old.kept < 7 }
+        ensures { (j k : ℕ) → j < 10 → digit_at self.new j k ≡ digit_at self.old j k + one_at sets j k }
+    {
+        self.recent[self.kept] = sets;
+        self.kept += 1;
+    }
+
+    // One more for each member of the set of each verdict. The answer is the sets of those whose digit went past 7, where there are any.
+    pub(crate) fn add(&mut self, sets: &Sets) -> Option<Sets>
+        ensures { (j k : ℕ) → j < 10 → digit_at self.new j k + 8 * carried_at result j k ≡ digit_at self.old j k + one_at sets.now j k }
+    {
+        if self.is_full() {
+            Some(self.fold(sets))
+        } else {
+            self.keep(*sets);
+            None
+        }
+    }
+
+    // .. where no sets can be kept any more.
+    fn fold(&mut self, sets: &Sets) -> Sets
+        requires { self.old.kept ≡ 7 }
+        ensures { (j k : ℕ) → j < 10 → digit_at self.new j k + 8 * one_at result j k ≡ digit_at self.old j k + one_at sets.now j k }
+    {
+        let mut carry = [ChannelSet::empty(); VERDICTS];
+        for verdict in 0..VERDICTS {
+            carry[verdict] = self.fold_one(verdict, sets[verdict]);
+        }
+        self.kept = 0;
+        carry
+    }
+
+    // The eight sets of one verdict are added.
+    #[inline(always)]
+    fn fold_one(&mut self, verdict: usize, set: ChannelSet) -> ChannelSet
+        requires kept { self.old.kept ≡ 7 }
+        requires verdict { verdict < 10 }
+        ensures kept { self.new.kept ≡ 7 }
+        ensures recent { self.new.recent ≡ self.old.recent }
+        ensures here { (k : ℕ) → added_at self.new verdict k + 8 * one_if (has_bit result k) ≡ digit_at self.old verdict k + one_if (has_bit set k) }
+        ensures others { (j k : ℕ) → j ≢ verdict → added_at self.new j k ≡ added_at self.old j k }
+    {
+        let (ones, two_0) = add_three(
+            self.ones[verdict],
+            self.recent[0][verdict],
+            self.recent[1][verdict],
+        );
+        let (ones, two_1) = add_three(ones, self.recent[2][verdict], self.recent[3][verdict]);
+        let (ones, two_2) = add_three(ones, self.recent[4][verdict], self.recent[5][verdict]);
+        let (ones, two_3) = add_three(ones, self.recent[6][verdict], set);
+        let (twos, four_0) = add_three(self.twos[verdict], two_0, two_1);
+        let (twos, four_1) = add_three(twos, two_2, two_3);
+        let (fours, eight) = add_three(self.fours[verdict], four_0, four_1);
+        self.ones[verdict] = ones;
+        self.twos[verdict] = twos;
+        self.fours[verdict] = fours;
+        eight
+    }
+
+    // The digit of a verdict and a channel, with what is to be added to it.
+    pub(crate) fn count(&self, verdict: usize, index: usize) -> u64
+        requires verdict { verdict < 10 }
+        requires index { index < INDICES }
+        ensures value { result ≡ digit_at self.now verdict index }
+        ensures small { result ≤ 14 }
+    {
+        let mut count = u64::from(self.ones[verdict].contains(index))
+            + 2 * u64::from(self.twos[verdict].contains(index))
+            + 4 * u64::from(self.fours[verdict].contains(index));
+        for cycle in 0..self.kept {
+            count += u64::from(self.recent[cycle][verdict].contains(index));
+        }
+        count
+    }
+}
