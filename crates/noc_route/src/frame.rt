@@ -153,22 +153,18 @@ pub fn resource_class(vcs: usize, classes: usize, vc: usize) -> usize
     vc % block / (block / 2)
 }
 
-/// Whether the shape is a torus.
-pub fn is_torus(shape: &Shape) -> bool
-    ensures { result ≡ shape.now.wraps }
-{
-    shape.kind() == Kind::Torus
-}
-
 /// How many channels of each class, its lowest, are escape channels of the rule `Adaptive`: 1 on a mesh, 2 on a torus.
 pub fn escapes(shape: &Shape) -> usize
     ensures value { result ≡ escapes shape.now }
     ensures few { result ≤ 2 }
 {
-    if is_torus(shape) { 2 } else { 1 }
+    match shape.kind() {
+        Kind::Mesh => 1,
+        Kind::Torus => 2,
+    }
 }
 
-/// Whether a relation can be made of these numbers and this rule: 1 to 4 channels and classes, the classes divide the
+/// Whether a relation can be made of these numbers and this rule: 1 to 8 channels, 1 to 4 classes, the classes divide the
 /// channels, and the rule fits them and the shape (docs/MODEL.md).
 pub fn is_right(shape: &Shape, vcs: usize, classes: usize, rule: &Rule) -> bool
     ensures value { result ≡ is_right shape.now vcs classes rule.now }
@@ -182,8 +178,8 @@ pub fn is_right(shape: &Shape, vcs: usize, classes: usize, rule: &Rule) -> bool
     }
     match rule {
         Rule::Dor | Rule::Rows(_) => true,
-        Rule::Dateline => is_torus(shape) && vcs % (2 * classes) == 0,
-        Rule::WestFirst => !is_torus(shape) && shape.dimensions() == 2,
+        Rule::Dateline => shape.kind() == Kind::Torus && vcs % (2 * classes) == 0,
+        Rule::WestFirst => shape.kind() == Kind::Mesh && shape.dimensions() == 2,
         Rule::Adaptive => vcs / classes > escapes(shape),
     }
 }
