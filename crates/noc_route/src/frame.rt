@@ -7,8 +7,10 @@ ghost use Rattle.noc_route.specs.Relation.{is_in_block, resource_class, escapes,
 ghost use Rattle.noc_route.specs.Routes.{width, pages, page_of, place_of, page_class, page_router, page_dst};
 
 use crate::rule::Rule;
-use noc_packet::{MAX_CHANNELS, MAX_CLASSES};
+use noc_packet::{MAX_CHANNELS, MAX_CLASSES, MAX_NODES, MAX_PORTS};
 use noc_topo::{Kind, Shape};
+
+const _: () = prove!(noc_topo::MAX_NODES == MAX_NODES && noc_topo::MAX_PORTS == MAX_PORTS);
 
 /// A shape with its numbers of channels per link and of classes.
 #[derive(Clone, Copy, Debug)]
