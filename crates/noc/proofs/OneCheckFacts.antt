@@ -4,23 +4,23 @@ use Rattle.std.specs.Prelude.{IsTrue}
 use Rattle.std.proofs.lemmas.Bool.{and_parts}
 use Rattle.noc_topo.specs.Shape.{IsGrid}
 use Rattle.noc_route.specs.Channel.{Channel, Link, arrival_of}
-use Rattle.noc_route.specs.Ranks.{Ranking, direct, rank_at, IsRankedBy}
+use Rattle.noc_route.specs.Ranks.{Ranking, direct, rank_at, AreAllRanked, IsRankedBy}
 use Rattle.noc_route.specs.Routes.{Routes, permits, permits_at, is_sent}
 use Rattle.noc_route.specs.declared.rule.Entry.{Entry}
 use Rattle.noc_route.specs.declared.rule.RouteRow.{RouteRow}
 use Rattle.noc_route.proofs.BuiltLemmas.{same-channel}
 use Rattle.noc_route.proofs.OneFaultLemmas.{one_place, one_entry, one_row}
 use Rattle.noc_rank.specs.Faults.{HasEscapes, IsBare, IsDescent, IsFaultOfCheck, IsFirstBare, IsFirstDescent, pair_numbers, step_of}
-use Rattle.noc_rank.specs.Rising.{IsFall, IsFirstFall, IsFull}
+use Rattle.noc_rank.specs.Rising.{IsFall, IsFirstFall}
 use Rattle.noc_rank.specs.declared.fault.RankFault.{RankFault}
 use Rattle.noc_rank.specs.declared.fault.RankFault.TheVariants.{NoGenerated, NotRising, NotRisingTo, NoEscape, Memory, UnknownChannel, DoubleChannel, BadRank, MissingChannel}
 use Rattle.noc_rank.specs.declared.place.LinkChannel.{LinkChannel}
 
 -- what a fault other than of memory says of ranks
 data CheckSays (routes : Routes) (k : Ranking) (f : RankFault) : Type 0 where
-  falls : {e : Entry} {p v a b : ℕ} → f ≡ NotRising e p v a b → IsFull k → IsFirstFall routes k (step_of e p v) a b → CheckSays routes k f
-  bare : {e : Entry} → f ≡ NoEscape e → (IsFull k → ⊥) → IsFirstBare routes k e → CheckSays routes k f
-  descends : {e o : LinkChannel} {a b : ℕ} → f ≡ NotRisingTo e o a b → (IsFull k → ⊥) → HasEscapes routes k → IsFirstDescent routes k e o a b → CheckSays routes k f
+  falls : {e : Entry} {p v a b : ℕ} → f ≡ NotRising e p v a b → AreAllRanked k.grid k.vcs (rank_at k) → IsFirstFall routes k (step_of e p v) a b → CheckSays routes k f
+  bare : {e : Entry} → f ≡ NoEscape e → (AreAllRanked k.grid k.vcs (rank_at k) → ⊥) → IsFirstBare routes k e → CheckSays routes k f
+  descends : {e o : LinkChannel} {a b : ℕ} → f ≡ NotRisingTo e o a b → (AreAllRanked k.grid k.vcs (rank_at k) → ⊥) → HasEscapes routes k → IsFirstDescent routes k e o a b → CheckSays routes k f
 
 check_says : (routes : Routes) (k : Ranking) (f : RankFault) → f ≢ Memory → IsFaultOfCheck routes k f → CheckSays routes k f
 check_says routes k NoGenerated p h = absurd h

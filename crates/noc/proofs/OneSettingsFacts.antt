@@ -3,13 +3,13 @@ use Rattle.std.proofs.Common.{◌≡◌, ◌≢◌, ℕ, false, Option, Some, No
 use Rattle.std.proofs.lemmas.Bool.{false≢true}
 use Rattle.noc_topo.specs.Shape.{Grid, shape_of}
 use Rattle.noc_topo.specs.declared.shape.ShapeFault.{ShapeFault}
-use Rattle.noc_route.specs.Built.{IsRelationOf, routing_of}
+use Rattle.noc_route.specs.Built.{IsRelationOfRule, routing_of}
 use Rattle.noc_route.specs.Relation.{IsFaultOf}
 use Rattle.noc_route.specs.Routes.{Routes}
 use Rattle.noc_route.specs.declared.rule.RouteFault.{RouteFault}
 use Rattle.noc_route.specs.declared.rule.RouteFault.TheVariants as route
 use Rattle.noc_route.specs.declared.rule.Rule.{Rule}
-use Rattle.noc_route.proofs.AlikeLemmas.{AreAlike, AreAlike-same, AreAlike-rows, IsRelationOf-alike, IsFaultOf-alike}
+use Rattle.noc_route.proofs.AlikeLemmas.{AreAlike, AreAlike-same, AreAlike-rows, IsRelationOfRule-alike, IsFaultOf-alike}
 use Rattle.noc_route.proofs.OneFaultLemmas.{only-memory, one-fault}
 use Rattle.noc_route.proofs.PinnedLemmas.{one-relation}
 use Rattle.noc_files.specs.Configuration.{Settings, config_of}
@@ -124,7 +124,7 @@ not_memory f g p e = false≢true (sym p ∙ ap (λ x. is_memory (fault.Relation
 record Asking (a : Asked) (s : Settings) (g : Grid) (routes : Routes) : Type 0 where
   pub routing : Rule
   pub rule : IsRuleOf a.table g s.rule routing
-  pub relation : IsRelationOf (routing_of g s.channels s.classes routing) routes
+  pub relation : IsRelationOfRule (routing_of g s.channels s.classes routing) routes
 
 -- a relation that is asked for is that of the settings and the shape that are asked for
 asking : (a : Asked) (s t : Settings) (g : Grid) (routes : Routes) → AsksForShape a s g → AsksForRelation a t routes → (t ≡ s) × Asking a s g routes
@@ -139,7 +139,7 @@ one_relation_asked a s t x y one other =
     let found = asking a s t one.grid y one.shape other in
     let k = found.1 in
     let like = alike a.table one.grid s.channels s.classes s.rule k.routing one.routing k.rule one.rule in
-    (sym found.0, one-relation (routing_of one.grid s.channels s.classes one.routing) x y one.relation (IsRelationOf-alike one.grid s.channels s.classes k.routing one.routing y like k.relation))
+    (sym found.0, one-relation (routing_of one.grid s.channels s.classes one.routing) x y one.relation (IsRelationOfRule-alike one.grid s.channels s.classes k.routing one.routing y like k.relation))
 
 -- a relation is asked for only where nothing before it is wrong
 no_relation_at : (a : Asked) (s : Settings) (routes : Routes) (f : Fault) → is_memory f ≡ false → AsksForRelation a s routes → At a f → ⊥
@@ -150,7 +150,7 @@ no_relation_at a s routes f p asks (table {s = t} {g = g} h k) =
 no_relation_at a s routes f p asks (relation {s = t} {g = g} {r = r} {h = i} e h rule bad) =
     let found = (asking a t s g routes h asks).1 in
     let like = alike a.table g t.channels t.classes t.rule found.routing r found.rule rule in
-    let only = only-memory (routing_of g t.channels t.classes r) routes i (IsRelationOf-alike g t.channels t.classes found.routing r routes like found.relation) bad in
+    let only = only-memory (routing_of g t.channels t.classes r) routes i (IsRelationOfRule-alike g t.channels t.classes found.routing r routes like found.relation) bad in
     not_memory i g (ap is_memory (sym e) ∙ p) only
 
 pub no_settings_fault : (a : Asked) (s : Settings) (routes : Routes) (f : Fault) → is_memory f ≡ false → AsksForRelation a s routes → SettingsFault a f → ⊥

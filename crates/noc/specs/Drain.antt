@@ -1,6 +1,6 @@
 -- Where a run ends that goes on until every packet is out (docs/MODEL.md, "Runs that drain").
 use Rattle.std.specs.Prelude.{◌≡◌, ℕ, ◌+◌, ◌*◌, ◌<◌, ◌≤◌, Bool, true, false}
-use Rattle.noc_net.specs.Limit.{are_all_out, limit_of}
+use Rattle.noc_net.specs.Limit.{are_all_out, IsLimit}
 use Rattle.noc_net.specs.Network.{Setup, state_at}
 use Rattle.noc.specs.declared.drain.TheConstants.{PIECE}
 
@@ -14,10 +14,16 @@ look cycles k = cycles + k * PIECE
 
 -- a run that is to drain ends after the cycles of the configuration, where its limit is not later; otherwise at the first look below
 -- the limit at which every packet is out, or at the limit where there is none
-pub data DrainsAt (net : Setup) (cycles : ℕ) : ℕ → Type 0 where
-  at_once : limit_of net ≤ cycles → DrainsAt net cycles cycles
-  once_out : (k : ℕ) → look cycles k < limit_of net → is_out_at net (look cycles k) ≡ true → ((j : ℕ) → j < k → is_out_at net (look cycles j) ≡ false) → DrainsAt net cycles (look cycles k)
-  at_limit : cycles < limit_of net → ((j : ℕ) → look cycles j < limit_of net → is_out_at net (look cycles j) ≡ false) → DrainsAt net cycles (limit_of net)
+pub data DrainsBy (net : Setup) (limit cycles : ℕ) : ℕ → Type 0 where
+  at_once : limit ≤ cycles → DrainsBy net limit cycles cycles
+  once_out : (k : ℕ) → look cycles k < limit → is_out_at net (look cycles k) ≡ true → ((j : ℕ) → j < k → is_out_at net (look cycles j) ≡ false) → DrainsBy net limit cycles (look cycles k)
+  at_limit : cycles < limit → ((j : ℕ) → look cycles j < limit → is_out_at net (look cycles j) ≡ false) → DrainsBy net limit cycles limit
+
+-- the same by the limit of the network
+pub record DrainsAt (net : Setup) (cycles end : ℕ) : Type 0 where
+  pub limit : ℕ
+  pub is_limit : IsLimit net limit
+  pub drains : DrainsBy net limit cycles end
 
 -- where a run ends, which drains or not
 abbrev pub RunsTo : Bool → Setup → ℕ → ℕ → Type 0

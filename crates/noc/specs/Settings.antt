@@ -3,7 +3,7 @@ use Rattle.std.specs.Prelude.{◌≡◌, Option, Some, None, Ok, Err, Vec, is_so
 use Rattle.std.specs.declared.alloc.Global.{Global}
 use Rattle.noc_topo.specs.Shape.{Grid, shape_of}
 use Rattle.noc_topo.specs.declared.shape.ShapeFault.{ShapeFault}
-use Rattle.noc_route.specs.Built.{IsRelationOf, routing_of}
+use Rattle.noc_route.specs.Built.{IsRelationOfRule, routing_of}
 use Rattle.noc_route.specs.Relation.{IsFaultOf}
 use Rattle.noc_route.specs.Routes.{Routes}
 use Rattle.noc_route.specs.declared.rule.RouteFault.{RouteFault}
@@ -55,7 +55,7 @@ pub record AsksForRelation (a : Asked) (s : Settings) (routes : Routes) : Type 0
   pub shape : AsksForShape a s grid
   pub routing : Rule
   pub rule : IsRuleOf a.table grid s.rule routing
-  pub relation : IsRelationOf (routing_of grid s.channels s.classes routing) routes
+  pub relation : IsRelationOfRule (routing_of grid s.channels s.classes routing) routes
 
 -- the first fault: the configuration, the options, the shape, the options once more, the table, the relation
 pub data SettingsFault (a : Asked) : Fault → Type 0 where

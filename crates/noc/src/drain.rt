@@ -1,7 +1,6 @@
 //! Running a network for its cycles, and on until every packet is out.
 
 ghost use Rattle.std.specs.Prelude.{◌≡◌, ◌≢◌, ◌⊎◌, ◌+◌, ◌-◌, ◌<◌, ◌≤◌, min, true, false, IfErr, IfNone, IfOk, IfSome};
-ghost use Rattle.noc_net.specs.Limit.{limit_of};
 ghost use Rattle.noc_tiles.specs.declared.fault.RunFault.TheVariants.{LostWorker};
 ghost use Rattle.noc.specs.Drain.{DrainsAt, RunsTo, is_out_at};
 
@@ -84,7 +83,6 @@ fn run_on_by_workers<R: Threads + Wait + Sync>(
 
 // How many cycles a network that is to drain runs next: up to the next look or the limit, and none where it has drained.
 fn next_piece(network: &Network, limit: u64) -> Option<u64>
-    requires { limit ≡ limit_of network.now.net }
     ensures some { IfSome result (λ cycles. (network.now.count < limit) × (is_out_at network.now.net network.now.count ≡ false) × (cycles ≡ min PIECE (limit - network.now.count))) }
     ensures none { IfNone result ((limit ≤ network.now.count) ⊎ (is_out_at network.now.net network.now.count ≡ true)) }
 {

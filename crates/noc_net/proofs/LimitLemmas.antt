@@ -1,41 +1,64 @@
 -- The limit of a network, packet by packet.
-use Rattle.std.proofs.Common.{◌≡◌, ℕ, zero, suc, ◌+◌, ◌*◌, ◌<◌, ◌≤◌, Bool, true, false, List, [], ◌∷◌, length, get_or, take, fold, max, refl, ap, sym, ◌∙◌, arith, subst, Some, slice_get}
-use Rattle.std.specs.Prelude.{is_some, ◌&&◌}
+use Rattle.std.proofs.Common.{◌≡◌, ℕ, zero, suc, ◌+◌, ◌<◌, ◌≤◌, Bool, true, false, List, length, get_or, take, max, refl, ap, sym, ◌∙◌, arith, subst, Some, slice_get, inl, inr}
+use Rattle.std.specs.Prelude.{is_some, ◌&&◌, ◌⊎◌}
+use Rattle.std.proofs.lemmas.Bool.{cases_lt}
 use Rattle.std.specs.List.{list_all, sum_by}
 use Rattle.std.proofs.lemmas.List.{take_all}
-use Rattle.std.proofs.lemmas.Option.{get_or_from_slice_get, slice_get_within}
+use Rattle.std.proofs.lemmas.Option.{get_or_from_slice_get, slice_get_within, slice_get-get_or, same_Some}
 use Rattle.std.proofs.lemmas.List.Folds.{list_all_more, list_all_at}
-use Rattle.std.proofs.lemmas.List.Sums.{fold_more, sum_by_more}
+use Rattle.std.proofs.lemmas.List.Sums.{sum_by_more}
 use Rattle.noc_topo.specs.Words.{below}
 use Rattle.noc_topo.proofs.WordLemmas.{length-below, get_or-below}
 use Rattle.noc_packet.specs.declared.packet.Packet.{Packet}
 use Rattle.noc_route.specs.Ranks.{IsRankedBy, Ranking}
 use Rattle.noc_model.specs.Good.{IsGoodPacket, IsGoodSetup}
 use Rattle.noc_model.specs.Network.{Setup, arrival_in, packet_at, state_at}
-use Rattle.noc_model.specs.Progress.{is_pending}
+use Rattle.noc_model.specs.Progress.{budget, is_pending}
 use Rattle.noc_progress.proofs.Theorems.{each-arrives, each-idle}
-use Rattle.noc_net.specs.Limit.{are_all_out, last_due, limit_of}
+use Rattle.noc_net.specs.Limit.{are_all_out, IsLastDue, IsLimit}
 
 -- ---- the last due time
 
-from-before : (ps : List Packet) (a : ℕ) → a ≤ fold (λ (last : ℕ) (p : Packet). max last p.due) a ps
-from-before [] a = omega arith
-from-before (p ∷ ps) a = let rest = from-before ps (max a p.due) in omega arith
+-- the last due time of the first n packets
+pub record IsLastBefore (packets : List Packet) (n last : ℕ) : Type 0 where
+  pub none_later : (i : ℕ) (p : Packet) → i < n → slice_get packets i ≡ Some p → p.due ≤ last
+  pub one_then : (last ≡ 0) ⊎ ((i : ℕ) × (p : Packet) × (slice_get packets i ≡ Some p) × (p.due ≡ last))
 
-due-before : (ps : List Packet) (a q : ℕ) (d : Packet) → q < length ps → (get_or ps q d).due ≤ fold (λ (last : ℕ) (p : Packet). max last p.due) a ps
-due-before [] a q d l = absurd (omega arith)
-due-before (p ∷ ps) a zero d l = let rest = from-before ps (max a p.due) in omega arith
-due-before (p ∷ ps) a (suc q) d l = due-before ps (max a p.due) q d (omega arith)
-
--- no packet is due later
-pub due-last : (net : Setup) (q : ℕ) → q < length net.packets → (packet_at net q).due ≤ last_due net.packets
-due-last net q l = due-before net.packets 0 q _ l
+pub last-opening : (ps : List Packet) → IsLastBefore ps 0 0
+last-opening ps = record { none_later = λ i p l here. absurd (omega arith); one_then = inl refl }
 
 -- one packet more
-pub due_more : (ps : List Packet) (i : ℕ) (p : Packet) → slice_get ps i ≡ Some p → last_due (take (i + 1) ps) ≡ max (last_due (take i ps)) p.due
-due_more ps i p here =
-    fold_more (λ (last : ℕ) (p : Packet). max last p.due) 0 ps i p (slice_get_within ps i p here)
-    ∙ ap (λ (q : Packet). max (last_due (take i ps)) q.due) (get_or_from_slice_get ps i p p here)
+pub last-more : (ps : List Packet) (n last : ℕ) (p : Packet) → slice_get ps n ≡ Some p → IsLastBefore ps n last → IsLastBefore ps (n + 1) (max last p.due)
+last-more ps n last p here before = record { none_later = λ i q l there. later i q there (cases_lt i n) l; one_then = then (cases_lt last p.due) }
+  where
+    later : (i : ℕ) (q : Packet) → slice_get ps i ≡ Some q → (i < n) ⊎ (n ≤ i) → i < n + 1 → q.due ≤ max last p.due
+    later i q there (inl less) l = let old = before.none_later i q less there in omega (arith, old)
+    later i q there (inr more) l =
+        let same : i ≡ n = omega arith in
+        let one : q ≡ p = same_Some q p (sym there ∙ ap (slice_get ps) same ∙ here) in
+        let due : q.due ≡ p.due = ap (λ (r : Packet). r.due) one in
+        omega (arith, due)
+
+    then : (last < p.due) ⊎ (p.due ≤ last) → (max last p.due ≡ 0) ⊎ ((i : ℕ) × (r : Packet) × (slice_get ps i ≡ Some r) × (r.due ≡ max last p.due))
+    then (inl less) = let is : p.due ≡ max last p.due = omega arith in inr (n, p, here, is)
+    then (inr more) = let is : last ≡ max last p.due = omega arith in subst (λ x. (x ≡ 0) ⊎ ((i : ℕ) × (r : Packet) × (slice_get ps i ≡ Some r) × (r.due ≡ x))) is before.one_then
+
+pub last-all : (ps : List Packet) (n last : ℕ) → length ps ≤ n → IsLastBefore ps n last → IsLastDue ps last
+last-all ps n last all before = record { none_later = λ i p here. before.none_later i p (let l = slice_get_within ps i p here in omega (arith, l)) here; one_then = before.one_then }
+
+-- there is one last due time, and so one limit
+last-below : (ps : List Packet) (a b : ℕ) → IsLastDue ps a → IsLastDue ps b → a ≤ b
+last-below ps a b one other = at one.one_then
+  where
+    at : (a ≡ 0) ⊎ ((i : ℕ) × (p : Packet) × (slice_get ps i ≡ Some p) × (p.due ≡ a)) → a ≤ b
+    at (inl none) = omega (arith, none)
+    at (inr found) = let l = other.none_later found.0 found.1 found.2 in omega (arith, l, found.3)
+
+pub limit-once : (net : Setup) (a b : ℕ) → IsLimit net a → IsLimit net b → a ≡ b
+limit-once net a b one other =
+    let low = last-below net.packets one.last other.last one.due other.due in
+    let high = last-below net.packets other.last one.last other.due one.due in
+    omega (arith, low, high, one.sum, other.sum)
 
 -- ---- a packet that was read
 
@@ -69,12 +92,21 @@ sum_all f n k l = ap (sum_by f) (take_all k (below n) (let c = length-below n in
 
 -- ---- a ranked network
 
-module _ (net : Setup) (made : IsGoodSetup net) (ranks : Ranking) (ranked : IsRankedBy net.relation ranks) (n : ℕ) (late : limit_of net ≤ n) where
-  pub arrives : (p : ℕ) → p < length net.packets → (m : ℕ) × (arrival_in net (state_at net n) p ≡ Some m) × (m < limit_of net)
-  arrives = each-arrives net made ranks ranked (last_due net.packets) (due-last net) n late
+module _ (net : Setup) (made : IsGoodSetup net) (ranks : Ranking) (ranked : IsRankedBy net.relation ranks) (limit : ℕ) (is : IsLimit net limit) (n : ℕ) (late : limit ≤ n) where
+  -- no packet is due later
+  due-last : (p : ℕ) → p < length net.packets → (packet_at net p).due ≤ is.last
+  due-last p l = is.due.none_later p (packet_at net p) (slice_get-get_or net.packets p _ l)
+
+  reached : is.last + budget net ≤ n
+  reached = omega (arith, is.sum)
+
+  pub arrives : (p : ℕ) → p < length net.packets → (m : ℕ) × (arrival_in net (state_at net n) p ≡ Some m) × (m < limit)
+  arrives p l =
+      let one = each-arrives net made ranks ranked is.last due-last n reached p l in
+      (one.0, one.1, omega (arith, one.2, is.sum))
 
   pub idle : is_pending net n (state_at net n) ≡ false
-  idle = each-idle net made ranks ranked (last_due net.packets) (due-last net) n late
+  idle = each-idle net made ranks ranked is.last due-last n reached
 
   all-within : (k : ℕ) → k ≤ length net.packets → list_all (λ p. is_some (arrival_in net (state_at net n) p)) (take k (below (length net.packets))) ≡ true
   all-within zero l = refl

@@ -1,11 +1,11 @@
 //! By when all packets of a network have to be out, and whether they are.
 
-ghost use Rattle.std.specs.Prelude.{◌≡◌, ◌+◌, ◌*◌, ◌<◌, ◌≤◌, length, true};
+ghost use Rattle.std.specs.Prelude.{◌≡◌, ℕ, ◌+◌, ◌*◌, ◌<◌, ◌≤◌, length, true};
 ghost use Rattle.noc_route.specs.Ranks.{IsRankedBy, Ranking};
 ghost use Rattle.noc_model.specs.Good.{IsGoodSetup};
 ghost use Rattle.noc_model.specs.Network.{packet_at, state_at};
 ghost use Rattle.noc_model.specs.Progress.{budget, hops};
-ghost use Rattle.noc_net.specs.Limit.{are_all_out, last_due, limit_of};
+ghost use Rattle.noc_net.specs.Limit.{are_all_out, IsLastDue, IsLimit};
 
 use crate::network::Network;
 use noc_packet::{MAX_DUE, MAX_LENGTH, MAX_PACKETS};
@@ -22,7 +22,7 @@ impl Network {
     /// The count by which every packet is out where the relation is ranked: the last due time and the budget. It is 0 without
     /// packets.
     pub fn limit(&self) -> u64
-        ensures value { result ≡ limit_of self.now.net }
+        ensures value { IsLimit self.now.net result }
         ensures few { result ≤ MAX_LIMIT }
     {
         self.last_due() + self.budget()
@@ -30,7 +30,7 @@ impl Network {
 
     // The greatest due time of the packets, 0 where there are none.
     fn last_due(&self) -> u64
-        ensures value { result ≡ last_due self.now.net.packets }
+        ensures value { IsLastDue self.now.net.packets result }
         ensures few { result ≤ MAX_DUE }
     {
         let mut last = 0u32;
@@ -69,7 +69,7 @@ impl Network {
     /// Whether the tail of every packet is out: where the relation is ranked, at the limit at the latest.
     pub fn all_out(&self) -> bool
         ensures value { result ≡ are_all_out self.now.net (state_at self.now.net self.now.count) }
-        ensures ranked { (ranks : Ranking) → IsRankedBy self.now.net.relation ranks → limit_of self.now.net ≤ self.now.count → result ≡ true }
+        ensures ranked { (ranks : Ranking) (limit : ℕ) → IsRankedBy self.now.net.relation ranks → IsLimit self.now.net limit → limit ≤ self.now.count → result ≡ true }
     {
         for number in 0..self.packets() {
             if self.arrival(number).is_none() {

@@ -18,7 +18,7 @@ ghost use Rattle.noc_model.specs.Network.{Setup, arrival_in, packet_at, state_at
 ghost use Rattle.noc_model.specs.Progress.{is_pending, is_stuck, last_event_before};
 ghost use Rattle.noc_net.specs.Parts.{AreParts, run_in};
 ghost use Rattle.noc_net.specs.Latest.{later_of, latest_of};
-ghost use Rattle.noc_net.specs.Limit.{limit_of};
+ghost use Rattle.noc_net.specs.Limit.{IsLimit};
 ghost use Rattle.noc_model.specs.Unseen.{AreInStep, AreInStepUnseen, advanced};
 
 use crate::fault::NetFault;
@@ -154,7 +154,7 @@ impl Network {
     /// the limit is reached.
     pub fn pending(&self) -> bool
         ensures value { result ≡ is_pending self.now.net self.now.count (state_at self.now.net self.now.count) }
-        ensures ranked { (ranks : Ranking) → IsRankedBy self.now.net.relation ranks → limit_of self.now.net ≤ self.now.count → result ≡ false }
+        ensures ranked { (ranks : Ranking) (limit : ℕ) → IsRankedBy self.now.net.relation ranks → IsLimit self.now.net limit → limit ≤ self.now.count → result ≡ false }
     {
         self.is_waiting_by(self.parts.count)
     }
@@ -210,7 +210,7 @@ impl Network {
     pub fn arrival(&self, number: usize) -> Option<u64>
         requires { number < length self.now.net.packets }
         ensures value { result ≡ arrival_in self.now.net (state_at self.now.net self.now.count) number }
-        ensures ranked { (ranks : Ranking) → IsRankedBy self.now.net.relation ranks → limit_of self.now.net ≤ self.now.count → (cycle : ℕ) × (result ≡ Some cycle) × (cycle < limit_of self.now.net) }
+        ensures ranked { (ranks : Ranking) (limit : ℕ) → IsRankedBy self.now.net.relation ranks → IsLimit self.now.net limit → limit ≤ self.now.count → (cycle : ℕ) × (result ≡ Some cycle) × (cycle < limit) }
     {
         let parts = &self.parts;
         parts.routers[parts.packets[number].destination as usize].arrival(number as u32)

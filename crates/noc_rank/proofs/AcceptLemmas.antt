@@ -5,22 +5,22 @@ use Rattle.std.proofs.lemmas.Bool.{cases_lt}
 use Rattle.std.proofs.lemmas.Option.{none-some}
 use Rattle.noc_topo.specs.Shape.{local_port}
 use Rattle.noc_route.specs.Routes.{Routes, IsRelation}
-use Rattle.noc_route.specs.Ranks.{Ranking, is_channel, places, place_of, rank_at, IsRankedBy}
+use Rattle.noc_route.specs.Ranks.{Ranking, is_channel, places, place_of, rank_at, AreAllRanked, IsRankedBy}
 use Rattle.noc_route.specs.declared.rule.RouteRow.{RouteRow}
 use Rattle.noc_route.specs.declared.rule.Entry.{Entry}
+use Rattle.noc_route.proofs.RisingLemmas.{ranked-rising}
 use Rattle.noc_rank.specs.Ahead.{over}
 use Rattle.noc_rank.specs.Descents.{AreReal}
 use Rattle.noc_rank.specs.Faults.{IsBare, HasEscapes, IsDescent, HasNoDescent}
 use Rattle.noc_rank.specs.Ranking.{IsRanking}
-use Rattle.noc_rank.specs.Rising.{IsFull, IsFall}
+use Rattle.noc_rank.specs.Rising.{IsFall}
 use Rattle.noc_rank.specs.declared.place.LinkChannel.{LinkChannel}
 use Rattle.noc_rank.proofs.BareLemmas.{over-same, escape-of}
 use Rattle.noc_rank.proofs.PlaceLemmas.{is_channel-place, is_place-parts, place-below, place-router, place-port, place-vc}
-use Rattle.noc_rank.proofs.RankedLemmas.{ranked-rising}
 
 -- all places are looked at
 pub full-decoded : (k : Ranking) (v p n : ℕ) → v ≡ k.vcs → p ≡ local_port k.grid → places k.grid k.vcs ≤ n
-    → ((i : ℕ) → i < n → is_channel k.grid k.vcs (i / v / p) (i / v % p) (i % v) ≡ true → is_some (rank_at k (i / v / p) (i / v % p) (i % v)) ≡ true) → IsFull k
+    → ((i : ℕ) → i < n → is_channel k.grid k.vcs (i / v / p) (i / v % p) (i % v) ≡ true → is_some (rank_at k (i / v / p) (i / v % p) (i % v)) ≡ true) → AreAllRanked k.grid k.vcs (rank_at k)
 full-decoded k v p n a b all whole r q w e =
     let parts = is_place-parts k.grid k.vcs r q w (is_channel-place k.grid k.vcs r q w e) in
     let i = place_of k.grid k.vcs r q w in
@@ -66,5 +66,5 @@ ranked-no_descent routes k ranked e o x y h =
 
 pub ranked-no_fall : (routes : Routes) (k : Ranking) → IsRankedBy routes k → (step : RouteRow) (x y : ℕ) → IsFall routes k step x y → ⊥
 ranked-no_fall routes k ranked step x y h =
-    let l : x < y = ranked-rising routes k ranked step.class step.dst h.router h.port step.in_vc step.router step.out_port step.out_vc x y h.permitted h.before_is h.after_is in
+    let l : x < y = ranked-rising routes (rank_at k) ranked step.class step.dst h.router h.port step.in_vc step.router step.out_port step.out_vc x y h.permitted h.before_is h.after_is in
     omega (arith, l, h.falls)

@@ -11,14 +11,13 @@ use Rattle.noc_topo.proofs.DistanceLemmas.{hop-coordinates}
 use Rattle.noc_route.specs.Channel.{Link}
 use Rattle.noc_route.specs.Relation.{leads, takes_port, is_in_block, resource_class}
 use Rattle.noc_route.specs.Routes.{Routes}
-use Rattle.noc_route.specs.Built.{IsRelationOf, routing_of}
-use Rattle.noc_route.specs.Ranks.{Ranking, is_channel, places, rank_at, IsRankedBy}
+use Rattle.noc_route.specs.Built.{IsRelationOfRule, routing_of}
+use Rattle.noc_route.specs.Ranks.{Ranking, is_channel, places, rank_at, AreAllRanked, IsRankedBy, IsRising}
 use Rattle.noc_route.specs.declared.rule.Rule.{Rule}
 use Rattle.noc_route.specs.declared.rule.Rule.TheVariants.{Dor, Dateline, WestFirst, Adaptive, Rows}
 use Rattle.noc_route.proofs.PermitsLemmas.{PermitsLink-from_test}
 use Rattle.noc_route.proofs.RuleLemmas.{west-shape}
 use Rattle.noc_rank.specs.Formulas.{has_ranks, is_numbered, formula, formula_at, west_first_rank}
-use Rattle.noc_rank.specs.Rising.{IsFull, IsRising}
 use Rattle.noc_rank.proofs.RankedLemmas.{full-ranked}
 use Rattle.noc_rank.proofs.FormulaLemmas.{has_ranks-right, listed-rank_at}
 use Rattle.noc_rank.proofs.LedLemmas.{IsLedOn, is_led-on, rule_has-led, reached-led, formula-parts}
@@ -112,17 +111,17 @@ all-numbered grid vcs classes WestFirst v other = refl
 all-numbered grid vcs classes Adaptive v other = absurd (other refl)
 all-numbered grid vcs classes (Rows rows) v other = refl
 
-module _ (grid : Grid) (vcs classes : ℕ) (rule : Rule) (other_rule : rule ≢ Adaptive) (routes : Routes) (k : Ranking) (made : IsRelationOf (routing_of grid vcs classes rule) routes) (ruled : has_ranks grid vcs classes rule ≡ true)
+module _ (grid : Grid) (vcs classes : ℕ) (rule : Rule) (other_rule : rule ≢ Adaptive) (routes : Routes) (k : Ranking) (made : IsRelationOfRule (routing_of grid vcs classes rule) routes) (ruled : has_ranks grid vcs classes rule ≡ true)
     (same_grid : k.grid ≡ grid) (same_vcs : k.vcs ≡ vcs) (given : (r p v : ℕ) → rank_at k r p v ≡ formula_at grid vcs classes rule r p v) where
   sound : IsGrid grid
   sound = subst IsGrid made.grid made.built.table.grid
 
-  full : IsFull k
+  full : AreAllRanked k.grid k.vcs (rank_at k)
   full r p v e =
       let known : is_channel grid vcs r p v ≡ true = sym (ap (λ x. is_channel x k.vcs r p v) same_grid ∙ ap (λ x. is_channel grid x r p v) same_vcs) ∙ e in
       ap is_some (given r p v) ∙ rw (known, all-numbered grid vcs classes rule v other_rule) refl
 
-  rising : IsRising routes k
+  rising : IsRising routes (rank_at k)
   rising m t a o w r p v n l e one other =
       let g = routing_of grid vcs classes rule in
       let comes = PermitsLink-from_test routes m (Link a o w) t r p v e in
@@ -137,7 +136,7 @@ module _ (grid : Grid) (vcs classes : ℕ) (rule : Rule) (other_rule : rule ≢ 
   others-ranked = full-ranked routes made.built k (made.grid ∙ sym same_grid) (made.vcs ∙ sym same_vcs) full rising
 
 -- a relation of any rule with ranks by formula is ranked by them
-pub formula-ranked : (grid : Grid) (vcs classes : ℕ) (rule : Rule) (routes : Routes) (k : Ranking) → IsRelationOf (routing_of grid vcs classes rule) routes → has_ranks grid vcs classes rule ≡ true → k.grid ≡ grid → k.vcs ≡ vcs
+pub formula-ranked : (grid : Grid) (vcs classes : ℕ) (rule : Rule) (routes : Routes) (k : Ranking) → IsRelationOfRule (routing_of grid vcs classes rule) routes → has_ranks grid vcs classes rule ≡ true → k.grid ≡ grid → k.vcs ≡ vcs
     → ((r p v : ℕ) → rank_at k r p v ≡ formula_at grid vcs classes rule r p v) → IsRankedBy routes k
 formula-ranked grid vcs classes Dor routes k made ruled same_grid same_vcs given = others-ranked grid vcs classes Dor (λ (e : Dor ≡ Adaptive). cc) routes k made ruled same_grid same_vcs given
 formula-ranked grid vcs classes Dateline routes k made ruled same_grid same_vcs given = others-ranked grid vcs classes Dateline (λ (e : Dateline ≡ Adaptive). cc) routes k made ruled same_grid same_vcs given
@@ -152,7 +151,7 @@ formula-ranking : Grid → ℕ → ℕ → Rule → Ranking
 formula-ranking grid vcs classes rule =
     record { grid = grid; vcs = vcs; ranks = tabulate (places grid vcs) (λ k. formula_at grid vcs classes rule (k / vcs / local_port grid) (k / vcs % local_port grid) (k % vcs)) }
 
-pub formula-exists : (grid : Grid) (vcs classes : ℕ) (rule : Rule) (routes : Routes) → IsRelationOf (routing_of grid vcs classes rule) routes → has_ranks grid vcs classes rule ≡ true
+pub formula-exists : (grid : Grid) (vcs classes : ℕ) (rule : Rule) (routes : Routes) → IsRelationOfRule (routing_of grid vcs classes rule) routes → has_ranks grid vcs classes rule ≡ true
     → (k : Ranking) × IsRankedBy routes k
 unfolding formula-ranking
 formula-exists grid vcs classes rule routes made ruled =

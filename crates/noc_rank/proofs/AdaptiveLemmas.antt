@@ -9,22 +9,22 @@ use Rattle.noc_topo.proofs.DistanceLemmas.{hop-coordinates}
 use Rattle.noc_route.specs.Channel.{Channel, Link, arrival_of, channel_vc}
 use Rattle.noc_route.specs.Relation.{Routing, rule_at, rule_has, is_led, is_right, is_escape}
 use Rattle.noc_route.specs.Routes.{Routes, permits}
-use Rattle.noc_route.specs.Built.{IsRelationOf, routing_of}
+use Rattle.noc_route.specs.Built.{IsRelationOfRule, routing_of}
 use Rattle.noc_route.specs.Ranks.{Ranking, LeadsTo, direct, through, is_channel, rank_at, IsRankedBy}
 use Rattle.noc_route.specs.declared.rule.Rule.TheVariants.{Adaptive}
 use Rattle.noc_route.proofs.AdaptiveLemmas.{Nearer-from_test}
 use Rattle.noc_route.proofs.BuiltLemmas.{set_at-member}
 use Rattle.noc_route.proofs.PermitsLemmas.{PermitsLink-from_test}
+use Rattle.noc_route.proofs.RisingLemmas.{permits-channel}
 use Rattle.noc_rank.specs.Formulas.{has_ranks, formula, formula_at}
 use Rattle.noc_rank.proofs.FormulaLemmas.{has_ranks-right}
-use Rattle.noc_rank.proofs.RankedLemmas.{permitted-channel}
 use Rattle.noc_rank.proofs.BareLemmas.{member-at}
 use Rattle.noc_rank.proofs.LedLemmas.{IsLedOn, is_led-on, rule_has-led, reached-led, formula-parts}
 use Rattle.noc_rank.proofs.RiseLemmas.{IsOrderPort, order-port, order_rank}
 use Rattle.noc_rank.proofs.ClimbLemmas.{escape_rank, IsAtLeast, rises-on, keeps-on}
 use Rattle.noc_rank.proofs.EscapeLemmas.{dor_port-found, order-nearer, escape-found, escape-taken}
 
-module _ (grid : Grid) (vcs classes : ℕ) (routes : Routes) (k : Ranking) (made : IsRelationOf (routing_of grid vcs classes Adaptive) routes) (ruled : has_ranks grid vcs classes Adaptive ≡ true)
+module _ (grid : Grid) (vcs classes : ℕ) (routes : Routes) (k : Ranking) (made : IsRelationOfRule (routing_of grid vcs classes Adaptive) routes) (ruled : has_ranks grid vcs classes Adaptive ≡ true)
     (given : (r p v : ℕ) → rank_at k r p v ≡ formula_at grid vcs classes Adaptive r p v) where
   abbrev g : Routing
   g = routing_of grid vcs classes Adaptive
@@ -134,7 +134,7 @@ module _ (grid : Grid) (vcs classes : ℕ) (routes : Routes) (k : Ranking) (made
   -- it has a rank where it is permitted
   escape-ranked : (m : ℕ) (c : Channel) (t r p v : ℕ) → Permits m c t (Link r p v) → is_escape grid vcs classes v ≡ true → rank_at k r p v ≡ Some (formula grid vcs classes Adaptive r p v)
   escape-ranked m c t r p v permitted escape =
-      let there : is_channel routes.grid routes.vcs r p v ≡ true = permitted-channel routes made.built m c t r p v permitted in
+      let there : is_channel routes.grid routes.vcs r p v ≡ true = permits-channel routes made.built m c t r p v permitted in
       let same : is_channel routes.grid routes.vcs r p v ≡ is_channel grid vcs r p v = ap (λ x. is_channel x routes.vcs r p v) made.grid ∙ ap (λ x. is_channel grid x r p v) made.vcs in
       let channel : is_channel grid vcs r p v ≡ true = sym same ∙ there in
       given r p v ∙ rw (channel, escape) refl

@@ -2,44 +2,28 @@
 use Rattle.std.proofs.Common.{◌≡◌, ◌≢◌, ℕ, zero, suc, ◌+◌, ◌*◌, ◌/◌, ◌%◌, ◌<◌, Bool, true, false, List, [], ◌∷◌, Option, Some, None, refl, sym, subst, ap, ◌∙◌, arith, inl, inr}
 use Rattle.std.specs.Prelude.{◌⊎◌, ◌↔◌, is_some, nat_eq, IfNone, IfSome, MatchOption}
 use Rattle.std.proofs.Math.Nat.{div-lt_iff_lt-mul, zero-mul}
-use Rattle.std.proofs.lemmas.Bool.{lt-ltb, ne_eqb, false≢true}
+use Rattle.std.proofs.lemmas.Bool.{ne_eqb, false≢true}
 use Rattle.std.proofs.lemmas.Option.{some_pair_parts}
 use Rattle.noc_packet.specs.Set.{has_bit}
 use Rattle.noc_topo.specs.Shape.{nodes, ports, local_port}
 use Rattle.noc_route.specs.Channel.{Channel, Link, Inject, Eject, arrival_of, channel_vc, output_at}
 use Rattle.noc_route.specs.Order.{numbers_before, entry_numbers}
-use Rattle.noc_route.specs.Routes.{Routes, set_at, permits, is_sent, IsRelation, HasLead}
+use Rattle.noc_route.specs.Routes.{Routes, set_at, permits, is_sent, IsRelation}
 use Rattle.noc_route.specs.Ranks.{Ranking, rank_at}
 use Rattle.noc_route.specs.declared.rule.Entry.{Entry}
 use Rattle.noc_route.proofs.BuiltLemmas.{set_at-member}
-use Rattle.noc_route.proofs.PermitsLemmas.{PermitsLink-from_test, PermitsEject-from_test, permits-inject, member-permits}
+use Rattle.noc_route.proofs.PermitsLemmas.{PermitsLink-from_test, PermitsEject-from_test, permits-inject, member-permits, coming-on}
 use Rattle.noc_route.proofs.PlaceLemmas.{flat-below, flat-div, flat-mod}
+use Rattle.noc_route.proofs.RisingLemmas.{some-value}
 use Rattle.noc_rank.specs.Ahead.{over}
 use Rattle.noc_rank.specs.Bare.{entries, entry_at, IsRankedIn, IsBareSet}
 use Rattle.noc_rank.specs.Faults.{IsBare, IsFirstBare, HasEscapes}
 use Rattle.noc_rank.proofs.CheckLemmas.{IsFirstBut}
-use Rattle.noc_rank.proofs.RankedLemmas.{some-value}
 use Rattle.noc_rank.proofs.PlaceLemmas.{flat, flat-before, div-mod}
 
 -- ---- channels and sets
 
 module _ (routes : Routes) (built : IsRelation routes) where
-  -- the channel by which packets come to an entry that permits something
-  pub record IsComing (m r p v t : ℕ) : Type 0 where
-    pub channel : Channel
-    pub sent : is_sent routes channel ≡ true
-    pub arrives : arrival_of routes.grid channel ≡ Some (r, p)
-    pub vc : channel_vc channel ≡ v
-
-  pub coming : (m r p v t k : ℕ) → has_bit (set_at routes m r p v t) k ≡ true → IsComing m r p v t
-  coming m r p v t k has = at (built.reached m r p v t k has)
-    where
-      at : ((p ≡ local_port routes.grid) × (r ≢ t)) ⊎ HasLead routes m r p v t → IsComing m r p v t
-      at (inl home) = record { channel = Inject r v; sent = refl; arrives = ap (λ x. Some (r, x)) (sym home.0); vc = refl }
-      at (inr lead) =
-          let there = (set_at-member routes m lead.router lead.in_port lead.in_vc t lead.channel lead.permitted).0 in
-          record { channel = Link lead.router (lead.channel / routes.vcs) (lead.channel % routes.vcs); sent = lt-ltb _ _ there.place.router; arrives = lead.link; vc = lead.vc }
-
   -- what is permitted is a member of the set where the channel arrives
   pub member-at : (m : ℕ) (c : Channel) (t : ℕ) (o : Channel) (r q w : ℕ) → permits routes m c t o ≡ true → arrival_of routes.grid c ≡ Some (r, q) → channel_vc c ≡ w
       → (k : ℕ) × (has_bit (set_at routes m r q w t) k ≡ true)
@@ -79,7 +63,7 @@ module _ (routes : Routes) (built : IsRelation routes) where
 
     bare-from_set : (e : Entry) → IsBareSet routes k e → IsBare routes k e
     bare-from_set e bare =
-        let from = coming e.class e.router e.in_port e.in_vc e.dst bare.index bare.some in
+        let from = coming-on routes built e.class e.router e.in_port e.in_vc e.dst bare.index bare.some in
         let member : has_bit (set_at routes e.class e.router e.in_port (channel_vc from.channel) e.dst) bare.index ≡ true
         = ap (λ x. has_bit (set_at routes e.class e.router e.in_port x e.dst) bare.index) from.vc ∙ bare.some in
         record {
@@ -107,7 +91,7 @@ module _ (routes : Routes) (built : IsRelation routes) where
     set-from_bare : (e : Entry) → IsBare routes k e → IsBareSet routes k e
     set-from_bare e bare =
         let some = member-at e.class bare.from e.dst bare.next e.router e.in_port e.in_vc bare.permitted bare.place bare.channel in
-        let from = coming e.class e.router e.in_port e.in_vc e.dst some.0 some.1 in
+        let from = coming-on routes built e.class e.router e.in_port e.in_vc e.dst some.0 some.1 in
         record {
           away = bare.away;
           index = some.0;

@@ -9,9 +9,9 @@ use Rattle.rayon.specs.Lists.{filter_by_mask}
 use Rattle.rayon.specs.Numbers.{nat_range}
 use Rattle.noc_topo.specs.Shape.{IsGrid, nodes, ports}
 use Rattle.noc_route.specs.Routes.{Routes, set_at}
-use Rattle.noc_route.specs.Ranks.{Ranking}
+use Rattle.noc_route.specs.Ranks.{Ranking, IsRising, rank_at}
 use Rattle.noc_rank.specs.declared.rising.Fall.{Fall}
-use Rattle.noc_rank.specs.Rising.{IsRising, IsFirstFall}
+use Rattle.noc_rank.specs.Rising.{IsFirstFall}
 use Rattle.noc_rank.specs.Falls.{falls_from, inputs, class_of, router_of, port_of, HasNoFall, IsFirstAt}
 use Rattle.noc_rank.proofs.FallLemmas.{rising, first_fall, over}
 
@@ -27,9 +27,9 @@ same_over : (routes : Routes) (k : Ranking) (sound : IsGrid routes.grid) → rou
 same_over routes k sound grid vcs = λ i. record { grid = grid i; vcs = vcs i; ranks = k.ranks }
 
 pub all-rise : (routes : Routes) (k : Ranking) (n : ℕ) → routes.grid ≡ k.grid → routes.vcs ≡ k.vcs → IsGrid routes.grid → n ≡ routes.classes * inputs k
-    → ((e : ℕ) → e < n → HasNoFall routes k e) → IsRising routes k
+    → ((e : ℕ) → e < n → HasNoFall routes k e) → IsRising routes (rank_at k)
 all-rise routes k n grid vcs sound count none =
-    let P : Ranking → Type 0 = λ x. n ≡ routes.classes * inputs x → ((e : ℕ) → e < n → HasNoFall routes x e) → IsRising routes x in
+    let P : Ranking → Type 0 = λ x. n ≡ routes.classes * inputs x → ((e : ℕ) → e < n → HasNoFall routes x e) → IsRising routes (rank_at x) in
     let core : P (over routes k.ranks sound) = λ m h. rising routes k.ranks sound (λ e l. h e (omega (arith, m, l))) in
     subst P (same_over routes k sound grid vcs) core count none
 
@@ -114,6 +114,6 @@ searched P n from end found first last h = at _ (first-but P 0 n h.1 (subst (λ 
 
 -- the first fall of the first entry that has one
 pub one-first : (routes : Routes) (k : Ranking) (n e : ℕ) (o : Option Fall) → routes.grid ≡ k.grid → routes.vcs ≡ k.vcs → IsGrid routes.grid → IsFirstBut (HasNoFall routes k) 0 n e
-    → MatchOption o (HasNoFall routes k e) (IsFirstAt routes k e) → MatchOption o (IsRising routes k) (λ fall. IsFirstFall routes k fall.step fall.rank fall.next)
+    → MatchOption o (HasNoFall routes k e) (IsFirstAt routes k e) → MatchOption o (IsRising routes (rank_at k)) (λ fall. IsFirstFall routes k fall.step fall.rank fall.next)
 one-first routes k n e None grid vcs sound found h = absurd (found.fails h)
 one-first routes k n e (Some fall) grid vcs sound found h = one-falls routes k e fall grid vcs sound h (λ f below. found.earlier f (omega arith) below)

@@ -10,13 +10,13 @@ use Rattle.noc_topo.specs.Shape.{IsGrid, nodes, ports, local_port, neighbour}
 use Rattle.noc_topo.proofs.LinkLemmas.{link_back}
 use Rattle.noc_route.specs.Channel.{Channel, Link, arrival_of, channel_vc}
 use Rattle.noc_route.specs.Order.{numbers_before, row_numbers}
-use Rattle.noc_route.specs.Ranks.{Ranking, rank_at}
+use Rattle.noc_route.specs.Ranks.{Ranking, IsRising, rank_at}
 use Rattle.noc_route.specs.Routes.{Routes, is_entry, set_at, is_sent, permits, permits_at}
 use Rattle.noc_route.specs.declared.rule.RouteRow.{RouteRow}
 use Rattle.noc_route.proofs.PermitsLemmas.{PermitsLink-from_test}
 use Rattle.noc_route.proofs.PlaceLemmas.{flat-below, flat-div, flat-mod}
 use Rattle.noc_rank.specs.declared.rising.Fall.{Fall}
-use Rattle.noc_rank.specs.Rising.{IsRising, IsFall, IsFirstFall}
+use Rattle.noc_rank.specs.Rising.{IsFall, IsFirstFall}
 use Rattle.noc_rank.specs.Falls.{rank_from, arrival_rank, is_not_above, falls_to, falls_from, falls_at, links, inputs, class_of, router_of, port_of, IsLeastBelow, HasNone, IsFirstFrom, HasNoFall, IsFirstAt}
 use Rattle.noc_rank.proofs.PlaceLemmas.{flat, flat-rises, flat-before, div-mod}
 
@@ -161,7 +161,7 @@ module _ (routes : Routes) (ranks : List (Option ℕ)) (sound : IsGrid routes.gr
       ∙ ap (λ x. is_not_above before (rank_at over r p x)) out_vc
 
   -- where nothing falls, the ranks rise
-  pub rising : ((e : ℕ) → e < routes.classes * inputs over → HasNoFall routes over e) → IsRising routes over
+  pub rising : ((e : ℕ) → e < routes.classes * inputs over → HasNoFall routes over e) → IsRising routes (rank_at over)
   rising none m t a o w r p v before after permitted one other =
       let s = step_of m a o w t r p v permitted in
       let e = number m r s.port w in

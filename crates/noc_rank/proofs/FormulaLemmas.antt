@@ -1,11 +1,11 @@
 -- Ranks by formula.
-use Rattle.std.proofs.Common.{◌≡◌, ℕ, ◌+◌, ◌-◌, ◌/◌, ◌%◌, ◌<◌, ◌≤◌, Bool, true, false, List, Option, Some, None, length, get_or, refl, sym, subst, ◌∙◌, arith}
+use Rattle.std.proofs.Common.{◌≡◌, ℕ, ◌/◌, ◌%◌, ◌<◌, ◌≤◌, Bool, true, false, List, Option, Some, None, length, get_or, refl, sym, subst, ◌∙◌, arith}
 use Rattle.std.specs.Prelude.{nat_le, nat_eq, not, ◌&&◌, IfSome, if◌then◌else◌}
 use Rattle.std.proofs.lemmas.Bool.{leb-true, eqb-true, and_parts}
 use Rattle.std.proofs.lemmas.Option.{none-some}
 use Rattle.noc_packet.specs.declared.limits.TheConstants.{MAX_CHANNELS, MAX_CLASSES}
-use Rattle.noc_topo.specs.Shape.{Grid, IsGrid, nodes, dimensions, local_port, coordinates, padded}
-use Rattle.noc_topo.proofs.LinkLemmas.{AreRadices-from_test, AreRadices-at, IsWithin-at, IsWithin-coordinates, corner-at, get_or-padded}
+use Rattle.noc_topo.specs.Shape.{Grid, IsGrid, dimensions, local_port, coordinates, padded}
+use Rattle.noc_topo.proofs.LinkLemmas.{AreRadices-from_test, AreRadices-at, IsWithin-at, IsWithin-coordinates, get_or-padded}
 use Rattle.noc_route.specs.Relation.{is_right}
 use Rattle.noc_route.specs.declared.rule.Rule.{Rule}
 use Rattle.noc_route.specs.declared.rule.Rule.TheVariants.{Dateline, WestFirst}
@@ -38,12 +38,6 @@ two-dimensions g vcs classes e =
     eqb-true (dimensions g) 2 (and_parts (not g.wraps) (nat_eq (dimensions g) 2) a.1).1
 
 -- ---- coordinates
-
-pub last-coordinate : (g : Grid) (i : ℕ) → IsGrid g → i < dimensions g → get_or (padded (coordinates g.radix (nodes g - 1))) i 0 + 1 ≡ get_or g.radix i 0
-last-coordinate g i sound l =
-    let size = AreRadices-at g.radix i (AreRadices-from_test g.radix sound.sizes) l in
-    let three : i < 3 = omega (arith, sound.few_dimensions) in
-    omega (arith, corner-at g i sound three, size.0)
 
 pub coordinate-inside : (g : Grid) (r i : ℕ) → IsGrid g → i < dimensions g → (get_or (padded (coordinates g.radix r)) i 0 < get_or g.radix i 0) × (get_or g.radix i 0 ≤ 16)
 coordinate-inside g r i sound l =

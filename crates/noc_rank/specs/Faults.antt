@@ -2,11 +2,11 @@
 use Rattle.std.specs.Prelude.{◌≡◌, ◌≢◌, ℕ, ◌≤◌, List, [], ◌∷◌, false, Some, None, IsTrue}
 use Rattle.noc_route.specs.Channel.{Channel, Link, arrival_of, channel_vc}
 use Rattle.noc_route.specs.Order.{numbers_before, entry_numbers}
-use Rattle.noc_route.specs.Ranks.{Ranking, LeadsTo, rank_at}
+use Rattle.noc_route.specs.Ranks.{Ranking, LeadsTo, AreAllRanked, rank_at}
 use Rattle.noc_route.specs.Routes.{Routes, permits}
 use Rattle.noc_route.specs.declared.rule.RouteRow.{RouteRow}
 use Rattle.noc_route.specs.declared.rule.Entry.{Entry}
-use Rattle.noc_rank.specs.Rising.{IsFull, IsFirstFall}
+use Rattle.noc_rank.specs.Rising.{IsFirstFall}
 use Rattle.noc_rank.specs.declared.place.LinkChannel.{LinkChannel}
 use Rattle.noc_rank.specs.declared.fault.RankFault.{RankFault}
 use Rattle.noc_rank.specs.declared.fault.RankFault.TheVariants.{NotRising, NotRisingTo, NoEscape, Memory}
@@ -60,8 +60,8 @@ step_of e port vc = record { class = e.class; router = e.router; in_port = e.in_
 -- where each link channel has a rank, the first step that does not rise; else the first entry without an escape, else the first pair
 -- that does not rise, or memory was refused
 abbrev pub IsFaultOfCheck : Routes → Ranking → RankFault → Type 0
-IsFaultOfCheck routes k (NotRising entry port vc before after) = IsFull k × IsFirstFall routes k (step_of entry port vc) before after
-IsFaultOfCheck routes k (NoEscape entry) = (IsFull k → ⊥) × IsFirstBare routes k entry
-IsFaultOfCheck routes k (NotRisingTo e o before after) = (IsFull k → ⊥) × HasEscapes routes k × IsFirstDescent routes k e o before after
-IsFaultOfCheck routes k Memory = (IsFull k → ⊥) × HasEscapes routes k
+IsFaultOfCheck routes k (NotRising entry port vc before after) = AreAllRanked k.grid k.vcs (rank_at k) × IsFirstFall routes k (step_of entry port vc) before after
+IsFaultOfCheck routes k (NoEscape entry) = (AreAllRanked k.grid k.vcs (rank_at k) → ⊥) × IsFirstBare routes k entry
+IsFaultOfCheck routes k (NotRisingTo e o before after) = (AreAllRanked k.grid k.vcs (rank_at k) → ⊥) × HasEscapes routes k × IsFirstDescent routes k e o before after
+IsFaultOfCheck routes k Memory = (AreAllRanked k.grid k.vcs (rank_at k) → ⊥) × HasEscapes routes k
 IsFaultOfCheck routes k _ = ⊥

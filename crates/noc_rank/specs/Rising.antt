@@ -1,20 +1,11 @@
 -- Steps at which ranks do not rise (Dally and Towles, chapter 14).
-use Rattle.std.specs.Prelude.{◌≡◌, ℕ, ◌<◌, ◌≤◌, true, false, Some, is_some, IsTrue}
+use Rattle.std.specs.Prelude.{◌≡◌, ℕ, ◌≤◌, false, Some, IsTrue}
 use Rattle.noc_topo.specs.Shape.{neighbour}
 use Rattle.noc_route.specs.Channel.{Link}
 use Rattle.noc_route.specs.Order.{numbers_before, row_numbers}
-use Rattle.noc_route.specs.Ranks.{Ranking, is_channel, rank_at}
+use Rattle.noc_route.specs.Ranks.{Ranking, rank_at}
 use Rattle.noc_route.specs.Routes.{Routes, permits}
 use Rattle.noc_route.specs.declared.rule.RouteRow.{RouteRow}
-
--- each link channel has a rank
-abbrev pub IsFull : Ranking → Type 0
-IsFull k = (r p v : ℕ) → is_channel k.grid k.vcs r p v ≡ true → is_some (rank_at k r p v) ≡ true
-
--- ranks rise with each step from one channel with a rank to the next
-abbrev pub IsRising : Routes → Ranking → Type 0
-IsRising routes k =
-    (m t r p v a q w n l : ℕ) → IsTrue (permits routes m (Link r p v) t (Link a q w)) → rank_at k r p v ≡ Some n → rank_at k a q w ≡ Some l → n < l
 
 -- a packet that came to this entry, on a link channel of rank `before`, may go on by this link channel, whose rank `after` is not greater
 pub record IsFall (routes : Routes) (k : Ranking) (step : RouteRow) (before after : ℕ) : Type 0 where

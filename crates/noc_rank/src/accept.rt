@@ -2,9 +2,8 @@
 
 ghost use Rattle.std.specs.Prelude.{◌≡◌, ℕ, ◌+◌, ◌*◌, ◌/◌, ◌%◌, ◌<◌, ◌≤◌, ◌↔◌, IsOk, OnOk, IfErr, IfSome, IfNone, IsTrue, is_some, true, false};
 ghost use Rattle.noc_packet.specs.declared.limits.TheConstants.{MAX_CHANNELS};
-ghost use Rattle.noc_route.specs.Ranks.{IsRankedBy, is_channel, rank_at};
+ghost use Rattle.noc_route.specs.Ranks.{AreAllRanked, IsRankedBy, is_channel, rank_at};
 ghost use Rattle.noc_route.specs.Routes.{IsRelation};
-ghost use Rattle.noc_rank.specs.Rising.{IsFull};
 ghost use Rattle.noc_rank.specs.Faults.{IsFaultOfCheck};
 ghost use Rattle.noc_rank.specs.declared.fault.RankFault.TheVariants.{Memory};
 
@@ -43,7 +42,7 @@ pub fn check(
     requires vcs { relation.now.vcs ≡ ranks.now.vcs }
     ensures ok { OnOk result (IsRankedBy relation.now ranks.now) }
     ensures err { IfErr result (IsFaultOfCheck relation.now ranks.now) }
-    ensures accepted { IsFull ranks.now → IsRankedBy relation.now ranks.now → IsOk result }
+    ensures accepted { AreAllRanked ranks.now.grid ranks.now.vcs (rank_at ranks.now) → IsRankedBy relation.now ranks.now → IsOk result }
     ensures refused { IsRankedBy relation.now ranks.now → IfErr result (λ fault. fault ≡ Memory) }
 {
     if is_full(relation.shape(), relation.vcs(), ranks) {
@@ -63,7 +62,7 @@ fn is_full(shape: &Shape, vcs: usize, ranks: &Ranks) -> bool
     requires shape { shape.now ≡ ranks.now.grid }
     requires vcs { vcs ≡ ranks.now.vcs }
     requires few { vcs ≤ MAX_CHANNELS }
-    ensures { IsTrue result ↔ IsFull ranks.now }
+    ensures { IsTrue result ↔ AreAllRanked ranks.now.grid ranks.now.vcs (rank_at ranks.now) }
 {
     let ports = link_ports(shape);
     for place in 0..all_ports(shape) * vcs {
@@ -99,7 +98,7 @@ fn check_steps(
 ) -> Result<Accepted, RankFault>
     requires shape { relation.now.grid ≡ ranks.now.grid }
     requires vcs { relation.now.vcs ≡ ranks.now.vcs }
-    requires full { IsFull ranks.now }
+    requires full { AreAllRanked ranks.now.grid ranks.now.vcs (rank_at ranks.now) }
     requires built { IsRelation relation.now }
     ensures ok { OnOk result (IsRankedBy relation.now ranks.now) }
     ensures err { IfErr result (IsFaultOfCheck relation.now ranks.now) }

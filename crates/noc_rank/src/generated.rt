@@ -6,8 +6,8 @@ ghost use Rattle.noc_route.specs.Ranks.{is_channel, places};
 ghost use Rattle.noc_rank.specs.Formulas.{has_ranks, is_numbered, passed_in, west_first_rank, formula, formula_at};
 
 use crate::place::{all_ports, is_channel, link_ports};
-use noc_route::{Rule, escapes, is_right, is_torus, resource_class};
-use noc_topo::Shape;
+use noc_route::{Rule, escapes, is_right, resource_class};
+use noc_topo::{Kind, Shape};
 use std::alloc::{AllocError, Global};
 
 /// Whether a rule fits these numbers and has ranks by formula: dimension order on a mesh, dateline, west first and adaptive.
@@ -16,7 +16,7 @@ pub fn has_ranks(shape: &Shape, vcs: usize, classes: usize, rule: &Rule) -> bool
 {
     is_right(shape, vcs, classes, rule)
         && match rule {
-            Rule::Dor => !is_torus(shape),
+            Rule::Dor => shape.kind() == Kind::Mesh,
             Rule::Dateline | Rule::WestFirst | Rule::Adaptive => true,
             Rule::Rows(_) => false,
         }
@@ -148,9 +148,10 @@ fn axis_of(shape: &Shape, router: usize, dimension: usize) -> Axis
     ensures size { result.size ≡ slice_index shape.now.radix dimension }
     ensures grid { IsGrid shape.now }
 {
-    let at = shape.coordinates(router)[dimension];
-    let last = shape.coordinates(shape.nodes() - 1)[dimension];
-    Axis { at, size: last + 1 }
+    Axis {
+        at: shape.coordinates(router)[dimension],
+        size: shape.radix(dimension),
+    }
 }
 
 impl Axis {

@@ -1,7 +1,7 @@
 //! Which rules have ranks that make their relations ranked.
 
 ghost use Rattle.std.specs.Prelude.{◌≡◌, ◌∷◌, [], true};
-ghost use Rattle.noc_route.specs.Built.{IsRelationOf, routing_of};
+ghost use Rattle.noc_route.specs.Built.{IsRelationOfRule, routing_of};
 ghost use Rattle.noc_route.specs.Ranks.{Ranking, IsRankedBy};
 ghost use Rattle.noc_route.specs.Relation.{Routing};
 ghost use Rattle.noc_route.specs.Routes.{Routes};
@@ -13,14 +13,14 @@ use noc_route::a_relation_is_ranked_as_its_rule;
 /// Each relation of dimension order on a mesh, of dateline, of west first, and of adaptive is ranked, whatever the shape and the
 /// numbers of channels and classes: by its ranks by formula, and so there are ranks that make it ranked.
 pub fn formula_ranks_are_accepted()
-    ensures accepted { (g : Routing) (routes : Routes) (ranks : Ranking) → IsRelationOf g routes → IsGenerated g.grid g.vcs g.classes g.rule ranks → IsRankedBy routes ranks }
-    ensures exist { (g : Routing) (routes : Routes) → IsRelationOf g routes → has_ranks g.grid g.vcs g.classes g.rule ≡ true → (ranks : Ranking) × IsRankedBy routes ranks }
+    ensures accepted { (g : Routing) (routes : Routes) (ranks : Ranking) → IsRelationOfRule g routes → IsGenerated g.grid g.vcs g.classes g.rule ranks → IsRankedBy routes ranks }
+    ensures exist { (g : Routing) (routes : Routes) → IsRelationOfRule g routes → has_ranks g.grid g.vcs g.classes g.rule ≡ true → (ranks : Ranking) × IsRankedBy routes ranks }
 {}
 
 /// No ranks at all make dimension order on a ring of four routers with one channel per link ranked, so each list of ranks is
 /// refused: each channel up is the only way for some packet, and four hops up close a circle.
 pub fn a_ring_of_four_has_no_ranks()
-    ensures { (routes : Routes) (ranks : Ranking) → IsRelationOf (routing_of (record { wraps = true; radix = 4 ∷ [] }) 1 1 Dor) routes → IsRankedBy routes ranks → ⊥ }
+    ensures { (routes : Routes) (ranks : Ranking) → IsRelationOfRule (routing_of (record { wraps = true; radix = 4 ∷ [] }) 1 1 Dor) routes → IsRankedBy routes ranks → ⊥ }
 {
     a_relation_is_ranked_as_its_rule();
 }

@@ -4,8 +4,8 @@ ghost use Rattle.std.specs.Prelude.{◌≡◌, ℕ, ◌+◌, ◌*◌, ◌/◌, �
 ghost use Rattle.noc_topo.specs.Shape.{nodes, ports};
 ghost use Rattle.noc_packet.specs.declared.limits.TheConstants.{INDICES};
 ghost use Rattle.noc_route.specs.Routes.{set_at};
-ghost use Rattle.noc_route.specs.Ranks.{rank_at};
-ghost use Rattle.noc_rank.specs.Rising.{IsRising, IsFirstFall};
+ghost use Rattle.noc_route.specs.Ranks.{IsRising, rank_at};
+ghost use Rattle.noc_rank.specs.Rising.{IsFirstFall};
 ghost use Rattle.noc_rank.specs.Falls.{fault_of_fall, arrival_rank, falls_to, links, inputs, IsLeastBelow, HasNone, HasNoFall, IsFirstFrom, IsFirstAt};
 
 use crate::fault::RankFault;
@@ -23,7 +23,7 @@ use std::thread::Threads;
 pub fn first_fall(rt: &(impl Threads + Sync), relation: &Relation, ranks: &Ranks) -> Option<Fall>
     requires shape { relation.now.grid ≡ ranks.now.grid }
     requires vcs { relation.now.vcs ≡ ranks.now.vcs }
-    ensures { MatchOption result (IsRising relation.now ranks.now) (λ fall. IsFirstFall relation.now ranks.now fall.step fall.rank fall.next) }
+    ensures { MatchOption result (IsRising relation.now (rank_at ranks.now)) (λ fall. IsFirstFall relation.now ranks.now fall.step fall.rank fall.next) }
 {
     let count = relation.classes()
         * relation.shape().nodes()

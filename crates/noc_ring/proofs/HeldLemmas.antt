@@ -6,6 +6,7 @@ use Rattle.std.proofs.lemmas.List.{get_or-replicate}
 use Rattle.std.proofs.lemmas.Nat.{mod_below}
 use Rattle.std.proofs.Math.ListN.{replicate}
 use Rattle.std.proofs.Math.Nat.{mod-eq_of_lt}
+use Rattle.noc_packet.specs.declared.limits.TheConstants.{INDICES}
 use Rattle.noc_packet.specs.declared.packet.Flit.{Flit}
 use Rattle.noc_ring.specs.declared.bank.Ends.{Ends}
 use Rattle.noc_ring.specs.Rings.{Rings}
@@ -14,11 +15,11 @@ use Rattle.noc_ring.proofs.PlaceLemmas.{apart, next_head, rings_apart}
 use Rattle.noc_ring.proofs.RingLemmas.{IsRing, slot, place-below}
 
 -- rings without flits
-pub new-held : (filled : List Bool) (c n : ℕ) (ends : List Ends) → n ≤ 56 → ends ≡ replicate 56 no_ends → length filled ≡ n * c → AreHeld filled c n ends
+pub new-held : (filled : List Bool) (c n : ℕ) (ends : List Ends) → n ≤ INDICES → ends ≡ replicate INDICES no_ends → length filled ≡ n * c → AreHeld filled c n ends
 new-held filled c n ends few is all = record {
   whole = all;
   held = λ r i u l.
-      let e : (get_or ends r no_ends).len ≡ 0 = ap (λ (x : Ends). x.len) (ap (λ es. get_or es r no_ends) is ∙ get_or-replicate 56 r no_ends no_ends (omega arith)) in
+      let e : (get_or ends r no_ends).len ≡ 0 = ap (λ (x : Ends). x.len) (ap (λ es. get_or es r no_ends) is ∙ get_or-replicate INDICES r no_ends no_ends (omega arith)) in
       absurd (omega arith);
 }
 

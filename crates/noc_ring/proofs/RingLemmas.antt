@@ -8,6 +8,7 @@ use Rattle.std.proofs.lemmas.List.FromFn.{length-map-range_with_len, get_or-map-
 use Rattle.std.proofs.lemmas.Nat.{mod_below, mul-le}
 use Rattle.std.proofs.Math.ListN.{replicate}
 use Rattle.std.proofs.Math.Nat.{mod-eq_of_lt}
+use Rattle.noc_packet.specs.declared.limits.TheConstants.{INDICES, MAX_BUFFER}
 use Rattle.noc_packet.specs.declared.packet.Flit.{Flit}
 use Rattle.noc_ring.specs.declared.bank.Ends.{Ends}
 use Rattle.noc_ring.specs.Rings.{Rings, ring_at, pushed, popped, empty_rings}
@@ -131,12 +132,12 @@ pub record IsRing (slots : List Flit) (c many : ℕ) (ends : List Ends) (v : Rin
   pub is_view : bank_of slots c many ends ≡ v
   pub is_bank : IsBank slots c many ends
   pub inside : r < many
-  pub listed : r < 56
+  pub listed : r < INDICES
   pub head_below : (get_or ends r no_ends).head < c
   pub len_within : (get_or ends r no_ends).len ≤ c
   pub count : length (ring_at v r) ≡ (get_or ends r no_ends).len
   pub capacity : v.capacity ≡ c
-  pub few_slots : length slots ≤ 896
+  pub few_slots : length slots ≤ INDICES * MAX_BUFFER
 
 ring_at-is : (slots : List Flit) (c many : ℕ) (ends : List Ends) (v : Rings) (r : ℕ) → bank_of slots c many ends ≡ v → r < many → ring_at v r ≡ ring_of slots c ends r
 ring_at-is slots c many ends v r is l = ap (λ (w : Rings). ring_at w r) (sym is) ∙ get_or-rings_of slots c many ends r l
@@ -145,7 +146,7 @@ pub ring-known : {slots : List Flit} {c many : ℕ} {ends : List Ends} {v : Ring
 ring-known {slots} {c} {many} {ends} {v} {r} bank is l =
     let n : length (rings_of slots c many ends) ≡ length v.rings = ap (λ (w : Rings). length w.rings) is in
     let inside : r < many = omega (arith, length-rings_of slots c many ends) in
-    let few : many * c ≤ 56 * 16 = mul-le many c 56 16 bank.rings bank.small in
+    let few : many * c ≤ INDICES * MAX_BUFFER = mul-le many c INDICES MAX_BUFFER bank.rings bank.small in
     record {
       is_view = is;
       is_bank = bank;
@@ -203,7 +204,7 @@ pub ring_at-popped : (v : Rings) (r : ℕ) → r < length v.rings → ring_at (p
 ring_at-popped v r l = get_or-set_same v.rings r (drop 1 (ring_at v r)) [] l
 
 -- ---- a new bank
-pub new-is : (n c : ℕ) (ends : List Ends) (slots : List Flit) → n ≤ 56 → ends ≡ replicate 56 no_ends → bank_of slots c n ends ≡ empty_rings n c
+pub new-is : (n c : ℕ) (ends : List Ends) (slots : List Flit) → n ≤ INDICES → ends ≡ replicate INDICES no_ends → bank_of slots c n ends ≡ empty_rings n c
 new-is n c ends slots few is =
     let k : length (rings_of slots c n ends) ≡ n = length-rings_of slots c n ends in
     let j : length (replicate n (let none : List Flit = [] in none)) ≡ n = length-replicate n (let none : List Flit = [] in none) in
@@ -211,16 +212,16 @@ new-is n c ends slots few is =
     (ext_get_or [] (rings_of slots c n ends) (replicate n []) (k ∙ sym j)
     (λ r l. let u : r < n = omega arith in
     get_or-rings_of slots c n ends r u
-    ∙ ap (λ (x : Ends). ring_in slots (r * c) c x.head x.len) (ap (λ es. get_or es r no_ends) is ∙ get_or-replicate 56 r no_ends no_ends (omega arith))
+    ∙ ap (λ (x : Ends). ring_in slots (r * c) c x.head x.len) (ap (λ es. get_or es r no_ends) is ∙ get_or-replicate INDICES r no_ends no_ends (omega arith))
     ∙ sym (get_or-replicate n r [] [] u)))
 
-pub new-fits : (n c : ℕ) (ends : List Ends) (slots : List Flit) → n ≤ 56 → 0 < c → c ≤ 16 → ends ≡ replicate 56 no_ends → length slots ≡ n * c → IsBank slots c n ends
+pub new-fits : (n c : ℕ) (ends : List Ends) (slots : List Flit) → n ≤ INDICES → 0 < c → c ≤ MAX_BUFFER → ends ≡ replicate INDICES no_ends → length slots ≡ n * c → IsBank slots c n ends
 new-fits n c ends slots l some small is all =
-    let each : (r : ℕ) → r < n → get_or ends r no_ends ≡ no_ends = λ r u. ap (λ es. get_or es r no_ends) is ∙ get_or-replicate 56 r no_ends no_ends (omega arith) in
+    let each : (r : ℕ) → r < n → get_or ends r no_ends ≡ no_ends = λ r u. ap (λ es. get_or es r no_ends) is ∙ get_or-replicate INDICES r no_ends no_ends (omega arith) in
     record {
       whole = all;
       rings = l;
-      table = ap length is ∙ length-replicate 56 no_ends;
+      table = ap length is ∙ length-replicate INDICES no_ends;
       some = some;
       small = small;
       heads = λ r u. let h : (get_or ends r no_ends).head ≡ 0 = ap (λ (x : Ends). x.head) (each r u) in omega arith;

@@ -1,6 +1,7 @@
 -- How a bank keeps its rings in one list of slots.
 use Rattle.std.specs.Prelude.{◌≡◌, ℕ, ◌+◌, ◌*◌, ◌%◌, ◌<◌, ◌≤◌, Bool, true, false, List, map, length, slice_index_or}
 use Rattle.std.specs.List.{range_with_len}
+use Rattle.noc_packet.specs.declared.limits.TheConstants.{INDICES, MAX_BUFFER}
 use Rattle.noc_packet.specs.declared.packet.Flit.{Flit}
 use Rattle.noc_ring.specs.declared.bank.Ends.{Ends}
 
@@ -38,10 +39,10 @@ rings_of slots capacity rings ends = map (ring_of slots capacity ends) (range_wi
 -- each ring has as many slots as its capacity, its head is one of them, and no more flits than slots
 pub record IsBank (slots : List Flit) (capacity many : ℕ) (ends : List Ends) : Type 0 where
   pub whole : length slots ≡ many * capacity
-  pub rings : many ≤ 56
-  pub table : length ends ≡ 56
+  pub rings : many ≤ INDICES
+  pub table : length ends ≡ INDICES
   pub some : 0 < capacity
-  pub small : capacity ≤ 16
+  pub small : capacity ≤ MAX_BUFFER
   pub heads : (r : ℕ) → r < many → (slice_index_or ends r no_ends).head < capacity
   pub lens : (r : ℕ) → r < many → (slice_index_or ends r no_ends).len ≤ capacity
 

@@ -64,9 +64,9 @@ impl Store {
         Store { block }
     }
 
-    /// So many empty places, at most 896. The error is for want of memory alone.
+    /// So many empty places, at most `MOST`. The error is for want of memory alone.
     pub(crate) fn new(alloc: Global, count: usize) -> Result<Store, Memory>
-        requires { count ≤ 896 }
+        requires { count ≤ MOST }
         ensures { IfOk result (λ p. (length p.flits ≡ count) × (length p.filled ≡ count)) }
     {
         // `unsafe`, since a value in a place is forgotten when another is put there or the block goes. A flit is plain data.

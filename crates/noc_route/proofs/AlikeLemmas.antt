@@ -3,7 +3,7 @@ use Rattle.std.proofs.Common.{◌≡◌, ℕ, List, Option, Some, None, refl, sy
 use Rattle.std.specs.Prelude.{◌&&◌, All, nat_eq, nat_lt, Vec}
 use Rattle.std.specs.declared.alloc.Global.{Global}
 use Rattle.noc_topo.specs.Shape.{Grid, local_port}
-use Rattle.noc_route.specs.Built.{IsRelationOf, routing_of}
+use Rattle.noc_route.specs.Built.{IsRelationOfRule, routing_of}
 use Rattle.noc_route.specs.Channel.{Channel, Link, Inject, Eject, arrival_of, channel_vc}
 use Rattle.noc_route.specs.Relation.{is_right, leads, has_row, rule_at, rule_has, rows_of, row_fault, IsReached, injected, led_on, IsPermitted, IsNoWay, IsFirstRow, IsFirstFault, IsFaultOf}
 use Rattle.noc_route.specs.Routes.{Routes}
@@ -68,8 +68,8 @@ module _ (grid : Grid) (vcs classes : ℕ) where
   rows-alike : (r s : Rule) → AreAlike grid vcs classes r s → All (λ row. row_fault grid vcs classes row ≡ None) (rows_of r) → All (λ row. row_fault grid vcs classes row ≡ None) (rows_of s)
   rows-alike r s h good = let P : List RouteRow → Type 0 = λ rows. All (λ row. row_fault grid vcs classes row ≡ None) rows in subst P h.rows good
 
-  pub IsRelationOf-alike : (r s : Rule) (routes : Routes) → AreAlike grid vcs classes r s → IsRelationOf (routing_of grid vcs classes r) routes → IsRelationOf (routing_of grid vcs classes s) routes
-  IsRelationOf-alike r s routes h one =
+  pub IsRelationOfRule-alike : (r s : Rule) (routes : Routes) → AreAlike grid vcs classes r s → IsRelationOfRule (routing_of grid vcs classes r) routes → IsRelationOfRule (routing_of grid vcs classes s) routes
+  IsRelationOfRule-alike r s routes h one =
       let back = AreAlike-turned grid vcs classes r s h in
       record {
         faultless = record {

@@ -11,7 +11,7 @@ use Rattle.noc_packet.proofs.SetLemmas.{has_bit-zero, zero_from_none}
 use Rattle.noc_route.specs.Channel.{Channel, Link, Inject, Eject, arrival_of, channel_vc}
 use Rattle.noc_route.specs.Order.{numbers_before, entry_numbers}
 use Rattle.noc_route.specs.Relation.{Routing, leads, rule_has, IsReached, IsNoWay, IsFirstNoWay, IsFirstRow, IsFirstFault, IsFaultOf, is_right, rows_of, row_fault, hop_fault, is_real_row}
-use Rattle.noc_route.specs.Built.{IsRelationOf}
+use Rattle.noc_route.specs.Built.{IsRelationOfRule}
 use Rattle.noc_route.specs.declared.rule.RouteRow.{RouteRow}
 use Rattle.noc_route.specs.declared.rule.RouteFault.{RouteFault}
 use Rattle.noc_route.specs.declared.rule.RouteFault.TheVariants.{WrongShape, NoLink, NotMinimal, EarlyEject, LateHop, NoWay, Memory}
@@ -231,8 +231,8 @@ ways-unstuck g sets left outs made unstuck e way =
     let at = StuckAt-no_way g sets left outs made e way in
     false≢true (sym (unstuck at.page at.input at.exists at.within) ∙ at.stuck)
 
-pub IsRelationOf-made : (g : Routing) (sets left outs : List ℕ) → IsMade g sets left outs → IsUnstuck g left outs → IsTable (table g left) → IsRelationOf g (table g left)
-IsRelationOf-made g sets left outs made unstuck size = record {
+pub IsRelationOfRule-made : (g : Routing) (sets left outs : List ℕ) → IsMade g sets left outs → IsUnstuck g left outs → IsTable (table g left) → IsRelationOfRule g (table g left)
+IsRelationOfRule-made g sets left outs made unstuck size = record {
   faultless = record { right = made.good.right; rows = made.good.rows; ways = ways-unstuck g sets left outs made unstuck };
   grid = refl;
   vcs = refl;

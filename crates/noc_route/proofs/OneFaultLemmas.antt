@@ -4,7 +4,7 @@ use Rattle.std.specs.Prelude.{◌⊎◌, All}
 use Rattle.std.proofs.lemmas.List.Elements.{All-contains}
 use Rattle.std.proofs.lemmas.Bool.{false≢true}
 use Rattle.std.proofs.lemmas.Bool.Decides.{nat_tests}
-use Rattle.noc_route.specs.Built.{IsFaultless, IsRelationOf}
+use Rattle.noc_route.specs.Built.{IsFaultless, IsRelationOfRule}
 use Rattle.noc_route.specs.Order.{numbers_before, row_numbers, entry_numbers}
 use Rattle.noc_route.specs.Relation.{Routing, is_right, IsFaultOf, IsFirstRow, IsFirstNoWay, rows_of, row_fault}
 use Rattle.noc_route.specs.Routes.{Routes}
@@ -75,7 +75,7 @@ faultless g f good (wrong e h) = false≢true (sym h ∙ good.right)
 faultless g f good (bad h) = no_bad g f good.rows h
 faultless g f good (no_way {e = e} is h) = good.ways e h.here
 
-pub only-memory : (g : Routing) (routes : Routes) (f : RouteFault) → IsRelationOf g routes → IsFaultOf g f → f ≡ Memory
+pub only-memory : (g : Routing) (routes : Routes) (f : RouteFault) → IsRelationOfRule g routes → IsFaultOf g f → f ≡ Memory
 only-memory g routes f good h =
     elim (says g f h) [
       | inl e ↦ e

@@ -147,13 +147,13 @@ led_on-permits routes built m c t r p v e =
 -- ---- where a packet came from
 
 -- the channel by which packets come to an entry that permits something
-record ComingOn (routes : Routes) (m t r p v : ℕ) : Type 0 where
-  channel : Channel
-  sent : is_sent routes channel ≡ true
-  arrives : arrival_of routes.grid channel ≡ Some (r, p)
-  vc : channel_vc channel ≡ v
+pub record ComingOn (routes : Routes) (m t r p v : ℕ) : Type 0 where
+  pub channel : Channel
+  pub sent : is_sent routes channel ≡ true
+  pub arrives : arrival_of routes.grid channel ≡ Some (r, p)
+  pub vc : channel_vc channel ≡ v
 
-coming-on : (routes : Routes) → IsRelation routes → (m r p v t k : ℕ) → has_bit (set_at routes m r p v t) k ≡ true → ComingOn routes m t r p v
+pub coming-on : (routes : Routes) → IsRelation routes → (m r p v t k : ℕ) → has_bit (set_at routes m r p v t) k ≡ true → ComingOn routes m t r p v
 coming-on routes built m r p v t k has = at (built.reached m r p v t k has)
   where
     at : ((p ≡ local_port routes.grid) × (r ≢ t)) ⊎ HasLead routes m r p v t → ComingOn routes m t r p v

@@ -8,7 +8,7 @@ use Rattle.noc_topo.specs.Shape.{nodes, local_port}
 use Rattle.noc_topo.proofs.LinkLemmas.{nodes-some}
 use Rattle.noc_packet.specs.Set.{has_bit}
 use Rattle.noc_packet.proofs.SetLemmas.{same_set}
-use Rattle.noc_route.specs.Built.{IsRelationOf}
+use Rattle.noc_route.specs.Built.{IsRelationOfRule}
 use Rattle.noc_route.specs.Channel.{Channel, Link, Inject, Eject, arrival_of, channel_vc}
 use Rattle.noc_route.specs.Relation.{Routing}
 use Rattle.noc_route.specs.Routes.{Routes, width, pages, page_class, page_router, page_dst, set_at, permits, permits_at, is_sent, IsTable, IsRelation}
@@ -80,7 +80,7 @@ module _ (g : Routing) where
       ∙ onto.asks sets m p v t
 
   -- a member of one table is a member of the other
-  member-other : (xs ys : List ℕ) → IsRelationOf g (table g xs) → IsRelationOf g (table g ys) → (m r p v t k : ℕ)
+  member-other : (xs ys : List ℕ) → IsRelationOfRule g (table g xs) → IsRelationOfRule g (table g ys) → (m r p v t k : ℕ)
       → has_bit (set_at (table g xs) m r p v t) k ≡ true → has_bit (set_at (table g ys) m r p v t) k ≡ true
   member-other xs ys one other m r p v t k e =
       let from = some_from xs one.built m r p v t k e in
@@ -88,7 +88,7 @@ module _ (g : Routing) where
       let permitted = (one.exact m from.0 t onto.0).0 (permits-member xs m r p v t k from.0 onto.0 from.1 onto.1 ∙ e) in
       sym (permits-member ys m r p v t k from.0 onto.0 from.1 onto.1) ∙ (other.exact m from.0 t onto.0).1 permitted
 
-  same-at : (xs ys : List ℕ) → IsRelationOf g (table g xs) → IsRelationOf g (table g ys) → (m r p v t : ℕ) → set_at (table g xs) m r p v t ≡ set_at (table g ys) m r p v t
+  same-at : (xs ys : List ℕ) → IsRelationOfRule g (table g xs) → IsRelationOfRule g (table g ys) → (m r p v t : ℕ) → set_at (table g xs) m r p v t ≡ set_at (table g ys) m r p v t
   same-at xs ys one other m r p v t = same_set _ _ (λ k. at k (has_bit (set_at (table g xs) m r p v t) k) (has_bit (set_at (table g ys) m r p v t) k) refl refl)
     where
       at : (k : ℕ) (x y : Bool) → has_bit (set_at (table g xs) m r p v t) k ≡ x → has_bit (set_at (table g ys) m r p v t) k ≡ y
@@ -121,17 +121,17 @@ module _ (g : Routing) where
       sym (set_at-exists (table g sets) _ _ _ _ _ there ∙ ap (λ x. slice_index sets (x * w + (i / g.vcs * g.vcs + i % g.vcs))) (page-whole g.grid g.classes b)
       ∙ ap (λ x. slice_index sets (b * w + x)) (index-parts g.vcs i) ∙ ap (slice_index sets) index)
 
-  same-sets : (xs ys : List ℕ) → IsRelationOf g (table g xs) → IsRelationOf g (table g ys) → xs ≡ ys
+  same-sets : (xs ys : List ℕ) → IsRelationOfRule g (table g xs) → IsRelationOfRule g (table g ys) → xs ≡ ys
   same-sets xs ys one other =
       let long : length xs ≡ length ys = one.built.table.long ∙ sym other.built.table.long in
       ext_get_or 0 xs ys long (λ j l. place-entry xs j one.built.table l ∙ same-at xs ys one other _ _ _ _ _ ∙ sym (place-entry ys j other.built.table (omega (arith, long, l))))
 
   -- a table of the rule has the rule's numbers
-  over-rule : (a : Routes) → IsRelationOf g a → a ≡ table g a.sets
+  over-rule : (a : Routes) → IsRelationOfRule g a → a ≡ table g a.sets
   over-rule a h = λ i. record { grid = h.grid i; vcs = h.vcs i; classes = h.classes i; sets = a.sets }
 
-  pub one-relation : (a b : Routes) → IsRelationOf g a → IsRelationOf g b → a ≡ b
+  pub one-relation : (a b : Routes) → IsRelationOfRule g a → IsRelationOfRule g b → a ≡ b
   one-relation a b one other =
-      let P : Routes → Type 0 = λ x. IsRelationOf g x in
+      let P : Routes → Type 0 = λ x. IsRelationOfRule g x in
       let sets = same-sets a.sets b.sets (subst P (over-rule a one) one) (subst P (over-rule b other) other) in
       over-rule a one ∙ ap (table g) sets ∙ sym (over-rule b other)

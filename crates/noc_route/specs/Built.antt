@@ -17,7 +17,7 @@ pub record IsFaultless (g : Routing) : Type 0 where
   pub ways : (e : Entry) → IsNoWay g e → ⊥
 
 -- a table permits exactly what the routing relation of a rule without a fault does, and its sets are empty everywhere else
-pub record IsRelationOf (g : Routing) (routes : Routes) : Type 0 where
+pub record IsRelationOfRule (g : Routing) (routes : Routes) : Type 0 where
   pub faultless : IsFaultless g
   pub grid : routes.grid ≡ g.grid
   pub vcs : routes.vcs ≡ g.vcs

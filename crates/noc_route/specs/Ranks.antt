@@ -54,9 +54,9 @@ IsRankedBy routes k = IsRanked (λ m c t o. IsTrue (permits routes m c t o)) rou
 abbrev pub IsRankedRule : Routing → (ℕ → ℕ → ℕ → Option ℕ) → Type 0
 IsRankedRule g ranks = IsRanked (IsPermitted g) g.grid ranks
 
--- each link channel of a relation has a rank
-abbrev pub AreAllRanked : Routes → (ℕ → ℕ → ℕ → Option ℕ) → Type 0
-AreAllRanked routes ranks = (r p v : ℕ) → is_channel routes.grid routes.vcs r p v ≡ true → (n : ℕ) × (ranks r p v ≡ Some n)
+-- each link channel of a shape with this many channels per link has a rank
+abbrev pub AreAllRanked : Grid → ℕ → (ℕ → ℕ → ℕ → Option ℕ) → Type 0
+AreAllRanked g vcs ranks = (r p v : ℕ) → is_channel g vcs r p v ≡ true → is_some (ranks r p v) ≡ true
 
 -- ranks rise with each permitted step from a link channel with a rank to another
 abbrev pub IsRising : Routes → (ℕ → ℕ → ℕ → Option ℕ) → Type 0

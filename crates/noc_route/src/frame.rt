@@ -7,8 +7,10 @@ ghost use Rattle.noc_route.specs.Relation.{is_in_block, resource_class, escapes,
 ghost use Rattle.noc_route.specs.Routes.{width, pages, page_of, place_of, page_class, page_router, page_dst};
 
 use crate::rule::Rule;
-use noc_packet::{MAX_CHANNELS, MAX_CLASSES};
+use noc_packet::{MAX_CHANNELS, MAX_CLASSES, MAX_NODES, MAX_PORTS};
 use noc_topo::{Kind, Shape};
+
+const _: () = prove!(noc_topo::MAX_NODES == MAX_NODES && noc_topo::MAX_PORTS == MAX_PORTS);
 
 /// A shape with its numbers of channels per link and of classes.
 #[derive(Clone, Copy, Debug)]
@@ -153,22 +155,18 @@ pub fn resource_class(vcs: usize, classes: usize, vc: usize) -> usize
     vc % block / (block / 2)
 }
 
-/// Whether the shape is a torus.
-pub fn is_torus(shape: &Shape) -> bool
-    ensures { result ≡ shape.now.wraps }
-{
-    shape.kind() == Kind::Torus
-}
-
 /// How many channels of each class, its lowest, are escape channels of the rule `Adaptive`: 1 on a mesh, 2 on a torus.
 pub fn escapes(shape: &Shape) -> usize
     ensures value { result ≡ escapes shape.now }
     ensures few { result ≤ 2 }
 {
-    if is_torus(shape) { 2 } else { 1 }
+    match shape.kind() {
+        Kind::Mesh => 1,
+        Kind::Torus => 2,
+    }
 }
 
-/// Whether a relation can be made of these numbers and this rule: 1 to 4 channels and classes, the classes divide the
+/// Whether a relation can be made of these numbers and this rule: 1 to 8 channels, 1 to 4 classes, the classes divide the
 /// channels, and the rule fits them and the shape (docs/MODEL.md).
 pub fn is_right(shape: &Shape, vcs: usize, classes: usize, rule: &Rule) -> bool
     ensures value { result ≡ is_right shape.now vcs classes rule.now }
@@ -182,8 +180,8 @@ pub fn is_right(shape: &Shape, vcs: usize, classes: usize, rule: &Rule) -> bool
     }
     match rule {
         Rule::Dor | Rule::Rows(_) => true,
-        Rule::Dateline => is_torus(shape) && vcs % (2 * classes) == 0,
-        Rule::WestFirst => !is_torus(shape) && shape.dimensions() == 2,
+        Rule::Dateline => shape.kind() == Kind::Torus && vcs % (2 * classes) == 0,
+        Rule::WestFirst => shape.kind() == Kind::Mesh && shape.dimensions() == 2,
         Rule::Adaptive => vcs / classes > escapes(shape),
     }
 }

@@ -4,18 +4,17 @@ ghost use Rattle.std.specs.Prelude.{◌≡◌, ℕ, Option, Some, None, ◌+◌,
 ghost use Rattle.noc_topo.specs.Shape.{Grid, IsGrid, nodes, ports, local_port, neighbour, distance, coordinates, padded};
 ghost use Rattle.noc_route.specs.Relation.{goes_up};
 
-use crate::frame::{Frame, is_torus};
+use crate::frame::Frame;
+use noc_topo::Kind;
 use std::alloc::{AllocError, Global};
 
 /// A frame with each link and each distance of its shape.
 #[derive(Debug, Drop)]
 pub struct Map {
     pub frame: Frame,
-    torus: bool,
     last: [usize; 3],
     links: Vec<Option<(usize, usize)>>,
     apart: Vec<usize>,
-    ghost ends: { torus ≡ frame.shape.wraps },
     ghost corner: { last ≡ padded (coordinates frame.shape.radix (nodes frame.shape - 1)) },
     ghost small: { EachIndex last (λ i. slice_index last i < 16) },
     ghost all_links: { vec_len links ≡ nodes frame.shape * ports frame.shape },
@@ -33,7 +32,6 @@ impl Map {
         let apart = distances_of(alloc, &frame)?;
         Ok(Map {
             frame,
-            torus: is_torus(&frame.shape),
             last: frame.shape.coordinates(frame.node_count - 1),
             links,
             apart,
@@ -68,7 +66,7 @@ impl Map {
         requires t { t ≤ slice_index self.now.last i }
         ensures { result ≡ goes_up self.now.frame.shape.wraps (slice_index self.now.last i + 1) x t }
     {
-        if !self.torus {
+        if self.frame.shape.kind() == Kind::Mesh {
             return x < t;
         }
         let size = self.last[i] + 1;

@@ -7,10 +7,11 @@ ghost use Rattle.noc_route.specs.Entered.{routing_in, IsWay};
 ghost use Rattle.noc_route.specs.Relation.{is_right, is_led, dor_port, is_nearer, takes_port, takes_channel, place_in_class, is_escape_taken, dateline_class, is_west_first};
 ghost use Rattle.noc_route.specs.Routes.{width};
 
-use crate::frame::{Frame, escapes, is_torus, resource_class};
+use crate::frame::{Frame, escapes, resource_class};
 use crate::map::Map;
 use crate::rule::Rule;
 use noc_packet::ChannelSet;
+use noc_topo::Kind;
 
 /// The output channels by which a rule by coordinates leads a packet of this class, at this router and bound for `dst`;
 /// none by a table.
@@ -125,10 +126,9 @@ impl Way {
         if self.towards != Some(port) {
             return false;
         }
-        let taken = if is_torus(&frame.shape) {
-            self.dateline_class(port)
-        } else {
-            0
+        let taken = match frame.shape.kind() {
+            Kind::Mesh => 0,
+            Kind::Torus => self.dateline_class(port),
         };
         place == taken
     }

@@ -2,7 +2,7 @@
 
 ghost use Rattle.std.specs.Prelude.{◌≡◌, ◌<◌, MatchResult, IfOk, IfErr, OnOk, All, None, true, length, ◌*◌, ℕ, slice_index};
 ghost use Rattle.noc_topo.specs.Shape.{nodes, ports};
-ghost use Rattle.noc_route.specs.Built.{routing_of, IsRelationOf};
+ghost use Rattle.noc_route.specs.Built.{routing_of, IsRelationOfRule};
 ghost use Rattle.noc_route.specs.Entered.{routing_in, IsEntered};
 ghost use Rattle.noc_route.specs.Relation.{is_right, rows_of, row_fault, IsFirstFault, IsFaultOf};
 ghost use Rattle.noc_route.specs.Routes.{set_at, IsRelation, pages, width};
@@ -51,7 +51,7 @@ impl Relation {
         classes: usize,
         rule: Rule,
     ) -> Result<Relation, RouteFault>
-        ensures exact { let g = routing_of shape.now vcs classes rule in MatchResult result (IsRelationOf g) (IsFaultOf g) }
+        ensures exact { let g = routing_of shape.now vcs classes rule in MatchResult result (IsRelationOfRule g) (IsFaultOf g) }
         ensures built { IfOk result IsRelation }
     {
         let Some(frame) = Frame::of(shape, vcs, classes, &rule) else {
@@ -122,7 +122,7 @@ fn fill(
     requires outs { length outs.old ≡ pages map.now.frame.shape map.now.frame.classes }
     requires empty { (j : ℕ) → slice_index sets.old j ≡ 0 }
     requires unused { (j : ℕ) → slice_index outs.old j ≡ 0 }
-    ensures { MatchResult result (λ _. IsRelationOf (routing_in map.now.frame rule.now) (routes_in map.now.frame sets.new)) (IsFaultOf (routing_in map.now.frame rule.now)) }
+    ensures { MatchResult result (λ _. IsRelationOfRule (routing_in map.now.frame rule.now) (routes_in map.now.frame sets.new)) (IsFaultOf (routing_in map.now.frame rule.now)) }
 {
     enter(map, rule, sets)?;
     gather(map, sets, outs);

@@ -1,5 +1,5 @@
 -- What one router can see, and one cycle of it over any beats (docs/MODEL.md, "One router"; Dally and Towles, chapter 16).
-use Rattle.std.specs.Prelude.{◌≡◌, ℕ, ◌+◌, ◌-◌, ◌*◌, ◌/◌, ◌%◌, ◌^◌, Bool, true, false, ◌&&◌, ◌||◌, not, List, [], ◌∷◌, ◌++◌, map, drop, find, sum, length, Option, Some, None, option_map, option_and_then, is_some, is_none, unwrap_or, slice_get, slice_index, slice_index_or, slice_set, min, nat_eq, nat_lt, nat_le, if◌then◌else◌, replicate}
+use Rattle.std.specs.Prelude.{◌≡◌, ℕ, ◌+◌, ◌-◌, ◌*◌, ◌/◌, ◌%◌, ◌^◌, Bool, true, false, ◌&&◌, ◌||◌, not, List, [], ◌∷◌, ◌++◌, map, drop, find, sum, length, Option, Some, None, option_map, option_and_then, is_some, unwrap_or, slice_get, slice_index, slice_index_or, slice_set, min, nat_lt, nat_le, if◌then◌else◌, replicate}
 use Rattle.std.specs.List.{list_any}
 use Rattle.noc_topo.specs.Words.{below, tabulate, map_indexed, is_some_of}
 use Rattle.noc_topo.specs.Shape.{Grid, ports, local_port, neighbour}
@@ -13,6 +13,7 @@ use Rattle.noc_vc.specs.Input.{Input, idle_input, is_idle_phase, is_empty, fits,
 use Rattle.noc_vc.specs.Output.{Output, link_output, ejection_output, is_free, credit_fits, credited, has_credit, held, spent}
 use Rattle.noc_vc.specs.declared.input.InputState.{InputState}
 use Rattle.noc_vc.specs.declared.input.InputState.TheVariants.{Idle, Waiting, Active}
+use Rattle.noc_router.specs.Arrivals.{is_expected_in, noted}
 use Rattle.noc_router.specs.Verdict.{Turns, opening_arbiters, Claim, Unrouted, Waits, Holds, Stand, ask_of, asks_of, out_of, Round, round_of, verdict_of, is_moved, is_event, column, arbiters_after}
 use Rattle.noc_router.specs.declared.verdict.Verdict.{Verdict}
 use Rattle.noc_router.specs.declared.verdict.Verdict.TheVariants.{Empty, Routed, Granted, Moved}
@@ -319,8 +320,7 @@ tail_packet (Some (vc, f)) = if f.last then Some f.packet else None
 abbrev pub with_arrival : Option ℕ → View → View
 with_arrival None v = v
 with_arrival (Some p) v =
-    if list_any (λ (one : ℕ × Option ℕ). nat_eq one.0 p && is_none one.1) v.ends
-    then record v { ends = map (λ (one : ℕ × Option ℕ). (one.0, if nat_eq one.0 p then Some v.given else one.1)) v.ends }
+    if is_expected_in p v.ends then record v { ends = noted p v.given v.ends }
     else with_misfit v
 
 -- one more cycle with this verdict; where the ten counts add up to the greatest number of 64 bits, none rises any more

@@ -1,6 +1,7 @@
 -- Nodes, ports, links and distances of a mesh or a torus.
 use Rattle.std.specs.Prelude.{◌≡◌, ℕ, ◌+◌, ◌-◌, ◌*◌, ◌/◌, ◌%◌, ◌<◌, ◌≤◌, min, Bool, true, false, ◌&&◌, not, List, [], ◌∷◌, length, Option, Some, None, Result, Ok, Err, option_map, nat_eq, nat_lt, nat_le, slice_index, slice_set, if◌then◌else◌}
 use Rattle.std.specs.List.{list_all}
+use Rattle.noc_topo.specs.declared.limits.TheConstants.{MAX_DIMENSIONS, MAX_RADIX, MAX_NODES}
 use Rattle.noc_topo.specs.declared.shape.Kind.{Kind}
 use Rattle.noc_topo.specs.declared.shape.Kind.TheVariants.{Mesh, Torus}
 use Rattle.noc_topo.specs.declared.shape.ShapeFault.{ShapeFault}
@@ -28,16 +29,16 @@ local_port g = 2 * dimensions g
 abbrev pub ports : Grid → ℕ
 ports g = 2 * dimensions g + 1
 
--- a radix is 2 to 16
+-- a radix is 2 to MAX_RADIX
 abbrev pub is_radix : ℕ → Bool
-is_radix k = nat_le 2 k && nat_le k 16
+is_radix k = nat_le 2 k && nat_le k MAX_RADIX
 
--- 1 to 3 dimensions, each radix 2 to 16, and at most 256 nodes
+-- a dimension or more, each of a radix, within the limits
 pub record IsGrid (g : Grid) : Type 0 where
   pub some_dimensions : 1 ≤ length g.radix
-  pub few_dimensions : length g.radix ≤ 3
+  pub few_dimensions : length g.radix ≤ MAX_DIMENSIONS
   pub sizes : list_all is_radix g.radix ≡ true
-  pub few_nodes : product g.radix ≤ 256
+  pub few_nodes : product g.radix ≤ MAX_NODES
 
 abbrev pub wraps_of : Kind → Bool
 wraps_of Mesh = false
@@ -46,9 +47,9 @@ wraps_of Torus = true
 -- the shape of these sizes, or the first fault: dimensions, then sizes, then nodes
 abbrev pub shape_of : Kind → List ℕ → Result Grid ShapeFault
 shape_of kind ks =
-    if not (nat_le 1 (length ks) && nat_le (length ks) 3) then Err BadDimensions
+    if not (nat_le 1 (length ks) && nat_le (length ks) MAX_DIMENSIONS) then Err BadDimensions
     else (if not (list_all is_radix ks) then Err BadRadix
-    else (if nat_lt 256 (product ks) then Err TooManyNodes
+    else (if nat_lt MAX_NODES (product ks) then Err TooManyNodes
     else Ok (record { wraps = wraps_of kind; radix = ks })))
 
 -- the node with these coordinates, x0 + k0*(x1 + k1*x2)

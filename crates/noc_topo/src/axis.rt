@@ -4,11 +4,14 @@ ghost use Rattle.std.specs.Prelude.{◌≡◌, ℕ, ◌<◌, ◌≤◌, IfSome, 
 ghost use Rattle.std.specs.List.{list_all};
 ghost use Rattle.noc_topo.specs.Filled.{filled};
 ghost use Rattle.noc_topo.specs.Shape.{is_radix, product, coordinates, node_at, moved_in, distance_in, is_plus, opposite};
+ghost use Rattle.noc_topo.specs.declared.limits.TheConstants.{MAX_DIMENSIONS};
+
+use crate::limits::MAX_RADIX;
 
 /// The sizes of all three dimensions, 1 where one is missing.
 pub fn filled_sizes(radix: &[usize]) -> [usize; 3]
     requires some { 1 ≤ length radix.now }
-    requires few { length radix.now ≤ 3 }
+    requires few { length radix.now ≤ MAX_DIMENSIONS }
     ensures { result ≡ filled radix.now }
 {
     match *radix {
@@ -19,16 +22,16 @@ pub fn filled_sizes(radix: &[usize]) -> [usize; 3]
     }
 }
 
-/// Whether each size is 2 to 16.
+/// Whether each size is 2 to `MAX_RADIX`.
 pub fn are_radices(radix: &[usize]) -> bool
     ensures { result ≡ list_all is_radix radix.now }
 {
-    radix.iter().all(|k| 2 <= *k && *k <= 16)
+    radix.iter().all(|k| 2 <= *k && *k <= MAX_RADIX)
 }
 
 /// How many nodes three sizes have.
 pub fn volume(sizes: &[usize; 3]) -> usize
-    requires { EachIndex sizes.now (λ i. slice_index sizes.now i ≤ 16) }
+    requires { EachIndex sizes.now (λ i. slice_index sizes.now i ≤ MAX_RADIX) }
     ensures { result ≡ product sizes.now }
 {
     sizes[0] * sizes[1] * sizes[2]
@@ -95,8 +98,8 @@ pub fn split(sizes: &[usize; 3], node: usize) -> [usize; 3]
 
 /// The node at three coordinates.
 pub fn join(sizes: &[usize; 3], place: &[usize; 3]) -> usize
-    requires sizes { EachIndex sizes.now (λ i. slice_index sizes.now i ≤ 16) }
-    requires place { EachIndex place.now (λ i. slice_index place.now i < 16) }
+    requires sizes { EachIndex sizes.now (λ i. slice_index sizes.now i ≤ MAX_RADIX) }
+    requires place { EachIndex place.now (λ i. slice_index place.now i < MAX_RADIX) }
     ensures { result ≡ node_at sizes.now place.now }
 {
     place[0] + sizes[0] * (place[1] + sizes[1] * place[2])

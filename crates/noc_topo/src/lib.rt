@@ -2,6 +2,8 @@
 #![tactic(auto)]
 
 mod axis;
+mod limits;
 mod shape;
 
-pub use shape::{Kind, MAX_DISTANCE, Shape, ShapeFault, links_are_mutual};
+pub use limits::{MAX_DIMENSIONS, MAX_DISTANCE, MAX_NODES, MAX_PORTS, MAX_RADIX};
+pub use shape::{Kind, Shape, ShapeFault, links_are_mutual};

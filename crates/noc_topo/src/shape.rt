@@ -4,10 +4,8 @@ ghost use Rattle.std.specs.Prelude.{◌≡◌, ℕ, ◌+◌, ◌<◌, ◌≤◌,
 ghost use Rattle.noc_topo.specs.Shape.{Grid, IsGrid, IsLinkBack, shape_of, wraps_of, nodes, dimensions, ports, local_port, padded, coordinates, distance, neighbour};
 
 use crate::axis;
+use crate::limits::{MAX_DIMENSIONS, MAX_DISTANCE, MAX_NODES, MAX_PORTS, MAX_RADIX};
 use std::marker::Model;
-
-/// The most hops that the shortest way between two nodes has, from corner to corner of a mesh of 16 by 16.
-pub const MAX_DISTANCE: usize = 30;
 
 /// What a dimension's two ends are: borders (a mesh) or joined (a torus). Dally and Towles, chapter 3.
 #[derive(Clone, Copy, Debug, PartialEq, Eq)]
@@ -19,11 +17,11 @@ pub enum Kind {
 /// Why sizes make no shape.
 #[derive(Clone, Copy, Debug, PartialEq, Eq)]
 pub enum ShapeFault {
-    /// Not 1 to 3 dimensions.
+    /// Not 1 to `MAX_DIMENSIONS` dimensions.
     BadDimensions,
-    /// A radix is not 2 to 16.
+    /// A radix is not 2 to `MAX_RADIX`.
     BadRadix,
-    /// More than 256 nodes.
+    /// More than `MAX_NODES` nodes.
     TooManyNodes,
 }
 
@@ -66,14 +64,14 @@ impl Shape {
         ensures value { result ≡ shape_of kind radix.now }
         ensures grid { IfOk result IsGrid }
     {
-        if radix.is_empty() || radix.len() > 3 {
+        if radix.is_empty() || radix.len() > MAX_DIMENSIONS {
             return Err(ShapeFault::BadDimensions);
         }
         if !axis::are_radices(radix) {
             return Err(ShapeFault::BadRadix);
         }
         let sizes = axis::filled_sizes(radix);
-        if axis::volume(&sizes) > 256 {
+        if axis::volume(&sizes) > MAX_NODES {
             return Err(ShapeFault::TooManyNodes);
         }
         Ok(Shape {
@@ -95,7 +93,7 @@ impl Shape {
         requires { dimension < dimensions self.now }
         ensures value { result ≡ slice_index self.now.radix dimension }
         ensures some { 2 ≤ result }
-        ensures few { result ≤ 16 }
+        ensures few { result ≤ MAX_RADIX }
         ensures grid { IsGrid self.now }
     {
         let sizes = &self.sizes;
@@ -106,7 +104,7 @@ impl Shape {
     pub fn nodes(&self) -> usize
         ensures value { result ≡ nodes self.now }
         ensures some { 2 ≤ result }
-        ensures few { result ≤ 256 }
+        ensures few { result ≤ MAX_NODES }
         ensures grid { IsGrid self.now }
     {
         axis::volume(&self.sizes)
@@ -116,7 +114,7 @@ impl Shape {
     pub fn dimensions(&self) -> usize
         ensures value { result ≡ dimensions self.now }
         ensures some { 1 ≤ result }
-        ensures few { result ≤ 3 }
+        ensures few { result ≤ MAX_DIMENSIONS }
         ensures grid { IsGrid self.now }
     {
         self.count
@@ -127,7 +125,7 @@ impl Shape {
         ensures value { result ≡ ports self.now }
         ensures local { result ≡ local_port self.now + 1 }
         ensures some { 3 ≤ result }
-        ensures few { result ≤ 7 }
+        ensures few { result ≤ MAX_PORTS }
         ensures grid { IsGrid self.now }
     {
         2 * self.count + 1
@@ -137,7 +135,7 @@ impl Shape {
     pub fn coordinates(&self, node: usize) -> [usize; 3]
         requires { node < nodes self.now }
         ensures value { result ≡ padded (coordinates self.now.radix node) }
-        ensures range { EachIndex result (λ i. slice_index result i < 16) }
+        ensures range { EachIndex result (λ i. slice_index result i < MAX_RADIX) }
         ensures grid { IsGrid self.now }
     {
         axis::split(&self.sizes, node)

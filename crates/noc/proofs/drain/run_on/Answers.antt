@@ -10,9 +10,9 @@ loop-cycles-preserved c =
     let some = c.in-Some.ensures.some in
     record {
       net = ap (λ (u : Run). u.net) c.run.ensures.value ∙ c.loop-cycles.invariant.net;
-      on = goes-on first now c.limit-limit.result c.loop-cycles.invariant.net c.limit-limit.ensures.value c.loop-cycles.invariant.on c.run.new.self c.in-Some.cycles some.0 some.1 some.2 c.run.ensures.value;
+      on = goes-on first now c.limit-limit.result c.loop-cycles.invariant.net c.loop-cycles.invariant.on c.run.new.self c.in-Some.cycles some.0 some.1 some.2 c.run.ensures.value;
     }
 
 pub returns-clause-end : goal.returns-clause-end
 returns-clause-end c =
-    goes-to c.args.network.now c.loop-cycles.network c.limit-limit.result c.loop-cycles.invariant.net c.limit-limit.ensures.value c.loop-cycles.invariant.on c.in_default.ensures.none
+    goes-to c.args.network.now c.loop-cycles.network c.limit-limit.result c.loop-cycles.invariant.net c.loop-cycles.invariant.on c.limit-limit.ensures.value c.in_default.ensures.none

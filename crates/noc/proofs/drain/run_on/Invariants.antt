@@ -1,12 +1,12 @@
 use Rattle.std.proofs.Common.{◌≡◌, ℕ, ◌-◌}
-use Rattle.noc.specs.Drain.{DrainsAt}
+use Rattle.noc.specs.Drain.{DrainsBy}
 use Rattle.noc.proofs.drain.run_on.Given as goal
 
 -- where the run drains from here, it drains from where it began
 abbrev pub invariant-loop-cycles : goal.invariant-loop-cycles
 invariant-loop-cycles l = record {
   net : l.network.net ≡ l.initial.network.net;
-  on : (end : ℕ) → DrainsAt l.initial.network.net l.network.count end → DrainsAt l.initial.network.net l.initial.network.count end;
+  on : (end : ℕ) → DrainsBy l.initial.network.net l.limit l.network.count end → DrainsBy l.initial.network.net l.limit l.initial.network.count end;
 }
 
 abbrev pub decreases-loop-cycles : goal.decreases-loop-cycles

@@ -11,9 +11,9 @@ loop-cycles-preserved g c =
     let ran = c.in_ok-network.ensures.net in
     record {
       net = ap (λ (u : Run). u.net) ran ∙ c.loop-cycles.invariant.net;
-      on = goes-on first now c.limit-limit.result c.loop-cycles.invariant.net c.limit-limit.ensures.value c.loop-cycles.invariant.on c.in_ok-network.network c.in-Some.cycles some.0 some.1 some.2 ran;
+      on = goes-on first now c.limit-limit.result c.loop-cycles.invariant.net c.loop-cycles.invariant.on c.in_ok-network.network c.in-Some.cycles some.0 some.1 some.2 ran;
     }
 
 pub returns-clause-end : goal.returns-clause-end
 returns-clause-end g c =
-    goes-to c.args.network c.loop-cycles.network c.limit-limit.result c.loop-cycles.invariant.net c.limit-limit.ensures.value c.loop-cycles.invariant.on c.in_default.ensures.none
+    goes-to c.args.network c.loop-cycles.network c.limit-limit.result c.loop-cycles.invariant.net c.loop-cycles.invariant.on c.limit-limit.ensures.value c.in_default.ensures.none

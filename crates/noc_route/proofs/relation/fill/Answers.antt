@@ -3,7 +3,7 @@ use Rattle.std.proofs.lemmas.Result.{err_from_is_err_and}
 use Rattle.noc_route.specs.Entered.{routing_in}
 use Rattle.noc_route.specs.Trimming.{routes_in, IsStuckFirst}
 use Rattle.noc_route.proofs.BuiltLemmas.{ComesNearer-entered}
-use Rattle.noc_route.proofs.NoWayLemmas.{IsFaultOf-row, IsMade-steps, IsRelationOf-made, IsFirstNoWay-stuck, IsUnstuck-none}
+use Rattle.noc_route.proofs.NoWayLemmas.{IsFaultOf-row, IsMade-steps, IsRelationOfRule-made, IsFirstNoWay-stuck, IsUnstuck-none}
 use Rattle.noc_route.proofs.relation.fill.Goals as goal
 
 pub returns-in_err-enter : goal.returns-in_err-enter
@@ -31,7 +31,7 @@ returns-in-None c =
     let made = IsMade-steps g c.enter.new.sets c.trim.new.sets c.gather.new.outs f.grid c.requires.right c.in_ok-enter.ensures.ok c.in_ok-enter.ensures.entered
     c.gather.ensures.sound c.gather.ensures.full c.trim.ensures.left in
     let unstuck = IsUnstuck-none g c.trim.new.sets c.gather.new.outs (length c.enter.new.sets) (c.enter.auto.sets ∙ c.requires.sets) c.in-None.ensures.first in
-    IsRelationOf-made g c.enter.new.sets c.trim.new.sets c.gather.new.outs made unstuck
+    IsRelationOfRule-made g c.enter.new.sets c.trim.new.sets c.gather.new.outs made unstuck
     (record {
       grid = f.grid;
       some_vcs = f.some_vcs;

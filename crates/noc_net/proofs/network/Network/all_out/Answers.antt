@@ -27,4 +27,4 @@ returns-clause-value c =
     sym (all_all (is_out u) (length u.net.packets) c.loop-number.number (omega (arith, c.packets-number-end.ensures.value)) c.loop-number.invariant)
 
 pub returns-clause-ranked : goal.returns-clause-ranked
-returns-clause-ranked c = λ ranks ranked late. refl
+returns-clause-ranked c = λ ranks limit ranked is late. refl

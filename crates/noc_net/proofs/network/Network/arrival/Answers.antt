@@ -30,7 +30,7 @@ returns-clause-value c =
     c.arrival.ensures ∙ ap noted router ∙ ap (λ (p : Packet). noted (view_at u.net u.count p.destination)) packet ∙ arrival-noted u.net u.count c.args.number c.requires
 
 pub returns-clause-ranked : goal.returns-clause-ranked
-returns-clause-ranked c = λ ranks ranked late.
+returns-clause-ranked c = λ ranks limit ranked is late.
     let good = subst (λ (u : Run). IsGoodSetup u.net) c.self.view_is c.self.invariant.good in
-    let one = arrives c.args.self.now.net good ranks ranked c.args.self.now.count late c.args.number c.requires in
+    let one = arrives c.args.self.now.net good ranks ranked limit is c.args.self.now.count late c.args.number c.requires in
     (one.0, returns-clause-value c ∙ one.1, one.2)

@@ -1,4 +1,4 @@
-use Rattle.std.proofs.Common.{◌≡◌, ℕ, ◌+◌, ◌*◌, length, ap, ap₂, sym, ◌∙◌, arith}
+use Rattle.std.proofs.Common.{ℕ, ◌+◌, ◌*◌, length, ap₂, sym, ◌∙◌, arith}
 use Rattle.noc_model.specs.Network.{Run, packet_at}
 use Rattle.noc_model.specs.Progress.{hops}
 use Rattle.noc_net.proofs.LimitLemmas.{sum_more, sum_all}

@@ -1,12 +1,20 @@
-use Rattle.std.proofs.Common.{◌≡◌, ◌≤◌, ℕ, ap, sym, ◌∙◌, arith, max}
-use Rattle.noc_packet.specs.declared.packet.Packet.{Packet}
-use Rattle.noc_net.proofs.LimitLemmas.{due_more, packet-good}
+use Rattle.std.proofs.Common.{◌+◌, ℕ, sym, subst, arith}
+use Rattle.noc_net.specs.Limit.{IsLastDue}
+use Rattle.noc_net.proofs.LimitLemmas.{IsLastBefore, last-all, last-more, last-opening, packet-good}
 use Rattle.noc_net.proofs.network.Network.last_due.Goals as goal
+
+pub loop-number-init : goal.loop-number-init
+loop-number-init c = (last-opening c.args.self.now.net.packets, omega arith)
 
 pub loop-number-preserved : goal.loop-number-preserved
 loop-number-preserved c =
     let net = c.args.self.now.net in
     let good = packet-good net c.packets-number-end.ensures.good c.loop-number.number c.packet.result (omega (arith, c.packets-number-end.ensures.value)) c.packet.ensures in (
-      c.max-last.ensures ∙ ap (λ n. max n c.packet.result.due) c.loop-number.invariant.0 ∙ sym (due_more net.packets c.loop-number.number c.packet.result c.packet.ensures),
+      subst (λ (last : ℕ). IsLastBefore net.packets (c.loop-number.number + 1) last) (sym c.max-last.ensures) (last-more net.packets c.loop-number.number c.loop-number.last c.packet.result c.packet.ensures c.loop-number.invariant.0),
       omega (arith, c.loop-number.invariant.1, good.due, c.max-last.ensures),
     )
+
+pub returns-clause-value : goal.returns-clause-value
+returns-clause-value c =
+    let all = c.packets-number-end.ensures.value in
+    subst (IsLastDue c.args.self.now.net.packets) (sym c.from.ensures) (last-all c.args.self.now.net.packets c.loop-number.number c.loop-number.last (omega (arith, all)) c.loop-number.invariant.0)

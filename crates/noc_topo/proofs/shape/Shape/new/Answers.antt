@@ -11,8 +11,8 @@ volume-requires c =
     let sizes : list_all is_radix c.args.radix.now ≡ true = cc in
     rw c.filled_sizes-sizes.ensures (λ i l. (filled-sizes c.args.radix.now some few sizes i (omega (arith, length-filled c.args.radix.now))).1)
 
-pub returns-then-volume-gt256-clause-value : goal.returns-then-volume-gt256-clause-value
-returns-then-volume-gt256-clause-value c =
+pub returns-then-volume-gt-MAX_NODES-clause-value : goal.returns-then-volume-gt-MAX_NODES-clause-value
+returns-then-volume-gt-MAX_NODES-clause-value c =
     let few : length c.args.radix.now ≤ 3 = omega arith in
     let some : 1 ≤ length c.args.radix.now = grind arith in
     let sizes : list_all is_radix c.args.radix.now ≡ true = cc in
