@@ -2,7 +2,7 @@
 
 ghost use Rattle.std.specs.Prelude.{◌≡◌, ◌∷◌, [], IfOk, false, length};
 
-use super::*;
+use noc_net::{Core, Event, Network};
 use noc_packet::Packet;
 use noc_route::{Relation, Rule};
 use noc_topo::{Kind, Shape};
@@ -172,6 +172,3 @@ fn nothing_is_found_before_a_decide(rt: HostRuntime) {
     );
     assert_eq!(rt; core.findings(0).len(), 3);
 }
-
-mod jumps;
-mod one_router;

@@ -1,5 +1,5 @@
 use Rattle.std.proofs.Common.{◌≡◌, ◌+◌}
-use Rattle.noc_net.proofs.tests.jumps.step.Given as goal
+use Rattle.noc_network_tests.proofs.jumps.step.Given as goal
 
 -- the cycles so far
 abbrev pub invariant-loop : goal.invariant-loop

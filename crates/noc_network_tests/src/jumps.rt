@@ -1,9 +1,10 @@
 //! Runs in which time jumps, with the counts that are worked out by hand.
 
 ghost use Rattle.std.specs.Prelude.{◌≡◌, ◌+◌, ◌<◌, ◌≤◌, IfOk};
+ghost use Rattle.noc_model.specs.declared.limits.TheConstants.{CYCLE_LIMIT as cycle_limit};
 ghost use Rattle.noc_topo.specs.Shape.{nodes as nodes_of, ports as ports_of};
 
-use super::*;
+use noc_net::Network;
 use noc_packet::Packet;
 use noc_route::{Relation, Rule};
 use noc_router::Verdict;
@@ -85,7 +86,7 @@ fn late_packet(rt: &impl Abort, alloc: Global) -> Result<Network, Fail>
 
 /// So many cycles, each by itself, in which no time jumps.
 fn step(network: &mut Network, cycles: u64)
-    requires { network.old.count + cycles ≤ CYCLE_LIMIT }
+    requires { network.old.count + cycles ≤ cycle_limit }
     ensures { network.new ≡ record network.old { count = network.old.count + cycles } }
 {
     for _ in 0..cycles {

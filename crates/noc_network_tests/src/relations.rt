@@ -1,10 +1,9 @@
 //! Small relations.
 
-use super::*;
-use crate::rule::{Entry, RouteRow};
 use noc_packet::INDICES;
-use noc_topo::Kind;
-use std::alloc::AllocError;
+use noc_route::{Entry, Relation, RouteFault, RouteRow, Rule};
+use noc_topo::{Kind, Shape};
+use std::alloc::{AllocError, Global};
 use std::process::Abort;
 
 /// A shape that exists.

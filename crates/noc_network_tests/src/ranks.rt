@@ -1,8 +1,7 @@
 //! Ranks and relations whose answers are known.
 ghost use Rattle.std.specs.Prelude.{◌≡◌, IfOk};
 
-use super::*;
-use crate::place::is_channel;
+use noc_rank::{Accepted, LinkChannel, RankFault, RankRow, Ranks, check};
 use noc_route::{Entry, Relation, Rule};
 use noc_topo::{Kind, Shape};
 use std::alloc::Global;
@@ -47,7 +46,8 @@ fn rank(
     requires grid { ranks.now.grid ≡ shape.now }
     requires vcs { ranks.now.vcs ≡ vcs }
 {
-    assert!(rt; is_channel(shape, vcs, router, port, vc));
+    assert!(rt; router < shape.nodes() && port < shape.ports() - 1 && vc < vcs);
+    assert!(rt; shape.neighbour(router, port).is_some());
     ranks.rank(router, port, vc)
 }
 
