@@ -30,7 +30,8 @@ fn written(alloc: Global, ranks: &Ranks, shape: &Shape, vcs: usize) -> Result<Ve
 #[test]
 fn the_rows_of_a_rank_file(rt: HostRuntime) -> Result<(), Fail> {
     let plane = Shape::new(Kind::Mesh, &[2, 2])?;
-    let text = b"router,port,vc,rank\n0,+0,0,1\n3,-1,2,1000000\n4294967295,local,007,0\n1,-0,0,adaptive\n";
+    let text =
+        b"router,port,vc,rank\n0,+0,0,1\n3,-1,2,1000000\n4294967295,local,007,0\n1,-0,0,adaptive\n";
     let rows = read_ranks(rt.alloc(), &plane, text)?;
     let want = [
         RankRow {
