@@ -47,10 +47,13 @@ pub(crate) struct Channels {
     supplied: ChannelSet,
     // The output channels that are idle.
     idle: ChannelSet,
+    // All channels.
+    every: ChannelSet,
     bank: Bank,
     inputs: Vec<InputChannel>,
     outputs: Vec<OutputChannel>,
     ghost few: { size ≤ INDICES },
+    ghost every_one: { (k : ℕ) → has_bit every k ≡ nat_lt k size },
     ghost a_ring_each: { length bank.rings ≡ size },
     ghost an_input_each: { vec_len inputs ≡ size },
     ghost an_output_each: { vec_len outputs ≡ size },
@@ -90,6 +93,7 @@ impl Channels {
             active: ChannelSet::empty(),
             supplied: ChannelSet::empty(),
             idle: all_channels(size),
+            every: all_channels(size),
             bank,
             inputs,
             outputs,
@@ -103,6 +107,13 @@ impl Channels {
         ensures vacant { (i : ℕ) → i < self.now.size → has_bit result i ≡ false → (input_at self.now.inputs.items i).packet ≡ None }
     {
         self.filled.either(self.waiting).either(self.active)
+    }
+
+    // The input channels that are idle with an empty buffer.
+    pub(crate) fn vacant(&self) -> ChannelSet
+        ensures { (i : ℕ) → has_bit result i ≡ (nat_lt i self.now.size && (is_idle_phase (input_at self.now.inputs.items i).phase && is_empty (ring_at self.now.bank i))) }
+    {
+        self.every.less(self.occupied())
     }
 
     // What the input channels that hold something can go on with.
@@ -250,14 +261,6 @@ impl Channels {
         ensures { result ≡ nat_lt (length (ring_at self.now.bank index)) self.now.bank.capacity }
     {
         !self.bank.is_full(index)
-    }
-
-    // Whether an input channel is idle and its buffer is empty.
-    pub(crate) fn is_vacant(&self, index: usize) -> bool
-        requires { index < self.now.size }
-        ensures { result ≡ (is_idle_phase (input_at self.now.inputs.items index).phase && is_empty (ring_at self.now.bank index)) }
-    {
-        self.inputs[index].state() == InputState::Idle && self.bank.len(index) == 0
     }
 
     // The first flit in the buffer of an input channel.

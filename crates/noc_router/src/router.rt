@@ -217,12 +217,9 @@ impl Router {
         ensures within { IfSome result (λ vc. vc < self.now.site.vcs) }
         ensures empty { IfSome result (λ vc. is_empty (view_buffer self.now (local_channel self.now.site vc)) ≡ true) }
     {
-        for vc in 0..self.vcs {
-            if self.channels.is_vacant((self.ports - 1) * self.vcs + vc) {
-                return Some(vc);
-            }
-        }
-        None
+        let first = (self.ports - 1) * self.vcs;
+        let index = self.channels.vacant().least_from(first)?;
+        Some(index - first)
     }
 
     /// Writes into `plan` what every input channel asks for and what the arbiters decide. Nothing changes here.
