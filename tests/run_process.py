@@ -12,6 +12,7 @@ import fcntl
 import os
 import resource
 import shutil
+import socket
 import subprocess
 import sys
 import tempfile
@@ -22,6 +23,7 @@ from pathlib import Path
 from cut_texts import cut_texts
 from fault_lines import status_of
 from refused_growth import refused_growths
+from worked_texts import worked_texts
 
 LIMIT = 67_108_864
 NOBODY = 65534
@@ -40,6 +42,16 @@ RANKS = b"router,port,vc,rank\n0,+0,0,1\n1,-0,0,1\n"
 TRAFFIC = TRAFFIC_HEADER + b"0,1,0,1,0\n"
 REPORT = REPORT_HEADER + b"0,0,1,0,1,0,5,5\n"
 FILES = {"config": CONFIG, "traffic": TRAFFIC, "table": TABLE, "ranks": RANKS}
+# The stall report of two packets to the end of a line of three routers, after twenty cycles.
+STALLS = b"""router,port,vc,empty,routed,granted,moved,no_flit,no_idle_channel,lost_channel,no_credit,lost_input,lost_switch
+0,+0,0,20,0,0,0,0,0,0,0,0,0
+0,local,0,17,1,1,1,0,0,0,0,0,0
+1,+0,0,20,0,0,0,0,0,0,0,0,0
+1,-0,0,15,1,1,1,0,2,0,0,0,0
+1,local,0,17,1,1,1,0,0,0,0,0,0
+2,-0,0,14,2,2,2,0,0,0,0,0,0
+2,local,0,20,0,0,0,0,0,0,0,0,0
+"""
 # Each command with the files that it takes, in the order in which their faults are looked for, and its answer.
 COMMANDS = {
     "run": (["run", "config", "traffic", "--table", "table", "--ranks", "ranks"], ["config", "table", "ranks", "traffic"], REPORT),
@@ -223,6 +235,37 @@ def pipe_that_closes_early(calls):
     calls.count("a pipe that closes early", (ran.returncode, taken, error) == (7, report[:1], wanted), ended)
 
 
+def reports_cut_off(calls):
+    """A file that takes so many bytes and no more: they are the report's first, and the fault counts them."""
+    calls.put(three=PLAIN.replace(b"[2]", b"[3]").replace(b" 8", b" 20"), both=TRAFFIC_HEADER + b"0,2,0,1,0\n1,2,0,1,0\n")
+    words = ["run", "three", "both", "--report", "stalls"]
+    calls.answers("the whole report", words, STALLS)
+    for size in range(len(STALLS)):
+        with open(calls.folder / "taken", "w+b") as taken:
+            # Python leaves the signal of a file that is too long ignored, and so does the call
+            ran = calls.run(words, stdout=taken, restore_signals=False,
+                            preexec_fn=lambda: resource.setrlimit(resource.RLIMIT_FSIZE, (size, size)))
+            taken.seek(0)
+            ended = (ran.returncode, taken.read(), ran.stderr)
+        wanted = (7, STALLS[:size], f"fault write 1 WriteFailed written {size}\n".encode())
+        calls.count(f"a report cut off after {size} bytes", ended == wanted, ran)
+
+
+def fault_lines_in_one_write(calls):
+    """A fault's line goes out in one write, which a socket keeps apart from the next one; and where it can't, the status is the same."""
+    for words, status, line in ((["run", "missing", "traffic"], 3, b"fault config 1 ReadFailed\n"),
+                                (["ranks", "far"], 4, b"fault rank 1 NoGenerated\n")):
+        for_reading, for_writing = socket.socketpair(socket.AF_UNIX, socket.SOCK_SEQPACKET)
+        ran = calls.run(words, stderr=for_writing.fileno())
+        for_writing.close()
+        writes = list(iter(lambda: for_reading.recv(PIPE_SIZE), b""))
+        for_reading.close()
+        calls.count(f"writes of a fault {words} {writes}", (ran.returncode, ran.stdout, writes) == (status, b"", [line]), ran)
+        with open("/dev/full", "wb") as full:
+            ran = calls.run(words, stderr=full)
+        calls.count(f"errors to a full device {words}", (ran.returncode, ran.stdout) == (status, b""), ran)
+
+
 def order_of_faults(calls):
     """Where several files are bad at once, the first in the page's order is told."""
     calls.put(bad=b"\xff", selfish=TRAFFIC_HEADER + b"1,1,0,1,0\n", wide=CONFIG.replace(b"[2]", b"[17]"),
@@ -301,8 +344,8 @@ def bounded_memory(calls):
             calls.count(f"{megabytes} MB {words}", is_refused or is_answer or is_loader, ran)
 
 
-GROUPS = [inputs_that_cannot_be_read, inputs_at_the_limit, names, wrong_words, outputs_that_fail, pipe_that_closes_early, order_of_faults,
-          bytes_that_are_no_text, bounded_memory, refused_growths, cut_texts]
+GROUPS = [inputs_that_cannot_be_read, inputs_at_the_limit, names, wrong_words, outputs_that_fail, pipe_that_closes_early, reports_cut_off,
+          fault_lines_in_one_write, order_of_faults, bytes_that_are_no_text, bounded_memory, refused_growths, cut_texts, worked_texts]
 
 
 def main():

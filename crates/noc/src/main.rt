@@ -22,8 +22,6 @@ mod request;
 mod run;
 mod settings;
 mod status;
-#[cfg(test)]
-mod tests;
 mod words;
 
 use answer::answer;

@@ -9,6 +9,8 @@ mod cycles;
 #[cfg(test)]
 mod inputs;
 #[cfg(test)]
+mod networks;
+#[cfg(test)]
 mod rank_files;
 #[cfg(test)]
 mod reports;

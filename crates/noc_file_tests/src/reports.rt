@@ -1,20 +1,18 @@
 //! Reports of worked networks, byte by byte.
 
-ghost use Rattle.std.specs.Prelude.{◌<◌, ◌≤◌, IfOk, ◌≡◌};
-ghost use Rattle.noc_topo.specs.Shape.{nodes};
+ghost use Rattle.std.specs.Prelude.{◌<◌, ◌≤◌};
 
-use noc_files::{
-    Out, WriteFault, read_table, read_traffic, write_findings, write_latency, write_stalls,
-    write_summary,
-};
+use crate::networks::{network, relation};
+use noc_files::{Out, read_table, write_findings, write_latency, write_stalls, write_summary};
 use noc_net::Network;
 use noc_route::{Relation, Rule};
 use noc_topo::{Kind, Shape};
 use std::alloc::Global;
+use std::process::Abort;
 use std::test::Fail;
 
 // A network of this relation after so many cycles of this traffic.
-fn network(
+fn ran(
     alloc: Global,
     relation: Relation,
     places: usize,
@@ -24,52 +22,59 @@ fn network(
     requires some_place { 0 < places }
     requires places { places ≤ 16 }
     requires cycles { cycles ≤ 1000 }
-    ensures { IfOk result (λ n. n.net.relation.grid ≡ relation.grid) }
 {
-    let mut network = Network::new(alloc, relation, places, read_traffic(alloc, traffic)?)?;
+    let mut network = network(alloc, relation, places, traffic)?;
     network.run(cycles);
     Ok(network)
 }
 
-// The latency report of a network.
-fn latency(alloc: Global, network: &Network) -> Result<Vec<u8>, WriteFault> {
-    let mut out = Out::new(Vec::new(alloc));
-    write_latency(network, &mut out)?;
-    Ok(out.into_inner())
+// The latency report of a network is this text.
+fn assert_latency(rt: &(impl AllocGlobal + Abort), network: &Network, report: &[u8]) {
+    let mut out = Out::new(Vec::new(rt.alloc()));
+    assert_eq!(rt; write_latency(network, &mut out), Ok(()));
+    assert_eq!(rt; out.into_inner().as_slice(), report);
 }
 
-// The stall report of a network.
-fn stalls(alloc: Global, network: &Network) -> Result<Vec<u8>, WriteFault> {
-    let mut out = Out::new(Vec::new(alloc));
-    write_stalls(network, &mut out)?;
-    Ok(out.into_inner())
+// The stall report of a network is this text.
+fn assert_stalls(rt: &(impl AllocGlobal + Abort), network: &Network, report: &[u8]) {
+    let mut out = Out::new(Vec::new(rt.alloc()));
+    assert_eq!(rt; write_stalls(network, &mut out), Ok(()));
+    assert_eq!(rt; out.into_inner().as_slice(), report);
 }
 
 // The summary of a network.
-fn summary(alloc: Global, network: &Network) -> Result<Vec<u8>, WriteFault> {
-    let mut out = Out::new(Vec::new(alloc));
-    write_summary(network, &mut out)?;
-    Ok(out.into_inner())
+fn summary(rt: &(impl AllocGlobal + Abort), network: &Network) -> Vec<u8> {
+    let mut out = Out::new(Vec::new(rt.alloc()));
+    assert_eq!(rt; write_summary(network, &mut out), Ok(()));
+    out.into_inner()
 }
 
-// The findings of a router.
-fn findings(alloc: Global, network: &Network, router: usize) -> Result<Vec<u8>, WriteFault>
-    requires { router < nodes network.now.net.relation.grid }
-{
-    let mut out = Out::new(Vec::new(alloc));
-    write_findings(network, router, &mut out)?;
-    Ok(out.into_inner())
+// The summary of a network is this text.
+fn assert_summary(rt: &(impl AllocGlobal + Abort), network: &Network, report: &[u8]) {
+    assert_eq!(rt; summary(rt, network).as_slice(), report);
+}
+
+// The findings of a router that exists are this text.
+fn assert_findings(
+    rt: &(impl AllocGlobal + Abort),
+    network: &Network,
+    router: usize,
+    report: &[u8],
+) {
+    assert!(rt; router < network.relation().shape().nodes());
+    let mut out = Out::new(Vec::new(rt.alloc()));
+    assert_eq!(rt; write_findings(network, router, &mut out), Ok(()));
+    assert_eq!(rt; out.into_inner().as_slice(), report);
 }
 
 // Two nodes in a line, no packets, one cycle.
 #[test]
 fn a_network_without_packets(rt: HostRuntime) -> Result<(), Fail> {
     let a = rt.alloc();
-    let line = Shape::new(Kind::Mesh, &[2])?;
-    let relation = Relation::build(a, &line, 1, 1, Rule::Dor)?;
-    let network = network(a, relation, 2, b"source,destination,class,length,due\n", 1)?;
+    let relation = relation(a, Kind::Mesh, 2, 1, Rule::Dor)?;
+    let network = ran(a, relation, 2, b"source,destination,class,length,due\n", 1)?;
     let report = b"packet,source,destination,class,length,due,out,latency\n";
-    assert_eq!(rt; latency(a, &network)?.as_slice(), report.as_slice());
+    assert_latency(&rt, &network, report);
     let report =
         b"router,port,vc,empty,routed,granted,moved,no_flit,no_idle_channel,lost_channel,no_credit,lost_input,lost_switch
 0,+0,0,1,0,0,0,0,0,0,0,0,0
@@ -77,7 +82,7 @@ fn a_network_without_packets(rt: HostRuntime) -> Result<(), Fail> {
 1,-0,0,1,0,0,0,0,0,0,0,0,0
 1,local,0,1,0,0,0,0,0,0,0,0,0
 ";
-    assert_eq!(rt; stalls(a, &network)?.as_slice(), report.as_slice());
+    assert_stalls(&rt, &network, report);
     let report = b"cycles 1
 packets 0
 delivered 0
@@ -97,7 +102,7 @@ no_credit 0
 lost_input 0
 lost_switch 0
 ";
-    assert_eq!(rt; summary(a, &network)?.as_slice(), report.as_slice());
+    assert_summary(&rt, &network, report);
     Ok(())
 }
 
@@ -105,12 +110,11 @@ lost_switch 0
 #[test]
 fn a_packet_over_one_link(rt: HostRuntime) -> Result<(), Fail> {
     let a = rt.alloc();
-    let line = Shape::new(Kind::Mesh, &[2])?;
-    let relation = Relation::build(a, &line, 1, 1, Rule::Dor)?;
+    let relation = relation(a, Kind::Mesh, 2, 1, Rule::Dor)?;
     let traffic = b"source,destination,class,length,due\n0,1,0,1,0\n";
-    let network = network(a, relation, 2, traffic, 8)?;
+    let network = ran(a, relation, 2, traffic, 8)?;
     let report = b"packet,source,destination,class,length,due,out,latency\n0,0,1,0,1,0,5,5\n";
-    assert_eq!(rt; latency(a, &network)?.as_slice(), report.as_slice());
+    assert_latency(&rt, &network, report);
     let report = b"cycles 8
 packets 1
 delivered 1
@@ -130,7 +134,7 @@ no_credit 0
 lost_input 0
 lost_switch 0
 ";
-    assert_eq!(rt; summary(a, &network)?.as_slice(), report.as_slice());
+    assert_summary(&rt, &network, report);
     Ok(())
 }
 
@@ -138,15 +142,14 @@ lost_switch 0
 #[test]
 fn two_packets_to_one_node(rt: HostRuntime) -> Result<(), Fail> {
     let a = rt.alloc();
-    let line = Shape::new(Kind::Mesh, &[3])?;
-    let relation = Relation::build(a, &line, 1, 1, Rule::Dor)?;
+    let relation = relation(a, Kind::Mesh, 3, 1, Rule::Dor)?;
     let traffic = b"source,destination,class,length,due\n0,2,0,1,0\n1,2,0,1,0\n";
-    let network = network(a, relation, 2, traffic, 20)?;
+    let network = ran(a, relation, 2, traffic, 20)?;
     let report = b"packet,source,destination,class,length,due,out,latency
 0,0,2,0,1,0,10,10
 1,1,2,0,1,0,5,5
 ";
-    assert_eq!(rt; latency(a, &network)?.as_slice(), report.as_slice());
+    assert_latency(&rt, &network, report);
     let report =
         b"router,port,vc,empty,routed,granted,moved,no_flit,no_idle_channel,lost_channel,no_credit,lost_input,lost_switch
 0,+0,0,20,0,0,0,0,0,0,0,0,0
@@ -157,7 +160,7 @@ fn two_packets_to_one_node(rt: HostRuntime) -> Result<(), Fail> {
 2,-0,0,14,2,2,2,0,0,0,0,0,0
 2,local,0,20,0,0,0,0,0,0,0,0,0
 ";
-    assert_eq!(rt; stalls(a, &network)?.as_slice(), report.as_slice());
+    assert_stalls(&rt, &network, report);
     Ok(())
 }
 
@@ -165,22 +168,21 @@ fn two_packets_to_one_node(rt: HostRuntime) -> Result<(), Fail> {
 #[test]
 fn packets_that_never_come_out(rt: HostRuntime) -> Result<(), Fail> {
     let a = rt.alloc();
-    let ring = Shape::new(Kind::Torus, &[4])?;
-    let relation = Relation::build(a, &ring, 1, 1, Rule::Dor)?;
+    let relation = relation(a, Kind::Torus, 4, 1, Rule::Dor)?;
     let traffic = b"source,destination,class,length,due
 0,2,0,4,0
 1,3,0,4,0
 2,0,0,4,0
 3,1,0,4,0
 ";
-    let network = network(a, relation, 1, traffic, 20)?;
+    let network = ran(a, relation, 1, traffic, 20)?;
     let report = b"packet,source,destination,class,length,due,out,latency
 0,0,2,0,4,0,-,-
 1,1,3,0,4,0,-,-
 2,2,0,0,4,0,-,-
 3,3,1,0,4,0,-,-
 ";
-    assert_eq!(rt; latency(a, &network)?.as_slice(), report.as_slice());
+    assert_latency(&rt, &network, report);
     let report =
         b"router,port,vc,empty,routed,granted,moved,no_flit,no_idle_channel,lost_channel,no_credit,lost_input,lost_switch
 0,+0,0,20,0,0,0,0,0,0,0,0,0
@@ -196,7 +198,7 @@ fn packets_that_never_come_out(rt: HostRuntime) -> Result<(), Fail> {
 3,-0,0,3,1,0,0,0,16,0,0,0,0
 3,local,0,0,1,1,1,0,0,0,17,0,0
 ";
-    assert_eq!(rt; stalls(a, &network)?.as_slice(), report.as_slice());
+    assert_stalls(&rt, &network, report);
     let report = b"cycles 20
 packets 4
 delivered 0
@@ -216,7 +218,32 @@ no_credit 68
 lost_input 0
 lost_switch 0
 ";
-    assert_eq!(rt; summary(a, &network)?.as_slice(), report.as_slice());
+    assert_summary(&rt, &network, report);
+    Ok(())
+}
+
+// Four packets around a ring with a dateline all come out, and the last event is the credit behind the last of them.
+#[test]
+fn a_ring_with_a_dateline_comes_to_rest(rt: HostRuntime) -> Result<(), Fail> {
+    let a = rt.alloc();
+    let relation = relation(a, Kind::Torus, 4, 2, Rule::Dateline)?;
+    let traffic = b"source,destination,class,length,due
+0,2,0,4,0
+1,3,0,4,0
+2,0,0,4,0
+3,1,0,4,0
+";
+    let network = ran(a, relation, 1, traffic, 60)?;
+    let top = b"cycles 60
+packets 4
+delivered 4
+left 0
+latency_sum 116
+latency_max 44
+last_event 45
+misfits 0
+";
+    assert!(rt; summary(&rt, &network).as_slice().starts_with(top));
     Ok(())
 }
 
@@ -224,16 +251,14 @@ lost_switch 0
 #[test]
 fn findings_of_a_router(rt: HostRuntime) -> Result<(), Fail> {
     let a = rt.alloc();
-    let ring = Shape::new(Kind::Torus, &[4])?;
-    let relation = Relation::build(a, &ring, 2, 1, Rule::Dateline)?;
+    let relation = relation(a, Kind::Torus, 4, 2, Rule::Dateline)?;
     let traffic = b"source,destination,class,length,due
 0,2,0,4,0
 1,3,0,4,0
 2,0,0,4,0
 3,1,0,4,0
 ";
-    let network = network(a, relation, 1, traffic, 6)?;
-    assert!(rt; 2 < network.relation().shape().nodes());
+    let network = ran(a, relation, 1, traffic, 6)?;
     let report = b"port,vc,verdict,packet,out
 +0,0,Empty,-,-
 +0,1,Empty,-,-
@@ -242,7 +267,7 @@ fn findings_of_a_router(rt: HostRuntime) -> Result<(), Fail> {
 local,0,NoCredit,2,+0.0
 local,1,Empty,-,-
 ";
-    assert_eq!(rt; findings(a, &network, 2)?.as_slice(), report.as_slice());
+    assert_findings(&rt, &network, 2, report);
     Ok(())
 }
 
@@ -261,9 +286,8 @@ fn findings_before_the_first_cycle(rt: HostRuntime) -> Result<(), Fail> {
 ";
     let rows = read_table(a, &line, table)?;
     let relation = Relation::build(a, &line, 2, 1, Rule::Rows(rows))?;
-    let network = network(a, relation, 2, b"source,destination,class,length,due\n", 0)?;
-    assert!(rt; 1 < network.relation().shape().nodes());
+    let network = ran(a, relation, 2, b"source,destination,class,length,due\n", 0)?;
     let report = b"port,vc,verdict,packet,out\n";
-    assert_eq!(rt; findings(a, &network, 1)?.as_slice(), report.as_slice());
+    assert_findings(&rt, &network, 1, report);
     Ok(())
 }

@@ -9,8 +9,6 @@ mod network;
 mod packets;
 mod parts;
 mod room;
-#[cfg(test)]
-mod tests;
 mod wire;
 
 pub use event_core::Core;

@@ -19,6 +19,3 @@ pub use laws::{a_ring_of_four_has_no_ranks, formula_ranks_are_accepted};
 pub use place::LinkChannel;
 pub use ranks::Ranks;
 pub use rows::RankRow;
-
-#[cfg(test)]
-mod tests;

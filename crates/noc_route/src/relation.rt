@@ -152,6 +152,3 @@ fn enter(map: &Map, rule: &Rule, sets: &mut [ChannelSet]) -> Result<(), RouteFau
     }
     Ok(())
 }
-
-#[cfg(test)]
-mod tests;

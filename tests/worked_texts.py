@@ -1,0 +1,65 @@
+"""Joined texts and their answers, worked out by hand: first faults, runs that are cut off, and rings after each number of cycles."""
+
+TRAFFIC_HEADER = "source,destination,class,length,due\n"
+REPORT_HEADER = "packet,source,destination,class,length,due,out,latency\n"
+MOST_PACKETS = 20000
+# Traffic on a line of two routers with one channel and one class, and its first fault.
+BAD_TRAFFIC = [
+    ("1,1,0,1,0\n", "fault network 1 SelfPacket row 0\n"),
+    ("0,2,0,1,0\n", "fault network 2 BadNode row 0\n"),
+    ("0,1,1,1,0\n", "fault network 3 BadClass row 0\n"),
+    ("0,1,0,0,0\n", "fault network 4 BadLength row 0\n"),
+    ("0,1,0,65,0\n", "fault network 4 BadLength row 0\n"),
+    ("0,1,0,1,1000001\n", "fault network 7 BadDue row 0\n"),
+    ("0,1,0,1,0\n0,1,0\n", "fault traffic 10 BadCount row 1\n"),
+    ("1,1,0,1,0\n0,1,0,x,0\n", "fault traffic 11 BadNumber row 1 column 3\n"),
+    ("0,1,0,1,0\n" * (MOST_PACKETS + 1), "fault network 5 TooMany\n"),
+]
+# A kind, a radix, channels, classes and a rule that do not go together, and their first fault, which comes before that of the traffic.
+BAD_CONFIGS = [
+    ("mesh", "17", 1, 1, "dor", "fault shape 2 BadRadix\n"),
+    ("mesh", "17,2,2,2", 1, 1, "dor", "fault shape 1 BadDimensions\n"),
+    ("mesh", "16,16,2", 1, 1, "dor", "fault shape 3 TooManyNodes\n"),
+    ("mesh", "2", 9, 1, "dor", "fault config 8 BadValue key channels\n"),
+    ("mesh", "2", 1, 1, "table", "fault option 4 NoTable\n"),
+    ("mesh", "17", 1, 1, "table", "fault option 4 NoTable\n"),
+    ("mesh", "2", 4, 3, "dor", "fault relation 1 WrongShape\n"),
+    ("mesh", "3", 1, 1, "west-first", "fault relation 1 WrongShape\n"),
+]
+# Four packets of which each goes half round a ring of four. With one channel they wait for each other from the fifth cycle on.
+AROUND = "0,2,0,4,0\n1,3,0,4,0\n2,0,0,4,0\n3,1,0,4,0\n"
+FIRST_STUCK = 5
+
+
+def joined(kind, radix, channels, classes, rule, traffic, buffer=2, cycles=12):
+    return (f'kind = "{kind}"\nradix = [{radix}]\nchannels = {channels}\nbuffer = {buffer}\nclasses = {classes}\nrule = "{rule}"\n'
+            f"cycles = {cycles}\n---\n{TRAFFIC_HEADER}{traffic}").encode()
+
+
+def first_faults(calls):
+    for traffic, fault in BAD_TRAFFIC:
+        calls.answers(f"traffic {traffic[:30]!r}", [], fault.encode(), given=joined("mesh", "2", 1, 1, "dor", traffic))
+    for *config, fault in BAD_CONFIGS:
+        calls.answers(f"configuration {config}", [], fault.encode(), given=joined(*config, "0,1,0\n"))
+
+
+def short_runs(calls):
+    """A packet that is still under way, and the largest mesh with four channels and classes, which has no packets."""
+    calls.answers("a run of five cycles", [], (REPORT_HEADER + "0,0,1,0,1,0,-,-\n").encode(),
+                  given=joined("mesh", "2", 1, 1, "dor", "0,1,0,1,0\n", cycles=5))
+    calls.answers("the largest mesh", [], REPORT_HEADER.encode(), given=joined("mesh", "16, 16", 4, 4, "dor", "", cycles=1))
+
+
+def rings_after_each_cycle(calls):
+    """A ring that is stuck from its fifth cycle on, and one with a dateline, which never is."""
+    for channels, rule, most in ((1, "dor", 20), (2, "dateline", 60)):
+        for cycles in range(1, most + 1):
+            given = joined("torus", "4", channels, 1, rule, AROUND, buffer=1, cycles=cycles)
+            status = 5 if rule == "dor" and FIRST_STUCK <= cycles else 0
+            ran = calls.run([], given=given)
+            calls.count(f"{rule} after {cycles} cycles", (ran.returncode, ran.stderr) == (status, b""), ran)
+
+
+def worked_texts(calls):
+    for group in (first_faults, short_runs, rings_after_each_cycle):
+        group(calls)
