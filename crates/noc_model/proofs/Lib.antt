@@ -13,5 +13,6 @@ pub mod RunLemmas
 pub mod SentLemmas
 pub mod StepLemmas
 pub mod StillRun
+pub mod TakeOrder
 pub mod UnseenLemmas
 pub mod WireLemmas

@@ -1,9 +1,9 @@
 //! What holds of every router.
 
-ghost use Rattle.std.specs.Prelude.{◌≡◌, ℕ, List};
+ghost use Rattle.std.specs.Prelude.{◌≡◌, ◌≢◌, ℕ, List};
 ghost use Rattle.noc_packet.specs.declared.packet.Beat.{Beat};
 ghost use Rattle.noc_route.specs.Routes.{Routes};
-ghost use Rattle.noc_router.specs.View.{View, local_step};
+ghost use Rattle.noc_router.specs.View.{View, local_step, taken};
 ghost use Rattle.noc_router.specs.declared.verdict.Finding.{Finding as FindingValue};
 
 /// What was found changes nothing of what comes: from a view with any other findings a cycle over the same beats gives the same
@@ -11,4 +11,11 @@ ghost use Rattle.noc_router.specs.declared.verdict.Finding.{Finding as FindingVa
 pub fn findings_change_nothing()
     ensures { (relation : Routes) (view : View) (findings : List FindingValue) (beats : List Beat) (n : ℕ)
         → local_step relation (record view { findings = findings }) beats n ≡ local_step relation view beats n }
+{}
+
+/// What comes to a router in one cycle can be taken in any order: the takes of two ports change places, from every view and for all
+/// beats, those that do not fit included.
+pub fn takes_change_places()
+    ensures { (relation : Routes) (p q : ℕ) (one other : Beat) (view : View) → p ≢ q
+        → taken relation p one (taken relation q other view) ≡ taken relation q other (taken relation p one view) }
 {}

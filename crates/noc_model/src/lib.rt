@@ -10,5 +10,5 @@ mod laws;
 mod limits;
 
 pub use event::{Event, NotReady};
-pub use laws::findings_change_nothing;
+pub use laws::{findings_change_nothing, takes_change_places};
 pub use limits::CYCLE_LIMIT;

@@ -2,6 +2,7 @@
 
 ghost use Rattle.std.specs.Prelude.{◌≡◌, ℕ, ◌+◌, ◌*◌, ◌<◌, ◌≤◌, ◌&&◌, All, Err, IfErr, IfOk, IfSome, None, Some, false, is_none, length, map, nat_le, vec_len};
 ghost use Rattle.std.specs.List.{slice_get};
+ghost use Rattle.noc_topo.specs.declared.limits.TheConstants.{MAX_NODES};
 ghost use Rattle.noc_topo.specs.Words.{map_indexed, tabulate};
 ghost use Rattle.noc_topo.specs.Shape.{nodes as nodes_of, ports as ports_of, local_port, neighbour as neighbour_of};
 ghost use Rattle.noc_route.specs.Ranks.{IsRankedBy, Ranking};
@@ -545,7 +546,7 @@ pub fn deliver(relation: &Relation, router: &mut Router, beats: &mut [[Beat; LIN
 
 // A beat is on the wire that arrives at this router and port, where there is a link.
 fn send(beats: &mut [[Beat; LINKS]], to: Option<(usize, usize)>, beat: Beat)
-    requires few { length beats.old ≤ 256 }
+    requires few { length beats.old ≤ MAX_NODES }
     requires within { IfSome to (λ place. (place.0 < length beats.old) × (place.1 < 6)) }
     ensures { beats.new ≡ sent_on beats.old to beat }
 {
