@@ -5,15 +5,18 @@ mod event_core;
 mod fault;
 mod jump;
 mod limit;
+mod marks;
 mod network;
 mod packets;
 mod parts;
 mod room;
+mod takes;
 mod wire;
 
 pub use event_core::Core;
 pub use fault::NetFault;
 pub use limit::MAX_LIMIT;
+pub use marks::Marks;
 pub use network::{Network, advance, decide, deliver};
 pub use noc_model::{CYCLE_LIMIT, Event, NotReady};
 pub use parts::Parts;

@@ -142,8 +142,9 @@ impl Router {
         }
     }
 
-    // A flit comes to a virtual channel of a link port.
-    fn take_flit(&mut self, relation: &Relation, port: usize, vc: usize, flit: Flit)
+    /// Takes a flit that came on a virtual channel of a link port (0 to the number of link ports - 1). Where it does not
+    /// fit it is turned away.
+    pub fn take_flit(&mut self, relation: &Relation, port: usize, vc: usize, flit: Flit)
         requires relation { IsRelationOf relation.now self.old }
         requires port { port < local_port self.old.site.grid }
         ensures { self.new ≡ with_flit relation.now port (Some (vc, flit)) self.old }
@@ -160,8 +161,9 @@ impl Router {
         }
     }
 
-    // A credit comes for a virtual channel of a link port.
-    fn take_credit(&mut self, port: usize, vc: usize)
+    /// Takes a credit that came for a virtual channel of a link port (0 to the number of link ports - 1). Where it does not
+    /// fit it is turned away.
+    pub fn take_credit(&mut self, port: usize, vc: usize)
         requires port { port < local_port self.old.site.grid }
         ensures { self.new ≡ with_credit port (Some vc) self.old }
     {

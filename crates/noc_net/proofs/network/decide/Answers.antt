@@ -1,36 +1,18 @@
-use Rattle.std.proofs.Common.{ℕ, ap, sym, ◌∙◌, subst}
-use Rattle.noc_topo.specs.Shape.{ports}
-use Rattle.noc_router.specs.Decided.{IsDecidedFor}
-use Rattle.noc_router.specs.View.{View, IsRelationOf, planned, committed}
-use Rattle.noc_model.specs.Halves.{decided}
-use Rattle.noc_model.proofs.StepLemmas.{IsRelationOf-same_site}
+use Rattle.std.proofs.Common.{ap, ◌∙◌}
+use Rattle.noc_router.specs.View.{View}
+use Rattle.noc_model.specs.Halves.{incoming}
+use Rattle.noc_model.proofs.StepLemmas.{IsRelationOf-same_site, site-all_taken}
+use Rattle.noc_net.specs.Takes.{concluded}
+use Rattle.noc_net.proofs.TakesLemmas.{concluded-decided}
 use Rattle.noc_net.proofs.network.decide.Goals as goal
 
-pub plan-requires-clause-relation : goal.plan-requires-clause-relation
-plan-requires-clause-relation c = IsRelationOf-same_site c.args.relation.now c.args.router.now c.receive.new.router c.receive.ensures.site c.requires.router
-
-pub plan-requires-clause-plan : goal.plan-requires-clause-plan
-plan-requires-clause-plan c =
-    let fits : IsRelationOf c.args.relation.now c.receive.new.router = plan-requires-clause-relation c in
-    subst (λ (vcs : ℕ). IsDecidedFor (ports c.receive.new.router.site.grid) vcs c.args.plan.now) fits.vcs
-    (subst (λ grid. IsDecidedFor (ports grid) c.args.relation.now.vcs c.args.plan.now) fits.grid c.requires.plan)
-
-pub commit-requires : goal.commit-requires
-commit-requires c = record {
-  relation = c.args.relation.now;
-  fits = IsRelationOf-same_site c.args.relation.now c.args.router.now c.receive.new.router c.receive.ensures.site c.requires.router;
-  is = c.plan.ensures.value;
-}
-
-pub returns-clause-plan : goal.returns-clause-plan
-returns-clause-plan c =
-    let fits : IsRelationOf c.args.relation.now c.receive.new.router =
-    IsRelationOf-same_site c.args.relation.now c.args.router.now c.receive.new.router c.receive.ensures.site c.requires.router in
-    subst (λ grid. IsDecidedFor (ports grid) c.args.relation.now.vcs c.plan.new.plan) (sym fits.grid)
-    (subst (λ (vcs : ℕ). IsDecidedFor (ports c.receive.new.router.site.grid) vcs c.plan.new.plan) (sym fits.vcs) c.plan.ensures.lengths)
+pub conclude-requires-clause-router : goal.conclude-requires-clause-router
+conclude-requires-clause-router c =
+    let beats = incoming c.args.relation.now.grid c.args.beats.now in
+    IsRelationOf-same_site c.args.relation.now c.args.router.now c.take_beats.new.router
+    (ap (λ (v : View). v.site) c.take_beats.ensures.router ∙ site-all_taken c.args.relation.now beats c.args.router.now) c.requires.router
 
 pub returns-clause-router : goal.returns-clause-router
-unfolding decided
 returns-clause-router c =
-    c.commit.ensures c.args.relation.now c.plan.ensures.value
-    ∙ ap (λ (v : View). committed (planned c.args.relation.now v) v) c.receive.ensures.router
+    let beats = incoming c.args.relation.now.grid c.args.beats.now in
+    c.conclude.ensures.router ∙ ap (concluded c.args.relation.now c.args.cycle) c.take_beats.ensures.router ∙ concluded-decided c.args.relation.now c.args.cycle beats c.args.router.now

@@ -68,4 +68,5 @@ loop-cycle-preserved c =
           (to_relation (λ net. AreInStepUnseen net c.loop-cycle.cycle c.loop-cycle.routers c.loop-cycle.beats) c.args.relation.now net is (c.loop-cycle.invariant.in_step net is first))
           c.advance_all.ensures.routers c.deliver_all.ensures.routers count c.deliver_all.ensures.beats));
       count = count;
+      marks = c.deliver_all.ensures.marks;
     }

@@ -5,13 +5,20 @@ use Rattle.std.proofs.lemmas.List.{length-set}
 use Rattle.noc_topo.specs.Shape.{local_port}
 use Rattle.noc_packet.specs.Set.{has_bit}
 use Rattle.noc_packet.specs.declared.packet.Beat.{Beat}
+use Rattle.noc_route.specs.Routes.{Routes}
 use Rattle.noc_router.specs.Links.{is_idle_beat}
-use Rattle.noc_router.specs.View.{View, all_taken, idle_beat}
+use Rattle.noc_router.specs.View.{View, all_taken, idle_beat, taken}
 use Rattle.noc_router.proofs.QuietLemmas.{least_member, none_left}
 use Rattle.noc_model.specs.Halves.{incoming}
-use Rattle.noc_model.proofs.StepLemmas.{taken_more, taken_end, site-taken, IsRelationOf-same_site}
-use Rattle.noc_model.proofs.WireLemmas.{AreLeft, left-before, left-first, left-more, unloaded}
+use Rattle.noc_model.proofs.StepLemmas.{taken_end, site-taken, IsRelationOf-same_site}
+use Rattle.noc_model.proofs.TakeAhead.{taken_ahead}
+use Rattle.noc_model.proofs.WireLemmas.{AreLeft, left-first, left-more, unloaded}
 use Rattle.noc_net.proofs.network.take_beats.Goals as goal
+
+-- an idle beat changes nothing
+nothing : (relation : Routes) (port : ℕ) (v : View) → taken relation port idle_beat v ≡ v
+unfolding taken
+nothing relation port v = refl
 
 pub loop-port-init : goal.loop-port-init
 loop-port-init c =
@@ -51,8 +58,7 @@ loop-port-preserved c =
           (left-more c.loop-port.rest c.without-rest.result port c.args.beats.now beats c.without-rest.ensures.members within c.loop-port.invariant.left);
       taken = ap (λ (beat : Beat). all_taken relation (incoming relation.grid (set beats port beat)) c.take.new.self) c.idle.ensures
           ∙ ap (all_taken relation (incoming relation.grid (set beats port idle_beat))) c.take.ensures
-          ∙ taken_more relation relation.grid beats port c.loop-port.router (c.loop-port.invariant.below port member) within
-          (left-before c.loop-port.rest port c.args.beats.now beats c.in-Some.ensures.least c.loop-port.invariant.left)
+          ∙ taken_ahead relation relation.grid beats port (get_or beats port idle_beat) idle_beat c.loop-port.router (c.loop-port.invariant.below port member) within (λ w. nothing relation port (taken relation port (get_or beats port idle_beat) w))
           ∙ c.loop-port.invariant.taken;
     }
   where
