@@ -284,9 +284,7 @@ impl Router {
         let mut rest = waiting;
         while let Some(index) = rest.least_common(&rest) {
             rest = rest.without(index);
-            if let Some(next) = self.channels.asked(index) {
-                requests.add_ask(index, next);
-            }
+            requests.set_ask(index, self.channels.asked(index));
         }
     }
 
