@@ -3,9 +3,9 @@
 
 ghost use Rattle.std.specs.Prelude.{◌≡◌, ⊤, is_some, IfOk, IfSome};
 ghost use Rattle.std.specs.Io.Buffered.{writer_inner};
-ghost use Rattle.noc_answers.specs.Answer.{Asks, ToldFault};
 ghost use Rattle.noc_requests.specs.Line.{line_of};
 ghost use Rattle.noc_requests.specs.Outcome.{Ends};
+ghost use Rattle.noc_answers.specs.Answer.{Asks, ToldFault};
 ghost use Rattle.noc_answers.specs.Run.{HasWorkers, workers_of};
 
 mod collected;

@@ -10,20 +10,20 @@ use Rattle.noc_files.specs.Configuration.{Settings}
 use Rattle.noc_files.specs.Findings.{findings_text}
 use Rattle.noc_files.specs.Joined.{SplitsAt, line_at}
 use Rattle.noc_files.specs.Ranks.{ranks_text}
-use Rattle.noc_answers.specs.Answer.{Asks, AsksFor, a_report, findings, accepted, ranks}
 use Rattle.noc_requests.specs.Asked.{Asked, ReadsAs, as_files, as_joined, parts}
-use Rattle.noc_answers.specs.Drain.{RunsTo}
-use Rattle.noc_answers.specs.Formula.{HasRanks}
-use Rattle.noc_answers.specs.Reports.{report_text}
-use Rattle.noc_answers.specs.Run.{AsksForRun, IsNetworkOf, cycles_of, ending, is_draining, report_of}
 use Rattle.noc_requests.specs.declared.request.Command.{Command}
 use Rattle.noc_requests.specs.declared.request.Command.TheVariants as command
 use Rattle.noc_requests.specs.declared.request.Report.{Report}
 use Rattle.noc_requests.specs.declared.request.Request.{Request}
 use Rattle.noc_requests.specs.declared.status.Status.{Status}
+use Rattle.noc_answers.specs.Answer.{Asks, AsksFor, a_report, findings, accepted, ranks}
+use Rattle.noc_answers.specs.Drain.{RunsTo}
+use Rattle.noc_answers.specs.Formula.{HasRanks}
+use Rattle.noc_answers.specs.Reports.{report_text}
+use Rattle.noc_answers.specs.Run.{AsksForRun, IsNetworkOf, cycles_of, ending, is_draining, report_of}
+use Rattle.noc_requests.proofs.OneSettingsFacts.{one_relation_asked}
 use Rattle.noc_answers.proofs.DrainFacts.{ends-once}
 use Rattle.noc_answers.proofs.OneRankingFacts.{one-generated}
-use Rattle.noc_requests.proofs.OneSettingsFacts.{one_relation_asked}
 
 -- ---- commands
 

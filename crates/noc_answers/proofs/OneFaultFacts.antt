@@ -20,14 +20,13 @@ use Rattle.noc_files.specs.Configuration.{Settings}
 use Rattle.noc_files.specs.Joined.{SplitsAt, line_at, line_len}
 use Rattle.noc_files.specs.Ranks.{ranks_of}
 use Rattle.noc_files.specs.declared.fault.InputFault.{InputFault}
-use Rattle.noc_answers.specs.Answer.{Asks, AsksFor, a_report, findings, accepted, ranks, TextsFault, in_settings, in_formula, in_ranks, in_packets, runs, FirstFault, unread, unsplit, in_texts}
 use Rattle.noc_requests.specs.Asked.{Asked, Said, ReadsAs, as_files, as_joined, is_joined, owned, read_by}
+use Rattle.noc_answers.specs.Answer.{Asks, AsksFor, a_report, findings, accepted, ranks, TextsFault, in_settings, in_formula, in_ranks, in_packets, runs, FirstFault, unread, unsplit, in_texts}
 use Rattle.noc_answers.specs.Check.{Accepts, AsksForChecked, HasRanking, RanksFault, bad_file, bad_rows, bad_ranks, checked_by, checked_ranks}
 use Rattle.noc_answers.specs.Formula.{HasRanks, IsFormulaFault}
 use Rattle.noc_net.specs.declared.fault.NetFault.{NetFault}
 use Rattle.noc_net.specs.declared.fault.NetFault.TheVariants as net
 use Rattle.noc_packet.specs.declared.packet.Packet.{Packet}
-use Rattle.noc_answers.specs.Run.{AsksForRun, IsNetworkOf, IsUnmade, PacketsFault, bad_traffic, bad_network}
 use Rattle.noc_requests.specs.Settings.{AsksForRelation, rule_named}
 use Rattle.noc_requests.specs.Status.{is_memory}
 use Rattle.noc_requests.specs.declared.fault.Fault.{Fault}
@@ -36,11 +35,12 @@ use Rattle.noc_requests.specs.declared.request.Command.{Command}
 use Rattle.noc_requests.specs.declared.request.Command.TheVariants as command
 use Rattle.noc_requests.specs.declared.request.Request.{Request}
 use Rattle.noc_requests.specs.declared.status.Status.{Status}
+use Rattle.noc_answers.specs.Run.{AsksForRun, IsNetworkOf, IsUnmade, PacketsFault, bad_traffic, bad_network}
 use Rattle.noc_requests.proofs.MemoryFacts.{network_not_memory, ranks_not_memory, traffic_not_memory}
+use Rattle.noc_requests.proofs.OneSettingsFacts.{one_relation_asked, no_settings_fault, one_settings_fault}
 use Rattle.noc_answers.proofs.OneAnswerFacts.{kind, reports, explains, checks, ranked, one_reading}
 use Rattle.noc_answers.proofs.OneCheckFacts.{no-check-fault, one-check-fault}
 use Rattle.noc_answers.proofs.OneRankingFacts.{one-ranking, formula-fault, no-formula-fault, no-rows-fault, one-rows-fault}
-use Rattle.noc_requests.proofs.OneSettingsFacts.{one_relation_asked, no_settings_fault, one_settings_fault}
 
 not_memory : (f : RankFault) (g : Grid) → is_memory (fault.Rank f g) ≡ false → f ≢ rank.Memory
 not_memory f g p e = false≢true (sym p ∙ ap (λ x. is_memory (fault.Rank x g)) e)

@@ -8,12 +8,8 @@ use Rattle.noc_net.specs.Limit.{are_all_out}
 use Rattle.noc_net.specs.Network.{Run, state_at}
 use Rattle.noc_progress.proofs.Theorems.{not-stuck}
 use Rattle.noc_files.specs.declared.writing.WriteFault.{WriteFault}
-use Rattle.noc_answers.specs.Answer.{Asks, AsksFor, AsksForArrivals, IsRankedDrain, IsRankedRun, a_report, findings, accepted, ranks}
 use Rattle.noc_requests.specs.Asked.{Asked, Said, ReadsAs, as_files, as_joined, is_joined, owned}
-use Rattle.noc_answers.specs.Check.{Accepts, checked_by, checked_ranks}
 use Rattle.noc_requests.specs.Outcome.{Ends}
-use Rattle.noc_answers.specs.Drain.{RunsTo}
-use Rattle.noc_answers.specs.Run.{AsksForRun, cycles_of, ending, is_draining}
 use Rattle.noc_requests.specs.declared.request.Command.{Command}
 use Rattle.noc_requests.specs.declared.request.Command.TheVariants as command
 use Rattle.noc_requests.specs.declared.request.Report.{Report}
@@ -21,6 +17,10 @@ use Rattle.noc_requests.specs.declared.request.Request.{Request}
 use Rattle.noc_requests.specs.declared.status.Status.{Status}
 use Rattle.noc_requests.specs.declared.status.Status.TheVariants.{Done, Stuck}
 use Rattle.noc_requests.specs.declared.fault.Fault.{Fault}
+use Rattle.noc_answers.specs.Answer.{Asks, AsksFor, AsksForArrivals, IsRankedDrain, IsRankedRun, a_report, findings, accepted, ranks}
+use Rattle.noc_answers.specs.Check.{Accepts, checked_by, checked_ranks}
+use Rattle.noc_answers.specs.Drain.{RunsTo}
+use Rattle.noc_answers.specs.Run.{AsksForRun, cycles_of, ending, is_draining}
 use Rattle.noc_answers.proofs.DrainFacts.{drained-out}
 
 -- a run whose ranks are checked ends done

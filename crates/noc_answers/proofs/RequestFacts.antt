@@ -1,21 +1,21 @@
 -- What a command checks and runs, and which fault of its texts comes first.
-use Rattle.std.proofs.Common.{◌≡◌, ℕ, Bool, true, Option, Some, None, refl, ap, sym, ◌∙◌, subst, arith}
+use Rattle.std.proofs.Common.{◌≡◌, ℕ, Bool, true, Option, Some, None, refl, sym, subst}
 use Rattle.std.specs.Option.{IsSomeAnd}
 use Rattle.std.proofs.lemmas.Bool.{false≢true}
 use Rattle.noc_files.specs.Configuration.{Settings}
 use Rattle.noc_net.specs.Network.{Run, Setup}
 use Rattle.noc_route.specs.Routes.{Routes}
-use Rattle.noc_answers.specs.Answer.{TextsFault, in_ranks, runs}
 use Rattle.noc_requests.specs.Asked.{Asked, Said, ReadsAs, as_files, as_joined, is_joined}
-use Rattle.noc_answers.specs.Drain.{RunsTo}
-use Rattle.noc_answers.specs.Check.{RanksFault, checked_by, checked_ranks}
-use Rattle.noc_answers.specs.Run.{AsksForRun, cycles_of, is_draining, report_of, workers_of}
 use Rattle.noc_requests.specs.Settings.{AsksForRelation}
 use Rattle.noc_requests.specs.declared.fault.Fault.{Fault}
 use Rattle.noc_requests.specs.declared.request.Command.{Command}
 use Rattle.noc_requests.specs.declared.request.Command.TheVariants as command
 use Rattle.noc_requests.specs.declared.request.Report.{Report}
 use Rattle.noc_requests.specs.declared.request.Request.{Request}
+use Rattle.noc_answers.specs.Answer.{TextsFault, in_ranks, runs}
+use Rattle.noc_answers.specs.Drain.{RunsTo}
+use Rattle.noc_answers.specs.Check.{RanksFault, checked_by, checked_ranks}
+use Rattle.noc_answers.specs.Run.{AsksForRun, cycles_of, is_draining, report_of, workers_of}
 
 -- a command with a report checks the ranks that it is given, and runs
 pub checked-report : (x : Command) (report : Report) (ranks : Option Said) → report_of x ≡ Some report → checked_by x ranks ≡ ranks

@@ -12,10 +12,6 @@ use Rattle.noc_files.specs.Ranks.{ranks_text}
 use Rattle.noc_files.specs.declared.fault.InputFault.{InputFault}
 use Rattle.noc_files.specs.declared.fault.InputFault.TheVariants as input
 use Rattle.noc_requests.specs.Asked.{Asked, Said, ReadsAs, is_joined, owned}
-use Rattle.noc_answers.specs.Check.{AsksForChecked, RanksFault, checked_ranks}
-use Rattle.noc_answers.specs.Formula.{HasRanks, IsFormulaFault}
-use Rattle.noc_answers.specs.Reports.{report_text}
-use Rattle.noc_answers.specs.Run.{AsksForRun, PacketsFault, ending, report_of}
 use Rattle.noc_requests.specs.Settings.{AsksForRelation, SettingsFault}
 use Rattle.noc_requests.specs.declared.request.Command.{Command}
 use Rattle.noc_requests.specs.declared.request.Command.TheVariants as command
@@ -25,6 +21,10 @@ use Rattle.noc_requests.specs.declared.status.Status.{Status}
 use Rattle.noc_requests.specs.declared.status.Status.TheVariants.{Done}
 use Rattle.noc_requests.specs.declared.fault.Fault.{Fault}
 use Rattle.noc_requests.specs.declared.fault.Fault.TheVariants as fault
+use Rattle.noc_answers.specs.Check.{AsksForChecked, RanksFault, checked_ranks}
+use Rattle.noc_answers.specs.Formula.{HasRanks, IsFormulaFault}
+use Rattle.noc_answers.specs.Reports.{report_text}
+use Rattle.noc_answers.specs.Run.{AsksForRun, PacketsFault, ending, report_of}
 
 -- ---- the texts of a request
 

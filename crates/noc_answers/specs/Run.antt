@@ -12,8 +12,6 @@ use Rattle.noc_files.specs.Configuration.{Settings}
 use Rattle.noc_files.specs.Traffic.{traffic_of}
 use Rattle.noc_files.specs.declared.fault.InputFault.{InputFault}
 use Rattle.noc_requests.specs.Asked.{Asked, IsUnread, Said, read_by}
-use Rattle.noc_answers.specs.Check.{AsksForChecked}
-use Rattle.noc_answers.specs.Drain.{RunsTo}
 use Rattle.noc_requests.specs.declared.request.Command.{Command}
 use Rattle.noc_requests.specs.declared.request.Command.TheVariants as command
 use Rattle.noc_requests.specs.declared.request.Report.{Report}
@@ -22,6 +20,8 @@ use Rattle.noc_requests.specs.declared.fault.Fault.{Fault}
 use Rattle.noc_requests.specs.declared.fault.Fault.TheVariants as fault
 use Rattle.noc_requests.specs.declared.status.Status.{Status}
 use Rattle.noc_requests.specs.declared.status.Status.TheVariants.{Done, Stuck}
+use Rattle.noc_answers.specs.Check.{AsksForChecked}
+use Rattle.noc_answers.specs.Drain.{RunsTo}
 
 -- the report of a run that a command asks for
 abbrev pub report_of : Command → Option Report

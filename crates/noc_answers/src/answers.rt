@@ -2,11 +2,11 @@
 
 ghost use Rattle.std.specs.Prelude.{◌≡◌, ℕ, IfErr, IfOk, List, Ok};
 ghost use Rattle.noc_files.specs.Writing.{Wrote};
-ghost use Rattle.noc_answers.specs.Answer.{Asks, AsksFor, AsksForArrivals, FirstFault, IsRankedDrain, IsRankedRun, TextsFault};
 ghost use Rattle.noc_requests.specs.Asked.{ReadsAs, asked_of};
 ghost use Rattle.noc_requests.specs.Outcome.{Ends, Refuses};
-ghost use Rattle.noc_answers.specs.Run.{HasWorkers, workers_of};
 ghost use Rattle.noc_requests.specs.declared.status.Status.TheVariants.{Done as done};
+ghost use Rattle.noc_answers.specs.Answer.{Asks, AsksFor, AsksForArrivals, FirstFault, IsRankedDrain, IsRankedRun, TextsFault};
+ghost use Rattle.noc_answers.specs.Run.{HasWorkers, workers_of};
 
 use crate::accept::answer_check;
 use crate::explain::explain;

@@ -3,10 +3,10 @@
 ghost use Rattle.std.specs.Prelude.{◌≡◌, IfErr, IfOk};
 ghost use Rattle.noc_files.specs.Configuration.{settings};
 ghost use Rattle.noc_files.specs.Writing.{Wrote};
-ghost use Rattle.noc_answers.specs.Answer.{AsksFor, TextsFault};
 ghost use Rattle.noc_requests.specs.Asked.{asked_of};
-ghost use Rattle.noc_answers.specs.Formula.{HasRanks, IsFormulaFault};
 ghost use Rattle.noc_requests.specs.Outcome.{Ends, Refuses};
+ghost use Rattle.noc_answers.specs.Answer.{AsksFor, TextsFault};
+ghost use Rattle.noc_answers.specs.Formula.{HasRanks, IsFormulaFault};
 ghost use Rattle.noc_answers.specs.Run.{workers_of};
 
 use noc_files::{Config, Sink, write_ranks};

@@ -1,11 +1,11 @@
 //! What every request has in common.
 
 ghost use Rattle.std.specs.Prelude.{ℕ, List, ◌≡◌, false, true};
-ghost use Rattle.noc_answers.specs.Answer.{Asks, FirstFault};
 ghost use Rattle.noc_requests.specs.Status.{is_memory};
 ghost use Rattle.noc_requests.specs.declared.fault.Fault.{Fault as FaultValue};
 ghost use Rattle.noc_requests.specs.declared.request.Request.{Request as RequestValue};
 ghost use Rattle.noc_requests.specs.declared.status.Status.{Status as StatusValue};
+ghost use Rattle.noc_answers.specs.Answer.{Asks, FirstFault};
 
 /// A request has one answer: two texts that it asks for are the same, and so is how they end; where it asks for a text
 /// no fault is its first but that memory was refused; and two first faults, neither of memory, are the same.

@@ -4,12 +4,12 @@ ghost use Rattle.std.specs.Prelude.{◌≡◌, ℕ, ◌<◌, ◌≤◌, Ok, Some
 ghost use Rattle.noc_files.specs.Gives.{Gives};
 ghost use Rattle.noc_files.specs.Traffic.{traffic_of};
 ghost use Rattle.noc_files.specs.Writing.{Wrote};
-ghost use Rattle.noc_answers.specs.Answer.{AsksFor, TextsFault};
 ghost use Rattle.noc_requests.specs.Asked.{asked_of, lent, read_by};
-ghost use Rattle.noc_answers.specs.Drain.{RunsTo};
 ghost use Rattle.noc_requests.specs.Outcome.{Ends, IsWriteFault, Refuses};
-ghost use Rattle.noc_answers.specs.Reports.{report_text};
 ghost use Rattle.noc_requests.specs.declared.request.Report.{Report as ReportValue};
+ghost use Rattle.noc_answers.specs.Answer.{AsksFor, TextsFault};
+ghost use Rattle.noc_answers.specs.Drain.{RunsTo};
+ghost use Rattle.noc_answers.specs.Reports.{report_text};
 ghost use Rattle.noc_answers.specs.Run.{AsksForRun, IsNetworkOf, PacketsFault, ending, is_draining, report_of, workers_of};
 
 use crate::accept::accept_if_given;

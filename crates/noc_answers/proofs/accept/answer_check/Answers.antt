@@ -1,6 +1,6 @@
 use Rattle.std.proofs.Common.{codes}
-use Rattle.noc_answers.specs.Answer.{accepted}
 use Rattle.noc_requests.specs.declared.status.Status.TheVariants.{Done}
+use Rattle.noc_answers.specs.Answer.{accepted}
 use Rattle.noc_answers.proofs.accept.answer_check.Goals as goal
 
 pub returns-in-Ok : goal.returns-in-Ok

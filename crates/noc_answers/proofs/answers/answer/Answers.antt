@@ -1,10 +1,10 @@
 use Rattle.std.proofs.Common.{◌≡◌, ap, sym, subst}
 use Rattle.noc_files.specs.Writing.{Wrote}
-use Rattle.noc_answers.specs.Answer.{Asks, AsksFor, FirstFault, TextsFault, in_texts}
 use Rattle.noc_requests.specs.Asked.{Asked, ReadsAs, as_files, asked_of, files_of, is_joined}
 use Rattle.noc_requests.specs.Outcome.{Ends}
-use Rattle.noc_answers.specs.Run.{workers_of}
 use Rattle.noc_requests.specs.declared.request.Command.{Command}
+use Rattle.noc_answers.specs.Answer.{Asks, AsksFor, FirstFault, TextsFault, in_texts}
+use Rattle.noc_answers.specs.Run.{workers_of}
 use Rattle.noc_requests.proofs.OutcomeFacts.{ends_more}
 use Rattle.noc_answers.proofs.RankedFacts.{ends-done, ends-drained}
 use Rattle.noc_answers.proofs.answers.answer.Goals as goal

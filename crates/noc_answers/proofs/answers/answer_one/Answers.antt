@@ -1,8 +1,8 @@
 use Rattle.std.proofs.Common.{◌≡◌, ℕ, subst}
 use Rattle.noc_files.specs.Writing.{Wrote}
-use Rattle.noc_answers.specs.Answer.{Asks, AsksFor, FirstFault, TextsFault, in_texts}
 use Rattle.noc_requests.specs.Asked.{asked_of}
 use Rattle.noc_requests.specs.Outcome.{Ends}
+use Rattle.noc_answers.specs.Answer.{Asks, AsksFor, FirstFault, TextsFault, in_texts}
 use Rattle.noc_answers.specs.Run.{workers_of}
 use Rattle.noc_requests.proofs.OutcomeFacts.{ends_more}
 use Rattle.noc_answers.proofs.RequestFacts.{same-workers}

@@ -1,4 +1,4 @@
-use Rattle.std.proofs.Common.{◌≡◌, ◌+◌, Bool, ap, sym, ◌∙◌, arith, subst}
+use Rattle.std.proofs.Common.{◌≡◌, ◌+◌, ap, sym, arith, subst}
 use Rattle.std.specs.Result.{IfOk}
 use Rattle.noc_net.specs.Network.{Run}
 use Rattle.noc_answers.specs.Drain.{DrainsAt, RunsTo}

@@ -1,6 +1,6 @@
 use Rattle.noc_files.specs.Findings.{findings_text}
-use Rattle.noc_answers.specs.Answer.{findings}
 use Rattle.noc_requests.specs.declared.status.Status.TheVariants.{Done}
+use Rattle.noc_answers.specs.Answer.{findings}
 use Rattle.noc_answers.proofs.explain.explain.Goals as goal
 
 pub returns-in-Ok : goal.returns-in-Ok

@@ -4,16 +4,16 @@ use Rattle.std.proofs.lemmas.Bool.{leb-false}
 use Rattle.std.specs.Option.{IfSome}
 use Rattle.std.proofs.lemmas.Result.{err_from_is_err_and}
 use Rattle.noc_files.specs.Configuration.{Settings, settings}
-use Rattle.noc_answers.specs.Answer.{TextsFault, in_packets, in_settings, runs}
 use Rattle.noc_requests.specs.Asked.{asked_of}
 use Rattle.noc_requests.specs.Options.{early_fault, or_else, table_fault}
 use Rattle.noc_requests.specs.declared.fault.OptionFault.{OptionFault}
 use Rattle.noc_requests.specs.declared.fault.OptionFault.TheVariants.{BadCycle}
 use Rattle.noc_requests.specs.declared.request.Command.{Command}
 use Rattle.noc_requests.specs.declared.request.Command.TheVariants.{Explain}
+use Rattle.noc_requests.specs.Settings.{SettingsFault}
+use Rattle.noc_answers.specs.Answer.{TextsFault, in_packets, in_settings, runs}
 use Rattle.noc_answers.specs.Check.{Accepts, AsksForChecked, checked_by, checked_ranks}
 use Rattle.noc_answers.specs.Run.{PacketsFault}
-use Rattle.noc_requests.specs.Settings.{SettingsFault}
 use Rattle.noc_requests.proofs.OutcomeFacts.{refuses_more}
 use Rattle.noc_answers.proofs.explain.network_after.Goals as goal
 

@@ -1,7 +1,7 @@
 use Rattle.std.proofs.Common.{◌≡◌}
 use Rattle.noc_files.specs.Writing.{Wrote}
-use Rattle.noc_answers.specs.Answer.{AsksFor, TextsFault, a_report}
 use Rattle.noc_requests.specs.Asked.{asked_of}
+use Rattle.noc_answers.specs.Answer.{AsksFor, TextsFault, a_report}
 use Rattle.noc_answers.specs.Reports.{report_text}
 use Rattle.noc_answers.specs.Run.{AsksForRun, ending, workers_of}
 use Rattle.noc_requests.proofs.OutcomeFacts.{ends_reported}
