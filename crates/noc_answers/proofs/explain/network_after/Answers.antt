@@ -1,4 +1,4 @@
-use Rattle.std.proofs.Common.{◌≡◌, ◌<◌, ℕ, Bool, true, false, Option, Some, None, refl, arith, ap, subst, sym}
+use Rattle.std.proofs.Common.{◌≡◌, ◌<◌, ◌+◌, ℕ, Bool, true, false, Option, Some, None, refl, arith, ap, subst, sym}
 use Rattle.std.specs.Prelude.{is_some, nat_le, if◌then◌else◌}
 use Rattle.std.proofs.lemmas.Bool.{leb-false}
 use Rattle.std.specs.Option.{IfSome}
@@ -13,7 +13,8 @@ use Rattle.noc_requests.specs.declared.request.Command.TheVariants.{Explain}
 use Rattle.noc_requests.specs.Settings.{SettingsFault}
 use Rattle.noc_answers.specs.Answer.{TextsFault, in_packets, in_settings, runs}
 use Rattle.noc_answers.specs.Check.{Accepts, AsksForChecked, checked_by, checked_ranks}
-use Rattle.noc_answers.specs.Run.{PacketsFault}
+use Rattle.noc_answers.specs.Drain.{RunsTo}
+use Rattle.noc_answers.specs.Run.{PacketsFault, cycles_of, is_draining}
 use Rattle.noc_requests.proofs.OutcomeFacts.{refuses_more}
 use Rattle.noc_answers.proofs.explain.network_after.Goals as goal
 
@@ -58,3 +59,21 @@ run-requires c =
     let few = c.in_ok-config.ensures.limits.few_cycles in
     let zero = c.in_ok-network.ensures.opening in
     omega (arith, l, few, zero)
+
+pub returns-clause-run : goal.returns-clause-run
+returns-clause-run c =
+    let a = asked_of c.args.files.now in
+    let s = settings c.in_ok-config.config in
+    let none : checked_ranks a ≡ None = ap (λ x. checked_by x a.ranks) c.requires in
+    let zero = c.in_ok-network.ensures.opening in
+    let count : c.in_ok-network.network.count + (c.args.cycle + 1) ≡ c.args.cycle + 1 = omega (arith, zero) in
+    rw c.run.ensures.value (record {
+      settings = s;
+      routes = c.in_ok-config.relation;
+      before = record {
+        relation = c.in_ok-config.ensures.relation;
+        accepted = subst (λ t. IfSome t (Accepts c.in_ok-config.relation)) (sym none) tt;
+      };
+      network = c.in_ok-network.ensures.network;
+      cycles = subst (λ x. RunsTo (is_draining x) c.in_ok-network.network.net (cycles_of x s) (c.in_ok-network.network.count + (c.args.cycle + 1))) (sym c.requires) count;
+    })
