@@ -3,36 +3,21 @@
 
 ghost use Rattle.std.specs.Prelude.{◌≡◌, ⊤, is_some, IfOk, IfSome};
 ghost use Rattle.std.specs.Io.Buffered.{writer_inner};
-ghost use Rattle.noc.specs.Answer.{Asks, ToldFault};
-ghost use Rattle.noc.specs.Line.{line_of};
-ghost use Rattle.noc.specs.Outcome.{Ends};
-ghost use Rattle.noc.specs.Run.{HasWorkers, workers_of};
+ghost use Rattle.noc_requests.specs.Line.{line_of};
+ghost use Rattle.noc_requests.specs.Outcome.{Ends};
+ghost use Rattle.noc_answers.specs.Answer.{Asks, ToldFault};
+ghost use Rattle.noc_answers.specs.Run.{HasWorkers, workers_of};
 
-mod accept;
-mod answer;
 mod collected;
 mod counted;
-mod drain;
-mod explain;
-mod fault;
-mod formula;
-mod laws;
-mod line;
-mod request;
-mod run;
-mod settings;
-mod status;
 mod words;
 
-use answer::answer;
 use clap::error::ErrorKind;
 use collected::Collected;
 use counted::Counted;
-use fault::{Fault, status_of};
-use line::fault_line;
+use noc_answers::answer;
 use noc_files::{InputFault, Out, WriteFault, read_all};
-use request::{Command, Request, Text};
-use status::Status;
+use noc_requests::{Command, Fault, Request, Status, Text, fault_line, status_of};
 use std::env;
 use std::env::FillError;
 use std::fs::{File, Files};

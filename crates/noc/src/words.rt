@@ -1,11 +1,11 @@
 //! The words of the command line.
 
 ghost use Rattle.std.specs.Prelude.{◌≡◌, ◌<◌, ◌≤◌, IfOk, IfSome};
-ghost use Rattle.noc.specs.Run.{HasWorkers};
+ghost use Rattle.noc_answers.specs.Run.{HasWorkers};
 
-use crate::request::{Command, Report};
 use clap::error::ErrorKind;
 use clap::{Arg, ArgAction, ArgMatches, Error, value_parser};
+use noc_requests::{Command, Report};
 use std::alloc::{AllocError, Global};
 
 /// What the words ask for: a command, with the names of its files.

@@ -1,0 +1,110 @@
+-- Where a run ends that drains, piece by piece.
+use Rattle.std.proofs.Common.{◌≡◌, ℕ, zero, suc, ◌+◌, ◌-◌, ◌<◌, ◌≤◌, Bool, true, false, min, refl, ap, sym, ◌∙◌, subst, arith, inl, inr}
+use Rattle.std.specs.Prelude.{◌⊎◌}
+use Rattle.std.proofs.lemmas.Bool.{cases_lt, cases_order, false≢true}
+use Rattle.noc_route.specs.Ranks.{IsRankedBy, Ranking}
+use Rattle.noc_net.specs.Good.{IsGoodSetup}
+use Rattle.noc_net.specs.Limit.{IsLimit}
+use Rattle.noc_net.specs.Network.{Run, Setup}
+use Rattle.noc_net.proofs.LimitLemmas.{all-out, limit-once}
+use Rattle.noc_answers.specs.Drain.{DrainsAt, DrainsBy, RunsTo, at_limit, at_once, is_out_at, look, once_out}
+
+module _ (net : Setup) (limit : ℕ) where
+  -- where it ends at once: at the limit, or where every packet is out
+  pub drains-here : (n : ℕ) → (limit ≤ n) ⊎ (is_out_at net n ≡ true) → DrainsBy net limit n n
+  drains-here n (inl late) = at_once late
+  drains-here n (inr out) = at (cases_lt n (limit))
+    where
+      at : (n < limit) ⊎ (limit ≤ n) → DrainsBy net limit n n
+      at (inr late) = at_once late
+      at (inl early) =
+          let first : look n 0 ≡ n = omega arith in
+          subst (DrainsBy net limit n) first
+          (once_out 0 (omega arith) (ap (is_out_at net) first ∙ out) (λ j l. absurd (omega arith)))
+
+  -- looks from a piece later on are those from here on, but for the one here
+  later : (n e k : ℕ) → e ≡ look n 1 → look e k ≡ look n (suc k)
+  later n e k is = omega (arith, is)
+
+  none-yet : (n e m : ℕ) → is_out_at net n ≡ false → e ≡ look n 1 → ((j : ℕ) → j < m → is_out_at net (look e j) ≡ false) → (j : ℕ) → j < suc m → is_out_at net (look n j) ≡ false
+  none-yet n e m here is none zero l = (let first : look n 0 ≡ n = omega arith in ap (is_out_at net) first ∙ here)
+  none-yet n e m here is none (suc j) l = ap (is_out_at net) (sym (later n e j is)) ∙ none j (omega arith)
+
+  -- where it ends that goes on from the next piece
+  pub drains-on : (n e end : ℕ) → n < limit → is_out_at net n ≡ false → e ≡ n + min 64 (limit - n) → DrainsBy net limit e end → DrainsBy net limit n end
+  drains-on n e end early here is (at_once late) =
+      let whole : e ≡ limit = omega (arith, is, late) in
+      subst (DrainsBy net limit n) (sym whole) (at_limit early none)
+    where
+      none : (j : ℕ) → look n j < limit → is_out_at net (look n j) ≡ false
+      none zero l = (let first : look n 0 ≡ n = omega arith in ap (is_out_at net) first ∙ here)
+      none (suc j) l = absurd (omega (arith, is, late, l))
+  drains-on n e end early here is (once_out k low out none) =
+      let next : e ≡ look n 1 = omega (arith, is, low) in
+      let same = later n e k next in
+      subst (DrainsBy net limit n) (sym same)
+      (once_out (suc k) (subst (λ x. x < limit) same low) (ap (is_out_at net) (sym same) ∙ out) (none-yet n e k here next none))
+  drains-on n e end early here is (at_limit low none) = at_limit early out
+    where
+      next : e ≡ look n 1
+      next = omega (arith, is, low)
+
+      out : (j : ℕ) → look n j < limit → is_out_at net (look n j) ≡ false
+      out zero l = (let first : look n 0 ≡ n = omega arith in ap (is_out_at net) first ∙ here)
+      out (suc j) l = (let same = later n e j next in ap (is_out_at net) (sym same) ∙ none j (subst (λ x. x < limit) (sym same) l))
+
+  -- a run that drains has one end
+  pub drains-once : (n d e : ℕ) → DrainsBy net limit n d → DrainsBy net limit n e → d ≡ e
+  drains-once n d e (at_once late) (at_once also) = refl
+  drains-once n d e (at_once late) (once_out k low out none) = absurd (omega (arith, late, low))
+  drains-once n d e (at_once late) (at_limit low none) = absurd (omega (arith, late, low))
+  drains-once n d e (once_out k low out none) (at_once late) = absurd (omega (arith, late, low))
+  drains-once n d e (once_out k low out none) (once_out j below also others) =
+      elim (cases_order k j) [
+        | inl same ↦ ap (look n) same
+        | inr (inl less) ↦ absurd (false≢true (sym (others k less) ∙ out))
+        | inr (inr more) ↦ absurd (false≢true (sym (none j more) ∙ also))
+      ]
+  drains-once n d e (once_out k low out none) (at_limit early never) = absurd (false≢true (sym (never k low) ∙ out))
+  drains-once n d e (at_limit low none) (at_once late) = absurd (omega (arith, late, low))
+  drains-once n d e (at_limit early never) (once_out k low out none) = absurd (false≢true (sym (never k low) ∙ out))
+  drains-once n d e (at_limit low none) (at_limit also never) = refl
+
+  -- where the relation is ranked every packet is out at the end
+  drained-by : IsGoodSetup net → (ranks : Ranking) → IsRankedBy net.relation ranks → IsLimit net limit → (n e : ℕ) → DrainsBy net limit n e → is_out_at net e ≡ true
+  drained-by good ranks ranked is n e (at_once late) = all-out net good ranks ranked limit is n late
+  drained-by good ranks ranked is n e (once_out k low out none) = out
+  drained-by good ranks ranked is n e (at_limit low none) = all-out net good ranks ranked limit is limit (omega arith)
+
+pub drained-out : (net : Setup) → IsGoodSetup net → (ranks : Ranking) → IsRankedBy net.relation ranks → (n e : ℕ) → DrainsAt net n e → is_out_at net e ≡ true
+drained-out net good ranks ranked n e at = drained-by net at.limit good ranks ranked at.is_limit n e at.drains
+
+pub ends-once : (net : Setup) (drain : Bool) (n d e : ℕ) → RunsTo drain net n d → RunsTo drain net n e → d ≡ e
+ends-once net false n d e x y = x ∙ sym y
+ends-once net true n d e x y =
+    let same : y.limit ≡ x.limit = limit-once net y.limit x.limit y.is_limit x.is_limit in
+    drains-once net x.limit n d e x.drains (subst (λ (limit : ℕ). DrainsBy net limit n e) same y.drains)
+
+-- ---- a run that drains, from its first look to the one where it is now
+
+-- where it drains from here, it drains from there
+abbrev pub GoesOn : Run → ℕ → ℕ → Type 0
+GoesOn first limit count = (end : ℕ) → DrainsBy first.net limit count end → DrainsBy first.net limit first.count end
+
+module _ (first now : Run) (limit : ℕ) (same : now.net ≡ first.net) (goes : GoesOn first limit now.count) where
+  -- after a piece more
+  pub goes-on : (next : Run) (cycles : ℕ) → now.count < limit → is_out_at now.net now.count ≡ false → cycles ≡ min 64 (limit - now.count) → next ≡ record now { count = now.count + cycles }
+      → GoesOn first limit next.count
+  goes-on next cycles early here piece ran = λ end rest.
+      let count : next.count ≡ now.count + cycles = ap (λ (u : Run). u.count) ran in
+      goes end
+      (drains-on first.net limit now.count next.count end early (ap (λ net. is_out_at net now.count) (sym same) ∙ here) (omega (arith, count, piece)) rest)
+
+  -- at its end
+  pub goes-to : IsLimit first.net limit → (limit ≤ now.count) ⊎ (is_out_at now.net now.count ≡ true) → DrainsAt now.net first.count now.count
+  goes-to is done =
+      subst (λ net. DrainsAt net first.count now.count) (sym same) (record { limit = limit; is_limit = is; drains = goes now.count (drains-here first.net limit now.count (moved done)) })
+    where
+      moved : (limit ≤ now.count) ⊎ (is_out_at now.net now.count ≡ true) → (limit ≤ now.count) ⊎ (is_out_at first.net now.count ≡ true)
+      moved (inl late) = inl late
+      moved (inr out) = inr (ap (λ net. is_out_at net now.count) (sym same) ∙ out)

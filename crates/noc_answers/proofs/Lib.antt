@@ -1,0 +1,7 @@
+pub mod DrainFacts
+pub mod RankedFacts
+pub mod RequestFacts
+pub mod OneRankingFacts
+pub mod OneCheckFacts
+pub mod OneAnswerFacts
+pub mod OneFaultFacts

@@ -1,0 +1,79 @@
+-- What is answered to a request: the text that is asked for and how it ended, or the first fault.
+use Rattle.std.specs.Prelude.{◌≡◌, ◌⊎◌, ℕ, ◌<◌, Bool, true, false, List, length, codes, is_some, Some, Ok, Err}
+use Rattle.noc_route.specs.Routes.{Routes}
+use Rattle.noc_net.specs.Limit.{are_all_out}
+use Rattle.noc_net.specs.Network.{Run, state_at}
+use Rattle.noc_route.specs.Ranks.{Ranking}
+use Rattle.noc_rank.specs.declared.fault.RankFault.{RankFault}
+use Rattle.noc_files.specs.Configuration.{Settings}
+use Rattle.noc_files.specs.Findings.{findings_text}
+use Rattle.noc_files.specs.Joined.{line_at}
+use Rattle.noc_files.specs.Ranks.{ranks_text}
+use Rattle.noc_files.specs.declared.fault.InputFault.{InputFault}
+use Rattle.noc_files.specs.declared.fault.InputFault.TheVariants as input
+use Rattle.noc_requests.specs.Asked.{Asked, Said, ReadsAs, is_joined, owned}
+use Rattle.noc_requests.specs.Settings.{AsksForRelation, SettingsFault}
+use Rattle.noc_requests.specs.declared.request.Command.{Command}
+use Rattle.noc_requests.specs.declared.request.Command.TheVariants as command
+use Rattle.noc_requests.specs.declared.request.Report.{Report}
+use Rattle.noc_requests.specs.declared.request.Request.{Request}
+use Rattle.noc_requests.specs.declared.status.Status.{Status}
+use Rattle.noc_requests.specs.declared.status.Status.TheVariants.{Done}
+use Rattle.noc_requests.specs.declared.fault.Fault.{Fault}
+use Rattle.noc_requests.specs.declared.fault.Fault.TheVariants as fault
+use Rattle.noc_answers.specs.Check.{AsksForChecked, RanksFault, checked_ranks}
+use Rattle.noc_answers.specs.Formula.{HasRanks, IsFormulaFault}
+use Rattle.noc_answers.specs.Reports.{report_text}
+use Rattle.noc_answers.specs.Run.{AsksForRun, PacketsFault, ending, report_of}
+
+-- ---- the texts of a request
+
+-- the text that is asked for, where nothing is wrong, and how the request then ends
+pub data AsksFor (a : Asked) : List ℕ → Status → Type 0 where
+  a_report : {report : Report} {run : Run} → report_of a.command ≡ Some report → AsksForRun a run → AsksFor a (report_text report run) (ending run)
+  findings : {cycle router : ℕ} {run : Run} → a.command ≡ command.Explain cycle router → AsksForRun a run → AsksFor a (findings_text run router) Done
+  accepted : {s : Settings} {routes : Routes} → a.command ≡ command.Check → AsksForChecked a s routes → AsksFor a (codes "accepted\n") Done
+  ranks : {s : Settings} {routes : Routes} {ranking : Ranking} → a.command ≡ command.Ranks → AsksForRelation a s routes → HasRanks s routes.grid ranking → AsksFor a (ranks_text ranking) Done
+
+-- a command that runs a network
+abbrev pub runs : Command → Bool
+runs command.Check = false
+runs command.Ranks = false
+runs _ = true
+
+-- the first fault: up to the relation, then the ranks, the traffic, and the packets of the network
+pub data TextsFault (a : Asked) : Fault → Type 0 where
+  in_settings : {f : Fault} → SettingsFault a f → TextsFault a f
+  in_formula : {s : Settings} {routes : Routes} {f : RankFault} → a.command ≡ command.Ranks → AsksForRelation a s routes → IsFormulaFault s routes.grid f → TextsFault a (fault.Rank f routes.grid)
+  in_ranks : {s : Settings} {routes : Routes} {text : Said} {f : Fault} → AsksForRelation a s routes → checked_ranks a ≡ Some text → RanksFault routes text f → TextsFault a f
+  in_packets : {s : Settings} {routes : Routes} {f : Fault} → runs a.command ≡ true → AsksForChecked a s routes → PacketsFault routes a.traffic f → TextsFault a f
+
+-- ---- a request
+
+-- of a joined text: that it was not read, that it has no dividing line; and then the first fault of the texts
+pub data FirstFault (r : Request) : Fault → Type 0 where
+  unread : {f : InputFault} → is_joined r.command ≡ true → owned r.config ≡ Err f → FirstFault r (fault.Joined f)
+  unsplit : {text : List ℕ} → is_joined r.command ≡ true → owned r.config ≡ Ok text → ((i : ℕ) → i < length text → line_at text i ≡ 0) → FirstFault r (fault.Joined input.NoSplit)
+  in_texts : {a : Asked} {f : Fault} → ReadsAs r a → TextsFault a f → FirstFault r f
+
+-- the text that a request asks for, and how it then ends
+abbrev pub Asks : Request → List ℕ → Status → Type 0
+Asks r text status = (a : Asked) × ReadsAs r a × AsksFor a text status
+
+-- a request for a run that comes with ranks
+abbrev pub IsRankedRun : Request → Type 0
+IsRankedRun r = (workers : ℕ) × (report : Report) × (drain : Bool) × (r.command ≡ command.Run workers report drain) × (is_some r.ranks ≡ true)
+
+-- .. and is to drain
+abbrev pub IsRankedDrain : Request → Type 0
+IsRankedDrain r = (workers : ℕ) × (report : Report) × (r.command ≡ command.Run workers report true) × (is_some r.ranks ≡ true)
+
+-- the text that a request asks for is the report of a run in which every packet has arrived
+abbrev pub AsksForArrivals : Request → List ℕ → Type 0
+AsksForArrivals r text =
+    (a : Asked) × (report : Report) × (run : Run) × ReadsAs r a × (report_of a.command ≡ Some report) × AsksForRun a run × (text ≡ report_text report run)
+    × (are_all_out run.net (state_at run.net run.count) ≡ true)
+
+-- the fault that is told: the first one, or want of memory for what is to be written, told as that of the configuration
+abbrev pub ToldFault : Request → Fault → Type 0
+ToldFault r f = FirstFault r f ⊎ (f ≡ fault.Config input.Memory)

@@ -1,0 +1,78 @@
+-- The run that is asked for.
+use Rattle.std.specs.Prelude.{◌≡◌, ◌⊎◌, ℕ, ◌+◌, ◌<◌, ◌≤◌, Bool, false, List, Option, Some, None, Ok, if◌then◌else◌}
+use Rattle.noc_packet.specs.declared.packet.Packet.{Packet}
+use Rattle.noc_route.specs.Routes.{Routes}
+use Rattle.noc_net.specs.declared.fault.NetFault.{NetFault}
+use Rattle.noc_net.specs.declared.fault.NetFault.TheVariants as net
+use Rattle.noc_net.specs.Faults.{fault_of}
+use Rattle.noc_net.specs.Good.{IsGoodSetup}
+use Rattle.noc_net.specs.Network.{Run, Setup}
+use Rattle.noc_net.specs.Progress.{is_stuck}
+use Rattle.noc_files.specs.Configuration.{Settings}
+use Rattle.noc_files.specs.Traffic.{traffic_of}
+use Rattle.noc_files.specs.declared.fault.InputFault.{InputFault}
+use Rattle.noc_requests.specs.Asked.{Asked, IsUnread, Said, read_by}
+use Rattle.noc_requests.specs.declared.request.Command.{Command}
+use Rattle.noc_requests.specs.declared.request.Command.TheVariants as command
+use Rattle.noc_requests.specs.declared.request.Report.{Report}
+use Rattle.noc_requests.specs.declared.request.Report.TheVariants.{Latency}
+use Rattle.noc_requests.specs.declared.fault.Fault.{Fault}
+use Rattle.noc_requests.specs.declared.fault.Fault.TheVariants as fault
+use Rattle.noc_requests.specs.declared.status.Status.{Status}
+use Rattle.noc_requests.specs.declared.status.Status.TheVariants.{Done, Stuck}
+use Rattle.noc_answers.specs.Check.{AsksForChecked}
+use Rattle.noc_answers.specs.Drain.{RunsTo}
+
+-- the report of a run that a command asks for
+abbrev pub report_of : Command → Option Report
+report_of command.Joined = Some Latency
+report_of (command.Run workers report drain) = Some report
+report_of _ = None
+
+-- how many workers a command has
+abbrev pub workers_of : Command → ℕ
+workers_of (command.Run workers report drain) = workers
+workers_of _ = 1
+
+-- 1 to 16 workers
+abbrev pub HasWorkers : Command → Type 0
+HasWorkers x = (0 < workers_of x) × (workers_of x ≤ 16)
+
+-- how many cycles are run at least: those of the configuration, or up to the one that is to be explained
+abbrev pub cycles_of : Command → Settings → ℕ
+cycles_of (command.Explain cycle router) s = cycle + 1
+cycles_of _ s = s.cycles
+
+-- whether a command runs on until every packet is out
+abbrev pub is_draining : Command → Bool
+is_draining (command.Run workers report drain) = drain
+is_draining _ = false
+
+-- the network of a relation, of buffers with these places, and of a traffic text
+pub record IsNetworkOf (routes : Routes) (places : ℕ) (traffic : Said) (net : Setup) : Type 0 where
+  pub relation : net.relation ≡ routes
+  pub places_are : net.places ≡ places
+  pub packets : read_by traffic_of traffic ≡ Ok net.packets
+  pub sound : fault_of routes net.packets ≡ None
+  pub good : IsGoodSetup net
+
+-- why no network is made of packets: this is their first fault, or memory was refused where they have none
+abbrev pub IsUnmade : Routes → List Packet → NetFault → Type 0
+IsUnmade routes packets f = (fault_of routes packets ≡ Some f) ⊎ ((f ≡ net.Memory) × (fault_of routes packets ≡ None))
+
+-- the first fault: the traffic, then its packets
+pub data PacketsFault (routes : Routes) (traffic : Said) : Fault → Type 0 where
+  bad_traffic : {f : InputFault} → IsUnread traffic_of traffic f → PacketsFault routes traffic (fault.Traffic f)
+  bad_network : {packets : List Packet} {f : NetFault} → read_by traffic_of traffic ≡ Ok packets → IsUnmade routes packets f → PacketsFault routes traffic (fault.Network f)
+
+-- that network after the cycles that are asked for, or where it has drained
+pub record AsksForRun (a : Asked) (run : Run) : Type 0 where
+  pub settings : Settings
+  pub routes : Routes
+  pub before : AsksForChecked a settings routes
+  pub network : IsNetworkOf routes settings.buffer a.traffic run.net
+  pub cycles : RunsTo (is_draining a.command) run.net (cycles_of a.command settings) run.count
+
+-- how a run has ended
+abbrev pub ending : Run → Status
+ending run = if is_stuck run.net run.count then Stuck else Done

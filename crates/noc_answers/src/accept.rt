@@ -1,0 +1,104 @@
+//! Reading ranks, and checking that they rise along a routing relation.
+
+ghost use Rattle.std.specs.Prelude.{◌≡◌, IfErr, IfOk, OnOk, IfSome, IsSomeAnd, option_map};
+ghost use Rattle.noc_route.specs.Routes.{Routes};
+ghost use Rattle.noc_files.specs.Configuration.{Settings};
+ghost use Rattle.noc_files.specs.Gives.{Gives};
+ghost use Rattle.noc_files.specs.Ranks.{ranks_of};
+ghost use Rattle.noc_files.specs.Writing.{Wrote};
+ghost use Rattle.noc_requests.specs.Asked.{asked_of, lent, read_by};
+ghost use Rattle.noc_requests.specs.Outcome.{Ends, Refuses};
+ghost use Rattle.noc_answers.specs.Answer.{AsksFor, TextsFault};
+ghost use Rattle.noc_answers.specs.Check.{Accepts, AsksForChecked, HasRanking, RanksFault};
+ghost use Rattle.noc_answers.specs.Run.{workers_of};
+
+use noc_files::{InputFault, Sink, read_ranks, write_pieces};
+use noc_rank::{RankRow, Ranks, check};
+use noc_requests::{Bytes, Command, Fault, Files, Status, relation_of};
+use noc_route::Relation;
+use noc_topo::Shape;
+use std::alloc::Global;
+use std::thread::Threads;
+
+/// Writes `accepted`, if the ranks of the rank file rise along the relation. No rank file is an empty one.
+pub fn answer_check<W: Sink>(
+    rt: &(impl Threads + Sync),
+    alloc: Global,
+    files: &Files<'_>,
+    sink: &mut W,
+) -> Result<Status, Fault>
+    requires { files.now.command ≡ Command.Check }
+    ensures { Ends (workers_of files.now.command) (Wrote W.contents W.has_failed sink.old sink.new) (sink.new ≡ sink.old) (AsksFor (asked_of files.now)) (TextsFault (asked_of files.now)) result }
+{
+    accept_files(rt, alloc, files)?;
+    match write_pieces(&["accepted\n"], sink) {
+        Ok(()) => Ok(Status::Done),
+        Err(fault) => Err(Fault::Write(fault)),
+    }
+}
+
+// Whether the ranks of the rank file rise along the relation.
+fn accept_files(rt: &(impl Threads + Sync), alloc: Global, files: &Files<'_>) -> Result<(), Fault>
+    requires { files.now.command ≡ Command.Check }
+    ensures accepted { OnOk result ((s : Settings) × (routes : Routes) × AsksForChecked (asked_of files.now) s routes) }
+    ensures fault { IfErr result (Refuses (TextsFault (asked_of files.now))) }
+{
+    let (_, relation) = relation_of(alloc, files)?;
+    accept(rt, alloc, files.ranks.unwrap_or(Ok(&[])), &relation)
+}
+
+/// Whether the ranks of a rank file rise along a relation, if there is one: the first fault of the file, of its rows, or of
+/// the check.
+pub fn accept_if_given(
+    rt: &(impl Threads + Sync),
+    alloc: Global,
+    text: Option<Bytes<'_>>,
+    relation: &Relation,
+) -> Result<(), Fault>
+    ensures accepted { OnOk result (IfSome (option_map lent text.entry) (Accepts relation.now)) }
+    ensures fault { IfErr result (Refuses (λ f. IsSomeAnd (option_map lent text.entry) (λ t. RanksFault relation.now t f))) }
+{
+    match text {
+        Some(text) => accept(rt, alloc, text, relation),
+        None => Ok(()),
+    }
+}
+
+// Whether the ranks of a rank file rise along a relation.
+fn accept(
+    rt: &(impl Threads + Sync),
+    alloc: Global,
+    text: Bytes<'_>,
+    relation: &Relation,
+) -> Result<(), Fault>
+    ensures accepted { OnOk result (Accepts relation.now (lent text.entry)) }
+    ensures fault { IfErr result (Refuses (RanksFault relation.now (lent text.entry))) }
+{
+    let ranks = ranks_of(alloc, text, relation)?;
+    match check(rt, alloc, relation, &ranks) {
+        Ok(_) => Ok(()),
+        Err(fault) => Err(Fault::Rank(fault, *relation.shape())),
+    }
+}
+
+// The ranks of a rank file, for the channels of a relation.
+fn ranks_of(alloc: Global, text: Bytes<'_>, relation: &Relation) -> Result<Ranks, Fault>
+    ensures ranks { IfOk result (HasRanking relation.now (lent text.entry)) }
+    ensures fault { IfErr result (Refuses (RanksFault relation.now (lent text.entry))) }
+{
+    let rows = match rows_in(alloc, relation.shape(), text) {
+        Ok(rows) => rows,
+        Err(fault) => return Err(Fault::RankFile(fault)),
+    };
+    match Ranks::from_rows(alloc, relation.shape(), relation.vcs(), &rows) {
+        Ok(ranks) => Ok(ranks),
+        Err(fault) => Err(Fault::Rank(fault, *relation.shape())),
+    }
+}
+
+// The rows that a rank file says.
+fn rows_in(alloc: Global, shape: &Shape, text: Bytes<'_>) -> Result<Vec<RankRow>, InputFault>
+    ensures { Gives (λ v. v.items) result (read_by (ranks_of shape.now) (lent text.entry)) }
+{
+    read_ranks(alloc, shape, text?)
+}

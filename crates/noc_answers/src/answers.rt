@@ -1,0 +1,103 @@
+//! What is answered to a request.
+
+ghost use Rattle.std.specs.Prelude.{◌≡◌, ℕ, IfErr, IfOk, List, Ok};
+ghost use Rattle.noc_files.specs.Writing.{Wrote};
+ghost use Rattle.noc_requests.specs.Asked.{ReadsAs, asked_of};
+ghost use Rattle.noc_requests.specs.Outcome.{Ends, Refuses};
+ghost use Rattle.noc_requests.specs.declared.status.Status.TheVariants.{Done as done};
+ghost use Rattle.noc_answers.specs.Answer.{Asks, AsksFor, AsksForArrivals, FirstFault, IsRankedDrain, IsRankedRun, TextsFault};
+ghost use Rattle.noc_answers.specs.Run.{HasWorkers, workers_of};
+
+use crate::accept::answer_check;
+use crate::explain::explain;
+use crate::formula::answer_ranks;
+use crate::run::{run, run_by_workers};
+use noc_files::{InputFault, Sink, split_joined};
+use noc_requests::{Command, Fault, Files, Report, Request, Status, files_of, parts};
+use std::alloc::Global;
+use std::sync::Wait;
+use std::thread::Threads;
+
+/// Writes the report that is asked for, or answers the first fault, with nothing written before it but the bytes that a
+/// write fault counts. The order is: joined text, configuration, options, shape, table, relation, ranks, check, traffic,
+/// network, run, report. `explain` and `ranks` look at no rank file, `check` and `ranks` at no traffic.
+///
+/// A `run` with a rank file that ends without a fault is done, and never stuck. Where it is to drain, every packet has arrived.
+pub fn answer<R: Threads + Wait + Sync, W: Sink>(
+    rt: &R,
+    alloc: Global,
+    request: &Request,
+    sink: &mut W,
+) -> Result<Status, Fault>
+    requires { HasWorkers request.now.command }
+    ensures ends { Ends (workers_of request.now.command) (Wrote W.contents W.has_failed sink.old sink.new) (sink.new ≡ sink.old) (Asks request.now) (FirstFault request.now) result }
+    ensures ranked { IsRankedRun request.now → IfOk result (λ status. status ≡ done) }
+    ensures drained { IsRankedDrain request.now → IfOk result (λ _. (text : List ℕ) × AsksForArrivals request.now text × Wrote W.contents W.has_failed sink.old sink.new text (Ok tt)) }
+{
+    match request.command {
+        Command::Run {
+            workers,
+            report,
+            drain,
+        } if 1 < workers => {
+            run_by_workers(rt, alloc, &files_of(request), workers, report, drain, sink)
+        }
+        _ => answer_one(rt, alloc, request, sink),
+    }
+}
+
+/// The same without the right to wait, for every request but a run by two or more workers.
+pub fn answer_one<W: Sink>(
+    rt: &(impl Threads + Sync),
+    alloc: Global,
+    request: &Request,
+    sink: &mut W,
+) -> Result<Status, Fault>
+    requires { workers_of request.now.command ≡ 1 }
+    ensures ends { Ends (workers_of request.now.command) (Wrote W.contents W.has_failed sink.old sink.new) (sink.new ≡ sink.old) (Asks request.now) (FirstFault request.now) result }
+    ensures ranked { IsRankedRun request.now → IfOk result (λ status. status ≡ done) }
+    ensures drained { IsRankedDrain request.now → IfOk result (λ _. (text : List ℕ) × AsksForArrivals request.now text × Wrote W.contents W.has_failed sink.old sink.new text (Ok tt)) }
+{
+    let files = read_request(request)?;
+    answer_files(rt, alloc, &files, sink)
+}
+
+// The files at which a request looks: those of its command, or the two texts of its joined text.
+fn read_request(request: &Request) -> Result<Files<'_>, Fault>
+    ensures files { IfOk result (λ files. ReadsAs request.now (asked_of files)) }
+    ensures fault { IfErr result (Refuses (FirstFault request.now)) }
+{
+    let Command::Joined = request.command else {
+        return Ok(files_of(request));
+    };
+    let text = match &request.config {
+        Ok(text) => text.as_slice(),
+        Err(fault) => return Err(Fault::Joined(*fault)),
+    };
+    match split_joined(text) {
+        Some((config, traffic)) => Ok(parts(config, traffic)),
+        None => Err(Fault::Joined(InputFault::NoSplit)),
+    }
+}
+
+// Does what the command of some files says.
+fn answer_files<W: Sink>(
+    rt: &(impl Threads + Sync),
+    alloc: Global,
+    files: &Files<'_>,
+    sink: &mut W,
+) -> Result<Status, Fault>
+    ensures { Ends (workers_of files.now.command) (Wrote W.contents W.has_failed sink.old sink.new) (sink.new ≡ sink.old) (AsksFor (asked_of files.now)) (TextsFault (asked_of files.now)) result }
+{
+    match files.command {
+        Command::Joined => run(rt, alloc, files, Report::Latency, false, sink),
+        Command::Run {
+            workers: _,
+            report,
+            drain,
+        } => run(rt, alloc, files, report, drain, sink),
+        Command::Explain { cycle, router } => explain(alloc, files, cycle, router, sink),
+        Command::Check => answer_check(rt, alloc, files, sink),
+        Command::Ranks => answer_ranks(alloc, files, sink),
+    }
+}

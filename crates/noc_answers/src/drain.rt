@@ -1,0 +1,93 @@
+//! Running a network for its cycles, and on until every packet is out.
+
+ghost use Rattle.std.specs.Prelude.{◌≡◌, ◌≢◌, ◌⊎◌, ◌+◌, ◌-◌, ◌<◌, ◌≤◌, min, true, false, IfErr, IfNone, IfOk, IfSome};
+ghost use Rattle.noc_tiles.specs.declared.fault.RunFault.TheVariants.{LostWorker};
+ghost use Rattle.noc_answers.specs.Drain.{DrainsAt, RunsTo, is_out_at};
+
+use noc_files::MAX_CYCLES;
+use noc_net::Network;
+use noc_tiles::{AllOpen, RunFault, run_tiles};
+use std::alloc::Global;
+use std::sync::Wait;
+use std::thread::Threads;
+
+/// After how many cycles a run that is to drain looks again whether every packet is out.
+const PIECE: u64 = 64;
+
+/// Runs a network that has not run for so many cycles, and on where it is to drain.
+pub fn run_to_end(network: &mut Network, cycles: u64, drain: bool)
+    requires opening { network.old.count ≡ 0 }
+    requires cycles { cycles ≤ MAX_CYCLES }
+    ensures net { network.new.net ≡ network.old.net }
+    ensures end { RunsTo drain network.new.net cycles network.new.count }
+{
+    network.run(cycles);
+    if drain {
+        run_on(network);
+    }
+}
+
+/// The same by two or more workers.
+pub fn run_to_end_by_workers<R: Threads + Wait + Sync>(
+    rt: &R,
+    alloc: Global,
+    network: Network,
+    cycles: u64,
+    workers: usize,
+    drain: bool,
+) -> Result<Network, RunFault>
+    requires opening { network.count ≡ 0 }
+    requires cycles { cycles ≤ MAX_CYCLES }
+    requires workers { (1 < workers) × (workers ≤ 16) }
+    ensures net { IfOk result (λ n. n.net ≡ network.net) }
+    ensures end { IfOk result (λ n. RunsTo drain n.net cycles n.count) }
+    ensures lost { IfErr result (λ e. e ≢ LostWorker) }
+{
+    let network = run_tiles(rt, alloc, network, cycles, workers, &AllOpen)?;
+    if drain {
+        run_on_by_workers(rt, alloc, network, workers)
+    } else {
+        Ok(network)
+    }
+}
+
+// Runs a network on until every packet is out, or to its limit.
+fn run_on(network: &mut Network)
+    ensures net { network.new.net ≡ network.old.net }
+    ensures end { DrainsAt network.new.net network.old.count network.new.count }
+{
+    let limit = network.limit();
+    while let Some(cycles) = next_piece(network, limit) {
+        network.run(cycles);
+    }
+}
+
+// The same by two or more workers.
+fn run_on_by_workers<R: Threads + Wait + Sync>(
+    rt: &R,
+    alloc: Global,
+    mut network: Network,
+    workers: usize,
+) -> Result<Network, RunFault>
+    requires workers { (1 < workers) × (workers ≤ 16) }
+    ensures net { IfOk result (λ n. n.net ≡ network.net) }
+    ensures end { IfOk result (λ n. DrainsAt n.net network.count n.count) }
+    ensures lost { IfErr result (λ e. e ≢ LostWorker) }
+{
+    let limit = network.limit();
+    while let Some(cycles) = next_piece(&network, limit) {
+        network = run_tiles(rt, alloc, network, cycles, workers, &AllOpen)?;
+    }
+    Ok(network)
+}
+
+// How many cycles a network that is to drain runs next: up to the next look or the limit, and none where it has drained.
+fn next_piece(network: &Network, limit: u64) -> Option<u64>
+    ensures some { IfSome result (λ cycles. (network.now.count < limit) × (is_out_at network.now.net network.now.count ≡ false) × (cycles ≡ min PIECE (limit - network.now.count))) }
+    ensures none { IfNone result ((limit ≤ network.now.count) ⊎ (is_out_at network.now.net network.now.count ≡ true)) }
+{
+    if limit <= network.count() || network.all_out() {
+        return None;
+    }
+    Some(PIECE.min(limit - network.count()))
+}

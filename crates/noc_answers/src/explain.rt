@@ -1,0 +1,51 @@
+//! Explaining what a router found in a cycle.
+
+ghost use Rattle.std.specs.Prelude.{◌≡◌, ◌<◌, IfErr, IfOk};
+ghost use Rattle.noc_topo.specs.Shape.{nodes};
+ghost use Rattle.noc_files.specs.Writing.{Wrote};
+ghost use Rattle.noc_requests.specs.Asked.{asked_of};
+ghost use Rattle.noc_requests.specs.Outcome.{Ends, Refuses};
+ghost use Rattle.noc_answers.specs.Answer.{AsksFor, TextsFault};
+ghost use Rattle.noc_answers.specs.Run.{AsksForRun, workers_of};
+
+use crate::run::network_of;
+use noc_files::{Sink, write_findings};
+use noc_net::Network;
+use noc_requests::{Command, Fault, Files, Status, relation_of};
+use std::alloc::Global;
+
+/// Runs the network up to the end of a cycle, and writes what a router found in it.
+pub fn explain<W: Sink>(
+    alloc: Global,
+    files: &Files<'_>,
+    cycle: u64,
+    router: usize,
+    sink: &mut W,
+) -> Result<Status, Fault>
+    requires { files.now.command ≡ Command.Explain cycle router }
+    ensures { Ends (workers_of files.now.command) (Wrote W.contents W.has_failed sink.old sink.new) (sink.new ≡ sink.old) (AsksFor (asked_of files.now)) (TextsFault (asked_of files.now)) result }
+{
+    let network = network_after(alloc, files, cycle, router)?;
+    match write_findings(&network, router, sink) {
+        Ok(()) => Ok(Status::Done),
+        Err(fault) => Err(Fault::Write(fault)),
+    }
+}
+
+// The network after a cycle.
+fn network_after(
+    alloc: Global,
+    files: &Files<'_>,
+    cycle: u64,
+    router: usize,
+) -> Result<Network, Fault>
+    requires { files.now.command ≡ Command.Explain cycle router }
+    ensures run { IfOk result (AsksForRun (asked_of files.now)) }
+    ensures router { IfOk result (λ n. router < nodes n.net.relation.grid) }
+    ensures fault { IfErr result (Refuses (TextsFault (asked_of files.now))) }
+{
+    let (config, relation) = relation_of(alloc, files)?;
+    let mut network = network_of(alloc, relation, config.buffer, files.traffic)?;
+    network.run(cycle + 1);
+    Ok(network)
+}

@@ -1,0 +1,48 @@
+//! Writing the ranks by formula of a routing rule.
+
+ghost use Rattle.std.specs.Prelude.{◌≡◌, IfErr, IfOk};
+ghost use Rattle.noc_files.specs.Configuration.{settings};
+ghost use Rattle.noc_files.specs.Writing.{Wrote};
+ghost use Rattle.noc_requests.specs.Asked.{asked_of};
+ghost use Rattle.noc_requests.specs.Outcome.{Ends, Refuses};
+ghost use Rattle.noc_answers.specs.Answer.{AsksFor, TextsFault};
+ghost use Rattle.noc_answers.specs.Formula.{HasRanks, IsFormulaFault};
+ghost use Rattle.noc_answers.specs.Run.{workers_of};
+
+use noc_files::{Config, Sink, write_ranks};
+use noc_rank::{RankFault, Ranks};
+use noc_requests::{Command, Fault, Files, Status, named_rule, relation_of};
+use noc_topo::Shape;
+use std::alloc::Global;
+
+/// Writes the ranks by formula of the rule, once its relation could be made.
+pub fn answer_ranks<W: Sink>(
+    alloc: Global,
+    files: &Files<'_>,
+    sink: &mut W,
+) -> Result<Status, Fault>
+    requires { files.now.command ≡ Command.Ranks }
+    ensures { Ends (workers_of files.now.command) (Wrote W.contents W.has_failed sink.old sink.new) (sink.new ≡ sink.old) (AsksFor (asked_of files.now)) (TextsFault (asked_of files.now)) result }
+{
+    let (config, relation) = relation_of(alloc, files)?;
+    let shape = relation.shape();
+    let ranks = match ranks_by_formula(alloc, &config, shape) {
+        Ok(ranks) => ranks,
+        Err(fault) => return Err(Fault::Rank(fault, *shape)),
+    };
+    match write_ranks(&ranks, shape, config.channels, sink) {
+        Ok(()) => Ok(Status::Done),
+        Err(fault) => Err(Fault::Write(fault)),
+    }
+}
+
+// The ranks by formula of a configuration's rule. A table has none.
+fn ranks_by_formula(alloc: Global, config: &Config, shape: &Shape) -> Result<Ranks, RankFault>
+    ensures ranks { IfOk result (HasRanks (settings config.now) shape.now) }
+    ensures fault { IfErr result (IsFormulaFault (settings config.now) shape.now) }
+{
+    match named_rule(config.rule) {
+        Some(rule) => Ranks::generated(alloc, shape, config.channels, config.classes, &rule),
+        None => Err(RankFault::NoGenerated),
+    }
+}

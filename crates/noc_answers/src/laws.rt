@@ -1,0 +1,16 @@
+//! What every request has in common.
+
+ghost use Rattle.std.specs.Prelude.{ℕ, List, ◌≡◌, false, true};
+ghost use Rattle.noc_requests.specs.Status.{is_memory};
+ghost use Rattle.noc_requests.specs.declared.fault.Fault.{Fault as FaultValue};
+ghost use Rattle.noc_requests.specs.declared.request.Request.{Request as RequestValue};
+ghost use Rattle.noc_requests.specs.declared.status.Status.{Status as StatusValue};
+ghost use Rattle.noc_answers.specs.Answer.{Asks, FirstFault};
+
+/// A request has one answer: two texts that it asks for are the same, and so is how they end; where it asks for a text
+/// no fault is its first but that memory was refused; and two first faults, neither of memory, are the same.
+pub fn a_request_has_one_answer()
+    ensures text { (r : RequestValue) (text other : List ℕ) (status end : StatusValue) → Asks r text status → Asks r other end → (text ≡ other) × (status ≡ end) }
+    ensures either { (r : RequestValue) (text : List ℕ) (status : StatusValue) (f : FaultValue) → Asks r text status → FirstFault r f → is_memory f ≡ true }
+    ensures fault { (r : RequestValue) (f g : FaultValue) → is_memory f ≡ false → is_memory g ≡ false → FirstFault r f → FirstFault r g → f ≡ g }
+{}

@@ -1,0 +1,14 @@
+//! From the texts of a request to the bytes of its answer: ranks are checked, the network is run, and what is asked for is
+//! written.
+#![tactic(auto)]
+
+mod accept;
+mod answers;
+mod drain;
+mod explain;
+mod formula;
+mod laws;
+mod run;
+
+pub use answers::{answer, answer_one};
+pub use laws::a_request_has_one_answer;

@@ -1,0 +1,142 @@
+//! Running the network that is asked for.
+
+ghost use Rattle.std.specs.Prelude.{◌≡◌, ℕ, ◌<◌, ◌≤◌, Ok, Some, IfErr, IfOk};
+ghost use Rattle.noc_files.specs.Gives.{Gives};
+ghost use Rattle.noc_files.specs.Traffic.{traffic_of};
+ghost use Rattle.noc_files.specs.Writing.{Wrote};
+ghost use Rattle.noc_requests.specs.Asked.{asked_of, lent, read_by};
+ghost use Rattle.noc_requests.specs.Outcome.{Ends, IsWriteFault, Refuses};
+ghost use Rattle.noc_requests.specs.declared.request.Report.{Report as ReportValue};
+ghost use Rattle.noc_answers.specs.Answer.{AsksFor, TextsFault};
+ghost use Rattle.noc_answers.specs.Drain.{RunsTo};
+ghost use Rattle.noc_answers.specs.Reports.{report_text};
+ghost use Rattle.noc_answers.specs.Run.{AsksForRun, IsNetworkOf, PacketsFault, ending, is_draining, report_of, workers_of};
+
+use crate::accept::accept_if_given;
+use crate::drain::{run_to_end, run_to_end_by_workers};
+use noc_files::{
+    InputFault, MAX_CYCLES, Sink, WriteFault, read_traffic, write_latency, write_stalls,
+    write_summary,
+};
+use noc_net::Network;
+use noc_packet::{MAX_BUFFER, Packet};
+use noc_requests::{Bytes, Fault, Files, Report, Status, relation_of};
+use noc_route::Relation;
+use std::alloc::Global;
+use std::sync::Wait;
+use std::thread::Threads;
+
+/// Runs the network for its cycles, and writes a report; ranks are checked before, if there are any.
+pub fn run<W: Sink>(
+    rt: &(impl Threads + Sync),
+    alloc: Global,
+    files: &Files<'_>,
+    report: Report,
+    drain: bool,
+    sink: &mut W,
+) -> Result<Status, Fault>
+    requires report { report_of files.now.command ≡ Some report }
+    requires drain { is_draining files.now.command ≡ drain }
+    ensures { Ends (workers_of files.now.command) (Wrote W.contents W.has_failed sink.old sink.new) (sink.new ≡ sink.old) (AsksFor (asked_of files.now)) (TextsFault (asked_of files.now)) result }
+{
+    let (mut network, cycles) = opening_network(rt, alloc, files)?;
+    run_to_end(&mut network, cycles, drain);
+    report_on(&network, report, sink)
+}
+
+/// The same by two or more workers.
+pub fn run_by_workers<R: Threads + Wait + Sync, W: Sink>(
+    rt: &R,
+    alloc: Global,
+    files: &Files<'_>,
+    workers: usize,
+    report: Report,
+    drain: bool,
+    sink: &mut W,
+) -> Result<Status, Fault>
+    requires report { report_of files.now.command ≡ Some report }
+    requires drain { is_draining files.now.command ≡ drain }
+    requires workers { workers_of files.now.command ≡ workers }
+    requires number { (1 < workers) × (workers ≤ 16) }
+    ensures { Ends (workers_of files.now.command) (Wrote W.contents W.has_failed sink.old sink.new) (sink.new ≡ sink.old) (AsksFor (asked_of files.now)) (TextsFault (asked_of files.now)) result }
+{
+    let (network, cycles) = opening_network(rt, alloc, files)?;
+    match run_to_end_by_workers(rt, alloc, network, cycles, workers, drain) {
+        Ok(network) => report_on(&network, report, sink),
+        Err(fault) => Err(Fault::Run(fault)),
+    }
+}
+
+// The network before its first cycle, and how many cycles it is to run at least.
+fn opening_network(
+    rt: &(impl Threads + Sync),
+    alloc: Global,
+    files: &Files<'_>,
+) -> Result<(Network, u64), Fault>
+    requires { (report : ReportValue) × (report_of files.now.command ≡ Some report) }
+    ensures opening { IfOk result (λ r. r.0.count ≡ 0) }
+    ensures cycles { IfOk result (λ r. r.1 ≤ MAX_CYCLES) }
+    ensures run { IfOk result (λ r. (end : ℕ) → RunsTo (is_draining files.now.command) r.0.net r.1 end → AsksForRun (asked_of files.now) (record { net = r.0.net; count = end })) }
+    ensures fault { IfErr result (Refuses (TextsFault (asked_of files.now))) }
+{
+    let (config, relation) = relation_of(alloc, files)?;
+    accept_if_given(rt, alloc, files.ranks, &relation)?;
+    let network = network_of(alloc, relation, config.buffer, files.traffic)?;
+    Ok((network, config.cycles))
+}
+
+// Writes a report of a network that has run, and says how the run has ended.
+fn report_on<W: Sink>(network: &Network, report: Report, sink: &mut W) -> Result<Status, Fault>
+    ensures status { IfOk result (λ status. (status ≡ ending network.now) × Wrote W.contents W.has_failed sink.old sink.new (report_text report network.now) (Ok tt)) }
+    ensures fault { IfErr result (IsWriteFault (Wrote W.contents W.has_failed sink.old sink.new (report_text report network.now))) }
+{
+    if let Err(fault) = write_report(network, report, sink) {
+        return Err(Fault::Write(fault));
+    }
+    if network.stuck() {
+        Ok(Status::Stuck)
+    } else {
+        Ok(Status::Done)
+    }
+}
+
+/// The network of a relation and a traffic text, before its first cycle, with `places` (1 to 16 flits) in each buffer.
+pub fn network_of(
+    alloc: Global,
+    relation: Relation,
+    places: usize,
+    traffic: Bytes<'_>,
+) -> Result<Network, Fault>
+    requires some_place { 0 < places }
+    requires places { places ≤ MAX_BUFFER }
+    ensures opening { IfOk result (λ n. n.count ≡ 0) }
+    ensures network { IfOk result (λ n. IsNetworkOf relation places (lent traffic.entry) n.net) }
+    ensures fault { IfErr result (Refuses (PacketsFault relation (lent traffic.entry))) }
+{
+    let packets = match packets_in(alloc, traffic) {
+        Ok(packets) => packets,
+        Err(fault) => return Err(Fault::Traffic(fault)),
+    };
+    match Network::new(alloc, relation, places, packets) {
+        Ok(network) => Ok(network),
+        Err(fault) => Err(Fault::Network(fault)),
+    }
+}
+
+// The packets that a traffic text says.
+fn packets_in(alloc: Global, text: Bytes<'_>) -> Result<Vec<Packet>, InputFault>
+    ensures { Gives (λ v. v.items) result (read_by traffic_of (lent text.entry)) }
+{
+    read_traffic(alloc, text?)
+}
+
+// Writes a report of a network.
+fn write_report<W: Sink>(network: &Network, report: Report, sink: &mut W) -> Result<(), WriteFault>
+    ensures { Wrote W.contents W.has_failed sink.old sink.new (report_text report network.now) result }
+{
+    match report {
+        Report::Summary => write_summary(network, sink),
+        Report::Latency => write_latency(network, sink),
+        Report::Stalls => write_stalls(network, sink),
+    }
+}

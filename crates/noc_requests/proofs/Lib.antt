@@ -1,0 +1,4 @@
+pub mod MemoryFacts
+pub mod OutcomeFacts
+pub mod AskedFacts
+pub mod OneSettingsFacts
