@@ -1,6 +1,6 @@
 //! Time that jumps: cycles in which nothing happens are run at once.
 
-ghost use Rattle.std.specs.Prelude.{◌≡◌, ℕ, ◌+◌, ◌-◌, ◌<◌, ◌≤◌, All, length, map, true};
+ghost use Rattle.std.specs.Prelude.{◌≡◌, ◌↔◌, ℕ, ◌+◌, ◌-◌, ◌<◌, ◌≤◌, All, IsTrue, length, map, false};
 ghost use Rattle.noc_topo.specs.Shape.{nodes as nodes_of, ports as ports_of};
 ghost use Rattle.noc_router.specs.Decided.{IsDecidedFor};
 ghost use Rattle.noc_router.specs.Still.{IsHeldBefore, waited};
@@ -34,6 +34,7 @@ pub(crate) fn jump(
     ensures later { last < result }
     ensures within { result ≤ end }
     ensures in_step { (net : Setup) → net.relation ≡ relation.now → AreInStepUnseen net (last + 1) routers.old beats.now → AreInStepUnseen net result routers.new beats.now }
+    ensures far { (n : ℕ) → n ≤ end → had_event_in last routers.old ≡ false → All IsSilent beats.now → AreStill relation.now routers.old → All (IsHeldBefore n) routers.old → n ≤ result }
 {
     let first = last + 1;
     if had_event(last, routers) {
@@ -65,10 +66,11 @@ fn had_event(cycle: u64, routers: &[Router]) -> bool
     false
 }
 
-// Before which cycle, at most `end`, no router injects if nothing happens.
+// The last cycle, at most `end`, before which no router injects if nothing happens.
 fn first_injection(end: u64, routers: &[Router]) -> u64
     ensures within { result ≤ end }
     ensures held { All (IsHeldBefore result) routers.now }
+    ensures last { (n : ℕ) → n ≤ end → All (IsHeldBefore n) routers.now → n ≤ result }
 {
     let mut until = end;
     for router in routers {
@@ -81,7 +83,7 @@ fn first_injection(end: u64, routers: &[Router]) -> u64
 
 // Whether no beat is in flight.
 fn all_silent(beats: &[[Beat; LINKS]]) -> bool
-    ensures { result ≡ true → All IsSilent beats.now }
+    ensures { IsTrue result ↔ All IsSilent beats.now }
 {
     for row in beats {
         if !arrived(row).is_empty() {
@@ -96,7 +98,7 @@ fn all_still(relation: &Relation, plan: &mut Plan, routers: &[Router]) -> bool
     requires plan { IsDecidedFor (ports_of relation.now.grid) relation.now.vcs plan.old }
     requires routers { All (λ v. IsRelationOf relation.now v) routers.now }
     ensures plan { IsDecidedFor (ports_of relation.now.grid) relation.now.vcs plan.new }
-    ensures still { result ≡ true → AreStill relation.now routers.now }
+    ensures still { IsTrue result ↔ AreStill relation.now routers.now }
 {
     for router in routers {
         if !router.is_still(relation, plan) {

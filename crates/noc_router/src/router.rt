@@ -447,7 +447,7 @@ impl Router {
     /// The first cycle in which `inject` would inject a flit, if nothing happens before: 0 where it would in any, None where in none.
     pub fn next_injection(&self) -> Option<u64>
         ensures before { (end : ℕ) → IfSome result (λ due. end ≤ due) → IsHeldBefore end self.now }
-        ensures due { IfSome result (λ due. (injected due self.now).had_event ≡ true) }
+        ensures due { IfSome result (λ due. IsHeldBefore (due + 1) self.now → ⊥) }
     {
         let due = self.source.next_due()?;
         match self.source.channel() {
