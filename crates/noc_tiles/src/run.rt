@@ -33,13 +33,7 @@ fn cycle(
     ensures ran { IsTrue result → (row : List beat_value) × Cycles relation.now seen cycle tile.old tile.new row }
     ensures stopped { IsFalse result → stop.now ≡ true }
 {
-    if !take_all(
-        rt,
-        &mut tile.ins,
-        &mut tile.beats,
-        &mut tile.marks,
-        stop,
-    ) {
+    if !take_all(rt, &mut tile.ins, &mut tile.beats, &mut tile.marks, stop) {
         return false;
     }
     decide_all(

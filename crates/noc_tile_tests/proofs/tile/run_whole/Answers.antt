@@ -13,4 +13,4 @@ run_tile-tile-requires-clause-ready g c =
     let a : Tile =
     record { worker = 0; first = 0; start = P.count; cycles = c.args.cycles; done = 0; outcome = Whole; routers = P.routers; plan = P.plan; beats = P.beats; marks = c.of-marks.result; ins = c.new.result; outs = c.new-2.result } in
     λ κs b. whole-ready P c.into_parts-relation.ensures.parts a grid refl refl refl refl c.new.ensures.items c.new-2.ensures.items
-    (subst (AreMarked c.of-marks.result) c.deref-marks.ensures.value c.of-marks.ensures)
+    (subst (AreMarked c.of-marks.result) c.deref.ensures.value c.of-marks.ensures)

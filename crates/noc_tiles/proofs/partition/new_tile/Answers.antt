@@ -82,7 +82,7 @@ returns-clause-tile c = λ I0 O0 U.
     c.in_ok-beats.ensures.own c.in_ok-beats.ensures.idle
     (subst (λ (z : Grid). AreTakenIn z first count ((first + count) * 6) I (map inlet c.in_ok-ins.ins.items)) g c.in_ok-ins.ensures.taken)
     (subst (λ (z : Grid). AreTakenOut z first count ((first + count) * 6) O (map outlet c.in_ok-outs.outs.items)) g c.in_ok-outs.ensures.taken)
-    (subst (AreMarked c.of-marks.result) c.deref-marks.ensures.value c.of-marks.ensures)
+    (subst (AreMarked c.of-marks.result) c.deref.ensures.value c.of-marks.ensures)
 
 pub returns-clause-left : goal.returns-clause-left
 returns-clause-left c ok = λ I0 O0 U.

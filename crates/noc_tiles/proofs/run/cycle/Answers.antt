@@ -1,4 +1,4 @@
-use Rattle.std.proofs.Common.{◌≡◌, ◌⊎◌, ℕ, ◌+◌, ◌<◌, ◌≤◌, true, false, List, [], length, get_or, map, vec_len, refl, ap, sym, ◌∙◌, subst, arith, rules, ⊎_elim}
+use Rattle.std.proofs.Common.{◌≡◌, ◌⊎◌, ℕ, ◌+◌, ◌<◌, ◌≤◌, List, [], length, get_or, map, vec_len, refl, ap, sym, ◌∙◌, subst, arith, rules}
 use Rattle.std.specs.List.{All}
 use Rattle.std.specs.Vec.{with_items}
 use Rattle.std.proofs.lemmas.List.{with_items_is, get_or_default, length-map}
@@ -8,11 +8,11 @@ use Rattle.noc_net.specs.Halves.{IsLinked, IsSilent, beat_at, emptied}
 use Rattle.noc_net.specs.Marks.{AreMarked}
 use Rattle.noc_net.specs.Unseen.{unseen}
 use Rattle.noc_tiles.specs.Ends.{inlet, outlet}
-use Rattle.noc_tiles.specs.TileStep.{fed, filled, is_own, places}
+use Rattle.noc_tiles.specs.TileStep.{fed, filled, places}
 use Rattle.noc_tiles.specs.Tiles.{AreWithin, inlets, outlets}
 use Rattle.noc_tiles.proofs.TileStepLemmas.{places-names}
 use Rattle.noc_tiles.proofs.ClearLemmas.{Cleared}
-use Rattle.noc_tiles.proofs.CycleLemmas.{linked-taken, idle-taken, placed2, count2, views3, seen3, wires4, put4, set4, set-as, some_view, cases_bool}
+use Rattle.noc_tiles.proofs.CycleLemmas.{linked-taken, idle-taken, placed2, count2, views3, seen3, wires4, put4, set4, set-as, some_view}
 use Rattle.noc_tiles.proofs.SentLemmas.{own-false}
 use Rattle.noc_tiles.proofs.run.cycle.Goals as goal
 

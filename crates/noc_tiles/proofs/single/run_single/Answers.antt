@@ -18,7 +18,7 @@ run_tile-tile-requires-clause-ready g c =
     let a : Tile =
     record { worker = 0; first = 0; start = P.count; cycles = c.args.cycles; done = 0; outcome = Whole; routers = P.routers; plan = P.plan; beats = P.beats; marks = c.of-marks.result; ins = c.new.result; outs = c.new-2.result } in
     λ κs b. whole-ready P c.into_parts-relation.ensures.parts a grid refl refl refl refl c.new.ensures.items c.new-2.ensures.items
-    (subst (AreMarked c.of-marks.result) c.deref-marks.ensures.value c.of-marks.ensures)
+    (subst (AreMarked c.of-marks.result) c.deref.ensures.value c.of-marks.ensures)
 
 pub from_parts-requires : goal.from_parts-requires
 from_parts-requires g c =
@@ -30,7 +30,7 @@ from_parts-requires g c =
     let a : Tile = record { worker = 0; first = 0; start = P.count; cycles = k; done = 0; outcome = Whole; routers = P.routers; plan = P.plan; beats = P.beats; marks = c.of-marks.result; ins = c.new.result; outs = c.new-2.result } in
     let b = c.run_tile-tile.result in
     let ready : IsReady P.relation a = whole-ready P A a grid refl refl refl refl c.new.ensures.items c.new-2.ensures.items
-    (subst (AreMarked c.of-marks.result) c.deref-marks.ensures.value c.of-marks.ensures) in
+    (subst (AreMarked c.of-marks.result) c.deref.ensures.value c.of-marks.ensures) in
     let all : IsAll net P.count k a = record {
       grid = grid;
       can = record { ready = ready; done = refl; end = search (rules, arith) };
