@@ -1,5 +1,5 @@
 -- What came to the routers is taken part by part.
-use Rattle.std.proofs.Common.{◌≡◌, ◌≢◌, ℕ, ◌+◌, ◌*◌, ◌/◌, ◌%◌, ◌<◌, ◌≤◌, Bool, true, false, List, [], length, map, get_or, set, Option, Some, None, refl, ap, sym, ◌∙◌, ⊎_elim, arith}
+use Rattle.std.proofs.Common.{◌≡◌, ◌≢◌, ◌⊎◌, inl, inr, ℕ, ◌+◌, ◌-◌, ◌*◌, ◌/◌, ◌%◌, ◌<◌, ◌≤◌, Bool, true, false, List, [], length, map, get_or, set, Option, Some, None, refl, ap, sym, ◌∙◌, ⊎_elim, subst, arith}
 use Rattle.std.specs.Prelude.{◌&&◌, not, nat_eq, is_some, if◌then◌else◌}
 use Rattle.std.proofs.lemmas.Bool.{cases_eq, cases_lt, false≢true}
 use Rattle.std.proofs.lemmas.Bool.Decides.{eqb_tells}
@@ -19,8 +19,8 @@ use Rattle.noc_model.specs.Unseen.{advanced}
 use Rattle.noc_model.proofs.StepLemmas.{IsRelationOf-same_site, site-taken, taken_end}
 use Rattle.noc_model.proofs.TakeAhead.{taken_ahead}
 use Rattle.noc_model.proofs.UnseenLemmas.{frozen-findings}
-use Rattle.noc_net.specs.Marks.{AreWhere, has_credit, has_flit}
-use Rattle.noc_net.specs.Takes.{HaveTaken, concluded, moved_on}
+use Rattle.noc_net.specs.Marks.{AreWhere}
+use Rattle.noc_net.specs.Takes.{HaveTaken, NoneElsewhere, concluded, moved_on}
 
 equal-test : (a b : ℕ) → a ≡ b → nat_eq a b ≡ true
 equal-test a b e = ⊎_elim (λ h. h.0) (λ h. absurd (h.1 e)) (eqb_tells a b)
@@ -49,27 +49,35 @@ there-link is silent grid row port linked e =
     (cases_lt port (local_port grid))
 
 -- a router and a port, to which something came
-pub record IsThere (relation : Routes) (routers : List View) (beats : List (List Beat)) (r port : ℕ) : Type 0 where
-  pub router : r < length routers
+pub record IsThere (relation : Routes) (first : ℕ) (routers : List View) (beats : List (List Beat)) (r port : ℕ) : Type 0 where
+  pub from : first ≤ r
+  pub router : r - first < length routers
   pub row : r < length beats
   pub link : port < local_port relation.grid
   pub port_of_row : port < length (get_or beats r [])
-  pub built : (d : View) → IsRelationOf relation (get_or routers r d)
+  pub built : (d : View) → IsRelationOf relation (get_or routers (r - first) d)
 
 -- the place of a member
-pub there : (is : Beat → Bool) → is idle_beat ≡ false → (relation : Routes) (routers : List View) (beats : List (List Beat)) (now : List View) (wires : List (List Beat)) (sets : List ℕ) (w k : ℕ)
-    → HaveTaken relation routers beats now wires → AreWhere is sets wires → w < 32 → k < 56 → has_bit (get_or sets w 0) k ≡ true
-    → IsThere relation now wires (w * 8 + k / 7) (k % 7)
-there is silent relation routers beats now wires sets w k so_far where_so l m member =
+pub there : (is : Beat → Bool) → is idle_beat ≡ false → (relation : Routes) (first : ℕ) (routers : List View) (beats : List (List Beat)) (now : List View) (wires : List (List Beat)) (sets : List ℕ) (w k : ℕ)
+    → HaveTaken relation first routers beats now wires → AreWhere is sets wires → w < 32 → k < 56 → has_bit (get_or sets w 0) k ≡ true
+    → IsThere relation first now wires (w * 8 + k / 7) (k % 7)
+there is silent relation first routers beats now wires sets w k so_far where_so l m member =
     let came : is (beat_at wires (w * 8 + k / 7) (k % 7)) ≡ true = sym (where_so w k l m) ∙ member in
     let row : w * 8 + k / 7 < length wires = there-router is silent wires (w * 8 + k / 7) (k % 7) came in
-    let in_routers : w * 8 + k / 7 < length routers = omega (arith, row, so_far.rows) in
+    let out_of : (w * 8 + k / 7 < first) ⊎ (first + length routers ≤ w * 8 + k / 7) → ⊥ =
+    λ out. false≢true (sym silent ∙ sym (ap is (so_far.others (w * 8 + k / 7) (k % 7) row out)) ∙ came) in
+    let from : first ≤ w * 8 + k / 7 = ⊎_elim (λ (l : w * 8 + k / 7 < first). absurd (out_of (inl l))) (λ (u : first ≤ w * 8 + k / 7). u) (cases_lt (w * 8 + k / 7) first) in
+    let below : w * 8 + k / 7 < first + length routers =
+    ⊎_elim (λ (l : w * 8 + k / 7 < first + length routers). l) (λ (u : first + length routers ≤ w * 8 + k / 7). absurd (out_of (inr u))) (cases_lt (w * 8 + k / 7) (first + length routers)) in
+    let in_routers : (w * 8 + k / 7) - first < length routers = omega (arith, from, below) in
+    let at : first + ((w * 8 + k / 7) - first) ≡ w * 8 + k / 7 = omega (arith, from) in
     record {
+      from = from;
       router = omega (arith, in_routers, so_far.count);
       row = row;
-      link = there-link is silent relation.grid (get_or wires (w * 8 + k / 7) []) (k % 7) (so_far.linked (w * 8 + k / 7) in_routers) came;
+      link = there-link is silent relation.grid (get_or wires (w * 8 + k / 7) []) (k % 7) (subst (λ (n : ℕ). IsLinked relation.grid (get_or wires n [])) at (so_far.linked ((w * 8 + k / 7) - first) in_routers)) came;
       port_of_row = there-port is silent (get_or wires (w * 8 + k / 7) []) (k % 7) came;
-      built = λ d. so_far.built (w * 8 + k / 7) d in_routers;
+      built = λ d. so_far.built ((w * 8 + k / 7) - first) d in_routers;
     }
 
 -- ---- one beat is another one now
@@ -117,69 +125,80 @@ where-less is sets beats w k left beat before long small members silent row port
 
 -- ---- the routers
 
-pub taken-none : (relation : Routes) (routers : List View) (beats : List (List Beat)) (routers' : List View) (beats' : List (List Beat)) → HaveTaken relation routers beats routers' beats' → HaveTaken relation routers' beats' routers' beats'
-taken-none relation routers beats routers' beats' so_far = record {
+pub taken-none : (relation : Routes) (first : ℕ) (routers : List View) (beats : List (List Beat)) (routers' : List View) (beats' : List (List Beat)) → HaveTaken relation first routers beats routers' beats'
+    → HaveTaken relation first routers' beats' routers' beats'
+taken-none relation first routers beats routers' beats' so_far = record {
   count = refl;
-  rows = so_far.rows ∙ sym so_far.count;
   built = λ r d l. so_far.built r d (omega (arith, so_far.count, l));
   linked = λ r l. so_far.linked r (omega (arith, so_far.count, l));
+  others = λ r port l out. so_far.others r port l (subst (λ (n : ℕ). (r < first) ⊎ (first + n ≤ r)) so_far.count out);
   rest = λ r d l. refl;
 }
 
-pub taken-then : (relation : Routes) (routers : List View) (beats : List (List Beat)) (routers' : List View) (beats' : List (List Beat)) (routers'' : List View) (beats'' : List (List Beat))
-    → HaveTaken relation routers beats routers' beats' → HaveTaken relation routers' beats' routers'' beats'' → HaveTaken relation routers beats routers'' beats''
-taken-then relation routers beats routers' beats' routers'' beats'' one two = record {
+pub taken-then : (relation : Routes) (first : ℕ) (routers : List View) (beats : List (List Beat)) (routers' : List View) (beats' : List (List Beat)) (routers'' : List View) (beats'' : List (List Beat))
+    → HaveTaken relation first routers beats routers' beats' → HaveTaken relation first routers' beats' routers'' beats'' → HaveTaken relation first routers beats routers'' beats''
+taken-then relation first routers beats routers' beats' routers'' beats'' one two = record {
   count = two.count ∙ one.count;
-  rows = two.rows ∙ one.count;
   built = λ r d l. two.built r d (omega (arith, one.count, l));
   linked = λ r l. two.linked r (omega (arith, one.count, l));
+  others = λ r port l out. two.others r port l (subst (λ (n : ℕ). (r < first) ⊎ (first + n ≤ r)) (sym one.count) out);
   rest = λ r d l. two.rest r d (omega (arith, one.count, l)) ∙ one.rest r d l;
 }
 
+-- where each router has its row there is no other
+pub none-left : (routers : List View) (beats : List (List Beat)) → length beats ≡ length routers → NoneElsewhere 0 (length routers) beats
+none-left routers beats same r port l out = absurd (⊎_elim (λ (m : r < 0). omega (arith, m)) (λ (u : 0 + length routers ≤ r). omega (arith, u, l, same)) out)
+
 -- one router takes a part of a beat
-pub taken-part : (relation : Routes) (routers : List View) (beats : List (List Beat)) (now after : List View) (wires : List (List Beat)) (r port : ℕ) (one left : Beat)
-    → HaveTaken relation routers beats now wires → r < length now → port < local_port relation.grid → port < length (get_or wires r [])
+pub taken-part : (relation : Routes) (first : ℕ) (routers : List View) (beats : List (List Beat)) (now after : List View) (wires : List (List Beat)) (i r port : ℕ) (one left : Beat)
+    → HaveTaken relation first routers beats now wires → first + i ≡ r → i < length now → r < length wires → port < local_port relation.grid → port < length (get_or wires r [])
     → ((w : View) → taken relation port left (taken relation port one w) ≡ taken relation port (beat_at wires r port) w)
     → length after ≡ length now
-    → ((k : ℕ) (d : View) → get_or after k d ≡ (if nat_eq k r then taken relation port one (get_or now k d) else get_or now k d))
-    → HaveTaken relation routers beats after (sent_on wires (Some (r, port)) left)
-taken-part relation routers beats now after wires r port one left so_far in_range link within parts count each = record {
+    → ((k : ℕ) (d : View) → get_or after k d ≡ (if nat_eq k i then taken relation port one (get_or now k d) else get_or now k d))
+    → HaveTaken relation first routers beats after (sent_on wires (Some (r, port)) left)
+taken-part relation first routers beats now after wires i r port one left so_far at in_range in_wires link within parts count each = record {
   count = count ∙ so_far.count;
-  rows = length-set wires r (set (get_or wires r []) port left) ∙ so_far.rows;
   built = λ k d l. IsRelationOf-same_site relation (get_or now k d) (get_or after k d) (site k d) (so_far.built k d l);
-  linked = λ k l q past. there-now wires r port k q left in_wires (λ same e. absurd (omega (arith, e, past, link))) ∙ so_far.linked k l q past;
-  rest = λ k d l. ⊎_elim (λ (e : k ≡ r). rw e (here d)) (λ (n : k ≢ r). there k d n ∙ so_far.rest k d l) (cases_eq k r);
+  linked = λ k l q past. there-now wires r port (first + k) q left in_wires (λ same e. absurd (omega (arith, e, past, link))) ∙ so_far.linked k l q past;
+  others = λ k q l out. there-now wires r port k q left in_wires (λ same. absurd (not_out k same out)) ∙ so_far.others k q (omega (arith, rows, l)) out;
+  rest = λ k d l. ⊎_elim (λ (e : k ≡ i). rw e (here d)) (λ (n : k ≢ i). there k d n ∙ so_far.rest k d l) (cases_eq k i);
 }
   where
-    in_wires : r < length wires
-    in_wires = omega (arith, so_far.rows, so_far.count, in_range)
-
-    in_routers : r < length routers
+    in_routers : i < length routers
     in_routers = omega (arith, so_far.count, in_range)
 
-    changed : (d : View) → get_or after r d ≡ taken relation port one (get_or now r d)
-    changed d = each r d ∙ ap (λ (b : Bool). if b then taken relation port one (get_or now r d) else get_or now r d) (equal-test r r refl)
+    rows : length (sent_on wires (Some (r, port)) left) ≡ length wires
+    rows = length-set wires r (set (get_or wires r []) port left)
 
-    kept : (k : ℕ) (d : View) → k ≢ r → get_or after k d ≡ get_or now k d
-    kept k d n = each k d ∙ ap (λ (b : Bool). if b then taken relation port one (get_or now k d) else get_or now k d) (other-test k r n)
+    not_out : (k : ℕ) → k ≡ r → (k < first) ⊎ (first + length routers ≤ k) → ⊥
+    not_out k same out = ⊎_elim (λ (l : k < first). omega (arith, same, l, at)) (λ (u : first + length routers ≤ k). omega (arith, same, u, at, in_routers)) out
+
+    changed : (d : View) → get_or after i d ≡ taken relation port one (get_or now i d)
+    changed d = each i d ∙ ap (λ (b : Bool). if b then taken relation port one (get_or now i d) else get_or now i d) (equal-test i i refl)
+
+    kept : (k : ℕ) (d : View) → k ≢ i → get_or after k d ≡ get_or now k d
+    kept k d n = each k d ∙ ap (λ (b : Bool). if b then taken relation port one (get_or now k d) else get_or now k d) (other-test k i n)
 
     site : (k : ℕ) (d : View) → (get_or after k d).site ≡ (get_or now k d).site
     site k d =
-        ⊎_elim (λ (e : k ≡ r). rw e (ap (λ (w : View). w.site) (changed d) ∙ site-taken relation port one (get_or now r d)))
-        (λ (n : k ≢ r). ap (λ (w : View). w.site) (kept k d n)) (cases_eq k r)
+        ⊎_elim (λ (e : k ≡ i). rw e (ap (λ (w : View). w.site) (changed d) ∙ site-taken relation port one (get_or now i d)))
+        (λ (n : k ≢ i). ap (λ (w : View). w.site) (kept k d n)) (cases_eq k i)
 
-    here : (d : View) → all_taken relation (incoming relation.grid (beats_at (sent_on wires (Some (r, port)) left) r)) (get_or after r d) ≡ all_taken relation (incoming relation.grid (beats_at beats r)) (get_or routers r d)
+    here : (d : View)
+        → all_taken relation (incoming relation.grid (beats_at (sent_on wires (Some (r, port)) left) (first + i))) (get_or after i d) ≡ all_taken relation (incoming relation.grid (beats_at beats (first + i))) (get_or routers i d)
     here d =
-        ap (λ (row : List Beat). all_taken relation (incoming relation.grid row) (get_or after r d)) (get_or-set_same wires r (set (get_or wires r []) port left) [] in_wires)
+        ap (λ (n : ℕ). all_taken relation (incoming relation.grid (beats_at (sent_on wires (Some (r, port)) left) n)) (get_or after i d)) at
+        ∙ ap (λ (row : List Beat). all_taken relation (incoming relation.grid row) (get_or after i d)) (get_or-set_same wires r (set (get_or wires r []) port left) [] in_wires)
         ∙ ap (all_taken relation (incoming relation.grid (set (get_or wires r []) port left))) (changed d)
-        ∙ taken_ahead relation relation.grid (get_or wires r []) port one left (get_or now r d) link within parts
-        ∙ so_far.rest r d in_routers
+        ∙ taken_ahead relation relation.grid (get_or wires r []) port one left (get_or now i d) link within parts
+        ∙ ap (λ (n : ℕ). all_taken relation (incoming relation.grid (beats_at wires n)) (get_or now i d)) (sym at)
+        ∙ so_far.rest i d in_routers
 
-    there : (k : ℕ) (d : View) → k ≢ r
-        → all_taken relation (incoming relation.grid (beats_at (sent_on wires (Some (r, port)) left) k)) (get_or after k d) ≡ all_taken relation (incoming relation.grid (beats_at wires k)) (get_or now k d)
+    there : (k : ℕ) (d : View) → k ≢ i
+        → all_taken relation (incoming relation.grid (beats_at (sent_on wires (Some (r, port)) left) (first + k))) (get_or after k d) ≡ all_taken relation (incoming relation.grid (beats_at wires (first + k))) (get_or now k d)
     there k d n =
-        ap (λ (row : List Beat). all_taken relation (incoming relation.grid row) (get_or after k d)) (get_or-set_other wires r k (set (get_or wires r []) port left) [] n)
-        ∙ ap (all_taken relation (incoming relation.grid (beats_at wires k))) (kept k d n)
+        ap (λ (row : List Beat). all_taken relation (incoming relation.grid row) (get_or after k d)) (get_or-set_other wires r (first + k) (set (get_or wires r []) port left) [] (λ e. n (omega (arith, e, at))))
+        ∙ ap (all_taken relation (incoming relation.grid (beats_at wires (first + k)))) (kept k d n)
 
 -- .. its flit
 pub flit-part : (relation : Routes) (port : ℕ) (beat : Beat) (w : View)
@@ -228,25 +247,25 @@ pub flit-kept : (wires : List (List Beat)) (node port r q : ℕ) → node < leng
 flit-kept wires node port r q row within = kept-half (λ (beat : Beat). beat.flit) wires node port r q (record (beat_at wires node port) { credit = None }) row within refl
 
 -- one router takes its flit of a port
-pub taken-flit : (relation : Routes) (routers : List View) (beats : List (List Beat)) (now after : List View) (wires : List (List Beat)) (r port : ℕ)
-    → HaveTaken relation routers beats now wires → IsThere relation now wires r port → length after ≡ length now
-    → ((k : ℕ) (d : View) → get_or after k d ≡ (if nat_eq k r then with_flit relation port (beat_at wires r port).flit (get_or now k d) else get_or now k d))
-    → HaveTaken relation routers beats after (sent_on wires (Some (r, port)) (record (beat_at wires r port) { flit = None }))
-taken-flit relation routers beats now after wires r port so_far at count each =
+pub taken-flit : (relation : Routes) (first : ℕ) (routers : List View) (beats : List (List Beat)) (now after : List View) (wires : List (List Beat)) (r port : ℕ)
+    → HaveTaken relation first routers beats now wires → IsThere relation first now wires r port → length after ≡ length now
+    → ((k : ℕ) (d : View) → get_or after k d ≡ (if nat_eq k (r - first) then with_flit relation port (beat_at wires r port).flit (get_or now k d) else get_or now k d))
+    → HaveTaken relation first routers beats after (sent_on wires (Some (r, port)) (record (beat_at wires r port) { flit = None }))
+taken-flit relation first routers beats now after wires r port so_far at count each =
     let beat : Beat = beat_at wires r port in
-    taken-part relation routers beats now after wires r port (record { flit = beat.flit; credit = None }) (record beat { flit = None }) so_far at.router at.link at.port_of_row (flit-part relation port beat) count
-    (λ k d. each k d ∙ ap (λ (w : View). if nat_eq k r then w else get_or now k d) (sym (flit-alone relation port beat.flit (get_or now k d))))
+    taken-part relation first routers beats now after wires (r - first) r port (record { flit = beat.flit; credit = None }) (record beat { flit = None }) so_far (omega (arith, at.from)) at.router at.row at.link at.port_of_row (flit-part relation port beat) count
+    (λ k d. each k d ∙ ap (λ (w : View). if nat_eq k (r - first) then w else get_or now k d) (sym (flit-alone relation port beat.flit (get_or now k d))))
 
 -- .. its credit, where no flit came
-pub taken-credit : (relation : Routes) (routers : List View) (beats : List (List Beat)) (now after : List View) (wires : List (List Beat)) (r port : ℕ)
-    → HaveTaken relation routers beats now wires → IsThere relation now wires r port → (beat_at wires r port).flit ≡ None → length after ≡ length now
-    → ((k : ℕ) (d : View) → get_or after k d ≡ (if nat_eq k r then with_credit port (beat_at wires r port).credit (get_or now k d) else get_or now k d))
-    → HaveTaken relation routers beats after (sent_on wires (Some (r, port)) (record (beat_at wires r port) { credit = None }))
-taken-credit relation routers beats now after wires r port so_far at none count each =
+pub taken-credit : (relation : Routes) (first : ℕ) (routers : List View) (beats : List (List Beat)) (now after : List View) (wires : List (List Beat)) (r port : ℕ)
+    → HaveTaken relation first routers beats now wires → IsThere relation first now wires r port → (beat_at wires r port).flit ≡ None → length after ≡ length now
+    → ((k : ℕ) (d : View) → get_or after k d ≡ (if nat_eq k (r - first) then with_credit port (beat_at wires r port).credit (get_or now k d) else get_or now k d))
+    → HaveTaken relation first routers beats after (sent_on wires (Some (r, port)) (record (beat_at wires r port) { credit = None }))
+taken-credit relation first routers beats now after wires r port so_far at none count each =
     let beat : Beat = beat_at wires r port in
-    taken-part relation routers beats now after wires r port (record { flit = None; credit = beat.credit }) (record beat { credit = None }) so_far at.router at.link at.port_of_row
+    taken-part relation first routers beats now after wires (r - first) r port (record { flit = None; credit = beat.credit }) (record beat { credit = None }) so_far (omega (arith, at.from)) at.router at.row at.link at.port_of_row
     (λ w. credit-part relation port beat w none) count
-    (λ k d. each k d ∙ ap (λ (w : View). if nat_eq k r then w else get_or now k d) (sym (credit-alone relation port beat.credit (get_or now k d))))
+    (λ k d. each k d ∙ ap (λ (w : View). if nat_eq k (r - first) then w else get_or now k d) (sym (credit-alone relation port beat.credit (get_or now k d))))
 
 -- ---- in the end
 
@@ -287,13 +306,26 @@ silent-beat beat none none' =
     ap (λ (flit : Option (ℕ × Flit)). record beat { flit = flit }) none ∙ ap (λ (credit : Option ℕ). record idle_beat { credit = credit }) none'
 
 -- routers that have taken all
-pub taken-all : (relation : Routes) (routers : List View) (beats : List (List Beat)) (routers' : List View) (beats' : List (List Beat)) → HaveTaken relation routers beats routers' beats'
-    → ((r : ℕ) → IsSilent (beats_at beats' r)) → routers' ≡ map_indexed (λ (r : ℕ) (v : View). all_taken relation (incoming relation.grid (beats_at beats r)) v) routers
-taken-all relation routers beats routers' beats' taken silent =
-    same_lists routers' (map_indexed (λ (r : ℕ) (v : View). all_taken relation (incoming relation.grid (beats_at beats r)) v) routers) (taken.count ∙ sym (length-map_indexed _ routers))
+pub taken-all : (relation : Routes) (first : ℕ) (routers : List View) (beats : List (List Beat)) (routers' : List View) (beats' : List (List Beat)) → HaveTaken relation first routers beats routers' beats'
+    → ((r : ℕ) → IsSilent (beats_at beats' r)) → routers' ≡ map_indexed (λ (r : ℕ) (v : View). all_taken relation (incoming relation.grid (beats_at beats (first + r))) v) routers
+taken-all relation first routers beats routers' beats' taken silent =
+    same_lists routers' (map_indexed (λ (r : ℕ) (v : View). all_taken relation (incoming relation.grid (beats_at beats (first + r))) v) routers) (taken.count ∙ sym (length-map_indexed _ routers))
     (λ r d l.
-    sym (taken_end relation relation.grid (beats_at beats' r) (get_or routers' r d) (silent r)) ∙ taken.rest r d (omega (arith, taken.count, l))
-    ∙ sym (get_or-map_indexed (λ (r : ℕ) (v : View). all_taken relation (incoming relation.grid (beats_at beats r)) v) routers r d d (omega (arith, taken.count, l))))
+    sym (taken_end relation relation.grid (beats_at beats' (first + r)) (get_or routers' r d) (silent (first + r))) ∙ taken.rest r d (omega (arith, taken.count, l))
+    ∙ sym (get_or-map_indexed (λ (r : ℕ) (v : View). all_taken relation (incoming relation.grid (beats_at beats (first + r))) v) routers r d d (omega (arith, taken.count, l))))
+
+-- .. where the first is that of the network
+pub from-zero : (grid : Grid) (wires : List (List Beat)) (g : List Beat → View → View) (routers : List View)
+    → map_indexed (λ (r : ℕ) (v : View). g (incoming grid (beats_at wires (0 + r))) v) routers ≡ map_indexed (λ (r : ℕ) (v : View). g (incoming grid (beats_at wires r)) v) routers
+from-zero grid wires g routers =
+    same_lists (map_indexed (λ (r : ℕ) (v : View). g (incoming grid (beats_at wires (0 + r))) v) routers) (map_indexed (λ (r : ℕ) (v : View). g (incoming grid (beats_at wires r)) v) routers)
+    (length-map_indexed (λ (r : ℕ) (v : View). g (incoming grid (beats_at wires (0 + r))) v) routers ∙ sym (length-map_indexed (λ (r : ℕ) (v : View). g (incoming grid (beats_at wires r)) v) routers))
+    (λ k d l.
+    let few : k < length routers = omega (arith, l, length-map_indexed (λ (r : ℕ) (v : View). g (incoming grid (beats_at wires (0 + r))) v) routers) in
+    let same : 0 + k ≡ k = omega arith in
+    get_or-map_indexed (λ (r : ℕ) (v : View). g (incoming grid (beats_at wires (0 + r))) v) routers k d d few
+    ∙ ap (λ (n : ℕ). g (incoming grid (beats_at wires n)) (get_or routers k d)) same
+    ∙ sym (get_or-map_indexed (λ (r : ℕ) (v : View). g (incoming grid (beats_at wires r)) v) routers k d d few))
 
 -- ---- the first half of a cycle is to take, and then to go on
 
@@ -306,11 +338,11 @@ unfolding decided
 concluded-decided relation n beats v = refl
 
 -- .. of all routers
-pub all-halves : (relation : Routes) (wires : List (List Beat)) (f : View → View) (g : List Beat → View → View) (routers taken now : List View)
+pub all-halves : (relation : Routes) (first : ℕ) (wires : List (List Beat)) (f : View → View) (g : List Beat → View → View) (routers taken now : List View)
     → ((beats : List Beat) (v : View) → f (all_taken relation beats v) ≡ g beats v)
-    → taken ≡ map_indexed (λ (r : ℕ) (v : View). all_taken relation (incoming relation.grid (beats_at wires r)) v) routers → now ≡ map f taken
-    → now ≡ map_indexed (λ (r : ℕ) (v : View). g (incoming relation.grid (beats_at wires r)) v) routers
-all-halves relation wires f g routers taken now half is after =
+    → taken ≡ map_indexed (λ (r : ℕ) (v : View). all_taken relation (incoming relation.grid (beats_at wires (first + r))) v) routers → now ≡ map f taken
+    → now ≡ map_indexed (λ (r : ℕ) (v : View). g (incoming relation.grid (beats_at wires (first + r))) v) routers
+all-halves relation first wires f g routers taken now half is after =
     after ∙ ap (map f) is
     ∙ same_lists (map f (map_indexed took routers)) (map_indexed whole routers)
     (length-map (map_indexed took routers) f ∙ length-map_indexed took routers ∙ sym (length-map_indexed whole routers))
@@ -319,11 +351,11 @@ all-halves relation wires f g routers taken now half is after =
     let few' : r < length (map_indexed took routers) = omega (arith, few, length-map_indexed took routers) in
     get_or-map f (map_indexed took routers) r d d few'
     ∙ ap f (get_or-map_indexed took routers r d d few)
-    ∙ half (incoming relation.grid (beats_at wires r)) (get_or routers r d)
+    ∙ half (incoming relation.grid (beats_at wires (first + r))) (get_or routers r d)
     ∙ sym (get_or-map_indexed whole routers r d d few))
   where
     took : ℕ → View → View
-    took r v = all_taken relation (incoming relation.grid (beats_at wires r)) v
+    took r v = all_taken relation (incoming relation.grid (beats_at wires (first + r))) v
 
     whole : ℕ → View → View
-    whole r v = g (incoming relation.grid (beats_at wires r)) v
+    whole r v = g (incoming relation.grid (beats_at wires (first + r))) v

@@ -17,7 +17,7 @@ pub use event_core::Core;
 pub use fault::NetFault;
 pub use limit::MAX_LIMIT;
 pub use marks::Marks;
-pub use network::{Network, advance, decide, deliver};
+pub use network::{Network, advance_all, decide_all, deliver};
 pub use noc_model::{CYCLE_LIMIT, Event, NotReady};
 pub use parts::Parts;
 pub use room::{LINKS, Room};

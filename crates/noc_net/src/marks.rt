@@ -1,7 +1,10 @@
 //! Where the beats in flight are.
 
-ghost use Rattle.std.specs.Prelude.{◌≡◌, ◌<◌, ◌≤◌, length, slice_index_or, slice_set};
+ghost use Rattle.std.specs.Prelude.{◌≡◌, ◌<◌, ◌≤◌, List, Some, length, slice_index_or, slice_set};
 ghost use Rattle.noc_topo.specs.declared.limits.TheConstants.{MAX_NODES};
+ghost use Rattle.noc_packet.specs.declared.packet.Beat.{Beat as beat_value};
+ghost use Rattle.noc_model.specs.Halves.{sent_on};
+ghost use Rattle.noc_model.specs.Lockstep.{beats_at};
 ghost use Rattle.noc_net.specs.Marks.{AreMarked, HasTakenOut, IsMarkedAt, IsRowMarked, has_credit, has_flit};
 
 use crate::room::LINKS;
@@ -66,6 +69,7 @@ impl Marks {
         requires port { port < 6 }
         ensures flits { IsMarkedAt self.old.flits self.new.flits node port (has_flit beat.now) }
         ensures credits { IsMarkedAt self.old.credits self.new.credits node port (has_credit beat.now) }
+        ensures marks { (beats : List (List beat_value)) → node < length beats → port < length (beats_at beats node) → AreMarked self.old beats → AreMarked self.new (sent_on beats (Some (node, port)) beat.now) }
     {
         mark(&mut self.flits, node, port, beat.flit.is_some());
         mark(&mut self.credits, node, port, beat.credit.is_some());

@@ -19,7 +19,7 @@ ghost use Rattle.noc_model.specs.Network.{Setup, arrival_in, packet_at, state_at
 ghost use Rattle.noc_model.specs.Progress.{is_pending, is_stuck, last_event_before};
 ghost use Rattle.noc_net.specs.Marks.{AreMarked};
 ghost use Rattle.noc_net.specs.Parts.{AreParts, run_in};
-ghost use Rattle.noc_net.specs.Takes.{concluded, moved_on};
+ghost use Rattle.noc_net.specs.Takes.{NoneElsewhere, concluded, moved_on};
 ghost use Rattle.noc_net.specs.Latest.{later_of, latest_of};
 ghost use Rattle.noc_net.specs.Limit.{IsLimit};
 ghost use Rattle.noc_model.specs.Unseen.{AreInStep, AreInStepUnseen, advanced};
@@ -363,7 +363,7 @@ fn run_all(
 {
     let mut marks = Marks::of(beats);
     skip(relation, plan, first, last, routers, beats, &mut marks);
-    decide_all(relation, plan, last, routers, beats, &mut marks);
+    decide_all(relation, plan, last, 0, routers, beats, &mut marks);
     deliver_all(relation, routers, beats, &mut marks);
 }
 
@@ -389,33 +389,35 @@ fn skip(
 {
     let mut cycle = first;
     while cycle < end {
-        advance_all(relation, plan, cycle, routers, beats, marks);
+        advance_all(relation, plan, cycle, 0, routers, beats, marks);
         deliver_all(relation, routers, beats, marks);
         cycle = jump(relation, plan, cycle, end, routers, beats);
     }
 }
 
-// Each router takes the beats that came to it, injects, decides and commits, and leaves its findings as they were.
-fn advance_all(
+/// Each of the routers from `first` (0 to 255) on takes the beats that came to it, injects, decides and commits, and leaves its
+/// findings as they were. Nothing came to other routers.
+pub fn advance_all(
     relation: &Relation,
     plan: &mut Plan,
     cycle: u64,
+    first: usize,
     routers: &mut [Router],
     beats: &mut [[Beat; LINKS]],
     marks: &mut Marks,
 )
     requires plan { IsDecidedFor (ports_of relation.now.grid) relation.now.vcs plan.old }
     requires routers { All (λ v. IsRelationOf relation.now v) routers.old }
-    requires count { length beats.old ≡ length routers.old }
     requires few { length beats.old ≤ MAX_NODES }
     requires marks { AreMarked marks.old beats.old }
     requires beats { All (IsLinked relation.now.grid) beats.old }
+    requires others { NoneElsewhere first (length routers.old) beats.old }
     ensures plan { IsDecidedFor (ports_of relation.now.grid) relation.now.vcs plan.new }
-    ensures routers { routers.new ≡ map_indexed (λ r v. advanced relation.now cycle (incoming relation.now.grid (beats_at beats.old r)) v) routers.old }
+    ensures routers { routers.new ≡ map_indexed (λ r v. advanced relation.now cycle (incoming relation.now.grid (beats_at beats.old (first + r))) v) routers.old }
     ensures beats { All IsSilent beats.new }
     ensures marks { AreMarked marks.new beats.new }
 {
-    take_all(relation, routers, beats, marks);
+    take_all(relation, first, routers, beats, marks);
     move_on_all(relation, plan, cycle, routers);
 }
 
@@ -431,25 +433,6 @@ fn move_on_all(relation: &Relation, plan: &mut Plan, cycle: u64, routers: &mut [
     }
 }
 
-/// One router takes the beats that came to it, injects, decides and commits, and leaves its findings as they were.
-pub fn advance(
-    relation: &Relation,
-    plan: &mut Plan,
-    cycle: u64,
-    router: &mut Router,
-    beats: &mut [Beat; LINKS],
-)
-    requires plan { IsDecidedFor (ports_of relation.now.grid) relation.now.vcs plan.old }
-    requires router { IsRelationOf relation.now router.old }
-    requires beats { IsLinked relation.now.grid beats.old }
-    ensures plan { IsDecidedFor (ports_of relation.now.grid) relation.now.vcs plan.new }
-    ensures router { router.new ≡ advanced relation.now cycle (incoming relation.now.grid beats.old) router.old }
-    ensures beats { IsSilent beats.new }
-{
-    take_beats(relation, router, beats);
-    move_on(relation, plan, cycle, router);
-}
-
 // One router that has taken its beats injects, decides and commits, and leaves its findings as they were.
 #[inline(always)]
 fn move_on(relation: &Relation, plan: &mut Plan, cycle: u64, router: &mut Router)
@@ -462,27 +445,29 @@ fn move_on(relation: &Relation, plan: &mut Plan, cycle: u64, router: &mut Router
     router.advance(relation, plan);
 }
 
-// Each router takes the beats that came to it, injects, decides and commits.
-fn decide_all(
+/// Each of the routers from `first` (0 to 255) on takes the beats that came to it, injects, decides and commits. Nothing came to
+/// other routers.
+pub fn decide_all(
     relation: &Relation,
     plan: &mut Plan,
     cycle: u64,
+    first: usize,
     routers: &mut [Router],
     beats: &mut [[Beat; LINKS]],
     marks: &mut Marks,
 )
     requires plan { IsDecidedFor (ports_of relation.now.grid) relation.now.vcs plan.old }
     requires routers { All (λ v. IsRelationOf relation.now v) routers.old }
-    requires count { length beats.old ≡ length routers.old }
     requires few { length beats.old ≤ MAX_NODES }
     requires marks { AreMarked marks.old beats.old }
     requires beats { All (IsLinked relation.now.grid) beats.old }
+    requires others { NoneElsewhere first (length routers.old) beats.old }
     ensures plan { IsDecidedFor (ports_of relation.now.grid) relation.now.vcs plan.new }
-    ensures routers { routers.new ≡ map_indexed (λ r v. decided relation.now cycle (incoming relation.now.grid (beats_at beats.old r)) v) routers.old }
+    ensures routers { routers.new ≡ map_indexed (λ r v. decided relation.now cycle (incoming relation.now.grid (beats_at beats.old (first + r))) v) routers.old }
     ensures beats { All IsSilent beats.new }
     ensures marks { AreMarked marks.new beats.new }
 {
-    take_all(relation, routers, beats, marks);
+    take_all(relation, first, routers, beats, marks);
     conclude_all(relation, plan, cycle, routers);
 }
 
@@ -498,25 +483,6 @@ fn conclude_all(relation: &Relation, plan: &mut Plan, cycle: u64, routers: &mut 
     }
 }
 
-/// One router takes the beats that came to it, injects, decides and commits.
-pub fn decide(
-    relation: &Relation,
-    plan: &mut Plan,
-    cycle: u64,
-    router: &mut Router,
-    beats: &mut [Beat; LINKS],
-)
-    requires plan { IsDecidedFor (ports_of relation.now.grid) relation.now.vcs plan.old }
-    requires router { IsRelationOf relation.now router.old }
-    requires beats { IsLinked relation.now.grid beats.old }
-    ensures plan { IsDecidedFor (ports_of relation.now.grid) relation.now.vcs plan.new }
-    ensures router { router.new ≡ decided relation.now cycle (incoming relation.now.grid beats.old) router.old }
-    ensures beats { IsSilent beats.new }
-{
-    take_beats(relation, router, beats);
-    conclude(relation, plan, cycle, router);
-}
-
 // One router that has taken its beats injects, decides and commits.
 fn conclude(relation: &Relation, plan: &mut Plan, cycle: u64, router: &mut Router)
     requires plan { IsDecidedFor (ports_of relation.now.grid) relation.now.vcs plan.old }
@@ -527,21 +493,6 @@ fn conclude(relation: &Relation, plan: &mut Plan, cycle: u64, router: &mut Route
     router.inject(cycle);
     router.plan(relation, plan);
     router.commit(plan);
-}
-
-// One router takes the beats that came to it, and leaves idle ones.
-fn take_beats(relation: &Relation, router: &mut Router, beats: &mut [Beat; LINKS])
-    requires router { IsRelationOf relation.now router.old }
-    requires beats { IsLinked relation.now.grid beats.old }
-    ensures router { router.new ≡ all_taken relation.now (incoming relation.now.grid beats.old) router.old }
-    ensures beats { IsSilent beats.new }
-{
-    let mut rest = arrived(beats);
-    while let Some(port) = rest.least_common(&rest) {
-        rest = rest.without(port);
-        router.take(relation, port, beats[port]);
-        beats[port] = Beat::idle();
-    }
 }
 
 // The ports with a beat that carries something. They are found without a branch for each, since none could be foreseen.

@@ -38,6 +38,7 @@ fn add(all: &mut Gathered, tile: Tile) -> Result<(), AllocError>
         mut routers,
         plan: _,
         beats,
+        marks: _,
         mut ins,
         mut outs,
     } = tile;

@@ -6,5 +6,5 @@ use Rattle.noc_net.proofs.network.advance_all.Goals as goal
 pub returns-clause-routers : goal.returns-clause-routers
 returns-clause-routers c =
     let relation = c.args.relation.now in
-    all-halves relation c.args.beats.now (moved_on relation c.args.cycle) (advanced relation c.args.cycle) c.args.routers.now c.take_all.new.routers c.move_on_all.new.routers (moved_on-advanced relation c.args.cycle)
+    all-halves relation c.args.first c.args.beats.now (moved_on relation c.args.cycle) (advanced relation c.args.cycle) c.args.routers.now c.take_all.new.routers c.move_on_all.new.routers (moved_on-advanced relation c.args.cycle)
     c.take_all.ensures.routers c.move_on_all.ensures.routers

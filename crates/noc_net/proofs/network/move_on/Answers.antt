@@ -1,4 +1,4 @@
-use Rattle.std.proofs.Common.{ℕ, List, ap, sym, ◌∙◌, subst}
+use Rattle.std.proofs.Common.{ℕ, ap, sym, ◌∙◌, subst}
 use Rattle.noc_topo.specs.Shape.{ports}
 use Rattle.noc_router.specs.Decided.{IsDecidedFor}
 use Rattle.noc_router.specs.View.{View, IsRelationOf}
@@ -20,4 +20,3 @@ returns-clause-plan c =
     IsRelationOf-same_site c.args.relation.now c.args.router.now c.inject.new.self (ap (λ (v : View). v.site) c.inject.ensures ∙ site-injected c.args.cycle c.args.router.now) c.requires.router in
     subst (λ grid. IsDecidedFor (ports grid) c.args.relation.now.vcs c.advance.new.plan) (sym fits.grid)
     (subst (λ (vcs : ℕ). IsDecidedFor (ports c.inject.new.self.site.grid) vcs c.advance.new.plan) (sym fits.vcs) c.advance.ensures.plan)
-

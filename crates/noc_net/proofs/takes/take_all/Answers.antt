@@ -7,8 +7,8 @@ use Rattle.noc_net.proofs.takes.take_all.Goals as goal
 
 pub returns-clause-routers : goal.returns-clause-routers
 returns-clause-routers c =
-    taken-all c.args.relation.now c.args.routers.now c.args.beats.now c.take_credits.new.routers c.take_credits.new.beats
-    (taken-then c.args.relation.now c.args.routers.now c.args.beats.now c.take_flits.new.routers c.take_flits.new.beats c.take_credits.new.routers c.take_credits.new.beats
+    taken-all c.args.relation.now c.args.first c.args.routers.now c.args.beats.now c.take_credits.new.routers c.take_credits.new.beats
+    (taken-then c.args.relation.now c.args.first c.args.routers.now c.args.beats.now c.take_flits.new.routers c.take_flits.new.beats c.take_credits.new.routers c.take_credits.new.beats
     c.take_flits.ensures.routers c.take_credits.ensures.routers)
     c.take_credits.ensures.silent
 

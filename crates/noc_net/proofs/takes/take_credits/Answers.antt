@@ -1,5 +1,4 @@
-use Rattle.std.proofs.Common.{◌≡◌, ℕ, ◌<◌, ◌≤◌, [], length, get_or, refl, arith}
-use Rattle.noc_packet.specs.Set.{has_bit}
+use Rattle.std.proofs.Common.{◌≤◌, length, refl, arith}
 use Rattle.noc_model.specs.Halves.{beat_at}
 use Rattle.noc_net.specs.Marks.{has_credit}
 use Rattle.noc_net.proofs.TakesLemmas.{no-credit, silent-beat, where-none}

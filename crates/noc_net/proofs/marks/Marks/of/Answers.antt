@@ -1,6 +1,6 @@
 use Rattle.std.proofs.Common.{◌≡◌, ◌≤◌, [], length, get_or, refl, rules, sym, arith}
 use Rattle.noc_net.specs.Marks.{has_credit, has_flit}
-use Rattle.noc_net.proofs.MarkLemmas.{IsMarkedTo, marked-all, marked-none, marked-row}
+use Rattle.noc_net.proofs.MarkLemmas.{marked-all, marked-none, marked-row}
 use Rattle.noc_net.proofs.marks.Marks.of.Goals as goal
 
 pub loop-node-init : goal.loop-node-init
