@@ -3,6 +3,7 @@
 ghost use Rattle.std.specs.Prelude.{◌≡◌, ◌↔◌, ℕ, ◌+◌, ◌-◌, ◌<◌, ◌≤◌, All, IsTrue, length, map, false};
 ghost use Rattle.noc_topo.specs.Shape.{nodes as nodes_of, ports as ports_of};
 ghost use Rattle.noc_router.specs.Decided.{IsDecidedFor};
+ghost use Rattle.noc_router.specs.Links.{AreLoaded, is_idle_beat};
 ghost use Rattle.noc_router.specs.Still.{IsHeldBefore, waited};
 ghost use Rattle.noc_router.specs.View.{IsRelationOf};
 ghost use Rattle.noc_model.specs.Halves.{IsSilent};
@@ -10,9 +11,8 @@ ghost use Rattle.noc_model.specs.Network.{Setup};
 ghost use Rattle.noc_model.specs.Unseen.{AreInStepUnseen};
 ghost use Rattle.noc_net.specs.Jump.{AreStill, had_event_in};
 
-use crate::network::arrived;
 use crate::room::LINKS;
-use noc_packet::Beat;
+use noc_packet::{Beat, ChannelSet};
 use noc_route::Relation;
 use noc_router::{Plan, Router};
 
@@ -91,6 +91,26 @@ fn all_silent(beats: &[[Beat; LINKS]]) -> bool
         }
     }
     true
+}
+
+// The ports with a beat that carries something.
+fn arrived(beats: &[Beat; LINKS]) -> ChannelSet
+    ensures { AreLoaded 6 beats.now result }
+{
+    let mut ports = ChannelSet::empty();
+    for port in 0..LINKS {
+        if !is_idle(&beats[port]) {
+            ports = ports.with(port);
+        }
+    }
+    ports
+}
+
+// Whether a beat carries nothing.
+fn is_idle(beat: &Beat) -> bool
+    ensures { result ≡ is_idle_beat beat.now }
+{
+    beat.flit.is_none() & beat.credit.is_none()
 }
 
 // Whether no verdict takes effect in any router.

@@ -7,7 +7,6 @@ ghost use Rattle.noc_topo.specs.Words.{map_indexed, tabulate};
 ghost use Rattle.noc_topo.specs.Shape.{nodes as nodes_of, ports as ports_of, local_port, neighbour as neighbour_of};
 ghost use Rattle.noc_route.specs.Ranks.{IsRankedBy, Ranking};
 ghost use Rattle.noc_router.specs.Decided.{IsDecidedFor};
-ghost use Rattle.noc_router.specs.Links.{AreLoaded, is_idle_beat};
 ghost use Rattle.noc_router.specs.View.{View, IsRelationOf, all_taken, idle_beat, opening_view};
 ghost use Rattle.noc_net.specs.declared.fault.NetFault.TheVariants.{Memory as memory_fault};
 ghost use Rattle.noc_net.specs.declared.fault.NetFault.{NetFault as NetFaultValue};
@@ -32,7 +31,7 @@ use crate::parts::Parts;
 use crate::room::{LINKS, Room};
 use crate::takes::take_all;
 use noc_model::CYCLE_LIMIT;
-use noc_packet::{Beat, ChannelSet, MAX_BUFFER, MAX_PACKETS, Memory, Packet};
+use noc_packet::{Beat, MAX_BUFFER, MAX_PACKETS, Memory, Packet};
 use noc_route::Relation;
 use noc_router::{Finding, Plan, Router, VERDICTS};
 use std::alloc::Global;
@@ -493,26 +492,6 @@ fn conclude(relation: &Relation, plan: &mut Plan, cycle: u64, router: &mut Route
     router.inject(cycle);
     router.plan(relation, plan);
     router.commit(plan);
-}
-
-// The ports with a beat that carries something. They are found without a branch for each, since none could be foreseen.
-pub(crate) fn arrived(beats: &[Beat; LINKS]) -> ChannelSet
-    ensures { AreLoaded 6 beats.now result }
-{
-    let mut ports = ChannelSet::empty();
-    for port in 0..LINKS {
-        if !is_idle(&beats[port]) {
-            ports = ports.with(port);
-        }
-    }
-    ports
-}
-
-// Whether a beat carries nothing.
-fn is_idle(beat: &Beat) -> bool
-    ensures { result ≡ is_idle_beat beat.now }
-{
-    beat.flit.is_none() & beat.credit.is_none()
 }
 
 // Each router puts its beats on the wires that leave it, all of which are idle.
