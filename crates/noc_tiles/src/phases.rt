@@ -1,9 +1,9 @@
 //! The phases of a tile's cycle.
 
-ghost use Rattle.std.specs.Prelude.{ℕ, List, Bool, ◌≡◌, ◌≢◌, ◌⊎◌, ◌+◌, ◌<◌, ◌≤◌, true, false, [], map, length, get_or, vec_len, All, IsTrue, IsFalse};
+ghost use Rattle.std.specs.Prelude.{ℕ, List, ◌≡◌, ◌≢◌, ◌⊎◌, ◌+◌, ◌<◌, ◌≤◌, true, map, length, get_or, vec_len, All, IsTrue, IsFalse};
 ghost use Rattle.noc_topo.specs.declared.limits.TheConstants.{MAX_NODES};
 ghost use Rattle.noc_topo.specs.Words.{map_indexed};
-ghost use Rattle.noc_topo.specs.Shape.{nodes as nodes_of, ports as ports_of, local_port, neighbour as neighbour_of};
+ghost use Rattle.noc_topo.specs.Shape.{nodes as nodes_of, ports as ports_of, neighbour as neighbour_of};
 ghost use Rattle.noc_packet.specs.declared.packet.Beat.{Beat as beat_value};
 ghost use Rattle.noc_router.specs.Decided.{IsDecidedFor};
 ghost use Rattle.noc_router.specs.View.{View, IsRelationOf, idle_beat};

@@ -1,4 +1,4 @@
-use Rattle.std.proofs.Common.{◌≡◌, refl, subst}
+use Rattle.std.proofs.Common.{refl, subst}
 use Rattle.noc_topo.specs.Shape.{IsGrid}
 use Rattle.noc_net.specs.Marks.{AreMarked}
 use Rattle.noc_tiles.specs.declared.tile.Tile.{Tile}
