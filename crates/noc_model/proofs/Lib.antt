@@ -13,6 +13,7 @@ pub mod RunLemmas
 pub mod SentLemmas
 pub mod StepLemmas
 pub mod StillRun
+pub mod TakeAhead
 pub mod TakeOrder
 pub mod UnseenLemmas
 pub mod WireLemmas

@@ -118,48 +118,21 @@ taken-silent relation port [] v silent = refl
 taken-silent relation port (beat ∷ beats) v silent =
     ap (taken_from relation (port + 1) beats) (taken-idle relation port beat v (silent 0)) ∙ taken-silent relation (port + 1) beats v (λ k. silent (suc k))
 
--- the first beat that is not idle may be taken before the others
-taken-first : (relation : Routes) (port : ℕ) (beats : List Beat) (i : ℕ) (v : View) → i < length beats → ((k : ℕ) → k < i → get_or beats k idle_beat ≡ idle_beat)
-    → taken_from relation port (set beats i idle_beat) (taken relation (port + i) (get_or beats i idle_beat) v) ≡ taken_from relation port beats v
-taken-first relation port [] i v l idle = absurd (omega arith)
-taken-first relation port (beat ∷ beats) zero v l idle =
-    let at : port + zero ≡ port = omega arith in
-    ap (taken_from relation (port + 1) beats) (taken-idle relation port idle_beat (taken relation (port + zero) beat v) refl ∙ ap (λ (k : ℕ). taken relation k beat v) at)
-taken-first relation port (beat ∷ beats) (suc i) v l idle =
-    let at : port + suc i ≡ port + 1 + i = omega arith in
-    ap (taken_from relation (port + 1) (set beats i idle_beat)) (taken-idle relation port beat (taken relation (port + suc i) (get_or beats i idle_beat) v) (idle 0 (omega arith)))
-    ∙ ap (λ (k : ℕ). taken_from relation (port + 1) (set beats i idle_beat) (taken relation k (get_or beats i idle_beat) v)) at
-    ∙ taken-first relation (port + 1) beats i v (omega arith) (λ k m. idle (suc k) (omega arith))
-    ∙ ap (taken_from relation (port + 1) beats) (sym (taken-idle relation port beat v (idle 0 (omega arith))))
-
--- the beats for the link ports, where that of one of them is idle now
-incoming-set : (grid : Grid) (beats : List Beat) (port : ℕ) → port < local_port grid → port < length beats → incoming grid (set beats port idle_beat) ≡ set (incoming grid beats) port idle_beat
+-- the beats for the link ports, where that of one of them is another one now
+pub incoming-set : (grid : Grid) (beats : List Beat) (port : ℕ) (beat : Beat) → port < local_port grid → port < length beats → incoming grid (set beats port beat) ≡ set (incoming grid beats) port beat
 unfolding incoming
-incoming-set grid beats port l m =
+incoming-set grid beats port beat l m =
     let count : length (incoming grid beats) ≡ local_port grid = length-tabulate (local_port grid) (λ k. get_or beats k idle_beat) in
-    let count_set : length (set (incoming grid beats) port idle_beat) ≡ local_port grid = length-set (incoming grid beats) port idle_beat ∙ count in
-    sym (tabulate-from_each (local_port grid) (λ k. get_or (set beats port idle_beat) k idle_beat) (set (incoming grid beats) port idle_beat) idle_beat count_set
+    let count_set : length (set (incoming grid beats) port beat) ≡ local_port grid = length-set (incoming grid beats) port beat ∙ count in
+    sym (tabulate-from_each (local_port grid) (λ k. get_or (set beats port beat) k idle_beat) (set (incoming grid beats) port beat) idle_beat count_set
     (λ k u. ⊎_elim
-    (λ (e : k ≡ port). rw (e, get_or-set_same (incoming grid beats) port idle_beat idle_beat (omega (arith, count))) (sym (get_or-set_same beats port idle_beat idle_beat m)))
-    (λ (d : k ≢ port). get_or-set_other (incoming grid beats) port k idle_beat idle_beat d
+    (λ (e : k ≡ port). rw (e, get_or-set_same (incoming grid beats) port beat idle_beat (omega (arith, count))) (sym (get_or-set_same beats port beat idle_beat m)))
+    (λ (d : k ≢ port). get_or-set_other (incoming grid beats) port k beat idle_beat d
     ∙ get_or-tabulate (local_port grid) k (λ i. get_or beats i idle_beat) idle_beat u
-    ∙ sym (get_or-set_other beats port k idle_beat idle_beat d))
+    ∙ sym (get_or-set_other beats port k beat idle_beat d))
     (cases_eq k port)))
 
--- one beat more is taken
-pub taken_more : (relation : Routes) (grid : Grid) (beats : List Beat) (port : ℕ) (v : View) → port < local_port grid → port < length beats
-    → ((k : ℕ) → k < port → get_or beats k idle_beat ≡ idle_beat)
-    → all_taken relation (incoming grid (set beats port idle_beat)) (taken relation port (get_or beats port idle_beat) v) ≡ all_taken relation (incoming grid beats) v
-unfolding all_taken incoming
-taken_more relation grid beats port v l m idle =
-    let at : (k : ℕ) → k < local_port grid → get_or (incoming grid beats) k idle_beat ≡ get_or beats k idle_beat = λ k u. get_or-tabulate (local_port grid) k (λ i. get_or beats i idle_beat) idle_beat u in
-    let from_zero : port ≡ 0 + port = omega arith in
-    ap (λ row. taken_from relation 0 row (taken relation port (get_or beats port idle_beat) v)) (incoming-set grid beats port l m)
-    ∙ ap (λ (beat : Beat). taken_from relation 0 (set (incoming grid beats) port idle_beat) (taken relation port beat v)) (sym (at port l))
-    ∙ ap (λ (k : ℕ). taken_from relation 0 (set (incoming grid beats) port idle_beat) (taken relation k (get_or (incoming grid beats) port idle_beat) v)) from_zero
-    ∙ taken-first relation 0 (incoming grid beats) port v (let n = length-tabulate (local_port grid) (λ k. get_or beats k idle_beat) in omega arith) (λ k u. at k (omega arith) ∙ idle k u)
-
--- .. and in the end there is none
+-- where nothing came, nothing is taken
 pub taken_end : (relation : Routes) (grid : Grid) (beats : List Beat) (v : View) → IsSilent beats → all_taken relation (incoming grid beats) v ≡ v
 unfolding all_taken incoming
 taken_end relation grid beats v silent = taken-silent relation 0 (incoming grid beats) v (λ port.

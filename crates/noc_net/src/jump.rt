@@ -1,8 +1,9 @@
 //! Time that jumps: cycles in which nothing happens are run at once.
 
-ghost use Rattle.std.specs.Prelude.{◌≡◌, ℕ, ◌+◌, ◌-◌, ◌<◌, ◌≤◌, All, length, map, true};
+ghost use Rattle.std.specs.Prelude.{◌≡◌, ◌↔◌, ℕ, ◌+◌, ◌-◌, ◌<◌, ◌≤◌, All, IsTrue, length, map, false};
 ghost use Rattle.noc_topo.specs.Shape.{nodes as nodes_of, ports as ports_of};
 ghost use Rattle.noc_router.specs.Decided.{IsDecidedFor};
+ghost use Rattle.noc_router.specs.Links.{AreLoaded, is_idle_beat};
 ghost use Rattle.noc_router.specs.Still.{IsHeldBefore, waited};
 ghost use Rattle.noc_router.specs.View.{IsRelationOf};
 ghost use Rattle.noc_model.specs.Halves.{IsSilent};
@@ -10,9 +11,8 @@ ghost use Rattle.noc_model.specs.Network.{Setup};
 ghost use Rattle.noc_model.specs.Unseen.{AreInStepUnseen};
 ghost use Rattle.noc_net.specs.Jump.{AreStill, had_event_in};
 
-use crate::network::arrived;
 use crate::room::LINKS;
-use noc_packet::Beat;
+use noc_packet::{Beat, ChannelSet};
 use noc_route::Relation;
 use noc_router::{Plan, Router};
 
@@ -34,6 +34,7 @@ pub(crate) fn jump(
     ensures later { last < result }
     ensures within { result ≤ end }
     ensures in_step { (net : Setup) → net.relation ≡ relation.now → AreInStepUnseen net (last + 1) routers.old beats.now → AreInStepUnseen net result routers.new beats.now }
+    ensures far { (n : ℕ) → n ≤ end → had_event_in last routers.old ≡ false → All IsSilent beats.now → AreStill relation.now routers.old → All (IsHeldBefore n) routers.old → n ≤ result }
 {
     let first = last + 1;
     if had_event(last, routers) {
@@ -65,10 +66,11 @@ fn had_event(cycle: u64, routers: &[Router]) -> bool
     false
 }
 
-// Before which cycle, at most `end`, no router injects if nothing happens.
+// The last cycle, at most `end`, before which no router injects if nothing happens.
 fn first_injection(end: u64, routers: &[Router]) -> u64
     ensures within { result ≤ end }
     ensures held { All (IsHeldBefore result) routers.now }
+    ensures last { (n : ℕ) → n ≤ end → All (IsHeldBefore n) routers.now → n ≤ result }
 {
     let mut until = end;
     for router in routers {
@@ -81,7 +83,7 @@ fn first_injection(end: u64, routers: &[Router]) -> u64
 
 // Whether no beat is in flight.
 fn all_silent(beats: &[[Beat; LINKS]]) -> bool
-    ensures { result ≡ true → All IsSilent beats.now }
+    ensures { IsTrue result ↔ All IsSilent beats.now }
 {
     for row in beats {
         if !arrived(row).is_empty() {
@@ -91,12 +93,32 @@ fn all_silent(beats: &[[Beat; LINKS]]) -> bool
     true
 }
 
+// The ports with a beat that carries something.
+fn arrived(beats: &[Beat; LINKS]) -> ChannelSet
+    ensures { AreLoaded 6 beats.now result }
+{
+    let mut ports = ChannelSet::empty();
+    for port in 0..LINKS {
+        if !is_idle(&beats[port]) {
+            ports = ports.with(port);
+        }
+    }
+    ports
+}
+
+// Whether a beat carries nothing.
+fn is_idle(beat: &Beat) -> bool
+    ensures { result ≡ is_idle_beat beat.now }
+{
+    beat.flit.is_none() & beat.credit.is_none()
+}
+
 // Whether no verdict takes effect in any router.
 fn all_still(relation: &Relation, plan: &mut Plan, routers: &[Router]) -> bool
     requires plan { IsDecidedFor (ports_of relation.now.grid) relation.now.vcs plan.old }
     requires routers { All (λ v. IsRelationOf relation.now v) routers.now }
     ensures plan { IsDecidedFor (ports_of relation.now.grid) relation.now.vcs plan.new }
-    ensures still { result ≡ true → AreStill relation.now routers.now }
+    ensures still { IsTrue result ↔ AreStill relation.now routers.now }
 {
     for router in routers {
         if !router.is_still(relation, plan) {

@@ -4,11 +4,10 @@ ghost use Rattle.std.specs.Prelude.{◌≡◌, ℕ, ◌+◌, ◌*◌, ◌<◌, �
 ghost use Rattle.std.specs.List.{slice_get};
 ghost use Rattle.noc_topo.specs.declared.limits.TheConstants.{MAX_NODES};
 ghost use Rattle.noc_topo.specs.Words.{map_indexed, tabulate};
-ghost use Rattle.noc_topo.specs.Shape.{nodes as nodes_of, ports as ports_of, local_port, neighbour as neighbour_of};
+ghost use Rattle.noc_topo.specs.Shape.{nodes as nodes_of, ports as ports_of, neighbour as neighbour_of};
 ghost use Rattle.noc_route.specs.Ranks.{IsRankedBy, Ranking};
 ghost use Rattle.noc_router.specs.Decided.{IsDecidedFor};
-ghost use Rattle.noc_router.specs.Links.{AreLoaded, is_idle_beat};
-ghost use Rattle.noc_router.specs.View.{View, IsRelationOf, all_taken, injected, idle_beat, opening_view};
+ghost use Rattle.noc_router.specs.View.{IsRelationOf, idle_beat, opening_view};
 ghost use Rattle.noc_net.specs.declared.fault.NetFault.TheVariants.{Memory as memory_fault};
 ghost use Rattle.noc_net.specs.declared.fault.NetFault.{NetFault as NetFaultValue};
 ghost use Rattle.noc_net.specs.Faults.{IsSendable, fault_of};
@@ -17,18 +16,22 @@ ghost use Rattle.noc_model.specs.Lockstep.{beat_from, beats_at, counts_before, e
 ghost use Rattle.noc_model.specs.Good.{IsGoodSetup};
 ghost use Rattle.noc_model.specs.Network.{Setup, arrival_in, packet_at, state_at};
 ghost use Rattle.noc_model.specs.Progress.{is_pending, is_stuck, last_event_before};
+ghost use Rattle.noc_net.specs.Marks.{AreMarked};
 ghost use Rattle.noc_net.specs.Parts.{AreParts, run_in};
+ghost use Rattle.noc_net.specs.Takes.{NoneElsewhere, concluded, moved_on};
 ghost use Rattle.noc_net.specs.Latest.{later_of, latest_of};
 ghost use Rattle.noc_net.specs.Limit.{IsLimit};
 ghost use Rattle.noc_model.specs.Unseen.{AreInStep, AreInStepUnseen, advanced};
 
 use crate::fault::NetFault;
 use crate::jump::jump;
+use crate::marks::Marks;
 use crate::packets::{ends_at, first_fault, starts_at};
 use crate::parts::Parts;
 use crate::room::{LINKS, Room};
+use crate::takes::take_all;
 use noc_model::CYCLE_LIMIT;
-use noc_packet::{Beat, ChannelSet, MAX_BUFFER, MAX_PACKETS, Memory, Packet};
+use noc_packet::{Beat, MAX_BUFFER, MAX_PACKETS, Memory, Packet};
 use noc_route::Relation;
 use noc_router::{Finding, Plan, Router, VERDICTS};
 use std::alloc::Global;
@@ -353,12 +356,14 @@ fn run_all(
     requires plan { IsDecidedFor (ports_of relation.now.grid) relation.now.vcs plan.old }
     requires in_step { (net : Setup) × (net.relation ≡ relation.now) × AreInStep net first routers.old beats.old }
     requires count { length beats.old ≡ nodes_of relation.now.grid }
+    requires few { length beats.old ≤ MAX_NODES }
     ensures plan { IsDecidedFor (ports_of relation.now.grid) relation.now.vcs plan.new }
     ensures in_step { (net : Setup) → net.relation ≡ relation.now → AreInStep net first routers.old beats.old → AreInStep net (last + 1) routers.new beats.new }
 {
-    skip(relation, plan, first, last, routers, beats);
-    decide_all(relation, plan, last, routers, beats);
-    deliver_all(relation, routers, beats);
+    let mut marks = Marks::of(beats);
+    skip(relation, plan, first, last, routers, beats, &mut marks);
+    decide_all(relation, plan, last, 0, routers, beats, &mut marks);
+    deliver_all(relation, routers, beats, &mut marks);
 }
 
 // Runs the cycles from `first` to before `end`, and leaves the findings as they were. Those in which nothing happens are run at once.
@@ -369,170 +374,159 @@ fn skip(
     end: u64,
     routers: &mut [Router],
     beats: &mut [[Beat; LINKS]],
+    marks: &mut Marks,
 )
     requires order { first ≤ end }
     requires plan { IsDecidedFor (ports_of relation.now.grid) relation.now.vcs plan.old }
     requires in_step { (net : Setup) × (net.relation ≡ relation.now) × AreInStepUnseen net first routers.old beats.old }
     requires count { length beats.old ≡ nodes_of relation.now.grid }
+    requires few { length beats.old ≤ MAX_NODES }
+    requires marks { AreMarked marks.old beats.old }
     ensures plan { IsDecidedFor (ports_of relation.now.grid) relation.now.vcs plan.new }
+    ensures marks { AreMarked marks.new beats.new }
     ensures in_step { (net : Setup) → net.relation ≡ relation.now → AreInStepUnseen net first routers.old beats.old → AreInStepUnseen net end routers.new beats.new }
 {
     let mut cycle = first;
     while cycle < end {
-        advance_all(relation, plan, cycle, routers, beats);
-        deliver_all(relation, routers, beats);
+        advance_all(relation, plan, cycle, 0, routers, beats, marks);
+        deliver_all(relation, routers, beats, marks);
         cycle = jump(relation, plan, cycle, end, routers, beats);
     }
 }
 
-// Each router takes the beats that came to it, injects, decides and commits, and leaves its findings as they were.
-fn advance_all(
+/// Each of the routers from `first` (0 to 255) on takes the beats that came to it, injects, decides and commits, and leaves its
+/// findings as they were. Nothing came to other routers.
+pub fn advance_all(
     relation: &Relation,
     plan: &mut Plan,
     cycle: u64,
+    first: usize,
     routers: &mut [Router],
     beats: &mut [[Beat; LINKS]],
+    marks: &mut Marks,
 )
     requires plan { IsDecidedFor (ports_of relation.now.grid) relation.now.vcs plan.old }
     requires routers { All (λ v. IsRelationOf relation.now v) routers.old }
-    requires count { length beats.old ≡ length routers.old }
+    requires few { length beats.old ≤ MAX_NODES }
+    requires marks { AreMarked marks.old beats.old }
     requires beats { All (IsLinked relation.now.grid) beats.old }
+    requires others { NoneElsewhere first (length routers.old) beats.old }
     ensures plan { IsDecidedFor (ports_of relation.now.grid) relation.now.vcs plan.new }
-    ensures routers { routers.new ≡ map_indexed (λ r v. advanced relation.now cycle (incoming relation.now.grid (beats_at beats.old r)) v) routers.old }
+    ensures routers { routers.new ≡ map_indexed (λ r v. advanced relation.now cycle (incoming relation.now.grid (beats_at beats.old (first + r))) v) routers.old }
     ensures beats { All IsSilent beats.new }
+    ensures marks { AreMarked marks.new beats.new }
+{
+    take_all(relation, first, routers, beats, marks);
+    move_on_all(relation, plan, cycle, routers);
+}
+
+// .. once it has taken them.
+fn move_on_all(relation: &Relation, plan: &mut Plan, cycle: u64, routers: &mut [Router])
+    requires plan { IsDecidedFor (ports_of relation.now.grid) relation.now.vcs plan.old }
+    requires routers { All (λ v. IsRelationOf relation.now v) routers.old }
+    ensures plan { IsDecidedFor (ports_of relation.now.grid) relation.now.vcs plan.new }
+    ensures routers { routers.new ≡ map (moved_on relation.now cycle) routers.old }
 {
     for node in 0..routers.len() {
-        advance(relation, plan, cycle, &mut routers[node], &mut beats[node]);
+        move_on(relation, plan, cycle, &mut routers[node]);
     }
 }
 
-/// One router takes the beats that came to it, injects, decides and commits, and leaves its findings as they were.
-pub fn advance(
-    relation: &Relation,
-    plan: &mut Plan,
-    cycle: u64,
-    router: &mut Router,
-    beats: &mut [Beat; LINKS],
-)
+// One router that has taken its beats injects, decides and commits, and leaves its findings as they were.
+#[inline(always)]
+fn move_on(relation: &Relation, plan: &mut Plan, cycle: u64, router: &mut Router)
     requires plan { IsDecidedFor (ports_of relation.now.grid) relation.now.vcs plan.old }
     requires router { IsRelationOf relation.now router.old }
-    requires beats { IsLinked relation.now.grid beats.old }
     ensures plan { IsDecidedFor (ports_of relation.now.grid) relation.now.vcs plan.new }
-    ensures router { router.new ≡ advanced relation.now cycle (incoming relation.now.grid beats.old) router.old }
-    ensures beats { IsSilent beats.new }
+    ensures router { router.new ≡ moved_on relation.now cycle router.old }
 {
-    receive(relation, cycle, router, beats);
+    router.inject(cycle);
     router.advance(relation, plan);
 }
 
-// Each router takes the beats that came to it, injects, decides and commits.
-fn decide_all(
+/// Each of the routers from `first` (0 to 255) on takes the beats that came to it, injects, decides and commits. Nothing came to
+/// other routers.
+pub fn decide_all(
     relation: &Relation,
     plan: &mut Plan,
     cycle: u64,
+    first: usize,
     routers: &mut [Router],
     beats: &mut [[Beat; LINKS]],
+    marks: &mut Marks,
 )
     requires plan { IsDecidedFor (ports_of relation.now.grid) relation.now.vcs plan.old }
     requires routers { All (λ v. IsRelationOf relation.now v) routers.old }
-    requires count { length beats.old ≡ length routers.old }
+    requires few { length beats.old ≤ MAX_NODES }
+    requires marks { AreMarked marks.old beats.old }
     requires beats { All (IsLinked relation.now.grid) beats.old }
+    requires others { NoneElsewhere first (length routers.old) beats.old }
     ensures plan { IsDecidedFor (ports_of relation.now.grid) relation.now.vcs plan.new }
-    ensures routers { routers.new ≡ map_indexed (λ r v. decided relation.now cycle (incoming relation.now.grid (beats_at beats.old r)) v) routers.old }
+    ensures routers { routers.new ≡ map_indexed (λ r v. decided relation.now cycle (incoming relation.now.grid (beats_at beats.old (first + r))) v) routers.old }
     ensures beats { All IsSilent beats.new }
+    ensures marks { AreMarked marks.new beats.new }
+{
+    take_all(relation, first, routers, beats, marks);
+    conclude_all(relation, plan, cycle, routers);
+}
+
+// .. once it has taken them.
+fn conclude_all(relation: &Relation, plan: &mut Plan, cycle: u64, routers: &mut [Router])
+    requires plan { IsDecidedFor (ports_of relation.now.grid) relation.now.vcs plan.old }
+    requires routers { All (λ v. IsRelationOf relation.now v) routers.old }
+    ensures plan { IsDecidedFor (ports_of relation.now.grid) relation.now.vcs plan.new }
+    ensures routers { routers.new ≡ map (concluded relation.now cycle) routers.old }
 {
     for node in 0..routers.len() {
-        decide(relation, plan, cycle, &mut routers[node], &mut beats[node]);
+        conclude(relation, plan, cycle, &mut routers[node]);
     }
 }
 
-/// One router takes the beats that came to it, injects, decides and commits.
-pub fn decide(
-    relation: &Relation,
-    plan: &mut Plan,
-    cycle: u64,
-    router: &mut Router,
-    beats: &mut [Beat; LINKS],
-)
+// One router that has taken its beats injects, decides and commits.
+fn conclude(relation: &Relation, plan: &mut Plan, cycle: u64, router: &mut Router)
     requires plan { IsDecidedFor (ports_of relation.now.grid) relation.now.vcs plan.old }
     requires router { IsRelationOf relation.now router.old }
-    requires beats { IsLinked relation.now.grid beats.old }
     ensures plan { IsDecidedFor (ports_of relation.now.grid) relation.now.vcs plan.new }
-    ensures router { router.new ≡ decided relation.now cycle (incoming relation.now.grid beats.old) router.old }
-    ensures beats { IsSilent beats.new }
+    ensures router { router.new ≡ concluded relation.now cycle router.old }
 {
-    receive(relation, cycle, router, beats);
+    router.inject(cycle);
     router.plan(relation, plan);
     router.commit(plan);
 }
 
-// One router takes the beats that came to it, and injects.
-fn receive(relation: &Relation, cycle: u64, router: &mut Router, beats: &mut [Beat; LINKS])
-    requires router { IsRelationOf relation.now router.old }
-    requires beats { IsLinked relation.now.grid beats.old }
-    ensures site { router.new.site ≡ router.old.site }
-    ensures router { router.new ≡ injected cycle (all_taken relation.now (incoming relation.now.grid beats.old) router.old) }
-    ensures beats { IsSilent beats.new }
-{
-    take_beats(relation, router, beats);
-    router.inject(cycle);
-}
-
-// One router takes the beats that came to it, and leaves idle ones.
-fn take_beats(relation: &Relation, router: &mut Router, beats: &mut [Beat; LINKS])
-    requires router { IsRelationOf relation.now router.old }
-    requires beats { IsLinked relation.now.grid beats.old }
-    ensures router { router.new ≡ all_taken relation.now (incoming relation.now.grid beats.old) router.old }
-    ensures beats { IsSilent beats.new }
-{
-    let mut rest = arrived(beats);
-    while let Some(port) = rest.least_common(&rest) {
-        rest = rest.without(port);
-        router.take(relation, port, beats[port]);
-        beats[port] = Beat::idle();
-    }
-}
-
-// The ports with a beat that carries something. They are found without a branch for each, since none could be foreseen.
-pub(crate) fn arrived(beats: &[Beat; LINKS]) -> ChannelSet
-    ensures { AreLoaded 6 beats.now result }
-{
-    let mut ports = ChannelSet::empty();
-    for port in 0..LINKS {
-        if !is_idle(&beats[port]) {
-            ports = ports.with(port);
-        }
-    }
-    ports
-}
-
-// Whether a beat carries nothing.
-fn is_idle(beat: &Beat) -> bool
-    ensures { result ≡ is_idle_beat beat.now }
-{
-    beat.flit.is_none() & beat.credit.is_none()
-}
-
 // Each router puts its beats on the wires that leave it, all of which are idle.
-fn deliver_all(relation: &Relation, routers: &mut [Router], beats: &mut [[Beat; LINKS]])
+fn deliver_all(
+    relation: &Relation,
+    routers: &mut [Router],
+    beats: &mut [[Beat; LINKS]],
+    marks: &mut Marks,
+)
     requires routers { ArePlaced relation.now routers.old }
     requires nodes { length routers.old ≡ nodes_of relation.now.grid }
     requires count { length beats.old ≡ nodes_of relation.now.grid }
     requires beats { All IsSilent beats.old }
+    requires marks { AreMarked marks.old beats.old }
+    ensures marks { AreMarked marks.new beats.new }
     ensures routers { routers.new ≡ map emptied routers.old }
     ensures beats { (r port : ℕ) → r < nodes_of relation.now.grid → beat_at beats.new r port ≡ beat_from (map (λ v. v.to_put) routers.old) (neighbour_of relation.now.grid r port) }
 {
     for node in 0..routers.len() {
-        deliver(relation, &mut routers[node], beats);
+        deliver(relation, &mut routers[node], beats, marks);
     }
 }
 
-/// One router puts its beats on the wires that leave it, all of which are idle.
-pub fn deliver(relation: &Relation, router: &mut Router, beats: &mut [[Beat; LINKS]])
+/// One router puts its beats on the wires that leave it, all of which are idle; the marks follow them.
+pub fn deliver(
+    relation: &Relation,
+    router: &mut Router,
+    beats: &mut [[Beat; LINKS]],
+    marks: &mut Marks,
+)
     requires router { IsPlaced relation.now router.old.site.node router.old }
     requires node { router.old.site.node < nodes_of relation.now.grid }
     requires count { length beats.old ≡ nodes_of relation.now.grid }
     requires idle { (r port q : ℕ) → neighbour_of relation.now.grid r port ≡ Some (router.old.site.node, q) → beat_at beats.old r port ≡ idle_beat }
+    ensures marks { AreMarked marks.old beats.old → AreMarked marks.new beats.new }
     ensures router { router.new ≡ emptied router.old }
     ensures beats { (r port : ℕ) → r < nodes_of relation.now.grid → beat_at beats.new r port ≡ received router.old (neighbour_of relation.now.grid r port) (beat_at beats.old r port) }
 {
@@ -540,17 +534,19 @@ pub fn deliver(relation: &Relation, router: &mut Router, beats: &mut [[Beat; LIN
     while let Some(port) = rest.least_common(&rest) {
         rest = rest.without(port);
         let beat = router.put(port);
-        send(beats, router.neighbour(port), beat);
+        send(beats, marks, router.neighbour(port), beat);
     }
 }
 
 // A beat is on the wire that arrives at this router and port, where there is a link.
-fn send(beats: &mut [[Beat; LINKS]], to: Option<(usize, usize)>, beat: Beat)
+fn send(beats: &mut [[Beat; LINKS]], marks: &mut Marks, to: Option<(usize, usize)>, beat: Beat)
     requires few { length beats.old ≤ MAX_NODES }
     requires within { IfSome to (λ place. (place.0 < length beats.old) × (place.1 < 6)) }
-    ensures { beats.new ≡ sent_on beats.old to beat }
+    ensures beats { beats.new ≡ sent_on beats.old to beat }
+    ensures marks { AreMarked marks.old beats.old → AreMarked marks.new beats.new }
 {
     if let Some((node, entry)) = to {
+        marks.note(node, entry, &beat);
         beats[node][entry] = beat;
     }
 }

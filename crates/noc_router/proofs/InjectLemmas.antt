@@ -1,5 +1,5 @@
 -- The source injects a flit.
-use Rattle.std.proofs.Common.{◌≡◌, ℕ, ◌+◌, ◌<◌, ◌≤◌, Bool, true, false, List, [], ◌∷◌, length, drop, Option, Some, None, refl, ap, sym, ◌∙◌, slice_set, arith}
+use Rattle.std.proofs.Common.{◌≡◌, ℕ, suc, ◌+◌, ◌<◌, ◌≤◌, Bool, true, false, List, [], ◌∷◌, length, drop, Option, Some, None, refl, ap, sym, ◌∙◌, slice_set, arith}
 use Rattle.std.specs.Prelude.{if◌then◌else◌, is_none, is_some, nat_lt, nat_le, slice_get}
 use Rattle.std.proofs.lemmas.Bool.{false≢true, le-leb, lt-leb}
 use Rattle.std.proofs.lemmas.List.{drop_all}
@@ -65,12 +65,20 @@ injected-stays n v none = at v.queue refl
     at ((number, p) ∷ rest) whole = injected-front n number p rest v None whole none
 
 -- where one can, and there is a packet, one goes
-pub injected-goes : (n vc : ℕ) (v : View) → next_vc (record v { given = n }) ≡ Some vc → is_some (slice_get v.queue 0) ≡ true → (injected n v).had_event ≡ true
-injected-goes n vc v some there = at v.queue refl
+pub injected-goes : (n vc : ℕ) (v : View) → next_vc (record v { given = n }) ≡ Some vc → is_some (slice_get v.queue 0) ≡ true → injected n v ≡ record v { given = n } → ⊥
+injected-goes n vc v some there stays = at v.queue refl
   where
-    at : (queue : List (ℕ × Packet)) → v.queue ≡ queue → (injected n v).had_event ≡ true
+    -- the queue is shorter by its first packet, or the next index is one more
+    moves : (b : Bool) (first : ℕ × Packet) (rest : List (ℕ × Packet)) → v.queue ≡ first ∷ rest → (if b then rest else v.queue) ≡ v.queue
+        → (if b then None else Some (vc, index_in v.sending + 1)) ≡ v.sending → ⊥
+    moves true first rest whole queue sending = let same : length rest ≡ suc (length rest) = ap (λ (q : List (ℕ × Packet)). length q) (queue ∙ whole) in omega (arith, same)
+    moves false first rest whole queue sending = let same : index_in v.sending + 1 ≡ index_in v.sending = ap index_in sending in omega (arith, same)
+
+    at : (queue : List (ℕ × Packet)) → v.queue ≡ queue → ⊥
     at [] whole = absurd (false≢true (ap (λ (q : List (ℕ × Packet)). is_some (slice_get q 0)) (sym whole) ∙ there))
-    at ((number, p) ∷ rest) whole = ap (λ (w : View). w.had_event) (injected-front n number p rest v (Some vc) whole some)
+    at ((number, p) ∷ rest) whole =
+        let gone : with_injected vc (index_in v.sending) number p rest (record v { given = n }) ≡ record v { given = n } = sym (injected-front n number p rest v (Some vc) whole some) ∙ stays in
+        moves (flit_at p number (index_in v.sending)).last (number, p) rest whole (ap (λ (w : View). w.queue) gone) (ap (λ (w : View). w.sending) gone)
 
 -- the source goes on, or waits for room
 pub next_vc-begun : (n vc index : ℕ) (b : Bool) (v : View) → v.sending ≡ Some (vc, index) → nat_lt (length (view_buffer v (local_channel v.site vc))) v.site.places ≡ b
@@ -136,7 +144,7 @@ module _ (r : Inside) (due : ℕ) (is : IsRouter r) (e : next_due_of r.source.fr
     pub held-begun : b ≡ false → (n : ℕ) → injected n (view_of r) ≡ record (view_of r) { given = n }
     held-begun none n = injected-stays n (view_of r) (next-begun n ∙ ap (λ x. if x then Some vc else None) none)
 
-    pub goes-begun : b ≡ true → (n : ℕ) → (injected n (view_of r)).had_event ≡ true
+    pub goes-begun : b ≡ true → (n : ℕ) → injected n (view_of r) ≡ record (view_of r) { given = n } → ⊥
     goes-begun some n = injected-goes n vc (view_of r) (next-begun n ∙ ap (λ x. if x then Some vc else None) some) some-front
 
   -- .. it has not begun
@@ -154,7 +162,7 @@ module _ (r : Inside) (due : ℕ) (is : IsRouter r) (e : next_due_of r.source.fr
         either true = none
         either false = refl
 
-    pub goes-due : (vc : ℕ) → vacant_vc (view_of r) ≡ Some vc → (injected due (view_of r)).had_event ≡ true
+    pub goes-due : (vc : ℕ) → vacant_vc (view_of r) ≡ Some vc → injected due (view_of r) ≡ record (view_of r) { given = due } → ⊥
     goes-due vc some = injected-goes due vc (view_of r) (next-waits due ∙ ap (λ b. if b then vacant_vc (view_of r) else None) (le-leb due due (omega arith)) ∙ some) some-front
 
 -- a flit goes to a local channel

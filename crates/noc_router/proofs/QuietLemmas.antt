@@ -67,6 +67,11 @@ somebody_below n y x l e = let same : y ≡ x = cc in omega arith
 pub below-added : (n : ℕ) (xs : List (Option ℕ)) (i y : ℕ) → y < n → AllBelow n xs → AllBelow n (set xs i (Some y))
 below-added n xs i y l all = All-set (λ one. ForSome one (λ k. k < n)) xs i (Some y) (λ x e. somebody_below n y x l e) all
 
+-- .. or nobody
+pub below-put : (n : ℕ) (xs : List (Option ℕ)) (i : ℕ) (one : Option ℕ) → IfSome one (λ y. y < n) → AllBelow n xs → AllBelow n (set xs i one)
+below-put n xs i (Some y) l all = below-added n xs i y l all
+below-put n xs i None l all = All-set (λ one. ForSome one (λ k. k < n)) xs i None (λ x e. nobody_below n x e) all
+
 -- nobody is named
 pub below-none : (n count : ℕ) (xs : List (Option ℕ)) → xs ≡ replicate count None → AllBelow n xs
 below-none n count xs is k d l x e =

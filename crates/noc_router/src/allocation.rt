@@ -35,20 +35,15 @@ pub(crate) fn allocate_channels(asks: &Places, arbiters: &[Arbiter], grants: &mu
     }
 }
 
-// Of the requester that came first so far and a later one, that which comes first.
-fn nearer(arbiter: &Arbiter, held: Option<usize>, next: usize) -> usize
-    ensures { nearer arbiter.now.pointer held next ≡ Some result }
+// Of the requester that comes first so far and one that comes after it in number, the one that comes first.
+fn nearer(arbiter: &Arbiter, held: usize, next: usize) -> usize
+    ensures { nearer arbiter.now.pointer (Some held) next ≡ Some result }
 {
     let pointer = arbiter.pointer();
-    match held {
-        Some(first) => {
-            if (pointer <= first) | (next < pointer) {
-                first
-            } else {
-                next
-            }
-        }
-        None => next,
+    if (pointer <= held) | (next < pointer) {
+        held
+    } else {
+        next
     }
 }
 
@@ -69,10 +64,12 @@ pub(crate) fn offer(
     ensures within { (n : ℕ) → requester < n → All (λ one. IfSome one (λ r. r < n)) held.old → All (λ one. IfSome one (λ r. r < n)) held.new }
     ensures other_within { (n : ℕ) → requester < n → All (λ one. IfSome one (λ r. r < n)) held.old → IfSome result (λ r. r < n) }
 {
-    let before = held.get(asked);
+    let Some(before) = held.get(asked) else {
+        held.set(asked, Some(requester));
+        return None;
+    };
     let first = nearer(&arbiters[asked], before, requester);
     held.set(asked, Some(first));
-    let before = before?;
     if first == requester {
         Some(before)
     } else {

@@ -84,9 +84,10 @@ impl Digit {
         requires { self.old.kept ≡ 7 }
         ensures { (j k : ℕ) → j < 10 → digit_at self.new j k + 8 * one_at result j k ≡ digit_at self.old j k + one_at sets.now j k }
     {
+        let last = *sets;
         let mut carry = [ChannelSet::empty(); VERDICTS];
         for verdict in 0..VERDICTS {
-            carry[verdict] = self.fold_one(verdict, sets[verdict]);
+            carry[verdict] = self.fold_one(verdict, last[verdict]);
         }
         self.kept = 0;
         carry

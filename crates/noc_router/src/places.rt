@@ -3,6 +3,7 @@
 ghost use Rattle.std.specs.Prelude.{◌≡◌, ℕ, ◌<◌, ◌≤◌, IfOk, None, is_some, length, replicate, slice_index_or, slice_set};
 ghost use Rattle.noc_packet.specs.Set.{has_bit};
 
+use crate::channels::marked;
 use noc_packet::{ChannelSet, INDICES, Memory};
 use std::alloc::Global;
 use std::marker::Model;
@@ -60,13 +61,8 @@ impl Places {
         ensures value { self.new ≡ slice_set self.old index value }
         ensures count { length self.new ≡ length self.old }
     {
-        match value {
-            Some(number) => {
-                self.filled = self.filled.with(index);
-                self.values[index] = number;
-            }
-            None => self.filled = self.filled.without(index),
-        }
+        self.filled = marked(self.filled, index, value.is_some());
+        self.values[index] = value.unwrap_or(0);
     }
 
     // The number of a place, if it holds one.

@@ -106,16 +106,16 @@ impl Requests {
         self.routes[index] = set;
     }
 
-    // An input channel asks for an output channel.
-    pub(crate) fn add_ask(&mut self, index: usize, output: usize)
+    // An input channel asks for this output channel, if there is one.
+    pub(crate) fn set_ask(&mut self, index: usize, output: Option<usize>)
         requires input { index < self.old.size }
-        requires output { output < self.old.size }
+        requires output { IfSome output (λ o. o < self.old.size) }
         ensures ports { self.new.ports ≡ self.old.ports }
         ensures size { self.new.size ≡ self.old.size }
         ensures routes { self.new.routes.items ≡ self.old.routes.items }
-        ensures asks { self.new.asks ≡ slice_set self.old.asks index (Some output) }
+        ensures asks { self.new.asks ≡ slice_set self.old.asks index output }
     {
-        self.asks.set(index, Some(output));
+        self.asks.set(index, output);
     }
 
     // The arbiters of the output channels decide on the requests.

@@ -142,8 +142,9 @@ impl Router {
         }
     }
 
-    // A flit comes to a virtual channel of a link port.
-    fn take_flit(&mut self, relation: &Relation, port: usize, vc: usize, flit: Flit)
+    /// Takes a flit that came on a virtual channel of a link port (0 to the number of link ports - 1). Where it does not
+    /// fit it is turned away.
+    pub fn take_flit(&mut self, relation: &Relation, port: usize, vc: usize, flit: Flit)
         requires relation { IsRelationOf relation.now self.old }
         requires port { port < local_port self.old.site.grid }
         ensures { self.new ≡ with_flit relation.now port (Some (vc, flit)) self.old }
@@ -160,8 +161,9 @@ impl Router {
         }
     }
 
-    // A credit comes for a virtual channel of a link port.
-    fn take_credit(&mut self, port: usize, vc: usize)
+    /// Takes a credit that came for a virtual channel of a link port (0 to the number of link ports - 1). Where it does not
+    /// fit it is turned away.
+    pub fn take_credit(&mut self, port: usize, vc: usize)
         requires port { port < local_port self.old.site.grid }
         ensures { self.new ≡ with_credit port (Some vc) self.old }
     {
@@ -282,9 +284,7 @@ impl Router {
         let mut rest = waiting;
         while let Some(index) = rest.least_common(&rest) {
             rest = rest.without(index);
-            if let Some(next) = self.channels.asked(index) {
-                requests.add_ask(index, next);
-            }
+            requests.set_ask(index, self.channels.asked(index));
         }
     }
 
@@ -447,7 +447,7 @@ impl Router {
     /// The first cycle in which `inject` would inject a flit, if nothing happens before: 0 where it would in any, None where in none.
     pub fn next_injection(&self) -> Option<u64>
         ensures before { (end : ℕ) → IfSome result (λ due. end ≤ due) → IsHeldBefore end self.now }
-        ensures due { IfSome result (λ due. (injected due self.now).had_event ≡ true) }
+        ensures due { IfSome result (λ due. IsHeldBefore (due + 1) self.now → ⊥) }
     {
         let due = self.source.next_due()?;
         match self.source.channel() {

@@ -47,7 +47,7 @@ impl VerdictSets {
         }
     }
 
-    // The channels with each verdict, by its place in the order of the verdicts: none for Empty.
+    // The channels with each verdict but Empty, by its place in the order of the verdicts.
     #[inline(always)]
     pub(crate) fn each(&self) -> Sets
         ensures { (j k : ℕ) → sets_with self.now k ≤ 1 → 0 < j → j < 10 → one_at result j k ≡ one_if (column (verdict_by self.now k) == j) }

@@ -17,7 +17,7 @@ use crate::rings::{Rings, make_rings, take_ins, take_outs};
 use crate::starts::tile_start;
 use crate::tile::{Outcome, Tile};
 use crate::wires::{Inlet, Outlet};
-use noc_net::LINKS;
+use noc_net::{LINKS, Marks};
 use noc_packet::{Beat, Memory};
 use noc_router::{Plan, Router};
 use std::alloc::{AllocError, Global};
@@ -76,6 +76,7 @@ fn new_tile(
     let count = routers.len();
     let plan = Plan::new(alloc, &frame.relation)?;
     let beats = own_beats(alloc, beats, first, count)?;
+    let marks = Marks::of(&beats);
     let ins = take_ins(alloc, shape, first, count, ins)?;
     let outs = take_outs(alloc, shape, first, count, outs)?;
     Ok(Tile {
@@ -88,6 +89,7 @@ fn new_tile(
         routers,
         plan,
         beats,
+        marks,
         ins,
         outs,
     })

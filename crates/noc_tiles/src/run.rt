@@ -1,8 +1,9 @@
 //! The run of a tile.
 
-ghost use Rattle.std.specs.Prelude.{List, ◌≡◌, ◌+◌, ◌<◌, ◌^◌, ◌↔◌, true, false, IsTrue, IsFalse};
+ghost use Rattle.std.specs.Prelude.{List, ◌≡◌, ◌+◌, ◌<◌, ◌≤◌, ◌^◌, ◌↔◌, true, false, IsTrue, IsFalse};
 ghost use Rattle.noc_packet.specs.declared.packet.Beat.{Beat as beat_value};
-ghost use Rattle.noc_topo.specs.Shape.{ports as ports_of};
+ghost use Rattle.noc_topo.specs.declared.limits.TheConstants.{MAX_NODES};
+ghost use Rattle.noc_topo.specs.Shape.{nodes as nodes_of, ports as ports_of};
 ghost use Rattle.noc_router.specs.Decided.{IsDecidedFor};
 ghost use Rattle.noc_tiles.specs.Tiles.{IsReady, IsSameTile, Cycles, Runs};
 ghost use Rattle.noc_tiles.specs.declared.tile.Outcome.TheVariants.{Whole, Closed, Stopped};
@@ -23,7 +24,8 @@ fn cycle(
     seen: bool,
     stop: &Stop,
 ) -> bool
-    requires { IsReady relation.now tile.old }
+    requires ready { IsReady relation.now tile.old }
+    requires few { nodes_of relation.now.grid ≤ MAX_NODES }
     ensures same { IsSameTile tile.old tile.new }
     ensures plan { IsDecidedFor (ports_of relation.now.grid) relation.now.vcs tile.new.plan }
     ensures done { (tile.new.done ≡ tile.old.done) × (tile.new.outcome ≡ tile.old.outcome) }
@@ -31,7 +33,7 @@ fn cycle(
     ensures ran { IsTrue result → (row : List beat_value) × Cycles relation.now seen cycle tile.old tile.new row }
     ensures stopped { IsFalse result → stop.now ≡ true }
 {
-    if !take_all(rt, &mut tile.ins, &mut tile.beats, stop) {
+    if !take_all(rt, &mut tile.ins, &mut tile.beats, &mut tile.marks, stop) {
         return false;
     }
     decide_all(
@@ -42,12 +44,19 @@ fn cycle(
         tile.first,
         &mut tile.routers,
         &mut tile.beats,
+        &mut tile.marks,
     );
-    deliver_all(relation, tile.first, &mut tile.routers, &mut tile.beats);
+    deliver_all(
+        relation,
+        tile.first,
+        &mut tile.routers,
+        &mut tile.beats,
+        &mut tile.marks,
+    );
     if !put_all(rt, &mut tile.outs, &tile.beats, stop) {
         return false;
     }
-    clear_all(&tile.outs, &mut tile.beats);
+    clear_all(&tile.outs, &mut tile.beats, &mut tile.marks);
     true
 }
 
@@ -70,6 +79,7 @@ pub fn run_tile<G: Gate>(
     ensures closed { result.outcome ≡ Closed → G.opens gate.now ≡ false }
     ensures stopped { result.outcome ≡ Stopped → stop.now ≡ true }
 {
+    let _nodes = relation.shape().nodes();
     let mut tile = tile;
     for c in 0..tile.cycles {
         let now = tile.start + c;

@@ -1,7 +1,7 @@
 //! Where the tiles begin.
 
 ghost use Rattle.noc_topo.specs.declared.limits.TheConstants.{MAX_NODES};
-ghost use Rattle.std.specs.Prelude.{ℕ, ◌≡◌, ◌<◌, ◌≤◌, IsTrue};
+ghost use Rattle.std.specs.Prelude.{ℕ, ◌≡◌, ◌<◌, ◌≤◌, ◌↔◌, IsTrue};
 ghost use Rattle.noc_tiles.specs.Starts.{AreTogether, tile_start};
 
 /// The first router of a worker's tile, and the end of the tile before it: worker w of W has the routers from w·N/W to
@@ -20,7 +20,7 @@ pub(crate) fn tile_start(nodes: usize, workers: usize, worker: usize) -> usize
 pub(crate) fn are_together(nodes: usize, workers: usize, a: usize, b: usize) -> bool
     requires nodes { nodes ≤ MAX_NODES }
     requires workers { (0 < workers) × (workers ≤ 16) }
-    ensures { IsTrue result → AreTogether nodes workers a b }
+    ensures { IsTrue result ↔ AreTogether nodes workers a b }
 {
     for worker in 0..workers + 1 {
         let start = tile_start(nodes, workers, worker);

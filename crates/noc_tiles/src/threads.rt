@@ -1,6 +1,6 @@
 //! The tiles of a network, run in threads and put together again.
 
-ghost use Rattle.std.specs.Prelude.{ℕ, List, ◌≡◌, ◌+◌, ◌<◌, ◌≤◌, ◌++◌, get_or, map, length, drop, take, IfOk, IfErr, false, OnOk, IsTrue, vec_len, Option};
+ghost use Rattle.std.specs.Prelude.{ℕ, List, ◌≡◌, ◌+◌, ◌<◌, ◌≤◌, ◌++◌, ◌↔◌, get_or, map, length, drop, take, IfOk, IfErr, false, OnOk, IsTrue, vec_len, Option};
 ghost use Rattle.noc_model.specs.declared.limits.TheConstants.{CYCLE_LIMIT as cycle_limit};
 ghost use Rattle.noc_tiles.specs.Ends.{End, inlet, outlet};
 ghost use Rattle.noc_tiles.specs.declared.fault.RunFault.TheVariants.{LostWorker};
@@ -38,6 +38,7 @@ fn add(all: &mut Gathered, tile: Tile) -> Result<(), AllocError>
         mut routers,
         plan: _,
         beats,
+        marks: _,
         mut ins,
         mut outs,
     } = tile;
@@ -67,7 +68,7 @@ fn gather(alloc: Global, tiles: Vec<Tile>) -> Result<Gathered, AllocError>
 
 // Whether every tile has made its cycles.
 fn all_whole(tiles: &Vec<Tile>) -> bool
-    ensures { IsTrue result → AllWhole tiles.now.items }
+    ensures { IsTrue result ↔ AllWhole tiles.now.items }
 {
     for t in 0..tiles.len() {
         match tiles[t].outcome {

@@ -1,13 +1,10 @@
-use Rattle.std.proofs.Common.{◌≡◌, ℕ, [], length, get_or, subst, arith}
-use Rattle.noc_router.specs.View.{View}
-use Rattle.noc_model.specs.Halves.{incoming}
 use Rattle.noc_model.specs.Unseen.{advanced}
-use Rattle.noc_model.proofs.ListLemmas.{IsDoneTo, done_all}
+use Rattle.noc_net.specs.Takes.{moved_on}
+use Rattle.noc_net.proofs.TakesLemmas.{all-halves, moved_on-advanced}
 use Rattle.noc_net.proofs.network.advance_all.Goals as goal
 
 pub returns-clause-routers : goal.returns-clause-routers
 returns-clause-routers c =
-    let first_half = λ (r : ℕ) (v : View). advanced c.args.relation.now c.args.cycle (incoming c.args.relation.now.grid (get_or c.args.beats.now r [])) v in
-    let end : c.loop-node.node ≡ length c.args.routers.now = omega (arith, c.loop-node.auto.node-end) in
-    done_all first_half c.args.routers.now c.loop-node.routers
-    (subst (λ (k : ℕ). IsDoneTo first_half c.args.routers.now c.loop-node.routers k) end c.loop-node.invariant.routers)
+    let relation = c.args.relation.now in
+    all-halves relation c.args.first c.args.beats.now (moved_on relation c.args.cycle) (advanced relation c.args.cycle) c.args.routers.now c.take_all.new.routers c.move_on_all.new.routers (moved_on-advanced relation c.args.cycle)
+    c.take_all.ensures.routers c.move_on_all.ensures.routers

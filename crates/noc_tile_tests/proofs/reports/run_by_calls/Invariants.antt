@@ -1,4 +1,4 @@
-use Rattle.std.proofs.Common.{◌≡◌, ℕ}
+use Rattle.std.proofs.Common.{◌≡◌}
 use Rattle.noc_tile_tests.proofs.reports.run_by_calls.Given as goal
 
 -- one cycle a call

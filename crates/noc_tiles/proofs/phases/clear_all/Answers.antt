@@ -11,8 +11,35 @@ pub loop-k-init : goal.loop-k-init
 loop-k-init c = record {
   size = refl;
   rows = λ i l. search rules;
+  marks = c.requires.marks;
   beats = λ r q. inr (λ o l. absurd (omega arith), refl);
 }
+
+pub note-requires-clause-node : goal.note-requires-clause-node
+note-requires-clause-node c =
+    let k = c.loop-k.k in
+    let end = c.index-end.result.now in
+    let os = c.args.ends.now.items in
+    let l : k < length os = search (rules, arith) in
+    let l' : k < length (places (map outlet os)) = rw (length-map, length-map) l in
+    let at : get_or (places (map outlet os)) k (0, 0) ≡ (end.router, end.port) = place-of outlet os k end (0, 0) l ∙ ap (λ (o : Outlet). (outlet o).at) (sym c.index-end.ensures) in
+    let w = c.requires.within k l' in
+    let r_in : end.router < length c.args.beats.now = let e = ap (λ (z : ℕ × ℕ). z.0) at in omega (arith, w.0, e) in
+    let p_in : end.port < 6 = let e = ap (λ (z : ℕ × ℕ). z.1) at in omega (arith, w.1, e) in
+    omega (arith, r_in, c.requires.few)
+
+pub note-requires-clause-port : goal.note-requires-clause-port
+note-requires-clause-port c =
+    let k = c.loop-k.k in
+    let end = c.index-end.result.now in
+    let os = c.args.ends.now.items in
+    let l : k < length os = search (rules, arith) in
+    let l' : k < length (places (map outlet os)) = rw (length-map, length-map) l in
+    let at : get_or (places (map outlet os)) k (0, 0) ≡ (end.router, end.port) = place-of outlet os k end (0, 0) l ∙ ap (λ (o : Outlet). (outlet o).at) (sym c.index-end.ensures) in
+    let w = c.requires.within k l' in
+    let r_in : end.router < length c.args.beats.now = let e = ap (λ (z : ℕ × ℕ). z.0) at in omega (arith, w.0, e) in
+    let p_in : end.port < 6 = let e = ap (λ (z : ℕ × ℕ). z.1) at in omega (arith, w.1, e) in
+    p_in
 
 pub bounds-beats-end : goal.bounds-beats-end
 bounds-beats-end c =
@@ -22,7 +49,7 @@ bounds-beats-end c =
     let l : k < length os = search (rules, arith) in
     let l' : k < length (places (map outlet os)) = rw (length-map, length-map) l in
     let at : get_or (places (map outlet os)) k (0, 0) ≡ (end.router, end.port) = place-of outlet os k end (0, 0) l ∙ ap (λ (o : Outlet). (outlet o).at) (sym c.index-end.ensures) in
-    let w = c.requires k l' in
+    let w = c.requires.within k l' in
     let r_in : end.router < length c.args.beats.now = let e = ap (λ (z : ℕ × ℕ). z.0) at in omega (arith, w.0, e) in
     let p_in : end.port < 6 = let e = ap (λ (z : ℕ × ℕ). z.1) at in omega (arith, w.1, e) in
     omega (arith, r_in, c.loop-k.invariant.size)
@@ -35,7 +62,7 @@ offset_bounds-beats-end c =
     let l : k < length os = search (rules, arith) in
     let l' : k < length (places (map outlet os)) = rw (length-map, length-map) l in
     let at : get_or (places (map outlet os)) k (0, 0) ≡ (end.router, end.port) = place-of outlet os k end (0, 0) l ∙ ap (λ (o : Outlet). (outlet o).at) (sym c.index-end.ensures) in
-    let w = c.requires k l' in
+    let w = c.requires.within k l' in
     let r_in : end.router < length c.args.beats.now = let e = ap (λ (z : ℕ × ℕ). z.0) at in omega (arith, w.0, e) in
     let p_in : end.port < 6 = let e = ap (λ (z : ℕ × ℕ). z.1) at in omega (arith, w.1, e) in
     let b : end.router < length c.loop-k.beats = omega (arith, r_in, c.loop-k.invariant.size) in
@@ -49,7 +76,7 @@ bounds-beats-end-in-loop-k c =
     let l : k < length os = search (rules, arith) in
     let l' : k < length (places (map outlet os)) = rw (length-map, length-map) l in
     let at : get_or (places (map outlet os)) k (0, 0) ≡ (end.router, end.port) = place-of outlet os k end (0, 0) l ∙ ap (λ (o : Outlet). (outlet o).at) (sym c.index-end.ensures) in
-    let w = c.requires k l' in
+    let w = c.requires.within k l' in
     let r_in : end.router < length c.args.beats.now = let e = ap (λ (z : ℕ × ℕ). z.0) at in omega (arith, w.0, e) in
     let p_in : end.port < 6 = let e = ap (λ (z : ℕ × ℕ). z.1) at in omega (arith, w.1, e) in
     p_in
@@ -62,7 +89,7 @@ offset_bounds-beats-end-in-loop-k c =
     let l : k < length os = search (rules, arith) in
     let l' : k < length (places (map outlet os)) = rw (length-map, length-map) l in
     let at : get_or (places (map outlet os)) k (0, 0) ≡ (end.router, end.port) = place-of outlet os k end (0, 0) l ∙ ap (λ (o : Outlet). (outlet o).at) (sym c.index-end.ensures) in
-    let w = c.requires k l' in
+    let w = c.requires.within k l' in
     let r_in : end.router < length c.args.beats.now = let e = ap (λ (z : ℕ × ℕ). z.0) at in omega (arith, w.0, e) in
     let p_in : end.port < 6 = let e = ap (λ (z : ℕ × ℕ). z.1) at in omega (arith, w.1, e) in
     search (rules, arith)
@@ -75,7 +102,7 @@ loop-k-preserved c =
     let l : k < length os = search (rules, arith) in
     let l' : k < length (places (map outlet os)) = rw (length-map, length-map) l in
     let at : get_or (places (map outlet os)) k (0, 0) ≡ (end.router, end.port) = place-of outlet os k end (0, 0) l ∙ ap (λ (o : Outlet). (outlet o).at) (sym c.index-end.ensures) in
-    let w = c.requires k l' in
+    let w = c.requires.within k l' in
     let r_in : end.router < length c.args.beats.now = let e = ap (λ (z : ℕ × ℕ). z.0) at in omega (arith, w.0, e) in
     let p_in : end.port < 6 = let e = ap (λ (z : ℕ × ℕ). z.1) at in omega (arith, w.1, e) in
     let bs = c.loop-k.beats in
@@ -83,9 +110,10 @@ loop-k-preserved c =
     let b : end.router < length bs = omega (arith, r_in, v.size) in
     let long : end.port < length (get_or bs end.router []) = omega (arith, p_in, v.rows end.router b) in
     record {
-      size = length-set bs end.router (set (get_or bs end.router []) end.port c.idle.result) ∙ v.size;
-      rows = rows_kept bs (Some (end.router, end.port)) c.idle.result v.rows;
-      beats = λ r q. cleared-more (places (map outlet os)) c.args.beats.now bs k end.router end.port c.idle.result c.idle.ensures at b long r q (v.beats r q);
+      size = length-set bs end.router (set (get_or bs end.router []) end.port c.idle-beat.result) ∙ v.size;
+      rows = rows_kept bs (Some (end.router, end.port)) c.idle-beat.result v.rows;
+      marks = c.note.ensures.marks bs b long v.marks;
+      beats = λ r q. cleared-more (places (map outlet os)) c.args.beats.now bs k end.router end.port c.idle-beat.result c.idle-beat.ensures at b long r q (v.beats r q);
     }
 
 pub returns-clause-beats : goal.returns-clause-beats

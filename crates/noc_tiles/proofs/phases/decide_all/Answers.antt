@@ -1,38 +1,45 @@
-use Rattle.std.proofs.Common.{◌≡◌, ℕ, ◌+◌, ◌<◌, [], length, get_or, map, ap, sym, ◌∙◌, arith, rules, subst}
-use Rattle.std.proofs.lemmas.List.{length-map, get_or-map, same_lists}
+use Rattle.std.proofs.Common.{◌≡◌, ℕ, ◌+◌, ◌<◌, List, length, map, refl, ap, sym, ◌∙◌, arith, rules}
+use Rattle.std.proofs.lemmas.List.{get_or-map, length-map, same_lists, with_items_is}
 use Rattle.noc_topo.specs.Words.{map_indexed}
-use Rattle.noc_topo.proofs.WordLemmas.{length-map_indexed, get_or-map_indexed}
+use Rattle.noc_topo.proofs.WordLemmas.{get_or-map_indexed, length-map_indexed}
+use Rattle.noc_packet.specs.declared.packet.Beat.{Beat}
+use Rattle.noc_route.specs.Routes.{Routes}
 use Rattle.noc_router.specs.View.{View}
 use Rattle.noc_net.specs.Halves.{decided, incoming}
-use Rattle.noc_net.specs.Unseen.{unseen}
-use Rattle.noc_model.proofs.ListLemmas.{IsDoneTo, done_all}
+use Rattle.noc_net.specs.Lockstep.{beats_at}
+use Rattle.noc_net.specs.Unseen.{advanced, unseen}
 use Rattle.noc_tiles.proofs.phases.decide_all.Goals as goal
 
-pub returns-clause-routers : goal.returns-clause-routers
-returns-clause-routers c =
-    let half = λ (k : ℕ) (v : View). decided c.args.relation.now c.args.cycle (incoming c.args.relation.now.grid (get_or c.args.beats.now (c.args.first + k) [])) v in
-    let old = c.args.routers.now.items in
-    let new = c.loop-i.routers.items in
-    let n : length new ≡ length old = let q = c.loop-i.invariant.count in search (rules, arith) in
-    let end : c.loop-i.i ≡ length old = search (rules, arith) in
-    let m : length (map_indexed half old) ≡ length old = length-map_indexed half old in
-    same_lists (map unseen new) (map unseen (map_indexed half old)) (length-map new unseen ∙ n ∙ sym m ∙ sym (length-map (map_indexed half old) unseen))
-    (λ k d l.
-    let in_new : k < length new = omega (arith, length-map new unseen, l) in
-    get_or-map unseen new k d d in_new
-    ∙ c.loop-i.invariant.done k d (omega (arith, in_new, n, end))
-    ∙ ap unseen (sym (get_or-map_indexed half old k d d (omega (arith, in_new, n))))
-    ∙ sym (get_or-map unseen (map_indexed half old) k d d (omega (arith, in_new, n, m))))
+-- but for what is found, both are the same
+unseen-same : (relation : Routes) (n : ℕ) (beats : List Beat) (v : View) → unseen (advanced relation n beats v) ≡ unseen (decided relation n beats v)
+unfolding advanced
+unseen-same relation n beats v = refl
 
-pub returns-clause-seen : goal.returns-clause-seen
-returns-clause-seen c seen =
-    let half = λ (k : ℕ) (v : View). decided c.args.relation.now c.args.cycle (incoming c.args.relation.now.grid (get_or c.args.beats.now (c.args.first + k) [])) v in
-    let old = c.args.routers.now.items in
-    let new = c.loop-i.routers.items in
-    let end : c.loop-i.i ≡ length old = search (rules, arith) in
-    let done : IsDoneTo half old new c.loop-i.i = record {
-      count = let q = c.loop-i.invariant.count in search (rules, arith);
-      before = λ k d h h'. c.loop-i.invariant.seen seen k d h;
-      behind = c.loop-i.invariant.behind;
-    } in
-    done_all half old new (subst (IsDoneTo half old new) end done)
+all-unseen : (relation : Routes) (n : ℕ) (row : ℕ → List Beat) (old : List View)
+    → map unseen (map_indexed (λ i v. advanced relation n (incoming relation.grid (row i)) v) old) ≡ map unseen (map_indexed (λ i v. decided relation n (incoming relation.grid (row i)) v) old)
+all-unseen relation n row old =
+    same_lists (map unseen (map_indexed one old)) (map unseen (map_indexed two old))
+    (length-map (map_indexed one old) unseen ∙ length-map_indexed one old ∙ sym (length-map_indexed two old) ∙ sym (length-map (map_indexed two old) unseen))
+    (λ k d l.
+    let few : k < length old = omega (arith, l, length-map (map_indexed one old) unseen, length-map_indexed one old) in
+    get_or-map unseen (map_indexed one old) k d d (omega (arith, few, length-map_indexed one old))
+    ∙ ap unseen (get_or-map_indexed one old k d d few)
+    ∙ unseen-same relation n (incoming relation.grid (row k)) _
+    ∙ ap unseen (sym (get_or-map_indexed two old k d d few))
+    ∙ sym (get_or-map unseen (map_indexed two old) k d d (omega (arith, few, length-map_indexed two old))))
+  where
+    one : ℕ → View → View
+    one i v = advanced relation n (incoming relation.grid (row i)) v
+
+    two : ℕ → View → View
+    two i v = decided relation n (incoming relation.grid (row i)) v
+
+pub returns-else-seen-clause-routers : goal.returns-else-seen-clause-routers
+returns-else-seen-clause-routers c =
+    let relation = c.args.relation.now in
+    let row : ℕ → List Beat = λ i. beats_at c.args.beats.now (c.args.first + i) in
+    ap (map unseen)
+    (with_items_is c.args.routers.now c.advance_all.new.routers (search (rules, arith))
+    ∙ c.advance_all.ensures.routers
+    ∙ ap (map_indexed (λ i (v : View). advanced relation c.args.cycle (incoming relation.grid (row i)) v)) c.deref_mut-else-seen.ensures.value)
+    ∙ all-unseen relation c.args.cycle row c.args.routers.now.items

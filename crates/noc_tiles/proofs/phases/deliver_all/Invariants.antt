@@ -2,6 +2,7 @@ use Rattle.std.proofs.Common.{◌≡◌, ℕ, ◌<◌, ◌≤◌, get_or, map, l
 use Rattle.noc_topo.specs.Shape.{nodes, neighbour}
 use Rattle.noc_router.specs.View.{View}
 use Rattle.noc_net.specs.Halves.{beat_at, emptied}
+use Rattle.noc_net.specs.Marks.{AreMarked}
 use Rattle.noc_tiles.specs.TileStep.{beat_among}
 use Rattle.noc_tiles.proofs.phases.deliver_all.Given as goal
 
@@ -9,6 +10,7 @@ use Rattle.noc_tiles.proofs.phases.deliver_all.Given as goal
 abbrev pub invariant-loop-i : goal.invariant-loop-i
 invariant-loop-i l = record {
   count : vec_len l.routers ≡ vec_len l.initial.routers;
+  marks : AreMarked l.marks l.beats;
   size : length l.beats ≡ length l.initial.beats;
   done : (k : ℕ) (d : View) → k < l.i → get_or l.routers.items k d ≡ emptied (get_or l.initial.routers.items k d);
   behind : (k : ℕ) (d : View) → l.i ≤ k → get_or l.routers.items k d ≡ get_or l.initial.routers.items k d;

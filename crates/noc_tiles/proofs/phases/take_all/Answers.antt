@@ -13,15 +13,32 @@ loop-one-init g c = record {
   width = refl;
   ends = sym (fed-nil _);
   beats = λ r q. sym (filled-nil (beat_at c.args.beats.now) (places (map inlet c.deref_mut-one-items.result.now)) r q);
+  marks = c.requires.marks;
   size = refl;
   rows = λ i l. search rules;
 }
+
+pub note-requires-clause-node : goal.note-requires-clause-node
+note-requires-clause-node g c =
+    let items0 = c.deref_mut-one-items.result.now in
+    let v = c.loop-one.invariant in
+    let p = within-at inlet (length c.args.beats.now) 6 c.args.ins.now.items items0 c.loop-one.one-items v.row c.loop-one.one-index c.one-item.result c.requires.within c.deref_mut-one-items.ensures.value v.ends (search rules) in
+    let e = ap (λ (w : End). w.at.0) c.in-Some.ensures.took in
+    omega (arith, p.0, e, c.requires.few)
+
+pub note-requires-clause-port : goal.note-requires-clause-port
+note-requires-clause-port g c =
+    let items0 = c.deref_mut-one-items.result.now in
+    let v = c.loop-one.invariant in
+    let p = within-at inlet (length c.args.beats.now) 6 c.args.ins.now.items items0 c.loop-one.one-items v.row c.loop-one.one-index c.one-item.result c.requires.within c.deref_mut-one-items.ensures.value v.ends (search rules) in
+    let e = ap (λ (w : End). w.at.1) c.in-Some.ensures.took in
+    omega (arith, p.1, e)
 
 pub bounds-beats-one : goal.bounds-beats-one
 bounds-beats-one g c =
     let items0 = c.deref_mut-one-items.result.now in
     let v = c.loop-one.invariant in
-    let p = within-at inlet (length c.args.beats.now) 6 c.args.ins.now.items items0 c.loop-one.one-items v.row c.loop-one.one-index c.one-item.result c.requires c.deref_mut-one-items.ensures.value v.ends (search rules) in
+    let p = within-at inlet (length c.args.beats.now) 6 c.args.ins.now.items items0 c.loop-one.one-items v.row c.loop-one.one-index c.one-item.result c.requires.within c.deref_mut-one-items.ensures.value v.ends (search rules) in
     let e = ap (λ (w : End). w.at.0) c.in-Some.ensures.took in
     omega (arith, p.0, e, v.size)
 
@@ -29,7 +46,7 @@ pub offset_bounds-beats-one : goal.offset_bounds-beats-one
 offset_bounds-beats-one g c =
     let items0 = c.deref_mut-one-items.result.now in
     let v = c.loop-one.invariant in
-    let p = within-at inlet (length c.args.beats.now) 6 c.args.ins.now.items items0 c.loop-one.one-items v.row c.loop-one.one-index c.one-item.result c.requires c.deref_mut-one-items.ensures.value v.ends (search rules) in
+    let p = within-at inlet (length c.args.beats.now) 6 c.args.ins.now.items items0 c.loop-one.one-items v.row c.loop-one.one-index c.one-item.result c.requires.within c.deref_mut-one-items.ensures.value v.ends (search rules) in
     let e = ap (λ (w : End). w.at.0) c.in-Some.ensures.took in
     let b : c.take.new.self.router < length c.loop-one.beats = omega (arith, p.0, e, v.size) in
     search (rules, arith)
@@ -38,7 +55,7 @@ pub bounds-beats-one-in-Some : goal.bounds-beats-one-in-Some
 bounds-beats-one-in-Some g c =
     let items0 = c.deref_mut-one-items.result.now in
     let v = c.loop-one.invariant in
-    let p = within-at inlet (length c.args.beats.now) 6 c.args.ins.now.items items0 c.loop-one.one-items v.row c.loop-one.one-index c.one-item.result c.requires c.deref_mut-one-items.ensures.value v.ends (search rules) in
+    let p = within-at inlet (length c.args.beats.now) 6 c.args.ins.now.items items0 c.loop-one.one-items v.row c.loop-one.one-index c.one-item.result c.requires.within c.deref_mut-one-items.ensures.value v.ends (search rules) in
     let e = ap (λ (w : End). w.at.1) c.in-Some.ensures.took in
     omega (arith, p.1, e)
 
@@ -46,7 +63,7 @@ pub offset_bounds-beats-one-in-loop-one : goal.offset_bounds-beats-one-in-loop-o
 offset_bounds-beats-one-in-loop-one g c =
     let items0 = c.deref_mut-one-items.result.now in
     let v = c.loop-one.invariant in
-    let p = within-at inlet (length c.args.beats.now) 6 c.args.ins.now.items items0 c.loop-one.one-items v.row c.loop-one.one-index c.one-item.result c.requires c.deref_mut-one-items.ensures.value v.ends (search rules) in
+    let p = within-at inlet (length c.args.beats.now) 6 c.args.ins.now.items items0 c.loop-one.one-items v.row c.loop-one.one-index c.one-item.result c.requires.within c.deref_mut-one-items.ensures.value v.ends (search rules) in
     let e = ap (λ (w : End). w.at.1) c.in-Some.ensures.took in
     let b : c.take.new.self.port < 6 = omega (arith, p.1, e) in
     search (rules, arith)
@@ -61,7 +78,7 @@ loop-one-preserved g c =
     let x = c.in-Some.beat in
     let l : i < length c.loop-one.one-items = search rules in
     let took = c.in-Some.ensures.took in
-    let p = within-at inlet (length c.args.beats.now) 6 c.args.ins.now.items items0 c.loop-one.one-items v.row i c.one-item.result c.requires c.deref_mut-one-items.ensures.value v.ends l in
+    let p = within-at inlet (length c.args.beats.now) 6 c.args.ins.now.items items0 c.loop-one.one-items v.row i c.one-item.result c.requires.within c.deref_mut-one-items.ensures.value v.ends l in
     let at : (new.router, new.port) ≡ (inlet (get_or c.loop-one.one-items i c.one-item.result)).at = ap (λ (w : End). w.at) took in
     let r_in : new.router < length bs = let e = ap (λ (w : ℕ × ℕ). w.0) at in let s = v.size in search (rules, arith) in
     let p_in : new.port < 6 = let e = ap (λ (w : ℕ × ℕ). w.1) at in omega (arith, p.1, e) in
@@ -78,6 +95,7 @@ loop-one-preserved g c =
           beat_at-set bs new.router new.port x r_in long r q
           ∙ with_beat-same (beat_at bs) (filled (beat_at c.args.beats.now) (places (map inlet items0)) v.row) (new.router, new.port) (get_or (places (map inlet items0)) (length v.row) (0, 0)) x r q place (v.beats r q)
           ∙ filled-more (beat_at c.args.beats.now) (places (map inlet items0)) v.row x (0, 0) r q l0;
+      marks = c.note.ensures.marks bs r_in long v.marks;
       size = length-set bs new.router (set (get_or bs new.router []) new.port x) ∙ v.size;
       rows = rows_kept bs (Some (new.router, new.port)) x v.rows;
     }

@@ -1,6 +1,7 @@
 use Rattle.std.proofs.Common.{ℕ, List, ◌≡◌, ◌<◌, [], map, length, get_or}
 use Rattle.noc_packet.specs.declared.packet.Beat.{Beat}
 use Rattle.noc_net.specs.Halves.{beat_at}
+use Rattle.noc_net.specs.Marks.{AreMarked}
 use Rattle.noc_tiles.specs.Ends.{inlet}
 use Rattle.noc_tiles.specs.TileStep.{fed, filled, places}
 use Rattle.noc_tiles.proofs.phases.take_all.Given as goal
@@ -12,6 +13,7 @@ invariant-loop-one g l = record {
   width : length row ≡ l.one-index;
   ends : map inlet l.one-items ≡ fed (map inlet l.initial.one-items) row;
   beats : (r q : ℕ) → beat_at l.beats r q ≡ filled (beat_at l.initial.beats) (places (map inlet l.initial.one-items)) row r q;
+  marks : AreMarked l.marks l.beats;
   size : length l.beats ≡ length l.initial.beats;
   rows : (i : ℕ) → i < length l.beats → length (get_or l.beats i []) ≡ 6;
 }

@@ -21,15 +21,15 @@ none_is (Some x) e = absurd (cc e)
 stays : (v w : View) (n : ℕ) → v ≡ w → injected n v ≡ record v { given = n } → injected n w ≡ record w { given = n }
 stays v w n same e = subst (λ (x : View). injected n x ≡ record x { given = n }) same e
 
-goes : (v w : View) (n : ℕ) → v ≡ w → (injected n v).had_event ≡ true → (injected n w).had_event ≡ true
-goes v w n same e = subst (λ (x : View). (injected n x).had_event ≡ true) same e
+goes : (v w : View) (n : ℕ) → v ≡ w → (injected n v ≡ record v { given = n } → ⊥) → injected n w ≡ record w { given = n } → ⊥
+goes v w n same e = subst (λ (x : View). injected n x ≡ record x { given = n } → ⊥) same e
 
 pub returns-in_err-due-clause-before : goal.returns-in_err-due-clause-before
 returns-in_err-due-clause-before c = λ end before n l.
     stays (view_of c.self.inside) c.args.self.now n c.self.view_is (never-due c.self.inside c.self.invariant (sym c.next_due.ensures ∙ c.in_err-due.was) n)
 
 pub returns-then-room-clause-due : goal.returns-then-room-clause-due
-returns-then-room-clause-due c =
+returns-then-room-clause-due c = λ held.
     let r = c.self.inside in
     let bank = r.channels.bank in
     let room : nat_lt (length (view_buffer (view_of r) (local_channel (view_of r).site c.in-Some.vc))) r.places ≡ c.has_room-room.result =
@@ -37,6 +37,7 @@ returns-then-room-clause-due c =
     ∙ ap (nat_lt (length (view_buffer (view_of r) (local_channel (view_of r).site c.in-Some.vc)))) c.self.invariant.places) in
     goes (view_of r) c.args.self.now 0 c.self.view_is
     (goes-begun r c.in_ok-due.due c.self.invariant (sym c.next_due.ensures ∙ c.in_ok-due.was) c.in-Some.vc c.has_room-room.result (sym c.channel.ensures ∙ c.in-Some.is) room c.if-room.true 0)
+    (held 0 (omega arith))
 
 pub returns-else-room-clause-before : goal.returns-else-room-clause-before
 returns-else-room-clause-before c = λ end before n l.
@@ -55,12 +56,13 @@ returns-in-None-clause-before c = λ end before n l.
     (held-early r c.in_ok-due.due c.self.invariant (sym c.next_due.ensures ∙ c.in_ok-due.was) (sym c.channel.ensures ∙ c.in-None.is) n (omega arith))
 
 pub returns-in-None-clause-due : goal.returns-in-None-clause-due
-returns-in-None-clause-due c =
+returns-in-None-clause-due c = λ held.
     let r = c.self.inside in
     let vacant = some_is c.vacant_channel.result (sym c.is_some.ensures ∙ c.if-is_some.true) in
     goes (view_of r) c.args.self.now c.in_ok-due.due c.self.view_is
     (goes-due r c.in_ok-due.due c.self.invariant (sym c.next_due.ensures ∙ c.in_ok-due.was) (sym c.channel.ensures ∙ c.in-None.is) vacant.0
     (ap vacant_vc c.self.view_is ∙ sym c.vacant_channel.ensures.value ∙ vacant.1))
+    (held c.in_ok-due.due (omega arith))
 
 pub returns-in-None-2-clause-before : goal.returns-in-None-2-clause-before
 returns-in-None-2-clause-before c = λ end before n l.
