@@ -3,8 +3,10 @@
 
 ghost use Rattle.std.specs.Prelude.{◌≡◌, ⊤, is_some, IfOk, IfSome};
 ghost use Rattle.std.specs.Io.Buffered.{writer_inner};
+ghost use Rattle.std.specs.Process.{exit_status};
 ghost use Rattle.noc_requests.specs.Line.{line_of};
 ghost use Rattle.noc_requests.specs.Outcome.{Ends};
+ghost use Rattle.noc_requests.specs.Status.{status_of_fault};
 ghost use Rattle.noc_answers.specs.Answer.{Asks, ToldFault};
 ghost use Rattle.noc_answers.specs.Run.{HasWorkers, workers_of};
 
@@ -73,7 +75,9 @@ fn refused<W: Write + Drop>(mut to: W, refusal: &Refusal) -> ExitCode {
 
 // Tells a fault, and gives its exit status. The line goes out in one write, so that programs side by side, with one file for
 // their errors, leave whole lines there.
-fn told<W: Write + Drop>(mut to: W, fault: &Fault) -> ExitCode {
+fn told<W: Write + Drop>(mut to: W, fault: &Fault) -> ExitCode
+    ensures { exit_status result ≡ status_of_fault fault.now }
+{
     let _ = match collected_line(fault) {
         Some(line) => to.write_all(line.text()).is_ok(),
         None => fault_line(fault, &mut Out::new(to)).is_ok(),
