@@ -1,7 +1,7 @@
 //! The simulator: reads the files that the words name, or a joined text from standard input, and writes what is asked for.
 #![tactic(auto)]
 
-ghost use Rattle.std.specs.Prelude.{◌≡◌, ⊤, is_some, IfOk, IfSome};
+ghost use Rattle.std.specs.Prelude.{◌≡◌, ◌≢◌, ⊤, is_some, IfOk, IfSome};
 ghost use Rattle.std.specs.Io.Buffered.{writer_inner};
 ghost use Rattle.std.specs.Process.{exit_status};
 ghost use Rattle.noc_requests.specs.Line.{line_of};
@@ -59,7 +59,10 @@ fn main(rt: HostRuntime) -> ExitCode {
 }
 
 // Tells why the words make no request, and gives the exit status.
-fn refused<W: Write + Drop>(mut to: W, refusal: &Refusal) -> ExitCode {
+fn refused<W: Write + Drop>(mut to: W, refusal: &Refusal) -> ExitCode
+    ensures memory { refusal.now ≡ Refusal.Memory → exit_status result ≡ 6 }
+    ensures words { refusal.now ≢ Refusal.Memory → exit_status result ≡ 2 }
+{
     let _ = match refusal {
         Refusal::Memory => return told(to, &Fault::Config(InputFault::Memory)),
         Refusal::NotText(None) => writeln!(to, "error: a word is no text in UTF-8"),
