@@ -1,6 +1,7 @@
 //! The words of the command line.
 
-ghost use Rattle.std.specs.Prelude.{◌≡◌, ◌<◌, ◌≤◌, IfOk, IfSome};
+ghost use Rattle.std.specs.Prelude.{◌≡◌, ◌<◌, ◌≤◌, [], codes, option_map, unwrap_or, IfOk, IfSome};
+ghost use Rattle.clap.specs.Words.{first_value, found_of};
 ghost use Rattle.noc_answers.specs.Run.{HasWorkers};
 
 use clap::error::ErrorKind;
@@ -91,7 +92,11 @@ pub fn read_words<'a>(alloc: Global, words: &'a [String]) -> Result<Words<'a>, E
 
 // The files of a command.
 fn words_of<'a>(matches: &ArgMatches<'a>, command: Command) -> Words<'a>
-    ensures { result.command ≡ command }
+    ensures command { result.command ≡ command }
+    ensures config { result.config.now ≡ unwrap_or (first_value (found_of matches.now) (codes "CONFIG")) [] }
+    ensures table { option_map (λ name. name.now) result.table ≡ first_value (found_of matches.now) (codes "table") }
+    ensures ranks { option_map (λ name. name.now) result.ranks ≡ first_value (found_of matches.now) (codes "ranks") }
+    ensures traffic { option_map (λ name. name.now) result.traffic ≡ first_value (found_of matches.now) (codes "TRAFFIC") }
 {
     Words {
         command,
