@@ -1,6 +1,6 @@
 //! The words of the command line.
 
-ghost use Rattle.std.specs.Prelude.{◌≡◌, ◌<◌, ◌≤◌, [], codes, option_map, unwrap_or, IfOk, IfSome};
+ghost use Rattle.std.specs.Prelude.{◌≡◌, ◌≢◌, ◌<◌, ◌≤◌, [], Some, codes, option_map, unwrap_or, IfOk, IfSome};
 ghost use Rattle.clap.specs.Words.{first_value, found_of};
 ghost use Rattle.noc_answers.specs.Run.{HasWorkers};
 
@@ -116,7 +116,11 @@ fn workers_of(matches: &ArgMatches<'_>) -> Option<usize>
 }
 
 // The report of a run.
-fn report_of(matches: &ArgMatches<'_>) -> Report {
+fn report_of(matches: &ArgMatches<'_>) -> Report
+    ensures summary { first_value (found_of matches.now) (codes "report") ≡ Some (codes "summary") → result ≡ Report.Summary }
+    ensures stalls { first_value (found_of matches.now) (codes "report") ≡ Some (codes "stalls") → result ≡ Report.Stalls }
+    ensures latency { first_value (found_of matches.now) (codes "report") ≢ Some (codes "summary") → first_value (found_of matches.now) (codes "report") ≢ Some (codes "stalls") → result ≡ Report.Latency }
+{
     match matches.get_str("report") {
         Some("summary") => Report::Summary,
         Some("stalls") => Report::Stalls,
