@@ -1,8 +1,9 @@
 //! The words of the command line.
 
-ghost use Rattle.std.specs.Prelude.{◌≡◌, ◌≢◌, ◌<◌, ◌≤◌, [], Some, codes, option_map, unwrap_or, IfOk, IfSome};
-ghost use Rattle.clap.specs.Words.{first_value, found_of};
+ghost use Rattle.std.specs.Prelude.{◌≡◌, ◌≢◌, ◌<◌, ◌≤◌, [], ℕ, Some, codes, option_map, unwrap_or, IfOk, IfSome};
+ghost use Rattle.clap.specs.Words.{first_value, found_of, one_text};
 ghost use Rattle.noc_answers.specs.Run.{HasWorkers};
+ghost use Rattle.noc.specs.Words.{IsSaid};
 
 use clap::error::ErrorKind;
 use clap::{Arg, ArgAction, ArgMatches, Error, value_parser};
@@ -130,7 +131,9 @@ fn report_of(matches: &ArgMatches<'_>) -> Report
 
 // The cycle and the router that are to be explained.
 fn explain_of(matches: &ArgMatches<'_>) -> Command
-    ensures { HasWorkers result }
+    ensures workers { HasWorkers result }
+    ensures said { (cycle router : ℕ) × IsSaid (one_text (found_of matches.now) (codes "cycle")) 0 cycle
+        × IsSaid (one_text (found_of matches.now) (codes "router")) 0 router × (result ≡ Command.Explain cycle router) }
 {
     Command::Explain {
         cycle: matches.get_one::<u64>("cycle").unwrap_or(0),
