@@ -10,3 +10,8 @@ IsNumber text = IsNumeral 10 (without_leading_plus text) × (digits_value 10 (wi
 abbrev pub IsSaid : Option (List ℕ) → ℕ → ℕ → Type 0
 IsSaid None other n = n ≡ other
 IsSaid (Some text) other n = (IsNumber text × (n ≡ digits_value 10 (without_leading_plus text))) ⊎ ((IsNumber text → ⊥) × (n ≡ other))
+
+-- this number of workers, if it is 1 to 16
+abbrev pub IsWorkers : ℕ → Option ℕ → Type 0
+IsWorkers n (Some workers) = workers ≡ n
+IsWorkers n None = (n < 1) ⊎ (16 < n)

@@ -3,7 +3,7 @@
 ghost use Rattle.std.specs.Prelude.{◌≡◌, ◌≢◌, ◌<◌, ◌≤◌, [], ℕ, Some, codes, option_map, unwrap_or, IfOk, IfSome};
 ghost use Rattle.clap.specs.Words.{first_value, found_of, one_text};
 ghost use Rattle.noc_answers.specs.Run.{HasWorkers};
-ghost use Rattle.noc.specs.Words.{IsSaid};
+ghost use Rattle.noc.specs.Words.{IsSaid, IsWorkers};
 
 use clap::error::ErrorKind;
 use clap::{Arg, ArgAction, ArgMatches, Error, value_parser};
@@ -110,7 +110,8 @@ fn words_of<'a>(matches: &ArgMatches<'a>, command: Command) -> Words<'a>
 
 // The workers of a run, if they are 1 to 16.
 fn workers_of(matches: &ArgMatches<'_>) -> Option<usize>
-    ensures { IfSome result (λ workers. (0 < workers) × (workers ≤ 16)) }
+    ensures range { IfSome result (λ workers. (0 < workers) × (workers ≤ 16)) }
+    ensures said { (n : ℕ) × IsSaid (one_text (found_of matches.now) (codes "workers")) 1 n × IsWorkers n result }
 {
     let workers = matches.get_one::<usize>("workers").unwrap_or(1);
     (1 <= workers && workers <= 16).then_some(workers)
