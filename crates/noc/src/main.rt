@@ -1,10 +1,12 @@
 //! The simulator: reads the files that the words name, or a joined text from standard input, and writes what is asked for.
 #![tactic(auto)]
 
-ghost use Rattle.std.specs.Prelude.{◌≡◌, ⊤, is_some, IfOk, IfSome};
+ghost use Rattle.std.specs.Prelude.{◌≡◌, ◌≢◌, ⊤, is_some, IfOk, IfSome};
 ghost use Rattle.std.specs.Io.Buffered.{writer_inner};
+ghost use Rattle.std.specs.Process.{exit_status};
 ghost use Rattle.noc_requests.specs.Line.{line_of};
 ghost use Rattle.noc_requests.specs.Outcome.{Ends};
+ghost use Rattle.noc_requests.specs.Status.{status_of_fault};
 ghost use Rattle.noc_answers.specs.Answer.{Asks, ToldFault};
 ghost use Rattle.noc_answers.specs.Run.{HasWorkers, workers_of};
 
@@ -57,7 +59,10 @@ fn main(rt: HostRuntime) -> ExitCode {
 }
 
 // Tells why the words make no request, and gives the exit status.
-fn refused<W: Write + Drop>(mut to: W, refusal: &Refusal) -> ExitCode {
+fn refused<W: Write + Drop>(mut to: W, refusal: &Refusal) -> ExitCode
+    ensures memory { refusal.now ≡ Refusal.Memory → exit_status result ≡ 6 }
+    ensures words { refusal.now ≢ Refusal.Memory → exit_status result ≡ 2 }
+{
     let _ = match refusal {
         Refusal::Memory => return told(to, &Fault::Config(InputFault::Memory)),
         Refusal::NotText(None) => writeln!(to, "error: a word is no text in UTF-8"),
@@ -73,7 +78,9 @@ fn refused<W: Write + Drop>(mut to: W, refusal: &Refusal) -> ExitCode {
 
 // Tells a fault, and gives its exit status. The line goes out in one write, so that programs side by side, with one file for
 // their errors, leave whole lines there.
-fn told<W: Write + Drop>(mut to: W, fault: &Fault) -> ExitCode {
+fn told<W: Write + Drop>(mut to: W, fault: &Fault) -> ExitCode
+    ensures { exit_status result ≡ status_of_fault fault.now }
+{
     let _ = match collected_line(fault) {
         Some(line) => to.write_all(line.text()).is_ok(),
         None => fault_line(fault, &mut Out::new(to)).is_ok(),

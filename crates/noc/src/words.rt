@@ -1,7 +1,9 @@
 //! The words of the command line.
 
-ghost use Rattle.std.specs.Prelude.{◌≡◌, ◌<◌, ◌≤◌, IfOk, IfSome};
+ghost use Rattle.std.specs.Prelude.{◌≡◌, ◌≢◌, ◌<◌, ◌≤◌, [], ℕ, Some, codes, option_map, unwrap_or, IfOk, IfSome};
+ghost use Rattle.clap.specs.Words.{first_value, found_of, one_text};
 ghost use Rattle.noc_answers.specs.Run.{HasWorkers};
+ghost use Rattle.noc.specs.Words.{IsSaid, IsWorkers};
 
 use clap::error::ErrorKind;
 use clap::{Arg, ArgAction, ArgMatches, Error, value_parser};
@@ -91,7 +93,11 @@ pub fn read_words<'a>(alloc: Global, words: &'a [String]) -> Result<Words<'a>, E
 
 // The files of a command.
 fn words_of<'a>(matches: &ArgMatches<'a>, command: Command) -> Words<'a>
-    ensures { result.command ≡ command }
+    ensures command { result.command ≡ command }
+    ensures config { result.config.now ≡ unwrap_or (first_value (found_of matches.now) (codes "CONFIG")) [] }
+    ensures table { option_map (λ name. name.now) result.table ≡ first_value (found_of matches.now) (codes "table") }
+    ensures ranks { option_map (λ name. name.now) result.ranks ≡ first_value (found_of matches.now) (codes "ranks") }
+    ensures traffic { option_map (λ name. name.now) result.traffic ≡ first_value (found_of matches.now) (codes "TRAFFIC") }
 {
     Words {
         command,
@@ -104,14 +110,19 @@ fn words_of<'a>(matches: &ArgMatches<'a>, command: Command) -> Words<'a>
 
 // The workers of a run, if they are 1 to 16.
 fn workers_of(matches: &ArgMatches<'_>) -> Option<usize>
-    ensures { IfSome result (λ workers. (0 < workers) × (workers ≤ 16)) }
+    ensures range { IfSome result (λ workers. (0 < workers) × (workers ≤ 16)) }
+    ensures said { (n : ℕ) × IsSaid (one_text (found_of matches.now) (codes "workers")) 1 n × IsWorkers n result }
 {
     let workers = matches.get_one::<usize>("workers").unwrap_or(1);
     (1 <= workers && workers <= 16).then_some(workers)
 }
 
 // The report of a run.
-fn report_of(matches: &ArgMatches<'_>) -> Report {
+fn report_of(matches: &ArgMatches<'_>) -> Report
+    ensures summary { first_value (found_of matches.now) (codes "report") ≡ Some (codes "summary") → result ≡ Report.Summary }
+    ensures stalls { first_value (found_of matches.now) (codes "report") ≡ Some (codes "stalls") → result ≡ Report.Stalls }
+    ensures latency { first_value (found_of matches.now) (codes "report") ≢ Some (codes "summary") → first_value (found_of matches.now) (codes "report") ≢ Some (codes "stalls") → result ≡ Report.Latency }
+{
     match matches.get_str("report") {
         Some("summary") => Report::Summary,
         Some("stalls") => Report::Stalls,
@@ -121,7 +132,9 @@ fn report_of(matches: &ArgMatches<'_>) -> Report {
 
 // The cycle and the router that are to be explained.
 fn explain_of(matches: &ArgMatches<'_>) -> Command
-    ensures { HasWorkers result }
+    ensures workers { HasWorkers result }
+    ensures said { (cycle router : ℕ) × IsSaid (one_text (found_of matches.now) (codes "cycle")) 0 cycle
+        × IsSaid (one_text (found_of matches.now) (codes "router")) 0 router × (result ≡ Command.Explain cycle router) }
 {
     Command::Explain {
         cycle: matches.get_one::<u64>("cycle").unwrap_or(0),
