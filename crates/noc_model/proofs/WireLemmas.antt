@@ -2,14 +2,13 @@
 use Rattle.std.proofs.Common.{◌≡◌, ◌≢◌, ℕ, zero, suc, ◌<◌, ◌≤◌, Bool, true, false, List, [], length, get_or, set, Option, Some, None, refl, ap, sym, ◌∙◌, ⊎_elim, arith, replicate}
 use Rattle.std.specs.Prelude.{IfSome, if◌then◌else◌, ◌&&◌, not, nat_eq, nat_lt, is_none, unwrap_or}
 use Rattle.std.proofs.lemmas.List.{ext_get_or, get_or_past, length-replicate}
-use Rattle.std.proofs.lemmas.Bool.{cases_eq, cases_lt, false≢true}
-use Rattle.std.proofs.lemmas.Bool.Decides.{eqb_tells}
+use Rattle.std.proofs.lemmas.Bool.{cases_eq, cases_lt, false≢true, eq-eqb, ne_eqb}
 use Rattle.std.proofs.lemmas.List.{get_or-set_same, get_or-set_other, length-set}
 use Rattle.noc_topo.specs.Shape.{Grid, IsGrid, nodes, local_port, neighbour}
 use Rattle.noc_topo.proofs.LinkLemmas.{link_back}
 use Rattle.noc_packet.specs.declared.packet.Beat.{Beat}
 use Rattle.noc_packet.specs.declared.packet.Flit.{Flit}
-use Rattle.noc_packet.specs.Set.{has_bit, in_both, IsLeast}
+use Rattle.noc_packet.specs.Set.{has_bit}
 use Rattle.noc_router.specs.Links.{is_idle_beat}
 use Rattle.noc_router.specs.View.{View, idle_beat, beat_to_put}
 use Rattle.noc_model.specs.Halves.{beat_at, received, sent_on}
@@ -41,12 +40,6 @@ same-ports a b c d e =
     let none : ℕ × ℕ = (0, 0) in
     (ap (λ (o : Option (ℕ × ℕ)). (unwrap_or o none).0) e, ap (λ (o : Option (ℕ × ℕ)). (unwrap_or o none).1) e)
 
-equal_test : (a b : ℕ) → a ≡ b → nat_eq a b ≡ true
-equal_test a b e = ⊎_elim (λ h. h.0) (λ h. absurd (h.1 e)) (eqb_tells a b)
-
-other_test : (a b : ℕ) → a ≢ b → nat_eq a b ≡ false
-other_test a b n = ⊎_elim (λ h. absurd (n h.1)) (λ h. h.0) (eqb_tells a b)
-
 -- a wire that does not come from this port is as it was
 received_same : (rest rest' k : ℕ) → ((p : ℕ) → has_bit rest' p ≡ (not (nat_eq p k) && has_bit rest p)) → (v : View) (from : Option (ℕ × ℕ)) (beat : Beat)
     → from ≢ Some (v.site.node, k) → received_but rest' v from beat ≡ received_but rest v from beat
@@ -54,24 +47,23 @@ received_same rest rest' k members v None beat n = refl
 received_same rest rest' k members v (Some (a, q)) beat n =
     ⊎_elim (λ (e : a ≡ v.site.node).
     let other : q ≢ k = λ f. n (same-some a q v.site.node k e f) in
-    ap (λ b. if nat_eq a v.site.node && not b then beat_to_put v q else beat) (members q ∙ ap (λ b. not b && has_bit rest q) (other_test q k other)))
-    (λ (d : a ≢ v.site.node). rw (other_test a v.site.node d) refl) (cases_eq a v.site.node)
+    ap (λ b. if nat_eq a v.site.node && not b then beat_to_put v q else beat) (members q ∙ ap (λ b. not b && has_bit rest q) (ne_eqb q k other)))
+    (λ (d : a ≢ v.site.node). rw (ne_eqb a v.site.node d) refl) (cases_eq a v.site.node)
 
 received_here : (rest rest' k : ℕ) → ((p : ℕ) → has_bit rest' p ≡ (not (nat_eq p k) && has_bit rest p)) → (v : View) (from : Option (ℕ × ℕ)) (beat : Beat)
     → from ≡ Some (v.site.node, k) → received_but rest' v from beat ≡ beat_to_put v k
 received_here rest rest' k members v from beat e =
-    rw (e, equal_test v.site.node v.site.node refl, members k, equal_test k k refl) refl
+    rw (e, eq-eqb v.site.node v.site.node refl, members k, eq-eqb k k refl) refl
 
 -- what a wire has after a beat was sent
-sent_here : (wires : List (List Beat)) (b q : ℕ) (beat : Beat) → b < length wires → q < length (get_or wires b []) → beat_at (sent_on wires (Some (b, q)) beat) b q ≡ beat
+pub sent_here : (wires : List (List Beat)) (b q : ℕ) (beat : Beat) → b < length wires → q < length (get_or wires b []) → beat_at (sent_on wires (Some (b, q)) beat) b q ≡ beat
 sent_here wires b q beat l m =
     rw (get_or-set_same wires b (set (get_or wires b []) q beat) [] l) (get_or-set_same (get_or wires b []) q beat idle_beat m)
 
-sent_other : (wires : List (List Beat)) (b q r p : ℕ) (beat : Beat) → b < length wires → at_port r p ≢ at_port b q → beat_at (sent_on wires (Some (b, q)) beat) r p ≡ beat_at wires r p
+pub sent_other : (wires : List (List Beat)) (b q r p : ℕ) (beat : Beat) → b < length wires → (r ≡ b → p ≢ q) → beat_at (sent_on wires (Some (b, q)) beat) r p ≡ beat_at wires r p
 sent_other wires b q r p beat l n =
     ⊎_elim (λ (e : r ≡ b).
-    let other : p ≢ q = λ f. n (same-some r p b q e f) in
-    rw (e, get_or-set_same wires b (set (get_or wires b []) q beat) [] l) (get_or-set_other (get_or wires b []) q p beat idle_beat other))
+    rw (e, get_or-set_same wires b (set (get_or wires b []) q beat) [] l) (get_or-set_other (get_or wires b []) q p beat idle_beat (n e)))
     (λ (d : r ≢ b). ap (λ row. get_or row p idle_beat) (get_or-set_other wires b r (set (get_or wires b []) q beat) [] d)) (cases_eq r b)
 
 -- the beat of port k is put: its wire has it, and the others stay
@@ -100,7 +92,7 @@ received_more g sound v rest rest' k members old wires node count long so_far (S
     apart : at_port r p ≢ at_port b q → beat_at (sent_on wires (Some (b, q)) (beat_to_put v k)) r p ≡ received_but rest' v (neighbour g r p) (beat_at old r p)
     apart n =
         let other : neighbour g r p ≢ Some (v.site.node, k) = λ e. n (let h = (link_back g r p v.site.node k sound l e).back in cc (h, to)) in
-        sent_other wires b q r p (beat_to_put v k) (let back = link_back g v.site.node k b q sound node to in omega (arith, back.node)) n
+        sent_other wires b q r p (beat_to_put v k) (let back = link_back g v.site.node k b q sound node to in omega (arith, back.node)) (λ e f. n (same-some r p b q e f))
         ∙ so_far r p l ∙ sym (received_same rest rest' k members v (neighbour g r p) (beat_at old r p) other)
 
 -- ---- the beats that are put
@@ -137,8 +129,8 @@ pub received-first : (v : View) (loaded : ℕ) → ((p : ℕ) → has_bit loaded
     → (from : Option (ℕ × ℕ)) (beat : Beat) → ((q : ℕ) → from ≡ at_port v.site.node q → beat ≡ idle_beat) → beat ≡ received_but loaded v from beat
 received-first v loaded none None beat idle = refl
 received-first v loaded none (Some (a, q)) beat idle =
-    ⊎_elim (λ (here : a ≡ v.site.node). rw (equal_test a v.site.node here) (at (has_bit loaded q) refl (idle q (same-some a q v.site.node q here refl))))
-    (λ (other : a ≢ v.site.node). rw (other_test a v.site.node other) refl)
+    ⊎_elim (λ (here : a ≡ v.site.node). rw (eq-eqb a v.site.node here) (at (has_bit loaded q) refl (idle q (same-some a q v.site.node q here refl))))
+    (λ (other : a ≢ v.site.node). rw (ne_eqb a v.site.node other) refl)
     (cases_eq a v.site.node)
   where
     at : (b : Bool) → has_bit loaded q ≡ b → beat ≡ idle_beat → beat ≡ (if not b then beat_to_put v q else beat)
@@ -149,22 +141,14 @@ received-first v loaded none (Some (a, q)) beat idle =
 pub left-more : (rest rest' k : ℕ) (before after : List Beat) → ((p : ℕ) → has_bit rest' p ≡ (not (nat_eq p k) && has_bit rest p)) → k < length after
     → AreLeft rest before after → AreLeft rest' before (set after k idle_beat)
 left-more rest rest' k before after members l left port =
-    ⊎_elim (λ (e : port ≡ k). rw (e, members k, equal_test k k refl) (get_or-set_same after k idle_beat idle_beat l))
+    ⊎_elim (λ (e : port ≡ k). rw (e, members k, eq-eqb k k refl) (get_or-set_same after k idle_beat idle_beat l))
     (λ (d : port ≢ k). get_or-set_other after k port idle_beat idle_beat d ∙ left port
-    ∙ ap (λ b. if b then get_or before port idle_beat else idle_beat) (sym (members port ∙ ap (λ b. not b && has_bit rest port) (other_test port k d))))
+    ∙ ap (λ b. if b then get_or before port idle_beat else idle_beat) (sym (members port ∙ ap (λ b. not b && has_bit rest port) (ne_eqb port k d))))
     (cases_eq port k)
 
 -- the beat of a port that is left
 pub left-at : (rest k : ℕ) (before after : List Beat) → AreLeft rest before after → has_bit rest k ≡ true → get_or after k idle_beat ≡ get_or before k idle_beat
 left-at rest k before after left e = left k ∙ ap (λ b. if b then get_or before k idle_beat else idle_beat) e
-
--- before the least port that is left all beats are idle
-pub left-before : (rest k : ℕ) (before after : List Beat) → IsLeast (in_both rest rest) (Some k) → AreLeft rest before after → (p : ℕ) → p < k → get_or after p idle_beat ≡ idle_beat
-left-before rest k before after least left p l = left p ∙ ap (λ b. if b then get_or before p idle_beat else idle_beat) (both_false (has_bit rest p) (least.1 p l))
-  where
-    both_false : (b : Bool) → (b && b) ≡ false → b ≡ false
-    both_false true e = e
-    both_false false e = refl
 
 -- .. and in the end none is left
 pub left-none : (rest n : ℕ) (before after : List Beat) → ((p : ℕ) → has_bit rest p ≡ false) → length after ≡ n → AreLeft rest before after → after ≡ replicate n idle_beat

@@ -1,21 +1,15 @@
 -- Sets of links that follow the beats in flight.
 use Rattle.std.proofs.Common.{◌≡◌, ◌≢◌, ℕ, ◌+◌, ◌*◌, ◌/◌, ◌%◌, ◌<◌, ◌≤◌, Bool, true, false, List, [], length, get_or, Some, refl, replicate, ap, sym, ◌∙◌, ⊎_elim, arith}
 use Rattle.std.specs.Prelude.{◌&&◌, nat_eq, nat_lt, if◌then◌else◌}
-use Rattle.std.proofs.lemmas.Bool.{cases_eq, cases_lt, le-ltb, lt-ltb}
+use Rattle.std.proofs.lemmas.Bool.{cases_eq, cases_lt, le-ltb, lt-ltb, eq-eqb, ne_eqb}
 use Rattle.std.proofs.lemmas.Bool.Decides.{eqb_tells}
 use Rattle.std.proofs.lemmas.List.{get_or-replicate, get_or_past}
 use Rattle.noc_packet.specs.Set.{has_bit}
 use Rattle.noc_packet.specs.declared.packet.Beat.{Beat}
 use Rattle.noc_router.specs.View.{idle_beat}
 use Rattle.noc_model.specs.Halves.{beat_at, sent_on}
+use Rattle.noc_model.proofs.WireLemmas.{sent_here, sent_other}
 use Rattle.noc_net.specs.Marks.{AreWhere, IsMarkedAt, IsRowMarked}
-use Rattle.noc_net.proofs.TakesLemmas.{here-now, there-now}
-
-equal_test : (a b : ℕ) → a ≡ b → nat_eq a b ≡ true
-equal_test a b e = ⊎_elim (λ h. h.0) (λ h. absurd (h.1 e)) (eqb_tells a b)
-
-other_test : (a b : ℕ) → a ≢ b → nat_eq a b ≡ false
-other_test a b n = ⊎_elim (λ h. absurd (n h.1)) (λ h. h.0) (eqb_tells a b)
 
 -- the links of the routers before this one are members where their beat is so
 abbrev pub IsMarkedTo : (Beat → Bool) → ℕ → List ℕ → List (List Beat) → Type 0
@@ -72,7 +66,7 @@ marked-row is silent before after node beats few so_far row w k l m = ⊎_elim h
     here : (w * 8 + k / 7) ≡ node → goal
     here e =
         chosen
-        ∙ ap (λ (b : Bool). if b && nat_lt (k % 7) 6 then is (get_or (get_or beats node []) (k % 7) idle_beat) else has_bit (get_or before w 0) k) (equal_test (w * 8 + k / 7) node e)
+        ∙ ap (λ (b : Bool). if b && nat_lt (k % 7) 6 then is (get_or (get_or beats node []) (k % 7) idle_beat) else has_bit (get_or before w 0) k) (eq-eqb (w * 8 + k / 7) node e)
         ∙ ⊎_elim (λ (u : k % 7 < 6). ap (λ (b : Bool). if b then is (get_or (get_or beats node []) (k % 7) idle_beat) else has_bit (get_or before w 0) k) (lt-ltb (k % 7) 6 u))
         (λ (u : 6 ≤ k % 7). ap (λ (b : Bool). if b then is (get_or (get_or beats node []) (k % 7) idle_beat) else has_bit (get_or before w 0) k) (le-ltb (k % 7) 6 u) ∙ past u e)
         (cases_lt (k % 7) 6)
@@ -82,9 +76,9 @@ marked-row is silent before after node beats few so_far row w k l m = ⊎_elim h
     other : (w * 8 + k / 7) ≢ node → goal
     other n =
         chosen
-        ∙ ap (λ (b : Bool). if b && nat_lt (k % 7) 6 then is (get_or (get_or beats node []) (k % 7) idle_beat) else has_bit (get_or before w 0) k) (other_test (w * 8 + k / 7) node n)
+        ∙ ap (λ (b : Bool). if b && nat_lt (k % 7) 6 then is (get_or (get_or beats node []) (k % 7) idle_beat) else has_bit (get_or before w 0) k) (ne_eqb (w * 8 + k / 7) node n)
         ∙ so_far w k l m
-        ∙ ap all (sym (up-to-others (w * 8 + k / 7) node (other_test (w * 8 + k / 7) node n)))
+        ∙ ap all (sym (up-to-others (w * 8 + k / 7) node (ne_eqb (w * 8 + k / 7) node n)))
 
 -- in the beginning no router is marked
 pub marked-none : (is : Beat → Bool) (none : ℕ) → ((k : ℕ) → has_bit none k ≡ false) → (beats : List (List Beat)) → IsMarkedTo is 0 (replicate 32 none) beats
@@ -113,10 +107,10 @@ marked-sent is before after beats node port beat row within marked where_so w k 
     elsewhere : (w * 8 + k / 7 ≡ node → k % 7 ≢ port)
         → tested (nat_eq (w * 8 + k / 7) node) (nat_eq (k % 7) port) ≡ is (beat_at (sent_on beats (Some (node, port)) beat) (w * 8 + k / 7) (k % 7))
     elsewhere n =
-        ⊎_elim (λ (e : w * 8 + k / 7 ≡ node). ap (tested (nat_eq (w * 8 + k / 7) node)) (other_test (k % 7) port (n e)) ∙ and_false (nat_eq (w * 8 + k / 7) node))
-        (λ (d : w * 8 + k / 7 ≢ node). ap (λ (a : Bool). tested a (nat_eq (k % 7) port)) (other_test (w * 8 + k / 7) node d)) (cases_eq (w * 8 + k / 7) node)
+        ⊎_elim (λ (e : w * 8 + k / 7 ≡ node). ap (tested (nat_eq (w * 8 + k / 7) node)) (ne_eqb (k % 7) port (n e)) ∙ and_false (nat_eq (w * 8 + k / 7) node))
+        (λ (d : w * 8 + k / 7 ≢ node). ap (λ (a : Bool). tested a (nat_eq (k % 7) port)) (ne_eqb (w * 8 + k / 7) node d)) (cases_eq (w * 8 + k / 7) node)
         ∙ where_so w k l m
-        ∙ sym (ap is (there-now beats node port (w * 8 + k / 7) (k % 7) beat row n))
+        ∙ sym (ap is (sent_other beats node port (w * 8 + k / 7) (k % 7) beat row n))
       where
         and_false : (a : Bool) → tested a false ≡ has_bit (get_or before w 0) k
         and_false true = refl
@@ -125,6 +119,6 @@ marked-sent is before after beats node port beat row within marked where_so w k 
     here : w * 8 + k / 7 ≡ node → tested (nat_eq (w * 8 + k / 7) node) (nat_eq (k % 7) port) ≡ is (beat_at (sent_on beats (Some (node, port)) beat) (w * 8 + k / 7) (k % 7))
     here e =
         ⊎_elim (λ (f : k % 7 ≡ port).
-        ap (λ (a : Bool). tested a (nat_eq (k % 7) port)) (equal_test (w * 8 + k / 7) node e) ∙ ap (tested true) (equal_test (k % 7) port f)
-        ∙ sym (ap is (ap (λ (r : ℕ). beat_at (sent_on beats (Some (node, port)) beat) r (k % 7)) e ∙ ap (beat_at (sent_on beats (Some (node, port)) beat) node) f ∙ here-now beats node port beat row within)))
+        ap (λ (a : Bool). tested a (nat_eq (k % 7) port)) (eq-eqb (w * 8 + k / 7) node e) ∙ ap (tested true) (eq-eqb (k % 7) port f)
+        ∙ sym (ap is (ap (λ (r : ℕ). beat_at (sent_on beats (Some (node, port)) beat) r (k % 7)) e ∙ ap (beat_at (sent_on beats (Some (node, port)) beat) node) f ∙ sent_here beats node port beat row within)))
         (λ (d : k % 7 ≢ port). elsewhere (λ same. d)) (cases_eq (k % 7) port)

@@ -1,8 +1,7 @@
 -- What came to the routers is taken part by part.
 use Rattle.std.proofs.Common.{◌≡◌, ◌≢◌, ◌⊎◌, inl, inr, ℕ, ◌+◌, ◌-◌, ◌*◌, ◌/◌, ◌%◌, ◌<◌, ◌≤◌, Bool, true, false, List, [], length, map, get_or, set, Option, Some, None, refl, ap, sym, ◌∙◌, ⊎_elim, subst, arith}
 use Rattle.std.specs.Prelude.{◌&&◌, not, nat_eq, is_some, if◌then◌else◌}
-use Rattle.std.proofs.lemmas.Bool.{cases_eq, cases_lt, false≢true}
-use Rattle.std.proofs.lemmas.Bool.Decides.{eqb_tells}
+use Rattle.std.proofs.lemmas.Bool.{cases_eq, cases_lt, false≢true, eq-eqb, ne_eqb}
 use Rattle.std.proofs.lemmas.List.{get_or-set_same, get_or-set_other, get_or_past, get_or-map, length-map, length-set, same_lists}
 use Rattle.noc_topo.specs.Words.{map_indexed}
 use Rattle.noc_topo.specs.Shape.{Grid, local_port}
@@ -19,14 +18,9 @@ use Rattle.noc_model.specs.Unseen.{advanced}
 use Rattle.noc_model.proofs.StepLemmas.{IsRelationOf-same_site, site-taken, taken_end}
 use Rattle.noc_model.proofs.TakeAhead.{taken_ahead}
 use Rattle.noc_model.proofs.UnseenLemmas.{frozen-findings}
+use Rattle.noc_model.proofs.WireLemmas.{sent_here, sent_other}
 use Rattle.noc_net.specs.Marks.{AreWhere}
 use Rattle.noc_net.specs.Takes.{HaveTaken, NoneElsewhere, concluded, moved_on}
-
-equal-test : (a b : ℕ) → a ≡ b → nat_eq a b ≡ true
-equal-test a b e = ⊎_elim (λ h. h.0) (λ h. absurd (h.1 e)) (eqb_tells a b)
-
-other-test : (a b : ℕ) → a ≢ b → nat_eq a b ≡ false
-other-test a b n = ⊎_elim (λ h. absurd (n h.1)) (λ h. h.0) (eqb_tells a b)
 
 -- ---- where a beat is that is so, if an idle one is not
 
@@ -80,23 +74,7 @@ there is silent relation first routers beats now wires sets w k so_far where_so 
       built = λ d. so_far.built ((w * 8 + k / 7) - first) d in_routers;
     }
 
--- ---- one beat is another one now
-
-pub here-now : (beats : List (List Beat)) (r port : ℕ) (beat : Beat) → r < length beats → port < length (get_or beats r []) → beat_at (sent_on beats (Some (r, port)) beat) r port ≡ beat
-here-now beats r port beat l m =
-    ap (λ (row : List Beat). get_or row port idle_beat) (get_or-set_same beats r (set (get_or beats r []) port beat) [] l) ∙ get_or-set_same (get_or beats r []) port beat idle_beat m
-
-pub there-now : (beats : List (List Beat)) (r port r' port' : ℕ) (beat : Beat) → r < length beats → (r' ≡ r → port' ≢ port) → beat_at (sent_on beats (Some (r, port)) beat) r' port' ≡ beat_at beats r' port'
-there-now beats r port r' port' beat l other =
-    ⊎_elim (λ (e : r' ≡ r).
-    ap (λ (k : ℕ). beat_at (sent_on beats (Some (r, port)) beat) k port') e
-    ∙ ap (λ (row : List Beat). get_or row port' idle_beat) (get_or-set_same beats r (set (get_or beats r []) port beat) [] l)
-    ∙ get_or-set_other (get_or beats r []) port port' beat idle_beat (other e)
-    ∙ ap (λ (k : ℕ). beat_at beats k port') (sym e))
-    (λ (d : r' ≢ r). ap (λ (row : List Beat). get_or row port' idle_beat) (get_or-set_other beats r r' (set (get_or beats r []) port beat) [] d))
-    (cases_eq r' r)
-
--- .. so that its link is a member no more
+-- where one beat is not so any more, its link is a member no more
 pub where-less : (is : Beat → Bool) (sets : List ℕ) (beats : List (List Beat)) (w k left : ℕ) (beat : Beat) → AreWhere is sets beats → w < length sets → k < 56
     → ((x : ℕ) → has_bit left x ≡ (not (nat_eq x k) && has_bit (get_or sets w 0) x)) → is beat ≡ false
     → w * 8 + k / 7 < length beats → k % 7 < length (get_or beats (w * 8 + k / 7) [])
@@ -107,20 +85,20 @@ where-less is sets beats w k left beat before long small members silent row port
     ∙ ap (λ (s : ℕ). has_bit s k') (get_or-set_same sets w left 0 long)
     ∙ members k'
     ∙ ⊎_elim (λ (f : k' ≡ k).
-    ap (λ (b : Bool). not b && has_bit (get_or sets w 0) k') (equal-test k' k f)
+    ap (λ (b : Bool). not b && has_bit (get_or sets w 0) k') (eq-eqb k' k f)
     ∙ sym (ap is (ap (λ (v : ℕ). beat_at (sent_on beats (Some (w * 8 + k / 7, k % 7)) beat) (v * 8 + k' / 7) (k' % 7)) e
     ∙ ap (λ (x : ℕ). beat_at (sent_on beats (Some (w * 8 + k / 7, k % 7)) beat) (w * 8 + x / 7) (x % 7)) f
-    ∙ here-now beats (w * 8 + k / 7) (k % 7) beat row port) ∙ silent))
+    ∙ sent_here beats (w * 8 + k / 7) (k % 7) beat row port) ∙ silent))
     (λ (d : k' ≢ k).
-    ap (λ (b : Bool). not b && has_bit (get_or sets w 0) k') (other-test k' k d)
+    ap (λ (b : Bool). not b && has_bit (get_or sets w 0) k') (ne_eqb k' k d)
     ∙ ap (λ (v : ℕ). has_bit (get_or sets v 0) k') (sym e)
     ∙ before w' k' l m
-    ∙ sym (ap is (there-now beats (w * 8 + k / 7) (k % 7) (w' * 8 + k' / 7) (k' % 7) beat row (λ same rest. d (omega (arith, e, same, rest))))))
+    ∙ sym (ap is (sent_other beats (w * 8 + k / 7) (k % 7) (w' * 8 + k' / 7) (k' % 7) beat row (λ same rest. d (omega (arith, e, same, rest))))))
     (cases_eq k' k))
     (λ (d : w' ≢ w).
     ap (λ (s : ℕ). has_bit s k') (get_or-set_other sets w w' left 0 d)
     ∙ before w' k' l m
-    ∙ sym (ap is (there-now beats (w * 8 + k / 7) (k % 7) (w' * 8 + k' / 7) (k' % 7) beat row (λ same rest. d (omega (arith, same, small, m))))))
+    ∙ sym (ap is (sent_other beats (w * 8 + k / 7) (k % 7) (w' * 8 + k' / 7) (k' % 7) beat row (λ same rest. d (omega (arith, same, small, m))))))
     (cases_eq w' w)
 
 -- ---- the routers
@@ -159,8 +137,8 @@ pub taken-part : (relation : Routes) (first : ℕ) (routers : List View) (beats 
 taken-part relation first routers beats now after wires i r port one left so_far at in_range in_wires link within parts count each = record {
   count = count ∙ so_far.count;
   built = λ k d l. IsRelationOf-same_site relation (get_or now k d) (get_or after k d) (site k d) (so_far.built k d l);
-  linked = λ k l q past. there-now wires r port (first + k) q left in_wires (λ same e. absurd (omega (arith, e, past, link))) ∙ so_far.linked k l q past;
-  others = λ k q l out. there-now wires r port k q left in_wires (λ same. absurd (not_out k same out)) ∙ so_far.others k q (omega (arith, rows, l)) out;
+  linked = λ k l q past. sent_other wires r port (first + k) q left in_wires (λ same e. absurd (omega (arith, e, past, link))) ∙ so_far.linked k l q past;
+  others = λ k q l out. sent_other wires r port k q left in_wires (λ same. absurd (not_out k same out)) ∙ so_far.others k q (omega (arith, rows, l)) out;
   rest = λ k d l. ⊎_elim (λ (e : k ≡ i). rw e (here d)) (λ (n : k ≢ i). there k d n ∙ so_far.rest k d l) (cases_eq k i);
 }
   where
@@ -174,10 +152,10 @@ taken-part relation first routers beats now after wires i r port one left so_far
     not_out k same out = ⊎_elim (λ (l : k < first). omega (arith, same, l, at)) (λ (u : first + length routers ≤ k). omega (arith, same, u, at, in_routers)) out
 
     changed : (d : View) → get_or after i d ≡ taken relation port one (get_or now i d)
-    changed d = each i d ∙ ap (λ (b : Bool). if b then taken relation port one (get_or now i d) else get_or now i d) (equal-test i i refl)
+    changed d = each i d ∙ ap (λ (b : Bool). if b then taken relation port one (get_or now i d) else get_or now i d) (eq-eqb i i refl)
 
     kept : (k : ℕ) (d : View) → k ≢ i → get_or after k d ≡ get_or now k d
-    kept k d n = each k d ∙ ap (λ (b : Bool). if b then taken relation port one (get_or now k d) else get_or now k d) (other-test k i n)
+    kept k d n = each k d ∙ ap (λ (b : Bool). if b then taken relation port one (get_or now k d) else get_or now k d) (ne_eqb k i n)
 
     site : (k : ℕ) (d : View) → (get_or after k d).site ≡ (get_or now k d).site
     site k d =
@@ -232,11 +210,11 @@ kept-half half wires node port r q left row within same = ⊎_elim here there_on
 
     here : r ≡ node → half (beat_at (sent_on wires (Some (node, port)) left) r q) ≡ half (beat_at wires r q)
     here e =
-        ⊎_elim (λ (f : q ≡ port). rw (e, f) (ap half (here-now wires node port left row within) ∙ same))
-        (λ (n : q ≢ port). ap half (there-now wires node port r q left row (λ same. n))) (cases_eq q port)
+        ⊎_elim (λ (f : q ≡ port). rw (e, f) (ap half (sent_here wires node port left row within) ∙ same))
+        (λ (n : q ≢ port). ap half (sent_other wires node port r q left row (λ same. n))) (cases_eq q port)
 
     there_on : r ≢ node → half (beat_at (sent_on wires (Some (node, port)) left) r q) ≡ half (beat_at wires r q)
-    there_on n = ap half (there-now wires node port r q left row (λ e. absurd (n e)))
+    there_on n = ap half (sent_other wires node port r q left row (λ e. absurd (n e)))
 
 pub credit-kept : (wires : List (List Beat)) (node port r q : ℕ) → node < length wires → port < length (get_or wires node [])
     → (beat_at (sent_on wires (Some (node, port)) (record (beat_at wires node port) { flit = None })) r q).credit ≡ (beat_at wires r q).credit
