@@ -1,6 +1,7 @@
 //! A network of routers, run cycle by cycle.
 #![tactic(auto)]
 
+mod cycles;
 mod event_core;
 mod fault;
 mod jump;
@@ -13,11 +14,12 @@ mod room;
 mod takes;
 mod wire;
 
+pub use cycles::{advance_all, decide_all, deliver};
 pub use event_core::Core;
 pub use fault::NetFault;
 pub use limit::MAX_LIMIT;
 pub use marks::Marks;
-pub use network::{Network, advance_all, decide_all, deliver};
+pub use network::Network;
 pub use noc_model::{CYCLE_LIMIT, Event, NotReady};
 pub use parts::Parts;
 pub use room::{LINKS, Room};

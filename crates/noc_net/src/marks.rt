@@ -5,6 +5,7 @@ ghost use Rattle.noc_topo.specs.declared.limits.TheConstants.{MAX_NODES};
 ghost use Rattle.noc_packet.specs.declared.packet.Beat.{Beat as beat_value};
 ghost use Rattle.noc_model.specs.Halves.{sent_on};
 ghost use Rattle.noc_model.specs.Lockstep.{beats_at};
+ghost use Rattle.noc_net.specs.declared.marks.TheConstants.{SETS};
 ghost use Rattle.noc_net.specs.Marks.{AreMarked, HasTakenOut, IsMarkedAt, IsRowMarked, has_credit, has_flit};
 
 use crate::room::LINKS;
@@ -95,7 +96,7 @@ fn mark(sets: &mut [ChannelSet; SETS], node: usize, port: usize, is_member: bool
 // Takes a link out of one of the sets, by its place there.
 #[inline(always)]
 pub(crate) fn take_out(sets: &mut [ChannelSet; SETS], set: usize) -> Option<usize>
-    requires { set < 32 }
+    requires { set < SETS }
     ensures link { HasTakenOut (slice_index_or sets.old set 0) (slice_index_or sets.new set 0) result }
     ensures others { sets.new ≡ slice_set sets.old set (slice_index_or sets.new set 0) }
 {

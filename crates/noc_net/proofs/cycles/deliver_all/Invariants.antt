@@ -5,7 +5,7 @@ use Rattle.noc_model.specs.Halves.{beat_at, emptied}
 use Rattle.noc_model.proofs.ListLemmas.{IsDoneTo}
 use Rattle.noc_model.proofs.WireLemmas.{put_by}
 use Rattle.noc_net.specs.Marks.{AreMarked}
-use Rattle.noc_net.proofs.network.deliver_all.Given as goal
+use Rattle.noc_net.proofs.cycles.deliver_all.Given as goal
 
 -- the routers before this node have put their beats
 abbrev pub invariant-loop-node : goal.invariant-loop-node

@@ -4,7 +4,7 @@ use Rattle.noc_router.specs.Decided.{IsDecidedFor}
 use Rattle.noc_model.specs.Network.{Setup}
 use Rattle.noc_model.specs.Unseen.{AreInStepUnseen}
 use Rattle.noc_net.specs.Marks.{AreMarked}
-use Rattle.noc_net.proofs.network.skip.Given as goal
+use Rattle.noc_net.proofs.cycles.skip.Given as goal
 
 -- the cycles before this one have run
 abbrev pub invariant-loop-cycle : goal.invariant-loop-cycle

@@ -4,7 +4,7 @@ use Rattle.noc_packet.specs.Set.{has_bit}
 use Rattle.noc_model.specs.Halves.{beat_at}
 use Rattle.noc_model.proofs.WireLemmas.{AreLeft, received_but}
 use Rattle.noc_net.specs.Marks.{AreMarked}
-use Rattle.noc_net.proofs.network.deliver.Given as goal
+use Rattle.noc_net.proofs.cycles.deliver.Given as goal
 
 -- the beats of the ports that are not left are put
 abbrev pub invariant-loop-port : goal.invariant-loop-port

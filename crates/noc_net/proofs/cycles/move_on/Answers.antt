@@ -3,7 +3,7 @@ use Rattle.noc_topo.specs.Shape.{ports}
 use Rattle.noc_router.specs.Decided.{IsDecidedFor}
 use Rattle.noc_router.specs.View.{View, IsRelationOf}
 use Rattle.noc_model.proofs.StepLemmas.{IsRelationOf-same_site, site-injected}
-use Rattle.noc_net.proofs.network.move_on.Goals as goal
+use Rattle.noc_net.proofs.cycles.move_on.Goals as goal
 
 pub advance-requires-clause-relation : goal.advance-requires-clause-relation
 advance-requires-clause-relation c = IsRelationOf-same_site c.args.relation.now c.args.router.now c.inject.new.self (ap (λ (v : View). v.site) c.inject.ensures ∙ site-injected c.args.cycle c.args.router.now) c.requires.router

@@ -3,7 +3,7 @@ use Rattle.noc_topo.specs.Shape.{ports}
 use Rattle.noc_router.specs.Decided.{IsDecidedFor}
 use Rattle.noc_router.specs.View.{View, IsRelationOf, planned, committed}
 use Rattle.noc_model.proofs.StepLemmas.{IsRelationOf-same_site, site-injected}
-use Rattle.noc_net.proofs.network.conclude.Goals as goal
+use Rattle.noc_net.proofs.cycles.conclude.Goals as goal
 
 pub plan-requires-clause-relation : goal.plan-requires-clause-relation
 plan-requires-clause-relation c = IsRelationOf-same_site c.args.relation.now c.args.router.now c.inject.new.self (ap (λ (v : View). v.site) c.inject.ensures ∙ site-injected c.args.cycle c.args.router.now) c.requires.router

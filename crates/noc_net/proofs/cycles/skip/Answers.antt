@@ -5,7 +5,7 @@ use Rattle.noc_model.specs.Halves.{ArePlaced}
 use Rattle.noc_model.specs.Unseen.{AreInStepUnseen, advanced}
 use Rattle.noc_model.proofs.UnseenLemmas.{of_relation, to_relation, from_relation, unseen-count, unseen-relation, unseen-linked, unseen-placed, next-unseen}
 use Rattle.noc_net.proofs.TakesLemmas.{from-zero, none-left}
-use Rattle.noc_net.proofs.network.skip.Goals as goal
+use Rattle.noc_net.proofs.cycles.skip.Goals as goal
 
 pub advance_all-requires-clause-routers : goal.advance_all-requires-clause-routers
 advance_all-requires-clause-routers c =

@@ -6,7 +6,7 @@ use Rattle.noc_model.specs.Unseen.{AreInStep, AreInStepUnseen}
 use Rattle.noc_model.proofs.RunLemmas.{placed_halfway}
 use Rattle.noc_model.proofs.UnseenLemmas.{of_relation, to_relation, from_relation, to_unseen, unseen-count, unseen-relation, unseen-linked, unseen-halfway, next-seen}
 use Rattle.noc_net.proofs.TakesLemmas.{from-zero, none-left}
-use Rattle.noc_net.proofs.network.run_all.Goals as goal
+use Rattle.noc_net.proofs.cycles.run_all.Goals as goal
 
 pub skip-requires-clause-in_step : goal.skip-requires-clause-in_step
 skip-requires-clause-in_step c =

@@ -1,7 +1,7 @@
 use Rattle.noc_model.specs.Unseen.{advanced}
 use Rattle.noc_net.specs.Takes.{moved_on}
 use Rattle.noc_net.proofs.TakesLemmas.{all-halves, moved_on-advanced}
-use Rattle.noc_net.proofs.network.advance_all.Goals as goal
+use Rattle.noc_net.proofs.cycles.advance_all.Goals as goal
 
 pub returns-clause-routers : goal.returns-clause-routers
 returns-clause-routers c =

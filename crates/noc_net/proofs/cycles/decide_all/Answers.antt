@@ -1,7 +1,7 @@
 use Rattle.noc_model.specs.Halves.{decided}
 use Rattle.noc_net.specs.Takes.{concluded}
 use Rattle.noc_net.proofs.TakesLemmas.{all-halves, concluded-decided}
-use Rattle.noc_net.proofs.network.decide_all.Goals as goal
+use Rattle.noc_net.proofs.cycles.decide_all.Goals as goal
 
 pub returns-clause-routers : goal.returns-clause-routers
 returns-clause-routers c =

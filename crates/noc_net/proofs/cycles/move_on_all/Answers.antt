@@ -2,7 +2,7 @@ use Rattle.std.proofs.Common.{◌≡◌, ℕ, length, subst, arith}
 use Rattle.noc_router.specs.View.{View}
 use Rattle.noc_model.proofs.ListLemmas.{IsDoneTo, done_all-map}
 use Rattle.noc_net.specs.Takes.{moved_on}
-use Rattle.noc_net.proofs.network.move_on_all.Goals as goal
+use Rattle.noc_net.proofs.cycles.move_on_all.Goals as goal
 
 pub returns-clause-routers : goal.returns-clause-routers
 returns-clause-routers c =

@@ -1,0 +1,230 @@
+//! The cycles of a network, in passes over its routers (docs/ARCHITECTURE.md, "The loop of a cycle").
+
+ghost use Rattle.std.specs.Prelude.{◌≡◌, ℕ, ◌+◌, ◌<◌, ◌≤◌, All, IfSome, Some, length, map};
+ghost use Rattle.noc_topo.specs.declared.limits.TheConstants.{MAX_NODES};
+ghost use Rattle.noc_topo.specs.Words.{map_indexed};
+ghost use Rattle.noc_topo.specs.Shape.{nodes as nodes_of, ports as ports_of, neighbour as neighbour_of};
+ghost use Rattle.noc_router.specs.Decided.{IsDecidedFor};
+ghost use Rattle.noc_router.specs.View.{IsRelationOf, idle_beat};
+ghost use Rattle.noc_model.specs.Halves.{ArePlaced, IsLinked, IsPlaced, IsSilent, beat_at, decided, emptied, incoming, received, sent_on};
+ghost use Rattle.noc_model.specs.Lockstep.{beat_from, beats_at};
+ghost use Rattle.noc_model.specs.Network.{Setup};
+ghost use Rattle.noc_net.specs.Marks.{AreMarked};
+ghost use Rattle.noc_net.specs.Takes.{NoneElsewhere, concluded, moved_on};
+ghost use Rattle.noc_model.specs.Unseen.{AreInStep, AreInStepUnseen, advanced};
+
+use crate::jump::jump;
+use crate::marks::Marks;
+use crate::room::LINKS;
+use crate::takes::take_all;
+use noc_packet::Beat;
+use noc_route::Relation;
+use noc_router::{Plan, Router};
+
+// Runs the cycles from `first` to `last`. Nobody reads what is found before the last.
+pub(crate) fn run_all(
+    relation: &Relation,
+    plan: &mut Plan,
+    first: u64,
+    last: u64,
+    routers: &mut [Router],
+    beats: &mut [[Beat; LINKS]],
+)
+    requires order { first ≤ last }
+    requires plan { IsDecidedFor (ports_of relation.now.grid) relation.now.vcs plan.old }
+    requires in_step { (net : Setup) × (net.relation ≡ relation.now) × AreInStep net first routers.old beats.old }
+    requires count { length beats.old ≡ nodes_of relation.now.grid }
+    requires few { length beats.old ≤ MAX_NODES }
+    ensures plan { IsDecidedFor (ports_of relation.now.grid) relation.now.vcs plan.new }
+    ensures in_step { (net : Setup) → net.relation ≡ relation.now → AreInStep net first routers.old beats.old → AreInStep net (last + 1) routers.new beats.new }
+{
+    let mut marks = Marks::of(beats);
+    skip(relation, plan, first, last, routers, beats, &mut marks);
+    decide_all(relation, plan, last, 0, routers, beats, &mut marks);
+    deliver_all(relation, routers, beats, &mut marks);
+}
+
+// Runs the cycles from `first` to before `end`, and leaves the findings as they were. Those in which nothing happens are run at once.
+fn skip(
+    relation: &Relation,
+    plan: &mut Plan,
+    first: u64,
+    end: u64,
+    routers: &mut [Router],
+    beats: &mut [[Beat; LINKS]],
+    marks: &mut Marks,
+)
+    requires order { first ≤ end }
+    requires plan { IsDecidedFor (ports_of relation.now.grid) relation.now.vcs plan.old }
+    requires in_step { (net : Setup) × (net.relation ≡ relation.now) × AreInStepUnseen net first routers.old beats.old }
+    requires count { length beats.old ≡ nodes_of relation.now.grid }
+    requires few { length beats.old ≤ MAX_NODES }
+    requires marks { AreMarked marks.old beats.old }
+    ensures plan { IsDecidedFor (ports_of relation.now.grid) relation.now.vcs plan.new }
+    ensures marks { AreMarked marks.new beats.new }
+    ensures in_step { (net : Setup) → net.relation ≡ relation.now → AreInStepUnseen net first routers.old beats.old → AreInStepUnseen net end routers.new beats.new }
+{
+    let mut cycle = first;
+    while cycle < end {
+        advance_all(relation, plan, cycle, 0, routers, beats, marks);
+        deliver_all(relation, routers, beats, marks);
+        cycle = jump(relation, plan, cycle, end, routers, beats);
+    }
+}
+
+/// Each of the routers from `first` (0 to 255) on takes the beats that came to it, injects, decides and commits, and leaves its
+/// findings as they were. Nothing came to other routers.
+pub fn advance_all(
+    relation: &Relation,
+    plan: &mut Plan,
+    cycle: u64,
+    first: usize,
+    routers: &mut [Router],
+    beats: &mut [[Beat; LINKS]],
+    marks: &mut Marks,
+)
+    requires plan { IsDecidedFor (ports_of relation.now.grid) relation.now.vcs plan.old }
+    requires routers { All (λ v. IsRelationOf relation.now v) routers.old }
+    requires few { length beats.old ≤ MAX_NODES }
+    requires marks { AreMarked marks.old beats.old }
+    requires beats { All (IsLinked relation.now.grid) beats.old }
+    requires others { NoneElsewhere first (length routers.old) beats.old }
+    ensures plan { IsDecidedFor (ports_of relation.now.grid) relation.now.vcs plan.new }
+    ensures routers { routers.new ≡ map_indexed (λ r v. advanced relation.now cycle (incoming relation.now.grid (beats_at beats.old (first + r))) v) routers.old }
+    ensures beats { All IsSilent beats.new }
+    ensures marks { AreMarked marks.new beats.new }
+{
+    take_all(relation, first, routers, beats, marks);
+    move_on_all(relation, plan, cycle, routers);
+}
+
+// .. once it has taken them.
+fn move_on_all(relation: &Relation, plan: &mut Plan, cycle: u64, routers: &mut [Router])
+    requires plan { IsDecidedFor (ports_of relation.now.grid) relation.now.vcs plan.old }
+    requires routers { All (λ v. IsRelationOf relation.now v) routers.old }
+    ensures plan { IsDecidedFor (ports_of relation.now.grid) relation.now.vcs plan.new }
+    ensures routers { routers.new ≡ map (moved_on relation.now cycle) routers.old }
+{
+    for node in 0..routers.len() {
+        move_on(relation, plan, cycle, &mut routers[node]);
+    }
+}
+
+// One router that has taken its beats injects, decides and commits, and leaves its findings as they were.
+#[inline(always)]
+fn move_on(relation: &Relation, plan: &mut Plan, cycle: u64, router: &mut Router)
+    requires plan { IsDecidedFor (ports_of relation.now.grid) relation.now.vcs plan.old }
+    requires router { IsRelationOf relation.now router.old }
+    ensures plan { IsDecidedFor (ports_of relation.now.grid) relation.now.vcs plan.new }
+    ensures router { router.new ≡ moved_on relation.now cycle router.old }
+{
+    router.inject(cycle);
+    router.advance(relation, plan);
+}
+
+/// Each of the routers from `first` (0 to 255) on takes the beats that came to it, injects, decides and commits. Nothing came to
+/// other routers.
+pub fn decide_all(
+    relation: &Relation,
+    plan: &mut Plan,
+    cycle: u64,
+    first: usize,
+    routers: &mut [Router],
+    beats: &mut [[Beat; LINKS]],
+    marks: &mut Marks,
+)
+    requires plan { IsDecidedFor (ports_of relation.now.grid) relation.now.vcs plan.old }
+    requires routers { All (λ v. IsRelationOf relation.now v) routers.old }
+    requires few { length beats.old ≤ MAX_NODES }
+    requires marks { AreMarked marks.old beats.old }
+    requires beats { All (IsLinked relation.now.grid) beats.old }
+    requires others { NoneElsewhere first (length routers.old) beats.old }
+    ensures plan { IsDecidedFor (ports_of relation.now.grid) relation.now.vcs plan.new }
+    ensures routers { routers.new ≡ map_indexed (λ r v. decided relation.now cycle (incoming relation.now.grid (beats_at beats.old (first + r))) v) routers.old }
+    ensures beats { All IsSilent beats.new }
+    ensures marks { AreMarked marks.new beats.new }
+{
+    take_all(relation, first, routers, beats, marks);
+    conclude_all(relation, plan, cycle, routers);
+}
+
+// .. once it has taken them.
+fn conclude_all(relation: &Relation, plan: &mut Plan, cycle: u64, routers: &mut [Router])
+    requires plan { IsDecidedFor (ports_of relation.now.grid) relation.now.vcs plan.old }
+    requires routers { All (λ v. IsRelationOf relation.now v) routers.old }
+    ensures plan { IsDecidedFor (ports_of relation.now.grid) relation.now.vcs plan.new }
+    ensures routers { routers.new ≡ map (concluded relation.now cycle) routers.old }
+{
+    for node in 0..routers.len() {
+        conclude(relation, plan, cycle, &mut routers[node]);
+    }
+}
+
+// One router that has taken its beats injects, decides and commits.
+fn conclude(relation: &Relation, plan: &mut Plan, cycle: u64, router: &mut Router)
+    requires plan { IsDecidedFor (ports_of relation.now.grid) relation.now.vcs plan.old }
+    requires router { IsRelationOf relation.now router.old }
+    ensures plan { IsDecidedFor (ports_of relation.now.grid) relation.now.vcs plan.new }
+    ensures router { router.new ≡ concluded relation.now cycle router.old }
+{
+    router.inject(cycle);
+    router.plan(relation, plan);
+    router.commit(plan);
+}
+
+// Each router puts its beats on the wires that leave it, all of which are idle.
+fn deliver_all(
+    relation: &Relation,
+    routers: &mut [Router],
+    beats: &mut [[Beat; LINKS]],
+    marks: &mut Marks,
+)
+    requires routers { ArePlaced relation.now routers.old }
+    requires nodes { length routers.old ≡ nodes_of relation.now.grid }
+    requires count { length beats.old ≡ nodes_of relation.now.grid }
+    requires beats { All IsSilent beats.old }
+    requires marks { AreMarked marks.old beats.old }
+    ensures marks { AreMarked marks.new beats.new }
+    ensures routers { routers.new ≡ map emptied routers.old }
+    ensures beats { (r port : ℕ) → r < nodes_of relation.now.grid → beat_at beats.new r port ≡ beat_from (map (λ v. v.to_put) routers.old) (neighbour_of relation.now.grid r port) }
+{
+    for node in 0..routers.len() {
+        deliver(relation, &mut routers[node], beats, marks);
+    }
+}
+
+/// One router puts its beats on the wires that leave it, all of which are idle; the marks follow them.
+pub fn deliver(
+    relation: &Relation,
+    router: &mut Router,
+    beats: &mut [[Beat; LINKS]],
+    marks: &mut Marks,
+)
+    requires router { IsPlaced relation.now router.old.site.node router.old }
+    requires node { router.old.site.node < nodes_of relation.now.grid }
+    requires count { length beats.old ≡ nodes_of relation.now.grid }
+    requires idle { (r port q : ℕ) → neighbour_of relation.now.grid r port ≡ Some (router.old.site.node, q) → beat_at beats.old r port ≡ idle_beat }
+    ensures marks { AreMarked marks.old beats.old → AreMarked marks.new beats.new }
+    ensures router { router.new ≡ emptied router.old }
+    ensures beats { (r port : ℕ) → r < nodes_of relation.now.grid → beat_at beats.new r port ≡ received router.old (neighbour_of relation.now.grid r port) (beat_at beats.old r port) }
+{
+    let mut rest = router.loaded();
+    while let Some(port) = rest.least_common(&rest) {
+        rest = rest.without(port);
+        let beat = router.put(port);
+        send(beats, marks, router.neighbour(port), beat);
+    }
+}
+
+// A beat is on the wire that arrives at this router and port, where there is a link.
+fn send(beats: &mut [[Beat; LINKS]], marks: &mut Marks, to: Option<(usize, usize)>, beat: Beat)
+    requires few { length beats.old ≤ MAX_NODES }
+    requires within { IfSome to (λ place. (place.0 < length beats.old) × (place.1 < 6)) }
+    ensures beats { beats.new ≡ sent_on beats.old to beat }
+    ensures marks { AreMarked marks.old beats.old → AreMarked marks.new beats.new }
+{
+    if let Some((node, entry)) = to {
+        marks.note(node, entry, &beat);
+        beats[node][entry] = beat;
+    }
+}
