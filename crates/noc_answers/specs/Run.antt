@@ -22,6 +22,7 @@ use Rattle.noc_requests.specs.declared.status.Status.{Status}
 use Rattle.noc_requests.specs.declared.status.Status.TheVariants.{Done, Stuck}
 use Rattle.noc_answers.specs.Check.{AsksForChecked}
 use Rattle.noc_answers.specs.Drain.{RunsTo}
+use Rattle.noc_tiles.specs.declared.limits.TheConstants.{MAX_WORKERS}
 
 -- the report of a run that a command asks for
 abbrev pub report_of : Command → Option Report
@@ -36,7 +37,7 @@ workers_of _ = 1
 
 -- 1 to 16 workers
 abbrev pub HasWorkers : Command → Type 0
-HasWorkers x = (0 < workers_of x) × (workers_of x ≤ 16)
+HasWorkers x = (0 < workers_of x) × (workers_of x ≤ MAX_WORKERS)
 
 -- how many cycles are run at least: those of the configuration, or up to the one that is to be explained
 abbrev pub cycles_of : Command → Settings → ℕ

@@ -3,6 +3,7 @@
 ghost use Rattle.std.specs.Prelude.{◌≡◌, ◌≢◌, ◌⊎◌, ◌+◌, ◌-◌, ◌<◌, ◌≤◌, min, true, false, IfErr, IfNone, IfOk, IfSome};
 ghost use Rattle.noc_tiles.specs.declared.fault.RunFault.TheVariants.{LostWorker};
 ghost use Rattle.noc_answers.specs.Drain.{DrainsAt, RunsTo, is_out_at};
+ghost use Rattle.noc_tiles.specs.declared.limits.TheConstants.{MAX_WORKERS};
 
 use noc_files::MAX_CYCLES;
 use noc_net::Network;
@@ -38,7 +39,7 @@ pub fn run_to_end_by_workers<R: Threads + Wait + Sync>(
 ) -> Result<Network, RunFault>
     requires opening { network.count ≡ 0 }
     requires cycles { cycles ≤ MAX_CYCLES }
-    requires workers { (1 < workers) × (workers ≤ 16) }
+    requires workers { (1 < workers) × (workers ≤ MAX_WORKERS) }
     ensures net { IfOk result (λ n. n.net ≡ network.net) }
     ensures end { IfOk result (λ n. RunsTo drain n.net cycles n.count) }
     ensures lost { IfErr result (λ e. e ≢ LostWorker) }
@@ -69,7 +70,7 @@ fn run_on_by_workers<R: Threads + Wait + Sync>(
     mut network: Network,
     workers: usize,
 ) -> Result<Network, RunFault>
-    requires workers { (1 < workers) × (workers ≤ 16) }
+    requires workers { (1 < workers) × (workers ≤ MAX_WORKERS) }
     ensures net { IfOk result (λ n. n.net ≡ network.net) }
     ensures end { IfOk result (λ n. DrainsAt n.net network.count n.count) }
     ensures lost { IfErr result (λ e. e ≢ LostWorker) }

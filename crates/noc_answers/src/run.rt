@@ -11,6 +11,7 @@ ghost use Rattle.noc_answers.specs.Answer.{AsksFor, TextsFault};
 ghost use Rattle.noc_answers.specs.Drain.{RunsTo};
 ghost use Rattle.noc_answers.specs.Reports.{report_text};
 ghost use Rattle.noc_answers.specs.Run.{AsksForRun, IsNetworkOf, PacketsFault, ending, is_draining, report_of, workers_of};
+ghost use Rattle.noc_tiles.specs.declared.limits.TheConstants.{MAX_WORKERS};
 
 use crate::accept::accept_if_given;
 use crate::drain::{run_to_end, run_to_end_by_workers};
@@ -57,7 +58,7 @@ pub fn run_by_workers<R: Threads + Wait + Sync, W: Sink>(
     requires report { report_of files.now.command ≡ Some report }
     requires drain { is_draining files.now.command ≡ drain }
     requires workers { workers_of files.now.command ≡ workers }
-    requires number { (1 < workers) × (workers ≤ 16) }
+    requires number { (1 < workers) × (workers ≤ MAX_WORKERS) }
     ensures { Ends (workers_of files.now.command) (Wrote W.contents W.has_failed sink.old sink.new) (sink.new ≡ sink.old) (AsksFor (asked_of files.now)) (TextsFault (asked_of files.now)) result }
 {
     let (network, cycles) = opening_network(rt, alloc, files)?;

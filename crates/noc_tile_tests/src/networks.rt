@@ -1,6 +1,7 @@
 //! Networks that run in the tests, before their first cycle, and their reports.
 
 ghost use Rattle.std.specs.Prelude.{◌≡◌, ◌<◌, ◌≤◌, IfOk};
+ghost use Rattle.noc_tiles.specs.declared.limits.TheConstants.{MAX_WORKERS};
 
 use noc_files::{Out, WriteFault, read_traffic, write_latency, write_stalls};
 use noc_net::Network;
@@ -115,7 +116,7 @@ pub fn run_by<R: Threads + Wait + Sync, G: Gate>(
 ) -> Result<Reports, Fail>
     requires opening { network.count ≡ 0 }
     requires cycles { cycles ≤ 1000 }
-    requires workers { (0 < workers) × (workers ≤ 16) }
+    requires workers { (0 < workers) × (workers ≤ MAX_WORKERS) }
 {
     let network = run_tiles(rt, alloc, network, cycles, workers, gate)?;
     Ok(reports_of(alloc, &network)?)

@@ -1,6 +1,7 @@
 // Every number of workers gives the reports of one.
 
 ghost use Rattle.std.specs.Prelude.{◌≡◌, ◌<◌, ◌≤◌};
+ghost use Rattle.noc_tiles.specs.declared.limits.TheConstants.{MAX_WORKERS};
 
 use crate::networks::{
     LINE_LATENCY, LINE_STALLS, RING_LATENCY, Reports, TORUS_LATENCY, dateline_ring, line_of_three,
@@ -74,7 +75,7 @@ fn run_by_calls<R: Threads + Wait + Sync>(
 ) -> Result<Reports, Fail>
     requires opening { network.count ≡ 0 }
     requires calls { calls ≤ 1000 }
-    requires workers { (0 < workers) × (workers ≤ 16) }
+    requires workers { (0 < workers) × (workers ≤ MAX_WORKERS) }
 {
     let mut network = network;
     for _call in 0..calls {

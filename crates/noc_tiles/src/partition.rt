@@ -11,6 +11,7 @@ ghost use Rattle.noc_tiles.specs.Starts.{tile_start};
 ghost use Rattle.noc_tiles.specs.TileStep.{is_inside, is_own};
 ghost use Rattle.noc_tiles.specs.Rings.{AreLeftOut, AreSlots, LeadsTo, in_slots, out_slots};
 ghost use Rattle.noc_tiles.specs.Partition.{InFlight, IsPartition, IsTile, AreUnassigned, setup_of};
+ghost use Rattle.noc_tiles.specs.declared.limits.TheConstants.{MAX_WORKERS};
 
 use crate::frame::Frame;
 use crate::rings::{Rings, make_rings, take_ins, take_outs};
@@ -54,7 +55,7 @@ fn new_tile(
 ) -> Result<Tile, Memory>
     requires size_in { vec_len ins.old ≡ nodes_of frame.now.relation.grid * 6 }
     requires size_out { vec_len outs.old ≡ nodes_of frame.now.relation.grid * 6 }
-    requires workers { frame.now.workers ≤ 16 }
+    requires workers { frame.now.workers ≤ MAX_WORKERS }
     requires wide { first + vec_len routers ≤ nodes_of frame.now.relation.grid }
     requires worker { worker < frame.now.workers }
     requires first { first ≡ tile_start (nodes_of frame.now.relation.grid) frame.now.workers worker }
@@ -102,7 +103,7 @@ pub(crate) fn partition(
     routers: Vec<Router>,
     beats: &[[Beat; LINKS]],
 ) -> Result<Vec<Tile>, Memory>
-    requires workers { (0 < frame.now.workers) × (frame.now.workers ≤ 16) }
+    requires workers { (0 < frame.now.workers) × (frame.now.workers ≤ MAX_WORKERS) }
     requires beats { length beats.now ≡ nodes_of frame.now.relation.grid }
     requires flight { InFlight (setup_of frame.now) frame.now.count beats.now }
     requires views { routers.items ≡ (lockstep_at (setup_of frame.now) frame.now.count).views }

@@ -6,6 +6,7 @@ ghost use Rattle.noc_tiles.specs.Ends.{inlet, outlet};
 ghost use Rattle.noc_tiles.specs.Starts.{AreTogether};
 ghost use Rattle.noc_tiles.specs.TileStep.{is_inside, is_own};
 ghost use Rattle.noc_tiles.specs.Rings.{AreLeftOut, AreSlots, AreTakenIn, AreTakenOut, LeadsTo, IsSlot, held, in_slots, out_slots, without};
+ghost use Rattle.noc_tiles.specs.declared.limits.TheConstants.{MAX_WORKERS};
 
 use crate::starts::are_together;
 use crate::wires::{Inlet, Outlet};
@@ -52,7 +53,7 @@ fn new_ring(
 // Whether the wire that arrives at a port comes from another tile.
 fn comes_from_other(shape: &Shape, workers: usize, router: usize, port: usize) -> bool
     requires router { router < nodes_of shape.now }
-    requires workers { (0 < workers) × (workers ≤ 16) }
+    requires workers { (0 < workers) × (workers ≤ MAX_WORKERS) }
     ensures { IsFalse result → (from : ℕ × ℕ) → neighbour_of shape.now router port ≡ Some from → AreTogether (nodes_of shape.now) workers router from.0 }
 {
     if port >= shape.ports() {
@@ -74,7 +75,7 @@ fn slot(
     beat: Beat,
 ) -> Result<(Option<Inlet>, Option<Outlet>), AllocError>
     requires router { router < nodes_of shape.now }
-    requires workers { (0 < workers) × (workers ≤ 16) }
+    requires workers { (0 < workers) × (workers ≤ MAX_WORKERS) }
     ensures { IfOk result (λ s. IsSlot shape.now workers router port beat (option_map inlet s.0) (option_map outlet s.1)) }
 {
     if !comes_from_other(shape, workers, router, port) {
@@ -92,7 +93,7 @@ pub(crate) fn make_rings(
     beats: &[[Beat; LINKS]],
 ) -> Result<Rings, AllocError>
     requires beats { length beats.now ≡ nodes_of shape.now }
-    requires workers { (0 < workers) × (workers ≤ 16) }
+    requires workers { (0 < workers) × (workers ≤ MAX_WORKERS) }
     ensures { IfOk result (λ r. AreSlots shape.now workers beats.now (nodes_of shape.now * 6) (in_slots r.ins.items) (out_slots r.outs.items)) }
 {
     let mut ins = Vec::new(alloc);

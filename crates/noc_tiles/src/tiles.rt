@@ -3,6 +3,7 @@
 ghost use Rattle.std.specs.Prelude.{◌≡◌, ◌+◌, ◌<◌, ◌≤◌, true, false, IfErr, IfOk, IsOk};
 ghost use Rattle.noc_model.specs.declared.limits.TheConstants.{CYCLE_LIMIT as cycle_limit};
 ghost use Rattle.noc_tiles.specs.declared.fault.RunFault.TheVariants.{LostWorker};
+ghost use Rattle.noc_tiles.specs.declared.limits.TheConstants.{MAX_WORKERS};
 
 use crate::fault::RunFault;
 use crate::frame::Frame;
@@ -24,7 +25,7 @@ pub fn run_tiles<R: Threads + Wait + Sync, G: Gate>(
     workers: usize,
     gate: &G,
 ) -> Result<Network, RunFault>
-    requires workers { (0 < workers) × (workers ≤ 16) }
+    requires workers { (0 < workers) × (workers ≤ MAX_WORKERS) }
     requires end { network.count + cycles ≤ cycle_limit }
     ensures net { IfOk result (λ v. v ≡ record network { count = network.count + cycles }) }
     ensures lost { IfErr result (λ e. e ≡ LostWorker → G.opens gate.now ≡ false) }

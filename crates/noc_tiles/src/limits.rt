@@ -1,0 +1,4 @@
+//! Limits.
+
+/// The most workers of one run.
+pub const MAX_WORKERS: usize = 16;
