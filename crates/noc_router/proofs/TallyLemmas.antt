@@ -12,7 +12,7 @@ use Rattle.noc_vc.specs.declared.input.InputState.TheVariants.{Idle, Waiting, Ac
 use Rattle.noc_router.specs.declared.counters.Counters.{Counters}
 use Rattle.noc_router.specs.declared.plan.Plan.TheInside.{Inside}
 use Rattle.noc_router.specs.Planned.{IsPlan, outcome_in}
-use Rattle.noc_router.specs.VerdictSets.{sets_with, verdict_by}
+use Rattle.noc_router.specs.VerdictSets.{sets_with, verdict_by, first_in}
 use Rattle.noc_router.specs.declared.verdict.Verdict.{Verdict}
 use Rattle.noc_router.specs.declared.verdict.Verdict.TheVariants.{Empty, Routed, Granted, Moved, NoFlit, NoIdleChannel, LostChannel, NoCredit, LostInput, LostSwitch}
 use Rattle.noc_router.specs.declared.verdict.Finding.{Finding}
@@ -236,11 +236,6 @@ shown-last found n bits before rest old now shown are none k l = shown k l ∙ a
     same true false false none off = absurd (false≢true (off refl))
 
 -- ---- the sets of all verdicts, one after the other
--- the verdict of the first set that has channel k
-abbrev pub first_in : List (ℕ × Verdict) → ℕ → Verdict
-first_in [] k = Empty
-first_in ((bits, v) ∷ sets) k = if has_bit bits k then v else first_in sets k
-
 -- the verdict of a channel that holds nothing
 pub empty_is : (v : Verdict) → not (is_empty_verdict v) ≡ false → Empty ≡ v
 empty_is Empty e = refl
