@@ -1,9 +1,10 @@
 -- What an input channel can go on with, in words of the state.
 use Rattle.std.proofs.Common.{◌≡◌, ℕ, ◌+◌, ◌*◌, ◌/◌, ◌<◌, Bool, true, false, cond, Option, Some, None, refl, ap, sym, ◌∙◌, inl, inr, subst, arith}
 use Rattle.std.specs.Prelude.{◌⊎◌, find, option_and_then, option_map, unwrap_or, is_none, not, nat_lt, ◌&&◌, ◌||◌}
-use Rattle.std.proofs.lemmas.Bool.{false≢true, true≢false, eq-eqb, and_parts, and_from, lt-ltb, ltb-true, or_cases, false_from_ne_true}
+use Rattle.std.proofs.lemmas.Bool.{false≢true, true≢false, eq-eqb, and_parts, and_from, lt-ltb, ltb-true, or_cases, false_from_ne_true, not-true}
 use Rattle.std.proofs.lemmas.Nat.{div-add-mod'}
 use Rattle.std.proofs.lemmas.Option.{none-some, same_Some}
+use Rattle.std.proofs.Math.Bool.{or-true}
 use Rattle.noc_topo.specs.Words.{below, is_some_of, Has}
 use Rattle.noc_topo.specs.Shape.{local_port}
 use Rattle.noc_route.specs.Channel.{Channel, Link, Inject, Eject, begin, is_link}
@@ -78,21 +79,13 @@ module _ (net : Setup) (good : IsGood net) (F : State) (x : IsOrderedFrozen net 
   pub credit-true : (o : Channel) → has_credit_in net F o ≡ true → HasCredit net F r o
   credit-true o e = by (or_cases (not (is_link o)) (nat_lt 0 (credit_of net F o)) e)
     where
-      link : (b : Bool) → not b ≡ true → b ≡ false
-      link true k = absurd (false≢true k)
-      link false k = refl
-
       by : (not (is_link o) ≡ true) ⊎ (nat_lt 0 (credit_of net F o) ≡ true) → HasCredit net F r o
-      by (inl k) = inl (link (is_link o) k)
+      by (inl k) = inl (not-true (is_link o) k)
       by (inr k) = inr (ltb-true _ _ k)
 
   pub credit-from : (o : Channel) → HasCredit net F r o → has_credit_in net F o ≡ true
   credit-from o (inl k) = ap (λ b. not b || nat_lt 0 (credit_of net F o)) k
-  credit-from o (inr k) = ap (λ b. not (is_link o) || b) (lt-ltb _ _ k) ∙ any (not (is_link o))
-    where
-      any : (b : Bool) → (b || true) ≡ true
-      any true = refl
-      any false = refl
+  credit-from o (inr k) = ap (λ b. not (is_link o) || b) (lt-ltb _ _ k) ∙ or-true (not (is_link o))
 
   -- ---- what is asked for
 
