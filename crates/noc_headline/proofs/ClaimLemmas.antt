@@ -1,19 +1,21 @@
 -- What an input channel can go on with, in words of the state.
 use Rattle.std.proofs.Common.{◌≡◌, ℕ, ◌+◌, ◌*◌, ◌/◌, ◌<◌, Bool, true, false, cond, Option, Some, None, refl, ap, sym, ◌∙◌, inl, inr, subst, arith}
 use Rattle.std.specs.Prelude.{◌⊎◌, find, option_and_then, option_map, unwrap_or, is_none, not, nat_lt, ◌&&◌, ◌||◌}
-use Rattle.std.proofs.lemmas.Bool.{false≢true, true≢false, eq-eqb, and_parts, and_from, lt-ltb, ltb-true, or_cases}
+use Rattle.std.proofs.lemmas.Bool.{false≢true, true≢false, eq-eqb, and_parts, and_from, lt-ltb, ltb-true, or_cases, false_from_ne_true, not-true}
 use Rattle.std.proofs.lemmas.Nat.{div-add-mod'}
 use Rattle.std.proofs.lemmas.Option.{none-some, same_Some}
+use Rattle.std.proofs.Math.Bool.{or-true}
 use Rattle.noc_topo.specs.Words.{below, is_some_of, Has}
 use Rattle.noc_topo.specs.Shape.{local_port}
 use Rattle.noc_route.specs.Channel.{Channel, Link, Inject, Eject, begin, is_link}
 use Rattle.noc_route.specs.Routes.{permits}
 use Rattle.noc_route.proofs.BuiltLemmas.{linked-port}
+use Rattle.noc_route.proofs.OptionLemmas.{is_none-none}
 use Rattle.noc_router.specs.Verdict.{Unrouted, Waits, Holds, verdict_of}
 use Rattle.noc_router.proofs.ChannelLemmas.{find-below, find-below-none}
 use Rattle.noc_router.proofs.FindLemmas.{find-some}
 use Rattle.noc_headline.proofs.SearchLemmas.{find-least_below, find-absent}
-use Rattle.noc_model.specs.Network.{Setup, State, size, packet_at, leaving, owner_of, next_channel, has_channel, has_credit, credit_of, is_idle, ask, claim_of, claim_with, verdict_in, verdict_at, count_in, round_at, end_of, leads_from}
+use Rattle.noc_model.specs.Network.{Setup, State, size, packet_at, leaving, owner_of, next_channel, has_channel, has_credit_in, credit_of, is_idle, ask, claim_of, claim_with, verdict_in, verdict_at, count_in, round_at, end_of, leads_from}
 use Rattle.noc_ownership.proofs.MoveLemmas.{IsNext, next-is, leads-end}
 use Rattle.noc_ownership.proofs.NextLemmas.{next-from}
 use Rattle.noc_ownership.proofs.OwnedLemmas.{owner-has, owner-is}
@@ -74,47 +76,31 @@ module _ (net : Setup) (good : IsGood net) (F : State) (x : IsOrderedFrozen net 
 
   -- ---- credits
 
-  pub credit-true : (o : Channel) → has_credit net F o ≡ true → HasCredit net F r o
+  pub credit-true : (o : Channel) → has_credit_in net F o ≡ true → HasCredit net F r o
   credit-true o e = by (or_cases (not (is_link o)) (nat_lt 0 (credit_of net F o)) e)
     where
-      link : (b : Bool) → not b ≡ true → b ≡ false
-      link true k = absurd (false≢true k)
-      link false k = refl
-
       by : (not (is_link o) ≡ true) ⊎ (nat_lt 0 (credit_of net F o) ≡ true) → HasCredit net F r o
-      by (inl k) = inl (link (is_link o) k)
+      by (inl k) = inl (not-true (is_link o) k)
       by (inr k) = inr (ltb-true _ _ k)
 
-  pub credit-from : (o : Channel) → HasCredit net F r o → has_credit net F o ≡ true
+  pub credit-from : (o : Channel) → HasCredit net F r o → has_credit_in net F o ≡ true
   credit-from o (inl k) = ap (λ b. not b || nat_lt 0 (credit_of net F o)) k
-  credit-from o (inr k) = ap (λ b. not (is_link o) || b) (lt-ltb _ _ k) ∙ any (not (is_link o))
-    where
-      any : (b : Bool) → (b || true) ≡ true
-      any true = refl
-      any false = refl
+  credit-from o (inr k) = ap (λ b. not (is_link o) || b) (lt-ltb _ _ k) ∙ or-true (not (is_link o))
 
   -- ---- what is asked for
 
   abbrev test : ℕ → Channel → ℕ → Bool
   test p c o = is_idle net F (leaving net r o) && permits net.relation (packet_at net p).class c (packet_at net p).destination (leaving net r o)
 
-  none-idle : (o : Option ℕ) → is_none o ≡ true → o ≡ None
-  none-idle None e = refl
-  none-idle (Some p) e = absurd (false≢true e)
-
   passes-may : (p : ℕ) (c : Channel) (o : ℕ) → owner_of net F c ≡ Some p → o < size net → test p c o ≡ true → MayTake net F r c o
   passes-may p c o own l e =
       let parts = and_parts _ _ e in
-      record { packet = p; here = own; permitted = parts.1; idle = none-idle (owner_of net F (leaving net r o)) parts.0; exists = l }
+      record { packet = p; here = own; permitted = parts.1; idle = is_none-none (owner_of net F (leaving net r o)) parts.0; exists = l }
 
   may-passes : (p : ℕ) (c : Channel) (o : ℕ) → owner_of net F c ≡ Some p → MayTake net F r c o → test p c o ≡ true
   may-passes p c o own m =
       let same : m.packet ≡ p = same_Some _ _ (sym m.here ∙ own) in
       and_from _ _ (ap is_none m.idle) (subst (λ k. permits net.relation (packet_at net k).class c (packet_at net k).destination (leaving net r o) ≡ true) same m.permitted)
-
-  fails : (b : Bool) → (b ≡ true → ⊥) → b ≡ false
-  fails true n = absurd (n refl)
-  fails false n = refl
 
   ask-found : (p : ℕ) (c : Channel) → owner_of net F c ≡ Some p → ask net F r c ≡ find (test p c) (below (size net))
   ask-found p c own = ap (option_and_then (λ q. find (test q c) (below (size net)))) own
@@ -123,7 +109,7 @@ module _ (net : Setup) (good : IsGood net) (F : State) (x : IsOrderedFrozen net 
   ask-some c o m least =
       ask-found m.packet c m.here
       ∙ find-below (test m.packet c) (size net) o m.exists (may-passes m.packet c o m.here m)
-      (λ k l. let in_size : k < size net = within k l m.exists in fails (test m.packet c k) (λ e. least k l (passes-may m.packet c k m.here in_size e)))
+      (λ k l. let in_size : k < size net = within k l m.exists in false_from_ne_true (test m.packet c k) (λ e. least k l (passes-may m.packet c k m.here in_size e)))
     where
       within : (k : ℕ) → k < o → o < size net → k < size net
       within k l u = omega arith
@@ -135,7 +121,7 @@ module _ (net : Setup) (good : IsGood net) (F : State) (x : IsOrderedFrozen net 
       (passes-may p c o own s.1 s.0, λ k l m. true≢false (sym (may-passes p c k own m) ∙ find-least_below (test p c) (size net) o k f l))
 
   pub ask-none : (p : ℕ) (c : Channel) → owner_of net F c ≡ Some p → ((o : ℕ) → ¬ MayTake net F r c o) → ask net F r c ≡ None
-  ask-none p c own none = ask-found p c own ∙ find-below-none (test p c) (size net) (λ k l. fails (test p c k) (λ e. none k (passes-may p c k own l e)))
+  ask-none p c own none = ask-found p c own ∙ find-below-none (test p c) (size net) (λ k l. false_from_ne_true (test p c k) (λ e. none k (passes-may p c k own l e)))
 
   pub none-ask : (p : ℕ) (c : Channel) → owner_of net F c ≡ Some p → ask net F r c ≡ None → (o : ℕ) → ¬ MayTake net F r c o
   none-ask p c own e o m = true≢false (sym (may-passes p c o own m) ∙ find-absent (test p c) (size net) o (sym (ask-found p c own) ∙ e) m.exists)
@@ -146,18 +132,18 @@ module _ (net : Setup) (good : IsGood net) (F : State) (x : IsOrderedFrozen net 
     off : (IsRouted net F r c → ⊥) → claim_of net F r c ≡ Unrouted → Case c
     all_taken : IsWaiting net F r c → ((o : ℕ) → ¬ MayTake net F r c o) → claim_of net F r c ≡ Waits None → Case c
     asks : (o : ℕ) → AsksFor net F r c o → claim_of net F r c ≡ Waits (Some o) → Case c
-    goes : (o : ℕ) → GoesOnBy net F r c o → claim_of net F r c ≡ Holds o (has_credit net F (leaving net r o)) → Case c
+    goes : (o : ℕ) → GoesOnBy net F r c o → claim_of net F r c ≡ Holds o (has_credit_in net F (leaving net r o)) → Case c
 
   pub claim-off : (c : Channel) → (IsRouted net F r c → ⊥) → claim_of net F r c ≡ Unrouted
-  claim-off c n = ap (λ b. cond b (claim_with net F r c (next_channel net F c)) Unrouted) (fails (has_channel F.routed c) n)
+  claim-off c n = ap (λ b. cond b (claim_with net F r c (next_channel net F c)) Unrouted) (false_from_ne_true (has_channel F.routed c) n)
 
   claim-on : (c : Channel) → IsRouted net F r c → claim_of net F r c ≡ claim_with net F r c (next_channel net F c)
   claim-on c e = ap (λ b. cond b (claim_with net F r c (next_channel net F c)) Unrouted) e
 
-  pub claim-goes : (i : ℕ) (c : Channel) → IsAt net good r i c → (o : ℕ) → GoesOnBy net F r c o → claim_of net F r c ≡ Holds o (has_credit net F (leaving net r o))
+  pub claim-goes : (i : ℕ) (c : Channel) → IsAt net good r i c → (o : ℕ) → GoesOnBy net F r c o → claim_of net F r c ≡ Holds o (has_credit_in net F (leaving net r o))
   claim-goes i c at o g =
       claim-on c g.routed ∙ ap (claim_with net F r c) (goes-next i c at o g)
-      ∙ ap (λ k. Holds k (has_credit net F (leaving net r o))) (leaving-from net good r o g.exists).is_index
+      ∙ ap (λ k. Holds k (has_credit_in net F (leaving net r o))) (leaving-from net good r o g.exists).is_index
 
   pub claim-waits : (i : ℕ) (c : Channel) → IsAt net good r i c → IsWaiting net F r c → claim_of net F r c ≡ Waits (ask net F r c)
   claim-waits i c at w = claim-on c w.routed ∙ ap (claim_with net F r c) (none (next_channel net F c) refl)

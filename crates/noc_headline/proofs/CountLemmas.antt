@@ -1,27 +1,24 @@
 -- Each Take, Decide and Put is one cycle more of a router and its ports, and no router goes past the limit.
-use Rattle.std.proofs.Common.{◌≡◌, ℕ, ◌+◌, ◌<◌, ◌≤◌, Bool, true, false, List, [], ◌∷◌, length, Some, refl, ap, sym, ◌∙◌, count_by, subst, arith}
+use Rattle.std.proofs.Common.{◌≡◌, ℕ, ◌+◌, ◌<◌, ◌≤◌, Bool, true, false, List, [], ◌∷◌, length, Some, refl, ap, sym, ◌∙◌, subst, arith}
 use Rattle.std.specs.Prelude.{nat_eq, if◌then◌else◌}
-use Rattle.std.proofs.lemmas.List.Sums.{sum_by-cons}
 use Rattle.std.proofs.lemmas.Option.{get_or_from_slice_get, slice_get_within}
 use Rattle.std.proofs.lemmas.Bool.{eqb-true}
 use Rattle.noc_topo.specs.Words.{tabulate}
 use Rattle.noc_topo.specs.Shape.{nodes}
 use Rattle.noc_topo.proofs.WordLemmas.{length-tabulate, get_or-tabulate}
+use Rattle.noc_router.specs.Counts.{one_if}
 use Rattle.noc_model.specs.declared.event.Event.{Event}
 use Rattle.noc_model.specs.declared.event.Event.TheVariants.{Take, Decide, Put}
 use Rattle.noc_model.specs.Core.{CoreState, Post, after_events, happens, is_linked, is_ready, links, opening_core, post_at, rested, wires_in_flight}
 use Rattle.noc_model.specs.Lockstep.{view_at}
 use Rattle.noc_model.specs.Network.{Run, Setup}
-use Rattle.noc_model.specs.InStep.{IsInStep, cycle_of, cycle_put, cycle_taken, one_if}
+use Rattle.noc_model.specs.InStep.{IsInStep, cycle_of, cycle_put, cycle_taken}
 use Rattle.noc_model.specs.Order.{decides, happening, is_decide, is_put, is_take, puts, takes}
 use Rattle.noc_model.proofs.CoreLemmas.{happens_in_step, moves}
 use Rattle.noc_model.proofs.EventLemmas.{Moves}
 use Rattle.noc_model.proofs.LimitLemmas.{decides-below}
-use Rattle.noc_model.proofs.OrderLemmas.{net-happens}
+use Rattle.noc_model.proofs.OrderLemmas.{net-happens, one_event}
 use Rattle.noc_model.proofs.PostLemmas.{has_none}
-
-one-event : (test : Event → Bool) (e : Event) (es : List Event) → count_by test (e ∷ es) ≡ one_if (test e) + count_by test es
-one-event test e es = sum_by-cons (λ (x : Event). one_if (test x)) e es
 
 -- the cycle at which a router is seen, and for each of its links that of its next Take and of its next Put
 pub record Base : Type 0 where
@@ -94,10 +91,10 @@ module _ (limit : ℕ) (net : Setup) where
 
   stands-more : (e : Event) (es : List Event) (b : Base) (r : ℕ) (post : Post) → StandsAt limit net (base_further (base_with b e) es) r post → StandsAt limit net (base_further b (e ∷ es)) r post
   stands-more e es b r post s = record {
-    seen = let c = one-event (is_decide r) e es in let x = s.seen in omega arith;
-    low = let c = one-event (is_decide r) e es in let x = s.low in omega arith;
-    taken = λ port linked. let c = one-event (is_take r port) e es in let x = s.taken port linked in omega arith;
-    put = λ port linked. let c = one-event (is_put r port) e es in let x = s.put port linked in omega arith;
+    seen = let c = one_event (is_decide r) e es in let x = s.seen in omega arith;
+    low = let c = one_event (is_decide r) e es in let x = s.low in omega arith;
+    taken = λ port linked. let c = one_event (is_take r port) e es in let x = s.taken port linked in omega arith;
+    put = λ port linked. let c = one_event (is_put r port) e es in let x = s.put port linked in omega arith;
   }
 
   stands-none : (b : Base) (r : ℕ) (post : Post) → StandsAt limit net b r post → StandsAt limit net (base_further b []) r post

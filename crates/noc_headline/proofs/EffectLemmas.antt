@@ -79,7 +79,7 @@ module _ (net : Setup) (good : IsGood net) (F : State) (x : IsOrderedFrozen net 
   to-granted o p g =
       let pair : granted_pair net F g.channel ≡ Some (o, p) = pair-is g.router g.input g.output p g.channel g.at g.packet g.asks g.wins ∙ ap (λ (z : Channel). Some (z, p)) g.is in
       let listed : Has (o, p) (filter_map (granted_pair net F) (all_inputs net)) =
-      Has-filter_mapped (granted_pair net F) (o, p) g.channel (all_inputs net) (arrives-in net good (at-input g.router g.input g.channel g.at)) pair in
+      Has-filter_mapped (granted_pair net F) g.channel (o, p) (all_inputs net) (arrives-in net good (at-input g.router g.input g.channel g.at)) pair in
       owner-is net T o p (once-after_verdicts net good.wired F n x.whole.sound.worm.once)
       (Has-right (o, p) (filter (λ pair. not (is_released net F pair)) F.own) (filter_map (granted_pair net F) (all_inputs net)) listed)
 

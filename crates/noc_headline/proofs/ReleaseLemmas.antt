@@ -10,20 +10,18 @@ use Rattle.noc_model.specs.Network.{Setup, State, In, owner_of, owned_by, next_c
 use Rattle.noc_ownership.proofs.BufferLemmas.{same_channel-refl, same_channel-true}
 use Rattle.noc_ownership.proofs.GrantLemmas.{granted-is, once-after_verdicts}
 use Rattle.noc_ownership.proofs.Members.{Has-append, Has-filter, Has-filter_map, Has-kept, Has-left, list_any-from, list_any-has}
-use Rattle.noc_ownership.proofs.OwnedLemmas.{has-of, of-has, owner-has, owner-is, once-same}
+use Rattle.noc_ownership.proofs.OwnedLemmas.{has-of, of-has, owner-has, owner-is}
 use Rattle.noc_ownership.proofs.PlaceLemmas.{IsValid}
 use Rattle.noc_ownership.proofs.VerdictPhase.{leaves-tail, tail-of}
 use Rattle.noc_ownership.proofs.WormRecord.{last_of, valid-last}
 use Rattle.noc_views.proofs.Ordered.{IsGood, IsOrderedFrozen}
+use Rattle.noc_views.proofs.SourceLemmas.{same-owner}
 use Rattle.noc_headline.specs.Effects.{IsLeftBy, IsSentOn}
 use Rattle.noc_headline.proofs.EffectLemmas.{First, first-sent, owns-placed, sent-first}
 
 module _ (net : Setup) (good : IsGood net) (F : State) (x : IsOrderedFrozen net F) (n : ℕ) where
   abbrev T : State
   T = after_verdicts net n F
-
-  same-owner : (c : Channel) (p q : ℕ) → Has (c, p) F.own → Has (c, q) F.own → p ≡ q
-  same-owner c p q h k = ap (λ (z : Channel × ℕ). z.1) (once-same (c, p) (c, q) F.own x.whole.sound.worm.once h k refl)
 
   pub valid-tail : (o : Channel) (p : ℕ) → Has (o, p) F.own → IsValid net p (last_of net p)
   valid-tail o p h = valid-last net good.built p (x.whole.sound.worm.known o p h)
@@ -92,7 +90,7 @@ module _ (net : Setup) (good : IsGood net) (F : State) (x : IsOrderedFrozen net 
       nobody : (q : ℕ) → Has (o, q) (filter (λ pair. not (is_released net F pair)) F.own) ⊎ Has (o, q) (filter_map (granted_pair net F) (all_inputs net)) → ⊥
       nobody q (inl h) =
           let f = Has-filter (λ pair. not (is_released net F pair)) (o, q) F.own h in
-          let same = same-owner o q p f.0 has in
+          let same = same-owner net good F x.whole.sound.keyed x.whole.sound.worm o q p f.0 has in
           let gone : is_released net F (o, q) ≡ true = ap (λ k. is_released net F (o, k)) same ∙ left-released o p has left in
           false≢true (sym (ap not gone) ∙ f.1)
       nobody q (inr h) =

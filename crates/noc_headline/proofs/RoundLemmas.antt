@@ -13,7 +13,7 @@ use Rattle.noc_alloc.specs.Allocation.{grant_of, pick_of, picked_port, winner_of
 use Rattle.noc_alloc.proofs.WordLemmas.{is_some_of-true, is_some_of-some}
 use Rattle.noc_route.specs.Channel.{Channel}
 use Rattle.noc_router.specs.Verdict.{Claim, Unrouted, Waits, Holds, Stand, ask_of, asks_of, ready_of, ready_port}
-use Rattle.noc_model.specs.Network.{Setup, State, size, arriving, leaving, has_credit, claim_of, count_in, round_at, stand_of, stands_at, arbiters_at}
+use Rattle.noc_model.specs.Network.{Setup, State, size, arriving, leaving, has_credit_in, claim_of, count_in, round_at, stand_of, stands_at, arbiters_at}
 use Rattle.noc_views.proofs.Ordered.{IsGood, IsOrderedFrozen}
 use Rattle.noc_views.proofs.PlaceLemmas.{IsAt, arriving-at}
 use Rattle.noc_headline.specs.Headline.{GoesOnBy, AsksFor, CanSend, HoldsAt, WinsChannel, IsPick, PickGoesThrough, WinsSwitch}
@@ -59,7 +59,7 @@ module _ (net : Setup) (good : IsGood net) (F : State) (x : IsOrderedFrozen net 
       of_claim : (y : Claim) → claim_of net F r c ≡ y → ready_port vcs y (nat_lt 0 (count_in net F c)) ≡ Some port
       of_claim y k = ap (λ (z : Claim). ready_port vcs z (nat_lt 0 (count_in net F c))) (sym k) ∙ e
 
-      goes-by : (j : ℕ) → GoesOnBy net F r c j → (credit : Bool) → has_credit net F (leaving net r j) ≡ credit → (flit : Bool) → nat_lt 0 (count_in net F c) ≡ flit → ready_port vcs (Holds j credit) flit ≡ Some port
+      goes-by : (j : ℕ) → GoesOnBy net F r c j → (credit : Bool) → has_credit_in net F (leaving net r j) ≡ credit → (flit : Bool) → nat_lt 0 (count_in net F c) ≡ flit → ready_port vcs (Holds j credit) flit ≡ Some port
           → (o : ℕ) × CanSend net F r c o × (o / net.relation.vcs ≡ port)
       goes-by j g true h true f k = (j, record { goes = g; flit = ltb-true _ _ f; credit = credit-true net good F x r (leaving net r j) h }, same_Some _ _ k)
       goes-by j g true h false f k = absurd (none-some port k)
@@ -69,7 +69,7 @@ module _ (net : Setup) (good : IsGood net) (F : State) (x : IsOrderedFrozen net 
       by (off n k) = absurd (none-some port (of_claim Unrouted k))
       by (all_taken w n k) = absurd (none-some port (of_claim (Waits None) k))
       by (asks j a k) = absurd (none-some port (of_claim (Waits (Some j)) k))
-      by (goes j g k) = goes-by j g (has_credit net F (leaving net r j)) refl (nat_lt 0 (count_in net F c)) refl (of_claim (Holds j (has_credit net F (leaving net r j))) k)
+      by (goes j g k) = goes-by j g (has_credit_in net F (leaving net r j)) refl (nat_lt 0 (count_in net F c)) refl (of_claim (Holds j (has_credit_in net F (leaving net r j))) k)
 
   sends-ready : (i : ℕ) (c : Channel) → IsAt net good r i c → (o : ℕ) → CanSend net F r c o → ready c ≡ Some (o / net.relation.vcs)
   sends-ready i c at o s =

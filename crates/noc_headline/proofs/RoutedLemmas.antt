@@ -1,18 +1,19 @@
 -- Which channels are routed after the verdicts of a cycle, and which credits go back.
-use Rattle.std.proofs.Common.{◌≡◌, ℕ, Bool, true, false, List, ap, sym, refl, ◌∙◌, inl, inr, subst}
+use Rattle.std.proofs.Common.{◌≡◌, ℕ, Bool, true, false, List, ap, sym, refl, ◌∙◌, inl, inr}
 use Rattle.std.specs.Prelude.{◌⊎◌, ◌↔◌, ◌&&◌, ◌++◌, filter, not}
 use Rattle.std.proofs.lemmas.Bool.{false≢true, and_parts, and_from}
 use Rattle.noc_topo.specs.Words.{Has}
-use Rattle.noc_route.specs.Channel.{Channel, is_link, same_channel}
+use Rattle.noc_route.specs.Channel.{Channel, is_link}
 use Rattle.noc_router.specs.Verdict.{is_routed, is_moved}
 use Rattle.noc_router.specs.declared.verdict.Verdict.{Verdict}
 use Rattle.noc_router.specs.declared.verdict.Verdict.TheVariants.{Routed, Moved}
-use Rattle.noc_model.specs.Network.{Setup, State, In, all_inputs, has_channel, tail_leaves, verdict_in, after_verdicts}
-use Rattle.noc_ownership.proofs.BufferLemmas.{is_moved-true, same_channel-refl, same_channel-true}
-use Rattle.noc_ownership.proofs.Members.{Has-append, Has-filter, Has-kept, Has-left, Has-right, list_any-from, list_any-has}
+use Rattle.noc_model.specs.Network.{Setup, State, In, all_inputs, tail_leaves, verdict_in, after_verdicts}
+use Rattle.noc_ownership.proofs.BufferLemmas.{is_moved-true}
+use Rattle.noc_ownership.proofs.Members.{Has-append, Has-filter, Has-kept, Has-left, Has-right}
 use Rattle.noc_ownership.proofs.OwnedLemmas.{owner-has, owner-is}
 use Rattle.noc_ownership.proofs.VerdictPhase.{tail-of}
 use Rattle.noc_ownership.proofs.WormRecord.{last_of}
+use Rattle.noc_ownership.proofs.RoutedVerdicts.{has-channel, channel-has, is_routed-true}
 use Rattle.noc_views.proofs.Ordered.{IsGood, IsOrderedFrozen}
 use Rattle.noc_views.proofs.PlaceLemmas.{IsAt, arrives-in}
 use Rattle.noc_headline.specs.Effects.{IsTailSent}
@@ -20,18 +21,6 @@ use Rattle.noc_headline.specs.Headline.{IsRouted, Owns, Says}
 use Rattle.noc_headline.proofs.EffectLemmas.{first-sent, owns-placed, sent-first}
 use Rattle.noc_headline.proofs.ReleaseLemmas.{leaves, valid-tail}
 use Rattle.noc_headline.proofs.SaysLemmas.{verdict-says}
-
-is_routed-true : (v : Verdict) → is_routed v ≡ true → v ≡ Routed
-is_routed-true Routed e = refl
-is_routed-true _ e = absurd (false≢true e)
-
-has-listed : (c : Channel) (cs : List Channel) → has_channel cs c ≡ true → Has c cs
-has-listed c cs e =
-    let some = list_any-has (same_channel c) cs e in
-    subst (λ (d : Channel). Has d cs) (sym (same_channel-true c some.0 some.2)) some.1
-
-listed-has : (c : Channel) (cs : List Channel) → Has c cs → has_channel cs c ≡ true
-listed-has c cs h = list_any-from (same_channel c) cs c h (same_channel-refl c)
 
 module _ (net : Setup) (good : IsGood net) (F : State) (x : IsOrderedFrozen net F) (n : ℕ) where
   abbrev T : State
@@ -67,12 +56,12 @@ module _ (net : Setup) (good : IsGood net) (F : State) (x : IsOrderedFrozen net 
 
     routed-so : IsRouted net T r c → Says net F r i c Routed ⊎ (IsRouted net F r c × Stays c r)
     unfolding after_verdicts
-    routed-so e = by (Has-append c old new (has-listed c (old ++ new) e))
+    routed-so e = by (Has-append c old new (channel-has c (old ++ new) e))
       where
         by : Has c old ⊎ Has c new → Says net F r i c Routed ⊎ (IsRouted net F r c × Stays c r)
         by (inl h) =
             let f = Has-filter (λ c. not (tail_leaves net F c)) c F.routed h in
-            inr (listed-has c F.routed f.0, λ p own sent. false≢true (sym (ap not (sent-leaves c p (owner-has net F c p own) sent)) ∙ f.1))
+            inr (has-channel c F.routed f.0, λ p own sent. false≢true (sym (ap not (sent-leaves c p (owner-has net F c p own) sent)) ∙ f.1))
         by (inr h) =
             let f = Has-filter (λ c. is_routed (verdict_in net F c)) c (all_inputs net) h in
             inl ((says Routed).0 (is_routed-true _ f.1))
@@ -80,7 +69,7 @@ module _ (net : Setup) (good : IsGood net) (F : State) (x : IsOrderedFrozen net 
     so-routed : Says net F r i c Routed ⊎ (IsRouted net F r c × Stays c r) → IsRouted net T r c
     unfolding after_verdicts
     so-routed (inl s) =
-        listed-has c (old ++ new)
+        has-channel c (old ++ new)
         (Has-right c old new (Has-kept (λ c. is_routed (verdict_in net F c)) c (all_inputs net) (arrives-in net good at) (ap is_routed ((says Routed).1 s))))
     so-routed (inr (routed, stays)) = by (tail_leaves net F c) refl
       where
@@ -88,7 +77,7 @@ module _ (net : Setup) (good : IsGood net) (F : State) (x : IsOrderedFrozen net 
         by true e =
             let held = x.whole.routed.mid.only c routed in
             absurd (stays held.0 (owner-is net F c held.0 x.whole.sound.worm.once held.1.0) (leaves-sent c held.0 held.1.0 e))
-        by false e = listed-has c (old ++ new) (Has-left c old new (Has-kept (λ c. not (tail_leaves net F c)) c F.routed (has-listed c F.routed routed) (ap not e)))
+        by false e = has-channel c (old ++ new) (Has-left c old new (Has-kept (λ c. not (tail_leaves net F c)) c F.routed (channel-has c F.routed routed) (ap not e)))
 
     pub routed-after : IsRouted net T r c ↔ (Says net F r i c Routed ⊎ (IsRouted net F r c × Stays c r))
     routed-after = (routed-so, so-routed)

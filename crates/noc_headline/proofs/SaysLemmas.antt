@@ -1,7 +1,7 @@
 -- Each input channel gets each verdict exactly where that says what holds.
 use Rattle.std.proofs.Common.{◌≡◌, ℕ, ◌/◌, ◌%◌, ◌<◌, Bool, true, false, get_or, Option, Some, None, refl, ap, sym, ◌∙◌, subst}
 use Rattle.std.specs.Prelude.{nat_lt, if◌then◌else◌, ◌↔◌}
-use Rattle.std.proofs.lemmas.Bool.{false≢true, lt-ltb, ltb-true}
+use Rattle.std.proofs.lemmas.Bool.{false≢true, lt-ltb, ltb-true, false_from_ne_true}
 use Rattle.noc_topo.specs.Words.{is_some_of}
 use Rattle.noc_topo.specs.Shape.{nodes}
 use Rattle.noc_alloc.proofs.WordLemmas.{is_some_of-true, is_some_of-some}
@@ -9,19 +9,15 @@ use Rattle.noc_route.specs.Channel.{Channel}
 use Rattle.noc_router.specs.Verdict.{Claim, Unrouted, Waits, Holds, verdict_of}
 use Rattle.noc_router.specs.declared.verdict.Verdict.{Verdict}
 use Rattle.noc_router.specs.declared.verdict.Verdict.TheVariants.{Empty, Routed, Granted, Moved, NoFlit, NoIdleChannel, LostChannel, NoCredit, LostInput, LostSwitch}
-use Rattle.noc_model.specs.Network.{Setup, State, leaving, has_credit, claim_of, count_in, round_at, verdict_in}
+use Rattle.noc_model.specs.Network.{Setup, State, leaving, has_credit_in, claim_of, count_in, round_at, verdict_in}
 use Rattle.noc_views.proofs.Ordered.{IsGood, IsOrderedFrozen}
 use Rattle.noc_views.proofs.PlaceLemmas.{IsAt, port-below}
 use Rattle.noc_headline.specs.Headline.{HasFlit, GoesOnBy, AsksFor, CanSend, Says, IsPick}
 use Rattle.noc_headline.proofs.ClaimLemmas.{Case, off, all_taken, asks, goes, case-of, claim-off, claim-waits, claim-goes, ask-none, credit-true, credit-from, verdict-at}
 use Rattle.noc_headline.proofs.RoundLemmas.{asks-claim, sends-claim, granted-wins, wins-granted, picked-is, is-picked, won-is, is-won}
 
-fails : (b : Bool) → (b ≡ true → ⊥) → b ≡ false
-fails true n = absurd (n refl)
-fails false n = refl
-
 none-of : (o : Option ℕ) (k : ℕ) → (o ≡ Some k → ⊥) → is_some_of o k ≡ false
-none-of o k n = fails (is_some_of o k) (λ t. n (is_some_of-true o k t))
+none-of o k n = false_from_ne_true (is_some_of o k) (λ t. n (is_some_of-true o k t))
 
 module _ (net : Setup) (good : IsGood net) (F : State) (x : IsOrderedFrozen net F) (r : ℕ) (l : r < nodes net.relation.grid) (i : ℕ) (c : Channel) (at : IsAt net good r i c) where
   abbrev vcs : ℕ
@@ -68,7 +64,7 @@ module _ (net : Setup) (good : IsGood net) (F : State) (x : IsOrderedFrozen net 
         won-is net good F x r l (o / vcs) (i / vcs) (port-below net good o a.goes.exists) (is_some_of-true _ (i / vcs) w),
       )
 
-      sends : (o : ℕ) → GoesOnBy net F r c o → HasFlit net F r c → (b : Bool) → has_credit net F (leaving net r o) ≡ b → Is (verdict_of vcs (round_at net F r) i (Holds o b) true)
+      sends : (o : ℕ) → GoesOnBy net F r c o → HasFlit net F r c → (b : Bool) → has_credit_in net F (leaving net r o) ≡ b → Is (verdict_of vcs (round_at net F r) i (Holds o b) true)
       sends o g f false h = (o, g, f, λ k. false≢true (sym h ∙ credit-from net good F x r (leaving net r o) k))
       sends o g f true h =
           switch o (record { goes = g; flit = f; credit = credit-true net good F x r (leaving net r o) h })
@@ -79,14 +75,14 @@ module _ (net : Setup) (good : IsGood net) (F : State) (x : IsOrderedFrozen net 
       by (off n k) false f = subst Is (sym (value Unrouted false k f)) (n, empty f)
       by (all_taken w none k) b f = subst Is (sym (value (Waits None) b k f)) (w, none)
       by (asks o a k) b f = subst Is (sym (value (Waits (Some o)) b k f)) (choice o a (is_some_of (get_or (round_at net F r).grants o None) i) refl)
-      by (goes o g k) false f = subst Is (sym (value (Holds o (has_credit net F (leaving net r o))) false k f ∙ no_flits o (has_credit net F (leaving net r o)))) (o, g, empty f)
-      by (goes o g k) true f = subst Is (sym (value (Holds o (has_credit net F (leaving net r o))) true k f)) (sends o g (ltb-true _ _ f) (has_credit net F (leaving net r o)) refl)
+      by (goes o g k) false f = subst Is (sym (value (Holds o (has_credit_in net F (leaving net r o))) false k f ∙ no_flits o (has_credit_in net F (leaving net r o)))) (o, g, empty f)
+      by (goes o g k) true f = subst Is (sym (value (Holds o (has_credit_in net F (leaving net r o))) true k f)) (sends o g (ltb-true _ _ f) (has_credit_in net F (leaving net r o)) refl)
 
   some : HasFlit net F r c → nat_lt 0 (count_in net F c) ≡ true
   some h = lt-ltb _ _ h
 
   none : (¬ HasFlit net F r c) → nat_lt 0 (count_in net F c) ≡ false
-  none n = fails (nat_lt 0 (count_in net F c)) (λ t. n (ltb-true _ _ t))
+  none n = false_from_ne_true (nat_lt 0 (count_in net F c)) (λ t. n (ltb-true _ _ t))
 
   granted : (o : ℕ) → AsksFor net F r c o → (t : Bool) → is_some_of (get_or (round_at net F r).grants o None) i ≡ t → verdict_in net F c ≡ (if t then Granted else LostChannel)
   granted o a t e =
@@ -113,10 +109,10 @@ module _ (net : Setup) (good : IsGood net) (F : State) (x : IsOrderedFrozen net 
       ∙ ap Waits (ask-none net good F x r held.0 c (Rattle.noc_ownership.proofs.OwnedLemmas.owner-is net F c held.0 x.whole.sound.worm.once held.1.0) s.1)) refl
   back LostChannel s = granted s.0 s.1 false (none-of _ i (λ g. s.2 (granted-wins net good F x r l i s.0 s.1.may.exists g)))
   back Granted s = granted s.0 s.1 true (is_some_of-some _ i (wins-granted net good F x r l i s.0 s.1.may.exists s.2))
-  back NoFlit s = value (Holds s.0 (has_credit net F (leaving net r s.0))) false (claim-goes net good F x r i c at s.0 s.1) (none s.2) ∙ no_flits s.0 (has_credit net F (leaving net r s.0))
+  back NoFlit s = value (Holds s.0 (has_credit_in net F (leaving net r s.0))) false (claim-goes net good F x r i c at s.0 s.1) (none s.2) ∙ no_flits s.0 (has_credit_in net F (leaving net r s.0))
   back NoCredit s =
       value (Holds s.0 false) true
-      (claim-goes net good F x r i c at s.0 s.1 ∙ ap (Holds s.0) (fails (has_credit net F (leaving net r s.0)) (λ t. s.3 (credit-true net good F x r (leaving net r s.0) t)))) (some s.2)
+      (claim-goes net good F x r i c at s.0 s.1 ∙ ap (Holds s.0) (false_from_ne_true (has_credit_in net F (leaving net r s.0)) (λ t. s.3 (credit-true net good F x r (leaving net r s.0) t)))) (some s.2)
   back LostInput s =
       sent s.0 s.1 false (none-of _ (i % vcs) (λ g. s.2 (picked-is net good F x r l (i / vcs) (i % vcs) in_port g)))
       (is_some_of (get_or (round_at net F r).wins (s.0 / vcs) None) (i / vcs)) refl

@@ -14,11 +14,12 @@ use Rattle.noc_route.specs.Channel.{Channel}
 use Rattle.noc_router.specs.Verdict.{Claim, out_of}
 use Rattle.noc_router.specs.View.{View, port_and_vc, view_buffer}
 use Rattle.noc_router.specs.declared.verdict.Finding.{Finding}
+use Rattle.noc_router.specs.Counts.{one_if}
 use Rattle.noc_model.specs.declared.event.Event.{Event}
 use Rattle.noc_model.specs.declared.limits.TheConstants.{CYCLE_LIMIT}
 use Rattle.noc_model.specs.Core.{CoreState, Post, after_events, are_between, has_beat, opening_core, post_at, wire_of}
 use Rattle.noc_model.specs.Halves.{beat_at}
-use Rattle.noc_model.specs.InStep.{HoldsCycles, IsInStep, IsPostInStep, KeepsStep, beats_of_cycles, cycle_put, cycle_taken, lockstep_core, one_if}
+use Rattle.noc_model.specs.InStep.{HoldsCycles, IsInStep, IsPostInStep, KeepsStep, beats_of_cycles, cycle_put, cycle_taken, lockstep_core}
 use Rattle.noc_model.specs.Lockstep.{lockstep_at, view_at, view_in, findings_in_cycle, finding_in, seen_flits, site_at}
 use Rattle.noc_model.specs.Network.{Setup, Run, Located, size, packet_at, arriving, buffer_of, owner_of, state_at, frozen_at, claim_of}
 use Rattle.noc_model.specs.Order.{decides, happening, puts, takes}

@@ -7,18 +7,20 @@ use Rattle.std.proofs.lemmas.Option.{same_Some, slice_get_within}
 use Rattle.noc_topo.specs.Shape.{IsLinkBack, neighbour, nodes}
 use Rattle.noc_topo.proofs.LinkLemmas.{link_back}
 use Rattle.noc_packet.specs.declared.packet.Beat.{Beat}
+use Rattle.noc_route.proofs.OptionLemmas.{some-value}
 use Rattle.noc_router.specs.View.{idle_beat}
+use Rattle.noc_router.specs.Counts.{one_if}
 use Rattle.noc_model.specs.declared.event.Event.{Event}
 use Rattle.noc_model.specs.declared.event.Event.TheVariants.{Take, Decide, Put}
 use Rattle.noc_model.specs.Core.{CoreState, Post, beat_to_send, deciding, happens, has_beat, holds_at, is_linked, is_ready, may_decide, may_put, may_take, onto_wire, post_at, putting, receiving, taking, wire_of, with_post}
 use Rattle.noc_model.specs.Halves.{beat_at}
-use Rattle.noc_model.specs.InStep.{IsInStep, IsPostInStep, cycle_put, cycle_taken, one_if}
+use Rattle.noc_model.specs.InStep.{IsInStep, IsPostInStep, cycle_put, cycle_taken}
 use Rattle.noc_model.specs.Lockstep.{lockstep_at}
 use Rattle.noc_model.specs.Network.{Setup}
 use Rattle.noc_model.specs.Order.{is_put, is_take}
 use Rattle.noc_model.proofs.EventLemmas.{Moves, both, decided_post, finished-wires, linked_port, linked_when, may_decide-parts, may_take-parts, moves-deciding, moves-decide_other, moves-put_other, moves-putting, moves-take_other, moves-taking, not_first, not_second, put_post}
 use Rattle.noc_model.proofs.InStepLemmas.{decided_in_step, finished_in_step, holds_first, holds_put, holds_same, holds_taken, put_in_step, receiving_in_step, taking_in_step, view_now}
-use Rattle.noc_model.proofs.PostLemmas.{beat_when, get_changed_other, get_changed_same, length-changed_at, post_before, router_when, some_when}
+use Rattle.noc_model.proofs.PostLemmas.{beat_when, get_changed_other, get_changed_same, length-changed_at, post_before, router_when}
 use Rattle.noc_model.proofs.SentLemmas.{count_sent}
 use Rattle.noc_model.proofs.WireLemmas.{same-ports}
 
@@ -140,7 +142,7 @@ take_in_step limit k x p sound link ready = record {
         let parts = may_take-parts limit p before (at_router (may_take limit p) k x before ready at) in
         taking_in_step limit k.net x p before (sound.posts x before at) link parts.0
         (λ beat e.
-        let to = some_when (neighbour k.net.relation.grid x p) link in
+        let to = some-value (neighbour k.net.relation.grid x p) link in
         let s = to.0.0 in
         let q = to.0.1 in
         let back = link_back k.net.relation.grid x p s q sound.grid (router_within limit k sound x before at) to.1 in
@@ -381,7 +383,7 @@ moves limit k (Take x p) r post sound ready at =
 moves limit k (Decide x) r post sound ready at = decide_moves limit k x r post sound ready at
 moves limit k (Put x p) r post sound ready at =
     let parts = and_parts (is_linked k.net x p) (holds_at (may_put p) (post_at k x)) ready in
-    let to = some_when (neighbour k.net.relation.grid x p) parts.0 in
+    let to = some-value (neighbour k.net.relation.grid x p) parts.0 in
     put_moves limit k x p to.0.0 to.0.1 r post sound parts.0 parts.1 (subst (λ (t : Option (ℕ × ℕ)). post_at (put_core k x p t) r ≡ Some post) to.1 at)
 
 pub happens_in_step : (limit : ℕ) (k : CoreState) (e : Event) → IsInStep limit k → is_ready limit k e ≡ true → IsInStep limit (happens k e)
@@ -392,5 +394,5 @@ happens_in_step limit k (Take x p) sound ready =
 happens_in_step limit k (Decide x) sound ready = decide_in_step limit k x sound ready
 happens_in_step limit k (Put x p) sound ready =
     let parts = and_parts (is_linked k.net x p) (holds_at (may_put p) (post_at k x)) ready in
-    let to = some_when (neighbour k.net.relation.grid x p) parts.0 in
+    let to = some-value (neighbour k.net.relation.grid x p) parts.0 in
     subst (λ (t : Option (ℕ × ℕ)). IsInStep limit (put_core k x p t)) (sym to.1) (put_in_core limit k x p to.0.0 to.0.1 sound to.1 parts.1)

@@ -8,10 +8,11 @@ use Rattle.noc_topo.specs.Shape.{neighbour}
 use Rattle.noc_topo.proofs.WordLemmas.{get_or-map_indexed}
 use Rattle.noc_packet.specs.declared.packet.Beat.{Beat}
 use Rattle.noc_router.specs.View.{local_step, idle_beat}
+use Rattle.noc_router.specs.Counts.{one_if}
 use Rattle.noc_model.specs.declared.event.Event.{Event}
 use Rattle.noc_model.specs.declared.event.Event.TheVariants.{Take, Decide, Put}
 use Rattle.noc_model.specs.Core.{Post, all_have, deciding, finished, has_beat, is_linked, links, may_decide, may_put, may_take, none_has, putting, rested, taking, wire_of}
-use Rattle.noc_model.specs.InStep.{IsPostInStep, cycle_of, cycle_put, cycle_taken, one_if}
+use Rattle.noc_model.specs.InStep.{IsPostInStep, cycle_of, cycle_put, cycle_taken}
 use Rattle.noc_model.specs.Network.{Setup}
 use Rattle.noc_model.specs.Order.{is_decide, is_put, is_take}
 use Rattle.noc_model.proofs.PostLemmas.{all_below, has_none, has_past, has_set_other, has_set_same}

@@ -10,14 +10,16 @@ use Rattle.noc_topo.specs.Shape.{IsGrid, neighbour, nodes}
 use Rattle.noc_topo.proofs.LinkLemmas.{link_back}
 use Rattle.noc_topo.proofs.WordLemmas.{length-map_indexed}
 use Rattle.noc_packet.specs.declared.packet.Beat.{Beat}
+use Rattle.noc_route.proofs.OptionLemmas.{no-value}
 use Rattle.noc_router.specs.View.{local_step, idle_beat}
+use Rattle.noc_router.specs.Counts.{one_if}
 use Rattle.noc_model.specs.Core.{Post, all_have, finished, has_beat, is_linked, links, may_decide, no_beats, none_has, receiving, rested, taking, wire_of}
 use Rattle.noc_model.specs.Halves.{beat_at}
-use Rattle.noc_model.specs.InStep.{HoldsCycles, IsPostInStep, beats_of_cycles, cycle_of, one_if}
+use Rattle.noc_model.specs.InStep.{HoldsCycles, IsPostInStep, beats_of_cycles, cycle_of}
 use Rattle.noc_model.specs.Lockstep.{beats_at, lockstep_at}
 use Rattle.noc_model.specs.Network.{Setup}
 use Rattle.noc_model.proofs.EventLemmas.{all_at, decided_post, front_some, has_decided, linked_port, linked_when, may_decide-parts, put_post}
-use Rattle.noc_model.proofs.PostLemmas.{has_none, has_set_other, has_set_same, none_when}
+use Rattle.noc_model.proofs.PostLemmas.{has_none, has_set_other, has_set_same}
 use Rattle.noc_model.proofs.RunLemmas.{count_row}
 use Rattle.noc_model.proofs.SentLemmas.{count_sent, next_view, sent_beat, unlinked_beat, view_within}
 
@@ -94,7 +96,7 @@ taken_beats limit net r post sound all in_net =
     by port (Some beat) e = sound.beats_taken port beat e
     by port None e =
         let none : is_linked net r port ≡ false = unlinked (is_linked net r port) refl in
-        sym (unlinked_beat net post.steps r port (none_when (neighbour net.relation.grid r port) none))
+        sym (unlinked_beat net post.steps r port (no-value (neighbour net.relation.grid r port) none))
       where
         unlinked : (b : Bool) → is_linked net r port ≡ b → is_linked net r port ≡ false
         unlinked false f = f

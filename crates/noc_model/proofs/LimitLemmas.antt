@@ -6,10 +6,11 @@ use Rattle.std.proofs.lemmas.Bool.{and_parts, ltb-true, eqb-true}
 use Rattle.noc_topo.specs.Words.{map_indexed}
 use Rattle.noc_topo.proofs.WordLemmas.{length-map_indexed, get_or-map_indexed}
 use Rattle.noc_router.specs.View.{View}
+use Rattle.noc_router.specs.Counts.{one_if}
 use Rattle.noc_model.specs.declared.event.Event.{Event}
 use Rattle.noc_model.specs.declared.event.Event.TheVariants.{Take, Decide, Put}
 use Rattle.noc_model.specs.Core.{CoreState, Post, happens, is_ready, may_decide, all_have, holds_at, post_at, rested}
-use Rattle.noc_model.specs.InStep.{AreWithin, IsInStep, cycle_of, lockstep_core, lockstep_wires, one_if}
+use Rattle.noc_model.specs.InStep.{AreWithin, IsInStep, cycle_of, lockstep_core, lockstep_wires}
 use Rattle.noc_model.specs.Lockstep.{lockstep_at}
 use Rattle.noc_model.specs.Network.{Run}
 use Rattle.noc_model.specs.Order.{is_decide}

@@ -9,6 +9,7 @@ use Rattle.std.proofs.lemmas.Option.{none-some, same_Some}
 use Rattle.noc_topo.specs.Words.{below}
 use Rattle.noc_topo.proofs.WordLemmas.{length-below, get_or-below}
 use Rattle.noc_packet.specs.declared.packet.Beat.{Beat}
+use Rattle.noc_route.proofs.OptionLemmas.{some-value}
 use Rattle.noc_router.specs.View.{View}
 use Rattle.noc_model.specs.Core.{CoreState, Post, changed_at, has_beat, holds_at, post_at, with_post}
 
@@ -36,14 +37,6 @@ length-changed_at (suc i) f (x ∷ xs) = ap suc (length-changed_at i f xs)
 pub some_of_map : {X Y : Type 0} (f : X → Y) (o : Option X) (y : Y) → option_map f o ≡ Some y → (x : X) × (o ≡ Some x) × (f x ≡ y)
 some_of_map f None y e = absurd (none-some y e)
 some_of_map f (Some x) y e = (x, refl, same_Some (f x) y e)
-
-pub some_when : {X : Type 0} (o : Option X) → is_some o ≡ true → (x : X) × (o ≡ Some x)
-some_when None e = absurd (false≢true e)
-some_when (Some x) e = (x, refl)
-
-pub none_when : {X : Type 0} (o : Option X) → is_some o ≡ false → o ≡ None
-none_when None e = refl
-none_when (Some x) e = absurd (false≢true (sym e))
 
 -- the router of which something holds
 pub router_when : (may : Post → Bool) (o : Option Post) → holds_at may o ≡ true → (post : Post) × (o ≡ Some post) × (may post ≡ true)
@@ -75,7 +68,7 @@ all_below p n i e l =
 -- ---- what there is at a port
 
 pub beat_when : (beats : List (Option Beat)) (port : ℕ) → has_beat beats port ≡ true → (beat : Beat) × (slice_index_or beats port None ≡ Some beat)
-beat_when beats port e = some_when (get_or beats port None) e
+beat_when beats port e = some-value (get_or beats port None) e
 
 pub has_none : (n port : ℕ) → has_beat (replicate n None) port ≡ false
 has_none n port =

@@ -1,73 +1,23 @@
 -- What taking, injecting and committing leave of a router, and the two halves of its step.
-use Rattle.std.proofs.Common.{◌≡◌, ◌≢◌, ℕ, zero, suc, ◌+◌, ◌<◌, ◌≤◌, Bool, true, false, List, [], ◌∷◌, length, get_or, set, Option, Some, None, refl, ap, sym, ◌∙◌, ⊎_elim, arith}
-use Rattle.std.specs.Prelude.{if◌then◌else◌, find, nat_le}
+use Rattle.std.proofs.Common.{◌≡◌, ◌≢◌, ℕ, suc, ◌+◌, ◌<◌, ◌≤◌, Bool, true, false, List, [], ◌∷◌, length, get_or, set, Option, Some, None, refl, ap, sym, ◌∙◌, ⊎_elim, arith}
+use Rattle.std.specs.Prelude.{if◌then◌else◌}
 use Rattle.std.proofs.lemmas.Bool.{cases_eq, cases_lt}
 use Rattle.std.proofs.lemmas.List.{get_or-set_same, get_or-set_other, get_or_past, length-set}
-use Rattle.noc_topo.specs.Words.{below}
 use Rattle.noc_topo.specs.Shape.{Grid, local_port}
 use Rattle.noc_topo.proofs.WordLemmas.{length-tabulate, get_or-tabulate, tabulate-from_each}
-use Rattle.noc_packet.specs.declared.packet.Packet.{Packet}
-use Rattle.noc_packet.specs.declared.packet.Flit.{Flit}
 use Rattle.noc_packet.specs.declared.packet.Beat.{Beat}
 use Rattle.noc_route.specs.Routes.{Routes}
-use Rattle.noc_router.specs.View.{Site, View, Decisions, IsRelationOf, taken, taken_from, all_taken, injected, injected_from, begun_on, is_vacant, planned, committed, local_step, with_flit, with_credit, with_arrival, tail_packet, flit_out, idle_beat}
+use Rattle.noc_router.specs.View.{Site, View, Decisions, IsRelationOf, taken, taken_from, all_taken, injected, planned, committed, local_step, with_flit, with_credit, with_arrival, tail_packet, flit_out, idle_beat}
+use Rattle.noc_router.proofs.SiteLemmas.{all_taken-site, committed-site, injected-site}
 use Rattle.noc_model.specs.Halves.{IsSilent, decided, emptied, incoming}
-
--- a choice of two views of one site
-either_site : (b : Bool) (x y : View) (s : Site) → x.site ≡ s → y.site ≡ s → (if b then x else y).site ≡ s
-either_site true x y s p q = p
-either_site false x y s p q = q
 
 either_count : (b : Bool) (x y : View) (n : ℕ) → length x.to_put ≡ n → length y.to_put ≡ n → length (if b then x else y).to_put ≡ n
 either_count true x y n p q = p
 either_count false x y n p q = q
 
-site-with_flit : (relation : Routes) (port : ℕ) (f : Option (ℕ × Flit)) (v : View) → (with_flit relation port f v).site ≡ v.site
-site-with_flit relation port None v = refl
-site-with_flit relation port (Some (vc, f)) v = either_site _ _ _ v.site refl refl
-
-site-with_credit : (port : ℕ) (c : Option ℕ) (v : View) → (with_credit port c v).site ≡ v.site
-site-with_credit port None v = refl
-site-with_credit port (Some vc) v = either_site _ _ _ v.site refl refl
-
-pub site-taken : (relation : Routes) (port : ℕ) (beat : Beat) (v : View) → (taken relation port beat v).site ≡ v.site
-unfolding taken
-site-taken relation port beat v = site-with_credit port beat.credit (with_flit relation port beat.flit v) ∙ site-with_flit relation port beat.flit v
-
-site-taken_from : (relation : Routes) (port : ℕ) (beats : List Beat) (v : View) → (taken_from relation port beats v).site ≡ v.site
-site-taken_from relation port [] v = refl
-site-taken_from relation port (beat ∷ beats) v = site-taken_from relation (port + 1) beats (taken relation port beat v) ∙ site-taken relation port beat v
-
-pub site-all_taken : (relation : Routes) (beats : List Beat) (v : View) → (all_taken relation beats v).site ≡ v.site
-unfolding all_taken
-site-all_taken relation beats v = site-taken_from relation 0 beats v
-
-site-begun_on : (vc : Option ℕ) (number : ℕ) (p : Packet) (rest : List (ℕ × Packet)) (v : View) → (begun_on vc number p rest v).site ≡ v.site
-site-begun_on None number p rest v = refl
-site-begun_on (Some vc) number p rest v = refl
-
-site-injected_from : (n : ℕ) (queue : List (ℕ × Packet)) (sending : Option (ℕ × ℕ)) (v : View) → (injected_from n queue sending v).site ≡ v.site
-site-injected_from n [] sending v = refl
-site-injected_from n ((number, p) ∷ rest) (Some (vc, index)) v = either_site _ _ _ v.site refl refl
-site-injected_from n ((number, p) ∷ rest) None v =
-    either_site (nat_le p.due n) (begun_on (find (is_vacant v) (below v.site.vcs)) number p rest v) v v.site
-    (site-begun_on (find (is_vacant v) (below v.site.vcs)) number p rest v) refl
-
-pub site-injected : (n : ℕ) (v : View) → (injected n v).site ≡ v.site
-unfolding injected
-site-injected n v = site-injected_from n v.queue v.sending (record v { given = n })
-
-site-with_arrival : (p : Option ℕ) (v : View) → (with_arrival p v).site ≡ v.site
-site-with_arrival None v = refl
-site-with_arrival (Some p) v = either_site _ _ _ v.site refl refl
-
 count-with_arrival : (p : Option ℕ) (v : View) → length (with_arrival p v).to_put ≡ length v.to_put
 count-with_arrival None v = refl
 count-with_arrival (Some p) v = either_count _ _ _ (length v.to_put) refl refl
-
-pub site-committed : (d : Decisions) (v : View) → (committed d v).site ≡ v.site
-unfolding committed
-site-committed d v = site-with_arrival (tail_packet (flit_out v d.round (local_port v.site.grid))) _
 
 pub count-committed : (d : Decisions) (v : View) → length (committed d v).to_put ≡ local_port v.site.grid
 unfolding committed
@@ -76,15 +26,15 @@ count-committed d v = count-with_arrival (tail_packet (flit_out v d.round (local
 pub site-decided : (relation : Routes) (n : ℕ) (beats : List Beat) (v : View) → (decided relation n beats v).site ≡ v.site
 unfolding decided
 site-decided relation n beats v =
-    let taken_site : (all_taken relation beats v).site ≡ v.site = site-all_taken relation beats v in
-    let injected_site : (injected n (all_taken relation beats v)).site ≡ v.site = site-injected n (all_taken relation beats v) ∙ taken_site in
-    site-committed (planned relation (injected n (all_taken relation beats v))) (injected n (all_taken relation beats v)) ∙ injected_site
+    let taken_site : (all_taken relation beats v).site ≡ v.site = all_taken-site relation beats v in
+    let injected_site : (injected n (all_taken relation beats v)).site ≡ v.site = injected-site n (all_taken relation beats v) ∙ taken_site in
+    committed-site (planned relation (injected n (all_taken relation beats v))) (injected n (all_taken relation beats v)) ∙ injected_site
 
 pub count-decided : (relation : Routes) (n : ℕ) (beats : List Beat) (v : View) → length (decided relation n beats v).to_put ≡ local_port v.site.grid
 unfolding decided
 count-decided relation n beats v =
     let frozen = injected n (all_taken relation beats v) in
-    let injected_site : (injected n (all_taken relation beats v)).site ≡ v.site = site-injected n (all_taken relation beats v) ∙ site-all_taken relation beats v in
+    let injected_site : (injected n (all_taken relation beats v)).site ≡ v.site = injected-site n (all_taken relation beats v) ∙ all_taken-site relation beats v in
     count-committed (planned relation frozen) frozen ∙ ap (λ (s : Site). local_port s.grid) injected_site
 
 -- the whole step is the first half, and then all beats are put

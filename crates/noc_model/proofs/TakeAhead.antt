@@ -1,5 +1,5 @@
 -- A part of what came to one port is taken ahead of all else.
-use Rattle.std.proofs.Common.{◌≡◌, ◌≢◌, ℕ, zero, suc, ◌+◌, ◌<◌, List, [], ◌∷◌, length, get_or, set, refl, ap, sym, ◌∙◌, arith}
+use Rattle.std.proofs.Common.{◌≡◌, ◌≢◌, ℕ, zero, suc, ◌+◌, ◌<◌, List, [], ◌∷◌, length, get_or, set, ap, sym, ◌∙◌, arith}
 use Rattle.noc_topo.specs.Shape.{Grid, local_port}
 use Rattle.noc_topo.proofs.WordLemmas.{get_or-tabulate, length-tabulate}
 use Rattle.noc_packet.specs.declared.packet.Beat.{Beat}

@@ -10,6 +10,7 @@ use Rattle.noc_route.specs.Routes.{Routes}
 use Rattle.noc_vc.specs.Input.{Input, idle_input, fits, landed}
 use Rattle.noc_vc.specs.Output.{Output, ejection_output, credit_fits, credited}
 use Rattle.noc_router.specs.View.{View, has_link, view_buffer, view_input, view_output, with_flit, with_landed, with_misfit, with_credit, taken}
+use Rattle.noc_router.proofs.TakeLemmas.{lands, not_second}
 
 -- ---- what fits changes a view, and what does not is a misfit
 
@@ -46,11 +47,6 @@ acted-swapped fit fit' change change' v misfit misfit' kept' kept same apart apa
 
 -- ---- a flit and a credit
 
--- whether a flit lands
-abbrev lands : Routes → ℕ → ℕ → Flit → View → Bool
-lands relation port vc f v =
-    has_link v.site port && nat_lt vc v.site.vcs && fits relation v.site.node port vc v.site.places (view_buffer v (port * v.site.vcs + vc)) (view_input v (port * v.site.vcs + vc)) f
-
 -- .. and the view then
 abbrev land : ℕ → ℕ → Flit → View → View
 land port vc f v = with_landed (port * v.site.vcs + vc) f v
@@ -67,11 +63,6 @@ second_of : (a b d : Bool) → (a && b && d) ≡ true → b ≡ true
 second_of true true d e = refl
 second_of true false d e = absurd (cc)
 second_of false b d e = absurd (cc)
-
-second_not : (a b d : Bool) → b ≡ false → (a && b && d) ≡ false
-second_not false b d e = refl
-second_not true false d e = refl
-second_not true true d e = absurd (cc)
 
 -- channels of different ports have different indices
 channels_apart : (p q a b n : ℕ) → p ≢ q → a < n → b < n → p * n + a ≢ q * n + b
@@ -101,8 +92,8 @@ lands-kept relation p q a b f g v other e = at (cases_lt a v.site.vcs)
         (get_or-set_other v.inputs j i (landed (view_input v j) g) idle_input apart)
     at (inr past) =
         let w = land q b g v in
-        second_not (has_link v.site p) (nat_lt a v.site.vcs) (fits relation v.site.node p a v.site.places (view_buffer w (p * v.site.vcs + a)) (view_input w (p * v.site.vcs + a)) f) (le-ltb a v.site.vcs past)
-        ∙ sym (second_not (has_link v.site p) (nat_lt a v.site.vcs) (fits relation v.site.node p a v.site.places (view_buffer v (p * v.site.vcs + a)) (view_input v (p * v.site.vcs + a)) f) (le-ltb a v.site.vcs past))
+        not_second (has_link v.site p) (nat_lt a v.site.vcs) (fits relation v.site.node p a v.site.places (view_buffer w (p * v.site.vcs + a)) (view_input w (p * v.site.vcs + a)) f) (le-ltb a v.site.vcs past)
+        ∙ sym (not_second (has_link v.site p) (nat_lt a v.site.vcs) (fits relation v.site.node p a v.site.places (view_buffer v (p * v.site.vcs + a)) (view_input v (p * v.site.vcs + a)) f) (le-ltb a v.site.vcs past))
 
 arrives-kept : (p q a b : ℕ) (v : View) → p ≢ q → arrives q b v ≡ true → arrives p a (arrive q b v) ≡ arrives p a v
 arrives-kept p q a b v other e = at (cases_lt a v.site.vcs)
@@ -116,8 +107,8 @@ arrives-kept p q a b v other e = at (cases_lt a v.site.vcs)
         ap (λ output. has_link v.site p && nat_lt a n && credit_fits output)
         (get_or-set_other v.outputs j i (credited (view_output v j)) ejection_output apart)
     at (inr past) =
-        second_not (has_link v.site p) (nat_lt a v.site.vcs) (credit_fits (view_output (arrive q b v) (p * v.site.vcs + a))) (le-ltb a v.site.vcs past)
-        ∙ sym (second_not (has_link v.site p) (nat_lt a v.site.vcs) (credit_fits (view_output v (p * v.site.vcs + a))) (le-ltb a v.site.vcs past))
+        not_second (has_link v.site p) (nat_lt a v.site.vcs) (credit_fits (view_output (arrive q b v) (p * v.site.vcs + a))) (le-ltb a v.site.vcs past)
+        ∙ sym (not_second (has_link v.site p) (nat_lt a v.site.vcs) (credit_fits (view_output v (p * v.site.vcs + a))) (le-ltb a v.site.vcs past))
 
 -- two flits land in any order
 land-swapped : (p q a b : ℕ) (f g : Flit) (v : View) → p * v.site.vcs + a ≢ q * v.site.vcs + b → land p a f (land q b g v) ≡ land q b g (land p a f v)

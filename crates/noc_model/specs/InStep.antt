@@ -1,20 +1,17 @@
 -- What stays true of a core, whatever events come: each router is in a cycle of the lockstep run, and each wire holds its beats
 -- of the cycles between those of its ends.
-use Rattle.std.specs.Prelude.{◌≡◌, ℕ, ◌+◌, ◌-◌, ◌<◌, ◌≤◌, Bool, true, false, ◌&&◌, not, List, [], ◌∷◌, map, length, Some, None, slice_get, slice_index_or, if◌then◌else◌}
+use Rattle.std.specs.Prelude.{◌≡◌, ℕ, ◌+◌, ◌-◌, ◌<◌, ◌≤◌, true, false, ◌&&◌, not, List, [], ◌∷◌, map, length, Some, None, slice_get, slice_index_or, if◌then◌else◌}
 use Rattle.std.specs.List.{range_with_len}
 use Rattle.noc_topo.specs.Shape.{IsGrid, nodes, neighbour}
 use Rattle.noc_packet.specs.declared.packet.Beat.{Beat}
 use Rattle.noc_topo.specs.Words.{map_indexed, tabulate}
+use Rattle.noc_router.specs.Counts.{one_if}
 use Rattle.noc_model.specs.Core.{Post, CoreState, links, is_linked, post_at, rested, wire_of, has_beat, is_between, are_between}
 use Rattle.noc_model.specs.Order.{takes, decides, puts}
 use Rattle.noc_model.specs.declared.event.Event.{Event}
 use Rattle.noc_model.specs.Halves.{beat_at}
 use Rattle.noc_model.specs.Lockstep.{lockstep_at}
 use Rattle.noc_model.specs.Network.{Setup, Run}
-
--- one where it holds
-abbrev pub one_if : Bool → ℕ
-one_if b = if b then 1 else 0
 
 -- the cycle at whose start the router is seen
 abbrev pub cycle_of : Post → ℕ

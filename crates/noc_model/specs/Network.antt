@@ -160,8 +160,8 @@ module _ (net : Setup) where
   is_idle S o = is_none (owner_of S o)
 
   -- an ejection channel, or a link channel with a credit
-  abbrev pub has_credit : State → Channel → Bool
-  has_credit S o = not (is_link o) || nat_lt 0 (credit_of S o)
+  abbrev pub has_credit_in : State → Channel → Bool
+  has_credit_in S o = not (is_link o) || nat_lt 0 (credit_of S o)
 
   -- whether o begins at the router where c ends
   abbrev pub leads_from : Channel → Channel → Bool
@@ -279,7 +279,7 @@ module _ (net : Setup) where
   -- .. which has this next channel
   abbrev pub claim_with : State → ℕ → Channel → Option Channel → Claim
   claim_with F r c None = Waits (ask F r c)
-  claim_with F r c (Some o) = Holds (output_index net.relation.grid net.relation.vcs o) (has_credit F o)
+  claim_with F r c (Some o) = Holds (output_index net.relation.grid net.relation.vcs o) (has_credit_in F o)
 
   -- what c, which ends at router r, can go on with
   abbrev pub claim_of : State → ℕ → Channel → Claim

@@ -18,8 +18,8 @@ use Rattle.noc_model.specs.Network.{Run, Setup}
 use Rattle.noc_model.specs.Progress.{last_event_before}
 use Rattle.noc_ownership.proofs.GrantLemmas.{Has-below}
 use Rattle.noc_ownership.proofs.Members.{Has-map, Has-mapped}
+use Rattle.noc_ownership.proofs.OpeningLemmas.{below-has}
 use Rattle.noc_views.proofs.LastEvent.{last-is}
-use Rattle.noc_views.proofs.PlaceLemmas.{has-below}
 
 pub count_routers : (parts : Parts) → AreParts parts → vec_len parts.routers ≡ nodes parts.relation.grid
 count_routers parts sound =
@@ -130,7 +130,7 @@ tabulated n f x h = let m = Has-map f x (below n) h in (m.0, Has-below m.0 n m.1
 
 tabulate-has : {X : Type 0} (n : ℕ) (f : ℕ → X) (i : ℕ) → i < n → Has (f i) (tabulate n f)
 unfolding tabulate
-tabulate-has n f i l = Has-mapped f i (below n) (has-below i n l)
+tabulate-has n f i l = Has-mapped f i (below n) (below-has i n l)
 
 -- the latest event of the routers is the last of the network
 pub latest-is : (parts : Parts) → AreParts parts → (u : Run) → run_in parts ≡ u → (last : Option ℕ) (views : List View) → views ≡ parts.routers.items → last ≡ latest_of views → last ≡ last_event_before u.net u.count

@@ -11,6 +11,7 @@ use Rattle.noc_topo.proofs.WordLemmas.{get_or-map_indexed, get_or-tabulate, leng
 use Rattle.noc_topo.proofs.LinkLemmas.{link_back, nodes-some}
 use Rattle.noc_packet.specs.declared.packet.Beat.{Beat}
 use Rattle.noc_topo.specs.Shape.{local_port, neighbour, nodes}
+use Rattle.noc_route.proofs.OptionLemmas.{no-value, some-value}
 use Rattle.noc_router.specs.View.{Site, View, IsRelationOf, idle_beat}
 use Rattle.noc_model.specs.declared.event.Event.{Event}
 use Rattle.noc_model.specs.declared.event.Event.TheVariants.{Take, Decide, Put}
@@ -31,7 +32,7 @@ use Rattle.noc_model.proofs.EventLemmas.{finished-wires, put_post}
 use Rattle.noc_model.proofs.LimitLemmas.{happens-within}
 use Rattle.noc_model.proofs.OrderLemmas.{between-cycle, here_between, room_for_beat, wire_there}
 use Rattle.noc_net.proofs.PartsLemmas.{views-in_step, wires-in_step}
-use Rattle.noc_model.proofs.PostLemmas.{none_when, router_when, some_when}
+use Rattle.noc_model.proofs.PostLemmas.{router_when}
 use Rattle.noc_model.proofs.SentLemmas.{unlinked_beat, view_site}
 
 -- ---- each router with its room
@@ -221,7 +222,7 @@ post_of_router parts sound routers rooms r l view read =
     (room.0, post_there (local_port parts.relation.grid) parts.routers.items parts.room.items r view room.0 (read_there parts.routers.items r view (omega (arith, parts.routers.ok.0)) read) room.1)
 
 pub router_exists : (k : CoreState) → IsInStep CYCLE_LIMIT k → (r : ℕ) → is_some (post_at k r) ≡ true → r < nodes k.net.relation.grid
-router_exists k sound r e = let post = some_when (post_at k r) e in router_within CYCLE_LIMIT k sound r post.0 post.1
+router_exists k sound r e = let post = some-value (post_at k r) e in router_within CYCLE_LIMIT k sound r post.0 post.1
 
 pub no_router : (k : CoreState) → IsInStep CYCLE_LIMIT k → (r : ℕ) → nodes k.net.relation.grid ≤ r → post_at k r ≡ None
 no_router k sound r past = slice_get_past k.posts r (omega (arith, sound.count))
@@ -281,7 +282,7 @@ all_rest size n net (view ∷ views) (room ∷ rooms) e =
 front_there : (net : Setup) (n r port : ℕ) (linked : Bool) → is_linked net r port ≡ linked
     → front_of (if linked then beat_at (lockstep_at net n).wires r port ∷ [] else []) ≡ beat_at (lockstep_at net n).wires r port
 front_there net n r port true e = refl
-front_there net n r port false e = sym (unlinked_beat net n r port (none_when (neighbour net.relation.grid r port) e))
+front_there net n r port false e = sym (unlinked_beat net n r port (no-value (neighbour net.relation.grid r port) e))
 
 -- a core whose routers are all between their cycles at count n has the views of the lockstep run
 pub rested_views : (parts : Parts) (n : ℕ) → IsInStep CYCLE_LIMIT (core_in parts) → length parts.routers.items ≡ nodes parts.relation.grid → length parts.room.items ≡ nodes parts.relation.grid

@@ -12,10 +12,11 @@ use Rattle.noc_packet.specs.declared.packet.Flit.{Flit}
 use Rattle.noc_route.specs.Routes.{Routes}
 use Rattle.noc_router.specs.View.{View, IsRelationOf, idle_beat, taken, all_taken, with_flit, with_credit}
 use Rattle.noc_router.specs.declared.verdict.Finding.{Finding}
+use Rattle.noc_router.proofs.SiteLemmas.{taken-site}
 use Rattle.noc_model.specs.Halves.{IsLinked, IsSilent, beat_at, decided, incoming, sent_on}
 use Rattle.noc_model.specs.Lockstep.{beats_at}
 use Rattle.noc_model.specs.Unseen.{advanced}
-use Rattle.noc_model.proofs.StepLemmas.{IsRelationOf-same_site, site-taken, taken_end}
+use Rattle.noc_model.proofs.StepLemmas.{IsRelationOf-same_site, taken_end}
 use Rattle.noc_model.proofs.TakeAhead.{taken_ahead}
 use Rattle.noc_model.proofs.UnseenLemmas.{frozen-findings}
 use Rattle.noc_model.proofs.WireLemmas.{sent_here, sent_other}
@@ -159,7 +160,7 @@ taken-part relation first routers beats now after wires i r port one left so_far
 
     site : (k : ℕ) (d : View) → (get_or after k d).site ≡ (get_or now k d).site
     site k d =
-        ⊎_elim (λ (e : k ≡ i). rw e (ap (λ (w : View). w.site) (changed d) ∙ site-taken relation port one (get_or now i d)))
+        ⊎_elim (λ (e : k ≡ i). rw e (ap (λ (w : View). w.site) (changed d) ∙ taken-site relation port one (get_or now i d)))
         (λ (n : k ≢ i). ap (λ (w : View). w.site) (kept k d n)) (cases_eq k i)
 
     here : (d : View)

@@ -10,10 +10,8 @@ ghost use Rattle.noc_net.specs.Room.{front_of, opened_post, post_of, rests_at, u
 use crate::wire::Wire;
 use noc_model::CYCLE_LIMIT;
 use noc_packet::Beat;
+pub use noc_router::LINKS;
 use noc_router::Router;
-
-/// The greatest number of link ports of a router.
-pub const LINKS: usize = 6;
 
 /// The storage of a core for one router: the wires that arrive there, and what the router has done of its cycle.
 #[derive(Clone, Copy)]

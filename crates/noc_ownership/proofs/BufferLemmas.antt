@@ -8,8 +8,8 @@ use Rattle.noc_route.specs.Channel.{Channel, Link, Inject, Eject, same_channel, 
 use Rattle.noc_router.specs.Verdict.{Claim, Unrouted, Waits, Holds, Round, verdict_of}
 use Rattle.noc_model.specs.Network.{Setup, State, Located, Place, Source, On, In, Out, buffer_of, first_in, is_in, is_the_flit, moved_place, after_verdicts, verdict_in, gone_to, next_channel, claim_of, owned_by, owner_of, has_channel, ask, round_at, count_in, verdict_at, leads_from}
 use Rattle.noc_router.specs.Verdict.{is_moved}
-use Rattle.noc_router.specs.declared.verdict.Verdict.{Verdict}
 use Rattle.noc_router.specs.declared.verdict.Verdict.TheVariants.{Empty, Granted, Moved, LostChannel}
+pub use Rattle.noc_router.proofs.SettleLemmas.{is_moved-true}
 
 -- whether two are the same flit
 abbrev pub same_flit : Located → Located → Bool
@@ -107,10 +107,6 @@ moved-holds vcs round i (Holds o true) true e = (o, refl, refl)
 moved-holds vcs round i (Holds o true) false e = absurd (cc e)
 moved-holds vcs round i (Holds o false) true e = absurd (cc e)
 moved-holds vcs round i (Holds o false) false e = absurd (cc e)
-
-pub is_moved-true : (v : Verdict) → is_moved v ≡ true → v ≡ Moved
-is_moved-true Moved e = refl
-is_moved-true _ e = absurd (false≢true e)
 
 module _ (net : Setup) (F : State) (n : ℕ) where
   abbrev step : Located → Located

@@ -16,7 +16,7 @@ use Rattle.noc_ownership.proofs.GrantLemmas.{IsWired, IsGrant}
 use Rattle.noc_ownership.proofs.Members.{Has-append, Has-filter, Has-map}
 use Rattle.noc_ownership.proofs.InjectionState.{entries-are}
 use Rattle.noc_ownership.proofs.OpeningLemmas.{sound-state}
-use Rattle.noc_ownership.proofs.Sound.{IsSound, IsSoundFrozen, sound-landed, sound-credits, sound-frozen}
+use Rattle.noc_ownership.proofs.Sound.{IsSoundState, IsSoundFrozen, sound-landed, sound-credits, sound-frozen}
 use Rattle.noc_ownership.proofs.VerdictPhase.{owned-before}
 use Rattle.noc_ownership.proofs.WormRecord.{class_of, goal}
 
@@ -57,7 +57,7 @@ module _ (net : Setup) where
             let is : Inject e.0 e.1.vc ≡ c = sym e.1.channel ∙ ap (λ (x : Channel × ℕ). x.0) m.2 in
             subst (λ (x : Channel). Came p x) is tt
 
-    pub led-frozen : (n : ℕ) (S : State) → IsSound net S → IsLed S → IsLed (frozen net n S)
+    pub led-frozen : (n : ℕ) (S : State) → IsSoundState net S → IsLed S → IsLed (frozen net n S)
     unfolding frozen
     led-frozen n S s led =
         led-injection n (after_credits net (after_landing net S)) (sound-credits net built wired (after_landing net S) (sound-landed net built wired S s)) (led-mid S led)

@@ -18,7 +18,7 @@ use Rattle.noc_ownership.proofs.WormRecord.{last_of, valid-last, valid-first, so
 use Rattle.noc_ownership.proofs.InjectionPhase.{IsInjected}
 use Rattle.noc_ownership.proofs.InjectionState.{entries-move, entries-are, entries-apart, all_entries, waiting-is}
 use Rattle.noc_ownership.proofs.VerdictPhase.{source-before, source-after}
-use Rattle.noc_ownership.proofs.Sound.{IsSound, IsSoundFrozen, sound-landed, sound-credits, sound-frozen}
+use Rattle.noc_ownership.proofs.Sound.{IsSoundState, IsSoundFrozen, sound-landed, sound-credits, sound-frozen}
 use Rattle.noc_ownership.proofs.OpeningLemmas.{sound-state, at-source, below-has, below-rises}
 pub use Rattle.noc_ownership.proofs.StateWords.{Precedes, IsFirstOf}
 
@@ -133,7 +133,7 @@ module _ (net : Setup) where
             waiting-first S s.keyed node.0 p first k lk (same ∙ sym is.1) tk
 
     -- after the landings and the credits
-    pub queued-mid : (S : State) → IsSound net S → IsQueued S → IsQueued (after_credits net (after_landing net S))
+    pub queued-mid : (S : State) → IsSoundState net S → IsQueued S → IsQueued (after_credits net (after_landing net S))
     unfolding after_landing after_credits
     queued-mid S s q =
         let goes : (p i : ℕ) → IsValid net p i → place_of net (after_landing net S) p i ≡ landed_place net (place_of net S p i)
@@ -142,7 +142,7 @@ module _ (net : Setup) where
         (λ p i v e. source-landed net (place_of net S p i) (sym (goes p i v) ∙ e)) (λ p i v e. goes p i v ∙ ap (landed_place net) e) q in
         unbegun (after_landing net S) (after_credits net (after_landing net S)) (λ p i v e. e) (λ p i v e. e) qa
 
-    pub queued-frozen : (n : ℕ) (S : State) → IsSound net S → IsQueued S → IsQueued (frozen net n S)
+    pub queued-frozen : (n : ℕ) (S : State) → IsSoundState net S → IsQueued S → IsQueued (frozen net n S)
     unfolding frozen
     queued-frozen n S s q =
         queued-injection n (after_credits net (after_landing net S))

@@ -6,18 +6,19 @@ use Rattle.std.proofs.Common.{append-nil}
 use Rattle.std.proofs.lemmas.Bool.{false≢true, true≢false, and_parts, and_left, eqb-true}
 use Rattle.std.proofs.lemmas.Option.{none-some, same_Some}
 use Rattle.std.proofs.lemmas.Nat.{div-add-mod', div-mul-add, mod-mul-add}
-use Rattle.noc_topo.specs.Words.{below, is_some_of}
+use Rattle.noc_topo.specs.Words.{below}
 use Rattle.noc_topo.specs.Shape.{local_port}
 use Rattle.noc_route.specs.Channel.{Channel, Link, Inject, Eject, begin, arrival_of, channel_vc, output_at, output_index, inputs}
-use Rattle.noc_router.specs.Verdict.{Claim, Unrouted, Waits, Holds, Round, verdict_of}
+use Rattle.noc_router.specs.Verdict.{Unrouted, Waits, Holds, verdict_of}
 use Rattle.noc_route.specs.Routes.{Routes, permits}
-use Rattle.noc_model.specs.Network.{Setup, State, size, packet_at, owner_of, owned_by, is_idle, ask, next_channel, leads_from, has_credit, end_of, has_channel, claim_of, round_at, count_in, verdict_in, verdict_at, granted_pair, granted_at, is_released, after_verdicts}
+use Rattle.noc_model.specs.Network.{Setup, State, size, packet_at, owner_of, owned_by, is_idle, ask, next_channel, leads_from, has_credit_in, end_of, has_channel, claim_of, round_at, count_in, verdict_in, verdict_at, granted_pair, granted_at, is_released, after_verdicts}
 use Rattle.noc_router.specs.Verdict.{is_granted, is_moved}
 use Rattle.noc_router.specs.declared.verdict.Verdict.{Verdict}
-use Rattle.noc_router.specs.declared.verdict.Verdict.TheVariants.{Granted, Moved, LostChannel, LostInput, LostSwitch}
+use Rattle.noc_router.specs.declared.verdict.Verdict.TheVariants.{Granted}
+use Rattle.noc_router.proofs.PlanFacts.{verdict-granted}
 use Rattle.noc_model.specs.Worm.{IsPath}
 use Rattle.noc_ownership.proofs.BuiltRecord.{IsBuilt}
-use Rattle.noc_ownership.proofs.OptionLemmas.{and_then-some, is_some_of-true, cond-some, is_none-none}
+use Rattle.noc_ownership.proofs.OptionLemmas.{and_then-some, cond-some, is_none-none}
 use Rattle.noc_ownership.proofs.BufferLemmas.{find-passes}
 use Rattle.noc_topo.specs.Words.{Has, Pairs}
 use Rattle.noc_ownership.proofs.Members.{Has-filter_map, Has-filter, find-fails, Pairs-filter, Pairs-append, each-at, each-from}
@@ -63,28 +64,6 @@ end-some g c r e = at (arrival_of g.grid c) refl
         let z : Some place.0 ≡ Some r = sym (ap (option_map (λ (x : ℕ × ℕ). x.0)) h) ∙ e in
         (place.1, h ∙ ap (λ (x : ℕ). Some (x, place.1)) (same_Some place.0 r z))
 
--- a verdict Granted is that of a waiting channel that the arbiter picked
-pub granted-holds : (vcs : ℕ) (round : Round) (i : ℕ) (claim : Claim) (flit : Bool) → verdict_of vcs round i claim flit ≡ Granted
-    → (o : ℕ) × (claim ≡ Waits (Some o)) × (get_or round.grants o None ≡ Some i)
-granted-holds vcs round i Unrouted true e = absurd (cc e)
-granted-holds vcs round i Unrouted false e = absurd (cc e)
-granted-holds vcs round i (Waits None) flit e = absurd (cc e)
-granted-holds vcs round i (Waits (Some o)) flit e = at (is_some_of (get_or round.grants o None) i) refl
-  where
-    at : (b : Bool) → is_some_of (get_or round.grants o None) i ≡ b → (x : ℕ) × (Waits (Some o) ≡ Waits (Some x)) × (get_or round.grants x None ≡ Some i)
-    at true h = (o, refl, is_some_of-true _ _ h)
-    at false h = let g : LostChannel ≡ Granted = sym (rw h) ∙ e in absurd (cc g)
-granted-holds vcs round i (Holds o true) true e = at (is_some_of (get_or round.picks (i / vcs) None) (i % vcs)) refl (is_some_of (get_or round.wins (o / vcs) None) (i / vcs)) refl
-  where
-    at : (a : Bool) → is_some_of (get_or round.picks (i / vcs) None) (i % vcs) ≡ a → (b : Bool) → is_some_of (get_or round.wins (o / vcs) None) (i / vcs) ≡ b
-        → (x : ℕ) × (Holds o true ≡ Waits (Some x)) × (get_or round.grants x None ≡ Some i)
-    at true h true k = let g : Moved ≡ Granted = sym (rw (h, k)) ∙ e in absurd (cc g)
-    at true h false k = let g : LostSwitch ≡ Granted = sym (rw (h, k)) ∙ e in absurd (cc g)
-    at false h b k = let g : LostInput ≡ Granted = sym (rw h) ∙ e in absurd (cc g)
-granted-holds vcs round i (Holds o true) false e = absurd (cc e)
-granted-holds vcs round i (Holds o false) true e = absurd (cc e)
-granted-holds vcs round i (Holds o false) false e = absurd (cc e)
-
 pub is_granted-true : (v : Verdict) → is_granted v ≡ true → v ≡ Granted
 is_granted-true Granted e = refl
 is_granted-true _ e = absurd (false≢true e)
@@ -111,7 +90,7 @@ module _ (net : Setup) (F : State) where
       at : (b : Bool) → has_channel F.routed c ≡ b → (next : Option Channel) → next_channel net F c ≡ next → (next_channel net F c ≡ None) × (ask net F r c ≡ Some i) × (has_channel F.routed c ≡ true)
       at false h next k = let g : Unrouted ≡ Waits (Some i) = sym (rw h) ∙ e in absurd (cc g)
       at true h None k = let g : Waits (ask net F r c) ≡ Waits (Some i) = sym (rw (h, k)) ∙ e in (k, cc, h)
-      at true h (Some o) k = let g : Holds (output_index net.relation.grid net.relation.vcs o) (has_credit net F o) ≡ Waits (Some i) = sym (rw (h, k)) ∙ e in absurd (cc g)
+      at true h (Some o) k = let g : Holds (output_index net.relation.grid net.relation.vcs o) (has_credit_in net F o) ≡ Waits (Some i) = sym (rw (h, k)) ∙ e in absurd (cc g)
 
   ask-some : (r : ℕ) (c : Channel) (p i : ℕ) → owner_of net F c ≡ Some p → ask net F r c ≡ Some i
       → (owner_of net F (output_at net.relation.grid net.relation.vcs r i) ≡ None) × IsTrue (permits net.relation (packet_at net p).class c (packet_at net p).destination (output_at net.relation.grid net.relation.vcs r i))
@@ -130,7 +109,7 @@ module _ (net : Setup) (F : State) where
       let three = and_then-some (granted_at net F c two.0) (owner_of net F c) (o, p) two.2 in
       let v : verdict_in net F c ≡ Granted = is_granted-true _ one.0 in
       let at_place : verdict_of net.relation.vcs (round_at net F place.0) (place.1 * net.relation.vcs + channel_vc c) (claim_of net F place.0 c) (nat_lt 0 (count_in net F c)) ≡ Granted = sym (ap (verdict_at net F c) ends.1) ∙ v in
-      let held = granted-holds net.relation.vcs (round_at net F place.0) (place.1 * net.relation.vcs + channel_vc c) (claim_of net F place.0 c) (nat_lt 0 (count_in net F c)) at_place in
+      let held = verdict-granted net.relation.vcs (round_at net F place.0) (place.1 * net.relation.vcs + channel_vc c) (claim_of net F place.0 c) (nat_lt 0 (count_in net F c)) at_place in
       let asks = claim-asks place.0 c held.0 held.1 in
       let pair : Some (output_at net.relation.grid net.relation.vcs place.0 held.0, three.0) ≡ Some (o, p) = sym (ap (option_map (λ i. (output_at net.relation.grid net.relation.vcs place.0 i, three.0))) asks.1) ∙ three.2 in
       let parts = same_Some (output_at net.relation.grid net.relation.vcs place.0 held.0, three.0) (o, p) pair in

@@ -93,7 +93,7 @@ module _ (net : Setup) (built : IsBuilt net) (own : List (Channel × ℕ)) (at :
 
   module _ (all : List (Injection net)) (entries : (one : Injection net) → Has one all → (node : ℕ) × IsEntry node one) (apart : Pairs (IsApart net) all) (to : ℕ → ℕ → Place) where
     -- the first flit of p at its source goes to its entry's channel
-    pub record IsEntered (p : ℕ) (one : Injection net) : Type 0 where
+    pub record IsEnteredBy (p : ℕ) (one : Injection net) : Type 0 where
       pub flit : ℕ
       pub valid : IsValid net p flit
       pub was : at p flit ≡ Source
@@ -103,7 +103,7 @@ module _ (net : Setup) (built : IsBuilt net) (own : List (Channel × ℕ)) (at :
 
     abbrev pub IsInjected : ℕ → Type 0
     IsInjected p = (((i : ℕ) → IsValid net p i → to p i ≡ at p i) × ((one : Injection net) → Has one all → one.packet ≢ p))
-        ⊎ ((one : Injection net) × Has one all × (one.packet ≡ p) × IsEntered p one)
+        ⊎ ((one : Injection net) × Has one all × (one.packet ≡ p) × IsEnteredBy p one)
 
     abbrev pub news : List (Channel × ℕ)
     news = map (λ (one : Injection net). (one.channel, one.packet)) (filter (λ (one : Injection net). one.begins) all)
@@ -196,7 +196,7 @@ module _ (net : Setup) (built : IsBuilt net) (own : List (Channel × ℕ)) (at :
       placed-new : (p i : ℕ) → IsValid net p i → IsPlaced net (own ++ news) p (to p i)
       placed-new p i v = cases (moves p v.0)
         where
-          at_flit : (one : Injection net) → Has one all → one.packet ≡ p → (e : IsEntered p one) → (i ≡ e.flit) ⊎ (i ≡ e.flit → ⊥) → IsPlaced net (own ++ news) p (to p i)
+          at_flit : (one : Injection net) → Has one all → one.packet ≡ p → (e : IsEnteredBy p one) → (i ≡ e.flit) ⊎ (i ≡ e.flit → ⊥) → IsPlaced net (own ++ news) p (to p i)
           at_flit one h q e (inl s) = subst (λ (x : Place). IsPlaced net (own ++ news) p x) (sym (ap (to p) s ∙ e.now)) (entry-place p one h q)
           at_flit one h q e (inr s) = subst (λ (x : Place). IsPlaced net (own ++ news) p x) (sym (e.others i v s)) (placed-left p (at p i) (w.placed p i v))
 
@@ -210,7 +210,7 @@ module _ (net : Setup) (built : IsBuilt net) (own : List (Channel × ℕ)) (at :
           vi : IsValid net p i
           vi = valid-below net built p i j v l
 
-          at_flits : (one : Injection net) → Has one all → (e : IsEntered p one) → (i ≡ e.flit) ⊎ (i ≡ e.flit → ⊥) → (j ≡ e.flit) ⊎ (j ≡ e.flit → ⊥) → weight net p (to p i) ≤ weight net p (to p j)
+          at_flits : (one : Injection net) → Has one all → (e : IsEnteredBy p one) → (i ≡ e.flit) ⊎ (i ≡ e.flit → ⊥) → (j ≡ e.flit) ⊎ (j ≡ e.flit → ⊥) → weight net p (to p i) ≤ weight net p (to p j)
           at_flits one h e (inl s) (inl t) = let same : weight net p (to p i) ≡ weight net p (to p j) = ap (λ x. weight net p (to p x)) (s ∙ sym t) in omega arith
           at_flits one h e (inl s) (inr t) =
               let wi : weight net p (to p i) ≡ 3 * hops net p + 1 = ap (λ x. weight net p (to p x)) s ∙ ap (weight net p) e.now ∙ entry-weight p one h in
@@ -274,7 +274,7 @@ module _ (net : Setup) (built : IsBuilt net) (own : List (Channel × ℕ)) (at :
           last : IsValid net p (last_of net p)
           last = valid-last net built p low
 
-          at_flit : (one : Injection net) → Has one all → one.packet ≡ p → (e : IsEntered p one) → (last_of net p ≡ e.flit) ⊎ (last_of net p ≡ e.flit → ⊥) → IsEntering net (Inject n v) (to p (last_of net p))
+          at_flit : (one : Injection net) → Has one all → one.packet ≡ p → (e : IsEnteredBy p one) → (last_of net p ≡ e.flit) ⊎ (last_of net p ≡ e.flit → ⊥) → IsEntering net (Inject n v) (to p (last_of net p))
           at_flit one k q e (inl s) = subst (λ (x : Place). IsEntering net (Inject n v) x) (sym (ap (to p) s ∙ e.now)) (entry-channel p n v one k q h)
           at_flit one k q e (inr s) =
               let waits : at p (last_of net p) ≡ Source = ap (λ x. at x (last_of net x)) (sym q) ∙ (entries one k).1.waits in
@@ -290,7 +290,7 @@ module _ (net : Setup) (built : IsBuilt net) (own : List (Channel × ℕ)) (at :
           low : p < length net.packets
           low = (known-new c p h).0
 
-          at_flit : (one : Injection net) → (e : IsEntered p one) → (0 ≡ e.flit) ⊎ (0 ≡ e.flit → ⊥) → to p 0 ≢ Source
+          at_flit : (one : Injection net) → (e : IsEnteredBy p one) → (0 ≡ e.flit) ⊎ (0 ≡ e.flit → ⊥) → to p 0 ≢ Source
           at_flit one e (inl s) z = let x : In one.channel ≡ Source = sym (ap (to p) s ∙ e.now) ∙ z in absurd (cc x)
           at_flit one e (inr s) z = e.first 0 (omega arith) (sym (e.others 0 (valid-first net built p low) s) ∙ z)
 

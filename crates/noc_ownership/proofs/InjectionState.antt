@@ -7,7 +7,7 @@ use Rattle.std.proofs.lemmas.Option.{none-some, same_Some}
 use Rattle.noc_topo.specs.Words.{below, least_by, lesser_by}
 use Rattle.noc_topo.specs.Shape.{nodes}
 use Rattle.noc_route.specs.Channel.{Channel, Link, Inject, Eject}
-use Rattle.noc_model.specs.Network.{Setup, Injection, State, Located, Place, Source, On, In, Out, packet_at, place_of, owner_of, owned_by, is_idle, flits_of, is_at_source, first_waiting, is_injection_of, beginning, injection_with, injection_at, injections, first_at_source, is_the_flit, injected_place, after_injection, count_in}
+use Rattle.noc_model.specs.Network.{Setup, Injection, State, Located, Place, Source, In, packet_at, place_of, owner_of, owned_by, is_idle, flits_of, is_at_source, first_waiting, is_injection_of, beginning, injection_with, injection_at, injections, first_at_source, is_the_flit, injected_place, after_injection, count_in}
 use Rattle.noc_ownership.proofs.BuiltRecord.{IsBuilt}
 use Rattle.noc_ownership.proofs.OptionLemmas.{and_then-some, cond-some, is_none-none}
 use Rattle.noc_ownership.proofs.BufferLemmas.{find-passes}
@@ -15,9 +15,9 @@ use Rattle.noc_topo.specs.Words.{Has, Pairs}
 use Rattle.noc_ownership.proofs.Members.{Has-filter, Has-filter_map, find-has, find-fails, find-some, list_any-has, Pairs-filter_map, each-from}
 use Rattle.noc_ownership.proofs.OwnedLemmas.{of, of-has, has-of, idle-none}
 use Rattle.noc_ownership.proofs.GrantLemmas.{Has-range, Has-below}
-use Rattle.noc_ownership.proofs.PlaceLemmas.{IsValid, IsKeyed, place-of-flit, flit-there, place-stepped, find-first, keyed-stepped}
+use Rattle.noc_ownership.proofs.PlaceLemmas.{IsValid, IsKeyed, place-of-flit, flit-there, place-stepped, find-first, keyed-stepped, at_source-is}
 use Rattle.noc_ownership.proofs.WormRecord.{IsWorm, last_of, valid-last}
-use Rattle.noc_ownership.proofs.InjectionPhase.{IsApart, IsEntry, IsEntered, IsInjected, source-behind, worm-injected}
+use Rattle.noc_ownership.proofs.InjectionPhase.{IsApart, IsEntry, IsEnteredBy, IsInjected, source-behind, worm-injected}
 
 pub range-apart : (a n : ℕ) → Pairs (λ (x y : ℕ). x ≢ y) (range_with_len a n)
 range-apart a zero = tt
@@ -41,12 +41,6 @@ least_by-has {X = X} key (y ∷ ys) x e = at (least_by key ys) (same_Some _ _ e)
         pick false t = inr (rest x (ap Some t))
 
 module _ (net : Setup) (built : IsBuilt net) (S : State) (keyed : IsKeyed net S.at) (w : IsWorm net S.own (place_of net S)) (n : ℕ) where
-  at_source-is : (x : Place) → is_at_source x ≡ true → x ≡ Source
-  at_source-is Source e = refl
-  at_source-is (On c) e = absurd (false≢true e)
-  at_source-is (In c) e = absurd (false≢true e)
-  at_source-is (Out k) e = absurd (false≢true e)
-
   injection_of-is : (node : ℕ) (c : Channel) → is_injection_of net node c ≡ true → (v : ℕ) × (c ≡ Inject node v)
   injection_of-is node (Link r a v) e = absurd (false≢true e)
   injection_of-is node (Inject m v) e = (v, ap (λ x. Inject x v) (eqb-true m node e))
@@ -155,7 +149,7 @@ module _ (net : Setup) (built : IsBuilt net) (S : State) (keyed : IsKeyed net S.
       test f = nat_eq p f.packet && is_at_source f.place
 
       with_flit : (one : Injection net) → find (λ (x : Injection net). nat_eq x.packet p) all_entries ≡ Some one → (g : Located) → first_at_source net S p ≡ Some g
-          → IsEntered net built S.own (place_of net S) w all_entries entries-are entries-apart (place_of net T) p one
+          → IsEnteredBy net built S.own (place_of net S) w all_entries entries-are entries-apart (place_of net T) p one
       with_flit one e g f =
           let member : Has g S.at = find-has test S.at g f in
           let parts = and_parts (nat_eq p g.packet) (is_at_source g.place) (find-passes test S.at g f) in

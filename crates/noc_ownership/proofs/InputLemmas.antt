@@ -1,6 +1,6 @@
 -- The input channels of a shape: each is listed once, where it arrives, and its arrival and virtual channel tell it.
-use Rattle.std.proofs.Common.{◌≡◌, ◌≢◌, ℕ, zero, suc, ◌+◌, ◌*◌, ◌/◌, ◌%◌, ◌<◌, ◌≤◌, Bool, true, false, cond, List, [], ◌∷◌, Option, Some, None, refl, ap, sym, ◌∙◌, inl, inr, subst, arith}
-use Rattle.std.specs.Prelude.{◌⊎◌, nat_eq, option_map, filter_map}
+use Rattle.std.proofs.Common.{◌≡◌, ◌≢◌, ℕ, zero, suc, ◌+◌, ◌*◌, ◌/◌, ◌%◌, ◌<◌, ◌≤◌, Bool, true, false, cond, List, [], ◌∷◌, Option, Some, None, refl, ap, sym, ◌∙◌, inl, inr, arith}
+use Rattle.std.specs.Prelude.{nat_eq, option_map, filter_map}
 use Rattle.std.specs.List.{flat_map}
 use Rattle.std.proofs.Math.Nat.{mod-lt, mul-le-mul_right}
 use Rattle.std.proofs.lemmas.Bool.{eqb-true, eq-eqb, ne_eqb}
@@ -12,21 +12,8 @@ use Rattle.noc_topo.proofs.LinkLemmas.{link_back}
 use Rattle.noc_route.specs.Channel.{Channel, Link, Inject, arrival_of, channel_vc, input_at, inputs}
 use Rattle.noc_ownership.proofs.GrantLemmas.{Has-below}
 use Rattle.noc_ownership.proofs.InjectionState.{below-apart}
-use Rattle.noc_ownership.proofs.Members.{Has-append, Has-left, Has-right, Has-filter_map, Has-filter_mapped, Pairs-append, Pairs-filter_map, each-at}
+use Rattle.noc_ownership.proofs.Members.{Has-filter_map, Has-filter_mapped, Pairs-append, Pairs-filter_map, each-at, Has-flat_map, Has-flat_mapped}
 use Rattle.noc_ownership.proofs.OpeningLemmas.{below-has}
-
-pub Has-flat_map : {X Y : Type 0} (f : X → List Y) (y : Y) (xs : List X) → Has y (flat_map f xs) → (x : X) × Has x xs × Has y (f x)
-Has-flat_map f y [] h = elim h [ ]
-Has-flat_map {X = X} f y (x ∷ xs) h = at (Has-append y (f x) (flat_map f xs) h) (Has-flat_map f y xs)
-  where
-    at : Has y (f x) ⊎ Has y (flat_map f xs) → (Has y (flat_map f xs) → (z : X) × Has z xs × Has y (f z)) → (z : X) × Has z (x ∷ xs) × Has y (f z)
-    at (inl k) rest = (x, inl refl, k)
-    at (inr k) rest = let r = rest k in (r.0, inr r.1, r.2)
-
-pub Has-flat_mapped : {X Y : Type 0} (f : X → List Y) (y : Y) (x : X) (xs : List X) → Has x xs → Has y (f x) → Has y (flat_map f xs)
-Has-flat_mapped f y x [] h k = elim h [ ]
-Has-flat_mapped f y x (z ∷ xs) (inl e) k = Has-left y (f z) (flat_map f xs) (subst (λ w. Has y (f w)) e k)
-Has-flat_mapped f y x (z ∷ xs) (inr h) k = Has-right y (f z) (flat_map f xs) (Has-flat_mapped f y x xs h k)
 
 pub Pairs-flat_map : {X Y : Type 0} (R : Y → Y → Type 0) (S : X → X → Type 0) (f : X → List Y) (xs : List X) → ((x : X) → Has x xs → Pairs R (f x))
     → ((a b : X) → Has a xs → Has b xs → S a b → (x y : Y) → Has x (f a) → Has y (f b) → R x y) → Pairs S xs → Pairs R (flat_map f xs)
@@ -81,8 +68,8 @@ module _ (g : Grid) (vcs : ℕ) (sound : IsGrid g) where
   pub has-input : (r i : ℕ) (c : Channel) → r < nodes g → i < ports g * vcs → input_at g vcs r i ≡ Some c → Has c (inputs g vcs)
   unfolding inputs
   has-input r i c low l e =
-      Has-flat_mapped (λ r. filter_map (input_at g vcs r) (below (ports g * vcs))) c r (below (nodes g)) (below-has r (nodes g) low)
-      (Has-filter_mapped (input_at g vcs r) c i (below (ports g * vcs)) (below-has i (ports g * vcs) l) e)
+      Has-flat_mapped (λ r. filter_map (input_at g vcs r) (below (ports g * vcs))) r c (below (nodes g)) (below-has r (nodes g) low)
+      (Has-filter_mapped (input_at g vcs r) i c (below (ports g * vcs)) (below-has i (ports g * vcs) l) e)
 
   -- its virtual channel exists
   pub input-low : (c : Channel) → IsInput c → channel_vc c < vcs

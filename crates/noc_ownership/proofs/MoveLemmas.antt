@@ -12,12 +12,12 @@ use Rattle.noc_model.specs.Worm.{IsPath}
 use Rattle.noc_ownership.proofs.BuiltRecord.{IsBuilt}
 use Rattle.noc_router.specs.declared.verdict.Verdict.TheVariants.{Moved}
 use Rattle.noc_ownership.proofs.OptionLemmas.{is_some_of-true}
-use Rattle.noc_ownership.proofs.BufferLemmas.{find-passes, same_channel-refl, same_channel-true, next-some, is_moved-true}
+use Rattle.noc_ownership.proofs.BufferLemmas.{find-passes, same_channel-refl, next-some, is_moved-true}
 use Rattle.noc_topo.specs.Words.{Has}
 use Rattle.noc_ownership.proofs.Members.{find-has}
 use Rattle.noc_ownership.proofs.OwnedLemmas.{of, of-has, has-of, owner-is}
 use Rattle.noc_ownership.proofs.PathLemmas.{IsEject, IsBehind, path-behind, path-tail}
-use Rattle.noc_ownership.proofs.PlaceLemmas.{IsValid, IsKeyed, place-of-flit, flit-there, place-stepped, find-first}
+use Rattle.noc_ownership.proofs.PlaceLemmas.{IsValid, IsKeyed, place-of-flit, flit-there, place-stepped, find-first, is_in-is}
 use Rattle.noc_ownership.proofs.WormRecord.{IsWorm, IsPlaced, class_of, goal, far_of}
 
 module _ (net : Setup) where
@@ -125,12 +125,6 @@ module _ (net : Setup) (built : IsBuilt net) (F : State) (keyed : IsKeyed net F.
     pub valid : IsValid net p i
     pub there : place_of net F p i ≡ In c
     pub least : (j : ℕ) → IsValid net p j → place_of net F p j ≡ In c → i ≤ j
-
-  pub is_in-is : (c : Channel) (x : Place) → is_in c x ≡ true → x ≡ In c
-  is_in-is c Source e = absurd (false≢true e)
-  is_in-is c (On d) e = absurd (false≢true e)
-  is_in-is c (In d) e = ap In (sym (same_channel-true c d e))
-  is_in-is c (Out n) e = absurd (false≢true e)
 
   pub first-is : (c : Channel) (g : Located) → first_in net F c ≡ Some g → IsFirst c g.packet g.index
   first-is c g e =

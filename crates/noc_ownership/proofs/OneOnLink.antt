@@ -6,7 +6,7 @@ use Rattle.std.proofs.lemmas.Nat.{div-mul-add, mod-mul-add}
 use Rattle.noc_topo.specs.Words.{is_some_of}
 use Rattle.noc_route.specs.Channel.{Channel, Link, Inject, Eject, inputs, arrival_of, channel_vc, output_index}
 use Rattle.noc_router.specs.Verdict.{Claim, Unrouted, Waits, Holds, Round, verdict_of}
-use Rattle.noc_model.specs.Network.{Setup, State, On, place_of, end_of, next_channel, has_channel, verdict_in, verdict_at, claim_of, has_credit, round_at, count_in, gone_to, after_verdicts}
+use Rattle.noc_model.specs.Network.{Setup, State, On, place_of, end_of, next_channel, has_channel, verdict_in, verdict_at, claim_of, has_credit_in, round_at, count_in, gone_to, after_verdicts}
 use Rattle.noc_ownership.proofs.BuiltRecord.{IsBuilt}
 use Rattle.noc_router.specs.declared.verdict.Verdict.TheVariants.{Empty, Granted, Moved, LostChannel, LostInput, LostSwitch}
 use Rattle.noc_ownership.proofs.OptionLemmas.{is_some_of-true}
@@ -61,7 +61,7 @@ module _ (net : Setup) (built : IsBuilt net) (wired : IsWired net) (F : State) (
         where
           by : (b : Bool) → has_channel F.routed c ≡ b → output_index net.relation.grid net.relation.vcs (Link r a v) ≡ i
           by false k = let g : Unrouted ≡ Holds i true = sym (rw k) ∙ e in absurd (cc g)
-          by true k = let g : Holds (output_index net.relation.grid net.relation.vcs (Link r a v)) (has_credit net F (Link r a v)) ≡ Holds i true = sym (rw (k, next)) ∙ e in cc
+          by true k = let g : Holds (output_index net.relation.grid net.relation.vcs (Link r a v)) (has_credit_in net F (Link r a v)) ≡ Holds i true = sym (rw (k, next)) ∙ e in cc
 
       at : (y : Option (ℕ × ℕ)) → arrival_of net.relation.grid c ≡ y → IsThrough c r a
       at None e = let g : Empty ≡ Moved = sym (ap (verdict_at net F c) e) ∙ m in absurd (cc g)

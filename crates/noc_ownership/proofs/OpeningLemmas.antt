@@ -15,7 +15,7 @@ use Rattle.noc_ownership.proofs.GrantLemmas.{IsWired, Has-range}
 use Rattle.noc_ownership.proofs.PlaceLemmas.{IsValid, IsKeyed, IsSortedPair, flit-there}
 use Rattle.noc_ownership.proofs.WormRecord.{IsWorm, IsPlaced, valid-below, valid-first}
 use Rattle.noc_ownership.proofs.RoomLemmas.{filter-some}
-use Rattle.noc_ownership.proofs.Sound.{IsSound, IsSoundFrozen, sound-cycle, sound-frozen}
+use Rattle.noc_ownership.proofs.Sound.{IsSoundState, IsSoundFrozen, sound-cycle, sound-frozen}
 
 pub range-has : (i a n : ℕ) → i < n → Has (a + i) (range_with_len a n)
 range-has i a zero l = absurd (omega arith)
@@ -138,7 +138,7 @@ module _ (net : Setup) where
       holds = λ p l b s. absurd (b (at-source p 0 (valid-first net built p l)));
     }
 
-    pub sound-opening : IsSound net (opening_state net)
+    pub sound-opening : IsSoundState net (opening_state net)
     unfolding opening_state
     sound-opening = record {
       keyed = keyed-opening;
@@ -158,7 +158,7 @@ module _ (net : Setup) where
         none-in c (inr r) = absurd (false≢true (sym (ap (is_in c) (rows-has 0 net.packets r.0 r.1).3) ∙ r.2))
 
     -- the invariant holds at the start of each cycle
-    pub sound-state : (n : ℕ) → IsSound net (state_at net n)
+    pub sound-state : (n : ℕ) → IsSoundState net (state_at net n)
     unfolding state_at
     sound-state zero = sound-opening
     sound-state (suc n) = sound-cycle net built wired n (state_at net n) (sound-state n)

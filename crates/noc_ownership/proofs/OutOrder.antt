@@ -3,16 +3,16 @@ use Rattle.std.proofs.Common.{◌≡◌, ℕ, zero, suc, ◌<◌, Some, refl, ap
 use Rattle.std.specs.Prelude.{◌⊎◌}
 use Rattle.std.proofs.lemmas.Bool.{cases_eq}
 use Rattle.noc_route.specs.Channel.{Channel, Link, Inject, Eject}
-use Rattle.noc_model.specs.Network.{Setup, network_cycle, State, Located, Place, Source, On, In, Out, place_of, landed_place, gone_to, after_landing, after_credits, after_injection, after_verdicts, frozen, state_at}
+use Rattle.noc_model.specs.Network.{Setup, network_cycle, State, Located, Place, Source, In, Out, place_of, landed_place, gone_to, after_landing, after_credits, after_injection, after_verdicts, frozen, state_at}
 use Rattle.noc_model.specs.Progress.{weight}
 use Rattle.noc_ownership.proofs.BuiltRecord.{IsBuilt}
 use Rattle.noc_ownership.proofs.GrantLemmas.{IsWired}
-use Rattle.noc_ownership.proofs.PlaceLemmas.{IsValid, place-stepped}
+use Rattle.noc_ownership.proofs.PlaceLemmas.{IsValid, place-stepped, out-landed}
 use Rattle.noc_ownership.proofs.WormRecord.{IsPlaced, far_of, valid-below}
 use Rattle.noc_ownership.proofs.InjectionPhase.{IsInjected}
 use Rattle.noc_ownership.proofs.InjectionState.{entries-move, entries-are, entries-apart, all_entries}
 use Rattle.noc_ownership.proofs.MoveLemmas.{IsMoving, IsMoved, moved-or-not, same-far, far-eject, leads-end, no-end-eject, weight-in}
-use Rattle.noc_ownership.proofs.Sound.{IsSound, IsSoundFrozen, sound-landed, sound-credits, sound-frozen}
+use Rattle.noc_ownership.proofs.Sound.{IsSoundState, IsSoundFrozen, sound-landed, sound-credits, sound-frozen}
 use Rattle.noc_ownership.proofs.OpeningLemmas.{sound-state, at-source}
 
 module _ (net : Setup) where
@@ -29,15 +29,9 @@ module _ (net : Setup) where
       rising = λ p i j a b v l e f. let vj = v.1 in o.rising p i j a b v l (h p i a (valid-below net built p i j v (omega arith)) e) (h p j b v f);
     }
 
-    out-landed : (x : Place) (k : ℕ) → landed_place net x ≡ Out k → x ≡ Out k
-    out-landed Source k e = absurd (cc e)
-    out-landed (On d) k e = absurd (cc e)
-    out-landed (In d) k e = absurd (cc e)
-    out-landed (Out n) k e = e
-
-    out-landing : (n : ℕ) (S : State) → IsSound net S → IsOutInOrder n S → IsOutInOrder n (after_landing net S)
+    out-landing : (n : ℕ) (S : State) → IsSoundState net S → IsOutInOrder n S → IsOutInOrder n (after_landing net S)
     unfolding after_landing
-    out-landing n S s o = kept n S (after_landing net S) (λ p i k v e. out-landed (place_of net S p i) k (sym (place-stepped net (λ (f : Located). landed_place net f.place) S (after_landing net S) s.keyed refl p i v) ∙ e)) o
+    out-landing n S s o = kept n S (after_landing net S) (λ p i k v e. out-landed net (place_of net S p i) k (sym (place-stepped net (λ (f : Located). landed_place net f.place) S (after_landing net S) s.keyed refl p i v) ∙ e)) o
 
     out-injection : (n : ℕ) (S : State) → IsSoundFrozen net S → IsOutInOrder n S → IsOutInOrder n (after_injection net n S)
     out-injection n S s o = kept n S (after_injection net n S) (λ p i k v e. at p i k v e (entries-move net built S s.keyed s.worm n p v.0)) o
@@ -111,7 +105,7 @@ module _ (net : Setup) where
           rising p i j a b v l (inr x) (inl f) = absurd (not-before p i j b v l x.1 f)
           rising p i j a b v l (inr x) (inr y) = absurd (not-both p i j l x.1 y.1)
 
-    pub out-frozen : (n : ℕ) (S : State) → IsSound net S → IsOutInOrder n S → IsOutInOrder n (frozen net n S)
+    pub out-frozen : (n : ℕ) (S : State) → IsSoundState net S → IsOutInOrder n S → IsOutInOrder n (frozen net n S)
     unfolding after_landing after_credits frozen after_injection
     out-frozen n S s o =
         out-injection n (after_credits net (after_landing net S)) (sound-credits net built wired (after_landing net S) (sound-landed net built wired S s))

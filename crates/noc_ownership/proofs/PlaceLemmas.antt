@@ -3,12 +3,40 @@ use Rattle.std.proofs.Common.{◌≡◌, ℕ, ◌<◌, ◌≤◌, Bool, true, fa
 use Rattle.std.specs.Prelude.{find, option_map, unwrap_or, nat_eq, ◌&&◌}
 use Rattle.std.proofs.lemmas.Bool.{false≢true, and_parts, and_from, eqb-true, eq-eqb}
 use Rattle.std.proofs.lemmas.Option.{same_Some}
-use Rattle.noc_model.specs.Network.{Setup, State, Located, Place, Source, place_of}
-use Rattle.noc_ownership.proofs.BufferLemmas.{find-passes}
+use Rattle.noc_model.specs.Network.{Setup, State, Located, Place, Source, place_of, On, In, Out, is_in, is_on, is_at_source, landed_place}
+use Rattle.noc_ownership.proofs.BufferLemmas.{find-passes, same_channel-true}
 use Rattle.noc_topo.specs.Words.{Has, Pairs}
+use Rattle.noc_route.specs.Channel.{Channel}
 use Rattle.noc_ownership.proofs.Members.{Has-map, Has-mapped, find-has, find-some, Pairs-map, each-at}
 pub use Rattle.noc_ownership.proofs.StateWords.{IsSortedPair, IsValid, IsKeyed}
 
+-- ---- a place by its test
+pub is_in-is : (c : Channel) (x : Place) → is_in c x ≡ true → x ≡ In c
+is_in-is c Source e = absurd (false≢true e)
+is_in-is c (On d) e = absurd (false≢true e)
+is_in-is c (In d) e = ap In (sym (same_channel-true c d e))
+is_in-is c (Out n) e = absurd (false≢true e)
+
+pub is_on-is : (c : Channel) (x : Place) → is_on c x ≡ true → x ≡ On c
+is_on-is c Source e = absurd (false≢true e)
+is_on-is c (On d) e = ap On (sym (same_channel-true c d e))
+is_on-is c (In d) e = absurd (false≢true e)
+is_on-is c (Out n) e = absurd (false≢true e)
+
+pub at_source-is : (x : Place) → is_at_source x ≡ true → x ≡ Source
+at_source-is Source e = refl
+at_source-is (On c) e = absurd (false≢true e)
+at_source-is (In c) e = absurd (false≢true e)
+at_source-is (Out n) e = absurd (false≢true e)
+
+-- what is out after the flits have landed was out
+pub out-landed : (net : Setup) (x : Place) (k : ℕ) → landed_place net x ≡ Out k → x ≡ Out k
+out-landed net Source k e = absurd (cc e)
+out-landed net (On d) k e = absurd (cc e)
+out-landed net (In d) k e = absurd (cc e)
+out-landed net (Out n) k e = e
+
+-- ---- the flits of a state
 -- two members of one key are one flit
 pub sorted-same : (f g : Located) (xs : List Located) → Pairs IsSortedPair xs → Has f xs → Has g xs → f.packet ≡ g.packet → f.index ≡ g.index → f ≡ g
 sorted-same f g [] s h k e i = elim h [ ]

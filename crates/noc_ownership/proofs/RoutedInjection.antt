@@ -12,7 +12,7 @@ use Rattle.noc_ownership.proofs.Members.{Has-append, Has-left, Has-right}
 use Rattle.noc_ownership.proofs.PathLemmas.{IsEject}
 use Rattle.noc_ownership.proofs.PlaceLemmas.{IsKeyed}
 use Rattle.noc_ownership.proofs.WormRecord.{IsWorm, IsNear, goal, last_of, far_of, valid-last, valid-first}
-use Rattle.noc_ownership.proofs.InjectionPhase.{apart-same, IsEntered, IsInjected, news, new-entry, new-fresh}
+use Rattle.noc_ownership.proofs.InjectionPhase.{apart-same, IsEnteredBy, IsInjected, news, new-entry, new-fresh}
 use Rattle.noc_ownership.proofs.InjectionState.{entries-move, entries-are, entries-apart, all_entries, worm-after_injection}
 use Rattle.noc_ownership.proofs.RoutedRecord.{Come, IsHeld, HasNext, IsRoutedFrozen, entering-behind}
 
@@ -24,7 +24,7 @@ module _ (net : Setup) (built : IsBuilt net) (S : State) (keyed : IsKeyed net S.
   Moves p = IsInjected net built S.own (place_of net S) w (all_entries net built S keyed w n) (entries-are net built S keyed w n) (entries-apart net built S keyed w n) (place_of net T) p
 
   abbrev Enters : ℕ → Injection net → Type 0
-  Enters p one = IsEntered net built S.own (place_of net S) w (all_entries net built S keyed w n) (entries-are net built S keyed w n) (entries-apart net built S keyed w n) (place_of net T) p one
+  Enters p one = IsEnteredBy net built S.own (place_of net S) w (all_entries net built S keyed w n) (entries-are net built S keyed w n) (entries-apart net built S keyed w n) (place_of net T) p one
 
   after : IsWorm net T.own (place_of net T)
   after = worm-after_injection net built S keyed w n

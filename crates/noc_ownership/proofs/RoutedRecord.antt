@@ -9,7 +9,7 @@ use Rattle.noc_ownership.proofs.BuiltRecord.{IsBuilt}
 use Rattle.noc_topo.specs.Words.{Has}
 use Rattle.noc_ownership.proofs.Members.{Has-filter, Has-kept}
 use Rattle.noc_ownership.proofs.PathLemmas.{IsEject}
-use Rattle.noc_ownership.proofs.PlaceLemmas.{IsValid, IsKeyed, place-stepped}
+use Rattle.noc_ownership.proofs.PlaceLemmas.{IsValid, IsKeyed, place-stepped, out-landed}
 use Rattle.noc_ownership.proofs.WormRecord.{IsWorm, IsEntering, goal, last_of, far_of, valid-last, valid-first, freed}
 use Rattle.noc_ownership.proofs.MoveLemmas.{far-link}
 pub use Rattle.noc_ownership.proofs.StateWords.{Come, IsHeld, HasNext, IsRoutedMid}
@@ -36,12 +36,6 @@ module _ (net : Setup) where
     come-landed p c x (inl e) = inl (ap (landed_place net) e)
     come-landed p c x (inr e) = inr (past-landed p c x ∙ e)
 
-    out-landed : (x : Place) (k : ℕ) → landed_place net x ≡ Out k → x ≡ Out k
-    out-landed Source k e = absurd (cc e)
-    out-landed (On d) k e = absurd (cc e)
-    out-landed (In d) k e = absurd (cc e)
-    out-landed (Out n) k e = e
-
     pub routed-landed : (S : State) → IsKeyed net S.at → IsWorm net S.own (place_of net S) → IsRoutedMid net S → IsRoutedMid net (after_landing net S)
     unfolding after_landing
     routed-landed S keyed w m = record {
@@ -51,7 +45,7 @@ module _ (net : Setup) where
       passed = λ c p h a b. let low = w.known c p h.0 in m.passed c p h (sym (head-past c p low) ∙ a) (sym (tail-past c p low) ∙ b);
       leads = λ c p h a b. let low = w.known c p h.0 in m.leads c p h (sym (head-past c p low) ∙ a) (sym (tail-past c p low) ∙ b);
       granted = λ c p h x b. let low = w.known c p h.0 in m.granted c p h x (sym (tail-past c p low) ∙ b);
-      eject = λ n v p k h e. m.eject n v p k h (out-landed (tail_place net S p) k (sym (tail p (w.known (Eject n v) p h)) ∙ e));
+      eject = λ n v p k h e. m.eject n v p k h (out-landed net (tail_place net S p) k (sym (tail p (w.known (Eject n v) p h)) ∙ e));
     }
       where
         goes : (p i : ℕ) → IsValid net p i → place_of net (after_landing net S) p i ≡ landed_place net (place_of net S p i)

@@ -20,7 +20,7 @@ use Rattle.noc_ownership.proofs.VerdictPhase.{owned-before}
 use Rattle.noc_ownership.proofs.RoutedRecord.{IsHeld, IsRoutedMid, IsRoutedFrozen, IsRoutedWell, routed-landed, routed-credits}
 use Rattle.noc_ownership.proofs.RoutedInjection.{routed-injection, is-new, split, added}
 use Rattle.noc_ownership.proofs.RoutedVerdicts.{routed-verdicts, backed-after}
-use Rattle.noc_ownership.proofs.Sound.{IsSound, IsSoundFrozen, sound-landed, sound-credits, sound-injection, sound-verdicts}
+use Rattle.noc_ownership.proofs.Sound.{IsSoundState, IsSoundFrozen, sound-landed, sound-credits, sound-injection, sound-verdicts}
 use Rattle.noc_ownership.proofs.OpeningLemmas.{sound-opening}
 
 -- owned link and injection channels are among the inputs, and each input arrives somewhere
@@ -34,7 +34,7 @@ module _ (net : Setup) where
   IsCovered S = (c : Channel) (p : ℕ) → IsHeld net S c p → Has c (inputs net.relation.grid net.relation.vcs)
 
   pub record IsWhole (S : State) : Type 0 where
-    pub sound : IsSound net S
+    pub sound : IsSoundState net S
     pub routed : IsRoutedWell net S
     pub covered : IsCovered S
     -- an owned link channel whose tail is past it has its credit on the way

@@ -17,15 +17,19 @@ use Rattle.noc_ownership.proofs.Members.{Has-append, Has-left, Has-right, Has-fi
 use Rattle.noc_ownership.proofs.OwnedLemmas.{of, of-has, has-of}
 use Rattle.noc_ownership.proofs.PathLemmas.{IsEject, IsLast, IsBehind, path-behind, no-inject}
 use Rattle.noc_ownership.proofs.GrantLemmas.{IsWired, IsGrant, grant-last, last-same}
-use Rattle.noc_ownership.proofs.PlaceLemmas.{IsValid, IsKeyed, flit-there, place-of-flit}
+use Rattle.noc_ownership.proofs.PlaceLemmas.{IsValid, IsKeyed, flit-there, place-of-flit, is_in-is}
 use Rattle.noc_ownership.proofs.WormRecord.{IsWorm, IsPlaced, IsNear, class_of, goal, last_of, far_of, valid-last, valid-first, heavy-not-past}
-use Rattle.noc_ownership.proofs.MoveLemmas.{IsMoving, IsMoved, far-link, next-once, next-is, placed-in, weight-in, is_in-is}
+use Rattle.noc_ownership.proofs.MoveLemmas.{IsMoving, IsMoved, far-link, next-once, next-is, placed-in, weight-in}
 use Rattle.noc_ownership.proofs.VerdictPhase.{leaves-tail, kept-left, owned-before, known-after}
 use Rattle.noc_ownership.proofs.RoomLemmas.{filter-some}
 use Rattle.noc_ownership.proofs.RoutedRecord.{Come, IsHeld, HasNext, IsRoutedFrozen, IsRoutedWell}
 use Rattle.noc_ownership.proofs.NextLemmas.{leads-far, two-ejects}
 use Rattle.noc_ownership.proofs.RoutedMoves.{worm, step, same-held, come-after, come-before, behind-after, stays-if, kept-held, given, far-given, not-come}
 use Rattle.noc_ownership.proofs.InjectionPhase.{light as lighter}
+
+pub is_routed-true : (v : Verdict) → is_routed v ≡ true → v ≡ Routed
+is_routed-true Routed e = refl
+is_routed-true _ e = absurd (false≢true e)
 
 pub channel-has : (c : Channel) (xs : List Channel) → has_channel xs c ≡ true → Has c xs
 channel-has c xs e = let r = list_any-has (same_channel c) xs e in subst (λ (d : Channel). Has d xs) (sym (same_channel-true c r.0 r.2)) r.1
@@ -160,10 +164,6 @@ module _ (net : Setup) (built : IsBuilt net) (wired : IsWired net) (F : State) (
       whole : (p : ℕ) → IsHeld net F c p → Come net p c (head_place net F p) → tail_leaves net F c ≡ false → (p : ℕ) × IsHeld net T c p × Come net p c (head_place net T p) × (is_past net c (goal net p) (tail_place net T p) ≡ false)
       whole p h come t = (p, (kept-held net built wired F keyed w n still r c p h t, h.1), come-after net built wired F keyed w n still r c p h come, behind-after net built wired F keyed w n still r c p h t)
 
-      is_routed-is : (v : Verdict) → is_routed v ≡ true → v ≡ Routed
-      is_routed-is Routed k = refl
-      is_routed-is _ k = absurd (false≢true k)
-
       new : verdict_in net F c ≡ Routed → (p : ℕ) × IsHeld net T c p × Come net p c (head_place net T p) × (is_past net c (goal net p) (tail_place net T p) ≡ false)
       new v = from (filter-some (λ (f : Located). is_in c f.place) F.at)
         where
@@ -171,7 +171,7 @@ module _ (net : Setup) (built : IsBuilt net) (wired : IsWired net) (F : State) (
           from (inl z) = let l : 0 < count_in net F c = ltb-true _ _ (routed-flit c v) in absurd (omega arith)
           from (inr x) =
               let f : Located = x.0 in
-              let there : place_of net F f.packet f.index ≡ In c = place-of-flit net F keyed f x.1 ∙ is_in-is net built F keyed w c f.place x.2 in
+              let there : place_of net F f.packet f.index ≡ In c = place-of-flit net F keyed f x.1 ∙ is_in-is c f.place x.2 in
               let valid = keyed.valid f x.1 in
               let h = placed-in net built F keyed w f.packet c (subst (λ (y : Place). IsPlaced net F.own f.packet y) there (w.placed f.packet f.index valid)) in
               whole f.packet h (head-come c f.packet f.index valid there h) (and_left _ _ (ap is_moved v))
@@ -182,7 +182,7 @@ module _ (net : Setup) (built : IsBuilt net) (wired : IsWired net) (F : State) (
           let f = Has-filter (λ d. not (tail_leaves net F d)) c F.routed k in
           let x = r.mid.only c (has-channel c F.routed f.0) in
           whole x.0 x.1 x.2 (not-true _ f.1)
-      at (inr k) = new (is_routed-is _ (Has-filter (λ d. is_routed (verdict_in net F d)) c (inputs net.relation.grid net.relation.vcs) k).1)
+      at (inr k) = new (is_routed-true _ (Has-filter (λ d. is_routed (verdict_in net F d)) c (inputs net.relation.grid net.relation.vcs) k).1)
 
   -- ---- next channels
 

@@ -17,7 +17,7 @@ use Rattle.noc_ownership.proofs.VerdictRoom.{room-after_verdicts}
 
 module _ (net : Setup) where
   -- the invariant of the state at the start of a cycle
-  pub record IsSound (S : State) : Type 0 where
+  pub record IsSoundState (S : State) : Type 0 where
     pub keyed : IsKeyed net S.at
     pub worm : IsWorm net S.own (place_of net S)
     pub room : (c : Channel) → held net S c ≤ net.places
@@ -36,7 +36,7 @@ module _ (net : Setup) where
     no-landed-on (In d) c e = cc e
     no-landed-on (Out n) c e = cc e
 
-    pub sound-landed : (S : State) → IsSound S → IsSoundFrozen (after_landing net S)
+    pub sound-landed : (S : State) → IsSoundState S → IsSoundFrozen (after_landing net S)
     unfolding after_landing
     sound-landed S s =
         let goes : (p i : ℕ) → IsValid net p i → place_of net (after_landing net S) p i ≡ landed_place net (place_of net S p i)
@@ -74,17 +74,17 @@ module _ (net : Setup) where
             at (inl k) = let z : In r.0.channel ≡ On c = sym (ap (place_of net (after_injection net n S) p) k ∙ r.3.now) ∙ e in cc z
             at (inr k) = s.still p i v c (sym (r.3.others i v k) ∙ e)
 
-    pub sound-frozen : (n : ℕ) (S : State) → IsSound S → IsSoundFrozen (frozen net n S)
+    pub sound-frozen : (n : ℕ) (S : State) → IsSoundState S → IsSoundFrozen (frozen net n S)
     unfolding frozen after_injection
     sound-frozen n S s = sound-injection n (after_credits net (after_landing net S)) (sound-credits (after_landing net S) (sound-landed S s))
 
-    pub sound-verdicts : (n : ℕ) (F : State) → IsSoundFrozen F → IsSound (after_verdicts net n F)
+    pub sound-verdicts : (n : ℕ) (F : State) → IsSoundFrozen F → IsSoundState (after_verdicts net n F)
     sound-verdicts n F s = record {
       keyed = keyed-after_verdicts net built wired F s.keyed s.worm n s.still;
       worm = worm-after_verdicts net built wired F s.keyed s.worm n s.still;
       room = λ c. room-after_verdicts net built F s.keyed s.worm n s.still c (s.room c);
     }
 
-    pub sound-cycle : (n : ℕ) (S : State) → IsSound S → IsSound (network_cycle net n S)
+    pub sound-cycle : (n : ℕ) (S : State) → IsSoundState S → IsSoundState (network_cycle net n S)
     unfolding network_cycle after_verdicts
     sound-cycle n S s = sound-verdicts n (frozen net n S) (sound-frozen n S s)

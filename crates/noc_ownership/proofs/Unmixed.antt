@@ -12,10 +12,10 @@ use Rattle.noc_ownership.proofs.BufferLemmas.{same_channel-refl}
 use Rattle.noc_topo.specs.Words.{Has, Pairs}
 use Rattle.noc_ownership.proofs.Members.{Has-filter, Has-kept, Pairs-filter, each-at}
 use Rattle.noc_ownership.proofs.OwnedLemmas.{owner-is}
-use Rattle.noc_ownership.proofs.PlaceLemmas.{IsValid, IsKeyed, IsSortedPair, place-of-flit, flit-there}
+use Rattle.noc_ownership.proofs.PlaceLemmas.{IsValid, IsKeyed, IsSortedPair, place-of-flit, flit-there, is_in-is}
 use Rattle.noc_ownership.proofs.WormRecord.{IsWorm, IsPlaced, valid-below}
 use Rattle.noc_ownership.proofs.InjectionPhase.{two-injects}
-use Rattle.noc_ownership.proofs.MoveLemmas.{same-far, placed-in, is_in-is}
+use Rattle.noc_ownership.proofs.MoveLemmas.{same-far, placed-in}
 
 -- flits of one packet in order, with none left out between them, are a run
 run-from : (net : Setup) (p : ℕ) (x : Located) (xs : List Located) → Pairs IsSortedPair (x ∷ xs) → ((f : Located) → Has f (x ∷ xs) → f.packet ≡ p)
@@ -93,7 +93,7 @@ module _ (net : Setup) (built : IsBuilt net) (S : State) (keyed : IsKeyed net S.
   in-buffer c f h =
       let m = Has-filter (λ (g : Located). is_in c g.place) f S.at h in
       let v = keyed.valid f m.0 in
-      let there : place_of net S f.packet f.index ≡ In c = place-of-flit net S keyed f m.0 ∙ is_in-is net built S keyed w c f.place m.1 in
+      let there : place_of net S f.packet f.index ≡ In c = place-of-flit net S keyed f m.0 ∙ is_in-is c f.place m.1 in
       let placed : IsPlaced net S.own f.packet (In c) = subst (λ (x : Place). IsPlaced net S.own f.packet x) there (w.placed f.packet f.index v) in
       record {
         valid = v;

@@ -5,7 +5,7 @@ use Rattle.std.specs.List.{AllByRecursion}
 use Rattle.std.proofs.lemmas.Bool.{false≢true, eqb-true, ne_eqb, and_parts, and_left, and_right, ltb-true, or_cases}
 use Rattle.noc_route.specs.Channel.{Channel, Link, Inject, Eject, same_channel, is_link, inputs, arrival_of, channel_vc, output_index}
 use Rattle.noc_router.specs.Verdict.{Unrouted, Holds}
-use Rattle.noc_model.specs.Network.{Setup, State, Located, Place, Source, On, In, Out, place_of, is_on, has_channel, buffer_of, count_on, count_in, credit_of, has_credit, after_verdicts, verdict_in, verdict_at, next_channel, gone_to, moved_place, claim_of, round_at}
+use Rattle.noc_model.specs.Network.{Setup, State, Located, Place, On, In, Out, place_of, is_on, has_channel, buffer_of, count_on, count_in, credit_of, has_credit_in, after_verdicts, verdict_in, verdict_at, next_channel, gone_to, moved_place, claim_of, round_at}
 use Rattle.noc_router.specs.Verdict.{is_moved}
 use Rattle.noc_ownership.proofs.BufferLemmas.{same_flit}
 use Rattle.noc_ownership.proofs.BuiltRecord.{IsBuilt}
@@ -14,7 +14,7 @@ use Rattle.noc_ownership.proofs.BufferLemmas.{same_channel-true, moved-holds, is
 use Rattle.noc_topo.specs.Words.{Has, Pairs}
 use Rattle.noc_ownership.proofs.Members.{Has-filter, Has-map, list_any-has, each-at}
 use Rattle.noc_ownership.proofs.OwnedLemmas.{once-same}
-use Rattle.noc_ownership.proofs.PlaceLemmas.{IsValid, IsKeyed, IsSortedPair, place-of-flit, place-stepped}
+use Rattle.noc_ownership.proofs.PlaceLemmas.{IsValid, IsKeyed, IsSortedPair, place-of-flit, place-stepped, is_on-is}
 use Rattle.noc_ownership.proofs.WormRecord.{IsWorm}
 use Rattle.noc_ownership.proofs.MoveLemmas.{IsMoving, IsMoved, moved-or-not, next-once}
 use Rattle.noc_ownership.proofs.RoomLemmas.{held, Gains, count-one_more, filter-some}
@@ -37,17 +37,17 @@ sorted-distinct net (f ∷ fs) s = (others fs (λ g m. each-at (IsSortedPair f) 
 
 module _ (net : Setup) (F : State) where
   -- where the flit of c moves, c's buffer holds one and its next channel has a credit
-  pub moved-facts : (c o : Channel) → verdict_in net F c ≡ Moved → next_channel net F c ≡ Some o → (0 < count_in net F c) × (has_credit net F o ≡ true)
+  pub moved-facts : (c o : Channel) → verdict_in net F c ≡ Moved → next_channel net F c ≡ Some o → (0 < count_in net F c) × (has_credit_in net F o ≡ true)
   moved-facts c o e next = at (arrival_of net.relation.grid c) refl
     where
-      holding : (r i : ℕ) → claim_of net F r c ≡ Holds i true → has_credit net F o ≡ true
+      holding : (r i : ℕ) → claim_of net F r c ≡ Holds i true → has_credit_in net F o ≡ true
       holding r i h = by (has_channel F.routed c) refl
         where
-          by : (b : Bool) → has_channel F.routed c ≡ b → has_credit net F o ≡ true
+          by : (b : Bool) → has_channel F.routed c ≡ b → has_credit_in net F o ≡ true
           by false k = let g : Unrouted ≡ Holds i true = sym (rw k) ∙ h in absurd (cc g)
-          by true k = let g : Holds (output_index net.relation.grid net.relation.vcs o) (has_credit net F o) ≡ Holds i true = sym (rw (k, next)) ∙ h in cc
+          by true k = let g : Holds (output_index net.relation.grid net.relation.vcs o) (has_credit_in net F o) ≡ Holds i true = sym (rw (k, next)) ∙ h in cc
 
-      at : (a : Option (ℕ × ℕ)) → arrival_of net.relation.grid c ≡ a → (0 < count_in net F c) × (has_credit net F o ≡ true)
+      at : (a : Option (ℕ × ℕ)) → arrival_of net.relation.grid c ≡ a → (0 < count_in net F c) × (has_credit_in net F o ≡ true)
       at None h = let g : Empty ≡ Moved = sym (ap (verdict_at net F c) h) ∙ e in absurd (cc g)
       at (Some place) h =
           let held = moved-holds net.relation.vcs (round_at net F place.0) (place.1 * net.relation.vcs + channel_vc c) (claim_of net F place.0 c) (nat_lt 0 (count_in net F c)) (sym (ap (verdict_at net F c) h) ∙ e) in
@@ -94,12 +94,6 @@ module _ (net : Setup) (built : IsBuilt net) (F : State) (keyed : IsKeyed net F.
           let less : count_in net T c ≡ count_in net F c - 1 = ap length (buffer-moved net F n c v (sorted-distinct net F.at keyed.sorted)) ∙ length-drop 1 (buffer_of net F c) in
           let top = at_most (has_channel T.back c) in
           omega arith
-
-  is_on-is : (o : Channel) (x : Place) → is_on o x ≡ true → x ≡ On o
-  is_on-is o Source e = absurd (false≢true e)
-  is_on-is o (On d) e = ap On (sym (same_channel-true o d e))
-  is_on-is o (In d) e = absurd (false≢true e)
-  is_on-is o (Out k) e = absurd (false≢true e)
 
   -- what comes on the wire of o moves there from a buffer
   pub comes-on : (o : Channel) (f : Located) → Has f F.at → is_on o (step f).place ≡ true → (c : Channel) × IsMoving net built F keyed w n still f.packet f.index c o
@@ -168,7 +162,7 @@ module _ (net : Setup) (built : IsBuilt net) (F : State) (keyed : IsKeyed net F.
       rest : count_in net T c + (if has_channel T.back c then 1 else 0) ≤ count_in net F c
       rest = in-and-back c
 
-      credit-is : (d : Channel) → is_link d ≡ true → has_credit net F d ≡ true → count_in net F d < net.places
+      credit-is : (d : Channel) → is_link d ≡ true → has_credit_in net F d ≡ true → count_in net F d < net.places
       credit-is d l h =
           let k : nat_lt 0 (credit_of net F d) ≡ true = second (or_cases (not (is_link d)) (nat_lt 0 (credit_of net F d)) h) in
           let m : 0 < credit_of net F d = ltb-true _ _ k in

@@ -1,7 +1,6 @@
 -- Where one of a router asks or is ready, one is granted or moves.
-use Rattle.std.proofs.Common.{◌≡◌, ℕ, ◌+◌, ◌*◌, ◌/◌, ◌%◌, ◌<◌, Bool, true, false, List, get_or, Option, Some, None, refl, ap, sym, ◌∙◌}
+use Rattle.std.proofs.Common.{◌≡◌, ℕ, ◌+◌, ◌*◌, ◌/◌, ◌%◌, ◌<◌, Bool, true, false, List, get_or, Option, Some, None, ap, sym, ◌∙◌}
 use Rattle.std.specs.Prelude.{filter, is_some, option_and_then}
-use Rattle.std.proofs.lemmas.Bool.{false≢true}
 use Rattle.std.proofs.lemmas.Nat.{div-mul-add, mod-mul-add}
 use Rattle.noc_alloc.specs.Arbiter.{first_in_turn, distance_in_turn}
 use Rattle.noc_alloc.specs.Allocation.{pick_of, picked_port, winner_of}
@@ -10,16 +9,13 @@ use Rattle.noc_router.specs.Verdict.{Claim, Holds, Round, Unrouted, Waits, ready
 use Rattle.noc_router.specs.declared.verdict.Verdict.TheVariants.{Moved}
 use Rattle.noc_topo.specs.Shape.{ports}
 use Rattle.noc_topo.specs.Words.{below, is_some_of, tabulate}
+use Rattle.noc_route.proofs.OptionLemmas.{some-value}
 use Rattle.noc_alloc.proofs.ArbiterLemmas.{first_in_turn-picks}
 use Rattle.noc_alloc.proofs.WordLemmas.{is_some_of-true, is_some_of-some, get_or-tabulate}
 use Rattle.noc_ownership.proofs.OptionLemmas.{and_then-some}
 use Rattle.noc_ownership.proofs.Members.{Has-kept}
 use Rattle.noc_ownership.proofs.OpeningLemmas.{below-has}
 use Rattle.noc_progress.proofs.HasLemmas.{least-some}
-
-pub some-value : (o : Option ℕ) → is_some o ≡ true → (x : ℕ) × (o ≡ Some x)
-some-value None e = absurd (false≢true e)
-some-value (Some x) e = (x, refl)
 
 pub is_some-value : (o : Option ℕ) (x : ℕ) → o ≡ Some x → is_some o ≡ true
 is_some-value o x e = ap (λ (p : Option ℕ). is_some p) e

@@ -14,7 +14,7 @@ use Rattle.noc_ownership.proofs.OwnedLemmas.{of, of-has, has-of, once-same, owne
 use Rattle.noc_ownership.proofs.StateWords.{far_of, IsEject, IsKeyed, IsPlaced, class_of, goal, last_of, Precedes, IsEntering}
 use Rattle.noc_ownership.proofs.PathLemmas.{IsBehind, path-behind, path-tail, no-inject}
 use Rattle.noc_model.specs.Good.{IsValid}
-use Rattle.noc_ownership.proofs.PlaceLemmas.{place-of-flit, flit-there}
+use Rattle.noc_ownership.proofs.PlaceLemmas.{place-of-flit, flit-there, at_source-is}
 use Rattle.noc_ownership.proofs.WormRecord.{IsWorm, valid-last}
 use Rattle.noc_ownership.proofs.MoveLemmas.{next-is, next-no-eject, placed-in, far-link, same-far}
 use Rattle.noc_ownership.proofs.OpeningLemmas.{below-rises, below-has}
@@ -24,12 +24,13 @@ use Rattle.noc_ownership.proofs.GrantLemmas.{IsWired}
 use Rattle.noc_ownership.proofs.CameLemmas.{IsLed}
 use Rattle.noc_ownership.proofs.OptionLemmas.{and_then-some}
 use Rattle.noc_ownership.proofs.GrantLemmas.{Has-below}
-use Rattle.noc_progress.proofs.HasLemmas.{least-has, least-some, find-has}
+use Rattle.noc_progress.proofs.HasLemmas.{least-some, find-has}
 use Rattle.noc_progress.proofs.WormLemmas.{is_input}
 use Rattle.noc_progress.proofs.WormFacts.{Came, IsChain}
 use Rattle.noc_ownership.proofs.NextLemmas.{next-from}
 use Rattle.noc_ownership.proofs.SourceOf.{has-source}
 use Rattle.noc_ownership.proofs.BufferLemmas.{same_channel-refl}
+use Rattle.noc_ownership.proofs.InjectionState.{least_by-has}
 use Rattle.noc_route.specs.Routes.{permits}
 use Rattle.noc_topo.specs.Shape.{distance}
 
@@ -161,7 +162,7 @@ module _ (net : Setup) (built : IsBuilt net) (F : State) (whole : IsWholeFrozen 
         waits_at m q = nat_eq (packet_at net q).source m && list_any (λ (x : Located). is_at_source x.place) (flits_of net F q)
 
         least-in : (q : ℕ) → first_waiting net F n ≡ Some q → Has q (filter (waits_at n) (below (length net.packets)))
-        least-in q e = least-has (λ q. (packet_at net q).due) (filter (waits_at n) (below (length net.packets))) q e
+        least-in q e = least_by-has (λ q. (packet_at net q).due) (filter (waits_at n) (below (length net.packets))) q e
 
         behind : (q : ℕ) → n ≡ (packet_at net p).source → p < length net.packets → Has q (filter (waits_at n) (below (length net.packets))) → Precedes (λ q. (packet_at net q).due) p q
         behind q here low k =
@@ -172,17 +173,11 @@ module _ (net : Setup) (built : IsBuilt net) (F : State) (whole : IsWholeFrozen 
             let of_q = Has-filter (λ (x : Located). nat_eq q x.packet) some.0 F.at some.1 in
             queued.first p low (worm.begun (Inject n v) p h) g q l (eqb-true _ _ b.0 ∙ here) (waiting-tail q l some.0 of_q.0 (eqb-true q some.0.packet of_q.1) some.2)
           where
-            at-source : (x : Place) → is_at_source x ≡ true → x ≡ Source
-            at-source Source e = refl
-            at-source (On c) e = absurd (false≢true e)
-            at-source (In c) e = absurd (false≢true e)
-            at-source (Out m) e = absurd (false≢true e)
-
             -- where one flit of a packet is at the source, its tail is
             waiting-tail : (q : ℕ) → q < length net.packets → (f : Located) → Has f F.at → q ≡ f.packet → is_at_source f.place ≡ true → place_of net F q (last_of net q) ≡ Source
             waiting-tail q l f k own e =
                 let valid : IsValid net q f.index = subst (λ (x : ℕ). IsValid net x f.index) (sym own) (keyed.valid f k) in
-                let there : place_of net F q f.index ≡ Source = ap (λ (x : ℕ). place_of net F x f.index) own ∙ place-of-flit net F keyed f k ∙ at-source f.place e in
+                let there : place_of net F q f.index ≡ Source = ap (λ (x : ℕ). place_of net F x f.index) own ∙ place-of-flit net F keyed f k ∙ at_source-is f.place e in
                 let last : f.index ≤ last_of net q = let s = valid.1 in omega arith in
                 let heavy = worm.order q f.index (last_of net q) (valid-last net built q l) last in
                 let here : weight net q (place_of net F q f.index) ≡ 3 * hops net q + 2 = ap (weight net q) there in

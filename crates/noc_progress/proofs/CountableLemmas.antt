@@ -1,10 +1,11 @@
 -- The cycles of a run are countable: who owns what, where flits are, and what is routed, give what the count of events needs.
 use Rattle.std.proofs.Common.{◌≡◌, ℕ, ◌+◌, ◌*◌, ◌<◌, ◌≤◌, Bool, true, false, cond, List, [], ◌∷◌, length, Option, Some, None, refl, ap, sym, ◌∙◌, arith, inl, inr, subst}
-use Rattle.std.specs.Prelude.{find, is_none, nat_eq, nat_le, nat_lt, option_map}
+use Rattle.std.specs.Prelude.{find, nat_eq, nat_le, nat_lt, option_map}
 use Rattle.std.specs.List.{AllByRecursion}
-use Rattle.std.proofs.lemmas.Bool.{false≢true, ltb-true, and_parts, eqb-true, false_from_ne_true}
+use Rattle.std.proofs.lemmas.Bool.{ltb-true, and_parts, eqb-true, false_from_ne_true}
 use Rattle.noc_topo.specs.Words.{Has, Pairs, Each, below}
 use Rattle.noc_route.specs.Channel.{Channel, Link, Inject, Eject, is_link}
+use Rattle.noc_route.proofs.OptionLemmas.{is_none-none}
 use Rattle.noc_model.specs.Network.{Setup, State, Located, Place, Source, On, In, Injection, packet_at, place_of, tail_place, owner_of, owned_by, leads_from, is_past, is_freed, is_idle, count_in, injection_at, injection_with, is_injection_of, first_waiting, after_landing, after_credits}
 use Rattle.noc_model.specs.Progress.{weight, head_place}
 use Rattle.noc_ownership.proofs.BuiltRecord.{IsBuilt}
@@ -141,11 +142,7 @@ module _ (net : Setup) (built : IsBuilt net) (wired : IsWired net) (S : State) (
         fresh node q one w (Some v) f g h =
             let same : ◌≡◌ {A = Injection net} (record { packet = q; channel = Inject node v; begins = true }) one = cc in
             let free = (find-has (λ v. is_idle net credited (Inject node v)) (below net.relation.vcs) v f).1 in
-            idle-none net credited (Inject node v) w (none (owner_of net credited (Inject node v)) free) (subst (λ (c : Channel). Has (c, w) credited.own) (sym (ap (λ (x : Injection net). x.channel) same)) h)
-          where
-            none : (o : Option ℕ) → is_none o ≡ true → o ≡ None
-            none None e = refl
-            none (Some x) e = absurd (false≢true e)
+            idle-none net credited (Inject node v) w (is_none-none (owner_of net credited (Inject node v)) free) (subst (λ (c : Channel). Has (c, w) credited.own) (sym (ap (λ (x : Injection net). x.channel) same)) h)
 
         begins : (node q : ℕ) (one : Injection net) (w : ℕ) (b : Bool)
             → cond b (option_map (λ v. (record { packet = q; channel = Inject node v; begins = true })) (find (λ v. is_idle net credited (Inject node v)) (below net.relation.vcs))) None ≡ Some one → Has (one.channel, w) credited.own → ⊥

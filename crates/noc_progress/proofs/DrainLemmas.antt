@@ -9,8 +9,7 @@ use Rattle.noc_packet.specs.declared.packet.Packet.{Packet}
 use Rattle.noc_route.specs.Channel.{Channel, Eject, Inject, Link}
 use Rattle.noc_router.specs.Verdict.{is_moved}
 use Rattle.noc_topo.specs.Words.{Has, below}
-use Rattle.noc_ownership.proofs.InputLemmas.{Has-flat_map}
-use Rattle.noc_ownership.proofs.Members.{list_any-from, list_any-has}
+use Rattle.noc_ownership.proofs.Members.{list_any-from, list_any-has, Has-flat_map}
 use Rattle.noc_ownership.proofs.OpeningLemmas.{below-has}
 use Rattle.noc_ownership.proofs.GrantLemmas.{Has-below}
 use Rattle.noc_progress.proofs.HasLemmas.{map-has, find-has}

@@ -1,25 +1,9 @@
 -- Members of lists by recursion, and what filters, finds and counts say of them.
-use Rattle.std.proofs.Common.{◌≡◌, ℕ, ◌+◌, ◌<◌, ◌≤◌, Bool, true, false, cond, List, [], ◌∷◌, map, Option, Some, None, refl, ap, sym, ◌∙◌, arith, inl, inr, subst}
+use Rattle.std.proofs.Common.{◌≡◌, ℕ, ◌+◌, ◌<◌, ◌≤◌, Bool, true, false, cond, List, [], ◌∷◌, map, Option, Some, None, refl, ap, sym, ◌∙◌, arith, inl, inr}
 use Rattle.std.specs.Prelude.{find, nat_le, ◌⊎◌, count_by}
-use Rattle.std.specs.List.{filter_map, flat_map}
 use Rattle.std.proofs.lemmas.Bool.{leb-true, leb-false}
 use Rattle.std.proofs.lemmas.List.Sums.{sum_by-cons}
 use Rattle.noc_topo.specs.Words.{Has, least_by, lesser_by}
-use Rattle.noc_ownership.proofs.Members.{Has-left, Has-right}
-
-pub has-filter_map : {X Y : Type 0} (f : X → Option Y) (x : X) (y : Y) (xs : List X) → Has x xs → f x ≡ Some y → Has y (filter_map f xs)
-has-filter_map f x y [] h e = absurd h
-has-filter_map f x y (z ∷ zs) (inl s) e = let k : f z ≡ Some y = ap f (sym s) ∙ e in rw k (inl refl)
-has-filter_map {Y = Y} f x y (z ∷ zs) (inr h) e = at (f z) refl (has-filter_map f x y zs h e)
-  where
-    at : (o : Option Y) → f z ≡ o → Has y (filter_map f zs) → Has y (filter_map f (z ∷ zs))
-    at None k r = rw k r
-    at (Some w) k r = rw k (inr r)
-
-pub has-flat_map : {X Y : Type 0} (f : X → List Y) (x : X) (y : Y) (xs : List X) → Has x xs → Has y (f x) → Has y (flat_map f xs)
-has-flat_map f x y [] h k = absurd h
-has-flat_map {Y = Y} f x y (z ∷ zs) (inl s) k = Has-left y (f z) (flat_map f zs) (subst (λ w. Has y (f w)) s k)
-has-flat_map f x y (z ∷ zs) (inr h) k = Has-right y (f z) (flat_map f zs) (has-flat_map f x y zs h k)
 
 pub map-has : {X Y : Type 0} (f : X → Y) (y : Y) (xs : List X) → Has y (map f xs) → (x : X) × Has x xs × (y ≡ f x)
 map-has f y [] h = absurd h
@@ -42,20 +26,6 @@ find-has t (y ∷ ys) x e = at (t y) refl (find-has t ys x)
     at : (b : Bool) → t y ≡ b → (find t ys ≡ Some x → Has x ys × (t x ≡ true)) → Has x (y ∷ ys) × (t x ≡ true)
     at true k rest = let s : Some y ≡ Some x = sym (rw k) ∙ e in let yx : y ≡ x = cc in (inl (sym yx), ap t (sym yx) ∙ k)
     at false k rest = let r = rest (sym (rw k) ∙ e) in (inr r.0, r.1)
-
--- the least of a list is in it
-pub least-has : {X : Type 0} (key : X → ℕ) (xs : List X) (y : X) → least_by key xs ≡ Some y → Has y xs
-unfolding least_by
-least-has key [] y e = absurd (cc e)
-least-has {X = X} key (z ∷ zs) y e = at (least_by key zs) refl (least-has key zs)
-  where
-    at : (o : Option X) → least_by key zs ≡ o → ((w : X) → least_by key zs ≡ Some w → Has w zs) → Has y (z ∷ zs)
-    at None k rest = let q : Some z ≡ Some y = sym (rw k) ∙ e in inl (cc q)
-    at (Some w) k rest = two (nat_le (key z) (key w)) refl
-      where
-        two : (b : Bool) → nat_le (key z) (key w) ≡ b → Has y (z ∷ zs)
-        two true n = let q : Some z ≡ Some y = sym (rw (k, n)) ∙ e in inl (cc q)
-        two false n = let q : Some w ≡ Some y = sym (rw (k, n)) ∙ e in let wy : w ≡ y = cc in inr (rest y (k ∙ ap Some wy))
 
 -- and where a list has an element, it has a least one, no larger
 pub least-some : {X : Type 0} (key : X → ℕ) (xs : List X) (x : X) → Has x xs → (y : X) × (least_by key xs ≡ Some y) × (key y ≤ key x)

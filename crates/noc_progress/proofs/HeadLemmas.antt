@@ -14,10 +14,10 @@ use Rattle.noc_ownership.proofs.BuiltRecord.{IsBuilt}
 use Rattle.noc_ownership.proofs.OwnedLemmas.{of-has, has-of, owner-is, owner-has}
 use Rattle.noc_ownership.proofs.StateWords.{IsEject, IsKeyed, IsPlaced, goal, last_of, far_of, IsHeld}
 use Rattle.noc_model.specs.Good.{IsValid}
-use Rattle.noc_ownership.proofs.PlaceLemmas.{place-of-flit}
+use Rattle.noc_ownership.proofs.PlaceLemmas.{place-of-flit, is_in-is}
 use Rattle.noc_ownership.proofs.WormRecord.{IsWorm, valid-first}
 use Rattle.noc_ownership.proofs.GrantLemmas.{IsWired}
-use Rattle.noc_ownership.proofs.MoveLemmas.{IsNext, next-is, next-no-eject, placed-in, same-far, far-link, far-eject, weight-gone, weight-in, first-is, is_in-is}
+use Rattle.noc_ownership.proofs.MoveLemmas.{IsNext, next-is, next-no-eject, placed-in, same-far, far-link, far-eject, weight-gone, weight-in, first-is}
 use Rattle.noc_ownership.proofs.RoutedState.{IsWholeFrozen}
 use Rattle.noc_ownership.proofs.BufferLemmas.{same_channel-true, same_channel-refl}
 use Rattle.noc_ownership.proofs.OptionLemmas.{and_then-some}
@@ -155,7 +155,7 @@ module _ (net : Setup) (built : IsBuilt net) (wired : IsWired net) (F : State) (
       let u : claim_of net F v.0 c ≡ Unrouted = routed-claims net.relation.vcs (round_at net F v.0) v.1 (claim_of net F v.0 c) (nat_lt 0 (count_in net F c)) v.2 in
       let flit = routed-flit net.relation.vcs (round_at net F v.0) v.1 (claim_of net F v.0 c) (nat_lt 0 (count_in net F c)) u v.2 in
       let some = some-kept (λ (f : Located). is_in c f.place) F.at (ltb-true 0 (count_in net F c) flit) in
-      at some.0 some.1 (is_in-is net built F keyed worm c some.0.place some.2) unrouted
+      at some.0 some.1 (is_in-is c some.0.place some.2) unrouted
     where
       at : (f : Located) → Has f F.at → f.place ≡ In c → has_channel F.routed c ≡ false → HeadIn c
       at f h g unrouted =

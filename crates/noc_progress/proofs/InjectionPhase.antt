@@ -6,26 +6,25 @@ use Rattle.std.proofs.lemmas.Bool.{false≢true, eqb-true, eq-eqb, and_parts, an
 use Rattle.std.proofs.lemmas.List.Sums.{sum_by-cons}
 use Rattle.noc_model.specs.Network.{In, Injection, Located, On, Out, Place, Setup, Source, State, after_injection, count_in, end_distance, first_at_source, first_waiting, flits_of, has_channel, injected_place, injection_at, injection_with, injections, is_at_source, is_idle, is_injection_of, is_the_flit, leads_from, next_channel, owned_by, owner_of, packet_at}
 use Rattle.noc_model.specs.Progress.{head_place, hops, remainder, turns_left}
+use Rattle.noc_model.proofs.PostLemmas.{some_of_map}
 use Rattle.noc_route.specs.Channel.{Channel, Eject, Inject, Link, same_channel}
 use Rattle.noc_topo.specs.Shape.{distance, nodes}
 use Rattle.noc_topo.specs.Words.{Has, below}
+use Rattle.noc_router.specs.Counts.{one_if}
 use Rattle.noc_ownership.proofs.BufferLemmas.{same_flit, IsDistinct}
 use Rattle.noc_ownership.proofs.OptionLemmas.{and_then-some}
 use Rattle.noc_ownership.proofs.Members.{Has-filter, Has-filter_map, find-some, list_any-has}
 use Rattle.noc_ownership.proofs.GrantLemmas.{Has-below}
-use Rattle.noc_progress.proofs.HasLemmas.{find-has, least-has, map-has}
+use Rattle.noc_ownership.proofs.InjectionState.{least_by-has}
+use Rattle.noc_progress.proofs.HasLemmas.{find-has, map-has}
 use Rattle.noc_progress.proofs.SumLemmas.{sum_by-sum_by}
 use Rattle.noc_progress.proofs.RemainderLemmas.{IsToInject, injection_of, leaves, injection-falls}
 use Rattle.noc_progress.proofs.RemainderPhases.{sum_by-each, find-map}
-use Rattle.noc_progress.proofs.WormLemmas.{map-some}
 
 -- numbers that are all different
 abbrev pub AllApart : {X : Type 0} → (X → ℕ) → List X → Type 0
 AllApart key [] = Unit {0}
 AllApart {X = X} key (x ∷ xs) = ((y : X) → Has y xs → key y ≢ key x) × AllApart key xs
-
-abbrev one_if : Bool → ℕ
-one_if b = cond b 1 0
 
 -- where the keys are all different, a key is counted as often as it is found
 count-found : {X : Type 0} (key : X → ℕ) (b : Bool) (k : ℕ) (xs : List X) → AllApart key xs
@@ -101,7 +100,7 @@ module _ (net : Setup) (n : ℕ) (S : State) where
   pub first-is : (node q : ℕ) → first_waiting net S node ≡ Some q
       → (q < length net.packets) × ((packet_at net q).source ≡ node) × (f : Located) × Has f S.at × (f.packet ≡ q) × (is_at_source f.place ≡ true)
   first-is node q e =
-      let h = least-has (λ p. (packet_at net p).due) (filter (λ p. nat_eq (packet_at net p).source node && list_any (λ (f : Located). is_at_source f.place) (flits_of net S p)) (below (length net.packets))) q e in
+      let h = least_by-has (λ p. (packet_at net p).due) (filter (λ p. nat_eq (packet_at net p).source node && list_any (λ (f : Located). is_at_source f.place) (flits_of net S p)) (below (length net.packets))) q e in
       let k = Has-filter (λ p. nat_eq (packet_at net p).source node && list_any (λ (f : Located). is_at_source f.place) (flits_of net S p)) q (below (length net.packets)) h in
       let parts = and_parts (nat_eq (packet_at net q).source node) (list_any (λ (f : Located). is_at_source f.place) (flits_of net S q)) k.1 in
       let a = list_any-has (λ (f : Located). is_at_source f.place) (flits_of net S q) parts.1 in
@@ -279,7 +278,7 @@ module _ (net : Setup) (n : ℕ) (S : State) where
   pub next-injected : (c : Channel) (q : ℕ) → owner_of net S c ≡ Some q → next_channel net (after_injection net n S) c ≡ next_channel net S c
   unfolding after_injection
   next-injected c q own =
-      let m = map-some (λ (pair : Channel × ℕ). pair.1) (find (λ (pair : Channel × ℕ). same_channel c pair.0) S.own) q own in
+      let m = some_of_map (λ (pair : Channel × ℕ). pair.1) (find (λ (pair : Channel × ℕ). same_channel c pair.0) S.own) q own in
       let stays : owner_of net (after_injection net n S) c ≡ Some q
       = ap (option_map (λ (pair : Channel × ℕ). pair.1)) (find-stays (λ (pair : Channel × ℕ). same_channel c pair.0) S.own added m.0 m.1) ∙ ap Some m.2 in
       ap (option_and_then (λ p. find (leads_from net c) (owned_by net (after_injection net n S) p))) stays

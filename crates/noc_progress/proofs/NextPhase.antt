@@ -4,18 +4,17 @@ use Rattle.std.specs.Prelude.{filter, find, nat_eq, nat_lt, ◌*◌, ◌/◌, �
 use Rattle.std.proofs.lemmas.Bool.{false≢true, eqb-true, eq-eqb, and_left}
 use Rattle.noc_model.specs.Network.{end_of, In, Setup, State, after_verdicts, all_inputs, ask, claim_of, claim_with, count_in, first_in, granted_at, granted_pair, has_channel, is_released, is_tail, leads_from, leaving, next_channel, owned_by, owner_of, round_at, tail_leaves, verdict_at, verdict_in}
 use Rattle.noc_model.specs.Progress.{head_place}
+use Rattle.noc_model.proofs.PostLemmas.{some_of_map}
 use Rattle.noc_route.specs.Channel.{Channel, Eject, Inject, Link, arrival_of, begin, channel_vc, same_channel}
 use Rattle.noc_router.specs.Verdict.{Unrouted, Waits, is_granted, is_moved, verdict_of}
 use Rattle.noc_router.specs.declared.verdict.Verdict.{Verdict}
 use Rattle.noc_router.specs.declared.verdict.Verdict.TheVariants.{Empty, Granted, NoIdleChannel}
 use Rattle.noc_topo.specs.Shape.{local_port}
 use Rattle.noc_topo.specs.Words.{Has, is_some_of}
-use Rattle.noc_progress.proofs.HasLemmas.{has-filter_map}
 use Rattle.noc_alloc.proofs.WordLemmas.{is_some_of-some}
 use Rattle.noc_ownership.proofs.BufferLemmas.{same_channel-true}
 use Rattle.noc_ownership.proofs.OptionLemmas.{and_then-some}
-use Rattle.noc_ownership.proofs.Members.{Has-filter_map, Has-kept, Has-mapped, Has-right, find-some}
-use Rattle.noc_progress.proofs.WormLemmas.{map-some}
+use Rattle.noc_ownership.proofs.Members.{Has-filter_map, Has-kept, Has-mapped, Has-right, find-some, Has-filter_mapped}
 use Rattle.noc_progress.proofs.InjectionPhase.{find-stays}
 use Rattle.noc_progress.proofs.RemainderPhases.{find-kept, find-kept_through}
 use Rattle.noc_progress.proofs.TurnPhase.{granted-before}
@@ -84,7 +83,7 @@ module _ (net : Setup) (n : ℕ) (F : State) where
     owner-after : owner_of net after c ≡ Some p
     unfolding after_verdicts
     owner-after =
-        let m = map-some (λ (pair : Channel × ℕ). pair.1) (find (λ (pair : Channel × ℕ). same_channel c pair.0) F.own) p own in
+        let m = some_of_map (λ (pair : Channel × ℕ). pair.1) (find (λ (pair : Channel × ℕ). same_channel c pair.0) F.own) p own in
         ap (option_map (λ (pair : Channel × ℕ). pair.1))
         (find-stays (λ (pair : Channel × ℕ). same_channel c pair.0) (filter (λ pair. not (is_released net F pair)) F.own) (filter_map (granted_pair net F) (all_inputs net)) m.0
         (find-kept (λ (pair : Channel × ℕ). same_channel c pair.0) (λ pair. not (is_released net F pair)) F.own kept-own ∙ m.1))
@@ -104,7 +103,7 @@ module _ (net : Setup) (n : ℕ) (F : State) where
         packet-of None g = absurd (cc g)
         packet-of (Some r) g =
             let a = and_then-some (granted_at net F d r) (owner_of net F d) pair g in
-            let i = map-some (λ i. (leaving net r i, a.0)) (ask net F r d) pair a.2 in
+            let i = some_of_map (λ i. (leaving net r i, a.0)) (ask net F r d) pair a.2 in
             a.1 ∙ ap (λ (x : Channel × ℕ). Some x.1) i.2
 
         same : verdict_in net F d ≡ Granted → owner_of net F d ≡ Some pair.1 → c ≡ d
@@ -173,7 +172,7 @@ module _ (net : Setup) (n : ℕ) (F : State) where
                 ∙ ap (option_map (λ j. (leaving net place.0 j, p))) e in
                 let h : Has (leaving net place.0 i, p) after.own
                 = Has-right (leaving net place.0 i, p) (filter (λ pair. not (is_released net F pair)) F.own) (filter_map (granted_pair net F) (all_inputs net))
-                (has-filter_map (granted_pair net F) c (leaving net place.0 i, p) (all_inputs net) (holds.listed p c l here) given) in
+                (Has-filter_mapped (granted_pair net F) c (leaving net place.0 i, p) (all_inputs net) (holds.listed p c l here) given) in
                 let w : Has (leaving net place.0 i) (owned_by net after p)
                 = Has-mapped (λ (pair : Channel × ℕ). pair.0) (leaving net place.0 i, p) (filter (λ (pair : Channel × ℕ). nat_eq p pair.1) after.own)
                 (Has-kept (λ (pair : Channel × ℕ). nat_eq p pair.1) (leaving net place.0 i, p) after.own h (eq-eqb p p refl)) in

@@ -7,7 +7,7 @@ use Rattle.noc_model.specs.Network.{Located, Setup, Source, opening_state, packe
 use Rattle.noc_model.specs.Progress.{budget, head_place, hops, remainder, turns_left, weight}
 use Rattle.noc_packet.specs.declared.packet.Packet.{Packet}
 use Rattle.noc_topo.specs.Words.{below}
-use Rattle.noc_ownership.proofs.InputLemmas.{Has-flat_map}
+use Rattle.noc_ownership.proofs.Members.{Has-flat_map}
 use Rattle.noc_progress.proofs.HasLemmas.{find-has, map-has}
 use Rattle.noc_progress.proofs.SumLemmas.{sum_by-+}
 use Rattle.noc_progress.proofs.RemainderPhases.{sum_by-each}

@@ -9,16 +9,17 @@ use Rattle.noc_topo.specs.Shape.{distance, local_port, nodes, ports}
 use Rattle.noc_route.specs.Channel.{Channel, Link, Inject, Eject, channel_vc}
 use Rattle.noc_route.specs.Ranks.{LeadsTo, direct, through, IsRanked}
 use Rattle.noc_route.specs.Routes.{permits}
+use Rattle.noc_route.proofs.BuiltLemmas.{linked-port}
 use Rattle.noc_router.specs.Verdict.{Unrouted, Waits, verdict_of}
-use Rattle.noc_model.specs.Network.{Setup, State, Located, Place, Source, On, In, Out, size, packet_at, leaving, owner_of, owned_by, next_channel, end_of, end_distance, claim_of, claim_with, ask, is_idle, has_credit, count_in, has_channel, first_waiting, flits_of, is_at_source, is_injection_of, injection_at, injection_with, beginning, round_at, tail_place, out_cycle}
+use Rattle.noc_model.specs.Network.{Setup, State, Located, Place, Source, On, In, Out, size, packet_at, leaving, owner_of, owned_by, next_channel, end_of, end_distance, claim_of, claim_with, ask, is_idle, has_credit_in, count_in, has_channel, first_waiting, flits_of, is_at_source, is_injection_of, injection_at, injection_with, beginning, round_at, tail_place, out_cycle}
 use Rattle.noc_model.specs.Progress.{is_flying, is_pending}
 use Rattle.noc_ownership.proofs.BuiltLemmas.{distance-none}
-use Rattle.noc_ownership.proofs.Members.{Has-filter, Has-kept, find-some, list_any-from, list_any-has}
+use Rattle.noc_ownership.proofs.Members.{Has-filter, Has-kept, find-some, list_any-from, list_any-has, Has-filter_mapped}
 use Rattle.noc_ownership.proofs.OpeningLemmas.{below-has}
 use Rattle.noc_ownership.proofs.GrantLemmas.{Has-below}
 use Rattle.noc_progress.specs.Built.{IsReal, IsBuilt, LeadsOn}
-use Rattle.noc_progress.proofs.HasLemmas.{has-filter_map, map-has, find-has, least-some}
-use Rattle.noc_progress.proofs.RouterLemmas.{IsInput, grant-given, index_below, neighbour-below}
+use Rattle.noc_progress.proofs.HasLemmas.{map-has, find-has, least-some}
+use Rattle.noc_progress.proofs.RouterLemmas.{IsInput, grant-given, index_below}
 use Rattle.noc_progress.proofs.WormFacts.{IsNearing, IsChain, IsQuiet}
 use Rattle.noc_progress.proofs.WormLemmas.{is_input, owner-has, has-owner, tail-flit, next-has, next-input, owner-comes, real-index, output-begins, allowed_at, ungranted, unroutable, next-moves, credit-here, source-absurd, verdict-owned, listed, led-on}
 
@@ -41,12 +42,12 @@ module _ (net : Setup) (F : State) (built : IsBuilt net) (worm : IsChain net F) 
       (has.1 ∙ ap Some one, omega arith)
 
   -- along a worm, from a channel whose next channel has a credit, back to a flit or the source
-  chain : (k : ℕ) (c o : Channel) (p : ℕ) → owner_of net F c ≡ Some p → bound < far p c + k → next_channel net F c ≡ Some o → has_credit net F o ≡ true → ⊥
+  chain : (k : ℕ) (c o : Channel) (p : ℕ) → owner_of net F c ≡ Some p → bound < far p c + k → next_channel net F c ≡ Some o → has_credit_in net F o ≡ true → ⊥
   chain zero c o p own l e cr = let w = within c (packet_at net p).destination in omega arith
   chain (suc k) c o p own l e cr = at (count_in net F c) refl (λ d next held more credit. chain k d c p held (omega arith) next credit)
     where
       empty : (b : Channel) → c ≡ b → owner_of net F b ≡ Some p → is_input b ≡ true → count_in net F b ≡ 0
-          → ((d : Channel) → next_channel net F d ≡ Some b → owner_of net F d ≡ Some p → far p c < far p d → has_credit net F b ≡ true → ⊥) → ⊥
+          → ((d : Channel) → next_channel net F d ≡ Some b → owner_of net F d ≡ Some p → far p c < far p d → has_credit_in net F b ≡ true → ⊥) → ⊥
       empty (Link r q v) same held i z rest =
           let f = worm.links_fed r q v p held z in
           let b = before c f.0 p r q v same held f.1 in
@@ -54,7 +55,7 @@ module _ (net : Setup) (F : State) (built : IsBuilt net) (worm : IsChain net F) 
       empty (Inject m v) same held i z rest = source-absurd net F built worm n quiet m v p held z
       empty (Eject m v) same held i z rest = false≢true i
 
-      at : (x : ℕ) → count_in net F c ≡ x → ((d : Channel) → next_channel net F d ≡ Some c → owner_of net F d ≡ Some p → far p c < far p d → has_credit net F c ≡ true → ⊥) → ⊥
+      at : (x : ℕ) → count_in net F c ≡ x → ((d : Channel) → next_channel net F d ≡ Some c → owner_of net F d ≡ Some p → far p c < far p d → has_credit_in net F c ≡ true → ⊥) → ⊥
       at zero z rest = empty c refl own (next-input net F c o e) z rest
       at (suc x) z rest = next-moves net F built worm n quiet c o e cr (omega arith)
 
@@ -79,7 +80,7 @@ module _ (net : Setup) (F : State) (built : IsBuilt net) (worm : IsChain net F) 
   leaving-index r q v real =
       let port : (q * net.relation.vcs + v) / net.relation.vcs ≡ q = div-mul-add q net.relation.vcs v real.1 in
       let vc : (q * net.relation.vcs + v) % net.relation.vcs ≡ v = mod-mul-add q net.relation.vcs v real.1 in
-      let l : q < local_port net.relation.grid = neighbour-below net.relation.grid r q real.2 real.3 in
+      let l : q < local_port net.relation.grid = linked-port net.relation.grid r q real.2 real.3 in
       let link : nat_eq q (local_port net.relation.grid) ≡ false = ne_eqb q (local_port net.relation.grid) (λ s. omega arith) in
       rw (port, vc, link)
 
@@ -356,7 +357,7 @@ module _ (net : Setup) (F : State) (built : IsBuilt net) (worm : IsChain net F) 
           = ap (option_and_then (λ w. injection_with net F n (packet_at net p).source w (find (is_injection_of net (packet_at net p).source) (owned_by net F w)))) first
           ∙ ap (injection_with net F n (packet_at net p).source q) found ∙ starts in
           subst (Has (record { packet = q; channel = Inject (packet_at net p).source free.0; begins = true })) quiet.none_injected
-          (has-filter_map (injection_at net F n) (packet_at net p).source (record { packet = q; channel = Inject (packet_at net p).source free.0; begins = true }) (below (nodes net.relation.grid)) (below-has (packet_at net p).source (nodes net.relation.grid) (built.sources p l)) is)
+          (Has-filter_mapped (injection_at net F n) (packet_at net p).source (record { packet = q; channel = Inject (packet_at net p).source free.0; begins = true }) (below (nodes net.relation.grid)) (below-has (packet_at net p).source (nodes net.relation.grid) (built.sources p l)) is)
 
   -- so the cycle is not pending
   pub quiet-absurd : is_pending net n F ≡ true → ⊥

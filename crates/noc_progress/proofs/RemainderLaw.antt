@@ -7,8 +7,8 @@ use Rattle.noc_model.specs.Network.{after_injection, In, Injection, Located, Set
 use Rattle.noc_model.specs.Progress.{events, head_place, is_flying, remainder}
 use Rattle.noc_route.specs.Channel.{Channel, Eject, Link, same_channel}
 use Rattle.noc_router.specs.Verdict.{is_event, is_moved}
-use Rattle.noc_router.specs.declared.verdict.Verdict.{Verdict}
-use Rattle.noc_router.specs.declared.verdict.Verdict.TheVariants.{Granted, Moved, Routed}
+use Rattle.noc_router.specs.declared.verdict.Verdict.TheVariants.{Granted, Routed}
+use Rattle.noc_router.proofs.SettleLemmas.{quiet-moved}
 use Rattle.noc_topo.specs.Words.{Has}
 use Rattle.noc_ownership.proofs.BufferLemmas.{same_flit, IsDistinct}
 use Rattle.noc_progress.proofs.NextPhase.{HeadsHold, next-stays, next-given}
@@ -53,13 +53,9 @@ module _ (net : Setup) (n : ℕ) (F : State) where
     near_end = right.near_end;
     next_routed = λ p c l here e. next-stays net n F right.holds p l c here (ap (is_moved) e) (λ g. let z : Routed ≡ Granted = sym e ∙ g in cc) ∙ unrouted c (next_channel net F c) refl (routed-before net F c e);
     next_granted = λ p c l here e. next-given net n F right.holds p l c here (ap (is_moved) e) e;
-    next_kept = λ p c l here e. next-stays net n F right.holds p l c here (unmoved (verdict_in net F c) e) (λ g. true≢false (sym (ap (is_event) g) ∙ e));
+    next_kept = λ p c l here e. next-stays net n F right.holds p l c here (quiet-moved (verdict_in net F c) e) (λ g. true≢false (sym (ap (is_event) g) ∙ e));
   }
     where
-      unmoved : (v : Verdict) → is_event v ≡ false → is_moved v ≡ false
-      unmoved Moved e = e
-      unmoved _ e = refl
-
       unrouted : (c : Channel) (next : Option Channel) → next_channel net F c ≡ next → has_channel F.routed c ≡ false → next ≡ None
       unrouted c None k e = refl
       unrouted c (Some o) k e = absurd (true≢false (sym (right.holds.routed c o k) ∙ e))

@@ -1,7 +1,7 @@
 -- One router makes progress: where a channel is ready one moves, where one asks one is granted.
 use Rattle.std.proofs.Common.{◌≡◌, ℕ, suc, ◌+◌, ◌*◌, ◌/◌, ◌%◌, ◌<◌, ◌≤◌, Bool, true, false, List, map, length, get_or, Option, Some, None, refl, ap, sym, ◌∙◌, arith, inl, inr, div-add-mod', mul-le-mul_right, suc-mul, div-lt_iff_lt-mul}
 use Rattle.std.specs.Prelude.{option_map, unwrap_or, nat_eq, nat_lt, filter_map, slice_index, ◌⊎◌}
-use Rattle.std.proofs.lemmas.Bool.{cases_lt, eqb-true, eq-eqb, ne_eqb, le-ltb}
+use Rattle.std.proofs.lemmas.Bool.{cases_lt, eqb-true, eq-eqb, ne_eqb}
 use Rattle.std.proofs.lemmas.List.{get_or-map, get_or_past, length-map}
 use Rattle.std.proofs.lemmas.List.FromFn.{length-map-range_with_len}
 use Rattle.std.proofs.lemmas.Nat.{div-mul-add, mod-mul-add}
@@ -10,23 +10,16 @@ use Rattle.noc_alloc.specs.Allocation.{grant_of}
 use Rattle.noc_model.specs.Network.{arbiters_at, Setup, State, all_inputs, arriving, claim_of, count_in, round_at, size, stand_of, stands_at, verdict_at, verdict_in}
 use Rattle.noc_progress.specs.Built.{IsBuilt, IsReal}
 use Rattle.noc_route.specs.Channel.{Channel, Eject, Inject, Link, arrival_of, channel_vc, inputs}
+use Rattle.noc_route.proofs.BuiltLemmas.{linked-port}
 use Rattle.noc_router.specs.Verdict.{Claim, Holds, Turns, Stand, Unrouted, Waits, ask_of, ready_port, verdict_of}
 use Rattle.noc_router.specs.declared.verdict.Verdict.TheVariants.{Granted, Moved}
-use Rattle.noc_topo.specs.Shape.{Grid, local_port, neighbour, nodes, ports}
+use Rattle.noc_topo.specs.Shape.{local_port, neighbour, nodes, ports}
 use Rattle.noc_topo.specs.Words.{tabulate, Has, below, is_some_of}
 use Rattle.noc_alloc.proofs.ArbiterLemmas.{first_in_turn-picks}
 use Rattle.noc_alloc.proofs.WordLemmas.{is_some_of-true, is_some_of-some, get_or-tabulate}
 use Rattle.noc_ownership.proofs.OpeningLemmas.{below-has}
+use Rattle.noc_ownership.proofs.Members.{Has-filter_mapped, Has-flat_mapped}
 use Rattle.noc_progress.proofs.AllocationLemmas.{first_in_turn-some, switch-moves, moves-at}
-use Rattle.noc_progress.proofs.HasLemmas.{has-filter_map, has-flat_map}
-
--- no port past the links leads on
-pub neighbour-below : (s : Grid) (r q : ℕ) (place : ℕ × ℕ) → neighbour s r q ≡ Some place → q < local_port s
-neighbour-below s r q place e = at (cases_lt q (local_port s))
-  where
-    at : (q < local_port s) ⊎ (local_port s ≤ q) → q < local_port s
-    at (inl l) = l
-    at (inr u) = let g : None ≡ Some place = sym (rw (le-ltb q (local_port s) u)) ∙ e in absurd (cc g)
 
 pub same_place : (a b c d : ℕ) → ◌≡◌ {A = Option (ℕ × ℕ)} (Some (a, b)) (Some (c, d)) → (a ≡ c) × (b ≡ d)
 same_place a b c d e = (ap (λ (o : Option (ℕ × ℕ)). (unwrap_or o (0, 0)).0) e, ap (λ (o : Option (ℕ × ℕ)). (unwrap_or o (0, 0)).1) e)
@@ -50,7 +43,7 @@ module _ (net : Setup) (built : IsBuilt net) where
   pub real-input : (c : Channel) (r port : ℕ) → IsReal net c → arrival_of net.relation.grid c ≡ Some (r, port) → IsInput net c r port
   real-input (Link a q v) r port (la, lv, h, k) e =
       let far = built.linked a q r port la e in
-      let below : port < local_port net.relation.grid = neighbour-below net.relation.grid r port (a, q) far.1 in
+      let below : port < local_port net.relation.grid = linked-port net.relation.grid r port (a, q) far.1 in
       let at : (port * net.relation.vcs + v) / net.relation.vcs ≡ port = div-mul-add port net.relation.vcs v lv in
       let vc : (port * net.relation.vcs + v) % net.relation.vcs ≡ v = mod-mul-add port net.relation.vcs v lv in
       let no : nat_eq port (local_port net.relation.grid) ≡ false = ne_eqb port (local_port net.relation.grid) (λ s. omega arith) in
@@ -68,8 +61,8 @@ module _ (net : Setup) (built : IsBuilt net) where
   pub input-has : (c : Channel) (r i : ℕ) → r < nodes net.relation.grid → i < size net → arriving net r i ≡ Some c → Has c (all_inputs net)
   unfolding inputs below
   input-has c r i lr li e =
-      has-flat_map (λ a. filter_map (arriving net a) (below (size net))) r c (below (nodes net.relation.grid)) (below-has r (nodes net.relation.grid) lr)
-      (has-filter_map (arriving net r) i c (below (size net)) (below-has i (size net) li) e)
+      Has-flat_mapped (λ a. filter_map (arriving net a) (below (size net))) r c (below (nodes net.relation.grid)) (below-has r (nodes net.relation.grid) lr)
+      (Has-filter_mapped (arriving net r) i c (below (size net)) (below-has i (size net) li) e)
 
   -- and comes in at the port of its index
   pub input-arrives : (c : Channel) (r i : ℕ) → r < nodes net.relation.grid → arriving net r i ≡ Some c

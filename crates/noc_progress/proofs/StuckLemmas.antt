@@ -1,22 +1,17 @@
 -- A cycle without an event leaves every flit where it is, so whether it was stuck can be told from the state after it.
-use Rattle.std.proofs.Common.{◌≡◌, ℕ, zero, suc, ◌≤◌, Bool, true, false, cond, List, [], ◌∷◌, length, Option, Some, None, refl, ap, ap₂, sym, ◌∙◌, arith, inl, inr}
-use Rattle.std.specs.Prelude.{nat_eq, nat_le, nat_lt, not, is_none, ◌&&◌, ◌||◌}
-use Rattle.std.specs.List.{list_any}
+use Rattle.std.proofs.Common.{◌≡◌, ℕ, zero, suc, ◌≤◌, Bool, true, false, cond, List, length, Option, Some, None, refl, ap, sym, ◌∙◌, arith}
+use Rattle.std.specs.Prelude.{nat_eq, nat_le, nat_lt, not, is_none, ◌&&◌}
 use Rattle.std.proofs.lemmas.Bool.{true≢false, false_from_ne_true, and_left, and_right, lt-ltb, le-ltb, ne_eqb, eq-eqb}
-use Rattle.noc_topo.specs.Words.{Has, below, is_some_of}
+use Rattle.noc_topo.specs.Words.{below, is_some_of}
 use Rattle.noc_route.specs.Channel.{Channel}
 use Rattle.noc_router.specs.Verdict.{is_event, is_moved}
 use Rattle.noc_model.specs.Network.{Setup, Located, Place, Source, On, In, Out, packet_at, state_at, frozen_at, network_cycle, after_verdicts, moved_place, is_the_flit, first_in, gone_to, next_channel, verdict_in, arrival_in}
 use Rattle.noc_model.specs.Progress.{events, is_pending, is_stuck, last_event_before}
 use Rattle.noc_ownership.proofs.BufferLemmas.{is_moved-true}
+use Rattle.noc_ownership.proofs.Members.{any-same}
 use Rattle.noc_model.specs.Good.{IsGoodSetup}
 use Rattle.noc_progress.proofs.ProgressLemmas.{map-same, at-same, quiet-frozen}
 use Rattle.noc_progress.proofs.Theorems.{countable}
-
--- tests that agree on the elements of a list agree on whether one passes
-any-same : {X : Type 0} (f g : X → Bool) (xs : List X) → ((x : X) → Has x xs → f x ≡ g x) → list_any f xs ≡ list_any g xs
-any-same f g [] h = refl
-any-same f g (x ∷ xs) h = ap₂ (λ a b. a || b) (h x (inl refl)) (any-same f g xs (λ y k. h y (inr k)))
 
 module _ (net : Setup) (made : IsGoodSetup net) (n : ℕ) (quiet : events net n (state_at net n) ≡ 0) where
   unmoved : (c : Channel) → is_moved (verdict_in net (frozen_at net n) c) ≡ false

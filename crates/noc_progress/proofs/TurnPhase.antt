@@ -5,7 +5,7 @@ use Rattle.std.specs.List.{range_with_len}
 use Rattle.std.proofs.lemmas.Bool.{false≢true, and_right, and_left, and_from, cases_eq, false_from_ne_true}
 use Rattle.std.proofs.lemmas.List.Sums.{sum_by-cons}
 use Rattle.std.proofs.lemmas.List.Folds.{list_any-append}
-use Rattle.noc_model.specs.Network.{In, Located, On, Out, Place, Setup, Source, State, after_verdicts, all_inputs, ask, claim_of, claim_with, count_in, end_distance, first_in, gone_to, has_channel, has_credit, is_in, is_tail, is_the_flit, moved_place, next_channel, packet_at, round_at, tail_leaves, verdict_at, verdict_in}
+use Rattle.noc_model.specs.Network.{In, Located, On, Out, Place, Setup, Source, State, after_verdicts, all_inputs, ask, claim_of, claim_with, count_in, end_distance, first_in, gone_to, has_channel, has_credit_in, is_in, is_tail, is_the_flit, moved_place, next_channel, packet_at, round_at, tail_leaves, verdict_at, verdict_in}
 use Rattle.noc_model.specs.Progress.{head_place, remainder, turns_left}
 use Rattle.noc_route.specs.Channel.{Channel, Eject, Inject, Link, arrival_of, channel_vc, output_index, same_channel}
 use Rattle.noc_router.specs.Verdict.{Claim, Holds, Round, Unrouted, Waits, is_event, is_granted, is_moved, is_routed, verdict_of}
@@ -15,6 +15,7 @@ use Rattle.noc_topo.specs.Words.{Has, below, is_some_of}
 use Rattle.noc_ownership.proofs.BufferLemmas.{same_flit, IsDistinct, same_channel-refl, same_channel-true, moved-holds}
 use Rattle.noc_ownership.proofs.Members.{list_any-from}
 use Rattle.noc_ownership.proofs.GrantLemmas.{Has-below}
+use Rattle.noc_ownership.proofs.PlaceLemmas.{is_in-is}
 use Rattle.noc_progress.proofs.SumLemmas.{sum_by-sum_by, sum_by-+}
 use Rattle.noc_progress.proofs.RemainderPhases.{sum_by-each, find-map}
 use Rattle.noc_progress.proofs.InjectionPhase.{IsApart, sum-none}
@@ -104,7 +105,7 @@ module _ (net : Setup) (F : State) where
       at : (b : Bool) → has_channel F.routed c ≡ b → (next : Option Channel) → next_channel net F c ≡ next → ClaimSplit r c
       at false h next k = inl (h, ap (λ b. cond b (claim_with net F r c (next_channel net F c)) Unrouted) h)
       at true h None k = inr (inl (h, k, ap (λ b. cond b (claim_with net F r c (next_channel net F c)) Unrouted) h ∙ ap (claim_with net F r c) k))
-      at true h (Some o) k = inr (inr (h, o, k, output_index net.relation.grid net.relation.vcs o, has_credit net F o, ap (λ b. cond b (claim_with net F r c (next_channel net F c)) Unrouted) h ∙ ap (claim_with net F r c) k))
+      at true h (Some o) k = inr (inr (h, o, k, output_index net.relation.grid net.relation.vcs o, has_credit_in net F o, ap (λ b. cond b (claim_with net F r c (next_channel net F c)) Unrouted) h ∙ ap (claim_with net F r c) k))
 
   pub routed-before : (c : Channel) → verdict_in net F c ≡ Routed → has_channel F.routed c ≡ false
   routed-before c e =
@@ -159,12 +160,6 @@ has-filtered keep (x ∷ xs) c = at (keep x) refl (same_channel c x) refl (has-f
         let no : keep c ≡ false = ap keep (same_channel-true c x s) ∙ k in
         rw (k, s) (rest ∙ and_right (has_channel xs c) (keep c) no ∙ sym no)
     at false k false s rest = rw (k, s) rest
-
-in-place : (c : Channel) (place : Place) → is_in c place ≡ true → place ≡ In c
-in-place c Source e = absurd (false≢true e)
-in-place c (On d) e = absurd (false≢true e)
-in-place c (Out m) e = absurd (false≢true e)
-in-place c (In d) e = ap In (sym (same_channel-true c d e))
 
 module _ (net : Setup) (n : ℕ) (F : State) where
   abbrev after : State
@@ -330,7 +325,7 @@ module _ (net : Setup) (n : ℕ) (F : State) where
         headed v =
             let a = right.at_heads c h v in
             sum-only (λ p. is_in c (head_place net F p)) (turn c) 0 (length net.packets) a.0 (omega arith) (omega (arith, a.1)) (ap (is_in c) a.2 ∙ same_channel-refl c)
-            (λ q k e. right.one_head q a.0 c (Has-below q (length net.packets) k) a.1 (in-place c (head_place net F q) e) a.2)
+            (λ q k e. right.one_head q a.0 c (Has-below q (length net.packets) k) a.1 (is_in-is c (head_place net F q) e) a.2)
 
         none : turn c ≡ 0 → sum_by (λ p. cond (is_in c (head_place net F p)) (turn c) 0) (below (length net.packets)) ≡ turn c
         none z = sum-none (λ p. cond (is_in c (head_place net F p)) (turn c) 0) (below (length net.packets)) (λ p k. ap (λ m. cond (is_in c (head_place net F p)) m 0) z ∙ both (is_in c (head_place net F p))) ∙ sym z

@@ -2,21 +2,23 @@
 use Rattle.std.proofs.Common.{◌≡◌, ℕ, ◌+◌, ◌-◌, ◌*◌, ◌/◌, ◌%◌, ◌<◌, Bool, true, false, cond, List, [], ◌∷◌, length, Option, Some, None, refl, ap, sym, ◌∙◌, arith, inl, inr, subst}
 use Rattle.std.specs.Prelude.{option_map, unwrap_or, nat_eq, nat_lt, option_and_then, find, filter, ◌&&◌}
 use Rattle.std.proofs.lemmas.Bool.{false≢true, true≢false, eqb-true, eq-eqb, lt-ltb, and_from, and_parts}
-use Rattle.noc_model.specs.Network.{In, Located, On, Out, Place, Setup, Source, State, all_inputs, ask, claim_of, claim_with, count_in, count_on, credit_of, has_channel, has_credit, injection_at, injection_with, injections, is_idle, is_injection_of, is_on, leads_from, leaving, next_channel, owned_by, owner_of, packet_at, round_at, size, tail_place, verdict_in}
+use Rattle.noc_model.specs.Network.{In, Located, On, Out, Place, Setup, Source, State, all_inputs, ask, claim_of, claim_with, count_in, count_on, credit_of, has_channel, has_credit_in, injection_at, injection_with, injections, is_idle, is_injection_of, is_on, leads_from, leaving, next_channel, owned_by, owner_of, packet_at, round_at, size, tail_place, verdict_in}
 use Rattle.noc_model.specs.Progress.{is_flying}
+use Rattle.noc_model.proofs.PostLemmas.{some_of_map}
 use Rattle.noc_progress.specs.Built.{IsBuilt, IsReal, LeadsOn}
 use Rattle.noc_route.specs.Channel.{Channel, Eject, Inject, Link, begin, channel_vc, output_at, output_index, same_channel}
 use Rattle.noc_route.specs.Routes.{permits}
+use Rattle.noc_route.proofs.BuiltLemmas.{linked-port}
 use Rattle.noc_router.specs.Verdict.{Claim, Holds, Unrouted, Waits, is_event, verdict_of}
 use Rattle.noc_router.specs.declared.verdict.Verdict.TheVariants.{Granted, Moved, Routed}
 use Rattle.noc_topo.specs.Shape.{Grid, local_port, nodes, ports}
 use Rattle.noc_topo.specs.Words.{Has, below, is_some_of}
 use Rattle.noc_ownership.proofs.BufferLemmas.{same_channel-refl, same_channel-true}
 use Rattle.noc_ownership.proofs.OptionLemmas.{and_then-some}
-use Rattle.noc_ownership.proofs.Members.{Has-filter, find-some}
+use Rattle.noc_ownership.proofs.Members.{Has-filter, find-some, Has-filter_mapped}
 use Rattle.noc_ownership.proofs.OpeningLemmas.{below-has}
-use Rattle.noc_progress.proofs.HasLemmas.{has-filter_map, map-has, find-has}
-use Rattle.noc_progress.proofs.RouterLemmas.{IsInput, real-input, input-has, verdict-input, flit-moved, index_below, neighbour-below, same_place}
+use Rattle.noc_progress.proofs.HasLemmas.{map-has, find-has}
+use Rattle.noc_progress.proofs.RouterLemmas.{IsInput, real-input, input-has, verdict-input, flit-moved, index_below, same_place}
 use Rattle.noc_progress.proofs.WormFacts.{IsChain, IsQuiet}
 
 -- whether flits come in by it
@@ -28,10 +30,6 @@ is_input (Eject n v) = false
 pub filter-none : {X : Type 0} (t : X → Bool) (xs : List X) → ((x : X) → Has x xs → t x ≡ false) → filter t xs ≡ []
 filter-none t [] h = refl
 filter-none t (x ∷ xs) h = rw (h x (inl refl)) (filter-none t xs (λ y k. h y (inr k)))
-
-pub map-some : {X Y : Type 0} (f : X → Y) (o : Option X) (y : Y) → option_map f o ≡ Some y → (x : X) × (o ≡ Some x) × (f x ≡ y)
-map-some f None y e = absurd (cc e)
-map-some f (Some x) y e = (x, refl, cc e)
 
 pub output-begins : (s : Grid) (vcs r i m v : ℕ) → output_at s vcs r i ≡ Inject m v → ⊥
 output-begins s vcs r i m v e = at (nat_eq (i / vcs) (local_port s)) e
@@ -47,7 +45,7 @@ module _ (net : Setup) (F : State) where
 
   pub owner-has : (c : Channel) (p : ℕ) → owner_of net F c ≡ Some p → Has (c, p) F.own
   owner-has c p e =
-      let m = map-some (λ (pair : Channel × ℕ). pair.1) (find (λ (pair : Channel × ℕ). same_channel c pair.0) F.own) p e in
+      let m = some_of_map (λ (pair : Channel × ℕ). pair.1) (find (λ (pair : Channel × ℕ). same_channel c pair.0) F.own) p e in
       let h = find-has (λ (pair : Channel × ℕ). same_channel c pair.0) F.own m.0 m.1 in
       let same : c ≡ m.0.0 = same_channel-true c m.0.0 h.1 in
       subst (λ (x : Channel). Has (x, p) F.own) (sym same) (subst (λ (x : ℕ). Has (m.0.0, x) F.own) m.2 h.0)
@@ -104,16 +102,16 @@ module _ (net : Setup) (F : State) where
 
     pub real-index : (o : Channel) → IsReal net o → output_index net.relation.grid net.relation.vcs o < size net
     real-index (Link r q v) real =
-        let l : q < local_port net.relation.grid = neighbour-below net.relation.grid r q real.2 real.3 in
+        let l : q < local_port net.relation.grid = linked-port net.relation.grid r q real.2 real.3 in
         index_below (ports net.relation.grid) net.relation.vcs q v (omega arith) real.1
     real-index (Inject n v) real = let l : 0 * net.relation.vcs + v < ports net.relation.grid * net.relation.vcs = index_below (ports net.relation.grid) net.relation.vcs 0 v (omega arith) real.1 in omega arith
     real-index (Eject n v) real = index_below (ports net.relation.grid) net.relation.vcs (local_port net.relation.grid) v (omega arith) real.1
 
     -- a channel with a next channel holds it
-    pub claim-next : (r : ℕ) (c o : Channel) → next_channel net F c ≡ Some o → claim_of net F r c ≡ Holds (output_index net.relation.grid net.relation.vcs o) (has_credit net F o)
+    pub claim-next : (r : ℕ) (c o : Channel) → next_channel net F c ≡ Some o → claim_of net F r c ≡ Holds (output_index net.relation.grid net.relation.vcs o) (has_credit_in net F o)
     claim-next r c o e = at (has_channel F.routed c) (worm.routed c o e) (next_channel net F c) e
       where
-        at : (b : Bool) → b ≡ true → (next : Option Channel) → next ≡ Some o → cond b (claim_with net F r c next) Unrouted ≡ Holds (output_index net.relation.grid net.relation.vcs o) (has_credit net F o)
+        at : (b : Bool) → b ≡ true → (next : Option Channel) → next ≡ Some o → cond b (claim_with net F r c next) Unrouted ≡ Holds (output_index net.relation.grid net.relation.vcs o) (has_credit_in net F o)
         at true k next g = ap (claim_with net F r c) g
         at false k next g = absurd (false≢true k)
 
@@ -128,7 +126,7 @@ module _ (net : Setup) (F : State) where
         at : (next : Option Channel) → next_channel net F c ≡ next → x < size net
         at None k = absurd (unheld (has_channel F.routed c) (sym (ap (λ next. cond (has_channel F.routed c) (claim_with net F r c next) Unrouted) k) ∙ h))
         at (Some o) k =
-            let g : Holds (output_index net.relation.grid net.relation.vcs o) (has_credit net F o) ≡ Holds x true = sym (claim-next r c o k) ∙ h in
+            let g : Holds (output_index net.relation.grid net.relation.vcs o) (has_credit_in net F o) ≡ Holds x true = sym (claim-next r c o k) ∙ h in
             let same : output_index net.relation.grid net.relation.vcs o ≡ x = cc in
             let has = next-has c o k in
             let l = real-index o (owned-real o has.0 has.2) in omega arith
@@ -144,7 +142,7 @@ module _ (net : Setup) (F : State) where
       unroutable d h e = true≢false (sym (ap (is_event) e) ∙ quiet.silent d h)
 
       -- a flit with a next channel and a credit is an event
-      pub next-moves : (c o : Channel) → next_channel net F c ≡ Some o → has_credit net F o ≡ true → 0 < count_in net F c → ⊥
+      pub next-moves : (c o : Channel) → next_channel net F c ≡ Some o → has_credit_in net F o ≡ true → 0 < count_in net F c → ⊥
       next-moves c o e cr flit =
           let has = next-has c o e in
           let i = owner-comes c has.0 has.1 (next-input c o e) in
@@ -154,7 +152,7 @@ module _ (net : Setup) (F : State) where
           unmoved m.0 m.1 m.2
 
       -- an empty buffer has credits
-      pub credit-here : (r q v : ℕ) → count_in net F (Link r q v) ≡ 0 → has_credit net F (Link r q v) ≡ true
+      pub credit-here : (r q v : ℕ) → count_in net F (Link r q v) ≡ 0 → has_credit_in net F (Link r q v) ≡ true
       credit-here r q v e =
           let on : count_on net F (Link r q v) ≡ 0 = ap (λ (xs : List Located). length xs) (filter-none (λ (f : Located). is_on (Link r q v) f.place) F.at (λ f h. not-on f f.place (quiet.still f h))) in
           lt-ltb 0 (credit_of net F (Link r q v)) (at (has_channel F.back (Link r q v)) (ap (λ back. has_channel back (Link r q v)) quiet.no_credit) on)
@@ -179,7 +177,7 @@ module _ (net : Setup) (F : State) where
           = ap (option_and_then (λ q. injection_with net F n m q (find (is_injection_of net m) (owned_by net F q)))) s.0
           ∙ ap (injection_with net F n m p) s.1 ∙ goes in
           let l = owned-real (Inject m v) p (owner-has (Inject m v) p e) in
-          let h : Has (record { packet = p; channel = Inject m v; begins = false }) (injections net F n) = has-filter_map (injection_at net F n) m (record { packet = p; channel = Inject m v; begins = false }) (below (nodes net.relation.grid)) (below-has m (nodes net.relation.grid) l.0) is in
+          let h : Has (record { packet = p; channel = Inject m v; begins = false }) (injections net F n) = Has-filter_mapped (injection_at net F n) m (record { packet = p; channel = Inject m v; begins = false }) (below (nodes net.relation.grid)) (below-has m (nodes net.relation.grid) l.0) is in
           subst (Has (record { packet = p; channel = Inject m v; begins = false })) quiet.none_injected h
 
       -- the verdict of an owned channel, by its claim

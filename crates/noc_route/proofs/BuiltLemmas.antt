@@ -15,7 +15,7 @@ use Rattle.noc_route.specs.Trimming.{set_in, page_set, left_at, comes_in, comes_
 use Rattle.noc_route.specs.Entered.{IsEntered}
 use Rattle.noc_route.proofs.PlaceLemmas.{flat-below, is_entry-true}
 use Rattle.noc_route.proofs.TrimLemmas.{IsSized, any_below-some, any_below-at, index-parts, port-below, CanCome-within, comes_in-sound, comes_in-full, page-dst, page-class, page-sender, page-below}
-use Rattle.noc_route.proofs.RuleLemmas.{IsFaultless, IsRight-from_test, leads-vc, leads-hop, leads-home}
+use Rattle.noc_route.proofs.RuleLemmas.{IsWellMade, IsRight-from_test, leads-vc, leads-hop, leads-home}
 
 -- a table over the numbers of a rule
 abbrev pub table : Routing → List ℕ → Routes
@@ -23,10 +23,10 @@ table g sets = record { grid = g.grid; vcs = g.vcs; classes = g.classes; sets = 
 
 -- ---- the rule's own table
 
-pub some_vcs : (g : Routing) → IsFaultless g → 1 ≤ g.vcs
+pub some_vcs : (g : Routing) → IsWellMade g → 1 ≤ g.vcs
 some_vcs g good = (IsRight-from_test g.grid g.vcs g.classes g.rule good.right).some_vcs
 
-pub sized : (g : Routing) (sets : List ℕ) → IsFaultless g → IsSized (table g sets)
+pub sized : (g : Routing) (sets : List ℕ) → IsWellMade g → IsSized (table g sets)
 sized g sets good = record { grid = good.grid; some_vcs = some_vcs g good }
 
 -- a member of an entered set is a channel to which the rule leads
@@ -50,7 +50,7 @@ linked-port g r p to e = at (cases_lt p (local_port g))
     at (inl l) = l
     at (inr past) = let none : nat_lt p (local_port g) ≡ false = le-ltb p (local_port g) past in let never : None ≡ Some to = sym (rw none refl) ∙ e in absurd (cc never)
 
-pub ComesNearer-entered : (g : Routing) (sets : List ℕ) → IsFaultless g → IsEntered g (table g sets) → ComesNearer (table g sets)
+pub ComesNearer-entered : (g : Routing) (sets : List ℕ) → IsWellMade g → IsEntered g (table g sets) → ComesNearer (table g sets)
 ComesNearer-entered g sets good entered = λ m r t i k b q place l within has link.
     let led = member-leads g sets m r t i k entered place l has in
     let hop = leads-hop g m r (i / g.vcs) (i % g.vcs) t (k / g.vcs) (k % g.vcs) good (linked-port g.grid r (k / g.vcs) (b, q) link) led.1 in
@@ -115,7 +115,7 @@ pub record ComesOn (g : Routing) (sets : List ℕ) (m t : ℕ) (c : Channel) (pl
 
 -- ---- the rule's reached entries are those of its table
 
-pub ComesOn-reached : (g : Routing) (sets : List ℕ) → IsFaultless g → IsEntered g (table g sets) → (m : ℕ) (c : Channel) (t : ℕ) → IsReached g m c t
+pub ComesOn-reached : (g : Routing) (sets : List ℕ) → IsWellMade g → IsEntered g (table g sets) → (m : ℕ) (c : Channel) (t : ℕ) → IsReached g m c t
     → (place : ℕ × ℕ) → arrival_of g.grid c ≡ Some place → ComesOn g sets m t c place
 ComesOn-reached g sets good entered m c t (injected {n = n} {v = v} a b d e other) place f =
     let home : (n, local_port g.grid) ≡ place = cc in
@@ -172,7 +172,7 @@ rule-eject g m c t a q v w e f lead =
     let here = eq-eqb a a refl in
     ap (λ from. rule_at g m from (channel_vc c) t (Eject a w)) e ∙ ap (λ v. rule_at g m (Some (a, q)) v t (Eject a w)) f ∙ rw (here, lead) refl
 
-pub CameOn-come : (g : Routing) (sets : List ℕ) → IsFaultless g → IsEntered g (table g sets) → (m t r i : ℕ) → CanCome (table g sets) m t r i → CameOn g sets m t r i
+pub CameOn-come : (g : Routing) (sets : List ℕ) → IsWellMade g → IsEntered g (table g sets) → (m t r i : ℕ) → CanCome (table g sets) m t r i → CameOn g sets m t r i
 CameOn-come g sets good entered m t r i (come_injected {v = v} place away l e) =
     let port : i / g.vcs ≡ local_port g.grid = ap (λ x. x / g.vcs) e ∙ div-mul-add (local_port g.grid) g.vcs v l in
     let number : i % g.vcs ≡ v = ap (λ x. x % g.vcs) e ∙ mod-mul-add (local_port g.grid) g.vcs v l in
@@ -203,7 +203,7 @@ CameOn-come g sets good entered m t r i (come_led {r = a} {i = j} {k = k} {q = q
 
 -- what the steps of building make
 pub record IsMade (g : Routing) (sets left outs : List ℕ) : Type 0 where
-  pub good : IsFaultless g
+  pub good : IsWellMade g
   pub entered : IsEntered g (table g sets)
   pub sound : IsSoundOut (table g sets) outs
   pub full : (m r t : ℕ) → IsPlace (table g sets) m r t → IsFullOut (table g sets) outs m r t

@@ -5,10 +5,11 @@ use Rattle.std.proofs.lemmas.Bool.{cases_lt, cases_eq, eq-eqb, eqb-true, and_par
 use Rattle.std.proofs.lemmas.List.{get_or-set_same, get_or-set_other}
 use Rattle.std.proofs.lemmas.Nat.{div-mul-add, mod-mul-add}
 use Rattle.std.proofs.lemmas.List.Folds.{list_any_more}
+use Rattle.std.proofs.Math.Bool.{or-false, or-true, and-false}
 use Rattle.noc_packet.specs.Set.{has_bit}
 use Rattle.noc_topo.specs.Shape.{Grid, nodes, ports, local_port, neighbour}
 use Rattle.noc_route.specs.Relation.{Routing, is_row_of, is_open, is_real_row, rows_of, leads, is_led}
-use Rattle.noc_route.specs.Routes.{Routes, width, pages, page_of, page_class, page_router, page_dst, place_of}
+use Rattle.noc_route.specs.Routes.{Routes, width, pages, page_of, page_class, page_router, page_dst, entry_place}
 use Rattle.noc_route.specs.Trimming.{page_set}
 use Rattle.noc_packet.proofs.SetLemmas.{has_bit-zero}
 use Rattle.noc_route.specs.Entered.{has_row_at, IsEntered}
@@ -17,7 +18,7 @@ use Rattle.noc_route.specs.declared.rule.Rule.TheVariants.{Dor, Dateline, WestFi
 use Rattle.noc_route.specs.declared.rule.RouteRow.{RouteRow}
 use Rattle.noc_route.proofs.PlaceLemmas.{flat-below}
 use Rattle.noc_route.proofs.TrimLemmas.{index-parts, page-dst, page-class, page-sender, page-below}
-use Rattle.noc_route.proofs.BoolLemmas.{same_test, or-none, or-true, and-false}
+use Rattle.noc_route.proofs.BoolLemmas.{same_test}
 
 -- ---- one set in a row of places
 
@@ -137,7 +138,7 @@ pub record IsWithinTable (routes : Routes) (row : RouteRow) : Type 0 where
 
 -- the place of a row in the table
 abbrev pub row_place : Routes → RouteRow → ℕ
-row_place routes row = place_of routes.grid routes.vcs routes.classes row.class row.router row.in_port row.in_vc row.dst
+row_place routes row = entry_place routes.grid routes.vcs routes.classes row.class row.router row.in_port row.in_vc row.dst
 
 -- the number of a page, of its parts
 pub page-whole : (g : Grid) (classes b : ℕ) → page_of g classes (page_class g classes b) (page_router g classes b) (page_dst g b) ≡ b
@@ -182,7 +183,7 @@ HasRows routes sets rows n =
 -- a channel of the row, or one that was there
 or_within : (e l r : Bool) → (e ≡ true → l ≡ true) → (e || (l && r)) ≡ (l && (r || e))
 or_within true l r h = let yes = h refl in rw (yes, or-true r) refl
-or_within false l r h = rw (or-none r) refl
+or_within false l r h = rw (or-false r) refl
 
 -- whether a row names an entry of a page and an output channel
 abbrev row_at : Routes → ℕ → ℕ → ℕ → RouteRow → Bool
@@ -217,7 +218,7 @@ HasRows-more routes sets rows n row value long l here within is h = λ b i k m o
     at b i k m o (inr other) =
         let none : row_at routes b i k row ≡ false = not_named (row_at routes b i k row) refl in
         ap (λ x. has_bit x k) (get_or-set_other sets (row_place routes row) (b * width routes.grid routes.vcs + i) value 0 other) ∙ h b i k m o
-        ∙ ap (λ x. nat_lt k (width routes.grid routes.vcs) && x) (sym (rw none (or-none (has_row_at routes (take n rows) b i k))))
+        ∙ ap (λ x. nat_lt k (width routes.grid routes.vcs) && x) (sym (rw none (or-false (has_row_at routes (take n rows) b i k))))
       where
         not_named : (x : Bool) → row_at routes b i k row ≡ x → row_at routes b i k row ≡ false
         not_named true q = absurd (other (named-place routes b i k row (is_row_of-parts _ _ _ _ _ _ _ row q)).0)

@@ -3,13 +3,13 @@ use Rattle.std.proofs.Common.{◌≡◌, ◌≢◌, ℕ, zero, suc, ◌+◌, ◌
 use Rattle.std.specs.Prelude.{◌⊎◌, ◌&&◌, ◌||◌, option_map, nat_eq, nat_lt, nat_le, if◌then◌else◌}
 use Rattle.std.proofs.lemmas.Bool.{cases_lt, cases_eq, eq-eqb, ne_eqb, eqb-true, lt-ltb, le-ltb, ltb-true, ltb-false, leb-true, leb-false, and_parts, or_cases, false≢true}
 use Rattle.std.proofs.Math.Nat.{add-mul-mod_self_left, mod-eq_of_lt}
+use Rattle.std.proofs.Math.Bool.{or-true, or-false, and-false}
 use Rattle.noc_topo.specs.Shape.{Grid, IsGrid, coordinates, padded, nodes, local_port, neighbour, moved_in, is_plus, distance, distance_in}
 use Rattle.noc_topo.proofs.ShapeLemmas.{length-coordinates}
 use Rattle.noc_topo.proofs.LinkLemmas.{AreRadices-from_test, AreRadices-at, get_or-padded, get_or-past, corner-at, IsWithin-at, IsWithin-coordinates, hop_of, led}
 use Rattle.noc_topo.proofs.DistanceLemmas.{hop-distance}
 use Rattle.noc_topo.specs.Words.{is_some_of}
 use Rattle.noc_route.specs.Relation.{goes_up, dor_port, dor_port_from, is_west_first}
-use Rattle.noc_route.proofs.BoolLemmas.{or-true, or-none, and-false}
 
 -- ---- the port of dimension order
 
@@ -90,11 +90,11 @@ dor_port-missing g here there r t sound e f same =
 
 pub and_next : (x l b : Bool) → (x ≡ true → b ≡ true) → (x || (l && b)) ≡ ((l || x) && b)
 and_next true l b h = let yes = h refl in rw (yes, or-true l) refl
-and_next false l b h = rw (or-none l) refl
+and_next false l b h = rw (or-false l) refl
 
 pub and_next_not : (x l b : Bool) → (x ≡ true → b ≡ false) → (l && b) ≡ ((l || x) && b)
 and_next_not true l b h = let no = h refl in rw (no, and-false l, and-false (l || true)) refl
-and_next_not false l b h = rw (or-none l) refl
+and_next_not false l b h = rw (or-false l) refl
 
 -- ---- a step in one dimension, by the shorter way
 

@@ -22,13 +22,13 @@ use Rattle.noc_route.specs.declared.rule.Entry.{Entry}
 use Rattle.noc_route.proofs.PlaceLemmas.{flat-below, page-router}
 use Rattle.noc_route.proofs.TrimLemmas.{index-parts, port-below, CanCome-within, comes_in-sound, page-dst, page-class, page-sender, page-below}
 use Rattle.noc_route.proofs.EnterLemmas.{page-whole}
-use Rattle.noc_route.proofs.RuleLemmas.{IsFaultless, IsRight-from_test, leads-vc}
+use Rattle.noc_route.proofs.RuleLemmas.{IsWellMade, IsRight-from_test, leads-vc}
 use Rattle.noc_route.proofs.BuiltLemmas.{table, sized, some_vcs, member-leads, leads-member, next-link, next-eject, no-inject, ComesOn-reached, CameOn-come, rule-link, rule-eject, IsMade, IsUnstuck, comes-true, kept-set, exact, IsRelation-made}
 
 -- ---- an empty set leads nowhere
 
 -- a lead is a member of the set
-lead-member : (g : Routing) (sets : List ℕ) → IsFaultless g → IsEntered g (table g sets) → (m t r i p w : ℕ) (c : Channel) (place : ℕ × ℕ) → IsReached g m c t → arrival_of g.grid c ≡ Some (r, i / g.vcs)
+lead-member : (g : Routing) (sets : List ℕ) → IsWellMade g → IsEntered g (table g sets) → (m t r i p w : ℕ) (c : Channel) (place : ℕ × ℕ) → IsReached g m c t → arrival_of g.grid c ≡ Some (r, i / g.vcs)
     → channel_vc c ≡ i % g.vcs → arrival_of g.grid c ≡ Some place → p < ports g.grid → leads g m place (channel_vc c) t p w ≡ true → has_bit (set_in (table g sets) m r t i) (p * g.vcs + w) ≡ true
 lead-member g sets good entered m t r i p w c place reached e f h l lead =
     let both : Some place ≡ Some (r, i / g.vcs) = sym h ∙ e in
@@ -43,7 +43,7 @@ lead-member g sets good entered m t r i p w c place reached e f h l lead =
     (ap (λ x. leads g m (r, i / g.vcs) (i % g.vcs) t x ((p * g.vcs + w) % g.vcs)) (div-mul-add p g.vcs w vc) ∙ ap (leads g m (r, i / g.vcs) (i % g.vcs) t p) (mod-mul-add p g.vcs w vc) ∙ here)
 
 -- no next channel where the set is empty
-empty-none : (g : Routing) (sets : List ℕ) → IsFaultless g → IsEntered g (table g sets) → (m t r i : ℕ) (c : Channel) → IsReached g m c t → arrival_of g.grid c ≡ Some (r, i / g.vcs)
+empty-none : (g : Routing) (sets : List ℕ) → IsWellMade g → IsEntered g (table g sets) → (m t r i : ℕ) (c : Channel) → IsReached g m c t → arrival_of g.grid c ≡ Some (r, i / g.vcs)
     → channel_vc c ≡ i % g.vcs → set_in (table g sets) m r t i ≡ 0 → (o : Channel) → rule_has g m c t o ≡ false
 empty-none g sets good entered m t r i c reached e f zero o = at o (rule_has g m c t o) refl
   where
@@ -64,7 +64,7 @@ empty-none g sets good entered m t r i c reached e f zero o = at o (rule_has g m
     at o false h = h
 
 -- where there is no next channel the set is empty
-none-empty : (g : Routing) (sets : List ℕ) → IsFaultless g → IsEntered g (table g sets) → (m t r i : ℕ) (c : Channel) → IsPlace (table g sets) m r t → i < width g.grid g.vcs → arrival_of g.grid c ≡ Some (r, i / g.vcs)
+none-empty : (g : Routing) (sets : List ℕ) → IsWellMade g → IsEntered g (table g sets) → (m t r i : ℕ) (c : Channel) → IsPlace (table g sets) m r t → i < width g.grid g.vcs → arrival_of g.grid c ≡ Some (r, i / g.vcs)
     → channel_vc c ≡ i % g.vcs → ((o : Channel) → rule_has g m c t o ≡ false) → set_in (table g sets) m r t i ≡ 0
 none-empty g sets good entered m t r i c place l e f none = zero_from_none (set_in (table g sets) m r t i) (λ k. at k (has_bit (set_in (table g sets) m r t i) k) refl)
   where

@@ -1,16 +1,9 @@
 -- The order of rows and entries.
-use Rattle.std.proofs.Common.{◌≡◌, ◌≢◌, ℕ, zero, suc, ◌+◌, ◌<◌, ◌≤◌, Bool, true, false, List, [], ◌∷◌, length, drop, get_or, refl, ◌∙◌, arith, add-one, inl, inr}
+use Rattle.std.proofs.Common.{◌≡◌, ◌≢◌, ℕ, zero, suc, ◌+◌, ◌<◌, ◌≤◌, true, false, List, [], ◌∷◌, length, drop, get_or, refl, ◌∙◌, arith, add-one, inl, inr}
 use Rattle.std.specs.Prelude.{nat_lt, nat_eq, ◌||◌, ◌&&◌, ◌⊎◌}
 use Rattle.std.proofs.lemmas.Bool.{ne_eqb, eq-eqb, le-ltb, lt-ltb, false≢true, ltb-true, eqb-true, and_parts, or_cases}
+use Rattle.std.proofs.Math.Bool.{or-false, or-true, and-false}
 use Rattle.noc_route.specs.Order.{numbers_before}
-
-or-true : (b : Bool) → (b || true) ≡ true
-or-true true = refl
-or-true false = refl
-
-or-none : (b : Bool) → (b || false) ≡ b
-or-none true = refl
-or-none false = refl
 
 -- the part from i on, by its first pair
 pub before-at : (xs ys : List ℕ) (i : ℕ) → i < length xs → i < length ys
@@ -24,7 +17,7 @@ pub before-differs : (xs ys : List ℕ) (i : ℕ) → i < length xs → i < leng
     → numbers_before (drop i xs) (drop i ys) ≡ nat_lt (get_or xs i 0) (get_or ys i 0)
 before-differs xs ys i l k differ =
     let unlike : nat_eq (get_or xs i 0) (get_or ys i 0) ≡ false = ne_eqb _ _ differ in
-    rw (before-at xs ys i l k, unlike) (or-none _)
+    rw (before-at xs ys i l k, unlike) (or-false _)
 
 pub before-same : (xs ys : List ℕ) (i : ℕ) → i < length xs → i < length ys → get_or xs i 0 ≡ get_or ys i 0
     → numbers_before (drop i xs) (drop i ys) ≡ numbers_before (drop (i + 1) xs) (drop (i + 1) ys)
@@ -49,10 +42,6 @@ before-not-self [] = refl
 before-not-self (x ∷ xs) =
     let level : nat_lt x x ≡ false = le-ltb x x (omega arith) in
     rw (level, before-not-self xs) (and-false (nat_eq x x))
-  where
-    and-false : (b : Bool) → (b && false) ≡ false
-    and-false true = refl
-    and-false false = refl
 
 -- what comes before something that comes before a third comes before that
 pub before-trans : (xs ys zs : List ℕ) → length xs ≡ length ys → length ys ≡ length zs → numbers_before xs ys ≡ true → numbers_before ys zs ≡ true → numbers_before xs zs ≡ true

@@ -8,7 +8,7 @@ use Rattle.noc_packet.specs.declared.limits.TheConstants.{MAX_CHANNELS, MAX_CLAS
 use Rattle.noc_topo.specs.Shape.{Grid, nodes, ports}
 use Rattle.noc_route.specs.Relation.{is_right}
 use Rattle.noc_route.specs.declared.rule.Rule.TheVariants.{Dateline}
-use Rattle.noc_route.specs.Routes.{Routes, is_entry, set_at, place_of}
+use Rattle.noc_route.specs.Routes.{Routes, is_entry, set_at, entry_place}
 
 -- element i of row a, where each row has n, comes before the end of m rows
 pub flat-below : (a m i n : ℕ) → a < m → i < n → a * n + i < m * n
@@ -26,7 +26,7 @@ is_entry-true g vcs classes m r p v t a b c d e =
     rw (m_ok, r_ok, p_ok, v_ok, t_ok) refl
 
 pub set_at-existing : (routes : Routes) (m r p v t : ℕ) → m < routes.classes → r < nodes routes.grid → p < ports routes.grid → v < routes.vcs → t < nodes routes.grid
-    → set_at routes m r p v t ≡ slice_index routes.sets (place_of routes.grid routes.vcs routes.classes m r p v t)
+    → set_at routes m r p v t ≡ slice_index routes.sets (entry_place routes.grid routes.vcs routes.classes m r p v t)
 set_at-existing routes m r p v t a b c d e = let there = is_entry-true routes.grid routes.vcs routes.classes m r p v t a b c d e in rw there refl
 
 -- the row and the column of element i of row a

@@ -8,6 +8,7 @@ use Rattle.noc_route.specs.Relation.{row_fault, earlier_fault, IsFirstFault}
 use Rattle.noc_route.specs.declared.rule.RouteRow.{RouteRow}
 use Rattle.noc_route.specs.declared.rule.RouteFault.{RouteFault}
 use Rattle.noc_route.proofs.OrderLemmas.{before-not-self, before-trans}
+use Rattle.noc_route.proofs.OptionLemmas.{no-value}
 
 -- a row is no earlier fault than another
 abbrev pub IsNoEarlier : Grid → ℕ → ℕ → RouteRow → RouteRow → Type 0
@@ -24,10 +25,6 @@ pub record IsLeast (g : Grid) (vcs classes : ℕ) (rows : List RouteRow) (n : �
 abbrev pub IsFirstAmong : Grid → ℕ → ℕ → List RouteRow → ℕ → Option RouteRow → Type 0
 IsFirstAmong g vcs classes rows n None = (k : ℕ) (d : RouteRow) → k < n → row_fault g vcs classes (get_or rows k d) ≡ None
 IsFirstAmong g vcs classes rows n (Some row) = IsLeast g vcs classes rows n row
-
-none-from_test : {X : Type 0} (o : Option X) → is_some o ≡ false → o ≡ None
-none-from_test None e = refl
-none-from_test (Some x) e = absurd (false≢true (sym e))
 
 earlier_fault-whole : (g : Grid) (vcs classes : ℕ) (row : RouteRow) (other : Option RouteRow) → is_some (row_fault g vcs classes row) ≡ false → earlier_fault g vcs classes row other ≡ other
 earlier_fault-whole g vcs classes row other e = rw e refl
@@ -104,7 +101,7 @@ IsFirstAmong-more g vcs classes rows n row first here h = at (is_some (row_fault
   where
     at : (b : Bool) → is_some (row_fault g vcs classes row) ≡ b → (c : Bool) → row_before row first ≡ c → IsFirstAmong g vcs classes rows (n + 1) (earlier_fault g vcs classes row first)
     at false e c f =
-        let none : row_fault g vcs classes row ≡ None = none-from_test (row_fault g vcs classes row) e in
+        let none : row_fault g vcs classes row ≡ None = no-value (row_fault g vcs classes row) e in
         let P : Option RouteRow → Type 0 = λ o. IsFirstAmong g vcs classes rows (n + 1) o in
         subst P (sym (earlier_fault-whole g vcs classes row first e)) (IsFirstAmong-kept g vcs classes rows n row first here (λ _. none, λ r q. inl none) h)
     at true e true f =

@@ -17,6 +17,7 @@ use Rattle.noc_route.specs.declared.rule.RouteFault.TheVariants.{NoLink, NotMini
 use Rattle.noc_route.proofs.EnterLemmas.{NamesIt, is_row_of-parts, IsRealRow, IsRealRow-from_test}
 use Rattle.noc_route.proofs.AdaptiveLemmas.{nearer-link, NearerHop-adaptive}
 use Rattle.noc_route.proofs.NamedLemmas.{NearerHop, NearerHop-dor, NearerHop-west_first, dor_port_from-some, some_of-true}
+use Rattle.noc_route.specs.Built.{routing_of}
 
 -- ---- rows without a fault
 
@@ -60,13 +61,13 @@ hop_fault-nearer g row next e = at (nat_eq row.router row.dst) refl (nat_lt (dis
 
 -- ---- a rule without a fault
 
--- what is made of right numbers, and of rows without a fault
-pub record IsFaultless (g : Routing) : Type 0 where
+-- what is made routing_of right numbers, and routing_of rows without a fault
+pub record IsWellMade (g : Routing) : Type 0 where
   pub grid : IsGrid g.grid
   pub right : is_right g.grid g.vcs g.classes g.rule ≡ true
   pub rows : All (λ row. row_fault g.grid g.vcs g.classes row ≡ None) (rows_of g.rule)
 
--- the row of a table that leads on
+-- the row routing_of a table that leads on
 pub record LeadingRow (g : Routing) (m r p v t q w : ℕ) : Type 0 where
   pub row : RouteRow
   pub names : NamesIt m r p v t q w row
@@ -82,7 +83,7 @@ leading-row g rows m r p v t q w good e =
 
 -- ---- the channel
 
--- the limits of right numbers
+-- the limits routing_of right numbers
 pub record IsRight (vcs classes : ℕ) : Type 0 where
   pub some_vcs : 1 ≤ vcs
   pub few_vcs : vcs ≤ MAX_CHANNELS
@@ -115,9 +116,6 @@ channel-in_block g vcs classes WestFirst m xs ts port v e = e
 channel-in_block g vcs classes Adaptive m xs ts port v e = (and_parts (is_in_block vcs classes m v) _ e).0
 channel-in_block g vcs classes (Rows rows) m xs ts port v e = e
 
-abbrev of : Grid → ℕ → ℕ → Rule → Routing
-of grid vcs classes rule = record { grid = grid; vcs = vcs; classes = classes; rule = rule }
-
 -- at the destination a rule by coordinates leads to the local port, and elsewhere along a port that it takes
 pub record IsLedBy (g : Routing) (m r t p v : ℕ) : Type 0 where
   pub page : is_in_block g.vcs g.classes m v ≡ true
@@ -146,7 +144,7 @@ dor-link g xs ts p e =
     below true i l e = omega (arith, l, e)
     below false i l e = omega (arith, l, e)
 
--- what right numbers for west first say of the shape
+-- what right numbers for west first say routing_of the shape
 pub west-shape : (g : Grid) (vcs classes : ℕ) → is_right g vcs classes WestFirst ≡ true → (g.wraps ≡ false) × (length g.radix ≡ 2)
 west-shape g vcs classes e =
     let a = and_parts _ (not g.wraps && nat_eq (length g.radix) 2) e in
@@ -185,27 +183,27 @@ takes_port-link g vcs classes WestFirst r t p right e = west-link g vcs classes 
 takes_port-link g vcs classes Adaptive r t p right e = nearer-link g r t p e
 takes_port-link g vcs classes (Rows rows) r t p right e = absurd (false≢true e)
 
-leads-vc_at : (grid : Grid) (vcs classes : ℕ) (rule : Rule) (m r p v t q w : ℕ) → IsFaultless (of grid vcs classes rule) → m < classes → leads (of grid vcs classes rule) m (r, p) v t q w ≡ true → w < vcs
+leads-vc_at : (grid : Grid) (vcs classes : ℕ) (rule : Rule) (m r p v t q w : ℕ) → IsWellMade (routing_of grid vcs classes rule) → m < classes → leads (routing_of grid vcs classes rule) m (r, p) v t q w ≡ true → w < vcs
 leads-vc_at grid vcs classes Dor m r p v t q w good l e =
-    page-channel vcs classes m w (IsRight-from_test grid vcs classes Dor good.right).some_classes l (is_led-parts (of grid vcs classes Dor) m r t q w e).page
+    page-channel vcs classes m w (IsRight-from_test grid vcs classes Dor good.right).some_classes l (is_led-parts (routing_of grid vcs classes Dor) m r t q w e).page
 leads-vc_at grid vcs classes Dateline m r p v t q w good l e =
-    page-channel vcs classes m w (IsRight-from_test grid vcs classes Dateline good.right).some_classes l (is_led-parts (of grid vcs classes Dateline) m r t q w e).page
+    page-channel vcs classes m w (IsRight-from_test grid vcs classes Dateline good.right).some_classes l (is_led-parts (routing_of grid vcs classes Dateline) m r t q w e).page
 leads-vc_at grid vcs classes WestFirst m r p v t q w good l e =
-    page-channel vcs classes m w (IsRight-from_test grid vcs classes WestFirst good.right).some_classes l (is_led-parts (of grid vcs classes WestFirst) m r t q w e).page
+    page-channel vcs classes m w (IsRight-from_test grid vcs classes WestFirst good.right).some_classes l (is_led-parts (routing_of grid vcs classes WestFirst) m r t q w e).page
 leads-vc_at grid vcs classes Adaptive m r p v t q w good l e =
-    page-channel vcs classes m w (IsRight-from_test grid vcs classes Adaptive good.right).some_classes l (is_led-parts (of grid vcs classes Adaptive) m r t q w e).page
+    page-channel vcs classes m w (IsRight-from_test grid vcs classes Adaptive good.right).some_classes l (is_led-parts (routing_of grid vcs classes Adaptive) m r t q w e).page
 leads-vc_at grid vcs classes (Rows rows) m r p v t q w good l e =
-    let row = leading-row (of grid vcs classes (Rows rows)) rows.items m r p v t q w good.rows e in
+    let row = leading-row (routing_of grid vcs classes (Rows rows)) rows.items m r p v t q w good.rows e in
     let real = IsRealRow-from_test grid vcs classes row.row (row_fault-none grid vcs classes row.row row.faultless).0 in
     omega (arith, real.out_vc, row.names.out_vc)
 
-pub leads-vc : (g : Routing) (m r p v t q w : ℕ) → IsFaultless g → m < g.classes → leads g m (r, p) v t q w ≡ true → w < g.vcs
+pub leads-vc : (g : Routing) (m r p v t q w : ℕ) → IsWellMade g → m < g.classes → leads g m (r, p) v t q w ≡ true → w < g.vcs
 leads-vc g m r p v t q w good l e = leads-vc_at g.grid g.vcs g.classes g.rule m r p v t q w good l e
 
 -- ---- the hop
 
-named-hop : (grid : Grid) (vcs classes : ℕ) (rule : Rule) (m r t p v : ℕ) → IsGrid grid → is_right grid vcs classes rule ≡ true → p < local_port grid → is_led (of grid vcs classes rule) m r t p v ≡ true → NearerHop grid r p t
-named-hop grid vcs classes rule m r t p v sound right l e = at rule right (is_led-parts (of grid vcs classes rule) m r t p v e).way
+named-hop : (grid : Grid) (vcs classes : ℕ) (rule : Rule) (m r t p v : ℕ) → IsGrid grid → is_right grid vcs classes rule ≡ true → p < local_port grid → is_led (routing_of grid vcs classes rule) m r t p v ≡ true → NearerHop grid r p t
+named-hop grid vcs classes rule m r t p v sound right l e = at rule right (is_led-parts (routing_of grid vcs classes rule) m r t p v e).way
   where
     at : (rule : Rule) → is_right grid vcs classes rule ≡ true
         → ((r ≡ t) × (p ≡ local_port grid)) ⊎ ((r ≢ t) × (takes_port grid rule (coordinates grid.radix r) (coordinates grid.radix t) p ≡ true)) → NearerHop grid r p t
@@ -241,16 +239,16 @@ row-hop g m r q v t p w sound l lead = at (neighbour g.grid r p) refl
         let closer : distance g.grid to.0 t < distance g.grid r t = subst Q lead.names.router (subst P lead.names.dst nearer) in
         record { to = to; link = e; nearer = hop-by_one g.grid r p to.0 to.1 t sound e closer }
 
-leads-hop_at : (grid : Grid) (vcs classes : ℕ) (rule : Rule) (m r q v t p w : ℕ) → IsFaultless (of grid vcs classes rule) → p < local_port grid → leads (of grid vcs classes rule) m (r, q) v t p w ≡ true → NearerHop grid r p t
+leads-hop_at : (grid : Grid) (vcs classes : ℕ) (rule : Rule) (m r q v t p w : ℕ) → IsWellMade (routing_of grid vcs classes rule) → p < local_port grid → leads (routing_of grid vcs classes rule) m (r, q) v t p w ≡ true → NearerHop grid r p t
 leads-hop_at grid vcs classes Dor m r q v t p w good l e = named-hop grid vcs classes Dor m r t p w good.grid good.right l e
 leads-hop_at grid vcs classes Dateline m r q v t p w good l e = named-hop grid vcs classes Dateline m r t p w good.grid good.right l e
 leads-hop_at grid vcs classes WestFirst m r q v t p w good l e = named-hop grid vcs classes WestFirst m r t p w good.grid good.right l e
 leads-hop_at grid vcs classes Adaptive m r q v t p w good l e = named-hop grid vcs classes Adaptive m r t p w good.grid good.right l e
 leads-hop_at grid vcs classes (Rows rows) m r q v t p w good l e =
-    row-hop (of grid vcs classes (Rows rows)) m r q v t p w good.grid l (leading-row (of grid vcs classes (Rows rows)) rows.items m r q v t p w good.rows e)
+    row-hop (routing_of grid vcs classes (Rows rows)) m r q v t p w good.grid l (leading-row (routing_of grid vcs classes (Rows rows)) rows.items m r q v t p w good.rows e)
 
 -- a link to which a rule leads comes nearer by one
-pub leads-hop : (g : Routing) (m r q v t p w : ℕ) → IsFaultless g → p < local_port g.grid → leads g m (r, q) v t p w ≡ true → NearerHop g.grid r p t
+pub leads-hop : (g : Routing) (m r q v t p w : ℕ) → IsWellMade g → p < local_port g.grid → leads g m (r, q) v t p w ≡ true → NearerHop g.grid r p t
 leads-hop g m r q v t p w good l e = leads-hop_at g.grid g.vcs g.classes g.rule m r q v t p w good l e
 
 -- the local port has no link
@@ -259,24 +257,24 @@ local-none g r = let past : nat_lt (local_port g) (local_port g) ≡ false = le-
 
 -- ---- the destination
 
-named-home : (grid : Grid) (vcs classes : ℕ) (rule : Rule) (m r t v : ℕ) → is_right grid vcs classes rule ≡ true → is_led (of grid vcs classes rule) m r t (local_port grid) v ≡ true → r ≡ t
-named-home grid vcs classes rule m r t v right e = at (is_led-parts (of grid vcs classes rule) m r t (local_port grid) v e).way
+named-home : (grid : Grid) (vcs classes : ℕ) (rule : Rule) (m r t v : ℕ) → is_right grid vcs classes rule ≡ true → is_led (routing_of grid vcs classes rule) m r t (local_port grid) v ≡ true → r ≡ t
+named-home grid vcs classes rule m r t v right e = at (is_led-parts (routing_of grid vcs classes rule) m r t (local_port grid) v e).way
   where
     at : ((r ≡ t) × (local_port grid ≡ local_port grid)) ⊎ ((r ≢ t) × (takes_port grid rule (coordinates grid.radix r) (coordinates grid.radix t) (local_port grid) ≡ true)) → r ≡ t
     at (inl home) = home.0
     at (inr way) = absurd (omega (arith, takes_port-link grid vcs classes rule r t (local_port grid) right way.1))
 
-leads-home_at : (grid : Grid) (vcs classes : ℕ) (rule : Rule) (m r q v t w : ℕ) → IsFaultless (of grid vcs classes rule) → leads (of grid vcs classes rule) m (r, q) v t (local_port grid) w ≡ true → r ≡ t
+leads-home_at : (grid : Grid) (vcs classes : ℕ) (rule : Rule) (m r q v t w : ℕ) → IsWellMade (routing_of grid vcs classes rule) → leads (routing_of grid vcs classes rule) m (r, q) v t (local_port grid) w ≡ true → r ≡ t
 leads-home_at grid vcs classes Dor m r q v t w good e = named-home grid vcs classes Dor m r t w good.right e
 leads-home_at grid vcs classes Dateline m r q v t w good e = named-home grid vcs classes Dateline m r t w good.right e
 leads-home_at grid vcs classes WestFirst m r q v t w good e = named-home grid vcs classes WestFirst m r t w good.right e
 leads-home_at grid vcs classes Adaptive m r q v t w good e = named-home grid vcs classes Adaptive m r t w good.right e
 leads-home_at grid vcs classes (Rows rows) m r q v t w good e =
-    let lead = leading-row (of grid vcs classes (Rows rows)) rows.items m r q v t (local_port grid) w good.rows e in
+    let lead = leading-row (routing_of grid vcs classes (Rows rows)) rows.items m r q v t (local_port grid) w good.rows e in
     let right = row_fault-none grid vcs classes lead.row lead.faultless in
     let none : neighbour grid lead.row.router lead.row.out_port ≡ None = ap (neighbour grid lead.row.router) lead.names.out_port ∙ local-none grid lead.row.router in
     sym lead.names.router ∙ hop_fault-home grid lead.row (sym (ap (hop_fault grid lead.row) none) ∙ right.1) ∙ lead.names.dst
 
 -- a rule leads to the local port at the destination alone
-pub leads-home : (g : Routing) (m r q v t w : ℕ) → IsFaultless g → leads g m (r, q) v t (local_port g.grid) w ≡ true → r ≡ t
+pub leads-home : (g : Routing) (m r q v t w : ℕ) → IsWellMade g → leads g m (r, q) v t (local_port g.grid) w ≡ true → r ≡ t
 leads-home g m r q v t w good e = leads-home_at g.grid g.vcs g.classes g.rule m r q v t w good e

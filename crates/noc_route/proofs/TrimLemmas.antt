@@ -6,13 +6,13 @@ use Rattle.std.proofs.lemmas.Nat.{div-mul-add, mod-mul-add}
 use Rattle.std.proofs.lemmas.Bool.{cases_eq, cases_lt, eq-eqb, ne_eqb, false≢true, and_parts, or_cases}
 use Rattle.std.proofs.lemmas.Bool.Decides.{eqb_tells}
 use Rattle.std.proofs.lemmas.List.{get_or-set_same, get_or-set_other}
+use Rattle.std.proofs.Math.Bool.{or-true}
 use Rattle.noc_packet.specs.Set.{has_bit}
 use Rattle.noc_topo.specs.Shape.{Grid, IsGrid, nodes, ports, local_port, neighbour, distance}
 use Rattle.noc_topo.proofs.LinkLemmas.{link_back, neighbour-range}
 use Rattle.noc_route.specs.Routes.{Routes, width, pages, page_of}
 use Rattle.noc_route.specs.Trimming.{set_in, IsPlace, CanCome, injected, led, ComesNearer, CanLeave, comes_in, any_below, IsSoundOut, IsFullOut}
 use Rattle.noc_route.proofs.PlaceLemmas.{flat-below}
-use Rattle.noc_route.proofs.BoolLemmas.{or-true}
 
 -- ---- a test of the numbers below one
 

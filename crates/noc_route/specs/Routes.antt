@@ -35,8 +35,8 @@ abbrev pub pages : Grid → ℕ → ℕ
 pages g classes = nodes g * classes * nodes g
 
 -- the place of an entry in the table
-abbrev pub place_of : Grid → ℕ → ℕ → ℕ → ℕ → ℕ → ℕ → ℕ → ℕ
-place_of g vcs classes m r p v t = page_of g classes m r t * width g vcs + (p * vcs + v)
+abbrev pub entry_place : Grid → ℕ → ℕ → ℕ → ℕ → ℕ → ℕ → ℕ → ℕ
+entry_place g vcs classes m r p v t = page_of g classes m r t * width g vcs + (p * vcs + v)
 
 -- whether the class, router, input port, channel and destination exist
 abbrev pub is_entry : Grid → ℕ → ℕ → ℕ → ℕ → ℕ → ℕ → ℕ → Bool
@@ -46,7 +46,7 @@ is_entry g vcs classes m r p v t = nat_lt m classes && nat_lt r (nodes g) && nat
 abbrev pub set_at : Routes → ℕ → ℕ → ℕ → ℕ → ℕ → ℕ
 set_at routes m r p v t =
     if is_entry routes.grid routes.vcs routes.classes m r p v t
-    then slice_index routes.sets (place_of routes.grid routes.vcs routes.classes m r p v t)
+    then slice_index routes.sets (entry_place routes.grid routes.vcs routes.classes m r p v t)
     else 0
 
 -- the limits within which a relation is made, and the size of its table

@@ -1,9 +1,6 @@
 -- How a relation is stored.
 use Rattle.noc_route.specs.declared.relation.Relation.TheInside.{Inside}
-use Rattle.noc_route.specs.Routes.{Routes, IsRelation}
+use Rattle.noc_route.specs.Routes.{Routes}
 
 abbrev pub routes_of : Inside → Routes
 routes_of r = record { grid = r.frame.shape; vcs = r.frame.vcs; classes = r.frame.classes; sets = r.sets.items }
-
-abbrev pub IsSound : Inside → Type 0
-IsSound r = IsRelation (routes_of r)

@@ -1,6 +1,7 @@
 //! The links and distances of a network, looked up once.
 
 ghost use Rattle.std.specs.Prelude.{◌≡◌, ℕ, Option, Some, None, ◌+◌, ◌-◌, ◌*◌, ◌/◌, ◌%◌, ◌<◌, ◌≤◌, IfOk, IfSome, EachIndex, slice_index, slice_index_or, vec_len};
+ghost use Rattle.noc_topo.specs.declared.limits.TheConstants.{MAX_RADIX};
 ghost use Rattle.noc_topo.specs.Shape.{Grid, IsGrid, nodes, ports, local_port, neighbour, distance, coordinates, padded};
 ghost use Rattle.noc_route.specs.Relation.{goes_up};
 
@@ -16,7 +17,7 @@ pub struct Map {
     links: Vec<Option<(usize, usize)>>,
     apart: Vec<usize>,
     ghost corner: { last ≡ padded (coordinates frame.shape.radix (nodes frame.shape - 1)) },
-    ghost small: { EachIndex last (λ i. slice_index last i < 16) },
+    ghost small: { EachIndex last (λ i. slice_index last i < MAX_RADIX) },
     ghost all_links: { vec_len links ≡ nodes frame.shape * ports frame.shape },
     ghost linked: { (k : ℕ) → k < nodes frame.shape * ports frame.shape → slice_index_or links.items k None ≡ neighbour frame.shape (k / ports frame.shape) (k % ports frame.shape) },
     ghost all_apart: { vec_len apart ≡ nodes frame.shape * nodes frame.shape },

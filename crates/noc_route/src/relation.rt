@@ -28,15 +28,15 @@ pub struct Relation {
 }
 
 impl Model for Relation {
-    ghost use Rattle.noc_route.specs.Routes.{Routes};
+    ghost use Rattle.noc_route.specs.Routes.{Routes, IsRelation};
 
     ghost Value = { Routes };
 
-    ghost use Rattle.noc_route.specs.Stored.{routes_of, IsSound};
+    ghost use Rattle.noc_route.specs.Stored.{routes_of};
 
     ghost view = { routes_of };
 
-    ghost invariant = { IsSound };
+    ghost invariant = { λ r. IsRelation (routes_of r) };
 }
 
 impl Relation {
@@ -93,7 +93,7 @@ impl Relation {
         &self.frame.shape
     }
 
-    /// How many virtual channels a link has, 1 to 4.
+    /// How many virtual channels a link has, 1 to 8.
     pub fn vcs(&self) -> usize
         ensures value { result ≡ self.now.vcs }
         ensures built { IsRelation self.now }

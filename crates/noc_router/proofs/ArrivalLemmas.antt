@@ -1,11 +1,12 @@
 -- What a search in rising numbers finds, and the arrivals beside them.
-use Rattle.std.proofs.Common.{◌≡◌, ◌≢◌, ℕ, zero, suc, ◌+◌, ◌<◌, ◌≤◌, Bool, true, false, List, [], ◌∷◌, map, length, get_or, set, Option, Some, None, refl, ap, sym, ◌∙◌, arith, inl, inr}
+use Rattle.std.proofs.Common.{◌≡◌, ◌≢◌, ℕ, zero, suc, ◌+◌, ◌<◌, ◌≤◌, true, false, List, [], ◌∷◌, map, length, get_or, set, Option, Some, None, refl, ap, sym, ◌∙◌, arith, inl, inr}
 use Rattle.std.specs.Prelude.{◌||◌, ◌⊎◌, is_none, is_some, Ok, Err}
 use Rattle.std.specs.Ordering.{nat_cmp}
 use Rattle.std.specs.List.{zip}
 use Rattle.std.specs.List.Sorted.{IsStrictlyIncreasing, IsBinarySearchResult}
 use Rattle.std.proofs.lemmas.Bool.{cases_eq, cases_lt, eq-eqb, ne_eqb, false≢true}
 use Rattle.std.proofs.lemmas.List.Sorted.{searched}
+use Rattle.std.proofs.Math.Bool.{or-false}
 use Rattle.noc_router.specs.Arrivals.{is_expected_in, noted, arrival_in}
 
 -- p stands at this place only
@@ -67,17 +68,13 @@ first-other e es p place only is = let bad : 0 ≡ suc place = only 0 (omega ari
 rest-only : (e : ℕ) (es : List ℕ) (p place : ℕ) → IsOnly (e ∷ es) p (suc place) → IsOnly es p place
 rest-only e es p place only k l is = let s : suc k ≡ suc place = only (suc k) (omega arith) is in omega arith
 
-or_false : (b : Bool) → (b || false) ≡ b
-or_false true = refl
-or_false false = refl
-
 -- where p stands at one place only
 pub found-expected : (es : List ℕ) (cs : List (Option ℕ)) (p place : ℕ) → length cs ≡ length es → place < length es → get_or es place 0 ≡ p → IsOnly es p place
     → is_expected_in p (zip es cs) ≡ is_none (get_or cs place None)
 found-expected [] cs p place same l is only = absurd (omega arith)
 found-expected (e ∷ es) [] p place same l is only = absurd (omega arith)
 found-expected (e ∷ es) (c ∷ cs) p zero same l is only =
-    rw (eq-eqb e p is) (ap (λ b. is_none c || b) (absent-expected es cs p (rest-absent e es p only)) ∙ or_false (is_none c))
+    rw (eq-eqb e p is) (ap (λ b. is_none c || b) (absent-expected es cs p (rest-absent e es p only)) ∙ or-false (is_none c))
 found-expected (e ∷ es) (c ∷ cs) p (suc place) same l is only =
     rw (ne_eqb e p (first-other e es p place only)) (found-expected es cs p place (omega arith) (omega arith) is (rest-only e es p place only))
 

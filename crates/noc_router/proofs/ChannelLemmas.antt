@@ -3,7 +3,7 @@ use Rattle.std.proofs.Common.{◌≡◌, ◌≢◌, ℕ, zero, suc, ◌+◌, ◌
 use Rattle.std.specs.Prelude.{◌⊎◌, nat_eq, nat_lt, not, ◌&&◌, ◌||◌, is_some, if◌then◌else◌, replicate}
 use Rattle.std.specs.List.{All}
 use Rattle.std.specs.Option.{option_eq}
-use Rattle.std.proofs.lemmas.Bool.{cases_eq, false≢true, eq-eqb, ne_eqb, eqb-true, lt-ltb, ltb-true}
+use Rattle.std.proofs.lemmas.Bool.{cases_eq, false≢true, eq-eqb, ne_eqb, eqb-true, lt-ltb, ltb-true, and_parts}
 use Rattle.std.proofs.lemmas.List.{get_or_default, set-get_or, get_or-replicate, length-replicate, length-append}
 use Rattle.std.proofs.lemmas.List.Elements.{All-append, All-replicate}
 pub use Rattle.noc_router.proofs.FindLemmas.{find-below, find-none as find-below-none}
@@ -198,10 +198,6 @@ AreSound-output size sets idle supplied buffers inputs outputs o y s each l mark
 
 -- ---- flits of one packet
 
-second_of : (a b : Bool) → (a && b) ≡ true → b ≡ true
-second_of true b e = e
-second_of false b e = absurd (false≢true e)
-
 both_more : (a b c : Bool) → (a && b) ≡ true → (b ≡ true → c ≡ true) → (a && c) ≡ true
 both_more true b c e f = f e
 both_more false b c e f = e
@@ -238,13 +234,13 @@ is_worm-tail packet awaits f (g ∷ rest) worm last = absurd (false≢true (sym 
 -- the flits behind one that is no tail
 pub is_worm-rest : (packet awaits : Bool) (f : Flit) (rest : List Flit) → is_worm packet awaits (f ∷ rest) ≡ true → is_worm packet awaits rest ≡ true
 is_worm-rest packet awaits f [] worm = refl
-is_worm-rest packet awaits f (g ∷ rest) worm = second_of (not f.last) (is_worm packet awaits (g ∷ rest)) worm
+is_worm-rest packet awaits f (g ∷ rest) worm = (and_parts (not f.last) (is_worm packet awaits (g ∷ rest)) worm).1
 
 -- where there is a flit there is a packet
 pub is_worm-packet : (packet awaits : Bool) (f : Flit) (rest : List Flit) → is_worm packet awaits (f ∷ rest) ≡ true → packet ≡ true
 is_worm-packet true awaits f rest worm = refl
 is_worm-packet false awaits f [] worm = worm
-is_worm-packet false awaits f (g ∷ rest) worm = is_worm-packet false awaits g rest (second_of (not f.last) (is_worm false awaits (g ∷ rest)) worm)
+is_worm-packet false awaits f (g ∷ rest) worm = is_worm-packet false awaits g rest (and_parts (not f.last) (is_worm false awaits (g ∷ rest)) worm).1
 
 -- ---- what happens to one channel
 
@@ -254,7 +250,7 @@ read-at xs i x d l e = e ∙ get_or_default xs i x d l
 
 -- an input channel that fits a flit is empty or awaits one
 pub fits-next : (g : Routes) (router port vc places : ℕ) (flits : List Flit) (input : Input) (f : Flit) → true ≡ fits g router port vc places flits input f → (is_empty flits || is_some input.awaited) ≡ true
-fits-next g router port vc places flits input f e = at input.phase input.awaited (second_of (nat_lt (length flits) places) (is_expected g router port vc flits input f input.phase) (sym e))
+fits-next g router port vc places flits input f e = at input.phase input.awaited (and_parts (nat_lt (length flits) places) (is_expected g router port vc flits input f input.phase) (sym e)).1
   where
     first_of_two : (a b : Bool) → (a && b) ≡ true → a ≡ true
     first_of_two true b w = refl
@@ -667,11 +663,11 @@ pub AreStanding-by : (size : ℕ) (sets : Sets) (buffers : List (List Flit)) (in
     → ((k : ℕ) → has_bit t.unsupplied k ≡ (not (has_bit sets.supplied k) && has_bit sendable k)) → ((k : ℕ) → has_bit t.ready k ≡ (has_bit sendable k && has_bit sets.supplied k))
     → AreStanding size buffers inputs outputs t
 AreStanding-by size sets buffers inputs outputs sendable rest t s sends rests heads waits starved unsupplied ready = record {
-  heads_below = λ k is. s.filled_below k (second_of (not (has_bit sets.waiting k)) (has_bit sets.filled k) (sym (rests k) ∙ second_of (not (has_bit sets.active k)) (has_bit rest k) (sym (heads k) ∙ is)));
+  heads_below = λ k is. s.filled_below k (and_parts (not (has_bit sets.waiting k)) (has_bit sets.filled k) (sym (rests k) ∙ (and_parts (not (has_bit sets.active k)) (has_bit rest k) (sym (heads k) ∙ is)).1)).1;
   waiting_below = λ k is. s.waiting_below k (ap (λ set. has_bit set k) (sym waits) ∙ is);
-  starved_below = λ k is. s.active_below k (second_of (not (has_bit sets.filled k)) (has_bit sets.active k) (sym (starved k) ∙ is));
-  unsupplied_below = λ k is. s.filled_below k (second_of (has_bit sets.active k) (has_bit sets.filled k) (sym (sends k) ∙ second_of (not (has_bit sets.supplied k)) (has_bit sendable k) (sym (unsupplied k) ∙ is)));
-  ready_below = λ k is. s.supplied_below k (second_of (has_bit sendable k) (has_bit sets.supplied k) (sym (ready k) ∙ is));
+  starved_below = λ k is. s.active_below k (and_parts (not (has_bit sets.filled k)) (has_bit sets.active k) (sym (starved k) ∙ is)).1;
+  unsupplied_below = λ k is. s.filled_below k (and_parts (has_bit sets.active k) (has_bit sets.filled k) (sym (sends k) ∙ (and_parts (not (has_bit sets.supplied k)) (has_bit sendable k) (sym (unsupplied k) ∙ is)).1)).1;
+  ready_below = λ k is. s.supplied_below k (and_parts (has_bit sendable k) (has_bit sets.supplied k) (sym (ready k) ∙ is)).1;
   heads = λ i l. heads_at i (slice_index_or inputs i idle_input).phase (is_empty (slice_index_or buffers i [])) (s.filled_is i l) (s.waiting_is i l) (s.active_is i l);
   waiting = λ i l. ap (λ set. has_bit set i) waits ∙ s.waiting_is i l;
   starved = λ i l. starved_at i (is_active (slice_index_or inputs i idle_input).phase) (is_empty (slice_index_or buffers i [])) (s.filled_is i l) (s.active_is i l);

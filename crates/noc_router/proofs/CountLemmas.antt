@@ -16,7 +16,7 @@ use Rattle.noc_topo.specs.Words.{map_indexed}
 use Rattle.noc_topo.proofs.WordLemmas.{get_or-map_indexed, length-map_indexed, map_indexed-from_each}
 
 -- ---- one more in a list
-sum-raised : (xs : List ℕ) (k : ℕ) → k < length xs → sum (set xs k (get_or xs k 0 + 1)) ≡ sum xs + 1
+pub sum-raised : (xs : List ℕ) (k : ℕ) → k < length xs → sum (set xs k (get_or xs k 0 + 1)) ≡ sum xs + 1
 sum-raised xs k l = omega (arith, sum_by-set (λ x. x) xs k (get_or xs k 0 + 1) 0 l)
 
 -- the sum of the nine grows by at most one

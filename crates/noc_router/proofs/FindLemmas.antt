@@ -2,7 +2,7 @@
 use Rattle.std.proofs.Common.{◌≡◌, ◌≢◌, ℕ, zero, suc, ◌+◌, ◌<◌, ◌≤◌, Bool, true, false, Option, Some, None, refl, ap, sym, ◌∙◌, arith, inl, inr}
 use Rattle.std.specs.Prelude.{◌⊎◌, ◌&&◌, find, if◌then◌else◌}
 use Rattle.std.specs.List.{range_with_len}
-use Rattle.std.proofs.lemmas.Bool.{cases_eq, false≢true}
+use Rattle.std.proofs.lemmas.Bool.{cases_eq, and_parts}
 use Rattle.noc_topo.specs.Words.{below}
 use Rattle.noc_packet.specs.Set.{has_bit, in_both, IsLeast}
 use Rattle.noc_router.specs.Members.{AreBelow}
@@ -68,16 +68,12 @@ pub find-below : (p : ℕ → Bool) (n x : ℕ) → x < n → p x ≡ true → (
 unfolding below
 find-below p n x l e h = in_range-first p n 0 x (omega arith) (omega arith) e h
 
-second_of : (a b : Bool) → (a && b) ≡ true → b ≡ true
-second_of true b e = e
-second_of false b e = absurd (false≢true e)
-
 -- the least number that is in two sets, of which the second says below n what a test says
 pub find-least : (n set other : ℕ) (p : ℕ → Bool) (r : Option ℕ) → IsLeast (in_both set other) r → AreBelow n other
     → ((k : ℕ) → k < n → has_bit other k ≡ p k) → r ≡ find (λ k. has_bit set k && p k) (below n)
 find-least n set other p None least all same =
     sym (find-none (λ k. has_bit set k && p k) n (λ k l. ap (λ b. has_bit set k && b) (sym (same k l)) ∙ least k))
 find-least n set other p (Some x) least all same =
-    let u : x < n = all x (second_of (has_bit set x) (has_bit other x) least.0) in
+    let u : x < n = all x (and_parts (has_bit set x) (has_bit other x) least.0).1 in
     sym (find-below (λ k. has_bit set k && p k) n x u (ap (λ b. has_bit set x && b) (sym (same x u)) ∙ least.0)
     (λ k l. ap (λ b. has_bit set k && b) (sym (same k (omega arith))) ∙ least.1 k l))

@@ -1,12 +1,14 @@
 -- The beats of links and the set of those that carry something.
 use Rattle.std.proofs.Common.{◌≡◌, ◌≢◌, ℕ, ◌+◌, ◌<◌, ◌≤◌, Bool, true, false, List, length, get_or, Option, Some, None, refl, ap, sym, ◌∙◌, arith, inl, inr}
 use Rattle.std.specs.Prelude.{◌&&◌, not, nat_eq, nat_lt, is_none, replicate, ◌⊎◌}
-use Rattle.std.proofs.lemmas.Bool.{cases_eq, cases_lt, le-ltb, false≢true, eq-eqb}
+use Rattle.std.proofs.lemmas.Bool.{cases_eq, cases_lt, le-ltb, false≢true, eq-eqb, and_parts}
 use Rattle.std.proofs.lemmas.List.{ext_get_or, length-replicate, get_or-replicate}
+use Rattle.std.proofs.Math.Bool.{and_self}
 use Rattle.noc_topo.specs.Shape.{Grid, ports, local_port, neighbour}
 use Rattle.noc_packet.specs.Set.{has_bit, in_both, IsLeast}
 use Rattle.noc_packet.specs.declared.packet.Beat.{Beat}
 use Rattle.noc_packet.specs.declared.packet.Flit.{Flit}
+use Rattle.noc_route.proofs.OptionLemmas.{is_none-none}
 use Rattle.noc_router.specs.Links.{AreLoaded, is_idle_beat}
 use Rattle.noc_router.specs.View.{idle_beat}
 
@@ -14,26 +16,15 @@ not_false : (b : Bool) → false ≡ not b → b ≡ true
 not_false true e = refl
 not_false false e = absurd (false≢true e)
 
-none_is : {X : Type 0} (o : Option X) → is_none o ≡ true → o ≡ None
-none_is None e = refl
-none_is (Some x) e = absurd (false≢true e)
-
-both-first : (a b : Bool) → (a && b) ≡ true → a ≡ true
-both-first true b e = refl
-both-first false b e = e
-
-both-second : (a b : Bool) → (a && b) ≡ true → b ≡ true
-both-second true b e = e
-both-second false b e = absurd (false≢true e)
-
-beat_of : Option (ℕ × Flit) → Option ℕ → Beat
+-- a beat by its parts
+unfoldable pub beat_of : Option (ℕ × Flit) → Option ℕ → Beat
 beat_of flit credit = record { flit = flit; credit = credit }
 
 pub idle_beat-is : (beat : Beat) → is_idle_beat beat ≡ true → beat ≡ idle_beat
 unfolding beat_of
 idle_beat-is beat e =
-    let f : beat.flit ≡ None = none_is beat.flit (both-first (is_none beat.flit) (is_none beat.credit) e) in
-    let k : beat.credit ≡ None = none_is beat.credit (both-second (is_none beat.flit) (is_none beat.credit) e) in
+    let f : beat.flit ≡ None = is_none-none beat.flit (and_parts (is_none beat.flit) (is_none beat.credit) e).0 in
+    let k : beat.credit ≡ None = is_none-none beat.credit (and_parts (is_none beat.flit) (is_none beat.credit) e).1 in
     ap (λ x. beat_of x beat.credit) f ∙ ap (λ y. beat_of None y) k
 
 -- a beat whose port is not in the set is idle
@@ -55,10 +46,6 @@ none_below n beats set loaded none k = at (has_bit set k) refl
     at false e = e
     at true e = none k (loaded.within k e)
 
-same_both : (b : Bool) → (b && b) ≡ false → b ≡ false
-same_both true e = e
-same_both false e = refl
-
 -- the least member is gone, so none is left below one more index
 pub none_below-more : (n least set rest : ℕ) → IsLeast (in_both set set) (Some least) → ((k : ℕ) → has_bit rest k ≡ (not (nat_eq k least) && has_bit set k))
     → ((k : ℕ) → k < n → has_bit set k ≡ false) → (k : ℕ) → k < n + 1 → has_bit rest k ≡ false
@@ -76,8 +63,8 @@ none_below-more n least set rest is members none k l = at (cases_eq k least)
         split (inl same) = order (cases_lt k least)
           where
             order : (k < least) ⊎ (least ≤ k) → has_bit set k ≡ false
-            order (inl before) = same_both (has_bit set k) (is.1 k before)
-            order (inr after) = absurd (false≢true (sym (none least (omega arith)) ∙ both-first (has_bit set least) (has_bit set least) is.0))
+            order (inl before) = sym (and_self (has_bit set k)) ∙ is.1 k before
+            order (inr after) = absurd (false≢true (sym (none least (omega arith)) ∙ (and_parts (has_bit set least) (has_bit set least) is.0).0))
 
     at : (k ≡ least) ⊎ (k ≡ least → ⊥) → has_bit rest k ≡ false
     at (inl same) = members k ∙ ap (λ b. not b && has_bit set k) (eq-eqb k least same)
@@ -85,7 +72,7 @@ none_below-more n least set rest is members none k l = at (cases_eq k least)
 
 -- the same, of the answer of a search that finds no member
 pub none_from_search : (set : ℕ) → ((k : ℕ) → in_both set set k ≡ false) → (k : ℕ) → has_bit set k ≡ false
-none_from_search set none k = same_both (has_bit set k) (none k)
+none_from_search set none k = sym (and_self (has_bit set k)) ∙ none k
 
 -- ---- where the ports lead
 pub no_lead : (g : Grid) (node port : ℕ) → ports g ≤ port → neighbour g node port ≡ None

@@ -2,8 +2,10 @@
 use Rattle.std.proofs.Common.{◌≡◌, ℕ, zero, suc, ◌+◌, ◌-◌, ◌<◌, ◌≤◌, Bool, true, false, refl, ap, ◌∙◌, List, length, get_or, set, Option, Some, None, sym, arith, inl, inr, subst, get_or-set_same, get_or-set_other}
 use Rattle.std.specs.Prelude.{All, ◌⊎◌, ◌&&◌, ◌||◌, not, nat_eq, nat_le, nat_lt, is_some, if◌then◌else◌}
 use Rattle.std.proofs.lemmas.Bool.{cases_eq, cases_lt, eq-eqb, ne_eqb, false≢true, leb-true, leb-false, ltb-true, ltb-false}
+use Rattle.std.proofs.Math.Bool.{and_self}
 use Rattle.noc_packet.specs.Set.{has_bit, in_both, IsLeast}
 use Rattle.noc_topo.specs.Words.{is_some_of}
+use Rattle.noc_route.proofs.OptionLemmas.{no-value}
 use Rattle.noc_alloc.specs.Arbiter.{Turn, pointers_of, turn_at}
 use Rattle.noc_router.specs.Offers.{nearer, offered}
 use Rattle.noc_alloc.proofs.WordLemmas.{is_some_of-some, is_some_of-none, is_some_of-other}
@@ -78,22 +80,10 @@ pub record AreOffered (n : ℕ) (turns : List Turn) (asks : ℕ → Option ℕ) 
   pub silent : (j : ℕ) → next ≤ j → has_bit rest j ≡ false → asks j ≡ None
 
 pub both_has : (set k : ℕ) → in_both set set k ≡ true → has_bit set k ≡ true
-both_has set k e = at (has_bit set k) e
-  where
-    at : (b : Bool) → (b && b) ≡ true → b ≡ true
-    at true h = h
-    at false h = h
+both_has set k e = sym (and_self (has_bit set k)) ∙ e
 
 pub both_lacks : (set k : ℕ) → in_both set set k ≡ false → has_bit set k ≡ false
-both_lacks set k e = at (has_bit set k) e
-  where
-    at : (b : Bool) → (b && b) ≡ false → b ≡ false
-    at true h = h
-    at false h = h
-
-none_from : (o : Option ℕ) → is_some o ≡ false → o ≡ None
-none_from None e = refl
-none_from (Some x) e = absurd (false≢true (sym e))
+both_lacks set k e = sym (and_self (has_bit set k)) ∙ e
 
 pub offered-first : (n : ℕ) (turns : List Turn) (asks named : ℕ → Option ℕ) (rest : ℕ) (held : List (Option ℕ)) → ((o : ℕ) → o < length turns → get_or held o None ≡ None)
     → ((k : ℕ) → has_bit rest k ≡ is_some (named k)) → ((k : ℕ) → n ≤ k → named k ≡ None) → ((k : ℕ) → named k ≡ None → asks k ≡ None) → AreOffered n turns asks rest held
@@ -103,7 +93,7 @@ offered-first n turns asks named rest held none members past silent = record {
   nearest = nearest-none n turns asks held none;
   ahead = λ j e. omega arith;
   below = λ j e. at j (cases_lt j n) e;
-  silent = λ j l e. silent j (none_from (named j) (sym (members j) ∙ e));
+  silent = λ j l e. silent j (no-value (named j) (sym (members j) ∙ e));
 }
   where
     at : (j : ℕ) → (j < n) ⊎ (n ≤ j) → has_bit rest j ≡ true → j < n

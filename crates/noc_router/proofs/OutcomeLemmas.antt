@@ -1,6 +1,6 @@
 -- What the outcome of a view says of its channels, and the decisions that it is rebuilt to.
-use Rattle.std.proofs.Common.{◌≡◌, ℕ, ◌+◌, ◌*◌, ◌<◌, ◌≤◌, Bool, true, false, List, [], length, get_or, Option, Some, None, refl, ap, sym, ◌∙◌, arith, inl, inr, subst}
-use Rattle.std.specs.Prelude.{IfSome, ◌⊎◌, ◌/◌, ◌%◌, ◌&&◌, not, option_map, nat_eq, if◌then◌else◌}
+use Rattle.std.proofs.Common.{◌≡◌, ℕ, ◌<◌, ◌≤◌, Bool, true, false, List, [], length, get_or, Option, Some, None, refl, ap, sym, ◌∙◌, arith, inl, inr, subst}
+use Rattle.std.specs.Prelude.{◌⊎◌, ◌/◌, ◌%◌, ◌&&◌, not, option_map, nat_eq, if◌then◌else◌}
 use Rattle.std.proofs.lemmas.Bool.{cases_lt, false≢true}
 use Rattle.std.proofs.lemmas.List.{get_or_past}
 use Rattle.noc_topo.specs.Shape.{ports}
@@ -12,17 +12,17 @@ use Rattle.noc_vc.specs.Input.{is_idle_phase}
 use Rattle.noc_vc.specs.declared.input.InputState.{InputState}
 use Rattle.noc_vc.specs.declared.input.InputState.TheVariants.{Idle, Waiting, Active}
 use Rattle.noc_router.specs.Decided.{IsDecidedFor}
-use Rattle.noc_router.specs.Settled.{CanGrant, CanSettle, CanTakeEffect, IsOutcomeOf, IsPlanOf, decisions_by, effect_of, finding_by, found_out, found_with, granted_by, outcome_verdict, settled_by, tallied}
+use Rattle.noc_router.specs.Settled.{CanTakeEffect, IsOutcomeOf, decisions_by, effect_of, finding_by, found_with, outcome_verdict, tallied}
 use Rattle.noc_router.specs.Sound.{is_occupied, out_in}
-use Rattle.noc_router.specs.Tally.{empty_finding, finding_at, is_empty_verdict}
+use Rattle.noc_router.specs.Tally.{empty_finding, is_empty_verdict}
 use Rattle.noc_router.specs.Verdict.{Round, Waits, Holds, ask_of, out_of, is_event, verdict_of}
-use Rattle.noc_router.specs.View.{View, Site, Outcome, Decisions, asked_for, claim_in, committed, counted, decided_verdict, finding_of, outcome, planned, port_and_vc, route_of, size_of, view_buffer, view_claim, view_input, view_round, idle_beats}
+use Rattle.noc_router.specs.View.{View, Outcome, Decisions, asked_for, claim_in, committed, counted, decided_verdict, finding_of, outcome, planned, port_and_vc, route_of, size_of, view_buffer, view_claim, view_input, view_round, idle_beats}
 use Rattle.noc_router.specs.declared.verdict.Verdict.{Verdict}
-use Rattle.noc_router.specs.declared.verdict.Verdict.TheVariants.{Empty, Routed, Granted, Moved, NoFlit, NoIdleChannel, LostChannel, NoCredit, LostInput, LostSwitch}
+use Rattle.noc_router.specs.declared.verdict.Verdict.TheVariants.{Empty, Granted, Moved, LostChannel, LostInput, LostSwitch}
 use Rattle.noc_router.specs.declared.verdict.Finding.{Finding}
 use Rattle.noc_router.proofs.PlannedLemmas.{outcome-lengths}
-use Rattle.noc_router.proofs.PlanFacts.{asks-at, decided-is, holds_flit, lists_of, verdict-granted}
-use Rattle.noc_router.proofs.SettleLemmas.{IsSettling, IsWhole, can_settle, found-some, settling_first, settling_more, site-kept}
+use Rattle.noc_router.proofs.PlanFacts.{asks-at, decided-is, holds_flit, Lists, lists_of_round}
+use Rattle.noc_router.proofs.SettleLemmas.{IsSettling, IsWhole, can_settle, settling_first, settling_more}
 use Rattle.noc_router.proofs.TallyLemmas.{verdict-at}
 
 -- ---- the decisions of an outcome
@@ -45,8 +45,9 @@ decisions-planned relation v =
 pub decisions-are : (relation : Routes) (p : Outcome) (v : View) → p ≡ outcome relation v → decisions_by p v ≡ planned relation v
 decisions-are relation p v e = ap (λ x. decisions_by x v) e ∙ decisions-planned relation v
 
-pub plan_of : (p : Outcome) (v : View) → IsOutcomeOf p v → IsPlanOf (decisions_by p v) v
-plan_of p v is = record { relation = is.relation; fits = is.fits; is = decisions-are is.relation p v is.is }
+-- .. with the lists of a plan
+pub lists_of : (p : Outcome) (v : View) → IsOutcomeOf p v → Lists (decisions_by p v) v
+lists_of p v is = let P : Decisions → Type 0 = λ d. Lists d v in subst P (sym (decisions-are is.relation p v is.is)) (lists_of_round is.relation v)
 
 -- it has an entry for each channel and port
 pub outcome-decided : (p : Outcome) (v : View) → IsOutcomeOf p v → IsDecidedFor (ports v.site.grid) v.site.vcs p
@@ -60,7 +61,7 @@ outcome-ask p v i is l = ap (λ (x : Outcome). get_or x.asks i None) is.is ∙ a
 
 -- the verdict on it
 outcome-verdict : (p : Outcome) (v : View) (i : ℕ) → IsOutcomeOf p v → i < size_of v.site → outcome_verdict p i ≡ verdict_of v.site.vcs p.round i (view_claim v i) (holds_flit v i)
-outcome-verdict p v i is l = sym (decided-outcome p v i l) ∙ decided-is (decisions_by p v) v i (lists_of (decisions_by p v) v (plan_of p v is)) l
+outcome-verdict p v i is l = sym (decided-outcome p v i l) ∙ decided-is (decisions_by p v) v i (lists_of p v is) l
 
 full_verdict : (v : View) (round : Round) (i : ℕ) (phase : InputState) (empty : Bool) → not (is_idle_phase phase && empty) ≡ not (is_empty_verdict (verdict_of v.site.vcs round i (claim_in v phase) (not empty)))
 full_verdict v round i Idle true = refl
@@ -144,48 +145,13 @@ unfolding planned view_round committed
 committed-from-shown relation v findings = refl
 
 -- ---- the verdict of one channel takes effect
-module _ (p : Outcome) (v w : View) (i : ℕ) (is : IsOutcomeOf p v) (l : i < size_of v.site) (site : w.site ≡ v.site) where
-  -- the output channel that it gets is the one that it asks for
-  found-ask : outcome_verdict p i ≡ Granted → found_out (decisions_by p v) w i ≡ get_or p.asks i None
-  found-ask e =
-      let d = decisions_by p v in
-      let g = verdict-granted v.site.vcs p.round i (view_claim v i) (holds_flit v i) (sym (outcome-verdict p v i is l) ∙ e) in
-      ap (λ (s : Site). option_map (λ (place : ℕ × ℕ). place.0 * s.vcs + place.1) (finding_at d.findings i).out) site
-      ∙ found-some d v i g.0 (lists_of d v (plan_of p v is)) l (ap out_of g.1) ∙ sym (outcome-ask p v i is l ∙ ap ask_of g.1)
-
-  can_take-is : (x : Verdict) → outcome_verdict p i ≡ x → CanSettle (decisions_by p v) w i x → CanTakeEffect p w i x
-  can_take-is Routed e can = can
-  can_take-is Granted e can = let P : Option ℕ → Type 0 = λ o. IfSome o (CanGrant w i) in subst P (found-ask e) can
-  can_take-is Moved e can = can
-  can_take-is Empty e can = can
-  can_take-is NoFlit e can = can
-  can_take-is NoIdleChannel e can = can
-  can_take-is LostChannel e can = can
-  can_take-is NoCredit e can = can
-  can_take-is LostInput e can = can
-  can_take-is LostSwitch e can = can
-
-  effect-is : (x : Verdict) → outcome_verdict p i ≡ x → effect_of p i w x ≡ settled_by (decisions_by p v) i w x
-  effect-is Routed e = refl
-  effect-is Granted e = ap (λ o. granted_by i o w) (sym (found-ask e))
-  effect-is Moved e = refl
-  effect-is Empty e = refl
-  effect-is NoFlit e = refl
-  effect-is NoIdleChannel e = refl
-  effect-is LostChannel e = refl
-  effect-is NoCredit e = refl
-  effect-is LostInput e = refl
-  effect-is LostSwitch e = refl
-
 -- a verdict that is left can take effect
 pub can_take : (p : Outcome) (v w : View) (rest rest' index : ℕ) → IsWhole v → IsOutcomeOf p v → ((k : ℕ) → has_bit rest' k ≡ (not (nat_eq k index) && has_bit rest k)) → has_bit rest index ≡ true
     → IsSettling (decisions_by p v) v rest w → CanTakeEffect p w index (outcome_verdict p index)
 can_take p v w rest rest' index whole is members member so_far =
-    let d = decisions_by p v in
     let l : index < size_of v.site = so_far.below index member in
-    let P : Verdict → Type 0 = λ x. CanSettle d w index x in
-    can_take-is p v w index is l (site-kept d v w rest so_far) (outcome_verdict p index) refl
-    (subst P (decided-outcome p v index l) (can_settle d v w rest rest' index whole (plan_of p v is) members member so_far))
+    let P : Verdict → Type 0 = λ x. CanTakeEffect p w index x in
+    subst P (decided-outcome p v index l) (can_settle p v w rest rest' index whole (lists_of p v is) members member so_far (outcome-ask p v index is l))
 
 -- .. and is not left then
 pub effect_more : (p : Outcome) (v w : View) (rest rest' index : ℕ) (new : View) → IsWhole v → IsOutcomeOf p v → ((k : ℕ) → has_bit rest' k ≡ (not (nat_eq k index) && has_bit rest k)) → has_bit rest index ≡ true
@@ -193,8 +159,9 @@ pub effect_more : (p : Outcome) (v w : View) (rest rest' index : ℕ) (new : Vie
 effect_more p v w rest rest' index new whole is members member so_far e =
     let d = decisions_by p v in
     let l : index < size_of v.site = so_far.below index member in
-    settling_more d v w rest rest' index new whole (plan_of p v is) members member so_far
-    (e ∙ effect-is p v w index is l (site-kept d v w rest so_far) (outcome_verdict p index) refl ∙ ap (settled_by d index w) (sym (decided-outcome p v index l)))
+    let P : View → Type 0 = λ x. IsSettling d v rest' x in
+    subst P (ap (effect_of p index w) (decided-outcome p v index l) ∙ sym e)
+    (settling_more p v w rest rest' index whole (lists_of p v is) members member so_far (outcome-ask p v index is l))
 
 -- an event is the verdict of an input channel
 event-below : (p : Outcome) (n k : ℕ) → length p.verdicts ≡ n → is_event (outcome_verdict p k) ≡ true → k < n
@@ -208,5 +175,5 @@ event-below p n k long e = at (cases_lt k n)
 pub effect_first : (p : Outcome) (v : View) (rest : ℕ) → IsWhole v → IsOutcomeOf p v → length p.verdicts ≡ size_of v.site → ((k : ℕ) → has_bit rest k ≡ is_event (outcome_verdict p k))
     → v.to_put ≡ idle_beats v.site → IsSettling (decisions_by p v) v rest v
 effect_first p v rest whole is long events idle =
-    settling_first (decisions_by p v) v rest whole (plan_of p v is) (λ i l. events i ∙ ap is_event (sym (decided-outcome p v i l)))
+    settling_first (decisions_by p v) v rest whole (lists_of p v is) (λ i l. events i ∙ ap is_event (sym (decided-outcome p v i l)))
     (λ k e. event-below p (size_of v.site) k long (sym (events k) ∙ e)) idle

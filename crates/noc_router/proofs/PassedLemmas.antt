@@ -1,7 +1,7 @@
 -- The pointers of the switch go on past the channels that move, one by one.
 use Rattle.std.proofs.Common.{◌≡◌, ℕ, ◌+◌, ◌*◌, ◌/◌, ◌%◌, ◌<◌, Bool, true, false, List, length, get_or, set, Option, Some, None, refl, ap, sym, ◌∙◌, arith, inl, inr, subst}
 use Rattle.std.specs.Prelude.{◌⊎◌, ◌≤◌, ◌&&◌, IfSome, find, not, nat_eq, option_and_then, option_map, slice_get, if◌then◌else◌, is_some}
-use Rattle.std.proofs.lemmas.Bool.{cases_eq, cases_lt, false≢true}
+use Rattle.std.proofs.lemmas.Bool.{cases_eq, cases_lt, false≢true, false_from_ne_true}
 use Rattle.std.proofs.lemmas.Nat.{div-mul-add, mod-mul-add, mul-add-lt}
 use Rattle.std.proofs.lemmas.List.{length-set, get_or_past, get_or-set_same, get_or-set_other}
 use Rattle.noc_topo.specs.Shape.{ports}
@@ -25,9 +25,9 @@ use Rattle.noc_router.specs.Settled.{CanGrant, CanMove, CanTakeEffect, IsOutcome
 use Rattle.noc_router.specs.Verdict.{Turns, arbiters_after, is_event, is_moved, ready_of}
 use Rattle.noc_router.specs.View.{Decisions, Outcome, Site, View, decided_verdict, first_flit, mover, size_of, view_input, view_stands}
 use Rattle.noc_router.proofs.FindLemmas.{find-at, find-none, find-same}
-use Rattle.noc_router.proofs.OutcomeLemmas.{decided-outcome, plan_of}
-use Rattle.noc_router.proofs.PlanFacts.{Lists, Moves, decided-is, lists_of, mover-is, moves-is, one_pick, verdict_in}
-use Rattle.noc_router.proofs.SettleLemmas.{IsSettling, IsWhole, buffer-here, credit_by, credit-elsewhere, credit-from, credit-kept, flit-elsewhere, flit-first, input-here, left, left-gone, left-kept, left_verdict, moved-parts, mover_left, no_credit, not_mover, port_below, settling_last, site-kept}
+use Rattle.noc_router.proofs.OutcomeLemmas.{decided-outcome, lists_of}
+use Rattle.noc_router.proofs.PlanFacts.{Lists, Moves, decided-is, mover-is, moves-is, one_pick, verdict_in}
+use Rattle.noc_router.proofs.SettleLemmas.{IsSettling, IsWhole, buffer-here, credit_by, credit-elsewhere, credit-from, credit-kept, flit-elsewhere, flit-first, input-here, left, left-gone, left-kept, left_verdict, moved-parts, mover_left, no_credit, not_mover, port_below, settling_last, site-kept, is_moved-true}
 
 -- the input port of this channel
 abbrev pub port_by : View → Option ℕ → Option ℕ
@@ -198,18 +198,6 @@ module _ (d : Decisions) (v : View) (whole : IsWhole v) (lists : Lists d v) wher
   decided-moves q k l u t =
       let m : q * v.site.vcs + k < v.site.vcs * ports v.site.grid = mul-add-lt q v.site.vcs k (ports v.site.grid) l u in
       sym (decided-is d v (q * v.site.vcs + k) lists (omega arith)) ∙ is_moved-true (decided_verdict d (q * v.site.vcs + k)) t
-    where
-      is_moved-true : (x : Verdict) → is_moved x ≡ true → x ≡ Moved
-      is_moved-true Moved e = refl
-      is_moved-true Empty e = absurd (false≢true e)
-      is_moved-true Routed e = absurd (false≢true e)
-      is_moved-true Granted e = absurd (false≢true e)
-      is_moved-true NoFlit e = absurd (false≢true e)
-      is_moved-true NoIdleChannel e = absurd (false≢true e)
-      is_moved-true LostChannel e = absurd (false≢true e)
-      is_moved-true NoCredit e = absurd (false≢true e)
-      is_moved-true LostInput e = absurd (false≢true e)
-      is_moved-true LostSwitch e = absurd (false≢true e)
 
   -- it is the pick of its input port, which has won
   moved-won : (q k : ℕ) → q < ports v.site.grid → k < v.site.vcs → is_moved (decided_verdict d (q * v.site.vcs + k)) ≡ true → has_won d.round.wins q ≡ true
@@ -257,15 +245,11 @@ module _ (d : Decisions) (v : View) (whole : IsWhole v) (lists : Lists d v) wher
                   let none : None ≡ Some q = sym (get_or_past d.round.wins o None (omega arith)) ∙ won in
                   absurd (cc none)
 
-      is_false : (b : Bool) → (b ≡ true → ⊥) → b ≡ false
-      is_false true h = absurd (h refl)
-      is_false false h = refl
-
       at : (b : Bool) → has_won d.round.wins q ≡ b → find (λ k. is_moved (decided_verdict d (q * v.site.vcs + k))) (below v.site.vcs) ≡ (if b then get_or d.round.picks q None else None)
       at true t = won_at (picked_port ready v.site.vcs d.round.picks q) refl (sym (won-pick q) ∙ t)
       at false e =
           find-none (λ k. is_moved (decided_verdict d (q * v.site.vcs + k))) v.site.vcs
-          (λ k u. is_false (is_moved (decided_verdict d (q * v.site.vcs + k))) (λ t. false≢true (sym e ∙ moved-won q k l u t)))
+          (λ k u. false_from_ne_true (is_moved (decided_verdict d (q * v.site.vcs + k))) (λ t. false≢true (sym e ∙ moved-won q k l u t)))
 
   pub passing-last : (rest : ℕ) (turns : Turns) → AreEach v → ((k : ℕ) → has_bit rest k ≡ false) → IsPassing d v rest turns
       → turns ≡ record (arbiters_after d.round v.arbiters) { channels = v.arbiters.channels }
@@ -402,13 +386,13 @@ pub passing-more : (p : Outcome) (v w : View) (rest rest' index : ℕ) (new : Vi
 passing-more p v w rest rest' index new whole is members member so_far passing e =
     let P : View → Type 0 = λ x. IsPassing (decisions_by p v) v rest' x.arbiters in
     subst P (sym e)
-    (step p v w rest rest' index whole (lists_of (decisions_by p v) v (plan_of p v is)) members member so_far passing (outcome_verdict p index) (decided-outcome p v index (so_far.below index member)))
+    (step p v w rest rest' index whole (lists_of p v is) members member so_far passing (outcome_verdict p index) (decided-outcome p v index (so_far.below index member)))
 
 -- where all events are left, no pointer has gone on
 pub passing_first : (p : Outcome) (v : View) (rest : ℕ) → IsWhole v → IsOutcomeOf p v → AreEach v → ((k : ℕ) → has_bit rest k ≡ is_event (outcome_verdict p k)) → IsPassing (decisions_by p v) v rest v.arbiters
 passing_first p v rest whole is each events =
     let d = decisions_by p v in
-    let lists = lists_of d v (plan_of p v is) in
+    let lists = lists_of p v is in
     passing-first d v rest whole lists each (λ i l. events i ∙ ap is_event (sym (decided-outcome p v i l) ∙ decided-is d v i lists l))
 
 -- where none is left, all verdicts have taken effect, and the pointers have gone on past the winners
@@ -416,7 +400,6 @@ pub passed-all : (p : Outcome) (v w : View) (rest : ℕ) → IsWhole v → AreEa
     → IsSettling (decisions_by p v) v rest (with_turns v.arbiters w) → IsPassing (decisions_by p v) v rest w.arbiters
     → w ≡ record (settled (decisions_by p v) v) { arbiters = record (arbiters_after p.round v.arbiters) { channels = v.arbiters.channels } }
 passed-all p v w rest whole each is none settling passing =
-    let d = decisions_by p v in
-    let plan = plan_of p v is in
-    ap (λ turns. with_turns turns w) (passing-last d v whole (lists_of d v plan) rest w.arbiters each none passing)
-    ∙ ap (with_turns (record (arbiters_after p.round v.arbiters) { channels = v.arbiters.channels })) (settling_last d v (with_turns v.arbiters w) rest whole plan settling none)
+    let lists = lists_of p v is in
+    ap (λ turns. with_turns turns w) (passing-last (decisions_by p v) v whole lists rest w.arbiters each none passing)
+    ∙ ap (with_turns (record (arbiters_after p.round v.arbiters) { channels = v.arbiters.channels })) (settling_last (decisions_by p v) v (with_turns v.arbiters w) rest whole lists settling none)

@@ -1,7 +1,7 @@
 -- What the decisions of a view say of its channels.
-use Rattle.std.proofs.Common.{◌≡◌, ℕ, ◌+◌, ◌*◌, ◌/◌, ◌%◌, ◌<◌, Bool, true, false, length, get_or, Option, Some, None, refl, ap, sym, ◌∙◌, arith, subst}
+use Rattle.std.proofs.Common.{◌≡◌, ℕ, ◌+◌, ◌*◌, ◌/◌, ◌%◌, ◌<◌, Bool, true, false, length, get_or, Option, Some, None, refl, ap, sym, ◌∙◌, arith}
 use Rattle.std.specs.Prelude.{◌&&◌, not, is_some, option_and_then, option_map, if◌then◌else◌, slice_index}
-use Rattle.std.proofs.lemmas.Bool.{false≢true}
+use Rattle.std.proofs.lemmas.Bool.{and_parts}
 use Rattle.std.proofs.lemmas.Nat.{mul-add-lt, div-mul-add, mod-mul-add, div-add-mod'}
 use Rattle.std.proofs.lemmas.List.{get_or-map}
 use Rattle.noc_topo.specs.Words.{tabulate, is_some_of}
@@ -15,7 +15,6 @@ use Rattle.noc_vc.specs.declared.input.InputState.TheVariants.{Idle, Waiting, Ac
 use Rattle.noc_alloc.specs.Allocation.{grant_of, pick_of, picked_port, winner_of}
 use Rattle.noc_alloc.proofs.ArbiterLemmas.{first_in_turn-picks}
 use Rattle.noc_alloc.proofs.WordLemmas.{is_some_of-true, is_some_of-some}
-use Rattle.noc_router.specs.Settled.{IsPlanOf}
 use Rattle.noc_router.specs.Tally.{empty_finding, finding_at}
 use Rattle.noc_router.specs.Verdict.{Claim, Unrouted, Waits, Holds, Stand, Round, ask_of, asks_of, ready_of, ready_port, verdict_of, pointers_of}
 use Rattle.noc_router.specs.View.{View, Decisions, planned, view_round, view_stands, view_stand, view_claim, claim_in, asked_for, finding_of, size_of, view_buffer, view_input, view_output, mover, decided_verdict}
@@ -39,11 +38,7 @@ claim-waits v Idle o e = absurd (cc e)
 claim-waits v (Waiting set) o e =
     let asked : asked_for v set ≡ Some o = cc e in
     let r = find-some (λ k. has_bit set k && is_free (view_output v k).holder) (size_of v.site) o asked in
-    (refl, second (has_bit set o) (is_free (view_output v o).holder) r.0, r.1)
-  where
-    second : (a b : Bool) → (a && b) ≡ true → b ≡ true
-    second true b h = h
-    second false b h = absurd (false≢true h)
+    (refl, (and_parts (has_bit set o) (is_free (view_output v o).holder) r.0).1, r.1)
 claim-waits v (Active k) o e = absurd (cc e)
 
 pub claim-holds : (v : View) (p : InputState) (o : ℕ) (b : Bool) → claim_in v p ≡ Holds o b → (p ≡ Active o) × (has_credit (view_output v o) ≡ b)
@@ -141,9 +136,6 @@ pub record Lists (d : Decisions) (v : View) : Type 0 where
 pub lists_of_round : (relation : _) (v : View) → Lists (planned relation v) v
 unfolding planned view_round
 lists_of_round relation v = record { grants = refl; picks = refl; wins = refl; findings = refl }
-
-pub lists_of : (d : Decisions) (v : View) → IsPlanOf d v → Lists d v
-lists_of d v plan = let P : Decisions → Type 0 = λ x. Lists x v in subst P (sym plan.is) (lists_of_round plan.relation v)
 
 -- a channel below the size asks for and is ready for what its claim says
 pub asks-at : (v : View) (i : ℕ) → i < size_of v.site → get_or (asks_of (view_stands v)) i None ≡ ask_of (view_claim v i)

@@ -9,10 +9,10 @@ use Rattle.noc_route.specs.Routes.{Routes}
 use Rattle.noc_router.specs.declared.router.Router.TheInside.{Inside}
 use Rattle.noc_router.specs.declared.verdict.Verdict.{Verdict}
 use Rattle.noc_router.specs.declared.verdict.Verdict.TheVariants.{Empty}
-use Rattle.noc_router.specs.Asked.{grants_on, no_round, picks_on, round_on, turns_in, wins_on}
+use Rattle.noc_router.specs.Asked.{grants_on, no_round, picks_on, turns_in, wins_on}
 use Rattle.noc_router.specs.Decided.{IsDecidedFor, no_outcome}
 use Rattle.noc_router.specs.Inside.{IsRouter, view_of}
-use Rattle.noc_router.specs.Verdict.{Round, Turns, asks_of, is_event, ready_of}
+use Rattle.noc_router.specs.Verdict.{Round, asks_of, is_event, ready_of}
 use Rattle.noc_router.specs.View.{Outcome, View, finding_of, outcome, route_of, size_of, view_round, view_stands}
 use Rattle.noc_router.proofs.StandLemmas.{asks_of-stands}
 
@@ -26,25 +26,23 @@ grants-view r v asks view is =
     ∙ ap (λ n. grants_on (ports v.site.grid) n asks (turns_in r.arbiters)) vcs
     ∙ ap (λ (w : View). grants_on (ports v.site.grid) v.site.vcs asks w.arbiters) view
 
--- a round on the requests of a view is the round of that view
-pub round-view : (v : View) (asks : List (Option ℕ)) → asks ≡ asks_of (view_stands v)
-    → round_on (ports v.site.grid) v.site.vcs asks (ready_of v.site.vcs (view_stands v)) v.arbiters ≡ view_round v
-unfolding view_round
-round-view v asks asked = ap (λ xs. round_on (ports v.site.grid) v.site.vcs xs (ready_of v.site.vcs (view_stands v)) v.arbiters) asked
-
 rounds : List (Option ℕ) → List (Option ℕ) → List (Option ℕ) → Round
 rounds grants picks wins = record { grants = grants; picks = picks; wins = wins }
 
 same_round : (a b f g x y : List (Option ℕ)) → a ≡ b → f ≡ g → x ≡ y → rounds a f x ≡ rounds b g y
 same_round a b f g x y grants picks wins = cc
 
--- what has each part of a round is that round
-pub round-made : (m vcs : ℕ) (asks ready : List (Option ℕ)) (turns : Turns) (round : Round) → round.grants ≡ grants_on m vcs asks turns → round.picks ≡ picks_on m vcs ready turns
-    → round.wins ≡ wins_on m vcs ready round.picks turns → round ≡ round_on m vcs asks ready turns
-unfolding rounds
-round-made m vcs asks ready turns round grants picks wins =
-    same_round round.grants (grants_on m vcs asks turns) round.picks (picks_on m vcs ready turns) round.wins (wins_on m vcs ready (picks_on m vcs ready turns) turns) grants picks
-    (wins ∙ ap (λ xs. wins_on m vcs ready xs turns) picks)
+-- what has each part of the round of a view is that round
+pub round-made : (v : View) (asks : List (Option ℕ)) (round : Round) → asks ≡ asks_of (view_stands v) → round.grants ≡ grants_on (ports v.site.grid) v.site.vcs asks v.arbiters
+    → round.picks ≡ picks_on (ports v.site.grid) v.site.vcs (ready_of v.site.vcs (view_stands v)) v.arbiters
+    → round.wins ≡ wins_on (ports v.site.grid) v.site.vcs (ready_of v.site.vcs (view_stands v)) round.picks v.arbiters → round ≡ view_round v
+unfolding rounds view_round
+round-made v asks round asked grants picks wins =
+    let m = ports v.site.grid in
+    let ready = ready_of v.site.vcs (view_stands v) in
+    same_round round.grants (grants_on m v.site.vcs (asks_of (view_stands v)) v.arbiters) round.picks (picks_on m v.site.vcs ready v.arbiters) round.wins
+    (wins_on m v.site.vcs ready (picks_on m v.site.vcs ready v.arbiters) v.arbiters) (grants ∙ ap (λ xs. grants_on m v.site.vcs xs v.arbiters) asked) picks
+    (wins ∙ ap (λ xs. wins_on m v.site.vcs ready xs v.arbiters) picks)
 
 -- outcomes by their parts
 parts : Round → List (Option ℕ) → List Verdict → List ℕ → Outcome

@@ -1,7 +1,7 @@
 -- The beats that are still to be put.
 use Rattle.std.proofs.Common.{◌≡◌, ℕ, zero, suc, ◌<◌, ◌≤◌, Bool, true, false, List, [], ◌∷◌, get_or, set, take, Some, None, refl, ap, sym, ◌∙◌, arith}
 use Rattle.std.specs.Prelude.{◌&&◌, ◌||◌, not, nat_eq}
-use Rattle.std.proofs.lemmas.Bool.{eqb-true, false≢true}
+use Rattle.std.proofs.lemmas.Bool.{eqb-true, false≢true, and_parts}
 use Rattle.std.proofs.lemmas.List.{get_or-take}
 use Rattle.noc_topo.specs.Shape.{local_port}
 use Rattle.noc_packet.specs.Set.{has_bit}
@@ -63,11 +63,7 @@ below-with n port old new members l below k t = at (nat_eq k port) refl
     at false e = below k (sym (members k ∙ ap (λ b. b || has_bit old k) e) ∙ t)
 
 pub below-without : (n port old new : ℕ) → ((k : ℕ) → has_bit new k ≡ (not (nat_eq k port) && has_bit old k)) → AreBelow n old → AreBelow n new
-below-without n port old new members below k t = below k (second (not (nat_eq k port)) (has_bit old k) (sym (members k) ∙ t))
-  where
-    second : (a b : Bool) → (a && b) ≡ true → b ≡ true
-    second true b e = e
-    second false b e = absurd (false≢true e)
+below-without n port old new members below k t = below k (and_parts (not (nat_eq k port)) (has_bit old k) (sym (members k) ∙ t)).1
 
 pub below-none : (n new : ℕ) → ((k : ℕ) → has_bit new k ≡ false) → AreBelow n new
 below-none n new none k t = absurd (false≢true (sym (none k) ∙ t))

@@ -6,24 +6,16 @@ use Rattle.std.proofs.lemmas.Bool.{ne_eqb, cases_eq, cases_lt}
 use Rattle.std.proofs.lemmas.List.{get_or-set_same, get_or-set_other, get_or-replicate, length-replicate, ext_get_or}
 use Rattle.std.proofs.lemmas.List.Elements.{All-set}
 use Rattle.std.specs.Option.{ForSome}
+use Rattle.std.proofs.Math.Bool.{and_self}
 use Rattle.noc_packet.specs.Set.{has_bit, in_both, IsLeast}
 use Rattle.noc_router.specs.Requests.{AllBelow, AreQuiet}
 
--- b twice
-both_false : (b : Bool) → (b && b) ≡ false → b ≡ false
-both_false true e = e
-both_false false e = refl
-
-pub both_true : (b : Bool) → (b && b) ≡ true → b ≡ true
-both_true true e = refl
-both_true false e = e
-
 -- a set with no least member is empty
 pub none_left : (bits : ℕ) → IsLeast (in_both bits bits) None → (k : ℕ) → has_bit bits k ≡ false
-none_left bits none k = both_false (has_bit bits k) (none k)
+none_left bits none k = sym (and_self (has_bit bits k)) ∙ none k
 
 pub least_member : (bits i : ℕ) → IsLeast (in_both bits bits) (Some i) → has_bit bits i ≡ true
-least_member bits i least = both_true (has_bit bits i) least.0
+least_member bits i least = sym (and_self (has_bit bits i)) ∙ least.0
 
 -- a list whose entries are all d
 all_same : {X : Type 0} (d : X) (xs : List X) → ((k : ℕ) → get_or xs k d ≡ d) → xs ≡ replicate (length xs) d

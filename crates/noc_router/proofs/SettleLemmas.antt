@@ -2,7 +2,7 @@
 use Rattle.std.proofs.Common.{◌≡◌, ◌≢◌, ℕ, suc, ◌+◌, ◌*◌, ◌/◌, ◌%◌, ◌<◌, ◌≤◌, Bool, true, false, List, [], ◌∷◌, length, drop, get_or, set, Option, Some, None, refl, ap, sym, ◌∙◌, arith, inl, inr, subst}
 use Rattle.std.specs.Prelude.{IfSome, ◌⊎◌, ◌&&◌, ◌||◌, not, option_and_then, option_map, unwrap_or, nat_eq, nat_lt, if◌then◌else◌, find, slice_get, slice_index}
 use Rattle.std.specs.List.{list_any}
-use Rattle.std.proofs.lemmas.Bool.{cases_eq, cases_lt, eq-eqb, ne_eqb, false≢true, lt-ltb, le-ltb, or_cases, ltb-true}
+use Rattle.std.proofs.lemmas.Bool.{cases_eq, cases_lt, eq-eqb, ne_eqb, false≢true, lt-ltb, le-ltb, or_cases, ltb-true, and_parts, or_right}
 use Rattle.std.proofs.lemmas.Nat.{mul-add-lt, div-mul-add, mod-mul-add, div-add-mod'}
 use Rattle.std.proofs.Math.Nat.{div-lt_iff_lt-mul, mod-lt}
 use Rattle.std.proofs.lemmas.List.{length-set, get_or-set_same, get_or-set_other, get_or-replicate, length-replicate}
@@ -13,6 +13,7 @@ use Rattle.noc_topo.specs.Shape.{ports, local_port}
 use Rattle.noc_packet.specs.Set.{has_bit}
 use Rattle.noc_packet.specs.declared.packet.Flit.{Flit}
 use Rattle.noc_packet.specs.declared.packet.Beat.{Beat}
+use Rattle.noc_route.proofs.BoolLemmas.{same_test}
 use Rattle.noc_vc.specs.Input.{Input, idle_input, is_waiting, is_empty, routed, granted, sent}
 use Rattle.noc_vc.specs.Output.{Output, ejection_output, is_free, has_credit, held, spent}
 use Rattle.noc_vc.specs.declared.input.InputState.{InputState}
@@ -21,20 +22,20 @@ use Rattle.noc_vc.specs.declared.output.OutputState.{OutputState}
 use Rattle.noc_vc.specs.declared.output.OutputState.TheVariants.{Idle as Free, Owned, Draining}
 use Rattle.noc_alloc.proofs.WordLemmas.{is_some_of-true, is_some_of-some}
 use Rattle.noc_router.specs.Arrivals.{is_expected_in, noted}
-use Rattle.noc_router.specs.Settled.{IsPlanOf, CanGrant, CanMove, CanSettle, found_out, settled, settled_by, routed_at, granted_at, granted_by, with_flit_at, with_credit_at, ejected, moved_by, moved_in_phase}
+use Rattle.noc_router.specs.Settled.{CanGrant, CanMove, settled, routed_at, granted_at, granted_by, with_flit_at, with_credit_at, ejected, moved_by, moved_in_phase, CanTakeEffect, decisions_by, effect_of}
 use Rattle.noc_router.specs.declared.router.Router.TheInside.{Inside}
 use Rattle.noc_router.specs.Inside.{IsRouter, view_of}
 use Rattle.noc_router.specs.Members.{is_within}
 use Rattle.noc_router.specs.Sound.{owns, is_owned_from}
 use Rattle.noc_router.specs.Tally.{empty_finding, finding_at}
 use Rattle.noc_router.specs.Verdict.{Waits, Holds, ask_of, out_of, is_moved, is_event}
-use Rattle.noc_router.specs.View.{View, Site, Decisions, finding_of, port_and_vc, size_of, view_claim, view_buffer, view_input, view_output, first_flit, mover, mover_to, held_by, spent_by, is_tail, flit_out, tail_packet, with_arrival, raised, decided_verdict, input_after, buffer_after, granted_to, sent_from, output_after, beat_out, idle_beat, idle_beats, has_event}
+use Rattle.noc_router.specs.View.{View, Site, Decisions, finding_of, size_of, view_claim, view_buffer, view_input, view_output, first_flit, mover, mover_to, held_by, spent_by, is_tail, flit_out, tail_packet, with_arrival, raised, decided_verdict, input_after, buffer_after, granted_to, sent_from, output_after, beat_out, idle_beat, idle_beats, has_event, Outcome}
 use Rattle.noc_router.specs.declared.verdict.Verdict.{Verdict}
 use Rattle.noc_router.specs.declared.verdict.Verdict.TheVariants.{Empty, Routed, Granted, Moved, NoFlit, NoIdleChannel, LostChannel, NoCredit, LostInput, LostSwitch}
 use Rattle.noc_router.specs.declared.verdict.Finding.{Finding}
 use Rattle.noc_router.proofs.FindLemmas.{find-none, find-same, find-at}
 use Rattle.noc_router.proofs.TallyLemmas.{verdict-at}
-use Rattle.noc_router.proofs.PlanFacts.{Lists, verdict_in, holds_flit, decided-is, granted-asks, is-granted, mover-is, Moves, moves-is, one_pick, claim-waits, claim-holds, claim-unrouted, verdict-granted, verdict-routed, finding-is, lists_of}
+use Rattle.noc_router.proofs.PlanFacts.{Lists, verdict_in, holds_flit, decided-is, granted-asks, is-granted, mover-is, Moves, moves-is, one_pick, claim-waits, claim-holds, claim-unrouted, verdict-granted, verdict-routed}
 
 -- ---- the sink
 -- the arrivals and the misfits after a packet has arrived
@@ -109,10 +110,6 @@ pub record IsSettling (d : Decisions) (v : View) (rest : ℕ) (w : View) : Type 
   pub event_from : w.had_event ≡ true → (v.had_event ≡ true) ⊎ ((i : ℕ) × (i < size_of v.site) × (is_event (decided_verdict d i) ≡ true))
 
 -- ---- one channel less is left
-second : (a b : Bool) → (a && b) ≡ true → b ≡ true
-second true b e = e
-second false b e = absurd (false≢true e)
-
 module _ (rest rest' index : ℕ) (members : (k : ℕ) → has_bit rest' k ≡ (not (nat_eq k index) && has_bit rest k)) (member : has_bit rest index ≡ true) where
   gone : (k : ℕ) → k ≡ index → has_bit rest' k ≡ false
   gone k e = members k ∙ ap (λ b. not b && has_bit rest k) (eq-eqb k index e)
@@ -217,7 +214,7 @@ module _ (d : Decisions) (v w : View) (rest rest' index : ℕ) (whole : IsWhole 
   decided = decided-is d v index lists inside
 
   below-step : (k : ℕ) → has_bit rest' k ≡ true → k < size_of v.site
-  below-step k t = so_far.below k (second (not (nat_eq k index)) (has_bit rest k) (sym (members k) ∙ t))
+  below-step k t = so_far.below k (and_parts (not (nat_eq k index)) (has_bit rest k) (sym (members k) ∙ t)).1
 
   pub buffer-here : view_buffer w index ≡ view_buffer v index
   buffer-here = so_far.buffers index inside ∙ ap (buffer_after (view_buffer v index)) (verdict-here rest rest' index members member d)
@@ -476,7 +473,7 @@ site-kept d v w rest so_far = ap (λ (x : View). x.site) so_far.others
 pub given-kept : (d : Decisions) (v w : View) (rest : ℕ) → IsSettling d v rest w → w.given ≡ v.given
 given-kept d v w rest so_far = ap (λ (x : View). x.given) so_far.others
 
-is_moved-true : (x : Verdict) → is_moved x ≡ true → x ≡ Moved
+pub is_moved-true : (x : Verdict) → is_moved x ≡ true → x ≡ Moved
 is_moved-true Empty e = absurd (false≢true e)
 is_moved-true Routed e = absurd (false≢true e)
 is_moved-true Granted e = absurd (false≢true e)
@@ -672,7 +669,7 @@ module _ (d : Decisions) (v w : View) (rest rest' index : ℕ) (whole : IsWhole 
 
 -- ---- before the first channel
 -- a verdict that does not take effect changes nothing
-quiet-moved : (x : Verdict) → is_event x ≡ false → is_moved x ≡ false
+pub quiet-moved : (x : Verdict) → is_event x ≡ false → is_moved x ≡ false
 quiet-moved Empty e = refl
 quiet-moved Routed e = absurd (false≢true (sym e))
 quiet-moved Granted e = absurd (false≢true (sym e))
@@ -684,7 +681,7 @@ quiet-moved NoCredit e = refl
 quiet-moved LostInput e = refl
 quiet-moved LostSwitch e = refl
 
-quiet-input : (d : Decisions) (v : View) (i : ℕ) (input : Input) (x : Verdict) → is_event x ≡ false → input_after d v i input x ≡ input
+pub quiet-input : (d : Decisions) (v : View) (i : ℕ) (input : Input) (x : Verdict) → is_event x ≡ false → input_after d v i input x ≡ input
 quiet-input d v i input Empty e = refl
 quiet-input d v i input Routed e = absurd (false≢true (sym e))
 quiet-input d v i input Granted e = absurd (false≢true (sym e))
@@ -769,15 +766,6 @@ any_at (f ∷ fs) e = at (or_cases (is_event f.verdict) (list_any (λ (g : Findi
     at (inl t) more = (0, omega arith, t)
     at (inr t) more = let r = more t in (suc r.0, omega (arith, r.1), r.2)
 
-same_bool : (a b : Bool) → (a ≡ true → b ≡ true) → (b ≡ true → a ≡ true) → a ≡ b
-same_bool true b f g = sym (f refl)
-same_bool false true f g = g refl
-same_bool false false f g = refl
-
-or_right : (a b : Bool) → b ≡ true → (a || b) ≡ true
-or_right true b e = refl
-or_right false b e = e
-
 module _ (d : Decisions) (v w : View) (rest : ℕ) (whole : IsWhole v) (lists : Lists d v) (so_far : IsSettling d v rest w) (none : (k : ℕ) → has_bit rest k ≡ false) where
   pub verdict-all : (k : ℕ) → left_verdict d rest k ≡ decided_verdict d k
   verdict-all k = ap (λ b. if b then Empty else decided_verdict d k) (none k)
@@ -790,7 +778,7 @@ module _ (d : Decisions) (v w : View) (rest : ℕ) (whole : IsWhole v) (lists : 
   n_findings = ap length lists.findings ∙ length-tabulate (size_of v.site) (finding_of d.round v)
 
   last-event : w.had_event ≡ has_event d v
-  last-event = same_bool w.had_event (has_event d v) (λ t. forward (so_far.event_from t)) (λ t. back (or_cases v.had_event (list_any (λ (f : Finding). is_event f.verdict) d.findings) t))
+  last-event = same_test w.had_event (has_event d v) (λ t. forward (so_far.event_from t)) (λ t. back (or_cases v.had_event (list_any (λ (f : Finding). is_event f.verdict) d.findings) t))
     where
       forward : (v.had_event ≡ true) ⊎ ((i : ℕ) × (i < size_of v.site) × (is_event (decided_verdict d i) ≡ true)) → has_event d v ≡ true
       forward (inl t) = ap (λ b. b || list_any (λ (f : Finding). is_event f.verdict) d.findings) t
@@ -863,18 +851,14 @@ module _ (d : Decisions) (v w : View) (rest : ℕ) (whole : IsWhole v) (lists : 
       }))
 
 -- ---- what a verdict says of the view, and what it does
-pub found-some : (d : Decisions) (v : View) (i o : ℕ) → Lists d v → i < size_of v.site → out_of (view_claim v i) ≡ Some o → found_out d v i ≡ Some o
-found-some d v i o lists l e =
-    ap (λ (f : Finding). option_map (λ (place : ℕ × ℕ). place.0 * v.site.vcs + place.1) f.out) (finding-is d v i lists l)
-    ∙ ap (λ (x : Option ℕ). option_map (λ (place : ℕ × ℕ). place.0 * v.site.vcs + place.1) (option_map (port_and_vc v.site) x)) e
-    ∙ ap Some (div-add-mod' o v.site.vcs)
-
 full_length : (flits : List Flit) → not (is_empty flits) ≡ true → 0 < length flits
 full_length [] e = absurd (false≢true e)
 full_length (f ∷ rest) e = omega arith
 
-module _ (d : Decisions) (v w : View) (rest rest' index : ℕ) (whole : IsWhole v) (lists : Lists d v) (members : (k : ℕ) → has_bit rest' k ≡ (not (nat_eq k index) && has_bit rest k))
-    (member : has_bit rest index ≡ true) (so_far : IsSettling d v rest w) where
+-- the verdict of channel `index` by an outcome whose lists are those of the decisions d
+module _ (p : Outcome) (d : Decisions) (v w : View) (rest rest' index : ℕ) (routes : p.routes ≡ d.routes) (whole : IsWhole v) (lists : Lists d v)
+    (members : (k : ℕ) → has_bit rest' k ≡ (not (nat_eq k index) && has_bit rest k)) (member : has_bit rest index ≡ true) (so_far : IsSettling d v rest w)
+    (asked : get_or p.asks index None ≡ ask_of (view_claim v index)) where
   in_size : index < size_of v.site
   in_size = so_far.below index member
 
@@ -911,16 +895,14 @@ module _ (d : Decisions) (v w : View) (rest rest' index : ℕ) (whole : IsWhole 
       nobody o None h l to = refl
       nobody o (Some j) h l to = absurd (not_both d v whole lists o j index l h to)
 
-  found-now : (o : ℕ) → view_claim v index ≡ Waits (Some o) → found_out d w index ≡ Some o
-  found-now o claim =
-      ap (λ (site : Site). option_map (λ (place : ℕ × ℕ). place.0 * site.vcs + place.1) (finding_at d.findings index).out) site_is
-      ∙ found-some d v index o lists in_size (ap out_of claim)
+  asks-now : (o : ℕ) → view_claim v index ≡ Waits (Some o) → get_or p.asks index None ≡ Some o
+  asks-now o claim = asked ∙ ap ask_of claim
 
-  can-granted : (o : ℕ) → view_claim v index ≡ Waits (Some o) → get_or d.round.grants o None ≡ Some index → IfSome (found_out d w index) (CanGrant w index)
+  can-granted : (o : ℕ) → view_claim v index ≡ Waits (Some o) → get_or d.round.grants o None ≡ Some index → IfSome (get_or p.asks index None) (CanGrant w index)
   can-granted o claim g =
       let free = claim-waits v (view_input v index).phase o claim in
       let P : Option ℕ → Type 0 = λ x. IfSome x (CanGrant w index) in
-      subst P (sym (found-now o claim)) (record {
+      subst P (sym (asks-now o claim)) (record {
         within = (let Q : Site → Type 0 = λ site. o < size_of site in subst Q (sym site_is) free.2);
         waits = ap (λ (x : Input). is_waiting x.phase) input_is ∙ free.0;
         free = ap (λ (x : Output). is_free x.holder) (asked-out o claim g) ∙ free.1;
@@ -932,7 +914,7 @@ module _ (d : Decisions) (v w : View) (rest rest' index : ℕ) (whole : IsWhole 
       subst P (sym (ap (λ (x : Input). x.phase) input_is ∙ mv.phase))
       (ap has_credit (owned-out mv) ∙ mv.credit, full_length (view_buffer w index) (ap (λ flits. not (is_empty flits)) buffer_is ∙ mv.flit))
 
-  can-settle : (x : Verdict) → verdict_in d v index ≡ x → CanSettle d w index x
+  can-settle : (x : Verdict) → verdict_in d v index ≡ x → CanTakeEffect p w index x
   can-settle Routed e =
       let r = verdict-routed v.site.vcs d.round index (view_claim v index) (holds_flit v index) e in (
         ap (λ (y : Input). y.phase) input_is ∙ claim-unrouted v (view_input v index).phase r.0,
@@ -953,10 +935,10 @@ module _ (d : Decisions) (v w : View) (rest rest' index : ℕ) (whole : IsWhole 
       let now : decided_verdict d index ≡ x = decided-is d v index lists in_size ∙ e in
       step-plain d v w rest rest' index whole lists members member so_far (λ h. g (sym e ∙ h)) (λ h. m (sym e ∙ h)) (ap is_moved now ∙ no_move) (ap is_event now ∙ quiet) (ap (input_after d v index (view_input v index)) now ∙ same)
 
-  settle-granted : (o : ℕ) → verdict_in d v index ≡ Granted → view_claim v index ≡ Waits (Some o) → get_or d.round.grants o None ≡ Some index → IsSettling d v rest' (granted_by index (found_out d w index) w)
+  settle-granted : (o : ℕ) → verdict_in d v index ≡ Granted → view_claim v index ≡ Waits (Some o) → get_or d.round.grants o None ≡ Some index → IsSettling d v rest' (granted_by index (get_or p.asks index None) w)
   settle-granted o e claim g =
       let P : Option ℕ → Type 0 = λ x. IsSettling d v rest' (granted_by index x w) in
-      subst P (sym (found-now o claim)) (step-granted d v w rest rest' index whole lists members member so_far o (decided-is d v index lists in_size ∙ e) claim g)
+      subst P (sym (asks-now o claim)) (step-granted d v w rest rest' index whole lists members member so_far o (decided-is d v index lists in_size ∙ e) claim g)
 
   settle-moved : (f : Flit) → first_flit v index ≡ Some f → (mv : Moves d v index) → verdict_in d v index ≡ Moved → IsSettling d v rest' (moved_in_phase index (view_input w index).phase w)
   settle-moved f first mv e =
@@ -972,8 +954,10 @@ module _ (d : Decisions) (v w : View) (rest rest' index : ℕ) (whole : IsWhole 
       (ejected w (mv.out / w.site.vcs) f)
       (ap (λ (s : Site). if nat_lt (mv.out / w.site.vcs) (local_port s.grid) then None else (if f.last then Some f.packet else None)) site_is))))
 
-  settle-step : (x : Verdict) → verdict_in d v index ≡ x → IsSettling d v rest' (settled_by d index w x)
-  settle-step Routed e = step-routed d v w rest rest' index whole lists members member so_far (decided-is d v index lists in_size ∙ e)
+  settle-step : (x : Verdict) → verdict_in d v index ≡ x → IsSettling d v rest' (effect_of p index w x)
+  settle-step Routed e =
+      let P : List ℕ → Type 0 = λ xs. IsSettling d v rest' (routed_at index (slice_index xs index) w) in
+      subst P (sym routes) (step-routed d v w rest rest' index whole lists members member so_far (decided-is d v index lists in_size ∙ e))
   settle-step Granted e = let g = verdict-granted v.site.vcs d.round index (view_claim v index) (holds_flit v index) e in settle-granted g.0 e g.1 g.2
   settle-step Moved e =
       let mv = moves-is d v index whole.some_vc e in
@@ -988,27 +972,25 @@ module _ (d : Decisions) (v w : View) (rest rest' index : ℕ) (whole : IsWhole 
   settle-step LostSwitch e = step-quiet LostSwitch e (λ h. cc h) (λ h. cc h) refl refl refl
 
 -- ---- the whole
-pub can_settle : (d : Decisions) (v w : View) (rest rest' index : ℕ) → IsWhole v → IsPlanOf d v → ((k : ℕ) → has_bit rest' k ≡ (not (nat_eq k index) && has_bit rest k)) → has_bit rest index ≡ true
-    → IsSettling d v rest w → CanSettle d w index (decided_verdict d index)
-can_settle d v w rest rest' index whole plan members member so_far =
-    let lists = lists_of d v plan in
-    can-settle d v w rest rest' index whole lists members member so_far (decided_verdict d index) (sym (decided-is d v index lists (so_far.below index member)))
+pub can_settle : (p : Outcome) (v w : View) (rest rest' index : ℕ) → IsWhole v → Lists (decisions_by p v) v → ((k : ℕ) → has_bit rest' k ≡ (not (nat_eq k index) && has_bit rest k)) → has_bit rest index ≡ true
+    → IsSettling (decisions_by p v) v rest w → get_or p.asks index None ≡ ask_of (view_claim v index) → CanTakeEffect p w index (decided_verdict (decisions_by p v) index)
+can_settle p v w rest rest' index whole lists members member so_far asked =
+    let d = decisions_by p v in
+    can-settle p d v w rest rest' index refl whole lists members member so_far asked (decided_verdict d index) (sym (decided-is d v index lists (so_far.below index member)))
 
-pub settling_more : (d : Decisions) (v w : View) (rest rest' index : ℕ) (new : View) → IsWhole v → IsPlanOf d v → ((k : ℕ) → has_bit rest' k ≡ (not (nat_eq k index) && has_bit rest k)) → has_bit rest index ≡ true
-    → IsSettling d v rest w → new ≡ settled_by d index w (decided_verdict d index) → IsSettling d v rest' new
-settling_more d v w rest rest' index new whole plan members member so_far is =
-    let lists = lists_of d v plan in
-    let P : View → Type 0 = λ x. IsSettling d v rest' x in
-    subst P (sym is) (settle-step d v w rest rest' index whole lists members member so_far (decided_verdict d index) (sym (decided-is d v index lists (so_far.below index member))))
+pub settling_more : (p : Outcome) (v w : View) (rest rest' index : ℕ) → IsWhole v → Lists (decisions_by p v) v → ((k : ℕ) → has_bit rest' k ≡ (not (nat_eq k index) && has_bit rest k)) → has_bit rest index ≡ true
+    → IsSettling (decisions_by p v) v rest w → get_or p.asks index None ≡ ask_of (view_claim v index)
+    → IsSettling (decisions_by p v) v rest' (effect_of p index w (decided_verdict (decisions_by p v) index))
+settling_more p v w rest rest' index whole lists members member so_far asked =
+    let d = decisions_by p v in
+    settle-step p d v w rest rest' index refl whole lists members member so_far asked (decided_verdict d index) (sym (decided-is d v index lists (so_far.below index member)))
 
-pub settling_first : (d : Decisions) (v : View) (rest : ℕ) → IsWhole v → IsPlanOf d v → ((i : ℕ) → i < size_of v.site → has_bit rest i ≡ is_event (decided_verdict d i))
+pub settling_first : (d : Decisions) (v : View) (rest : ℕ) → IsWhole v → Lists d v → ((i : ℕ) → i < size_of v.site → has_bit rest i ≡ is_event (decided_verdict d i))
     → ((k : ℕ) → has_bit rest k ≡ true → k < size_of v.site) → v.to_put ≡ idle_beats v.site → IsSettling d v rest v
-settling_first d v rest whole plan are below idle =
-    let lists = lists_of d v plan in
-    settling-first d v rest whole lists (λ i l. are i l ∙ ap is_event (decided-is d v i lists l)) below idle
+settling_first d v rest whole lists are below idle = settling-first d v rest whole lists (λ i l. are i l ∙ ap is_event (decided-is d v i lists l)) below idle
 
-pub settling_last : (d : Decisions) (v w : View) (rest : ℕ) → IsWhole v → IsPlanOf d v → IsSettling d v rest w → ((k : ℕ) → has_bit rest k ≡ false) → w ≡ settled d v
-settling_last d v w rest whole plan so_far none = settling-last d v w rest whole (lists_of d v plan) so_far none
+pub settling_last : (d : Decisions) (v w : View) (rest : ℕ) → IsWhole v → Lists d v → IsSettling d v rest w → ((k : ℕ) → has_bit rest k ≡ false) → w ≡ settled d v
+settling_last d v w rest whole lists so_far none = settling-last d v w rest whole lists so_far none
 
 pub none_left : (d : Decisions) (v w : View) (rest : ℕ) → IsSettling d v rest w → ((k : ℕ) → k < size_of v.site → has_bit rest k ≡ false) → (k : ℕ) → has_bit rest k ≡ false
 none_left d v w rest so_far none k = at (has_bit rest k) refl

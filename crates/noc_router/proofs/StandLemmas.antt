@@ -1,8 +1,9 @@
 -- What is asked for and routed, channel by channel, by the sets of what the channels can go on with.
-use Rattle.std.proofs.Common.{◌≡◌, ℕ, ◌*◌, ◌/◌, ◌<◌, Bool, true, false, List, map, get_or, Option, None, refl, ap, sym, ◌∙◌, arith, subst, ltb-true}
+use Rattle.std.proofs.Common.{◌≡◌, ℕ, ◌*◌, ◌/◌, ◌<◌, true, List, map, get_or, Option, None, refl, ap, sym, ◌∙◌, arith, subst, ltb-true}
 use Rattle.std.specs.Prelude.{not, ◌&&◌, find, nat_lt, if◌then◌else◌}
 use Rattle.std.proofs.Math.Nat.{div-lt_iff_lt-mul}
 use Rattle.std.proofs.lemmas.Simd.{map-map}
+use Rattle.std.proofs.lemmas.Bool.{and_parts}
 use Rattle.noc_topo.specs.Words.{below, tabulate}
 use Rattle.noc_topo.proofs.WordLemmas.{get_or-tabulate}
 use Rattle.noc_packet.specs.Set.{has_bit}
@@ -36,10 +37,6 @@ ready_of-stands v = map-tabulate (λ (stand : Stand). ready_port v.site.vcs stan
 pub ask_of-stand : (v : View) (asks : List (Option ℕ)) (i : ℕ) → asks ≡ asks_of (view_stands v) → i < size_of v.site → get_or asks i None ≡ ask_of (view_claim v i)
 ask_of-stand v asks i e l = ap (λ xs. get_or xs i None) (e ∙ asks_of-stands v) ∙ get_or-tabulate (size_of v.site) i (λ k. ask_of (view_claim v k)) None l
 
-both_true : (a b : Bool) → (a && b) ≡ true → a ≡ true
-both_true true b e = refl
-both_true false b e = e
-
 -- what the channels of a router can go on with is that of its view
 pub standing-view : (r : Inside) (v : View) (s : Standing) → view_of r ≡ v → IsRouter r → AreStanding r.channels.size r.channels.bank.rings r.channels.inputs.items r.channels.outputs.items s → IsStanding v s
 standing-view r v s view is standing =
@@ -48,7 +45,7 @@ standing-view r v s view is standing =
 -- the route of a head that is not routed
 pub head-route : (relation : Routes) (v : View) (set i : ℕ) → AreHeads v set → i < size_of v.site → has_bit set i ≡ true → route_for relation v i (first_flit v i) ≡ route_of relation v i
 head-route relation v set i heads l here =
-    sym (ap (λ b. if b then route_for relation v i (first_flit v i) else 0) (both_true (is_idle_phase (view_input v i).phase) (not (is_empty (view_buffer v i))) (sym (heads.each i l) ∙ here)))
+    sym (ap (λ b. if b then route_for relation v i (first_flit v i) else 0) (and_parts (is_idle_phase (view_input v i).phase) (not (is_empty (view_buffer v i))) (sym (heads.each i l) ∙ here)).0)
 
 ask_in : (r : Inside) (phase : InputState) → IsRouter r → asked_in r.channels.size r.channels.outputs.items phase ≡ ask_of (claim_in (view_of r) phase)
 ask_in r Idle is = refl

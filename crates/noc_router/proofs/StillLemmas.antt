@@ -5,18 +5,16 @@ use Rattle.std.specs.List.{list_any}
 use Rattle.std.proofs.lemmas.Bool.{cases_lt, false≢true}
 use Rattle.std.proofs.lemmas.List.{get_or_past, get_or-map, get_or-replicate, length-map, length-replicate}
 use Rattle.std.proofs.lemmas.List.Folds.{list_any_at, list_any_none}
+use Rattle.std.proofs.Math.Bool.{or-false}
 use Rattle.noc_topo.specs.Words.{below, tabulate, map_indexed, is_some_of}
 use Rattle.noc_topo.specs.Shape.{ports, local_port}
 use Rattle.noc_topo.proofs.WordLemmas.{get_or-map_indexed, get_or-tabulate, length-map_indexed, length-tabulate, map_indexed-from_each, tabulate-from_each}
-use Rattle.noc_packet.specs.declared.packet.Flit.{Flit}
-use Rattle.noc_packet.specs.declared.packet.Beat.{Beat}
-use Rattle.noc_route.proofs.BoolLemmas.{or-none}
 use Rattle.noc_route.specs.Routes.{Routes}
 use Rattle.noc_alloc.specs.Arbiter.{Turn, turned}
 use Rattle.noc_alloc.specs.Allocation.{has_won, turned_by, winning_pick, winner_of, picked_port}
 use Rattle.noc_alloc.proofs.ArbiterLemmas.{first_in_turn-picks}
 use Rattle.noc_alloc.proofs.WordLemmas.{is_some_of-true}
-use Rattle.noc_vc.specs.Input.{Input, idle_input}
+use Rattle.noc_vc.specs.Input.{idle_input}
 use Rattle.noc_vc.specs.Output.{ejection_output}
 use Rattle.noc_packet.specs.Set.{has_bit}
 use Rattle.noc_router.specs.Settled.{outcome_verdict}
@@ -25,50 +23,25 @@ use Rattle.noc_router.specs.Tally.{empty_finding, finding_at}
 use Rattle.noc_router.specs.Verdict.{arbiters_after, is_event, is_moved, out_of, pointers_of, ready_of}
 use Rattle.noc_router.specs.View.{View, Decisions, Outcome, outcome, finding_of, beat_out, buffer_after, committed, counted, decided_verdict, first_flit, flit_out, has_event, held_by, idle_beat, idle_beats, input_after, mover, mover_to, output_after, planned, size_of, spent_by, view_claim, view_round, view_stands}
 use Rattle.noc_router.specs.declared.verdict.Verdict.{Verdict}
-use Rattle.noc_router.specs.declared.verdict.Verdict.TheVariants.{Empty, Routed, Granted, Moved, NoFlit, NoIdleChannel, LostChannel, NoCredit, LostInput, LostSwitch}
+use Rattle.noc_router.specs.declared.verdict.Verdict.TheVariants.{Empty, Granted, Moved}
 use Rattle.noc_router.specs.declared.verdict.Finding.{Finding}
 use Rattle.noc_router.proofs.FindLemmas.{find-none}
 use Rattle.noc_router.proofs.PlanFacts.{Lists, decided-is, granted-asks, is-granted, lists_of_round, mover-is, verdict_in}
 use Rattle.noc_router.proofs.SiteLemmas.{committed-parts}
 use Rattle.noc_router.proofs.StandLemmas.{map-tabulate}
 use Rattle.noc_router.proofs.TallyLemmas.{verdict-at}
+use Rattle.noc_router.proofs.SettleLemmas.{quiet-input, quiet-moved}
+use Rattle.noc_router.proofs.LinkLemmas.{beat_of}
 
 -- a list of which each element stays
 pub map_indexed-same : {X : Type 0} (f : ℕ → X → X) (xs : List X) (d : X) → ((i : ℕ) (x : X) → f i x ≡ x) → map_indexed f xs ≡ xs
 map_indexed-same f xs d each = sym (map_indexed-from_each f xs xs d d refl (λ i l. sym (each i (get_or xs i d))))
 
 -- ---- a verdict that takes no effect
-not_moved : (x : Verdict) → is_event x ≡ false → is_moved x ≡ false
-not_moved Moved e = absurd (false≢true (sym e))
-not_moved Empty e = refl
-not_moved Routed e = refl
-not_moved Granted e = refl
-not_moved NoFlit e = refl
-not_moved NoIdleChannel e = refl
-not_moved LostChannel e = refl
-not_moved NoCredit e = refl
-not_moved LostInput e = refl
-not_moved LostSwitch e = refl
-
-input-stays : (d : Decisions) (v : View) (i : ℕ) (input : Input) (x : Verdict) → is_event x ≡ false → input_after d v i input x ≡ input
-input-stays d v i input Routed e = absurd (false≢true (sym e))
-input-stays d v i input Granted e = absurd (false≢true (sym e))
-input-stays d v i input Moved e = absurd (false≢true (sym e))
-input-stays d v i input Empty e = refl
-input-stays d v i input NoFlit e = refl
-input-stays d v i input NoIdleChannel e = refl
-input-stays d v i input LostChannel e = refl
-input-stays d v i input NoCredit e = refl
-input-stays d v i input LostInput e = refl
-input-stays d v i input LostSwitch e = refl
-
 -- ---- nobody wins
 nobody-has_won : (wins : List (Option ℕ)) (port : ℕ) → ((k : ℕ) → get_or wins k None ≡ None) → has_won wins port ≡ false
 nobody-has_won [] port none = refl
 nobody-has_won (win ∷ wins) port none = ap (λ w. is_some_of w port || has_won wins port) (none 0) ∙ nobody-has_won wins port (λ k. none (suc k))
-
-beat_of : Option (ℕ × Flit) → Option ℕ → Beat
-beat_of flit credit = record { flit = flit; credit = credit }
 
 -- decisions by which no output channel is granted, no output port is won, and no verdict takes effect
 module _ (d : Decisions) (v : View) (no_grant : (o : ℕ) → get_or d.round.grants o None ≡ None) (no_win : (port : ℕ) → get_or d.round.wins port None ≡ None)
@@ -93,10 +66,10 @@ module _ (d : Decisions) (v : View) (no_grant : (o : ℕ) → get_or d.round.gra
 
   buffers-stay : map_indexed (λ i flits. buffer_after flits (decided_verdict d i)) v.buffers ≡ v.buffers
   buffers-stay = map_indexed-same (λ i flits. buffer_after flits (decided_verdict d i)) v.buffers []
-      (λ i flits. rw (not_moved (decided_verdict d i) (still i)) refl)
+      (λ i flits. rw (quiet-moved (decided_verdict d i) (still i)) refl)
 
   inputs-stay : map_indexed (λ i input. input_after d v i input (decided_verdict d i)) v.inputs ≡ v.inputs
-  inputs-stay = map_indexed-same (λ i input. input_after d v i input (decided_verdict d i)) v.inputs idle_input (λ i input. input-stays d v i input (decided_verdict d i) (still i))
+  inputs-stay = map_indexed-same (λ i input. input_after d v i input (decided_verdict d i)) v.inputs idle_input (λ i input. quiet-input d v i input (decided_verdict d i) (still i))
 
   outputs-stay : map_indexed (output_after v d.round) v.outputs ≡ v.outputs
   outputs-stay = map_indexed-same (output_after v d.round) v.outputs ejection_output
@@ -109,10 +82,10 @@ module _ (d : Decisions) (v : View) (no_grant : (o : ℕ) → get_or d.round.gra
       (λ port l. get_or-replicate (local_port v.site.grid) port idle_beat idle_beat l
       ∙ sym (ap (λ x. beat_of x (find (λ vc. is_moved (decided_verdict d (port * v.site.vcs + vc))) (below v.site.vcs))) (no_flit_out port)
       ∙ ap (beat_of None) (find-none (λ vc. is_moved (decided_verdict d (port * v.site.vcs + vc))) v.site.vcs
-      (λ vc u. not_moved (decided_verdict d (port * v.site.vcs + vc)) (still (port * v.site.vcs + vc)))))))
+      (λ vc u. quiet-moved (decided_verdict d (port * v.site.vcs + vc)) (still (port * v.site.vcs + vc)))))))
 
   no_event-more : has_event d v ≡ v.had_event
-  no_event-more = ap (λ b. v.had_event || b) quiet ∙ or-none v.had_event
+  no_event-more = ap (λ b. v.had_event || b) quiet ∙ or-false v.had_event
 
   -- they are counted, and nothing else changes
   pub quiet-committed : committed d v ≡ record v {

@@ -1,10 +1,11 @@
 -- The allocation of the switch, input port by input port.
 use Rattle.std.proofs.Common.{◌≡◌, ◌≢◌, ℕ, ◌+◌, ◌*◌, ◌/◌, ◌%◌, ◌<◌, ◌≤◌, Bool, true, false, List, length, get_or, set, replicate, Option, Some, None, refl, ap, sym, ◌∙◌, arith, inl, inr, subst}
 use Rattle.std.specs.Prelude.{All, nat_eq, nat_le, nat_lt, not, ◌&&◌, ◌||◌, ◌⊎◌, is_some, option_and_then, option_map, slice_index, if◌then◌else◌}
-use Rattle.std.proofs.lemmas.Bool.{and_parts, cases_eq, cases_lt, eq-eqb, eqb-true, false≢true, le-leb, lt-leb, leb-true, lt-ltb, le-ltb, ne_eqb}
+use Rattle.std.proofs.lemmas.Bool.{and_parts, cases_eq, cases_lt, eq-eqb, eqb-true, false≢true, le-leb, lt-leb, leb-true, lt-ltb, le-ltb, ne_eqb, false_from_ne_true}
 use Rattle.std.proofs.lemmas.Nat.{le-div, mul-add-lt, mod-mul-add, div-mul-add, div-add-mod'}
 use Rattle.std.proofs.lemmas.List.{get_or-set_same, get_or-set_other, get_or_default, set-get_or}
 use Rattle.std.proofs.Math.Nat.{div-lt_iff_lt-mul, div-mul-le_self, mul-le-mul_right}
+use Rattle.std.proofs.Math.Bool.{or-false, or-true}
 use Rattle.noc_topo.specs.Shape.{ports}
 use Rattle.noc_topo.specs.Words.{is_some_of, tabulate}
 use Rattle.noc_topo.proofs.WordLemmas.{get_or-tabulate, tabulate-from_each}
@@ -138,18 +139,6 @@ won_other : (wins : List (Option ℕ)) (o port : ℕ) (first w : Option ℕ) →
 won_other wins o port first None other = refl
 won_other wins o port first (Some p) other = ap (λ x. is_some_of x port) (get_or-set_other wins o p first None (λ e. other (ap Some e)))
 
-or_false : (b : Bool) → (b || false) ≡ b
-or_false true = refl
-or_false false = refl
-
-or_true : (b : Bool) → (b || true) ≡ true
-or_true true = refl
-or_true false = refl
-
-is_false : (b : Bool) → (b ≡ true → ⊥) → b ≡ false
-is_false true h = absurd (h refl)
-is_false false h = refl
-
 module _ (vcs q c o : ℕ) (way : ℕ → Option ℕ) (picks wins : List (Option ℕ)) (picked more lost : ℕ) (offer : IsOffer vcs q c o way picks wins picked more lost) where
   own_row : (q * vcs + c) / vcs ≡ q
   own_row = div-mul-add q vcs c offer.vc
@@ -172,7 +161,7 @@ module _ (vcs q c o : ℕ) (way : ℕ → Option ℕ) (picks wins : List (Option
 
       own : (is_loser r i || has_bit lost i) ≡ (has_bit more i && not (is_won_by (set wins o first) (i / vcs) (way i)))
       own =
-          ap (λ b. is_loser r i || b) (gone i (is_false (has_bit picked i) (λ e. not_own i e refl))) ∙ or_false (is_loser r i) ∙ here
+          ap (λ b. is_loser r i || b) (gone i (false_from_ne_true (has_bit picked i) (λ e. not_own i e refl))) ∙ or-false (is_loser r i) ∙ here
           ∙ ap (λ p. not (is_some_of first p)) (sym own_row) ∙ ap not (sym (won_here wins o (i / vcs) first (way i) offer.inside offer.goes))
           ∙ ap (λ b. b && not (is_won_by (set wins o first) (i / vcs) (way i))) (sym (offer.members i ∙ ap (λ b. b || has_bit picked i) (eq-eqb i i refl)))
 
@@ -180,7 +169,7 @@ module _ (vcs q c o : ℕ) (way : ℕ → Option ℕ) (picks wins : List (Option
       kept other = offer.members k ∙ ap (λ b. b || has_bit picked k) (ne_eqb k i other)
 
       stays : k ≢ i → ((has_bit picked k ≡ true) × (way k ≡ Some o) → ⊥) → is_loser r k ≡ false
-      stays other never = is_false (is_loser r k) (λ e. neither (only k e))
+      stays other never = false_from_ne_true (is_loser r k) (λ e. neither (only k e))
         where
           neither : (k ≡ i) ⊎ ((has_bit picked k ≡ true) × (way k ≡ Some o)) → ⊥
           neither (inl same) = other same
@@ -239,7 +228,7 @@ module _ (vcs q c o : ℕ) (way : ℕ → Option ℕ) (picks wins : List (Option
       others k e (inl row) = ap (λ b. b || not (is_some_of (get_or wins o None) (k / vcs))) (eq-eqb k holder.channel (same_channel k e row))
       others k e (inr other) =
           ap (λ w. nat_eq k holder.channel || not (is_some_of w (k / vcs))) held ∙ ap (λ b. nat_eq k holder.channel || not b) (ne_eqb h (k / vcs) (λ same. other (sym same)))
-          ∙ or_true (nat_eq k holder.channel)
+          ∙ or-true (nat_eq k holder.channel)
 
   lost-next : (p : ℕ) → ((h : ℕ) → get_or wins o None ≡ Some h → IsHolder vcs q o way picks picked h)
       → (k : ℕ) → (is_loser (option_and_then (pick_in vcs picks) (farther p (get_or wins o None) q)) k || has_bit lost k)
@@ -338,7 +327,7 @@ picked-more v q c picks picked more l inside none members so_far k u = at (cases
     at : (k / v.site.vcs ≡ q) ⊎ (k / v.site.vcs ≢ q) → has_bit more k ≡ is_some_of (get_or (set picks q (Some c)) (k / v.site.vcs) None) (k % v.site.vcs)
     at (inl row) =
         let off : has_bit picked k ≡ false = so_far k u ∙ ap (λ (o : Option ℕ). is_some_of o (k % v.site.vcs)) (ap (λ p. get_or picks p None) row ∙ none) in
-        members k ∙ ap (λ b. nat_eq k (q * v.site.vcs + c) || b) off ∙ or_false (nat_eq k (q * v.site.vcs + c)) ∙ at_pick v.site.vcs q c k l row
+        members k ∙ ap (λ b. nat_eq k (q * v.site.vcs + c) || b) off ∙ or-false (nat_eq k (q * v.site.vcs + c)) ∙ at_pick v.site.vcs q c k l row
         ∙ sym (ap (λ (o : Option ℕ). is_some_of o (k % v.site.vcs)) (ap (λ p. get_or (set picks q (Some c)) p None) row ∙ get_or-set_same picks q (Some c) None inside))
     at (inr other) =
         members k ∙ ap (λ b. b || has_bit picked k) (off_pick v.site.vcs q c k l other) ∙ so_far k u

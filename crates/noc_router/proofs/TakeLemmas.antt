@@ -30,7 +30,7 @@ not_first : (a b d : Bool) → a ≡ false → (a && b && d) ≡ false
 not_first false b d e = refl
 not_first true b d e = absurd (cc)
 
-not_second : (a b d : Bool) → b ≡ false → (a && b && d) ≡ false
+pub not_second : (a b d : Bool) → b ≡ false → (a && b && d) ≡ false
 not_second false b d e = refl
 not_second true false d e = refl
 not_second true true d e = absurd (cc)

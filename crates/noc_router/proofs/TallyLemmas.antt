@@ -2,7 +2,7 @@
 use Rattle.std.proofs.Common.{◌≡◌, ℕ, ◌+◌, ◌-◌, ◌*◌, ◌^◌, ◌<◌, ◌≤◌, Bool, true, false, List, [], ◌∷◌, ◌++◌, length, drop, take, get_or, set, sum, refl, ap, sym, ◌∙◌, arith, inl, inr, replicate, Option, None}
 use Rattle.std.specs.Prelude.{◌/◌, ◌%◌, ◌&&◌, ◌||◌, ◌⊎◌, option_map, not, nat_eq, if◌then◌else◌}
 use Rattle.std.proofs.Math.Seq.{take-append_seam}
-use Rattle.std.proofs.lemmas.Bool.{cases_eq, cases_lt, eq-eqb, ne_eqb, eqb-true, false≢true}
+use Rattle.std.proofs.lemmas.Bool.{cases_eq, cases_lt, eq-eqb, ne_eqb, eqb-true, false≢true, and_parts}
 use Rattle.std.proofs.lemmas.List.{length-set, get_or-set_same, get_or-set_other, get_or-replicate, length-replicate, get_or-map, get_or_past}
 use Rattle.noc_packet.specs.Set.{has_bit}
 use Rattle.noc_packet.specs.declared.packet.Flit.{Flit}
@@ -12,7 +12,7 @@ use Rattle.noc_vc.specs.declared.input.InputState.TheVariants.{Idle, Waiting, Ac
 use Rattle.noc_router.specs.declared.counters.Counters.{Counters}
 use Rattle.noc_router.specs.declared.plan.Plan.TheInside.{Inside}
 use Rattle.noc_router.specs.Planned.{IsPlan, outcome_in}
-use Rattle.noc_router.specs.VerdictSets.{sets_with, verdict_by}
+use Rattle.noc_router.specs.VerdictSets.{sets_with, verdict_by, first_in}
 use Rattle.noc_router.specs.declared.verdict.Verdict.{Verdict}
 use Rattle.noc_router.specs.declared.verdict.Verdict.TheVariants.{Empty, Routed, Granted, Moved, NoFlit, NoIdleChannel, LostChannel, NoCredit, LostInput, LostSwitch}
 use Rattle.noc_router.specs.declared.verdict.Finding.{Finding}
@@ -137,14 +137,10 @@ forgotten_tally cycles shown shown' counters counts findings index none is sound
   fits = sound.fits;
   ten = sound.ten;
   sums = sound.sums;
-  within = λ i t. omega (arith, length-set findings index none, sound.within i (second (not (nat_eq i index)) (has_bit shown i) (sym (members i) ∙ t)));
+  within = λ i t. omega (arith, length-set findings index none, sound.within i (and_parts (not (nat_eq i index)) (has_bit shown i) (sym (members i) ∙ t)).1);
   plain = λ i l e. plain_at i (omega (arith, length-set findings index none)) (sym (members i) ∙ e) (cases_eq i index);
 }
   where
-    second : (a b : Bool) → (a && b) ≡ true → b ≡ true
-    second true b e = e
-    second false b e = absurd (false≢true e)
-
     plain_at : (i : ℕ) → i < length findings → (not (nat_eq i index) && has_bit shown i) ≡ false → (i ≡ index) ⊎ (i ≡ index → ⊥) → finding_at (set findings index none) i ≡ empty_finding
     plain_at i l e (inl same) = ap (λ k. finding_at (set findings index none) k) same ∙ get_or-set_same findings index none empty_finding lf ∙ is
     plain_at i l e (inr other) = get_or-set_other findings index i none empty_finding other ∙ sound.plain i l (ap (λ b. not b && has_bit shown i) (sym (ne_eqb i index other)) ∙ e)
@@ -163,11 +159,7 @@ AreGone kept shown gone = (k : ℕ) → has_bit gone k ≡ (not (has_bit kept k)
 
 -- each of them is shown
 pub gone-shown : (kept shown gone k : ℕ) → AreGone kept shown gone → has_bit gone k ≡ true → has_bit shown k ≡ true
-gone-shown kept shown gone k are e = second (not (has_bit kept k)) (has_bit shown k) (sym (are k) ∙ e)
-  where
-    second : (a b : Bool) → (a && b) ≡ true → b ≡ true
-    second true b h = h
-    second false b h = absurd (false≢true h)
+gone-shown kept shown gone k are e = (and_parts (not (has_bit kept k)) (has_bit shown k) (sym (are k) ∙ e)).1
 
 -- .. where one of them is forgotten
 pub gone-less : (kept shown gone shown' gone' index : ℕ) → AreGone kept shown gone → ((k : ℕ) → has_bit gone' k ≡ (not (nat_eq k index) && has_bit gone k))
@@ -193,20 +185,10 @@ AreLeft bits before rest = (k : ℕ) → (has_bit rest k ≡ true → has_bit be
 pub left-first : (bits before : ℕ) → AreLeft bits before before
 left-first bits before = λ k. ((λ e. e), (λ off. refl))
 
--- a member of both sets is a member of each
-pub first-of : (a b : Bool) → (a && b) ≡ true → a ≡ true
-first-of true b e = refl
-first-of false b e = e
-
--- .. of the other
-pub second-of : (a b : Bool) → (a && b) ≡ true → b ≡ true
-second-of true b e = e
-second-of false b e = absurd (false≢true e)
-
 -- .. one of them less
 pub left-more : (bits before rest rest' index : ℕ) → AreLeft bits before rest → has_bit bits index ≡ true → ((k : ℕ) → has_bit rest' k ≡ (not (nat_eq k index) && has_bit rest k)) → AreLeft bits before rest'
 left-more bits before rest rest' index are member members = λ k.
-    ((λ e. (are k).0 (second-of (not (nat_eq k index)) (has_bit rest k) (sym (members k) ∙ e))), (λ off. at k off (cases_eq k index)))
+    ((λ e. (are k).0 (and_parts (not (nat_eq k index)) (has_bit rest k) (sym (members k) ∙ e)).1), (λ off. at k off (cases_eq k index)))
   where
     at : (k : ℕ) → has_bit bits k ≡ false → (k ≡ index) ⊎ (k ≡ index → ⊥) → has_bit rest' k ≡ has_bit before k
     at k off (inl e) = absurd (false≢true (sym off ∙ ap (has_bit bits) e ∙ member))
@@ -254,11 +236,6 @@ shown-last found n bits before rest old now shown are none k l = shown k l ∙ a
     same true false false none off = absurd (false≢true (off refl))
 
 -- ---- the sets of all verdicts, one after the other
--- the verdict of the first set that has channel k
-abbrev pub first_in : List (ℕ × Verdict) → ℕ → Verdict
-first_in [] k = Empty
-first_in ((bits, v) ∷ sets) k = if has_bit bits k then v else first_in sets k
-
 -- the verdict of a channel that holds nothing
 pub empty_is : (v : Verdict) → not (is_empty_verdict v) ≡ false → Empty ≡ v
 empty_is Empty e = refl
@@ -306,7 +283,7 @@ noting-more X note verdict n start bits v sets before was rest now noting member
 }
   where
     in_before : (k : ℕ) → has_bit rest k ≡ true → has_bit before k ≡ true
-    in_before k e = second-of (not (has_bit bits k)) (has_bit before k) (sym (members k) ∙ e)
+    in_before k e = (and_parts (not (has_bit bits k)) (has_bit before k) (sym (members k) ∙ e)).1
 
     first : (k : ℕ) (b : Bool) → (not b && has_bit before k) ≡ true → verdict k ≡ (if b then v else first_in sets k) → verdict k ≡ first_in sets k
     first k true e h = absurd (false≢true e)

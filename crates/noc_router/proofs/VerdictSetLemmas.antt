@@ -1,7 +1,7 @@
 -- The verdicts that the sets of channels say.
 use Rattle.std.proofs.Common.{◌≡◌, ℕ, zero, suc, ◌+◌, ◌/◌, ◌%◌, ◌<◌, ◌≤◌, Bool, true, false, List, [], ◌∷◌, length, drop, map, get_or, set, replicate, Option, Some, None, refl, ap, sym, ◌∙◌, arith, inl, inr}
 use Rattle.std.specs.Prelude.{◌&&◌, ◌||◌, ◌⊎◌, nat_eq, not, is_some, if◌then◌else◌}
-use Rattle.std.proofs.lemmas.Bool.{cases_eq, cases_lt, eq-eqb, ne_eqb, false≢true}
+use Rattle.std.proofs.lemmas.Bool.{cases_eq, cases_lt, eq-eqb, ne_eqb, false≢true, and_parts}
 use Rattle.std.proofs.lemmas.List.{get_or_past, get_or-map, get_or-replicate, get_or-set_same, get_or-set_other, length-replicate}
 use Rattle.noc_topo.specs.Words.{tabulate, is_some_of}
 use Rattle.noc_topo.proofs.WordLemmas.{get_or-tabulate, length-tabulate}
@@ -162,13 +162,9 @@ event-below sets k n moved granted routed e = at (has_bit sets.moved k) refl (ha
     at false is false has true was h = routed was
     at false is false has false was h = absurd (false≢true (sym (ap (λ b. b || (has_bit sets.granted k || has_bit sets.routed k)) is ∙ ap (λ b. b || has_bit sets.routed k) has ∙ was) ∙ h))
 
-first_of_both : (a b : Bool) → (a && b) ≡ true → a ≡ true
-first_of_both true b e = refl
-first_of_both false b e = e
-
 -- a member of a set that passes a test too
 pub member-passes : (set part k : ℕ) (test : Bool) → has_bit part k ≡ (has_bit set k && test) → has_bit part k ≡ true → has_bit set k ≡ true
-member-passes set part k test is e = first_of_both (has_bit set k) test (sym is ∙ e)
+member-passes set part k test is e = (and_parts (has_bit set k) test (sym is ∙ e)).0
 
 -- a part is what it has in common with the whole
 pub among-both : (set part k : ℕ) → AreAmong set part → has_bit part k ≡ (has_bit set k && has_bit part k)

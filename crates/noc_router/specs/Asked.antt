@@ -33,13 +33,3 @@ picks_on ports vcs ready arbiters = tabulate ports (pick_of ready vcs (pointers_
 -- the input port that wins each output port
 abbrev pub wins_on : ℕ → ℕ → List (Option ℕ) → List (Option ℕ) → Turns → List (Option ℕ)
 wins_on ports vcs ready picks arbiters = tabulate ports (winner_of ready vcs ports picks (pointers_of arbiters.outputs))
-
--- one round on the output channels that are asked for and the output ports to which input channels are ready to send
-abbrev pub round_on : ℕ → ℕ → List (Option ℕ) → List (Option ℕ) → Turns → Round
-round_on ports vcs asks ready arbiters =
-    let picks = picks_on ports vcs ready arbiters in
-    record {
-      grants = grants_on ports vcs asks arbiters;
-      picks = picks;
-      wins = wins_on ports vcs ready picks arbiters;
-    }

@@ -3,6 +3,7 @@ use Rattle.std.specs.Prelude.{◌≡◌, ℕ, ◌+◌, ◌-◌, ◌*◌, ◌<◌
 use Rattle.std.specs.Option.{ForSome}
 use Rattle.std.specs.List.{zip}
 use Rattle.noc_packet.specs.declared.packet.Packet.{Packet}
+use Rattle.noc_packet.specs.declared.limits.TheConstants.{MAX_CHANNELS}
 use Rattle.noc_topo.specs.Shape.{IsGrid, nodes, ports, local_port, neighbour}
 use Rattle.noc_router.specs.declared.router.Router.TheInside.{Inside}
 use Rattle.noc_router.specs.declared.source.Source.{Source}
@@ -45,7 +46,7 @@ pub record IsRouter (r : Inside) : Type 0 where
   pub node : r.node < nodes r.shape
   pub ports : r.ports ≡ ports r.shape
   pub some_vc : 0 < r.vcs
-  pub few_vcs : r.vcs ≤ 8
+  pub few_vcs : r.vcs ≤ MAX_CHANNELS
   pub channels : r.channels.size ≡ r.ports * r.vcs
   pub places : r.channels.bank.capacity ≡ r.places
   pub leads : (port : ℕ) → port < 6 → slice_index_or r.links.leads port None ≡ neighbour r.shape r.node port

@@ -1,5 +1,5 @@
 -- How the verdict of one input channel takes effect, and all of them.
-use Rattle.std.specs.Prelude.{◌≡◌, ℕ, ◌+◌, ◌*◌, ◌/◌, ◌%◌, ◌<◌, true, List, drop, Option, Some, None, IfSome, option_map, length, nat_lt, unwrap_or, slice_index, slice_index_or, slice_set, if◌then◌else◌}
+use Rattle.std.specs.Prelude.{◌≡◌, ℕ, ◌/◌, ◌%◌, ◌<◌, true, List, drop, Option, Some, None, IfSome, option_map, length, nat_lt, unwrap_or, slice_index, slice_index_or, slice_set, if◌then◌else◌}
 use Rattle.noc_topo.specs.Words.{tabulate, map_indexed}
 use Rattle.noc_topo.specs.Shape.{local_port}
 use Rattle.noc_packet.specs.declared.packet.Flit.{Flit}
@@ -11,18 +11,11 @@ use Rattle.noc_vc.specs.Output.{is_free, has_credit, held, spent}
 use Rattle.noc_vc.specs.declared.input.InputState.{InputState}
 use Rattle.noc_vc.specs.declared.input.InputState.TheVariants.{Idle, Waiting, Active}
 use Rattle.noc_router.specs.Sound.{input_at, named}
-use Rattle.noc_router.specs.Tally.{finding_at}
 use Rattle.noc_router.specs.declared.verdict.Verdict.{Verdict}
 use Rattle.noc_router.specs.declared.verdict.Verdict.TheVariants.{Empty, Routed, Granted, Moved}
 use Rattle.noc_router.specs.declared.verdict.Finding.{Finding}
 use Rattle.noc_router.specs.Verdict.{out_of}
-use Rattle.noc_router.specs.View.{View, Decisions, Outcome, IsRelationOf, planned, outcome, port_and_vc, view_claim, idle_beat, idle_beats, counted, size_of, view_buffer, view_input, view_output, first_flit, flit_out, tail_packet, with_arrival, decided_verdict, buffer_after, input_after, output_after, has_event, beat_out}
-
--- the decisions of this very view
-pub record IsPlanOf (d : Decisions) (v : View) : Type 0 where
-  pub relation : Routes
-  pub fits : IsRelationOf relation v
-  pub is : d ≡ planned relation v
+use Rattle.noc_router.specs.View.{View, Decisions, Outcome, IsRelationOf, outcome, port_and_vc, view_claim, idle_beat, idle_beats, counted, size_of, view_buffer, view_input, view_output, first_flit, flit_out, tail_packet, with_arrival, decided_verdict, buffer_after, input_after, output_after, has_event, beat_out}
 
 -- the outcome of this very view
 pub record IsOutcomeOf (p : Outcome) (v : View) : Type 0 where
@@ -100,10 +93,6 @@ abbrev pub moved_by : ℕ → ℕ → Option Flit → View → View
 moved_by i o None v = v
 moved_by i o (Some f) v = flit_put (o / v.site.vcs) (o % v.site.vcs) f (credit_put (i / v.site.vcs) (i % v.site.vcs) (sent_at i o f v))
 
--- the output channel that the finding of channel i names
-abbrev pub found_out : Decisions → View → ℕ → Option ℕ
-found_out d v i = option_map (λ (place : ℕ × ℕ). place.0 * v.site.vcs + place.1) (finding_at d.findings i).out
-
 abbrev pub granted_by : ℕ → Option ℕ → View → View
 granted_by i None v = v
 granted_by i (Some o) v = granted_at i o v
@@ -114,13 +103,6 @@ moved_in_phase i (Waiting set) v = v
 moved_in_phase i (Active o) v = moved_by i o (first_flit v i) v
 
 -- the verdict of channel i takes effect
-abbrev pub settled_by : Decisions → ℕ → View → Verdict → View
-settled_by d i v Routed = routed_at i (slice_index d.routes i) v
-settled_by d i v Granted = granted_by i (found_out d v i) v
-settled_by d i v Moved = moved_in_phase i (view_input v i).phase v
-settled_by d i v _ = v
-
--- the same, by the outcome
 abbrev pub effect_of : Outcome → ℕ → View → Verdict → View
 effect_of p i v Routed = routed_at i (slice_index p.routes i) v
 effect_of p i v Granted = granted_by i (slice_index_or p.asks i None) v
@@ -140,13 +122,6 @@ CanMove v i (Waiting set) = Unit {0}
 CanMove v i (Active o) = (has_credit (view_output v o) ≡ true) × (0 < length (view_buffer v i))
 
 -- what a verdict says of the view
-abbrev pub CanSettle : Decisions → View → ℕ → Verdict → Type 0
-CanSettle d v i Routed = ((view_input v i).phase ≡ Idle) × (0 < length (view_buffer v i))
-CanSettle d v i Granted = IfSome (found_out d v i) (CanGrant v i)
-CanSettle d v i Moved = CanMove v i (view_input v i).phase
-CanSettle d v i _ = Unit {0}
-
--- the same, by the outcome
 abbrev pub CanTakeEffect : Outcome → View → ℕ → Verdict → Type 0
 CanTakeEffect p v i Routed = ((view_input v i).phase ≡ Idle) × (0 < length (view_buffer v i))
 CanTakeEffect p v i Granted = IfSome (slice_index_or p.asks i None) (CanGrant v i)

@@ -1,5 +1,5 @@
 -- The verdict of an input channel, by the sets of those that have each verdict.
-use Rattle.std.specs.Prelude.{ℕ, ◌+◌, if◌then◌else◌}
+use Rattle.std.specs.Prelude.{ℕ, ◌+◌, List, [], ◌∷◌, if◌then◌else◌}
 use Rattle.noc_packet.specs.Set.{has_bit}
 use Rattle.noc_router.specs.Counts.{one_if}
 use Rattle.noc_router.specs.declared.verdict_sets.VerdictSets.{VerdictSets}
@@ -19,6 +19,11 @@ verdict_by sets i =
     else if has_bit sets.lost_input i then LostInput
     else if has_bit sets.lost_switch i then LostSwitch
     else Empty
+
+-- the verdict of the first of these sets in which channel k is
+abbrev pub first_in : List (ℕ × Verdict) → ℕ → Verdict
+first_in [] k = Empty
+first_in ((bits, v) ∷ sets) k = if has_bit bits k then v else first_in sets k
 
 -- in how many of the sets channel i is
 abbrev pub sets_with : VerdictSets → ℕ → ℕ

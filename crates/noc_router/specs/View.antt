@@ -50,7 +50,7 @@ pub record Decisions : Type 0 where
   pub findings : List Finding
   pub routes : List ℕ  -- for each input channel, the set that the relation permits where its verdict is Routed, else 0
 
--- the relation that a router was built with, or one like it
+-- a relation on the router's shape, with as many channels
 pub record IsRelationOf (relation : Routes) (v : View) : Type 0 where
   pub grid : relation.grid ≡ v.site.grid
   pub vcs : relation.vcs ≡ v.site.vcs

@@ -19,6 +19,7 @@ mod tally;
 mod verdict;
 mod verdict_sets;
 
+pub use links::LINKS;
 pub use plan::Plan;
 pub use router::Router;
 pub use verdict::{Finding, VERDICTS, Verdict};

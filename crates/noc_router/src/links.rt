@@ -10,7 +10,7 @@ use noc_packet::{Beat, ChannelSet, Flit};
 use noc_topo::Shape;
 
 /// The greatest number of link ports of a router.
-pub(crate) const LINKS: usize = 6;
+pub const LINKS: usize = 6;
 
 /// Where each link port leads, and the beat that leaves by it.
 #[derive(Drop)]

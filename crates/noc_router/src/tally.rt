@@ -176,59 +176,31 @@ impl Tally {
         let occupied = channels.occupied();
         self.forget(occupied);
         self.begun = true;
-        let sets = &plan.verdicts;
-        let mut rest = occupied;
-        rest = self.show_each(channels, indices, plan, rest, sets.moved, Verdict::Moved);
-        rest = self.show_each(
-            channels,
-            indices,
-            plan,
-            rest,
-            sets.granted,
-            Verdict::Granted,
-        );
-        rest = self.show_each(channels, indices, plan, rest, sets.routed, Verdict::Routed);
-        rest = self.show_each(channels, indices, plan, rest, sets.no_flit, Verdict::NoFlit);
-        rest = self.show_each(
-            channels,
-            indices,
-            plan,
-            rest,
-            sets.no_idle_channel,
-            Verdict::NoIdleChannel,
-        );
-        rest = self.show_each(
-            channels,
-            indices,
-            plan,
-            rest,
-            sets.lost_channel,
-            Verdict::LostChannel,
-        );
-        rest = self.show_each(
-            channels,
-            indices,
-            plan,
-            rest,
-            sets.no_credit,
-            Verdict::NoCredit,
-        );
-        rest = self.show_each(
-            channels,
-            indices,
-            plan,
-            rest,
-            sets.lost_input,
-            Verdict::LostInput,
-        );
-        self.show_each(
-            channels,
-            indices,
-            plan,
-            rest,
-            sets.lost_switch,
-            Verdict::LostSwitch,
-        );
+        self.show_all(channels, indices, plan, occupied);
+    }
+
+    // Shows the verdicts of these channels, where what is found of the others is shown.
+    fn show_all(&mut self, channels: &Channels, indices: &Indices, plan: &Plan, left: ChannelSet)
+        requires channels { channels.now.size ≡ vec_len self.old.counts }
+        requires indices { indices.now.size ≡ vec_len self.old.counts }
+        requires asks { length plan.now.asks ≡ vec_len self.old.counts }
+        requires verdicts { length plan.now.verdicts ≡ vec_len self.old.counts }
+        requires left { AreBelow (vec_len self.old.counts) left }
+        requires full { (k : ℕ) → k < vec_len self.old.counts → has_bit left k ≡ not (is_empty_verdict (outcome_verdict plan.now k)) }
+        requires others { (k : ℕ) → k < vec_len self.old.counts → has_bit left k ≡ false → finding_at self.old.findings.items k ≡ finding_by plan.now indices.now.vcs channels.now.inputs.items k }
+        ensures size { vec_len self.new.counts ≡ vec_len self.old.counts }
+        ensures begun { self.new.begun ≡ self.old.begun }
+        ensures cycles { self.new.cycles ≡ self.old.cycles }
+        ensures counters { self.new.counters ≡ self.old.counters }
+        ensures counts { self.new.counts.items ≡ self.old.counts.items }
+        ensures findings { (k : ℕ) → k < vec_len self.old.counts → finding_at self.new.findings.items k ≡ finding_by plan.now indices.now.vcs channels.now.inputs.items k }
+    {
+        let sets = plan.verdicts.with_verdicts();
+        let mut rest = left;
+        for place in 0..sets.len() {
+            let (set, verdict) = sets[place];
+            rest = self.show_each(channels, indices, plan, rest, set, verdict);
+        }
     }
 
     // Shows for those channels of a set that are left that they have this verdict. The answer is what is left then.

@@ -1,6 +1,6 @@
 //! The verdicts of one router as sets of input channels.
 
-ghost use Rattle.std.specs.Prelude.{◌≡◌, ℕ, ◌<◌, ◌≤◌, ◌==◌};
+ghost use Rattle.std.specs.Prelude.{◌≡◌, ℕ, ◌<◌, ◌≤◌, ◌==◌, length};
 ghost use Rattle.noc_packet.specs.Set.{has_bit};
 ghost use Rattle.noc_router.specs.Counts.{one_at, one_if};
 ghost use Rattle.noc_router.specs.Verdict.{column, is_event};
@@ -25,7 +25,7 @@ pub(crate) struct VerdictSets {
 }
 
 impl VerdictSets {
-    ghost use Rattle.noc_router.specs.VerdictSets.{sets_with, verdict_by};
+    ghost use Rattle.noc_router.specs.VerdictSets.{first_in, sets_with, verdict_by};
     ghost use Rattle.noc_router.specs.declared.verdict.Verdict.TheVariants.{Empty};
 
     // Every channel is empty.
@@ -63,6 +63,24 @@ impl VerdictSets {
             self.no_credit,
             self.lost_input,
             self.lost_switch,
+        ]
+    }
+
+    // The channels with each verdict but Empty, and that verdict. A channel in several sets has the verdict of the first.
+    pub(crate) fn with_verdicts(&self) -> [(ChannelSet, Verdict); 9]
+        ensures count { length result ≡ 9 }
+        ensures verdicts { (k : ℕ) → first_in result k ≡ verdict_by self.now k }
+    {
+        [
+            (self.moved, Verdict::Moved),
+            (self.granted, Verdict::Granted),
+            (self.routed, Verdict::Routed),
+            (self.no_flit, Verdict::NoFlit),
+            (self.no_idle_channel, Verdict::NoIdleChannel),
+            (self.lost_channel, Verdict::LostChannel),
+            (self.no_credit, Verdict::NoCredit),
+            (self.lost_input, Verdict::LostInput),
+            (self.lost_switch, Verdict::LostSwitch),
         ]
     }
 

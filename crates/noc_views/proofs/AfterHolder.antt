@@ -9,7 +9,7 @@ use Rattle.noc_model.specs.Network.{Setup, State, Located, Place, Source, On, In
 use Rattle.noc_ownership.proofs.BufferLemmas.{same_channel-refl, same_channel-true}
 use Rattle.noc_ownership.proofs.MoveLemmas.{IsFirst, IsMoved, moved-or-not}
 use Rattle.noc_ownership.proofs.PathLemmas.{IsEject}
-use Rattle.noc_ownership.proofs.PlaceLemmas.{IsValid, flit-there}
+use Rattle.noc_ownership.proofs.PlaceLemmas.{IsValid, flit-there, is_on-is}
 use Rattle.noc_ownership.proofs.RoutedRecord.{IsHeld}
 use Rattle.noc_ownership.proofs.SourceOf.{has-source}
 use Rattle.noc_ownership.proofs.WormRecord.{IsPlaced, goal, last_of, far_of, valid-last}
@@ -20,11 +20,11 @@ use Rattle.noc_ownership.proofs.InjectionRoom.{filter-none}
 use Rattle.noc_ownership.proofs.OwnedLemmas.{idle-none}
 use Rattle.noc_ownership.proofs.RoomLemmas.{unowned-empty}
 use Rattle.noc_ownership.proofs.VerdictPhase.{tail-of}
+use Rattle.noc_ownership.proofs.NextLemmas.{one-next}
 use Rattle.noc_views.proofs.AfterInput.{given-empty}
 use Rattle.noc_views.proofs.AfterNext.{next-owned, routed-after}
 use Rattle.noc_views.proofs.AfterOutput.{on-none}
 use Rattle.noc_views.proofs.ComeLemmas.{count-all}
-use Rattle.noc_views.proofs.NextLemmas.{one-next}
 use Rattle.noc_views.proofs.Ordered.{IsGood, IsOrderedFrozen}
 use Rattle.noc_views.proofs.PlaceLemmas.{input-at}
 use Rattle.noc_views.proofs.SourceLemmas.{at-router, source-is, not-end}
@@ -36,12 +36,6 @@ module _ (net : Setup) (good : IsGood net) (F : State) (x : IsOrderedFrozen net 
   -- whether the tail has been sent on o
   abbrev pub is_sent_on : State → Channel → ℕ → Bool
   is_sent_on S o p = is_on o (tail_place net S p) || has_come net o (goal net p) (tail_place net S p)
-
-  is_on-is : (o : Channel) (y : Place) → is_on o y ≡ true → y ≡ On o
-  is_on-is o Source e = absurd (false≢true e)
-  is_on-is o (On d) e = ap On (sym (same_channel-true o d e))
-  is_on-is o (In d) e = absurd (false≢true e)
-  is_on-is o (Out k) e = absurd (false≢true e)
 
   last : (p : ℕ) → p < length net.packets → IsValid net p (last_of net p)
   last p l = valid-last net good.built p l

@@ -14,11 +14,11 @@ use Rattle.noc_router.specs.declared.verdict.Verdict.TheVariants.{Empty, Routed,
 use Rattle.noc_model.specs.Lockstep.{seen_input, seen_phase, seen_phase_with, seen_set, is_present, come_count, last_come, has_come}
 use Rattle.noc_model.specs.Network.{Setup, State, Located, Place, place_of, packet_at, owner_of, next_channel, leads_from, has_channel, verdict_in, tail_leaves, is_released, after_verdicts, all_inputs, tail_place, is_past, count_in}
 use Rattle.noc_model.specs.Progress.{head_place}
-use Rattle.noc_ownership.proofs.MoveLemmas.{is_in-is}
 use Rattle.noc_ownership.proofs.OwnedLemmas.{owner-has, idle-none}
 use Rattle.noc_ownership.proofs.PathLemmas.{IsEject, no-inject}
 use Rattle.noc_ownership.proofs.RoutedRecord.{IsHeld, Come}
 use Rattle.noc_ownership.proofs.WormRecord.{class_of, goal}
+use Rattle.noc_ownership.proofs.PlaceLemmas.{is_in-is}
 use Rattle.noc_views.proofs.AfterLemmas.{whole, wormT, WasOwned, was-owned, kept, given, held-kept, tail-past, count-kept}
 use Rattle.noc_views.proofs.AfterNext.{routed-after, next-kept}
 use Rattle.noc_views.proofs.ComeLemmas.{count-none, count-all}
@@ -65,7 +65,7 @@ module _ (net : Setup) (good : IsGood net) (F : State) (x : IsOrderedFrozen net 
       at true e = absurd (by (Rattle.std.proofs.lemmas.Bool.or_cases (Rattle.noc_model.specs.Network.is_in c (head_place net T p)) (is_past net c (goal net p) (head_place net T p)) e))
         where
           by : (Rattle.noc_model.specs.Network.is_in c (head_place net T p) ≡ true) ⊎ (is_past net c (goal net p) (head_place net T p) ≡ true) → ⊥
-          by (inl k) = come (is_past net c (goal net p) (tail_place net T p)) refl (inl (is_in-is net good.built F x.whole.sound.keyed x.whole.sound.worm c (head_place net T p) k))
+          by (inl k) = come (is_past net c (goal net p) (tail_place net T p)) refl (inl (is_in-is c (head_place net T p) k))
           by (inr k) = come (is_past net c (goal net p) (tail_place net T p)) refl (inr k)
 
   module _ (r i : ℕ) (c : Channel) (member : Has c (all_inputs net)) where

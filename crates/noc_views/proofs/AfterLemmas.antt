@@ -10,8 +10,7 @@ use Rattle.noc_model.specs.Lockstep.{has_come, come_count}
 use Rattle.noc_router.specs.declared.verdict.Verdict.TheVariants.{Moved}
 use Rattle.noc_ownership.proofs.BufferLemmas.{same_channel-refl, same_channel-true}
 use Rattle.noc_ownership.proofs.GrantLemmas.{IsGrant, granted-is}
-use Rattle.noc_ownership.proofs.Members.{Has-append, Has-right, Has-filter, Has-filter_map}
-use Rattle.noc_views.proofs.PlaceLemmas.{Has-filter_mapped}
+use Rattle.noc_ownership.proofs.Members.{Has-append, Has-right, Has-filter, Has-filter_map, Has-filter_mapped}
 use Rattle.noc_ownership.proofs.MoveLemmas.{IsNext, IsFirst, IsMoving, IsMoved, moved-or-not, same-far, far-link, far-eject, next-no-eject}
 use Rattle.noc_ownership.proofs.PathLemmas.{IsEject}
 use Rattle.noc_ownership.proofs.PlaceLemmas.{IsValid, IsKeyed, place-of-flit, place-stepped}

@@ -16,8 +16,9 @@ use Rattle.noc_ownership.proofs.OwnedLemmas.{owner-has, of-has}
 use Rattle.noc_ownership.proofs.RoutedRecord.{IsHeld}
 use Rattle.noc_ownership.proofs.RoutedVerdicts.{has-channel}
 use Rattle.noc_ownership.proofs.WormRecord.{class_of, goal}
+use Rattle.noc_ownership.proofs.NextLemmas.{next-from}
 use Rattle.noc_views.proofs.AfterLemmas.{whole, wormT, Next, WasOwned, was-owned, kept, given, owned-kept, owned-given, held-kept}
-use Rattle.noc_views.proofs.NextLemmas.{channel-filter, channel-append, next-at, next-none, no-next}
+use Rattle.noc_views.proofs.NextLemmas.{channel-filter, channel-append, next-none, no-next}
 use Rattle.noc_views.proofs.Ordered.{IsGood, IsOrderedFrozen}
 
 module _ (net : Setup) (good : IsGood net) (F : State) (x : IsOrderedFrozen net F) (n : ℕ) where
@@ -74,7 +75,7 @@ module _ (net : Setup) (good : IsGood net) (F : State) (x : IsOrderedFrozen net 
       at : (o : Option Channel) → next_channel net F c ≡ o → next_channel net (after_verdicts net n F) c ≡ next_channel net F c
       at (Some o) k =
           let m = next-is net good.built F x.whole.sound.keyed x.whole.sound.worm p c o h.0 k in
-          next-at net good.built (after_verdicts net n F) (whole net good F x n).sound.keyed (wormT net good F x n) p c o mine (record { owns = next-owned p c o h.0 m e; leads = m.leads }) ∙ sym k
+          next-from net good.built (after_verdicts net n F) (whole net good F x n).sound.keyed (wormT net good F x n) p c o mine (record { owns = next-owned p c o h.0 m e; leads = m.leads }) ∙ sym k
       at None k = next-none net good.built (after_verdicts net n F) (whole net good F x n).sound.keyed (wormT net good F x n) p c mine (λ o m. by o m (was-owned net good F x n o p m.owns)) ∙ sym k
         where
           by : (o : Channel) → IsNext net good.built (after_verdicts net n F) (whole net good F x n).sound.keyed (wormT net good F x n) p c o → WasOwned net good F x n o p → ⊥
@@ -88,4 +89,4 @@ module _ (net : Setup) (good : IsGood net) (F : State) (x : IsOrderedFrozen net 
   pub next-given : (p : ℕ) (c o : Channel) → Has c (all_inputs net) → granted_pair net F c ≡ Some (o, p) → IsGrant net F c o p → next_channel net (after_verdicts net n F) c ≡ Some o
   next-given p c o h e g =
       let t = giver-kept c o p g in
-      next-at net good.built (after_verdicts net n F) (whole net good F x n).sound.keyed (wormT net good F x n) p c o t.0 (record { owns = owned-given net good F x n c o p h e; leads = t.1 })
+      next-from net good.built (after_verdicts net n F) (whole net good F x n).sound.keyed (wormT net good F x n) p c o t.0 (record { owns = owned-given net good F x n c o p h e; leads = t.1 })

@@ -1,17 +1,18 @@
 -- After the verdicts: how many flits are on a wire and in a buffer, and how many credits there are.
 use Rattle.std.proofs.Common.{◌≡◌, ℕ, zero, suc, ◌+◌, ◌-◌, ◌≤◌, Bool, true, false, length, refl, ap, sym, ◌∙◌, inl, inr, subst, arith}
-use Rattle.std.specs.Prelude.{◌⊎◌, ◌&&◌, if◌then◌else◌}
+use Rattle.std.specs.Prelude.{◌⊎◌, ◌&&◌}
 use Rattle.std.proofs.lemmas.Bool.{false≢true}
 use Rattle.std.proofs.lemmas.List.{length-drop}
 use Rattle.noc_topo.specs.Words.{Has}
 use Rattle.noc_route.specs.Channel.{Channel, is_link}
 use Rattle.noc_router.specs.Verdict.{is_moved}
+use Rattle.noc_router.specs.Counts.{one_if}
 use Rattle.noc_model.specs.Network.{Setup, State, Located, Place, Source, On, In, Out, place_of, is_on, is_in, count_on, count_in, credit_of, has_channel, verdict_in, next_channel, after_verdicts, all_inputs, gone_to, moved_place}
-use Rattle.noc_ownership.proofs.BufferLemmas.{same_channel-true, buffer-moved, buffer-stays, is_moved-true, next-some}
+use Rattle.noc_ownership.proofs.BufferLemmas.{buffer-moved, buffer-stays, is_moved-true, next-some}
 use Rattle.noc_ownership.proofs.InjectionRoom.{filter-none}
 use Rattle.noc_ownership.proofs.Members.{Has-mapped, Has-map}
 use Rattle.noc_ownership.proofs.MoveLemmas.{next-once}
-use Rattle.noc_ownership.proofs.PlaceLemmas.{place-of-flit}
+use Rattle.noc_ownership.proofs.PlaceLemmas.{place-of-flit, is_on-is}
 use Rattle.noc_ownership.proofs.RoomLemmas.{count-one_more, filter-some, Gains}
 use Rattle.noc_ownership.proofs.RoutedVerdicts.{has-channel}
 use Rattle.noc_ownership.proofs.VerdictRoom.{comes-on, moved-facts, sorted-distinct}
@@ -20,21 +21,12 @@ use Rattle.noc_views.proofs.NextLemmas.{channel-filter}
 use Rattle.noc_views.proofs.Ordered.{IsGood, IsOrderedFrozen}
 use Rattle.noc_views.proofs.SourceLemmas.{same-owner, next-owner, not-end}
 
-abbrev pub one_if : Bool → ℕ
-one_if b = if b then 1 else 0
-
 module _ (net : Setup) (good : IsGood net) (F : State) (x : IsOrderedFrozen net F) (n : ℕ) where
   abbrev T : State
   T = after_verdicts net n F
 
   abbrev Goes : ℕ → ℕ → Channel → Channel → Type 0
   Goes p i c o = Moves net good F x n p i c o
-
-  is_on-is : (o : Channel) (y : Place) → is_on o y ≡ true → y ≡ On o
-  is_on-is o Source e = absurd (false≢true e)
-  is_on-is o (On d) e = ap On (sym (same_channel-true o d e))
-  is_on-is o (In d) e = absurd (false≢true e)
-  is_on-is o (Out k) e = absurd (false≢true e)
 
   pub comes : (o : Channel) (f : Located) → Has f F.at → is_on o (step net good F x n f).place ≡ true → (c : Channel) × Goes f.packet f.index c o
   comes o f h e = comes-on net good.built F x.whole.sound.keyed x.whole.sound.worm n x.whole.sound.still o f h e

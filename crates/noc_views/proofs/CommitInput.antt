@@ -20,7 +20,7 @@ use Rattle.noc_router.specs.declared.verdict.Verdict.TheVariants.{Empty, Routed,
 use Rattle.noc_router.specs.declared.verdict.Finding.{Finding}
 use Rattle.noc_router.proofs.PlanFacts.{verdict-moved, verdict-granted, verdict-routed}
 use Rattle.noc_model.specs.Lockstep.{finding_in, seen_flits, seen_input, seen_phase, seen_phase_with, seen_set}
-use Rattle.noc_model.specs.Network.{Setup, State, Located, size, arriving, leaving, packet_at, place_of, owner_of, next_channel, has_channel, has_credit, ask, claim_of, claim_with, verdict_in, round_at, count_in, buffer_of, first_in, is_in, is_tail, tail_leaves, after_verdicts, granted_pair, granted_at, end_of}
+use Rattle.noc_model.specs.Network.{Setup, State, Located, size, arriving, leaving, packet_at, place_of, owner_of, next_channel, has_channel, has_credit_in, ask, claim_of, claim_with, verdict_in, round_at, count_in, buffer_of, first_in, is_in, is_tail, tail_leaves, after_verdicts, granted_pair, granted_at, end_of}
 use Rattle.noc_ownership.proofs.BufferLemmas.{find-passes, buffer-moved, buffer-stays, is_moved-true}
 use Rattle.noc_ownership.proofs.GrantLemmas.{IsGrant, granted-is}
 use Rattle.noc_ownership.proofs.Members.{Has-kept, find-has}
@@ -78,17 +78,17 @@ module _ (net : Setup) (F : State) (r : ℕ) (c : Channel) where
       at : (b : Bool) → has_channel F.routed c ≡ b → (next : Option Channel) → next_channel net F c ≡ next → (has_channel F.routed c ≡ true) × (next_channel net F c ≡ None) × (ask net F r c ≡ Some o)
       at false k next m = let z : Unrouted ≡ Waits (Some o) = sym (rw k refl) ∙ e in absurd (cc z)
       at true k None m = let z : Waits (ask net F r c) ≡ Waits (Some o) = sym (rw (k, m) refl) ∙ e in (k, m, cc)
-      at true k (Some q) m = let z : Holds (output_index net.relation.grid net.relation.vcs q) (has_credit net F q) ≡ Waits (Some o) = sym (rw (k, m) refl) ∙ e in absurd (cc z)
+      at true k (Some q) m = let z : Holds (output_index net.relation.grid net.relation.vcs q) (has_credit_in net F q) ≡ Waits (Some o) = sym (rw (k, m) refl) ∙ e in absurd (cc z)
 
-  pub claim-holds : (o : ℕ) (b : Bool) → claim_of net F r c ≡ Holds o b → (has_channel F.routed c ≡ true) × ((q : Channel) × (next_channel net F c ≡ Some q) × (output_index net.relation.grid net.relation.vcs q ≡ o) × (has_credit net F q ≡ b))
+  pub claim-holds : (o : ℕ) (b : Bool) → claim_of net F r c ≡ Holds o b → (has_channel F.routed c ≡ true) × ((q : Channel) × (next_channel net F c ≡ Some q) × (output_index net.relation.grid net.relation.vcs q ≡ o) × (has_credit_in net F q ≡ b))
   claim-holds o b e = at (has_channel F.routed c) refl (next_channel net F c) refl
     where
       at : (y : Bool) → has_channel F.routed c ≡ y → (next : Option Channel) → next_channel net F c ≡ next
-          → (has_channel F.routed c ≡ true) × ((q : Channel) × (next_channel net F c ≡ Some q) × (output_index net.relation.grid net.relation.vcs q ≡ o) × (has_credit net F q ≡ b))
+          → (has_channel F.routed c ≡ true) × ((q : Channel) × (next_channel net F c ≡ Some q) × (output_index net.relation.grid net.relation.vcs q ≡ o) × (has_credit_in net F q ≡ b))
       at false k next m = let z : Unrouted ≡ Holds o b = sym (rw k refl) ∙ e in absurd (cc z)
       at true k None m = let z : Waits (ask net F r c) ≡ Holds o b = sym (rw (k, m) refl) ∙ e in absurd (cc z)
       at true k (Some q) m =
-          let z : Holds (output_index net.relation.grid net.relation.vcs q) (has_credit net F q) ≡ Holds o b = sym (rw (k, m) refl) ∙ e in
+          let z : Holds (output_index net.relation.grid net.relation.vcs q) (has_credit_in net F q) ≡ Holds o b = sym (rw (k, m) refl) ∙ e in
           (k, (q, m, cc, cc))
 
 module _ (net : Setup) (good : IsGood net) (F : State) (x : IsOrderedFrozen net F) (n r : ℕ) (l : r < nodes net.relation.grid) (v : View) (seen : IsSeen net F r v) where

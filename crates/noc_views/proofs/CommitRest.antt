@@ -18,11 +18,12 @@ use Rattle.noc_ownership.proofs.InjectionState.{waiting-is}
 use Rattle.noc_ownership.proofs.PathLemmas.{no-inject}
 use Rattle.noc_ownership.proofs.VerdictPhase.{inject-kept, tail-of}
 use Rattle.noc_ownership.proofs.WormRecord.{class_of, goal}
+use Rattle.noc_ownership.proofs.Members.{any-same}
 use Rattle.noc_views.proofs.AfterLemmas.{whole, wormT, step, goes, Goes, stays, moves, was-owned, WasOwned, kept, given}
 use Rattle.noc_views.proofs.CommitInput.{decided-none, decided-some}
 use Rattle.noc_views.proofs.Ordered.{IsGood, IsOrderedFrozen}
 use Rattle.noc_views.proofs.Phases.{verdict_by}
-use Rattle.noc_views.proofs.SourceState.{any-same, any-map, injection-at, injection-own, injection-none, waiting-same}
+use Rattle.noc_views.proofs.SourceState.{any-map, injection-at, injection-own, injection-none, waiting-same}
 use Rattle.noc_views.proofs.StandLemmas.{InputCase, none, some, input-case, findings-are}
 use Rattle.noc_views.proofs.StepLemmas.{count-step, any-step}
 use Rattle.noc_views.specs.Seen.{IsSeen}

@@ -2,32 +2,20 @@
 use Rattle.std.proofs.Common.{◌≡◌, ℕ, zero, suc, ◌+◌, ◌-◌, ◌^◌, ◌<◌, Bool, true, cond, List, [], ◌∷◌, ◌++◌, length, get_or, set, sum, refl, ap, sym, ◌∙◌, arith, inl, inr, add-one, add-zero, zero-add}
 use Rattle.std.specs.Prelude.{count_by, nat_eq, ◌⊎◌, nat_lt}
 use Rattle.std.proofs.lemmas.Bool.{cases_eq, lt-ltb, eq-eqb, ne_eqb}
-use Rattle.std.proofs.lemmas.List.Sums.{sum_by-append, sum_by-set}
+use Rattle.std.proofs.lemmas.List.Sums.{sum_by-append}
 use Rattle.std.proofs.lemmas.List.{length-set, get_or-set_same, get_or-set_other}
 use Rattle.noc_topo.specs.Words.{below, tabulate}
 use Rattle.noc_topo.proofs.WordLemmas.{get_or-tabulate, length-tabulate, tabulate-from_each, below-next}
 use Rattle.noc_router.specs.Verdict.{column}
 use Rattle.noc_router.specs.View.{counted}
 use Rattle.noc_router.specs.declared.verdict.Verdict.{Verdict}
-use Rattle.noc_router.specs.declared.verdict.Verdict.TheVariants.{Empty, Routed, Granted, Moved, NoFlit, NoIdleChannel, LostChannel, NoCredit, LostInput, LostSwitch}
+use Rattle.noc_router.proofs.CountLemmas.{column-small, sum-raised}
 
 abbrev pub counts_of : (ℕ → Verdict) → ℕ → List ℕ
 counts_of verdict n = tabulate 10 (λ k. count_by (λ m. nat_eq (column (verdict m)) k) (below n))
 
 count-next : (t : ℕ → Bool) (xs : List ℕ) (x : ℕ) → count_by t (xs ++ x ∷ []) ≡ count_by t xs + cond (t x) 1 0
 count-next t xs x = sum_by-append (λ y. cond (t y) 1 0) xs (x ∷ []) ∙ ap (λ k. count_by t xs + k) (zero-add (cond (t x) 1 0))
-
-column-below : (v : Verdict) → column v < 10
-column-below Empty = omega arith
-column-below Routed = omega arith
-column-below Granted = omega arith
-column-below Moved = omega arith
-column-below NoFlit = omega arith
-column-below NoIdleChannel = omega arith
-column-below LostChannel = omega arith
-column-below NoCredit = omega arith
-column-below LostInput = omega arith
-column-below LostSwitch = omega arith
 
 -- one more in the column of the verdict
 next-set : (verdict : ℕ → Verdict) (n : ℕ) → set (counts_of verdict n) (column (verdict n)) (get_or (counts_of verdict n) (column (verdict n)) 0 + 1) ≡ counts_of verdict (n + 1)
@@ -48,7 +36,7 @@ next-set verdict n =
     at k l (inl e) =
         let len : length (counts_of verdict n) ≡ 10 = length-tabulate 10 _ in
         let same : get_or (set (counts_of verdict n) (column (verdict n)) (get_or (counts_of verdict n) (column (verdict n)) 0 + 1)) (column (verdict n)) 0 ≡ get_or (counts_of verdict n) (column (verdict n)) 0 + 1
-        = get_or-set_same (counts_of verdict n) (column (verdict n)) _ 0 (let c = column-below (verdict n) in omega (arith, len)) in
+        = get_or-set_same (counts_of verdict n) (column (verdict n)) _ 0 (let c = column-small (verdict n) in omega (arith, len)) in
         let one : cond (nat_eq (column (verdict n)) k) 1 0 ≡ 1 = ap (λ b. cond b 1 0) (eq-eqb (column (verdict n)) k e) in
         let was = now k l in
         let will = then k in
@@ -60,11 +48,6 @@ next-set verdict n =
         get_or-set_other (counts_of verdict n) (column (verdict n)) k _ 0 (λ e. other (sym e)) ∙ now k l
         ∙ sym (then k ∙ ap (λ x. count_by (λ m. nat_eq (column (verdict m)) k) (below n) + x) none ∙ add-zero _)
 
-sum-set : (xs : List ℕ) (i : ℕ) → i < length xs → sum (set xs i (get_or xs i 0 + 1)) ≡ sum xs + 1
-sum-set xs i l =
-    let e : sum (set xs i (get_or xs i 0 + 1)) + get_or xs i 0 ≡ sum xs + (get_or xs i 0 + 1) = sum_by-set (λ x. x) xs i (get_or xs i 0 + 1) 0 l in
-    omega (arith, e)
-
 zeros : (verdict : ℕ → Verdict) → counts_of verdict 0 ≡ 0 ∷ 0 ∷ 0 ∷ 0 ∷ 0 ∷ 0 ∷ 0 ∷ 0 ∷ 0 ∷ 0 ∷ []
 unfolding tabulate below
 zeros verdict = refl
@@ -74,11 +57,11 @@ pub sum-counts : (verdict : ℕ → Verdict) (n : ℕ) → sum (counts_of verdic
 sum-counts verdict zero = ap sum (zeros verdict)
 sum-counts verdict (suc n) =
     let len : length (counts_of verdict n) ≡ 10 = length-tabulate 10 _ in
-    let low = column-below (verdict n) in
+    let low = column-small (verdict n) in
     let before = sum-counts verdict n in
     let next : counts_of verdict (suc n) ≡ counts_of verdict (n + 1) = ap (counts_of verdict) (sym (add-one n)) in
     let more : sum (set (counts_of verdict n) (column (verdict n)) (get_or (counts_of verdict n) (column (verdict n)) 0 + 1)) ≡ sum (counts_of verdict n) + 1
-    = sum-set (counts_of verdict n) (column (verdict n)) (omega (arith, len)) in
+    = sum-raised (counts_of verdict n) (column (verdict n)) (omega (arith, len)) in
     let all : sum (counts_of verdict (suc n)) ≡ sum (counts_of verdict n) + 1 = ap sum (next ∙ sym (next-set verdict n)) ∙ more in
     omega (arith, all, before)
 

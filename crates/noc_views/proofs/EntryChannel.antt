@@ -20,8 +20,9 @@ use Rattle.noc_ownership.proofs.PathLemmas.{IsEject}
 use Rattle.noc_ownership.proofs.PlaceLemmas.{IsValid, place-of-flit, flit-there}
 use Rattle.noc_ownership.proofs.RoutedRecord.{IsHeld}
 use Rattle.noc_ownership.proofs.Unmixed.{in-buffer}
-use Rattle.noc_ownership.proofs.Members.{Has-kept}
+use Rattle.noc_ownership.proofs.Members.{Has-kept, Has-filter_mapped}
 use Rattle.noc_ownership.proofs.WormRecord.{IsPlaced, goal, valid-below}
+use Rattle.noc_ownership.proofs.OpeningLemmas.{below-has}
 use Rattle.noc_views.proofs.AfterInput.{made, seen-held}
 use Rattle.noc_views.proofs.ComeLemmas.{come-level}
 use Rattle.noc_views.proofs.EntryLemmas.{T, step, keyed, worm, wormT, keyedT, routedT, Enters, Moved, moved, still, enters, to-place, owned-left}
@@ -29,7 +30,6 @@ use Rattle.noc_views.proofs.EntryView.{phase-same, injected-keeps}
 use Rattle.noc_views.proofs.KeyLemmas.{count-places}
 use Rattle.noc_views.proofs.NextLemmas.{owner-at}
 use Rattle.noc_views.proofs.Ordered.{IsGood, IsOrderedFrozen}
-use Rattle.noc_views.proofs.PlaceLemmas.{has-below, Has-filter_mapped}
 use Rattle.noc_views.proofs.StepLemmas.{filter-last}
 
 module _ (net : Setup) (good : IsGood net) (M : State) (x : IsOrderedFrozen net M) (n r : ℕ) (l : r < nodes net.relation.grid) (one : Injection net) (found : injection_at net M n r ≡ Some one) where
@@ -40,7 +40,7 @@ module _ (net : Setup) (good : IsGood net) (M : State) (x : IsOrderedFrozen net 
   c = one.channel
 
   pub member : Has one (injections net M n)
-  member = Has-filter_mapped (injection_at net M n) r one (below (nodes net.relation.grid)) (has-below r (nodes net.relation.grid) l) found
+  member = Has-filter_mapped (injection_at net M n) r one (below (nodes net.relation.grid)) (below-has r (nodes net.relation.grid) l) found
 
   pub is_entry : IsEntry net good.built M.own (place_of net M) (worm net good M x n) r one
   is_entry = entry-of net good.built M (keyed net good M x n) (worm net good M x n) n r one found

@@ -9,7 +9,7 @@ use Rattle.noc_model.specs.Lockstep.{has_come, come_count}
 use Rattle.noc_model.specs.Network.{Setup, State, Located, Place, Source, In, Injection, place_of, owner_of, owned_by, next_channel, leads_from, injections, injected_place, after_injection}
 use Rattle.noc_model.specs.Progress.{hops}
 use Rattle.noc_ownership.proofs.BufferLemmas.{same_channel-true}
-use Rattle.noc_ownership.proofs.InjectionPhase.{IsEntry, IsEntered, IsInjected}
+use Rattle.noc_ownership.proofs.InjectionPhase.{IsEntry, IsEnteredBy, IsInjected}
 use Rattle.noc_ownership.proofs.InjectionState.{all_entries, entries-are, entries-apart, entries-move, worm-after_injection, keyed-after_injection}
 use Rattle.noc_ownership.proofs.Members.{Has-left}
 use Rattle.noc_ownership.proofs.MoveLemmas.{IsNext, next-is}
@@ -19,7 +19,8 @@ use Rattle.noc_ownership.proofs.PlaceLemmas.{IsKeyed, IsValid, place-of-flit, pl
 use Rattle.noc_ownership.proofs.RoutedInjection.{split, is-new, added, routed-injection}
 use Rattle.noc_ownership.proofs.RoutedRecord.{IsHeld, IsRoutedFrozen}
 use Rattle.noc_ownership.proofs.WormRecord.{IsWorm, IsNear, goal, last_of, far_of}
-use Rattle.noc_views.proofs.NextLemmas.{owner-at, owner-none, next-at, next-none, no-next}
+use Rattle.noc_ownership.proofs.NextLemmas.{next-from}
+use Rattle.noc_views.proofs.NextLemmas.{owner-at, owner-none, next-none, no-next}
 use Rattle.noc_views.proofs.Ordered.{IsGood, IsOrderedFrozen}
 use Rattle.noc_views.proofs.StepLemmas.{count-step}
 
@@ -49,7 +50,7 @@ module _ (net : Setup) (good : IsGood net) (M : State) (x : IsOrderedFrozen net 
   entry one h = entries-are net good.built M keyed worm n one h
 
   abbrev pub Enters : ℕ → Injection net → Type 0
-  Enters p one = IsEntered net good.built M.own (place_of net M) worm (all_entries net good.built M keyed worm n) (entries-are net good.built M keyed worm n) (entries-apart net good.built M keyed worm n) (place_of net T) p one
+  Enters p one = IsEnteredBy net good.built M.own (place_of net M) worm (all_entries net good.built M keyed worm n) (entries-are net good.built M keyed worm n) (entries-apart net good.built M keyed worm n) (place_of net T) p one
 
   pub data Moved (p : ℕ) : Type 0 where
     still : ((i : ℕ) → IsValid net p i → place_of net T p i ≡ place_of net M p i) → ((one : Injection net) → Has one (injections net M n) → one.packet ≢ p) → Moved p
@@ -136,7 +137,7 @@ module _ (net : Setup) (good : IsGood net) (M : State) (x : IsOrderedFrozen net 
           by : (o : Option Channel) → next_channel net M c ≡ o → next_channel net T c ≡ next_channel net M c
           by (Some o) k =
               let m = next-is net good.built M keyed worm p c o own k in
-              next-at net good.built T keyedT wormT p c o (owned-left c p own) (record { owns = owned-left o p m.owns; leads = m.leads }) ∙ sym k
+              next-from net good.built T keyedT wormT p c o (owned-left c p own) (record { owns = owned-left o p m.owns; leads = m.leads }) ∙ sym k
           by None k = next-none net good.built T keyedT wormT p c (owned-left c p own) (λ o m. was o m (was-held o p m.owns)) ∙ sym k
             where
               was : (o : Channel) → IsNext net good.built T keyedT wormT p c o → WasHeld o p → ⊥

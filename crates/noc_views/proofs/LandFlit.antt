@@ -18,7 +18,7 @@ use Rattle.noc_model.specs.Network.{Setup, State, Located, Place, Source, On, In
 use Rattle.noc_model.specs.Progress.{weight, head_place}
 use Rattle.noc_ownership.proofs.BufferLemmas.{same_channel-refl, same_channel-true, find-passes}
 use Rattle.noc_ownership.proofs.Members.{Has-kept, find-has, Has-filter}
-use Rattle.noc_ownership.proofs.PlaceLemmas.{IsValid, place-of-flit, flit-there}
+use Rattle.noc_ownership.proofs.PlaceLemmas.{IsValid, place-of-flit, flit-there, is_in-is, is_on-is}
 use Rattle.noc_ownership.proofs.RoutedRecord.{IsHeld}
 use Rattle.noc_ownership.proofs.Unmixed.{in-buffer}
 use Rattle.noc_ownership.proofs.WormRecord.{IsPlaced, goal, last_of, far_of, valid-last, valid-below}
@@ -51,18 +51,12 @@ module _ (net : Setup) (good : IsGood net) (S : State) (x : IsOrdered net S) (a 
   it : OnWire
   it = at (find (λ (g : Located). is_on (Link a b w) g.place) S.at) refl
     where
-      is_on-is : (y : Place) → is_on (Link a b w) y ≡ true → y ≡ On (Link a b w)
-      is_on-is Source e = absurd (false≢true e)
-      is_on-is (On d) e = ap On (sym (same_channel-true (Link a b w) d e))
-      is_on-is (In d) e = absurd (false≢true e)
-      is_on-is (Out k) e = absurd (false≢true e)
-
       at : (o : Option Located) → find (λ (g : Located). is_on (Link a b w) g.place) S.at ≡ o → OnWire
       at None e = absurd (none-some fl (sym (ap (option_map flit_of) e) ∙ on))
       at (Some f) e = record {
         flit = f;
         member = find-has (λ (g : Located). is_on (Link a b w) g.place) S.at f e;
-        place = is_on-is f.place (find-passes (λ (g : Located). is_on (Link a b w) g.place) S.at f e);
+        place = is_on-is (Link a b w) f.place (find-passes (λ (g : Located). is_on (Link a b w) g.place) S.at f e);
         is_flit = same_Some _ _ (sym (ap (option_map flit_of) e) ∙ on);
       }
 
@@ -255,7 +249,7 @@ module _ (net : Setup) (good : IsGood net) (S : State) (x : IsOrdered net S) (a 
               at_head true z = absurd (way (Rattle.std.proofs.lemmas.Bool.or_cases (is_in (Link a b w) (head_place net S it.flit.packet)) (is_past net (Link a b w) (goal net it.flit.packet) (head_place net S it.flit.packet)) z))
                 where
                   way : (is_in (Link a b w) (head_place net S it.flit.packet) ≡ true) ⊎ (is_past net (Link a b w) (goal net it.flit.packet) (head_place net S it.flit.packet) ≡ true) → ⊥
-                  way (inl t) = false≢true (sym e ∙ x.whole.routed.come (Link a b w) it.flit.packet holds (inl (Rattle.noc_ownership.proofs.MoveLemmas.is_in-is net good.built S (keyed net good S x) (worm net good S x) (Link a b w) (head_place net S it.flit.packet) t)) behind)
+                  way (inl t) = false≢true (sym e ∙ x.whole.routed.come (Link a b w) it.flit.packet holds (inl (is_in-is (Link a b w) (head_place net S it.flit.packet) t)) behind)
                   way (inr t) = false≢true (sym e ∙ x.whole.routed.come (Link a b w) it.flit.packet holds (inr t) behind)
 
           zero-count : come_count net S (Link a b w) it.flit.packet ≡ 0

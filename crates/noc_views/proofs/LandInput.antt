@@ -32,12 +32,6 @@ module _ (net : Setup) (good : IsGood net) (S : State) (x : IsOrdered net S) whe
   abbrev step : Located → Located
   step f = record f { place = landed_place net f.place }
 
-  is_on-is : (c : Channel) (y : Place) → is_on c y ≡ true → y ≡ On c
-  is_on-is c Source e = absurd (false≢true e)
-  is_on-is c (On d) e = ap On (sym (same_channel-true c d e))
-  is_on-is c (In d) e = absurd (false≢true e)
-  is_on-is c (Out k) e = absurd (false≢true e)
-
   -- ---- a channel on whose wire nothing is
 
   module _ (c : Channel) (none : flit_on net S c ≡ None) where

@@ -15,7 +15,8 @@ use Rattle.noc_ownership.proofs.PlaceLemmas.{IsKeyed, IsValid, place-stepped}
 use Rattle.noc_ownership.proofs.RoutedRecord.{past-earlier}
 use Rattle.noc_ownership.proofs.Sound.{IsSoundFrozen, sound-landed, sound-credits}
 use Rattle.noc_ownership.proofs.WormRecord.{IsWorm, IsPlaced, goal, last_of, far_of, valid-last}
-use Rattle.noc_views.proofs.NextLemmas.{owner-at, owner-none, next-at, next-none, no-next}
+use Rattle.noc_ownership.proofs.NextLemmas.{next-from}
+use Rattle.noc_views.proofs.NextLemmas.{owner-at, owner-none, next-none, no-next}
 use Rattle.noc_views.proofs.Ordered.{IsGood, IsOrdered}
 use Rattle.noc_views.proofs.Phases.{mid}
 
@@ -125,7 +126,7 @@ module _ (net : Setup) (good : IsGood net) (S : State) (x : IsOrdered net S) whe
       at : (o : Option Channel) → next_channel net S c ≡ o → next_channel net M c ≡ next_channel net S c
       at (Some o) k =
           let m = next-is net good.built S keyed worm p c o h k in
-          next-at net good.built M keyedM wormM p c o mine (record { owns = owned-still o p m.owns (stays o m); leads = m.leads }) ∙ sym k
+          next-from net good.built M keyedM wormM p c o mine (record { owns = owned-still o p m.owns (stays o m); leads = m.leads }) ∙ sym k
       at None k = next-none net good.built M keyedM wormM p c mine (λ o m. no-next net good.built S keyed worm p c o h k (record { owns = (owned-before o p m.owns).0; leads = m.leads })) ∙ sym k
 
   -- ---- weights

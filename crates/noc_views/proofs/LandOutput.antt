@@ -8,6 +8,7 @@ use Rattle.noc_route.specs.Channel.{Channel, Link, Inject, Eject, same_channel, 
 use Rattle.noc_vc.specs.Output.{Output, credited, credit_fits, holder_at}
 use Rattle.noc_vc.specs.declared.output.OutputState.{OutputState}
 use Rattle.noc_vc.specs.declared.output.OutputState.TheVariants.{Idle as Free, Owned, Draining}
+use Rattle.noc_router.specs.Counts.{one_if}
 use Rattle.noc_model.specs.Lockstep.{has_come, seen_output, seen_holder, seen_source}
 use Rattle.noc_model.specs.Network.{Setup, State, Located, Place, Source, On, In, Out, leaving, place_of, tail_place, is_on, is_in, is_past, owner_of, leads_from, has_channel, credit_of, count_in, count_on, landed_place, after_credits}
 use Rattle.noc_model.specs.Progress.{weight, hops}
@@ -15,12 +16,11 @@ use Rattle.noc_ownership.proofs.BufferLemmas.{same_channel-refl, same_channel-tr
 use Rattle.noc_ownership.proofs.MoveLemmas.{IsNext, far-link, far-eject}
 use Rattle.noc_ownership.proofs.OwnedLemmas.{owner-has}
 use Rattle.noc_ownership.proofs.PathLemmas.{IsEject}
-use Rattle.noc_ownership.proofs.PlaceLemmas.{IsValid, place-of-flit, flit-there}
+use Rattle.noc_ownership.proofs.PlaceLemmas.{IsValid, place-of-flit, flit-there, is_in-is, is_on-is}
 use Rattle.noc_ownership.proofs.RoomLemmas.{landed-count, filter-some}
 use Rattle.noc_ownership.proofs.RoutedRecord.{IsHeld}
 use Rattle.noc_ownership.proofs.SourceOf.{has-source}
 use Rattle.noc_ownership.proofs.WormRecord.{IsPlaced, goal, last_of, far_of, valid-last}
-use Rattle.noc_views.proofs.AfterOutput.{one_if}
 use Rattle.noc_views.proofs.ComeLemmas.{come-level}
 use Rattle.noc_views.proofs.LandLemmas.{keyed, worm, sound, keyedM, wormM, landed-tail, sent-landed, owned-still, owner-still, owner-gone, owner-freed, wire-weight}
 use Rattle.noc_views.proofs.Ordered.{IsGood, IsOrdered}
@@ -28,12 +28,6 @@ use Rattle.noc_views.proofs.Phases.{mid}
 use Rattle.noc_views.proofs.SourceLemmas.{at-router, source-is, not-end}
 
 module _ (net : Setup) (good : IsGood net) (S : State) (x : IsOrdered net S) where
-  is_on-is : (c : Channel) (y : Place) → is_on c y ≡ true → y ≡ On c
-  is_on-is c Source e = absurd (false≢true e)
-  is_on-is c (On d) e = ap On (sym (same_channel-true c d e))
-  is_on-is c (In d) e = absurd (false≢true e)
-  is_on-is c (Out k) e = absurd (false≢true e)
-
   -- ---- credits
 
   none-on : (c : Channel) → count_on net (mid net S) c ≡ 0
@@ -250,7 +244,7 @@ module _ (net : Setup) (good : IsGood net) (S : State) (x : IsOrdered net S) whe
                   where
                     left : (f : Located) → Has f (mid net S).at → is_in (Link a b w) f.place ≡ true → ⊥
                     left f h z =
-                        let in_c : f.place ≡ In (Link a b w) = Rattle.noc_ownership.proofs.MoveLemmas.is_in-is net good.built (mid net S) (keyedM net good S x) (wormM net good S x) (Link a b w) f.place z in
+                        let in_c : f.place ≡ In (Link a b w) = is_in-is (Link a b w) f.place z in
                         let there : place_of net (mid net S) f.packet f.index ≡ In (Link a b w) = place-of-flit net (mid net S) (keyedM net good S x) f h ∙ in_c in
                         let v = (keyedM net good S x).valid f h in
                         let ownM : Has (Link a b w, f.packet) (mid net S).own = subst (λ (y : Place). IsPlaced net (mid net S).own f.packet y) there ((wormM net good S x).placed f.packet f.index v) in

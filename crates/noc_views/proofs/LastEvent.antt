@@ -8,6 +8,7 @@ use Rattle.std.proofs.lemmas.List.Sums.{sum_by-cons}
 use Rattle.noc_topo.specs.Words.{Has, below, is_some_of}
 use Rattle.noc_topo.specs.Shape.{nodes}
 use Rattle.noc_route.specs.Channel.{Channel, Link, Inject, Eject, begin, is_link, same_channel}
+use Rattle.noc_route.proofs.OptionLemmas.{some-value}
 use Rattle.noc_router.specs.Verdict.{is_event}
 use Rattle.noc_router.specs.declared.verdict.Verdict.TheVariants.{Empty}
 use Rattle.noc_model.specs.Good.{IsGoodSetup}
@@ -20,9 +21,10 @@ use Rattle.noc_ownership.proofs.GrantLemmas.{Has-below}
 use Rattle.noc_ownership.proofs.Members.{Has-filter_map, Has-filter_mapped, list_any-has, list_any-from}
 use Rattle.noc_ownership.proofs.PlaceLemmas.{place-of-flit}
 use Rattle.noc_ownership.proofs.StateWords.{IsEject, IsPlaced}
+use Rattle.noc_ownership.proofs.OpeningLemmas.{below-has}
 use Rattle.noc_views.proofs.Ordered.{IsGood}
 use Rattle.noc_views.proofs.OrderedStates.{ordered-state}
-use Rattle.noc_views.proofs.PlaceLemmas.{arriving-at, arrives-in, has-below, input-at}
+use Rattle.noc_views.proofs.PlaceLemmas.{arriving-at, arrives-in, input-at}
 use Rattle.noc_views.proofs.Theorem.{good-network}
 
 pub some-counted : {X : Type 0} (t : X → Bool) (xs : List X) → 0 < count_by t xs → (x : X) × Has x xs × (t x ≡ true)
@@ -66,10 +68,6 @@ flying (Out m) e = absurd (false≢true e)
 
 is-some : {X : Type 0} (o : Option X) (x : X) → o ≡ Some x → is_some o ≡ true
 is-some o x e = ap is_some e
-
-some-is : {X : Type 0} (o : Option X) → is_some o ≡ true → (x : X) × (o ≡ Some x)
-some-is None e = absurd (false≢true e)
-some-is (Some x) e = (x, refl)
 
 module _ (net : Setup) (made : IsGoodSetup net) (n : ℕ) where
   abbrev S : State
@@ -129,7 +127,7 @@ module _ (net : Setup) (made : IsGoodSetup net) (n : ℕ) where
   turned c h e =
       let at = input-at net good c h in
       let is : verdict_in_cycle net n at.0 at.1 ≡ verdict_in net (frozen_at net n) c = ap (λ (o : Option Channel). unwrap_or (option_map (verdict_in net (frozen_at net n)) o) Empty) at.2.found in
-      (at.0, at.2.router, or_right _ _ (list_any-from (λ i. is_event (verdict_in_cycle net n at.0 i)) (below (size net)) at.1 (has-below at.1 (size net) at.2.index) (ap is_event is ∙ e)))
+      (at.0, at.2.router, or_right _ _ (list_any-from (λ i. is_event (verdict_in_cycle net n at.0 i)) (below (size net)) at.1 (below-has at.1 (size net) at.2.index) (ap is_event is ∙ e)))
 
   pub event-somewhere : 0 < events net n (state_at net n) → Somewhere
   event-somewhere some = first (cases_lt 0 (count_by (λ (f : Located). is_flying f.place) S.at))
@@ -174,8 +172,8 @@ module _ (net : Setup) (made : IsGoodSetup net) (n : ℕ) where
       before : ((list_any (λ (f : Located). flies_to net r f.place) S.at || list_any (λ c. is_some_of (begin c) r) S.back) ≡ true) ⊎ (is_some (injection_at net landed n r) ≡ true) → 0 < events net n (state_at net n)
       before (inl y) = came (or_cases _ _ y)
       before (inr y) =
-          let one = some-is (injection_at net landed n r) y in
-          let k = listed-some (injections net landed n) one.0 (Has-filter_mapped (injection_at net landed n) one.0 r (below (nodes net.relation.grid)) (has-below r (nodes net.relation.grid) low) one.1) in
+          let one = some-value (injection_at net landed n r) y in
+          let k = listed-some (injections net landed n) one.0 (Has-filter_mapped (injection_at net landed n) r one.0 (below (nodes net.relation.grid)) (below-has r (nodes net.relation.grid) low) one.1) in
           omega arith
 
       way : ((list_any (λ (f : Located). flies_to net r f.place) S.at || list_any (λ c. is_some_of (begin c) r) S.back || is_some (injection_at net landed n r)) ≡ true)

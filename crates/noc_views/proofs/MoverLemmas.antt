@@ -15,9 +15,10 @@ use Rattle.noc_model.specs.Network.{Setup, State, Located, Place, In, size, arri
 use Rattle.noc_ownership.proofs.BufferLemmas.{find-passes}
 use Rattle.noc_ownership.proofs.GrantLemmas.{IsGrant}
 use Rattle.noc_ownership.proofs.Members.{find-has}
-use Rattle.noc_ownership.proofs.MoveLemmas.{IsNext, first-is as first-of, is_in-is}
+use Rattle.noc_ownership.proofs.MoveLemmas.{IsNext, first-is as first-of}
 use Rattle.noc_ownership.proofs.OwnedLemmas.{owner-is}
 use Rattle.noc_ownership.proofs.RoutedRecord.{IsHeld}
+use Rattle.noc_ownership.proofs.PlaceLemmas.{is_in-is}
 use Rattle.noc_views.proofs.AfterLemmas.{Moves, Goes, goes, stays, moves, step}
 use Rattle.noc_views.proofs.CommitInput.{d, first-some, first-packet, claim-holds, given-at, Given, won-below}
 use Rattle.noc_views.proofs.Ordered.{IsGood, IsOrderedFrozen}
@@ -84,7 +85,7 @@ module _ (net : Setup) (good : IsGood net) (F : State) (x : IsOrderedFrozen net 
           holds : claim_of net F r c ≡ Holds o true
           holds = sym (claim-some net good F x r l v seen i c within e at) ∙ claim
 
-          next : (q : Channel) × (next_channel net F c ≡ Some q) × (output_index net.relation.grid net.relation.vcs q ≡ o) × (Rattle.noc_model.specs.Network.has_credit net F q ≡ true)
+          next : (q : Channel) × (next_channel net F c ≡ Some q) × (output_index net.relation.grid net.relation.vcs q ≡ o) × (Rattle.noc_model.specs.Network.has_credit_in net F q ≡ true)
           next = (claim-holds net F r c o true holds).1
 
           owner : (p : ℕ) × Has (c, p) F.own × IsNext net good.built F x.whole.sound.keyed x.whole.sound.worm p c next.0
@@ -105,7 +106,7 @@ module _ (net : Setup) (good : IsGood net) (F : State) (x : IsOrderedFrozen net 
           moving : Goes net good F x n f.0 → MoverTo o i
           moving (stays s not_first) = absurd (not_first c verdict (first-of net good.built F x.whole.sound.keyed x.whole.sound.worm c f.0 f.1))
           moving (moves a b m was now) =
-              let in_c : f.0.place ≡ In c = is_in-is net good.built F x.whole.sound.keyed x.whole.sound.worm c f.0.place (find-passes (λ (g : Located). is_in c g.place) F.at f.0 f.1) in
+              let in_c : f.0.place ≡ In c = is_in-is c f.0.place (find-passes (λ (g : Located). is_in c g.place) F.at f.0 f.1) in
               let z : In a ≡ In c = sym was ∙ in_c in
               let same_a : a ≡ c = cc in
               let goes_b : next_channel net F c ≡ Some b = ap (next_channel net F) (sym same_a) ∙ m.goes in

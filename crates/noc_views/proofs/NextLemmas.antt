@@ -1,20 +1,17 @@
 -- Owners and next channels of a state, from who holds what.
-use Rattle.std.proofs.Common.{◌≡◌, ℕ, Bool, true, false, List, [], ◌∷◌, ◌++◌, Option, Some, None, refl, ap, sym, ◌∙◌, inl, inr, subst, arith}
-use Rattle.std.specs.Prelude.{filter, find, option_and_then, ◌&&◌, ◌||◌}
-use Rattle.std.proofs.lemmas.Bool.{false≢true}
+use Rattle.std.proofs.Common.{◌≡◌, ℕ, Bool, true, false, List, [], ◌∷◌, ◌++◌, Option, Some, None, refl, ap, sym, ◌∙◌}
+use Rattle.std.specs.Prelude.{filter, ◌&&◌, ◌||◌}
 use Rattle.std.proofs.lemmas.Option.{none-some}
 use Rattle.noc_topo.specs.Words.{Has}
-use Rattle.noc_route.specs.Channel.{Channel, Link, Inject, Eject, same_channel}
-use Rattle.noc_model.specs.Network.{Setup, State, place_of, owner_of, owned_by, next_channel, leads_from, has_channel}
-use Rattle.noc_model.specs.Worm.{IsPath}
+use Rattle.noc_route.specs.Channel.{Channel, same_channel}
+use Rattle.noc_model.specs.Network.{Setup, State, place_of, owner_of, next_channel, has_channel}
 use Rattle.noc_ownership.proofs.BuiltRecord.{IsBuilt}
-use Rattle.noc_ownership.proofs.BufferLemmas.{find-passes, same_channel-true}
-use Rattle.noc_ownership.proofs.Members.{find-has, find-some}
-use Rattle.noc_ownership.proofs.MoveLemmas.{IsNext, same-far, far-link, far-eject, next-is}
-use Rattle.noc_ownership.proofs.OwnedLemmas.{of, of-has, has-of, owner-has, owner-is}
-use Rattle.noc_ownership.proofs.PathLemmas.{IsEject, path-tail, ends-at-eject}
+use Rattle.noc_ownership.proofs.BufferLemmas.{same_channel-true}
+use Rattle.noc_ownership.proofs.MoveLemmas.{IsNext, next-is}
+use Rattle.noc_ownership.proofs.OwnedLemmas.{owner-has, owner-is}
 use Rattle.noc_ownership.proofs.PlaceLemmas.{IsKeyed}
-use Rattle.noc_ownership.proofs.WormRecord.{IsWorm, class_of, goal}
+use Rattle.noc_ownership.proofs.WormRecord.{IsWorm}
+use Rattle.noc_ownership.proofs.NextLemmas.{next-from}
 
 -- what a filter and a join leave of a list of channels
 pub channel-filter : (t : Channel → Bool) (c : Channel) (xs : List Channel) → has_channel (filter t xs) c ≡ (has_channel xs c && t c)
@@ -55,39 +52,6 @@ module _ (net : Setup) (built : IsBuilt net) (S : State) (keyed : IsKeyed net S.
       at None e = e
       at (Some p) e = absurd (never p (owner-has net S c p e))
 
-  two-ejects : (p m u a v : ℕ) (xs : List Channel) → IsPath net (class_of net p) (goal net p) xs → Has (Eject m u) xs → Has (Eject a v) xs → Eject m u ≡ Eject a v
-  two-ejects p m u a v [] path h k = elim h [ ]
-  two-ejects p m u a v (x ∷ xs) path (inl s) (inl t) = s ∙ sym t
-  two-ejects p m u a v (x ∷ xs) path (inl s) (inr t) = absurd (after x xs path (subst (λ (y : Channel). IsEject y) s tt) (Eject a v) t)
-    where
-      after : (y : Channel) (ys : List Channel) → IsPath net (class_of net p) (goal net p) (y ∷ ys) → IsEject y → (z : Channel) → Has z ys → ⊥
-      after y [] q e z k = k
-      after y (b ∷ ys) q e z k = ends-at-eject net built (class_of net p) (goal net p) y b e q.0
-  two-ejects p m u a v (x ∷ xs) path (inr s) (inl t) = absurd (after x xs path (subst (λ (y : Channel). IsEject y) t tt) (Eject m u) s)
-    where
-      after : (y : Channel) (ys : List Channel) → IsPath net (class_of net p) (goal net p) (y ∷ ys) → IsEject y → (z : Channel) → Has z ys → ⊥
-      after y [] q e z k = k
-      after y (b ∷ ys) q e z k = ends-at-eject net built (class_of net p) (goal net p) y b e q.0
-  two-ejects p m u a v (x ∷ xs) path (inr s) (inr t) = two-ejects p m u a v xs (path-tail net built (class_of net p) (goal net p) x xs path) s t
-
-  -- a channel of a packet has one next channel at most
-  pub one-next : (c o q : Channel) (p : ℕ) → Next p c o → Next p c q → o ≡ q
-  one-next c (Link a b u) (Link d e v) p x y =
-      let f = far-link net built S keyed w p c a b u x in
-      let g = far-link net built S keyed w p c d e v y in
-      same-far net built S keyed w p (Link a b u) (Link d e v) x.owns y.owns (λ z. z) (λ z. z) (omega arith)
-  one-next c (Link a b u) (Eject d v) p x y = let f = far-link net built S keyed w p c a b u x in let g = far-eject net built S keyed w p c d v y in absurd (omega arith)
-  one-next c (Eject a u) (Link d e v) p x y = let f = far-eject net built S keyed w p c a u x in let g = far-link net built S keyed w p c d e v y in absurd (omega arith)
-  one-next c (Eject a u) (Eject d v) p x y = two-ejects p a u d v (of p S.own) (w.path p) (has-of (Eject a u) p S.own x.owns) (has-of (Eject d v) p S.own y.owns)
-  one-next c (Inject a u) q p x y = absurd (false≢true x.leads)
-  one-next c o (Inject a u) p x y = absurd (false≢true y.leads)
-
-  pub next-at : (p : ℕ) (c o : Channel) → Has (c, p) S.own → Next p c o → next_channel net S c ≡ Some o
-  next-at p c o h m =
-      let r = find-some (leads_from net c) (owned_by net S p) o (has-of o p S.own m.owns) m.leads in
-      let got : Next p c r.0 = record { owns = of-has r.0 p S.own (find-has (leads_from net c) (owned_by net S p) r.0 r.1); leads = find-passes (leads_from net c) (owned_by net S p) r.0 r.1 } in
-      ap (option_and_then (λ q. find (leads_from net c) (owned_by net S q))) (owner-at c p h) ∙ r.1 ∙ ap Some (one-next c r.0 o p got m)
-
   pub next-none : (p : ℕ) (c : Channel) → Has (c, p) S.own → ((o : Channel) → Next p c o → ⊥) → next_channel net S c ≡ None
   next-none p c h never = at (next_channel net S c) refl
     where
@@ -96,4 +60,4 @@ module _ (net : Setup) (built : IsBuilt net) (S : State) (keyed : IsKeyed net S.
       at (Some o) e = absurd (never o (next-is net built S keyed w p c o h e))
 
   pub no-next : (p : ℕ) (c o : Channel) → Has (c, p) S.own → next_channel net S c ≡ None → Next p c o → ⊥
-  no-next p c o h e m = none-some o (sym e ∙ next-at p c o h m)
+  no-next p c o h e m = none-some o (sym e ∙ next-from net built S keyed w p c o h m)

@@ -1,8 +1,8 @@
 -- Where channels are: the input channel with an index, and the index of an output channel.
-use Rattle.std.proofs.Common.{◌≡◌, ℕ, zero, suc, ◌+◌, ◌*◌, ◌/◌, ◌%◌, ◌<◌, ◌≤◌, Bool, true, false, cond, List, [], ◌∷◌, Option, Some, None, refl, ap, sym, ◌∙◌, inl, inr, subst, arith}
-use Rattle.std.specs.Prelude.{◌⊎◌, nat_eq, nat_lt, option_map, ◌&&◌}
-use Rattle.std.specs.List.{flat_map, filter_map, cons_option, range_with_len}
-use Rattle.std.proofs.lemmas.Bool.{eqb-true, eq-eqb, ne_eqb, lt-ltb, eqb-false, cases_eq}
+use Rattle.std.proofs.Common.{◌≡◌, ℕ, ◌+◌, ◌*◌, ◌/◌, ◌%◌, ◌<◌, ◌≤◌, Bool, true, false, cond, Option, Some, None, refl, ap, sym, ◌∙◌, subst, arith}
+use Rattle.std.specs.Prelude.{nat_eq, nat_lt, option_map, ◌&&◌}
+use Rattle.std.specs.List.{filter_map}
+use Rattle.std.proofs.lemmas.Bool.{eqb-true, eq-eqb, ne_eqb, lt-ltb, eqb-false}
 use Rattle.std.proofs.lemmas.Option.{none-some, same_Some}
 use Rattle.std.proofs.lemmas.Nat.{div-add-mod', div-mul-add, mod-mul-add}
 use Rattle.std.proofs.Math.Nat.{div-lt_iff_lt-mul, mod-lt}
@@ -14,43 +14,10 @@ use Rattle.noc_route.specs.Channel.{Channel, Link, Inject, Eject, arrival_of, be
 use Rattle.noc_route.specs.Routes.{is_sent, permits, permits_at, set_at}
 use Rattle.noc_model.specs.Network.{Setup, size, arriving, leaving, all_inputs}
 use Rattle.noc_ownership.proofs.GrantLemmas.{Has-below}
-use Rattle.noc_ownership.proofs.Members.{Has-append, Has-left, Has-right, Has-filter_map}
+use Rattle.noc_ownership.proofs.Members.{Has-filter_map, Has-flat_map, Has-flat_mapped, Has-filter_mapped}
 use Rattle.noc_ownership.proofs.PathLemmas.{IsEject}
+use Rattle.noc_ownership.proofs.OpeningLemmas.{below-has}
 use Rattle.noc_views.proofs.Ordered.{IsGood}
-
-pub Has-flat_map : {X Y : Type 0} (f : X → List Y) (y : Y) (xs : List X) → Has y (flat_map f xs) → (x : X) × Has x xs × Has y (f x)
-Has-flat_map f y [] h = elim h [ ]
-Has-flat_map {X = X} {Y = Y} f y (x ∷ xs) h = at (Has-append y (f x) (flat_map f xs) h) (Has-flat_map f y xs)
-  where
-    at : Has y (f x) ⊎ Has y (flat_map f xs) → (Has y (flat_map f xs) → (z : X) × Has z xs × Has y (f z)) → (z : X) × Has z (x ∷ xs) × Has y (f z)
-    at (inl k) rest = (x, inl refl, k)
-    at (inr k) rest = let r = rest k in (r.0, inr r.1, r.2)
-
-pub Has-flat_mapped : {X Y : Type 0} (f : X → List Y) (x : X) (y : Y) (xs : List X) → Has x xs → Has y (f x) → Has y (flat_map f xs)
-Has-flat_mapped f x y [] h k = elim h [ ]
-Has-flat_mapped f x y (z ∷ xs) (inl e) k = Has-left y (f z) (flat_map f xs) (subst (λ w. Has y (f w)) e k)
-Has-flat_mapped f x y (z ∷ xs) (inr h) k = Has-right y (f z) (flat_map f xs) (Has-flat_mapped f x y xs h k)
-
-range-has : (i a n : ℕ) → a ≤ i → i < a + n → Has i (range_with_len a n)
-range-has i a zero l u = absurd (omega arith)
-range-has i a (suc n) l u = at (cases_eq i a) (λ k. range-has i (a + 1) n k (omega arith))
-  where
-    at : (i ≡ a) ⊎ (i ≡ a → ⊥) → (a + 1 ≤ i → Has i (range_with_len (a + 1) n)) → Has i (range_with_len a (suc n))
-    at (inl e) rest = inl e
-    at (inr k) rest = inr (rest (omega arith))
-
-pub has-below : (i n : ℕ) → i < n → Has i (below n)
-unfolding below
-has-below i n l = range-has i 0 n (omega arith) (omega arith)
-
-pub Has-filter_mapped : {X Y : Type 0} (h : X → Option Y) (x : X) (y : Y) (xs : List X) → Has x xs → h x ≡ Some y → Has y (filter_map h xs)
-Has-filter_mapped h x y [] k e = elim k [ ]
-Has-filter_mapped h x y (z ∷ xs) (inl s) e = let k : h z ≡ Some y = ap h (sym s) ∙ e in rw k (inl refl)
-Has-filter_mapped {Y = Y} h x y (z ∷ xs) (inr k) e = at (h z) (Has-filter_mapped h x y xs k e)
-  where
-    at : (o : Option Y) → Has y (filter_map h xs) → Has y (cons_option o (filter_map h xs))
-    at None m = m
-    at (Some a) m = inr m
 
 module _ (net : Setup) (good : IsGood net) where
   abbrev vcs : ℕ
@@ -119,8 +86,8 @@ module _ (net : Setup) (good : IsGood net) where
   pub arrives-in : {r i : ℕ} {c : Channel} → IsAt r i c → Has c (all_inputs net)
   unfolding inputs
   arrives-in {r = r} {i = i} {c = c} at =
-      Has-flat_mapped (λ r. filter_map (input_at net.relation.grid vcs r) (below (ports net.relation.grid * vcs))) r c (below (nodes net.relation.grid)) (has-below r (nodes net.relation.grid) at.router)
-      (Has-filter_mapped (input_at net.relation.grid vcs r) i c (below (ports net.relation.grid * vcs)) (has-below i (ports net.relation.grid * vcs) at.index) at.found)
+      Has-flat_mapped (λ r. filter_map (input_at net.relation.grid vcs r) (below (ports net.relation.grid * vcs))) r c (below (nodes net.relation.grid)) (below-has r (nodes net.relation.grid) at.router)
+      (Has-filter_mapped (input_at net.relation.grid vcs r) i c (below (ports net.relation.grid * vcs)) (below-has i (ports net.relation.grid * vcs) at.index) at.found)
 
   -- .. and no ejection channel
   pub not-eject : {r i : ℕ} {c : Channel} → IsAt r i c → IsEject c → ⊥

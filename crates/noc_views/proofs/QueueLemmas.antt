@@ -12,8 +12,8 @@ use Rattle.noc_ownership.proofs.FirstOfNode.{Precedes, least_by-first}
 use Rattle.noc_ownership.proofs.GrantLemmas.{Has-below}
 use Rattle.noc_ownership.proofs.InjectionState.{least_by-has}
 use Rattle.noc_ownership.proofs.Members.{each-at, each-from, Has-filter, Has-kept, Pairs-filter}
+use Rattle.noc_ownership.proofs.OpeningLemmas.{below-has, below-rises}
 use Rattle.noc_views.proofs.CommitEnds.{enumerate-has, enumerate-member}
-use Rattle.noc_views.proofs.PlaceLemmas.{has-below}
 
 -- a comes before b: it is due before it, or as early with a smaller number
 abbrev pub IsAhead : ℕ × Packet → ℕ × Packet → Type 0
@@ -101,9 +101,6 @@ unfolding least_by
 some_least key [] y h e = h
 some_least key (x ∷ xs) y h e = none-some _ (sym e)
 
-below-less : (n : ℕ) → Pairs (λ (a b : ℕ). a < b) (below n)
-below-less n = Rattle.noc_ownership.proofs.OpeningLemmas.below-rises n
-
 module _ (net : Setup) (S : State) (r : ℕ) where
   abbrev pub waits : ℕ → Bool
   waits p = list_any (λ (f : Located). is_at_source f.place) (flits_of net S p)
@@ -165,7 +162,7 @@ module _ (net : Setup) (S : State) (r : ℕ) where
           known = in-starts one mine.0
 
           listed : Has one.0 (filter test (below (length net.packets)))
-          listed = Has-kept test one.0 (below (length net.packets)) (has-below one.0 (length net.packets) known.0) (and_from _ _ (eq-eqb _ _ known.2) mine.1)
+          listed = Has-kept test one.0 (below (length net.packets)) (below-has one.0 (length net.packets) known.0) (and_from _ _ (eq-eqb _ _ known.2) mine.1)
 
           is_one : one ≡ (one.0, packet_at net one.0)
           is_one = ap (λ (p : Packet). (one.0, p)) known.1
@@ -188,7 +185,7 @@ module _ (net : Setup) (S : State) (r : ℕ) where
           first (Some p) e = front one.0 rest (q ∙ ap (λ (y : ℕ × Packet). y ∷ rest) is_one) (e ∙ ap Some same) others (λ z h. subst (λ (y : ℕ × Packet). IsAhead y z) is_one (each-at (IsAhead one) rest z ahead.0 h))
             where
               precedes : Precedes (λ q. (packet_at net q).due) p one.0
-              precedes = least_by-first (λ q. (packet_at net q).due) (filter test (below (length net.packets))) p one.0 (Pairs-filter (λ (a b : ℕ). a < b) test (below (length net.packets)) (below-less (length net.packets))) e listed
+              precedes = least_by-first (λ q. (packet_at net q).due) (filter test (below (length net.packets))) p one.0 (Pairs-filter (λ (a b : ℕ). a < b) test (below (length net.packets)) (below-rises (length net.packets))) e listed
 
               place : Has (p, packet_at net p) (one ∷ rest)
               place = subst (λ (xs : List (ℕ × Packet)). Has (p, packet_at net p) xs) q (waiting-in p e)

@@ -14,7 +14,7 @@ use Rattle.noc_ownership.proofs.OwnedLemmas.{owner-has, once-same}
 use Rattle.noc_ownership.proofs.PathLemmas.{IsEject}
 use Rattle.noc_ownership.proofs.PlaceLemmas.{IsKeyed}
 use Rattle.noc_ownership.proofs.WormRecord.{IsWorm}
-use Rattle.noc_views.proofs.NextLemmas.{next-at}
+use Rattle.noc_ownership.proofs.NextLemmas.{next-from}
 use Rattle.noc_views.proofs.Ordered.{IsGood}
 use Rattle.noc_views.proofs.PlaceLemmas.{IsAt, arriving-at, input-at, same-place, begins-at}
 
@@ -50,7 +50,7 @@ module _ (net : Setup) (good : IsGood net) (S : State) (keyed : IsKeyed net S.at
       here : unwrap_or (option_map (goes_on_by net S o) (arriving net r i)) false ≡ true
       here =
           ap (λ (k : Option Channel). unwrap_or (option_map (goes_on_by net S o) k) false) at.found
-          ∙ ap (λ (k : Option Channel). unwrap_or (option_map (same_channel o) k) false) (next-at net good.built S keyed w p c o h m)
+          ∙ ap (λ (k : Option Channel). unwrap_or (option_map (same_channel o) k) false) (next-from net good.built S keyed w p c o h m)
           ∙ same_channel-refl o
 
       by : (k : ℕ) → k < size net → (d : Option Channel) → arriving net r k ≡ d → unwrap_or (option_map (goes_on_by net S o) d) false ≡ true → k ≡ i

@@ -21,10 +21,6 @@ pub filter-same : {X : Type 0} (t u : X → Bool) (xs : List X) → ((y : X) →
 filter-same t u [] same = refl
 filter-same t u (x ∷ xs) same = ap (λ b. cond b (x ∷ filter t xs) (filter t xs)) (same x (inl refl)) ∙ ap (λ ys. cond (u x) (x ∷ ys) ys) (filter-same t u xs (λ y h. same y (inr h)))
 
-pub any-same : {X : Type 0} (t u : X → Bool) (xs : List X) → ((y : X) → Has y xs → t y ≡ u y) → list_any t xs ≡ list_any u xs
-any-same t u [] same = refl
-any-same t u (x ∷ xs) same = ap (λ b. b || list_any t xs) (same x (inl refl)) ∙ ap (λ b. u x || b) (any-same t u xs (λ y h. same y (inr h)))
-
 pub any-map : {X Y : Type 0} (t : Y → Bool) (f : X → Y) (xs : List X) → list_any t (map f xs) ≡ list_any (λ x. t (f x)) xs
 any-map t f [] = refl
 any-map t f (x ∷ xs) = ap (λ b. t (f x) || b) (any-map t f xs)

@@ -12,7 +12,7 @@ use Rattle.noc_packet.specs.Packet.{flit_at}
 use Rattle.noc_route.specs.Channel.{Channel, Link, Inject, Eject, is_link, output_index, arrival_of, channel_vc}
 use Rattle.noc_route.specs.Routes.{permits, set_at}
 use Rattle.noc_vc.specs.Input.{Input, is_empty}
-use Rattle.noc_vc.specs.Output.{Output, is_free, has_credit as has_credit_out}
+use Rattle.noc_vc.specs.Output.{Output, is_free, has_credit}
 use Rattle.noc_vc.specs.declared.input.InputState.TheVariants.{Idle}
 use Rattle.noc_vc.specs.declared.output.OutputState.TheVariants.{Owned, Draining}
 use Rattle.noc_router.specs.Verdict.{Claim, Unrouted, Waits, Holds, Stand, Round, Turns, round_of, verdict_of, out_of}
@@ -22,7 +22,7 @@ use Rattle.noc_router.specs.declared.verdict.Verdict.TheVariants.{Empty}
 use Rattle.noc_router.specs.declared.verdict.Finding.{Finding}
 use Rattle.noc_router.proofs.FindLemmas.{find-same}
 use Rattle.noc_model.specs.Lockstep.{site_at, seen_flits, seen_input, seen_phase, seen_phase_with, seen_set, seen_output, seen_holder, seen_source, has_come, finding_in}
-use Rattle.noc_model.specs.Network.{Setup, State, Located, size, arriving, leaving, packet_at, owner_of, next_channel, has_channel, has_credit, is_idle, ask, claim_of, claim_with, stand_of, stands_at, round_at, verdict_in, verdict_at, count_in, buffer_of, is_on, tail_place, leads_from}
+use Rattle.noc_model.specs.Network.{Setup, State, Located, size, arriving, leaving, packet_at, owner_of, next_channel, has_channel, has_credit_in, is_idle, ask, claim_of, claim_with, stand_of, stands_at, round_at, verdict_in, verdict_at, count_in, buffer_of, is_on, tail_place, leads_from}
 use Rattle.noc_ownership.proofs.MoveLemmas.{IsNext, next-is, leads-end}
 use Rattle.noc_ownership.proofs.OwnedLemmas.{owner-is}
 use Rattle.noc_views.proofs.Ordered.{IsGood, IsOrderedFrozen}
@@ -47,7 +47,7 @@ module _ (net : Setup) (good : IsGood net) (F : State) (x : IsOrderedFrozen net 
   free-output (Inject a w) = free-idle (Inject a w) (owner_of net F (Inject a w))
   free-output (Eject a w) = free-idle (Eject a w) (owner_of net F (Eject a w))
 
-  credit-output : (c : Channel) → has_credit_out (seen_output net F r c) ≡ has_credit net F c
+  credit-output : (c : Channel) → has_credit (seen_output net F r c) ≡ has_credit_in net F c
   credit-output (Link a p w) = refl
   credit-output (Inject a w) = refl
   credit-output (Eject a w) = refl
@@ -108,7 +108,7 @@ module _ (net : Setup) (good : IsGood net) (F : State) (x : IsOrderedFrozen net 
           let n = next-from i p c o at h e in
           let j : output_index net.relation.grid net.relation.vcs o ≡ n.0 = n.1.is_index in
           ap (Holds (output_index net.relation.grid net.relation.vcs o))
-          (ap (λ k. has_credit_out (view_output v k)) j ∙ ap has_credit_out (seen.output n.0 n.1.index) ∙ ap (λ d. has_credit_out (seen_output net F r d)) n.1.found ∙ credit-output o)
+          (ap (λ k. has_credit (view_output v k)) j ∙ ap has_credit (seen.output n.0 n.1.index) ∙ ap (λ d. has_credit (seen_output net F r d)) n.1.found ∙ credit-output o)
 
       by : (b : Bool) → has_channel F.routed c ≡ b → claim_in v (cond b (seen_phase_with net F r i c (next_channel net F c)) Idle) ≡ cond b (claim_with net F r c (next_channel net F c)) Unrouted
       by false e = refl

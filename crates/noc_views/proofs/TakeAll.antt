@@ -21,13 +21,14 @@ use Rattle.noc_ownership.proofs.BufferLemmas.{same_channel-refl, same_channel-tr
 use Rattle.noc_ownership.proofs.Members.{find-has, find-some, list_any-has, list_any-from}
 use Rattle.noc_ownership.proofs.PlaceLemmas.{place-of-flit}
 use Rattle.noc_ownership.proofs.WormRecord.{IsPlaced}
+use Rattle.noc_ownership.proofs.OpeningLemmas.{below-has}
 use Rattle.noc_views.proofs.CommitEnds.{map-each, ends-here}
 use Rattle.noc_views.proofs.LandInput.{flits-none, input-none}
 use Rattle.noc_views.proofs.LandLemmas.{keyed, worm, keyedM, wormM, landed-tail, owned-before, owned-still}
 use Rattle.noc_views.proofs.LandOutput.{eject-same}
 use Rattle.noc_views.proofs.Ordered.{IsGood, IsOrdered}
 use Rattle.noc_views.proofs.Phases.{mid, has_arrival, IsTaken}
-use Rattle.noc_views.proofs.PlaceLemmas.{IsAt, input-at, mod-below, OutputCase, ejects, links, output-case, has-below}
+use Rattle.noc_views.proofs.PlaceLemmas.{IsAt, input-at, mod-below, OutputCase, ejects, links, output-case}
 use Rattle.noc_views.proofs.SourceState.{injection-at, injection-own, injection-none, waiting-same, queue-same}
 use Rattle.noc_views.proofs.StepLemmas.{count-step, any-step}
 use Rattle.noc_views.proofs.TakeLemmas.{at_port, came, IsUpTo}
@@ -198,7 +199,7 @@ module _ (net : Setup) (good : IsGood net) (S : State) (x : IsOrdered net S) whe
     -- ---- whether anything comes
 
     any-below : (t : ℕ → Bool) (n k : ℕ) → k < n → t k ≡ true → list_any t (below n) ≡ true
-    any-below t n k u e = list_any-from t (below n) k (has-below k n u) e
+    any-below t n k u e = list_any-from t (below n) k (below-has k n u) e
 
     comes-is : list_any (λ port. came net good S x r l v0 port) (below (local_port net.relation.grid)) ≡ has_arrival net r S
     comes-is = same_test _ _ there back
@@ -280,7 +281,7 @@ module _ (net : Setup) (good : IsGood net) (S : State) (x : IsOrdered net S) whe
                 let port = Rattle.noc_route.proofs.BuiltLemmas.linked-port net.relation.grid r (i / net.relation.vcs) (a, b) back_link in
                 let g = find-some (λ (y : Located). is_on (Link a b c) y.place) S.at f h (ap (is_on (Link a b c)) e ∙ same_channel-refl (Link a b c)) in
                 let on : is_some (flit_on net S (Link a b c)) ≡ true = ap (λ (y : Option Located). is_some (option_map (λ (q : Located). flit_at (packet_at net q.packet) q.packet q.index) y)) g.1 in
-                let w = find-some (λ vc. is_some (flit_on net S (Link a b vc))) (below net.relation.vcs) c (has-below c net.relation.vcs low) on in
+                let w = find-some (λ vc. is_some (flit_on net S (Link a b vc))) (below net.relation.vcs) c (below-has c net.relation.vcs low) on in
                 let w_on = find-passes (λ vc. is_some (flit_on net S (Link a b vc))) (below net.relation.vcs) w.0 w.1 in
                 came-some (i / net.relation.vcs) port
                 (ap (λ (o : Option (ℕ × ℕ)). is_some (beat_by net S r (i / net.relation.vcs) o).flit || is_some (beat_by net S r (i / net.relation.vcs) o).credit) back_link
@@ -316,7 +317,7 @@ module _ (net : Setup) (good : IsGood net) (S : State) (x : IsOrdered net S) whe
             let low : c < net.relation.vcs = subst (λ j. j < net.relation.vcs) (sym i.2.vc) (mod-below net good i.1) in
             let link : neighbour net.relation.grid r b ≡ Some (i.0, i.1 / net.relation.vcs) = ap (λ j. neighbour net.relation.grid j b) (sym same) ∙ i.2.arrives in
             let port = Rattle.noc_route.proofs.BuiltLemmas.linked-port net.relation.grid r b (i.0, i.1 / net.relation.vcs) link in
-            let w = find-some (λ vc. has_channel S.back (Link r b vc)) (below net.relation.vcs) c (has-below c net.relation.vcs low) (ap (λ j. has_channel S.back (Link j b c)) (sym same) ∙ bk) in
+            let w = find-some (λ vc. has_channel S.back (Link r b vc)) (below net.relation.vcs) c (below-has c net.relation.vcs low) (ap (λ j. has_channel S.back (Link j b c)) (sym same) ∙ bk) in
             came-some b port
             (ap (λ (o : Option (ℕ × ℕ)). is_some (beat_by net S r b o).flit || is_some (beat_by net S r b o).credit) link
             ∙ or_right (is_some (beat_by net S r b (Some (i.0, i.1 / net.relation.vcs))).flit) _ (ap is_some w.1))

@@ -12,19 +12,21 @@ use Rattle.noc_topo.proofs.WordLemmas.{below-next}
 use Rattle.noc_packet.specs.declared.packet.Flit.{Flit}
 use Rattle.noc_packet.specs.declared.packet.Beat.{Beat}
 use Rattle.noc_route.specs.Channel.{Channel, Link, Inject}
+use Rattle.noc_route.proofs.OptionLemmas.{no-value}
 use Rattle.noc_vc.specs.Output.{Output, ejection_output, credited, credit_fits}
 use Rattle.noc_router.specs.View.{Site, View, has_link, view_output, with_flit, with_credit, with_misfit, taken}
 use Rattle.noc_router.proofs.FindLemmas.{find-some}
 use Rattle.noc_model.specs.Lockstep.{beat_by, flit_on, seen_output}
 use Rattle.noc_model.specs.Network.{Setup, State, Located, On, size, arriving, leaving, has_channel, is_on, packet_at}
 use Rattle.noc_packet.specs.Packet.{flit_at}
-use Rattle.noc_ownership.proofs.BufferLemmas.{find-passes, same_channel-true}
+use Rattle.noc_ownership.proofs.BufferLemmas.{find-passes}
 use Rattle.noc_ownership.proofs.Members.{find-has, find-fails}
-use Rattle.noc_ownership.proofs.PlaceLemmas.{place-of-flit, sorted-same}
+use Rattle.noc_ownership.proofs.PlaceLemmas.{place-of-flit, sorted-same, is_on-is}
+use Rattle.noc_ownership.proofs.OpeningLemmas.{below-has}
 use Rattle.noc_views.proofs.LandOutput.{link-same, link-credited, credit-fits, eject-same}
 use Rattle.noc_views.proofs.Ordered.{IsGood, IsOrdered}
 use Rattle.noc_views.proofs.Phases.{mid}
-use Rattle.noc_views.proofs.PlaceLemmas.{input-at, in-size, mod-below, has-below, OutputCase, ejects, links, output-case, link-from}
+use Rattle.noc_views.proofs.PlaceLemmas.{input-at, in-size, mod-below, OutputCase, ejects, links, output-case, link-from}
 use Rattle.noc_views.proofs.TakeLemmas.{at_port, came, IsUpTo, IsLanded, no-flit, with-flit, elsewhere, here-before, here-after, vcs-is, site-is}
 use Rattle.noc_views.specs.Seen.{IsSeen}
 
@@ -40,12 +42,6 @@ module _ (net : Setup) (good : IsGood net) (S : State) (x : IsOrdered net S) (r 
       at : (o : Option Located) → find (λ (g : Located). is_on c g.place) S.at ≡ o → (g : Located) × Has g S.at × (is_on c g.place ≡ true)
       at None z = absurd (none-some f (sym (ap (option_map (λ (g : Located). flit_at (packet_at net g.packet) g.packet g.index)) z) ∙ e))
       at (Some g) z = (g, find-has (λ (h : Located). is_on c h.place) S.at g z, find-passes (λ (h : Located). is_on c h.place) S.at g z)
-
-  is_on-is : (c : Channel) (y : Rattle.noc_model.specs.Network.Place) → is_on c y ≡ true → y ≡ On c
-  is_on-is c Rattle.noc_model.specs.Network.Source e = absurd (false≢true e)
-  is_on-is c (On d) e = ap On (sym (same_channel-true c d e))
-  is_on-is c (Rattle.noc_model.specs.Network.In d) e = absurd (false≢true e)
-  is_on-is c (Rattle.noc_model.specs.Network.Out j) e = absurd (false≢true e)
 
   one-wire : (s q a b : ℕ) (f g : Flit) → flit_on net S (Link s q a) ≡ Some f → flit_on net S (Link s q b) ≡ Some g → b ≡ a
   one-wire s q a b f g e z =
@@ -85,8 +81,8 @@ module _ (net : Setup) (good : IsGood net) (S : State) (x : IsOrdered net S) (r 
               none : (i : ℕ) → i < size net → (c : Channel) → arriving net r i ≡ Some c → i / net.relation.vcs ≡ k → flit_on net S c ≡ None
               none i u c a q =
                   let is : Link from.0 from.1 (i % net.relation.vcs) ≡ c = same_Some _ _ (sym (Rattle.noc_views.proofs.TakeLemmas.channel-at net good S x r l v0 seen k low v so_far from.0 from.1 i e q) ∙ a) in
-                  let fails = find-fails (λ vc. is_some (flit_on net S (Link from.0 from.1 vc))) (below net.relation.vcs) (i % net.relation.vcs) z (has-below (i % net.relation.vcs) net.relation.vcs (mod-below net good i)) in
-                  ap (flit_on net S) (sym is) ∙ Rattle.noc_model.proofs.PostLemmas.none_when (flit_on net S (Link from.0 from.1 (i % net.relation.vcs))) fails
+                  let fails = find-fails (λ vc. is_some (flit_on net S (Link from.0 from.1 vc))) (below net.relation.vcs) (i % net.relation.vcs) z (below-has (i % net.relation.vcs) net.relation.vcs (mod-below net good i)) in
+                  ap (flit_on net S) (sym is) ∙ no-value (flit_on net S (Link from.0 from.1 (i % net.relation.vcs))) fails
           wires (Some vc) z = flit (flit_on net S (Link from.0 from.1 vc)) refl
             where
               found : (is_some (flit_on net S (Link from.0 from.1 vc)) ≡ true) × (vc < net.relation.vcs)
@@ -283,7 +279,7 @@ module _ (net : Setup) (good : IsGood net) (S : State) (x : IsOrdered net S) (r 
               let c = credit-is ∙ z in
               let done = no-credit (is_some (beat_by net S r k (neighbour net.relation.grid r k)).flit) (with_flit net.relation k (beat_by net S r k (neighbour net.relation.grid r k)).flit v) landed
               (ap (λ (q : Option ℕ). is_some (beat_by net S r k (neighbour net.relation.grid r k)).flit || is_some q) c)
-              (λ vc u. find-fails (λ j. has_channel S.back (Link r k j)) (below net.relation.vcs) vc z (has-below vc net.relation.vcs u)) in
+              (λ vc u. find-fails (λ j. has_channel S.back (Link r k j)) (below net.relation.vcs) vc z (below-has vc net.relation.vcs u)) in
               subst (λ (q : Option ℕ). IsUpTo net good S x r l v0 (k + 1) (with_credit k q (with_flit net.relation k (beat_by net S r k (neighbour net.relation.grid r k)).flit v))) (sym c) done
           credit (Some vc) z =
               let c = credit-is ∙ z in

@@ -2,11 +2,12 @@ use Rattle.std.proofs.Common.{ℕ, ap, sym, ◌∙◌, subst}
 use Rattle.noc_topo.specs.Shape.{ports}
 use Rattle.noc_router.specs.Decided.{IsDecidedFor}
 use Rattle.noc_router.specs.View.{View, IsRelationOf, planned, committed}
-use Rattle.noc_model.proofs.StepLemmas.{IsRelationOf-same_site, site-injected}
+use Rattle.noc_router.proofs.SiteLemmas.{injected-site}
+use Rattle.noc_model.proofs.StepLemmas.{IsRelationOf-same_site}
 use Rattle.noc_net.proofs.cycles.conclude.Goals as goal
 
 pub plan-requires-clause-relation : goal.plan-requires-clause-relation
-plan-requires-clause-relation c = IsRelationOf-same_site c.args.relation.now c.args.router.now c.inject.new.self (ap (λ (v : View). v.site) c.inject.ensures ∙ site-injected c.args.cycle c.args.router.now) c.requires.router
+plan-requires-clause-relation c = IsRelationOf-same_site c.args.relation.now c.args.router.now c.inject.new.self (ap (λ (v : View). v.site) c.inject.ensures ∙ injected-site c.args.cycle c.args.router.now) c.requires.router
 
 pub plan-requires-clause-plan : goal.plan-requires-clause-plan
 plan-requires-clause-plan c =
@@ -17,14 +18,14 @@ plan-requires-clause-plan c =
 pub commit-requires : goal.commit-requires
 commit-requires c = record {
   relation = c.args.relation.now;
-  fits = IsRelationOf-same_site c.args.relation.now c.args.router.now c.inject.new.self (ap (λ (v : View). v.site) c.inject.ensures ∙ site-injected c.args.cycle c.args.router.now) c.requires.router;
+  fits = IsRelationOf-same_site c.args.relation.now c.args.router.now c.inject.new.self (ap (λ (v : View). v.site) c.inject.ensures ∙ injected-site c.args.cycle c.args.router.now) c.requires.router;
   is = c.plan.ensures.value;
 }
 
 pub returns-clause-plan : goal.returns-clause-plan
 returns-clause-plan c =
     let fits : IsRelationOf c.args.relation.now c.inject.new.self =
-    IsRelationOf-same_site c.args.relation.now c.args.router.now c.inject.new.self (ap (λ (v : View). v.site) c.inject.ensures ∙ site-injected c.args.cycle c.args.router.now) c.requires.router in
+    IsRelationOf-same_site c.args.relation.now c.args.router.now c.inject.new.self (ap (λ (v : View). v.site) c.inject.ensures ∙ injected-site c.args.cycle c.args.router.now) c.requires.router in
     subst (λ grid. IsDecidedFor (ports grid) c.args.relation.now.vcs c.plan.new.plan) (sym fits.grid)
     (subst (λ (vcs : ℕ). IsDecidedFor (ports c.inject.new.self.site.grid) vcs c.plan.new.plan) (sym fits.vcs) c.plan.ensures.lengths)
 

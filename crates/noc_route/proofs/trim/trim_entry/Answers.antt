@@ -1,6 +1,7 @@
 use Rattle.std.proofs.Common.{◌≡◌, ℕ, ◌+◌, ◌*◌, ◌<◌, true, false, get_or, set, length, subst, ap, sym, ◌∙◌, arith, refl}
 use Rattle.std.specs.Prelude.{◌&&◌, nat_eq}
 use Rattle.std.proofs.lemmas.List.{get_or_default}
+use Rattle.std.proofs.Math.Bool.{and-false}
 use Rattle.noc_topo.specs.Shape.{nodes}
 use Rattle.noc_route.specs.Order.{earlier_entry}
 use Rattle.noc_route.specs.Routes.{width}
@@ -8,7 +9,6 @@ use Rattle.noc_route.specs.Trimming.{routes_in, comes_in, comes_at, page_set, is
 use Rattle.noc_route.specs.declared.rule.Entry.{Entry}
 use Rattle.noc_route.proofs.PlaceLemmas.{page-router}
 use Rattle.noc_route.proofs.StuckLemmas.{IsFirstStuck-passed, IsStuckFirst-earlier, IsFirstStuck-emptied}
-use Rattle.noc_route.proofs.BoolLemmas.{and-false}
 use Rattle.noc_route.proofs.trim.trim_entry.Goals as goal
 
 pub is_reached-requires-clause-router : goal.is_reached-requires-clause-router

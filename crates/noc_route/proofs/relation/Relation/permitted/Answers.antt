@@ -1,6 +1,6 @@
 use Rattle.std.proofs.Common.{◌<◌, ◌∙◌, ap, sym, get_or, length, arith}
 use Rattle.std.proofs.lemmas.List.{get_or_default}
-use Rattle.noc_route.specs.Routes.{Routes, place_of}
+use Rattle.noc_route.specs.Routes.{Routes, entry_place}
 use Rattle.noc_route.proofs.PlaceLemmas.{set_at-existing}
 use Rattle.noc_route.proofs.relation.Relation.permitted.Goals as goal
 
@@ -13,5 +13,5 @@ returns-clause-value c =
     c.index.ensures
     ∙ get_or_default c.self.inside.sets.items c.place.result c.index.result.now 0 within
     ∙ ap (λ i. get_or c.self.inside.sets.items i 0) c.place.ensures.value
-    ∙ ap (λ (routes : Routes). get_or routes.sets (place_of routes.grid routes.vcs routes.classes c.args.class c.args.router c.args.in_port c.args.in_vc c.args.dst) 0) c.self.view_is
+    ∙ ap (λ (routes : Routes). get_or routes.sets (entry_place routes.grid routes.vcs routes.classes c.args.class c.args.router c.args.in_port c.args.in_vc c.args.dst) 0) c.self.view_is
     ∙ sym (set_at-existing c.args.self.now c.args.class c.args.router c.args.in_port c.args.in_vc c.args.dst c.requires.class c.requires.router c.requires.in_port c.requires.in_vc c.requires.dst)

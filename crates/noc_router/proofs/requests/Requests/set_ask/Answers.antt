@@ -1,4 +1,3 @@
-use Rattle.std.proofs.Common.{arith}
 use Rattle.noc_router.proofs.QuietLemmas.{below-put}
 use Rattle.noc_router.proofs.requests.Requests.set_ask.Goals as goal
 

@@ -1,8 +1,7 @@
-use Rattle.std.proofs.Common.{◌≡◌, ◌<◌, true, Some, None, ap, arith, set, sym, ◌∙◌}
-use Rattle.noc_packet.specs.Set.{has_bit}
+use Rattle.std.proofs.Common.{◌≡◌, ◌<◌, None, ap, arith, set, sym, ◌∙◌}
 use Rattle.noc_router.specs.Verdict.{ask_of}
 use Rattle.noc_router.specs.View.{size_of, view_claim}
-use Rattle.noc_router.proofs.FilledLemmas.{filled-last, filled-next, filled-skip}
+use Rattle.noc_router.proofs.FilledLemmas.{filled-last, filled-next}
 use Rattle.noc_router.proofs.Members.{without-member}
 use Rattle.noc_router.proofs.QuietLemmas.{least_member, none_left}
 use Rattle.noc_router.proofs.StandLemmas.{asked-view, asks_of-stands}

@@ -1,21 +1,13 @@
-use Rattle.std.proofs.Common.{◌≡◌, ℕ, true, false, Option, Some, None, length, refl, ap, sym, ◌∙◌, arith, subst}
-use Rattle.std.specs.Prelude.{is_some, nat_lt}
+use Rattle.std.proofs.Common.{◌≡◌, ℕ, length, ap, sym, ◌∙◌, arith, subst}
+use Rattle.std.specs.Prelude.{nat_lt}
 use Rattle.noc_ring.specs.Rings.{ring_at}
+use Rattle.noc_route.proofs.OptionLemmas.{no-value, some-value}
 use Rattle.noc_router.specs.Injection.{vacant_vc}
 use Rattle.noc_router.specs.View.{View, injected, local_channel, view_buffer}
 use Rattle.noc_router.specs.Inside.{view_of}
 use Rattle.noc_router.proofs.InjectLemmas.{never-due, held-begun, goes-begun, held-early, held-crowded, goes-due}
 use Rattle.noc_router.proofs.RouterLemmas.{local-index}
 use Rattle.noc_router.proofs.router.Router.next_injection.Goals as goal
-
--- whether there is one
-some_is : (o : Option ℕ) → is_some o ≡ true → (x : ℕ) × (o ≡ Some x)
-some_is None e = absurd (cc e)
-some_is (Some x) e = (x, refl)
-
-none_is : (o : Option ℕ) → is_some o ≡ false → o ≡ None
-none_is None e = refl
-none_is (Some x) e = absurd (cc e)
 
 -- what holds of the fields holds of the view
 stays : (v w : View) (n : ℕ) → v ≡ w → injected n v ≡ record v { given = n } → injected n w ≡ record w { given = n }
@@ -58,7 +50,7 @@ returns-in-None-clause-before c = λ end before n l.
 pub returns-in-None-clause-due : goal.returns-in-None-clause-due
 returns-in-None-clause-due c = λ held.
     let r = c.self.inside in
-    let vacant = some_is c.vacant_channel.result (sym c.is_some.ensures ∙ c.if-is_some.true) in
+    let vacant = some-value c.vacant_channel.result (sym c.is_some.ensures ∙ c.if-is_some.true) in
     goes (view_of r) c.args.self.now c.in_ok-due.due c.self.view_is
     (goes-due r c.in_ok-due.due c.self.invariant (sym c.next_due.ensures ∙ c.in_ok-due.was) (sym c.channel.ensures ∙ c.in-None.is) vacant.0
     (ap vacant_vc c.self.view_is ∙ sym c.vacant_channel.ensures.value ∙ vacant.1))
@@ -69,4 +61,4 @@ returns-in-None-2-clause-before c = λ end before n l.
     let r = c.self.inside in
     stays (view_of r) c.args.self.now n c.self.view_is
     (held-crowded r c.in_ok-due.due c.self.invariant (sym c.next_due.ensures ∙ c.in_ok-due.was) (sym c.channel.ensures ∙ c.in-None.is)
-    (ap vacant_vc c.self.view_is ∙ sym c.vacant_channel.ensures.value ∙ none_is c.vacant_channel.result (sym c.is_some.ensures ∙ c.if-is_some.false)) n)
+    (ap vacant_vc c.self.view_is ∙ sym c.vacant_channel.ensures.value ∙ no-value c.vacant_channel.result (sym c.is_some.ensures ∙ c.if-is_some.false)) n)

@@ -4,11 +4,10 @@ use Rattle.noc_topo.proofs.WordLemmas.{get_or-tabulate, length-tabulate}
 use Rattle.noc_router.specs.Asked.{grants_on, round_in}
 use Rattle.noc_router.specs.Decided.{IsDecidedFor}
 use Rattle.noc_router.specs.Standing.{IsStanding}
-use Rattle.noc_router.specs.Verdict.{ready_of}
 use Rattle.noc_router.specs.VerdictSets.{verdict_by}
-use Rattle.noc_router.specs.View.{Outcome, size_of, view_stands}
+use Rattle.noc_router.specs.View.{Outcome, size_of}
 use Rattle.noc_router.specs.declared.verdict.Verdict.TheVariants.{Empty}
-use Rattle.noc_router.proofs.PlannedLemmas.{grants-view, outcome-lengths, outcome-parts, round-made, round-view}
+use Rattle.noc_router.proofs.PlannedLemmas.{grants-view, outcome-lengths, outcome-parts, round-made}
 use Rattle.noc_router.proofs.StandLemmas.{standing-view}
 use Rattle.noc_router.proofs.router.Router.plan.Goals as goal
 
@@ -27,7 +26,6 @@ returns-clause-value c =
     let v = c.args.self.now in
     let r = c.self.inside in
     let n = c.allocate_switch.new.requests in
-    let listed : List (Option ℕ) = ready_of v.site.vcs (view_stands v) in
     let asked : List (Option ℕ) = c.ask_for_channels.new.requests.asks in
     let sets = c.verdicts-plan-inside.result in
     let before : c.plan.inside.requests.size ≡ size_of v.site =
@@ -36,7 +34,7 @@ returns-clause-value c =
     let grants : n.grants ≡ grants_on (ports v.site.grid) v.site.vcs asked v.arbiters =
     c.allocate_switch.ensures.grants ∙ c.grant_all.ensures.grants ∙ grants-view r v asked c.self.view_is c.self.invariant in
     outcome-parts c.args.relation.now v _
-    (round-made (ports v.site.grid) v.site.vcs asked listed v.arbiters (round_in n) grants c.allocate_switch.ensures.picks c.allocate_switch.ensures.wins ∙ round-view v asked c.ask_for_channels.ensures.asks)
+    (round-made v asked (round_in n) c.ask_for_channels.ensures.asks grants c.allocate_switch.ensures.picks c.allocate_switch.ensures.wins)
     (c.allocate_switch.ensures.asks ∙ c.grant_all.ensures.asks ∙ c.ask_for_channels.ensures.asks) (length-tabulate n.size (verdict_by sets) ∙ size)
     (λ k l. get_or-tabulate n.size k (verdict_by sets) Empty (omega arith) ∙ c.verdicts-plan-inside.ensures.verdicts k l)
     (c.allocate_switch.ensures.routes ∙ c.grant_all.ensures.routes ∙ c.ask_for_channels.ensures.routes ∙ c.route_heads.ensures.routes)

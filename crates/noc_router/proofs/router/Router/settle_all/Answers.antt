@@ -1,5 +1,6 @@
 use Rattle.std.proofs.Common.{ap, arith, sym, ◌∙◌}
 use Rattle.std.specs.Prelude.{not, nat_eq}
+use Rattle.std.proofs.lemmas.Bool.{and_parts}
 use Rattle.noc_packet.specs.Set.{has_bit}
 use Rattle.noc_router.specs.Settled.{decisions_by, outcome_verdict}
 use Rattle.noc_router.proofs.LinkLemmas.{none_below-more, none_from_search}
@@ -7,7 +8,6 @@ use Rattle.noc_router.proofs.OutcomeLemmas.{can_take, effect_first, effect_more}
 use Rattle.noc_router.proofs.PassedLemmas.{can_take-turns, each-view, effect-turns, passed-all, passing-more, passing_first, with_turns}
 use Rattle.noc_router.proofs.QuietLemmas.{least_member}
 use Rattle.noc_router.proofs.SettleLemmas.{none_left, whole_view, size_view}
-use Rattle.noc_router.proofs.TallyLemmas.{second-of}
 use Rattle.noc_router.proofs.router.Router.settle_all.Goals as goal
 
 pub loop-init : goal.loop-init
@@ -50,7 +50,7 @@ loop-preserved c =
           member c.loop.invariant.settling (ap (with_turns v.arbiters) c.settle.ensures ∙ effect-turns p v.arbiters c.loop.self i (outcome_verdict p i));
       passing = passing-more p v c.loop.self c.loop.rest c.without-rest.result i c.settle.new.self c.loop.invariant.whole c.requires.plan c.without-rest.ensures.members member c.loop.invariant.settling c.loop.invariant.passing c.settle.ensures;
       below = none_below-more c.loop.counter i c.loop.rest c.without-rest.result c.in-Some.ensures.least c.without-rest.ensures.members c.loop.invariant.below;
-      events = λ k e. c.loop.invariant.events k (second-of (not (nat_eq k i)) (has_bit c.loop.rest k) (sym (c.without-rest.ensures.members k) ∙ e));
+      events = λ k e. c.loop.invariant.events k (and_parts (not (nat_eq k i)) (has_bit c.loop.rest k) (sym (c.without-rest.ensures.members k) ∙ e)).1;
     }
 
 pub returns-after-loop : goal.returns-after-loop

@@ -1,6 +1,6 @@
 use Rattle.std.proofs.Common.{◌≡◌, ℕ, suc, ◌+◌, ◌-◌, ◌*◌, ◌<◌, ◌≤◌, Bool, true, false, Some, None, ap, sym, ◌∙◌, arith}
 use Rattle.std.specs.Prelude.{◌&&◌, nat_lt, nat_le, find}
-use Rattle.std.proofs.lemmas.Bool.{lt-ltb, le-leb, leb-true, ltb-true, false≢true}
+use Rattle.std.proofs.lemmas.Bool.{lt-ltb, le-leb, leb-true, ltb-true, and_parts}
 use Rattle.std.proofs.Math.Nat.{suc-mul}
 use Rattle.noc_topo.specs.Words.{below}
 use Rattle.noc_packet.specs.Set.{has_bit, has_from}
@@ -13,10 +13,6 @@ use Rattle.noc_router.proofs.RouterLemmas.{local-index}
 use Rattle.noc_router.specs.Inside.{view_of, IsRouter}
 use Rattle.noc_router.specs.declared.router.Router.TheInside.{Inside}
 use Rattle.noc_router.proofs.router.Router.vacant_channel.Goals as goal
-
-first_of : (a b : Bool) → (a && b) ≡ true → a ≡ true
-first_of true b e = sym e ∙ e
-first_of false b e = absurd (false≢true e)
 
 -- of the channels from `first` to `size`, the least one in the set, counted from `first`
 module _ (first vcs size set : ℕ) (p : ℕ → Bool) (fits : first + vcs ≡ size) (is : (i : ℕ) → first ≤ i → has_bit set i ≡ (nat_lt i size && p (i - first))) where
@@ -32,9 +28,9 @@ module _ (first vcs size set : ℕ) (p : ℕ → Bool) (fits : first + vcs ≡ s
 
   some-is : (x : ℕ) → has_from first set x ≡ true → ((k : ℕ) → k < x → has_from first set k ≡ false) → Some (x - first) ≡ find p (below vcs)
   some-is x on least =
-      let from : first ≤ x = leb-true first x (first_of (nat_le first x) (has_bit set x) on) in
+      let from : first ≤ x = leb-true first x (and_parts (nat_le first x) (has_bit set x) on).0 in
       let bit : has_bit set x ≡ true = sym (ap (λ b. b && has_bit set x) (le-leb first x from)) ∙ on in
-      let within : x < size = ltb-true x size (first_of (nat_lt x size) (p (x - first)) (sym (is x from) ∙ bit)) in
+      let within : x < size = ltb-true x size (and_parts (nat_lt x size) (p (x - first)) (sym (is x from) ∙ bit)).0 in
       let l : x - first < vcs = omega (arith, fits) in
       let back : first + (x - first) ≡ x = omega (arith, from) in
       sym (find-below p vcs (x - first) l

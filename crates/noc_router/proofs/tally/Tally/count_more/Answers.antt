@@ -1,13 +1,13 @@
 use Rattle.std.proofs.Common.{◌≡◌, ℕ, ◌-◌, ◌^◌, ◌<◌, Bool, true, false, List, refl, ap, sym, ◌∙◌, arith, inl, inr, vec_len}
 use Rattle.std.specs.Prelude.{◌⊎◌, ◌&&◌, min, nat_eq, not, if◌then◌else◌}
-use Rattle.std.proofs.lemmas.Bool.{cases_eq, eq-eqb, ne_eqb}
+use Rattle.std.proofs.lemmas.Bool.{cases_eq, eq-eqb, ne_eqb, and_parts}
 use Rattle.noc_packet.specs.Set.{has_bit}
 use Rattle.noc_router.specs.Settled.{outcome_verdict}
 use Rattle.noc_router.specs.Tally.{is_empty_verdict, others_in, risen_by}
 use Rattle.noc_router.specs.Verdict.{column}
 use Rattle.noc_router.specs.declared.verdict.Verdict.{Verdict}
 use Rattle.noc_router.proofs.QuietLemmas.{least_member, none_left}
-use Rattle.noc_router.proofs.TallyLemmas.{empty_is, second-of}
+use Rattle.noc_router.proofs.TallyLemmas.{empty_is}
 use Rattle.noc_router.proofs.WaitLemmas.{waiting-counts}
 use Rattle.noc_router.proofs.tally.Tally.count_more.Goals as goal
 
@@ -20,7 +20,7 @@ loop-index-preserved c =
       begun = added.begun ∙ so_far.begun;
       findings = added.findings ∙ so_far.findings;
       cycles = added.cycles ∙ so_far.cycles;
-      left = λ k e. so_far.left k (second-of (not (nat_eq k c.in-Some.index)) (has_bit c.loop-index.rest k) (sym (c.without-rest.ensures.members k) ∙ e));
+      left = λ k e. so_far.left k (and_parts (not (nat_eq k c.in-Some.index)) (has_bit c.loop-index.rest k) (sym (c.without-rest.ensures.members k) ∙ e)).1;
       each = λ k l. at k l (cases_eq k c.in-Some.index);
     }
   where

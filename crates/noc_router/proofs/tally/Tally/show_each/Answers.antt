@@ -1,8 +1,9 @@
 use Rattle.std.proofs.Common.{◌≡◌, true, None, ℕ, refl, arith, vec_len, get_or}
+use Rattle.std.proofs.lemmas.Bool.{and_parts}
 use Rattle.noc_packet.specs.Set.{has_bit}
 use Rattle.noc_router.specs.Sound.{input_at, named}
 use Rattle.noc_router.specs.declared.verdict.Finding.{Finding}
-use Rattle.noc_router.proofs.TallyLemmas.{first-of, left-first, left-more, second-of, shown-first, shown-last, shown-more, shown_tally}
+use Rattle.noc_router.proofs.TallyLemmas.{left-first, left-more, shown-first, shown-last, shown-more, shown_tally}
 use Rattle.noc_router.proofs.tally.Tally.show_each.Goals as goal
 
 pub loop-index-init : goal.loop-index-init
@@ -22,7 +23,7 @@ pub invariant_of-self-clause-sound : goal.invariant_of-self-clause-sound
 invariant_of-self-clause-sound c =
     let t = c.loop-index.self in
     let i = c.in-Some.index in
-    let in_rest : has_bit c.loop-index.rest i ≡ true = second-of (has_bit c.args.set i) (has_bit c.loop-index.rest i) c.in-Some.ensures.least.0 in
+    let in_rest : has_bit c.loop-index.rest i ≡ true = (and_parts (has_bit c.args.set i) (has_bit c.loop-index.rest i) c.in-Some.ensures.least.0).1 in
     let small = c.requires.left i ((c.loop-index.invariant.left i).0 in_rest) in
     shown_tally t.cycles t.shown c.with-self.result t.counters t.counts.items t.findings.items i c.finding.result t.sound
     (omega (arith, small, t.findings.ok.0, t.one_each, c.loop-index.invariant.size)) c.with-self.ensures.members
@@ -34,8 +35,8 @@ loop-index-preserved c =
     let i = c.in-Some.index in
     let inv = c.loop-index.invariant in
     let found : ℕ → Finding = λ k. named c.args.indices.now.vcs (input_at c.args.channels.now.inputs.items k) c.args.verdict (get_or c.args.plan.now.asks k None) in
-    let in_set : has_bit c.args.set i ≡ true = first-of (has_bit c.args.set i) (has_bit rest i) c.in-Some.ensures.least.0 in
-    let in_rest : has_bit rest i ≡ true = second-of (has_bit c.args.set i) (has_bit rest i) c.in-Some.ensures.least.0 in
+    let in_set : has_bit c.args.set i ≡ true = (and_parts (has_bit c.args.set i) (has_bit rest i) c.in-Some.ensures.least.0).0 in
+    let in_rest : has_bit rest i ≡ true = (and_parts (has_bit c.args.set i) (has_bit rest i) c.in-Some.ensures.least.0).1 in
     record {
       size = inv.size;
       begun = inv.begun;
