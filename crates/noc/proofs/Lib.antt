@@ -1,1 +1,3 @@
+pub mod CommandFacts
+pub mod EndingFacts
 pub mod SaidFacts

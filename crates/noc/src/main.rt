@@ -1,14 +1,19 @@
 //! The simulator: reads the files that the words name, or a joined text from standard input, and writes what is asked for.
 #![tactic(auto)]
 
-ghost use Rattle.std.specs.Prelude.{◌≡◌, ◌≢◌, ⊤, is_some, IfOk, IfSome};
-ghost use Rattle.std.specs.Io.Buffered.{writer_inner};
+ghost use Rattle.std.specs.Prelude.{◌≡◌, ◌≢◌, ◌<◌, ⊤, [], length, IfNone, IfOk, IfSome, IsErr};
+ghost use Rattle.std.specs.Fn.{FnReturnsAt};
+ghost use Rattle.std.specs.Io.Buffered.{writer_buffer, writer_contents, writer_inner};
+ghost use Rattle.std.specs.Io.KnownBytes.{Keeps};
+ghost use Rattle.std.specs.Option.{MatchOption};
 ghost use Rattle.std.specs.Process.{exit_status};
 ghost use Rattle.noc_requests.specs.Line.{line_of};
 ghost use Rattle.noc_requests.specs.Outcome.{Ends};
 ghost use Rattle.noc_requests.specs.Status.{status_of_fault};
 ghost use Rattle.noc_answers.specs.Answer.{Asks, ToldFault};
 ghost use Rattle.noc_answers.specs.Run.{HasWorkers, workers_of};
+ghost use Rattle.noc.specs.Ending.{EndsAs};
+ghost use Rattle.noc.specs.Words.{ReadsIfNamed};
 
 mod collected;
 mod counted;
@@ -90,11 +95,12 @@ fn told<W: Write + Drop>(mut to: W, fault: &Fault) -> ExitCode
 
 // The line of a fault, or none where it is longer than the room for it.
 fn collected_line(fault: &Fault) -> Option<Collected>
-    ensures { IfSome result (λ line. line ≡ line_of fault.now) }
+    ensures some { IfSome result (λ line. line.0 ≡ line_of fault.now) }
+    ensures none { IfNone result (512 < length (line_of fault.now)) }
 {
-    let mut out = Out::new(Collected::new());
-    fault_line(fault, &mut out).ok()?;
-    Some(out.into_inner())
+    let mut line = Collected::new();
+    fault_line(fault, &mut line).ok()?;
+    Some(line)
 }
 
 // What the words of the command line ask for.
@@ -107,7 +113,7 @@ fn asked(rt: &(impl Env + Files + Input + AllocGlobal)) -> Result<Request, Refus
         return Ok(joined(text));
     }
     match read_words(rt.alloc(), &words) {
-        Ok(words) => Ok(request_of(rt, &words)),
+        Ok(words) => Ok(request_of(&words, |name: &str| -> Text { file_text(rt, name) })),
         Err(error) if error.kind() == ErrorKind::OutOfMemory => Err(Refusal::Memory),
         Err(error) => Err(Refusal::Words(error)),
     }
@@ -149,24 +155,23 @@ fn joined(text: Text) -> Request
     }
 }
 
-// The request of the words, with the texts of the files that they name.
-fn request_of(rt: &(impl Files + AllocGlobal), words: &Words<'_>) -> Request
+// The request of the words, with what `read` gives for the files that they name.
+fn request_of<F: Fn(&str) -> Text>(words: &Words<'_>, read: F) -> Request
+    requires { F.IsAlwaysCallable read }
     ensures command { result.command ≡ words.now.command }
-    ensures table { is_some result.table ≡ is_some words.now.table }
-    ensures ranks { is_some result.ranks ≡ is_some words.now.ranks }
+    ensures config { FnReturnsAt F.Fn read words.now.config.now result.config }
+    ensures table { ReadsIfNamed (FnReturnsAt F.Fn read) words.now.table result.table }
+    ensures ranks { ReadsIfNamed (FnReturnsAt F.Fn read) words.now.ranks result.ranks }
+    ensures traffic { MatchOption words.now.traffic (result.traffic ≡ Err InputFault.ReadFailed) (λ name. FnReturnsAt F.Fn read name.now result.traffic) }
 {
     Request {
-        config: file_text(rt, words.config),
-        table: words
-            .table
-            .map(|name: &str| -> Text { file_text(rt, name) }),
-        ranks: words
-            .ranks
-            .map(|name: &str| -> Text { file_text(rt, name) }),
+        config: read(words.config),
+        table: words.table.map(|name: &str| -> Text { read(name) }),
+        ranks: words.ranks.map(|name: &str| -> Text { read(name) }),
         traffic: words
             .traffic
             .map_or(Err(InputFault::ReadFailed), |name: &str| -> Text {
-                file_text(rt, name)
+                read(name)
             }),
         command: words.command,
     }
@@ -195,22 +200,26 @@ fn print_answer(
     let mut out = Out::new(writer);
     let answered = answer(rt, rt.alloc(), request, &mut out);
     let mut writer = out.into_inner();
-    match answered {
-        Ok(status) => match writer.flush() {
-            Ok(()) => Ok(status),
-            Err(_) => Err(Fault::Write(cut_off(writer))),
-        },
-        Err(Fault::Write(_)) => Err(Fault::Write(cut_off(writer))),
-        Err(fault) => Err(fault),
-    }
+    let ended = finished(answered, &mut writer);
+    // What a fault left in the buffer goes nowhere.
+    let _ = writer.into_parts();
+    ended
 }
 
-// The fault of a report of which the device took only a part. Nothing more is written.
-fn cut_off<W: Write + Drop>(writer: BufWriter<Counted<W>>) -> WriteFault
-    ensures { result.written ≡ (writer_inner writer).taken }
+// How an answer ends: a whole one goes out to its last byte, and a fault of writing counts what the device took.
+fn finished<W: Write + Drop>(
+    answered: Result<Status, Fault>,
+    writer: &mut BufWriter<Counted<W>>,
+) -> Result<Status, Fault>
+    ensures ends { EndsAs (writer_buffer writer.new ≡ []) (writer_inner writer.new).taken answered result }
+    ensures bytes { Keeps (writer_contents (λ device. W.contents device.writer) writer.old) (writer_contents (λ device. W.contents device.writer) writer.new) }
+    ensures still { IsErr answered → writer.new ≡ writer.old }
 {
-    let (counted, _) = writer.into_parts();
-    WriteFault {
-        written: counted.taken(),
+    match answered {
+        Ok(status) if writer.flush().is_ok() => Ok(status),
+        Ok(_) | Err(Fault::Write(_)) => Err(Fault::Write(WriteFault {
+            written: writer.get_ref().taken(),
+        })),
+        Err(fault) => Err(fault),
     }
 }

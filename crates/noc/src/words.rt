@@ -1,9 +1,11 @@
 //! The words of the command line.
 
-ghost use Rattle.std.specs.Prelude.{◌≡◌, ◌≢◌, ◌<◌, ◌≤◌, [], ℕ, Some, codes, option_map, unwrap_or, IfOk, IfSome};
+ghost use Rattle.std.specs.Prelude.{◌≡◌, ◌<◌, ◌≤◌, ℕ, codes, map, string_bytes, IfNone, IfOk, IfSome};
 ghost use Rattle.clap.specs.Words.{first_value, found_of, one_text};
+ghost use Rattle.clap.specs.declared.builder.value_parser.ValueParser.{ValueParser};
 ghost use Rattle.noc_answers.specs.Run.{HasWorkers};
-ghost use Rattle.noc.specs.Words.{IsSaid, IsWorkers};
+ghost use Rattle.noc.specs.CommandLine.{IsLeaf, IsProgram, IsWord, TakesReports, check_shape, drain_word, explain_shape, file_word, number_word, option_word, ranks_shape, report_word, required_word, run_shape, workers_word};
+ghost use Rattle.noc.specs.Words.{IsAskedBy, IsCommand, IsNoCommand, IsReport, IsSaid, IsWorkers, NamesFiles, SaysWorkers};
 
 use clap::error::ErrorKind;
 use clap::{Arg, ArgAction, ArgMatches, Error, value_parser};
@@ -66,38 +68,45 @@ The status is 5 where the network is stuck at the end of the run.";
 
 /// The words behind the program's name, which is the first word, or clap's text on why they make no sense.
 pub fn read_words<'a>(alloc: Global, words: &'a [String]) -> Result<Words<'a>, Error>
-    ensures { IfOk result (λ words. HasWorkers words.command) }
+    ensures workers { IfOk result (λ asked. HasWorkers asked.command) }
+    ensures said { IfOk result (IsAskedBy (map string_bytes words.entry.now)) }
 {
     let matches = program(alloc)?.try_get_matches_from(words)?;
-    match matches.subcommand() {
-        Some(("run", of)) => match workers_of(of) {
-            Some(workers) => Ok(words_of(
-                of,
-                Command::Run {
-                    workers,
-                    report: report_of(of),
-                    drain: of.get_flag("drain"),
-                },
-            )),
-            None => Err(program(alloc)?.error(
-                ErrorKind::ValueValidation,
-                "--workers is a number from 1 to 16",
-            )?),
-        },
-        Some(("explain", of)) => Ok(words_of(of, explain_of(of))),
-        Some(("check", of)) => Ok(words_of(of, Command::Check)),
-        Some((_, of)) => Ok(words_of(of, Command::Ranks)),
-        None => Err(program(alloc)?.error(ErrorKind::MissingSubcommand, "a command is missing")?),
+    let Some((name, of)) = matches.subcommand() else {
+        return Err(program(alloc)?.error(ErrorKind::MissingSubcommand, "a command is missing")?);
+    };
+    match command_of(name, of) {
+        Some(command) => Ok(words_of(of, command)),
+        None => Err(program(alloc)?.error(
+            ErrorKind::ValueValidation,
+            "--workers is a number from 1 to 16",
+        )?),
+    }
+}
+
+// The command of a name, or none where its workers are not 1 to 16. clap lets no other name through.
+fn command_of(name: &str, matches: &ArgMatches<'_>) -> Option<Command>
+    ensures workers { IfSome result HasWorkers }
+    ensures some { IfSome result (IsCommand (found_of matches.now) name.now) }
+    ensures none { IfNone result (IsNoCommand (found_of matches.now) name.now) }
+{
+    match name {
+        "run" => Some(Command::Run {
+            workers: workers_of(matches)?,
+            report: report_of(matches),
+            drain: matches.get_flag("drain"),
+        }),
+        "explain" => Some(explain_of(matches)),
+        "check" => Some(Command::Check),
+        "ranks" => Some(Command::Ranks),
+        _ => None,
     }
 }
 
 // The files of a command.
 fn words_of<'a>(matches: &ArgMatches<'a>, command: Command) -> Words<'a>
     ensures command { result.command ≡ command }
-    ensures config { result.config.now ≡ unwrap_or (first_value (found_of matches.now) (codes "CONFIG")) [] }
-    ensures table { option_map (λ name. name.now) result.table ≡ first_value (found_of matches.now) (codes "table") }
-    ensures ranks { option_map (λ name. name.now) result.ranks ≡ first_value (found_of matches.now) (codes "ranks") }
-    ensures traffic { option_map (λ name. name.now) result.traffic ≡ first_value (found_of matches.now) (codes "TRAFFIC") }
+    ensures files { NamesFiles (found_of matches.now) result }
 {
     Words {
         command,
@@ -111,7 +120,7 @@ fn words_of<'a>(matches: &ArgMatches<'a>, command: Command) -> Words<'a>
 // The workers of a run, if they are 1 to 16.
 fn workers_of(matches: &ArgMatches<'_>) -> Option<usize>
     ensures range { IfSome result (λ workers. (0 < workers) × (workers ≤ 16)) }
-    ensures said { (n : ℕ) × IsSaid (one_text (found_of matches.now) (codes "workers")) 1 n × IsWorkers n result }
+    ensures said { (n : ℕ) × SaysWorkers (found_of matches.now) n × IsWorkers n result }
 {
     let workers = matches.get_one::<usize>("workers").unwrap_or(1);
     (1 <= workers && workers <= 16).then_some(workers)
@@ -119,9 +128,7 @@ fn workers_of(matches: &ArgMatches<'_>) -> Option<usize>
 
 // The report of a run.
 fn report_of(matches: &ArgMatches<'_>) -> Report
-    ensures summary { first_value (found_of matches.now) (codes "report") ≡ Some (codes "summary") → result ≡ Report.Summary }
-    ensures stalls { first_value (found_of matches.now) (codes "report") ≡ Some (codes "stalls") → result ≡ Report.Stalls }
-    ensures latency { first_value (found_of matches.now) (codes "report") ≢ Some (codes "summary") → first_value (found_of matches.now) (codes "report") ≢ Some (codes "stalls") → result ≡ Report.Latency }
+    ensures { IsReport (first_value (found_of matches.now) (codes "report")) result }
 {
     match matches.get_str("report") {
         Some("summary") => Report::Summary,
@@ -133,8 +140,7 @@ fn report_of(matches: &ArgMatches<'_>) -> Report
 // The cycle and the router that are to be explained.
 fn explain_of(matches: &ArgMatches<'_>) -> Command
     ensures workers { HasWorkers result }
-    ensures said { (cycle router : ℕ) × IsSaid (one_text (found_of matches.now) (codes "cycle")) 0 cycle
-        × IsSaid (one_text (found_of matches.now) (codes "router")) 0 router × (result ≡ Command.Explain cycle router) }
+    ensures said { IsCommand (found_of matches.now) (codes "explain") result }
 {
     Command::Explain {
         cycle: matches.get_one::<u64>("cycle").unwrap_or(0),
@@ -143,7 +149,9 @@ fn explain_of(matches: &ArgMatches<'_>) -> Command
 }
 
 // The words of the program.
-fn program<'a>(alloc: Global) -> Result<clap::Command<'a>, AllocError> {
+fn program<'a>(alloc: Global) -> Result<clap::Command<'a>, AllocError>
+    ensures { IfOk result IsProgram }
+{
     clap::Command::new(alloc, "noc")
         .about("Simulates a wormhole network-on-chip with virtual channels, cycle by cycle.")
         .override_usage(USAGE)
@@ -154,7 +162,9 @@ fn program<'a>(alloc: Global) -> Result<clap::Command<'a>, AllocError> {
         .subcommand(ranks_words(alloc)?)
 }
 
-fn run_words<'a>(alloc: Global) -> Result<clap::Command<'a>, AllocError> {
+fn run_words<'a>(alloc: Global) -> Result<clap::Command<'a>, AllocError>
+    ensures { IfOk result (λ command. (names : ValueParser) × TakesReports names × IsLeaf (run_shape names) command) }
+{
     clap::Command::new(alloc, "run")
         .about("Runs the network for the configuration's cycles, and writes a report")
         .after_help(AFTER_RUN_HELP)
@@ -167,7 +177,9 @@ fn run_words<'a>(alloc: Global) -> Result<clap::Command<'a>, AllocError> {
         .arg(report_word(alloc))
 }
 
-fn explain_words<'a>(alloc: Global) -> Result<clap::Command<'a>, AllocError> {
+fn explain_words<'a>(alloc: Global) -> Result<clap::Command<'a>, AllocError>
+    ensures { IfOk result (IsLeaf explain_shape) }
+{
     clap::Command::new(alloc, "explain")
         .about("Writes what each input channel of a router did in one cycle, and why it waited")
         .after_help("Example: noc explain mesh.toml traffic.csv --cycle 5 --router 2")
@@ -178,7 +190,9 @@ fn explain_words<'a>(alloc: Global) -> Result<clap::Command<'a>, AllocError> {
         .arg(table_word(alloc))
 }
 
-fn check_words<'a>(alloc: Global) -> Result<clap::Command<'a>, AllocError> {
+fn check_words<'a>(alloc: Global) -> Result<clap::Command<'a>, AllocError>
+    ensures { IfOk result (IsLeaf check_shape) }
+{
     clap::Command::new(alloc, "check")
         .about(
             "Writes 'accepted' if the ranks rise with each hop that the routing relation permits",
@@ -193,7 +207,9 @@ fn check_words<'a>(alloc: Global) -> Result<clap::Command<'a>, AllocError> {
         .arg(table_word(alloc))
 }
 
-fn ranks_words<'a>(alloc: Global) -> Result<clap::Command<'a>, AllocError> {
+fn ranks_words<'a>(alloc: Global) -> Result<clap::Command<'a>, AllocError>
+    ensures { IfOk result (IsLeaf ranks_shape) }
+{
     clap::Command::new(alloc, "ranks")
         .about("Writes the ranks by formula of the routing rule, as a rank file")
         .after_help("Example: noc ranks torus.toml > ranks.csv")
@@ -201,30 +217,40 @@ fn ranks_words<'a>(alloc: Global) -> Result<clap::Command<'a>, AllocError> {
         .arg(table_word(alloc))
 }
 
-fn config_word<'a>(alloc: Global) -> Arg<'a> {
+fn config_word<'a>(alloc: Global) -> Arg<'a>
+    ensures { IsWord (file_word (codes "CONFIG")) result }
+{
     Arg::new(alloc, "CONFIG")
         .required(true)
         .help("The configuration (TOML)")
 }
 
-fn traffic_word<'a>(alloc: Global) -> Arg<'a> {
+fn traffic_word<'a>(alloc: Global) -> Arg<'a>
+    ensures { IsWord (file_word (codes "TRAFFIC")) result }
+{
     Arg::new(alloc, "TRAFFIC").required(true).help(
         "The packets (CSV; header: source,destination,class,length,due)",
     )
 }
 
-fn table_word<'a>(alloc: Global) -> Arg<'a> {
+fn table_word<'a>(alloc: Global) -> Arg<'a>
+    ensures { IsWord (option_word (codes "table")) result }
+{
     Arg::new(alloc, "table")
         .long("table")
         .value_name("F")
         .help("The routing table (CSV) of the rule 'table'")
 }
 
-fn ranks_word<'a>(alloc: Global) -> Arg<'a> {
+fn ranks_word<'a>(alloc: Global) -> Arg<'a>
+    ensures { IsWord (option_word (codes "ranks")) result }
+{
     Arg::new(alloc, "ranks").long("ranks").value_name("F")
 }
 
-fn report_word<'a>(alloc: Global) -> Arg<'a> {
+fn report_word<'a>(alloc: Global) -> Arg<'a>
+    ensures { (names : ValueParser) × TakesReports names × IsWord (report_word names) result }
+{
     Arg::new(alloc, "report")
         .long("report")
         .value_name("REPORT")
@@ -233,7 +259,9 @@ fn report_word<'a>(alloc: Global) -> Arg<'a> {
         .help("What to write of the run, see below")
 }
 
-fn workers_word<'a>(alloc: Global) -> Arg<'a> {
+fn workers_word<'a>(alloc: Global) -> Arg<'a>
+    ensures { IsWord workers_word result }
+{
     Arg::new(alloc, "workers")
         .long("workers")
         .value_name("N")
@@ -242,14 +270,18 @@ fn workers_word<'a>(alloc: Global) -> Arg<'a> {
         .help("How many threads run the routers: 1 to 16, and at most one for each router")
 }
 
-fn drain_word<'a>(alloc: Global) -> Arg<'a> {
+fn drain_word<'a>(alloc: Global) -> Arg<'a>
+    ensures { IsWord drain_word result }
+{
     Arg::new(alloc, "drain")
         .long("drain")
         .action(ArgAction::SetTrue)
         .help("Run on until every packet is out, or to the network's limit, see below")
 }
 
-fn cycle_word<'a>(alloc: Global) -> Arg<'a> {
+fn cycle_word<'a>(alloc: Global) -> Arg<'a>
+    ensures { IsWord (required_word (number_word (codes "cycle"))) result }
+{
     Arg::new(alloc, "cycle")
         .long("cycle")
         .value_name("N")
@@ -258,7 +290,9 @@ fn cycle_word<'a>(alloc: Global) -> Arg<'a> {
         .help("The cycle, from 0 to one less than the configuration's cycles")
 }
 
-fn router_word<'a>(alloc: Global) -> Arg<'a> {
+fn router_word<'a>(alloc: Global) -> Arg<'a>
+    ensures { IsWord (required_word (number_word (codes "router"))) result }
+{
     Arg::new(alloc, "router")
         .long("router")
         .value_name("R")
