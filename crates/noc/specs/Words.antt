@@ -5,6 +5,7 @@ use Rattle.std.specs.Str.Parse.{IsNumeral, digits_value, without_leading_plus}
 use Rattle.clap.specs.Words.{Text, first_value, one_text, rows_of, subcommand_of}
 use Rattle.clap.specs.declared.builder.value_parser.ValueParser.{ValueParser}
 use Rattle.clap.specs.declared.parser.matches.Found.{Found}
+use Rattle.noc_tiles.specs.declared.limits.TheConstants.{MAX_WORKERS}
 use Rattle.noc_requests.specs.declared.request.Command.{Command}
 use Rattle.noc_requests.specs.declared.request.Command.TheVariants.{Joined, Run, Explain, Check, Ranks}
 use Rattle.noc_requests.specs.declared.request.Report.{Report}
@@ -24,7 +25,7 @@ IsSaid (Some text) other n = (IsNumber text × (n ≡ digits_value 10 (without_l
 -- this number of workers, if it is 1 to 16
 abbrev pub IsWorkers : ℕ → Option ℕ → Type 0
 IsWorkers n (Some workers) = workers ≡ n
-IsWorkers n None = (n < 1) ⊎ (16 < n)
+IsWorkers n None = (n < 1) ⊎ (MAX_WORKERS < n)
 
 -- the number of workers that the words say, which is 1 where they say none
 abbrev pub SaysWorkers : Found → ℕ → Type 0
@@ -45,14 +46,14 @@ pub record IsFlag (word : Option Text) (is_up : Bool) : Type 0 where
 -- the command of a name, by what is found of its words
 abbrev pub IsCommand : Found → Text → Command → Type 0
 IsCommand found name Joined = ⊥
-IsCommand found name (Run workers report drain) = (name ≡ codes "run") × SaysWorkers found workers × (0 < workers) × (workers ≤ 16) × IsReport (first_value found (codes "report")) report × IsFlag (one_text found (codes "drain")) drain
+IsCommand found name (Run workers report drain) = (name ≡ codes "run") × SaysWorkers found workers × (0 < workers) × (workers ≤ MAX_WORKERS) × IsReport (first_value found (codes "report")) report × IsFlag (one_text found (codes "drain")) drain
 IsCommand found name (Explain cycle router) = (name ≡ codes "explain") × IsSaid (one_text found (codes "cycle")) 0 cycle × IsSaid (one_text found (codes "router")) 0 router
 IsCommand found name Check = name ≡ codes "check"
 IsCommand found name Ranks = name ≡ codes "ranks"
 
--- no command has the name, or it is `run` with no worker or more than 16
+-- no command has the name, or it is `run` with no worker or more than MAX_WORKERS
 abbrev pub IsNoCommand : Found → Text → Type 0
-IsNoCommand found name = ((name ≡ codes "run") × ((n : ℕ) × SaysWorkers found n × ((n < 1) ⊎ (16 < n))))
+IsNoCommand found name = ((name ≡ codes "run") × ((n : ℕ) × SaysWorkers found n × ((n < 1) ⊎ (MAX_WORKERS < n))))
     ⊎ ((name ≢ codes "run") × (name ≢ codes "explain") × (name ≢ codes "check") × (name ≢ codes "ranks"))
 
 -- the names of a command's files

@@ -3,6 +3,7 @@
 ghost use Rattle.std.specs.Prelude.{◌≡◌, ◌<◌, ◌≤◌, ℕ, codes, map, string_bytes, IfNone, IfOk, IfSome};
 ghost use Rattle.clap.specs.Words.{first_value, found_of, one_text};
 ghost use Rattle.clap.specs.declared.builder.value_parser.ValueParser.{ValueParser};
+ghost use Rattle.noc_tiles.specs.declared.limits.TheConstants.{MAX_WORKERS};
 ghost use Rattle.noc_answers.specs.Run.{HasWorkers};
 ghost use Rattle.noc.specs.CommandLine.{IsLeaf, IsProgram, IsWord, TakesReports, check_shape, drain_word, explain_shape, file_word, number_word, option_word, ranks_shape, report_word, required_word, run_shape, workers_word};
 ghost use Rattle.noc.specs.Words.{IsAskedBy, IsCommand, IsNoCommand, IsReport, IsSaid, IsWorkers, NamesFiles, SaysWorkers};
@@ -10,6 +11,7 @@ ghost use Rattle.noc.specs.Words.{IsAskedBy, IsCommand, IsNoCommand, IsReport, I
 use clap::error::ErrorKind;
 use clap::{Arg, ArgAction, ArgMatches, Error, value_parser};
 use noc_requests::{Command, Report};
+use noc_tiles::MAX_WORKERS;
 use std::alloc::{AllocError, Global};
 
 /// What the words ask for: a command, with the names of its files.
@@ -119,11 +121,11 @@ fn words_of<'a>(matches: &ArgMatches<'a>, command: Command) -> Words<'a>
 
 // The workers of a run, if they are 1 to 16.
 fn workers_of(matches: &ArgMatches<'_>) -> Option<usize>
-    ensures range { IfSome result (λ workers. (0 < workers) × (workers ≤ 16)) }
+    ensures range { IfSome result (λ workers. (0 < workers) × (workers ≤ MAX_WORKERS)) }
     ensures said { (n : ℕ) × SaysWorkers (found_of matches.now) n × IsWorkers n result }
 {
     let workers = matches.get_one::<usize>("workers").unwrap_or(1);
-    (1 <= workers && workers <= 16).then_some(workers)
+    (1 <= workers && workers <= MAX_WORKERS).then_some(workers)
 }
 
 // The report of a run.
