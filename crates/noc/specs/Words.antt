@@ -2,8 +2,11 @@
 use Rattle.std.specs.Prelude.{◌≡◌, ◌≢◌, ◌⊎◌, ◌<◌, ◌≤◌, ◌^◌, ℕ, Bool, true, false, List, [], Option, Some, None, codes, option_map, unwrap_or, ⊤}
 use Rattle.std.specs.Borrow.{Bor}
 use Rattle.std.specs.Str.Parse.{IsNumeral, digits_value, without_leading_plus}
-use Rattle.clap.specs.Words.{Text, first_value, one_text, rows_of, subcommand_of}
+use Rattle.clap.specs.Kinds.{IsAmong}
+use Rattle.clap.specs.Words.{Text, fault_of, first_value, kind_of, one_text, rows_of, subcommand_of}
 use Rattle.clap.specs.declared.builder.value_parser.ValueParser.{ValueParser}
+use Rattle.clap.specs.declared.error.Error.{Error}
+use Rattle.clap.specs.declared.error.kind.ErrorKind.TheVariants.{MissingSubcommand, OutOfMemory, ValueValidation}
 use Rattle.clap.specs.declared.parser.matches.Found.{Found}
 use Rattle.noc_tiles.specs.declared.limits.TheConstants.{MAX_WORKERS}
 use Rattle.noc_requests.specs.declared.request.Command.{Command}
@@ -72,6 +75,15 @@ pub record IsAskedBy (texts : List Text) (words : Words) : Type 0 where
   pub said : subcommand_of (command_line names) texts ≡ Some (name, rows_of found)
   pub command : IsCommand found name words.command
   pub files : NamesFiles found words
+
+-- why the words are refused: memory ran out; clap's rules find this fault in them, or a request for help; they name no
+-- command; they ask for no worker, or for more than MAX_WORKERS
+pub data IsRefusal (texts : List Text) (error : Error) : Type 0 where
+  no_memory : kind_of error ≡ OutOfMemory → IsRefusal texts error
+  by_rules : (names : ValueParser) → TakesReports names → IsAmong (kind_of error) (fault_of (command_line names) texts) → IsRefusal texts error
+  no_command : (names : ValueParser) → TakesReports names → subcommand_of (command_line names) texts ≡ None → kind_of error ≡ MissingSubcommand → IsRefusal texts error
+  by_workers : (names : ValueParser) (name : Text) (found : Found) → TakesReports names → subcommand_of (command_line names) texts ≡ Some (name, rows_of found)
+      → IsNoCommand found name → kind_of error ≡ ValueValidation → IsRefusal texts error
 
 -- what is read for a name, where there is one
 abbrev pub ReadsIfNamed : {T : Type 0} → (Text → T → Type 0) → Option (Bor Text) → Option T → Type 0

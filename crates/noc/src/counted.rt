@@ -20,6 +20,14 @@ impl<W> Counted<W> {
         Counted { writer, taken: 0 }
     }
 
+    /// Gives the writer back.
+    pub fn into_inner(self) -> W
+        ensures { result ≡ self.writer }
+    {
+        let Counted { writer, taken: _ } = self;
+        writer
+    }
+
     /// How many bytes it has taken.
     pub fn taken(&self) -> u64
         ensures { result ≡ self.now.taken }

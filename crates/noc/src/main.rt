@@ -1,7 +1,7 @@
 //! The simulator: reads the files that the words name, or a joined text from standard input, and writes what is asked for.
 #![tactic(auto)]
 
-ghost use Rattle.std.specs.Prelude.{◌≡◌, ◌≢◌, ◌<◌, ⊤, [], length, IfNone, IfOk, IfSome, IsErr};
+ghost use Rattle.std.specs.Prelude.{◌≡◌, ◌≢◌, ◌<◌, [], length, IfNone, IfOk, IfSome, IsErr};
 ghost use Rattle.std.specs.Fn.{FnReturnsAt};
 ghost use Rattle.std.specs.Io.Buffered.{writer_buffer, writer_contents, writer_inner};
 ghost use Rattle.std.specs.Io.KnownBytes.{Keeps};
@@ -12,7 +12,7 @@ ghost use Rattle.noc_requests.specs.Outcome.{Ends};
 ghost use Rattle.noc_requests.specs.Status.{status_of_fault};
 ghost use Rattle.noc_answers.specs.Answer.{Asks, ToldFault};
 ghost use Rattle.noc_answers.specs.Run.{HasWorkers, workers_of};
-ghost use Rattle.noc.specs.Ending.{EndsAs};
+ghost use Rattle.noc.specs.Ending.{EndsAs, IsOnDevice, IsUntouched};
 ghost use Rattle.noc.specs.Words.{ReadsIfNamed};
 
 mod collected;
@@ -25,6 +25,7 @@ use counted::Counted;
 use noc_answers::answer;
 use noc_files::{InputFault, Out, WriteFault, read_all};
 use noc_requests::{Command, Fault, Request, Status, Text, fault_line, status_of};
+use std::alloc::Global;
 use std::env;
 use std::env::FillError;
 use std::fs::{File, Files};
@@ -57,7 +58,8 @@ fn main(rt: HostRuntime) -> ExitCode {
         Ok(request) => request,
         Err(refusal) => return refused(rt.stderr(), &refusal),
     };
-    match print_answer(&rt, &request) {
+    let (ended, _) = write_answer(&rt, rt.alloc(), &request, io::writer(&rt));
+    match ended {
         Ok(status) => ExitCode::from(status.code()),
         Err(fault) => told(rt.stderr(), &fault),
     }
@@ -185,25 +187,27 @@ fn file_text(rt: &(impl Files + AllocGlobal), name: &str) -> Text {
     }
 }
 
-// Writes the answer to standard output.
-fn print_answer(
-    rt: &(impl Print + Threads + Wait + Sync + AllocGlobal),
+// Writes the answer to a device, through a buffer, and gives the device back: none where there is no memory for the buffer.
+fn write_answer<R: Threads + Wait + Sync, W: Write + Drop>(
+    rt: &R,
+    alloc: Global,
     request: &Request,
-) -> Result<Status, Fault>
+    device: W,
+) -> (Result<Status, Fault>, Option<W>)
     requires { HasWorkers request.now.command }
-    ensures { Ends (workers_of request.now.command) (λ text writing. ⊤) ⊤ (Asks request.now) (ToldFault request.now) result }
+    ensures { Ends (workers_of request.now.command) (IsOnDevice W.contents device result.1) (IsUntouched device result.1) (Asks request.now) (ToldFault request.now) result.0 }
 {
-    let writer = match BufWriter::new(rt.alloc(), Counted::new(io::writer(rt))) {
+    let writer = match BufWriter::new(alloc, Counted::new(device)) {
         Ok(writer) => writer,
-        Err(_) => return Err(Fault::Config(InputFault::Memory)),
+        Err(_) => return (Err(Fault::Config(InputFault::Memory)), None),
     };
     let mut out = Out::new(writer);
-    let answered = answer(rt, rt.alloc(), request, &mut out);
+    let answered = answer(rt, alloc, request, &mut out);
     let mut writer = out.into_inner();
     let ended = finished(answered, &mut writer);
     // What a fault left in the buffer goes nowhere.
-    let _ = writer.into_parts();
-    ended
+    let (counted, _) = writer.into_parts();
+    (ended, Some(counted.into_inner()))
 }
 
 // How an answer ends: a whole one goes out to its last byte, and a fault of writing counts what the device took.

@@ -1,12 +1,12 @@
 //! The words of the command line.
 
-ghost use Rattle.std.specs.Prelude.{◌≡◌, ◌<◌, ◌≤◌, ℕ, codes, map, string_bytes, IfNone, IfOk, IfSome};
+ghost use Rattle.std.specs.Prelude.{◌≡◌, ◌<◌, ◌≤◌, ℕ, codes, map, string_bytes, IfErr, IfNone, IfOk, IfSome};
 ghost use Rattle.clap.specs.Words.{first_value, found_of, one_text};
 ghost use Rattle.clap.specs.declared.builder.value_parser.ValueParser.{ValueParser};
 ghost use Rattle.noc_tiles.specs.declared.limits.TheConstants.{MAX_WORKERS};
 ghost use Rattle.noc_answers.specs.Run.{HasWorkers};
 ghost use Rattle.noc.specs.CommandLine.{IsLeaf, IsProgram, IsWord, TakesReports, check_shape, drain_word, explain_shape, file_word, number_word, option_word, ranks_shape, report_word, required_word, run_shape, workers_word};
-ghost use Rattle.noc.specs.Words.{IsAskedBy, IsCommand, IsNoCommand, IsReport, IsSaid, IsWorkers, NamesFiles, SaysWorkers};
+ghost use Rattle.noc.specs.Words.{IsAskedBy, IsCommand, IsNoCommand, IsRefusal, IsReport, IsSaid, IsWorkers, NamesFiles, SaysWorkers};
 
 use clap::error::ErrorKind;
 use clap::{Arg, ArgAction, ArgMatches, Error, value_parser};
@@ -72,6 +72,7 @@ The status is 5 where the network is stuck at the end of the run.";
 pub fn read_words<'a>(alloc: Global, words: &'a [String]) -> Result<Words<'a>, Error>
     ensures workers { IfOk result (λ asked. HasWorkers asked.command) }
     ensures said { IfOk result (IsAskedBy (map string_bytes words.entry.now)) }
+    ensures refused { IfErr result (IsRefusal (map string_bytes words.entry.now)) }
 {
     let matches = program(alloc)?.try_get_matches_from(words)?;
     let Some((name, of)) = matches.subcommand() else {

@@ -21,7 +21,7 @@ use Rattle.noc_ownership.proofs.NextLemmas.{next-from}
 use Rattle.noc_ownership.proofs.OwnedLemmas.{owner-has, owner-is}
 use Rattle.noc_views.proofs.Ordered.{IsGood, IsOrderedFrozen}
 use Rattle.noc_views.proofs.PlaceLemmas.{IsAt, IsFrom, input-at, leaving-from, begins-at, mod-below, link-from, eject-from}
-use Rattle.noc_headline.specs.Headline.{IsRouted, HasCredit, GoesOnBy, IsWaiting, MayTake, AsksFor}
+use Rattle.noc_headline.specs.Headline.{IsRouted, HasCredit, GoesOnBy, IsWaiting, MayTake, AsksForChannel}
 
 module _ (net : Setup) (good : IsGood net) (F : State) (x : IsOrderedFrozen net F) (r : ℕ) where
   -- ---- next channels
@@ -131,7 +131,7 @@ module _ (net : Setup) (good : IsGood net) (F : State) (x : IsOrderedFrozen net 
   pub data Case (c : Channel) : Type 0 where
     off : (IsRouted net F r c → ⊥) → claim_of net F r c ≡ Unrouted → Case c
     all_taken : IsWaiting net F r c → ((o : ℕ) → ¬ MayTake net F r c o) → claim_of net F r c ≡ Waits None → Case c
-    asks : (o : ℕ) → AsksFor net F r c o → claim_of net F r c ≡ Waits (Some o) → Case c
+    asks : (o : ℕ) → AsksForChannel net F r c o → claim_of net F r c ≡ Waits (Some o) → Case c
     goes : (o : ℕ) → GoesOnBy net F r c o → claim_of net F r c ≡ Holds o (has_credit_in net F (leaving net r o)) → Case c
 
   pub claim-off : (c : Channel) → (IsRouted net F r c → ⊥) → claim_of net F r c ≡ Unrouted

@@ -19,7 +19,7 @@ use Rattle.noc_ownership.proofs.StateWords.{IsPlaced}
 use Rattle.noc_views.proofs.Ordered.{IsGood, IsOrderedFrozen}
 use Rattle.noc_views.proofs.PlaceLemmas.{IsAt, input-at, arriving-at, arrives-in, begins-at}
 use Rattle.noc_headline.specs.Effects.{IsGrantedTo, IsSentOn}
-use Rattle.noc_headline.specs.Headline.{IsInputOf, Owns, AsksFor, CanSend, WinsChannel}
+use Rattle.noc_headline.specs.Headline.{IsInputOf, Owns, AsksForChannel, CanSend, WinsChannel}
 use Rattle.noc_headline.proofs.ClaimLemmas.{ask-some, goes-next}
 use Rattle.noc_headline.proofs.SaysLemmas.{verdict-says}
 
@@ -35,7 +35,7 @@ module _ (net : Setup) (good : IsGood net) (F : State) (x : IsOrderedFrozen net 
 
   -- ---- grants
 
-  pair-is : (r i k q : ℕ) (c : Channel) → IsInputOf net r i c → Owns net F r q c → AsksFor net F r c k → WinsChannel net F r i k → granted_pair net F c ≡ Some (leaving net r k, q)
+  pair-is : (r i k q : ℕ) (c : Channel) → IsInputOf net r i c → Owns net F r q c → AsksForChannel net F r c k → WinsChannel net F r i k → granted_pair net F c ≡ Some (leaving net r k, q)
   pair-is r i k q c at own asks wins =
       let here = at-input r i c at in
       let v : verdict_in net F c ≡ Granted = (verdict-says net good F x r at.router i c here Granted).1 (k, asks, wins) in
@@ -56,7 +56,7 @@ module _ (net : Setup) (good : IsGood net) (F : State) (x : IsOrderedFrozen net 
           let place = input-at net good c h in
           let at : IsInputOf net place.0 place.1 c = input-of place.0 place.1 c place.2 in
           let says = (verdict-says net good F x place.0 at.router place.1 c place.2 Granted).0 (is_granted-true _ b) in
-          let asks : AsksFor net F place.0 c says.0 = says.1 in
+          let asks : AsksForChannel net F place.0 c says.0 = says.1 in
           let pair = same_Some (leaving net place.0 says.0, asks.may.packet) (o, p) (sym (pair-is place.0 place.1 says.0 asks.may.packet c at asks.may.here asks says.2) ∙ g) in
           record {
             router = place.0;

@@ -16,7 +16,7 @@ use Rattle.noc_router.specs.Verdict.{Claim, Unrouted, Waits, Holds, Stand, ask_o
 use Rattle.noc_model.specs.Network.{Setup, State, size, arriving, leaving, has_credit_in, claim_of, count_in, round_at, stand_of, stands_at, arbiters_at}
 use Rattle.noc_views.proofs.Ordered.{IsGood, IsOrderedFrozen}
 use Rattle.noc_views.proofs.PlaceLemmas.{IsAt, arriving-at}
-use Rattle.noc_headline.specs.Headline.{GoesOnBy, AsksFor, CanSend, HoldsAt, WinsChannel, IsPick, PickGoesThrough, WinsSwitch}
+use Rattle.noc_headline.specs.Headline.{GoesOnBy, AsksForChannel, CanSend, HoldsAt, WinsChannel, IsPick, PickGoesThrough, WinsSwitch}
 use Rattle.noc_headline.proofs.ClaimLemmas.{Case, off, all_taken, asks, goes, case-of, claim-waits, claim-goes, ask-some, credit-true, credit-from}
 use Rattle.noc_headline.proofs.TurnLemmas.{turn-first, first-turn}
 
@@ -34,16 +34,16 @@ module _ (net : Setup) (good : IsGood net) (F : State) (x : IsOrderedFrozen net 
 
   -- ---- one input channel
 
-  pub asks-true : (i : ℕ) (c : Channel) → IsAt net good r i c → (o : ℕ) → is_some_of (ask_of (claim_of net F r c)) o ≡ true → AsksFor net F r c o
+  pub asks-true : (i : ℕ) (c : Channel) → IsAt net good r i c → (o : ℕ) → is_some_of (ask_of (claim_of net F r c)) o ≡ true → AsksForChannel net F r c o
   asks-true i c at o e = by (case-of net good F x r i c at)
     where
-      by : Case net good F x r c → AsksFor net F r c o
+      by : Case net good F x r c → AsksForChannel net F r c o
       by (off n k) = absurd (false≢true (ap (λ (y : Claim). is_some_of (ask_of y) o) (sym k) ∙ e))
       by (all_taken w n k) = absurd (false≢true (ap (λ (y : Claim). is_some_of (ask_of y) o) (sym k) ∙ e))
-      by (asks j a k) = subst (AsksFor net F r c) (eqb-true j o (ap (λ (y : Claim). is_some_of (ask_of y) o) (sym k) ∙ e)) a
+      by (asks j a k) = subst (AsksForChannel net F r c) (eqb-true j o (ap (λ (y : Claim). is_some_of (ask_of y) o) (sym k) ∙ e)) a
       by (goes j g k) = absurd (false≢true (ap (λ (y : Claim). is_some_of (ask_of y) o) (sym k) ∙ e))
 
-  pub asks-claim : (i : ℕ) (c : Channel) → IsAt net good r i c → (o : ℕ) → AsksFor net F r c o → claim_of net F r c ≡ Waits (Some o)
+  pub asks-claim : (i : ℕ) (c : Channel) → IsAt net good r i c → (o : ℕ) → AsksForChannel net F r c o → claim_of net F r c ≡ Waits (Some o)
   asks-claim i c at o a = claim-waits net good F x r i c at a.waits ∙ ap Waits (ask-some net good F x r c o a.may a.least)
 
   pub sends-claim : (i : ℕ) (c : Channel) → IsAt net good r i c → (o : ℕ) → CanSend net F r c o → claim_of net F r c ≡ Holds o true
@@ -91,14 +91,14 @@ module _ (net : Setup) (good : IsGood net) (F : State) (x : IsOrderedFrozen net 
       get_or-map (λ (s : Stand). ready_port vcs s.claim s.has_flit) (stands_at net F r) i (stand i) None (omega (arith, length-tabulate (size net) stand))
       ∙ ap (λ (s : Stand). ready_port vcs s.claim s.has_flit) (get_or-tabulate (size net) i stand (stand i) u)
 
-  ask-some_at : (i : ℕ) → i < size net → (o : ℕ) → is_some_of (get_or (asks_of (stands_at net F r)) i None) o ≡ true → HoldsAt net F r (λ c. AsksFor net F r c o) i
+  ask-some_at : (i : ℕ) → i < size net → (o : ℕ) → is_some_of (get_or (asks_of (stands_at net F r)) i None) o ≡ true → HoldsAt net F r (λ c. AsksForChannel net F r c o) i
   ask-some_at i u o e = by (arriving net r i) refl
     where
-      by : (a : Option Channel) → arriving net r i ≡ a → HoldsAt net F r (λ c. AsksFor net F r c o) i
+      by : (a : Option Channel) → arriving net r i ≡ a → HoldsAt net F r (λ c. AsksForChannel net F r c o) i
       by None k = absurd (false≢true (sym (ap (λ y. is_some_of y o) (ask-at i u) ∙ ap (λ (a : Option Channel). is_some_of (ask_of (stand_of net F r a).claim) o) k) ∙ e))
       by (Some c) k = (c, k, asks-true i c (at-input i c u k) o (sym (ap (λ y. is_some_of y o) (ask-at i u) ∙ ap (λ (a : Option Channel). is_some_of (ask_of (stand_of net F r a).claim) o) k) ∙ e))
 
-  some_at-ask : (i : ℕ) → i < size net → (o : ℕ) → HoldsAt net F r (λ c. AsksFor net F r c o) i → is_some_of (get_or (asks_of (stands_at net F r)) i None) o ≡ true
+  some_at-ask : (i : ℕ) → i < size net → (o : ℕ) → HoldsAt net F r (λ c. AsksForChannel net F r c o) i → is_some_of (get_or (asks_of (stands_at net F r)) i None) o ≡ true
   some_at-ask i u o h =
       ap (λ y. is_some_of y o) (ask-at i u) ∙ ap (λ (a : Option Channel). is_some_of (ask_of (stand_of net F r a).claim) o) h.1
       ∙ ap (λ (y : Claim). is_some_of (ask_of y) o) (asks-claim i h.0 (at-input i h.0 u h.1) o h.2) ∙ eq-eqb o o refl
@@ -129,13 +129,13 @@ module _ (net : Setup) (good : IsGood net) (F : State) (x : IsOrderedFrozen net 
 
   pub granted-wins : (i o : ℕ) → o < size net → get_or (round_at net F r).grants o None ≡ Some i → WinsChannel net F r i o
   granted-wins i o u e =
-      turn-first (size net) (turn_at (arbiters_at net F r).channels o).pointer (λ k. is_some_of (get_or (asks_of (stands_at net F r)) k None) o) (HoldsAt net F r (λ c. AsksFor net F r c o))
+      turn-first (size net) (turn_at (arbiters_at net F r).channels o).pointer (λ k. is_some_of (get_or (asks_of (stands_at net F r)) k None) o) (HoldsAt net F r (λ c. AsksForChannel net F r c o))
       (λ k v. ask-some_at k v o) (λ k v. some_at-ask k v o) i (sym (grant-is o u) ∙ e)
 
   pub wins-granted : (i o : ℕ) → o < size net → WinsChannel net F r i o → get_or (round_at net F r).grants o None ≡ Some i
   wins-granted i o u w =
       grant-is o u
-      ∙ first-turn (size net) (turn_at (arbiters_at net F r).channels o).pointer (λ k. is_some_of (get_or (asks_of (stands_at net F r)) k None) o) (HoldsAt net F r (λ c. AsksFor net F r c o))
+      ∙ first-turn (size net) (turn_at (arbiters_at net F r).channels o).pointer (λ k. is_some_of (get_or (asks_of (stands_at net F r)) k None) o) (HoldsAt net F r (λ c. AsksForChannel net F r c o))
       (λ k v. ask-some_at k v o) (λ k v. some_at-ask k v o) i w
 
   -- ---- picks

@@ -12,7 +12,7 @@ use Rattle.noc_router.specs.declared.verdict.Verdict.TheVariants.{Empty, Routed,
 use Rattle.noc_model.specs.Network.{Setup, State, leaving, has_credit_in, claim_of, count_in, round_at, verdict_in}
 use Rattle.noc_views.proofs.Ordered.{IsGood, IsOrderedFrozen}
 use Rattle.noc_views.proofs.PlaceLemmas.{IsAt, port-below}
-use Rattle.noc_headline.specs.Headline.{HasFlit, GoesOnBy, AsksFor, CanSend, Says, IsPick}
+use Rattle.noc_headline.specs.Headline.{HasFlit, GoesOnBy, AsksForChannel, CanSend, Says, IsPick}
 use Rattle.noc_headline.proofs.ClaimLemmas.{Case, off, all_taken, asks, goes, case-of, claim-off, claim-waits, claim-goes, ask-none, credit-true, credit-from, verdict-at}
 use Rattle.noc_headline.proofs.RoundLemmas.{asks-claim, sends-claim, granted-wins, wins-granted, picked-is, is-picked, won-is, is-won}
 
@@ -44,7 +44,7 @@ module _ (net : Setup) (good : IsGood net) (F : State) (x : IsOrderedFrozen net 
   holds : Is (verdict_in net F c)
   holds = by (case-of net good F x r i c at) (nat_lt 0 (count_in net F c)) refl
     where
-      choice : (o : ℕ) → AsksFor net F r c o → (t : Bool) → is_some_of (get_or (round_at net F r).grants o None) i ≡ t → Is (if t then Granted else LostChannel)
+      choice : (o : ℕ) → AsksForChannel net F r c o → (t : Bool) → is_some_of (get_or (round_at net F r).grants o None) i ≡ t → Is (if t then Granted else LostChannel)
       choice o a true t = (o, a, granted-wins net good F x r l i o a.may.exists (is_some_of-true _ i t))
       choice o a false t = (o, a, λ w. false≢true (sym t ∙ is_some_of-some _ i (wins-granted net good F x r l i o a.may.exists w)))
 
@@ -84,7 +84,7 @@ module _ (net : Setup) (good : IsGood net) (F : State) (x : IsOrderedFrozen net 
   none : (¬ HasFlit net F r c) → nat_lt 0 (count_in net F c) ≡ false
   none n = false_from_ne_true (nat_lt 0 (count_in net F c)) (λ t. n (ltb-true _ _ t))
 
-  granted : (o : ℕ) → AsksFor net F r c o → (t : Bool) → is_some_of (get_or (round_at net F r).grants o None) i ≡ t → verdict_in net F c ≡ (if t then Granted else LostChannel)
+  granted : (o : ℕ) → AsksForChannel net F r c o → (t : Bool) → is_some_of (get_or (round_at net F r).grants o None) i ≡ t → verdict_in net F c ≡ (if t then Granted else LostChannel)
   granted o a t e =
       value (Waits (Some o)) (nat_lt 0 (count_in net F c)) (asks-claim net good F x r l i c at o a) refl
       ∙ ap (λ b. if b then Granted else LostChannel) e

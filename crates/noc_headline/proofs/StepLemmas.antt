@@ -34,7 +34,7 @@ use Rattle.noc_views.proofs.PlaceLemmas.{arriving-at}
 use Rattle.noc_views.proofs.Opening.{opening-is}
 use Rattle.noc_views.proofs.Theorem.{good-network, lockstep-is_state}
 use Rattle.noc_ownership.proofs.Facts.{worm_order-at}
-use Rattle.noc_headline.specs.Headline.{IsInputOf, AsksFor, GoesOnBy}
+use Rattle.noc_headline.specs.Headline.{IsInputOf, AsksForChannel, GoesOnBy}
 use Rattle.noc_headline.specs.Steps.{IsBufferIn, IsFoundIn, IsRightCore, IsRightRouter, IsRightWire, beat_in, beats_of}
 use Rattle.noc_headline.proofs.ClaimLemmas.{claim-goes}
 use Rattle.noc_headline.proofs.CycleLemmas.{right-cycle}
@@ -91,7 +91,7 @@ module _ (net : Setup) (made : IsGoodSetup net) where
         ap (λ (f : Finding). f.out) (finding-is n r i c finding findings same at e) ∙ named i o c at h;
   }
     where
-      named : (i o : ℕ) (c : Channel) → IsInputOf net r i c → AsksFor net (frozen_at net n) r c o ⊎ GoesOnBy net (frozen_at net n) r c o
+      named : (i o : ℕ) (c : Channel) → IsInputOf net r i c → AsksForChannel net (frozen_at net n) r c o ⊎ GoesOnBy net (frozen_at net n) r c o
           → option_map (port_and_vc (site_at net r)) (out_of (claim_of net (frozen_at net n) r c)) ≡ Some (port_and_vc (site_at net r) o)
       named i o c at (inl a) =
           ap (λ (y : Claim). option_map (port_and_vc (site_at net r)) (out_of y))

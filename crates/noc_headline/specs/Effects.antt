@@ -6,7 +6,7 @@ use Rattle.noc_router.specs.declared.verdict.Verdict.TheVariants.{Routed, Moved}
 use Rattle.noc_route.specs.Channel.{Channel, Link, Inject, Eject, is_link}
 use Rattle.noc_model.specs.Network.{Setup, State, Source, On, In, Out, landed_place, packet_at, leaving, owner_of, place_of, tail_place, state_at, frozen_at}
 use Rattle.noc_model.specs.Good.{IsValid}
-use Rattle.noc_headline.specs.Headline.{IsInputOf, Owns, IsRouted, AsksFor, WinsChannel, CanSend, IsPick, WinsSwitch, Says}
+use Rattle.noc_headline.specs.Headline.{IsInputOf, Owns, IsRouted, AsksForChannel, WinsChannel, CanSend, IsPick, WinsSwitch, Says}
 
 -- packet p is granted channel o: the channel where it is asks for o, and arbitration picks that request
 pub record IsGrantedTo (net : Setup) (F : State) (o : Channel) (p : ℕ) : Type 0 where
@@ -17,7 +17,7 @@ pub record IsGrantedTo (net : Setup) (F : State) (o : Channel) (p : ℕ) : Type 
   pub at : IsInputOf net router input channel
   pub is : leaving net router output ≡ o
   pub packet : Owns net F router p channel
-  pub asks : AsksFor net F router channel output
+  pub asks : AsksForChannel net F router channel output
   pub wins : WinsChannel net F router input output
 
 -- flit i of packet p is sent on channel o: it is the first in its buffer, its packet owns o next, there is a credit, and it wins

@@ -67,7 +67,7 @@ module _ (net : Setup) (F : State) (r : ℕ) where
     pub exists : o < size net
 
   -- c waits, and o is the first output channel that it may take
-  pub record AsksFor (c : Channel) (o : ℕ) : Type 0 where
+  pub record AsksForChannel (c : Channel) (o : ℕ) : Type 0 where
     pub waits : IsWaiting c
     pub may : MayTake c o
     pub least : (k : ℕ) → k < o → ¬ MayTake c k
@@ -86,7 +86,7 @@ module _ (net : Setup) (F : State) (r : ℕ) where
 
   -- input channel i is first in turn among those that ask for output channel o
   abbrev pub WinsChannel : ℕ → ℕ → Type 0
-  WinsChannel i o = IsFirstInTurn (size net) (turn_at (arbiters_at net F r).channels o).pointer (HoldsAt (λ c. AsksFor c o)) i
+  WinsChannel i o = IsFirstInTurn (size net) (turn_at (arbiters_at net F r).channels o).pointer (HoldsAt (λ c. AsksForChannel c o)) i
 
   -- virtual channel v is first in turn among those of an input port that can send
   abbrev pub IsPick : ℕ → ℕ → Type 0
@@ -108,8 +108,8 @@ module _ (net : Setup) (F : State) (r : ℕ) where
   Says i c Empty = (¬ IsRouted c) × (¬ HasFlit c)
   Says i c Routed = (¬ IsRouted c) × HasFlit c
   Says i c NoIdleChannel = IsWaiting c × ((o : ℕ) → ¬ MayTake c o)
-  Says i c LostChannel = (o : ℕ) × AsksFor c o × (¬ WinsChannel i o)
-  Says i c Granted = (o : ℕ) × AsksFor c o × WinsChannel i o
+  Says i c LostChannel = (o : ℕ) × AsksForChannel c o × (¬ WinsChannel i o)
+  Says i c Granted = (o : ℕ) × AsksForChannel c o × WinsChannel i o
   Says i c NoFlit = (o : ℕ) × GoesOnBy c o × (¬ HasFlit c)
   Says i c NoCredit = (o : ℕ) × GoesOnBy c o × HasFlit c × (¬ HasCredit (leaving net r o))
   Says i c LostInput = (o : ℕ) × CanSend c o × (¬ IsPick (i / net.relation.vcs) (i % net.relation.vcs))

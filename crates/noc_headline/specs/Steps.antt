@@ -16,7 +16,7 @@ use Rattle.noc_model.specs.Lockstep.{view_at, beats_in, site_at}
 use Rattle.noc_model.specs.Network.{Setup, State, Located, size, packet_at, buffer_of, owner_of, state_at, frozen_at}
 use Rattle.noc_model.specs.Order.{decides, puts, takes}
 use Rattle.noc_model.specs.Worm.{IsRun}
-use Rattle.noc_headline.specs.Headline.{IsInputOf, Says, AsksFor, GoesOnBy}
+use Rattle.noc_headline.specs.Headline.{IsInputOf, Says, AsksForChannel, GoesOnBy}
 
 -- the beat that the network has in cycle n on the wire that arrives at this router and port
 abbrev pub beat_in : Setup → ℕ → ℕ → ℕ → Beat
@@ -33,7 +33,7 @@ pub record IsFoundIn (net : Setup) (n r : ℕ) (findings : List Finding) : Type 
   pub verdicts : (i : ℕ) (c : Channel) (finding : Finding) → IsInputOf net r i c → slice_get findings i ≡ Some finding
       → (verdict : Verdict) → (finding.verdict ≡ verdict) ↔ Says net (frozen_at net n) r i c verdict
   pub out : (i o : ℕ) (c : Channel) (finding : Finding) → IsInputOf net r i c → slice_get findings i ≡ Some finding
-      → AsksFor net (frozen_at net n) r c o ⊎ GoesOnBy net (frozen_at net n) r c o → finding.out ≡ Some (port_and_vc (site_at net r) o)
+      → AsksForChannel net (frozen_at net n) r c o ⊎ GoesOnBy net (frozen_at net n) r c o → finding.out ≡ Some (port_and_vc (site_at net r) o)
 
 -- these are the flits that state S has in the buffer of channel c: no more than it has places, and all of the packet that owns c,
 -- each behind the one before

@@ -15,11 +15,11 @@ ghost use Rattle.noc_model.specs.Unseen.{AreInStep, AreInStepUnseen, advanced};
 
 use crate::jump::jump;
 use crate::marks::Marks;
-use crate::room::LINKS;
 use crate::takes::take_all;
 use noc_packet::Beat;
 use noc_route::Relation;
 use noc_router::{Plan, Router};
+use noc_topo::LINKS;
 
 // Runs the cycles from `first` to `last`. Nobody reads what is found before the last.
 pub(crate) fn run_all(
@@ -219,7 +219,7 @@ pub fn deliver(
 // A beat is on the wire that arrives at this router and port, where there is a link.
 fn send(beats: &mut [[Beat; LINKS]], marks: &mut Marks, to: Option<(usize, usize)>, beat: Beat)
     requires few { length beats.old ≤ MAX_NODES }
-    requires within { IfSome to (λ place. (place.0 < length beats.old) × (place.1 < 6)) }
+    requires within { IfSome to (λ place. (place.0 < length beats.old) × (place.1 < LINKS)) }
     ensures beats { beats.new ≡ sent_on beats.old to beat }
     ensures marks { AreMarked marks.old beats.old → AreMarked marks.new beats.new }
 {

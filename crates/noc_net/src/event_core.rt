@@ -14,11 +14,12 @@ ghost use Rattle.noc_net.specs.Room.{front_of, opened_post, post_of, rests_at, w
 
 use crate::network::Network;
 use crate::parts::Parts;
-use crate::room::{LINKS, Room};
+use crate::room::Room;
 use noc_model::{CYCLE_LIMIT, Event, NotReady};
 use noc_packet::Beat;
 use noc_route::Relation;
 use noc_router::{Finding, Plan, Router};
+use noc_topo::LINKS;
 use std::marker::Model;
 
 /// The routers of a network that go on by single events, each at a cycle of its own: in whatever order the events
@@ -132,7 +133,7 @@ impl Core {
     // How many link ports a router has, with or without a link.
     fn links(&self) -> usize
         ensures value { result ≡ local_port self.now.net.relation.grid }
-        ensures few { result ≤ 6 }
+        ensures few { result ≤ LINKS }
     {
         self.parts.relation.shape().ports() - 1
     }
@@ -230,7 +231,7 @@ fn open_all(
     beats: &[[Beat; LINKS]],
     room: &mut [Room],
 )
-    requires few { links ≤ 6 }
+    requires few { links ≤ LINKS }
     requires links { (r : ℕ) (view : View) → slice_get routers.now r ≡ Some view → local_port view.site.grid ≡ links }
     requires beats { length beats.now ≡ length routers.now }
     requires room { length room.old ≡ length routers.now }
@@ -264,7 +265,7 @@ fn decide(relation: &Relation, plan: &mut Plan, router: &mut Router, room: &mut 
 
 // Whether all routers are between their cycles at a count.
 fn all_rest_at(links: usize, count: u64, room: &[Room]) -> bool
-    requires { links ≤ 6 }
+    requires { links ≤ LINKS }
     ensures { result ≡ list_all (rests_at links count) room.now }
 {
     room.iter().all(|one| one.rests_at(links, count))
@@ -272,7 +273,7 @@ fn all_rest_at(links: usize, count: u64, room: &[Room]) -> bool
 
 // The oldest beats of the wires are in flight.
 fn land_all(links: usize, room: &[Room], beats: &mut [[Beat; LINKS]])
-    requires few { links ≤ 6 }
+    requires few { links ≤ LINKS }
     requires beats { length beats.old ≡ length room.now }
     ensures { (r : ℕ) (one : Room) (port : ℕ) → slice_get room.now r ≡ Some one → beat_at beats.new r port ≡ front_of (slice_index_or (take links (wires_in one)) port []) }
 {

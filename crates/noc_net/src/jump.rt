@@ -11,10 +11,10 @@ ghost use Rattle.noc_model.specs.Network.{Setup};
 ghost use Rattle.noc_model.specs.Unseen.{AreInStepUnseen};
 ghost use Rattle.noc_net.specs.Jump.{AreStill, had_event_in};
 
-use crate::room::LINKS;
 use noc_packet::{Beat, ChannelSet};
 use noc_route::Relation;
 use noc_router::{Plan, Router};
+use noc_topo::LINKS;
 
 // Where cycle `last` had no event and nothing happens in those after it, runs them, as far as the next injection or `end`. Gives
 // the cycle that is next.
@@ -95,7 +95,7 @@ fn all_silent(beats: &[[Beat; LINKS]]) -> bool
 
 // The ports with a beat that carries something.
 fn arrived(beats: &[Beat; LINKS]) -> ChannelSet
-    ensures { AreLoaded 6 beats.now result }
+    ensures { AreLoaded LINKS beats.now result }
 {
     let mut ports = ChannelSet::empty();
     for port in 0..LINKS {

@@ -22,4 +22,4 @@ pub use marks::Marks;
 pub use network::Network;
 pub use noc_model::{CYCLE_LIMIT, Event, NotReady};
 pub use parts::Parts;
-pub use room::{LINKS, Room};
+pub use room::Room;

@@ -8,9 +8,8 @@ ghost use Rattle.noc_model.specs.Lockstep.{beats_at};
 ghost use Rattle.noc_net.specs.declared.marks.TheConstants.{SETS};
 ghost use Rattle.noc_net.specs.Marks.{AreMarked, HasTakenOut, IsMarkedAt, IsRowMarked, has_credit, has_flit};
 
-use crate::room::LINKS;
 use noc_packet::{Beat, ChannelSet, MAX_PORTS};
-use noc_topo::MAX_NODES;
+use noc_topo::{LINKS, MAX_NODES};
 use std::marker::Model;
 
 /// How many routers share a set.
@@ -56,8 +55,8 @@ impl Marks {
     // The marks of the beats of one router.
     fn note_row(&mut self, node: usize, row: &[Beat; LINKS])
         requires { node < MAX_NODES }
-        ensures flits { IsRowMarked has_flit self.old.flits self.new.flits node 6 row.now }
-        ensures credits { IsRowMarked has_credit self.old.credits self.new.credits node 6 row.now }
+        ensures flits { IsRowMarked has_flit self.old.flits self.new.flits node LINKS row.now }
+        ensures credits { IsRowMarked has_credit self.old.credits self.new.credits node LINKS row.now }
     {
         for port in 0..LINKS {
             self.note(node, port, &row[port]);
@@ -67,7 +66,7 @@ impl Marks {
     /// The marks where this is the beat of a link, by the router (0 to 255) and the link port (0 to 5) where it arrives.
     pub fn note(&mut self, node: usize, port: usize, beat: &Beat)
         requires node { node < MAX_NODES }
-        requires port { port < 6 }
+        requires port { port < LINKS }
         ensures flits { IsMarkedAt self.old.flits self.new.flits node port (has_flit beat.now) }
         ensures credits { IsMarkedAt self.old.credits self.new.credits node port (has_credit beat.now) }
         ensures marks { (beats : List (List beat_value)) → node < length beats → port < length (beats_at beats node) → AreMarked self.old beats → AreMarked self.new (sent_on beats (Some (node, port)) beat.now) }
@@ -81,7 +80,7 @@ impl Marks {
 #[inline(always)]
 fn mark(sets: &mut [ChannelSet; SETS], node: usize, port: usize, is_member: bool)
     requires node { node < MAX_NODES }
-    requires port { port < 6 }
+    requires port { port < LINKS }
     ensures { IsMarkedAt sets.old sets.new node port is_member }
 {
     let index = node % ROUTERS * MAX_PORTS + port;

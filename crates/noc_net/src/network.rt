@@ -22,11 +22,12 @@ use crate::cycles::run_all;
 use crate::fault::NetFault;
 use crate::packets::{ends_at, first_fault, starts_at};
 use crate::parts::Parts;
-use crate::room::{LINKS, Room};
+use crate::room::Room;
 use noc_model::CYCLE_LIMIT;
 use noc_packet::{Beat, MAX_BUFFER, MAX_PACKETS, Memory, Packet};
 use noc_route::Relation;
 use noc_router::{Finding, Plan, Router, VERDICTS};
+use noc_topo::LINKS;
 use std::alloc::Global;
 use std::marker::Model;
 

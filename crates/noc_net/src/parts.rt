@@ -1,9 +1,10 @@
 //! A network taken apart.
 
-use crate::room::{LINKS, Room};
+use crate::room::Room;
 use noc_packet::{Beat, Packet};
 use noc_route::Relation;
 use noc_router::{Plan, Router};
+use noc_topo::LINKS;
 
 /// What a network is made of, so that others can run its routers (`Network::into_parts`, `Network::from_parts`).
 #[derive(Drop)]

@@ -10,8 +10,8 @@ ghost use Rattle.noc_net.specs.Room.{front_of, opened_post, post_of, rests_at, u
 use crate::wire::Wire;
 use noc_model::CYCLE_LIMIT;
 use noc_packet::Beat;
-pub use noc_router::LINKS;
 use noc_router::Router;
+use noc_topo::LINKS;
 
 /// The storage of a core for one router: the wires that arrive there, and what the router has done of its cycle.
 #[derive(Clone, Copy)]
@@ -27,7 +27,7 @@ pub struct Room {
 impl Room {
     // A router between its cycles, with nothing on its wires.
     pub(crate) fn new(steps: u64) -> Room
-        ensures { result ≡ record { steps = steps; decided = false; wires = replicate 6 Wire.Empty; taken = replicate 6 None; unput = replicate 6 None } }
+        ensures { result ≡ record { steps = steps; decided = false; wires = replicate LINKS Wire.Empty; taken = replicate LINKS None; unput = replicate LINKS None } }
     {
         Room {
             steps,
@@ -41,7 +41,7 @@ impl Room {
     // A router between its cycles, with the beats in flight on its wires.
     pub(crate) fn opened(router: &Router, links: usize, steps: u64, beats: &[Beat; LINKS]) -> Room
         requires links { links ≡ local_port router.now.site.grid }
-        requires few { links ≤ 6 }
+        requires few { links ≤ LINKS }
         ensures { post_of links router.now result ≡ opened_post links router.now steps beats.now }
     {
         let mut room = Room::new(steps);
@@ -60,7 +60,7 @@ impl Room {
 
     // How many beats are on the wire that arrives at a port.
     pub(crate) fn beats(&self, port: usize) -> usize
-        requires { port < 6 }
+        requires { port < LINKS }
         ensures { result ≡ length (slice_index_or (wires_in self.now) port []) }
     {
         self.wires[port].len()
@@ -68,7 +68,7 @@ impl Room {
 
     // Whether a beat can be taken at a link port.
     pub(crate) fn may_take(&self, port: usize) -> bool
-        requires { port < 6 }
+        requires { port < LINKS }
         ensures { (links : ℕ) (view : View) → port < links → result ≡ may_take CYCLE_LIMIT port (post_of links view self.now) }
     {
         self.wires[port].len() > 0 && self.taken[port].is_none() && self.steps < CYCLE_LIMIT
@@ -76,7 +76,7 @@ impl Room {
 
     // The oldest beat of a wire is taken.
     pub(crate) fn take(&mut self, port: usize)
-        requires { port < 6 }
+        requires { port < LINKS }
         ensures { (links : ℕ) (view : View) → port < links → post_of links view self.new ≡ taking port (post_of links view self.old) }
     {
         let mut wire = self.wires[port];
@@ -87,7 +87,7 @@ impl Room {
     // Whether the cycle can be made.
     pub(crate) fn may_decide(&self, router: &Router, links: usize) -> bool
         requires links { links ≡ local_port router.now.site.grid }
-        requires few { links ≤ 6 }
+        requires few { links ≤ LINKS }
         ensures { (net : Setup) (view : View) → net.relation.grid ≡ router.now.site.grid → result ≡ may_decide CYCLE_LIMIT net router.now.site.node (post_of links view self.now) }
     {
         !self.decided && self.steps < CYCLE_LIMIT && self.has_all(router, links)
@@ -96,7 +96,7 @@ impl Room {
     // Whether a beat is taken at each link.
     fn has_all(&self, router: &Router, links: usize) -> bool
         requires links { links ≡ local_port router.now.site.grid }
-        requires few { links ≤ 6 }
+        requires few { links ≤ LINKS }
         ensures { (net : Setup) → net.relation.grid ≡ router.now.site.grid → result ≡ all_have net router.now.site.node (take links self.now.taken) }
     {
         for port in 0..links {
@@ -110,7 +110,7 @@ impl Room {
     // Whether a link port has a link at which no beat is taken yet.
     fn lacks(&self, router: &Router, port: usize) -> bool
         requires port { port < local_port router.now.site.grid }
-        requires few { port < 6 }
+        requires few { port < LINKS }
         ensures { result ≡ (is_none (slice_index_or self.now.taken port None) && is_some (neighbour_of router.now.site.grid router.now.site.node port)) }
     {
         self.taken[port].is_none() && router.neighbour(port).is_some()
@@ -130,7 +130,7 @@ impl Room {
     // The cycle is made: these beats are to be put where there are links.
     pub(crate) fn decide(&mut self, router: &Router, links: usize, beats: &[Beat; LINKS])
         requires links { links ≡ local_port router.now.site.grid }
-        requires few { links ≤ 6 }
+        requires few { links ≤ LINKS }
         requires steps { self.old.steps < CYCLE_LIMIT }
         ensures { (net : Setup) (view : View) → net.relation.grid ≡ router.now.site.grid → post_of links view self.new ≡ finished net (record (post_of links view self.old) { decided = true; unput = unput_for net router.now.site.node (take links beats.now) }) }
     {
@@ -143,7 +143,7 @@ impl Room {
 
     // Whether the beat for a link port can be put.
     pub(crate) fn may_put(&self, port: usize) -> bool
-        requires { port < 6 }
+        requires { port < LINKS }
         ensures { (links : ℕ) (view : View) → port < links → result ≡ may_put port (post_of links view self.now) }
     {
         self.unput[port].is_some()
@@ -152,7 +152,7 @@ impl Room {
     // The beat for a link port is put.
     pub(crate) fn put(&mut self, port: usize, links: usize) -> Beat
         requires port { port < links }
-        requires few { links ≤ 6 }
+        requires few { links ≤ LINKS }
         requires steps { self.old.steps < CYCLE_LIMIT }
         ensures beat { result ≡ unwrap_or (slice_index_or self.old.unput port None) idle_beat }
         ensures post { (net : Setup) (view : View) → local_port net.relation.grid ≡ links → post_of links view self.new ≡ putting net port (post_of links view self.old) }
@@ -165,7 +165,7 @@ impl Room {
 
     // After its last put the router is between its cycles.
     fn finish(&mut self, links: usize)
-        requires few { links ≤ 6 }
+        requires few { links ≤ LINKS }
         requires steps { self.old.steps < CYCLE_LIMIT }
         ensures { (net : Setup) (view : View) → local_port net.relation.grid ≡ links → post_of links view self.new ≡ finished net (post_of links view self.old) }
     {
@@ -178,7 +178,7 @@ impl Room {
 
     // A beat comes to the end of a wire.
     pub(crate) fn receive(&mut self, port: usize, beat: Beat)
-        requires port { port < 6 }
+        requires port { port < LINKS }
         requires room { length (slice_index_or (wires_in self.old) port []) < 2 }
         ensures { (links : ℕ) (view : View) → port < links → post_of links view self.new ≡ receiving port beat (post_of links view self.old) }
     {
@@ -189,7 +189,7 @@ impl Room {
 
     // Whether the router is between its cycles at a count.
     pub(crate) fn rests_at(&self, links: usize, count: u64) -> bool
-        requires { links ≤ 6 }
+        requires { links ≤ LINKS }
         ensures { result ≡ rests_at links count self.now }
     {
         !self.decided && self.steps == count && have_none(&self.taken[..links])
@@ -197,7 +197,7 @@ impl Room {
 
     // The oldest beats of the wires, idle ones where there are none.
     pub(crate) fn front(&self, links: usize) -> [Beat; LINKS]
-        requires { links ≤ 6 }
+        requires { links ≤ LINKS }
         ensures { (port : ℕ) → slice_index_or result port idle_beat ≡ front_of (slice_index_or (take links (wires_in self.now)) port []) }
     {
         let mut beats = [Beat::idle(); LINKS];

@@ -13,10 +13,10 @@ ghost use Rattle.noc_net.specs.Takes.{HaveTaken, NoneElsewhere};
 ghost use Rattle.noc_net.specs.declared.marks.TheConstants.{SETS};
 
 use crate::marks::{Marks, ROUTERS, SETS, take_out};
-use crate::room::LINKS;
 use noc_packet::{Beat, ChannelSet, MAX_PORTS};
 use noc_route::Relation;
 use noc_router::Router;
+use noc_topo::LINKS;
 
 // Each of the routers from `first` on takes the beats that came to it, and leaves idle ones.
 pub(crate) fn take_all(
@@ -79,7 +79,7 @@ fn take_flits_in(
     ensures none { (k : ℕ) → has_bit (slice_index_or flits.new set 0) k ≡ false }
     ensures others { (w : ℕ) → w ≢ set → slice_index_or flits.new w 0 ≡ slice_index_or flits.old w 0 }
     ensures credits { (r port : ℕ) → (beat_at beats.new r port).credit ≡ (beat_at beats.old r port).credit }
-    ensures rows { (r : ℕ) → r < length beats.new → length (beats_at beats.new r) ≡ 6 }
+    ensures rows { (r : ℕ) → r < length beats.new → length (beats_at beats.new r) ≡ LINKS }
 {
     while let Some(index) = take_out(flits, set) {
         let (node, port) = (set * ROUTERS + index / MAX_PORTS, index % MAX_PORTS);
@@ -100,7 +100,7 @@ fn take_flit(
     requires router { router < length routers.old }
     requires row { node < length beats.old }
     requires port { port < local_port relation.now.grid }
-    requires within { port < 6 }
+    requires within { port < LINKS }
     requires built { (d : View) → IsRelationOf relation.now (slice_index_or routers.old router d) }
     ensures count { length routers.new ≡ length routers.old }
     ensures routers { (r : ℕ) (d : View) → slice_index_or routers.new r d ≡ (if r == router then with_flit relation.now port (beat_at beats.old node port).flit (slice_index_or routers.old r d) else slice_index_or routers.old r d) }
@@ -152,7 +152,7 @@ fn take_credits_in(
     ensures none { (k : ℕ) → has_bit (slice_index_or credits.new set 0) k ≡ false }
     ensures others { (w : ℕ) → w ≢ set → slice_index_or credits.new w 0 ≡ slice_index_or credits.old w 0 }
     ensures flits { (r port : ℕ) → (beat_at beats.new r port).flit ≡ None }
-    ensures rows { (r : ℕ) → r < length beats.new → length (beats_at beats.new r) ≡ 6 }
+    ensures rows { (r : ℕ) → r < length beats.new → length (beats_at beats.new r) ≡ LINKS }
 {
     while let Some(index) = take_out(credits, set) {
         let (node, port) = (set * ROUTERS + index / MAX_PORTS, index % MAX_PORTS);
@@ -173,7 +173,7 @@ fn take_credit(
     requires router { router < length routers.old }
     requires row { node < length beats.old }
     requires port { port < local_port relation.now.grid }
-    requires within { port < 6 }
+    requires within { port < LINKS }
     requires built { (d : View) → IsRelationOf relation.now (slice_index_or routers.old router d) }
     ensures count { length routers.new ≡ length routers.old }
     ensures routers { (r : ℕ) (d : View) → slice_index_or routers.new r d ≡ (if r == router then with_credit port (beat_at beats.old node port).credit (slice_index_or routers.old r d) else slice_index_or routers.old r d) }

@@ -14,7 +14,7 @@ use Rattle.noc_route.specs.declared.rule.Entry.{Entry}
 use Rattle.noc_route.proofs.BuiltLemmas.{set_at-member}
 use Rattle.noc_route.proofs.PermitsLemmas.{PermitsLink-from_test, PermitsEject-from_test, permits-inject, member-permits, coming-on}
 use Rattle.noc_route.proofs.PlaceLemmas.{flat-below, flat-div, flat-mod}
-use Rattle.noc_route.proofs.RisingLemmas.{some-value}
+use Rattle.noc_route.proofs.OptionLemmas.{some-value}
 use Rattle.noc_rank.specs.Ahead.{over}
 use Rattle.noc_rank.specs.Bare.{entries, entry_at, IsRankedIn, IsBareSet}
 use Rattle.noc_rank.specs.Faults.{IsBare, IsFirstBare, HasEscapes}

@@ -14,7 +14,7 @@ use Rattle.noc_rank.specs.declared.fault.RankFault.TheVariants.{NoGenerated, Not
 use Rattle.noc_route.specs.Ranks.{Ranking, is_place, is_channel, places, place_of, rank_at}
 use Rattle.noc_rank.specs.Ranking.{IsRanking}
 use Rattle.noc_rank.specs.Rows.{is_rank, is_row_of, has_row, rank_in, fault_of, row_fault, AreGood, IsFirstRowFault, IsFirstMissing, IsFaultOfRows, IsRankingOf}
-use Rattle.noc_rank.specs.Entered.{IsRight, IsEntered, IsWhole, IsFirstGap}
+use Rattle.noc_rank.specs.Entered.{IsRight, AreEntered, IsWhole, IsFirstGap}
 use Rattle.noc_rank.proofs.PlaceLemmas.{is_place-parts, is_channel-place, place-below, place-vc, place-port, place-router, place-again, place-before}
 
 -- ---- the fault of one row
@@ -133,9 +133,9 @@ Each-push P (x ∷ xs) y all p = (all.0, Each-push P xs y all.1 p)
 
 -- ---- entering
 
-pub IsEntered-blank : (g : Grid) (vcs : ℕ) (rows : List RankRow) (ranks : List (Option ℕ)) (named : List Bool) → length ranks ≡ places g vcs → length named ≡ places g vcs
-    → ((k : ℕ) → k < places g vcs → get_or ranks k None ≡ None) → ((k : ℕ) → k < places g vcs → get_or named k false ≡ false) → IsEntered g vcs rows 0 ranks named
-IsEntered-blank g vcs rows ranks named long all blank free = record {
+pub AreEntered-blank : (g : Grid) (vcs : ℕ) (rows : List RankRow) (ranks : List (Option ℕ)) (named : List Bool) → length ranks ≡ places g vcs → length named ≡ places g vcs
+    → ((k : ℕ) → k < places g vcs → get_or ranks k None ≡ None) → ((k : ℕ) → k < places g vcs → get_or named k false ≡ false) → AreEntered g vcs rows 0 ranks named
+AreEntered-blank g vcs rows ranks named long all blank free = record {
   long = long;
   all = all;
   good = λ i row l. absurd (omega arith);
@@ -157,7 +157,7 @@ IsEntered-blank g vcs rows ranks named long all blank free = record {
     unnamed (row ∷ rows) r p v = refl
 
 -- the fault of a row as the list of named channels shows it
-pub row_fault-stored : (g : Grid) (vcs : ℕ) (rows : List RankRow) (n : ℕ) (ranks : List (Option ℕ)) (named : List Bool) (row : RankRow) → IsEntered g vcs rows n ranks named
+pub row_fault-stored : (g : Grid) (vcs : ℕ) (rows : List RankRow) (n : ℕ) (ranks : List (Option ℕ)) (named : List Bool) (row : RankRow) → AreEntered g vcs rows n ranks named
     → fault_of g vcs (get_or named (place_of g vcs row.router row.port row.vc) false) n row ≡ row_fault g vcs rows n row
 row_fault-stored g vcs rows n ranks named row entered =
     fault_of-same g vcs (get_or named (place_of g vcs row.router row.port row.vc) false) (has_row (take n rows) row.router row.port row.vc) n row
@@ -183,10 +183,10 @@ place-differs g vcs r p v row d e unlike same =
     let vc = sym (place-vc g vcs row.router row.port row.vc there.2) ∙ ap (λ k. k % vcs) (sym same) ∙ place-vc g vcs r p v here.2 in
     false≢true (sym unlike ∙ is_row_of-true r p v row router port vc)
 
-pub IsEntered-more : (g : Grid) (vcs : ℕ) (rows : List RankRow) (n : ℕ) (ranks : List (Option ℕ)) (named : List Bool) (row : RankRow) → slice_get rows n ≡ Some row → row_fault g vcs rows n row ≡ None
-    → IsEntered g vcs rows n ranks named
-    → IsEntered g vcs rows (n + 1) (set ranks (place_of g vcs row.router row.port row.vc) row.rank) (set named (place_of g vcs row.router row.port row.vc) true)
-IsEntered-more g vcs rows n ranks named row there none entered =
+pub AreEntered-more : (g : Grid) (vcs : ℕ) (rows : List RankRow) (n : ℕ) (ranks : List (Option ℕ)) (named : List Bool) (row : RankRow) → slice_get rows n ≡ Some row → row_fault g vcs rows n row ≡ None
+    → AreEntered g vcs rows n ranks named
+    → AreEntered g vcs rows (n + 1) (set ranks (place_of g vcs row.router row.port row.vc) row.rank) (set named (place_of g vcs row.router row.port row.vc) true)
+AreEntered-more g vcs rows n ranks named row there none entered =
     let facts = fault_of-none g vcs (has_row (take n rows) row.router row.port row.vc) n row none in
     let k = place_of g vcs row.router row.port row.vc in
     let more : take (n + 1) rows ≡ take n rows ++ row ∷ [] = take_more rows n row (slice_get_within rows n row there) ∙ ap (λ x. take n rows ++ x ∷ []) (get_or_from_slice_get rows n row row there) in
@@ -231,7 +231,7 @@ IsEntered-more g vcs rows n ranks named row there none entered =
 
 -- ---- when all rows are entered
 
-module _ (g : Grid) (vcs : ℕ) (rows : List RankRow) (ranks : List (Option ℕ)) (named : List Bool) (entered : IsEntered g vcs rows (length rows) ranks named) where
+module _ (g : Grid) (vcs : ℕ) (rows : List RankRow) (ranks : List (Option ℕ)) (named : List Bool) (entered : AreEntered g vcs rows (length rows) ranks named) where
   all_good : (n : ℕ) → AreGood g vcs rows n
   all_good n i row l e = entered.good i row (slice_get_within rows i row e) e
 

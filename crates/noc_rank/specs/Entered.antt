@@ -14,7 +14,7 @@ pub record IsRight (g : Grid) (vcs : ℕ) (row : RankRow) : Type 0 where
   pub limits : is_rank row.rank ≡ true
 
 -- one list holds the ranks of the first n rows, the other says which channels they name, and they have no fault
-pub record IsEntered (g : Grid) (vcs : ℕ) (rows : List RankRow) (n : ℕ) (ranks : List (Option ℕ)) (named : List Bool) : Type 0 where
+pub record AreEntered (g : Grid) (vcs : ℕ) (rows : List RankRow) (n : ℕ) (ranks : List (Option ℕ)) (named : List Bool) : Type 0 where
   pub long : length ranks ≡ places g vcs
   pub all : length named ≡ places g vcs
   pub good : AreGood g vcs rows n

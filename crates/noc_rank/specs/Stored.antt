@@ -1,10 +1,6 @@
 -- How ranks are stored.
 use Rattle.noc_rank.specs.declared.ranks.Ranks.TheInside.{Inside}
 use Rattle.noc_route.specs.Ranks.{Ranking}
-use Rattle.noc_rank.specs.Ranking.{IsRanking}
 
 abbrev pub ranking_of : Inside → Ranking
 ranking_of s = record { grid = s.shape; vcs = s.vcs; ranks = s.ranks.items }
-
-abbrev pub IsSound : Inside → Type 0
-IsSound s = IsRanking (ranking_of s)

@@ -1,14 +1,18 @@
 //! Ranks by formula: the order of channels behind each rule's freedom from deadlock (Dally and Towles, chapter 14).
 
 ghost use Rattle.std.specs.Prelude.{◌≡◌, ℕ, ◌+◌, ◌*◌, ◌/◌, ◌%◌, ◌<◌, ◌≤◌, IfOk, IfSome, Option, Some, None, is_some, true, false, slice_index, slice_index_or, vec_len};
+ghost use Rattle.noc_topo.specs.declared.limits.TheConstants.{MAX_RADIX};
 ghost use Rattle.noc_topo.specs.Shape.{IsGrid, nodes, dimensions, coordinates, local_port};
 ghost use Rattle.noc_route.specs.Ranks.{is_channel, places};
 ghost use Rattle.noc_rank.specs.Formulas.{has_ranks, is_numbered, passed_in, west_first_rank, formula, formula_at};
 
 use crate::place::{all_ports, is_channel, link_ports};
 use noc_route::{Rule, escapes, is_right, resource_class};
-use noc_topo::{Kind, Shape};
+use noc_topo::{Kind, MAX_RADIX, Shape};
 use std::alloc::{AllocError, Global};
+
+/// No rank by formula is above this one.
+const HIGHEST: u32 = 1000;
 
 /// Whether a rule fits these numbers and has ranks by formula: dimension order on a mesh, dateline, west first and adaptive.
 pub fn has_ranks(shape: &Shape, vcs: usize, classes: usize, rule: &Rule) -> bool
@@ -35,7 +39,7 @@ pub fn formula_ranks(
     ensures grid { IsGrid shape.now }
     ensures items { IfOk result (λ ranks. (k : ℕ) → k < places shape.now vcs → slice_index_or ranks.items k None ≡ formula_at shape.now vcs classes rule.now (k / vcs / local_port shape.now) (k / vcs % local_port shape.now) (k % vcs)) }
     ensures some { IfOk result (λ ranks. (k : ℕ) → k < places shape.now vcs → IfSome (slice_index_or ranks.items k None) (λ n. 1 ≤ n)) }
-    ensures few { IfOk result (λ ranks. (k : ℕ) → k < places shape.now vcs → IfSome (slice_index_or ranks.items k None) (λ n. n ≤ 1000)) }
+    ensures few { IfOk result (λ ranks. (k : ℕ) → k < places shape.now vcs → IfSome (slice_index_or ranks.items k None) (λ n. n ≤ HIGHEST)) }
 {
     let ports = link_ports(shape);
     let count = all_ports(shape) * vcs;
@@ -62,7 +66,7 @@ fn formula_at(
     requires port { port < local_port shape.now }
     ensures value { result ≡ formula_at shape.now vcs classes rule.now router port vc }
     ensures some { IfSome result (λ n. 1 ≤ n) }
-    ensures few { IfSome result (λ n. n ≤ 1000) }
+    ensures few { IfSome result (λ n. n ≤ HIGHEST) }
 {
     if !is_channel(shape, vcs, router, port, vc) || !is_numbered(shape, vcs, classes, rule, vc) {
         return None;
@@ -81,7 +85,7 @@ fn is_numbered(shape: &Shape, vcs: usize, classes: usize, rule: &Rule, vc: usize
     }
 }
 
-/// The rank by formula of a link channel that has one, at most 1,000.
+/// The rank by formula of a link channel that has one, at most `HIGHEST`.
 fn formula(
     shape: &Shape,
     vcs: usize,
@@ -97,7 +101,7 @@ fn formula(
     requires numbered { is_numbered shape.now vcs classes rule.now vc ≡ true }
     ensures value { result ≡ formula shape.now vcs classes rule.now router port vc }
     ensures some { 1 ≤ result }
-    ensures few { result ≤ 1000 }
+    ensures few { result ≤ HIGHEST }
 {
     let axis = axis_of(shape, router, port / 2);
     match rule {
@@ -119,7 +123,7 @@ fn west_first_rank(shape: &Shape, router: usize, port: usize) -> usize
     requires port { port < 4 }
     ensures value { result ≡ west_first_rank shape.now router port }
     ensures some { 1 ≤ result }
-    ensures few { result ≤ 1000 }
+    ensures few { result ≤ HIGHEST }
 {
     let first = axis_of(shape, router, 0);
     let second = axis_of(shape, router, 1);
@@ -137,7 +141,7 @@ struct Axis {
     at: usize,
     size: usize,
     ghost inside: { at < size },
-    ghost few: { size ≤ 16 },
+    ghost few: { size ≤ MAX_RADIX },
 }
 
 /// The coordinate of a router in a dimension.
@@ -158,7 +162,7 @@ impl Axis {
     /// How many routers lie behind this one, seen along a port of its dimension.
     fn passed(self, port: usize) -> usize
         ensures value { result ≡ passed_in self.size self.at port }
-        ensures few { result < 16 }
+        ensures few { result < MAX_RADIX }
     {
         if port % 2 == 0 {
             self.at

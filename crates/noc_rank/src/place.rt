@@ -4,7 +4,7 @@ ghost use Rattle.std.specs.Prelude.{◌≡◌, ℕ, ◌+◌, ◌*◌, ◌/◌, �
 ghost use Rattle.noc_topo.specs.Shape.{IsGrid, nodes, local_port};
 ghost use Rattle.noc_route.specs.Ranks.{is_place, is_channel, places, place_of};
 
-use noc_topo::Shape;
+use noc_topo::{LINKS, MAX_NODES, Shape};
 
 /// A virtual channel of a link, named by the router that sends on it, its port and its number.
 #[derive(Clone, Copy, Debug, PartialEq, Eq)]
@@ -18,7 +18,7 @@ pub struct LinkChannel {
 pub fn link_ports(shape: &Shape) -> usize
     ensures value { result ≡ local_port shape.now }
     ensures some { 2 ≤ result }
-    ensures few { result ≤ 6 }
+    ensures few { result ≤ LINKS }
     ensures grid { IsGrid shape.now }
 {
     shape.ports() - 1
@@ -27,7 +27,7 @@ pub fn link_ports(shape: &Shape) -> usize
 /// How many routers and link ports there are, at most 1,536.
 pub fn all_ports(shape: &Shape) -> usize
     ensures value { result ≡ nodes shape.now * local_port shape.now }
-    ensures few { result ≤ 1536 }
+    ensures few { result ≤ MAX_NODES * LINKS }
     ensures grid { IsGrid shape.now }
 {
     shape.nodes() * link_ports(shape)

@@ -29,11 +29,12 @@ impl Model for Ranks {
 
     ghost Value = { Ranking };
 
-    ghost use Rattle.noc_rank.specs.Stored.{ranking_of, IsSound};
+    ghost use Rattle.noc_rank.specs.Ranking.{IsRanking};
+    ghost use Rattle.noc_rank.specs.Stored.{ranking_of};
 
     ghost view = { ranking_of };
 
-    ghost invariant = { IsSound };
+    ghost invariant = { λ s. IsRanking (ranking_of s) };
 }
 
 impl Ranks {

@@ -3,7 +3,7 @@
 ghost use Rattle.std.specs.Prelude.{◌≡◌, ℕ, ◌<◌, ◌≤◌, IfErr, IfSome, IfNone, IsOk, OnOk, OnErr, length, slice_index_or, true, false, Some};
 ghost use Rattle.noc_route.specs.Ranks.{is_place, is_channel, places, place_of};
 ghost use Rattle.noc_rank.specs.Rows.{is_rank, fault_of, IsFirstRowFault};
-ghost use Rattle.noc_rank.specs.Entered.{IsEntered, IsWhole, IsFirstGap};
+ghost use Rattle.noc_rank.specs.Entered.{AreEntered, IsWhole, IsFirstGap};
 
 use crate::fault::RankFault;
 use crate::place::{is_channel, link_ports, place};
@@ -32,9 +32,9 @@ pub fn enter(
     named: &mut [bool],
 ) -> Result<(), RankFault>
     requires few { places shape.now vcs < 18446744073709551616 }
-    requires blank { IsEntered shape.now vcs rows.now 0 ranks.old named.old }
+    requires blank { AreEntered shape.now vcs rows.now 0 ranks.old named.old }
     ensures err { IfErr result (IsFirstRowFault shape.now vcs rows.now) }
-    ensures ok { OnOk result (IsEntered shape.now vcs rows.now (length rows.now) ranks.new named.new) }
+    ensures ok { OnOk result (AreEntered shape.now vcs rows.now (length rows.now) ranks.new named.new) }
 {
     for (number, row) in rows.iter().enumerate() {
         if let Some(fault) = row_fault(shape, vcs, named, number, row) {

@@ -18,7 +18,7 @@ use Rattle.noc_files.specs.declared.configuration.RuleName.{RuleName}
 use Rattle.noc_files.specs.declared.fault.InputFault.{InputFault}
 use Rattle.noc_requests.specs.Asked.{Asked, Said, read_by}
 use Rattle.noc_requests.specs.Options.{early_fault, late_fault}
-use Rattle.noc_requests.specs.Settings.{AsksForSettings, AsksForShape, AsksForRelation, IsRuleOf, named, tabled, IsTableFault, bad_table, SettingsFault, bad_config, bad_option, bad_shape, bad_late_option, in_table, bad_relation}
+use Rattle.noc_requests.specs.Settings.{AsksForSettings, AsksForShape, AsksForRelation, IsRuleOf, named, tabled, RefusesTable, bad_table, SettingsFault, bad_config, bad_option, bad_shape, bad_late_option, in_table, bad_relation}
 use Rattle.noc_requests.specs.Status.{is_memory}
 use Rattle.noc_requests.specs.declared.fault.Fault.{Fault}
 use Rattle.noc_requests.specs.declared.fault.Fault.TheVariants as fault
@@ -63,7 +63,7 @@ shaped-ok a s g h = shaped-settings a s h.settings ∙ ap (after_shape a s) h.sh
 -- a fault up to the shape, or one of the table or of the relation
 data At (a : Asked) (f : Fault) : Type 0 where
   before : shaped a ≡ Err f → At a f
-  table : {s : Settings} {g : Grid} → AsksForShape a s g → IsTableFault a.table g s.rule f → At a f
+  table : {s : Settings} {g : Grid} → AsksForShape a s g → RefusesTable a.table g s.rule f → At a f
   relation : {s : Settings} {g : Grid} {r : Rule} {h : RouteFault} → f ≡ fault.Relation h g → AsksForShape a s g → IsRuleOf a.table g s.rule r → IsFaultOf (routing_of g s.channels s.classes r) h → At a f
 
 at : (a : Asked) (f : Fault) → is_memory f ≡ false → SettingsFault a f → At a f
@@ -100,7 +100,7 @@ alike t g vcs classes name r s (tabled {text = x} {rows = v} e h) (tabled {text 
     let both : Ok v.items ≡ Ok w.items = sym h ∙ ap (read_by (table_of g)) text ∙ k in
     AreAlike-rows g vcs classes v w (cc)
 
-no_rule_after : (t : Option Said) (g : Grid) (name : RuleName) (r : Rule) (f : Fault) → is_memory f ≡ false → IsRuleOf t g name r → IsTableFault t g name f → ⊥
+no_rule_after : (t : Option Said) (g : Grid) (name : RuleName) (r : Rule) (f : Fault) → is_memory f ≡ false → IsRuleOf t g name r → RefusesTable t g name f → ⊥
 no_rule_after t g name r f p (named e) (bad_table d k) = cc
 no_rule_after t g name r f p (tabled {text = x} {rows = v} e h) (bad_table {text = y} {f = i} d k) =
     let texts : Some x ≡ Some y = sym e ∙ d in
@@ -108,7 +108,7 @@ no_rule_after t g name r f p (tabled {text = x} {rows = v} e h) (bad_table {text
     let never : Ok v.items ≡ Err i = sym h ∙ ap (read_by (table_of g)) text ∙ k (table_not_memory i p) in
     cc never
 
-one_table_fault : (t : Option Said) (g : Grid) (name : RuleName) (f k : Fault) → is_memory f ≡ false → is_memory k ≡ false → IsTableFault t g name f → IsTableFault t g name k → f ≡ k
+one_table_fault : (t : Option Said) (g : Grid) (name : RuleName) (f k : Fault) → is_memory f ≡ false → is_memory k ≡ false → RefusesTable t g name f → RefusesTable t g name k → f ≡ k
 one_table_fault t g name f k p q (bad_table {text = x} {f = i} e h) (bad_table {text = y} {f = j} d u) =
     let texts : Some x ≡ Some y = sym e ∙ d in
     let text : x ≡ y = cc in
@@ -160,14 +160,14 @@ no_settings_fault a s routes f p asks bad = no_relation_at a s routes f p asks (
 
 module _ (a : Asked) where
   -- the same table's fault, or a fault of the same rule's relation
-  tables : (f k : Fault) (s t : Settings) (g h : Grid) → is_memory f ≡ false → is_memory k ≡ false → AsksForShape a s g → AsksForShape a t h → IsTableFault a.table g s.rule f → IsTableFault a.table h t.rule k → f ≡ k
+  tables : (f k : Fault) (s t : Settings) (g h : Grid) → is_memory f ≡ false → is_memory k ≡ false → AsksForShape a s g → AsksForShape a t h → RefusesTable a.table g s.rule f → RefusesTable a.table h t.rule k → f ≡ k
   tables f k s t g h p q x y bad other =
       let same = same_shaped a s t g h x y in
-      let P : Settings → Type 0 = λ z. IsTableFault a.table h z.rule k in
-      let Q : Grid → Type 0 = λ z. IsTableFault a.table z s.rule k in
+      let P : Settings → Type 0 = λ z. RefusesTable a.table h z.rule k in
+      let Q : Grid → Type 0 = λ z. RefusesTable a.table z s.rule k in
       one_table_fault a.table g s.rule f k p q bad (subst Q same.1 (subst P same.0 other))
 
-  table_first : (f : Fault) (s t : Settings) (g h : Grid) (r : Rule) → is_memory f ≡ false → AsksForShape a s g → AsksForShape a t h → IsTableFault a.table g s.rule f → IsRuleOf a.table h t.rule r → ⊥
+  table_first : (f : Fault) (s t : Settings) (g h : Grid) (r : Rule) → is_memory f ≡ false → AsksForShape a s g → AsksForShape a t h → RefusesTable a.table g s.rule f → IsRuleOf a.table h t.rule r → ⊥
   table_first f s t g h r p x y bad rule =
       let same = same_shaped a s t g h x y in
       let P : Settings → Type 0 = λ z. IsRuleOf a.table h z.rule r in

@@ -46,8 +46,8 @@ pub data IsRuleOf (table : Option Said) (g : Grid) : RuleName → Rule → Type 
   tabled : {text : Said} {rows : Vec RouteRow Global} → table ≡ Some text → read_by (table_of g) text ≡ Ok rows.items → IsRuleOf table g word.Table (rule.Rows rows)
 
 -- a table file is to be read, and this is why it is not
-pub data IsTableFault (table : Option Said) (g : Grid) : RuleName → Fault → Type 0 where
-  bad_table : {text : Said} {f : InputFault} → table ≡ Some text → IsUnread (table_of g) text f → IsTableFault table g word.Table (fault.Table f)
+pub data RefusesTable (table : Option Said) (g : Grid) : RuleName → Fault → Type 0 where
+  bad_table : {text : Said} {f : InputFault} → table ≡ Some text → IsUnread (table_of g) text f → RefusesTable table g word.Table (fault.Table f)
 
 -- the routing relation of that rule on that shape, with the channels and the classes of the settings
 pub record AsksForRelation (a : Asked) (s : Settings) (routes : Routes) : Type 0 where
@@ -63,5 +63,5 @@ pub data SettingsFault (a : Asked) : Fault → Type 0 where
   bad_option : {s : Settings} {f : OptionFault} → read_by config_of a.config ≡ Ok s → early_fault a.command (is_some a.table) s ≡ Some f → SettingsFault a (fault.Option f)
   bad_shape : {s : Settings} {f : ShapeFault} → AsksForSettings a s → shape_of s.kind s.radix ≡ Err f → SettingsFault a (fault.Shape f)
   bad_late_option : {s : Settings} {g : Grid} {f : OptionFault} → AsksForSettings a s → shape_of s.kind s.radix ≡ Ok g → late_fault a.command g ≡ Some f → SettingsFault a (fault.Option f)
-  in_table : {s : Settings} {g : Grid} {f : Fault} → AsksForShape a s g → IsTableFault a.table g s.rule f → SettingsFault a f
+  in_table : {s : Settings} {g : Grid} {f : Fault} → AsksForShape a s g → RefusesTable a.table g s.rule f → SettingsFault a f
   bad_relation : {s : Settings} {g : Grid} {r : Rule} {f : RouteFault} → AsksForShape a s g → IsRuleOf a.table g s.rule r → IsFaultOf (routing_of g s.channels s.classes r) f → SettingsFault a (fault.Relation f g)

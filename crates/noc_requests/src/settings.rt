@@ -7,7 +7,7 @@ ghost use Rattle.noc_files.specs.Table.{table_of};
 ghost use Rattle.noc_requests.specs.Outcome.{Refuses};
 ghost use Rattle.noc_requests.specs.Asked.{asked_of, lent, read_by};
 ghost use Rattle.noc_requests.specs.Options.{cycle_fault, early_fault, late_fault, table_fault};
-ghost use Rattle.noc_requests.specs.Settings.{rule_named, AsksForRelation, AsksForShape, IsRuleOf, IsTableFault, SettingsFault};
+ghost use Rattle.noc_requests.specs.Settings.{rule_named, AsksForRelation, AsksForShape, IsRuleOf, RefusesTable, SettingsFault};
 
 use crate::fault::{Fault, OptionFault};
 use crate::request::{Bytes, Command, Files};
@@ -128,7 +128,7 @@ fn rule_of(
 ) -> Result<Rule, Fault>
     requires { table_fault name (is_some table) ≡ None }
     ensures rule { IfOk result (IsRuleOf (option_map lent table.entry) shape.now name) }
-    ensures fault { IfErr result (Refuses (IsTableFault (option_map lent table.entry) shape.now name)) }
+    ensures fault { IfErr result (Refuses (RefusesTable (option_map lent table.entry) shape.now name)) }
 {
     match (named_rule(name), table) {
         (Some(rule), _) => Ok(rule),

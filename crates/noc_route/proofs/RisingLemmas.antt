@@ -8,7 +8,7 @@ use Rattle.noc_route.specs.Ranks.{is_place, is_channel, LeadsTo, direct, through
 use Rattle.noc_route.specs.Routes.{Routes, permits, IsRelation}
 use Rattle.noc_route.proofs.BuiltLemmas.{set_at-member}
 use Rattle.noc_route.proofs.PermitsLemmas.{PermitsLink-from_test, PermitsEject-from_test, permits-inject, permits-home, permits-nearer}
-pub use Rattle.noc_route.proofs.OptionLemmas.{some-value}
+use Rattle.noc_route.proofs.OptionLemmas.{some-value}
 
 -- a link channel that is permitted exists
 pub permits-channel : (routes : Routes) → IsRelation routes → (m : ℕ) (c : Channel) (t r p v : ℕ) → permits routes m c t (Link r p v) ≡ true → is_channel routes.grid routes.vcs r p v ≡ true

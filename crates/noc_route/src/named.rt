@@ -11,7 +11,7 @@ use crate::frame::{Frame, escapes, resource_class};
 use crate::map::Map;
 use crate::rule::Rule;
 use noc_packet::ChannelSet;
-use noc_topo::Kind;
+use noc_topo::{Kind, LINKS};
 
 /// The output channels by which a rule by coordinates leads a packet of this class, at this router and bound for `dst`;
 /// none by a table.
@@ -40,7 +40,7 @@ struct Way {
     there: [usize; 3],
     arrived: bool,
     towards: Option<usize>,
-    nearer: [bool; 6],
+    nearer: [bool; LINKS],
 }
 
 impl Way {
@@ -48,7 +48,7 @@ impl Way {
         requires router { router < nodes map.now.frame.shape }
         requires dst { dst < nodes map.now.frame.shape }
         ensures way { IsWay map.now.frame.shape result router dst }
-        ensures towards { IfSome result.towards (λ port. port < 6) }
+        ensures towards { IfSome result.towards (λ port. port < LINKS) }
     {
         let here = map.frame.shape.coordinates(router);
         let there = map.frame.shape.coordinates(dst);
@@ -66,7 +66,7 @@ impl Way {
         requires class { class < frame.now.classes }
         requires port { port < ports frame.now.shape }
         requires right { is_right frame.now.shape frame.now.vcs frame.now.classes rule.now ≡ true }
-        requires towards { IfSome self.now.towards (λ port. port < 6) }
+        requires towards { IfSome self.now.towards (λ port. port < LINKS) }
         ensures { (r t : ℕ) → IsWay frame.now.shape self.now r t → result ≡ is_led (routing_in frame.now rule.now) class r t port vc }
     {
         if self.arrived {
@@ -77,14 +77,14 @@ impl Way {
 
     /// Whether a rule leads along this port, away from the destination.
     fn takes_port(&self, rule: &Rule, port: usize) -> bool
-        requires towards { IfSome self.now.towards (λ port. port < 6) }
-        ensures link { IsTrue result → port < 6 }
+        requires towards { IfSome self.now.towards (λ port. port < LINKS) }
+        ensures link { IsTrue result → port < LINKS }
         ensures value { (g : Grid) (r t : ℕ) → IsWay g self.now r t → result ≡ takes_port g rule.now (coordinates g.radix r) (coordinates g.radix t) port }
     {
         match rule {
             Rule::Dor | Rule::Dateline => self.towards == Some(port),
             Rule::WestFirst => self.is_west_first(port),
-            Rule::Adaptive => port < 6 && self.nearer[port],
+            Rule::Adaptive => port < LINKS && self.nearer[port],
             Rule::Rows(_) => false,
         }
     }
@@ -99,7 +99,7 @@ impl Way {
         vc: usize,
     ) -> bool
         requires class { class < frame.now.classes }
-        requires port { port < 6 }
+        requires port { port < LINKS }
         requires right { is_right frame.now.shape frame.now.vcs frame.now.classes rule.now ≡ true }
         ensures { let f = frame.now in (r t : ℕ) → IsWay f.shape self.now r t → result ≡ takes_channel f.shape f.vcs f.classes rule.now class (coordinates f.shape.radix r) (coordinates f.shape.radix t) port vc }
     {
@@ -120,7 +120,7 @@ impl Way {
 
     /// Whether an escape channel, by its place among those of its class, is taken along a port.
     fn takes_escape(&self, frame: &Frame, port: usize, place: usize) -> bool
-        requires { port < 6 }
+        requires { port < LINKS }
         ensures { let f = frame.now in (r t v : ℕ) → IsWay f.shape self.now r t → place ≡ place_in_class f.vcs f.classes v → result ≡ is_escape_taken f.shape f.vcs f.classes (coordinates f.shape.radix r) (coordinates f.shape.radix t) port v }
     {
         if self.towards != Some(port) {
@@ -135,7 +135,7 @@ impl Way {
 
     /// The half of a class's channels that the next hop along a port takes.
     fn dateline_class(&self, port: usize) -> usize
-        requires { port < 6 }
+        requires { port < LINKS }
         ensures { result ≡ dateline_class port (slice_index self.now.here (port / 2)) (slice_index self.now.there (port / 2)) }
     {
         let x = self.here[port / 2];
@@ -146,7 +146,7 @@ impl Way {
 
     /// Whether west first takes a port.
     fn is_west_first(&self, port: usize) -> bool
-        ensures link { IsTrue result → port < 6 }
+        ensures link { IsTrue result → port < LINKS }
         ensures value { result ≡ is_west_first self.now.here self.now.there port }
     {
         if self.there[0] < self.here[0] {
@@ -162,13 +162,13 @@ impl Way {
 }
 
 /// Which of the link ports come nearer.
-fn nearer_ports(map: &Map, here: &[usize; 3], there: &[usize; 3]) -> [bool; 6]
+fn nearer_ports(map: &Map, here: &[usize; 3], there: &[usize; 3]) -> [bool; LINKS]
     requires here { EachIndex here.now (λ i. slice_index here.now i ≤ slice_index map.now.last i) }
     requires there { EachIndex there.now (λ i. slice_index there.now i ≤ slice_index map.now.last i) }
     ensures { let g = map.now.frame.shape in (r t : ℕ) → here.now ≡ padded (coordinates g.radix r) → there.now ≡ padded (coordinates g.radix t) → (port : ℕ) → slice_index_or result port false ≡ is_nearer g (coordinates g.radix r) (coordinates g.radix t) port }
 {
-    let mut nearer = [false; 6];
-    for port in 0..6usize {
+    let mut nearer = [false; LINKS];
+    for port in 0..LINKS {
         nearer[port] = is_nearer(map, here, there, port);
     }
     nearer
@@ -176,7 +176,7 @@ fn nearer_ports(map: &Map, here: &[usize; 3], there: &[usize; 3]) -> [bool; 6]
 
 /// Whether a link port leads along the shorter way in its dimension, or up where both are equally long.
 fn is_nearer(map: &Map, here: &[usize; 3], there: &[usize; 3], port: usize) -> bool
-    requires port { port < 6 }
+    requires port { port < LINKS }
     requires here { EachIndex here.now (λ i. slice_index here.now i ≤ slice_index map.now.last i) }
     requires there { EachIndex there.now (λ i. slice_index there.now i ≤ slice_index map.now.last i) }
     ensures { let g = map.now.frame.shape in (r t : ℕ) → here.now ≡ padded (coordinates g.radix r) → there.now ≡ padded (coordinates g.radix t) → result ≡ is_nearer g (coordinates g.radix r) (coordinates g.radix t) port }
@@ -196,7 +196,7 @@ fn is_nearer(map: &Map, here: &[usize; 3], there: &[usize; 3], port: usize) -> b
 fn dor_port(map: &Map, here: &[usize; 3], there: &[usize; 3]) -> Option<usize>
     requires here { EachIndex here.now (λ i. slice_index here.now i ≤ slice_index map.now.last i) }
     requires there { EachIndex there.now (λ i. slice_index there.now i ≤ slice_index map.now.last i) }
-    ensures range { IfSome result (λ port. port < 6) }
+    ensures range { IfSome result (λ port. port < LINKS) }
     ensures value { let g = map.now.frame.shape in (r t : ℕ) → here.now ≡ padded (coordinates g.radix r) → there.now ≡ padded (coordinates g.radix t) → result ≡ dor_port g (coordinates g.radix r) (coordinates g.radix t) }
 {
     for i in 0..3usize {

@@ -19,7 +19,6 @@ mod tally;
 mod verdict;
 mod verdict_sets;
 
-pub use links::LINKS;
 pub use plan::Plan;
 pub use router::Router;
 pub use verdict::{Finding, VERDICTS, Verdict};

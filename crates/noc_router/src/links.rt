@@ -2,15 +2,13 @@
 
 ghost use Rattle.std.specs.Prelude.{◌≡◌, ℕ, ◌<◌, ◌==◌, ◌||◌, ◌&&◌, not, false, IsTrue, ◌↔◌, Some, None, replicate, slice_index_or, slice_set};
 ghost use Rattle.noc_packet.specs.Set.{has_bit};
+ghost use Rattle.noc_topo.specs.declared.limits.TheConstants.{LINKS};
 ghost use Rattle.noc_topo.specs.Shape.{nodes as nodes_of, ports as ports_of, neighbour as neighbour_of};
 ghost use Rattle.noc_router.specs.Links.{AreLoaded};
 ghost use Rattle.noc_router.specs.View.{idle_beat};
 
 use noc_packet::{Beat, ChannelSet, Flit};
-use noc_topo::Shape;
-
-/// The greatest number of link ports of a router.
-pub const LINKS: usize = 6;
+use noc_topo::{LINKS, Shape};
 
 /// Where each link port leads, and the beat that leaves by it.
 #[derive(Drop)]
@@ -20,14 +18,14 @@ pub(crate) struct Links {
     beats: [Beat; LINKS],
     // The ports whose beat is not idle.
     loaded: ChannelSet,
-    ghost marked: { AreLoaded 6 beats loaded },
+    ghost marked: { AreLoaded LINKS beats loaded },
 }
 
 impl Links {
     pub(crate) fn new(shape: &Shape, node: usize) -> Links
         requires { node < nodes_of shape.now }
-        ensures leads { (port : ℕ) → port < 6 → slice_index_or result.leads port None ≡ neighbour_of shape.now node port }
-        ensures beats { result.beats ≡ replicate 6 idle_beat }
+        ensures leads { (port : ℕ) → port < LINKS → slice_index_or result.leads port None ≡ neighbour_of shape.now node port }
+        ensures beats { result.beats ≡ replicate LINKS idle_beat }
         ensures loaded { result.loaded ≡ 0 }
     {
         let mut leads = [None; LINKS];
@@ -45,7 +43,7 @@ impl Links {
 
     // The neighbour at a port, and the port by which a flit enters there.
     pub(crate) fn neighbour(&self, port: usize) -> Option<(usize, usize)>
-        requires { port < 6 }
+        requires { port < LINKS }
         ensures { result ≡ slice_index_or self.now.leads port None }
     {
         match self.leads[port] {
@@ -57,7 +55,7 @@ impl Links {
     // Every beat is idle again.
     pub(crate) fn clear(&mut self)
         ensures leads { self.new.leads ≡ self.old.leads }
-        ensures beats { self.new.beats ≡ replicate 6 idle_beat }
+        ensures beats { self.new.beats ≡ replicate LINKS idle_beat }
         ensures loaded { (k : ℕ) → has_bit self.new.loaded k ≡ false }
     {
         for _ in 0..LINKS {
@@ -73,7 +71,7 @@ impl Links {
 
     // A flit leaves by a link port.
     pub(crate) fn load_flit(&mut self, port: usize, vc: u8, flit: Flit)
-        requires { port < 6 }
+        requires { port < LINKS }
         ensures leads { self.new.leads ≡ self.old.leads }
         ensures beats { self.new.beats ≡ slice_set self.old.beats port (record (slice_index_or self.old.beats port idle_beat) { flit = Some (vc, flit) }) }
         ensures loaded { (k : ℕ) → has_bit self.new.loaded k ≡ (k == port || has_bit self.old.loaded k) }
@@ -84,7 +82,7 @@ impl Links {
 
     // A credit returns by a link port.
     pub(crate) fn load_credit(&mut self, port: usize, vc: u8)
-        requires { port < 6 }
+        requires { port < LINKS }
         ensures leads { self.new.leads ≡ self.old.leads }
         ensures beats { self.new.beats ≡ slice_set self.old.beats port (record (slice_index_or self.old.beats port idle_beat) { credit = Some vc }) }
         ensures loaded { (k : ℕ) → has_bit self.new.loaded k ≡ (k == port || has_bit self.old.loaded k) }
@@ -102,7 +100,7 @@ impl Links {
 
     // The beat of a port, which leaves an idle one.
     pub(crate) fn unload(&mut self, port: usize) -> Beat
-        requires { port < 6 }
+        requires { port < LINKS }
         ensures beat { result ≡ slice_index_or self.old.beats port idle_beat }
         ensures leads { self.new.leads ≡ self.old.leads }
         ensures beats { self.new.beats ≡ slice_set self.old.beats port idle_beat }

@@ -10,7 +10,7 @@ use Rattle.noc_net.specs.Halves.{beat_at}
 use Rattle.noc_model.proofs.WireLemmas.{same-ports}
 use Rattle.noc_tiles.specs.Ends.{End}
 use Rattle.noc_tiles.specs.TileStep.{is_own, is_from, is_inside}
-use Rattle.noc_tiles.specs.Rings.{AreLeftOut, AreSlots, AreTakenIn, AreTakenOut, LeadsTo, IsSlot, held, one_of, without}
+use Rattle.noc_tiles.specs.Rings.{AreLeftOut, AreSlots, AreTakenIn, AreTakenOut, GoesOutTo, IsSlot, held, one_of, without}
 use Rattle.noc_tiles.proofs.SentLemmas.{own-true}
 
 -- the views of slots, after one was emptied
@@ -85,7 +85,7 @@ module _ (grid : Grid) (sound : IsGrid grid) (first count k : ℕ) (O : List (Op
         (cases_lt m k);
   }
 
-  pub out-more : (x : End) (at : ℕ) → first * 6 ≤ k → k < (first + count) * 6 → (w : LeadsTo grid first count k at) → get_or O at None ≡ Some x → is_own first count (k / 6) ≡ true → AreTakenOut grid first count k O ends → AreTakenOut grid first count (k + 1) O (ends ++ x ∷ [])
+  pub out-more : (x : End) (at : ℕ) → first * 6 ≤ k → k < (first + count) * 6 → (w : GoesOutTo grid first count k at) → get_or O at None ≡ Some x → is_own first count (k / 6) ≡ true → AreTakenOut grid first count k O ends → AreTakenOut grid first count (k + 1) O (ends ++ x ∷ [])
   out-more x at low high w here own a =
       let s_in : k / 6 < nodes grid = omega arith in
       let back = link_back grid (k / 6) (k % 6) w.r w.q sound s_in w.to in
@@ -160,7 +160,7 @@ module _ {X : Type 0} (f : X → End) (grid : Grid) (first count k : ℕ) (I : L
 
 module _ {X : Type 0} (f : X → End) (grid : Grid) (sound : IsGrid grid) (first count k : ℕ) (O : List (Option End)) (slots slots' : List (Option X)) (ends ends' : List X) (k_in : k < nodes grid * 6) where
   -- a place to which two ports go
-  same-goal : (s p r q at : ℕ) → s < nodes grid → p < 6 → neighbour grid s p ≡ Some (r, q) → LeadsTo grid first count k at → r * 6 + q ≡ at → s * 6 + p ≡ k
+  same-goal : (s p r q at : ℕ) → s < nodes grid → p < 6 → neighbour grid s p ≡ Some (r, q) → GoesOutTo grid first count k at → r * 6 + q ≡ at → s * 6 + p ≡ k
   same-goal s p r q at sl pl to w e =
       let one = link_back grid s p r q sound sl to in
       let two = link_back grid (k / 6) (k % 6) w.r w.q sound (omega arith) w.to in
@@ -175,8 +175,8 @@ module _ {X : Type 0} (f : X → End) (grid : Grid) (sound : IsGrid grid) (first
       let z1 = z.1 in
       omega arith
 
-  pub out-step : (at : Option ℕ) → IfSome at (λ a. LeadsTo grid first count k a) → IfNone at (is_inside first count (neighbour grid (k / 6) (k % 6)) ≡ true)
-      → first * 6 ≤ k → k < (first + count) * 6 → ((a : ℕ) → LeadsTo grid first count k a → is_some (get_or O a None) ≡ true)
+  pub out-step : (at : Option ℕ) → IfSome at (λ a. GoesOutTo grid first count k a) → IfNone at (is_inside first count (neighbour grid (k / 6) (k % 6)) ≡ true)
+      → first * 6 ≤ k → k < (first + count) * 6 → ((a : ℕ) → GoesOutTo grid first count k a → is_some (get_or O a None) ≡ true)
       → AreTakenOut grid first count k O (map f ends) → AreLeftOut grid k O (seen f slots) → slots' ≡ without at slots → ends' ≡ ends ++ held at slots
       → AreTakenOut grid first count (k + 1) O (map f ends') × AreLeftOut grid (k + 1) O (seen f slots')
   out-step None s n low high some taken rest e h =

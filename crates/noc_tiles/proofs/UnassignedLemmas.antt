@@ -15,7 +15,7 @@ use Rattle.noc_net.specs.Network.{Setup}
 use Rattle.noc_tiles.specs.Ends.{End}
 use Rattle.noc_tiles.specs.TileStep.{is_own, is_from, is_inside, places}
 use Rattle.noc_tiles.specs.Tiles.{PartsFit, inlets, outlets}
-use Rattle.noc_tiles.specs.Rings.{AreLeftOut, AreSlots, AreTakenIn, AreTakenOut, LeadsTo}
+use Rattle.noc_tiles.specs.Rings.{AreLeftOut, AreSlots, AreTakenIn, AreTakenOut, GoesOutTo}
 use Rattle.noc_tiles.specs.Partition.{InFlight, IsTile, AreUnassigned, AreWires, index_of}
 use Rattle.noc_tiles.specs.declared.tile.Tile.{Tile}
 use Rattle.noc_tiles.proofs.ClearLemmas.{place_at}
@@ -37,7 +37,7 @@ module _ (net : Setup) (sound : IsGrid net.relation.grid) (workers first count :
       ap (λ (s : Option End). is_some s) (U.left_in m l)
       ∙ ((U.slots.each m (omega arith)).apart f.0 f.1 (apart-out (nodes net.relation.grid) workers w first count one-of first-is end-is (m / 6) f.0.0 own f.2)).0
 
-  pub all-out : (k at : ℕ) → first * 6 ≤ k → k < (first + count) * 6 → LeadsTo net.relation.grid first count k at → is_some (get_or O at None) ≡ true
+  pub all-out : (k at : ℕ) → first * 6 ≤ k → k < (first + count) * 6 → GoesOutTo net.relation.grid first count k at → is_some (get_or O at None) ≡ true
   all-out k at l h g =
       let s_in : k / 6 < nodes net.relation.grid = omega arith in
       let back = link_back net.relation.grid (k / 6) (k % 6) g.r g.q sound s_in g.to in

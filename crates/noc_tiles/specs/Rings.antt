@@ -44,7 +44,7 @@ held None slots = []
 held (Some k) slots = one_of (get_or slots k None)
 
 -- port k goes to the place with this number, at none of these routers
-pub record LeadsTo (grid : Grid) (first count k at : ℕ) : Type 0 where
+pub record GoesOutTo (grid : Grid) (first count k at : ℕ) : Type 0 where
   pub r : ℕ
   pub q : ℕ
   pub to : neighbour grid (k / 6) (k % 6) ≡ Some (r, q)

@@ -9,7 +9,7 @@ ghost use Rattle.noc_net.specs.Lockstep.{lockstep_at};
 ghost use Rattle.noc_tiles.specs.Ends.{End};
 ghost use Rattle.noc_tiles.specs.Starts.{tile_start};
 ghost use Rattle.noc_tiles.specs.TileStep.{is_inside, is_own};
-ghost use Rattle.noc_tiles.specs.Rings.{AreLeftOut, AreSlots, LeadsTo, in_slots, out_slots};
+ghost use Rattle.noc_tiles.specs.Rings.{AreLeftOut, AreSlots, GoesOutTo, in_slots, out_slots};
 ghost use Rattle.noc_tiles.specs.Partition.{InFlight, IsPartition, IsTile, AreUnassigned, setup_of};
 ghost use Rattle.noc_tiles.specs.declared.limits.TheConstants.{MAX_WORKERS};
 
@@ -18,9 +18,10 @@ use crate::rings::{Rings, make_rings, take_ins, take_outs};
 use crate::starts::tile_start;
 use crate::tile::{Outcome, Tile};
 use crate::wires::{Inlet, Outlet};
-use noc_net::{LINKS, Marks};
+use noc_net::Marks;
 use noc_packet::{Beat, Memory};
 use noc_router::{Plan, Router};
+use noc_topo::LINKS;
 use std::alloc::{AllocError, Global};
 
 // The wires of a network but for the routers from `first` to before `end`, where the beats are those in flight.

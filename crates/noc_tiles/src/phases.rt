@@ -18,10 +18,11 @@ ghost use Rattle.noc_tiles.specs.Tiles.{AreWithin};
 
 use crate::stop::Stop;
 use crate::wires::{Inlet, Outlet};
-use noc_net::{LINKS, Marks, deliver};
+use noc_net::{Marks, deliver};
 use noc_packet::Beat;
 use noc_route::Relation;
 use noc_router::{Plan, Router};
+use noc_topo::LINKS;
 use std::sync::Wait;
 
 // Takes a beat from each wire that comes from another tile. False where the flag was seen raised.

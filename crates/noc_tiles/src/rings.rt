@@ -5,14 +5,13 @@ ghost use Rattle.noc_topo.specs.Shape.{IsGrid, nodes as nodes_of, neighbour as n
 ghost use Rattle.noc_tiles.specs.Ends.{inlet, outlet};
 ghost use Rattle.noc_tiles.specs.Starts.{AreTogether};
 ghost use Rattle.noc_tiles.specs.TileStep.{is_inside, is_own};
-ghost use Rattle.noc_tiles.specs.Rings.{AreLeftOut, AreSlots, AreTakenIn, AreTakenOut, LeadsTo, IsSlot, held, in_slots, out_slots, without};
+ghost use Rattle.noc_tiles.specs.Rings.{AreLeftOut, AreSlots, AreTakenIn, AreTakenOut, GoesOutTo, IsSlot, held, in_slots, out_slots, without};
 ghost use Rattle.noc_tiles.specs.declared.limits.TheConstants.{MAX_WORKERS};
 
 use crate::starts::are_together;
 use crate::wires::{Inlet, Outlet};
-use noc_net::LINKS;
 use noc_packet::Beat;
-use noc_topo::Shape;
+use noc_topo::{LINKS, Shape};
 use rtrb::RingBuffer;
 use std::alloc::{AllocError, Global};
 
@@ -154,7 +153,7 @@ fn coming(shape: &Shape, first: usize, count: usize, k: usize) -> Option<usize>
 fn going(shape: &Shape, first: usize, count: usize, k: usize) -> Option<usize>
     requires within { first + count ≤ nodes_of shape.now }
     requires k { k < nodes_of shape.now * 6 }
-    ensures some { IfSome result (λ at. LeadsTo shape.now first count k at) }
+    ensures some { IfSome result (λ at. GoesOutTo shape.now first count k at) }
     ensures grid { IsGrid shape.now }
     ensures none { IfNone result (is_inside first count (neighbour_of shape.now (k / 6) (k % 6)) ≡ true) }
 {
@@ -215,7 +214,7 @@ pub(crate) fn take_outs(
 ) -> Result<Vec<Outlet>, AllocError>
     requires within { first + count ≤ nodes_of shape.now }
     requires size { vec_len slots.old ≡ nodes_of shape.now * 6 }
-    requires all { (k at : ℕ) → first * 6 ≤ k → k < (first + count) * 6 → LeadsTo shape.now first count k at → is_some (get_or (out_slots slots.old.items) at None) ≡ true }
+    requires all { (k at : ℕ) → first * 6 ≤ k → k < (first + count) * 6 → GoesOutTo shape.now first count k at → is_some (get_or (out_slots slots.old.items) at None) ≡ true }
     ensures size { vec_len slots.new ≡ vec_len slots.old }
     ensures taken { IfOk result (λ v. AreTakenOut shape.now first count ((first + count) * 6) (out_slots slots.old.items) (map outlet v.items)) }
     ensures rest { IsOk result → AreLeftOut shape.now ((first + count) * 6) (out_slots slots.old.items) (out_slots slots.new.items) }

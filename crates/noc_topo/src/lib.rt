@@ -5,5 +5,5 @@ mod axis;
 mod limits;
 mod shape;
 
-pub use limits::{MAX_DIMENSIONS, MAX_DISTANCE, MAX_NODES, MAX_PORTS, MAX_RADIX};
+pub use limits::{LINKS, MAX_DIMENSIONS, MAX_DISTANCE, MAX_NODES, MAX_PORTS, MAX_RADIX};
 pub use shape::{Kind, Shape, ShapeFault, links_are_mutual};

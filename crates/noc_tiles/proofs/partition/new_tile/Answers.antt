@@ -3,7 +3,7 @@ use Rattle.noc_topo.specs.Shape.{Grid, IsGrid, neighbour, nodes}
 use Rattle.noc_net.specs.Lockstep.{lockstep_at}
 use Rattle.noc_net.specs.Marks.{AreMarked}
 use Rattle.noc_tiles.specs.Ends.{inlet, outlet}
-use Rattle.noc_tiles.specs.Rings.{AreLeftOut, AreTakenIn, AreTakenOut, LeadsTo, in_slots, out_slots}
+use Rattle.noc_tiles.specs.Rings.{AreLeftOut, AreTakenIn, AreTakenOut, GoesOutTo, in_slots, out_slots}
 use Rattle.noc_tiles.specs.Partition.{setup_of}
 use Rattle.noc_tiles.specs.declared.tile.Tile.{Tile}
 use Rattle.noc_tiles.specs.declared.tile.Outcome.TheVariants.{Whole}
@@ -43,7 +43,7 @@ take_outs-requires-clause-all c = λ k at l h leads.
     let end-is : c.args.first + count ≡ tile_start (nodes net.relation.grid) W (w + 1) = ap (λ z. c.args.first + z) c.len-count.ensures ∙ c.requires.last in
     let U = c.requires.partition in
     all-out net sound W c.args.first count wide c.args.beats.now U.0 U.1 (in_slots c.args.ins.now.items) (out_slots c.args.outs.now.items) U.2 w one-of first-is end-is k at l h
-    (subst (λ (z : Grid). LeadsTo z c.args.first count k at) g leads)
+    (subst (λ (z : Grid). GoesOutTo z c.args.first count k at) g leads)
 
 pub returns-clause-tile : goal.returns-clause-tile
 returns-clause-tile c = λ I0 O0 U.
