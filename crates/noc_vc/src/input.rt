@@ -1,9 +1,9 @@
 //! Input virtual channels (Dally and Towles, chapter 16).
 
-ghost use Rattle.std.specs.Prelude.{◌≡◌, ◌<◌, ◌∷◌, IsTrue, IsSome, length, is_ok, if◌then◌else◌};
+ghost use Rattle.std.specs.Prelude.{◌≡◌, ◌⊎◌, ◌<◌, ◌∷◌, IsTrue, IsSome, length, is_ok, true, if◌then◌else◌};
 ghost use Rattle.noc_topo.specs.Shape.{nodes, ports};
 ghost use Rattle.noc_ring.specs.Rings.{ring_at, pushed, popped};
-ghost use Rattle.noc_vc.specs.Input.{idle_input, is_waiting, is_active, is_awaited, next_of, is_expected, may_begin, fits, landed, routed, granted, sent, IsInput};
+ghost use Rattle.noc_vc.specs.Input.{idle_input, is_idle_phase, is_waiting, is_active, is_awaited, next_of, is_expected, may_begin, fits, landed, routed, granted, sent, IsInput};
 
 use crate::misfit::Misfit;
 use noc_packet::{ChannelSet, Flit, MAX_LENGTH};
@@ -155,8 +155,29 @@ impl InputChannel {
         ensures bank { bank.new ≡ pushed bank.old ring flit }
     {
         bank.push(ring, flit);
+        self.begin(&flit);
+    }
+
+    // A flit has landed, whichever it is.
+    fn begin(&mut self, flit: &Flit)
+        ensures { self.new ≡ landed self.old flit.now }
+    {
         self.packet = Some(flit.packet);
-        self.awaited = next_of(&flit);
+        self.awaited = next_of(flit);
+    }
+
+    // A flit has landed: a head in an idle channel, or the one that was awaited.
+    fn follow(&mut self, flit: &Flit)
+        requires { is_idle_phase self.old.phase ≡ true ⊎ is_awaited flit.now self.old.awaited ≡ true }
+        ensures { self.new ≡ landed self.old flit.now }
+    {
+        if let InputState::Idle = self.state {
+            self.begin(flit);
+        } else if flit.last {
+            self.awaited = None;
+        } else if let Some(awaited) = &mut self.awaited {
+            awaited.index += 1;
+        }
     }
 
     /// A flit comes to the channel with this number, of this input port of the router, whose flits are in this ring of
@@ -187,7 +208,8 @@ impl InputChannel {
         if bank.is_full(ring) || !self.expects(bank, ring, relation, router, port, vc, &flit) {
             return Err(Misfit);
         }
-        self.inject(bank, ring, flit);
+        bank.push(ring, flit);
+        self.follow(&flit);
         Ok(())
     }
 
