@@ -526,6 +526,14 @@ is_owned-from Free i e = e
 is_owned-from (Owned j p) i e = refl
 is_owned-from Draining i e = e
 
+-- a flit that is no tail leaves an output channel as free as it was
+pub free-kept : (x : Output) → is_free (spent false x).holder ≡ is_free x.holder
+free-kept x = at x.credit
+  where
+    at : (c : Option ℕ) → is_free (spent_at false x c).holder ≡ is_free x.holder
+    at None = refl
+    at (Some n) = refl
+
 -- the first flit of an active channel leaves
 pub AreSound-sent : (size : ℕ) (sets next : Sets) (before after : Rings) (inputs : List Input) (outputs : List Output) (i o : ℕ) (old new : Input) (out left : Output) (f : Flit)
     → AreSound size sets before.rings inputs outputs → length before.rings ≡ size → length inputs ≡ size → length outputs ≡ size → i < size → o < size

@@ -1,6 +1,6 @@
 //! The buffers, input channels and output channels of one router.
 
-ghost use Rattle.std.specs.Prelude.{◌≡◌, ◌≢◌, ℕ, ◌≤◌, ◌<◌, ◌-◌, ◌++◌, ◌&&◌, find, true, false, None, IfOk, IfSome, is_some, length, nat_lt, ◌⊎◌, Some, slice_get, slice_index_or, slice_set, unwrap_or, vec_len, if◌then◌else◌, replicate};
+ghost use Rattle.std.specs.Prelude.{◌≡◌, ◌≢◌, ℕ, ◌≤◌, ◌<◌, ◌-◌, ◌++◌, ◌&&◌, find, true, false, None, IfOk, IfSome, is_some, length, nat_lt, not, ◌⊎◌, Some, slice_get, slice_index_or, slice_set, unwrap_or, vec_len, if◌then◌else◌, replicate};
 ghost use Rattle.noc_topo.specs.Shape.{nodes as nodes_of, ports as ports_of};
 ghost use Rattle.noc_topo.specs.Words.{below};
 ghost use Rattle.noc_packet.specs.Set.{has_bit};
@@ -329,9 +329,15 @@ impl Channels {
         let output = &mut self.outputs[next];
         spend(output, flit.last);
         let supplied = !flit.last && output.credit() != Some(0);
-        self.idle = marked(self.idle, next, is_idle(output));
+        let_go(
+            &mut self.idle,
+            &mut self.active,
+            next,
+            index,
+            flit.last,
+            is_idle(output),
+        );
         self.filled = marked(self.filled, index, self.bank.len(index) > 0);
-        self.active = marked(self.active, index, !flit.last);
         self.supplied = marked(self.supplied, index, supplied);
         flit
     }
@@ -355,6 +361,31 @@ fn is_idle(output: &OutputChannel) -> bool
     ensures { result ≡ is_free output.now.holder }
 {
     output.state() == OutputState::Idle
+}
+
+// The tail or another flit has left: the output channels that are idle, and the input channels whose packet owns one.
+#[inline(always)]
+fn let_go(
+    idle: &mut ChannelSet,
+    active: &mut ChannelSet,
+    output: usize,
+    input: usize,
+    last: bool,
+    is_idle: bool,
+)
+    requires output { output < INDICES }
+    requires input { input < INDICES }
+    requires still { last ≡ false → has_bit idle.old output ≡ is_idle }
+    requires owner { has_bit active.old input ≡ true }
+    ensures idle { has_bit idle.new output ≡ is_idle }
+    ensures active { has_bit active.new input ≡ not last }
+    ensures outputs { (k : ℕ) → k ≢ output → has_bit idle.new k ≡ has_bit idle.old k }
+    ensures inputs { (k : ℕ) → k ≢ input → has_bit active.new k ≡ has_bit active.old k }
+{
+    if last {
+        *idle = marked(*idle, output, is_idle);
+        *active = marked(*active, input, false);
+    }
 }
 
 // A set with this index or without it, as is said.
