@@ -55,31 +55,31 @@ pub record IsThere (relation : Routes) (first : ℕ) (routers : List View) (beat
 -- the place of a member
 pub there : (is : Beat → Bool) → is idle_beat ≡ false → (relation : Routes) (first : ℕ) (routers : List View) (beats : List (List Beat)) (now : List View) (wires : List (List Beat)) (sets : List ℕ) (w k : ℕ)
     → HaveTaken relation first routers beats now wires → AreWhere is sets wires → w < 32 → k < 56 → has_bit (get_or sets w 0) k ≡ true
-    → IsThere relation first now wires (w * 8 + k / 7) (k % 7)
+    → IsThere relation first now wires (w * 8 + k % 8) (k / 8)
 there is silent relation first routers beats now wires sets w k so_far where_so l m member =
-    let came : is (beat_at wires (w * 8 + k / 7) (k % 7)) ≡ true = sym (where_so w k l m) ∙ member in
-    let row : w * 8 + k / 7 < length wires = there-router is silent wires (w * 8 + k / 7) (k % 7) came in
-    let out_of : (w * 8 + k / 7 < first) ⊎ (first + length routers ≤ w * 8 + k / 7) → ⊥ =
-    λ out. false≢true (sym silent ∙ sym (ap is (so_far.others (w * 8 + k / 7) (k % 7) row out)) ∙ came) in
-    let from : first ≤ w * 8 + k / 7 = ⊎_elim (λ (l : w * 8 + k / 7 < first). absurd (out_of (inl l))) (λ (u : first ≤ w * 8 + k / 7). u) (cases_lt (w * 8 + k / 7) first) in
-    let below : w * 8 + k / 7 < first + length routers =
-    ⊎_elim (λ (l : w * 8 + k / 7 < first + length routers). l) (λ (u : first + length routers ≤ w * 8 + k / 7). absurd (out_of (inr u))) (cases_lt (w * 8 + k / 7) (first + length routers)) in
-    let in_routers : (w * 8 + k / 7) - first < length routers = omega (arith, from, below) in
-    let at : first + ((w * 8 + k / 7) - first) ≡ w * 8 + k / 7 = omega (arith, from) in
+    let came : is (beat_at wires (w * 8 + k % 8) (k / 8)) ≡ true = sym (where_so w k l m) ∙ member in
+    let row : w * 8 + k % 8 < length wires = there-router is silent wires (w * 8 + k % 8) (k / 8) came in
+    let out_of : (w * 8 + k % 8 < first) ⊎ (first + length routers ≤ w * 8 + k % 8) → ⊥ =
+    λ out. false≢true (sym silent ∙ sym (ap is (so_far.others (w * 8 + k % 8) (k / 8) row out)) ∙ came) in
+    let from : first ≤ w * 8 + k % 8 = ⊎_elim (λ (l : w * 8 + k % 8 < first). absurd (out_of (inl l))) (λ (u : first ≤ w * 8 + k % 8). u) (cases_lt (w * 8 + k % 8) first) in
+    let below : w * 8 + k % 8 < first + length routers =
+    ⊎_elim (λ (l : w * 8 + k % 8 < first + length routers). l) (λ (u : first + length routers ≤ w * 8 + k % 8). absurd (out_of (inr u))) (cases_lt (w * 8 + k % 8) (first + length routers)) in
+    let in_routers : (w * 8 + k % 8) - first < length routers = omega (arith, from, below) in
+    let at : first + ((w * 8 + k % 8) - first) ≡ w * 8 + k % 8 = omega (arith, from) in
     record {
       from = from;
       router = omega (arith, in_routers, so_far.count);
       row = row;
-      link = there-link is silent relation.grid (get_or wires (w * 8 + k / 7) []) (k % 7) (subst (λ (n : ℕ). IsLinked relation.grid (get_or wires n [])) at (so_far.linked ((w * 8 + k / 7) - first) in_routers)) came;
-      port_of_row = there-port is silent (get_or wires (w * 8 + k / 7) []) (k % 7) came;
-      built = λ d. so_far.built ((w * 8 + k / 7) - first) d in_routers;
+      link = there-link is silent relation.grid (get_or wires (w * 8 + k % 8) []) (k / 8) (subst (λ (n : ℕ). IsLinked relation.grid (get_or wires n [])) at (so_far.linked ((w * 8 + k % 8) - first) in_routers)) came;
+      port_of_row = there-port is silent (get_or wires (w * 8 + k % 8) []) (k / 8) came;
+      built = λ d. so_far.built ((w * 8 + k % 8) - first) d in_routers;
     }
 
 -- where one beat is not so any more, its link is a member no more
 pub where-less : (is : Beat → Bool) (sets : List ℕ) (beats : List (List Beat)) (w k left : ℕ) (beat : Beat) → AreWhere is sets beats → w < length sets → k < 56
     → ((x : ℕ) → has_bit left x ≡ (not (nat_eq x k) && has_bit (get_or sets w 0) x)) → is beat ≡ false
-    → w * 8 + k / 7 < length beats → k % 7 < length (get_or beats (w * 8 + k / 7) [])
-    → AreWhere is (set sets w left) (sent_on beats (Some (w * 8 + k / 7, k % 7)) beat)
+    → w * 8 + k % 8 < length beats → k / 8 < length (get_or beats (w * 8 + k % 8) [])
+    → AreWhere is (set sets w left) (sent_on beats (Some (w * 8 + k % 8, k / 8)) beat)
 where-less is sets beats w k left beat before long small members silent row port w' k' l m =
     ⊎_elim (λ (e : w' ≡ w).
     ap (λ (v : ℕ). has_bit (get_or (set sets w left) v 0) k') e
@@ -87,19 +87,19 @@ where-less is sets beats w k left beat before long small members silent row port
     ∙ members k'
     ∙ ⊎_elim (λ (f : k' ≡ k).
     ap (λ (b : Bool). not b && has_bit (get_or sets w 0) k') (eq-eqb k' k f)
-    ∙ sym (ap is (ap (λ (v : ℕ). beat_at (sent_on beats (Some (w * 8 + k / 7, k % 7)) beat) (v * 8 + k' / 7) (k' % 7)) e
-    ∙ ap (λ (x : ℕ). beat_at (sent_on beats (Some (w * 8 + k / 7, k % 7)) beat) (w * 8 + x / 7) (x % 7)) f
-    ∙ sent_here beats (w * 8 + k / 7) (k % 7) beat row port) ∙ silent))
+    ∙ sym (ap is (ap (λ (v : ℕ). beat_at (sent_on beats (Some (w * 8 + k % 8, k / 8)) beat) (v * 8 + k' % 8) (k' / 8)) e
+    ∙ ap (λ (x : ℕ). beat_at (sent_on beats (Some (w * 8 + k % 8, k / 8)) beat) (w * 8 + x % 8) (x / 8)) f
+    ∙ sent_here beats (w * 8 + k % 8) (k / 8) beat row port) ∙ silent))
     (λ (d : k' ≢ k).
     ap (λ (b : Bool). not b && has_bit (get_or sets w 0) k') (ne_eqb k' k d)
     ∙ ap (λ (v : ℕ). has_bit (get_or sets v 0) k') (sym e)
     ∙ before w' k' l m
-    ∙ sym (ap is (sent_other beats (w * 8 + k / 7) (k % 7) (w' * 8 + k' / 7) (k' % 7) beat row (λ same rest. d (omega (arith, e, same, rest))))))
+    ∙ sym (ap is (sent_other beats (w * 8 + k % 8) (k / 8) (w' * 8 + k' % 8) (k' / 8) beat row (λ same rest. d (omega (arith, e, same, rest))))))
     (cases_eq k' k))
     (λ (d : w' ≢ w).
     ap (λ (s : ℕ). has_bit s k') (get_or-set_other sets w w' left 0 d)
     ∙ before w' k' l m
-    ∙ sym (ap is (sent_other beats (w * 8 + k / 7) (k % 7) (w' * 8 + k' / 7) (k' % 7) beat row (λ same rest. d (omega (arith, same, small, m))))))
+    ∙ sym (ap is (sent_other beats (w * 8 + k % 8) (k / 8) (w' * 8 + k' % 8) (k' / 8) beat row (λ same rest. d (omega (arith, same, small, m))))))
     (cases_eq w' w)
 
 -- ---- the routers
@@ -249,7 +249,7 @@ taken-credit relation first routers beats now after wires r port so_far at none 
 -- ---- in the end
 
 -- a link of a set
-pub place-of : (r port : ℕ) → r < 256 → port < 6 → (r / 8 < 32) × (r % 8 * 7 + port < 56) × (r / 8 * 8 + (r % 8 * 7 + port) / 7 ≡ r) × ((r % 8 * 7 + port) % 7 ≡ port)
+pub place-of : (r port : ℕ) → r < 256 → port < 6 → (r / 8 < 32) × (port * 8 + r % 8 < 56) × (r / 8 * 8 + (port * 8 + r % 8) % 8 ≡ r) × ((port * 8 + r % 8) / 8 ≡ port)
 place-of r port l m = (omega arith, omega arith, omega arith, omega arith)
 
 -- where no link is a member, no beat is so
@@ -261,9 +261,9 @@ where-none is silent sets beats where_so none few rows r port = ⊎_elim in_rang
     at l m =
         let place = place-of r port (omega (arith, l, few)) m in
         ap (λ (node : ℕ). is (beat_at beats node port)) (sym place.2)
-        ∙ ap (λ (q : ℕ). is (beat_at beats (r / 8 * 8 + (r % 8 * 7 + port) / 7) q)) (sym place.3)
-        ∙ sym (where_so (r / 8) (r % 8 * 7 + port) place.0 place.1)
-        ∙ none (r / 8) (r % 8 * 7 + port) place.0
+        ∙ ap (λ (q : ℕ). is (beat_at beats (r / 8 * 8 + (port * 8 + r % 8) % 8) q)) (sym place.3)
+        ∙ sym (where_so (r / 8) (port * 8 + r % 8) place.0 place.1)
+        ∙ none (r / 8) (port * 8 + r % 8) place.0
 
     in_range : r < length beats → is (beat_at beats r port) ≡ false
     in_range l =

@@ -8,7 +8,7 @@ ghost use Rattle.noc_model.specs.Lockstep.{beats_at};
 ghost use Rattle.noc_net.specs.declared.marks.TheConstants.{SETS};
 ghost use Rattle.noc_net.specs.Marks.{AreMarked, HasTakenOut, IsMarkedAt, IsRowMarked, has_credit, has_flit};
 
-use noc_packet::{Beat, ChannelSet, MAX_PORTS};
+use noc_packet::{Beat, ChannelSet};
 use noc_topo::{LINKS, MAX_NODES};
 use std::marker::Model;
 
@@ -83,7 +83,7 @@ fn mark(sets: &mut [ChannelSet; SETS], node: usize, port: usize, is_member: bool
     requires port { port < LINKS }
     ensures { IsMarkedAt sets.old sets.new node port is_member }
 {
-    let index = node % ROUTERS * MAX_PORTS + port;
+    let index = port * ROUTERS + node % ROUTERS;
     let set = sets[node / ROUTERS];
     sets[node / ROUTERS] = if is_member {
         set.with(index)

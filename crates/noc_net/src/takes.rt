@@ -13,7 +13,7 @@ ghost use Rattle.noc_net.specs.Takes.{HaveTaken, NoneElsewhere};
 ghost use Rattle.noc_net.specs.declared.marks.TheConstants.{SETS};
 
 use crate::marks::{Marks, ROUTERS, SETS, take_out};
-use noc_packet::{Beat, ChannelSet, MAX_PORTS};
+use noc_packet::{Beat, ChannelSet};
 use noc_route::Relation;
 use noc_router::Router;
 use noc_topo::LINKS;
@@ -82,7 +82,7 @@ fn take_flits_in(
     ensures rows { (r : ℕ) → r < length beats.new → length (beats_at beats.new r) ≡ LINKS }
 {
     while let Some(index) = take_out(flits, set) {
-        let (node, port) = (set * ROUTERS + index / MAX_PORTS, index % MAX_PORTS);
+        let (node, port) = (set * ROUTERS + index % ROUTERS, index / ROUTERS);
         take_flit(relation, node - first, node, port, routers, beats);
     }
 }
@@ -155,7 +155,7 @@ fn take_credits_in(
     ensures rows { (r : ℕ) → r < length beats.new → length (beats_at beats.new r) ≡ LINKS }
 {
     while let Some(index) = take_out(credits, set) {
-        let (node, port) = (set * ROUTERS + index / MAX_PORTS, index % MAX_PORTS);
+        let (node, port) = (set * ROUTERS + index % ROUTERS, index / ROUTERS);
         take_credit(relation, node - first, node, port, routers, beats);
     }
 }

@@ -18,14 +18,14 @@ pub take_credit-requires-clause-within : goal.take_credit-requires-clause-within
 take_credit-requires-clause-within c =
     let at = there has_credit refl c.args.relation.now c.args.first c.args.routers.now c.args.beats.now c.loop-index.routers c.loop-index.beats c.loop-index.credits c.args.set c.in-Some.index
     c.loop-index.invariant.routers c.loop-index.invariant.credits c.requires.set c.in-Some.ensures.link.within c.in-Some.ensures.link.member in
-    omega (arith, at.port_of_row, c.loop-index.invariant.rows (c.args.set * 8 + c.in-Some.index / 7) at.row)
+    omega (arith, at.port_of_row, c.loop-index.invariant.rows (c.args.set * 8 + c.in-Some.index % 8) at.row)
 
 pub loop-index-preserved : goal.loop-index-preserved
 loop-index-preserved c =
     let relation = c.args.relation.now in
     let wires = c.loop-index.beats in
-    let node = c.args.set * 8 + c.in-Some.index / 7 in
-    let port = c.in-Some.index % 7 in
+    let node = c.args.set * 8 + c.in-Some.index % 8 in
+    let port = c.in-Some.index / 8 in
     let beat : Beat = beat_at wires node port in
     let left : Beat = record beat { credit = None } in
     let out = c.in-Some.ensures.link in
