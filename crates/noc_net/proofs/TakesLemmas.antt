@@ -253,9 +253,9 @@ pub place-of : (r port : ℕ) → r < 256 → port < 6 → (r / 8 < 32) × (port
 place-of r port l m = (omega arith, omega arith, omega arith, omega arith)
 
 -- where no link is a member, no beat is so
-pub where-none : (is : Beat → Bool) → is idle_beat ≡ false → (sets : List ℕ) (beats : List (List Beat)) → AreWhere is sets beats → ((w k : ℕ) → w < 32 → has_bit (get_or sets w 0) k ≡ false)
-    → length beats ≤ 256 → ((r : ℕ) → r < length beats → length (get_or beats r []) ≡ 6) → (r port : ℕ) → is (beat_at beats r port) ≡ false
-where-none is silent sets beats where_so none few rows r port = ⊎_elim in_range (λ (u : length beats ≤ r). ap (λ (row : List Beat). is (get_or row port idle_beat)) (get_or_past beats r [] u) ∙ silent) (cases_lt r (length beats))
+pub where-none : (is : Beat → Bool) → is idle_beat ≡ false → (sets : List ℕ) (beats : List (List Beat)) → AreWhere is sets beats
+    → (n : ℕ) → length beats ≤ n * 8 → ((w k : ℕ) → w < n → has_bit (get_or sets w 0) k ≡ false) → length beats ≤ 256 → ((r : ℕ) → r < length beats → length (get_or beats r []) ≡ 6) → (r port : ℕ) → is (beat_at beats r port) ≡ false
+where-none is silent sets beats where_so n enough none few rows r port = ⊎_elim in_range (λ (u : length beats ≤ r). ap (λ (row : List Beat). is (get_or row port idle_beat)) (get_or_past beats r [] u) ∙ silent) (cases_lt r (length beats))
   where
     at : r < length beats → port < 6 → is (beat_at beats r port) ≡ false
     at l m =
@@ -263,7 +263,7 @@ where-none is silent sets beats where_so none few rows r port = ⊎_elim in_rang
         ap (λ (node : ℕ). is (beat_at beats node port)) (sym place.2)
         ∙ ap (λ (q : ℕ). is (beat_at beats (r / 8 * 8 + (port * 8 + r % 8) % 8) q)) (sym place.3)
         ∙ sym (where_so (r / 8) (port * 8 + r % 8) place.0 place.1)
-        ∙ none (r / 8) (port * 8 + r % 8) place.0
+        ∙ none (r / 8) (port * 8 + r % 8) (omega (arith, l, enough))
 
     in_range : r < length beats → is (beat_at beats r port) ≡ false
     in_range l =

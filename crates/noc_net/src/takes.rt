@@ -1,6 +1,6 @@
 //! What came to the routers is taken: all flits, and then all credits.
 
-ghost use Rattle.std.specs.Prelude.{◌≡◌, ◌≢◌, ℕ, ◌+◌, ◌<◌, ◌≤◌, ◌==◌, All, None, Some, false, if◌then◌else◌, length, slice_index_or};
+ghost use Rattle.std.specs.Prelude.{◌≡◌, ◌≢◌, ℕ, ◌+◌, ◌*◌, ◌<◌, ◌≤◌, ◌==◌, All, None, Some, false, if◌then◌else◌, length, slice_index_or};
 ghost use Rattle.noc_topo.specs.declared.limits.TheConstants.{MAX_NODES};
 ghost use Rattle.noc_topo.specs.Words.{map_indexed};
 ghost use Rattle.noc_topo.specs.Shape.{local_port};
@@ -10,7 +10,7 @@ ghost use Rattle.noc_model.specs.Halves.{IsLinked, IsSilent, beat_at, incoming, 
 ghost use Rattle.noc_model.specs.Lockstep.{beats_at};
 ghost use Rattle.noc_net.specs.Marks.{AreMarked, AreWhere, has_credit, has_flit};
 ghost use Rattle.noc_net.specs.Takes.{HaveTaken, NoneElsewhere};
-ghost use Rattle.noc_net.specs.declared.marks.TheConstants.{SETS};
+ghost use Rattle.noc_net.specs.declared.marks.TheConstants.{ROUTERS, SETS};
 
 use crate::marks::{Marks, ROUTERS, SETS, take_out};
 use noc_packet::{Beat, ChannelSet};
@@ -40,6 +40,15 @@ pub(crate) fn take_all(
     take_credits(relation, first, routers, beats, &mut marks.credits);
 }
 
+// How many sets hold the links of so many routers.
+fn sets_for(routers: usize) -> usize
+    requires { routers ≤ MAX_NODES }
+    ensures few { result ≤ SETS }
+    ensures enough { routers ≤ result * ROUTERS }
+{
+    routers.div_ceil(ROUTERS)
+}
+
 // Each router takes the flits that came to it.
 fn take_flits(
     relation: &Relation,
@@ -56,7 +65,7 @@ fn take_flits(
     ensures none { (r port : ℕ) → (beat_at beats.new r port).flit ≡ None }
     ensures credits { (r port : ℕ) → (beat_at beats.new r port).credit ≡ (beat_at beats.old r port).credit }
 {
-    for set in 0..SETS {
+    for set in 0..sets_for(beats.len()) {
         take_flits_in(relation, first, set, routers, beats, flits);
     }
 }
@@ -128,7 +137,7 @@ fn take_credits(
     ensures credits { AreWhere has_credit credits.new beats.new }
     ensures silent { (r : ℕ) → IsSilent (beats_at beats.new r) }
 {
-    for set in 0..SETS {
+    for set in 0..sets_for(beats.len()) {
         take_credits_in(relation, first, set, routers, beats, credits);
     }
 }

@@ -9,4 +9,4 @@ returns-clause-silent c = λ r port.
     let few : length c.loop-set.beats ≤ 256 = omega (arith, c.requires.few, c.loop-set.auto.beats) in
     silent-beat (beat_at c.loop-set.beats r port) (c.loop-set.invariant.flits r port)
     (no-credit (beat_at c.loop-set.beats r port).credit
-    (where-none has_credit refl c.loop-set.credits c.loop-set.beats c.loop-set.invariant.credits (λ w k l. c.loop-set.invariant.none w k (omega (arith, l, c.loop-set-test.false))) few c.loop-set.invariant.rows r port))
+    (where-none has_credit refl c.loop-set.credits c.loop-set.beats c.loop-set.invariant.credits c.sets_for-set-end.result (omega (arith, c.sets_for-set-end.ensures.enough, c.loop-set.auto.beats)) (λ w k l. c.loop-set.invariant.none w k (omega (arith, l, c.loop-set-test.false))) few c.loop-set.invariant.rows r port))
