@@ -115,8 +115,8 @@ fn take_flit(
     ensures routers { (r : ℕ) (d : View) → slice_index_or routers.new r d ≡ (if r == router then with_flit relation.now port (beat_at beats.old node port).flit (slice_index_or routers.old r d) else slice_index_or routers.old r d) }
     ensures beats { beats.new ≡ sent_on beats.old (Some (node, port)) (record (beat_at beats.old node port) { flit = None }) }
 {
-    if let Some((vc, flit)) = beats[node][port].flit {
-        routers[router].take_flit(relation, port, usize::from(vc), flit);
+    if let Some((vc, flit)) = &beats[node][port].flit {
+        routers[router].take_flit(relation, port, usize::from(*vc), flit);
     }
     beats[node][port].flit = None;
 }

@@ -13,7 +13,7 @@ use Rattle.noc_vc.specs.Input.{fits}
 use Rattle.noc_vc.specs.Output.{credit_fits, credited}
 use Rattle.noc_router.specs.declared.router.Router.TheInside.{Inside}
 use Rattle.noc_router.specs.Inside.{IsRouter, view_of}
-use Rattle.noc_router.specs.Settled.{tallied, settled}
+use Rattle.noc_router.specs.Settled.{ejected, flit_put, settled, tallied, with_flit_at}
 use Rattle.noc_router.specs.Verdict.{Turns, arbiters_after}
 use Rattle.noc_router.specs.View.{View, Site, Decisions, with_landed, with_misfit, with_flit, with_credit, taken, taken_from, all_taken, injected, injected_from, begun_on, with_injected, is_vacant, committed, tail_packet, flit_out, has_link, view_buffer, view_input, view_output, idle_beat, idle_beats, decided_verdict, buffer_after, input_after, output_after, has_event, beat_out, counted, local_channel, put}
 use Rattle.noc_router.proofs.SettleLemmas.{arrival-is, sink_ends, sink_misfits}
@@ -60,6 +60,9 @@ injected_from-site n ((number, p) ∷ rest) None v =
 pub injected-site : (n : ℕ) (v : View) → (injected n v).site ≡ v.site
 unfolding injected
 injected-site n v = injected_from-site n v.queue v.sending (record v { given = n })
+
+pub put-site : (port vc : ℕ) (f : Flit) (v : View) → (flit_put port vc f v).site ≡ v.site
+put-site port vc f v = ap (λ (w : View). w.site) (arrival-is (ejected v port f) (record v { to_put = with_flit_at port vc f v.to_put }))
 
 -- ---- the parts of a commit
 -- what takes effect of all verdicts, but for what the sink does with the tail that leaves

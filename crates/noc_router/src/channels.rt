@@ -139,21 +139,21 @@ impl Channels {
         router: usize,
         port: usize,
         vc: usize,
-        flit: Flit,
+        flit: &Flit,
     ) -> bool
         requires exists { index < self.old.size }
         requires router { router < nodes_of relation.now.grid }
         requires port { port < ports_of relation.now.grid }
         requires vc { vc < relation.now.vcs }
-        ensures fits { result ≡ fits relation.now router port vc self.old.bank.capacity (ring_at self.old.bank index) (input_at self.old.inputs.items index) flit }
-        ensures bank { self.new.bank ≡ (if result then pushed self.old.bank index flit else self.old.bank) }
-        ensures inputs { self.new.inputs.items ≡ (if result then slice_set self.old.inputs.items index (landed (input_at self.old.inputs.items index) flit) else self.old.inputs.items) }
+        ensures fits { result ≡ fits relation.now router port vc self.old.bank.capacity (ring_at self.old.bank index) (input_at self.old.inputs.items index) flit.now }
+        ensures bank { self.new.bank ≡ (if result then pushed self.old.bank index flit.now else self.old.bank) }
+        ensures inputs { self.new.inputs.items ≡ (if result then slice_set self.old.inputs.items index (landed (input_at self.old.inputs.items index) flit.now) else self.old.inputs.items) }
         ensures outputs { self.new.outputs.items ≡ self.old.outputs.items }
         ensures size { self.new.size ≡ self.old.size }
         ensures places { self.new.bank.capacity ≡ self.old.bank.capacity }
     {
         let input = &mut self.inputs[index];
-        match input.land(&mut self.bank, index, relation, router, port, vc, flit) {
+        match input.land_from(&mut self.bank, index, relation, router, port, vc, flit) {
             Ok(()) => {
                 self.filled = self.filled.with(index);
                 true

@@ -52,8 +52,21 @@ impl Links {
         }
     }
 
-    // Every beat is idle again.
+    // Every beat is idle again. Mostly all of them are: each was put on its link.
+    #[inline(always)]
     pub(crate) fn clear(&mut self)
+        ensures leads { self.new.leads ≡ self.old.leads }
+        ensures beats { self.new.beats ≡ replicate LINKS idle_beat }
+        ensures loaded { (k : ℕ) → has_bit self.new.loaded k ≡ false }
+    {
+        if !self.loaded.is_empty() {
+            self.clear_loaded();
+        }
+    }
+
+    // .. where some are not.
+    #[inline(never)]
+    fn clear_loaded(&mut self)
         ensures leads { self.new.leads ≡ self.old.leads }
         ensures beats { self.new.beats ≡ replicate LINKS idle_beat }
         ensures loaded { (k : ℕ) → has_bit self.new.loaded k ≡ false }

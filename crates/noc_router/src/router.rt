@@ -134,8 +134,8 @@ impl Router {
         requires port { port < local_port self.old.site.grid }
         ensures { self.new ≡ taken relation.now port beat self.old }
     {
-        if let Some((vc, flit)) = beat.flit {
-            self.take_flit(relation, port, usize::from(vc), flit);
+        if let Some((vc, flit)) = &beat.flit {
+            self.take_flit(relation, port, usize::from(*vc), flit);
         }
         if let Some(vc) = beat.credit {
             self.take_credit(port, usize::from(vc));
@@ -144,10 +144,10 @@ impl Router {
 
     /// Takes a flit that came on a virtual channel of a link port (0 to the number of link ports - 1). Where it does not
     /// fit it is turned away.
-    pub fn take_flit(&mut self, relation: &Relation, port: usize, vc: usize, flit: Flit)
+    pub fn take_flit(&mut self, relation: &Relation, port: usize, vc: usize, flit: &Flit)
         requires relation { IsRelationOf relation.now self.old }
         requires port { port < local_port self.old.site.grid }
-        ensures { self.new ≡ with_flit relation.now port (Some (vc, flit)) self.old }
+        ensures { self.new ≡ with_flit relation.now port (Some (vc, flit.now)) self.old }
     {
         if vc < self.vcs
             && self.links.neighbour(port).is_some()
@@ -579,7 +579,6 @@ impl Router {
         if plan.is_moved(index) {
             if let InputState::Active(next) = self.channels.state(index) {
                 self.move_flit(index, next);
-                self.turn_switch(index, next);
             }
         } else if plan.is_granted(index) {
             if let Some(next) = plan.ask(index) {
@@ -611,31 +610,22 @@ impl Router {
         self.had_event = true;
     }
 
-    // The first flit of an input channel leaves by its output channel, and a credit goes back.
+    // The first flit of an input channel leaves by its output channel, a credit goes back, and the pointers of the switch go on
+    // past that input channel.
     fn move_flit(&mut self, index: usize, next: usize)
         requires index { index < size_of self.old.site }
         requires next { next < size_of self.old.site }
         requires active { (view_input self.old index).phase ≡ InputState.Active next }
         requires credit { has_credit (view_output self.old next) ≡ true }
         requires some { 0 < length (view_buffer self.old index) }
-        ensures { self.new ≡ moved_by index next (first_flit self.old index) self.old }
+        ensures { self.new ≡ switch_past index next (moved_by index next (first_flit self.old index) self.old) }
     {
         let flit = self.channels.send(index, next);
         self.had_event = true;
         let (port, vc) = self.indices.place(index);
+        let (output, next_vc) = self.indices.place(next);
         self.put_credit(port, vc);
-        let (port, vc) = self.indices.place(next);
-        self.put_flit(port, vc, flit);
-    }
-
-    // The pointers of the switch go on past an input channel that has sent to an output channel.
-    fn turn_switch(&mut self, index: usize, next: usize)
-        requires index { index < size_of self.old.site }
-        requires next { next < size_of self.old.site }
-        ensures { self.new ≡ switch_past index next self.old }
-    {
-        let (port, vc) = self.indices.place(index);
-        let (output, _) = self.indices.place(next);
+        self.put_flit(output, next_vc, flit);
         self.arbiters.turn_switch(port, vc, output);
     }
 

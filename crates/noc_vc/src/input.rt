@@ -205,11 +205,33 @@ impl InputChannel {
         ensures channel { self.new ≡ (if is_ok result then landed self.old flit else self.old) }
         ensures bank { bank.new ≡ (if is_ok result then pushed bank.old ring flit else bank.old) }
     {
-        if bank.is_full(ring) || !self.expects(bank, ring, relation, router, port, vc, &flit) {
+        self.land_from(bank, ring, relation, router, port, vc, &flit)
+    }
+
+    /// `land`, of a flit that stands elsewhere: it is compared where it stands, and copied whole.
+    pub fn land_from(
+        &mut self,
+        bank: &mut Bank,
+        ring: usize,
+        relation: &Relation,
+        router: usize,
+        port: usize,
+        vc: usize,
+        flit: &Flit,
+    ) -> Result<(), Misfit>
+        requires ring { ring < length bank.old.rings }
+        requires router { router < nodes relation.now.grid }
+        requires port { port < ports relation.now.grid }
+        requires vc { vc < relation.now.vcs }
+        ensures fits { is_ok result ≡ fits relation.now router port vc bank.old.capacity (ring_at bank.old ring) self.old flit.now }
+        ensures channel { self.new ≡ (if is_ok result then landed self.old flit.now else self.old) }
+        ensures bank { bank.new ≡ (if is_ok result then pushed bank.old ring flit.now else bank.old) }
+    {
+        if bank.is_full(ring) || !self.expects(bank, ring, relation, router, port, vc, flit) {
             return Err(Misfit);
         }
-        bank.push(ring, flit);
-        self.follow(&flit);
+        bank.push(ring, *flit);
+        self.follow(flit);
         Ok(())
     }
 

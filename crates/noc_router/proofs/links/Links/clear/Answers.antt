@@ -1,29 +1,7 @@
-use Rattle.std.proofs.Common.{◌≡◌, ℕ, ◌<◌, ◌+◌, false, ap, ◌∙◌, arith}
-use Rattle.noc_packet.specs.Set.{has_bit}
-use Rattle.noc_router.specs.declared.links.Links.{Links}
-use Rattle.noc_router.proofs.LinkLemmas.{all_idle, none_below, none_below-more, none_from_search}
+use Rattle.noc_router.proofs.LinkLemmas.{all_idle}
 use Rattle.noc_router.proofs.links.Links.clear.Goals as goal
-use Rattle.noc_router.proofs.links.Links.clear.Goals.{then-port-lt-LINKS, else-port-lt-LINKS}
 
-pub returns-after-loop-clause-beats : goal.returns-after-loop-clause-beats
-returns-after-loop-clause-beats c =
-    let l = c.loop.self in
-    all_idle 6 l.beats l.loaded l.marked (none_below 6 l.beats l.loaded l.marked (λ k h. c.loop.invariant.1 k (omega arith)))
-
-pub returns-after-loop-clause-loaded : goal.returns-after-loop-clause-loaded
-returns-after-loop-clause-loaded c =
-    let l = c.loop.self in
-    none_below 6 l.beats l.loaded l.marked (λ k h. c.loop.invariant.1 k (omega arith))
-
-pub returns-in_default-clause-beats : goal.returns-in_default-clause-beats
-returns-in_default-clause-beats c =
-    let l = c.loop.self in
-    all_idle 6 l.beats l.loaded l.marked (none_from_search l.loaded c.in_default.ensures.least)
-
-pub loop-preserved : goal.loop-preserved
-loop-preserved c =
-    let none : (k : ℕ) → k < c.loop.counter + 1 → has_bit c.without-self.result k ≡ false = none_below-more c.loop.counter c.in-Some.port c.loop.self.loaded c.without-self.result c.in-Some.ensures.least c.without-self.ensures.members c.loop.invariant.1 in
-    elim c.if-port-lt-LINKS.branch [
-      | then-port-lt-LINKS w ↦ (ap (λ (x : Links). x.leads) w.self-is ∙ c.loop.invariant.0, λ k h. ap (λ (x : Links). has_bit x.loaded k) w.self-is ∙ none k h)
-      | else-port-lt-LINKS w ↦ (ap (λ (x : Links). x.leads) w.self-is ∙ c.loop.invariant.0, λ k h. ap (λ (x : Links). has_bit x.loaded k) w.self-is ∙ none k h)
-    ]
+pub returns-else-not-is_empty-clause-beats : goal.returns-else-not-is_empty-clause-beats
+returns-else-not-is_empty-clause-beats c =
+    let l = c.args.self.now in
+    all_idle 6 l.beats l.loaded l.marked (λ k. c.is_empty.ensures.members.0 c.if-not-is_empty.false k)

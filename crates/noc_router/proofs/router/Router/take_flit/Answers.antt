@@ -17,42 +17,42 @@ pub returns-then-land : goal.returns-then-land
 returns-then-land c =
     let r = c.self.inside in
     let small : c.args.port < 6 = search rules in
-    landed-view r c.land.new.self (c.args.port * r.vcs + c.args.vc) c.args.flit c.if-land.ensures.bank c.if-land.ensures.inputs c.if-land.ensures.outputs
-    ∙ sym (with_flit-lands c.args.relation.now c.args.port c.args.vc c.args.flit (view_of r)
+    landed-view r c.land.new.self (c.args.port * r.vcs + c.args.vc) c.args.flit.now c.if-land.ensures.bank c.if-land.ensures.inputs c.if-land.ensures.outputs
+    ∙ sym (with_flit-lands c.args.relation.now c.args.port c.args.vc c.args.flit.now (view_of r)
     (ap is_some (sym (c.neighbour.ensures ∙ c.self.invariant.leads c.args.port small)) ∙ sym c.if-is_some.ensures)
     (lt-ltb c.args.vc r.vcs c.if-vc-self.true)
-    (ap (λ n. fits c.args.relation.now r.node c.args.port c.args.vc n (ring_at r.channels.bank (c.args.port * r.vcs + c.args.vc)) (input_at r.channels.inputs.items (c.args.port * r.vcs + c.args.vc)) c.args.flit) (sym c.self.invariant.places)
+    (ap (λ n. fits c.args.relation.now r.node c.args.port c.args.vc n (ring_at r.channels.bank (c.args.port * r.vcs + c.args.vc)) (input_at r.channels.inputs.items (c.args.port * r.vcs + c.args.vc)) c.args.flit.now) (sym c.self.invariant.places)
     ∙ sym c.if-land.ensures.fits))
-    ∙ ap (λ (v : View). with_flit c.args.relation.now c.args.port (Some (c.args.vc, c.args.flit)) v) c.self.view_is
+    ∙ ap (λ (v : View). with_flit c.args.relation.now c.args.port (Some (c.args.vc, c.args.flit.now)) v) c.self.view_is
 
 pub returns-else-vc-self : goal.returns-else-vc-self
 returns-else-vc-self c =
     let r = c.self.inside in
     let n = c.saturating_add-self-inside.result in
-    let whole = ap (λ (v : View). with_flit c.args.relation.now c.args.port (Some (c.args.vc, c.args.flit)) v) c.self.view_is in
+    let whole = ap (λ (v : View). with_flit c.args.relation.now c.args.port (Some (c.args.vc, c.args.flit.now)) v) c.self.view_is in
     elim c.else-vc-self.branch [
       | else-vc-self-via-then-vc-self+then-is_some+else-land w ↦
           ap (λ (i : Inside). view_of (record i { misfits = n })) w.self-inside-is
           ∙ misfit-view r w.land.new.self n w.if-land.ensures.bank w.if-land.ensures.inputs w.if-land.ensures.outputs
           (c.saturating_add-self-inside.ensures ∙ ap (λ (i : Inside). raised i.misfits) w.self-inside-is)
-          ∙ sym (with_flit-turned c.args.relation.now c.args.port c.args.vc c.args.flit (view_of r)
-          (no_fit c.args.relation.now c.args.port c.args.vc c.args.flit (view_of r)
-          (ap (λ k. fits c.args.relation.now r.node c.args.port c.args.vc k (ring_at r.channels.bank (c.args.port * r.vcs + c.args.vc)) (input_at r.channels.inputs.items (c.args.port * r.vcs + c.args.vc)) c.args.flit) (sym c.self.invariant.places)
+          ∙ sym (with_flit-turned c.args.relation.now c.args.port c.args.vc c.args.flit.now (view_of r)
+          (no_fit c.args.relation.now c.args.port c.args.vc c.args.flit.now (view_of r)
+          (ap (λ k. fits c.args.relation.now r.node c.args.port c.args.vc k (ring_at r.channels.bank (c.args.port * r.vcs + c.args.vc)) (input_at r.channels.inputs.items (c.args.port * r.vcs + c.args.vc)) c.args.flit.now) (sym c.self.invariant.places)
           ∙ sym w.if-land.ensures.fits)))
           ∙ whole
       | else-vc-self-via-then-vc-self+else-is_some w ↦
           let small : c.args.port < 6 = search rules in
           ap (λ (i : Inside). view_of (record i { misfits = n })) w.self-inside-is
           ∙ misfit-view r r.channels n refl refl refl (c.saturating_add-self-inside.ensures ∙ ap (λ (i : Inside). raised i.misfits) w.self-inside-is)
-          ∙ sym (with_flit-turned c.args.relation.now c.args.port c.args.vc c.args.flit (view_of r)
-          (no_link c.args.relation.now c.args.port c.args.vc c.args.flit (view_of r)
+          ∙ sym (with_flit-turned c.args.relation.now c.args.port c.args.vc c.args.flit.now (view_of r)
+          (no_link c.args.relation.now c.args.port c.args.vc c.args.flit.now (view_of r)
           (ap is_some (sym (w.neighbour.ensures ∙ c.self.invariant.leads c.args.port small)) ∙ sym w.if-is_some.ensures)))
           ∙ whole
       | else-vc-self-via-else-vc-self w ↦
           ap (λ (i : Inside). view_of (record i { misfits = n })) w.self-inside-is
           ∙ misfit-view r r.channels n refl refl refl (c.saturating_add-self-inside.ensures ∙ ap (λ (i : Inside). raised i.misfits) w.self-inside-is)
-          ∙ sym (with_flit-turned c.args.relation.now c.args.port c.args.vc c.args.flit (view_of r)
-          (no_channel c.args.relation.now c.args.port c.args.vc c.args.flit (view_of r) (le-ltb _ _ w.if-vc-self.false)))
+          ∙ sym (with_flit-turned c.args.relation.now c.args.port c.args.vc c.args.flit.now (view_of r)
+          (no_channel c.args.relation.now c.args.port c.args.vc c.args.flit.now (view_of r) (le-ltb _ _ w.if-vc-self.false)))
           ∙ whole
     ]
 

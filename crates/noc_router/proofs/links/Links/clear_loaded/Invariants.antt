@@ -1,6 +1,6 @@
 use Rattle.std.proofs.Common.{◌≡◌, ℕ, ◌<◌, false}
 use Rattle.noc_packet.specs.Set.{has_bit}
-use Rattle.noc_router.proofs.links.Links.clear.Given as goal
+use Rattle.noc_router.proofs.links.Links.clear_loaded.Given as goal
 
 -- the leads stay, and one index more has an idle beat
 abbrev pub invariant-loop : goal.invariant-loop
