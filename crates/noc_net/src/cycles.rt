@@ -110,9 +110,10 @@ fn move_on_all(relation: &Relation, plan: &mut Plan, cycle: u64, routers: &mut [
     }
 }
 
-// One router that has taken its beats injects, decides and commits, and leaves its findings as they were.
+/// One router that has taken its beats injects what is due by cycle `cycle` (from 0), decides and commits, and leaves its findings as
+/// they were.
 #[inline(always)]
-fn move_on(relation: &Relation, plan: &mut Plan, cycle: u64, router: &mut Router)
+pub fn move_on(relation: &Relation, plan: &mut Plan, cycle: u64, router: &mut Router)
     requires plan { IsDecidedFor (ports_of relation.now.grid) relation.now.vcs plan.old }
     requires router { IsRelationOf relation.now router.old }
     ensures plan { IsDecidedFor (ports_of relation.now.grid) relation.now.vcs plan.new }
@@ -160,8 +161,8 @@ fn conclude_all(relation: &Relation, plan: &mut Plan, cycle: u64, routers: &mut 
     }
 }
 
-// One router that has taken its beats injects, decides and commits.
-fn conclude(relation: &Relation, plan: &mut Plan, cycle: u64, router: &mut Router)
+/// One router that has taken its beats injects what is due by cycle `cycle` (from 0), decides and commits.
+pub fn conclude(relation: &Relation, plan: &mut Plan, cycle: u64, router: &mut Router)
     requires plan { IsDecidedFor (ports_of relation.now.grid) relation.now.vcs plan.old }
     requires router { IsRelationOf relation.now router.old }
     ensures plan { IsDecidedFor (ports_of relation.now.grid) relation.now.vcs plan.new }
