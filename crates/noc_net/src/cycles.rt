@@ -72,9 +72,9 @@ fn skip(
     }
 }
 
-/// Each of the routers from `first` (0 to 255) on takes the beats that came to it, injects, decides and commits, and leaves its
-/// findings as they were. Nothing came to other routers.
-pub fn advance_all(
+// Each of the routers from `first` on takes the beats that came to it, injects, decides and commits, and leaves its findings as
+// they were.
+fn advance_all(
     relation: &Relation,
     plan: &mut Plan,
     cycle: u64,
@@ -123,9 +123,8 @@ pub fn move_on(relation: &Relation, plan: &mut Plan, cycle: u64, router: &mut Ro
     router.advance(relation, plan);
 }
 
-/// Each of the routers from `first` (0 to 255) on takes the beats that came to it, injects, decides and commits. Nothing came to
-/// other routers.
-pub fn decide_all(
+// Each of the routers from `first` on takes the beats that came to it, injects, decides and commits.
+fn decide_all(
     relation: &Relation,
     plan: &mut Plan,
     cycle: u64,

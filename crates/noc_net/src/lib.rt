@@ -14,7 +14,7 @@ mod room;
 mod takes;
 mod wire;
 
-pub use cycles::{advance_all, conclude, decide_all, deliver, move_on};
+pub use cycles::{conclude, deliver, move_on};
 pub use event_core::Core;
 pub use fault::NetFault;
 pub use limit::MAX_LIMIT;
