@@ -72,9 +72,9 @@ fn skip(
     }
 }
 
-/// Each of the routers from `first` (0 to 255) on takes the beats that came to it, injects, decides and commits, and leaves its
-/// findings as they were. Nothing came to other routers.
-pub fn advance_all(
+// Each of the routers from `first` on takes the beats that came to it, injects, decides and commits, and leaves its findings as
+// they were.
+fn advance_all(
     relation: &Relation,
     plan: &mut Plan,
     cycle: u64,
@@ -110,9 +110,10 @@ fn move_on_all(relation: &Relation, plan: &mut Plan, cycle: u64, routers: &mut [
     }
 }
 
-// One router that has taken its beats injects, decides and commits, and leaves its findings as they were.
+/// One router that has taken its beats injects what is due by cycle `cycle` (from 0), decides and commits, and leaves its findings as
+/// they were.
 #[inline(always)]
-fn move_on(relation: &Relation, plan: &mut Plan, cycle: u64, router: &mut Router)
+pub fn move_on(relation: &Relation, plan: &mut Plan, cycle: u64, router: &mut Router)
     requires plan { IsDecidedFor (ports_of relation.now.grid) relation.now.vcs plan.old }
     requires router { IsRelationOf relation.now router.old }
     ensures plan { IsDecidedFor (ports_of relation.now.grid) relation.now.vcs plan.new }
@@ -122,9 +123,8 @@ fn move_on(relation: &Relation, plan: &mut Plan, cycle: u64, router: &mut Router
     router.advance(relation, plan);
 }
 
-/// Each of the routers from `first` (0 to 255) on takes the beats that came to it, injects, decides and commits. Nothing came to
-/// other routers.
-pub fn decide_all(
+// Each of the routers from `first` on takes the beats that came to it, injects, decides and commits.
+fn decide_all(
     relation: &Relation,
     plan: &mut Plan,
     cycle: u64,
@@ -160,8 +160,8 @@ fn conclude_all(relation: &Relation, plan: &mut Plan, cycle: u64, routers: &mut 
     }
 }
 
-// One router that has taken its beats injects, decides and commits.
-fn conclude(relation: &Relation, plan: &mut Plan, cycle: u64, router: &mut Router)
+/// One router that has taken its beats injects what is due by cycle `cycle` (from 0), decides and commits.
+pub fn conclude(relation: &Relation, plan: &mut Plan, cycle: u64, router: &mut Router)
     requires plan { IsDecidedFor (ports_of relation.now.grid) relation.now.vcs plan.old }
     requires router { IsRelationOf relation.now router.old }
     ensures plan { IsDecidedFor (ports_of relation.now.grid) relation.now.vcs plan.new }

@@ -14,7 +14,7 @@ mod room;
 mod takes;
 mod wire;
 
-pub use cycles::{advance_all, decide_all, deliver};
+pub use cycles::{conclude, deliver, move_on};
 pub use event_core::Core;
 pub use fault::NetFault;
 pub use limit::MAX_LIMIT;
@@ -23,3 +23,4 @@ pub use network::Network;
 pub use noc_model::{CYCLE_LIMIT, Event, NotReady};
 pub use parts::Parts;
 pub use room::Room;
+pub use takes::take_all;

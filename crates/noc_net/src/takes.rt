@@ -18,8 +18,9 @@ use noc_route::Relation;
 use noc_router::Router;
 use noc_topo::LINKS;
 
-// Each of the routers from `first` on takes the beats that came to it, and leaves idle ones.
-pub(crate) fn take_all(
+/// Each of the routers from `first` (0 to 255) on takes the beats that came to it, and leaves idle ones. Nothing came to other
+/// routers.
+pub fn take_all(
     relation: &Relation,
     first: usize,
     routers: &mut [Router],

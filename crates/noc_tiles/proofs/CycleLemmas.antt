@@ -1,22 +1,31 @@
 -- One cycle of a tile, from what its phases do.
-use Rattle.std.proofs.Common.{◌≡◌, ◌≢◌, ◌⊎◌, inl, inr, ℕ, suc, ◌+◌, ◌-◌, ◌<◌, ◌≤◌, Bool, true, false, List, [], ◌∷◌, map, length, get_or, Option, Some, None, refl, ap, ap₂, sym, ◌∙◌, arith, subst, ⊎_elim}
+use Rattle.std.proofs.Common.{◌≡◌, ◌≢◌, inl, inr, ℕ, suc, ◌+◌, ◌-◌, ◌<◌, ◌≤◌, Bool, true, false, List, [], ◌∷◌, map, length, get_or, Option, Some, None, refl, ap, ap₂, sym, ◌∙◌, arith, subst, ⊎_elim}
 use Rattle.std.specs.Prelude.{nat_eq, ◌&&◌, if◌then◌else◌}
 use Rattle.std.proofs.lemmas.Bool.{cases_lt, false≢true, le-ltb}
-use Rattle.std.proofs.lemmas.List.{get_or-map, length-map, length-replicate, same_lists}
-use Rattle.std.proofs.lemmas.Simd.{map-map}
+use Rattle.std.proofs.lemmas.List.{get_or-map, length-map, length-replicate, map-id, same_lists}
 use Rattle.noc_topo.specs.Words.{tabulate, map_indexed}
-use Rattle.noc_topo.specs.Shape.{local_port, neighbour, nodes}
+use Rattle.noc_topo.specs.Shape.{local_port, neighbour, nodes, ports}
 use Rattle.noc_topo.proofs.WordLemmas.{length-tabulate, get_or-tabulate, tabulate-from_each, length-map_indexed, get_or-map_indexed}
 use Rattle.noc_packet.specs.declared.packet.Beat.{Beat}
 use Rattle.noc_route.specs.Routes.{Routes}
-use Rattle.noc_router.specs.View.{Site, View, idle_beat, local_step, opening_view}
+use Rattle.noc_router.specs.Decided.{IsDecidedFor}
+use Rattle.noc_router.specs.View.{Site, View, IsRelationOf, all_taken, idle_beat, local_step, opening_view}
+use Rattle.noc_router.proofs.SiteLemmas.{all_taken-site}
 use Rattle.noc_net.specs.Halves.{IsPlaced, beat_at, decided, emptied, incoming}
+use Rattle.noc_net.specs.Marks.{AreMarked}
+use Rattle.noc_net.specs.Takes.{concluded}
 use Rattle.noc_net.specs.Unseen.{unseen}
+use Rattle.noc_net.proofs.TakesLemmas.{concluded-decided}
 use Rattle.noc_model.proofs.RunLemmas.{map_map_indexed}
-use Rattle.noc_model.proofs.StepLemmas.{local_step-view, local_step-beats, site-decided, count-decided}
+use Rattle.noc_model.proofs.StepLemmas.{IsRelationOf-same_site, local_step-view, local_step-beats}
+use Rattle.noc_tiles.specs.Inner.{AreInner, CanFinish, to_send}
 use Rattle.noc_tiles.specs.TileStep.{Layout, TileState, Wires, with_beat, filled, is_own, is_from, beat_among, beat_of, arrived, steps, sent_of, out_at, after_steps, put_by}
 use Rattle.noc_tiles.specs.Tiles.{PartsFit}
+use Rattle.noc_tiles.specs.declared.inner.Inner.{Inner}
+use Rattle.noc_tiles.specs.declared.tile.Tile.{Tile}
 use Rattle.noc_tiles.proofs.ClearLemmas.{Cleared, place_at}
+use Rattle.noc_tiles.proofs.EdgeLemmas.{cases_bool}
+use Rattle.noc_tiles.proofs.FinishLemmas.{concluded-site}
 use Rattle.noc_tiles.proofs.TileStepLemmas.{Tells}
 use Rattle.noc_tiles.proofs.SentLemmas.{past-rows, sent_by}
 use Rattle.std.proofs.lemmas.Bool.Decides.{eqb_tells}
@@ -42,10 +51,6 @@ tabulate-same n f g d same = tabulate-from_each n g (tabulate n f) d (length-tab
 pub not_from : (first count : ℕ) (sent : List (List Beat)) (from : Option (ℕ × ℕ)) → is_from first count from ≡ false → beat_among first count sent from ≡ idle_beat
 not_from first count sent None e = refl
 not_from first count sent (Some (a, q)) e = ap (λ b. if b then beat_at sent (a - first) q else idle_beat) e
-
-pub cases_bool : (b : Bool) → (b ≡ true) ⊎ (b ≡ false)
-cases_bool true = inl refl
-cases_bool false = inr refl
 
 pub no_link : (relation : Routes) (r q : ℕ) → local_port relation.grid ≤ q → neighbour relation.grid r q ≡ None
 no_link relation r q l = rw (le-ltb q (local_port relation.grid) l) refl
@@ -98,146 +103,180 @@ module _ (relation : Routes) (first : ℕ) (ins outs : List (ℕ × ℕ)) (views
     unfolding steps
     made-count = length-map_indexed _ views
 
-    module _ (views2 : List View) (did : map unseen views2 ≡ map unseen halves) where
-      pub count2 : length views2 ≡ length views
-      count2 = sym (length-map views2 unseen) ∙ ap length did ∙ length-map halves unseen ∙ length-map_indexed half views
+    -- what router i has taken
+    abbrev pub took_in : ℕ → View → View
+    took_in i v = all_taken relation (incoming relation.grid (get_or b1 (first + i) [])) v
 
-      same-at : (i : ℕ) (d : View) → i < length views → unseen (get_or views2 i d) ≡ unseen (half i (get_or views i d))
-      same-at i d l =
-          sym (get_or-map unseen views2 i d (unseen d) (omega (arith, count2, l)))
-          ∙ ap (λ vs. get_or vs i (unseen d)) did
-          ∙ get_or-map unseen halves i d (unseen d) (omega (arith, length-map_indexed half views, l))
-          ∙ ap unseen (get_or-map_indexed half views i d d l)
+    module _ (views1 : List View) (taken : views1 ≡ map_indexed took_in views) where
+      pub count1 : length views1 ≡ length views
+      count1 = ap length taken ∙ length-map_indexed took_in views
 
-      pub placed2 : (i : ℕ) (d : View) → i < length views2 → IsPlaced relation (first + i) (get_or views2 i d)
-      placed2 i d l =
-          let l' : i < length views = omega (arith, count2, l) in
-          let old = get_or views i d in
-          let was = set.placed i d l' in
-          let same = same-at i d l' in
-          let site : (get_or views2 i d).site ≡ old.site = ap (λ (v : View). v.site) same ∙ site-decided relation n (incoming relation.grid (get_or b1 (first + i) [])) old in
-          record {
-            built_for = record { grid = was.built_for.grid ∙ ap (λ (s : Site). s.grid) (sym site); vcs = was.built_for.vcs ∙ ap (λ (s : Site). s.vcs) (sym site) };
-            site = ap (λ (s : Site). s.node) site ∙ was.site;
-            beats = ap (λ (v : View). length v.to_put) same ∙ count-decided relation n (incoming relation.grid (get_or b1 (first + i) [])) old ∙ ap local_port (sym was.built_for.grid);
-          }
+      at1 : (i : ℕ) (d : View) → i < length views → get_or views1 i d ≡ took_in i (get_or views i d)
+      at1 i d l = ap (λ vs. get_or vs i d) taken ∙ get_or-map_indexed took_in views i d d l
 
-      put-unseen : (vs : List View) → sent_by vs ≡ map (λ (v : View). v.to_put) (map unseen vs)
-      put-unseen vs = sym (map-map (λ (v : View). v.to_put) unseen vs)
+      site1 : (i : ℕ) (d : View) → i < length views → (get_or views1 i d).site ≡ (get_or views i d).site
+      site1 i d l = ap (λ (v : View). v.site) (at1 i d l) ∙ all_taken-site relation (incoming relation.grid (get_or b1 (first + i) [])) (get_or views i d)
 
-      pub sent2 : (d : View) → sent_by views2 ≡ sent_of relation at_place made
-      sent2 d = put-unseen views2 ∙ ap (map (λ (v : View). v.to_put)) did ∙ sym (put-unseen halves) ∙ sym (made-sent d)
+      half1 : (i : ℕ) (d : View) → i < length views → concluded relation n (get_or views1 i d) ≡ half i (get_or views i d)
+      half1 i d l = ap (concluded relation n) (at1 i d l) ∙ concluded-decided relation n (incoming relation.grid (get_or b1 (first + i) [])) (get_or views i d)
 
-      emptied-unseen : (vs : List View) → map unseen (map emptied vs) ≡ map emptied (map unseen vs)
-      emptied-unseen vs = map-map unseen emptied vs ∙ sym (map-map emptied unseen vs)
+      sent1 : (d : View) → to_send relation n views1 ≡ sent_of relation at_place made
+      sent1 d =
+          ap (map (λ (v : View). (concluded relation n v).to_put)) taken
+          ∙ map_map_indexed (λ (v : View). (concluded relation n v).to_put) took_in (λ (v : View). v.to_put) half views d d d
+          (λ i v l. ap (λ (w : View). w.to_put) (concluded-decided relation n (incoming relation.grid (get_or b1 (first + i) [])) v))
+          ∙ sym (made-sent d)
 
-      pub views3 : (d : View) → map unseen (map emptied views2) ≡ map unseen (after_steps relation at_place made).views
-      unfolding after_steps
-      views3 d = emptied-unseen views2 ∙ ap (map emptied) did ∙ sym (emptied-unseen halves) ∙ ap (map unseen) (sym (made-views d))
+      -- all routers of the tile can finish
+      pub can1 : (t : Tile) → t.first ≡ first → t.routers.items ≡ views1 → IsDecidedFor (ports relation.grid) relation.vcs t.plan → AreMarked t.marks t.beats.items → length t.beats.items ≡ nodes relation.grid
+          → ((r q : ℕ) → beat_at t.beats.items r q ≡ idle_beat) → CanFinish relation 0 (length views) t
+      can1 t same routers plan marks count silent = record {
+        plan = plan;
+        marks = marks;
+        order = omega arith;
+        within = omega (arith, ap length routers, count1);
+        wide = omega (arith, ap length routers, count1, same, set.wide);
+        count = count;
+        built = λ k d u v. subst (λ vs. IsRelationOf relation (get_or vs k d)) (sym routers) (IsRelationOf-same_site relation (get_or views k d) (get_or views1 k d) (site1 k d v) (set.placed k d v).built_for);
+        site = λ k d u v. ap (λ vs. (get_or vs k d).site.node) routers ∙ ap (λ (s : Site). s.node) (site1 k d v) ∙ (set.placed k d v).site ∙ ap (λ m. m + k) (sym same);
+        idle = λ r q u f. silent r q;
+      }
 
-      pub seen3 : (d : View) → views2 ≡ halves → map emptied views2 ≡ (after_steps relation at_place made).views
-      unfolding after_steps
-      seen3 d e = ap (map emptied) e ∙ sym (made-views d)
-
-      module _ (d : View) (b3 b4 : List (List Beat)) (went : (r q : ℕ) → r < nodes relation.grid → beat_at b3 r q ≡ beat_of first (sent_by views2) (neighbour relation.grid r q))
-          (cleared : (r q : ℕ) → Cleared outs b3 b4 (length outs) r q) where
-        out-is : (r q : ℕ) → r < nodes relation.grid → beat_at b3 r q ≡ out_at relation at_place made r q
-        out-is r q l = went r q l ∙ ap (λ sent. beat_of first sent (neighbour relation.grid r q)) (sent2 d)
-
-        sent-count : length (sent_of relation at_place made) ≡ length views
-        sent-count = length-map made (λ (s : View × List Beat). s.1) ∙ made-count
-
-        own-wires : (r q : ℕ) → r < nodes relation.grid → is_own first (length views) r ≡ true → Cleared outs b3 b4 (length outs) r q → beat_at b4 r q ≡ out_at relation at_place made r q
-        own-wires r q l own (inl h) =
-            absurd (false≢true (sym (set.others h.0 h.1) ∙ ap (λ (p : ℕ × ℕ). is_own first (length views) p.0) h.2 ∙ own))
-        own-wires r q l own (inr h) = h.1 ∙ out-is r q l
-
-        other-wires : (r q : ℕ) → r < nodes relation.grid → is_own first (length views) r ≡ false → Cleared outs b3 b4 (length outs) r q → beat_at b4 r q ≡ idle_beat
-        other-wires r q l other (inl h) = h.3
-        other-wires r q l other (inr h) =
-            h.1 ∙ (out-is r q l
-            ∙ ⊎_elim (λ (from : is_from first (length views) (neighbour relation.grid r q) ≡ true). let o = set.leaves r q l other from in absurd (h.0 o.0 o.1 o.2))
-            (λ (none : is_from first (length views) (neighbour relation.grid r q) ≡ false).
-            not_from first (length (sent_of relation at_place made)) (sent_of relation at_place made) (neighbour relation.grid r q) (ap (λ k. is_from first k (neighbour relation.grid r q)) sent-count ∙ none))
-            (cases_bool (is_from first (length views) (neighbour relation.grid r q))))
-
-        own-made : (r : ℕ) → is_own first (length made) r ≡ is_own first (length views) r
-        own-made r = ap (λ k. is_own first k r) made-count
-
-        pub wires4 : (r q : ℕ) → r < nodes relation.grid → beat_at b4 r q ≡ (after_steps relation at_place made).wires r q
+      -- they have finished
+      module _ (d : View) (views5 : List View) (count5 : length views5 ≡ length views) where
+        all5 : (u : View → View) → ((k : ℕ) (e : View) → k < length views → u (get_or views5 k e) ≡ u (emptied (concluded relation n (get_or views1 k e)))) → map u views5 ≡ map u (after_steps relation at_place made).views
         unfolding after_steps
-        wires4 r q l =
-            ⊎_elim (λ (own : is_own first (length views) r ≡ true).
-            own-wires r q l own (cleared r q) ∙ ap (λ b. if b then out_at relation at_place made r q else idle_beat) (sym (own-made r ∙ own)))
-            (λ (other : is_own first (length views) r ≡ false).
-            other-wires r q l other (cleared r q) ∙ ap (λ b. if b then out_at relation at_place made r q else idle_beat) (sym (own-made r ∙ other)))
-            (cases_bool (is_own first (length views) r))
-
-        pub put4 : map (λ (p : ℕ × ℕ). beat_at b3 p.0 p.1) outs ≡ put_by relation at_place made
-        unfolding put_by
-        put4 =
-            let out = λ (p : ℕ × ℕ). beat_at b3 p.0 p.1 in
-            let out' = λ (p : ℕ × ℕ). out_at relation at_place made p.0 p.1 in
-            same_lists (map out outs) (map out' outs) (length-map outs out ∙ sym (length-map outs out'))
+        all5 u each =
+            same_lists (map u views5) (map u (map emptied halves))
+            (length-map views5 u ∙ count5 ∙ sym (length-map (map emptied halves) u ∙ length-map halves emptied ∙ length-map_indexed half views))
             (λ k e l.
-            let k_in : k < length outs = omega (arith, length-map outs out, l) in
-            let p = get_or outs k (0, 0) in
-            get_or-map out outs k (0, 0) e k_in ∙ out-is p.0 p.1 (set.outs_within k k_in).0 ∙ sym (get_or-map out' outs k (0, 0) e k_in))
+            let few : k < length views = omega (arith, length-map views5 u, count5, l) in
+            let few' : k < length halves = omega (arith, length-map_indexed half views, few) in
+            get_or-map u views5 k e e (omega (arith, count5, few))
+            ∙ each k e few
+            ∙ ap (λ (v : View). u (emptied v)) (half1 k e few ∙ sym (get_or-map_indexed half views k e e few))
+            ∙ ap u (sym (get_or-map emptied halves k e e few'))
+            ∙ sym (get_or-map u (map emptied halves) k e e (omega (arith, length-map halves emptied, few'))))
+            ∙ ap (map u) (sym (made-views d))
 
-        module _ (count4 : length b4 ≡ nodes relation.grid) where
-          pub linked4 : (r q : ℕ) → local_port relation.grid ≤ q → beat_at b4 r q ≡ idle_beat
-          linked4 r q past =
-              ⊎_elim (λ (l : r < nodes relation.grid).
-              ⊎_elim (λ (own : is_own first (length views) r ≡ true). own-wires r q l own (cleared r q) ∙ ap (beat_of first (sent_of relation at_place made)) (no_link relation r q past))
-              (λ (other : is_own first (length views) r ≡ false). other-wires r q l other (cleared r q))
-              (cases_bool (is_own first (length views) r)))
-              (λ (h : nodes relation.grid ≤ r). past-rows b4 r q (omega (arith, count4, h)))
-              (cases_lt r (nodes relation.grid))
+        module _ (did : (k : ℕ) (e : View) → k < length views → unseen (get_or views5 k e) ≡ unseen (emptied (concluded relation n (get_or views1 k e)))) where
+          pub unseen5 : map unseen views5 ≡ map unseen (after_steps relation at_place made).views
+          unseen5 = all5 unseen did
 
-          pub idle4 : (r q : ℕ) → is_own first (length views) r ≡ false → beat_at b4 r q ≡ idle_beat
-          idle4 r q other =
-              ⊎_elim (λ (l : r < nodes relation.grid). other-wires r q l other (cleared r q))
-              (λ (h : nodes relation.grid ≤ r). past-rows b4 r q (omega (arith, count4, h)))
-              (cases_lt r (nodes relation.grid))
+          pub seen5 : ((k : ℕ) (e : View) → k < length views → get_or views5 k e ≡ emptied (concluded relation n (get_or views1 k e))) → views5 ≡ (after_steps relation at_place made).views
+          seen5 each =
+              let same : View → View = λ v. v in
+              sym (map-id views5) ∙ all5 same each ∙ map-id (after_steps relation at_place made).views
 
-          count3 : length (map emptied views2) ≡ length views
-          count3 = length-map views2 emptied ∙ count2
-
-          emptied-placed : (node : ℕ) (v : View) → IsPlaced relation node v → IsPlaced relation node (emptied v)
-          emptied-placed node v p = record {
-            built_for = record { grid = p.built_for.grid; vcs = p.built_for.vcs };
-            site = p.site;
-            beats = length-replicate (local_port v.site.grid) idle_beat ∙ ap local_port (sym p.built_for.grid);
-          }
-
-          -- the tile is ready for the next cycle
-          pub set4 : PartsFit relation first ins outs (map emptied views2) b4
-          set4 =
-              let one : (r : ℕ) → is_own first (length (map emptied views2)) r ≡ is_own first (length views) r = λ r. ap (λ k. is_own first k r) count3 in
+          placed5 : (k : ℕ) (e : View) → k < length views5 → IsPlaced relation (first + k) (get_or views5 k e)
+          placed5 k e l =
+              let l' : k < length views = omega (arith, count5, l) in
+              let was = set.placed k e l' in
+              let same = did k e l' in
+              let site : (get_or views5 k e).site ≡ (get_or views k e).site =
+              ap (λ (v : View). v.site) same ∙ concluded-site relation n (get_or views1 k e) ∙ site1 k e l' in
               record {
-                wide = omega (arith, count3, set.wide);
-                count = count4;
-                placed = λ i e l.
-                    let l' : i < length views2 = omega (arith, length-map views2 emptied, l) in
-                    subst (IsPlaced relation (first + i)) (sym (get_or-map emptied views2 i e e l')) (emptied-placed (first + i) (get_or views2 i e) (placed2 i e l'));
-                linked = linked4;
-                idle = λ r q h. idle4 r q (sym (one r) ∙ h);
-                within = set.within;
-                own = λ j l. one (get_or ins j (0, 0)).0 ∙ set.own j l;
-                outs_within = set.outs_within;
-                others = λ o l. one (get_or outs o (0, 0)).0 ∙ set.others o l;
-                leaves = λ r q l h f. set.leaves r q l (sym (one r) ∙ h) (ap (λ k. is_from first k (neighbour relation.grid r q)) (sym count3) ∙ f);
+                built_for = IsRelationOf-same_site relation (get_or views k e) (get_or views5 k e) site was.built_for;
+                site = ap (λ (s : Site). s.node) site ∙ was.site;
+                beats = ap (λ (v : View). length v.to_put) same
+                    ∙ length-replicate (local_port (concluded relation n (get_or views1 k e)).site.grid) idle_beat
+                    ∙ ap (λ (s : Site). local_port s.grid) (concluded-site relation n (get_or views1 k e) ∙ site1 k e l')
+                    ∙ ap local_port (sym was.built_for.grid);
               }
+
+          -- the wires when those at the edge have put their beats, then with those idle that went, and in the end
+          module _ (b3 b4 b5 : List (List Beat)) (inner : Inner) (fits : AreInner relation.grid first (length views) outs inner) (cleared : (r q : ℕ) → Cleared outs b3 b4 (length outs) r q)
+              (edge : (r q : ℕ) → r < nodes relation.grid → is_from (first + inner.from) (inner.to - inner.from) (neighbour relation.grid r q) ≡ false
+              → beat_at b3 r q ≡ beat_among first (length views1) (to_send relation n views1) (neighbour relation.grid r q))
+              (whole : (r q : ℕ) → r < nodes relation.grid → beat_at b4 r q ≡ beat_at b3 r q → beat_at b5 r q ≡ beat_among first (length views1) (to_send relation n views1) (neighbour relation.grid r q))
+              (kept : (r q : ℕ) → r < nodes relation.grid → is_from (first + inner.from) (inner.to - inner.from) (neighbour relation.grid r q) ≡ false → beat_at b5 r q ≡ beat_at b4 r q) where
+            sent-count : length (sent_of relation at_place made) ≡ length views
+            sent-count = length-map made (λ (s : View × List Beat). s.1) ∙ made-count
+
+            out-is : (r q : ℕ) → beat_among first (length views1) (to_send relation n views1) (neighbour relation.grid r q) ≡ out_at relation at_place made r q
+            out-is r q = ap₂ (λ k sent. beat_among first k sent (neighbour relation.grid r q)) (count1 ∙ sym sent-count) (sent1 d)
+
+            own-wires : (r q : ℕ) → r < nodes relation.grid → is_own first (length views) r ≡ true → Cleared outs b3 b4 (length outs) r q → beat_at b5 r q ≡ out_at relation at_place made r q
+            own-wires r q l own (inl h) =
+                absurd (false≢true (sym (set.others h.0 h.1) ∙ ap (λ (p : ℕ × ℕ). is_own first (length views) p.0) h.2 ∙ own))
+            own-wires r q l own (inr h) = whole r q l h.1 ∙ out-is r q
+
+            other-wires : (r q : ℕ) → r < nodes relation.grid → is_own first (length views) r ≡ false → Cleared outs b3 b4 (length outs) r q → beat_at b5 r q ≡ idle_beat
+            other-wires r q l other (inl h) =
+                kept r q l (ap (λ (p : ℕ × ℕ). is_from (first + inner.from) (inner.to - inner.from) (neighbour relation.grid p.0 p.1)) (sym h.2) ∙ fits.none h.0 h.1) ∙ h.3
+            other-wires r q l other (inr h) =
+                whole r q l h.1 ∙ out-is r q
+                ∙ ⊎_elim (λ (from : is_from first (length views) (neighbour relation.grid r q) ≡ true). let o = set.leaves r q l other from in absurd (h.0 o.0 o.1 o.2))
+                (λ (none : is_from first (length views) (neighbour relation.grid r q) ≡ false).
+                not_from first (length (sent_of relation at_place made)) (sent_of relation at_place made) (neighbour relation.grid r q) (ap (λ k. is_from first k (neighbour relation.grid r q)) sent-count ∙ none))
+                (cases_bool (is_from first (length views) (neighbour relation.grid r q)))
+
+            own-made : (r : ℕ) → is_own first (length made) r ≡ is_own first (length views) r
+            own-made r = ap (λ k. is_own first k r) made-count
+
+            pub wires5 : (r q : ℕ) → r < nodes relation.grid → beat_at b5 r q ≡ (after_steps relation at_place made).wires r q
+            unfolding after_steps
+            wires5 r q l =
+                ⊎_elim (λ (own : is_own first (length views) r ≡ true).
+                own-wires r q l own (cleared r q) ∙ ap (λ b. if b then out_at relation at_place made r q else idle_beat) (sym (own-made r ∙ own)))
+                (λ (other : is_own first (length views) r ≡ false).
+                other-wires r q l other (cleared r q) ∙ ap (λ b. if b then out_at relation at_place made r q else idle_beat) (sym (own-made r ∙ other)))
+                (cases_bool (is_own first (length views) r))
+
+            pub put5 : map (λ (p : ℕ × ℕ). beat_at b3 p.0 p.1) outs ≡ put_by relation at_place made
+            unfolding put_by
+            put5 =
+                let out = λ (p : ℕ × ℕ). beat_at b3 p.0 p.1 in
+                let out' = λ (p : ℕ × ℕ). out_at relation at_place made p.0 p.1 in
+                same_lists (map out outs) (map out' outs) (length-map outs out ∙ sym (length-map outs out'))
+                (λ k e l.
+                let k_in : k < length outs = omega (arith, length-map outs out, l) in
+                let p = get_or outs k (0, 0) in
+                get_or-map out outs k (0, 0) e k_in ∙ edge p.0 p.1 (set.outs_within k k_in).0 (fits.none k k_in) ∙ out-is p.0 p.1 ∙ sym (get_or-map out' outs k (0, 0) e k_in))
+
+            module _ (rows : length b5 ≡ nodes relation.grid) where
+              linked5 : (r q : ℕ) → local_port relation.grid ≤ q → beat_at b5 r q ≡ idle_beat
+              linked5 r q past =
+                  ⊎_elim (λ (l : r < nodes relation.grid).
+                  ⊎_elim (λ (own : is_own first (length views) r ≡ true). own-wires r q l own (cleared r q) ∙ ap (beat_of first (sent_of relation at_place made)) (no_link relation r q past))
+                  (λ (other : is_own first (length views) r ≡ false). other-wires r q l other (cleared r q))
+                  (cases_bool (is_own first (length views) r)))
+                  (λ (h : nodes relation.grid ≤ r). past-rows b5 r q (omega (arith, rows, h)))
+                  (cases_lt r (nodes relation.grid))
+
+              idle5 : (r q : ℕ) → is_own first (length views) r ≡ false → beat_at b5 r q ≡ idle_beat
+              idle5 r q other =
+                  ⊎_elim (λ (l : r < nodes relation.grid). other-wires r q l other (cleared r q))
+                  (λ (h : nodes relation.grid ≤ r). past-rows b5 r q (omega (arith, rows, h)))
+                  (cases_lt r (nodes relation.grid))
+
+              -- the tile is ready for the next cycle
+              pub set5 : PartsFit relation first ins outs views5 b5
+              set5 =
+                  let one : (r : ℕ) → is_own first (length views5) r ≡ is_own first (length views) r = λ r. ap (λ k. is_own first k r) count5 in
+                  record {
+                    wide = omega (arith, count5, set.wide);
+                    count = rows;
+                    placed = placed5;
+                    linked = linked5;
+                    idle = λ r q h. idle5 r q (sym (one r) ∙ h);
+                    within = set.within;
+                    own = λ j l. one (get_or ins j (0, 0)).0 ∙ set.own j l;
+                    outs_within = set.outs_within;
+                    others = λ o l. one (get_or outs o (0, 0)).0 ∙ set.others o l;
+                    leaves = λ r q l h f. set.leaves r q l (sym (one r) ∙ h) (ap (λ k. is_from first k (neighbour relation.grid r q)) (sym count5) ∙ f);
+                  }
 
 -- some view
 abbrev pub some_view : Routes → View
 some_view relation = opening_view (record { grid = relation.grid; node = 0; vcs = relation.vcs; places = 0 }) [] []
 
-pub set-as : (relation : Routes) (first : ℕ) (ins ins' outs outs' : List (ℕ × ℕ)) (views views' : List View) (b b' : List (List Beat)) → ins ≡ ins' → outs ≡ outs' → views ≡ views' → b ≡ b'
-    → PartsFit relation first ins outs views b → PartsFit relation first ins' outs' views' b'
-set-as relation first ins ins' outs outs' views views' b b' p q v w h =
-    let A : List (ℕ × ℕ) → Type 0 = λ z. PartsFit relation first z outs views b in
-    let B : List (ℕ × ℕ) → Type 0 = λ z. PartsFit relation first ins' z views b in
-    let C : List View → Type 0 = λ z. PartsFit relation first ins' outs' z b in
-    let D : List (List Beat) → Type 0 = λ z. PartsFit relation first ins' outs' views' z in
-    subst D w (subst C v (subst B q (subst A p h)))
+pub set-as : (relation : Routes) (first first' : ℕ) (ins ins' outs outs' : List (ℕ × ℕ)) (views views' : List View) (b b' : List (List Beat)) → first ≡ first' → ins ≡ ins' → outs ≡ outs' → views ≡ views' → b ≡ b'
+    → PartsFit relation first ins outs views b → PartsFit relation first' ins' outs' views' b'
+set-as relation first first' ins ins' outs outs' views views' b b' o p q v w h =
+    let O : ℕ → Type 0 = λ z. PartsFit relation z ins outs views b in
+    let A : List (ℕ × ℕ) → Type 0 = λ z. PartsFit relation first' z outs views b in
+    let B : List (ℕ × ℕ) → Type 0 = λ z. PartsFit relation first' ins' z views b in
+    let C : List View → Type 0 = λ z. PartsFit relation first' ins' outs' z b in
+    let D : List (List Beat) → Type 0 = λ z. PartsFit relation first' ins' outs' views' z in
+    subst D w (subst C v (subst B q (subst A p (subst O o h))))

@@ -2,11 +2,14 @@ pub mod BoundaryLemmas
 pub mod ClearLemmas
 pub mod ClosingLaw
 pub mod CycleLemmas
+pub mod EdgeLemmas
 pub mod EndedLemmas
 pub mod EndsLemmas
 pub mod FillLemmas
+pub mod FinishLemmas
 pub mod FlatLemmas
 pub mod GatherLemmas
+pub mod InnerLemmas
 pub mod PartitionLemmas
 pub mod PartitionLoop
 pub mod PartsLemmas

@@ -15,7 +15,8 @@ use Rattle.noc_tiles.specs.TileStep.{is_own, is_from, is_inside, places}
 use Rattle.noc_tiles.specs.Tiles.{PartsFit}
 use Rattle.noc_tiles.specs.Rings.{AreLeftOut, AreSlots, AreTakenIn, AreTakenOut}
 use Rattle.noc_tiles.proofs.ClearLemmas.{place_at}
-use Rattle.noc_tiles.proofs.CycleLemmas.{cases_bool, no_link}
+use Rattle.noc_tiles.proofs.CycleLemmas.{no_link}
+use Rattle.noc_tiles.proofs.EdgeLemmas.{cases_bool}
 use Rattle.noc_tiles.proofs.SentLemmas.{own-true, own-within}
 use Rattle.noc_tiles.proofs.BoundaryLemmas.{place-get}
 use Rattle.noc_tiles.proofs.EndsLemmas.{some_item}

@@ -1,5 +1,5 @@
 -- The parts of a network and the lockstep run, both ways. Nothing else in this crate uses what the parts of a network promise.
-use Rattle.std.proofs.Common.{◌≡◌, ◌≤◌, [], map, length, vec_len, ap, sym, ◌∙◌, subst, arith}
+use Rattle.std.proofs.Common.{◌≡◌, ◌≤◌, [], map, length, vec_len, ap, refl, sym, ◌∙◌, subst, arith}
 use Rattle.noc_topo.specs.Shape.{IsGrid, nodes, ports}
 use Rattle.noc_router.specs.Decided.{IsDecidedFor}
 use Rattle.noc_net.specs.Good.{IsGoodSetup}
@@ -37,8 +37,8 @@ module _ (P : Parts) (A : AreParts P) where
       record {
         plan = subst (IsDecidedFor (ports P.relation.grid) P.relation.vcs) (sym plan) A.plan;
         few_links = omega arith;
-        parts = set-as P.relation t.first [] (places (inlets t)) [] (places (outlets t)) P.routers.items t.routers.items P.beats.items t.beats.items
-            (sym (ap (λ q. places (map inlet q)) ins)) (sym (ap (λ q. places (map outlet q)) outs)) (sym routers) (sym beats)
+        parts = set-as P.relation t.first t.first [] (places (inlets t)) [] (places (outlets t)) P.routers.items t.routers.items P.beats.items t.beats.items
+            refl (sym (ap (λ q. places (map inlet q)) ins)) (sym (ap (λ q. places (map outlet q)) outs)) (sym routers) (sym beats)
             (set-all (setup_in P) P.count t.first P.routers.items P.beats.items first parts-views parts-beats parts-flight);
         marks = marks;
       }

@@ -1,6 +1,7 @@
 pub mod Emptying
 pub mod Ends
 pub mod Faults
+pub mod Inner
 pub mod TileStep
 pub mod Rings
 pub mod Starts

@@ -3,9 +3,11 @@
 
 mod emptying;
 mod fault;
+mod finishing;
 mod frame;
 mod gate;
 mod halves;
+mod inner;
 mod laws;
 mod limits;
 mod partition;

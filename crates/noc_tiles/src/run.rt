@@ -1,32 +1,39 @@
 //! The run of a tile.
 
-ghost use Rattle.std.specs.Prelude.{List, ◌≡◌, ◌+◌, ◌<◌, ◌≤◌, ◌^◌, ◌↔◌, true, false, IsTrue, IsFalse};
+ghost use Rattle.std.specs.Prelude.{List, ◌≡◌, ◌+◌, ◌<◌, ◌≤◌, ◌^◌, ◌↔◌, true, false, vec_len, IsTrue, IsFalse};
 ghost use Rattle.noc_packet.specs.declared.packet.Beat.{Beat as beat_value};
 ghost use Rattle.noc_topo.specs.declared.limits.TheConstants.{MAX_NODES};
 ghost use Rattle.noc_topo.specs.Shape.{nodes as nodes_of, ports as ports_of};
 ghost use Rattle.noc_router.specs.Decided.{IsDecidedFor};
-ghost use Rattle.noc_tiles.specs.Tiles.{IsReady, IsSameTile, Cycles, Runs};
+ghost use Rattle.noc_tiles.specs.Inner.{AreInner};
+ghost use Rattle.noc_tiles.specs.TileStep.{places};
+ghost use Rattle.noc_tiles.specs.Tiles.{IsReady, IsSameTile, Cycles, Runs, outlets};
 ghost use Rattle.noc_tiles.specs.declared.tile.Outcome.TheVariants.{Whole, Closed, Stopped};
 
+use crate::finishing::finish_some;
 use crate::gate::Gate;
-use crate::phases::{clear_all, decide_all, deliver_all, put_all, take_all};
+use crate::inner::{Inner, inner_of};
+use crate::phases::{clear_all, put_all, take_all};
 use crate::stop::Stop;
 use crate::tile::{Outcome, Tile};
 use noc_route::Relation;
 use std::sync::Wait;
 
-// One cycle of a tile. False where the flag was seen raised.
+// One cycle of a tile. What leaves the tile is put before the inner routers finish. False where the flag was seen raised.
 fn cycle(
     rt: &impl Wait,
     relation: &Relation,
+    inner: Inner,
     tile: &mut Tile,
     cycle: u64,
     seen: bool,
     stop: &Stop,
 ) -> bool
     requires ready { IsReady relation.now tile.old }
+    requires inner { AreInner relation.now.grid tile.old.first (vec_len tile.old.routers) (places (outlets tile.old)) inner }
     requires few { nodes_of relation.now.grid ≤ MAX_NODES }
     ensures same { IsSameTile tile.old tile.new }
+    ensures count { vec_len tile.new.routers ≡ vec_len tile.old.routers }
     ensures plan { IsDecidedFor (ports_of relation.now.grid) relation.now.vcs tile.new.plan }
     ensures done { (tile.new.done ≡ tile.old.done) × (tile.new.outcome ≡ tile.old.outcome) }
     ensures ready { IsTrue result → IsReady relation.now tile.new }
@@ -36,27 +43,21 @@ fn cycle(
     if !take_all(rt, &mut tile.ins, &mut tile.beats, &mut tile.marks, stop) {
         return false;
     }
-    decide_all(
-        relation,
-        &mut tile.plan,
-        cycle,
-        seen,
-        tile.first,
-        &mut tile.routers,
-        &mut tile.beats,
-        &mut tile.marks,
-    );
-    deliver_all(
+    noc_net::take_all(
         relation,
         tile.first,
         &mut tile.routers,
         &mut tile.beats,
         &mut tile.marks,
     );
+    let count = tile.routers.len();
+    finish_some(relation, tile, cycle, seen, 0, inner.from);
+    finish_some(relation, tile, cycle, seen, inner.to, count);
     if !put_all(rt, &mut tile.outs, &tile.beats, stop) {
         return false;
     }
     clear_all(&tile.outs, &mut tile.beats, &mut tile.marks);
+    finish_some(relation, tile, cycle, seen, inner.from, inner.to);
     true
 }
 
@@ -80,6 +81,7 @@ pub fn run_tile<G: Gate>(
     ensures stopped { result.outcome ≡ Stopped → stop.now ≡ true }
 {
     let _nodes = relation.shape().nodes();
+    let inner = inner_of(relation, tile.first, tile.routers.len(), &tile.outs);
     let mut tile = tile;
     for c in 0..tile.cycles {
         let now = tile.start + c;
@@ -89,7 +91,7 @@ pub fn run_tile<G: Gate>(
             return tile;
         }
         let seen = c + 1 == tile.cycles;
-        if !cycle(rt, relation, &mut tile, now, seen, stop) {
+        if !cycle(rt, relation, inner, &mut tile, now, seen, stop) {
             tile.outcome = Outcome::Stopped;
             return tile;
         }

@@ -1,0 +1,54 @@
+-- The routers of a tile in two parts: those at its edge finish a cycle first, and the inner ones while what the others put is on its way.
+use Rattle.std.specs.Prelude.{ℕ, Bool, true, false, ◌≡◌, ◌⊎◌, ◌+◌, ◌-◌, ◌<◌, ◌≤◌, List, map, length, get_or, Option, Some, None, if◌then◌else◌}
+use Rattle.noc_topo.specs.Shape.{Grid, nodes, ports, neighbour}
+use Rattle.noc_packet.specs.declared.packet.Beat.{Beat}
+use Rattle.noc_route.specs.Routes.{Routes}
+use Rattle.noc_router.specs.Decided.{IsDecidedFor}
+use Rattle.noc_router.specs.View.{View, IsRelationOf, idle_beat}
+use Rattle.noc_net.specs.Halves.{beat_at, emptied}
+use Rattle.noc_net.specs.Marks.{AreMarked}
+use Rattle.noc_net.specs.Takes.{concluded}
+use Rattle.noc_net.specs.Unseen.{unseen}
+use Rattle.noc_tiles.specs.TileStep.{is_own, is_from}
+use Rattle.noc_tiles.specs.declared.inner.Inner.{Inner}
+use Rattle.noc_tiles.specs.declared.tile.Tile.{Tile}
+
+-- of `count` routers from `first` on, those between two indices: no wire to one of the places `outs` begins at one of them
+pub record AreInner (grid : Grid) (first count : ℕ) (outs : List (ℕ × ℕ)) (inner : Inner) : Type 0 where
+  pub order : inner.from ≤ inner.to
+  pub within : inner.to ≤ count
+  pub none : (o : ℕ) → o < length outs → is_from (first + inner.from) (inner.to - inner.from) (neighbour grid (get_or outs o (0, 0)).0 (get_or outs o (0, 0)).1) ≡ false
+
+-- a wire whose sender is given, after the routers of a tile from index i to before j have put what is theirs of `sent`
+abbrev pub put_from : ℕ → ℕ → ℕ → List (List Beat) → Option (ℕ × ℕ) → Beat → Beat
+put_from first i j sent None beat = beat
+put_from first i j sent (Some from) beat = if is_own (first + i) (j - i) from.0 then beat_at sent (from.0 - first) from.1 else beat
+
+-- what routers that have taken their beats put at the end of cycle n
+abbrev pub to_send : Routes → ℕ → List View → List (List Beat)
+to_send relation n views = map (λ (v : View). (concluded relation n v).to_put) views
+
+-- the routers of a tile from index i to before j can finish a cycle: they are those of their nodes, and the wires that leave them are idle
+pub record CanFinish (relation : Routes) (i j : ℕ) (t : Tile) : Type 0 where
+  pub plan : IsDecidedFor (ports relation.grid) relation.vcs t.plan
+  pub marks : AreMarked t.marks t.beats.items
+  pub order : i ≤ j
+  pub within : j ≤ length t.routers.items
+  pub wide : t.first + length t.routers.items ≤ nodes relation.grid
+  pub count : length t.beats.items ≡ nodes relation.grid
+  pub built : (k : ℕ) (d : View) → i ≤ k → k < j → IsRelationOf relation (get_or t.routers.items k d)
+  pub site : (k : ℕ) (d : View) → i ≤ k → k < j → (get_or t.routers.items k d).site.node ≡ t.first + k
+  pub idle : (r q : ℕ) → r < nodes relation.grid → is_from (t.first + i) (j - i) (neighbour relation.grid r q) ≡ true → beat_at t.beats.items r q ≡ idle_beat
+
+-- .. and have finished cycle n; where nobody has seen what was found, the findings are others
+pub record HaveFinished (relation : Routes) (n : ℕ) (seen : Bool) (i j : ℕ) (a b : Tile) : Type 0 where
+  pub rest : b ≡ record a { plan = b.plan; routers = b.routers; beats = b.beats; marks = b.marks }
+  pub plan : IsDecidedFor (ports relation.grid) relation.vcs b.plan
+  pub marks : AreMarked b.marks b.beats.items
+  pub count : length b.routers.items ≡ length a.routers.items
+  pub size : length b.beats.items ≡ length a.beats.items
+  pub views : (k : ℕ) (d : View) → i ≤ k → k < j → unseen (get_or b.routers.items k d) ≡ unseen (emptied (concluded relation n (get_or a.routers.items k d)))
+  pub seen_views : seen ≡ true → (k : ℕ) (d : View) → i ≤ k → k < j → get_or b.routers.items k d ≡ emptied (concluded relation n (get_or a.routers.items k d))
+  pub others : (k : ℕ) (d : View) → (k < i) ⊎ (j ≤ k) → get_or b.routers.items k d ≡ get_or a.routers.items k d
+  pub wires : (r q : ℕ) → r < nodes relation.grid
+      → beat_at b.beats.items r q ≡ put_from a.first i j (to_send relation n a.routers.items) (neighbour relation.grid r q) (beat_at a.beats.items r q)

@@ -1,0 +1,73 @@
+//! The routers of a tile finish a cycle.
+
+ghost use Rattle.std.specs.Prelude.{ℕ, ◌≡◌, ◌<◌, true, length, Some};
+ghost use Rattle.noc_topo.specs.Shape.{nodes as nodes_of, ports as ports_of, neighbour as neighbour_of};
+ghost use Rattle.noc_router.specs.Decided.{IsDecidedFor};
+ghost use Rattle.noc_router.specs.View.{IsRelationOf, idle_beat};
+ghost use Rattle.noc_net.specs.Halves.{beat_at, emptied, received};
+ghost use Rattle.noc_net.specs.Marks.{AreMarked};
+ghost use Rattle.noc_net.specs.Takes.{concluded};
+ghost use Rattle.noc_net.specs.Unseen.{unseen};
+ghost use Rattle.noc_tiles.specs.Inner.{CanFinish, HaveFinished};
+
+use crate::tile::Tile;
+use noc_net::{Marks, conclude, deliver, move_on};
+use noc_packet::Beat;
+use noc_route::Relation;
+use noc_router::{Plan, Router};
+use noc_topo::LINKS;
+
+// The routers of the tile from one index to before another, which have taken their beats, finish the cycle.
+pub(crate) fn finish_some(
+    relation: &Relation,
+    tile: &mut Tile,
+    cycle: u64,
+    seen: bool,
+    from: usize,
+    to: usize,
+)
+    requires { CanFinish relation.now from to tile.old }
+    ensures { HaveFinished relation.now cycle seen from to tile.old tile.new }
+{
+    for i in from..to {
+        finish(
+            relation,
+            &mut tile.plan,
+            cycle,
+            seen,
+            &mut tile.routers[i],
+            &mut tile.beats,
+            &mut tile.marks,
+        );
+    }
+}
+
+// One router that has taken its beats injects, decides, commits and puts its beats. Where nobody is to see what it finds, its
+// findings stay as they were.
+fn finish(
+    relation: &Relation,
+    plan: &mut Plan,
+    cycle: u64,
+    seen: bool,
+    router: &mut Router,
+    beats: &mut [[Beat; LINKS]],
+    marks: &mut Marks,
+)
+    requires plan { IsDecidedFor (ports_of relation.now.grid) relation.now.vcs plan.old }
+    requires router { IsRelationOf relation.now router.old }
+    requires node { router.old.site.node < nodes_of relation.now.grid }
+    requires count { length beats.old ≡ nodes_of relation.now.grid }
+    requires idle { (r q p : ℕ) → neighbour_of relation.now.grid r q ≡ Some (router.old.site.node, p) → beat_at beats.old r q ≡ idle_beat }
+    ensures plan { IsDecidedFor (ports_of relation.now.grid) relation.now.vcs plan.new }
+    ensures marks { AreMarked marks.old beats.old → AreMarked marks.new beats.new }
+    ensures router { unseen router.new ≡ unseen (emptied (concluded relation.now cycle router.old)) }
+    ensures seen { seen ≡ true → router.new ≡ emptied (concluded relation.now cycle router.old) }
+    ensures beats { (r q : ℕ) → r < nodes_of relation.now.grid → beat_at beats.new r q ≡ received (concluded relation.now cycle router.old) (neighbour_of relation.now.grid r q) (beat_at beats.old r q) }
+{
+    if seen {
+        conclude(relation, plan, cycle, router);
+    } else {
+        move_on(relation, plan, cycle, router);
+    }
+    deliver(relation, router, beats, marks);
+}
