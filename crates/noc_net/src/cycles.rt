@@ -10,7 +10,7 @@ ghost use Rattle.noc_model.specs.Halves.{ArePlaced, IsLinked, IsPlaced, IsSilent
 ghost use Rattle.noc_model.specs.Lockstep.{beat_from, beats_at};
 ghost use Rattle.noc_model.specs.Network.{Setup};
 ghost use Rattle.noc_net.specs.Marks.{AreMarked};
-ghost use Rattle.noc_net.specs.Takes.{NoneElsewhere, concluded, moved_on};
+ghost use Rattle.noc_net.specs.Takes.{concluded, moved_on};
 ghost use Rattle.noc_model.specs.Unseen.{AreInStep, AreInStepUnseen, advanced};
 
 use crate::jump::jump;
@@ -40,7 +40,7 @@ pub(crate) fn run_all(
 {
     let mut marks = Marks::of(beats);
     skip(relation, plan, first, last, routers, beats, &mut marks);
-    decide_all(relation, plan, last, 0, routers, beats, &mut marks);
+    decide_all(relation, plan, last, routers, beats, &mut marks);
     deliver_all(relation, routers, beats, &mut marks);
 }
 
@@ -66,19 +66,17 @@ fn skip(
 {
     let mut cycle = first;
     while cycle < end {
-        advance_all(relation, plan, cycle, 0, routers, beats, marks);
+        advance_all(relation, plan, cycle, routers, beats, marks);
         deliver_all(relation, routers, beats, marks);
         cycle = jump(relation, plan, cycle, end, routers, beats);
     }
 }
 
-// Each of the routers from `first` on takes the beats that came to it, injects, decides and commits, and leaves its findings as
-// they were.
+// Each router takes the beats that came to it, injects, decides and commits, and leaves its findings as they were.
 fn advance_all(
     relation: &Relation,
     plan: &mut Plan,
     cycle: u64,
-    first: usize,
     routers: &mut [Router],
     beats: &mut [[Beat; LINKS]],
     marks: &mut Marks,
@@ -88,13 +86,13 @@ fn advance_all(
     requires few { length beats.old ≤ MAX_NODES }
     requires marks { AreMarked marks.old beats.old }
     requires beats { All (IsLinked relation.now.grid) beats.old }
-    requires others { NoneElsewhere first (length routers.old) beats.old }
+    requires count { length beats.old ≡ length routers.old }
     ensures plan { IsDecidedFor (ports_of relation.now.grid) relation.now.vcs plan.new }
-    ensures routers { routers.new ≡ map_indexed (λ r v. advanced relation.now cycle (incoming relation.now.grid (beats_at beats.old (first + r))) v) routers.old }
+    ensures routers { routers.new ≡ map_indexed (λ r v. advanced relation.now cycle (incoming relation.now.grid (beats_at beats.old r)) v) routers.old }
     ensures beats { All IsSilent beats.new }
     ensures marks { AreMarked marks.new beats.new }
 {
-    take_all(relation, first, routers, beats, marks);
+    take_all(relation, 0, routers, beats, marks);
     move_on_all(relation, plan, cycle, routers);
 }
 
@@ -123,12 +121,11 @@ pub fn move_on(relation: &Relation, plan: &mut Plan, cycle: u64, router: &mut Ro
     router.advance(relation, plan);
 }
 
-// Each of the routers from `first` on takes the beats that came to it, injects, decides and commits.
+// Each router takes the beats that came to it, injects, decides and commits.
 fn decide_all(
     relation: &Relation,
     plan: &mut Plan,
     cycle: u64,
-    first: usize,
     routers: &mut [Router],
     beats: &mut [[Beat; LINKS]],
     marks: &mut Marks,
@@ -138,13 +135,13 @@ fn decide_all(
     requires few { length beats.old ≤ MAX_NODES }
     requires marks { AreMarked marks.old beats.old }
     requires beats { All (IsLinked relation.now.grid) beats.old }
-    requires others { NoneElsewhere first (length routers.old) beats.old }
+    requires count { length beats.old ≡ length routers.old }
     ensures plan { IsDecidedFor (ports_of relation.now.grid) relation.now.vcs plan.new }
-    ensures routers { routers.new ≡ map_indexed (λ r v. decided relation.now cycle (incoming relation.now.grid (beats_at beats.old (first + r))) v) routers.old }
+    ensures routers { routers.new ≡ map_indexed (λ r v. decided relation.now cycle (incoming relation.now.grid (beats_at beats.old r)) v) routers.old }
     ensures beats { All IsSilent beats.new }
     ensures marks { AreMarked marks.new beats.new }
 {
-    take_all(relation, first, routers, beats, marks);
+    take_all(relation, 0, routers, beats, marks);
     conclude_all(relation, plan, cycle, routers);
 }
 

@@ -1,11 +1,10 @@
 use Rattle.std.proofs.Common.{◌≡◌, ◌+◌, length, ◌∙◌, subst, sym, arith}
 use Rattle.noc_topo.specs.Shape.{nodes}
-use Rattle.noc_model.specs.Halves.{ArePlaced, decided}
+use Rattle.noc_model.specs.Halves.{ArePlaced}
 use Rattle.noc_model.specs.Network.{Setup}
 use Rattle.noc_model.specs.Unseen.{AreInStep, AreInStepUnseen}
 use Rattle.noc_model.proofs.RunLemmas.{placed_halfway}
 use Rattle.noc_model.proofs.UnseenLemmas.{of_relation, to_relation, from_relation, to_unseen, unseen-count, unseen-relation, unseen-linked, unseen-halfway, next-seen}
-use Rattle.noc_net.proofs.TakesLemmas.{from-zero, none-left}
 use Rattle.noc_net.proofs.cycles.run_all.Goals as goal
 
 pub skip-requires-clause-in_step : goal.skip-requires-clause-in_step
@@ -22,14 +21,14 @@ decide_all-requires-clause-routers c =
     (c.skip.ensures.in_step some.0 some.1 (to_unseen some.0 c.args.first c.args.routers.now c.args.beats.now some.2)) in
     unseen-relation net c.args.last c.skip.new.routers c.skip.new.beats now
 
-pub decide_all-requires-clause-others : goal.decide_all-requires-clause-others
-decide_all-requires-clause-others c =
+pub decide_all-requires-clause-count : goal.decide_all-requires-clause-count
+decide_all-requires-clause-count c =
     let some = c.requires.in_step in
     let net : Setup = of_relation c.args.relation.now some.0 in
     let now : AreInStepUnseen net c.args.last c.skip.new.routers c.skip.new.beats =
     to_relation (λ net. AreInStepUnseen net c.args.last c.skip.new.routers c.skip.new.beats) c.args.relation.now some.0 some.1
     (c.skip.ensures.in_step some.0 some.1 (to_unseen some.0 c.args.first c.args.routers.now c.args.beats.now some.2)) in
-    none-left c.skip.new.routers c.skip.new.beats (omega (arith, c.skip.auto.beats, c.requires.count, unseen-count net c.args.last c.skip.new.routers c.skip.new.beats now))
+    omega (arith, c.skip.auto.beats, c.requires.count, unseen-count net c.args.last c.skip.new.routers c.skip.new.beats now)
 
 pub decide_all-requires-clause-beats : goal.decide_all-requires-clause-beats
 decide_all-requires-clause-beats c =
@@ -47,7 +46,7 @@ deliver_all-requires-clause-routers c =
     let now : AreInStepUnseen net c.args.last c.skip.new.routers c.skip.new.beats =
     to_relation (λ net. AreInStepUnseen net c.args.last c.skip.new.routers c.skip.new.beats) c.args.relation.now some.0 some.1
     (c.skip.ensures.in_step some.0 some.1 (to_unseen some.0 c.args.first c.args.routers.now c.args.beats.now some.2)) in
-    subst (ArePlaced c.args.relation.now) (sym ((c.decide_all.ensures.routers ∙ from-zero c.args.relation.now.grid c.skip.new.beats (decided c.args.relation.now c.args.last) c.skip.new.routers) ∙ unseen-halfway net c.args.last c.skip.new.routers c.skip.new.beats now)) (placed_halfway net c.args.last c.skip.new.beats)
+    subst (ArePlaced c.args.relation.now) (sym (c.decide_all.ensures.routers ∙ unseen-halfway net c.args.last c.skip.new.routers c.skip.new.beats now)) (placed_halfway net c.args.last c.skip.new.beats)
 
 pub deliver_all-requires-clause-nodes : goal.deliver_all-requires-clause-nodes
 deliver_all-requires-clause-nodes c =
@@ -65,4 +64,4 @@ returns-clause-in_step c = λ net is first.
     (next-seen (of_relation c.args.relation.now net) c.args.last c.skip.new.routers c.decide_all.new.routers c.deliver_all.new.routers c.skip.new.beats c.deliver_all.new.beats
     (to_relation (λ net. AreInStepUnseen net c.args.last c.skip.new.routers c.skip.new.beats) c.args.relation.now net is
     (c.skip.ensures.in_step net is (to_unseen net c.args.first c.args.routers.now c.args.beats.now first)))
-    (c.decide_all.ensures.routers ∙ from-zero c.args.relation.now.grid c.skip.new.beats (decided c.args.relation.now c.args.last) c.skip.new.routers) c.deliver_all.ensures.routers count c.deliver_all.ensures.beats)
+    c.decide_all.ensures.routers c.deliver_all.ensures.routers count c.deliver_all.ensures.beats)

@@ -1,10 +1,9 @@
-use Rattle.std.proofs.Common.{◌≡◌, ◌+◌, length, sym, ◌∙◌, subst, arith}
+use Rattle.std.proofs.Common.{◌≡◌, ◌+◌, length, sym, subst, arith}
 use Rattle.noc_topo.specs.Shape.{nodes}
 use Rattle.noc_model.specs.Network.{Setup}
 use Rattle.noc_model.specs.Halves.{ArePlaced}
-use Rattle.noc_model.specs.Unseen.{AreInStepUnseen, advanced}
+use Rattle.noc_model.specs.Unseen.{AreInStepUnseen}
 use Rattle.noc_model.proofs.UnseenLemmas.{of_relation, to_relation, from_relation, unseen-count, unseen-relation, unseen-linked, unseen-placed, next-unseen}
-use Rattle.noc_net.proofs.TakesLemmas.{from-zero, none-left}
 use Rattle.noc_net.proofs.cycles.skip.Goals as goal
 
 pub advance_all-requires-clause-routers : goal.advance_all-requires-clause-routers
@@ -15,13 +14,13 @@ advance_all-requires-clause-routers c =
     to_relation (λ net. AreInStepUnseen net c.loop-cycle.cycle c.loop-cycle.routers c.loop-cycle.beats) c.args.relation.now some.0 some.1 (c.loop-cycle.invariant.in_step some.0 some.1 some.2) in
     unseen-relation net c.loop-cycle.cycle c.loop-cycle.routers c.loop-cycle.beats now
 
-pub advance_all-requires-clause-others : goal.advance_all-requires-clause-others
-advance_all-requires-clause-others c =
+pub advance_all-requires-clause-count : goal.advance_all-requires-clause-count
+advance_all-requires-clause-count c =
     let some = c.requires.in_step in
     let net : Setup = of_relation c.args.relation.now some.0 in
     let now : AreInStepUnseen net c.loop-cycle.cycle c.loop-cycle.routers c.loop-cycle.beats =
     to_relation (λ net. AreInStepUnseen net c.loop-cycle.cycle c.loop-cycle.routers c.loop-cycle.beats) c.args.relation.now some.0 some.1 (c.loop-cycle.invariant.in_step some.0 some.1 some.2) in
-    none-left c.loop-cycle.routers c.loop-cycle.beats (omega (arith, c.loop-cycle.invariant.count, unseen-count net c.loop-cycle.cycle c.loop-cycle.routers c.loop-cycle.beats now))
+    omega (arith, c.loop-cycle.invariant.count, unseen-count net c.loop-cycle.cycle c.loop-cycle.routers c.loop-cycle.beats now)
 
 pub advance_all-requires-clause-beats : goal.advance_all-requires-clause-beats
 advance_all-requires-clause-beats c =
@@ -37,7 +36,7 @@ deliver_all-requires-clause-routers c =
     let net : Setup = of_relation c.args.relation.now some.0 in
     let now : AreInStepUnseen net c.loop-cycle.cycle c.loop-cycle.routers c.loop-cycle.beats =
     to_relation (λ net. AreInStepUnseen net c.loop-cycle.cycle c.loop-cycle.routers c.loop-cycle.beats) c.args.relation.now some.0 some.1 (c.loop-cycle.invariant.in_step some.0 some.1 some.2) in
-    subst (ArePlaced c.args.relation.now) (sym (c.advance_all.ensures.routers ∙ from-zero c.args.relation.now.grid c.loop-cycle.beats (advanced c.args.relation.now c.loop-cycle.cycle) c.loop-cycle.routers)) (unseen-placed net c.loop-cycle.cycle c.loop-cycle.routers c.loop-cycle.beats now)
+    subst (ArePlaced c.args.relation.now) (sym c.advance_all.ensures.routers) (unseen-placed net c.loop-cycle.cycle c.loop-cycle.routers c.loop-cycle.beats now)
 
 pub deliver_all-requires-clause-nodes : goal.deliver_all-requires-clause-nodes
 deliver_all-requires-clause-nodes c =
@@ -56,7 +55,7 @@ jump-cycle-requires-clause-routers c =
     to_relation (λ net. AreInStepUnseen net c.loop-cycle.cycle c.loop-cycle.routers c.loop-cycle.beats) c.args.relation.now some.0 some.1 (c.loop-cycle.invariant.in_step some.0 some.1 some.2) in
     unseen-relation net (c.loop-cycle.cycle + 1) c.deliver_all.new.routers c.deliver_all.new.beats
     (next-unseen net c.loop-cycle.cycle c.loop-cycle.routers c.advance_all.new.routers c.deliver_all.new.routers c.loop-cycle.beats c.deliver_all.new.beats now
-    (c.advance_all.ensures.routers ∙ from-zero c.args.relation.now.grid c.loop-cycle.beats (advanced c.args.relation.now c.loop-cycle.cycle) c.loop-cycle.routers) c.deliver_all.ensures.routers count c.deliver_all.ensures.beats)
+    c.advance_all.ensures.routers c.deliver_all.ensures.routers count c.deliver_all.ensures.beats)
 
 pub loop-cycle-preserved : goal.loop-cycle-preserved
 loop-cycle-preserved c =
@@ -68,7 +67,7 @@ loop-cycle-preserved c =
           (from_relation (λ net. AreInStepUnseen net (c.loop-cycle.cycle + 1) c.deliver_all.new.routers c.deliver_all.new.beats) c.args.relation.now net is
           (next-unseen (of_relation c.args.relation.now net) c.loop-cycle.cycle c.loop-cycle.routers c.advance_all.new.routers c.deliver_all.new.routers c.loop-cycle.beats c.deliver_all.new.beats
           (to_relation (λ net. AreInStepUnseen net c.loop-cycle.cycle c.loop-cycle.routers c.loop-cycle.beats) c.args.relation.now net is (c.loop-cycle.invariant.in_step net is first))
-          (c.advance_all.ensures.routers ∙ from-zero c.args.relation.now.grid c.loop-cycle.beats (advanced c.args.relation.now c.loop-cycle.cycle) c.loop-cycle.routers) c.deliver_all.ensures.routers count c.deliver_all.ensures.beats));
+          c.advance_all.ensures.routers c.deliver_all.ensures.routers count c.deliver_all.ensures.beats));
       count = count;
       marks = c.deliver_all.ensures.marks;
     }
