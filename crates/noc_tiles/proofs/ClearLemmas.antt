@@ -1,5 +1,5 @@
 -- The beats that went to other tiles become idle, one after another.
-use Rattle.std.proofs.Common.{◌≡◌, ◌≢◌, ◌⊎◌, inl, inr, ℕ, ◌+◌, ◌<◌, Bool, List, [], map, length, get_or, set, ap, ap₂, sym, ◌∙◌, arith, below_more}
+use Rattle.std.proofs.Common.{◌≡◌, ◌≢◌, inl, inr, ℕ, ◌+◌, ◌<◌, Bool, List, [], map, length, get_or, set, ap, ap₂, sym, ◌∙◌, arith, below_more}
 use Rattle.std.specs.Prelude.{nat_eq, ◌&&◌, if◌then◌else◌}
 use Rattle.std.proofs.lemmas.Bool.Decides.{eqb_tells}
 use Rattle.std.proofs.lemmas.List.{length-map, get_or-map}
@@ -7,6 +7,7 @@ use Rattle.noc_packet.specs.declared.packet.Beat.{Beat}
 use Rattle.noc_router.specs.View.{idle_beat}
 use Rattle.noc_net.specs.Halves.{beat_at}
 use Rattle.noc_tiles.specs.Wire.{Wire}
+use Rattle.noc_tiles.specs.Phases.{IsCleared}
 use Rattle.noc_tiles.specs.TileStep.{places}
 use Rattle.noc_tiles.proofs.TileStepLemmas.{Tells, beat_at-set}
 
@@ -14,12 +15,6 @@ pub place-of : {X A : Type 0} (f : X → Wire A) (xs : List X) (i : ℕ) (d : X)
 place-of {A = A} f xs i d e l =
     let l' : i < length (map f xs) = rw length-map l in
     get_or-map (λ (w : Wire A). w.at) (map f xs) i (f d) e l' ∙ ap (λ (w : Wire A). w.at) (get_or-map f xs i d (f d) l)
-
--- the wires of the first k places are idle, and the others as they were
-abbrev pub Cleared : List (ℕ × ℕ) → List (List Beat) → List (List Beat) → ℕ → ℕ → ℕ → Type 0
-Cleared ps old new k r q =
-    ((o : ℕ) × (o < k) × (get_or ps o (0, 0) ≡ (r, q)) × (beat_at new r q ≡ idle_beat))
-    ⊎ (((o : ℕ) → o < k → get_or ps o (0, 0) ≢ (r, q)) × (beat_at new r q ≡ beat_at old r q))
 
 -- as a pair
 abbrev pub place_at : ℕ → ℕ → ℕ × ℕ
@@ -32,15 +27,15 @@ module _ (ps : List (ℕ × ℕ)) (bs0 bs : List (List Beat)) (k a p : ℕ) (x :
   abbrev test : ℕ → ℕ → Bool → Bool → Beat
   test r q s t = if s && t then x else beat_at bs r q
 
-  carried : (r q : ℕ) → beat_at after r q ≡ beat_at bs r q → place_at r q ≢ place_at a p → Cleared ps bs0 bs k r q → Cleared ps bs0 after (k + 1) r q
+  carried : (r q : ℕ) → beat_at after r q ≡ beat_at bs r q → place_at r q ≢ place_at a p → IsCleared ps bs0 bs k r q → IsCleared ps bs0 after (k + 1) r q
   carried r q same ne (inl h) = inl (h.0, (let z = h.1 in omega arith), h.2, same ∙ h.3)
   carried r q same ne (inr h) =
       inr ((λ o z. let Q : ℕ → Type 0 = λ o. get_or ps o (0, 0) ≢ (r, q) in below_more Q k h.0 (λ e. ne (sym e ∙ place)) o z), same ∙ h.1)
 
-  pub cleared-more : (r q : ℕ) → Cleared ps bs0 bs k r q → Cleared ps bs0 after (k + 1) r q
+  pub cleared-more : (r q : ℕ) → IsCleared ps bs0 bs k r q → IsCleared ps bs0 after (k + 1) r q
   cleared-more r q = at (eqb_tells r a) (eqb_tells q p)
     where
-      at : Tells r a → Tells q p → Cleared ps bs0 bs k r q → Cleared ps bs0 after (k + 1) r q
+      at : Tells r a → Tells q p → IsCleared ps bs0 bs k r q → IsCleared ps bs0 after (k + 1) r q
       at (inl e) (inl f) h = inl (k, omega arith, place ∙ ap₂ place_at (sym e.1) (sym f.1), beat_at-set bs a p x l m r q ∙ (ap₂ (test r q) e.0 f.0 ∙ idle))
       at (inl e) (inr f) h = carried r q (beat_at-set bs a p x l m r q ∙ ap₂ (test r q) e.0 f.0) (λ z. f.1 (ap (λ (w : ℕ × ℕ). w.1) z)) h
       at (inr e) f h = carried r q (beat_at-set bs a p x l m r q ∙ ap (λ s. test r q s (nat_eq q p)) e.0) (λ z. e.1 (ap (λ (w : ℕ × ℕ). w.0) z)) h

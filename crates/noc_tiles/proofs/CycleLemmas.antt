@@ -19,11 +19,12 @@ use Rattle.noc_net.proofs.TakesLemmas.{concluded-decided}
 use Rattle.noc_model.proofs.RunLemmas.{map_map_indexed}
 use Rattle.noc_model.proofs.StepLemmas.{IsRelationOf-same_site, local_step-view, local_step-beats}
 use Rattle.noc_tiles.specs.Inner.{AreInner, CanFinish, to_send}
+use Rattle.noc_tiles.specs.Phases.{IsCleared}
 use Rattle.noc_tiles.specs.TileStep.{Layout, TileState, Wires, with_beat, filled, is_own, is_from, beat_among, beat_of, arrived, steps, sent_of, out_at, after_steps, put_by}
 use Rattle.noc_tiles.specs.Tiles.{PartsFit}
 use Rattle.noc_tiles.specs.declared.inner.Inner.{Inner}
 use Rattle.noc_tiles.specs.declared.tile.Tile.{Tile}
-use Rattle.noc_tiles.proofs.ClearLemmas.{Cleared, place_at}
+use Rattle.noc_tiles.proofs.ClearLemmas.{place_at}
 use Rattle.noc_tiles.proofs.EdgeLemmas.{cases_bool}
 use Rattle.noc_tiles.proofs.FinishLemmas.{concluded-site}
 use Rattle.noc_tiles.proofs.TileStepLemmas.{Tells}
@@ -55,25 +56,19 @@ not_from first count sent (Some (a, q)) e = ap (λ b. if b then beat_at sent (a 
 pub no_link : (relation : Routes) (r q : ℕ) → local_port relation.grid ≤ q → neighbour relation.grid r q ≡ None
 no_link relation r q l = rw (le-ltb q (local_port relation.grid) l) refl
 
-module _ (relation : Routes) (first : ℕ) (ins outs : List (ℕ × ℕ)) (views : List View) (b0 : List (List Beat)) (set : PartsFit relation first ins outs views b0) (n : ℕ) (row : List Beat) where
+module _ (relation : Routes) (first : ℕ) (ins outs : List (ℕ × ℕ)) (views : List View) (b0 : List (List Beat)) (set : PartsFit relation first ins outs views b0) (row : List Beat) where
   abbrev pub at_place : Layout
   at_place = record { first = first; ins = ins; outs = outs }
 
   abbrev pub at_start : TileState
   at_start = record { views = views; wires = beat_at b0 }
 
-  -- what each router makes of the cycle
-  abbrev pub made : List (View × List Beat)
-  made = steps relation at_place n at_start row
+  -- what router i has taken
+  abbrev pub took_in : ℕ → View → View
+  took_in i v = all_taken relation (arrived relation at_place at_start row i) v
 
+  -- the wires with the beats of the row
   module _ (b1 : List (List Beat)) (took : (r q : ℕ) → beat_at b1 r q ≡ filled (beat_at b0) ins row r q) where
-    -- the first half of the cycle of router i
-    abbrev pub half : ℕ → View → View
-    half i v = decided relation n (incoming relation.grid (get_or b1 (first + i) [])) v
-
-    abbrev pub halves : List View
-    halves = map_indexed half views
-
     pub linked-taken : (r q : ℕ) → local_port relation.grid ≤ q → beat_at b1 r q ≡ idle_beat
     linked-taken r q l = took r q ∙ filled-other (beat_at b0) ins row r q (λ j h e. let w = (set.within j h).1 in let z = ap (λ (p : ℕ × ℕ). p.1) e in absurd (omega arith)) ∙ set.linked r q l
 
@@ -87,25 +82,41 @@ module _ (relation : Routes) (first : ℕ) (ins outs : List (ℕ × ℕ)) (views
     unfolding incoming
     incoming-is i = tabulate-same (local_port relation.grid) (λ port. beat_at b1 (first + i) port) (filled (beat_at b0) ins row (first + i)) idle_beat (λ q l. took (first + i) q)
 
+    pub all-took : map_indexed (λ (i : ℕ) (v : View). all_taken relation (incoming relation.grid (get_or b1 (first + i) [])) v) views ≡ map_indexed took_in views
+    all-took =
+        let took_from : ℕ → View → View = λ i v. all_taken relation (incoming relation.grid (get_or b1 (first + i) [])) v in
+        same_lists (map_indexed took_from views) (map_indexed took_in views) (length-map_indexed took_from views ∙ sym (length-map_indexed took_in views))
+        (λ i d l.
+        let few : i < length views = omega (arith, l, length-map_indexed took_from views) in
+        get_or-map_indexed took_from views i d d few ∙ ap (λ beats. all_taken relation beats (get_or views i d)) (incoming-is i) ∙ sym (get_or-map_indexed took_in views i d d few))
+
+  module _ (n : ℕ) where
+    -- what each router makes of the cycle
+    abbrev pub made : List (View × List Beat)
+    made = steps relation at_place n at_start row
+
+    -- the first half of the cycle of router i
+    abbrev pub half : ℕ → View → View
+    half i v = decided relation n (arrived relation at_place at_start row i) v
+
+    abbrev pub halves : List View
+    halves = map_indexed half views
+
     pub made-views : (d : View) → map (λ (s : View × List Beat). s.0) made ≡ map emptied halves
     unfolding steps
     made-views d =
         map_map_indexed (λ (s : View × List Beat). s.0) (λ (i : ℕ) (v : View). local_step relation v (arrived relation at_place at_start row i) n) emptied half views d (d, []) d
-        (λ i v l. local_step-view relation v (arrived relation at_place at_start row i) n ∙ ap (λ beats. emptied (decided relation n beats v)) (sym (incoming-is i)))
+        (λ i v l. local_step-view relation v (arrived relation at_place at_start row i) n)
 
     pub made-sent : (d : View) → sent_of relation at_place made ≡ sent_by halves
     unfolding steps
     made-sent d =
         map_map_indexed (λ (s : View × List Beat). s.1) (λ (i : ℕ) (v : View). local_step relation v (arrived relation at_place at_start row i) n) (λ (v : View). v.to_put) half views d (d, []) d
-        (λ i v l. local_step-beats relation v (arrived relation at_place at_start row i) n ∙ ap (λ beats. (decided relation n beats v).to_put) (sym (incoming-is i)))
+        (λ i v l. local_step-beats relation v (arrived relation at_place at_start row i) n)
 
     pub made-count : length made ≡ length views
     unfolding steps
     made-count = length-map_indexed _ views
-
-    -- what router i has taken
-    abbrev pub took_in : ℕ → View → View
-    took_in i v = all_taken relation (incoming relation.grid (get_or b1 (first + i) [])) v
 
     module _ (views1 : List View) (taken : views1 ≡ map_indexed took_in views) where
       pub count1 : length views1 ≡ length views
@@ -115,16 +126,16 @@ module _ (relation : Routes) (first : ℕ) (ins outs : List (ℕ × ℕ)) (views
       at1 i d l = ap (λ vs. get_or vs i d) taken ∙ get_or-map_indexed took_in views i d d l
 
       site1 : (i : ℕ) (d : View) → i < length views → (get_or views1 i d).site ≡ (get_or views i d).site
-      site1 i d l = ap (λ (v : View). v.site) (at1 i d l) ∙ all_taken-site relation (incoming relation.grid (get_or b1 (first + i) [])) (get_or views i d)
+      site1 i d l = ap (λ (v : View). v.site) (at1 i d l) ∙ all_taken-site relation (arrived relation at_place at_start row i) (get_or views i d)
 
       half1 : (i : ℕ) (d : View) → i < length views → concluded relation n (get_or views1 i d) ≡ half i (get_or views i d)
-      half1 i d l = ap (concluded relation n) (at1 i d l) ∙ concluded-decided relation n (incoming relation.grid (get_or b1 (first + i) [])) (get_or views i d)
+      half1 i d l = ap (concluded relation n) (at1 i d l) ∙ concluded-decided relation n (arrived relation at_place at_start row i) (get_or views i d)
 
       sent1 : (d : View) → to_send relation n views1 ≡ sent_of relation at_place made
       sent1 d =
           ap (map (λ (v : View). (concluded relation n v).to_put)) taken
           ∙ map_map_indexed (λ (v : View). (concluded relation n v).to_put) took_in (λ (v : View). v.to_put) half views d d d
-          (λ i v l. ap (λ (w : View). w.to_put) (concluded-decided relation n (incoming relation.grid (get_or b1 (first + i) [])) v))
+          (λ i v l. ap (λ (w : View). w.to_put) (concluded-decided relation n (arrived relation at_place at_start row i) v))
           ∙ sym (made-sent d)
 
       -- all routers of the tile can finish
@@ -185,7 +196,7 @@ module _ (relation : Routes) (first : ℕ) (ins outs : List (ℕ × ℕ)) (views
               }
 
           -- the wires when those at the edge have put their beats, then with those idle that went, and in the end
-          module _ (b3 b4 b5 : List (List Beat)) (inner : Inner) (fits : AreInner relation.grid first (length views) outs inner) (cleared : (r q : ℕ) → Cleared outs b3 b4 (length outs) r q)
+          module _ (b3 b4 b5 : List (List Beat)) (inner : Inner) (fits : AreInner relation.grid first (length views) outs inner) (cleared : (r q : ℕ) → IsCleared outs b3 b4 (length outs) r q)
               (edge : (r q : ℕ) → r < nodes relation.grid → is_from (first + inner.from) (inner.to - inner.from) (neighbour relation.grid r q) ≡ false
               → beat_at b3 r q ≡ beat_among first (length views1) (to_send relation n views1) (neighbour relation.grid r q))
               (whole : (r q : ℕ) → r < nodes relation.grid → beat_at b4 r q ≡ beat_at b3 r q → beat_at b5 r q ≡ beat_among first (length views1) (to_send relation n views1) (neighbour relation.grid r q))
@@ -196,12 +207,12 @@ module _ (relation : Routes) (first : ℕ) (ins outs : List (ℕ × ℕ)) (views
             out-is : (r q : ℕ) → beat_among first (length views1) (to_send relation n views1) (neighbour relation.grid r q) ≡ out_at relation at_place made r q
             out-is r q = ap₂ (λ k sent. beat_among first k sent (neighbour relation.grid r q)) (count1 ∙ sym sent-count) (sent1 d)
 
-            own-wires : (r q : ℕ) → r < nodes relation.grid → is_own first (length views) r ≡ true → Cleared outs b3 b4 (length outs) r q → beat_at b5 r q ≡ out_at relation at_place made r q
+            own-wires : (r q : ℕ) → r < nodes relation.grid → is_own first (length views) r ≡ true → IsCleared outs b3 b4 (length outs) r q → beat_at b5 r q ≡ out_at relation at_place made r q
             own-wires r q l own (inl h) =
                 absurd (false≢true (sym (set.others h.0 h.1) ∙ ap (λ (p : ℕ × ℕ). is_own first (length views) p.0) h.2 ∙ own))
             own-wires r q l own (inr h) = whole r q l h.1 ∙ out-is r q
 
-            other-wires : (r q : ℕ) → r < nodes relation.grid → is_own first (length views) r ≡ false → Cleared outs b3 b4 (length outs) r q → beat_at b5 r q ≡ idle_beat
+            other-wires : (r q : ℕ) → r < nodes relation.grid → is_own first (length views) r ≡ false → IsCleared outs b3 b4 (length outs) r q → beat_at b5 r q ≡ idle_beat
             other-wires r q l other (inl h) =
                 kept r q l (ap (λ (p : ℕ × ℕ). is_from (first + inner.from) (inner.to - inner.from) (neighbour relation.grid p.0 p.1)) (sym h.2) ∙ fits.none h.0 h.1) ∙ h.3
             other-wires r q l other (inr h) =

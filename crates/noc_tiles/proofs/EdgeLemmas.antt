@@ -13,9 +13,9 @@ use Rattle.noc_net.specs.Marks.{AreMarked}
 use Rattle.noc_net.specs.Takes.{concluded}
 use Rattle.noc_net.specs.Unseen.{unseen}
 use Rattle.noc_tiles.specs.Inner.{CanFinish, HaveFinished, put_from, to_send}
+use Rattle.noc_tiles.specs.Phases.{IsCleared}
 use Rattle.noc_tiles.specs.TileStep.{is_own, is_from, beat_among}
 use Rattle.noc_tiles.specs.declared.tile.Tile.{Tile}
-use Rattle.noc_tiles.proofs.ClearLemmas.{Cleared}
 use Rattle.noc_tiles.proofs.SentLemmas.{own-true, own-false, own-within}
 
 pub cases_bool : (b : Bool) → (b ≡ true) ⊎ (b ≡ false)
@@ -145,7 +145,7 @@ can-after relation n seen i j i' j' a b done can l apart =
 
 -- .. and once some wires have become idle too
 pub can-cleared : (relation : Routes) (i j k : ℕ) (outs : List (ℕ × ℕ)) (a b : Tile) → CanFinish relation i j a → b ≡ record a { beats = b.beats; marks = b.marks; outs = b.outs }
-    → AreMarked b.marks b.beats.items → length b.beats.items ≡ length a.beats.items → ((r q : ℕ) → Cleared outs a.beats.items b.beats.items k r q) → CanFinish relation i j b
+    → AreMarked b.marks b.beats.items → length b.beats.items ≡ length a.beats.items → ((r q : ℕ) → IsCleared outs a.beats.items b.beats.items k r q) → CanFinish relation i j b
 can-cleared relation i j k outs a b can rest marks size cleared =
     let first : b.first ≡ a.first = ap (λ (t : Tile). t.first) rest in
     let routers : b.routers.items ≡ a.routers.items = ap (λ (t : Tile). t.routers.items) rest in
@@ -161,7 +161,7 @@ can-cleared relation i j k outs a b can rest marks size cleared =
       idle = λ r q u f. at r q u (ap (λ x. is_from (x + i) (j - i) (neighbour relation.grid r q)) (sym first) ∙ f) (cleared r q);
     }
   where
-    at : (r q : ℕ) → r < nodes relation.grid → is_from (a.first + i) (j - i) (neighbour relation.grid r q) ≡ true → Cleared outs a.beats.items b.beats.items k r q → beat_at b.beats.items r q ≡ idle_beat
+    at : (r q : ℕ) → r < nodes relation.grid → is_from (a.first + i) (j - i) (neighbour relation.grid r q) ≡ true → IsCleared outs a.beats.items b.beats.items k r q → beat_at b.beats.items r q ≡ idle_beat
     at r q u f (inl h) = h.3
     at r q u f (inr h) = h.1 ∙ can.idle r q u f
 

@@ -13,6 +13,7 @@ pub mod InnerLemmas
 pub mod PartitionLemmas
 pub mod PartitionLoop
 pub mod PartsLemmas
+pub mod PhaseLemmas
 pub mod RingLemmas
 pub mod RunLemmas
 pub mod SentLemmas

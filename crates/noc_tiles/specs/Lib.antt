@@ -7,5 +7,6 @@ pub mod Rings
 pub mod Starts
 pub mod Tiles
 pub mod Partition
+pub mod Phases
 pub mod Wire
 pub mod Together

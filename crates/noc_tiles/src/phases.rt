@@ -1,24 +1,70 @@
 //! The phases of a tile's cycle.
 
-ghost use Rattle.std.specs.Prelude.{ℕ, List, ◌≡◌, ◌≢◌, ◌⊎◌, ◌<◌, ◌≤◌, true, map, length, get_or, vec_len, IsTrue, IsFalse};
+ghost use Rattle.std.specs.Prelude.{ℕ, List, ◌≡◌, ◌≤◌, true, map, length, vec_len, IsTrue, IsFalse};
 ghost use Rattle.noc_topo.specs.declared.limits.TheConstants.{MAX_NODES};
+ghost use Rattle.noc_topo.specs.Shape.{nodes as nodes_of};
 ghost use Rattle.noc_packet.specs.declared.packet.Beat.{Beat as beat_value};
-ghost use Rattle.noc_router.specs.View.{idle_beat};
 ghost use Rattle.noc_net.specs.Halves.{beat_at};
 ghost use Rattle.noc_net.specs.Marks.{AreMarked};
 ghost use Rattle.noc_tiles.specs.Ends.{inlet, outlet};
+ghost use Rattle.noc_tiles.specs.Phases.{HasSent, HasTaken, IsCleared};
 ghost use Rattle.noc_tiles.specs.TileStep.{fed, filled, names, places};
-ghost use Rattle.noc_tiles.specs.Tiles.{AreWithin};
+ghost use Rattle.noc_tiles.specs.Tiles.{AreWithin, IsReady, inlets, outlets};
 
 use crate::stop::Stop;
+use crate::tile::Tile;
 use crate::wires::{Inlet, Outlet};
 use noc_net::Marks;
 use noc_packet::Beat;
+use noc_route::Relation;
 use noc_topo::LINKS;
 use std::sync::Wait;
 
+// Takes a beat from each wire that comes from another tile; then each router takes what came to it. False where the flag was seen
+// raised.
+pub(crate) fn take(rt: &impl Wait, relation: &Relation, tile: &mut Tile, stop: &Stop) -> bool
+    requires ready { IsReady relation.now tile.old }
+    requires few { nodes_of relation.now.grid ≤ MAX_NODES }
+    ensures rest { tile.new ≡ record tile.old { routers = tile.new.routers; beats = tile.new.beats; marks = tile.new.marks; ins = tile.new.ins } }
+    ensures routers { vec_len tile.new.routers ≡ vec_len tile.old.routers }
+    ensures beats { vec_len tile.new.beats ≡ vec_len tile.old.beats }
+    ensures ins { names (inlets tile.new) ≡ names (inlets tile.old) }
+    ensures taken { IsTrue result → (row : List beat_value) × HasTaken relation.now row tile.old tile.new }
+    ensures stopped { IsFalse result → stop.now ≡ true }
+{
+    if !take_all(rt, &mut tile.ins, &mut tile.beats, &mut tile.marks, stop) {
+        return false;
+    }
+    noc_net::take_all(
+        relation,
+        tile.first,
+        &mut tile.routers,
+        &mut tile.beats,
+        &mut tile.marks,
+    );
+    true
+}
+
+// Puts a beat on each wire that goes to another tile, and leaves idle ones. False where the flag was seen raised.
+pub(crate) fn send(rt: &impl Wait, tile: &mut Tile, stop: &Stop) -> bool
+    requires within { AreWithin (length tile.old.beats.items) 6 (places (outlets tile.old)) }
+    requires few { length tile.old.beats.items ≤ MAX_NODES }
+    requires marks { AreMarked tile.old.marks tile.old.beats.items }
+    ensures rest { tile.new ≡ record tile.old { beats = tile.new.beats; marks = tile.new.marks; outs = tile.new.outs } }
+    ensures beats { vec_len tile.new.beats ≡ vec_len tile.old.beats }
+    ensures outs { names (outlets tile.new) ≡ names (outlets tile.old) }
+    ensures sent { IsTrue result → HasSent tile.old tile.new }
+    ensures stopped { IsFalse result → stop.now ≡ true }
+{
+    if !put_all(rt, &mut tile.outs, &tile.beats, stop) {
+        return false;
+    }
+    clear_all(&tile.outs, &mut tile.beats, &mut tile.marks);
+    true
+}
+
 // Takes a beat from each wire that comes from another tile. False where the flag was seen raised.
-pub(crate) fn take_all(
+fn take_all(
     rt: &impl Wait,
     ins: &mut Vec<Inlet>,
     beats: &mut [[Beat; LINKS]],
@@ -45,12 +91,7 @@ pub(crate) fn take_all(
 }
 
 // Puts a beat on each wire that goes to another tile. False where the flag was seen raised.
-pub(crate) fn put_all(
-    rt: &impl Wait,
-    ends: &mut Vec<Outlet>,
-    beats: &[[Beat; LINKS]],
-    stop: &Stop,
-) -> bool
+fn put_all(rt: &impl Wait, ends: &mut Vec<Outlet>, beats: &[[Beat; LINKS]], stop: &Stop) -> bool
     requires { AreWithin (length beats.now) 6 (places (map outlet ends.old.items)) }
     ensures ends { names (map outlet ends.new.items) ≡ names (map outlet ends.old.items) }
     ensures put { IsTrue result → map outlet ends.new.items ≡ fed (map outlet ends.old.items) (map (λ p. beat_at beats.now p.0 p.1) (places (map outlet ends.old.items))) }
@@ -66,14 +107,13 @@ pub(crate) fn put_all(
 }
 
 // The beats that went to other tiles are idle again.
-pub(crate) fn clear_all(ends: &Vec<Outlet>, beats: &mut [[Beat; LINKS]], marks: &mut Marks)
+fn clear_all(ends: &Vec<Outlet>, beats: &mut [[Beat; LINKS]], marks: &mut Marks)
     requires within { AreWithin (length beats.old) 6 (places (map outlet ends.now.items)) }
     requires few { length beats.old ≤ MAX_NODES }
     requires marks { AreMarked marks.old beats.old }
     ensures marks { AreMarked marks.new beats.new }
     ensures count { length beats.new ≡ length beats.old }
-    ensures beats { (r q : ℕ) → ((o : ℕ) × (o < length (places (map outlet ends.now.items))) × (get_or (places (map outlet ends.now.items)) o (0, 0) ≡ (r, q)) × (beat_at beats.new r q ≡ idle_beat))
-        ⊎ (((o : ℕ) → o < length (places (map outlet ends.now.items)) → get_or (places (map outlet ends.now.items)) o (0, 0) ≢ (r, q)) × (beat_at beats.new r q ≡ beat_at beats.old r q)) }
+    ensures beats { (r q : ℕ) → IsCleared (places (map outlet ends.now.items)) beats.old beats.new (length (places (map outlet ends.now.items))) r q }
 {
     for k in 0..ends.len() {
         let end = &ends[k];

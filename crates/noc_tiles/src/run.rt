@@ -13,7 +13,7 @@ ghost use Rattle.noc_tiles.specs.declared.tile.Outcome.TheVariants.{Whole, Close
 use crate::finishing::finish_some;
 use crate::gate::Gate;
 use crate::inner::{Inner, inner_of};
-use crate::phases::{clear_all, put_all, take_all};
+use crate::phases::{send, take};
 use crate::stop::Stop;
 use crate::tile::{Outcome, Tile};
 use noc_route::Relation;
@@ -40,23 +40,15 @@ fn cycle(
     ensures ran { IsTrue result → (row : List beat_value) × Cycles relation.now seen cycle tile.old tile.new row }
     ensures stopped { IsFalse result → stop.now ≡ true }
 {
-    if !take_all(rt, &mut tile.ins, &mut tile.beats, &mut tile.marks, stop) {
+    if !take(rt, relation, tile, stop) {
         return false;
     }
-    noc_net::take_all(
-        relation,
-        tile.first,
-        &mut tile.routers,
-        &mut tile.beats,
-        &mut tile.marks,
-    );
     let count = tile.routers.len();
     finish_some(relation, tile, cycle, seen, 0, inner.from);
     finish_some(relation, tile, cycle, seen, inner.to, count);
-    if !put_all(rt, &mut tile.outs, &tile.beats, stop) {
+    if !send(rt, tile, stop) {
         return false;
     }
-    clear_all(&tile.outs, &mut tile.beats, &mut tile.marks);
     finish_some(relation, tile, cycle, seen, inner.from, inner.to);
     true
 }

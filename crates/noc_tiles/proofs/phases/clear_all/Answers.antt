@@ -2,9 +2,10 @@ use Rattle.std.proofs.Common.{◌≡◌, inr, ℕ, ◌<◌, [], map, length, get
 use Rattle.std.proofs.lemmas.List.{length-map, length-set}
 use Rattle.noc_model.proofs.WireLemmas.{rows_kept}
 use Rattle.noc_tiles.specs.Ends.{End, outlet}
+use Rattle.noc_tiles.specs.Phases.{IsCleared}
 use Rattle.noc_tiles.specs.TileStep.{places}
 use Rattle.noc_tiles.specs.declared.wires.Outlet.{Outlet}
-use Rattle.noc_tiles.proofs.ClearLemmas.{place-of, Cleared, cleared-more}
+use Rattle.noc_tiles.proofs.ClearLemmas.{place-of, cleared-more}
 use Rattle.noc_tiles.proofs.phases.clear_all.Goals as goal
 
 pub loop-k-init : goal.loop-k-init
@@ -122,4 +123,4 @@ returns-clause-beats c =
     let end : c.loop-k.k ≡ length ps =
     let q : c.loop-k.k ≡ length c.args.ends.now.items = search (rules, arith) in
     q ∙ sym (length-map (map outlet c.args.ends.now.items) (λ (w : End). w.at) ∙ length-map c.args.ends.now.items outlet) in
-    λ r q. subst (λ k. Cleared ps c.args.beats.now c.loop-k.beats k r q) end (c.loop-k.invariant.beats r q)
+    λ r q. subst (λ k. IsCleared ps c.args.beats.now c.loop-k.beats k r q) end (c.loop-k.invariant.beats r q)
