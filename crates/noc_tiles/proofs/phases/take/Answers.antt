@@ -3,11 +3,11 @@ use Rattle.std.specs.Vec.{with_items}
 use Rattle.std.proofs.lemmas.List.{with_items_is, length-map}
 use Rattle.noc_topo.specs.Words.{map_indexed}
 use Rattle.noc_packet.specs.declared.packet.Beat.{Beat}
-use Rattle.noc_router.specs.View.{View, all_taken, idle_beat}
+use Rattle.noc_router.specs.View.{View, all_taken}
 use Rattle.noc_net.specs.Halves.{IsLinked, beat_at, incoming}
 use Rattle.noc_net.specs.Marks.{AreMarked}
 use Rattle.noc_tiles.specs.Ends.{inlet}
-use Rattle.noc_tiles.specs.TileStep.{filled, places}
+use Rattle.noc_tiles.specs.TileStep.{places}
 use Rattle.noc_tiles.specs.Tiles.{inlets, outlets}
 use Rattle.noc_tiles.proofs.CycleLemmas.{linked-taken, idle-taken, all-took}
 use Rattle.noc_tiles.proofs.PhaseLemmas.{at_index, silent_at, took-as}
