@@ -7,6 +7,8 @@ use crate::stop::Stop;
 use noc_packet::Beat;
 use rtrb::{Consumer, Producer};
 use std::sync::Wait;
+use std::sync::atomic::AtomicU64;
+use std::time::Duration;
 use std::{hint, thread};
 
 /// The end of a wire that arrives at a router and a link port of the tile.
@@ -37,17 +39,24 @@ const LOOKS: u32 = 500;
 // The first of these follow each other at once: a pause costs about 140 processor cycles, and a beat may be nearer than that.
 const LOOKS_AT_ONCE: u32 = 32;
 
+// After how many looks it sleeps instead: its processor is free then for a worker that another program keeps from going on.
+const LOOKS_AWAKE: u32 = 16 * LOOKS;
+
+// For how many microseconds it does.
+const NAP: u64 = 50;
+
 // Rests between two looks, after so many of them; gives how many that are now.
-fn rested(looks: u32) -> u32 {
-    if looks < LOOKS {
-        if looks >= LOOKS_AT_ONCE {
-            hint::spin_loop();
-        }
-        looks + 1
-    } else {
-        thread::yield_now();
-        0
+fn rested(rt: &impl Wait, looks: u32) -> u32 {
+    if looks >= LOOKS_AWAKE {
+        AtomicU64::new(0).park_timeout(rt, 0, Duration::from_micros(NAP));
+        return LOOKS_AWAKE - LOOKS;
     }
+    if looks % LOOKS == LOOKS - 1 {
+        thread::yield_now();
+    } else if looks >= LOOKS_AT_ONCE {
+        hint::spin_loop();
+    }
+    looks + 1
 }
 
 // Waits for a beat. `None` where the flag was seen raised.
@@ -64,7 +73,7 @@ fn pop_waiting(rt: &impl Wait, end: &mut Consumer<Beat>, stop: &Stop) -> Option<
         if stop.raised() {
             return None;
         }
-        looks = rested(looks);
+        looks = rested(rt, looks);
     }
     unreachable!()
 }
@@ -83,7 +92,7 @@ fn push_waiting(rt: &impl Wait, end: &mut Producer<Beat>, beat: Beat, stop: &Sto
         if stop.raised() {
             return false;
         }
-        looks = rested(looks);
+        looks = rested(rt, looks);
     }
     unreachable!()
 }
