@@ -1,0 +1,123 @@
+-- A router after its verdicts, channel by channel; and what the words of a lane then show.
+use Rattle.std.proofs.Common.{◌≡◌, ℕ, ◌+◌, ◌*◌, ◌<◌, ◌≤◌, Bool, true, false, List, [], ◌∷◌, length, Option, Some, None, refl, ap, sym, ◌∙◌, subst, arith, get_or}
+use Rattle.std.specs.Prelude.{◌&&◌, nat_lt, slice_set, if◌then◌else◌}
+use Rattle.std.proofs.lemmas.List.{get_or-map, length-set}
+use Rattle.noc_topo.specs.Words.{tabulate}
+use Rattle.noc_topo.specs.Shape.{ports, local_port}
+use Rattle.noc_topo.proofs.WordLemmas.{get_or-tabulate, get_or-map_indexed, length-tabulate}
+use Rattle.noc_packet.specs.Set.{has_bit}
+use Rattle.noc_packet.specs.declared.packet.Flit.{Flit}
+use Rattle.noc_packet.specs.declared.packet.Beat.{Beat}
+use Rattle.noc_route.specs.Routes.{Routes}
+use Rattle.noc_vc.specs.Input.{Input, idle_input, fits}
+use Rattle.noc_vc.specs.Output.{Output, ejection_output, credit_fits, credited}
+use Rattle.noc_router.specs.Arrivals.{is_expected_in, noted}
+use Rattle.noc_router.specs.Verdict.{arbiters_after}
+use Rattle.noc_router.specs.declared.verdict.Verdict.TheVariants.{Empty}
+use Rattle.noc_router.specs.declared.verdict.Finding.{Finding}
+use Rattle.noc_router.specs.View.{View, Decisions, size_of, has_link, view_buffer, view_input, view_output, view_round, finding_of, planned, committed, decided_verdict, buffer_after, input_after, output_after, with_arrival, with_misfit, with_landed, with_flit, with_credit, taken, taken_from, all_taken, tail_packet, flit_out, local_step}
+use Rattle.noc_rows.specs.Taken.{HasTaken, HasSize, flit_from, credit_from}
+use Rattle.noc_rows.specs.Column.{Column, AreWords, ShowsInput}
+use Rattle.noc_rows.specs.Fields.{Fields}
+use Rattle.noc_rows.specs.Passes.{Effects, settled_lane}
+use Rattle.noc_rows.proofs.SettleLemmas.{AreEffects, SaysOf, settled-input, verdict_of_bits}
+use Rattle.noc_rows.proofs.TakenLemmas.{all-taken}
+use Rattle.noc_rows.proofs.InjectedLemmas.{step-none}
+
+-- an arrival changes no channel and no arbiter
+arrival-keeps : (p : Option ℕ) (v : View) → ((with_arrival p v).buffers ≡ v.buffers) × ((with_arrival p v).inputs ≡ v.inputs) × ((with_arrival p v).outputs ≡ v.outputs) × ((with_arrival p v).arbiters ≡ v.arbiters)
+arrival-keeps None v = (refl, refl, refl, refl)
+arrival-keeps (Some p) v = at (is_expected_in p v.ends)
+  where
+    at : (b : Bool) → let w = if b then record v { ends = noted p v.given v.ends } else with_misfit v in (w.buffers ≡ v.buffers) × (w.inputs ≡ v.inputs) × (w.outputs ≡ v.outputs) × (w.arbiters ≡ v.arbiters)
+    at true = (refl, refl, refl, refl)
+    at false = (refl, refl, refl, refl)
+
+module _ (d : Decisions) (v : View) (size : HasSize v) where
+  pub buffer-committed : (i : ℕ) → i < size_of v.site → view_buffer (committed d v) i ≡ buffer_after (view_buffer v i) (decided_verdict d i)
+  unfolding committed
+  buffer-committed i l =
+      ap (λ (xs : List (List Flit)). get_or xs i []) (arrival-keeps (tail_packet (flit_out v d.round (local_port v.site.grid))) _).0
+      ∙ get_or-map_indexed (λ j flits. buffer_after flits (decided_verdict d j)) v.buffers i [] [] (omega (arith, size.buffers))
+
+  pub input-committed : (i : ℕ) → i < size_of v.site → view_input (committed d v) i ≡ input_after d v i (view_input v i) (decided_verdict d i)
+  unfolding committed
+  input-committed i l =
+      ap (λ (xs : List Input). get_or xs i idle_input) (arrival-keeps (tail_packet (flit_out v d.round (local_port v.site.grid))) _).1
+      ∙ get_or-map_indexed (λ j (input : Input). input_after d v j input (decided_verdict d j)) v.inputs i idle_input idle_input (omega (arith, size.inputs))
+
+  pub output-committed : (o : ℕ) → o < size_of v.site → view_output (committed d v) o ≡ output_after v d.round o (view_output v o)
+  unfolding committed
+  output-committed o l =
+      ap (λ (xs : List Output). get_or xs o ejection_output) (arrival-keeps (tail_packet (flit_out v d.round (local_port v.site.grid))) _).2
+      ∙ get_or-map_indexed (output_after v d.round) v.outputs o ejection_output ejection_output (omega (arith, size.outputs))
+
+  pub arbiters-committed : (committed d v).arbiters ≡ arbiters_after d.round v.arbiters
+  unfolding committed
+  arbiters-committed = (arrival-keeps (tail_packet (flit_out v d.round (local_port v.site.grid))) _).3
+
+-- what is decided of a channel
+pub verdict-planned : (relation : Routes) (v : View) (i : ℕ) → i < size_of v.site → decided_verdict (planned relation v) i ≡ (finding_of (view_round v) v i).verdict
+unfolding planned
+verdict-planned relation v i l =
+    get_or-map (λ (finding : Finding). finding.verdict) (tabulate (size_of v.site) (finding_of (view_round v) v)) i (finding_of (view_round v) v i) Empty (omega (arith, length-tabulate (size_of v.site) (finding_of (view_round v) v)))
+    ∙ ap (λ (finding : Finding). finding.verdict) (get_or-tabulate (size_of v.site) i (finding_of (view_round v) v) (finding_of (view_round v) v i) l)
+
+-- an input channel of the lane shows that of the view after the verdicts
+pub input-shows : (relation : Routes) (count : ℕ) (c : Column) (v : View) (frame : Fields) (links local : ℕ) (e : Effects) → AreWords count c → AreEffects e → HasSize v
+    → (i : ℕ) → i < size_of v.site → ShowsInput c i (view_buffer v i) (view_input v i) → SaysOf v (view_round v) e i
+    → (a b g h j k : Bool) → (finding_of (view_round v) v i).verdict ≡ verdict_of_bits (has_bit e.moved i) (has_bit e.granted i) (has_bit e.heads i) a b g h j k
+    → ShowsInput (settled_lane frame links local e c) i (view_buffer (committed (planned relation v) v) i) (view_input (committed (planned relation v) v) i)
+input-shows relation count c v frame links local e words effects size i l shows says a b g h j k is =
+    let d : Decisions = planned relation v in
+    subst (λ xs. ShowsInput (settled_lane frame links local e c) i xs (view_input (committed (planned relation v) v) i)) (sym (buffer-committed (planned relation v) v size i l))
+    (subst (λ (x : Input). ShowsInput (settled_lane frame links local e c) i (buffer_after (view_buffer v i) (decided_verdict (planned relation v) i)) x) (sym (input-committed (planned relation v) v size i l))
+    (settled-input count c v frame links local e words effects (view_round v) (planned relation v) i shows says (decided_verdict (planned relation v) i) a b g h j k (verdict-planned relation v i l ∙ is)))
+
+-- ---- the sizes stay
+abbrev KeepsSize : View → View → Type 0
+KeepsSize v w = (w.site ≡ v.site) × (length w.buffers ≡ length v.buffers) × (length w.inputs ≡ length v.inputs) × (length w.outputs ≡ length v.outputs)
+
+keeps-flit : (relation : Routes) (port : ℕ) (flit : Option (ℕ × Flit)) (v : View) → KeepsSize v (with_flit relation port flit v)
+keeps-flit relation port None v = (refl, refl, refl, refl)
+keeps-flit relation port (Some (vc, f)) v =
+    at (has_link v.site port && nat_lt vc v.site.vcs && fits relation v.site.node port vc v.site.places (view_buffer v (port * v.site.vcs + vc)) (view_input v (port * v.site.vcs + vc)) f)
+  where
+    at : (b : Bool) → KeepsSize v (if b then with_landed (port * v.site.vcs + vc) f v else with_misfit v)
+    at true = (refl, length-set v.buffers (port * v.site.vcs + vc) _, length-set v.inputs (port * v.site.vcs + vc) _, refl)
+    at false = (refl, refl, refl, refl)
+
+keeps-credit : (port : ℕ) (credit : Option ℕ) (v : View) → KeepsSize v (with_credit port credit v)
+keeps-credit port None v = (refl, refl, refl, refl)
+keeps-credit port (Some vc) v = at (has_link v.site port && nat_lt vc v.site.vcs && credit_fits (view_output v (port * v.site.vcs + vc)))
+  where
+    at : (b : Bool) → KeepsSize v (if b then record v { outputs = slice_set v.outputs (port * v.site.vcs + vc) (credited (view_output v (port * v.site.vcs + vc))); had_event = true } else with_misfit v)
+    at true = (refl, refl, refl, length-set v.outputs (port * v.site.vcs + vc) _)
+    at false = (refl, refl, refl, refl)
+
+keeps-both : (u v w : View) → KeepsSize u v → KeepsSize v w → KeepsSize u w
+keeps-both u v w a b = (b.0 ∙ a.0, b.1 ∙ a.1, b.2 ∙ a.2, b.3 ∙ a.3)
+
+keeps-taken : (relation : Routes) (port : ℕ) (beats : List Beat) (v : View) → KeepsSize v (taken_from relation port beats v)
+unfolding taken
+keeps-taken relation port [] v = (refl, refl, refl, refl)
+keeps-taken relation port (beat ∷ beats) v =
+    keeps-both v (taken relation port beat v) (taken_from relation (port + 1) beats (taken relation port beat v))
+    (keeps-both v (with_flit relation port beat.flit v) (taken relation port beat v) (keeps-flit relation port beat.flit v) (keeps-credit port beat.credit (with_flit relation port beat.flit v)))
+    (keeps-taken relation (port + 1) beats (taken relation port beat v))
+
+size-taken : (relation : Routes) (beats : List Beat) (v : View) → HasSize v → HasSize (all_taken relation beats v)
+unfolding all_taken
+size-taken relation beats v size =
+    let k = keeps-taken relation 0 beats v in
+    record {
+      some = rw k.0 size.some;
+      buffers = k.1 ∙ size.buffers ∙ ap size_of (sym k.0);
+      inputs = k.2 ∙ size.inputs ∙ ap size_of (sym k.0);
+      outputs = k.3 ∙ size.outputs ∙ ap size_of (sym k.0);
+    }
+
+-- where a cycle leaves no misfit, all beats fit, and each channel is as its own beat leaves it
+pub beats-fit : (relation : Routes) (v : View) (beats : List Beat) (n : ℕ) → HasSize v → length beats ≤ ports v.site.grid → (local_step relation v beats n).0.misfits ≡ 0
+    → HasTaken relation v (all_taken relation beats v) (flit_from v.site.vcs 0 beats) (credit_from v.site.vcs 0 beats)
+beats-fit relation v beats n size few none = all-taken relation beats v size few (step-none relation v beats n (size-taken relation beats v size) none)

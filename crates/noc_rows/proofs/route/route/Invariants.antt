@@ -1,0 +1,4 @@
+use Rattle.noc_rows.proofs.route.route.Given as goal
+
+abbrev pub decreases-loop-rest : goal.decreases-loop-rest
+decreases-loop-rest l = l.rest

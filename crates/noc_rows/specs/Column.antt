@@ -1,0 +1,152 @@
+-- The words that one router has in rows, and what it means that they show a view.
+use Rattle.std.specs.Prelude.{◌≡◌, ◌⊎◌, ℕ, ◌*◌, ◌/◌, ◌^◌, ◌<◌, ◌≤◌, Bool, true, false, List, [], length, Option, Some, None, IfSome, is_some, nat_lt, nat_le, nat_eq, slice_index_or}
+use Rattle.noc_topo.specs.Shape.{ports, local_port}
+use Rattle.noc_packet.specs.Set.{has_bit}
+use Rattle.noc_packet.specs.declared.packet.Flit.{Flit}
+use Rattle.noc_alloc.specs.Arbiter.{turn_at}
+use Rattle.noc_vc.specs.Input.{Input, is_active, is_waiting, is_empty}
+use Rattle.noc_vc.specs.Output.{Output, is_free}
+use Rattle.noc_vc.specs.declared.input.InputState.{InputState}
+use Rattle.noc_vc.specs.declared.input.InputState.TheVariants.{Idle, Waiting, Active}
+use Rattle.noc_vc.specs.declared.output.OutputState.{OutputState}
+use Rattle.noc_vc.specs.declared.output.OutputState.TheVariants.{Idle as Free, Owned, Draining}
+use Rattle.noc_router.specs.Members.{AreBelow}
+use Rattle.noc_router.specs.Sound.{is_supplied, owns, is_owned_from}
+use Rattle.noc_router.specs.View.{View, size_of, local_channel, view_buffer, view_input, view_output}
+use Rattle.noc_packet.specs.declared.packet.Beat.{Beat}
+use Rattle.noc_rows.specs.Taken.{flit_from, credit_from, with_one}
+use Rattle.noc_rows.specs.Planes.{number_at, ArePlanes}
+use Rattle.noc_rows.specs.Fields.{ShowsPointer}
+
+-- the words of one lane
+pub record Column : Type 0 where
+  pub waiting : ℕ  -- input channels
+  pub active : ℕ
+  pub len : List ℕ  -- how many flits each has, bit by bit
+  pub supplied : ℕ
+  pub ahead : ℕ  -- by input port, the channels at or after its pointer
+  pub wanted : ℕ  -- output channels: holds the sets of all that wait
+  pub idle : ℕ
+  pub draining : ℕ
+  pub credit : List ℕ  -- how many credits each has, bit by bit
+  pub injecting : ℕ  -- the local channel of the packet that is being injected
+
+-- what it has by channel and by port
+pub record Marks : Type 0 where
+  pub set : List ℕ  -- by waiting input channel, where it may go
+  pub taken : List ℕ  -- by active input channel, its output channel
+  pub owner : List ℕ  -- by owned output channel, its input channel
+  pub turn : List ℕ  -- by output channel, the input channels at or after the pointer of its arbiter
+  pub to_port : List ℕ  -- by output port, the active input channels that own a channel of it
+  pub port_turn : List ℕ  -- by output port, the input channels of the ports at or after the pointer of its arbiter
+
+-- each is a word, and numbers have so many bits
+pub record AreWords (count : ℕ) (c : Column) : Type 0 where
+  pub len_bits : length c.len ≡ count
+  pub credit_bits : length c.credit ≡ count
+  pub waiting : c.waiting < 2 ^ 32
+  pub active : c.active < 2 ^ 32
+  pub len : ArePlanes c.len
+  pub supplied : c.supplied < 2 ^ 32
+  pub ahead : c.ahead < 2 ^ 32
+  pub wanted : c.wanted < 2 ^ 32
+  pub idle : c.idle < 2 ^ 32
+  pub draining : c.draining < 2 ^ 32
+  pub credit : ArePlanes c.credit
+  pub injecting : c.injecting < 2 ^ 32
+
+abbrev pub is_draining : OutputState → Bool
+is_draining Free = false
+is_draining (Owned i p) = false
+is_draining Draining = true
+
+-- output channel o
+pub record ShowsOutput (c : Column) (o : ℕ) (output : Output) : Type 0 where
+  pub idle : has_bit c.idle o ≡ is_free output.holder
+  pub draining : has_bit c.draining o ≡ is_draining output.holder
+  pub credit : IfSome output.credit (λ n. number_at c.credit o ≡ n)
+
+-- input channel i with these flits in its buffer
+pub record ShowsInput (c : Column) (i : ℕ) (flits : List Flit) (input : Input) : Type 0 where
+  pub waiting : has_bit c.waiting i ≡ is_waiting input.phase
+  pub active : has_bit c.active i ≡ is_active input.phase
+  pub len : number_at c.len i ≡ length flits
+
+-- all channels
+pub record ShowsChannels (c : Column) (v : View) : Type 0 where
+  pub inputs : (i : ℕ) → i < size_of v.site → ShowsInput c i (view_buffer v i) (view_input v i)
+  pub outputs : (o : ℕ) → o < size_of v.site → ShowsOutput c o (view_output v o)
+  pub supplied : (i : ℕ) → i < size_of v.site → has_bit c.supplied i ≡ is_supplied v.outputs (view_input v i).phase
+  pub waiting_below : AreBelow (size_of v.site) c.waiting
+  pub active_below : AreBelow (size_of v.site) c.active
+  pub idle_below : AreBelow (size_of v.site) c.idle
+  pub len_below : (i : ℕ) → size_of v.site ≤ i → number_at c.len i ≡ 0
+
+-- the pointers of the arbiters
+pub record ShowsTurns (c : Column) (m : Marks) (v : View) : Type 0 where
+  pub inputs : (p : ℕ) → p < ports v.site.grid → ShowsPointer v.site.vcs c.ahead p (turn_at v.arbiters.inputs p).pointer
+  pub channels : (o : ℕ) → o < size_of v.site → ShowsPointer (size_of v.site) (slice_index_or m.turn o 0) 0 (turn_at v.arbiters.channels o).pointer
+  pub outputs : (q i : ℕ) → q < ports v.site.grid → i < size_of v.site
+      → (has_bit (slice_index_or m.port_turn q 0) i ≡ nat_le (turn_at v.arbiters.outputs q).pointer (i / v.site.vcs))
+      ⊎ (((turn_at v.arbiters.outputs q).pointer ≡ 0) × ((k : ℕ) → k < size_of v.site → has_bit (slice_index_or m.port_turn q 0) k ≡ false))
+
+-- input channel i, by channel: the set of one that waits, and the output channel of one that is active
+abbrev pub ShowsPhase : Column → Marks → ℕ → ℕ → InputState → Type 0
+ShowsPhase c m vcs i Idle = Unit {0}
+ShowsPhase c m vcs i (Waiting set) = (slice_index_or m.set i 0 ≡ set) × (set < 2 ^ 32) × ((o : ℕ) → has_bit set o ≡ true → has_bit c.wanted o ≡ true)
+ShowsPhase c m vcs i (Active o) = slice_index_or m.taken i 0 ≡ o
+
+abbrev pub ShowsHolder : Marks → ℕ → OutputState → Type 0
+ShowsHolder m o Free = Unit {0}
+ShowsHolder m o (Owned i p) = slice_index_or m.owner o 0 ≡ i
+ShowsHolder m o Draining = Unit {0}
+
+-- whether an input channel in this state sends by this port
+abbrev pub sends_by : ℕ → ℕ → InputState → Bool
+sends_by vcs port Idle = false
+sends_by vcs port (Waiting set) = false
+sends_by vcs port (Active o) = nat_eq (o / vcs) port
+
+pub record ShowsMarks (c : Column) (m : Marks) (v : View) : Type 0 where
+  pub phases : (i : ℕ) → i < size_of v.site → ShowsPhase c m v.site.vcs i (view_input v i).phase
+  pub holders : (o : ℕ) → o < size_of v.site → ShowsHolder m o (view_output v o).holder
+  pub to_port : (q i : ℕ) → q < ports v.site.grid → i < size_of v.site → has_bit (slice_index_or m.to_port q 0) i ≡ sends_by v.site.vcs q (view_input v i).phase
+
+-- what is being injected
+abbrev pub ShowsSending : Column → View → Option (ℕ × ℕ) → Type 0
+ShowsSending c v None = c.injecting ≡ 0
+ShowsSending c v (Some (vc, index)) = (vc < v.site.vcs) × (c.injecting ≡ 2 ^ local_channel v.site vc)
+
+-- the wires to a router, by the beats on them: the input channels that a flit comes to, the output channels that a credit comes to, and
+-- the ring of each input channel, which has the flits of its buffer and then the one that is on the wire to it
+pub record ShowsWires (v : View) (flits credits : ℕ) (rings : List (List Flit)) (beats : List Beat) : Type 0 where
+  pub comes : (i : ℕ) → i < size_of v.site → has_bit flits i ≡ is_some (flit_from v.site.vcs 0 beats i)
+  pub comes_below : AreBelow (size_of v.site) flits
+  pub returns : (o : ℕ) → o < size_of v.site → has_bit credits o ≡ credit_from v.site.vcs 0 beats o
+  pub returns_below : AreBelow (size_of v.site) credits
+  pub ring : (i : ℕ) → i < size_of v.site → slice_index_or rings i [] ≡ with_one (view_buffer v i) (flit_from v.site.vcs 0 beats i)
+
+-- what the columns say of the view of a router, but for its counts and its source
+pub record IsColumn (count : ℕ) (c : Column) (m : Marks) (v : View) : Type 0 where
+  pub words : AreWords count c
+  pub channels : ShowsChannels c v
+  pub turns : ShowsTurns c m v
+  pub marks : ShowsMarks c m v
+  pub sending : ShowsSending c v v.sending
+
+-- ---- what the words rest on: facts of every view of a network
+pub record IsTidy (v : View) : Type 0 where
+  -- no more flits than places, and no credit too many
+  pub lens : (i : ℕ) → i < size_of v.site → length (view_buffer v i) ≤ v.site.places
+  pub credits : (o : ℕ) → o < size_of v.site → IfSome (view_output v o).credit (λ n. n ≤ v.site.places)
+  pub places : (o : ℕ) → o < size_of v.site → IfSome (view_output v o).credit (λ n. (view_output v o).places ≡ v.site.places)
+  -- one that drains is a link channel, and misses a credit
+  pub drains : (o : ℕ) → o < size_of v.site → is_draining (view_output v o).holder ≡ true → IfSome (view_output v o).credit (λ n. n < v.site.places) × (is_some (view_output v o).credit ≡ true)
+  -- a link channel counts credits, an ejection channel does not
+  pub links : (o : ℕ) → o < size_of v.site → is_some (view_output v o).credit ≡ nat_lt o (local_port v.site.grid * v.site.vcs)
+  -- whose packet owns what
+  pub owners : (i o : ℕ) → i < size_of v.site → o < size_of v.site → owns (view_input v i).phase o ≡ is_owned_from (view_output v o).holder i
+  pub owned_below : (i o : ℕ) → i < size_of v.site → (view_input v i).phase ≡ Active o → o < size_of v.site
+  pub owner_below : (i o : ℕ) → o < size_of v.site → is_owned_from (view_output v o).holder i ≡ true → i < size_of v.site
+  -- one that waits or is active has a packet, which the holder of its output channel names
+  pub waits : (i : ℕ) → i < size_of v.site → is_waiting (view_input v i).phase ≡ true → is_empty (view_buffer v i) ≡ false

@@ -1,0 +1,11 @@
+pub mod Bits
+pub mod Planes
+pub mod Fields
+pub mod Taken
+pub mod Column
+pub mod Passes
+pub mod Sheet
+pub mod Turns
+pub mod Injected
+pub mod Rows
+pub mod InRows

@@ -1,0 +1,122 @@
+//! The state of the channels of the routers of a block, as words of channels.
+
+ghost use Rattle.std.specs.Prelude.{◌≡◌, ◌≢◌, ◌<◌, ℕ};
+ghost use Rattle.noc_rows.specs.Rows.{column_at, column_of, planes_of};
+
+use crate::lanes::{ROUTERS, Row, put};
+use crate::numbers::{Numbers, Planes};
+
+/// The words of one router.
+#[derive(Clone, Copy)]
+pub struct Lane {
+    /// Input channels that wait for an output channel.
+    pub waiting: u32,
+    /// Input channels that own an output channel.
+    pub active: u32,
+    /// How many flits the buffer of each input channel has.
+    pub len: Numbers,
+    /// Active input channels whose output channel leads out of the network or has a credit.
+    pub supplied: u32,
+    /// By input port, the channels at or after its pointer.
+    pub ahead: u32,
+    /// Holds the sets of all waiting channels.
+    pub wanted: u32,
+    /// Output channels that nobody owns and that have all their credits.
+    pub idle: u32,
+    /// Output channels whose tail has gone, and that miss a credit.
+    pub draining: u32,
+    /// How many credits each output channel of a link has.
+    pub credit: Numbers,
+    /// The local channel of the packet that is being injected.
+    pub injecting: u32,
+}
+
+/// The words of the routers of a block.
+#[derive(Clone, Copy)]
+pub struct Lanes {
+    pub waiting: Row,
+    pub active: Row,
+    pub len: Planes,
+    pub supplied: Row,
+    pub ahead: Row,
+    pub wanted: Row,
+    pub idle: Row,
+    pub draining: Row,
+    pub credit: Planes,
+    pub injecting: Row,
+}
+
+impl Lanes {
+    /// The same words of each router.
+    pub fn of(lane: Lane) -> Lanes {
+        Lanes {
+            waiting: [lane.waiting; ROUTERS],
+            active: [lane.active; ROUTERS],
+            len: Planes::of(lane.len),
+            supplied: [lane.supplied; ROUTERS],
+            ahead: [lane.ahead; ROUTERS],
+            wanted: [lane.wanted; ROUTERS],
+            idle: [lane.idle; ROUTERS],
+            draining: [lane.draining; ROUTERS],
+            credit: Planes::of(lane.credit),
+            injecting: [lane.injecting; ROUTERS],
+        }
+    }
+
+    /// The words of one router.
+    #[inline(always)]
+    pub fn at(&self, lane: usize) -> Lane
+        requires { lane < 32 }
+        ensures { column_of result ≡ column_at self.now lane }
+    {
+        Lane {
+            waiting: self.waiting[lane],
+            active: self.active[lane],
+            len: self.len.at(lane),
+            supplied: self.supplied[lane],
+            ahead: self.ahead[lane],
+            wanted: self.wanted[lane],
+            idle: self.idle[lane],
+            draining: self.draining[lane],
+            credit: self.credit.at(lane),
+            injecting: self.injecting[lane],
+        }
+    }
+
+    /// Writes what the output channels of one router are, and how many credits they have.
+    #[inline(always)]
+    pub fn put_outputs(&mut self, lane: usize, words: Lane)
+        requires { lane < 32 }
+        ensures here { column_at self.new lane ≡ record (column_at self.old lane) { idle = words.idle; draining = words.draining; credit = planes_of words.credit } }
+        ensures others { (k : ℕ) → k ≢ lane → column_at self.new k ≡ column_at self.old k }
+    {
+        put(&mut self.idle, lane, words.idle);
+        put(&mut self.draining, lane, words.draining);
+        self.credit.put(lane, words.credit);
+    }
+
+    /// Writes how many flits the buffers of one router have.
+    #[inline(always)]
+    pub fn put_len(&mut self, lane: usize, len: Numbers)
+        requires { lane < 32 }
+        ensures here { column_at self.new lane ≡ record (column_at self.old lane) { len = planes_of len } }
+        ensures others { (k : ℕ) → k ≢ lane → column_at self.new k ≡ column_at self.old k }
+    {
+        self.len.put(lane, len);
+    }
+
+    /// Writes the sets of channels of one router that a cycle changes, and the pointers of its input ports.
+    #[inline(always)]
+    pub fn put_sets(&mut self, lane: usize, words: Lane)
+        requires { lane < 32 }
+        ensures here { column_at self.new lane ≡ record (column_at self.old lane) { waiting = words.waiting; active = words.active; supplied = words.supplied; ahead = words.ahead; idle = words.idle; draining = words.draining } }
+        ensures others { (k : ℕ) → k ≢ lane → column_at self.new k ≡ column_at self.old k }
+    {
+        put(&mut self.waiting, lane, words.waiting);
+        put(&mut self.active, lane, words.active);
+        put(&mut self.supplied, lane, words.supplied);
+        put(&mut self.ahead, lane, words.ahead);
+        put(&mut self.idle, lane, words.idle);
+        put(&mut self.draining, lane, words.draining);
+    }
+}

@@ -1,0 +1,115 @@
+//! How often each channel had one verdict, bit by bit.
+
+ghost use Rattle.std.specs.Prelude.{◌≡◌, ◌<◌, ℕ};
+ghost use Rattle.noc_rows.specs.Rows.{word};
+ghost use Rattle.noc_rows.specs.Sheet.{carry_over, sum_of, with_four};
+
+use crate::lanes::{ROUTERS, Row, put};
+
+// How many bits a count has above the lowest two.
+const LEVELS: usize = 20;
+
+/// The counts of one verdict of all channels of a block.
+///
+/// The sets of four cycles are added to the two lowest bits at once. What they carry is pending at the next bit until
+/// the next four cycles, and so on up, so that each bit is added to half as often as the one below it.
+#[derive(Clone, Copy)]
+pub struct Counter {
+    ones: Row,
+    twos: Row,
+    // From the bit that counts four on.
+    bits: [Row; LEVELS],
+    pending: [Row; LEVELS],
+}
+
+impl Counter {
+    /// No counts.
+    pub const NONE: Counter = Counter {
+        ones: [0; ROUTERS],
+        twos: [0; ROUTERS],
+        bits: [[0; ROUTERS]; LEVELS],
+        pending: [[0; ROUTERS]; LEVELS],
+    };
+
+    /// Adds the sets of four cycles, before which the sets of four cycles were added so many times.
+    pub fn add(&mut self, a: &Row, b: &Row, c: &Row, d: &Row, times: u32) {
+        let mut carry = [0u32; ROUTERS];
+        add_four(&mut self.ones, &mut self.twos, a, b, c, d, &mut carry);
+        let mut rest = times;
+        for level in 0..LEVELS {
+            if rest % 2 == 0 {
+                self.pending[level] = carry;
+                break;
+            }
+            add_pending(&mut self.bits[level], &self.pending[level], &mut carry);
+            rest /= 2;
+        }
+    }
+
+    /// How often a channel of a router had the verdict by now, where sets were added so many times.
+    pub fn total(&self, lane: usize, channel: usize, times: u32) -> u64
+        requires lane { lane < 32 }
+        requires channel { channel < 32 }
+    {
+        let mut total = one_if_member(self.ones[lane], channel);
+        total = total.wrapping_add(2 * one_if_member(self.twos[lane], channel));
+        let mut value = 4u64;
+        let mut rest = times;
+        for level in 0..LEVELS {
+            let mut count = one_if_member(self.bits[level][lane], channel);
+            if rest % 2 == 1 {
+                count += one_if_member(self.pending[level][lane], channel);
+            }
+            total = total.wrapping_add(count.wrapping_mul(value));
+            value = value.wrapping_mul(2);
+            rest /= 2;
+        }
+        total
+    }
+}
+
+/// 1 where a channel is a member of a set, and else 0.
+pub fn one_if_member(set: u32, channel: usize) -> u64
+    requires { channel < 32 }
+    ensures { result < 2 }
+{
+    u64::from(set >> channel as u32 & 1)
+}
+
+// The sets of four cycles are added to the two lowest bits. What they carry is of the third.
+#[inline(always)]
+fn add_four(ones: &mut Row, twos: &mut Row, a: &Row, b: &Row, c: &Row, d: &Row, carry: &mut Row)
+    ensures ones { (k : ℕ) → k < 32 → word ones.new k ≡ (with_four (word ones.old k) (word twos.old k) (word a.now k) (word b.now k) (word c.now k) (word d.now k)).ones }
+    ensures twos { (k : ℕ) → k < 32 → word twos.new k ≡ (with_four (word ones.old k) (word twos.old k) (word a.now k) (word b.now k) (word c.now k) (word d.now k)).twos }
+    ensures carry { (k : ℕ) → k < 32 → word carry.new k ≡ (with_four (word ones.old k) (word twos.old k) (word a.now k) (word b.now k) (word c.now k) (word d.now k)).carry }
+{
+    for j in 0..ROUTERS {
+        let one = ones[j];
+        let two = twos[j];
+        let with_a = one ^ a[j];
+        let first = (one & a[j]) | (with_a & b[j]);
+        let with_b = with_a ^ b[j];
+        let with_c = with_b ^ c[j];
+        let second = (with_b & c[j]) | (with_c & d[j]);
+        let with_first = two ^ first;
+        put(ones, j, with_c ^ d[j]);
+        put(twos, j, with_first ^ second);
+        put(carry, j, (two & first) | (with_first & second));
+    }
+}
+
+// What is pending at a bit is added, with the carry of the bit below. The carry of this one goes on.
+#[inline(always)]
+fn add_pending(bits: &mut Row, pending: &Row, carry: &mut Row)
+    ensures bits { (k : ℕ) → k < 32 → word bits.new k ≡ sum_of (word bits.old k) (word pending.now k) (word carry.old k) }
+    ensures carry { (k : ℕ) → k < 32 → word carry.new k ≡ carry_over (word bits.old k) (word pending.now k) (word carry.old k) }
+{
+    for j in 0..ROUTERS {
+        let bit = bits[j];
+        let more = pending[j];
+        let came = carry[j];
+        let with = bit ^ more;
+        put(bits, j, with ^ came);
+        put(carry, j, (bit & more) | (with & came));
+    }
+}

@@ -1,0 +1,73 @@
+//! The credits that have come are counted.
+
+ghost use Rattle.std.specs.Prelude.{◌≡◌, ◌<◌, ◌&&◌, ℕ, not, nat_eq};
+ghost use Rattle.noc_packet.specs.Set.{has_bit};
+ghost use Rattle.noc_rows.specs.Passes.{lane_raised, lane_returned, with_credits};
+ghost use Rattle.noc_rows.specs.Rows.{column_at, column_of, planes_of, returned_at, word};
+
+use crate::block::Block;
+use crate::column::{Lane, Lanes};
+use crate::cycle::{Returned, ReturnedRows};
+use crate::frame::Frame;
+use crate::lanes::{ROUTERS, Row, alone_if, least, put};
+use crate::numbers::Numbers;
+
+/// The credits of an in-box are counted, and the in-box is empty. A draining channel that has all its credits then is
+/// idle. The answer is the lanes in which an owned channel that had no credit has one now.
+pub fn take_credits(
+    frame: &Frame,
+    lanes: &mut Lanes,
+    returned: &mut ReturnedRows,
+    inbox: &mut Row,
+) -> u32
+    ensures lanes { (k : ℕ) → k < 32 → column_at lanes.new k ≡ with_credits (planes_of frame.now.place_bits) (word inbox.old k) (column_at lanes.old k) }
+    ensures returned { (k : ℕ) → k < 32 → returned_at returned.new k ≡ lane_returned frame.now.link_set (word inbox.old k) (column_at lanes.old k) }
+    ensures inbox { (k : ℕ) → k < 32 → word inbox.new k ≡ 0 }
+    ensures rising { (k : ℕ) → k < 32 → has_bit result k ≡ not (nat_eq (lane_raised (word inbox.old k) (column_at lanes.old k)) 0) }
+{
+    let places = frame.place_bits;
+    let links = frame.link_set;
+    let mut rising = 0u32;
+    for j in 0..ROUTERS {
+        let (lane, words) = with_returned(places, links, lanes.at(j), inbox[j]);
+        lanes.put_outputs(j, lane);
+        returned.put(j, words);
+        put(inbox, j, 0);
+        rising |= alone_if(j, words.raised);
+    }
+    rising
+}
+
+// One router with these credits.
+#[inline(always)]
+fn with_returned(places: Numbers, links: u32, lane: Lane, came: u32) -> (Lane, Returned)
+    ensures lane { column_of result.0 ≡ with_credits (planes_of places) came (column_of lane) }
+    ensures returned { result.1 ≡ lane_returned links came (column_of lane) }
+{
+    let had = lane.credit.some();
+    let credit = lane.credit.raised(came);
+    let home = lane.draining & !credit.other_than(places);
+    let words = Returned {
+        credited: came,
+        raised: came & !(had | lane.idle | lane.draining),
+        single: !credit.more_than_one() & links,
+    };
+    let lane = Lane {
+        idle: lane.idle | home,
+        draining: lane.draining ^ home,
+        credit,
+        ..lane
+    };
+    (lane, words)
+}
+
+/// An active channel whose output channel had no credit, and has one now, is supplied.
+pub fn supply_all(block: &mut Block) {
+    let mut rising = block.work.rising;
+    while rising != 0 {
+        let lane = least(rising);
+        let owners = block.marks.owners(lane, block.returned.raised[lane]);
+        block.lanes.supplied[lane] |= owners;
+        rising &= rising - 1;
+    }
+}

@@ -1,0 +1,162 @@
+//! What the routers of a block work out in a cycle, as words of channels.
+
+ghost use Rattle.std.specs.Prelude.{◌≡◌, ◌≢◌, ◌<◌, ℕ};
+ghost use Rattle.noc_rows.specs.Rows.{arrived_at, returned_at, standing_at};
+
+use crate::lanes::{ROUTERS, Row, put};
+
+const NONE: Row = [0; ROUTERS];
+
+/// What the credits that come are to one router.
+#[derive(Clone, Copy)]
+pub struct Returned {
+    /// Output channels that a credit comes to.
+    pub credited: u32,
+    /// Owned output channels that had no credit and have one now.
+    pub raised: u32,
+    /// Output channels of links with no credit but perhaps one.
+    pub single: u32,
+}
+
+/// .. to the routers of a block.
+#[derive(Clone, Copy)]
+pub struct ReturnedRows {
+    pub credited: Row,
+    pub raised: Row,
+    pub single: Row,
+}
+
+impl ReturnedRows {
+    /// Nothing has come.
+    pub const NONE: ReturnedRows = ReturnedRows {
+        credited: NONE,
+        raised: NONE,
+        single: NONE,
+    };
+
+    /// Writes the words of one router.
+    #[inline(always)]
+    pub fn put(&mut self, lane: usize, words: Returned)
+        requires { lane < 32 }
+        ensures here { returned_at self.new lane ≡ words }
+        ensures others { (k : ℕ) → k ≢ lane → returned_at self.new k ≡ returned_at self.old k }
+    {
+        put(&mut self.credited, lane, words.credited);
+        put(&mut self.raised, lane, words.raised);
+        put(&mut self.single, lane, words.single);
+    }
+}
+
+/// What the flits that come are to one router.
+#[derive(Clone, Copy)]
+pub struct Arrived {
+    /// Input channels in which a flit lands, by a link or from the source.
+    pub landed: u32,
+    /// Local channels in which a flit of a packet that has begun is injected.
+    pub injected: u32,
+    /// Local channels in which a packet that is due may begin.
+    pub begins: u32,
+    /// Input channels whose buffer then has a flit.
+    pub filled: u32,
+}
+
+/// .. to the routers of a block.
+#[derive(Clone, Copy)]
+pub struct ArrivedRows {
+    pub landed: Row,
+    pub injected: Row,
+    pub begins: Row,
+    pub filled: Row,
+}
+
+impl ArrivedRows {
+    /// Nothing has come.
+    pub const NONE: ArrivedRows = ArrivedRows {
+        landed: NONE,
+        injected: NONE,
+        begins: NONE,
+        filled: NONE,
+    };
+
+    /// Writes the words of one router.
+    #[inline(always)]
+    pub fn put(&mut self, lane: usize, words: Arrived)
+        requires { lane < 32 }
+        ensures here { arrived_at self.new lane ≡ words }
+        ensures others { (k : ℕ) → k ≢ lane → arrived_at self.new k ≡ arrived_at self.old k }
+    {
+        put(&mut self.landed, lane, words.landed);
+        put(&mut self.injected, lane, words.injected);
+        put(&mut self.begins, lane, words.begins);
+        put(&mut self.filled, lane, words.filled);
+    }
+}
+
+/// Where the input channels of one router stand, before any verdict takes effect.
+#[derive(Clone, Copy)]
+pub struct Standing {
+    /// Idle channels with a flit, which is a head.
+    pub heads: u32,
+    /// Active channels with a flit whose output channel leads out of the network or has a credit.
+    pub ready: u32,
+    /// Of each input port, the ready channel that is first in turn.
+    pub picked: u32,
+}
+
+/// .. of the routers of a block.
+#[derive(Clone, Copy)]
+pub struct StandingRows {
+    pub heads: Row,
+    pub ready: Row,
+    pub picked: Row,
+}
+
+impl StandingRows {
+    /// No channel stands anywhere.
+    pub const NONE: StandingRows = StandingRows {
+        heads: NONE,
+        ready: NONE,
+        picked: NONE,
+    };
+
+    /// Writes the words of one router.
+    #[inline(always)]
+    pub fn put(&mut self, lane: usize, words: Standing)
+        requires { lane < 32 }
+        ensures here { standing_at self.new lane ≡ words }
+        ensures others { (k : ℕ) → k ≢ lane → standing_at self.new k ≡ standing_at self.old k }
+    {
+        put(&mut self.heads, lane, words.heads);
+        put(&mut self.ready, lane, words.ready);
+        put(&mut self.picked, lane, words.picked);
+    }
+}
+
+/// What is decided of the channels of the routers of a block.
+#[derive(Clone, Copy)]
+pub struct DecidedRows {
+    /// Input channels that are granted an output channel.
+    pub granted: Row,
+    /// Input channels that ask for an output channel, and are not granted it.
+    pub lost: Row,
+    /// Input channels of which a flit moves.
+    pub moved: Row,
+    /// Output channels by which a flit moves.
+    pub out: Row,
+    /// Input channels of which a tail moves.
+    pub released: Row,
+    /// Output channels by which a tail moves.
+    pub freed: Row,
+}
+
+impl DecidedRows {
+    /// Nothing is decided.
+    pub const NONE: DecidedRows = DecidedRows {
+        granted: NONE,
+        lost: NONE,
+        moved: NONE,
+        out: NONE,
+        released: NONE,
+        freed: NONE,
+    };
+}

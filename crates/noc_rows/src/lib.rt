@@ -1,0 +1,32 @@
+//! The cycles of a network by rows: one word of channels of each router, for 32 routers at a time.
+//!
+//! What every channel needs in every cycle is done by loops over rows, which the compiler turns into vector
+//! instructions: each such pass has a contract, that the words of a router after it are those that its lane gives
+//! (`specs/Passes.antt`). What few channels need, as a grant or a tail, is done one by one; of these parts it is
+//! proved only that they are safe and end. README.md says what is proved of the whole, and what is not.
+#![tactic(auto)]
+
+mod allocate;
+mod block;
+mod column;
+mod counter;
+mod credits;
+mod cycle;
+mod fields;
+mod flits;
+mod frame;
+mod lanes;
+mod marks;
+mod moves;
+mod numbers;
+mod open;
+mod route;
+mod rows;
+mod settle;
+mod sheet;
+mod stand;
+mod starts;
+mod wires;
+mod word;
+
+pub use rows::Rows;

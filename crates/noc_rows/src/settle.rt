@@ -1,0 +1,84 @@
+//! What a cycle changes in all routers.
+
+ghost use Rattle.std.specs.Prelude.{◌≡◌, ◌+◌, ◌%◌, ◌^◌, ◌<◌, ℕ, nat_eq, if◌then◌else◌};
+ghost use Rattle.noc_rows.specs.Passes.{settled_lane, settled_sets};
+ghost use Rattle.noc_rows.specs.Rows.{column_at, effects_at, event_in, word};
+
+use crate::block::Block;
+use crate::column::{Lane, Lanes};
+use crate::cycle::{ArrivedRows, DecidedRows, ReturnedRows, StandingRows};
+use crate::fields::Fields;
+use crate::frame::Frame;
+use crate::lanes::{ROUTERS, Row, put};
+
+/// Grants, moves and tails take effect.
+pub fn settle(frame: &Frame, standing: &StandingRows, decided: &DecidedRows, lanes: &mut Lanes)
+    ensures { (k : ℕ) → k < 32 → column_at lanes.new k ≡ settled_lane frame.now.fields frame.now.link_set frame.now.local_set (effects_at standing.now decided.now k) (column_at lanes.old k) }
+{
+    settle_sets(frame, standing, decided, lanes);
+    lanes.len.lower(&decided.moved);
+    lanes.credit.lower_among(&decided.out, frame.link_set);
+}
+
+// .. on the sets of channels and the pointers of input ports.
+fn settle_sets(frame: &Frame, standing: &StandingRows, decided: &DecidedRows, lanes: &mut Lanes)
+    ensures { (k : ℕ) → k < 32 → column_at lanes.new k ≡ settled_sets frame.now.fields frame.now.link_set frame.now.local_set (effects_at standing.now decided.now k) (column_at lanes.old k) }
+{
+    let fields = frame.fields;
+    let links = frame.link_set;
+    let local = frame.local_set;
+    for j in 0..ROUTERS {
+        let lane = lanes.at(j);
+        let freed = decided.freed[j];
+        let granted = decided.granted[j];
+        let released = decided.released[j];
+        let settled = Lane {
+            waiting: (lane.waiting & !granted) | standing.heads[j],
+            active: (lane.active | granted) & !released,
+            supplied: lane.supplied & !released,
+            ahead: fields.past(lane.ahead, decided.moved[j]),
+            idle: lane.idle | (freed & local),
+            draining: lane.draining | (freed & links),
+            ..lane
+        };
+        lanes.put_sets(j, settled);
+    }
+}
+
+/// Where something happened in this cycle, the last event was in it: the row has the cycle after it.
+pub fn note_events(
+    cycle: u32,
+    returned: &ReturnedRows,
+    arrived: &ArrivedRows,
+    standing: &StandingRows,
+    decided: &DecidedRows,
+    last_event: &mut Row,
+)
+    ensures { (k : ℕ) → k < 32 → word last_event.new k ≡ (if nat_eq (event_in returned.now arrived.now standing.now decided.now k) 0 then word last_event.old k else (cycle + 1) % 2 ^ 32) }
+{
+    let now = cycle.wrapping_add(1);
+    for j in 0..ROUTERS {
+        let event = arrived.landed[j]
+            | returned.credited[j]
+            | standing.heads[j]
+            | decided.granted[j]
+            | decided.moved[j];
+        let last = if event != 0 { now } else { last_event[j] };
+        put(last_event, j, last);
+    }
+}
+
+/// Whether the block holds anything, whether a flit moved in it, and when its next packet is due.
+pub fn look_ahead(block: &mut Block) {
+    let mut held = 0u32;
+    let mut moved = 0u32;
+    let mut next_due = 0xffff_ffffu32;
+    for j in 0..ROUTERS {
+        moved |= block.decided.moved[j];
+        held |= block.lanes.waiting[j] | block.lanes.active[j] | block.lanes.injecting[j];
+        next_due = next_due.min(block.sources.due[j]);
+    }
+    block.holds = held != 0;
+    block.moves = moved != 0;
+    block.next_due = next_due;
+}
