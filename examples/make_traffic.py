@@ -3,28 +3,30 @@
 
     make_traffic.py CONFIG PATTERN LOAD LENGTH [--seed N] [--cycles N] [--classes C,..] [--spots NODE,..] [--share P]
 
-Each node of the network CONFIG makes, in each cycle of the run, a packet of LENGTH flits with the probability LOAD / LENGTH: so
-LOAD is in flits per node and cycle. Where the packet goes says PATTERN (Dally and Towles, chapter 3); with n nodes and
-b = log2 n, by the bits 0 (the lowest) to b - 1 of the source's number, or by its coordinates:
+Each node of the network CONFIG makes, in each cycle of the run, a packet of LENGTH flits with the probability LOAD /
+LENGTH: so LOAD is in flits per node and cycle. Where the packet goes says PATTERN (Dally and Towles, chapter 3); with
+n nodes and b = log2 n, by the bits 0 (the lowest) to b - 1 of the source's number, or by its coordinates:
 
     uniform         all other nodes alike
     bit-complement  bit i of the destination is the opposite of bit i of the source
     bit-reverse     bit i of the destination is bit b - 1 - i of the source
     bit-rotation    bit i of the destination is bit i + 1 (mod b) of the source
     shuffle         bit i of the destination is bit i - 1 (mod b) of the source
-    transpose       bit i of the destination is bit i + b/2 (mod b) of the source
+    transpose       bit i of the destination is bit i + b/2 (mod b) of the source; on a square from column x and row y to column y
+                    and row x
     tornado         in each dimension of radix k almost half way round: x + ceil(k/2) - 1 (mod k)
     neighbour       in each dimension one up: x + 1 (mod k)
     hot-spot        to one of SPOTS with the probability P, and else uniform
 
-The patterns by bits need a power of two of nodes, and transpose an even b. A node that a pattern sends to itself sends nothing.
-Each packet is of one of the classes C, all alike (class 0 where none are given). Where nothing else is said, packets are due in
-all cycles of the run, the only spot is the node in the middle, and P is 0.2. The same words give the same bytes: all that is
-random is drawn by random.random(), which gives the same numbers for a seed in every version of Python. Python 3.11 or later;
-nothing else is needed.
+The patterns by bits need a power of two of nodes, and transpose an even b where the network is no square. A node that
+a pattern sends to itself sends nothing. Each packet is of one of the classes C, all alike (class 0 where none are
+given). Where nothing else is said, packets are due in all cycles of the run, the only spot is the node in the middle,
+and P is 0.2. The same words give the same bytes: all that is random is drawn by random.random(), which gives the same
+numbers for a seed in every version of Python. Python 3.11 or later; nothing else is needed.
 """
 import argparse
 import sys
+from itertools import islice
 from random import Random
 
 from network import read_network, refuse
@@ -84,9 +86,14 @@ def by_coordinates(network, moved):
 
 
 def transpose(network):
+    """Over the diagonal of a square, and by bits elsewhere, which is the same on a square whose radix is a power
+    of two."""
+    if len(network.radix) == 2 and network.radix[0] == network.radix[1]:
+        return lambda _, source: network.node_at(network.coordinates(source)[::-1])
+    pattern = by_bits(network, lambda i, b, bits: bits[(i + b // 2) % b])
     if network.nodes.bit_length() % 2 == 0:
-        refuse(f"the numbers of {network.nodes} nodes have no even number of bits, which transpose needs")
-    return by_bits(network, lambda i, b, bits: bits[(i + b // 2) % b])
+        refuse(f"transpose needs a square, or nodes with an even number of bits, which {network.nodes} nodes do not have")
+    return pattern
 
 
 PATTERNS = {
@@ -129,9 +136,8 @@ def rows(network, destination, load, length, seed, cycles, classes):
                     yield source, goes_to, message_class, length, due
 
 
-def traffic(network, destination, load, length, seed=1, cycles=None, classes=(0,)):
-    """A traffic file, or an end with the reason where noc would not take it."""
-    cycles = network.cycles if cycles is None else cycles
+def check(network, load, length, cycles, classes):
+    """Ends where there is no such traffic, with the reason."""
     if not 1 <= length <= LONGEST:
         refuse(f"a length is 1 to {LONGEST}")
     if not 0 <= load <= length:
@@ -140,10 +146,31 @@ def traffic(network, destination, load, length, seed=1, cycles=None, classes=(0,
         refuse(f"a class does not exist: the classes are 0 to {network.classes - 1}")
     if LATEST_DUE < cycles - 1:
         refuse(f"noc takes due times up to {LATEST_DUE}: give --cycles")
-    lines = [",".join(map(str, row)) for row in rows(network, destination, load, length, seed, cycles, classes)]
-    if MOST_PACKETS < len(lines):
-        refuse(f"{len(lines)} packets, and noc takes {MOST_PACKETS} at most: lower the load or the number of cycles")
-    return "\n".join([HEADER, *lines, ""])
+
+
+def text_of(packets):
+    return "\n".join([HEADER, *(",".join(map(str, row)) for row in packets), ""])
+
+
+def traffic(network, destination, load, length, seed=1, cycles=None, classes=(0,)):
+    """A traffic file, or an end with the reason where noc would not take it."""
+    cycles = network.cycles if cycles is None else cycles
+    check(network, load, length, cycles, classes)
+    packets = list(rows(network, destination, load, length, seed, cycles, classes))
+    if MOST_PACKETS < len(packets):
+        refuse(f"{len(packets)} packets, and noc takes {MOST_PACKETS} at most: lower the load or the number of cycles")
+    return text_of(packets)
+
+
+def fitting_traffic(network, destination, load, length, seed=1, cycles=None, classes=(0,)):
+    """A traffic file of the first cycles of which noc takes all packets, and how many cycles of the run these are."""
+    cycles = network.cycles if cycles is None else cycles
+    check(network, load, length, cycles, classes)
+    packets = list(islice(rows(network, destination, load, length, seed, cycles, classes), MOST_PACKETS + 1))
+    if len(packets) <= MOST_PACKETS:
+        return text_of(packets), network.cycles
+    too_many = packets[-1][-1]
+    return text_of(packet for packet in packets if packet[-1] < too_many), too_many
 
 
 def numbers(words):

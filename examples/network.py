@@ -2,22 +2,17 @@
 
 Nodes, ports and rules are those of docs/MODEL.md. A channel is named by its port, a full stop and its number, as in 'local.0'.
 """
-import csv
 import math
-import os
 import re
 import subprocess
 import sys
 import tomllib
-from concurrent.futures import ThreadPoolExecutor
 from dataclasses import dataclass
 from functools import cached_property
 from pathlib import Path
 
 NOC = Path(__file__).resolve().parent.parent / "noc"
 DONE, STUCK = 0, 5
-# The verdicts of a channel whose packet has the output channel that stands beside it.
-OWNING = {"Moved", "NoFlit", "NoCredit", "LostInput", "LostSwitch"}
 
 
 def script_name():
@@ -49,6 +44,17 @@ class Network:
     def ports(self):
         links = [sign + str(dimension) for dimension in range(len(self.radix)) for sign in "+-"]
         return [*links, "local"]
+
+    @cached_property
+    def places(self):
+        """Each input channel as a router and the channel's name, in the order of the reports; a port without a link has none."""
+        return [
+            (router, f"{port}.{number}")
+            for router in range(self.nodes)
+            for port in self.ports
+            if port == "local" or self.neighbour(router, port) is not None
+            for number in range(self.channels)
+        ]
 
     def coordinates(self, node):
         places = []
@@ -98,16 +104,34 @@ def split(channel):
     return port, int(number)
 
 
+def settings_of(text):
+    """The keys of a configuration with their values; with the escapes of TOML 1.1, as noc reads it."""
+    return tomllib.loads(re.sub(r"\\x([0-9A-Fa-f]{2})", r"\\u00\1", text))
+
+
+def look_at_keys(settings):
+    """Each key of a configuration must be there, and no other one: else a ValueError says which."""
+    keys = list(Network.__dataclass_fields__)
+    for key in settings:
+        if key not in keys:
+            raise ValueError(f"there is no key '{key}', the keys are {', '.join(keys)}")
+    for key in keys:
+        if key not in settings:
+            raise ValueError(f"the key '{key}' is missing")
+    if type(settings["radix"]) is not list:
+        raise ValueError("the value of 'radix' is not a list")
+
+
 def read_network(path):
-    """Reads a configuration that noc accepts; with a byte order mark, and with the escapes of TOML 1.1, as noc does."""
+    """Reads a configuration that noc accepts; with a byte order mark, as noc does."""
     try:
-        text = Path(path).read_bytes().decode("utf-8-sig")
-        settings = tomllib.loads(re.sub(r"\\x([0-9A-Fa-f]{2})", r"\\u00\1", text))
+        settings = settings_of(Path(path).read_bytes().decode("utf-8-sig"))
+        look_at_keys(settings)
         settings["radix"] = tuple(settings["radix"])
         network = Network(**settings)
     except OSError as error:
         refuse(f"{path}: {error.strerror}")
-    except (ValueError, TypeError, KeyError) as error:
+    except (ValueError, TypeError) as error:
         refuse(f"{path} is no configuration: {error}")
     numbers = [*network.radix, network.channels, network.buffer, network.classes, network.cycles]
     if not all(type(number) is int and 0 < number for number in numbers):
@@ -169,76 +193,15 @@ def adaptive(network, message_class, router, destination):
 RULES = {"dor": dor, "dateline": dateline, "west-first": west_first, "adaptive": adaptive}
 
 
-class Run:
-    """A network with its traffic, as noc runs it."""
-
-    def __init__(self, config, traffic, table=None):
-        self.network = read_network(config)
-        self.files = [str(config), str(traffic)] + (["--table", str(table)] if table else [])
-        self.table = read_table(table) if table else None
-        self.known = {}
-
-    @cached_property
-    def packets(self):
-        """The latency report, a row for each packet."""
-        return list(csv.DictReader(report_of("run", *self.files).splitlines()))
-
-    def packet(self, number):
-        if not 0 <= number < len(self.packets):
-            refuse(f"there is no packet {number}: the traffic has {len(self.packets)}")
-        return Packet(number, self.packets[number])
-
-    def explain(self, cycle, router):
-        """The findings on a router in a cycle: each input channel with its row."""
-        if (cycle, router) not in self.known:
-            text = report_of("explain", *self.files, "--cycle", str(cycle), "--router", str(router))
-            rows = csv.DictReader(text.splitlines())
-            self.known[cycle, router] = {f"{row['port']}.{row['vc']}": row for row in rows}
-        return self.known[cycle, router]
-
-    def explain_all(self, places):
-        """The findings on several pairs of cycle and router, some side by side."""
-        with ThreadPoolExecutor(os.cpu_count()) as pool:
-            return list(pool.map(lambda place: self.explain(*place), places))
-
-    def permitted(self, packet, router, channel):
-        """The output channels that a packet may take that came to a router by an input channel."""
-        if self.table is not None:
-            port, number = split(channel)
-            return self.table.get((packet.message_class, router, port, number, packet.destination), [])
-        if router == packet.destination:
-            found = [("local", number) for number in self.network.block(packet.message_class)]
-        elif self.network.rule in RULES:
-            found = RULES[self.network.rule](self.network, packet.message_class, router, packet.destination)
-        else:
-            refuse(f"the rule '{self.network.rule}' is not known here")
-        return [f"{port}.{number}" for port, number in found]
-
-
 class Packet:
-    """A line of the latency report."""
+    """A row of the traffic, or of the latency report, which also says when the packet was out."""
 
     def __init__(self, number, row):
         self.number = number
         self.source, self.destination = int(row["source"]), int(row["destination"])
         self.message_class, self.length, self.due = int(row["class"]), int(row["length"]), int(row["due"])
-        self.out = None if row["out"] == "-" else int(row["out"])
-
-
-def read_table(path):
-    """The output channels that a routing table permits at each entry, by port and number."""
-    entries = {}
-    with open(path, encoding="utf-8-sig", newline="") as file:
-        for row in csv.DictReader(file):
-            where = (int(row["class"]), int(row["router"]), row["in_port"], int(row["in_vc"]), int(row["dst"]))
-            entries.setdefault(where, set()).add(f"{row['out_port']}.{int(row['out_vc'])}")
-    return {where: sorted(channels, key=order_of) for where, channels in entries.items()}
-
-
-def order_of(channel):
-    """Channels in the order of their index: by port and number."""
-    port, number = split(channel)
-    return (port == "local", port[1:], port[0] == "-", number)
+        out = row.get("out", "-")
+        self.out = None if out == "-" else int(out)
 
 
 def report_of(*words, **given):

@@ -5,19 +5,16 @@
 
 Cycles go to the right. A row stands for each router on the packet's way, its source on top, and shows the input channel that the
 packet came in by, from the cycle in which its head came until its tail has left. A bar is a stretch of cycles with one verdict
-of that channel, coloured by it. Above them is the time in the queue of the source. Bars have their cycles and verdict as a
-tooltip. Python 3.11 or later; nothing else is needed.
+of that channel, coloured by it, with its cycles and verdict as a tooltip. Above them is the time in the queue of the source. At the
+right of each row stand its cycles and the reason for which the packet stood still there longest. CONFIG, TRAFFIC and F are files,
+one of them '-' for standard input. The network is run once. Python 3.11 or later; nothing else is needed.
 """
 import argparse
 import sys
-from bisect import bisect_left
-from dataclasses import dataclass, field
-from itertools import groupby
 
-from network import Run, refuse, split
 from plot_stalls import BLACK, GREY, REASONS, text
+from traces import QUEUE, STALLS, Run, add_files, life_of
 
-QUEUE = "queue"
 # Colours that can be told apart by colour-blind eyes too; what is no stall is grey or green.
 KINDS = {
     QUEUE: ("#ffffff", "it is due, and waits in the queue of its source"),
@@ -32,99 +29,37 @@ KINDS = {
     "lost_switch": ("#f0e442", REASONS["lost_switch"]),
 }
 
-LEFT, TOP, PLOT_WIDTH, RIGHT = 150, 84, 860, 30
+LEFT, TOP, PLOT_WIDTH, RIGHT = 150, 84, 860, 230
 ROW, BAR = 34, 22
 LEGEND_COLUMNS, LEGEND_ROW = 2, 22
 TICKS = 12
 LEAST_EDGED = 4
-# So many cycles are looked at side by side.
-BATCH = 32
-
-
-@dataclass
-class Stay:
-    """A packet in an input channel of a router: its verdict in each cycle from the first one on."""
-
-    router: int
-    channel: str
-    first: int
-    kinds: list = field(default_factory=list)
-    out: str = "-"
-
-    def name(self):
-        return f"node {self.router}, queue" if self.channel == QUEUE else f"router {self.router}, {self.channel}"
-
-    def bars(self):
-        """The stretches of one verdict: its first cycle, the one behind its last, and the verdict."""
-        start = self.first
-        for kind, stretch in groupby(self.kinds):
-            end = start + len(list(stretch))
-            yield start, end, kind
-            start = end
+# Room for a number at the axis, in points.
+TICK_ROOM = 44
 
 
 def snake(verdict):
     """A verdict as the reports call it: no_idle_channel for NoIdleChannel."""
-    return "".join("_" + letter.lower() if letter.isupper() else letter for letter in verdict)[1:]
+    return "".join("_" + letter.lower() if letter.isupper() else letter for letter in verdict).removeprefix("_")
 
 
-def row_of(findings, packet):
-    """The channel that a packet has at a router, with its row, or None."""
-    held = [(channel, row) for channel, row in findings.items() if row["packet"] == str(packet.number)]
-    return held[0] if held else None
+def name_of(stay):
+    return f"node {stay.router}, queue" if stay.channel == QUEUE else f"router {stay.router}, {stay.channel}"
 
 
-def rows_of(run, packet, router, cycles):
-    """The packet's channel at a router in some cycles, one after the other."""
-    for start in range(0, len(cycles), BATCH):
-        for findings in run.explain_all([(cycle, router) for cycle in cycles[start : start + BATCH]]):
-            yield row_of(findings, packet)
-
-
-def stay_at(run, packet, router, first):
-    """The stay of a packet at a router where its head comes in a cycle."""
-    stay = Stay(router, "", first)
-    for found in rows_of(run, packet, router, range(first, run.network.cycles)):
-        if found is None:
-            break
-        stay.channel, row = found
-        stay.kinds.append(snake(row["verdict"]))
-        if row["verdict"] in ("Granted", "Moved"):
-            stay.out = row["out"]
-    return stay
-
-
-def first_inside(run, packet):
-    """The first cycle in which a packet is in a channel of its source; that behind the end where it never is."""
-    end = run.network.cycles
-    # A head is routed and granted a channel there, and each flit moves in a cycle of its own: the packet cannot be missed.
-    looks = [*range(packet.due, end, packet.length + 2), end - 1]
-    found = next((at for at, row in enumerate(rows_of(run, packet, packet.source, looks)) if row), None)
-    if found is None:
-        return end
-    between = range(looks[found - 1] + 1 if found else packet.due, looks[found])
-    return bisect_left(between, True, key=lambda cycle: bool(row_of(run.explain(cycle, packet.source), packet))) + between.start
-
-
-def life(run, packet):
-    """The stays of a packet, its queue first where it waited there."""
-    router, first = packet.source, first_inside(run, packet)
-    stays = [Stay(router, QUEUE, packet.due, [QUEUE] * (first - packet.due))] if packet.due < first else []
-    while router is not None and first < run.network.cycles:
-        stays.append(stay_at(run, packet, router, first))
-        if "moved" not in stays[-1].kinds:
-            break
-        # (what moves in a cycle is in the next buffer in the cycle behind it)
-        first += stays[-1].kinds.index("moved") + 1
-        router = run.network.neighbour(router, split(stays[-1].out)[0])
-    return stays
+def summary(stay):
+    """How long a stay is, and why the packet stood still there longest."""
+    cycles = stay.end - stay.first
+    words = "1 cycle" if cycles == 1 else f"{cycles} cycles"
+    reason, longest = max(((reason, stay.counts()[reason]) for reason in STALLS), key=lambda pair: pair[1])
+    return f"{words}, {snake(reason)} in {longest}" if longest else words
 
 
 # ---- the picture
 
 
 def step_of(span):
-    """The distance of the ticks: 1, 2 or 5 with zeros, at most so many of them."""
+    """The distance of the ticks between the ends: 1, 2 or 5 with zeros, at most so many of them."""
     step = 1
     while span / step > TICKS:
         step = step * 5 // 2 if str(step)[0] == "2" else step * 2
@@ -139,10 +74,16 @@ class Axis:
     def x(self, cycle):
         return round(LEFT + (cycle - self.first) * self.scale, 2)
 
-    def parts(self, bottom):
+    def ticks(self):
+        """Both ends, and between them the multiples of a step that have room beside these."""
         step = step_of(self.last - self.first)
+        between = range(-(-self.first // step) * step, self.last + 1, step)
+        room = TICK_ROOM / self.scale
+        return [self.first, *(cycle for cycle in between if self.first + room <= cycle <= self.last - room), self.last]
+
+    def parts(self, bottom):
         parts = []
-        for cycle in range(-(-self.first // step) * step, self.last + 1, step):
+        for cycle in self.ticks():
             x = self.x(cycle)
             parts.append(f'<line x1="{x:g}" y1="{TOP}" x2="{x:g}" y2="{bottom}" stroke="#dddddd"/>')
             parts.append(text(x, bottom + 18, str(cycle), 12))
@@ -152,26 +93,27 @@ class Axis:
 
 def row_parts(axis, number, stay):
     y = TOP + number * ROW + (ROW - BAR) // 2
-    parts = [f'<g id="stay-{number}">', text(LEFT - 12, y + 16, stay.name(), 13, "end")]
+    parts = [f'<g id="stay-{number}">', text(LEFT - 12, y + 16, name_of(stay), 13, "end")]
     # (white edges would hide bars that are a few points wide)
     edge = ' stroke="#ffffff" stroke-width="0.5"' if LEAST_EDGED < axis.scale else ""
-    for start, end, kind in stay.bars():
+    for start, end, verdict, *_ in stay.bars:
+        kind = snake(verdict)
         x, width = axis.x(start), round(axis.x(end) - axis.x(start), 2)
         cycles = f"cycle {start}" if end == start + 1 else f"cycles {start} to {end - 1}"
         parts.append(
             f'<rect x="{x:g}" y="{y}" width="{width:g}" height="{BAR}" fill="{KINDS[kind][0]}"{edge}>'
             f"<title>{cycles}: {kind}</title></rect>"
         )
-    first, last = axis.x(stay.first), axis.x(stay.first + len(stay.kinds))
+    first, last = axis.x(stay.first), axis.x(stay.end)
     parts.append(
         f'<rect x="{first:g}" y="{y}" width="{last - first:g}" height="{BAR}" fill="none" stroke="#666666" stroke-width="0.7"/>'
     )
-    return [*parts, "</g>"]
+    return [*parts, text(LEFT + PLOT_WIDTH + 12, y + 16, summary(stay), 12, "start", GREY), "</g>"]
 
 
 def legend(y, stays):
     """Each verdict with its colour and meaning, those that the packet never had in grey; in columns, read downwards."""
-    present = {kind for stay in stays for kind in stay.kinds}
+    present = {snake(bar.verdict) for stay in stays for bar in stay.bars}
     rows = -(-len(KINDS) // LEGEND_COLUMNS)
     parts = []
     for number, (kind, (colour, meaning)) in enumerate(KINDS.items()):
@@ -183,8 +125,8 @@ def legend(y, stays):
     return parts, y + rows * LEGEND_ROW
 
 
-def title(packet):
-    end = "not out at the end of the run" if packet.out is None else f"out in cycle {packet.out}"
+def title(packet, out):
+    end = "not out at the end of the run" if out is None else f"out in cycle {out}"
     flits = "one flit" if packet.length == 1 else f"{packet.length} flits"
     return (
         f"The life of packet {packet.number}: node {packet.source} to node {packet.destination}, {flits}, "
@@ -192,8 +134,9 @@ def title(packet):
     )
 
 
-def picture(packet, stays):
-    axis = Axis(packet.due, max(stay.first + len(stay.kinds) for stay in stays))
+def picture(life):
+    stays = life.stays
+    axis = Axis(stays[0].first, max(stay.end for stay in stays))
     bottom = TOP + len(stays) * ROW
     explained, lowest = legend(bottom + 76, stays)
     width, height = LEFT + PLOT_WIDTH + RIGHT, lowest + 8
@@ -201,7 +144,7 @@ def picture(packet, stays):
         f'<svg xmlns="http://www.w3.org/2000/svg" viewBox="0 0 {width} {height}" width="{width}" height="{height}" '
         'font-family="DejaVu Sans, Arial, sans-serif">',
         f'<rect width="{width}" height="{height}" fill="#ffffff"/>',
-        text(20, 32, title(packet), 16, "start", weight="bold"),
+        text(20, 32, title(life.packet, life.out), 16, "start", weight="bold"),
         text(20, 56, "A row is an input channel on its way; a bar is a stretch of cycles with one verdict.", 13, "start", GREY),
         *axis.parts(bottom),
     ]
@@ -212,16 +155,11 @@ def picture(packet, stays):
 
 def main():
     parser = argparse.ArgumentParser(description="Draws the life of a packet as SVG.")
-    parser.add_argument("config", metavar="CONFIG")
-    parser.add_argument("traffic", metavar="TRAFFIC")
-    parser.add_argument("packet", metavar="PACKET", type=int, help="its number: its line in the latency report")
-    parser.add_argument("--table", metavar="F", help="the routing table, where the rule is 'table'")
+    add_files(parser)
+    parser.add_argument("packet", metavar="PACKET", type=int, help="its number: its row in the traffic")
     options = parser.parse_args()
     run = Run(options.config, options.traffic, options.table)
-    packet = run.packet(options.packet)
-    if run.network.cycles <= packet.due:
-        refuse(f"packet {packet.number} is due in cycle {packet.due}, behind the end of the run")
-    sys.stdout.write(picture(packet, life(run, packet)))
+    sys.stdout.write(picture(life_of(run, run.due_packet(options.packet))))
 
 
 if __name__ == "__main__":

@@ -1,21 +1,32 @@
 #!/usr/bin/env python3
-"""Follows the waiting of a packet to its root: why does it stand still in a cycle?
+"""Tells why a packet takes as long as it does, and follows its waiting to its root.
 
-    why.py CONFIG TRAFFIC PACKET CYCLE [--table F]
+    why.py CONFIG TRAFFIC PACKET [CYCLE] [--table F]
 
-Each line is a step: a packet, the router and the input channel where it stands, the verdict of that channel in CYCLE (as
-'noc explain' gives it), and what it waits for. The next line says where that stands. The last step is a packet that moves, or
-one that comes back to a step before: then these packets wait for one another. Where a packet may go by several channels, the
-steps follow the one that leads to a packet that moves in the fewest steps. CONFIG, TRAFFIC and F are files that can be read
-again and again, so no pipes. All is read from reports, but for the channels that a route permits: those come from this folder's
-own copy of the routing rules, in network.py. Python 3.11 or later; nothing else is needed.
+Without CYCLE it tells the whole life of the packet: a line for each place on its way, with the cycles that it had each verdict
+there ('noc explain' gives these); then each cycle from the due one on counted once, by the verdict of the foremost of its flits that
+are not out; then, for the longest waits of that flit, which packets held what it waited for, and in how many cycles.
+
+With CYCLE each line is a step: a packet, the router and the input channel where it stands, the verdict of that channel in CYCLE,
+and what it waits for. The next line says where that stands. The last step is a packet that moves, or one that comes back to a
+step before: then these packets wait for one another. Where a packet may go by several channels, the steps follow the one that
+leads to a packet that moves in the fewest steps.
+
+CONFIG, TRAFFIC and F are files, one of them '-' for standard input. The network is run once, by 'noc trace'; and once more for
+a packet that is not in it in CYCLE, to see whether it is out, or, side by side, for each router at which a long wait was. Python
+3.11 or later; nothing else is needed.
 """
 import argparse
+from collections import Counter
+from concurrent.futures import ThreadPoolExecutor
+from contextlib import closing
 from dataclasses import dataclass
 
-from network import OWNING, Run, opposite, refuse, split
+from network import opposite, refuse, split
+from traces import EMPTY, OWNING, QUEUE, STALLS, Run, add_files, life_of, write
 
-QUEUE = "queue"
+# So many of the longest waits are told of, and so many of the packets that held what was waited for.
+WAITS, HOLDERS = 3, 3
 
 
 @dataclass(frozen=True)
@@ -47,63 +58,61 @@ class Step:
 
 
 class Moment:
-    """A run in one cycle."""
+    """A run in one cycle: what each input channel says that holds a packet, and which packets each router has one cycle later."""
 
     def __init__(self, run, cycle):
         self.run, self.cycle = run, cycle
+        self.found, self.following = {}, set()
+        for finding in run.trace(first=cycle, last=min(cycle + 1, run.network.cycles - 1)):
+            if finding.cycle == cycle:
+                self.found.setdefault(finding.router, {})[finding.channel] = finding
+            else:
+                self.following.add((finding.packet, finding.router))
 
     def findings(self, router):
-        return self.run.explain(self.cycle, router)
+        """The channels of a router that hold a packet, in the order of the reports."""
+        return self.found.get(router, {})
 
     def place_of(self, router, channel):
         """The packet in an input channel, or None."""
-        packet = self.findings(router)[channel]["packet"]
-        return None if packet == "-" else Place(int(packet), router, channel)
+        finding = self.findings(router).get(channel)
+        return finding and Place(finding.packet, router, channel)
 
     def those(self, router, verdicts, holds):
         """The first packet at a router with one of these verdicts of which a word on its channel and its output holds."""
-        for channel, row in self.findings(router).items():
-            if row["verdict"] in verdicts and holds(channel, row["out"]):
+        for channel, finding in self.findings(router).items():
+            if finding.verdict in verdicts and holds(channel, finding.out):
                 return self.place_of(router, channel)
         return None
 
     def head(self, packet):
         """Where the head of a packet stands, or the last of its channels where the head is out; None outside the network."""
-        network = self.run.network
-        distance = network.distance(packet.source, packet.destination)
-        way = [
-            router for router in range(network.nodes)
-            if network.distance(packet.source, router) + network.distance(router, packet.destination) == distance
+        places = [
+            Place(packet.number, router, channel)
+            for router, channels in self.found.items()
+            for channel, finding in channels.items()
+            if finding.packet == packet.number
         ]
-        way.sort(key=lambda router: network.distance(router, packet.destination))
-        self.run.explain_all([(self.cycle, router) for router in way])
-        for router in way:
-            for channel, row in self.findings(router).items():
-                if row["packet"] == str(packet.number):
-                    return Place(packet.number, router, channel)
-        return None
+        return min(places, key=lambda place: self.run.network.distance(place.router, packet.destination), default=None)
 
     def step(self, place):
         if place.channel == QUEUE:
             return self.queue_step(place)
-        row = self.findings(place.router)[place.channel]
-        words, waits_for = STEPS[row["verdict"]](self, place, row["out"])
-        return Step(place, row["verdict"], f". {words}", waits_for)
+        finding = self.findings(place.router)[place.channel]
+        words, waits_for = STEPS[finding.verdict](self, place, finding.out)
+        return Step(place, finding.verdict, f". {words}", waits_for)
 
     def queue_step(self, place):
         """A packet that is due and whose head is still at its source."""
-        last_cycle = self.run.network.cycles - 1
-        if self.cycle < last_cycle:
-            following = self.run.explain(self.cycle + 1, place.router)
-            if any(row["packet"] == str(place.packet) for row in following.values()):
-                return Step(place, "", "it comes in in the next cycle", [])
-        local = [channel for channel in self.findings(place.router) if channel.startswith("local")]
+        if (place.packet, place.router) in self.following:
+            return Step(place, "", "it comes in in the next cycle", [])
+        local = [f"local.{number}" for number in range(self.run.network.channels)]
         inside = [found for channel in local if (found := self.place_of(place.router, channel))]
         if len(inside) == len(local):
             said = f"it needs a channel of the port local, and {owners(zip(inside, local))}"
             return Step(place, "", said, inside)
         # (a node brings in one packet at a time, by due time and then by number)
-        first = max(inside, key=lambda found: (self.run.packet(found.packet).due, found.packet))
+        first = max(inside, key=lambda found: self.run.turn(found.packet))
         return Step(place, "", f"packet {first.packet} comes in first", [first])
 
 
@@ -138,7 +147,7 @@ def no_flit(moment, place, out):
 def no_idle_channel(moment, place, out):
     """Each channel that it may take has a packet, or drains: then its last packet is in the buffer at its end."""
     network = moment.run.network
-    needed = moment.run.permitted(moment.run.packet(place.packet), place.router, place.channel)
+    needed = moment.findings(place.router)[place.channel].permitted
     said, waits_for = [], []
     for channel in needed:
         owner = moment.those(place.router, OWNING, lambda _, other: other == channel)
@@ -236,9 +245,12 @@ def start_of(moment, packet):
     """Where a packet begins to be followed, or None and why there is nothing to follow."""
     if moment.cycle < packet.due:
         return None, f"Packet {packet.number} is due in cycle {packet.due}."
-    if packet.out is not None and packet.out < moment.cycle:
-        return None, f"Packet {packet.number} was out in cycle {packet.out}."
-    return moment.head(packet) or Place(packet.number, packet.source, QUEUE), None
+    head = moment.head(packet)
+    if head is None and (packet.number, packet.source) not in moment.following:
+        out = life_of(moment.run, packet, moment.cycle).out
+        if out is not None:
+            return None, f"Packet {packet.number} was out in cycle {out}."
+    return head or Place(packet.number, packet.source, QUEUE), None
 
 
 def lines(moment, packet):
@@ -257,18 +269,167 @@ def lines(moment, packet):
     return [*(step.line() for step in steps), f"So these packets wait for one another: {', '.join(names)}."]
 
 
+# ---- a whole life
+
+
+def place_name(stay):
+    return f"queue of node {stay.router}" if stay.channel == QUEUE else f"router {stay.router}, {stay.channel}"
+
+
+def listed(counts):
+    """Counts in words, the greatest first, and of equals the first one found."""
+    return ", ".join(f"{name} {count}" for name, count in counts.most_common())
+
+
+def cycles_in_words(number):
+    return "1 cycle" if number == 1 else f"{number} cycles"
+
+
+def stretch(first, last):
+    return f"cycle {first}" if first == last else f"cycles {first} to {last}"
+
+
+def title(run, life):
+    packet = life.packet
+    flits = "one flit" if packet.length == 1 else f"{packet.length} flits"
+    end = f"out in cycle {life.out}" if life.out is not None else f"not out in cycle {run.network.cycles - 1}, the last"
+    return f"packet {packet.number}, node {packet.source} to node {packet.destination}, {flits}: due in cycle {packet.due}, {end}."
+
+
+@dataclass
+class Wait:
+    """The cycles in which the foremost flit of a packet had one verdict at one place."""
+
+    router: int
+    channel: str
+    verdict: str
+    cycles: list
+
+    def line(self, held):
+        """The wait, and how many cycles each packet held what it waited for."""
+        first, last = self.cycles[0], self.cycles[-1]
+        span = f"({first})" if first == last else f"({first} to {last})"
+        what = f"of {self.verdict} at router {self.router}, {self.channel}"
+        if self.channel == QUEUE:
+            what = f"in the queue of node {self.router}"
+        said = [f"packet {packet} {words} in {count}" for (packet, words), count in held.most_common(HOLDERS)]
+        if len(said) < len(held):
+            said.append(f"{len(held) - len(said)} more")
+        return f"{cycles_in_words(len(self.cycles))} {what} {span}: {', '.join(said)}."
+
+
+def longest_waits(life):
+    cycles = {}
+    for cycle, (stay, bar) in enumerate(life.foremost(), life.stays[0].first):
+        if bar.verdict in (QUEUE, *STALLS):
+            cycles.setdefault((stay.router, stay.channel, bar.verdict), []).append(cycle)
+    waits = [Wait(*key, found) for key, found in cycles.items()]
+    return sorted(waits, key=lambda wait: len(wait.cycles), reverse=True)[:WAITS]
+
+
+class RouterThen:
+    """A router in one of the cycles of a run: what its channels say, and the last one that said it had an output channel."""
+
+    def __init__(self, run):
+        self.run, self.found, self.had = run, {}, {}
+
+    def take(self, finding):
+        self.found[finding.channel] = finding
+        if finding.verdict in OWNING:
+            self.had[finding.out] = finding
+
+    def those(self, verdicts, holds):
+        return [finding for finding in self.found.values() if finding.verdict in verdicts and holds(finding)]
+
+    def holders(self, wait):
+        """The packets that hold what is waited for in this cycle, each with what it does."""
+        if wait.channel == QUEUE:
+            return self.in_the_way()
+        own = self.found[wait.channel]
+        if wait.verdict == "NoIdleChannel":
+            return [self.holder_of(channel) for channel in own.permitted]
+        if wait.verdict == "LostChannel":
+            words, found = f"got {own.out}", self.those({"Granted"}, lambda other: other.out == own.out)
+        elif wait.verdict == "LostInput":
+            port, _ = split(own.channel)
+            words, found = f"was picked at {port}", self.those({"Moved", "LostSwitch"}, lambda other: split(other.channel)[0] == port)
+        else:
+            port, _ = split(own.out)
+            words, found = f"won the port {port}", self.those({"Moved"}, lambda other: split(other.out)[0] == port)
+        return [(finding.packet, words) for finding in found]
+
+    def holder_of(self, channel):
+        """Who has an output channel that is not idle, or had it where it drains."""
+        last = self.had[channel]
+        now = self.found[last.channel]
+        has_it = now.verdict in OWNING and (now.packet, now.out) == (last.packet, channel)
+        return last.packet, f"had {channel}" if has_it else f"drained from {channel}"
+
+    def in_the_way(self):
+        """Who has the channels of the port local, or is the last one that came in by one where some are left."""
+        inside = [finding for finding in self.found.values() if finding.channel.startswith("local") and finding.verdict != EMPTY]
+        if len(inside) == self.run.network.channels:
+            return [(finding.packet, f"had {finding.channel}") for finding in inside]
+        return [(max((finding.packet for finding in inside), key=self.run.turn), "came in first")]
+
+
+def router_in(run, router, cycles):
+    """A router in each of these cycles, which rise."""
+    then = RouterThen(run)
+    with closing(run.trace(router=router, last=cycles[-1], changes=True)) as findings:
+        following = next(findings, None)
+        for cycle in cycles:
+            while following is not None and following.cycle <= cycle:
+                then.take(following)
+                following = next(findings, None)
+            yield cycle, then
+
+
+def holders_at(run, router, waits):
+    """For each wait at a router which packets held what was waited for, with what they did, and in how many of its cycles."""
+    counts = [Counter() for _ in waits]
+    wanted = {cycle: (wait, count) for wait, count in zip(waits, counts) for cycle in wait.cycles}
+    for cycle, then in router_in(run, router, sorted(wanted)):
+        wait, count = wanted[cycle]
+        count.update(then.holders(wait))
+    return list(zip(waits, counts))
+
+
+def waits_in_words(run, life):
+    waits = longest_waits(life)
+    by_router = {wait.router: [other for other in waits if other.router == wait.router] for wait in waits}
+    with ThreadPoolExecutor() as pool:
+        held = [pair for pairs in pool.map(lambda item: holders_at(run, *item), by_router.items()) for pair in pairs]
+    return [wait.line(count) for wait, count in sorted(held, key=lambda pair: waits.index(pair[0]))]
+
+
+def life_lines(run, packet):
+    """The life in words, a line as soon as it is known."""
+    life = life_of(run, packet)
+    yield title(run, life)
+    for stay in life.stays:
+        counts = "" if stay.channel == QUEUE else f": {listed(stay.counts())}"
+        yield f"{place_name(stay)}, {stretch(stay.first, stay.end - 1)}{counts}."
+    foremost = Counter(bar.verdict for _, bar in life.foremost())
+    yield f"Its foremost flit, in {cycles_in_words(foremost.total())}: {listed(foremost)}."
+    yield from waits_in_words(run, life)
+
+
 def main():
-    parser = argparse.ArgumentParser(description="Follows the waiting of a packet to its root.")
-    parser.add_argument("config", metavar="CONFIG")
-    parser.add_argument("traffic", metavar="TRAFFIC")
-    parser.add_argument("packet", metavar="PACKET", type=int, help="its number: its line in the latency report")
-    parser.add_argument("cycle", metavar="CYCLE", type=int)
-    parser.add_argument("--table", metavar="F", help="the routing table, where the rule is 'table'")
+    parser = argparse.ArgumentParser(description="Tells why a packet takes as long as it does, and follows its waiting to its root.")
+    add_files(parser)
+    parser.add_argument("packet", metavar="PACKET", type=int, help="its number: its row in the traffic")
+    parser.add_argument("cycle", metavar="CYCLE", type=int, nargs="?", help="the cycle; the whole life where it is not given")
     options = parser.parse_args()
     run = Run(options.config, options.traffic, options.table)
-    if not 0 <= options.cycle < run.network.cycles:
-        refuse(f"the run has the cycles 0 to {run.network.cycles - 1}")
-    print(*lines(Moment(run, options.cycle), run.packet(options.packet)), sep="\n")
+    if options.cycle is None:
+        said = life_lines(run, run.due_packet(options.packet))
+    else:
+        packet = run.packet(options.packet)
+        if not 0 <= options.cycle < run.network.cycles:
+            refuse(f"the run has the cycles 0 to {run.network.cycles - 1}")
+        said = lines(Moment(run, options.cycle), packet)
+    write(f"{line}\n" for line in said)
 
 
 if __name__ == "__main__":
