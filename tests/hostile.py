@@ -98,9 +98,9 @@ def made_files(random):
 
 def made_words(random, files):
     """Words of a command on these files; none for a joined text."""
-    command = random.choice(["", "run", "run", "explain", "check", "ranks"])
+    command = random.choice(["", "run", "run", "explain", "trace", "check", "ranks"])
     words = [command, "config"] if command else []
-    if command in ("run", "explain"):
+    if command in ("run", "explain", "trace"):
         words.append("traffic")
     if command and "table" in files:
         words += ["--table", "table"]
@@ -110,6 +110,10 @@ def made_words(random, files):
         words += ["--workers", str(random.randrange(1, 4)), "--report", random.choice(["summary", "latency", "stalls"])]
     if command == "explain":
         words += ["--cycle", str(random.randrange(70)), "--router", str(random.randrange(6))]
+    if command == "trace":
+        for name, below in (("--from", 20), ("--to", 90), ("--router", 6), ("--packet", 6)):
+            words += [name, str(random.randrange(below))] if random.randrange(3) == 0 else []
+        words += ["--changes"] if random.randrange(2) else []
     if command and random.randrange(40) == 0:
         words.append("--wrong")
     return words

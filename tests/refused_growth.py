@@ -31,6 +31,12 @@ def ring_ranks(size):
     return "\n".join(lines) + "\n"
 
 
+def adaptive_ranks(size):
+    """The same for a ring with a third channel on each link, which is adaptive."""
+    lines = ring_ranks(size).splitlines()
+    return "\n".join(lines + [f"{router},{port},2,adaptive" for router in range(size) for port in ("+0", "-0")]) + "\n"
+
+
 def report(*rows):
     """Rows of packets, each out as many cycles after its due time 0 as stands last."""
     return REPORT_HEADER + "".join(f"{number},{packet},{out},{out}\n" for number, (packet, out) in enumerate(rows))
@@ -40,6 +46,7 @@ FILES = {
     "pair": config("mesh", 2, 1, 2, "dor", 8), "one": TRAFFIC_HEADER + "0,1,0,1,0\n",
     "ring": config("torus", 4, 2, 1, "dateline", 60), "round": TRAFFIC_HEADER + "0,2,0,4,0\n1,3,0,4,0\n2,0,0,4,0\n3,1,0,4,0\n",
     "ring_ranks": ring_ranks(4),
+    "adaptive": config("torus", 4, 3, 1, "adaptive", 20), "adaptive_ranks": adaptive_ranks(4),
     "tabled": config("mesh", 2, 2, 2, "table", 8),
     "rows": TABLE_HEADER + "0,0,local,0,1,+0,0\n0,0,local,1,1,+0,0\n0,1,local,0,0,-0,0\n0,1,local,1,0,-0,0\n0,1,-0,0,1,local,0\n0,0,+0,0,0,local,0\n",
     "line": config("mesh", 3, 1, 2, "dor", 20), "two": TRAFFIC_HEADER + "0,2,0,1,0\n1,2,0,1,0\n",
@@ -51,6 +58,7 @@ LINE_REPORT = report(("0,2,0,1,0", 10), ("1,2,0,1,0", 5))
 ANSWERED = [
     ([], FILES["pair"] + "---\n" + FILES["one"], PAIR_REPORT, "joined config relation traffic network"),
     (["check", "ring", "--ranks", "ring_ranks"], "", "accepted\n", "config relation ranks rank"),
+    (["check", "adaptive", "--ranks", "adaptive_ranks"], "", "accepted\n", "config relation ranks rank"),
     (["run", "ring", "round", "--ranks", "ring_ranks"], "", RING_REPORT, "config relation ranks rank traffic network"),
     (["run", "tabled", "one", "--table", "rows"], "", PAIR_REPORT, "config table relation traffic network"),
     (["ranks", "line"], "", "router,port,vc,rank\n0,+0,0,1\n1,+0,0,2\n1,-0,0,2\n2,-0,0,1\n", "config relation rank"),

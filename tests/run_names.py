@@ -5,7 +5,7 @@
 
 Each link of a page to a file of the repository must lead to one, and each path 'crates/..', 'docs/..', 'tests/..', 'bench/..'
 or 'examples/..' in the text must be there. In a table with a column 'Contracts that carry it' each function that it names must
-be public in the crate of that row. In a table with the columns 'Definitions' and 'File' each definition must stand in a file of its
+be handed out by the crate of that row. In a table with the columns 'Definitions' and 'File' each definition must stand in a file of its
 row, and in a page with such a table each file of specs/ must be in it or in a table with the columns 'Crate' and 'Files'. Each name that leads nowhere is shown, and the last line is 'N passed, M failed'. The exit
 status is 0 where there are names and all are there, else 1.
 """
@@ -29,9 +29,21 @@ def links(page):
         yield f"path {path}", any(TOP.glob(path.rstrip("/")))
 
 
+def handed_out(crate):
+    """The names that a library gives to other crates: those of the `pub use` items of its root. A program gives none, and shows all."""
+    root = TOP / "crates" / crate / "src" / "lib.rt"
+    if not root.exists():
+        return None
+    lists = re.findall(r"^pub use [\w:]+?::(?:\{([^}]*)\}|(\w+));", root.read_text(), re.MULTILINE)
+    return {name for several, one in lists for name in re.findall(r"\w+", several or one)}
+
+
 def has_public(crate, name):
-    """Whether a crate has a public function or type of this name; a method is named as Type::method."""
+    """Whether a crate hands out a function or type of this name; a method is named as Type::method."""
     owner, _, last = name.rpartition("::")
+    names = handed_out(crate)
+    if names is not None and (owner or last) not in names:
+        return False
     texts = [source.read_text() for source in (TOP / "crates" / crate / "src").rglob("*.rt")]
     if owner:
         block = re.compile(rf"^impl(?:<[^>]*>)? {owner}\b.*?^}}", re.MULTILINE | re.DOTALL)

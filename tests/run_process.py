@@ -52,11 +52,21 @@ STALLS = b"""router,port,vc,empty,routed,granted,moved,no_flit,no_idle_channel,l
 2,-0,0,14,2,2,2,0,0,0,0,0,0
 2,local,0,20,0,0,0,0,0,0,0,0,0
 """
+# The trace of the one flit from node 0 to node 1.
+TRACE = b"""cycle,router,port,vc,verdict,packet,out,permitted
+0,0,local,0,Routed,0,-,-
+1,0,local,0,Granted,0,+0.0,+0.0
+2,0,local,0,Moved,0,+0.0,-
+3,1,-0,0,Routed,0,-,-
+4,1,-0,0,Granted,0,local.0,local.0
+5,1,-0,0,Moved,0,local.0,-
+"""
 # Each command with the files that it takes, in the order in which their faults are looked for, and its answer.
 COMMANDS = {
     "run": (["run", "config", "traffic", "--table", "table", "--ranks", "ranks"], ["config", "table", "ranks", "traffic"], REPORT),
     "explain": (["explain", "config", "traffic", "--cycle", "7", "--router", "0", "--table", "table"], ["config", "table", "traffic"],
                 EMPTY_CHANNELS),
+    "trace": (["trace", "config", "traffic", "--table", "table"], ["config", "table", "traffic"], TRACE),
     "check": (["check", "config", "--ranks", "ranks", "--table", "table"], ["config", "table", "ranks"], b"accepted\n"),
     "ranks": (["ranks", "config", "--table", "table"], ["config", "table"], b"fault rank 1 NoGenerated\n"),
 }
@@ -71,7 +81,10 @@ NO_WORDS_OF_NOC = [
     ["explain", "plain", "traffic", "--cycle", "1"], ["explain", "plain", "traffic", "--router", "1"],
     ["explain", "plain", "traffic", "--cycle", "18446744073709551616", "--router", "0"],
     ["explain", "plain", "traffic", "--cycle", "1.0", "--router", "0"], ["explain", "plain", "traffic", "--cycle", " 1", "--router", "0"],
-    ["explain", "plain", "traffic", "--cycle", "1", "--router", "0", "--ranks", "ranks"], ["check", "plain"], ["check", "--ranks", "ranks"],
+    ["explain", "plain", "traffic", "--cycle", "1", "--router", "0", "--ranks", "ranks"], ["trace", "plain"],
+    ["trace", "plain", "traffic", "--ranks", "ranks"], ["trace", "plain", "traffic", "--from", "1.0"], ["trace", "plain", "traffic", "--to"],
+    ["trace", "plain", "traffic", "--router", "-1"], ["trace", "plain", "traffic", "--packet", "18446744073709551616"],
+    ["trace", "plain", "traffic", "--changes", "1"], ["trace", "plain", "traffic", "--changes=1"], ["check", "plain"], ["check", "--ranks", "ranks"],
     ["check", "plain", "traffic", "--ranks", "ranks"], ["ranks"], ["ranks", "plain", "traffic"], ["ranks", "plain", "--ranks", "ranks"],
     ["--workers", "1"], ["--help"], ["help"], ["run", "--help"], ["plain"], [""], ["run", b"\xff", "traffic"], [b"\xff"],
 ]
@@ -238,17 +251,17 @@ def pipe_that_closes_early(calls):
 def reports_cut_off(calls):
     """A file that takes so many bytes and no more: they are the report's first, and the fault counts them."""
     calls.put(three=PLAIN.replace(b"[2]", b"[3]").replace(b" 8", b" 20"), both=TRAFFIC_HEADER + b"0,2,0,1,0\n1,2,0,1,0\n")
-    words = ["run", "three", "both", "--report", "stalls"]
-    calls.answers("the whole report", words, STALLS)
-    for size in range(len(STALLS)):
-        with open(calls.folder / "taken", "w+b") as taken:
-            # Python leaves the signal of a file that is too long ignored, and so does the call
-            ran = calls.run(words, stdout=taken, restore_signals=False,
-                            preexec_fn=lambda: resource.setrlimit(resource.RLIMIT_FSIZE, (size, size)))
-            taken.seek(0)
-            ended = (ran.returncode, taken.read(), ran.stderr)
-        wanted = (7, STALLS[:size], f"fault write 1 WriteFailed written {size}\n".encode())
-        calls.count(f"a report cut off after {size} bytes", ended == wanted, ran)
+    for words, report in ((["run", "three", "both", "--report", "stalls"], STALLS), COMMANDS["trace"][::2]):
+        calls.answers("the whole report", words, report)
+        for size in range(len(report)):
+            with open(calls.folder / "taken", "w+b") as taken:
+                # Python leaves the signal of a file that is too long ignored, and so does the call
+                ran = calls.run(words, stdout=taken, restore_signals=False,
+                                preexec_fn=lambda: resource.setrlimit(resource.RLIMIT_FSIZE, (size, size)))
+                taken.seek(0)
+                ended = (ran.returncode, taken.read(), ran.stderr)
+            wanted = (7, report[:size], f"fault write 1 WriteFailed written {size}\n".encode())
+            calls.count(f"a report cut off after {size} bytes", ended == wanted, ran)
 
 
 def fault_lines_in_one_write(calls):

@@ -4,15 +4,19 @@
     run_scripts.py PROGRAM
 
 What is expected was worked out by hand from docs/MODEL.md or the definitions of the patterns; on made networks the steps of
-why.py and the lives of timeline.py are held against the reports of PROGRAM. Each check that fails is shown, and the last line is 'N passed, M failed'. The
-exit status is 0 where all passed, else 1.
+why.py, the lives of timeline.py, and what replay.py and waves.py write are held against the reports of PROGRAM. The page of
+replay.py is opened in headless Chromium where there is one; a line says where there is none. Each check that fails is shown, and
+the last line is 'N passed, M failed'. The exit status is 0 where all passed, else 1.
 """
+import csv
+import json
 import re
 import shutil
 import subprocess
 import sys
 import tempfile
 import xml.etree.ElementTree as ElementTree
+from html.parser import HTMLParser
 from pathlib import Path
 from random import Random
 
@@ -50,8 +54,13 @@ class Folder:
         command = [sys.executable, f"examples/{script}.py", *map(str, words)]
         return subprocess.run(command, cwd=self.path, capture_output=True, text=True, timeout=60, input=given)
 
-    def why(self, packet, cycle):
-        return self.run("why", "c", "t", packet, cycle).stdout
+    def why(self, packet, *cycle):
+        return self.run("why", "c", "t", packet, *cycle).stdout
+
+    def report(self, *words):
+        """The rows of a report of the program."""
+        ran = subprocess.run([self.path / "noc", *map(str, words)], cwd=self.path, capture_output=True, text=True, timeout=60)
+        return list(csv.DictReader(ran.stdout.splitlines()))
 
     def made(self, pattern, *words):
         """The packets of a pattern."""
@@ -81,6 +90,17 @@ def why_tells_of_the_queue(folder):
         "So packet 2 waits for packet 0, which goes on.\n",
         "packet 2, the queue of node 0: it comes in in the next cycle.\n",
     ]
+
+
+def why_tells_who_comes_in_first(folder):
+    """Packet 1 is due before packet 0. Its four flits come in in cycles 0, 1, 3 and 4, since the buffer has two places, and it leaves
+    local.0 in 7. Packet 0 comes in from cycle 5 on by local.1. One channel is left, but packet 2 has to wait for its tail."""
+    folder.put(c=LINE.replace("channels = 1", "channels = 3"), t=HEADER + "0,2,0,4,1\n0,2,0,4,0\n0,2,0,1,2\n")
+    return folder.why(2, 6) == (
+        "packet 2, the queue of node 0: packet 0 comes in first.\n"
+        "packet 0, router 0, local.1: Granted. It gets +0.1 in this cycle.\n"
+        "So packet 2 waits for packet 0, which goes on.\n"
+    )
 
 
 def why_tells_what_is_no_wait(folder):
@@ -117,31 +137,61 @@ def made_networks(count):
 
 
 READ = """
+import csv
 import sys
+from collections import Counter
 sys.path.insert(0, "examples")
-import network, timeline, why
+import network, traces, why
 
-run = network.Run("c", "t")
+run = traces.Run("c", "t")
 """
 STEPS = """
+def of_the_rule(finding):
+    packet = run.packet(finding.packet)
+    if finding.router == packet.destination:
+        return {f"local.{number}" for number in run.network.block(packet.message_class)}
+    found = network.RULES[run.network.rule](run.network, packet.message_class, finding.router, packet.destination)
+    return {f"{port}.{number}" for port, number in found}
+
+for finding in run.trace():
+    if finding.out != "-":
+        assert finding.out in of_the_rule(finding), finding
+    if finding.verdict in ("NoIdleChannel", "LostChannel", "Granted"):
+        assert set(finding.permitted) == of_the_rule(finding), finding
 for cycle in (7, 19, 33):
     moment = why.Moment(run, cycle)
-    for router in range(run.network.nodes):
-        for channel, row in moment.findings(router).items():
-            if row["out"] != "-":
-                assert row["out"] in run.permitted(run.packet(int(row["packet"])), router, channel), (cycle, router, channel)
-    for number in range(len(run.packets)):
+    for number in range(len(run.rows)):
         assert why.lines(moment, run.packet(number))
 """
 LIVES = """
-for number in range(len(run.packets)):
-    packet = run.packet(number)
-    stays = [stay for stay in timeline.life(run, packet) if stay.channel != timeline.QUEUE]
+outs = [row["out"] for row in csv.DictReader(network.report_of("run", "c", "t").splitlines())]
+for number, out in enumerate(outs):
+    life = traces.life_of(run, run.packet(number))
+    packet = life.packet
+    stays = [stay for stay in life.stays if stay.channel != traces.QUEUE]
     assert all(run.network.distance(one.router, other.router) == 1 for one, other in zip(stays, stays[1:])), number
-    if packet.out is not None:
+    assert out == ("-" if life.out is None else str(life.out)), number
+    if life.out is not None:
         assert (stays[0].router, stays[-1].router) == (packet.source, packet.destination), number
-        assert stays[-1].first + len(stays[-1].kinds) - 1 == packet.out, number
-        assert all(stay.kinds.count("moved") == packet.length for stay in stays), number
+        assert stays[-1].end - 1 == life.out, number
+        assert all(stay.counts()["Moved"] == packet.length for stay in stays), number
+"""
+# Each cycle of a life counts once. In a cycle of a wait one packet wins what is lost, each channel of the set has a holder, and of the
+# channels of the port local each has one, or some are left and one packet comes in.
+HOLDERS = """
+for number in range(len(run.rows)):
+    life = traces.life_of(run, run.packet(number))
+    foremost = life.foremost()
+    assert None not in foremost, number
+    assert len(foremost) == (run.network.cycles if life.out is None else life.out + 1) - life.packet.due, number
+    for wait in why.longest_waits(life):
+        ((_, held),) = why.holders_at(run, wait.router, [wait])
+        if wait.verdict == "NoIdleChannel":
+            (permitted,) = {row.permitted for row in run.trace(packet=number, router=wait.router) if row.verdict == "NoIdleChannel"}
+            assert held.total() == len(permitted) * len(wait.cycles), (number, wait, held)
+        elif wait.verdict != traces.QUEUE:
+            assert held.total() == len(wait.cycles), (number, wait, held)
+        assert number not in {packet for packet, _ in held}, (number, wait, held)
 """
 
 
@@ -156,13 +206,65 @@ def holds_on_made_networks(folder, count, script):
 
 
 def steps_agree_with_the_program(folder):
-    """Every channel that a packet has, gets or loses is permitted; what is permitted and not idle has a packet; all steps end."""
+    """Every channel that a packet has, gets, loses or waits for is permitted by the rule; what is permitted and not idle has a
+    packet; all steps end."""
     return holds_on_made_networks(folder, 6, STEPS)
 
 
 def lives_agree_with_the_program(folder):
     """Hop by hop from source to destination, all flits at each router, and the last one out in the cycle of the latency report."""
     return holds_on_made_networks(folder, 3, LIVES)
+
+
+def waits_have_holders(folder):
+    return holds_on_made_networks(folder, 4, HOLDERS)
+
+
+# ---- the lives of why.py
+
+
+def why_tells_a_life(folder):
+    """Packet 2 comes in in cycle 3, behind packet 0, and waits from 4 to 7 for channel +0.0 of router 0: packet 0 left by it in
+    cycle 2, stands in router 1 until 7, and its credit is back in 8. In cycles 11 and 12 two flits of packet 2 fill the buffer of
+    router 1, so its third one has no credit; in 14 and 15 they fill that of router 2."""
+    folder.put(c=LINE, t=IN_THE_WAY)
+    return folder.why(2) == (
+        "packet 2, node 0 to node 2, 3 flits: due in cycle 0, out in cycle 17.\n"
+        "queue of node 0, cycles 0 to 2.\n"
+        "router 0, local.0, cycles 3 to 13: NoIdleChannel 4, Moved 3, NoCredit 2, Routed 1, Granted 1.\n"
+        "router 1, -0.0, cycles 10 to 16: Moved 3, NoCredit 2, Routed 1, Granted 1.\n"
+        "router 2, -0.0, cycles 13 to 17: Moved 3, Routed 1, Granted 1.\n"
+        "Its foremost flit, in 18 cycles: Moved 5, NoIdleChannel 4, queue 3, Routed 3, Granted 3.\n"
+        "4 cycles of NoIdleChannel at router 0, local.0 (4 to 7): packet 0 drained from +0.0 in 4.\n"
+        "3 cycles in the queue of node 0 (0 to 2): packet 0 had local.0 in 3.\n"
+    )
+
+
+def why_tells_who_won(folder):
+    """Two packets of four flits meet at router 1, with two channels and four places. Packet 0 comes by -0 and is granted +0.0 in
+    cycle 4, since the pointer is at 0; packet 1 asked for it too, and gets +0.1 in 5. Packet 0 moves in 5, and from 6 on they take
+    turns, beginning with packet 1. Both then come to router 2 by port -0, where they take turns from cycle 9 on, again with packet 1
+    first, since packet 0 was picked alone in 8."""
+    folder.put(c=LINE.replace("channels = 1", "channels = 2").replace("buffer = 2", "buffer = 4"), t=HEADER + "0,2,0,4,0\n1,2,0,4,3\n")
+    return folder.why(1) == (
+        "packet 1, node 1 to node 2, 4 flits: due in cycle 3, out in cycle 15.\n"
+        "router 1, local.0, cycles 3 to 12: Moved 4, LostSwitch 3, Routed 1, LostChannel 1, Granted 1.\n"
+        "router 2, -0.1, cycles 7 to 15: Moved 4, LostInput 3, Routed 1, Granted 1.\n"
+        "Its foremost flit, in 13 cycles: Moved 5, LostInput 3, Routed 2, Granted 2, LostChannel 1.\n"
+        "3 cycles of LostInput at router 2, -0.1 (10 to 14): packet 0 was picked at -0 in 3.\n"
+        "1 cycle of LostChannel at router 1, local.0 (4): packet 0 got +0.0 in 1.\n"
+    )
+
+
+def why_tells_of_a_life_without_an_end(folder):
+    """Each head of the ring moves in cycle 2, is routed in the next router in 3, and waits for a channel of the packet there."""
+    return folder.run("why", "examples/ring.toml", "examples/ring.csv", 0).stdout == (
+        "packet 0, node 0 to node 2, 4 flits: due in cycle 0, not out in cycle 59, the last.\n"
+        "router 0, local.0, cycles 0 to 59: NoCredit 57, Routed 1, Granted 1, Moved 1.\n"
+        "router 1, -0.0, cycles 3 to 59: NoIdleChannel 56, Routed 1.\n"
+        "Its foremost flit, in 60 cycles: NoIdleChannel 56, Routed 2, Granted 1, Moved 1.\n"
+        "56 cycles of NoIdleChannel at router 1, -0.0 (4 to 59): packet 1 had +0.0 in 56.\n"
+    )
 
 
 # ---- timeline.py
@@ -200,6 +302,18 @@ def timeline_shows_a_wait(folder):
     )
 
 
+def timeline_has_numbers_at_its_ends(folder):
+    """The axis begins with the due cycle and ends behind the last; each row says its cycles, and why the packet stood still longest."""
+    folder.put(c=LINE, t=IN_THE_WAY)
+    root = ElementTree.fromstring(folder.run("timeline", "c", "t", 2).stdout)
+    ends = [group.findall(f"{SVG}text")[-1].text for group in root.iter(f"{SVG}g")]
+    inside = {text for group in root.iter(f"{SVG}g") for text in group.iter(f"{SVG}text")}
+    numbers = [int(text.text) for text in root.iter(f"{SVG}text") if text not in inside and text.text.isdigit()]
+    return (numbers[0], numbers[-1]) == (0, 18) and numbers == sorted(set(numbers)) and ends == [
+        "3 cycles", "11 cycles, no_idle_channel in 4", "7 cycles, no_credit in 2", "5 cycles",
+    ]
+
+
 def bars_lie_at_their_cycles(folder):
     """The bars of a row follow one another, each as wide as its cycles, and stay within the picture."""
     root = ElementTree.fromstring(folder.run("timeline", "examples/blocked.toml", "examples/blocked.csv", 3).stdout)
@@ -211,6 +325,307 @@ def bars_lie_at_their_cycles(folder):
             scales.add(round(float(bar.get("width")) / (last[0] + 1 - first if last else 1), 1))
             ends.append(float(bar.get("x")) + float(bar.get("width")))
     return len(scales) == 1 and max(ends) <= float(root.get("width"))
+
+
+# ---- waves.py and replay.py
+
+# What the channel -0.0 of router 1 says, where the packets of IN_THE_WAY come by: from a cycle on, with packet, out and permitted.
+AT_ROUTER_1 = [
+    (3, "Routed", 0, "-", "-"), (4, "NoIdleChannel", 0, "-", "+0.0"), (6, "Granted", 0, "+0.0", "+0.0"), (7, "Moved", 0, "+0.0", "-"),
+    (8, "Empty", None, "-", "-"), (10, "Routed", 2, "-", "-"), (11, "Granted", 2, "+0.0", "+0.0"), (12, "Moved", 2, "+0.0", "-"),
+    (14, "NoCredit", 2, "+0.0", "-"), (16, "Moved", 2, "+0.0", "-"), (17, "Empty", None, "-", "-"),
+]
+
+
+class Dump:
+    """A VCD file, read back: the values of each variable, by the names of its scopes and its own."""
+
+    def __init__(self, text):
+        head, _, body = text.partition("$enddefinitions $end\n")
+        self.changes, self.times, signs, scopes = {}, [], {}, []
+        for words in map(str.split, head.splitlines()):
+            if words[0] == "$scope":
+                scopes.append(words[2])
+            elif words[0] == "$upscope":
+                scopes.pop()
+            elif words[0] == "$var":
+                signs[words[3]] = ".".join([*scopes, words[4]])
+                self.changes[signs[words[3]]] = []
+        self.is_whole = not scopes and len(signs) == len(self.changes)
+        for line in body.splitlines():
+            if line.startswith("#"):
+                self.times.append(int(line[1:]))
+            elif not line.startswith("$"):
+                value, sign = line.split(" ")
+                self.changes[signs[sign]].append((self.times[-1], value[1:] if value[0] == "s" else number_of(value)))
+
+    def at(self, name, time):
+        return [value for since, value in self.changes[name] if since <= time][-1]
+
+
+def number_of(value):
+    return None if value == "bz" else int(value[1:], 2)
+
+
+def waves_of_a_router_are_read_back(folder):
+    """Each value once, from the first cycle on, and only where it changes; port +0 of router 1 stays empty."""
+    folder.put(c=LINE, t=IN_THE_WAY)
+    dump = Dump(folder.run("waves", "c", "t", "--router", 1).stdout)
+    verdicts = [(0, "Empty")] + [(cycle, verdict) for cycle, verdict, *_ in AT_ROUTER_1]
+    return dump.is_whole and (dump.times[0], dump.times[-1]) == (0, 20) and dump.changes == {
+        "noc.router_1.plus_0.verdict_0": [(0, "Empty")],
+        "noc.router_1.plus_0.packet_0": [(0, None)],
+        "noc.router_1.minus_0.verdict_0": verdicts,
+        "noc.router_1.minus_0.packet_0": [(0, None), (3, 0), (8, None), (10, 2), (17, None)],
+        "noc.router_1.local.verdict_0": [(0, "Routed"), (1, "Granted"), (2, "Moved"), (3, "Empty")],
+        "noc.router_1.local.packet_0": [(0, 1), (3, None)],
+    }
+
+
+def waves_of_a_span_say_all_at_its_start(folder):
+    folder.put(c=LINE, t=IN_THE_WAY)
+    dump = Dump(folder.run("waves", "c", "t", "--from", 5, "--to", 7).stdout)
+    names = [name for name in dump.changes if name.startswith("noc.router_1.minus_0")]
+    values = [dump.changes[name] for name in names]
+    return dump.times == [5, 6, 7, 8] and values == [[(5, "NoIdleChannel"), (6, "Granted"), (7, "Moved")], [(5, 0)]]
+
+
+def found_by_explain(folder, cycle, router):
+    """What the program says of each channel of a router: its name with verdict, packet and output channel."""
+    rows = folder.report("explain", "c", "t", "--cycle", cycle, "--router", router)
+    return {f"{row['port']}.{row['vc']}": (row["verdict"], row["packet"], row["out"]) for row in rows}
+
+
+def waves_agree_with_the_program(folder):
+    """On made networks, in some cycles, all channels of all routers."""
+    for text, traffic in made_networks(4):
+        folder.put(c=text, t=traffic)
+        dump = Dump(folder.run("waves", "c", "t").stdout)
+        routers = len({name.split(".")[1] for name in dump.changes})
+        for router, cycle in [(router, cycle) for router in range(routers) for cycle in (0, 7, 19, 33, 39)]:
+            for channel, (verdict, packet, _) in found_by_explain(folder, cycle, router).items():
+                port, number = channel.replace("+", "plus_").replace("-", "minus_").split(".")
+                scope = f"noc.router_{router}.{port}"
+                holder = dump.at(f"{scope}.packet_{number}", cycle)
+                if (dump.at(f"{scope}.verdict_{number}", cycle), "-" if holder is None else str(holder)) != (verdict, packet):
+                    return False
+    return True
+
+
+def data_of(page):
+    """The data of a page of replay.py."""
+    return json.loads(re.search(r'<script type="application/json" id="data">(.*?)</script>', page)[1])
+
+
+def changes_in(data):
+    """What each channel says, by router and name: from a cycle on, with verdict, packet, out and permitted."""
+    found = {}
+    for (router, port, number), flat in zip(data["channels"], data["changes"]):
+        cycle, changes = data["first"], []
+        for at in range(0, len(flat), 5):
+            step, verdict, packet, out, permitted = flat[at : at + 5]
+            cycle += step
+            holder = None if packet == -1 else packet
+            changes.append((cycle, data["verdicts"][verdict], holder, data["names"][out], data["names"][permitted]))
+        found[router, f"{data['ports'][port]}.{number}"] = changes
+    return found
+
+
+def replay_has_all_changes(folder):
+    folder.put(c=LINE, t=IN_THE_WAY)
+    data = data_of(folder.run("replay", "c", "t").stdout)
+    changes = changes_in(data)
+    return (
+        (data["first"], data["last"], data["nodes"]) == (0, 19, 3)
+        and changes[1, "-0.0"] == AT_ROUTER_1
+        and changes[1, "+0.0"] == []
+        and data["packets"] == {"0": [0, 2, 1, 0], "1": [1, 2, 1, 0], "2": [0, 2, 3, 0]}
+        and sorted(data["links"]) == [[0, "+0", 1], [1, "+0", 2], [1, "-0", 0], [2, "-0", 1]]
+    )
+
+
+def replay_agrees_with_the_program(folder):
+    for text, traffic in made_networks(4):
+        folder.put(c=text, t=traffic)
+        data = data_of(folder.run("replay", "c", "t", "--from", 5, "--to", 30).stdout)
+        changes = changes_in(data)
+        for router, cycle in [(router, cycle) for router in range(data["nodes"]) for cycle in (5, 13, 30)]:
+            for channel, row in found_by_explain(folder, cycle, router).items():
+                said = ([(0, "Empty", None, "-", "-")] + [one for one in changes[router, channel] if one[0] <= cycle])[-1]
+                if row != (said[1], "-" if said[2] is None else str(said[2]), said[3]):
+                    return False
+    return True
+
+
+def replay_stands_alone(folder):
+    """Nothing in the page names another file or an address, but for the name of the language of its pictures."""
+    page = folder.run("replay", "examples/blocked.toml", "examples/blocked.csv").stdout
+    others = re.findall(r"\b(?:src|href)\s*=|@import|\burl\(|\bfetch\(|XMLHttpRequest|\bimport\b", page)
+    return not others and set(re.findall(r"\w+://[^\"' ]+", page)) == {"http://www.w3.org/2000/svg"}
+
+
+CHROMIUM = next(filter(None, map(shutil.which, ("chromium", "chromium-browser", "google-chrome"))), None)
+
+
+class Shown(HTMLParser):
+    """What a browser shows: the cells of each table, and the words, attributes and body's colour of each other element with a name."""
+
+    def __init__(self, text):
+        super().__init__()
+        self.tables, self.words, self.attributes, self.bodies = {}, {}, {}, {}
+        self.table = self.name = None
+        self.feed(text)
+
+    def handle_starttag(self, tag, pairs):
+        attributes = dict(pairs)
+        if tag == "table":
+            self.table = self.tables.setdefault(attributes["id"], [])
+        elif "id" in attributes:
+            self.name = attributes["id"]
+            self.words[self.name], self.attributes[self.name] = "", attributes
+        elif tag == "tr":
+            self.table.append([])
+        elif tag in ("td", "th"):
+            self.table[-1].append("")
+        elif attributes.get("class") == "body":
+            self.bodies[self.name] = attributes["fill"]
+
+    def handle_endtag(self, tag):
+        if tag == "table":
+            self.table = None
+        elif tag in ("h2", "p", "button"):
+            self.name = None
+
+    def handle_data(self, words):
+        if self.table:
+            self.table[-1][-1] += words
+        elif self.name:
+            self.words[self.name] += words
+
+
+def shown(folder, page, moment, acts=""):
+    """What Chromium shows of a page that is opened at a moment, after some acts."""
+    path = folder.path / "page.html"
+    path.write_text(page.replace("</body>", f"<script>{acts}</script></body>"))
+    command = [CHROMIUM, "--headless", "--no-sandbox", "--disable-gpu", "--virtual-time-budget=6000", "--dump-dom", f"{path.as_uri()}#{moment}"]
+    ran = subprocess.run(command, capture_output=True, text=True, timeout=120, cwd=folder.path)
+    return Shown(ran.stdout)
+
+
+def a_browser_shows_a_moment(folder):
+    """Cycle 5: packet 0 waits at router 1, and packet 2 at router 0, which has the colour of that stall too."""
+    folder.put(c=LINE, t=IN_THE_WAY)
+    seen = shown(folder, folder.run("replay", "c", "t").stdout, "cycle=5&router=1&packet=2")
+    return (
+        seen.words["router-name"] == "Router 1 in cycle 5"
+        and seen.tables["router-table"][1:] == [
+            ["+0.0", "Empty", "-", "-", "-"], ["-0.0", "NoIdleChannel", "0", "-", "+0.0"], ["local.0", "Empty", "-", "-", "-"],
+        ]
+        and seen.tables["packet-table"][1:] == [["0", "local.0", "NoIdleChannel", "-", "+0.0"]]
+        and "From node 0 to node 2, 3 flits, due in cycle 0." in seen.words["packet-state"]
+        and seen.attributes["channel-2--0.0"]["data-verdict"] == "Moved"
+        and seen.bodies["router-0"] == seen.bodies["router-1"] != seen.bodies["router-2"]
+        and "followed" in seen.attributes["channel-0-local.0"]["class"].split()
+    )
+
+
+CLICKS = """
+const click = (found) => found.dispatchEvent(new MouseEvent("click", { bubbles: true }));
+click(document.getElementById("router-2"));
+click(document.querySelector("#router-table td.packet button"));
+click(document.getElementById("forward"));
+"""
+
+
+def clicks_list_a_router_and_follow_a_packet(folder):
+    """From cycle 4, when packet 1 is granted local.0 at router 2, one cycle on: then it moves."""
+    folder.put(c=LINE, t=IN_THE_WAY)
+    page = folder.run("replay", "c", "t").stdout
+    seen = shown(folder, page, "cycle=4", CLICKS)
+    return (
+        (seen.words["router-name"], seen.words["packet-name"]) == ("Router 2 in cycle 5", "Packet 1 in cycle 5")
+        and seen.tables["router-table"][1:] == [["-0.0", "Moved", "1", "local.0", "-"], ["local.0", "Empty", "-", "-", "-"]]
+        and seen.tables["packet-table"][1:] == [["2", "-0.0", "Moved", "local.0", "-"]]
+    )
+
+
+def a_page_plays_to_its_end(folder):
+    """Twenty cycles at 8 in a second are over in three."""
+    folder.put(c=LINE, t=IN_THE_WAY)
+    page = folder.run("replay", "c", "t").stdout
+    seen = shown(folder, page, "router=1&packet=1", 'document.getElementById("play").click();')
+    return seen.words["router-name"] == "Router 1 in cycle 19" and seen.words["play"] == "Play" and "It is out." in seen.words["packet-state"]
+
+
+IN_A_BROWSER = [a_browser_shows_a_moment, clicks_list_a_router_and_follow_a_packet, a_page_plays_to_its_end]
+
+
+# ---- what all four take and refuse
+
+
+def one_file_comes_by_standard_input(folder):
+    """The configuration or the traffic, or one of them by a pipe: the answers are the same."""
+    folder.put(c=LINE, t=IN_THE_WAY)
+    for script, *words in [("why", 2), ("why", 2, 5), ("timeline", 2), ("waves", "--router", 1)]:
+        named = folder.run(script, "c", "t", *words).stdout
+        given = [folder.run(script, "-", "t", *words, given=LINE), folder.run(script, "c", "-", *words, given=IN_THE_WAY)]
+        piped = f"{sys.executable} examples/{script}.py <(cat c) t {' '.join(map(str, words))}"
+        ran = subprocess.run(["bash", "-c", piped], cwd=folder.path, capture_output=True, text=True, timeout=60)
+        if not named or {named} != {one.stdout for one in [*given, ran]}:
+            return False
+    return data_of(folder.run("replay", "-", "t", given=LINE).stdout) == data_of(folder.run("replay", "c", "t").stdout)
+
+
+def calls_of(folder, script, *words):
+    """How often a script calls the program."""
+    noc, log = folder.path / "noc", folder.path / "calls"
+    program = noc.resolve()
+    noc.unlink()
+    noc.write_text(f'#!/bin/sh\necho called >> "{log}"\nexec "{program}" "$@"\n')
+    noc.chmod(0o755)
+    log.write_text("")
+    folder.run(script, "c", "t", *words)
+    noc.unlink()
+    noc.symlink_to(program)
+    return log.read_text().count("called")
+
+
+def scripts_run_the_program_once(folder):
+    """Once more where a packet is in its queue, and for the one router at which the long waits of packet 2 were."""
+    folder.put(c=LINE, t=IN_THE_WAY)
+    once = [calls_of(folder, *words) for words in [("timeline", 2), ("why", 2, 5), ("why", 1), ("waves",), ("replay",)]]
+    return set(once) == {1} and calls_of(folder, "why", 2, 1) == calls_of(folder, "why", 2) == 2
+
+
+# What is given to a script, and a part of the one sentence that it answers. LINE and IN_THE_WAY are the files c and t.
+REFUSED = [
+    ("why", "c t 3", "there is no packet 3: the traffic has 3"),
+    ("why", "c t 0 20", "the run has the cycles 0 to 19"),
+    ("why", "nothing t 0", "nothing: No such file or directory"),
+    ("why", "c nothing 0", "nothing: No such file or directory"),
+    ("why", "t t 0", "t is no configuration"),
+    ("why", "c c 0", "c is no traffic"),
+    ("why", "- - 0", "standard input can be one of the files"),
+    ("why", "c broken 0", "broken is no traffic: row 0 is not five numbers"),
+    ("why", "c late 0", "packet 0 is due in cycle 20, behind the end of the run"),
+    ("timeline", "c late 0", "packet 0 is due in cycle 20, behind the end of the run"),
+    ("timeline", "c t -1", "there is no packet -1"),
+    ("replay", "c t --from 9 --to 8", "the run has the cycles 0 to 19"),
+    ("replay", "c t --to 20", "the run has the cycles 0 to 19"),
+    ("waves", "c t --from -1", "the run has the cycles 0 to 19"),
+    ("waves", "c t --router 3", "there is no router 3: the network has 3"),
+    ("waves", "c lost", "fault network 2 BadNode row 0"),
+    ("why", "c lost 0", "fault network 2 BadNode row 0"),
+]
+
+
+def says_why(folder, script, words, sentence):
+    """One line that says why, and nothing else."""
+    folder.put(
+        c=LINE, t=IN_THE_WAY, late=HEADER + "0,1,0,1,20\n", broken=HEADER + "0,1,0,one,0\n", lost=HEADER + "0,3,0,1,0\n",
+    )
+    ran = folder.run(script, *words.split())
+    return ran.returncode in (1, 3) and not ran.stdout and sentence in ran.stderr and ran.stderr.count("\n") == 1
 
 
 # ---- make_traffic.py and the curves
@@ -288,7 +703,12 @@ def a_configuration_is_read_as_the_program_does(folder):
     return folder.why(1, 5).startswith("packet 1, router 2, -0.0: Moved.")
 
 
-CURVE = "load,packets,out,average_latency\n0.1,50,50,20.0\n0.2,90,90,30.0\n0.4,90,80,60.0\n"
+CURVE = (
+    "load,ran,packets,flits,out,offered,accepted,mean,median,p95,p99,max,steady\n"
+    "0.1,99,50,50,50,0.1,0.1,20.0,19,30,40,41,yes\n"
+    "0.2,99,90,90,90,0.2,0.2,30.0,25,50,60,61,yes\n"
+    "0.4,99,90,90,80,0.4,0.3,60.0,55,-,-,-,no\n"
+)
 
 
 def curves_lie_at_their_loads(folder):
@@ -314,12 +734,26 @@ def limits_are_those_of_the_definition(folder):
 CHECKS = [
     why_tells_of_a_channel_that_drains,
     why_tells_of_the_queue,
+    why_tells_who_comes_in_first,
     why_tells_what_is_no_wait,
     steps_agree_with_the_program,
+    why_tells_a_life,
+    why_tells_who_won,
+    why_tells_of_a_life_without_an_end,
+    waits_have_holders,
     timeline_shows_a_packet_alone,
     timeline_shows_a_wait,
+    timeline_has_numbers_at_its_ends,
     bars_lie_at_their_cycles,
     lives_agree_with_the_program,
+    waves_of_a_router_are_read_back,
+    waves_of_a_span_say_all_at_its_start,
+    waves_agree_with_the_program,
+    replay_has_all_changes,
+    replay_agrees_with_the_program,
+    replay_stands_alone,
+    one_file_comes_by_standard_input,
+    scripts_run_the_program_once,
     patterns_are_those_of_the_book,
     nodes_that_send_to_themselves_send_nothing,
     a_third_goes_to_the_spots,
@@ -336,8 +770,11 @@ def main():
         sys.exit("usage: run_scripts.py PROGRAM")
     with tempfile.TemporaryDirectory(prefix="noc-scripts-") as name:
         folder = Folder(Path(sys.argv[1]).resolve(), name)
-        results = [(check.__name__, check(folder)) for check in CHECKS]
+        results = [(check.__name__, check(folder)) for check in CHECKS + (IN_A_BROWSER if CHROMIUM else [])]
+        results += [(f"{script} {words}", says_why(folder, script, words, sentence)) for script, words, sentence in REFUSED]
         results += [(f"refuses {what}", is_refused(folder, text, words)) for what, text, words in WRONG]
+    if not CHROMIUM:
+        print(f"left out, since there is no Chromium here: {', '.join(check.__name__ for check in IN_A_BROWSER)}")
     for name, holds in results:
         if not holds:
             print(f"does not hold: {name}")

@@ -67,7 +67,7 @@ module _ {W S : Type 0} (contents : W → Option (List ℕ)) (seen : S → Optio
     front (contents before) (contents after) (seen last) (take f.written e.0) (drop f.written e.0) e.0 buffer (take-append-drop f.written e.0)
         (subst (λ known. Appends known (seen last) (take f.written e.0)) opens e.3.1) keeps,
   )
-  told (Err (fault.Run f)) (Err end) e a opens keeps still = told_as _ end a (inr (ap Some (still refl e.0)), e.1, e.2)
+  told (Err (fault.Run f)) (Err end) e a opens keeps still = told_as _ end a (inr (ap Some (still refl e.0)), e.1, e.2, e.3, e.4, e.5)
   told (Err (fault.Joined f)) (Err end) e a opens keeps still = told_as _ end a (inr (ap Some (still refl e.0)), inl e.1)
   told (Err (fault.Config f)) (Err end) e a opens keeps still = told_as _ end a (inr (ap Some (still refl e.0)), inl e.1)
   told (Err (fault.Table f)) (Err end) e a opens keeps still = told_as _ end a (inr (ap Some (still refl e.0)), inl e.1)

@@ -27,8 +27,12 @@ required_word rule = record rule { required = true }
 abbrev pub workers_word : Rule
 workers_word = record (number_word (codes "workers")) { defaults = codes "1" ∷ [] }
 
+-- an option without a value
+abbrev pub flag_word : Text → Rule
+flag_word id = record (new_rule id) { long = Some id; action = Some SetTrue }
+
 abbrev pub drain_word : Rule
-drain_word = record (new_rule (codes "drain")) { long = Some (codes "drain"); action = Some SetTrue }
+drain_word = flag_word (codes "drain")
 
 -- the parser takes the names of the reports
 abbrev pub TakesReports : ValueParser → Type 0
@@ -47,6 +51,9 @@ run_shape names = command_shape (codes "run") (file_word (codes "CONFIG") ∷ fi
 abbrev pub explain_shape : Shape
 explain_shape = command_shape (codes "explain") (file_word (codes "CONFIG") ∷ file_word (codes "TRAFFIC") ∷ required_word (number_word (codes "cycle")) ∷ required_word (number_word (codes "router")) ∷ option_word (codes "table") ∷ [])
 
+abbrev pub trace_shape : Shape
+trace_shape = command_shape (codes "trace") (file_word (codes "CONFIG") ∷ file_word (codes "TRAFFIC") ∷ number_word (codes "from") ∷ number_word (codes "to") ∷ number_word (codes "router") ∷ number_word (codes "packet") ∷ flag_word (codes "changes") ∷ option_word (codes "table") ∷ [])
+
 abbrev pub check_shape : Shape
 check_shape = command_shape (codes "check") (file_word (codes "CONFIG") ∷ required_word (option_word (codes "ranks")) ∷ option_word (codes "table") ∷ [])
 
@@ -56,7 +63,7 @@ ranks_shape = command_shape (codes "ranks") (file_word (codes "CONFIG") ∷ opti
 abbrev pub command_line : ValueParser → App
 command_line names = record {
   top = record (new_shape (codes "noc")) { is_leaf = false };
-  subs = run_shape names ∷ explain_shape ∷ check_shape ∷ ranks_shape ∷ [];
+  subs = run_shape names ∷ explain_shape ∷ trace_shape ∷ check_shape ∷ ranks_shape ∷ [];
 }
 
 -- ---- what clap holds of them

@@ -9,8 +9,9 @@ use Rattle.clap.specs.declared.error.Error.{Error}
 use Rattle.clap.specs.declared.error.kind.ErrorKind.TheVariants.{MissingSubcommand, OutOfMemory, ValueValidation}
 use Rattle.clap.specs.declared.parser.matches.Found.{Found}
 use Rattle.noc_tiles.specs.declared.limits.TheConstants.{MAX_WORKERS}
+use Rattle.noc_files.specs.declared.trace.Traced.{Traced}
 use Rattle.noc_requests.specs.declared.request.Command.{Command}
-use Rattle.noc_requests.specs.declared.request.Command.TheVariants.{Joined, Run, Explain, Check, Ranks}
+use Rattle.noc_requests.specs.declared.request.Command.TheVariants.{Joined, Run, Explain, Trace, Check, Ranks}
 use Rattle.noc_requests.specs.declared.request.Report.{Report}
 use Rattle.noc_requests.specs.declared.request.Report.TheVariants.{Summary, Latency, Stalls}
 use Rattle.noc.specs.CommandLine.{TakesReports, command_line}
@@ -24,6 +25,12 @@ IsNumber text = IsNumeral 10 (without_leading_plus text) × (digits_value 10 (wi
 abbrev pub IsSaid : Option (List ℕ) → ℕ → ℕ → Type 0
 IsSaid None other n = n ≡ other
 IsSaid (Some text) other n = (IsNumber text × (n ≡ digits_value 10 (without_leading_plus text))) ⊎ ((IsNumber text → ⊥) × (n ≡ other))
+
+-- the number that a word says, if there is a word and it is a number
+abbrev pub IsSaidIfAny : Option (List ℕ) → Option ℕ → Type 0
+IsSaidIfAny None n = n ≡ None
+IsSaidIfAny (Some text) (Some n) = IsNumber text × (n ≡ digits_value 10 (without_leading_plus text))
+IsSaidIfAny (Some text) None = IsNumber text → ⊥
 
 -- this number of workers, if it is 1 to 16
 abbrev pub IsWorkers : ℕ → Option ℕ → Type 0
@@ -46,18 +53,25 @@ pub record IsFlag (word : Option Text) (is_up : Bool) : Type 0 where
   pub up : word ≡ Some (codes "true") → is_up ≡ true
   pub down : word ≡ Some (codes "false") → is_up ≡ false
 
+-- what is to be traced
+pub record SaysTraced (found : Found) (traced : Traced) : Type 0 where
+  pub router : IsSaidIfAny (one_text found (codes "router")) traced.router
+  pub packet : IsSaidIfAny (one_text found (codes "packet")) traced.packet
+  pub changes : IsFlag (one_text found (codes "changes")) traced.changes
+
 -- the command of a name, by what is found of its words
 abbrev pub IsCommand : Found → Text → Command → Type 0
 IsCommand found name Joined = ⊥
 IsCommand found name (Run workers report drain) = (name ≡ codes "run") × SaysWorkers found workers × (0 < workers) × (workers ≤ MAX_WORKERS) × IsReport (first_value found (codes "report")) report × IsFlag (one_text found (codes "drain")) drain
 IsCommand found name (Explain cycle router) = (name ≡ codes "explain") × IsSaid (one_text found (codes "cycle")) 0 cycle × IsSaid (one_text found (codes "router")) 0 router
+IsCommand found name (Trace from to traced) = (name ≡ codes "trace") × IsSaidIfAny (one_text found (codes "from")) from × IsSaidIfAny (one_text found (codes "to")) to × SaysTraced found traced
 IsCommand found name Check = name ≡ codes "check"
 IsCommand found name Ranks = name ≡ codes "ranks"
 
 -- no command has the name, or it is `run` with no worker or more than MAX_WORKERS
 abbrev pub IsNoCommand : Found → Text → Type 0
 IsNoCommand found name = ((name ≡ codes "run") × ((n : ℕ) × SaysWorkers found n × ((n < 1) ⊎ (MAX_WORKERS < n))))
-    ⊎ ((name ≢ codes "run") × (name ≢ codes "explain") × (name ≢ codes "check") × (name ≢ codes "ranks"))
+    ⊎ ((name ≢ codes "run") × (name ≢ codes "explain") × (name ≢ codes "trace") × (name ≢ codes "check") × (name ≢ codes "ranks"))
 
 -- the names of a command's files
 pub record NamesFiles (found : Found) (words : Words) : Type 0 where

@@ -5,17 +5,18 @@ ghost use Rattle.clap.specs.Words.{first_value, found_of, one_text};
 ghost use Rattle.clap.specs.declared.builder.value_parser.ValueParser.{ValueParser};
 ghost use Rattle.noc_tiles.specs.declared.limits.TheConstants.{MAX_WORKERS};
 ghost use Rattle.noc_answers.specs.Run.{HasWorkers};
-ghost use Rattle.noc.specs.CommandLine.{IsLeaf, IsProgram, IsWord, TakesReports, check_shape, drain_word, explain_shape, file_word, number_word, option_word, ranks_shape, report_word, required_word, run_shape, workers_word};
-ghost use Rattle.noc.specs.Words.{IsAskedBy, IsCommand, IsNoCommand, IsRefusal, IsReport, IsSaid, IsWorkers, NamesFiles, SaysWorkers};
+ghost use Rattle.noc.specs.CommandLine.{IsLeaf, IsProgram, IsWord, TakesReports, check_shape, drain_word, explain_shape, file_word, flag_word, number_word, option_word, ranks_shape, report_word, required_word, run_shape, trace_shape, workers_word};
+ghost use Rattle.noc.specs.Words.{IsAskedBy, IsCommand, IsNoCommand, IsRefusal, IsReport, IsSaid, IsWorkers, NamesFiles, SaysTraced, SaysWorkers};
 
 use clap::error::ErrorKind;
 use clap::{Arg, ArgAction, ArgMatches, Error, value_parser};
+use noc_files::Traced;
 use noc_requests::{Command, Report};
 use noc_tiles::MAX_WORKERS;
 use std::alloc::{AllocError, Global};
 
 /// What the words ask for: a command, with the names of its files.
-#[derive(Clone, Copy, Debug, PartialEq, Eq)]
+#[derive(Clone, Copy)]
 pub struct Words<'a> {
     pub command: Command,
     pub config: &'a str,
@@ -41,6 +42,7 @@ Examples:
   noc < examples/two_routers.noc
   noc run mesh.toml traffic.csv --report summary
   noc explain mesh.toml traffic.csv --cycle 5 --router 2
+  noc trace mesh.toml traffic.csv --packet 3
   noc ranks torus.toml > ranks.csv
   noc check torus.toml --ranks ranks.csv
 
@@ -67,6 +69,18 @@ Examples:
   noc run mesh.toml traffic.csv --drain --report summary
 
 The status is 5 where the network is stuck at the end of the run.";
+
+const AFTER_TRACE_HELP: &str =
+    "The columns are cycle,router,port,vc,verdict,packet,out,permitted: those of explain with the cycle and
+the router before them, and behind them the output channels that the relation permits to a packet that
+asks for one. A channel that is Empty has no line.
+
+With --packet, channels that do not hold the packet count as Empty. With --changes, a line says what was
+not said of its channel in the cycle before, and a channel that is Empty from now on has a line.
+
+Examples:
+  noc trace mesh.toml traffic.csv --packet 3
+  noc trace mesh.toml traffic.csv --from 100 --to 199 --router 2 --changes";
 
 /// The words behind the program's name, which is the first word, or clap's text on why they make no sense.
 pub fn read_words<'a>(alloc: Global, words: &'a [String]) -> Result<Words<'a>, Error>
@@ -100,6 +114,7 @@ fn command_of(name: &str, matches: &ArgMatches<'_>) -> Option<Command>
             drain: matches.get_flag("drain"),
         }),
         "explain" => Some(explain_of(matches)),
+        "trace" => Some(trace_of(matches)),
         "check" => Some(Command::Check),
         "ranks" => Some(Command::Ranks),
         _ => None,
@@ -151,6 +166,29 @@ fn explain_of(matches: &ArgMatches<'_>) -> Command
     }
 }
 
+// The span that is to be traced, and of what.
+fn trace_of(matches: &ArgMatches<'_>) -> Command
+    ensures workers { HasWorkers result }
+    ensures said { IsCommand (found_of matches.now) (codes "trace") result }
+{
+    Command::Trace {
+        from: matches.get_one::<u64>("from"),
+        to: matches.get_one::<u64>("to"),
+        traced: traced_of(matches),
+    }
+}
+
+// What is to be traced.
+fn traced_of(matches: &ArgMatches<'_>) -> Traced
+    ensures { SaysTraced (found_of matches.now) result }
+{
+    Traced {
+        router: matches.get_one::<usize>("router"),
+        packet: matches.get_one::<u64>("packet"),
+        changes: matches.get_flag("changes"),
+    }
+}
+
 // The words of the program.
 fn program<'a>(alloc: Global) -> Result<clap::Command<'a>, AllocError>
     ensures { IfOk result IsProgram }
@@ -161,6 +199,7 @@ fn program<'a>(alloc: Global) -> Result<clap::Command<'a>, AllocError>
         .after_help(AFTER_HELP)
         .subcommand(run_words(alloc)?)?
         .subcommand(explain_words(alloc)?)?
+        .subcommand(trace_words(alloc)?)?
         .subcommand(check_words(alloc)?)?
         .subcommand(ranks_words(alloc)?)
 }
@@ -190,6 +229,22 @@ fn explain_words<'a>(alloc: Global) -> Result<clap::Command<'a>, AllocError>
         .arg(traffic_word(alloc))?
         .arg(cycle_word(alloc))?
         .arg(router_word(alloc))?
+        .arg(table_word(alloc))
+}
+
+fn trace_words<'a>(alloc: Global) -> Result<clap::Command<'a>, AllocError>
+    ensures { IfOk result (IsLeaf trace_shape) }
+{
+    clap::Command::new(alloc, "trace")
+        .about("Writes what the input channels did in each cycle of a span, and why they waited")
+        .after_help(AFTER_TRACE_HELP)
+        .arg(config_word(alloc))?
+        .arg(traffic_word(alloc))?
+        .arg(from_word(alloc))?
+        .arg(to_word(alloc))?
+        .arg(traced_router_word(alloc))?
+        .arg(packet_word(alloc))?
+        .arg(changes_word(alloc))?
         .arg(table_word(alloc))
 }
 
@@ -302,4 +357,53 @@ fn router_word<'a>(alloc: Global) -> Arg<'a>
         .required(true)
         .value_parser(value_parser!(usize))
         .help("The number of the router, from 0")
+}
+
+fn from_word<'a>(alloc: Global) -> Arg<'a>
+    ensures { IsWord (number_word (codes "from")) result }
+{
+    Arg::new(alloc, "from")
+        .long("from")
+        .value_name("A")
+        .value_parser(value_parser!(u64))
+        .help("The first cycle; without it 0")
+}
+
+fn to_word<'a>(alloc: Global) -> Arg<'a>
+    ensures { IsWord (number_word (codes "to")) result }
+{
+    Arg::new(alloc, "to")
+        .long("to")
+        .value_name("B")
+        .value_parser(value_parser!(u64))
+        .help("The last cycle; without it the last of the configuration")
+}
+
+fn traced_router_word<'a>(alloc: Global) -> Arg<'a>
+    ensures { IsWord (number_word (codes "router")) result }
+{
+    Arg::new(alloc, "router")
+        .long("router")
+        .value_name("R")
+        .value_parser(value_parser!(usize))
+        .help("Only this router, by its number, from 0")
+}
+
+fn packet_word<'a>(alloc: Global) -> Arg<'a>
+    ensures { IsWord (number_word (codes "packet")) result }
+{
+    Arg::new(alloc, "packet")
+        .long("packet")
+        .value_name("P")
+        .value_parser(value_parser!(u64))
+        .help("Only channels that hold this packet, by its number, from 0")
+}
+
+fn changes_word<'a>(alloc: Global) -> Arg<'a>
+    ensures { IsWord (flag_word (codes "changes")) result }
+{
+    Arg::new(alloc, "changes")
+        .long("changes")
+        .action(ArgAction::SetTrue)
+        .help("Only what is new since the cycle before")
 }

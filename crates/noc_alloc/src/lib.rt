@@ -4,8 +4,6 @@
 mod arbiter;
 mod channels;
 mod switch;
-#[cfg(test)]
-mod tests;
 
 pub use arbiter::Arbiter;
 pub use channels::{advance_channels, allocate_channels};

@@ -6,7 +6,7 @@ use Rattle.noc_route.specs.Ranks.{IsRankedBy, Ranking}
 use Rattle.noc_net.specs.Good.{IsGoodSetup}
 use Rattle.noc_net.specs.Limit.{IsLimit}
 use Rattle.noc_net.specs.Network.{Run, Setup}
-use Rattle.noc_net.proofs.LimitLemmas.{all-out, limit-once}
+use Rattle.noc_net.proofs.LimitLemmas.{all-out, limit-once, limit-some}
 use Rattle.noc_answers.specs.Drain.{DrainsAt, DrainsBy, RunsTo, at_limit, at_once, is_out_at, look, once_out}
 
 module _ (net : Setup) (limit : ℕ) where
@@ -70,6 +70,21 @@ module _ (net : Setup) (limit : ℕ) where
   drains-once n d e (at_limit early never) (once_out k low out none) = absurd (false≢true (sym (never k low) ∙ out))
   drains-once n d e (at_limit low none) (at_limit also never) = refl
 
+  -- .. and has one
+  pub drains-some : (fuel n : ℕ) → limit ≤ n + fuel → (end : ℕ) × DrainsBy net limit n end
+  drains-some zero n l = (n, drains-here n (inl (omega arith)))
+  drains-some (suc fuel) n l = at (cases_lt n limit) (is_out_at net n) refl (drains-some fuel)
+    where
+      at : (n < limit) ⊎ (limit ≤ n) → (b : Bool) → is_out_at net n ≡ b → ((next : ℕ) → limit ≤ next + fuel → (end : ℕ) × DrainsBy net limit next end)
+          → (end : ℕ) × DrainsBy net limit n end
+      at (inr late) b e more = (n, drains-here n (inl late))
+      at (inl early) true e more = (n, drains-here n (inr e))
+      at (inl early) false e more =
+          let next = n + min 64 (limit - n) in
+          let far : limit ≤ next + fuel = omega (arith, l, early) in
+          let rest = more next far in
+          (rest.0, drains-on n next rest.0 early e refl rest.1)
+
   -- where the relation is ranked every packet is out at the end
   drained-by : IsGoodSetup net → (ranks : Ranking) → IsRankedBy net.relation ranks → IsLimit net limit → (n e : ℕ) → DrainsBy net limit n e → is_out_at net e ≡ true
   drained-by good ranks ranked is n e (at_once late) = all-out net good ranks ranked limit is n late
@@ -84,6 +99,14 @@ ends-once net false n d e x y = x ∙ sym y
 ends-once net true n d e x y =
     let same : y.limit ≡ x.limit = limit-once net y.limit x.limit y.is_limit x.is_limit in
     drains-once net x.limit n d e x.drains (subst (λ (limit : ℕ). DrainsBy net limit n e) same y.drains)
+
+-- a run has an end
+pub ends-some : (net : Setup) (drain : Bool) (n : ℕ) → (end : ℕ) × RunsTo drain net n end
+ends-some net false n = (n, refl)
+ends-some net true n =
+    let limit = limit-some net in
+    let rest = drains-some net limit.0 limit.0 n (omega arith) in
+    (rest.0, record { limit = limit.0; is_limit = limit.1; drains = rest.1 })
 
 -- ---- a run that drains, from its first look to the one where it is now
 

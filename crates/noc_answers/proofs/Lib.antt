@@ -5,3 +5,4 @@ pub mod OneRankingFacts
 pub mod OneCheckFacts
 pub mod OneAnswerFacts
 pub mod OneFaultFacts
+pub mod WorkersFacts

@@ -1,5 +1,5 @@
 -- A request asks for one text, or has one first fault.
-use Rattle.std.proofs.Common.{◌≡◌, ℕ, List, Some, Ok, refl, sym, subst, ap, ◌∙◌, arith, inl, inr}
+use Rattle.std.proofs.Common.{◌≡◌, ℕ, List, Option, Some, None, Ok, refl, sym, subst, ap, ◌∙◌, arith, inl, inr}
 use Rattle.std.proofs.lemmas.Bool.{cases_order, false≢true}
 use Rattle.noc_topo.specs.Shape.{Grid}
 use Rattle.noc_route.specs.Routes.{Routes}
@@ -10,13 +10,17 @@ use Rattle.noc_files.specs.Configuration.{Settings}
 use Rattle.noc_files.specs.Findings.{findings_text}
 use Rattle.noc_files.specs.Joined.{SplitsAt, line_at}
 use Rattle.noc_files.specs.Ranks.{ranks_text}
+use Rattle.noc_files.specs.Trace.{trace_text}
+use Rattle.noc_files.specs.declared.trace.Traced.{Traced}
 use Rattle.noc_requests.specs.Asked.{Asked, ReadsAs, as_files, as_joined, parts}
+use Rattle.noc_requests.specs.Options.{first_cycle, packet_fault}
+use Rattle.noc_requests.specs.declared.fault.OptionFault.{OptionFault}
 use Rattle.noc_requests.specs.declared.request.Command.{Command}
 use Rattle.noc_requests.specs.declared.request.Command.TheVariants as command
 use Rattle.noc_requests.specs.declared.request.Report.{Report}
 use Rattle.noc_requests.specs.declared.request.Request.{Request}
 use Rattle.noc_requests.specs.declared.status.Status.{Status}
-use Rattle.noc_answers.specs.Answer.{Asks, AsksFor, a_report, findings, accepted, ranks}
+use Rattle.noc_answers.specs.Answer.{Asks, AsksFor, a_report, findings, traces, accepted, ranks}
 use Rattle.noc_answers.specs.Drain.{RunsTo}
 use Rattle.noc_answers.specs.Formula.{HasRanks}
 use Rattle.noc_answers.specs.Reports.{report_text}
@@ -27,11 +31,12 @@ use Rattle.noc_answers.proofs.OneRankingFacts.{one-generated}
 
 -- ---- commands
 
--- what a command asks for, by number: a report, an explanation, a check, ranks
+-- what a command asks for, by number: a report, an explanation, a check, ranks, a trace
 abbrev pub kind : Command → ℕ
 kind command.Joined = 0
 kind (command.Run workers report drain) = 0
 kind (command.Explain cycle router) = 1
+kind (command.Trace from to traced) = 4
 kind command.Check = 2
 kind command.Ranks = 3
 
@@ -39,6 +44,7 @@ pub reports : (x : Command) (report : Report) → report_of x ≡ Some report �
 reports command.Joined report h = refl
 reports (command.Run workers other drain) report h = refl
 reports (command.Explain cycle router) report h = cc
+reports (command.Trace from to traced) report h = cc
 reports command.Check report h = cc
 reports command.Ranks report h = cc
 
@@ -50,6 +56,26 @@ checks x e = ap kind e
 
 pub ranked : (x : Command) → x ≡ command.Ranks → kind x ≡ 3
 ranked x e = ap kind e
+
+pub is_trace : (x : Command) (from to : Option ℕ) (traced : Traced) → x ≡ command.Trace from to traced → kind x ≡ 4
+is_trace x from to traced e = ap kind e
+
+-- only a trace has a packet that can be missing
+pub has_packet : (x : Command) (packets : ℕ) (f : OptionFault) → packet_fault x packets ≡ Some f → kind x ≡ 4
+has_packet command.Joined packets f h = cc
+has_packet (command.Run workers report drain) packets f h = cc
+has_packet (command.Explain cycle router) packets f h = cc
+has_packet (command.Trace from to traced) packets f h = refl
+has_packet command.Check packets f h = cc
+has_packet command.Ranks packets f h = cc
+
+pub has_no_packet : (x : Command) (packets : ℕ) → (kind x ≡ 4 → ⊥) → packet_fault x packets ≡ None
+has_no_packet command.Joined packets other = refl
+has_no_packet (command.Run workers report drain) packets other = refl
+has_no_packet (command.Explain cycle router) packets other = refl
+has_no_packet (command.Trace from to traced) packets other = absurd (other refl)
+has_no_packet command.Check packets other = refl
+has_no_packet command.Ranks packets other = refl
 
 -- ---- what is asked for
 
@@ -97,10 +123,23 @@ module _ (a : Asked) where
       let both : command.Explain c m ≡ command.Explain d n = sym e ∙ f in
       let router : m ≡ n = cc in
       (ap (findings_text u) router ∙ ap (λ z. findings_text z n) (one_run u v x y), refl)
+  one_text text other status end (traces {from = m} {to = b} {traced = t} {run = u} e x p) (traces {from = n} {to = d} {traced = w} {run = v} f y q) =
+      let both : command.Trace m b t ≡ command.Trace n d w = sym e ∙ f in
+      let from : m ≡ n = cc in
+      let traced : t ≡ w = cc in
+      (ap (λ z. trace_text u (first_cycle z) t) from ∙ ap (trace_text u (first_cycle n)) traced ∙ ap (λ z. trace_text z (first_cycle n) w) (one_run u v x y), refl)
   one_text text other status end (accepted e x) (accepted d y) = (refl, refl)
   one_text text other status end (ranks {s = s} {routes = m} {ranking = k} e x h) (ranks {s = t} {routes = n} {ranking = j} d y u) =
       let same = one_relation_asked a s t m n x y in
       (ap ranks_text (one_formula s t m.grid n.grid k j same.0 (ap (λ (z : Routes). z.grid) same.1) h u), refl)
+  one_text text other status end (a_report {report = m} e x) (traces {from = b} {to = c} {traced = t} d y q) = absurd (omega (arith, reports a.command m e, is_trace a.command b c t d))
+  one_text text other status end (findings {cycle = h} {router = n} e x) (traces {from = b} {to = c} {traced = t} d y q) = absurd (omega (arith, explains a.command h n e, is_trace a.command b c t d))
+  one_text text other status end (accepted e x) (traces {from = b} {to = c} {traced = t} d y q) = absurd (omega (arith, checks a.command e, is_trace a.command b c t d))
+  one_text text other status end (ranks e x h) (traces {from = b} {to = c} {traced = t} d y q) = absurd (omega (arith, ranked a.command e, is_trace a.command b c t d))
+  one_text text other status end (traces {from = b} {to = c} {traced = t} d y q) (a_report {report = m} e x) = absurd (omega (arith, reports a.command m e, is_trace a.command b c t d))
+  one_text text other status end (traces {from = b} {to = c} {traced = t} d y q) (findings {cycle = h} {router = n} e x) = absurd (omega (arith, explains a.command h n e, is_trace a.command b c t d))
+  one_text text other status end (traces {from = b} {to = c} {traced = t} d y q) (accepted e x) = absurd (omega (arith, checks a.command e, is_trace a.command b c t d))
+  one_text text other status end (traces {from = b} {to = c} {traced = t} d y q) (ranks e x h) = absurd (omega (arith, ranked a.command e, is_trace a.command b c t d))
   one_text text other status end (a_report {report = m} e x) (findings {cycle = c} {router = n} d y) = absurd (omega (arith, reports a.command m e, explains a.command c n d))
   one_text text other status end (a_report {report = m} e x) (accepted d y) = absurd (omega (arith, reports a.command m e, checks a.command d))
   one_text text other status end (a_report {report = m} e x) (ranks d y h) = absurd (omega (arith, reports a.command m e, ranked a.command d))

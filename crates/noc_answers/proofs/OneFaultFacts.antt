@@ -21,7 +21,7 @@ use Rattle.noc_files.specs.Joined.{SplitsAt, line_at, line_len}
 use Rattle.noc_files.specs.Ranks.{ranks_of}
 use Rattle.noc_files.specs.declared.fault.InputFault.{InputFault}
 use Rattle.noc_requests.specs.Asked.{Asked, Said, ReadsAs, as_files, as_joined, is_joined, owned, read_by}
-use Rattle.noc_answers.specs.Answer.{Asks, AsksFor, a_report, findings, accepted, ranks, TextsFault, in_settings, in_formula, in_ranks, in_packets, runs, FirstFault, unread, unsplit, in_texts}
+use Rattle.noc_answers.specs.Answer.{Asks, AsksFor, a_report, findings, traces, accepted, ranks, TextsFault, in_settings, in_formula, in_ranks, in_packets, no_packet, runs, FirstFault, unread, unsplit, in_texts}
 use Rattle.noc_answers.specs.Check.{Accepts, AsksForChecked, HasRanking, RanksFault, bad_file, bad_rows, bad_ranks, checked_by, checked_ranks}
 use Rattle.noc_answers.specs.Formula.{HasRanks, IsFormulaFault}
 use Rattle.noc_net.specs.declared.fault.NetFault.{NetFault}
@@ -31,6 +31,8 @@ use Rattle.noc_requests.specs.Settings.{AsksForRelation, rule_named}
 use Rattle.noc_requests.specs.Status.{is_memory}
 use Rattle.noc_requests.specs.declared.fault.Fault.{Fault}
 use Rattle.noc_requests.specs.declared.fault.Fault.TheVariants as fault
+use Rattle.noc_requests.specs.Options.{packet_fault}
+use Rattle.noc_requests.specs.declared.fault.OptionFault.{OptionFault}
 use Rattle.noc_requests.specs.declared.request.Command.{Command}
 use Rattle.noc_requests.specs.declared.request.Command.TheVariants as command
 use Rattle.noc_requests.specs.declared.request.Request.{Request}
@@ -38,7 +40,7 @@ use Rattle.noc_requests.specs.declared.status.Status.{Status}
 use Rattle.noc_answers.specs.Run.{AsksForRun, IsNetworkOf, IsUnmade, PacketsFault, bad_traffic, bad_network}
 use Rattle.noc_requests.proofs.MemoryFacts.{network_not_memory, ranks_not_memory, traffic_not_memory}
 use Rattle.noc_requests.proofs.OneSettingsFacts.{one_relation_asked, no_settings_fault, one_settings_fault}
-use Rattle.noc_answers.proofs.OneAnswerFacts.{kind, reports, explains, checks, ranked, one_reading}
+use Rattle.noc_answers.proofs.OneAnswerFacts.{kind, reports, explains, checks, ranked, is_trace, has_packet, has_no_packet, one_reading}
 use Rattle.noc_answers.proofs.OneCheckFacts.{no-check-fault, one-check-fault}
 use Rattle.noc_answers.proofs.OneRankingFacts.{one-ranking, formula-fault, no-formula-fault, no-rows-fault, one-rows-fault}
 
@@ -51,11 +53,21 @@ unchecked-ranks (command.Run workers report drain) given e = absurd (omega (arit
 unchecked-ranks (command.Explain cycle router) given e = absurd (omega (arith, e))
 unchecked-ranks command.Check given e = absurd (omega (arith, e))
 unchecked-ranks command.Ranks given e = refl
+unchecked-ranks (command.Trace from to traced) given e = absurd (omega (arith, e))
+
+unchecked-trace : (x : Command) (given : Option Said) → kind x ≡ 4 → checked_by x given ≡ None
+unchecked-trace command.Joined given e = absurd (omega (arith, e))
+unchecked-trace (command.Run workers report drain) given e = absurd (omega (arith, e))
+unchecked-trace (command.Explain cycle router) given e = absurd (omega (arith, e))
+unchecked-trace (command.Trace from to traced) given e = refl
+unchecked-trace command.Check given e = absurd (omega (arith, e))
+unchecked-trace command.Ranks given e = absurd (omega (arith, e))
 
 still-check : (x : Command) → kind x ≡ 2 → runs x ≡ false
 still-check command.Joined e = absurd (omega (arith, e))
 still-check (command.Run workers report drain) e = absurd (omega (arith, e))
 still-check (command.Explain cycle router) e = absurd (omega (arith, e))
+still-check (command.Trace from to traced) e = absurd (omega (arith, e))
 still-check command.Check e = refl
 still-check command.Ranks e = absurd (omega (arith, e))
 
@@ -63,6 +75,7 @@ still-ranks : (x : Command) → kind x ≡ 3 → runs x ≡ false
 still-ranks command.Joined e = absurd (omega (arith, e))
 still-ranks (command.Run workers report drain) e = absurd (omega (arith, e))
 still-ranks (command.Explain cycle router) e = absurd (omega (arith, e))
+still-ranks (command.Trace from to traced) e = absurd (omega (arith, e))
 still-ranks command.Check e = absurd (omega (arith, e))
 still-ranks command.Ranks e = refl
 
@@ -168,6 +181,12 @@ module _ (a : Asked) where
       let Q : Routes → Type 0 = λ z. PacketsFault z a.traffic f in
       network_none h.routes h.settings.buffer a.traffic run.net f p h.network (subst Q (sym (one_relation_asked a h.settings t h.routes y h.before.relation asks).1) bad)
 
+  no_network_fault : (s t : Settings) (x y : Routes) (net : Setup) (f : Fault) → is_memory f ≡ false → AsksForChecked a s x → AsksForChecked a t y → IsNetworkOf x s.buffer a.traffic net
+      → PacketsFault y a.traffic f → ⊥
+  no_network_fault s t x y net f p asks other u bad =
+      let Q : Routes → Type 0 = λ z. PacketsFault z a.traffic f in
+      network_none x s.buffer a.traffic net f p u (subst Q (sym (one_relation_asked a s t x y asks.relation other.relation).1) bad)
+
   -- no ranks are checked by a command that asks for ranks
   no_check : (text : Said) → a.command ≡ command.Ranks → checked_ranks a ≡ Some text → ⊥
   no_check text e h = (let never : None ≡ Some text = sym (unchecked-ranks a.command a.ranks (ranked a.command e)) ∙ h in cc never)
@@ -175,19 +194,36 @@ module _ (a : Asked) where
   no_run : a.command ≡ command.Ranks → runs a.command ≡ true → ⊥
   no_run e h = false≢true (sym (still-ranks a.command (ranked a.command e)) ∙ h)
 
+  -- no ranks are checked by a trace
+  no_trace : (text : Said) → kind a.command ≡ 4 → checked_ranks a ≡ Some text → ⊥
+  no_trace text e h = (let never : None ≡ Some text = sym (unchecked-trace a.command a.ranks e) ∙ h in cc never)
+
+  -- the networks of a traffic text have the same packets
+  same_packets : (x y : Routes) (s t : Settings) (m n : Setup) → IsNetworkOf x s.buffer a.traffic m → IsNetworkOf y t.buffer a.traffic n → m.packets ≡ n.packets
+  same_packets x y s t m n h u = (let both : Ok m.packets ≡ Ok n.packets = sym h.packets ∙ u.packets in cc)
+
+  no_missing_packet : (x y : Routes) (s t : Settings) (m n : Setup) (f : OptionFault) → IsNetworkOf x s.buffer a.traffic m → IsNetworkOf y t.buffer a.traffic n
+      → packet_fault a.command (length m.packets) ≡ None → packet_fault a.command (length n.packets) ≡ Some f → ⊥
+  no_missing_packet x y s t m n f h u none bad =
+      let never : None ≡ Some f = sym none ∙ ap (λ (ps : List Packet). packet_fault a.command (length ps)) (same_packets x y s t m n h u) ∙ bad in
+      cc never
+
   -- a run that is asked for has no fault
-  run_none : (run : Run) (f : Fault) → is_memory f ≡ false → (a.command ≡ command.Ranks → ⊥) → AsksForRun a run → TextsFault a f → ⊥
-  run_none run f p other h (in_settings bad) = no_settings_fault a h.settings h.routes f p h.before.relation bad
-  run_none run f p other h (in_formula e x bad) = other e
-  run_none run f p other h (in_ranks {s = t} {routes = y} {text = text} x e bad) = no_ranks_fault h.settings t h.routes y text f p h.before x e bad
-  run_none run f p other h (in_packets {s = t} {routes = y} e x bad) = no_packets_fault run t y f p h x.relation bad
+  run_none : (run : Run) (f : Fault) → is_memory f ≡ false → (a.command ≡ command.Ranks → ⊥) → AsksForRun a run → packet_fault a.command (length run.net.packets) ≡ None → TextsFault a f → ⊥
+  run_none run f p other h none (no_packet {s = t} {routes = y} {net = n} {f = i} x u bad) = no_missing_packet h.routes y h.settings t run.net n i h.network u none bad
+  run_none run f p other h none (in_settings bad) = no_settings_fault a h.settings h.routes f p h.before.relation bad
+  run_none run f p other h none (in_formula e x bad) = other e
+  run_none run f p other h none (in_ranks {s = t} {routes = y} {text = text} x e bad) = no_ranks_fault h.settings t h.routes y text f p h.before x e bad
+  run_none run f p other h none (in_packets {s = t} {routes = y} e x bad) = no_packets_fault run t y f p h x.relation bad
 
   text_none : (text : List ℕ) (status : Status) (f : Fault) → is_memory f ≡ false → AsksFor a text status → TextsFault a f → ⊥
-  text_none text status f p (a_report {report = m} {run = u} e x) bad = run_none u f p (λ d. omega (arith, reports a.command m e, ranked a.command d)) x bad
-  text_none text status f p (findings {cycle = c} {router = n} {run = u} e x) bad = run_none u f p (λ d. omega (arith, explains a.command c n e, ranked a.command d)) x bad
+  text_none text status f p (a_report {report = m} {run = u} e x) bad = run_none u f p (λ d. omega (arith, reports a.command m e, ranked a.command d)) x (has_no_packet a.command (length u.net.packets) (λ d. omega (arith, reports a.command m e, d))) bad
+  text_none text status f p (findings {cycle = c} {router = n} {run = u} e x) bad = run_none u f p (λ d. omega (arith, explains a.command c n e, ranked a.command d)) x (has_no_packet a.command (length u.net.packets) (λ d. omega (arith, explains a.command c n e, d))) bad
+  text_none text status f p (traces {from = b} {to = c} {traced = t} {run = u} e x none) bad = run_none u f p (λ d. omega (arith, is_trace a.command b c t e, ranked a.command d)) x none bad
   text_none text status f p (accepted {s = s} {routes = x} e h) (in_settings bad) = no_settings_fault a s x f p h.relation bad
   text_none text status f p (accepted e h) (in_formula d x bad) = omega (arith, checks a.command e, ranked a.command d)
   text_none text status f p (accepted {s = s} {routes = x} e h) (in_ranks {s = t} {routes = y} {text = given} asks d bad) = no_ranks_fault s t x y given f p h asks d bad
+  text_none text status f p (accepted e h) (no_packet {net = n} {f = i} x u bad) = omega (arith, checks a.command e, has_packet a.command (length n.packets) i bad)
   text_none text status f p (accepted e h) (in_packets d x bad) = false≢true (sym (still-check a.command (checks a.command e)) ∙ d)
   text_none text status f p (ranks {s = s} {routes = x} e h has) (in_settings bad) = no_settings_fault a s x f p h bad
   text_none text status f p (ranks {s = s} {routes = x} {ranking = k} e h has) (in_formula {s = t} {routes = y} {f = i} d asks bad) =
@@ -196,6 +232,7 @@ module _ (a : Asked) where
       let Q : Routes → Type 0 = λ z. IsFormulaFault s z.grid i in
       formula_none s x.grid k i (not_memory i y.grid p) has (subst Q same.1 (subst P same.0 bad))
   text_none text status f p (ranks e h has) (in_ranks {text = given} asks d bad) = no_check given e d
+  text_none text status f p (ranks e h has) (no_packet {net = n} {f = i} x u bad) = omega (arith, ranked a.command e, has_packet a.command (length n.packets) i bad)
   text_none text status f p (ranks e h has) (in_packets d x bad) = no_run e d
 
   one_texts_fault : (f k : Fault) → is_memory f ≡ false → is_memory k ≡ false → TextsFault a f → TextsFault a k → f ≡ k
@@ -227,6 +264,18 @@ module _ (a : Asked) where
       let same = one_relation_asked a t s n m other.relation asks.relation in
       let Q : Routes → Type 0 = λ z. PacketsFault z a.traffic k in
       one_packets_fault m a.traffic f k p q x (subst Q same.1 y)
+  one_texts_fault f k p q (no_packet {s = s} {routes = m} asks u bad) (in_settings x) = absurd (no_settings_fault a s m k q asks.relation x)
+  one_texts_fault f k p q (in_settings x) (no_packet {s = s} {routes = m} asks u bad) = absurd (no_settings_fault a s m f p asks.relation x)
+  one_texts_fault f k p q (no_packet {net = n} {f = i} asks u bad) (in_formula e other x) = absurd (omega (arith, ranked a.command e, has_packet a.command (length n.packets) i bad))
+  one_texts_fault f k p q (in_formula e other x) (no_packet {net = n} {f = i} asks u bad) = absurd (omega (arith, ranked a.command e, has_packet a.command (length n.packets) i bad))
+  one_texts_fault f k p q (no_packet {net = n} {f = i} asks u bad) (in_ranks {text = given} other e x) = absurd (no_trace given (has_packet a.command (length n.packets) i bad) e)
+  one_texts_fault f k p q (in_ranks {text = given} other e x) (no_packet {net = n} {f = i} asks u bad) = absurd (no_trace given (has_packet a.command (length n.packets) i bad) e)
+  one_texts_fault f k p q (no_packet {s = s} {routes = m} {net = n} asks u bad) (in_packets {s = t} {routes = y} e other x) = absurd (no_network_fault s t m y n k q asks other u x)
+  one_texts_fault f k p q (in_packets {s = t} {routes = y} e other x) (no_packet {s = s} {routes = m} {net = n} asks u bad) = absurd (no_network_fault s t m y n f p asks other u x)
+  one_texts_fault f k p q (no_packet {s = s} {routes = m} {net = n} {f = i} asks u bad) (no_packet {s = t} {routes = y} {net = o} {f = j} other v worse) =
+      let both : Some i ≡ Some j = sym bad ∙ ap (λ (ps : List Packet). packet_fault a.command (length ps)) (same_packets m y s t n o u v) ∙ worse in
+      let same : i ≡ j = cc in
+      ap fault.Option same
 
 -- ---- a request has a text or a fault
 

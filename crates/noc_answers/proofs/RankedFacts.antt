@@ -17,7 +17,7 @@ use Rattle.noc_requests.specs.declared.request.Request.{Request}
 use Rattle.noc_requests.specs.declared.status.Status.{Status}
 use Rattle.noc_requests.specs.declared.status.Status.TheVariants.{Done, Stuck}
 use Rattle.noc_requests.specs.declared.fault.Fault.{Fault}
-use Rattle.noc_answers.specs.Answer.{Asks, AsksFor, AsksForArrivals, IsRankedDrain, IsRankedRun, a_report, findings, accepted, ranks}
+use Rattle.noc_answers.specs.Answer.{Asks, AsksFor, AsksForArrivals, IsRankedDrain, IsRankedRun, a_report, findings, traces, accepted, ranks}
 use Rattle.noc_answers.specs.Check.{Accepts, checked_by, checked_ranks}
 use Rattle.noc_answers.specs.Drain.{RunsTo}
 use Rattle.noc_answers.specs.Run.{AsksForRun, cycles_of, ending, is_draining}
@@ -33,6 +33,7 @@ run-done a run text checked asks =
 asked-done : (a : Asked) (out : List ℕ) (status : Status) (text : Said) → checked_ranks a ≡ Some text → AsksFor a out status → status ≡ Done
 asked-done a out status text checked (a_report {run = run} is asks) = run-done a run text checked asks
 asked-done a out status text checked (findings is asks) = refl
+asked-done a out status text checked (traces is asks there) = refl
 asked-done a out status text checked (accepted is asks) = refl
 asked-done a out status text checked (ranks is asks has) = refl
 
@@ -72,6 +73,8 @@ asked-drained r a out status workers report text is reads checked (a_report {rep
     (a, of, run, reads, has, asks, refl, run-drained a run text checked (ap is_draining is) asks)
 asked-drained r a out status workers report text is reads checked (findings {cycle = c} {router = n} e asks) =
     (let never : command.Explain c n ≡ command.Run workers report true = sym e ∙ is in absurd (cc never))
+asked-drained r a out status workers report text is reads checked (traces {from = b} {to = c} {traced = t} e asks there) =
+    (let never : command.Trace b c t ≡ command.Run workers report true = sym e ∙ is in absurd (cc never))
 asked-drained r a out status workers report text is reads checked (accepted e asks) =
     (let never : command.Check ≡ command.Run workers report true = sym e ∙ is in absurd (cc never))
 asked-drained r a out status workers report text is reads checked (ranks e asks has) =

@@ -22,6 +22,7 @@ pub checked-report : (x : Command) (report : Report) (ranks : Option Said) → r
 checked-report command.Joined report ranks h = refl
 checked-report (command.Run workers other drain) report ranks h = refl
 checked-report (command.Explain cycle router) report ranks h = cc
+checked-report (command.Trace from to traced) report ranks h = cc
 checked-report command.Check report ranks h = cc
 checked-report command.Ranks report ranks h = cc
 
@@ -29,6 +30,7 @@ pub runs-report : (x : Command) (report : Report) → report_of x ≡ Some repor
 runs-report command.Joined report h = refl
 runs-report (command.Run workers other drain) report h = refl
 runs-report (command.Explain cycle router) report h = refl
+runs-report (command.Trace from to traced) report h = refl
 runs-report command.Check report h = cc
 runs-report command.Ranks report h = cc
 
@@ -37,6 +39,7 @@ pub cycles-report : (x : Command) (report : Report) (s : Settings) → report_of
 cycles-report command.Joined report s h = refl
 cycles-report (command.Run workers other drain) report s h = refl
 cycles-report (command.Explain cycle router) report s h = cc
+cycles-report (command.Trace from to traced) report s h = cc
 cycles-report command.Check report s h = cc
 cycles-report command.Ranks report s h = cc
 
@@ -59,6 +62,7 @@ one-worker : (x : Command) → is_joined x ≡ true → 1 ≡ workers_of x
 one-worker command.Joined h = refl
 one-worker (command.Run workers report drain) h = absurd (false≢true h)
 one-worker (command.Explain cycle router) h = refl
+one-worker (command.Trace from to traced) h = refl
 one-worker command.Check h = refl
 one-worker command.Ranks h = refl
 

@@ -1,17 +1,20 @@
 -- What is answered to a request: the text that is asked for and how it ended, or the first fault.
-use Rattle.std.specs.Prelude.{◌≡◌, ◌⊎◌, ℕ, ◌<◌, Bool, true, false, List, length, codes, is_some, Some, Ok, Err}
+use Rattle.std.specs.Prelude.{◌≡◌, ◌⊎◌, ℕ, ◌<◌, Bool, true, false, List, length, codes, is_some, Option, Some, None, Ok, Err}
 use Rattle.noc_route.specs.Routes.{Routes}
 use Rattle.noc_net.specs.Limit.{are_all_out}
-use Rattle.noc_net.specs.Network.{Run, state_at}
+use Rattle.noc_net.specs.Network.{Run, Setup, state_at}
 use Rattle.noc_route.specs.Ranks.{Ranking}
 use Rattle.noc_rank.specs.declared.fault.RankFault.{RankFault}
 use Rattle.noc_files.specs.Configuration.{Settings}
 use Rattle.noc_files.specs.Findings.{findings_text}
 use Rattle.noc_files.specs.Joined.{line_at}
 use Rattle.noc_files.specs.Ranks.{ranks_text}
+use Rattle.noc_files.specs.Trace.{trace_text}
+use Rattle.noc_files.specs.declared.trace.Traced.{Traced}
 use Rattle.noc_files.specs.declared.fault.InputFault.{InputFault}
 use Rattle.noc_files.specs.declared.fault.InputFault.TheVariants as input
 use Rattle.noc_requests.specs.Asked.{Asked, Said, ReadsAs, is_joined, owned}
+use Rattle.noc_requests.specs.Options.{first_cycle, packet_fault}
 use Rattle.noc_requests.specs.Settings.{AsksForRelation, SettingsFault}
 use Rattle.noc_requests.specs.declared.request.Command.{Command}
 use Rattle.noc_requests.specs.declared.request.Command.TheVariants as command
@@ -21,10 +24,11 @@ use Rattle.noc_requests.specs.declared.status.Status.{Status}
 use Rattle.noc_requests.specs.declared.status.Status.TheVariants.{Done}
 use Rattle.noc_requests.specs.declared.fault.Fault.{Fault}
 use Rattle.noc_requests.specs.declared.fault.Fault.TheVariants as fault
+use Rattle.noc_requests.specs.declared.fault.OptionFault.{OptionFault}
 use Rattle.noc_answers.specs.Check.{AsksForChecked, RanksFault, checked_ranks}
 use Rattle.noc_answers.specs.Formula.{HasRanks, IsFormulaFault}
 use Rattle.noc_answers.specs.Reports.{report_text}
-use Rattle.noc_answers.specs.Run.{AsksForRun, PacketsFault, ending, report_of}
+use Rattle.noc_answers.specs.Run.{AsksForRun, IsNetworkOf, PacketsFault, ending, report_of}
 
 -- ---- the texts of a request
 
@@ -32,6 +36,8 @@ use Rattle.noc_answers.specs.Run.{AsksForRun, PacketsFault, ending, report_of}
 pub data AsksFor (a : Asked) : List ℕ → Status → Type 0 where
   a_report : {report : Report} {run : Run} → report_of a.command ≡ Some report → AsksForRun a run → AsksFor a (report_text report run) (ending run)
   findings : {cycle router : ℕ} {run : Run} → a.command ≡ command.Explain cycle router → AsksForRun a run → AsksFor a (findings_text run router) Done
+  traces : {from to : Option ℕ} {traced : Traced} {run : Run} → a.command ≡ command.Trace from to traced → AsksForRun a run → packet_fault a.command (length run.net.packets) ≡ None
+      → AsksFor a (trace_text run (first_cycle from) traced) Done
   accepted : {s : Settings} {routes : Routes} → a.command ≡ command.Check → AsksForChecked a s routes → AsksFor a (codes "accepted\n") Done
   ranks : {s : Settings} {routes : Routes} {ranking : Ranking} → a.command ≡ command.Ranks → AsksForRelation a s routes → HasRanks s routes.grid ranking → AsksFor a (ranks_text ranking) Done
 
@@ -41,12 +47,14 @@ runs command.Check = false
 runs command.Ranks = false
 runs _ = true
 
--- the first fault: up to the relation, then the ranks, the traffic, and the packets of the network
+-- the first fault: up to the relation, then the ranks, the traffic, the packets of the network, and the packet to be traced
 pub data TextsFault (a : Asked) : Fault → Type 0 where
   in_settings : {f : Fault} → SettingsFault a f → TextsFault a f
   in_formula : {s : Settings} {routes : Routes} {f : RankFault} → a.command ≡ command.Ranks → AsksForRelation a s routes → IsFormulaFault s routes.grid f → TextsFault a (fault.Rank f routes.grid)
   in_ranks : {s : Settings} {routes : Routes} {text : Said} {f : Fault} → AsksForRelation a s routes → checked_ranks a ≡ Some text → RanksFault routes text f → TextsFault a f
   in_packets : {s : Settings} {routes : Routes} {f : Fault} → runs a.command ≡ true → AsksForChecked a s routes → PacketsFault routes a.traffic f → TextsFault a f
+  no_packet : {s : Settings} {routes : Routes} {net : Setup} {f : OptionFault} → AsksForChecked a s routes → IsNetworkOf routes s.buffer a.traffic net
+      → packet_fault a.command (length net.packets) ≡ Some f → TextsFault a (fault.Option f)
 
 -- ---- a request
 
@@ -59,6 +67,10 @@ pub data FirstFault (r : Request) : Fault → Type 0 where
 -- the text that a request asks for, and how it then ends
 abbrev pub Asks : Request → List ℕ → Status → Type 0
 Asks r text status = (a : Asked) × ReadsAs r a × AsksFor a text status
+
+-- a request for a run, by so many workers
+abbrev pub by_workers : Request → ℕ → Report → Bool → Request
+by_workers r workers report drain = record r { command = command.Run workers report drain }
 
 -- a request for a run that comes with ranks
 abbrev pub IsRankedRun : Request → Type 0

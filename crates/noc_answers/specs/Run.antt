@@ -12,6 +12,7 @@ use Rattle.noc_files.specs.Configuration.{Settings}
 use Rattle.noc_files.specs.Traffic.{traffic_of}
 use Rattle.noc_files.specs.declared.fault.InputFault.{InputFault}
 use Rattle.noc_requests.specs.Asked.{Asked, IsUnread, Said, read_by}
+use Rattle.noc_requests.specs.Options.{last_cycle}
 use Rattle.noc_requests.specs.declared.request.Command.{Command}
 use Rattle.noc_requests.specs.declared.request.Command.TheVariants as command
 use Rattle.noc_requests.specs.declared.request.Report.{Report}
@@ -39,9 +40,10 @@ workers_of _ = 1
 abbrev pub HasWorkers : Command → Type 0
 HasWorkers x = (0 < workers_of x) × (workers_of x ≤ MAX_WORKERS)
 
--- how many cycles are run at least: those of the configuration, or up to the one that is to be explained
+-- how many cycles are run at least: those of the configuration, or up to the one that is to be explained, or traced last
 abbrev pub cycles_of : Command → Settings → ℕ
 cycles_of (command.Explain cycle router) s = cycle + 1
+cycles_of (command.Trace from to traced) s = last_cycle to s.cycles + 1
 cycles_of _ s = s.cycles
 
 -- whether a command runs on until every packet is out

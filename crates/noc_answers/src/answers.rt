@@ -12,6 +12,7 @@ use crate::accept::answer_check;
 use crate::explain::explain;
 use crate::formula::answer_ranks;
 use crate::run::{run, run_by_workers};
+use crate::trace::trace;
 use noc_files::{InputFault, Sink, split_joined};
 use noc_requests::{Command, Fault, Files, Report, Request, Status, files_of, parts};
 use std::alloc::Global;
@@ -20,7 +21,7 @@ use std::thread::Threads;
 
 /// Writes the report that is asked for, or answers the first fault, with nothing written before it but the bytes that a
 /// write fault counts. The order is: joined text, configuration, options, shape, table, relation, ranks, check, traffic,
-/// network, run, report. `explain` and `ranks` look at no rank file, `check` and `ranks` at no traffic.
+/// network, packet to be traced, run, report. `explain`, `trace` and `ranks` look at no rank file, `check` and `ranks` at no traffic.
 ///
 /// A `run` with a rank file that ends without a fault is done, and never stuck. Where it is to drain, every packet has arrived.
 pub fn answer<R: Threads + Wait + Sync, W: Sink>(
@@ -97,6 +98,7 @@ fn answer_files<W: Sink>(
             drain,
         } => run(rt, alloc, files, report, drain, sink),
         Command::Explain { cycle, router } => explain(alloc, files, cycle, router, sink),
+        Command::Trace { from, to, traced } => trace(alloc, files, from, to, traced, sink),
         Command::Check => answer_check(rt, alloc, files, sink),
         Command::Ranks => answer_ranks(alloc, files, sink),
     }

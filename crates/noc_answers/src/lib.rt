@@ -9,6 +9,7 @@ mod explain;
 mod formula;
 mod laws;
 mod run;
+mod trace;
 
 pub use answers::{answer, answer_one};
-pub use laws::a_request_has_one_answer;
+pub use laws::{a_request_has_one_answer, workers_change_no_report};

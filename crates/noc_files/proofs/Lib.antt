@@ -23,3 +23,5 @@ pub mod ListingFacts
 pub mod ConfigurationFaults
 pub mod FindingFacts
 pub mod GreatestFacts
+pub mod TraceFacts
+pub mod TraceLaws

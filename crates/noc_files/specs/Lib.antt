@@ -11,6 +11,7 @@ pub mod Ports
 pub mod Stalls
 pub mod Summary
 pub mod Findings
+pub mod Trace
 pub mod Keys
 pub mod Table
 pub mod Plain

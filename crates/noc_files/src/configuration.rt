@@ -36,7 +36,7 @@ pub enum RuleName {
 }
 
 /// A configuration (docs/FORMATS.md).
-#[derive(Debug, Drop)]
+#[derive(Drop)]
 pub struct Config {
     /// Mesh or torus.
     pub kind: Kind,

@@ -65,7 +65,7 @@ fn wide(number: Option<u32>) -> Option<u64>
 }
 
 // Puts an input channel by its port and its number, its verdict and its packet.
-fn put_verdict<W: Sink>(
+pub(crate) fn put_verdict<W: Sink>(
     shape: &Shape,
     port: usize,
     vc: usize,

@@ -16,6 +16,7 @@ mod source;
 mod stalls;
 mod summary;
 mod table;
+mod trace;
 mod traffic;
 mod writing;
 
@@ -30,7 +31,7 @@ pub use latency::write_latency;
 pub use ports::port_name;
 pub use ranks::{
     rank_file_is_header_and_rows, rank_file_is_refused_with_its_first_fault, read_ranks,
-    write_ranks,
+    write_ranks, written_ranks_are_read_back,
 };
 pub use rows::{plain_rows_are_read_back, rows_are_records};
 pub use sink::{Out, Sink};
@@ -40,6 +41,10 @@ pub use summary::{the_greatest_is_one_of_them, write_summary};
 pub use table::{
     read_table, table_is_header_and_rows, table_is_refused_with_its_first_fault,
     written_table_is_read_back,
+};
+pub use trace::{
+    Trace, Traced, a_line_is_left_out_where_the_same_is_told, a_trace_adds_up_to_the_stall_report,
+    a_trace_tells_what_explain_tells, write_trace,
 };
 pub use traffic::{
     read_traffic, traffic_is_header_and_numerals, traffic_is_refused_with_its_first_fault,

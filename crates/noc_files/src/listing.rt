@@ -15,13 +15,13 @@ use noc_packet::{MAX_CHANNELS, MAX_NODES, MAX_PORTS};
 use noc_topo::Shape;
 
 // The most bytes of the line on a channel, and of the lines on a port, a router and all routers.
-pub(crate) const LONGEST_LINE: u64 = 258;
+pub(crate) const LONGEST_LINE: u64 = 1644;
 
 const LONGEST_PORT: u64 = LONGEST_LINE * MAX_CHANNELS as u64;
 
-const LONGEST_ROUTER: u64 = LONGEST_PORT * MAX_PORTS as u64;
+pub(crate) const LONGEST_ROUTER: u64 = LONGEST_PORT * MAX_PORTS as u64;
 
-const LONGEST_LISTING: u64 = LONGEST_ROUTER * MAX_NODES as u64;
+pub(crate) const LONGEST_LISTING: u64 = LONGEST_ROUTER * MAX_NODES as u64;
 
 // Some lines on each of the channels of a shape.
 pub(crate) trait Lines {
@@ -113,7 +113,7 @@ fn put_port<L: Lines, W: Sink>(
 }
 
 // Puts the lines on a router.
-fn put_router<L: Lines, W: Sink>(
+pub(crate) fn put_router<L: Lines, W: Sink>(
     lines: &L,
     router: usize,
     sink: &mut W,
@@ -132,9 +132,14 @@ fn put_router<L: Lines, W: Sink>(
 }
 
 // Puts the lines on all routers.
-fn put_routers<L: Lines, W: Sink>(lines: &L, sink: &mut W, before: u64) -> Result<u64, WriteFault>
+pub(crate) fn put_routers<L: Lines, W: Sink>(
+    lines: &L,
+    sink: &mut W,
+    before: u64,
+) -> Result<u64, WriteFault>
     requires { before + LONGEST_LISTING < 2 ^ 64 }
-    ensures { Puts W.contents W.has_failed sink.old sink.new before (lines_of_routers (L.grid lines.now) (L.listed lines.now) (L.vcs lines.now) (L.said lines.now)) result }
+    ensures puts { Puts W.contents W.has_failed sink.old sink.new before (lines_of_routers (L.grid lines.now) (L.listed lines.now) (L.vcs lines.now) (L.said lines.now)) result }
+    ensures short { IfOk result (λ n. n ≤ before + LONGEST_LISTING) }
 {
     let mut written = before;
     for router in 0..lines.shape().nodes() {

@@ -3,12 +3,12 @@
 ghost use Rattle.std.specs.Prelude.{◌≡◌, ℕ, Result, map};
 ghost use Rattle.noc_files.specs.declared.fault.InputFault.{InputFault as Fault};
 ghost use Rattle.noc_files.specs.Gives.{Gives};
-ghost use Rattle.noc_files.specs.Rows.{Fields, rows_of};
+ghost use Rattle.noc_files.specs.Rows.{Fields, IsBetweenRows, rows_left, rows_of};
 ghost use Rattle.noc_files.specs.Sheet.{ReadsRows, sheet};
 
 use crate::fault::InputFault;
 use crate::rows::{has_fields, next_row, rows};
-use csv::ByteRecord;
+use csv::{ByteRecord, Reader};
 use std::alloc::Global;
 
 // What the rows under this header say, by what each row is read as, or the first fault.
@@ -23,15 +23,30 @@ pub(crate) fn read_sheet<V: Drop, F: Fn(&ByteRecord, usize) -> Result<V, InputFa
 {
     let mut reader = rows(alloc, text);
     let mut row = ByteRecord::new(alloc);
-    if !next_row(&mut reader, &mut row)? {
+    read_left(alloc, &mut reader, &mut row, header, read)
+}
+
+// What the rows that a reader has left say, the header first. Each is read into `row`.
+fn read_left<V: Drop, F: Fn(&ByteRecord, usize) -> Result<V, InputFault> + Drop>(
+    alloc: Global,
+    reader: &mut Reader<&[u8]>,
+    row: &mut ByteRecord,
+    header: &[&str],
+    read: F,
+) -> Result<Vec<V>, InputFault>
+    requires ready { IsBetweenRows reader.old }
+    requires callable { F.IsAlwaysCallable read }
+    ensures { (said : ℕ → Fields → Result V Fault) → ReadsRows (F.post read) said → Gives (λ v. v.items) result (sheet said (map (λ n. n.now) header.now) (rows_left reader.old)) }
+{
+    if !next_row(reader, row)? {
         return Err(InputFault::BadHeader);
     }
-    if !has_fields(&row, header) {
+    if !has_fields(row, header) {
         return Err(InputFault::BadHeader);
     }
     let mut values = Vec::new(alloc);
-    'rows: while next_row(&mut reader, &mut row)? {
-        let value = read(&row, values.len())?;
+    'rows: while next_row(reader, row)? {
+        let value = read(row, values.len())?;
         values.push(value)?;
     }
     Ok(values)

@@ -16,7 +16,7 @@ use noc_net::Network;
 use noc_packet::{INDICES, MAX_CHANNELS};
 
 // What the summary says of a network.
-#[derive(Clone, Copy, Debug, PartialEq, Eq)]
+#[derive(Clone, Copy)]
 struct Summary {
     cycles: u128,
     packets: u128,

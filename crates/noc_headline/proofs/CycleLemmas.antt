@@ -4,7 +4,7 @@ use Rattle.noc_topo.specs.Words.{Has}
 use Rattle.noc_route.specs.Channel.{Channel}
 use Rattle.noc_model.specs.Network.{Setup, all_inputs, frozen_at}
 use Rattle.noc_model.specs.Good.{IsGoodSetup}
-use Rattle.noc_ownership.proofs.Facts.{out-at, worm_order-at, worm_order-frozen_at, credit-at}
+use Rattle.noc_ownership.proofs.Facts.{out-at, worm_order-at, worm_order-frozen_at, credit-at, frozen_credit-at}
 use Rattle.noc_views.proofs.OrderedStates.{ordered-frozen}
 use Rattle.noc_views.proofs.PlaceLemmas.{input-at, arriving-at, same-place}
 use Rattle.noc_views.proofs.Theorem.{good-network}
@@ -26,5 +26,6 @@ module _ (net : Setup) (made : IsGoodSetup net) where
     start = worm_order-at net made n;
     frozen = worm_order-frozen_at net made n;
     credits = λ c. credit-at net made n c;
+    frozen_credits = λ c. frozen_credit-at net made n c;
     out_in_order = λ p i j a b v l e f. (out-at net made n).rising p i j a b v l e f;
   }

@@ -1,11 +1,11 @@
 -- What the verdicts of a cycle do.
-use Rattle.std.proofs.Common.{◌≡◌, ℕ, suc, ◌+◌, ap, sym, subst, ◌∙◌, arith}
-use Rattle.noc_model.specs.Network.{Setup, has_channel, owner_of, place_of, state_at, frozen_at, network_cycle}
+use Rattle.std.proofs.Common.{◌≡◌, ℕ, suc, ◌+◌, ◌<◌, refl, ap, sym, subst, ◌∙◌, arith}
+use Rattle.noc_model.specs.Network.{Setup, after_credits, after_injection, after_landing, arbiters_at, frozen, has_channel, owner_of, place_of, size, state_at, frozen_at, network_cycle}
 use Rattle.noc_model.specs.Good.{IsGoodSetup}
 use Rattle.noc_views.proofs.OrderedStates.{ordered-frozen}
 use Rattle.noc_views.proofs.Theorem.{good-network}
-use Rattle.noc_headline.specs.Effects.{IsRightStep}
-use Rattle.noc_headline.specs.Headline.{IsInputOf}
+use Rattle.noc_headline.specs.Effects.{IsRightStep, IsTurned}
+use Rattle.noc_headline.specs.Headline.{IsInputOf, IsPick, WinsChannel, WinsSwitch}
 use Rattle.noc_headline.proofs.RoutedLemmas.{routed-after, credit-after}
 use Rattle.noc_views.proofs.PlaceLemmas.{arriving-at}
 use Rattle.noc_topo.specs.Words.{Has}
@@ -13,6 +13,18 @@ use Rattle.noc_route.specs.Channel.{Channel}
 use Rattle.noc_headline.proofs.EffectLemmas.{granted-to, to-granted, moved-sent, sent-moved, sent-goes}
 use Rattle.noc_headline.proofs.ReleaseLemmas.{kept-by, released-by}
 use Rattle.noc_headline.proofs.StartLemmas.{starts}
+use Rattle.noc_headline.proofs.ArbiterEffects.{channel-turns, input-turns, output-turns}
+use Rattle.noc_headline.proofs.SourceEffects.{by-injected, by-owned, injected-by, owned-by}
+use Rattle.noc_ownership.proofs.OneBack.{arbiters-frozen}
+use Rattle.noc_ownership.proofs.RoutedVerdicts.{has-channel}
+use Rattle.std.proofs.lemmas.Bool.{false≢true}
+use Rattle.noc_topo.specs.Shape.{ports}
+use Rattle.noc_alloc.specs.Arbiter.{turn_at}
+
+-- the routed channels are those of the start
+routed-frozen : (net : Setup) (n : ℕ) → (frozen_at net n).routed ≡ (state_at net n).routed
+unfolding frozen after_landing after_credits after_injection
+routed-frozen net n = refl
 
 module _ (net : Setup) (made : IsGoodSetup net) where
   pub right-step : (n : ℕ) → IsRightStep net n
@@ -25,9 +37,23 @@ module _ (net : Setup) (made : IsGoodSetup net) where
       let input = λ (r i : ℕ) (c : Channel) (at : IsInputOf net r i c). arriving-at net good r i c at.router at.index at.is in
       record {
         starts = starts net made n;
+        injects = λ p i v valid. ((λ h. injected-by net made n p i v valid h.0 h.1), (λ h. by-injected net made n p i v valid h.0 h.1));
+        owners = λ o p. (owned-by net made n o p, by-owned net made n o p);
+        no_credit = λ c h. false≢true (sym (x.no_credit c) ∙ has-channel c F.back h);
+        routed_same = routed-frozen net n;
+        turns_same = arbiters-frozen net n (state_at net n);
         routed = λ r i c at.
             let e = routed-after net good F x n r i c (input r i c at) in
             ((λ h. e.0 (ap (λ m. has_channel (state_at net m).routed c) (sym s) ∙ h)), (λ h. ap (λ m. has_channel (state_at net m).routed c) s ∙ e.1 h));
+        channel_turns = λ r o l u.
+            subst (λ (m : ℕ). IsTurned (size net) (λ i. WinsChannel net F r i o) (turn_at (arbiters_at net F r).channels o).pointer (turn_at (arbiters_at net (state_at net m) r).channels o).pointer) (sym s)
+            (channel-turns net good n x r l o u);
+        output_turns = λ r q l u.
+            subst (λ (m : ℕ). IsTurned (ports net.relation.grid) (λ k. WinsSwitch net F r k q) (turn_at (arbiters_at net F r).outputs q).pointer (turn_at (arbiters_at net (state_at net m) r).outputs q).pointer) (sym s)
+            (output-turns net good n x r l q u);
+        input_turns = λ r q l u.
+            subst (λ (m : ℕ). IsTurned net.relation.vcs (λ v. IsPick net F r q v × ((out : ℕ) × (out < ports net.relation.grid) × WinsSwitch net F r q out)) (turn_at (arbiters_at net F r).inputs q).pointer (turn_at (arbiters_at net (state_at net m) r).inputs q).pointer) (sym s)
+            (input-turns net good n x r l q u);
         credit = λ r i c at.
             let e = credit-after net good F x n r i c (input r i c at) in
             ((λ h. e.0 (subst (λ (m : ℕ). Has c (state_at net m).back) s h)), (λ h. subst (λ (m : ℕ). Has c (state_at net m).back) (sym s) (e.1 h)));

@@ -7,6 +7,8 @@ pub mod CycleLemmas
 pub mod CountLemmas
 pub mod StepLemmas
 pub mod EffectLemmas
+pub mod ArbiterEffects
+pub mod SourceEffects
 pub mod EffectStep
 pub mod ReleaseLemmas
 pub mod RoutedLemmas

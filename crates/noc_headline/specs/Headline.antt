@@ -132,7 +132,8 @@ pub record IsRightCycle (net : Setup) (n : ℕ) : Type 0 where
   -- no buffer holds more than its places or flits of two packets, no channel has two owners
   pub start : IsWormOrder net (state_at net n)
   pub frozen : IsWormOrder net (frozen_at net n)
-  -- the credits of a channel are the places of its buffer that are left
+  -- the credits of a channel are the places of its buffer that are left, also those that the verdicts look at
   pub credits : (c : Channel) → credit_of net (state_at net n) c + held net (state_at net n) c ≡ net.places
+  pub frozen_credits : (c : Channel) → credit_of net (frozen_at net n) c + held net (frozen_at net n) c ≡ net.places
   -- the flits of a packet go out in order
   pub out_in_order : (p i j a b : ℕ) → IsValid net p j → i < j → place_of net (state_at net n) p i ≡ Out a → place_of net (state_at net n) p j ≡ Out b → a < b

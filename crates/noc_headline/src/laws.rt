@@ -22,10 +22,13 @@ pub fn every_cycle_is_right()
     ensures { (net : Setup) (n : ℕ) → IsGoodSetup net → IsRightCycle net n }
 {}
 
-/// The verdicts are what happens. Before them each flit on a wire lands, and sources may inject. An input channel is routed from its
-/// verdict Routed until the tail of its packet is sent. A packet comes to own an idle channel exactly where it is granted, and then
-/// owns it until its tail has gone. A flit leaves its buffer exactly where it is sent, onto the wire of its next channel or out, and
-/// a credit goes back exactly for each flit that leaves the buffer of a link channel.
+/// The verdicts are what happens, and with what comes before them they are all that happens. Before them each flit on a wire lands, each
+/// credit arrives, and a link channel becomes idle exactly where the tail of its owner has passed it. A source injects a flit exactly
+/// where its packet is the first of the node that waits, and has begun and finds room, or is due and finds an idle injection channel, of
+/// which it comes to own the least. Then an input channel is routed from its verdict Routed until the tail of its packet is sent. A
+/// packet comes to own an idle channel exactly where it is granted, and then owns it until its tail has gone. A flit leaves its buffer
+/// exactly where it is sent, onto the wire of its next channel or out, and a credit goes back exactly for each flit that leaves the
+/// buffer of a link channel. The pointer of an arbiter goes one past its winner, and without one it stays.
 pub fn verdicts_take_effect()
     ensures { (net : Setup) (n : ℕ) → IsGoodSetup net → IsRightStep net n }
 {}

@@ -60,6 +60,20 @@ limit-once net a b one other =
     let high = last-below net.packets other.last one.last other.due one.due in
     omega (arith, low, high, one.sum, other.sum)
 
+-- .. and there is one
+last-some : (ps : List Packet) (n : ℕ) → n ≤ length ps → (last : ℕ) × IsLastBefore ps n last
+last-some ps zero l = (0, last-opening ps)
+last-some ps (suc n) l =
+    let before = last-some ps n (omega arith) in
+    let p : Packet = get_or ps n (record { source = 0; destination = 0; class = 0; length = 0; due = 0 }) in
+    let next : n + 1 ≡ suc n = omega arith in
+    (max before.0 p.due, subst (λ k. IsLastBefore ps k (max before.0 p.due)) next (last-more ps n before.0 p (slice_get-get_or ps n _ (omega arith)) before.1))
+
+pub limit-some : (net : Setup) → (limit : ℕ) × IsLimit net limit
+limit-some net =
+    let last = last-some net.packets (length net.packets) (omega arith) in
+    (last.0 + budget net, record { last = last.0; due = last-all net.packets (length net.packets) last.0 (omega arith) last.1; sum = refl })
+
 -- ---- a packet that was read
 
 pub packet-here : (net : Setup) (i : ℕ) (p : Packet) → slice_get net.packets i ≡ Some p → p ≡ packet_at net i

@@ -173,10 +173,11 @@ impl Core {
         }
     }
 
-    /// The cycle that a router is in, or that it makes next; at the start the network's count.
+    /// The cycle that a router is in, or that it makes next, at most the limit; at the start the network's count.
     pub fn steps(&self, router: usize) -> u64
         requires { router < nodes_of self.now.net.relation.grid }
-        ensures { result ≡ steps_at self.now router }
+        ensures value { result ≡ steps_at self.now router }
+        ensures within { result ≤ CYCLE_LIMIT }
     {
         self.parts.room[router].steps()
     }

@@ -5,6 +5,7 @@ ghost use Rattle.std.specs.List.{slice_get};
 ghost use Rattle.noc_topo.specs.Words.{tabulate};
 ghost use Rattle.noc_topo.specs.Shape.{nodes as nodes_of, ports as ports_of};
 ghost use Rattle.noc_route.specs.Ranks.{IsRankedBy, Ranking};
+ghost use Rattle.noc_router.specs.Decided.{IsDecidedFor};
 ghost use Rattle.noc_router.specs.View.{opening_view};
 ghost use Rattle.noc_net.specs.declared.fault.NetFault.TheVariants.{Memory as memory_fault};
 ghost use Rattle.noc_net.specs.declared.fault.NetFault.{NetFault as NetFaultValue};
@@ -74,10 +75,7 @@ impl Network {
         if let Some(fault) = first_fault(&relation, &packets) {
             return Err(fault);
         }
-        let routers = new_routers(alloc, &relation, places, &packets)?;
-        let plan = Plan::new(alloc, &relation)?;
-        let beats = new_beats(alloc, routers.len())?;
-        let room = new_room(alloc, routers.len())?;
+        let (routers, plan, beats, room) = new_state(alloc, &relation, places, &packets)?;
         Ok(Network {
             parts: Parts {
                 relation,
@@ -141,9 +139,10 @@ impl Network {
         parts.count = first + cycles;
     }
 
-    /// How many cycles have run.
+    /// How many cycles have run, at most the limit: a network never goes beyond it.
     pub fn count(&self) -> u64
-        ensures { result ≡ self.now.count }
+        ensures value { result ≡ self.now.count }
+        ensures within { result ≤ CYCLE_LIMIT }
     {
         self.parts.count
     }
@@ -297,6 +296,31 @@ fn total_misfits(routers: &[Router]) -> u64
         misfits = misfits.saturating_add(router.misfits());
     }
     misfits
+}
+
+// The routers of a network, a plan for them, an idle beat on every wire, and the storage of a core.
+fn new_state(
+    alloc: Global,
+    relation: &Relation,
+    places: usize,
+    packets: &[Packet],
+) -> Result<(Vec<Router>, Plan, Vec<[Beat; LINKS]>, Vec<Room>), Memory>
+    requires some_place { 0 < places }
+    requires places { places ≤ MAX_BUFFER }
+    requires few { length packets.now ≤ MAX_PACKETS }
+    requires sendable { All IsSendable packets.now }
+    ensures routers { IfOk result (λ s. s.0.items ≡ tabulate (nodes_of relation.now.grid) (λ node. opening_view (record { grid = relation.now.grid; node = node; vcs = relation.now.vcs; places = places }) (starts_of packets.now node) (ends_of packets.now node))) }
+    ensures plan { IfOk result (λ s. IsDecidedFor (ports_of relation.now.grid) relation.now.vcs s.1) }
+    ensures beats { IfOk result (λ s. vec_len s.2 ≡ nodes_of relation.now.grid) }
+    ensures idle { IfOk result (λ s. All IsSilent s.2.items) }
+    ensures room { IfOk result (λ s. vec_len s.3 ≡ nodes_of relation.now.grid) }
+{
+    let nodes = relation.shape().nodes();
+    let plan = Plan::new(alloc, relation)?;
+    let beats = new_beats(alloc, nodes)?;
+    let room = new_room(alloc, nodes)?;
+    let routers = new_routers(alloc, relation, places, packets)?;
+    Ok((routers, plan, beats, room))
 }
 
 // The routers of a network, by node.

@@ -1,12 +1,13 @@
 -- What is known of every network that was made, at the start of each cycle (_at), after its landings and credits (_mid_at), and in
 -- its frozen state (_frozen_at).
-use Rattle.std.proofs.Common.{◌≡◌, ◌≢◌, ℕ, zero, suc, ◌≤◌, ◌<◌, true, false, List, length, Some, ap, sym, ◌∙◌}
+use Rattle.std.proofs.Common.{◌≡◌, ◌≢◌, ℕ, zero, suc, ◌+◌, ◌-◌, ◌≤◌, ◌<◌, Bool, true, false, List, length, Some, ap, sym, ◌∙◌, arith}
+use Rattle.std.specs.Prelude.{if◌then◌else◌}
 use Rattle.noc_topo.specs.Words.{Has}
 use Rattle.noc_topo.specs.Shape.{nodes, neighbour}
 use Rattle.noc_route.specs.Channel.{Channel, Link, Eject}
 use Rattle.noc_route.specs.Routes.{set_at}
-use Rattle.noc_model.specs.Network.{Setup, count_in, State, Source, On, place_of, has_channel, after_landing, after_credits, network_cycle, frozen_at, state_at}
-use Rattle.noc_model.specs.Good.{IsGoodSetup}
+use Rattle.noc_model.specs.Network.{Setup, count_in, count_on, credit_of, State, Source, On, place_of, has_channel, after_landing, after_credits, network_cycle, frozen_at, state_at}
+use Rattle.noc_model.specs.Good.{IsGoodSetup, held}
 use Rattle.noc_ownership.proofs.StateWords.{IsValid, class_of, goal}
 use Rattle.noc_ownership.proofs.BuiltRecord.{IsBuilt}
 use Rattle.noc_ownership.proofs.BuiltLemmas.{good-built, good-wired, good-covering}
@@ -18,6 +19,7 @@ use Rattle.noc_ownership.proofs.OneOnLink.{one-on-link}
 use Rattle.noc_ownership.proofs.OpeningLemmas.{at-source}
 use Rattle.noc_ownership.proofs.OutOrder.{IsOutInOrder, out-state}
 use Rattle.noc_ownership.proofs.RoutedState.{IsWholeFrozen, whole-mid}
+use Rattle.noc_ownership.proofs.VerdictRoom.{none-on}
 pub use Rattle.noc_ownership.proofs.WormOrder.{whole-at, whole-frozen_at, worm_order-at, worm_order-frozen_at, held-at, credit-at}
 
 module _ (net : Setup) (good : IsGoodSetup net) where
@@ -96,6 +98,16 @@ module _ (net : Setup) (good : IsGoodSetup net) where
 
   pub none_back-frozen_at : (n : ℕ) (c : Channel) → has_channel (frozen_at net n).back c ≡ false
   none_back-frozen_at n c = ap (λ (cs : List Channel). has_channel cs c) (no-back-frozen net n (state_at net n))
+
+  -- so the credits of a frozen state are the places that are left too
+  pub frozen_credit-at : (n : ℕ) (c : Channel) → credit_of net (frozen_at net n) c + held net (frozen_at net n) c ≡ net.places
+  frozen_credit-at n c =
+      let on = none-on net built (frozen_at net n) (whole-frozen_at net good n).sound.keyed (whole-frozen_at net good n).sound.worm n (whole-frozen_at net good n).sound.still c in
+      let back = ap (λ (b : Bool). if b then 1 else 0) (none_back-frozen_at n c) in
+      rest (count_on net (frozen_at net n) c) (count_in net (frozen_at net n) c) (if has_channel (frozen_at net n).back c then 1 else 0) on back (room-frozen_at n c)
+    where
+      rest : (a b k : ℕ) → a ≡ 0 → k ≡ 0 → b ≤ net.places → (net.places - a - b - k) + (a + b + k) ≡ net.places
+      rest a b k x y l = omega arith
 
   -- ---- as many arbiters as routers
 

@@ -73,7 +73,7 @@ module _ (net : Setup) where
     }
 
     -- what waits at a node is preceded by what waits first
-    waiting-first : (S : State) → IsKeyed net S.at → (node p : ℕ) → first_waiting net S node ≡ Some p → (q : ℕ) → q < length net.packets → (packet_at net q).source ≡ node → place_of net S q (last_of net q) ≡ Source
+    pub waiting-first : (S : State) → IsKeyed net S.at → (node p : ℕ) → first_waiting net S node ≡ Some p → (q : ℕ) → q < length net.packets → (packet_at net q).source ≡ node → place_of net S q (last_of net q) ≡ Source
         → Precedes (λ x. (packet_at net x).due) p q
     waiting-first S keyed node p e q low same t =
         let test : ℕ → Bool = λ x. nat_eq (packet_at net x).source node && list_any (λ (f : Located). is_at_source f.place) (flits_of net S x) in

@@ -41,7 +41,7 @@ least_by-has {X = X} key (y ∷ ys) x e = at (least_by key ys) (same_Some _ _ e)
         pick false t = inr (rest x (ap Some t))
 
 module _ (net : Setup) (built : IsBuilt net) (S : State) (keyed : IsKeyed net S.at) (w : IsWorm net S.own (place_of net S)) (n : ℕ) where
-  injection_of-is : (node : ℕ) (c : Channel) → is_injection_of net node c ≡ true → (v : ℕ) × (c ≡ Inject node v)
+  pub injection_of-is : (node : ℕ) (c : Channel) → is_injection_of net node c ≡ true → (v : ℕ) × (c ≡ Inject node v)
   injection_of-is node (Link r a v) e = absurd (false≢true e)
   injection_of-is node (Inject m v) e = (v, ap (λ x. Inject x v) (eqb-true m node e))
   injection_of-is node (Eject m v) e = absurd (false≢true e)

@@ -140,7 +140,7 @@ module _ (net : Setup) (built : IsBuilt net) (F : State) (keyed : IsKeyed net F.
           let b = k'.first.least i m'.first.valid m'.was in
           (e, omega arith)
 
-  none-on : (o : Channel) → count_on net F o ≡ 0
+  pub none-on : (o : Channel) → count_on net F o ≡ 0
   none-on o = cases (filter-some (λ (f : Located). is_on o f.place) F.at)
     where
       cases : (count_on net F o ≡ 0) ⊎ ((f : Located) × Has f F.at × (is_on o f.place ≡ true)) → count_on net F o ≡ 0

@@ -1,6 +1,7 @@
 //! What holds of every network that was made, in every cycle.
 
 ghost use Rattle.std.specs.Prelude.{◌≡◌, ◌+◌, ◌<◌, ℕ, length};
+ghost use Rattle.noc_topo.specs.Words.{Has};
 ghost use Rattle.noc_route.specs.Channel.{Channel, Link};
 ghost use Rattle.noc_model.specs.Network.{Setup, On, Out, packet_at, place_of, credit_of, state_at, frozen_at};
 ghost use Rattle.noc_model.specs.Worm.{IsWormOrder};
@@ -31,4 +32,9 @@ pub fn flits_go_out_in_order()
 pub fn a_link_carries_one_flit()
     ensures { (net : Setup) (n p i q j r port v w : ℕ) → IsGoodSetup net → IsValid net p i → IsValid net q j
         → place_of net (state_at net n) p i ≡ On (Link r port v) → place_of net (state_at net n) q j ≡ On (Link r port w) → (p ≡ q) × (i ≡ j) }
+{}
+
+/// Two credits on their way back along one link are one credit, whatever their virtual channels.
+pub fn a_link_carries_one_credit()
+    ensures { (net : Setup) (n r port v w : ℕ) → IsGoodSetup net → Has (Link r port v) (state_at net n).back → Has (Link r port w) (state_at net n).back → v ≡ w }
 {}

@@ -4,6 +4,6 @@
 mod laws;
 
 pub use laws::{
-    a_link_carries_one_flit, credits_are_the_places_left, flits_go_out_in_order,
-    packets_keep_worm_order,
+    a_link_carries_one_credit, a_link_carries_one_flit, credits_are_the_places_left,
+    flits_go_out_in_order, packets_keep_worm_order,
 };

@@ -5,8 +5,6 @@ mod limits;
 mod memory;
 mod packet;
 mod set;
-#[cfg(test)]
-mod tests;
 
 pub use limits::{
     INDICES, MAX_BUFFER, MAX_CHANNELS, MAX_CLASSES, MAX_DUE, MAX_LENGTH, MAX_NODES, MAX_PACKETS,

@@ -13,7 +13,7 @@ use Rattle.noc_route.proofs.PermitsLemmas.{PermitsLink-from_test, PermitsEject-f
 use Rattle.noc_model.specs.Network.{Setup, packet_at}
 use Rattle.noc_model.specs.Good.{IsGoodSetup}
 use Rattle.noc_ownership.proofs.BuiltLemmas.{good-built, good-packet}
-use Rattle.noc_progress.specs.Built.{IsReal, IsBuilt, LeadsOn}
+use Rattle.noc_progress.proofs.BuiltRecord.{IsReal, IsBuilt, LeadsOn}
 use Rattle.noc_progress.proofs.WormFacts.{IsNearing}
 
 module _ (net : Setup) (made : IsRelation net.relation) where

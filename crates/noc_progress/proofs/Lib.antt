@@ -1,3 +1,4 @@
+pub mod BuiltRecord
 pub mod AllocationLemmas
 pub mod BuiltLemmas
 pub mod ChainLemmas

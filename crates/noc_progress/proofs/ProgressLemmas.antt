@@ -5,7 +5,7 @@ use Rattle.std.proofs.lemmas.Bool.{true≢false, and_left, and_right, ne_eqb}
 use Rattle.std.proofs.lemmas.List.{nil_from_length}
 use Rattle.noc_model.specs.Network.{end_distance, after_injection, In, Injection, Located, On, Out, Place, Setup, Source, State, after_credits, after_landing, all_inputs, frozen, injected_place, injections, landed_place, state_at, verdict_in}
 use Rattle.noc_model.specs.Progress.{events, is_flying, is_pending, is_stuck}
-use Rattle.noc_progress.specs.Built.{IsBuilt}
+use Rattle.noc_progress.proofs.BuiltRecord.{IsBuilt}
 use Rattle.noc_route.specs.Channel.{Channel}
 use Rattle.noc_route.specs.Ranks.{IsRanked}
 use Rattle.noc_route.specs.Routes.{permits}

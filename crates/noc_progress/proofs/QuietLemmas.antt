@@ -17,7 +17,7 @@ use Rattle.noc_ownership.proofs.BuiltLemmas.{distance-none}
 use Rattle.noc_ownership.proofs.Members.{Has-filter, Has-kept, find-some, list_any-from, list_any-has, Has-filter_mapped}
 use Rattle.noc_ownership.proofs.OpeningLemmas.{below-has}
 use Rattle.noc_ownership.proofs.GrantLemmas.{Has-below}
-use Rattle.noc_progress.specs.Built.{IsReal, IsBuilt, LeadsOn}
+use Rattle.noc_progress.proofs.BuiltRecord.{IsReal, IsBuilt, LeadsOn}
 use Rattle.noc_progress.proofs.HasLemmas.{map-has, find-has, least-some}
 use Rattle.noc_progress.proofs.RouterLemmas.{IsInput, grant-given, index_below}
 use Rattle.noc_progress.proofs.WormFacts.{IsNearing, IsChain, IsQuiet}

@@ -8,7 +8,7 @@ use Rattle.std.proofs.lemmas.Nat.{div-mul-add, mod-mul-add}
 use Rattle.noc_alloc.specs.Arbiter.{pointers_of}
 use Rattle.noc_alloc.specs.Allocation.{grant_of}
 use Rattle.noc_model.specs.Network.{arbiters_at, Setup, State, all_inputs, arriving, claim_of, count_in, round_at, size, stand_of, stands_at, verdict_at, verdict_in}
-use Rattle.noc_progress.specs.Built.{IsBuilt, IsReal}
+use Rattle.noc_progress.proofs.BuiltRecord.{IsBuilt, IsReal}
 use Rattle.noc_route.specs.Channel.{Channel, Eject, Inject, Link, arrival_of, channel_vc, inputs}
 use Rattle.noc_route.proofs.BuiltLemmas.{linked-port}
 use Rattle.noc_router.specs.Verdict.{Claim, Holds, Turns, Stand, Unrouted, Waits, ask_of, ready_port, verdict_of}

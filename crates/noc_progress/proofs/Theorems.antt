@@ -7,7 +7,7 @@ use Rattle.noc_model.specs.Progress.{remainder, budget, events, is_pending, is_s
 use Rattle.noc_model.specs.Good.{IsGoodSetup}
 use Rattle.noc_ownership.proofs.BuiltLemmas.{good-built, good-wired}
 use Rattle.noc_ownership.proofs.Facts.{whole-at, whole-frozen_at, queued-frozen_at, led-frozen_at}
-use Rattle.noc_progress.specs.Built.{IsBuilt}
+use Rattle.noc_progress.proofs.BuiltRecord.{IsBuilt}
 use Rattle.noc_progress.proofs.BuiltLemmas.{built-good, nearer-good}
 use Rattle.noc_progress.proofs.DistanceBound.{distance-within}
 use Rattle.noc_progress.proofs.WormFacts.{IsChain}

@@ -5,7 +5,7 @@ use Rattle.std.proofs.lemmas.Bool.{false≢true, true≢false, eqb-true, eq-eqb,
 use Rattle.noc_model.specs.Network.{In, Located, On, Out, Place, Setup, Source, State, all_inputs, ask, claim_of, claim_with, count_in, count_on, credit_of, has_channel, has_credit_in, injection_at, injection_with, injections, is_idle, is_injection_of, is_on, leads_from, leaving, next_channel, owned_by, owner_of, packet_at, round_at, size, tail_place, verdict_in}
 use Rattle.noc_model.specs.Progress.{is_flying}
 use Rattle.noc_model.proofs.PostLemmas.{some_of_map}
-use Rattle.noc_progress.specs.Built.{IsBuilt, IsReal, LeadsOn}
+use Rattle.noc_progress.proofs.BuiltRecord.{IsBuilt, IsReal, LeadsOn}
 use Rattle.noc_route.specs.Channel.{Channel, Eject, Inject, Link, begin, channel_vc, output_at, output_index, same_channel}
 use Rattle.noc_route.specs.Routes.{permits}
 use Rattle.noc_route.proofs.BuiltLemmas.{linked-port}

@@ -1,6 +1,6 @@
 -- Places of link channels, and the order of numbers with many digits.
 use Rattle.std.proofs.Common.{◌≡◌, ℕ, zero, suc, ◌+◌, ◌*◌, ◌/◌, ◌%◌, ◌<◌, ◌≤◌, true, None, List, [], ◌∷◌, ◌++◌, length, get_or, refl, ap, sym, ◌∙◌, arith, inl, inr}
-use Rattle.std.proofs.Math.Nat.{div-lt_iff_lt-mul, mod-lt, zero-mul, mul-zero, mul_comm}
+use Rattle.std.proofs.Math.Nat.{div-lt_iff_lt-mul, mod-lt, zero-mul, mul-zero, mul_comm, mul-le-mul_right}
 use Rattle.std.specs.Prelude.{nat_lt, nat_eq, ◌&&◌, ◌⊎◌, is_some}
 use Rattle.std.proofs.lemmas.Bool.{lt-ltb, ltb-true, eqb-true, and_parts, or_cases, cases_lt, false≢true}
 use Rattle.noc_topo.specs.Shape.{Grid, nodes, local_port, neighbour}
@@ -141,6 +141,19 @@ place-before g vcs a q w r p v d e before =
     let l : flat 0 ks (a ∷ q ∷ w ∷ []) < flat 0 ks (r ∷ p ∷ v ∷ []) = flat-before 0 ks (a ∷ q ∷ w ∷ []) (r ∷ p ∷ v ∷ []) (here.0, (here.1, (here.2, tt))) (there.0, (there.1, (there.2, tt))) before in
     let first : (n x : ℕ) → 0 * n + x ≡ x = λ n x. omega (arith, zero-mul n) in
     rw (first (nodes g) a, first (nodes g) r) at l
+
+-- the index of an output channel on a link port, where so many ports and channels were counted
+pub index-count : (k : Ranking) (p v : ℕ) → p ≡ local_port k.grid → v ≡ k.vcs → p * v ≡ local_port k.grid * k.vcs
+index-count k p v e f = ap (λ x. x * v) e ∙ ap (λ x. local_port k.grid * x) f
+
+pub index-known : (k : Ranking) (i p v : ℕ) → p ≡ local_port k.grid → v ≡ k.vcs → i < p * v → i < local_port k.grid * k.vcs
+index-known k i p v e f l = let count = index-count k p v e f in omega arith
+
+pub index-past : (k : Ranking) (i j p v : ℕ) → p ≡ local_port k.grid → v ≡ k.vcs → p * v ≤ i → j < local_port k.grid * k.vcs → j < i
+index-past k i j p v e f m l = let count = index-count k p v e f in omega arith
+
+pub index-few : (i p v : ℕ) → p ≤ 6 → v ≤ 8 → i < p * v → i < 56
+index-few i p v a b l = let most : p * v ≤ 6 * v = mul-le-mul_right v a in omega arith
 
 -- ---- lists that grow
 

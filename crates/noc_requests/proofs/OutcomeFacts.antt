@@ -35,7 +35,7 @@ module _ (workers : ℕ) (Wrote : List ℕ → Result (Unit {0}) WriteFault → 
       → Ends workers Wrote IsUnwritten Asks IsFirst result → Ends workers Wrote IsUnwritten Asks' IsFirst' result
   ends_more Asks' IsFirst' (Ok status) asks first e = (e.0, asks e.0 status e.1, e.2)
   ends_more Asks' IsFirst' (Err (fault.Write f)) asks first e = (e.0, e.1, asks e.0 e.1 e.2, e.3)
-  ends_more Asks' IsFirst' (Err (fault.Run f)) asks first e = e
+  ends_more Asks' IsFirst' (Err (fault.Run f)) asks first e = (e.0, e.1, e.2, e.3, e.4, asks e.3 e.4 e.5)
   ends_more Asks' IsFirst' (Err (fault.Joined f)) asks first e = (e.0, first _ e.1)
   ends_more Asks' IsFirst' (Err (fault.Config f)) asks first e = (e.0, first _ e.1)
   ends_more Asks' IsFirst' (Err (fault.Table f)) asks first e = (e.0, first _ e.1)

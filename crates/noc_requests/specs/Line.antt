@@ -68,6 +68,7 @@ option_title option.BadRouter = codes "2 BadRouter"
 option_title option.BadWorkers = codes "3 BadWorkers"
 option_title option.NoTable = codes "4 NoTable"
 option_title option.SpareTable = codes "5 SpareTable"
+option_title option.BadPacket = codes "6 BadPacket"
 
 abbrev pub shape_title : ShapeFault → List ℕ
 shape_title shape.BadDimensions = codes "1 BadDimensions"

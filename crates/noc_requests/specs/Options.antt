@@ -1,13 +1,13 @@
 -- The options of a request: whether they go together, with the configuration, and with the shape.
-use Rattle.std.specs.Prelude.{ℕ, Bool, true, false, ◌&&◌, not, Option, Some, None, nat_le, nat_lt, if◌then◌else◌}
+use Rattle.std.specs.Prelude.{ℕ, ◌-◌, Bool, true, false, ◌&&◌, ◌||◌, not, Option, Some, None, nat_le, nat_lt, unwrap_or, if◌then◌else◌}
 use Rattle.noc_topo.specs.Shape.{Grid, nodes}
 use Rattle.noc_files.specs.Configuration.{Settings}
 use Rattle.noc_files.specs.declared.configuration.RuleName.{RuleName}
 use Rattle.noc_files.specs.declared.configuration.RuleName.TheVariants as word
 use Rattle.noc_requests.specs.declared.fault.OptionFault.{OptionFault}
-use Rattle.noc_requests.specs.declared.fault.OptionFault.TheVariants.{BadCycle, BadRouter, BadWorkers, NoTable, SpareTable}
+use Rattle.noc_requests.specs.declared.fault.OptionFault.TheVariants.{BadCycle, BadPacket, BadRouter, BadWorkers, NoTable, SpareTable}
 use Rattle.noc_requests.specs.declared.request.Command.{Command}
-use Rattle.noc_requests.specs.declared.request.Command.TheVariants.{Run, Explain}
+use Rattle.noc_requests.specs.declared.request.Command.TheVariants.{Run, Explain, Trace}
 
 abbrev pub is_table : RuleName → Bool
 is_table word.Table = true
@@ -17,9 +17,21 @@ is_table _ = false
 abbrev pub table_fault : RuleName → Bool → Option OptionFault
 table_fault name has_table = if has_table && not (is_table name) then Some SpareTable else (if is_table name && not has_table then Some NoTable else None)
 
--- a cycle to be explained that the run does not have
+-- the cycles between which a trace is: from the first to the last of the configuration, where they are not given
+abbrev pub first_cycle : Option ℕ → ℕ
+first_cycle from = unwrap_or from 0
+
+abbrev pub last_cycle : Option ℕ → ℕ → ℕ
+last_cycle to cycles = unwrap_or to (cycles - 1)
+
+-- whether a span has a cycle that the run does not have, or ends before it begins
+abbrev pub is_bad_span : ℕ → ℕ → ℕ → Bool
+is_bad_span first last cycles = nat_le cycles first || nat_le cycles last || nat_lt last first
+
+-- a cycle to be explained, or a span to be traced, that the run does not have
 abbrev pub cycle_fault : Command → ℕ → Option OptionFault
 cycle_fault (Explain cycle router) cycles = if nat_le cycles cycle then Some BadCycle else None
+cycle_fault (Trace from to traced) cycles = if is_bad_span (first_cycle from) (last_cycle to cycles) cycles then Some BadCycle else None
 cycle_fault _ cycles = None
 
 abbrev pub or_else : Option OptionFault → Option OptionFault → Option OptionFault
@@ -30,8 +42,24 @@ or_else (Some fault) later = Some fault
 abbrev pub early_fault : Command → Bool → Settings → Option OptionFault
 early_fault command has_table s = or_else (table_fault s.rule has_table) (cycle_fault command s.cycles)
 
--- and after it: more workers than routers, or a router to be explained that does not exist
+-- a router that does not exist
+abbrev pub router_fault : Grid → Option ℕ → Option OptionFault
+router_fault g None = None
+router_fault g (Some router) = if nat_le (nodes g) router then Some BadRouter else None
+
+-- and after it: more workers than routers, or a router to be explained or traced that does not exist
 abbrev pub late_fault : Command → Grid → Option OptionFault
 late_fault (Run workers report drain) g = if nat_lt (nodes g) workers then Some BadWorkers else None
-late_fault (Explain cycle router) g = if nat_le (nodes g) router then Some BadRouter else None
+late_fault (Explain cycle router) g = router_fault g (Some router)
+late_fault (Trace from to traced) g = router_fault g traced.router
 late_fault _ g = None
+
+-- a packet to be traced that is not among so many
+abbrev pub number_fault : ℕ → Option ℕ → Option OptionFault
+number_fault packets None = None
+number_fault packets (Some packet) = if nat_le packets packet then Some BadPacket else None
+
+-- the fault of the options that is looked for once the packets are known
+abbrev pub packet_fault : Command → ℕ → Option OptionFault
+packet_fault (Trace from to traced) packets = number_fault packets traced.packet
+packet_fault _ packets = None

@@ -22,9 +22,9 @@ IsWriteFault Wrote (fault.Write f) = Wrote (Err f)
 IsWriteFault Wrote _ = ⊥
 
 -- A text that is asked for was written, and this is the status with it; or writing it failed. Otherwise nothing was
--- written. Then two or more workers were refused memory or a thread, or the fault is the first one.
+-- written. Then the fault is the first one; or a text is asked for, and two or more workers were refused memory or a thread.
 abbrev pub Ends : ℕ → (List ℕ → Result (Unit {0}) WriteFault → Type 0) → Type 0 → (List ℕ → Status → Type 0) → (Fault → Type 0) → Result Status Fault → Type 0
 Ends workers Wrote IsUnwritten Asks IsFirst (Ok status) = (text : List ℕ) × Asks text status × Wrote text (Ok tt)
 Ends workers Wrote IsUnwritten Asks IsFirst (Err (fault.Write f)) = (text : List ℕ) × (status : Status) × Asks text status × Wrote text (Err f)
-Ends workers Wrote IsUnwritten Asks IsFirst (Err (fault.Run f)) = IsUnwritten × (1 < workers) × (f ≢ LostWorker)
+Ends workers Wrote IsUnwritten Asks IsFirst (Err (fault.Run f)) = IsUnwritten × (1 < workers) × (f ≢ LostWorker) × (text : List ℕ) × (status : Status) × Asks text status
 Ends workers Wrote IsUnwritten Asks IsFirst (Err f) = IsUnwritten × IsFirst f

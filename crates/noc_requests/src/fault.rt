@@ -11,11 +11,11 @@ use noc_tiles::RunFault;
 use noc_topo::{Shape, ShapeFault};
 
 /// A fault of the options.
-#[derive(Clone, Copy, Debug, PartialEq, Eq)]
+#[derive(Clone, Copy)]
 pub enum OptionFault {
-    /// The cycle that is to be explained is not one of the run.
+    /// A cycle that is to be explained or traced is not one of the run, or a span ends before it begins.
     BadCycle,
-    /// The router that is to be explained does not exist.
+    /// The router that is to be explained or traced does not exist.
     BadRouter,
     /// There are more workers than routers.
     BadWorkers,
@@ -23,10 +23,12 @@ pub enum OptionFault {
     NoTable,
     /// There is a table file, and the rule is another one.
     SpareTable,
+    /// The packet that is to be traced does not exist.
+    BadPacket,
 }
 
 /// The first fault of a request, by family (docs/FORMATS.md, "Fault lines").
-#[derive(Clone, Copy, Debug)]
+#[derive(Clone, Copy)]
 pub enum Fault {
     Joined(InputFault),
     Config(InputFault),

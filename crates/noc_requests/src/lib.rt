@@ -11,5 +11,5 @@ mod status;
 pub use fault::{Fault, OptionFault, status_of};
 pub use line::fault_line;
 pub use request::{Bytes, Command, Files, Report, Request, Text, files_of, parts};
-pub use settings::{named_rule, relation_of};
+pub use settings::{first_cycle, last_cycle, named_rule, packet_fault, relation_of};
 pub use status::Status;

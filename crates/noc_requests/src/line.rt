@@ -181,6 +181,7 @@ fn option_name(fault: OptionFault) -> &'static str
         OptionFault::BadWorkers => "3 BadWorkers",
         OptionFault::NoTable => "4 NoTable",
         OptionFault::SpareTable => "5 SpareTable",
+        OptionFault::BadPacket => "6 BadPacket",
     }
 }
 

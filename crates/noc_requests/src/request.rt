@@ -3,7 +3,7 @@
 ghost use Rattle.std.specs.Prelude.{◌≡◌};
 ghost use Rattle.noc_requests.specs.Asked.{asked_of, files_of, lent, owned, parts};
 
-use noc_files::InputFault;
+use noc_files::{InputFault, Traced};
 
 /// The bytes of one file, or the fault of reading it.
 pub type Text = Result<Vec<u8>, InputFault>;
@@ -12,7 +12,7 @@ pub type Text = Result<Vec<u8>, InputFault>;
 pub type Bytes<'a> = Result<&'a [u8], InputFault>;
 
 /// The reports of a run.
-#[derive(Clone, Copy, Debug, PartialEq, Eq)]
+#[derive(Clone, Copy)]
 pub enum Report {
     /// Sums over all packets and channels.
     Summary,
@@ -23,7 +23,7 @@ pub enum Report {
 }
 
 /// What is asked for.
-#[derive(Clone, Copy, Debug, PartialEq, Eq)]
+#[derive(Clone, Copy)]
 pub enum Command {
     /// The latency report of a joined text, which stands in `config`; no other text is looked at.
     Joined,
@@ -38,6 +38,12 @@ pub enum Command {
     Explain {
         cycle: u64,
         router: usize,
+    },
+    /// What the input channels did in each cycle of a span, which is that of the configuration's cycles where an end of it is not given.
+    Trace {
+        from: Option<u64>,
+        to: Option<u64>,
+        traced: Traced,
     },
     /// Whether the ranks rise along the routing relation. No ranks are an empty text.
     Check,

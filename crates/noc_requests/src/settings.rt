@@ -6,7 +6,7 @@ ghost use Rattle.noc_files.specs.Gives.{Gives};
 ghost use Rattle.noc_files.specs.Table.{table_of};
 ghost use Rattle.noc_requests.specs.Outcome.{Refuses};
 ghost use Rattle.noc_requests.specs.Asked.{asked_of, lent, read_by};
-ghost use Rattle.noc_requests.specs.Options.{cycle_fault, early_fault, late_fault, table_fault};
+ghost use Rattle.noc_requests.specs.Options.{cycle_fault, early_fault, first_cycle, is_bad_span, last_cycle, late_fault, packet_fault, router_fault, table_fault};
 ghost use Rattle.noc_requests.specs.Settings.{rule_named, AsksForRelation, AsksForShape, IsRuleOf, RefusesTable, SettingsFault};
 
 use crate::fault::{Fault, OptionFault};
@@ -92,17 +92,45 @@ fn table_fault(name: RuleName, has_table: bool) -> Option<OptionFault>
     }
 }
 
-// The fault of a cycle to be explained that is not one of the run.
+// The fault of a cycle to be explained, or of a span to be traced, that is not one of the run.
 fn cycle_fault(command: Command, cycles: u64) -> Option<OptionFault>
     ensures { result ≡ cycle_fault command cycles }
 {
     match command {
         Command::Explain { cycle, router: _ } if cycles <= cycle => Some(OptionFault::BadCycle),
+        Command::Trace {
+            from,
+            to,
+            traced: _,
+        } if is_bad_span(first_cycle(from), last_cycle(to, cycles), cycles) => {
+            Some(OptionFault::BadCycle)
+        }
         _ => None,
     }
 }
 
-// The fault of more workers than routers, or of a router to be explained that does not exist.
+// Whether a span has a cycle that a run of so many does not have, or ends before it begins.
+fn is_bad_span(first: u64, last: u64, cycles: u64) -> bool
+    ensures { result ≡ is_bad_span first last cycles }
+{
+    cycles <= first || cycles <= last || last < first
+}
+
+/// The first cycle of a trace.
+pub fn first_cycle(from: Option<u64>) -> u64
+    ensures { result ≡ first_cycle from }
+{
+    from.unwrap_or(0)
+}
+
+/// The last cycle of a trace, of a run of so many.
+pub fn last_cycle(to: Option<u64>, cycles: u64) -> u64
+    ensures { result ≡ last_cycle to cycles }
+{
+    to.unwrap_or(cycles.saturating_sub(1))
+}
+
+// The fault of more workers than routers, or of a router to be explained or traced that does not exist.
 fn late_fault(command: Command, shape: &Shape) -> Option<OptionFault>
     ensures { result ≡ late_fault command shape.now }
 {
@@ -112,9 +140,40 @@ fn late_fault(command: Command, shape: &Shape) -> Option<OptionFault>
             report: _,
             drain: _,
         } if shape.nodes() < workers => { Some(OptionFault::BadWorkers) }
-        Command::Explain { cycle: _, router } if shape.nodes() <= router => {
-            Some(OptionFault::BadRouter)
-        }
+        Command::Explain { cycle: _, router } => router_fault(shape, Some(router)),
+        Command::Trace {
+            from: _,
+            to: _,
+            traced,
+        } => router_fault(shape, traced.router),
+        _ => None,
+    }
+}
+
+// The fault of a router that does not exist.
+fn router_fault(shape: &Shape, router: Option<usize>) -> Option<OptionFault>
+    ensures { result ≡ router_fault shape.now router }
+{
+    match router {
+        Some(router) if shape.nodes() <= router => Some(OptionFault::BadRouter),
+        _ => None,
+    }
+}
+
+/// The fault of a packet to be traced that is not among so many.
+pub fn packet_fault(command: Command, packets: usize) -> Option<OptionFault>
+    ensures { result ≡ packet_fault command packets }
+{
+    let Command::Trace {
+        from: _,
+        to: _,
+        traced,
+    } = command
+    else {
+        return None;
+    };
+    match traced.packet {
+        Some(packet) if packets as u64 <= packet => Some(OptionFault::BadPacket),
         _ => None,
     }
 }

@@ -3,7 +3,5 @@
 
 mod bank;
 mod store;
-#[cfg(test)]
-mod tests;
 
 pub use bank::Bank;

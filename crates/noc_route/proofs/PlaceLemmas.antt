@@ -1,7 +1,7 @@
 -- Places in the table.
 use Rattle.std.proofs.Common.{◌≡◌, ℕ, ◌+◌, ◌*◌, ◌<◌, ◌≤◌, ◌/◌, ◌%◌, true, arith, inl, inr, refl, ◌∙◌, zero-add}
 use Rattle.std.specs.Prelude.{nat_le, nat_eq, ◌&&◌, ◌⊎◌, slice_index}
-use Rattle.std.proofs.Math.Nat.{div-lt_iff_lt-mul, mul-le-mul_right, add-mul-div_right, add-mul-mod_self_right, mod-eq_of_lt, div-eq_of_lt, add_comm}
+use Rattle.std.proofs.Math.Nat.{div-lt_iff_lt-mul, mul-le-mul_right, add-mul-div_right, add-mul-mod_self_right, mod-eq_of_lt, div-eq_of_lt, add_comm, mod-lt}
 use Rattle.std.proofs.lemmas.Bool.{lt-ltb, and_parts, leb-true, eqb-true, cases_lt}
 use Rattle.std.proofs.lemmas.Nat.{le-div}
 use Rattle.noc_packet.specs.declared.limits.TheConstants.{MAX_CHANNELS, MAX_CLASSES}
@@ -41,6 +41,17 @@ pub page-router : (b n c : ℕ) → 1 ≤ n → 1 ≤ c → b < n * c * n → b 
 page-router b n c some few l =
     let pair : b / n < n * c = (div-lt_iff_lt-mul {k = n} {x = b} {y = n * c} (omega arith)).1 l in
     (div-lt_iff_lt-mul {k = c} {x = b / n} {y = n} (omega arith)).1 pair
+
+-- .. the port of a channel by its index
+pub index-port : (k n ports vcs : ℕ) → 1 ≤ vcs → n ≡ ports * vcs → k < n → k / vcs < ports
+index-port k n ports vcs some e l = (div-lt_iff_lt-mul {k = vcs} {x = k} {y = ports} some).1 (omega arith)
+
+-- .. and so do the two nodes of a pair
+pub pair-first : (n m pair : ℕ) → n ≡ m → 1 ≤ n → pair < n * n → pair / n < m
+pair-first n m pair e some l = let below : pair / n < n = (div-lt_iff_lt-mul {k = n} {x = pair} {y = n} some).1 l in omega arith
+
+pub pair-second : (n m pair : ℕ) → n ≡ m → 1 ≤ n → pair % n < m
+pair-second n m pair e some = let below : pair % n < n = mod-lt pair some in omega arith
 
 -- where a dateline fits, each half of a class's channels has one at least
 pub half-some : (g : Grid) (vcs classes : ℕ) → is_right g vcs classes Dateline ≡ true → 0 < vcs / classes / 2

@@ -206,6 +206,21 @@ IsBlockTrimmed-more routes sets new outs page input first next m l long is stuck
         ∙ entry_set-here (comes_at routes outs page input) sets (page * width routes.grid routes.vcs + input) here
         ∙ ap (λ s. if comes_at routes outs page input then s else 0) (h.later input (omega arith) l))
 
+pub IsBlockTrimmed-none : (routes : Routes) (outs : List ℕ) (page : ℕ) (first : Option Entry) → IsFirstStuck routes outs (page * width routes.grid routes.vcs) first → IsBlockTrimmed routes routes.sets outs page 0 first
+IsBlockTrimmed-none routes outs page first h = record {
+  left = λ i n l. absurd (omega arith);
+  later = λ i n l. refl;
+  others = λ b i l other. refl;
+  stuck = let P : ℕ → Type 0 = λ n. IsFirstStuck routes outs n first in subst P (let e : page * width routes.grid routes.vcs ≡ page * width routes.grid routes.vcs + 0 = omega arith in e) h;
+}
+
+pub AreTrimmed-none : (routes : Routes) (outs : List ℕ) → AreTrimmed routes routes.sets outs 0 None
+AreTrimmed-none routes outs = record {
+  left = λ b i n m l. absurd (omega arith);
+  later = λ b i n l. refl;
+  stuck = λ b i m l n. absurd (omega arith);
+}
+
 pub AreTrimmed-more : (routes : Routes) (sets new outs : List ℕ) (page : ℕ) (first next : Option Entry) → page < pages routes.grid routes.classes
     → ((i : ℕ) → i < width routes.grid routes.vcs → page_set (record routes { sets = new }) page i ≡ left_at (record routes { sets = sets }) outs page i)
     → ((b i : ℕ) → i < width routes.grid routes.vcs → b ≢ page → page_set (record routes { sets = new }) b i ≡ page_set (record routes { sets = sets }) b i)

@@ -58,10 +58,10 @@ impl Relation {
             return Err(RouteFault::WrongShape);
         };
         let map = Map::new(alloc, frame)?;
-        let mut sets = vec![in alloc; ChannelSet::empty(); frame.pages() * frame.width()]?;
-        let mut outs = vec![in alloc; ChannelSet::empty(); frame.pages()]?;
-        fill(&map, &rule, &mut sets, &mut outs)?;
-        Ok(Relation { frame, sets })
+        Ok(Relation {
+            frame,
+            sets: sets_of(alloc, &map, &rule)?,
+        })
     }
 
     /// The output channels by which a packet of this class, that came to the router by this input port and channel and is
@@ -108,6 +108,18 @@ impl Relation {
     {
         self.frame.classes
     }
+}
+
+/// A rule's sets at the entries that packets reach, or the first fault.
+fn sets_of(alloc: Global, map: &Map, rule: &Rule) -> Result<Vec<ChannelSet>, RouteFault>
+    requires { is_right map.now.frame.shape map.now.frame.vcs map.now.frame.classes rule.now ≡ true }
+    ensures { MatchResult result (λ sets. IsRelationOfRule (routing_in map.now.frame rule.now) (routes_in map.now.frame sets.items)) (IsFaultOf (routing_in map.now.frame rule.now)) }
+{
+    let pages = map.frame.pages();
+    let mut sets = vec![in alloc; ChannelSet::empty(); pages * map.frame.width()]?;
+    let mut outs = vec![in alloc; ChannelSet::empty(); pages]?;
+    fill(map, rule, &mut sets, &mut outs)?;
+    Ok(sets)
 }
 
 /// Writes a rule's sets at the entries that packets reach, or answers the first fault; `outs` is room.

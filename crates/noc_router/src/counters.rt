@@ -7,7 +7,7 @@ use crate::digit::{Digit, Sets};
 use noc_packet::INDICES;
 
 /// For each verdict and channel a count of three digits to the base 8.
-#[derive(Clone, Copy, Debug)]
+#[derive(Clone, Copy)]
 pub(crate) struct Counters {
     pub(crate) units: Digit,
     pub(crate) eights: Digit,

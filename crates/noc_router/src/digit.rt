@@ -17,7 +17,7 @@ const KEPT: usize = 7;
 /// For each verdict and channel one digit, 0 to 7, of a count, and the sets of up to seven cycles that are still to be added to it.
 ///
 /// The sets of eight cycles are added at once, by a few operations on words and with no branch for what they hold.
-#[derive(Clone, Copy, Debug)]
+#[derive(Clone, Copy)]
 pub(crate) struct Digit {
     recent: [Sets; KEPT],
     pub(crate) kept: usize,

@@ -9,7 +9,7 @@ use std::alloc::Global;
 use std::marker::Model;
 
 /// A list of at most 56 places, each of which holds a number or nothing: requests, or who gets what is asked for.
-#[derive(Debug, Drop)]
+#[derive(Drop)]
 pub(crate) struct Places {
     filled: ChannelSet,
     values: Vec<usize>,

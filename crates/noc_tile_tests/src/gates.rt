@@ -1,6 +1,6 @@
 //! Gates that hold workers.
 
-ghost use Rattle.std.specs.Prelude.{false};
+ghost use Rattle.std.specs.Prelude.{false, nat_eq, ◌&&◌};
 
 use noc_tiles::Gate;
 use std::hint;
@@ -30,6 +30,8 @@ pub struct Closing {
 impl Gate for Closing {
     ghost opens = { λ _. false };
 
+    ghost shuts = { λ gate worker cycle. nat_eq worker gate.worker && nat_eq cycle gate.cycle };
+
     fn pass(&self, worker: usize, cycle: u64) -> bool {
         worker != self.worker || cycle != self.cycle
     }
@@ -57,6 +59,8 @@ impl Meeting {
 
 impl Gate for Meeting {
     ghost opens = { λ _. false };
+
+    ghost shuts = { λ _ _ _. false };
 
     fn pass(&self, worker: usize, cycle: u64) -> bool {
         if cycle != 1 || 1 < worker {
@@ -92,6 +96,8 @@ impl HeadStart {
 
 impl Gate for HeadStart {
     ghost opens = { λ _. false };
+
+    ghost shuts = { λ _ _ _. false };
 
     fn pass(&self, worker: usize, cycle: u64) -> bool {
         if worker == 0 && cycle == 2 {

@@ -1,8 +1,12 @@
 // What no clause says of threads: that two of them run, that none waits for all others in a cycle, and that a flag that was raised
 // is seen.
 
+ghost use Rattle.std.specs.Prelude.{◌<◌, ◌≤◌};
+ghost use Rattle.noc_tiles.specs.declared.limits.TheConstants.{MAX_WORKERS};
+
 use crate::gates::{Closing, HeadStart, Meeting};
 use crate::networks::{LINE_STALLS, RING_LATENCY, Reports, dateline_ring, line_of_three, run_by};
+use noc_net::Network;
 use noc_tiles::{AllOpen, Gate, RunFault, Stop, run_tiles};
 use std::alloc::Global;
 use std::sync::Wait;
@@ -62,6 +66,87 @@ fn a_gate_that_closes(rt: HostRuntime) -> Result<(), Fail> {
     assert_eq!(rt; fault, Some(RunFault::LostWorker));
     let reports: Reports = run_by(&rt, a, dateline_ring(a)?, 60, 2, &AllOpen)?;
     assert_eq!(rt; reports.latency.as_slice(), RING_LATENCY);
+    Ok(())
+}
+
+// The fault of a run of the line of three, from its first cycle on or from count 4.
+fn fault_of_line<R: Threads + Wait + Sync, G: Gate>(
+    rt: &R,
+    alloc: Global,
+    network: Network,
+    workers: usize,
+    gate: &G,
+) -> Option<RunFault>
+    requires count { network.count ≤ 4 }
+    requires workers { (0 < workers) × (workers ≤ MAX_WORKERS) }
+{
+    run_tiles(rt, alloc, network, 16, workers, gate).err()
+}
+
+// Worker 1 does not pass cycle 2.
+#[test]
+fn a_gate_that_closes_on_a_line(rt: HostRuntime) -> Result<(), Fail> {
+    let a = rt.alloc();
+    let gate = Closing {
+        worker: 1,
+        cycle: 2,
+    };
+    for workers in 2..4usize {
+        let fault = fault_of_line(&rt, a, line_of_three(a)?, workers, &gate);
+        assert_eq!(rt; fault, Some(RunFault::LostWorker));
+    }
+    Ok(())
+}
+
+// One worker asks its gate too.
+#[test]
+fn a_gate_that_closes_for_one_worker(rt: HostRuntime) -> Result<(), Fail> {
+    let a = rt.alloc();
+    let gate = Closing {
+        worker: 0,
+        cycle: 2,
+    };
+    let fault = fault_of_line(&rt, a, line_of_three(a)?, 1, &gate);
+    assert_eq!(rt; fault, Some(RunFault::LostWorker));
+    Ok(())
+}
+
+// The gate is asked with the count of the network, and not with the cycle of the call: from count 4 on cycle 18 is the fifteenth of
+// the call, and cycle 2 is over.
+#[test]
+fn a_gate_is_asked_with_the_count(rt: HostRuntime) -> Result<(), Fail> {
+    let a = rt.alloc();
+    for workers in 2..4usize {
+        let network = run_tiles(&rt, a, line_of_three(a)?, 4, workers, &AllOpen)?;
+        let late = Closing {
+            worker: 1,
+            cycle: 18,
+        };
+        let fault = fault_of_line(&rt, a, network, workers, &late);
+        assert_eq!(rt; fault, Some(RunFault::LostWorker));
+        let network = run_tiles(&rt, a, line_of_three(a)?, 4, workers, &AllOpen)?;
+        let over = Closing {
+            worker: 1,
+            cycle: 2,
+        };
+        assert_eq!(rt; fault_of_line(&rt, a, network, workers, &over), None);
+    }
+    Ok(())
+}
+
+#[test]
+fn the_texts_of_faults(rt: HostRuntime) -> Result<(), Fail> {
+    let a = rt.alloc();
+    let text = format!(in a;
+        "{}, {}, {}",
+        RunFault::Memory,
+        RunFault::NoWorker,
+        RunFault::LostWorker
+    )?;
+    assert_eq!(rt;
+        text.as_str(),
+        "memory was refused, a worker could not be started, a worker came back without its cycles"
+    );
     Ok(())
 }
 

@@ -13,7 +13,7 @@ use Rattle.noc_net.specs.Network.{Setup}
 use Rattle.noc_model.proofs.RunLemmas.{count_views}
 use Rattle.noc_tiles.specs.Ends.{End}
 use Rattle.noc_tiles.specs.TileStep.{Layout, TileState, is_own, is_from, is_inside, places, fed_all, cycled, after, puts}
-use Rattle.noc_tiles.specs.Tiles.{IsReady, IsSameTile, AllEnded, Runs, inlets, outlets, layout_of, state_of}
+use Rattle.noc_tiles.specs.Tiles.{IsReady, IsSameTile, AllEnded, Gating, Runs, inlets, outlets, layout_of, state_of}
 use Rattle.noc_tiles.specs.Partition.{AllWhole, IsPartition, IsWire, index_of, routers_of}
 use Rattle.noc_tiles.specs.declared.tile.Tile.{Tile}
 use Rattle.noc_tiles.proofs.FlatLemmas.{offset, flat-at, offset-lt, apart, Found, flat-find, column, fed_all-at, length-puts, length-put_by, puts-at}
@@ -34,13 +34,21 @@ AllRuns g k [] (b ∷ bs) = ⊥
 AllRuns g k (a ∷ as') [] = ⊥
 AllRuns g k (a ∷ as') (b ∷ bs) = Ran g k a b × AllRuns g k as' bs
 
-pub all_runs : (g : Routes) (s o : Bool) (k : ℕ) (xs ys : List Tile) → AllEnded g s o xs ys → ((t : ℕ) (d : Tile) → t < length xs → (get_or xs t d).cycles ≡ k) → AllWhole ys → AllRuns g k xs ys
+pub all_runs : (g : Routes) (s : Bool) (o : Gating) (k : ℕ) (xs ys : List Tile) → AllEnded g s o xs ys → ((t : ℕ) (d : Tile) → t < length xs → (get_or xs t d).cycles ≡ k) → AllWhole ys → AllRuns g k xs ys
 all_runs g s o k [] [] h c w = tt
 all_runs g s o k [] (b ∷ bs) h c w = absurd h
 all_runs g s o k (a ∷ as') [] h c w = absurd h
 all_runs g s o k (a ∷ as') (b ∷ bs) h c w =
     let P : ℕ → Type 0 = λ n. Runs g n a b in
     (record { same = h.0.same; runs = subst P (c 0 a (omega arith)) (h.0.ran (w 0 b (omega arith))) }, all_runs g s o k as' bs h.1 (λ t d l. c (suc t) d (omega arith)) (λ t d l. w (suc t) d (omega arith)))
+
+-- where all tiles are whole, the gate was shut to none of their workers
+pub all_asked : (g : Routes) (s : Bool) (o : Gating) (xs ys : List Tile) → AllEnded g s o xs ys → AllWhole ys → (t : ℕ) (d : Tile) → t < length xs
+    → (k : ℕ) → k < (get_or xs t d).cycles → o.shuts (get_or xs t d).worker ((get_or xs t d).start + k) ≡ false
+all_asked g s o [] ys h w t d l k u = absurd (omega arith)
+all_asked g s o (a ∷ as') [] h w t d l k u = absurd h
+all_asked g s o (a ∷ as') (b ∷ bs) h w zero d l k u = h.0.asked (w 0 b (omega arith)) k u
+all_asked g s o (a ∷ as') (b ∷ bs) h w (suc t) d l k u = all_asked g s o as' bs h.1 (λ t d l. w (suc t) d (omega arith)) t d (omega arith) k u
 
 pub same_count : (g : Routes) (k : ℕ) (xs ys : List Tile) → AllRuns g k xs ys → length ys ≡ length xs
 same_count g k [] [] r = refl

@@ -14,7 +14,7 @@ use Rattle.noc_model.specs.Network.{Setup}
 use Rattle.noc_model.proofs.RunLemmas.{count_views, count_row}
 use Rattle.noc_model.proofs.SentLemmas.{step_of, next_view, sent_beat, unlinked_beat}
 use Rattle.noc_tiles.specs.TileStep.{Layout, TileState, is_own, is_from, is_inside, beat_among, filled, arrived, steps, sent_of, out_at, after_steps, put_by, cycled, after}
-use Rattle.noc_tiles.specs.Together.{Trace, Agrees, TilesRan, carried, put_at, steps_at, tile_at, wire}
+use Rattle.noc_tiles.specs.Together.{Trace, Agrees, PutsInFlight, TilesRan, carried, put_at, steps_at, tile_at, wire}
 use Rattle.noc_tiles.proofs.CycleLemmas.{some_view, no_link}
 use Rattle.noc_tiles.proofs.FillLemmas.{HasOrGets, filled_right}
 use Rattle.noc_tiles.proofs.RunLemmas.{after-more}
@@ -46,10 +46,6 @@ from_inside first count None e = refl
 from_inside first count (Some p) e = e
 
 module _ (net : Setup) (n : ℕ) where
-  -- what it puts in cycle i are the beats of the lockstep run
-  abbrev pub PutsRight : Trace → ℕ → Type 0
-  PutsRight t i = (o : ℕ) → o < length t.layout.outs → get_or (put_at net n t i) o idle_beat ≡ wire net n (n + suc i) (get_or t.layout.outs o (0, 0)).0 (get_or t.layout.outs o (0, 0)).1
-
   abbrev pub RowRight : Trace → ℕ → Type 0
   RowRight t i = (j : ℕ) → j < length t.layout.ins → get_or (get_or t.rows i []) j idle_beat ≡ wire net n (n + i) (get_or t.layout.ins j (0, 0)).0 (get_or t.layout.ins j (0, 0)).1
 
@@ -151,7 +147,7 @@ module _ (net : Setup) (n : ℕ) where
               ∙ ap (λ z. wire net n z (P.first + c) q) more));
         }
 
-    puts-right : (t i : ℕ) → t < m → i < k → Agrees net n (T t) i → RowRight (T t) i → PutsRight (T t) i
+    puts-right : (t i : ℕ) → t < m → i < k → Agrees net n (T t) i → RowRight (T t) i → PutsInFlight net n (T t) i
     puts-right t i tm ik a right o l =
         let P = (T t).layout in
         let p = get_or P.outs o (0, 0) in
@@ -164,7 +160,7 @@ module _ (net : Setup) (n : ℕ) where
     -- what is known of all tiles after i cycles
     pub record Together (i : ℕ) : Type 0 where
       pub agree : (t : ℕ) → t < m → Agrees net n (T t) i
-      pub put : (t c : ℕ) → t < m → c < i → PutsRight (T t) c
+      pub put : (t c : ℕ) → t < m → c < i → PutsInFlight net n (T t) c
 
     row-by : (t : ℕ) → t < m → (j : ℕ) → j < length (T t).layout.ins → (i : ℕ) → i < k → Together i
         → get_or (get_or (T t).rows i []) j idle_beat ≡ wire net n (n + i) (get_or (T t).layout.ins j (0, 0)).0 (get_or (T t).layout.ins j (0, 0)).1
@@ -185,9 +181,9 @@ module _ (net : Setup) (n : ℕ) where
       put = λ t c tm l. absurd (omega arith);
     }
 
-    put-more : (i : ℕ) → i < k → Together i → (t c : ℕ) → t < m → (c < i) ⊎ (c ≡ i) → PutsRight (T t) c
+    put-more : (i : ℕ) → i < k → Together i → (t c : ℕ) → t < m → (c < i) ⊎ (c ≡ i) → PutsInFlight net n (T t) c
     put-more i ik g t c tm (inl l) = g.put t c tm l
-    put-more i ik g t c tm (inr e) = subst (PutsRight (T t)) (sym e) (puts-right t i tm ik (g.agree t tm) (λ j l. row-by t tm j l i ik g))
+    put-more i ik g t c tm (inr e) = subst (PutsInFlight net n (T t)) (sym e) (puts-right t i tm ik (g.agree t tm) (λ j l. row-by t tm j l i ik g))
 
     pub together : (i : ℕ) → i ≤ k → Together i
     together zero l = start
@@ -205,6 +201,9 @@ module _ (net : Setup) (n : ℕ) where
     -- the law
     pub closing : (t : ℕ) → t < m → Agrees net n (T t) k
     closing t tm = (together k (omega arith)).agree t tm
+
+    pub closing-puts : (t i : ℕ) → t < m → i < k → PutsInFlight net n (T t) i
+    closing-puts t i tm l = (together k (omega arith)).put t i tm l
 
     -- what a wire net n brings is the beat of the lockstep run
     pub carried-right : (u o : ℕ) (p : ℕ × ℕ) → u < m → o < length (T u).layout.outs → get_or (T u).layout.outs o (0, 0) ≡ p → (i : ℕ) → Together i → carried net n (wire net n n p.0 p.1) (T u) o i ≡ wire net n (n + i) p.0 p.1

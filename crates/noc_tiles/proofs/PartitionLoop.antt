@@ -16,6 +16,12 @@ take-in zero ts x l = refl
 take-in (suc t) [] x l = absurd (omega arith)
 take-in (suc t) (y ∷ ts) x l = ap (λ q. y ∷ q) (take-in t ts x (omega arith))
 
+pub numbered-more : (ts : List Tile) (x : Tile) (w : ℕ) → length ts ≡ w → ((t : ℕ) (d : Tile) → t < w → (get_or ts t d).worker ≡ t) → x.worker ≡ w
+    → (t : ℕ) (d : Tile) → t < w + 1 → (get_or (ts ++ x ∷ []) t d).worker ≡ t
+numbered-more ts x w count old is t d l =
+    ⊎_elim (λ (less : t < w). ap (λ (q : Tile). q.worker) (get_or_append_left ts (x ∷ []) d t (omega arith)) ∙ old t d less)
+    (λ (past : w ≤ t). let e : length ts ≡ t = omega arith in ap (λ (q : Tile). q.worker) (get_or_push ts x d t e) ∙ is ∙ sym count ∙ e) (cases_lt t w)
+
 module _ (net : Setup) (n k w first end : ℕ) (I O : List (Option End)) (V : List View) (ts : List Tile) (T : Tile) (count : length ts ≡ w) (low : first ≤ end) (is-first : T.first ≡ first)
     (views : flat_map routers_of ts ≡ take first V) (long : first ≤ length V) (routers : T.routers.items ≡ take (end - first) (drop first V)) where
   pub tiles-more : ((t : ℕ) (d : Tile) → t < w → IsTile net n k I O (get_or ts t d)) → IsTile net n k I O T → (t : ℕ) (d : Tile) → t < w + 1 → IsTile net n k I O (get_or (ts ++ T ∷ []) t d)

@@ -83,6 +83,11 @@ pub record IsPartition (net : Setup) (n k : ℕ) (I O : List (Option End)) (ts :
   pub views : flat_map routers_of ts ≡ (lockstep_at net n).views
   pub rings : AreWires net n I O
 
+-- as many tiles as workers, one for each in turn
+pub record AreNumbered (workers : ℕ) (ts : List Tile) : Type 0 where
+  pub count : length ts ≡ workers
+  pub worker : (t : ℕ) (d : Tile) → t < length ts → (get_or ts t d).worker ≡ t
+
 -- the ends of the rings of the routers from `first` on are still in their slots: I0 and O0 are the slots when all were there
 pub record AreUnassigned (net : Setup) (workers first : ℕ) (B : List (List Beat)) (I0 O0 I O : List (Option End)) : Type 0 where
   pub slots : AreSlots net.relation.grid workers B (nodes net.relation.grid * 6) I0 O0

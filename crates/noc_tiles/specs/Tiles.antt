@@ -80,12 +80,18 @@ pub record Runs (relation : Routes) (k : ℕ) (a b : Tile) : Type 0 where
   pub ins : inlets b ≡ fed_all (inlets a) rows
   pub outs : outlets b ≡ fed_all (outlets a) (puts relation (layout_of a) a.start (state_of a) rows)
 
+-- what is known of a gate: whether it is open to every worker in every cycle, and to which worker it is shut in which cycle
+pub record Gating : Type 0 where
+  pub opens : Bool
+  pub shuts : ℕ → ℕ → Bool
+
 -- what is known of a tile that came back
-pub record Ended (relation : Routes) (can_stop opens : Bool) (a b : Tile) : Type 0 where
+pub record Ended (relation : Routes) (can_stop : Bool) (gate : Gating) (a b : Tile) : Type 0 where
   pub same : IsSameTile a b
   pub whole : (b.outcome ≡ Whole) ↔ (b.done ≡ a.cycles)
   pub ran : b.outcome ≡ Whole → Runs relation a.cycles a b
-  pub closed : b.outcome ≡ Closed → opens ≡ false
+  pub asked : b.outcome ≡ Whole → (k : ℕ) → k < a.cycles → gate.shuts a.worker (a.start + k) ≡ false
+  pub closed : b.outcome ≡ Closed → gate.opens ≡ false
   pub stopped : b.outcome ≡ Stopped → can_stop ≡ true
 
 -- may be run
@@ -95,7 +101,7 @@ pub record CanRun (relation : Routes) (t : Tile) : Type 0 where
   pub end : t.start + t.cycles < 2 ^ 64
 
 -- tile by tile
-abbrev pub AllEnded : Routes → Bool → Bool → List Tile → List Tile → Type 0
+abbrev pub AllEnded : Routes → Bool → Gating → List Tile → List Tile → Type 0
 AllEnded g s o [] [] = Unit {0}
 AllEnded g s o [] (b ∷ bs) = ⊥
 AllEnded g s o (a ∷ as') [] = ⊥

@@ -43,6 +43,10 @@ module _ (net : Setup) (n : ℕ) where
     pub views : (c : ℕ) (d : View) → c < length t.state.views → get_or (tile_at t i).views c d ≡ get_or (lockstep_at net (n + i)).views (t.layout.first + c) d
     pub wires : (c q : ℕ) → c < length t.state.views → IsInner t c q → (tile_at t i).wires (t.layout.first + c) q ≡ wire (n + i) (t.layout.first + c) q
 
+  -- what it puts in its cycle i is in flight at the next count
+  abbrev pub PutsInFlight : Trace → ℕ → Type 0
+  PutsInFlight t i = (o : ℕ) → o < length t.layout.outs → get_or (put_at t i) o idle_beat ≡ wire (n + suc i) (get_or t.layout.outs o (0, 0)).0 (get_or t.layout.outs o (0, 0)).1
+
   -- m tiles of the network at count n, that ran k cycles
   pub record TilesRan (k m : ℕ) (T : ℕ → Trace) : Type 0 where
     pub within : (t : ℕ) → t < m → (T t).layout.first + length (T t).state.views ≤ nodes net.relation.grid

@@ -27,7 +27,7 @@ fn run_last<G: Gate>(
 ) -> Result<Vec<Tile>, RunFault>
     requires can { AllCanRun relation.now tiles.items }
     requires one { vec_len tiles ≤ 1 }
-    ensures ended { IfOk result (λ v. AllEnded relation.now stop.now (G.opens gate.now) tiles.items v.items) }
+    ensures ended { IfOk result (λ v. AllEnded relation.now stop.now (record { opens = G.opens gate.now; shuts = G.shuts gate.now }) tiles.items v.items) }
     ensures fault { IfErr result (λ e. e ≢ LostWorker) }
 {
     let mut tiles = tiles;
@@ -87,7 +87,7 @@ struct RunsOf<'a, G> {
 }
 
 impl<'a, G: Gate> Promise<Result<Vec<Tile>, RunFault>> for RunsOf<'a, G> {
-    ghost kept_by = { λ p r. IfOk r (λ v. AllEnded p.relation.now p.stop.now (G.opens p.gate.now) p.before.value.items v.items) × IfErr r (λ e. e ≢ LostWorker) };
+    ghost kept_by = { λ p r. IfOk r (λ v. AllEnded p.relation.now p.stop.now (record { opens = G.opens p.gate.now; shuts = G.shuts p.gate.now }) p.before.value.items v.items) × IfErr r (λ e. e ≢ LostWorker) };
 }
 
 // Runs each tile, the second half of them in a thread of its own.
@@ -99,7 +99,7 @@ pub(crate) fn run_all<R: Threads + Wait + Sync, G: Gate>(
     gate: &G,
 ) -> Result<Vec<Tile>, RunFault>
     requires { AllCanRun relation.now tiles.items }
-    ensures { IfOk result (λ v. AllEnded relation.now stop.now (G.opens gate.now) tiles.items v.items) × IfErr result (λ e. e ≢ LostWorker) }
+    ensures { IfOk result (λ v. AllEnded relation.now stop.now (record { opens = G.opens gate.now; shuts = G.shuts gate.now }) tiles.items v.items) × IfErr result (λ e. e ≢ LostWorker) }
 {
     let count = tiles.len();
     if count <= 1 {
@@ -115,7 +115,7 @@ pub(crate) fn run_all<R: Threads + Wait + Sync, G: Gate>(
         rt,
         |scope| -> Result<Vec<Tile>, RunFault>
             requires { AllCanRun relation.now first.items × AllCanRun relation.now second.items × (0 < vec_len first) × (0 < vec_len second) × IsSync R.row × IsSync G.row }
-            ensures { IfOk result (λ v. AllEnded relation.entry.now stop.entry.now (G.opens gate.entry.now) (first.items ++ second.items) v.items) × IfErr result (λ e. e ≢ LostWorker) }
+            ensures { IfOk result (λ v. AllEnded relation.entry.now stop.entry.now (record { opens = G.opens gate.entry.now; shuts = G.shuts gate.entry.now }) (first.items ++ second.items) v.items) × IfErr result (λ e. e ≢ LostWorker) }
         {
             let before = Snapshot::of(&second);
             let promise = RunsOf {
@@ -128,7 +128,7 @@ pub(crate) fn run_all<R: Threads + Wait + Sync, G: Gate>(
                 promise,
                 move || -> Result<Vec<Tile>, RunFault>
                     requires { AllCanRun relation.now second.items × IsSync R.row × IsSync G.row }
-                    ensures { IfOk result (λ v. AllEnded relation.entry.now stop.entry.now (G.opens gate.entry.now) second.items v.items) × IfErr result (λ e. e ≢ LostWorker) }
+                    ensures { IfOk result (λ v. AllEnded relation.entry.now stop.entry.now (record { opens = G.opens gate.entry.now; shuts = G.shuts gate.entry.now }) second.items v.items) × IfErr result (λ e. e ≢ LostWorker) }
                 { run_all(rt, relation, second, stop, gate) },
             );
             let Ok(child) = child else {

@@ -10,7 +10,7 @@ ghost use Rattle.noc_tiles.specs.Ends.{End};
 ghost use Rattle.noc_tiles.specs.Starts.{tile_start};
 ghost use Rattle.noc_tiles.specs.TileStep.{is_inside, is_own};
 ghost use Rattle.noc_tiles.specs.Rings.{AreLeftOut, AreSlots, GoesOutTo, in_slots, out_slots};
-ghost use Rattle.noc_tiles.specs.Partition.{InFlight, IsPartition, IsTile, AreUnassigned, setup_of};
+ghost use Rattle.noc_tiles.specs.Partition.{AreNumbered, InFlight, IsPartition, IsTile, AreUnassigned, setup_of};
 ghost use Rattle.noc_tiles.specs.declared.limits.TheConstants.{MAX_WORKERS};
 
 use crate::frame::Frame;
@@ -68,6 +68,7 @@ fn new_tile(
     requires partition { (I0 : List (Option End)) × (O0 : List (Option End)) × AreUnassigned (setup_of frame.now) frame.now.workers first beats.now I0 O0 (in_slots ins.old.items) (out_slots outs.old.items) }
     ensures size_in { vec_len ins.new ≡ vec_len ins.old }
     ensures size_out { vec_len outs.new ≡ vec_len outs.old }
+    ensures worker { IfOk result (λ t. t.worker ≡ worker) }
     ensures first { IfOk result (λ t. t.first ≡ first) }
     ensures routers { IfOk result (λ t. t.routers.items ≡ routers.items) }
     ensures tile { IfOk result (λ t. (I0 O0 : List (Option End)) → AreUnassigned (setup_of frame.now) frame.now.workers first beats.now I0 O0 (in_slots ins.old.items) (out_slots outs.old.items) → IsTile (setup_of frame.now) frame.now.count frame.now.cycles I0 O0 t) }
@@ -109,7 +110,8 @@ pub(crate) fn partition(
     requires flight { InFlight (setup_of frame.now) frame.now.count beats.now }
     requires views { routers.items ≡ (lockstep_at (setup_of frame.now) frame.now.count).views }
     requires end { frame.now.count + frame.now.cycles < 2 ^ 64 }
-    ensures { IfOk result (λ v. (I : List (Option End)) × (O : List (Option End)) × IsPartition (setup_of frame.now) frame.now.count frame.now.cycles I O v.items) }
+    ensures numbered { IfOk result (λ v. AreNumbered frame.now.workers v.items) }
+    ensures partition { IfOk result (λ v. (I : List (Option End)) × (O : List (Option End)) × IsPartition (setup_of frame.now) frame.now.count frame.now.cycles I O v.items) }
 {
     let shape = frame.relation.shape();
     let nodes = shape.nodes();

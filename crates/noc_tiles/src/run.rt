@@ -1,6 +1,6 @@
 //! The run of a tile.
 
-ghost use Rattle.std.specs.Prelude.{List, ◌≡◌, ◌+◌, ◌<◌, ◌≤◌, ◌^◌, ◌↔◌, true, false, vec_len, IsTrue, IsFalse};
+ghost use Rattle.std.specs.Prelude.{ℕ, List, ◌≡◌, ◌+◌, ◌<◌, ◌≤◌, ◌^◌, ◌↔◌, true, false, vec_len, IsTrue, IsFalse};
 ghost use Rattle.noc_packet.specs.declared.packet.Beat.{Beat as beat_value};
 ghost use Rattle.noc_topo.specs.declared.limits.TheConstants.{MAX_NODES};
 ghost use Rattle.noc_topo.specs.Shape.{nodes as nodes_of, ports as ports_of};
@@ -54,7 +54,7 @@ fn cycle(
 }
 
 /// Runs a tile's cycles as the beats come. Before each one the gate is asked, with the network's count; where it does not let
-/// the worker pass, the flag is raised.
+/// the worker pass, the flag is raised: so a run that is whole had no cycle in which the gate was shut to the worker.
 pub fn run_tile<G: Gate>(
     rt: &impl Wait,
     relation: &Relation,
@@ -69,6 +69,7 @@ pub fn run_tile<G: Gate>(
     ensures plan { IsDecidedFor (ports_of relation.now.grid) relation.now.vcs result.plan }
     ensures whole { (result.outcome ≡ Whole) ↔ (result.done ≡ tile.cycles) }
     ensures ran { result.outcome ≡ Whole → Runs relation.now tile.cycles tile result }
+    ensures asked { result.outcome ≡ Whole → (k : ℕ) → k < tile.cycles → G.shuts gate.now tile.worker (tile.start + k) ≡ false }
     ensures closed { result.outcome ≡ Closed → G.opens gate.now ≡ false }
     ensures stopped { result.outcome ≡ Stopped → stop.now ≡ true }
 {

@@ -5,7 +5,7 @@ ghost use Rattle.noc_model.specs.declared.limits.TheConstants.{CYCLE_LIMIT as cy
 ghost use Rattle.noc_tiles.specs.Ends.{End, inlet, outlet};
 ghost use Rattle.noc_tiles.specs.declared.fault.RunFault.TheVariants.{LostWorker};
 ghost use Rattle.noc_tiles.specs.Tiles.{inlets, outlets};
-ghost use Rattle.noc_tiles.specs.Partition.{AllWhole, IsPartition, IsFrame, IsGathered, rows_of, setup_of};
+ghost use Rattle.noc_tiles.specs.Partition.{AllWhole, AreNumbered, IsPartition, IsFrame, IsGathered, rows_of, setup_of};
 ghost use Rattle.noc_tiles.specs.declared.tile.Tile.{Tile as tile_value};
 
 use crate::emptying::empty_all;
@@ -89,7 +89,9 @@ pub(crate) fn run_threads<R: Threads + Wait + Sync, G: Gate>(
 ) -> Result<Network, RunFault>
     requires frame { IsFrame frame }
     requires partition { (I : List (Option End)) × (O : List (Option End)) × IsPartition (setup_of frame) frame.count frame.cycles I O tiles.items }
+    requires numbered { AreNumbered frame.workers tiles.items }
     requires end { frame.count + frame.cycles ≤ cycle_limit }
+    ensures asked { IfOk result (λ _. (worker k : ℕ) → worker < frame.workers → k < frame.cycles → G.shuts gate.now worker (frame.count + k) ≡ false) }
     ensures net { IfOk result (λ v. v ≡ record { net = setup_of frame; count = frame.count + frame.cycles }) }
     ensures lost { IfErr result (λ e. e ≡ LostWorker → G.opens gate.now ≡ false) }
 {

@@ -1,6 +1,6 @@
 //! A network run by workers.
 
-ghost use Rattle.std.specs.Prelude.{◌≡◌, ◌+◌, ◌<◌, ◌≤◌, true, false, IfErr, IfOk, IsOk};
+ghost use Rattle.std.specs.Prelude.{ℕ, ◌≡◌, ◌+◌, ◌<◌, ◌≤◌, true, false, IfErr, IfOk, IsOk};
 ghost use Rattle.noc_model.specs.declared.limits.TheConstants.{CYCLE_LIMIT as cycle_limit};
 ghost use Rattle.noc_tiles.specs.declared.fault.RunFault.TheVariants.{LostWorker};
 ghost use Rattle.noc_tiles.specs.declared.limits.TheConstants.{MAX_WORKERS};
@@ -16,7 +16,9 @@ use std::alloc::Global;
 use std::sync::Wait;
 use std::thread::Threads;
 
-/// Runs so many cycles, with 1 to 16 workers that each have a tile of the routers.
+/// Runs so many cycles, with 1 to 16 workers that each have a tile of the routers. Each worker asks the gate before each cycle, with
+/// the network's count. One worker needs no memory and no thread, so all that it can answer beside the network is that the gate did
+/// not let it pass.
 pub fn run_tiles<R: Threads + Wait + Sync, G: Gate>(
     rt: &R,
     alloc: Global,
@@ -28,8 +30,10 @@ pub fn run_tiles<R: Threads + Wait + Sync, G: Gate>(
     requires workers { (0 < workers) × (workers ≤ MAX_WORKERS) }
     requires end { network.count + cycles ≤ cycle_limit }
     ensures net { IfOk result (λ v. v ≡ record network { count = network.count + cycles }) }
+    ensures asked { IfOk result (λ _. (worker k : ℕ) → worker < workers → k < cycles → G.shuts gate.now worker (network.count + k) ≡ false) }
     ensures lost { IfErr result (λ e. e ≡ LostWorker → G.opens gate.now ≡ false) }
     ensures one { workers ≡ 1 → G.opens gate.now ≡ true → IsOk result }
+    ensures one_fault { workers ≡ 1 → IfErr result (λ e. e ≡ LostWorker) }
 {
     if workers == 1 {
         return run_single(rt, alloc, network, cycles, gate);

@@ -190,6 +190,10 @@ coordinate-below (x ∷ y ∷ z ∷ u ∷ us) node i e l sizes = absurd (omega (
 pub length-stored : (s : Inside) → IsSound s → length s.sizes ≡ 3
 length-stored s h = ap length (sym h.missing) ∙ length-filled (take s.count s.sizes)
 
+-- .. of the stored shape
+pub split-below : (s : Inside) (xs : List ℕ) (node i : ℕ) → IsSound s → xs ≡ coordinates s.sizes node → i < 3 → get_or xs i 0 < get_or s.sizes i 0
+split-below s xs node i h e l = rw e (coordinate-below s.sizes node i (length-stored s h) l (sizes-stored s h))
+
 pub stepped-none : (s : Inside) (g : Grid) → grid_of s ≡ g → IsSound s → (node port : ℕ) → port < 2 * s.count
     → moved_in s.wraps (get_or s.sizes (port / 2) 0) (is_plus port) (get_or (coordinates s.sizes node) (port / 2) 0) ≡ None → None ≡ neighbour g node port
 stepped-none s g e h node port l none =

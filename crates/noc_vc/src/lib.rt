@@ -4,8 +4,6 @@
 mod input;
 mod misfit;
 mod output;
-#[cfg(test)]
-mod tests;
 
 pub use input::{InputChannel, InputState};
 pub use misfit::Misfit;

@@ -12,8 +12,8 @@ loop-router-init g c =
     let lines = c.args.lines.now in
     record { puts = puts_no_number w.contents w.has_failed (λ (router : ℕ). lines_of_router (l.grid lines) (l.listed lines) (l.vcs lines) router (l.said lines router)) c.args.before c.args.sink.now; short = omega arith }
 
-pub returns-in_err-written : goal.returns-in_err-written
-returns-in_err-written g c =
+pub returns-in_err-written-clause-puts : goal.returns-in_err-written-clause-puts
+returns-in_err-written-clause-puts g c =
     let p = err_from_is_err_and c.from_residual.result c.from_residual.ensures.1 in
     let w = g.W.Sink in
     let l = g.L.Lines in

@@ -26,5 +26,5 @@ returns-in_err-put_routers g c =
     let header = c.args.header.now in
     let lines = lines_of_routers (l.grid c.args.lines.now) (l.listed c.args.lines.now) (l.vcs c.args.lines.now) (l.said c.args.lines.now) in
     let first : Puts w.contents w.has_failed c.args.sink.now c.put_all.new.sink 0 header (Ok c.in_ok-written.written) = rw c.as_bytes.ensures.value at c.in_ok-written.ensures in
-    let both = puts_then w.contents w.has_failed c.args.sink.now c.put_all.new.sink c.put_routers.new.sink 0 c.in_ok-written.written header lines (Err e) first c.in_err-put_routers.ensures in
+    let both = puts_then w.contents w.has_failed c.args.sink.now c.put_all.new.sink c.put_routers.new.sink 0 c.in_ok-written.written header lines (Err e) first c.in_err-put_routers.ensures.puts in
     rw (p.1, p.2) (puts_fault w.contents w.has_failed c.args.sink.now c.put_routers.new.sink (header ++ lines) e both)

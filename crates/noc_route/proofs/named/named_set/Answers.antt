@@ -2,13 +2,22 @@ use Rattle.std.proofs.Common.{◌≡◌, ℕ, ◌/◌, ◌%◌, sym, ap, ◌∙�
 use Rattle.std.specs.Prelude.{◌||◌, ◌&&◌, nat_lt, nat_eq}
 use Rattle.std.proofs.lemmas.Bool.{eqb-true}
 use Rattle.noc_packet.specs.Set.{has_bit}
+use Rattle.noc_topo.specs.Shape.{ports}
 use Rattle.noc_route.specs.Entered.{routing_in}
 use Rattle.noc_route.specs.Relation.{is_led}
 use Rattle.noc_route.specs.Routes.{width}
 use Rattle.noc_route.proofs.BoolLemmas.{lt_next}
+use Rattle.noc_route.proofs.PlaceLemmas.{index-port}
 use Rattle.noc_route.proofs.NamedLemmas.{and_next, and_next_not}
 use Rattle.noc_route.proofs.named.named_set.Goals as goal
 use Rattle.noc_route.proofs.named.named_set.Goals.{then-leads, else-leads}
+
+pub leads-requires-clause-port : goal.leads-requires-clause-port
+leads-requires-clause-port c =
+    index-port c.loop-channel.channel c.width-channel-end.result (ports c.args.map.now.frame.shape) c.args.map.now.frame.vcs c.args.map.now.frame.some_vcs c.width-channel-end.ensures.value c.loop-channel-test.true
+
+pub with-set-requires : goal.with-set-requires
+with-set-requires c = omega (arith, c.loop-channel-test.true, c.width-channel-end.ensures.few)
 
 pub loop-channel-preserved : goal.loop-channel-preserved
 loop-channel-preserved c = λ k.

@@ -1,21 +1,58 @@
 use Rattle.std.proofs.Common.{◌≡◌, ℕ, ◌+◌, ◌*◌, ◌<◌, true, false, get_or, set, length, subst, ap, sym, ◌∙◌, arith, refl}
-use Rattle.std.specs.Prelude.{◌&&◌, nat_eq}
+use Rattle.std.specs.Prelude.{◌&&◌, nat_eq, if◌then◌else◌}
 use Rattle.std.proofs.lemmas.List.{get_or_default}
 use Rattle.std.proofs.Math.Bool.{and-false}
+use Rattle.std.proofs.Math.Nat.{mod-lt}
 use Rattle.noc_topo.specs.Shape.{nodes}
 use Rattle.noc_route.specs.Order.{earlier_entry}
 use Rattle.noc_route.specs.Routes.{width}
 use Rattle.noc_route.specs.Trimming.{routes_in, comes_in, comes_at, page_set, is_stuck_at, IsFirstStuck, IsStuckFirst}
 use Rattle.noc_route.specs.declared.rule.Entry.{Entry}
-use Rattle.noc_route.proofs.PlaceLemmas.{page-router}
+use Rattle.noc_route.proofs.PlaceLemmas.{page-router, pair-second}
 use Rattle.noc_route.proofs.StuckLemmas.{IsFirstStuck-passed, IsStuckFirst-earlier, IsFirstStuck-emptied}
 use Rattle.noc_route.proofs.trim.trim_entry.Goals as goal
+
+pub is_reached-requires-clause-class : goal.is_reached-requires-clause-class
+is_reached-requires-clause-class c =
+    let P : Entry → Type 0 = λ e. e.class < c.args.map.now.frame.classes in
+    subst P (sym c.requires.entry) (mod-lt _ c.args.map.now.frame.some_classes)
+
+pub is_reached-requires-clause-dst : goal.is_reached-requires-clause-dst
+is_reached-requires-clause-dst c =
+    let P : Entry → Type 0 = λ e. e.dst < nodes c.args.map.now.frame.shape in
+    subst P (sym c.requires.entry) (pair-second (nodes c.args.map.now.frame.shape) _ c.args.page refl (omega (arith, c.args.map.now.frame.all_nodes, c.args.map.now.frame.some_nodes)))
 
 pub is_reached-requires-clause-router : goal.is_reached-requires-clause-router
 is_reached-requires-clause-router c =
     let P : Entry → Type 0 = λ e. e.router < nodes c.args.map.now.frame.shape in
     subst P (sym c.requires.entry)
     (page-router c.args.page (nodes c.args.map.now.frame.shape) c.args.map.now.frame.classes (omega (arith, c.args.map.now.frame.all_nodes, c.args.map.now.frame.some_nodes)) c.args.map.now.frame.some_classes c.requires.page)
+
+pub returns-then-not-is_reached-clause-sets : goal.returns-then-not-is_reached-clause-sets
+returns-then-not-is_reached-clause-sets c =
+    let routes = routes_in c.args.map.now.frame c.args.sets.now in
+    let w = width c.args.map.now.frame.shape c.args.map.now.frame.vcs in
+    let none : comes_at routes c.args.outs.now c.args.page c.args.input ≡ false
+    = ap (λ (e : Entry). comes_in routes c.args.outs.now e.class e.router e.dst c.args.input) (sym c.requires.entry) ∙ sym (c.is_reached.ensures c.args.sets.now) ∙ c.if-not-is_reached.true in
+    ap (λ place. set c.args.sets.now place c.empty.result) c.slot-place.ensures.value
+    ∙ ap (λ s. set c.args.sets.now (c.args.page * w + c.args.input) s) c.empty.ensures.bits
+    ∙ sym (ap (λ b. if b then c.args.sets.now else set c.args.sets.now (c.args.page * w + c.args.input) 0) none)
+
+pub returns-then-is_empty-clause-sets : goal.returns-then-is_empty-clause-sets
+returns-then-is_empty-clause-sets c =
+    let routes = routes_in c.args.map.now.frame c.args.sets.now in
+    let w = width c.args.map.now.frame.shape c.args.map.now.frame.vcs in
+    let comes : comes_at routes c.args.outs.now c.args.page c.args.input ≡ true
+    = ap (λ (e : Entry). comes_in routes c.args.outs.now e.class e.router e.dst c.args.input) (sym c.requires.entry) ∙ sym (c.is_reached.ensures c.args.sets.now) ∙ c.if-not-is_reached.false in
+    sym (ap (λ b. if b then c.args.sets.now else set c.args.sets.now (c.args.page * w + c.args.input) 0) comes)
+
+pub returns-clause-sets : goal.returns-clause-sets
+returns-clause-sets c =
+    let routes = routes_in c.args.map.now.frame c.args.sets.now in
+    let w = width c.args.map.now.frame.shape c.args.map.now.frame.vcs in
+    let comes : comes_at routes c.args.outs.now c.args.page c.args.input ≡ true
+    = ap (λ (e : Entry). comes_in routes c.args.outs.now e.class e.router e.dst c.args.input) (sym c.requires.entry) ∙ sym (c.is_reached.ensures c.args.sets.now) ∙ c.if-not-is_reached.false in
+    sym (ap (λ b. if b then c.args.sets.now else set c.args.sets.now (c.args.page * w + c.args.input) 0) comes)
 
 pub returns-then-not-is_reached-clause-first : goal.returns-then-not-is_reached-clause-first
 returns-then-not-is_reached-clause-first c =

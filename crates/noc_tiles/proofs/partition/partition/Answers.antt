@@ -8,7 +8,7 @@ use Rattle.noc_tiles.specs.Rings.{in_slots, out_slots}
 use Rattle.noc_tiles.specs.Partition.{IsTile, AreUnassigned, routers_of, setup_of}
 use Rattle.noc_tiles.specs.declared.tile.Tile.{Tile}
 use Rattle.noc_tiles.proofs.BoundaryLemmas.{vec-length}
-use Rattle.noc_tiles.proofs.PartitionLoop.{tiles-more, firsts-more, views-more}
+use Rattle.noc_tiles.proofs.PartitionLoop.{firsts-more, numbered-more, tiles-more, views-more}
 use Rattle.noc_tiles.specs.Starts.{tile_start}
 use Rattle.noc_tiles.proofs.StartsLemmas.{start-step, start-end}
 use Rattle.noc_tiles.proofs.UnassignedLemmas.{slots-wires}
@@ -75,11 +75,12 @@ loop-worker-preserved c =
           (tiles-more net n c.args.frame.now.cycles w first end I0 O0 V ts T tc l c.in_ok-tile.ensures.first v.views long_v routers v.tiles (c.in_ok-tile.ensures.tile I0 O0 v.unassigned));
       firsts = subst (λ (z : List Tile). (t : ℕ) (d : Tile) → t < w + 1 → (get_or z t d).first ≡ length (flat_map routers_of (take t z))) (sym push)
           (firsts-more net n c.args.frame.now.cycles w first end I0 O0 V ts T tc l c.in_ok-tile.ensures.first v.views long_v routers v.firsts);
+      numbered = subst (λ (z : List Tile). (t : ℕ) (d : Tile) → t < w + 1 → (get_or z t d).worker ≡ t) (sym push) (numbered-more ts T w tc v.numbered c.in_ok-tile.ensures.worker);
       views = ap (flat_map routers_of) push ∙ views-more net n c.args.frame.now.cycles w first end I0 O0 V ts T tc l c.in_ok-tile.ensures.first v.views long_v routers;
     }
 
-pub returns : goal.returns
-returns c =
+pub returns-clause-partition : goal.returns-clause-partition
+returns-clause-partition c =
     let net = setup_of c.args.frame.now in
     let n = c.args.frame.now.count in
     let V = (lockstep_at net n).views in
@@ -101,3 +102,10 @@ returns c =
         rings = slots-wires net n c.args.frame.now.workers c.args.beats.now I0 O0 c.requires.flight v.unassigned.slots;
       },
     )
+
+pub returns-clause-numbered : goal.returns-clause-numbered
+returns-clause-numbered c =
+    let v = c.loop-worker.invariant in
+    let end : c.loop-worker.worker ≡ c.args.frame.now.workers = search (rules, arith) in
+    let tc : length c.loop-worker.tiles.items ≡ c.loop-worker.worker = sym (vec-length c.loop-worker.tiles) ∙ v.count in
+    record { count = tc ∙ end; worker = λ t d l. v.numbered t d (omega arith) }

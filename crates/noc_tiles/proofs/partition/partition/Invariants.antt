@@ -20,5 +20,6 @@ invariant-loop-worker l = record {
   count : vec_len l.tiles ≡ l.worker;
   tiles : (t : ℕ) (d : Tile) → t < l.worker → IsTile (setup_of l.frame) l.frame.count l.frame.cycles (in_slots l.initial.ins.items) (out_slots l.initial.outs.items) (get_or l.tiles.items t d);
   firsts : (t : ℕ) (d : Tile) → t < l.worker → (get_or l.tiles.items t d).first ≡ length (flat_map routers_of (take t l.tiles.items));
+  numbered : (t : ℕ) (d : Tile) → t < l.worker → (get_or l.tiles.items t d).worker ≡ t;
   views : flat_map routers_of l.tiles.items ≡ take l.first (lockstep_at (setup_of l.frame) l.frame.count).views;
 }

@@ -1,4 +1,4 @@
-use Rattle.std.proofs.Common.{rules, arith, ◌≡◌, ◌+◌, List, map, length, vec_len, get_or, refl, ap, sym, ◌∙◌}
+use Rattle.std.proofs.Common.{rules, arith, ◌≡◌, ◌+◌, ◌<◌, List, map, length, vec_len, get_or, refl, ap, sym, ◌∙◌}
 use Rattle.std.specs.List.{flat_map}
 use Rattle.std.specs.Vec.{with_items}
 use Rattle.std.proofs.lemmas.List.{length-map, with_items_is}
@@ -7,9 +7,9 @@ use Rattle.noc_packet.specs.declared.packet.Beat.{Beat}
 use Rattle.noc_net.specs.Halves.{beat_at}
 use Rattle.noc_net.specs.declared.parts.Parts.{Parts}
 use Rattle.noc_tiles.specs.Ends.{inlet, outlet}
-use Rattle.noc_tiles.specs.Tiles.{AllCanRun, inlets, outlets}
+use Rattle.noc_tiles.specs.Tiles.{AllCanRun, Gating, inlets, outlets}
 use Rattle.noc_tiles.specs.Partition.{setup_of, rows_of}
-use Rattle.noc_tiles.proofs.BoundaryLemmas.{all_runs, same_count, vec-length}
+use Rattle.noc_tiles.proofs.BoundaryLemmas.{all_asked, all_runs, same_count, vec-length}
 use Rattle.noc_tiles.proofs.GatherLemmas.{tile_in, all_can, can_empty, can-empty-as, empties-as, fits, rows-length, views-done, wires-done}
 use Rattle.noc_tiles.proofs.PartsLemmas.{parts-again}
 use Rattle.noc_tiles.proofs.threads.run_threads.Goals as goal
@@ -30,7 +30,7 @@ gather-requires g c = λ t e l.
     let k = c.args.frame.cycles in
     let xs = c.args.tiles.items in
     let ys = c.in-Ok.tiles.items in
-    let r = all_runs net.relation c.new-stop.result (g.G.Gate.opens c.args.gate.now) k xs ys (c.in-Ok.ensures).0 (λ t d l. (W.tiles t d l).cycles) (c.if-not-all_whole.ensures.0 refl) in
+    let r = all_runs net.relation c.new-stop.result (record { opens = g.G.Gate.opens c.args.gate.now; shuts = g.G.Gate.shuts c.args.gate.now }) k xs ys (c.in-Ok.ensures).0 (λ t d l. (W.tiles t d l).cycles) (c.if-not-all_whole.ensures.0 refl) in
     let d = tile_in net n k I O xs W in
     let m = same_count net.relation k xs ys r in
     let v = vec-length c.in-Ok.tiles in
@@ -50,7 +50,7 @@ empty_all-requires g c =
     let k = c.args.frame.cycles in
     let xs = c.args.tiles.items in
     let ys = c.in-Ok.tiles.items in
-    let r = all_runs net.relation c.new-stop.result (g.G.Gate.opens c.args.gate.now) k xs ys (c.in-Ok.ensures).0 (λ t d l. (W.tiles t d l).cycles) (c.if-not-all_whole.ensures.0 refl) in
+    let r = all_runs net.relation c.new-stop.result (record { opens = g.G.Gate.opens c.args.gate.now; shuts = g.G.Gate.shuts c.args.gate.now }) k xs ys (c.in-Ok.ensures).0 (λ t d l. (W.tiles t d l).cycles) (c.if-not-all_whole.ensures.0 refl) in
     let d = tile_in net n k I O xs W in
     let all = c.in-Ok-gather.all in
     let G = c.in-Ok-gather.ensures in
@@ -69,7 +69,7 @@ from_parts-requires g c =
     let k = c.args.frame.cycles in
     let xs = c.args.tiles.items in
     let ys = c.in-Ok.tiles.items in
-    let r = all_runs net.relation c.new-stop.result (g.G.Gate.opens c.args.gate.now) k xs ys (c.in-Ok.ensures).0 (λ t d l. (W.tiles t d l).cycles) (c.if-not-all_whole.ensures.0 refl) in
+    let r = all_runs net.relation c.new-stop.result (record { opens = g.G.Gate.opens c.args.gate.now; shuts = g.G.Gate.shuts c.args.gate.now }) k xs ys (c.in-Ok.ensures).0 (λ t d l. (W.tiles t d l).cycles) (c.if-not-all_whole.ensures.0 refl) in
     let d = tile_in net n k I O xs W in
     let all = c.in-Ok-gather.all in
     let G = c.in-Ok-gather.ensures in
@@ -91,3 +91,16 @@ from_parts-requires g c =
     } in
     parts-again Q c.requires.frame.good c.requires.end (G.routers ∙ views-done net n k I O xs ys W r d C.left)
     (λ s q. ap (λ (b : List (List Beat)). beat_at b s q) now ∙ wires-done net n k I O xs ys W r d C.left c.empty_all.new.beats C s q) (vec-length all.beats ∙ rows) c.requires.frame.plan c.requires.frame.room
+
+pub returns-clause-asked : goal.returns-clause-asked
+returns-clause-asked g c = λ w k low within.
+    let W = c.requires.partition.2 in
+    let net = setup_of c.args.frame in
+    let xs = c.args.tiles.items in
+    let d = tile_in net c.args.frame.count c.args.frame.cycles c.requires.partition.0 c.requires.partition.1 xs W in
+    let here : w < length xs = (let n = c.requires.numbered.count in omega arith) in
+    let know : Gating = record { opens = g.G.Gate.opens c.args.gate.now; shuts = g.G.Gate.shuts c.args.gate.now } in
+    let tile = W.tiles w d here in
+    let cycles = tile.cycles in
+    let free = all_asked net.relation c.new-stop.result know xs c.in-Ok.tiles.items (c.in-Ok.ensures).0 (c.if-not-all_whole.ensures.0 refl) w d here k (omega arith) in
+    sym (ap (λ m. g.G.Gate.shuts c.args.gate.now m ((get_or xs w d).start + k)) (c.requires.numbered.worker w d here) ∙ ap (λ m. g.G.Gate.shuts c.args.gate.now w (m + k)) tile.start) ∙ free

@@ -1,3 +1,4 @@
+use Rattle.std.proofs.Common.{rules, arith, ℕ, ◌≡◌, ◌+◌, ◌<◌, false, Result, Ok, Err, IfOk, ap, ◌∙◌}
 use Rattle.noc_tiles.proofs.PartsLemmas.{parts-beats, parts-flight, parts-views}
 use Rattle.noc_tiles.proofs.tiles.run_tiles.Goals as goal
 
@@ -9,3 +10,16 @@ partition-requires-clause-flight g c = rw c.deref.ensures.value (parts-flight c.
 
 pub partition-requires-clause-views : goal.partition-requires-clause-views
 partition-requires-clause-views g c = parts-views c.into_parts-relation.result c.into_parts-relation.ensures.parts
+
+-- what follows from what is known of a result
+lift-ok : {A E : Type 0} (P Q : Type 0) (result : Result A E) → (P → Q) → IfOk result (λ _. P) → IfOk result (λ _. Q)
+lift-ok P Q (Ok value) more known = more known
+lift-ok P Q (Err fault) more known = tt
+
+pub returns-then-workers-eq1-clause-asked : goal.returns-then-workers-eq1-clause-asked
+returns-then-workers-eq1-clause-asked g c =
+    let one : c.args.workers ≡ 1 = search (rules, arith) in
+    let shuts = g.G.Gate.shuts c.args.gate.now in
+    let n = c.args.network.count in
+    lift-ok ((k : ℕ) → k < c.args.cycles → shuts 0 (n + k) ≡ false) ((worker k : ℕ) → worker < c.args.workers → k < c.args.cycles → shuts worker (n + k) ≡ false) c.run_single.result
+    (λ asked worker k low within. (let first : worker ≡ 0 = omega (arith, one, low) in ap (λ w. shuts w (n + k)) first ∙ asked k within)) c.run_single.ensures.asked

@@ -1,7 +1,6 @@
-use Rattle.std.proofs.Common.{◌≡◌, List, length, ap, sym, ◌∙◌, arith, rules, subst}
+use Rattle.std.proofs.Common.{◌≡◌, List, ap, refl, sym, ◌∙◌, arith, subst}
 use Rattle.noc_topo.specs.Words.{tabulate}
 use Rattle.noc_topo.specs.Shape.{nodes}
-use Rattle.noc_topo.proofs.WordLemmas.{length-tabulate}
 use Rattle.noc_packet.specs.declared.packet.Packet.{Packet}
 use Rattle.noc_router.specs.View.{opening_view}
 use Rattle.noc_model.specs.Good.{IsGoodSetup}
@@ -15,15 +14,26 @@ pub invariant_of-result : goal.invariant_of-result
 invariant_of-result c =
     let net : Setup = record { relation = c.args.relation; places = c.args.places; packets = c.args.packets.items } in
     let views : c.in_ok-routers.routers.items ≡ tabulate (nodes c.args.relation.grid) (λ node. opening_view (record { grid = c.args.relation.grid; node = node; vcs = c.args.relation.vcs; places = c.args.places }) (starts_of c.args.packets.items node) (ends_of c.args.packets.items node)) =
-    c.in_ok-routers.ensures
+    c.in_ok-routers.ensures.routers
     ∙ ap (λ (packets : List Packet). tabulate (nodes c.args.relation.grid) (λ node. opening_view (record { grid = c.args.relation.grid; node = node; vcs = c.args.relation.vcs; places = c.args.places }) (starts_of packets node) (ends_of packets node))) c.deref-2.ensures.value in
     let good : IsGoodSetup net = subst (λ (packets : List Packet). IsGoodSetup (record { relation = c.args.relation; places = c.args.places; packets = packets })) c.deref.ensures.value
     (c.in_default.ensures.good c.args.places c.requires.some_place) in
     parts-in_step _ good (omega arith)
     (record {
       views = views ∙ sym (opening_views net);
-      wires = opening_wires net c.in_ok-beats.beats.items (silent_at c.in_ok-beats.beats.items c.in_ok-beats.ensures.idle);
+      wires = opening_wires net c.in_ok-routers.beats.items (silent_at c.in_ok-routers.beats.items c.in_ok-routers.ensures.idle);
     })
-    (omega (arith, c.in_ok-beats.ensures.count, c.len.ensures, c.in_ok-routers.routers.ok.0, ap length views ∙ length-tabulate (nodes c.args.relation.grid) _))
-    (search rules)
-    (omega (arith, c.in_ok-room.ensures, c.len-2.ensures, c.in_ok-routers.routers.ok.0, ap length views ∙ length-tabulate (nodes c.args.relation.grid) _))
+    c.in_ok-routers.ensures.beats
+    c.in_ok-routers.ensures.plan
+    c.in_ok-routers.ensures.room
+
+pub returns-clause-made : goal.returns-clause-made
+returns-clause-made c = refl
+
+pub returns-clause-good : goal.returns-clause-good
+returns-clause-good c =
+    subst (λ (packets : List Packet). IsGoodSetup (record { relation = c.args.relation; places = c.args.places; packets = packets })) c.deref.ensures.value
+    (c.in_default.ensures.good c.args.places c.requires.some_place)
+
+pub returns-clause-memory : goal.returns-clause-memory
+returns-clause-memory c = λ e. tt

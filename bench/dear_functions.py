@@ -1,0 +1,74 @@
+#!/usr/bin/env python3
+"""Lists the functions of crates that cost most to check, dearest first.
+
+    dear_functions.py [--most N] [--kept] CRATE..
+
+Each crate is checked from nothing by one job in a copy, whose libraries are those of this checkout; with --kept nothing is checked, and
+the last check from nothing is read, which has to have been by one job. A check keeps what it has proved of a function in a few
+files as it goes, so what a file cost is the time since the one before it. A function's seconds are those of its contract, its code, its
+goals and what was written of its proof; a file of lemmas has a line of its own. The last line of a crate has the sum.
+"""
+import argparse
+import re
+import shutil
+import subprocess
+import sys
+import tempfile
+from collections import Counter
+from pathlib import Path
+
+TOP = Path(__file__).resolve().parent.parent
+
+
+def function_of(module, crate):
+    """The function, the type or the file of lemmas that a kept file is about."""
+    name = module.removeprefix(f"Rattle-{crate}").lstrip(".-")
+    parts = re.sub(r"^(proofs|specs\.contracts|specs\.declared|specs)\.?", "", name).split(".")
+    known = ("Proof", "Answers", "Lts", "Kinds", "Code", "Key", "Tie", "Statement", "Met", "Named", "Symbol", "Layout", "Carried", "Given",
+             "Invariants", "TheImpl", "TheVariants", "Reads", "Pair", "Paired", "Mir")
+    while len(parts) > 1 and parts[-1].partition("-")[0] in known:
+        parts.pop()
+    return "::".join(it for it in parts if it) or "the crate's root"
+
+
+def seconds_of(out, crate):
+    """What each function cost, by the times at which its files were kept."""
+    kept = sorted((it.stat().st_mtime, it.stem) for it in out.glob("incremental/*/*.oantt"))
+    cost = Counter()
+    for (before, _), (after, module) in zip(kept, kept[1:]):
+        cost[function_of(module, crate)] += after - before
+    return cost
+
+
+def checked(crate, room):
+    """Checks a copy of the crate from nothing, and returns its folder out/."""
+    copy = Path(room) / "crates"
+    shutil.copytree(TOP / "crates", copy, symlinks=True, ignore=shutil.ignore_patterns("must-fail"))
+    for name in ("crates.txt", "HANDLES"):
+        shutil.copy(TOP / name, room)
+    shutil.rmtree(copy / crate / "out", ignore_errors=True)
+    ran = subprocess.run(["rt", "check", "--jobs", "1"], cwd=copy / crate, stdin=subprocess.DEVNULL, capture_output=True, text=True)
+    if ran.returncode:
+        sys.exit(f"{crate} is not proved:\n{ran.stdout[-2000:]}")
+    return copy / crate / "out"
+
+
+def main():
+    options = argparse.ArgumentParser(description=__doc__, formatter_class=argparse.RawDescriptionHelpFormatter)
+    options.add_argument("crates", nargs="+", metavar="CRATE")
+    options.add_argument("--most", type=int, default=60, help="how many functions to list (60)")
+    options.add_argument("--kept", action="store_true", help="read what the last check kept")
+    asked = options.parse_args()
+    rows = []
+    for crate in asked.crates:
+        with tempfile.TemporaryDirectory() as room:
+            cost = seconds_of(TOP / "crates" / crate / "out" if asked.kept else checked(crate, room), crate)
+        rows += [(seconds, crate, function) for function, seconds in cost.items()]
+    for seconds, crate, function in sorted(rows, reverse=True)[: asked.most]:
+        print(f"{seconds:7.1f} s  {crate}  {function}")
+    for crate in asked.crates:
+        print(f"{sum(it[0] for it in rows if it[1] == crate):7.1f} s  {crate} in all")
+
+
+if __name__ == "__main__":
+    main()

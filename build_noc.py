@@ -1,0 +1,226 @@
+#!/usr/bin/env python3
+"""Proves and builds the program crates/noc/out/noc. ./noc calls this where there is no program, or an old one.
+
+`rt lib` makes each library and `rt run` the program, side by side as far as processors and memory go. rt lets no two runs into one
+crate, nor into one that a crate stands on; so each crate is made in a room: a folder with its sources, and with links to what was
+made of the libraries below. What is made goes back to the crate and is kept, so a build that was stopped goes on where it was.
+Standard error tells how far the build is: on a terminal in one line that is written anew, elsewhere in a line for each crate.
+The toolchain's command is $RT, or else rt on PATH. The exit status is 0 where the program is built, else 1.
+"""
+import fcntl
+import os
+import re
+import shutil
+import signal
+import subprocess
+import sys
+import time
+from functools import cache
+from pathlib import Path
+
+TOP = Path(__file__).resolve().parent
+OUT = TOP / "crates/noc/out"
+PROGRAM, LOG, ROOMS = OUT / "noc", OUT / "build.log", OUT / "rooms"
+KIT = "rattle-kit-13b"
+PARTS = ("src", "specs", "proofs")
+DISK, MEMORY = 4 << 30, 2 << 30
+# The seconds that each crate took beside the others on four processors, once. Only their shares count.
+SECONDS = {
+    "noc_topo": 40, "noc_packet": 30, "noc_ring": 40, "noc_route": 120, "noc_rank": 100, "noc_alloc": 40, "noc_vc": 35,
+    "noc_router": 150, "noc_model": 25, "noc_ownership": 25, "noc_views": 30, "noc_progress": 25, "noc_net": 140,
+    "noc_files": 125, "noc_tiles": 160, "noc_requests": 60, "noc_answers": 90, "noc": 120,
+}
+
+
+class Failed(Exception):
+    """Why there is no program, in one sentence."""
+
+
+class Crate:
+    """A crate of the repository, and those that it stands on."""
+
+    def __init__(self, name, line, on):
+        self.name, self.line, self.on = name, line, on
+        self.folder, self.room = TOP / "crates" / name, ROOMS / name
+        self.made = self.folder / ("out/rlib/stamp" if name != "noc" else "out/noc")
+        self.seconds = SECONDS.get(name, 30)
+
+    @cache
+    def below(self):
+        """All that it stands on, by one step or by many, lowest first."""
+        return list(dict.fromkeys(it for crate in self.on for it in [*crate.below(), crate]))
+
+    @cache
+    def is_made(self):
+        """Whether it was made after its sources were written and what it stands on was made. Asked once, when the build begins."""
+        if not self.made.exists() or not all(it.is_made() for it in self.on):
+            return False
+        files = [it for part in PARTS for it in (self.folder / part).rglob("*")] + [it.made for it in self.on] + [TOP / "crates.txt"]
+        return max(it.stat().st_mtime for it in files) <= self.made.stat().st_mtime
+
+    def enter(self):
+        """Fits the room out, with the sources as they are now. What a stopped run kept there stays."""
+        for crate in [*self.below(), self]:
+            for part in PARTS if crate is self else [*PARTS, "out/rlib"]:
+                there = self.room / "crates" / crate.name / part
+                shutil.rmtree(there, ignore_errors=True)
+                if (crate.folder / part).is_dir():
+                    shutil.copytree(crate.folder / part, there, copy_function=os.link if part == "out/rlib" else shutil.copy2)
+        (self.room / "crates.txt").write_text("".join(it.line + "\n" for it in [*self.below(), self]))
+        kept, here = self.folder / "out/incremental", self.room / "crates" / self.name / "out"
+        here.mkdir(exist_ok=True)
+        if kept.exists() and not (here / "incremental").exists():
+            kept.rename(here / "incremental")
+
+    def leave(self):
+        """Moves what was made out of the room, and says whether anything was."""
+        here, there = self.room / "crates" / self.name / "out", self.folder / "out"
+        there.mkdir(exist_ok=True)
+        if not (here / self.made.relative_to(there)).exists():
+            return False
+        for made in here.iterdir():
+            shutil.rmtree(there / made.name, ignore_errors=True)
+            made.replace(there / made.name)
+        shutil.rmtree(self.room)
+        return True
+
+
+def crates_of(program):
+    """The program and all that it stands on, lowest first."""
+    known = {}
+    for line in (TOP / "crates.txt").read_text().splitlines():
+        if found := re.match(r"(\w+)[^:#]*:(.*)", line):
+            known[found[1]] = Crate(found[1], line, [known[it] for it in found[2].split() if it in known])
+    return [*known[program].below(), known[program]]
+
+
+def look_round():
+    """The toolchain's command, once it is sure that a build can begin."""
+    wanted = os.environ.get("RT", "rt")
+    rt = shutil.which(wanted)
+    if rt is None:
+        raise Failed(f"{wanted} is not there: put rt of the Rattle kit on PATH, or its path into RT")
+    version = subprocess.run([rt, "version"], stdin=subprocess.DEVNULL, capture_output=True, text=True).stdout
+    if KIT not in version.split():
+        print(f"noc: {wanted} is of {version.strip() or 'another kit'}, and this is proved with {KIT}: the build may fail", file=sys.stderr)
+    if shutil.disk_usage(OUT).free < DISK:
+        raise Failed(f"a build takes some {DISK >> 30} GB of disk, and {OUT} has {shutil.disk_usage(OUT).free >> 20} MB left")
+    if free_memory() < MEMORY:
+        raise Failed(f"a build takes at least {MEMORY >> 30} GB of memory, and {free_memory() >> 20} MB are free")
+    return os.path.abspath(rt)
+
+
+def free_memory():
+    return 1024 * int(re.search(r"MemAvailable:\s+(\d+)", Path("/proc/meminfo").read_text())[1])
+
+
+def in_minutes(seconds):
+    return f"{int(seconds) // 60} min {int(seconds) % 60:02} s"
+
+
+class Build:
+    """A build under way."""
+
+    def __init__(self, rt, crates):
+        self.rt, self.crates, self.start = rt, crates, time.time()
+        self.left = [it for it in crates if not it.is_made()]
+        self.whole, self.running = sum(it.seconds for it in self.left), {}
+        self.is_terminal = sys.stderr.isatty()
+        # The longest chain of crates that begins with each, in seconds.
+        self.chain = {}
+        for crate in reversed(crates):
+            self.chain[crate] = crate.seconds + max((self.chain[it] for it in self.chain if crate in it.on), default=0)
+
+    def progress(self):
+        """How far it is: what is left, by the shares of the crates that are not made, at the pace so far."""
+        left = sum(it.seconds for it in self.left) - sum(min(0.9 * it.seconds, time.time() - self.running[it][1]) for it in self.running)
+        taken, done = time.time() - self.start, self.whole - left
+        rest = f", about {max(1, round(taken * left / done / 60))} min left" if done > 0.05 * self.whole and self.left else ""
+        at = len(self.crates) - len(self.left)
+        names = f"; at {' '.join(it.name for it in self.running)}" if self.running else ""
+        return f"noc: {at} of {len(self.crates)} crates proved in {in_minutes(taken)}{rest}{names}"
+
+    def tell(self, is_news):
+        if self.is_terminal:
+            width = shutil.get_terminal_size().columns - 1
+            print(f"\r\033[K{self.progress()[:width]}", end="", file=sys.stderr, flush=True)
+        elif is_news:
+            print(self.progress(), file=sys.stderr, flush=True)
+
+    def begin(self, crate, jobs):
+        crate.enter()
+        verb = "run" if crate.made == PROGRAM else "lib"
+        with LOG.open("a") as log:
+            words = [self.rt, verb, "--jobs", str(jobs)]
+            run = subprocess.Popen(words, cwd=crate.room / "crates" / crate.name, stdin=subprocess.DEVNULL, stdout=log, stderr=log)
+        self.running[crate] = run, time.time()
+
+    def begin_what_can(self):
+        """Begins the crates whose libraries are made. Those with the longest chain behind them come first and get most jobs."""
+        processors = len(os.sched_getaffinity(0))
+        longest = max((self.chain[it] for it in self.left), default=0)
+        ready = [it for it in self.left if it not in self.running and not any(on in self.left for on in it.on)]
+        for crate in sorted(ready, key=self.chain.get, reverse=True):
+            if self.running and (len(self.running) >= processors or free_memory() < 2 * MEMORY):
+                return
+            jobs = min(4, processors)
+            self.begin(crate, jobs if self.chain[crate] == longest else max(1, jobs // 2))
+
+    def end(self, crate):
+        """Takes over what was made, or tells why nothing was."""
+        del self.running[crate]
+        if not crate.leave():
+            if shutil.disk_usage(OUT).free < 64 << 20:
+                raise Failed(f"the disk is full, so {crate.name} could not be built")
+            raise Failed(f"{crate.name} could not be proved and built; {LOG} has all messages, of which the last are:\n{last_messages()}")
+        os.utime(crate.made, (self.start, self.start))
+        self.left.remove(crate)
+
+    def run(self):
+        try:
+            self.begin_what_can()
+            while self.left:
+                time.sleep(0.2)
+                for crate in [it for it, (run, _) in self.running.items() if run.poll() is not None]:
+                    self.end(crate)
+                    self.begin_what_can()
+                    self.tell(is_news=True)
+                self.tell(is_news=False)
+        finally:
+            for run, _ in self.running.values():
+                run.terminate()
+            for run, _ in self.running.values():
+                run.wait()
+            if self.is_terminal:
+                print(file=sys.stderr)
+
+
+def last_messages():
+    lines = [it for it in LOG.read_text(errors="replace").splitlines() if re.search(r"error|not proved|^rt:", it)]
+    return "\n".join(it[:300] for it in lines[-12:])
+
+
+def main():
+    OUT.mkdir(parents=True, exist_ok=True)
+    with (OUT / "build.lock").open("w") as lock:
+        fcntl.flock(lock, fcntl.LOCK_EX)
+        build = Build(look_round(), crates_of("noc"))
+        if not build.left:
+            return PROGRAM.touch()
+        print(f"noc: proving and building the program, {len(build.left)} crates (messages: {LOG})", file=sys.stderr)
+        LOG.write_text("")
+        build.run()
+        shutil.rmtree(ROOMS, ignore_errors=True)
+        print(f"noc: built in {in_minutes(time.time() - build.start)}", file=sys.stderr)
+
+
+if __name__ == "__main__":
+    signal.signal(signal.SIGTERM, lambda *_: sys.exit(1))
+    try:
+        main()
+    except Failed as why:
+        sys.exit(f"noc: {why}")
+    except OSError as why:
+        sys.exit(f"noc: the program could not be built: {why}")
+    except KeyboardInterrupt:
+        sys.exit("noc: stopped; the next ./noc goes on from here")

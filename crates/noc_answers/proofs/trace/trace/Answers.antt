@@ -1,0 +1,88 @@
+use Rattle.std.proofs.Common.{◌≡◌, ◌∙◌, ◌<◌, ◌≤◌, ◌+◌, ◌-◌, ℕ, List, Ok, Err, ap, arith, false, inr, length, refl, subst, sym}
+use Rattle.std.specs.Prelude.{◌||◌, nat_le, nat_lt}
+use Rattle.std.proofs.lemmas.Bool.{leb-false, ltb-false, or_parts}
+use Rattle.noc_net.specs.Network.{Run, Setup}
+use Rattle.noc_files.specs.Trace.{trace_text}
+use Rattle.noc_files.specs.declared.trace.Traced.{Traced}
+use Rattle.noc_files.specs.Writing.{Wrote}
+use Rattle.noc_requests.specs.Asked.{asked_of}
+use Rattle.noc_requests.specs.Options.{first_cycle, is_bad_span, last_cycle}
+use Rattle.noc_requests.specs.declared.status.Status.TheVariants.{Done}
+use Rattle.noc_answers.specs.Answer.{AsksFor, in_packets, runs, traces}
+use Rattle.noc_answers.specs.Run.{AsksForRun, bad_network}
+use Rattle.noc_answers.proofs.trace.trace.Goals as goal
+
+-- a span that is not bad lies in the run
+record Lies (first last cycles : ℕ) : Type 0 where
+  pub order : first ≤ last
+  pub inside : last < cycles
+
+lies : (first last cycles : ℕ) → is_bad_span first last cycles ≡ false → Lies first last cycles
+lies first last cycles e =
+    let parts = or_parts (nat_le cycles first || nat_le cycles last) (nat_lt last first) e in
+    let ends = or_parts (nat_le cycles first) (nat_le cycles last) parts.0 in
+    record { order = ltb-false last first parts.1; inside = leb-false cycles last ends.1 }
+
+-- the text that is written of a run that goes on is that of the run that is asked for
+same_text : (u : Run) (net : Setup) (first cycles end : ℕ) (t traced : Traced) → u.net ≡ net → u.count ≡ first → first + cycles ≡ end → t ≡ traced
+    → trace_text (record u { count = u.count + cycles }) u.count t ≡ trace_text (record { net = net; count = end }) first traced
+same_text u net first cycles end t traced same count ends as_asked =
+    ap (λ (z : Setup). trace_text (record { net = z; count = u.count + cycles }) u.count t) same ∙ ap (λ k. trace_text (record { net = net; count = k + cycles }) k t) count
+    ∙ ap (λ k. trace_text (record { net = net; count = k }) first t) ends ∙ ap (trace_text (record { net = net; count = end }) first) as_asked
+
+pub overflow_add-end : goal.overflow_add-end
+overflow_add-end g c =
+    let l = lies (first_cycle c.args.from) (last_cycle c.args.to c.in_ok-network.cycles) c.in_ok-network.cycles c.in_ok-network.ensures.span in
+    omega (arith, l.inside, c.last_cycle-end.ensures, c.in_ok-network.ensures.cycles)
+
+pub overflow_sub-span : goal.overflow_sub-span
+overflow_sub-span g c =
+    let l = lies (first_cycle c.args.from) (last_cycle c.args.to c.in_ok-network.cycles) c.in_ok-network.cycles c.in_ok-network.ensures.span in
+    omega (arith, l.order, c.last_cycle-end.ensures, c.first_cycle-first.ensures)
+
+pub run-requires : goal.run-requires
+run-requires g c =
+    let l = lies (first_cycle c.args.from) (last_cycle c.args.to c.in_ok-network.cycles) c.in_ok-network.cycles c.in_ok-network.ensures.span in
+    omega (arith, l.order, l.inside, c.first_cycle-first.ensures, c.in_ok-network.ensures.opening, c.in_ok-network.ensures.cycles)
+
+pub returns-in-Err : goal.returns-in-Err
+returns-in-Err g c =
+    let asks = c.in_ok-network.ensures.run in
+    (refl, in_packets (ap runs c.requires) asks.before (bad_network asks.network.packets (inr (refl, asks.network.sound))))
+
+pub write_trace-requires-clause-cycles : goal.write_trace-requires-clause-cycles
+write_trace-requires-clause-cycles g c =
+    let l = lies (first_cycle c.args.from) (last_cycle c.args.to c.in_ok-network.cycles) c.in_ok-network.cycles c.in_ok-network.ensures.span in
+    let count : c.run.new.self.count ≡ c.in_ok-network.network.count + c.first_cycle-first.result = ap (λ (u : Run). u.count) c.run.ensures.value in
+    omega (arith, l.order, l.inside, count, c.first_cycle-first.ensures, c.last_cycle-end.ensures, c.in_ok-network.ensures.opening, c.in_ok-network.ensures.cycles)
+
+pub returns-in-Ok-write_trace : goal.returns-in-Ok-write_trace
+returns-in-Ok-write_trace g c =
+    let l = lies (first_cycle c.args.from) (last_cycle c.args.to c.in_ok-network.cycles) c.in_ok-network.cycles c.in_ok-network.ensures.span in
+    let u = c.run.new.self in
+    let cycles = c.last_cycle-end.result + 1 - c.first_cycle-first.result in
+    let counted : u.count ≡ c.in_ok-network.network.count + c.first_cycle-first.result = ap (λ (x : Run). x.count) c.run.ensures.value in
+    let count : u.count ≡ first_cycle c.args.from = omega (arith, counted, c.in_ok-network.ensures.opening, c.first_cycle-first.ensures) in
+    let ends : first_cycle c.args.from + cycles ≡ last_cycle c.args.to c.in_ok-network.cycles + 1 = omega (arith, l.order, c.first_cycle-first.ensures, c.last_cycle-end.ensures) in
+    let same = same_text u c.in_ok-network.network.net (first_cycle c.args.from) cycles (last_cycle c.args.to c.in_ok-network.cycles + 1) c.in-Ok.trace.0 c.args.traced
+    (ap (λ (x : Run). x.net) c.run.ensures.value) count ends (ap (λ t. t.0) c.in-Ok.ensures) in (
+      trace_text (record u { count = u.count + cycles }) u.count c.in-Ok.trace.0,
+      subst (λ x. AsksFor (asked_of c.args.files.now) x Done) (sym same) (traces c.requires c.in_ok-network.ensures.run c.in_ok-network.ensures.packet),
+      c.in-Ok-write_trace.ensures.text,
+    )
+
+pub returns : goal.returns
+returns g c =
+    let l = lies (first_cycle c.args.from) (last_cycle c.args.to c.in_ok-network.cycles) c.in_ok-network.cycles c.in_ok-network.ensures.span in
+    let u = c.run.new.self in
+    let cycles = c.last_cycle-end.result + 1 - c.first_cycle-first.result in
+    let counted : u.count ≡ c.in_ok-network.network.count + c.first_cycle-first.result = ap (λ (x : Run). x.count) c.run.ensures.value in
+    let count : u.count ≡ first_cycle c.args.from = omega (arith, counted, c.in_ok-network.ensures.opening, c.first_cycle-first.ensures) in
+    let ends : first_cycle c.args.from + cycles ≡ last_cycle c.args.to c.in_ok-network.cycles + 1 = omega (arith, l.order, c.first_cycle-first.ensures, c.last_cycle-end.ensures) in
+    let same = same_text u c.in_ok-network.network.net (first_cycle c.args.from) cycles (last_cycle c.args.to c.in_ok-network.cycles + 1) c.in-Ok.trace.0 c.args.traced
+    (ap (λ (x : Run). x.net) c.run.ensures.value) count ends (ap (λ t. t.0) c.in-Ok.ensures) in (
+      trace_text (record u { count = u.count + cycles }) u.count c.in-Ok.trace.0,
+      Done,
+      subst (λ x. AsksFor (asked_of c.args.files.now) x Done) (sym same) (traces c.requires c.in_ok-network.ensures.run c.in_ok-network.ensures.packet),
+      c.in-Err-write_trace.ensures.text,
+    )

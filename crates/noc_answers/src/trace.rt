@@ -1,0 +1,70 @@
+//! Tracing what the input channels did in each cycle of a span.
+
+ghost use Rattle.std.specs.Prelude.{◌≡◌, ◌+◌, ◌<◌, ◌≤◌, IfErr, IfOk, IfSome, None, false, length};
+ghost use Rattle.noc_topo.specs.Shape.{nodes};
+ghost use Rattle.noc_files.specs.Writing.{Wrote};
+ghost use Rattle.noc_requests.specs.Asked.{asked_of};
+ghost use Rattle.noc_requests.specs.Options.{first_cycle, is_bad_span, last_cycle, packet_fault};
+ghost use Rattle.noc_requests.specs.Outcome.{Ends, Refuses};
+ghost use Rattle.noc_answers.specs.Answer.{AsksFor, TextsFault};
+ghost use Rattle.noc_answers.specs.Run.{AsksForRun, workers_of};
+
+use crate::run::network_of;
+use noc_files::{MAX_CYCLES, Sink, Trace, Traced, write_trace};
+use noc_net::{NetFault, Network};
+use noc_requests::{
+    Command, Fault, Files, Status, first_cycle, last_cycle, packet_fault, relation_of,
+};
+use std::alloc::Global;
+
+/// Runs the network up to the first cycle of a span, and then cycle by cycle, and writes what its input channels did in each.
+pub fn trace<W: Sink>(
+    alloc: Global,
+    files: &Files<'_>,
+    from: Option<u64>,
+    to: Option<u64>,
+    traced: Traced,
+    sink: &mut W,
+) -> Result<Status, Fault>
+    requires { files.now.command ≡ Command.Trace from to traced }
+    ensures { Ends (workers_of files.now.command) (Wrote W.contents W.has_failed sink.old sink.new) (sink.new ≡ sink.old) (AsksFor (asked_of files.now)) (TextsFault (asked_of files.now)) result }
+{
+    let (mut network, cycles) = network_to_trace(alloc, files, from, to, traced)?;
+    let trace = match Trace::new(alloc, &network, traced) {
+        Ok(trace) => trace,
+        Err(_) => return Err(Fault::Network(NetFault::Memory)),
+    };
+    let first = first_cycle(from);
+    let end = last_cycle(to, cycles) + 1;
+    let span = end - first;
+    network.run(first);
+    match write_trace(&mut network, span, trace, sink) {
+        Ok(()) => Ok(Status::Done),
+        Err(fault) => Err(Fault::Write(fault)),
+    }
+}
+
+// The network before its first cycle, and the cycles of the configuration, which have the span.
+fn network_to_trace(
+    alloc: Global,
+    files: &Files<'_>,
+    from: Option<u64>,
+    to: Option<u64>,
+    traced: Traced,
+) -> Result<(Network, u64), Fault>
+    requires { files.now.command ≡ Command.Trace from to traced }
+    ensures opening { IfOk result (λ r. r.0.count ≡ 0) }
+    ensures cycles { IfOk result (λ r. r.1 ≤ MAX_CYCLES) }
+    ensures span { IfOk result (λ r. is_bad_span (first_cycle from) (last_cycle to r.1) r.1 ≡ false) }
+    ensures router { IfOk result (λ r. IfSome traced.router (λ router. router < nodes r.0.net.relation.grid)) }
+    ensures packet { IfOk result (λ r. packet_fault files.now.command (length r.0.net.packets) ≡ None) }
+    ensures run { IfOk result (λ r. AsksForRun (asked_of files.now) (record { net = r.0.net; count = last_cycle to r.1 + 1 })) }
+    ensures fault { IfErr result (Refuses (TextsFault (asked_of files.now))) }
+{
+    let (config, relation) = relation_of(alloc, files)?;
+    let network = network_of(alloc, relation, config.buffer, files.traffic)?;
+    match packet_fault(files.command, network.packets()) {
+        Some(fault) => Err(Fault::Option(fault)),
+        None => Ok((network, config.cycles)),
+    }
+}

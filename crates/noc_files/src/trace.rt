@@ -1,0 +1,536 @@
+//! The trace: what each input channel did in each cycle of a span (docs/FORMATS.md).
+
+ghost use Rattle.std.specs.Prelude.{◌≡◌, ℕ, ◌+◌, ◌*◌, ◌-◌, ◌^◌, ◌<◌, ◌≤◌, ◌++◌, [], ◌∷◌, IfOk, IfSome, List, Option, Some, codes, decimal, if◌then◌else◌, length, map, option_and_then, replicate, slice_get, true};
+ghost use Rattle.std.specs.List.{flat_map};
+ghost use Rattle.noc_topo.specs.Shape.{nodes, ports};
+ghost use Rattle.noc_topo.specs.Words.{below};
+ghost use Rattle.noc_packet.specs.declared.limits.TheConstants.{INDICES};
+ghost use Rattle.noc_route.specs.Routes.{Routes as RoutesValue};
+ghost use Rattle.noc_router.specs.Found.{empty_finding};
+ghost use Rattle.noc_router.specs.declared.verdict.Finding.{Finding as FindingValue};
+ghost use Rattle.noc_net.specs.Lockstep.{findings_before, findings_in_cycle};
+ghost use Rattle.noc_net.specs.Network.{Run as RunValue, Setup as SetupValue, size};
+ghost use Rattle.noc_files.specs.Findings.{found_line};
+ghost use Rattle.noc_files.specs.Stalls.{channel_counts};
+ghost use Rattle.noc_files.specs.Trace.{AreRows, cycle_text, has_below, is_empty, is_same, is_traced, kept_at, kept_line, member_text, nothing_found, out_field, over_traced, permitted_text, permitted_to, said_by_both, set_text, told, told_counts, told_text, trace_line, trace_text, traced_line, way_text, when_text, whole};
+ghost use Rattle.noc_files.specs.Writing.{Puts, Wrote, comma, joined, line_end};
+ghost use Rattle.noc_files.specs.declared.listing.TheConstants.{LONGEST_LINE, LONGEST_LISTING};
+
+use crate::findings::put_verdict;
+use crate::listing::{Lines, put_router, put_routers};
+use crate::ports::{known_name, port_name};
+use crate::sink::Sink;
+use crate::writing::{WriteFault, put_all, put_pieces};
+use itoa::Buffer;
+use noc_net::{CYCLE_LIMIT, Network};
+use noc_packet::{ChannelSet, Memory};
+use noc_route::Relation;
+use noc_router::{Finding, Verdict};
+use noc_topo::Shape;
+use std::alloc::Global;
+use std::marker::Model;
+
+/// What is traced.
+#[derive(Clone, Copy, Debug, PartialEq, Eq)]
+pub struct Traced {
+    /// The input channels of this router, or those of all.
+    pub router: Option<usize>,
+    /// Those that hold this packet, or all.
+    pub packet: Option<u64>,
+    /// Only what is another thing than was told of the channel in the cycle before.
+    pub changes: bool,
+}
+
+/// A trace that is to be written: what is traced, and, in a trace of changes, what each router found in the cycle before.
+#[derive(Drop)]
+pub struct Trace {
+    traced: Traced,
+    rows: Vec<Vec<Finding>>,
+}
+
+impl Model for Trace {
+    ghost use Rattle.std.specs.Prelude.{List, map};
+    ghost use Rattle.noc_router.specs.declared.verdict.Finding.{Finding as FindingValue};
+    ghost use Rattle.noc_files.specs.declared.trace.Traced.{Traced as TracedValue};
+
+    ghost Value = { TracedValue × List (List FindingValue) };
+
+    ghost view = { λ s. (s.traced, map (λ row. row.items) s.rows.items) };
+}
+
+impl Trace {
+    /// A trace of a network that begins with its next cycle. Only a trace of changes takes memory: a finding for each input channel.
+    pub fn new(alloc: Global, network: &Network, traced: Traced) -> Result<Trace, Memory>
+        ensures { IfOk result (λ t. t ≡ (traced, nothing_found network.now.net traced.changes)) }
+    {
+        let rows = if traced.changes {
+            empty_rows(alloc, network)?
+        } else {
+            Vec::new(alloc)
+        };
+        Ok(Trace { traced, rows })
+    }
+
+    // What was told of an input channel in the cycle before.
+    fn before(&self, router: usize, index: usize) -> Option<Finding>
+        ensures { result ≡ option_and_then (told self.now.0.packet) (kept_at self.now.1 router index) }
+    {
+        let found = self.rows.get(router)?.get(index)?;
+        told(self.traced.packet, found)
+    }
+
+    // What is told of it in the last cycle of a network.
+    fn now(&self, network: &Network, router: usize, index: usize) -> Option<Finding>
+        requires { router < nodes network.now.net.relation.grid }
+        ensures { result ≡ option_and_then (told self.now.0.packet) (slice_get (findings_before network.now.net network.now.count router) index) }
+    {
+        let found = network.findings(router).get(index)?;
+        told(self.traced.packet, found)
+    }
+
+    // Keeps what the routers found in the last cycle, in a trace of changes.
+    fn keep(&mut self, network: &Network)
+        requires some { 1 ≤ network.now.count }
+        requires few { length self.old.1 ≤ nodes network.now.net.relation.grid }
+        requires long { AreRows (size network.now.net) self.old.1 }
+        ensures traced { self.new.0 ≡ self.old.0 }
+        ensures many { length self.new.1 ≡ length self.old.1 }
+        ensures rows { (r : ℕ) → r < length self.old.1 → slice_get self.new.1 r ≡ Some (findings_before network.now.net network.now.count r) }
+    {
+        keep_rows(network, &mut self.rows);
+    }
+}
+
+// Each of the first routers has a row, which keeps what it found in the last cycle.
+fn keep_rows(network: &Network, rows: &mut [Vec<Finding>])
+    requires some { 1 ≤ network.now.count }
+    requires few { length rows.old ≤ nodes network.now.net.relation.grid }
+    requires long { AreRows (size network.now.net) (map (λ row. row.items) rows.old) }
+    ensures many { length rows.new ≡ length rows.old }
+    ensures rows { (r : ℕ) → r < length rows.old → slice_get (map (λ row. row.items) rows.new) r ≡ Some (findings_before network.now.net network.now.count r) }
+{
+    for router in 0..rows.len() {
+        keep_row(network.findings(router), &mut rows[router]);
+    }
+}
+
+// A row of as many findings keeps these.
+fn keep_row(findings: &[Finding], row: &mut Vec<Finding>)
+    requires { length row.old.items ≡ length findings.now }
+    ensures { row.new.items ≡ findings.now }
+{
+    row.copy_from_slice(findings);
+}
+
+// Rows in which nothing was found, for each router one.
+fn empty_rows(alloc: Global, network: &Network) -> Result<Vec<Vec<Finding>>, Memory>
+    ensures { IfOk result (λ rows. map (λ row. row.items) rows.items ≡ replicate (nodes network.now.net.relation.grid) (replicate (size network.now.net) empty_finding)) }
+{
+    let relation = network.relation();
+    let channels = relation.shape().ports() * relation.vcs();
+    let mut rows = Vec::with_capacity(alloc, relation.shape().nodes())?;
+    for _ in 0..relation.shape().nodes() {
+        rows.push(vec![in alloc; NOTHING; channels]?)?;
+    }
+    Ok(rows)
+}
+
+// What is found of a channel that holds nothing.
+const NOTHING: Finding = Finding {
+    verdict: Verdict::Empty,
+    packet: None,
+    out: None,
+};
+
+// Whether a channel with this packet is one of those that are traced.
+fn is_traced(packet: Option<u64>, held: Option<u32>) -> bool
+    ensures { result ≡ is_traced packet held }
+{
+    match (packet, held) {
+        (None, _) => true,
+        (Some(_), None) => false,
+        (Some(packet), Some(held)) => packet == u64::from(held),
+    }
+}
+
+// What a trace tells of a channel: nothing where it is Empty or not one of those that are traced.
+fn told(packet: Option<u64>, finding: &Finding) -> Option<Finding>
+    ensures { result ≡ told packet finding.now }
+{
+    if matches!(finding.verdict, Verdict::Empty) || !is_traced(packet, finding.packet) {
+        None
+    } else {
+        Some(*finding)
+    }
+}
+
+// Whether the same is told.
+fn is_same(before: &Option<Finding>, now: &Option<Finding>) -> bool
+    ensures { result ≡ is_same before.now now.now }
+{
+    match (before, now) {
+        (None, None) => true,
+        (Some(before), Some(now)) => before == now,
+        _ => false,
+    }
+}
+
+// Puts an output channel, or a dash where there is none, and a comma.
+fn put_out<W: Sink>(
+    shape: &Shape,
+    out: Option<(usize, usize)>,
+    sink: &mut W,
+    before: u64,
+) -> Result<u64, WriteFault>
+    requires { before + 27 < 2 ^ 64 }
+    ensures short { length (out_field shape.now out) ≤ 27 }
+    ensures puts { Puts W.contents W.has_failed sink.old sink.new before (out_field shape.now out) result }
+{
+    let Some((port, vc)) = out else {
+        return put_pieces(sink, &["-", ","], before);
+    };
+    let name = port_name(shape, port).unwrap_or("-");
+    let mut number = Buffer::new();
+    put_pieces(sink, &[name, ".", number.format(vc), ","], before)
+}
+
+// The output channels that the relation permits to the packet of a finding, where it asks.
+fn permitted_to(
+    network: &Network,
+    router: usize,
+    port: usize,
+    vc: usize,
+    finding: &Finding,
+) -> Option<ChannelSet>
+    requires router { router < nodes network.now.net.relation.grid }
+    requires port { port < ports network.now.net.relation.grid }
+    requires vc { vc < network.now.net.relation.vcs }
+    ensures { result ≡ permitted_to network.now.net router port vc finding.now }
+{
+    match (finding.verdict, finding.packet) {
+        (Verdict::Granted | Verdict::NoIdleChannel | Verdict::LostChannel, Some(number))
+            if (number as usize) < network.packets() => {
+            let packet = network.packet(number as usize);
+            let class = packet.class as usize;
+            let dst = packet.destination as usize;
+            Some(network.relation().permitted(class, router, port, vc, dst))
+        }
+        _ => None,
+    }
+}
+
+// Puts the output channels of a set, by rising index, with a space between.
+fn put_set<W: Sink>(
+    relation: &Relation,
+    set: ChannelSet,
+    sink: &mut W,
+    before: u64,
+) -> Result<u64, WriteFault>
+    requires room { before + 1512 < 2 ^ 64 }
+    ensures puts { Puts W.contents W.has_failed sink.old sink.new before (set_text relation.now set) result }
+    ensures short { IfOk result (λ n. n ≤ before + 1512) }
+{
+    let mut written = before;
+    let mut has_some = false;
+    for index in 0..relation.shape().ports() * relation.vcs() {
+        written = put_member(relation, set, index, has_some, sink, written)?;
+        has_some = has_some || set.contains(index);
+    }
+    Ok(written)
+}
+
+// Puts an output channel if it is a member of the set, with a space before it where the set has some before.
+fn put_member<W: Sink>(
+    relation: &Relation,
+    set: ChannelSet,
+    index: usize,
+    has_some: bool,
+    sink: &mut W,
+    before: u64,
+) -> Result<u64, WriteFault>
+    requires index { index < ports relation.now.grid * relation.now.vcs }
+    requires few { index < INDICES }
+    requires some { has_some ≡ has_below set index }
+    requires room { before + 27 < 2 ^ 64 }
+    ensures puts { Puts W.contents W.has_failed sink.old sink.new before (member_text relation.now.grid relation.now.vcs set index) result }
+    ensures short { IfOk result (λ n. n ≤ before + 27) }
+{
+    if !set.contains(index) {
+        return Ok(before);
+    }
+    let gap = if has_some { " " } else { "" };
+    let name = known_name(relation.shape(), index / relation.vcs());
+    put_channel(gap, name, index % relation.vcs(), sink, before)
+}
+
+// Puts a channel by the name of its port and its number, behind a gap.
+fn put_channel<W: Sink>(
+    gap: &'static str,
+    name: &'static str,
+    vc: usize,
+    sink: &mut W,
+    before: u64,
+) -> Result<u64, WriteFault>
+    requires gap { length gap.now ≤ 1 }
+    requires name { length name.now ≤ 5 }
+    requires room { before + 27 < 2 ^ 64 }
+    ensures puts { Puts W.contents W.has_failed sink.old sink.new before (joined (gap.now ∷ name.now ∷ codes "." ∷ decimal vc ∷ [])) result }
+    ensures short { IfOk result (λ n. n ≤ before + 27) }
+{
+    let mut number = Buffer::new();
+    put_pieces(sink, &[gap, name, ".", number.format(vc)], before)
+}
+
+// Puts the output channels that were permitted, or a dash, and ends the line.
+fn put_permitted<W: Sink>(
+    relation: &Relation,
+    set: Option<ChannelSet>,
+    sink: &mut W,
+    before: u64,
+) -> Result<u64, WriteFault>
+    requires room { before + 1513 < 2 ^ 64 }
+    ensures puts { Puts W.contents W.has_failed sink.old sink.new before (permitted_text relation.now set) result }
+    ensures short { IfOk result (λ n. n ≤ before + 1513) }
+{
+    let Some(set) = set else {
+        return put_pieces(sink, &["-", "\n"], before);
+    };
+    let listed = put_set(relation, set, sink, before)?;
+    put_all(sink, b"\n", listed)
+}
+
+// Puts the output channel of a finding, and what was permitted.
+fn put_way<W: Sink>(
+    network: &Network,
+    router: usize,
+    port: usize,
+    vc: usize,
+    finding: &Finding,
+    sink: &mut W,
+    before: u64,
+) -> Result<u64, WriteFault>
+    requires router { router < nodes network.now.net.relation.grid }
+    requires port { port < ports network.now.net.relation.grid }
+    requires vc { vc < network.now.net.relation.vcs }
+    requires room { before + 1540 < 2 ^ 64 }
+    ensures puts { Puts W.contents W.has_failed sink.old sink.new before (way_text network.now.net router port vc finding.now) result }
+    ensures short { IfOk result (λ n. n ≤ before + 1540) }
+{
+    let relation = network.relation();
+    let named = put_out(relation.shape(), finding.out, sink, before)?;
+    let set = permitted_to(network, router, port, vc, finding);
+    put_permitted(relation, set, sink, named)
+}
+
+// Puts what is told of an input channel.
+fn put_told<W: Sink>(
+    network: &Network,
+    router: usize,
+    port: usize,
+    vc: usize,
+    finding: &Finding,
+    sink: &mut W,
+    before: u64,
+) -> Result<u64, WriteFault>
+    requires router { router < nodes network.now.net.relation.grid }
+    requires port { port < ports network.now.net.relation.grid }
+    requires vc { vc < network.now.net.relation.vcs }
+    requires room { before + 1602 < 2 ^ 64 }
+    ensures puts { Puts W.contents W.has_failed sink.old sink.new before (told_text network.now.net router port vc finding.now) result }
+    ensures short { IfOk result (λ n. n ≤ before + 1602) }
+{
+    let shape = network.relation().shape();
+    let judged = put_verdict(shape, port, vc, finding, sink, before)?;
+    put_way(network, router, port, vc, finding, sink, judged)
+}
+
+// Puts a cycle and a router.
+fn put_when<W: Sink>(
+    cycle: u64,
+    router: usize,
+    sink: &mut W,
+    before: u64,
+) -> Result<u64, WriteFault>
+    requires { before + 42 < 2 ^ 64 }
+    ensures short { length (when_text cycle router) ≤ 42 }
+    ensures puts { Puts W.contents W.has_failed sink.old sink.new before (when_text cycle router) result }
+{
+    let mut first = Buffer::new();
+    let mut last = Buffer::new();
+    put_pieces(
+        sink,
+        &[first.format(cycle), ",", last.format(router), ","],
+        before,
+    )
+}
+
+// Puts the line of an input channel.
+fn put_trace_line<W: Sink>(
+    network: &Network,
+    cycle: u64,
+    router: usize,
+    port: usize,
+    vc: usize,
+    finding: &Finding,
+    sink: &mut W,
+    before: u64,
+) -> Result<u64, WriteFault>
+    requires router { router < nodes network.now.net.relation.grid }
+    requires port { port < ports network.now.net.relation.grid }
+    requires vc { vc < network.now.net.relation.vcs }
+    requires room { before + LONGEST_LINE < 2 ^ 64 }
+    ensures puts { Puts W.contents W.has_failed sink.old sink.new before (trace_line network.now.net cycle router port vc finding.now) result }
+    ensures short { IfOk result (λ n. n ≤ before + LONGEST_LINE) }
+{
+    let begun = put_when(cycle, router, sink, before)?;
+    put_told(network, router, port, vc, finding, sink, begun)
+}
+
+// The lines of a trace in the last cycle of a network, which has this number.
+#[derive(Drop)]
+struct CycleLines<'a> {
+    network: &'a Network,
+    trace: &'a Trace,
+    cycle: u64,
+}
+
+impl<'a> Lines for CycleLines<'a> {
+    ghost grid = { λ s. s.network.now.net.relation.grid };
+
+    ghost listed = { λ s. ports s.network.now.net.relation.grid };
+
+    ghost vcs = { λ s. s.network.now.net.relation.vcs };
+
+    ghost said = { λ s router port vc. kept_line s.network.now s.trace.now.0 s.trace.now.1 s.cycle router port vc };
+
+    fn shape(&self) -> &Shape {
+        self.network.relation().shape()
+    }
+
+    fn listed(&self) -> usize {
+        self.network.relation().shape().ports()
+    }
+
+    fn vcs(&self) -> usize {
+        self.network.relation().vcs()
+    }
+
+    fn put_line<W: Sink>(
+        &self,
+        router: usize,
+        port: usize,
+        vc: usize,
+        sink: &mut W,
+        before: u64,
+    ) -> Result<u64, WriteFault> {
+        let index = port * self.network.relation().vcs() + vc;
+        let before_it = self.trace.before(router, index);
+        let now = self.trace.now(self.network, router, index);
+        if is_same(&before_it, &now) {
+            return Ok(before);
+        }
+        let finding = now.unwrap_or(NOTHING);
+        put_trace_line(
+            self.network,
+            self.cycle,
+            router,
+            port,
+            vc,
+            &finding,
+            sink,
+            before,
+        )
+    }
+}
+
+// Puts the lines of a trace in the last cycle of a network.
+fn put_cycle<W: Sink>(
+    network: &Network,
+    trace: &Trace,
+    cycle: u64,
+    sink: &mut W,
+    before: u64,
+) -> Result<u64, WriteFault>
+    requires last { network.now.count ≡ cycle + 1 }
+    requires router { IfSome trace.now.0.router (λ router. router < nodes network.now.net.relation.grid) }
+    requires room { before + LONGEST_LISTING < 2 ^ 64 }
+    ensures puts { Puts W.contents W.has_failed sink.old sink.new before (over_traced network.now.net.relation trace.now.0.router (kept_line network.now trace.now.0 trace.now.1 cycle)) result }
+    ensures short { IfOk result (λ n. n ≤ before + LONGEST_LISTING) }
+{
+    let lines = CycleLines {
+        network,
+        trace,
+        cycle,
+    };
+    match trace.traced.router {
+        Some(router) => put_router(&lines, router, sink, before),
+        None => put_routers(&lines, sink, before),
+    }
+}
+
+// Runs a network for so many cycles more, and puts the lines of a trace in each.
+fn put_cycles<W: Sink>(
+    network: &mut Network,
+    cycles: u64,
+    trace: &mut Trace,
+    sink: &mut W,
+    before: u64,
+) -> Result<u64, WriteFault>
+    requires cycles { network.old.count + cycles ≤ CYCLE_LIMIT }
+    requires router { IfSome trace.old.0.router (λ router. router < nodes network.old.net.relation.grid) }
+    requires opening { trace.old.1 ≡ nothing_found network.old.net trace.old.0.changes }
+    requires room { before ≤ LONGEST_LINE }
+    ensures run { IfOk result (λ _. network.new ≡ record network.old { count = network.old.count + cycles }) }
+    ensures puts { Puts W.contents W.has_failed sink.old sink.new before (flat_map (λ k. cycle_text network.old.net trace.old.0 network.old.count (network.old.count + k)) (below cycles)) result }
+{
+    let first = network.count();
+    let mut written = before;
+    for turn in 0..cycles {
+        network.cycle();
+        written = put_cycle(network, trace, first + turn, sink, written)?;
+        trace.keep(network);
+    }
+    Ok(written)
+}
+
+/// Runs a network for so many cycles more, and writes the trace of them as it goes: for each cycle, each router and each of its
+/// input channels, in the order of the stall report, a line if another thing is told of the channel than was told before. In a trace
+/// of changes that is what was told in the cycle before, within the trace; in another trace nothing was. The router exists.
+pub fn write_trace<W: Sink>(
+    network: &mut Network,
+    cycles: u64,
+    mut trace: Trace,
+    sink: &mut W,
+) -> Result<(), WriteFault>
+    requires cycles { network.old.count + cycles ≤ CYCLE_LIMIT }
+    requires router { IfSome trace.0.router (λ router. router < nodes network.old.net.relation.grid) }
+    requires opening { trace.1 ≡ nothing_found network.old.net trace.0.changes }
+    ensures run { IfOk result (λ _. network.new ≡ record network.old { count = network.old.count + cycles }) }
+    ensures text { Wrote W.contents W.has_failed sink.old sink.new (trace_text (record network.old { count = network.old.count + cycles }) network.old.count trace.0) result }
+{
+    let header = "cycle,router,port,vc,verdict,packet,out,permitted\n";
+    let written = put_all(sink, header.as_bytes(), 0)?;
+    put_cycles(network, cycles, &mut trace, sink, written)?;
+    Ok(())
+}
+
+/// A line of a trace is what `explain` says of the channel in that cycle, with the cycle and the router before it and what was
+/// permitted behind it; and where all channels are traced, with a line in each cycle, each has it but the empty ones.
+pub fn a_trace_tells_what_explain_tells()
+    ensures explained { (relation : RoutesValue) (findings : List FindingValue) (port vc : ℕ) (f : FindingValue) → slice_get findings (port * relation.vcs + vc) ≡ Some f
+        → found_line relation findings port vc ≡ said_by_both relation.grid port vc f ++ line_end }
+    ensures traced { (net : SetupValue) (first n r port vc : ℕ) (f : FindingValue) → slice_get (findings_in_cycle net n r) (port * net.relation.vcs + vc) ≡ Some f
+        → traced_line net whole first n r port vc
+        ≡ (if is_empty f.verdict then [] else when_text n r ++ said_by_both net.relation.grid port vc f ++ comma ++ permitted_text net.relation (permitted_to net r port vc f)) }
+{}
+
+/// The verdicts that the whole trace of a run tells of an input channel, counted, are its line of the stall report.
+pub fn a_trace_adds_up_to_the_stall_report()
+    ensures { (u : RunValue) (r port vc : ℕ) → port < ports u.net.relation.grid → vc < u.net.relation.vcs → told_counts u r (port * u.net.relation.vcs + vc) ≡ channel_counts u r port vc }
+{}
+
+/// In a trace of changes a line is left out exactly where the same was told before.
+pub fn a_line_is_left_out_where_the_same_is_told()
+    ensures same { (f h : Option FindingValue) → is_same f h ≡ true → f ≡ h }
+    ensures itself { (f : Option FindingValue) → is_same f f ≡ true }
+{}
