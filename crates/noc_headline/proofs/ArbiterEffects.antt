@@ -13,8 +13,8 @@ use Rattle.noc_alloc.proofs.WordLemmas.{is_some_of-some, is_some_of-true}
 use Rattle.noc_router.specs.Verdict.{Turns, arbiters_after, opening_arbiters, ready_of}
 use Rattle.noc_model.specs.Network.{Setup, State, size, arbiters_at, after_verdicts, frozen, frozen_at, network_cycle, opening_state, round_at, stands_at, state_at}
 use Rattle.noc_model.specs.Good.{IsGoodSetup}
-use Rattle.noc_ownership.proofs.OneBack.{arbiters-frozen, arbiters-state}
-use Rattle.noc_views.proofs.Ordered.{IsGood, IsOrderedFrozen}
+use Rattle.noc_model.proofs.OneBack.{arbiters-frozen, arbiters-state}
+use Rattle.noc_model.proofs.Ordered.{IsGood, IsOrderedFrozen}
 use Rattle.noc_headline.specs.Effects.{IsTurned}
 use Rattle.noc_headline.specs.Headline.{IsPick, WinsChannel, WinsSwitch}
 use Rattle.noc_headline.proofs.RoundLemmas.{granted-wins, is-picked, is-won, picked-is, wins-granted, won-is}

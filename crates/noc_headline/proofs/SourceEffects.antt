@@ -9,24 +9,24 @@ use Rattle.noc_topo.specs.Shape.{nodes}
 use Rattle.noc_route.specs.Channel.{Channel, Link, Inject, Eject, is_link, same_channel}
 use Rattle.noc_model.specs.Good.{IsGoodSetup}
 use Rattle.noc_model.specs.Network.{Setup, State, Injection, Located, Place, Source, On, In, Out, after_credits, after_injection, after_landing, beginning, count_in, count_on, first_waiting, flits_of, frozen, frozen_at, injection_at, injection_with, injections, is_at_source, is_freed, is_idle, is_injection_of, is_on, is_past, landed_place, owned_by, owner_of, packet_at, place_of, state_at, tail_place}
-use Rattle.noc_ownership.proofs.BuiltLemmas.{good-built, good-wired}
-use Rattle.noc_ownership.proofs.BuiltRecord.{IsBuilt}
-use Rattle.noc_ownership.proofs.BufferLemmas.{find-passes}
-use Rattle.noc_ownership.proofs.Facts.{mid_at, whole-at, whole-frozen_at, whole-mid_at, worm_order-at}
-use Rattle.noc_ownership.proofs.FirstOfNode.{Precedes, waiting-first}
-use Rattle.noc_ownership.proofs.GrantLemmas.{Has-below, IsWired}
-use Rattle.noc_ownership.proofs.InjectionPhase.{IsInjected, apart-same, new-entry, two-injects}
-use Rattle.noc_ownership.proofs.InjectionState.{entries-apart, entries-are, entries-move, injection_of-is, waiting-is}
-use Rattle.noc_ownership.proofs.Members.{Has-append, Has-filter, Has-filter_map, Has-filter_mapped, Has-kept, Has-left, Has-mapped, Has-right, find-fails, find-has, list_any-from}
-use Rattle.noc_ownership.proofs.OpeningLemmas.{below-has}
-use Rattle.noc_ownership.proofs.OptionLemmas.{and_then-some, cond-some, is_none-none}
-use Rattle.noc_ownership.proofs.OwnedLemmas.{has-of, idle-none, of-has, owner-has, owner-is}
-use Rattle.noc_ownership.proofs.PlaceLemmas.{IsValid, flit-there, place-stepped}
-use Rattle.noc_ownership.proofs.RoomLemmas.{landed-count}
-use Rattle.noc_ownership.proofs.Sound.{IsSoundFrozen, IsSoundState}
-use Rattle.noc_ownership.proofs.WormRecord.{last_of, source-landed, valid-last}
-use Rattle.noc_progress.proofs.HasLemmas.{least-some}
-use Rattle.noc_progress.proofs.WormLemmas.{filter-none}
+use Rattle.noc_model.proofs.BuiltLemmas.{good-built, good-wired}
+use Rattle.noc_model.proofs.BuiltRecord.{IsBuilt}
+use Rattle.noc_model.proofs.BufferLemmas.{find-passes}
+use Rattle.noc_model.proofs.Facts.{mid_at, whole-at, whole-frozen_at, whole-mid_at, worm_order-at}
+use Rattle.noc_model.proofs.FirstOfNode.{Precedes, waiting-first}
+use Rattle.noc_model.proofs.GrantLemmas.{Has-below, IsWired}
+use Rattle.noc_model.proofs.InjectionPhase.{IsInjected, apart-same, new-entry, two-injects}
+use Rattle.noc_model.proofs.InjectionState.{entries-apart, entries-are, entries-move, injection_of-is, waiting-is}
+use Rattle.noc_model.proofs.Members.{Has-append, Has-filter, Has-filter_map, Has-filter_mapped, Has-kept, Has-left, Has-mapped, Has-right, find-fails, find-has, list_any-from}
+use Rattle.noc_model.proofs.OpeningLemmas.{below-has}
+use Rattle.noc_model.proofs.OptionLemmas.{and_then-some, cond-some, is_none-none}
+use Rattle.noc_model.proofs.OwnedLemmas.{has-of, idle-none, of-has, owner-has, owner-is}
+use Rattle.noc_model.proofs.PlaceLemmas.{IsValid, flit-there, place-stepped}
+use Rattle.noc_model.proofs.RoomLemmas.{landed-count}
+use Rattle.noc_model.proofs.Sound.{IsSoundFrozen, IsSoundState}
+use Rattle.noc_model.proofs.WormRecord.{last_of, source-landed, valid-last}
+use Rattle.noc_model.proofs.HasLemmas.{least-some}
+use Rattle.noc_model.proofs.WormLemmas.{filter-none}
 use Rattle.noc_headline.specs.Effects.{Begins, GoesOnAt, HasPassed, IsFirstOfNode, IsNextFlit, entry_of}
 use Rattle.noc_headline.proofs.SearchLemmas.{find-absent, find-least_below}
 

@@ -29,11 +29,11 @@ use Rattle.noc_model.proofs.OrderLemmas.{here_between, keeps_step, opening_in_st
 use Rattle.noc_model.proofs.EventLemmas.{linked_when}
 use Rattle.noc_headline.proofs.CountLemmas.{IsAfter, base_after, after-events}
 use Rattle.noc_model.specs.Good.{IsGoodSetup}
-use Rattle.noc_views.proofs.OrderedStates.{ordered-frozen}
-use Rattle.noc_views.proofs.PlaceLemmas.{arriving-at}
-use Rattle.noc_views.proofs.Opening.{opening-is}
-use Rattle.noc_views.proofs.Theorem.{good-network, lockstep-is_state}
-use Rattle.noc_ownership.proofs.Facts.{worm_order-at}
+use Rattle.noc_model.proofs.OrderedStates.{ordered-frozen}
+use Rattle.noc_model.proofs.PlaceViews.{arriving-at}
+use Rattle.noc_model.proofs.Opening.{opening-is}
+use Rattle.noc_model.proofs.Theorem.{good-network, lockstep-is_state}
+use Rattle.noc_model.proofs.Facts.{worm_order-at}
 use Rattle.noc_headline.specs.Headline.{IsInputOf, AsksForChannel, GoesOnBy}
 use Rattle.noc_headline.specs.Steps.{IsBufferIn, IsFoundIn, IsRightCore, IsRightRouter, IsRightWire, beat_in, beats_of}
 use Rattle.noc_headline.proofs.ClaimLemmas.{claim-goes}
