@@ -14,7 +14,7 @@ use Rattle.noc_router.specs.View.{View, size_of, view_buffer, view_input, view_o
 use Rattle.noc_rows.specs.Planes.{words_of}
 use Rattle.noc_rows.specs.Taken.{with_one, landed_by, HasTaken}
 use Rattle.noc_rows.specs.Injected.{injected_to, HasInjected}
-use Rattle.noc_rows.specs.Column.{Column, Marks, AreWords, ShowsOutput, ShowsInput, ShowsChannels, IsTidy, is_draining}
+use Rattle.noc_rows.specs.Column.{Column, RouterMarks, AreWords, ShowsOutput, ShowsInput, ShowsChannels, IsTidy, is_draining}
 use Rattle.noc_rows.specs.Passes.{lane_raised, lane_landed, lane_filled, with_credits, with_flits, AreOwners}
 use Rattle.noc_rows.proofs.CreditLemmas.{credited-shows, supplied-shows}
 use Rattle.noc_rows.proofs.FlitLemmas.{landed-shows, landed-fills, phase-kept}
@@ -26,7 +26,7 @@ pub record AreCredits (v : View) (came : ℕ) (credit : ℕ → Bool) : Type 0 w
   pub each : (o : ℕ) → o < size_of v.site → has_bit came o ≡ credit o
   pub below : (o : ℕ) → has_bit came o ≡ true → o < size_of v.site
 
-module _ (relation : Routes) (count : ℕ) (c : Column) (m : Marks) (v w : View) (flit : ℕ → Option Flit) (credit : ℕ → Bool) (words : AreWords count c) (few : size_of v.site ≤ 32) (room : v.site.places < 2 ^ count)
+module _ (relation : Routes) (count : ℕ) (c : Column) (m : RouterMarks) (v w : View) (flit : ℕ → Option Flit) (credit : ℕ → Bool) (words : AreWords count c) (few : size_of v.site ≤ 32) (room : v.site.places < 2 ^ count)
     (shows : ShowsChannels c v) (tidy : IsTidy v) (taken : HasTaken relation v w flit credit) where
   -- the output channels, once the credits have come
   pub outputs-arrived : (came : ℕ) → AreCredits v came credit → (o : ℕ) → o < size_of v.site → ShowsOutput (with_credits (words_of count v.site.places) came c) o (view_output w o)

@@ -15,7 +15,7 @@ use Rattle.noc_router.specs.View.{View, size_of, view_input, view_output}
 use Rattle.noc_rows.specs.Bits.{differ}
 use Rattle.noc_rows.specs.Planes.{number_at, raised_by, any_from, wrong_from, words_of}
 use Rattle.noc_rows.specs.Taken.{credited_by}
-use Rattle.noc_rows.specs.Column.{Column, Marks, AreWords, ShowsOutput, is_draining}
+use Rattle.noc_rows.specs.Column.{Column, RouterMarks, AreWords, ShowsOutput, is_draining}
 use Rattle.noc_rows.specs.Passes.{lane_home, lane_raised, with_credits, AreOwners}
 use Rattle.noc_rows.proofs.BitLemmas.{xor_members, less_members, or_fits}
 use Rattle.noc_rows.proofs.PlaneLemmas.{raised-number, raised-fits, raised-length, filled-members, wrong-members, wrong-fits, any-fits}
@@ -182,7 +182,7 @@ owned-by (Owned j p) a b = (j, p, refl)
 owned-by Draining a b = absurd (true≢false b)
 
 -- the input channels of the raised output channels are supplied too
-pub supplied-shows : (count : ℕ) (c : Column) (m : Marks) (v w : View) (came up : ℕ) (owner : ℕ → ℕ) (credit : ℕ → Bool) → AreWords count c → came < 2 ^ 32
+pub supplied-shows : (count : ℕ) (c : Column) (m : RouterMarks) (v w : View) (came up : ℕ) (owner : ℕ → ℕ) (credit : ℕ → Bool) → AreWords count c → came < 2 ^ 32
     → ((o : ℕ) → o < size_of v.site → ShowsOutput c o (view_output v o))
     → ((i : ℕ) → i < size_of v.site → has_bit c.supplied i ≡ is_supplied v.outputs (view_input v i).phase)
     → ((i o : ℕ) → i < size_of v.site → o < size_of v.site → owns (view_input v i).phase o ≡ is_owned_from (view_output v o).holder i)

@@ -20,3 +20,5 @@ pub mod SelectLemmas
 pub mod AskLemmas
 pub mod PassLemmas
 pub mod WordLemmas
+pub mod SteadyLemmas
+pub mod TidyLemmas

@@ -1,6 +1,6 @@
 -- The words that one router has in rows, and what it means that they show a view.
-use Rattle.std.specs.Prelude.{◌≡◌, ◌⊎◌, ℕ, ◌*◌, ◌/◌, ◌^◌, ◌<◌, ◌≤◌, Bool, true, false, List, [], length, Option, Some, None, IfSome, is_some, nat_lt, nat_le, nat_eq, slice_index_or}
-use Rattle.noc_topo.specs.Shape.{ports, local_port}
+use Rattle.std.specs.Prelude.{◌≡◌, ◌⊎◌, ℕ, ◌+◌, ◌*◌, ◌/◌, ◌%◌, ◌^◌, ◌<◌, ◌≤◌, Bool, true, false, List, map, length, Option, Some, None, IfSome, is_some, nat_lt, nat_le, nat_eq, slice_index_or}
+use Rattle.noc_topo.specs.Shape.{Grid, nodes, ports, local_port, neighbour}
 use Rattle.noc_packet.specs.Set.{has_bit}
 use Rattle.noc_packet.specs.declared.packet.Flit.{Flit}
 use Rattle.noc_alloc.specs.Arbiter.{turn_at}
@@ -12,9 +12,10 @@ use Rattle.noc_vc.specs.declared.output.OutputState.{OutputState}
 use Rattle.noc_vc.specs.declared.output.OutputState.TheVariants.{Idle as Free, Owned, Draining}
 use Rattle.noc_router.specs.Members.{AreBelow}
 use Rattle.noc_router.specs.Sound.{is_supplied, owns, is_owned_from}
-use Rattle.noc_router.specs.View.{View, size_of, local_channel, view_buffer, view_input, view_output}
+use Rattle.noc_router.specs.View.{Site, View, size_of, local_channel, view_buffer, view_input, view_output}
 use Rattle.noc_packet.specs.declared.packet.Beat.{Beat}
 use Rattle.noc_rows.specs.Taken.{flit_from, credit_from, with_one}
+use Rattle.noc_rows.specs.FlitWords.{flit_word}
 use Rattle.noc_rows.specs.Planes.{number_at, ArePlanes}
 use Rattle.noc_rows.specs.Fields.{ShowsPointer}
 
@@ -32,13 +33,14 @@ pub record Column : Type 0 where
   pub injecting : ℕ  -- the local channel of the packet that is being injected
 
 -- what it has by channel and by port
-pub record Marks : Type 0 where
-  pub set : List ℕ  -- by waiting input channel, where it may go
-  pub taken : List ℕ  -- by active input channel, its output channel
-  pub owner : List ℕ  -- by owned output channel, its input channel
-  pub turn : List ℕ  -- by output channel, the input channels at or after the pointer of its arbiter
-  pub to_port : List ℕ  -- by output port, the active input channels that own a channel of it
-  pub port_turn : List ℕ  -- by output port, the input channels of the ports at or after the pointer of its arbiter
+pub record RouterMarks : Type 0 where
+  pub set : ℕ → ℕ  -- by waiting input channel, where it may go
+  pub taken : ℕ → ℕ  -- by active input channel, its output channel, as a set
+  pub target : ℕ → ℕ  -- by active input channel, the place to which its flits go
+  pub owner : ℕ → ℕ  -- by owned output channel, its input channel
+  pub turn : ℕ → ℕ  -- by output channel, the input channels at or after the pointer of its arbiter
+  pub to_port : ℕ → ℕ  -- by output port, the active input channels that own a channel of it
+  pub port_turn : ℕ → ℕ  -- by output port, the input channels of the ports at or after the pointer of its arbiter
 
 -- each is a word, and numbers have so many bits
 pub record AreWords (count : ℕ) (c : Column) : Type 0 where
@@ -83,22 +85,35 @@ pub record ShowsChannels (c : Column) (v : View) : Type 0 where
   pub len_below : (i : ℕ) → size_of v.site ≤ i → number_at c.len i ≡ 0
 
 -- the pointers of the arbiters
-pub record ShowsTurns (c : Column) (m : Marks) (v : View) : Type 0 where
+pub record ShowsTurns (c : Column) (m : RouterMarks) (v : View) : Type 0 where
   pub inputs : (p : ℕ) → p < ports v.site.grid → ShowsPointer v.site.vcs c.ahead p (turn_at v.arbiters.inputs p).pointer
-  pub channels : (o : ℕ) → o < size_of v.site → ShowsPointer (size_of v.site) (slice_index_or m.turn o 0) 0 (turn_at v.arbiters.channels o).pointer
+  pub channels : (o : ℕ) → o < size_of v.site → ShowsPointer (size_of v.site) (m.turn o) 0 (turn_at v.arbiters.channels o).pointer
   pub outputs : (q i : ℕ) → q < ports v.site.grid → i < size_of v.site
-      → (has_bit (slice_index_or m.port_turn q 0) i ≡ nat_le (turn_at v.arbiters.outputs q).pointer (i / v.site.vcs))
-      ⊎ (((turn_at v.arbiters.outputs q).pointer ≡ 0) × ((k : ℕ) → k < size_of v.site → has_bit (slice_index_or m.port_turn q 0) k ≡ false))
+      → (has_bit (m.port_turn q) i ≡ nat_le (turn_at v.arbiters.outputs q).pointer (i / v.site.vcs))
+      ⊎ (((turn_at v.arbiters.outputs q).pointer ≡ 0) × ((k : ℕ) → k < size_of v.site → has_bit (m.port_turn q) k ≡ false))
+
+-- the place of channel i of router r: 32 channels for each router
+abbrev pub place_of : ℕ → ℕ → ℕ
+place_of r i = r * 32 + i
+
+-- .. of the channel at the other end of the link of a port, where there is a link; else a place beyond all routers
+abbrev pub LeadsTo : Grid → ℕ → ℕ → ℕ → Option (ℕ × ℕ) → Type 0
+LeadsTo grid vcs vc place None = place_of (nodes grid) 0 ≤ place
+LeadsTo grid vcs vc place (Some (to, port)) = place ≡ place_of to (port * vcs + vc)
+
+-- where channel i of a router leads
+abbrev pub Leads : Site → ℕ → ℕ → Type 0
+Leads site i place = LeadsTo site.grid site.vcs (i % site.vcs) place (neighbour site.grid site.node (i / site.vcs))
 
 -- input channel i, by channel: the set of one that waits, and the output channel of one that is active
-abbrev pub ShowsPhase : Column → Marks → ℕ → ℕ → InputState → Type 0
-ShowsPhase c m vcs i Idle = Unit {0}
-ShowsPhase c m vcs i (Waiting set) = (slice_index_or m.set i 0 ≡ set) × (set < 2 ^ 32) × ((o : ℕ) → has_bit set o ≡ true → has_bit c.wanted o ≡ true)
-ShowsPhase c m vcs i (Active o) = slice_index_or m.taken i 0 ≡ o
+abbrev pub ShowsPhase : Column → RouterMarks → Site → ℕ → InputState → Type 0
+ShowsPhase c m site i Idle = Unit {0}
+ShowsPhase c m site i (Waiting set) = (m.set i ≡ set) × (set < 2 ^ 32) × ((o : ℕ) → has_bit set o ≡ true → has_bit c.wanted o ≡ true)
+ShowsPhase c m site i (Active o) = (m.taken i ≡ 2 ^ o) × Leads site o (m.target i)
 
-abbrev pub ShowsHolder : Marks → ℕ → OutputState → Type 0
+abbrev pub ShowsHolder : RouterMarks → ℕ → OutputState → Type 0
 ShowsHolder m o Free = Unit {0}
-ShowsHolder m o (Owned i p) = slice_index_or m.owner o 0 ≡ i
+ShowsHolder m o (Owned i p) = m.owner o ≡ i
 ShowsHolder m o Draining = Unit {0}
 
 -- whether an input channel in this state sends by this port
@@ -107,10 +122,10 @@ sends_by vcs port Idle = false
 sends_by vcs port (Waiting set) = false
 sends_by vcs port (Active o) = nat_eq (o / vcs) port
 
-pub record ShowsMarks (c : Column) (m : Marks) (v : View) : Type 0 where
-  pub phases : (i : ℕ) → i < size_of v.site → ShowsPhase c m v.site.vcs i (view_input v i).phase
+pub record ShowsMarks (c : Column) (m : RouterMarks) (v : View) : Type 0 where
+  pub phases : (i : ℕ) → i < size_of v.site → ShowsPhase c m v.site i (view_input v i).phase
   pub holders : (o : ℕ) → o < size_of v.site → ShowsHolder m o (view_output v o).holder
-  pub to_port : (q i : ℕ) → q < ports v.site.grid → i < size_of v.site → has_bit (slice_index_or m.to_port q 0) i ≡ sends_by v.site.vcs q (view_input v i).phase
+  pub to_port : (q i : ℕ) → q < ports v.site.grid → i < size_of v.site → has_bit (m.to_port q) i ≡ sends_by v.site.vcs q (view_input v i).phase
 
 -- what is being injected
 abbrev pub ShowsSending : Column → View → Option (ℕ × ℕ) → Type 0
@@ -119,15 +134,15 @@ ShowsSending c v (Some (vc, index)) = (vc < v.site.vcs) × (c.injecting ≡ 2 ^ 
 
 -- the wires to a router, by the beats on them: the input channels that a flit comes to, the output channels that a credit comes to, and
 -- the ring of each input channel, which has the flits of its buffer and then the one that is on the wire to it
-pub record ShowsWires (v : View) (flits credits : ℕ) (rings : List (List Flit)) (beats : List Beat) : Type 0 where
+pub record ShowsWires (v : View) (flits credits : ℕ) (ring : ℕ → List ℕ) (beats : List Beat) : Type 0 where
   pub comes : (i : ℕ) → i < size_of v.site → has_bit flits i ≡ is_some (flit_from v.site.vcs 0 beats i)
   pub comes_below : AreBelow (size_of v.site) flits
   pub returns : (o : ℕ) → o < size_of v.site → has_bit credits o ≡ credit_from v.site.vcs 0 beats o
   pub returns_below : AreBelow (size_of v.site) credits
-  pub ring : (i : ℕ) → i < size_of v.site → slice_index_or rings i [] ≡ with_one (view_buffer v i) (flit_from v.site.vcs 0 beats i)
+  pub rings : (i : ℕ) → i < size_of v.site → ring i ≡ map flit_word (with_one (view_buffer v i) (flit_from v.site.vcs 0 beats i))
 
 -- what the columns say of the view of a router, but for its counts and its source
-pub record IsColumn (count : ℕ) (c : Column) (m : Marks) (v : View) : Type 0 where
+pub record IsColumn (count : ℕ) (c : Column) (m : RouterMarks) (v : View) : Type 0 where
   pub words : AreWords count c
   pub channels : ShowsChannels c v
   pub turns : ShowsTurns c m v

@@ -2,6 +2,7 @@ pub mod Bits
 pub mod Planes
 pub mod Fields
 pub mod Taken
+pub mod FlitWords
 pub mod Column
 pub mod Passes
 pub mod Sheet
