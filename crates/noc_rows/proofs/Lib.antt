@@ -22,3 +22,6 @@ pub mod PassLemmas
 pub mod WordLemmas
 pub mod SteadyLemmas
 pub mod TidyLemmas
+pub mod PointerLemmas
+pub mod NetworkLaws
+pub mod FlitLaws

@@ -1,30 +1,26 @@
 -- What a state of a network has at the start of a cycle and in the middle of one, and which channel of a router owns which.
-use Rattle.std.proofs.Common.{◌≡◌, ℕ, zero, suc, ◌+◌, ◌*◌, ◌/◌, ◌<◌, ◌≤◌, Bool, true, false, cond, List, length, Option, Some, None, refl, ap, sym, ◌∙◌, inl, inr, subst, arith}
-use Rattle.std.specs.Prelude.{find, option_map, option_and_then, unwrap_or, ◌⊎◌, ◌&&◌, ◌||◌, nat_eq, nat_lt}
-use Rattle.std.proofs.lemmas.Bool.{false≢true, true≢false, and_parts, le-ltb, lt-ltb, ltb-false, ltb-true, eqb-true, eq-eqb, or_left, or_right}
-use Rattle.std.proofs.lemmas.Option.{none-some, same_Some}
-use Rattle.noc_topo.specs.Words.{below, Has}
+use Rattle.std.proofs.Common.{◌≡◌, ℕ, zero, suc, ◌+◌, ◌*◌, ◌/◌, ◌<◌, ◌≤◌, Bool, true, false, cond, Option, Some, None, refl, ap, sym, ◌∙◌, subst, arith}
+use Rattle.std.specs.Prelude.{option_map, ◌&&◌, ◌||◌, nat_lt}
+use Rattle.std.proofs.lemmas.Bool.{false≢true, true≢false, and_parts, le-ltb, ltb-false}
+use Rattle.std.proofs.lemmas.Option.{same_Some}
+use Rattle.noc_topo.specs.Words.{Has}
 use Rattle.noc_topo.specs.Shape.{nodes, local_port, distance}
 use Rattle.noc_route.specs.Channel.{Channel, Link, Inject, Eject, begin, is_link, same_channel, output_index}
 use Rattle.noc_route.proofs.BuiltLemmas.{linked-port}
-use Rattle.noc_vc.specs.declared.input.InputState.{InputState}
 use Rattle.noc_vc.specs.declared.input.InputState.TheVariants.{Idle, Waiting, Active}
-use Rattle.noc_vc.specs.declared.output.OutputState.{OutputState}
-use Rattle.noc_vc.specs.declared.output.OutputState.TheVariants.{Idle as Free, Owned, Draining}
+use Rattle.noc_vc.specs.declared.output.OutputState.TheVariants.{Owned, Draining}
 use Rattle.noc_router.specs.Counts.{one_if}
-use Rattle.noc_router.specs.Sound.{owns, is_owned_from}
 use Rattle.noc_router.specs.Verdict.{is_moved}
 use Rattle.noc_model.specs.Good.{held}
 use Rattle.noc_model.specs.Lockstep.{has_come, seen_phase, seen_phase_with, seen_holder, seen_source, seen_set}
-use Rattle.noc_model.specs.Network.{Setup, State, Located, Place, Source, On, In, Out, size, arriving, leaving, place_of, tail_place, is_on, is_in, is_past, owner_of, leads_from, next_channel, verdict_in, is_released, after_verdicts, all_inputs, has_channel, count_in, count_on, opening_state, network_cycle, state_at, frozen_at}
+use Rattle.noc_model.specs.Network.{Setup, State, Place, Source, On, In, Out, leaving, place_of, tail_place, is_on, is_in, is_past, owner_of, leads_from, next_channel, verdict_in, is_released, after_verdicts, all_inputs, has_channel, opening_state, network_cycle, state_at, frozen_at}
 use Rattle.noc_model.specs.Progress.{hops}
 use Rattle.noc_ownership.proofs.BufferLemmas.{same_channel-refl, same_channel-true}
 use Rattle.noc_ownership.proofs.Members.{Has-filter}
 use Rattle.noc_ownership.proofs.MoveLemmas.{IsNext, leads-end, far-link, far-eject, same-far}
 use Rattle.noc_ownership.proofs.NextLemmas.{next-from}
 use Rattle.noc_ownership.proofs.OwnedLemmas.{owner-has, owner-is}
-use Rattle.noc_ownership.proofs.PathLemmas.{IsEject}
-use Rattle.noc_ownership.proofs.PlaceLemmas.{IsValid, IsKeyed}
+use Rattle.noc_ownership.proofs.PlaceLemmas.{IsKeyed}
 use Rattle.noc_ownership.proofs.RoutedRecord.{IsHeld, IsRoutedMid}
 use Rattle.noc_ownership.proofs.RoutedState.{IsCovered}
 use Rattle.noc_ownership.proofs.RoutedVerdicts.{channel-has}
@@ -154,7 +150,7 @@ module _ (net : Setup) (good : IsGood net) where
             let l : far_of net p (Link a b w) ≤ far_of net p (Link s u j) = ltb-false (far_of net p (Link s u j)) (far_of net p (Link a b w)) behind in
             let apart : far_of net p (Link a b w) ≡ far_of net p (Link s u j) → ⊥
             = λ e. let same = same-far net good.built S x.keyed x.worm p (Link a b w) (Link s u j) m.owns h (λ z. z) (λ z. z) e in
-              true≢false (sym (same_channel-refl (Link a b w)) ∙ ap (same_channel (Link a b w)) same ∙ other) in
+            true≢false (sym (same_channel-refl (Link a b w)) ∙ ap (same_channel (Link a b w)) same ∙ other) in
             le-ltb (far_of net p (Link s u j)) (far_of net p c) (strict (far_of net p (Link a b w)) (far_of net p (Link s u j)) (far_of net p c) l apart far)
           where
             strict : (d e f : ℕ) → d ≤ e → (d ≡ e → ⊥) → f ≡ d + 1 → f ≤ e

@@ -1,16 +1,16 @@
 -- A view that shows a steady state is tidy.
-use Rattle.std.proofs.Common.{◌≡◌, ℕ, zero, suc, ◌+◌, ◌-◌, ◌*◌, ◌/◌, ◌%◌, ◌<◌, ◌≤◌, Bool, true, false, cond, List, [], ◌∷◌, map, length, Option, Some, None, IfSome, refl, ap, sym, ◌∙◌, inl, inr, subst, arith, div-lt_iff_lt-mul}
-use Rattle.std.specs.Prelude.{find, option_map, unwrap_or, ◌⊎◌, ◌&&◌, ◌||◌, nat_eq, nat_lt, is_some}
-use Rattle.std.proofs.lemmas.Bool.{false≢true, true≢false, lt-ltb, le-ltb, eqb-true, eq-eqb}
+use Rattle.std.proofs.Common.{◌≡◌, ℕ, zero, suc, ◌*◌, ◌/◌, ◌<◌, ◌≤◌, Bool, true, false, cond, List, [], ◌∷◌, map, length, Option, Some, None, IfSome, refl, ap, sym, ◌∙◌, inl, inr, subst, arith, div-lt_iff_lt-mul}
+use Rattle.std.specs.Prelude.{find, option_map, unwrap_or, ◌⊎◌, ◌&&◌, ◌||◌, nat_lt, is_some}
+use Rattle.std.proofs.lemmas.Bool.{false≢true, lt-ltb, le-ltb, eqb-true, eq-eqb}
 use Rattle.std.proofs.lemmas.List.{length-map}
 use Rattle.std.proofs.lemmas.Nat.{div-add-mod'}
-use Rattle.std.proofs.lemmas.Option.{none-some, same_Some}
+use Rattle.std.proofs.lemmas.Option.{none-some}
 use Rattle.noc_topo.specs.Words.{below, Has}
-use Rattle.noc_topo.specs.Shape.{nodes, ports, local_port}
+use Rattle.noc_topo.specs.Shape.{nodes, local_port}
 use Rattle.noc_packet.specs.Packet.{flit_at}
 use Rattle.noc_packet.specs.declared.packet.Flit.{Flit}
 use Rattle.noc_route.specs.Channel.{Channel, Link, Inject, Eject, is_link}
-use Rattle.noc_vc.specs.Input.{Input, is_active, is_waiting, is_empty}
+use Rattle.noc_vc.specs.Input.{Input, is_waiting, is_empty}
 use Rattle.noc_vc.specs.Output.{Output, is_free}
 use Rattle.noc_vc.specs.declared.input.InputState.{InputState}
 use Rattle.noc_vc.specs.declared.input.InputState.TheVariants.{Idle, Waiting, Active}
@@ -18,9 +18,8 @@ use Rattle.noc_vc.specs.declared.output.OutputState.{OutputState}
 use Rattle.noc_vc.specs.declared.output.OutputState.TheVariants.{Idle as Free, Owned, Draining}
 use Rattle.noc_router.specs.Counts.{one_if}
 use Rattle.noc_router.specs.Sound.{owns, is_owned_from}
-use Rattle.noc_router.specs.View.{Site, View, size_of, view_buffer, view_input, view_output}
-use Rattle.noc_model.specs.Good.{held}
-use Rattle.noc_model.specs.Lockstep.{has_come, seen_flits, seen_input, seen_output, seen_phase, seen_phase_with, seen_holder, seen_source, seen_set, goes_on_by}
+use Rattle.noc_router.specs.View.{Site, View, size_of, view_buffer, view_output}
+use Rattle.noc_model.specs.Lockstep.{has_come, seen_flits, seen_input, seen_output, seen_phase_with, seen_holder, seen_source, goes_on_by}
 use Rattle.noc_model.specs.Network.{Setup, State, Located, Place, Source, On, In, Out, size, arriving, leaving, packet_at, place_of, tail_place, is_on, is_in, is_past, owner_of, next_channel, has_channel, count_in, count_on, credit_of, buffer_of}
 use Rattle.noc_model.specs.Progress.{head_place}
 use Rattle.noc_ownership.proofs.BufferLemmas.{same_channel-refl}
@@ -34,7 +33,7 @@ use Rattle.noc_ownership.proofs.PlaceLemmas.{IsValid, flit-there, place-of-flit}
 use Rattle.noc_ownership.proofs.RoomLemmas.{filter-some, unowned-empty}
 use Rattle.noc_ownership.proofs.WormRecord.{IsPlaced, goal, last_of, valid-last, valid-first}
 use Rattle.noc_views.proofs.Ordered.{IsGood}
-use Rattle.noc_views.proofs.PlaceLemmas.{IsAt, IsFrom, arriving-at, leaving-from, not-eject, OutputCase, ejects, links, output-case}
+use Rattle.noc_views.proofs.PlaceLemmas.{arriving-at, leaving-from, OutputCase, ejects, links, output-case}
 use Rattle.noc_views.specs.Seen.{IsSeen}
 use Rattle.noc_rows.specs.Column.{IsTidy, is_draining}
 use Rattle.noc_rows.specs.Taken.{HasSize}
