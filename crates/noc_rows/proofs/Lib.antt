@@ -20,3 +20,7 @@ pub mod SelectLemmas
 pub mod AskLemmas
 pub mod PassLemmas
 pub mod WordLemmas
+pub mod EachLemmas
+pub mod OwnerLemmas
+pub mod SourceLemmas
+pub mod NextLemmas

@@ -15,7 +15,7 @@ use crate::route::route_all;
 use crate::settle::{look_ahead, note_events, settle};
 use crate::sheet::Sheet;
 use crate::stand::stand;
-use crate::starts::{NEVER, Start, all_starts, inject_all};
+use crate::starts::{NEVER, Start, all_starts, begin_all, inject_all};
 use crate::wires::Wires;
 use noc_packet::{Memory, Packet};
 use noc_route::Relation;
@@ -201,13 +201,18 @@ fn arrive_one(
 ) {
     if number < wires.inboxes.len() {
         let inbox = &mut wires.inboxes[number];
-        block.work.rising = take_credits(
+        let rising = take_credits(
             frame,
             &mut block.lanes,
             &mut block.returned,
             &mut inbox.credits,
         );
-        supply_all(block);
+        supply_all(
+            rising,
+            &block.returned.raised,
+            &block.marks,
+            &mut block.lanes.supplied,
+        );
         let injecting = take_flits(
             frame,
             cycle,
@@ -216,9 +221,22 @@ fn arrive_one(
             &mut block.arrived,
             &mut wires.inboxes[number].flits,
         );
-        block.work.beginning = injecting.beginning;
-        block.work.pushing = injecting.pushing;
-        inject_all(number, block, wires, starts);
+        begin_all(
+            injecting.beginning,
+            starts,
+            &mut block.lanes,
+            &mut block.arrived,
+            &mut block.sources,
+        );
+        inject_all(
+            injecting.pushing | injecting.beginning,
+            number,
+            starts,
+            &block.arrived.injected,
+            &mut block.lanes.injecting,
+            &mut block.sources,
+            wires,
+        );
         stand_one(frame, block);
     }
 }
