@@ -20,3 +20,6 @@ pub mod SelectLemmas
 pub mod AskLemmas
 pub mod PassLemmas
 pub mod WordLemmas
+pub mod RingLemmas
+pub mod FlitWordLemmas
+pub mod WireLemmas

@@ -10,3 +10,4 @@ pub mod Turns
 pub mod Injected
 pub mod Rows
 pub mod InRows
+pub mod Wires
