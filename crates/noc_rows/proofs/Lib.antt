@@ -25,3 +25,10 @@ pub mod TidyLemmas
 pub mod PointerLemmas
 pub mod NetworkLaws
 pub mod FlitLaws
+pub mod EachLemmas
+pub mod OwnerLemmas
+pub mod SourceLemmas
+pub mod NextLemmas
+pub mod RingLemmas
+pub mod FlitWordLemmas
+pub mod WireLemmas
