@@ -20,3 +20,15 @@ pub mod SelectLemmas
 pub mod AskLemmas
 pub mod PassLemmas
 pub mod WordLemmas
+pub mod SteadyLemmas
+pub mod TidyLemmas
+pub mod PointerLemmas
+pub mod NetworkLaws
+pub mod FlitLaws
+pub mod EachLemmas
+pub mod OwnerLemmas
+pub mod SourceLemmas
+pub mod NextLemmas
+pub mod RingLemmas
+pub mod FlitWordLemmas
+pub mod WireLemmas

@@ -9,4 +9,6 @@ pub mod Sheet
 pub mod Turns
 pub mod Injected
 pub mod Rows
+pub mod Source
 pub mod InRows
+pub mod Wires

@@ -1,8 +1,8 @@
 -- The passes of a cycle over rows, as one lane of each computes it.
-use Rattle.std.specs.Prelude.{◌≡◌, ℕ, ◌&&◌, true, List, bit_and, bit_or, bit_xor, nat_eq, nat_le, if◌then◌else◌}
+use Rattle.std.specs.Prelude.{◌≡◌, ℕ, ◌+◌, ◌*◌, ◌%◌, ◌^◌, ◌<◌, ◌&&◌, true, not, List, [], ◌∷◌, slice_index_or, bit_and, bit_or, bit_xor, nat_eq, nat_le, if◌then◌else◌}
 use Rattle.std.specs.Int.{bit_not, w32}
 use Rattle.noc_packet.specs.Set.{has_bit}
-use Rattle.noc_rows.specs.Bits.{less}
+use Rattle.noc_rows.specs.Bits.{less, lowest}
 use Rattle.noc_rows.specs.Planes.{raised_by, lowered_by, any_from, more_than_one, wrong_from}
 use Rattle.noc_rows.specs.Fields.{Fields, lane_pick, lane_past}
 use Rattle.noc_rows.specs.Column.{Column}
@@ -40,6 +40,17 @@ pub record AreOwners (raised : ℕ) (owner : ℕ → ℕ) (up : ℕ) : Type 0 wh
   pub each : (o : ℕ) → has_bit raised o ≡ true → has_bit up (owner o) ≡ true
   pub some : (i : ℕ) → has_bit up i ≡ true → (o : ℕ) × (has_bit raised o ≡ true) × (owner o ≡ i)
 
+-- the input channel that owns an output channel of router j, by the owners of all channels of a block
+abbrev pub owner_in : List ℕ → ℕ → ℕ → ℕ
+owner_in owners j o = slice_index_or owners (j * 32 + o) 0 % 32
+
+-- the owners of these output channels are supplied too
+pub record HasSupplied (raised : ℕ) (owner : ℕ → ℕ) (old new : ℕ) : Type 0 where
+  pub up : ℕ
+  pub are : AreOwners raised owner up
+  pub fits : up < 2 ^ 32
+  pub is : new ≡ bit_or old up
+
 -- ---- flits come
 -- those that the source injects: into the channel of its packet, where that is not full
 abbrev pub lane_injected : List ℕ → Column → ℕ
@@ -70,6 +81,25 @@ lane_arrived bits local cycle due came c = record {
   begins = lane_begins local cycle due c;
   filled = lane_filled bits came c;
 }
+
+-- ---- a packet begins in the least of these channels, if there is one, and its head is injected
+abbrev pub with_first : ℕ → List ℕ → List ℕ
+with_first bit [] = []
+with_first bit (plane ∷ planes) = bit_or plane bit ∷ planes
+
+abbrev pub begun_column : ℕ → Column → Column
+begun_column begins c = record c { len = with_first (lowest begins) c.len; injecting = bit_or c.injecting (lowest begins) }
+
+abbrev pub begun_arrived : Arrived → Arrived
+begun_arrived a = record a {
+  landed = bit_or a.landed (lowest a.begins);
+  injected = bit_or a.injected (lowest a.begins);
+  filled = bit_or a.filled (lowest a.begins);
+}
+
+-- the channel from which a packet is injected, after a flit is injected where so many are left with it
+abbrev pub injecting_after : ℕ → ℕ → ℕ → ℕ
+injecting_after injected left injecting = if not (nat_eq injected 0) && nat_eq left 1 then 0 else injecting
 
 -- ---- what each channel can do, where these are filled
 abbrev pub lane_heads : ℕ → Column → ℕ

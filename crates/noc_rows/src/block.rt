@@ -1,8 +1,10 @@
 //! The state of the routers of a block, and what they work out in a cycle.
 
+ghost use Rattle.std.specs.Prelude.{◌≡◌, ◌≢◌, ◌<◌, ℕ, slice_index_or};
+
 use crate::column::Lanes;
 use crate::cycle::{ArrivedRows, DecidedRows, ReturnedRows, StandingRows};
-use crate::lanes::{ROUTERS, Row};
+use crate::lanes::{ROUTERS, Row, put};
 use crate::marks::{Marks, Tallies};
 
 /// 32 routers.
@@ -33,28 +35,72 @@ pub struct Block {
     pub awake: bool,
 }
 
-/// What the sources of the routers of a block have to inject.
+/// What the source of one router has to inject.
+#[derive(Clone, Copy)]
+pub struct Source {
+    /// When the next packet is due.
+    pub due: u32,
+    /// How many flits of the packet that is being injected are left.
+    pub left: u32,
+    /// The place of the next packet in the list of starts.
+    pub queue: u32,
+    /// The next flit of the packet that is being injected.
+    pub word: u64,
+}
+
+/// .. of the routers of a block.
 #[derive(Clone, Copy)]
 pub struct Sources {
-    /// When the next packet is due.
     pub due: Row,
-    /// How many flits of the packet that is being injected are left.
     pub left: Row,
-    /// The place of the next packet in the list of starts.
     pub queue: Row,
-    /// The next flit of the packet that is being injected.
     pub word: [u64; ROUTERS],
+}
+
+impl Sources {
+    ghost use Rattle.noc_rows.specs.Source.{source_at};
+
+    /// The source of one router.
+    #[inline(always)]
+    pub fn at(&self, lane: usize) -> Source
+        requires { lane < 32 }
+        ensures { result ≡ source_at self.now lane }
+    {
+        Source {
+            due: self.due[lane],
+            left: self.left[lane],
+            queue: self.queue[lane],
+            word: self.word[lane],
+        }
+    }
+
+    /// Writes the source of one router.
+    #[inline(always)]
+    pub fn put(&mut self, lane: usize, source: Source)
+        requires { lane < 32 }
+        ensures here { source_at self.new lane ≡ source }
+        ensures others { (k : ℕ) → k ≢ lane → source_at self.new k ≡ source_at self.old k }
+    {
+        put(&mut self.due, lane, source.due);
+        put(&mut self.left, lane, source.left);
+        put(&mut self.queue, lane, source.queue);
+        put_flit(&mut self.word, lane, source.word);
+    }
+}
+
+// Writes the flit of one router.
+#[inline(always)]
+fn put_flit(words: &mut [u64; ROUTERS], lane: usize, word: u64)
+    requires { lane < 32 }
+    ensures here { slice_index_or words.new lane 0 ≡ word }
+    ensures others { (k : ℕ) → k ≢ lane → slice_index_or words.new k 0 ≡ slice_index_or words.old k 0 }
+{
+    words[lane] = word;
 }
 
 /// The lanes of a block in which something is to be done one by one in this cycle.
 #[derive(Clone, Copy)]
 pub struct Work {
-    /// An owned output channel has a credit again.
-    pub rising: u32,
-    /// A packet may begin.
-    pub beginning: u32,
-    /// A flit is injected.
-    pub pushing: u32,
     /// An idle output channel is in the set of a waiting channel.
     pub asking: u32,
     /// A head is there.
@@ -64,9 +110,6 @@ pub struct Work {
 impl Work {
     /// Nothing is to be done.
     pub const NONE: Work = Work {
-        rising: 0,
-        beginning: 0,
-        pushing: 0,
         asking: 0,
         heading: 0,
     };

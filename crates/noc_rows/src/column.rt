@@ -1,9 +1,10 @@
 //! The state of the channels of the routers of a block, as words of channels.
 
 ghost use Rattle.std.specs.Prelude.{◌≡◌, ◌≢◌, ◌<◌, ℕ};
+ghost use Rattle.noc_rows.specs.Passes.{begun_column};
 ghost use Rattle.noc_rows.specs.Rows.{column_at, column_of, planes_of};
 
-use crate::lanes::{ROUTERS, Row, put};
+use crate::lanes::{ROUTERS, Row, least_bit, put};
 use crate::numbers::{Numbers, Planes};
 
 /// The words of one router.
@@ -118,5 +119,19 @@ impl Lanes {
         put(&mut self.ahead, lane, words.ahead);
         put(&mut self.idle, lane, words.idle);
         put(&mut self.draining, lane, words.draining);
+    }
+
+    /// A packet begins in the least of these local channels of one router, if there is one: its head is in the buffer.
+    #[inline(always)]
+    pub fn begin(&mut self, lane: usize, begins: u32)
+        requires { lane < 32 }
+        ensures here { column_at self.new lane ≡ begun_column begins (column_at self.old lane) }
+        ensures others { (k : ℕ) → k ≢ lane → column_at self.new k ≡ column_at self.old k }
+    {
+        let bit = least_bit(begins);
+        let ones = self.len.ones[lane] | bit;
+        let injecting = self.injecting[lane] | bit;
+        put(&mut self.len.ones, lane, ones);
+        put(&mut self.injecting, lane, injecting);
     }
 }

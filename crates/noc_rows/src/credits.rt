@@ -2,14 +2,14 @@
 
 ghost use Rattle.std.specs.Prelude.{◌≡◌, ◌<◌, ◌&&◌, ℕ, not, nat_eq};
 ghost use Rattle.noc_packet.specs.Set.{has_bit};
-ghost use Rattle.noc_rows.specs.Passes.{lane_raised, lane_returned, with_credits};
+ghost use Rattle.noc_rows.specs.Passes.{HasSupplied, lane_raised, lane_returned, owner_in, with_credits};
 ghost use Rattle.noc_rows.specs.Rows.{column_at, column_of, planes_of, returned_at, word};
 
-use crate::block::Block;
 use crate::column::{Lane, Lanes};
 use crate::cycle::{Returned, ReturnedRows};
 use crate::frame::Frame;
 use crate::lanes::{ROUTERS, Row, alone_if, least, put};
+use crate::marks::Marks;
 use crate::numbers::Numbers;
 
 /// The credits of an in-box are counted, and the in-box is empty. A draining channel that has all its credits then is
@@ -61,13 +61,18 @@ fn with_returned(places: Numbers, links: u32, lane: Lane, came: u32) -> (Lane, R
     (lane, words)
 }
 
-/// An active channel whose output channel had no credit, and has one now, is supplied.
-pub fn supply_all(block: &mut Block) {
-    let mut rising = block.work.rising;
-    while rising != 0 {
-        let lane = least(rising);
-        let owners = block.marks.owners(lane, block.returned.raised[lane]);
-        block.lanes.supplied[lane] |= owners;
-        rising &= rising - 1;
+/// The input channels that own one of the raised output channels of their router are supplied, in the lanes that have
+/// such.
+pub fn supply_all(rising: u32, raised: &Row, marks: &Marks, supplied: &mut Row)
+    requires { (k : ℕ) → k < 32 → has_bit rising k ≡ not (nat_eq (word raised.now k) 0) }
+    ensures { (k : ℕ) → k < 32 → HasSupplied (word raised.now k) (owner_in marks.now.owner k) (word supplied.old k) (word supplied.new k) }
+{
+    let mut rest = rising;
+    while rest != 0 {
+        let lane = least(rest);
+        let owners = marks.owners(lane, raised[lane]);
+        let all = supplied[lane] | owners;
+        put(supplied, lane, all);
+        rest &= rest - 1;
     }
 }

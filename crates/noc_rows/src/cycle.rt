@@ -1,9 +1,10 @@
 //! What the routers of a block work out in a cycle, as words of channels.
 
 ghost use Rattle.std.specs.Prelude.{◌≡◌, ◌≢◌, ◌<◌, ℕ};
+ghost use Rattle.noc_rows.specs.Passes.{begun_arrived};
 ghost use Rattle.noc_rows.specs.Rows.{arrived_at, returned_at, standing_at};
 
-use crate::lanes::{ROUTERS, Row, put};
+use crate::lanes::{ROUTERS, Row, least_bit, put};
 
 const NONE: Row = [0; ROUTERS];
 
@@ -89,6 +90,23 @@ impl ArrivedRows {
         put(&mut self.injected, lane, words.injected);
         put(&mut self.begins, lane, words.begins);
         put(&mut self.filled, lane, words.filled);
+    }
+
+    /// A packet begins in the least of the channels of one router in which it may, if there is one: its head is
+    /// injected.
+    #[inline(always)]
+    pub fn begin(&mut self, lane: usize)
+        requires { lane < 32 }
+        ensures here { arrived_at self.new lane ≡ begun_arrived (arrived_at self.old lane) }
+        ensures others { (k : ℕ) → k ≢ lane → arrived_at self.new k ≡ arrived_at self.old k }
+    {
+        let bit = least_bit(self.begins[lane]);
+        let landed = self.landed[lane] | bit;
+        let injected = self.injected[lane] | bit;
+        let filled = self.filled[lane] | bit;
+        put(&mut self.landed, lane, landed);
+        put(&mut self.injected, lane, injected);
+        put(&mut self.filled, lane, filled);
     }
 }
 

@@ -31,6 +31,8 @@ pub struct Marks {
 }
 
 impl Marks {
+    ghost use Rattle.noc_rows.specs.Passes.{AreOwners, owner_in};
+
     /// Nothing waits, nothing is owned, and every pointer is at the first channel.
     pub const NONE: Marks = Marks {
         to_port: [[0; ROUTERS]; 8],
@@ -64,6 +66,7 @@ impl Marks {
     #[inline(always)]
     pub fn owners(&self, lane: usize, outputs: u32) -> u32
         requires { lane < 32 }
+        ensures { AreOwners outputs (owner_in self.now.owner lane) result }
     {
         let mut rest = outputs;
         let mut owners = 0u32;

@@ -1,4 +1,11 @@
+use Rattle.std.proofs.Common.{ℕ}
+use Rattle.noc_rows.specs.Passes.{HasSupplied, owner_in}
+use Rattle.noc_rows.specs.Rows.{word}
+use Rattle.noc_rows.proofs.EachLemmas.{IsEach}
 use Rattle.noc_rows.proofs.credits.supply_all.Given as goal
 
-abbrev pub decreases-loop-rising : goal.decreases-loop-rising
-decreases-loop-rising l = l.rising
+abbrev pub invariant-loop-rest : goal.invariant-loop-rest
+invariant-loop-rest l = IsEach ℕ (λ k x. HasSupplied (word l.raised k) (owner_in l.marks.owner k) (word l.fn.supplied k) x) (word l.fn.supplied) (word l.supplied) l.rising l.rest
+
+abbrev pub decreases-loop-rest : goal.decreases-loop-rest
+decreases-loop-rest l = l.rest

@@ -1,4 +1,11 @@
+use Rattle.std.proofs.Common.{◌≡◌, ℕ, true, false}
+use Rattle.noc_packet.specs.Set.{has_bit}
+use Rattle.noc_rows.specs.Passes.{owner_in}
+use Rattle.noc_rows.proofs.OwnerLemmas.{AreOwnersBut}
 use Rattle.noc_rows.proofs.marks.Marks.owners.Given as goal
+
+abbrev pub invariant-loop-rest : goal.invariant-loop-rest
+invariant-loop-rest l = AreOwnersBut l.outputs (owner_in l.self.owner l.lane) l.owners l.rest
 
 abbrev pub decreases-loop-rest : goal.decreases-loop-rest
 decreases-loop-rest l = l.rest
