@@ -8,6 +8,7 @@ pub mod FlitLemmas
 pub mod StandLemmas
 pub mod SettleLemmas
 pub mod SheetLemmas
+pub mod CounterLemmas
 pub mod TurnLemmas
 pub mod SwitchLemmas
 pub mod InjectedLemmas
