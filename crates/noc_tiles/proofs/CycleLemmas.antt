@@ -12,7 +12,6 @@ use Rattle.noc_router.specs.Decided.{IsDecidedFor}
 use Rattle.noc_router.specs.View.{Site, View, IsRelationOf, all_taken, idle_beat, local_step, opening_view}
 use Rattle.noc_router.proofs.SiteLemmas.{all_taken-site}
 use Rattle.noc_net.specs.Halves.{IsPlaced, beat_at, decided, emptied, incoming}
-use Rattle.noc_net.specs.Marks.{AreMarked}
 use Rattle.noc_net.specs.Takes.{concluded}
 use Rattle.noc_net.specs.Unseen.{unseen}
 use Rattle.noc_net.proofs.TakesLemmas.{concluded-decided}
@@ -139,11 +138,10 @@ module _ (relation : Routes) (first : ℕ) (ins outs : List (ℕ × ℕ)) (views
           ∙ sym (made-sent d)
 
       -- all routers of the tile can finish
-      pub can1 : (t : Tile) → t.first ≡ first → t.routers.items ≡ views1 → IsDecidedFor (ports relation.grid) relation.vcs t.plan → AreMarked t.marks t.beats.items → length t.beats.items ≡ nodes relation.grid
+      pub can1 : (t : Tile) → t.first ≡ first → t.routers.items ≡ views1 → IsDecidedFor (ports relation.grid) relation.vcs t.plan → length t.beats.items ≡ nodes relation.grid
           → ((r q : ℕ) → beat_at t.beats.items r q ≡ idle_beat) → CanFinish relation 0 (length views) t
-      can1 t same routers plan marks count silent = record {
+      can1 t same routers plan count silent = record {
         plan = plan;
-        marks = marks;
         order = omega arith;
         within = omega (arith, ap length routers, count1);
         wide = omega (arith, ap length routers, count1, same, set.wide);
