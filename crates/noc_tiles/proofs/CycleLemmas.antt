@@ -19,7 +19,7 @@ use Rattle.noc_model.proofs.RunLemmas.{map_map_indexed}
 use Rattle.noc_model.proofs.StepLemmas.{IsRelationOf-same_site, local_step-view, local_step-beats}
 use Rattle.noc_tiles.specs.Inner.{AreInner, CanFinish, to_send}
 use Rattle.noc_tiles.specs.Phases.{IsCleared}
-use Rattle.noc_tiles.specs.TileStep.{Layout, TileState, Wires, with_beat, filled, is_own, is_from, beat_among, beat_of, arrived, steps, sent_of, out_at, after_steps, put_by}
+use Rattle.noc_tiles.specs.TileStep.{Layout, TileState, Beats, with_beat, filled, is_own, is_from, beat_among, beat_of, arrived, steps, sent_of, out_at, after_steps, put_by}
 use Rattle.noc_tiles.specs.Tiles.{PartsFit}
 use Rattle.noc_tiles.specs.declared.inner.Inner.{Inner}
 use Rattle.noc_tiles.specs.declared.tile.Tile.{Tile}
@@ -31,7 +31,7 @@ use Rattle.noc_tiles.proofs.SentLemmas.{past-rows, sent_by}
 use Rattle.std.proofs.lemmas.Bool.Decides.{eqb_tells}
 
 -- a wire that none of the places is
-pub filled-other : (w : Wires) (ps : List (ℕ × ℕ)) (row : List Beat) (r q : ℕ) → ((j : ℕ) → j < length ps → get_or ps j (0, 0) ≢ place_at r q) → filled w ps row r q ≡ w r q
+pub filled-other : (w : Beats) (ps : List (ℕ × ℕ)) (row : List Beat) (r q : ℕ) → ((j : ℕ) → j < length ps → get_or ps j (0, 0) ≢ place_at r q) → filled w ps row r q ≡ w r q
 filled-other w [] row r q none = refl
 filled-other w (p ∷ ps) [] r q none = refl
 filled-other w (p ∷ ps) (x ∷ row) r q none =
