@@ -1,14 +1,14 @@
 -- What the sources of a network inject, and who owns what before the verdicts.
-use Rattle.std.proofs.Common.{◌≡◌, ◌≢◌, ℕ, ◌+◌, ◌<◌, ◌≤◌, Bool, true, false, List, [], ◌∷◌, ◌++◌, map, length, Option, Some, None, refl, ap, sym, subst, ◌∙◌, arith, inl, inr}
-use Rattle.std.specs.Prelude.{◌⊎◌, ◌&&◌, filter, find, filter_map, not, nat_eq, nat_le, nat_lt, option_map, option_and_then, is_none, IsTrue, if◌then◌else◌}
+use Rattle.std.proofs.Common.{◌≡◌, ◌≢◌, ℕ, ◌+◌, ◌<◌, ◌≤◌, Bool, true, false, List, ◌++◌, map, length, Option, Some, None, refl, ap, sym, subst, ◌∙◌, arith, inl, inr}
+use Rattle.std.specs.Prelude.{◌⊎◌, ◌&&◌, filter, find, not, nat_eq, nat_le, nat_lt, option_map, option_and_then, is_none, IsTrue, if◌then◌else◌}
 use Rattle.std.specs.List.{list_any}
 use Rattle.std.proofs.lemmas.Bool.{false≢true, and_from, and_parts, cases_eq, cases_lt, cases_order, eq-eqb, leb-true, le-leb, lt-ltb, ltb-true}
 use Rattle.std.proofs.lemmas.Option.{none-some, same_Some}
-use Rattle.noc_topo.specs.Words.{Has, below, least_by}
+use Rattle.noc_topo.specs.Words.{Has, below}
 use Rattle.noc_topo.specs.Shape.{nodes}
 use Rattle.noc_route.specs.Channel.{Channel, Link, Inject, Eject, is_link, same_channel}
 use Rattle.noc_model.specs.Good.{IsGoodSetup}
-use Rattle.noc_model.specs.Network.{Setup, State, Injection, Located, Place, Source, On, In, Out, after_credits, after_injection, after_landing, beginning, count_in, count_on, first_waiting, flits_of, frozen, frozen_at, injection_at, injection_with, injections, is_at_source, is_freed, is_idle, is_injection_of, is_on, is_past, landed_place, owned_by, owner_of, packet_at, place_of, state_at, tail_place}
+use Rattle.noc_model.specs.Network.{Setup, State, Injection, Located, Place, Source, On, In, Out, after_credits, after_injection, after_landing, count_in, first_waiting, flits_of, frozen, frozen_at, injection_at, injection_with, injections, is_at_source, is_freed, is_idle, is_injection_of, is_on, is_past, landed_place, owned_by, owner_of, packet_at, place_of, state_at, tail_place}
 use Rattle.noc_model.proofs.BuiltLemmas.{good-built, good-wired}
 use Rattle.noc_model.proofs.BuiltRecord.{IsBuilt}
 use Rattle.noc_model.proofs.BufferLemmas.{find-passes}

@@ -21,13 +21,16 @@ use noc_topo::LINKS;
 pub(crate) fn finish_some(
     relation: &Relation,
     tile: &mut Tile,
+    marks: &mut Marks,
     cycle: u64,
     seen: bool,
     from: usize,
     to: usize,
 )
-    requires { CanFinish relation.now from to tile.old }
-    ensures { HaveFinished relation.now cycle seen from to tile.old tile.new }
+    requires can { CanFinish relation.now from to tile.old }
+    requires marks { AreMarked marks.old tile.old.beats.items }
+    ensures marks { AreMarked marks.new tile.new.beats.items }
+    ensures finished { HaveFinished relation.now cycle seen from to tile.old tile.new }
 {
     for i in from..to {
         finish(
@@ -37,7 +40,7 @@ pub(crate) fn finish_some(
             seen,
             &mut tile.routers[i],
             &mut tile.beats,
-            &mut tile.marks,
+            marks,
         );
     }
 }

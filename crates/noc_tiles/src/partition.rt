@@ -18,7 +18,6 @@ use crate::rings::{Rings, make_rings, take_ins, take_outs};
 use crate::starts::tile_start;
 use crate::tile::{Outcome, Tile};
 use crate::wires::{Inlet, Outlet};
-use noc_net::Marks;
 use noc_packet::{Beat, Memory};
 use noc_router::{Plan, Router};
 use noc_topo::LINKS;
@@ -79,7 +78,6 @@ fn new_tile(
     let count = routers.len();
     let plan = Plan::new(alloc, &frame.relation)?;
     let beats = own_beats(alloc, beats, first, count)?;
-    let marks = Marks::of(&beats);
     let ins = take_ins(alloc, shape, first, count, ins)?;
     let outs = take_outs(alloc, shape, first, count, outs)?;
     Ok(Tile {
@@ -92,7 +90,6 @@ fn new_tile(
         routers,
         plan,
         beats,
-        marks,
         ins,
         outs,
     })

@@ -99,7 +99,7 @@ fn push_waiting(rt: &impl Wait, end: &mut Producer<Beat>, beat: Beat, stop: &Sto
 
 impl Inlet {
     ghost use Rattle.std.specs.Prelude.{◌≡◌, true, MatchOption};
-    ghost use Rattle.noc_tiles.specs.Wire.{grown};
+    ghost use Rattle.noc_tiles.specs.RingEnd.{grown};
     ghost use Rattle.noc_tiles.specs.Ends.{inlet};
 
     pub(crate) fn take(&mut self, rt: &impl Wait, stop: &Stop) -> Option<Beat>
@@ -112,7 +112,7 @@ impl Inlet {
 
 impl Outlet {
     ghost use Rattle.std.specs.Prelude.{◌≡◌, true, IsTrue, IsFalse};
-    ghost use Rattle.noc_tiles.specs.Wire.{grown};
+    ghost use Rattle.noc_tiles.specs.RingEnd.{grown};
     ghost use Rattle.noc_tiles.specs.Ends.{outlet};
 
     pub(crate) fn put(&mut self, rt: &impl Wait, beat: Beat, stop: &Stop) -> bool
