@@ -23,3 +23,7 @@ pub mod WordLemmas
 pub mod RingLemmas
 pub mod FlitWordLemmas
 pub mod WireLemmas
+pub mod UnionLemmas
+pub mod MoveLaws
+pub mod EachLemmas
+pub mod LaneLemmas

@@ -11,3 +11,4 @@ pub mod Injected
 pub mod Rows
 pub mod InRows
 pub mod Wires
+pub mod Moves

@@ -1,7 +1,7 @@
 //! Rows of words: one word of each router of a block.
 
 ghost use Rattle.std.specs.Prelude.{◌≡◌, ◌≢◌, ◌<◌, ◌&&◌, ℕ, not, nat_eq};
-ghost use Rattle.noc_packet.specs.Set.{has_bit};
+ghost use Rattle.noc_packet.specs.Set.{IsLeast, has_bit};
 ghost use Rattle.noc_rows.specs.Bits.{lowest};
 ghost use Rattle.noc_rows.specs.Rows.{word};
 
@@ -75,7 +75,8 @@ pub fn alone_if(lane: usize, set: u32) -> u32
 /// The least member of a set that has one.
 #[inline(always)]
 pub fn least(set: u32) -> usize
-    ensures { result < 32 }
+    ensures within { result < 32 }
+    ensures least { 0 < set → IsLeast (has_bit set) (Some result) }
 {
     (set.trailing_zeros() & 31) as usize
 }
