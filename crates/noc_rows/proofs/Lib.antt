@@ -33,3 +33,7 @@ pub mod NextLemmas
 pub mod RingLemmas
 pub mod FlitWordLemmas
 pub mod WireLemmas
+pub mod UnionLemmas
+pub mod MoveLaws
+pub mod EachLemmas
+pub mod LaneLemmas
