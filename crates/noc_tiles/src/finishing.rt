@@ -1,4 +1,8 @@
 //! The routers of a tile finish a cycle.
+//!
+//! The routers at which a wire to another tile begins finish their cycle first, and what they put leaves at
+//! once. It is handed over while the inner routers work, so a neighbour seldom waits for it. A tile that is all
+//! edge gains nothing, as two rows of a mesh with a neighbour on each side.
 
 ghost use Rattle.std.specs.Prelude.{ℕ, ◌≡◌, ◌<◌, true, length, Some};
 ghost use Rattle.noc_topo.specs.Shape.{nodes as nodes_of, ports as ports_of, neighbour as neighbour_of};

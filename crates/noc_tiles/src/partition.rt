@@ -1,4 +1,8 @@
 //! A network cut into tiles.
+//!
+//! The table of a tile's beats has a row for every router of the network, idle where a router is not its own.
+//! Beats that leave the tile go into the table too, are then put, and their places made idle. One function
+//! carries beats for networks and tiles.
 
 ghost use Rattle.std.specs.Prelude.{ℕ, List, Option, ◌≡◌, ◌+◌, ◌*◌, ◌/◌, ◌%◌, ◌<◌, ◌≤◌, ◌^◌, Some, None, true, false, get_or, is_some, drop, length, take, vec_len, IfOk, IsOk, OnOk};
 ghost use Rattle.noc_topo.specs.Shape.{nodes as nodes_of, neighbour as neighbour_of};

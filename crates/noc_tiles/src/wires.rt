@@ -1,4 +1,10 @@
 //! The wires between tiles.
+//!
+//! A worker that waits looks 500 times before it yields, with a rest of the processor between two looks but for
+//! the first 32: a yield costs a time slice of milliseconds, and what is waited for takes microseconds. After
+//! 8000 looks, about half a millisecond, it sleeps for 50 microseconds, and again after every 500 looks:
+//! another program then has a neighbour's processor, and sleeping frees this one for it. It sleeps on a word of
+//! its own (`park_timeout`), since a sleep by the clock would need a clock, and nobody wakes it.
 
 ghost use Rattle.std.specs.Prelude.{◌≡◌, ◌++◌, [], ◌∷◌, true, IfSome, IfNone, IsTrue, IsFalse};
 ghost use Rattle.rtrb.specs.Ring.{sent, received, SameProducer, SameConsumer};
