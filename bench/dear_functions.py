@@ -1,12 +1,15 @@
 #!/usr/bin/env python3
 """Lists the functions of crates that cost most to check, dearest first.
 
-    dear_functions.py [--most N] [--kept] CRATE..
+    dear_functions.py [--most N] [--kept | --goals] CRATE..
 
 Each crate is checked from nothing by one job in a copy, whose libraries are those of this checkout; with --kept nothing is checked, and
 the last check from nothing is read, which has to have been by one job. A check keeps what it has proved of a function in a few
 files as it goes, so what a file cost is the time since the one before it. A function's seconds are those of its contract, its code, its
 goals and what was written of its proof; a file of lemmas has a line of its own. The last line of a crate has the sum.
+
+With --goals the last check from nothing is read too, by however many jobs, but only what the goals of each function cost: the time from
+the file kept before them, of the same function, to theirs, answers included. DEAR.md beside this script was made so.
 """
 import argparse
 import re
@@ -18,6 +21,8 @@ from collections import Counter
 from pathlib import Path
 
 TOP = Path(__file__).resolve().parent.parent
+# Two files of a function that are so many seconds apart are of two checks.
+BETWEEN_CHECKS = 120
 
 
 def function_of(module, crate):
@@ -25,7 +30,7 @@ def function_of(module, crate):
     name = module.removeprefix(f"Rattle-{crate}").lstrip(".-")
     parts = re.sub(r"^(proofs|specs\.contracts|specs\.declared|specs)\.?", "", name).split(".")
     known = ("Proof", "Answers", "Lts", "Kinds", "Code", "Key", "Tie", "Statement", "Met", "Named", "Symbol", "Layout", "Carried", "Given",
-             "Invariants", "TheImpl", "TheVariants", "Reads", "Pair", "Paired", "Mir")
+             "Invariants", "Goals", "View", "TheLink", "TheImpl", "TheVariants", "Reads", "Pair", "Paired", "Mir")
     while len(parts) > 1 and parts[-1].partition("-")[0] in known:
         parts.pop()
     return "::".join(it for it in parts if it) or "the crate's root"
@@ -37,6 +42,22 @@ def seconds_of(out, crate):
     cost = Counter()
     for (before, _), (after, module) in zip(kept, kept[1:]):
         cost[function_of(module, crate)] += after - before
+    return cost
+
+
+def goals_of(out, crate):
+    """What the goals of each function cost, by the same times: a function is checked by one process, whatever the number of jobs."""
+    kept = {}
+    for it in out.glob("incremental/*/*.oantt"):
+        module = it.stem.removesuffix(".decls")
+        kept.setdefault(function_of(module, crate), []).append((it.stat().st_mtime, module.rpartition(".")[2]))
+    cost = Counter()
+    for function, files in kept.items():
+        files.sort()
+        for (before, kind), (after, next_kind) in zip(files, files[1:]):
+            is_goals = next_kind in ("Answers", "Proof") and kind in ("Tie", "View", "Goals", "Answers", "Named", "Layout")
+            if is_goals and after - before < BETWEEN_CHECKS:
+                cost[function] += after - before
     return cost
 
 
@@ -58,11 +79,13 @@ def main():
     options.add_argument("crates", nargs="+", metavar="CRATE")
     options.add_argument("--most", type=int, default=60, help="how many functions to list (60)")
     options.add_argument("--kept", action="store_true", help="read what the last check kept")
+    options.add_argument("--goals", action="store_true", help="read of it what goals cost, whatever the number of jobs")
     asked = options.parse_args()
     rows = []
     for crate in asked.crates:
+        kept = TOP / "crates" / crate / "out"
         with tempfile.TemporaryDirectory() as room:
-            cost = seconds_of(TOP / "crates" / crate / "out" if asked.kept else checked(crate, room), crate)
+            cost = goals_of(kept, crate) if asked.goals else seconds_of(kept if asked.kept else checked(crate, room), crate)
         rows += [(seconds, crate, function) for function, seconds in cost.items()]
     for seconds, crate, function in sorted(rows, reverse=True)[: asked.most]:
         print(f"{seconds:7.1f} s  {crate}  {function}")

@@ -1,18 +1,19 @@
 -- Ranks by formula.
-use Rattle.std.proofs.Common.{◌≡◌, ℕ, ◌/◌, ◌%◌, ◌<◌, ◌≤◌, Bool, true, false, List, Option, Some, None, length, get_or, refl, sym, subst, ◌∙◌, arith}
+use Rattle.std.proofs.Common.{◌≡◌, ℕ, ◌+◌, ◌*◌, ◌/◌, ◌%◌, ◌<◌, ◌≤◌, Bool, true, false, List, Option, Some, None, length, get_or, refl, sym, subst, ap, ◌∙◌, arith}
 use Rattle.std.specs.Prelude.{nat_le, nat_eq, not, ◌&&◌, IfSome, if◌then◌else◌}
-use Rattle.std.proofs.lemmas.Bool.{leb-true, eqb-true, and_parts}
+use Rattle.std.proofs.lemmas.Bool.{leb-true, ltb-true, eqb-true, and_parts}
+use Rattle.std.proofs.Math.Nat.{mul-le-mul_right}
 use Rattle.std.proofs.lemmas.Option.{none-some}
 use Rattle.noc_packet.specs.declared.limits.TheConstants.{MAX_CHANNELS, MAX_CLASSES}
 use Rattle.noc_topo.specs.Shape.{Grid, IsGrid, dimensions, local_port, coordinates, padded}
 use Rattle.noc_topo.proofs.LinkLemmas.{AreRadices-from_test, AreRadices-at, IsWithin-at, IsWithin-coordinates, get_or-padded}
-use Rattle.noc_route.specs.Relation.{is_right}
+use Rattle.noc_route.specs.Relation.{is_right, escapes, is_escape}
 use Rattle.noc_route.specs.declared.rule.Rule.{Rule}
-use Rattle.noc_route.specs.declared.rule.Rule.TheVariants.{Dateline, WestFirst}
+use Rattle.noc_route.specs.declared.rule.Rule.TheVariants.{Dateline, WestFirst, Adaptive}
 use Rattle.noc_route.proofs.PlaceLemmas.{half-some}
 use Rattle.noc_route.specs.Ranks.{Ranking, is_place, is_channel, places, place_of, rank_at}
 use Rattle.noc_rank.specs.Ranking.{IsRanking}
-use Rattle.noc_rank.specs.Formulas.{has_ranks, formula_at, IsGenerated}
+use Rattle.noc_rank.specs.Formulas.{has_ranks, is_numbered, formula_at, IsGenerated}
 use Rattle.noc_rank.proofs.PlaceLemmas.{is_place-parts, place-below, place-router, place-port, place-vc}
 
 -- ---- what a rule with ranks has
@@ -45,6 +46,24 @@ coordinate-inside g r i sound l =
     let three : i < 3 = omega (arith, sound.few_dimensions) in
     let inside = IsWithin-at g.radix (coordinates g.radix r) i (IsWithin-coordinates g.radix r radices) l in
     (omega (arith, get_or-padded (coordinates g.radix r) i three, inside), (AreRadices-at g.radix i radices l).1)
+
+-- ---- ranks are small
+
+pub escapes-few : (g : Grid) → escapes g ≤ 2
+escapes-few g = at g.wraps refl
+  where
+    at : (b : Bool) → g.wraps ≡ b → escapes g ≤ 2
+    at true e = rw e (omega arith)
+    at false e = rw e (omega arith)
+
+-- an escape channel is one of the two lowest of its class
+pub escape-low : (g : Grid) (vcs classes v : ℕ) (rule : Rule) → rule ≡ Adaptive → is_numbered g vcs classes rule v ≡ true → v % (vcs / classes) ≤ 2
+escape-low g vcs classes v rule e known =
+    let escape : is_escape g vcs classes v ≡ true = sym (ap (λ rule. is_numbered g vcs classes rule v) e) ∙ known in
+    omega (arith, ltb-true (v % (vcs / classes)) (escapes g) escape, escapes-few g)
+
+pub rank-few : (a b s p : ℕ) → a < 3 → b ≤ 2 → s ≤ 16 → p < 16 → (b * s ≤ 32) × (32 * a + b * s + p + 1 ≤ 145)
+rank-few a b s p l m n o = let most : b * s ≤ 2 * s = mul-le-mul_right s m in (omega arith, omega arith)
 
 -- ---- a list of ranks by formula
 

@@ -1,9 +1,9 @@
 -- Places of link channels, and the order of numbers with many digits.
-use Rattle.std.proofs.Common.{◌≡◌, ℕ, zero, suc, ◌+◌, ◌*◌, ◌/◌, ◌%◌, ◌<◌, ◌≤◌, true, None, List, [], ◌∷◌, ◌++◌, length, get_or, refl, ap, sym, ◌∙◌, arith, inl, inr}
+use Rattle.std.proofs.Common.{◌≡◌, ℕ, ◌+◌, ◌*◌, ◌/◌, ◌%◌, ◌<◌, ◌≤◌, true, None, List, [], ◌∷◌, get_or, refl, ap, sym, subst, ◌∙◌, arith, inl, inr}
 use Rattle.std.proofs.Math.Nat.{div-lt_iff_lt-mul, mod-lt, zero-mul, mul-zero, mul_comm, mul-le-mul_right}
 use Rattle.std.specs.Prelude.{nat_lt, nat_eq, ◌&&◌, ◌⊎◌, is_some}
 use Rattle.std.proofs.lemmas.Bool.{lt-ltb, ltb-true, eqb-true, and_parts, or_cases, cases_lt, false≢true}
-use Rattle.noc_topo.specs.Shape.{Grid, nodes, local_port, neighbour}
+use Rattle.noc_topo.specs.Shape.{Grid, nodes, ports, local_port, neighbour}
 use Rattle.noc_topo.proofs.LinkLemmas.{IsWithin}
 use Rattle.noc_route.specs.Order.{numbers_before}
 use Rattle.noc_route.proofs.PlaceLemmas.{flat-below, flat-div, flat-mod}
@@ -155,11 +155,9 @@ index-past k i j p v e f m l = let count = index-count k p v e f in omega arith
 pub index-few : (i p v : ℕ) → p ≤ 6 → v ≤ 8 → i < p * v → i < 56
 index-few i p v a b l = let most : p * v ≤ 6 * v = mul-le-mul_right v a in omega arith
 
--- ---- lists that grow
-
--- what holds of each element so far, by its place, and of one more
-pub each-push : {X : Type 0} (d : X) (P : ℕ → X → Type 0) (xs : List X) (x : X) → ((k : ℕ) → k < length xs → P k (get_or xs k d)) → P (length xs) x → (k : ℕ) → k < length xs + 1 → P k (get_or (xs ++ x ∷ []) k d)
-each-push d P [] x all last zero l = last
-each-push d P [] x all last (suc k) l = absurd (omega arith)
-each-push d P (y ∷ xs) x all last zero l = all zero (omega arith)
-each-push d P (y ∷ xs) x all last (suc k) l = each-push d (λ i. P (suc i)) xs x (λ i m. all (suc i) (omega arith)) last k (omega arith)
+-- the port of an input channel on a link port, by its index
+pub input-port : (g : Grid) (vcs i v : ℕ) → v ≡ vcs → 0 < v → i < local_port g * vcs → i / v < ports g
+input-port g vcs i v e some l =
+    let P : ℕ → Type 0 = λ n. i < local_port g * n in
+    let link : i / v < local_port g = (div-lt_iff_lt-mul {k = v} {x = i} {y = local_port g} some).1 (subst P (sym e) l) in
+    omega (arith, link)

@@ -17,7 +17,7 @@ use std::alloc::Global;
 use std::marker::Model;
 
 /// A rank, 1 to 1,000,000, for each link channel of a shape, or none for an adaptive one (Dally and Towles, chapter 14).
-#[derive(Debug, Drop)]
+#[derive(Drop)]
 pub struct Ranks {
     shape: Shape,
     vcs: usize,

@@ -1,8 +1,8 @@
 -- The beats of links and the set of those that carry something.
-use Rattle.std.proofs.Common.{◌≡◌, ◌≢◌, ℕ, ◌+◌, ◌<◌, ◌≤◌, Bool, true, false, List, length, get_or, Option, Some, None, refl, ap, sym, ◌∙◌, arith, inl, inr}
+use Rattle.std.proofs.Common.{◌≡◌, ◌≢◌, ℕ, ◌+◌, ◌<◌, ◌≤◌, Bool, true, false, List, length, get_or, set, Option, Some, None, refl, ap, sym, ◌∙◌, arith, inl, inr}
 use Rattle.std.specs.Prelude.{◌&&◌, not, nat_eq, nat_lt, is_none, replicate, ◌⊎◌}
-use Rattle.std.proofs.lemmas.Bool.{cases_eq, cases_lt, le-ltb, false≢true, eq-eqb, and_parts}
-use Rattle.std.proofs.lemmas.List.{ext_get_or, length-replicate, get_or-replicate}
+use Rattle.std.proofs.lemmas.Bool.{cases_eq, cases_lt, le-ltb, false≢true, eq-eqb, ne_eqb, and_parts}
+use Rattle.std.proofs.lemmas.List.{ext_get_or, length-replicate, get_or-replicate, get_or-set_same, get_or-set_other, length-set}
 use Rattle.std.proofs.Math.Bool.{and_self}
 use Rattle.noc_topo.specs.Shape.{Grid, ports, local_port, neighbour}
 use Rattle.noc_packet.specs.Set.{has_bit, in_both, IsLeast}
@@ -37,6 +37,30 @@ all_idle n beats set loaded none =
     let same : length beats ≡ n = loaded.count in
     ext_get_or idle_beat beats (replicate n idle_beat) (same ∙ sym (length-replicate n idle_beat))
     (λ k l. unloaded-is_idle n beats set k loaded (omega arith) (none k) ∙ sym (get_or-replicate n k idle_beat idle_beat (omega arith)))
+
+-- one port's beat is idle again and its member gone
+pub AreLoaded-unloaded : (n : ℕ) (beats : List Beat) (all port rest : ℕ) → AreLoaded n beats all → port < n → ((k : ℕ) → has_bit rest k ≡ (not (nat_eq k port) && has_bit all k)) → AreLoaded n (set beats port idle_beat) rest
+AreLoaded-unloaded n beats all port rest loaded here members = record {
+  count = length-set beats port idle_beat ∙ loaded.count;
+  within = λ k e. loaded.within k (and_parts (not (nat_eq k port)) (has_bit all k) (sym (members k) ∙ e)).1;
+  each = λ k l. at k l (cases_eq k port);
+}
+  where
+    at : (k : ℕ) → k < n → (k ≡ port) ⊎ (k ≡ port → ⊥) → has_bit rest k ≡ not (is_idle_beat (get_or (set beats port idle_beat) k idle_beat))
+    at k l (inl same) =
+        members k ∙ ap (λ b. not b && has_bit all k) (eq-eqb k port same)
+        ∙ sym (ap (λ beat. not (is_idle_beat beat)) (ap (λ j. get_or (set beats port idle_beat) j idle_beat) same ∙ get_or-set_same beats port idle_beat idle_beat (omega (arith, loaded.count, here))))
+    at k l (inr other) =
+        members k ∙ ap (λ b. not b && has_bit all k) (ne_eqb k port other) ∙ loaded.each k l
+        ∙ sym (ap (λ beat. not (is_idle_beat beat)) (get_or-set_other beats port k idle_beat idle_beat other))
+
+-- a number that is no port's was no member
+pub AreLoaded-passed : (n : ℕ) (beats : List Beat) (all port rest : ℕ) → AreLoaded n beats all → n ≤ port → ((k : ℕ) → has_bit rest k ≡ (not (nat_eq k port) && has_bit all k)) → AreLoaded n beats rest
+AreLoaded-passed n beats all port rest loaded past members = record {
+  count = loaded.count;
+  within = λ k e. loaded.within k (and_parts (not (nat_eq k port)) (has_bit all k) (sym (members k) ∙ e)).1;
+  each = λ k l. members k ∙ ap (λ b. not b && has_bit all k) (ne_eqb k port (λ same. omega (arith, l, past, same))) ∙ loaded.each k l;
+}
 
 -- no member below n, and none above
 pub none_below : (n : ℕ) (beats : List Beat) (set : ℕ) → AreLoaded n beats set → ((k : ℕ) → k < n → has_bit set k ≡ false) → (k : ℕ) → has_bit set k ≡ false

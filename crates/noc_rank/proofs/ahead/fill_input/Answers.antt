@@ -1,8 +1,10 @@
-use Rattle.std.proofs.Common.{◌≡◌, ◌+◌, ◌/◌, ◌%◌, Some, None, ap, sym, subst, ◌∙◌}
+use Rattle.std.proofs.Common.{◌≡◌, ℕ, ◌+◌, ◌/◌, ◌%◌, ◌<◌, Some, None, true, length, ap, sym, subst, ◌∙◌, arith}
+use Rattle.std.proofs.Math.Nat.{mod-lt}
 use Rattle.std.specs.Prelude.{slice_set}
-use Rattle.noc_topo.specs.Shape.{neighbour, distance}
+use Rattle.noc_topo.specs.Shape.{Grid, neighbour, distance, ports}
 use Rattle.noc_route.specs.Routes.{set_at}
-use Rattle.noc_route.specs.Ranks.{place_of}
+use Rattle.noc_route.specs.Ranks.{is_place, place_of, places}
+use Rattle.noc_rank.proofs.PlaceLemmas.{input-port, is_place-true}
 use Rattle.noc_rank.specs.Ahead.{AreLeast, IsLeastOf, IsValueIn, outputs}
 use Rattle.noc_rank.proofs.AheadLemmas.{least-more, least-none_here}
 use Rattle.noc_rank.proofs.ahead.fill_input.Goals as goal
@@ -31,3 +33,45 @@ returns-in_default c =
     let none : neighbour routes.grid b (i / routes.vcs) ≡ None
     = ap (λ v. neighbour routes.grid b (i / v)) (sym c.vcs-vcs.ensures.value) ∙ ap (λ g. neighbour g b (i / c.vcs-vcs.result)) (sym c.shape.ensures.value) ∙ sym c.neighbour.ensures.value ∙ c.in_default.is in
     least-none_here routes c.vcs-vcs.ensures.built c.args.ranks.now c.args.marks.now c.args.class c.args.dst (distance routes.grid b c.args.dst) b i c.args.least.now none c.requires.before
+
+pub nonzero_div-port : goal.nonzero_div-port
+nonzero_div-port c = omega (arith, c.vcs-vcs.ensures.value, c.vcs-vcs.ensures.built.table.some_vcs)
+
+pub nonzero_rem-vc : goal.nonzero_rem-vc
+nonzero_rem-vc c = omega (arith, c.vcs-vcs.ensures.value, c.vcs-vcs.ensures.built.table.some_vcs)
+
+pub neighbour-requires-clause-port : goal.neighbour-requires-clause-port
+neighbour-requires-clause-port c =
+    let some : 0 < c.vcs-vcs.result = omega (arith, c.vcs-vcs.ensures.value, c.vcs-vcs.ensures.built.table.some_vcs) in
+    let low = input-port c.args.relation.now.grid c.args.relation.now.vcs c.args.input c.vcs-vcs.result c.vcs-vcs.ensures.value some c.requires.input in
+    let P : Grid → Type 0 = λ g. c.args.input / c.vcs-vcs.result < ports g in
+    subst P (sym c.shape.ensures.value) low
+
+pub permitted-set-requires-clause-in_port : goal.permitted-set-requires-clause-in_port
+permitted-set-requires-clause-in_port c =
+    let some : 0 < c.vcs-vcs.result = omega (arith, c.vcs-vcs.ensures.value, c.vcs-vcs.ensures.built.table.some_vcs) in
+    input-port c.args.relation.now.grid c.args.relation.now.vcs c.args.input c.vcs-vcs.result c.vcs-vcs.ensures.value some c.requires.input
+
+pub permitted-set-requires-clause-in_vc : goal.permitted-set-requires-clause-in_vc
+permitted-set-requires-clause-in_vc c =
+    let some : 0 < c.vcs-vcs.result = omega (arith, c.vcs-vcs.ensures.value, c.vcs-vcs.ensures.built.table.some_vcs) in
+    let P : ℕ → Type 0 = λ n. c.args.input % c.vcs-vcs.result < n in
+    subst P c.vcs-vcs.ensures.value (mod-lt c.args.input some)
+
+pub least_of-value-requires-clause-least : goal.least_of-value-requires-clause-least
+least_of-value-requires-clause-least c = c.requires.before.long
+
+pub place-requires-clause-place : goal.place-requires-clause-place
+place-requires-clause-place c =
+    let some : 0 < c.vcs-vcs.result = omega (arith, c.vcs-vcs.ensures.value, c.vcs-vcs.ensures.built.table.some_vcs) in
+    let P : Grid → Type 0 = λ g. is_place g c.vcs-vcs.result c.in-Some.sender c.in-Some.out_port (c.args.input % c.vcs-vcs.result) ≡ true in
+    subst P (c.shape.ensures.value ∙ sym c.shape-in-Some.ensures.value)
+    (is_place-true c.shape.result.now c.vcs-vcs.result c.in-Some.sender c.in-Some.out_port (c.args.input % c.vcs-vcs.result) c.in-Some.ensures.range.0 c.in-Some.ensures.range.1 (mod-lt c.args.input some))
+
+pub bounds-least-place : goal.bounds-least-place
+bounds-least-place c =
+    let routes = c.args.relation.now in
+    let count : places c.shape-in-Some.result.now c.vcs-vcs.result ≡ length c.args.least.now
+    = ap (λ g. places g c.vcs-vcs.result) c.shape-in-Some.ensures.value ∙ ap (λ v. places routes.grid v) c.vcs-vcs.ensures.value ∙ sym c.requires.before.long in
+    let P : ℕ → Type 0 = λ n. c.place.result < n in
+    subst P count c.place.ensures.within

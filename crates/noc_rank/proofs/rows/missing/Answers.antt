@@ -31,3 +31,33 @@ loop-place-preserved c =
       | else-not-named-place-via-else-not-named-place w ↦ w.if-not-named-place.false
     ])
     c.loop-place.invariant
+
+pub loop-place-init : goal.loop-place-init
+loop-place-init c = λ r p v there l. absurd (omega arith)
+
+pub nonzero_div-router : goal.nonzero_div-router
+nonzero_div-router c = vcs-some (nodes c.args.shape.now * local_port c.args.shape.now) c.args.vcs c.loop-place.place (let P : ℕ → Type 0 = λ n. c.loop-place.place < n in subst P c.requires c.loop-place-test.true)
+
+pub nonzero_div-router-in-loop-place : goal.nonzero_div-router-in-loop-place
+nonzero_div-router-in-loop-place c = omega (arith, c.link_ports-ports.ensures.some)
+
+pub bounds-named-place : goal.bounds-named-place
+bounds-named-place c = c.loop-place-test.true
+
+pub returns-then-is_channel-clause-none : goal.returns-then-is_channel-clause-none
+returns-then-is_channel-clause-none c = tt
+
+pub returns-clause-none : goal.returns-clause-none
+returns-clause-none c = λ r p v there l. c.loop-place.invariant r p v there (omega (arith, l, c.loop-place-test.false))
+
+pub returns-clause-some : goal.returns-clause-some
+returns-clause-some c = tt
+
+pub nonzero_div-port : goal.nonzero_div-port
+nonzero_div-port c = vcs-some (nodes c.args.shape.now * local_port c.args.shape.now) c.args.vcs c.loop-place.place (let P : ℕ → Type 0 = λ n. c.loop-place.place < n in subst P c.requires c.loop-place-test.true)
+
+pub nonzero_rem-port : goal.nonzero_rem-port
+nonzero_rem-port c = omega (arith, c.link_ports-ports.ensures.some)
+
+pub nonzero_rem-vc : goal.nonzero_rem-vc
+nonzero_rem-vc c = vcs-some (nodes c.args.shape.now * local_port c.args.shape.now) c.args.vcs c.loop-place.place (let P : ℕ → Type 0 = λ n. c.loop-place.place < n in subst P c.requires c.loop-place-test.true)

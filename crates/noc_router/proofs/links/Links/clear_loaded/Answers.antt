@@ -1,7 +1,9 @@
-use Rattle.std.proofs.Common.{◌≡◌, ℕ, ◌<◌, ◌+◌, false, ap, ◌∙◌, arith}
+use Rattle.std.proofs.Common.{◌≡◌, ℕ, ◌<◌, ◌+◌, false, set, refl, ap, sym, subst, ◌∙◌, arith}
+use Rattle.noc_packet.specs.declared.packet.Beat.{Beat}
+use Rattle.noc_router.specs.Links.{AreLoaded}
 use Rattle.noc_packet.specs.Set.{has_bit}
 use Rattle.noc_router.specs.declared.links.Links.{Links}
-use Rattle.noc_router.proofs.LinkLemmas.{all_idle, none_below, none_below-more, none_from_search}
+use Rattle.noc_router.proofs.LinkLemmas.{AreLoaded-unloaded, AreLoaded-passed, all_idle, none_below, none_below-more, none_from_search}
 use Rattle.noc_router.proofs.links.Links.clear_loaded.Goals as goal
 use Rattle.noc_router.proofs.links.Links.clear_loaded.Goals.{then-port-lt-LINKS, else-port-lt-LINKS}
 
@@ -27,3 +29,29 @@ loop-preserved c =
       | then-port-lt-LINKS w ↦ (ap (λ (x : Links). x.leads) w.self-is ∙ c.loop.invariant.0, λ k h. ap (λ (x : Links). has_bit x.loaded k) w.self-is ∙ none k h)
       | else-port-lt-LINKS w ↦ (ap (λ (x : Links). x.leads) w.self-is ∙ c.loop.invariant.0, λ k h. ap (λ (x : Links). has_bit x.loaded k) w.self-is ∙ none k h)
     ]
+
+pub loop-init : goal.loop-init
+loop-init c = (refl, λ k l. absurd (omega arith))
+
+pub invariant_of-self : goal.invariant_of-self
+invariant_of-self c =
+    let l = c.loop.self in
+    let P : Beat → Type 0 = λ beat. AreLoaded 6 (set l.beats c.in-Some.port beat) c.without-self.result in
+    record { marked = subst P (sym c.idle.ensures) (AreLoaded-unloaded 6 l.beats l.loaded c.in-Some.port c.without-self.result l.marked c.if-port-lt-LINKS.true c.without-self.ensures.members) }
+
+pub invariant_of-self-else-port-lt-LINKS : goal.invariant_of-self-else-port-lt-LINKS
+invariant_of-self-else-port-lt-LINKS c =
+    let l = c.loop.self in
+    record { marked = AreLoaded-passed 6 l.beats l.loaded c.in-Some.port c.without-self.result l.marked c.if-port-lt-LINKS.false c.without-self.ensures.members }
+
+pub without-self-requires : goal.without-self-requires
+without-self-requires c = c.in-Some.ensures.within
+
+pub returns-in_default-clause-loaded : goal.returns-in_default-clause-loaded
+returns-in_default-clause-loaded c = none_from_search c.loop.self.loaded c.in_default.ensures.least
+
+pub returns-in_default-clause-leads : goal.returns-in_default-clause-leads
+returns-in_default-clause-leads c = c.loop.invariant.0
+
+pub returns-after-loop-clause-leads : goal.returns-after-loop-clause-leads
+returns-after-loop-clause-leads c = c.loop.invariant.0
