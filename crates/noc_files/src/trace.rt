@@ -1,6 +1,6 @@
 //! The trace: what each input channel did in each cycle of a span (docs/FORMATS.md).
 
-ghost use Rattle.std.specs.Prelude.{◌≡◌, ℕ, ◌+◌, ◌*◌, ◌-◌, ◌^◌, ◌<◌, ◌≤◌, ◌++◌, [], ◌∷◌, IfOk, IfSome, List, None, Option, Some, codes, decimal, if◌then◌else◌, length, map, option_and_then, replicate, slice_get, true};
+ghost use Rattle.std.specs.Prelude.{◌≡◌, ℕ, ◌+◌, ◌*◌, ◌-◌, ◌^◌, ◌<◌, ◌≤◌, ◌++◌, [], ◌∷◌, IfOk, IfSome, List, None, Option, Some, codes, decimal, if◌then◌else◌, is_some, length, map, option_and_then, replicate, slice_get, true};
 ghost use Rattle.std.specs.List.{flat_map};
 ghost use Rattle.noc_topo.specs.Shape.{nodes, ports};
 ghost use Rattle.noc_topo.specs.Words.{below};
@@ -167,11 +167,18 @@ fn is_traced(packet: Option<u64>, held: Option<u32>) -> bool
 fn told(packet: Option<u64>, finding: &Finding) -> Option<Finding>
     ensures { result ≡ told packet finding.now }
 {
-    if matches!(finding.verdict, Verdict::Empty) || !is_traced(packet, finding.packet) {
-        None
-    } else {
+    if is_told(packet, finding) {
         Some(*finding)
+    } else {
+        None
     }
+}
+
+// Whether anything is told of it.
+fn is_told(packet: Option<u64>, finding: &Finding) -> bool
+    ensures { result ≡ is_some (told packet finding.now) }
+{
+    !matches!(finding.verdict, Verdict::Empty) && is_traced(packet, finding.packet)
 }
 
 // Whether nothing is told of any of these channels.
@@ -179,7 +186,7 @@ fn tells_nothing(packet: Option<u64>, findings: &[Finding]) -> bool
     ensures { result ≡ true → (index : ℕ) → option_and_then (told packet) (slice_get findings.now index) ≡ None }
 {
     for finding in findings {
-        if told(packet, finding).is_some() {
+        if is_told(packet, finding) {
             return false;
         }
     }
@@ -451,7 +458,7 @@ impl<'a> Lines for CycleLines<'a> {
 }
 
 // Puts the lines of a trace in the last cycle of a network.
-fn put_lines<W: Sink>(
+fn put_cycle<W: Sink>(
     network: &Network,
     trace: &Trace,
     cycle: u64,
@@ -475,26 +482,7 @@ fn put_lines<W: Sink>(
     }
 }
 
-// .. and hands them on, so that a reader has each cycle as soon as it has run.
-fn put_cycle<W: Sink>(
-    network: &Network,
-    trace: &Trace,
-    cycle: u64,
-    sink: &mut W,
-    before: u64,
-) -> Result<u64, WriteFault>
-    requires last { network.now.count ≡ cycle + 1 }
-    requires router { IfSome trace.now.0.router (λ router. router < nodes network.now.net.relation.grid) }
-    requires room { before + LONGEST_LISTING < 2 ^ 64 }
-    ensures puts { Puts W.contents W.has_failed sink.old sink.new before (over_traced network.now.net.relation trace.now.0.router (kept_line network.now trace.now.0 trace.now.1 cycle)) result }
-    ensures short { IfOk result (λ n. n ≤ before + LONGEST_LISTING) }
-{
-    let put = put_lines(network, trace, cycle, sink, before);
-    sink.hand_on();
-    put
-}
-
-// Runs a network for so many cycles more, and puts the lines of a trace in each.
+// Runs a network for so many cycles more, and puts the lines of a trace in each, which are handed on before the next one.
 fn put_cycles<W: Sink>(
     network: &mut Network,
     cycles: u64,
@@ -514,6 +502,7 @@ fn put_cycles<W: Sink>(
     for turn in 0..cycles {
         network.cycle();
         written = put_cycle(network, trace, first + turn, sink, written)?;
+        sink.hand_on();
         trace.keep(network);
     }
     Ok(written)

@@ -6,6 +6,7 @@ use Rattle.noc_net.specs.Network.{Run, Setup}
 use Rattle.noc_files.specs.Trace.{cycle_text}
 use Rattle.noc_files.specs.Writing.{Puts}
 use Rattle.noc_files.proofs.BelowFacts.{fault_at_number, puts_no_number, puts_number}
+use Rattle.noc_files.proofs.SinkFacts.{puts_kept}
 use Rattle.noc_files.proofs.TraceFacts.{IsKept, cycle_written, next_kept, opening_kept}
 use Rattle.noc_files.proofs.trace.put_cycles.Goals as goal
 
@@ -58,6 +59,8 @@ loop-turn-preserved g c =
     let at : c.count-first.result + turn ≡ first + turn = ap (λ k. k + turn) c.count-first.ensures.value in
     let is = cycle_written c.cycle.new.self net c.loop-turn.trace.0 traced c.loop-turn.trace.1 first (first + turn) (c.count-first.result + turn) same inv.traced at count inv.kept c.requires.router in
     let next = subst (λ (t : List ℕ). Puts w.contents w.has_failed c.loop-turn.sink c.put_cycle.new.sink c.loop-turn.written t (Ok c.in_ok-written.written)) is c.in_ok-written.ensures.puts in
+    let handed = puts_kept w.contents w.has_failed c.loop-turn.sink c.put_cycle.new.sink c.hand_on.new.self c.loop-turn.written (cycle_text net traced first (first + turn)) (Ok c.in_ok-written.written)
+    next c.hand_on.ensures.bytes c.hand_on.ensures.closed in
     let begun : first ≤ first + turn = omega arith in
     let later : first + turn + 1 ≡ first + (turn + 1) = omega arith in
     let rows : (r : ℕ) → r < length c.loop-turn.trace.1 → slice_get c.keep.new.self.1 r ≡ Some (findings_before net (first + turn + 1) r) = λ r l. c.keep.ensures.rows r l ∙ ap Some (ap₂ (λ (z : Setup) k. findings_before z k r) same count) in
@@ -66,6 +69,6 @@ loop-turn-preserved g c =
       count = omega (arith, count);
       traced = c.keep.ensures.traced ∙ inv.traced;
       kept = subst (λ n. IsKept net traced first n c.keep.new.self.1) later (next_kept net traced first (first + turn) c.loop-turn.trace.1 c.keep.new.self.1 begun inv.kept c.keep.ensures.many rows);
-      puts = puts_number w.contents w.has_failed (λ (k : ℕ). cycle_text net traced first (first + k)) turn c.args.before c.loop-turn.written c.args.sink.now c.loop-turn.sink c.put_cycle.new.sink (Ok c.in_ok-written.written) inv.puts next;
+      puts = puts_number w.contents w.has_failed (λ (k : ℕ). cycle_text net traced first (first + k)) turn c.args.before c.loop-turn.written c.args.sink.now c.loop-turn.sink c.hand_on.new.self (Ok c.in_ok-written.written) inv.puts handed;
       short = omega (arith, c.in_ok-written.ensures.short, inv.short);
     }
