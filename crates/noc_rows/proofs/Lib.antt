@@ -37,3 +37,6 @@ pub mod UnionLemmas
 pub mod MoveLaws
 pub mod EachLemmas
 pub mod LaneLemmas
+pub mod WireLaws
+pub mod TailLemmas
+pub mod GiveBackLaws

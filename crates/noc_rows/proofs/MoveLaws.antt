@@ -21,13 +21,13 @@ use Rattle.noc_router.specs.Standing.{is_won_from}
 use Rattle.noc_router.specs.Verdict.{arbiters_after, out_of}
 use Rattle.noc_router.specs.View.{View, size_of, view_input, view_claim, claim_in, view_round, first_flit, flit_out, mover, mover_to}
 use Rattle.noc_rows.specs.Column.{sends_by}
-use Rattle.noc_rows.specs.Moves.{union_from, of_one, selected_by, dry_by, turned_by}
+use Rattle.noc_rows.specs.Moves.{some_below, union_from, of_one, selected_by, dry_by, turned_by}
 use Rattle.noc_rows.specs.Turns.{in_turn}
 use Rattle.noc_rows.proofs.BitLemmas.{and_fits, least_is, lowest_members}
 use Rattle.noc_rows.proofs.PassLemmas.{power-members}
 use Rattle.noc_rows.proofs.SelectLemmas.{selected, wins-is, pick-of-member, in_turn-among, in_turn-some}
 use Rattle.noc_rows.proofs.SwitchLemmas.{AreMoved}
-use Rattle.noc_rows.proofs.UnionLemmas.{some_below, some-none, some-one, some-same, some-and, union-members}
+use Rattle.noc_rows.proofs.UnionLemmas.{some-none, some-one, some-same, some-and, union-members}
 use Rattle.noc_rows.proofs.WinnerLemmas.{ShowsPorts}
 
 -- the words that the switch of a router goes by: the picked channels, by output port those that go by it, and the pointers

@@ -1,6 +1,6 @@
 -- Rows of channels, and the tails that are noted.
 use Rattle.std.proofs.Common.{◌≡◌, ◌≢◌, ℕ, ◌+◌, ◌*◌, ◌/◌, ◌%◌, ◌^◌, ◌<◌, ◌≤◌, Bool, true, false, List, [], ◌∷◌, ◌++◌, length, get_or, set, refl, ap, ap₂, sym, ◌∙◌, arith, inl, inr, bit_or}
-use Rattle.std.specs.Prelude.{◌⊎◌, ◌||◌, nat_eq, if◌then◌else◌}
+use Rattle.std.specs.Prelude.{◌⊎◌, ◌&&◌, ◌||◌, not, nat_eq, if◌then◌else◌}
 use Rattle.std.proofs.lemmas.Bool.{cases_eq, cases_lt, eq-eqb, ne_eqb}
 use Rattle.std.proofs.lemmas.List.{get_or_append_left, get_or_push, get_or-set_same, get_or-set_other, length_push}
 use Rattle.std.proofs.lemmas.Nat.{one_shl}
@@ -9,7 +9,9 @@ use Rattle.noc_topo.proofs.WordLemmas.{get_or-tabulate, length-tabulate, tabulat
 use Rattle.noc_packet.specs.Set.{has_bit}
 use Rattle.noc_packet.proofs.SetLemmas.{either_members}
 use Rattle.noc_router.specs.Counts.{one_if}
-use Rattle.noc_rows.specs.Wires.{in_row, HasMarked}
+use Rattle.noc_rows.specs.Bits.{less}
+use Rattle.noc_rows.specs.Wires.{in_row, HasCleared, HasMarked}
+use Rattle.noc_rows.proofs.BitLemmas.{less_members}
 use Rattle.noc_rows.proofs.PassLemmas.{power-members}
 
 or-turned : (a b : Bool) → (a || b) ≡ (b || a)
@@ -40,6 +42,37 @@ marked-is row channel long within k l = at (cases_eq (k / 32) (channel / 32))
       where
         get_or' : List ℕ → ℕ → ℕ
         get_or' xs n = get_or xs n 0
+
+        place : (k ≡ channel) ⊎ (k ≡ channel → ⊥) → nat_eq (k % 32) (channel % 32) ≡ nat_eq k channel
+        place (inl e) = eq-eqb (k % 32) (channel % 32) (ap (λ n. n % 32) e) ∙ sym (eq-eqb k channel e)
+        place (inr o) = ne_eqb (k % 32) (channel % 32) (λ e. o (omega arith)) ∙ sym (ne_eqb k channel o)
+
+-- .. and taken out of it
+pub cleared-is : (row : List ℕ) (channel : ℕ) → length row ≡ 32 → channel < 1024 → get_or row (channel / 32) 0 < 2 ^ 32
+    → HasCleared row (set row (channel / 32) (less (get_or row (channel / 32) 0) (1 * 2 ^ (channel % 32) % 2 ^ 32))) channel
+cleared-is row channel long within fits k l = at (cases_eq (k / 32) (channel / 32))
+  where
+    one : 1 * 2 ^ (channel % 32) % 2 ^ 32 ≡ 2 ^ (channel % 32)
+    one = one_shl (channel % 32) 32 (omega arith)
+
+    same-and : (b : Bool) → b ≡ (b && true)
+    same-and true = refl
+    same-and false = refl
+
+    at : (k / 32 ≡ channel / 32) ⊎ (k / 32 ≡ channel / 32 → ⊥)
+        → in_row (set row (channel / 32) (less (get_or row (channel / 32) 0) (1 * 2 ^ (channel % 32) % 2 ^ 32))) k ≡ (in_row row k && not (nat_eq k channel))
+    at (inr other) =
+        ap (λ w. has_bit w (k % 32)) (get_or-set_other row (channel / 32) (k / 32) (less (get_or row (channel / 32) 0) (1 * 2 ^ (channel % 32) % 2 ^ 32)) 0 other)
+        ∙ same-and (in_row row k) ∙ sym (ap (λ b. in_row row k && not b) (ne_eqb k channel (λ e. other (ap (λ n. n / 32) e))))
+    at (inl same) =
+        ap (λ w. has_bit w (k % 32))
+        (ap (at_place (set row (channel / 32) (less (get_or row (channel / 32) 0) (1 * 2 ^ (channel % 32) % 2 ^ 32)))) same
+        ∙ get_or-set_same row (channel / 32) (less (get_or row (channel / 32) 0) (1 * 2 ^ (channel % 32) % 2 ^ 32)) 0 (omega arith))
+        ∙ less_members (get_or row (channel / 32) 0) (1 * 2 ^ (channel % 32) % 2 ^ 32) (k % 32) fits (omega arith)
+        ∙ ap₂ (λ a b. a && not b) (ap (λ n. has_bit (get_or row n 0) (k % 32)) (sym same)) (ap (λ w. has_bit w (k % 32)) one ∙ power-members (channel % 32) (k % 32) ∙ place (cases_eq k channel))
+      where
+        at_place : List ℕ → ℕ → ℕ
+        at_place xs n = get_or xs n 0
 
         place : (k ≡ channel) ⊎ (k ≡ channel → ⊥) → nat_eq (k % 32) (channel % 32) ≡ nat_eq k channel
         place (inl e) = eq-eqb (k % 32) (channel % 32) (ap (λ n. n % 32) e) ∙ sym (eq-eqb k channel e)

@@ -1,11 +1,13 @@
 -- What goes through the switch of a router, by words of channels: for each output port one input channel at most.
-use Rattle.std.specs.Prelude.{ℕ, zero, suc, ◌+◌, ◌*◌, ◌%◌, List, [], bit_and, bit_or, min, nat_eq, slice_index, slice_index_or, if◌then◌else◌}
+use Rattle.std.specs.Prelude.{ℕ, zero, suc, ◌+◌, ◌*◌, ◌/◌, ◌%◌, Bool, false, ◌&&◌, ◌||◌, List, [], bit_and, bit_or, min, nat_eq, slice_index, slice_index_or, if◌then◌else◌}
 use Rattle.std.specs.Int.{trailing_zeros, w32}
+use Rattle.noc_packet.specs.Set.{has_bit}
 use Rattle.noc_rows.specs.Bits.{less}
 use Rattle.noc_rows.specs.Rows.{word}
 use Rattle.noc_rows.specs.Turns.{first_bit}
 use Rattle.noc_rows.specs.declared.frame.Frame.{Frame}
 use Rattle.noc_rows.specs.declared.marks.Marks.{Marks}
+use Rattle.noc_rows.specs.declared.wires.Tails.{Tails}
 
 -- a word with those of the ports below n
 abbrev pub union_from : ℕ → ℕ → (ℕ → ℕ) → ℕ
@@ -52,3 +54,25 @@ selected_in picked marks j q = selected_by picked (to_port_in marks j) (turn_in 
 -- how many ports the rows have words for
 abbrev pub ports_of : Frame → ℕ
 ports_of frame = min (frame.links % 8 + 1) 8
+
+-- ---- the tails that have moved
+-- whether a test holds of some number below n
+abbrev pub some_below : ℕ → (ℕ → Bool) → Bool
+some_below zero test = false
+some_below (suc n) test = some_below n test || test n
+
+-- the channel of a block that tail n has left
+abbrev pub tail_channel : Tails → ℕ → ℕ
+tail_channel tails n = slice_index tails.list n % 1024
+
+-- whether it is this channel
+abbrev pub has_left : Tails → ℕ → ℕ → Bool
+has_left tails channel n = nat_eq channel (tail_channel tails n)
+
+-- whether it has gone by this port
+abbrev pub has_gone : Tails → ℕ → ℕ → Bool
+has_gone tails port n = nat_eq (slice_index tails.list n / 1024 % 8) port
+
+-- whether it has gone by this output channel of router j
+abbrev pub has_freed : Tails → List ℕ → ℕ → ℕ → ℕ → Bool
+has_freed tails taken j o n = nat_eq j (tail_channel tails n / 32) && has_bit (word taken (tail_channel tails n)) o

@@ -1,5 +1,5 @@
 -- What is on the wires to the routers of a block, and their rings.
-use Rattle.std.specs.Prelude.{◌≡◌, ◌≢◌, ℕ, ◌+◌, ◌*◌, ◌/◌, ◌%◌, ◌<◌, Bool, true, false, ◌||◌, List, [], ◌∷◌, ◌++◌, length, nat_eq, slice_index_or}
+use Rattle.std.specs.Prelude.{◌≡◌, ◌≢◌, ℕ, ◌+◌, ◌*◌, ◌/◌, ◌%◌, ◌<◌, Bool, true, false, ◌&&◌, ◌||◌, not, List, [], ◌∷◌, ◌++◌, length, nat_eq, slice_index_or}
 use Rattle.noc_topo.specs.Words.{tabulate}
 use Rattle.noc_packet.specs.Set.{has_bit}
 use Rattle.noc_rows.specs.Bits.{lowest}
@@ -27,6 +27,10 @@ in_row row channel = has_bit (slice_index_or row (channel / 32) 0) (channel % 32
 -- the row has this channel too
 abbrev pub HasMarked : List ℕ → List ℕ → ℕ → Type 0
 HasMarked old new channel = (c : ℕ) → c < 1024 → in_row new c ≡ (nat_eq c channel || in_row old c)
+
+-- .. or has it no more
+abbrev pub HasCleared : List ℕ → List ℕ → ℕ → Type 0
+HasCleared old new channel = (c : ℕ) → c < 1024 → in_row new c ≡ (in_row old c && not (nat_eq c channel))
 
 -- a flit is at the end of the ring of a channel, if that has room, and the other rings are as they were
 pub record HasPushed (room : ℕ) (old new : Inbox) (channel flit : ℕ) : Type 0 where

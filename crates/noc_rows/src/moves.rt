@@ -1,18 +1,18 @@
 //! The switch, and the flits that move through it.
 
-ghost use Rattle.std.specs.Prelude.{◌≡◌, ◌≢◌, ◌<◌, ℕ, bit_and, bit_or, not, nat_eq, if◌then◌else◌};
+ghost use Rattle.std.specs.Prelude.{◌≡◌, ◌≢◌, ℕ, ◌+◌, ◌/◌, ◌<◌, ◌&&◌, ◌||◌, [], bit_and, bit_or, length, not, nat_eq, slice_index, slice_index_or, if◌then◌else◌};
 ghost use Rattle.noc_packet.specs.Set.{has_bit};
 ghost use Rattle.noc_rows.specs.Bits.{less};
-ghost use Rattle.noc_rows.specs.Moves.{channel_word, dry_by, of_one, ports_of, rest_from, selected_in, taken_in, turn_in, turned_by, union_from};
+ghost use Rattle.noc_rows.specs.Moves.{channel_word, dry_by, has_freed, has_gone, has_left, of_one, ports_of, rest_from, selected_in, some_below, taken_in, turn_in, turned_by, union_from};
 ghost use Rattle.noc_rows.specs.Rows.{word};
 ghost use Rattle.noc_rows.specs.Turns.{first_bit, in_turn};
+ghost use Rattle.noc_rows.specs.Wires.{HasCleared, HasMarked, in_row};
 
-use crate::block::Block;
 use crate::cycle::{DecidedRows, StandingRows};
 use crate::frame::Frame;
 use crate::lanes::{CHANNELS, ROUTERS, Row, alone_if, least, least_bit, put};
 use crate::marks::Marks;
-use crate::wires::{Wires, arrive, give_back, send};
+use crate::wires::{Tails, Wires, arrive, clear, give_back, mark, send};
 
 /// Of each output port of each router of a block one flit moves, where one is picked.
 pub fn move_all(
@@ -187,25 +187,45 @@ fn carry_all(
 }
 
 /// The tails that have moved give their channels back, and those that are out have arrived.
-pub fn release_all(frame: &Frame, cycle: u32, block: &mut Block, wires: &mut Wires) {
-    for index in 0..usize::from(wires.tails.count) {
-        let place = usize::from(wires.tails.list[index]);
+pub fn release_all(
+    links: usize,
+    cycle: u32,
+    tails: &Tails,
+    marks: &mut Marks,
+    decided: &mut DecidedRows,
+    arrivals: &mut [u32],
+)
+    ensures released { (c : ℕ) → c < 1024 → in_row decided.new.released c ≡ (in_row decided.old.released c || some_below tails.now.count (has_left tails.now c)) }
+    ensures freed { (k o : ℕ) → k < 32 → has_bit (word decided.new.freed k) o ≡ (has_bit (word decided.old.freed k) o || some_below tails.now.count (has_freed tails.now marks.old.taken k o)) }
+    ensures to_port { (q c : ℕ) → q < 8 → c < 1024 → in_row (slice_index_or marks.new.to_port q []) c ≡ (in_row (slice_index_or marks.old.to_port q []) c && not (some_below tails.now.count (λ n. has_gone tails.now q n && has_left tails.now c n))) }
+    ensures arrivals { (p : ℕ) → p + 1 < length arrivals.old → slice_index arrivals.new p ≡ (if some_below tails.now.count (λ n. has_gone tails.now links n && nat_eq p (slice_index tails.now.numbers n)) then cycle else slice_index arrivals.old p) }
+    ensures marks { marks.new ≡ record marks.old { to_port = marks.new.to_port } }
+    ensures decided { decided.new ≡ record decided.old { released = decided.new.released; freed = decided.new.freed } }
+{
+    for index in 0..usize::from(tails.count) {
+        let place = usize::from(tails.list[index]);
         let port = place / 1024 % 8;
-        release(port, place % 1024, block);
-        let number = wires.tails.numbers[index];
-        arrive(&mut wires.arrivals, cycle, number, port == frame.links);
+        release(port, place % 1024, marks, decided);
+        arrive(arrivals, cycle, tails.numbers[index], port == links);
     }
 }
 
 // .. of one channel.
 #[inline(always)]
-fn release(port: usize, channel: usize, block: &mut Block)
+fn release(port: usize, channel: usize, marks: &mut Marks, decided: &mut DecidedRows)
     requires port { port < 8 }
     requires channel { channel < 1024 }
+    ensures released { HasMarked decided.old.released decided.new.released channel }
+    ensures freed { word decided.new.freed (channel / 32) ≡ bit_or (word decided.old.freed (channel / 32)) (word marks.old.taken channel) }
+    ensures others { (k : ℕ) → k ≢ channel / 32 → word decided.new.freed k ≡ word decided.old.freed k }
+    ensures to_port { HasCleared (slice_index_or marks.old.to_port port []) (slice_index_or marks.new.to_port port []) channel }
+    ensures other_ports { (q : ℕ) → q ≢ port → slice_index_or marks.new.to_port q [] ≡ slice_index_or marks.old.to_port q [] }
+    ensures marks { marks.new ≡ record marks.old { to_port = marks.new.to_port } }
+    ensures decided { decided.new ≡ record decided.old { released = decided.new.released; freed = decided.new.freed } }
 {
     let lane = channel / 32;
-    let bit = 1u32 << (channel % 32) as u32;
-    block.marks.to_port[port][lane] &= !bit;
-    block.decided.released[lane] |= bit;
-    block.decided.freed[lane] |= block.marks.taken[channel];
+    let freed = decided.freed[lane] | marks.taken[channel];
+    clear(&mut marks.to_port[port], channel);
+    mark(&mut decided.released, channel);
+    put(&mut decided.freed, lane, freed);
 }

@@ -132,7 +132,14 @@ impl Rows {
                     &mut block.lanes.supplied,
                     &mut self.wires,
                 );
-                release_all(frame, self.cycle, block, &mut self.wires);
+                release_all(
+                    frame.links,
+                    self.cycle,
+                    &self.wires.tails,
+                    &mut block.marks,
+                    &mut block.decided,
+                    &mut self.wires.arrivals,
+                );
             }
             number = number.wrapping_add(1);
         }

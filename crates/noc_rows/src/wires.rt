@@ -3,7 +3,7 @@
 ghost use Rattle.std.specs.Prelude.{◌≡◌, ◌≢◌, ℕ, ◌+◌, ◌/◌, ◌%◌, ◌<◌, ◌++◌, ◌∷◌, ◌&&◌, List, [], length, nat_eq, slice_index, if◌then◌else◌};
 ghost use Rattle.noc_packet.specs.declared.packet.Flit.{Flit};
 ghost use Rattle.noc_rows.specs.FlitWords.{FitsWord, flit_word};
-ghost use Rattle.noc_rows.specs.Wires.{HasGivenBack, HasMarked, HasPushed, HasSent, inbox_at, ring_in, room_of, tails_of};
+ghost use Rattle.noc_rows.specs.Wires.{HasCleared, HasGivenBack, HasMarked, HasPushed, HasSent, inbox_at, ring_in, room_of, tails_of};
 
 use crate::lanes::{CHANNELS, Row};
 use crate::room::Room;
@@ -60,13 +60,22 @@ impl Inbox {
     }
 }
 
-// A row has this channel too.
+/// A row has this channel too.
 #[inline(always)]
-fn mark(row: &mut Row, channel: usize)
+pub fn mark(row: &mut Row, channel: usize)
     requires { channel < 1024 }
     ensures { HasMarked row.old row.new channel }
 {
     row[channel / 32] |= 1u32 << (channel % 32) as u32;
+}
+
+/// A row has this channel no more.
+#[inline(always)]
+pub fn clear(row: &mut Row, channel: usize)
+    requires { channel < 1024 }
+    ensures { HasCleared row.old row.new channel }
+{
+    row[channel / 32] &= !(1u32 << (channel % 32) as u32);
 }
 
 /// The wires that lead to the routers of each block, and the arrivals. The last block is a spare one: to it leads
