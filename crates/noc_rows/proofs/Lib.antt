@@ -24,3 +24,6 @@ pub mod EachLemmas
 pub mod OwnerLemmas
 pub mod SourceLemmas
 pub mod NextLemmas
+pub mod RingLemmas
+pub mod FlitWordLemmas
+pub mod WireLemmas

@@ -1,15 +1,20 @@
 -- What a router's source has after a packet has begun and a flit was injected.
-use Rattle.std.proofs.Common.{◌≡◌, ℕ, ◌^◌, ◌<◌, Bool, true, false, List, [], ◌∷◌, refl, arith, ap, sym, ◌∙◌, bit_or}
-use Rattle.std.specs.Prelude.{◌&&◌, not, nat_eq, if◌then◌else◌}
-use Rattle.std.proofs.lemmas.Bool.{eqb-true, false≢true, true≢false}
+use Rattle.std.proofs.Common.{◌≡◌, ℕ, ◌^◌, ◌<◌, ◌≤◌, Bool, true, false, List, [], ◌∷◌, refl, arith, ap, ap₂, sym, ◌∙◌, inl, inr, w32, bit_or}
+use Rattle.std.specs.Prelude.{◌⊎◌, ◌&&◌, ◌||◌, not, nat_eq, nat_le, if◌then◌else◌}
+use Rattle.std.specs.Int.{bit_not, trailing_zeros}
+use Rattle.std.proofs.lemmas.Bool.{cases_lt, eq-eqb, ne_eqb, eqb-true, false≢true, true≢false}
+use Rattle.std.proofs.lemmas.Nat.{and_le_r}
 use Rattle.noc_packet.specs.Set.{has_bit}
+use Rattle.noc_packet.proofs.SetLemmas.{either_members, has_bit-zero}
 use Rattle.noc_rows.specs.Bits.{lowest}
 use Rattle.noc_rows.specs.Column.{Column}
-use Rattle.noc_rows.specs.Passes.{begun_arrived, begun_column, injecting_after, with_first}
+use Rattle.noc_rows.specs.Passes.{begun_arrived, begun_column, injecting_after, lane_arrived, lane_begins, lane_free, lane_injected, with_first}
+use Rattle.noc_rows.specs.Planes.{any_from}
 use Rattle.noc_rows.specs.Source.{begun_source, first_source, next_source, sent_source, start_in}
 use Rattle.noc_rows.specs.declared.block.Source.{Source}
 use Rattle.noc_rows.specs.declared.cycle.Arrived.{Arrived}
 use Rattle.noc_rows.specs.declared.starts.Start.{Start}
+use Rattle.noc_rows.proofs.BitLemmas.{least_is, lowest_members, not_fits}
 use Rattle.noc_rows.proofs.EachLemmas.{IsEach, each-all, each-is}
 use Rattle.noc_rows.proofs.OwnerLemmas.{or-zero}
 
@@ -87,3 +92,42 @@ all-sent pushing rest injected injecting after sources left starts none are word
         each-all Source (λ j x. x ≡ next_source starts (sources j)) sources pushing left rest none fills k e
         ∙ ap (λ b. if b then sources k else next_source starts (sources k)) (sym (not-true (nat_eq (injected k) 0) (sym (are k l) ∙ e)))
     at k l false e = fills.kept k e ∙ ap (λ b. if b then sources k else next_source starts (sources k)) (sym (not-false (nat_eq (injected k) 0) (sym (are k l) ∙ e)))
+
+-- where a flit is injected: of a packet that has begun, or of one that begins
+pub some-either : (a b : ℕ) → b < 2 ^ 32 → not (nat_eq (bit_or a (lowest b)) 0) ≡ (not (nat_eq a 0) || not (nat_eq b 0))
+some-either a b fits = at (cases_lt 0 b)
+  where
+    or-true : (x : Bool) → (x || true) ≡ true
+    or-true true = refl
+    or-true false = refl
+
+    or-none : (x : Bool) → (x || false) ≡ x
+    or-none true = refl
+    or-none false = refl
+
+    at : (0 < b) ⊎ (b ≤ 0) → not (nat_eq (bit_or a (lowest b)) 0) ≡ (not (nat_eq a 0) || not (nat_eq b 0))
+    at (inl some) =
+        let t = trailing_zeros w32 b in
+        let member : has_bit (bit_or a (lowest b)) (trailing_zeros w32 b) ≡ true =
+        either_members a (lowest b) (trailing_zeros w32 b) ∙ ap (λ x. has_bit a (trailing_zeros w32 b) || x) (lowest_members b (trailing_zeros w32 b) (trailing_zeros w32 b) fits (least_is b some fits) ∙ eq-eqb (trailing_zeros w32 b) (trailing_zeros w32 b) refl) ∙ or-true (has_bit a (trailing_zeros w32 b)) in
+        ap not (ne_eqb (bit_or a (lowest b)) 0 (λ e. true≢false (sym member ∙ ap (λ x. has_bit x (trailing_zeros w32 b)) e ∙ has_bit-zero (trailing_zeros w32 b))))
+        ∙ sym (or-true (not (nat_eq a 0)))
+        ∙ ap (λ x. not (nat_eq a 0) || not x) (sym (ne_eqb b 0 (λ e. absurd (omega arith))))
+    at (inr none) =
+        let z : b ≡ 0 = omega arith in
+        ap (λ x. not (nat_eq (bit_or a (lowest x)) 0)) z ∙ ap (λ x. not (nat_eq x 0)) (or-zero a) ∙ sym (or-none (not (nat_eq a 0))) ∙ ap (λ x. not (nat_eq a 0) || not (nat_eq x 0)) (sym z)
+
+pub begins_fits : (local cycle due : ℕ) (c : Column) → lane_begins local cycle due c < 2 ^ 32
+begins_fits local cycle due c = at (nat_le due cycle && nat_eq c.injecting 0)
+  where
+    at : (b : Bool) → (if b then lane_free local c else 0) < 2 ^ 32
+    at true = omega (arith, and_le_r local (bit_not w32 (bit_or (bit_or c.waiting c.active) (any_from 0 c.len))), not_fits (bit_or (bit_or c.waiting c.active) (any_from 0 c.len)))
+    at false = omega arith
+
+pub pushes : (bits : List ℕ) (local cycle due came pushing beginning : ℕ) (c : Column) (k : ℕ) (a : Arrived) → has_bit pushing k ≡ not (nat_eq (lane_injected bits c) 0)
+    → has_bit beginning k ≡ not (nat_eq (lane_begins local cycle due c) 0) → a ≡ lane_arrived bits local cycle due came c
+    → has_bit (bit_or pushing beginning) k ≡ not (nat_eq (begun_arrived a).injected 0)
+pushes bits local cycle due came pushing beginning c k a goes begins is =
+    either_members pushing beginning k ∙ ap₂ (λ x y. x || y) goes begins
+    ∙ sym (some-either (lane_injected bits c) (lane_begins local cycle due c) (begins_fits local cycle due c))
+    ∙ sym (ap (λ (x : Arrived). not (nat_eq (begun_arrived x).injected 0)) is)

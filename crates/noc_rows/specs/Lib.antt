@@ -11,3 +11,4 @@ pub mod Injected
 pub mod Rows
 pub mod Source
 pub mod InRows
+pub mod Wires

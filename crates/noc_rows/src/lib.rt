@@ -20,6 +20,7 @@ mod marks;
 mod moves;
 mod numbers;
 mod open;
+mod room;
 mod route;
 mod rows;
 mod settle;

@@ -8,7 +8,7 @@ ghost use Rattle.noc_rows.specs.Turns.{first_bit, in_turn};
 use crate::block::Block;
 use crate::frame::Frame;
 use crate::lanes::{ROUTERS, Row, alone_if, least, least_bit, put};
-use crate::wires::Wires;
+use crate::wires::{Wires, arrive, give_back, send};
 
 /// Of each output port of each router of a block one flit moves, where one is picked.
 pub fn move_all(frame: &Frame, number: usize, block: &mut Block, wires: &mut Wires) {
@@ -99,9 +99,14 @@ fn move_one(
     } else {
         0xffff_ffff
     };
-    wires.note_tail((port * 1024 + channel) as u16, word);
-    wires.send(block.marks.target[channel], word);
-    wires.give_back(block.marks.back[channel]);
+    wires.tails.note((port * 1024 + channel) as u16, word);
+    send(
+        wires.room,
+        &mut wires.inboxes,
+        block.marks.target[channel],
+        word,
+    );
+    give_back(&mut wires.inboxes, block.marks.back[channel]);
 }
 
 /// The tails that have moved give their channels back, and those that are out have arrived.
@@ -111,7 +116,7 @@ pub fn release_all(frame: &Frame, cycle: u32, block: &mut Block, wires: &mut Wir
         let port = place / 1024 % 8;
         release(port, place % 1024, block);
         let number = wires.tails.numbers[index];
-        wires.arrive(cycle, number, port == frame.links);
+        arrive(&mut wires.arrivals, cycle, number, port == frame.links);
     }
 }
 

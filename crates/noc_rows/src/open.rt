@@ -7,6 +7,7 @@ use crate::frame::Frame;
 use crate::lanes::{CHANNELS, ROUTERS};
 use crate::marks::{Marks, Tallies};
 use crate::numbers::Numbers;
+use crate::room::Room;
 use crate::starts::{NEVER, Start, after_end, start_at};
 use crate::wires::{Inbox, Tails, WORDS, Wires};
 use noc_packet::Memory;
@@ -112,27 +113,8 @@ pub fn new_wires(
     Ok(Wires {
         inboxes: vec![in alloc; none; blocks]?,
         busy: vec![in alloc; false; blocks]?,
-        mask: ring_mask(places),
+        room: Room::of(places),
         arrivals: vec![in alloc; NEVER; packets.min(20_000) + 1]?,
-        tails: Tails {
-            list: [0; 256],
-            numbers: [0; 256],
-            count: 0,
-        },
+        tails: Tails::NONE,
     })
-}
-
-// Less by one than the least power of two that is so many places, at most 16.
-fn ring_mask(places: usize) -> u8 {
-    if places <= 1 {
-        0
-    } else if places <= 2 {
-        1
-    } else if places <= 4 {
-        3
-    } else if places <= 8 {
-        7
-    } else {
-        15
-    }
 }

@@ -11,12 +11,13 @@ use crate::frame::Frame;
 use crate::lanes::ROUTERS;
 use crate::moves::{move_all, release_all};
 use crate::open::{new_blocks, new_wires};
+use crate::room::Room;
 use crate::route::route_all;
 use crate::settle::{look_ahead, note_events, settle};
 use crate::sheet::Sheet;
 use crate::stand::stand;
 use crate::starts::{NEVER, Start, all_starts, begin_all, inject_all};
-use crate::wires::Wires;
+use crate::wires::{Inbox, Wires};
 use noc_packet::{Memory, Packet};
 use noc_route::Relation;
 use std::alloc::Global;
@@ -97,14 +98,15 @@ impl Rows {
     fn arrive(&mut self) {
         let mut number = 0usize;
         for block in self.blocks.iter_mut() {
-            if block.awake {
+            if block.awake && number < self.wires.inboxes.len() {
+                let inbox = &mut self.wires.inboxes[number];
                 arrive_one(
                     &self.frame,
                     self.cycle,
-                    number,
-                    block,
-                    &mut self.wires,
                     &self.starts,
+                    self.wires.room,
+                    inbox,
+                    block,
                 );
             }
             number = number.wrapping_add(1);
@@ -194,51 +196,48 @@ impl Rows {
 fn arrive_one(
     frame: &Frame,
     cycle: u32,
-    number: usize,
-    block: &mut Block,
-    wires: &mut Wires,
     starts: &[Start],
+    room: Room,
+    inbox: &mut Inbox,
+    block: &mut Block,
 ) {
-    if number < wires.inboxes.len() {
-        let inbox = &mut wires.inboxes[number];
-        let rising = take_credits(
-            frame,
-            &mut block.lanes,
-            &mut block.returned,
-            &mut inbox.credits,
-        );
-        supply_all(
-            rising,
-            &block.returned.raised,
-            &block.marks,
-            &mut block.lanes.supplied,
-        );
-        let injecting = take_flits(
-            frame,
-            cycle,
-            &block.sources.due,
-            &mut block.lanes,
-            &mut block.arrived,
-            &mut wires.inboxes[number].flits,
-        );
-        begin_all(
-            injecting.beginning,
-            starts,
-            &mut block.lanes,
-            &mut block.arrived,
-            &mut block.sources,
-        );
-        inject_all(
-            injecting.pushing | injecting.beginning,
-            number,
-            starts,
-            &block.arrived.injected,
-            &mut block.lanes.injecting,
-            &mut block.sources,
-            wires,
-        );
-        stand_one(frame, block);
-    }
+    let rising = take_credits(
+        frame,
+        &mut block.lanes,
+        &mut block.returned,
+        &mut inbox.credits,
+    );
+    supply_all(
+        rising,
+        &block.returned.raised,
+        &block.marks,
+        &mut block.lanes.supplied,
+    );
+    let injecting = take_flits(
+        frame,
+        cycle,
+        &block.sources.due,
+        &mut block.lanes,
+        &mut block.arrived,
+        &mut inbox.flits,
+    );
+    begin_all(
+        injecting.beginning,
+        starts,
+        &mut block.lanes,
+        &mut block.arrived,
+        &mut block.sources,
+    );
+    inject_all(
+        injecting.pushing | injecting.beginning,
+        room,
+        starts,
+        &block.arrived.injected,
+        &mut block.lanes.injecting,
+        &mut block.sources,
+        inbox,
+    );
+    stand_one(frame, block);
 }
 
 // Where the input channels of a block stand, before anything is decided.
