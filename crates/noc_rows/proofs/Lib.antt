@@ -24,6 +24,12 @@ pub mod EachLemmas
 pub mod OwnerLemmas
 pub mod SourceLemmas
 pub mod NextLemmas
+pub mod PushLemmas
+pub mod InjectLemmas
+pub mod FrozenLemmas
+pub mod ComposeLemmas
+pub mod ArriveLaws
+pub mod FrozenLaws
 pub mod RingLemmas
 pub mod FlitWordLemmas
 pub mod WireLemmas
