@@ -106,7 +106,7 @@ keeps-taken relation port (beat ∷ beats) v =
     (keeps-both v (with_flit relation port beat.flit v) (taken relation port beat v) (keeps-flit relation port beat.flit v) (keeps-credit port beat.credit (with_flit relation port beat.flit v)))
     (keeps-taken relation (port + 1) beats (taken relation port beat v))
 
-size-taken : (relation : Routes) (beats : List Beat) (v : View) → HasSize v → HasSize (all_taken relation beats v)
+pub size-taken : (relation : Routes) (beats : List Beat) (v : View) → HasSize v → HasSize (all_taken relation beats v)
 unfolding all_taken
 size-taken relation beats v size =
     let k = keeps-taken relation 0 beats v in

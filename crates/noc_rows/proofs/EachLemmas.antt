@@ -1,11 +1,16 @@
 -- A loop over the members of a set, from the least on: those that are left become one less in each step.
-use Rattle.std.proofs.Common.{◌≡◌, ◌≢◌, ℕ, ◌-◌, ◌^◌, ◌<◌, Bool, true, false, refl, Option, Some, arith, ap, sym, ◌∙◌, subst, inl, inr, bit_and}
+use Rattle.std.proofs.Common.{◌≡◌, ◌≢◌, ℕ, ◌-◌, ◌^◌, ◌<◌, Bool, true, false, refl, Some, arith, ap, sym, ◌∙◌, subst, inl, inr, bit_and}
 use Rattle.std.specs.Prelude.{◌⊎◌, ◌&&◌, not, nat_eq}
 use Rattle.std.proofs.lemmas.Bool.{cases_eq, eq-eqb, ne_eqb, false≢true, true≢false}
 use Rattle.noc_packet.specs.Set.{has_bit, IsLeast}
-use Rattle.noc_packet.proofs.SetLemmas.{has_bit-zero}
-use Rattle.noc_rows.specs.Bits.{minus}
-use Rattle.noc_rows.proofs.BitLemmas.{but_lowest_members}
+use Rattle.noc_packet.proofs.SetLemmas.{has_bit-zero, same_set}
+use Rattle.noc_rows.specs.Bits.{lowest, minus}
+use Rattle.noc_rows.proofs.BitLemmas.{but_lowest_members, lowest_members}
+use Rattle.noc_rows.proofs.PassLemmas.{power-members}
+
+-- the least member alone
+pub lowest-is : (a t : ℕ) → a < 2 ^ 32 → IsLeast (has_bit a) (Some t) → lowest a ≡ 2 ^ t
+lowest-is a t fits least = same_set (lowest a) (2 ^ t) (λ k. lowest_members a t k fits least ∙ sym (power-members t k))
 
 -- the members that are left: `rest & (rest - 1)`
 pub left-members : (rest t k : ℕ) → 0 < rest → rest < 2 ^ 32 → IsLeast (has_bit rest) (Some t) → has_bit (bit_and rest (rest - 1)) k ≡ (has_bit rest k && not (nat_eq k t))

@@ -21,15 +21,15 @@ landed-members count c places came i words l room =
     either_members came (lane_injected (words_of count places) c) i
     ∙ ap (λ b. has_bit came i || b) (both_members c.injecting (wrong_from 0 c.len (words_of count places)) i ∙ ap (λ b. has_bit c.injecting i && b) (wrong-members c.len count places i words.len_bits l room))
 
-with-one-length : (flits : List Flit) (f : Option Flit) → length (with_one flits f) ≡ length flits + one_if (is_some f)
+pub with-one-length : (flits : List Flit) (f : Option Flit) → length (with_one flits f) ≡ length flits + one_if (is_some f)
 with-one-length flits None = omega arith
 with-one-length flits (Some f) = length-append flits (f ∷ [])
 
-empty-length : (flits : List Flit) → nat_lt 0 (length flits) ≡ not (is_empty flits)
+pub empty-length : (flits : List Flit) → nat_lt 0 (length flits) ≡ not (is_empty flits)
 empty-length [] = le-ltb 0 0 (omega arith)
 empty-length (f ∷ flits) = lt-ltb 0 (length (f ∷ flits)) (omega arith)
 
-with-one-empty : (flits : List Flit) (f : Option Flit) → not (is_empty (with_one flits f)) ≡ (not (is_empty flits) || is_some f)
+pub with-one-empty : (flits : List Flit) (f : Option Flit) → not (is_empty (with_one flits f)) ≡ (not (is_empty flits) || is_some f)
 with-one-empty flits None = sym (or_false (not (is_empty flits)))
   where
     or_false : (b : Bool) → (b || false) ≡ b

@@ -35,8 +35,13 @@ pub mod FlitWordLemmas
 pub mod WireLemmas
 pub mod UnionLemmas
 pub mod MoveLaws
-pub mod EachLemmas
 pub mod LaneLemmas
 pub mod WireLaws
 pub mod TailLemmas
 pub mod GiveBackLaws
+pub mod PushLemmas
+pub mod InjectLemmas
+pub mod FrozenLemmas
+pub mod ComposeLemmas
+pub mod ArriveLaws
+pub mod FrozenLaws

@@ -1,11 +1,10 @@
 -- What a router's source shows once the next flit of its first packet is injected.
-use Rattle.std.proofs.Common.{◌≡◌, ◌≢◌, ℕ, ◌+◌, ◌-◌, ◌*◌, ◌%◌, ◌^◌, ◌<◌, ◌≤◌, Bool, true, false, List, [], ◌∷◌, ◌++◌, length, Option, Some, None, refl, ap, sym, ◌∙◌, subst, arith, inl, inr}
-use Rattle.std.specs.Prelude.{◌⊎◌, nat_eq, slice_get, unwrap_or, if◌then◌else◌}
-use Rattle.std.proofs.lemmas.Bool.{cases_eq, eq-eqb, ne_eqb, eqb-true, true≢false, false≢true}
+use Rattle.std.proofs.Common.{◌≡◌, ◌≢◌, ℕ, ◌+◌, ◌-◌, ◌%◌, ◌^◌, ◌<◌, Bool, true, false, List, [], ◌∷◌, length, Option, Some, None, refl, ap, sym, ◌∙◌, subst, arith, inl, inr}
+use Rattle.std.specs.Prelude.{◌⊎◌, nat_eq, unwrap_or, if◌then◌else◌}
+use Rattle.std.proofs.lemmas.Bool.{cases_eq, eq-eqb, ne_eqb, true≢false, false≢true}
 use Rattle.std.proofs.lemmas.Option.{slice_get_within}
-use Rattle.noc_packet.specs.Packet.{IsWithinLimits, flit_at}
+use Rattle.noc_packet.specs.Packet.{flit_at}
 use Rattle.noc_packet.specs.declared.packet.Packet.{Packet}
-use Rattle.noc_packet.specs.declared.packet.Flit.{Flit}
 use Rattle.noc_router.specs.View.{View, local_channel, with_landed, with_injected}
 use Rattle.noc_rows.specs.Bits.{minus}
 use Rattle.noc_rows.specs.FlitWords.{flit_word}
@@ -65,7 +64,7 @@ module _ (starts : List Start) (few : length starts < 2 ^ 32) (s : Source) (numb
             few = few;
             due = ap (λ (x : ℕ). (start_in starts x).due) place ∙ begins.1;
             queue = subst (λ (x : ℕ). ShowsQueue starts x rest) (sym place) queue.2;
-            next = nothing-next _ rest;
+            next = nothing-next (record s { due = (start_in starts ((s.queue + 1) % 2 ^ 32)).due; left = 0; queue = (s.queue + 1) % 2 ^ 32 }) rest;
           }
       at false false is e =
           let more : s.left ≢ 1 = λ one. false≢true (sym is ∙ eq-eqb s.left 1 one) in
@@ -78,7 +77,7 @@ module _ (starts : List Start) (few : length starts < 2 ^ 32) (s : Source) (numb
             due = due ∙ ap due_of (sym same);
             queue = subst (ShowsQueue starts s.queue) (sym same) queue;
             next = subst (λ (q : List (ℕ × Packet)). ShowsNext (record s { left = minus s.left 1; word = next_word s.word (minus s.left 1) }) q (Some (vc, index + 1))) (sym same)
-              (some, sum, ap (λ x. next_word x (minus s.left 1)) next.2 ∙ next-is p number index (minus s.left 1) queue.1 sum some);
+                (some, sum, ap (λ x. next_word x (minus s.left 1)) next.2 ∙ next-is p number index (minus s.left 1) queue.1 sum some);
           }
       at true false is e = absurd (true≢false e)
       at false true is e = absurd (false≢true e)

@@ -1,5 +1,5 @@
 -- The words that one router has in rows, and what it means that they show a view.
-use Rattle.std.specs.Prelude.{◌≡◌, ◌⊎◌, ℕ, ◌+◌, ◌*◌, ◌/◌, ◌%◌, ◌^◌, ◌<◌, ◌≤◌, Bool, true, false, List, map, length, Option, Some, None, IfSome, is_some, nat_lt, nat_le, nat_eq, slice_index_or}
+use Rattle.std.specs.Prelude.{◌≡◌, ◌⊎◌, ℕ, ◌+◌, ◌*◌, ◌/◌, ◌%◌, ◌^◌, ◌<◌, ◌≤◌, Bool, true, false, List, map, length, Option, Some, None, IfSome, is_some, nat_lt, nat_le, nat_eq}
 use Rattle.noc_topo.specs.Shape.{Grid, nodes, ports, local_port, neighbour}
 use Rattle.noc_packet.specs.Set.{has_bit}
 use Rattle.noc_packet.specs.declared.packet.Flit.{Flit}
@@ -82,6 +82,7 @@ pub record ShowsChannels (c : Column) (v : View) : Type 0 where
   pub waiting_below : AreBelow (size_of v.site) c.waiting
   pub active_below : AreBelow (size_of v.site) c.active
   pub idle_below : AreBelow (size_of v.site) c.idle
+  pub draining_below : AreBelow (size_of v.site) c.draining
   pub len_below : (i : ℕ) → size_of v.site ≤ i → number_at c.len i ≡ 0
 
 -- the pointers of the arbiters

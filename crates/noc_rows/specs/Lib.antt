@@ -10,6 +10,7 @@ pub mod Turns
 pub mod Injected
 pub mod Rows
 pub mod Source
+pub mod Arrive
 pub mod InRows
 pub mod Wires
 pub mod Moves

@@ -101,6 +101,18 @@ begun_arrived a = record a {
 abbrev pub injecting_after : ℕ → ℕ → ℕ → ℕ
 injecting_after injected left injecting = if not (nat_eq injected 0) && nat_eq left 1 then 0 else injecting
 
+-- the words of a router after the beats are taken and a flit is injected: into `went`, from a source with so many flits left, where `up` are
+-- supplied, and a packet begins in one of the channels `begins`
+abbrev pub frozen_column : List ℕ → ℕ → ℕ → ℕ → ℕ → ℕ → ℕ → Column → Column
+frozen_column bits credits up flits begins went left c = record c {
+  credit = raised_by c.credit credits;
+  draining = bit_xor c.draining (lane_home bits credits c);
+  idle = bit_or c.idle (lane_home bits credits c);
+  supplied = bit_or c.supplied up;
+  len = with_first (lowest begins) (raised_by c.len (lane_landed bits flits c));
+  injecting = injecting_after went left (bit_or c.injecting (lowest begins));
+}
+
 -- ---- what each channel can do, where these are filled
 abbrev pub lane_heads : ℕ → Column → ℕ
 lane_heads filled c = less filled (bit_or c.waiting c.active)

@@ -1,5 +1,5 @@
 -- What a router's source has, and what it means that it shows what the router has still to inject.
-use Rattle.std.specs.Prelude.{◌≡◌, ℕ, ◌+◌, ◌%◌, ◌^◌, ◌<◌, ◌≤◌, List, [], ◌∷◌, length, Option, Some, None, slice_get, slice_index_or, unwrap_or, nat_eq, if◌then◌else◌}
+use Rattle.std.specs.Prelude.{◌≡◌, ℕ, ◌+◌, ◌%◌, ◌^◌, ◌<◌, List, [], ◌∷◌, length, Option, Some, None, slice_get, slice_index_or, unwrap_or, nat_eq, if◌then◌else◌}
 use Rattle.noc_packet.specs.Packet.{IsWithinLimits, flit_at}
 use Rattle.noc_packet.specs.declared.packet.Packet.{Packet}
 use Rattle.noc_router.specs.View.{View}

@@ -1,6 +1,6 @@
 //! Rows of words: one word of each router of a block.
 
-ghost use Rattle.std.specs.Prelude.{◌≡◌, ◌≢◌, ◌<◌, ◌&&◌, ℕ, not, nat_eq};
+ghost use Rattle.std.specs.Prelude.{◌≡◌, ◌≢◌, ◌^◌, ◌<◌, ◌&&◌, ℕ, not, nat_eq};
 ghost use Rattle.noc_packet.specs.Set.{IsLeast, has_bit};
 ghost use Rattle.noc_rows.specs.Bits.{lowest};
 ghost use Rattle.noc_rows.specs.Rows.{word};
@@ -77,6 +77,7 @@ pub fn alone_if(lane: usize, set: u32) -> u32
 pub fn least(set: u32) -> usize
     ensures within { result < 32 }
     ensures least { 0 < set → IsLeast (has_bit set) (Some result) }
+    ensures alone { 0 < set → lowest set ≡ 2 ^ result }
 {
     (set.trailing_zeros() & 31) as usize
 }

@@ -1,6 +1,11 @@
 //! A network in rows.
 
-ghost use Rattle.std.specs.Prelude.{◌<◌};
+ghost use Rattle.std.specs.Prelude.{◌≡◌, ◌<◌, ℕ, not, nat_eq};
+ghost use Rattle.noc_packet.specs.Set.{has_bit};
+ghost use Rattle.noc_rows.specs.Arrive.{HasArrived};
+ghost use Rattle.noc_rows.specs.Passes.{lane_asks, lane_heads, lane_standing};
+ghost use Rattle.noc_rows.specs.Rows.{column_at, planes_of, standing_at, word};
+ghost use Rattle.noc_rows.specs.Wires.{room_of};
 
 use crate::allocate::allocate_all;
 use crate::block::Block;
@@ -108,6 +113,7 @@ impl Rows {
                     inbox,
                     block,
                 );
+                stand_one(&self.frame, block);
             }
             number = number.wrapping_add(1);
         }
@@ -217,7 +223,10 @@ fn arrive_one(
     room: Room,
     inbox: &mut Inbox,
     block: &mut Block,
-) {
+)
+    ensures lanes { (k : ℕ) → k < 32 → HasArrived (planes_of frame.now.place_bits) frame.now.link_set frame.now.local_set cycle (room_of room) starts.now block.old block.new inbox.old inbox.new k }
+    ensures rest { block.new ≡ record block.old { lanes = block.new.lanes; returned = block.new.returned; arrived = block.new.arrived; sources = block.new.sources } }
+{
     let rising = take_credits(
         frame,
         &mut block.lanes,
@@ -254,11 +263,16 @@ fn arrive_one(
         &mut block.sources,
         inbox,
     );
-    stand_one(frame, block);
 }
 
 // Where the input channels of a block stand, before anything is decided.
-fn stand_one(frame: &Frame, block: &mut Block) {
+fn stand_one(frame: &Frame, block: &mut Block)
+    ensures standing { (k : ℕ) → k < 32 → standing_at block.new.standing k ≡ lane_standing frame.now.fields (word block.old.arrived.filled k) (column_at block.old.lanes k) }
+    ensures heading { (k : ℕ) → k < 32 → has_bit block.new.work.heading k ≡ not (nat_eq (lane_heads (word block.old.arrived.filled k) (column_at block.old.lanes k)) 0) }
+    ensures asking { (k : ℕ) → k < 32 → has_bit block.new.work.asking k ≡ not (nat_eq (lane_asks (column_at block.old.lanes k)) 0) }
+    ensures decided { block.new.decided ≡ DecidedRows.NONE }
+    ensures rest { block.new ≡ record block.old { standing = block.new.standing; work = block.new.work; decided = block.new.decided } }
+{
     let pending = stand(
         frame.fields,
         &block.lanes,

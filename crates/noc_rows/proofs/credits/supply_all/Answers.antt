@@ -1,4 +1,4 @@
-use Rattle.std.proofs.Common.{◌≡◌, ◌<◌, arith, ap, ◌∙◌, bit_or}
+use Rattle.std.proofs.Common.{◌<◌, arith, ap, ◌∙◌, bit_or}
 use Rattle.noc_rows.specs.Passes.{owner_in}
 use Rattle.noc_rows.specs.Rows.{word}
 use Rattle.noc_rows.proofs.EachLemmas.{each-next}

@@ -1,4 +1,4 @@
-use Rattle.std.proofs.Common.{◌≡◌, ◌^◌, ◌<◌, arith, sym}
+use Rattle.std.proofs.Common.{◌≡◌, ◌<◌, arith, sym}
 use Rattle.noc_rows.specs.Passes.{owner_in}
 use Rattle.noc_rows.proofs.OwnerLemmas.{owners-next}
 use Rattle.noc_rows.proofs.marks.Marks.owners.Goals as goal

@@ -1,5 +1,3 @@
-use Rattle.std.proofs.Common.{◌≡◌, ℕ, true, false}
-use Rattle.noc_packet.specs.Set.{has_bit}
 use Rattle.noc_rows.specs.Passes.{owner_in}
 use Rattle.noc_rows.proofs.OwnerLemmas.{AreOwnersBut}
 use Rattle.noc_rows.proofs.marks.Marks.owners.Given as goal
