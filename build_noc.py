@@ -26,9 +26,9 @@ PARTS = ("src", "specs", "proofs")
 DISK, MEMORY = 4 << 30, 2 << 30
 # The seconds that each crate took beside the others on four processors, once. Only their shares count.
 SECONDS = {
-    "noc_topo": 40, "noc_packet": 30, "noc_ring": 40, "noc_route": 120, "noc_rank": 100, "noc_alloc": 40, "noc_vc": 35,
-    "noc_router": 150, "noc_model": 25, "noc_ownership": 25, "noc_views": 30, "noc_progress": 25, "noc_net": 140,
-    "noc_files": 125, "noc_tiles": 160, "noc_requests": 60, "noc_answers": 90, "noc": 120,
+    "noc_topo": 35, "noc_packet": 30, "noc_ring": 40, "noc_route": 150, "noc_rank": 180, "noc_alloc": 50, "noc_vc": 50,
+    "noc_router": 240, "noc_model": 80, "noc_net": 130, "noc_files": 340, "noc_tiles": 240,
+    "noc_requests": 90, "noc_answers": 180, "noc": 240,
 }
 
 

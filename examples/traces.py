@@ -10,9 +10,11 @@ import subprocess
 import sys
 import tempfile
 from collections import Counter
+from concurrent.futures import ThreadPoolExecutor
 from contextlib import closing
 from dataclasses import dataclass, field
 from io import StringIO
+from itertools import takewhile
 from pathlib import Path
 from typing import NamedTuple
 
@@ -117,27 +119,64 @@ class Run:
         """The place of a packet in the queue of its source: by due time, and then by number."""
         return self.packet(number).due, number
 
-    def trace(self, **options):
-        """The findings of a trace with these options, one after the other. Where noc refuses, the script ends with its line and
-        its status."""
-        noc = start("trace", *self.files, *(word for name, value in options.items() for word in words_of(name, value)))
+    def start_trace(self, errors=True, **options):
+        """A noc that traces with these options, and says its errors or keeps them to itself."""
+        words = [word for name, value in options.items() for word in words_of(name, value)]
+        return start("trace", *self.files, *words, stderr=None if errors else subprocess.DEVNULL)
+
+    def trace(self, routers=None, **options):
+        """The findings of a trace with these options, one after the other; of some routers alone, where they are given. Where noc
+        refuses, the script ends with its line and its status."""
+        noc = self.start_trace(**options)
         header = noc.stdout.readline()
         if header != TRACE_HEADER:
             noc.stdout.close()
             sys.exit(noc.wait() or refuse("what noc writes is no trace"))
-        return findings_of(noc)
+        return findings_of(noc, routers)
 
 
-def findings_of(noc):
+def findings_of(noc, routers):
     """What noc writes behind the header; noc is ended where nobody wants more of it."""
+    wanted = None if routers is None else set(map(str, routers))
     with noc:
         try:
-            yield from map(finding_of, noc.stdout)
+            # (most lines are of other routers, and are not looked at any further)
+            yield from (finding_of(line) for line in noc.stdout if wanted is None or line.split(",", 2)[1] in wanted)
         except GeneratorExit:
             noc.kill()
             return
     if noc.returncode:
         sys.exit(noc.returncode)
+
+
+class Beside:
+    """The trace of a router that is read while another trace is read, and as far as it turns out to be needed.
+
+    What a noc refuses, the other one refuses too: so this one says nothing.
+    """
+
+    def __init__(self, run, **options):
+        self.noc = run.start_trace(**options, errors=False)
+        self.last = None
+        self.reader = ThreadPoolExecutor(1)
+        self.kept = self.reader.submit(self.read)
+
+    def read(self):
+        self.noc.stdout.readline()
+        with closing(findings_of(self.noc, None)) as findings:
+            return list(takewhile(lambda finding: self.last is None or finding.cycle <= self.last, findings))
+
+    def up_to(self, last):
+        """Its findings up to a cycle."""
+        self.last = last
+        return self.kept.result()
+
+    def __enter__(self):
+        return self
+
+    def __exit__(self, *_):
+        self.noc.kill()
+        self.reader.shutdown()
 
 
 def words_of(name, value):
@@ -146,9 +185,9 @@ def words_of(name, value):
     return [] if value is None else [word] if value is True else [word, str(value)]
 
 
-def start(*words):
+def start(*words, **given):
     try:
-        return subprocess.Popen([NOC, *words], stdout=subprocess.PIPE, text=True)
+        return subprocess.Popen([NOC, *words], stdout=subprocess.PIPE, text=True, **given)
     except OSError as error:
         refuse(f"{NOC}: {error.strerror}")
 

@@ -12,21 +12,25 @@ and what it waits for. The next line says where that stands. The last step is a 
 step before: then these packets wait for one another. Where a packet may go by several channels, the steps follow the one that
 leads to a packet that moves in the fewest steps.
 
-CONFIG, TRAFFIC and F are files, one of them '-' for standard input. The network is run once, by 'noc trace'; and once more for
-a packet that is not in it in CYCLE, to see whether it is out, or, side by side, for each router at which a long wait was. Python
-3.11 or later; nothing else is needed.
+CONFIG, TRAFFIC and F are files, one of them '-' for standard input. With CYCLE the network is run once, by 'noc trace', and once
+more where only that tells whether the packet is out. A life takes two runs side by side, one for the packet and one for its source,
+and one more, up to the last of the long waits, where one was elsewhere. Python 3.11 or later; nothing else is needed.
 """
 import argparse
 from collections import Counter
 from concurrent.futures import ThreadPoolExecutor
-from contextlib import closing
 from dataclasses import dataclass
 
 from network import opposite, refuse, split
-from traces import EMPTY, OWNING, QUEUE, STALLS, Run, add_files, life_of, write
+from traces import EMPTY, OWNING, QUEUE, STALLS, Beside, Run, add_files, life_of, write
 
 # So many of the longest waits are told of, and so many of the packets that held what was waited for.
 WAITS, HOLDERS = 3, 3
+# A trace begins so many cycles before a wait, so that it tells who had a channel that drains when the wait begins; where it does not,
+# another one does.
+BEFORE = 100
+# In so many cycles a trace of all routers takes less time than one of a router more.
+CLOSE = 1000
 
 
 @dataclass(frozen=True)
@@ -102,12 +106,22 @@ class Moment:
         words, waits_for = STEPS[finding.verdict](self, place, finding.out)
         return Step(place, finding.verdict, f". {words}", waits_for)
 
+    def inside(self, router):
+        """The channels of the port local, and the packets in those that hold one."""
+        local = [f"local.{number}" for number in range(self.run.network.channels)]
+        return local, [found for channel in local if (found := self.place_of(router, channel))]
+
+    def must_wait(self, packet):
+        """Whether each channel of the port local at its source has a packet whose turn is before its own: one by which it had come in
+        would be empty or have a later one."""
+        local, inside = self.inside(packet.source)
+        return len(inside) == len(local) and all(self.run.turn(found.packet) < self.run.turn(packet.number) for found in inside)
+
     def queue_step(self, place):
         """A packet that is due and whose head is still at its source."""
         if (place.packet, place.router) in self.following:
             return Step(place, "", "it comes in in the next cycle", [])
-        local = [f"local.{number}" for number in range(self.run.network.channels)]
-        inside = [found for channel in local if (found := self.place_of(place.router, channel))]
+        local, inside = self.inside(place.router)
         if len(inside) == len(local):
             said = f"it needs a channel of the port local, and {owners(zip(inside, local))}"
             return Step(place, "", said, inside)
@@ -246,7 +260,7 @@ def start_of(moment, packet):
     if moment.cycle < packet.due:
         return None, f"Packet {packet.number} is due in cycle {packet.due}."
     head = moment.head(packet)
-    if head is None and (packet.number, packet.source) not in moment.following:
+    if head is None and (packet.number, packet.source) not in moment.following and not moment.must_wait(packet):
         out = life_of(moment.run, packet, moment.cycle).out
         if out is not None:
             return None, f"Packet {packet.number} was out in cycle {out}."
@@ -331,7 +345,7 @@ class RouterThen:
     """A router in one of the cycles of a run: what its channels say, and the last one that said it had an output channel."""
 
     def __init__(self, run):
-        self.run, self.found, self.had = run, {}, {}
+        self.run, self.cycle, self.found, self.had = run, None, {}, {}
 
     def take(self, finding):
         self.found[finding.channel] = finding
@@ -347,7 +361,7 @@ class RouterThen:
             return self.in_the_way()
         own = self.found[wait.channel]
         if wait.verdict == "NoIdleChannel":
-            return [self.holder_of(channel) for channel in own.permitted]
+            return [self.holder_of(wait.router, channel) for channel in own.permitted]
         if wait.verdict == "LostChannel":
             words, found = f"got {own.out}", self.those({"Granted"}, lambda other: other.out == own.out)
         elif wait.verdict == "LostInput":
@@ -358,12 +372,20 @@ class RouterThen:
             words, found = f"won the port {port}", self.those({"Moved"}, lambda other: split(other.out)[0] == port)
         return [(finding.packet, words) for finding in found]
 
-    def holder_of(self, channel):
+    def holder_of(self, router, channel):
         """Who has an output channel that is not idle, or had it where it drains."""
-        last = self.had[channel]
-        now = self.found[last.channel]
-        has_it = now.verdict in OWNING and (now.packet, now.out) == (last.packet, channel)
+        last = self.had.get(channel) or self.had.setdefault(channel, self.end_behind(router, channel))
+        now = self.found.get(last.channel)
+        has_it = now is not None and now.verdict in OWNING and (now.packet, now.out) == (last.packet, channel)
         return last.packet, f"had {channel}" if has_it else f"drained from {channel}"
+
+    def end_behind(self, router, channel):
+        """The end of the packet that had an output channel before the trace began, in the buffer to which it leads."""
+        port, number = split(channel)
+        following = self.run.network.neighbour(router, port)
+        findings = self.run.trace(router=following, first=self.cycle, last=self.cycle)
+        (end,) = [finding for finding in findings if finding.channel == f"{opposite(port)}.{number}"]
+        return end._replace(channel=None)
 
     def in_the_way(self):
         """Who has the channels of the port local, or is the last one that came in by one where some are left."""
@@ -373,46 +395,72 @@ class RouterThen:
         return [(max((finding.packet for finding in inside), key=self.run.turn), "came in first")]
 
 
-def router_in(run, router, cycles):
-    """A router in each of these cycles, which rise."""
-    then = RouterThen(run)
-    with closing(run.trace(router=router, last=cycles[-1], changes=True)) as findings:
-        following = next(findings, None)
-        for cycle in cycles:
-            while following is not None and following.cycle <= cycle:
-                then.take(following)
-                following = next(findings, None)
-            yield cycle, then
-
-
-def holders_at(run, router, waits):
-    """For each wait at a router which packets held what was waited for, with what they did, and in how many of its cycles."""
+def holders_at(run, findings, waits):
+    """For each wait at a router, of which these are the findings, which packets held what was waited for, with what they did, and in
+    how many of its cycles."""
     counts = [Counter() for _ in waits]
-    wanted = {cycle: (wait, count) for wait, count in zip(waits, counts) for cycle in wait.cycles}
-    for cycle, then in router_in(run, router, sorted(wanted)):
-        wait, count = wanted[cycle]
-        count.update(then.holders(wait))
+    then, coming = RouterThen(run), iter(findings)
+    following = next(coming, None)
+    wanted = {cycle: place for place, wait in enumerate(waits) for cycle in wait.cycles}
+    held = None
+    for then.cycle in sorted(wanted):
+        while following is not None and following.cycle <= then.cycle:
+            then.take(following)
+            following, held = next(coming, None), None
+        place = wanted[then.cycle]
+        # (while nothing changes the same packets hold it)
+        if held is None or held[0] != place:
+            held = place, then.holders(waits[place])
+        counts[place].update(held[1])
     return list(zip(waits, counts))
 
 
-def waits_in_words(run, life):
-    waits = longest_waits(life)
-    by_router = {wait.router: [other for other in waits if other.router == wait.router] for wait in waits}
+def findings_of_routers(run, spans):
+    """The findings of some routers, each in a span of cycles: by one trace of all routers where the spans are close to each other,
+    and else by a trace for each, side by side."""
+    first, last = min(first for first, _ in spans.values()), max(last for _, last in spans.values())
+    if 1 < len(spans) and last - first < CLOSE:
+        found = {router: [] for router in spans}
+        for finding in run.trace(routers=spans, first=first, last=last, changes=True):
+            found[finding.router].append(finding)
+        return found
     with ThreadPoolExecutor() as pool:
-        held = [pair for pairs in pool.map(lambda item: holders_at(run, *item), by_router.items()) for pair in pairs]
+        traced = pool.map(lambda item: list(run.trace(router=item[0], first=item[1][0], last=item[1][1], changes=True)), spans.items())
+        return dict(zip(spans, traced))
+
+
+def begin(cycle):
+    """Where a trace begins that tells what leads to a cycle."""
+    return max(0, cycle - BEFORE)
+
+
+def waits_in_words(run, life, source):
+    """The longest waits; with a trace of the source of the packet, which is read as far as they are there."""
+    waits = longest_waits(life)
+    at = {wait.router: [other for other in waits if other.router == wait.router] for wait in waits}
+    spans = {
+        router: (begin(min(wait.cycles[0] for wait in there)), max(wait.cycles[-1] for wait in there)) for router, there in at.items()
+    }
+    found = {}
+    if life.packet.source in spans:
+        found[life.packet.source] = source.up_to(spans.pop(life.packet.source)[1])
+    if spans:
+        found |= findings_of_routers(run, spans)
+    held = [pair for router, there in at.items() for pair in holders_at(run, found[router], there)]
     return [wait.line(count) for wait, count in sorted(held, key=lambda pair: waits.index(pair[0]))]
 
 
 def life_lines(run, packet):
     """The life in words, a line as soon as it is known."""
-    life = life_of(run, packet)
-    yield title(run, life)
-    for stay in life.stays:
-        counts = "" if stay.channel == QUEUE else f": {listed(stay.counts())}"
-        yield f"{place_name(stay)}, {stretch(stay.first, stay.end - 1)}{counts}."
-    foremost = Counter(bar.verdict for _, bar in life.foremost())
-    yield f"Its foremost flit, in {cycles_in_words(foremost.total())}: {listed(foremost)}."
-    yield from waits_in_words(run, life)
+    with Beside(run, router=packet.source, first=begin(packet.due), changes=True) as source:
+        life = life_of(run, packet)
+        yield title(run, life)
+        for stay in life.stays:
+            counts = "" if stay.channel == QUEUE else f": {listed(stay.counts())}"
+            yield f"{place_name(stay)}, {stretch(stay.first, stay.end - 1)}{counts}."
+        foremost = Counter(bar.verdict for _, bar in life.foremost())
+        yield f"Its foremost flit, in {cycles_in_words(foremost.total())}: {listed(foremost)}."
+        yield from waits_in_words(run, life, source)
 
 
 def main():

@@ -177,7 +177,7 @@ for number, out in enumerate(outs):
         assert all(stay.counts()["Moved"] == packet.length for stay in stays), number
 """
 # Each cycle of a life counts once. In a cycle of a wait one packet wins what is lost, each channel of the set has a holder, and of the
-# channels of the port local each has one, or some are left and one packet comes in.
+# channels of the port local each has one, or some are left and one packet comes in. What was before the wait changes nothing.
 HOLDERS = """
 for number in range(len(run.rows)):
     life = traces.life_of(run, run.packet(number))
@@ -185,7 +185,9 @@ for number in range(len(run.rows)):
     assert None not in foremost, number
     assert len(foremost) == (run.network.cycles if life.out is None else life.out + 1) - life.packet.due, number
     for wait in why.longest_waits(life):
-        ((_, held),) = why.holders_at(run, wait.router, [wait])
+        ((_, held),) = why.holders_at(run, run.trace(router=wait.router, last=wait.cycles[-1], changes=True), [wait])
+        late = run.trace(router=wait.router, first=wait.cycles[0], last=wait.cycles[-1], changes=True)
+        assert why.holders_at(run, late, [wait]) == [(wait, held)], (number, wait, held)
         if wait.verdict == "NoIdleChannel":
             (permitted,) = {row.permitted for row in run.trace(packet=number, router=wait.router) if row.verdict == "NoIdleChannel"}
             assert held.total() == len(permitted) * len(wait.cycles), (number, wait, held)
@@ -591,10 +593,18 @@ def calls_of(folder, script, *words):
 
 
 def scripts_run_the_program_once(folder):
-    """Once more where a packet is in its queue, and for the one router at which the long waits of packet 2 were."""
+    """In cycle 1 packet 0 has the one channel of the port local, so packet 2 is in its queue. A life takes two runs side by side."""
     folder.put(c=LINE, t=IN_THE_WAY)
-    once = [calls_of(folder, *words) for words in [("timeline", 2), ("why", 2, 5), ("why", 1), ("waves",), ("replay",)]]
-    return set(once) == {1} and calls_of(folder, "why", 2, 1) == calls_of(folder, "why", 2) == 2
+    once = [calls_of(folder, *words) for words in [("timeline", 2), ("why", 2, 5), ("why", 2, 1), ("waves",), ("replay",)]]
+    return set(once) == {1} and calls_of(folder, "why", 1) == calls_of(folder, "why", 2) == 2
+
+
+def scripts_run_the_program_once_more(folder):
+    """Packet 1 waits at two routers, one of which is not its source; and packet 2 is in its queue while a channel is left."""
+    folder.put(c=LINE.replace("channels = 1", "channels = 2").replace("buffer = 2", "buffer = 4"), t=HEADER + "0,2,0,4,0\n1,2,0,4,3\n")
+    life = calls_of(folder, "why", 1)
+    folder.put(c=LINE.replace("channels = 1", "channels = 3"), t=HEADER + "0,2,0,4,1\n0,2,0,4,0\n0,2,0,1,2\n")
+    return (life, calls_of(folder, "why", 2, 6)) == (3, 2)
 
 
 # What is given to a script, and a part of the one sentence that it answers. LINE and IN_THE_WAY are the files c and t.
@@ -754,6 +764,7 @@ CHECKS = [
     replay_stands_alone,
     one_file_comes_by_standard_input,
     scripts_run_the_program_once,
+    scripts_run_the_program_once_more,
     patterns_are_those_of_the_book,
     nodes_that_send_to_themselves_send_nothing,
     a_third_goes_to_the_spots,

@@ -21,12 +21,13 @@ use Rattle.noc.specs.declared.words.Words.{Words}
 abbrev pub IsNumber : List ℕ → Type 0
 IsNumber text = IsNumeral 10 (without_leading_plus text) × (digits_value 10 (without_leading_plus text) < 2 ^ 64)
 
--- the number that a word says, and the other one where there is no word or it is no number
+-- the number that a word says, and the other one where there is no word. (A word that is no number stands for the other one too, so that
+-- this holds of some number whatever is found; `clap`'s rules refuse such a word before anything is asked for.)
 abbrev pub IsSaid : Option (List ℕ) → ℕ → ℕ → Type 0
 IsSaid None other n = n ≡ other
 IsSaid (Some text) other n = (IsNumber text × (n ≡ digits_value 10 (without_leading_plus text))) ⊎ ((IsNumber text → ⊥) × (n ≡ other))
 
--- the number that a word says, if there is a word and it is a number
+-- the number that a word says, if there is a word and it is a number (no other word comes through `clap`'s rules)
 abbrev pub IsSaidIfAny : Option (List ℕ) → Option ℕ → Type 0
 IsSaidIfAny None n = n ≡ None
 IsSaidIfAny (Some text) (Some n) = IsNumber text × (n ≡ digits_value 10 (without_leading_plus text))

@@ -61,6 +61,8 @@ impl Sink for Collected {
         count
     }
 
+    fn hand_on(&mut self) {}
+
     fn failed(&self) -> bool {
         self.is_cut
     }

@@ -210,7 +210,7 @@ fn write_answer<R: Threads + Wait + Sync, W: Write + Drop>(
     (ended, Some(counted.into_inner()))
 }
 
-// How an answer ends: a whole one goes out to its last byte, and a fault of writing counts what the device took.
+// How an answer ends: a whole one goes out to its last byte, and a fault of writing has the number that was counted below the buffer.
 fn finished<W: Write + Drop>(
     answered: Result<Status, Fault>,
     writer: &mut BufWriter<Counted<W>>,

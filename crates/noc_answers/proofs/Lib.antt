@@ -1,3 +1,4 @@
+pub mod ArrivalFacts
 pub mod DrainFacts
 pub mod RankedFacts
 pub mod RequestFacts

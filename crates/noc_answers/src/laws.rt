@@ -1,6 +1,10 @@
 //! What every request has in common.
 
-ghost use Rattle.std.specs.Prelude.{ℕ, Bool, List, ◌≡◌, ◌≤◌, false, true};
+ghost use Rattle.std.specs.Prelude.{ℕ, Bool, List, [], ◌∷◌, ◌++◌, Some, length, decimal, ◌≡◌, ◌-◌, ◌<◌, ◌≤◌, false, true};
+ghost use Rattle.noc_net.specs.Limit.{are_all_out};
+ghost use Rattle.noc_net.specs.Network.{Run, arrival_in, packet_at, state_at};
+ghost use Rattle.noc_files.specs.Latency.{latency_line, packet_start};
+ghost use Rattle.noc_files.specs.Writing.{comma, joined, line_end};
 ghost use Rattle.noc_requests.specs.Status.{is_memory};
 ghost use Rattle.noc_requests.specs.declared.fault.Fault.{Fault as FaultValue};
 ghost use Rattle.noc_requests.specs.declared.request.Request.{Request as RequestValue};
@@ -23,4 +27,12 @@ pub fn workers_change_no_report()
         → Asks (by_workers r workers report drain) text status → Asks (by_workers r other report drain) said end → (text ≡ said) × (status ≡ end) }
     ensures fewer { (r : RequestValue) (report : ReportValue) (drain : Bool) (many few : ℕ) (text : List ℕ) (status : StatusValue)
         → few ≤ many → Asks (by_workers r many report drain) text status → Asks (by_workers r few report drain) text status }
+{}
+
+/// Where every packet of a run is out, as after a run with ranks that was to drain, no line of the latency report ends with dashes: each
+/// has the cycle in which its packet was out, and the latency.
+pub fn a_packet_that_is_out_has_its_numbers()
+    ensures { (run : Run) (p : ℕ) → are_all_out run.net (state_at run.net run.count) ≡ true → p < length run.net.packets
+        → (cycle : ℕ) × (arrival_in run.net (state_at run.net run.count) p ≡ Some cycle)
+        × (latency_line run p ≡ packet_start p (packet_at run.net p) ++ joined (decimal cycle ∷ comma ∷ decimal (cycle - (packet_at run.net p).due) ∷ line_end ∷ [])) }
 {}

@@ -12,4 +12,6 @@ mod run;
 mod trace;
 
 pub use answers::{answer, answer_one};
-pub use laws::{a_request_has_one_answer, workers_change_no_report};
+pub use laws::{
+    a_packet_that_is_out_has_its_numbers, a_request_has_one_answer, workers_change_no_report,
+};

@@ -91,7 +91,7 @@ fn a_reader_that_fails_is_read_no_more(rt: HostRuntime) {
     for fails_at in 1..12usize {
         let mut reader = Failing { reads: 0, fails_at };
         assert_eq!(rt;
-            read_all(rt.alloc(), &mut reader, 11).err(),
+            read_all(rt.alloc(), &mut reader, 10).err(),
             Some(InputFault::ReadFailed)
         );
         assert_eq!(rt; reader.reads, fails_at);

@@ -47,6 +47,11 @@ each_same {X} f h (suc n) same =
     let before : flat_map f (below n) ≡ flat_map h (below n) = each_same f h n (λ k less. same k (omega arith)) in
     ap (λ k. flat_map f (below k)) next ∙ each_more f n ∙ ap (λ (t : List X). t ++ f n) before ∙ ap (λ (t : List X). flat_map h (below n) ++ t) (same n (omega arith)) ∙ sym (each_more h n) ∙ ap (λ k. flat_map h (below k)) (sym next)
 
+-- .. and of each number nothing is nothing
+pub each_none : {X : Type 0} (f : ℕ → List X) (ks : List ℕ) → ((k : ℕ) → f k ≡ []) → flat_map f ks ≡ []
+each_none f [] none = refl
+each_none f (k ∷ ks) none = rw (none k) (each_none f ks none)
+
 -- ---- what is found of the numbers
 
 found_more : {X : Type 0} (f : ℕ → Option X) (n : ℕ) → filter_map f (below (n + 1)) ≡ filter_map f (below n) ++ filter_map f (n ∷ [])

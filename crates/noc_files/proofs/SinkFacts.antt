@@ -1,14 +1,20 @@
 -- Bytes that a sink takes piece by piece.
-use Rattle.std.proofs.Common.{◌≡◌, ℕ, ◌+◌, ◌<◌, ◌-◌, ◌^◌, Bool, true, get_or, List, [], ◌∷◌, ◌++◌, length, take, drop, Option, Result, Ok, Err, sym, ap, subst, ◌∙◌, append_assoc, arith, length-append}
+use Rattle.std.proofs.Common.{◌≡◌, ℕ, ◌+◌, ◌<◌, ◌-◌, ◌^◌, Bool, true, get_or, List, [], ◌∷◌, ◌++◌, length, take, drop, Option, Some, None, Result, Ok, Err, sym, ap, subst, ◌∙◌, append_assoc, arith, length-append}
 use Rattle.std.proofs.lemmas.List.{drop_more, length-drop, take-append-drop, take-append-le, take_all}
 use Rattle.std.proofs.lemmas.Grind.{flat_map-append}
 use Rattle.std.proofs.lemmas.List.Concat.{flat_map-cons}
 use Rattle.std.proofs.Math.Seq.{take-add, take-append-add}
 use Rattle.std.proofs.KnownBytes.{Appends-nil, Appends-trans}
-use Rattle.std.specs.Io.KnownBytes.{Appends}
+use Rattle.std.specs.Io.KnownBytes.{Appends, Keeps}
 use Rattle.noc_files.specs.declared.writing.WriteFault.{WriteFault}
 use Rattle.noc_files.specs.Writing.{Puts}
 use Rattle.std.specs.List.{flat_map}
+
+Appends-keeps : (a b c : Option (List ℕ)) (bytes : List ℕ) → Appends a b bytes → Keeps b c → Appends a c bytes
+Appends-keeps None b c bytes p q = p
+Appends-keeps (Some x) None c bytes p q = absurd p
+Appends-keeps (Some x) (Some y) None bytes p q = absurd q
+Appends-keeps (Some x) (Some y) (Some z) bytes p q = q ∙ p
 
 -- one put more
 pub put_more : (a b c : Option (List ℕ)) (bytes : List ℕ) (at n : ℕ) → Appends a b (take at bytes) → Appends b c (take n (take (length bytes - at) (drop at bytes))) → Appends a c (take (at + n) bytes)
@@ -33,6 +39,13 @@ module _ {S : Type 0} (contents : S → Option (List ℕ)) (failed : S → Bool)
 
   pub puts_none : (a : S) (before : ℕ) → Puts contents failed a a before [] (Ok before)
   puts_none a before = (omega arith, Appends-nil (contents a))
+
+  -- a piece, after which the bytes stay as they were
+  pub puts_kept : (a m b : S) (before : ℕ) (p : List ℕ) (r : Result ℕ WriteFault) → Puts contents failed a m before p r → Keeps (contents m) (contents b) → (failed m ≡ true → failed b ≡ true) → Puts contents failed a b before p r
+  puts_kept a m b before p (Ok n) h keeps down = (h.0, Appends-keeps (contents a) (contents m) (contents b) p h.1 keeps)
+  puts_kept a m b before p (Err f) h keeps down =
+      let (k, short, written, took, failed_then) = h in
+      (k, short, written, Appends-keeps (contents a) (contents m) (contents b) (take k p) took keeps, down failed_then)
 
   -- a fault in the whole text
   pub puts_fault : (a b : S) (text : List ℕ) (f : WriteFault) → Puts contents failed a b 0 text (Err f) → (f.written < length text) × Appends (contents a) (contents b) (take f.written text) × (failed b ≡ true)

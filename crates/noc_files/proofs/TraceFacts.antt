@@ -1,6 +1,6 @@
 -- What a trace keeps of the cycle before, and the lines that follow from it.
-use Rattle.std.proofs.Common.{◌≡◌, ◌∙◌, ℕ, zero, suc, ◌+◌, ◌-◌, ◌*◌, ◌<◌, ◌≤◌, Bool, true, false, List, [], ◌∷◌, length, map, option_map, set, flat_map, Option, Some, None, refl, ap, ap₂, sym, subst, arith, add-one, get_or, replicate}
-use Rattle.std.specs.Prelude.{◌&&◌, ◌||◌, nat_lt, option_and_then, slice_get, unwrap_or, if◌then◌else◌}
+use Rattle.std.proofs.Common.{◌≡◌, ◌∙◌, ℕ, zero, suc, ◌+◌, ◌-◌, ◌*◌, ◌<◌, ◌≤◌, Bool, true, false, List, [], ◌∷◌, length, map, option_map, set, Option, Some, None, refl, ap, ap₂, sym, subst, arith, add-one, get_or, replicate}
+use Rattle.std.specs.Prelude.{◌||◌, nat_lt, option_and_then, slice_get, unwrap_or, if◌then◌else◌}
 use Rattle.std.specs.List.{list_any}
 use Rattle.std.specs.Option.{IfSome}
 use Rattle.std.proofs.lemmas.Bool.{le-ltb, lt-ltb}
@@ -17,7 +17,7 @@ use Rattle.noc_router.specs.Found.{empty_finding}
 use Rattle.noc_router.specs.declared.verdict.Finding.{Finding}
 use Rattle.noc_net.specs.Lockstep.{findings_before, findings_in_cycle, finding_in}
 use Rattle.noc_net.specs.Network.{Run, Setup, arriving, frozen_at, size}
-use Rattle.noc_files.specs.Channels.{is_input, lines_of_port, over_router, over_routers}
+use Rattle.noc_files.specs.Channels.{is_input, lines_of_port, over_router}
 use Rattle.noc_files.specs.Trace.{AreRows, cycle_text, has_below, is_same, kept_at, kept_line, line_if_new, nothing_found, over_traced, told, told_at, told_before, trace_line, traced_line}
 use Rattle.noc_files.specs.declared.trace.Traced.{Traced}
 use Rattle.noc_files.proofs.BelowFacts.{below_more, each_same}

@@ -1,6 +1,6 @@
 //! Lines on channels: router by router, port by port and channel by channel.
 
-ghost use Rattle.std.specs.Prelude.{◌≡◌, ◌+◌, ◌^◌, ◌<◌, ◌≤◌, ◌++◌, true, ℕ, List, length, IfOk};
+ghost use Rattle.std.specs.Prelude.{◌≡◌, ◌+◌, ◌^◌, ◌<◌, ◌≤◌, ◌++◌, [], true, ℕ, List, length, IfOk};
 ghost use Rattle.std.specs.List.{flat_map};
 ghost use Rattle.noc_topo.specs.Shape.{Grid, nodes, ports};
 ghost use Rattle.noc_topo.specs.Words.{below};
@@ -49,6 +49,14 @@ pub(crate) trait Lines {
     fn vcs(&self) -> usize
         ensures value { result ≡ vcs self.now }
         ensures few { result ≤ MAX_CHANNELS };
+
+    // Whether a look at a router shows that there are no lines on any of its channels.
+    fn is_silent(&self, router: usize) -> bool
+        requires { router < nodes (grid self.now) }
+        ensures { result ≡ true → (port vc : ℕ) → said self.now router port vc ≡ [] }
+    {
+        false
+    }
 
     // Puts the lines on a channel of an input port that is local or has a link.
     fn put_line<W: Sink>(
@@ -124,6 +132,9 @@ pub(crate) fn put_router<L: Lines, W: Sink>(
     ensures puts { Puts W.contents W.has_failed sink.old sink.new before (lines_of_router (L.grid lines.now) (L.listed lines.now) (L.vcs lines.now) router (L.said lines.now router)) result }
     ensures short { IfOk result (λ n. n ≤ before + LONGEST_ROUTER) }
 {
+    if lines.is_silent(router) {
+        return Ok(before);
+    }
     let mut written = before;
     for port in 0..lines.listed() {
         written = put_port(lines, router, port, sink, written)?;

@@ -1,7 +1,7 @@
 //! Where reports go.
 
 ghost use Rattle.std.specs.Prelude.{◌≡◌, ◌≤◌, ◌==◌, ◌&&◌, ◌||◌, ℕ, Bool, false, true, not, List, Option, length, take};
-ghost use Rattle.std.specs.Io.KnownBytes.{Appends};
+ghost use Rattle.std.specs.Io.KnownBytes.{Appends, Keeps};
 
 use std::io::Write;
 use std::marker::Model;
@@ -23,12 +23,17 @@ pub trait Sink {
         ensures fails { has_failed self.new ≡ (has_failed self.old || (result == 0 && not (length bytes.now == 0))) }
         ensures closed { has_failed self.old ≡ true → result ≡ 0 };
 
+    /// Hands on what it has taken and kept back, or fails.
+    fn hand_on(&mut self)
+        ensures bytes { Keeps (contents self.old) (contents self.new) }
+        ensures closed { has_failed self.old ≡ true → has_failed self.new ≡ true };
+
     /// Whether it has failed.
     fn failed(&self) -> bool
         ensures { result ≡ has_failed self.now };
 }
 
-/// The sink over a writer. It fails where `write` fails or takes nothing of some bytes.
+/// The sink over a writer. It fails where `write` or `flush` fails, or `write` takes nothing of some bytes.
 #[derive(Drop)]
 pub struct Out<W> {
     writer: W,
@@ -79,6 +84,12 @@ impl<W: Write> Sink for Out<W> {
                 self.failed = true;
                 0
             }
+        }
+    }
+
+    fn hand_on(&mut self) {
+        if !self.failed && self.writer.flush().is_err() {
+            self.failed = true;
         }
     }
 

@@ -1,6 +1,6 @@
 //! The trace: what each input channel did in each cycle of a span (docs/FORMATS.md).
 
-ghost use Rattle.std.specs.Prelude.{◌≡◌, ℕ, ◌+◌, ◌*◌, ◌-◌, ◌^◌, ◌<◌, ◌≤◌, ◌++◌, [], ◌∷◌, IfOk, IfSome, List, Option, Some, codes, decimal, if◌then◌else◌, length, map, option_and_then, replicate, slice_get, true};
+ghost use Rattle.std.specs.Prelude.{◌≡◌, ℕ, ◌+◌, ◌*◌, ◌-◌, ◌^◌, ◌<◌, ◌≤◌, ◌++◌, [], ◌∷◌, IfOk, IfSome, List, None, Option, Some, codes, decimal, if◌then◌else◌, length, map, option_and_then, replicate, slice_get, true};
 ghost use Rattle.std.specs.List.{flat_map};
 ghost use Rattle.noc_topo.specs.Shape.{nodes, ports};
 ghost use Rattle.noc_topo.specs.Words.{below};
@@ -88,6 +88,16 @@ impl Trace {
         told(self.traced.packet, found)
     }
 
+    // Whether nothing was told of any input channel of a router in the cycle before.
+    fn told_nothing(&self, router: usize) -> bool
+        ensures { result ≡ true → (index : ℕ) → option_and_then (told self.now.0.packet) (kept_at self.now.1 router index) ≡ None }
+    {
+        match self.rows.get(router) {
+            Some(row) => tells_nothing(self.traced.packet, row),
+            None => true,
+        }
+    }
+
     // Keeps what the routers found in the last cycle, in a trace of changes.
     fn keep(&mut self, network: &Network)
         requires some { 1 ≤ network.now.count }
@@ -162,6 +172,18 @@ fn told(packet: Option<u64>, finding: &Finding) -> Option<Finding>
     } else {
         Some(*finding)
     }
+}
+
+// Whether nothing is told of any of these channels.
+fn tells_nothing(packet: Option<u64>, findings: &[Finding]) -> bool
+    ensures { result ≡ true → (index : ℕ) → option_and_then (told packet) (slice_get findings.now index) ≡ None }
+{
+    for finding in findings {
+        if told(packet, finding).is_some() {
+            return false;
+        }
+    }
+    true
 }
 
 // Whether the same is told.
@@ -299,29 +321,6 @@ fn put_permitted<W: Sink>(
     put_all(sink, b"\n", listed)
 }
 
-// Puts the output channel of a finding, and what was permitted.
-fn put_way<W: Sink>(
-    network: &Network,
-    router: usize,
-    port: usize,
-    vc: usize,
-    finding: &Finding,
-    sink: &mut W,
-    before: u64,
-) -> Result<u64, WriteFault>
-    requires router { router < nodes network.now.net.relation.grid }
-    requires port { port < ports network.now.net.relation.grid }
-    requires vc { vc < network.now.net.relation.vcs }
-    requires room { before + 1540 < 2 ^ 64 }
-    ensures puts { Puts W.contents W.has_failed sink.old sink.new before (way_text network.now.net router port vc finding.now) result }
-    ensures short { IfOk result (λ n. n ≤ before + 1540) }
-{
-    let relation = network.relation();
-    let named = put_out(relation.shape(), finding.out, sink, before)?;
-    let set = permitted_to(network, router, port, vc, finding);
-    put_permitted(relation, set, sink, named)
-}
-
 // Puts what is told of an input channel.
 fn put_told<W: Sink>(
     network: &Network,
@@ -339,9 +338,11 @@ fn put_told<W: Sink>(
     ensures puts { Puts W.contents W.has_failed sink.old sink.new before (told_text network.now.net router port vc finding.now) result }
     ensures short { IfOk result (λ n. n ≤ before + 1602) }
 {
-    let shape = network.relation().shape();
-    let judged = put_verdict(shape, port, vc, finding, sink, before)?;
-    put_way(network, router, port, vc, finding, sink, judged)
+    let relation = network.relation();
+    let judged = put_verdict(relation.shape(), port, vc, finding, sink, before)?;
+    let named = put_out(relation.shape(), finding.out, sink, judged)?;
+    let set = permitted_to(network, router, port, vc, finding);
+    put_permitted(relation, set, sink, named)
 }
 
 // Puts a cycle and a router.
@@ -415,6 +416,12 @@ impl<'a> Lines for CycleLines<'a> {
         self.network.relation().vcs()
     }
 
+    fn is_silent(&self, router: usize) -> bool {
+        let trace = self.trace;
+        trace.told_nothing(router)
+            && tells_nothing(trace.traced.packet, self.network.findings(router))
+    }
+
     fn put_line<W: Sink>(
         &self,
         router: usize,
@@ -444,7 +451,7 @@ impl<'a> Lines for CycleLines<'a> {
 }
 
 // Puts the lines of a trace in the last cycle of a network.
-fn put_cycle<W: Sink>(
+fn put_lines<W: Sink>(
     network: &Network,
     trace: &Trace,
     cycle: u64,
@@ -466,6 +473,25 @@ fn put_cycle<W: Sink>(
         Some(router) => put_router(&lines, router, sink, before),
         None => put_routers(&lines, sink, before),
     }
+}
+
+// .. and hands them on, so that a reader has each cycle as soon as it has run.
+fn put_cycle<W: Sink>(
+    network: &Network,
+    trace: &Trace,
+    cycle: u64,
+    sink: &mut W,
+    before: u64,
+) -> Result<u64, WriteFault>
+    requires last { network.now.count ≡ cycle + 1 }
+    requires router { IfSome trace.now.0.router (λ router. router < nodes network.now.net.relation.grid) }
+    requires room { before + LONGEST_LISTING < 2 ^ 64 }
+    ensures puts { Puts W.contents W.has_failed sink.old sink.new before (over_traced network.now.net.relation trace.now.0.router (kept_line network.now trace.now.0 trace.now.1 cycle)) result }
+    ensures short { IfOk result (λ n. n ≤ before + LONGEST_LISTING) }
+{
+    let put = put_lines(network, trace, cycle, sink, before);
+    sink.hand_on();
+    put
 }
 
 // Runs a network for so many cycles more, and puts the lines of a trace in each.

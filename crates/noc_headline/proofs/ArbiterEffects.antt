@@ -1,6 +1,6 @@
 -- How the pointers of the arbiters go on.
 use Rattle.std.proofs.Common.{◌≡◌, ℕ, zero, suc, ◌+◌, ◌%◌, ◌<◌, Bool, true, false, List, [], ◌∷◌, length, get_or, replicate, Option, Some, None, refl, ap, sym, subst, ◌∙◌, arith, inl, inr}
-use Rattle.std.specs.Prelude.{◌⊎◌, ◌||◌, if◌then◌else◌}
+use Rattle.std.specs.Prelude.{◌⊎◌, if◌then◌else◌}
 use Rattle.std.proofs.lemmas.Bool.{false≢true, or_cases, or_left, or_right}
 use Rattle.std.proofs.lemmas.List.{get_or-replicate, length-replicate}
 use Rattle.std.proofs.lemmas.Option.{none-some}
@@ -11,10 +11,9 @@ use Rattle.noc_alloc.specs.Arbiter.{Turn, advanced, pointers_of, turn_at, turned
 use Rattle.noc_alloc.specs.Allocation.{has_won, turned_by, winner_of, winning_pick}
 use Rattle.noc_alloc.proofs.WordLemmas.{is_some_of-some, is_some_of-true}
 use Rattle.noc_router.specs.Verdict.{Turns, arbiters_after, opening_arbiters, ready_of}
-use Rattle.noc_model.specs.Network.{Setup, State, size, arbiters_at, after_verdicts, frozen, frozen_at, network_cycle, opening_state, round_at, stands_at, state_at}
-use Rattle.noc_model.specs.Good.{IsGoodSetup}
-use Rattle.noc_ownership.proofs.OneBack.{arbiters-frozen, arbiters-state}
-use Rattle.noc_views.proofs.Ordered.{IsGood, IsOrderedFrozen}
+use Rattle.noc_model.specs.Network.{Setup, State, size, arbiters_at, after_verdicts, frozen_at, network_cycle, opening_state, round_at, stands_at, state_at}
+use Rattle.noc_model.proofs.OneBack.{arbiters-frozen, arbiters-state}
+use Rattle.noc_model.proofs.Ordered.{IsGood, IsOrderedFrozen}
 use Rattle.noc_headline.specs.Effects.{IsTurned}
 use Rattle.noc_headline.specs.Headline.{IsPick, WinsChannel, WinsSwitch}
 use Rattle.noc_headline.proofs.RoundLemmas.{granted-wins, is-picked, is-won, picked-is, wins-granted, won-is}

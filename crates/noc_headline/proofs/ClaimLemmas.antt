@@ -16,11 +16,11 @@ use Rattle.noc_router.proofs.ChannelLemmas.{find-below, find-below-none}
 use Rattle.noc_router.proofs.FindLemmas.{find-some}
 use Rattle.noc_headline.proofs.SearchLemmas.{find-least_below, find-absent}
 use Rattle.noc_model.specs.Network.{Setup, State, size, packet_at, leaving, owner_of, next_channel, has_channel, has_credit_in, credit_of, is_idle, ask, claim_of, claim_with, verdict_in, verdict_at, count_in, round_at, end_of, leads_from}
-use Rattle.noc_ownership.proofs.MoveLemmas.{IsNext, next-is, leads-end}
-use Rattle.noc_ownership.proofs.NextLemmas.{next-from}
-use Rattle.noc_ownership.proofs.OwnedLemmas.{owner-has, owner-is}
-use Rattle.noc_views.proofs.Ordered.{IsGood, IsOrderedFrozen}
-use Rattle.noc_views.proofs.PlaceLemmas.{IsAt, IsFrom, input-at, leaving-from, begins-at, mod-below, link-from, eject-from}
+use Rattle.noc_model.proofs.MoveLemmas.{IsNext, next-is, leads-end}
+use Rattle.noc_model.proofs.NextLemmas.{next-from}
+use Rattle.noc_model.proofs.OwnedLemmas.{owner-has, owner-is}
+use Rattle.noc_model.proofs.Ordered.{IsGood, IsOrderedFrozen}
+use Rattle.noc_model.proofs.PlaceViews.{IsAt, IsFrom, input-at, leaving-from, begins-at, mod-below, link-from, eject-from}
 use Rattle.noc_headline.specs.Headline.{IsRouted, HasCredit, GoesOnBy, IsWaiting, MayTake, AsksForChannel}
 
 module _ (net : Setup) (good : IsGood net) (F : State) (x : IsOrderedFrozen net F) (r : ℕ) where

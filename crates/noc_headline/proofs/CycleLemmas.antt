@@ -4,10 +4,10 @@ use Rattle.noc_topo.specs.Words.{Has}
 use Rattle.noc_route.specs.Channel.{Channel}
 use Rattle.noc_model.specs.Network.{Setup, all_inputs, frozen_at}
 use Rattle.noc_model.specs.Good.{IsGoodSetup}
-use Rattle.noc_ownership.proofs.Facts.{out-at, worm_order-at, worm_order-frozen_at, credit-at, frozen_credit-at}
-use Rattle.noc_views.proofs.OrderedStates.{ordered-frozen}
-use Rattle.noc_views.proofs.PlaceLemmas.{input-at, arriving-at, same-place}
-use Rattle.noc_views.proofs.Theorem.{good-network}
+use Rattle.noc_model.proofs.Facts.{out-at, worm_order-at, worm_order-frozen_at, credit-at, frozen_credit-at}
+use Rattle.noc_model.proofs.OrderedStates.{ordered-frozen}
+use Rattle.noc_model.proofs.PlaceViews.{input-at, arriving-at, same-place}
+use Rattle.noc_model.proofs.Theorem.{good-network}
 use Rattle.noc_headline.specs.Headline.{IsInputOf, IsRightCycle}
 use Rattle.noc_headline.proofs.SaysLemmas.{verdict-says}
 

@@ -8,16 +8,16 @@ use Rattle.noc_router.specs.Verdict.{is_granted}
 use Rattle.noc_router.specs.declared.verdict.Verdict.{Verdict}
 use Rattle.noc_router.specs.declared.verdict.Verdict.TheVariants.{Granted, Moved}
 use Rattle.noc_model.specs.Network.{Setup, State, Located, Place, On, In, Out, leaving, owner_of, next_channel, place_of, after_verdicts, all_inputs, granted_pair, granted_at, is_released, verdict_in, end_of, is_in, gone_to}
-use Rattle.noc_ownership.proofs.BufferLemmas.{same_channel-refl}
-use Rattle.noc_ownership.proofs.GrantLemmas.{is_granted-true, once-after_verdicts}
-use Rattle.noc_ownership.proofs.PathLemmas.{IsEject}
-use Rattle.noc_ownership.proofs.Members.{Has-append, Has-filter, Has-filter_map, Has-filter_mapped, Has-right, find-some}
-use Rattle.noc_ownership.proofs.MoveLemmas.{IsFirst, IsMoving, IsStaying, moved-or-not, first-is, next-no-eject, placed-in}
-use Rattle.noc_ownership.proofs.OwnedLemmas.{owner-has, owner-is, idle-none, once-same}
-use Rattle.noc_ownership.proofs.PlaceLemmas.{IsValid, flit-there}
-use Rattle.noc_ownership.proofs.StateWords.{IsPlaced}
-use Rattle.noc_views.proofs.Ordered.{IsGood, IsOrderedFrozen}
-use Rattle.noc_views.proofs.PlaceLemmas.{IsAt, input-at, arriving-at, arrives-in, begins-at}
+use Rattle.noc_model.proofs.BufferLemmas.{same_channel-refl}
+use Rattle.noc_model.proofs.GrantLemmas.{is_granted-true, once-after_verdicts}
+use Rattle.noc_model.proofs.PathLemmas.{IsEject}
+use Rattle.noc_model.proofs.Members.{Has-append, Has-filter, Has-filter_map, Has-filter_mapped, Has-right, find-some}
+use Rattle.noc_model.proofs.MoveLemmas.{IsFirst, IsMoving, IsStaying, moved-or-not, first-is, next-no-eject, placed-in}
+use Rattle.noc_model.proofs.OwnedLemmas.{owner-has, owner-is, idle-none, once-same}
+use Rattle.noc_model.proofs.PlaceLemmas.{IsValid, flit-there}
+use Rattle.noc_model.proofs.StateWords.{IsPlaced}
+use Rattle.noc_model.proofs.Ordered.{IsGood, IsOrderedFrozen}
+use Rattle.noc_model.proofs.PlaceViews.{IsAt, input-at, arriving-at, arrives-in, begins-at}
 use Rattle.noc_headline.specs.Effects.{IsGrantedTo, IsSentOn}
 use Rattle.noc_headline.specs.Headline.{IsInputOf, Owns, AsksForChannel, CanSend, WinsChannel}
 use Rattle.noc_headline.proofs.ClaimLemmas.{ask-some, goes-next}

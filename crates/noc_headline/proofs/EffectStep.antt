@@ -2,12 +2,12 @@
 use Rattle.std.proofs.Common.{◌≡◌, ℕ, suc, ◌+◌, ◌<◌, refl, ap, sym, subst, ◌∙◌, arith}
 use Rattle.noc_model.specs.Network.{Setup, after_credits, after_injection, after_landing, arbiters_at, frozen, has_channel, owner_of, place_of, size, state_at, frozen_at, network_cycle}
 use Rattle.noc_model.specs.Good.{IsGoodSetup}
-use Rattle.noc_views.proofs.OrderedStates.{ordered-frozen}
-use Rattle.noc_views.proofs.Theorem.{good-network}
+use Rattle.noc_model.proofs.OrderedStates.{ordered-frozen}
+use Rattle.noc_model.proofs.Theorem.{good-network}
 use Rattle.noc_headline.specs.Effects.{IsRightStep, IsTurned}
 use Rattle.noc_headline.specs.Headline.{IsInputOf, IsPick, WinsChannel, WinsSwitch}
 use Rattle.noc_headline.proofs.RoutedLemmas.{routed-after, credit-after}
-use Rattle.noc_views.proofs.PlaceLemmas.{arriving-at}
+use Rattle.noc_model.proofs.PlaceViews.{arriving-at}
 use Rattle.noc_topo.specs.Words.{Has}
 use Rattle.noc_route.specs.Channel.{Channel}
 use Rattle.noc_headline.proofs.EffectLemmas.{granted-to, to-granted, moved-sent, sent-moved, sent-goes}
@@ -15,8 +15,8 @@ use Rattle.noc_headline.proofs.ReleaseLemmas.{kept-by, released-by}
 use Rattle.noc_headline.proofs.StartLemmas.{starts}
 use Rattle.noc_headline.proofs.ArbiterEffects.{channel-turns, input-turns, output-turns}
 use Rattle.noc_headline.proofs.SourceEffects.{by-injected, by-owned, injected-by, owned-by}
-use Rattle.noc_ownership.proofs.OneBack.{arbiters-frozen}
-use Rattle.noc_ownership.proofs.RoutedVerdicts.{has-channel}
+use Rattle.noc_model.proofs.OneBack.{arbiters-frozen}
+use Rattle.noc_model.proofs.RoutedVerdicts.{has-channel}
 use Rattle.std.proofs.lemmas.Bool.{false≢true}
 use Rattle.noc_topo.specs.Shape.{ports}
 use Rattle.noc_alloc.specs.Arbiter.{turn_at}

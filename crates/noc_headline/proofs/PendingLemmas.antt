@@ -11,15 +11,15 @@ use Rattle.noc_router.specs.declared.verdict.Verdict.TheVariants.{Empty, Routed,
 use Rattle.noc_model.specs.Network.{Setup, State, Injection, Located, Place, Source, On, In, Out, after_landing, after_credits, injections, all_inputs, arrival_in, out_cycle, packet_at, tail_place, state_at, frozen_at, verdict_in}
 use Rattle.noc_model.specs.Progress.{events, is_flying, is_pending}
 use Rattle.noc_model.specs.Good.{IsGoodSetup}
-use Rattle.noc_ownership.proofs.Facts.{mid_at, whole-at}
-use Rattle.noc_ownership.proofs.Members.{list_any-from}
-use Rattle.noc_ownership.proofs.OpeningLemmas.{below-has}
-use Rattle.noc_ownership.proofs.PlaceLemmas.{place-of-flit}
-use Rattle.noc_views.proofs.LastEvent.{flying, some-counted, some-listed}
-use Rattle.noc_views.proofs.OrderedStates.{ordered-frozen}
-use Rattle.noc_views.proofs.PlaceLemmas.{input-at}
-use Rattle.noc_views.proofs.Theorem.{good-network}
-use Rattle.noc_progress.proofs.Theorems.{each-pending}
+use Rattle.noc_model.proofs.Facts.{mid_at, whole-at}
+use Rattle.noc_model.proofs.Members.{list_any-from}
+use Rattle.noc_model.proofs.OpeningLemmas.{below-has}
+use Rattle.noc_model.proofs.PlaceLemmas.{place-of-flit}
+use Rattle.noc_model.proofs.LastEvent.{flying, some-counted, some-listed}
+use Rattle.noc_model.proofs.OrderedStates.{ordered-frozen}
+use Rattle.noc_model.proofs.PlaceViews.{input-at}
+use Rattle.noc_model.proofs.Theorem.{good-network}
+use Rattle.noc_model.proofs.Theorems.{each-pending}
 use Rattle.noc_headline.specs.Headline.{Says}
 use Rattle.noc_headline.specs.Pending.{IsPendingIn, HappensIn, lands, credit, injects, turns}
 use Rattle.noc_headline.proofs.SaysLemmas.{verdict-says}

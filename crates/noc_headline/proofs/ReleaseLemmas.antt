@@ -7,15 +7,15 @@ use Rattle.noc_topo.specs.Words.{Has}
 use Rattle.noc_route.specs.Channel.{Channel, Link, Inject, Eject, same_channel}
 use Rattle.noc_router.specs.declared.verdict.Verdict.TheVariants.{Moved}
 use Rattle.noc_model.specs.Network.{Setup, State, In, owner_of, owned_by, next_channel, all_inputs, granted_pair, is_released, tail_leaves, tail_leaves_to, verdict_in, after_verdicts}
-use Rattle.noc_ownership.proofs.BufferLemmas.{same_channel-refl, same_channel-true}
-use Rattle.noc_ownership.proofs.GrantLemmas.{granted-is, once-after_verdicts}
-use Rattle.noc_ownership.proofs.Members.{Has-append, Has-filter, Has-filter_map, Has-kept, Has-left, list_any-from, list_any-has}
-use Rattle.noc_ownership.proofs.OwnedLemmas.{has-of, of-has, owner-has, owner-is}
-use Rattle.noc_ownership.proofs.PlaceLemmas.{IsValid}
-use Rattle.noc_ownership.proofs.VerdictPhase.{leaves-tail, tail-of}
-use Rattle.noc_ownership.proofs.WormRecord.{last_of, valid-last}
-use Rattle.noc_views.proofs.Ordered.{IsGood, IsOrderedFrozen}
-use Rattle.noc_views.proofs.SourceLemmas.{same-owner}
+use Rattle.noc_model.proofs.BufferLemmas.{same_channel-refl, same_channel-true}
+use Rattle.noc_model.proofs.GrantLemmas.{granted-is, once-after_verdicts}
+use Rattle.noc_model.proofs.Members.{Has-append, Has-filter, Has-filter_map, Has-kept, Has-left, list_any-from, list_any-has}
+use Rattle.noc_model.proofs.OwnedLemmas.{has-of, of-has, owner-has, owner-is}
+use Rattle.noc_model.proofs.PlaceLemmas.{IsValid}
+use Rattle.noc_model.proofs.VerdictPhase.{leaves-tail, tail-of}
+use Rattle.noc_model.proofs.WormRecord.{last_of, valid-last}
+use Rattle.noc_model.proofs.Ordered.{IsGood, IsOrderedFrozen}
+use Rattle.noc_model.proofs.SourceLemmas.{same-owner}
 use Rattle.noc_headline.specs.Effects.{IsLeftBy, IsSentOn}
 use Rattle.noc_headline.proofs.EffectLemmas.{First, first-sent, owns-placed, sent-first}
 

@@ -14,8 +14,8 @@ use Rattle.noc_alloc.proofs.WordLemmas.{is_some_of-true, is_some_of-some}
 use Rattle.noc_route.specs.Channel.{Channel}
 use Rattle.noc_router.specs.Verdict.{Claim, Unrouted, Waits, Holds, Stand, ask_of, asks_of, ready_of, ready_port}
 use Rattle.noc_model.specs.Network.{Setup, State, size, arriving, leaving, has_credit_in, claim_of, count_in, round_at, stand_of, stands_at, arbiters_at}
-use Rattle.noc_views.proofs.Ordered.{IsGood, IsOrderedFrozen}
-use Rattle.noc_views.proofs.PlaceLemmas.{IsAt, arriving-at}
+use Rattle.noc_model.proofs.Ordered.{IsGood, IsOrderedFrozen}
+use Rattle.noc_model.proofs.PlaceViews.{IsAt, arriving-at}
 use Rattle.noc_headline.specs.Headline.{GoesOnBy, AsksForChannel, CanSend, HoldsAt, WinsChannel, IsPick, PickGoesThrough, WinsSwitch}
 use Rattle.noc_headline.proofs.ClaimLemmas.{Case, off, all_taken, asks, goes, case-of, claim-waits, claim-goes, ask-some, credit-true, credit-from}
 use Rattle.noc_headline.proofs.TurnLemmas.{turn-first, first-turn}

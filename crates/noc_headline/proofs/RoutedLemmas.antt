@@ -8,14 +8,14 @@ use Rattle.noc_router.specs.Verdict.{is_routed, is_moved}
 use Rattle.noc_router.specs.declared.verdict.Verdict.{Verdict}
 use Rattle.noc_router.specs.declared.verdict.Verdict.TheVariants.{Routed, Moved}
 use Rattle.noc_model.specs.Network.{Setup, State, In, all_inputs, tail_leaves, verdict_in, after_verdicts}
-use Rattle.noc_ownership.proofs.BufferLemmas.{is_moved-true}
-use Rattle.noc_ownership.proofs.Members.{Has-append, Has-filter, Has-kept, Has-left, Has-right}
-use Rattle.noc_ownership.proofs.OwnedLemmas.{owner-has, owner-is}
-use Rattle.noc_ownership.proofs.VerdictPhase.{tail-of}
-use Rattle.noc_ownership.proofs.WormRecord.{last_of}
-use Rattle.noc_ownership.proofs.RoutedVerdicts.{has-channel, channel-has, is_routed-true}
-use Rattle.noc_views.proofs.Ordered.{IsGood, IsOrderedFrozen}
-use Rattle.noc_views.proofs.PlaceLemmas.{IsAt, arrives-in}
+use Rattle.noc_model.proofs.BufferLemmas.{is_moved-true}
+use Rattle.noc_model.proofs.Members.{Has-append, Has-filter, Has-kept, Has-left, Has-right}
+use Rattle.noc_model.proofs.OwnedLemmas.{owner-has, owner-is}
+use Rattle.noc_model.proofs.VerdictPhase.{tail-of}
+use Rattle.noc_model.proofs.WormRecord.{last_of}
+use Rattle.noc_model.proofs.RoutedVerdicts.{has-channel, channel-has, is_routed-true}
+use Rattle.noc_model.proofs.Ordered.{IsGood, IsOrderedFrozen}
+use Rattle.noc_model.proofs.PlaceViews.{IsAt, arrives-in}
 use Rattle.noc_headline.specs.Effects.{IsTailSent}
 use Rattle.noc_headline.specs.Headline.{IsRouted, Owns, Says}
 use Rattle.noc_headline.proofs.EffectLemmas.{first-sent, owns-placed, sent-first}

@@ -10,8 +10,8 @@ use Rattle.noc_router.specs.Verdict.{Claim, Unrouted, Waits, Holds, verdict_of}
 use Rattle.noc_router.specs.declared.verdict.Verdict.{Verdict}
 use Rattle.noc_router.specs.declared.verdict.Verdict.TheVariants.{Empty, Routed, Granted, Moved, NoFlit, NoIdleChannel, LostChannel, NoCredit, LostInput, LostSwitch}
 use Rattle.noc_model.specs.Network.{Setup, State, leaving, has_credit_in, claim_of, count_in, round_at, verdict_in}
-use Rattle.noc_views.proofs.Ordered.{IsGood, IsOrderedFrozen}
-use Rattle.noc_views.proofs.PlaceLemmas.{IsAt, port-below}
+use Rattle.noc_model.proofs.Ordered.{IsGood, IsOrderedFrozen}
+use Rattle.noc_model.proofs.PlaceViews.{IsAt, port-below}
 use Rattle.noc_headline.specs.Headline.{HasFlit, GoesOnBy, AsksForChannel, CanSend, Says, IsPick}
 use Rattle.noc_headline.proofs.ClaimLemmas.{Case, off, all_taken, asks, goes, case-of, claim-off, claim-waits, claim-goes, ask-none, credit-true, credit-from, verdict-at}
 use Rattle.noc_headline.proofs.RoundLemmas.{asks-claim, sends-claim, granted-wins, wins-granted, picked-is, is-picked, won-is, is-won}
@@ -106,7 +106,7 @@ module _ (net : Setup) (good : IsGood net) (F : State) (x : IsOrderedFrozen net 
       let held = x.whole.routed.mid.only c s.0.routed in
       value (Waits None) (nat_lt 0 (count_in net F c))
       (claim-waits net good F x r i c at s.0
-      ∙ ap Waits (ask-none net good F x r held.0 c (Rattle.noc_ownership.proofs.OwnedLemmas.owner-is net F c held.0 x.whole.sound.worm.once held.1.0) s.1)) refl
+      ∙ ap Waits (ask-none net good F x r held.0 c (Rattle.noc_model.proofs.OwnedLemmas.owner-is net F c held.0 x.whole.sound.worm.once held.1.0) s.1)) refl
   back LostChannel s = granted s.0 s.1 false (none-of _ i (λ g. s.2 (granted-wins net good F x r l i s.0 s.1.may.exists g)))
   back Granted s = granted s.0 s.1 true (is_some_of-some _ i (wins-granted net good F x r l i s.0 s.1.may.exists s.2))
   back NoFlit s = value (Holds s.0 (has_credit_in net F (leaving net r s.0))) false (claim-goes net good F x r i c at s.0 s.1) (none s.2) ∙ no_flits s.0 (has_credit_in net F (leaving net r s.0))

@@ -1,32 +1,32 @@
 -- What the sources of a network inject, and who owns what before the verdicts.
-use Rattle.std.proofs.Common.{◌≡◌, ◌≢◌, ℕ, ◌+◌, ◌<◌, ◌≤◌, Bool, true, false, List, [], ◌∷◌, ◌++◌, map, length, Option, Some, None, refl, ap, sym, subst, ◌∙◌, arith, inl, inr}
-use Rattle.std.specs.Prelude.{◌⊎◌, ◌&&◌, filter, find, filter_map, not, nat_eq, nat_le, nat_lt, option_map, option_and_then, is_none, IsTrue, if◌then◌else◌}
+use Rattle.std.proofs.Common.{◌≡◌, ◌≢◌, ℕ, ◌+◌, ◌<◌, ◌≤◌, Bool, true, false, List, ◌++◌, map, length, Option, Some, None, refl, ap, sym, subst, ◌∙◌, arith, inl, inr}
+use Rattle.std.specs.Prelude.{◌⊎◌, ◌&&◌, filter, find, not, nat_eq, nat_le, nat_lt, option_map, option_and_then, is_none, IsTrue, if◌then◌else◌}
 use Rattle.std.specs.List.{list_any}
 use Rattle.std.proofs.lemmas.Bool.{false≢true, and_from, and_parts, cases_eq, cases_lt, cases_order, eq-eqb, leb-true, le-leb, lt-ltb, ltb-true}
 use Rattle.std.proofs.lemmas.Option.{none-some, same_Some}
-use Rattle.noc_topo.specs.Words.{Has, below, least_by}
+use Rattle.noc_topo.specs.Words.{Has, below}
 use Rattle.noc_topo.specs.Shape.{nodes}
 use Rattle.noc_route.specs.Channel.{Channel, Link, Inject, Eject, is_link, same_channel}
 use Rattle.noc_model.specs.Good.{IsGoodSetup}
-use Rattle.noc_model.specs.Network.{Setup, State, Injection, Located, Place, Source, On, In, Out, after_credits, after_injection, after_landing, beginning, count_in, count_on, first_waiting, flits_of, frozen, frozen_at, injection_at, injection_with, injections, is_at_source, is_freed, is_idle, is_injection_of, is_on, is_past, landed_place, owned_by, owner_of, packet_at, place_of, state_at, tail_place}
-use Rattle.noc_ownership.proofs.BuiltLemmas.{good-built, good-wired}
-use Rattle.noc_ownership.proofs.BuiltRecord.{IsBuilt}
-use Rattle.noc_ownership.proofs.BufferLemmas.{find-passes}
-use Rattle.noc_ownership.proofs.Facts.{mid_at, whole-at, whole-frozen_at, whole-mid_at, worm_order-at}
-use Rattle.noc_ownership.proofs.FirstOfNode.{Precedes, waiting-first}
-use Rattle.noc_ownership.proofs.GrantLemmas.{Has-below, IsWired}
-use Rattle.noc_ownership.proofs.InjectionPhase.{IsInjected, apart-same, new-entry, two-injects}
-use Rattle.noc_ownership.proofs.InjectionState.{entries-apart, entries-are, entries-move, injection_of-is, waiting-is}
-use Rattle.noc_ownership.proofs.Members.{Has-append, Has-filter, Has-filter_map, Has-filter_mapped, Has-kept, Has-left, Has-mapped, Has-right, find-fails, find-has, list_any-from}
-use Rattle.noc_ownership.proofs.OpeningLemmas.{below-has}
-use Rattle.noc_ownership.proofs.OptionLemmas.{and_then-some, cond-some, is_none-none}
-use Rattle.noc_ownership.proofs.OwnedLemmas.{has-of, idle-none, of-has, owner-has, owner-is}
-use Rattle.noc_ownership.proofs.PlaceLemmas.{IsValid, flit-there, place-stepped}
-use Rattle.noc_ownership.proofs.RoomLemmas.{landed-count}
-use Rattle.noc_ownership.proofs.Sound.{IsSoundFrozen, IsSoundState}
-use Rattle.noc_ownership.proofs.WormRecord.{last_of, source-landed, valid-last}
-use Rattle.noc_progress.proofs.HasLemmas.{least-some}
-use Rattle.noc_progress.proofs.WormLemmas.{filter-none}
+use Rattle.noc_model.specs.Network.{Setup, State, Injection, Located, Place, Source, On, In, Out, after_credits, after_injection, after_landing, count_in, first_waiting, flits_of, frozen, frozen_at, injection_at, injection_with, injections, is_at_source, is_freed, is_idle, is_injection_of, is_on, is_past, landed_place, owned_by, owner_of, packet_at, place_of, state_at, tail_place}
+use Rattle.noc_model.proofs.BuiltLemmas.{good-built, good-wired}
+use Rattle.noc_model.proofs.BuiltRecord.{IsBuilt}
+use Rattle.noc_model.proofs.BufferLemmas.{find-passes}
+use Rattle.noc_model.proofs.Facts.{mid_at, whole-at, whole-frozen_at, whole-mid_at, worm_order-at}
+use Rattle.noc_model.proofs.FirstOfNode.{Precedes, waiting-first}
+use Rattle.noc_model.proofs.GrantLemmas.{Has-below, IsWired}
+use Rattle.noc_model.proofs.InjectionPhase.{IsInjected, apart-same, new-entry, two-injects}
+use Rattle.noc_model.proofs.InjectionState.{entries-apart, entries-are, entries-move, injection_of-is, waiting-is}
+use Rattle.noc_model.proofs.Members.{Has-append, Has-filter, Has-filter_map, Has-filter_mapped, Has-kept, Has-left, Has-mapped, Has-right, find-fails, find-has, list_any-from}
+use Rattle.noc_model.proofs.OpeningLemmas.{below-has}
+use Rattle.noc_model.proofs.OptionLemmas.{and_then-some, cond-some, is_none-none}
+use Rattle.noc_model.proofs.OwnedLemmas.{has-of, idle-none, of-has, owner-has, owner-is}
+use Rattle.noc_model.proofs.PlaceLemmas.{IsValid, flit-there, place-stepped}
+use Rattle.noc_model.proofs.RoomLemmas.{landed-count}
+use Rattle.noc_model.proofs.Sound.{IsSoundFrozen, IsSoundState}
+use Rattle.noc_model.proofs.WormRecord.{last_of, source-landed, valid-last}
+use Rattle.noc_model.proofs.HasLemmas.{least-some}
+use Rattle.noc_model.proofs.WormLemmas.{filter-none}
 use Rattle.noc_headline.specs.Effects.{Begins, GoesOnAt, HasPassed, IsFirstOfNode, IsNextFlit, entry_of}
 use Rattle.noc_headline.proofs.SearchLemmas.{find-absent, find-least_below}
 

@@ -6,14 +6,14 @@ use Rattle.noc_topo.specs.Words.{Has}
 use Rattle.noc_route.specs.Channel.{Channel, Inject}
 use Rattle.noc_model.specs.Network.{Setup, State, Injection, Located, Source, In, landed_place, after_landing, after_credits, after_injection, frozen, injections, packet_at, place_of, state_at, frozen_at}
 use Rattle.noc_model.specs.Good.{IsGoodSetup}
-use Rattle.noc_ownership.proofs.BuiltLemmas.{good-built}
-use Rattle.noc_ownership.proofs.BuiltRecord.{IsBuilt}
-use Rattle.noc_ownership.proofs.Facts.{mid_at, whole-at, whole-mid_at}
-use Rattle.noc_ownership.proofs.InjectionPhase.{IsInjected}
-use Rattle.noc_ownership.proofs.InjectionState.{entries-apart, entries-are, entries-move}
-use Rattle.noc_ownership.proofs.PlaceLemmas.{IsValid, place-stepped}
-use Rattle.noc_ownership.proofs.Sound.{IsSoundFrozen}
-use Rattle.noc_ownership.proofs.WormRecord.{source-landed}
+use Rattle.noc_model.proofs.BuiltLemmas.{good-built}
+use Rattle.noc_model.proofs.BuiltRecord.{IsBuilt}
+use Rattle.noc_model.proofs.Facts.{mid_at, whole-at, whole-mid_at}
+use Rattle.noc_model.proofs.InjectionPhase.{IsInjected}
+use Rattle.noc_model.proofs.InjectionState.{entries-apart, entries-are, entries-move}
+use Rattle.noc_model.proofs.PlaceLemmas.{IsValid, place-stepped}
+use Rattle.noc_model.proofs.Sound.{IsSoundFrozen}
+use Rattle.noc_model.proofs.WormRecord.{source-landed}
 
 module _ (net : Setup) (good : IsGoodSetup net) (n : ℕ) where
   abbrev S : State

@@ -1,9 +1,9 @@
 -- Every order of events shows the run of the network.
-use Rattle.std.proofs.Common.{◌≡◌, ℕ, zero, suc, ◌+◌, ◌-◌, ◌<◌, ◌≤◌, Bool, true, false, not, ◌&&◌, List, [], ◌∷◌, map, length, get_or, Some, is_some, refl, ap, sym, ◌∙◌, inl, inr, subst, arith}
+use Rattle.std.proofs.Common.{◌≡◌, ℕ, zero, suc, ◌+◌, ◌-◌, ◌<◌, ◌≤◌, Bool, true, false, not, ◌&&◌, List, [], ◌∷◌, map, length, get_or, Option, Some, None, is_some, refl, ap, sym, ◌∙◌, inl, inr, subst, arith}
 use Rattle.std.proofs.lemmas.List.{length-map}
-use Rattle.std.specs.Prelude.{◌⊎◌, option_map, slice_get}
+use Rattle.std.specs.Prelude.{◌⊎◌, if◌then◌else◌, option_and_then, option_map, slice_get}
 use Rattle.std.specs.List.{range_with_len}
-use Rattle.std.proofs.lemmas.Option.{get_or_from_slice_get, slice_get_within}
+use Rattle.std.proofs.lemmas.Option.{get_or_from_slice_get, same_Some, slice_get_within}
 use Rattle.noc_topo.specs.Shape.{nodes, neighbour}
 use Rattle.noc_topo.proofs.LinkLemmas.{link_back, nodes-some}
 use Rattle.noc_topo.proofs.WordLemmas.{get_or-tabulate, length-tabulate}
@@ -20,7 +20,7 @@ use Rattle.noc_model.specs.declared.limits.TheConstants.{CYCLE_LIMIT}
 use Rattle.noc_model.specs.Core.{CoreState, Post, after_events, are_between, has_beat, opening_core, post_at, wire_of}
 use Rattle.noc_model.specs.Halves.{beat_at}
 use Rattle.noc_model.specs.InStep.{HoldsCycles, IsInStep, IsPostInStep, KeepsStep, beats_of_cycles, cycle_put, cycle_taken, lockstep_core}
-use Rattle.noc_model.specs.Lockstep.{lockstep_at, view_at, view_in, findings_in_cycle, finding_in, seen_flits, site_at}
+use Rattle.noc_model.specs.Lockstep.{lockstep_at, view_at, view_in, findings_in_cycle, finding_in, is_present, seen_flits, site_at}
 use Rattle.noc_model.specs.Network.{Setup, Run, Located, size, packet_at, arriving, buffer_of, owner_of, state_at, frozen_at, claim_of}
 use Rattle.noc_model.specs.Order.{decides, happening, puts, takes}
 use Rattle.noc_model.specs.Worm.{IsRun, IsWormOrder}
@@ -29,20 +29,32 @@ use Rattle.noc_model.proofs.OrderLemmas.{here_between, keeps_step, opening_in_st
 use Rattle.noc_model.proofs.EventLemmas.{linked_when}
 use Rattle.noc_headline.proofs.CountLemmas.{IsAfter, base_after, after-events}
 use Rattle.noc_model.specs.Good.{IsGoodSetup}
-use Rattle.noc_views.proofs.OrderedStates.{ordered-frozen}
-use Rattle.noc_views.proofs.PlaceLemmas.{arriving-at}
-use Rattle.noc_views.proofs.Opening.{opening-is}
-use Rattle.noc_views.proofs.Theorem.{good-network, lockstep-is_state}
-use Rattle.noc_ownership.proofs.Facts.{worm_order-at}
+use Rattle.noc_model.proofs.OrderedStates.{ordered-frozen}
+use Rattle.noc_model.proofs.PlaceViews.{arriving-at}
+use Rattle.noc_model.proofs.Opening.{opening-is}
+use Rattle.noc_model.proofs.Theorem.{good-network, lockstep-is_state}
+use Rattle.noc_model.proofs.Facts.{worm_order-at}
 use Rattle.noc_headline.specs.Headline.{IsInputOf, AsksForChannel, GoesOnBy}
 use Rattle.noc_headline.specs.Steps.{IsBufferIn, IsFoundIn, IsRightCore, IsRightRouter, IsRightWire, beat_in, beats_of}
-use Rattle.noc_headline.proofs.ClaimLemmas.{claim-goes}
+use Rattle.noc_headline.proofs.ClaimLemmas.{Case, off, all_taken, asks, goes, case-of, claim-goes}
 use Rattle.noc_headline.proofs.CycleLemmas.{right-cycle}
 use Rattle.noc_headline.proofs.RoundLemmas.{asks-claim}
 
 map-range : (f g : ℕ → Beat) (n a : ℕ) → ((k : ℕ) → a ≤ k → k < a + n → f k ≡ g k) → map f (range_with_len a n) ≡ map g (range_with_len a n)
 map-range f g zero a same = refl
 map-range f g (suc n) a same = rw (same a (omega arith) (omega arith)) (ap (λ xs. g a ∷ xs) (map-range f g n (a + 1) (λ k l u. same k (omega arith) (omega arith))))
+
+kept-one : (b : Bool) (q p : ℕ) → (if b then Some q else None) ≡ Some p → (q ≡ p) × (b ≡ true)
+kept-one true q p e = (same_Some q p e, refl)
+kept-one false q p e = absurd (cc e)
+
+-- who is kept where a test holds
+kept-some : (test : ℕ → Bool) (o : Option ℕ) (p : ℕ) → option_and_then (λ q. if test q then Some q else None) o ≡ Some p → (o ≡ Some p) × (test p ≡ true)
+kept-some test None p e = absurd (cc e)
+kept-some test (Some q) p e = let k = kept-one (test q) q p e in (ap Some k.0, subst (λ r. test r ≡ true) k.0 k.1)
+
+some-kept : (test : ℕ → Bool) (o : Option ℕ) (p : ℕ) → o ≡ Some p → test p ≡ true → option_and_then (λ q. if test q then Some q else None) o ≡ Some p
+some-kept test o p is holds = ap (option_and_then (λ q. if test q then Some q else None)) is ∙ ap (λ b. if b then Some p else None) holds
 
 module _ (net : Setup) (made : IsGoodSetup net) where
   -- the buffers that a view shows
@@ -87,8 +99,13 @@ module _ (net : Setup) (made : IsGoodSetup net) where
         let is = ap (λ (f : Finding). f.verdict) (finding-is n r i c finding findings same at e) in
         let says = (right-cycle net made n).verdicts r i c at v in
         ((λ h. says.0 (sym is ∙ h)), λ s. is ∙ says.1 s);
+    packet = λ i p c finding at e.
+        let is = ap (λ (f : Finding). f.packet) (finding-is n r i c finding findings same at e) in
+        let there = is_present net (frozen_at net n) c in
+        ((λ h. kept-some there (owner_of net (frozen_at net n) c) p (sym is ∙ h)), λ h. is ∙ some-kept there (owner_of net (frozen_at net n) c) p h.0 h.1);
     out = λ i o c finding at e h.
         ap (λ (f : Finding). f.out) (finding-is n r i c finding findings same at e) ∙ named i o c at h;
+    no_out = λ i c finding at e none. ap (λ (f : Finding). f.out) (finding-is n r i c finding findings same at e) ∙ unnamed i c at none;
   }
     where
       named : (i o : ℕ) (c : Channel) → IsInputOf net r i c → AsksForChannel net (frozen_at net n) r c o ⊎ GoesOnBy net (frozen_at net n) r c o
@@ -99,6 +116,18 @@ module _ (net : Setup) (made : IsGoodSetup net) where
       named i o c at (inr g) =
           ap (λ (y : Claim). option_map (port_and_vc (site_at net r)) (out_of y))
           (claim-goes net (good-network net made) (frozen_at net n) (ordered-frozen net (good-network net made) n) r i c (arriving-at net (good-network net made) r i c at.router at.index at.is) o g)
+
+      unnamed : (i : ℕ) (c : Channel) → IsInputOf net r i c → ((o : ℕ) → ¬ (AsksForChannel net (frozen_at net n) r c o ⊎ GoesOnBy net (frozen_at net n) r c o))
+          → option_map (port_and_vc (site_at net r)) (out_of (claim_of net (frozen_at net n) r c)) ≡ None
+      unnamed i c at none =
+          by (case-of net (good-network net made) (frozen_at net n) (ordered-frozen net (good-network net made) n) r i c (arriving-at net (good-network net made) r i c at.router at.index at.is))
+        where
+          by : Case net (good-network net made) (frozen_at net n) (ordered-frozen net (good-network net made) n) r c
+              → option_map (port_and_vc (site_at net r)) (out_of (claim_of net (frozen_at net n) r c)) ≡ None
+          by (off h e) = ap (λ (y : Claim). option_map (port_and_vc (site_at net r)) (out_of y)) e
+          by (all_taken w h e) = ap (λ (y : Claim). option_map (port_and_vc (site_at net r)) (out_of y)) e
+          by (asks o a e) = absurd (none o (inl a))
+          by (goes o g e) = absurd (none o (inr g))
 
 module _ (u : Run) (made : IsGoodSetup u.net) (few : u.count ≤ CYCLE_LIMIT) (events : List Event) where
   abbrev k : CoreState

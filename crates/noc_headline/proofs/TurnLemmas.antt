@@ -6,9 +6,9 @@ use Rattle.std.proofs.Math.Nat.{mod-eq_of_lt, add-mod_right}
 use Rattle.noc_topo.specs.Words.{below}
 use Rattle.noc_alloc.specs.Arbiter.{distance_in_turn, first_in_turn}
 use Rattle.noc_alloc.proofs.ArbiterLemmas.{first_in_turn-picks, nearest-is}
-use Rattle.noc_ownership.proofs.FirstOfNode.{Precedes, least_by-first}
-use Rattle.noc_ownership.proofs.Members.{Has-kept, Pairs-filter}
-use Rattle.noc_ownership.proofs.OpeningLemmas.{below-has, below-rises}
+use Rattle.noc_model.proofs.FirstOfNode.{Precedes, least_by-first}
+use Rattle.noc_model.proofs.Members.{Has-kept, Pairs-filter}
+use Rattle.noc_model.proofs.OpeningLemmas.{below-has, below-rises}
 use Rattle.noc_headline.specs.Headline.{IsFirstInTurn}
 
 -- a number below twice the size, modulo the size

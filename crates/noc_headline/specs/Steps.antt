@@ -12,11 +12,11 @@ use Rattle.noc_router.specs.declared.verdict.Finding.{Finding}
 use Rattle.noc_model.specs.declared.event.Event.{Event}
 use Rattle.noc_model.specs.Core.{CoreState, Post, are_between, is_between, opening_core, post_at, wire_of}
 use Rattle.noc_model.specs.Halves.{beat_at}
-use Rattle.noc_model.specs.Lockstep.{view_at, beats_in, site_at}
+use Rattle.noc_model.specs.Lockstep.{view_at, beats_in, is_present, site_at}
 use Rattle.noc_model.specs.Network.{Setup, State, Located, size, packet_at, buffer_of, owner_of, state_at, frozen_at}
 use Rattle.noc_model.specs.Order.{decides, puts, takes}
 use Rattle.noc_model.specs.Worm.{IsRun}
-use Rattle.noc_headline.specs.Headline.{IsInputOf, Says, AsksForChannel, GoesOnBy}
+use Rattle.noc_headline.specs.Headline.{IsInputOf, Says, Owns, AsksForChannel, GoesOnBy}
 
 -- the beat that the network has in cycle n on the wire that arrives at this router and port
 abbrev pub beat_in : Setup → ℕ → ℕ → ℕ → Beat
@@ -27,13 +27,18 @@ abbrev pub beats_of : Setup → ℕ → ℕ → ℕ → ℕ → List Beat
 beats_of net r port a b = map (beat_in net r port) (range_with_len a (b - a))
 
 -- what router r found in cycle n: one finding for each of its input channels. It gives a channel each verdict exactly where that
--- says what holds in the frozen state of that cycle, and names the output channel that it asks for or goes on by
+-- says what holds in the frozen state of that cycle. It names the packet that owns the channel, from when its head has come until its
+-- tail has left, and the output channel that it asks for or goes on by; where there is none, it names none
 pub record IsFoundIn (net : Setup) (n r : ℕ) (findings : List Finding) : Type 0 where
   pub each : length findings ≡ size net
   pub verdicts : (i : ℕ) (c : Channel) (finding : Finding) → IsInputOf net r i c → slice_get findings i ≡ Some finding
       → (verdict : Verdict) → (finding.verdict ≡ verdict) ↔ Says net (frozen_at net n) r i c verdict
+  pub packet : (i p : ℕ) (c : Channel) (finding : Finding) → IsInputOf net r i c → slice_get findings i ≡ Some finding
+      → (finding.packet ≡ Some p) ↔ (Owns net (frozen_at net n) r p c × (is_present net (frozen_at net n) c p ≡ true))
   pub out : (i o : ℕ) (c : Channel) (finding : Finding) → IsInputOf net r i c → slice_get findings i ≡ Some finding
       → AsksForChannel net (frozen_at net n) r c o ⊎ GoesOnBy net (frozen_at net n) r c o → finding.out ≡ Some (port_and_vc (site_at net r) o)
+  pub no_out : (i : ℕ) (c : Channel) (finding : Finding) → IsInputOf net r i c → slice_get findings i ≡ Some finding
+      → ((o : ℕ) → ¬ (AsksForChannel net (frozen_at net n) r c o ⊎ GoesOnBy net (frozen_at net n) r c o)) → finding.out ≡ None
 
 -- these are the flits that state S has in the buffer of channel c: no more than it has places, and all of the packet that owns c,
 -- each behind the one before

@@ -22,7 +22,7 @@
 //! - workers change no report: `run_tiles` of noc_tiles, whose network is the one of the same count by one worker, and
 //!   `workers_change_no_report` of noc_answers.
 //!
-//! That with ranks all packets arrive within the budget stands in noc_progress (`all_packets_arrive_within_the_budget`).
+//! That with ranks all packets arrive within the budget stands in noc_model (`all_packets_arrive_within_the_budget`).
 #![tactic(auto)]
 
 mod laws;

@@ -8,3 +8,4 @@ pub mod Order
 pub mod Progress
 pub mod Unseen
 pub mod Worm
+pub mod Seen

@@ -2,13 +2,29 @@
 //!
 //! `specs/` has the state of the whole network and one cycle of it (`Network`), events and the work that is left (`Progress`), worm
 //! order (`Worm`), the same run router by router (`Lockstep`, `Halves`), and routers that go on by single events (`Core`, `InStep`,
-//! `Order`). What a network needs so that the laws hold of it is `IsGoodSetup` in `Good`.
+//! `Order`). What a network needs so that the laws hold of it is `IsGoodSetup` in `Good`. `ownership`, `views` and `progress` have
+//! the laws: how packets stand in every state, that the routers in lockstep show it, and that a ranked network goes on.
 #![tactic(auto)]
 
 mod event;
 mod laws;
 mod limits;
+mod ownership;
+mod progress;
+mod views;
 
 pub use event::{Event, NotReady};
 pub use laws::{findings_change_nothing, takes_change_places};
 pub use limits::CYCLE_LIMIT;
+pub use ownership::{
+    a_link_carries_one_credit, a_link_carries_one_flit, credits_are_the_places_left,
+    flits_go_out_in_order, packets_keep_worm_order,
+};
+pub use progress::{
+    a_ranked_network_is_never_stuck, all_packets_arrive_within_the_budget,
+    each_event_is_one_less_to_come,
+};
+pub use views::{
+    a_core_opens_where_its_routers_are, a_cycle_is_a_step_of_each_router, counts_add_up,
+    routers_in_lockstep_show_the_network,
+};

@@ -14,7 +14,7 @@ use Rattle.noc_route.specs.Ranks.{IsRankedBy, Ranking}
 use Rattle.noc_model.specs.Good.{IsGoodPacket, IsGoodSetup}
 use Rattle.noc_model.specs.Network.{Setup, arrival_in, packet_at, state_at}
 use Rattle.noc_model.specs.Progress.{budget, is_pending}
-use Rattle.noc_progress.proofs.Theorems.{each-arrives, each-idle}
+use Rattle.noc_model.proofs.Theorems.{each-arrives, each-idle}
 use Rattle.noc_net.specs.Limit.{are_all_out, IsLastDue, IsLimit}
 
 -- ---- the last due time

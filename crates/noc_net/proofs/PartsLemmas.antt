@@ -10,7 +10,7 @@ use Rattle.noc_model.specs.Lockstep.{lockstep_at}
 use Rattle.noc_model.specs.Unseen.{AreInStep}
 use Rattle.noc_net.specs.declared.parts.Parts.{Parts}
 use Rattle.noc_net.specs.Parts.{AreParts, setup_in}
-use Rattle.noc_views.proofs.Theorem.{lockstep-is_state}
+use Rattle.noc_model.proofs.Theorem.{lockstep-is_state}
 
 pub views-in_step : (parts : Parts) → AreParts parts → parts.routers.items ≡ (lockstep_at (setup_in parts) parts.count).views
 views-in_step parts sound = sound.views ∙ sym (lockstep-is_state (setup_in parts) sound.good parts.count sound.within).views

@@ -16,10 +16,10 @@ use Rattle.noc_net.specs.Latest.{later_of, latest_of}
 use Rattle.noc_model.specs.Lockstep.{last_event_at, site_at, view_at, view_in}
 use Rattle.noc_model.specs.Network.{Run, Setup}
 use Rattle.noc_model.specs.Progress.{last_event_before}
-use Rattle.noc_ownership.proofs.GrantLemmas.{Has-below}
-use Rattle.noc_ownership.proofs.Members.{Has-map, Has-mapped}
-use Rattle.noc_ownership.proofs.OpeningLemmas.{below-has}
-use Rattle.noc_views.proofs.LastEvent.{last-is}
+use Rattle.noc_model.proofs.GrantLemmas.{Has-below}
+use Rattle.noc_model.proofs.Members.{Has-map, Has-mapped}
+use Rattle.noc_model.proofs.OpeningLemmas.{below-has}
+use Rattle.noc_model.proofs.LastEvent.{last-is}
 
 pub count_routers : (parts : Parts) → AreParts parts → vec_len parts.routers ≡ nodes parts.relation.grid
 count_routers parts sound =

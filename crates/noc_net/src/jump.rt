@@ -1,4 +1,11 @@
 //! Time that jumps: cycles in which nothing happens are run at once.
+//!
+//! Cycles in which nothing happens are all the same, so their verdicts are counted at once. Whether time may
+//! jump is read from the state afresh, and only after a cycle without an event. So the proof owes only that a
+//! state in which nothing happens stays as it is (`proofs/StillRun.antt` of noc_model). Sources that cannot
+//! inject, for want of room or of an idle channel, do not hold time up; the next due time of the others does.
+//! `Network::cycle`, the event core and tiles do not jump: a tile does not know whether anything happens in the
+//! others.
 
 ghost use Rattle.std.specs.Prelude.{◌≡◌, ◌↔◌, ℕ, ◌+◌, ◌-◌, ◌<◌, ◌≤◌, All, IsTrue, length, map, false};
 ghost use Rattle.noc_topo.specs.Shape.{nodes as nodes_of, ports as ports_of};

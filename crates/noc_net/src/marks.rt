@@ -1,4 +1,10 @@
 //! Where the beats in flight are.
+//!
+//! Eight routers share a set of links, one for flits and one for credits, beside the table of beats. A pass
+//! over all flits ends once for eight routers; a look of each router at six ports would end where no processor
+//! can guess. Beats stay in their table, idle where nothing is under way, so all statements speak of the table,
+//! and the marks are an index. The number of a member is the port times eight and the router's place among the
+//! eight.
 
 ghost use Rattle.std.specs.Prelude.{◌≡◌, ◌<◌, ◌≤◌, List, Some, length, slice_index_or, slice_set};
 ghost use Rattle.noc_topo.specs.declared.limits.TheConstants.{MAX_NODES};

@@ -214,7 +214,7 @@ impl Network {
     }
 
     /// In how many of the cycles each verdict was that of an input channel, in the order of `Verdict`. The ten counts add up to
-    /// the cycles (`noc_views::counts_add_up`).
+    /// the cycles (`noc_model::counts_add_up`).
     pub fn counts(&self, router: usize, port: usize, vc: usize) -> [u64; VERDICTS]
         requires router { router < nodes_of self.now.net.relation.grid }
         requires port { port < ports_of self.now.net.relation.grid }

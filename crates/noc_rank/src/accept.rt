@@ -1,4 +1,10 @@
 //! Checking ranks against a routing relation (Dally and Towles, chapter 14).
+//!
+//! Where each channel has a rank, no memory is taken: the check looks for the first entry with a step that does
+//! not rise. Where some channels are adaptive it takes one list for what lies ahead of each link channel, once
+//! every entry is known to have its escape, and one for marks. So `Memory` comes after NoEscape, and before a
+//! pair that does not rise. Entries are looked at in parallel, and the pairs one class and destination after
+//! the other.
 
 ghost use Rattle.std.specs.Prelude.{◌≡◌, ℕ, ◌+◌, ◌*◌, ◌/◌, ◌%◌, ◌<◌, ◌≤◌, ◌↔◌, IsOk, OnOk, IfErr, IfSome, IfNone, IsTrue, is_some, true, false};
 ghost use Rattle.noc_packet.specs.declared.limits.TheConstants.{MAX_CHANNELS};

@@ -1,4 +1,7 @@
 //! Rings of flits over one list of slots (Dally and Towles, chapter 17).
+//!
+//! A bank takes memory in one growth, that of its block. Where rings begin and how many flits they have stands
+//! in the bank itself, 112 bytes for at most 56 rings.
 
 ghost use Rattle.std.specs.Prelude.{◌≡◌, ◌+◌, ◌*◌, ◌%◌, ◌<◌, ◌≤◌, nat_le, length, IfOk, ◌∷◌};
 ghost use Rattle.std.specs.List.{slice_get};

@@ -1,4 +1,15 @@
 //! The memory of a bank: places for flits in one block, empty until a flit is put there.
+//!
+//! The block is the library's own form for such memory, `Slots` and `Lease` of `core::slots`: a row of places
+//! of which the prover knows which hold a value, and the right to free the row. A read or a take asks for a
+//! place that holds one, and neither can be copied or let go. So there is no pointer in the code. The prover
+//! refuses a read past the block or of a place that holds no pushed flit. A block that is freed twice, or
+//! never, is refused before any proof.
+//!
+//! A struct that holds a `Slots` may go to another thread only by a proof of its author's
+//! (`proofs/Sends.antt`). So one function with a proof by hand makes a `Store`, `Store::of`. `reserve` takes
+//! the number of places from the length of a list: `Store::new` gives it a part of a constant list of blank
+//! flits, and only its length is read.
 
 ghost use Rattle.std.specs.Prelude.{◌≡◌, ℕ, ◌<◌, ◌≤◌, true, false, length, IfOk, slice_set, slice_index_or};
 ghost use Rattle.std.specs.Mem.Slots.{slots_items, slots_filled, slots_ptr, slots_len, lease_ptr, lease_len, lease_heap};

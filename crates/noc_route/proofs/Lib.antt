@@ -1,6 +1,7 @@
 pub mod PlaceLemmas
 pub mod RankLemmas
 pub mod BoolLemmas
+pub mod WayLemmas
 pub mod OptionLemmas
 pub mod OrderLemmas
 pub mod RowLemmas

@@ -1,13 +1,15 @@
 -- Places in the table.
-use Rattle.std.proofs.Common.{◌≡◌, ℕ, ◌+◌, ◌*◌, ◌<◌, ◌≤◌, ◌/◌, ◌%◌, true, arith, inl, inr, refl, ◌∙◌, zero-add}
-use Rattle.std.specs.Prelude.{nat_le, nat_eq, ◌&&◌, ◌⊎◌, slice_index}
+use Rattle.std.proofs.Common.{◌≡◌, ℕ, zero, suc, ◌+◌, ◌*◌, ◌<◌, ◌≤◌, ◌/◌, ◌%◌, true, List, [], ◌∷◌, ◌++◌, length, get_or, arith, inl, inr, refl, sym, subst, ◌∙◌, zero-add}
+use Rattle.std.specs.Prelude.{nat_lt, nat_le, nat_eq, ◌&&◌, ◌⊎◌, slice_index, replicate}
 use Rattle.std.proofs.Math.Nat.{div-lt_iff_lt-mul, mul-le-mul_right, add-mul-div_right, add-mul-mod_self_right, mod-eq_of_lt, div-eq_of_lt, add_comm, mod-lt}
-use Rattle.std.proofs.lemmas.Bool.{lt-ltb, and_parts, leb-true, eqb-true, cases_lt}
+use Rattle.std.proofs.lemmas.Bool.{lt-ltb, and_parts, leb-true, ltb-true, eqb-true, cases_lt}
+use Rattle.std.proofs.Math.ListN.{get_or-eq_default}
+use Rattle.std.proofs.lemmas.List.{get_or-replicate, length-replicate}
 use Rattle.std.proofs.lemmas.Nat.{le-div}
 use Rattle.noc_packet.specs.declared.limits.TheConstants.{MAX_CHANNELS, MAX_CLASSES}
 use Rattle.noc_topo.specs.Shape.{Grid, nodes, ports}
-use Rattle.noc_route.specs.Relation.{is_right}
-use Rattle.noc_route.specs.declared.rule.Rule.TheVariants.{Dateline}
+use Rattle.noc_route.specs.Relation.{is_right, escapes}
+use Rattle.noc_route.specs.declared.rule.Rule.TheVariants.{Dateline, Adaptive}
 use Rattle.noc_route.specs.Routes.{Routes, is_entry, set_at, entry_place}
 
 -- element i of row a, where each row has n, comes before the end of m rows
@@ -15,6 +17,20 @@ pub flat-below : (a m i n : ℕ) → a < m → i < n → a * n + i < m * n
 flat-below a m i n l k =
     let rows : (a + 1) * n ≤ m * n = mul-le-mul_right n (omega arith) in
     omega (arith, rows)
+
+-- pages and their number are few
+pub pages-few : (n k : ℕ) → n ≤ 256 → k ≤ 4 → (n * k ≤ 1024) × (n * k * n ≤ 262144)
+pages-few n k a b =
+    let pair : n * k ≤ 256 * k = mul-le-mul_right k a in
+    let all : n * k * n ≤ 1024 * n = mul-le-mul_right n (omega arith) in
+    (omega arith, omega arith)
+
+pub page-few : (n k r m t : ℕ) → n ≤ 256 → k ≤ 4 → r < n → m < k → t < n → (r * k + m < 1024) × ((r * k + m) * n + t < 262144)
+page-few n k r m t a b here class there =
+    let few = pages-few n k a b in
+    let pair : r * k + m < n * k = flat-below r n m k here class in
+    let page : (r * k + m) * n + t < n * k * n = flat-below (r * k + m) (n * k) t n pair there in
+    (omega (arith, pair, few.0), omega (arith, page, few.1))
 
 pub is_entry-true : (g : Grid) (vcs classes m r p v t : ℕ) → m < classes → r < nodes g → p < ports g → v < vcs → t < nodes g → is_entry g vcs classes m r p v t ≡ true
 is_entry-true g vcs classes m r p v t a b c d e =
@@ -71,3 +87,34 @@ half-some g vcs classes e =
     at some_vcs some_classes whole (inr many) =
         let two : 2 ≤ vcs / classes = le-div 2 vcs classes some_classes many in
         le-div 1 (vcs / classes) 2 (omega arith) (omega arith)
+
+-- where the rule adaptive fits, each class has a channel at least
+pub adaptive-some : (g : Grid) (vcs classes : ℕ) → is_right g vcs classes Adaptive ≡ true → 0 < vcs / classes
+adaptive-some g vcs classes e = let more = ltb-true (escapes g) (vcs / classes) (and_parts _ (nat_lt (escapes g) (vcs / classes)) e).1 in omega (arith, more)
+
+-- ---- lists
+
+-- each element of a list of one value, and what stands past its end
+pub same-at : {X : Type 0} (d : X) (n k : ℕ) → get_or (replicate n d) k d ≡ d
+same-at d n k = at (cases_lt k n)
+  where
+    at : (k < n) ⊎ (n ≤ k) → get_or (replicate n d) k d ≡ d
+    at (inl l) = get_or-replicate n k d d l
+    at (inr u) = get_or-eq_default (replicate n d) d (omega (arith, length-replicate n d))
+
+-- what holds of each element so far, by its place, and of one more
+pub each-push : {X : Type 0} (d : X) (P : ℕ → X → Type 0) (xs : List X) (x : X) → ((k : ℕ) → k < length xs → P k (get_or xs k d)) → P (length xs) x → (k : ℕ) → k < length xs + 1 → P k (get_or (xs ++ x ∷ []) k d)
+each-push d P [] x all last zero l = last
+each-push d P [] x all last (suc k) l = absurd (omega arith)
+each-push d P (y ∷ xs) x all last zero l = all zero (omega arith)
+each-push d P (y ∷ xs) x all last (suc k) l = each-push d (λ i. P (suc i)) xs x (λ i m. all (suc i) (omega arith)) last k (omega arith)
+
+-- .. where the list has n elements, and ys is the one that has grown
+pub each-pushed : {X : Type 0} (d : X) (P : ℕ → X → Type 0) (xs ys : List X) (x : X) (n : ℕ) → length xs ≡ n → ys ≡ xs ++ x ∷ [] → ((k : ℕ) → k < n → P k (get_or xs k d)) → P n x
+    → (k : ℕ) → k < n + 1 → P k (get_or ys k d)
+each-pushed {X = X} d P xs ys x n long grown all last =
+    let B : List X → ℕ → Type 0 = λ l m. (k : ℕ) → k < m → P k (get_or l k d) in
+    let old : B xs (length xs) = subst (B xs) (sym long) all in
+    let new : P (length xs) x = subst (λ m. P m x) (sym long) last in
+    let more : B (xs ++ x ∷ []) (n + 1) = subst (λ m. B (xs ++ x ∷ []) (m + 1)) long (each-push d P xs x old new) in
+    subst (λ l. B l (n + 1)) (sym grown) more

@@ -1,5 +1,5 @@
 -- What packets can come to, and the lists of channels by which they leave.
-use Rattle.std.proofs.Common.{◌≡◌, ◌≢◌, ℕ, zero, suc, ◌+◌, ◌*◌, ◌/◌, ◌%◌, ◌<◌, ◌≤◌, Bool, true, false, List, length, set, Option, Some, None, refl, sym, subst, ap, ◌∙◌, arith, inl, inr}
+use Rattle.std.proofs.Common.{◌≡◌, ◌≢◌, ℕ, zero, suc, ◌+◌, ◌*◌, ◌/◌, ◌%◌, ◌<◌, ◌≤◌, Bool, true, false, List, length, set, Option, Some, None, refl, sym, subst, ap, ◌∙◌, add-one, arith, inl, inr}
 use Rattle.std.specs.Prelude.{◌||◌, ◌&&◌, ◌⊎◌, not, nat_eq, slice_index}
 use Rattle.std.proofs.Math.Nat.{mod-lt, div-add-mod, mul_comm, div-lt_iff_lt-mul}
 use Rattle.std.proofs.lemmas.Nat.{div-mul-add, mod-mul-add}
@@ -61,17 +61,17 @@ not-true true e = absurd (false≢true e)
 not-true false e = refl
 
 -- by the lists of the routers before, where the channel arrives over a link
-abbrev comes_over : Routes → List ℕ → ℕ → ℕ → ℕ → Option (ℕ × ℕ) → Bool
+abbrev pub comes_over : Routes → List ℕ → ℕ → ℕ → ℕ → Option (ℕ × ℕ) → Bool
 comes_over routes outs m t i from =
     elim from [
       | None ↦ false
       | Some from ↦ has_bit (slice_index outs (page_of routes.grid routes.classes m from.0 t)) (from.1 * routes.vcs + i % routes.vcs)
     ]
 
-comes_in-local : (routes : Routes) (outs : List ℕ) (m r t i : ℕ) → nat_eq (i / routes.vcs) (local_port routes.grid) ≡ true → comes_in routes outs m r t i ≡ not (nat_eq r t)
+pub comes_in-local : (routes : Routes) (outs : List ℕ) (m r t i : ℕ) → nat_eq (i / routes.vcs) (local_port routes.grid) ≡ true → comes_in routes outs m r t i ≡ not (nat_eq r t)
 comes_in-local routes outs m r t i e = rw e refl
 
-comes_in-link : (routes : Routes) (outs : List ℕ) (m r t i : ℕ) → nat_eq (i / routes.vcs) (local_port routes.grid) ≡ false
+pub comes_in-link : (routes : Routes) (outs : List ℕ) (m r t i : ℕ) → nat_eq (i / routes.vcs) (local_port routes.grid) ≡ false
     → comes_in routes outs m r t i ≡ comes_over routes outs m t i (neighbour routes.grid r (i / routes.vcs))
 comes_in-link routes outs m r t i e = rw e refl
 
@@ -143,6 +143,21 @@ page-below g classes m r t a b c = flat-below (r * classes + m) (nodes g * class
 abbrev pub IsOutOf : Routes → List ℕ → ℕ → ℕ → ℕ → ℕ → Type 0
 IsOutOf routes outs m r t out =
     (k : ℕ) → k < width routes.grid routes.vcs → has_bit out k ≡ any_below (width routes.grid routes.vcs) (λ i. comes_in routes outs m r t i && has_bit (set_in routes m r t i) k)
+
+-- the same, as far as the first n input channels
+abbrev pub IsGathered : Routes → List ℕ → ℕ → ℕ → ℕ → ℕ → ℕ → Type 0
+IsGathered routes outs m r t n out =
+    (k : ℕ) → k < width routes.grid routes.vcs → has_bit out k ≡ any_below n (λ i. comes_in routes outs m r t i && has_bit (set_in routes m r t i) k)
+
+any_below-more : (n : ℕ) (test : ℕ → Bool) → any_below (n + 1) test ≡ (any_below n test || test n)
+any_below-more n test = rw add-one refl
+
+pub IsGathered-more : (routes : Routes) (outs : List ℕ) (m r t n out set more : ℕ) (reached : Bool) → reached ≡ comes_in routes outs m r t n → set ≡ set_in routes m r t n
+    → ((k : ℕ) → has_bit more k ≡ (has_bit out k || (reached && has_bit set k))) → IsGathered routes outs m r t n out → IsGathered routes outs m r t (n + 1) more
+IsGathered-more routes outs m r t n out set more reached come same either had = λ k l.
+    let F : ℕ → Bool = λ i. comes_in routes outs m r t i && has_bit (set_in routes m r t i) k in
+    let here : (reached && has_bit set k) ≡ F n = ap (λ b. b && has_bit set k) come ∙ ap (λ s. comes_in routes outs m r t n && has_bit s k) same in
+    either k ∙ ap (λ b. b || (reached && has_bit set k)) (had k l) ∙ ap (λ b. any_below n F || b) here ∙ sym (any_below-more n F)
 
 -- every list of a router farther from t is full
 abbrev pub FartherFull : Routes → List ℕ → ℕ → ℕ → Type 0

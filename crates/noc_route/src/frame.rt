@@ -13,7 +13,7 @@ use noc_topo::{Kind, Shape};
 const _: () = prove!(noc_topo::MAX_NODES == MAX_NODES && noc_topo::MAX_PORTS == MAX_PORTS);
 
 /// A shape with its numbers of channels per link and of classes.
-#[derive(Clone, Copy, Debug)]
+#[derive(Clone, Copy)]
 pub struct Frame {
     pub shape: Shape,
     pub vcs: usize,

@@ -81,11 +81,17 @@ fn leaving(
     let page = map.frame.page(class, router, dst);
     let mut all = ChannelSet::empty();
     for input in 0..map.frame.width() {
-        if is_reached(map, outs, class, router, dst, input) {
-            all = all.either(sets[map.frame.slot(page, input)]);
-        }
+        let reached = is_reached(map, outs, class, router, dst, input);
+        all = either_if(all, sets[map.frame.slot(page, input)], reached);
     }
     all
+}
+
+/// The members of a set, and those of another one if they are to be added.
+fn either_if(set: ChannelSet, other: ChannelSet, is_added: bool) -> ChannelSet
+    ensures { (k : ℕ) → has_bit result k ≡ (has_bit set k || (is_added && has_bit other k)) }
+{
+    if is_added { set.either(other) } else { set }
 }
 
 /// Whether packets of a class, bound for `dst`, come to an input channel of a router, where `outs` has the channels by

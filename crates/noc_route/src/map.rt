@@ -10,7 +10,7 @@ use noc_topo::Kind;
 use std::alloc::{AllocError, Global};
 
 /// A frame with each link and each distance of its shape.
-#[derive(Debug, Drop)]
+#[derive(Drop)]
 pub struct Map {
     pub frame: Frame,
     last: [usize; 3],

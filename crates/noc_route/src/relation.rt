@@ -21,7 +21,7 @@ use std::alloc::Global;
 use std::marker::Model;
 
 /// A routing relation: the output channels that each entry permits.
-#[derive(Debug, Drop)]
+#[derive(Drop)]
 pub struct Relation {
     frame: Frame,
     sets: Vec<ChannelSet>,

@@ -6,7 +6,7 @@ ghost use Rattle.noc_route.specs.Order.{numbers_before, row_numbers, entry_numbe
 use std::alloc::AllocError;
 
 /// A routing rule (Dally and Towles, chapters 8 to 11).
-#[derive(Debug, Drop)]
+#[derive(Drop)]
 pub enum Rule {
     /// Dimension order: the lowest dimension in which router and destination differ, by the shorter way.
     Dor,

@@ -1,6 +1,11 @@
 //! The two allocations of a router over lists of places, each of which looks at those alone that ask or win.
 //!
 //! They decide what `noc_alloc` decides over slices, and are proved against the same definitions.
+//!
+//! The switch is allocated in one pass over the input ports that have a ready channel: the port picks, its pick
+//! is offered to the output port, and the loser of that port is noted. So the moving channels are known without
+//! another look at the winners. The pass goes over the state of the channels, so it is a method of the router
+//! (`Router::allocate_switch`).
 
 ghost use Rattle.std.specs.Prelude.{◌≡◌, ℕ, ◌*◌, ◌<◌, ◌≤◌, List, Option, length, All, IfSome, Some, None, is_some, slice_index_or};
 ghost use Rattle.noc_topo.specs.Words.{tabulate};

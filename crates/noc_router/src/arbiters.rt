@@ -1,4 +1,9 @@
 //! The arbiters of one router.
+//!
+//! The pointers of the switch go on in the loop over the verdicts that take effect, where the mover has just
+//! been looked up. A pass over the winners alone would end where no processor can guess. An arbiter first
+//! chooses between two sets, the requests at or after its pointer and all requests, and then looks for the
+//! least member, so it looks once.
 
 ghost use Rattle.std.specs.Prelude.{◌≡◌, ◌*◌, ◌<◌, ◌≤◌, All, IfOk, vec_len};
 ghost use Rattle.noc_packet.specs.declared.limits.TheConstants.{MAX_CHANNELS, MAX_PORTS};

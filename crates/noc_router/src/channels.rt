@@ -1,4 +1,10 @@
 //! The buffers, input channels and output channels of one router.
+//!
+//! Beside the channels stand sets of them by state: filled, waiting, active, supplied with a credit, and the
+//! idle output channels. So stalled channels get their verdict by a few operations on words, and each loop
+//! visits only channels that have something to do. That the sets are those of the states is an invariant
+//! (`specs/Sound.antt`). What stays as it is, is not written: where a flit that is no tail leaves, the sets of
+//! idle and of owning channels are left alone.
 
 ghost use Rattle.std.specs.Prelude.{◌≡◌, ◌≢◌, ℕ, ◌≤◌, ◌<◌, ◌-◌, ◌++◌, ◌&&◌, find, true, false, None, IfOk, IfSome, is_some, length, nat_lt, not, ◌⊎◌, Some, slice_get, slice_index_or, slice_set, unwrap_or, vec_len, if◌then◌else◌, replicate};
 ghost use Rattle.noc_topo.specs.Shape.{nodes as nodes_of, ports as ports_of};

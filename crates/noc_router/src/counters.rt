@@ -1,4 +1,10 @@
 //! The counts of all verdicts and channels.
+//!
+//! A count of three digits to the base 8 stands for each verdict and channel, each bit of a digit as a set of
+//! channels. The sets of a cycle are only kept. Every eighth cycle those of eight cycles are added at once, for
+//! all verdicts and channels by the same operations on words, and the carry is kept for the next digit in the
+//! same way. Every 512th counted cycle the carries go into counts of 64 bits. A reader adds up what is written
+//! down, the digits and what is kept.
 
 ghost use Rattle.std.specs.Prelude.{◌≡◌, ℕ, ◌+◌, ◌*◌, ◌<◌, ◌≤◌, IsTrue, ◌↔◌};
 ghost use Rattle.noc_packet.specs.declared.limits.TheConstants.{INDICES};

@@ -1,4 +1,7 @@
 //! Lists of places that hold a number or nothing.
+//!
+//! A list keeps the set of its filled places beside their numbers, so clearing it is one store. A place is
+//! written without a branch: the set and the number are both stored, whatever they are.
 
 ghost use Rattle.std.specs.Prelude.{◌≡◌, ℕ, ◌<◌, ◌≤◌, IfOk, None, is_some, length, replicate, slice_index_or, slice_set};
 ghost use Rattle.noc_packet.specs.Set.{has_bit};

@@ -1,4 +1,9 @@
 //! What one router decides in one cycle.
+//!
+//! A plan keeps verdicts and no findings: it is seen as an `Outcome`, which has the round, what is asked for,
+//! the verdicts and the routes. Packet and output channel of a finding are those of the view, so `commit` reads
+//! them there. A whole cycle is defined by `Decisions`, which adds findings; `decisions-are` proves once that
+//! both agree.
 
 ghost use Rattle.std.specs.Prelude.{◌≡◌, ℕ, ◌<◌, IfOk, IfSome, length, slice_index, slice_index_or, None};
 ghost use Rattle.noc_topo.specs.Shape.{ports as ports_of};

@@ -444,7 +444,8 @@ impl Router {
         plan.events().is_empty()
     }
 
-    /// The first cycle in which `inject` would inject a flit, if nothing happens before: 0 where it would in any, None where in none.
+    /// The first cycle in which `inject` would inject a flit, if nothing happens before: 0 if it can inject now, the
+    /// due cycle if it waits for that, None if it cannot inject.
     pub fn next_injection(&self) -> Option<u64>
         ensures before { (end : ℕ) → IfSome result (λ due. end ≤ due) → IsHeldBefore end self.now }
         ensures due { IfSome result (λ due. IsHeldBefore (due + 1) self.now → ⊥) }

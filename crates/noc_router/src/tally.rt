@@ -159,7 +159,7 @@ impl Tally {
         self.cycles = self.cycles.saturating_add(cycles);
     }
 
-    // Shows what is found of these channels by this plan of them, in which just the occupied ones have another verdict than Empty.
+    // Records the plan's findings. Unoccupied channels are Empty.
     pub(crate) fn show(&mut self, channels: &Channels, indices: &Indices, plan: &Plan)
         requires channels { channels.now.size ≡ vec_len self.old.counts }
         requires indices { indices.now.size ≡ vec_len self.old.counts }

@@ -8,6 +8,7 @@ pub mod FlitLemmas
 pub mod StandLemmas
 pub mod SettleLemmas
 pub mod SheetLemmas
+pub mod CounterLemmas
 pub mod TurnLemmas
 pub mod SwitchLemmas
 pub mod InjectedLemmas
@@ -20,6 +21,11 @@ pub mod SelectLemmas
 pub mod AskLemmas
 pub mod PassLemmas
 pub mod WordLemmas
+pub mod SteadyLemmas
+pub mod TidyLemmas
+pub mod PointerLemmas
+pub mod NetworkLaws
+pub mod FlitLaws
 pub mod EachLemmas
 pub mod OwnerLemmas
 pub mod SourceLemmas
@@ -33,3 +39,6 @@ pub mod FrozenLaws
 pub mod RingLemmas
 pub mod FlitWordLemmas
 pub mod WireLemmas
+pub mod UnionLemmas
+pub mod MoveLaws
+pub mod LaneLemmas

@@ -35,7 +35,7 @@ same-some a b e = cc e
 
 module _ (v : View) (picked to q : ℕ) (some_vc : 0 < v.site.vcs) (fits : picked < 2 ^ 32) (below : AreBelow (size_of v.site) picked) (lq : q < ports v.site.grid)
     (draws : (k : ℕ) → k < size_of v.site → has_bit picked k ≡ is_some_of (slice_index_or (view_round v).picks (k / v.site.vcs) None) (k % v.site.vcs))
-    (to_is : (k : ℕ) → k < size_of v.site → has_bit to k ≡ sends_by v.site.vcs q (view_input v k).phase) where
+    (to_is : (k : ℕ) → k < size_of v.site → has_bit picked k ≡ true → has_bit to k ≡ sends_by v.site.vcs q (view_input v k).phase) where
   -- whether the pick of a port goes to this output port
   abbrev pub asks_for : ℕ → Bool
   asks_for p = is_some_of (picked_port (ready_of v.site.vcs (view_stands v)) v.site.vcs (view_round v).picks p) q
@@ -73,7 +73,7 @@ module _ (v : View) (picked to q : ℕ) (some_vc : 0 < v.site.vcs) (fits : picke
       ∙ ap (λ o. is_some_of o q) (ready-at (p * v.site.vcs + d) l)
       ∙ goes (view_input v (p * v.site.vcs + d)).phase (is_empty (view_buffer v (p * v.site.vcs + d))) (ap is_some (sym (ready-at (p * v.site.vcs + d) l)) ∙ ready.0)
 
-  pick-of-member : (k : ℕ) → has_bit picked k ≡ true → (k < size_of v.site) × (k / v.site.vcs < ports v.site.grid) × (slice_index_or (view_round v).picks (k / v.site.vcs) None ≡ Some (k % v.site.vcs))
+  pub pick-of-member : (k : ℕ) → has_bit picked k ≡ true → (k < size_of v.site) × (k / v.site.vcs < ports v.site.grid) × (slice_index_or (view_round v).picks (k / v.site.vcs) None ≡ Some (k % v.site.vcs))
   pick-of-member k e =
       let l : k < size_of v.site = below k e in
       (l, div_below k v.site.vcs (ports v.site.grid) some_vc l, some-of (slice_index_or (view_round v).picks (k / v.site.vcs) None) (k % v.site.vcs) (sym (draws k l) ∙ e))
@@ -90,7 +90,7 @@ module _ (v : View) (picked to q : ℕ) (some_vc : 0 < v.site.vcs) (fits : picke
       each k e =
           let pick = pick-of-member k e.0 in
           let place : k / v.site.vcs * v.site.vcs + k % v.site.vcs ≡ k = div-add-mod' k v.site.vcs in
-          (pick.1, asks-at (k / v.site.vcs) (k % v.site.vcs) pick.1 pick.2 ∙ ap (λ n. sends_by v.site.vcs q (view_input v n).phase) place ∙ sym (to_is k pick.0) ∙ e.1)
+          (pick.1, asks-at (k / v.site.vcs) (k % v.site.vcs) pick.1 pick.2 ∙ ap (λ n. sends_by v.site.vcs q (view_input v n).phase) place ∙ sym (to_is k pick.0 e.0) ∙ e.1)
 
       from : (p : ℕ) → p < ports v.site.grid → asks_for p ≡ true → (o : Option ℕ) → slice_index_or (view_round v).picks p None ≡ o → (d : ℕ) × (d < v.site.vcs) × (has_bit (bit_and picked to) (p * v.site.vcs + d) ≡ true)
       from p lp e None is = absurd (false≢true (sym (ap (λ (o : Option ℕ). is_some_of (option_and_then (λ c. slice_index_or (ready_of v.site.vcs (view_stands v)) (p * v.site.vcs + c) None) o) q) is) ∙ e))
@@ -100,7 +100,7 @@ module _ (v : View) (picked to q : ℕ) (some_vc : 0 < v.site.vcs) (fits : picke
           let l : p * v.site.vcs + d < size_of v.site = omega arith in
           let in_picked : has_bit picked (p * v.site.vcs + d) ≡ true =
           draws (p * v.site.vcs + d) l ∙ ap₂ (λ a b. is_some_of (slice_index_or (view_round v).picks a None) b) (div-mul-add p v.site.vcs d ready.1) (mod-mul-add p v.site.vcs d ready.1) ∙ ap (λ o. is_some_of o d) is ∙ eq-eqb d d refl in
-          let in_to : has_bit to (p * v.site.vcs + d) ≡ true = to_is (p * v.site.vcs + d) l ∙ sym (asks-at p d lp is) ∙ e in
+          let in_to : has_bit to (p * v.site.vcs + d) ≡ true = to_is (p * v.site.vcs + d) l in_picked ∙ sym (asks-at p d lp is) ∙ e in
           (d, ready.1, both_members picked to (p * v.site.vcs + d) ∙ rw (in_picked, in_to) refl)
 
   -- the winner of the output port
@@ -111,14 +111,14 @@ module _ (v : View) (picked to q : ℕ) (some_vc : 0 < v.site.vcs) (fits : picke
       get_or-tabulate (ports v.site.grid) q (winner_of (ready_of v.site.vcs (view_stands v)) v.site.vcs (ports v.site.grid) (view_round v).picks (pointers_of v.arbiters.outputs)) None lq
       ∙ winner-is v.site.vcs (ports v.site.grid) (bit_and picked to) mask (slice_index (pointers_of v.arbiters.outputs) q) asks_for asking few shows
 
-  in_turn-among : (asks mask t : ℕ) → has_bit (in_turn asks mask) t ≡ true → has_bit asks t ≡ true
+  pub in_turn-among : (asks mask t : ℕ) → has_bit (in_turn asks mask) t ≡ true → has_bit asks t ≡ true
   in_turn-among asks mask t e = at (nat_eq (bit_and asks mask) 0) e
     where
       at : (b : Bool) → has_bit (if b then asks else bit_and asks mask) t ≡ true → has_bit asks t ≡ true
       at true z = z
       at false z = (and_parts (has_bit asks t) (has_bit mask t) (sym (both_members asks mask t) ∙ z)).0
 
-  in_turn-some : (asks mask : ℕ) → 0 < asks → asks < 2 ^ 32 → (0 < in_turn asks mask) × (in_turn asks mask < 2 ^ 32)
+  pub in_turn-some : (asks mask : ℕ) → 0 < asks → asks < 2 ^ 32 → (0 < in_turn asks mask) × (in_turn asks mask < 2 ^ 32)
   in_turn-some asks mask some small = at (cases_eq (bit_and asks mask) 0)
     where
       at : (bit_and asks mask ≡ 0) ⊎ (bit_and asks mask ≡ 0 → ⊥) → (0 < in_turn asks mask) × (in_turn asks mask < 2 ^ 32)

@@ -13,3 +13,4 @@ pub mod Source
 pub mod Arrive
 pub mod InRows
 pub mod Wires
+pub mod Moves

@@ -1,13 +1,15 @@
 //! How often each channel had one verdict, bit by bit.
 
-ghost use Rattle.std.specs.Prelude.{◌≡◌, ◌<◌, ℕ};
+ghost use Rattle.std.specs.Prelude.{◌≡◌, ◌+◌, ◌*◌, ◌^◌, ◌<◌, ℕ};
+ghost use Rattle.noc_packet.specs.Set.{has_bit};
+ghost use Rattle.noc_router.specs.Counts.{one_if};
 ghost use Rattle.noc_rows.specs.Rows.{word};
-ghost use Rattle.noc_rows.specs.Sheet.{carry_over, sum_of, with_four};
+ghost use Rattle.noc_rows.specs.Sheet.{at_level, carry_over, counted_at, number_by, sum_of, with_four};
 
 use crate::lanes::{ROUTERS, Row, put};
 
-// How many bits a count has above the lowest two.
-const LEVELS: usize = 20;
+// How many bits a count has above the lowest two: with them it has 32.
+const LEVELS: usize = 30;
 
 /// The counts of one verdict of all channels of a block.
 ///
@@ -31,49 +33,70 @@ impl Counter {
         pending: [[0; ROUTERS]; LEVELS],
     };
 
-    /// Adds the sets of four cycles, before which the sets of four cycles were added so many times.
-    pub fn add(&mut self, a: &Row, b: &Row, c: &Row, d: &Row, times: u32) {
+    /// Adds the sets of four cycles, before which the sets of four cycles were added so many times. The counts are
+    /// right for 2^30 - 1 times.
+    pub fn add(&mut self, a: &Row, b: &Row, c: &Row, d: &Row, times: u32)
+        ensures { times + 1 < 2 ^ 30 → (j k : ℕ) → j < 32 → counted_at self.new (times + 1) j k ≡ counted_at self.old times j k + one_if (has_bit (word a.now j) k) + one_if (has_bit (word b.now j) k) + one_if (has_bit (word c.now j) k) + one_if (has_bit (word d.now j) k) }
+    {
         let mut carry = [0u32; ROUTERS];
         add_four(&mut self.ones, &mut self.twos, a, b, c, d, &mut carry);
-        let mut rest = times;
-        for level in 0..LEVELS {
-            if rest % 2 == 0 {
-                self.pending[level] = carry;
-                break;
-            }
-            add_pending(&mut self.bits[level], &self.pending[level], &mut carry);
-            rest /= 2;
-        }
+        add_carry(&mut self.bits, &mut self.pending, &mut carry, times);
     }
 
     /// How often a channel of a router had the verdict by now, where sets were added so many times.
     pub fn total(&self, lane: usize, channel: usize, times: u32) -> u64
         requires lane { lane < 32 }
         requires channel { channel < 32 }
+        ensures count { result ≡ counted_at self.now times lane channel }
+        ensures small { result < 2 ^ 33 }
     {
-        let mut total = one_if_member(self.ones[lane], channel);
-        total = total.wrapping_add(2 * one_if_member(self.twos[lane], channel));
-        let mut value = 4u64;
-        let mut rest = times;
+        let mut upper = 0u64;
         for level in 0..LEVELS {
-            let mut count = one_if_member(self.bits[level][lane], channel);
-            if rest % 2 == 1 {
-                count += one_if_member(self.pending[level][lane], channel);
-            }
-            total = total.wrapping_add(count.wrapping_mul(value));
-            value = value.wrapping_mul(2);
-            rest /= 2;
+            upper += self.level(lane, channel, times, level) << level as u32;
         }
-        total
+        let low = one_if_member(self.ones[lane], channel);
+        low + 2 * one_if_member(self.twos[lane], channel) + 4 * upper
+    }
+
+    // What one level has of a channel: its bit, and what is pending there.
+    #[inline(always)]
+    fn level(&self, lane: usize, channel: usize, times: u32, level: usize) -> u64
+        requires lane { lane < 32 }
+        requires channel { channel < 32 }
+        requires level { level < 30 }
+        ensures count { result ≡ at_level self.now.bits self.now.pending times lane channel level }
+        ensures small { result < 3 }
+    {
+        let bit = one_if_member(self.bits[level][lane], channel);
+        let pending = one_if_member(self.pending[level][lane], channel);
+        if one_if_member(times, level) == 1 {
+            bit + pending
+        } else {
+            bit
+        }
     }
 }
 
 /// 1 where a channel is a member of a set, and else 0.
+#[inline(always)]
 pub fn one_if_member(set: u32, channel: usize) -> u64
     requires { channel < 32 }
-    ensures { result < 2 }
+    ensures count { result ≡ one_if (has_bit set channel) }
+    ensures small { result < 2 }
 {
     u64::from(set >> channel as u32 & 1)
+}
+
+// What the two lowest bits carry is added to those above, before which it was added so many times.
+#[inline(always)]
+fn add_carry(bits: &mut [Row; LEVELS], pending: &mut [Row; LEVELS], carry: &mut Row, times: u32)
+    ensures { times + 1 < 2 ^ 30 → (j k : ℕ) → j < 32 → number_by (at_level bits.new pending.new (times + 1) j k) 30 ≡ number_by (at_level bits.old pending.old times j k) 30 + one_if (has_bit (word carry.old j) k) }
+{
+    let last = (times.trailing_ones() as usize).min(LEVELS - 1);
+    for level in 0..last {
+        add_pending(&mut bits[level], &pending[level], carry);
+    }
+    pending[last] = *carry;
 }
 
 // The sets of four cycles are added to the two lowest bits. What they carry is of the third.

@@ -1,39 +1,87 @@
 //! The switch, and the flits that move through it.
 
-ghost use Rattle.std.specs.Prelude.{◌≡◌, ◌<◌, ℕ, bit_and, bit_or, not, nat_eq};
+ghost use Rattle.std.specs.Prelude.{◌≡◌, ◌≢◌, ◌<◌, ℕ, bit_and, bit_or, not, nat_eq, if◌then◌else◌};
 ghost use Rattle.noc_packet.specs.Set.{has_bit};
+ghost use Rattle.noc_rows.specs.Bits.{less};
+ghost use Rattle.noc_rows.specs.Moves.{channel_word, dry_by, of_one, ports_of, rest_from, selected_in, taken_in, turn_in, turned_by, union_from};
 ghost use Rattle.noc_rows.specs.Rows.{word};
 ghost use Rattle.noc_rows.specs.Turns.{first_bit, in_turn};
 
 use crate::block::Block;
+use crate::cycle::{DecidedRows, StandingRows};
 use crate::frame::Frame;
-use crate::lanes::{ROUTERS, Row, alone_if, least, least_bit, put};
+use crate::lanes::{CHANNELS, ROUTERS, Row, alone_if, least, least_bit, put};
+use crate::marks::Marks;
 use crate::wires::{Wires, arrive, give_back, send};
 
 /// Of each output port of each router of a block one flit moves, where one is picked.
-pub fn move_all(frame: &Frame, number: usize, block: &mut Block, wires: &mut Wires) {
+pub fn move_all(
+    frame: &Frame,
+    number: usize,
+    standing: &StandingRows,
+    single: &Row,
+    marks: &mut Marks,
+    selected: &mut Row,
+    decided: &mut DecidedRows,
+    supplied: &mut Row,
+    wires: &mut Wires,
+)
+    ensures moved { (k : ℕ) → k < 32 → word decided.new.moved k ≡ union_from (word decided.old.moved k) (ports_of frame.now) (selected_in (word standing.now.picked k) marks.old k) }
+    ensures out { (k : ℕ) → k < 32 → word decided.new.out k ≡ union_from (word decided.old.out k) (ports_of frame.now) (λ q. of_one (selected_in (word standing.now.picked k) marks.old k q) (taken_in marks.old k)) }
+    ensures supplied { (k : ℕ) → k < 32 → word supplied.new k ≡ rest_from (word supplied.old k) (ports_of frame.now) (λ q. dry_by (word single.now k) (taken_in marks.old k) (selected_in (word standing.now.picked k) marks.old k q)) }
+    ensures turns { (q k : ℕ) → q < ports_of frame.now → k < 32 → turn_in marks.new k q ≡ turned_by (selected_in (word standing.now.picked k) marks.old k q) frame.now.after (turn_in marks.old k q) }
+    ensures marks { marks.new ≡ record marks.old { first = marks.new.first; port_turn = marks.new.port_turn } }
+    ensures decided { decided.new ≡ record decided.old { moved = decided.new.moved; out = decided.new.out } }
+{
     wires.tails.count = 0;
     let ports = (frame.links % 8).wrapping_add(1);
     for port in 0..ports.min(8) {
-        move_through(frame, number, port, block, wires);
+        move_through(
+            frame, number, port, standing, single, marks, selected, decided, supplied, wires,
+        );
     }
 }
 
 // .. of one output port.
-fn move_through(frame: &Frame, number: usize, port: usize, block: &mut Block, wires: &mut Wires)
+fn move_through(
+    frame: &Frame,
+    number: usize,
+    port: usize,
+    standing: &StandingRows,
+    single: &Row,
+    marks: &mut Marks,
+    selected: &mut Row,
+    decided: &mut DecidedRows,
+    supplied: &mut Row,
+    wires: &mut Wires,
+)
     requires { port < 8 }
+    ensures moved { (k : ℕ) → k < 32 → word decided.new.moved k ≡ bit_or (word decided.old.moved k) (selected_in (word standing.now.picked k) marks.old k port) }
+    ensures out { (k : ℕ) → k < 32 → word decided.new.out k ≡ bit_or (word decided.old.out k) (of_one (selected_in (word standing.now.picked k) marks.old k port) (taken_in marks.old k)) }
+    ensures supplied { (k : ℕ) → k < 32 → word supplied.new k ≡ less (word supplied.old k) (dry_by (word single.now k) (taken_in marks.old k) (selected_in (word standing.now.picked k) marks.old k port)) }
+    ensures turn { (k : ℕ) → k < 32 → turn_in marks.new k port ≡ turned_by (selected_in (word standing.now.picked k) marks.old k port) frame.now.after (turn_in marks.old k port) }
+    ensures turns { (q k : ℕ) → q ≢ port → turn_in marks.new k q ≡ turn_in marks.old k q }
+    ensures marks { marks.new ≡ record marks.old { first = marks.new.first; port_turn = marks.new.port_turn } }
+    ensures decided { decided.new ≡ record decided.old { moved = decided.new.moved; out = decided.new.out } }
 {
-    let mut moving = select(
-        &block.standing.picked,
-        &block.marks.to_port[port],
-        &block.marks.port_turn[port],
-        &mut block.selected,
-        &mut block.decided.moved,
+    let moving = select(
+        &standing.picked,
+        &marks.to_port[port],
+        &marks.port_turn[port],
+        selected,
+        &mut decided.moved,
     );
-    while moving != 0 {
-        move_one(frame, number, port, least(moving), block, wires);
-        moving &= moving - 1;
-    }
+    spend_all(
+        moving,
+        selected,
+        &frame.after,
+        &marks.taken,
+        single,
+        &mut marks.port_turn[port],
+        &mut decided.out,
+        supplied,
+    );
+    carry_all(number, port, moving, selected, marks, wires);
 }
 
 // An output port takes the first of the picked channels that go by it, from its pointer on, and around. The answer is
@@ -72,41 +120,70 @@ fn in_turn(requests: u32, turn: u32) -> u32
     if high == 0 { requests } else { high }
 }
 
-// A flit leaves its ring, uses a credit and the port, and gives a credit back.
+// Each of these lanes has used the port: its pointer goes on, the output channel is among those that are left by a
+// flit, and who took the last credit of it is supplied no more.
+fn spend_all(
+    moving: u32,
+    selected: &Row,
+    after: &[u32; 32],
+    taken: &[u32; CHANNELS],
+    single: &Row,
+    turn: &mut Row,
+    out: &mut Row,
+    supplied: &mut Row,
+)
+    requires { (k : ℕ) → k < 32 → has_bit moving k ≡ not (nat_eq (word selected.now k) 0) }
+    ensures turn { (k : ℕ) → k < 32 → word turn.new k ≡ turned_by (word selected.now k) after.now (word turn.old k) }
+    ensures out { (k : ℕ) → k < 32 → word out.new k ≡ bit_or (word out.old k) (of_one (word selected.now k) (channel_word taken.now k)) }
+    ensures supplied { (k : ℕ) → k < 32 → word supplied.new k ≡ less (word supplied.old k) (dry_by (word single.now k) (channel_word taken.now k) (word selected.now k)) }
+{
+    let mut rest = moving;
+    while rest != 0 {
+        let lane = least(rest);
+        let bit = selected[lane];
+        let input = least(bit);
+        let used = taken[lane * 32 + input];
+        let all = out[lane] | used;
+        let left = supplied[lane] & !dry(single[lane], used, bit);
+        put(turn, lane, after[input]);
+        put(out, lane, all);
+        put(supplied, lane, left);
+        rest &= rest - 1;
+    }
+}
+
+// The input channel, where it takes the last credit of this output channel.
 #[inline(always)]
-fn move_one(
-    frame: &Frame,
+fn dry(single: u32, used: u32, bit: u32) -> u32
+    ensures { result ≡ (if nat_eq (bit_and single used) 0 then 0 else bit) }
+{
+    if single & used == 0 { 0 } else { bit }
+}
+
+// The flit of each of these lanes leaves its ring, and goes to the other end of the link.
+fn carry_all(
     number: usize,
     port: usize,
-    lane: usize,
-    block: &mut Block,
+    moving: u32,
+    selected: &Row,
+    marks: &mut Marks,
     wires: &mut Wires,
 )
-    requires port { port < 8 }
-    requires lane { lane < 32 }
+    requires { port < 8 }
+    ensures { marks.new ≡ record marks.old { first = marks.new.first } }
 {
-    let bit = block.selected[lane];
-    let input = least(bit);
-    let channel = lane * 32 + input;
-    let first = block.marks.first[channel];
-    block.marks.first[channel] = first.wrapping_add(1);
-    let word = wires.get(number, channel, first);
-    let taken = block.marks.taken[channel];
-    block.marks.port_turn[port][lane] = frame.after[input];
-    block.decided.out[lane] |= taken;
-    block.lanes.supplied[lane] &= if block.returned.single[lane] & taken != 0 {
-        !bit
-    } else {
-        0xffff_ffff
-    };
-    wires.tails.note((port * 1024 + channel) as u16, word);
-    send(
-        wires.room,
-        &mut wires.inboxes,
-        block.marks.target[channel],
-        word,
-    );
-    give_back(&mut wires.inboxes, block.marks.back[channel]);
+    let mut rest = moving;
+    while rest != 0 {
+        let lane = least(rest);
+        let channel = lane * 32 + least(selected[lane]);
+        let first = marks.first[channel];
+        marks.first[channel] = first.wrapping_add(1);
+        let word = wires.get(number, channel, first);
+        wires.tails.note((port * 1024 + channel) as u16, word);
+        send(wires.room, &mut wires.inboxes, marks.target[channel], word);
+        give_back(&mut wires.inboxes, marks.back[channel]);
+        rest &= rest - 1;
+    }
 }
 
 /// The tails that have moved give their channels back, and those that are out have arrived.

@@ -127,7 +127,17 @@ impl Rows {
                 let frame = &self.frame;
                 allocate_all(frame, block);
                 route_all(relation, frame, number, block, &self.wires);
-                move_all(frame, number, block, &mut self.wires);
+                move_all(
+                    frame,
+                    number,
+                    &block.standing,
+                    &block.returned.single,
+                    &mut block.marks,
+                    &mut block.selected,
+                    &mut block.decided,
+                    &mut block.lanes.supplied,
+                    &mut self.wires,
+                );
                 release_all(frame, self.cycle, block, &mut self.wires);
             }
             number = number.wrapping_add(1);

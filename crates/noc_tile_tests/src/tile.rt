@@ -3,7 +3,7 @@
 ghost use Rattle.std.specs.Prelude.{◌≡◌, ◌≤◌};
 
 use crate::networks::line_of_two;
-use noc_net::{Marks, Network, Parts};
+use noc_net::{Network, Parts};
 use noc_router::Router;
 use noc_tiles::{AllOpen, Outcome, Stop, Tile, run_tile};
 use std::alloc::Global;
@@ -26,7 +26,6 @@ fn run_whole(rt: &impl Wait, alloc: Global, network: Network, cycles: u64) -> Ti
         room: _,
     } = network.into_parts();
     let _nodes = relation.shape().nodes();
-    let marks = Marks::of(&beats);
     let tile = Tile {
         worker: 0,
         first: 0,
@@ -37,7 +36,6 @@ fn run_whole(rt: &impl Wait, alloc: Global, network: Network, cycles: u64) -> Ti
         routers,
         plan,
         beats,
-        marks,
         ins: Vec::new(alloc),
         outs: Vec::new(alloc),
     };

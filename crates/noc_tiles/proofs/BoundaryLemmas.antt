@@ -19,7 +19,7 @@ use Rattle.noc_tiles.specs.declared.tile.Tile.{Tile}
 use Rattle.noc_tiles.proofs.FlatLemmas.{offset, flat-at, offset-lt, apart, Found, flat-find, column, fed_all-at, length-puts, length-put_by, puts-at}
 use Rattle.noc_tiles.proofs.RunLemmas.{length-fed_all}
 use Rattle.noc_tiles.proofs.SentLemmas.{own-true, own-false, own-within}
-use Rattle.noc_tiles.specs.Together.{Trace, carried, wire}
+use Rattle.noc_tiles.specs.Together.{Trace, carried, in_flight}
 use Rattle.noc_tiles.proofs.ClosingLaw.{steps-count, views-after}
 
 -- ---- the runs of the tiles, one by one
@@ -268,5 +268,5 @@ pub record Carries (net : Setup) (n k m : ℕ) (T : ℕ → Trace) (t j : ℕ) (
   pub um : u < m
   pub ol : o < length (T u).layout.outs
   pub far_end : get_or (T u).layout.outs o (0, 0) ≡ p
-  pub rows : (i : ℕ) → i < k → get_or (get_or (T t).rows i []) j idle_beat ≡ carried net n (wire net n n p.0 p.1) (T u) o i
-  pub last : x ≡ carried net n (wire net n n p.0 p.1) (T u) o k
+  pub rows : (i : ℕ) → i < k → get_or (get_or (T t).rows i []) j idle_beat ≡ carried net n (in_flight net n n p.0 p.1) (T u) o i
+  pub last : x ≡ carried net n (in_flight net n n p.0 p.1) (T u) o k

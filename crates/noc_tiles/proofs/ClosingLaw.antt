@@ -14,7 +14,7 @@ use Rattle.noc_model.specs.Network.{Setup}
 use Rattle.noc_model.proofs.RunLemmas.{count_views, count_row}
 use Rattle.noc_model.proofs.SentLemmas.{step_of, next_view, sent_beat, unlinked_beat}
 use Rattle.noc_tiles.specs.TileStep.{Layout, TileState, is_own, is_from, is_inside, beat_among, filled, arrived, steps, sent_of, out_at, after_steps, put_by, cycled, after}
-use Rattle.noc_tiles.specs.Together.{Trace, Agrees, PutsInFlight, TilesRan, carried, put_at, steps_at, tile_at, wire}
+use Rattle.noc_tiles.specs.Together.{Trace, Agrees, PutsInFlight, TilesRan, carried, steps_at, tile_at, in_flight}
 use Rattle.noc_tiles.proofs.CycleLemmas.{some_view, no_link}
 use Rattle.noc_tiles.proofs.FillLemmas.{HasOrGets, filled_right}
 use Rattle.noc_tiles.proofs.RunLemmas.{after-more}
@@ -47,7 +47,7 @@ from_inside first count (Some p) e = e
 
 module _ (net : Setup) (n : ℕ) where
   abbrev pub RowRight : Trace → ℕ → Type 0
-  RowRight t i = (j : ℕ) → j < length t.layout.ins → get_or (get_or t.rows i []) j idle_beat ≡ wire net n (n + i) (get_or t.layout.ins j (0, 0)).0 (get_or t.layout.ins j (0, 0)).1
+  RowRight t i = (j : ℕ) → j < length t.layout.ins → get_or (get_or t.rows i []) j idle_beat ≡ in_flight net n (n + i) (get_or t.layout.ins j (0, 0)).0 (get_or t.layout.ins j (0, 0)).1
 
   pub state_at-next : (t : Trace) (i : ℕ) → i < length t.rows → tile_at net n t (suc i) ≡ after_steps net.relation t.layout (steps_at net n t i)
   state_at-next t i l =
@@ -58,16 +58,16 @@ module _ (net : Setup) (n : ℕ) where
       ∙ ap (λ q. cycled net.relation t.layout (n + q) (tile_at net n t i) (get_or t.rows i [])) (length-take-le i t.rows (omega arith))))
 
   module _ (k m : ℕ) (T : ℕ → Trace) (tiled : TilesRan net n k m T) where
-    -- every wire net n that arrives at the tile has the beat of the lockstep run, once the row is in
+    -- every wire that arrives at the tile has the beat of the lockstep run, once the row is in
     full-right : (t i : ℕ) → t < m → i < k → Agrees net n (T t) i → RowRight (T t) i → (c q : ℕ) → c < length (T t).state.views
-        → filled (tile_at net n (T t) i).wires (T t).layout.ins (get_or (T t).rows i []) ((T t).layout.first + c) q ≡ wire net n (n + i) ((T t).layout.first + c) q
+        → filled (tile_at net n (T t) i).wires (T t).layout.ins (get_or (T t).rows i []) ((T t).layout.first + c) q ≡ in_flight net n (n + i) ((T t).layout.first + c) q
     full-right t i tm ik a right c q l =
         let P = (T t).layout in
         let row = get_or (T t).rows i [] in
         let w : length row ≡ length P.ins = tiled.width t i tm ik in
-        let has : HasOrGets (tile_at net n (T t) i).wires P.ins row (wire net n (n + i)) (P.first + c) q =
+        let has : HasOrGets (tile_at net n (T t) i).wires P.ins row (in_flight net n (n + i)) (P.first + c) q =
         ⊎_elim (λ h. inl (a.wires c q l h)) (λ h. inr (h.0, h.1, (let z = h.1 in omega arith), h.2)) (tiled.covers t c q tm l) in
-        filled_right (tile_at net n (T t) i).wires P.ins row (wire net n (n + i)) (P.first + c) q (λ j h h'. right j h') has
+        filled_right (tile_at net n (T t) i).wires P.ins row (in_flight net n (n + i)) (P.first + c) q (λ j h h'. right j h') has
 
     -- each router makes what it makes in the lockstep run
     step-right : (t i : ℕ) → t < m → i < k → Agrees net n (T t) i → RowRight (T t) i → (c : ℕ) (d : View) (e : View × List Beat) → c < length (T t).state.views
@@ -89,9 +89,9 @@ module _ (net : Setup) (n : ℕ) where
     in-links : (r q : ℕ) (p : ℕ × ℕ) → neighbour net.relation.grid r q ≡ Some p → q < local_port net.relation.grid
     in-links r q p e = ⊎_elim (λ (l : q < local_port net.relation.grid). l) (λ (h : local_port net.relation.grid ≤ q). let z = no_link net.relation r q h in absurd (cc (z, e))) (cases_lt q (local_port net.relation.grid))
 
-    -- what goes out on a wire net n of the tile is the beat of the lockstep run
+    -- what goes out on a wire of the tile is the beat of the lockstep run
     out-right : (t i : ℕ) → t < m → i < k → Agrees net n (T t) i → RowRight (T t) i → (r q : ℕ) → r < nodes net.relation.grid → (from : Option (ℕ × ℕ)) → neighbour net.relation.grid r q ≡ from
-        → is_inside (T t).layout.first (length (T t).state.views) from ≡ true → out_at net.relation (T t).layout (steps_at net n (T t) i) r q ≡ wire net n (n + i + 1) r q
+        → is_inside (T t).layout.first (length (T t).state.views) from ≡ true → out_at net.relation (T t).layout (steps_at net n (T t) i) r q ≡ in_flight net n (n + i + 1) r q
     out-right t i tm ik a right r q l None e h =
         ap (λ from. beat_among (T t).layout.first (length (sent_of net.relation (T t).layout (steps_at net n (T t) i))) (sent_of net.relation (T t).layout (steps_at net n (T t) i)) from) e
         ∙ sym (unlinked_beat net (n + i + 1) r q e)
@@ -144,7 +144,7 @@ module _ (net : Setup) (n : ℕ) where
               ap (λ (z : TileState). z.wires (P.first + c) q) is
               ∙ (wires-after net P S (P.first + c) q (own-true P.first (length S) (P.first + c) (omega arith) (omega arith))
               ∙ (out-right t i tm ik a right (P.first + c) q r_in (neighbour net.relation.grid (P.first + c) q) refl h
-              ∙ ap (λ z. wire net n z (P.first + c) q) more));
+              ∙ ap (λ z. in_flight net n z (P.first + c) q) more));
         }
 
     puts-right : (t i : ℕ) → t < m → i < k → Agrees net n (T t) i → RowRight (T t) i → PutsInFlight net n (T t) i
@@ -155,7 +155,7 @@ module _ (net : Setup) (n : ℕ) where
         let from = neighbour net.relation.grid p.0 p.1 in
         put_by-at net P (steps_at net n (T t) i) o l
         ∙ (out-right t i tm ik a right p.0 p.1 w.0 from refl (from_inside P.first (length (T t).state.views) from w.1)
-        ∙ ap (λ z. wire net n z p.0 p.1) (omega arith))
+        ∙ ap (λ z. in_flight net n z p.0 p.1) (omega arith))
 
     -- what is known of all tiles after i cycles
     pub record Together (i : ℕ) : Type 0 where
@@ -163,20 +163,20 @@ module _ (net : Setup) (n : ℕ) where
       pub put : (t c : ℕ) → t < m → c < i → PutsInFlight net n (T t) c
 
     row-by : (t : ℕ) → t < m → (j : ℕ) → j < length (T t).layout.ins → (i : ℕ) → i < k → Together i
-        → get_or (get_or (T t).rows i []) j idle_beat ≡ wire net n (n + i) (get_or (T t).layout.ins j (0, 0)).0 (get_or (T t).layout.ins j (0, 0)).1
+        → get_or (get_or (T t).rows i []) j idle_beat ≡ in_flight net n (n + i) (get_or (T t).layout.ins j (0, 0)).0 (get_or (T t).layout.ins j (0, 0)).1
     row-by t tm j l zero ik g =
         let p = get_or (T t).layout.ins j (0, 0) in
-        (tiled.wired t j tm l).5 zero ik ∙ ap (λ z. wire net n z p.0 p.1) (omega arith)
+        (tiled.wired t j tm l).5 zero ik ∙ ap (λ z. in_flight net n z p.0 p.1) (omega arith)
     row-by t tm j l (suc i) ik g =
         let w = tiled.wired t j tm l in
-        w.5 (suc i) ik ∙ (g.put w.0 i w.2 (omega arith) w.1 w.3 ∙ ap (λ (p : ℕ × ℕ). wire net n (n + suc i) p.0 p.1) w.4)
+        w.5 (suc i) ik ∙ (g.put w.0 i w.2 (omega arith) w.1 w.3 ∙ ap (λ (p : ℕ × ℕ). in_flight net n (n + suc i) p.0 p.1) w.4)
 
     start : Together 0
     start = record {
       agree = λ t tm. record {
         many = refl;
         views = λ c d l. tiled.views t c d tm l ∙ ap (λ z. get_or (lockstep_at net z).views ((T t).layout.first + c) d) (omega arith);
-        wires = λ c q l h. tiled.wires t c q tm l h ∙ ap (λ z. wire net n z ((T t).layout.first + c) q) (omega arith);
+        wires = λ c q l h. tiled.wires t c q tm l h ∙ ap (λ z. in_flight net n z ((T t).layout.first + c) q) (omega arith);
       };
       put = λ t c tm l. absurd (omega arith);
     }
@@ -205,7 +205,7 @@ module _ (net : Setup) (n : ℕ) where
     pub closing-puts : (t i : ℕ) → t < m → i < k → PutsInFlight net n (T t) i
     closing-puts t i tm l = (together k (omega arith)).put t i tm l
 
-    -- what a wire net n brings is the beat of the lockstep run
-    pub carried-right : (u o : ℕ) (p : ℕ × ℕ) → u < m → o < length (T u).layout.outs → get_or (T u).layout.outs o (0, 0) ≡ p → (i : ℕ) → Together i → carried net n (wire net n n p.0 p.1) (T u) o i ≡ wire net n (n + i) p.0 p.1
-    carried-right u o p um ol e zero g = ap (λ z. wire net n z p.0 p.1) (omega arith)
-    carried-right u o p um ol e (suc i) g = g.put u i um (omega arith) o ol ∙ ap (λ (z : ℕ × ℕ). wire net n (n + suc i) z.0 z.1) e
+    -- what a wire brings is the beat of the lockstep run
+    pub carried-right : (u o : ℕ) (p : ℕ × ℕ) → u < m → o < length (T u).layout.outs → get_or (T u).layout.outs o (0, 0) ≡ p → (i : ℕ) → Together i → carried net n (in_flight net n n p.0 p.1) (T u) o i ≡ in_flight net n (n + i) p.0 p.1
+    carried-right u o p um ol e zero g = ap (λ z. in_flight net n z p.0 p.1) (omega arith)
+    carried-right u o p um ol e (suc i) g = g.put u i um (omega arith) o ol ∙ ap (λ (z : ℕ × ℕ). in_flight net n (n + suc i) z.0 z.1) e

@@ -12,7 +12,6 @@ use Rattle.noc_router.specs.Decided.{IsDecidedFor}
 use Rattle.noc_router.specs.View.{Site, View, IsRelationOf, all_taken, idle_beat, local_step, opening_view}
 use Rattle.noc_router.proofs.SiteLemmas.{all_taken-site}
 use Rattle.noc_net.specs.Halves.{IsPlaced, beat_at, decided, emptied, incoming}
-use Rattle.noc_net.specs.Marks.{AreMarked}
 use Rattle.noc_net.specs.Takes.{concluded}
 use Rattle.noc_net.specs.Unseen.{unseen}
 use Rattle.noc_net.proofs.TakesLemmas.{concluded-decided}
@@ -20,7 +19,7 @@ use Rattle.noc_model.proofs.RunLemmas.{map_map_indexed}
 use Rattle.noc_model.proofs.StepLemmas.{IsRelationOf-same_site, local_step-view, local_step-beats}
 use Rattle.noc_tiles.specs.Inner.{AreInner, CanFinish, to_send}
 use Rattle.noc_tiles.specs.Phases.{IsCleared}
-use Rattle.noc_tiles.specs.TileStep.{Layout, TileState, Wires, with_beat, filled, is_own, is_from, beat_among, beat_of, arrived, steps, sent_of, out_at, after_steps, put_by}
+use Rattle.noc_tiles.specs.TileStep.{Layout, TileState, Beats, with_beat, filled, is_own, is_from, beat_among, beat_of, arrived, steps, sent_of, out_at, after_steps, put_by}
 use Rattle.noc_tiles.specs.Tiles.{PartsFit}
 use Rattle.noc_tiles.specs.declared.inner.Inner.{Inner}
 use Rattle.noc_tiles.specs.declared.tile.Tile.{Tile}
@@ -32,7 +31,7 @@ use Rattle.noc_tiles.proofs.SentLemmas.{past-rows, sent_by}
 use Rattle.std.proofs.lemmas.Bool.Decides.{eqb_tells}
 
 -- a wire that none of the places is
-pub filled-other : (w : Wires) (ps : List (ℕ × ℕ)) (row : List Beat) (r q : ℕ) → ((j : ℕ) → j < length ps → get_or ps j (0, 0) ≢ place_at r q) → filled w ps row r q ≡ w r q
+pub filled-other : (w : Beats) (ps : List (ℕ × ℕ)) (row : List Beat) (r q : ℕ) → ((j : ℕ) → j < length ps → get_or ps j (0, 0) ≢ place_at r q) → filled w ps row r q ≡ w r q
 filled-other w [] row r q none = refl
 filled-other w (p ∷ ps) [] r q none = refl
 filled-other w (p ∷ ps) (x ∷ row) r q none =
@@ -139,11 +138,10 @@ module _ (relation : Routes) (first : ℕ) (ins outs : List (ℕ × ℕ)) (views
           ∙ sym (made-sent d)
 
       -- all routers of the tile can finish
-      pub can1 : (t : Tile) → t.first ≡ first → t.routers.items ≡ views1 → IsDecidedFor (ports relation.grid) relation.vcs t.plan → AreMarked t.marks t.beats.items → length t.beats.items ≡ nodes relation.grid
+      pub can1 : (t : Tile) → t.first ≡ first → t.routers.items ≡ views1 → IsDecidedFor (ports relation.grid) relation.vcs t.plan → length t.beats.items ≡ nodes relation.grid
           → ((r q : ℕ) → beat_at t.beats.items r q ≡ idle_beat) → CanFinish relation 0 (length views) t
-      can1 t same routers plan marks count silent = record {
+      can1 t same routers plan count silent = record {
         plan = plan;
-        marks = marks;
         order = omega arith;
         within = omega (arith, ap length routers, count1);
         wide = omega (arith, ap length routers, count1, same, set.wide);

@@ -9,7 +9,6 @@ use Rattle.noc_route.specs.Routes.{Routes}
 use Rattle.noc_router.specs.Decided.{IsDecidedFor}
 use Rattle.noc_router.specs.View.{View, IsRelationOf, idle_beat}
 use Rattle.noc_net.specs.Halves.{beat_at, emptied}
-use Rattle.noc_net.specs.Marks.{AreMarked}
 use Rattle.noc_net.specs.Takes.{concluded}
 use Rattle.noc_net.specs.Unseen.{unseen}
 use Rattle.noc_tiles.specs.Inner.{CanFinish, HaveFinished, put_from, to_send}
@@ -112,7 +111,6 @@ whole-wire first a b n sent (Some (s, q)) l m =
 pub can-part : (relation : Routes) (i j i' j' : ℕ) (t : Tile) → CanFinish relation i j t → i ≤ i' → i' ≤ j' → j' ≤ j → CanFinish relation i' j' t
 can-part relation i j i' j' t can l m n = record {
   plan = can.plan;
-  marks = can.marks;
   order = m;
   within = omega (arith, can.within);
   wide = can.wide;
@@ -129,7 +127,6 @@ can-after relation n seen i j i' j' a b done can l apart =
     let other : (k : ℕ) → i' ≤ k → k < j' → (k < i) ⊎ (j ≤ k) = λ k u v. ⊎_elim (λ (x : j ≤ i'). inr (omega arith)) (λ (y : j' ≤ i). inl (omega arith)) apart in
     record {
       plan = done.plan;
-      marks = done.marks;
       order = can.order;
       within = omega (arith, can.within, done.count);
       wide = omega (arith, can.wide, done.count, first);
@@ -144,14 +141,13 @@ can-after relation n seen i j i' j' a b done can l apart =
     }
 
 -- .. and once some wires have become idle too
-pub can-cleared : (relation : Routes) (i j k : ℕ) (outs : List (ℕ × ℕ)) (a b : Tile) → CanFinish relation i j a → b ≡ record a { beats = b.beats; marks = b.marks; outs = b.outs }
-    → AreMarked b.marks b.beats.items → length b.beats.items ≡ length a.beats.items → ((r q : ℕ) → IsCleared outs a.beats.items b.beats.items k r q) → CanFinish relation i j b
-can-cleared relation i j k outs a b can rest marks size cleared =
+pub can-cleared : (relation : Routes) (i j k : ℕ) (outs : List (ℕ × ℕ)) (a b : Tile) → CanFinish relation i j a → b ≡ record a { beats = b.beats; outs = b.outs }
+    → length b.beats.items ≡ length a.beats.items → ((r q : ℕ) → IsCleared outs a.beats.items b.beats.items k r q) → CanFinish relation i j b
+can-cleared relation i j k outs a b can rest size cleared =
     let first : b.first ≡ a.first = ap (λ (t : Tile). t.first) rest in
     let routers : b.routers.items ≡ a.routers.items = ap (λ (t : Tile). t.routers.items) rest in
     record {
       plan = subst (IsDecidedFor (ports relation.grid) relation.vcs) (sym (ap (λ (t : Tile). t.plan) rest)) can.plan;
-      marks = marks;
       order = can.order;
       within = omega (arith, can.within, ap length routers);
       wide = omega (arith, can.wide, ap length routers, first);
@@ -174,7 +170,7 @@ sent-same relation n vs ws k d l m same =
 
 -- the tile before all, after the routers at its edge below the inner ones and after those above them, with some wires idle, and after the inner ones
 module _ (relation : Routes) (n : ℕ) (seen : Bool) (i j : ℕ) (t1 t2 t3 t4 t5 : Tile) (order : i ≤ j) (within : j ≤ length t1.routers.items) (one : HaveFinished relation n seen 0 i t1 t2) (two : HaveFinished relation n seen j (length t1.routers.items) t2 t3)
-    (rest : t4 ≡ record t3 { beats = t4.beats; marks = t4.marks; outs = t4.outs }) (three : HaveFinished relation n seen i j t4 t5) where
+    (rest : t4 ≡ record t3 { beats = t4.beats; outs = t4.outs }) (three : HaveFinished relation n seen i j t4 t5) where
   abbrev pub sent : List (List Beat)
   sent = to_send relation n t1.routers.items
 

@@ -4,15 +4,15 @@ use Rattle.std.specs.Prelude.{nat_eq, ◌&&◌, if◌then◌else◌}
 use Rattle.std.proofs.lemmas.Bool.Decides.{eqb_tells}
 use Rattle.noc_packet.specs.declared.packet.Beat.{Beat}
 use Rattle.noc_router.specs.View.{idle_beat}
-use Rattle.noc_tiles.specs.TileStep.{Wires, filled, with_beat}
+use Rattle.noc_tiles.specs.TileStep.{Beats, filled, with_beat}
 use Rattle.noc_tiles.proofs.ClearLemmas.{place_at}
 use Rattle.noc_tiles.proofs.TileStepLemmas.{Tells}
 
 -- the wire has its beat, or is to get it
-abbrev pub HasOrGets : Wires → List (ℕ × ℕ) → List Beat → Wires → ℕ → ℕ → Type 0
+abbrev pub HasOrGets : Beats → List (ℕ × ℕ) → List Beat → Beats → ℕ → ℕ → Type 0
 HasOrGets w ps row meant r q = (w r q ≡ meant r q) ⊎ ((j : ℕ) × (j < length ps) × (j < length row) × (get_or ps j (0, 0) ≡ place_at r q))
 
-module _ (w : Wires) (p : ℕ × ℕ) (ps : List (ℕ × ℕ)) (x : Beat) (row : List Beat) (meant : Wires) (r q : ℕ) (right : x ≡ meant p.0 p.1) where
+module _ (w : Beats) (p : ℕ × ℕ) (ps : List (ℕ × ℕ)) (x : Beat) (row : List Beat) (meant : Beats) (r q : ℕ) (right : x ≡ meant p.0 p.1) where
   abbrev test : Bool → Bool → Beat
   test s t = if s && t then x else w r q
 
@@ -32,7 +32,7 @@ module _ (w : Wires) (p : ℕ × ℕ) (ps : List (ℕ × ℕ)) (x : Beat) (row :
   pub next : HasOrGets w (p ∷ ps) (x ∷ row) meant r q → HasOrGets (with_beat w p x) ps row meant r q
   next = at (eqb_tells r p.0) (eqb_tells q p.1)
 
-pub filled_right : (w : Wires) (ps : List (ℕ × ℕ)) (row : List Beat) (meant : Wires) (r q : ℕ)
+pub filled_right : (w : Beats) (ps : List (ℕ × ℕ)) (row : List Beat) (meant : Beats) (r q : ℕ)
     → ((j : ℕ) → j < length row → j < length ps → get_or row j idle_beat ≡ meant (get_or ps j (0, 0)).0 (get_or ps j (0, 0)).1)
     → HasOrGets w ps row meant r q → filled w ps row r q ≡ meant r q
 filled_right w [] row meant r q right (inl e) = e

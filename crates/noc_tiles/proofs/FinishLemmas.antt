@@ -12,7 +12,6 @@ use Rattle.noc_router.specs.View.{Site, View, IsRelationOf, idle_beat, beat_to_p
 use Rattle.noc_router.proofs.SiteLemmas.{injected-site, committed-site}
 use Rattle.noc_model.proofs.StepLemmas.{IsRelationOf-same_site, count-committed}
 use Rattle.noc_net.specs.Halves.{IsPlaced, beat_at, emptied, received}
-use Rattle.noc_net.specs.Marks.{AreMarked}
 use Rattle.noc_net.specs.Takes.{concluded}
 use Rattle.noc_net.specs.Unseen.{unseen}
 use Rattle.noc_tiles.specs.Inner.{CanFinish, HaveFinished, put_from, to_send}
@@ -84,7 +83,6 @@ module _ (relation : Routes) (n : ℕ) (seen : Bool) (i j : ℕ) (a : Tile) (can
   finished-none = record {
     rest = refl;
     plan = can.plan;
-    marks = can.marks;
     count = refl;
     size = refl;
     views = λ k d l m. absurd (omega (arith, l, m));
@@ -126,13 +124,12 @@ module _ (relation : Routes) (n : ℕ) (seen : Bool) (i j : ℕ) (a : Tile) (can
       first-at : (d : View) → v ≡ get_or a.routers.items k d
       first-at d = get_or_read a.routers.items k v (omega (arith, short, so_far.count)) is-first d
 
-      pub finished-more : c ≡ record b { plan = c.plan; routers = c.routers; beats = c.beats; marks = c.marks } → IsDecidedFor (ports relation.grid) relation.vcs c.plan → AreMarked c.marks c.beats.items → length c.beats.items ≡ length b.beats.items
+      pub finished-more : c ≡ record b { plan = c.plan; routers = c.routers; beats = c.beats } → IsDecidedFor (ports relation.grid) relation.vcs c.plan → length c.beats.items ≡ length b.beats.items
           → ((r q : ℕ) → r < nodes relation.grid → beat_at c.beats.items r q ≡ received (concluded relation n v) (neighbour relation.grid r q) (beat_at b.beats.items r q))
           → HaveFinished relation n seen i (k + 1) a c
-      finished-more rest plan marks size wires = record {
-        rest = rest ∙ ap (λ (t : Tile). record t { plan = c.plan; routers = c.routers; beats = c.beats; marks = c.marks }) so_far.rest;
+      finished-more rest plan size wires = record {
+        rest = rest ∙ ap (λ (t : Tile). record t { plan = c.plan; routers = c.routers; beats = c.beats }) so_far.rest;
         plan = plan;
-        marks = marks;
         count = ap length set_is ∙ length-set b.routers.items k w ∙ so_far.count;
         size = size ∙ so_far.size;
         views = λ m d l u.

@@ -2,7 +2,7 @@
 use Rattle.std.proofs.Common.{◌≡◌, ◌⊎◌, inl, inr, ℕ, zero, suc, ◌+◌, ◌-◌, ◌<◌, ◌≤◌, List, [], ◌∷◌, ◌++◌, map, length, get_or, take, refl, ap, sym, ◌∙◌, arith}
 use Rattle.std.specs.List.{flat_map}
 use Rattle.std.proofs.lemmas.List.{get_or_append_left, get_or-append-add, length-append, append_assoc, append-nil, length-map}
-use Rattle.noc_tiles.specs.Wire.{Wire, grown}
+use Rattle.noc_tiles.specs.RingEnd.{RingEnd, grown}
 use Rattle.noc_packet.specs.declared.packet.Beat.{Beat}
 use Rattle.noc_route.specs.Routes.{Routes}
 use Rattle.noc_router.specs.View.{View, idle_beat}
@@ -63,21 +63,21 @@ abbrev pub column : ℕ → List (List Beat) → List Beat
 column j rows = map (λ row. get_or row j idle_beat) rows
 
 module _ {A : Type 0} where
-  pub fed-at : (ws : List (Wire A)) (row : List Beat) (j : ℕ) (e : Wire A) → j < length ws → length row ≡ length ws → get_or (fed ws row) j e ≡ grown (get_or ws j e) (get_or row j idle_beat)
+  pub fed-at : (ws : List (RingEnd A)) (row : List Beat) (j : ℕ) (e : RingEnd A) → j < length ws → length row ≡ length ws → get_or (fed ws row) j e ≡ grown (get_or ws j e) (get_or row j idle_beat)
   fed-at [] row j e l s = absurd (omega arith)
   fed-at (w ∷ ws) [] j e l s = absurd (omega arith)
   fed-at (w ∷ ws) (x ∷ row) zero e l s = refl
   fed-at (w ∷ ws) (x ∷ row) (suc j) e l s = fed-at ws row j e (omega arith) (omega arith)
 
-  pub fed_all-at : (ws : List (Wire A)) (rows : List (List Beat)) (j : ℕ) (e : Wire A) → j < length ws → ((i : ℕ) → i < length rows → length (get_or rows i []) ≡ length ws)
+  pub fed_all-at : (ws : List (RingEnd A)) (rows : List (List Beat)) (j : ℕ) (e : RingEnd A) → j < length ws → ((i : ℕ) → i < length rows → length (get_or rows i []) ≡ length ws)
       → get_or (fed_all ws rows) j e ≡ record { at = (get_or ws j e).at; ring = (get_or ws j e).ring; past = (get_or ws j e).past ++ column j rows }
   fed_all-at ws [] j e l s =
-      let mk : List Beat → Wire A = λ p. record { at = (get_or ws j e).at; ring = (get_or ws j e).ring; past = p } in
+      let mk : List Beat → RingEnd A = λ p. record { at = (get_or ws j e).at; ring = (get_or ws j e).ring; past = p } in
       ap mk (sym (append-nil (get_or ws j e).past))
   fed_all-at ws (r ∷ rows) j e l s =
       let n = length-fed ws r in
-      let mk : Wire A → List Beat → Wire A = λ w xs. record { at = w.at; ring = w.ring; past = w.past ++ xs } in
-      let mk' : List Beat → Wire A = λ p. record { at = (get_or ws j e).at; ring = (get_or ws j e).ring; past = p } in
+      let mk : RingEnd A → List Beat → RingEnd A = λ w xs. record { at = w.at; ring = w.ring; past = w.past ++ xs } in
+      let mk' : List Beat → RingEnd A = λ p. record { at = (get_or ws j e).at; ring = (get_or ws j e).ring; past = p } in
       fed_all-at (fed ws r) rows j e (omega arith) (λ i h. s (suc i) (omega arith) ∙ sym n)
       ∙ (ap (λ w. mk w (column j rows)) (fed-at ws r j e l (s 0 (omega arith)))
       ∙ ap mk' (append_assoc (get_or ws j e).past (get_or r j idle_beat ∷ []) (column j rows)))

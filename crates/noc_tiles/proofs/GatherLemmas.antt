@@ -22,7 +22,7 @@ use Rattle.noc_tiles.proofs.FlatLemmas.{offset, flat-at, offset-lt, Found, flat-
 use Rattle.noc_tiles.proofs.SentLemmas.{past-rows}
 use Rattle.noc_tiles.proofs.EndsLemmas.{some_item}
 use Rattle.noc_tiles.proofs.BoundaryLemmas.{AllRuns, RunsBy, received_of, runs_at, same_count, offset-same, flat-same, offset-two, flat-two, Moved, inlet-at, outlet-at, length-inlets, length-outlets, vec-length, found-get, place-get, stream, stream-last, length-after, set_at, owner, far_end-flat, wire-of, Carries}
-use Rattle.noc_tiles.specs.Together.{Trace, TilesRan, Agrees, carried, tile_at, wire}
+use Rattle.noc_tiles.specs.Together.{Trace, TilesRan, Agrees, carried, tile_at, in_flight}
 use Rattle.noc_tiles.proofs.ClosingLaw.{closing, together, carried-right}
 
 module _ (net : Setup) (n k : ℕ) (I O : List (Option End)) (xs ys : List Tile) (W : IsPartition net n k I O xs) (r : AllRuns net.relation k xs ys) (d : Tile) where
@@ -159,7 +159,7 @@ module _ (net : Setup) (n k : ℕ) (I O : List (Option End)) (xs ys : List Tile)
       let rows' = rows_at G.t in
       let ps = puts net.relation (layout_of b) b.start (state_of b) rows' in
       let p = (get_or (flat_map inlets xs) i e).at in
-      let w = wire net n n p.0 p.1 in
+      let w = in_flight net n n p.0 p.1 in
       let im = in-moved i e il in
       let om = out-moved o e ol in
       let f = L.2 e in
@@ -240,12 +240,12 @@ module _ (net : Setup) (n k : ℕ) (I O : List (Option End)) (xs ys : List Tile)
           let x = empties-left i il in
           let C = carries i F x.0 e x.1 in
           let pe : (get_or (flat_map inlets xs) i e).at ≡ get_or (places (inlets a)) j (0, 0) = ap (λ (w : End). w.at) (found-get inlets xs i d F e) ∙ sym (place-get (inlets a) j (0, 0) e h') in
-          (C.u, C.o, C.um, C.ol, C.far_end ∙ pe, λ i' h''. C.rows i' h'' ∙ ap (λ (p : ℕ × ℕ). carried net n (wire net n n p.0 p.1) (traces C.u) C.o i') pe);
+          (C.u, C.o, C.um, C.ol, C.far_end ∙ pe, λ i' h''. C.rows i' h'' ∙ ap (λ (p : ℕ × ℕ). carried net n (in_flight net n n p.0 p.1) (traces C.u) C.o i') pe);
     }
 
     -- what is left in a ring is the beat of the lockstep run
     left-right : (i : ℕ) (x : Beat) (e : End) → i < length (flat_map inlets ys) → Left (flat_map inlets ys) (flat_map outlets ys) i x
-        → x ≡ wire net n (n + k) (get_or (flat_map inlets ys) i e).at.0 (get_or (flat_map inlets ys) i e).at.1
+        → x ≡ in_flight net n (n + k) (get_or (flat_map inlets ys) i e).at.0 (get_or (flat_map inlets ys) i e).at.1
     left-right i x e l L =
         let y = in-count in
         let l' : i < length (flat_map inlets xs) = omega arith in
@@ -255,7 +255,7 @@ module _ (net : Setup) (n k : ℕ) (I O : List (Option End)) (xs ys : List Tile)
         let g = together net n k (length xs) traces tiled k (omega arith) in
         C.last
         ∙ (carried-right net n k (length xs) traces tiled C.u C.o p C.um C.ol C.far_end k g
-        ∙ ap (λ (q : ℕ × ℕ). wire net n (n + k) q.0 q.1) (sym (in-moved i e l').at))
+        ∙ ap (λ (q : ℕ × ℕ). in_flight net n (n + k) q.0 q.1) (sym (in-moved i e l').at))
 
     agrees : (t : ℕ) → t < length xs → Agrees net n (traces t) k
     agrees t l = closing net n k (length xs) traces tiled t l
@@ -284,7 +284,7 @@ module _ (net : Setup) (n k : ℕ) (I O : List (Option End)) (xs ys : List Tile)
 
     -- a wire that no ring ends at
     inside : (s q : ℕ) → s < nodes net.relation.grid → ((i : ℕ) (e : End) → i < length (flat_map inlets ys) → (get_or (flat_map inlets ys) i e).at ≢ (s, q))
-        → beat_at (flat_map rows_of ys) s q ≡ wire net n (n + k) s q
+        → beat_at (flat_map rows_of ys) s q ≡ in_flight net n (n + k) s q
     inside s q h none =
         let F = owner net n k I O xs W d s h in
         let t = F.t in
@@ -317,7 +317,7 @@ module _ (net : Setup) (n k : ℕ) (I O : List (Option End)) (xs ys : List Tile)
         let il' : i < length (flat_map inlets ys) = let y = in-count in omega arith in
         absurd (none i e il' ((in-moved i e il).at ∙ (ap (λ (w : End). w.at) (found-get inlets xs i d H e) ∙ (sym (place-get (inlets a) z.0 (0, 0) e h') ∙ (z.2 ∙ ap (λ (y : ℕ). pair y q) here))))))
         ((W.tiles t d l).covers c q F.in_part)
-        ∙ ap (λ z. wire net n (n + k) z q) here)
+        ∙ ap (λ z. in_flight net n (n + k) z q) here)
       where
         pair : ℕ → ℕ → ℕ × ℕ
         pair u v = (u, v)
@@ -325,13 +325,13 @@ module _ (net : Setup) (n k : ℕ) (I O : List (Option End)) (xs ys : List Tile)
     by-case : (new : List (List Beat)) (s q : ℕ) → s < nodes net.relation.grid
         → ((i : ℕ) × (i < length (flat_map inlets ys)) × ((e : End) → (get_or (flat_map inlets ys) i e).at ≡ (s, q)) × Left (flat_map inlets ys) (flat_map outlets ys) i (beat_at new s q))
         ⊎ (((i : ℕ) (e : End) → i < length (flat_map inlets ys) → (get_or (flat_map inlets ys) i e).at ≢ (s, q)) × (beat_at new s q ≡ beat_at (flat_map rows_of ys) s q))
-        → beat_at new s q ≡ wire net n (n + k) s q
+        → beat_at new s q ≡ in_flight net n (n + k) s q
     by-case new s q h (inl z) =
         let e = some_item (flat_map inlets ys) z.0 z.1 in
-        left-right z.0 (beat_at new s q) e z.1 z.3 ∙ ap (λ (p : ℕ × ℕ). wire net n (n + k) p.0 p.1) (z.2 e)
+        left-right z.0 (beat_at new s q) e z.1 z.3 ∙ ap (λ (p : ℕ × ℕ). in_flight net n (n + k) p.0 p.1) (z.2 e)
     by-case new s q h (inr z) = z.1 ∙ inside s q h z.0
 
-    pub wires-done : (new : List (List Beat)) → Empties (flat_map inlets ys) (flat_map outlets ys) (length (flat_map inlets ys)) (flat_map rows_of ys) new → (s q : ℕ) → beat_at new s q ≡ wire net n (n + k) s q
+    pub wires-done : (new : List (List Beat)) → Empties (flat_map inlets ys) (flat_map outlets ys) (length (flat_map inlets ys)) (flat_map rows_of ys) new → (s q : ℕ) → beat_at new s q ≡ in_flight net n (n + k) s q
     wires-done new c s q =
         ⊎_elim (λ (h : s < nodes net.relation.grid). by-case new s q h (c.wires s q))
         (λ (h : nodes net.relation.grid ≤ s). past-rows new s q (let z = c.same in let y = rows-length in omega arith) ∙ sym (past_wires net (n + k) s q h))

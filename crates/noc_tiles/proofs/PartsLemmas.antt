@@ -5,7 +5,6 @@ use Rattle.noc_router.specs.Decided.{IsDecidedFor}
 use Rattle.noc_net.specs.Good.{IsGoodSetup}
 use Rattle.noc_net.proofs.PartsLemmas.{parts-in_step, views-in_step, wires-in_step}
 use Rattle.noc_model.specs.declared.limits.TheConstants.{CYCLE_LIMIT}
-use Rattle.noc_net.specs.Marks.{AreMarked}
 use Rattle.noc_net.specs.Lockstep.{lockstep_at}
 use Rattle.noc_net.specs.Parts.{AreParts, setup_in}
 use Rattle.noc_net.specs.declared.parts.Parts.{Parts}
@@ -30,9 +29,9 @@ module _ (P : Parts) (A : AreParts P) where
   parts-beats = sym (vec-length P.beats) ∙ A.beats
 
   -- a tile of all routers can be run
-  pub whole-ready : (t : Tile) → IsGrid P.relation.grid → t.first ≡ 0 → t.routers.items ≡ P.routers.items → t.plan ≡ P.plan → t.beats.items ≡ P.beats.items → t.ins.items ≡ [] → t.outs.items ≡ [] → AreMarked t.marks t.beats.items
+  pub whole-ready : (t : Tile) → IsGrid P.relation.grid → t.first ≡ 0 → t.routers.items ≡ P.routers.items → t.plan ≡ P.plan → t.beats.items ≡ P.beats.items → t.ins.items ≡ [] → t.outs.items ≡ []
       → IsReady P.relation t
-  whole-ready t grid first routers plan beats ins outs marks =
+  whole-ready t grid first routers plan beats ins outs =
       let few = grid.few_dimensions in
       record {
         plan = subst (IsDecidedFor (ports P.relation.grid) P.relation.vcs) (sym plan) A.plan;
@@ -40,7 +39,6 @@ module _ (P : Parts) (A : AreParts P) where
         parts = set-as P.relation t.first t.first [] (places (inlets t)) [] (places (outlets t)) P.routers.items t.routers.items P.beats.items t.beats.items
             refl (sym (ap (λ q. places (map inlet q)) ins)) (sym (ap (λ q. places (map outlet q)) outs)) (sym routers) (sym beats)
             (set-all (setup_in P) P.count t.first P.routers.items P.beats.items first parts-views parts-beats parts-flight);
-        marks = marks;
       }
 
 -- parts of the lockstep run, where the setup is good and the count within the limit

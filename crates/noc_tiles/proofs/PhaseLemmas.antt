@@ -1,5 +1,5 @@
 -- A cycle of a tile, phase by phase: what was taken, the routers at the edge that finish, what was sent, the inner routers that finish.
-use Rattle.std.proofs.Common.{◌≡◌, ◌⊎◌, ℕ, ◌+◌, ◌-◌, ◌<◌, ◌≤◌, Bool, false, List, [], length, get_or, map, vec_len, inl, inr, refl, ap, sym, ◌∙◌, subst, arith, rules, ⊎_elim}
+use Rattle.std.proofs.Common.{◌≡◌, ℕ, ◌+◌, ◌-◌, ◌<◌, ◌≤◌, Bool, false, List, [], length, get_or, map, vec_len, inl, inr, refl, ap, sym, ◌∙◌, subst, arith, rules, ⊎_elim}
 use Rattle.std.specs.List.{All}
 use Rattle.std.proofs.lemmas.Bool.{cases_lt}
 use Rattle.std.proofs.lemmas.List.{get_or_default}
@@ -40,7 +40,7 @@ took-as ins row old new b0 b1 before after took r q = ap (λ (b : List (List Bea
 -- ---- a whole cycle
 
 module _ (relation : Routes) (n : ℕ) (seen : Bool) (inner : Inner) (row : List Beat) (a t1 : Tile) (ready : IsReady relation a) (within : AreInner relation.grid a.first (vec_len a.routers) (places (outlets a)) inner)
-    (rest1 : t1 ≡ record a { routers = t1.routers; beats = t1.beats; marks = t1.marks; ins = t1.ins }) (took : HasTaken relation row a t1) where
+    (rest1 : t1 ≡ record a { routers = t1.routers; beats = t1.beats; ins = t1.ins }) (took : HasTaken relation row a t1) where
   abbrev ins : List (ℕ × ℕ)
   ins = places (inlets a)
 
@@ -71,7 +71,7 @@ module _ (relation : Routes) (n : ℕ) (seen : Bool) (inner : Inner) (row : List
   can : CanFinish relation 0 (length views) t1
   can =
       can1 relation a.first ins outs views a.beats.items ready.parts row n views1 took.views t1 first1 refl
-      (subst (IsDecidedFor (ports relation.grid) relation.vcs) (sym (ap (λ (t : Tile). t.plan) rest1)) ready.plan) took.marks rows1 took.silent
+      (subst (IsDecidedFor (ports relation.grid) relation.vcs) (sym (ap (λ (t : Tile). t.plan) rest1)) ready.plan) rows1 took.silent
 
   pub edge-can : CanFinish relation 0 inner.from t1
   edge-can = can-part relation 0 (length views) 0 inner.from t1 can (omega arith) (omega arith) (omega (arith, fits.order, fits.within))
@@ -101,12 +101,12 @@ module _ (relation : Routes) (n : ℕ) (seen : Bool) (inner : Inner) (row : List
           (can-after relation n seen 0 inner.from inner.from inner.to t1 t2 one (can-part relation 0 (length views) inner.from inner.to t1 can (omega arith) fits.order fits.within) (omega arith) (inl (omega arith)))
           (omega (arith, all1, n1, fits.within)) (inr (omega arith))
 
-      module _ (t4 : Tile) (rest4 : t4 ≡ record t3 { beats = t4.beats; marks = t4.marks; outs = t4.outs }) (sent : HasSent t3 t4) where
+      module _ (t4 : Tile) (rest4 : t4 ≡ record t3 { beats = t4.beats; outs = t4.outs }) (sent : HasSent t3 t4) where
         cleared : (r q : ℕ) → IsCleared outs t3.beats.items t4.beats.items (length outs) r q
         cleared r q = subst (λ ps. IsCleared ps t3.beats.items t4.beats.items (length ps) r q) (ap places outs3) (sent.cleared r q)
 
         pub inner-can : CanFinish relation inner.from inner.to t4
-        inner-can = can-cleared relation inner.from inner.to (length outs) outs t3 t4 middle3 rest4 sent.marks sent.size cleared
+        inner-can = can-cleared relation inner.from inner.to (length outs) outs t3 t4 middle3 rest4 sent.size cleared
 
         module _ (t5 : Tile) (three : HaveFinished relation n seen inner.from inner.to t4 t5) where
           abbrev views' : List View
@@ -173,7 +173,6 @@ module _ (relation : Routes) (n : ℕ) (seen : Bool) (inner : Inner) (row : List
             few_links = ready.few_links;
             parts = set-as relation a.first t5.first ins (places (inlets t5)) outs (places (outlets t5)) views' views' t5.beats.items t5.beats.items (sym first5) (sym same-ins) (sym same-outs) refl refl
                 (set5 relation a.first ins outs views a.beats.items ready.parts row n views1 took.views d views' n5 did t3.beats.items t4.beats.items t5.beats.items inner fits cleared edge whole kept rows5);
-            marks = three.marks;
           }
 
           -- .. and it has made this one

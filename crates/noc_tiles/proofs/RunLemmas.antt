@@ -10,7 +10,7 @@ use Rattle.noc_router.specs.View.{View, local_step, idle_beat}
 use Rattle.noc_net.specs.Halves.{beat_at}
 use Rattle.noc_net.specs.Unseen.{unseen}
 use Rattle.noc_model.proofs.UnseenLemmas.{findings-local_step}
-use Rattle.noc_tiles.specs.Wire.{Wire}
+use Rattle.noc_tiles.specs.RingEnd.{RingEnd}
 use Rattle.noc_tiles.specs.TileStep.{Layout, TileState, fed, fed_all, places, filled, arrived, steps, after_steps, put_by, cycled, put_in, after, puts}
 use Rattle.noc_tiles.specs.Tiles.{IsReady, IsSameTile, Cycles, Runs, inlets, outlets, layout_of, state_of}
 use Rattle.noc_tiles.specs.declared.tile.Tile.{Tile}
@@ -18,11 +18,11 @@ use Rattle.noc_tiles.proofs.TileStepLemmas.{length-fed, places-names, filled-sam
 use Rattle.noc_tiles.proofs.CycleLemmas.{tabulate-same, some_view}
 
 module _ {A : Type 0} where
-  pub fed_all-more : (ws : List (Wire A)) (rows : List (List Beat)) (row : List Beat) → fed_all ws (rows ++ row ∷ []) ≡ fed (fed_all ws rows) row
+  pub fed_all-more : (ws : List (RingEnd A)) (rows : List (List Beat)) (row : List Beat) → fed_all ws (rows ++ row ∷ []) ≡ fed (fed_all ws rows) row
   fed_all-more ws [] row = refl
   fed_all-more ws (r ∷ rows) row = fed_all-more (fed ws r) rows row
 
-  pub length-fed_all : (ws : List (Wire A)) (rows : List (List Beat)) → length (fed_all ws rows) ≡ length ws
+  pub length-fed_all : (ws : List (RingEnd A)) (rows : List (List Beat)) → length (fed_all ws rows) ≡ length ws
   length-fed_all ws [] = refl
   length-fed_all ws (r ∷ rows) = length-fed_all (fed ws r) rows ∙ length-fed ws r
 

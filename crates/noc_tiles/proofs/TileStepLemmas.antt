@@ -6,40 +6,40 @@ use Rattle.std.proofs.lemmas.List.{set-get_or, length-map, get_or-map, map-set, 
 use Rattle.noc_packet.specs.declared.packet.Beat.{Beat}
 use Rattle.noc_router.specs.View.{idle_beat}
 use Rattle.noc_net.specs.Halves.{beat_at}
-use Rattle.noc_tiles.specs.Wire.{Wire, Ring, grown}
-use Rattle.noc_tiles.specs.TileStep.{names, fed, places, filled, with_beat, Wires}
+use Rattle.noc_tiles.specs.RingEnd.{RingEnd, Ring, grown}
+use Rattle.noc_tiles.specs.TileStep.{names, fed, places, filled, with_beat, Beats}
 use Rattle.noc_tiles.specs.Tiles.{AreWithin}
 
 module _ {A : Type 0} where
-  pub fed-nil : (ws : List (Wire A)) → fed ws [] ≡ ws
+  pub fed-nil : (ws : List (RingEnd A)) → fed ws [] ≡ ws
   fed-nil [] = refl
   fed-nil (w ∷ ws) = refl
 
-  pub length-fed : (ws : List (Wire A)) (row : List Beat) → length (fed ws row) ≡ length ws
+  pub length-fed : (ws : List (RingEnd A)) (row : List Beat) → length (fed ws row) ≡ length ws
   length-fed [] row = refl
   length-fed (w ∷ ws) [] = refl
   length-fed (w ∷ ws) (x ∷ row) = ap suc (length-fed ws row)
 
-  pub places-fed : (ws : List (Wire A)) (row : List Beat) → places (fed ws row) ≡ places ws
+  pub places-fed : (ws : List (RingEnd A)) (row : List Beat) → places (fed ws row) ≡ places ws
   places-fed [] row = refl
   places-fed (w ∷ ws) [] = refl
   places-fed (w ∷ ws) (x ∷ row) = ap (λ ps. w.at ∷ ps) (places-fed ws row)
 
-  pub fed-more : (ws : List (Wire A)) (row : List Beat) (x : Beat) (d : Wire A) → length row < length ws
+  pub fed-more : (ws : List (RingEnd A)) (row : List Beat) (x : Beat) (d : RingEnd A) → length row < length ws
       → set (fed ws row) (length row) (grown (get_or (fed ws row) (length row) d) x) ≡ fed ws (row ++ x ∷ [])
   fed-more [] row x d l = absurd (omega arith)
   fed-more (w ∷ ws) [] x d l = ap (λ vs. grown w x ∷ vs) (sym (fed-nil ws))
   fed-more (w ∷ ws) (y ∷ row) x d l = ap (λ vs. grown w y ∷ vs) (fed-more ws row x d (omega arith))
 
-  pub names-fed : (ws : List (Wire A)) (row : List Beat) → names (fed ws row) ≡ names ws
+  pub names-fed : (ws : List (RingEnd A)) (row : List Beat) → names (fed ws row) ≡ names ws
   names-fed [] row = refl
   names-fed (w ∷ ws) [] = refl
   names-fed (w ∷ ws) (x ∷ row) = ap (λ ps. (w.at, w.ring) ∷ ps) (names-fed ws row)
 
-  pub places-names : (ws vs : List (Wire A)) → names ws ≡ names vs → places ws ≡ places vs
+  pub places-names : (ws vs : List (RingEnd A)) → names ws ≡ names vs → places ws ≡ places vs
   places-names ws vs e = sym (firsts ws) ∙ (ap (map (λ (n : (ℕ × ℕ) × Ring A). n.0)) e ∙ firsts vs)
     where
-      firsts : (us : List (Wire A)) → map (λ (n : (ℕ × ℕ) × Ring A). n.0) (names us) ≡ places us
+      firsts : (us : List (RingEnd A)) → map (λ (n : (ℕ × ℕ) × Ring A). n.0) (names us) ≡ places us
       firsts [] = refl
       firsts (u ∷ us) = ap (λ ps. u.at ∷ ps) (firsts us)
 
@@ -66,27 +66,27 @@ beat_at-set bs r p x l m a q = at (eqb_tells a r) (eqb_tells q p)
     at (inl e) (inr f) = here e.1 ∙ (get_or-set_other (get_or bs r []) p q x idle_beat f.1 ∙ (ap (λ i. beat_at bs i q) (sym e.1) ∙ sym (ap₂ test e.0 f.0)))
     at (inr e) f = ap (λ one. get_or one q idle_beat) (get_or-set_other bs r a row [] e.1) ∙ sym (ap (λ s. test s (nat_eq q p)) e.0)
 
-pub filled-nil : (w : Wires) (ps : List (ℕ × ℕ)) (r q : ℕ) → filled w ps [] r q ≡ w r q
+pub filled-nil : (w : Beats) (ps : List (ℕ × ℕ)) (r q : ℕ) → filled w ps [] r q ≡ w r q
 filled-nil w [] r q = refl
 filled-nil w (p ∷ ps) r q = refl
 
-pub filled-more : (w : Wires) (ps : List (ℕ × ℕ)) (row : List Beat) (x : Beat) (d : ℕ × ℕ) (r q : ℕ) → length row < length ps
+pub filled-more : (w : Beats) (ps : List (ℕ × ℕ)) (row : List Beat) (x : Beat) (d : ℕ × ℕ) (r q : ℕ) → length row < length ps
     → with_beat (filled w ps row) (get_or ps (length row) d) x r q ≡ filled w ps (row ++ x ∷ []) r q
 filled-more w [] row x d r q l = absurd (omega arith)
 filled-more w (p ∷ ps) [] x d r q l = sym (filled-nil (with_beat w p x) ps r q)
 filled-more w (p ∷ ps) (y ∷ row) x d r q l = filled-more (with_beat w p y) ps row x d r q (omega arith)
 
-pub with_beat-same : (f g : Wires) (p p' : ℕ × ℕ) (x : Beat) (r q : ℕ) → p ≡ p' → f r q ≡ g r q → with_beat f p x r q ≡ with_beat g p' x r q
+pub with_beat-same : (f g : Beats) (p p' : ℕ × ℕ) (x : Beat) (r q : ℕ) → p ≡ p' → f r q ≡ g r q → with_beat f p x r q ≡ with_beat g p' x r q
 with_beat-same f g p p' x r q e h =
     ap (λ (y : Beat). if nat_eq r p.0 && nat_eq q p.1 then x else y) h ∙ ap (λ (z : ℕ × ℕ). with_beat g z x r q) e
 
-pub filled-same : (f g : Wires) (ps : List (ℕ × ℕ)) (row : List Beat) (r q : ℕ) → f r q ≡ g r q → filled f ps row r q ≡ filled g ps row r q
+pub filled-same : (f g : Beats) (ps : List (ℕ × ℕ)) (row : List Beat) (r q : ℕ) → f r q ≡ g r q → filled f ps row r q ≡ filled g ps row r q
 filled-same f g [] row r q h = h
 filled-same f g (p ∷ ps) [] r q h = h
 filled-same f g (p ∷ ps) (x ∷ row) r q h = filled-same (with_beat f p x) (with_beat g p x) ps row r q (with_beat-same f g p p x r q refl h)
 
 -- a loop over ends, whose views are f of them
-module _ {X A : Type 0} (f : X → Wire A) where
+module _ {X A : Type 0} (f : X → RingEnd A) where
   pub length-same : (is0 is : List X) (row : List Beat) → map f is ≡ fed (map f is0) row → length is ≡ length is0
   length-same is0 is row e = sym (length-map is f) ∙ (ap length e ∙ (length-fed (map f is0) row ∙ length-map is0 f))
 
@@ -95,7 +95,7 @@ module _ {X A : Type 0} (f : X → Wire A) where
   place-at is0 is row i d e h l =
       let l' : i < length (map f is) = rw length-map l in
       ap (λ ps. get_or ps i e) (sym (places-fed (map f is0) row) ∙ ap places (sym h))
-      ∙ (get_or-map (λ (w : Wire A). w.at) (map f is) i (f d) e l' ∙ ap (λ (w : Wire A). w.at) (get_or-map f is i d (f d) l))
+      ∙ (get_or-map (λ (w : RingEnd A). w.at) (map f is) i (f d) e l' ∙ ap (λ (w : RingEnd A). w.at) (get_or-map f is i d (f d) l))
 
   -- the place of the i-th end is one of those
   pub within-at : (rows links : ℕ) (is0 is1 is : List X) (row : List Beat) (i : ℕ) (d : X) → AreWithin rows links (places (map f is0)) → is1 ≡ is0 → map f is ≡ fed (map f is1) row → i < length is
@@ -119,7 +119,7 @@ module _ {X A : Type 0} (f : X → Wire A) where
 
   pub names-set : (is : List X) (i : ℕ) (d new : X) → i < length is → (f new).at ≡ (f (get_or is i d)).at → (f new).ring ≡ (f (get_or is i d)).ring → names (map f (set is i new)) ≡ names (map f is)
   names-set is i d new l a r =
-      let name : Wire A → (ℕ × ℕ) × Ring A = λ w. (w.at, w.ring) in
+      let name : RingEnd A → (ℕ × ℕ) × Ring A = λ w. (w.at, w.ring) in
       let mk : ℕ × ℕ → Ring A → (ℕ × ℕ) × Ring A = λ p q. (p, q) in
       let l' : i < length (map f is) = rw length-map l in
       ap names (map-set f is i new)

@@ -10,7 +10,6 @@ use Rattle.noc_router.specs.Decided.{IsDecidedFor}
 use Rattle.noc_router.specs.View.{View, idle_beat}
 use Rattle.noc_net.specs.Halves.{beat_at}
 use Rattle.noc_net.specs.Lockstep.{lockstep_at}
-use Rattle.noc_net.specs.Marks.{AreMarked}
 use Rattle.noc_net.specs.Network.{Setup}
 use Rattle.noc_tiles.specs.Ends.{End}
 use Rattle.noc_tiles.specs.TileStep.{is_own, is_from, is_inside, places}
@@ -65,8 +64,7 @@ module _ (net : Setup) (sound : IsGrid net.relation.grid) (workers first count :
       (size : length t.beats.items ≡ nodes net.relation.grid)
       (own : (r q : ℕ) → is_own first count r ≡ true → beat_at t.beats.items r q ≡ beat_at B r q)
       (idle : (r q : ℕ) → is_own first count r ≡ false → beat_at t.beats.items r q ≡ idle_beat)
-      (ins : AreTakenIn net.relation.grid first count ((first + count) * 6) I (inlets t)) (outs : AreTakenOut net.relation.grid first count ((first + count) * 6) O (outlets t))
-      (marks : AreMarked t.marks t.beats.items) where
+      (ins : AreTakenIn net.relation.grid first count ((first + count) * 6) I (inlets t)) (outs : AreTakenOut net.relation.grid first count ((first + count) * 6) O (outlets t)) where
     pub new-tile : IsTile net n k I0 O0 t
     new-tile =
         let V = inlets t in
@@ -80,7 +78,7 @@ module _ (net : Setup) (sound : IsGrid net.relation.grid) (workers first count :
         let ff : (x : Option (ℕ × ℕ)) → is_from t.first (length t.routers.items) x ≡ is_from first count x = λ x. ap₂ (λ u v. is_from u v x) is-first vc in
         record {
           can = record {
-            ready = record { plan = plan; few_links = omega arith; parts = subst Q (sym views) (subst P (sym is-first) S); marks = marks };
+            ready = record { plan = plan; few_links = omega arith; parts = subst Q (sym views) (subst P (sym is-first) S) };
             done = is-done;
             end = omega arith;
           };

@@ -6,7 +6,6 @@ use Rattle.noc_route.specs.Routes.{Routes}
 use Rattle.noc_router.specs.Decided.{IsDecidedFor}
 use Rattle.noc_router.specs.View.{View, IsRelationOf, idle_beat}
 use Rattle.noc_net.specs.Halves.{beat_at, emptied}
-use Rattle.noc_net.specs.Marks.{AreMarked}
 use Rattle.noc_net.specs.Takes.{concluded}
 use Rattle.noc_net.specs.Unseen.{unseen}
 use Rattle.noc_tiles.specs.TileStep.{is_own, is_from}
@@ -31,7 +30,6 @@ to_send relation n views = map (λ (v : View). (concluded relation n v).to_put) 
 -- the routers of a tile from index i to before j can finish a cycle: they are those of their nodes, and the wires that leave them are idle
 pub record CanFinish (relation : Routes) (i j : ℕ) (t : Tile) : Type 0 where
   pub plan : IsDecidedFor (ports relation.grid) relation.vcs t.plan
-  pub marks : AreMarked t.marks t.beats.items
   pub order : i ≤ j
   pub within : j ≤ length t.routers.items
   pub wide : t.first + length t.routers.items ≤ nodes relation.grid
@@ -42,9 +40,8 @@ pub record CanFinish (relation : Routes) (i j : ℕ) (t : Tile) : Type 0 where
 
 -- .. and have finished cycle n; where nobody has seen what was found, the findings are others
 pub record HaveFinished (relation : Routes) (n : ℕ) (seen : Bool) (i j : ℕ) (a b : Tile) : Type 0 where
-  pub rest : b ≡ record a { plan = b.plan; routers = b.routers; beats = b.beats; marks = b.marks }
+  pub rest : b ≡ record a { plan = b.plan; routers = b.routers; beats = b.beats }
   pub plan : IsDecidedFor (ports relation.grid) relation.vcs b.plan
-  pub marks : AreMarked b.marks b.beats.items
   pub count : length b.routers.items ≡ length a.routers.items
   pub size : length b.beats.items ≡ length a.beats.items
   pub views : (k : ℕ) (d : View) → i ≤ k → k < j → unseen (get_or b.routers.items k d) ≡ unseen (emptied (concluded relation n (get_or a.routers.items k d)))

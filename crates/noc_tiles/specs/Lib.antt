@@ -8,5 +8,5 @@ pub mod Starts
 pub mod Tiles
 pub mod Partition
 pub mod Phases
-pub mod Wire
+pub mod RingEnd
 pub mod Together

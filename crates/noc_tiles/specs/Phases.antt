@@ -5,7 +5,6 @@ use Rattle.noc_packet.specs.declared.packet.Beat.{Beat}
 use Rattle.noc_route.specs.Routes.{Routes}
 use Rattle.noc_router.specs.View.{View, all_taken, idle_beat}
 use Rattle.noc_net.specs.Halves.{beat_at}
-use Rattle.noc_net.specs.Marks.{AreMarked}
 use Rattle.noc_tiles.specs.TileStep.{arrived, fed, places}
 use Rattle.noc_tiles.specs.Tiles.{inlets, outlets, layout_of, state_of}
 use Rattle.noc_tiles.specs.declared.tile.Tile.{Tile}
@@ -17,7 +16,6 @@ pub record HasTaken (relation : Routes) (row : List Beat) (a b : Tile) : Type 0 
   pub views : b.routers.items ≡ map_indexed (λ (i : ℕ) (v : View). all_taken relation (arrived relation (layout_of a) (state_of a) row i) v) a.routers.items
   pub size : length b.beats.items ≡ length a.beats.items
   pub silent : (r q : ℕ) → beat_at b.beats.items r q ≡ idle_beat
-  pub marks : AreMarked b.marks b.beats.items
 
 -- the wire at this place is idle where it is one of the first k places, else as it was
 abbrev pub IsCleared : List (ℕ × ℕ) → List (List Beat) → List (List Beat) → ℕ → ℕ → ℕ → Type 0
@@ -30,4 +28,3 @@ pub record HasSent (a b : Tile) : Type 0 where
   pub outs : outlets b ≡ fed (outlets a) (map (λ (p : ℕ × ℕ). beat_at a.beats.items p.0 p.1) (places (outlets a)))
   pub cleared : (r q : ℕ) → IsCleared (places (outlets a)) a.beats.items b.beats.items (length (places (outlets a))) r q
   pub size : length b.beats.items ≡ length a.beats.items
-  pub marks : AreMarked b.marks b.beats.items

@@ -6,38 +6,38 @@ use Rattle.noc_packet.specs.declared.packet.Beat.{Beat}
 use Rattle.noc_route.specs.Routes.{Routes}
 use Rattle.noc_router.specs.View.{View, local_step, idle_beat}
 use Rattle.noc_net.specs.Halves.{beat_at}
-use Rattle.noc_tiles.specs.Wire.{Wire, Ring, grown}
+use Rattle.noc_tiles.specs.RingEnd.{RingEnd, Ring, grown}
 
 module _ {A : Type 0} where
   -- one beat more through each of the first ends
-  abbrev pub fed : List (Wire A) → List Beat → List (Wire A)
+  abbrev pub fed : List (RingEnd A) → List Beat → List (RingEnd A)
   fed [] row = []
   fed (w ∷ ws) [] = w ∷ ws
   fed (w ∷ ws) (x ∷ row) = grown w x ∷ fed ws row
 
   -- a row for each cycle
-  abbrev pub fed_all : List (Wire A) → List (List Beat) → List (Wire A)
+  abbrev pub fed_all : List (RingEnd A) → List (List Beat) → List (RingEnd A)
   fed_all ws [] = ws
   fed_all ws (row ∷ rows) = fed_all (fed ws row) rows
 
   -- the places and the rings of ends
-  abbrev pub names : List (Wire A) → List ((ℕ × ℕ) × Ring A)
-  names ws = map (λ (w : Wire A). (w.at, w.ring)) ws
+  abbrev pub names : List (RingEnd A) → List ((ℕ × ℕ) × Ring A)
+  names ws = map (λ (w : RingEnd A). (w.at, w.ring)) ws
 
   -- where the wires arrive, by router and link port
-  abbrev pub places : List (Wire A) → List (ℕ × ℕ)
-  places ws = map (λ (w : Wire A). w.at) ws
+  abbrev pub places : List (RingEnd A) → List (ℕ × ℕ)
+  places ws = map (λ (w : RingEnd A). w.at) ws
 
 -- for each router and link port the beat on the wire that arrives there
-abbrev pub Wires : Type 0
-Wires = ℕ → ℕ → Beat
+abbrev pub Beats : Type 0
+Beats = ℕ → ℕ → Beat
 
 -- with this beat at a place
-abbrev pub with_beat : Wires → ℕ × ℕ → Beat → Wires
+abbrev pub with_beat : Beats → ℕ × ℕ → Beat → Beats
 with_beat wires p x r q = if nat_eq r p.0 && nat_eq q p.1 then x else wires r q
 
 -- with the beats of a row at these places
-abbrev pub filled : Wires → List (ℕ × ℕ) → List Beat → Wires
+abbrev pub filled : Beats → List (ℕ × ℕ) → List Beat → Beats
 filled wires [] row = wires
 filled wires (p ∷ ps) [] = wires
 filled wires (p ∷ ps) (x ∷ row) = filled (with_beat wires p x) ps row
@@ -74,7 +74,7 @@ pub record Layout : Type 0 where
 -- what the tile's routers can see, and the beats on its inner wires
 pub record TileState : Type 0 where
   pub views : List View
-  pub wires : Wires
+  pub wires : Beats
 
 module _ (relation : Routes) (P : Layout) where
   -- the beats that arrive at router i of the tile

@@ -6,7 +6,6 @@ use Rattle.noc_route.specs.Routes.{Routes}
 use Rattle.noc_router.specs.Decided.{IsDecidedFor}
 use Rattle.noc_router.specs.View.{View, idle_beat}
 use Rattle.noc_net.specs.Halves.{IsPlaced, beat_at}
-use Rattle.noc_net.specs.Marks.{AreMarked}
 use Rattle.noc_net.specs.Unseen.{unseen}
 use Rattle.noc_tiles.specs.Ends.{End, inlet, outlet}
 use Rattle.noc_tiles.specs.TileStep.{Layout, TileState, places, is_own, is_from, fed, fed_all, steps, after_steps, put_by, after, puts}
@@ -44,12 +43,11 @@ pub record PartsFit (relation : Routes) (first : ℕ) (ins outs : List (ℕ × �
   pub leaves : (r q : ℕ) → r < nodes relation.grid → is_own first (length views) r ≡ false → is_from first (length views) (neighbour relation.grid r q) ≡ true
       → (o : ℕ) × (o < length outs) × (get_or outs o (0, 0) ≡ (r, q))
 
--- its parts fit each other and the relation, and its marks are those of its beats
+-- its parts fit each other and the relation
 pub record IsReady (relation : Routes) (t : Tile) : Type 0 where
   pub plan : IsDecidedFor (ports relation.grid) relation.vcs t.plan
   pub few_links : local_port relation.grid ≤ 6
   pub parts : PartsFit relation t.first (places (inlets t)) (places (outlets t)) t.routers.items t.beats.items
-  pub marks : AreMarked t.marks t.beats.items
 
 -- what a run leaves alone
 pub record IsSameTile (a b : Tile) : Type 0 where

@@ -1,4 +1,8 @@
 //! The routers of a tile finish a cycle.
+//!
+//! The routers at which a wire to another tile begins finish their cycle first, and what they put leaves at
+//! once. It is handed over while the inner routers work, so a neighbour seldom waits for it. A tile that is all
+//! edge gains nothing, as two rows of a mesh with a neighbour on each side.
 
 ghost use Rattle.std.specs.Prelude.{ℕ, ◌≡◌, ◌<◌, true, length, Some};
 ghost use Rattle.noc_topo.specs.Shape.{nodes as nodes_of, ports as ports_of, neighbour as neighbour_of};
@@ -21,13 +25,16 @@ use noc_topo::LINKS;
 pub(crate) fn finish_some(
     relation: &Relation,
     tile: &mut Tile,
+    marks: &mut Marks,
     cycle: u64,
     seen: bool,
     from: usize,
     to: usize,
 )
-    requires { CanFinish relation.now from to tile.old }
-    ensures { HaveFinished relation.now cycle seen from to tile.old tile.new }
+    requires can { CanFinish relation.now from to tile.old }
+    requires marks { AreMarked marks.old tile.old.beats.items }
+    ensures marks { AreMarked marks.new tile.new.beats.items }
+    ensures finished { HaveFinished relation.now cycle seen from to tile.old tile.new }
 {
     for i in from..to {
         finish(
@@ -37,7 +44,7 @@ pub(crate) fn finish_some(
             seen,
             &mut tile.routers[i],
             &mut tile.beats,
-            &mut tile.marks,
+            marks,
         );
     }
 }

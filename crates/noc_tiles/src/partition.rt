@@ -1,4 +1,8 @@
 //! A network cut into tiles.
+//!
+//! The table of a tile's beats has a row for every router of the network, idle where a router is not its own.
+//! Beats that leave the tile go into the table too, are then put, and their places made idle. One function
+//! carries beats for networks and tiles.
 
 ghost use Rattle.std.specs.Prelude.{ℕ, List, Option, ◌≡◌, ◌+◌, ◌*◌, ◌/◌, ◌%◌, ◌<◌, ◌≤◌, ◌^◌, Some, None, true, false, get_or, is_some, drop, length, take, vec_len, IfOk, IsOk, OnOk};
 ghost use Rattle.noc_topo.specs.Shape.{nodes as nodes_of, neighbour as neighbour_of};
@@ -18,7 +22,6 @@ use crate::rings::{Rings, make_rings, take_ins, take_outs};
 use crate::starts::tile_start;
 use crate::tile::{Outcome, Tile};
 use crate::wires::{Inlet, Outlet};
-use noc_net::Marks;
 use noc_packet::{Beat, Memory};
 use noc_router::{Plan, Router};
 use noc_topo::LINKS;
@@ -79,7 +82,6 @@ fn new_tile(
     let count = routers.len();
     let plan = Plan::new(alloc, &frame.relation)?;
     let beats = own_beats(alloc, beats, first, count)?;
-    let marks = Marks::of(&beats);
     let ins = take_ins(alloc, shape, first, count, ins)?;
     let outs = take_outs(alloc, shape, first, count, outs)?;
     Ok(Tile {
@@ -92,7 +94,6 @@ fn new_tile(
         routers,
         plan,
         beats,
-        marks,
         ins,
         outs,
     })

@@ -22,17 +22,25 @@ use std::sync::Wait;
 
 // Takes a beat from each wire that comes from another tile; then each router takes what came to it. False where the flag was seen
 // raised.
-pub(crate) fn take(rt: &impl Wait, relation: &Relation, tile: &mut Tile, stop: &Stop) -> bool
+pub(crate) fn take(
+    rt: &impl Wait,
+    relation: &Relation,
+    tile: &mut Tile,
+    marks: &mut Marks,
+    stop: &Stop,
+) -> bool
     requires ready { IsReady relation.now tile.old }
     requires few { nodes_of relation.now.grid ≤ MAX_NODES }
-    ensures rest { tile.new ≡ record tile.old { routers = tile.new.routers; beats = tile.new.beats; marks = tile.new.marks; ins = tile.new.ins } }
+    requires marks { AreMarked marks.old tile.old.beats.items }
+    ensures marks { IsTrue result → AreMarked marks.new tile.new.beats.items }
+    ensures rest { tile.new ≡ record tile.old { routers = tile.new.routers; beats = tile.new.beats; ins = tile.new.ins } }
     ensures routers { vec_len tile.new.routers ≡ vec_len tile.old.routers }
     ensures beats { vec_len tile.new.beats ≡ vec_len tile.old.beats }
     ensures ins { names (inlets tile.new) ≡ names (inlets tile.old) }
     ensures taken { IsTrue result → (row : List beat_value) × HasTaken relation.now row tile.old tile.new }
     ensures stopped { IsFalse result → stop.now ≡ true }
 {
-    if !take_all(rt, &mut tile.ins, &mut tile.beats, &mut tile.marks, stop) {
+    if !take_all(rt, &mut tile.ins, &mut tile.beats, marks, stop) {
         return false;
     }
     noc_net::take_all(
@@ -40,17 +48,18 @@ pub(crate) fn take(rt: &impl Wait, relation: &Relation, tile: &mut Tile, stop: &
         tile.first,
         &mut tile.routers,
         &mut tile.beats,
-        &mut tile.marks,
+        marks,
     );
     true
 }
 
 // Puts a beat on each wire that goes to another tile, and leaves idle ones. False where the flag was seen raised.
-pub(crate) fn send(rt: &impl Wait, tile: &mut Tile, stop: &Stop) -> bool
+pub(crate) fn send(rt: &impl Wait, tile: &mut Tile, marks: &mut Marks, stop: &Stop) -> bool
     requires within { AreWithin (length tile.old.beats.items) 6 (places (outlets tile.old)) }
     requires few { length tile.old.beats.items ≤ MAX_NODES }
-    requires marks { AreMarked tile.old.marks tile.old.beats.items }
-    ensures rest { tile.new ≡ record tile.old { beats = tile.new.beats; marks = tile.new.marks; outs = tile.new.outs } }
+    requires marks { AreMarked marks.old tile.old.beats.items }
+    ensures marks { IsTrue result → AreMarked marks.new tile.new.beats.items }
+    ensures rest { tile.new ≡ record tile.old { beats = tile.new.beats; outs = tile.new.outs } }
     ensures beats { vec_len tile.new.beats ≡ vec_len tile.old.beats }
     ensures outs { names (outlets tile.new) ≡ names (outlets tile.old) }
     ensures sent { IsTrue result → HasSent tile.old tile.new }
@@ -59,7 +68,7 @@ pub(crate) fn send(rt: &impl Wait, tile: &mut Tile, stop: &Stop) -> bool
     if !put_all(rt, &mut tile.outs, &tile.beats, stop) {
         return false;
     }
-    clear_all(&tile.outs, &mut tile.beats, &mut tile.marks);
+    clear_all(&tile.outs, &mut tile.beats, marks);
     true
 }
 

@@ -1,4 +1,9 @@
 //! The rings on the wires between tiles.
+//!
+//! Rings are made only between tiles; links inside a tile stay in its table. A ring has two places, because a
+//! neighbour is at most one cycle behind or ahead between cycles. Both ends of a ring are known by the place
+//! where the wire arrives, a router and a link port. So numbers are the same everywhere, and the network's own
+//! passes serve in tiles.
 
 ghost use Rattle.std.specs.Prelude.{ℕ, ◌≡◌, ◌+◌, ◌*◌, ◌/◌, ◌%◌, ◌<◌, ◌≤◌, ◌++◌, [], ◌∷◌, Some, None, false, true, get_or, map, length, option_map, is_some, vec_len, IfOk, IsFalse, IfSome, IfNone, IsOk, OnOk};
 ghost use Rattle.noc_topo.specs.Shape.{IsGrid, nodes as nodes_of, neighbour as neighbour_of};

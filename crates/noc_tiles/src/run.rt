@@ -5,6 +5,7 @@ ghost use Rattle.noc_packet.specs.declared.packet.Beat.{Beat as beat_value};
 ghost use Rattle.noc_topo.specs.declared.limits.TheConstants.{MAX_NODES};
 ghost use Rattle.noc_topo.specs.Shape.{nodes as nodes_of, ports as ports_of};
 ghost use Rattle.noc_router.specs.Decided.{IsDecidedFor};
+ghost use Rattle.noc_net.specs.Marks.{AreMarked};
 ghost use Rattle.noc_tiles.specs.Inner.{AreInner};
 ghost use Rattle.noc_tiles.specs.TileStep.{places};
 ghost use Rattle.noc_tiles.specs.Tiles.{IsReady, IsSameTile, Cycles, Runs, outlets};
@@ -16,6 +17,7 @@ use crate::inner::{Inner, inner_of};
 use crate::phases::{send, take};
 use crate::stop::Stop;
 use crate::tile::{Outcome, Tile};
+use noc_net::Marks;
 use noc_route::Relation;
 use std::sync::Wait;
 
@@ -25,6 +27,7 @@ fn cycle(
     relation: &Relation,
     inner: Inner,
     tile: &mut Tile,
+    marks: &mut Marks,
     cycle: u64,
     seen: bool,
     stop: &Stop,
@@ -32,24 +35,26 @@ fn cycle(
     requires ready { IsReady relation.now tile.old }
     requires inner { AreInner relation.now.grid tile.old.first (vec_len tile.old.routers) (places (outlets tile.old)) inner }
     requires few { nodes_of relation.now.grid ≤ MAX_NODES }
+    requires marks { AreMarked marks.old tile.old.beats.items }
     ensures same { IsSameTile tile.old tile.new }
     ensures count { vec_len tile.new.routers ≡ vec_len tile.old.routers }
     ensures plan { IsDecidedFor (ports_of relation.now.grid) relation.now.vcs tile.new.plan }
     ensures done { (tile.new.done ≡ tile.old.done) × (tile.new.outcome ≡ tile.old.outcome) }
     ensures ready { IsTrue result → IsReady relation.now tile.new }
+    ensures marks { IsTrue result → AreMarked marks.new tile.new.beats.items }
     ensures ran { IsTrue result → (row : List beat_value) × Cycles relation.now seen cycle tile.old tile.new row }
     ensures stopped { IsFalse result → stop.now ≡ true }
 {
-    if !take(rt, relation, tile, stop) {
+    if !take(rt, relation, tile, marks, stop) {
         return false;
     }
     let count = tile.routers.len();
-    finish_some(relation, tile, cycle, seen, 0, inner.from);
-    finish_some(relation, tile, cycle, seen, inner.to, count);
-    if !send(rt, tile, stop) {
+    finish_some(relation, tile, marks, cycle, seen, 0, inner.from);
+    finish_some(relation, tile, marks, cycle, seen, inner.to, count);
+    if !send(rt, tile, marks, stop) {
         return false;
     }
-    finish_some(relation, tile, cycle, seen, inner.from, inner.to);
+    finish_some(relation, tile, marks, cycle, seen, inner.from, inner.to);
     true
 }
 
@@ -75,6 +80,7 @@ pub fn run_tile<G: Gate>(
 {
     let _nodes = relation.shape().nodes();
     let inner = inner_of(relation, tile.first, tile.routers.len(), &tile.outs);
+    let mut marks = Marks::of(&tile.beats);
     let mut tile = tile;
     for c in 0..tile.cycles {
         let now = tile.start + c;
@@ -84,7 +90,7 @@ pub fn run_tile<G: Gate>(
             return tile;
         }
         let seen = c + 1 == tile.cycles;
-        if !cycle(rt, relation, inner, &mut tile, now, seen, stop) {
+        if !cycle(rt, relation, inner, &mut tile, &mut marks, now, seen, stop) {
             tile.outcome = Outcome::Stopped;
             return tile;
         }

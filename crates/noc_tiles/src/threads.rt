@@ -38,7 +38,6 @@ fn add(all: &mut Gathered, tile: Tile) -> Result<(), AllocError>
         mut routers,
         plan: _,
         beats,
-        marks: _,
         mut ins,
         mut outs,
     } = tile;

@@ -1,4 +1,10 @@
 //! The wires between tiles.
+//!
+//! A worker that waits looks 500 times before it yields, with a rest of the processor between two looks but for
+//! the first 32: a yield costs a time slice of milliseconds, and what is waited for takes microseconds. After
+//! 8000 looks, about half a millisecond, it sleeps for 50 microseconds, and again after every 500 looks:
+//! another program then has a neighbour's processor, and sleeping frees this one for it. It sleeps on a word of
+//! its own (`park_timeout`), since a sleep by the clock would need a clock, and nobody wakes it.
 
 ghost use Rattle.std.specs.Prelude.{◌≡◌, ◌++◌, [], ◌∷◌, true, IfSome, IfNone, IsTrue, IsFalse};
 ghost use Rattle.rtrb.specs.Ring.{sent, received, SameProducer, SameConsumer};
@@ -99,7 +105,7 @@ fn push_waiting(rt: &impl Wait, end: &mut Producer<Beat>, beat: Beat, stop: &Sto
 
 impl Inlet {
     ghost use Rattle.std.specs.Prelude.{◌≡◌, true, MatchOption};
-    ghost use Rattle.noc_tiles.specs.Wire.{grown};
+    ghost use Rattle.noc_tiles.specs.RingEnd.{grown};
     ghost use Rattle.noc_tiles.specs.Ends.{inlet};
 
     pub(crate) fn take(&mut self, rt: &impl Wait, stop: &Stop) -> Option<Beat>
@@ -112,7 +118,7 @@ impl Inlet {
 
 impl Outlet {
     ghost use Rattle.std.specs.Prelude.{◌≡◌, true, IsTrue, IsFalse};
-    ghost use Rattle.noc_tiles.specs.Wire.{grown};
+    ghost use Rattle.noc_tiles.specs.RingEnd.{grown};
     ghost use Rattle.noc_tiles.specs.Ends.{outlet};
 
     pub(crate) fn put(&mut self, rt: &impl Wait, beat: Beat, stop: &Stop) -> bool

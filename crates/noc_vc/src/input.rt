@@ -1,4 +1,8 @@
 //! Input virtual channels (Dally and Towles, chapter 16).
+//!
+//! `land_from` compares a flit where it stands and copies it whole; given by value, as `land` takes it, its
+//! fields and the gaps between them move one by one. Where the awaited flit lands, only the index of the next
+//! one is written.
 
 ghost use Rattle.std.specs.Prelude.{◌≡◌, ◌⊎◌, ◌<◌, ◌∷◌, IsTrue, IsSome, length, is_ok, true, if◌then◌else◌};
 ghost use Rattle.noc_topo.specs.Shape.{nodes, ports};

@@ -1,4 +1,4 @@
-use Rattle.std.proofs.Common.{◌≡◌, ◌∙◌, ◌<◌, ◌≤◌, ◌+◌, ◌-◌, ℕ, List, Ok, Err, ap, arith, false, inr, length, refl, subst, sym}
+use Rattle.std.proofs.Common.{◌≡◌, ◌∙◌, ◌<◌, ◌≤◌, ◌+◌, ◌-◌, ℕ, List, Ok, Err, Option, ap, arith, false, inr, length, refl, subst, sym}
 use Rattle.std.specs.Prelude.{◌||◌, nat_le, nat_lt}
 use Rattle.std.proofs.lemmas.Bool.{leb-false, ltb-false, or_parts}
 use Rattle.noc_net.specs.Network.{Run, Setup}
@@ -30,6 +30,14 @@ same_text u net first cycles end t traced same count ends as_asked =
     ap (λ (z : Setup). trace_text (record { net = z; count = u.count + cycles }) u.count t) same ∙ ap (λ k. trace_text (record { net = net; count = k + cycles }) k t) count
     ∙ ap (λ k. trace_text (record { net = net; count = k }) first t) ends ∙ ap (trace_text (record { net = net; count = end }) first) as_asked
 
+-- .. that was asked for by a span
+asked_text : (u : Run) (net : Setup) (from to : Option ℕ) (cycles opening first end : ℕ) (t traced : Traced) → is_bad_span (first_cycle from) (last_cycle to cycles) cycles ≡ false → opening ≡ 0
+    → u.net ≡ net → u.count ≡ opening + first → first ≡ first_cycle from → end ≡ last_cycle to cycles → t ≡ traced
+    → trace_text (record u { count = u.count + (end + 1 - first) }) u.count t ≡ trace_text (record { net = net; count = last_cycle to cycles + 1 }) (first_cycle from) traced
+asked_text u net from to cycles opening first end t traced good none same counted begins ends as_asked =
+    let l = lies (first_cycle from) (last_cycle to cycles) cycles good in
+    same_text u net (first_cycle from) (end + 1 - first) (last_cycle to cycles + 1) t traced same (omega (arith, counted, none, begins)) (omega (arith, l.order, begins, ends)) as_asked
+
 pub overflow_add-end : goal.overflow_add-end
 overflow_add-end g c =
     let l = lies (first_cycle c.args.from) (last_cycle c.args.to c.in_ok-network.cycles) c.in_ok-network.cycles c.in_ok-network.ensures.span in
@@ -58,31 +66,23 @@ write_trace-requires-clause-cycles g c =
 
 pub returns-in-Ok-write_trace : goal.returns-in-Ok-write_trace
 returns-in-Ok-write_trace g c =
-    let l = lies (first_cycle c.args.from) (last_cycle c.args.to c.in_ok-network.cycles) c.in_ok-network.cycles c.in_ok-network.ensures.span in
+    let given = c.in_ok-network in
     let u = c.run.new.self in
-    let cycles = c.last_cycle-end.result + 1 - c.first_cycle-first.result in
-    let counted : u.count ≡ c.in_ok-network.network.count + c.first_cycle-first.result = ap (λ (x : Run). x.count) c.run.ensures.value in
-    let count : u.count ≡ first_cycle c.args.from = omega (arith, counted, c.in_ok-network.ensures.opening, c.first_cycle-first.ensures) in
-    let ends : first_cycle c.args.from + cycles ≡ last_cycle c.args.to c.in_ok-network.cycles + 1 = omega (arith, l.order, c.first_cycle-first.ensures, c.last_cycle-end.ensures) in
-    let same = same_text u c.in_ok-network.network.net (first_cycle c.args.from) cycles (last_cycle c.args.to c.in_ok-network.cycles + 1) c.in-Ok.trace.0 c.args.traced
-    (ap (λ (x : Run). x.net) c.run.ensures.value) count ends (ap (λ t. t.0) c.in-Ok.ensures) in (
-      trace_text (record u { count = u.count + cycles }) u.count c.in-Ok.trace.0,
-      subst (λ x. AsksFor (asked_of c.args.files.now) x Done) (sym same) (traces c.requires c.in_ok-network.ensures.run c.in_ok-network.ensures.packet),
+    let same = asked_text u given.network.net c.args.from c.args.to given.cycles given.network.count c.first_cycle-first.result c.last_cycle-end.result c.in-Ok.trace.0 c.args.traced given.ensures.span
+    given.ensures.opening (ap (λ (x : Run). x.net) c.run.ensures.value) (ap (λ (x : Run). x.count) c.run.ensures.value) c.first_cycle-first.ensures c.last_cycle-end.ensures (ap (λ t. t.0) c.in-Ok.ensures) in (
+      trace_text (record u { count = u.count + (c.last_cycle-end.result + 1 - c.first_cycle-first.result) }) u.count c.in-Ok.trace.0,
+      subst (λ x. AsksFor (asked_of c.args.files.now) x Done) (sym same) (traces c.requires given.ensures.run given.ensures.packet),
       c.in-Ok-write_trace.ensures.text,
     )
 
 pub returns : goal.returns
 returns g c =
-    let l = lies (first_cycle c.args.from) (last_cycle c.args.to c.in_ok-network.cycles) c.in_ok-network.cycles c.in_ok-network.ensures.span in
+    let given = c.in_ok-network in
     let u = c.run.new.self in
-    let cycles = c.last_cycle-end.result + 1 - c.first_cycle-first.result in
-    let counted : u.count ≡ c.in_ok-network.network.count + c.first_cycle-first.result = ap (λ (x : Run). x.count) c.run.ensures.value in
-    let count : u.count ≡ first_cycle c.args.from = omega (arith, counted, c.in_ok-network.ensures.opening, c.first_cycle-first.ensures) in
-    let ends : first_cycle c.args.from + cycles ≡ last_cycle c.args.to c.in_ok-network.cycles + 1 = omega (arith, l.order, c.first_cycle-first.ensures, c.last_cycle-end.ensures) in
-    let same = same_text u c.in_ok-network.network.net (first_cycle c.args.from) cycles (last_cycle c.args.to c.in_ok-network.cycles + 1) c.in-Ok.trace.0 c.args.traced
-    (ap (λ (x : Run). x.net) c.run.ensures.value) count ends (ap (λ t. t.0) c.in-Ok.ensures) in (
-      trace_text (record u { count = u.count + cycles }) u.count c.in-Ok.trace.0,
+    let same = asked_text u given.network.net c.args.from c.args.to given.cycles given.network.count c.first_cycle-first.result c.last_cycle-end.result c.in-Ok.trace.0 c.args.traced given.ensures.span
+    given.ensures.opening (ap (λ (x : Run). x.net) c.run.ensures.value) (ap (λ (x : Run). x.count) c.run.ensures.value) c.first_cycle-first.ensures c.last_cycle-end.ensures (ap (λ t. t.0) c.in-Ok.ensures) in (
+      trace_text (record u { count = u.count + (c.last_cycle-end.result + 1 - c.first_cycle-first.result) }) u.count c.in-Ok.trace.0,
       Done,
-      subst (λ x. AsksFor (asked_of c.args.files.now) x Done) (sym same) (traces c.requires c.in_ok-network.ensures.run c.in_ok-network.ensures.packet),
+      subst (λ x. AsksFor (asked_of c.args.files.now) x Done) (sym same) (traces c.requires given.ensures.run given.ensures.packet),
       c.in-Err-write_trace.ensures.text,
     )

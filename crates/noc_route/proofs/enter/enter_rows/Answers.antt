@@ -1,10 +1,12 @@
 use Rattle.std.proofs.Common.{◌≡◌, ◌+◌, ◌*◌, ◌<◌, ℕ, length, get_or, set, subst, sym, ap, ◌∙◌, arith}
-use Rattle.std.specs.Prelude.{◌||◌, nat_eq}
-use Rattle.std.proofs.lemmas.List.{get_or_default}
+use Rattle.std.specs.Prelude.{◌||◌, ◌&&◌, nat_eq, nat_lt}
+use Rattle.noc_route.specs.Entered.{has_row_at}
+use Rattle.noc_route.specs.Routes.{width}
+use Rattle.std.proofs.lemmas.List.{get_or_default, take_all}
 use Rattle.noc_packet.specs.Set.{has_bit}
 use Rattle.noc_route.specs.Trimming.{routes_in}
 use Rattle.noc_route.specs.declared.rule.RouteRow.{RouteRow}
-use Rattle.noc_route.proofs.EnterLemmas.{HasRows, HasRows-more, IsWithinTable-real, row_place}
+use Rattle.noc_route.proofs.EnterLemmas.{HasRows, HasRows-none, HasRows-more, IsWithinTable-real, row_place}
 use Rattle.noc_route.proofs.enter.enter_rows.Goals as goal
 
 abbrev no_row : RouteRow
@@ -46,3 +48,18 @@ loop-row-preserved c =
     (λ k. c.with.ensures.members k ∙ ap (λ x. nat_eq k x || has_bit c.index-sets-place.result k) c.index.ensures.value
     ∙ ap (λ s. nat_eq k (row.out_port * c.args.map.now.frame.vcs + row.out_vc) || has_bit s k) had)
     c.loop-row.invariant)
+
+pub loop-row-init : goal.loop-row-init
+loop-row-init c = HasRows-none (routes_in c.args.map.now.frame c.args.sets.now) c.args.sets.now c.args.rows.now c.requires.empty
+
+pub with-requires : goal.with-requires
+with-requires c = c.index.ensures.few
+
+pub bounds-sets-place : goal.bounds-sets-place
+bounds-sets-place c = let P : ℕ → Type 0 = λ n. c.place-place.result < n in subst P (sym (c.loop-row.auto.sets ∙ c.requires.long)) c.place-place.ensures.within
+
+pub returns : goal.returns
+returns c = λ b i k m o.
+    let f = c.args.map.now.frame in
+    c.loop-row.invariant b i k m o
+    ∙ ap (λ rows. nat_lt k (width f.shape f.vcs) && has_row_at (routes_in f c.loop-row.sets) rows b i k) (take_all c.loop-row.row-index c.args.rows.now c.loop-row-test.false)

@@ -1,6 +1,9 @@
-use Rattle.std.proofs.Common.{◌∙◌, ◌/◌, ◌%◌, subst, sym, ap, arith}
-use Rattle.std.specs.Prelude.{◌&&◌, nat_lt}
+use Rattle.std.proofs.Common.{◌≡◌, ◌∙◌, ◌/◌, ◌%◌, List, None, subst, sym, ap, arith}
+use Rattle.std.specs.Prelude.{◌&&◌, nat_lt, All}
 use Rattle.noc_route.specs.Entered.{routing_in, has_row_at, IsEntered}
+use Rattle.noc_route.specs.Relation.{IsFirstFault, row_fault, rows_of}
+use Rattle.noc_route.specs.declared.rule.RouteRow.{RouteRow}
+use Rattle.noc_route.proofs.WayLemmas.{real-from_none}
 use Rattle.noc_route.specs.Routes.{width, page_class, page_router, page_dst}
 use Rattle.noc_route.specs.Trimming.{routes_in}
 use Rattle.noc_route.specs.declared.rule.Rule.{Rule}
@@ -31,3 +34,22 @@ returns-in_default-clause-entered c =
     ∙ ap (λ x. nat_lt k w && x)
     (sym
     (leads-named f.shape f.vcs f.classes c.args.rule.now (page_class f.shape f.classes b) (page_router f.shape f.classes b) (i / f.vcs) (i % f.vcs) (page_dst f.shape b) (k / f.vcs) (k % f.vcs) c.in_default.not-Rows)))
+
+pub returns-in-Some-clause-err : goal.returns-in-Some-clause-err
+returns-in-Some-clause-err c =
+    let f = c.args.map.now.frame in
+    let P : List RouteRow → Type 0 = λ rows. IsFirstFault f.shape f.vcs f.classes rows c.in-Some.fault in
+    subst P (c.deref.ensures.value ∙ sym (ap rows_of c.in-Rows.is)) c.in-Some.ensures.some
+
+pub enter_rows-requires-clause-rows : goal.enter_rows-requires-clause-rows
+enter_rows-requires-clause-rows c =
+    let f = c.args.map.now.frame in
+    let P : List RouteRow → Type 0 = λ rows. All (λ row. row_fault f.shape f.vcs f.classes row ≡ None) rows in
+    let none = subst P (c.deref.ensures.value ∙ sym c.deref-in-Rows.ensures.value) c.in_default-first_fault.ensures.none in
+    λ k d l. real-from_none f.shape f.vcs f.classes _ (none k d l)
+
+pub returns-in_default-first_fault-clause-ok : goal.returns-in_default-first_fault-clause-ok
+returns-in_default-first_fault-clause-ok c =
+    let f = c.args.map.now.frame in
+    let P : List RouteRow → Type 0 = λ rows. All (λ row. row_fault f.shape f.vcs f.classes row ≡ None) rows in
+    subst P (c.deref.ensures.value ∙ sym (ap rows_of c.in-Rows.is)) c.in_default-first_fault.ensures.none

@@ -11,29 +11,32 @@ use Rattle.noc_tiles.proofs.FinishLemmas.{finished-none, finished-more, next-bui
 use Rattle.noc_tiles.proofs.finishing.finish_some.Goals as goal
 
 pub loop-i-init : goal.loop-i-init
-loop-i-init c = finished-none c.args.relation.now c.args.cycle c.args.seen c.args.from c.args.to c.args.tile.now c.requires
+loop-i-init c = record {
+  marks = c.requires.marks;
+  finished = finished-none c.args.relation.now c.args.cycle c.args.seen c.args.from c.args.to c.args.tile.now c.requires.can;
+}
 
 pub index_mut-requires : goal.index_mut-requires
 index_mut-requires c =
-    let l : c.loop-i.i < length c.loop-i.tile.routers.items = omega (arith, c.loop-i.invariant.count, c.requires.within) in
+    let l : c.loop-i.i < length c.loop-i.tile.routers.items = omega (arith, c.loop-i.invariant.finished.count, c.requires.can.within) in
     search (rules, arith)
 
 pub finish-requires-clause-router : goal.finish-requires-clause-router
 finish-requires-clause-router c =
-    next-built c.args.relation.now c.args.cycle c.args.seen c.args.from c.args.to c.args.tile.now c.requires c.loop-i.tile c.loop-i.i c.loop-i.invariant c.loop-i.auto.i c.loop-i-test.true c.index_mut.result.now c.index_mut.ensures.value
+    next-built c.args.relation.now c.args.cycle c.args.seen c.args.from c.args.to c.args.tile.now c.requires.can c.loop-i.tile c.loop-i.i c.loop-i.invariant.finished c.loop-i.auto.i c.loop-i-test.true c.index_mut.result.now c.index_mut.ensures.value
 
 pub finish-requires-clause-node : goal.finish-requires-clause-node
 finish-requires-clause-node c =
-    let node = next-node c.args.relation.now c.args.cycle c.args.seen c.args.from c.args.to c.args.tile.now c.requires c.loop-i.tile c.loop-i.i c.loop-i.invariant c.loop-i.auto.i c.loop-i-test.true c.index_mut.result.now c.index_mut.ensures.value in
-    omega (arith, node, c.requires.within, c.requires.wide, c.loop-i-test.true)
+    let node = next-node c.args.relation.now c.args.cycle c.args.seen c.args.from c.args.to c.args.tile.now c.requires.can c.loop-i.tile c.loop-i.i c.loop-i.invariant.finished c.loop-i.auto.i c.loop-i-test.true c.index_mut.result.now c.index_mut.ensures.value in
+    omega (arith, node, c.requires.can.within, c.requires.can.wide, c.loop-i-test.true)
 
 pub finish-requires-clause-count : goal.finish-requires-clause-count
-finish-requires-clause-count c = ap length c.deref_mut.ensures.value ∙ c.loop-i.invariant.size ∙ c.requires.count
+finish-requires-clause-count c = ap length c.deref_mut.ensures.value ∙ c.loop-i.invariant.finished.size ∙ c.requires.can.count
 
 pub finish-requires-clause-idle : goal.finish-requires-clause-idle
 finish-requires-clause-idle c = λ r q p e.
     ap (λ b. beat_at b r q) c.deref_mut.ensures.value
-    ∙ next-idle c.args.relation.now c.args.cycle c.args.seen c.args.from c.args.to c.args.tile.now c.requires c.loop-i.tile c.loop-i.i c.loop-i.invariant c.loop-i.auto.i c.loop-i-test.true c.index_mut.result.now c.index_mut.ensures.value r q p e
+    ∙ next-idle c.args.relation.now c.args.cycle c.args.seen c.args.from c.args.to c.args.tile.now c.requires.can c.loop-i.tile c.loop-i.i c.loop-i.invariant.finished c.loop-i.auto.i c.loop-i-test.true c.index_mut.result.now c.index_mut.ensures.value r q p e
 
 pub loop-i-preserved : goal.loop-i-preserved
 loop-i-preserved c =
@@ -41,14 +44,16 @@ loop-i-preserved c =
     let size : length c.finish.new.beats ≡ length b.beats.items = search (rules, arith) in
     let now : (with_items b.beats c.finish.new.beats).items ≡ c.finish.new.beats = with_items_is b.beats c.finish.new.beats (search (rules, arith)) in
     let old = c.deref_mut.ensures.value in
-    finished-more c.args.relation.now c.args.cycle c.args.seen c.args.from c.args.to c.args.tile.now c.requires b c.loop-i.i c.loop-i.invariant c.loop-i.auto.i c.loop-i-test.true c.index_mut.result.now c.index_mut.ensures.value
-    _ c.finish.new.router c.finish.ensures.router c.finish.ensures.seen refl refl c.finish.ensures.plan
-    (subst (AreMarked c.finish.new.marks) (sym now) (c.finish.ensures.marks (subst (AreMarked b.marks) (sym old) c.loop-i.invariant.marks)))
-    (ap length now ∙ size)
-    (λ r q l. ap (λ (w : List (List Beat)). beat_at w r q) now ∙ c.finish.ensures.beats r q l
-    ∙ ap (λ (w : List (List Beat)). received (concluded c.args.relation.now c.args.cycle c.index_mut.result.now) (neighbour c.args.relation.now.grid r q) (beat_at w r q)) old)
+    record {
+      marks = subst (AreMarked c.finish.new.marks) (sym now) (c.finish.ensures.marks (subst (AreMarked c.loop-i.marks) (sym old) c.loop-i.invariant.marks));
+      finished = finished-more c.args.relation.now c.args.cycle c.args.seen c.args.from c.args.to c.args.tile.now c.requires.can b c.loop-i.i c.loop-i.invariant.finished c.loop-i.auto.i c.loop-i-test.true
+          c.index_mut.result.now c.index_mut.ensures.value _ c.finish.new.router c.finish.ensures.router c.finish.ensures.seen refl refl c.finish.ensures.plan
+          (ap length now ∙ size)
+          (λ r q l. ap (λ (w : List (List Beat)). beat_at w r q) now ∙ c.finish.ensures.beats r q l
+          ∙ ap (λ (w : List (List Beat)). received (concluded c.args.relation.now c.args.cycle c.index_mut.result.now) (neighbour c.args.relation.now.grid r q) (beat_at w r q)) old);
+    }
 
-pub returns : goal.returns
-returns c =
-    let end : c.loop-i.i ≡ c.args.to = omega (arith, c.requires.order) in
-    subst (λ m. HaveFinished c.args.relation.now c.args.cycle c.args.seen c.args.from m c.args.tile.now c.loop-i.tile) end c.loop-i.invariant
+pub returns-clause-finished : goal.returns-clause-finished
+returns-clause-finished c =
+    let end : c.loop-i.i ≡ c.args.to = omega (arith, c.requires.can.order) in
+    subst (λ m. HaveFinished c.args.relation.now c.args.cycle c.args.seen c.args.from m c.args.tile.now c.loop-i.tile) end c.loop-i.invariant.finished

@@ -17,6 +17,11 @@ clear_all-requires-clause-within g c =
     let same : places (map outlet c.put_all.new.ends.items) ≡ places (outlets a) = places-names (map outlet c.put_all.new.ends.items) (outlets a) c.put_all.ensures.ends in
     subst (λ (k : ℕ). AreWithin k 6 (places (map outlet c.put_all.new.ends.items))) (sym (ap length c.deref_mut.ensures.value)) (subst (AreWithin (length a.beats.items) 6) (sym same) c.requires.within)
 
+pub returns-clause-marks : goal.returns-clause-marks
+returns-clause-marks g c h =
+    let after = with_items_is c.args.tile.now.beats c.clear_all.new.beats (search (rules, arith)) in
+    subst (AreMarked c.clear_all.new.marks) (sym after) c.clear_all.ensures.marks
+
 pub returns-clause-sent : goal.returns-clause-sent
 returns-clause-sent g c h =
     let a = c.args.tile.now in
@@ -31,5 +36,4 @@ returns-clause-sent g c h =
           (subst (λ (b : List (List Beat)). IsCleared (places (outlets a)) b c.clear_all.new.beats (length (places (outlets a))) r q) before
           (subst (λ (ps : List (ℕ × ℕ)). IsCleared ps c.deref_mut.result.now c.clear_all.new.beats (length ps) r q) same (c.clear_all.ensures.beats r q)));
       size = ap length after ∙ (c.clear_all.ensures.count ∙ ap length before);
-      marks = subst (AreMarked c.clear_all.new.marks) (sym after) c.clear_all.ensures.marks;
     }

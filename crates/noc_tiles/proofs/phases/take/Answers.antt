@@ -1,4 +1,4 @@
-use Rattle.std.proofs.Common.{◌≡◌, ◌⊎◌, ℕ, ◌+◌, ◌<◌, ◌≤◌, List, [], length, get_or, map, vec_len, ap, sym, ◌∙◌, subst, arith, rules, refl}
+use Rattle.std.proofs.Common.{◌≡◌, ◌⊎◌, ℕ, ◌+◌, ◌<◌, ◌≤◌, List, [], length, get_or, vec_len, ap, sym, ◌∙◌, subst, arith, rules, refl}
 use Rattle.std.specs.Vec.{with_items}
 use Rattle.std.proofs.lemmas.List.{with_items_is, length-map}
 use Rattle.noc_topo.specs.Words.{map_indexed}
@@ -36,6 +36,12 @@ take_all-requires-2-clause-others g c =
     (took-as (places (inlets a)) t.0 c.deref_mut.result.now c.take_all.new.beats a.beats.items b1 c.deref_mut.ensures.value after t.3) r port
     (own-false a.first (length a.routers.items) r (subst (λ (k : ℕ). (r < a.first) ⊎ (a.first + k ≤ r)) (ap length c.deref_mut-2.ensures.value) out))
 
+pub returns-clause-marks : goal.returns-clause-marks
+returns-clause-marks g c h =
+    let w = with_items c.args.tile.now.beats c.take_all.new.beats in
+    let end = with_items_is w c.take_all-2.new.beats (search (rules, arith)) in
+    subst (AreMarked c.take_all-2.new.marks) (sym end) c.take_all-2.ensures.marks
+
 pub returns-clause-taken : goal.returns-clause-taken
 returns-clause-taken g c h =
     let a = c.args.tile.now in
@@ -56,6 +62,5 @@ returns-clause-taken g c h =
             ∙ all-took relation a.first (places (inlets a)) (places (outlets a)) a.routers.items a.beats.items c.requires.ready.parts t.0 b1 took;
         size = ap length end ∙ (c.take_all-2.auto.beats ∙ (ap length after ∙ (c.take_all.ensures.count ∙ ap length c.deref_mut.ensures.value)));
         silent = λ r q. ap (λ (b : List (List Beat)). beat_at b r q) end ∙ silent_at c.take_all-2.new.beats c.take_all-2.ensures.beats r q;
-        marks = subst (AreMarked c.take_all-2.new.marks) (sym end) c.take_all-2.ensures.marks;
       },
     )

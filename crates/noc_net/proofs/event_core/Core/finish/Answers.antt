@@ -10,7 +10,7 @@ use Rattle.noc_model.specs.Halves.{beat_at}
 use Rattle.noc_net.specs.Room.{front_of, rests_at, wires_in}
 use Rattle.noc_net.specs.Stored.{core_in}
 use Rattle.noc_model.proofs.OrderLemmas.{whole_core}
-use Rattle.noc_views.proofs.Opening.{opening-is}
+use Rattle.noc_model.proofs.Opening.{opening-is}
 use Rattle.noc_net.specs.Parts.{setup_in}
 use Rattle.noc_net.proofs.PartsLemmas.{parts-in_step}
 use Rattle.noc_net.proofs.StoredLemmas.{steps-within, all_rest, post_of_room, run_of_core, some_node, rested_views, rested_wires}

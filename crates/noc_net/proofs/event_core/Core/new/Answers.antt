@@ -15,7 +15,7 @@ use Rattle.noc_model.proofs.LimitLemmas.{opening-within}
 use Rattle.noc_model.proofs.OrderLemmas.{opening_in_step}
 use Rattle.noc_model.proofs.RunLemmas.{count_views}
 use Rattle.noc_model.proofs.SentLemmas.{view_site}
-use Rattle.noc_views.proofs.Opening.{opening-is}
+use Rattle.noc_model.proofs.Opening.{opening-is}
 use Rattle.noc_net.proofs.PartsLemmas.{views-in_step}
 use Rattle.noc_net.proofs.StoredLemmas.{opened_core}
 use Rattle.noc_net.proofs.event_core.Core.new.Goals as goal

@@ -6,7 +6,7 @@ use Rattle.noc_router.specs.View.{View}
 use Rattle.noc_model.specs.Good.{IsGoodPacket, IsGoodSetup}
 use Rattle.noc_model.specs.Network.{Run, packet_at}
 use Rattle.noc_model.specs.Lockstep.{view_at}
-use Rattle.noc_views.proofs.Arrivals.{arrival-noted}
+use Rattle.noc_model.proofs.Arrivals.{arrival-noted}
 use Rattle.noc_net.proofs.LimitLemmas.{arrives}
 use Rattle.noc_net.proofs.ReaderLemmas.{count_routers, router_at}
 use Rattle.noc_net.proofs.network.Network.arrival.Goals as goal

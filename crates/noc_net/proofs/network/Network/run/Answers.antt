@@ -6,7 +6,7 @@ use Rattle.noc_model.specs.Good.{IsGoodSetup}
 use Rattle.noc_model.specs.Halves.{beat_at}
 use Rattle.noc_model.specs.Network.{Run}
 use Rattle.noc_model.specs.Unseen.{AreInStep}
-use Rattle.noc_progress.proofs.Theorems.{not-stuck}
+use Rattle.noc_model.proofs.Theorems.{not-stuck}
 use Rattle.noc_net.specs.Parts.{setup_in}
 use Rattle.noc_net.proofs.PartsLemmas.{parts-in_step, views-in_step, wires-in_step}
 use Rattle.noc_net.proofs.network.Network.run.Goals as goal
