@@ -19,13 +19,14 @@ use Rattle.noc_vc.specs.declared.input.InputState.TheVariants.{Idle, Waiting, Ac
 use Rattle.noc_router.specs.Members.{AreBelow}
 use Rattle.noc_router.specs.Standing.{is_won_from}
 use Rattle.noc_router.specs.Verdict.{arbiters_after, out_of}
-use Rattle.noc_router.specs.View.{View, size_of, view_input, view_claim, claim_in, view_round, first_flit, flit_out, mover, mover_to}
+use Rattle.noc_router.specs.View.{View, size_of, view_input, view_claim, claim_in, view_round, first_flit, flit_out, is_tail, mover, mover_to}
 use Rattle.noc_rows.specs.Column.{sends_by}
 use Rattle.noc_rows.specs.Moves.{some_below, union_from, of_one, selected_by, dry_by, turned_by}
 use Rattle.noc_rows.specs.Turns.{in_turn}
 use Rattle.noc_rows.proofs.BitLemmas.{and_fits, least_is, lowest_members}
 use Rattle.noc_rows.proofs.PassLemmas.{power-members}
 use Rattle.noc_rows.proofs.SelectLemmas.{selected, wins-is, pick-of-member, in_turn-among, in_turn-some}
+use Rattle.noc_rows.proofs.SettleLemmas.{is_tail_by}
 use Rattle.noc_rows.proofs.SwitchLemmas.{AreMoved}
 use Rattle.noc_rows.proofs.UnionLemmas.{some-none, some-one, some-same, some-and, union-members}
 use Rattle.noc_rows.proofs.WinnerLemmas.{ShowsPorts}
@@ -62,18 +63,25 @@ eq-turned a b = at (cases_eq a b)
     at (inr o) = ne_eqb a b o ∙ sym (ne_eqb b a (λ e. o (sym e)))
 
 module _ (v : View) (picked : ℕ) (to turn : ℕ → ℕ) (are : AreMoving v picked to turn) where
+  -- the set of the channel that a port takes, and the channel
+  abbrev pub sel : ℕ → ℕ
+  sel q = selected_by picked to turn q
+
+  abbrev pub lead : ℕ → ℕ
+  lead q = trailing_zeros w32 (selected_by picked to turn q)
+
   asks-fit : (q : ℕ) → bit_and picked (to q) < 2 ^ 32
   asks-fit q = and_fits picked (to q) are.fits
 
   to-port : (q : ℕ) → q < ports v.site.grid → (k : ℕ) → k < size_of v.site → has_bit picked k ≡ true → has_bit (to q) k ≡ sends_by v.site.vcs q (view_input v k).phase
   to-port q lq k l e = are.to_port q k lq l e
 
-  bit-is : (q : ℕ) → q < ports v.site.grid → (k : ℕ) → has_bit (selected_by picked to turn q) k ≡ ((has_bit picked k && has_bit (to q) k) && is_some_of (slice_index_or (view_round v).wins q None) (k / v.site.vcs))
+  bit-is : (q : ℕ) → q < ports v.site.grid → (k : ℕ) → has_bit (sel q) k ≡ ((has_bit picked k && has_bit (to q) k) && is_some_of (slice_index_or (view_round v).wins q None) (k / v.site.vcs))
   bit-is q lq k =
       selected v picked (to q) q are.some_vc are.fits are.below lq are.draws (to-port q lq) (turn q) k (are.pointers q lq) (are.turns q lq)
       ∙ ap (λ b. b && is_some_of (slice_index_or (view_round v).wins q None) (k / v.site.vcs)) (both_members picked (to q) k)
 
-  selected-fits : (q : ℕ) → selected_by picked to turn q < 2 ^ 32
+  selected-fits : (q : ℕ) → sel q < 2 ^ 32
   selected-fits q = and_fits (in_turn (bit_and picked (to q)) (turn q)) _ (by (nat_eq (bit_and (bit_and picked (to q)) (turn q)) 0))
     where
       by : (b : Bool) → (if b then bit_and picked (to q) else bit_and (bit_and picked (to q)) (turn q)) < 2 ^ 32
@@ -81,45 +89,42 @@ module _ (v : View) (picked : ℕ) (to turn : ℕ → ℕ) (are : AreMoving v pi
       by false = and_fits (bit_and picked (to q)) (turn q) (asks-fit q)
 
   -- what is known of a channel that a port takes
-  pub taken-is : (q : ℕ) → q < ports v.site.grid → selected_by picked to turn q ≢ 0 → IsTaken v q (selected_by picked to turn q) (trailing_zeros w32 (selected_by picked to turn q))
-  taken-is q lq some = by (view_input v i).phase refl
+  pub taken-is : (q : ℕ) → q < ports v.site.grid → sel q ≢ 0 → IsTaken v q (sel q) (lead q)
+  taken-is q lq some = by (view_input v (lead q)).phase refl
     where
-      i : ℕ
-      i = trailing_zeros w32 (selected_by picked to turn q)
+      member : has_bit (sel q) (lead q) ≡ true
+      member = (least_is (sel q) (let p : 0 < sel q = omega arith in p) (selected-fits q)).0
 
-      member : has_bit (selected_by picked to turn q) (trailing_zeros w32 (selected_by picked to turn q)) ≡ true
-      member = (least_is (selected_by picked to turn q) (let p : 0 < selected_by picked to turn q = omega arith in p) (selected-fits q)).0
+      parts : ((has_bit picked (lead q) && has_bit (to q) (lead q)) ≡ true)
+          × (is_some_of (slice_index_or (view_round v).wins q None) (lead q / v.site.vcs) ≡ true)
+      parts = and_parts _ _ (sym (bit-is q lq (lead q)) ∙ member)
 
-      parts : ((has_bit picked (trailing_zeros w32 (selected_by picked to turn q)) && has_bit (to q) (trailing_zeros w32 (selected_by picked to turn q))) ≡ true)
-          × (is_some_of (slice_index_or (view_round v).wins q None) (trailing_zeros w32 (selected_by picked to turn q) / v.site.vcs) ≡ true)
-      parts = and_parts _ _ (sym (bit-is q lq (trailing_zeros w32 (selected_by picked to turn q))) ∙ member)
-
-      both : (has_bit picked (trailing_zeros w32 (selected_by picked to turn q)) ≡ true) × (has_bit (to q) (trailing_zeros w32 (selected_by picked to turn q)) ≡ true)
+      both : (has_bit picked (lead q) ≡ true) × (has_bit (to q) (lead q) ≡ true)
       both = and_parts _ _ parts.0
 
-      channel : trailing_zeros w32 (selected_by picked to turn q) < size_of v.site
-      channel = are.below (trailing_zeros w32 (selected_by picked to turn q)) both.0
+      channel : lead q < size_of v.site
+      channel = are.below (lead q) both.0
 
-      sends : sends_by v.site.vcs q (view_input v (trailing_zeros w32 (selected_by picked to turn q))).phase ≡ true
-      sends = sym (to-port q lq (trailing_zeros w32 (selected_by picked to turn q)) channel both.0) ∙ both.1
+      sends : sends_by v.site.vcs q (view_input v (lead q)).phase ≡ true
+      sends = sym (to-port q lq (lead q) channel both.0) ∙ both.1
 
-      alone : (k : ℕ) → has_bit (selected_by picked to turn q) k ≡ nat_eq k (trailing_zeros w32 (selected_by picked to turn q))
+      alone : (k : ℕ) → has_bit (sel q) k ≡ nat_eq k (lead q)
       alone k = single (cases_lt 0 (bit_and picked (to q)))
         where
-          single : (0 < bit_and picked (to q)) ⊎ (bit_and picked (to q) ≤ 0) → has_bit (selected_by picked to turn q) k ≡ nat_eq k (trailing_zeros w32 (selected_by picked to turn q))
+          single : (0 < bit_and picked (to q)) ⊎ (bit_and picked (to q) ≤ 0) → has_bit (sel q) k ≡ nat_eq k (lead q)
           single (inr none) =
               let z : bit_and picked (to q) ≡ 0 = omega arith in
-              absurd (false≢true (sym (ap (λ n. has_bit n (trailing_zeros w32 (selected_by picked to turn q))) z ∙ has_bit-zero (trailing_zeros w32 (selected_by picked to turn q))) ∙ both_members picked (to q) (trailing_zeros w32 (selected_by picked to turn q)) ∙ parts.0))
+              absurd (false≢true (sym (ap (λ n. has_bit n (lead q)) z ∙ has_bit-zero (lead q)) ∙ both_members picked (to q) (lead q) ∙ parts.0))
           single (inl one) =
               let from = in_turn-some v picked (to q) q are.some_vc are.fits are.below lq are.draws (to-port q lq) (bit_and picked (to q)) (turn q) one (asks-fit q) in
               let least : IsLeast (has_bit (in_turn (bit_and picked (to q)) (turn q))) (Some (trailing_zeros w32 (in_turn (bit_and picked (to q)) (turn q)))) = least_is (in_turn (bit_and picked (to q)) (turn q)) from.0 from.1 in
-              let each : (n : ℕ) → has_bit (selected_by picked to turn q) n ≡ nat_eq n (trailing_zeros w32 (in_turn (bit_and picked (to q)) (turn q)))
+              let each : (n : ℕ) → has_bit (sel q) n ≡ nat_eq n (trailing_zeros w32 (in_turn (bit_and picked (to q)) (turn q)))
               = λ n. lowest_members (in_turn (bit_and picked (to q)) (turn q)) (trailing_zeros w32 (in_turn (bit_and picked (to q)) (turn q))) n from.1 least in
-              let same : trailing_zeros w32 (selected_by picked to turn q) ≡ trailing_zeros w32 (in_turn (bit_and picked (to q)) (turn q))
-              = eqb-true _ _ (sym (each (trailing_zeros w32 (selected_by picked to turn q))) ∙ member) in
+              let same : lead q ≡ trailing_zeros w32 (in_turn (bit_and picked (to q)) (turn q))
+              = eqb-true _ _ (sym (each (lead q)) ∙ member) in
               each k ∙ ap (nat_eq k) (sym same)
 
-      by : (phase : InputState) → (view_input v (trailing_zeros w32 (selected_by picked to turn q))).phase ≡ phase → IsTaken v q (selected_by picked to turn q) (trailing_zeros w32 (selected_by picked to turn q))
+      by : (phase : InputState) → (view_input v (lead q)).phase ≡ phase → IsTaken v q (sel q) (lead q)
       by Idle e = absurd (false≢true (sym (ap (sends_by v.site.vcs q) e) ∙ sends))
       by (Waiting set) e = absurd (false≢true (sym (ap (sends_by v.site.vcs q) e) ∙ sends))
       by (Active o) e = record {
@@ -127,12 +132,12 @@ module _ (v : View) (picked : ℕ) (to turn : ℕ → ℕ) (are : AreMoving v pi
         out = o;
         phase = e;
         port = eqb-true (o / v.site.vcs) q (sym (ap (sends_by v.site.vcs q) e) ∙ sends);
-        below = are.within (trailing_zeros w32 (selected_by picked to turn q)) o channel e;
+        below = are.within (lead q) o channel e;
         alone = alone;
       }
 
   -- a port that takes none is asked by none
-  nobody-asks : (q : ℕ) → q < ports v.site.grid → selected_by picked to turn q ≡ 0 → bit_and picked (to q) ≡ 0
+  nobody-asks : (q : ℕ) → q < ports v.site.grid → sel q ≡ 0 → bit_and picked (to q) ≡ 0
   nobody-asks q lq none = at (cases_lt 0 (bit_and picked (to q)))
     where
       at : (0 < bit_and picked (to q)) ⊎ (bit_and picked (to q) ≤ 0) → bit_and picked (to q) ≡ 0
@@ -140,13 +145,13 @@ module _ (v : View) (picked : ℕ) (to turn : ℕ → ℕ) (are : AreMoving v pi
       at (inl one) =
           let from = in_turn-some v picked (to q) q are.some_vc are.fits are.below lq are.draws (to-port q lq) (bit_and picked (to q)) (turn q) one (asks-fit q) in
           let least : IsLeast (has_bit (in_turn (bit_and picked (to q)) (turn q))) (Some (trailing_zeros w32 (in_turn (bit_and picked (to q)) (turn q)))) = least_is (in_turn (bit_and picked (to q)) (turn q)) from.0 from.1 in
-          let on : has_bit (selected_by picked to turn q) (trailing_zeros w32 (in_turn (bit_and picked (to q)) (turn q))) ≡ true =
+          let on : has_bit (sel q) (trailing_zeros w32 (in_turn (bit_and picked (to q)) (turn q))) ≡ true =
           lowest_members (in_turn (bit_and picked (to q)) (turn q)) (trailing_zeros w32 (in_turn (bit_and picked (to q)) (turn q))) (trailing_zeros w32 (in_turn (bit_and picked (to q)) (turn q))) from.1 least ∙ eq-eqb _ _ refl in
           absurd (false≢true (sym (ap (λ n. has_bit n (trailing_zeros w32 (in_turn (bit_and picked (to q)) (turn q)))) none ∙ has_bit-zero (trailing_zeros w32 (in_turn (bit_and picked (to q)) (turn q)))) ∙ on))
 
   -- the input channel that moves a flit through an output port
-  pub mover-is : (q : ℕ) → q < ports v.site.grid → mover v.site (view_round v) q ≡ (if nat_eq (selected_by picked to turn q) 0 then None else Some (trailing_zeros w32 (selected_by picked to turn q)))
-  mover-is q lq = at (cases_eq (selected_by picked to turn q) 0)
+  pub mover-is : (q : ℕ) → q < ports v.site.grid → mover v.site (view_round v) q ≡ (if nat_eq (sel q) 0 then None else Some (lead q))
+  mover-is q lq = at (cases_eq (sel q) 0)
     where
       Mover : Option ℕ → Option ℕ
       Mover won = option_and_then (λ p. option_map (λ vc. p * v.site.vcs + vc) (slice_index_or (view_round v).picks p None)) won
@@ -154,47 +159,47 @@ module _ (v : View) (picked : ℕ) (to turn : ℕ → ℕ) (are : AreMoving v pi
       won-is : slice_index_or (view_round v).wins q None ≡ (if nat_eq (bit_and picked (to q)) 0 then None else Some (trailing_zeros w32 (in_turn (bit_and picked (to q)) (turn q)) / v.site.vcs))
       won-is = wins-is v picked (to q) q are.some_vc are.fits are.below lq are.draws (to-port q lq) (turn q) (are.pointers q lq) (are.turns q lq)
 
-      at : (selected_by picked to turn q ≡ 0) ⊎ (selected_by picked to turn q ≢ 0)
-          → mover v.site (view_round v) q ≡ (if nat_eq (selected_by picked to turn q) 0 then None else Some (trailing_zeros w32 (selected_by picked to turn q)))
+      at : (sel q ≡ 0) ⊎ (sel q ≢ 0)
+          → mover v.site (view_round v) q ≡ (if nat_eq (sel q) 0 then None else Some (lead q))
       at (inr some) =
           let taken = taken-is q lq some in
-          let member : has_bit (selected_by picked to turn q) (trailing_zeros w32 (selected_by picked to turn q)) ≡ true = taken.alone (trailing_zeros w32 (selected_by picked to turn q)) ∙ eq-eqb _ _ refl in
-          let parts = and_parts (has_bit picked (trailing_zeros w32 (selected_by picked to turn q)) && has_bit (to q) (trailing_zeros w32 (selected_by picked to turn q))) _ (sym (bit-is q lq (trailing_zeros w32 (selected_by picked to turn q))) ∙ member) in
-          let pick = pick-of-member v picked (to q) q are.some_vc are.fits are.below lq are.draws (to-port q lq) (trailing_zeros w32 (selected_by picked to turn q)) (and_parts (has_bit picked (trailing_zeros w32 (selected_by picked to turn q))) _ parts.0).0 in
-          ap Mover (some-is (slice_index_or (view_round v).wins q None) (trailing_zeros w32 (selected_by picked to turn q) / v.site.vcs) parts.1)
-          ∙ ap (λ (o : Option ℕ). option_map (λ vc. trailing_zeros w32 (selected_by picked to turn q) / v.site.vcs * v.site.vcs + vc) o) pick.2
-          ∙ ap Some (div-add-mod' (trailing_zeros w32 (selected_by picked to turn q)) v.site.vcs)
-          ∙ sym (ap (λ b. if b then None else Some (trailing_zeros w32 (selected_by picked to turn q))) (ne_eqb (selected_by picked to turn q) 0 some))
+          let member : has_bit (sel q) (lead q) ≡ true = taken.alone (lead q) ∙ eq-eqb _ _ refl in
+          let parts = and_parts (has_bit picked (lead q) && has_bit (to q) (lead q)) _ (sym (bit-is q lq (lead q)) ∙ member) in
+          let pick = pick-of-member v picked (to q) q are.some_vc are.fits are.below lq are.draws (to-port q lq) (lead q) (and_parts (has_bit picked (lead q)) _ parts.0).0 in
+          ap Mover (some-is (slice_index_or (view_round v).wins q None) (lead q / v.site.vcs) parts.1)
+          ∙ ap (λ (o : Option ℕ). option_map (λ vc. lead q / v.site.vcs * v.site.vcs + vc) o) pick.2
+          ∙ ap Some (div-add-mod' (lead q) v.site.vcs)
+          ∙ sym (ap (λ b. if b then None else Some (lead q)) (ne_eqb (sel q) 0 some))
         where
           some-is : (o : Option ℕ) (x : ℕ) → is_some_of o x ≡ true → o ≡ Some x
           some-is None x e = absurd (false≢true e)
           some-is (Some y) x e = ap Some (eqb-true y x e)
       at (inl none) =
           ap Mover (won-is ∙ ap (λ b. if b then None else Some (trailing_zeros w32 (in_turn (bit_and picked (to q)) (turn q)) / v.site.vcs)) (eq-eqb (bit_and picked (to q)) 0 (nobody-asks q lq none)))
-          ∙ sym (ap (λ b. if b then None else Some (trailing_zeros w32 (selected_by picked to turn q))) (eq-eqb (selected_by picked to turn q) 0 none))
+          ∙ sym (ap (λ b. if b then None else Some (lead q)) (eq-eqb (sel q) 0 none))
 
   -- the channels that move
   pub moved-is : AreMoved v (union_from 0 (ports v.site.grid) (selected_by picked to turn))
-  moved-is = record { each = λ k l. union-members 0 (ports v.site.grid) (selected_by picked to turn) k ∙ ap (λ b. b || some_below (ports v.site.grid) (λ q. has_bit (selected_by picked to turn q) k)) (has_bit-zero k) ∙ by k l (has_bit picked k) refl (view_input v k).phase refl }
+  moved-is = record { each = λ k l. union-members 0 (ports v.site.grid) (selected_by picked to turn) k ∙ ap (λ b. b || some_below (ports v.site.grid) (λ q. has_bit (sel q) k)) (has_bit-zero k) ∙ by k l (has_bit picked k) refl (view_input v k).phase refl }
     where
       by : (k : ℕ) → k < size_of v.site → (b : Bool) → has_bit picked k ≡ b → (phase : InputState) → (view_input v k).phase ≡ phase
-          → some_below (ports v.site.grid) (λ q. has_bit (selected_by picked to turn q) k) ≡ (is_some_of (slice_index_or (view_round v).picks (k / v.site.vcs) None) (k % v.site.vcs) && is_won_from v (view_round v) k (view_input v k).phase)
+          → some_below (ports v.site.grid) (λ q. has_bit (sel q) k) ≡ (is_some_of (slice_index_or (view_round v).picks (k / v.site.vcs) None) (k % v.site.vcs) && is_won_from v (view_round v) k (view_input v k).phase)
       by k l false eb phase e =
-          some-none (ports v.site.grid) (λ q. has_bit (selected_by picked to turn q) k) (λ q lq. bit-is q lq k ∙ ap (λ b. (b && has_bit (to q) k) && is_some_of (slice_index_or (view_round v).wins q None) (k / v.site.vcs)) eb)
+          some-none (ports v.site.grid) (λ q. has_bit (sel q) k) (λ q lq. bit-is q lq k ∙ ap (λ b. (b && has_bit (to q) k) && is_some_of (slice_index_or (view_round v).wins q None) (k / v.site.vcs)) eb)
           ∙ ap (λ b. b && is_won_from v (view_round v) k (view_input v k).phase) (sym eb ∙ are.draws k l)
       by k l true eb Idle e =
-          some-none (ports v.site.grid) (λ q. has_bit (selected_by picked to turn q) k) (λ q lq. bit-is q lq k ∙ ap₂ (λ a b. (a && b) && is_some_of (slice_index_or (view_round v).wins q None) (k / v.site.vcs)) eb (are.to_port q k lq l eb ∙ ap (sends_by v.site.vcs q) e))
+          some-none (ports v.site.grid) (λ q. has_bit (sel q) k) (λ q lq. bit-is q lq k ∙ ap₂ (λ a b. (a && b) && is_some_of (slice_index_or (view_round v).wins q None) (k / v.site.vcs)) eb (are.to_port q k lq l eb ∙ ap (sends_by v.site.vcs q) e))
           ∙ sym (ap₂ (λ a (p : InputState). a && is_won_from v (view_round v) k p) (sym (are.draws k l) ∙ eb) e)
       by k l true eb (Waiting set) e =
-          some-none (ports v.site.grid) (λ q. has_bit (selected_by picked to turn q) k) (λ q lq. bit-is q lq k ∙ ap₂ (λ a b. (a && b) && is_some_of (slice_index_or (view_round v).wins q None) (k / v.site.vcs)) eb (are.to_port q k lq l eb ∙ ap (sends_by v.site.vcs q) e))
+          some-none (ports v.site.grid) (λ q. has_bit (sel q) k) (λ q lq. bit-is q lq k ∙ ap₂ (λ a b. (a && b) && is_some_of (slice_index_or (view_round v).wins q None) (k / v.site.vcs)) eb (are.to_port q k lq l eb ∙ ap (sends_by v.site.vcs q) e))
           ∙ sym (ap₂ (λ a (p : InputState). a && is_won_from v (view_round v) k p) (sym (are.draws k l) ∙ eb) e)
       by k l true eb (Active o) e =
-          some-one (ports v.site.grid) (o / v.site.vcs) (λ q. has_bit (selected_by picked to turn q) k) (div_below o v.site.vcs (ports v.site.grid) are.some_vc (are.within k o l e))
+          some-one (ports v.site.grid) (o / v.site.vcs) (λ q. has_bit (sel q) k) (div_below o v.site.vcs (ports v.site.grid) are.some_vc (are.within k o l e))
           (λ q lq other. at q lq ∙ ap (λ b. b && is_some_of (slice_index_or (view_round v).wins q None) (k / v.site.vcs)) (ne_eqb (o / v.site.vcs) q (λ s. other (sym s))))
           ∙ at (o / v.site.vcs) (div_below o v.site.vcs (ports v.site.grid) are.some_vc (are.within k o l e)) ∙ ap (λ b. b && is_some_of (slice_index_or (view_round v).wins (o / v.site.vcs) None) (k / v.site.vcs)) (eq-eqb (o / v.site.vcs) (o / v.site.vcs) refl)
           ∙ sym (ap₂ (λ a (p : InputState). a && is_won_from v (view_round v) k p) (sym (are.draws k l) ∙ eb) e)
         where
-          at : (q : ℕ) → q < ports v.site.grid → has_bit (selected_by picked to turn q) k ≡ (nat_eq (o / v.site.vcs) q && is_some_of (slice_index_or (view_round v).wins q None) (k / v.site.vcs))
+          at : (q : ℕ) → q < ports v.site.grid → has_bit (sel q) k ≡ (nat_eq (o / v.site.vcs) q && is_some_of (slice_index_or (view_round v).wins q None) (k / v.site.vcs))
           at q lq = bit-is q lq k ∙ ap₂ (λ a b. (a && b) && is_some_of (slice_index_or (view_round v).wins q None) (k / v.site.vcs)) eb (are.to_port q k lq l eb ∙ ap (sends_by v.site.vcs q) e)
 
   -- ---- the output channels by which flits leave
@@ -206,19 +211,19 @@ module _ (v : View) (picked : ℕ) (to turn : ℕ → ℕ) (are : AreMoving v pi
   module _ (taken : ℕ → ℕ) (shows : (i o : ℕ) → i < size_of v.site → (view_input v i).phase ≡ Active o → taken i ≡ 2 ^ o) (test : ℕ → Bool) where
     -- the output channel of the channel that a port takes, if the test holds of it
     abbrev gone_by : ℕ → ℕ
-    gone_by q = of_one (selected_by picked to turn q) (λ i. if test i then taken i else 0)
+    gone_by q = of_one (sel q) (λ i. if test i then taken i else 0)
 
     gone-bit : (q o : ℕ) → q < ports v.site.grid → o / v.site.vcs ≢ q → has_bit (gone_by q) o ≡ false
-    gone-bit q o lq other = at (cases_eq (selected_by picked to turn q) 0)
+    gone-bit q o lq other = at (cases_eq (sel q) 0)
       where
-        at : (selected_by picked to turn q ≡ 0) ⊎ (selected_by picked to turn q ≢ 0) → has_bit (gone_by q) o ≡ false
-        at (inl none) = ap (λ b. has_bit (if b then 0 else (if test (trailing_zeros w32 (selected_by picked to turn q)) then taken (trailing_zeros w32 (selected_by picked to turn q)) else 0)) o) (eq-eqb (selected_by picked to turn q) 0 none) ∙ has_bit-zero o
+        at : (sel q ≡ 0) ⊎ (sel q ≢ 0) → has_bit (gone_by q) o ≡ false
+        at (inl none) = ap (λ b. has_bit (if b then 0 else (if test (lead q) then taken (lead q) else 0)) o) (eq-eqb (sel q) 0 none) ∙ has_bit-zero o
         at (inr some) =
             let one = taken-is q lq some in
-            ap (λ b. has_bit (if b then 0 else (if test (trailing_zeros w32 (selected_by picked to turn q)) then taken (trailing_zeros w32 (selected_by picked to turn q)) else 0)) o) (ne_eqb (selected_by picked to turn q) 0 some)
-            ∙ by one.out one.port (shows (trailing_zeros w32 (selected_by picked to turn q)) one.out one.channel one.phase) (test (trailing_zeros w32 (selected_by picked to turn q)))
+            ap (λ b. has_bit (if b then 0 else (if test (lead q) then taken (lead q) else 0)) o) (ne_eqb (sel q) 0 some)
+            ∙ by one.out one.port (shows (lead q) one.out one.channel one.phase) (test (lead q))
           where
-            by : (p : ℕ) → p / v.site.vcs ≡ q → taken (trailing_zeros w32 (selected_by picked to turn q)) ≡ 2 ^ p → (b : Bool) → has_bit (if b then taken (trailing_zeros w32 (selected_by picked to turn q)) else 0) o ≡ false
+            by : (p : ℕ) → p / v.site.vcs ≡ q → taken (lead q) ≡ 2 ^ p → (b : Bool) → has_bit (if b then taken (lead q) else 0) o ≡ false
             by p port is true = ap (λ w. has_bit w o) is ∙ power-members p o ∙ ne_eqb o p (λ e. other (ap (λ n. n / v.site.vcs) e ∙ port))
             by p port is false = has_bit-zero o
 
@@ -226,7 +231,7 @@ module _ (v : View) (picked : ℕ) (to turn : ℕ → ℕ) (are : AreMoving v pi
     gone-is o l =
         union-members 0 (ports v.site.grid) gone_by o ∙ ap (λ b. b || some_below (ports v.site.grid) (λ q. has_bit (gone_by q) o)) (has_bit-zero o)
         ∙ some-one (ports v.site.grid) (o / v.site.vcs) (λ q. has_bit (gone_by q) o) lq (λ q u other. gone-bit q o u (λ e. other (sym e)))
-        ∙ at (cases_eq (selected_by picked to turn (o / v.site.vcs)) 0)
+        ∙ at (cases_eq (sel (o / v.site.vcs)) 0)
       where
         lq : o / v.site.vcs < ports v.site.grid
         lq = div_below o v.site.vcs (ports v.site.grid) are.some_vc l
@@ -234,30 +239,30 @@ module _ (v : View) (picked : ℕ) (to turn : ℕ → ℕ) (are : AreMoving v pi
         To : Option ℕ → Bool
         To m = test_of test (option_and_then (λ i. if is_some_of (out_of (view_claim v i)) o then Some i else None) m)
 
-        at : (selected_by picked to turn (o / v.site.vcs) ≡ 0) ⊎ (selected_by picked to turn (o / v.site.vcs) ≢ 0) → has_bit (gone_by (o / v.site.vcs)) o ≡ test_of test (mover_to v (view_round v) o)
+        at : (sel (o / v.site.vcs) ≡ 0) ⊎ (sel (o / v.site.vcs) ≢ 0) → has_bit (gone_by (o / v.site.vcs)) o ≡ test_of test (mover_to v (view_round v) o)
         at (inl none) =
-            let z = eq-eqb (selected_by picked to turn (o / v.site.vcs)) 0 none in
-            ap (λ b. has_bit (if b then 0 else (if test (trailing_zeros w32 (selected_by picked to turn (o / v.site.vcs))) then taken (trailing_zeros w32 (selected_by picked to turn (o / v.site.vcs))) else 0)) o) z ∙ has_bit-zero o
-            ∙ sym (ap To (mover-is (o / v.site.vcs) lq ∙ ap (λ b. if b then None else Some (trailing_zeros w32 (selected_by picked to turn (o / v.site.vcs)))) z))
+            let z = eq-eqb (sel (o / v.site.vcs)) 0 none in
+            ap (λ b. has_bit (if b then 0 else (if test (lead (o / v.site.vcs)) then taken (lead (o / v.site.vcs)) else 0)) o) z ∙ has_bit-zero o
+            ∙ sym (ap To (mover-is (o / v.site.vcs) lq ∙ ap (λ b. if b then None else Some (lead (o / v.site.vcs))) z))
         at (inr some) =
-            let z = ne_eqb (selected_by picked to turn (o / v.site.vcs)) 0 some in
+            let z = ne_eqb (sel (o / v.site.vcs)) 0 some in
             let one = taken-is (o / v.site.vcs) lq some in
-            ap (λ b. has_bit (if b then 0 else (if test (trailing_zeros w32 (selected_by picked to turn (o / v.site.vcs))) then taken (trailing_zeros w32 (selected_by picked to turn (o / v.site.vcs))) else 0)) o) z
-            ∙ by one.out one.phase (shows (trailing_zeros w32 (selected_by picked to turn (o / v.site.vcs))) one.out one.channel one.phase) (test (trailing_zeros w32 (selected_by picked to turn (o / v.site.vcs)))) refl
-            ∙ sym (ap To (mover-is (o / v.site.vcs) lq ∙ ap (λ b. if b then None else Some (trailing_zeros w32 (selected_by picked to turn (o / v.site.vcs)))) z))
+            ap (λ b. has_bit (if b then 0 else (if test (lead (o / v.site.vcs)) then taken (lead (o / v.site.vcs)) else 0)) o) z
+            ∙ by one.out one.phase (shows (lead (o / v.site.vcs)) one.out one.channel one.phase) (test (lead (o / v.site.vcs))) refl
+            ∙ sym (ap To (mover-is (o / v.site.vcs) lq ∙ ap (λ b. if b then None else Some (lead (o / v.site.vcs))) z))
           where
-            by : (p : ℕ) → (view_input v (trailing_zeros w32 (selected_by picked to turn (o / v.site.vcs)))).phase ≡ Active p → taken (trailing_zeros w32 (selected_by picked to turn (o / v.site.vcs))) ≡ 2 ^ p
-                → (b : Bool) → test (trailing_zeros w32 (selected_by picked to turn (o / v.site.vcs))) ≡ b
-                → has_bit (if b then taken (trailing_zeros w32 (selected_by picked to turn (o / v.site.vcs))) else 0) o ≡ To (Some (trailing_zeros w32 (selected_by picked to turn (o / v.site.vcs))))
+            by : (p : ℕ) → (view_input v (lead (o / v.site.vcs))).phase ≡ Active p → taken (lead (o / v.site.vcs)) ≡ 2 ^ p
+                → (b : Bool) → test (lead (o / v.site.vcs)) ≡ b
+                → has_bit (if b then taken (lead (o / v.site.vcs)) else 0) o ≡ To (Some (lead (o / v.site.vcs)))
             by p phase is b eb =
-                side b eb ∙ sym (ap (λ (s : InputState). test_of test (if is_some_of (out_of (claim_in v s)) o then Some (trailing_zeros w32 (selected_by picked to turn (o / v.site.vcs))) else None)) phase ∙ ends (nat_eq p o))
+                side b eb ∙ sym (ap (λ (s : InputState). test_of test (if is_some_of (out_of (claim_in v s)) o then Some (lead (o / v.site.vcs)) else None)) phase ∙ ends (nat_eq p o))
               where
-                ends : (x : Bool) → test_of test (if x then Some (trailing_zeros w32 (selected_by picked to turn (o / v.site.vcs))) else None) ≡ (x && test (trailing_zeros w32 (selected_by picked to turn (o / v.site.vcs))))
+                ends : (x : Bool) → test_of test (if x then Some (lead (o / v.site.vcs)) else None) ≡ (x && test (lead (o / v.site.vcs)))
                 ends true = refl
                 ends false = refl
 
-                side : (b : Bool) → test (trailing_zeros w32 (selected_by picked to turn (o / v.site.vcs))) ≡ b
-                    → has_bit (if b then taken (trailing_zeros w32 (selected_by picked to turn (o / v.site.vcs))) else 0) o ≡ (nat_eq p o && test (trailing_zeros w32 (selected_by picked to turn (o / v.site.vcs))))
+                side : (b : Bool) → test (lead (o / v.site.vcs)) ≡ b
+                    → has_bit (if b then taken (lead (o / v.site.vcs)) else 0) o ≡ (nat_eq p o && test (lead (o / v.site.vcs)))
                 side true t = ap (λ w. has_bit w o) is ∙ power-members p o ∙ eq-turned o p ∙ sym (ap (λ x. nat_eq p o && x) t ∙ alone (nat_eq p o))
                   where
                     alone : (b : Bool) → (b && true) ≡ b
@@ -265,34 +270,52 @@ module _ (v : View) (picked : ℕ) (to turn : ℕ → ℕ) (are : AreMoving v pi
                     alone false = refl
                 side false t = has_bit-zero o ∙ sym (ap (λ x. nat_eq p o && x) t ∙ and-none (nat_eq p o))
 
+  module _ (taken : ℕ → ℕ) (shows : (i o : ℕ) → i < size_of v.site → (view_input v i).phase ≡ Active o → taken i ≡ 2 ^ o) where
+    -- the output channels by which a flit leaves
+    pub left-is : (o : ℕ) → o < size_of v.site → has_bit (union_from 0 (ports v.site.grid) (λ q. of_one (sel q) taken)) o ≡ is_some (mover_to v (view_round v) o)
+    left-is o l = gone-is taken shows (λ i. true) o l ∙ at (mover_to v (view_round v) o)
+      where
+        at : (m : Option ℕ) → test_of (λ i. true) m ≡ is_some m
+        at None = refl
+        at (Some i) = refl
+
+    -- .. a tail
+    pub freed-is : (o : ℕ) → o < size_of v.site
+        → has_bit (union_from 0 (ports v.site.grid) (λ q. of_one (sel q) (λ i. if is_tail (first_flit v i) then taken i else 0))) o ≡ is_tail_by v (mover_to v (view_round v) o)
+    freed-is o l = gone-is taken shows (λ i. is_tail (first_flit v i)) o l ∙ at (mover_to v (view_round v) o)
+      where
+        at : (m : Option ℕ) → test_of (λ i. is_tail (first_flit v i)) m ≡ is_tail_by v m
+        at None = refl
+        at (Some i) = refl
+
   -- ---- the tails among the channels that move
-  pub released-is : (tail : ℕ → Bool) (k : ℕ) → has_bit (union_from 0 (ports v.site.grid) (λ q. of_one (selected_by picked to turn q) (λ i. if tail i then 2 ^ i else 0))) k ≡ (has_bit (union_from 0 (ports v.site.grid) (selected_by picked to turn)) k && tail k)
+  pub released-is : (tail : ℕ → Bool) (k : ℕ) → has_bit (union_from 0 (ports v.site.grid) (λ q. of_one (sel q) (λ i. if tail i then 2 ^ i else 0))) k ≡ (has_bit (union_from 0 (ports v.site.grid) (selected_by picked to turn)) k && tail k)
   released-is tail k =
-      union-members 0 (ports v.site.grid) (λ q. of_one (selected_by picked to turn q) (λ i. if tail i then 2 ^ i else 0)) k
-      ∙ ap₂ (λ a b. a || b) (has_bit-zero k) (some-same (ports v.site.grid) (λ q. has_bit (of_one (selected_by picked to turn q) (λ i. if tail i then 2 ^ i else 0)) k) (λ q. has_bit (selected_by picked to turn q) k && tail k) (λ q lq. each q lq (cases_eq (selected_by picked to turn q) 0)))
-      ∙ some-and (ports v.site.grid) (λ q. has_bit (selected_by picked to turn q) k) (tail k)
-      ∙ ap (λ b. b && tail k) (sym (union-members 0 (ports v.site.grid) (selected_by picked to turn) k ∙ ap (λ b. b || some_below (ports v.site.grid) (λ q. has_bit (selected_by picked to turn q) k)) (has_bit-zero k)))
+      union-members 0 (ports v.site.grid) (λ q. of_one (sel q) (λ i. if tail i then 2 ^ i else 0)) k
+      ∙ ap₂ (λ a b. a || b) (has_bit-zero k) (some-same (ports v.site.grid) (λ q. has_bit (of_one (sel q) (λ i. if tail i then 2 ^ i else 0)) k) (λ q. has_bit (sel q) k && tail k) (λ q lq. each q lq (cases_eq (sel q) 0)))
+      ∙ some-and (ports v.site.grid) (λ q. has_bit (sel q) k) (tail k)
+      ∙ ap (λ b. b && tail k) (sym (union-members 0 (ports v.site.grid) (selected_by picked to turn) k ∙ ap (λ b. b || some_below (ports v.site.grid) (λ q. has_bit (sel q) k)) (has_bit-zero k)))
     where
-      each : (q : ℕ) → q < ports v.site.grid → (selected_by picked to turn q ≡ 0) ⊎ (selected_by picked to turn q ≢ 0)
-          → has_bit (of_one (selected_by picked to turn q) (λ i. if tail i then 2 ^ i else 0)) k ≡ (has_bit (selected_by picked to turn q) k && tail k)
+      each : (q : ℕ) → q < ports v.site.grid → (sel q ≡ 0) ⊎ (sel q ≢ 0)
+          → has_bit (of_one (sel q) (λ i. if tail i then 2 ^ i else 0)) k ≡ (has_bit (sel q) k && tail k)
       each q lq (inl none) =
-          ap (λ b. has_bit (if b then 0 else (if tail (trailing_zeros w32 (selected_by picked to turn q)) then 2 ^ trailing_zeros w32 (selected_by picked to turn q) else 0)) k) (eq-eqb (selected_by picked to turn q) 0 none) ∙ has_bit-zero k
+          ap (λ b. has_bit (if b then 0 else (if tail (lead q) then 2 ^ lead q else 0)) k) (eq-eqb (sel q) 0 none) ∙ has_bit-zero k
           ∙ sym (ap (λ b. b && tail k) (ap (λ n. has_bit n k) none ∙ has_bit-zero k))
       each q lq (inr some) =
-          ap (λ b. has_bit (if b then 0 else (if tail (trailing_zeros w32 (selected_by picked to turn q)) then 2 ^ trailing_zeros w32 (selected_by picked to turn q) else 0)) k) (ne_eqb (selected_by picked to turn q) 0 some)
-          ∙ by (cases_eq k (trailing_zeros w32 (selected_by picked to turn q))) ∙ ap (λ b. b && tail k) (sym ((taken-is q lq some).alone k))
+          ap (λ b. has_bit (if b then 0 else (if tail (lead q) then 2 ^ lead q else 0)) k) (ne_eqb (sel q) 0 some)
+          ∙ by (cases_eq k (lead q)) ∙ ap (λ b. b && tail k) (sym ((taken-is q lq some).alone k))
         where
-          by : (k ≡ trailing_zeros w32 (selected_by picked to turn q)) ⊎ (k ≢ trailing_zeros w32 (selected_by picked to turn q))
-              → has_bit (if tail (trailing_zeros w32 (selected_by picked to turn q)) then 2 ^ trailing_zeros w32 (selected_by picked to turn q) else 0) k ≡ (nat_eq k (trailing_zeros w32 (selected_by picked to turn q)) && tail k)
-          by (inl same) = at (tail (trailing_zeros w32 (selected_by picked to turn q))) refl
+          by : (k ≡ lead q) ⊎ (k ≢ lead q)
+              → has_bit (if tail (lead q) then 2 ^ lead q else 0) k ≡ (nat_eq k (lead q) && tail k)
+          by (inl same) = at (tail (lead q)) refl
             where
-              at : (b : Bool) → tail (trailing_zeros w32 (selected_by picked to turn q)) ≡ b → has_bit (if b then 2 ^ trailing_zeros w32 (selected_by picked to turn q) else 0) k ≡ (nat_eq k (trailing_zeros w32 (selected_by picked to turn q)) && tail k)
-              at true t = power-members (trailing_zeros w32 (selected_by picked to turn q)) k ∙ eq-eqb k _ same ∙ sym (ap₂ (λ a b. a && b) (eq-eqb k (trailing_zeros w32 (selected_by picked to turn q)) same) (ap tail same ∙ t))
-              at false t = has_bit-zero k ∙ sym (ap₂ (λ a b. a && b) (eq-eqb k (trailing_zeros w32 (selected_by picked to turn q)) same) (ap tail same ∙ t))
-          by (inr other) = at (tail (trailing_zeros w32 (selected_by picked to turn q))) ∙ sym (ap (λ b. b && tail k) (ne_eqb k (trailing_zeros w32 (selected_by picked to turn q)) other))
+              at : (b : Bool) → tail (lead q) ≡ b → has_bit (if b then 2 ^ lead q else 0) k ≡ (nat_eq k (lead q) && tail k)
+              at true t = power-members (lead q) k ∙ eq-eqb k _ same ∙ sym (ap₂ (λ a b. a && b) (eq-eqb k (lead q) same) (ap tail same ∙ t))
+              at false t = has_bit-zero k ∙ sym (ap₂ (λ a b. a && b) (eq-eqb k (lead q) same) (ap tail same ∙ t))
+          by (inr other) = at (tail (lead q)) ∙ sym (ap (λ b. b && tail k) (ne_eqb k (lead q) other))
             where
-              at : (b : Bool) → has_bit (if b then 2 ^ trailing_zeros w32 (selected_by picked to turn q) else 0) k ≡ false
-              at true = power-members (trailing_zeros w32 (selected_by picked to turn q)) k ∙ ne_eqb k (trailing_zeros w32 (selected_by picked to turn q)) other
+              at : (b : Bool) → has_bit (if b then 2 ^ lead q else 0) k ≡ false
+              at true = power-members (lead q) k ∙ ne_eqb k (lead q) other
               at false = has_bit-zero k
 
   -- ---- who takes the last credit of its output channel
@@ -302,91 +325,91 @@ module _ (v : View) (picked : ℕ) (to turn : ℕ → ℕ) (are : AreMoving v pi
   spends single (Active o) = has_bit single o
 
   module _ (taken : ℕ → ℕ) (shows : (i o : ℕ) → i < size_of v.site → (view_input v i).phase ≡ Active o → taken i ≡ 2 ^ o) (single : ℕ) where
-    dry-bit : (q k : ℕ) → q < ports v.site.grid → has_bit (dry_by single taken (selected_by picked to turn q)) k ≡ (has_bit (selected_by picked to turn q) k && spends single (view_input v k).phase)
-    dry-bit q k lq = at (cases_eq (selected_by picked to turn q) 0)
+    dry-bit : (q k : ℕ) → q < ports v.site.grid → has_bit (dry_by single taken (sel q)) k ≡ (has_bit (sel q) k && spends single (view_input v k).phase)
+    dry-bit q k lq = at (cases_eq (sel q) 0)
       where
         neither : (b : Bool) (set : ℕ) → set ≡ 0 → has_bit (if b then 0 else set) k ≡ false
         neither true set z = has_bit-zero k
         neither false set z = ap (λ n. has_bit n k) z ∙ has_bit-zero k
 
-        at : (selected_by picked to turn q ≡ 0) ⊎ (selected_by picked to turn q ≢ 0) → has_bit (dry_by single taken (selected_by picked to turn q)) k ≡ (has_bit (selected_by picked to turn q) k && spends single (view_input v k).phase)
+        at : (sel q ≡ 0) ⊎ (sel q ≢ 0) → has_bit (dry_by single taken (sel q)) k ≡ (has_bit (sel q) k && spends single (view_input v k).phase)
         at (inl none) =
-            neither (nat_eq (bit_and single (of_one (selected_by picked to turn q) taken)) 0) (selected_by picked to turn q) none
+            neither (nat_eq (bit_and single (of_one (sel q) taken)) 0) (sel q) none
             ∙ sym (ap (λ b. b && spends single (view_input v k).phase) (ap (λ n. has_bit n k) none ∙ has_bit-zero k))
         at (inr some) =
             let one = taken-is q lq some in
-            ap (λ w. has_bit (if nat_eq (bit_and single w) 0 then 0 else selected_by picked to turn q) k) (ap (λ b. if b then 0 else taken (trailing_zeros w32 (selected_by picked to turn q))) (ne_eqb (selected_by picked to turn q) 0 some) ∙ shows (trailing_zeros w32 (selected_by picked to turn q)) one.out one.channel one.phase ∙ refl)
+            ap (λ w. has_bit (if nat_eq (bit_and single w) 0 then 0 else sel q) k) (ap (λ b. if b then 0 else taken (lead q)) (ne_eqb (sel q) 0 some) ∙ shows (lead q) one.out one.channel one.phase ∙ refl)
             ∙ by one.out one.phase one.alone (has_bit single one.out) refl
           where
-            by : (p : ℕ) → (view_input v (trailing_zeros w32 (selected_by picked to turn q))).phase ≡ Active p → ((n : ℕ) → has_bit (selected_by picked to turn q) n ≡ nat_eq n (trailing_zeros w32 (selected_by picked to turn q)))
-                → (b : Bool) → has_bit single p ≡ b → has_bit (if nat_eq (bit_and single (2 ^ p)) 0 then 0 else selected_by picked to turn q) k ≡ (has_bit (selected_by picked to turn q) k && spends single (view_input v k).phase)
-            by p phase alone b eb = ap (λ x. has_bit (if x then 0 else selected_by picked to turn q) k) (test b eb) ∙ side b eb (cases_eq k (trailing_zeros w32 (selected_by picked to turn q)))
+            by : (p : ℕ) → (view_input v (lead q)).phase ≡ Active p → ((n : ℕ) → has_bit (sel q) n ≡ nat_eq n (lead q))
+                → (b : Bool) → has_bit single p ≡ b → has_bit (if nat_eq (bit_and single (2 ^ p)) 0 then 0 else sel q) k ≡ (has_bit (sel q) k && spends single (view_input v k).phase)
+            by p phase alone b eb = ap (λ x. has_bit (if x then 0 else sel q) k) (test b eb) ∙ side b eb (cases_eq k (lead q))
               where
                 test : (b : Bool) → has_bit single p ≡ b → nat_eq (bit_and single (2 ^ p)) 0 ≡ not b
                 test true e = ne_eqb (bit_and single (2 ^ p)) 0 (λ z. let w : bit_and single (2 ^ p) ≡ 1 * 2 ^ p = and_pow single p ∙ ap (λ n. n * 2 ^ p) (bit_at-true single p e) in absurd (omega (arith, pow_pos p)))
                 test false e = eq-eqb (bit_and single (2 ^ p)) 0 (and_pow single p ∙ ap (λ n. n * 2 ^ p) (bit_at-false single p e) ∙ (let z : 0 * 2 ^ p ≡ 0 = omega arith in z))
 
-                spent : k ≡ trailing_zeros w32 (selected_by picked to turn q) → spends single (view_input v k).phase ≡ has_bit single p
+                spent : k ≡ lead q → spends single (view_input v k).phase ≡ has_bit single p
                 spent same = ap (λ n. spends single (view_input v n).phase) same ∙ ap (spends single) phase
 
-                side : (b : Bool) → has_bit single p ≡ b → (k ≡ trailing_zeros w32 (selected_by picked to turn q)) ⊎ (k ≢ trailing_zeros w32 (selected_by picked to turn q))
-                    → has_bit (if not b then 0 else selected_by picked to turn q) k ≡ (has_bit (selected_by picked to turn q) k && spends single (view_input v k).phase)
+                side : (b : Bool) → has_bit single p ≡ b → (k ≡ lead q) ⊎ (k ≢ lead q)
+                    → has_bit (if not b then 0 else sel q) k ≡ (has_bit (sel q) k && spends single (view_input v k).phase)
                 side true e (inl same) = alone k ∙ eq-eqb k _ same ∙ sym (ap₂ (λ a c. a && c) (alone k ∙ eq-eqb k _ same) (spent same ∙ e))
                 side true e (inr other) = alone k ∙ ne_eqb k _ other ∙ sym (ap (λ a. a && spends single (view_input v k).phase) (alone k ∙ ne_eqb k _ other))
                 side false e (inl same) = has_bit-zero k ∙ sym (ap₂ (λ a c. a && c) (alone k ∙ eq-eqb k _ same) (spent same ∙ e))
                 side false e (inr other) = has_bit-zero k ∙ sym (ap (λ a. a && spends single (view_input v k).phase) (alone k ∙ ne_eqb k _ other))
 
-    pub dry-is : (k : ℕ) → has_bit (union_from 0 (ports v.site.grid) (λ q. dry_by single taken (selected_by picked to turn q))) k ≡ (has_bit (union_from 0 (ports v.site.grid) (selected_by picked to turn)) k && spends single (view_input v k).phase)
+    pub dry-is : (k : ℕ) → has_bit (union_from 0 (ports v.site.grid) (λ q. dry_by single taken (sel q))) k ≡ (has_bit (union_from 0 (ports v.site.grid) (selected_by picked to turn)) k && spends single (view_input v k).phase)
     dry-is k =
-        union-members 0 (ports v.site.grid) (λ q. dry_by single taken (selected_by picked to turn q)) k
-        ∙ ap₂ (λ a b. a || b) (has_bit-zero k) (some-same (ports v.site.grid) (λ q. has_bit (dry_by single taken (selected_by picked to turn q)) k) (λ q. has_bit (selected_by picked to turn q) k && spends single (view_input v k).phase) (λ q lq. dry-bit q k lq))
-        ∙ some-and (ports v.site.grid) (λ q. has_bit (selected_by picked to turn q) k) (spends single (view_input v k).phase)
-        ∙ ap (λ b. b && spends single (view_input v k).phase) (sym (union-members 0 (ports v.site.grid) (selected_by picked to turn) k ∙ ap (λ b. b || some_below (ports v.site.grid) (λ q. has_bit (selected_by picked to turn q) k)) (has_bit-zero k)))
+        union-members 0 (ports v.site.grid) (λ q. dry_by single taken (sel q)) k
+        ∙ ap₂ (λ a b. a || b) (has_bit-zero k) (some-same (ports v.site.grid) (λ q. has_bit (dry_by single taken (sel q)) k) (λ q. has_bit (sel q) k && spends single (view_input v k).phase) (λ q lq. dry-bit q k lq))
+        ∙ some-and (ports v.site.grid) (λ q. has_bit (sel q) k) (spends single (view_input v k).phase)
+        ∙ ap (λ b. b && spends single (view_input v k).phase) (sym (union-members 0 (ports v.site.grid) (selected_by picked to turn) k ∙ ap (λ b. b || some_below (ports v.site.grid) (λ q. has_bit (sel q) k)) (has_bit-zero k)))
 
   -- ---- what leaves by a port
-  pub none-leaves : (q : ℕ) → q < ports v.site.grid → selected_by picked to turn q ≡ 0 → flit_out v (view_round v) q ≡ None
+  pub none-leaves : (q : ℕ) → q < ports v.site.grid → sel q ≡ 0 → flit_out v (view_round v) q ≡ None
   none-leaves q lq none =
       ap (λ (m : Option ℕ). option_and_then (λ i. option_and_then (λ o. option_map (λ f. (o % v.site.vcs, f)) (first_flit v i)) (out_of (view_claim v i))) m)
-      (mover-is q lq ∙ ap (λ b. if b then None else Some (trailing_zeros w32 (selected_by picked to turn q))) (eq-eqb (selected_by picked to turn q) 0 none))
+      (mover-is q lq ∙ ap (λ b. if b then None else Some (lead q)) (eq-eqb (sel q) 0 none))
 
-  pub one-leaves : (q : ℕ) (lq : q < ports v.site.grid) (some : selected_by picked to turn q ≢ 0)
-      → flit_out v (view_round v) q ≡ option_map (λ f. ((taken-is q lq some).out % v.site.vcs, f)) (first_flit v (trailing_zeros w32 (selected_by picked to turn q)))
+  pub one-leaves : (q : ℕ) (lq : q < ports v.site.grid) (some : sel q ≢ 0)
+      → flit_out v (view_round v) q ≡ option_map (λ f. ((taken-is q lq some).out % v.site.vcs, f)) (first_flit v (lead q))
   one-leaves q lq some =
       ap (λ (m : Option ℕ). option_and_then (λ i. option_and_then (λ o. option_map (λ f. (o % v.site.vcs, f)) (first_flit v i)) (out_of (view_claim v i))) m)
-      (mover-is q lq ∙ ap (λ b. if b then None else Some (trailing_zeros w32 (selected_by picked to turn q))) (ne_eqb (selected_by picked to turn q) 0 some))
-      ∙ ap (λ (s : InputState). option_and_then (λ o. option_map (λ f. (o % v.site.vcs, f)) (first_flit v (trailing_zeros w32 (selected_by picked to turn q)))) (out_of (claim_in v s))) (taken-is q lq some).phase
+      (mover-is q lq ∙ ap (λ b. if b then None else Some (lead q)) (ne_eqb (sel q) 0 some))
+      ∙ ap (λ (s : InputState). option_and_then (λ o. option_map (λ f. (o % v.site.vcs, f)) (first_flit v (lead q))) (out_of (claim_in v s))) (taken-is q lq some).phase
 
   -- ---- the pointers of the output ports
-  won-is : (q : ℕ) → q < ports v.site.grid → slice_index_or (view_round v).wins q None ≡ (if nat_eq (selected_by picked to turn q) 0 then None else Some (trailing_zeros w32 (selected_by picked to turn q) / v.site.vcs))
-  won-is q lq = at (cases_eq (selected_by picked to turn q) 0)
+  won-is : (q : ℕ) → q < ports v.site.grid → slice_index_or (view_round v).wins q None ≡ (if nat_eq (sel q) 0 then None else Some (lead q / v.site.vcs))
+  won-is q lq = at (cases_eq (sel q) 0)
     where
       some-is : (o : Option ℕ) (x : ℕ) → is_some_of o x ≡ true → o ≡ Some x
       some-is None x e = absurd (false≢true e)
       some-is (Some y) x e = ap Some (eqb-true y x e)
 
-      at : (selected_by picked to turn q ≡ 0) ⊎ (selected_by picked to turn q ≢ 0)
-          → slice_index_or (view_round v).wins q None ≡ (if nat_eq (selected_by picked to turn q) 0 then None else Some (trailing_zeros w32 (selected_by picked to turn q) / v.site.vcs))
+      at : (sel q ≡ 0) ⊎ (sel q ≢ 0)
+          → slice_index_or (view_round v).wins q None ≡ (if nat_eq (sel q) 0 then None else Some (lead q / v.site.vcs))
       at (inr some) =
-          let member : has_bit (selected_by picked to turn q) (trailing_zeros w32 (selected_by picked to turn q)) ≡ true = (taken-is q lq some).alone (trailing_zeros w32 (selected_by picked to turn q)) ∙ eq-eqb _ _ refl in
-          let parts = and_parts (has_bit picked (trailing_zeros w32 (selected_by picked to turn q)) && has_bit (to q) (trailing_zeros w32 (selected_by picked to turn q))) _ (sym (bit-is q lq (trailing_zeros w32 (selected_by picked to turn q))) ∙ member) in
-          some-is (slice_index_or (view_round v).wins q None) (trailing_zeros w32 (selected_by picked to turn q) / v.site.vcs) parts.1
-          ∙ sym (ap (λ b. if b then None else Some (trailing_zeros w32 (selected_by picked to turn q) / v.site.vcs)) (ne_eqb (selected_by picked to turn q) 0 some))
+          let member : has_bit (sel q) (lead q) ≡ true = (taken-is q lq some).alone (lead q) ∙ eq-eqb _ _ refl in
+          let parts = and_parts (has_bit picked (lead q) && has_bit (to q) (lead q)) _ (sym (bit-is q lq (lead q)) ∙ member) in
+          some-is (slice_index_or (view_round v).wins q None) (lead q / v.site.vcs) parts.1
+          ∙ sym (ap (λ b. if b then None else Some (lead q / v.site.vcs)) (ne_eqb (sel q) 0 some))
       at (inl none) =
           wins-is v picked (to q) q are.some_vc are.fits are.below lq are.draws (to-port q lq) (turn q) (are.pointers q lq) (are.turns q lq)
           ∙ ap (λ b. if b then None else Some (trailing_zeros w32 (in_turn (bit_and picked (to q)) (turn q)) / v.site.vcs)) (eq-eqb (bit_and picked (to q)) 0 (nobody-asks q lq none))
-          ∙ sym (ap (λ b. if b then None else Some (trailing_zeros w32 (selected_by picked to turn q) / v.site.vcs)) (eq-eqb (selected_by picked to turn q) 0 none))
+          ∙ sym (ap (λ b. if b then None else Some (lead q / v.site.vcs)) (eq-eqb (sel q) 0 none))
 
   module _ (after : List ℕ) (after_is : (i k : ℕ) → i < size_of v.site → k < size_of v.site → has_bit (slice_index after i) k ≡ nat_lt (i / v.site.vcs) (k / v.site.vcs)) where
     -- the mask of a port after its winner
     turned-shows : (q : ℕ) → q < ports v.site.grid
-        → ShowsPorts v.site.vcs (ports v.site.grid) (turned_by (selected_by picked to turn q) after (turn q)) (advanced (ports v.site.grid) (slice_index (pointers_of v.arbiters.outputs) q) (slice_index_or (view_round v).wins q None))
+        → ShowsPorts v.site.vcs (ports v.site.grid) (turned_by (sel q) after (turn q)) (advanced (ports v.site.grid) (slice_index (pointers_of v.arbiters.outputs) q) (slice_index_or (view_round v).wins q None))
     turned-shows q lq =
-        subst (λ (won : Option ℕ). ShowsPorts v.site.vcs (ports v.site.grid) (turned_by (selected_by picked to turn q) after (turn q)) (advanced (ports v.site.grid) (slice_index (pointers_of v.arbiters.outputs) q) won)) (sym (won-is q lq))
-        (at (cases_eq (selected_by picked to turn q) 0))
+        subst (λ (won : Option ℕ). ShowsPorts v.site.vcs (ports v.site.grid) (turned_by (sel q) after (turn q)) (advanced (ports v.site.grid) (slice_index (pointers_of v.arbiters.outputs) q) won)) (sym (won-is q lq))
+        (at (cases_eq (sel q) 0))
       where
         Shows : Bool → Type 0
-        Shows b = ShowsPorts v.site.vcs (ports v.site.grid) (if b then turn q else slice_index after (trailing_zeros w32 (selected_by picked to turn q)))
-            (advanced (ports v.site.grid) (slice_index (pointers_of v.arbiters.outputs) q) (if b then None else Some (trailing_zeros w32 (selected_by picked to turn q) / v.site.vcs)))
+        Shows b = ShowsPorts v.site.vcs (ports v.site.grid) (if b then turn q else slice_index after (lead q))
+            (advanced (ports v.site.grid) (slice_index (pointers_of v.arbiters.outputs) q) (if b then None else Some (lead q / v.site.vcs)))
 
         within : (k : ℕ) → k / v.site.vcs < ports v.site.grid → k < size_of v.site
         within k l =
@@ -395,39 +418,36 @@ module _ (v : View) (picked : ℕ) (to turn : ℕ → ℕ) (are : AreMoving v pi
             let e : k / v.site.vcs * v.site.vcs + k % v.site.vcs ≡ k = div-add-mod' k v.site.vcs in
             omega arith
 
-        at : (selected_by picked to turn q ≡ 0) ⊎ (selected_by picked to turn q ≢ 0) → Shows (nat_eq (selected_by picked to turn q) 0)
-        at (inl none) = subst Shows (sym (eq-eqb (selected_by picked to turn q) 0 none)) (are.turns q lq)
-        at (inr some) = subst Shows (sym (ne_eqb (selected_by picked to turn q) 0 some)) (past (cases_lt (trailing_zeros w32 (selected_by picked to turn q) / v.site.vcs + 1) (ports v.site.grid)))
+        at : (sel q ≡ 0) ⊎ (sel q ≢ 0) → Shows (nat_eq (sel q) 0)
+        at (inl none) = subst Shows (sym (eq-eqb (sel q) 0 none)) (are.turns q lq)
+        at (inr some) = subst Shows (sym (ne_eqb (sel q) 0 some)) (past (cases_lt (lead q / v.site.vcs + 1) (ports v.site.grid)))
           where
-            i : ℕ
-            i = trailing_zeros w32 (selected_by picked to turn q)
-
-            channel : trailing_zeros w32 (selected_by picked to turn q) < size_of v.site
+            channel : lead q < size_of v.site
             channel = (taken-is q lq some).channel
 
-            port : trailing_zeros w32 (selected_by picked to turn q) / v.site.vcs < ports v.site.grid
-            port = div_below (trailing_zeros w32 (selected_by picked to turn q)) v.site.vcs (ports v.site.grid) are.some_vc channel
+            port : lead q / v.site.vcs < ports v.site.grid
+            port = div_below (lead q) v.site.vcs (ports v.site.grid) are.some_vc channel
 
-            bit : (k : ℕ) → k / v.site.vcs < ports v.site.grid → has_bit (slice_index after (trailing_zeros w32 (selected_by picked to turn q))) k ≡ nat_lt (trailing_zeros w32 (selected_by picked to turn q) / v.site.vcs) (k / v.site.vcs)
-            bit k l = after_is (trailing_zeros w32 (selected_by picked to turn q)) k channel (within k l)
+            bit : (k : ℕ) → k / v.site.vcs < ports v.site.grid → has_bit (slice_index after (lead q)) k ≡ nat_lt (lead q / v.site.vcs) (k / v.site.vcs)
+            bit k l = after_is (lead q) k channel (within k l)
 
             next : (a b : ℕ) → nat_lt a b ≡ nat_le (a + 1) b
             next a b = elim (cases_lt a b) [ inl l ↦ lt-ltb a b l ∙ sym (le-leb (a + 1) b (omega arith)) | inr l ↦ le-ltb a b l ∙ sym (lt-leb (a + 1) b (omega arith)) ]
 
-            past : (trailing_zeros w32 (selected_by picked to turn q) / v.site.vcs + 1 < ports v.site.grid) ⊎ (ports v.site.grid ≤ trailing_zeros w32 (selected_by picked to turn q) / v.site.vcs + 1) → Shows false
-            past (inl l) = inl (λ k u. bit k u ∙ next (trailing_zeros w32 (selected_by picked to turn q) / v.site.vcs) (k / v.site.vcs) ∙ ap (λ m. nat_le m (k / v.site.vcs)) (sym (mod-eq_of_lt l)))
+            past : (lead q / v.site.vcs + 1 < ports v.site.grid) ⊎ (ports v.site.grid ≤ lead q / v.site.vcs + 1) → Shows false
+            past (inl l) = inl (λ k u. bit k u ∙ next (lead q / v.site.vcs) (k / v.site.vcs) ∙ ap (λ m. nat_le m (k / v.site.vcs)) (sym (mod-eq_of_lt l)))
             past (inr l) =
-                let last : trailing_zeros w32 (selected_by picked to turn q) / v.site.vcs + 1 ≡ ports v.site.grid = omega (arith, port, l) in
+                let last : lead q / v.site.vcs + 1 ≡ ports v.site.grid = omega (arith, port, l) in
                 inr (
                   ap (λ m. m % ports v.site.grid) last ∙ mod_self (ports v.site.grid),
-                  λ k u. bit k u ∙ le-ltb (trailing_zeros w32 (selected_by picked to turn q) / v.site.vcs) (k / v.site.vcs) (omega (arith, last, u)),
+                  λ k u. bit k u ∙ le-ltb (lead q / v.site.vcs) (k / v.site.vcs) (omega (arith, last, u)),
                 )
 
     -- the masks after the cycle show the pointers after it
     pub turns-after : (q : ℕ) → q < ports v.site.grid → length v.arbiters.outputs ≡ ports v.site.grid → (turn_at v.arbiters.outputs q).size ≡ ports v.site.grid
-        → ShowsPorts v.site.vcs (ports v.site.grid) (turned_by (selected_by picked to turn q) after (turn q)) (turn_at (arbiters_after (view_round v) v.arbiters).outputs q).pointer
+        → ShowsPorts v.site.vcs (ports v.site.grid) (turned_by (sel q) after (turn q)) (turn_at (arbiters_after (view_round v) v.arbiters).outputs q).pointer
     turns-after q lq long size =
-        subst (ShowsPorts v.site.vcs (ports v.site.grid) (turned_by (selected_by picked to turn q) after (turn q)))
+        subst (ShowsPorts v.site.vcs (ports v.site.grid) (turned_by (sel q) after (turn q)))
         (ap₂ (λ n p. advanced n p (slice_index_or (view_round v).wins q None)) (sym size) (get_or-map (λ (t : Turn). t.pointer) v.arbiters.outputs q (record { size = 0; pointer = 0 }) 0 (omega (arith, long)))
         ∙ sym (ap (λ (t : Turn). t.pointer)
         (get_or-map_indexed (λ p (t : Turn). turned t (slice_index_or (view_round v).wins p None)) v.arbiters.outputs q (record { size = 0; pointer = 0 }) (record { size = 0; pointer = 0 }) (omega (arith, long)))))

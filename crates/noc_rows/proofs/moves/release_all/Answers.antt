@@ -1,4 +1,4 @@
-use Rattle.std.proofs.Common.{◌≡◌, ◌≢◌, ℕ, ◌+◌, ◌*◌, ◌/◌, ◌%◌, ◌<◌, Bool, true, false, List, [], ap, ap₂, sym, ◌∙◌, arith, inl, inr, bit_or, get_or}
+use Rattle.std.proofs.Common.{◌≡◌, ℕ, ◌/◌, ◌%◌, List, [], ap, ap₂, sym, ◌∙◌, arith, inl, inr, get_or}
 use Rattle.std.specs.Prelude.{◌&&◌, ◌||◌, not, nat_eq, slice_index, slice_index_or, if◌then◌else◌}
 use Rattle.std.proofs.lemmas.Bool.{cases_eq, eq-eqb, ne_eqb}
 use Rattle.noc_packet.specs.Set.{has_bit}

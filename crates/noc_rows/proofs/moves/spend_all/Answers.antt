@@ -1,9 +1,9 @@
-use Rattle.std.proofs.Common.{◌≡◌, ℕ, ◌+◌, ◌*◌, ◌^◌, ◌<◌, Bool, true, false, ap, ap₂, sym, ◌∙◌, arith, bit_and, bit_or, w32, rules}
-use Rattle.std.specs.Prelude.{nat_eq, not, slice_index, if◌then◌else◌}
+use Rattle.std.proofs.Common.{◌≡◌, ℕ, ◌+◌, ◌*◌, ◌^◌, ◌<◌, true, ap, ap₂, sym, ◌∙◌, arith, bit_and, bit_or, w32, rules}
+use Rattle.std.specs.Prelude.{nat_eq, slice_index, if◌then◌else◌}
 use Rattle.std.specs.Int.{trailing_zeros}
 use Rattle.noc_packet.specs.Set.{has_bit}
 use Rattle.noc_rows.specs.Bits.{less}
-use Rattle.noc_rows.specs.Moves.{channel_word, dry_by, of_one, turned_by}
+use Rattle.noc_rows.specs.Moves.{channel_word, of_one}
 use Rattle.noc_rows.specs.Rows.{word}
 use Rattle.noc_rows.proofs.EachLemmas.{each-is, each-next}
 use Rattle.noc_rows.proofs.LaneLemmas.{is-zero, least-zeros, not-zero, or-zero}

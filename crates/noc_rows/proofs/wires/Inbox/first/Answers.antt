@@ -1,4 +1,4 @@
-use Rattle.std.proofs.Common.{◌≡◌, ◌<◌, ap, ◌∙◌, get_or, rules}
+use Rattle.std.proofs.Common.{◌<◌, ap, ◌∙◌, get_or, rules}
 use Rattle.noc_rows.specs.Wires.{room_of}
 use Rattle.noc_rows.proofs.RingLemmas.{first-is, room-is}
 use Rattle.noc_rows.proofs.wires.Inbox.first.Goals as goal
