@@ -1,12 +1,13 @@
 -- The count of a channel, level by level.
-use Rattle.std.proofs.Common.{◌≡◌, ◌≢◌, ℕ, zero, suc, ◌+◌, ◌-◌, ◌*◌, ◌/◌, ◌%◌, ◌^◌, ◌<◌, ◌≤◌, Bool, true, false, List, [], length, set, get_or, refl, ap, sym, ◌∙◌, subst, arith, inl, inr, add-one, pow-suc, pow-add, get_or-set_same, get_or-set_other}
+use Rattle.std.proofs.Common.{◌≡◌, ◌≢◌, ℕ, zero, suc, ◌+◌, ◌-◌, ◌*◌, ◌/◌, ◌%◌, ◌^◌, ◌<◌, ◌≤◌, Bool, true, false, List, [], length, set, get_or, replicate, refl, ap, sym, ◌∙◌, subst, arith, inl, inr, add-one, pow-suc, pow-add, get_or-set_same, get_or-set_other}
 use Rattle.std.specs.Prelude.{◌⊎◌, ◌&&◌, slice_index_or}
 use Rattle.std.specs.Int.{bit_at}
 use Rattle.std.proofs.lemmas.Bool.{cases_lt}
 use Rattle.std.proofs.Math.Pow.{pow_mono}
+use Rattle.std.proofs.lemmas.List.{get_or-replicate}
 use Rattle.std.proofs.lemmas.Nat.{pow_pos, shl_whole, shr-shr, div-mul-add}
 use Rattle.noc_packet.specs.Set.{has_bit}
-use Rattle.noc_packet.proofs.SetLemmas.{has_bit-one, has_bit-none, has_bit-same}
+use Rattle.noc_packet.proofs.SetLemmas.{has_bit-one, has_bit-none, has_bit-same, has_bit-zero}
 use Rattle.noc_router.specs.Counts.{one_if}
 use Rattle.noc_rows.specs.Rows.{word}
 use Rattle.noc_rows.specs.Sheet.{at_level, carry_over, number_by, sum_of, with_four}
@@ -129,8 +130,8 @@ module _ (bits0 pending : List (List ℕ)) (carry0 : List ℕ) (times : ℕ) whe
       → IsCarried bits0 pending carry0 times (set bits level row) next (level + 1)
   carried-next bits carry row next level carried fits one sum over = record {
     low = λ j k l. subst
-    (λ n. number_by (bit_level (set bits level row) j k) n + 2 ^ n * one_if (has_bit (word next j) k) ≡ number_by (at_level bits0 pending times j k) n + one_if (has_bit (word carry0 j) k))
-    (sym (add-one level)) (at j k l);
+        (λ n. number_by (bit_level (set bits level row) j k) n + 2 ^ n * one_if (has_bit (word next j) k) ≡ number_by (at_level bits0 pending times j k) n + one_if (has_bit (word carry0 j) k))
+        (sym (add-one level)) (at j k l);
     left = λ i l. get_or-set_other bits level i row [] (omega arith) ∙ carried.left i (omega arith);
   }
     where
@@ -245,3 +246,26 @@ joined ones twos a b c d k ones1 twos1 carry upper upper0 e1 e2 e4 is =
     let f2 : one_if (has_bit twos1 k) ≡ one_if (has_bit (with_four ones twos a b c d).twos k) = ap (λ w. one_if (has_bit w k)) e2 in
     let f4 : one_if (has_bit carry k) ≡ one_if (has_bit (with_four ones twos a b c d).carry k) = ap (λ w. one_if (has_bit w k)) e4 in
     omega (arith, f1, f2, f4, is, added-four ones twos a b c d k)
+
+-- nothing is counted
+pub counted-none : (j k : ℕ) → j < 32 → one_if (has_bit (word (replicate 32 0) j) k) + 2 * one_if (has_bit (word (replicate 32 0) j) k)
+    + 4 * number_by (at_level (replicate 30 (replicate 32 0)) (replicate 30 (replicate 32 0)) 0 j k) 30 ≡ 0
+counted-none j k l =
+    let zero-row : one_if (has_bit (word (replicate 32 0) j) k) ≡ 0 = ap (λ w. one_if (has_bit w k)) (zero-word) ∙ ap one_if (has_bit-zero k) in
+    let digits : number_by (at_level (replicate 30 (replicate 32 0)) (replicate 30 (replicate 32 0)) 0 j k) 30 ≡ number_by (λ i. 0) 30 =
+    number-same (at_level (replicate 30 (replicate 32 0)) (replicate 30 (replicate 32 0)) 0 j k) (λ i. 0) 30 digit in
+    omega (arith, zero-row, digits, zeros 30)
+  where
+    zero-word : word (replicate 32 0) j ≡ 0
+    zero-word = get_or-replicate 32 j 0 0 l
+
+    zeros : (n : ℕ) → number_by (λ i. 0) n ≡ 0
+    zeros zero = sym (number-none (λ i. 0))
+    zeros (suc n) = number-next (λ i. 0) n ∙ (let z = zeros n in omega (arith, z))
+
+    digit : (i : ℕ) → i < 30 → at_level (replicate 30 (replicate 32 0)) (replicate 30 (replicate 32 0)) 0 j k i ≡ 0
+    digit i few =
+        ap (λ r. one_if (has_bit (word r j) k) + one_if (has_bit 0 i && has_bit (word r j) k)) (get_or-replicate 30 i (replicate 32 0) [] few)
+        ∙ ap (λ w. one_if (has_bit w k) + one_if (has_bit 0 i && has_bit w k)) (zero-word)
+        ∙ ap (λ b. one_if (has_bit 0 k) + one_if (b && has_bit 0 k)) (has_bit-zero i)
+        ∙ ap (λ b. one_if b + 0) (has_bit-zero k)

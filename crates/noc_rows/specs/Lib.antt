@@ -9,4 +9,6 @@ pub mod Sheet
 pub mod Turns
 pub mod Injected
 pub mod Rows
+pub mod Tallied
+pub mod Outlook
 pub mod InRows
