@@ -12,7 +12,6 @@ use Rattle.noc_router.specs.Verdict.{column}
 use Rattle.noc_router.specs.VerdictSets.{verdict_by, sets_with}
 use Rattle.noc_router.specs.View.{Site, View, Decisions, size_of, counted, committed, planned, decided_verdict, has_event, with_arrival, with_misfit, tail_packet, flit_out}
 use Rattle.noc_router.specs.declared.verdict.Verdict.{Verdict}
-use Rattle.noc_router.specs.declared.verdict.Verdict.TheVariants.{Moved, Granted, Routed, NoFlit, NoIdleChannel, LostChannel, NoCredit, LostInput, LostSwitch, Empty}
 use Rattle.noc_router.specs.declared.verdict_sets.VerdictSets.{VerdictSets}
 use Rattle.noc_rows.specs.Tallied.{nine_counts, ten_counts, with_verdicts, ShowsCounts, ShowsLastEvent}
 use Rattle.noc_rows.specs.declared.sheet.VerdictCounts.{VerdictCounts}

@@ -1,6 +1,6 @@
 -- The count of a channel, level by level.
-use Rattle.std.proofs.Common.{◌≡◌, ◌≢◌, ℕ, zero, suc, ◌+◌, ◌-◌, ◌*◌, ◌/◌, ◌%◌, ◌^◌, ◌<◌, ◌≤◌, Bool, true, false, List, [], length, set, get_or, replicate, refl, ap, sym, ◌∙◌, subst, arith, inl, inr, add-one, pow-suc, pow-add, get_or-set_same, get_or-set_other}
-use Rattle.std.specs.Prelude.{◌⊎◌, ◌&&◌, slice_index_or}
+use Rattle.std.proofs.Common.{◌≡◌, ℕ, zero, suc, ◌+◌, ◌-◌, ◌*◌, ◌/◌, ◌%◌, ◌^◌, ◌<◌, ◌≤◌, Bool, true, false, List, [], length, set, replicate, refl, ap, sym, ◌∙◌, subst, arith, inl, inr, add-one, pow-suc, pow-add, get_or-set_same, get_or-set_other}
+use Rattle.std.specs.Prelude.{◌&&◌, slice_index_or}
 use Rattle.std.specs.Int.{bit_at}
 use Rattle.std.proofs.lemmas.Bool.{cases_lt}
 use Rattle.std.proofs.Math.Pow.{pow_mono}

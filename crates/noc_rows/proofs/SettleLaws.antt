@@ -1,7 +1,7 @@
 -- A cycle takes effect: the words of a lane show the view of its router after the cycle.
-use Rattle.std.proofs.Common.{◌≡◌, ℕ, ◌+◌, ◌*◌, ◌/◌, ◌%◌, ◌^◌, ◌<◌, ◌≤◌, Bool, true, false, List, length, Option, Some, None, refl, ap, sym, ◌∙◌, subst, arith, bit_and, bit_or}
+use Rattle.std.proofs.Common.{◌≡◌, ℕ, ◌*◌, ◌/◌, ◌^◌, ◌<◌, ◌≤◌, Bool, true, false, List, Option, Some, None, refl, ap, sym, ◌∙◌, subst, arith, bit_and, bit_or}
 use Rattle.std.specs.Prelude.{◌⊎◌, ◌&&◌, ◌||◌, not, nat_le, slice_index_or, if◌then◌else◌}
-use Rattle.std.proofs.lemmas.Bool.{true≢false, and_parts}
+use Rattle.std.proofs.lemmas.Bool.{and_parts}
 use Rattle.std.proofs.lemmas.Nat.{mod_below}
 use Rattle.noc_topo.specs.Shape.{ports, local_port}
 use Rattle.noc_packet.specs.Set.{has_bit}
@@ -16,19 +16,19 @@ use Rattle.noc_router.specs.Members.{AreBelow}
 use Rattle.noc_router.specs.Sound.{is_supplied}
 use Rattle.noc_router.specs.Standing.{is_won_from}
 use Rattle.noc_router.specs.Verdict.{Turns, arbiters_after}
-use Rattle.noc_router.specs.View.{Site, View, Decisions, size_of, local_channel, view_buffer, view_input, view_output, view_round, mover_to, output_after, planned, committed, with_arrival, with_misfit, tail_packet, flit_out, injected, all_taken, local_step}
+use Rattle.noc_router.specs.View.{Site, View, Decisions, size_of, local_channel, view_buffer, view_input, view_output, view_round, mover_to, planned, committed, with_arrival, with_misfit, tail_packet, flit_out, injected, all_taken, local_step}
 use Rattle.noc_rows.specs.Bits.{less}
-use Rattle.noc_rows.specs.Fields.{Fields, IsFields, ShowsPointer, lane_past, lane_some, lane_whole}
+use Rattle.noc_rows.specs.Fields.{Fields, IsFields, ShowsPointer, lane_some, lane_whole}
 use Rattle.noc_rows.specs.Planes.{number_at}
 use Rattle.noc_rows.specs.Taken.{HasSize}
 use Rattle.noc_rows.specs.Column.{Column, RouterMarks, AreWords, ShowsInput, ShowsOutput, ShowsChannels, ShowsTurns, ShowsMarks, ShowsSending, IsColumn}
-use Rattle.noc_rows.specs.Passes.{Effects, settled_lane, lane_heads}
+use Rattle.noc_rows.specs.Passes.{Effects, settled_lane}
 use Rattle.noc_rows.proofs.BitLemmas.{and_fits, or_fits, less_fits, less_members, below_fits}
 use Rattle.noc_rows.proofs.PlaneLemmas.{lowered-fits, lowered-length, lowered-number}
 use Rattle.noc_rows.proofs.StandLemmas.{AreFilled, draws}
 use Rattle.noc_rows.proofs.SettleLemmas.{AreEffects, SaysOut, settled-output}
 use Rattle.noc_rows.proofs.SuppliedLemmas.{Turn, Says, supplied-after}
-use Rattle.noc_rows.proofs.SwitchLemmas.{AreMoved, ahead-after}
+use Rattle.noc_rows.proofs.SwitchLemmas.{ahead-after}
 use Rattle.noc_rows.proofs.CommittedLemmas.{output-committed, arbiters-committed}
 use Rattle.noc_rows.proofs.DecideLemmas.{AreDecided, HasTurns, inputs-decided}
 

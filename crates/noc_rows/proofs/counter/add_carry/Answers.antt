@@ -1,4 +1,4 @@
-use Rattle.std.proofs.Common.{◌≡◌, ◌<◌, ◌+◌, ℕ, length, subst, arith, ◌∙◌, w32}
+use Rattle.std.proofs.Common.{◌≡◌, ◌+◌, subst, arith, ◌∙◌, w32}
 use Rattle.std.proofs.lemmas.List.{length-set}
 use Rattle.std.specs.Prelude.{slice_set}
 use Rattle.std.specs.Int.{bit_at, trailing_ones}

@@ -1,5 +1,5 @@
 use Rattle.std.proofs.Common.{◌∙◌, refl}
-use Rattle.noc_rows.proofs.OutlookLemmas.{least-next, least-none, some-all, some-next, some-none}
+use Rattle.noc_rows.proofs.OutlookLemmas.{least-next, least-none, some-next, some-none}
 use Rattle.noc_rows.proofs.settle.look_ahead.Goals as goal
 
 pub loop-j-init : goal.loop-j-init

@@ -1,6 +1,6 @@
 use Rattle.std.proofs.Common.{◌≡◌, ◌+◌, subst, arith}
 use Rattle.noc_rows.specs.Sheet.{at_level, number_by}
-use Rattle.noc_rows.proofs.CounterLemmas.{level-small, level-up, number-fits, number-none, number-up}
+use Rattle.noc_rows.proofs.CounterLemmas.{level-small, number-fits, number-none, number-up}
 use Rattle.noc_rows.proofs.counter.Counter.total.Goals as goal
 
 pub loop-level-init : goal.loop-level-init

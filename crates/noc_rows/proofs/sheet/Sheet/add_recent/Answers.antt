@@ -1,4 +1,4 @@
-use Rattle.std.proofs.Common.{◌≡◌, ℕ, ◌∙◌, ◌+◌, ◌/◌, ◌%◌, ◌^◌, ◌<◌, length, ap, sym, arith}
+use Rattle.std.proofs.Common.{◌≡◌, ℕ, ◌∙◌, ◌+◌, ◌/◌, ◌%◌, ◌^◌, ◌<◌, ap, sym, arith}
 use Rattle.noc_rows.specs.Tallied.{counters_at, no_counts, with_recent}
 use Rattle.noc_rows.specs.Sheet.{counted_at}
 use Rattle.noc_rows.specs.declared.sheet.VerdictCounts.{VerdictCounts}

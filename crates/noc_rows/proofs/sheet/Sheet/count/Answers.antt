@@ -1,4 +1,4 @@
-use Rattle.std.proofs.Common.{◌≡◌, ◌∙◌, ◌+◌, ◌/◌, ◌%◌, length, ap, arith}
+use Rattle.std.proofs.Common.{◌≡◌, ◌∙◌, ◌+◌, ◌/◌, ◌%◌, ap, arith}
 use Rattle.std.specs.Prelude.{slice_set}
 use Rattle.noc_rows.specs.Tallied.{counters_at, with_recent, with_verdicts}
 use Rattle.noc_rows.specs.declared.sheet.Verdicts.{Verdicts}
