@@ -12,6 +12,7 @@ pub mod CounterLemmas
 pub mod TalliedLemmas
 pub mod CountLaws
 pub mod OutlookLemmas
+pub mod EventLaws
 pub mod TurnLemmas
 pub mod SwitchLemmas
 pub mod InjectedLemmas

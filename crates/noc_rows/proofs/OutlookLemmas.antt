@@ -5,7 +5,7 @@ use Rattle.std.proofs.lemmas.Bool.{cases_eq, eq-eqb, ne_eqb}
 use Rattle.std.proofs.lemmas.Nat.{le_or_l, le_or_r}
 use Rattle.noc_rows.specs.Outlook.{least_below, some_below}
 
-or-zero : (a b : ℕ) → nat_eq (bit_or a b) 0 ≡ (nat_eq a 0 && nat_eq b 0)
+pub or-zero : (a b : ℕ) → nat_eq (bit_or a b) 0 ≡ (nat_eq a 0 && nat_eq b 0)
 or-zero a b = by (cases_eq a 0) (cases_eq b 0)
   where
     by : (a ≡ 0) ⊎ (a ≢ 0) → (b ≡ 0) ⊎ (b ≢ 0) → nat_eq (bit_or a b) 0 ≡ (nat_eq a 0 && nat_eq b 0)

@@ -45,13 +45,13 @@ or-below n a b p q k e = at (has_bit a k) refl
     at true z = p k z
     at false z = q k (sym (ap (λ x. x || has_bit b k) z) ∙ sym (either_members a b k) ∙ e)
 
-less-below : (n a b : ℕ) → a < 2 ^ 32 → b < 2 ^ 32 → AreBelow n a → AreBelow n (less a b)
+pub less-below : (n a b : ℕ) → a < 2 ^ 32 → b < 2 ^ 32 → AreBelow n a → AreBelow n (less a b)
 less-below n a b fa fb p k e = p k (and_parts (has_bit a k) (not (has_bit b k)) (sym (less_members a b k fa fb) ∙ e)).0
 
 and-below : (n a b : ℕ) → AreBelow n b → AreBelow n (bit_and a b)
 and-below n a b p k e = p k (and_parts (has_bit a k) (has_bit b k) (sym (both_members a b k) ∙ e)).1
 
-none-above : (n a k : ℕ) → AreBelow n a → n ≤ k → has_bit a k ≡ false
+pub none-above : (n a k : ℕ) → AreBelow n a → n ≤ k → has_bit a k ≡ false
 none-above n a k below l = at (has_bit a k) refl
   where
     at : (b : Bool) → has_bit a k ≡ b → has_bit a k ≡ false
