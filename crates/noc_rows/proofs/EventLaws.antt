@@ -30,7 +30,8 @@ any-at : (p : Finding → Bool) (fs : List Finding) (d : Finding) → list_any p
 any-at p [] d e = absurd (false≢true e)
 any-at p (f ∷ fs) d e = at (p f) refl (λ t. any-at p fs d t)
   where
-    at : (b : Bool) → p f ≡ b → (list_any p fs ≡ true → (i : ℕ) × (i < length fs) × (p (get_or fs i d) ≡ true)) → (i : ℕ) × (i < length (f ∷ fs)) × (p (get_or (f ∷ fs) i d) ≡ true)
+    at : (b : Bool) → p f ≡ b → (list_any p fs ≡ true → (i : ℕ) × (i < length fs) × (p (get_or fs i d) ≡ true))
+        → (i : ℕ) × (i < length (f ∷ fs)) × (p (get_or (f ∷ fs) i d) ≡ true)
     at true t more = (0, omega arith, t)
     at false t more = let r = more (ap (λ b. b || list_any p fs) (sym t) ∙ e) in (suc r.0, omega (arith, r.1), r.2)
 
@@ -77,30 +78,42 @@ no-word n w below none = eq-eqb w 0 (zero_from_none w (λ k. at k (cases_lt k n)
     at k (inl l) = none k l
     at k (inr u) = none-above n w k below u
 
-module _ (relation : Routes) (count : ℕ) (f : Fields) (c : Column) (v : View) (filled lost_set : ℕ) (e : Effects) (words : AreWords count c) (effects : AreEffects e) (frame : IsFields (ports v.site.grid) f) (width : f.width ≡ v.site.vcs)
-    (shows : ShowsChannels c v) (fill : AreFilled v filled) (turns : HasTurns c v) (are : AreDecided f c v filled lost_set e) (granted_below : AreBelow (size_of v.site) e.granted) (moved_below : AreBelow (size_of v.site) e.moved) where
-  event-at : (k : ℕ) → k < size_of v.site → is_event (finding_of (view_round v) v k).verdict ≡ (has_bit e.moved k || (has_bit e.granted k || has_bit (lane_heads filled c) k))
+module _ (relation : Routes) (count : ℕ) (f : Fields) (c : Column) (v : View) (filled lost_set : ℕ) (e : Effects) (words : AreWords count c)
+    (effects : AreEffects e) (frame : IsFields (ports v.site.grid) f) (width : f.width ≡ v.site.vcs)
+    (shows : ShowsChannels c v) (fill : AreFilled v filled) (turns : HasTurns c v) (are : AreDecided f c v filled lost_set e) (granted_below : AreBelow
+    (size_of v.site) e.granted) (moved_below : AreBelow (size_of v.site) e.moved) where
+  event-at : (k : ℕ) → k < size_of v.site → is_event (finding_of (view_round v) v k).verdict
+      ≡ (has_bit e.moved k || (has_bit e.granted k || has_bit (lane_heads filled c) k))
   event-at k l =
-      ap is_event (sym (verdicts count c v filled words shows fill f frame width turns.ahead turns.pointers turns.arbiters e.granted lost_set e.moved effects.granted are.lost_fits effects.moved are.granted are.lost are.moved k l))
-      ∙ event-bits (has_bit e.moved k) (has_bit e.granted k) (has_bit (lane_heads filled c) k) (has_bit (lane_no_flit filled c) k) (has_bit (lane_no_idle_channel e.granted lost_set c) k) (has_bit lost_set k) (has_bit (lane_no_credit filled c) k) (has_bit (less (lane_ready filled c) (lane_picked f filled c)) k) (has_bit (less (lane_picked f filled c) e.moved) k)
+      ap is_event (sym (verdicts count c v filled words shows fill f frame width turns.ahead turns.pointers turns.arbiters e.granted lost_set e.moved
+      effects.granted are.lost_fits effects.moved are.granted are.lost are.moved k l))
+      ∙ event-bits (has_bit e.moved k) (has_bit e.granted k) (has_bit (lane_heads filled c) k) (has_bit (lane_no_flit filled c) k) (has_bit
+      (lane_no_idle_channel e.granted lost_set c) k) (has_bit lost_set k) (has_bit (lane_no_credit filled c) k) (has_bit (less (lane_ready filled c)
+      (lane_picked f filled c)) k) (has_bit (less (lane_picked f filled c) e.moved) k)
 
   -- whether a verdict is an event
-  verdict-event : list_any (λ (x : Finding). is_event x.verdict) (tabulate (size_of v.site) (finding_of (view_round v) v)) ≡ not ((nat_eq (lane_heads filled c) 0 && nat_eq e.granted 0) && nat_eq e.moved 0)
+  verdict-event : list_any (λ (x : Finding). is_event x.verdict) (tabulate (size_of v.site) (finding_of (view_round v) v))
+      ≡ not ((nat_eq (lane_heads filled c) 0 && nat_eq e.granted 0) && nat_eq e.moved 0)
   verdict-event = by (list_any (λ (x : Finding). is_event x.verdict) (tabulate (size_of v.site) (finding_of (view_round v) v))) refl
     where
-      found : (k : ℕ) → k < size_of v.site → is_event (get_or (tabulate (size_of v.site) (finding_of (view_round v) v)) k (finding_of (view_round v) v 0)).verdict ≡ (has_bit e.moved k || (has_bit e.granted k || has_bit (lane_heads filled c) k))
-      found k l = ap (λ (x : Finding). is_event x.verdict) (get_or-tabulate (size_of v.site) k (finding_of (view_round v) v) (finding_of (view_round v) v 0) l) ∙ event-at k l
+      found : (k : ℕ) → k < size_of v.site → is_event (get_or (tabulate (size_of v.site) (finding_of (view_round v) v)) k (finding_of
+          (view_round v) v 0)).verdict ≡ (has_bit e.moved k || (has_bit e.granted k || has_bit (lane_heads filled c) k))
+      found k l = ap (λ (x : Finding). is_event x.verdict) (get_or-tabulate (size_of v.site) k (finding_of (view_round v) v) (finding_of
+          (view_round v) v 0) l) ∙ event-at k l
 
       by : (b : Bool) → list_any (λ (x : Finding). is_event x.verdict) (tabulate (size_of v.site) (finding_of (view_round v) v)) ≡ b
-          → list_any (λ (x : Finding). is_event x.verdict) (tabulate (size_of v.site) (finding_of (view_round v) v)) ≡ not ((nat_eq (lane_heads filled c) 0 && nat_eq e.granted 0) && nat_eq e.moved 0)
+          → list_any (λ (x : Finding). is_event x.verdict) (tabulate (size_of v.site) (finding_of (view_round v) v))
+          ≡ not ((nat_eq (lane_heads filled c) 0 && nat_eq e.granted 0) && nat_eq e.moved 0)
       by true q =
           let a = any-at (λ (x : Finding). is_event x.verdict) (tabulate (size_of v.site) (finding_of (view_round v) v)) (finding_of (view_round v) v 0) q in
           let l : a.0 < size_of v.site = omega (arith, a.1, length-tabulate (size_of v.site) (finding_of (view_round v) v)) in
           q ∙ sym (ap not (some-word e.moved e.granted (lane_heads filled c) a.0 (sym (found a.0 l) ∙ a.2)))
       by false q =
-          let quiet : (k : ℕ) → k < size_of v.site → (has_bit e.moved k ≡ false) × (has_bit e.granted k ≡ false) × (has_bit (lane_heads filled c) k ≡ false) = λ k l.
+          let quiet : (k : ℕ) → k < size_of v.site → (has_bit e.moved k ≡ false) × (has_bit e.granted k ≡ false) × (has_bit (lane_heads filled c) k
+          ≡ false) = λ k l.
           none-of (has_bit e.moved k) (has_bit e.granted k) (has_bit (lane_heads filled c) k) (sym (event-at k l) ∙ silent k l) in
-          let h : nat_eq (lane_heads filled c) 0 ≡ true = no-word (size_of v.site) (lane_heads filled c) (less-below (size_of v.site) filled (bit_or c.waiting c.active) fill.fits (or_fits c.waiting c.active words.waiting words.active) fill.below) (λ k l. (quiet k l).2) in
+          let h : nat_eq (lane_heads filled c) 0 ≡ true = no-word (size_of v.site) (lane_heads filled c) (less-below (size_of v.site) filled
+          (bit_or c.waiting c.active) fill.fits (or_fits c.waiting c.active words.waiting words.active) fill.below) (λ k l. (quiet k l).2) in
           let g : nat_eq e.granted 0 ≡ true = no-word (size_of v.site) e.granted granted_below (λ k l. (quiet k l).1) in
           let m : nat_eq e.moved 0 ≡ true = no-word (size_of v.site) e.moved moved_below (λ k l. (quiet k l).0) in
           q ∙ sym (ap not (ap₂ (λ x y. x && y) (ap₂ (λ x y. x && y) h g) m))
@@ -110,9 +123,11 @@ module _ (relation : Routes) (count : ℕ) (f : Fields) (c : Column) (v : View) 
             where
               at : (b : Bool) → is_event (finding_of (view_round v) v k).verdict ≡ b → is_event (finding_of (view_round v) v k).verdict ≡ false
               at true t =
-                  absurd (false≢true (sym q ∙ list_any_at (λ (x : Finding). is_event x.verdict) (tabulate (size_of v.site) (finding_of (view_round v) v)) k (finding_of (view_round v) v 0)
+                  absurd (false≢true (sym q ∙ list_any_at (λ (x : Finding). is_event x.verdict) (tabulate (size_of v.site) (finding_of
+                  (view_round v) v)) k (finding_of (view_round v) v 0)
                   (omega (arith, l, length-tabulate (size_of v.site) (finding_of (view_round v) v)))
-                  (ap (λ (x : Finding). is_event x.verdict) (get_or-tabulate (size_of v.site) k (finding_of (view_round v) v) (finding_of (view_round v) v 0) l) ∙ t)))
+                  (ap (λ (x : Finding). is_event x.verdict) (get_or-tabulate (size_of v.site) k (finding_of (view_round v) v) (finding_of
+                  (view_round v) v 0) l) ∙ t)))
               at false t = t
 
   -- something happened in the cycle just where one of the words has a channel; a flit that landed and a credit that came are events too

@@ -21,10 +21,12 @@ pub some-none : (test : ℕ → Bool) → nat_eq 0 0 ≡ not (some_below test 0)
 unfolding some_below
 some-none test = refl
 
-pub some-next : (test : ℕ → Bool) (held w j : ℕ) → nat_eq held 0 ≡ not (some_below test j) → test j ≡ not (nat_eq w 0) → nat_eq (bit_or held w) 0 ≡ not (some_below test (j + 1))
+pub some-next : (test : ℕ → Bool) (held w j : ℕ) → nat_eq held 0 ≡ not (some_below test j) → test j ≡ not (nat_eq w 0) → nat_eq (bit_or held w) 0
+    ≡ not (some_below test (j + 1))
 unfolding some_below
 some-next test held w j is here =
-    or-zero held w ∙ ap₂ (λ x y. x && y) is (twice (nat_eq w 0) ∙ ap not (sym here)) ∙ neither (some_below test j) (test j) ∙ ap (λ n. not (some_below test n)) (sym (add-one j))
+    or-zero held w ∙ ap₂ (λ x y. x && y) is (twice (nat_eq w 0) ∙ ap not (sym here)) ∙ neither (some_below test j) (test j)
+    ∙ ap (λ n. not (some_below test n)) (sym (add-one j))
   where
     twice : (b : Bool) → b ≡ not (not b)
     twice true = refl

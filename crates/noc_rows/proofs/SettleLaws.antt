@@ -69,7 +69,11 @@ arrival-site (Some p) v = at (is_expected_in p v.ends)
 
 pub committed-site : (d : Decisions) (v : View) → ((committed d v).site ≡ v.site) × ((committed d v).sending ≡ v.sending)
 unfolding committed
-committed-site d v = ((arrival-site (tail_packet (flit_out v d.round (local_port v.site.grid))) _).0, (arrival-site (tail_packet (flit_out v d.round (local_port v.site.grid))) _).1)
+committed-site d v = (
+  (arrival-site (tail_packet (flit_out v d.round (local_port v.site.grid))) _).0,
+  (arrival-site (tail_packet (flit_out v d.round
+      (local_port v.site.grid))) _).1,
+)
 
 -- ---- the parts of what a column shows, for a site
 record ChannelsIn (site : Site) (c : Column) (v : View) : Type 0 where
@@ -105,7 +109,11 @@ shows-turns c m v parts = record { inputs = parts.inputs; channels = parts.chann
 
 sending-same : (c d : Column) (v w : View) → d.injecting ≡ c.injecting → w.site ≡ v.site → (s : Option (ℕ × ℕ)) → ShowsSending c v s → ShowsSending d w s
 sending-same c d v w e site None h = e ∙ h
-sending-same c d v w e site (Some (vc, index)) h = (subst (λ (s : Site). vc < s.vcs) (sym site) h.0, e ∙ h.1 ∙ ap (λ (s : Site). 2 ^ local_channel s vc) (sym site))
+sending-same c d v w e site (Some (vc, index)) h = (
+  subst (λ (s : Site). vc < s.vcs) (sym site) h.0,
+  e ∙ h.1
+      ∙ ap (λ (s : Site). 2 ^ local_channel s vc) (sym site),
+)
 
 -- ---- what the scalar parts of a cycle have decided of channels and ports
 -- input channel i: whether the flit that it moves took the last credit (`dry`), and what becomes of the channel
@@ -124,15 +132,18 @@ pub record AreSettling (v w : View) (c : Column) (m : RouterMarks) (links local 
   pub moved_below : AreBelow (size_of v.site) e.moved
   pub local_below : AreBelow (size_of v.site) local
   pub sizes : (p : ℕ) → p < ports v.site.grid → (turn_at v.arbiters.inputs p).size ≡ v.site.vcs
-  pub outputs : (o : ℕ) → o < size_of v.site → SaysOut v links local outs e o (view_output v o) (slice_index_or (view_round v).grants o None) (mover_to v (view_round v) o)
+  pub outputs : (o : ℕ) → o < size_of v.site → SaysOut v links local outs e o (view_output v o) (slice_index_or (view_round v).grants o None) (mover_to v
+      (view_round v) o)
   pub supplies : (i : ℕ) → i < size_of v.site → SaysSupplied v w c e supplied dry i
   -- the pointers of output channels and output ports
-  pub channel_turns : (o : ℕ) → o < size_of v.site → ShowsPointer (size_of v.site) (m.turn o) 0 (turn_at (arbiters_after (view_round v) v.arbiters).channels o).pointer
+  pub channel_turns : (o : ℕ) → o < size_of v.site → ShowsPointer (size_of v.site) (m.turn o) 0 (turn_at (arbiters_after
+      (view_round v) v.arbiters).channels o).pointer
   pub port_turns : (q i : ℕ) → q < ports v.site.grid → i < size_of v.site
       → (has_bit (m.port_turn q) i ≡ nat_le (turn_at (arbiters_after (view_round v) v.arbiters).outputs q).pointer (i / v.site.vcs))
       ⊎ (((turn_at (arbiters_after (view_round v) v.arbiters).outputs q).pointer ≡ 0) × ((k : ℕ) → k < size_of v.site → has_bit (m.port_turn q) k ≡ false))
 
-module _ (relation : Routes) (count : ℕ) (f : Fields) (c : Column) (v : View) (filled links local lost_set : ℕ) (e : Effects) (words : AreWords count c) (effects : AreEffects e) (size : HasSize v) (frame : IsFields (ports v.site.grid) f) (width : f.width ≡ v.site.vcs)
+module _ (relation : Routes) (count : ℕ) (f : Fields) (c : Column) (v : View) (filled links local lost_set : ℕ) (e : Effects) (words : AreWords count c)
+    (effects : AreEffects e) (size : HasSize v) (frame : IsFields (ports v.site.grid) f) (width : f.width ≡ v.site.vcs)
     (shows : ShowsChannels c v) (fill : AreFilled v filled) (turns : HasTurns c v) (are : AreDecided f c v filled lost_set e) (outs wanted supplied : ℕ) where
   -- the lane after the cycle
   abbrev pub settled : Column
@@ -140,11 +151,14 @@ module _ (relation : Routes) (count : ℕ) (f : Fields) (c : Column) (v : View) 
 
   -- an output channel after the verdicts
   pub outputs-decided : links < 2 ^ 32 → outs < 2 ^ 32 → (o : ℕ) → o < size_of v.site
-      → SaysOut v links local outs e o (view_output v o) (slice_index_or (view_round v).grants o None) (mover_to v (view_round v) o) → ShowsOutput settled o (view_output (committed (planned relation v) v) o)
+      → SaysOut v links local outs e o (view_output v o) (slice_index_or (view_round v).grants o None) (mover_to v (view_round v) o)
+      → ShowsOutput settled o (view_output (committed (planned relation v) v) o)
   unfolding planned
   outputs-decided links_fit outs_fit o l says =
-      let s = settled-output count c v f links local outs e words effects links_fit outs_fit o (view_output v o) (slice_index_or (view_round v).grants o None) (mover_to v (view_round v) o) (shows.outputs o l) says in
-      subst (λ (x : Output). ShowsOutput settled o x) (sym (output-committed (planned relation v) v size o l)) (record { idle = s.idle; draining = s.draining; credit = s.credit })
+      let s = settled-output count c v f links local outs e words effects links_fit outs_fit o (view_output v o) (slice_index_or
+      (view_round v).grants o None) (mover_to v (view_round v) o) (shows.outputs o l) says in
+      subst (λ (x : Output). ShowsOutput settled o x) (sym (output-committed (planned relation v) v size o l))
+      (record { idle = s.idle; draining = s.draining; credit = s.credit })
 
   module _ (m : RouterMarks) (dry : ℕ) (s : AreSettling v (committed (planned relation v) v) c m links local outs wanted supplied dry e) where
     settled-words : AreWords count settled
@@ -157,7 +171,8 @@ module _ (relation : Routes) (count : ℕ) (f : Fields) (c : Column) (v : View) 
           active = less_fits (bit_or c.active e.granted) e.released (or_fits c.active e.granted words.active effects.granted);
           len = lowered-fits c.len e.moved words.len effects.moved;
           supplied = less_fits supplied e.released s.supplied_fits;
-          ahead = or_fits (less c.ahead (lane_whole f (lane_some f e.moved))) _ (less_fits c.ahead (lane_whole f (lane_some f e.moved)) words.ahead) (less_fits (lane_whole f (lane_some f e.moved)) _ whole);
+          ahead = or_fits (less c.ahead (lane_whole f (lane_some f e.moved))) _ (less_fits c.ahead (lane_whole f (lane_some f e.moved)) words.ahead)
+              (less_fits (lane_whole f (lane_some f e.moved)) _ whole);
           wanted = s.wanted_fits;
           idle = or_fits (less c.idle outs) (bit_and e.freed local) (less_fits c.idle outs words.idle) (and_fits e.freed local effects.freed);
           draining = or_fits c.draining (bit_and e.freed links) words.draining (and_fits e.freed links effects.freed);
@@ -167,17 +182,24 @@ module _ (relation : Routes) (count : ℕ) (f : Fields) (c : Column) (v : View) 
 
     settled-channels : ChannelsIn v.site settled (committed (planned relation v) v)
     settled-channels = record {
-      inputs = λ i l. let x = inputs-decided relation count f c v filled links local lost_set e words effects size frame width shows fill turns are i l in record { waiting = x.waiting; active = x.active; len = x.len };
+      inputs = λ i l. let x = inputs-decided relation count f c v filled links local lost_set e words effects size frame width shows fill turns are i l in
+          record { waiting = x.waiting; active = x.active; len = x.len };
       outputs = λ o l. outputs-decided s.links_fit s.outs_fit o l (s.outputs o l);
       supplied = λ i l.
           let says = s.supplies i l in
           less_members supplied e.released i s.supplied_fits effects.released
           ∙ ap (λ b. b && not (has_bit e.released i)) says.bit
-          ∙ supplied-after v (committed (planned relation v) v) (view_input v i).phase (view_input (committed (planned relation v) v) i).phase says.turn (has_bit c.supplied i) (has_bit dry i) (has_bit e.granted i) (has_bit e.released i) (shows.supplied i l) says.says;
-      waiting_below = or-below (size_of v.site) (less c.waiting e.granted) e.heads (less-below (size_of v.site) c.waiting e.granted words.waiting effects.granted shows.waiting_below)
-          (subst (λ w. AreBelow (size_of v.site) w) (sym are.heads) (less-below (size_of v.site) filled (bit_or c.waiting c.active) fill.fits (or_fits c.waiting c.active words.waiting words.active) fill.below));
-      active_below = less-below (size_of v.site) (bit_or c.active e.granted) e.released (or_fits c.active e.granted words.active effects.granted) effects.released (or-below (size_of v.site) c.active e.granted shows.active_below s.granted_below);
-      idle_below = or-below (size_of v.site) (less c.idle outs) (bit_and e.freed local) (less-below (size_of v.site) c.idle outs words.idle s.outs_fit shows.idle_below) (and-below (size_of v.site) e.freed local s.local_below);
+          ∙ supplied-after v (committed (planned relation v) v) (view_input v i).phase (view_input (committed (planned relation v) v) i).phase says.turn
+          (has_bit c.supplied i) (has_bit dry i) (has_bit e.granted i) (has_bit e.released i) (shows.supplied i l) says.says;
+      waiting_below = or-below (size_of v.site) (less c.waiting e.granted) e.heads (less-below
+          (size_of v.site) c.waiting e.granted words.waiting effects.granted shows.waiting_below)
+          (subst (λ w. AreBelow (size_of v.site) w) (sym are.heads) (less-below (size_of v.site) filled (bit_or c.waiting c.active) fill.fits
+          (or_fits c.waiting c.active words.waiting words.active) fill.below));
+      active_below = less-below (size_of v.site) (bit_or c.active e.granted) e.released
+          (or_fits c.active e.granted words.active effects.granted) effects.released (or-below
+          (size_of v.site) c.active e.granted shows.active_below s.granted_below);
+      idle_below = or-below (size_of v.site) (less c.idle outs) (bit_and e.freed local) (less-below
+          (size_of v.site) c.idle outs words.idle s.outs_fit shows.idle_below) (and-below (size_of v.site) e.freed local s.local_below);
       len_below = λ i l.
           let none : one_if (has_bit e.moved i) ≡ 0 = ap one_if (none-above (size_of v.site) e.moved i s.moved_below l) in
           omega (arith, lowered-number c.len e.moved i words.len effects.moved (omega (arith, none)), none, shows.len_below i l);
@@ -186,30 +208,38 @@ module _ (relation : Routes) (count : ℕ) (f : Fields) (c : Column) (v : View) 
     settled-turns : TurnsIn v.site (arbiters_after (view_round v) v.arbiters) settled m
     settled-turns = record {
       inputs = ahead-after v e.moved size.some
-          (record { each = λ k l. are.moved k l ∙ ap (λ b. b && is_won_from v (view_round v) k (view_input v k).phase) (draws count c v filled words shows fill f frame width turns.ahead turns.pointers turns.arbiters k l) })
-          f frame width c.ahead words.ahead (subst (λ w. e.moved < 2 ^ (ports v.site.grid * w)) (sym width) (below_fits (size_of v.site) e.moved s.moved_below)) turns.arbiters s.sizes turns.ahead;
+          (record {
+            each = λ k l. are.moved k l ∙ ap (λ b. b && is_won_from v (view_round v) k (view_input v k).phase)
+                (draws count c v filled words shows fill f frame width turns.ahead turns.pointers turns.arbiters k l);
+          })
+          f frame width c.ahead words.ahead (subst (λ w. e.moved < 2 ^ (ports v.site.grid * w)) (sym width) (below_fits
+          (size_of v.site) e.moved s.moved_below)) turns.arbiters s.sizes turns.ahead;
       channels = s.channel_turns;
       outputs = s.port_turns;
     }
 
     -- the column after the cycle shows the view after it, where the marks do
-    pub settled-column : ShowsMarks settled m (committed (planned relation v) v) → ShowsSending c v v.sending → IsColumn count settled m (committed (planned relation v) v)
+    pub settled-column : ShowsMarks settled m (committed (planned relation v) v) → ShowsSending c v v.sending
+        → IsColumn count settled m (committed (planned relation v) v)
     unfolding planned
     settled-column marks sending =
         let rest = committed-site (planned relation v) v in
         record {
           words = settled-words;
-          channels = shows-channels settled (committed (planned relation v) v) (subst (λ site. ChannelsIn site settled (committed (planned relation v) v)) (sym rest.0) settled-channels);
+          channels = shows-channels settled (committed (planned relation v) v) (subst (λ site. ChannelsIn site settled (committed (planned relation v) v))
+              (sym rest.0) settled-channels);
           turns = shows-turns settled m (committed (planned relation v) v)
               (subst (λ site. TurnsIn site (committed (planned relation v) v).arbiters settled m) (sym rest.0)
               (subst (λ arbiters. TurnsIn v.site arbiters settled m) (sym (arbiters-committed (planned relation v) v size)) settled-turns));
           marks = marks;
-          sending = sending-same c settled v (committed (planned relation v) v) refl rest.0 (committed (planned relation v) v).sending (subst (λ x. ShowsSending c v x) (sym rest.1) sending);
+          sending = sending-same c settled v (committed (planned relation v) v) refl rest.0 (committed (planned relation v) v).sending (subst
+              (λ x. ShowsSending c v x) (sym rest.1) sending);
         }
 
 -- what holds of a view after its commit holds of it after the cycle, once its beats are put
 pub column-put : (count : ℕ) (c : Column) (m : RouterMarks) (relation : Routes) (v : View) (beats : List Beat) (n : ℕ)
-    → IsColumn count c m (committed (planned relation (injected n (all_taken relation beats v))) (injected n (all_taken relation beats v))) → IsColumn count c m (local_step relation v beats n).0
+    → IsColumn count c m (committed (planned relation (injected n (all_taken relation beats v))) (injected n (all_taken relation beats v)))
+    → IsColumn count c m (local_step relation v beats n).0
 unfolding local_step
 column-put count c m relation v beats n is = record {
   words = is.words;
@@ -224,5 +254,8 @@ column-put count c m relation v beats n is = record {
   };
   turns = record { inputs = is.turns.inputs; channels = is.turns.channels; outputs = is.turns.outputs };
   marks = record { phases = is.marks.phases; holders = is.marks.holders; to_port = is.marks.to_port };
-  sending = sending-same c c (committed (planned relation (injected n (all_taken relation beats v))) (injected n (all_taken relation beats v))) (local_step relation v beats n).0 refl (refl {a = (committed (planned relation (injected n (all_taken relation beats v))) (injected n (all_taken relation beats v))).site}) (committed (planned relation (injected n (all_taken relation beats v))) (injected n (all_taken relation beats v))).sending is.sending;
+  sending = sending-same c c (committed (planned relation (injected n (all_taken relation beats v))) (injected n (all_taken relation beats v)))
+      (local_step relation v beats n).0 refl (refl {a = (committed (planned relation (injected n (all_taken relation beats v))) (injected n
+      (all_taken relation beats v))).site}) (committed (planned relation (injected n (all_taken relation beats v))) (injected n
+      (all_taken relation beats v))).sending is.sending;
 }

@@ -10,7 +10,8 @@ use Rattle.noc_rows.specs.declared.sheet.VerdictRows.{VerdictRows}
 use Rattle.noc_rows.specs.declared.sheet.VerdictCounts.{VerdictCounts}
 
 pub counts-same : (a b c d e f x y z u v w : ℕ) → a ≡ x → b ≡ y → c ≡ z → d ≡ u → e ≡ v → f ≡ w → (counts : VerdictCounts)
-    → record counts { moved = a; no_flit = b; no_idle_channel = c; no_credit = d; lost_input = e; lost_switch = f } ≡ record counts { moved = x; no_flit = y; no_idle_channel = z; no_credit = u; lost_input = v; lost_switch = w }
+    → record counts { moved = a; no_flit = b; no_idle_channel = c; no_credit = d; lost_input = e; lost_switch = f }
+    ≡ record counts { moved = x; no_flit = y; no_idle_channel = z; no_credit = u; lost_input = v; lost_switch = w }
 counts-same a b c d e f x y z u v w ea eb ec ed ee ef counts = rw (ea, eb, ec, ed, ee, ef) refl
 
 recent-same : (a b : List VerdictRows) (n j k : ℕ) (counts : VerdictCounts) → ((i : ℕ) → i < n → slice_index_or a i no_rows ≡ slice_index_or b i no_rows)
@@ -36,7 +37,8 @@ pub recent-set : (recent : List VerdictRows) (rows : VerdictRows) (n j k : ℕ) 
 recent-set recent rows n j k counts fits =
     sym (recent-next (set recent n rows) n j k counts)
     ∙ ap (λ (x : VerdictRows). with_verdicts (verdicts_at x j) k (with_recent (set recent n rows) n j k counts)) (get_or-set_same recent n rows no_rows fits)
-    ∙ ap (λ (x : VerdictCounts). with_verdicts (verdicts_at rows j) k x) (recent-same (set recent n rows) recent n j k counts (λ i l. get_or-set_other recent n i rows no_rows (omega arith)))
+    ∙ ap (λ (x : VerdictCounts). with_verdicts (verdicts_at rows j) k x) (recent-same (set recent n rows) recent n j k counts
+    (λ i l. get_or-set_other recent n i rows no_rows (omega arith)))
 
 pub recent-four : (recent : List VerdictRows) (j k : ℕ) (counts : VerdictCounts)
     → with_verdicts (verdicts_at (slice_index_or recent 3 no_rows) j) k (with_verdicts (verdicts_at (slice_index_or recent 2 no_rows) j) k

@@ -77,4 +77,5 @@ ShowsLastEvent word (Some n) = word ≡ n + 1
 -- the counts of the input channels of a router after so many cycles, where these were counted of each
 abbrev pub ShowsCounts : ℕ → (ℕ → VerdictCounts) → (ℕ → ℕ) → (ℕ → ℕ) → (ℕ → ℕ) → View → Type 0
 ShowsCounts cycles counts routed granted lost v = (i : ℕ) → i < size_of v.site
-    → (slice_index_or v.counts i [] ≡ ten_counts cycles (counts i) (routed i) (granted i) (lost i)) × (sum (nine_counts (counts i) (routed i) (granted i) (lost i)) ≤ cycles)
+    → (slice_index_or v.counts i [] ≡ ten_counts cycles (counts i) (routed i) (granted i) (lost i)) × (sum (nine_counts (counts i) (routed i) (granted i)
+    (lost i)) ≤ cycles)

@@ -22,5 +22,6 @@ returns-clause-counts c = λ few full j k l.
     ap (λ n. with_recent old.recent n j k (new ((old.cycles + 1) % 4294967296 / 4))) last
     ∙ ap (λ m. with_recent old.recent 0 j k (new m)) more
     ∙ sym (recent-none old.recent j k (new (old.cycles / 4 + 1)))
-    ∙ counts-same _ _ _ _ _ _ _ _ _ _ _ _ (c.add.ensures fits j k l) (c.add-2.ensures fits j k l) (c.add-3.ensures fits j k l) (c.add-4.ensures fits j k l) (c.add-5.ensures fits j k l) (c.add-6.ensures fits j k l) no_counts
+    ∙ counts-same _ _ _ _ _ _ _ _ _ _ _ _ (c.add.ensures fits j k l) (c.add-2.ensures fits j k l) (c.add-3.ensures fits j k l)
+    (c.add-4.ensures fits j k l) (c.add-5.ensures fits j k l) (c.add-6.ensures fits j k l) no_counts
     ∙ recent-four old.recent j k (counters_at old (old.cycles / 4) j k)

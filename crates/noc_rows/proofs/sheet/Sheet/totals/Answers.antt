@@ -9,7 +9,8 @@ use Rattle.noc_rows.proofs.sheet.Sheet.totals.Goals as goal
 
 pub loop-slot-init : goal.loop-slot-init
 loop-slot-init c = record {
-  counts = counts-same _ _ _ _ _ _ _ _ _ _ _ _ c.total.ensures.count c.total-2.ensures.count c.total-3.ensures.count c.total-4.ensures.count c.total-5.ensures.count c.total-6.ensures.count no_counts
+  counts = counts-same _ _ _ _ _ _ _ _ _ _ _ _ c.total.ensures.count c.total-2.ensures.count c.total-3.ensures.count c.total-4.ensures.count
+      c.total-5.ensures.count c.total-6.ensures.count no_counts
       ∙ recent-none _ _ _ _;
   small = record {
     moved = c.total.ensures.small;
@@ -33,5 +34,6 @@ loop-slot-preserved c =
           ∙ ap (λ (x : VerdictCounts). with_verdicts (verdicts_at (slice_index_or recent slot no_rows) lane) channel x) c.loop-slot.invariant.counts
           ∙ recent-next recent slot lane channel _;
       small = subst (AreBelow (2 ^ 33 + (slot + 1))) (sym c.with-counts.ensures)
-          (below-more (2 ^ 33 + slot + 1) (2 ^ 33 + (slot + 1)) _ (omega arith) (below-next (2 ^ 33 + slot) c.at.result channel c.loop-slot.counts c.loop-slot.invariant.small));
+          (below-more (2 ^ 33 + slot + 1) (2 ^ 33 + (slot + 1)) _ (omega arith) (below-next
+          (2 ^ 33 + slot) c.at.result channel c.loop-slot.counts c.loop-slot.invariant.small));
     }
