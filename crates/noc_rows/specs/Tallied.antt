@@ -1,5 +1,5 @@
 -- What a sheet says of a channel: how often it had each verdict that is counted for all channels at once.
-use Rattle.std.specs.Prelude.{◌≡◌, ℕ, zero, suc, ◌+◌, ◌-◌, ◌/◌, ◌%◌, ◌<◌, ◌≤◌, List, [], ◌∷◌, Option, Some, None, slice_index_or, sum}
+use Rattle.std.specs.Prelude.{◌≡◌, ℕ, zero, suc, ◌+◌, ◌-◌, ◌*◌, ◌/◌, ◌%◌, ◌<◌, ◌≤◌, List, [], ◌∷◌, Option, Some, None, slice_index_or, sum}
 use Rattle.noc_router.specs.View.{View, size_of}
 use Rattle.noc_packet.specs.Set.{has_bit}
 use Rattle.noc_router.specs.Counts.{one_if}
@@ -9,6 +9,7 @@ use Rattle.noc_rows.specs.declared.sheet.Verdicts.{Verdicts}
 use Rattle.noc_rows.specs.declared.sheet.VerdictRows.{VerdictRows}
 use Rattle.noc_rows.specs.declared.sheet.VerdictCounts.{VerdictCounts}
 use Rattle.noc_rows.specs.declared.sheet.Sheet.{Sheet}
+use Rattle.noc_rows.specs.declared.marks.Tallies.{Tallies}
 
 abbrev pub no_counts : VerdictCounts
 no_counts = record { moved = 0; no_flit = 0; no_idle_channel = 0; no_credit = 0; lost_input = 0; lost_switch = 0 }
@@ -68,6 +69,12 @@ nine_counts counts routed granted lost =
 -- of all ten after so many cycles: Empty in those that no other verdict has
 abbrev pub ten_counts : ℕ → VerdictCounts → ℕ → ℕ → ℕ → List ℕ
 ten_counts cycles counts routed granted lost = (cycles - sum (nine_counts counts routed granted lost)) ∷ nine_counts counts routed granted lost
+
+-- the counts of channel k of router j after so many cycles, by what the sheet of its block and its tallies have
+abbrev pub counts_by : ℕ → Sheet → Tallies → ℕ → ℕ → List ℕ
+counts_by cycles sheet tallies j k =
+    ten_counts cycles (sheet_counts sheet j k) (slice_index_or tallies.routed (j * 32 + k) 0) (slice_index_or tallies.granted (j * 32 + k) 0)
+    (slice_index_or tallies.lost (j * 32 + k) 0)
 
 -- the word of the last event of a router has the cycle after it, and 0 before the first
 abbrev pub ShowsLastEvent : ℕ → Option ℕ → Type 0

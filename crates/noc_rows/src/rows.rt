@@ -4,7 +4,7 @@ ghost use Rattle.std.specs.Prelude.{◌≡◌, ◌+◌, ◌%◌, ◌^◌, ◌<�
 ghost use Rattle.noc_rows.specs.Outlook.{holding_in, least_below, some_below};
 ghost use Rattle.noc_rows.specs.Passes.{lane_verdicts, settled_lane};
 ghost use Rattle.noc_rows.specs.Rows.{column_at, effects_at, event_in, standing_at, word};
-ghost use Rattle.noc_rows.specs.Tallied.{AreBelow, cycles_of, sheet_counts, ten_counts, with_verdicts};
+ghost use Rattle.noc_rows.specs.Tallied.{AreBelow, counts_by, cycles_of, sheet_counts, ten_counts, with_verdicts};
 
 use crate::allocate::allocate_all;
 use crate::block::Block;
@@ -169,12 +169,12 @@ impl Rows {
         if number >= self.sheets.len() || number >= self.blocks.len() {
             return [0; 10];
         }
-        let counts = self.sheets[number].totals(lane, channel);
-        with_tallies(
+        counts_in(
             self.cycle,
-            counts,
+            &self.sheets[number],
             &self.blocks[number].tallies,
-            lane * 32 + channel,
+            lane,
+            channel,
         )
     }
 
@@ -270,6 +270,26 @@ fn conclude_one(frame: &Frame, cycle: u32, block: &mut Block, sheet: &mut Sheet)
     block.holds = outlook.holds;
     block.moves = outlook.moves;
     block.next_due = outlook.next_due;
+}
+
+// The counts of a channel of a router of a block, of all ten verdicts.
+fn counts_in(
+    cycles: u32,
+    sheet: &Sheet,
+    tallies: &Tallies,
+    lane: usize,
+    channel: usize,
+) -> [u64; 10]
+    requires lane { lane < 32 }
+    requires channel { channel < 32 }
+    ensures { result ≡ counts_by cycles sheet.now tallies.now lane channel }
+{
+    with_tallies(
+        cycles,
+        sheet.totals(lane, channel),
+        tallies,
+        lane * 32 + channel,
+    )
 }
 
 // The counts of a channel of all ten verdicts: with those that are counted one by one, and Empty in the cycles that
