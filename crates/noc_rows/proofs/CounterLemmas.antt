@@ -1,12 +1,13 @@
 -- The count of a channel, level by level.
-use Rattle.std.proofs.Common.{◌≡◌, ◌≢◌, ℕ, zero, suc, ◌+◌, ◌-◌, ◌*◌, ◌/◌, ◌%◌, ◌^◌, ◌<◌, ◌≤◌, Bool, true, false, List, [], length, set, get_or, refl, ap, sym, ◌∙◌, subst, arith, inl, inr, add-one, pow-suc, pow-add, get_or-set_same, get_or-set_other}
-use Rattle.std.specs.Prelude.{◌⊎◌, ◌&&◌, slice_index_or}
+use Rattle.std.proofs.Common.{◌≡◌, ℕ, zero, suc, ◌+◌, ◌-◌, ◌*◌, ◌/◌, ◌%◌, ◌^◌, ◌<◌, ◌≤◌, Bool, true, false, List, [], length, set, replicate, refl, ap, sym, ◌∙◌, subst, arith, inl, inr, add-one, pow-suc, pow-add, get_or-set_same, get_or-set_other}
+use Rattle.std.specs.Prelude.{◌&&◌, slice_index_or}
 use Rattle.std.specs.Int.{bit_at}
 use Rattle.std.proofs.lemmas.Bool.{cases_lt}
 use Rattle.std.proofs.Math.Pow.{pow_mono}
+use Rattle.std.proofs.lemmas.List.{get_or-replicate}
 use Rattle.std.proofs.lemmas.Nat.{pow_pos, shl_whole, shr-shr, div-mul-add}
 use Rattle.noc_packet.specs.Set.{has_bit}
-use Rattle.noc_packet.proofs.SetLemmas.{has_bit-one, has_bit-none, has_bit-same}
+use Rattle.noc_packet.proofs.SetLemmas.{has_bit-one, has_bit-none, has_bit-same, has_bit-zero}
 use Rattle.noc_router.specs.Counts.{one_if}
 use Rattle.noc_rows.specs.Rows.{word}
 use Rattle.noc_rows.specs.Sheet.{at_level, carry_over, number_by, sum_of, with_four}
@@ -27,7 +28,8 @@ unfolding number_by
 number-next f n = refl
 
 -- digits that are the same from place m on
-pub number-above : (f g : ℕ → ℕ) (m n x y : ℕ) → m ≤ n → ((i : ℕ) → m ≤ i → i < n → f i ≡ g i) → number_by f m + x ≡ number_by g m + y → number_by f n + x ≡ number_by g n + y
+pub number-above : (f g : ℕ → ℕ) (m n x y : ℕ) → m ≤ n → ((i : ℕ) → m ≤ i → i < n → f i ≡ g i) → number_by f m + x ≡ number_by g m + y
+    → number_by f n + x ≡ number_by g n + y
 unfolding number_by
 number-above f g m zero x y l same is = let e : m ≡ 0 = omega arith in subst (λ m. number_by f m + x ≡ number_by g m + y) e is
 number-above f g m (suc n) x y l same is = elim (cases_lt m (suc n)) [
@@ -115,7 +117,8 @@ bit_level bits j k level = one_if (has_bit (word (slice_index_or bits level []) 
 -- the levels below this one have taken what was pending at them, and what is carried on
 pub record IsCarried (bits0 pending : List (List ℕ)) (carry0 : List ℕ) (times : ℕ) (bits : List (List ℕ)) (carry : List ℕ) (level : ℕ) : Type 0 where
   pub low : (j k : ℕ) → j < 32
-      → number_by (bit_level bits j k) level + 2 ^ level * one_if (has_bit (word carry j) k) ≡ number_by (at_level bits0 pending times j k) level + one_if (has_bit (word carry0 j) k)
+      → number_by (bit_level bits j k) level + 2 ^ level * one_if (has_bit (word carry j) k)
+      ≡ number_by (at_level bits0 pending times j k) level + one_if (has_bit (word carry0 j) k)
   pub left : (i : ℕ) → level ≤ i → slice_index_or bits i [] ≡ slice_index_or bits0 i []
 
 module _ (bits0 pending : List (List ℕ)) (carry0 : List ℕ) (times : ℕ) where
@@ -123,25 +126,29 @@ module _ (bits0 pending : List (List ℕ)) (carry0 : List ℕ) (times : ℕ) whe
   unfolding number_by
   carried-none = record { low = λ j k l. omega arith; left = λ i l. refl }
 
-  pub carried-next : (bits : List (List ℕ)) (carry row next : List ℕ) (level : ℕ) → IsCarried bits0 pending carry0 times bits carry level → level < length bits → bit_at times level ≡ 1
+  pub carried-next : (bits : List (List ℕ)) (carry row next : List ℕ) (level : ℕ) → IsCarried bits0 pending carry0 times bits carry level
+      → level < length bits → bit_at times level ≡ 1
       → ((j : ℕ) → j < 32 → word row j ≡ sum_of (word (slice_index_or bits level []) j) (word (slice_index_or pending level []) j) (word carry j))
       → ((j : ℕ) → j < 32 → word next j ≡ carry_over (word (slice_index_or bits level []) j) (word (slice_index_or pending level []) j) (word carry j))
       → IsCarried bits0 pending carry0 times (set bits level row) next (level + 1)
   carried-next bits carry row next level carried fits one sum over = record {
     low = λ j k l. subst
-    (λ n. number_by (bit_level (set bits level row) j k) n + 2 ^ n * one_if (has_bit (word next j) k) ≡ number_by (at_level bits0 pending times j k) n + one_if (has_bit (word carry0 j) k))
-    (sym (add-one level)) (at j k l);
+        (λ n. number_by (bit_level (set bits level row) j k) n + 2 ^ n * one_if (has_bit (word next j) k)
+        ≡ number_by (at_level bits0 pending times j k) n + one_if (has_bit (word carry0 j) k))
+        (sym (add-one level)) (at j k l);
     left = λ i l. get_or-set_other bits level i row [] (omega arith) ∙ carried.left i (omega arith);
   }
     where
       at : (j k : ℕ) → j < 32
-          → number_by (bit_level (set bits level row) j k) (suc level) + 2 ^ suc level * one_if (has_bit (word next j) k) ≡ number_by (at_level bits0 pending times j k) (suc level) + one_if (has_bit (word carry0 j) k)
+          → number_by (bit_level (set bits level row) j k) (suc level) + 2 ^ suc level * one_if (has_bit (word next j) k)
+          ≡ number_by (at_level bits0 pending times j k) (suc level) + one_if (has_bit (word carry0 j) k)
       at j k l =
           let s = word (slice_index_or bits level []) j in
           let p = word (slice_index_or pending level []) j in
           let x = word carry j in
           let below : number_by (bit_level (set bits level row) j k) level ≡ number_by (bit_level bits j k) level =
-          number-same (bit_level (set bits level row) j k) (bit_level bits j k) level (λ i b. ap (λ r. one_if (has_bit (word r j) k)) (get_or-set_other bits level i row [] (omega arith))) in
+          number-same (bit_level (set bits level row) j k) (bit_level bits j k) level (λ i b. ap (λ r. one_if (has_bit (word r j) k))
+          (get_or-set_other bits level i row [] (omega arith))) in
           let here : bit_level (set bits level row) j k level ≡ one_if (has_bit (sum_of s p x) k) =
           ap (λ r. one_if (has_bit (word r j) k)) (get_or-set_same bits level row [] fits) ∙ ap (λ w. one_if (has_bit w k)) (sum j l) in
           let on : one_if (has_bit (word next j) k) ≡ one_if (has_bit (carry_over s p x) k) = ap (λ w. one_if (has_bit w k)) (over j l) in
@@ -149,11 +156,13 @@ module _ (bits0 pending : List (List ℕ)) (carry0 : List ℕ) (times : ℕ) whe
           ap (λ r. one_if (has_bit (word r j) k) + one_if (has_bit times level && has_bit p k)) (sym (carried.left level (omega arith)))
           ∙ ap (λ b. one_if (has_bit s k) + one_if (b && has_bit p k)) (has_bit-one times level one) in
           ap (λ n. n + 2 ^ suc level * one_if (has_bit (word next j) k)) (number-next (bit_level (set bits level row) j k) level)
-          ∙ step (2 ^ level) (2 ^ suc level) (bit_level (set bits level row) j k level) (one_if (has_bit (word next j) k)) (at_level bits0 pending times j k level) (one_if (has_bit x k)) _ _ _ _
+          ∙ step (2 ^ level) (2 ^ suc level) (bit_level (set bits level row) j k level) (one_if (has_bit (word next j) k))
+          (at_level bits0 pending times j k level) (one_if (has_bit x k)) _ _ _ _
           (pow-suc 2 level) (omega (arith, here, on, had, added-three s p x k)) below (carried.low j k l)
           ∙ ap (λ n. n + one_if (has_bit (word carry0 j) k)) (sym (number-next (at_level bits0 pending times j k) level))
         where
-          step : (p q sum c a x low0 low lower c0 : ℕ) → q ≡ p * 2 → sum + 2 * c ≡ a + x → low0 ≡ low → low + p * x ≡ lower + c0 → low0 + p * sum + q * c ≡ lower + p * a + c0
+          step : (p q sum c a x low0 low lower c0 : ℕ) → q ≡ p * 2 → sum + 2 * c ≡ a + x → low0 ≡ low → low + p * x ≡ lower + c0 → low0 + p * sum + q * c
+              ≡ lower + p * a + c0
           step p q sum c a x low0 low lower c0 e s b is =
               let f : q * c ≡ p * 2 * c = ap (λ z. z * c) e in
               let g : p * (sum + 2 * c) ≡ p * (a + x) = ap (λ z. p * z) s in
@@ -162,7 +171,8 @@ module _ (bits0 pending : List (List ℕ)) (carry0 : List ℕ) (times : ℕ) whe
   -- it stays at the lowest level whose bit of `times` is not set
   pub carried-all : (bits : List (List ℕ)) (carry : List ℕ) (t : ℕ) → IsCarried bits0 pending carry0 times bits carry t → t < length pending → t < 30
       → ((i : ℕ) → i < t → bit_at times i ≡ 1) → bit_at times t ≡ 0 → (j k : ℕ) → j < 32
-      → number_by (at_level bits (set pending t carry) (times + 1) j k) 30 ≡ number_by (at_level bits0 pending times j k) 30 + one_if (has_bit (word carry0 j) k)
+      → number_by (at_level bits (set pending t carry) (times + 1) j k) 30
+      ≡ number_by (at_level bits0 pending times j k) 30 + one_if (has_bit (word carry0 j) k)
   carried-all bits carry t carried fits few ones none j k l =
       let new = at_level bits (set pending t carry) (times + 1) j k in
       let old = at_level bits0 pending times j k in
@@ -172,32 +182,39 @@ module _ (bits0 pending : List (List ℕ)) (carry0 : List ℕ) (times : ℕ) whe
     where
       above : (i : ℕ) → suc t ≤ i → at_level bits (set pending t carry) (times + 1) j k i ≡ at_level bits0 pending times j k i
       above i a =
-          ap (λ r. one_if (has_bit (word r j) k) + one_if (has_bit (times + 1) i && has_bit (word (slice_index_or (set pending t carry) i []) j) k)) (carried.left i (omega arith))
-          ∙ ap (λ r. one_if (has_bit (word (slice_index_or bits0 i []) j) k) + one_if (has_bit (times + 1) i && has_bit (word r j) k)) (get_or-set_other pending t i carry [] (omega arith))
-          ∙ ap (λ n. one_if (has_bit (word (slice_index_or bits0 i []) j) k) + one_if (n && has_bit (word (slice_index_or pending i []) j) k)) (has_bit-same (times + 1) times i (next-above times t ones none i (omega arith)))
+          ap (λ r. one_if (has_bit (word r j) k) + one_if (has_bit (times + 1) i && has_bit (word (slice_index_or (set pending t carry) i []) j) k))
+          (carried.left i (omega arith))
+          ∙ ap (λ r. one_if (has_bit (word (slice_index_or bits0 i []) j) k) + one_if (has_bit (times + 1) i && has_bit (word r j) k))
+          (get_or-set_other pending t i carry [] (omega arith))
+          ∙ ap (λ n. one_if (has_bit (word (slice_index_or bits0 i []) j) k) + one_if (n && has_bit (word (slice_index_or pending i []) j) k))
+          (has_bit-same (times + 1) times i (next-above times t ones none i (omega arith)))
 
       below : (i : ℕ) → i < t → at_level bits (set pending t carry) (times + 1) j k i ≡ bit_level bits j k i
       below i b =
-          ap (λ n. bit_level bits j k i + one_if (n && has_bit (word (slice_index_or (set pending t carry) i []) j) k)) (has_bit-none (times + 1) i (next-below times t ones none i b)) ∙ nothing (bit_level bits j k i)
+          ap (λ n. bit_level bits j k i + one_if (n && has_bit (word (slice_index_or (set pending t carry) i []) j) k)) (has_bit-none (times + 1) i
+          (next-below times t ones none i b)) ∙ nothing (bit_level bits j k i)
         where
           nothing : (n : ℕ) → n + 0 ≡ n
           nothing n = omega arith
 
       here : at_level bits (set pending t carry) (times + 1) j k t ≡ bit_level bits0 j k t + one_if (has_bit (word carry j) k)
       here =
-          ap (λ r. one_if (has_bit (word r j) k) + one_if (has_bit (times + 1) t && has_bit (word (slice_index_or (set pending t carry) t []) j) k)) (carried.left t (omega arith))
+          ap (λ r. one_if (has_bit (word r j) k) + one_if (has_bit (times + 1) t && has_bit (word (slice_index_or (set pending t carry) t []) j) k))
+          (carried.left t (omega arith))
           ∙ ap (λ r. bit_level bits0 j k t + one_if (has_bit (times + 1) t && has_bit (word r j) k)) (get_or-set_same pending t carry [] fits)
           ∙ ap (λ n. bit_level bits0 j k t + one_if (n && has_bit (word carry j) k)) (has_bit-one (times + 1) t (next-at times t ones none))
 
       was : at_level bits0 pending times j k t ≡ bit_level bits0 j k t + 0
       was = ap (λ n. bit_level bits0 j k t + one_if (n && has_bit (word (slice_index_or pending t []) j) k)) (has_bit-none times t none)
 
-      upto : number_by (at_level bits (set pending t carry) (times + 1) j k) (suc t) + 0 ≡ number_by (at_level bits0 pending times j k) (suc t) + one_if (has_bit (word carry0 j) k)
+      upto : number_by (at_level bits (set pending t carry) (times + 1) j k) (suc t) + 0
+          ≡ number_by (at_level bits0 pending times j k) (suc t) + one_if (has_bit (word carry0 j) k)
       upto =
           let low : number_by (at_level bits (set pending t carry) (times + 1) j k) t ≡ number_by (bit_level bits j k) t =
           number-same (at_level bits (set pending t carry) (times + 1) j k) (bit_level bits j k) t below in
           ap (λ n. n + 0) (number-next (at_level bits (set pending t carry) (times + 1) j k) t)
-          ∙ last (2 ^ t) (at_level bits (set pending t carry) (times + 1) j k t) (at_level bits0 pending times j k t) (bit_level bits0 j k t) (one_if (has_bit (word carry j) k)) _ _ _ _ low here was (carried.low j k l)
+          ∙ last (2 ^ t) (at_level bits (set pending t carry) (times + 1) j k t) (at_level bits0 pending times j k t) (bit_level bits0 j k t) (one_if
+          (has_bit (word carry j) k)) _ _ _ _ low here was (carried.low j k l)
           ∙ ap (λ n. n + one_if (has_bit (word carry0 j) k)) (sym (number-next (at_level bits0 pending times j k) t))
         where
           last : (p a b s x low0 low lower c0 : ℕ) → low0 ≡ low → a ≡ s + x → b ≡ s + 0 → low + p * x ≡ lower + c0 → low0 + p * a + 0 ≡ lower + p * b + c0
@@ -226,7 +243,8 @@ pub level-up : (x level : ℕ) → x < 3 → level < 30 → x * 2 ^ level % 2 ^ 
 level-up x level small few = let e : x * 2 ^ level % 2 ^ 64 ≡ x * 2 ^ level = shl_whole x 2 level 64 (omega arith) (omega arith) in omega (arith, e)
 
 -- with one level more
-pub number-up : (f : ℕ → ℕ) (upper x level : ℕ) → upper ≡ number_by f level → x ≡ f level → f level < 3 → level < 30 → upper + x * 2 ^ level % 2 ^ 64 ≡ number_by f (level + 1)
+pub number-up : (f : ℕ → ℕ) (upper x level : ℕ) → upper ≡ number_by f level → x ≡ f level → f level < 3 → level < 30 → upper + x * 2 ^ level % 2 ^ 64
+    ≡ number_by f (level + 1)
 number-up f upper x level is here small few =
     let e : x * 2 ^ level % 2 ^ 64 ≡ 2 ^ level * x = level-up x level (omega arith) few in
     let g : 2 ^ level * x ≡ 2 ^ level * f level = ap (λ d. 2 ^ level * d) here in
@@ -236,12 +254,37 @@ pub number-fits : (f : ℕ → ℕ) (n : ℕ) → ((i : ℕ) → f i < 3) → n 
 number-fits f n small few = let p : 2 ^ n ≤ 2 ^ 30 = pow_mono few in omega (arith, number-small f n (λ i l. small i), p)
 
 -- the sets of four cycles, with what they carry
-pub joined : (ones twos a b c d k ones1 twos1 carry upper upper0 : ℕ) → ones1 ≡ (with_four ones twos a b c d).ones → twos1 ≡ (with_four ones twos a b c d).twos → carry ≡ (with_four ones twos a b c d).carry
+pub joined : (ones twos a b c d k ones1 twos1 carry upper upper0 : ℕ) → ones1 ≡ (with_four ones twos a b c d).ones → twos1
+    ≡ (with_four ones twos a b c d).twos → carry ≡ (with_four ones twos a b c d).carry
     → upper ≡ upper0 + one_if (has_bit carry k)
     → one_if (has_bit ones1 k) + 2 * one_if (has_bit twos1 k) + 4 * upper
-    ≡ one_if (has_bit ones k) + 2 * one_if (has_bit twos k) + 4 * upper0 + one_if (has_bit a k) + one_if (has_bit b k) + one_if (has_bit c k) + one_if (has_bit d k)
+    ≡ one_if (has_bit ones k) + 2 * one_if (has_bit twos k) + 4 * upper0 + one_if (has_bit a k) + one_if (has_bit b k) + one_if (has_bit c k) + one_if
+    (has_bit d k)
 joined ones twos a b c d k ones1 twos1 carry upper upper0 e1 e2 e4 is =
     let f1 : one_if (has_bit ones1 k) ≡ one_if (has_bit (with_four ones twos a b c d).ones k) = ap (λ w. one_if (has_bit w k)) e1 in
     let f2 : one_if (has_bit twos1 k) ≡ one_if (has_bit (with_four ones twos a b c d).twos k) = ap (λ w. one_if (has_bit w k)) e2 in
     let f4 : one_if (has_bit carry k) ≡ one_if (has_bit (with_four ones twos a b c d).carry k) = ap (λ w. one_if (has_bit w k)) e4 in
     omega (arith, f1, f2, f4, is, added-four ones twos a b c d k)
+
+-- nothing is counted
+pub counted-none : (j k : ℕ) → j < 32 → one_if (has_bit (word (replicate 32 0) j) k) + 2 * one_if (has_bit (word (replicate 32 0) j) k)
+    + 4 * number_by (at_level (replicate 30 (replicate 32 0)) (replicate 30 (replicate 32 0)) 0 j k) 30 ≡ 0
+counted-none j k l =
+    let zero-row : one_if (has_bit (word (replicate 32 0) j) k) ≡ 0 = ap (λ w. one_if (has_bit w k)) (zero-word) ∙ ap one_if (has_bit-zero k) in
+    let digits : number_by (at_level (replicate 30 (replicate 32 0)) (replicate 30 (replicate 32 0)) 0 j k) 30 ≡ number_by (λ i. 0) 30 =
+    number-same (at_level (replicate 30 (replicate 32 0)) (replicate 30 (replicate 32 0)) 0 j k) (λ i. 0) 30 digit in
+    omega (arith, zero-row, digits, zeros 30)
+  where
+    zero-word : word (replicate 32 0) j ≡ 0
+    zero-word = get_or-replicate 32 j 0 0 l
+
+    zeros : (n : ℕ) → number_by (λ i. 0) n ≡ 0
+    zeros zero = sym (number-none (λ i. 0))
+    zeros (suc n) = number-next (λ i. 0) n ∙ (let z = zeros n in omega (arith, z))
+
+    digit : (i : ℕ) → i < 30 → at_level (replicate 30 (replicate 32 0)) (replicate 30 (replicate 32 0)) 0 j k i ≡ 0
+    digit i few =
+        ap (λ r. one_if (has_bit (word r j) k) + one_if (has_bit 0 i && has_bit (word r j) k)) (get_or-replicate 30 i (replicate 32 0) [] few)
+        ∙ ap (λ w. one_if (has_bit w k) + one_if (has_bit 0 i && has_bit w k)) (zero-word)
+        ∙ ap (λ b. one_if (has_bit 0 k) + one_if (b && has_bit 0 k)) (has_bit-zero i)
+        ∙ ap (λ b. one_if b + 0) (has_bit-zero k)

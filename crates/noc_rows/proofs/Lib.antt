@@ -9,6 +9,10 @@ pub mod StandLemmas
 pub mod SettleLemmas
 pub mod SheetLemmas
 pub mod CounterLemmas
+pub mod TalliedLemmas
+pub mod CountLaws
+pub mod OutlookLemmas
+pub mod EventLaws
 pub mod TurnLemmas
 pub mod SwitchLemmas
 pub mod InjectedLemmas
@@ -16,6 +20,7 @@ pub mod CommittedLemmas
 pub mod WinnerLemmas
 pub mod ArriveLemmas
 pub mod DecideLemmas
+pub mod SettleLaws
 pub mod SuppliedLemmas
 pub mod SelectLemmas
 pub mod AskLemmas

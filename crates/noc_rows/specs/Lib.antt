@@ -11,6 +11,8 @@ pub mod Injected
 pub mod Rows
 pub mod Source
 pub mod Arrive
+pub mod Tallied
+pub mod Outlook
 pub mod InRows
 pub mod Wires
 pub mod Moves

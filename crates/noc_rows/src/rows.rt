@@ -1,10 +1,12 @@
 //! A network in rows.
 
-ghost use Rattle.std.specs.Prelude.{◌≡◌, ◌<◌, ℕ, not, nat_eq};
+ghost use Rattle.std.specs.Prelude.{◌≡◌, ◌+◌, ◌%◌, ◌^◌, ◌<◌, ℕ, not, nat_eq, slice_index_or, if◌then◌else◌};
 ghost use Rattle.noc_packet.specs.Set.{has_bit};
 ghost use Rattle.noc_rows.specs.Arrive.{HasArrived};
-ghost use Rattle.noc_rows.specs.Passes.{lane_asks, lane_heads, lane_standing};
-ghost use Rattle.noc_rows.specs.Rows.{column_at, planes_of, standing_at, word};
+ghost use Rattle.noc_rows.specs.Outlook.{holding_in, least_below, some_below};
+ghost use Rattle.noc_rows.specs.Passes.{lane_asks, lane_heads, lane_standing, lane_verdicts, settled_lane};
+ghost use Rattle.noc_rows.specs.Rows.{column_at, effects_at, event_in, planes_of, standing_at, word};
+ghost use Rattle.noc_rows.specs.Tallied.{AreBelow, counts_by, cycles_of, sheet_counts, ten_counts, with_verdicts};
 ghost use Rattle.noc_rows.specs.Wires.{room_of};
 
 use crate::allocate::allocate_all;
@@ -14,12 +16,13 @@ use crate::cycle::DecidedRows;
 use crate::flits::take_flits;
 use crate::frame::Frame;
 use crate::lanes::ROUTERS;
+use crate::marks::Tallies;
 use crate::moves::{move_all, release_all};
 use crate::open::{new_blocks, new_wires};
 use crate::room::Room;
 use crate::route::route_all;
 use crate::settle::{look_ahead, note_events, settle};
-use crate::sheet::Sheet;
+use crate::sheet::{Sheet, VerdictCounts};
 use crate::stand::stand;
 use crate::starts::{NEVER, Start, all_starts, begin_all, inject_all};
 use crate::wires::{Inbox, Wires};
@@ -181,22 +184,21 @@ impl Rows {
         }
     }
 
-    /// How often an input channel of a router had each verdict.
+    /// How often an input channel of a router had each verdict, in the order of the stall report.
     pub fn counts(&self, router: usize, port: usize, vc: usize) -> [u64; 10] {
-        let mut counts = [0u64; 10];
+        let number = router / ROUTERS;
+        let lane = router % ROUTERS;
         let channel = port.wrapping_mul(self.frame.vcs).wrapping_add(vc) % 32;
-        if router / ROUTERS < self.sheets.len() {
-            counts = self.sheets[router / ROUTERS].totals(router % ROUTERS, channel);
-            let place = router % ROUTERS * 32 + channel;
-            if router / ROUTERS < self.blocks.len() {
-                counts = with_tallies(counts, &self.blocks[router / ROUTERS], place);
-            }
-            for verdict in 1..10usize {
-                counts[0] = counts[0].wrapping_sub(counts[verdict]);
-            }
-            counts[0] = counts[0].wrapping_add(u64::from(self.cycle));
+        if number >= self.sheets.len() || number >= self.blocks.len() {
+            return [0; 10];
         }
-        counts
+        counts_in(
+            self.cycle,
+            &self.sheets[number],
+            &self.blocks[number].tallies,
+            lane,
+            channel,
+        )
     }
 
     /// The last cycle in which something happened.
@@ -285,7 +287,16 @@ fn stand_one(frame: &Frame, block: &mut Block)
 }
 
 // What has happened in a block is counted, and takes effect.
-fn conclude_one(frame: &Frame, cycle: u32, block: &mut Block, sheet: &mut Sheet) {
+fn conclude_one(frame: &Frame, cycle: u32, block: &mut Block, sheet: &mut Sheet)
+    ensures columns { (k : ℕ) → k < 32 → column_at block.new.lanes k ≡ settled_lane frame.now.fields frame.now.link_set frame.now.local_set (effects_at block.old.standing block.old.decided k) (column_at block.old.lanes k) }
+    ensures counts { cycles_of sheet.old + 1 < 2 ^ 32 → (j k : ℕ) → j < 32 → sheet_counts sheet.new j k ≡ with_verdicts (lane_verdicts (word block.old.arrived.filled j) (standing_at block.old.standing j) (word block.old.decided.granted j) (word block.old.decided.lost j) (word block.old.decided.moved j) (column_at block.old.lanes j)) k (sheet_counts sheet.old j k) }
+    ensures cycles { cycles_of sheet.new ≡ (cycles_of sheet.old + 1) % 2 ^ 32 }
+    ensures events { (k : ℕ) → k < 32 → word block.new.last_event k ≡ (if nat_eq (event_in block.old.returned block.old.arrived block.old.standing block.old.decided k) 0 then word block.old.last_event k else (cycle + 1) % 2 ^ 32) }
+    ensures holds { block.new.holds ≡ some_below (λ k. not (nat_eq (holding_in (column_at block.new.lanes k)) 0)) 32 }
+    ensures moves { block.new.moves ≡ some_below (λ k. not (nat_eq (word block.old.decided.moved k) 0)) 32 }
+    ensures next_due { block.new.next_due ≡ least_below (word block.old.sources.due) 32 }
+    ensures rest { block.new ≡ record block.old { lanes = block.new.lanes; last_event = block.new.last_event; holds = block.new.holds; moves = block.new.moves; next_due = block.new.next_due } }
+{
     sheet.count(
         &block.lanes,
         &block.arrived.filled,
@@ -301,16 +312,61 @@ fn conclude_one(frame: &Frame, cycle: u32, block: &mut Block, sheet: &mut Sheet)
         &block.decided,
         &mut block.last_event,
     );
-    look_ahead(block);
+    let outlook = look_ahead(&block.lanes, &block.decided.moved, &block.sources.due);
+    block.holds = outlook.holds;
+    block.moves = outlook.moves;
+    block.next_due = outlook.next_due;
 }
 
-// The counts of a channel, with those of the verdicts that are counted one by one.
-fn with_tallies(counts: [u64; 10], block: &Block, place: usize) -> [u64; 10]
-    requires { place < 1024 }
+// The counts of a channel of a router of a block, of all ten verdicts.
+fn counts_in(
+    cycles: u32,
+    sheet: &Sheet,
+    tallies: &Tallies,
+    lane: usize,
+    channel: usize,
+) -> [u64; 10]
+    requires lane { lane < 32 }
+    requires channel { channel < 32 }
+    ensures { result ≡ counts_by cycles sheet.now tallies.now lane channel }
 {
-    let mut all = counts;
-    all[1] = u64::from(block.tallies.routed[place]);
-    all[2] = u64::from(block.tallies.granted[place]);
-    all[6] = u64::from(block.tallies.lost[place]);
-    all
+    with_tallies(
+        cycles,
+        sheet.totals(lane, channel),
+        tallies,
+        lane * 32 + channel,
+    )
+}
+
+// The counts of a channel of all ten verdicts: with those that are counted one by one, and Empty in the cycles that
+// are left.
+fn with_tallies(cycles: u32, counts: VerdictCounts, tallies: &Tallies, place: usize) -> [u64; 10]
+    requires place { place < 1024 }
+    requires small { AreBelow (2 ^ 34) counts }
+    ensures { result ≡ ten_counts cycles counts (slice_index_or tallies.now.routed place 0) (slice_index_or tallies.now.granted place 0) (slice_index_or tallies.now.lost place 0) }
+{
+    let routed = u64::from(tallies.routed[place]);
+    let granted = u64::from(tallies.granted[place]);
+    let lost = u64::from(tallies.lost[place]);
+    let others = routed
+        + granted
+        + counts.moved
+        + counts.no_flit
+        + counts.no_idle_channel
+        + lost
+        + counts.no_credit
+        + counts.lost_input
+        + counts.lost_switch;
+    [
+        u64::from(cycles).saturating_sub(others),
+        routed,
+        granted,
+        counts.moved,
+        counts.no_flit,
+        counts.no_idle_channel,
+        lost,
+        counts.no_credit,
+        counts.lost_input,
+        counts.lost_switch,
+    ]
 }

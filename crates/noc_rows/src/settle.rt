@@ -1,10 +1,10 @@
 //! What a cycle changes in all routers.
 
-ghost use Rattle.std.specs.Prelude.{◌≡◌, ◌+◌, ◌%◌, ◌^◌, ◌<◌, ℕ, nat_eq, if◌then◌else◌};
+ghost use Rattle.std.specs.Prelude.{◌≡◌, ◌+◌, ◌%◌, ◌^◌, ◌<◌, ℕ, not, nat_eq, if◌then◌else◌};
+ghost use Rattle.noc_rows.specs.Outlook.{holding_in, least_below, some_below};
 ghost use Rattle.noc_rows.specs.Passes.{settled_lane, settled_sets};
 ghost use Rattle.noc_rows.specs.Rows.{column_at, effects_at, event_in, word};
 
-use crate::block::Block;
 use crate::column::{Lane, Lanes};
 use crate::cycle::{ArrivedRows, DecidedRows, ReturnedRows, StandingRows};
 use crate::fields::Fields;
@@ -68,17 +68,34 @@ pub fn note_events(
     }
 }
 
-/// Whether the block holds anything, whether a flit moved in it, and when its next packet is due.
-pub fn look_ahead(block: &mut Block) {
+/// What a block has to do next.
+#[derive(Clone, Copy)]
+pub struct Outlook {
+    /// Whether a channel is waiting or active, or a packet is being injected.
+    pub holds: bool,
+    /// Whether a flit moved in this cycle.
+    pub moves: bool,
+    /// The first cycle in which a packet is due.
+    pub next_due: u32,
+}
+
+/// Whether the routers of a block hold anything, whether these flits have moved, and when the next packet is due.
+pub fn look_ahead(lanes: &Lanes, moved: &Row, due: &Row) -> Outlook
+    ensures holds { result.holds ≡ some_below (λ k. not (nat_eq (holding_in (column_at lanes.now k)) 0)) 32 }
+    ensures moves { result.moves ≡ some_below (λ k. not (nat_eq (word moved.now k) 0)) 32 }
+    ensures next_due { result.next_due ≡ least_below (word due.now) 32 }
+{
     let mut held = 0u32;
-    let mut moved = 0u32;
+    let mut all_moved = 0u32;
     let mut next_due = 0xffff_ffffu32;
     for j in 0..ROUTERS {
-        moved |= block.decided.moved[j];
-        held |= block.lanes.waiting[j] | block.lanes.active[j] | block.lanes.injecting[j];
-        next_due = next_due.min(block.sources.due[j]);
+        all_moved |= moved[j];
+        held |= lanes.waiting[j] | lanes.active[j] | lanes.injecting[j];
+        next_due = next_due.min(due[j]);
     }
-    block.holds = held != 0;
-    block.moves = moved != 0;
-    block.next_due = next_due;
+    Outlook {
+        holds: held != 0,
+        moves: all_moved != 0,
+        next_due,
+    }
 }

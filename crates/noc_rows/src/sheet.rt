@@ -1,8 +1,9 @@
 //! The verdicts of all channels of a block are counted.
 
-ghost use Rattle.std.specs.Prelude.{◌≡◌, ◌≢◌, ◌<◌, ℕ};
+ghost use Rattle.std.specs.Prelude.{◌≡◌, ◌≢◌, ◌+◌, ◌/◌, ◌%◌, ◌^◌, ◌<◌, ℕ};
 ghost use Rattle.noc_rows.specs.Passes.{lane_verdicts};
 ghost use Rattle.noc_rows.specs.Rows.{column_at, standing_at, verdicts_at, word};
+ghost use Rattle.noc_rows.specs.Tallied.{AreBelow, counters_at, cycles_of, no_counts, sheet_counts, with_recent, with_verdicts};
 
 use crate::column::{Lane, Lanes};
 use crate::counter::{Counter, one_if_member};
@@ -43,6 +44,21 @@ impl VerdictRows {
         lost_switch: [0; ROUTERS],
     };
 
+    /// The verdicts of one router.
+    pub fn at(&self, lane: usize) -> Verdicts
+        requires { lane < 32 }
+        ensures { result ≡ verdicts_at self.now lane }
+    {
+        Verdicts {
+            moved: self.moved[lane],
+            no_flit: self.no_flit[lane],
+            no_idle_channel: self.no_idle_channel[lane],
+            no_credit: self.no_credit[lane],
+            lost_input: self.lost_input[lane],
+            lost_switch: self.lost_switch[lane],
+        }
+    }
+
     /// Writes the verdicts of one router.
     #[inline(always)]
     pub fn put(&mut self, lane: usize, words: Verdicts)
@@ -59,9 +75,39 @@ impl VerdictRows {
     }
 }
 
+/// How often a channel had each of these verdicts.
+#[derive(Clone, Copy)]
+pub struct VerdictCounts {
+    pub moved: u64,
+    pub no_flit: u64,
+    pub no_idle_channel: u64,
+    pub no_credit: u64,
+    pub lost_input: u64,
+    pub lost_switch: u64,
+}
+
+impl VerdictCounts {
+    /// One more for each verdict of a channel.
+    pub fn with(self, words: Verdicts, channel: usize) -> VerdictCounts
+        requires channel { channel < 32 }
+        requires small { AreBelow (2 ^ 34) self }
+        ensures { result ≡ with_verdicts words channel self }
+    {
+        VerdictCounts {
+            moved: self.moved + one_if_member(words.moved, channel),
+            no_flit: self.no_flit + one_if_member(words.no_flit, channel),
+            no_idle_channel: self.no_idle_channel + one_if_member(words.no_idle_channel, channel),
+            no_credit: self.no_credit + one_if_member(words.no_credit, channel),
+            lost_input: self.lost_input + one_if_member(words.lost_input, channel),
+            lost_switch: self.lost_switch + one_if_member(words.lost_switch, channel),
+        }
+    }
+}
+
 /// The counts of a block.
 #[derive(Clone, Copy)]
 pub struct Sheet {
+    // The verdicts of the cycles after the last four that were added.
     recent: [VerdictRows; 4],
     moved: Counter,
     no_flit: Counter,
@@ -74,7 +120,10 @@ pub struct Sheet {
 
 impl Sheet {
     /// No counts.
-    pub fn new() -> Sheet {
+    pub fn new() -> Sheet
+        ensures counts { (j k : ℕ) → j < 32 → sheet_counts result j k ≡ no_counts }
+        ensures cycles { cycles_of result ≡ 0 }
+    {
         Sheet {
             recent: [VerdictRows::NONE; 4],
             moved: Counter::NONE,
@@ -87,105 +136,88 @@ impl Sheet {
         }
     }
 
-    /// Counts the verdicts of one cycle, before they take effect.
+    /// Counts the verdicts of one cycle, before they take effect. The counts are right for 2^32 - 1 cycles.
     pub fn count(
         &mut self,
         lanes: &Lanes,
         filled: &Row,
         standing: &StandingRows,
         decided: &DecidedRows,
-    ) {
+    )
+        ensures counts { cycles_of self.old + 1 < 2 ^ 32 → (j k : ℕ) → j < 32 → sheet_counts self.new j k ≡ with_verdicts (lane_verdicts (word filled.now j) (standing_at standing.now j) (word decided.now.granted j) (word decided.now.lost j) (word decided.now.moved j) (column_at lanes.now j)) k (sheet_counts self.old j k) }
+        ensures cycles { cycles_of self.new ≡ (cycles_of self.old + 1) % 2 ^ 32 }
+    {
         let slot = (self.cycles % 4) as usize;
         note(lanes, filled, standing, decided, &mut self.recent[slot]);
-        if slot == 3 {
-            self.add_recent(self.cycles / 4);
+        if slot < 3 {
+            self.cycles += 1;
+            return;
         }
-        self.cycles = self.cycles.wrapping_add(1);
+        self.add_recent();
     }
 
-    // The verdicts of four cycles are added, before which those of four cycles were added so many times.
-    fn add_recent(&mut self, times: u32) {
-        let recent = &self.recent;
-        self.moved.add(
-            &recent[0].moved,
-            &recent[1].moved,
-            &recent[2].moved,
-            &recent[3].moved,
-            times,
-        );
-        self.no_flit.add(
-            &recent[0].no_flit,
-            &recent[1].no_flit,
-            &recent[2].no_flit,
-            &recent[3].no_flit,
-            times,
-        );
+    // The verdicts of four cycles are added.
+    fn add_recent(&mut self)
+        ensures counts { self.old.cycles + 1 < 2 ^ 32 → self.old.cycles % 4 ≡ 3 → (j k : ℕ) → j < 32 → sheet_counts self.new j k ≡ with_recent self.old.recent 4 j k (counters_at self.old (self.old.cycles / 4) j k) }
+        ensures cycles { cycles_of self.new ≡ (cycles_of self.old + 1) % 2 ^ 32 }
+    {
+        let times = self.cycles / 4;
+        let [a, b, c, d] = &self.recent;
+        self.moved
+            .add(&a.moved, &b.moved, &c.moved, &d.moved, times);
+        self.no_flit
+            .add(&a.no_flit, &b.no_flit, &c.no_flit, &d.no_flit, times);
         self.no_idle_channel.add(
-            &recent[0].no_idle_channel,
-            &recent[1].no_idle_channel,
-            &recent[2].no_idle_channel,
-            &recent[3].no_idle_channel,
+            &a.no_idle_channel,
+            &b.no_idle_channel,
+            &c.no_idle_channel,
+            &d.no_idle_channel,
             times,
         );
         self.no_credit.add(
-            &recent[0].no_credit,
-            &recent[1].no_credit,
-            &recent[2].no_credit,
-            &recent[3].no_credit,
+            &a.no_credit,
+            &b.no_credit,
+            &c.no_credit,
+            &d.no_credit,
             times,
         );
         self.lost_input.add(
-            &recent[0].lost_input,
-            &recent[1].lost_input,
-            &recent[2].lost_input,
-            &recent[3].lost_input,
+            &a.lost_input,
+            &b.lost_input,
+            &c.lost_input,
+            &d.lost_input,
             times,
         );
         self.lost_switch.add(
-            &recent[0].lost_switch,
-            &recent[1].lost_switch,
-            &recent[2].lost_switch,
-            &recent[3].lost_switch,
+            &a.lost_switch,
+            &b.lost_switch,
+            &c.lost_switch,
+            &d.lost_switch,
             times,
         );
+        self.cycles = self.cycles.wrapping_add(1);
     }
 
-    /// How often a channel of a router had each of the ten verdicts, with 0 for those that are not counted here.
-    pub fn totals(&self, lane: usize, channel: usize) -> [u64; 10]
+    /// How often a channel of a router had each verdict that is counted here.
+    pub fn totals(&self, lane: usize, channel: usize) -> VerdictCounts
         requires lane { lane < 32 }
         requires channel { channel < 32 }
+        ensures counts { result ≡ sheet_counts self.now lane channel }
+        ensures small { AreBelow (2 ^ 34) result }
     {
         let times = self.cycles / 4;
-        let mut counts = [0u64; 10];
-        counts[3] = self.moved.total(lane, channel, times);
-        counts[4] = self.no_flit.total(lane, channel, times);
-        counts[5] = self.no_idle_channel.total(lane, channel, times);
-        counts[7] = self.no_credit.total(lane, channel, times);
-        counts[8] = self.lost_input.total(lane, channel, times);
-        counts[9] = self.lost_switch.total(lane, channel, times);
+        let mut counts = VerdictCounts {
+            moved: self.moved.total(lane, channel, times),
+            no_flit: self.no_flit.total(lane, channel, times),
+            no_idle_channel: self.no_idle_channel.total(lane, channel, times),
+            no_credit: self.no_credit.total(lane, channel, times),
+            lost_input: self.lost_input.total(lane, channel, times),
+            lost_switch: self.lost_switch.total(lane, channel, times),
+        };
         for slot in 0..(self.cycles % 4) as usize {
-            add_verdicts(&self.recent[slot], lane, channel, &mut counts);
+            counts = counts.with(self.recent[slot].at(lane), channel);
         }
         counts
-    }
-}
-
-// One more for each verdict of a channel.
-fn add_verdicts(rows: &VerdictRows, lane: usize, channel: usize, counts: &mut [u64; 10])
-    requires lane { lane < 32 }
-    requires channel { channel < 32 }
-{
-    let sets = [
-        (3usize, rows.moved[lane]),
-        (4, rows.no_flit[lane]),
-        (5, rows.no_idle_channel[lane]),
-        (7, rows.no_credit[lane]),
-        (8, rows.lost_input[lane]),
-        (9, rows.lost_switch[lane]),
-    ];
-    for (place, set) in sets {
-        let place = place % 10;
-        counts[place] = counts[place].wrapping_add(one_if_member(set, channel));
     }
 }
 

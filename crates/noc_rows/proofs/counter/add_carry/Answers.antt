@@ -1,4 +1,4 @@
-use Rattle.std.proofs.Common.{◌≡◌, ◌<◌, ◌+◌, ℕ, length, subst, arith, ◌∙◌, w32}
+use Rattle.std.proofs.Common.{◌≡◌, ◌+◌, subst, arith, ◌∙◌, w32}
 use Rattle.std.proofs.lemmas.List.{length-set}
 use Rattle.std.specs.Prelude.{slice_set}
 use Rattle.std.specs.Int.{bit_at, trailing_ones}
@@ -30,5 +30,6 @@ returns c = λ few j k l.
     let last : c.min-last.result ≡ trailing_ones w32 c.args.times = omega (arith, e, small) in
     let level : c.loop-level.level ≡ trailing_ones w32 c.args.times = omega (arith, last) in
     subst (λ n. number_by (at_level c.loop-level.bits (slice_set c.args.pending.now n c.loop-level.carry) (c.args.times + 1) j k) 30
-        ≡ number_by (at_level c.args.bits.now c.args.pending.now c.args.times j k) 30 + one_if (has_bit (word c.args.carry.now j) k)) (omega (arith, last, level))
-    (carried-all _ _ _ _ _ _ c.loop-level.level (c.loop-level.invariant.carried few) (omega (arith, c.told-pending, level, small)) (omega (arith, level, small)) (λ i b. are.2 i (omega (arith, level))) (subst (λ n. bit_at c.args.times n ≡ 0) (omega (arith, level)) are.1) j k l)
+    ≡ number_by (at_level c.args.bits.now c.args.pending.now c.args.times j k) 30 + one_if (has_bit (word c.args.carry.now j) k)) (omega (arith, last, level))
+    (carried-all _ _ _ _ _ _ c.loop-level.level (c.loop-level.invariant.carried few) (omega (arith, c.told-pending, level, small)) (omega
+    (arith, level, small)) (λ i b. are.2 i (omega (arith, level))) (subst (λ n. bit_at c.args.times n ≡ 0) (omega (arith, level)) are.1) j k l)

@@ -1,8 +1,4 @@
-use Rattle.std.proofs.Common.{◌≡◌, ◌+◌, ◌*◌, ℕ, arith}
-use Rattle.noc_packet.specs.Set.{has_bit}
-use Rattle.noc_router.specs.Counts.{one_if}
 use Rattle.noc_rows.specs.Rows.{word}
-use Rattle.noc_rows.specs.Sheet.{with_four}
 use Rattle.noc_rows.proofs.CounterLemmas.{joined}
 use Rattle.noc_rows.proofs.counter.Counter.add.Goals as goal
 

@@ -1,6 +1,6 @@
 use Rattle.std.proofs.Common.{◌≡◌, ◌+◌, subst, arith}
 use Rattle.noc_rows.specs.Sheet.{at_level, number_by}
-use Rattle.noc_rows.proofs.CounterLemmas.{level-small, level-up, number-fits, number-none, number-up}
+use Rattle.noc_rows.proofs.CounterLemmas.{level-small, number-fits, number-none, number-up}
 use Rattle.noc_rows.proofs.counter.Counter.total.Goals as goal
 
 pub loop-level-init : goal.loop-level-init
@@ -9,33 +9,39 @@ loop-level-init c = number-none _
 pub overflow_add-upper : goal.overflow_add-upper
 overflow_add-upper c =
     let self = c.args.self.now in
-    let n = number-up (at_level self.bits self.pending c.args.times c.args.lane c.args.channel) c.loop-level.upper c.level.result c.loop-level.level c.loop-level.invariant c.level.ensures.count
+    let n = number-up (at_level self.bits self.pending c.args.times c.args.lane c.args.channel) c.loop-level.upper c.level.result c.loop-level.level
+    c.loop-level.invariant c.level.ensures.count
     (level-small self.bits self.pending c.args.times c.args.lane c.args.channel c.loop-level.level) (omega arith) in
-    let m = number-fits (at_level self.bits self.pending c.args.times c.args.lane c.args.channel) (c.loop-level.level + 1) (level-small self.bits self.pending c.args.times c.args.lane c.args.channel) (omega arith) in
+    let m = number-fits (at_level self.bits self.pending c.args.times c.args.lane c.args.channel) (c.loop-level.level + 1)
+    (level-small self.bits self.pending c.args.times c.args.lane c.args.channel) (omega arith) in
     omega (arith, n, m)
 
 pub loop-level-preserved : goal.loop-level-preserved
 loop-level-preserved c =
     let self = c.args.self.now in
-    number-up (at_level self.bits self.pending c.args.times c.args.lane c.args.channel) c.loop-level.upper c.level.result c.loop-level.level c.loop-level.invariant c.level.ensures.count
+    number-up (at_level self.bits self.pending c.args.times c.args.lane c.args.channel) c.loop-level.upper c.level.result c.loop-level.level
+    c.loop-level.invariant c.level.ensures.count
     (level-small self.bits self.pending c.args.times c.args.lane c.args.channel c.loop-level.level) (omega arith)
 
 pub overflow_mul-result-2 : goal.overflow_mul-result-2
 overflow_mul-result-2 c =
     let self = c.args.self.now in
-    let m = number-fits (at_level self.bits self.pending c.args.times c.args.lane c.args.channel) c.loop-level.level (level-small self.bits self.pending c.args.times c.args.lane c.args.channel) (omega arith) in
+    let m = number-fits (at_level self.bits self.pending c.args.times c.args.lane c.args.channel) c.loop-level.level
+    (level-small self.bits self.pending c.args.times c.args.lane c.args.channel) (omega arith) in
     omega (arith, m)
 
 pub overflow_add-result-2 : goal.overflow_add-result-2
 overflow_add-result-2 c =
     let self = c.args.self.now in
-    let m = number-fits (at_level self.bits self.pending c.args.times c.args.lane c.args.channel) c.loop-level.level (level-small self.bits self.pending c.args.times c.args.lane c.args.channel) (omega arith) in
+    let m = number-fits (at_level self.bits self.pending c.args.times c.args.lane c.args.channel) c.loop-level.level
+    (level-small self.bits self.pending c.args.times c.args.lane c.args.channel) (omega arith) in
     omega (arith, m)
 
 pub returns-clause-small : goal.returns-clause-small
 returns-clause-small c =
     let self = c.args.self.now in
-    let m = number-fits (at_level self.bits self.pending c.args.times c.args.lane c.args.channel) c.loop-level.level (level-small self.bits self.pending c.args.times c.args.lane c.args.channel) (omega arith) in
+    let m = number-fits (at_level self.bits self.pending c.args.times c.args.lane c.args.channel) c.loop-level.level
+    (level-small self.bits self.pending c.args.times c.args.lane c.args.channel) (omega arith) in
     omega (arith, m)
 
 pub returns-clause-count : goal.returns-clause-count
