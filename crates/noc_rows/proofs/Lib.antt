@@ -25,3 +25,7 @@ pub mod TidyLemmas
 pub mod PointerLemmas
 pub mod NetworkLaws
 pub mod FlitLaws
+pub mod SleepLaws
+pub mod OpeningLaws
+mod SameLemmas
+pub mod RestLaws

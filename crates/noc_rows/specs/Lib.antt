@@ -9,4 +9,5 @@ pub mod Sheet
 pub mod Turns
 pub mod Injected
 pub mod Rows
+pub mod Opening
 pub mod InRows
