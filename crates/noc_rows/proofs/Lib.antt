@@ -50,3 +50,7 @@ pub mod FrozenLemmas
 pub mod ComposeLemmas
 pub mod ArriveLaws
 pub mod FrozenLaws
+pub mod SleepLaws
+pub mod OpeningLaws
+mod SameLemmas
+pub mod RestLaws

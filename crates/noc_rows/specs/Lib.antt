@@ -13,6 +13,7 @@ pub mod Source
 pub mod Arrive
 pub mod Tallied
 pub mod Outlook
+pub mod Opening
 pub mod InRows
 pub mod Wires
 pub mod Moves

@@ -49,17 +49,21 @@ pub struct Lanes {
 
 impl Lanes {
     /// The same words of each router.
-    pub fn of(lane: Lane) -> Lanes {
+    pub fn of(lane: Lane) -> Lanes
+        ensures { (k : ℕ) → k < 32 → column_at result k ≡ column_of lane }
+    {
+        let len = Planes::of(lane.len);
+        let credit = Planes::of(lane.credit);
         Lanes {
             waiting: [lane.waiting; ROUTERS],
             active: [lane.active; ROUTERS],
-            len: Planes::of(lane.len),
+            len,
             supplied: [lane.supplied; ROUTERS],
             ahead: [lane.ahead; ROUTERS],
             wanted: [lane.wanted; ROUTERS],
             idle: [lane.idle; ROUTERS],
             draining: [lane.draining; ROUTERS],
-            credit: Planes::of(lane.credit),
+            credit,
             injecting: [lane.injecting; ROUTERS],
         }
     }

@@ -1,6 +1,6 @@
 //! A number of each channel, bit by bit: of each bit the channels whose number has it.
 
-ghost use Rattle.std.specs.Prelude.{◌≡◌, ◌≢◌, ◌%◌, ◌<◌, ℕ, bit_and, nat_eq};
+ghost use Rattle.std.specs.Prelude.{◌≡◌, ◌≢◌, ◌%◌, ◌<◌, ℕ, map, bit_and, nat_eq};
 ghost use Rattle.noc_rows.specs.Planes.{any_from, lowered_by, more_than_one, raised_by, word_of, words_of, wrong_from};
 ghost use Rattle.noc_rows.specs.Rows.{planes_at, planes_of, word};
 
@@ -40,7 +40,9 @@ impl Numbers {
     }
 
     /// The numbers of the channels of a set, and 0 for the others.
-    pub fn among(self, set: u32) -> Numbers {
+    pub fn among(self, set: u32) -> Numbers
+        ensures { planes_of result ≡ map (λ plane. bit_and plane set) (planes_of self) }
+    {
         Numbers {
             ones: self.ones & set,
             twos: self.twos & set,
@@ -134,7 +136,9 @@ pub struct Planes {
 
 impl Planes {
     /// The same numbers in each router.
-    pub fn of(numbers: Numbers) -> Planes {
+    pub fn of(numbers: Numbers) -> Planes
+        ensures { (k : ℕ) → k < 32 → planes_at result k ≡ planes_of numbers }
+    {
         Planes {
             ones: [numbers.ones; ROUTERS],
             twos: [numbers.twos; ROUTERS],

@@ -1,5 +1,9 @@
 //! Rows before the first cycle.
 
+ghost use Rattle.std.specs.Prelude.{◌≡◌};
+ghost use Rattle.noc_rows.specs.Opening.{empty_column};
+ghost use Rattle.noc_rows.specs.Rows.{column_of, planes_of};
+
 use crate::block::{Block, Sources, Work};
 use crate::column::{Lane, Lanes};
 use crate::cycle::{ArrivedRows, DecidedRows, ReturnedRows, StandingRows};
@@ -37,7 +41,9 @@ fn new_block(frame: &Frame) -> Block {
 }
 
 // The words of a router in which nothing is.
-fn empty_lane(frame: &Frame) -> Lane {
+fn empty_lane(frame: &Frame) -> Lane
+    ensures { column_of result ≡ empty_column frame.now.link_set frame.now.local_set (planes_of frame.now.place_bits) }
+{
     Lane {
         waiting: 0,
         active: 0,
