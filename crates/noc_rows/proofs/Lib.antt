@@ -33,3 +33,7 @@ pub mod NextLemmas
 pub mod RingLemmas
 pub mod FlitWordLemmas
 pub mod WireLemmas
+pub mod RouterLemmas
+pub mod AskedLemmas
+pub mod GrantLemmas
+pub mod AllocateLaws

@@ -12,3 +12,4 @@ pub mod Rows
 pub mod Source
 pub mod InRows
 pub mod Wires
+pub mod Grants
