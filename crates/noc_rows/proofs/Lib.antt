@@ -54,3 +54,7 @@ pub mod SleepLaws
 pub mod OpeningLaws
 mod SameLemmas
 pub mod RestLaws
+pub mod RouterLemmas
+pub mod AskedLemmas
+pub mod GrantLemmas
+pub mod AllocateLaws

@@ -17,3 +17,4 @@ pub mod Opening
 pub mod InRows
 pub mod Wires
 pub mod Moves
+pub mod Grants

@@ -168,6 +168,9 @@ pub struct DecidedRows {
 }
 
 impl DecidedRows {
+    ghost use Rattle.noc_rows.specs.Grants.{KeepsMoves};
+    ghost use Rattle.noc_rows.specs.Rows.{word};
+
     /// Nothing is decided.
     pub const NONE: DecidedRows = DecidedRows {
         granted: NONE,
@@ -177,4 +180,18 @@ impl DecidedRows {
         released: NONE,
         freed: NONE,
     };
+
+    /// Writes which input channels of one router are granted an output channel, and which lose.
+    #[inline(always)]
+    pub fn put_grants(&mut self, lane: usize, granted: u32, lost: u32)
+        requires { lane < 32 }
+        ensures granted { word self.new.granted lane ≡ granted }
+        ensures lost { word self.new.lost lane ≡ lost }
+        ensures granted_others { (k : ℕ) → k ≢ lane → word self.new.granted k ≡ word self.old.granted k }
+        ensures lost_others { (k : ℕ) → k ≢ lane → word self.new.lost k ≡ word self.old.lost k }
+        ensures moves { KeepsMoves self.old self.new }
+    {
+        put(&mut self.granted, lane, granted);
+        put(&mut self.lost, lane, lost);
+    }
 }

@@ -1,6 +1,6 @@
 //! Rows of words: one word of each router of a block.
 
-ghost use Rattle.std.specs.Prelude.{◌≡◌, ◌≢◌, ◌^◌, ◌<◌, ◌&&◌, ℕ, not, nat_eq};
+ghost use Rattle.std.specs.Prelude.{◌≡◌, ◌≢◌, ◌^◌, ◌<◌, ◌&&◌, ◌||◌, ℕ, not, nat_eq};
 ghost use Rattle.noc_packet.specs.Set.{IsLeast, has_bit};
 ghost use Rattle.noc_rows.specs.Bits.{lowest};
 ghost use Rattle.noc_rows.specs.Rows.{word};
@@ -61,6 +61,17 @@ pub fn put(row: &mut Row, lane: usize, value: u32)
     ensures others { (k : ℕ) → k ≢ lane → word row.new k ≡ word row.old k }
 {
     row[lane] = value;
+}
+
+/// The word of one lane has this member too.
+#[inline(always)]
+pub fn add(row: &mut Row, lane: usize, member: usize)
+    requires lane { lane < 32 }
+    requires member { member < 32 }
+    ensures here { (k : ℕ) → has_bit (word row.new lane) k ≡ (nat_eq k member || has_bit (word row.old lane) k) }
+    ensures others { (k : ℕ) → k ≢ lane → word row.new k ≡ word row.old k }
+{
+    row[lane] |= 1u32 << member as u32;
 }
 
 /// A lane alone where a set has a member, and else none.

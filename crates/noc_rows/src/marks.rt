@@ -1,9 +1,11 @@
 //! What the routers of a block keep by channel and by port, which is read and written one by one.
 
-ghost use Rattle.std.specs.Prelude.{◌<◌};
+ghost use Rattle.std.specs.Prelude.{◌≡◌, ◌≢◌, ℕ, ◌<◌};
+ghost use Rattle.noc_rows.specs.Grants.{AreTallied};
+ghost use Rattle.noc_rows.specs.Rows.{of_router};
 
 use crate::frame::Frame;
-use crate::lanes::{CHANNELS, PORTS, ROUTERS, Row, least};
+use crate::lanes::{CHANNELS, PORTS, ROUTERS, Row, add, least};
 
 /// What channels and ports have.
 #[derive(Clone, Copy)]
@@ -31,7 +33,9 @@ pub struct Marks {
 }
 
 impl Marks {
+    ghost use Rattle.noc_rows.specs.Grants.{HasBound, KeepsPlaces, leads_by, leads_to};
     ghost use Rattle.noc_rows.specs.Passes.{AreOwners, owner_in};
+    ghost use Rattle.noc_rows.specs.Rows.{marks_at};
 
     /// Nothing waits, nothing is owned, and every pointer is at the first channel.
     pub const NONE: Marks = Marks {
@@ -53,13 +57,16 @@ impl Marks {
         requires lane { lane < 32 }
         requires input { input < 32 }
         requires out { out < 32 }
+        ensures here { HasBound (marks_at self.old lane) (marks_at self.new lane) out input (leads_by frame.now out) (leads_to frame.now self.old.lead lane out) ((marks_at self.old lane).turn out) }
+        ensures others { (j : ℕ) → j ≢ lane → marks_at self.new j ≡ marks_at self.old j }
+        ensures places { KeepsPlaces self.old self.new }
     {
         let port = usize::from(frame.port_of[out] % 8);
+        let target = self.lead[lane * 8 + port] | u32::from(frame.other_end[out]);
         self.owner[lane * 32 + out] = input as u8;
         self.taken[lane * 32 + input] = 1u32 << out as u32;
-        self.target[lane * 32 + input] = self.lead[lane * 8 + port]
-            | u32::from(frame.other_end[out]);
-        self.to_port[port][lane] |= 1u32 << input as u32;
+        self.target[lane * 32 + input] = target;
+        add(&mut self.to_port[port], lane, input);
     }
 
     /// The input channels of one router that own one of these output channels.
@@ -100,6 +107,8 @@ impl Tallies {
 #[inline(always)]
 pub fn tally(lane: usize, set: u32, counts: &mut [u32; CHANNELS])
     requires { lane < 32 }
+    ensures here { AreTallied set (of_router counts.old lane) (of_router counts.new lane) }
+    ensures others { (j : ℕ) → j ≢ lane → of_router counts.new j ≡ of_router counts.old j }
 {
     let mut rest = set;
     while rest != 0 {

@@ -128,7 +128,14 @@ impl Rows {
         for block in self.blocks.iter_mut() {
             if block.awake {
                 let frame = &self.frame;
-                allocate_all(frame, block);
+                allocate_all(
+                    frame,
+                    block.work.asking,
+                    &mut block.lanes,
+                    &mut block.marks,
+                    &mut block.decided,
+                    &mut block.tallies,
+                );
                 route_all(relation, frame, number, block, &self.wires);
                 move_all(
                     frame,
