@@ -4,13 +4,14 @@ use Rattle.std.specs.Prelude.{not, nat_eq, nat_lt, slice_index, slice_index_or, 
 use Rattle.std.proofs.lemmas.Bool.{lt-ltb}
 use Rattle.noc_topo.specs.Shape.{local_port, ports}
 use Rattle.noc_topo.proofs.WordLemmas.{get_or-map_indexed}
+use Rattle.noc_packet.specs.declared.packet.Beat.{Beat}
 use Rattle.noc_route.specs.Routes.{Routes}
 use Rattle.noc_packet.specs.Set.{has_bit}
 use Rattle.noc_router.specs.Arrivals.{is_expected_in, noted}
 use Rattle.noc_router.specs.Counts.{one_if}
 use Rattle.noc_router.specs.Verdict.{column}
 use Rattle.noc_router.specs.VerdictSets.{verdict_by, sets_with}
-use Rattle.noc_router.specs.View.{Site, View, Decisions, size_of, counted, committed, planned, decided_verdict, has_event, with_arrival, with_misfit, tail_packet, flit_out}
+use Rattle.noc_router.specs.View.{Site, View, Decisions, size_of, counted, committed, planned, injected, all_taken, local_step, decided_verdict, has_event, with_arrival, with_misfit, tail_packet, flit_out}
 use Rattle.noc_router.specs.declared.verdict.Verdict.{Verdict}
 use Rattle.noc_router.specs.declared.verdict_sets.VerdictSets.{VerdictSets}
 use Rattle.noc_rows.specs.Tallied.{nine_counts, ten_counts, with_verdicts, ShowsCounts, ShowsLastEvent}
@@ -200,3 +201,16 @@ module _ (relation : Routes) (count : ℕ) (f : Fields) (c : Column) (v : View) 
             ∙ after.0,
         after.1,
       )
+
+-- ---- after the cycle, once its beats are put
+pub counts-put : (cycles : ℕ) (counts : ℕ → VerdictCounts) (routed granted lost : ℕ → ℕ) (relation : Routes) (v : View) (beats : List Beat) (n : ℕ)
+    → ShowsCounts cycles counts routed granted lost (committed (planned relation (injected n (all_taken relation beats v))) (injected n (all_taken relation beats v)))
+    → ShowsCounts cycles counts routed granted lost (local_step relation v beats n).0
+unfolding local_step
+counts-put cycles counts routed granted lost relation v beats n shows = shows
+
+pub event-put : (word : ℕ) (relation : Routes) (v : View) (beats : List Beat) (n : ℕ)
+    → ShowsLastEvent word (committed (planned relation (injected n (all_taken relation beats v))) (injected n (all_taken relation beats v))).last_event
+    → ShowsLastEvent word (local_step relation v beats n).0.last_event
+unfolding local_step
+event-put word relation v beats n shows = shows
