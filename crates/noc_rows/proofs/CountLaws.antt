@@ -1,16 +1,19 @@
 -- The counts of a channel after one more cycle, and the last event.
 use Rattle.std.proofs.Common.{◌≡◌, ℕ, ◌+◌, ◌-◌, ◌%◌, ◌^◌, ◌<◌, ◌≤◌, Bool, true, false, List, [], ◌∷◌, length, Option, Some, None, sum, refl, ap, sym, ◌∙◌, subst, arith}
-use Rattle.std.specs.Prelude.{not, nat_eq, nat_lt, slice_index, slice_index_or, slice_set, if◌then◌else◌}
+use Rattle.std.specs.Prelude.{find, not, nat_eq, nat_le, nat_lt, slice_index, slice_index_or, slice_set, if◌then◌else◌}
 use Rattle.std.proofs.lemmas.Bool.{lt-ltb}
 use Rattle.noc_topo.specs.Shape.{local_port, ports}
 use Rattle.noc_topo.proofs.WordLemmas.{get_or-map_indexed}
+use Rattle.noc_packet.specs.declared.packet.Beat.{Beat}
+use Rattle.noc_packet.specs.declared.packet.Packet.{Packet}
+use Rattle.noc_topo.specs.Words.{below}
 use Rattle.noc_route.specs.Routes.{Routes}
 use Rattle.noc_packet.specs.Set.{has_bit}
 use Rattle.noc_router.specs.Arrivals.{is_expected_in, noted}
 use Rattle.noc_router.specs.Counts.{one_if}
 use Rattle.noc_router.specs.Verdict.{column}
 use Rattle.noc_router.specs.VerdictSets.{verdict_by, sets_with}
-use Rattle.noc_router.specs.View.{Site, View, Decisions, size_of, counted, committed, planned, decided_verdict, has_event, with_arrival, with_misfit, tail_packet, flit_out}
+use Rattle.noc_router.specs.View.{Site, View, Decisions, size_of, counted, committed, planned, injected, injected_from, with_injected, begun_on, is_vacant, local_channel, view_buffer, all_taken, local_step, decided_verdict, has_event, with_arrival, with_misfit, tail_packet, flit_out}
 use Rattle.noc_router.specs.declared.verdict.Verdict.{Verdict}
 use Rattle.noc_router.specs.declared.verdict_sets.VerdictSets.{VerdictSets}
 use Rattle.noc_rows.specs.Tallied.{nine_counts, ten_counts, with_verdicts, ShowsCounts, ShowsLastEvent}
@@ -200,3 +203,43 @@ module _ (relation : Routes) (count : ℕ) (f : Fields) (c : Column) (v : View) 
             ∙ after.0,
         after.1,
       )
+
+-- ---- before the verdicts: what lands and is injected changes neither, and the view knows the cycle
+abbrev Keeps : ℕ → View → View → Type 0
+Keeps n v w = (w.counts ≡ v.counts) × (w.last_event ≡ v.last_event) × (w.given ≡ n)
+
+pub injected-keeps : (n : ℕ) (v : View) → Keeps n v (injected n v)
+unfolding injected
+injected-keeps n v = by v.queue v.sending
+  where
+    by : (queue : List (ℕ × Packet)) (sending : Option (ℕ × ℕ)) → Keeps n v (injected_from n queue sending (record v { given = n }))
+    by [] sending = (refl, refl, refl)
+    by ((number, p) ∷ rest) (Some (vc, index)) = room (nat_lt (length (view_buffer v (local_channel v.site vc))) v.site.places)
+      where
+        room : (b : Bool) → Keeps n v (if b then with_injected vc index number p rest (record v { given = n }) else record v { given = n })
+        room true = (refl, refl, refl)
+        room false = (refl, refl, refl)
+    by ((number, p) ∷ rest) None = due (nat_le p.due n)
+      where
+        begun : (vc : Option ℕ) → Keeps n v (begun_on vc number p rest (record v { given = n }))
+        begun None = (refl, refl, refl)
+        begun (Some vc) = (refl, refl, refl)
+
+        due : (b : Bool) → Keeps n v (if b then begun_on (find (is_vacant (record v { given = n })) (below v.site.vcs)) number p rest
+            (record v { given = n }) else record v { given = n })
+        due true = begun (find (is_vacant (record v { given = n })) (below v.site.vcs))
+        due false = (refl, refl, refl)
+
+-- ---- after the cycle, once its beats are put
+pub counts-put : (cycles : ℕ) (counts : ℕ → VerdictCounts) (routed granted lost : ℕ → ℕ) (relation : Routes) (v : View) (beats : List Beat) (n : ℕ)
+    → ShowsCounts cycles counts routed granted lost (committed (planned relation (injected n (all_taken relation beats v))) (injected n
+    (all_taken relation beats v)))
+    → ShowsCounts cycles counts routed granted lost (local_step relation v beats n).0
+unfolding local_step
+counts-put cycles counts routed granted lost relation v beats n shows = shows
+
+pub event-put : (word : ℕ) (relation : Routes) (v : View) (beats : List Beat) (n : ℕ)
+    → ShowsLastEvent word (committed (planned relation (injected n (all_taken relation beats v))) (injected n (all_taken relation beats v))).last_event
+    → ShowsLastEvent word (local_step relation v beats n).0.last_event
+unfolding local_step
+event-put word relation v beats n shows = shows
