@@ -180,6 +180,7 @@ module _ (site : Site) (starts : List (ℕ × Packet)) (ends : List ℕ) (m : Ro
     supplied = λ i l. has_bit-zero i ∙ ap (λ (y : Input). is_supplied v.outputs y.phase) (sym (idle-input i));
     waiting_below = λ k e. absurd (false≢true (sym (has_bit-zero k) ∙ e));
     active_below = λ k e. absurd (false≢true (sym (has_bit-zero k) ∙ e));
+    draining_below = λ k e. absurd (false≢true (sym (has_bit-zero k) ∙ e));
     idle_below = λ k e. below k (or_cases (has_bit links k) (has_bit local k) (sym (either_members links local k) ∙ e));
     len_below = λ i l. zeros-number i;
   }

@@ -187,6 +187,7 @@ seen-column count c m counts given findings v s = record {
     waiting_below = s.channels.waiting_below;
     active_below = s.channels.active_below;
     idle_below = s.channels.idle_below;
+    draining_below = s.channels.draining_below;
     len_below = s.channels.len_below;
   };
   turns = record { inputs = s.turns.inputs; channels = s.turns.channels; outputs = s.turns.outputs };

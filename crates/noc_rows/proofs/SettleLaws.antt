@@ -83,6 +83,7 @@ record ChannelsIn (site : Site) (c : Column) (v : View) : Type 0 where
   waiting_below : AreBelow (size_of site) c.waiting
   active_below : AreBelow (size_of site) c.active
   idle_below : AreBelow (size_of site) c.idle
+  draining_below : AreBelow (size_of site) c.draining
   len_below : (i : ℕ) → size_of site ≤ i → number_at c.len i ≡ 0
 
 shows-channels : (c : Column) (v : View) (parts : ChannelsIn v.site c v) → ShowsChannels c v
@@ -93,6 +94,7 @@ shows-channels c v parts = record {
   waiting_below = parts.waiting_below;
   active_below = parts.active_below;
   idle_below = parts.idle_below;
+  draining_below = parts.draining_below;
   len_below = parts.len_below;
 }
 
@@ -131,6 +133,7 @@ pub record AreSettling (v w : View) (c : Column) (m : RouterMarks) (links local 
   pub granted_below : AreBelow (size_of v.site) e.granted
   pub moved_below : AreBelow (size_of v.site) e.moved
   pub local_below : AreBelow (size_of v.site) local
+  pub links_below : AreBelow (size_of v.site) links
   pub sizes : (p : ℕ) → p < ports v.site.grid → (turn_at v.arbiters.inputs p).size ≡ v.site.vcs
   pub outputs : (o : ℕ) → o < size_of v.site → SaysOut v links local outs e o (view_output v o) (slice_index_or (view_round v).grants o None) (mover_to v
       (view_round v) o)
@@ -200,6 +203,8 @@ module _ (relation : Routes) (count : ℕ) (f : Fields) (c : Column) (v : View) 
           (size_of v.site) c.active e.granted shows.active_below s.granted_below);
       idle_below = or-below (size_of v.site) (less c.idle outs) (bit_and e.freed local) (less-below
           (size_of v.site) c.idle outs words.idle s.outs_fit shows.idle_below) (and-below (size_of v.site) e.freed local s.local_below);
+      draining_below = or-below (size_of v.site) c.draining (bit_and e.freed links) shows.draining_below
+          (and-below (size_of v.site) e.freed links s.links_below);
       len_below = λ i l.
           let none : one_if (has_bit e.moved i) ≡ 0 = ap one_if (none-above (size_of v.site) e.moved i s.moved_below l) in
           omega (arith, lowered-number c.len e.moved i words.len effects.moved (omega (arith, none)), none, shows.len_below i l);
@@ -250,6 +255,7 @@ column-put count c m relation v beats n is = record {
     waiting_below = is.channels.waiting_below;
     active_below = is.channels.active_below;
     idle_below = is.channels.idle_below;
+    draining_below = is.channels.draining_below;
     len_below = is.channels.len_below;
   };
   turns = record { inputs = is.turns.inputs; channels = is.turns.channels; outputs = is.turns.outputs };
