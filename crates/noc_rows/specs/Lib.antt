@@ -13,3 +13,4 @@ pub mod Source
 pub mod InRows
 pub mod Wires
 pub mod Grants
+pub mod Routed

@@ -127,7 +127,10 @@ impl Rows {
                     &mut block.decided,
                     &mut block.tallies,
                 );
-                route_all(relation, frame, number, block, &self.wires);
+                if number < self.wires.inboxes.len() {
+                    let inbox = &self.wires.inboxes[number];
+                    route_all(relation, frame, self.wires.room, number, block, inbox);
+                }
                 move_all(frame, number, block, &mut self.wires);
                 release_all(frame, self.cycle, block, &mut self.wires);
             }
