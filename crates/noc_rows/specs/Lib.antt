@@ -14,3 +14,4 @@ pub mod InRows
 pub mod Wires
 pub mod Grants
 pub mod Routed
+pub mod Frames
