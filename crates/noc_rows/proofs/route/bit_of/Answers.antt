@@ -1,4 +1,4 @@
-use Rattle.std.proofs.Common.{◌≡◌, ◌<◌, arith}
+use Rattle.std.proofs.Common.{arith}
 use Rattle.noc_rows.proofs.WordLemmas.{power-is}
 use Rattle.noc_rows.proofs.route.bit_of.Goals as goal
 

@@ -1,11 +1,7 @@
-use Rattle.std.proofs.Common.{◌≡◌, ◌≢◌, ℕ, ◌≤◌, true, List, ◌∷◌}
-use Rattle.noc_packet.specs.Set.{has_bit}
-use Rattle.noc_packet.specs.declared.packet.Flit.{Flit}
+use Rattle.std.proofs.Common.{◌≡◌, ◌≢◌, ℕ, ◌≤◌}
 use Rattle.noc_route.specs.Routes.{width}
-use Rattle.noc_rows.specs.FlitWords.{FitsWord, flit_word}
-use Rattle.noc_rows.specs.Grants.{KeepsPlaces}
 use Rattle.noc_rows.specs.Routed.{ring_at, sets_by}
-use Rattle.noc_rows.specs.Rows.{marks_at, of_router, word}
+use Rattle.noc_rows.specs.Rows.{of_router, word}
 use Rattle.noc_rows.specs.Wires.{room_of}
 use Rattle.noc_rows.proofs.RouteLemmas.{AreRouted}
 use Rattle.noc_rows.proofs.route.route.Given as goal
