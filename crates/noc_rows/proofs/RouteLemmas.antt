@@ -7,7 +7,8 @@ use Rattle.noc_packet.specs.declared.packet.Flit.{Flit}
 use Rattle.noc_packet.proofs.SetLemmas.{either_members, has_bit-zero}
 use Rattle.noc_rows.specs.Column.{RouterMarks}
 use Rattle.noc_rows.specs.FlitWords.{FitsWord, flit_word}
-use Rattle.noc_rows.specs.Routed.{HasRouted}
+use Rattle.noc_rows.specs.Grants.{AreTallied}
+use Rattle.noc_rows.specs.Routed.{HasRouted, HasRoutes, Routing}
 use Rattle.noc_rows.proofs.AskedLemmas.{left-part, or-false, or-left, or-right, same-word}
 use Rattle.noc_rows.proofs.EachLemmas.{left-members}
 use Rattle.noc_rows.proofs.PassLemmas.{power-members}
@@ -101,3 +102,16 @@ members-all set rest word none are = same-word word set (λ k. are k ∙ ap (λ 
 pub not-both : (b : Bool) → (b && b) ≡ false → b ≡ false
 not-both true e = absurd (true≢false e)
 not-both false e = refl
+
+-- a router is routed, from what it had
+pub routes-from : (heads node there : ℕ) (sets : ℕ → ℕ → Flit → ℕ) (rings : List ℕ → ℕ → List ℕ) (now first : List ℕ) (a c b : Routing) → now ≡ first → node ≡ there → a ≡ c
+    → HasRouted heads (rings now) (sets node) a.marks b.marks a.wanted b.wanted → AreTallied heads a.routes b.routes → HasRoutes heads (rings first) (sets there) c b
+routes-from heads node there sets rings now first a c b ef en ea routed counted =
+    subst (λ x. HasRoutes heads (rings first) (sets there) x b) ea
+    (record { routed = subst (λ f. HasRouted heads (rings f) (sets there) a.marks b.marks a.wanted b.wanted) ef (subst (λ n. HasRouted heads (rings now) (sets n) a.marks b.marks a.wanted b.wanted) en routed); counted = counted })
+
+abbrev the-routing : RouterMarks → ℕ → List ℕ → Routing
+the-routing marks wanted routes = record { marks = marks; wanted = wanted; routes = routes }
+
+pub same-routing : (m w : RouterMarks) (a b : ℕ) (r s : List ℕ) → m ≡ w → a ≡ b → r ≡ s → the-routing m a r ≡ the-routing w b s
+same-routing m w a b r s em ea er = ap (λ x. the-routing x a r) em ∙ ap (λ x. the-routing w x r) ea ∙ ap (the-routing w b) er

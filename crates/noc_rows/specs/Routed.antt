@@ -5,8 +5,11 @@ use Rattle.noc_packet.specs.declared.packet.Flit.{Flit}
 use Rattle.noc_route.specs.Routes.{Routes, set_at}
 use Rattle.noc_rows.specs.Column.{RouterMarks, place_of}
 use Rattle.noc_rows.specs.FlitWords.{FitsWord, flit_word}
+use Rattle.noc_rows.specs.Grants.{AreTallied}
+use Rattle.noc_rows.specs.Rows.{marks_at, of_router, word}
 use Rattle.noc_rows.specs.Wires.{ring_in}
 use Rattle.noc_rows.specs.declared.frame.Frame.{Frame}
+use Rattle.noc_rows.specs.declared.marks.Marks.{Marks}
 use Rattle.noc_rows.specs.declared.wires.Inbox.{Inbox}
 
 -- the ring of input channel k of router j of a block, where `first` has the places of the first words
@@ -24,3 +27,18 @@ pub record HasRouted (heads : ℕ) (ring : ℕ → List ℕ) (sets : ℕ → Fli
   pub still : (o : ℕ) → has_bit wanted o ≡ true → has_bit all o ≡ true
   pub kept : (k : ℕ) → has_bit heads k ≡ false → w.set k ≡ m.set k
   pub rest : w ≡ record m { set = w.set }
+
+-- what routing changes of a router
+pub record Routing : Type 0 where
+  pub marks : RouterMarks
+  pub wanted : ℕ
+  pub routes : List ℕ  -- how often each channel was routed
+
+-- .. of router j
+abbrev pub routing_at : Marks → List ℕ → List ℕ → ℕ → Routing
+routing_at marks wanted routes j = record { marks = marks_at marks j; wanted = word wanted j; routes = of_router routes j }
+
+-- its heads are routed, and counted
+pub record HasRoutes (heads : ℕ) (ring : ℕ → List ℕ) (sets : ℕ → Flit → ℕ) (a b : Routing) : Type 0 where
+  pub routed : HasRouted heads ring sets a.marks b.marks a.wanted b.wanted
+  pub counted : AreTallied heads a.routes b.routes

@@ -1,18 +1,17 @@
 //! Heads are routed.
 
-ghost use Rattle.std.specs.Prelude.{◌≡◌, ◌≢◌, ℕ, ◌+◌, ◌*◌, ◌^◌, ◌<◌, ◌≤◌, true, slice_index};
+ghost use Rattle.std.specs.Prelude.{◌≡◌, ◌≢◌, ℕ, ◌+◌, ◌*◌, ◌^◌, ◌<◌, ◌≤◌, true, false, slice_index};
 ghost use Rattle.noc_packet.specs.Set.{has_bit};
 ghost use Rattle.noc_packet.specs.declared.packet.Flit.{Flit};
 ghost use Rattle.noc_route.specs.Routes.{set_at, width};
 ghost use Rattle.noc_rows.specs.FlitWords.{FitsWord, flit_word};
 ghost use Rattle.noc_rows.specs.Grants.{KeepsPlaces};
-ghost use Rattle.noc_rows.specs.Routed.{HasRouted, ring_at, sets_by};
+ghost use Rattle.noc_rows.specs.Routed.{HasRouted, HasRoutes, ring_at, routing_at, sets_by};
 ghost use Rattle.noc_rows.specs.Rows.{marks_at, word};
 ghost use Rattle.noc_rows.specs.Wires.{room_of};
 
-use crate::block::Block;
 use crate::frame::Frame;
-use crate::lanes::{ROUTERS, Row, least, put};
+use crate::lanes::{CHANNELS, ROUTERS, Row, least, put};
 use crate::marks::{Marks, tally};
 use crate::room::Room;
 use crate::wires::Inbox;
@@ -26,27 +25,33 @@ pub fn route_all(
     frame: &Frame,
     room: Room,
     number: usize,
-    block: &mut Block,
+    heading: u32,
+    heads: &Row,
     inbox: &Inbox,
-) {
-    let mut rest = block.work.heading;
+    marks: &mut Marks,
+    wanted: &mut Row,
+    routes: &mut [u32; CHANNELS],
+)
+    ensures here { width relation.now.grid relation.now.vcs ≤ 31 → number < 2 ^ 32 → (k : ℕ) → has_bit heading k ≡ true → HasRoutes (word heads.now k) (ring_at (room_of room) inbox.now marks.old.first k) (sets_by relation.now frame.now (number * 32 + k)) (routing_at marks.old wanted.old routes.old k) (routing_at marks.new wanted.new routes.new k) }
+    ensures others { width relation.now.grid relation.now.vcs ≤ 31 → number < 2 ^ 32 → (k : ℕ) → has_bit heading k ≡ false → routing_at marks.new wanted.new routes.new k ≡ routing_at marks.old wanted.old routes.old k }
+    ensures places { KeepsPlaces marks.old marks.new }
+{
+    let mut rest = heading;
     while rest != 0 {
         let lane = least(rest);
-        let heads = block.standing.heads[lane];
         let node = number.wrapping_mul(ROUTERS).wrapping_add(lane);
-        let wanted = &mut block.lanes.wanted;
         route(
             relation,
             frame,
             room,
             node,
             lane,
-            heads,
+            heads[lane],
             inbox,
-            &mut block.marks,
+            marks,
             wanted,
         );
-        tally(lane, heads, &mut block.tallies.routed);
+        tally(lane, heads[lane], routes);
         rest &= rest - 1;
     }
 }
