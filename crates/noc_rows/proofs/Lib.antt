@@ -58,3 +58,5 @@ pub mod RouterLemmas
 pub mod AskedLemmas
 pub mod GrantLemmas
 pub mod AllocateLaws
+pub mod RouteLemmas
+pub mod RouteLaws

@@ -150,7 +150,8 @@ pub record ShowsGrants (a b : Allocation) (outs : ℕ) (v : View) : Type 0 where
   pub lost : (k : ℕ) → k < size_of v.site → has_bit b.lost k ≡ (not (has_bit b.granted k) && is_some (ask_of (view_claim v k)))
   pub taken : (o : ℕ) → o < size_of v.site → has_bit outs o ≡ is_some (slice_index_or (view_round v).grants o None)
   pub column : b.column ≡ record a.column { wanted = b.column.wanted; idle = less a.column.idle outs; supplied = bit_or a.column.supplied b.granted }
-  pub turns : (o : ℕ) → o < size_of v.site → ShowsPointer (size_of v.site) (b.marks.turn o) 0 (turn_at (arbiters_after (view_round v) v.arbiters).channels o).pointer
+  pub turns : (o : ℕ) → o < size_of v.site
+      → ShowsPointer (size_of v.site) (b.marks.turn o) 0 (turn_at (arbiters_after (view_round v) v.arbiters).channels o).pointer
   pub phases : (k : ℕ) → k < size_of v.site → ShowsPhase b.column b.marks v.site k (phase_granted v k)
   pub owners : (o k : ℕ) → o < size_of v.site → slice_index_or (view_round v).grants o None ≡ Some k → b.marks.owner o ≡ k
   pub others : (o : ℕ) → o < size_of v.site → slice_index_or (view_round v).grants o None ≡ None → b.marks.owner o ≡ a.marks.owner o

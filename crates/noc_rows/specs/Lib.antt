@@ -18,3 +18,5 @@ pub mod InRows
 pub mod Wires
 pub mod Moves
 pub mod Grants
+pub mod Routed
+pub mod Frames

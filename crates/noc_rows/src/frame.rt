@@ -1,6 +1,7 @@
 //! What is the same for all routers of a network.
 
-ghost use Rattle.std.specs.Prelude.{◌≡◌, ◌+◌, ◌*◌, ◌<◌, ◌≤◌, IfSome};
+ghost use Rattle.std.specs.Prelude.{◌≡◌, ◌≢◌, ℕ, ◌+◌, ◌*◌, ◌<◌, ◌≤◌, IfSome};
+ghost use Rattle.noc_rows.specs.Frames.{IsPlaced, IsPlacedAs};
 ghost use Rattle.noc_route.specs.Routes.{IsRelation};
 ghost use Rattle.noc_topo.specs.Shape.{ports as ports_of};
 ghost use Rattle.noc_rows.specs.Fields.{IsFields};
@@ -51,6 +52,8 @@ impl Frame {
         ensures fields { IfSome result (λ frame. IsFields (ports_of relation.now.grid) frame.fields) }
         ensures width { IfSome result (λ frame. frame.fields.width ≡ relation.now.vcs) }
         ensures places { IfSome result (λ frame. planes_of frame.place_bits ≡ words_of 5 places) }
+        ensures channels { IfSome result (λ frame. (k : ℕ) → k < ports_of relation.now.grid * relation.now.vcs → IsPlaced relation.now.vcs frame k) }
+        ensures few { IfSome result (λ frame. ports_of relation.now.grid * relation.now.vcs ≤ 31) }
     {
         let vcs = relation.vcs();
         let ports = relation.shape().ports();
@@ -81,13 +84,14 @@ impl Frame {
 
     // Where one channel is, and where it leads.
     fn place(&mut self, index: usize)
-        requires { index < 31 }
+        requires index { index < 31 }
+        requires some { 0 < self.old.vcs }
+        ensures here { IsPlaced self.old.vcs self.new index }
+        ensures others { (k : ℕ) → k ≢ index → IsPlacedAs self.old self.new k }
+        ensures vcs { self.new.vcs ≡ self.old.vcs }
         ensures fields { self.new.fields ≡ self.old.fields }
         ensures places { self.new.place_bits ≡ self.old.place_bits }
     {
-        if self.vcs == 0 {
-            return;
-        }
         let port = index / self.vcs;
         let vc = index % self.vcs;
         self.port_of[index] = port as u8;

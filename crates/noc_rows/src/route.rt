@@ -1,83 +1,146 @@
 //! Heads are routed.
 
-use crate::block::Block;
+ghost use Rattle.std.specs.Prelude.{◌≡◌, ◌≢◌, ℕ, ◌+◌, ◌*◌, ◌^◌, ◌<◌, ◌≤◌, true, false, slice_index};
+ghost use Rattle.noc_packet.specs.Set.{has_bit};
+ghost use Rattle.noc_packet.specs.declared.packet.Flit.{Flit};
+ghost use Rattle.noc_route.specs.Routes.{set_at, width};
+ghost use Rattle.noc_rows.specs.FlitWords.{FitsWord, flit_word};
+ghost use Rattle.noc_rows.specs.Grants.{KeepsPlaces};
+ghost use Rattle.noc_rows.specs.Routed.{HasRouted, HasRoutes, ring_at, routing_at, sets_by};
+ghost use Rattle.noc_rows.specs.Rows.{marks_at, word};
+ghost use Rattle.noc_rows.specs.Wires.{room_of};
+
 use crate::frame::Frame;
-use crate::lanes::{ROUTERS, least};
-use crate::marks::tally;
-use crate::wires::Wires;
+use crate::lanes::{CHANNELS, ROUTERS, Row, least, put};
+use crate::marks::{Marks, tally};
+use crate::room::Room;
+use crate::wires::Inbox;
 use crate::word::{class, destination};
 use noc_packet::ChannelSet;
 use noc_route::Relation;
 
-/// Each head of a block waits for one of the channels that it may take.
+/// Each head of these routers of a block waits for one of the channels that it may take. `number` is the block's.
 pub fn route_all(
     relation: &Relation,
     frame: &Frame,
+    room: Room,
     number: usize,
-    block: &mut Block,
-    wires: &Wires,
-) {
-    let mut heading = block.work.heading;
-    while heading != 0 {
-        route(relation, frame, number, least(heading), block, wires);
-        heading &= heading - 1;
+    heading: u32,
+    heads: &Row,
+    inbox: &Inbox,
+    marks: &mut Marks,
+    wanted: &mut Row,
+    routes: &mut [u32; CHANNELS],
+)
+    ensures here { width relation.now.grid relation.now.vcs ≤ 31 → number < 2 ^ 32 → (k : ℕ) → has_bit heading k ≡ true → HasRoutes (word heads.now k) (ring_at (room_of room) inbox.now marks.old.first k) (sets_by relation.now frame.now (number * 32 + k)) (routing_at marks.old wanted.old routes.old k) (routing_at marks.new wanted.new routes.new k) }
+    ensures others { width relation.now.grid relation.now.vcs ≤ 31 → number < 2 ^ 32 → (k : ℕ) → has_bit heading k ≡ false → routing_at marks.new wanted.new routes.new k ≡ routing_at marks.old wanted.old routes.old k }
+    ensures places { KeepsPlaces marks.old marks.new }
+{
+    let mut rest = heading;
+    while rest != 0 {
+        let lane = least(rest);
+        let node = number.wrapping_mul(ROUTERS).wrapping_add(lane);
+        route(
+            relation,
+            frame,
+            room,
+            node,
+            lane,
+            heads[lane],
+            inbox,
+            marks,
+            wanted,
+        );
+        tally(lane, heads[lane], routes);
+        rest &= rest - 1;
     }
 }
 
-// .. in one router.
+// Each of these heads of a router waits for one of the channels that it may take, and those are wanted.
 fn route(
     relation: &Relation,
     frame: &Frame,
-    number: usize,
+    room: Room,
+    node: usize,
     lane: usize,
-    block: &mut Block,
-    wires: &Wires,
-) {
-    let lane = lane % ROUTERS;
-    let node = number.wrapping_mul(ROUTERS).wrapping_add(lane);
-    let mut rest = block.standing.heads[lane];
-    let mut wanted = block.lanes.wanted[lane];
+    heads: u32,
+    inbox: &Inbox,
+    marks: &mut Marks,
+    wanted: &mut Row,
+)
+    requires lane { lane < 32 }
+    ensures here { width relation.now.grid relation.now.vcs ≤ 31 → HasRouted heads (ring_at (room_of room) inbox.now marks.old.first lane) (sets_by relation.now frame.now node) (marks_at marks.old lane) (marks_at marks.new lane) (word wanted.old lane) (word wanted.new lane) }
+    ensures others { (k : ℕ) → k ≢ lane → marks_at marks.new k ≡ marks_at marks.old k }
+    ensures wanted_others { (k : ℕ) → k ≢ lane → word wanted.new k ≡ word wanted.old k }
+    ensures places { KeepsPlaces marks.old marks.new }
+{
+    let mut rest = heads;
+    let mut all = wanted[lane];
     while rest != 0 {
         let input = least(rest);
         let channel = lane * 32 + input;
-        let word = wires.get(number, channel, block.marks.first[channel]);
+        let word = inbox.first(room, channel, marks.first[channel]);
         let set = set_of(relation, frame, node, input, word);
-        block.marks.set[channel] = set;
-        wanted |= set;
+        marks.set[channel] = set;
+        all |= set;
         rest &= rest - 1;
     }
-    block.lanes.wanted[lane] = wanted;
-    tally(lane, block.standing.heads[lane], &mut block.tallies.routed);
+    put(wanted, lane, all);
 }
 
 // The channels that the packet of a flit may take.
-fn set_of(relation: &Relation, frame: &Frame, node: usize, input: usize, word: u64) -> u32 {
-    let class = class(word);
-    let dst = destination(word);
-    let input = input % 32;
+fn set_of(relation: &Relation, frame: &Frame, node: usize, input: usize, word: u64) -> u32
+    requires input { input < 32 }
+    ensures { width relation.now.grid relation.now.vcs ≤ 31 → (f : Flit) → FitsWord f → word ≡ flit_word f → result ≡ sets_by relation.now frame.now node input f }
+{
     let port = usize::from(frame.port_of[input]);
     let vc = usize::from(frame.vc_of[input]);
+    set_for(relation, node, port, vc, class(word), destination(word))
+}
+
+// The channels that a packet of this class may take, which came by this port and virtual channel; none where there is
+// no such.
+fn set_for(
+    relation: &Relation,
+    node: usize,
+    port: usize,
+    vc: usize,
+    class: usize,
+    dst: usize,
+) -> u32
+    ensures { width relation.now.grid relation.now.vcs ≤ 31 → result ≡ set_at relation.now class node port vc dst }
+{
     let nodes = relation.shape().nodes();
-    let fits = class < relation.classes() && node < nodes && dst < nodes;
-    if fits && port < relation.shape().ports() && vc < relation.vcs() {
-        word_of(relation.permitted(class, node, port, vc, dst))
+    if class >= relation.classes() || node >= nodes || dst >= nodes {
+        return 0;
+    }
+    if port >= relation.shape().ports() || vc >= relation.vcs() {
+        return 0;
+    }
+    word_of(relation.permitted(class, node, port, vc, dst))
+}
+
+// A set of channels below 32, as a word.
+fn word_of(set: ChannelSet) -> u32
+    ensures { ((k : ℕ) → has_bit set k ≡ true → k < 32) → result ≡ set }
+{
+    let mut rest = set;
+    let mut word = 0u32;
+    while let Some(channel) = rest.least_common(&rest) {
+        word |= bit_of(channel);
+        rest = rest.without(channel);
+    }
+    word
+}
+
+// A channel below 32 alone.
+#[inline(always)]
+fn bit_of(channel: usize) -> u32
+    ensures { channel < 32 → result ≡ 2 ^ channel }
+{
+    if channel < 32 {
+        1u32 << channel as u32
     } else {
         0
     }
-}
-
-// The members of a set that a word holds.
-fn word_of(set: ChannelSet) -> u32 {
-    let mut rest = set;
-    let mut word = 0u32;
-    for _ in 0..32u32 {
-        match rest.least_common(&rest) {
-            Some(channel) => {
-                word |= 1u32 << (channel % 32) as u32;
-                rest = rest.without(channel);
-            }
-            None => break,
-        }
-    }
-    word
 }

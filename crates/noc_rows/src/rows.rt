@@ -128,15 +128,7 @@ impl Rows {
         for block in self.blocks.iter_mut() {
             if block.awake {
                 let frame = &self.frame;
-                allocate_all(
-                    frame,
-                    block.work.asking,
-                    &mut block.lanes,
-                    &mut block.marks,
-                    &mut block.decided,
-                    &mut block.tallies,
-                );
-                route_all(relation, frame, number, block, &self.wires);
+                grant_and_route(relation, frame, number, block, &self.wires);
                 move_all(
                     frame,
                     number,
@@ -280,6 +272,38 @@ fn stand_one(frame: &Frame, block: &mut Block)
     block.work.heading = pending.heading;
     block.work.asking = pending.asking;
     block.decided = DecidedRows::NONE;
+}
+
+// Output channels are granted and heads are routed in a block.
+fn grant_and_route(
+    relation: &Relation,
+    frame: &Frame,
+    number: usize,
+    block: &mut Block,
+    wires: &Wires,
+) {
+    allocate_all(
+        frame,
+        block.work.asking,
+        &mut block.lanes,
+        &mut block.marks,
+        &mut block.decided,
+        &mut block.tallies,
+    );
+    if number < wires.inboxes.len() {
+        route_all(
+            relation,
+            frame,
+            wires.room,
+            number,
+            block.work.heading,
+            &block.standing.heads,
+            &wires.inboxes[number],
+            &mut block.marks,
+            &mut block.lanes.wanted,
+            &mut block.tallies.routed,
+        );
+    }
 }
 
 // What has happened in a block is counted, and takes effect.

@@ -1,4 +1,4 @@
-use Rattle.std.proofs.Common.{◌<◌, ◌^◌, arith}
+use Rattle.std.proofs.Common.{arith}
 use Rattle.noc_rows.proofs.AskedLemmas.{alike, asks-apart, asks-some}
 use Rattle.noc_rows.proofs.GrantLemmas.{allocated-from, same-allocation}
 use Rattle.noc_rows.proofs.allocate.allocate.Goals as goal

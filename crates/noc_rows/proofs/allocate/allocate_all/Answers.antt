@@ -1,6 +1,6 @@
-use Rattle.std.proofs.Common.{◌≡◌, ◌<◌, ◌^◌, ◌∙◌, ap, arith, sym}
+use Rattle.std.proofs.Common.{◌<◌, ◌∙◌, ap, arith}
 use Rattle.noc_rows.specs.Grants.{leads_to}
-use Rattle.noc_rows.proofs.EachLemmas.{each-all, each-next, each-none}
+use Rattle.noc_rows.proofs.EachLemmas.{each-all, each-next}
 use Rattle.noc_rows.proofs.GrantLemmas.{allocated-at}
 use Rattle.noc_rows.proofs.allocate.allocate_all.Goals as goal
 

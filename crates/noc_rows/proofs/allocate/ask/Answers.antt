@@ -1,4 +1,4 @@
-use Rattle.std.proofs.Common.{◌≡◌, ◌+◌, ◌*◌, ◌≤◌, ◌<◌, ◌^◌, length, get_or, arith, sym, bit_and}
+use Rattle.std.proofs.Common.{◌<◌, ◌^◌, get_or, arith, sym}
 use Rattle.std.proofs.lemmas.Nat.{and_le_r}
 use Rattle.noc_rows.specs.Rows.{of_router}
 use Rattle.noc_rows.proofs.AskedLemmas.{all-done, asks-nobody, asks-same, asks-stepped, left-part, none-left}

@@ -1,9 +1,9 @@
-use Rattle.std.proofs.Common.{◌≡◌, ◌+◌, ◌*◌, ◌<◌, ◌^◌, ◌∙◌, length, get_or, ap, arith, subst, sym}
+use Rattle.std.proofs.Common.{◌≡◌, ◌<◌, ◌∙◌, get_or, ap, arith, subst, sym}
 use Rattle.std.proofs.lemmas.Bool.{eqb-true}
 use Rattle.std.proofs.lemmas.Nat.{pow_pos}
 use Rattle.noc_packet.specs.Set.{has_bit}
 use Rattle.noc_rows.specs.Grants.{HasBound, leads_by, leads_to}
-use Rattle.noc_rows.specs.Rows.{marks_at, of_router}
+use Rattle.noc_rows.specs.Rows.{marks_at}
 use Rattle.noc_rows.specs.Turns.{first_bit, mask_past}
 use Rattle.noc_rows.proofs.GrantLemmas.{bound-turned, first-is}
 use Rattle.noc_rows.proofs.PassLemmas.{power-members}

@@ -1,11 +1,11 @@
-use Rattle.std.proofs.Common.{◌≡◌, ◌-◌, ◌<◌, ◌^◌, ◌∙◌, refl, ap, arith, get_or, subst, sym, w32, bit_and, bit_or}
+use Rattle.std.proofs.Common.{◌-◌, ◌<◌, ◌^◌, ◌∙◌, refl, ap, arith, get_or, subst, sym, w32, bit_and, bit_or}
 use Rattle.std.specs.Prelude.{◌&&◌, not}
 use Rattle.std.specs.Int.{trailing_zeros}
 use Rattle.std.proofs.lemmas.Bool.{and_parts}
 use Rattle.noc_packet.specs.Set.{has_bit}
 use Rattle.noc_rows.specs.Grants.{HasGranted, leads_by, leads_to}
 use Rattle.noc_rows.specs.Rows.{marks_at}
-use Rattle.noc_rows.specs.Turns.{first_bit, in_turn, mask_past}
+use Rattle.noc_rows.specs.Turns.{in_turn, mask_past}
 use Rattle.noc_rows.proofs.AskedLemmas.{all-done, in-word, left-part, none-left, not-done, not-left}
 use Rattle.noc_rows.proofs.GrantLemmas.{bound-at, granted-next, granted-none, granted-same}
 use Rattle.noc_rows.proofs.allocate.grant_all.Goals as goal

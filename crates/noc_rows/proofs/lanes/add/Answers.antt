@@ -1,4 +1,4 @@
-use Rattle.std.proofs.Common.{◌≡◌, ◌^◌, ◌<◌, Bool, true, false, get_or, get_or-set_same, length, refl, ap, ◌∙◌, arith, bit_or}
+use Rattle.std.proofs.Common.{◌≡◌, ◌^◌, Bool, true, false, get_or, get_or-set_same, refl, ap, ◌∙◌, arith, bit_or}
 use Rattle.std.specs.Prelude.{◌||◌}
 use Rattle.noc_packet.specs.Set.{has_bit}
 use Rattle.noc_packet.proofs.SetLemmas.{either_members}

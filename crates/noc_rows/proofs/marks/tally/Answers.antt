@@ -1,4 +1,4 @@
-use Rattle.std.proofs.Common.{◌≡◌, ◌≢◌, ◌+◌, ◌*◌, ◌<◌, ◌^◌, length, get_or, arith, sym, ap, ◌∙◌}
+use Rattle.std.proofs.Common.{◌≡◌, ◌+◌, ◌*◌, ◌<◌, get_or, arith, sym, ap, ◌∙◌}
 use Rattle.noc_rows.specs.Bits.{plus}
 use Rattle.noc_rows.specs.Rows.{of_router}
 use Rattle.noc_rows.proofs.EachLemmas.{each-next}

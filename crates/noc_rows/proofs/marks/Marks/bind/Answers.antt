@@ -1,4 +1,4 @@
-use Rattle.std.proofs.Common.{◌≡◌, ◌+◌, ◌*◌, ◌<◌, ◌∙◌, length, get_or, refl, ap₂, arith, bit_or}
+use Rattle.std.proofs.Common.{◌+◌, ◌*◌, ◌<◌, get_or, refl, ap₂, arith, bit_or}
 use Rattle.noc_rows.proofs.GrantLemmas.{bound-at, bound-lists, same-marks}
 use Rattle.noc_rows.proofs.RouterLemmas.{ports-other, router-other}
 use Rattle.noc_rows.proofs.WordLemmas.{power-is}

@@ -1,0 +1,117 @@
+-- Heads are routed one by one.
+use Rattle.std.proofs.Common.{◌≡◌, ◌≢◌, ℕ, ◌-◌, ◌^◌, ◌<◌, Bool, true, false, List, ◌∷◌, get_or, Option, Some, refl, ap, sym, ◌∙◌, subst, arith, inl, inr, bit_and, bit_or}
+use Rattle.std.specs.Prelude.{◌⊎◌, ◌&&◌, ◌||◌, not, nat_eq}
+use Rattle.std.proofs.lemmas.Bool.{cases_eq, eq-eqb, ne_eqb, false≢true, true≢false, and_parts}
+use Rattle.noc_packet.specs.Set.{has_bit, IsLeast}
+use Rattle.noc_packet.specs.declared.packet.Flit.{Flit}
+use Rattle.noc_packet.proofs.SetLemmas.{either_members, has_bit-zero}
+use Rattle.noc_rows.specs.Column.{RouterMarks}
+use Rattle.noc_rows.specs.FlitWords.{FitsWord, flit_word}
+use Rattle.noc_rows.specs.Grants.{AreTallied}
+use Rattle.noc_rows.specs.Routed.{HasRouted, HasRoutes, Routing}
+use Rattle.noc_rows.proofs.AskedLemmas.{left-part, or-false, or-left, or-right, same-word}
+use Rattle.noc_rows.proofs.EachLemmas.{left-members}
+use Rattle.noc_rows.proofs.PassLemmas.{power-members}
+
+-- those of the heads that are not left wait, each for its set
+pub record AreRouted (heads : ℕ) (ring : ℕ → List ℕ) (sets : ℕ → Flit → ℕ) (old now : List ℕ) (wanted all left : ℕ) : Type 0 where
+  pub part : (k : ℕ) → has_bit left k ≡ true → has_bit heads k ≡ true
+  pub each : (k : ℕ) (f : Flit) (rest : List ℕ) → has_bit heads k ≡ true → has_bit left k ≡ false → FitsWord f → ring k ≡ flit_word f ∷ rest → get_or now k 0 ≡ sets k f
+  pub wants : (k o : ℕ) → has_bit heads k ≡ true → has_bit left k ≡ false → has_bit (get_or now k 0) o ≡ true → has_bit all o ≡ true
+  pub still : (o : ℕ) → has_bit wanted o ≡ true → has_bit all o ≡ true
+  pub kept : (k : ℕ) → has_bit heads k ≡ false → get_or now k 0 ≡ get_or old k 0
+
+module _ (heads : ℕ) (ring : ℕ → List ℕ) (sets : ℕ → Flit → ℕ) (old : List ℕ) (wanted : ℕ) where
+  pub routed-none : AreRouted heads ring sets old old wanted wanted heads
+  routed-none = record {
+    part = λ k e. e;
+    each = λ k f rest a b. absurd (true≢false (sym a ∙ b));
+    wants = λ k o a b. absurd (true≢false (sym a ∙ b));
+    still = λ o e. e;
+    kept = λ k e. refl;
+  }
+
+  pub routed-next : (now new : List ℕ) (all left t set : ℕ) → 0 < left → left < 2 ^ 32 → IsLeast (has_bit left) (Some t) → AreRouted heads ring sets old now wanted all left
+      → ((f : Flit) (rest : List ℕ) → FitsWord f → ring t ≡ flit_word f ∷ rest → set ≡ sets t f)
+      → get_or new t 0 ≡ set → ((k : ℕ) → k ≢ t → get_or new k 0 ≡ get_or now k 0) → AreRouted heads ring sets old new wanted (bit_or all set) (bit_and left (left - 1))
+  routed-next now new all left t set some fits least are is here others = record {
+    part = left-part heads left t some fits least are.part;
+    each = λ k f rest a b. each k f rest a b (cases_eq k t);
+    wants = λ k o a b e. wants k o a b e (cases_eq k t);
+    still = λ o e. either_members all set o ∙ or-left (has_bit all o) (has_bit set o) (are.still o e);
+    kept = λ k e. others k (λ same. true≢false (sym (are.part t least.0) ∙ ap (has_bit heads) (sym same) ∙ e)) ∙ are.kept k e;
+  }
+    where
+      was : (k : ℕ) → k ≢ t → has_bit (bit_and left (left - 1)) k ≡ false → has_bit left k ≡ false
+      was k other e = sym (and-true (has_bit left k)) ∙ ap (λ b. has_bit left k && not b) (sym (ne_eqb k t other)) ∙ sym (left-members left t k some fits least) ∙ e
+        where
+          and-true : (b : Bool) → (b && true) ≡ b
+          and-true true = refl
+          and-true false = refl
+
+      each : (k : ℕ) (f : Flit) (rest : List ℕ) → has_bit heads k ≡ true → has_bit (bit_and left (left - 1)) k ≡ false → (k ≡ t) ⊎ (k ≢ t) → FitsWord f → ring k ≡ flit_word f ∷ rest → get_or new k 0 ≡ sets k f
+      each k f rest a b (inl same) word_fits first = ap (λ n. get_or new n 0) same ∙ here ∙ is f rest word_fits (ap ring (sym same) ∙ first) ∙ ap (λ n. sets n f) (sym same)
+      each k f rest a b (inr other) word_fits first = others k other ∙ are.each k f rest a (was k other b) word_fits first
+
+      wants : (k o : ℕ) → has_bit heads k ≡ true → has_bit (bit_and left (left - 1)) k ≡ false → has_bit (get_or new k 0) o ≡ true → (k ≡ t) ⊎ (k ≢ t) → has_bit (bit_or all set) o ≡ true
+      wants k o a b e (inl same) = either_members all set o ∙ or-right (has_bit all o) (has_bit set o) (ap (λ n. has_bit n o) (sym here ∙ ap (λ n. get_or new n 0) (sym same)) ∙ e)
+      wants k o a b e (inr other) = either_members all set o ∙ or-left (has_bit all o) (has_bit set o) (are.wants k o a (was k other b) (ap (λ n. has_bit n o) (sym (others k other)) ∙ e))
+
+  pub routed-all : (m : RouterMarks) (new : List ℕ) (all left : ℕ) → left ≡ 0 → m.set ≡ (λ k. get_or old k 0) → AreRouted heads ring sets old new wanted all left → HasRouted heads ring sets m (record m { set = λ k. get_or new k 0 }) wanted all
+  routed-all m new all left none is are = record {
+    each = λ k f rest a. are.each k f rest a (empty k);
+    wants = λ k o a. are.wants k o a (empty k);
+    still = are.still;
+    kept = λ k e. are.kept k e ∙ sym (ap (λ (s : ℕ → ℕ). s k) is);
+    rest = refl;
+  }
+    where
+      empty : (k : ℕ) → has_bit left k ≡ false
+      empty k = ap (λ n. has_bit n k) none ∙ has_bit-zero k
+
+-- ---- the members of a set, from the least on, as a word
+pub members-none : (set k : ℕ) → has_bit 0 k ≡ (has_bit set k && not (has_bit set k))
+members-none set k = has_bit-zero k ∙ sym (at (has_bit set k))
+  where
+    at : (b : Bool) → (b && not b) ≡ false
+    at true = refl
+    at false = refl
+
+pub next-part : (set rest next x : ℕ) → ((k : ℕ) → has_bit rest k ≡ true → has_bit set k ≡ true) → ((k : ℕ) → has_bit next k ≡ (not (nat_eq k x) && has_bit rest k)) → (k : ℕ) → has_bit next k ≡ true → has_bit set k ≡ true
+next-part set rest next x part is k e = part k (and_parts (not (nat_eq k x)) (has_bit rest k) (sym (is k) ∙ e)).1
+
+pub members-next : (set rest next word bit x : ℕ) → ((k : ℕ) → has_bit rest k ≡ true → has_bit set k ≡ true) → ((k : ℕ) → has_bit next k ≡ (not (nat_eq k x) && has_bit rest k)) → has_bit rest x ≡ true → bit ≡ 2 ^ x
+    → ((k : ℕ) → has_bit word k ≡ (has_bit set k && not (has_bit rest k))) → (k : ℕ) → has_bit (bit_or word bit) k ≡ (has_bit set k && not (has_bit next k))
+members-next set rest next word bit x part is member alone are k =
+    either_members word bit k ∙ ap (λ b. has_bit word k || b) (ap (λ n. has_bit n k) alone ∙ power-members x k) ∙ ap (λ b. b || nat_eq k x) (are k) ∙ at (cases_eq k x) ∙ ap (λ b. has_bit set k && not b) (sym (is k))
+  where
+    at : (k ≡ x) ⊎ (k ≢ x) → ((has_bit set k && not (has_bit rest k)) || nat_eq k x) ≡ (has_bit set k && not (not (nat_eq k x) && has_bit rest k))
+    at (inl same) =
+        let in_set : has_bit set k ≡ true = part k (ap (has_bit rest) same ∙ member) in
+        let in_rest : has_bit rest k ≡ true = ap (has_bit rest) same ∙ member in
+        rw (in_set, in_rest, eq-eqb k x same) refl
+    at (inr other) = rw (ne_eqb k x other) (or-false (has_bit set k && not (has_bit rest k)))
+
+pub members-all : (set rest word : ℕ) → ((k : ℕ) → has_bit rest k ≡ false) → ((k : ℕ) → has_bit word k ≡ (has_bit set k && not (has_bit rest k))) → word ≡ set
+members-all set rest word none are = same-word word set (λ k. are k ∙ ap (λ b. has_bit set k && not b) (none k) ∙ and-true (has_bit set k))
+  where
+    and-true : (b : Bool) → (b && true) ≡ b
+    and-true true = refl
+    and-true false = refl
+
+pub not-both : (b : Bool) → (b && b) ≡ false → b ≡ false
+not-both true e = absurd (true≢false e)
+not-both false e = refl
+
+-- a router is routed, from what it had
+pub routes-from : (heads node there : ℕ) (sets : ℕ → ℕ → Flit → ℕ) (rings : List ℕ → ℕ → List ℕ) (now first : List ℕ) (a c b : Routing) → now ≡ first → node ≡ there → a ≡ c
+    → HasRouted heads (rings now) (sets node) a.marks b.marks a.wanted b.wanted → AreTallied heads a.routes b.routes → HasRoutes heads (rings first) (sets there) c b
+routes-from heads node there sets rings now first a c b ef en ea routed counted =
+    subst (λ x. HasRoutes heads (rings first) (sets there) x b) ea
+    (record { routed = subst (λ f. HasRouted heads (rings f) (sets there) a.marks b.marks a.wanted b.wanted) ef (subst (λ n. HasRouted heads (rings now) (sets n) a.marks b.marks a.wanted b.wanted) en routed); counted = counted })
+
+abbrev the-routing : RouterMarks → ℕ → List ℕ → Routing
+the-routing marks wanted routes = record { marks = marks; wanted = wanted; routes = routes }
+
+pub same-routing : (m w : RouterMarks) (a b : ℕ) (r s : List ℕ) → m ≡ w → a ≡ b → r ≡ s → the-routing m a r ≡ the-routing w b s
+same-routing m w a b r s em ea er = ap (λ x. the-routing x a r) em ∙ ap (λ x. the-routing w x r) ea ∙ ap (the-routing w b) er

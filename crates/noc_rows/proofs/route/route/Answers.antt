@@ -1,0 +1,52 @@
+use Rattle.std.proofs.Common.{◌≡◌, ◌+◌, ◌*◌, ◌<◌, get_or, set, refl, ap, subst, sym, arith, ◌∙◌}
+use Rattle.noc_rows.specs.FlitWords.{flit_word}
+use Rattle.noc_rows.specs.Routed.{HasRouted, ring_at, sets_by}
+use Rattle.noc_rows.specs.Rows.{marks_at, of_router, word}
+use Rattle.noc_rows.specs.Wires.{ring_in, room_of}
+use Rattle.noc_rows.specs.declared.marks.Marks.{Marks}
+use Rattle.noc_rows.proofs.RouteLemmas.{routed-none, routed-next, routed-all}
+use Rattle.noc_rows.proofs.RouterLemmas.{entry-here, entry-other, router-other}
+use Rattle.noc_rows.proofs.route.route.Goals as goal
+
+pub loop-rest-init : goal.loop-rest-init
+loop-rest-init c = record { here = λ few. routed-none _ _ _ _ _; others = λ k other. refl; same = refl }
+
+pub loop-rest-preserved : goal.loop-rest-preserved
+loop-rest-preserved c =
+    let some : 0 < c.loop-rest.rest = omega (arith, c.loop-rest-test.true) in
+    let lane = c.args.lane in
+    let t = c.least-input.result in
+    let least = c.least-input.ensures.least some in
+    let inv = c.loop-rest.invariant in
+    let sets = c.loop-rest.marks.set in
+    let firsts : c.loop-rest.marks.first ≡ c.args.marks.now.first = ap (λ (m : Marks). m.first) inv.same in
+    record {
+      here = λ few. routed-next _ _ _ _ _ _ _ _ c.loop-rest.rest t c.set_of-set.result some (omega (arith, c.loop-rest.auto.rest-fits)) least (inv.here few)
+          (λ f rest fits is. c.set_of-set.ensures few f fits (c.first-word.ensures (flit_word f) rest (ap (λ xs. ring_in (room_of c.args.room) c.args.inbox.now (lane * 32 + t) (get_or xs (lane * 32 + t) 0)) firsts ∙ is)))
+          (entry-here sets lane t c.set_of-set.result c.least-input.ensures.within (omega arith))
+          (entry-other sets lane t c.set_of-set.result c.least-input.ensures.within);
+      others = λ k other. router-other sets lane t c.set_of-set.result c.least-input.ensures.within k other ∙ inv.others k other;
+      same = ap (λ (m : Marks). record m { set = set sets (lane * 32 + t) c.set_of-set.result }) inv.same;
+    }
+
+pub returns-clause-here : goal.returns-clause-here
+returns-clause-here c few =
+    let lane = c.args.lane in
+    let inv = c.loop-rest.invariant in
+    let ring = ring_at (room_of c.args.room) c.args.inbox.now c.args.marks.now.first lane in
+    let permits = sets_by c.args.relation.now c.args.frame.now c.args.node in
+    let before = marks_at c.args.marks.now lane in
+    let had = word c.args.wanted.now lane in
+    subst (λ w. HasRouted c.args.heads ring permits before w had (word c.put.new.row lane)) (sym (ap (λ (m : Marks). marks_at m lane) inv.same))
+    (subst (λ n. HasRouted c.args.heads ring permits before (record before { set = λ k. get_or (of_router c.loop-rest.marks.set lane) k 0 }) had n) (sym c.put.ensures.here)
+    (routed-all _ _ _ _ _ before (of_router c.loop-rest.marks.set lane) c.loop-rest.all c.loop-rest.rest c.loop-rest-test.false refl (inv.here few)))
+
+pub returns-clause-others : goal.returns-clause-others
+returns-clause-others c k other =
+    let inv = c.loop-rest.invariant in
+    ap (λ (m : Marks). marks_at m k) inv.same ∙ ap (λ xs. record (marks_at c.args.marks.now k) { set = λ i. get_or xs i 0 }) (inv.others k other)
+
+pub returns-clause-places : goal.returns-clause-places
+returns-clause-places c =
+    let inv = c.loop-rest.invariant in
+    record { lead = ap (λ (m : Marks). m.lead) inv.same; back = ap (λ (m : Marks). m.back) inv.same; first = ap (λ (m : Marks). m.first) inv.same }
