@@ -32,8 +32,8 @@ use std::alloc::Global;
 
 /// A network whose routers are in rows.
 ///
-/// Of its calls it is proved that they are safe and end, and of the passes over rows what `specs/Passes.antt` says of
-/// each lane. That it runs as the network does is not proved.
+/// Of its calls it is proved that they are safe and end, and of the parts of a cycle, as arrivals, grants, moves and
+/// counts, what they do to the words of each router. That it runs as the network does is not proved.
 #[derive(Drop)]
 pub struct Rows {
     frame: Frame,
