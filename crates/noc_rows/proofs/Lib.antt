@@ -49,6 +49,7 @@ pub mod InjectLemmas
 pub mod FrozenLemmas
 pub mod ComposeLemmas
 pub mod ArriveLaws
+pub mod FrameLemmas
 pub mod FrozenLaws
 pub mod SleepLaws
 pub mod OpeningLaws

@@ -24,7 +24,7 @@ use Rattle.noc_model.specs.Network.{Setup}
 use Rattle.noc_model.proofs.OpeningView.{opens}
 use Rattle.noc_rows.specs.Column.{Column, RouterMarks, AreWords, ShowsInput, ShowsOutput, ShowsChannels, ShowsTurns, ShowsMarks, ShowsPhase, ShowsHolder, sends_by, IsColumn}
 use Rattle.noc_rows.specs.Fields.{ShowsPointer}
-use Rattle.noc_rows.specs.Opening.{empty_column}
+use Rattle.noc_rows.specs.Opening.{AreEmptyMarks, AreSides, empty_column}
 use Rattle.noc_rows.specs.Planes.{number_at, ArePlanes, word_of, words_of}
 use Rattle.noc_rows.proofs.BitLemmas.{and_fits, or_fits}
 use Rattle.noc_rows.proofs.NetworkLaws.{good}
@@ -78,20 +78,7 @@ words-length (suc count) n = ap suc (words-length count (n / 2))
 zeros-number : (x : ℕ) → number_at (0 ∷ 0 ∷ 0 ∷ 0 ∷ 0 ∷ []) x ≡ 0
 zeros-number x = rw (has_bit-zero x) refl
 
--- ---- the marks of a router in which nothing is
-pub record AreEmptyMarks (m : RouterMarks) : Type 0 where
-  pub turn : (o : ℕ) → m.turn o ≡ 2 ^ 32 - 1
-  pub to_port : (q : ℕ) → m.to_port q ≡ 0
-  pub port_turn : (q : ℕ) → m.port_turn q ≡ 2 ^ 32 - 1
-
--- the channels of the links and of the local port, as sets
-pub record AreSides (site : Site) (links local : ℕ) : Type 0 where
-  pub link_fits : links < 2 ^ 32
-  pub local_fits : local < 2 ^ 32
-  pub link_is : (k : ℕ) → has_bit links k ≡ nat_lt k (local_port site.grid * site.vcs)
-  pub local_is : (k : ℕ) → has_bit local k ≡ (nat_le (local_port site.grid * site.vcs) k && nat_lt k (size_of site))
-
-module _ (site : Site) (starts : List (ℕ × Packet)) (ends : List ℕ) (m : RouterMarks) (links local : ℕ) (few : size_of site ≤ 31) (small : site.places < 32) (sides : AreSides site links local) (marks : AreEmptyMarks m) where
+module _ (site : Site) (starts : List (ℕ × Packet)) (ends : List ℕ) (m : RouterMarks) (links local : ℕ) (few : size_of site ≤ 31) (few_ports : ports site.grid ≤ 8) (small : site.places < 32) (sides : AreSides site.grid site.vcs links local) (marks : AreEmptyMarks m) where
   abbrev v : View
   v = opening_view site starts ends
 
@@ -198,8 +185,8 @@ module _ (site : Site) (starts : List (ℕ × Packet)) (ends : List ℕ) (m : Ro
   turns : ShowsTurns c m v
   turns = record {
     inputs = λ p l. all-ahead site.vcs (2 ^ 32 - 1) p _ refl (pointer-at (ports site.grid) site.vcs p l) (port-fits p l);
-    channels = λ o l. all-ahead (size_of site) (m.turn o) 0 _ (marks.turn o) (pointer-at (ports site.grid * site.vcs) (ports site.grid * site.vcs) o l) (omega (arith, few));
-    outputs = λ q i lq li. inl (ap (λ w. has_bit w i) (marks.port_turn q) ∙ ones i (omega (arith, li, few)) ∙ sym (ap (λ k. nat_le k (i / site.vcs)) (pointer-at (ports site.grid) (ports site.grid) q lq) ∙ le-leb 0 (i / site.vcs) (omega arith)));
+    channels = λ o l. all-ahead (size_of site) (m.turn o) 0 _ (marks.turn o (omega (arith, l, few))) (pointer-at (ports site.grid * site.vcs) (ports site.grid * site.vcs) o l) (omega (arith, few));
+    outputs = λ q i lq li. inl (ap (λ w. has_bit w i) (marks.port_turn q (omega (arith, lq, few_ports))) ∙ ones i (omega (arith, li, few)) ∙ sym (ap (λ k. nat_le k (i / site.vcs)) (pointer-at (ports site.grid) (ports site.grid) q lq) ∙ le-leb 0 (i / site.vcs) (omega arith)));
   }
     where
       port-fits : (p : ℕ) → p < ports site.grid → p * site.vcs + site.vcs ≤ 32
@@ -209,16 +196,19 @@ module _ (site : Site) (starts : List (ℕ × Packet)) (ends : List ℕ) (m : Ro
   shows-marks = record {
     phases = λ i l. subst (λ (y : Input). ShowsPhase c m site i y.phase) (sym (idle-input i)) tt;
     holders = λ o l. subst (λ h. ShowsHolder m o h) (sym (holder-is o l)) tt;
-    to_port = λ q i lq li. ap (λ w. has_bit w i) (marks.to_port q) ∙ has_bit-zero i ∙ ap (λ (y : Input). sends_by site.vcs q y.phase) (sym (idle-input i));
+    to_port = λ q i lq li. ap (λ w. has_bit w i) (marks.to_port q (omega (arith, lq, few_ports))) ∙ has_bit-zero i ∙ ap (λ (y : Input). sends_by site.vcs q y.phase) (sym (idle-input i));
   }
 
   -- the words of an empty router show its opening view
   pub empty-shows : IsColumn 5 c m v
   empty-shows = record { words = words; channels = channels; turns = turns; marks = shows-marks; sending = refl }
 
-module _ (net : Setup) (setup : IsGoodSetup net) (r : ℕ) (l : r < nodes net.relation.grid) (m : RouterMarks) (links local : ℕ) (few : ports net.relation.grid * net.relation.vcs ≤ 31) (small : net.places < 32) (sides : AreSides (site_at net r) links local) (marks : AreEmptyMarks m) where
+module _ (net : Setup) (setup : IsGoodSetup net) (r : ℕ) (l : r < nodes net.relation.grid) (m : RouterMarks) (links local : ℕ) (few : ports net.relation.grid * net.relation.vcs ≤ 31) (small : net.places < 32) (sides : AreSides net.relation.grid net.relation.vcs links local) (marks : AreEmptyMarks m) where
+  few-ports : ports net.relation.grid ≤ 8
+  few-ports = let d = setup.relation.table.grid.few_dimensions in omega (arith, d)
+
   -- .. of each router of a network
   pub opening-shows : IsColumn 5 (empty_column links local (words_of 5 net.places)) m (view_at net 0 r)
   opening-shows =
       subst (λ (v : View). IsColumn 5 (empty_column links local (words_of 5 net.places)) m v) (opens net (good net setup) r l)
-      (empty-shows (site_at net r) (starts_at net r) (ends_at net r) m links local few small sides marks)
+      (empty-shows (site_at net r) (starts_at net r) (ends_at net r) m links local few few-ports small sides marks)

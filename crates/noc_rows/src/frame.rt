@@ -1,10 +1,11 @@
 //! What is the same for all routers of a network.
 
-ghost use Rattle.std.specs.Prelude.{◌≡◌, ◌≢◌, ℕ, ◌+◌, ◌*◌, ◌<◌, ◌≤◌, IfSome};
+ghost use Rattle.std.specs.Prelude.{◌≡◌, ◌≢◌, ℕ, ◌+◌, ◌-◌, ◌*◌, ◌^◌, ◌<◌, ◌≤◌, ◌&&◌, IfSome, is_some, nat_le};
 ghost use Rattle.noc_rows.specs.Frames.{IsPlaced, IsPlacedAs};
 ghost use Rattle.noc_route.specs.Routes.{IsRelation};
-ghost use Rattle.noc_topo.specs.Shape.{ports as ports_of};
+ghost use Rattle.noc_topo.specs.Shape.{local_port, nodes as nodes_of, ports as ports_of};
 ghost use Rattle.noc_rows.specs.Fields.{IsFields};
+ghost use Rattle.noc_rows.specs.Opening.{AreSides};
 ghost use Rattle.noc_rows.specs.Planes.{words_of};
 ghost use Rattle.noc_rows.specs.Rows.{planes_of};
 
@@ -54,6 +55,10 @@ impl Frame {
         ensures places { IfSome result (λ frame. planes_of frame.place_bits ≡ words_of 5 places) }
         ensures channels { IfSome result (λ frame. (k : ℕ) → k < ports_of relation.now.grid * relation.now.vcs → IsPlaced relation.now.vcs frame k) }
         ensures few { IfSome result (λ frame. ports_of relation.now.grid * relation.now.vcs ≤ 31) }
+        ensures few_places { IfSome result (λ frame. places ≤ 16) }
+        ensures some { is_some result ≡ (nat_le (ports_of relation.now.grid * relation.now.vcs) 31 && nat_le places 16) }
+        ensures sides { IfSome result (λ frame. AreSides relation.now.grid relation.now.vcs frame.link_set frame.local_set) }
+        ensures numbers { IfSome result (λ frame. (frame.nodes ≡ nodes_of relation.now.grid) × (frame.vcs ≡ relation.now.vcs) × (frame.links ≡ local_port relation.now.grid) × (frame.places ≡ places)) }
     {
         let vcs = relation.vcs();
         let ports = relation.shape().ports();
@@ -91,6 +96,8 @@ impl Frame {
         ensures vcs { self.new.vcs ≡ self.old.vcs }
         ensures fields { self.new.fields ≡ self.old.fields }
         ensures places { self.new.place_bits ≡ self.old.place_bits }
+        ensures sides { (self.new.link_set ≡ self.old.link_set) × (self.new.local_set ≡ self.old.local_set) }
+        ensures numbers { (self.new.nodes ≡ self.old.nodes) × (self.new.links ≡ self.old.links) × (self.new.places ≡ self.old.places) }
     {
         let port = index / self.vcs;
         let vc = index % self.vcs;
@@ -114,6 +121,7 @@ impl Frame {
 // So many members, from 0 on.
 fn low_bits(count: usize) -> u32
     requires { count < 32 }
+    ensures { result ≡ 2 ^ count - 1 }
 {
     (1u32 << count as u32) - 1
 }

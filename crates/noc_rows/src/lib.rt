@@ -2,8 +2,10 @@
 //!
 //! What every channel needs in every cycle is done by loops over rows, which the compiler turns into vector
 //! instructions: each such pass has a contract, that the words of a router after it are those that its lane gives
-//! (`specs/Passes.antt`). What few channels need, as a grant or a tail, is done one by one; of these parts it is
-//! proved only that they are safe and end. README.md says what is proved of the whole, and what is not.
+//! (`specs/Passes.antt`). What few channels need, as a flit from the source, a grant, a head's route, a move or a tail,
+//! is done one by one; the contracts of these parts say router by router what the words and the counts then are
+//! (`specs/Arrive.antt`, `Grants.antt`, `Routed.antt`, `Moves.antt`, `Tallied.antt`). Laws in `proofs/*Laws.antt` say
+//! what this shows of a router's view. No contract joins them to a whole cycle yet.
 #![tactic(auto)]
 
 mod allocate;

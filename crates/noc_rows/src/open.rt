@@ -1,8 +1,8 @@
 //! Rows before the first cycle.
 
-ghost use Rattle.std.specs.Prelude.{◌≡◌};
-ghost use Rattle.noc_rows.specs.Opening.{empty_column};
-ghost use Rattle.noc_rows.specs.Rows.{column_of, planes_of};
+ghost use Rattle.std.specs.Prelude.{◌≡◌, ◌<◌, ℕ};
+ghost use Rattle.noc_rows.specs.Opening.{AreEmptyMarks, empty_column};
+ghost use Rattle.noc_rows.specs.Rows.{column_at, column_of, marks_at, planes_of};
 
 use crate::block::{Block, Sources, Work};
 use crate::column::{Lane, Lanes};
@@ -19,7 +19,10 @@ use noc_route::Relation;
 use std::alloc::Global;
 
 // Routers in which nothing is, with all credits.
-fn new_block(frame: &Frame) -> Block {
+fn new_block(frame: &Frame) -> Block
+    ensures columns { (k : ℕ) → k < 32 → column_at result.lanes k ≡ empty_column frame.now.link_set frame.now.local_set (planes_of frame.now.place_bits) }
+    ensures marks { (k : ℕ) → k < 32 → AreEmptyMarks (marks_at result.marks k) }
+{
     Block {
         lanes: Lanes::of(empty_lane(frame)),
         returned: ReturnedRows::NONE,

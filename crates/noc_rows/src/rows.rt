@@ -11,7 +11,7 @@ ghost use Rattle.noc_rows.specs.Wires.{room_of};
 
 use crate::allocate::allocate_all;
 use crate::block::Block;
-use crate::credits::{supply_all, take_credits};
+use crate::credits::return_credits;
 use crate::cycle::DecidedRows;
 use crate::flits::take_flits;
 use crate::frame::Frame;
@@ -32,8 +32,8 @@ use std::alloc::Global;
 
 /// A network whose routers are in rows.
 ///
-/// Of its calls it is proved that they are safe and end, and of the passes over rows what `specs/Passes.antt` says of
-/// each lane. That it runs as the network does is not proved.
+/// Of its calls it is proved that they are safe and end, and of the parts of a cycle, as arrivals, grants, moves and
+/// counts, what they do to the words of each router. That it runs as the network does is not proved.
 #[derive(Drop)]
 pub struct Rows {
     frame: Frame,
@@ -228,18 +228,7 @@ fn arrive_one(
     ensures lanes { (k : ℕ) → k < 32 → HasArrived (planes_of frame.now.place_bits) frame.now.link_set frame.now.local_set cycle (room_of room) starts.now block.old block.new inbox.old inbox.new k }
     ensures rest { block.new ≡ record block.old { lanes = block.new.lanes; returned = block.new.returned; arrived = block.new.arrived; sources = block.new.sources } }
 {
-    let rising = take_credits(
-        frame,
-        &mut block.lanes,
-        &mut block.returned,
-        &mut inbox.credits,
-    );
-    supply_all(
-        rising,
-        &block.returned.raised,
-        &block.marks,
-        &mut block.lanes.supplied,
-    );
+    return_credits(frame, block, &mut inbox.credits);
     let injecting = take_flits(
         frame,
         cycle,
