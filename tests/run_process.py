@@ -227,6 +227,22 @@ def late_packets(count):
     return TRAFFIC_HEADER + b"\n".join(rows) + b"\n", REPORT_HEADER + report
 
 
+def trace_cycle_by_cycle(calls):
+    """What a trace tells of a cycle goes out before the next cycle: a socket keeps apart what was written apart."""
+    ours, theirs = socket.socketpair(socket.AF_UNIX, socket.SOCK_SEQPACKET)
+    ran = subprocess.Popen([calls.program, "trace", "plain", "traffic"], cwd=calls.folder, stdout=theirs, stderr=subprocess.PIPE)
+    theirs.close()
+    pieces = []
+    while piece := ours.recv(1 << 16):
+        pieces.append(piece)
+    error = ran.communicate(timeout=SECONDS)[1]
+    told = [[line.split(b",")[0] for line in piece.splitlines() if not line.startswith(b"cycle")] for piece in pieces]
+    cycles = [int(it[0]) for it in told if it]
+    is_apart = all(len(set(it)) < 2 for it in told) and len(cycles) > 2 and cycles == sorted(set(cycles))
+    ended = subprocess.CompletedProcess(ran.args, ran.returncode, b"".join(pieces), error)
+    calls.count("a trace goes out cycle by cycle", is_apart and (ran.returncode, error) == (0, b""), ended)
+
+
 def pipe_that_closes_early(calls):
     """The reader takes one byte of a full pipe and goes: the report's first bytes are out, as many as the pipe holds."""
     traffic, report = late_packets(1000)
@@ -357,8 +373,8 @@ def bounded_memory(calls):
             calls.count(f"{megabytes} MB {words}", is_refused or is_answer or is_loader, ran)
 
 
-GROUPS = [inputs_that_cannot_be_read, inputs_at_the_limit, names, wrong_words, outputs_that_fail, pipe_that_closes_early, reports_cut_off,
-          fault_lines_in_one_write, order_of_faults, bytes_that_are_no_text, bounded_memory, refused_growths, cut_texts, worked_texts]
+GROUPS = [inputs_that_cannot_be_read, inputs_at_the_limit, names, wrong_words, outputs_that_fail, pipe_that_closes_early, trace_cycle_by_cycle,
+          reports_cut_off, fault_lines_in_one_write, order_of_faults, bytes_that_are_no_text, bounded_memory, refused_growths, cut_texts, worked_texts]
 
 
 def main():
