@@ -20,3 +20,4 @@ pub mod Moves
 pub mod Grants
 pub mod Routed
 pub mod Frames
+pub mod Carried
