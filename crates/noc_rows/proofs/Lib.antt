@@ -61,3 +61,7 @@ pub mod GrantLemmas
 pub mod AllocateLaws
 pub mod RouteLemmas
 pub mod RouteLaws
+pub mod FrozenWires
+pub mod CanMoveLaws
+pub mod NextWires
+pub mod OpeningWires
