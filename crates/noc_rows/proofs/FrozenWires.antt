@@ -22,10 +22,10 @@ pub record AreFrozenWires (net : Setup) (n : ℕ) (moved : ℕ → ℕ) (gone : 
   pub rings : (r i : ℕ) → r < nodes net.relation.grid → i < size net → s.ring (place_of r i) ≡ map flit_word (view_buffer (frozen_of net n r) i)
   pub no_flit : (r i : ℕ) → r < nodes net.relation.grid → i < 32 → s.comes (place_of r i) ≡ false
   pub no_credit : (r i : ℕ) → r < nodes net.relation.grid → i < 32 → s.returns (place_of r i) ≡ false
-  pub moved : (r : ℕ) → r < nodes net.relation.grid → AreMoved (frozen_of net n r) (moved r)
-  pub moved_below : (r : ℕ) → r < nodes net.relation.grid → AreBelow (size net) (moved r)
-  pub gone : (r i : ℕ) → r < nodes net.relation.grid → i < 32 → gone (place_of r i) ≡ has_bit (moved r) i
-  pub gone_below : (p : ℕ) → gone p ≡ true → p < nodes net.relation.grid * 32
+  pub moves : (r : ℕ) → r < nodes net.relation.grid → AreMoved (frozen_of net n r) (moved r)
+  pub moves_below : (r : ℕ) → r < nodes net.relation.grid → AreBelow (size net) (moved r)
+  pub bits : (r i : ℕ) → r < nodes net.relation.grid → i < 32 → gone (place_of r i) ≡ has_bit (moved r) i
+  pub below : (p : ℕ) → gone p ≡ true → p < nodes net.relation.grid * 32
   pub targets : (r i o : ℕ) → r < nodes net.relation.grid → i < size net → has_bit (moved r) i ≡ true → (view_input (frozen_of net n r) i).phase ≡ Active o
       → Leads (frozen_of net n r).site o (target (place_of r i))
   pub backs : (r i : ℕ) → r < nodes net.relation.grid → i < size net → Leads (site_at net r) i (back (place_of r i))

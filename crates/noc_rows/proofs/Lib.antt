@@ -61,7 +61,9 @@ pub mod GrantLemmas
 pub mod AllocateLaws
 pub mod RouteLemmas
 pub mod RouteLaws
+pub mod MovedLemmas
 pub mod FrozenWires
+pub mod LinkLaws
 pub mod CanMoveLaws
 pub mod NextWires
 pub mod OpeningWires
