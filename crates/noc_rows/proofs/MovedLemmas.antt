@@ -1,5 +1,5 @@
 -- The channels of a view that move a flit: each is the mover of its output port, and what leaves by the port is its first flit.
-use Rattle.std.proofs.Common.{◌≡◌, ◌≢◌, ℕ, ◌+◌, ◌*◌, ◌/◌, ◌%◌, ◌<◌, ◌≤◌, Bool, true, false, List, [], ◌∷◌, Option, Some, None, refl, ap, ap₂, sym, ◌∙◌, subst, arith, get_or, inl, inr, length}
+use Rattle.std.proofs.Common.{◌≡◌, ℕ, ◌+◌, ◌*◌, ◌/◌, ◌%◌, ◌<◌, ◌≤◌, Bool, true, false, List, [], ◌∷◌, Option, Some, None, refl, ap, ap₂, sym, ◌∙◌, arith, get_or, inl, inr, length}
 use Rattle.std.specs.Prelude.{◌⊎◌, ◌&&◌, not, is_some, drop, option_and_then, option_map, slice_get, slice_index, if◌then◌else◌}
 use Rattle.std.proofs.lemmas.Bool.{and_parts, cases_lt, false≢true}
 use Rattle.std.proofs.lemmas.List.{get_or_past}
@@ -21,7 +21,7 @@ use Rattle.noc_vc.specs.declared.input.InputState.{InputState}
 use Rattle.noc_vc.specs.declared.input.InputState.TheVariants.{Idle, Waiting, Active}
 use Rattle.noc_router.specs.Arrivals.{is_expected_in, noted}
 use Rattle.noc_router.specs.Standing.{is_won_from}
-use Rattle.noc_router.specs.Verdict.{Claim, Round, Holds, out_of, pointers_of, ready_of, ready_port, is_moved}
+use Rattle.noc_router.specs.Verdict.{Claim, Round, out_of, pointers_of, ready_of, ready_port, is_moved}
 use Rattle.noc_router.specs.declared.verdict.Verdict.{Verdict}
 use Rattle.noc_router.specs.declared.verdict.Verdict.TheVariants.{Moved, Empty, NoFlit, Routed, NoIdleChannel, LostChannel, Granted, NoCredit, LostInput, LostSwitch}
 use Rattle.noc_router.specs.View.{Site, View, size_of, view_buffer, view_input, view_output, view_claim, claim_in, view_round, view_stands, first_flit, flit_out, idle_beat, beat_out, mover, planned, committed, decided_verdict, with_arrival, with_misfit, tail_packet}
@@ -62,6 +62,17 @@ arrival-puts (Some p) v = at (is_expected_in p v.ends)
     at : (b : Bool) → (if b then record v { ends = noted p v.given v.ends } else with_misfit v).to_put ≡ v.to_put
     at true = refl
     at false = refl
+
+pub beat-next : (relation : Routes) (v : View) (port : ℕ) → port < local_port v.site.grid → get_or (committed (planned relation v) v).to_put port idle_beat ≡ beat_out (planned relation v) v port
+unfolding committed
+beat-next relation v port l =
+    ap (λ (beats : List Beat). get_or beats port idle_beat) (arrival-puts (tail_packet (flit_out v (planned relation v).round (local_port v.site.grid))) _)
+    ∙ get_or-tabulate (local_port v.site.grid) port (beat_out (planned relation v) v) idle_beat l
+
+-- a channel that moves puts its first flit
+pub put-flit : (relation : Routes) (v : View) (site : Site) (k : ℕ) (m : IsMover site v k) → (beat_out (planned relation v) v (m.out / site.vcs)).flit ≡ Some (m.out % site.vcs, m.flit)
+unfolding planned
+put-flit relation v site k m = m.put
 
 is_moved-is : (x : Verdict) → is_moved x ≡ true → x ≡ Moved
 is_moved-is Moved e = refl
@@ -194,10 +205,6 @@ module _ (relation : Routes) (v : View) (moved : ℕ) (some_vc : 0 < v.site.vcs)
             is = ap (λ (x : ℕ × Flit). x.1) same;
           }
 
-  -- a channel that moves puts its first flit
-  pub put-flit : (site : Site) → v.site ≡ site → (k : ℕ) → (m : IsMover site v k) → (beat_out (planned relation v) v (m.out / site.vcs)).flit ≡ Some (m.out % site.vcs, m.flit)
-  put-flit site e k m = ap (λ r. flit_out v r (m.out / site.vcs)) same-round ∙ m.put
-
   -- the credit of a beat is that of the channel of the port that moves
   pub credit-put : (port vc : ℕ) → port < ports v.site.grid → vc < v.site.vcs → is_some_of (beat_out (planned relation v) v port).credit vc ≡ has_bit moved (port * v.site.vcs + vc)
   credit-put port vc l u = credit-left relation v moved some_vc are ready port vc l u
@@ -205,7 +212,3 @@ module _ (relation : Routes) (v : View) (moved : ℕ) (some_vc : 0 < v.site.vcs)
   -- ---- after the verdicts
   pub buffer-next : HasSize v → (k : ℕ) → k < size_of v.site → view_buffer (committed (planned relation v) v) k ≡ (if has_bit moved k then drop 1 (view_buffer v k) else view_buffer v k)
   buffer-next size k l = buffer-committed (planned relation v) v size k l ∙ ap (λ b. if b then drop 1 (view_buffer v k) else view_buffer v k) (decided-moves k l)
-
-  pub beat-next : (port : ℕ) → port < local_port v.site.grid → get_or (committed (planned relation v) v).to_put port idle_beat ≡ beat_out (planned relation v) v port
-  unfolding committed
-  beat-next port l = ap (λ (beats : List Beat). get_or beats port idle_beat) (arrival-puts (tail_packet (flit_out v (planned relation v).round (local_port v.site.grid))) _) ∙ get_or-tabulate (local_port v.site.grid) port (beat_out (planned relation v) v) idle_beat l
