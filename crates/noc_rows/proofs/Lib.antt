@@ -61,9 +61,10 @@ pub mod GrantLemmas
 pub mod AllocateLaws
 pub mod RouteLemmas
 pub mod RouteLaws
-pub mod MovedLemmas
+pub mod PutLemmas
 pub mod FrozenWires
 pub mod LinkLaws
 pub mod CanMoveLaws
 pub mod NextWires
+pub mod LaneWires
 pub mod OpeningWires

@@ -25,7 +25,7 @@ use Rattle.noc_rows.specs.Column.{Leads, LeadsTo, place_of}
 use Rattle.noc_rows.specs.FlitWords.{flit_word}
 use Rattle.noc_rows.specs.Taken.{flit_from, flit_on_vc, credit_from}
 use Rattle.noc_rows.proofs.FrozenWires.{AreFrozenWires, frozen_of}
-use Rattle.noc_rows.proofs.MovedLemmas.{IsMover, IsPut, bit-moves, flit-put, put-flit, credit-put, beat-next}
+use Rattle.noc_rows.proofs.PutLemmas.{IsMover, IsPut, bit-moves, flit-put, put-flit, credit-put, beat-next}
 use Rattle.noc_rows.proofs.NetworkLaws.{good, frozen-seen}
 use Rattle.noc_rows.proofs.WireLaws.{flit-at, credit-at, leads-is, place-apart}
 
