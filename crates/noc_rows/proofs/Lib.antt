@@ -61,3 +61,6 @@ pub mod GrantLemmas
 pub mod AllocateLaws
 pub mod RouteLemmas
 pub mod RouteLaws
+pub mod TallyLaws
+pub mod StayLaws
+pub mod BlankLaws
