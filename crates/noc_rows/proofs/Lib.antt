@@ -61,6 +61,9 @@ pub mod GrantLemmas
 pub mod AllocateLaws
 pub mod RouteLemmas
 pub mod RouteLaws
+pub mod RoundLaws
 pub mod TallyLaws
+pub mod CameLemmas
+pub mod CameLaws
 pub mod StayLaws
 pub mod BlankLaws
