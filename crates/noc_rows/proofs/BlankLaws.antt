@@ -7,7 +7,7 @@ use Rattle.std.proofs.lemmas.Bool.{false≢true, lt-leb}
 use Rattle.noc_packet.specs.Set.{has_bit}
 use Rattle.noc_packet.proofs.SetLemmas.{has_bit-zero, zero_from_none}
 use Rattle.noc_rows.specs.Arrive.{HasArrived, begins_in, ready_source, went_in}
-use Rattle.noc_rows.specs.Bits.{less, lowest}
+use Rattle.noc_rows.specs.Bits.{less, lowest, minus}
 use Rattle.noc_rows.specs.Blank.{AreNone, IsBlank}
 use Rattle.noc_rows.specs.Column.{Column}
 use Rattle.noc_rows.specs.Fields.{Fields, lane_least, lane_pick, lane_some, lane_whole}
@@ -162,7 +162,7 @@ module _ (c : Column) (s : Source) (flits credits last : ℕ) (is : IsBlank c s 
   picked-none f filled =
       ap (λ w. lane_pick f w c.ahead) (ready-none filled)
       ∙ ap (lane_least f) (or-both (bit_and 0 c.ahead) (less 0 (lane_whole f (lane_some f (bit_and 0 c.ahead)))) (and_zero_l c.ahead) (less-none 0 (lane_whole f (lane_some f (bit_and 0 c.ahead))) refl))
-      ∙ and_zero_l _
+      ∙ less-none 0 (minus (bit_or 0 f.high) f.low) refl
 
   pub blank-stands : (f : Fields) (filled : ℕ) → filled ≡ 0 → lane_standing f filled c ≡ record { heads = 0; ready = 0; picked = 0 }
   blank-stands f filled none =

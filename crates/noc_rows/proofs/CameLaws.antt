@@ -145,65 +145,61 @@ module _ (net : Setup) (setup : IsGoodSetup net) (n r : ℕ) (l : r < nodes net.
   sends-low c x y (Some (vc, index)) site e = subst (λ (s : Site). vc < s.vcs) (sym site) e.0
 
   -- whether something came to router k of a block or was injected, after an arrival
-  pub arrived-event : (count links local room : ℕ) (starts : List Start) (m : RouterMarks) (old new : Block) (before after : Inbox) (k : ℕ) (ring : ℕ → List ℕ)
-      → IsColumn count (column_at old.lanes k) m (view_at net n r) → ShowsWires (view_at net n r) (word before.flits k) (word before.credits k) ring (beats net setup n r l)
-      → ShowsSource starts (source_at old.sources k) (view_at net n r)
-      → ports net.relation.grid * net.relation.vcs ≤ 31 → net.places < 2 ^ count → 0 < net.places
-      → ((i : ℕ) → has_bit local i ≡ (nat_le (local_channel (view_at net n r).site 0) i && nat_lt i (size_of (view_at net n r).site)))
-      → ((o : ℕ) → m.owner o % 32 ≡ owner_in old.marks.owner k o)
-      → HasArrived (words_of count net.places) links local n room starts old new before after k
-      → (frozen_view net setup n r l).had_event ≡ not (nat_eq (bit_or (word new.arrived.landed k) (word new.returned.credited k)) 0)
-  arrived-event count links local room starts m old new before after k ring column wires source narrow fits some_place is-local named arrived =
-      injected-event n w
-      ∙ ap₂ (λ a b. a || b) (taken-event (word before.flits k) (word before.credits k) ring wires) (went-some u went (injection_in n w) goes.goes (λ i e. (goes.local i e).1) low)
-      ∙ ap₂ (λ a b. not a || not b) (or-zero (word before.flits k) (word before.credits k)) (or-zero (lane_injected bits c) (lowest (lane_begins local n s.due c)))
-      ∙ any-of-four (nat_eq (word before.flits k) 0) (nat_eq (lane_injected bits c) 0) (nat_eq (lowest (lane_begins local n s.due c)) 0) (nat_eq (word before.credits k) 0)
-      ∙ sym (ap not words)
-    where
-      abbrev c : Column
-      c = column_at old.lanes k
+  module _ (count links local room : ℕ) (starts : List Start) (m : RouterMarks) (old new : Block) (before after : Inbox) (k : ℕ) (ring : ℕ → List ℕ)
+      (column : IsColumn count (column_at old.lanes k) m (view_at net n r)) (wires : ShowsWires (view_at net n r) (word before.flits k) (word before.credits k) ring (beats net setup n r l))
+      (source : ShowsSource starts (source_at old.sources k) (view_at net n r))
+      (narrow : ports net.relation.grid * net.relation.vcs ≤ 31) (fits : net.places < 2 ^ count) (some_place : 0 < net.places)
+      (is-local : (i : ℕ) → has_bit local i ≡ (nat_le (local_channel (view_at net n r).site 0) i && nat_lt i (size_of (view_at net n r).site)))
+      (named : (o : ℕ) → m.owner o % 32 ≡ owner_in old.marks.owner k o)
+      (arrived : HasArrived (words_of count net.places) links local n room starts old new before after k) where
+    abbrev c : Column
+    c = column_at old.lanes k
 
-      abbrev s : Source
-      s = source_at old.sources k
+    abbrev s : Source
+    s = source_at old.sources k
 
-      abbrev u : View
-      u = record w { given = n }
+    abbrev u : View
+    u = record (all_taken net.relation (beats net setup n r l) (view_at net n r)) { given = n }
 
-      abbrev bits : List ℕ
-      bits = words_of count net.places
+    abbrev bits : List ℕ
+    bits = words_of count net.places
 
-      abbrev went : ℕ
-      went = bit_or (lane_injected (words_of count net.places) c) (lowest (lane_begins local n s.due c))
+    abbrev went : ℕ
+    went = bit_or (lane_injected (words_of count net.places) (column_at old.lanes k)) (lowest (lane_begins local n (source_at old.sources k).due (column_at old.lanes k)))
 
-      site : v.site ≡ site_at net r
-      site = (view_at-seen net n r).site
+    w_site : w.site ≡ v.site
+    w_site = ap (λ (y : View). y.site) (beats-taken net setup n r l few).rest
 
-      w_site : w.site ≡ v.site
-      w_site = ap (λ (y : View). y.site) (beats-taken net setup n r l few).rest
+    w_sending : w.sending ≡ v.sending
+    w_sending = ap (λ (y : View). y.sending) (beats-taken net setup n r l few).rest
 
-      w_sending : w.sending ≡ v.sending
-      w_sending = ap (λ (y : View). y.sending) (beats-taken net setup n r l few).rest
+    low : (vc : ℕ) (f : Flit) → injection_in n w ≡ Some (vc, f) → vc < w.site.vcs
+    low vc f e = injection-low n w.queue w.sending w vc f (sends-low c v w w.sending w_site (subst (ShowsSending c v) (sym w_sending) column.sending)) e
 
-      low : (vc : ℕ) (f : Flit) → injection_in n w ≡ Some (vc, f) → vc < w.site.vcs
-      low vc f e = injection-low n w.queue w.sending w vc f (sends-low c v w w.sending w_site (subst (ShowsSending c v) (sym w_sending) column.sending)) e
+    ups : AreOwners (lane_raised (word before.credits k) c) (λ o. m.owner o % 32) arrived.up
+    ups = record {
+      each = λ o e. ap (has_bit arrived.up) (named o) ∙ arrived.ups.each o e;
+      some = λ i e. let t = arrived.ups.some i e in (t.0, t.1, named t.0 ∙ t.2);
+    }
 
-      ups : AreOwners (lane_raised (word before.credits k) c) (λ o. m.owner o % 32) arrived.up
-      ups = record {
-        each = λ o e. ap (has_bit arrived.up) (named o) ∙ arrived.ups.each o e;
-        some = λ i e. let t = arrived.ups.some i e in (t.0, t.1, named t.0 ∙ t.2);
-      }
+    goes : HasSent c starts s u (frozen_view net setup n r l) (lane_injected (words_of count net.places) c) (lane_begins local n s.due c) went (injection_in n w)
+    unfolding view_at view_in
+    goes =
+        sent net.relation count c m (view_at net n r) (beats net setup n r l) n local starts s (word before.flits k) (word before.credits k) arrived.up ring column wires source
+        (start-tidy net setup n r l) (start-size net setup n r l) (beats-taken net setup n r l few) narrow fits some_place (let q = short in omega (arith, q)) (omega (arith, few)) is-local ups arrived.up_fits
 
-      goes : HasSent c starts s u (frozen_view net setup n r l) (lane_injected (words_of count net.places) c) (lane_begins local n s.due c)
-          (bit_or (lane_injected (words_of count net.places) c) (lowest (lane_begins local n s.due c))) (injection_in n w)
-      unfolding view_at view_in
-      goes =
-          sent net.relation count c m (view_at net n r) (beats net setup n r l) n local starts s (word before.flits k) (word before.credits k) arrived.up ring column wires source
-          (start-tidy net setup n r l) (start-size net setup n r l) (beats-taken net setup n r l few) narrow fits some_place (let q = short in omega (arith, q)) (omega (arith, few)) is-local ups arrived.up_fits
+    words : nat_eq (bit_or (word new.arrived.landed k) (word new.returned.credited k)) 0
+        ≡ (((nat_eq (word before.flits k) 0 && nat_eq (lane_injected bits c) 0) && nat_eq (lowest (lane_begins local n s.due c)) 0) && nat_eq (word before.credits k) 0)
+    words =
+        or-zero (word new.arrived.landed k) (word new.returned.credited k)
+        ∙ ap₂ (λ a b. nat_eq a 0 && nat_eq b 0) arrived.landed (ap (λ (x : Returned). x.credited) arrived.returned)
+        ∙ ap (λ b. b && nat_eq (word before.credits k) 0) (or-zero (bit_or (word before.flits k) (lane_injected bits c)) (lowest (lane_begins local n s.due c))
+        ∙ ap (λ b. b && nat_eq (lowest (lane_begins local n s.due c)) 0) (or-zero (word before.flits k) (lane_injected bits c)))
 
-      words : nat_eq (bit_or (word new.arrived.landed k) (word new.returned.credited k)) 0
-          ≡ (((nat_eq (word before.flits k) 0 && nat_eq (lane_injected bits c) 0) && nat_eq (lowest (lane_begins local n s.due c)) 0) && nat_eq (word before.credits k) 0)
-      words =
-          or-zero (word new.arrived.landed k) (word new.returned.credited k)
-          ∙ ap₂ (λ a b. nat_eq a 0 && nat_eq b 0) arrived.landed (ap (λ (x : Returned). x.credited) arrived.returned)
-          ∙ ap (λ b. b && nat_eq (word before.credits k) 0) (or-zero (bit_or (word before.flits k) (lane_injected bits c)) (lowest (lane_begins local n s.due c))
-          ∙ ap (λ b. b && nat_eq (lowest (lane_begins local n s.due c)) 0) (or-zero (word before.flits k) (lane_injected bits c)))
+    pub arrived-event : (frozen_view net setup n r l).had_event ≡ not (nat_eq (bit_or (word new.arrived.landed k) (word new.returned.credited k)) 0)
+    arrived-event =
+        injected-event n w
+        ∙ ap₂ (λ a b. a || b) (taken-event (word before.flits k) (word before.credits k) ring wires) (went-some u went (injection_in n w) goes.goes (λ i e. (goes.local i e).1) low)
+        ∙ ap₂ (λ a b. not a || not b) (or-zero (word before.flits k) (word before.credits k)) (or-zero (lane_injected bits c) (lowest (lane_begins local n s.due c)))
+        ∙ any-of-four (nat_eq (word before.flits k) 0) (nat_eq (lane_injected bits c) 0) (nat_eq (lowest (lane_begins local n s.due c)) 0) (nat_eq (word before.credits k) 0)
+        ∙ sym (ap not words)

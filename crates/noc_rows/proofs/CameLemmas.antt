@@ -33,15 +33,16 @@ flit-quiet relation port (Some (vc, f)) v e m =
     at true e m = absurd (true≢false e)
     at false e m = absurd (omega (arith, m))
 
+abbrev with_return : ℕ → View → View
+with_return o v = record v { outputs = slice_set v.outputs o (credited (view_output v o)); had_event = true }
+
 credit-quiet : (port : ℕ) (credit : Option ℕ) (v : View) → (with_credit port credit v).had_event ≡ false → (with_credit port credit v).misfits ≡ 0 → with_credit port credit v ≡ v
 credit-quiet port None v e m = refl
 credit-quiet port (Some vc) v e m =
     at (has_link v.site port && nat_lt vc v.site.vcs && credit_fits (view_output v (port * v.site.vcs + vc))) e m
   where
-    abbrev here : View
-    here = record v { outputs = slice_set v.outputs (port * v.site.vcs + vc) (credited (view_output v (port * v.site.vcs + vc))); had_event = true }
-
-    at : (b : Bool) → (if b then here else with_misfit v).had_event ≡ false → (if b then here else with_misfit v).misfits ≡ 0 → (if b then here else with_misfit v) ≡ v
+    at : (b : Bool) → (if b then with_return (port * v.site.vcs + vc) v else with_misfit v).had_event ≡ false → (if b then with_return (port * v.site.vcs + vc) v else with_misfit v).misfits ≡ 0
+        → (if b then with_return (port * v.site.vcs + vc) v else with_misfit v) ≡ v
     at true e m = absurd (true≢false e)
     at false e m = absurd (omega (arith, m))
 
@@ -72,25 +73,22 @@ pub injected-event : (n : ℕ) (v : View) → (injected n v).had_event ≡ (v.ha
 unfolding injected
 injected-event n v = by v.queue v.sending
   where
-    abbrev w : View
-    w = record v { given = n }
-
     by : (queue : List (ℕ × Packet)) (sending : Option (ℕ × ℕ)) → (injected_from n queue sending (record v { given = n })).had_event ≡ (v.had_event || is_some (injection_from n queue sending v))
     by [] sending = or-off v.had_event
     by ((number, p) ∷ rest) (Some (vc, index)) = room (nat_lt (length (view_buffer v (local_channel v.site vc))) v.site.places)
       where
-        room : (b : Bool) → (if b then with_injected vc index number p rest w else w).had_event ≡ (v.had_event || is_some (if b then Some (vc, flit_at p number index) else None))
+        room : (b : Bool) → (if b then with_injected vc index number p rest (record v { given = n }) else (record v { given = n })).had_event ≡ (v.had_event || is_some {T = ℕ × Flit} (if b then Some (vc, flit_at p number index) else None))
         room true = or-on v.had_event
         room false = or-off v.had_event
     by ((number, p) ∷ rest) None = due (nat_le p.due n)
       where
-        begun : (vc : Option ℕ) → (begun_on vc number p rest w).had_event ≡ (v.had_event || is_some (option_map (λ vc. (vc, flit_at p number 0)) vc))
+        begun : (vc : Option ℕ) → (begun_on vc number p rest (record v { given = n })).had_event ≡ (v.had_event || is_some (option_map {U = ℕ × Flit} (λ vc. (vc, flit_at p number 0)) vc))
         begun None = or-off v.had_event
         begun (Some vc) = or-on v.had_event
 
-        due : (b : Bool) → (if b then begun_on (find (is_vacant w) (below v.site.vcs)) number p rest w else w).had_event
-            ≡ (v.had_event || is_some (if b then option_map (λ vc. (vc, flit_at p number 0)) (find (is_vacant v) (below v.site.vcs)) else None))
-        due true = begun (find (is_vacant w) (below v.site.vcs))
+        due : (b : Bool) → (if b then begun_on (find (is_vacant (record v { given = n })) (below v.site.vcs)) number p rest (record v { given = n }) else (record v { given = n })).had_event
+            ≡ (v.had_event || is_some (if b then option_map {U = ℕ × Flit} (λ vc. (vc, flit_at p number 0)) (find (is_vacant v) (below v.site.vcs)) else None))
+        due true = begun (find (is_vacant (record v { given = n })) (below v.site.vcs))
         due false = or-off v.had_event
 
 -- a packet that is being injected has a local virtual channel
@@ -98,24 +96,27 @@ abbrev pub SendsLow : ℕ → Option (ℕ × ℕ) → Type 0
 SendsLow vcs None = Unit {0}
 SendsLow vcs (Some (vc, index)) = vc < vcs
 
+abbrev one_where : Bool → ℕ × Flit → Option (ℕ × Flit)
+one_where b one = if b then Some one else None
+
 -- a flit is injected into one
 pub injection-low : (n : ℕ) (queue : List (ℕ × Packet)) (sending : Option (ℕ × ℕ)) (v : View) (vc : ℕ) (f : Flit) → SendsLow v.site.vcs sending → injection_from n queue sending v ≡ Some (vc, f) → vc < v.site.vcs
 injection-low n [] sending v vc f low e = absurd (cc e)
 injection-low n ((number, p) ∷ rest) (Some (u, index)) v vc f low e = at (nat_lt (length (view_buffer v (local_channel v.site u))) v.site.places) e
   where
-    at : (b : Bool) → (if b then Some (u, flit_at p number index) else None) ≡ Some (vc, f) → vc < v.site.vcs
+    at : (b : Bool) → one_where b (u, flit_at p number index) ≡ Some (vc, f) → vc < v.site.vcs
     at true g = let same : u ≡ vc = ap (λ (one : ℕ × Flit). one.0) (same_Some (u, flit_at p number index) (vc, f) g) in omega (arith, low, same)
     at false g = absurd (cc g)
 injection-low n ((number, p) ∷ rest) None v vc f low e = due (nat_le p.due n) e
   where
-    begun : (o : Option ℕ) → find (is_vacant v) (below v.site.vcs) ≡ o → option_map (λ vc. (vc, flit_at p number 0)) o ≡ Some (vc, f) → vc < v.site.vcs
+    begun : (o : Option ℕ) → find (is_vacant v) (below v.site.vcs) ≡ o → option_map {U = ℕ × Flit} (λ vc. (vc, flit_at p number 0)) o ≡ Some (vc, f) → vc < v.site.vcs
     begun None k g = absurd (cc g)
     begun (Some u) k g =
         let within : u < v.site.vcs = Has-below u v.site.vcs (find-has (is_vacant v) (below v.site.vcs) u k) in
         let same : u ≡ vc = ap (λ (one : ℕ × Flit). one.0) (same_Some (u, flit_at p number 0) (vc, f) g) in
         omega (arith, within, same)
 
-    due : (b : Bool) → (if b then option_map (λ vc. (vc, flit_at p number 0)) (find (is_vacant v) (below v.site.vcs)) else None) ≡ Some (vc, f) → vc < v.site.vcs
+    due : (b : Bool) → (if b then option_map {U = ℕ × Flit} (λ vc. (vc, flit_at p number 0)) (find (is_vacant v) (below v.site.vcs)) else None) ≡ Some (vc, f) → vc < v.site.vcs
     due true g = begun (find (is_vacant v) (below v.site.vcs)) refl g
     due false g = absurd (cc g)
 

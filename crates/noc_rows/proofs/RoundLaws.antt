@@ -20,13 +20,13 @@ use Rattle.noc_rows.proofs.SwitchLemmas.{AreMoved}
 use Rattle.noc_rows.proofs.UnionLemmas.{some-one, union-members}
 
 -- these channels of a router are granted an output channel, lose one, and move a flit, as the round of its frozen view has it
-pub record AreRound (v : View) (granted lost moved : ℕ) : Type 0 where
-  pub granted_below : AreBelow (size_of v.site) granted
-  pub lost_below : AreBelow (size_of v.site) lost
-  pub moved_below : AreBelow (size_of v.site) moved
-  pub granted : (k : ℕ) → k < size_of v.site → has_bit granted k ≡ is_given (view_round v).grants (ask_of (view_claim v k)) k
-  pub lost : (k : ℕ) → k < size_of v.site → has_bit lost k ≡ (not (has_bit granted k) && is_some (ask_of (view_claim v k)))
-  pub moved : AreMoved v moved
+pub record AreRound (v : View) (grants losses moves : ℕ) : Type 0 where
+  pub granted_below : AreBelow (size_of v.site) grants
+  pub lost_below : AreBelow (size_of v.site) losses
+  pub moved_below : AreBelow (size_of v.site) moves
+  pub granted : (k : ℕ) → k < size_of v.site → has_bit grants k ≡ is_given (view_round v).grants (ask_of (view_claim v k)) k
+  pub lost : (k : ℕ) → k < size_of v.site → has_bit losses k ≡ (not (has_bit grants k) && is_some (ask_of (view_claim v k)))
+  pub moved : AreMoved v moves
 
 -- ---- sets below a number
 
@@ -36,18 +36,21 @@ none-below n word none k e = absurd (false≢true (sym (ap (λ w. has_bit w k) n
 pub small-below : (n word : ℕ) → n ≤ 32 → AreBelow n word → word < 2 ^ 32
 small-below n word few below = below_fits 32 word (λ k e. let l : k < n = below k e in omega (arith, l, few))
 
+or-below : (n a b : ℕ) → AreBelow n a → AreBelow n b → AreBelow n (bit_or a b)
+or-below n a b p q k e = at (has_bit a k) refl
+  where
+    at : (x : Bool) → has_bit a k ≡ x → k < n
+    at true z = p k z
+    at false z = q k (sym (ap (λ x. x || has_bit b k) z) ∙ sym (either_members a b k) ∙ e)
+
+selected-below : (n picked q : ℕ) (to turn : ℕ → ℕ) → AreBelow n picked → AreBelow n (selected_by picked to turn q)
+selected-below n picked q to turn below k e = below k (and_parts (has_bit picked k) (has_bit (to q) k) (sym (both_members picked (to q) k) ∙ first-among (bit_and picked (to q)) (turn q) k e)).0
+
 -- the picked channels that move
 pub moved-below : (n picked count : ℕ) (to turn : ℕ → ℕ) → AreBelow n picked → AreBelow n (union_from 0 count (selected_by picked to turn))
 moved-below n picked zero to turn below = none-below n 0 refl
-moved-below n picked (suc count) to turn below k e = at (has_bit (union_from 0 count (selected_by picked to turn)) k) refl
-  where
-    at : (b : Bool) → has_bit (union_from 0 count (selected_by picked to turn)) k ≡ b → k < n
-    at true z = moved-below n picked count to turn below k z
-    at false z =
-        below k (and_parts (has_bit picked k) (has_bit (to count) k)
-        (sym (both_members picked (to count) k)
-        ∙ first-among (bit_and picked (to count)) (turn count) k
-        (sym (ap (λ b. b || has_bit (selected_by picked to turn count) k) z) ∙ sym (either_members (union_from 0 count (selected_by picked to turn)) (selected_by picked to turn count) k) ∙ e))).0
+moved-below n picked (suc count) to turn below =
+    or-below n (union_from 0 count (selected_by picked to turn)) (selected_by picked to turn count) (moved-below n picked count to turn below) (selected-below n picked count to turn below)
 
 -- ---- what allocation has decided
 

@@ -78,16 +78,16 @@ silent-credit vcs row o silent = credit-at vcs 0 row o (omega arith) ∙ ap (λ 
 -- words that show wires with nothing on them
 wires-same : (v w : View) (flits credits : ℕ) (ring : ℕ → List ℕ) (row later : List Beat) → w.site ≡ v.site → w.buffers ≡ v.buffers → IsSilent row → IsSilent later
     → ShowsWires v flits credits ring row → ShowsWires w flits credits ring later
-wires-same v w flits credits ring row later site buffers now then x = record {
-  comes = λ i l. x.comes i (within i l) ∙ ap is_some (silent-flit v.site.vcs row i now ∙ sym (silent-flit w.site.vcs later i then));
+wires-same v w flits credits ring row later site buffers now still x = record {
+  comes = λ i l. x.comes i (within i l) ∙ ap is_some (silent-flit v.site.vcs row i now ∙ sym (silent-flit w.site.vcs later i still));
   comes_below = subst (λ (s : Site). AreBelow (size_of s) flits) (sym site) x.comes_below;
-  returns = λ o l. x.returns o (within o l) ∙ silent-credit v.site.vcs row o now ∙ sym (silent-credit w.site.vcs later o then);
+  returns = λ o l. x.returns o (within o l) ∙ silent-credit v.site.vcs row o now ∙ sym (silent-credit w.site.vcs later o still);
   returns_below = subst (λ (s : Site). AreBelow (size_of s) credits) (sym site) x.returns_below;
   rings = λ i l.
       x.rings i (within i l)
       ∙ ap (λ (o : Option Flit). map flit_word (with_one (view_buffer v i) o)) (silent-flit v.site.vcs row i now)
       ∙ ap (λ (bs : List (List Flit)). map flit_word (slice_index_or bs i [])) (sym buffers)
-      ∙ sym (ap (λ (o : Option Flit). map flit_word (with_one (view_buffer w i) o)) (silent-flit w.site.vcs later i then));
+      ∙ sym (ap (λ (o : Option Flit). map flit_word (with_one (view_buffer w i) o)) (silent-flit w.site.vcs later i still));
 }
   where
     within : (i : ℕ) → i < size_of w.site → i < size_of v.site

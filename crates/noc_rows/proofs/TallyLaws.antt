@@ -1,5 +1,5 @@
 -- A router that is awake in a cycle: what was counted of its channels after it, and its last event.
-use Rattle.std.proofs.Common.{◌≡◌, ℕ, suc, ◌+◌, ◌%◌, ◌^◌, ◌<◌, ◌≤◌, Bool, true, false, List, [], length, sum, refl, ap, sym, ◌∙◌, subst, arith, add-one, bit_and, bit_or}
+use Rattle.std.proofs.Common.{◌≡◌, ℕ, suc, ◌+◌, ◌-◌, ◌*◌, ◌%◌, ◌^◌, ◌<◌, ◌≤◌, Bool, true, false, List, [], length, sum, refl, ap, sym, ◌∙◌, subst, arith, add-one, bit_and, bit_or}
 use Rattle.std.specs.Prelude.{◌&&◌, not, nat_eq, slice_index_or, if◌then◌else◌}
 use Rattle.noc_topo.specs.Words.{is_some_of}
 use Rattle.noc_topo.specs.Shape.{nodes, ports}
@@ -89,6 +89,10 @@ module _ (net : Setup) (setup : IsGoodSetup net) (n r : ℕ) (l : r < nodes net.
       let t = taken-rest (view_at net n r) (taken_view net setup n r l) (beats-taken net setup n r l few).rest in
       (k.0 ∙ t.0, k.1 ∙ t.1, k.2)
 
+  site-next : (view_at net (suc n) r).site ≡ (view_at net n r).site
+  unfolding view_at view_in
+  site-next = refl
+
   counts-many : length (view_at net n r).counts ≡ size_of (view_at net n r).site
   unfolding view_at view_in
   counts-many = length-tabulate (size net) (counts_before net n r)
@@ -174,10 +178,6 @@ module _ (net : Setup) (setup : IsGoodSetup net) (n r : ℕ) (l : r < nodes net.
         (one-more (has_bit lost i) (losses i) (losses_next i) (omega (arith, was, few)) (losses_are i low))
         (after i li)
       where
-        site-next : (view_at net (suc n) r).site ≡ (view_at net n r).site
-        unfolding view_at view_in
-        site-next = refl
-
         within : i < size_of (view_at net n r).site
         within = subst (λ (s : Site). i < size_of s) site-next li
 

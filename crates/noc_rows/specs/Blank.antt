@@ -10,7 +10,7 @@ AreNone [] = Unit {0}
 AreNone (plane ∷ planes) = (plane ≡ 0) × AreNone planes
 
 -- no channel of it waits, is active or is wanted, it has no flit, its source has no packet, and nothing comes to it or ever happened in it
-pub record IsBlank (c : Column) (s : Source) (flits credits last_event : ℕ) : Type 0 where
+pub record IsBlank (c : Column) (s : Source) (coming returning last : ℕ) : Type 0 where
   pub waiting : c.waiting ≡ 0
   pub active : c.active ≡ 0
   pub len : AreNone c.len
@@ -18,6 +18,6 @@ pub record IsBlank (c : Column) (s : Source) (flits credits last_event : ℕ) : 
   pub wanted : c.wanted ≡ 0
   pub injecting : c.injecting ≡ 0
   pub due : s.due ≡ NEVER
-  pub flits : flits ≡ 0
-  pub credits : credits ≡ 0
-  pub last_event : last_event ≡ 0
+  pub flits : coming ≡ 0
+  pub credits : returning ≡ 0
+  pub last_event : last ≡ 0
