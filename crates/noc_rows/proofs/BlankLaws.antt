@@ -1,8 +1,8 @@
 -- A cycle leaves a lane blank to which no router belongs.
-use Rattle.std.proofs.Common.{◌≡◌, ℕ, zero, suc, ◌^◌, ◌<◌, Bool, true, false, List, [], ◌∷◌, refl, ap, ap₂, sym, ◌∙◌, subst, arith, bit_and, bit_or}
-use Rattle.std.specs.Prelude.{◌&&◌, not, nat_eq, bit_xor, if◌then◌else◌}
+use Rattle.std.proofs.Common.{◌≡◌, ℕ, zero, suc, ◌<◌, Bool, true, false, List, [], ◌∷◌, refl, ap, ap₂, sym, ◌∙◌, subst, arith, bit_and, bit_or}
+use Rattle.std.specs.Prelude.{◌&&◌, nat_eq, bit_xor, if◌then◌else◌}
 use Rattle.std.specs.Int.{bit_not, w32}
-use Rattle.std.specs.Int.Bits.{and_zero_l, and_zero_r}
+use Rattle.std.specs.Int.Bits.{and_zero_l}
 use Rattle.std.proofs.lemmas.Bool.{false≢true, lt-leb}
 use Rattle.noc_packet.specs.Set.{has_bit}
 use Rattle.noc_packet.proofs.SetLemmas.{has_bit-zero, zero_from_none}
@@ -13,7 +13,7 @@ use Rattle.noc_rows.specs.Column.{Column}
 use Rattle.noc_rows.specs.Fields.{Fields, lane_least, lane_pick, lane_some, lane_whole}
 use Rattle.noc_rows.specs.Moves.{of_one, rest_from, selected_by, union_from}
 use Rattle.noc_rows.specs.Opening.{empty_column}
-use Rattle.noc_rows.specs.Passes.{Effects, injecting_after, lane_asks, lane_free, lane_heads, lane_injected, lane_landed, lane_picked, lane_raised, lane_ready, lane_standing, owner_in, settled_lane, with_first}
+use Rattle.noc_rows.specs.Passes.{Effects, injecting_after, lane_asks, lane_free, lane_injected, lane_landed, lane_picked, lane_raised, lane_ready, lane_standing, settled_lane, with_first}
 use Rattle.noc_rows.specs.Planes.{any_from, lowered_by, raised_by, wrong_from}
 use Rattle.noc_rows.specs.Rows.{column_at, event_in, word}
 use Rattle.noc_rows.specs.Source.{first_source, next_source, source_at, start_in}

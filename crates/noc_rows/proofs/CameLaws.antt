@@ -1,22 +1,20 @@
 -- Whether something came to a router or was injected, by the words of an arrival.
-use Rattle.std.proofs.Common.{◌≡◌, ◌≢◌, ℕ, suc, ◌+◌, ◌*◌, ◌%◌, ◌^◌, ◌<◌, ◌≤◌, Bool, true, false, List, [], ◌∷◌, ◌++◌, length, Option, Some, None, refl, ap, ap₂, sym, ◌∙◌, subst, arith, inl, inr, bit_or}
-use Rattle.std.specs.Prelude.{◌⊎◌, ◌&&◌, ◌||◌, not, is_some, nat_eq, nat_le, nat_lt, slice_index_or}
-use Rattle.std.proofs.lemmas.Bool.{cases_eq, eq-eqb, false≢true, ne_eqb, true≢false}
+use Rattle.std.proofs.Common.{◌≡◌, ◌≢◌, ℕ, ◌+◌, ◌*◌, ◌%◌, ◌^◌, ◌<◌, ◌≤◌, Bool, true, false, List, [], ◌∷◌, ◌++◌, length, Option, Some, None, refl, ap, ap₂, sym, ◌∙◌, subst, arith, inl, inr, bit_or}
+use Rattle.std.specs.Prelude.{◌⊎◌, ◌&&◌, ◌||◌, not, is_some, nat_eq, nat_le, nat_lt}
+use Rattle.std.proofs.lemmas.Bool.{cases_eq, eq-eqb, false≢true, ne_eqb}
 use Rattle.std.proofs.lemmas.Nat.{le_or_l, le_or_r}
 use Rattle.std.proofs.lemmas.Option.{same_Some}
 use Rattle.noc_topo.specs.Shape.{local_port, neighbour, nodes, ports}
 use Rattle.noc_topo.specs.Words.{tabulate}
 use Rattle.noc_topo.proofs.WordLemmas.{get_or-tabulate, length-tabulate}
 use Rattle.noc_packet.specs.Set.{has_bit}
-use Rattle.noc_packet.specs.declared.packet.Beat.{Beat}
 use Rattle.noc_packet.specs.declared.packet.Flit.{Flit}
 use Rattle.noc_packet.proofs.SetLemmas.{zero_from_none}
 use Rattle.noc_vc.specs.Output.{Output, credit_fits, credit_fits_at, credited, credited_at}
-use Rattle.noc_router.specs.View.{Site, View, all_taken, local_channel, size_of, taken_from, view_buffer, view_output}
+use Rattle.noc_router.specs.View.{Site, View, all_taken, local_channel, size_of, view_buffer, view_output}
 use Rattle.noc_model.specs.declared.limits.TheConstants.{CYCLE_LIMIT}
 use Rattle.noc_model.specs.Good.{IsGoodSetup}
-use Rattle.noc_model.specs.Halves.{IsSilent}
-use Rattle.noc_model.specs.Lockstep.{beat_by, beats_in, site_at, view_at, view_in}
+use Rattle.noc_model.specs.Lockstep.{beat_by, beats_in, view_at, view_in}
 use Rattle.noc_model.specs.Network.{Setup, state_at}
 use Rattle.noc_rows.specs.Arrive.{HasArrived}
 use Rattle.noc_rows.specs.Bits.{lowest}
@@ -26,7 +24,7 @@ use Rattle.noc_rows.specs.Passes.{AreOwners, lane_begins, lane_injected, lane_ra
 use Rattle.noc_rows.specs.Planes.{words_of}
 use Rattle.noc_rows.specs.Rows.{column_at, word}
 use Rattle.noc_rows.specs.Source.{ShowsSource, source_at}
-use Rattle.noc_rows.specs.Taken.{HasTaken, credit_from, credited_by, flit_from, with_one}
+use Rattle.noc_rows.specs.Taken.{credit_from, credited_by, flit_from, with_one}
 use Rattle.noc_rows.specs.declared.block.Block.{Block}
 use Rattle.noc_rows.specs.declared.block.Source.{Source}
 use Rattle.noc_rows.specs.declared.cycle.Returned.{Returned}
@@ -35,11 +33,10 @@ use Rattle.noc_rows.specs.declared.wires.Inbox.{Inbox}
 use Rattle.noc_rows.proofs.ArriveLaws.{sent}
 use Rattle.noc_rows.proofs.InjectLemmas.{HasSent}
 use Rattle.noc_rows.proofs.CameLemmas.{SendsLow, injected-event, injection-low, taken-quiet, went-some}
-use Rattle.noc_rows.proofs.NetworkLaws.{beats, beats-taken, frozen_view, start-size, start-tidy, taken-seen, taken_view}
+use Rattle.noc_rows.proofs.NetworkLaws.{beats, beats-taken, frozen_view, start-size, start-tidy, taken-seen}
 use Rattle.noc_rows.proofs.OutlookLemmas.{or-zero}
 use Rattle.noc_rows.proofs.RestLaws.{words-silent}
 use Rattle.noc_rows.proofs.SleepLaws.{all-silent}
-use Rattle.noc_model.proofs.ViewLemmas.{view_at-seen}
 
 -- something came or was injected where one of four words has a member
 any-of-four : (a j b d : Bool) → (not (a && d) || not (j && b)) ≡ not (((a && j) && b) && d)

@@ -1,19 +1,17 @@
 -- The channels of a router that are granted an output channel, lose one, and move a flit, as the round of its frozen view has it.
-use Rattle.std.proofs.Common.{◌≡◌, ℕ, zero, suc, ◌%◌, ◌/◌, ◌^◌, ◌<◌, ◌≤◌, Bool, true, false, Option, None, refl, ap, sym, ◌∙◌, subst, arith, inl, inr, bit_and, bit_or}
-use Rattle.std.specs.Prelude.{◌⊎◌, ◌&&◌, ◌||◌, not, is_some, slice_index_or, if◌then◌else◌}
-use Rattle.std.proofs.lemmas.Bool.{and_parts, cases_eq, cases_lt, eq-eqb, false≢true, true≢false, ne_eqb}
+use Rattle.std.proofs.Common.{◌≡◌, ℕ, zero, suc, ◌^◌, ◌<◌, ◌≤◌, Bool, true, false, refl, ap, sym, ◌∙◌, arith, inl, inr, bit_and, bit_or}
+use Rattle.std.specs.Prelude.{◌⊎◌, ◌&&◌, ◌||◌, not, is_some, if◌then◌else◌}
+use Rattle.std.proofs.lemmas.Bool.{and_parts, cases_lt, eq-eqb, false≢true, ne_eqb}
 use Rattle.noc_packet.specs.Set.{has_bit}
 use Rattle.noc_packet.proofs.SetLemmas.{both_members, either_members, has_bit-zero}
 use Rattle.noc_router.specs.Members.{AreBelow}
 use Rattle.noc_router.specs.Requests.{is_given}
 use Rattle.noc_router.specs.Verdict.{ask_of}
-use Rattle.noc_router.specs.View.{View, first_flit, is_tail, size_of, view_claim, view_round}
-use Rattle.noc_rows.specs.Bits.{less}
+use Rattle.noc_router.specs.View.{View, size_of, view_claim, view_round}
 use Rattle.noc_rows.specs.Column.{IsColumn}
-use Rattle.noc_rows.specs.Grants.{Allocation, HasAllocated, ShowsGrants, asked_of, winner}
+use Rattle.noc_rows.specs.Grants.{Allocation, HasAllocated, ShowsGrants, winner}
 use Rattle.noc_rows.specs.Moves.{selected_by, some_below, union_from}
-use Rattle.noc_rows.specs.Passes.{Effects}
-use Rattle.noc_rows.proofs.BitLemmas.{above_32, and_fits, below_fits, less_members}
+use Rattle.noc_rows.proofs.BitLemmas.{above_32, below_fits, less_members}
 use Rattle.noc_rows.proofs.GrantLemmas.{first-among}
 use Rattle.noc_rows.proofs.PassLemmas.{power-members}
 use Rattle.noc_rows.proofs.SwitchLemmas.{AreMoved}

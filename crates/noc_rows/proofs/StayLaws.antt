@@ -1,10 +1,10 @@
 -- A router that sleeps through a cycle, and all routers that sleep up to a cycle: their words show them as long as they do.
-use Rattle.std.proofs.Common.{◌≡◌, ℕ, zero, suc, ◌+◌, ◌-◌, ◌%◌, ◌/◌, ◌^◌, ◌<◌, ◌≤◌, true, false, List, [], ◌∷◌, map, length, Option, None, sum, refl, ap, sym, ◌∙◌, subst, arith, add-one, bit_or}
+use Rattle.std.proofs.Common.{◌≡◌, ℕ, zero, suc, ◌+◌, ◌-◌, ◌%◌, ◌/◌, ◌^◌, ◌<◌, ◌≤◌, true, false, List, [], ◌∷◌, map, length, Option, None, sum, ap, sym, ◌∙◌, subst, arith, add-one, bit_or}
 use Rattle.std.specs.Prelude.{is_some, nat_lt, slice_index, slice_index_or, slice_set, if◌then◌else◌}
 use Rattle.std.proofs.lemmas.Bool.{lt-ltb}
 use Rattle.std.proofs.lemmas.List.{get_or-map}
 use Rattle.std.proofs.lemmas.Nat.{le_or_l, le_or_r}
-use Rattle.noc_topo.specs.Words.{is_some_of, map_indexed}
+use Rattle.noc_topo.specs.Words.{is_some_of}
 use Rattle.noc_topo.specs.Shape.{nodes}
 use Rattle.noc_topo.proofs.WordLemmas.{length-tabulate}
 use Rattle.noc_packet.specs.declared.packet.Beat.{Beat}
@@ -14,7 +14,7 @@ use Rattle.noc_router.proofs.VacantLemmas.{vacant-counted}
 use Rattle.noc_router.specs.Members.{AreBelow}
 use Rattle.noc_router.specs.Still.{counted_times, waited}
 use Rattle.noc_router.specs.Verdict.{column}
-use Rattle.noc_router.specs.View.{Site, View, size_of, counted, idle_beat, view_buffer}
+use Rattle.noc_router.specs.View.{Site, View, size_of, counted, view_buffer}
 use Rattle.noc_router.specs.declared.verdict.Verdict.TheVariants.{Empty}
 use Rattle.noc_model.specs.declared.limits.TheConstants.{CYCLE_LIMIT}
 use Rattle.noc_model.specs.Good.{IsGoodSetup}

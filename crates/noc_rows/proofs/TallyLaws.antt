@@ -1,7 +1,6 @@
 -- A router that is awake in a cycle: what was counted of its channels after it, and its last event.
 use Rattle.std.proofs.Common.{◌≡◌, ℕ, suc, ◌+◌, ◌-◌, ◌*◌, ◌%◌, ◌^◌, ◌<◌, ◌≤◌, Bool, true, false, List, [], length, sum, refl, ap, sym, ◌∙◌, subst, arith, add-one, bit_and, bit_or}
 use Rattle.std.specs.Prelude.{◌&&◌, not, nat_eq, slice_index_or, if◌then◌else◌}
-use Rattle.noc_topo.specs.Words.{is_some_of}
 use Rattle.noc_topo.specs.Shape.{nodes, ports}
 use Rattle.noc_topo.proofs.WordLemmas.{length-tabulate}
 use Rattle.noc_packet.specs.Set.{has_bit}
@@ -9,7 +8,7 @@ use Rattle.noc_packet.proofs.SetLemmas.{both_members}
 use Rattle.noc_alloc.specs.Arbiter.{turn_at}
 use Rattle.noc_router.specs.Counts.{one_if}
 use Rattle.noc_router.specs.Standing.{is_won_from}
-use Rattle.noc_router.specs.View.{Site, View, all_taken, committed, first_flit, injected, is_tail, local_step, planned, size_of, view_input, view_round}
+use Rattle.noc_router.specs.View.{Site, View, first_flit, is_tail, planned, size_of, view_input, view_round}
 use Rattle.noc_model.specs.declared.limits.TheConstants.{CYCLE_LIMIT}
 use Rattle.noc_model.specs.Good.{IsGoodSetup}
 use Rattle.noc_model.specs.Lockstep.{counts_before, view_at, view_in}
@@ -17,7 +16,7 @@ use Rattle.noc_model.specs.Network.{Setup, size}
 use Rattle.noc_rows.specs.Bits.{less, plus}
 use Rattle.noc_rows.specs.Column.{Column, RouterMarks, IsColumn}
 use Rattle.noc_rows.specs.Fields.{Fields, IsFields}
-use Rattle.noc_rows.specs.Passes.{Effects, lane_heads, lane_no_flit, lane_no_idle_channel, lane_standing, lane_verdicts}
+use Rattle.noc_rows.specs.Passes.{Effects, lane_heads, lane_standing, lane_verdicts}
 use Rattle.noc_rows.specs.Tallied.{ShowsCounts, ShowsLastEvent, nine_counts, ten_counts, with_verdicts}
 use Rattle.noc_rows.specs.declared.cycle.Standing.{Standing}
 use Rattle.noc_rows.specs.declared.sheet.VerdictCounts.{VerdictCounts}
