@@ -193,8 +193,8 @@ module _ (net : Setup) (setup : IsGoodSetup net) (n r : ℕ) (l : r < nodes net.
         ∙ ap (λ b. b && nat_eq (word before.credits k) 0) (or-zero (bit_or (word before.flits k) (lane_injected bits c)) (lowest (lane_begins local n s.due c))
         ∙ ap (λ b. b && nat_eq (lowest (lane_begins local n s.due c)) 0) (or-zero (word before.flits k) (lane_injected bits c)))
 
-    pub arrived-event : (frozen_view net setup n r l).had_event ≡ not (nat_eq (bit_or (word new.arrived.landed k) (word new.returned.credited k)) 0)
-    arrived-event =
+    pub came-event : (frozen_view net setup n r l).had_event ≡ not (nat_eq (bit_or (word new.arrived.landed k) (word new.returned.credited k)) 0)
+    came-event =
         injected-event n w
         ∙ ap₂ (λ a b. a || b) (taken-event (word before.flits k) (word before.credits k) ring wires) (went-some u went (injection_in n w) goes.goes (λ i e. (goes.local i e).1) low)
         ∙ ap₂ (λ a b. not a || not b) (or-zero (word before.flits k) (word before.credits k)) (or-zero (lane_injected bits c) (lowest (lane_begins local n s.due c)))

@@ -62,8 +62,8 @@ pub mod AllocateLaws
 pub mod RouteLemmas
 pub mod RouteLaws
 pub mod RoundLaws
-pub mod TallyLaws
 pub mod CameLemmas
 pub mod CameLaws
+pub mod TallyLaws
 pub mod StayLaws
 pub mod BlankLaws

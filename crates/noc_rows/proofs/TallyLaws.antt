@@ -1,6 +1,6 @@
 -- A router that is awake in a cycle: what was counted of its channels after it, and its last event.
 use Rattle.std.proofs.Common.{◌≡◌, ℕ, suc, ◌+◌, ◌-◌, ◌*◌, ◌%◌, ◌^◌, ◌<◌, ◌≤◌, Bool, true, false, List, [], length, sum, refl, ap, sym, ◌∙◌, subst, arith, add-one, bit_and, bit_or}
-use Rattle.std.specs.Prelude.{◌&&◌, not, nat_eq, slice_index_or, if◌then◌else◌}
+use Rattle.std.specs.Prelude.{◌&&◌, not, nat_eq, nat_le, nat_lt, slice_index_or, if◌then◌else◌}
 use Rattle.noc_topo.specs.Shape.{nodes, ports}
 use Rattle.noc_topo.proofs.WordLemmas.{length-tabulate}
 use Rattle.noc_packet.specs.Set.{has_bit}
@@ -8,20 +8,28 @@ use Rattle.noc_packet.proofs.SetLemmas.{both_members}
 use Rattle.noc_alloc.specs.Arbiter.{turn_at}
 use Rattle.noc_router.specs.Counts.{one_if}
 use Rattle.noc_router.specs.Standing.{is_won_from}
-use Rattle.noc_router.specs.View.{Site, View, first_flit, is_tail, planned, size_of, view_input, view_round}
+use Rattle.noc_router.specs.View.{Site, View, first_flit, is_tail, local_channel, planned, size_of, view_input, view_round}
 use Rattle.noc_model.specs.declared.limits.TheConstants.{CYCLE_LIMIT}
 use Rattle.noc_model.specs.Good.{IsGoodSetup}
 use Rattle.noc_model.specs.Lockstep.{counts_before, view_at, view_in}
 use Rattle.noc_model.specs.Network.{Setup, size}
+use Rattle.noc_rows.specs.Arrive.{HasArrived}
 use Rattle.noc_rows.specs.Bits.{less, plus}
-use Rattle.noc_rows.specs.Column.{Column, RouterMarks, IsColumn}
+use Rattle.noc_rows.specs.Column.{Column, RouterMarks, IsColumn, ShowsWires}
 use Rattle.noc_rows.specs.Fields.{Fields, IsFields}
-use Rattle.noc_rows.specs.Passes.{Effects, lane_heads, lane_standing, lane_verdicts}
+use Rattle.noc_rows.specs.Passes.{Effects, lane_heads, lane_standing, lane_verdicts, owner_in}
+use Rattle.noc_rows.specs.Planes.{words_of}
+use Rattle.noc_rows.specs.Rows.{column_at, word}
+use Rattle.noc_rows.specs.Source.{ShowsSource, source_at}
 use Rattle.noc_rows.specs.Tallied.{ShowsCounts, ShowsLastEvent, nine_counts, ten_counts, with_verdicts}
+use Rattle.noc_rows.specs.declared.block.Block.{Block}
 use Rattle.noc_rows.specs.declared.cycle.Standing.{Standing}
 use Rattle.noc_rows.specs.declared.sheet.VerdictCounts.{VerdictCounts}
 use Rattle.noc_rows.specs.declared.sheet.Verdicts.{Verdicts}
+use Rattle.noc_rows.specs.declared.starts.Start.{Start}
+use Rattle.noc_rows.specs.declared.wires.Inbox.{Inbox}
 use Rattle.noc_rows.proofs.BitLemmas.{and_fits, less_fits}
+use Rattle.noc_rows.proofs.CameLaws.{came-event}
 use Rattle.noc_rows.proofs.CountLaws.{counts-decided, counts-put, event-after, event-put, injected-keeps}
 use Rattle.noc_rows.proofs.DecideLemmas.{AreDecided, HasTurns}
 use Rattle.noc_rows.proofs.EventLaws.{event-decided}
@@ -213,3 +221,15 @@ module _ (net : Setup) (setup : IsGoodSetup net) (n r : ℕ) (l : r < nodes net.
         (event-after (planned net.relation v) v last (bit_or (bit_or (bit_or (bit_or landed credited) (lane_heads filled c)) granted) moved) n
         (subst (ShowsLastEvent last) (sym frozen-keeps.1) before) frozen-keeps.2 (omega (arith, few))
         (event-decided net.relation 5 f c v filled lost e shows.words effects frame-here width-here shows.channels fill turns decided round.granted_below round.moved_below landed credited had))))
+
+  -- whether something came to router k of a block or was injected, after an arrival
+  pub arrived-event : (count links local room : ℕ) (starts : List Start) (m : RouterMarks) (old new : Block) (before after : Inbox) (k : ℕ) (ring : ℕ → List ℕ)
+      → IsColumn count (column_at old.lanes k) m (view_at net n r) → ShowsWires (view_at net n r) (word before.flits k) (word before.credits k) ring (beats net setup n r l)
+      → ShowsSource starts (source_at old.sources k) (view_at net n r)
+      → net.places < 2 ^ count → 0 < net.places
+      → ((i : ℕ) → has_bit local i ≡ (nat_le (local_channel (view_at net n r).site 0) i && nat_lt i (size_of (view_at net n r).site)))
+      → ((o : ℕ) → m.owner o % 32 ≡ owner_in old.marks.owner k o)
+      → HasArrived (words_of count net.places) links local n room starts old new before after k
+      → (frozen_view net setup n r l).had_event ≡ not (nat_eq (bit_or (word new.arrived.landed k) (word new.returned.credited k)) 0)
+  arrived-event count links local room starts m old new before after k ring column wires source fits some_place is-local named arrived =
+      came-event net setup n r l few count links local room starts m old new before after k ring column wires source narrow fits some_place is-local named arrived
