@@ -7,6 +7,7 @@ use Rattle.noc_packet.specs.Set.{has_bit}
 use Rattle.noc_packet.proofs.SetLemmas.{both_members}
 use Rattle.noc_alloc.specs.Arbiter.{turn_at}
 use Rattle.noc_router.specs.Counts.{one_if}
+use Rattle.noc_router.specs.Members.{AreBelow}
 use Rattle.noc_router.specs.Standing.{is_won_from}
 use Rattle.noc_router.specs.View.{Site, View, first_flit, is_tail, local_channel, planned, size_of, view_input, view_round}
 use Rattle.noc_model.specs.declared.limits.TheConstants.{CYCLE_LIMIT}
@@ -107,81 +108,44 @@ module _ (net : Setup) (setup : IsGoodSetup net) (n r : ℕ) (l : r < nodes net.
   frozen-few : size_of (frozen_view net setup n r l).site ≤ 31
   frozen-few = subst (λ (s : Site). size_of s ≤ 31) (sym (frozen-seen net setup n r l).site) narrow
 
-  -- where these words show the frozen state
-  module _ (f : Fields) (c : Column) (m : RouterMarks) (filled granted lost moved : ℕ) (standing : Standing)
+  frame-here : (f : Fields) → IsFields (ports net.relation.grid) f → IsFields (ports (frozen_view net setup n r l).site.grid) f
+  frame-here f frame = subst (λ (s : Site). IsFields (ports s.grid) f) (sym (frozen-seen net setup n r l).site) frame
+
+  width-here : (f : Fields) → f.width ≡ net.relation.vcs → f.width ≡ (frozen_view net setup n r l).site.vcs
+  width-here f width = width ∙ sym (ap (λ (s : Site). s.vcs) (frozen-seen net setup n r l).site)
+
+  turns-here : (c : Column) (m : RouterMarks) → IsColumn 5 c m (frozen_view net setup n r l) → HasTurns c (frozen_view net setup n r l)
+  turns-here c m shows =
+      let are = (frozen-arbiters net setup n r l).inputs in
+      record {
+        ahead = shows.turns.inputs;
+        pointers = subst (λ (s : Site). (p : ℕ) → p < ports s.grid → (turn_at (frozen_view net setup n r l).arbiters.inputs p).pointer < s.vcs) (sym (frozen-seen net setup n r l).site) are.pointers;
+        arbiters = are.count ∙ sym (ap (λ (s : Site). ports s.grid) (frozen-seen net setup n r l).site);
+      }
+
+  -- where these words show the frozen state, and this has been decided
+  module _ (f : Fields) (c : Column) (m : RouterMarks) (filled lost : ℕ) (e : Effects) (standing : Standing)
       (frame : IsFields (ports net.relation.grid) f) (width : f.width ≡ net.relation.vcs)
       (shows : IsColumn 5 c m (frozen_view net setup n r l)) (fill : AreFilled (frozen_view net setup n r l) filled)
-      (round : AreRound (frozen_view net setup n r l) granted lost moved) (stands : standing ≡ lane_standing f filled c) where
-    abbrev tails : ℕ
-    tails = tails_in (size_of (frozen_view net setup n r l).site) (λ k. is_tail (first_flit (frozen_view net setup n r l) k))
-
-    abbrev e : Effects
-    e = record {
-      heads = lane_heads filled c;
-      granted = granted;
-      moved = moved;
-      out = 0;
-      released = bit_and moved (tails_in (size_of (frozen_view net setup n r l).site) (λ k. is_tail (first_flit (frozen_view net setup n r l) k)));
-      freed = 0;
-    }
-
-    frame-here : IsFields (ports (frozen_view net setup n r l).site.grid) f
-    frame-here = subst (λ (s : Site). IsFields (ports s.grid) f) (sym (frozen-seen net setup n r l).site) frame
-
-    width-here : f.width ≡ (frozen_view net setup n r l).site.vcs
-    width-here = width ∙ sym (ap (λ (s : Site). s.vcs) (frozen-seen net setup n r l).site)
-
-    turns : HasTurns c (frozen_view net setup n r l)
-    turns =
-        let are = (frozen-arbiters net setup n r l).inputs in
-        record {
-          ahead = shows.turns.inputs;
-          pointers = subst (λ (s : Site). (p : ℕ) → p < ports s.grid → (turn_at (frozen_view net setup n r l).arbiters.inputs p).pointer < s.vcs)
-              (sym (frozen-seen net setup n r l).site) are.pointers;
-          arbiters = are.count ∙ sym (ap (λ (s : Site). ports s.grid) (frozen-seen net setup n r l).site);
-        }
-
-    effects : AreEffects e
-    effects = record {
-      heads = less_fits filled (bit_or c.waiting c.active) fill.fits;
-      granted = small-below (size_of v.site) granted (let u = frozen-few in omega (arith, u)) round.granted_below;
-      moved = small-below (size_of v.site) moved (let u = frozen-few in omega (arith, u)) round.moved_below;
-      out = omega arith;
-      released = and_fits moved tails (small-below (size_of v.site) moved (let u = frozen-few in omega (arith, u)) round.moved_below);
-      freed = omega arith;
-    }
-
-    decided : AreDecided f c (frozen_view net setup n r l) filled lost e
-    decided = record {
-      heads = refl;
-      lost_fits = small-below (size_of v.site) lost (let u = frozen-few in omega (arith, u)) round.lost_below;
-      granted = round.granted;
-      lost = round.lost;
-      moved = λ k lk.
-          round.moved.each k lk
-          ∙ ap (λ b. b && is_won_from v (view_round v) k (view_input v k).phase)
-          (sym (draws 5 c v filled shows.words shows.channels fill f frame-here width-here turns.ahead turns.pointers turns.arbiters k lk));
-      released = λ k lk. both_members moved tails k ∙ ap (λ b. has_bit moved k && b) (tails-are (size_of v.site) (λ i. is_tail (first_flit v i)) k lk);
-    }
-
+      (effects : AreEffects e) (decided : AreDecided f c (frozen_view net setup n r l) filled lost e) (stands : standing ≡ lane_standing f filled c) where
     heads-same : standing.heads ≡ lane_heads filled c
     heads-same = ap (λ (x : Standing). x.heads) stands
 
     -- the counts of its channels after the cycle, where `d` are the words after grants, routes and moves
-    pub counts-next : (d : Column) (counts next : ℕ → VerdictCounts) (routed routed_next grants grants_next losses losses_next : ℕ → ℕ)
+    pub counts-made : (d : Column) (counts next : ℕ → VerdictCounts) (routed routed_next grants grants_next losses losses_next : ℕ → ℕ)
         → d.waiting ≡ c.waiting → d.active ≡ c.active
-        → ((i : ℕ) → i < 32 → next i ≡ with_verdicts (lane_verdicts filled standing granted lost moved d) i (counts i))
-        → IsTallied standing.heads routed routed_next → IsTallied granted grants grants_next → IsTallied lost losses losses_next
+        → ((i : ℕ) → i < 32 → next i ≡ with_verdicts (lane_verdicts filled standing e.granted lost e.moved d) i (counts i))
+        → IsTallied standing.heads routed routed_next → IsTallied e.granted grants grants_next → IsTallied lost losses losses_next
         → ShowsCounts n counts routed grants losses (view_at net n r)
         → ShowsCounts (suc n) next routed_next grants_next losses_next (view_at net (suc n) r)
-    counts-next d counts next routed routed_next grants grants_next losses losses_next waiting active nexts routes_are grants_are losses_are before i li =
-        counts-at (view_at net (suc n) r) i (suc n) (n + 1) (next i) (with_verdicts (lane_verdicts filled (lane_standing f filled c) granted lost moved c) i (counts i))
-        (routed_next i) (routed i + one_if (has_bit (lane_heads filled c) i)) (grants_next i) (grants i + one_if (has_bit granted i)) (losses_next i) (losses i + one_if (has_bit lost i))
+    counts-made d counts next routed routed_next grants grants_next losses losses_next waiting active nexts routes_are grants_are losses_are before i li =
+        counts-at (view_at net (suc n) r) i (suc n) (n + 1) (next i) (with_verdicts (lane_verdicts filled (lane_standing f filled c) e.granted lost e.moved c) i (counts i))
+        (routed_next i) (routed i + one_if (has_bit (lane_heads filled c) i)) (grants_next i) (grants i + one_if (has_bit e.granted i)) (losses_next i) (losses i + one_if (has_bit lost i))
         (sym (add-one n))
-        (nexts i low ∙ ap (λ (w : Verdicts). with_verdicts w i (counts i)) (verdicts-same filled granted lost moved standing (lane_standing f filled c) c d stands waiting active))
+        (nexts i low ∙ ap (λ (w : Verdicts). with_verdicts w i (counts i)) (verdicts-same filled e.granted lost e.moved standing (lane_standing f filled c) c d stands waiting active))
         (one-more (has_bit (lane_heads filled c) i) (routed i) (routed_next i) (omega (arith, was, few))
         (routes_are i low ∙ ap (λ w. if has_bit w i then plus (routed i) 1 else routed i) heads-same))
-        (one-more (has_bit granted i) (grants i) (grants_next i) (omega (arith, was, few)) (grants_are i low))
+        (one-more (has_bit e.granted i) (grants i) (grants_next i) (omega (arith, was, few)) (grants_are i low))
         (one-more (has_bit lost i) (losses i) (losses_next i) (omega (arith, was, few)) (losses_are i low))
         (after i li)
       where
@@ -202,25 +166,87 @@ module _ (net : Setup) (setup : IsGoodSetup net) (n r : ℕ) (l : r < nodes net.
         frozen-many : length (frozen_view net setup n r l).counts ≡ size_of (frozen_view net setup n r l).site
         frozen-many = ap (λ (cs : List (List ℕ)). length cs) frozen-keeps.0 ∙ counts-many ∙ sym (ap (λ (s : Site). size_of s) frozen-site)
 
-        after : ShowsCounts (n + 1) (λ i. with_verdicts (lane_verdicts filled (lane_standing f filled c) granted lost moved c) i (counts i))
-            (λ i. routed i + one_if (has_bit (lane_heads filled c) i)) (λ i. grants i + one_if (has_bit granted i)) (λ i. losses i + one_if (has_bit lost i)) (view_at net (suc n) r)
+        after : ShowsCounts (n + 1) (λ i. with_verdicts (lane_verdicts filled (lane_standing f filled c) e.granted lost e.moved c) i (counts i))
+            (λ i. routed i + one_if (has_bit (lane_heads filled c) i)) (λ i. grants i + one_if (has_bit e.granted i)) (λ i. losses i + one_if (has_bit lost i)) (view_at net (suc n) r)
         after =
-            subst (λ (u : View). ShowsCounts (n + 1) (λ i. with_verdicts (lane_verdicts filled (lane_standing f filled c) granted lost moved c) i (counts i))
-            (λ i. routed i + one_if (has_bit (lane_heads filled c) i)) (λ i. grants i + one_if (has_bit granted i)) (λ i. losses i + one_if (has_bit lost i)) u) (next-count net setup n r l few)
+            subst (λ (u : View). ShowsCounts (n + 1) (λ i. with_verdicts (lane_verdicts filled (lane_standing f filled c) e.granted lost e.moved c) i (counts i))
+            (λ i. routed i + one_if (has_bit (lane_heads filled c) i)) (λ i. grants i + one_if (has_bit e.granted i)) (λ i. losses i + one_if (has_bit lost i)) u) (next-count net setup n r l few)
             (counts-put (n + 1) _ _ _ _ net.relation (view_at net n r) (beats net setup n r l) n
-            (counts-decided net.relation 5 f c v filled lost e shows.words effects frame-here width-here shows.channels fill turns decided n counts routed grants losses (omega (arith, few)) frozen-many frozen-counts))
+            (counts-decided net.relation 5 f c v filled lost e shows.words effects (frame-here f frame) (width-here f width) shows.channels fill (turns-here c m shows) decided n counts routed grants losses
+            (omega (arith, few)) frozen-many frozen-counts))
+
+    -- its last event, where something came to these channels
+    pub event-made : (last landed credited : ℕ) → AreBelow (size_of (frozen_view net setup n r l).site) e.granted → AreBelow (size_of (frozen_view net setup n r l).site) e.moved
+        → (frozen_view net setup n r l).had_event ≡ not (nat_eq (bit_or landed credited) 0)
+        → ShowsLastEvent last (view_at net n r).last_event
+        → ShowsLastEvent (if nat_eq (bit_or (bit_or (bit_or (bit_or landed credited) standing.heads) e.granted) e.moved) 0 then last else (n + 1) % 2 ^ 32) (view_at net (suc n) r).last_event
+    event-made last landed credited granted_below moved_below had before =
+        subst (λ h. ShowsLastEvent (if nat_eq (bit_or (bit_or (bit_or (bit_or landed credited) h) e.granted) e.moved) 0 then last else (n + 1) % 2 ^ 32) (view_at net (suc n) r).last_event) (sym heads-same)
+        (subst (λ (u : View). ShowsLastEvent (if nat_eq (bit_or (bit_or (bit_or (bit_or landed credited) (lane_heads filled c)) e.granted) e.moved) 0 then last else (n + 1) % 2 ^ 32) u.last_event) (next-count net setup n r l few)
+        (event-put (if nat_eq (bit_or (bit_or (bit_or (bit_or landed credited) (lane_heads filled c)) e.granted) e.moved) 0 then last else (n + 1) % 2 ^ 32) net.relation (view_at net n r) (beats net setup n r l) n
+        (event-after (planned net.relation v) v last (bit_or (bit_or (bit_or (bit_or landed credited) (lane_heads filled c)) e.granted) e.moved) n
+        (subst (ShowsLastEvent last) (sym frozen-keeps.1) before) frozen-keeps.2 (omega (arith, few))
+        (event-decided net.relation 5 f c v filled lost e shows.words effects (frame-here f frame) (width-here f width) shows.channels fill (turns-here c m shows) decided granted_below moved_below landed credited had))))
+
+  -- .. and these sets are those of the round
+  module _ (f : Fields) (c : Column) (m : RouterMarks) (filled granted lost moved : ℕ) (standing : Standing)
+      (frame : IsFields (ports net.relation.grid) f) (width : f.width ≡ net.relation.vcs)
+      (shows : IsColumn 5 c m (frozen_view net setup n r l)) (fill : AreFilled (frozen_view net setup n r l) filled)
+      (round : AreRound (frozen_view net setup n r l) granted lost moved) (stands : standing ≡ lane_standing f filled c) where
+    abbrev tails : ℕ
+    tails = tails_in (size_of (frozen_view net setup n r l).site) (λ k. is_tail (first_flit (frozen_view net setup n r l) k))
+
+    abbrev e : Effects
+    e = record {
+      heads = lane_heads filled c;
+      granted = granted;
+      moved = moved;
+      out = 0;
+      released = bit_and moved (tails_in (size_of (frozen_view net setup n r l).site) (λ k. is_tail (first_flit (frozen_view net setup n r l) k)));
+      freed = 0;
+    }
+
+    turns : HasTurns c (frozen_view net setup n r l)
+    turns = turns-here c m shows
+
+    round-effects : AreEffects e
+    round-effects = record {
+      heads = less_fits filled (bit_or c.waiting c.active) fill.fits;
+      granted = small-below (size_of v.site) granted (let u = frozen-few in omega (arith, u)) round.granted_below;
+      moved = small-below (size_of v.site) moved (let u = frozen-few in omega (arith, u)) round.moved_below;
+      out = omega arith;
+      released = and_fits moved tails (small-below (size_of v.site) moved (let u = frozen-few in omega (arith, u)) round.moved_below);
+      freed = omega arith;
+    }
+
+    round-decided : AreDecided f c (frozen_view net setup n r l) filled lost e
+    round-decided = record {
+      heads = refl;
+      lost_fits = small-below (size_of v.site) lost (let u = frozen-few in omega (arith, u)) round.lost_below;
+      granted = round.granted;
+      lost = round.lost;
+      moved = λ k lk.
+          round.moved.each k lk
+          ∙ ap (λ b. b && is_won_from v (view_round v) k (view_input v k).phase)
+          (sym (draws 5 c v filled shows.words shows.channels fill f (frame-here f frame) (width-here f width) turns.ahead turns.pointers turns.arbiters k lk));
+      released = λ k lk. both_members moved tails k ∙ ap (λ b. has_bit moved k && b) (tails-are (size_of v.site) (λ i. is_tail (first_flit v i)) k lk);
+    }
+
+    -- the counts of its channels after the cycle, where `d` are the words after grants, routes and moves
+    pub counts-next : (d : Column) (counts next : ℕ → VerdictCounts) (routed routed_next grants grants_next losses losses_next : ℕ → ℕ)
+        → d.waiting ≡ c.waiting → d.active ≡ c.active
+        → ((i : ℕ) → i < 32 → next i ≡ with_verdicts (lane_verdicts filled standing granted lost moved d) i (counts i))
+        → IsTallied standing.heads routed routed_next → IsTallied granted grants grants_next → IsTallied lost losses losses_next
+        → ShowsCounts n counts routed grants losses (view_at net n r)
+        → ShowsCounts (suc n) next routed_next grants_next losses_next (view_at net (suc n) r)
+    counts-next = counts-made f c m filled lost e standing frame width shows fill round-effects round-decided stands
 
     -- its last event, where something came to these channels
     pub event-next : (last landed credited : ℕ) → (frozen_view net setup n r l).had_event ≡ not (nat_eq (bit_or landed credited) 0)
         → ShowsLastEvent last (view_at net n r).last_event
         → ShowsLastEvent (if nat_eq (bit_or (bit_or (bit_or (bit_or landed credited) standing.heads) granted) moved) 0 then last else (n + 1) % 2 ^ 32) (view_at net (suc n) r).last_event
     event-next last landed credited had before =
-        subst (λ h. ShowsLastEvent (if nat_eq (bit_or (bit_or (bit_or (bit_or landed credited) h) granted) moved) 0 then last else (n + 1) % 2 ^ 32) (view_at net (suc n) r).last_event) (sym heads-same)
-        (subst (λ (u : View). ShowsLastEvent (if nat_eq (bit_or (bit_or (bit_or (bit_or landed credited) (lane_heads filled c)) granted) moved) 0 then last else (n + 1) % 2 ^ 32) u.last_event) (next-count net setup n r l few)
-        (event-put (if nat_eq (bit_or (bit_or (bit_or (bit_or landed credited) (lane_heads filled c)) granted) moved) 0 then last else (n + 1) % 2 ^ 32) net.relation (view_at net n r) (beats net setup n r l) n
-        (event-after (planned net.relation v) v last (bit_or (bit_or (bit_or (bit_or landed credited) (lane_heads filled c)) granted) moved) n
-        (subst (ShowsLastEvent last) (sym frozen-keeps.1) before) frozen-keeps.2 (omega (arith, few))
-        (event-decided net.relation 5 f c v filled lost e shows.words effects frame-here width-here shows.channels fill turns decided round.granted_below round.moved_below landed credited had))))
+        event-made f c m filled lost e standing frame width shows fill round-effects round-decided stands last landed credited round.granted_below round.moved_below had before
 
   -- whether something came to router k of a block or was injected, after an arrival
   pub arrived-event : (count links local room : ℕ) (starts : List Start) (m : RouterMarks) (old new : Block) (before after : Inbox) (k : ℕ) (ring : ℕ → List ℕ)
