@@ -1,10 +1,10 @@
 -- A router that is awake in a cycle: what was counted of its channels after it, and its last event.
 use Rattle.std.proofs.Common.{◌≡◌, ℕ, suc, ◌+◌, ◌-◌, ◌*◌, ◌%◌, ◌^◌, ◌<◌, ◌≤◌, Bool, true, false, List, [], length, sum, refl, ap, sym, ◌∙◌, subst, arith, add-one, bit_and, bit_or}
-use Rattle.std.specs.Prelude.{◌&&◌, not, nat_eq, nat_le, nat_lt, slice_index_or, if◌then◌else◌}
+use Rattle.std.specs.Prelude.{◌&&◌, not, nat_eq, nat_le, nat_lt, slice_index, slice_index_or, if◌then◌else◌}
 use Rattle.noc_topo.specs.Shape.{nodes, ports}
-use Rattle.noc_topo.proofs.WordLemmas.{length-tabulate}
+use Rattle.noc_topo.proofs.WordLemmas.{get_or-tabulate, length-tabulate}
 use Rattle.noc_packet.specs.Set.{has_bit}
-use Rattle.noc_packet.proofs.SetLemmas.{both_members}
+use Rattle.noc_packet.proofs.SetLemmas.{both_members, has_bit-zero}
 use Rattle.noc_alloc.specs.Arbiter.{turn_at}
 use Rattle.noc_router.specs.Counts.{one_if}
 use Rattle.noc_router.specs.Members.{AreBelow}
@@ -16,11 +16,12 @@ use Rattle.noc_model.specs.Lockstep.{counts_before, view_at, view_in}
 use Rattle.noc_model.specs.Network.{Setup, size}
 use Rattle.noc_rows.specs.Arrive.{HasArrived}
 use Rattle.noc_rows.specs.Bits.{less, plus}
-use Rattle.noc_rows.specs.Column.{Column, RouterMarks, IsColumn, ShowsWires}
+use Rattle.noc_rows.specs.Column.{Column, RouterMarks, IsColumn, ShowsWires, place_of}
 use Rattle.noc_rows.specs.Fields.{Fields, IsFields}
+use Rattle.noc_rows.specs.Grants.{AreTallied}
 use Rattle.noc_rows.specs.Passes.{Effects, lane_heads, lane_standing, lane_verdicts, owner_in}
 use Rattle.noc_rows.specs.Planes.{words_of}
-use Rattle.noc_rows.specs.Rows.{column_at, word}
+use Rattle.noc_rows.specs.Rows.{column_at, of_router, word}
 use Rattle.noc_rows.specs.Source.{ShowsSource, source_at}
 use Rattle.noc_rows.specs.Tallied.{ShowsCounts, ShowsLastEvent, nine_counts, ten_counts, with_verdicts}
 use Rattle.noc_rows.specs.declared.block.Block.{Block}
@@ -42,6 +43,20 @@ use Rattle.noc_rows.proofs.StandLemmas.{AreFilled, draws}
 -- one more for each of these channels; a tally at its greatest value goes on from 0
 abbrev pub IsTallied : ℕ → (ℕ → ℕ) → (ℕ → ℕ) → Type 0
 IsTallied set old new = (i : ℕ) → i < 32 → new i ≡ (if has_bit set i then plus (old i) 1 else old i)
+
+-- the tallies of the channels of router j, by those of all channels of a block
+of-router : (entries : List ℕ) (j i : ℕ) → i < 32 → slice_index (of_router entries j) i ≡ slice_index_or entries (j * 32 + i) 0
+of-router entries j i l = get_or-tabulate 32 i (λ i. slice_index entries (place_of j i)) 0 l
+
+pub tallied-of : (set j : ℕ) (old new : List ℕ) → AreTallied set (of_router old j) (of_router new j) → IsTallied set (λ i. slice_index_or old (j * 32 + i) 0) (λ i. slice_index_or new (j * 32 + i) 0)
+tallied-of set j old new are i l =
+    sym (of-router new j i l) ∙ are i ∙ ap (λ x. if has_bit set i then plus x 1 else x) (of-router old j i l)
+
+-- .. where none has risen
+pub tallied-none : (set j : ℕ) (old new : List ℕ) → set ≡ 0 → of_router new j ≡ of_router old j → IsTallied set (λ i. slice_index_or old (j * 32 + i) 0) (λ i. slice_index_or new (j * 32 + i) 0)
+tallied-none set j old new none same i l =
+    sym (of-router new j i l) ∙ ap (λ (xs : List ℕ). slice_index xs i) same ∙ of-router old j i l
+    ∙ sym (ap (λ b. if b then plus (slice_index_or old (j * 32 + i) 0) 1 else slice_index_or old (j * 32 + i) 0) (ap (λ w. has_bit w i) none ∙ has_bit-zero i))
 
 -- a tally that is not at its greatest value has risen by one
 one-more : (b : Bool) (old new : ℕ) → old < 2 ^ 32 - 1 → new ≡ (if b then plus old 1 else old) → new ≡ old + one_if b
