@@ -185,6 +185,11 @@ module _ (net : Setup) (setup : IsGoodSetup net) where
     unfolding waited
     same-event = ap (λ (u : View). u.last_event) stays
 
+    -- the arrivals that it has noted
+    pub ends-stay : (view_at net end r).ends ≡ (view_at net n r).ends
+    unfolding waited
+    ends-stay = ap (λ (u : View). u.ends) stays
+
     pub all-stay : (starts : List Start) (w : RouterWords) → ShowsRouter starts n w (view_at net n r) (beats_at (beats_in net (state_at net n)) r)
         → ShowsRouter starts end w (view_at net end r) (beats_at (beats_in net (state_at net end)) r)
     all-stay starts w shows = record {
