@@ -136,7 +136,7 @@ module _ (relation : Routes) (count : ℕ) (c : Column) (m : RouterMarks) (v : V
   phase_w i l = ap (λ (y : Input). y.phase) (taken.input i l) ∙ phase-kept (view_input v i) (flit_from v.site.vcs 0 beats i)
 
   -- what the source has injected
-  sent : HasSent c starts s u x (lane_injected (words_of count v.site.places) c) (lane_begins local n s.due c) (bit_or (lane_injected (words_of count v.site.places) c) (lowest (lane_begins local n s.due c))) (injection_in n w)
+  pub sent : HasSent c starts s u x (lane_injected (words_of count v.site.places) c) (lane_begins local n s.due c) (bit_or (lane_injected (words_of count v.site.places) c) (lowest (lane_begins local n s.due c))) (injection_in n w)
   sent =
       subst (λ (y : View). HasSent c starts s u y (lane_injected (words_of count v.site.places) c) (lane_begins local n s.due c) (bit_or (lane_injected (words_of count v.site.places) c) (lowest (lane_begins local n s.due c))) (injection_in n w)) (sym (injected-is n w))
       (subst (λ (o : Option (ℕ × Flit)). HasSent c starts s u (injected_from n w.queue w.sending u) (lane_injected (words_of count v.site.places) c) (lane_begins local n s.due c) (bit_or (lane_injected (words_of count v.site.places) c) (lowest (lane_begins local n s.due c))) o) (given-same n w.queue w.sending w)

@@ -68,3 +68,9 @@ pub mod CanMoveLaws
 pub mod NextWires
 pub mod LaneWires
 pub mod OpeningWires
+pub mod RoundLaws
+pub mod CameLemmas
+pub mod CameLaws
+pub mod TallyLaws
+pub mod StayLaws
+pub mod BlankLaws

@@ -129,7 +129,7 @@ taken-silent relation port (beat ∷ row) v silent =
     let one : taken relation port beat v ≡ v = ap (λ (b : Beat). with_credit port b.credit (with_flit relation port b.flit v)) (silent 0) in
     ap (taken_from relation (port + 1) row) one ∙ taken-silent relation (port + 1) row v (λ k. silent (suc k))
 
-all-silent : (relation : Routes) (row : List Beat) (v : View) → IsSilent row → all_taken relation row v ≡ v
+pub all-silent : (relation : Routes) (row : List Beat) (v : View) → IsSilent row → all_taken relation row v ≡ v
 unfolding all_taken
 all-silent relation row v silent = taken-silent relation 0 row v silent
 
