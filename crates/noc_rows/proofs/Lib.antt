@@ -61,3 +61,5 @@ pub mod GrantLemmas
 pub mod AllocateLaws
 pub mod RouteLemmas
 pub mod RouteLaws
+pub mod StartLemmas
+pub mod ListedLemmas
