@@ -63,3 +63,5 @@ pub mod RouteLemmas
 pub mod RouteLaws
 pub mod StartLemmas
 pub mod ListedLemmas
+pub mod OpenLemmas
+pub mod BlockLaws

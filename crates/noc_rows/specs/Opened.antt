@@ -3,7 +3,7 @@ use Rattle.std.specs.Prelude.{◌≡◌, ◌≢◌, ℕ, zero, suc, ◌+◌, ◌
 use Rattle.std.specs.List.{All}
 use Rattle.noc_topo.specs.Shape.{nodes, neighbour}
 use Rattle.noc_packet.specs.Packet.{IsWithinLimits, flit_at}
-use Rattle.noc_packet.specs.declared.limits.TheConstants.{MAX_PACKETS}
+use Rattle.noc_packet.specs.declared.limits.TheConstants.{MAX_NODES, MAX_PACKETS}
 use Rattle.noc_packet.specs.Set.{has_bit}
 use Rattle.noc_packet.specs.declared.packet.Packet.{Packet}
 use Rattle.noc_route.specs.Routes.{Routes}
@@ -48,11 +48,12 @@ pub record IsEndFrom (starts : List Start) (place end : ℕ) : Type 0 where
   pub is : (start_in starts end).due ≡ NEVER
   pub first : (k : ℕ) → place ≤ k → k < end → (start_in starts k).due ≢ NEVER
 
--- these are the starts of the packets of a network on a relation: few packets, all within the limits
+-- these are the starts of the packets of a network on a relation: few packets and routers, all within the limits
 pub record AreStartsOf (relation : Routes) (frame : Frame) (packets : List Packet) (starts : List Start) : Type 0 where
   pub few : length packets ≤ MAX_PACKETS
   pub limits : All IsWithinLimits packets
   pub all : frame.nodes ≡ nodes relation.grid
+  pub small : frame.nodes ≤ MAX_NODES
   pub list : starts ≡ starts_list packets frame.nodes
 
 -- ---- the blocks
@@ -103,7 +104,7 @@ pub record IsAsleep (block : Block) : Type 0 where
   pub awake : block.awake ≡ false
 
 -- a block in which nothing has happened, no router has packets, and no flit has gone into a ring
-pub record IsBlank (block : Block) : Type 0 where
+pub record IsEmptyBlock (block : Block) : Type 0 where
   pub first : (p : ℕ) → p < 1024 → slice_index block.marks.first p ≡ 0
   pub last_event : (k : ℕ) → k < 32 → word block.last_event k ≡ 0
   pub routed : (p : ℕ) → p < 1024 → slice_index_or block.tallies.routed p 0 ≡ 0
