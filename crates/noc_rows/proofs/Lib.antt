@@ -65,3 +65,5 @@ pub mod StartLemmas
 pub mod ListedLemmas
 pub mod OpenLemmas
 pub mod BlockLaws
+pub mod LeadLaws
+pub mod OpenedLaws

@@ -1,13 +1,13 @@
 -- The list of all starts, node by node.
-use Rattle.std.proofs.Common.{◌≡◌, ◌≢◌, ℕ, zero, suc, ◌+◌, ◌*◌, ◌^◌, ◌-◌, ◌<◌, ◌≤◌, List, [], ◌∷◌, ◌++◌, length, map, take, get_or, refl, ap, ap₂, sym, subst, ◌∙◌, arith, inl, inr, add-one, length-append, append_assoc}
-use Rattle.std.specs.Prelude.{◌⊎◌, Option, Some, None, slice_get, unwrap_or}
+use Rattle.std.proofs.Common.{◌≡◌, ◌≢◌, ℕ, zero, suc, ◌+◌, ◌*◌, ◌-◌, ◌<◌, ◌≤◌, List, [], ◌∷◌, ◌++◌, length, map, take, get_or, refl, ap, ap₂, sym, subst, ◌∙◌, arith, inl, inr, add-one, length-append, append_assoc}
+use Rattle.std.specs.Prelude.{◌⊎◌, Option, Some, slice_get, unwrap_or}
 use Rattle.std.proofs.lemmas.Option.{unwrap_or-slice_get}
 use Rattle.std.proofs.Math.Seq.{get_or-append_seam, get_or-append_right}
 use Rattle.std.specs.List.{All}
-use Rattle.std.proofs.lemmas.Bool.{cases_eq, cases_lt}
+use Rattle.std.proofs.lemmas.Bool.{cases_eq}
 use Rattle.std.proofs.lemmas.List.{length-map, append-nil, get_or_append_left}
 use Rattle.noc_topo.specs.Words.{Has}
-use Rattle.noc_packet.specs.Packet.{IsWithinLimits, flit_at}
+use Rattle.noc_packet.specs.Packet.{IsWithinLimits}
 use Rattle.noc_packet.specs.declared.packet.Packet.{Packet}
 use Rattle.noc_model.specs.Lockstep.{starts_of}
 use Rattle.noc_rows.specs.Opened.{IsEndFrom, start_value, with_end, starts_list}
