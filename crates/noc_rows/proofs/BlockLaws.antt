@@ -90,7 +90,7 @@ module _ (relation : Routes) (frame : Frame) (packets : List Packet) (count : �
         record {
           columns = λ k l. ap (λ (x : Block). column_at x.lanes k) rest ∙ before.columns k l;
           marks = λ k l. subst (λ (x : Block). AreEmptyMarks (marks_at x.marks k)) (sym rest) (before.marks k l);
-          first = λ p l. ap (λ (x : Block). slice_index x.marks.first p) rest ∙ before.first p l;
+          first = λ p. ap (λ (x : Block). slice_index x.marks.first p) rest ∙ before.first p;
           last_event = λ k l. ap (λ (x : Block). word x.last_event k) rest ∙ before.last_event k l;
           routed = λ p l. ap (λ (x : Block). get_or x.tallies.routed p 0) rest ∙ before.routed p l;
           granted = λ p l. ap (λ (x : Block). get_or x.tallies.granted p 0) rest ∙ before.granted p l;

@@ -164,7 +164,7 @@ open-words relation frame packets blocks b block inbox room k counts opened none
   marks = opened.marks k l;
   flits = none.flits k l;
   credits = none.credits k l;
-  ring = λ i li. open-ring room inbox (place_of k i) (slice_index block.marks.first (place_of k i)) none (omega (arith, l, li)) (opened.first (place_of k i) (omega (arith, l, li)));
+  ring = λ i li. open-ring room inbox (place_of k i) (slice_index block.marks.first (place_of k i)) none (omega (arith, l, li)) (opened.first (place_of k i));
   source = opened.sources k l router;
   last_event = opened.last_event k l;
   counts = zeros;

@@ -1,5 +1,6 @@
 use Rattle.noc_rows.proofs.FrameLemmas.{same-each, same-port}
 use Rattle.std.proofs.Common.{refl}
+use Rattle.noc_router.proofs.QuietLemmas.{at_replicate}
 use Rattle.noc_rows.proofs.OpenLemmas.{none-at, sources-none}
 use Rattle.noc_rows.proofs.open.new_block.Goals as goal
 
@@ -12,7 +13,7 @@ returns-clause-marks c k l = record {
 
 pub returns-clause-blank : goal.returns-clause-blank
 returns-clause-blank c = record {
-  first = λ p l. none-at 1024 p l;
+  first = λ p. at_replicate 0 1024 p;
   last_event = λ k l. none-at 32 k l;
   routed = λ p l. none-at 1024 p l;
   granted = λ p l. none-at 1024 p l;
