@@ -1,20 +1,18 @@
 -- The blocks before the first cycle, router by router.
-use Rattle.std.proofs.Common.{◌≡◌, ◌≢◌, ℕ, ◌+◌, ◌*◌, ◌/◌, ◌%◌, ◌^◌, ◌-◌, ◌<◌, ◌≤◌, true, List, length, get_or, set, replicate, refl, ap, ap₂, sym, subst, ◌∙◌, inl, inr, arith, bit_or, slice_index, get_or-set_same, get_or-set_other, length-set, mul-le-mul_right}
+use Rattle.std.proofs.Common.{◌≡◌, ◌≢◌, ℕ, ◌+◌, ◌*◌, ◌/◌, ◌%◌, ◌^◌, ◌<◌, ◌≤◌, List, length, get_or, set, replicate, refl, ap, ap₂, sym, subst, ◌∙◌, inl, inr, arith, bit_or, slice_index, get_or-set_same, get_or-set_other, length-set, mul-le-mul_right}
 use Rattle.std.specs.Int.{div_ceil}
-use Rattle.std.specs.Prelude.{◌⊎◌, Option, Some, None, min, slice_get}
-use Rattle.std.proofs.lemmas.Bool.{cases_eq, cases_lt}
+use Rattle.std.specs.Prelude.{◌⊎◌, Some, min, slice_get}
+use Rattle.std.proofs.lemmas.Bool.{cases_eq}
 use Rattle.std.proofs.lemmas.List.{get_or-replicate, length-replicate}
-use Rattle.std.proofs.lemmas.Option.{get_or_from_slice_get, same_Some, slice_get-get_or, slice_get_within}
+use Rattle.std.proofs.lemmas.Option.{get_or_from_slice_get, slice_get-get_or, slice_get_within}
 use Rattle.noc_topo.specs.Shape.{neighbour, nodes}
-use Rattle.noc_packet.specs.Set.{has_bit}
 use Rattle.noc_packet.specs.declared.packet.Packet.{Packet}
 use Rattle.noc_route.specs.Routes.{Routes}
 use Rattle.noc_model.specs.Lockstep.{starts_of}
 use Rattle.noc_rows.specs.Column.{place_of}
 use Rattle.noc_rows.specs.Grants.{leads_by}
-use Rattle.noc_rows.specs.Opened.{AreOpenBlocks, AreStartsOf, HasOpened, IsAsleep, IsEmptyBlock, IsEndFrom, IsLinked, IsOpenBlock, KeepsLinks, LeadsOut, no_source, opened_source, starts_list}
+use Rattle.noc_rows.specs.Opened.{AreOpenBlocks, AreStartsOf, HasOpened, IsEmptyBlock, IsEndFrom, IsLinked, IsOpenBlock, KeepsLinks, LeadsOut, no_source, opened_source, starts_list}
 use Rattle.noc_rows.specs.Opening.{AreEmptyMarks, empty_column}
-use Rattle.noc_rows.specs.Outlook.{least_below}
 use Rattle.noc_rows.specs.Rows.{column_at, marks_at, planes_of, word}
 use Rattle.noc_rows.specs.Source.{due_of, source_at, start_in}
 use Rattle.noc_rows.specs.declared.block.Block.{Block}
@@ -76,10 +74,10 @@ module _ (relation : Routes) (frame : Frame) (packets : List Packet) (count : �
           near = λ q to port lq is. keeps.near (to / 32) (links.near q to port lq is);
         }
 
-    opened-next : (place : ℕ) → queue ≡ length (starts_list packets n) → (start_in starts queue).due ≡ due_of (starts_of packets n)
+    opened-next : queue ≡ length (starts_list packets n) → (start_in starts queue).due ≡ due_of (starts_of packets n)
         → IsOpenBlock relation frame packets count n b old → HasOpened relation frame starts n (min count 8 * 1024) queue old new
         → IsOpenBlock relation frame packets count (n + 1) b new
-    opened-next place place_is due before opened =
+    opened-next place_is due before opened =
         let lane = n % 32 in
         let is_lane : b * 32 + lane ≡ n = omega (arith, here) in
         let rest = opened.others.rest in
@@ -180,7 +178,7 @@ module _ (relation : Routes) (frame : Frame) (packets : List Packet) (count : �
           let before : slice_get blocks b ≡ Some old =
           ap (slice_get blocks) e ∙ slice_get-get_or blocks (n / 32) old within ∙ ap (λ (x : Block). Some x) old_is in
           subst (λ (x : Block). IsOpenBlock relation frame packets count (n + 1) b x) same
-          (opened-next starts n queue old new b e (subst (λ m. n < m) are.all router) 0 placed.place due (placed.each b old before) opened)
+          (opened-next starts n queue old new b e (subst (λ m. n < m) are.all router) placed.place due (placed.each b old before) opened)
       at b block there (inr o) =
           let inside : b < length blocks =
           let l = slice_get_within (set blocks (n / 32) new) b block there in

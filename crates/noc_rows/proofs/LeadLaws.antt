@@ -39,7 +39,6 @@ module _ (grid : Grid) (vcs spare r i : ℕ) (sound : IsGrid grid) (some : 0 < v
   at-link : (to port : ℕ) → neighbour grid r (i / vcs) ≡ Some (to, port) → (opposite vcs i ≡ port * vcs + i % vcs) × (port * vcs + i % vcs < 31)
   at-link to port e =
       let hop = hop_of grid r (i / vcs) to port sound e in
-      let is = hop.port in
       let below : port < local_port grid = rw hop.port (turned (i / vcs) hop.link) in
       let inside : port * vcs + i % vcs < vcs * ports grid = mul-add-lt port vcs (i % vcs) (ports grid) (omega (arith, below)) (omega (arith, some)) in
       let total : vcs * ports grid ≡ ports grid * vcs = omega arith in
@@ -61,8 +60,7 @@ module _ (grid : Grid) (vcs spare r i : ℕ) (sound : IsGrid grid) (some : 0 < v
       let link = at-link to port e in
       let low : end ≡ port * vcs + i % vcs = let a = link.0 in let b = link.1 in omega (arith, is, a, b) in
       let small : port * vcs + i % vcs < 2 ^ 5 = let b = link.1 in omega (arith, b) in
-      let whole : bit_or lead end ≡ to * 32 + (port * vcs + i % vcs) = ap₂ bit_or leads low ∙ or_shifted to 5 (port * vcs + i % vcs) small in
-      whole
+      ap₂ bit_or leads low ∙ or_shifted to 5 (port * vcs + i % vcs) small
 
 module _ (net : Setup) (setup : IsGoodSetup net) (frame : Frame) (few : ports net.relation.grid * net.relation.vcs ≤ 31) (placed : (i : ℕ) → i < ports net.relation.grid * net.relation.vcs → IsPlaced net.relation.vcs frame i) (spare : ℕ) (far : nodes net.relation.grid * 32 ≤ spare) (block : Block) (r k : ℕ) (linked : IsLinked net.relation frame spare block r k) where
   abbrev grid : Grid

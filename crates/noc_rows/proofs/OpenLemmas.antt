@@ -1,6 +1,6 @@
 -- Entries that are written one by one, and the words of a block in which nothing is.
 use Rattle.std.proofs.Common.{◌≡◌, ◌≢◌, ℕ, zero, suc, ◌+◌, ◌*◌, ◌/◌, ◌%◌, ◌-◌, ◌^◌, ◌<◌, ◌≤◌, Bool, true, false, List, length, get_or, set, replicate, refl, ap, ap₂, sym, subst, ◌∙◌, inl, inr, arith, bit_or, get_or-set_same, get_or-set_other}
-use Rattle.std.specs.Prelude.{◌⊎◌, ◌||◌, min, nat_eq, slice_index_or}
+use Rattle.std.specs.Prelude.{◌⊎◌, ◌||◌, min}
 use Rattle.std.proofs.lemmas.Bool.{cases_eq, eq-eqb}
 use Rattle.std.proofs.lemmas.List.{get_or-replicate}
 use Rattle.noc_packet.specs.Set.{has_bit}

@@ -1,4 +1,4 @@
-use Rattle.std.proofs.Common.{◌≡◌, ℕ, List, length}
+use Rattle.std.proofs.Common.{◌≡◌, List, length}
 use Rattle.noc_packet.specs.declared.packet.Packet.{Packet}
 use Rattle.noc_rows.specs.Opened.{AreStartsOf}
 use Rattle.noc_rows.proofs.BlockLaws.{ArePlaced}

@@ -1,4 +1,4 @@
-use Rattle.std.proofs.Common.{◌≡◌, ℕ, ◌+◌, ◌<◌, Bool, false, List, length, replicate, get_or, ap, ap₂, sym, subst, ◌∙◌, refl, rules, arith}
+use Rattle.std.proofs.Common.{◌≡◌, ◌+◌, false, List, length, replicate, ap, sym, subst, ◌∙◌, refl, rules}
 use Rattle.std.specs.Prelude.{min}
 use Rattle.std.proofs.lemmas.List.{get_or-replicate, length-replicate}
 use Rattle.noc_rows.specs.Opened.{IsOpenInbox}
