@@ -74,3 +74,9 @@ pub mod CameLaws
 pub mod TallyLaws
 pub mod StayLaws
 pub mod BlankLaws
+pub mod StartLemmas
+pub mod ListedLemmas
+pub mod OpenLemmas
+pub mod BlockLaws
+pub mod LeadLaws
+pub mod OpenedLaws

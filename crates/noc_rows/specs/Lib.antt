@@ -22,3 +22,4 @@ pub mod Routed
 pub mod Frames
 pub mod Carried
 pub mod Blank
+pub mod Opened
