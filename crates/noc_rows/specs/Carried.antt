@@ -48,7 +48,7 @@ pub record CanMove (room limit : ℕ) (gone : ℕ → Bool) (target : ℕ → �
   pub below : (p : ℕ) → gone p ≡ true → p < limit
   pub flits : (p : ℕ) → gone p ≡ true → HasFlit (before.ring p)
   pub apart : (p q : ℕ) → gone p ≡ true → gone q ≡ true → target p ≡ target q → target p < limit → p ≡ q
-  pub room : (p : ℕ) → gone p ≡ true → target p < limit → length (before.ring (target p)) < room
+  pub free : (p : ℕ) → gone p ≡ true → target p < limit → length (before.ring (target p)) < room
 
 -- they have moved, and a credit has gone back from each; beyond the limit nothing is said of what has come
 pub record HaveMoved (limit : ℕ) (gone : ℕ → Bool) (target back : ℕ → ℕ) (before after : WireWords) : Type 0 where

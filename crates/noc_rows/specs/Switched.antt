@@ -45,15 +45,15 @@ moved_by ports selected k = union_from 0 ports (selected k)
 -- the flits of these channels of the block move next: some have gone of all that may move in the cycle, which was to start with `start`;
 -- these are of all too, have not gone, and lead where the marks say
 pub record AreNext (number : ℕ) (moved : ℕ → ℕ) (marks : Marks) (wires : Wires) (limit : ℕ) (all gone : ℕ → Bool) (target back first : ℕ → ℕ) (start : WireWords) : Type 0 where
-  pub limit : limit ≤ 1024 * length wires.inboxes.items
+  pub within : limit ≤ 1024 * length wires.inboxes.items
   pub bytes : (p : ℕ) → first p < 256
   pub can : CanMove (room_of wires.room) limit all target start
   pub so_far : HaveMoved limit gone target back start (words_with first number marks wires)
   pub part : (p : ℕ) → gone p ≡ true → all p ≡ true
   pub among : (c : ℕ) → c < 1024 → in_words moved c ≡ true → all (number * 1024 + c) ≡ true
   pub new : (c : ℕ) → c < 1024 → in_words moved c ≡ true → gone (number * 1024 + c) ≡ false
-  pub target : (c : ℕ) → c < 1024 → in_words moved c ≡ true → target (number * 1024 + c) ≡ slice_index marks.target c
-  pub back : (c : ℕ) → c < 1024 → in_words moved c ≡ true → back (number * 1024 + c) ≡ slice_index marks.back c
+  pub leads : (c : ℕ) → c < 1024 → in_words moved c ≡ true → target (number * 1024 + c) ≡ slice_index marks.target c
+  pub returns : (c : ℕ) → c < 1024 → in_words moved c ≡ true → back (number * 1024 + c) ≡ slice_index marks.back c
 
 -- these flits have moved
 abbrev pub MovesFlits : ℕ → (ℕ → ℕ) → Marks → Marks → Wires → Wires → Type 0
@@ -63,12 +63,12 @@ MovesFlits number moved old new before after =
 
 -- ---- the tails among them
 -- the first flit of a ring, whether it is a tail, and the number of its packet
-pub record HasFirst (ring : List ℕ) (tail : Bool) (packet : ℕ) : Type 0 where
+pub record HasFirst (ring : List ℕ) (is_last : Bool) (number : ℕ) : Type 0 where
   pub flit : Flit
   pub fits : FitsWord flit
   pub is : first_of ring ≡ flit_word flit
-  pub tail : tail ≡ flit.last
-  pub packet : packet ≡ flit.packet
+  pub tail : is_last ≡ flit.last
+  pub packet : number ≡ flit.packet
 
 -- .. by router and channel, of these channels of a block
 abbrev pub HaveFirsts : ℕ → (ℕ → ℕ) → WireWords → (ℕ → ℕ → Bool) → (ℕ → ℕ → ℕ) → Type 0
