@@ -61,3 +61,7 @@ pub mod GrantLemmas
 pub mod AllocateLaws
 pub mod RouteLemmas
 pub mod RouteLaws
+pub mod CarryLaws
+pub mod StepLemmas
+pub mod SendLemmas
+pub mod NotedLemmas
