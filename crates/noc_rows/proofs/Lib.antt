@@ -65,3 +65,4 @@ pub mod CarryLaws
 pub mod StepLemmas
 pub mod SendLemmas
 pub mod NotedLemmas
+pub mod MovedLemmas
