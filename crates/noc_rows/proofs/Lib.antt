@@ -66,3 +66,4 @@ pub mod StepLemmas
 pub mod SendLemmas
 pub mod NotedLemmas
 pub mod MovedLemmas
+pub mod PortLemmas
