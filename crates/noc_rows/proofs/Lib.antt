@@ -67,3 +67,4 @@ pub mod SendLemmas
 pub mod NotedLemmas
 pub mod MovedLemmas
 pub mod PortLemmas
+pub mod ReleaseLaws

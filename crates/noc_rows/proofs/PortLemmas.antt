@@ -1,15 +1,16 @@
 -- The flits of one port more move in a block.
-use Rattle.std.proofs.Common.{◌≡◌, ◌≢◌, ℕ, ◌+◌, ◌*◌, ◌/◌, ◌%◌, ◌<◌, ◌≤◌, Bool, true, false, length, refl, ap, ap₂, sym, ◌∙◌, subst, arith, inl, inr, add-one}
+use Rattle.std.proofs.Common.{◌≡◌, ◌≢◌, ℕ, ◌+◌, ◌*◌, ◌/◌, ◌%◌, ◌<◌, ◌≤◌, Bool, true, false, List, length, refl, ap, ap₂, sym, ◌∙◌, subst, arith, inl, inr, add-one}
 use Rattle.std.specs.Prelude.{◌⊎◌, ◌&&◌, ◌||◌, nat_eq, slice_index}
 use Rattle.std.proofs.lemmas.Bool.{eqb-true, and_parts, or_cases, false_from_ne_true}
 use Rattle.noc_packet.specs.Set.{has_bit}
 use Rattle.noc_packet.proofs.SetLemmas.{has_bit-zero, either_members}
-use Rattle.noc_rows.specs.Carried.{CanMove, HaveMoved, WireWords}
+use Rattle.noc_rows.specs.Carried.{CanMove, HaveMoved, WireWords, wire_words}
 use Rattle.noc_rows.specs.Moves.{some_below, union_from}
-use Rattle.noc_rows.specs.Switched.{AreApart, AreNext, HasTails, HaveFirsts, MovesFlits, NotesTails, gone_with, in_words, moved_by, some_moved, some_tail, words_with}
+use Rattle.noc_rows.specs.Switched.{AreApart, AreNext, HasTails, HaveFirsts, MovesFlits, NotesTails, firsts_with, gone_with, in_words, moved_by, some_moved, some_tail, words_with}
 use Rattle.noc_rows.specs.Wires.{room_of}
 use Rattle.noc_rows.specs.declared.marks.Marks.{Marks}
 use Rattle.noc_rows.specs.declared.room.Room.{Room}
+use Rattle.noc_rows.specs.declared.wires.Inbox.{Inbox}
 use Rattle.noc_rows.specs.declared.wires.Tails.{Tails}
 use Rattle.noc_rows.specs.declared.wires.Wires.{Wires}
 use Rattle.noc_rows.proofs.CarryLaws.{gone-none}
@@ -21,6 +22,14 @@ use Rattle.noc_rows.proofs.UnionLemmas.{some-none, union-members}
 pub moves-none : (number : ℕ) (selected : ℕ → ℕ → ℕ) (m : Marks) (w : Wires) (tails : Tails) → MovesFlits number (moved_by 0 selected) m m w (record w { tails = tails })
 moves-none number selected m w tails = λ limit all gone target back first start n.
     moved-same limit gone (gone_with gone number (moved_by 0 selected)) target back start (words_with first number m w) (gone-none gone number (moved_by 0 selected) (λ k l. refl)) n.so_far
+
+-- .. and marks and wires that have the same rings
+pub moves-then : (number : ℕ) (f : ℕ → ℕ) (m0 m1 m2 : Marks) (w0 w1 w2 : Wires) → MovesFlits number f m0 m1 w0 w1 → m2.first ≡ m1.first → w2.room ≡ w1.room → w2.inboxes.items ≡ w1.inboxes.items → MovesFlits number f m0 m2 w0 w2
+moves-then number f m0 m1 m2 w0 w1 w2 moves firsts room inboxes = λ limit all gone target back first start n.
+    subst (λ (r : Room). HaveMoved limit (gone_with gone number f) target back start (wire_words (room_of r) w2.inboxes.items (firsts_with first number m2.first))) (sym room)
+    (subst (λ (xs : List Inbox). HaveMoved limit (gone_with gone number f) target back start (wire_words (room_of w1.room) xs (firsts_with first number m2.first))) (sym inboxes)
+    (subst (λ (xs : List ℕ). HaveMoved limit (gone_with gone number f) target back start (wire_words (room_of w1.room) w1.inboxes.items (firsts_with first number xs))) (sym firsts)
+    (moves limit all gone target back first start n)))
 
 module _ (number p : ℕ) (selected : ℕ → ℕ → ℕ) (apart : AreApart (p + 1) selected) where
   union-more : (k : ℕ) (j : ℕ) → has_bit (moved_by (p + 1) selected k) j ≡ (has_bit (moved_by p selected k) j || has_bit (selected k p) j)
