@@ -80,3 +80,10 @@ pub mod OpenLemmas
 pub mod BlockLaws
 pub mod LeadLaws
 pub mod OpenedLaws
+pub mod CarryLaws
+pub mod StepLemmas
+pub mod SendLemmas
+pub mod NotedLemmas
+pub mod MovedLemmas
+pub mod PortLemmas
+pub mod ReleaseLaws

@@ -23,3 +23,4 @@ pub mod Frames
 pub mod Carried
 pub mod Blank
 pub mod Opened
+pub mod Switched

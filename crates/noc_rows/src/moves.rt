@@ -1,21 +1,60 @@
 //! The switch, and the flits that move through it.
 
-ghost use Rattle.std.specs.Prelude.{◌≡◌, ◌≢◌, ℕ, ◌+◌, ◌/◌, ◌<◌, ◌&&◌, ◌||◌, [], bit_and, bit_or, length, not, nat_eq, slice_index, slice_index_or, if◌then◌else◌};
+ghost use Rattle.std.specs.Prelude.{◌≡◌, ◌≢◌, ℕ, ◌+◌, ◌/◌, ◌<◌, ◌≤◌, ◌&&◌, ◌||◌, [], bit_and, bit_or, length, not, nat_eq, slice_index, slice_index_or, if◌then◌else◌};
 ghost use Rattle.noc_packet.specs.Set.{has_bit};
 ghost use Rattle.noc_rows.specs.Bits.{less};
 ghost use Rattle.noc_rows.specs.Moves.{channel_word, dry_by, has_freed, has_gone, has_left, of_one, ports_of, rest_from, selected_in, some_below, taken_in, turn_in, turned_by, union_from};
 ghost use Rattle.noc_rows.specs.Rows.{word};
+ghost use Rattle.noc_rows.specs.Switched.{AreApart, HasTails, IsOne, MovesFlits, NotesTails, ReleasesTails, moved_by};
 ghost use Rattle.noc_rows.specs.Turns.{first_bit, in_turn};
 ghost use Rattle.noc_rows.specs.Wires.{HasCleared, HasMarked, in_row};
 
+use crate::block::Block;
 use crate::cycle::{DecidedRows, StandingRows};
 use crate::frame::Frame;
 use crate::lanes::{CHANNELS, ROUTERS, Row, alone_if, least, least_bit, put};
 use crate::marks::Marks;
 use crate::wires::{Tails, Wires, arrive, clear, give_back, mark, send};
 
-/// Of each output port of each router of a block one flit moves, where one is picked.
-pub fn move_all(
+/// The flits of a block that the switch lets through move, and what their tails held is given back.
+pub fn move_block(frame: &Frame, cycle: u32, number: usize, block: &mut Block, wires: &mut Wires)
+    ensures moved { (k : ℕ) → k < 32 → word block.new.decided.moved k ≡ union_from (word block.old.decided.moved k) (ports_of frame.now) (selected_in (word block.old.standing.picked k) block.old.marks k) }
+    ensures out { (k : ℕ) → k < 32 → word block.new.decided.out k ≡ union_from (word block.old.decided.out k) (ports_of frame.now) (λ q. of_one (selected_in (word block.old.standing.picked k) block.old.marks k q) (taken_in block.old.marks k)) }
+    ensures supplied { (k : ℕ) → k < 32 → word block.new.lanes.supplied k ≡ rest_from (word block.old.lanes.supplied k) (ports_of frame.now) (λ q. dry_by (word block.old.returned.single k) (taken_in block.old.marks k) (selected_in (word block.old.standing.picked k) block.old.marks k q)) }
+    ensures turns { (q k : ℕ) → q < ports_of frame.now → k < 32 → turn_in block.new.marks k q ≡ turned_by (selected_in (word block.old.standing.picked k) block.old.marks k q) frame.now.after (turn_in block.old.marks k q) }
+    ensures flits { AreApart (ports_of frame.now) (λ k. selected_in (word block.old.standing.picked k) block.old.marks k) → MovesFlits number (moved_by (ports_of frame.now) (λ k. selected_in (word block.old.standing.picked k) block.old.marks k)) block.old.marks block.new.marks wires.old wires.new }
+    ensures tails { ReleasesTails number (ports_of frame.now) frame.now.links cycle (λ k. selected_in (word block.old.standing.picked k) block.old.marks k) block.old.marks block.new.marks block.old.decided block.new.decided wires.old wires.new }
+    ensures wires { wires.new ≡ record wires.old { inboxes = wires.new.inboxes; arrivals = wires.new.arrivals; tails = wires.new.tails } }
+    ensures inboxes { length wires.new.inboxes.items ≡ length wires.old.inboxes.items }
+    ensures arrivals { length wires.new.arrivals.items ≡ length wires.old.arrivals.items }
+    ensures marks { block.new.marks ≡ record block.old.marks { first = block.new.marks.first; port_turn = block.new.marks.port_turn; to_port = block.new.marks.to_port } }
+    ensures decided { block.new.decided ≡ record block.old.decided { moved = block.new.decided.moved; out = block.new.decided.out; released = block.new.decided.released; freed = block.new.decided.freed } }
+    ensures lanes { block.new.lanes ≡ record block.old.lanes { supplied = block.new.lanes.supplied } }
+    ensures rest { block.new ≡ record block.old { lanes = block.new.lanes; decided = block.new.decided; selected = block.new.selected; marks = block.new.marks } }
+{
+    move_all(
+        frame,
+        number,
+        &block.standing,
+        &block.returned.single,
+        &mut block.marks,
+        &mut block.selected,
+        &mut block.decided,
+        &mut block.lanes.supplied,
+        wires,
+    );
+    release_all(
+        frame.links,
+        cycle,
+        &wires.tails,
+        &mut block.marks,
+        &mut block.decided,
+        &mut wires.arrivals,
+    );
+}
+
+// Of each output port of each router of a block one flit moves, where one is picked.
+fn move_all(
     frame: &Frame,
     number: usize,
     standing: &StandingRows,
@@ -30,6 +69,10 @@ pub fn move_all(
     ensures out { (k : ℕ) → k < 32 → word decided.new.out k ≡ union_from (word decided.old.out k) (ports_of frame.now) (λ q. of_one (selected_in (word standing.now.picked k) marks.old k q) (taken_in marks.old k)) }
     ensures supplied { (k : ℕ) → k < 32 → word supplied.new k ≡ rest_from (word supplied.old k) (ports_of frame.now) (λ q. dry_by (word single.now k) (taken_in marks.old k) (selected_in (word standing.now.picked k) marks.old k q)) }
     ensures turns { (q k : ℕ) → q < ports_of frame.now → k < 32 → turn_in marks.new k q ≡ turned_by (selected_in (word standing.now.picked k) marks.old k q) frame.now.after (turn_in marks.old k q) }
+    ensures flits { AreApart (ports_of frame.now) (λ k. selected_in (word standing.now.picked k) marks.old k) → MovesFlits number (moved_by (ports_of frame.now) (λ k. selected_in (word standing.now.picked k) marks.old k)) marks.old marks.new wires.old wires.new }
+    ensures tails { HasTails number (ports_of frame.now) (λ k. selected_in (word standing.now.picked k) marks.old k) marks.old wires.old wires.new }
+    ensures wires { wires.new ≡ record wires.old { inboxes = wires.new.inboxes; tails = wires.new.tails } }
+    ensures inboxes { length wires.new.inboxes.items ≡ length wires.old.inboxes.items }
     ensures marks { marks.new ≡ record marks.old { first = marks.new.first; port_turn = marks.new.port_turn } }
     ensures decided { decided.new ≡ record decided.old { moved = decided.new.moved; out = decided.new.out } }
 {
@@ -61,6 +104,11 @@ fn move_through(
     ensures supplied { (k : ℕ) → k < 32 → word supplied.new k ≡ less (word supplied.old k) (dry_by (word single.now k) (taken_in marks.old k) (selected_in (word standing.now.picked k) marks.old k port)) }
     ensures turn { (k : ℕ) → k < 32 → turn_in marks.new k port ≡ turned_by (selected_in (word standing.now.picked k) marks.old k port) frame.now.after (turn_in marks.old k port) }
     ensures turns { (q k : ℕ) → q ≢ port → turn_in marks.new k q ≡ turn_in marks.old k q }
+    ensures flits { MovesFlits number (λ k. selected_in (word standing.now.picked k) marks.old k port) marks.old marks.new wires.old wires.new }
+    ensures tails { NotesTails number port (λ k. selected_in (word standing.now.picked k) marks.old k port) marks.old wires.old wires.new }
+    ensures few { wires.new.tails.count ≤ wires.old.tails.count + 32 }
+    ensures wires { wires.new ≡ record wires.old { inboxes = wires.new.inboxes; tails = wires.new.tails } }
+    ensures inboxes { length wires.new.inboxes.items ≡ length wires.old.inboxes.items }
     ensures marks { marks.new ≡ record marks.old { first = marks.new.first; port_turn = marks.new.port_turn } }
     ensures decided { decided.new ≡ record decided.old { moved = decided.new.moved; out = decided.new.out } }
 {
@@ -169,8 +217,15 @@ fn carry_all(
     marks: &mut Marks,
     wires: &mut Wires,
 )
-    requires { port < 8 }
-    ensures { marks.new ≡ record marks.old { first = marks.new.first } }
+    requires port { port < 8 }
+    requires moving { (k : ℕ) → k < 32 → has_bit moving k ≡ not (nat_eq (word selected.now k) 0) }
+    requires one { (k : ℕ) → k < 32 → IsOne (word selected.now k) }
+    ensures flits { MovesFlits number (word selected.now) marks.old marks.new wires.old wires.new }
+    ensures tails { NotesTails number port (word selected.now) marks.old wires.old wires.new }
+    ensures few { wires.new.tails.count ≤ wires.old.tails.count + 32 }
+    ensures wires { wires.new ≡ record wires.old { inboxes = wires.new.inboxes; tails = wires.new.tails } }
+    ensures inboxes { length wires.new.inboxes.items ≡ length wires.old.inboxes.items }
+    ensures marks { marks.new ≡ record marks.old { first = marks.new.first } }
 {
     let mut rest = moving;
     while rest != 0 {
@@ -186,8 +241,8 @@ fn carry_all(
     }
 }
 
-/// The tails that have moved give their channels back, and those that are out have arrived.
-pub fn release_all(
+// The tails that have moved give their channels back, and those that are out have arrived.
+fn release_all(
     links: usize,
     cycle: u32,
     tails: &Tails,

@@ -17,7 +17,7 @@ use crate::flits::take_flits;
 use crate::frame::Frame;
 use crate::lanes::ROUTERS;
 use crate::marks::Tallies;
-use crate::moves::{move_all, release_all};
+use crate::moves::move_block;
 use crate::open::{new_blocks, new_wires};
 use crate::room::Room;
 use crate::route::route_all;
@@ -129,25 +129,7 @@ impl Rows {
             if block.awake {
                 let frame = &self.frame;
                 grant_and_route(relation, frame, number, block, &self.wires);
-                move_all(
-                    frame,
-                    number,
-                    &block.standing,
-                    &block.returned.single,
-                    &mut block.marks,
-                    &mut block.selected,
-                    &mut block.decided,
-                    &mut block.lanes.supplied,
-                    &mut self.wires,
-                );
-                release_all(
-                    frame.links,
-                    self.cycle,
-                    &self.wires.tails,
-                    &mut block.marks,
-                    &mut block.decided,
-                    &mut self.wires.arrivals,
-                );
+                move_block(frame, self.cycle, number, block, &mut self.wires);
             }
             number = number.wrapping_add(1);
         }

@@ -1,6 +1,6 @@
 //! What all routers share: the wires, the rings, and the arrivals.
 
-ghost use Rattle.std.specs.Prelude.{◌≡◌, ◌≢◌, ℕ, ◌+◌, ◌/◌, ◌%◌, ◌<◌, ◌++◌, ◌∷◌, ◌&&◌, List, [], length, nat_eq, slice_index, if◌then◌else◌};
+ghost use Rattle.std.specs.Prelude.{◌≡◌, ◌≢◌, ℕ, ◌+◌, ◌/◌, ◌%◌, ◌<◌, ◌≤◌, ◌++◌, ◌∷◌, ◌&&◌, List, [], length, nat_eq, slice_index, if◌then◌else◌};
 ghost use Rattle.noc_packet.specs.declared.packet.Flit.{Flit};
 ghost use Rattle.noc_rows.specs.FlitWords.{FitsWord, flit_word};
 ghost use Rattle.noc_rows.specs.Wires.{HasCleared, HasGivenBack, HasMarked, HasPushed, HasSent, inbox_at, ring_in, room_of, tails_of};
@@ -113,7 +113,8 @@ impl Tails {
     /// If the flit is a tail, it is noted.
     #[inline(always)]
     pub fn note(&mut self, place: u16, word: u64)
-        ensures { (f : Flit) → FitsWord f → word ≡ flit_word f → self.old.count < 255 → tails_of self.new ≡ (if f.last then tails_of self.old ++ (place, f.packet) ∷ [] else tails_of self.old) }
+        ensures few { self.new.count ≤ self.old.count + 1 }
+        ensures noted { (f : Flit) → FitsWord f → word ≡ flit_word f → self.old.count < 255 → tails_of self.new ≡ (if f.last then tails_of self.old ++ (place, f.packet) ∷ [] else tails_of self.old) }
     {
         let at = usize::from(self.count);
         self.list[at] = place;

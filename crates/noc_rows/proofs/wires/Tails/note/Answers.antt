@@ -3,8 +3,8 @@ use Rattle.noc_router.specs.Counts.{one_if}
 use Rattle.noc_rows.proofs.WireLemmas.{noted, noted-is}
 use Rattle.noc_rows.proofs.wires.Tails.note.Goals as goal
 
-pub returns : goal.returns
-returns c = λ f fits e few.
+pub returns-clause-noted : goal.returns-clause-noted
+returns-clause-noted c = λ f fits e few.
     let self = c.args.self.now in
     let long_list : length self.list ≡ 256 = search rules in
     let long_numbers : length self.numbers ≡ 256 = search rules in
