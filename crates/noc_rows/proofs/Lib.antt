@@ -61,3 +61,4 @@ pub mod GrantLemmas
 pub mod AllocateLaws
 pub mod RouteLemmas
 pub mod RouteLaws
+pub mod CycleLaws

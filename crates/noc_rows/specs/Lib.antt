@@ -21,3 +21,4 @@ pub mod Grants
 pub mod Routed
 pub mod Frames
 pub mod Carried
+pub mod Cycle
