@@ -61,4 +61,6 @@ pub mod GrantLemmas
 pub mod AllocateLaws
 pub mod RouteLemmas
 pub mod RouteLaws
+pub mod ChosenLaws
+pub mod SwitchedLaws
 pub mod CycleLaws
