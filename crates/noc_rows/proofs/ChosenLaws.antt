@@ -1,8 +1,9 @@
 -- What grants and routes leave in the words of a router.
 use Rattle.std.proofs.Common.{◌≡◌, ◌≢◌, ℕ, ◌*◌, ◌/◌, ◌%◌, ◌^◌, ◌<◌, ◌≤◌, Bool, true, false, List, ◌∷◌, map, Option, Some, None, IfSome, refl, ap, sym, ◌∙◌, subst, arith, inl, inr, bit_or, mod-eq_of_lt}
 use Rattle.std.specs.Prelude.{◌⊎◌, ◌&&◌, not, is_some, slice_index_or}
-use Rattle.std.proofs.lemmas.Bool.{cases_eq, true≢false, and_parts}
+use Rattle.std.proofs.lemmas.Bool.{cases_eq, cases_lt, true≢false, false≢true, and_parts}
 use Rattle.std.proofs.lemmas.Nat.{div_below, pow_below}
+use Rattle.noc_topo.specs.Words.{is_some_of}
 use Rattle.noc_topo.specs.Shape.{ports}
 use Rattle.noc_packet.specs.Set.{has_bit}
 use Rattle.noc_packet.specs.declared.packet.Flit.{Flit}
@@ -22,7 +23,7 @@ use Rattle.noc_rows.specs.Cycle.{AreTails, HasChosen, Surroundings}
 use Rattle.noc_rows.specs.Fields.{IsFields, ShowsPointer}
 use Rattle.noc_rows.specs.FlitWords.{FitsWord, flit_word}
 use Rattle.noc_rows.specs.Frames.{IsPlaced}
-use Rattle.noc_rows.specs.Grants.{Allocation, HasAllocated, ShowsGrants, asked_of, leads_by, phase_granted}
+use Rattle.noc_rows.specs.Grants.{Allocation, HasAllocated, ShowsGrants, asked_of, leads_by, phase_granted, winner}
 use Rattle.noc_rows.specs.Moves.{ports_of}
 use Rattle.noc_rows.specs.Opening.{AreSides}
 use Rattle.noc_rows.specs.Passes.{lane_asks, lane_heads}
@@ -30,7 +31,8 @@ use Rattle.noc_rows.specs.Routed.{HasRouted, Routing, sets_by}
 use Rattle.noc_rows.specs.Taken.{HasSize}
 use Rattle.noc_rows.specs.declared.frame.Frame.{Frame}
 use Rattle.noc_rows.proofs.AllocateLaws.{allocated, not-allocated}
-use Rattle.noc_rows.proofs.BitLemmas.{below_fits, less_fits}
+use Rattle.noc_rows.proofs.BitLemmas.{above_32, below_fits, less_fits}
+use Rattle.noc_rows.proofs.GrantLemmas.{first-among}
 use Rattle.noc_rows.proofs.PointerLemmas.{AreArbiters}
 use Rattle.noc_rows.proofs.RouteLaws.{phase-shows}
 use Rattle.noc_rows.proofs.StandLemmas.{AreFilled, standing}
@@ -65,11 +67,19 @@ phase-as c d m w site i Idle set taken target wanted is = tt
 phase-as c d m w site i (Waiting s) set taken target wanted is = (set ∙ is.0, is.1, λ o e. wanted o (is.2 o e))
 phase-as c d m w site i (Active o) set taken target wanted is = (taken ∙ is.0, subst (Leads site o) (sym target) is.1)
 
+member-below : (set o : ℕ) → set < 2 ^ 32 → has_bit set o ≡ true → o < 32
+member-below set o fits e = at (cases_lt o 32)
+  where
+    at : (o < 32) ⊎ (32 ≤ o) → o < 32
+    at (inl l) = l
+    at (inr u) = absurd (true≢false (sym e ∙ above_32 set o fits u))
+
 -- the grants of a router, and the output channels that are granted
 pub record HasGrants (a b : Allocation) (v : View) : Type 0 where
   pub outs : ℕ
   pub outs_fit : outs < 2 ^ 32
   pub granted_fit : b.granted < 2 ^ 32
+  pub granted_below : AreBelow (size_of v.site) b.granted
   pub lost_fit : b.lost < 2 ^ 32
   pub shows : ShowsGrants a b outs v
 
@@ -83,6 +93,7 @@ pub record KeepsMarks (heads : ℕ) (m w : RouterMarks) (wanted all : ℕ) : Typ
 pub record ShowsChosen (relation : Routes) (filled : ℕ) (a b : Allocation) (outs : ℕ) (v : View) : Type 0 where
   pub outs_fit : outs < 2 ^ 32
   pub granted_fit : b.granted < 2 ^ 32
+  pub granted_below : AreBelow (size_of v.site) b.granted
   pub lost_fit : b.lost < 2 ^ 32
   pub wanted_fit : b.column.wanted < 2 ^ 32
   pub granted : (k : ℕ) → k < size_of v.site → has_bit b.granted k ≡ is_given (view_round v).grants (ask_of (view_claim v k)) k
@@ -115,6 +126,22 @@ module _ (relation : Routes) (frame : Frame) (x : Surroundings) (v : View) (stil
       inputs-fit : (has : HasAllocated (leads_by frame) x.place a chosen.granted) → has.inputs < 2 ^ 32
       inputs-fit has = small has.inputs (λ k e. shows.channels.waiting_below k (and_parts (has_bit a.column.waiting k) (is_some (asked_of a.column.idle (a.marks.set k))) (sym (has.asks.asking k) ∙ e)).0)
 
+      -- who is granted a channel waits
+      granted-below : (has : HasAllocated (leads_by frame) x.place a chosen.granted) → AreBelow (size_of v.site) chosen.granted.granted
+      granted-below has k e = within (cases_lt k (size_of v.site))
+        where
+          wins : (o : ℕ) → has_bit has.outs o ≡ true → size_of v.site ≤ k → (won : Bool) → has_bit (winner has.requests a.marks o) k ≡ won → won ≡ false
+          wins o out above false h = refl
+          wins o out above true h =
+              let lo : o < 32 = member-below has.outs o has.outs_fit out in
+              let asked = and_parts (has_bit a.column.waiting k) (is_some_of (asked_of a.column.idle (a.marks.set k)) o) (sym (has.asks.asked o k lo) ∙ first-among (has.requests o) (a.marks.turn o) k h) in
+              let below : k < size_of v.site = shows.channels.waiting_below k asked.0 in
+              absurd (omega (arith, below, above))
+
+          within : (k < size_of v.site) ⊎ (size_of v.site ≤ k) → k < size_of v.site
+          within (inl l) = l
+          within (inr above) = absurd (false≢true (sym (has.marks.none k (λ o out. wins o out above (has_bit (winner has.requests a.marks o) k) refl)) ∙ e))
+
       at : (lane_asks a.column ≡ 0) ⊎ (lane_asks a.column ≢ 0) → HasGrants a chosen.granted v
       at (inl none) =
           subst (λ (g : Allocation). HasGrants a g v) (sym (chosen.unasked none))
@@ -122,6 +149,7 @@ module _ (relation : Routes) (frame : Frame) (x : Surroundings) (v : View) (stil
             outs = 0;
             outs_fit = omega arith;
             granted_fit = omega (arith, no_grant);
+            granted_below = λ k e. absurd (false≢true (sym (ap (λ n. has_bit n k) no_grant ∙ has_bit-zero k) ∙ e));
             lost_fit = omega (arith, no_loss);
             shows = not-allocated v a shows still.few still.arbiters.channels none no_grant no_loss;
           })
@@ -131,6 +159,7 @@ module _ (relation : Routes) (frame : Frame) (x : Surroundings) (v : View) (stil
             outs = has.outs;
             outs_fit = has.outs_fit;
             granted_fit = has.granted_fit;
+            granted_below = granted-below has;
             lost_fit = subst (λ n. n < 2 ^ 32) (sym has.lost) (less_fits has.inputs chosen.granted.granted (inputs-fit has));
             shows = allocated v a chosen.granted (leads_by frame) x.place shows still.few still.arbiters.channels port-is still.leads has;
           }
@@ -173,6 +202,7 @@ module _ (relation : Routes) (frame : Frame) (x : Surroundings) (v : View) (stil
   choice = record {
     outs_fit = given.outs_fit;
     granted_fit = subst (λ n. n < 2 ^ 32) (sym same-granted) given.granted_fit;
+    granted_below = subst (λ n. AreBelow (size_of v.site) n) (sym same-granted) given.granted_below;
     lost_fit = subst (λ n. n < 2 ^ 32) (sym same-lost) given.lost_fit;
     wanted_fit = chosen.wanted_fits;
     granted = λ k l. ap (λ n. has_bit n k) same-granted ∙ given.shows.granted k l;

@@ -63,4 +63,5 @@ pub mod RouteLemmas
 pub mod RouteLaws
 pub mod ChosenLaws
 pub mod SwitchedLaws
+pub mod SettlingLaws
 pub mod CycleLaws
