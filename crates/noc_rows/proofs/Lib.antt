@@ -64,4 +64,5 @@ pub mod RouteLaws
 pub mod ChosenLaws
 pub mod SwitchedLaws
 pub mod SettlingLaws
+pub mod FateLaws
 pub mod CycleLaws
