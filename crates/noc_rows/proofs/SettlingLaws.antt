@@ -48,7 +48,7 @@ pub rest-fits : (base n : ℕ) (words : ℕ → ℕ) → base < 2 ^ 32 → rest_
 rest-fits base zero words fits = fits
 rest-fits base (suc n) words fits = less_fits (rest_from base n words) (words n) (rest-fits base n words fits)
 
-owned-not-free : (h : OutputState) (i : ℕ) → is_owned_from h i ≡ true → (is_free h ≡ false) × (is_draining h ≡ false)
+pub owned-not-free : (h : OutputState) (i : ℕ) → is_owned_from h i ≡ true → (is_free h ≡ false) × (is_draining h ≡ false)
 owned-not-free Free i e = absurd (false≢true e)
 owned-not-free (Owned j p) i e = (refl, refl)
 owned-not-free Draining i e = absurd (false≢true e)
