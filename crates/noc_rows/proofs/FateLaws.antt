@@ -196,7 +196,7 @@ module _ (relation : Routes) (frame : Frame) (x : Surroundings) (v : View) (stil
       (still.sides.link_is o ∙ sym (still.tidy.links o l))
 
   -- ---- output channels after the cycle
-  output-by : (o : ℕ) (grant mover : Option ℕ) → o < size_of v.site → slice_index_or (view_round v).grants o None ≡ grant → mover_to v (view_round v) o ≡ mover
+  pub output-by : (o : ℕ) (grant mover : Option ℕ) → o < size_of v.site → slice_index_or (view_round v).grants o None ≡ grant → mover_to v (view_round v) o ≡ mover
       → view_output (committed (planned relation v) v) o ≡ spent_by v (held_by v (view_output v o) grant) mover
   unfolding planned
   output-by o grant mover l eg em =

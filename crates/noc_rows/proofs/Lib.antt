@@ -65,4 +65,5 @@ pub mod ChosenLaws
 pub mod SwitchedLaws
 pub mod SettlingLaws
 pub mod FateLaws
+pub mod MarkedLaws
 pub mod CycleLaws
