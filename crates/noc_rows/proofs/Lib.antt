@@ -66,4 +66,6 @@ pub mod SwitchedLaws
 pub mod SettlingLaws
 pub mod FateLaws
 pub mod MarkedLaws
+pub mod FitLaws
+pub mod SettledLaws
 pub mod CycleLaws
