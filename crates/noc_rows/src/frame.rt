@@ -2,7 +2,7 @@
 
 ghost use Rattle.std.specs.Prelude.{◌≡◌, ◌≢◌, ℕ, ◌+◌, ◌-◌, ◌*◌, ◌/◌, ◌^◌, ◌<◌, ◌≤◌, ◌&&◌, IfSome, is_some, nat_le, nat_lt};
 ghost use Rattle.noc_packet.specs.Set.{has_bit};
-ghost use Rattle.noc_rows.specs.Frames.{IsPlaced, IsPlacedAs};
+ghost use Rattle.noc_rows.specs.Frames.{IsFrame, IsPlaced, IsPlacedAs};
 ghost use Rattle.noc_route.specs.Routes.{IsRelation};
 ghost use Rattle.noc_topo.specs.Shape.{local_port, nodes as nodes_of, ports as ports_of};
 ghost use Rattle.noc_rows.specs.Fields.{IsFields};
@@ -60,6 +60,7 @@ impl Frame {
         ensures some { is_some result ≡ (nat_le (ports_of relation.now.grid * relation.now.vcs) 31 && nat_le places 16) }
         ensures sides { IfSome result (λ frame. AreSides relation.now.grid relation.now.vcs frame.link_set frame.local_set) }
         ensures numbers { IfSome result (λ frame. (frame.nodes ≡ nodes_of relation.now.grid) × (frame.vcs ≡ relation.now.vcs) × (frame.links ≡ local_port relation.now.grid) × (frame.places ≡ places)) }
+        ensures frame { IfSome result (IsFrame relation.now places) }
     {
         let vcs = relation.vcs();
         let ports = relation.shape().ports();
