@@ -1,17 +1,20 @@
 -- The channels of the links and of the local port, and the marks of a router in which nothing is.
-use Rattle.std.proofs.Common.{◌≡◌, ℕ, ◌+◌, ◌-◌, ◌*◌, ◌^◌, ◌<◌, ◌≤◌, Bool, true, false, List, [], length, get_or, replicate, refl, ap, ap₂, sym, subst, ◌∙◌, inl, inr, arith, mul-le-mul_right}
+use Rattle.std.proofs.Common.{◌≡◌, ◌≢◌, ℕ, ◌+◌, ◌-◌, ◌*◌, ◌/◌, ◌%◌, ◌^◌, ◌<◌, ◌≤◌, Bool, true, false, List, [], length, get_or, replicate, refl, ap, ap₂, sym, subst, ◌∙◌, inl, inr, arith, div-add-mod', mul-le-mul_right}
 use Rattle.std.specs.Prelude.{◌⊎◌, ◌&&◌, not, nat_le, nat_lt, nat_eq}
-use Rattle.std.proofs.lemmas.Bool.{cases_lt, lt-ltb, le-ltb, le-leb}
+use Rattle.std.proofs.lemmas.Bool.{cases_eq, cases_lt, lt-leb, lt-ltb, le-ltb, le-leb}
 use Rattle.std.proofs.lemmas.List.{get_or-replicate}
 use Rattle.std.proofs.lemmas.Nat.{pow_below}
 use Rattle.std.proofs.lemmas.Nat.Bits.{bit_at_ones, bit_at_ones_above}
+use Rattle.std.proofs.Math.Nat.{le-div_iff_mul-le}
 use Rattle.noc_topo.specs.Shape.{Grid, ports, local_port}
 use Rattle.noc_packet.specs.Set.{has_bit}
 use Rattle.noc_packet.proofs.SetLemmas.{has_bit-none, has_bit-one}
 use Rattle.noc_rows.specs.Bits.{less}
+use Rattle.noc_rows.specs.Frames.{IsPlaced, IsPlacedAs}
 use Rattle.noc_rows.specs.Opening.{AreSides}
 use Rattle.noc_rows.specs.Rows.{by_port, of_router}
-use Rattle.noc_rows.proofs.BitLemmas.{less_fits, less_members}
+use Rattle.noc_rows.specs.declared.frame.Frame.{Frame}
+use Rattle.noc_rows.proofs.BitLemmas.{less_fits, less_members, up_members, up_none}
 use Rattle.noc_rows.proofs.RouterLemmas.{entry-at, port-at}
 
 -- the members below n
@@ -79,3 +82,45 @@ pub same-port : (x j q : ℕ) → j < 32 → q < 8 → get_or (by_port (replicat
 same-port x j q lj lq =
     port-at (replicate 8 (replicate 32 x)) j q lq
     ∙ ap (λ (row : List ℕ). get_or row j 0) (get_or-replicate 8 q (replicate 32 x) [] lq) ∙ get_or-replicate 32 j x 0 lj
+
+-- ---- the channels of the ports after that of a channel
+-- those from the first channel of the next port on
+pub later-from : (index vcs next i : ℕ) → 0 < vcs → next ≡ index - index % vcs + vcs → nat_le next i ≡ nat_lt (index / vcs) (i / vcs)
+later-from index vcs next i some is = at (cases_lt i next)
+  where
+    place : index / vcs * vcs + index % vcs ≡ index
+    place = div-add-mod' index vcs
+
+    first : next ≡ (index / vcs + 1) * vcs
+    first = omega (arith, place, is)
+
+    at : (i < next) ⊎ (next ≤ i) → nat_le next i ≡ nat_lt (index / vcs) (i / vcs)
+    at (inl l) = lt-leb next i l ∙ sym (le-ltb (index / vcs) (i / vcs) (below (cases_lt (index / vcs) (i / vcs))))
+      where
+        below : (index / vcs < i / vcs) ⊎ (i / vcs ≤ index / vcs) → i / vcs ≤ index / vcs
+        below (inr u) = u
+        below (inl u) =
+            let m : (index / vcs + 1) * vcs ≤ i = (le-div_iff_mul-le some).0 (omega (arith, u)) in
+            absurd (omega (arith, m, first, l))
+    at (inr u) =
+        let m : index / vcs + 1 ≤ i / vcs = (le-div_iff_mul-le some).1 (omega (arith, first, u)) in
+        le-leb next i u ∙ sym (lt-ltb (index / vcs) (i / vcs) (omega (arith, m)))
+
+pub later-members : (index vcs next i : ℕ) → 0 < vcs → next ≡ index - index % vcs + vcs → i < 32 → has_bit (4294967295 * 2 ^ next % 4294967296) i ≡ nat_lt (index / vcs) (i / vcs)
+later-members index vcs next i some is small = at (cases_lt i next) ∙ later-from index vcs next i some is
+  where
+    at : (i < next) ⊎ (next ≤ i) → has_bit (4294967295 * 2 ^ next % 4294967296) i ≡ nat_le next i
+    at (inl l) = up_none 4294967295 next i l ∙ sym (lt-leb next i l)
+    at (inr u) = up_members 4294967295 next i u small ∙ ones-members 32 (i - next) ∙ lt-ltb (i - next) 32 (omega (arith, small)) ∙ sym (le-leb next i u)
+
+-- one channel more is placed
+pub placed-next : (vcs index : ℕ) (old new : Frame) → ((k : ℕ) → k < index → IsPlaced vcs old k) → IsPlaced vcs new index → ((k : ℕ) → k ≢ index → IsPlacedAs old new k)
+    → (k : ℕ) → k < index + 1 → IsPlaced vcs new k
+placed-next vcs index old new before here others k l = at (cases_eq k index)
+  where
+    at : (k ≡ index) ⊎ (k ≢ index) → IsPlaced vcs new k
+    at (inl same) = subst (IsPlaced vcs new) (sym same) here
+    at (inr other) =
+        let was = before k (omega (arith, l, other)) in
+        let is = others k other in
+        record { port = is.port ∙ was.port; vc = is.vc ∙ was.vc; later = λ i small. ap (λ n. has_bit n i) is.later ∙ was.later i small; end = is.end ∙ was.end }

@@ -87,3 +87,11 @@ pub mod NotedLemmas
 pub mod MovedLemmas
 pub mod PortLemmas
 pub mod ReleaseLaws
+pub mod ChosenLaws
+pub mod SwitchedLaws
+pub mod SettlingLaws
+pub mod FateLaws
+pub mod MarkedLaws
+pub mod FitLaws
+pub mod SettledLaws
+pub mod CycleLaws

@@ -76,7 +76,7 @@ module _ (v : View) (picked : ℕ) (to turn : ℕ → ℕ) (are : AreMoving v pi
   to-port : (q : ℕ) → q < ports v.site.grid → (k : ℕ) → k < size_of v.site → has_bit picked k ≡ true → has_bit (to q) k ≡ sends_by v.site.vcs q (view_input v k).phase
   to-port q lq k l e = are.to_port q k lq l e
 
-  bit-is : (q : ℕ) → q < ports v.site.grid → (k : ℕ) → has_bit (sel q) k ≡ ((has_bit picked k && has_bit (to q) k) && is_some_of (slice_index_or (view_round v).wins q None) (k / v.site.vcs))
+  pub bit-is : (q : ℕ) → q < ports v.site.grid → (k : ℕ) → has_bit (sel q) k ≡ ((has_bit picked k && has_bit (to q) k) && is_some_of (slice_index_or (view_round v).wins q None) (k / v.site.vcs))
   bit-is q lq k =
       selected v picked (to q) q are.some_vc are.fits are.below lq are.draws (to-port q lq) (turn q) k (are.pointers q lq) (are.turns q lq)
       ∙ ap (λ b. b && is_some_of (slice_index_or (view_round v).wins q None) (k / v.site.vcs)) (both_members picked (to q) k)

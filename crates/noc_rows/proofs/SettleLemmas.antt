@@ -36,7 +36,7 @@ pub record AreEffects (e : Effects) : Type 0 where
 
 -- ---- an input channel
 -- a verdict that takes no effect
-abbrev quiet : Bool → Bool → Bool → Bool → Bool → Bool → Verdict
+abbrev pub quiet : Bool → Bool → Bool → Bool → Bool → Bool → Verdict
 quiet a b c d e f =
     if a then NoFlit
     else if b then NoIdleChannel
@@ -46,7 +46,7 @@ quiet a b c d e f =
     else if f then LostSwitch
     else Empty
 
-quiet-input : (d : Decisions) (v : View) (i : ℕ) (input : Input) (a b c e f g : Bool) → input_after d v i input (quiet a b c e f g) ≡ input
+pub quiet-input : (d : Decisions) (v : View) (i : ℕ) (input : Input) (a b c e f g : Bool) → input_after d v i input (quiet a b c e f g) ≡ input
 quiet-input d v i input true b c e f g = refl
 quiet-input d v i input false true c e f g = refl
 quiet-input d v i input false false true e f g = refl

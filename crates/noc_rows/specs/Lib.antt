@@ -24,3 +24,4 @@ pub mod Carried
 pub mod Blank
 pub mod Opened
 pub mod Switched
+pub mod Cycle

@@ -1,7 +1,8 @@
 //! What is the same for all routers of a network.
 
-ghost use Rattle.std.specs.Prelude.{◌≡◌, ◌≢◌, ℕ, ◌+◌, ◌-◌, ◌*◌, ◌^◌, ◌<◌, ◌≤◌, ◌&&◌, IfSome, is_some, nat_le};
-ghost use Rattle.noc_rows.specs.Frames.{IsPlaced, IsPlacedAs};
+ghost use Rattle.std.specs.Prelude.{◌≡◌, ◌≢◌, ℕ, ◌+◌, ◌-◌, ◌*◌, ◌/◌, ◌^◌, ◌<◌, ◌≤◌, ◌&&◌, IfSome, is_some, nat_le, nat_lt};
+ghost use Rattle.noc_packet.specs.Set.{has_bit};
+ghost use Rattle.noc_rows.specs.Frames.{IsFrame, IsPlaced, IsPlacedAs};
 ghost use Rattle.noc_route.specs.Routes.{IsRelation};
 ghost use Rattle.noc_topo.specs.Shape.{local_port, nodes as nodes_of, ports as ports_of};
 ghost use Rattle.noc_rows.specs.Fields.{IsFields};
@@ -59,6 +60,7 @@ impl Frame {
         ensures some { is_some result ≡ (nat_le (ports_of relation.now.grid * relation.now.vcs) 31 && nat_le places 16) }
         ensures sides { IfSome result (λ frame. AreSides relation.now.grid relation.now.vcs frame.link_set frame.local_set) }
         ensures numbers { IfSome result (λ frame. (frame.nodes ≡ nodes_of relation.now.grid) × (frame.vcs ≡ relation.now.vcs) × (frame.links ≡ local_port relation.now.grid) × (frame.places ≡ places)) }
+        ensures frame { IfSome result (IsFrame relation.now places) }
     {
         let vcs = relation.vcs();
         let ports = relation.shape().ports();
@@ -103,18 +105,27 @@ impl Frame {
         let vc = index % self.vcs;
         self.port_of[index] = port as u8;
         self.vc_of[index] = vc as u8;
-        let next = (index - vc).saturating_add(self.vcs);
-        self.after[index] = if next < 32 {
-            0xffff_ffff << next as u32
-        } else {
-            0
-        };
+        self.after[index] = later(index, self.vcs);
         let end = if port % 2 == 0 {
             index.saturating_add(self.vcs)
         } else {
             index.saturating_sub(self.vcs)
         };
         self.other_end[index] = end.min(31) as u8;
+    }
+}
+
+// The channels of the ports after that of a channel.
+fn later(index: usize, vcs: usize) -> u32
+    requires index { index < 31 }
+    requires some { 0 < vcs }
+    ensures { (i : ℕ) → i < 32 → has_bit result i ≡ nat_lt (index / vcs) (i / vcs) }
+{
+    let next = (index - index % vcs).saturating_add(vcs);
+    if next < 32 {
+        0xffff_ffff << next as u32
+    } else {
+        0
     }
 }
 
