@@ -14,6 +14,7 @@ from collections import Counter
 from dataclasses import asdict, dataclass, field
 from functools import cached_property
 from io import StringIO
+from itertools import chain
 from pathlib import Path
 from queue import SimpleQueue
 from threading import Thread
@@ -178,7 +179,7 @@ class Beside:
         if self.noc.wait() not in (DONE, STUCK):
             sys.exit(self.noc.returncode)
 
-    def findings(self, port):
+    def findings(self, port=None):
         """The findings of a trace, or of one port alone: most lines are then not looked at any further."""
         lines = self.lines()
         if next(lines, None) != TRACE_HEADER.rstrip("\n"):
@@ -192,20 +193,24 @@ class Beside:
         self.noc.wait()
 
 
-class Changes:
-    """A trace of changes. A long one is shared by several noc, each of which traces a part of the span; they run from now on, and
-    no longer than this object is used. What a noc refuses, the first one refuses too: so the others say nothing."""
+class Shared:
+    """A trace. A long one is shared by several noc, each of which traces a part of the span; they run from now on, and no longer than
+    this object is used. What a noc refuses, the first one refuses too: so the others say nothing."""
 
     def __init__(self, run, first, last, beside=1, errors=True, **options):
-        """The trace of a span, beside so many traces in all; with an option of noc."""
+        """The trace of a span, beside so many traces in all; with options of noc."""
         number = max(1, min(MOST_PARTS, (os.cpu_count() or 1) // beside)) if run.is_long(last + 1 - first) else 1
         self.parts = []
         for begin, end in parts_of(first, last + 1, number):
-            noc = run.start_trace(errors and begin == first, first=begin, last=end - 1, changes=True, **options)
+            noc = run.start_trace(errors and begin == first, first=begin, last=end - 1, **options)
             self.parts.append((begin, Beside(noc)))
 
-    def findings(self, port=None):
-        """Its findings, of one port or of all, as if one noc had made them."""
+    def findings(self):
+        """Its findings, where it is no trace of changes."""
+        return chain.from_iterable(part.findings() for _, part in self.parts)
+
+    def changes(self, port=None):
+        """The findings of a trace of changes, of one port or of all, as if one noc had made it."""
         return joined((first, part.findings(port)) for first, part in self.parts)
 
     def end(self):
@@ -407,30 +412,21 @@ class Life:
 def life_of(run, packet, last=None, beside=1):
     """The life of a packet that is due within the run, up to a last cycle; by a trace that is one of so many side by side."""
     last = run.network.cycles - 1 if last is None else last
-    with Changes(run, packet.due, last, beside, packet=packet.number) as changes:
-        stays = stays_of(changes.findings(), packet, last)
+    # (a trace of changes takes longer)
+    with Shared(run, packet.due, last, beside, packet=packet.number) as trace:
+        stays = stays_of(trace.findings(), packet)
     came_in = stays[0].first if stays else last + 1
     queue = [Stay(packet.source, QUEUE, [Bar(packet.due, came_in, QUEUE)])] if packet.due < came_in else []
     gone = stays and stays[-1].router == packet.destination and stays[-1].counts()[MOVED] == packet.length
     return Life(packet, queue + stays, stays[-1].end - 1 if gone else None)
 
 
-def stays_of(findings, packet, last):
-    stays, standing = {}, {}
-
-    def close(place, end):
-        finding = standing.pop(place)
-        stays[place].add(finding.verdict, finding.cycle, end)
-
+def stays_of(findings, packet):
+    stays, to_come = {}, packet.length
     for finding in findings:
         place = place_of(finding)
-        if place in standing:
-            close(place, finding.cycle)
-        if finding.verdict != EMPTY:
-            stays.setdefault(place, Stay(*place))
-            standing[place] = finding
-        elif finding.router == packet.destination:
+        stays.setdefault(place, Stay(*place)).add(finding.verdict, finding.cycle, finding.cycle + 1)
+        to_come -= finding.router == packet.destination and finding.verdict == MOVED
+        if not to_come:
             break
-    for place in list(standing):
-        close(place, last + 1)
     return list(stays.values())

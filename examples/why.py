@@ -23,7 +23,7 @@ from contextlib import ExitStack
 from dataclasses import dataclass
 
 from network import opposite, refuse, split
-from traces import EMPTY, OWNING, QUEUE, STALLS, Changes, Outs, Run, add_files, life_of, write
+from traces import EMPTY, OWNING, QUEUE, STALLS, Outs, Run, Shared, add_files, life_of, write
 
 # So many of the longest waits are told of, and so many of the packets that held what was waited for.
 WAITS, HOLDERS = 3, 3
@@ -428,18 +428,19 @@ def waits_in_words(run, life, source):
     there = at.pop(life.packet.source, [])
     with ExitStack() as stack:
         spans = [(begin(min(wait.cycles[0] for wait in here)), max(wait.cycles[-1] for wait in here)) for here in at.values()]
-        traces = [stack.enter_context(Changes(run, *span, len(at), router=router)) for router, span in zip(at, spans)]
+        traces = [stack.enter_context(Shared(run, *span, len(at), router=router, changes=True)) for router, span in zip(at, spans)]
         port = "local" if all(wait.channel == QUEUE for wait in there) else None
-        held = holders_at(run, source.findings(port), there) if there else []
+        held = holders_at(run, source.changes(port), there) if there else []
         source.end()
         for trace, here in zip(traces, at.values()):
-            held += holders_at(run, trace.findings(), here)
+            held += holders_at(run, trace.changes(), here)
     return [wait.line(count) for wait, count in sorted(held, key=lambda pair: waits.index(pair[0]))]
 
 
 def life_lines(run, packet):
     """The life in words, a line as soon as it is known."""
-    with Changes(run, begin(packet.due), run.network.cycles - 1, beside=2, errors=False, router=packet.source) as source:
+    last = run.network.cycles - 1
+    with Shared(run, begin(packet.due), last, beside=2, errors=False, router=packet.source, changes=True) as source:
         life = life_of(run, packet, beside=2)
         yield title(run, life)
         for stay in life.stays:
