@@ -95,6 +95,15 @@ class Given:
         self.path = str(path)
 
 
+def free_processors():
+    """How many processors have nothing to do, as far as the system tells how many programs run now."""
+    try:
+        running = int(Path("/proc/loadavg").read_text().split()[3].split("/")[0]) - 1
+    except OSError:
+        running = 0
+    return max(1, (os.cpu_count() or 1) - running)
+
+
 class Run:
     """A network with its traffic, of which noc is asked for traces."""
 
@@ -104,6 +113,7 @@ class Run:
             refuse("standard input can be one of the files, and not two of them")
         self.given = [Given(name) for name in names]
         self.network = read_network(self.given[0].path)
+        self.free = free_processors()
         self.rows = read_traffic(self.given[1])
         self.files = [self.given[0].path, self.given[1].path] + (["--table", self.given[2].path] if table else [])
 
@@ -199,7 +209,7 @@ class Shared:
 
     def __init__(self, run, first, last, beside=1, errors=True, **options):
         """The trace of a span, beside so many traces in all; with options of noc."""
-        number = max(1, min(MOST_PARTS, (os.cpu_count() or 1) // beside)) if run.is_long(last + 1 - first) else 1
+        number = max(1, min(MOST_PARTS, run.free // beside)) if run.is_long(last + 1 - first) else 1
         self.parts = []
         for begin, end in parts_of(first, last + 1, number):
             noc = run.start_trace(errors and begin == first, first=begin, last=end - 1, **options)

@@ -15,7 +15,7 @@ leads to a packet that moves in the fewest steps.
 CONFIG, TRAFFIC and F are files, one of them '-' for standard input. With CYCLE the network is run once, by 'noc trace', and once
 more where only that tells whether the packet is out: at the same time, where a run takes long. A life takes two runs side by side,
 one for the packet and one for its source, and then one for each other router where it waited long, up to that wait. Each of these is
-shared by several noc where it is long. Python 3.11 or later; nothing else is needed.
+shared by several noc where it is long and processors are free. Python 3.11 or later; nothing else is needed.
 """
 import argparse
 from collections import Counter

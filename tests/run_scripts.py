@@ -197,9 +197,7 @@ for number in range(len(run.rows)):
 """
 # A long trace is shared by several noc; and a long run that tells whether a packet is out begins at once.
 SHARED = """
-import os
-
-os.cpu_count = lambda: 6
+run.free = 6
 for number in range(len(run.rows)):
     packet, said = run.packet(number), []
     for traces.LONG in (1_000_000, 1):
