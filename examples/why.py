@@ -13,24 +13,23 @@ step before: then these packets wait for one another. Where a packet may go by s
 leads to a packet that moves in the fewest steps.
 
 CONFIG, TRAFFIC and F are files, one of them '-' for standard input. With CYCLE the network is run once, by 'noc trace', and once
-more where only that tells whether the packet is out. A life takes two runs side by side, one for the packet and one for its source,
-and one more, up to the last of the long waits, where one was elsewhere. Python 3.11 or later; nothing else is needed.
+more where only that tells whether the packet is out: at the same time, where a run takes long. A life takes two runs side by side,
+one for the packet and one for its source, and then one for each other router where it waited long, up to that wait. Each of these is
+shared by several noc where it is long and processors are free. Python 3.11 or later; nothing else is needed.
 """
 import argparse
 from collections import Counter
-from concurrent.futures import ThreadPoolExecutor
+from contextlib import ExitStack
 from dataclasses import dataclass
 
 from network import opposite, refuse, split
-from traces import EMPTY, OWNING, QUEUE, STALLS, Beside, Run, add_files, life_of, write
+from traces import EMPTY, OWNING, QUEUE, STALLS, Outs, Run, Shared, add_files, life_of, write
 
 # So many of the longest waits are told of, and so many of the packets that held what was waited for.
 WAITS, HOLDERS = 3, 3
 # A trace begins so many cycles before a wait, so that it tells who had a channel that drains when the wait begins; where it does not,
 # another one does.
 BEFORE = 100
-# In so many cycles a trace of all routers takes less time than one of a router more.
-CLOSE = 1000
 
 
 @dataclass(frozen=True)
@@ -64,8 +63,9 @@ class Step:
 class Moment:
     """A run in one cycle: what each input channel says that holds a packet, and which packets each router has one cycle later."""
 
-    def __init__(self, run, cycle):
+    def __init__(self, run, cycle, outs=None):
         self.run, self.cycle = run, cycle
+        self.outs = outs or Outs(run, cycle)
         self.found, self.following = {}, set()
         for finding in run.trace(first=cycle, last=min(cycle + 1, run.network.cycles - 1)):
             if finding.cycle == cycle:
@@ -261,7 +261,7 @@ def start_of(moment, packet):
         return None, f"Packet {packet.number} is due in cycle {packet.due}."
     head = moment.head(packet)
     if head is None and (packet.number, packet.source) not in moment.following and not moment.must_wait(packet):
-        out = life_of(moment.run, packet, moment.cycle).out
+        out = moment.outs.out(packet)
         if out is not None:
             return None, f"Packet {packet.number} was out in cycle {out}."
     return head or Place(packet.number, packet.source, QUEUE), None
@@ -415,45 +415,33 @@ def holders_at(run, findings, waits):
     return list(zip(waits, counts))
 
 
-def findings_of_routers(run, spans):
-    """The findings of some routers, each in a span of cycles: by one trace of all routers where the spans are close to each other,
-    and else by a trace for each, side by side."""
-    first, last = min(first for first, _ in spans.values()), max(last for _, last in spans.values())
-    if 1 < len(spans) and last - first < CLOSE:
-        found = {router: [] for router in spans}
-        for finding in run.trace(routers=spans, first=first, last=last, changes=True):
-            found[finding.router].append(finding)
-        return found
-    with ThreadPoolExecutor() as pool:
-        traced = pool.map(lambda item: list(run.trace(router=item[0], first=item[1][0], last=item[1][1], changes=True)), spans.items())
-        return dict(zip(spans, traced))
-
-
 def begin(cycle):
     """Where a trace begins that tells what leads to a cycle."""
     return max(0, cycle - BEFORE)
 
 
 def waits_in_words(run, life, source):
-    """The longest waits; with a trace of the source of the packet, which is read as far as they are there."""
+    """The longest waits; with a trace of the source of the packet, which is read as far as they are there, and one beside it for each
+    other router."""
     waits = longest_waits(life)
     at = {wait.router: [other for other in waits if other.router == wait.router] for wait in waits}
-    spans = {
-        router: (begin(min(wait.cycles[0] for wait in there)), max(wait.cycles[-1] for wait in there)) for router, there in at.items()
-    }
-    found = {}
-    if life.packet.source in spans:
-        found[life.packet.source] = source.up_to(spans.pop(life.packet.source)[1])
-    if spans:
-        found |= findings_of_routers(run, spans)
-    held = [pair for router, there in at.items() for pair in holders_at(run, found[router], there)]
+    there = at.pop(life.packet.source, [])
+    with ExitStack() as stack:
+        spans = [(begin(min(wait.cycles[0] for wait in here)), max(wait.cycles[-1] for wait in here)) for here in at.values()]
+        traces = [stack.enter_context(Shared(run, *span, len(at), router=router, changes=True)) for router, span in zip(at, spans)]
+        port = "local" if all(wait.channel == QUEUE for wait in there) else None
+        held = holders_at(run, source.changes(port), there) if there else []
+        source.end()
+        for trace, here in zip(traces, at.values()):
+            held += holders_at(run, trace.changes(), here)
     return [wait.line(count) for wait, count in sorted(held, key=lambda pair: waits.index(pair[0]))]
 
 
 def life_lines(run, packet):
     """The life in words, a line as soon as it is known."""
-    with Beside(run, router=packet.source, first=begin(packet.due), changes=True) as source:
-        life = life_of(run, packet)
+    last = run.network.cycles - 1
+    with Shared(run, begin(packet.due), last, beside=2, errors=False, router=packet.source, changes=True) as source:
+        life = life_of(run, packet, beside=2)
         yield title(run, life)
         for stay in life.stays:
             counts = "" if stay.channel == QUEUE else f": {listed(stay.counts())}"
@@ -461,6 +449,19 @@ def life_lines(run, packet):
         foremost = Counter(bar.verdict for _, bar in life.foremost())
         yield f"Its foremost flit, in {cycles_in_words(foremost.total())}: {listed(foremost)}."
         yield from waits_in_words(run, life, source)
+
+
+def may_be_out(run, packet, cycle):
+    """Whether a packet that nothing keeps waiting is out before a cycle."""
+    return packet.due + 3 * run.network.distance(packet.source, packet.destination) + packet.length + 1 < cycle
+
+
+def moment_lines(run, packet, cycle):
+    """The steps from a packet to a root. That a packet is out may be needed, so a run that takes long begins at once."""
+    with Outs(run, cycle) as outs:
+        if run.is_long(cycle) and may_be_out(run, packet, cycle):
+            outs.begin(errors=False)
+        return lines(Moment(run, cycle, outs), packet)
 
 
 def main():
@@ -476,7 +477,7 @@ def main():
         packet = run.packet(options.packet)
         if not 0 <= options.cycle < run.network.cycles:
             refuse(f"the run has the cycles 0 to {run.network.cycles - 1}")
-        said = lines(Moment(run, options.cycle), packet)
+        said = moment_lines(run, packet, options.cycle)
     write(f"{line}\n" for line in said)
 
 

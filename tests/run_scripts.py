@@ -195,6 +195,15 @@ for number in range(len(run.rows)):
             assert held.total() == len(wait.cycles), (number, wait, held)
         assert number not in {packet for packet, _ in held}, (number, wait, held)
 """
+# A long trace is shared by several noc; and a long run that tells whether a packet is out begins at once.
+SHARED = """
+run.free = 6
+for number in range(len(run.rows)):
+    packet, said = run.packet(number), []
+    for traces.LONG in (1_000_000, 1):
+        said.append([*why.life_lines(run, packet), *why.moment_lines(run, packet, 39)])
+    assert said[0] == said[1], number
+"""
 
 
 def holds_on_made_networks(folder, count, script):
@@ -220,6 +229,10 @@ def lives_agree_with_the_program(folder):
 
 def waits_have_holders(folder):
     return holds_on_made_networks(folder, 4, HOLDERS)
+
+
+def a_shared_trace_says_the_same(folder):
+    return holds_on_made_networks(folder, 2, SHARED)
 
 
 # ---- the lives of why.py
@@ -751,6 +764,7 @@ CHECKS = [
     why_tells_who_won,
     why_tells_of_a_life_without_an_end,
     waits_have_holders,
+    a_shared_trace_says_the_same,
     timeline_shows_a_packet_alone,
     timeline_shows_a_wait,
     timeline_has_numbers_at_its_ends,
