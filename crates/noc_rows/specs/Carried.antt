@@ -42,11 +42,13 @@ pub record HasFlit (ring : List ℕ) : Type 0 where
   pub rest : List ℕ
   pub is : ring ≡ flit_word flit ∷ rest
 
--- the flits of these places may move to these targets: each has one, no two go to one place below the limit, and there is room
+-- the flits of these places below the limit may move to these targets: each has one, no two go to one place below the limit, and there is
+-- room
 pub record CanMove (room limit : ℕ) (gone : ℕ → Bool) (target : ℕ → ℕ) (before : WireWords) : Type 0 where
+  pub below : (p : ℕ) → gone p ≡ true → p < limit
   pub flits : (p : ℕ) → gone p ≡ true → HasFlit (before.ring p)
   pub apart : (p q : ℕ) → gone p ≡ true → gone q ≡ true → target p ≡ target q → target p < limit → p ≡ q
-  pub room : (p : ℕ) → gone p ≡ true → target p < limit → length (before.ring (target p)) < room
+  pub free : (p : ℕ) → gone p ≡ true → target p < limit → length (before.ring (target p)) < room
 
 -- they have moved, and a credit has gone back from each; beyond the limit nothing is said of what has come
 pub record HaveMoved (limit : ℕ) (gone : ℕ → Bool) (target back : ℕ → ℕ) (before after : WireWords) : Type 0 where
