@@ -100,7 +100,7 @@ fn has_inputs(shape: &Shape, router: usize, port: usize) -> bool
     requires router { router < nodes shape.now }
     requires port { port < ports shape.now }
 {
-    port + 1 == shape.ports() || shape.neighbour(router, port).is_some()
+    port == 2 * shape.dimensions() || shape.neighbour(router, port).is_some()
 }
 
 // The lines of an input port.
