@@ -13,7 +13,7 @@ use std::sync::Wait;
 use std::thread::Threads;
 
 /// After how many cycles a run that is to drain looks again whether every packet is out.
-const PIECE: u64 = 64;
+const DRAIN_CHECK_INTERVAL: u64 = 64;
 
 /// Runs a network that has not run for so many cycles, and on where it is to drain.
 pub fn run_to_end(network: &mut Network, cycles: u64, drain: bool)
@@ -84,11 +84,11 @@ fn run_on_by_workers<R: Threads + Wait + Sync>(
 
 // How many cycles a network that is to drain runs next: up to the next look or the limit, and none where it has drained.
 fn next_piece(network: &Network, limit: u64) -> Option<u64>
-    ensures some { IfSome result (λ cycles. (network.now.count < limit) × (is_out_at network.now.net network.now.count ≡ false) × (cycles ≡ min PIECE (limit - network.now.count))) }
+    ensures some { IfSome result (λ cycles. (network.now.count < limit) × (is_out_at network.now.net network.now.count ≡ false) × (cycles ≡ min DRAIN_CHECK_INTERVAL (limit - network.now.count))) }
     ensures none { IfNone result ((limit ≤ network.now.count) ⊎ (is_out_at network.now.net network.now.count ≡ true)) }
 {
     if limit <= network.count() || network.all_out() {
         return None;
     }
-    Some(PIECE.min(limit - network.count()))
+    Some(DRAIN_CHECK_INTERVAL.min(limit - network.count()))
 }

@@ -11,7 +11,7 @@ use Rattle.noc_packet.specs.Packet.{flit_at}
 use Rattle.noc_packet.specs.declared.packet.Flit.{Flit}
 use Rattle.noc_route.specs.Channel.{Channel, Link, Inject, is_link}
 use Rattle.noc_router.specs.Verdict.{Claim, Holds, out_of, is_moved}
-use Rattle.noc_router.specs.View.{Site, View, Decisions, view_claim, planned, mover, mover_to, flit_out, first_flit, beat_out, decided_verdict}
+use Rattle.noc_router.specs.View.{Site, View, Decisions, view_claim, decisions_of, mover, mover_to, flit_out, first_flit, beat_out, decided_verdict}
 use Rattle.noc_router.proofs.FindLemmas.{find-same, find-at, find-none}
 use Rattle.noc_router.proofs.PlanFacts.{mover-is}
 use Rattle.noc_router.proofs.SettleLemmas.{mover_to-is}
@@ -36,7 +36,7 @@ module _ (net : Setup) (good : IsGood net) (F : State) (x : IsOrderedFrozen net 
   T = after_verdicts net n F
 
   abbrev D : Decisions
-  D = planned net.relation v
+  D = decisions_of net.relation v
 
   abbrev pub flit_of : Located → Flit
   flit_of f = flit_at (packet_at net f.packet) f.packet f.index

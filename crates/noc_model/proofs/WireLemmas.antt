@@ -11,7 +11,7 @@ use Rattle.noc_packet.specs.declared.packet.Flit.{Flit}
 use Rattle.noc_packet.specs.Set.{has_bit}
 use Rattle.noc_router.specs.Links.{is_idle_beat}
 use Rattle.noc_router.specs.View.{View, idle_beat, beat_to_put}
-use Rattle.noc_model.specs.Halves.{beat_at, received, sent_on}
+use Rattle.noc_model.specs.Halves.{beat_at, wire_after_puts, sent_on}
 use Rattle.noc_model.specs.Lockstep.{beat_from}
 
 -- of these beats those of the set are left
@@ -156,7 +156,7 @@ left-none rest n before after none count left =
     ext_get_or idle_beat after (replicate n idle_beat) (count ∙ sym (length-replicate n idle_beat))
     (λ k l. left k ∙ ap (λ b. if b then get_or before k idle_beat else idle_beat) (none k) ∙ sym (get_or-idle n k))
 
-pub received-last : (rest : ℕ) (v : View) (from : Option (ℕ × ℕ)) (beat : Beat) → ((p : ℕ) → has_bit rest p ≡ false) → received_but rest v from beat ≡ received v from beat
+pub received-last : (rest : ℕ) (v : View) (from : Option (ℕ × ℕ)) (beat : Beat) → ((p : ℕ) → has_bit rest p ≡ false) → received_but rest v from beat ≡ wire_after_puts v from beat
 received-last rest v None beat none = refl
 received-last rest v (Some (a, q)) beat none = rw (none q) (at (nat_eq a v.site.node))
   where

@@ -18,7 +18,7 @@ use Rattle.noc_model.specs.declared.event.Event.TheVariants.{Take, Decide, Put}
 use Rattle.noc_model.specs.declared.limits.TheConstants.{CYCLE_LIMIT}
 use Rattle.noc_net.specs.declared.parts.Parts.{Parts}
 use Rattle.noc_net.specs.declared.room.Room.{Room}
-use Rattle.noc_model.specs.Core.{CoreState, Post, are_between, rested, beat_to_send, changed_at, happens, has_beat, holds_at, onto_wire, putting, receiving, is_linked, is_ready, may_decide, may_put, may_take, post_at, with_post}
+use Rattle.noc_model.specs.Core.{CoreState, Post, are_between, resting_post, beat_to_send, changed_at, happens, has_beat, holds_at, onto_wire, putting, receiving, is_linked, is_ready, may_decide, may_put, may_take, post_at, with_post}
 use Rattle.noc_model.specs.InStep.{AreWithin, IsInStep, cycle_of, lockstep_core, lockstep_wires}
 use Rattle.noc_model.specs.Halves.{beat_at}
 use Rattle.noc_model.specs.Lockstep.{lockstep_at, site_at}
@@ -245,10 +245,10 @@ opened_core parts rooms sound count opened =
     let net = setup_in parts in
     let n = parts.count in
     let size = local_port parts.relation.grid in
-    let begun = λ (r : ℕ) (view : View). rested net view n (lockstep_wires net n r) in
+    let begun = λ (r : ℕ) (view : View). resting_post net view n (lockstep_wires net n r) in
     let routers : length parts.routers.items ≡ nodes parts.relation.grid = ap length (views-in_step parts sound) ∙ count_views net n in
     let posts : length (posts_of (local_port parts.relation.grid) parts.routers.items rooms) ≡ length rooms = length-posts_of size parts.routers.items rooms (omega arith) in
-    let begun_count : length (map_indexed (λ (r : ℕ) (view : View). rested net view n (lockstep_wires net n r)) (lockstep_at net n).views) ≡ length (lockstep_at net n).views = length-map_indexed begun (lockstep_at net n).views in
+    let begun_count : length (map_indexed (λ (r : ℕ) (view : View). resting_post net view n (lockstep_wires net n r)) (lockstep_at net n).views) ≡ length (lockstep_at net n).views = length-map_indexed begun (lockstep_at net n).views in
     ap (λ (posts : List Post). record { net = net; posts = posts })
     (same_lists (posts_of size parts.routers.items rooms) (map_indexed begun (lockstep_at net n).views) (omega (arith, ap length (views-in_step parts sound)))
     (λ r d l.
@@ -265,7 +265,7 @@ opened_core parts rooms sound count opened =
     ∙ ap (λ (beat : Beat). if is_linked net r port then beat ∷ [] else []) (wires-in_step parts sound r port)) in
     get_or_from_slice_get (posts_of size parts.routers.items rooms) r (post_of size view.0 one.0) d (post_there size parts.routers.items rooms r view.0 one.0 view.1 one.1)
     ∙ opened r view.0 one.0 view.1 one.1
-    ∙ ap (λ (ws : List (List Beat)). rested net view.0 n ws) wires
+    ∙ ap (λ (ws : List (List Beat)). resting_post net view.0 n ws) wires
     ∙ ap (begun r) (sym (get_or_from_slice_get (lockstep_at net n).views r view.0 view.0 seen))
     ∙ sym (get_or-map_indexed begun (lockstep_at net n).views r view.0 d (omega (arith, ap length (views-in_step parts sound))))))
 

@@ -3,7 +3,7 @@
 ghost use Rattle.std.specs.Prelude.{◌≡◌, ◌<◌, ◌≤◌, All};
 ghost use Rattle.noc_topo.specs.Shape.{ports as ports_of, local_port};
 ghost use Rattle.noc_router.specs.Decided.{IsDecidedFor};
-ghost use Rattle.noc_router.specs.Start.{IsStart};
+ghost use Rattle.noc_router.specs.Start.{IsNumberedPacket};
 ghost use Rattle.noc_router.specs.View.{IsRelationOf};
 
 use noc_packet::{Beat, Flit, Packet};
@@ -38,7 +38,7 @@ fn first_router(
 ) -> Router
     requires some_place { 0 < places }
     requires places { places ≤ 16 }
-    requires starts { All IsStart starts.items }
+    requires starts { All IsNumberedPacket starts.items }
     ensures { IsRelationOf relation.now result }
 {
     assert!(rt; relation.shape().nodes() > 0);

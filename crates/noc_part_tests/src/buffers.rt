@@ -1,6 +1,6 @@
 //! Rings that wrap, banks of every size that is allowed, and banks that go to a thread and come back.
 ghost use Rattle.std.specs.Prelude.{◌≡◌, ◌<◌, length};
-ghost use Rattle.noc_ring.specs.Rings.{ring_at, pushed, popped};
+ghost use Rattle.noc_ring.specs.Buffers.{buffer_at, buffers_after_push, buffers_after_pop};
 
 use noc_packet::Flit;
 use noc_ring::Bank;
@@ -98,9 +98,9 @@ fn a_full_ring_turns_a_thousand_times(rt: HostRuntime) -> Result<(), Fail> {
 
 fn turned(mut bank: Bank, flit: Flit) -> Bank
     requires ring { 0 < length bank.rings }
-    requires some { 0 < length (ring_at bank 0) }
-    requires room { length (ring_at (popped bank 0) 0) < bank.capacity }
-    ensures { result ≡ pushed (popped bank 0) 0 flit }
+    requires some { 0 < length (buffer_at bank 0) }
+    requires room { length (buffer_at (buffers_after_pop bank 0) 0) < bank.capacity }
+    ensures { result ≡ buffers_after_push (buffers_after_pop bank 0) 0 flit }
 {
     let _first = bank.pop(0);
     bank.push(0, flit);

@@ -3,9 +3,9 @@
 ghost use Rattle.std.specs.Prelude.{◌≡◌, ℕ, ◌+◌, ◌*◌, ◌/◌, ◌%◌, ◌<◌, ◌≤◌, List, Option, Some, None, length, slice_index_or, if◌then◌else◌, true, false};
 ghost use Rattle.noc_topo.specs.Shape.{nodes, ports, local_port, distance};
 ghost use Rattle.noc_packet.specs.declared.limits.TheConstants.{INDICES};
-ghost use Rattle.noc_route.specs.Ranks.{places};
+ghost use Rattle.noc_route.specs.Ranks.{rank_count};
 ghost use Rattle.noc_route.specs.Routes.{IsRelation};
-ghost use Rattle.noc_rank.specs.Ahead.{AreLeast, AreAllLeast, IsLeastOf, IsValueIn, outputs, counts_for, lesser};
+ghost use Rattle.noc_rank.specs.LeastAhead.{AreLeast, AreAllLeast, IsLeastOf, IsValueIn, outputs, counts_for, lesser};
 ghost use Rattle.noc_packet.specs.Set.{has_bit};
 
 use crate::place::{link_ports, place};
@@ -23,9 +23,9 @@ pub fn fill_least(
     class: usize,
     dst: usize,
 )
-    requires ranks { length ranks.now ≡ places relation.now.grid relation.now.vcs }
-    requires marks { length marks.now ≡ places relation.now.grid relation.now.vcs }
-    requires least { length least.old ≡ places relation.now.grid relation.now.vcs }
+    requires ranks { length ranks.now ≡ rank_count relation.now.grid relation.now.vcs }
+    requires marks { length marks.now ≡ rank_count relation.now.grid relation.now.vcs }
+    requires least { length least.old ≡ rank_count relation.now.grid relation.now.vcs }
     requires class { class < relation.now.classes }
     requires dst { dst < nodes relation.now.grid }
     requires built { IsRelation relation.now }
@@ -46,8 +46,8 @@ fn fill_at(
     dst: usize,
     distance: usize,
 )
-    requires ranks { length ranks.now ≡ places relation.now.grid relation.now.vcs }
-    requires marks { length marks.now ≡ places relation.now.grid relation.now.vcs }
+    requires ranks { length ranks.now ≡ rank_count relation.now.grid relation.now.vcs }
+    requires marks { length marks.now ≡ rank_count relation.now.grid relation.now.vcs }
     requires class { class < relation.now.classes }
     requires dst { dst < nodes relation.now.grid }
     requires nearer { AreLeast relation.now ranks.now marks.now class dst distance 0 0 least.old }
@@ -69,8 +69,8 @@ fn fill_if_at(
     distance: usize,
     router: usize,
 )
-    requires ranks { length ranks.now ≡ places relation.now.grid relation.now.vcs }
-    requires marks { length marks.now ≡ places relation.now.grid relation.now.vcs }
+    requires ranks { length ranks.now ≡ rank_count relation.now.grid relation.now.vcs }
+    requires marks { length marks.now ≡ rank_count relation.now.grid relation.now.vcs }
     requires class { class < relation.now.classes }
     requires dst { dst < nodes relation.now.grid }
     requires router { router < nodes relation.now.grid }
@@ -92,8 +92,8 @@ fn fill_router(
     dst: usize,
     router: usize,
 )
-    requires ranks { length ranks.now ≡ places relation.now.grid relation.now.vcs }
-    requires marks { length marks.now ≡ places relation.now.grid relation.now.vcs }
+    requires ranks { length ranks.now ≡ rank_count relation.now.grid relation.now.vcs }
+    requires marks { length marks.now ≡ rank_count relation.now.grid relation.now.vcs }
     requires class { class < relation.now.classes }
     requires dst { dst < nodes relation.now.grid }
     requires router { router < nodes relation.now.grid }
@@ -116,8 +116,8 @@ fn fill_input(
     router: usize,
     input: usize,
 )
-    requires ranks { length ranks.now ≡ places relation.now.grid relation.now.vcs }
-    requires marks { length marks.now ≡ places relation.now.grid relation.now.vcs }
+    requires ranks { length ranks.now ≡ rank_count relation.now.grid relation.now.vcs }
+    requires marks { length marks.now ≡ rank_count relation.now.grid relation.now.vcs }
     requires class { class < relation.now.classes }
     requires dst { dst < nodes relation.now.grid }
     requires router { router < nodes relation.now.grid }
@@ -143,9 +143,9 @@ fn least_of(
     router: usize,
     set: ChannelSet,
 ) -> Option<u32>
-    requires ranks { length ranks.now ≡ places relation.now.grid relation.now.vcs }
-    requires marks { length marks.now ≡ places relation.now.grid relation.now.vcs }
-    requires least { length least.now ≡ places relation.now.grid relation.now.vcs }
+    requires ranks { length ranks.now ≡ rank_count relation.now.grid relation.now.vcs }
+    requires marks { length marks.now ≡ rank_count relation.now.grid relation.now.vcs }
+    requires least { length least.now ≡ rank_count relation.now.grid relation.now.vcs }
     requires router { router < nodes relation.now.grid }
     ensures { IsLeastOf (IsValueIn relation.now ranks.now marks.now least.now router set (outputs relation.now)) result }
 {

@@ -5,7 +5,7 @@ ghost use Rattle.noc_topo.specs.Shape.{nodes, ports, local_port};
 ghost use Rattle.noc_route.specs.Routes.{IsRelation};
 ghost use Rattle.noc_route.specs.Ranks.{rank_at};
 ghost use Rattle.noc_rank.specs.Faults.{HasEscapes, IsFirstBare};
-ghost use Rattle.noc_rank.specs.Bare.{entries, entry_at, IsBareSet, IsRankedIn};
+ghost use Rattle.noc_rank.specs.NoEscape.{entries, numbered_entry, IsBareSet, IsRankedIn};
 
 use crate::place::link_ports;
 use crate::ranks::{Ranks, output_rank};
@@ -27,7 +27,7 @@ pub fn first_bare(rt: &(impl Threads + Sync), relation: &Relation, ranks: &Ranks
         rt,
         |number: &usize| -> bool
             requires { (relation.now.grid ≡ ranks.now.grid) × (relation.now.vcs ≡ ranks.now.vcs) × (number.now < entries relation.now) }
-            ensures { (result ≡ false) ↔ (IsBareSet relation.entry.now ranks.entry.now (entry_at relation.entry.now number.now) → ⊥) }
+            ensures { (result ≡ false) ↔ (IsBareSet relation.entry.now ranks.entry.now (numbered_entry relation.entry.now number.now) → ⊥) }
         { bare_at(relation, ranks, *number).is_some() },
     )?;
     bare_at(relation, ranks, number)
@@ -38,8 +38,8 @@ fn bare_at(relation: &Relation, ranks: &Ranks, number: usize) -> Option<Entry>
     requires shape { relation.now.grid ≡ ranks.now.grid }
     requires vcs { relation.now.vcs ≡ ranks.now.vcs }
     requires number { number < entries relation.now }
-    ensures none { IfNone result (IsBareSet relation.now ranks.now (entry_at relation.now number) → ⊥) }
-    ensures some { IfSome result (λ entry. (entry ≡ entry_at relation.now number) × IsBareSet relation.now ranks.now entry) }
+    ensures none { IfNone result (IsBareSet relation.now ranks.now (numbered_entry relation.now number) → ⊥) }
+    ensures some { IfSome result (λ entry. (entry ≡ numbered_entry relation.now number) × IsBareSet relation.now ranks.now entry) }
 {
     let entry = entry_of(relation, number);
     let set = relation.permitted(
@@ -57,7 +57,7 @@ fn bare_at(relation: &Relation, ranks: &Ranks, number: usize) -> Option<Entry>
 
 /// The entry of a number, of which the destination is the last digit.
 fn entry_of(relation: &Relation, number: usize) -> Entry
-    ensures value { result ≡ entry_at relation.now number }
+    ensures value { result ≡ numbered_entry relation.now number }
     ensures nodes { 1 ≤ nodes relation.now.grid }
     ensures ports { 1 ≤ ports relation.now.grid }
     ensures vcs { 1 ≤ relation.now.vcs }

@@ -2,11 +2,11 @@
 
 ghost use Rattle.std.specs.Prelude.{◌≡◌, ℕ, ◌+◌, ◌*◌, ◌/◌, ◌%◌, ◌<◌, ◌≤◌, ◌⊎◌, List, Option, Some, None, IfOk, IfSome, IfNone, MatchOption, length, slice_index_or, vec_len, true, false};
 ghost use Rattle.noc_topo.specs.Shape.{nodes};
-ghost use Rattle.noc_route.specs.Ranks.{places};
+ghost use Rattle.noc_route.specs.Ranks.{rank_count};
 ghost use Rattle.noc_route.specs.Routes.{IsRelation};
 ghost use Rattle.noc_rank.specs.Faults.{HasNoDescent, IsFirstDescent};
-ghost use Rattle.noc_rank.specs.Ahead.{over, IsLeastOf};
-ghost use Rattle.noc_rank.specs.Descents.{AreReal, IsOver, IsStart, IsStartBy, IsAheadAt, IsLinkPlace, channel_at, falls, mark_below, fault_of_descent};
+ghost use Rattle.noc_rank.specs.LeastAhead.{over, IsLeastOf};
+ghost use Rattle.noc_rank.specs.NotRisingTo.{AreReal, IsOver, BeginsDescent, IsStartBy, IsAheadAt, IsLinkPlace, channel_at, falls, mark_below, fault_of_descent};
 
 use crate::ahead::{fill_least, lesser};
 use crate::fault::RankFault;
@@ -60,9 +60,9 @@ fn descent_in(
     ranks: &[Option<u32>],
     least: &mut [Option<u32>],
 ) -> Result<Option<Descent>, AllocError>
-    requires ranks { length ranks.now ≡ places relation.now.grid relation.now.vcs }
-    requires least { length least.old ≡ places relation.now.grid relation.now.vcs }
-    requires few { places relation.now.grid relation.now.vcs < 4294967296 }
+    requires ranks { length ranks.now ≡ rank_count relation.now.grid relation.now.vcs }
+    requires least { length least.old ≡ rank_count relation.now.grid relation.now.vcs }
+    requires few { rank_count relation.now.grid relation.now.vcs < 4294967296 }
     requires real { AreReal relation.now ranks.now }
     requires built { IsRelation relation.now }
     ensures { IfOk result (λ found. MatchOption found (HasNoDescent relation.now (over relation.now ranks.now)) (λ d. IsFirstDescent relation.now (over relation.now ranks.now) d.from d.to d.rank d.next)) }
@@ -79,8 +79,8 @@ fn descent_in(
 
 /// The place of the first channel from which packets come on to one of no greater rank; `least` is room.
 fn first_start(relation: &Relation, ranks: &[Option<u32>], least: &mut [Option<u32>]) -> Option<u32>
-    requires ranks { length ranks.now ≡ places relation.now.grid relation.now.vcs }
-    requires least { length least.old ≡ places relation.now.grid relation.now.vcs }
+    requires ranks { length ranks.now ≡ rank_count relation.now.grid relation.now.vcs }
+    requires least { length least.old ≡ rank_count relation.now.grid relation.now.vcs }
     requires real { AreReal relation.now ranks.now }
     requires built { IsRelation relation.now }
     ensures value { IsLeastOf (IsOver relation.now (IsStartBy relation.now ranks.now)) result }
@@ -103,8 +103,8 @@ fn start_by(
     class: usize,
     dst: usize,
 ) -> Option<u32>
-    requires ranks { length ranks.now ≡ places relation.now.grid relation.now.vcs }
-    requires least { length least.old ≡ places relation.now.grid relation.now.vcs }
+    requires ranks { length ranks.now ≡ rank_count relation.now.grid relation.now.vcs }
+    requires least { length least.old ≡ rank_count relation.now.grid relation.now.vcs }
     requires real { AreReal relation.now ranks.now }
     requires built { IsRelation relation.now }
     requires class { class < relation.now.classes }
@@ -120,7 +120,7 @@ fn start_by(
 fn start_in(ranks: &[Option<u32>], least: &[Option<u32>]) -> Option<u32>
     requires least { length least.now ≡ length ranks.now }
     requires few { length ranks.now < 4294967296 }
-    ensures { IsLeastOf (IsStart ranks.now least.now) result }
+    ensures { IsLeastOf (BeginsDescent ranks.now least.now) result }
 {
     for place in 0..ranks.len() {
         if falls(ranks[place], least[place]) {
@@ -183,9 +183,9 @@ fn first_end(
     least: &mut [Option<u32>],
     start: u32,
 ) -> Option<u32>
-    requires ranks { length ranks.now ≡ places relation.now.grid relation.now.vcs }
-    requires marks { length marks.now ≡ places relation.now.grid relation.now.vcs }
-    requires least { length least.old ≡ places relation.now.grid relation.now.vcs }
+    requires ranks { length ranks.now ≡ rank_count relation.now.grid relation.now.vcs }
+    requires marks { length marks.now ≡ rank_count relation.now.grid relation.now.vcs }
+    requires least { length least.old ≡ rank_count relation.now.grid relation.now.vcs }
     requires start { IsLinkPlace relation.now start }
     requires built { IsRelation relation.now }
     ensures { IsLeastOf (IsOver relation.now (λ m t n. IsAheadAt relation.now ranks.now marks.now m t start n)) result }
@@ -217,9 +217,9 @@ fn end_by(
     class: usize,
     dst: usize,
 ) -> Option<u32>
-    requires ranks { length ranks.now ≡ places relation.now.grid relation.now.vcs }
-    requires marks { length marks.now ≡ places relation.now.grid relation.now.vcs }
-    requires least { length least.old ≡ places relation.now.grid relation.now.vcs }
+    requires ranks { length ranks.now ≡ rank_count relation.now.grid relation.now.vcs }
+    requires marks { length marks.now ≡ rank_count relation.now.grid relation.now.vcs }
+    requires least { length least.old ≡ rank_count relation.now.grid relation.now.vcs }
     requires start { IsLinkPlace relation.now start }
     requires built { IsRelation relation.now }
     requires class { class < relation.now.classes }

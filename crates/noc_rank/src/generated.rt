@@ -3,7 +3,7 @@
 ghost use Rattle.std.specs.Prelude.{◌≡◌, ℕ, ◌+◌, ◌*◌, ◌/◌, ◌%◌, ◌<◌, ◌≤◌, IfOk, IfSome, Option, Some, None, is_some, true, false, slice_index, slice_index_or, vec_len};
 ghost use Rattle.noc_topo.specs.declared.limits.TheConstants.{MAX_RADIX};
 ghost use Rattle.noc_topo.specs.Shape.{IsGrid, nodes, dimensions, coordinates, local_port};
-ghost use Rattle.noc_route.specs.Ranks.{is_channel, places};
+ghost use Rattle.noc_route.specs.Ranks.{is_channel, rank_count};
 ghost use Rattle.noc_rank.specs.Formulas.{has_ranks, is_numbered, passed_in, west_first_rank, formula, formula_at};
 
 use crate::place::{all_ports, is_channel, link_ports};
@@ -35,11 +35,11 @@ pub fn formula_ranks(
     rule: &Rule,
 ) -> Result<Vec<Option<u32>>, AllocError>
     requires { has_ranks shape.now vcs classes rule.now ≡ true }
-    ensures len { IfOk result (λ ranks. vec_len ranks ≡ places shape.now vcs) }
+    ensures len { IfOk result (λ ranks. vec_len ranks ≡ rank_count shape.now vcs) }
     ensures grid { IsGrid shape.now }
-    ensures items { IfOk result (λ ranks. (k : ℕ) → k < places shape.now vcs → slice_index_or ranks.items k None ≡ formula_at shape.now vcs classes rule.now (k / vcs / local_port shape.now) (k / vcs % local_port shape.now) (k % vcs)) }
-    ensures some { IfOk result (λ ranks. (k : ℕ) → k < places shape.now vcs → IfSome (slice_index_or ranks.items k None) (λ n. 1 ≤ n)) }
-    ensures few { IfOk result (λ ranks. (k : ℕ) → k < places shape.now vcs → IfSome (slice_index_or ranks.items k None) (λ n. n ≤ HIGHEST)) }
+    ensures items { IfOk result (λ ranks. (k : ℕ) → k < rank_count shape.now vcs → slice_index_or ranks.items k None ≡ formula_at shape.now vcs classes rule.now (k / vcs / local_port shape.now) (k / vcs % local_port shape.now) (k % vcs)) }
+    ensures some { IfOk result (λ ranks. (k : ℕ) → k < rank_count shape.now vcs → IfSome (slice_index_or ranks.items k None) (λ n. 1 ≤ n)) }
+    ensures few { IfOk result (λ ranks. (k : ℕ) → k < rank_count shape.now vcs → IfSome (slice_index_or ranks.items k None) (λ n. n ≤ HIGHEST)) }
 {
     let ports = link_ports(shape);
     let count = all_ports(shape) * vcs;

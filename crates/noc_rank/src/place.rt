@@ -2,7 +2,7 @@
 
 ghost use Rattle.std.specs.Prelude.{◌≡◌, ℕ, ◌+◌, ◌*◌, ◌/◌, ◌%◌, ◌<◌, ◌≤◌, true};
 ghost use Rattle.noc_topo.specs.Shape.{IsGrid, nodes, local_port};
-ghost use Rattle.noc_route.specs.Ranks.{is_place, is_channel, places, place_of};
+ghost use Rattle.noc_route.specs.Ranks.{is_place, is_channel, rank_count, rank_index};
 
 use noc_topo::{LINKS, MAX_NODES, Shape};
 
@@ -46,9 +46,9 @@ pub fn is_channel(shape: &Shape, vcs: usize, router: usize, port: usize, vc: usi
 /// The place of a channel of a link port, by router, port and channel, in a list that has as many as a `usize` can count.
 pub fn place(shape: &Shape, vcs: usize, router: usize, port: usize, vc: usize) -> usize
     requires place { is_place shape.now vcs router port vc ≡ true }
-    requires few { places shape.now vcs < 18446744073709551616 }
-    ensures value { result ≡ place_of shape.now vcs router port vc }
-    ensures within { result < places shape.now vcs }
+    requires few { rank_count shape.now vcs < 18446744073709551616 }
+    ensures value { result ≡ rank_index shape.now vcs router port vc }
+    ensures within { result < rank_count shape.now vcs }
 {
     (router * link_ports(shape) + port) * vcs + vc
 }

@@ -6,7 +6,7 @@ ghost use Rattle.noc_packet.specs.declared.limits.TheConstants.{INDICES};
 ghost use Rattle.noc_route.specs.Routes.{set_at};
 ghost use Rattle.noc_route.specs.Ranks.{IsRising, rank_at};
 ghost use Rattle.noc_rank.specs.Rising.{IsFirstFall};
-ghost use Rattle.noc_rank.specs.Falls.{fault_of_fall, arrival_rank, falls_to, links, inputs, IsLeastBelow, HasNone, HasNoFall, IsFirstFrom, IsFirstAt};
+ghost use Rattle.noc_rank.specs.NotRising.{fault_of_fall, arrival_rank, falls_to, link_output_count, input_count, IsLeastBelow, HasNone, HasNoFall, IsFirstFrom, IsFirstAt};
 
 use crate::fault::RankFault;
 use crate::place::link_ports;
@@ -32,7 +32,7 @@ pub fn first_fall(rt: &(impl Threads + Sync), relation: &Relation, ranks: &Ranks
     let number = (0..count).into_par_iter().find_first(
         rt,
         |number: &usize| -> bool
-            requires { (relation.now.grid ≡ ranks.now.grid) × (relation.now.vcs ≡ ranks.now.vcs) × (number.now < relation.now.classes * inputs ranks.now) }
+            requires { (relation.now.grid ≡ ranks.now.grid) × (relation.now.vcs ≡ ranks.now.vcs) × (number.now < relation.now.classes * input_count ranks.now) }
             ensures { (result ≡ false) ↔ HasNoFall relation.entry.now ranks.entry.now number.now }
         { first_at(relation, ranks, *number).is_some() },
     )?;
@@ -73,7 +73,7 @@ impl Fall {
 fn first_at(relation: &Relation, ranks: &Ranks, number: usize) -> Option<Fall>
     requires shape { relation.now.grid ≡ ranks.now.grid }
     requires vcs { relation.now.vcs ≡ ranks.now.vcs }
-    requires number { number < relation.now.classes * inputs ranks.now }
+    requires number { number < relation.now.classes * input_count ranks.now }
     ensures { MatchOption result (HasNoFall relation.now ranks.now number) (IsFirstAt relation.now ranks.now number) }
 {
     let vcs = relation.vcs();
@@ -115,7 +115,7 @@ fn first_from(
     requires router { router < nodes ranks.now.grid }
     requires in_port { in_port < ports ranks.now.grid }
     requires in_vc { in_vc < ranks.now.vcs }
-    ensures none { IfNone result ((t : ℕ) → t < nodes ranks.now.grid → HasNone (falls_to ranks.now router (set_at relation.now class router in_port in_vc t) rank) (links ranks.now)) }
+    ensures none { IfNone result ((t : ℕ) → t < nodes ranks.now.grid → HasNone (falls_to ranks.now router (set_at relation.now class router in_port in_vc t) rank) (link_output_count ranks.now)) }
     ensures some { IfSome result (IsFirstFrom relation.now ranks.now class router in_port in_vc rank) }
 {
     let vcs = relation.vcs();
@@ -149,8 +149,8 @@ fn first_to(
     requires shape { relation.now.grid ≡ ranks.now.grid }
     requires vcs { relation.now.vcs ≡ ranks.now.vcs }
     requires router { router < nodes ranks.now.grid }
-    ensures none { IfNone result (HasNone (falls_to ranks.now router set rank) (links ranks.now)) }
-    ensures some { IfSome result (λ found. IsLeastBelow (falls_to ranks.now router set rank) (links ranks.now) found.0 × (rank_at ranks.now router (found.0 / ranks.now.vcs) (found.0 % ranks.now.vcs) ≡ Some found.1)) }
+    ensures none { IfNone result (HasNone (falls_to ranks.now router set rank) (link_output_count ranks.now)) }
+    ensures some { IfSome result (λ found. IsLeastBelow (falls_to ranks.now router set rank) (link_output_count ranks.now) found.0 × (rank_at ranks.now router (found.0 / ranks.now.vcs) (found.0 % ranks.now.vcs) ≡ Some found.1)) }
 {
     let vcs = relation.vcs();
     for index in 0..link_ports(relation.shape()) * vcs {
@@ -164,7 +164,7 @@ fn first_to(
 /// The rank of a channel on a link port, by its index, if it is in the set and its rank is not greater than `rank`.
 fn falls_to(ranks: &Ranks, router: usize, set: ChannelSet, index: usize, rank: u32) -> Option<u32>
     requires router { router < nodes ranks.now.grid }
-    requires index { index < links ranks.now }
+    requires index { index < link_output_count ranks.now }
     requires few { index < INDICES }
     ensures none { IfNone result (falls_to ranks.now router set rank index ≡ false) }
     ensures some { IfSome result (λ next. (falls_to ranks.now router set rank index ≡ true) × (rank_at ranks.now router (index / ranks.now.vcs) (index % ranks.now.vcs) ≡ Some next)) }

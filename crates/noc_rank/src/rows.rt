@@ -1,8 +1,8 @@
 //! Ranks that are given row by row.
 
 ghost use Rattle.std.specs.Prelude.{◌≡◌, ℕ, ◌<◌, ◌≤◌, IfErr, IfSome, IfNone, IsOk, OnOk, OnErr, length, slice_index_or, true, false, Some};
-ghost use Rattle.noc_route.specs.Ranks.{is_place, is_channel, places, place_of};
-ghost use Rattle.noc_rank.specs.Rows.{is_rank, fault_of, IsFirstRowFault};
+ghost use Rattle.noc_route.specs.Ranks.{is_place, is_channel, rank_count, rank_index};
+ghost use Rattle.noc_rank.specs.Rows.{is_rank, rank_row_fault, IsFirstRowFault};
 ghost use Rattle.noc_rank.specs.Entered.{AreEntered, IsWhole, IsFirstGap};
 
 use crate::fault::RankFault;
@@ -31,7 +31,7 @@ pub fn enter(
     ranks: &mut [Option<u32>],
     named: &mut [bool],
 ) -> Result<(), RankFault>
-    requires few { places shape.now vcs < 18446744073709551616 }
+    requires few { rank_count shape.now vcs < 18446744073709551616 }
     requires blank { AreEntered shape.now vcs rows.now 0 ranks.old named.old }
     ensures err { IfErr result (IsFirstRowFault shape.now vcs rows.now) }
     ensures ok { OnOk result (AreEntered shape.now vcs rows.now (length rows.now) ranks.new named.new) }
@@ -55,9 +55,9 @@ fn row_fault(
     number: usize,
     row: &RankRow,
 ) -> Option<RankFault>
-    requires few { places shape.now vcs < 18446744073709551616 }
-    requires long { length named.now ≡ places shape.now vcs }
-    ensures { result ≡ fault_of shape.now vcs (slice_index_or named.now (place_of shape.now vcs row.now.router row.now.port row.now.vc) false) number row.now }
+    requires few { rank_count shape.now vcs < 18446744073709551616 }
+    requires long { length named.now ≡ rank_count shape.now vcs }
+    ensures { result ≡ rank_row_fault shape.now vcs (slice_index_or named.now (rank_index shape.now vcs row.now.router row.now.port row.now.vc) false) number row.now }
 {
     if !is_channel(shape, vcs, row.router, row.port, row.vc) {
         return Some(RankFault::UnknownChannel { row: number });
@@ -94,7 +94,7 @@ fn stored(rank: Option<usize>) -> Option<u32>
 
 /// The first link channel that no row names, in the order of router, port and channel.
 pub fn missing(shape: &Shape, vcs: usize, named: &[bool]) -> Option<RankFault>
-    requires { length named.now ≡ places shape.now vcs }
+    requires { length named.now ≡ rank_count shape.now vcs }
     ensures none { IfNone result (IsWhole shape.now vcs named.now (length named.now)) }
     ensures some { IfSome result (IsFirstGap shape.now vcs named.now) }
 {

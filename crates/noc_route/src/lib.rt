@@ -2,7 +2,6 @@
 #![tactic(auto)]
 
 mod enter;
-mod frame;
 mod gather;
 mod laws;
 mod map;
@@ -10,6 +9,7 @@ mod named;
 mod relation;
 mod rows;
 mod rule;
+mod sizes;
 mod trim;
 
 pub use frame::{escapes, is_right, resource_class};

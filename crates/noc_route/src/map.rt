@@ -2,21 +2,21 @@
 
 ghost use Rattle.std.specs.Prelude.{◌≡◌, ℕ, Option, Some, None, ◌+◌, ◌-◌, ◌*◌, ◌/◌, ◌%◌, ◌<◌, ◌≤◌, IfOk, IfSome, EachIndex, slice_index, slice_index_or, vec_len};
 ghost use Rattle.noc_topo.specs.declared.limits.TheConstants.{MAX_RADIX};
-ghost use Rattle.noc_topo.specs.Shape.{Grid, IsGrid, nodes, ports, local_port, neighbour, distance, coordinates, padded};
+ghost use Rattle.noc_topo.specs.Shape.{Grid, IsGrid, nodes, ports, local_port, neighbour, distance, coordinates, three_coordinates};
 ghost use Rattle.noc_route.specs.Relation.{goes_up};
 
-use crate::frame::Frame;
+use crate::sizes::Sizes;
 use noc_topo::Kind;
 use std::alloc::{AllocError, Global};
 
 /// A frame with each link and each distance of its shape.
 #[derive(Drop)]
 pub struct Map {
-    pub frame: Frame,
+    pub frame: Sizes,
     last: [usize; 3],
     links: Vec<Option<(usize, usize)>>,
     apart: Vec<usize>,
-    ghost corner: { last ≡ padded (coordinates frame.shape.radix (nodes frame.shape - 1)) },
+    ghost corner: { last ≡ three_coordinates (coordinates frame.shape.radix (nodes frame.shape - 1)) },
     ghost small: { EachIndex last (λ i. slice_index last i < MAX_RADIX) },
     ghost all_links: { vec_len links ≡ nodes frame.shape * ports frame.shape },
     ghost linked: { (k : ℕ) → k < nodes frame.shape * ports frame.shape → slice_index_or links.items k None ≡ neighbour frame.shape (k / ports frame.shape) (k % ports frame.shape) },
@@ -26,7 +26,7 @@ pub struct Map {
 
 impl Map {
     /// The map of a frame.
-    pub fn new(alloc: Global, frame: Frame) -> Result<Map, AllocError>
+    pub fn new(alloc: Global, frame: Sizes) -> Result<Map, AllocError>
         ensures { IfOk result (λ map. map.frame ≡ frame) }
     {
         let links = links_of(alloc, &frame)?;
@@ -76,7 +76,7 @@ impl Map {
 }
 
 /// Each link, by router and port.
-fn links_of(alloc: Global, frame: &Frame) -> Result<Vec<Option<(usize, usize)>>, AllocError>
+fn links_of(alloc: Global, frame: &Sizes) -> Result<Vec<Option<(usize, usize)>>, AllocError>
     ensures len { IfOk result (λ links. vec_len links ≡ nodes frame.now.shape * ports frame.now.shape) }
     ensures items { IfOk result (λ links. (k : ℕ) → k < nodes frame.now.shape * ports frame.now.shape → slice_index_or links.items k None ≡ neighbour frame.now.shape (k / ports frame.now.shape) (k % ports frame.now.shape)) }
 {
@@ -90,7 +90,7 @@ fn links_of(alloc: Global, frame: &Frame) -> Result<Vec<Option<(usize, usize)>>,
 }
 
 /// Each distance, by router and router.
-fn distances_of(alloc: Global, frame: &Frame) -> Result<Vec<usize>, AllocError>
+fn distances_of(alloc: Global, frame: &Sizes) -> Result<Vec<usize>, AllocError>
     ensures len { IfOk result (λ apart. vec_len apart ≡ nodes frame.now.shape * nodes frame.now.shape) }
     ensures items { IfOk result (λ apart. (k : ℕ) → k < nodes frame.now.shape * nodes frame.now.shape → slice_index apart.items k ≡ distance frame.now.shape (k / nodes frame.now.shape) (k % nodes frame.now.shape)) }
 {

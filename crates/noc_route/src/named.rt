@@ -2,14 +2,14 @@
 
 ghost use Rattle.std.specs.Prelude.{◌≡◌, ℕ, ◌/◌, ◌%◌, ◌<◌, ◌≤◌, ◌&&◌, IfSome, slice_index, slice_index_or, EachIndex, IsTrue, nat_lt, true, false};
 ghost use Rattle.noc_packet.specs.Set.{has_bit};
-ghost use Rattle.noc_topo.specs.Shape.{Grid, nodes, ports, coordinates, padded};
+ghost use Rattle.noc_topo.specs.Shape.{Grid, nodes, ports, coordinates, three_coordinates};
 ghost use Rattle.noc_route.specs.Entered.{routing_in, IsWay};
 ghost use Rattle.noc_route.specs.Relation.{is_right, is_led, dor_port, is_nearer, takes_port, takes_channel, place_in_class, is_escape_taken, dateline_class, is_west_first};
 ghost use Rattle.noc_route.specs.Routes.{width};
 
-use crate::frame::{Frame, escapes, resource_class};
 use crate::map::Map;
 use crate::rule::Rule;
+use crate::sizes::{Sizes, escapes, resource_class};
 use noc_packet::ChannelSet;
 use noc_topo::{Kind, LINKS};
 
@@ -62,7 +62,7 @@ impl Way {
     }
 
     /// Whether a rule leads along this port and channel.
-    fn leads(&self, frame: &Frame, rule: &Rule, class: usize, port: usize, vc: usize) -> bool
+    fn leads(&self, frame: &Sizes, rule: &Rule, class: usize, port: usize, vc: usize) -> bool
         requires class { class < frame.now.classes }
         requires port { port < ports frame.now.shape }
         requires right { is_right frame.now.shape frame.now.vcs frame.now.classes rule.now ≡ true }
@@ -92,7 +92,7 @@ impl Way {
     /// Whether a rule takes this channel of a port that it takes.
     fn takes_channel(
         &self,
-        frame: &Frame,
+        frame: &Sizes,
         rule: &Rule,
         class: usize,
         port: usize,
@@ -119,7 +119,7 @@ impl Way {
     }
 
     /// Whether an escape channel, by its place among those of its class, is taken along a port.
-    fn takes_escape(&self, frame: &Frame, port: usize, place: usize) -> bool
+    fn takes_escape(&self, frame: &Sizes, port: usize, place: usize) -> bool
         requires { port < LINKS }
         ensures { let f = frame.now in (r t v : ℕ) → IsWay f.shape self.now r t → place ≡ place_in_class f.vcs f.classes v → result ≡ is_escape_taken f.shape f.vcs f.classes (coordinates f.shape.radix r) (coordinates f.shape.radix t) port v }
     {
@@ -165,7 +165,7 @@ impl Way {
 fn nearer_ports(map: &Map, here: &[usize; 3], there: &[usize; 3]) -> [bool; LINKS]
     requires here { EachIndex here.now (λ i. slice_index here.now i ≤ slice_index map.now.last i) }
     requires there { EachIndex there.now (λ i. slice_index there.now i ≤ slice_index map.now.last i) }
-    ensures { let g = map.now.frame.shape in (r t : ℕ) → here.now ≡ padded (coordinates g.radix r) → there.now ≡ padded (coordinates g.radix t) → (port : ℕ) → slice_index_or result port false ≡ is_nearer g (coordinates g.radix r) (coordinates g.radix t) port }
+    ensures { let g = map.now.frame.shape in (r t : ℕ) → here.now ≡ three_coordinates (coordinates g.radix r) → there.now ≡ three_coordinates (coordinates g.radix t) → (port : ℕ) → slice_index_or result port false ≡ is_nearer g (coordinates g.radix r) (coordinates g.radix t) port }
 {
     let mut nearer = [false; LINKS];
     for port in 0..LINKS {
@@ -179,7 +179,7 @@ fn is_nearer(map: &Map, here: &[usize; 3], there: &[usize; 3], port: usize) -> b
     requires port { port < LINKS }
     requires here { EachIndex here.now (λ i. slice_index here.now i ≤ slice_index map.now.last i) }
     requires there { EachIndex there.now (λ i. slice_index there.now i ≤ slice_index map.now.last i) }
-    ensures { let g = map.now.frame.shape in (r t : ℕ) → here.now ≡ padded (coordinates g.radix r) → there.now ≡ padded (coordinates g.radix t) → result ≡ is_nearer g (coordinates g.radix r) (coordinates g.radix t) port }
+    ensures { let g = map.now.frame.shape in (r t : ℕ) → here.now ≡ three_coordinates (coordinates g.radix r) → there.now ≡ three_coordinates (coordinates g.radix t) → result ≡ is_nearer g (coordinates g.radix r) (coordinates g.radix t) port }
 {
     let i = port / 2;
     if here[i] == there[i] {
@@ -197,7 +197,7 @@ fn dor_port(map: &Map, here: &[usize; 3], there: &[usize; 3]) -> Option<usize>
     requires here { EachIndex here.now (λ i. slice_index here.now i ≤ slice_index map.now.last i) }
     requires there { EachIndex there.now (λ i. slice_index there.now i ≤ slice_index map.now.last i) }
     ensures range { IfSome result (λ port. port < LINKS) }
-    ensures value { let g = map.now.frame.shape in (r t : ℕ) → here.now ≡ padded (coordinates g.radix r) → there.now ≡ padded (coordinates g.radix t) → result ≡ dor_port g (coordinates g.radix r) (coordinates g.radix t) }
+    ensures value { let g = map.now.frame.shape in (r t : ℕ) → here.now ≡ three_coordinates (coordinates g.radix r) → there.now ≡ three_coordinates (coordinates g.radix t) → result ≡ dor_port g (coordinates g.radix r) (coordinates g.radix t) }
 {
     for i in 0..3usize {
         if here[i] != there[i] {

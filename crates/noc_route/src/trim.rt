@@ -3,7 +3,7 @@
 ghost use Rattle.std.specs.Prelude.{◌≡◌, ◌≢◌, ℕ, None, ◌+◌, ◌*◌, ◌<◌, if◌then◌else◌, length, slice_set};
 ghost use Rattle.noc_route.specs.Order.{earlier_entry};
 ghost use Rattle.noc_route.specs.Routes.{width, pages};
-ghost use Rattle.noc_route.specs.Trimming.{routes_in, page_set, comes_at, left_at, entry_at, IsFirstStuck};
+ghost use Rattle.noc_route.specs.Trimming.{routes_in, page_set, comes_at, left_at, entry_on_page, IsFirstStuck};
 
 use crate::gather::is_reached;
 use crate::map::Map;
@@ -72,7 +72,7 @@ fn trim_entry(
     requires outs { length outs.now ≡ pages map.now.frame.shape map.now.frame.classes }
     requires page { page < pages map.now.frame.shape map.now.frame.classes }
     requires input { input < width map.now.frame.shape map.now.frame.vcs }
-    requires entry { entry ≡ entry_at (routes_in map.now.frame sets.old) page input }
+    requires entry { entry ≡ entry_on_page (routes_in map.now.frame sets.old) page input }
     requires first { IsFirstStuck (routes_in map.now.frame sets.old) outs.now (page * width map.now.frame.shape map.now.frame.vcs + input) first }
     ensures sets { sets.new ≡ (if comes_at (routes_in map.now.frame sets.old) outs.now page input then sets.old else slice_set sets.old (page * width map.now.frame.shape map.now.frame.vcs + input) 0) }
     ensures first { IsFirstStuck (routes_in map.now.frame sets.new) outs.now (page * width map.now.frame.shape map.now.frame.vcs + input + 1) result }

@@ -12,11 +12,11 @@ use Rattle.noc_vc.specs.Input.{is_idle_phase}
 use Rattle.noc_vc.specs.declared.input.InputState.{InputState}
 use Rattle.noc_vc.specs.declared.input.InputState.TheVariants.{Idle, Waiting, Active}
 use Rattle.noc_router.specs.Decided.{IsDecidedFor}
-use Rattle.noc_router.specs.Settled.{CanTakeEffect, IsOutcomeOf, decisions_by, effect_of, finding_by, found_with, outcome_verdict, tallied}
+use Rattle.noc_router.specs.Settled.{CanTakeEffect, IsOutcomeOf, decisions_by, effect_of, finding_by, found_with, outcome_verdict, view_after_tally}
 use Rattle.noc_router.specs.Sound.{is_occupied, out_in}
 use Rattle.noc_router.specs.Tally.{empty_finding, is_empty_verdict}
 use Rattle.noc_router.specs.Verdict.{Round, Waits, Holds, ask_of, out_of, is_event, verdict_of}
-use Rattle.noc_router.specs.View.{View, Outcome, Decisions, asked_for, claim_in, committed, counted, decided_verdict, finding_of, outcome, planned, port_and_vc, route_of, size_of, view_buffer, view_claim, view_input, view_round, idle_beats}
+use Rattle.noc_router.specs.View.{View, Outcome, Decisions, asked_for, claim_in, view_after_commit, counts_after, decided_verdict, finding_of, outcome, decisions_of, port_and_vc, route_of, size_of, view_buffer, view_claim, view_input, view_round, idle_beats}
 use Rattle.noc_router.specs.declared.verdict.Verdict.{Verdict}
 use Rattle.noc_router.specs.declared.verdict.Verdict.TheVariants.{Empty, Granted, Moved, LostChannel, LostInput, LostSwitch}
 use Rattle.noc_router.specs.declared.verdict.Finding.{Finding}
@@ -32,8 +32,8 @@ decided-outcome p v i l =
     verdict-at (decisions_by p v) i (omega (arith, length-tabulate (size_of v.site) (λ k. found_with v (outcome_verdict p k) k)))
     ∙ ap (λ (f : Finding). f.verdict) (get_or-tabulate (size_of v.site) i (λ k. found_with v (outcome_verdict p k) k) empty_finding l)
 
-decisions-planned : (relation : Routes) (v : View) → decisions_by (outcome relation v) v ≡ planned relation v
-unfolding outcome planned
+decisions-planned : (relation : Routes) (v : View) → decisions_by (outcome relation v) v ≡ decisions_of relation v
+unfolding outcome decisions_of
 decisions-planned relation v =
     let f : ℕ → Finding = λ i. found_with v (outcome_verdict (outcome relation v) i) i in
     ap (λ fs. record { round = view_round v; findings = fs; routes = tabulate (size_of v.site) (route_of relation v) })
@@ -42,7 +42,7 @@ decisions-planned relation v =
     ∙ ap (λ x. found_with v x i) (get_or-tabulate (size_of v.site) i (λ k. (finding_of (view_round v) v k).verdict) Empty l)))
 
 -- .. they are what is planned
-pub decisions-are : (relation : Routes) (p : Outcome) (v : View) → p ≡ outcome relation v → decisions_by p v ≡ planned relation v
+pub decisions-are : (relation : Routes) (p : Outcome) (v : View) → p ≡ outcome relation v → decisions_by p v ≡ decisions_of relation v
 decisions-are relation p v e = ap (λ x. decisions_by x v) e ∙ decisions-planned relation v
 
 -- .. with the lists of a plan
@@ -103,11 +103,11 @@ outcome-finding p v i is l =
 
 -- ---- all channels are counted
 pub counted-outcome : (p : Outcome) (v : View) (counts : List (List ℕ)) → length counts ≡ size_of v.site
-    → map_indexed (λ i xs. counted (outcome_verdict p i) xs) counts ≡ map_indexed (λ i xs. counted (decided_verdict (decisions_by p v) i) xs) counts
+    → map_indexed (λ i xs. counts_after (outcome_verdict p i) xs) counts ≡ map_indexed (λ i xs. counts_after (decided_verdict (decisions_by p v) i) xs) counts
 counted-outcome p v counts n =
-    let f : ℕ → List ℕ → List ℕ = λ i xs. counted (outcome_verdict p i) xs in
-    map_indexed-from_each (λ i xs. counted (decided_verdict (decisions_by p v) i) xs) counts (map_indexed f counts) [] [] (length-map_indexed f counts)
-    (λ i l. get_or-map_indexed f counts i [] [] l ∙ ap (λ x. counted x (get_or counts i [])) (sym (decided-outcome p v i (omega arith))))
+    let f : ℕ → List ℕ → List ℕ = λ i xs. counts_after (outcome_verdict p i) xs in
+    map_indexed-from_each (λ i xs. counts_after (decided_verdict (decisions_by p v) i) xs) counts (map_indexed f counts) [] [] (length-map_indexed f counts)
+    (λ i l. get_or-map_indexed f counts i [] [] l ∙ ap (λ x. counts_after x (get_or counts i [])) (sym (decided-outcome p v i (omega arith))))
 
 pub found-outcome : (p : Outcome) (v : View) (n : ℕ) → IsOutcomeOf p v → n ≡ size_of v.site → tabulate n (finding_by p v.site.vcs v.inputs) ≡ (decisions_by p v).findings
 found-outcome p v n is e =
@@ -116,11 +116,11 @@ found-outcome p v n is e =
     (λ i l. get_or-tabulate n i f empty_finding (omega arith) ∙ outcome-finding p v i is l)
 
 -- .. which leaves the outcome as it is
-outcome-counted : (relation : Routes) (d : Decisions) (v : View) → outcome relation v ≡ outcome relation (tallied d v)
+outcome-counted : (relation : Routes) (d : Decisions) (v : View) → outcome relation v ≡ outcome relation (view_after_tally d v)
 unfolding outcome view_round
 outcome-counted relation d v = refl
 
-pub outcome-tallied : (p : Outcome) (d : Decisions) (v : View) → IsOutcomeOf p v → IsOutcomeOf p (tallied d v)
+pub outcome-tallied : (p : Outcome) (d : Decisions) (v : View) → IsOutcomeOf p v → IsOutcomeOf p (view_after_tally d v)
 outcome-tallied p d v is = record {
   relation = is.relation;
   fits = record { grid = is.fits.grid; vcs = is.fits.vcs };
@@ -140,8 +140,8 @@ outcome_of-shown p v findings is = record {
 }
 
 pub committed-from-shown : (relation : Routes) (v : View) (findings : List Finding)
-    → committed (planned relation (record v { findings = findings })) (record v { findings = findings }) ≡ committed (planned relation v) v
-unfolding planned view_round committed
+    → view_after_commit (decisions_of relation (record v { findings = findings })) (record v { findings = findings }) ≡ view_after_commit (decisions_of relation v) v
+unfolding decisions_of view_round view_after_commit
 committed-from-shown relation v findings = refl
 
 -- ---- the verdict of one channel takes effect

@@ -9,7 +9,7 @@ use Rattle.noc_route.specs.Routes.{Routes}
 use Rattle.noc_router.specs.declared.router.Router.TheInside.{Inside}
 use Rattle.noc_router.specs.declared.verdict.Verdict.{Verdict}
 use Rattle.noc_router.specs.declared.verdict.Verdict.TheVariants.{Empty}
-use Rattle.noc_router.specs.Asked.{grants_on, no_round, picks_on, turns_in, wins_on}
+use Rattle.noc_router.specs.Asked.{grants_on, no_round, picks_on, arbiter_states_in, wins_on}
 use Rattle.noc_router.specs.Decided.{IsDecidedFor, no_outcome}
 use Rattle.noc_router.specs.Inside.{IsRouter, view_of}
 use Rattle.noc_router.specs.Verdict.{Round, asks_of, is_event, ready_of}
@@ -18,12 +18,12 @@ use Rattle.noc_router.proofs.StandLemmas.{asks_of-stands}
 
 -- the grants by the arbiters of a router are those of its view
 pub grants-view : (r : Inside) (v : View) (asks : List (Option ℕ)) → view_of r ≡ v → IsRouter r
-    → grants_on r.arbiters.ports r.arbiters.vcs asks (turns_in r.arbiters) ≡ grants_on (ports v.site.grid) v.site.vcs asks v.arbiters
+    → grants_on r.arbiters.ports r.arbiters.vcs asks (arbiter_states_in r.arbiters) ≡ grants_on (ports v.site.grid) v.site.vcs asks v.arbiters
 grants-view r v asks view is =
     let grid : r.arbiters.ports ≡ ports v.site.grid = is.arbiter_ports ∙ is.ports ∙ ap (λ (w : View). ports w.site.grid) view in
     let vcs : r.arbiters.vcs ≡ v.site.vcs = is.arbiter_vcs ∙ ap (λ (w : View). w.site.vcs) view in
-    ap (λ n. grants_on n r.arbiters.vcs asks (turns_in r.arbiters)) grid
-    ∙ ap (λ n. grants_on (ports v.site.grid) n asks (turns_in r.arbiters)) vcs
+    ap (λ n. grants_on n r.arbiters.vcs asks (arbiter_states_in r.arbiters)) grid
+    ∙ ap (λ n. grants_on (ports v.site.grid) n asks (arbiter_states_in r.arbiters)) vcs
     ∙ ap (λ (w : View). grants_on (ports v.site.grid) v.site.vcs asks w.arbiters) view
 
 rounds : List (Option ℕ) → List (Option ℕ) → List (Option ℕ) → Round

@@ -12,13 +12,13 @@ use Rattle.noc_vc.specs.declared.input.InputState.TheVariants.{Idle, Waiting, Ac
 use Rattle.noc_router.specs.declared.counters.Counters.{Counters}
 use Rattle.noc_router.specs.declared.plan.Plan.TheInside.{Inside}
 use Rattle.noc_router.specs.Planned.{IsPlan, outcome_in}
-use Rattle.noc_router.specs.VerdictSets.{sets_with, verdict_by, first_in}
+use Rattle.noc_router.specs.VerdictSets.{sets_with, verdict_by, first_verdict_in}
 use Rattle.noc_router.specs.declared.verdict.Verdict.{Verdict}
 use Rattle.noc_router.specs.declared.verdict.Verdict.TheVariants.{Empty, Routed, Granted, Moved, NoFlit, NoIdleChannel, LostChannel, NoCredit, LostInput, LostSwitch}
 use Rattle.noc_router.specs.declared.verdict.Finding.{Finding}
 use Rattle.noc_router.specs.Counts.{carried_at, count_at, one_at, one_if, whole_counts}
 use Rattle.noc_router.specs.Settled.{outcome_verdict}
-use Rattle.noc_router.specs.Sound.{is_occupied, named, out_in}
+use Rattle.noc_router.specs.Sound.{is_occupied, finding_with, out_in}
 use Rattle.noc_router.specs.Tally.{IsTally, empty_finding, finding_at, is_empty_verdict, others_in, risen_at}
 use Rattle.noc_router.specs.View.{Decisions, Outcome, decided_verdict}
 use Rattle.noc_router.proofs.CountLemmas.{counter_has, sum-risen, whole-below, whole-none, whole-risen}
@@ -252,13 +252,13 @@ empty_is LostSwitch e = absurd (false≢true (sym e))
 -- what is noted of the n channels, as their counts or their findings: the verdict of each channel that is left is that of the first of these sets,
 -- and what is noted of it stands as at the start; of each other one its verdict is noted
 pub record IsNoting (X : Type 0) (note : ℕ → Verdict → X → X) (verdict : ℕ → Verdict) (n : ℕ) (start : ℕ → X) (sets : List (ℕ × Verdict)) (rest : ℕ) (now : ℕ → X) : Type 0 where
-  pub left : (k : ℕ) → has_bit rest k ≡ true → verdict k ≡ first_in sets k
+  pub left : (k : ℕ) → has_bit rest k ≡ true → verdict k ≡ first_verdict_in sets k
   pub full : (k : ℕ) → has_bit rest k ≡ true → not (is_empty_verdict (verdict k)) ≡ true
   pub each : (k : ℕ) → k < n → now k ≡ (if has_bit rest k then start k else note k (verdict k) (start k))
 
 -- at first, where Empty changes nothing
 pub noting-first : (X : Type 0) (note : ℕ → Verdict → X → X) (verdict : ℕ → Verdict) (n : ℕ) (start : ℕ → X) (sets : List (ℕ × Verdict)) (rest : ℕ)
-    → ((k : ℕ) → has_bit rest k ≡ true → verdict k ≡ first_in sets k) → ((k : ℕ) → has_bit rest k ≡ true → k < n)
+    → ((k : ℕ) → has_bit rest k ≡ true → verdict k ≡ first_verdict_in sets k) → ((k : ℕ) → has_bit rest k ≡ true → k < n)
     → ((k : ℕ) → k < n → has_bit rest k ≡ not (is_empty_verdict (verdict k))) → ((k : ℕ) → k < n → has_bit rest k ≡ false → note k Empty (start k) ≡ start k)
     → IsNoting X note verdict n start sets rest start
 noting-first X note verdict n start sets rest first below held same = record {
@@ -285,11 +285,11 @@ noting-more X note verdict n start bits v sets before was rest now noting member
     in_before : (k : ℕ) → has_bit rest k ≡ true → has_bit before k ≡ true
     in_before k e = (and_parts (not (has_bit bits k)) (has_bit before k) (sym (members k) ∙ e)).1
 
-    first : (k : ℕ) (b : Bool) → (not b && has_bit before k) ≡ true → verdict k ≡ (if b then v else first_in sets k) → verdict k ≡ first_in sets k
+    first : (k : ℕ) (b : Bool) → (not b && has_bit before k) ≡ true → verdict k ≡ (if b then v else first_verdict_in sets k) → verdict k ≡ first_verdict_in sets k
     first k true e h = absurd (false≢true e)
     first k false e h = h
 
-    cases : (k : ℕ) (a b : Bool) → (a ≡ true → verdict k ≡ (if b then v else first_in sets k))
+    cases : (k : ℕ) (a b : Bool) → (a ≡ true → verdict k ≡ (if b then v else first_verdict_in sets k))
         → (if a && b then note k v (if a then start k else note k (verdict k) (start k)) else (if a then start k else note k (verdict k) (start k)))
         ≡ (if not b && a then start k else note k (verdict k) (start k))
     cases k true true h = ap (λ x. note k x (start k)) (sym (h refl))
@@ -331,7 +331,7 @@ plan_apart p q n k e plan long l =
     plan.apart k (omega arith)
 
 -- what is found of a channel without a packet that asks for nothing
-pub vacant-found : (vcs : ℕ) (input : Input) (flits : List Flit) (ask : Option ℕ) → is_occupied input flits ≡ false → input.packet ≡ None → named vcs input Empty ask ≡ empty_finding
+pub vacant-found : (vcs : ℕ) (input : Input) (flits : List Flit) (ask : Option ℕ) → is_occupied input flits ≡ false → input.packet ≡ None → finding_with vcs input Empty ask ≡ empty_finding
 vacant-found vcs input flits ask off no_packet = idle input.phase input.packet (phase_is input.phase (is_empty flits) off) no_packet
   where
     phase_is : (p : InputState) (b : Bool) → not (is_idle_phase p && b) ≡ false → p ≡ Idle

@@ -301,10 +301,10 @@ pub record AreVerdicts (v : View) (round : Round) (s : Standing) (asking picked 
   pub moved : has_bit sets.moved k ≡ (has_bit picked k && is_won_from v round k (view_input v k).phase)
   pub granted : has_bit sets.granted k ≡ is_given round.grants (ask_of (view_claim v k)) k
   pub routed : sets.routed ≡ s.heads
-  pub no_flit : sets.no_flit ≡ s.starved
+  pub no_flit : sets.no_flit ≡ s.no_flit
   pub no_idle_channel : has_bit sets.no_idle_channel k ≡ (not (has_bit asking k) && has_bit s.waiting k)
   pub lost_channel : has_bit sets.lost_channel k ≡ (not (has_bit sets.granted k) && has_bit asking k)
-  pub no_credit : sets.no_credit ≡ s.unsupplied
+  pub no_credit : sets.no_credit ≡ s.no_credit
   pub lost_input : has_bit sets.lost_input k ≡ (not (has_bit picked k) && has_bit s.ready k)
   pub lost_switch : has_bit sets.lost_switch k ≡ (not (has_bit sets.moved k) && has_bit picked k)
 
@@ -314,8 +314,8 @@ pub verdict-on : (v : View) (round : Round) (s : Standing) (asking picked : ℕ)
 verdict-on v round s asking picked sets k l standing are =
     let heads = standing.heads k l in
     let waits = standing.waiting k l in
-    let starved = standing.starved k l in
-    let unsupplied = standing.unsupplied k l in
+    let no_flit = standing.no_flit k l in
+    let no_credit = standing.no_credit k l in
     let ready = standing.ready k l in
     first_by sets k ∙ same_first _ _ _ _ _ _ _ _ _ _ _ _ _ _ _ _ _ _ (cc) (cc) (cc) (cc) (cc) (cc) (cc) (cc) (cc)
     ∙ state_verdict v round k (view_input v k).phase (is_empty (view_buffer v k)) (has_bit picked k) are.draws
@@ -326,8 +326,8 @@ pub apart-on : (v : View) (round : Round) (s : Standing) (asking picked : ℕ) (
 apart-on v round s asking picked sets k l standing are =
     let heads = standing.heads k l in
     let waits = standing.waiting k l in
-    let starved = standing.starved k l in
-    let unsupplied = standing.unsupplied k l in
+    let no_flit = standing.no_flit k l in
+    let no_credit = standing.no_credit k l in
     let ready = standing.ready k l in
     same_sets _ _ _ _ _ _ _ _ _ _ _ _ _ _ _ _ _ _ (cc) (cc) (cc) (cc) (cc) (cc) (cc) (cc) (cc)
     (state_sets v round k (view_input v k).phase (is_empty (view_buffer v k)) (has_bit picked k))

@@ -11,7 +11,7 @@ use Rattle.noc_router.specs.Counts.{counts_from, counts_in, whole_counts}
 use Rattle.noc_router.specs.Still.{counted_times}
 use Rattle.noc_router.specs.Tally.{IsTally, others_in, risen_at, risen_by}
 use Rattle.noc_router.specs.Verdict.{column}
-use Rattle.noc_router.specs.View.{counted, raised}
+use Rattle.noc_router.specs.View.{counts_after, saturating_next}
 use Rattle.noc_topo.specs.Words.{map_indexed}
 use Rattle.noc_topo.proofs.WordLemmas.{map_indexed-from_each}
 use Rattle.noc_router.proofs.CountLemmas.{column-small, counted-is, counter_has, counts-at, counts-length, drop-more, more-here, more-length, more-there, more_at, whole-at, whole-below, whole-length}
@@ -60,10 +60,10 @@ counted_times-is (suc k) cycles n v counts new col small ten s fits is =
     let long : length (risen_by (min k room) n t) ≡ length t = length-risen_by (min k room) n t in
     let before : counts_in now mid ≡ counted_times k v (counts_in cycles counts) = counted_times-is k cycles n v counts mid col small ten s fits refl in
     let total : sum (drop 1 mid) ≤ now = omega (arith, sum-risen_by (min k room) n t) in
-    let after : raised now ≡ min (cycles + suc k) (2 ^ 64 - 1) = omega arith in
+    let after : saturating_next now ≡ min (cycles + suc k) (2 ^ 64 - 1) = omega arith in
     ap (λ m. counts_in m new) (sym after)
     ∙ counted-is now n v mid new col small (omega arith) total (omega arith) (is ∙ one_more (nat_lt now (2 ^ 64 - 1)) refl nine)
-    ∙ ap (counted v) before
+    ∙ ap (counts_after v) before
   where
     one_more : (b : Bool) → nat_lt (min (cycles + k) (2 ^ 64 - 1)) (2 ^ 64 - 1) ≡ b → length (drop 1 counts) ≡ 9
         → risen_by (min (suc k) (2 ^ 64 - 1 - cycles)) n (drop 1 counts)

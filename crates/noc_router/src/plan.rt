@@ -8,7 +8,7 @@
 ghost use Rattle.std.specs.Prelude.{◌≡◌, ℕ, ◌<◌, IfOk, IfSome, length, slice_index, slice_index_or, None};
 ghost use Rattle.noc_topo.specs.Shape.{ports as ports_of};
 ghost use Rattle.noc_packet.specs.Set.{has_bit};
-ghost use Rattle.noc_router.specs.Asked.{turns_in};
+ghost use Rattle.noc_router.specs.Asked.{arbiter_states_in};
 ghost use Rattle.noc_router.specs.Decided.{IsDecidedFor, no_outcome};
 ghost use Rattle.noc_router.specs.declared.verdict.Verdict.TheVariants.{Empty};
 ghost use Rattle.noc_router.specs.Verdict.{arbiters_after, is_event, is_granted, is_moved};
@@ -62,7 +62,7 @@ impl Plan {
         requires lengths { IsDecidedFor arbiters.old.ports arbiters.old.vcs self.now }
         ensures ports { arbiters.new.ports ≡ arbiters.old.ports }
         ensures vcs { arbiters.new.vcs ≡ arbiters.old.vcs }
-        ensures turns { turns_in arbiters.new ≡ record (turns_in arbiters.old) { channels = (arbiters_after self.now.round (turns_in arbiters.old)).channels } }
+        ensures turns { arbiter_states_in arbiters.new ≡ record (arbiter_states_in arbiters.old) { channels = (arbiters_after self.now.round (arbiter_states_in arbiters.old)).channels } }
     {
         self.requests.advance(arbiters);
     }

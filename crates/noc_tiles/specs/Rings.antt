@@ -39,9 +39,9 @@ one_of None = []
 one_of (Some x) = x ∷ []
 
 -- .. which is this
-abbrev pub held : {X : Type 0} → Option ℕ → List (Option X) → List X
-held None slots = []
-held (Some k) slots = one_of (get_or slots k None)
+abbrev pub item_at : {X : Type 0} → Option ℕ → List (Option X) → List X
+item_at None slots = []
+item_at (Some k) slots = one_of (get_or slots k None)
 
 -- port k goes to the place with this number, at none of these routers
 pub record GoesOutTo (grid : Grid) (first count k at : ℕ) : Type 0 where

@@ -6,27 +6,27 @@ use Rattle.noc_packet.specs.declared.packet.Beat.{Beat}
 use Rattle.noc_route.specs.Routes.{Routes}
 use Rattle.noc_router.specs.View.{View, local_step, idle_beat}
 use Rattle.noc_net.specs.Halves.{beat_at}
-use Rattle.noc_tiles.specs.RingEnd.{RingEnd, Ring, grown}
+use Rattle.noc_tiles.specs.RingEnd.{WireEnd, Ring, end_after_beat}
 
 module _ {A : Type 0} where
   -- one beat more through each of the first ends
-  abbrev pub fed : List (RingEnd A) → List Beat → List (RingEnd A)
-  fed [] row = []
-  fed (w ∷ ws) [] = w ∷ ws
-  fed (w ∷ ws) (x ∷ row) = grown w x ∷ fed ws row
+  abbrev pub ends_after_beats : List (WireEnd A) → List Beat → List (WireEnd A)
+  ends_after_beats [] row = []
+  ends_after_beats (w ∷ ws) [] = w ∷ ws
+  ends_after_beats (w ∷ ws) (x ∷ row) = end_after_beat w x ∷ ends_after_beats ws row
 
   -- a row for each cycle
-  abbrev pub fed_all : List (RingEnd A) → List (List Beat) → List (RingEnd A)
-  fed_all ws [] = ws
-  fed_all ws (row ∷ rows) = fed_all (fed ws row) rows
+  abbrev pub ends_after_rows : List (WireEnd A) → List (List Beat) → List (WireEnd A)
+  ends_after_rows ws [] = ws
+  ends_after_rows ws (row ∷ rows) = ends_after_rows (ends_after_beats ws row) rows
 
   -- the places and the rings of ends
-  abbrev pub names : List (RingEnd A) → List ((ℕ × ℕ) × Ring A)
-  names ws = map (λ (w : RingEnd A). (w.at, w.ring)) ws
+  abbrev pub names : List (WireEnd A) → List ((ℕ × ℕ) × Ring A)
+  names ws = map (λ (w : WireEnd A). (w.at, w.ring)) ws
 
   -- where the wires arrive, by router and link port
-  abbrev pub places : List (RingEnd A) → List (ℕ × ℕ)
-  places ws = map (λ (w : RingEnd A). w.at) ws
+  abbrev pub arrival_places : List (WireEnd A) → List (ℕ × ℕ)
+  arrival_places ws = map (λ (w : WireEnd A). w.at) ws
 
 -- for each router and link port the beat on the wire that arrives there
 abbrev pub Beats : Type 0
@@ -37,10 +37,10 @@ abbrev pub with_beat : Beats → ℕ × ℕ → Beat → Beats
 with_beat wires p x r q = if nat_eq r p.0 && nat_eq q p.1 then x else wires r q
 
 -- with the beats of a row at these places
-abbrev pub filled : Beats → List (ℕ × ℕ) → List Beat → Beats
-filled wires [] row = wires
-filled wires (p ∷ ps) [] = wires
-filled wires (p ∷ ps) (x ∷ row) = filled (with_beat wires p x) ps row
+abbrev pub with_row : Beats → List (ℕ × ℕ) → List Beat → Beats
+with_row wires [] row = wires
+with_row wires (p ∷ ps) [] = wires
+with_row wires (p ∷ ps) (x ∷ row) = with_row (with_beat wires p x) ps row
 
 -- whether router r is one of `count` from `first` on
 abbrev pub is_own : ℕ → ℕ → ℕ → Bool
@@ -78,12 +78,12 @@ pub record TileState : Type 0 where
 
 module _ (relation : Routes) (P : Layout) where
   -- the beats that arrive at router i of the tile
-  abbrev pub arrived : TileState → List Beat → ℕ → List Beat
-  arrived T row i = tabulate (local_port relation.grid) (filled T.wires P.ins row (P.first + i))
+  abbrev pub beats_arriving : TileState → List Beat → ℕ → List Beat
+  beats_arriving T row i = tabulate (local_port relation.grid) (with_row T.wires P.ins row (P.first + i))
 
   -- what each router makes of cycle n, with the beats of a row
   unfoldable pub steps : ℕ → TileState → List Beat → List (View × List Beat)
-  steps n T row = map_indexed (λ i v. local_step relation v (arrived T row i) n) T.views
+  steps n T row = map_indexed (λ i v. local_step relation v (beats_arriving T row i) n) T.views
 
   -- the beats that the routers have put
   abbrev pub sent_of : List (View × List Beat) → List (List Beat)
@@ -104,8 +104,8 @@ module _ (relation : Routes) (P : Layout) where
   unfoldable pub put_by : List (View × List Beat) → List Beat
   put_by S = map (λ (p : ℕ × ℕ). out_at S p.0 p.1) P.outs
 
-  abbrev pub cycled : ℕ → TileState → List Beat → TileState
-  cycled n T row = after_steps (steps n T row)
+  abbrev pub tile_after_cycle : ℕ → TileState → List Beat → TileState
+  tile_after_cycle n T row = after_steps (steps n T row)
 
   abbrev pub put_in : ℕ → TileState → List Beat → List Beat
   put_in n T row = put_by (steps n T row)
@@ -113,9 +113,9 @@ module _ (relation : Routes) (P : Layout) where
   -- after the rows, from cycle n on
   abbrev pub after : ℕ → TileState → List (List Beat) → TileState
   after n T [] = T
-  after n T (row ∷ rows) = after (suc n) (cycled n T row) rows
+  after n T (row ∷ rows) = after (suc n) (tile_after_cycle n T row) rows
 
   -- what it puts in each cycle
-  abbrev pub puts : ℕ → TileState → List (List Beat) → List (List Beat)
-  puts n T [] = []
-  puts n T (row ∷ rows) = put_in n T row ∷ puts (suc n) (cycled n T row) rows
+  abbrev pub beats_put : ℕ → TileState → List (List Beat) → List (List Beat)
+  beats_put n T [] = []
+  beats_put n T (row ∷ rows) = put_in n T row ∷ beats_put (suc n) (tile_after_cycle n T row) rows

@@ -2,7 +2,7 @@
 
 ghost use Rattle.std.specs.Prelude.{◌≡◌, ℕ, ◌<◌, ◌≤◌, IfSome, length, slice_index, EachIndex};
 ghost use Rattle.std.specs.List.{list_all};
-ghost use Rattle.noc_topo.specs.Filled.{filled};
+ghost use Rattle.noc_topo.specs.Filled.{three_sizes};
 ghost use Rattle.noc_topo.specs.Shape.{is_radix, product, coordinates, node_at, moved_in, distance_in, is_plus, opposite};
 ghost use Rattle.noc_topo.specs.declared.limits.TheConstants.{MAX_DIMENSIONS};
 
@@ -12,7 +12,7 @@ use crate::limits::MAX_RADIX;
 pub fn filled_sizes(radix: &[usize]) -> [usize; 3]
     requires some { 1 ≤ length radix.now }
     requires few { length radix.now ≤ MAX_DIMENSIONS }
-    ensures { result ≡ filled radix.now }
+    ensures { result ≡ three_sizes radix.now }
 {
     match *radix {
         [x] => [x, 1, 1],

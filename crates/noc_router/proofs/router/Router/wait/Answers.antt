@@ -4,7 +4,7 @@ use Rattle.noc_topo.specs.Words.{map_indexed}
 use Rattle.noc_route.specs.Routes.{Routes}
 use Rattle.noc_router.specs.Inside.{view_of}
 use Rattle.noc_router.specs.Settled.{IsOutcomeOf, outcome_verdict}
-use Rattle.noc_router.specs.Still.{counted_times, waited}
+use Rattle.noc_router.specs.Still.{counted_times, view_after_waiting}
 use Rattle.noc_router.specs.View.{View, outcome, size_of, view_round}
 use Rattle.noc_router.specs.declared.verdict.Verdict.TheVariants.{Empty}
 use Rattle.noc_router.proofs.OutcomeLemmas.{outcome-occupied}
@@ -34,7 +34,7 @@ count_more-requires-clause-occupied c = λ k l.
     outcome-occupied c.plan.new.plan v k is (omega (arith, l, size, c.self.invariant.counts))
 
 pub returns-then-holds_nothing-clause-view : goal.returns-then-holds_nothing-clause-view
-unfolding waited
+unfolding view_after_waiting
 returns-then-holds_nothing-clause-view c =
     let r = c.self.inside in
     let v = view_of r in
@@ -47,10 +47,10 @@ returns-then-holds_nothing-clause-view c =
     ∙ ap (λ b. record v { given = last; counts = counts; findings = (if b then t.findings.items else []) }) c.count_empty.ensures.begun
     ∙ ap (λ x. record v { given = last; counts = counts; findings = (if r.tally.begun then x else []) }) c.count_empty.ensures.findings
     ∙ ap (λ x. record v { given = last; counts = x }) (vacant-counted c.args.relation.now v vacant (counted_times cycles) v.counts)
-    ∙ ap (waited c.args.relation.now cycles last) c.self.view_is
+    ∙ ap (view_after_waiting c.args.relation.now cycles last) c.self.view_is
 
 pub returns-else-holds_nothing-clause-view : goal.returns-else-holds_nothing-clause-view
-unfolding waited
+unfolding view_after_waiting
 returns-else-holds_nothing-clause-view c =
     let r = c.self.inside in
     let v = view_of r in
@@ -63,4 +63,4 @@ returns-else-holds_nothing-clause-view c =
     ∙ ap (λ x. record v { given = last; counts = counts; findings = (if r.tally.begun then x else []) }) c.count_more.ensures.findings
     ∙ ap (λ x. record v { given = last; counts = x })
     (counted-planned c.args.relation.now v c.plan.new.plan (c.plan.ensures.value ∙ outcome-given c.args.relation.now v last) (counted_times cycles) v.counts)
-    ∙ ap (waited c.args.relation.now cycles last) c.self.view_is
+    ∙ ap (view_after_waiting c.args.relation.now cycles last) c.self.view_is

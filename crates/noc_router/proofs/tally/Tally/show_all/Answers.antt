@@ -1,7 +1,7 @@
 use Rattle.std.proofs.Common.{◌≡◌, ℕ, suc, ◌+◌, ◌<◌, List, ◌∷◌, None, refl, ap, sym, ◌∙◌, add-one, arith, drop, drop-cons, get_or, length, vec_len, subst}
 use Rattle.std.proofs.lemmas.List.{drop_all, get_or_default}
 use Rattle.noc_router.specs.Settled.{outcome_verdict}
-use Rattle.noc_router.specs.Sound.{input_at, named}
+use Rattle.noc_router.specs.Sound.{nth_input, finding_with}
 use Rattle.noc_router.specs.Tally.{finding_at}
 use Rattle.noc_router.specs.declared.verdict.Finding.{Finding}
 use Rattle.noc_router.specs.declared.verdict.Verdict.{Verdict}
@@ -12,7 +12,7 @@ pub loop-place-init : goal.loop-place-init
 loop-place-init c =
     let q = c.args.plan.now in
     let n = vec_len c.args.self.now.counts in
-    let note : ℕ → Verdict → Finding → Finding = λ k v old. named c.args.indices.now.vcs (input_at c.args.channels.now.inputs.items k) v (get_or q.asks k None) in
+    let note : ℕ → Verdict → Finding → Finding = λ k v old. finding_with c.args.indices.now.vcs (nth_input c.args.channels.now.inputs.items k) v (get_or q.asks k None) in
     record {
       size = refl;
       begun = refl;
@@ -30,7 +30,7 @@ pub loop-place-preserved : goal.loop-place-preserved
 loop-place-preserved c =
     let q = c.args.plan.now in
     let n = vec_len c.args.self.now.counts in
-    let note : ℕ → Verdict → Finding → Finding = λ k v old. named c.args.indices.now.vcs (input_at c.args.channels.now.inputs.items k) v (get_or q.asks k None) in
+    let note : ℕ → Verdict → Finding → Finding = λ k v old. finding_with c.args.indices.now.vcs (nth_input c.args.channels.now.inputs.items k) v (get_or q.asks k None) in
     let start : ℕ → Finding = finding_at c.args.self.now.findings.items in
     let inv = c.loop-place.invariant in
     let sets = c.with_verdicts-sets.result in
@@ -58,7 +58,7 @@ pub returns-clause-findings : goal.returns-clause-findings
 returns-clause-findings c = λ k l.
     let q = c.args.plan.now in
     let n = vec_len c.args.self.now.counts in
-    let note : ℕ → Verdict → Finding → Finding = λ k v old. named c.args.indices.now.vcs (input_at c.args.channels.now.inputs.items k) v (get_or q.asks k None) in
+    let note : ℕ → Verdict → Finding → Finding = λ k v old. finding_with c.args.indices.now.vcs (nth_input c.args.channels.now.inputs.items k) v (get_or q.asks k None) in
     let start : ℕ → Finding = finding_at c.args.self.now.findings.items in
     let now : ℕ → Finding = finding_at c.loop-place.self.findings.items in
     let P : List (ℕ × Verdict) → Type 0 = λ xs. IsNoting Finding note (outcome_verdict q) n start xs c.loop-place.rest now in

@@ -14,7 +14,7 @@ const _: () = prove!(noc_topo::MAX_NODES == MAX_NODES && noc_topo::MAX_PORTS == 
 
 /// A shape with its numbers of channels per link and of classes.
 #[derive(Clone, Copy)]
-pub struct Frame {
+pub struct Sizes {
     pub shape: Shape,
     pub vcs: usize,
     pub classes: usize,
@@ -32,16 +32,16 @@ pub struct Frame {
     ghost few_classes: { classes ≤ MAX_CLASSES },
 }
 
-impl Frame {
+impl Sizes {
     /// The frame of these numbers, where a relation can be made of them and of this rule.
-    pub fn of(shape: &Shape, vcs: usize, classes: usize, rule: &Rule) -> Option<Frame>
+    pub fn of(shape: &Shape, vcs: usize, classes: usize, rule: &Rule) -> Option<Sizes>
         ensures none { IfNone result (is_right shape.now vcs classes rule.now ≡ false) }
         ensures some { IfSome result (λ frame. (is_right shape.now vcs classes rule.now ≡ true) × (frame.shape ≡ shape.now) × (frame.vcs ≡ vcs) × (frame.classes ≡ classes)) }
     {
         if !is_right(shape, vcs, classes, rule) {
             return None;
         }
-        Some(Frame {
+        Some(Sizes {
             shape: *shape,
             vcs,
             classes,

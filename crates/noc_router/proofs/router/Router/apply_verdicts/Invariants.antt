@@ -4,7 +4,7 @@ use Rattle.noc_router.specs.Settled.{decisions_by, outcome_verdict}
 use Rattle.noc_router.specs.Verdict.{is_event}
 use Rattle.noc_router.proofs.PassedLemmas.{AreEach, IsPassing, with_turns}
 use Rattle.noc_router.proofs.SettleLemmas.{IsSettling, IsWhole}
-use Rattle.noc_router.proofs.router.Router.settle_all.Given as goal
+use Rattle.noc_router.proofs.router.Router.apply_verdicts.Given as goal
 
 -- the verdicts of the channels that are not left have taken effect, none is left below the counter, and those that are left are to take effect
 abbrev pub invariant-loop : goal.invariant-loop
