@@ -76,7 +76,7 @@ by_workers r workers report drain = record r { command = command.Run workers rep
 abbrev pub IsRankedRun : Request → Type 0
 IsRankedRun r = (workers : ℕ) × (report : Report) × (drain : Bool) × (r.command ≡ command.Run workers report drain) × (is_some r.ranks ≡ true)
 
--- .. and is to drain
+-- a request for a run that comes with ranks and is to drain
 abbrev pub IsRankedDrain : Request → Type 0
 IsRankedDrain r = (workers : ℕ) × (report : Report) × (r.command ≡ command.Run workers report true) × (is_some r.ranks ≡ true)
 

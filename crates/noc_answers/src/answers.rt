@@ -47,7 +47,7 @@ pub fn answer<R: Threads + Wait + Sync, W: Sink>(
     }
 }
 
-/// The same without the right to wait, for every request but a run by two or more workers.
+/// Answers every request but a run by two or more workers, and needs no right to wait.
 pub fn answer_one<W: Sink>(
     rt: &(impl Threads + Sync),
     alloc: Global,

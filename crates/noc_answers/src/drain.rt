@@ -28,7 +28,7 @@ pub fn run_to_end(network: &mut Network, cycles: u64, drain: bool)
     }
 }
 
-/// The same by two or more workers.
+/// Runs a network by two or more workers that has not run for so many cycles, and on where it is to drain.
 pub fn run_to_end_by_workers<R: Threads + Wait + Sync>(
     rt: &R,
     alloc: Global,
@@ -63,7 +63,7 @@ fn run_on(network: &mut Network)
     }
 }
 
-// The same by two or more workers.
+// Runs a network on by two or more workers until every packet is out, or to its limit.
 fn run_on_by_workers<R: Threads + Wait + Sync>(
     rt: &R,
     alloc: Global,

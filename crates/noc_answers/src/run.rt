@@ -45,7 +45,7 @@ pub fn run<W: Sink>(
     report_on(&network, report, sink)
 }
 
-/// The same by two or more workers.
+/// Runs the network by two or more workers for its cycles, and writes a report; ranks are checked before, if there are any.
 pub fn run_by_workers<R: Threads + Wait + Sync, W: Sink>(
     rt: &R,
     alloc: Global,

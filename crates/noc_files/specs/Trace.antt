@@ -37,7 +37,7 @@ is_traced (Some packet) held = is_some_of held packet
 abbrev pub traced_finding : Option ℕ → Finding → Option Finding
 traced_finding packet f = if finds_empty f.verdict || not (is_traced packet f.packet) then None else Some f
 
--- .. in cycle n, of the input channel with index i of router r
+-- what a trace tells in cycle n of the input channel with index i of router r
 abbrev pub told_at : Setup → Traced → ℕ → ℕ → ℕ → Option Finding
 told_at net traced n r i = option_and_then (traced_finding traced.packet) (slice_get (findings_in_cycle net n r) i)
 
@@ -80,7 +80,7 @@ is_asking _ = false
 abbrev pub set_for : Routes → ℕ → ℕ → ℕ → Packet → ℕ
 set_for relation r port vc p = set_at relation p.class r port vc p.destination
 
--- .. to the packet of a finding, where it asks
+-- the output channels that the relation permits to the packet of a finding, where it asks
 abbrev pub permitted_to : Setup → ℕ → ℕ → ℕ → Finding → Option ℕ
 permitted_to net r port vc f =
     if is_asking f.verdict then option_map (set_for net.relation r port vc) (option_and_then (slice_get net.packets) f.packet) else None
@@ -100,7 +100,7 @@ member_text g vcs set k =
 abbrev pub set_text : Routes → ℕ → List ℕ
 set_text relation set = flat_map (member_text relation.grid relation.vcs set) (below (ports relation.grid * relation.vcs))
 
--- .. or a dash where there is no set; and the end of the line
+-- the output channels of a set, or a dash where there is no set; and the end of the line
 abbrev pub permitted_text : Routes → Option ℕ → List ℕ
 permitted_text relation None = text_of_pieces (codes "-" ∷ line_end ∷ [])
 permitted_text relation (Some set) = set_text relation set ++ line_end
@@ -121,7 +121,7 @@ when_text n r = text_of_pieces (decimal n ∷ comma ∷ decimal r ∷ comma ∷ 
 abbrev pub trace_line : Setup → ℕ → ℕ → ℕ → ℕ → Finding → List ℕ
 trace_line net n r port vc f = when_text n r ++ told_text net r port vc f
 
--- .. if another thing is told of it than before
+-- the line of an input channel in cycle n, if another thing is told of it than before
 abbrev pub line_if_new : Setup → ℕ → ℕ → ℕ → ℕ → Option Finding → Option Finding → List ℕ
 line_if_new net n r port vc before now = if is_same before now then [] else trace_line net n r port vc (unwrap_or now empty_finding)
 

@@ -60,7 +60,7 @@ post_at k r = slice_get k.posts r
 abbrev pub wire_of : Post → ℕ → List Beat
 wire_of post port = slice_index_or post.wires port []
 
--- .. of this router, if it exists
+-- the wire that arrives at a port of this router, if it exists
 abbrev pub wire_at : CoreState → ℕ → ℕ → List Beat
 wire_at k r port = unwrap_or (option_map (λ post. wire_of post port) (post_at k r)) []
 
@@ -145,7 +145,7 @@ beat_to_send port post = unwrap_or (option_and_then (λ (post : Post). slice_ind
 abbrev pub receiving : ℕ → Beat → Post → Post
 receiving port beat post = record post { wires = slice_set post.wires port (wire_of post port ++ beat ∷ []) }
 
--- .. of the one that arrives at this router and port, if there is one
+-- a beat comes to the end of the wire that arrives at this router and port, if there is one
 abbrev pub onto_wire : Option (ℕ × ℕ) → Beat → CoreState → CoreState
 onto_wire None beat k = k
 onto_wire (Some to) beat k = with_post to.0 (receiving to.1 beat) k
@@ -160,7 +160,7 @@ happens k (Put r port) = onto_wire (neighbour k.net.relation.grid r port) (beat_
 abbrev pub after_event : ℕ → CoreState → Event → CoreState
 after_event limit k e = if is_ready limit k e then happens k e else k
 
--- .. after a list of events
+-- the core after a list of events, of which those change nothing that are not ready
 unfoldable pub after_events : ℕ → List Event → CoreState → CoreState
 after_events limit [] k = k
 after_events limit (e ∷ es) k = after_events limit es (after_event limit k e)

@@ -85,7 +85,7 @@ pub record KeepsStep (net : Setup) (count : ℕ) (events : List Event) (k : Core
   pub routers : length k.posts ≡ nodes net.relation.grid
   -- each router has the view of the lockstep run, with its findings, at the count of its last Decide
   pub views : (r : ℕ) (post : Post) → post_at k r ≡ Some post → post.view ≡ slice_index_or (lockstep_at net (count + decides r events)).views r post.view
-  -- .. which is its own number of steps where it is between its cycles
+  -- the count of its last Decide is its own number of steps where it is between its cycles
   pub steps : (r : ℕ) (post : Post) → post_at k r ≡ Some post → is_between post ≡ true → post.steps ≡ count + decides r events
   pub wires : (r port s q : ℕ) (post sender : Post) → post_at k r ≡ Some post → post_at k s ≡ Some sender → neighbour net.relation.grid r port ≡ Some (s, q)
       → KeepsWire net events r port post s q sender

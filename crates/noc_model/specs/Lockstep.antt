@@ -129,7 +129,7 @@ module _ (net : Setup) where
   seen_phase_with S r i c None = Waiting (seen_set S r i (owner_of net S c))
   seen_phase_with S r i c (Some o) = Active (output_index net.relation.grid net.relation.vcs o)
 
-  -- .. and one that is not routed is idle
+  -- a channel that is not routed is idle; a routed one is active where it has a next channel, and else it waits
   abbrev pub seen_phase : State → ℕ → ℕ → Channel → InputState
   seen_phase S r i c = if has_channel S.routed c then seen_phase_with S r i c (next_channel net S c) else Idle
 

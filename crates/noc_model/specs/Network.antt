@@ -243,7 +243,7 @@ module _ (net : Setup) where
   abbrev pub injection_at : State → ℕ → ℕ → Option Injection
   injection_at S n node = option_and_then (λ p. injection_with S n node p (find (is_injection_of node) (owned_by S p))) (first_waiting S node)
 
-  -- .. at all nodes
+  -- the injections at all nodes
   abbrev pub injections : State → ℕ → List Injection
   injections S n = filter_map (injection_at S n) (below (nodes net.relation.grid))
 
@@ -276,7 +276,7 @@ module _ (net : Setup) where
   unfoldable pub frozen_state : ℕ → State → State
   frozen_state n S = after_injection n (after_credits (after_landing S))
 
-  -- .. which has this next channel
+  -- the claim of a channel that has this next channel
   abbrev pub claim_with : State → ℕ → Channel → Option Channel → Claim
   claim_with F r c None = Waits (ask F r c)
   claim_with F r c (Some o) = Holds (output_index net.relation.grid net.relation.vcs o) (has_credit_in F o)
@@ -351,7 +351,7 @@ module _ (net : Setup) where
   abbrev pub grant_to_owner : State → Channel → ℕ → ℕ → Option (Channel × ℕ)
   grant_to_owner F c r p = option_map (λ o. (leaving r o, p)) (ask F r c)
 
-  -- .. where its verdict is Granted
+  -- the channel that the owner of c is granted, and that owner, where the verdict of c is Granted
   abbrev pub granted_pair : State → Channel → Option (Channel × ℕ)
   granted_pair F c =
       if is_granted (verdict_in F c)

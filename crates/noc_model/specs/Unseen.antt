@@ -20,7 +20,7 @@ pub record AreInStep (net : Setup) (n : ℕ) (routers : List View) (beats : List
   pub views : routers ≡ (lockstep_at net n).views
   pub wires : (r port : ℕ) → beat_at beats r port ≡ beat_at (lockstep_at net n).wires r port
 
--- .. but for the findings of the routers
+-- routers and wires are those of the lockstep run at count n, but for the findings of the routers
 pub record AreInStepUnseen (net : Setup) (n : ℕ) (routers : List View) (beats : List (List Beat)) : Type 0 where
   pub views : map without_findings routers ≡ map without_findings (lockstep_at net n).views
   pub wires : (r port : ℕ) → beat_at beats r port ≡ beat_at (lockstep_at net n).wires r port

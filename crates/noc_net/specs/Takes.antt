@@ -25,6 +25,6 @@ view_after_conclude relation n v =
     let frozen = view_after_inject n v in
     view_after_commit (decisions_of relation frozen) frozen
 
--- .. with the findings that it had before
+-- a router that has taken its beats, at the end of the first half of cycle n, with the findings that it had before
 abbrev pub view_after_move_on : Routes → ℕ → View → View
 view_after_move_on relation n v = record (view_after_conclude relation n v) { findings = (view_after_inject n v).findings }

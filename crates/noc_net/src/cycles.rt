@@ -96,7 +96,7 @@ fn advance_all(
     move_on_all(relation, plan, cycle, routers);
 }
 
-// .. once it has taken them.
+// Each router, which has taken its beats, injects, decides and commits, and leaves its findings as they were.
 fn move_on_all(relation: &Relation, plan: &mut Plan, cycle: u64, routers: &mut [Router])
     requires plan { IsDecidedFor (ports_of relation.now.grid) relation.now.vcs plan.old }
     requires routers { All (λ v. IsRelationOf relation.now v) routers.old }
@@ -145,7 +145,7 @@ fn decide_all(
     conclude_all(relation, plan, cycle, routers);
 }
 
-// .. once it has taken them.
+// Each router, which has taken its beats, injects, decides and commits.
 fn conclude_all(relation: &Relation, plan: &mut Plan, cycle: u64, routers: &mut [Router])
     requires plan { IsDecidedFor (ports_of relation.now.grid) relation.now.vcs plan.old }
     requires routers { All (λ v. IsRelationOf relation.now v) routers.old }

@@ -17,7 +17,7 @@ has_ranks g vcs classes rule = is_right g vcs classes rule && (elim rule [ Dor �
 abbrev pub passed_in : ℕ → ℕ → ℕ → ℕ
 passed_in k x port = if is_plus port then x else k - 1 - x
 
--- the same for a router, in the dimension of the port
+-- how many routers lie behind a router, seen along this port
 abbrev pub hops_passed : Grid → ℕ → ℕ → ℕ
 hops_passed g r p = passed_in (slice_index g.radix (p / 2)) (slice_index (coordinates g.radix r) (p / 2)) p
 
@@ -43,7 +43,7 @@ abbrev pub is_numbered : Grid → ℕ → ℕ → Rule → ℕ → Bool
 is_numbered g vcs classes Adaptive v = is_escape g vcs classes v
 is_numbered g vcs classes _ v = true
 
--- the same for a channel of any link port, none where the port has no link or the channel is adaptive
+-- the rank by formula of a channel of any link port; none where the port has no link or the channel is adaptive
 abbrev pub formula_at : Grid → ℕ → ℕ → Rule → ℕ → ℕ → ℕ → Option ℕ
 formula_at g vcs classes rule r p v = if is_channel g vcs r p v && is_numbered g vcs classes rule v then Some (formula g vcs classes rule r p v) else None
 

@@ -26,7 +26,7 @@ is_not_above before (Some after) = nat_le after before
 abbrev pub falls_to : Ranking → ℕ → ℕ → ℕ → ℕ → Bool
 falls_to k r set before i = has_bit set i && is_not_above before (rank_at k r (i / k.vcs) (i % k.vcs))
 
--- the same where the packet came on a channel of this rank, if there is one
+-- whether a set of router r has output channel number i, whose rank is not greater than that of the channel on which the packet came, if that has one
 abbrev pub falls_from : Ranking → ℕ → ℕ → Option ℕ → ℕ → Bool
 falls_from k r set None i = false
 falls_from k r set (Some before) i = falls_to k r set before i

@@ -63,6 +63,6 @@ pub record IsOverFirst (routes : Routes) (P : ℕ → ℕ → ℕ → Type 0) (c
   pub below : number < count
   pub holds : P (number / nodes routes.grid) (number % nodes routes.grid) n
 
--- the same of all pairs
+-- something holds of a number for some class and some destination
 abbrev pub IsOver : Routes → (ℕ → ℕ → ℕ → Type 0) → ℕ → Type 0
 IsOver routes P n = IsOverFirst routes P (routes.classes * nodes routes.grid) n

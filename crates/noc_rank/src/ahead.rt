@@ -36,7 +36,7 @@ pub fn fill_least(
     }
 }
 
-/// The same for the channels that arrive at a router so far from `dst`, where it is done for those nearer.
+/// Fills in the channels that arrive at a router so far from `dst`, where those nearer are done.
 fn fill_at(
     relation: &Relation,
     ranks: &[Option<u32>],
@@ -58,7 +58,7 @@ fn fill_at(
     }
 }
 
-/// The same for the channels that arrive at this router, if it is so far from `dst`.
+/// Fills in the channels that arrive at this router, if it is so far from `dst`.
 fn fill_if_at(
     relation: &Relation,
     ranks: &[Option<u32>],
@@ -82,7 +82,7 @@ fn fill_if_at(
     }
 }
 
-/// The same for the channels that arrive at this router.
+/// Fills in the channels that arrive at this router.
 fn fill_router(
     relation: &Relation,
     ranks: &[Option<u32>],
@@ -105,7 +105,7 @@ fn fill_router(
     }
 }
 
-/// The same for the channel that arrives at this input channel of a router, if one does.
+/// Fills in the channel that arrives at this input channel of a router, if one does.
 fn fill_input(
     relation: &Relation,
     ranks: &[Option<u32>],

@@ -53,7 +53,7 @@ pub fn first_descent(
     descent_in(alloc, relation, list(ranks), &mut least)
 }
 
-/// The same by the list of ranks; `least` is room.
+/// The first descent along the relation, by the list of ranks; `least` is room.
 fn descent_in(
     alloc: Global,
     relation: &Relation,
@@ -95,7 +95,7 @@ fn first_start(relation: &Relation, ranks: &[Option<u32>], least: &mut [Option<u
     first
 }
 
-/// The same for packets of one class on their way to one node.
+/// The place of the first channel from which packets of one class on their way to one node come on to one of no greater rank.
 fn start_by(
     relation: &Relation,
     ranks: &[Option<u32>],
@@ -207,7 +207,7 @@ fn first_end(
     first
 }
 
-/// The same for packets of one class on their way to one node.
+/// The least mark to which packets of one class on their way to one node come on from the channel at the place `start`.
 fn end_by(
     relation: &Relation,
     ranks: &[Option<u32>],

@@ -50,7 +50,7 @@ pub record IsRanked (Permits : Permitting) (g : Grid) (ranks : ℕ → ℕ → �
 abbrev pub IsRankedBy : Routes → Ranking → Type 0
 IsRankedBy routes k = IsRanked (λ m c t o. IsTrue (permits routes m c t o)) routes.grid (rank_at k)
 
--- the same of a rule, before a relation is built of it
+-- a rule is ranked by these ranks, before a relation is built of it
 abbrev pub IsRankedRule : RelationParts → (ℕ → ℕ → ℕ → Option ℕ) → Type 0
 IsRankedRule g ranks = IsRanked (IsPermitted g) g.grid ranks
 

@@ -25,7 +25,7 @@ pub fn gather(map: &Map, sets: &[ChannelSet], outs: &mut [ChannelSet])
     }
 }
 
-/// The same for the routers at one distance from the destination.
+/// Gathers what reaches the routers at one distance from the destination.
 fn gather_at(map: &Map, sets: &[ChannelSet], outs: &mut [ChannelSet], distance: usize)
     requires sets { length sets.now ≡ pages map.now.frame.shape map.now.frame.classes * width map.now.frame.shape map.now.frame.vcs }
     requires outs { length outs.old ≡ pages map.now.frame.shape map.now.frame.classes }
@@ -43,7 +43,7 @@ fn gather_at(map: &Map, sets: &[ChannelSet], outs: &mut [ChannelSet], distance: 
     }
 }
 
-/// The same for one router and one destination.
+/// Gathers what reaches one router on its way to one destination.
 fn gather_pair(map: &Map, sets: &[ChannelSet], outs: &mut [ChannelSet], router: usize, dst: usize)
     requires sets { length sets.now ≡ pages map.now.frame.shape map.now.frame.classes * width map.now.frame.shape map.now.frame.vcs }
     requires outs { length outs.old ≡ pages map.now.frame.shape map.now.frame.classes }

@@ -26,7 +26,7 @@ pub fn trim(map: &Map, sets: &mut [ChannelSet], outs: &[ChannelSet]) -> Option<E
     first
 }
 
-/// The same for one page; `first` is the first such entry among the pages before.
+/// Trims the sets of one page; `first` is the first entry with no way among the pages before.
 fn trim_page(
     map: &Map,
     sets: &mut [ChannelSet],
@@ -58,7 +58,7 @@ fn trim_page(
     first
 }
 
-/// The same for one entry, that of an input channel of a page; `first` is the first such entry among those before.
+/// Trims the set of one entry, that of an input channel of a page; `first` is the first entry with no way among those before.
 fn trim_entry(
     map: &Map,
     sets: &mut [ChannelSet],

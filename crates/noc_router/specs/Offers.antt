@@ -7,7 +7,7 @@ abbrev pub nearer : ℕ → Option ℕ → ℕ → Option ℕ
 nearer pointer None next = Some next
 nearer pointer (Some held) next = if nat_le pointer held || nat_lt next pointer then Some held else Some next
 
--- .. and the other of the two, if there are two
+-- of the one that came first so far and a later number, the one that comes second, if there are two
 abbrev pub farther : ℕ → Option ℕ → ℕ → Option ℕ
 farther pointer None next = None
 farther pointer (Some held) next = if nat_le pointer held || nat_lt next pointer then Some next else Some held

@@ -63,7 +63,7 @@ ejected_packet v port f = if nat_lt port (local_port v.site.grid) then None else
 abbrev pub view_after_route : ℕ → ℕ → View → View
 view_after_route i set v = record v { inputs = slice_set v.inputs i (input_after_route (view_input v i) set); had_event = true }
 
--- .. was granted output channel o
+-- an input channel was granted output channel o
 abbrev pub view_after_grant : ℕ → ℕ → View → View
 view_after_grant i o v = record v {
   inputs = slice_set v.inputs i (input_after_grant (view_input v i) o);
@@ -71,7 +71,7 @@ view_after_grant i o v = record v {
   had_event = true;
 }
 
--- .. has lost its first flit to output channel o
+-- an input channel has sent its first flit to output channel o
 abbrev pub view_after_send : ℕ → ℕ → Flit → View → View
 view_after_send i o f v = record v {
   buffers = slice_set v.buffers i (drop 1 (view_buffer v i));
@@ -115,7 +115,7 @@ pub record CanGrant (v : View) (i o : ℕ) : Type 0 where
   pub waits : is_waiting (view_input v i).phase ≡ true
   pub free : is_free (view_output v o).holder ≡ true
 
--- .. where it moves a flit to the output channel that it owns
+-- what holds where input channel i moves a flit to the output channel that it owns
 abbrev pub CanMove : View → ℕ → InputState → Type 0
 CanMove v i Idle = Unit {0}
 CanMove v i (Waiting set) = Unit {0}
@@ -142,13 +142,13 @@ switch_past i o v = record v {
   };
 }
 
--- .. where input channel i was in this state
+-- the pointers go on past input channel i, which was in this state and has sent
 abbrev pub passed_in_phase : ℕ → InputState → View → View
 passed_in_phase i Idle v = v
 passed_in_phase i (Waiting set) v = v
 passed_in_phase i (Active o) v = switch_past i o v
 
--- .. and had this verdict
+-- the pointers go on past input channel i, which was in this state, if its verdict is Moved
 abbrev pub passed_by : ℕ → InputState → Verdict → View → View
 passed_by i phase Moved v = passed_in_phase i phase v
 passed_by i phase _ v = v

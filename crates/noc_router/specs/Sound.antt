@@ -82,9 +82,9 @@ finding_with vcs input verdict ask = record { verdict = verdict; packet = input.
 -- the sets that a router keeps of its channels
 pub record Sets : Type 0 where
   pub filled : ℕ  -- the input channels whose buffer holds a flit
-  pub waiting : ℕ  -- .. whose packet waits for an output channel
-  pub active : ℕ  -- .. whose packet owns one
-  pub supplied : ℕ  -- .. that has a credit
+  pub waiting : ℕ  -- the input channels whose packet waits for an output channel
+  pub active : ℕ  -- the input channels whose packet owns an output channel
+  pub supplied : ℕ  -- the input channels whose packet owns an output channel that has a credit
   pub idle : ℕ  -- the output channels that are idle
 
 -- the channels of a router, by index, with its sets

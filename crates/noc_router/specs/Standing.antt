@@ -20,12 +20,12 @@ pub record AreHeads (v : View) (set : ℕ) : Type 0 where
   pub below : AreBelow (size_of v.site) set
   pub each : (i : ℕ) → i < size_of v.site → has_bit set i ≡ (is_idle_phase (view_input v i).phase && not (is_empty (view_buffer v i)))
 
--- .. the channels that wait for an output channel
+-- the set has just the channels that wait for an output channel
 pub record AreWaiting (v : View) (set : ℕ) : Type 0 where
   pub below : AreBelow (size_of v.site) set
   pub each : (i : ℕ) → i < size_of v.site → has_bit set i ≡ is_waiting (view_input v i).phase
 
--- .. the channels that are ready to send
+-- the set has just the channels that are ready to send
 pub record AreReady (v : View) (set : ℕ) : Type 0 where
   pub below : AreBelow (size_of v.site) set
   pub each : (i : ℕ) → i < size_of v.site → has_bit set i ≡ (is_active (view_input v i).phase && (not (is_empty (view_buffer v i)) && is_supplied v.outputs (view_input v i).phase))
@@ -44,7 +44,7 @@ way_in vcs Idle = None
 way_in vcs (Waiting set) = None
 way_in vcs (Active o) = Some (o / vcs)
 
--- .. the input channel with this index
+-- the output port to which the input channel with this index sends
 abbrev pub way_of : View → ℕ → Option ℕ
 way_of v i = way_in v.site.vcs (view_input v i).phase
 

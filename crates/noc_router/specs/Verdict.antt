@@ -97,12 +97,12 @@ abbrev pub is_routed : Verdict → Bool
 is_routed Routed = true
 is_routed _ = false
 
--- .. by which a packet gets an output channel
+-- the verdict by which a packet gets an output channel
 abbrev pub is_granted : Verdict → Bool
 is_granted Granted = true
 is_granted _ = false
 
--- .. by which a flit leaves
+-- the verdict by which a flit leaves
 abbrev pub is_moved : Verdict → Bool
 is_moved Moved = true
 is_moved _ = false

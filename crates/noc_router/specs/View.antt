@@ -180,11 +180,11 @@ claim_in v Idle = Unrouted
 claim_in v (Waiting set) = Waits (asked_for v set)
 claim_in v (Active o) = Holds o (has_credit (view_output v o))
 
--- .. the input channel with this index
+-- what the input channel with this index can go on with
 abbrev pub view_claim : View → ℕ → Claim
 view_claim v i = claim_in v (view_input v i).phase
 
--- .. and whether its buffer holds a flit
+-- what the input channel with this index can go on with, and whether its buffer holds a flit
 abbrev pub view_stand : View → ℕ → Stand
 view_stand v i = record { claim = view_claim v i; has_flit = not (is_empty (view_buffer v i)) }
 
@@ -217,7 +217,7 @@ route_for relation v i (Some f) = set_at relation f.class v.site.node (i / v.sit
 abbrev pub first_flit : View → ℕ → Option Flit
 first_flit v i = slice_get (view_buffer v i) 0
 
--- .. where that is idle and holds a head, and else 0
+-- the set to which the head of input channel i is routed, where the channel is idle and holds one, and else 0
 abbrev pub route_of : Routes → View → ℕ → ℕ
 route_of relation v i = if is_idle_phase (view_input v i).phase then route_for relation v i (first_flit v i) else 0
 
@@ -354,7 +354,7 @@ view_after_commit d v = with_arrival (tail_packet (flit_out v d.round (local_por
 abbrev pub beat_to_put : View → ℕ → Beat
 beat_to_put v port = slice_index_or v.to_put port idle_beat
 
--- .. and the view after it
+-- the view after `put`
 abbrev pub view_after_put : ℕ → View → View
 view_after_put port v = record v { to_put = slice_set v.to_put port idle_beat }
 

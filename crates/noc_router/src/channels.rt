@@ -35,9 +35,9 @@ pub(crate) struct Standing {
     pub(crate) waiting: ChannelSet,
     // A packet that owns one, whose next flit is not there.
     pub(crate) no_flit: ChannelSet,
-    // .. whose next flit is there, where the output channel has no credit.
+    // A packet that owns an output channel with no credit, whose next flit is there.
     pub(crate) no_credit: ChannelSet,
-    // .. where it has one.
+    // A packet that owns an output channel with a credit, or one that leads out, whose next flit is there.
     pub(crate) ready: ChannelSet,
 }
 

@@ -79,7 +79,7 @@ impl Digit {
         }
     }
 
-    // .. where no sets can be kept any more.
+    // One more for each member of the set of each verdict, where no sets can be kept any more.
     fn fold(&mut self, sets: &Sets) -> Sets
         requires { self.old.kept ≡ 7 }
         ensures { (j k : ℕ) → j < 10 → digit_at self.new j k + 8 * one_at result j k ≡ digit_at self.old j k + one_at sets.now j k }

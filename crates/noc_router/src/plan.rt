@@ -82,7 +82,7 @@ impl Plan {
         self.verdicts.moved.contains(index)
     }
 
-    // .. is Granted.
+    // Whether the verdict on an input channel is Granted.
     pub(crate) fn is_granted(&self, index: usize) -> bool
         requires { index < length self.now.verdicts }
         ensures { result ≡ is_granted (slice_index_or self.now.verdicts index Empty) }

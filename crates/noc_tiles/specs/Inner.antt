@@ -38,7 +38,7 @@ pub record CanFinish (relation : Routes) (i j : ℕ) (t : Tile) : Type 0 where
   pub site : (k : ℕ) (d : View) → i ≤ k → k < j → (get_or t.routers.items k d).site.node ≡ t.first + k
   pub idle : (r q : ℕ) → r < nodes relation.grid → is_from (t.first + i) (j - i) (neighbour relation.grid r q) ≡ true → beat_at t.beats.items r q ≡ idle_beat
 
--- .. and have finished cycle n; where nobody has seen what was found, the findings are others
+-- the routers of a tile from index i to before j have finished cycle n; where nobody has seen what was found, the findings are others
 pub record HaveFinished (relation : Routes) (n : ℕ) (seen : Bool) (i j : ℕ) (a b : Tile) : Type 0 where
   pub rest : b ≡ record a { plan = b.plan; routers = b.routers; beats = b.beats }
   pub plan : IsDecidedFor (ports relation.grid) relation.vcs b.plan

@@ -61,7 +61,7 @@ abbrev pub beat_among : ℕ → ℕ → List (List Beat) → Option (ℕ × ℕ)
 beat_among first count sent None = idle_beat
 beat_among first count sent (Some from) = if is_own first count from.0 then beat_at sent (from.0 - first) from.1 else idle_beat
 
--- .. where these have sent all that is sent
+-- what is sent on a wire whose sender is given, where these routers have sent all that is sent
 abbrev pub beat_of : ℕ → List (List Beat) → Option (ℕ × ℕ) → Beat
 beat_of first sent from = beat_among first (length sent) sent from
 
@@ -89,7 +89,7 @@ module _ (relation : Routes) (P : Layout) where
   abbrev pub sent_of : List (View × List Beat) → List (List Beat)
   sent_of S = map (λ (step : View × List Beat). step.1) S
 
-  -- .. on the wire that arrives at this place
+  -- the beat that the routers have put on the wire that arrives at this place
   abbrev pub out_at : List (View × List Beat) → ℕ → ℕ → Beat
   out_at S r q = beat_of P.first (sent_of S) (neighbour relation.grid r q)
 
@@ -100,7 +100,7 @@ module _ (relation : Routes) (P : Layout) where
     wires = λ r q. if is_own P.first (length S) r then out_at S r q else idle_beat;
   }
 
-  -- .. and what it puts on the wires that go
+  -- what the tile puts on the wires that go
   unfoldable pub put_by : List (View × List Beat) → List Beat
   put_by S = map (λ (p : ℕ × ℕ). out_at S p.0 p.1) P.outs
 

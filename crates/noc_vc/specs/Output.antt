@@ -62,11 +62,11 @@ has_credit_at (Some n) = nat_lt 0 n
 abbrev pub has_credit : Output → Bool
 has_credit output = has_credit_at output.credit
 
--- .. after it was granted to a packet that waits on an input channel
+-- an output channel after it was granted to a packet that waits on an input channel
 abbrev pub output_after_hold : Output → ℕ → ℕ → Output
 output_after_hold output input packet = record output { holder = Owned input packet }
 
--- .. after its packet has left
+-- an output channel after its packet has left
 abbrev pub output_after_release : Output → Output
 output_after_release output = record output { holder = Free }
 
@@ -74,6 +74,6 @@ abbrev pub output_without_credit : Bool → Output → Option ℕ → Output
 output_without_credit last output None = if last then output_after_release output else output
 output_without_credit last output (Some n) = record output { holder = if last then Draining else output.holder; credit = Some (n - 1) }
 
--- .. after a flit has left by it, the tail or another
+-- an output channel after a flit has left by it, the tail or another
 abbrev pub output_after_spend : Bool → Output → Output
 output_after_spend last output = output_without_credit last output output.credit
