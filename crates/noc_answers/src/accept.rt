@@ -20,8 +20,8 @@ use noc_topo::Shape;
 use std::alloc::Global;
 use std::thread::Threads;
 
-/// Writes `accepted`, if the ranks of the rank file rise along the relation. No rank file is an empty one.
-pub fn answer_check<W: Sink>(
+// Writes `accepted`, if the ranks of the rank file rise along the relation. No rank file is an empty one.
+pub(crate) fn answer_check<W: Sink>(
     rt: &(impl Threads + Sync),
     alloc: Global,
     files: &Files<'_>,
@@ -47,9 +47,9 @@ fn accept_files(rt: &(impl Threads + Sync), alloc: Global, files: &Files<'_>) ->
     accept(rt, alloc, files.ranks.unwrap_or(Ok(&[])), &relation)
 }
 
-/// Whether the ranks of a rank file rise along a relation, if there is one: the first fault of the file, of its rows, or of
-/// the check.
-pub fn accept_if_given(
+// Whether the ranks of a rank file rise along a relation, if there is one: the first fault of the file, of its rows, or of
+// the check.
+pub(crate) fn accept_if_given(
     rt: &(impl Threads + Sync),
     alloc: Global,
     text: Option<Bytes<'_>>,

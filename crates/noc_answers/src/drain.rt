@@ -12,11 +12,11 @@ use std::alloc::Global;
 use std::sync::Wait;
 use std::thread::Threads;
 
-/// After how many cycles a run that is to drain looks again whether every packet is out.
+// After how many cycles a run that is to drain looks again whether every packet is out.
 const DRAIN_CHECK_INTERVAL: u64 = 64;
 
-/// Runs a network that has not run for so many cycles, and on where it is to drain.
-pub fn run_to_end(network: &mut Network, cycles: u64, drain: bool)
+// Runs a network that has not run for so many cycles, and on where it is to drain.
+pub(crate) fn run_to_end(network: &mut Network, cycles: u64, drain: bool)
     requires opening { network.old.count ≡ 0 }
     requires cycles { cycles ≤ MAX_CYCLES }
     ensures net { network.new.net ≡ network.old.net }
@@ -28,8 +28,8 @@ pub fn run_to_end(network: &mut Network, cycles: u64, drain: bool)
     }
 }
 
-/// Runs a network by two or more workers that has not run for so many cycles, and on where it is to drain.
-pub fn run_to_end_by_workers<R: Threads + Wait + Sync>(
+// Runs a network by two or more workers that has not run for so many cycles, and on where it is to drain.
+pub(crate) fn run_to_end_by_workers<R: Threads + Wait + Sync>(
     rt: &R,
     alloc: Global,
     network: Network,

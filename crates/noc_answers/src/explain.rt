@@ -14,8 +14,8 @@ use noc_net::Network;
 use noc_requests::{Command, Fault, Files, Status, relation_of};
 use std::alloc::Global;
 
-/// Runs the network up to the end of a cycle, and writes what a router found in it.
-pub fn explain<W: Sink>(
+// Runs the network up to the end of a cycle, and writes what a router found in it.
+pub(crate) fn explain<W: Sink>(
     alloc: Global,
     files: &Files<'_>,
     cycle: u64,

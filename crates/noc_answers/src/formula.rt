@@ -15,8 +15,8 @@ use noc_requests::{Command, Fault, Files, Status, named_rule, relation_of};
 use noc_topo::Shape;
 use std::alloc::Global;
 
-/// Writes the ranks by formula of the rule, once its relation could be made.
-pub fn answer_ranks<W: Sink>(
+// Writes the ranks by formula of the rule, once its relation could be made.
+pub(crate) fn answer_ranks<W: Sink>(
     alloc: Global,
     files: &Files<'_>,
     sink: &mut W,

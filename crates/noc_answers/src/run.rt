@@ -27,8 +27,8 @@ use std::alloc::Global;
 use std::sync::Wait;
 use std::thread::Threads;
 
-/// Runs the network for its cycles, and writes a report; ranks are checked before, if there are any.
-pub fn run<W: Sink>(
+// Runs the network for its cycles, and writes a report; ranks are checked before, if there are any.
+pub(crate) fn run<W: Sink>(
     rt: &(impl Threads + Sync),
     alloc: Global,
     files: &Files<'_>,
@@ -45,8 +45,8 @@ pub fn run<W: Sink>(
     report_on(&network, report, sink)
 }
 
-/// Runs the network by two or more workers for its cycles, and writes a report; ranks are checked before, if there are any.
-pub fn run_by_workers<R: Threads + Wait + Sync, W: Sink>(
+// Runs the network by two or more workers for its cycles, and writes a report; ranks are checked before, if there are any.
+pub(crate) fn run_by_workers<R: Threads + Wait + Sync, W: Sink>(
     rt: &R,
     alloc: Global,
     files: &Files<'_>,
@@ -101,8 +101,8 @@ fn report_on<W: Sink>(network: &Network, report: Report, sink: &mut W) -> Result
     }
 }
 
-/// The network of a relation and a traffic text, before its first cycle, with `places` (1 to 16 flits) in each buffer.
-pub fn network_of(
+// The network of a relation and a traffic text, before its first cycle, with `places` (1 to 16 flits) in each buffer.
+pub(crate) fn network_of(
     alloc: Global,
     relation: Relation,
     places: usize,

@@ -17,8 +17,8 @@ use noc_requests::{
 };
 use std::alloc::Global;
 
-/// Runs the network up to the first cycle of a span, and then cycle by cycle, and writes what its input channels did in each.
-pub fn trace<W: Sink>(
+// Runs the network up to the first cycle of a span, and then cycle by cycle, and writes what its input channels did in each.
+pub(crate) fn trace<W: Sink>(
     alloc: Global,
     files: &Files<'_>,
     from: Option<u64>,

@@ -50,7 +50,7 @@ fn the_largest_bank_keeps_each_ring_apart(rt: HostRuntime) -> Result<(), Fail> {
     Ok(())
 }
 
-/// Dropped empty.
+// Dropped empty.
 #[test]
 fn a_ring_of_one_place_is_full_with_one_flit(rt: HostRuntime) -> Result<(), Fail> {
     let mut bank = Bank::new(rt.alloc(), 1, 1)?;
@@ -74,7 +74,7 @@ fn a_bank_is_dropped_with_a_flit(rt: HostRuntime) -> Result<(), Fail> {
     Ok(())
 }
 
-/// One growth is all that a bank takes: `rt try --test --fail-alloc 2` leaves this test as it is.
+// One growth is all that a bank takes: `rt try --test --fail-alloc 2` leaves this test as it is.
 #[test]
 fn a_full_ring_turns_a_thousand_times(rt: HostRuntime) -> Result<(), Fail> {
     let mut bank = Bank::new(rt.alloc(), 28, 16)?;

@@ -13,9 +13,9 @@ use noc_packet::ChannelSet;
 use noc_route::Relation;
 use noc_topo::MAX_DISTANCE;
 
-/// Writes for each link channel the least of the marks of the channels with a rank to which packets of this class come from
-/// it on their way to `dst`, directly or through adaptive channels.
-pub fn fill_least(
+// Writes for each link channel the least of the marks of the channels with a rank to which packets of this class come from
+// it on their way to `dst`, directly or through adaptive channels.
+pub(crate) fn fill_least(
     relation: &Relation,
     ranks: &[Option<u32>],
     marks: &[Option<u32>],
@@ -36,7 +36,7 @@ pub fn fill_least(
     }
 }
 
-/// Fills in the channels that arrive at a router so far from `dst`, where those nearer are done.
+// Fills in the channels that arrive at a router so far from `dst`, where those nearer are done.
 fn fill_at(
     relation: &Relation,
     ranks: &[Option<u32>],
@@ -58,7 +58,7 @@ fn fill_at(
     }
 }
 
-/// Fills in the channels that arrive at this router, if it is so far from `dst`.
+// Fills in the channels that arrive at this router, if it is so far from `dst`.
 fn fill_if_at(
     relation: &Relation,
     ranks: &[Option<u32>],
@@ -82,7 +82,7 @@ fn fill_if_at(
     }
 }
 
-/// Fills in the channels that arrive at this router.
+// Fills in the channels that arrive at this router.
 fn fill_router(
     relation: &Relation,
     ranks: &[Option<u32>],
@@ -105,7 +105,7 @@ fn fill_router(
     }
 }
 
-/// Fills in the channel that arrives at this input channel of a router, if one does.
+// Fills in the channel that arrives at this input channel of a router, if one does.
 fn fill_input(
     relation: &Relation,
     ranks: &[Option<u32>],
@@ -134,7 +134,7 @@ fn fill_input(
     }
 }
 
-/// The least of what the channels of a router's set on link ports count for.
+// The least of what the channels of a router's set on link ports count for.
 fn least_of(
     relation: &Relation,
     ranks: &[Option<u32>],
@@ -158,7 +158,7 @@ fn least_of(
     best
 }
 
-/// What the channel of this index counts for, if it is in the set: its mark where it has a rank, else the least mark ahead.
+// What the channel of this index counts for, if it is in the set: its mark where it has a rank, else the least mark ahead.
 fn counted(
     ranks: &[Option<u32>],
     marks: &[Option<u32>],
@@ -184,8 +184,8 @@ fn counted(
     }
 }
 
-/// The lesser of two numbers, where either may be missing.
-pub fn lesser(a: Option<u32>, b: Option<u32>) -> Option<u32>
+// The lesser of two numbers, where either may be missing.
+pub(crate) fn lesser(a: Option<u32>, b: Option<u32>) -> Option<u32>
     ensures { result ≡ lesser a b }
 {
     let Some(x) = a else {

@@ -14,9 +14,9 @@ use noc_route::{Entry, Relation};
 use rayon::prelude::*;
 use std::thread::Threads;
 
-/// The first entry, in the order of class, router, input port and channel, and destination, to which packets come, away from
-/// their destination, and at which no channel with a rank is permitted. Looks at the entries in parallel.
-pub fn first_bare(rt: &(impl Threads + Sync), relation: &Relation, ranks: &Ranks) -> Option<Entry>
+// The first entry, in the order of class, router, input port and channel, and destination, to which packets come, away from
+// their destination, and at which no channel with a rank is permitted. Looks at the entries in parallel.
+pub(crate) fn first_bare(rt: &(impl Threads + Sync), relation: &Relation, ranks: &Ranks) -> Option<Entry>
     requires shape { relation.now.grid ≡ ranks.now.grid }
     requires vcs { relation.now.vcs ≡ ranks.now.vcs }
     ensures { MatchOption result (HasEscapes relation.now ranks.now) (IsFirstBare relation.now ranks.now) }
@@ -33,7 +33,7 @@ pub fn first_bare(rt: &(impl Threads + Sync), relation: &Relation, ranks: &Ranks
     bare_at(relation, ranks, number)
 }
 
-/// The entry of this number, if no channel with a rank is permitted there though others are.
+// The entry of this number, if no channel with a rank is permitted there though others are.
 fn bare_at(relation: &Relation, ranks: &Ranks, number: usize) -> Option<Entry>
     requires shape { relation.now.grid ≡ ranks.now.grid }
     requires vcs { relation.now.vcs ≡ ranks.now.vcs }
@@ -55,7 +55,7 @@ fn bare_at(relation: &Relation, ranks: &Ranks, number: usize) -> Option<Entry>
     Some(entry)
 }
 
-/// The entry of a number, of which the destination is the last digit.
+// The entry of a number, of which the destination is the last digit.
 fn entry_of(relation: &Relation, number: usize) -> Entry
     ensures value { result ≡ numbered_entry relation.now number }
     ensures nodes { 1 ≤ nodes relation.now.grid }
@@ -76,7 +76,7 @@ fn entry_of(relation: &Relation, number: usize) -> Entry
     }
 }
 
-/// Whether a set of a router has a channel on a link port with a rank.
+// Whether a set of a router has a channel on a link port with a rank.
 fn has_rank(relation: &Relation, ranks: &Ranks, router: usize, set: ChannelSet) -> bool
     requires shape { relation.now.grid ≡ ranks.now.grid }
     requires vcs { relation.now.vcs ≡ ranks.now.vcs }

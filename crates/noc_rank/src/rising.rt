@@ -17,10 +17,10 @@ use noc_topo::Shape;
 use rayon::prelude::*;
 use std::thread::Threads;
 
-/// The first step of the relation from one channel with a rank to the next that does not rise, in the order of class,
-/// router, input port and channel, destination, output port and channel. Looks at the entries in parallel and takes no
-/// memory.
-pub fn first_fall(rt: &(impl Threads + Sync), relation: &Relation, ranks: &Ranks) -> Option<Fall>
+// The first step of the relation from one channel with a rank to the next that does not rise, in the order of class,
+// router, input port and channel, destination, output port and channel. Looks at the entries in parallel and takes no
+// memory.
+pub(crate) fn first_fall(rt: &(impl Threads + Sync), relation: &Relation, ranks: &Ranks) -> Option<Fall>
     requires shape { relation.now.grid ≡ ranks.now.grid }
     requires vcs { relation.now.vcs ≡ ranks.now.vcs }
     ensures { MatchOption result (IsRising relation.now (rank_at ranks.now)) (λ fall. IsFirstFall relation.now ranks.now fall.step fall.rank fall.next) }
@@ -39,17 +39,17 @@ pub fn first_fall(rt: &(impl Threads + Sync), relation: &Relation, ranks: &Ranks
     first_at(relation, ranks, number)
 }
 
-/// A step that does not rise, with the ranks before and after it.
+// A step that does not rise, with the ranks before and after it.
 #[derive(Clone, Copy)]
-pub struct Fall {
+pub(crate) struct Fall {
     step: RouteRow,
     rank: u32,
     next: u32,
 }
 
 impl Fall {
-    /// The fault that names it.
-    pub fn fault(self) -> RankFault
+    // The fault that names it.
+    pub(crate) fn fault(self) -> RankFault
         ensures { result ≡ fault_of_fall self }
     {
         let step = self.step;
@@ -69,7 +69,7 @@ impl Fall {
     }
 }
 
-/// The first step that does not rise of those that packets of a class take that came by an input channel, both by number.
+// The first step that does not rise of those that packets of a class take that came by an input channel, both by number.
 fn first_at(relation: &Relation, ranks: &Ranks, number: usize) -> Option<Fall>
     requires shape { relation.now.grid ≡ ranks.now.grid }
     requires vcs { relation.now.vcs ≡ ranks.now.vcs }
@@ -87,7 +87,7 @@ fn first_at(relation: &Relation, ranks: &Ranks, number: usize) -> Option<Fall>
     first_from(relation, ranks, class, router, port, vc, rank)
 }
 
-/// The rank of the link channel that arrives at an input channel, if there is one and it has a rank.
+// The rank of the link channel that arrives at an input channel, if there is one and it has a rank.
 fn arrival_rank(shape: &Shape, ranks: &Ranks, router: usize, port: usize, vc: usize) -> Option<u32>
     requires shape { shape.now ≡ ranks.now.grid }
     requires router { router < nodes ranks.now.grid }
@@ -99,7 +99,7 @@ fn arrival_rank(shape: &Shape, ranks: &Ranks, router: usize, port: usize, vc: us
     rank_at(ranks, sender, out_port, vc)
 }
 
-/// The first step from an entry that does not rise, over all destinations, where `rank` is that of the input channel.
+// The first step from an entry that does not rise, over all destinations, where `rank` is that of the input channel.
 fn first_from(
     relation: &Relation,
     ranks: &Ranks,
@@ -138,7 +138,7 @@ fn first_from(
     None
 }
 
-/// The first channel on a link port in a set of a router whose rank is not greater than `rank`, by its index, with its rank.
+// The first channel on a link port in a set of a router whose rank is not greater than `rank`, by its index, with its rank.
 fn first_to(
     relation: &Relation,
     ranks: &Ranks,
@@ -161,7 +161,7 @@ fn first_to(
     None
 }
 
-/// The rank of a channel on a link port, by its index, if it is in the set and its rank is not greater than `rank`.
+// The rank of a channel on a link port, by its index, if it is in the set and its rank is not greater than `rank`.
 fn falls_to(ranks: &Ranks, router: usize, set: ChannelSet, index: usize, rank: u32) -> Option<u32>
     requires router { router < nodes ranks.now.grid }
     requires index { index < link_output_count ranks.now }

@@ -9,8 +9,8 @@ use crate::fault::RankFault;
 use crate::place::{is_channel, link_ports, place};
 use noc_topo::Shape;
 
-/// The greatest rank.
-pub const MAX_RANK: usize = 1_000_000;
+// The greatest rank.
+pub(crate) const MAX_RANK: usize = 1_000_000;
 
 /// A link channel, named by the router that sends on it, its port and its number, with its rank, 1 to 1,000,000; None says
 /// that the channel is adaptive.
@@ -22,9 +22,9 @@ pub struct RankRow {
     pub rank: Option<usize>,
 }
 
-/// Writes the ranks of the rows over a list without ranks, and notes the channels that they name; or answers the fault of
-/// the first bad row.
-pub fn enter(
+// Writes the ranks of the rows over a list without ranks, and notes the channels that they name; or answers the fault of
+// the first bad row.
+pub(crate) fn enter(
     shape: &Shape,
     vcs: usize,
     rows: &[RankRow],
@@ -47,7 +47,7 @@ pub fn enter(
     Ok(())
 }
 
-/// What is wrong with a row, where `named` says which channels the rows before it name.
+// What is wrong with a row, where `named` says which channels the rows before it name.
 fn row_fault(
     shape: &Shape,
     vcs: usize,
@@ -71,7 +71,7 @@ fn row_fault(
     None
 }
 
-/// Whether a rank, if there is one, is 1 to 1,000,000.
+// Whether a rank, if there is one, is 1 to 1,000,000.
 fn is_rank(rank: Option<usize>) -> bool
     ensures { result ≡ is_rank rank }
 {
@@ -81,7 +81,7 @@ fn is_rank(rank: Option<usize>) -> bool
     }
 }
 
-/// A rank as it is stored.
+// A rank as it is stored.
 fn stored(rank: Option<usize>) -> Option<u32>
     requires { is_rank rank ≡ true }
     ensures { result ≡ rank }
@@ -92,8 +92,8 @@ fn stored(rank: Option<usize>) -> Option<u32>
     }
 }
 
-/// The first link channel that no row names, in the order of router, port and channel.
-pub fn missing(shape: &Shape, vcs: usize, named: &[bool]) -> Option<RankFault>
+// The first link channel that no row names, in the order of router, port and channel.
+pub(crate) fn missing(shape: &Shape, vcs: usize, named: &[bool]) -> Option<RankFault>
     requires { length named.now ≡ rank_count shape.now vcs }
     ensures none { IfNone result (IsWhole shape.now vcs named.now (length named.now)) }
     ensures some { IfSome result (IsFirstGap shape.now vcs named.now) }

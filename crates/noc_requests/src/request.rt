@@ -84,8 +84,8 @@ pub fn files_of(request: &Request) -> Files<'_>
     }
 }
 
-/// The bytes of a text.
-pub fn bytes_of(text: &Text) -> Bytes<'_>
+// The bytes of a text.
+pub(crate) fn bytes_of(text: &Text) -> Bytes<'_>
     ensures { lent_text result ≡ owned_text text.now }
 {
     match text {

@@ -12,7 +12,7 @@ use noc_packet::{Flit, INDICES, MAX_BUFFER, Memory};
 use std::alloc::Global;
 use std::marker::Model;
 
-/// Where a ring begins in its slots, and how many flits it has.
+// Where a ring begins in its slots, and how many flits it has.
 #[derive(Clone, Copy, Debug)]
 struct Ends {
     head: u8,
@@ -40,7 +40,7 @@ impl Model for Bank {
     ghost invariant = { λ b. IsBank b.store.flits b.capacity b.rings b.ends × AreHeld b.store.filled b.capacity b.rings b.ends };
 }
 
-/// The place in a ring, for a place that may be past the ring's end once.
+// The place in a ring, for a place that may be past the ring's end once.
 fn wrapped(place: usize, capacity: usize) -> usize
     requires { place < capacity + capacity }
     ensures { result ≡ place % capacity }

@@ -13,9 +13,9 @@ use crate::sizes::{Sizes, escapes, resource_class};
 use noc_packet::ChannelSet;
 use noc_topo::{Kind, LINKS};
 
-/// The output channels by which a rule by coordinates leads a packet of this class, at this router and bound for `dst`;
-/// none by a table.
-pub fn named_set(map: &Map, rule: &Rule, class: usize, router: usize, dst: usize) -> ChannelSet
+// The output channels by which a rule by coordinates leads a packet of this class, at this router and bound for `dst`;
+// none by a table.
+pub(crate) fn named_set(map: &Map, rule: &Rule, class: usize, router: usize, dst: usize) -> ChannelSet
     requires class { class < map.now.frame.classes }
     requires router { router < nodes map.now.frame.shape }
     requires dst { dst < nodes map.now.frame.shape }
@@ -33,7 +33,7 @@ pub fn named_set(map: &Map, rule: &Rule, class: usize, router: usize, dst: usize
     set
 }
 
-/// The coordinates of a router and a destination, the port of dimension order between them, and the ports that come nearer.
+// The coordinates of a router and a destination, the port of dimension order between them, and the ports that come nearer.
 #[derive(Clone, Copy)]
 struct Way {
     here: [usize; 3],
@@ -61,7 +61,7 @@ impl Way {
         }
     }
 
-    /// Whether a rule leads along this port and channel.
+    // Whether a rule leads along this port and channel.
     fn leads(&self, frame: &Sizes, rule: &Rule, class: usize, port: usize, vc: usize) -> bool
         requires class { class < frame.now.classes }
         requires port { port < ports frame.now.shape }
@@ -75,7 +75,7 @@ impl Way {
         self.takes_port(rule, port) && self.takes_channel(frame, rule, class, port, vc)
     }
 
-    /// Whether a rule leads along this port, away from the destination.
+    // Whether a rule leads along this port, away from the destination.
     fn takes_port(&self, rule: &Rule, port: usize) -> bool
         requires towards { IfSome self.now.towards (λ port. port < LINKS) }
         ensures link { IsTrue result → port < LINKS }
@@ -89,7 +89,7 @@ impl Way {
         }
     }
 
-    /// Whether a rule takes this channel of a port that it takes.
+    // Whether a rule takes this channel of a port that it takes.
     fn takes_channel(
         &self,
         frame: &Sizes,
@@ -118,7 +118,7 @@ impl Way {
         }
     }
 
-    /// Whether an escape channel, by its place among those of its class, is taken along a port.
+    // Whether an escape channel, by its place among those of its class, is taken along a port.
     fn takes_escape(&self, frame: &Sizes, port: usize, place: usize) -> bool
         requires { port < LINKS }
         ensures { let f = frame.now in (r t v : ℕ) → IsWay f.shape self.now r t → place ≡ place_in_class f.vcs f.classes v → result ≡ is_escape_taken f.shape f.vcs f.classes (coordinates f.shape.radix r) (coordinates f.shape.radix t) port v }
@@ -133,7 +133,7 @@ impl Way {
         place == taken
     }
 
-    /// The half of a class's channels that the next hop along a port takes.
+    // The half of a class's channels that the next hop along a port takes.
     fn dateline_class(&self, port: usize) -> usize
         requires { port < LINKS }
         ensures { result ≡ dateline_class port (slice_index self.now.here (port / 2)) (slice_index self.now.there (port / 2)) }
@@ -144,7 +144,7 @@ impl Way {
         if crosses { 0 } else { 1 }
     }
 
-    /// Whether west first takes a port.
+    // Whether west first takes a port.
     fn is_west_first(&self, port: usize) -> bool
         ensures link { IsTrue result → port < LINKS }
         ensures value { result ≡ is_west_first self.now.here self.now.there port }
@@ -161,7 +161,7 @@ impl Way {
     }
 }
 
-/// Which of the link ports come nearer.
+// Which of the link ports come nearer.
 fn nearer_ports(map: &Map, here: &[usize; 3], there: &[usize; 3]) -> [bool; LINKS]
     requires here { EachIndex here.now (λ i. slice_index here.now i ≤ slice_index map.now.last i) }
     requires there { EachIndex there.now (λ i. slice_index there.now i ≤ slice_index map.now.last i) }
@@ -174,7 +174,7 @@ fn nearer_ports(map: &Map, here: &[usize; 3], there: &[usize; 3]) -> [bool; LINK
     nearer
 }
 
-/// Whether a link port leads along the shorter way in its dimension, or up where both are equally long.
+// Whether a link port leads along the shorter way in its dimension, or up where both are equally long.
 fn is_nearer(map: &Map, here: &[usize; 3], there: &[usize; 3], port: usize) -> bool
     requires port { port < LINKS }
     requires here { EachIndex here.now (λ i. slice_index here.now i ≤ slice_index map.now.last i) }
@@ -192,7 +192,7 @@ fn is_nearer(map: &Map, here: &[usize; 3], there: &[usize; 3], port: usize) -> b
     }
 }
 
-/// The port of dimension order: in the lowest dimension in which router and destination differ.
+// The port of dimension order: in the lowest dimension in which router and destination differ.
 fn dor_port(map: &Map, here: &[usize; 3], there: &[usize; 3]) -> Option<usize>
     requires here { EachIndex here.now (λ i. slice_index here.now i ≤ slice_index map.now.last i) }
     requires there { EachIndex there.now (λ i. slice_index there.now i ≤ slice_index map.now.last i) }

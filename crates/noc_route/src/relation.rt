@@ -110,7 +110,7 @@ impl Relation {
     }
 }
 
-/// A rule's sets at the entries that packets reach, or the first fault.
+// A rule's sets at the entries that packets reach, or the first fault.
 fn sets_of(alloc: Global, map: &Map, rule: &Rule) -> Result<Vec<ChannelSet>, RouteFault>
     requires { is_right map.now.frame.shape map.now.frame.vcs map.now.frame.classes rule.now ≡ true }
     ensures { MatchResult result (λ sets. IsRelationOfRule (routing_in map.now.frame rule.now) (routes_in map.now.frame sets.items)) (IsFaultOf (routing_in map.now.frame rule.now)) }
@@ -122,7 +122,7 @@ fn sets_of(alloc: Global, map: &Map, rule: &Rule) -> Result<Vec<ChannelSet>, Rou
     Ok(sets)
 }
 
-/// Writes a rule's sets at the entries that packets reach, or answers the first fault; `outs` is room.
+// Writes a rule's sets at the entries that packets reach, or answers the first fault; `outs` is room.
 fn fill(
     map: &Map,
     rule: &Rule,
@@ -144,7 +144,7 @@ fn fill(
     }
 }
 
-/// Writes a rule's sets, or answers the fault of the first bad row.
+// Writes a rule's sets, or answers the fault of the first bad row.
 fn enter(map: &Map, rule: &Rule, sets: &mut [ChannelSet]) -> Result<(), RouteFault>
     requires right { is_right map.now.frame.shape map.now.frame.vcs map.now.frame.classes rule.now ≡ true }
     requires long { length sets.old ≡ pages map.now.frame.shape map.now.frame.classes * width map.now.frame.shape map.now.frame.vcs }

@@ -47,7 +47,7 @@ impl Model for Shape {
     ghost inverse = { shape_with };
 }
 
-/// Whether the ends of a dimension are joined.
+// Whether the ends of a dimension are joined.
 fn are_joined(kind: Kind) -> bool
     ensures { result ≡ wraps_of kind }
 {

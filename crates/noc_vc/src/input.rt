@@ -55,7 +55,7 @@ impl Model for InputChannel {
     ghost inverse = { λ input. record { state = input.phase; packet = input.packet; awaited = input.awaited } };
 }
 
-/// Whether a flit is a head that may begin on this channel of the router.
+// Whether a flit is a head that may begin on this channel of the router.
 fn may_begin(relation: &Relation, router: usize, port: usize, vc: usize, flit: &Flit) -> bool
     requires router { router < nodes relation.now.grid }
     requires port { port < ports relation.now.grid }
@@ -70,7 +70,7 @@ fn may_begin(relation: &Relation, router: usize, port: usize, vc: usize, flit: &
         && !relation.permitted(class, router, port, vc, dst).is_empty()
 }
 
-/// Whether a flit is the one that is awaited.
+// Whether a flit is the one that is awaited.
 fn is_awaited(flit: &Flit, awaited: &Awaited) -> bool
     ensures { result ≡ is_awaited flit.now (Some awaited.now) }
 {
@@ -81,7 +81,7 @@ fn is_awaited(flit: &Flit, awaited: &Awaited) -> bool
         && (flit.index as u32) < MAX_LENGTH
 }
 
-/// The flit behind a flit in its packet; None behind the tail.
+// The flit behind a flit in its packet; None behind the tail.
 fn next_of(flit: &Flit) -> Option<Awaited>
     ensures { result ≡ next_of flit.now }
 {
@@ -124,7 +124,7 @@ impl InputChannel {
         self.packet
     }
 
-    /// Whether the flit is the one that this channel expects next.
+    // Whether the flit is the one that this channel expects next.
     fn expects(
         &self,
         bank: &Bank,
