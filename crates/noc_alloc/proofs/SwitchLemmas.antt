@@ -99,7 +99,7 @@ turned-more before after picks wins i (Some q) e l same inside h k u = at (cases
 abbrev pub AreTurnedBelow : List RoundRobin → List (Option ℕ) → ℕ → List RoundRobin → Type 0
 AreTurnedBelow before wins i after = (k : ℕ) → arbiter_at after k ≡ (if nat_lt k i then arbiter_after (arbiter_at before k) (get_or wins k None) else arbiter_at before k)
 
--- .. one more
+-- one arbiter more has gone on
 pub turned_below-more : (before after : List RoundRobin) (wins : List (Option ℕ)) (i : ℕ) (new : RoundRobin) → i < length after → new ≡ arbiter_after (arbiter_at before i) (get_or wins i None)
     → AreTurnedBelow before wins i after → AreTurnedBelow before wins (i + 1) (set after i new)
 turned_below-more before after wins i new l is so_far k = at (cases_eq k i) (cases_lt k i)
@@ -116,7 +116,7 @@ turned_below-more before after wins i new l is so_far k = at (cases_eq k i) (cas
         get_or-set_other after i k new (record { size = 0; pointer = 0 }) other ∙ so_far k
         ∙ ap (λ b. if b then arbiter_after (arbiter_at before k) (get_or wins k None) else arbiter_at before k) (le-ltb k i more ∙ sym (le-ltb k (i + 1) (omega arith)))
 
--- .. all of them
+-- all arbiters have gone on
 pub turned_below-all : (before after : List RoundRobin) (wins : List (Option ℕ)) (i : ℕ) → length before ≤ i → length after ≡ length before
     → AreTurnedBelow before wins i after → after ≡ arbiters_after_winners (λ k. get_or wins k None) before
 turned_below-all before after wins i all same turns =

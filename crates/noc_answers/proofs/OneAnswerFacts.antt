@@ -109,7 +109,7 @@ module _ (a : Asked) where
           let rule : x.routing ≡ moved.routing = cc in
           one-generated g s.channels s.classes moved.routing k j (subst (λ r. IsGenerated g s.channels s.classes r k) rule x.generated) moved.generated
 
-  -- the same text, with the same status
+  -- two texts are equal, and so are their statuses
   abbrev Same : List ℕ → List ℕ → Status → Status → Type 0
   Same text other status end = (text ≡ other) × (status ≡ end)
 

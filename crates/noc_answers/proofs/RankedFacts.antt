@@ -58,7 +58,7 @@ pub ends-done : (workers : ℕ) (r : Request) (Wrote : List ℕ → Result (Unit
 ends-done workers r Wrote IsUnwritten IsFirst (Ok status) e ranked = asks-done r e.0 status ranked e.1
 ends-done workers r Wrote IsUnwritten IsFirst (Err f) e ranked = tt
 
--- the same of a request that is to drain: every packet has arrived
+-- a request for a ranked run that is to drain ends with every packet arrived
 run-drained : (a : Asked) (run : Run) (text : TextValue) → checked_ranks a ≡ Some text → runs_until_out a.command ≡ true → AsksForRun a run → are_all_out run.net (state_at run.net run.count) ≡ true
 run-drained a run text checked drains asks =
     let accepts : Accepts asks.routes text = subst (λ (o : Option TextValue). IfSome o (Accepts asks.routes)) checked asks.before.accepted in

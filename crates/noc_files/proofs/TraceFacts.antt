@@ -63,7 +63,7 @@ has_more set k = ap (list_any (has_bit set)) (below_more k) ∙ list_any-append 
 -- ---- what is said of channels alike is alike
 
 module _ (relation : Routes) (f h : ℕ → ℕ → ℕ → List ℕ) where
-  -- the same is said of each channel of a router
+  -- what is said of each channel of a router is alike
   abbrev AreSame : ℕ → Type 0
   AreSame r = (port vc : ℕ) → port < ports relation.grid → vc < relation.vcs → f r port vc ≡ h r port vc
 
@@ -193,7 +193,7 @@ cycle_is u traced rows first n count kept known =
     traced_same u.net.relation (kept_line u traced rows n) (traced_line u.net traced first n) traced.router known
     (λ r l port vc p v. kept_is u traced rows first n r port vc count kept l (flat-below port (ports u.net.relation.grid) vc u.net.relation.vcs p v))
 
--- the same where the run has the network and the trace is of what it was at first
+-- the lines of the last cycle of a run, where the run has the network and the trace is of what it was at first
 pub cycle_written : (u : Run) (net : Setup) (now traced : Traced) (rows : List (List Finding)) (first n at : ℕ) → u.net ≡ net → now ≡ traced → at ≡ n → u.count ≡ n + 1 → IsKept net traced first n rows
     → IfSome traced.router (λ r. r < nodes net.relation.grid) → over_traced u.net.relation now.router (kept_line u now rows at) ≡ cycle_text net traced first n
 cycle_written u net now traced rows first n at same as_before numbered count kept known =

@@ -26,7 +26,7 @@ pub record Base : Type 0 where
   pub next_take : ℕ → ℕ → ℕ
   pub next_put : ℕ → ℕ → ℕ
 
--- .. all a number of cycles after a count
+-- the cycles at which a router and its links are seen, all a number of cycles after a count
 abbrev pub base_after : ℕ → List Event → Base
 base_after count events = record { seen = λ r. count + decides r events; next_take = λ r port. count + takes r port events; next_put = λ r port. count + 1 + puts r port events }
 
@@ -48,7 +48,7 @@ base_with b e = record {
   next_put = λ r port. b.next_put r port + one_if (is_put r port e);
 }
 
--- .. after many
+-- the base after many events
 abbrev base_further : Base → List Event → Base
 base_further b es = record {
   seen = λ r. b.seen r + decides r es;

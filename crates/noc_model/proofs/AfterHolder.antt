@@ -78,7 +78,7 @@ module _ (net : Setup) (good : IsGood net) (F : State) (x : IsOrderedFrozen net 
     pub owned : Has (o, p) T.own
     pub same : seen_source net T r o ≡ seen_source net F r o
 
-  -- .. where its tail does not leave the channel before it
+  -- the source of an output channel stays where its tail does not leave the channel before it
   pub source-kept : (r j p : ℕ) (o : Channel) → leaving net r j ≡ o → Has (o, p) F.own → ((a u : ℕ) → o ≡ Inject a u → ⊥) → (tail_place net F p ≡ In o → ⊥) → is_past net o (goal net p) (tail_place net F p) ≡ false
       → ((c : Channel) → Next net good F x n p c o → Has (c, p) F.own → tail_leaves net F c ≡ false) → KeepsSource r o p
   source-kept r j p o from own none not_in behind stays =

@@ -69,7 +69,7 @@ module _ (net : Setup) (good : IsGood net) (F : State) (x : IsOrderedFrozen net 
           let y = comes o m.0 m.1 (ap (λ (z : Located). is_on o z.place) m.2 ∙ r.2) in
           absurd (never y.0 m.0.packet m.0.index y.1)
 
-  -- .. and just one flit where one moves to it
+  -- just one flit comes on the wire of a channel to which one moves
   pub on-one : (o : Channel) (f : Located) → Has f F.at → is_on o (step net good F x n f).place ≡ true → count_on net T o ≡ 1
   unfolding after_verdicts
   on-one o f h e = at (count_on net T o) refl

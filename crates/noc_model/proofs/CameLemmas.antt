@@ -27,7 +27,7 @@ module _ (net : Setup) where
   Came p (Inject n v) = Unit {0}
   Came p (Eject n v) = (d : Channel) × IsTrue (permits net.relation (class_of net p) d (goal net p) (Eject n v))
 
-  -- .. each owner to what it owns
+  -- the relation let each owner go on to what it owns, or the owner began there
   pub record IsLed (S : State) : Type 0 where
     pub came : (c : Channel) (p : ℕ) → Has (c, p) S.own → Came p c
 
@@ -94,6 +94,6 @@ module _ (net : Setup) where
     pub ejects-home : (n v p : ℕ) → Has (Eject n v, p) S.own → n ≡ goal net p
     ejects-home n v p h = let d = led.came (Eject n v) p h in permits-home net.relation relation (class_of net p) d.0 (goal net p) n v d.1
 
-    -- .. and one of the virtual channels there
+    -- an ejection channel of a packet is one of the virtual channels at its destination
     pub eject-low : (n v p : ℕ) → Has (Eject n v, p) S.own → v < net.relation.vcs
     eject-low n v p h = let d = led.came (Eject n v) p h in (PermitsEject-from_test net.relation (class_of net p) d.0 (goal net p) n v d.1).vc

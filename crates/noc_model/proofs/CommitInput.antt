@@ -152,7 +152,7 @@ module _ (net : Setup) (good : IsGood net) (F : State) (x : IsOrderedFrozen net 
           let z : count_in net F c ≡ 0 = ap length (find-empty (λ (f : Located). is_in c f.place) F.at k) in
           absurd (false≢true (ap (nat_lt 0) (sym z) ∙ e))
 
-  -- .. is of the owner of the channel
+  -- the first flit of a buffer is of the owner of the channel
   pub first-packet : (c : Channel) (p : ℕ) (f : Located) → owner_of net F c ≡ Some p → front_in net F c ≡ Some f → f.packet ≡ p
   first-packet c p f own e =
       let m : Has f (buffer_of net F c) = Has-kept (λ (g : Located). is_in c g.place) f F.at (find-has (λ (g : Located). is_in c g.place) F.at f e) (find-passes (λ (g : Located). is_in c g.place) F.at f e) in

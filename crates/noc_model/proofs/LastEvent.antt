@@ -208,7 +208,7 @@ module _ (net : Setup) where
       by false h (inl below) rest = rest below
       by false h (inr past) rest = let same : m ≡ n = omega arith in absurd (false≢true (sym h ∙ ap (λ x. has_event_at net x r) (sym same) ∙ e))
 
-  -- the same of the network
+  -- no event of the network is later
   last-of : (n m : ℕ) → last_event_before net n ≡ Some m → (m < n) × (0 < events net m (state_at net m))
   last-of zero m e = absurd (cc e)
   last-of (suc n) m e = by (nat_lt 0 (events net n (state_at net n))) refl e (last-of n m)

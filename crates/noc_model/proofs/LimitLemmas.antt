@@ -32,7 +32,7 @@ module _ (limit : ℕ) where
       let none : one_if post.decided ≡ 0 = not-decided post.decided free.0 in
       omega arith
 
-  -- .. so an event leaves all within it
+  -- an event leaves all routers within the limit
   pub happens-within : (k : CoreState) (e : Event) → IsInStep limit k → AreWithin limit k → is_ready limit k e ≡ true → AreWithin limit (happens k e)
   happens-within k e sound there ready r post at = by e (moves limit k e r post sound ready at).0 (moves limit k e r post sound ready at).1 ready (moves limit k e r post sound ready at).2.cycle
     where

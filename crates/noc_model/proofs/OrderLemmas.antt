@@ -316,7 +316,7 @@ module _ (limit n : ℕ) (k : CoreState) (sound : IsInStep limit k) (all : are_b
           ∙ ap (λ c. map (λ m. beat_at (lockstep_at k.net m).wires r port) (range_with_len n c)) one
           ∙ sym (ap (λ b. if b then beat_at (lockstep_at k.net n).wires r port ∷ [] else []) (linked_when k.net r port (s, q) e))
 
-  -- .. is one that begins at that count
+  -- a router of such a core begins at that count
   rests : (r : ℕ) (post : Post) (view : View) → post_at k r ≡ Some post → slice_get (lockstep_at k.net n).views r ≡ Some view
       → post ≡ resting_post k.net view n (lockstep_wires k.net n r)
   rests r post view at seen =

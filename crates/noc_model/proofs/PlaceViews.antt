@@ -89,7 +89,7 @@ module _ (net : Setup) (good : IsGood net) where
       Has-flat_mapped (λ r. filter_map (input_at net.relation.grid vcs r) (below (ports net.relation.grid * vcs))) r c (below (nodes net.relation.grid)) (below-has r (nodes net.relation.grid) at.router)
       (Has-filter_mapped (input_at net.relation.grid vcs r) i c (below (ports net.relation.grid * vcs)) (below-has i (ports net.relation.grid * vcs) at.index) at.found)
 
-  -- .. and no ejection channel
+  -- a channel that arrives is no ejection channel
   pub not-eject : {r i : ℕ} {c : Channel} → IsAt r i c → IsEject c → ⊥
   not-eject {r = r} {i = i} {c = Link a b u} at e = e
   not-eject {r = r} {i = i} {c = Inject a u} at e = e

@@ -81,7 +81,7 @@ module _ (net : Setup) (good : IsGood net) (F : State) (x : IsOrderedFrozen net 
   pub port-idle : (port o p j : ℕ) (c : Channel) → o < size net → o / net.relation.vcs ≡ port → mover v.site D.round port ≡ None → Moves net good F x n p j c (leaving net r o) → ⊥
   port-idle port o p j c u to e m = let k = port-of o p j c u m in none-some k.0 (sym e ∙ ap (mover v.site D.round) (sym to) ∙ k.1)
 
-  -- .. and where a flit moves by a port, it moves to one of them alone
+  -- where a flit moves by a port, it moves to one of its channels alone
   pub port-one : (port o i q p j : ℕ) (c : Channel) → q < size net → q / net.relation.vcs ≡ port → mover v.site D.round port ≡ Some i → view_claim v i ≡ Holds o true → Moves net good F x n p j c (leaving net r q) → q ≡ o
   port-one port o i q p j c u to e claim m =
       let k = port-of q p j c u m in

@@ -32,7 +32,7 @@ pub tabulate_none : {X : Type 0} (f : ℕ → X) → [] ≡ tabulate 0 f
 unfolding tabulate below
 tabulate_none f = refl
 
--- .. and one router more
+-- one router more
 pub tabulate_more : {X : Type 0} (n : ℕ) (f : ℕ → X) → tabulate (n + 1) f ≡ tabulate n f ++ f n ∷ []
 unfolding tabulate
 tabulate_more n f = ap (map f) (below-next n) ∙ map_push f (below n) n
@@ -73,7 +73,7 @@ module _ (net : Setup) where
       rw row refl)
       (cases_lt r (nodes net.relation.grid))
 
-  -- .. and so are those past the routers
+  -- the wires past the routers are idle
   pub past_wires : (n r port : ℕ) → nodes net.relation.grid ≤ r → beat_at (lockstep_at net n).wires r port ≡ idle_beat
   past_wires n r port past =
       let row : beats_at (lockstep_at net n).wires r ≡ [] = get_or_past (lockstep_at net n).wires r [] (let c = count_rows n in omega arith) in

@@ -62,7 +62,7 @@ taken-idle : (relation : Routes) (port : ℕ) (beat : Beat) (v : View) → beat 
 unfolding view_after_take
 taken-idle relation port beat v idle = ap (λ b. with_credit port b.credit (with_flit relation port b.flit v)) idle
 
--- .. nor do idle beats at all ports
+-- idle beats at all ports change nothing
 taken-silent : (relation : Routes) (port : ℕ) (beats : List Beat) (v : View) → IsSilent beats → view_after_takes_from relation port beats v ≡ v
 taken-silent relation port [] v silent = refl
 taken-silent relation port (beat ∷ beats) v silent =

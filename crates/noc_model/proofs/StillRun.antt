@@ -41,7 +41,7 @@ planned-counts : (relation : Routes) (counts : List (List ℕ)) (n : ℕ) (v : V
 unfolding decisions_of view_round
 planned-counts relation counts n v = refl
 
--- .. nor of what is injected
+-- counts, and the cycle that was last, change nothing of what is injected
 abbrev but_counts : List (List ℕ) → View → View
 but_counts counts v = record v { counts = counts }
 
@@ -167,7 +167,7 @@ module _ (net : Setup) where
       ∙ local_step-view net.relation old (beats_at (lockstep_at net n).wires r) n in
       subst IsBetween (sym now) (between-decided net.relation n (beats_at (lockstep_at net n).wires r) old)
 
-  -- .. and so are routers in step with it
+  -- routers in step with the lockstep run are between their cycles
   between-unseen : (n : ℕ) (routers : List View) (beats : List (List Beat)) → AreInStepUnseen net n routers beats → All IsBetween routers
   between-unseen n routers beats in_step r d l =
       let views = (lockstep_at net n).views in

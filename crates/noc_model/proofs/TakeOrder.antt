@@ -47,7 +47,7 @@ acted-swapped fit fit' change change' v misfit misfit' kept' kept same apart apa
 
 -- ---- a flit and a credit
 
--- .. and the view then
+-- the view after it
 abbrev land : ℕ → ℕ → Flit → View → View
 land port vc f v = with_landed (port * v.site.vcs + vc) f v
 
@@ -55,7 +55,7 @@ land port vc f v = with_landed (port * v.site.vcs + vc) f v
 abbrev arrives : ℕ → ℕ → View → Bool
 arrives port vc v = has_link v.site port && nat_lt vc v.site.vcs && credit_fits (view_output v (port * v.site.vcs + vc))
 
--- .. and the view then
+-- the view after the credit
 abbrev arrive : ℕ → ℕ → View → View
 arrive port vc v = record v { outputs = slice_set v.outputs (port * v.site.vcs + vc) (output_after_credit (view_output v (port * v.site.vcs + vc))); had_event = true }
 
@@ -130,7 +130,7 @@ land-swapped p q a b f g v apart =
     ∙ sym (ap (λ flits. record (land p a f v) { buffers = slice_set (slice_set v.buffers i new') j (flits ++ g ∷ []); inputs = slice_set (slice_set v.inputs i input') j (input_after_land (view_input (land p a f v) j) g) })
     (get_or-set_other v.buffers i j new' [] (λ e. apart (sym e))))
 
--- .. and so do two credits
+-- two credits come in any order
 arrive-swapped : (p q a b : ℕ) (v : View) → p * v.site.vcs + a ≢ q * v.site.vcs + b → arrive p a (arrive q b v) ≡ arrive q b (arrive p a v)
 arrive-swapped p q a b v apart =
     let i = p * v.site.vcs + a in

@@ -78,7 +78,7 @@ findings-frozen findings relation n beats v =
     ap (view_after_inject n) (findings-taken_from findings relation 0 beats v)
     ∙ (let w = view_after_takes_from relation 0 beats v in findings-injected_from findings n w.queue w.sending (record w { given = n }))
 
--- .. has the findings that were there before
+-- the view from which all is decided has the findings that were there before
 pub frozen-findings : (relation : Routes) (n : ℕ) (beats : List Beat) (v : View) → (view_after_inject n (view_after_takes relation beats v)).findings ≡ v.findings
 frozen-findings relation n beats v = ap (λ (w : View). w.findings) (findings-frozen v.findings relation n beats v)
 
@@ -111,7 +111,7 @@ map_indexed-of f u g xs d same =
     ∙ ap (g i) (sym (get_or-map u xs i d (u d) in_xs))
     ∙ sym (get_or-map_indexed g (map u xs) i (u d) e (omega (arith, length-map xs u))))
 
--- .. and what k leaves of it may be left by another f too
+-- what is done to each element, where what k leaves of it may be left by another f too
 map-map_indexed : {X Y Z : Type 0} (k : Y → Z) (f g : ℕ → X → Y) (xs : List X) (d : X) (y : Y) → ((i : ℕ) (x : X) → k (f i x) ≡ k (g i x)) → map k (map_indexed f xs) ≡ map k (map_indexed g xs)
 map-map_indexed k f g xs d y same = map_map_indexed k f k g xs d y y (λ i x l. same i x)
 
@@ -134,7 +134,7 @@ module _ (net : Setup) where
   abbrev seen_half : ℕ → List (List Beat) → ℕ → View → View
   seen_half n beats r v = view_after_decide net.relation n (incoming net.relation.grid (beats_at beats r)) v
 
-  -- .. and without
+  -- the first half of cycle n of router r over these beats, without its findings
   abbrev unseen_half : ℕ → List (List Beat) → ℕ → View → View
   unseen_half n beats r v = unseen_after_decide net.relation n (incoming net.relation.grid (beats_at beats r)) v
 
@@ -185,7 +185,7 @@ module _ (net : Setup) where
         wires = next_wires net n beats beats_after in_step.wires count (λ r port l. put r port l ∙ ap (λ (vs : List View). beat_from (map (λ (v : View). v.to_put) vs) (neighbour net.relation.grid r port)) is_halfway);
       }
 
-  -- .. and one whose findings nobody reads
+  -- a cycle whose findings nobody reads
   pub next-unseen : (n : ℕ) (routers half after : List View) (beats beats_after : List (List Beat)) → AreInStepUnseen net n routers beats
       → half ≡ map_indexed (unseen_half n beats) routers → after ≡ map view_after_puts half → length beats_after ≡ nodes net.relation.grid
       → ((r port : ℕ) → r < nodes net.relation.grid → beat_at beats_after r port ≡ beat_from (map (λ (v : View). v.to_put) half) (neighbour net.relation.grid r port))

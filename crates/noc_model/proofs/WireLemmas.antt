@@ -150,7 +150,7 @@ left-more rest rest' k before after members l left port =
 pub left-at : (rest k : ℕ) (before after : List Beat) → AreLeft rest before after → has_bit rest k ≡ true → get_or after k idle_beat ≡ get_or before k idle_beat
 left-at rest k before after left e = left k ∙ ap (λ b. if b then get_or before k idle_beat else idle_beat) e
 
--- .. and in the end none is left
+-- in the end no port is left
 pub left-none : (rest n : ℕ) (before after : List Beat) → ((p : ℕ) → has_bit rest p ≡ false) → length after ≡ n → AreLeft rest before after → after ≡ replicate n idle_beat
 left-none rest n before after none count left =
     ext_get_or idle_beat after (replicate n idle_beat) (count ∙ sym (length-replicate n idle_beat))

@@ -179,7 +179,7 @@ taken-part relation first routers beats now after wires i r port one left so_far
         ap (λ (row : List Beat). view_after_takes relation (incoming relation.grid row) (get_or after k d)) (get_or-set_other wires r (first + k) (set (get_or wires r []) port left) [] (λ e. n (omega (arith, e, at))))
         ∙ ap (view_after_takes relation (incoming relation.grid (beats_at wires (first + k)))) (kept k d n)
 
--- .. its flit
+-- one router takes the flit of a beat
 pub flit-part : (relation : Routes) (port : ℕ) (beat : Beat) (w : View)
     → view_after_take relation port (record beat { flit = None }) (view_after_take relation port (record { flit = beat.flit; credit = None }) w) ≡ view_after_take relation port beat w
 unfolding view_after_take
@@ -189,7 +189,7 @@ pub flit-alone : (relation : Routes) (port : ℕ) (flit : Option (ℕ × Flit)) 
 unfolding view_after_take
 flit-alone relation port flit w = refl
 
--- .. or its credit, where it has no flit
+-- one router takes the credit of a beat that has no flit
 pub credit-part : (relation : Routes) (port : ℕ) (beat : Beat) (w : View) → beat.flit ≡ None
     → view_after_take relation port (record beat { credit = None }) (view_after_take relation port (record { flit = None; credit = beat.credit }) w) ≡ view_after_take relation port beat w
 unfolding view_after_take
@@ -235,7 +235,7 @@ taken-flit relation first routers beats now after wires r port so_far at count e
     taken-part relation first routers beats now after wires (r - first) r port (record { flit = beat.flit; credit = None }) (record beat { flit = None }) so_far (omega (arith, at.from)) at.router at.row at.link at.port_of_row (flit-part relation port beat) count
     (λ k d. each k d ∙ ap (λ (w : View). if nat_eq k (r - first) then w else get_or now k d) (sym (flit-alone relation port beat.flit (get_or now k d))))
 
--- .. its credit, where no flit came
+-- one router takes its credit of a port where no flit came
 pub taken-credit : (relation : Routes) (first : ℕ) (routers : List View) (beats : List (List Beat)) (now after : List View) (wires : List (List Beat)) (r port : ℕ)
     → HaveTaken relation first routers beats now wires → IsThere relation first now wires r port → (beat_at wires r port).flit ≡ None → length after ≡ length now
     → ((k : ℕ) (d : View) → get_or after k d ≡ (if nat_eq k (r - first) then with_credit port (beat_at wires r port).credit (get_or now k d) else get_or now k d))
@@ -293,7 +293,7 @@ taken-all relation first routers beats routers' beats' view_after_take silent =
     sym (taken_end relation relation.grid (beats_at beats' (first + r)) (get_or routers' r d) (silent (first + r))) ∙ view_after_take.rest r d (omega (arith, view_after_take.count, l))
     ∙ sym (get_or-map_indexed (λ (r : ℕ) (v : View). view_after_takes relation (incoming relation.grid (beats_at beats (first + r))) v) routers r d d (omega (arith, view_after_take.count, l))))
 
--- .. where the first is that of the network
+-- routers that have taken all, where the first is that of the network
 pub from-zero : (grid : Grid) (wires : List (List Beat)) (g : List Beat → View → View) (routers : List View)
     → map_indexed (λ (r : ℕ) (v : View). g (incoming grid (beats_at wires (0 + r))) v) routers ≡ map_indexed (λ (r : ℕ) (v : View). g (incoming grid (beats_at wires r)) v) routers
 from-zero grid wires g routers =
@@ -316,7 +316,7 @@ pub concluded-decided : (relation : Routes) (n : ℕ) (beats : List Beat) (v : V
 unfolding view_after_decide
 concluded-decided relation n beats v = refl
 
--- .. of all routers
+-- the first half of a cycle of all routers is to take, and then to go on
 pub all-halves : (relation : Routes) (first : ℕ) (wires : List (List Beat)) (f : View → View) (g : List Beat → View → View) (routers view_after_take now : List View)
     → ((beats : List Beat) (v : View) → f (view_after_takes relation beats v) ≡ g beats v)
     → view_after_take ≡ map_indexed (λ (r : ℕ) (v : View). view_after_takes relation (incoming relation.grid (beats_at wires (first + r))) v) routers → now ≡ map f view_after_take

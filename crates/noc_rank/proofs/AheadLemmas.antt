@@ -252,7 +252,7 @@ module _ (routes : Routes) (built : IsRelation routes) (ranks marks : List (Opti
               subst (IsLeastOf (Ahead x p v)) (sym (get_or-set_other least (rank_index g routes.vcs a o (i % routes.vcs)) (rank_index g routes.vcs x p v) value None other))
               (old.each x p v r s known to (kept other before))
 
-  -- the same order of channels, with other words
+  -- the order of channels in other words
   pub least-onward : (d b i e c j : ℕ) (least : List (Option ℕ)) → ((r q w : ℕ) → r < nodes g → q < local_port g → w < routes.vcs → is_some (neighbour g r q) ≡ true → IsBefore routes t e c j r (q * routes.vcs + w) → IsBefore routes t d b i r (q * routes.vcs + w))
       → AreLeast routes ranks marks m t d b i least → AreLeast routes ranks marks m t e c j least
   least-onward d b i e c j least back old = record {

@@ -39,7 +39,7 @@ module _ (routes : Routes) (built : IsRelation routes) where
       let k = p * routes.vcs + v in
       (k, ap (λ x. has_bit (set_at routes m x q w t) k) (sym same.0) ∙ ap (λ x. has_bit (set_at routes m b x w t) k) (sym same.1) ∙ ap (λ x. has_bit (set_at routes m b e.in_port x t) k) (sym vc) ∙ e.member)
 
-  -- the same of a link channel, by its index
+  -- what is permitted of a link channel is a member of the set, by its index
   pub link-member : (m : ℕ) (c : Channel) (t r p v q w : ℕ) → permits routes m c t (Link r p v) ≡ true → arrival_of routes.grid c ≡ Some (r, q) → channel_vc c ≡ w
       → has_bit (set_at routes m r q w t) (p * routes.vcs + v) ≡ true
   link-member m c t r p v q w h arrives vc =

@@ -16,7 +16,11 @@ use std::thread::Threads;
 
 // The first entry, in the order of class, router, input port and channel, and destination, to which packets come, away from
 // their destination, and at which no channel with a rank is permitted. Looks at the entries in parallel.
-pub(crate) fn first_bare(rt: &(impl Threads + Sync), relation: &Relation, ranks: &Ranks) -> Option<Entry>
+pub(crate) fn first_bare(
+    rt: &(impl Threads + Sync),
+    relation: &Relation,
+    ranks: &Ranks,
+) -> Option<Entry>
     requires shape { relation.now.grid ≡ ranks.now.grid }
     requires vcs { relation.now.vcs ≡ ranks.now.vcs }
     ensures { MatchOption result (HasEscapes relation.now ranks.now) (IsFirstBare relation.now ranks.now) }

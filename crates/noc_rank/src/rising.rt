@@ -20,7 +20,11 @@ use std::thread::Threads;
 // The first step of the relation from one channel with a rank to the next that does not rise, in the order of class,
 // router, input port and channel, destination, output port and channel. Looks at the entries in parallel and takes no
 // memory.
-pub(crate) fn first_fall(rt: &(impl Threads + Sync), relation: &Relation, ranks: &Ranks) -> Option<Fall>
+pub(crate) fn first_fall(
+    rt: &(impl Threads + Sync),
+    relation: &Relation,
+    ranks: &Ranks,
+) -> Option<Fall>
     requires shape { relation.now.grid ≡ ranks.now.grid }
     requires vcs { relation.now.vcs ≡ ranks.now.vcs }
     ensures { MatchOption result (IsRising relation.now (rank_at ranks.now)) (λ fall. IsFirstFall relation.now ranks.now fall.step fall.rank fall.next) }

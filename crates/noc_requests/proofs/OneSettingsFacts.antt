@@ -159,7 +159,7 @@ no_settings_fault a s routes f p asks bad = no_relation_at a s routes f p asks (
 -- ---- the first fault
 
 module _ (a : Asked) where
-  -- the same table's fault, or a fault of the same rule's relation
+  -- two faults of one table, or of the relation of one rule
   tables : (f k : Fault) (s t : Settings) (g h : Grid) → is_memory f ≡ false → is_memory k ≡ false → AsksForShape a s g → AsksForShape a t h → RefusesTable a.table g s.rule f → RefusesTable a.table h t.rule k → f ≡ k
   tables f k s t g h p q x y bad other =
       let same = same_shaped a s t g h x y in

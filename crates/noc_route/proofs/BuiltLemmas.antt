@@ -398,7 +398,7 @@ come-permits g sets left outs made unstuck m r t i come =
     some_member (set_in (table g left) m r t i) (width g.grid g.vcs)
     (λ k has. (member-leads g sets m r t i k made.entered within.0 within.1 (member-come g sets left outs made m r t i k within.0 within.1 has).1).0) free
 
--- the same by the entry's numbers
+-- where packets come, something is permitted, by the entry's numbers
 come-permits_at : (g : RelationParts) (sets left outs : List ℕ) → IsMade g sets left outs → IsUnstuck g left outs → (m r t p v : ℕ) → v < g.vcs → CanCome (table g sets) m t r (p * g.vcs + v)
     → (k : ℕ) × (has_bit (set_at (table g left) m r p v t) k ≡ true)
 come-permits_at g sets left outs made unstuck m r t p v l come =

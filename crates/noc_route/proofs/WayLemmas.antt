@@ -30,7 +30,7 @@ takes_channel-outside g vcs classes WestFirst m xs ts port v e = e
 takes_channel-outside g vcs classes Adaptive m xs ts port v e = rw e refl
 takes_channel-outside g vcs classes (Rows rows) m xs ts port v e = e
 
--- .. and each of its own by a rule with one sort of channel
+-- each channel of a class is taken by a rule with one sort of channel
 pub takes_channel-inside : (g : Grid) (vcs classes : ℕ) (rule : Rule) (m : ℕ) (xs ts : List ℕ) (port v : ℕ) → (rule ≡ Dateline → ⊥) → (rule ≡ Adaptive → ⊥)
     → is_in_block vcs classes m v ≡ true → takes_channel g vcs classes rule m xs ts port v ≡ true
 takes_channel-inside g vcs classes Dor m xs ts port v a b e = e

@@ -15,7 +15,13 @@ use noc_topo::{Kind, LINKS};
 
 // The output channels by which a rule by coordinates leads a packet of this class, at this router and bound for `dst`;
 // none by a table.
-pub(crate) fn named_set(map: &Map, rule: &Rule, class: usize, router: usize, dst: usize) -> ChannelSet
+pub(crate) fn named_set(
+    map: &Map,
+    rule: &Rule,
+    class: usize,
+    router: usize,
+    dst: usize,
+) -> ChannelSet
     requires class { class < map.now.frame.classes }
     requires router { router < nodes map.now.frame.shape }
     requires dst { dst < nodes map.now.frame.shape }

@@ -119,7 +119,7 @@ AreSound-changed size sets next buffers inputs outputs after i x flits s rings e
     owner k o u from (inl e) = omega arith
     owner k o u from (inr n) = s.owner_below k o u (sym (others k o u n) ∙ from)
 
--- .. where no output channel changes
+-- one input channel changes, and no output channel
 AreSound-input : (size : ℕ) (sets next : Sets) (buffers : List (List Flit)) (inputs : List Input) (outputs : List Output) (i : ℕ) (x : Input) (flits : List Flit)
     → AreSound size sets buffers inputs outputs → length buffers ≡ size → length inputs ≡ size → i < size
     → IsMarked sets.filled next.filled i (not (is_empty flits)) → IsMarked sets.waiting next.waiting i (is_waiting x.phase)
@@ -143,7 +143,7 @@ is_supplied-other outputs o y Idle e = refl
 is_supplied-other outputs o y (Waiting set) e = refl
 is_supplied-other outputs o y (Active q) e = ap has_credit (get_or-set_other outputs o q y ejection_output (λ same. false≢true (sym e ∙ eq-eqb q o same)))
 
--- .. where one output channel changes too, which no other input channel owns
+-- one input channel changes, and one output channel, which no other input channel owns
 AreSound-turned : (size : ℕ) (sets next : Sets) (buffers : List (List Flit)) (inputs : List Input) (outputs : List Output) (i o : ℕ) (x : Input) (flits : List Flit) (y : Output)
     → AreSound size sets buffers inputs outputs → length buffers ≡ size → length inputs ≡ size → length outputs ≡ size → i < size → o < size
     → IsMarked sets.filled next.filled i (not (is_empty flits)) → IsMarked sets.waiting next.waiting i (is_waiting x.phase)
@@ -417,7 +417,7 @@ AreSound-returned size sets idle buffers inputs outputs o out after s outs l mar
     none (Owned j p) e k = absurd (false≢true (sym e))
     none Draining e k = refl
 
--- .. and that still misses a credit
+-- a credit comes to an output channel that no packet owns and that still misses one
 pub AreSound-drained : (size : ℕ) (sets : Sets) (buffers : List (List Flit)) (inputs : List Input) (outputs : List Output) (o : ℕ) (out after : Output)
     → AreSound size sets buffers inputs outputs → length outputs ≡ size → o < size
     → out ≡ slice_index_or outputs o ejection_output → after ≡ output_after_credit out → after.holder ≡ Draining
@@ -604,7 +604,7 @@ AreSound-sent size sets next before after inputs outputs i o old new out left f 
     left_then true k e = spent-gone (slice_index_or outputs o ejection_output) k
     left_then false k e = ap (λ h. is_owned_from h k) (spent-kept (slice_index_or outputs o ejection_output)) ∙ e
 
--- .. and each channel that awaits a flit still does, since nothing is awaited behind a tail
+-- once a flit has left, each channel that awaits one still does, since nothing is awaited behind a tail
 pub KeepsAwaiting-sent : (size : ℕ) (sets : Sets) (before after : Buffers) (inputs : List Input) (outputs : List Output) (i : ℕ) (old new : Input) (f : Flit)
     → AreSound size sets before.rings inputs outputs → length inputs ≡ size → i < size
     → buffer_at before i ≡ f ∷ buffer_at after i → old ≡ slice_index_or inputs i idle_input → new ≡ input_after_send old f
@@ -648,7 +648,7 @@ occupied-is size sets buffers inputs outputs first all s firsts alls i l =
     at (Active o) true = refl
     at (Active o) false = refl
 
--- .. are below the size
+-- the input channels that hold a packet or a flit are below the size
 pub occupied-below : (size : ℕ) (sets : Sets) (buffers : List (List Flit)) (inputs : List Input) (outputs : List Output) (first all : ℕ)
     → AreSound size sets buffers inputs outputs
     → ((k : ℕ) → has_bit first k ≡ (has_bit sets.filled k || has_bit sets.waiting k)) → ((k : ℕ) → has_bit all k ≡ (has_bit first k || has_bit sets.active k))

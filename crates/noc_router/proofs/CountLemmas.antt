@@ -44,7 +44,7 @@ pub more-there : (b : Bool) (n j m : ℕ) (xs : List ℕ) → m ≢ j → get_or
 more-there true n j m xs other = get_or-set_other xs j m (get_or xs j 0 + n) 0 other
 more-there false n j m xs other = refl
 
--- .. its tail
+-- the tail of a list with n more in place j
 drop-risen : (a n : ℕ) (xs : List ℕ) → 0 < n → drop 1 (set xs n (get_or xs n 0 + a)) ≡ risen_by a n (drop 1 xs)
 drop-risen a zero xs l = absurd (omega arith)
 drop-risen a (suc k) xs l =
@@ -217,7 +217,7 @@ made-first counters i written counts same ten = record {
   so_far = omega arith;
 }
 
--- .. one more
+-- one channel more is counted
 pub made-more : (counters : Counters) (i j : ℕ) (written counts : List ℕ) (others cycles value others' : ℕ) → IsMade counters i j written counts others → 0 < j → j < 10 → length written ≡ 10
     → sum (drop 1 (whole_counts counters i written)) ≤ cycles → cycles < 2 ^ 64
     → value ≡ min (get_or counts j 0 + counter_has counters i j) (2 ^ 64 - 1) → others' ≡ min (others + get_or (set counts j value) j 0) (2 ^ 64 - 1)
@@ -240,7 +240,7 @@ made-more counters i j written counts others cycles value others' made some smal
     at_most k first l (inl same) e = subst (λ n. get_or (set counts j value) n 0 ≡ get_or (whole_counts counters i written) n 0) (sym same) e
     at_most k first l (inr other) e = get_or-set_other counts j k value 0 other ∙ made.done k first (omega arith)
 
--- .. all of them, and that of Empty
+-- all channels are counted, and Empty too
 pub made-last : (counters : Counters) (i j : ℕ) (written counts : List ℕ) (others cycles first : ℕ) → IsMade counters i j written counts others → 10 ≤ j → length written ≡ 10 → first ≡ cycles - others
     → set counts 0 first ≡ counts_in cycles (whole_counts counters i written)
 made-last counters i j written counts others cycles first made end ten is =

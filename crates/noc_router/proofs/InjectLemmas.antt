@@ -85,7 +85,7 @@ pub next_vc-begun : (n vc index : ℕ) (b : Bool) (v : View) → v.sending ≡ S
     → next_vc (record v { given = n }) ≡ (if b then Some vc else None)
 next_vc-begun n vc index b v begun room = ap (vc_from (record v { given = n }) (is_due_by (slice_get v.queue 0) n)) begun ∙ ap (λ x. if x then Some vc else None) room
 
--- .. or waits until a packet is due, or for a vacant channel
+-- the source waits until a packet is due, or for a vacant channel
 pub next_vc-waits : (n : ℕ) (v : View) → v.sending ≡ None → next_vc (record v { given = n }) ≡ (if is_due_by (slice_get v.queue 0) n then vacant_vc v else None)
 next_vc-waits n v waits = ap (vc_from (record v { given = n }) (is_due_by (slice_get v.queue 0) n)) waits
 
@@ -136,7 +136,7 @@ module _ (r : Inside) (due : ℕ) (is : IsRouter r) (e : next_due_of r.source.fr
   due-by : (n : ℕ) → is_due_by (slice_get (view_of r).queue 0) n ≡ nat_le due n
   due-by n = ap (λ front. is_due_by front n) front-is ∙ (due_of r.source.front due e).1 n
 
-  -- .. it has begun on this channel, and there is room or not
+  -- the packet in front has begun on this channel, and there is room or not
   module _ (vc : ℕ) (b : Bool) (begun : r.source.vc ≡ Some vc) (room : nat_lt (length (view_buffer (view_of r) (local_channel (view_of r).site vc))) r.places ≡ b) where
     next-begun : (n : ℕ) → next_vc (record (view_of r) { given = n }) ≡ (if b then Some vc else None)
     next-begun n = next_vc-begun n vc r.source.index b (view_of r) (ap (λ channel. sending_from channel r.source.index) begun) room
@@ -147,7 +147,7 @@ module _ (r : Inside) (due : ℕ) (is : IsRouter r) (e : next_due_of r.source.fr
     pub goes-begun : b ≡ true → (n : ℕ) → view_after_inject n (view_of r) ≡ record (view_of r) { given = n } → ⊥
     goes-begun some n = injected-goes n vc (view_of r) (next-begun n ∙ ap (λ x. if x then Some vc else None) some) some-front
 
-  -- .. it has not begun
+  -- the packet in front has not begun
   module _ (waits : r.source.vc ≡ None) where
     next-waits : (n : ℕ) → next_vc (record (view_of r) { given = n }) ≡ (if nat_le due n then vacant_vc (view_of r) else None)
     next-waits n = next_vc-waits n (view_of r) (ap (λ channel. sending_from channel r.source.index) waits) ∙ ap (λ b. if b then vacant_vc (view_of r) else None) (due-by n)

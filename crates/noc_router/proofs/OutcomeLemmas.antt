@@ -41,11 +41,11 @@ decisions-planned relation v =
     (λ i l. get_or-tabulate (size_of v.site) i f empty_finding l
     ∙ ap (λ x. found_with v x i) (get_or-tabulate (size_of v.site) i (λ k. (finding_of (view_round v) v k).verdict) Empty l)))
 
--- .. they are what is planned
+-- the decisions of an outcome are what is planned
 pub decisions-are : (relation : Routes) (p : Outcome) (v : View) → p ≡ outcome relation v → decisions_by p v ≡ decisions_of relation v
 decisions-are relation p v e = ap (λ x. decisions_by x v) e ∙ decisions-planned relation v
 
--- .. with the lists of a plan
+-- the decisions of an outcome have the lists of a plan
 pub lists_of : (p : Outcome) (v : View) → IsOutcomeOf p v → Lists (decisions_by p v) v
 lists_of p v is = let P : Decisions → Type 0 = λ d. Lists d v in subst P (sym (decisions-are is.relation p v is.is)) (lists_of_round is.relation v)
 
@@ -115,7 +115,7 @@ found-outcome p v n is e =
     tabulate-from_each (size_of v.site) (λ i. found_with v (outcome_verdict p i) i) (tabulate n f) empty_finding (length-tabulate n f ∙ e)
     (λ i l. get_or-tabulate n i f empty_finding (omega arith) ∙ outcome-finding p v i is l)
 
--- .. which leaves the outcome as it is
+-- counting leaves the outcome as it is
 outcome-counted : (relation : Routes) (d : Decisions) (v : View) → outcome relation v ≡ outcome relation (view_after_tally d v)
 unfolding outcome view_round
 outcome-counted relation d v = refl
@@ -153,7 +153,7 @@ can_take p v w rest rest' index whole is members member so_far =
     let P : Verdict → Type 0 = λ x. CanTakeEffect p w index x in
     subst P (decided-outcome p v index l) (can_settle p v w rest rest' index whole (lists_of p v is) members member so_far (outcome-ask p v index is l))
 
--- .. and is not left then
+-- a verdict that has taken effect is not left
 pub effect_more : (p : Outcome) (v w : View) (rest rest' index : ℕ) (new : View) → IsWhole v → IsOutcomeOf p v → ((k : ℕ) → has_bit rest' k ≡ (not (nat_eq k index) && has_bit rest k)) → has_bit rest index ≡ true
     → IsSettling (decisions_by p v) v rest w → new ≡ effect_of p index w (outcome_verdict p index) → IsSettling (decisions_by p v) v rest' new
 effect_more p v w rest rest' index new whole is members member so_far e =

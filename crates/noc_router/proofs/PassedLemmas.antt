@@ -320,7 +320,7 @@ can_move-turns turns w i Idle can = can
 can_move-turns turns w i (Waiting set) can = can
 can_move-turns turns w i (Active o) can = can
 
--- .. and can take effect whatever they are
+-- a verdict can take effect whatever the pointers are
 pub can_take-turns : (p : Outcome) (turns : ArbiterStates) (w : View) (i : ℕ) (x : Verdict) → CanTakeEffect p (with_turns turns w) i x → CanTakeEffect p w i x
 can_take-turns p turns w i Routed can = can
 can_take-turns p turns w i Granted can = can_grant-turns turns w i (get_or p.asks i None) can

@@ -60,7 +60,7 @@ outcome-parts relation v p round asks long verdicts routes =
     same_parts p.round (view_round v) p.asks _ p.verdicts _ p.routes _ round asks
     (tabulate-from_each (size_of v.site) (λ i. (finding_of (view_round v) v i).verdict) p.verdicts Empty long (λ k l. verdicts k l ∙ ap (λ r. (finding_of r v k).verdict) round)) routes
 
--- .. which is as long as it should be
+-- the outcome is as long as it should be
 pub outcome-lengths : (relation : Routes) (v : View) → IsDecidedFor (ports v.site.grid) v.site.vcs (outcome relation v)
 unfolding outcome view_round
 outcome-lengths relation v = record {
@@ -81,7 +81,7 @@ no_outcome-parts m vcs p round asks long verdicts routes =
     same_parts p.round _ p.asks _ p.verdicts _ p.routes _ round asks
     (ext_get_or Empty p.verdicts (replicate (m * vcs) Empty) (long ∙ sym (length-replicate (m * vcs) Empty)) (λ k l. verdicts k (omega arith) ∙ sym (get_or-replicate (m * vcs) k Empty Empty (omega arith)))) routes
 
--- .. is as long as it should be
+-- an outcome without requests is as long as it should be
 pub no_outcome-lengths : (m vcs : ℕ) → IsDecidedFor m vcs (no_outcome m vcs)
 no_outcome-lengths m vcs = record {
   grants = length-replicate _ _;
@@ -95,6 +95,6 @@ no_outcome-lengths m vcs = record {
 empty_event : (x : Verdict) → x ≡ Empty → is_event x ≡ true → ⊥
 empty_event x e h = false≢true (sym (ap is_event e) ∙ h)
 
--- .. and has no event
+-- an outcome without requests has no event
 pub no_event : (x : Verdict) (k n : ℕ) → x ≡ Empty → is_event x ≡ true → k < n
 no_event x k n e h = absurd (empty_event x e h)

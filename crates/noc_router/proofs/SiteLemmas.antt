@@ -118,7 +118,7 @@ closed_with turns v = record v { arbiters = turns; last_event = (if v.had_event 
 pub committed-is : (d : Decisions) (v : View) → closed_with (arbiters_after d.round v.arbiters) (view_after_verdicts d (view_after_tally d v)) ≡ record (view_after_commit d v) { findings = v.findings }
 committed-is d v = ap (closed_with (arbiters_after d.round v.arbiters)) (settled-parts d (view_after_tally d v)) ∙ sym (ap (λ (x : View). record x { findings = v.findings }) (committed-parts d v))
 
--- .. which are those of the plan
+-- the findings after a commit are those of the plan
 pub committed-shown : (d : Decisions) (v : View) → record (view_after_commit d v) { findings = d.findings } ≡ view_after_commit d v
 committed-shown d v = ap (λ (x : View). record x { findings = d.findings }) (committed-parts d v) ∙ sym (committed-parts d v)
 

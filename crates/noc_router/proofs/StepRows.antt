@@ -18,7 +18,7 @@ one_channel = record {
   sets = replicate 3 4 ++ replicate 3 1 ++ replicate 3 2 ++ replicate 3 4;
 }
 
--- .. two virtual channels, at the six input channels
+-- two nodes in a line with two virtual channels: the set at the six input channels
 abbrev pub two_channels : Routes
 two_channels = record {
   grid = record { wraps = false; radix = 2 ∷ [] };

@@ -103,7 +103,7 @@ verdicts-planned : (relation : Routes) (v : View) (k : ℕ) → outcome_verdict 
 unfolding outcome decisions_of
 verdicts-planned relation v k = sym (ap (λ xs. get_or xs k Empty) (map-tabulate (λ (f : Finding). f.verdict) (size_of v.site) (finding_of (view_round v) v)))
 
--- .. and so is what is counted by them
+-- what is counted by the verdicts of the outcome is what is counted by the decisions
 pub counted-planned : (relation : Routes) (v : View) (p : Outcome) → p ≡ outcome relation v → (count : Verdict → List ℕ → List ℕ) (counts : List (List ℕ))
     → map_indexed (λ i one. count (outcome_verdict p i) one) counts ≡ map_indexed (λ i one. count (decided_verdict (decisions_of relation v) i) one) counts
 counted-planned relation v p is count counts =

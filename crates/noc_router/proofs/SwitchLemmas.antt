@@ -35,7 +35,7 @@ use Rattle.noc_router.proofs.WayLemmas.{ready-members, ready-way}
 abbrev pub pick_on : View → ℕ → Option ℕ
 pick_on v q = pick_of (ready_of v.site.vcs (view_stands v)) v.site.vcs (pointers_of v.arbiters.inputs) q
 
--- .. and the output port to which it goes
+-- the output port to which the pick of an input port goes
 abbrev pub way_on : View → ℕ → Option ℕ
 way_on v q = picked_port (ready_of v.site.vcs (view_stands v)) v.site.vcs (tabulate (ports v.site.grid) (pick_on v)) q
 
@@ -60,7 +60,7 @@ pick-ready v ready q c are e =
     let r = first_in_turn-picks v.site.vcs (slice_index (pointers_of v.arbiters.inputs) q) c (λ x. is_some (get_or (ready_of v.site.vcs (view_stands v)) (q * v.site.vcs + x) None)) e in
     (r.1, ready-members v ready are (q * v.site.vcs + c) ∙ r.0)
 
--- .. and goes where its channel sends
+-- a pick goes where its channel sends
 pub way-pick : (v : View) (ready q c : ℕ) → AreReady v ready → q < ports v.site.grid → pick_on v q ≡ Some c → way_on v q ≡ way_of v (q * v.site.vcs + c)
 way-pick v ready q c are l e =
     let i : ℕ = q * v.site.vcs + c in
@@ -208,7 +208,7 @@ module _ (vcs q c o : ℕ) (way : ℕ → Option ℕ) (picks wins : List (Option
       (λ k e goes. ap (λ b. b || not (is_some_of (get_or wins o None) (k / vcs))) (ne_eqb k (q * vcs + c) (not_own k e)) ∙ ap (λ w. not (is_some_of w (k / vcs))) held)
       (λ k e. inl (eqb-true k (q * vcs + c) e))
 
-  -- .. or loses it
+  -- who has won it so far loses it
   lost-taken : (h : ℕ) → get_or wins o None ≡ Some h → (holder : IsHolder vcs q o way picks picked h)
       → (k : ℕ) → (is_loser (Some holder.channel) k || has_bit lost k) ≡ (has_bit more k && not (is_won_by (set wins o (Some q)) (k / vcs) (way k)))
   lost-taken h held holder =
@@ -341,7 +341,7 @@ allocated-none v q picks wins picked lost l long e so_far =
     subst (λ xs. IsAllocated v (q + 1) xs wins picked lost) (sym same)
     (allocated-to v q (q + 1) picks wins picked lost (omega arith) (omega arith) (λ j lj uj. let is : j ≡ q = omega arith in ap (pick_on v) is ∙ e) so_far)
 
--- .. or somebody, to whose output port it is offered
+-- an input port picks somebody, to whose output port it is offered
 pub allocated-next : (v : View) (ready q c o : ℕ) (picks wins : List (Option ℕ)) (picked more lost less : ℕ) → AreReady v ready → 0 < v.site.vcs → q < ports v.site.grid
     → length picks ≡ ports v.site.grid → length wins ≡ length v.arbiters.outputs → All (λ (t : RoundRobin). t.size ≡ ports v.site.grid) v.arbiters.outputs → o < length v.arbiters.outputs
     → pick_on v q ≡ Some c → way_of v (q * v.site.vcs + c) ≡ Some o
@@ -508,7 +508,7 @@ picks-below v ready next picks wins picked lost are long so_far k d l x e = at (
     at true pick = (pick-ready v ready k x are pick).0
     at false none = absurd (cc none)
 
--- .. of those that are ready
+-- each pick is one of those that are ready
 pub picked-among : (v : View) (ready : ℕ) (picks wins : List (Option ℕ)) (picked lost : ℕ) → AreReady v ready → 0 < v.site.vcs → IsAllocated v (ports v.site.grid) picks wins picked lost → AreAmong ready picked
 picked-among v ready picks wins picked lost are some so_far k e =
     let own = owner-of v (ports v.site.grid) picks wins picked lost some so_far k e in

@@ -69,7 +69,7 @@ pub landed-view : (r : Inside) (channels : Channels) (i : ℕ) (f : Flit) → ch
     → view_of (record r { channels = channels; had_event = true }) ≡ with_landed i f (view_of r)
 landed-view r channels i f bank inputs outputs = rw (bank, inputs, outputs)
 
--- .. once one was turned away
+-- the view once a flit was turned away
 pub misfit-view : (r : Inside) (channels : Channels) (n : ℕ) → channels.bank ≡ r.channels.bank
     → channels.inputs.items ≡ r.channels.inputs.items → channels.outputs.items ≡ r.channels.outputs.items → n ≡ saturating_next r.misfits
     → view_of (record r { channels = channels; misfits = n }) ≡ with_misfit (view_of r)

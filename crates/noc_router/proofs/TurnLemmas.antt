@@ -25,7 +25,7 @@ pick-is vcs turns port t ready part l is size some =
     ∙ first_in_turn-same vcs (get_or (pointers_of turns) port 0) (has_bit part) (λ k. has_bit ready (port * vcs + k))
     (λ k u. some k ∙ ap (λ b. b && has_bit ready (port * vcs + k)) (lt-ltb k vcs u))
 
--- .. by the requests, where those that ask are the members of the set
+-- the pick of one input port by the requests, where those that ask are the members of the set
 pub pick_from-asked : (asked : List (Option ℕ)) (vcs : ℕ) (pointers : List ℕ) (ready port : ℕ) → ((k : ℕ) → has_bit ready k ≡ is_some (get_or asked k None))
     → pick_from ready vcs pointers port ≡ pick_of asked vcs pointers port
 pick_from-asked asked vcs pointers ready port members =

@@ -308,7 +308,7 @@ pub record AreVerdicts (v : View) (round : Round) (s : Standing) (asking picked 
   pub lost_input : has_bit sets.lost_input k ≡ (not (has_bit picked k) && has_bit s.ready k)
   pub lost_switch : has_bit sets.lost_switch k ≡ (not (has_bit sets.moved k) && has_bit picked k)
 
--- .. give each channel its verdict
+-- the sets of a round give each channel its verdict
 pub verdict-on : (v : View) (round : Round) (s : Standing) (asking picked : ℕ) (sets : VerdictSets) (k : ℕ) → k < size_of v.site → IsStanding v s → AreVerdicts v round s asking picked sets k
     → verdict_by sets k ≡ (finding_of round v k).verdict
 verdict-on v round s asking picked sets k l standing are =
@@ -320,7 +320,7 @@ verdict-on v round s asking picked sets k l standing are =
     first_by sets k ∙ same_first _ _ _ _ _ _ _ _ _ _ _ _ _ _ _ _ _ _ (cc) (cc) (cc) (cc) (cc) (cc) (cc) (cc) (cc)
     ∙ state_verdict v round k (view_input v k).phase (is_empty (view_buffer v k)) (has_bit picked k) are.draws
 
--- .. have each channel once at most
+-- the sets of a round have each channel once at most
 pub apart-on : (v : View) (round : Round) (s : Standing) (asking picked : ℕ) (sets : VerdictSets) (k : ℕ) → k < size_of v.site → IsStanding v s → AreVerdicts v round s asking picked sets k
     → sets_with sets k ≤ 1
 apart-on v round s asking picked sets k l standing are =

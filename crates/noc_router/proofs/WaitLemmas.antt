@@ -143,7 +143,7 @@ added-others counters counts index a j some ten l k = at (cases_eq k index)
         ap (λ xs. drop 1 (whole_counts counters k xs)) (get_or-set_other counts index k more [] other)
         ∙ ap (λ b. if b then risen_by a j (others_in counters counts k) else others_in counters counts k) (sym (ne_eqb k index other))
 
--- .. is a tally, where it can count them
+-- what is added is a tally, where the counters can count it
 pub added_tally : (cycles shown : ℕ) (counters : Counters) (counts : List (List ℕ)) (findings : List Finding) (index a j : ℕ) → IsTally cycles shown counters counts findings
     → 0 < j → j < 10 → index < length counts → sum (others_in counters counts index) + a ≤ cycles
     → IsTally cycles shown counters (set counts index (set (get_or counts index []) j (get_or (get_or counts index []) j 0 + a))) findings
@@ -179,7 +179,7 @@ added_tally cycles shown counters counts findings index a j sound some small l r
         ap sum (others i ∙ ap (λ b. if b then risen_by a j (others_in counters counts i) else others_in counters counts i) (ne_eqb i index other)) in
         omega (arith, now, sound.sums i m)
 
--- .. there is room for them in what is written down
+-- there is room for so many more in what is written down
 pub added-fits : (cycles shown : ℕ) (counters : Counters) (counts : List (List ℕ)) (findings : List Finding) (index a j : ℕ) → IsTally cycles shown counters counts findings
     → 0 < j → j < 10 → index < length counts → sum (others_in counters counts index) + a ≤ cycles → get_or (get_or counts index []) j 0 + a < 2 ^ 64
 added-fits cycles shown counters counts findings index a j sound some small l room =

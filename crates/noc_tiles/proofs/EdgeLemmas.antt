@@ -92,7 +92,7 @@ edge-wire first a b n sent (Some (s, q)) l m h =
     first-put : Beat
     first-put = put_from first 0 a sent (Some (s, q)) idle_beat
 
--- .. any wire, once the inner ones have put theirs too
+-- any wire, once the inner routers have put their beats too
 whole-wire : (first a b n : ℕ) (sent : List (List Beat)) (from : Option (ℕ × ℕ)) → a ≤ b → b ≤ n
     → put_from first a b sent from (put_from first b n sent from (put_from first 0 a sent from idle_beat)) ≡ beat_among first n sent from
 whole-wire first a b n sent None l m = refl
@@ -140,7 +140,7 @@ can-after relation n seen i j i' j' a b done can l apart =
           ∙ can.idle r q u f';
     }
 
--- .. and once some wires have become idle too
+-- routers that have not finished still can, once some wires have become idle
 pub can-cleared : (relation : Routes) (i j k : ℕ) (outs : List (ℕ × ℕ)) (a b : Tile) → CanFinish relation i j a → b ≡ record a { beats = b.beats; outs = b.outs }
     → length b.beats.items ≡ length a.beats.items → ((r q : ℕ) → IsCleared outs a.beats.items b.beats.items k r q) → CanFinish relation i j b
 can-cleared relation i j k outs a b can rest size cleared =

@@ -32,7 +32,7 @@ at_index P bs each k d l = subst P (get_or_default bs k [] d l) (each k)
 pub silent_at : (bs : List (List Beat)) → All IsSilent bs → (r q : ℕ) → beat_at bs r q ≡ idle_beat
 silent_at bs all r q = ⊎_elim (λ (l : r < length bs). all r [] l q) (λ (u : length bs ≤ r). past-rows bs r q u) (cases_lt r (length bs))
 
--- .. where the beats before and after have another name
+-- what is taken, where the beats before and after have another name
 pub took-as : (ins : List (ℕ × ℕ)) (row : List Beat) (old new b0 b1 : List (List Beat)) → old ≡ b0 → b1 ≡ new → ((r q : ℕ) → beat_at new r q ≡ with_row (beat_at old) ins row r q)
     → (r q : ℕ) → beat_at b1 r q ≡ with_row (beat_at b0) ins row r q
 took-as ins row old new b0 b1 before after took r q = ap (λ (b : List (List Beat)). beat_at b r q) after ∙ took r q ∙ ap (λ (b : List (List Beat)). with_row (beat_at b) ins row r q) before
@@ -175,7 +175,7 @@ module _ (relation : Routes) (n : ℕ) (seen : Bool) (inner : Inner) (row : List
                 (set5 relation a.first ins outs views a.beats.items ready.parts row n views1 took.views d views' n5 did t3.beats.items t4.beats.items t5.beats.items inner fits cleared edge whole kept rows5);
           }
 
-          -- .. and it has made this one
+          -- the tile has made this cycle
           pub has-cycled : Cycles relation seen n a t5 row
           has-cycled = record {
             width = took.width;

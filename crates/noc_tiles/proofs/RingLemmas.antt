@@ -72,7 +72,7 @@ module _ (grid : Grid) (first count k : ℕ) (I : List (Option End)) (ends : Lis
         (cases_lt m k);
   }
 
--- .. of the wires that go
+-- one end more of the wires that go
 module _ (grid : Grid) (sound : IsGrid grid) (first count k : ℕ) (O : List (Option End)) (ends : List End) (k_in : k < nodes grid * 6) where
   pub out-none : (is_inside first count (neighbour grid (k / 6) (k % 6)) ≡ true) → AreTakenOut grid first count k O ends → AreTakenOut grid first count (k + 1) O ends
   out-none inside a = record {

@@ -190,7 +190,7 @@ coordinate-below (x ∷ y ∷ z ∷ u ∷ us) node i e l sizes = absurd (omega (
 pub length-stored : (s : Inside) → IsSound s → length s.sizes ≡ 3
 length-stored s h = ap length (sym h.missing) ∙ length-filled (take s.count s.sizes)
 
--- .. of the stored shape
+-- a node's coordinate of the stored shape is below the size
 pub split-below : (s : Inside) (xs : List ℕ) (node i : ℕ) → IsSound s → xs ≡ coordinates s.sizes node → i < 3 → get_or xs i 0 < get_or s.sizes i 0
 split-below s xs node i h e l = rw e (coordinate-below s.sizes node i (length-stored s h) l (sizes-stored s h))
 

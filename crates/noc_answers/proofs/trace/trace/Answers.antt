@@ -30,7 +30,7 @@ same_text u net first cycles end t traced same count ends as_asked =
     ap (λ (z : Setup). trace_text (record { net = z; count = u.count + cycles }) u.count t) same ∙ ap (λ k. trace_text (record { net = net; count = k + cycles }) k t) count
     ∙ ap (λ k. trace_text (record { net = net; count = k }) first t) ends ∙ ap (trace_text (record { net = net; count = end }) first) as_asked
 
--- .. that was asked for by a span
+-- the text of a run that was asked for by a span
 asked_text : (u : Run) (net : Setup) (from to : Option ℕ) (cycles opening first end : ℕ) (t traced : Traced) → is_bad_span (first_cycle from) (last_cycle to cycles) cycles ≡ false → opening ≡ 0
     → u.net ≡ net → u.count ≡ opening + first → first ≡ first_cycle from → end ≡ last_cycle to cycles → t ≡ traced
     → trace_text (record u { count = u.count + (end + 1 - first) }) u.count t ≡ trace_text (record { net = net; count = last_cycle to cycles + 1 }) (first_cycle from) traced
