@@ -9,7 +9,7 @@ use Rattle.noc_net.specs.Network.{Run, state_at}
 use Rattle.noc_model.proofs.Theorems.{not-stuck}
 use Rattle.noc_files.specs.declared.writing.WriteFault.{WriteFault}
 use Rattle.noc_requests.specs.Asked.{Asked, TextValue, ReadsAs, as_files, as_joined, is_joined, owned_text}
-use Rattle.noc_requests.specs.Outcome.{Ends}
+use Rattle.noc_requests.specs.Ending.{Ends}
 use Rattle.noc_requests.specs.declared.request.Command.{Command}
 use Rattle.noc_requests.specs.declared.request.Command.TheVariants as command
 use Rattle.noc_requests.specs.declared.request.Report.{Report}

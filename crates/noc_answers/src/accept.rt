@@ -7,7 +7,7 @@ ghost use Rattle.noc_files.specs.Gives.{Gives};
 ghost use Rattle.noc_files.specs.Ranks.{ranks_of};
 ghost use Rattle.noc_files.specs.Writing.{Wrote};
 ghost use Rattle.noc_requests.specs.Asked.{lent_files, lent_text, read_by};
-ghost use Rattle.noc_requests.specs.Outcome.{Ends, Refuses};
+ghost use Rattle.noc_requests.specs.Ending.{Ends, Refuses};
 ghost use Rattle.noc_answers.specs.Answer.{AsksFor, TextsFault};
 ghost use Rattle.noc_answers.specs.Check.{Accepts, AsksForChecked, HasRanking, RanksFault};
 ghost use Rattle.noc_answers.specs.Run.{workers_of};

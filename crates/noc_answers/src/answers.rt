@@ -3,7 +3,7 @@
 ghost use Rattle.std.specs.Prelude.{◌≡◌, ℕ, IfErr, IfOk, List, Ok};
 ghost use Rattle.noc_files.specs.Writing.{Wrote};
 ghost use Rattle.noc_requests.specs.Asked.{ReadsAs, lent_files};
-ghost use Rattle.noc_requests.specs.Outcome.{Ends, Refuses};
+ghost use Rattle.noc_requests.specs.Ending.{Ends, Refuses};
 ghost use Rattle.noc_requests.specs.declared.status.Status.TheVariants.{Done as done};
 ghost use Rattle.noc_answers.specs.Answer.{Asks, AsksFor, AsksForArrivals, FirstFault, IsRankedDrain, IsRankedRun, TextsFault};
 ghost use Rattle.noc_answers.specs.Run.{HasWorkers, workers_of};

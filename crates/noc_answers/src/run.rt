@@ -5,7 +5,7 @@ ghost use Rattle.noc_files.specs.Gives.{Gives};
 ghost use Rattle.noc_files.specs.Traffic.{traffic_of};
 ghost use Rattle.noc_files.specs.Writing.{Wrote};
 ghost use Rattle.noc_requests.specs.Asked.{lent_files, lent_text, read_by};
-ghost use Rattle.noc_requests.specs.Outcome.{Ends, IsWriteFault, Refuses};
+ghost use Rattle.noc_requests.specs.Ending.{Ends, IsWriteFault, Refuses};
 ghost use Rattle.noc_requests.specs.declared.request.Report.{Report as ReportValue};
 ghost use Rattle.noc_answers.specs.Answer.{AsksFor, TextsFault};
 ghost use Rattle.noc_answers.specs.Drain.{RunsTo};

@@ -5,7 +5,7 @@ ghost use Rattle.noc_topo.specs.Shape.{nodes};
 ghost use Rattle.noc_files.specs.Writing.{Wrote};
 ghost use Rattle.noc_requests.specs.Asked.{lent_files};
 ghost use Rattle.noc_requests.specs.Options.{first_cycle, is_bad_span, last_cycle, packet_option_fault};
-ghost use Rattle.noc_requests.specs.Outcome.{Ends, Refuses};
+ghost use Rattle.noc_requests.specs.Ending.{Ends, Refuses};
 ghost use Rattle.noc_answers.specs.Answer.{AsksFor, TextsFault};
 ghost use Rattle.noc_answers.specs.Run.{AsksForRun, workers_of};
 

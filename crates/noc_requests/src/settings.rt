@@ -4,7 +4,7 @@ ghost use Rattle.std.specs.Prelude.{◌≡◌, None, IfErr, IfOk, is_some, optio
 ghost use Rattle.noc_files.specs.Configuration.{config_of, settings, KeepsLimits};
 ghost use Rattle.noc_files.specs.Gives.{Gives};
 ghost use Rattle.noc_files.specs.Table.{table_of};
-ghost use Rattle.noc_requests.specs.Outcome.{Refuses};
+ghost use Rattle.noc_requests.specs.Ending.{Refuses};
 ghost use Rattle.noc_requests.specs.Asked.{lent_files, lent_text, read_by};
 ghost use Rattle.noc_requests.specs.Options.{cycle_fault, early_fault, first_cycle, is_bad_span, last_cycle, late_fault, packet_option_fault, router_fault, table_fault};
 ghost use Rattle.noc_requests.specs.Settings.{rule_named, AsksForRelation, AsksForShape, IsRuleOf, RefusesTable, SettingsFault};

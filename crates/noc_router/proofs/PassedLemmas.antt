@@ -21,9 +21,9 @@ use Rattle.noc_router.specs.declared.router.Router.TheInside.{Inside}
 use Rattle.noc_router.specs.declared.verdict.Verdict.{Verdict}
 use Rattle.noc_router.specs.declared.verdict.Verdict.TheVariants.{Empty, Routed, Granted, Moved, NoFlit, NoIdleChannel, LostChannel, NoCredit, LostInput, LostSwitch}
 use Rattle.noc_router.specs.Inside.{IsRouter, view_of}
-use Rattle.noc_router.specs.Settled.{CanGrant, CanMove, CanTakeEffect, IsOutcomeOf, decisions_by, effect_of, outcome_verdict, granted_by, moved_by, moved_in_phase, passed_by, passed_in_phase, view_after_verdicts, switch_past, arbiters_past}
+use Rattle.noc_router.specs.Settled.{CanGrant, CanMove, CanTakeEffect, AreContentsFor, decisions_by, effect_of, planned_verdict, granted_by, moved_by, moved_in_phase, passed_by, passed_in_phase, view_after_verdicts, switch_past, arbiters_past}
 use Rattle.noc_router.specs.Verdict.{ArbiterStates, arbiters_after, is_event, is_moved, ready_of}
-use Rattle.noc_router.specs.View.{Decisions, Outcome, Site, View, decided_verdict, first_flit, mover, size_of, view_input, view_stands}
+use Rattle.noc_router.specs.View.{Decisions, PlanContents, Site, View, decided_verdict, first_flit, mover, size_of, view_input, view_stands}
 use Rattle.noc_router.proofs.FindLemmas.{find-at, find-none, find-same}
 use Rattle.noc_router.proofs.OutcomeLemmas.{decided-outcome, lists_of}
 use Rattle.noc_router.proofs.PlanFacts.{Lists, Moves, decided-is, mover-is, moves-is, one_pick, verdict_in}
@@ -298,7 +298,7 @@ phase-turns turns w i (Waiting set) = refl
 phase-turns turns w i (Active o) = moved-turns turns w i o (first_flit w i)
 
 -- a verdict has the same effect whatever they are
-pub effect-turns : (p : Outcome) (turns : ArbiterStates) (w : View) (i : ℕ) (x : Verdict)
+pub effect-turns : (p : PlanContents) (turns : ArbiterStates) (w : View) (i : ℕ) (x : Verdict)
     → with_turns turns (passed_by i (view_input w i).phase x (effect_of p i w x)) ≡ effect_of p i (with_turns turns w) x
 effect-turns p turns w i Routed = refl
 effect-turns p turns w i Granted = granted-turns turns w i (get_or p.asks i None)
@@ -321,7 +321,7 @@ can_move-turns turns w i (Waiting set) can = can
 can_move-turns turns w i (Active o) can = can
 
 -- a verdict can take effect whatever the pointers are
-pub can_take-turns : (p : Outcome) (turns : ArbiterStates) (w : View) (i : ℕ) (x : Verdict) → CanTakeEffect p (with_turns turns w) i x → CanTakeEffect p w i x
+pub can_take-turns : (p : PlanContents) (turns : ArbiterStates) (w : View) (i : ℕ) (x : Verdict) → CanTakeEffect p (with_turns turns w) i x → CanTakeEffect p w i x
 can_take-turns p turns w i Routed can = can
 can_take-turns p turns w i Granted can = can_grant-turns turns w i (get_or p.asks i None) can
 can_take-turns p turns w i Moved can = can_move-turns turns w i (view_input w i).phase can
@@ -338,7 +338,7 @@ granted-keeps : (w : View) (i : ℕ) (ask : Option ℕ) → (granted_by i ask w)
 granted-keeps w i None = refl
 granted-keeps w i (Some o) = refl
 
-module _ (p : Outcome) (v w : View) (rest rest' index : ℕ) (whole : IsWhole v) (lists : Lists (decisions_by p v) v)
+module _ (p : PlanContents) (v w : View) (rest rest' index : ℕ) (whole : IsWhole v) (lists : Lists (decisions_by p v) v)
     (members : (k : ℕ) → has_bit rest' k ≡ (not (nat_eq k index) && has_bit rest k)) (member : has_bit rest index ≡ true) (so_far : IsSettling (decisions_by p v) v rest (with_turns v.arbiters w))
     (passing : IsPassing (decisions_by p v) v rest w.arbiters) where
   -- the pointers after it
@@ -380,23 +380,23 @@ module _ (p : Outcome) (v w : View) (rest rest' index : ℕ) (whole : IsWhole v)
   step LostInput e = quiet (ap is_moved e)
   step LostSwitch e = quiet (ap is_moved e)
 
-pub passing-more : (p : Outcome) (v w : View) (rest rest' index : ℕ) (new : View) → IsWhole v → IsOutcomeOf p v → ((k : ℕ) → has_bit rest' k ≡ (not (nat_eq k index) && has_bit rest k)) → has_bit rest index ≡ true
+pub passing-more : (p : PlanContents) (v w : View) (rest rest' index : ℕ) (new : View) → IsWhole v → AreContentsFor p v → ((k : ℕ) → has_bit rest' k ≡ (not (nat_eq k index) && has_bit rest k)) → has_bit rest index ≡ true
     → IsSettling (decisions_by p v) v rest (with_turns v.arbiters w) → IsPassing (decisions_by p v) v rest w.arbiters
-    → new ≡ passed_by index (view_input w index).phase (outcome_verdict p index) (effect_of p index w (outcome_verdict p index)) → IsPassing (decisions_by p v) v rest' new.arbiters
+    → new ≡ passed_by index (view_input w index).phase (planned_verdict p index) (effect_of p index w (planned_verdict p index)) → IsPassing (decisions_by p v) v rest' new.arbiters
 passing-more p v w rest rest' index new whole is members member so_far passing e =
     let P : View → Type 0 = λ x. IsPassing (decisions_by p v) v rest' x.arbiters in
     subst P (sym e)
-    (step p v w rest rest' index whole (lists_of p v is) members member so_far passing (outcome_verdict p index) (decided-outcome p v index (so_far.below index member)))
+    (step p v w rest rest' index whole (lists_of p v is) members member so_far passing (planned_verdict p index) (decided-outcome p v index (so_far.below index member)))
 
 -- where all events are left, no pointer has gone on
-pub passing_first : (p : Outcome) (v : View) (rest : ℕ) → IsWhole v → IsOutcomeOf p v → AreEach v → ((k : ℕ) → has_bit rest k ≡ is_event (outcome_verdict p k)) → IsPassing (decisions_by p v) v rest v.arbiters
+pub passing_first : (p : PlanContents) (v : View) (rest : ℕ) → IsWhole v → AreContentsFor p v → AreEach v → ((k : ℕ) → has_bit rest k ≡ is_event (planned_verdict p k)) → IsPassing (decisions_by p v) v rest v.arbiters
 passing_first p v rest whole is each events =
     let d = decisions_by p v in
     let lists = lists_of p v is in
     passing-first d v rest whole lists each (λ i l. events i ∙ ap is_event (sym (decided-outcome p v i l) ∙ decided-is d v i lists l))
 
 -- where none is left, all verdicts have taken effect, and the pointers have gone on past the winners
-pub passed-all : (p : Outcome) (v w : View) (rest : ℕ) → IsWhole v → AreEach v → IsOutcomeOf p v → ((k : ℕ) → has_bit rest k ≡ false)
+pub passed-all : (p : PlanContents) (v w : View) (rest : ℕ) → IsWhole v → AreEach v → AreContentsFor p v → ((k : ℕ) → has_bit rest k ≡ false)
     → IsSettling (decisions_by p v) v rest (with_turns v.arbiters w) → IsPassing (decisions_by p v) v rest w.arbiters
     → w ≡ record (view_after_verdicts (decisions_by p v) v) { arbiters = record (arbiters_after p.round v.arbiters) { channels = v.arbiters.channels } }
 passed-all p v w rest whole each is none settling passing =

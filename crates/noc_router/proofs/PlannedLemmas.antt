@@ -10,10 +10,10 @@ use Rattle.noc_router.specs.declared.router.Router.TheInside.{Inside}
 use Rattle.noc_router.specs.declared.verdict.Verdict.{Verdict}
 use Rattle.noc_router.specs.declared.verdict.Verdict.TheVariants.{Empty}
 use Rattle.noc_router.specs.Asked.{grants_on, no_round, picks_on, arbiter_states_in, wins_on}
-use Rattle.noc_router.specs.Decided.{IsDecidedFor, no_outcome}
+use Rattle.noc_router.specs.Decided.{IsDecidedFor, empty_plan_contents}
 use Rattle.noc_router.specs.Inside.{IsRouter, view_of}
 use Rattle.noc_router.specs.Verdict.{Round, asks_of, is_event, ready_of}
-use Rattle.noc_router.specs.View.{Outcome, View, finding_of, outcome, route_of, size_of, view_round, view_stands}
+use Rattle.noc_router.specs.View.{PlanContents, View, finding_of, plan_contents, route_of, size_of, view_round, view_stands}
 use Rattle.noc_router.proofs.StandLemmas.{asks_of-stands}
 
 -- the grants by the arbiters of a router are those of its view
@@ -45,24 +45,24 @@ round-made v asks round asked grants picks wins =
     (wins ∙ ap (λ xs. wins_on m v.site.vcs ready xs v.arbiters) picks)
 
 -- outcomes by their parts
-parts : Round → List (Option ℕ) → List Verdict → List ℕ → Outcome
+parts : Round → List (Option ℕ) → List Verdict → List ℕ → PlanContents
 parts round asks verdicts routes = record { round = round; asks = asks; verdicts = verdicts; routes = routes }
 
 same_parts : (a b : Round) (f g : List (Option ℕ)) (w x : List Verdict) (q r : List ℕ) → a ≡ b → f ≡ g → w ≡ x → q ≡ r → parts a f w q ≡ parts b g x r
 same_parts a b f g w x q r rounds asks verdicts routes = cc
 
 -- what has each part of the outcome is the outcome
-pub outcome-parts : (relation : Routes) (v : View) (p : Outcome) → p.round ≡ view_round v → p.asks ≡ asks_of (view_stands v)
+pub outcome-parts : (relation : Routes) (v : View) (p : PlanContents) → p.round ≡ view_round v → p.asks ≡ asks_of (view_stands v)
     → length p.verdicts ≡ size_of v.site → ((k : ℕ) → k < size_of v.site → get_or p.verdicts k Empty ≡ (finding_of p.round v k).verdict)
-    → p.routes ≡ tabulate (size_of v.site) (route_of relation v) → p ≡ outcome relation v
-unfolding outcome parts
+    → p.routes ≡ tabulate (size_of v.site) (route_of relation v) → p ≡ plan_contents relation v
+unfolding plan_contents parts
 outcome-parts relation v p round asks long verdicts routes =
     same_parts p.round (view_round v) p.asks _ p.verdicts _ p.routes _ round asks
     (tabulate-from_each (size_of v.site) (λ i. (finding_of (view_round v) v i).verdict) p.verdicts Empty long (λ k l. verdicts k l ∙ ap (λ r. (finding_of r v k).verdict) round)) routes
 
 -- the outcome is as long as it should be
-pub outcome-lengths : (relation : Routes) (v : View) → IsDecidedFor (ports v.site.grid) v.site.vcs (outcome relation v)
-unfolding outcome view_round
+pub outcome-lengths : (relation : Routes) (v : View) → IsDecidedFor (ports v.site.grid) v.site.vcs (plan_contents relation v)
+unfolding plan_contents view_round
 outcome-lengths relation v = record {
   grants = length-tabulate _ _;
   picks = length-tabulate _ _;
@@ -74,15 +74,15 @@ outcome-lengths relation v = record {
 
 -- ---- no request
 -- what has no request, and every channel empty
-pub no_outcome-parts : (m vcs : ℕ) (p : Outcome) → p.round ≡ no_round m (m * vcs) → p.asks ≡ replicate (m * vcs) None → length p.verdicts ≡ m * vcs
-    → ((k : ℕ) → k < m * vcs → get_or p.verdicts k Empty ≡ Empty) → p.routes ≡ replicate (m * vcs) 0 → p ≡ no_outcome m vcs
+pub no_outcome-parts : (m vcs : ℕ) (p : PlanContents) → p.round ≡ no_round m (m * vcs) → p.asks ≡ replicate (m * vcs) None → length p.verdicts ≡ m * vcs
+    → ((k : ℕ) → k < m * vcs → get_or p.verdicts k Empty ≡ Empty) → p.routes ≡ replicate (m * vcs) 0 → p ≡ empty_plan_contents m vcs
 unfolding parts
 no_outcome-parts m vcs p round asks long verdicts routes =
     same_parts p.round _ p.asks _ p.verdicts _ p.routes _ round asks
     (ext_get_or Empty p.verdicts (replicate (m * vcs) Empty) (long ∙ sym (length-replicate (m * vcs) Empty)) (λ k l. verdicts k (omega arith) ∙ sym (get_or-replicate (m * vcs) k Empty Empty (omega arith)))) routes
 
 -- an outcome without requests is as long as it should be
-pub no_outcome-lengths : (m vcs : ℕ) → IsDecidedFor m vcs (no_outcome m vcs)
+pub no_outcome-lengths : (m vcs : ℕ) → IsDecidedFor m vcs (empty_plan_contents m vcs)
 no_outcome-lengths m vcs = record {
   grants = length-replicate _ _;
   picks = length-replicate _ _;

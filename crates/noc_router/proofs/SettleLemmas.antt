@@ -29,7 +29,7 @@ use Rattle.noc_router.specs.Members.{is_within}
 use Rattle.noc_router.specs.Sound.{owns, is_owned_from}
 use Rattle.noc_router.specs.Tally.{empty_finding, finding_at}
 use Rattle.noc_router.specs.Verdict.{Waits, Holds, ask_of, out_of, is_moved, is_event}
-use Rattle.noc_router.specs.View.{View, Site, Decisions, finding_of, size_of, view_claim, view_buffer, view_input, view_output, first_flit, mover, mover_to, held_by, spent_by, is_tail, flit_out, tail_packet, with_arrival, saturating_next, decided_verdict, input_after, buffer_after, granted_to, sent_from, output_after, beat_out, idle_beat, idle_beats, has_event, Outcome}
+use Rattle.noc_router.specs.View.{View, Site, Decisions, finding_of, size_of, view_claim, view_buffer, view_input, view_output, first_flit, mover, mover_to, held_by, spent_by, is_tail, flit_out, tail_packet, with_arrival, saturating_next, decided_verdict, input_after, buffer_after, granted_to, sent_from, output_after, beat_out, idle_beat, idle_beats, has_event, PlanContents}
 use Rattle.noc_router.specs.declared.verdict.Verdict.{Verdict}
 use Rattle.noc_router.specs.declared.verdict.Verdict.TheVariants.{Empty, Routed, Granted, Moved, NoFlit, NoIdleChannel, LostChannel, NoCredit, LostInput, LostSwitch}
 use Rattle.noc_router.specs.declared.verdict.Finding.{Finding}
@@ -856,7 +856,7 @@ full_length [] e = absurd (false≢true e)
 full_length (f ∷ rest) e = omega arith
 
 -- the verdict of channel `index` by an outcome whose lists are those of the decisions d
-module _ (p : Outcome) (d : Decisions) (v w : View) (rest rest' index : ℕ) (routes : p.routes ≡ d.routes) (whole : IsWhole v) (lists : Lists d v)
+module _ (p : PlanContents) (d : Decisions) (v w : View) (rest rest' index : ℕ) (routes : p.routes ≡ d.routes) (whole : IsWhole v) (lists : Lists d v)
     (members : (k : ℕ) → has_bit rest' k ≡ (not (nat_eq k index) && has_bit rest k)) (member : has_bit rest index ≡ true) (so_far : IsSettling d v rest w)
     (asked : get_or p.asks index None ≡ ask_of (view_claim v index)) where
   in_size : index < size_of v.site
@@ -972,13 +972,13 @@ module _ (p : Outcome) (d : Decisions) (v w : View) (rest rest' index : ℕ) (ro
   settle-step LostSwitch e = step-quiet LostSwitch e (λ h. cc h) (λ h. cc h) refl refl refl
 
 -- ---- the whole
-pub can_settle : (p : Outcome) (v w : View) (rest rest' index : ℕ) → IsWhole v → Lists (decisions_by p v) v → ((k : ℕ) → has_bit rest' k ≡ (not (nat_eq k index) && has_bit rest k)) → has_bit rest index ≡ true
+pub can_settle : (p : PlanContents) (v w : View) (rest rest' index : ℕ) → IsWhole v → Lists (decisions_by p v) v → ((k : ℕ) → has_bit rest' k ≡ (not (nat_eq k index) && has_bit rest k)) → has_bit rest index ≡ true
     → IsSettling (decisions_by p v) v rest w → get_or p.asks index None ≡ ask_of (view_claim v index) → CanTakeEffect p w index (decided_verdict (decisions_by p v) index)
 can_settle p v w rest rest' index whole lists members member so_far asked =
     let d = decisions_by p v in
     can-settle p d v w rest rest' index refl whole lists members member so_far asked (decided_verdict d index) (sym (decided-is d v index lists (so_far.below index member)))
 
-pub settling_more : (p : Outcome) (v w : View) (rest rest' index : ℕ) → IsWhole v → Lists (decisions_by p v) v → ((k : ℕ) → has_bit rest' k ≡ (not (nat_eq k index) && has_bit rest k)) → has_bit rest index ≡ true
+pub settling_more : (p : PlanContents) (v w : View) (rest rest' index : ℕ) → IsWhole v → Lists (decisions_by p v) v → ((k : ℕ) → has_bit rest' k ≡ (not (nat_eq k index) && has_bit rest k)) → has_bit rest index ≡ true
     → IsSettling (decisions_by p v) v rest w → get_or p.asks index None ≡ ask_of (view_claim v index)
     → IsSettling (decisions_by p v) v rest' (effect_of p index w (decided_verdict (decisions_by p v) index))
 settling_more p v w rest rest' index whole lists members member so_far asked =

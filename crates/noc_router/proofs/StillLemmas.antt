@@ -17,11 +17,11 @@ use Rattle.noc_alloc.proofs.WordLemmas.{is_some_of-true}
 use Rattle.noc_vc.specs.Input.{idle_input}
 use Rattle.noc_vc.specs.Output.{ejection_output}
 use Rattle.noc_packet.specs.Set.{has_bit}
-use Rattle.noc_router.specs.Settled.{outcome_verdict}
+use Rattle.noc_router.specs.Settled.{planned_verdict}
 use Rattle.noc_router.specs.Still.{takes_effect}
 use Rattle.noc_router.specs.Tally.{empty_finding, finding_at}
 use Rattle.noc_router.specs.Verdict.{arbiters_after, is_event, is_moved, out_of, pointers_of, ready_of}
-use Rattle.noc_router.specs.View.{View, Decisions, Outcome, outcome, finding_of, beat_out, buffer_after, view_after_commit, counts_after, decided_verdict, first_flit, flit_out, has_event, held_by, idle_beat, idle_beats, input_after, mover, mover_to, output_after, decisions_of, size_of, spent_by, view_claim, view_round, view_stands}
+use Rattle.noc_router.specs.View.{View, Decisions, PlanContents, plan_contents, finding_of, beat_out, buffer_after, view_after_commit, counts_after, decided_verdict, first_flit, flit_out, has_event, held_by, idle_beat, idle_beats, input_after, mover, mover_to, output_after, decisions_of, size_of, spent_by, view_claim, view_round, view_stands}
 use Rattle.noc_router.specs.declared.verdict.Verdict.{Verdict}
 use Rattle.noc_router.specs.declared.verdict.Verdict.TheVariants.{Empty, Granted, Moved}
 use Rattle.noc_router.specs.declared.verdict.Finding.{Finding}
@@ -99,18 +99,18 @@ module _ (d : Decisions) (v : View) (no_grant : (o : ℕ) → get_or d.round.gra
 
 -- ---- whether a verdict takes effect, channel by channel
 -- the verdicts of the outcome are those of the decisions
-verdicts-planned : (relation : Routes) (v : View) (k : ℕ) → outcome_verdict (outcome relation v) k ≡ decided_verdict (decisions_of relation v) k
-unfolding outcome decisions_of
+verdicts-planned : (relation : Routes) (v : View) (k : ℕ) → planned_verdict (plan_contents relation v) k ≡ decided_verdict (decisions_of relation v) k
+unfolding plan_contents decisions_of
 verdicts-planned relation v k = sym (ap (λ xs. get_or xs k Empty) (map-tabulate (λ (f : Finding). f.verdict) (size_of v.site) (finding_of (view_round v) v)))
 
 -- what is counted by the verdicts of the outcome is what is counted by the decisions
-pub counted-planned : (relation : Routes) (v : View) (p : Outcome) → p ≡ outcome relation v → (count : Verdict → List ℕ → List ℕ) (counts : List (List ℕ))
-    → map_indexed (λ i one. count (outcome_verdict p i) one) counts ≡ map_indexed (λ i one. count (decided_verdict (decisions_of relation v) i) one) counts
+pub counted-planned : (relation : Routes) (v : View) (p : PlanContents) → p ≡ plan_contents relation v → (count : Verdict → List ℕ → List ℕ) (counts : List (List ℕ))
+    → map_indexed (λ i one. count (planned_verdict p i) one) counts ≡ map_indexed (λ i one. count (decided_verdict (decisions_of relation v) i) one) counts
 counted-planned relation v p is count counts =
-    let f : ℕ → List ℕ → List ℕ = λ i one. count (outcome_verdict p i) one in
+    let f : ℕ → List ℕ → List ℕ = λ i one. count (planned_verdict p i) one in
     map_indexed-from_each (λ i one. count (decided_verdict (decisions_of relation v) i) one) counts (map_indexed f counts) [] [] (length-map_indexed f counts)
     (λ i l. get_or-map_indexed f counts i [] [] l
-    ∙ ap (λ x. count x (get_or counts i [])) (ap (λ (x : Outcome). outcome_verdict x i) is ∙ verdicts-planned relation v i))
+    ∙ ap (λ x. count x (get_or counts i [])) (ap (λ (x : PlanContents). planned_verdict x i) is ∙ verdicts-planned relation v i))
 
 no_effect : (relation : Routes) (v : View) → ((k : ℕ) → is_event (decided_verdict (decisions_of relation v) k) ≡ false) → takes_effect relation v ≡ false
 no_effect relation v none =
@@ -202,12 +202,12 @@ module _ (relation : Routes) (v : View) (off : takes_effect relation v ≡ false
   still-committed = quiet-committed (decisions_of relation v) v still-grants still-wins still-verdict off
 
 -- no verdict takes effect where no channel has one that does
-pub still-is : (relation : Routes) (v : View) (p : Outcome) (events : ℕ) (b : Bool) → p ≡ outcome relation v → ((k : ℕ) → has_bit events k ≡ is_event (outcome_verdict p k))
+pub still-is : (relation : Routes) (v : View) (p : PlanContents) (events : ℕ) (b : Bool) → p ≡ plan_contents relation v → ((k : ℕ) → has_bit events k ≡ is_event (planned_verdict p k))
     → (b ≡ true → (k : ℕ) → has_bit events k ≡ false) → (((k : ℕ) → has_bit events k ≡ false) → b ≡ true) → b ≡ not (takes_effect relation v)
 still-is relation v p events b is each none all = at (takes_effect relation v) refl b refl
   where
     event : (k : ℕ) → has_bit events k ≡ is_event (decided_verdict (decisions_of relation v) k)
-    event k = each k ∙ ap (λ (x : Outcome). is_event (outcome_verdict x k)) is ∙ ap is_event (verdicts-planned relation v k)
+    event k = each k ∙ ap (λ (x : PlanContents). is_event (planned_verdict x k)) is ∙ ap is_event (verdicts-planned relation v k)
 
     at : (effect : Bool) → takes_effect relation v ≡ effect → (answer : Bool) → b ≡ answer → b ≡ not (takes_effect relation v)
     at false e answer same = all (λ k. event k ∙ still-verdict relation v e k) ∙ sym (ap not e)

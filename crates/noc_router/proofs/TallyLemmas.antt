@@ -11,16 +11,16 @@ use Rattle.noc_vc.specs.declared.input.InputState.{InputState}
 use Rattle.noc_vc.specs.declared.input.InputState.TheVariants.{Idle, Waiting, Active}
 use Rattle.noc_router.specs.declared.counters.Counters.{Counters}
 use Rattle.noc_router.specs.declared.plan.Plan.TheInside.{Inside}
-use Rattle.noc_router.specs.Planned.{IsPlan, outcome_in}
+use Rattle.noc_router.specs.Planned.{IsPlan, plan_contents_in}
 use Rattle.noc_router.specs.VerdictSets.{sets_with, verdict_by, first_verdict_in}
 use Rattle.noc_router.specs.declared.verdict.Verdict.{Verdict}
 use Rattle.noc_router.specs.declared.verdict.Verdict.TheVariants.{Empty, Routed, Granted, Moved, NoFlit, NoIdleChannel, LostChannel, NoCredit, LostInput, LostSwitch}
 use Rattle.noc_router.specs.declared.verdict.Finding.{Finding}
 use Rattle.noc_router.specs.Counts.{carried_at, count_at, one_at, one_if, whole_counts}
-use Rattle.noc_router.specs.Settled.{outcome_verdict}
+use Rattle.noc_router.specs.Settled.{planned_verdict}
 use Rattle.noc_router.specs.Sound.{is_occupied, finding_with, out_in}
 use Rattle.noc_router.specs.Tally.{IsTally, empty_finding, finding_at, is_empty_verdict, others_in, risen_at}
-use Rattle.noc_router.specs.View.{Decisions, Outcome, decided_verdict}
+use Rattle.noc_router.specs.View.{Decisions, PlanContents, decided_verdict}
 use Rattle.noc_router.proofs.CountLemmas.{counter_has, sum-risen, whole-below, whole-none, whole-risen}
 use Rattle.noc_router.proofs.DigitLemmas.{one-small}
 use Rattle.noc_topo.proofs.WordLemmas.{get_or-tabulate, length-tabulate}
@@ -319,15 +319,15 @@ pub verdict-at : (d : Decisions) (i : ℕ) → i < length d.findings → decided
 verdict-at d i l = get_or-map (λ (finding : Finding). finding.verdict) d.findings i empty_finding Empty l
 
 -- the verdict on a channel, by the sets of the plan
-pub plan_verdict : (p : Inside) (q : Outcome) (n k : ℕ) → outcome_in p ≡ q → length q.verdicts ≡ n → k < n → outcome_verdict q k ≡ verdict_by p.verdicts k
+pub plan_verdict : (p : Inside) (q : PlanContents) (n k : ℕ) → plan_contents_in p ≡ q → length q.verdicts ≡ n → k < n → planned_verdict q k ≡ verdict_by p.verdicts k
 plan_verdict p q n k e long l =
-    let size : p.requests.size ≡ n = sym (length-tabulate p.requests.size (verdict_by p.verdicts)) ∙ ap (λ (x : Outcome). length x.verdicts) e ∙ long in
-    sym (ap (λ (x : Outcome). outcome_verdict x k) e) ∙ get_or-tabulate p.requests.size k (verdict_by p.verdicts) Empty (omega arith)
+    let size : p.requests.size ≡ n = sym (length-tabulate p.requests.size (verdict_by p.verdicts)) ∙ ap (λ (x : PlanContents). length x.verdicts) e ∙ long in
+    sym (ap (λ (x : PlanContents). planned_verdict x k) e) ∙ get_or-tabulate p.requests.size k (verdict_by p.verdicts) Empty (omega arith)
 
 -- each channel is in one set of the plan at most
-pub plan_apart : (p : Inside) (q : Outcome) (n k : ℕ) → outcome_in p ≡ q → IsPlan p → length q.verdicts ≡ n → k < n → sets_with p.verdicts k ≤ 1
+pub plan_apart : (p : Inside) (q : PlanContents) (n k : ℕ) → plan_contents_in p ≡ q → IsPlan p → length q.verdicts ≡ n → k < n → sets_with p.verdicts k ≤ 1
 plan_apart p q n k e plan long l =
-    let size : p.requests.size ≡ n = sym (length-tabulate p.requests.size (verdict_by p.verdicts)) ∙ ap (λ (x : Outcome). length x.verdicts) e ∙ long in
+    let size : p.requests.size ≡ n = sym (length-tabulate p.requests.size (verdict_by p.verdicts)) ∙ ap (λ (x : PlanContents). length x.verdicts) e ∙ long in
     plan.apart k (omega arith)
 
 -- what is found of a channel without a packet that asks for nothing

@@ -15,29 +15,29 @@ use Rattle.noc_router.specs.declared.verdict.Verdict.{Verdict}
 use Rattle.noc_router.specs.declared.verdict.Verdict.TheVariants.{Empty, Routed, Granted, Moved}
 use Rattle.noc_router.specs.declared.verdict.Finding.{Finding}
 use Rattle.noc_router.specs.Verdict.{out_of}
-use Rattle.noc_router.specs.View.{View, Decisions, Outcome, IsRelationOf, outcome, port_and_vc, view_claim, idle_beat, idle_beats, counts_after, size_of, view_buffer, view_input, view_output, first_flit, flit_out, tail_packet, with_arrival, decided_verdict, buffer_after, input_after, output_after, has_event, beat_out}
+use Rattle.noc_router.specs.View.{View, Decisions, PlanContents, IsRelationOf, plan_contents, port_and_vc, view_claim, idle_beat, idle_beats, counts_after, size_of, view_buffer, view_input, view_output, first_flit, flit_out, tail_packet, with_arrival, decided_verdict, buffer_after, input_after, output_after, has_event, beat_out}
 
 -- the outcome of this very view
-pub record IsOutcomeOf (p : Outcome) (v : View) : Type 0 where
+pub record AreContentsFor (p : PlanContents) (v : View) : Type 0 where
   pub relation : Routes
   pub fits : IsRelationOf relation v
-  pub is : p ≡ outcome relation v
+  pub is : p ≡ plan_contents relation v
 
 -- the verdict of input channel i
-abbrev pub outcome_verdict : Outcome → ℕ → Verdict
-outcome_verdict p i = slice_index_or p.verdicts i Empty
+abbrev pub planned_verdict : PlanContents → ℕ → Verdict
+planned_verdict p i = slice_index_or p.verdicts i Empty
 
 -- what is found of input channel i with this verdict
 abbrev pub found_with : View → Verdict → ℕ → Finding
 found_with v verdict i = record { verdict = verdict; packet = (view_input v i).packet; out = option_map (port_and_vc v.site) (out_of (view_claim v i)) }
 
 -- the decisions of a view with this outcome
-abbrev pub decisions_by : Outcome → View → Decisions
-decisions_by p v = record { round = p.round; findings = tabulate (size_of v.site) (λ i. found_with v (outcome_verdict p i) i); routes = p.routes }
+abbrev pub decisions_by : PlanContents → View → Decisions
+decisions_by p v = record { round = p.round; findings = tabulate (size_of v.site) (λ i. found_with v (planned_verdict p i) i); routes = p.routes }
 
 -- the same, by the outcome and the state of the input channels
-abbrev pub finding_by : Outcome → ℕ → List Input → ℕ → Finding
-finding_by p vcs inputs i = finding_with vcs (nth_input inputs i) (outcome_verdict p i) (slice_index_or p.asks i None)
+abbrev pub finding_by : PlanContents → ℕ → List Input → ℕ → Finding
+finding_by p vcs inputs i = finding_with vcs (nth_input inputs i) (planned_verdict p i) (slice_index_or p.asks i None)
 
 -- the verdicts are counted, and every beat is idle again
 abbrev pub view_after_tally : Decisions → View → View
@@ -103,7 +103,7 @@ moved_in_phase i (Waiting set) v = v
 moved_in_phase i (Active o) v = moved_by i o (first_flit v i) v
 
 -- the verdict of channel i takes effect
-abbrev pub effect_of : Outcome → ℕ → View → Verdict → View
+abbrev pub effect_of : PlanContents → ℕ → View → Verdict → View
 effect_of p i v Routed = view_after_route i (slice_index p.routes i) v
 effect_of p i v Granted = granted_by i (slice_index_or p.asks i None) v
 effect_of p i v Moved = moved_in_phase i (view_input v i).phase v
@@ -122,7 +122,7 @@ CanMove v i (Waiting set) = Unit {0}
 CanMove v i (Active o) = (has_credit (view_output v o) ≡ true) × (0 < length (view_buffer v i))
 
 -- what a verdict says of the view
-abbrev pub CanTakeEffect : Outcome → View → ℕ → Verdict → Type 0
+abbrev pub CanTakeEffect : PlanContents → View → ℕ → Verdict → Type 0
 CanTakeEffect p v i Routed = ((view_input v i).phase ≡ Idle) × (0 < length (view_buffer v i))
 CanTakeEffect p v i Granted = IfSome (slice_index_or p.asks i None) (CanGrant v i)
 CanTakeEffect p v i Moved = CanMove v i (view_input v i).phase

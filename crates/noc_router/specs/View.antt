@@ -230,14 +230,14 @@ decisions_of relation v = record {
 }
 
 -- what a plan keeps of it: the packet of each channel and its output channel are those of the view
-pub record Outcome : Type 0 where
+pub record PlanContents : Type 0 where
   pub round : Round
   pub asks : List (Option ℕ)  -- for each input channel, the output channel that it asks for
   pub verdicts : List Verdict
   pub routes : List ℕ
 
-unfoldable pub outcome : Routes → View → Outcome
-outcome relation v = record {
+unfoldable pub plan_contents : Routes → View → PlanContents
+plan_contents relation v = record {
   round = view_round v;
   asks = asks_of (view_stands v);
   verdicts = tabulate (size_of v.site) (λ i. (finding_of (view_round v) v i).verdict);

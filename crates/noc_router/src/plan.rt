@@ -9,7 +9,7 @@ ghost use Rattle.std.specs.Prelude.{◌≡◌, ℕ, ◌<◌, IfOk, IfSome, lengt
 ghost use Rattle.noc_topo.specs.Shape.{ports as ports_of};
 ghost use Rattle.noc_packet.specs.Set.{has_bit};
 ghost use Rattle.noc_router.specs.Asked.{arbiter_states_in};
-ghost use Rattle.noc_router.specs.Decided.{IsDecidedFor, no_outcome};
+ghost use Rattle.noc_router.specs.Decided.{IsDecidedFor, empty_plan_contents};
 ghost use Rattle.noc_router.specs.declared.verdict.Verdict.TheVariants.{Empty};
 ghost use Rattle.noc_router.specs.Verdict.{arbiters_after, is_event, is_granted, is_moved};
 
@@ -32,13 +32,13 @@ pub struct Plan {
 }
 
 impl Model for Plan {
-    ghost use Rattle.noc_router.specs.View.{Outcome};
+    ghost use Rattle.noc_router.specs.View.{PlanContents};
 
-    ghost Value = { Outcome };
+    ghost Value = { PlanContents };
 
-    ghost use Rattle.noc_router.specs.Planned.{outcome_in, IsPlan};
+    ghost use Rattle.noc_router.specs.Planned.{plan_contents_in, IsPlan};
 
-    ghost view = { outcome_in };
+    ghost view = { plan_contents_in };
 
     ghost invariant = { IsPlan };
 }
@@ -46,7 +46,7 @@ impl Model for Plan {
 impl Plan {
     /// A plan without requests, for the routers of this relation's network.
     pub fn new(alloc: Global, relation: &Relation) -> Result<Plan, Memory>
-        ensures value { IfOk result (λ plan. plan ≡ no_outcome (ports_of relation.now.grid) relation.now.vcs) }
+        ensures value { IfOk result (λ plan. plan ≡ empty_plan_contents (ports_of relation.now.grid) relation.now.vcs) }
         ensures lengths { IfOk result (IsDecidedFor (ports_of relation.now.grid) relation.now.vcs) }
     {
         let ports = relation.shape().ports();

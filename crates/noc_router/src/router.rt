@@ -15,7 +15,7 @@ ghost use Rattle.noc_router.specs.Found.{empty_finding};
 ghost use Rattle.noc_router.specs.Injection.{next_vc, vacant_vc};
 ghost use Rattle.noc_router.specs.Links.{is_idle_beat};
 ghost use Rattle.noc_router.specs.Requests.{AllBelow, AreAmong};
-ghost use Rattle.noc_router.specs.Settled.{IsOutcomeOf, CanGrant, CanTakeEffect, decisions_by, effect_of, outcome_verdict, passed_by, switch_past, view_after_tally, view_after_verdicts, view_after_route, view_after_grant, moved_by, credit_put, flit_put};
+ghost use Rattle.noc_router.specs.Settled.{AreContentsFor, CanGrant, CanTakeEffect, decisions_by, effect_of, planned_verdict, passed_by, switch_past, view_after_tally, view_after_verdicts, view_after_route, view_after_grant, moved_by, credit_put, flit_put};
 ghost use Rattle.noc_router.specs.Sound.{is_awaiting, is_occupied};
 ghost use Rattle.noc_router.specs.Standing.{AreHeads, AreReady, AreWaiting, HaveWon, IsPickedIn, IsStanding, loser_of, way_of};
 ghost use Rattle.noc_router.specs.VerdictSets.{sets_with, verdict_by};
@@ -25,7 +25,7 @@ ghost use Rattle.noc_router.specs.Start.{IsNumberedPacket};
 ghost use Rattle.noc_router.specs.Still.{IsHeldBefore, takes_effect, view_after_waiting};
 ghost use Rattle.noc_router.specs.Tally.{finding_at};
 ghost use Rattle.noc_router.specs.Verdict.{asks_of, is_event, ready_of, arbiters_after};
-ghost use Rattle.noc_router.specs.View.{IsRelationOf, local_channel, size_of, view_buffer, opening_view, with_flit, with_credit, view_after_take, view_after_takes, view_after_inject, decisions_of, outcome, view_after_commit, beat_to_put, view_after_put, idle_beats, local_step, finding_of, route_for, route_of, view_claim, view_output, view_stands, first_flit, view_input, port_and_vc, with_arrival, counts_after};
+ghost use Rattle.noc_router.specs.View.{IsRelationOf, local_channel, size_of, view_buffer, opening_view, with_flit, with_credit, view_after_take, view_after_takes, view_after_inject, decisions_of, plan_contents, view_after_commit, beat_to_put, view_after_put, idle_beats, local_step, finding_of, route_for, route_of, view_claim, view_output, view_stands, first_flit, view_input, port_and_vc, with_arrival, counts_after};
 ghost use Rattle.noc_router.specs.declared.verdict.Verdict.TheVariants.{Empty};
 
 use crate::arbiters::Arbiters;
@@ -228,7 +228,7 @@ impl Router {
     pub fn plan(&self, relation: &Relation, plan: &mut Plan)
         requires relation { IsRelationOf relation.now self.now }
         requires plan { IsDecidedFor (ports_of self.now.site.grid) self.now.site.vcs plan.old }
-        ensures value { plan.new ≡ outcome relation.now self.now }
+        ensures value { plan.new ≡ plan_contents relation.now self.now }
         ensures lengths { IsDecidedFor (ports_of self.now.site.grid) self.now.site.vcs plan.new }
         ensures picks { AllBelow self.now.site.vcs plan.new.round.picks }
     {
@@ -407,8 +407,8 @@ impl Router {
 
     /// Lets the verdicts of the plan of this state take effect, and keeps its findings.
     pub fn commit(&mut self, plan: &Plan)
-        requires { IsOutcomeOf plan.now self.old }
-        ensures { (relation : Routes) → plan.now ≡ outcome relation self.old → self.new ≡ view_after_commit (decisions_of relation self.old) self.old }
+        requires { AreContentsFor plan.now self.old }
+        ensures { (relation : Routes) → plan.now ≡ plan_contents relation self.old → self.new ≡ view_after_commit (decisions_of relation self.old) self.old }
     {
         self.show(plan);
         self.take_effect(plan);
@@ -498,8 +498,8 @@ impl Router {
     // The verdicts of the plan of this state take effect; the findings stay.
     fn take_effect(&mut self, plan: &Plan)
         requires lengths { IsDecidedFor (ports_of self.old.site.grid) self.old.site.vcs plan.now }
-        requires plan { IsOutcomeOf plan.now self.old }
-        ensures { (relation : Routes) → plan.now ≡ outcome relation self.old → self.new ≡ record (view_after_commit (decisions_of relation self.old) self.old) { findings = self.old.findings } }
+        requires plan { AreContentsFor plan.now self.old }
+        ensures { (relation : Routes) → plan.now ≡ plan_contents relation self.old → self.new ≡ record (view_after_commit (decisions_of relation self.old) self.old) { findings = self.old.findings } }
     {
         self.count(plan);
         self.apply_verdicts(plan);
@@ -510,7 +510,7 @@ impl Router {
     // The findings are those of this plan.
     fn show(&mut self, plan: &Plan)
         requires lengths { IsDecidedFor (ports_of self.old.site.grid) self.old.site.vcs plan.now }
-        requires plan { IsOutcomeOf plan.now self.old }
+        requires plan { AreContentsFor plan.now self.old }
         ensures { self.new ≡ record self.old { findings = (decisions_by plan.now self.old).findings } }
     {
         self.tally.show(&self.channels, &self.indices, plan);
@@ -519,7 +519,7 @@ impl Router {
     // The verdicts are counted, and every beat is idle again.
     fn count(&mut self, plan: &Plan)
         requires lengths { IsDecidedFor (ports_of self.old.site.grid) self.old.site.vcs plan.now }
-        requires plan { IsOutcomeOf plan.now self.old }
+        requires plan { AreContentsFor plan.now self.old }
         ensures { self.new ≡ view_after_tally (decisions_by plan.now self.old) self.old }
     {
         self.tally.count(plan);
@@ -555,7 +555,7 @@ impl Router {
     // The verdict of every input channel takes effect, and the pointers of the switch go on past the winners.
     fn apply_verdicts(&mut self, plan: &Plan)
         requires lengths { IsDecidedFor (ports_of self.old.site.grid) self.old.site.vcs plan.now }
-        requires plan { IsOutcomeOf plan.now self.old }
+        requires plan { AreContentsFor plan.now self.old }
         requires beats { self.old.to_put ≡ idle_beats self.old.site }
         ensures { self.new ≡ record (view_after_verdicts (decisions_by plan.now self.old) self.old) { arbiters = record (arbiters_after plan.now.round self.old.arbiters) { channels = self.old.arbiters.channels } } }
     {
@@ -573,9 +573,9 @@ impl Router {
     fn apply_verdict(&mut self, plan: &Plan, index: usize)
         requires lengths { IsDecidedFor (ports_of self.old.site.grid) self.old.site.vcs plan.now }
         requires index { index < size_of self.old.site }
-        requires event { is_event (outcome_verdict plan.now index) ≡ true }
-        requires can { CanTakeEffect plan.now self.old index (outcome_verdict plan.now index) }
-        ensures { self.new ≡ passed_by index (view_input self.old index).phase (outcome_verdict plan.now index) (effect_of plan.now index self.old (outcome_verdict plan.now index)) }
+        requires event { is_event (planned_verdict plan.now index) ≡ true }
+        requires can { CanTakeEffect plan.now self.old index (planned_verdict plan.now index) }
+        ensures { self.new ≡ passed_by index (view_input self.old index).phase (planned_verdict plan.now index) (effect_of plan.now index self.old (planned_verdict plan.now index)) }
     {
         if plan.is_moved(index) {
             if let InputState::Active(next) = self.channels.state(index) {

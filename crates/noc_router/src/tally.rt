@@ -8,7 +8,7 @@ ghost use Rattle.noc_router.specs.Counts.{counts_from, one_at};
 ghost use Rattle.noc_router.specs.Members.{AreBelow};
 ghost use Rattle.noc_ring.specs.Buffers.{buffer_at};
 ghost use Rattle.noc_router.specs.Sound.{nth_input, is_occupied, finding_with};
-ghost use Rattle.noc_router.specs.Settled.{finding_by, outcome_verdict};
+ghost use Rattle.noc_router.specs.Settled.{finding_by, planned_verdict};
 ghost use Rattle.noc_router.specs.Tally.{empty_finding, finding_at, others_in, risen_at, risen_by, IsTally, is_empty_verdict};
 ghost use Rattle.noc_router.specs.Verdict.{column};
 ghost use Rattle.noc_router.specs.VerdictSets.{sets_with, verdict_by};
@@ -70,7 +70,7 @@ impl Tally {
         ensures size { vec_len self.new.counts ≡ vec_len self.old.counts }
         ensures begun { self.new.begun ≡ self.old.begun }
         ensures findings { self.new.findings.items ≡ self.old.findings.items }
-        ensures counts { counts_from self.new.cycles self.new.counters self.new.counts.items ≡ map_indexed (λ i counts. counts_after (outcome_verdict plan.now i) counts) (counts_from self.old.cycles self.old.counters self.old.counts.items) }
+        ensures counts { counts_from self.new.cycles self.new.counters self.new.counts.items ≡ map_indexed (λ i counts. counts_after (planned_verdict plan.now i) counts) (counts_from self.old.cycles self.old.counters self.old.counts.items) }
     {
         if self.cycles == u64::MAX {
             return;
@@ -119,11 +119,11 @@ impl Tally {
     pub(crate) fn count_more(&mut self, channels: &Channels, plan: &Plan, cycles: u64)
         requires channels { channels.now.size ≡ vec_len self.old.counts }
         requires verdicts { length plan.now.verdicts ≡ vec_len self.old.counts }
-        requires occupied { (k : ℕ) → k < vec_len self.old.counts → is_occupied (nth_input channels.now.inputs.items k) (buffer_at channels.now.bank k) ≡ not (is_empty_verdict (outcome_verdict plan.now k)) }
+        requires occupied { (k : ℕ) → k < vec_len self.old.counts → is_occupied (nth_input channels.now.inputs.items k) (buffer_at channels.now.bank k) ≡ not (is_empty_verdict (planned_verdict plan.now k)) }
         ensures size { vec_len self.new.counts ≡ vec_len self.old.counts }
         ensures begun { self.new.begun ≡ self.old.begun }
         ensures findings { self.new.findings.items ≡ self.old.findings.items }
-        ensures counts { counts_from self.new.cycles self.new.counters self.new.counts.items ≡ map_indexed (λ i counts. counted_times cycles (outcome_verdict plan.now i) counts) (counts_from self.old.cycles self.old.counters self.old.counts.items) }
+        ensures counts { counts_from self.new.cycles self.new.counters self.new.counts.items ≡ map_indexed (λ i counts. counted_times cycles (planned_verdict plan.now i) counts) (counts_from self.old.cycles self.old.counters self.old.counts.items) }
     {
         let more = cycles.min(u64::MAX - self.cycles);
         self.cycles += more;
@@ -165,7 +165,7 @@ impl Tally {
         requires indices { indices.now.size ≡ vec_len self.old.counts }
         requires asks { length plan.now.asks ≡ vec_len self.old.counts }
         requires verdicts { length plan.now.verdicts ≡ vec_len self.old.counts }
-        requires occupied { (k : ℕ) → k < vec_len self.old.counts → is_occupied (nth_input channels.now.inputs.items k) (buffer_at channels.now.bank k) ≡ not (is_empty_verdict (outcome_verdict plan.now k)) }
+        requires occupied { (k : ℕ) → k < vec_len self.old.counts → is_occupied (nth_input channels.now.inputs.items k) (buffer_at channels.now.bank k) ≡ not (is_empty_verdict (planned_verdict plan.now k)) }
         ensures size { vec_len self.new.counts ≡ vec_len self.old.counts }
         ensures begun { self.new.begun ≡ true }
         ensures findings { self.new.findings.items ≡ tabulate (vec_len self.old.counts) (finding_by plan.now indices.now.vcs channels.now.inputs.items) }
@@ -186,7 +186,7 @@ impl Tally {
         requires asks { length plan.now.asks ≡ vec_len self.old.counts }
         requires verdicts { length plan.now.verdicts ≡ vec_len self.old.counts }
         requires left { AreBelow (vec_len self.old.counts) left }
-        requires full { (k : ℕ) → k < vec_len self.old.counts → has_bit left k ≡ not (is_empty_verdict (outcome_verdict plan.now k)) }
+        requires full { (k : ℕ) → k < vec_len self.old.counts → has_bit left k ≡ not (is_empty_verdict (planned_verdict plan.now k)) }
         requires others { (k : ℕ) → k < vec_len self.old.counts → has_bit left k ≡ false → finding_at self.old.findings.items k ≡ finding_by plan.now indices.now.vcs channels.now.inputs.items k }
         ensures size { vec_len self.new.counts ≡ vec_len self.old.counts }
         ensures begun { self.new.begun ≡ self.old.begun }

@@ -1,7 +1,7 @@
 use Rattle.std.proofs.Common.{◌≡◌, ap, sym, subst}
 use Rattle.noc_files.specs.Writing.{Wrote}
 use Rattle.noc_requests.specs.Asked.{Asked, ReadsAs, as_files, lent_files, files_of, is_joined}
-use Rattle.noc_requests.specs.Outcome.{Ends}
+use Rattle.noc_requests.specs.Ending.{Ends}
 use Rattle.noc_requests.specs.declared.request.Command.{Command}
 use Rattle.noc_answers.specs.Answer.{Asks, AsksFor, FirstFault, TextsFault, in_texts}
 use Rattle.noc_answers.specs.Run.{workers_of}

@@ -1,7 +1,7 @@
 use Rattle.std.proofs.Common.{◌≡◌, ℕ, subst}
 use Rattle.noc_files.specs.Writing.{Wrote}
 use Rattle.noc_requests.specs.Asked.{lent_files}
-use Rattle.noc_requests.specs.Outcome.{Ends}
+use Rattle.noc_requests.specs.Ending.{Ends}
 use Rattle.noc_answers.specs.Answer.{Asks, AsksFor, FirstFault, TextsFault, in_texts}
 use Rattle.noc_answers.specs.Run.{workers_of}
 use Rattle.noc_requests.proofs.OutcomeFacts.{ends_more}

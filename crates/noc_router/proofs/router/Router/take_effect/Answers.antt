@@ -1,7 +1,7 @@
 use Rattle.std.proofs.Common.{◌≡◌, ap, sym, ◌∙◌, subst}
 use Rattle.noc_topo.specs.Shape.{ports}
 use Rattle.noc_router.specs.Decided.{IsDecidedFor}
-use Rattle.noc_router.specs.Settled.{IsOutcomeOf, decisions_by, view_after_verdicts}
+use Rattle.noc_router.specs.Settled.{AreContentsFor, decisions_by, view_after_verdicts}
 use Rattle.noc_router.specs.Verdict.{arbiters_after}
 use Rattle.noc_router.specs.View.{Site, View, view_after_commit}
 use Rattle.noc_router.proofs.OutcomeLemmas.{decisions-are, outcome-tallied}
@@ -12,7 +12,7 @@ pub apply_verdicts-requires-clause-plan : goal.apply_verdicts-requires-clause-pl
 apply_verdicts-requires-clause-plan c =
     let p = c.args.plan.now in
     let v = c.args.self.now in
-    let P : View → Type 0 = λ x. IsOutcomeOf p x in
+    let P : View → Type 0 = λ x. AreContentsFor p x in
     subst P (sym c.count.ensures) (outcome-tallied p (decisions_by p v) v c.requires.plan)
 
 pub advance_channel_pointers-requires : goal.advance_channel_pointers-requires

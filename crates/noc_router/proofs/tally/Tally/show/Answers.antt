@@ -1,7 +1,7 @@
 use Rattle.std.proofs.Common.{◌<◌, None, ap, get_or, sym, ◌∙◌, arith, vec_len}
 use Rattle.noc_topo.proofs.WordLemmas.{tabulate-from_each}
 use Rattle.noc_ring.specs.Buffers.{buffer_at}
-use Rattle.noc_router.specs.Settled.{finding_by, outcome_verdict}
+use Rattle.noc_router.specs.Settled.{finding_by, planned_verdict}
 use Rattle.noc_router.specs.Sound.{nth_input, finding_with}
 use Rattle.noc_router.specs.Tally.{empty_finding}
 use Rattle.noc_router.proofs.TallyLemmas.{empty_is, vacant-found}
@@ -18,7 +18,7 @@ show_all-requires-clause-others c = λ k l e.
     let low : k < vec_len t.counts = omega (arith, l, f.one_each, t.one_each, c.forget.ensures.size) in
     let inside : k < c.args.channels.now.size = omega (arith, c.requires.channels, low) in
     let nothing = sym (c.occupied-occupied.ensures.members k inside) ∙ e in
-    let empty = empty_is (outcome_verdict q k) (sym (c.requires.occupied k low) ∙ nothing) in
+    let empty = empty_is (planned_verdict q k) (sym (c.requires.occupied k low) ∙ nothing) in
     c.forget.ensures.findings k e ∙ sym (vacant-found vcs input (buffer_at c.args.channels.now.bank k) (get_or q.asks k None) nothing (c.occupied-occupied.ensures.vacant k inside e))
     ∙ ap (λ v. finding_with vcs input v (get_or q.asks k None)) empty
 
