@@ -1,6 +1,6 @@
 //! What one router decides in one cycle.
 //!
-//! A plan keeps verdicts and no findings: it is seen as an `Outcome`, which has the round, what is asked for,
+//! A plan keeps verdicts and no findings: it is seen as `PlanContents`, which has the round, what is asked for,
 //! the verdicts and the routes. Packet and output channel of a finding are those of the view, so `commit` reads
 //! them there. A whole cycle is defined by `Decisions`, which adds findings; `decisions-are` proves once that
 //! both agree.
