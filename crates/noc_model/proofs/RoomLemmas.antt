@@ -10,7 +10,7 @@ use Rattle.noc_topo.specs.Words.{Has, Pairs}
 use Rattle.noc_model.proofs.Members.{Has-filter, each-at}
 use Rattle.noc_model.proofs.PlaceLemmas.{IsKeyed, IsSortedPair, place-of-flit}
 use Rattle.noc_model.proofs.WormRecord.{IsWorm, IsPlaced}
-pub use Rattle.noc_model.proofs.StateWords.{held}
+pub use Rattle.noc_model.proofs.StateWords.{places_taken}
 
 -- ---- counting through a step
 
