@@ -11,7 +11,7 @@ use Rattle.noc_model.proofs.WormRecord.{IsWorm, worm-landed, worm-freed}
 use Rattle.noc_model.proofs.InjectionPhase.{IsInjected}
 use Rattle.noc_model.proofs.InjectionState.{worm-after_injection, keyed-after_injection, entries-move, entries-are, entries-apart, all_entries}
 use Rattle.noc_model.proofs.VerdictPhase.{worm-after_verdicts, keyed-after_verdicts}
-use Rattle.noc_model.proofs.RoomLemmas.{held, landed-count}
+use Rattle.noc_model.proofs.RoomLemmas.{places_taken, landed-count}
 use Rattle.noc_model.proofs.InjectionRoom.{room-after_injection}
 use Rattle.noc_model.proofs.VerdictRoom.{room-after_verdicts}
 
@@ -20,7 +20,7 @@ module _ (net : Setup) where
   pub record IsSoundState (S : State) : Type 0 where
     pub keyed : IsKeyed net S.at
     pub worm : IsWorm net S.own (place_of_flit net S)
-    pub room : (c : Channel) → held net S c ≤ net.places
+    pub room : (c : Channel) → places_taken net S c ≤ net.places
 
   -- the invariant of the frozen state: nothing is on a wire
   pub record IsSoundFrozen (F : State) : Type 0 where

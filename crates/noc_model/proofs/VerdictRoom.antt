@@ -17,7 +17,7 @@ use Rattle.noc_model.proofs.OwnedLemmas.{once-same}
 use Rattle.noc_model.proofs.PlaceLemmas.{IsValid, IsKeyed, IsSortedPair, place-of-flit, place-stepped, is_on-is}
 use Rattle.noc_model.proofs.WormRecord.{IsWorm}
 use Rattle.noc_model.proofs.MoveLemmas.{IsMoving, IsMoved, moved-or-not, next-once}
-use Rattle.noc_model.proofs.RoomLemmas.{held, Gains, count-one_more, filter-some}
+use Rattle.noc_model.proofs.RoomLemmas.{places_taken, Gains, count-one_more, filter-some}
 
 -- flits in order are of different keys
 pub sorted-distinct : (net : Setup) (fs : List Located) → Pairs IsSortedPair fs → IsDistinct same_flit fs
@@ -50,8 +50,8 @@ module _ (net : Setup) (F : State) where
       at : (a : Option (ℕ × ℕ)) → arrival_of net.relation.grid c ≡ a → (0 < count_in net F c) × (has_credit_in net F o ≡ true)
       at None h = let g : Empty ≡ Moved = sym (ap (verdict_at net F c) h) ∙ e in absurd (cc g)
       at (Some place) h =
-          let held = moved-holds net.relation.vcs (round_at net F place.0) (place.1 * net.relation.vcs + channel_vc c) (claim_of net F place.0 c) (nat_lt 0 (count_in net F c)) (sym (ap (verdict_at net F c) h) ∙ e) in
-          (ltb-true _ _ held.2, holding place.0 held.0 held.1)
+          let places_taken = moved-holds net.relation.vcs (round_at net F place.0) (place.1 * net.relation.vcs + channel_vc c) (claim_of net F place.0 c) (nat_lt 0 (count_in net F c)) (sym (ap (verdict_at net F c) h) ∙ e) in
+          (ltb-true _ _ places_taken.2, holding place.0 places_taken.0 places_taken.1)
 
 module _ (net : Setup) (built : IsBuilt net) (F : State) (keyed : IsKeyed net F.at) (w : IsWorm net F.own (place_of_flit net F))
     (n : ℕ) (still : (p i : ℕ) → IsValid net p i → (c : Channel) → place_of_flit net F p i ≢ On c) where
@@ -150,7 +150,7 @@ module _ (net : Setup) (built : IsBuilt net) (F : State) (keyed : IsKeyed net F.
           absurd (still f.packet f.index (keyed.valid f r.1) o (place-of-flit net F keyed f r.1 ∙ is_on-is o f.place r.2))
 
   -- the credit law: on + in + back ≤ the places of a buffer
-  pub room-after_verdicts : (c : Channel) → count_in net F c ≤ net.places → held net T c ≤ net.places
+  pub room-after_verdicts : (c : Channel) → count_in net F c ≤ net.places → places_taken net T c ≤ net.places
   unfolding after_verdicts
   room-after_verdicts c room = cases (filter-some (λ (f : Located). is_on c f.place) T.at)
     where
@@ -180,7 +180,7 @@ module _ (net : Setup) (built : IsBuilt net) (F : State) (keyed : IsKeyed net F.
       link-of f h d (Inject k u) m e = let z : In d ≡ On (Inject k u) = sym m.now ∙ e in absurd (cc z)
       link-of f h d (Eject k u) m e = let z : Out n ≡ On (Eject k u) = sym m.now ∙ e in absurd (cc z)
 
-      cases : (count_on net T c ≡ 0) ⊎ ((f : Located) × Has f T.at × (is_on c f.place ≡ true)) → held net T c ≤ net.places
+      cases : (count_on net T c ≡ 0) ⊎ ((f : Located) × Has f T.at × (is_on c f.place ≡ true)) → places_taken net T c ≤ net.places
       cases (inl e) = let r = rest in omega arith
       cases (inr r) =
           let m = Has-map step r.0 F.at r.1 in

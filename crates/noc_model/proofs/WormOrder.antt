@@ -14,7 +14,7 @@ use Rattle.noc_model.proofs.PathLemmas.{IsEject, IsBehind, path-behind, ends-at-
 use Rattle.noc_model.proofs.PlaceLemmas.{IsKeyed, place-of-flit}
 use Rattle.noc_model.proofs.WormRecord.{IsWorm, IsPlaced, IsEntering, class_of, goal, last_of, far_of, valid-last}
 use Rattle.noc_model.proofs.MoveLemmas.{placed-in}
-use Rattle.noc_model.proofs.RoomLemmas.{held}
+use Rattle.noc_model.proofs.RoomLemmas.{places_taken}
 use Rattle.noc_model.proofs.Unmixed.{unmixed-buffer}
 use Rattle.noc_model.proofs.RoutedRecord.{IsHeld}
 use Rattle.noc_model.proofs.RoutedState.{IsWhole, IsWholeFrozen, whole-state, whole-frozen_state}
@@ -156,11 +156,11 @@ module _ (net : Setup) (good : IsGoodSetup net) where
       (λ c p h l e. absurd (false≢true (sym (x.routed.behind c p h) ∙ e))) x.routed.mid.eject x.sound.room
 
   -- what is on the wire, in the buffer and on its way back is never more than the places of a buffer, at the start of each cycle
-  pub held-at : (n : ℕ) (c : Channel) → held net (state_at net n) c ≤ net.places
+  pub held-at : (n : ℕ) (c : Channel) → places_taken net (state_at net n) c ≤ net.places
   held-at n c = (whole-at n).sound.room c
 
   -- and the credits are all that is left
-  pub credit-at : (n : ℕ) (c : Channel) → credit_of net (state_at net n) c + held net (state_at net n) c ≡ net.places
+  pub credit-at : (n : ℕ) (c : Channel) → credit_of net (state_at net n) c + places_taken net (state_at net n) c ≡ net.places
   credit-at n c =
       rest (count_on net (state_at net n) c) (count_in net (state_at net n) c) (if has_channel (state_at net n).back c then 1 else 0) (held-at n c)
     where
