@@ -21,7 +21,7 @@ from pathlib import Path
 TOP = Path(__file__).resolve().parent
 OUT = TOP / "crates/noc/out"
 PROGRAM, LOG, ROOMS = OUT / "noc", OUT / "build.log", OUT / "rooms"
-KIT = "rattle-kit-13b"
+KIT = "rattle-kit-13f"
 PARTS = ("src", "specs", "proofs")
 DISK, MEMORY = 4 << 30, 2 << 30
 # The seconds that each crate took beside the others on four processors, once. Only their shares count.

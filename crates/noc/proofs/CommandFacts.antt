@@ -24,7 +24,7 @@ pub line_is_simple : (names : ValueParser) → is_simple (command_line names) �
 unfolding clap_on_literals
 line_is_simple names = refl
 
--- .. and the faults that it finds, since no word has a rule on another one
+-- clap's words tell the faults exactly, since no word has a rule on another one
 pub line_is_free : (names : ValueParser) → is_simple_and_free (command_line names) ≡ true
 unfolding clap_on_literals
 line_is_free names = refl

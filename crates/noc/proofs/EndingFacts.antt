@@ -4,7 +4,7 @@ use Rattle.std.specs.Prelude.{IsErr, drop, take}
 use Rattle.std.specs.Io.KnownBytes.{Appends, Keeps, append_known}
 use Rattle.std.proofs.lemmas.List.{append_assoc, append-nil, take-append-drop}
 use Rattle.noc_files.specs.Writing.{Wrote}
-use Rattle.noc_requests.specs.Outcome.{Ends}
+use Rattle.noc_requests.specs.Ending.{Ends}
 use Rattle.noc_requests.specs.declared.fault.Fault.{Fault}
 use Rattle.noc_requests.specs.declared.fault.Fault.TheVariants as fault
 use Rattle.noc_requests.specs.declared.request.Request.{Request}
@@ -22,7 +22,7 @@ whole (Some xs) (Some ys) None text buffer appends keeps empty = absurd appends
 whole (Some xs) (Some ys) (Some ws) text buffer appends keeps empty =
     sym (append-nil ys) ∙ ap (λ rest. ys ++ rest) (sym empty) ∙ keeps ∙ appends ∙ ap (λ zs. zs ++ text) (append-nil xs)
 
--- .. and is a front of it, where some of it is still in the buffer, and more was to follow
+-- what is on a device is a front of what was put, where some is still in the buffer and more was to follow
 front : (old new through : Option (List ℕ)) (sent more text buffer : List ℕ) → sent ++ more ≡ text
     → Appends (append_known old []) through sent → Keeps through (append_known new buffer) → AreFrontOf old new text
 front None new through sent more text buffer parts appends keeps = tt

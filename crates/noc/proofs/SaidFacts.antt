@@ -14,7 +14,7 @@ said X Y None read other none value = ap (λ (r : Option ℕ). unwrap_or r other
 said X Y (Some t) (Some n) other none value = inl (value t refl).0
 said X Y (Some t) None other none value = inr ((value t refl).1.0, refl)
 
--- .. if there is one
+-- a word, if there is one, that is read as a number of 64 bits says what is read
 pub said_if_any : {E : Type 0} (X Y : List ℕ → Result ℕ E → Type 0) (word : Option (List ℕ)) (read : Option ℕ)
     → (word ≡ None → read ≡ None)
     → ((t : List ℕ) → word ≡ Some t → ReadsOne (λ bs r. ParsesUnsigned 64 10 bs r × X bs r × Y bs r) t read)

@@ -8,7 +8,7 @@ ghost use Rattle.std.specs.Io.KnownBytes.{Keeps};
 ghost use Rattle.std.specs.Option.{MatchOption};
 ghost use Rattle.std.specs.Process.{exit_status};
 ghost use Rattle.noc_requests.specs.Line.{line_of};
-ghost use Rattle.noc_requests.specs.Outcome.{Ends};
+ghost use Rattle.noc_requests.specs.Ending.{Ends};
 ghost use Rattle.noc_requests.specs.Status.{status_of_fault};
 ghost use Rattle.noc_answers.specs.Answer.{Asks, ToldFault};
 ghost use Rattle.noc_answers.specs.Run.{HasWorkers, workers_of};
@@ -54,24 +54,24 @@ enum Refusal {
 }
 
 fn main(rt: HostRuntime) -> ExitCode {
-    let request = match asked(&rt) {
+    let request = match parse_request(&rt) {
         Ok(request) => request,
-        Err(refusal) => return refused(rt.stderr(), &refusal),
+        Err(refusal) => return report_refusal(rt.stderr(), &refusal),
     };
     let (ended, _) = write_answer(&rt, rt.alloc(), &request, io::writer(&rt));
     match ended {
         Ok(status) => ExitCode::from(status.code()),
-        Err(fault) => told(rt.stderr(), &fault),
+        Err(fault) => report_fault(rt.stderr(), &fault),
     }
 }
 
 // Tells why the words make no request, and gives the exit status.
-fn refused<W: Write + Drop>(mut to: W, refusal: &Refusal) -> ExitCode
+fn report_refusal<W: Write + Drop>(mut to: W, refusal: &Refusal) -> ExitCode
     ensures memory { refusal.now ≡ Refusal.Memory → exit_status result ≡ 6 }
     ensures words { refusal.now ≢ Refusal.Memory → exit_status result ≡ 2 }
 {
     let _ = match refusal {
-        Refusal::Memory => return told(to, &Fault::Config(InputFault::Memory)),
+        Refusal::Memory => return report_fault(to, &Fault::Config(InputFault::Memory)),
         Refusal::NotText(None) => writeln!(to, "error: a word is no text in UTF-8"),
         Refusal::NotText(Some(number)) => {
             let mut line = Collected::new();
@@ -85,7 +85,7 @@ fn refused<W: Write + Drop>(mut to: W, refusal: &Refusal) -> ExitCode
 
 // Tells a fault, and gives its exit status. The line goes out in one write, so that programs side by side, with one file for
 // their errors, leave whole lines there.
-fn told<W: Write + Drop>(mut to: W, fault: &Fault) -> ExitCode
+fn report_fault<W: Write + Drop>(mut to: W, fault: &Fault) -> ExitCode
     ensures { exit_status result ≡ status_of_fault fault.now }
 {
     let _ = match collected_line(fault) {
@@ -106,7 +106,7 @@ fn collected_line(fault: &Fault) -> Option<Collected>
 }
 
 // What the words of the command line ask for.
-fn asked(rt: &(impl Env + Files + Input + AllocGlobal)) -> Result<Request, Refusal>
+fn parse_request(rt: &(impl Env + Files + Input + AllocGlobal)) -> Result<Request, Refusal>
     ensures { IfOk result (λ request. HasWorkers request.command) }
 {
     let words = all_words(rt)?;

@@ -28,7 +28,7 @@ those-more test n set more is members so_far k = at (cases_eq k n) (cases_lt k n
         members k ∙ ap (λ b. b || has_bit set k) (ne_eqb k n other) ∙ so_far k ∙ ap (λ b. b && test k) (le-ltb k n more_than)
         ∙ sym (ap (λ b. b && test k) (le-ltb k (n + 1) (omega arith)))
 
--- .. of which it is not
+-- one more number, of which the test is not true
 pub those-same : (test : ℕ → Bool) (n set : ℕ) → test n ≡ false → AreThose test n set → AreThose test (n + 1) set
 those-same test n set is so_far k = at (cases_eq k n) (cases_lt k n)
   where

@@ -2,15 +2,15 @@
 use Rattle.std.proofs.Common.{◌≡◌, ℕ, ◌+◌, ◌^◌, List, [], ◌∷◌, get_or, Option, Some, None, refl}
 use Rattle.noc_topo.specs.Words.{below, tabulate, map_indexed, least_by}
 use Rattle.noc_packet.specs.Set.{has_bit}
-use Rattle.noc_alloc.specs.Arbiter.{Turn, first_in_turn, advanced, pointers_of}
-use Rattle.noc_alloc.specs.Allocation.{grant_of, pick_of, winner_of, winning_pick, turned_by}
+use Rattle.noc_alloc.specs.Arbiter.{RoundRobin, first_in_turn, pointer_after, pointers_of}
+use Rattle.noc_alloc.specs.Allocation.{grant_of, pick_of, winner_of, winning_pick, arbiters_after_winners}
 
 -- 0, 2 and 4 ask an arbiter of size 5: the bits are 1 + 4 + 16
 pub four-from_3 : first_in_turn 5 3 (has_bit 21) ≡ Some 4
 unfolding first_in_turn below least_by
 four-from_3 = refl
 
-pub past_four : advanced 5 3 (Some 4) ≡ 0
+pub past_four : pointer_after 5 3 (Some 4) ≡ 0
 past_four = refl
 
 pub zero-from_0 : first_in_turn 5 0 (has_bit 21) ≡ Some 0
@@ -36,10 +36,10 @@ picks = Some 0 ∷ Some 0 ∷ None ∷ []
 abbrev wins : List (Option ℕ)
 wins = None ∷ None ∷ Some 1 ∷ []
 
-abbrev inputs : List Turn
+abbrev inputs : List RoundRobin
 inputs = record { size = 2; pointer = 0 } ∷ record { size = 2; pointer = 0 } ∷ record { size = 2; pointer = 0 } ∷ []
 
-abbrev outputs : List Turn
+abbrev outputs : List RoundRobin
 outputs = record { size = 3; pointer = 0 } ∷ record { size = 3; pointer = 0 } ∷ record { size = 3; pointer = 1 } ∷ []
 
 pub first_channels-picked : tabulate 3 (pick_of ready 2 (pointers_of inputs)) ≡ picks
@@ -50,11 +50,11 @@ pub port_1-wins : tabulate 3 (winner_of ready 2 3 picks (pointers_of outputs)) �
 unfolding tabulate first_in_turn below least_by
 port_1-wins = refl
 
-pub input_pointers : pointers_of (turned_by (winning_pick picks wins) inputs) ≡ 0 ∷ 1 ∷ 0 ∷ []
+pub input_pointers : pointers_of (arbiters_after_winners (winning_pick picks wins) inputs) ≡ 0 ∷ 1 ∷ 0 ∷ []
 unfolding map_indexed
 input_pointers = refl
 
-pub output_pointers : pointers_of (turned_by (λ p. get_or wins p None) outputs) ≡ 0 ∷ 0 ∷ 2 ∷ []
+pub output_pointers : pointers_of (arbiters_after_winners (λ p. get_or wins p None) outputs) ≡ 0 ∷ 0 ∷ 2 ∷ []
 unfolding map_indexed
 output_pointers = refl
 

@@ -5,9 +5,9 @@ use Rattle.std.proofs.lemmas.Bool.{cases_eq, cases_lt, false≢true, or_cases, l
 use Rattle.std.proofs.lemmas.Nat.{mul-add-lt}
 use Rattle.std.proofs.lemmas.List.{get_or-map}
 use Rattle.noc_topo.specs.Words.{is_some_of, tabulate}
-use Rattle.noc_alloc.specs.Arbiter.{Turn, first_in_turn, turned, turn_at, pointers_of}
-use Rattle.noc_alloc.specs.Allocation.{picked_port, winner_of, has_won, winning_pick, moving_pick, turned_by, is_won_by, pick_won}
-use Rattle.noc_alloc.specs.Steps.{turned_winner}
+use Rattle.noc_alloc.specs.Arbiter.{RoundRobin, first_in_turn, arbiter_after, arbiter_at, pointers_of}
+use Rattle.noc_alloc.specs.Allocation.{picked_port, winner_of, has_won, winning_pick, moving_pick, arbiters_after_winners, is_won_by, pick_won}
+use Rattle.noc_alloc.specs.Steps.{arbiters_after_winner}
 use Rattle.noc_alloc.proofs.WordLemmas.{map_indexed-from_each, length-map_indexed, get_or-map_indexed, get_or-tabulate, length-tabulate, is_some_of-true, is_some_of-some, is_some_of-none, is_some_of-other}
 use Rattle.noc_alloc.proofs.ArbiterLemmas.{first_in_turn-picks}
 
@@ -23,8 +23,8 @@ first_in_turn-below n p asks = at (first_in_turn n p asks) refl
     at None e = tt
     at (Some y) e = (first_in_turn-picks n p y asks e).1
 
-pub pointer-at : (turns : List Turn) (o : ℕ) → o < length turns → get_or (pointers_of turns) o 0 ≡ (turn_at turns o).pointer
-pointer-at turns o l = get_or-map (λ (t : Turn). t.pointer) turns o (record { size = 0; pointer = 0 }) 0 l
+pub pointer-at : (turns : List RoundRobin) (o : ℕ) → o < length turns → get_or (pointers_of turns) o 0 ≡ (arbiter_at turns o).pointer
+pointer-at turns o l = get_or-map (λ (t : RoundRobin). t.pointer) turns o (record { size = 0; pointer = 0 }) 0 l
 
 -- every winner is below the number of requesters
 pub tabulate-inside : (n m : ℕ) (f : ℕ → Option ℕ) (xs : List (Option ℕ)) → ((k : ℕ) → IfSome (f k) (λ y. y < m)) → xs ≡ tabulate n f → All (λ x. IfSome x (λ y. y < m)) xs
@@ -34,7 +34,7 @@ tabulate-inside n m f xs inside is k d l =
 
 -- ---- pointers
 -- to turn twice to one winner is to turn once
-pub turned-again : (t : Turn) (b : Bool) (w : Option ℕ) → turned (turned t (if b then w else None)) w ≡ turned t w
+pub turned-again : (t : RoundRobin) (b : Bool) (w : Option ℕ) → arbiter_after (arbiter_after t (if b then w else None)) w ≡ arbiter_after t w
 turned-again t true None = refl
 turned-again t true (Some x) = refl
 turned-again t false None = refl
@@ -56,15 +56,15 @@ has_won-more (w ∷ ws) (suc i) port l =
     turn false b c = refl
 
 -- the arbiters of the input ports, where the output ports below i have been looked at
-abbrev pub AllTurned : List Turn → List (Option ℕ) → List (Option ℕ) → ℕ → List Turn → Type 0
-AllTurned before picks wins i after = (k : ℕ) → k < length before → turn_at after k ≡ turned (turn_at before k) (winning_pick picks (take i wins) k)
+abbrev pub AllTurned : List RoundRobin → List (Option ℕ) → List (Option ℕ) → ℕ → List RoundRobin → Type 0
+AllTurned before picks wins i after = (k : ℕ) → k < length before → arbiter_at after k ≡ arbiter_after (arbiter_at before k) (winning_pick picks (take i wins) k)
 
-pub turned-more : (before after : List Turn) (picks wins : List (Option ℕ)) (i : ℕ) (r : Option ℕ) → get_or wins i None ≡ r → i < length wins → length after ≡ length before
+pub turned-more : (before after : List RoundRobin) (picks wins : List (Option ℕ)) (i : ℕ) (r : Option ℕ) → get_or wins i None ≡ r → i < length wins → length after ≡ length before
     → IfSome r (λ q. q < length before)
-    → AllTurned before picks wins i after → AllTurned before picks wins (i + 1) (turned_winner r picks after)
+    → AllTurned before picks wins i after → AllTurned before picks wins (i + 1) (arbiters_after_winner r picks after)
 turned-more before after picks wins i None e l same inside h k u =
     h k u
-    ∙ ap (λ b. turned (turn_at before k) (if b then get_or picks k None else None))
+    ∙ ap (λ b. arbiter_after (arbiter_at before k) (if b then get_or picks k None else None))
     (sym (has_won-more wins i k l ∙ ap (λ b. has_won (take i wins) k || b) (is_some_of-none (get_or wins i None) k e) ∙ or_false (has_won (take i wins) k)))
   where
     or_false : (b : Bool) → (b || false) ≡ b
@@ -80,55 +80,55 @@ turned-more before after picks wins i (Some q) e l same inside h k u = at (cases
     or_true true = refl
     or_true false = refl
 
-    at : (k ≡ q) ⊎ (k ≡ q → ⊥) → turn_at (set after q (turned (turn_at after q) (get_or picks q None))) k ≡ turned (turn_at before k) (winning_pick picks (take (i + 1) wins) k)
+    at : (k ≡ q) ⊎ (k ≡ q → ⊥) → arbiter_at (set after q (arbiter_after (arbiter_at after q) (get_or picks q None))) k ≡ arbiter_after (arbiter_at before k) (winning_pick picks (take (i + 1) wins) k)
     at (inl is) =
         let won : has_won (take (i + 1) wins) q ≡ true = has_won-more wins i q l ∙ ap (λ b. has_won (take i wins) q || b) (is_some_of-some (get_or wins i None) q e) ∙ or_true (has_won (take i wins) q) in
-        ap (turn_at (set after q (turned (turn_at after q) (get_or picks q None)))) is
-        ∙ get_or-set_same after q (turned (turn_at after q) (get_or picks q None)) (record { size = 0; pointer = 0 }) (omega arith)
-        ∙ ap (λ (t : Turn). turned t (get_or picks q None)) (h q inside)
-        ∙ turned-again (turn_at before q) (has_won (take i wins) q) (get_or picks q None)
-        ∙ ap (λ b. turned (turn_at before q) (if b then get_or picks q None else None)) (sym won)
-        ∙ ap (λ j. turned (turn_at before j) (winning_pick picks (take (i + 1) wins) j)) (sym is)
+        ap (arbiter_at (set after q (arbiter_after (arbiter_at after q) (get_or picks q None)))) is
+        ∙ get_or-set_same after q (arbiter_after (arbiter_at after q) (get_or picks q None)) (record { size = 0; pointer = 0 }) (omega arith)
+        ∙ ap (λ (t : RoundRobin). arbiter_after t (get_or picks q None)) (h q inside)
+        ∙ turned-again (arbiter_at before q) (has_won (take i wins) q) (get_or picks q None)
+        ∙ ap (λ b. arbiter_after (arbiter_at before q) (if b then get_or picks q None else None)) (sym won)
+        ∙ ap (λ j. arbiter_after (arbiter_at before j) (winning_pick picks (take (i + 1) wins) j)) (sym is)
     at (inr other) =
-        get_or-set_other after q k (turned (turn_at after q) (get_or picks q None)) (record { size = 0; pointer = 0 }) other
+        get_or-set_other after q k (arbiter_after (arbiter_at after q) (get_or picks q None)) (record { size = 0; pointer = 0 }) other
         ∙ h k u
-        ∙ ap (λ b. turned (turn_at before k) (if b then get_or picks k None else None))
+        ∙ ap (λ b. arbiter_after (arbiter_at before k) (if b then get_or picks k None else None))
         (sym (has_won-more wins i k l ∙ ap (λ b. has_won (take i wins) k || b) (is_some_of-other (get_or wins i None) k q e (λ same_port. other (sym same_port))) ∙ or_false (has_won (take i wins) k)))
 
 -- the arbiters below i have turned
-abbrev pub AreTurnedBelow : List Turn → List (Option ℕ) → ℕ → List Turn → Type 0
-AreTurnedBelow before wins i after = (k : ℕ) → turn_at after k ≡ (if nat_lt k i then turned (turn_at before k) (get_or wins k None) else turn_at before k)
+abbrev pub AreTurnedBelow : List RoundRobin → List (Option ℕ) → ℕ → List RoundRobin → Type 0
+AreTurnedBelow before wins i after = (k : ℕ) → arbiter_at after k ≡ (if nat_lt k i then arbiter_after (arbiter_at before k) (get_or wins k None) else arbiter_at before k)
 
--- .. one more
-pub turned_below-more : (before after : List Turn) (wins : List (Option ℕ)) (i : ℕ) (new : Turn) → i < length after → new ≡ turned (turn_at before i) (get_or wins i None)
+-- one arbiter more has gone on
+pub turned_below-more : (before after : List RoundRobin) (wins : List (Option ℕ)) (i : ℕ) (new : RoundRobin) → i < length after → new ≡ arbiter_after (arbiter_at before i) (get_or wins i None)
     → AreTurnedBelow before wins i after → AreTurnedBelow before wins (i + 1) (set after i new)
 turned_below-more before after wins i new l is so_far k = at (cases_eq k i) (cases_lt k i)
   where
-    at : (k ≡ i) ⊎ (k ≡ i → ⊥) → (k < i) ⊎ (i ≤ k) → turn_at (set after i new) k ≡ (if nat_lt k (i + 1) then turned (turn_at before k) (get_or wins k None) else turn_at before k)
+    at : (k ≡ i) ⊎ (k ≡ i → ⊥) → (k < i) ⊎ (i ≤ k) → arbiter_at (set after i new) k ≡ (if nat_lt k (i + 1) then arbiter_after (arbiter_at before k) (get_or wins k None) else arbiter_at before k)
     at (inl same) _ =
-        ap (turn_at (set after i new)) same ∙ get_or-set_same after i new (record { size = 0; pointer = 0 }) l ∙ is
-        ∙ ap (λ j. turned (turn_at before j) (get_or wins j None)) (sym same)
-        ∙ sym (ap (λ b. if b then turned (turn_at before k) (get_or wins k None) else turn_at before k) (lt-ltb k (i + 1) (omega arith)))
+        ap (arbiter_at (set after i new)) same ∙ get_or-set_same after i new (record { size = 0; pointer = 0 }) l ∙ is
+        ∙ ap (λ j. arbiter_after (arbiter_at before j) (get_or wins j None)) (sym same)
+        ∙ sym (ap (λ b. if b then arbiter_after (arbiter_at before k) (get_or wins k None) else arbiter_at before k) (lt-ltb k (i + 1) (omega arith)))
     at (inr other) (inl less) =
         get_or-set_other after i k new (record { size = 0; pointer = 0 }) other ∙ so_far k
-        ∙ ap (λ b. if b then turned (turn_at before k) (get_or wins k None) else turn_at before k) (lt-ltb k i less ∙ sym (lt-ltb k (i + 1) (omega arith)))
+        ∙ ap (λ b. if b then arbiter_after (arbiter_at before k) (get_or wins k None) else arbiter_at before k) (lt-ltb k i less ∙ sym (lt-ltb k (i + 1) (omega arith)))
     at (inr other) (inr more) =
         get_or-set_other after i k new (record { size = 0; pointer = 0 }) other ∙ so_far k
-        ∙ ap (λ b. if b then turned (turn_at before k) (get_or wins k None) else turn_at before k) (le-ltb k i more ∙ sym (le-ltb k (i + 1) (omega arith)))
+        ∙ ap (λ b. if b then arbiter_after (arbiter_at before k) (get_or wins k None) else arbiter_at before k) (le-ltb k i more ∙ sym (le-ltb k (i + 1) (omega arith)))
 
--- .. all of them
-pub turned_below-all : (before after : List Turn) (wins : List (Option ℕ)) (i : ℕ) → length before ≤ i → length after ≡ length before
-    → AreTurnedBelow before wins i after → after ≡ turned_by (λ k. get_or wins k None) before
+-- all arbiters have gone on
+pub turned_below-all : (before after : List RoundRobin) (wins : List (Option ℕ)) (i : ℕ) → length before ≤ i → length after ≡ length before
+    → AreTurnedBelow before wins i after → after ≡ arbiters_after_winners (λ k. get_or wins k None) before
 turned_below-all before after wins i all same turns =
-    map_indexed-from_each (λ k (t : Turn). turned t (get_or wins k None)) before after (record { size = 0; pointer = 0 }) (record { size = 0; pointer = 0 }) same
-    (λ k l. turns k ∙ ap (λ b. if b then turned (turn_at before k) (get_or wins k None) else turn_at before k) (lt-ltb k i (omega arith)))
+    map_indexed-from_each (λ k (t : RoundRobin). arbiter_after t (get_or wins k None)) before after (record { size = 0; pointer = 0 }) (record { size = 0; pointer = 0 }) same
+    (λ k l. turns k ∙ ap (λ b. if b then arbiter_after (arbiter_at before k) (get_or wins k None) else arbiter_at before k) (lt-ltb k i (omega arith)))
 
 -- an arbiter that turns is over as many as before
-pub turned_by-sizes : (winner : ℕ → Option ℕ) (before after : List Turn) (n : ℕ) → after ≡ turned_by winner before → All (λ (t : Turn). t.size ≡ n) before → All (λ (t : Turn). t.size ≡ n) after
+pub turned_by-sizes : (winner : ℕ → Option ℕ) (before after : List RoundRobin) (n : ℕ) → after ≡ arbiters_after_winners winner before → All (λ (t : RoundRobin). t.size ≡ n) before → All (λ (t : RoundRobin). t.size ≡ n) after
 turned_by-sizes winner before after n is sizes k d l =
-    let f : ℕ → Turn → Turn = λ i t. turned t (winner i) in
-    let u : k < length before = omega (arith, ap (λ (ts : List Turn). length ts) is, length-map_indexed f before) in
-    ap (λ (ts : List Turn). (get_or ts k d).size) is ∙ ap (λ (t : Turn). t.size) (get_or-map_indexed f before k d d u) ∙ sizes k d u
+    let f : ℕ → RoundRobin → RoundRobin = λ i t. arbiter_after t (winner i) in
+    let u : k < length before = omega (arith, ap (λ (ts : List RoundRobin). length ts) is, length-map_indexed f before) in
+    ap (λ (ts : List RoundRobin). (get_or ts k d).size) is ∙ ap (λ (t : RoundRobin). t.size) (get_or-map_indexed f before k d d u) ∙ sizes k d u
 
 -- ---- an input port has won exactly where its pick won the output port that it goes to
 has_won-at : (wins : List (Option ℕ)) (port : ℕ) → has_won wins port ≡ true → (o : ℕ) × (o < length wins) × (get_or wins o None ≡ Some port)
@@ -176,14 +176,14 @@ won-is_pick_won ready vcs ports n picks ps port = at (picked_port ready vcs pick
         off true won = absurd (false≢true (sym t ∙ has_won-from (tabulate n (winner_of ready vcs ports picks ps)) port o (is_some_of-true (get_or (tabulate n (winner_of ready vcs ports picks ps)) o None) port won)))
 
 -- two rules that name the same winners move the same pointers
-turned_by-same : (f g : ℕ → Option ℕ) (turns : List Turn) → ((i : ℕ) → f i ≡ g i) → turned_by f turns ≡ turned_by g turns
+turned_by-same : (f g : ℕ → Option ℕ) (turns : List RoundRobin) → ((i : ℕ) → f i ≡ g i) → arbiters_after_winners f turns ≡ arbiters_after_winners g turns
 turned_by-same f g turns same =
-    map_indexed-from_each (λ i (t : Turn). turned t (g i)) turns (turned_by f turns) (record { size = 0; pointer = 0 }) (record { size = 0; pointer = 0 })
-    (length-map_indexed (λ i (t : Turn). turned t (f i)) turns)
-    (λ i l. get_or-map_indexed (λ i (t : Turn). turned t (f i)) turns i (record { size = 0; pointer = 0 }) (record { size = 0; pointer = 0 }) l ∙ ap (turned (turn_at turns i)) (same i))
+    map_indexed-from_each (λ i (t : RoundRobin). arbiter_after t (g i)) turns (arbiters_after_winners f turns) (record { size = 0; pointer = 0 }) (record { size = 0; pointer = 0 })
+    (length-map_indexed (λ i (t : RoundRobin). arbiter_after t (f i)) turns)
+    (λ i l. get_or-map_indexed (λ i (t : RoundRobin). arbiter_after t (f i)) turns i (record { size = 0; pointer = 0 }) (record { size = 0; pointer = 0 }) l ∙ ap (arbiter_after (arbiter_at turns i)) (same i))
 
-pub moved-by_requests : (ready : List (Option ℕ)) (vcs ports : ℕ) (ps : List ℕ) (picks wins : List (Option ℕ)) (turns : List Turn)
-    → wins ≡ tabulate (length wins) (winner_of ready vcs ports picks ps) → turned_by (winning_pick picks wins) turns ≡ turned_by (moving_pick ready vcs picks wins) turns
+pub moved-by_requests : (ready : List (Option ℕ)) (vcs ports : ℕ) (ps : List ℕ) (picks wins : List (Option ℕ)) (turns : List RoundRobin)
+    → wins ≡ tabulate (length wins) (winner_of ready vcs ports picks ps) → arbiters_after_winners (winning_pick picks wins) turns ≡ arbiters_after_winners (moving_pick ready vcs picks wins) turns
 moved-by_requests ready vcs ports ps picks wins turns is =
     turned_by-same (winning_pick picks wins) (moving_pick ready vcs picks wins) turns
     (λ port. ap (λ b. if b then get_or picks port None else None)

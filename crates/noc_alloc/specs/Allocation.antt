@@ -1,7 +1,7 @@
 -- The allocation of output channels and of the switch of one router, on lists of requests and pointers.
 use Rattle.std.specs.Prelude.{◌≡◌, ℕ, length, ◌+◌, ◌*◌, Bool, false, ◌||◌, List, [], ◌∷◌, Option, Some, None, slice_index, slice_index_or, is_some, option_and_then, if◌then◌else◌}
 use Rattle.noc_topo.specs.Words.{is_some_of, tabulate, map_indexed}
-use Rattle.noc_alloc.specs.Arbiter.{Turn, first_in_turn, turned}
+use Rattle.noc_alloc.specs.Arbiter.{RoundRobin, first_in_turn, arbiter_after}
 
 -- asks: for each input channel, the output channel that it asks for. The input channel that output channel o goes to
 abbrev pub grant_of : List (Option ℕ) → ℕ → List ℕ → ℕ → Option ℕ
@@ -46,5 +46,5 @@ abbrev pub moving_pick : List (Option ℕ) → ℕ → List (Option ℕ) → Lis
 moving_pick ready vcs picks wins port = if pick_won ready vcs picks wins port then slice_index_or picks port None else None
 
 -- each arbiter after its winner
-abbrev pub turned_by : (ℕ → Option ℕ) → List Turn → List Turn
-turned_by winner turns = map_indexed (λ i (t : Turn). turned t (winner i)) turns
+abbrev pub arbiters_after_winners : (ℕ → Option ℕ) → List RoundRobin → List RoundRobin
+arbiters_after_winners winner turns = map_indexed (λ i (t : RoundRobin). arbiter_after t (winner i)) turns

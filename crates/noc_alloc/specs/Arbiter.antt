@@ -3,7 +3,7 @@ use Rattle.std.specs.Prelude.{ℕ, ◌+◌, ◌-◌, ◌%◌, Bool, List, map, f
 use Rattle.noc_topo.specs.Words.{below, least_by}
 
 -- an arbiter: how many requesters it is over, and the one that comes first
-pub record Turn : Type 0 where
+pub record RoundRobin : Type 0 where
   pub size : ℕ
   pub pointer : ℕ
 
@@ -16,18 +16,18 @@ unfoldable pub first_in_turn : ℕ → ℕ → (ℕ → Bool) → Option ℕ
 first_in_turn size pointer asks = least_by (distance_in_turn size pointer) (filter asks (below size))
 
 -- a pointer goes to one past the winner, modulo the size, and stays where there is no winner
-abbrev pub advanced : ℕ → ℕ → Option ℕ → ℕ
-advanced size pointer None = pointer
-advanced size pointer (Some winner) = (winner + 1) % size
+abbrev pub pointer_after : ℕ → ℕ → Option ℕ → ℕ
+pointer_after size pointer None = pointer
+pointer_after size pointer (Some winner) = (winner + 1) % size
 
 -- an arbiter after its winner, if any
-abbrev pub turned : Turn → Option ℕ → Turn
-turned t winner = record { size = t.size; pointer = advanced t.size t.pointer winner }
+abbrev pub arbiter_after : RoundRobin → Option ℕ → RoundRobin
+arbiter_after t winner = record { size = t.size; pointer = pointer_after t.size t.pointer winner }
 
 -- the pointers of some arbiters
-abbrev pub pointers_of : List Turn → List ℕ
-pointers_of turns = map (λ (t : Turn). t.pointer) turns
+abbrev pub pointers_of : List RoundRobin → List ℕ
+pointers_of turns = map (λ (t : RoundRobin). t.pointer) turns
 
 -- the arbiter with this index
-abbrev pub turn_at : List Turn → ℕ → Turn
-turn_at turns i = slice_index_or turns i (record { size = 0; pointer = 0 })
+abbrev pub arbiter_at : List RoundRobin → ℕ → RoundRobin
+arbiter_at turns i = slice_index_or turns i (record { size = 0; pointer = 0 })

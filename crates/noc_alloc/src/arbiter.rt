@@ -2,7 +2,7 @@
 
 ghost use Rattle.std.specs.Prelude.{◌≡◌, ℕ, ◌<◌, ◌≤◌, true, IfSome};
 ghost use Rattle.noc_packet.specs.Set.{has_bit};
-ghost use Rattle.noc_alloc.specs.Arbiter.{first_in_turn, turned};
+ghost use Rattle.noc_alloc.specs.Arbiter.{first_in_turn, arbiter_after};
 
 use noc_packet::{ChannelSet, INDICES};
 use std::marker::Model;
@@ -18,9 +18,9 @@ pub struct Arbiter {
 impl Model for Arbiter {
     ghost use Rattle.std.specs.Prelude.{◌<◌, ◌≤◌};
     ghost use Rattle.noc_packet.specs.declared.limits.TheConstants.{INDICES};
-    ghost use Rattle.noc_alloc.specs.Arbiter.{Turn};
+    ghost use Rattle.noc_alloc.specs.Arbiter.{RoundRobin};
 
-    ghost Value = { Turn };
+    ghost Value = { RoundRobin };
 
     ghost view = { λ a. record { size = a.size; pointer = a.pointer } };
 
@@ -71,7 +71,7 @@ impl Arbiter {
     /// Moves the pointer to one past the winner, modulo the size. Without a winner it stays. The winner is below the size.
     pub fn advance(&mut self, winner: Option<usize>)
         requires { IfSome winner (λ w. w < self.old.size) }
-        ensures { self.new ≡ turned self.old winner }
+        ensures { self.new ≡ arbiter_after self.old winner }
     {
         if let Some(winner) = winner {
             let next = winner as u8 + 1;

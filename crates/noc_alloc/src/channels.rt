@@ -3,8 +3,8 @@
 ghost use Rattle.std.specs.Prelude.{◌≡◌, ℕ, ◌<◌, ◌≤◌, length, All, IfSome, slice_index_or, None};
 ghost use Rattle.noc_topo.specs.Words.{is_some_of, tabulate};
 ghost use Rattle.noc_packet.specs.Set.{has_bit};
-ghost use Rattle.noc_alloc.specs.Arbiter.{Turn, first_in_turn, pointers_of, turn_at};
-ghost use Rattle.noc_alloc.specs.Allocation.{grant_of, turned_by};
+ghost use Rattle.noc_alloc.specs.Arbiter.{RoundRobin, first_in_turn, pointers_of, arbiter_at};
+ghost use Rattle.noc_alloc.specs.Allocation.{grant_of, arbiters_after_winners};
 
 use crate::arbiter::Arbiter;
 use noc_packet::ChannelSet;
@@ -14,7 +14,7 @@ use noc_packet::ChannelSet;
 /// arbiter puts first; `grants` gets that input channel.
 pub fn allocate_channels(asks: &[Option<usize>], arbiters: &[Arbiter], grants: &mut [Option<usize>])
     requires lengths { length grants.old ≡ length arbiters.now }
-    requires sizes { All (λ (t : Turn). t.size ≡ length asks.now) arbiters.now }
+    requires sizes { All (λ (t : RoundRobin). t.size ≡ length asks.now) arbiters.now }
     ensures grants { grants.new ≡ tabulate (length arbiters.now) (grant_of asks.now (length asks.now) (pointers_of arbiters.now)) }
     ensures inputs { All (λ grant. IfSome grant (λ i. i < length asks.now)) grants.new }
 {
@@ -40,9 +40,9 @@ fn first_of_those_asking(asks: &[Option<usize>], arbiter: &Arbiter, output: usiz
 /// Moves the pointer of each output channel's arbiter past the input channel that was granted.
 pub fn advance_channels(grants: &[Option<usize>], arbiters: &mut [Arbiter])
     requires lengths { length grants.now ≡ length arbiters.old }
-    requires grants { (k : ℕ) → k < length arbiters.old → IfSome (slice_index_or grants.now k None) (λ w. w < (turn_at arbiters.old k).size) }
-    ensures pointers { arbiters.new ≡ turned_by (λ o. slice_index_or grants.now o None) arbiters.old }
-    ensures sizes { (n : ℕ) → All (λ (t : Turn). t.size ≡ n) arbiters.old → All (λ (t : Turn). t.size ≡ n) arbiters.new }
+    requires grants { (k : ℕ) → k < length arbiters.old → IfSome (slice_index_or grants.now k None) (λ w. w < (arbiter_at arbiters.old k).size) }
+    ensures pointers { arbiters.new ≡ arbiters_after_winners (λ o. slice_index_or grants.now o None) arbiters.old }
+    ensures sizes { (n : ℕ) → All (λ (t : RoundRobin). t.size ≡ n) arbiters.old → All (λ (t : RoundRobin). t.size ≡ n) arbiters.new }
 {
     for output in 0..grants.len() {
         arbiters[output].advance(grants[output]);

@@ -2,9 +2,9 @@
 
 ghost use Rattle.std.specs.Prelude.{◌≡◌, ℕ, ◌+◌, ◌*◌, ◌<◌, ◌≤◌, List, Option, length, All, IfSome, is_some, slice_index_or, None};
 ghost use Rattle.noc_topo.specs.Words.{is_some_of, tabulate};
-ghost use Rattle.noc_alloc.specs.Arbiter.{Turn, first_in_turn, pointers_of, turn_at};
-ghost use Rattle.noc_alloc.specs.Allocation.{pick_of, picked_port, winner_of, winning_pick, moving_pick, turned_by, AreWins};
-ghost use Rattle.noc_alloc.specs.Steps.{turned_winner};
+ghost use Rattle.noc_alloc.specs.Arbiter.{RoundRobin, first_in_turn, pointers_of, arbiter_at};
+ghost use Rattle.noc_alloc.specs.Allocation.{pick_of, picked_port, winner_of, winning_pick, moving_pick, arbiters_after_winners, AreWins};
+ghost use Rattle.noc_alloc.specs.Steps.{arbiters_after_winner};
 
 use crate::arbiter::Arbiter;
 use noc_packet::ChannelSet;
@@ -24,8 +24,8 @@ pub fn allocate_switch(
     requires ready { length ready.now ≡ length inputs.now * vcs }
     requires picks { length picks.old ≡ length inputs.now }
     requires wins { length wins.old ≡ length outputs.now }
-    requires input_sizes { All (λ (t : Turn). t.size ≡ vcs) inputs.now }
-    requires output_sizes { All (λ (t : Turn). t.size ≡ length inputs.now) outputs.now }
+    requires input_sizes { All (λ (t : RoundRobin). t.size ≡ vcs) inputs.now }
+    requires output_sizes { All (λ (t : RoundRobin). t.size ≡ length inputs.now) outputs.now }
     ensures picks { picks.new ≡ tabulate (length inputs.now) (pick_of ready.now vcs (pointers_of inputs.now)) }
     ensures wins { wins.new ≡ tabulate (length outputs.now) (winner_of ready.now vcs (length inputs.now) picks.new (pointers_of outputs.now)) }
     ensures vcs { All (λ pick. IfSome pick (λ v. v < vcs)) picks.new }
@@ -44,7 +44,7 @@ fn pick_channels(
 )
     requires ready { length ready.now ≡ length inputs.now * vcs }
     requires picks { length picks.old ≡ length inputs.now }
-    requires sizes { All (λ (t : Turn). t.size ≡ vcs) inputs.now }
+    requires sizes { All (λ (t : RoundRobin). t.size ≡ vcs) inputs.now }
     ensures { picks.new ≡ tabulate (length inputs.now) (pick_of ready.now vcs (pointers_of inputs.now)) }
 {
     for port in 0..inputs.len() {
@@ -77,7 +77,7 @@ fn win_ports(
 )
     requires ready { length ready.now ≡ length picks.now * vcs }
     requires wins { length wins.old ≡ length outputs.now }
-    requires sizes { All (λ (t : Turn). t.size ≡ length picks.now) outputs.now }
+    requires sizes { All (λ (t : RoundRobin). t.size ≡ length picks.now) outputs.now }
     requires picks { All (λ pick. IfSome pick (λ v. v < vcs)) picks.now }
     ensures { wins.new ≡ tabulate (length outputs.now) (winner_of ready.now vcs (length picks.now) picks.now (pointers_of outputs.now)) }
 {
@@ -136,14 +136,14 @@ pub fn advance_switch(
 )
     requires picks { length picks.now ≡ length inputs.old }
     requires wins { length wins.now ≡ length outputs.old }
-    requires vcs { (k : ℕ) → k < length inputs.old → IfSome (slice_index_or picks.now k None) (λ v. v < (turn_at inputs.old k).size) }
-    requires ports { (k : ℕ) → k < length outputs.old → IfSome (slice_index_or wins.now k None) (λ q. q < (turn_at outputs.old k).size) }
+    requires vcs { (k : ℕ) → k < length inputs.old → IfSome (slice_index_or picks.now k None) (λ v. v < (arbiter_at inputs.old k).size) }
+    requires ports { (k : ℕ) → k < length outputs.old → IfSome (slice_index_or wins.now k None) (λ q. q < (arbiter_at outputs.old k).size) }
     requires winners { All (λ win. IfSome win (λ q. q < length inputs.old)) wins.now }
-    ensures inputs { inputs.new ≡ turned_by (winning_pick picks.now wins.now) inputs.old }
-    ensures by_requests { (ready : List (Option ℕ)) (vcs ports : ℕ) (pointers : List ℕ) → AreWins ready vcs ports pointers picks.now wins.now → inputs.new ≡ turned_by (moving_pick ready vcs picks.now wins.now) inputs.old }
-    ensures outputs { outputs.new ≡ turned_by (λ p. slice_index_or wins.now p None) outputs.old }
-    ensures input_sizes { (n : ℕ) → All (λ (t : Turn). t.size ≡ n) inputs.old → All (λ (t : Turn). t.size ≡ n) inputs.new }
-    ensures output_sizes { (n : ℕ) → All (λ (t : Turn). t.size ≡ n) outputs.old → All (λ (t : Turn). t.size ≡ n) outputs.new }
+    ensures inputs { inputs.new ≡ arbiters_after_winners (winning_pick picks.now wins.now) inputs.old }
+    ensures by_requests { (ready : List (Option ℕ)) (vcs ports : ℕ) (pointers : List ℕ) → AreWins ready vcs ports pointers picks.now wins.now → inputs.new ≡ arbiters_after_winners (moving_pick ready vcs picks.now wins.now) inputs.old }
+    ensures outputs { outputs.new ≡ arbiters_after_winners (λ p. slice_index_or wins.now p None) outputs.old }
+    ensures input_sizes { (n : ℕ) → All (λ (t : RoundRobin). t.size ≡ n) inputs.old → All (λ (t : RoundRobin). t.size ≡ n) inputs.new }
+    ensures output_sizes { (n : ℕ) → All (λ (t : RoundRobin). t.size ≡ n) outputs.old → All (λ (t : RoundRobin). t.size ≡ n) outputs.new }
 {
     for output in 0..wins.len() {
         advance_winner(wins[output], picks, inputs);
@@ -154,9 +154,9 @@ pub fn advance_switch(
 // Moves the pointer of the input port that won an output port, if any, past its pick.
 fn advance_winner(winner: Option<usize>, picks: &[Option<usize>], inputs: &mut [Arbiter])
     requires picks { length picks.now ≡ length inputs.old }
-    requires vcs { (k : ℕ) → k < length inputs.old → IfSome (slice_index_or picks.now k None) (λ v. v < (turn_at inputs.old k).size) }
+    requires vcs { (k : ℕ) → k < length inputs.old → IfSome (slice_index_or picks.now k None) (λ v. v < (arbiter_at inputs.old k).size) }
     requires winner { IfSome winner (λ q. q < length inputs.old) }
-    ensures { inputs.new ≡ turned_winner winner picks.now inputs.old }
+    ensures { inputs.new ≡ arbiters_after_winner winner picks.now inputs.old }
 {
     if let Some(input) = winner {
         inputs[input].advance(picks[input]);

@@ -8,13 +8,13 @@ use Rattle.noc_topo.proofs.WordLemmas.{get_or-below, length-below}
 use Rattle.noc_net.specs.Limit.{are_all_out}
 use Rattle.noc_net.specs.Network.{Run, arrival_in, packet_at, state_at}
 use Rattle.noc_files.specs.Latency.{latency_line, packet_line, packet_start}
-use Rattle.noc_files.specs.Writing.{comma, joined, line_end}
+use Rattle.noc_files.specs.Writing.{comma, text_of_pieces, line_end}
 
 -- the line of packet p has numbers at its end, where it was out in a cycle
 abbrev EndsInNumbers : Run → ℕ → Type 0
 EndsInNumbers run p =
     (cycle : ℕ) × (arrival_in run.net (state_at run.net run.count) p ≡ Some cycle)
-    × (latency_line run p ≡ packet_start p (packet_at run.net p) ++ joined (decimal cycle ∷ comma ∷ decimal (cycle - (packet_at run.net p).due) ∷ line_end ∷ []))
+    × (latency_line run p ≡ packet_start p (packet_at run.net p) ++ text_of_pieces (decimal cycle ∷ comma ∷ decimal (cycle - (packet_at run.net p).due) ∷ line_end ∷ []))
 
 pub out-numbers : (run : Run) (p : ℕ) → are_all_out run.net (state_at run.net run.count) ≡ true → p < length run.net.packets → EndsInNumbers run p
 unfolding latency_line

@@ -70,7 +70,7 @@ module _ (net : Setup) (limit : ℕ) where
   drains-once n d e (at_limit early never) (once_out k low out none) = absurd (false≢true (sym (never k low) ∙ out))
   drains-once n d e (at_limit low none) (at_limit also never) = refl
 
-  -- .. and has one
+  -- a run that drains has an end
   pub drains-some : (fuel n : ℕ) → limit ≤ n + fuel → (end : ℕ) × DrainsBy net limit n end
   drains-some zero n l = (n, drains-here n (inl (omega arith)))
   drains-some (suc fuel) n l = at (cases_lt n limit) (is_out_at net n) refl (drains-some fuel)

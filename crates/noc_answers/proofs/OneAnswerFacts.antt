@@ -13,7 +13,7 @@ use Rattle.noc_files.specs.Ranks.{ranks_text}
 use Rattle.noc_files.specs.Trace.{trace_text}
 use Rattle.noc_files.specs.declared.trace.Traced.{Traced}
 use Rattle.noc_requests.specs.Asked.{Asked, ReadsAs, as_files, as_joined, parts}
-use Rattle.noc_requests.specs.Options.{first_cycle, packet_fault}
+use Rattle.noc_requests.specs.Options.{first_cycle, packet_option_fault}
 use Rattle.noc_requests.specs.declared.fault.OptionFault.{OptionFault}
 use Rattle.noc_requests.specs.declared.request.Command.{Command}
 use Rattle.noc_requests.specs.declared.request.Command.TheVariants as command
@@ -24,7 +24,7 @@ use Rattle.noc_answers.specs.Answer.{Asks, AsksFor, a_report, findings, traces, 
 use Rattle.noc_answers.specs.Drain.{RunsTo}
 use Rattle.noc_answers.specs.Formula.{HasRanks}
 use Rattle.noc_answers.specs.Reports.{report_text}
-use Rattle.noc_answers.specs.Run.{AsksForRun, IsNetworkOf, cycles_of, ending, is_draining, report_of}
+use Rattle.noc_answers.specs.Run.{AsksForRun, IsNetworkOf, cycles_asked, ending, runs_until_out, report_of}
 use Rattle.noc_requests.proofs.OneSettingsFacts.{one_relation_asked}
 use Rattle.noc_answers.proofs.DrainFacts.{ends-once}
 use Rattle.noc_answers.proofs.OneRankingFacts.{one-generated}
@@ -61,7 +61,7 @@ pub is_trace : (x : Command) (from to : Option ℕ) (traced : Traced) → x ≡ 
 is_trace x from to traced e = ap kind e
 
 -- only a trace has a packet that can be missing
-pub has_packet : (x : Command) (packets : ℕ) (f : OptionFault) → packet_fault x packets ≡ Some f → kind x ≡ 4
+pub has_packet : (x : Command) (packets : ℕ) (f : OptionFault) → packet_option_fault x packets ≡ Some f → kind x ≡ 4
 has_packet command.Joined packets f h = cc
 has_packet (command.Run workers report drain) packets f h = cc
 has_packet (command.Explain cycle router) packets f h = cc
@@ -69,7 +69,7 @@ has_packet (command.Trace from to traced) packets f h = refl
 has_packet command.Check packets f h = cc
 has_packet command.Ranks packets f h = cc
 
-pub has_no_packet : (x : Command) (packets : ℕ) → (kind x ≡ 4 → ⊥) → packet_fault x packets ≡ None
+pub has_no_packet : (x : Command) (packets : ℕ) → (kind x ≡ 4 → ⊥) → packet_option_fault x packets ≡ None
 has_no_packet command.Joined packets other = refl
 has_no_packet (command.Run workers report drain) packets other = refl
 has_no_packet (command.Explain cycle router) packets other = refl
@@ -92,9 +92,9 @@ module _ (a : Asked) where
   one_run u v x y =
       let same = one_relation_asked a x.settings y.settings x.routes y.routes x.before.relation y.before.relation in
       let net = same_net x.routes y.routes x.settings y.settings u.net v.net same.1 same.0 x.network y.network in
-      let P : Setup → Settings → Type 0 = λ z s. RunsTo (is_draining a.command) z (cycles_of a.command s) v.count in
+      let P : Setup → Settings → Type 0 = λ z s. RunsTo (runs_until_out a.command) z (cycles_asked a.command s) v.count in
       let other : P u.net x.settings = subst (λ s. P u.net s) (sym same.0) (subst (λ z. P z y.settings) (sym net) y.cycles) in
-      let count : u.count ≡ v.count = ends-once u.net (is_draining a.command) (cycles_of a.command x.settings) u.count v.count x.cycles other in
+      let count : u.count ≡ v.count = ends-once u.net (runs_until_out a.command) (cycles_asked a.command x.settings) u.count v.count x.cycles other in
       λ i. record { net = net i; count = count i }
 
   one_formula : (s t : Settings) (g h : Grid) (k j : Ranking) → s ≡ t → g ≡ h → HasRanks s g k → HasRanks t h j → k ≡ j
@@ -109,7 +109,7 @@ module _ (a : Asked) where
           let rule : x.routing ≡ moved.routing = cc in
           one-generated g s.channels s.classes moved.routing k j (subst (λ r. IsGenerated g s.channels s.classes r k) rule x.generated) moved.generated
 
-  -- the same text, with the same status
+  -- two texts are equal, and so are their statuses
   abbrev Same : List ℕ → List ℕ → Status → Status → Type 0
   Same text other status end = (text ≡ other) × (status ≡ end)
 

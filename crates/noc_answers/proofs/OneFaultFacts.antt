@@ -20,7 +20,7 @@ use Rattle.noc_files.specs.Configuration.{Settings}
 use Rattle.noc_files.specs.Joined.{SplitsAt, line_at, line_len}
 use Rattle.noc_files.specs.Ranks.{ranks_of}
 use Rattle.noc_files.specs.declared.fault.InputFault.{InputFault}
-use Rattle.noc_requests.specs.Asked.{Asked, Said, ReadsAs, as_files, as_joined, is_joined, owned, read_by}
+use Rattle.noc_requests.specs.Asked.{Asked, TextValue, ReadsAs, as_files, as_joined, is_joined, owned_text, read_by}
 use Rattle.noc_answers.specs.Answer.{Asks, AsksFor, a_report, findings, traces, accepted, ranks, TextsFault, in_settings, in_formula, in_ranks, in_packets, no_packet, runs, FirstFault, unread, unsplit, in_texts}
 use Rattle.noc_answers.specs.Check.{Accepts, AsksForChecked, HasRanking, RanksFault, bad_file, bad_rows, bad_ranks, checked_by, checked_ranks}
 use Rattle.noc_answers.specs.Formula.{HasRanks, IsFormulaFault}
@@ -31,7 +31,7 @@ use Rattle.noc_requests.specs.Settings.{AsksForRelation, rule_named}
 use Rattle.noc_requests.specs.Status.{is_memory}
 use Rattle.noc_requests.specs.declared.fault.Fault.{Fault}
 use Rattle.noc_requests.specs.declared.fault.Fault.TheVariants as fault
-use Rattle.noc_requests.specs.Options.{packet_fault}
+use Rattle.noc_requests.specs.Options.{packet_option_fault}
 use Rattle.noc_requests.specs.declared.fault.OptionFault.{OptionFault}
 use Rattle.noc_requests.specs.declared.request.Command.{Command}
 use Rattle.noc_requests.specs.declared.request.Command.TheVariants as command
@@ -47,7 +47,7 @@ use Rattle.noc_answers.proofs.OneRankingFacts.{one-ranking, formula-fault, no-fo
 not_memory : (f : RankFault) (g : Grid) → is_memory (fault.Rank f g) ≡ false → f ≢ rank.Memory
 not_memory f g p e = false≢true (sym p ∙ ap (λ x. is_memory (fault.Rank x g)) e)
 
-unchecked-ranks : (x : Command) (given : Option Said) → kind x ≡ 3 → checked_by x given ≡ None
+unchecked-ranks : (x : Command) (given : Option TextValue) → kind x ≡ 3 → checked_by x given ≡ None
 unchecked-ranks command.Joined given e = absurd (omega (arith, e))
 unchecked-ranks (command.Run workers report drain) given e = absurd (omega (arith, e))
 unchecked-ranks (command.Explain cycle router) given e = absurd (omega (arith, e))
@@ -55,7 +55,7 @@ unchecked-ranks command.Check given e = absurd (omega (arith, e))
 unchecked-ranks command.Ranks given e = refl
 unchecked-ranks (command.Trace from to traced) given e = absurd (omega (arith, e))
 
-unchecked-trace : (x : Command) (given : Option Said) → kind x ≡ 4 → checked_by x given ≡ None
+unchecked-trace : (x : Command) (given : Option TextValue) → kind x ≡ 4 → checked_by x given ≡ None
 unchecked-trace command.Joined given e = absurd (omega (arith, e))
 unchecked-trace (command.Run workers report drain) given e = absurd (omega (arith, e))
 unchecked-trace (command.Explain cycle router) given e = absurd (omega (arith, e))
@@ -82,7 +82,7 @@ still-ranks command.Ranks e = refl
 -- ---- ranks of a rank file
 
 -- a rank file gives one ranking
-one_given : (routes : Routes) (text : Said) (k j : Ranking) → HasRanking routes text k → HasRanking routes text j → k ≡ j
+one_given : (routes : Routes) (text : TextValue) (k j : Ranking) → HasRanking routes text k → HasRanking routes text j → k ≡ j
 one_given routes text k j h u =
     let both : Ok u.rows ≡ Ok h.rows = sym u.read ∙ h.read in
     let same : u.rows ≡ h.rows = cc in
@@ -90,7 +90,7 @@ one_given routes text k j h u =
     one-ranking routes.grid routes.vcs h.rows k j h.given (subst P same u.given)
 
 -- rows with a fault give no ranking
-rows_first : (routes : Routes) (text : Said) (rows : List RankRow) (f : RankFault) (k : Ranking) → is_memory (fault.Rank f routes.grid) ≡ false → read_by (ranks_of routes.grid) text ≡ Ok rows
+rows_first : (routes : Routes) (text : TextValue) (rows : List RankRow) (f : RankFault) (k : Ranking) → is_memory (fault.Rank f routes.grid) ≡ false → read_by (ranks_of routes.grid) text ≡ Ok rows
     → IsFaultOfRows routes.grid routes.vcs rows f → HasRanking routes text k → ⊥
 rows_first routes text rows f k p e bad given =
     let both : Ok rows ≡ Ok given.rows = sym e ∙ given.read in
@@ -98,7 +98,7 @@ rows_first routes text rows f k p e bad given =
     let P : List RankRow → Type 0 = λ z. IsFaultOfRows routes.grid routes.vcs z f in
     no-rows-fault routes.grid routes.vcs given.rows k f (not_memory f routes.grid p) given.given (subst P same bad)
 
-accepts_none : (routes : Routes) (text : Said) (f : Fault) → is_memory f ≡ false → Accepts routes text → RanksFault routes text f → ⊥
+accepts_none : (routes : Routes) (text : TextValue) (f : Fault) → is_memory f ≡ false → Accepts routes text → RanksFault routes text f → ⊥
 accepts_none routes text f p h (bad_file {f = i} e) =
     let never : Ok h.ranks.rows ≡ Err i = sym h.ranks.read ∙ e (ranks_not_memory i p) in
     cc never
@@ -112,7 +112,7 @@ accepts_none routes text f p h (bad_ranks {ranking = k} {f = i} given bad) =
     let P : Ranking → Type 0 = λ z. IsFaultOfCheck routes z i in
     no-check-fault routes h.ranking i (not_memory i routes.grid p) h.rising (subst P ranking bad)
 
-one_ranks_fault : (routes : Routes) (text : Said) (f k : Fault) → IsGrid routes.grid → is_memory f ≡ false → is_memory k ≡ false → RanksFault routes text f → RanksFault routes text k → f ≡ k
+one_ranks_fault : (routes : Routes) (text : TextValue) (f k : Fault) → IsGrid routes.grid → is_memory f ≡ false → is_memory k ≡ false → RanksFault routes text f → RanksFault routes text k → f ≡ k
 one_ranks_fault routes text f k grid p q (bad_file {f = i} e) (bad_file {f = j} d) = (let both : Err i ≡ Err j = sym (e (ranks_not_memory i p)) ∙ d (ranks_not_memory j q) in cc)
 one_ranks_fault routes text f k grid p q (bad_file {f = i} e) (bad_rows {rows = rows} d bad) = (let never : Err i ≡ Ok rows = sym (e (ranks_not_memory i p)) ∙ d in absurd (cc never))
 one_ranks_fault routes text f k grid p q (bad_file {f = i} e) (bad_ranks given bad) = (let never : Err i ≡ Ok given.rows = sym (e (ranks_not_memory i p)) ∙ given.read in absurd (cc never))
@@ -136,7 +136,7 @@ unmade : (routes : Routes) (packets : List Packet) (f : NetFault) → f ≢ net.
 unmade routes packets f p (inl e) = e
 unmade routes packets f p (inr m) = absurd (p m.0)
 
-network_none : (routes : Routes) (places : ℕ) (traffic : Said) (net : Setup) (f : Fault) → is_memory f ≡ false → IsNetworkOf routes places traffic net → PacketsFault routes traffic f → ⊥
+network_none : (routes : Routes) (places : ℕ) (traffic : TextValue) (net : Setup) (f : Fault) → is_memory f ≡ false → IsNetworkOf routes places traffic net → PacketsFault routes traffic f → ⊥
 network_none routes places traffic net f p h (bad_traffic {f = i} e) = (let never : Ok net.packets ≡ Err i = sym h.packets ∙ e (traffic_not_memory i p) in cc never)
 network_none routes places traffic net f p h (bad_network {packets = ps} {f = i} e bad) =
     let both : Ok net.packets ≡ Ok ps = sym h.packets ∙ e in
@@ -144,7 +144,7 @@ network_none routes places traffic net f p h (bad_network {packets = ps} {f = i}
     let never : None ≡ Some i = sym h.sound ∙ ap (fault_of routes) same ∙ unmade routes ps i (network_not_memory i p) bad in
     cc never
 
-one_packets_fault : (routes : Routes) (traffic : Said) (f k : Fault) → is_memory f ≡ false → is_memory k ≡ false → PacketsFault routes traffic f → PacketsFault routes traffic k → f ≡ k
+one_packets_fault : (routes : Routes) (traffic : TextValue) (f k : Fault) → is_memory f ≡ false → is_memory k ≡ false → PacketsFault routes traffic f → PacketsFault routes traffic k → f ≡ k
 one_packets_fault routes traffic f k p q (bad_traffic {f = i} e) (bad_traffic {f = j} d) = (let both : Err i ≡ Err j = sym (e (traffic_not_memory i p)) ∙ d (traffic_not_memory j q) in cc)
 one_packets_fault routes traffic f k p q (bad_traffic {f = i} e) (bad_network {packets = ps} d bad) = (let never : Err i ≡ Ok ps = sym (e (traffic_not_memory i p)) ∙ d in absurd (cc never))
 one_packets_fault routes traffic f k p q (bad_network {packets = ps} d bad) (bad_traffic {f = i} e) = (let never : Err i ≡ Ok ps = sym (e (traffic_not_memory i q)) ∙ d in absurd (cc never))
@@ -170,9 +170,9 @@ formula_none s g k f p has h =
     no-formula-fault g s.channels s.classes has.routing k has.generated (subst Q (formula-fault g s.channels s.classes has.routing f p bad) bad)
 
 module _ (a : Asked) where
-  no_ranks_fault : (s t : Settings) (x y : Routes) (text : Said) (f : Fault) → is_memory f ≡ false → AsksForChecked a s x → AsksForRelation a t y → checked_ranks a ≡ Some text → RanksFault y text f → ⊥
+  no_ranks_fault : (s t : Settings) (x y : Routes) (text : TextValue) (f : Fault) → is_memory f ≡ false → AsksForChecked a s x → AsksForRelation a t y → checked_ranks a ≡ Some text → RanksFault y text f → ⊥
   no_ranks_fault s t x y text f p h asks e bad =
-      let P : Option Said → Type 0 = λ z. IfSome z (Accepts x) in
+      let P : Option TextValue → Type 0 = λ z. IfSome z (Accepts x) in
       let Q : Routes → Type 0 = λ z. RanksFault z text f in
       accepts_none x text f p (subst P e h.accepted) (subst Q (sym (one_relation_asked a s t x y h.relation asks).1) bad)
 
@@ -188,14 +188,14 @@ module _ (a : Asked) where
       network_none x s.buffer a.traffic net f p u (subst Q (sym (one_relation_asked a s t x y asks.relation other.relation).1) bad)
 
   -- no ranks are checked by a command that asks for ranks
-  no_check : (text : Said) → a.command ≡ command.Ranks → checked_ranks a ≡ Some text → ⊥
+  no_check : (text : TextValue) → a.command ≡ command.Ranks → checked_ranks a ≡ Some text → ⊥
   no_check text e h = (let never : None ≡ Some text = sym (unchecked-ranks a.command a.ranks (ranked a.command e)) ∙ h in cc never)
 
   no_run : a.command ≡ command.Ranks → runs a.command ≡ true → ⊥
   no_run e h = false≢true (sym (still-ranks a.command (ranked a.command e)) ∙ h)
 
   -- no ranks are checked by a trace
-  no_trace : (text : Said) → kind a.command ≡ 4 → checked_ranks a ≡ Some text → ⊥
+  no_trace : (text : TextValue) → kind a.command ≡ 4 → checked_ranks a ≡ Some text → ⊥
   no_trace text e h = (let never : None ≡ Some text = sym (unchecked-trace a.command a.ranks e) ∙ h in cc never)
 
   -- the networks of a traffic text have the same packets
@@ -203,13 +203,13 @@ module _ (a : Asked) where
   same_packets x y s t m n h u = (let both : Ok m.packets ≡ Ok n.packets = sym h.packets ∙ u.packets in cc)
 
   no_missing_packet : (x y : Routes) (s t : Settings) (m n : Setup) (f : OptionFault) → IsNetworkOf x s.buffer a.traffic m → IsNetworkOf y t.buffer a.traffic n
-      → packet_fault a.command (length m.packets) ≡ None → packet_fault a.command (length n.packets) ≡ Some f → ⊥
+      → packet_option_fault a.command (length m.packets) ≡ None → packet_option_fault a.command (length n.packets) ≡ Some f → ⊥
   no_missing_packet x y s t m n f h u none bad =
-      let never : None ≡ Some f = sym none ∙ ap (λ (ps : List Packet). packet_fault a.command (length ps)) (same_packets x y s t m n h u) ∙ bad in
+      let never : None ≡ Some f = sym none ∙ ap (λ (ps : List Packet). packet_option_fault a.command (length ps)) (same_packets x y s t m n h u) ∙ bad in
       cc never
 
   -- a run that is asked for has no fault
-  run_none : (run : Run) (f : Fault) → is_memory f ≡ false → (a.command ≡ command.Ranks → ⊥) → AsksForRun a run → packet_fault a.command (length run.net.packets) ≡ None → TextsFault a f → ⊥
+  run_none : (run : Run) (f : Fault) → is_memory f ≡ false → (a.command ≡ command.Ranks → ⊥) → AsksForRun a run → packet_option_fault a.command (length run.net.packets) ≡ None → TextsFault a f → ⊥
   run_none run f p other h none (no_packet {s = t} {routes = y} {net = n} {f = i} x u bad) = no_missing_packet h.routes y h.settings t run.net n i h.network u none bad
   run_none run f p other h none (in_settings bad) = no_settings_fault a h.settings h.routes f p h.before.relation bad
   run_none run f p other h none (in_formula e x bad) = other e
@@ -253,7 +253,7 @@ module _ (a : Asked) where
       let same = one_relation_asked a t s n m other asks in
       let both : Some v ≡ Some u = sym d ∙ e in
       let text : v ≡ u = cc in
-      let P : Said → Type 0 = λ z. RanksFault n z k in
+      let P : TextValue → Type 0 = λ z. RanksFault n z k in
       let Q : Routes → Type 0 = λ z. RanksFault z u k in
       one_ranks_fault m u f k asks.relation.built.table.grid p q x (subst Q same.1 (subst P text y))
   one_texts_fault f k p q (in_ranks {s = t} {routes = y} {text = given} asks e bad) (in_packets {s = s} {routes = x} d h worse) = absurd (no_ranks_fault s t x y given f p h asks e bad)
@@ -273,7 +273,7 @@ module _ (a : Asked) where
   one_texts_fault f k p q (no_packet {s = s} {routes = m} {net = n} asks u bad) (in_packets {s = t} {routes = y} e other x) = absurd (no_network_fault s t m y n k q asks other u x)
   one_texts_fault f k p q (in_packets {s = t} {routes = y} e other x) (no_packet {s = s} {routes = m} {net = n} asks u bad) = absurd (no_network_fault s t m y n f p asks other u x)
   one_texts_fault f k p q (no_packet {s = s} {routes = m} {net = n} {f = i} asks u bad) (no_packet {s = t} {routes = y} {net = o} {f = j} other v worse) =
-      let both : Some i ≡ Some j = sym bad ∙ ap (λ (ps : List Packet). packet_fault a.command (length ps)) (same_packets m y s t n o u v) ∙ worse in
+      let both : Some i ≡ Some j = sym bad ∙ ap (λ (ps : List Packet). packet_option_fault a.command (length ps)) (same_packets m y s t n o u v) ∙ worse in
       let same : i ≡ j = cc in
       ap fault.Option same
 
@@ -298,11 +298,11 @@ no_split text front rest i none s =
       | inr past ↦ (let e = no_line_past text i past in omega (arith, e, s.line))
     ]
 
-no_reading_unread : (r : Request) (f : InputFault) (a : Asked) → is_joined r.command ≡ true → owned r.config ≡ Err f → ReadsAs r a → ⊥
+no_reading_unread : (r : Request) (f : InputFault) (a : Asked) → is_joined r.command ≡ true → owned_text r.config ≡ Err f → ReadsAs r a → ⊥
 no_reading_unread r f a e h (as_files d) = false≢true (sym d ∙ e)
 no_reading_unread r f a e h (as_joined {text = t} d x s) = (let never : Ok t ≡ Err f = sym x ∙ h in cc never)
 
-no_reading_unsplit : (r : Request) (text : List ℕ) (a : Asked) → is_joined r.command ≡ true → owned r.config ≡ Ok text → ((i : ℕ) → i < length text → line_at text i ≡ 0) → ReadsAs r a → ⊥
+no_reading_unsplit : (r : Request) (text : List ℕ) (a : Asked) → is_joined r.command ≡ true → owned_text r.config ≡ Ok text → ((i : ℕ) → i < length text → line_at text i ≡ 0) → ReadsAs r a → ⊥
 no_reading_unsplit r text a e h none (as_files d) = false≢true (sym d ∙ e)
 no_reading_unsplit r text a e h none (as_joined {text = t} {config = c} {traffic = q} {i = i} d x s) =
     let both : Ok t ≡ Ok text = sym x ∙ h in

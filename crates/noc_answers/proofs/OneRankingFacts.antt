@@ -5,12 +5,12 @@ use Rattle.std.proofs.lemmas.Bool.{cases_order, false≢true}
 use Rattle.std.proofs.lemmas.List.{ext_get_or}
 use Rattle.noc_topo.specs.Shape.{Grid, nodes, local_port}
 use Rattle.noc_route.specs.Order.{numbers_before}
-use Rattle.noc_route.specs.Ranks.{Ranking, is_place, places, rank_at}
+use Rattle.noc_route.specs.Ranks.{Ranking, is_place, rank_count, rank_at}
 use Rattle.noc_route.specs.declared.rule.Rule.{Rule}
 use Rattle.noc_route.proofs.OneFaultLemmas.{one_place}
 use Rattle.noc_rank.specs.Formulas.{IsGenerated, IsFaultOfFormula}
 use Rattle.noc_rank.specs.Ranking.{IsRanking}
-use Rattle.noc_rank.specs.Rows.{AreGood, IsFirstRowFault, IsFirstMissing, IsFaultOfRows, IsRankingOf, row_fault}
+use Rattle.noc_rank.specs.Rows.{AreGood, IsFirstRowFault, IsFirstMissing, IsFaultOfRows, IsRankingOf, listed_row_fault}
 use Rattle.noc_rank.specs.declared.fault.RankFault.{RankFault}
 use Rattle.noc_rank.specs.declared.fault.RankFault.TheVariants.{NoGenerated, NotRising, NotRisingTo, NoEscape, Memory, UnknownChannel, DoubleChannel, BadRank, MissingChannel}
 use Rattle.noc_rank.specs.declared.rows.RankRow.{RankRow}
@@ -26,7 +26,7 @@ ranking_with g vcs ranks = record { grid = g; vcs = vcs; ranks = ranks }
 rank-place : (g : Grid) (vcs : ℕ) (ranks : List (Option ℕ)) (j : ℕ) → IsRanking (ranking_with g vcs ranks) → j < length ranks
     → get_or ranks j None ≡ rank_at (ranking_with g vcs ranks) (j / vcs / local_port g) (j / vcs % local_port g) (j % vcs)
 rank-place g vcs ranks j h l =
-    let within : j < places g vcs = omega (arith, l, h.long) in
+    let within : j < rank_count g vcs = omega (arith, l, h.long) in
     let some : 0 < vcs = vcs-some (nodes g * local_port g) vcs j within in
     let ports : 0 < local_port g = omega (arith, h.grid.some_dimensions) in
     let there : is_place g vcs (j / vcs / local_port g) (j / vcs % local_port g) (j % vcs) ≡ true = is_place-decoded g vcs j some ports within in
@@ -120,7 +120,7 @@ one_bad g vcs rows f k a b = at (cases_order a.number b.number)
     at (inl same) =
         let there : Some a.row ≡ Some b.row = sym a.there ∙ ap (slice_get rows) same ∙ b.there in
         let row : a.row ≡ b.row = cc in
-        let both : Some f ≡ Some k = sym a.faulty ∙ ap (λ n. row_fault g vcs rows n a.row) same ∙ ap (row_fault g vcs rows b.number) row ∙ b.faulty in
+        let both : Some f ≡ Some k = sym a.faulty ∙ ap (λ n. listed_row_fault g vcs rows n a.row) same ∙ ap (listed_row_fault g vcs rows b.number) row ∙ b.faulty in
         cc
     at (inr (inl less)) = let never : None ≡ Some f = sym (b.first a.number a.row less a.there) ∙ a.faulty in absurd (cc never)
     at (inr (inr more)) = let never : None ≡ Some k = sym (a.first b.number b.row more b.there) ∙ b.faulty in absurd (cc never)

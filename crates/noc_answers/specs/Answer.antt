@@ -13,8 +13,8 @@ use Rattle.noc_files.specs.Trace.{trace_text}
 use Rattle.noc_files.specs.declared.trace.Traced.{Traced}
 use Rattle.noc_files.specs.declared.fault.InputFault.{InputFault}
 use Rattle.noc_files.specs.declared.fault.InputFault.TheVariants as input
-use Rattle.noc_requests.specs.Asked.{Asked, Said, ReadsAs, is_joined, owned}
-use Rattle.noc_requests.specs.Options.{first_cycle, packet_fault}
+use Rattle.noc_requests.specs.Asked.{Asked, TextValue, ReadsAs, is_joined, owned_text}
+use Rattle.noc_requests.specs.Options.{first_cycle, packet_option_fault}
 use Rattle.noc_requests.specs.Settings.{AsksForRelation, SettingsFault}
 use Rattle.noc_requests.specs.declared.request.Command.{Command}
 use Rattle.noc_requests.specs.declared.request.Command.TheVariants as command
@@ -36,7 +36,7 @@ use Rattle.noc_answers.specs.Run.{AsksForRun, IsNetworkOf, PacketsFault, ending,
 pub data AsksFor (a : Asked) : List ℕ → Status → Type 0 where
   a_report : {report : Report} {run : Run} → report_of a.command ≡ Some report → AsksForRun a run → AsksFor a (report_text report run) (ending run)
   findings : {cycle router : ℕ} {run : Run} → a.command ≡ command.Explain cycle router → AsksForRun a run → AsksFor a (findings_text run router) Done
-  traces : {from to : Option ℕ} {traced : Traced} {run : Run} → a.command ≡ command.Trace from to traced → AsksForRun a run → packet_fault a.command (length run.net.packets) ≡ None
+  traces : {from to : Option ℕ} {traced : Traced} {run : Run} → a.command ≡ command.Trace from to traced → AsksForRun a run → packet_option_fault a.command (length run.net.packets) ≡ None
       → AsksFor a (trace_text run (first_cycle from) traced) Done
   accepted : {s : Settings} {routes : Routes} → a.command ≡ command.Check → AsksForChecked a s routes → AsksFor a (codes "accepted\n") Done
   ranks : {s : Settings} {routes : Routes} {ranking : Ranking} → a.command ≡ command.Ranks → AsksForRelation a s routes → HasRanks s routes.grid ranking → AsksFor a (ranks_text ranking) Done
@@ -51,17 +51,17 @@ runs _ = true
 pub data TextsFault (a : Asked) : Fault → Type 0 where
   in_settings : {f : Fault} → SettingsFault a f → TextsFault a f
   in_formula : {s : Settings} {routes : Routes} {f : RankFault} → a.command ≡ command.Ranks → AsksForRelation a s routes → IsFormulaFault s routes.grid f → TextsFault a (fault.Rank f routes.grid)
-  in_ranks : {s : Settings} {routes : Routes} {text : Said} {f : Fault} → AsksForRelation a s routes → checked_ranks a ≡ Some text → RanksFault routes text f → TextsFault a f
+  in_ranks : {s : Settings} {routes : Routes} {text : TextValue} {f : Fault} → AsksForRelation a s routes → checked_ranks a ≡ Some text → RanksFault routes text f → TextsFault a f
   in_packets : {s : Settings} {routes : Routes} {f : Fault} → runs a.command ≡ true → AsksForChecked a s routes → PacketsFault routes a.traffic f → TextsFault a f
   no_packet : {s : Settings} {routes : Routes} {net : Setup} {f : OptionFault} → AsksForChecked a s routes → IsNetworkOf routes s.buffer a.traffic net
-      → packet_fault a.command (length net.packets) ≡ Some f → TextsFault a (fault.Option f)
+      → packet_option_fault a.command (length net.packets) ≡ Some f → TextsFault a (fault.Option f)
 
 -- ---- a request
 
 -- of a joined text: that it was not read, that it has no dividing line; and then the first fault of the texts
 pub data FirstFault (r : Request) : Fault → Type 0 where
-  unread : {f : InputFault} → is_joined r.command ≡ true → owned r.config ≡ Err f → FirstFault r (fault.Joined f)
-  unsplit : {text : List ℕ} → is_joined r.command ≡ true → owned r.config ≡ Ok text → ((i : ℕ) → i < length text → line_at text i ≡ 0) → FirstFault r (fault.Joined input.NoSplit)
+  unread : {f : InputFault} → is_joined r.command ≡ true → owned_text r.config ≡ Err f → FirstFault r (fault.Joined f)
+  unsplit : {text : List ℕ} → is_joined r.command ≡ true → owned_text r.config ≡ Ok text → ((i : ℕ) → i < length text → line_at text i ≡ 0) → FirstFault r (fault.Joined input.NoSplit)
   in_texts : {a : Asked} {f : Fault} → ReadsAs r a → TextsFault a f → FirstFault r f
 
 -- the text that a request asks for, and how it then ends
@@ -76,7 +76,7 @@ by_workers r workers report drain = record r { command = command.Run workers rep
 abbrev pub IsRankedRun : Request → Type 0
 IsRankedRun r = (workers : ℕ) × (report : Report) × (drain : Bool) × (r.command ≡ command.Run workers report drain) × (is_some r.ranks ≡ true)
 
--- .. and is to drain
+-- a request for a run that comes with ranks and is to drain
 abbrev pub IsRankedDrain : Request → Type 0
 IsRankedDrain r = (workers : ℕ) × (report : Report) × (r.command ≡ command.Run workers report true) × (is_some r.ranks ≡ true)
 

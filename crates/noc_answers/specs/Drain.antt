@@ -2,7 +2,7 @@
 use Rattle.std.specs.Prelude.{◌≡◌, ℕ, ◌+◌, ◌*◌, ◌<◌, ◌≤◌, Bool, true, false}
 use Rattle.noc_net.specs.Limit.{are_all_out, IsLimit}
 use Rattle.noc_net.specs.Network.{Setup, state_at}
-use Rattle.noc_answers.specs.declared.drain.TheConstants.{PIECE}
+use Rattle.noc_answers.specs.declared.drain.TheConstants.{DRAIN_CHECK_INTERVAL}
 
 -- whether every packet is out at a count
 abbrev pub is_out_at : Setup → ℕ → Bool
@@ -10,7 +10,7 @@ is_out_at net count = are_all_out net (state_at net count)
 
 -- the count at look k: the first is after the cycles of the configuration, each of the others 64 cycles later
 abbrev pub look : ℕ → ℕ → ℕ
-look cycles k = cycles + k * PIECE
+look cycles k = cycles + k * DRAIN_CHECK_INTERVAL
 
 -- a run that is to drain ends after the cycles of the configuration, where its limit is not later; otherwise at the first look below
 -- the limit at which every packet is out, or at the limit where there is none
@@ -19,7 +19,7 @@ pub data DrainsBy (net : Setup) (limit cycles : ℕ) : ℕ → Type 0 where
   once_out : (k : ℕ) → look cycles k < limit → is_out_at net (look cycles k) ≡ true → ((j : ℕ) → j < k → is_out_at net (look cycles j) ≡ false) → DrainsBy net limit cycles (look cycles k)
   at_limit : cycles < limit → ((j : ℕ) → look cycles j < limit → is_out_at net (look cycles j) ≡ false) → DrainsBy net limit cycles limit
 
--- the same by the limit of the network
+-- the limit at which every packet is out, or at the limit of the network where there is none
 pub record DrainsAt (net : Setup) (cycles end : ℕ) : Type 0 where
   pub limit : ℕ
   pub is_limit : IsLimit net limit

@@ -11,7 +11,7 @@ use Rattle.noc_net.specs.Progress.{is_stuck}
 use Rattle.noc_files.specs.Configuration.{Settings}
 use Rattle.noc_files.specs.Traffic.{traffic_of}
 use Rattle.noc_files.specs.declared.fault.InputFault.{InputFault}
-use Rattle.noc_requests.specs.Asked.{Asked, IsUnread, Said, read_by}
+use Rattle.noc_requests.specs.Asked.{Asked, IsUnread, TextValue, read_by}
 use Rattle.noc_requests.specs.Options.{last_cycle}
 use Rattle.noc_requests.specs.declared.request.Command.{Command}
 use Rattle.noc_requests.specs.declared.request.Command.TheVariants as command
@@ -41,18 +41,18 @@ abbrev pub HasWorkers : Command → Type 0
 HasWorkers x = (0 < workers_of x) × (workers_of x ≤ MAX_WORKERS)
 
 -- how many cycles are run at least: those of the configuration, or up to the one that is to be explained, or traced last
-abbrev pub cycles_of : Command → Settings → ℕ
-cycles_of (command.Explain cycle router) s = cycle + 1
-cycles_of (command.Trace from to traced) s = last_cycle to s.cycles + 1
-cycles_of _ s = s.cycles
+abbrev pub cycles_asked : Command → Settings → ℕ
+cycles_asked (command.Explain cycle router) s = cycle + 1
+cycles_asked (command.Trace from to traced) s = last_cycle to s.cycles + 1
+cycles_asked _ s = s.cycles
 
 -- whether a command runs on until every packet is out
-abbrev pub is_draining : Command → Bool
-is_draining (command.Run workers report drain) = drain
-is_draining _ = false
+abbrev pub runs_until_out : Command → Bool
+runs_until_out (command.Run workers report drain) = drain
+runs_until_out _ = false
 
 -- the network of a relation, of buffers with these places, and of a traffic text
-pub record IsNetworkOf (routes : Routes) (places : ℕ) (traffic : Said) (net : Setup) : Type 0 where
+pub record IsNetworkOf (routes : Routes) (places : ℕ) (traffic : TextValue) (net : Setup) : Type 0 where
   pub relation : net.relation ≡ routes
   pub places_are : net.places ≡ places
   pub packets : read_by traffic_of traffic ≡ Ok net.packets
@@ -64,7 +64,7 @@ abbrev pub IsUnmade : Routes → List Packet → NetFault → Type 0
 IsUnmade routes packets f = (fault_of routes packets ≡ Some f) ⊎ ((f ≡ net.Memory) × (fault_of routes packets ≡ None))
 
 -- the first fault: the traffic, then its packets
-pub data PacketsFault (routes : Routes) (traffic : Said) : Fault → Type 0 where
+pub data PacketsFault (routes : Routes) (traffic : TextValue) : Fault → Type 0 where
   bad_traffic : {f : InputFault} → IsUnread traffic_of traffic f → PacketsFault routes traffic (fault.Traffic f)
   bad_network : {packets : List Packet} {f : NetFault} → read_by traffic_of traffic ≡ Ok packets → IsUnmade routes packets f → PacketsFault routes traffic (fault.Network f)
 
@@ -74,7 +74,7 @@ pub record AsksForRun (a : Asked) (run : Run) : Type 0 where
   pub routes : Routes
   pub before : AsksForChecked a settings routes
   pub network : IsNetworkOf routes settings.buffer a.traffic run.net
-  pub cycles : RunsTo (is_draining a.command) run.net (cycles_of a.command settings) run.count
+  pub cycles : RunsTo (runs_until_out a.command) run.net (cycles_asked a.command settings) run.count
 
 -- how a run has ended
 abbrev pub ending : Run → Status

@@ -6,8 +6,8 @@ ghost use Rattle.noc_files.specs.Configuration.{Settings};
 ghost use Rattle.noc_files.specs.Gives.{Gives};
 ghost use Rattle.noc_files.specs.Ranks.{ranks_of};
 ghost use Rattle.noc_files.specs.Writing.{Wrote};
-ghost use Rattle.noc_requests.specs.Asked.{asked_of, lent, read_by};
-ghost use Rattle.noc_requests.specs.Outcome.{Ends, Refuses};
+ghost use Rattle.noc_requests.specs.Asked.{lent_files, lent_text, read_by};
+ghost use Rattle.noc_requests.specs.Ending.{Ends, Refuses};
 ghost use Rattle.noc_answers.specs.Answer.{AsksFor, TextsFault};
 ghost use Rattle.noc_answers.specs.Check.{Accepts, AsksForChecked, HasRanking, RanksFault};
 ghost use Rattle.noc_answers.specs.Run.{workers_of};
@@ -20,15 +20,15 @@ use noc_topo::Shape;
 use std::alloc::Global;
 use std::thread::Threads;
 
-/// Writes `accepted`, if the ranks of the rank file rise along the relation. No rank file is an empty one.
-pub fn answer_check<W: Sink>(
+// Writes `accepted`, if the ranks of the rank file rise along the relation. No rank file is an empty one.
+pub(crate) fn answer_check<W: Sink>(
     rt: &(impl Threads + Sync),
     alloc: Global,
     files: &Files<'_>,
     sink: &mut W,
 ) -> Result<Status, Fault>
     requires { files.now.command ≡ Command.Check }
-    ensures { Ends (workers_of files.now.command) (Wrote W.contents W.has_failed sink.old sink.new) (sink.new ≡ sink.old) (AsksFor (asked_of files.now)) (TextsFault (asked_of files.now)) result }
+    ensures { Ends (workers_of files.now.command) (Wrote W.contents W.has_failed sink.old sink.new) (sink.new ≡ sink.old) (AsksFor (lent_files files.now)) (TextsFault (lent_files files.now)) result }
 {
     accept_files(rt, alloc, files)?;
     match write_pieces(&["accepted\n"], sink) {
@@ -40,23 +40,23 @@ pub fn answer_check<W: Sink>(
 // Whether the ranks of the rank file rise along the relation.
 fn accept_files(rt: &(impl Threads + Sync), alloc: Global, files: &Files<'_>) -> Result<(), Fault>
     requires { files.now.command ≡ Command.Check }
-    ensures accepted { OnOk result ((s : Settings) × (routes : Routes) × AsksForChecked (asked_of files.now) s routes) }
-    ensures fault { IfErr result (Refuses (TextsFault (asked_of files.now))) }
+    ensures accepted { OnOk result ((s : Settings) × (routes : Routes) × AsksForChecked (lent_files files.now) s routes) }
+    ensures fault { IfErr result (Refuses (TextsFault (lent_files files.now))) }
 {
     let (_, relation) = relation_of(alloc, files)?;
     accept(rt, alloc, files.ranks.unwrap_or(Ok(&[])), &relation)
 }
 
-/// Whether the ranks of a rank file rise along a relation, if there is one: the first fault of the file, of its rows, or of
-/// the check.
-pub fn accept_if_given(
+// Whether the ranks of a rank file rise along a relation, if there is one: the first fault of the file, of its rows, or of
+// the check.
+pub(crate) fn accept_if_given(
     rt: &(impl Threads + Sync),
     alloc: Global,
     text: Option<Bytes<'_>>,
     relation: &Relation,
 ) -> Result<(), Fault>
-    ensures accepted { OnOk result (IfSome (option_map lent text.entry) (Accepts relation.now)) }
-    ensures fault { IfErr result (Refuses (λ f. IsSomeAnd (option_map lent text.entry) (λ t. RanksFault relation.now t f))) }
+    ensures accepted { OnOk result (IfSome (option_map lent_text text.entry) (Accepts relation.now)) }
+    ensures fault { IfErr result (Refuses (λ f. IsSomeAnd (option_map lent_text text.entry) (λ t. RanksFault relation.now t f))) }
 {
     match text {
         Some(text) => accept(rt, alloc, text, relation),
@@ -71,8 +71,8 @@ fn accept(
     text: Bytes<'_>,
     relation: &Relation,
 ) -> Result<(), Fault>
-    ensures accepted { OnOk result (Accepts relation.now (lent text.entry)) }
-    ensures fault { IfErr result (Refuses (RanksFault relation.now (lent text.entry))) }
+    ensures accepted { OnOk result (Accepts relation.now (lent_text text.entry)) }
+    ensures fault { IfErr result (Refuses (RanksFault relation.now (lent_text text.entry))) }
 {
     let ranks = ranks_of(alloc, text, relation)?;
     match check(rt, alloc, relation, &ranks) {
@@ -83,8 +83,8 @@ fn accept(
 
 // The ranks of a rank file, for the channels of a relation.
 fn ranks_of(alloc: Global, text: Bytes<'_>, relation: &Relation) -> Result<Ranks, Fault>
-    ensures ranks { IfOk result (HasRanking relation.now (lent text.entry)) }
-    ensures fault { IfErr result (Refuses (RanksFault relation.now (lent text.entry))) }
+    ensures ranks { IfOk result (HasRanking relation.now (lent_text text.entry)) }
+    ensures fault { IfErr result (Refuses (RanksFault relation.now (lent_text text.entry))) }
 {
     let rows = match rows_in(alloc, relation.shape(), text) {
         Ok(rows) => rows,
@@ -98,7 +98,7 @@ fn ranks_of(alloc: Global, text: Bytes<'_>, relation: &Relation) -> Result<Ranks
 
 // The rows that a rank file says.
 fn rows_in(alloc: Global, shape: &Shape, text: Bytes<'_>) -> Result<Vec<RankRow>, InputFault>
-    ensures { Gives (λ v. v.items) result (read_by (ranks_of shape.now) (lent text.entry)) }
+    ensures { Gives (λ v. v.items) result (read_by (ranks_of shape.now) (lent_text text.entry)) }
 {
     read_ranks(alloc, shape, text?)
 }

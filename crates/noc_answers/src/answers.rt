@@ -2,8 +2,8 @@
 
 ghost use Rattle.std.specs.Prelude.{◌≡◌, ℕ, IfErr, IfOk, List, Ok};
 ghost use Rattle.noc_files.specs.Writing.{Wrote};
-ghost use Rattle.noc_requests.specs.Asked.{ReadsAs, asked_of};
-ghost use Rattle.noc_requests.specs.Outcome.{Ends, Refuses};
+ghost use Rattle.noc_requests.specs.Asked.{ReadsAs, lent_files};
+ghost use Rattle.noc_requests.specs.Ending.{Ends, Refuses};
 ghost use Rattle.noc_requests.specs.declared.status.Status.TheVariants.{Done as done};
 ghost use Rattle.noc_answers.specs.Answer.{Asks, AsksFor, AsksForArrivals, FirstFault, IsRankedDrain, IsRankedRun, TextsFault};
 ghost use Rattle.noc_answers.specs.Run.{HasWorkers, workers_of};
@@ -47,7 +47,7 @@ pub fn answer<R: Threads + Wait + Sync, W: Sink>(
     }
 }
 
-/// The same without the right to wait, for every request but a run by two or more workers.
+/// Answers every request but a run by two or more workers, and needs no right to wait.
 pub fn answer_one<W: Sink>(
     rt: &(impl Threads + Sync),
     alloc: Global,
@@ -65,7 +65,7 @@ pub fn answer_one<W: Sink>(
 
 // The files at which a request looks: those of its command, or the two texts of its joined text.
 fn read_request(request: &Request) -> Result<Files<'_>, Fault>
-    ensures files { IfOk result (λ files. ReadsAs request.now (asked_of files)) }
+    ensures files { IfOk result (λ files. ReadsAs request.now (lent_files files)) }
     ensures fault { IfErr result (Refuses (FirstFault request.now)) }
 {
     let Command::Joined = request.command else {
@@ -88,7 +88,7 @@ fn answer_files<W: Sink>(
     files: &Files<'_>,
     sink: &mut W,
 ) -> Result<Status, Fault>
-    ensures { Ends (workers_of files.now.command) (Wrote W.contents W.has_failed sink.old sink.new) (sink.new ≡ sink.old) (AsksFor (asked_of files.now)) (TextsFault (asked_of files.now)) result }
+    ensures { Ends (workers_of files.now.command) (Wrote W.contents W.has_failed sink.old sink.new) (sink.new ≡ sink.old) (AsksFor (lent_files files.now)) (TextsFault (lent_files files.now)) result }
 {
     match files.command {
         Command::Joined => run(rt, alloc, files, Report::Latency, false, sink),

@@ -12,11 +12,11 @@ use std::alloc::Global;
 use std::sync::Wait;
 use std::thread::Threads;
 
-/// After how many cycles a run that is to drain looks again whether every packet is out.
-const PIECE: u64 = 64;
+// After how many cycles a run that is to drain looks again whether every packet is out.
+const DRAIN_CHECK_INTERVAL: u64 = 64;
 
-/// Runs a network that has not run for so many cycles, and on where it is to drain.
-pub fn run_to_end(network: &mut Network, cycles: u64, drain: bool)
+// Runs a network that has not run for so many cycles, and on where it is to drain.
+pub(crate) fn run_to_end(network: &mut Network, cycles: u64, drain: bool)
     requires opening { network.old.count ≡ 0 }
     requires cycles { cycles ≤ MAX_CYCLES }
     ensures net { network.new.net ≡ network.old.net }
@@ -28,8 +28,8 @@ pub fn run_to_end(network: &mut Network, cycles: u64, drain: bool)
     }
 }
 
-/// The same by two or more workers.
-pub fn run_to_end_by_workers<R: Threads + Wait + Sync>(
+// Runs a network by two or more workers that has not run for so many cycles, and on where it is to drain.
+pub(crate) fn run_to_end_by_workers<R: Threads + Wait + Sync>(
     rt: &R,
     alloc: Global,
     network: Network,
@@ -63,7 +63,7 @@ fn run_on(network: &mut Network)
     }
 }
 
-// The same by two or more workers.
+// Runs a network on by two or more workers until every packet is out, or to its limit.
 fn run_on_by_workers<R: Threads + Wait + Sync>(
     rt: &R,
     alloc: Global,
@@ -84,11 +84,11 @@ fn run_on_by_workers<R: Threads + Wait + Sync>(
 
 // How many cycles a network that is to drain runs next: up to the next look or the limit, and none where it has drained.
 fn next_piece(network: &Network, limit: u64) -> Option<u64>
-    ensures some { IfSome result (λ cycles. (network.now.count < limit) × (is_out_at network.now.net network.now.count ≡ false) × (cycles ≡ min PIECE (limit - network.now.count))) }
+    ensures some { IfSome result (λ cycles. (network.now.count < limit) × (is_out_at network.now.net network.now.count ≡ false) × (cycles ≡ min DRAIN_CHECK_INTERVAL (limit - network.now.count))) }
     ensures none { IfNone result ((limit ≤ network.now.count) ⊎ (is_out_at network.now.net network.now.count ≡ true)) }
 {
     if limit <= network.count() || network.all_out() {
         return None;
     }
-    Some(PIECE.min(limit - network.count()))
+    Some(DRAIN_CHECK_INTERVAL.min(limit - network.count()))
 }

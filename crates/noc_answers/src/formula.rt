@@ -3,8 +3,8 @@
 ghost use Rattle.std.specs.Prelude.{◌≡◌, IfErr, IfOk};
 ghost use Rattle.noc_files.specs.Configuration.{settings};
 ghost use Rattle.noc_files.specs.Writing.{Wrote};
-ghost use Rattle.noc_requests.specs.Asked.{asked_of};
-ghost use Rattle.noc_requests.specs.Outcome.{Ends, Refuses};
+ghost use Rattle.noc_requests.specs.Asked.{lent_files};
+ghost use Rattle.noc_requests.specs.Ending.{Ends, Refuses};
 ghost use Rattle.noc_answers.specs.Answer.{AsksFor, TextsFault};
 ghost use Rattle.noc_answers.specs.Formula.{HasRanks, IsFormulaFault};
 ghost use Rattle.noc_answers.specs.Run.{workers_of};
@@ -15,14 +15,14 @@ use noc_requests::{Command, Fault, Files, Status, named_rule, relation_of};
 use noc_topo::Shape;
 use std::alloc::Global;
 
-/// Writes the ranks by formula of the rule, once its relation could be made.
-pub fn answer_ranks<W: Sink>(
+// Writes the ranks by formula of the rule, once its relation could be made.
+pub(crate) fn answer_ranks<W: Sink>(
     alloc: Global,
     files: &Files<'_>,
     sink: &mut W,
 ) -> Result<Status, Fault>
     requires { files.now.command ≡ Command.Ranks }
-    ensures { Ends (workers_of files.now.command) (Wrote W.contents W.has_failed sink.old sink.new) (sink.new ≡ sink.old) (AsksFor (asked_of files.now)) (TextsFault (asked_of files.now)) result }
+    ensures { Ends (workers_of files.now.command) (Wrote W.contents W.has_failed sink.old sink.new) (sink.new ≡ sink.old) (AsksFor (lent_files files.now)) (TextsFault (lent_files files.now)) result }
 {
     let (config, relation) = relation_of(alloc, files)?;
     let shape = relation.shape();

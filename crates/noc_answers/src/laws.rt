@@ -4,7 +4,7 @@ ghost use Rattle.std.specs.Prelude.{ℕ, Bool, List, [], ◌∷◌, ◌++◌, So
 ghost use Rattle.noc_net.specs.Limit.{are_all_out};
 ghost use Rattle.noc_net.specs.Network.{Run, arrival_in, packet_at, state_at};
 ghost use Rattle.noc_files.specs.Latency.{latency_line, packet_start};
-ghost use Rattle.noc_files.specs.Writing.{comma, joined, line_end};
+ghost use Rattle.noc_files.specs.Writing.{comma, text_of_pieces, line_end};
 ghost use Rattle.noc_requests.specs.Status.{is_memory};
 ghost use Rattle.noc_requests.specs.declared.fault.Fault.{Fault as FaultValue};
 ghost use Rattle.noc_requests.specs.declared.request.Request.{Request as RequestValue};
@@ -34,5 +34,5 @@ pub fn workers_change_no_report()
 pub fn a_packet_that_is_out_has_its_numbers()
     ensures { (run : Run) (p : ℕ) → are_all_out run.net (state_at run.net run.count) ≡ true → p < length run.net.packets
         → (cycle : ℕ) × (arrival_in run.net (state_at run.net run.count) p ≡ Some cycle)
-        × (latency_line run p ≡ packet_start p (packet_at run.net p) ++ joined (decimal cycle ∷ comma ∷ decimal (cycle - (packet_at run.net p).due) ∷ line_end ∷ [])) }
+        × (latency_line run p ≡ packet_start p (packet_at run.net p) ++ text_of_pieces (decimal cycle ∷ comma ∷ decimal (cycle - (packet_at run.net p).due) ∷ line_end ∷ [])) }
 {}

@@ -4,13 +4,13 @@ ghost use Rattle.std.specs.Prelude.{◌≡◌, ℕ, ◌<◌, ◌≤◌, Ok, Some
 ghost use Rattle.noc_files.specs.Gives.{Gives};
 ghost use Rattle.noc_files.specs.Traffic.{traffic_of};
 ghost use Rattle.noc_files.specs.Writing.{Wrote};
-ghost use Rattle.noc_requests.specs.Asked.{asked_of, lent, read_by};
-ghost use Rattle.noc_requests.specs.Outcome.{Ends, IsWriteFault, Refuses};
+ghost use Rattle.noc_requests.specs.Asked.{lent_files, lent_text, read_by};
+ghost use Rattle.noc_requests.specs.Ending.{Ends, IsWriteFault, Refuses};
 ghost use Rattle.noc_requests.specs.declared.request.Report.{Report as ReportValue};
 ghost use Rattle.noc_answers.specs.Answer.{AsksFor, TextsFault};
 ghost use Rattle.noc_answers.specs.Drain.{RunsTo};
 ghost use Rattle.noc_answers.specs.Reports.{report_text};
-ghost use Rattle.noc_answers.specs.Run.{AsksForRun, IsNetworkOf, PacketsFault, ending, is_draining, report_of, workers_of};
+ghost use Rattle.noc_answers.specs.Run.{AsksForRun, IsNetworkOf, PacketsFault, ending, runs_until_out, report_of, workers_of};
 ghost use Rattle.noc_tiles.specs.declared.limits.TheConstants.{MAX_WORKERS};
 
 use crate::accept::accept_if_given;
@@ -27,8 +27,8 @@ use std::alloc::Global;
 use std::sync::Wait;
 use std::thread::Threads;
 
-/// Runs the network for its cycles, and writes a report; ranks are checked before, if there are any.
-pub fn run<W: Sink>(
+// Runs the network for its cycles, and writes a report; ranks are checked before, if there are any.
+pub(crate) fn run<W: Sink>(
     rt: &(impl Threads + Sync),
     alloc: Global,
     files: &Files<'_>,
@@ -37,16 +37,16 @@ pub fn run<W: Sink>(
     sink: &mut W,
 ) -> Result<Status, Fault>
     requires report { report_of files.now.command ≡ Some report }
-    requires drain { is_draining files.now.command ≡ drain }
-    ensures { Ends (workers_of files.now.command) (Wrote W.contents W.has_failed sink.old sink.new) (sink.new ≡ sink.old) (AsksFor (asked_of files.now)) (TextsFault (asked_of files.now)) result }
+    requires drain { runs_until_out files.now.command ≡ drain }
+    ensures { Ends (workers_of files.now.command) (Wrote W.contents W.has_failed sink.old sink.new) (sink.new ≡ sink.old) (AsksFor (lent_files files.now)) (TextsFault (lent_files files.now)) result }
 {
     let (mut network, cycles) = opening_network(rt, alloc, files)?;
     run_to_end(&mut network, cycles, drain);
     report_on(&network, report, sink)
 }
 
-/// The same by two or more workers.
-pub fn run_by_workers<R: Threads + Wait + Sync, W: Sink>(
+// Runs the network by two or more workers for its cycles, and writes a report; ranks are checked before, if there are any.
+pub(crate) fn run_by_workers<R: Threads + Wait + Sync, W: Sink>(
     rt: &R,
     alloc: Global,
     files: &Files<'_>,
@@ -56,10 +56,10 @@ pub fn run_by_workers<R: Threads + Wait + Sync, W: Sink>(
     sink: &mut W,
 ) -> Result<Status, Fault>
     requires report { report_of files.now.command ≡ Some report }
-    requires drain { is_draining files.now.command ≡ drain }
+    requires drain { runs_until_out files.now.command ≡ drain }
     requires workers { workers_of files.now.command ≡ workers }
     requires number { (1 < workers) × (workers ≤ MAX_WORKERS) }
-    ensures { Ends (workers_of files.now.command) (Wrote W.contents W.has_failed sink.old sink.new) (sink.new ≡ sink.old) (AsksFor (asked_of files.now)) (TextsFault (asked_of files.now)) result }
+    ensures { Ends (workers_of files.now.command) (Wrote W.contents W.has_failed sink.old sink.new) (sink.new ≡ sink.old) (AsksFor (lent_files files.now)) (TextsFault (lent_files files.now)) result }
 {
     let (network, cycles) = opening_network(rt, alloc, files)?;
     match run_to_end_by_workers(rt, alloc, network, cycles, workers, drain) {
@@ -77,8 +77,8 @@ fn opening_network(
     requires { (report : ReportValue) × (report_of files.now.command ≡ Some report) }
     ensures opening { IfOk result (λ r. r.0.count ≡ 0) }
     ensures cycles { IfOk result (λ r. r.1 ≤ MAX_CYCLES) }
-    ensures run { IfOk result (λ r. (end : ℕ) → RunsTo (is_draining files.now.command) r.0.net r.1 end → AsksForRun (asked_of files.now) (record { net = r.0.net; count = end })) }
-    ensures fault { IfErr result (Refuses (TextsFault (asked_of files.now))) }
+    ensures run { IfOk result (λ r. (end : ℕ) → RunsTo (runs_until_out files.now.command) r.0.net r.1 end → AsksForRun (lent_files files.now) (record { net = r.0.net; count = end })) }
+    ensures fault { IfErr result (Refuses (TextsFault (lent_files files.now))) }
 {
     let (config, relation) = relation_of(alloc, files)?;
     accept_if_given(rt, alloc, files.ranks, &relation)?;
@@ -101,8 +101,8 @@ fn report_on<W: Sink>(network: &Network, report: Report, sink: &mut W) -> Result
     }
 }
 
-/// The network of a relation and a traffic text, before its first cycle, with `places` (1 to 16 flits) in each buffer.
-pub fn network_of(
+// The network of a relation and a traffic text, before its first cycle, with `places` (1 to 16 flits) in each buffer.
+pub(crate) fn network_of(
     alloc: Global,
     relation: Relation,
     places: usize,
@@ -111,8 +111,8 @@ pub fn network_of(
     requires some_place { 0 < places }
     requires places { places ≤ MAX_BUFFER }
     ensures opening { IfOk result (λ n. n.count ≡ 0) }
-    ensures network { IfOk result (λ n. IsNetworkOf relation places (lent traffic.entry) n.net) }
-    ensures fault { IfErr result (Refuses (PacketsFault relation (lent traffic.entry))) }
+    ensures network { IfOk result (λ n. IsNetworkOf relation places (lent_text traffic.entry) n.net) }
+    ensures fault { IfErr result (Refuses (PacketsFault relation (lent_text traffic.entry))) }
 {
     let packets = match packets_in(alloc, traffic) {
         Ok(packets) => packets,
@@ -126,7 +126,7 @@ pub fn network_of(
 
 // The packets that a traffic text says.
 fn packets_in(alloc: Global, text: Bytes<'_>) -> Result<Vec<Packet>, InputFault>
-    ensures { Gives (λ v. v.items) result (read_by traffic_of (lent text.entry)) }
+    ensures { Gives (λ v. v.items) result (read_by traffic_of (lent_text text.entry)) }
 {
     read_traffic(alloc, text?)
 }

@@ -3,9 +3,9 @@
 ghost use Rattle.std.specs.Prelude.{◌≡◌, ◌+◌, ◌<◌, ◌≤◌, IfErr, IfOk, IfSome, None, false, length};
 ghost use Rattle.noc_topo.specs.Shape.{nodes};
 ghost use Rattle.noc_files.specs.Writing.{Wrote};
-ghost use Rattle.noc_requests.specs.Asked.{asked_of};
-ghost use Rattle.noc_requests.specs.Options.{first_cycle, is_bad_span, last_cycle, packet_fault};
-ghost use Rattle.noc_requests.specs.Outcome.{Ends, Refuses};
+ghost use Rattle.noc_requests.specs.Asked.{lent_files};
+ghost use Rattle.noc_requests.specs.Options.{first_cycle, is_bad_span, last_cycle, packet_option_fault};
+ghost use Rattle.noc_requests.specs.Ending.{Ends, Refuses};
 ghost use Rattle.noc_answers.specs.Answer.{AsksFor, TextsFault};
 ghost use Rattle.noc_answers.specs.Run.{AsksForRun, workers_of};
 
@@ -17,8 +17,8 @@ use noc_requests::{
 };
 use std::alloc::Global;
 
-/// Runs the network up to the first cycle of a span, and then cycle by cycle, and writes what its input channels did in each.
-pub fn trace<W: Sink>(
+// Runs the network up to the first cycle of a span, and then cycle by cycle, and writes what its input channels did in each.
+pub(crate) fn trace<W: Sink>(
     alloc: Global,
     files: &Files<'_>,
     from: Option<u64>,
@@ -27,7 +27,7 @@ pub fn trace<W: Sink>(
     sink: &mut W,
 ) -> Result<Status, Fault>
     requires { files.now.command ≡ Command.Trace from to traced }
-    ensures { Ends (workers_of files.now.command) (Wrote W.contents W.has_failed sink.old sink.new) (sink.new ≡ sink.old) (AsksFor (asked_of files.now)) (TextsFault (asked_of files.now)) result }
+    ensures { Ends (workers_of files.now.command) (Wrote W.contents W.has_failed sink.old sink.new) (sink.new ≡ sink.old) (AsksFor (lent_files files.now)) (TextsFault (lent_files files.now)) result }
 {
     let (mut network, cycles) = network_to_trace(alloc, files, from, to, traced)?;
     let trace = match Trace::new(alloc, &network, traced) {
@@ -57,9 +57,9 @@ fn network_to_trace(
     ensures cycles { IfOk result (λ r. r.1 ≤ MAX_CYCLES) }
     ensures span { IfOk result (λ r. is_bad_span (first_cycle from) (last_cycle to r.1) r.1 ≡ false) }
     ensures router { IfOk result (λ r. IfSome traced.router (λ router. router < nodes r.0.net.relation.grid)) }
-    ensures packet { IfOk result (λ r. packet_fault files.now.command (length r.0.net.packets) ≡ None) }
-    ensures run { IfOk result (λ r. AsksForRun (asked_of files.now) (record { net = r.0.net; count = last_cycle to r.1 + 1 })) }
-    ensures fault { IfErr result (Refuses (TextsFault (asked_of files.now))) }
+    ensures packet { IfOk result (λ r. packet_option_fault files.now.command (length r.0.net.packets) ≡ None) }
+    ensures run { IfOk result (λ r. AsksForRun (lent_files files.now) (record { net = r.0.net; count = last_cycle to r.1 + 1 })) }
+    ensures fault { IfErr result (Refuses (TextsFault (lent_files files.now))) }
 {
     let (config, relation) = relation_of(alloc, files)?;
     let network = network_of(alloc, relation, config.buffer, files.traffic)?;

@@ -247,7 +247,7 @@ misfits 0
     Ok(())
 }
 
-// The same packets with two channels by resource class: what router 2 finds in cycle 5.
+// Four packets around a ring with two channels by resource class: what router 2 finds in cycle 5.
 #[test]
 fn findings_of_a_router(rt: HostRuntime) -> Result<(), Fail> {
     let a = rt.alloc();

@@ -47,7 +47,7 @@ each_same {X} f h (suc n) same =
     let before : flat_map f (below n) ≡ flat_map h (below n) = each_same f h n (λ k less. same k (omega arith)) in
     ap (λ k. flat_map f (below k)) next ∙ each_more f n ∙ ap (λ (t : List X). t ++ f n) before ∙ ap (λ (t : List X). flat_map h (below n) ++ t) (same n (omega arith)) ∙ sym (each_more h n) ∙ ap (λ k. flat_map h (below k)) (sym next)
 
--- .. and of each number nothing is nothing
+-- nothing said of each number is nothing
 pub each_none : {X : Type 0} (f : ℕ → List X) (ks : List ℕ) → ((k : ℕ) → f k ≡ []) → flat_map f ks ≡ []
 each_none f [] none = refl
 each_none f (k ∷ ks) none = rw (none k) (each_none f ks none)
@@ -61,7 +61,7 @@ found_more f n = ap (filter_map f) (below_more n) ∙ filter_map-append f (below
 pub found_one : {X : Type 0} (f : ℕ → Option X) (n : ℕ) (x : X) → Some x ≡ f n → filter_map f (below (n + 1)) ≡ filter_map f (below n) ++ x ∷ []
 found_one {X} f n x e = found_more f n ∙ ap (λ (o : Option X). filter_map f (below n) ++ cons_option o []) (sym e)
 
--- .. of which nothing is found
+-- one number more, of which nothing is found
 pub found_no_more : {X : Type 0} (f : ℕ → Option X) (n : ℕ) → None ≡ f n → filter_map f (below (n + 1)) ≡ filter_map f (below n)
 found_no_more {X} f n e = found_more f n ∙ ap (λ (o : Option X). filter_map f (below n) ++ cons_option o []) (sym e) ∙ append-nil (filter_map f (below n))
 

@@ -16,7 +16,7 @@ use Rattle.noc_files.specs.declared.fault.Key.{Key}
 use Rattle.noc_files.specs.declared.fault.Key.TheVariants as key
 use Rattle.noc_files.specs.declared.configuration.TheConstants.{MAX_CYCLES}
 use Rattle.noc_packet.specs.declared.limits.TheConstants.{MAX_BUFFER, MAX_CHANNELS, MAX_CLASSES}
-use Rattle.noc_files.specs.Configuration.{AreIntegers, HasAllowed, HasBadKey, HasValue, IsAllowed, IsConfigurationFault, IsDocument, IsIntegerIn, IsKeyFault, IsNoDocument, IsOfType, Settings, all_integers, all_known, config_at, config_of, document_of, integers, kind_at, kind_of, kind_word, lengths_of, number_in, radix_at, rule_at, rule_of, rule_word, typed_at, within}
+use Rattle.noc_files.specs.Configuration.{AreIntegers, HasAllowed, HasBadKey, HasValue, IsAllowed, IsConfigurationFault, IsDocument, IsIntegerIn, IsKeyFault, IsNoDocument, IsOfType, Settings, all_integers, all_known, config_at, config_of, document_of, integers, kind_at, kind_of, kind_word, lengths_of, number_in, radix_at, rule_setting, rule_of, rule_word, typed_at, within}
 use Rattle.noc_files.specs.Gives.{◌>>=◌}
 use Rattle.noc_files.specs.Keys.{key_name}
 use Rattle.noc_files.proofs.ConfigurationLaws.{are_keys, are_lengths, array_is, document_is, integer_is, is_kind, is_rule, is_within, keys_are, kind_at_is, number_is, radix_is, rule_at_is, string_is, typed_is}
@@ -62,8 +62,8 @@ kind_fault ms fault e =
           }))
     ]
 
-rule_fault : (ms : Members) (fault : InputFault) → rule_at ms ≡ Err fault → IsKeyFault ms key.Rule fault
-unfolding rule_at
+rule_fault : (ms : Members) (fault : InputFault) → rule_setting ms ≡ Err fault → IsKeyFault ms key.Rule fault
+unfolding rule_setting
 rule_fault ms fault e =
     elim (bind_err (typed_at as_str key.Rule ms) (λ w. ok_or (rule_of w) (BadValue key.Rule)) fault e) [
       | inl early ↦ typed_fault as_str string (λ w. refl) key.Rule (λ d h. h) ms fault early
@@ -139,7 +139,7 @@ radix_fault ms fault e =
 kind_good : (ms : Members) (k : Kind) → kind_at ms ≡ Ok k → HasAllowed ms key.Kind
 kind_good ms k e = (string (kind_word k), kind_at_is ms k e, (k, refl))
 
-rule_good : (ms : Members) (r : RuleName) → rule_at ms ≡ Ok r → HasAllowed ms key.Rule
+rule_good : (ms : Members) (r : RuleName) → rule_setting ms ≡ Ok r → HasAllowed ms key.Rule
 rule_good ms r e = (string (rule_word r), rule_at_is ms r e, (r, refl))
 
 radix_good : (ms : Members) (ns : List ℕ) → radix_at ms ≡ Ok ns → HasAllowed ms key.Radix
@@ -202,7 +202,7 @@ bad_key ms fault e =
                             elim (bind_err (number_in key.Classes 1 MAX_CLASSES ms) _ fault f.2) [
                               | inl bad ↦ record { before = key.Kind ∷ key.Radix ∷ key.Channels ∷ key.Buffer ∷ []; bad = key.Classes; others = key.Rule ∷ key.Cycles ∷ []; in_order = refl; good = (ka, (kb, (kc, (kf, tt)))); fault_is = number_fault ms key.Classes 1 MAX_CLASSES (λ d h. h) (λ z. (z, refl)) (λ d h. h) fault bad }
                               | inr g ↦ let kg = number_good ms key.Classes 1 MAX_CLASSES g.0 (λ d h. h) g.1 in
-                                  elim (bind_err (rule_at ms) _ fault g.2) [
+                                  elim (bind_err (rule_setting ms) _ fault g.2) [
                                     | inl bad ↦ record { before = key.Kind ∷ key.Radix ∷ key.Channels ∷ key.Buffer ∷ key.Classes ∷ []; bad = key.Rule; others = key.Cycles ∷ []; in_order = refl; good = (ka, (kb, (kc, (kf, (kg, tt))))); fault_is = rule_fault ms fault bad }
                                     | inr h ↦ let kh = rule_good ms h.0 h.1 in
                                         elim (bind_err (number_in key.Cycles 1 MAX_CYCLES ms) _ fault h.2) [
@@ -224,7 +224,7 @@ all_good ms s e k =
     let channels = bind_ok (number_in key.Channels 1 MAX_CHANNELS ms) _ s radix.2 in
     let buffer = bind_ok (number_in key.Buffer 1 MAX_BUFFER ms) _ s channels.2 in
     let classes = bind_ok (number_in key.Classes 1 MAX_CLASSES ms) _ s buffer.2 in
-    let rule = bind_ok (rule_at ms) _ s classes.2 in
+    let rule = bind_ok (rule_setting ms) _ s classes.2 in
     let cycles = bind_ok (number_in key.Cycles 1 MAX_CYCLES ms) _ s rule.2 in
     elim k as (λ (k : Key). HasAllowed ms k) [
       | key.Kind ↦ kind_good ms kind.0 kind.1

@@ -18,7 +18,7 @@ use Rattle.noc_files.specs.declared.fault.InputFault.{InputFault}
 use Rattle.noc_files.specs.declared.fault.InputFault.TheVariants.{BadToml, BadValue, MissingKey, UnknownKey, WrongType}
 use Rattle.noc_files.specs.declared.fault.Key.{Key}
 use Rattle.noc_files.specs.declared.fault.Key.TheVariants as key
-use Rattle.noc_files.specs.Configuration.{HasKnownKeys, HasNumber, HasValue, IsConfiguration, Settings, all_integers, all_known, config_at, config_of, document_of, integers, is_key, kind_at, kind_of, kind_word, lengths_of, number_in, radix_at, rule_at, rule_of, rule_word, typed_at, within}
+use Rattle.noc_files.specs.Configuration.{HasKnownKeys, HasNumber, HasValue, IsConfiguration, Settings, all_integers, all_known, config_at, config_of, document_of, integers, is_key, kind_at, kind_of, kind_word, lengths_of, number_in, radix_at, rule_setting, rule_of, rule_word, typed_at, within}
 use Rattle.noc_files.specs.declared.configuration.TheConstants.{MAX_CYCLES}
 use Rattle.noc_packet.specs.declared.limits.TheConstants.{MAX_BUFFER, MAX_CHANNELS, MAX_CLASSES}
 use Rattle.noc_files.specs.Keys.{key_name}
@@ -202,14 +202,14 @@ is_kind_at : (ms : Members) (k : Kind) → HasValue ms key.Kind (string (kind_wo
 unfolding kind_at
 is_kind_at ms k value = rw value (rw (is_kind k))
 
-pub rule_at_is : (ms : Members) (r : RuleName) → rule_at ms ≡ Ok r → HasValue ms key.Rule (string (rule_word r))
-unfolding rule_at
+pub rule_at_is : (ms : Members) (r : RuleName) → rule_setting ms ≡ Ok r → HasValue ms key.Rule (string (rule_word r))
+unfolding rule_setting
 rule_at_is ms r e =
     let first = bind_ok (typed_at as_str key.Rule ms) (λ w. ok_or (rule_of w) (BadValue key.Rule)) r e in
     rw (← rule_is first.0 r (found_in (rule_of first.0) (BadValue key.Rule) r first.2)) (typed_is as_str string string_is key.Rule ms first.0 first.1)
 
-is_rule_at : (ms : Members) (r : RuleName) → HasValue ms key.Rule (string (rule_word r)) → rule_at ms ≡ Ok r
-unfolding rule_at
+is_rule_at : (ms : Members) (r : RuleName) → HasValue ms key.Rule (string (rule_word r)) → rule_setting ms ≡ Ok r
+unfolding rule_setting
 is_rule_at ms r value = rw value (rw (is_rule r))
 
 pub document_is : (text : List ℕ) (ms : Members) → document_of text ≡ Ok ms → IsUtf8 text × (parse_document text ≡ Some ms)
@@ -227,7 +227,7 @@ settings_are text ms s utf8 parsed known e =
     let channels = bind_ok (number_in key.Channels 1 MAX_CHANNELS ms) _ s radix.2 in
     let buffer = bind_ok (number_in key.Buffer 1 MAX_BUFFER ms) _ s channels.2 in
     let classes = bind_ok (number_in key.Classes 1 MAX_CLASSES ms) _ s buffer.2 in
-    let rule = bind_ok (rule_at ms) _ s classes.2 in
+    let rule = bind_ok (rule_setting ms) _ s classes.2 in
     let cycles = bind_ok (number_in key.Cycles 1 MAX_CYCLES ms) _ s rule.2 in
     let same : record { kind = kind.0; radix = radix.0; channels = channels.0; buffer = buffer.0; classes = classes.0; rule = rule.0; cycles = cycles.0 } ≡ s = cc in
     let sizes = radix_is ms radix.0 radix.1 in

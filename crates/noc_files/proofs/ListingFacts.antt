@@ -13,7 +13,7 @@ use Rattle.noc_rank.specs.declared.rows.RankRow.{RankRow}
 use Rattle.noc_topo.specs.Shape.{Grid, local_port, neighbour, nodes}
 use Rattle.noc_topo.specs.Words.{below, Each, Has, Pairs}
 use Rattle.noc_files.specs.Plain.{IsPlain, IsPlainRow, plain_text, row_line}
-use Rattle.noc_files.specs.Ranks.{IsBefore, IsRankField, IsRankOf, ListsRanks, WritesRank, adaptive, header, port_rows, rank_fields, rank_line, rank_row, rank_rows, rank_text, ranks_of, ranks_text, router_rows}
+use Rattle.noc_files.specs.Ranks.{RowIsBefore, IsRankField, IsRankOf, ListsRanks, WritesRank, adaptive, rank_header, port_rows, rank_fields, rank_line, rank_row, rank_rows, rank_text, ranks_of, ranks_text, router_rows}
 use Rattle.noc_files.proofs.BelowFacts.{each_more, each_split, later}
 use Rattle.noc_files.proofs.NumeralFacts.{decimal_numeral, plain_decimal, some_decimal}
 use Rattle.noc_files.proofs.PlainFacts.{bytes_are_plain, is_plain_row, plain_rows}
@@ -122,29 +122,29 @@ each_rank : (k : Ranking) → Each (IsRankOf k) (rank_rows k)
 unfolding rank_rows
 each_rank k = each_below (IsRankOf k) (router_rows k) (nodes k.grid) (λ r router. each_follows (IsOfRouter k r) (IsRankOf k) (λ row h. h.rank) (router_rows k r) (each_of_router k r router))
 
-port_rises : (k : Ranking) (r p : ℕ) → Pairs IsBefore (port_rows k r p)
+port_rises : (k : Ranking) (r p : ℕ) → Pairs RowIsBefore (port_rows k r p)
 port_rises k r p = by (is_some (neighbour k.grid r p)) refl
   where
-    by : (b : Bool) → is_some (neighbour k.grid r p) ≡ b → Pairs IsBefore (port_rows k r p)
-    by true link = rw (port_rows_are k r p link) (pairs_below IsBefore (λ v. rank_row k r p v ∷ []) k.vcs (λ v vc. (tt, tt)) (λ v w low high. ((before_vc r p v w low, tt), tt)))
+    by : (b : Bool) → is_some (neighbour k.grid r p) ≡ b → Pairs RowIsBefore (port_rows k r p)
+    by true link = rw (port_rows_are k r p link) (pairs_below RowIsBefore (λ v. rank_row k r p v ∷ []) k.vcs (λ v vc. (tt, tt)) (λ v w low high. ((before_vc r p v w low, tt), tt)))
     by false border = rw (port_rows_none k r p border) tt
 
-router_rises : (k : Ranking) (r : ℕ) → r < nodes k.grid → Pairs IsBefore (router_rows k r)
+router_rises : (k : Ranking) (r : ℕ) → r < nodes k.grid → Pairs RowIsBefore (router_rows k r)
 unfolding router_rows
 router_rises k r router =
-    pairs_below IsBefore (port_rows k r) (local_port k.grid) (λ p port. port_rises k r p)
+    pairs_below RowIsBefore (port_rows k r) (local_port k.grid) (λ p port. port_rises k r p)
     (λ p q low high.
-    each_follows (IsOfPort k r p) (λ x. Each (IsBefore x) (port_rows k r q))
-    (λ x h. each_follows (IsOfPort k r q) (IsBefore x) (λ y i. rw (h.router, h.port, i.router, i.port) (before_port r p q x.vc y.vc low)) (port_rows k r q) (each_of_port k r q router high)) (port_rows k r p)
+    each_follows (IsOfPort k r p) (λ x. Each (RowIsBefore x) (port_rows k r q))
+    (λ x h. each_follows (IsOfPort k r q) (RowIsBefore x) (λ y i. rw (h.router, h.port, i.router, i.port) (before_port r p q x.vc y.vc low)) (port_rows k r q) (each_of_port k r q router high)) (port_rows k r p)
     (each_of_port k r p router (omega arith)))
 
-all_rise : (k : Ranking) → Pairs IsBefore (rank_rows k)
+all_rise : (k : Ranking) → Pairs RowIsBefore (rank_rows k)
 unfolding rank_rows
 all_rise k =
-    pairs_below IsBefore (router_rows k) (nodes k.grid) (λ r router. router_rises k r router)
+    pairs_below RowIsBefore (router_rows k) (nodes k.grid) (λ r router. router_rises k r router)
     (λ r s low high.
-    each_follows (IsOfRouter k r) (λ x. Each (IsBefore x) (router_rows k s))
-    (λ x h. each_follows (IsOfRouter k s) (IsBefore x) (λ y i. rw (h.router, i.router) (before_router r s x.port y.port x.vc y.vc low)) (router_rows k s) (each_of_router k s high)) (router_rows k r)
+    each_follows (IsOfRouter k r) (λ x. Each (RowIsBefore x) (router_rows k s))
+    (λ x h. each_follows (IsOfRouter k s) (RowIsBefore x) (λ y i. rw (h.router, i.router) (before_router r s x.port y.port x.vc y.vc low)) (router_rows k s) (each_of_router k s high)) (router_rows k r)
     (each_of_router k r (omega arith)))
 
 -- where a link channel is
@@ -217,9 +217,9 @@ ranks_written k ranking few (row ∷ rows) h =
       ranks_written k ranking few rows h.1,
     )
 
-text_is_plain : (k : Ranking) → ranks_text k ≡ plain_text (header ∷ map (rank_fields k.grid) (rank_rows k))
+text_is_plain : (k : Ranking) → ranks_text k ≡ plain_text (rank_header ∷ map (rank_fields k.grid) (rank_rows k))
 unfolding rank_line
-text_is_plain k = ap (λ (t : List ℕ). row_line header ++ t) (sym (flat_map-map row_line (rank_fields k.grid) (rank_rows k)))
+text_is_plain k = ap (λ (t : List ℕ). row_line rank_header ++ t) (sym (flat_map-map row_line (rank_fields k.grid) (rank_rows k)))
 
 pub ranks_back : (k : Ranking) → IsRanking k → k.vcs < 2 ^ 32 → ranks_of k.grid (ranks_text k) ≡ Ok (rank_rows k)
 ranks_back k ranking few =
@@ -227,6 +227,6 @@ ranks_back k ranking few =
     let rows = rank_rows k in
     is_rank_file g ranking.grid (ranks_text k) rows (record {
       below = map (rank_fields g) rows;
-      under_header = rw (text_is_plain k) (plain_rows (header ∷ map (rank_fields g) rows) (is_plain_row header refl, ranks_plain k ranking few rows (each_rank k)));
+      under_header = rw (text_is_plain k) (plain_rows (rank_header ∷ map (rank_fields g) rows) (is_plain_row rank_header refl, ranks_plain k ranking few rows (each_rank k)));
       writes = ranks_written k ranking few rows (each_rank k);
     })

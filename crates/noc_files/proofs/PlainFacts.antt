@@ -10,7 +10,7 @@ use Rattle.csv.specs.declared.parser.Action.TheVariants as act
 use Rattle.csv.specs.declared.parser.State.TheVariants as st
 use Rattle.noc_topo.specs.Words.{Each}
 use Rattle.noc_files.specs.Plain.{IsPlain, IsPlainRow, after_commas, plain_text, row_line}
-use Rattle.noc_files.specs.Rows.{Fields, rows_of}
+use Rattle.noc_files.specs.Rows.{Fields, text_rows}
 
 -- ---- plain bytes
 
@@ -98,7 +98,7 @@ whole_text (([] ∷ others) ∷ rows) h = absurd (omega (arith, h.0.0))
 whole_text (((c ∷ cs) ∷ others) ∷ rows) h = no_mark c _ h.0.1.0.ascii
 
 -- plain rows are read as they were written
-pub plain_rows : (rows : List Fields) → Each IsPlainRow rows → rows_of (plain_text rows) ≡ rows
+pub plain_rows : (rows : List Fields) → Each IsPlainRow rows → text_rows (plain_text rows) ≡ rows
 plain_rows rows h = rw (whole_text rows h) (rows_read (length (plain_text rows) + 1) rows (omega (arith, text_length rows)) h)
 
 -- ---- the same by a test, for rows that are written out

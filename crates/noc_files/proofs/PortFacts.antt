@@ -7,7 +7,7 @@ use Rattle.std.specs.List.{range_with_len}
 use Rattle.noc_topo.specs.Shape.{Grid, local_port, ports}
 use Rattle.noc_topo.specs.Words.{below}
 use Rattle.std.specs.Str.{bytes_eq}
-use Rattle.noc_files.specs.Ports.{name_of_port, port_of, sign_of}
+use Rattle.noc_files.specs.Ports.{name_of_port, port_named, sign_of}
 
 pub digit_0 : decimal 0 ≡ 48 ∷ []
 unfolding digits
@@ -45,11 +45,11 @@ found_none test a (suc n) none =
     let skipped : test a ≡ false = none a (omega arith) (omega arith) in
     rw skipped (found_none test (a + 1) n (λ j low high. none j (omega arith) (omega arith)))
 
-pub port_found : (g : Grid) (name : List ℕ) (p : ℕ) → p < ports g → ((j : ℕ) → j < p → bytes_eq name (name_of_port g j) ≡ false) → bytes_eq name (name_of_port g p) ≡ true → port_of g name ≡ Some p
-unfolding port_of below
+pub port_found : (g : Grid) (name : List ℕ) (p : ℕ) → p < ports g → ((j : ℕ) → j < p → bytes_eq name (name_of_port g j) ≡ false) → bytes_eq name (name_of_port g p) ≡ true → port_named g name ≡ Some p
+unfolding port_named below
 port_found g name p known none here =
     found_first (λ port. bytes_eq name (name_of_port g port)) 0 (ports g) p (omega arith) (omega arith) (λ j low high. none j high) here
 
-pub port_none : (g : Grid) (name : List ℕ) → ((j : ℕ) → j < ports g → bytes_eq name (name_of_port g j) ≡ false) → port_of g name ≡ None
-unfolding port_of below
+pub port_none : (g : Grid) (name : List ℕ) → ((j : ℕ) → j < ports g → bytes_eq name (name_of_port g j) ≡ false) → port_named g name ≡ None
+unfolding port_named below
 port_none g name none = found_none (λ port. bytes_eq name (name_of_port g port)) 0 (ports g) (λ j low high. none j (omega arith))

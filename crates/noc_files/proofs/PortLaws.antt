@@ -8,7 +8,7 @@ use Rattle.std.specs.List.{range_with_len}
 use Rattle.std.specs.Str.{bytes_eq}
 use Rattle.noc_topo.specs.Shape.{Grid, IsGrid, is_plus, local_port, ports}
 use Rattle.noc_topo.specs.Words.{Each, below}
-use Rattle.noc_files.specs.Ports.{IsPortName, name_of_port, port_of, sign_of}
+use Rattle.noc_files.specs.Ports.{IsPortName, name_of_port, port_named, sign_of}
 use Rattle.noc_files.specs.Plain.{IsPlain}
 use Rattle.noc_files.proofs.NumeralFacts.{plain_decimal}
 use Rattle.noc_files.proofs.PlainFacts.{byte_is_plain, bytes_are_plain}
@@ -63,13 +63,13 @@ same_name g j p grid jk pk e = by (j == local_port g) refl (p == local_port g) r
     by false other true here = absurd (not_local j (decimal (j / 2)) (sym (rw (other, here) at e)))
     by false other false also = same_link j p (omega (arith, grid.few_dimensions)) (omega (arith, grid.few_dimensions)) (rw (other, also) at e)
 
-pub port_is : (g : Grid) (name : List ℕ) (p : ℕ) → port_of g name ≡ Some p → IsPortName g name p
-unfolding port_of below
+pub port_is : (g : Grid) (name : List ℕ) (p : ℕ) → port_named g name ≡ Some p → IsPortName g name p
+unfolding port_named below
 port_is g name p e =
     let found = found_passes (λ port. bytes_eq name (name_of_port g port)) 0 (ports g) p e in
     record { known = omega (arith, found.0); text = same_text name (name_of_port g p) (sym found.1) }
 
-pub is_port : (g : Grid) (name : List ℕ) (p : ℕ) → IsGrid g → IsPortName g name p → port_of g name ≡ Some p
+pub is_port : (g : Grid) (name : List ℕ) (p : ℕ) → IsGrid g → IsPortName g name p → port_named g name ≡ Some p
 is_port g name p grid h =
     port_found g name p h.known (λ j less. others j less (bytes_eq name (name_of_port g j)) refl) (rw (← h.text) (bytes_eq-refl name))
   where

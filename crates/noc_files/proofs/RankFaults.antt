@@ -7,9 +7,9 @@ use Rattle.noc_topo.specs.Shape.{Grid, IsGrid}
 use Rattle.noc_files.specs.declared.fault.InputFault.{InputFault}
 use Rattle.noc_files.specs.declared.fault.InputFault.TheVariants.{BadCount, BadNumber, BadPort}
 use Rattle.noc_files.specs.Columns.{HasBadColumn, field_fault}
-use Rattle.noc_files.specs.Ports.{port_of}
-use Rattle.noc_files.specs.Rows.{Fields, number_of, rows_of}
-use Rattle.noc_files.specs.Ranks.{IsRankField, IsRankFileFault, IsRankRowFault, MayHold, WritesRank, header, rank_of, rank_row_of, ranks_of}
+use Rattle.noc_files.specs.Ports.{port_named}
+use Rattle.noc_files.specs.Rows.{Fields, number_of, text_rows}
+use Rattle.noc_files.specs.Ranks.{IsRankField, IsRankFileFault, IsRankRowFault, MayHold, WritesRank, rank_header, rank_of, rank_row_of, ranks_of}
 use Rattle.noc_files.proofs.FaultLaws.{breaks_sheet, sheet_breaks}
 use Rattle.noc_files.proofs.PortLaws.{is_port, port_is}
 use Rattle.noc_files.proofs.SheetLaws.{is_numeral, numeral_is}
@@ -34,7 +34,7 @@ abbrev IsBad : Grid → ℕ → Fields → InputFault → Type 0
 IsBad g row fields fault = HasBadColumn 4 (MayHold g) (λ at column. field_fault (column == 1) at column) row fields fault
 
 module _ (g : Grid) (grid : IsGrid g) where
-  four_fault : (row : ℕ) (a b c d : List ℕ) (fault : InputFault) → (oa : Option ℕ) → number_of a ≡ oa → (ob : Option ℕ) → port_of g b ≡ ob → (oc : Option ℕ) → number_of c ≡ oc → (od : Option (Option ℕ)) → rank_of d ≡ od
+  four_fault : (row : ℕ) (a b c d : List ℕ) (fault : InputFault) → (oa : Option ℕ) → number_of a ≡ oa → (ob : Option ℕ) → port_named g b ≡ ob → (oc : Option ℕ) → number_of c ≡ oc → (od : Option (Option ℕ)) → rank_of d ≡ od
       → rank_row_of g row (a ∷ b ∷ c ∷ d ∷ []) ≡ Err fault → IsBad g row (a ∷ b ∷ c ∷ d ∷ []) fault
   unfolding rank_row_of field_at
   four_fault row a b c d fault None ea ob eb oc ec od ed e =
@@ -59,7 +59,7 @@ module _ (g : Grid) (grid : IsGrid g) where
   rank_fault row (a ∷ []) fault e = inl ((λ same. omega arith), cc)
   rank_fault row (a ∷ b ∷ []) fault e = inl ((λ same. omega arith), cc)
   rank_fault row (a ∷ b ∷ c ∷ []) fault e = inl ((λ same. omega arith), cc)
-  rank_fault row (a ∷ b ∷ c ∷ d ∷ []) fault e = inr (four_fault row a b c d fault (number_of a) refl (port_of g b) refl (number_of c) refl (rank_of d) refl e)
+  rank_fault row (a ∷ b ∷ c ∷ d ∷ []) fault e = inr (four_fault row a b c d fault (number_of a) refl (port_named g b) refl (number_of c) refl (rank_of d) refl e)
   rank_fault row (a ∷ b ∷ c ∷ d ∷ f ∷ more) fault e =
       let fields = a ∷ b ∷ c ∷ d ∷ f ∷ more in
       let refused : rank_row_of g row fields ≡ Err (BadCount row) = rw (differs (length fields) 4 (omega arith)) in
@@ -102,7 +102,7 @@ module _ (g : Grid) (grid : IsGrid g) where
 
   -- a text is refused with this fault just where it is its first
   pub rank_file_fault : (text : List ℕ) (fault : InputFault) → ranks_of g text ≡ Err fault → IsRankFileFault g text fault
-  rank_file_fault text fault e = sheet_breaks (rank_row_of g) (WritesRank g) (IsRankRowFault g) (rank_is g grid) (is_rank g grid) rank_fault fault_rank header (rows_of text) fault e
+  rank_file_fault text fault e = sheet_breaks (rank_row_of g) (WritesRank g) (IsRankRowFault g) (rank_is g grid) (is_rank g grid) rank_fault fault_rank rank_header (text_rows text) fault e
 
   pub fault_rank_file : (text : List ℕ) (fault : InputFault) → IsRankFileFault g text fault → ranks_of g text ≡ Err fault
-  fault_rank_file text fault w = breaks_sheet (rank_row_of g) (WritesRank g) (IsRankRowFault g) (rank_is g grid) (is_rank g grid) rank_fault fault_rank header (rows_of text) fault w
+  fault_rank_file text fault w = breaks_sheet (rank_row_of g) (WritesRank g) (IsRankRowFault g) (rank_is g grid) (is_rank g grid) rank_fault fault_rank rank_header (text_rows text) fault w

@@ -9,8 +9,8 @@ use Rattle.noc_rank.specs.declared.rows.RankRow.{RankRow}
 use Rattle.noc_topo.specs.Shape.{Grid, IsGrid}
 use Rattle.noc_files.specs.declared.fault.InputFault.{InputFault}
 use Rattle.noc_files.specs.declared.fault.InputFault.TheVariants.{BadCount, BadNumber}
-use Rattle.noc_files.specs.Rows.{Fields, number_of, rows_of}
-use Rattle.noc_files.specs.Ranks.{IsRankField, IsRankFile, WritesRank, adaptive, header, rank_of, rank_row_of, ranks_of}
+use Rattle.noc_files.specs.Rows.{Fields, number_of, text_rows}
+use Rattle.noc_files.specs.Ranks.{IsRankField, IsRankFile, WritesRank, adaptive, rank_header, rank_of, rank_row_of, ranks_of}
 use Rattle.noc_files.proofs.PortLaws.{is_port}
 use Rattle.noc_files.proofs.SheetLaws.{bind_ok, is_numeral, is_sheet, numeral_is, sheet_is}
 use Rattle.noc_files.proofs.TableLaws.{named_at, port_column}
@@ -73,7 +73,7 @@ module _ (g : Grid) (grid : IsGrid g) where
 
   -- a text is read as these rows just where it is the header and rows that write them
   pub rank_file_is : (text : List ℕ) (rows : List RankRow) → ranks_of g text ≡ Ok rows → IsRankFile g text rows
-  rank_file_is text rows e = sheet_is (rank_row_of g) (WritesRank g) rank_is is_rank header (rows_of text) rows e
+  rank_file_is text rows e = sheet_is (rank_row_of g) (WritesRank g) rank_is is_rank rank_header (text_rows text) rows e
 
   pub is_rank_file : (text : List ℕ) (rows : List RankRow) → IsRankFile g text rows → ranks_of g text ≡ Ok rows
-  is_rank_file text rows h = is_sheet (rank_row_of g) (WritesRank g) rank_is is_rank header (rows_of text) rows h
+  is_rank_file text rows h = is_sheet (rank_row_of g) (WritesRank g) rank_is is_rank rank_header (text_rows text) rows h

@@ -6,10 +6,10 @@ use Rattle.noc_route.specs.declared.rule.RouteRow.{RouteRow}
 use Rattle.noc_topo.specs.Shape.{Grid, IsGrid}
 use Rattle.noc_files.specs.declared.fault.InputFault.{InputFault}
 use Rattle.noc_files.specs.declared.fault.InputFault.TheVariants.{BadCount, BadNumber, BadPort}
-use Rattle.noc_files.specs.Ports.{IsPortName, port_of}
-use Rattle.noc_files.specs.Rows.{Fields, number_of, rows_of}
+use Rattle.noc_files.specs.Ports.{IsPortName, port_named}
+use Rattle.noc_files.specs.Rows.{Fields, number_of, text_rows}
 use Rattle.noc_files.specs.Columns.{HasBadField, IsField, field_fault}
-use Rattle.noc_files.specs.Table.{IsRouteFault, IsTableFault, WritesRoute, header, is_port_column, route_row_of, table_of}
+use Rattle.noc_files.specs.Table.{IsRouteFault, IsTableFault, WritesRoute, table_header, is_port_column, route_row_of, table_of}
 use Rattle.noc_files.proofs.FaultLaws.{breaks_sheet, sheet_breaks}
 use Rattle.noc_files.proofs.PortLaws.{is_port, port_is}
 use Rattle.noc_files.proofs.SheetLaws.{is_numeral, numeral_is}
@@ -19,17 +19,17 @@ use Rattle.noc_files.proofs.TrafficLaws.{differs}
 use borrow.Author.Count.{below_more, below_none}
 
 module _ (g : Grid) (grid : IsGrid g) where
-  pub no_port : (field : List ℕ) → port_of g field ≡ None → ((port : ℕ) × IsPortName g field port) → ⊥
+  pub no_port : (field : List ℕ) → port_named g field ≡ None → ((port : ℕ) × IsPortName g field port) → ⊥
   no_port field e h = none-some h.0 (sym e ∙ is_port g field h.0 grid h.1)
 
-  pub none_named : (field : List ℕ) → (((port : ℕ) × IsPortName g field port) → ⊥) → port_of g field ≡ None
-  none_named field h = by (port_of g field) refl
+  pub none_named : (field : List ℕ) → (((port : ℕ) × IsPortName g field port) → ⊥) → port_named g field ≡ None
+  none_named field h = by (port_named g field) refl
     where
-      by : (o : Option ℕ) → port_of g field ≡ o → port_of g field ≡ None
+      by : (o : Option ℕ) → port_named g field ≡ o → port_named g field ≡ None
       by (Some n) e = absurd (h (n, port_is g field n e))
       by None e = e
 
-  seven_fault : (row : ℕ) (a b c d f h k : List ℕ) (fault : InputFault) → (oa : Option ℕ) → number_of a ≡ oa → (ob : Option ℕ) → number_of b ≡ ob → (oc : Option ℕ) → port_of g c ≡ oc → (od : Option ℕ) → number_of d ≡ od → (of : Option ℕ) → number_of f ≡ of → (oh : Option ℕ) → port_of g h ≡ oh → (ok : Option ℕ) → number_of k ≡ ok
+  seven_fault : (row : ℕ) (a b c d f h k : List ℕ) (fault : InputFault) → (oa : Option ℕ) → number_of a ≡ oa → (ob : Option ℕ) → number_of b ≡ ob → (oc : Option ℕ) → port_named g c ≡ oc → (od : Option ℕ) → number_of d ≡ od → (of : Option ℕ) → number_of f ≡ of → (oh : Option ℕ) → port_named g h ≡ oh → (ok : Option ℕ) → number_of k ≡ ok
       → route_row_of g row (a ∷ b ∷ c ∷ d ∷ f ∷ h ∷ k ∷ []) ≡ Err fault → HasBadField g 7 is_port_column row (a ∷ b ∷ c ∷ d ∷ f ∷ h ∷ k ∷ []) fault
   unfolding route_row_of field_at
   seven_fault row a b c d f h k fault None ea ob eb oc ec od ed of ef oh eh ok ek e =
@@ -66,7 +66,7 @@ module _ (g : Grid) (grid : IsGrid g) where
   route_fault row (a ∷ b ∷ c ∷ d ∷ []) fault e = inl ((λ same. omega arith), cc)
   route_fault row (a ∷ b ∷ c ∷ d ∷ f ∷ []) fault e = inl ((λ same. omega arith), cc)
   route_fault row (a ∷ b ∷ c ∷ d ∷ f ∷ h ∷ []) fault e = inl ((λ same. omega arith), cc)
-  route_fault row (a ∷ b ∷ c ∷ d ∷ f ∷ h ∷ k ∷ []) fault e = inr (seven_fault row a b c d f h k fault (number_of a) refl (number_of b) refl (port_of g c) refl (number_of d) refl (number_of f) refl (port_of g h) refl (number_of k) refl e)
+  route_fault row (a ∷ b ∷ c ∷ d ∷ f ∷ h ∷ k ∷ []) fault e = inr (seven_fault row a b c d f h k fault (number_of a) refl (number_of b) refl (port_named g c) refl (number_of d) refl (number_of f) refl (port_named g h) refl (number_of k) refl e)
   route_fault row (a ∷ b ∷ c ∷ d ∷ f ∷ h ∷ k ∷ m ∷ more) fault e =
       let fields = a ∷ b ∷ c ∷ d ∷ f ∷ h ∷ k ∷ m ∷ more in
       let refused : route_row_of g row fields ≡ Err (BadCount row) = rw (differs (length fields) 7 (omega arith)) in
@@ -134,7 +134,7 @@ module _ (g : Grid) (grid : IsGrid g) where
 
   -- a text is refused with this fault just where it is its first
   pub table_fault : (text : List ℕ) (fault : InputFault) → table_of g text ≡ Err fault → IsTableFault g text fault
-  table_fault text fault e = sheet_breaks (route_row_of g) (WritesRoute g) (IsRouteFault g) (route_is g grid) (is_route g grid) route_fault fault_route header (rows_of text) fault e
+  table_fault text fault e = sheet_breaks (route_row_of g) (WritesRoute g) (IsRouteFault g) (route_is g grid) (is_route g grid) route_fault fault_route table_header (text_rows text) fault e
 
   pub fault_table : (text : List ℕ) (fault : InputFault) → IsTableFault g text fault → table_of g text ≡ Err fault
-  fault_table text fault w = breaks_sheet (route_row_of g) (WritesRoute g) (IsRouteFault g) (route_is g grid) (is_route g grid) route_fault fault_route header (rows_of text) fault w
+  fault_table text fault w = breaks_sheet (route_row_of g) (WritesRoute g) (IsRouteFault g) (route_is g grid) (is_route g grid) route_fault fault_route table_header (text_rows text) fault w

@@ -6,9 +6,9 @@ use Rattle.noc_route.specs.declared.rule.RouteRow.{RouteRow}
 use Rattle.noc_topo.specs.Shape.{Grid, IsGrid}
 use Rattle.noc_files.specs.declared.fault.InputFault.{InputFault}
 use Rattle.noc_files.specs.declared.fault.InputFault.TheVariants.{BadCount, BadPort}
-use Rattle.noc_files.specs.Ports.{IsPortName, port_of}
-use Rattle.noc_files.specs.Rows.{Fields, rows_of}
-use Rattle.noc_files.specs.Table.{IsTable, IsWritable, WritesRoute, header, route_fields, route_row_of, table_of, table_text}
+use Rattle.noc_files.specs.Ports.{IsPortName, port_named}
+use Rattle.noc_files.specs.Rows.{Fields, text_rows}
+use Rattle.noc_files.specs.Table.{IsTable, IsWritableRow, WritesRoute, table_header, route_fields, route_row_of, table_of, table_text}
 use Rattle.noc_files.proofs.PortLaws.{is_port, port_is, port_plain}
 use Rattle.noc_topo.specs.Words.{Each}
 use Rattle.std.specs.List.{AllZip}
@@ -20,10 +20,10 @@ use Rattle.noc_files.proofs.TrafficLaws.{column, differs, found_in, numeral_at}
 
 -- the port in a column with this field
 abbrev pub port_column : Grid → ℕ → ℕ → List ℕ → Result ℕ InputFault
-port_column g row at field = ok_or (port_of g field) (BadPort row at)
+port_column g row at field = ok_or (port_named g field) (BadPort row at)
 
 pub named_at : (g : Grid) (row at : ℕ) (field : List ℕ) (p : ℕ) → port_column g row at field ≡ Ok p → IsPortName g field p
-named_at g row at field p e = port_is g field p (found_in (port_of g field) (BadPort row at) p e)
+named_at g row at field p e = port_is g field p (found_in (port_named g field) (BadPort row at) p e)
 
 module _ (g : Grid) (grid : IsGrid g) where
   pub route_is : (row : ℕ) (fields : Fields) (r : RouteRow) → route_row_of g row fields ≡ Ok r → WritesRoute g fields r
@@ -64,26 +64,26 @@ module _ (g : Grid) (grid : IsGrid g) where
 
   -- a text is read as these rows just where it is the header and rows that write them
   pub table_is : (text : List ℕ) (rows : List RouteRow) → table_of g text ≡ Ok rows → IsTable g text rows
-  table_is text rows e = sheet_is (route_row_of g) (WritesRoute g) route_is is_route header (rows_of text) rows e
+  table_is text rows e = sheet_is (route_row_of g) (WritesRoute g) route_is is_route table_header (text_rows text) rows e
 
   pub is_table : (text : List ℕ) (rows : List RouteRow) → IsTable g text rows → table_of g text ≡ Ok rows
-  is_table text rows h = is_sheet (route_row_of g) (WritesRoute g) route_is is_route header (rows_of text) rows h
+  is_table text rows h = is_sheet (route_row_of g) (WritesRoute g) route_is is_route table_header (text_rows text) rows h
 
   -- ---- the plainest file of some rows
 
-  routes_plain : (rows : List RouteRow) → Each (IsWritable g) rows → Each IsPlainRow (map (route_fields g) rows)
+  routes_plain : (rows : List RouteRow) → Each (IsWritableRow g) rows → Each IsPlainRow (map (route_fields g) rows)
   routes_plain [] h = tt
   routes_plain (r ∷ rows) h =
       let w = h.0 in
       ((some_decimal r.class (omega (arith, w.class)), plain_decimal r.class (omega (arith, w.class)), (plain_decimal r.router (omega (arith, w.router)), (port_plain g r.in_port grid w.in_port, (plain_decimal r.in_vc (omega (arith, w.in_vc)), (plain_decimal r.dst (omega (arith, w.dst)), (port_plain g r.out_port grid w.out_port, (plain_decimal r.out_vc (omega (arith, w.out_vc)), tt))))))), routes_plain rows h.1)
 
-  routes_written : (rows : List RouteRow) → Each (IsWritable g) rows → AllZip (WritesRoute g) (map (route_fields g) rows) rows
+  routes_written : (rows : List RouteRow) → Each (IsWritableRow g) rows → AllZip (WritesRoute g) (map (route_fields g) rows) rows
   routes_written [] h = tt
   routes_written (r ∷ rows) h =
       let w = h.0 in
       ((decimal_numeral r.class w.class, decimal_numeral r.router w.router, record { known = w.in_port; text = refl }, decimal_numeral r.in_vc w.in_vc, decimal_numeral r.dst w.dst, record { known = w.out_port; text = refl }, decimal_numeral r.out_vc w.out_vc), routes_written rows h.1)
 
   -- the rows that were written plainly are read
-  pub table_back : (rows : List RouteRow) → Each (IsWritable g) rows → table_of g (table_text g rows) ≡ Ok rows
+  pub table_back : (rows : List RouteRow) → Each (IsWritableRow g) rows → table_of g (table_text g rows) ≡ Ok rows
   table_back rows h =
-      is_table (table_text g rows) rows (record { below = map (route_fields g) rows; under_header = plain_rows (header ∷ map (route_fields g) rows) (is_plain_row header refl, routes_plain rows h); writes = routes_written rows h })
+      is_table (table_text g rows) rows (record { below = map (route_fields g) rows; under_header = plain_rows (table_header ∷ map (route_fields g) rows) (is_plain_row table_header refl, routes_plain rows h); writes = routes_written rows h })

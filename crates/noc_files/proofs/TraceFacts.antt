@@ -18,7 +18,7 @@ use Rattle.noc_router.specs.declared.verdict.Finding.{Finding}
 use Rattle.noc_net.specs.Lockstep.{findings_before, findings_in_cycle, finding_in}
 use Rattle.noc_net.specs.Network.{Run, Setup, arriving, frozen_at, size}
 use Rattle.noc_files.specs.Channels.{is_input, lines_of_port, over_router}
-use Rattle.noc_files.specs.Trace.{AreRows, cycle_text, has_below, is_same, kept_at, kept_line, line_if_new, nothing_found, over_traced, told, told_at, told_before, trace_line, traced_line}
+use Rattle.noc_files.specs.Trace.{AreRows, cycle_text, has_below, is_same, kept_at, kept_line, line_if_new, nothing_found, over_traced, traced_finding, told_at, told_before, trace_line, traced_line}
 use Rattle.noc_files.specs.declared.trace.Traced.{Traced}
 use Rattle.noc_files.proofs.BelowFacts.{below_more, each_same}
 
@@ -63,7 +63,7 @@ has_more set k = ap (list_any (has_bit set)) (below_more k) ∙ list_any-append 
 -- ---- what is said of channels alike is alike
 
 module _ (relation : Routes) (f h : ℕ → ℕ → ℕ → List ℕ) where
-  -- the same is said of each channel of a router
+  -- what is said of each channel of a router is alike
   abbrev AreSame : ℕ → Type 0
   AreSame r = (port vc : ℕ) → port < ports relation.grid → vc < relation.vcs → f r port vc ≡ h r port vc
 
@@ -82,7 +82,7 @@ module _ (relation : Routes) (f h : ℕ → ℕ → ℕ → List ℕ) where
 pub record IsKept (net : Setup) (traced : Traced) (first n : ℕ) (rows : List (List Finding)) : Type 0 where
   pub many : length rows ≡ (if traced.changes then nodes net.relation.grid else 0)
   pub long : AreRows (size net) rows
-  pub said : (r i : ℕ) → r < nodes net.relation.grid → i < size net → option_and_then (told traced.packet) (kept_at rows r i) ≡ told_before net traced first n r i
+  pub said : (r i : ℕ) → r < nodes net.relation.grid → i < size net → option_and_then (traced_finding traced.packet) (kept_at rows r i) ≡ told_before net traced first n r i
 
 pub length-findings : (net : Setup) (n r : ℕ) → length (findings_in_cycle net n r) ≡ size net
 length-findings net n r = length-tabulate (size net) (λ i. finding_in net (frozen_at net n) r i (arriving net r i))
@@ -107,12 +107,12 @@ nothing_before net traced first r i = by traced.changes refl
     by true e = rw (e, never_before first) refl
     by false e = rw e refl
 
-nothing_kept : (net : Setup) (packet : Option ℕ) (b : Bool) (r i : ℕ) → r < nodes net.relation.grid → i < size net → option_and_then (told packet) (kept_at (nothing_found net b) r i) ≡ None
+nothing_kept : (net : Setup) (packet : Option ℕ) (b : Bool) (r i : ℕ) → r < nodes net.relation.grid → i < size net → option_and_then (traced_finding packet) (kept_at (nothing_found net b) r i) ≡ None
 nothing_kept net packet false r i l m = refl
 nothing_kept net packet true r i l m =
     let row = replicate (size net) empty_finding in
-    ap (λ (o : Option (List Finding)). option_and_then (told packet) (option_and_then (λ xs. slice_get xs i) o)) (slice_get-replicate (nodes net.relation.grid) r row l)
-    ∙ ap (option_and_then (told packet)) (slice_get-replicate (size net) i empty_finding m)
+    ap (λ (o : Option (List Finding)). option_and_then (traced_finding packet) (option_and_then (λ xs. slice_get xs i) o)) (slice_get-replicate (nodes net.relation.grid) r row l)
+    ∙ ap (option_and_then (traced_finding packet)) (slice_get-replicate (size net) i empty_finding m)
 
 many_rows : (net : Setup) (b : Bool) → length (nothing_found net b) ≡ (if b then nodes net.relation.grid else 0)
 many_rows net true = length-replicate (nodes net.relation.grid) (replicate (size net) empty_finding)
@@ -156,17 +156,17 @@ module _ (net : Setup) (traced : Traced) (first n : ℕ) (old new : List (List F
       let is : row ≡ findings_in_cycle net n r = cc in
       ap length is ∙ length-findings net n r
 
-  said_next : (r i : ℕ) → r < nodes net.relation.grid → i < size net → option_and_then (told traced.packet) (kept_at new r i) ≡ told_before net traced first (n + 1) r i
+  said_next : (r i : ℕ) → r < nodes net.relation.grid → i < size net → option_and_then (traced_finding traced.packet) (kept_at new r i) ≡ told_before net traced first (n + 1) r i
   said_next r i l m = by traced.changes refl
     where
-      by : (b : Bool) → traced.changes ≡ b → option_and_then (told traced.packet) (kept_at new r i) ≡ told_before net traced first (n + 1) r i
+      by : (b : Bool) → traced.changes ≡ b → option_and_then (traced_finding traced.packet) (kept_at new r i) ≡ told_before net traced first (n + 1) r i
       by true changes =
           let many : length old ≡ nodes net.relation.grid = kept.many ∙ ap (λ (b : Bool). if b then nodes net.relation.grid else 0) changes in
-          ap (λ (o : Option (List Finding)). option_and_then (told traced.packet) (option_and_then (λ xs. slice_get xs i) o)) (found r (omega (arith, l, many)))
+          ap (λ (o : Option (List Finding)). option_and_then (traced_finding traced.packet) (option_and_then (λ xs. slice_get xs i) o)) (found r (omega (arith, l, many)))
           ∙ sym (told_then net traced first n r i changes begun)
       by false none =
           let many : length old ≡ 0 = kept.many ∙ ap (λ (b : Bool). if b then nodes net.relation.grid else 0) none in
-          ap (λ (o : Option (List Finding)). option_and_then (told traced.packet) (option_and_then (λ xs. slice_get xs i) o)) (slice_get_past new r (omega (arith, same, many)))
+          ap (λ (o : Option (List Finding)). option_and_then (traced_finding traced.packet) (option_and_then (λ xs. slice_get xs i) o)) (slice_get_past new r (omega (arith, same, many)))
           ∙ sym (unsaid none)
         where
           unsaid : traced.changes ≡ false → told_before net traced first (n + 1) r i ≡ None
@@ -183,8 +183,8 @@ pub kept_is : (u : Run) (traced : Traced) (rows : List (List Finding)) (first n 
 kept_is u traced rows first n r port vc count kept known inside =
     let i = port * u.net.relation.vcs + vc in
     ap₂ (λ (before now : Option Finding). line_if_new u.net n r port vc before now) (kept.said r i known inside)
-    (ap (λ k. option_and_then (told traced.packet) (slice_get (findings_before u.net k r) i)) count
-    ∙ ap (λ (xs : List Finding). option_and_then (told traced.packet) (slice_get xs i)) (findings-after u.net n r))
+    (ap (λ k. option_and_then (traced_finding traced.packet) (slice_get (findings_before u.net k r) i)) count
+    ∙ ap (λ (xs : List Finding). option_and_then (traced_finding traced.packet) (slice_get xs i)) (findings-after u.net n r))
 
 -- the lines of the last cycle of a run are those of that cycle of the trace
 pub cycle_is : (u : Run) (traced : Traced) (rows : List (List Finding)) (first n : ℕ) → u.count ≡ n + 1 → IsKept u.net traced first n rows
@@ -193,7 +193,7 @@ cycle_is u traced rows first n count kept known =
     traced_same u.net.relation (kept_line u traced rows n) (traced_line u.net traced first n) traced.router known
     (λ r l port vc p v. kept_is u traced rows first n r port vc count kept l (flat-below port (ports u.net.relation.grid) vc u.net.relation.vcs p v))
 
--- the same where the run has the network and the trace is of what it was at first
+-- the lines of the last cycle of a run, where the run has the network and the trace is of what it was at first
 pub cycle_written : (u : Run) (net : Setup) (now traced : Traced) (rows : List (List Finding)) (first n at : ℕ) → u.net ≡ net → now ≡ traced → at ≡ n → u.count ≡ n + 1 → IsKept net traced first n rows
     → IfSome traced.router (λ r. r < nodes net.relation.grid) → over_traced u.net.relation now.router (kept_line u now rows at) ≡ cycle_text net traced first n
 cycle_written u net now traced rows first n at same as_before numbered count kept known =
@@ -204,11 +204,11 @@ cycle_written u net now traced rows first n at same as_before numbered count kep
 
 -- the line of a channel of which another thing is told
 pub line_is : (u : Run) (traced : Traced) (rows : List (List Finding)) (n r port vc i : ℕ) (before now : Option Finding) (f : Finding) → i ≡ port * u.net.relation.vcs + vc
-    → before ≡ option_and_then (told traced.packet) (kept_at rows r i) → now ≡ option_and_then (told traced.packet) (slice_get (findings_before u.net u.count r) i)
+    → before ≡ option_and_then (traced_finding traced.packet) (kept_at rows r i) → now ≡ option_and_then (traced_finding traced.packet) (slice_get (findings_before u.net u.count r) i)
     → is_same before now ≡ false → f ≡ unwrap_or now empty_finding → trace_line u.net n r port vc f ≡ kept_line u traced rows n r port vc
 line_is u traced rows n r port vc i before now f place was is other shown =
     ap (trace_line u.net n r port vc) shown ∙ sym (new_line before now other) ∙ ap₂ (λ (b a : Option Finding). line_if_new u.net n r port vc b a) was is
-    ∙ ap (λ k. line_if_new u.net n r port vc (option_and_then (told traced.packet) (kept_at rows r k)) (option_and_then (told traced.packet) (slice_get (findings_before u.net u.count r) k))) place
+    ∙ ap (λ k. line_if_new u.net n r port vc (option_and_then (traced_finding traced.packet) (kept_at rows r k)) (option_and_then (traced_finding traced.packet) (slice_get (findings_before u.net u.count r) k))) place
   where
     new_line : (b a : Option Finding) → is_same b a ≡ false → line_if_new u.net n r port vc b a ≡ trace_line u.net n r port vc (unwrap_or a empty_finding)
     new_line b a e = ap (λ same. if same then [] else trace_line u.net n r port vc (unwrap_or a empty_finding)) e

@@ -19,14 +19,14 @@ use Rattle.noc_net.specs.Network.{Run, Setup, arriving, frozen_at, size, verdict
 use Rattle.noc_files.specs.Findings.{finding_line, found_line, line_if_found, out_text, verdict_text}
 use Rattle.noc_files.specs.Ports.{port_text}
 use Rattle.noc_files.specs.Stalls.{channel_counts}
-use Rattle.noc_files.specs.Trace.{is_empty, is_same, is_same_channel, is_same_number, line_if_new, out_field, out_name, permitted_text, permitted_to, said_by_both, told, told_at, told_counts, told_verdict, trace_line, traced_line, when_text, whole}
-use Rattle.noc_files.specs.Writing.{comma, joined, line_end}
+use Rattle.noc_files.specs.Trace.{finds_empty, is_same, is_same_channel, is_same_number, line_if_new, out_field, out_name, permitted_text, permitted_to, said_by_both, traced_finding, told_at, told_counts, told_verdict, trace_line, traced_line, when_text, whole}
+use Rattle.noc_files.specs.Writing.{comma, text_of_pieces, line_end}
 
 -- ---- the line of a channel
 
 -- pieces with one more behind them
-joined_more : (pieces : List (List ℕ)) (last : List ℕ) → joined (pieces ++ last ∷ []) ≡ joined pieces ++ last
-joined_more pieces last = flat_map-append (λ (piece : List ℕ). piece) pieces (last ∷ []) ∙ ap (λ (t : List ℕ). joined pieces ++ t) (append-nil last)
+joined_more : (pieces : List (List ℕ)) (last : List ℕ) → text_of_pieces (pieces ++ last ∷ []) ≡ text_of_pieces pieces ++ last
+joined_more pieces last = flat_map-append (λ (piece : List ℕ). piece) pieces (last ∷ []) ∙ ap (λ (t : List ℕ). text_of_pieces pieces ++ t) (append-nil last)
 
 out_parts : (g : Grid) (out : Option (ℕ × ℕ)) → out_text g out ≡ out_name g out ++ line_end
 out_parts g None = refl
@@ -57,7 +57,7 @@ trace_parts net n r port vc f =
 
 -- where all is traced, all is told but of empty channels
 told_whole : (net : Setup) (n r port vc : ℕ) (f : Finding) (v : Verdict) → f.verdict ≡ v
-    → line_if_new net n r port vc None (told None f) ≡ (if is_empty f.verdict then [] else trace_line net n r port vc f)
+    → line_if_new net n r port vc None (traced_finding None f) ≡ (if finds_empty f.verdict then [] else trace_line net n r port vc f)
 told_whole net n r port vc f Empty e = rw e refl
 told_whole net n r port vc f Routed e = rw e refl
 told_whole net n r port vc f Granted e = rw e refl
@@ -71,14 +71,14 @@ told_whole net n r port vc f LostSwitch e = rw e refl
 
 pub traced : (net : Setup) (first n r port vc : ℕ) (f : Finding) → slice_get (findings_in_cycle net n r) (port * net.relation.vcs + vc) ≡ Some f
     → traced_line net whole first n r port vc
-    ≡ (if is_empty f.verdict then [] else when_text n r ++ said_by_both net.relation.grid port vc f ++ comma ++ permitted_text net.relation (permitted_to net r port vc f))
+    ≡ (if finds_empty f.verdict then [] else when_text n r ++ said_by_both net.relation.grid port vc f ++ comma ++ permitted_text net.relation (permitted_to net r port vc f))
 traced net first n r port vc f found =
-    ap (λ (o : Option Finding). line_if_new net n r port vc None (option_and_then (told None) o)) found ∙ told_whole net n r port vc f f.verdict refl
-    ∙ ap (λ (t : List ℕ). if is_empty f.verdict then [] else t) (trace_parts net n r port vc f)
+    ap (λ (o : Option Finding). line_if_new net n r port vc None (option_and_then (traced_finding None) o)) found ∙ told_whole net n r port vc f f.verdict refl
+    ∙ ap (λ (t : List ℕ). if finds_empty f.verdict then [] else t) (trace_parts net n r port vc f)
 
 -- ---- counts
 
-whole_verdict : (f : Finding) (v : Verdict) → f.verdict ≡ v → told_verdict (told None f) ≡ v
+whole_verdict : (f : Finding) (v : Verdict) → f.verdict ≡ v → told_verdict (traced_finding None f) ≡ v
 whole_verdict f Empty e = rw e refl
 whole_verdict f Routed e = rw e refl
 whole_verdict f Granted e = rw e refl
@@ -100,7 +100,7 @@ verdict_told net n r i l =
     let f : ℕ → Finding = λ j. finding_in net (frozen_at net n) r j (arriving net r j) in
     let found : slice_get (findings_in_cycle net n r) i ≡ Some (f i) =
     slice_get-get_or (tabulate (size net) f) i (f i) (omega (arith, l, length-tabulate (size net) f)) ∙ ap Some (get_or-tabulate (size net) i f (f i) l) in
-    ap (λ (o : Option Finding). told_verdict (option_and_then (told None) o)) found ∙ whole_verdict (f i) (f i).verdict refl ∙ found_verdict net n r i (arriving net r i) refl
+    ap (λ (o : Option Finding). told_verdict (option_and_then (traced_finding None) o)) found ∙ whole_verdict (f i) (f i).verdict refl ∙ found_verdict net n r i (arriving net r i) refl
 
 pub adds_up : (u : Run) (r port vc : ℕ) → port < ports u.net.relation.grid → vc < u.net.relation.vcs → told_counts u r (port * u.net.relation.vcs + vc) ≡ channel_counts u r port vc
 unfolding channel_counts

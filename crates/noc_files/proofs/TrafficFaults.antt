@@ -6,9 +6,9 @@ use Rattle.csv.specs.Records.{field_at}
 use Rattle.noc_packet.specs.declared.packet.Packet.{Packet}
 use Rattle.noc_files.specs.declared.fault.InputFault.{InputFault}
 use Rattle.noc_files.specs.declared.fault.InputFault.TheVariants.{BadCount, BadNumber}
-use Rattle.noc_files.specs.Rows.{Fields, HasNumeral, number_of, rows_of}
+use Rattle.noc_files.specs.Rows.{Fields, HasNumeral, number_of, text_rows}
 use Rattle.noc_files.specs.Columns.{HasBadColumn}
-use Rattle.noc_files.specs.Traffic.{IsPacketFault, IsTrafficFault, WritesPacket, header, packet_of, traffic_of}
+use Rattle.noc_files.specs.Traffic.{IsPacketFault, IsTrafficFault, WritesPacket, traffic_header, packet_of, traffic_of}
 use Rattle.noc_files.proofs.FaultLaws.{breaks_sheet, sheet_breaks}
 use Rattle.noc_files.proofs.SheetLaws.{is_numeral, numeral_is}
 use Rattle.noc_files.proofs.TrafficLaws.{differs, is_packet, packet_is}
@@ -106,7 +106,7 @@ fault_packet row fields fault (inr h) = column_fault row fields fault h
 
 -- a text is refused with this fault just where it is its first
 pub traffic_fault : (text : List ℕ) (fault : InputFault) → traffic_of text ≡ Err fault → IsTrafficFault text fault
-traffic_fault text fault e = sheet_breaks packet_of WritesPacket IsPacketFault packet_is is_packet packet_fault fault_packet header (rows_of text) fault e
+traffic_fault text fault e = sheet_breaks packet_of WritesPacket IsPacketFault packet_is is_packet packet_fault fault_packet traffic_header (text_rows text) fault e
 
 pub fault_traffic : (text : List ℕ) (fault : InputFault) → IsTrafficFault text fault → traffic_of text ≡ Err fault
-fault_traffic text fault h = breaks_sheet packet_of WritesPacket IsPacketFault packet_is is_packet packet_fault fault_packet header (rows_of text) fault h
+fault_traffic text fault h = breaks_sheet packet_of WritesPacket IsPacketFault packet_is is_packet packet_fault fault_packet traffic_header (text_rows text) fault h

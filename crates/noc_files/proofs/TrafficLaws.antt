@@ -6,8 +6,8 @@ use Rattle.csv.specs.Records.{field_at}
 use Rattle.noc_packet.specs.declared.packet.Packet.{Packet}
 use Rattle.noc_files.specs.declared.fault.InputFault.{InputFault}
 use Rattle.noc_files.specs.declared.fault.InputFault.TheVariants.{BadCount, BadNumber}
-use Rattle.noc_files.specs.Rows.{Fields, IsNumeral, number_of, rows_of}
-use Rattle.noc_files.specs.Traffic.{IsTraffic, IsWritable, WritesPacket, header, packet_fields, packet_of, traffic_of, traffic_text}
+use Rattle.noc_files.specs.Rows.{Fields, IsNumeral, number_of, text_rows}
+use Rattle.noc_files.specs.Traffic.{IsTraffic, IsWritablePacket, WritesPacket, traffic_header, packet_fields, packet_of, traffic_of, traffic_text}
 use Rattle.noc_topo.specs.Words.{Each}
 use Rattle.std.specs.List.{AllZip}
 use Rattle.noc_files.specs.Plain.{IsPlainRow}
@@ -62,14 +62,14 @@ is_packet row (a ∷ b ∷ c ∷ d ∷ f ∷ g ∷ more) p h = absurd h
 
 -- a text is read as these packets just where it is the header and rows that write them
 pub traffic_is : (text : List ℕ) (packets : List Packet) → traffic_of text ≡ Ok packets → IsTraffic text packets
-traffic_is text packets e = sheet_is packet_of WritesPacket packet_is is_packet header (rows_of text) packets e
+traffic_is text packets e = sheet_is packet_of WritesPacket packet_is is_packet traffic_header (text_rows text) packets e
 
 pub is_traffic : (text : List ℕ) (packets : List Packet) → IsTraffic text packets → traffic_of text ≡ Ok packets
-is_traffic text packets h = is_sheet packet_of WritesPacket packet_is is_packet header (rows_of text) packets h
+is_traffic text packets h = is_sheet packet_of WritesPacket packet_is is_packet traffic_header (text_rows text) packets h
 
 -- ---- the plainest file of some packets
 
-packets_plain : (packets : List Packet) → Each IsWritable packets → Each IsPlainRow (map packet_fields packets)
+packets_plain : (packets : List Packet) → Each IsWritablePacket packets → Each IsPlainRow (map packet_fields packets)
 packets_plain [] h = tt
 packets_plain (p ∷ packets) h =
     let w = h.0 in (
@@ -81,16 +81,16 @@ packets_plain (p ∷ packets) h =
       packets_plain packets h.1,
     )
 
-packets_written : (packets : List Packet) → Each IsWritable packets → AllZip WritesPacket (map packet_fields packets) packets
+packets_written : (packets : List Packet) → Each IsWritablePacket packets → AllZip WritesPacket (map packet_fields packets) packets
 packets_written [] h = tt
 packets_written (p ∷ packets) h =
     let w = h.0 in
     ((decimal_numeral p.source w.source, decimal_numeral p.destination w.destination, decimal_numeral p.class w.class, decimal_numeral p.length w.length, decimal_numeral p.due w.due), packets_written packets h.1)
 
-plain_header : IsPlainRow header
-plain_header = is_plain_row header refl
+plain_header : IsPlainRow traffic_header
+plain_header = is_plain_row traffic_header refl
 
 -- the packets that were written plainly are read
-pub traffic_back : (packets : List Packet) → Each IsWritable packets → traffic_of (traffic_text packets) ≡ Ok packets
+pub traffic_back : (packets : List Packet) → Each IsWritablePacket packets → traffic_of (traffic_text packets) ≡ Ok packets
 traffic_back packets h =
-    is_traffic (traffic_text packets) packets (record { below = map packet_fields packets; under_header = plain_rows (header ∷ map packet_fields packets) (plain_header, packets_plain packets h); writes = packets_written packets h })
+    is_traffic (traffic_text packets) packets (record { below = map packet_fields packets; under_header = plain_rows (traffic_header ∷ map packet_fields packets) (plain_header, packets_plain packets h); writes = packets_written packets h })

@@ -22,7 +22,7 @@ module _ {X : Type 0} (g : Grid) where
   abbrev pub lines_of_routers : ℕ → ℕ → (ℕ → ℕ → ℕ → List X) → List X
   lines_of_routers listed vcs said = flat_map (λ router. lines_of_router listed vcs router (said router)) (below (nodes g))
 
--- .. of an input port, a router and all routers of a relation
+-- what is said of the input channels of an input port, of a router and of all routers of a relation
 abbrev pub over_port : {X : Type 0} → Routes → ℕ → (ℕ → ℕ → List X) → ℕ → List X
 over_port relation router said port = lines_of_port relation.grid relation.vcs router said port
 

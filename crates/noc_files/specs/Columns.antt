@@ -30,7 +30,7 @@ module _ (columns : ℕ) (Holds : ℕ → List ℕ → Type 0) (fault_at : ℕ �
   abbrev pub IsRowFault : ℕ → Fields → InputFault → Type 0
   IsRowFault row fields fault = ((length fields ≢ columns) × (fault ≡ BadCount row)) ⊎ HasBadColumn row fields fault
 
--- the same where some columns hold names of ports and the others numerals
+-- the fault of a row where some columns hold names of ports and the others numerals
 module _ (g : Grid) (columns : ℕ) (is_port : ℕ → Bool) where
   abbrev pub HasBadField : ℕ → Fields → InputFault → Type 0
   HasBadField row fields fault = HasBadColumn columns (λ k. IsField g (is_port k)) (λ at k. field_fault (is_port k) at k) row fields fault

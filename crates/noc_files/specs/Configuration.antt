@@ -77,8 +77,8 @@ rule_of w =
 unfoldable pub kind_at : Members → Result Kind InputFault
 kind_at ms = word_at key.Kind ms >>= λ w. ok_or (kind_of w) (BadValue key.Kind)
 
-unfoldable pub rule_at : Members → Result RuleName InputFault
-rule_at ms = word_at key.Rule ms >>= λ w. ok_or (rule_of w) (BadValue key.Rule)
+unfoldable pub rule_setting : Members → Result RuleName InputFault
+rule_setting ms = word_at key.Rule ms >>= λ w. ok_or (rule_of w) (BadValue key.Rule)
 
 abbrev pub all_integers : Items → Bool
 all_integers no_items = true
@@ -100,7 +100,7 @@ config_at ms = do
   channels ← number_in key.Channels 1 MAX_CHANNELS ms
   buffer ← number_in key.Buffer 1 MAX_BUFFER ms
   classes ← number_in key.Classes 1 MAX_CLASSES ms
-  rule ← rule_at ms
+  rule ← rule_setting ms
   cycles ← number_in key.Cycles 1 MAX_CYCLES ms
   Ok (record { kind = kind; radix = radix; channels = channels; buffer = buffer; classes = classes; rule = rule; cycles = cycles })
 

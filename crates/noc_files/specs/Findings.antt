@@ -9,15 +9,15 @@ use Rattle.noc_router.specs.declared.verdict.Verdict.{Verdict}
 use Rattle.noc_router.specs.declared.verdict.Verdict.TheVariants.{Empty, Granted, LostChannel, LostInput, LostSwitch, Moved, NoCredit, NoFlit, NoIdleChannel, Routed}
 use Rattle.noc_files.specs.Channels.{over_router}
 use Rattle.noc_files.specs.Ports.{name_of_port, port_text}
-use Rattle.noc_files.specs.Writing.{comma, dash_or, joined, line_end}
+use Rattle.noc_files.specs.Writing.{comma, dash_or, text_of_pieces, line_end}
 
 unfoldable pub finding_header : List ℕ
 finding_header = codes "port,vc,verdict,packet,out\n"
 
 -- an output channel as port, full stop and number, or a dash, and the end of the line
 abbrev pub out_text : Grid → Option (ℕ × ℕ) → List ℕ
-out_text g None = joined (codes "-" ∷ line_end ∷ [])
-out_text g (Some (port, vc)) = joined (unwrap_or (port_text g port) (codes "-") ∷ codes "." ∷ decimal vc ∷ line_end ∷ [])
+out_text g None = text_of_pieces (codes "-" ∷ line_end ∷ [])
+out_text g (Some (port, vc)) = text_of_pieces (unwrap_or (port_text g port) (codes "-") ∷ codes "." ∷ decimal vc ∷ line_end ∷ [])
 
 -- the name of a verdict
 abbrev pub verdict_word : Verdict → List ℕ
@@ -34,7 +34,7 @@ verdict_word LostSwitch = codes "LostSwitch"
 
 -- an input channel by its port and its number, its verdict, and its packet
 abbrev pub verdict_text : Grid → ℕ → ℕ → Finding → List ℕ
-verdict_text g port vc f = joined (name_of_port g port ∷ comma ∷ decimal vc ∷ comma ∷ verdict_word f.verdict ∷ comma ∷ dash_or f.packet ∷ comma ∷ [])
+verdict_text g port vc f = text_of_pieces (name_of_port g port ∷ comma ∷ decimal vc ∷ comma ∷ verdict_word f.verdict ∷ comma ∷ dash_or f.packet ∷ comma ∷ [])
 
 -- the line of an input channel: its verdict, its packet, and the output channel that the verdict speaks of
 abbrev pub finding_line : Grid → ℕ → ℕ → Finding → List ℕ

@@ -14,7 +14,7 @@ abbrev pub Gives : {X Y : Type 0} → (X → Y) → Result X InputFault → Resu
 Gives view (Ok x) said = said ≡ Ok (view x)
 Gives view (Err e) said = e ≢ Memory → said ≡ Err e
 
--- the same answer, seen by view
+-- an answer, seen by view
 abbrev pub result_map : {X Y E : Type 0} → (X → Y) → Result X E → Result Y E
 result_map view (Ok x) = Ok (view x)
 result_map view (Err e) = Err e

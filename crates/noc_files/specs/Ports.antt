@@ -22,8 +22,8 @@ abbrev pub port_text : Grid → ℕ → Option (List ℕ)
 port_text g port = if nat_lt port (ports g) then Some (name_of_port g port) else None
 
 -- the port of the shape that has this name
-unfoldable pub port_of : Grid → List ℕ → Option ℕ
-port_of g name = find (λ port. bytes_eq name (name_of_port g port)) (below (ports g))
+unfoldable pub port_named : Grid → List ℕ → Option ℕ
+port_named g name = find (λ port. bytes_eq name (name_of_port g port)) (below (ports g))
 
 -- a name of this port, which the shape has
 pub record IsPortName (g : Grid) (name : List ℕ) (port : ℕ) : Type 0 where
@@ -32,4 +32,4 @@ pub record IsPortName (g : Grid) (name : List ℕ) (port : ℕ) : Type 0 where
 
 -- the port in a column of a row, counted from 0
 abbrev pub port_at : Grid → ℕ → ℕ → Fields → Result ℕ InputFault
-port_at g row column fields = ok_or (option_and_then (port_of g) (field_at fields column)) (BadPort row column)
+port_at g row column fields = ok_or (option_and_then (port_named g) (field_at fields column)) (BadPort row column)

@@ -15,11 +15,11 @@ use Rattle.noc_files.specs.Columns.{IsRowFault, field_fault}
 use Rattle.noc_files.specs.Gives.{◌>>=◌}
 use Rattle.noc_files.specs.Ports.{IsPortName, name_of_port, port_at}
 use Rattle.noc_files.specs.Plain.{row_line}
-use Rattle.noc_files.specs.Rows.{Fields, HasNumeral, IsNumeral, number_at, number_of, rows_of}
+use Rattle.noc_files.specs.Rows.{Fields, HasNumeral, IsNumeral, number_at, number_of, text_rows}
 use Rattle.noc_files.specs.Sheet.{IsSheet, IsSheetFault, sheet}
 
-abbrev pub header : Fields
-header = codes "router" ∷ codes "port" ∷ codes "vc" ∷ codes "rank" ∷ []
+abbrev pub rank_header : Fields
+rank_header = codes "router" ∷ codes "port" ∷ codes "vc" ∷ codes "rank" ∷ []
 
 -- the word in the column of ranks where a channel is adaptive
 abbrev pub adaptive : List ℕ
@@ -30,8 +30,8 @@ abbrev pub rank_of : List ℕ → Option (Option ℕ)
 rank_of field = if bytes_eq field adaptive then Some None else option_map Some (number_of field)
 
 -- the rank in a column of a row, counted from 0
-abbrev pub rank_in : ℕ → ℕ → Fields → Result (Option ℕ) InputFault
-rank_in row column fields = ok_or (option_and_then rank_of (field_at fields column)) (BadNumber row column)
+abbrev pub rank_field : ℕ → ℕ → Fields → Result (Option ℕ) InputFault
+rank_field row column fields = ok_or (option_and_then rank_of (field_at fields column)) (BadNumber row column)
 
 -- the channel and the rank of a row: first the number of fields, then the fields from left to right
 unfoldable pub rank_row_of : Grid → ℕ → Fields → Result RankRow InputFault
@@ -42,11 +42,11 @@ rank_row_of g row fields = if length fields == 4 then four else Err (BadCount ro
       router ← number_at row 0 fields
       port ← port_at g row 1 fields
       vc ← number_at row 2 fields
-      rank ← rank_in row 3 fields
+      rank ← rank_field row 3 fields
       Ok (record { router = router; port = port; vc = vc; rank = rank })
 
 abbrev pub ranks_of : Grid → List ℕ → Result (List RankRow) InputFault
-ranks_of g text = sheet (rank_row_of g) header (rows_of text)
+ranks_of g text = sheet (rank_row_of g) rank_header (text_rows text)
 
 -- a field that writes this rank: a numeral, or the word where there is none
 abbrev pub IsRankField : List ℕ → Option ℕ → Type 0
@@ -60,7 +60,7 @@ WritesRank g _ r = ⊥
 
 -- the header, and below it rows of four fields, which write these rows
 abbrev pub IsRankFile : Grid → List ℕ → List RankRow → Type 0
-IsRankFile g text rows = IsSheet (WritesRank g) header (rows_of text) rows
+IsRankFile g text rows = IsSheet (WritesRank g) rank_header (text_rows text) rows
 
 -- what a column, counted from 0, may hold
 abbrev pub MayHold : Grid → ℕ → List ℕ → Type 0
@@ -75,7 +75,7 @@ IsRankRowFault g row fields fault = IsRowFault 4 (MayHold g) (λ at column. fiel
 
 -- the first fault of a file of ranks
 abbrev pub IsRankFileFault : Grid → List ℕ → InputFault → Type 0
-IsRankFileFault g text fault = IsSheetFault (WritesRank g) (IsRankRowFault g) header (rows_of text) fault
+IsRankFileFault g text fault = IsSheetFault (WritesRank g) (IsRankRowFault g) rank_header (text_rows text) fault
 
 -- ---- the file of some ranks
 
@@ -110,13 +110,13 @@ rank_line g r = row_line (rank_fields g r)
 
 -- the header, and a line for each link channel
 abbrev pub ranks_text : Ranking → List ℕ
-ranks_text k = row_line header ++ flat_map (rank_line k.grid) (rank_rows k)
+ranks_text k = row_line rank_header ++ flat_map (rank_line k.grid) (rank_rows k)
 
 -- ---- each link channel once
 
 -- one row comes before another, by router, port and number
-abbrev pub IsBefore : RankRow → RankRow → Type 0
-IsBefore a b = numbers_before (a.router ∷ a.port ∷ a.vc ∷ []) (b.router ∷ b.port ∷ b.vc ∷ []) ≡ true
+abbrev pub RowIsBefore : RankRow → RankRow → Type 0
+RowIsBefore a b = numbers_before (a.router ∷ a.port ∷ a.vc ∷ []) (b.router ∷ b.port ∷ b.vc ∷ []) ≡ true
 
 -- a row of a link channel and its rank
 pub record IsRankOf (k : Ranking) (row : RankRow) : Type 0 where
@@ -127,4 +127,4 @@ pub record IsRankOf (k : Ranking) (row : RankRow) : Type 0 where
 pub record ListsRanks (k : Ranking) (rows : List RankRow) : Type 0 where
   pub there : (r p v : ℕ) → is_channel k.grid k.vcs r p v ≡ true → Has (rank_row k r p v) rows
   pub ranks : Each (IsRankOf k) rows
-  pub rising : Pairs IsBefore rows
+  pub rising : Pairs RowIsBefore rows

@@ -21,8 +21,8 @@ abbrev pub Fields : Type 0
 Fields = List (List ℕ)
 
 -- the rows of a text, the header too
-abbrev pub rows_of : List ℕ → List Fields
-rows_of text = records default_config (strip_bom text)
+abbrev pub text_rows : List ℕ → List Fields
+text_rows text = records default_config (strip_bom text)
 
 -- the rows that a reader in this state finds in these bytes
 abbrev pub rows_at : State → Option (List ℕ) → List Fields
@@ -44,10 +44,10 @@ pub record IsBetweenRows (r : Reader (Bor (List ℕ))) : Type 0 where
   pub source : source_of (λ s. Some s.now) r ≡ Some bytes
 
 -- memory was refused, or the source failed
-abbrev pub IsRefusal : ErrorKind → Type 0
-IsRefusal kind.OutOfMemory = Unit {0}
-IsRefusal (kind.Io e) = Unit {0}
-IsRefusal _ = ⊥
+abbrev pub IsReadRefusal : ErrorKind → Type 0
+IsReadRefusal kind.OutOfMemory = Unit {0}
+IsReadRefusal (kind.Io e) = Unit {0}
+IsReadRefusal _ = ⊥
 
 -- 1 to 10 decimal digits with a value below 2 ^ 32
 abbrev pub is_number : List ℕ → Bool

@@ -5,18 +5,18 @@ use Rattle.noc_net.specs.Network.{Run}
 use Rattle.noc_net.specs.Lockstep.{counts_before}
 use Rattle.noc_files.specs.Channels.{over_routers}
 use Rattle.noc_files.specs.Ports.{name_of_port}
-use Rattle.noc_files.specs.Writing.{comma, joined, line_end}
+use Rattle.noc_files.specs.Writing.{comma, text_of_pieces, line_end}
 
 unfoldable pub stall_header : List ℕ
 stall_header = codes "router,port,vc,empty,routed,granted,moved,no_flit,no_idle_channel,lost_channel,no_credit,lost_input,lost_switch\n"
 
 -- an input channel by its router, the name of its port, and its number
 abbrev pub place_text : ℕ → List ℕ → ℕ → List ℕ
-place_text router port vc = joined (decimal router ∷ comma ∷ port ∷ comma ∷ decimal vc ∷ [])
+place_text router port vc = text_of_pieces (decimal router ∷ comma ∷ port ∷ comma ∷ decimal vc ∷ [])
 
 -- a count after a comma
 abbrev pub count_text : ℕ → List ℕ
-count_text count = joined (comma ∷ decimal count ∷ [])
+count_text count = text_of_pieces (comma ∷ decimal count ∷ [])
 
 -- the line of an input channel, with how often it had each verdict
 abbrev pub stall_line : ℕ → List ℕ → ℕ → List ℕ → List ℕ

@@ -8,7 +8,7 @@ use Rattle.noc_net.specs.Progress.{last_event_before}
 use Rattle.noc_files.specs.Channels.{over_routers}
 use Rattle.noc_files.specs.Latency.{packet_latency}
 use Rattle.noc_files.specs.Stalls.{channel_counts}
-use Rattle.noc_files.specs.Writing.{dash_or, joined, line_end}
+use Rattle.noc_files.specs.Writing.{dash_or, text_of_pieces, line_end}
 use Rattle.noc_files.specs.declared.summary.Summary.{Summary}
 
 -- ---- what it says of a run
@@ -35,12 +35,12 @@ pub record IsGreatest (ns : List ℕ) (m : ℕ) : Type 0 where
   pub none_above : Each (λ n. n ≤ m) ns
 
 -- an input channel's count in a column of the stall report
-unfoldable pub column_at : Run → ℕ → ℕ → ℕ → ℕ → List ℕ
-column_at u column router port vc = slice_index (channel_counts u router port vc) column ∷ []
+unfoldable pub column_entry : Run → ℕ → ℕ → ℕ → ℕ → List ℕ
+column_entry u column router port vc = slice_index (channel_counts u router port vc) column ∷ []
 
 -- the sum of a column of the stall report
 unfoldable pub column_total : Run → ℕ → ℕ
-column_total u column = sum (over_routers u.net.relation (column_at u column))
+column_total u column = sum (over_routers u.net.relation (column_entry u column))
 
 unfoldable pub summary_of : Run → Summary
 summary_of u = record {
@@ -62,11 +62,11 @@ summary_of u = record {
 
 -- a name, a space, and a number or a dash
 abbrev pub summary_line : List ℕ × Option ℕ → List ℕ
-summary_line entry = joined (entry.0 ∷ codes " " ∷ dash_or entry.1 ∷ line_end ∷ [])
+summary_line entry = text_of_pieces (entry.0 ∷ codes " " ∷ dash_or entry.1 ∷ line_end ∷ [])
 
 -- an entry as the code holds it
-abbrev pub entry_of : Bor (List ℕ) × Option ℕ → List ℕ × Option ℕ
-entry_of entry = (entry.0.now, entry.1)
+abbrev pub entry_value : Bor (List ℕ) × Option ℕ → List ℕ × Option ℕ
+entry_value entry = (entry.0.now, entry.1)
 
 -- the names of the summary, with what they say
 unfoldable pub summary_entries : Summary → List (List ℕ × Option ℕ)

@@ -8,11 +8,11 @@ use Rattle.noc_files.specs.Columns.{IsFieldFault}
 use Rattle.noc_files.specs.Gives.{◌>>=◌}
 use Rattle.noc_files.specs.Ports.{IsPortName, name_of_port, port_at}
 use Rattle.noc_files.specs.Plain.{plain_text}
-use Rattle.noc_files.specs.Rows.{Fields, IsNumeral, number_at, rows_of}
+use Rattle.noc_files.specs.Rows.{Fields, IsNumeral, number_at, text_rows}
 use Rattle.noc_files.specs.Sheet.{IsSheet, IsSheetFault, sheet}
 
-abbrev pub header : Fields
-header = codes "class" ∷ codes "router" ∷ codes "in_port" ∷ codes "in_vc" ∷ codes "dst" ∷ codes "out_port" ∷ codes "out_vc" ∷ []
+abbrev pub table_header : Fields
+table_header = codes "class" ∷ codes "router" ∷ codes "in_port" ∷ codes "in_vc" ∷ codes "dst" ∷ codes "out_port" ∷ codes "out_vc" ∷ []
 
 -- the row of a table: first the number of fields, then the fields from left to right
 unfoldable pub route_row_of : Grid → ℕ → Fields → Result RouteRow InputFault
@@ -30,7 +30,7 @@ route_row_of g row fields = if length fields == 7 then seven else Err (BadCount 
       Ok (record { class = class; router = router; in_port = in_port; in_vc = in_vc; dst = dst; out_port = out_port; out_vc = out_vc })
 
 abbrev pub table_of : Grid → List ℕ → Result (List RouteRow) InputFault
-table_of g text = sheet (route_row_of g) header (rows_of text)
+table_of g text = sheet (route_row_of g) table_header (text_rows text)
 
 -- seven fields, numerals and names of ports, which write this row
 abbrev pub WritesRoute : Grid → Fields → RouteRow → Type 0
@@ -40,7 +40,7 @@ WritesRoute g _ r = ⊥
 
 -- the header, and below it rows of seven fields, which write these rows
 abbrev pub IsTable : Grid → List ℕ → List RouteRow → Type 0
-IsTable g text rows = IsSheet (WritesRoute g) header (rows_of text) rows
+IsTable g text rows = IsSheet (WritesRoute g) table_header (text_rows text) rows
 
 -- whether a column, counted from 0, holds the name of a port
 abbrev pub is_port_column : ℕ → Bool
@@ -52,12 +52,12 @@ IsRouteFault g row fields fault = IsFieldFault g 7 is_port_column row fields fau
 
 -- the first fault of a table file
 abbrev pub IsTableFault : Grid → List ℕ → InputFault → Type 0
-IsTableFault g text fault = IsSheetFault (WritesRoute g) (IsRouteFault g) header (rows_of text) fault
+IsTableFault g text fault = IsSheetFault (WritesRoute g) (IsRouteFault g) table_header (text_rows text) fault
 
 -- ---- the plainest table file of some rows
 
 -- numbers that a numeral can write, and ports of the shape
-pub record IsWritable (g : Grid) (r : RouteRow) : Type 0 where
+pub record IsWritableRow (g : Grid) (r : RouteRow) : Type 0 where
   pub class : r.class < 2 ^ 32
   pub router : r.router < 2 ^ 32
   pub in_port : r.in_port < ports g
@@ -72,4 +72,4 @@ route_fields g r =
 
 -- the header, and a line of numbers and names of ports for each row
 abbrev pub table_text : Grid → List RouteRow → List ℕ
-table_text g rows = plain_text (header ∷ map (route_fields g) rows)
+table_text g rows = plain_text (table_header ∷ map (route_fields g) rows)

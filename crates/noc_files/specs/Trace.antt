@@ -16,7 +16,7 @@ use Rattle.noc_net.specs.Lockstep.{findings_before, findings_in_cycle}
 use Rattle.noc_files.specs.Channels.{over_router, over_routers}
 use Rattle.noc_files.specs.Findings.{verdict_text}
 use Rattle.noc_files.specs.Ports.{name_of_port, port_text}
-use Rattle.noc_files.specs.Writing.{comma, joined, line_end}
+use Rattle.noc_files.specs.Writing.{comma, text_of_pieces, line_end}
 use Rattle.noc_files.specs.declared.trace.Traced.{Traced}
 
 unfoldable pub trace_header : List ℕ
@@ -24,9 +24,9 @@ trace_header = codes "cycle,router,port,vc,verdict,packet,out,permitted\n"
 
 -- ---- what is told of a channel
 
-abbrev pub is_empty : Verdict → Bool
-is_empty Empty = true
-is_empty _ = false
+abbrev pub finds_empty : Verdict → Bool
+finds_empty Empty = true
+finds_empty _ = false
 
 -- whether a channel with this packet is one of those that are traced: any, or those that hold one packet
 abbrev pub is_traced : Option ℕ → Option ℕ → Bool
@@ -34,12 +34,12 @@ is_traced None held = true
 is_traced (Some packet) held = is_some_of held packet
 
 -- what a trace tells of a channel: what was found of it, and nothing where it is Empty or not one of those that are traced
-abbrev pub told : Option ℕ → Finding → Option Finding
-told packet f = if is_empty f.verdict || not (is_traced packet f.packet) then None else Some f
+abbrev pub traced_finding : Option ℕ → Finding → Option Finding
+traced_finding packet f = if finds_empty f.verdict || not (is_traced packet f.packet) then None else Some f
 
--- .. in cycle n, of the input channel with index i of router r
+-- what a trace tells in cycle n of the input channel with index i of router r
 abbrev pub told_at : Setup → Traced → ℕ → ℕ → ℕ → Option Finding
-told_at net traced n r i = option_and_then (told traced.packet) (slice_get (findings_in_cycle net n r) i)
+told_at net traced n r i = option_and_then (traced_finding traced.packet) (slice_get (findings_in_cycle net n r) i)
 
 -- what was told of it in the cycle before, in a trace of changes that begins with cycle `first`
 abbrev pub told_before : Setup → Traced → ℕ → ℕ → ℕ → ℕ → Option Finding
@@ -66,8 +66,8 @@ is_same _ _ = false
 
 -- an output channel as port, full stop and number, or a dash; then a comma
 abbrev pub out_field : Grid → Option (ℕ × ℕ) → List ℕ
-out_field g None = joined (codes "-" ∷ comma ∷ [])
-out_field g (Some (port, vc)) = joined (unwrap_or (port_text g port) (codes "-") ∷ codes "." ∷ decimal vc ∷ comma ∷ [])
+out_field g None = text_of_pieces (codes "-" ∷ comma ∷ [])
+out_field g (Some (port, vc)) = text_of_pieces (unwrap_or (port_text g port) (codes "-") ∷ codes "." ∷ decimal vc ∷ comma ∷ [])
 
 -- whether a packet of this verdict asked for an output channel, or found none to ask for
 abbrev pub is_asking : Verdict → Bool
@@ -80,7 +80,7 @@ is_asking _ = false
 abbrev pub set_for : Routes → ℕ → ℕ → ℕ → Packet → ℕ
 set_for relation r port vc p = set_at relation p.class r port vc p.destination
 
--- .. to the packet of a finding, where it asks
+-- the output channels that the relation permits to the packet of a finding, where it asks
 abbrev pub permitted_to : Setup → ℕ → ℕ → ℕ → Finding → Option ℕ
 permitted_to net r port vc f =
     if is_asking f.verdict then option_map (set_for net.relation r port vc) (option_and_then (slice_get net.packets) f.packet) else None
@@ -93,16 +93,16 @@ has_below set k = list_any (has_bit set) (below k)
 abbrev pub member_text : Grid → ℕ → ℕ → ℕ → List ℕ
 member_text g vcs set k =
     if has_bit set k
-    then joined ((if has_below set k then codes " " else []) ∷ name_of_port g (k / vcs) ∷ codes "." ∷ decimal (k % vcs) ∷ [])
+    then text_of_pieces ((if has_below set k then codes " " else []) ∷ name_of_port g (k / vcs) ∷ codes "." ∷ decimal (k % vcs) ∷ [])
     else []
 
 -- the output channels of a set, by rising index, with a space between
 abbrev pub set_text : Routes → ℕ → List ℕ
 set_text relation set = flat_map (member_text relation.grid relation.vcs set) (below (ports relation.grid * relation.vcs))
 
--- .. or a dash where there is no set; and the end of the line
+-- the output channels of a set, or a dash where there is no set; and the end of the line
 abbrev pub permitted_text : Routes → Option ℕ → List ℕ
-permitted_text relation None = joined (codes "-" ∷ line_end ∷ [])
+permitted_text relation None = text_of_pieces (codes "-" ∷ line_end ∷ [])
 permitted_text relation (Some set) = set_text relation set ++ line_end
 
 -- the output channel of a finding, and what was permitted
@@ -115,13 +115,13 @@ told_text net r port vc f = verdict_text net.relation.grid port vc f ++ way_text
 
 -- the cycle and the router of a line
 abbrev pub when_text : ℕ → ℕ → List ℕ
-when_text n r = joined (decimal n ∷ comma ∷ decimal r ∷ comma ∷ [])
+when_text n r = text_of_pieces (decimal n ∷ comma ∷ decimal r ∷ comma ∷ [])
 
 -- the line of an input channel in cycle n
 abbrev pub trace_line : Setup → ℕ → ℕ → ℕ → ℕ → Finding → List ℕ
 trace_line net n r port vc f = when_text n r ++ told_text net r port vc f
 
--- .. if another thing is told of it than before
+-- the line of an input channel in cycle n, if another thing is told of it than before
 abbrev pub line_if_new : Setup → ℕ → ℕ → ℕ → ℕ → Option Finding → Option Finding → List ℕ
 line_if_new net n r port vc before now = if is_same before now then [] else trace_line net n r port vc (unwrap_or now empty_finding)
 
@@ -162,8 +162,8 @@ kept_at rows r i = option_and_then (λ row. slice_get row i) (slice_get rows r)
 -- the line of an input channel in the last cycle of a run, if another thing is told of it than of what is kept
 abbrev pub kept_line : Run → Traced → List (List Finding) → ℕ → ℕ → ℕ → ℕ → List ℕ
 kept_line u traced rows n r port vc =
-    line_if_new u.net n r port vc (option_and_then (told traced.packet) (kept_at rows r (port * u.net.relation.vcs + vc)))
-    (option_and_then (told traced.packet) (slice_get (findings_before u.net u.count r) (port * u.net.relation.vcs + vc)))
+    line_if_new u.net n r port vc (option_and_then (traced_finding traced.packet) (kept_at rows r (port * u.net.relation.vcs + vc)))
+    (option_and_then (traced_finding traced.packet) (slice_get (findings_before u.net u.count r) (port * u.net.relation.vcs + vc)))
 
 -- ---- what the laws of a trace speak of
 
@@ -174,7 +174,7 @@ whole = record { router = None; packet = None; changes = false }
 -- an output channel as port, full stop and number, or a dash
 abbrev pub out_name : Grid → Option (ℕ × ℕ) → List ℕ
 out_name g None = codes "-"
-out_name g (Some (port, vc)) = joined (unwrap_or (port_text g port) (codes "-") ∷ codes "." ∷ decimal vc ∷ [])
+out_name g (Some (port, vc)) = text_of_pieces (unwrap_or (port_text g port) (codes "-") ∷ codes "." ∷ decimal vc ∷ [])
 
 -- what a trace and `explain` both say of an input channel
 abbrev pub said_by_both : Grid → ℕ → ℕ → Finding → List ℕ

@@ -6,11 +6,11 @@ use Rattle.noc_packet.specs.declared.packet.Packet.{Packet}
 use Rattle.noc_files.specs.Columns.{IsRowFault}
 use Rattle.noc_files.specs.Gives.{◌>>=◌}
 use Rattle.noc_files.specs.Plain.{plain_text}
-use Rattle.noc_files.specs.Rows.{Fields, HasNumeral, IsNumeral, number_at, rows_of}
+use Rattle.noc_files.specs.Rows.{Fields, HasNumeral, IsNumeral, number_at, text_rows}
 use Rattle.noc_files.specs.Sheet.{IsSheet, IsSheetFault, sheet}
 
-abbrev pub header : Fields
-header = codes "source" ∷ codes "destination" ∷ codes "class" ∷ codes "length" ∷ codes "due" ∷ []
+abbrev pub traffic_header : Fields
+traffic_header = codes "source" ∷ codes "destination" ∷ codes "class" ∷ codes "length" ∷ codes "due" ∷ []
 
 -- the packet of a row: first the number of fields, then the fields from left to right
 unfoldable pub packet_of : ℕ → Fields → Result Packet InputFault
@@ -26,7 +26,7 @@ packet_of row fields = if length fields == 5 then five else Err (BadCount row)
       Ok (record { source = source; destination = destination; class = class; length = length; due = due })
 
 abbrev pub traffic_of : List ℕ → Result (List Packet) InputFault
-traffic_of text = sheet packet_of header (rows_of text)
+traffic_of text = sheet packet_of traffic_header (text_rows text)
 
 -- five numerals, which write this packet
 abbrev pub WritesPacket : Fields → Packet → Type 0
@@ -36,7 +36,7 @@ WritesPacket _ p = ⊥
 
 -- the header, and below it rows of five numerals, which write these packets
 abbrev pub IsTraffic : List ℕ → List Packet → Type 0
-IsTraffic text packets = IsSheet WritesPacket header (rows_of text) packets
+IsTraffic text packets = IsSheet WritesPacket traffic_header (text_rows text) packets
 
 -- the fault of a row: another number of fields, or a field that is no numeral
 abbrev pub IsPacketFault : ℕ → Fields → InputFault → Type 0
@@ -44,12 +44,12 @@ IsPacketFault row fields fault = IsRowFault 5 (λ _. HasNumeral) BadNumber row f
 
 -- the first fault of a traffic file
 abbrev pub IsTrafficFault : List ℕ → InputFault → Type 0
-IsTrafficFault text fault = IsSheetFault WritesPacket IsPacketFault header (rows_of text) fault
+IsTrafficFault text fault = IsSheetFault WritesPacket IsPacketFault traffic_header (text_rows text) fault
 
 -- ---- the plainest traffic file of some packets
 
 -- numbers that a numeral can write
-pub record IsWritable (p : Packet) : Type 0 where
+pub record IsWritablePacket (p : Packet) : Type 0 where
   pub source : p.source < 2 ^ 32
   pub destination : p.destination < 2 ^ 32
   pub class : p.class < 2 ^ 32
@@ -61,4 +61,4 @@ packet_fields p = decimal p.source ∷ decimal p.destination ∷ decimal p.class
 
 -- the header, and a line of five numbers for each packet
 abbrev pub traffic_text : List Packet → List ℕ
-traffic_text packets = plain_text (header ∷ map packet_fields packets)
+traffic_text packets = plain_text (traffic_header ∷ map packet_fields packets)

@@ -16,8 +16,8 @@ Wrote contents failed old new text (Ok _) = Appends (contents old) (contents new
 Wrote contents failed old new text (Err f) = (f.written < length text) × Appends (contents old) (contents new) (take f.written text) × (failed new ≡ true)
 
 -- pieces one after the other
-abbrev pub joined : List (List ℕ) → List ℕ
-joined pieces = flat_map (λ piece. piece) pieces
+abbrev pub text_of_pieces : List (List ℕ) → List ℕ
+text_of_pieces pieces = flat_map (λ piece. piece) pieces
 
 abbrev pub comma : List ℕ
 comma = codes ","

@@ -6,7 +6,7 @@ ghost use Rattle.std.specs.List.{list_all};
 ghost use Rattle.std.specs.Option.{is_some, ok_or};
 ghost use Rattle.toml.specs.Data.{as_integer, get_member};
 ghost use Rattle.toml.specs.View.{items_view, table_view, view};
-ghost use Rattle.noc_files.specs.Configuration.{all_integers, all_known, config_at, config_of, document_of, is_key, kind_at, lengths_of, number_in, radix_at, rule_at, settings, within, word_at, IsConfiguration, IsConfigurationFault, KeepsLimits, Settings};
+ghost use Rattle.noc_files.specs.Configuration.{all_integers, all_known, config_at, config_of, document_of, is_key, kind_at, lengths_of, number_in, radix_at, rule_setting, settings, within, word_at, IsConfiguration, IsConfigurationFault, KeepsLimits, Settings};
 ghost use Rattle.noc_files.specs.Gives.{Gives, result_map};
 ghost use Rattle.noc_files.specs.Keys.{key_name};
 ghost use Rattle.noc_files.specs.declared.fault.InputFault.{InputFault as Fault};
@@ -139,9 +139,9 @@ fn kind_in(table: &Table) -> Result<Kind, InputFault>
     }
 }
 
-#[tactic(auto, unfolding(crate::specs::Configuration::rule_at))]
+#[tactic(auto, unfolding(crate::specs::Configuration::rule_setting))]
 fn rule_in(table: &Table) -> Result<RuleName, InputFault>
-    ensures { result ≡ rule_at (table_view table.now) }
+    ensures { result ≡ rule_setting (table_view table.now) }
 {
     match word(table, Key::Rule)? {
         "dor" => Ok(RuleName::Dor),

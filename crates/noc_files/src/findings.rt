@@ -54,7 +54,7 @@ fn verdict_name(verdict: Verdict) -> &'static str
     }
 }
 
-// The same number in 64 bits.
+// A number of 32 bits in 64.
 fn wide(number: Option<u32>) -> Option<u64>
     ensures { result ≡ number }
 {

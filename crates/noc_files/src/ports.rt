@@ -3,7 +3,7 @@
 ghost use Rattle.std.specs.Prelude.{◌≡◌, ◌<◌, ◌≤◌, length, option_map, IfSome};
 ghost use Rattle.noc_topo.specs.Shape.{nodes, ports};
 ghost use Rattle.noc_files.specs.Channels.{is_input};
-ghost use Rattle.noc_files.specs.Ports.{name_of_port, port_of, port_text};
+ghost use Rattle.noc_files.specs.Ports.{name_of_port, port_named, port_text};
 
 use noc_topo::Shape;
 
@@ -41,7 +41,7 @@ pub(crate) fn known_name(shape: &Shape, port: usize) -> &'static str
 
 // The port of a shape that has this name.
 pub(crate) fn port_named(shape: &Shape, name: &[u8]) -> Option<usize>
-    ensures { result ≡ port_of shape.now name.now }
+    ensures { result ≡ port_named shape.now name.now }
 {
     for port in 0..shape.ports() {
         if name == known_name(shape, port).as_bytes() {

@@ -12,7 +12,7 @@ ghost use Rattle.noc_topo.specs.Words.{below};
 ghost use Rattle.noc_files.specs.declared.fault.InputFault.{InputFault as Fault};
 ghost use Rattle.noc_files.specs.Gives.{Gives};
 ghost use Rattle.noc_files.specs.Plain.{row_line};
-ghost use Rattle.noc_files.specs.Ranks.{header, rank_in, rank_line, rank_of, rank_row, rank_row_of, rank_rows, rank_text, ranks_of, ranks_text, port_rows, router_rows, IsRankFile, IsRankFileFault, ListsRanks};
+ghost use Rattle.noc_files.specs.Ranks.{rank_header, rank_field, rank_line, rank_of, rank_row, rank_row_of, rank_rows, rank_text, ranks_of, ranks_text, port_rows, router_rows, IsRankFile, IsRankFileFault, ListsRanks};
 ghost use Rattle.noc_files.specs.Writing.{Puts, Wrote};
 
 use crate::fault::InputFault;
@@ -47,7 +47,7 @@ fn rank(field: &[u8]) -> Option<Option<usize>>
 
 // The rank in a column of a row.
 fn rank_in(row: &ByteRecord, index: usize, column: usize) -> Result<Option<usize>, InputFault>
-    ensures { result ≡ rank_in index column (fields_of row.now) }
+    ensures { result ≡ rank_field index column (fields_of row.now) }
 {
     row.get(column)
         .and_then(rank)

@@ -10,7 +10,7 @@ ghost use Rattle.noc_files.specs.declared.fault.InputFault.TheVariants.{Memory};
 ghost use Rattle.noc_topo.specs.Words.{Each};
 ghost use Rattle.noc_files.specs.Plain.{IsPlainRow, plain_text};
 ghost use Rattle.noc_files.specs.Ports.{port_at};
-ghost use Rattle.noc_files.specs.Rows.{Fields, IsBetweenRows, IsRefusal, number_of, number_at, rows_left, rows_of};
+ghost use Rattle.noc_files.specs.Rows.{Fields, IsBetweenRows, IsReadRefusal, number_of, number_at, rows_left, text_rows};
 
 use crate::fault::InputFault;
 use crate::ports::port_named;
@@ -21,7 +21,7 @@ use std::alloc::Global;
 // A reader of all the rows of a text, the header too.
 pub(crate) fn rows(alloc: Global, text: &[u8]) -> Reader<&[u8]>
     ensures ready { IsBetweenRows result }
-    ensures left { rows_left result ≡ rows_of text.now }
+    ensures left { rows_left result ≡ text_rows text.now }
 {
     ReaderBuilder::new()
         .has_headers(false)
@@ -31,7 +31,7 @@ pub(crate) fn rows(alloc: Global, text: &[u8]) -> Reader<&[u8]>
 
 // The fault of a reader that could not read a row of any length. A slice never fails, so memory was refused.
 fn refusal(error: csv::Error) -> InputFault
-    requires { IsRefusal (error_kind error) }
+    requires { IsReadRefusal (error_kind error) }
     ensures { result ≡ Memory }
 {
     match error.into_kind() {
@@ -114,11 +114,11 @@ pub(crate) fn port_in(
 
 /// The rows of a text are its records, all of them and in order.
 pub fn rows_are_records()
-    ensures { (text : List ℕ) → AreRecords default_config st.StartRecord (strip_bom text) (rows_of text) }
+    ensures { (text : List ℕ) → AreRecords default_config st.StartRecord (strip_bom text) (text_rows text) }
 {}
 
 /// The lines of rows are read back as these rows, where the fields are ASCII without commas, quotes and ends of lines
 /// and no row begins with an empty field.
 pub fn plain_rows_are_read_back()
-    ensures { (rows : List Fields) → Each IsPlainRow rows → rows_of (plain_text rows) ≡ rows }
+    ensures { (rows : List Fields) → Each IsPlainRow rows → text_rows (plain_text rows) ≡ rows }
 {}

@@ -3,7 +3,7 @@
 ghost use Rattle.std.specs.Prelude.{◌≡◌, ℕ, Result, map};
 ghost use Rattle.noc_files.specs.declared.fault.InputFault.{InputFault as Fault};
 ghost use Rattle.noc_files.specs.Gives.{Gives};
-ghost use Rattle.noc_files.specs.Rows.{Fields, IsBetweenRows, rows_left, rows_of};
+ghost use Rattle.noc_files.specs.Rows.{Fields, IsBetweenRows, rows_left, text_rows};
 ghost use Rattle.noc_files.specs.Sheet.{ReadsRows, sheet};
 
 use crate::fault::InputFault;
@@ -19,7 +19,7 @@ pub(crate) fn read_sheet<V: Drop, F: Fn(&ByteRecord, usize) -> Result<V, InputFa
     read: F,
 ) -> Result<Vec<V>, InputFault>
     requires { F.IsAlwaysCallable read }
-    ensures { (said : ℕ → Fields → Result V Fault) → ReadsRows (F.post read) said → Gives (λ v. v.items) result (sheet said (map (λ n. n.now) header.now) (rows_of text.now)) }
+    ensures { (said : ℕ → Fields → Result V Fault) → ReadsRows (F.post read) said → Gives (λ v. v.items) result (sheet said (map (λ n. n.now) header.now) (text_rows text.now)) }
 {
     let mut reader = rows(alloc, text);
     let mut row = ByteRecord::new(alloc);

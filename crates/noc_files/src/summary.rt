@@ -4,7 +4,7 @@ ghost use Rattle.std.specs.Prelude.{◌+◌, ◌*◌, ◌^◌, ◌<◌, ◌≤�
 ghost use Rattle.std.specs.List.{flat_map, list_all};
 ghost use Rattle.noc_topo.specs.Shape.{nodes, ports};
 ghost use Rattle.noc_files.specs.Channels.{over_port, over_router};
-ghost use Rattle.noc_files.specs.Summary.{IsGreatest, column_at, column_total, entry_of, greatest_of, latencies, latency_at, summary_line, summary_lines, summary_of, summary_text};
+ghost use Rattle.noc_files.specs.Summary.{IsGreatest, column_entry, column_total, entry_value, greatest_of, latencies, latency_at, summary_line, summary_lines, summary_of, summary_text};
 ghost use Rattle.noc_files.specs.Writing.{Puts, Wrote};
 
 use crate::latency::latency_of;
@@ -66,7 +66,7 @@ fn put_lines<W: Sink>(
     requires names { list_all (λ entry. nat_le (length entry.0.now) 15) entries.now ≡ true }
     requires few { length entries.now ≤ 18 }
     requires room { before + 1026 < 2 ^ 64 }
-    ensures { Puts W.contents W.has_failed sink.old sink.new before (flat_map (λ entry. summary_line (entry_of entry)) entries.now) result }
+    ensures { Puts W.contents W.has_failed sink.old sink.new before (flat_map (λ entry. summary_line (entry_value entry)) entries.now) result }
 {
     let mut written = before;
     for entry in entries {
@@ -150,7 +150,7 @@ fn port_total(network: &Network, router: usize, port: usize, column: usize) -> u
     requires port { port < ports network.now.net.relation.grid }
     requires column { column < 10 }
     ensures bound { result ≤ MAX_CHANNELS * 2 ^ 64 }
-    ensures value { result ≡ sum (over_port network.now.net.relation router (column_at network.now column router) port) }
+    ensures value { result ≡ sum (over_port network.now.net.relation router (column_entry network.now column router) port) }
 {
     if !has_inputs(network.relation().shape(), router, port) {
         return 0;
@@ -163,14 +163,14 @@ fn port_total(network: &Network, router: usize, port: usize, column: usize) -> u
 }
 
 // An input channel's count in a column of the stall report.
-#[tactic(auto, unfolding(crate::specs::Summary::column_at, crate::specs::Stalls::channel_counts))]
+#[tactic(auto, unfolding(crate::specs::Summary::column_entry, crate::specs::Stalls::channel_counts))]
 fn count_at(network: &Network, router: usize, port: usize, vc: usize, column: usize) -> u128
     requires router { router < nodes network.now.net.relation.grid }
     requires port { port < ports network.now.net.relation.grid }
     requires vc { vc < network.now.net.relation.vcs }
     requires column { column < 10 }
     ensures bound { result < 2 ^ 64 }
-    ensures value { column_at network.now column router port vc ≡ result ∷ [] }
+    ensures value { column_entry network.now column router port vc ≡ result ∷ [] }
 {
     u128::from(network.counts(router, port, vc)[column])
 }
@@ -180,7 +180,7 @@ fn router_total(network: &Network, router: usize, column: usize) -> u128
     requires router { router < nodes network.now.net.relation.grid }
     requires column { column < 10 }
     ensures bound { result ≤ INDICES * 2 ^ 64 }
-    ensures value { result ≡ sum (over_router network.now.net.relation router (column_at network.now column router)) }
+    ensures value { result ≡ sum (over_router network.now.net.relation router (column_entry network.now column router)) }
 {
     let mut total = 0u128;
     for port in 0..network.relation().shape().ports() {

@@ -7,7 +7,7 @@ ghost use Rattle.noc_topo.specs.Shape.{Grid, IsGrid};
 ghost use Rattle.noc_topo.specs.Words.{Each};
 ghost use Rattle.noc_files.specs.declared.fault.InputFault.{InputFault as Fault};
 ghost use Rattle.noc_files.specs.Gives.{Gives};
-ghost use Rattle.noc_files.specs.Table.{route_row_of, table_of, table_text, IsTable, IsTableFault, IsWritable};
+ghost use Rattle.noc_files.specs.Table.{route_row_of, table_of, table_text, IsTable, IsTableFault, IsWritableRow};
 
 use crate::fault::InputFault;
 use crate::rows::{number_in, port_in};
@@ -71,5 +71,5 @@ pub fn table_is_refused_with_its_first_fault()
 /// The plainest table file of some rows is read back as these rows, where their numbers are at most 4294967295 and the
 /// shape has their ports.
 pub fn written_table_is_read_back()
-    ensures { (g : Grid) → IsGrid g → (rows : List Route) → Each (IsWritable g) rows → table_of g (table_text g rows) ≡ Ok rows }
+    ensures { (g : Grid) → IsGrid g → (rows : List Route) → Each (IsWritableRow g) rows → table_of g (table_text g rows) ≡ Ok rows }
 {}

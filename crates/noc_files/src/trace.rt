@@ -12,8 +12,8 @@ ghost use Rattle.noc_net.specs.Lockstep.{findings_before, findings_in_cycle};
 ghost use Rattle.noc_net.specs.Network.{Run as RunValue, Setup as SetupValue, size};
 ghost use Rattle.noc_files.specs.Findings.{found_line};
 ghost use Rattle.noc_files.specs.Stalls.{channel_counts};
-ghost use Rattle.noc_files.specs.Trace.{AreRows, cycle_text, has_below, is_empty, is_same, is_traced, kept_at, kept_line, member_text, nothing_found, out_field, over_traced, permitted_text, permitted_to, said_by_both, set_text, told, told_counts, told_text, trace_line, trace_text, traced_line, way_text, when_text, whole};
-ghost use Rattle.noc_files.specs.Writing.{Puts, Wrote, comma, joined, line_end};
+ghost use Rattle.noc_files.specs.Trace.{AreRows, cycle_text, has_below, finds_empty, is_same, is_traced, kept_at, kept_line, member_text, nothing_found, out_field, over_traced, permitted_text, permitted_to, said_by_both, set_text, traced_finding, told_counts, told_text, trace_line, trace_text, traced_line, way_text, when_text, whole};
+ghost use Rattle.noc_files.specs.Writing.{Puts, Wrote, comma, text_of_pieces, line_end};
 ghost use Rattle.noc_files.specs.declared.listing.TheConstants.{LONGEST_LINE, LONGEST_LISTING};
 
 use crate::findings::put_verdict;
@@ -73,7 +73,7 @@ impl Trace {
 
     // What was told of an input channel in the cycle before.
     fn before(&self, router: usize, index: usize) -> Option<Finding>
-        ensures { result ≡ option_and_then (told self.now.0.packet) (kept_at self.now.1 router index) }
+        ensures { result ≡ option_and_then (traced_finding self.now.0.packet) (kept_at self.now.1 router index) }
     {
         let found = self.rows.get(router)?.get(index)?;
         told(self.traced.packet, found)
@@ -82,7 +82,7 @@ impl Trace {
     // What is told of it in the last cycle of a network.
     fn now(&self, network: &Network, router: usize, index: usize) -> Option<Finding>
         requires { router < nodes network.now.net.relation.grid }
-        ensures { result ≡ option_and_then (told self.now.0.packet) (slice_get (findings_before network.now.net network.now.count router) index) }
+        ensures { result ≡ option_and_then (traced_finding self.now.0.packet) (slice_get (findings_before network.now.net network.now.count router) index) }
     {
         let found = network.findings(router).get(index)?;
         told(self.traced.packet, found)
@@ -90,7 +90,7 @@ impl Trace {
 
     // Whether nothing was told of any input channel of a router in the cycle before.
     fn told_nothing(&self, router: usize) -> bool
-        ensures { result ≡ true → (index : ℕ) → option_and_then (told self.now.0.packet) (kept_at self.now.1 router index) ≡ None }
+        ensures { result ≡ true → (index : ℕ) → option_and_then (traced_finding self.now.0.packet) (kept_at self.now.1 router index) ≡ None }
     {
         match self.rows.get(router) {
             Some(row) => tells_nothing(self.traced.packet, row),
@@ -165,7 +165,7 @@ fn is_traced(packet: Option<u64>, held: Option<u32>) -> bool
 
 // What a trace tells of a channel: nothing where it is Empty or not one of those that are traced.
 fn told(packet: Option<u64>, finding: &Finding) -> Option<Finding>
-    ensures { result ≡ told packet finding.now }
+    ensures { result ≡ traced_finding packet finding.now }
 {
     if is_told(packet, finding) {
         Some(*finding)
@@ -176,14 +176,14 @@ fn told(packet: Option<u64>, finding: &Finding) -> Option<Finding>
 
 // Whether anything is told of it.
 fn is_told(packet: Option<u64>, finding: &Finding) -> bool
-    ensures { result ≡ is_some (told packet finding.now) }
+    ensures { result ≡ is_some (traced_finding packet finding.now) }
 {
     !matches!(finding.verdict, Verdict::Empty) && is_traced(packet, finding.packet)
 }
 
 // Whether nothing is told of any of these channels.
 fn tells_nothing(packet: Option<u64>, findings: &[Finding]) -> bool
-    ensures { result ≡ true → (index : ℕ) → option_and_then (told packet) (slice_get findings.now index) ≡ None }
+    ensures { result ≡ true → (index : ℕ) → option_and_then (traced_finding packet) (slice_get findings.now index) ≡ None }
 {
     for finding in findings {
         if is_told(packet, finding) {
@@ -303,7 +303,7 @@ fn put_channel<W: Sink>(
     requires gap { length gap.now ≤ 1 }
     requires name { length name.now ≤ 5 }
     requires room { before + 27 < 2 ^ 64 }
-    ensures puts { Puts W.contents W.has_failed sink.old sink.new before (joined (gap.now ∷ name.now ∷ codes "." ∷ decimal vc ∷ [])) result }
+    ensures puts { Puts W.contents W.has_failed sink.old sink.new before (text_of_pieces (gap.now ∷ name.now ∷ codes "." ∷ decimal vc ∷ [])) result }
     ensures short { IfOk result (λ n. n ≤ before + 27) }
 {
     let mut number = Buffer::new();
@@ -536,7 +536,7 @@ pub fn a_trace_tells_what_explain_tells()
         → found_line relation findings port vc ≡ said_by_both relation.grid port vc f ++ line_end }
     ensures traced { (net : SetupValue) (first n r port vc : ℕ) (f : FindingValue) → slice_get (findings_in_cycle net n r) (port * net.relation.vcs + vc) ≡ Some f
         → traced_line net whole first n r port vc
-        ≡ (if is_empty f.verdict then [] else when_text n r ++ said_by_both net.relation.grid port vc f ++ comma ++ permitted_text net.relation (permitted_to net r port vc f)) }
+        ≡ (if finds_empty f.verdict then [] else when_text n r ++ said_by_both net.relation.grid port vc f ++ comma ++ permitted_text net.relation (permitted_to net r port vc f)) }
 {}
 
 /// The verdicts that the whole trace of a run tells of an input channel, counted, are its line of the stall report.

@@ -6,7 +6,7 @@ ghost use Rattle.noc_packet.specs.declared.packet.Packet.{Packet as PacketValue}
 ghost use Rattle.noc_topo.specs.Words.{Each};
 ghost use Rattle.noc_files.specs.declared.fault.InputFault.{InputFault as Fault};
 ghost use Rattle.noc_files.specs.Gives.{Gives};
-ghost use Rattle.noc_files.specs.Traffic.{packet_of, traffic_of, traffic_text, IsTraffic, IsTrafficFault, IsWritable};
+ghost use Rattle.noc_files.specs.Traffic.{packet_of, traffic_of, traffic_text, IsTraffic, IsTrafficFault, IsWritablePacket};
 
 use crate::fault::InputFault;
 use crate::rows::number_in;
@@ -60,5 +60,5 @@ pub fn traffic_is_refused_with_its_first_fault()
 /// The plainest traffic file of some packets, a header and a line of five numbers each, is read back as these packets,
 /// where the numbers are at most 4294967295.
 pub fn written_traffic_is_read_back()
-    ensures { (packets : List PacketValue) → Each IsWritable packets → traffic_of (traffic_text packets) ≡ Ok packets }
+    ensures { (packets : List PacketValue) → Each IsWritablePacket packets → traffic_of (traffic_text packets) ≡ Ok packets }
 {}

@@ -68,7 +68,7 @@ pub(crate) fn shown(buffer: &mut Buffer, number: Option<u64>) -> &str
     }
 }
 
-// The same of 128 bits.
+// A number of 128 bits, or a dash where there is none.
 pub(crate) fn shown_wide(buffer: &mut Buffer, number: Option<u128>) -> &str
     ensures text { result.now ≡ dash_or number }
     ensures short { length result.now ≤ 40 }

@@ -7,10 +7,10 @@ use Rattle.std.proofs.lemmas.Option.{none-some}
 use Rattle.noc_topo.specs.Words.{is_some_of}
 use Rattle.noc_topo.specs.Shape.{nodes, ports}
 use Rattle.noc_topo.proofs.WordLemmas.{get_or-map_indexed, length-map_indexed, length-tabulate}
-use Rattle.noc_alloc.specs.Arbiter.{Turn, advanced, pointers_of, turn_at, turned}
-use Rattle.noc_alloc.specs.Allocation.{has_won, turned_by, winner_of, winning_pick}
+use Rattle.noc_alloc.specs.Arbiter.{RoundRobin, pointer_after, pointers_of, arbiter_at, arbiter_after}
+use Rattle.noc_alloc.specs.Allocation.{has_won, arbiters_after_winners, winner_of, winning_pick}
 use Rattle.noc_alloc.proofs.WordLemmas.{is_some_of-some, is_some_of-true}
-use Rattle.noc_router.specs.Verdict.{Turns, arbiters_after, opening_arbiters, ready_of}
+use Rattle.noc_router.specs.Verdict.{ArbiterStates, arbiters_after, opening_arbiters, ready_of}
 use Rattle.noc_model.specs.Network.{Setup, State, size, arbiters_at, after_verdicts, frozen_at, network_cycle, opening_state, round_at, stands_at, state_at}
 use Rattle.noc_model.proofs.OneBack.{arbiters-frozen, arbiters-state}
 use Rattle.noc_model.proofs.Ordered.{IsGood, IsOrderedFrozen}
@@ -20,36 +20,36 @@ use Rattle.noc_headline.proofs.RoundLemmas.{granted-wins, is-picked, is-won, pic
 
 -- ---- one list of arbiters: m of them, each over k requesters
 
-abbrev Sized : ℕ → ℕ → List Turn → Type 0
-Sized m k ts = (length ts ≡ m) × ((o : ℕ) → o < m → (turn_at ts o).size ≡ k)
+abbrev Sized : ℕ → ℕ → List RoundRobin → Type 0
+Sized m k ts = (length ts ≡ m) × ((o : ℕ) → o < m → (arbiter_at ts o).size ≡ k)
 
-turned-at : (winner : ℕ → Option ℕ) (ts : List Turn) (o : ℕ) → o < length ts → turn_at (turned_by winner ts) o ≡ turned (turn_at ts o) (winner o)
-turned-at winner ts o l = get_or-map_indexed (λ i (t : Turn). turned t (winner i)) ts o (record { size = 0; pointer = 0 }) (record { size = 0; pointer = 0 }) l
+turned-at : (winner : ℕ → Option ℕ) (ts : List RoundRobin) (o : ℕ) → o < length ts → arbiter_at (arbiters_after_winners winner ts) o ≡ arbiter_after (arbiter_at ts o) (winner o)
+turned-at winner ts o l = get_or-map_indexed (λ i (t : RoundRobin). arbiter_after t (winner i)) ts o (record { size = 0; pointer = 0 }) (record { size = 0; pointer = 0 }) l
 
 sized-opening : (m k : ℕ) → Sized m k (replicate m (record { size = k; pointer = 0 }))
 sized-opening m k = (
   length-replicate m (record { size = k; pointer = 0 }),
-  λ o l. ap (λ (t : Turn). t.size) (get_or-replicate m o (record { size = k; pointer = 0 }) (record { size = 0; pointer = 0 }) l),
+  λ o l. ap (λ (t : RoundRobin). t.size) (get_or-replicate m o (record { size = k; pointer = 0 }) (record { size = 0; pointer = 0 }) l),
 )
 
-sized-turned : (m k : ℕ) (winner : ℕ → Option ℕ) (ts : List Turn) → Sized m k ts → Sized m k (turned_by winner ts)
+sized-turned : (m k : ℕ) (winner : ℕ → Option ℕ) (ts : List RoundRobin) → Sized m k ts → Sized m k (arbiters_after_winners winner ts)
 sized-turned m k winner ts s = (
-  length-map_indexed (λ i (t : Turn). turned t (winner i)) ts ∙ s.0,
-  λ o l. ap (λ (t : Turn). t.size) (turned-at winner ts o (let c = s.0 in omega arith)) ∙ s.1 o l,
+  length-map_indexed (λ i (t : RoundRobin). arbiter_after t (winner i)) ts ∙ s.0,
+  λ o l. ap (λ (t : RoundRobin). t.size) (turned-at winner ts o (let c = s.0 in omega arith)) ∙ s.1 o l,
 )
 
-turns-on : (m k : ℕ) (winner : ℕ → Option ℕ) (ts : List Turn) → Sized m k ts → (Wins : ℕ → Type 0) (o : ℕ) → o < m
-    → ((x : ℕ) → winner o ≡ Some x → Wins x) → ((x : ℕ) → Wins x → winner o ≡ Some x) → IsTurned k Wins (turn_at ts o).pointer (turn_at (turned_by winner ts) o).pointer
+turns-on : (m k : ℕ) (winner : ℕ → Option ℕ) (ts : List RoundRobin) → Sized m k ts → (Wins : ℕ → Type 0) (o : ℕ) → o < m
+    → ((x : ℕ) → winner o ≡ Some x → Wins x) → ((x : ℕ) → Wins x → winner o ≡ Some x) → IsTurned k Wins (arbiter_at ts o).pointer (arbiter_at (arbiters_after_winners winner ts) o).pointer
 turns-on m k winner ts s Wins o l to from = (
-  (λ x w. is ∙ ap (advanced (turn_at ts o).size (turn_at ts o).pointer) (from x w) ∙ ap (λ z. (x + 1) % z) (s.1 o l)),
+  (λ x w. is ∙ ap (pointer_after (arbiter_at ts o).size (arbiter_at ts o).pointer) (from x w) ∙ ap (λ z. (x + 1) % z) (s.1 o l)),
   (λ none. is ∙ stays (winner o) refl none),
 )
   where
-    is : (turn_at (turned_by winner ts) o).pointer ≡ advanced (turn_at ts o).size (turn_at ts o).pointer (winner o)
-    is = ap (λ (t : Turn). t.pointer) (turned-at winner ts o (let c = s.0 in omega arith))
+    is : (arbiter_at (arbiters_after_winners winner ts) o).pointer ≡ pointer_after (arbiter_at ts o).size (arbiter_at ts o).pointer (winner o)
+    is = ap (λ (t : RoundRobin). t.pointer) (turned-at winner ts o (let c = s.0 in omega arith))
 
-    stays : (w : Option ℕ) → winner o ≡ w → ((x : ℕ) → Wins x → ⊥) → advanced (turn_at ts o).size (turn_at ts o).pointer (winner o) ≡ (turn_at ts o).pointer
-    stays None e none = ap (advanced (turn_at ts o).size (turn_at ts o).pointer) e
+    stays : (w : Option ℕ) → winner o ≡ w → ((x : ℕ) → Wins x → ⊥) → pointer_after (arbiter_at ts o).size (arbiter_at ts o).pointer (winner o) ≡ (arbiter_at ts o).pointer
+    stays None e none = ap (pointer_after (arbiter_at ts o).size (arbiter_at ts o).pointer) e
     stays (Some x) e none = absurd (none x (to x e))
 
 -- ---- an input port that has won
@@ -70,18 +70,18 @@ some-won (win ∷ wins) (suc k) q l e = or_right (is_some_of win q) (has_won win
 
 -- ---- all arbiters of a router
 
-record AreSized (net : Setup) (t : Turns) : Type 0 where
+record AreSized (net : Setup) (t : ArbiterStates) : Type 0 where
   channels : Sized (size net) (size net) t.channels
   inputs : Sized (ports net.relation.grid) net.relation.vcs t.inputs
   outputs : Sized (ports net.relation.grid) (ports net.relation.grid) t.outputs
 
 module _ (net : Setup) where
-  abbrev no_turns : Turns
+  abbrev no_turns : ArbiterStates
   no_turns = record { channels = []; inputs = []; outputs = [] }
 
   pub arbiters-after : (n : ℕ) (F : State) (r : ℕ) → r < length F.arbiters → arbiters_at net (after_verdicts net n F) r ≡ arbiters_after (round_at net F r) (arbiters_at net F r)
   unfolding after_verdicts
-  arbiters-after n F r l = get_or-map_indexed (λ s (t : Turns). arbiters_after (round_at net F s) t) F.arbiters r (record { channels = []; inputs = []; outputs = [] }) (record { channels = []; inputs = []; outputs = [] }) l
+  arbiters-after n F r l = get_or-map_indexed (λ s (t : ArbiterStates). arbiters_after (round_at net F s) t) F.arbiters r (record { channels = []; inputs = []; outputs = [] }) (record { channels = []; inputs = []; outputs = [] }) l
 
   frozen-count : (n : ℕ) → length (frozen_at net n).arbiters ≡ nodes net.relation.grid
   frozen-count n = ap length (arbiters-frozen net n (state_at net n)) ∙ arbiters-state net n
@@ -122,16 +122,16 @@ module _ (net : Setup) where
     sized : AreSized net (arbiters_at net F r)
     sized = subst (AreSized net) (ap (λ ts. get_or ts r (record { channels = []; inputs = []; outputs = [] })) (sym (arbiters-frozen net n (state_at net n)))) (sized-at n r l)
 
-    pub channel-turns : (o : ℕ) → o < size net → IsTurned (size net) (λ i. WinsChannel net F r i o) (turn_at (arbiters_at net F r).channels o).pointer (turn_at (arbiters_at net T r).channels o).pointer
+    pub channel-turns : (o : ℕ) → o < size net → IsTurned (size net) (λ i. WinsChannel net F r i o) (arbiter_at (arbiters_at net F r).channels o).pointer (arbiter_at (arbiters_at net T r).channels o).pointer
     channel-turns o u =
-        subst (λ (t : Turns). IsTurned (size net) (λ i. WinsChannel net F r i o) (turn_at (arbiters_at net F r).channels o).pointer (turn_at t.channels o).pointer) (sym now)
+        subst (λ (t : ArbiterStates). IsTurned (size net) (λ i. WinsChannel net F r i o) (arbiter_at (arbiters_at net F r).channels o).pointer (arbiter_at t.channels o).pointer) (sym now)
         (turns-on (size net) (size net) (λ k. get_or (round_at net F r).grants k None) (arbiters_at net F r).channels sized.channels (λ i. WinsChannel net F r i o) o u
         (λ i e. granted-wins net good F x r l i o u e) (λ i w. wins-granted net good F x r l i o u w))
 
     pub output-turns : (port : ℕ) → port < ports net.relation.grid
-        → IsTurned (ports net.relation.grid) (λ q. WinsSwitch net F r q port) (turn_at (arbiters_at net F r).outputs port).pointer (turn_at (arbiters_at net T r).outputs port).pointer
+        → IsTurned (ports net.relation.grid) (λ q. WinsSwitch net F r q port) (arbiter_at (arbiters_at net F r).outputs port).pointer (arbiter_at (arbiters_at net T r).outputs port).pointer
     output-turns port u =
-        subst (λ (t : Turns). IsTurned (ports net.relation.grid) (λ q. WinsSwitch net F r q port) (turn_at (arbiters_at net F r).outputs port).pointer (turn_at t.outputs port).pointer) (sym now)
+        subst (λ (t : ArbiterStates). IsTurned (ports net.relation.grid) (λ q. WinsSwitch net F r q port) (arbiter_at (arbiters_at net F r).outputs port).pointer (arbiter_at t.outputs port).pointer) (sym now)
         (turns-on (ports net.relation.grid) (ports net.relation.grid) (λ k. get_or (round_at net F r).wins k None) (arbiters_at net F r).outputs sized.outputs (λ q. WinsSwitch net F r q port) port u
         (λ q e. won-is net good F x r l port q u e) (λ q w. is-won net good F x r l port q u w))
 
@@ -158,8 +158,8 @@ module _ (net : Setup) where
         ap (λ (b : Bool). if b then get_or (round_at net F r).picks port None else None) won ∙ is-picked net good F x r l port v u m.0
 
     pub input-turns : (port : ℕ) → port < ports net.relation.grid
-        → IsTurned net.relation.vcs (Moves port) (turn_at (arbiters_at net F r).inputs port).pointer (turn_at (arbiters_at net T r).inputs port).pointer
+        → IsTurned net.relation.vcs (Moves port) (arbiter_at (arbiters_at net F r).inputs port).pointer (arbiter_at (arbiters_at net T r).inputs port).pointer
     input-turns port u =
-        subst (λ (t : Turns). IsTurned net.relation.vcs (Moves port) (turn_at (arbiters_at net F r).inputs port).pointer (turn_at t.inputs port).pointer) (sym now)
+        subst (λ (t : ArbiterStates). IsTurned net.relation.vcs (Moves port) (arbiter_at (arbiters_at net F r).inputs port).pointer (arbiter_at t.inputs port).pointer) (sym now)
         (turns-on (ports net.relation.grid) net.relation.vcs (winning_pick (round_at net F r).picks (round_at net F r).wins) (arbiters_at net F r).inputs sized.inputs (Moves port) port u
         (λ v e. picks-moves port v u e) (λ v m. moves-picks port v u m))

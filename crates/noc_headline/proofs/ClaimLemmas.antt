@@ -7,7 +7,7 @@ use Rattle.std.proofs.lemmas.Option.{none-some, same_Some}
 use Rattle.std.proofs.Math.Bool.{or-true}
 use Rattle.noc_topo.specs.Words.{below, is_some_of, Has}
 use Rattle.noc_topo.specs.Shape.{local_port}
-use Rattle.noc_route.specs.Channel.{Channel, Link, Inject, Eject, begin, is_link}
+use Rattle.noc_route.specs.Channel.{Channel, Link, Inject, Eject, sending_router, is_link}
 use Rattle.noc_route.specs.Routes.{permits}
 use Rattle.noc_route.proofs.BuiltLemmas.{linked-port}
 use Rattle.noc_route.proofs.OptionLemmas.{is_none-none}
@@ -40,7 +40,7 @@ module _ (net : Setup) (good : IsGood net) (F : State) (x : IsOrderedFrozen net 
   from : (i p : ℕ) (c o : Channel) → IsAt net good r i c → Has (c, p) F.own → next_channel net F c ≡ Some o → (j : ℕ) × IsFrom net good r j o × Has (o, p) F.own
   from i p c o at h e = by o (next-is net good.built F x.whole.sound.keyed x.whole.sound.worm p c o h e)
     where
-      end : (o : Channel) → leads_from net c o ≡ true → (s : ℕ) → begin o ≡ Some s → s ≡ r
+      end : (o : Channel) → leads_from net c o ≡ true → (s : ℕ) → sending_router o ≡ Some s → s ≡ r
       end o leads s b =
           let q = leads-end net c o leads in
           let a : q.0 ≡ s = same_Some _ _ (sym q.1 ∙ b) in

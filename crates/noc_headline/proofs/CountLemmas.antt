@@ -9,7 +9,7 @@ use Rattle.noc_topo.proofs.WordLemmas.{length-tabulate, get_or-tabulate}
 use Rattle.noc_router.specs.Counts.{one_if}
 use Rattle.noc_model.specs.declared.event.Event.{Event}
 use Rattle.noc_model.specs.declared.event.Event.TheVariants.{Take, Decide, Put}
-use Rattle.noc_model.specs.Core.{CoreState, Post, after_events, happens, is_linked, is_ready, links, opening_core, post_at, rested, wires_in_flight}
+use Rattle.noc_model.specs.Core.{CoreState, Post, after_events, happens, is_linked, is_ready, link_ports, opening_core, post_at, resting_post, wires_in_flight}
 use Rattle.noc_model.specs.Lockstep.{view_at}
 use Rattle.noc_model.specs.Network.{Run, Setup}
 use Rattle.noc_model.specs.InStep.{IsInStep, cycle_of, cycle_put, cycle_taken}
@@ -26,7 +26,7 @@ pub record Base : Type 0 where
   pub next_take : ℕ → ℕ → ℕ
   pub next_put : ℕ → ℕ → ℕ
 
--- .. all a number of cycles after a count
+-- the cycles at which a router and its links are seen, all a number of cycles after a count
 abbrev pub base_after : ℕ → List Event → Base
 base_after count events = record { seen = λ r. count + decides r events; next_take = λ r port. count + takes r port events; next_put = λ r port. count + 1 + puts r port events }
 
@@ -48,7 +48,7 @@ base_with b e = record {
   next_put = λ r port. b.next_put r port + one_if (is_put r port e);
 }
 
--- .. after many
+-- the base after many events
 abbrev base_further : Base → List Event → Base
 base_further b es = record {
   seen = λ r. b.seen r + decides r es;
@@ -139,7 +139,7 @@ opening_base count = record { seen = λ r. count; next_take = λ r port. count; 
 opened-at : (limit : ℕ) (u : Run) → u.count ≤ limit → AllStandAt limit u.net (opening_core u) (opening_base u.count)
 unfolding opening_core
 opened-at limit u few r post at =
-    let opened = λ (i : ℕ). rested u.net (view_at u.net u.count i) u.count (wires_in_flight u.net u.count i) in
+    let opened = λ (i : ℕ). resting_post u.net (view_at u.net u.count i) u.count (wires_in_flight u.net u.count i) in
     let posts = tabulate (nodes u.net.relation.grid) opened in
     let within = slice_get_within posts r post at in
     let size : length posts ≡ nodes u.net.relation.grid = length-tabulate (nodes u.net.relation.grid) opened in
@@ -149,7 +149,7 @@ opened-at limit u few r post at =
       seen = let c : cycle_of post ≡ u.count + 0 = ap cycle_of is in omega arith;
       low = few;
       taken = λ port linked.
-          let c : cycle_taken port post ≡ u.count + 0 = ap (cycle_taken port) is ∙ ap (λ b. u.count + one_if b) (has_none (links u.net) port) in
+          let c : cycle_taken port post ≡ u.count + 0 = ap (cycle_taken port) is ∙ ap (λ b. u.count + one_if b) (has_none (link_ports u.net) port) in
           omega arith;
       put = λ port linked. let c : cycle_put port post ≡ u.count + 1 + 0 = ap (cycle_put port) is in omega arith;
     }

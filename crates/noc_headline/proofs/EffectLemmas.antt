@@ -3,11 +3,11 @@ use Rattle.std.proofs.Common.{◌≡◌, ◌≢◌, ℕ, ◌≤◌, Bool, true, 
 use Rattle.std.specs.Prelude.{◌⊎◌, filter, filter_map, option_map, option_and_then, not, if◌then◌else◌}
 use Rattle.std.proofs.lemmas.Option.{none-some, same_Some}
 use Rattle.noc_topo.specs.Words.{Has}
-use Rattle.noc_route.specs.Channel.{Channel, Link, Inject, Eject, begin, is_link}
+use Rattle.noc_route.specs.Channel.{Channel, Link, Inject, Eject, sending_router, is_link}
 use Rattle.noc_router.specs.Verdict.{is_granted}
 use Rattle.noc_router.specs.declared.verdict.Verdict.{Verdict}
 use Rattle.noc_router.specs.declared.verdict.Verdict.TheVariants.{Granted, Moved}
-use Rattle.noc_model.specs.Network.{Setup, State, Located, Place, On, In, Out, leaving, owner_of, next_channel, place_of, after_verdicts, all_inputs, granted_pair, granted_at, is_released, verdict_in, end_of, is_in, gone_to}
+use Rattle.noc_model.specs.Network.{Setup, State, Located, Place, On, In, Out, leaving, owner_of, next_channel, place_of_flit, after_verdicts, all_inputs, granted_pair, grant_to_owner, is_released, verdict_in, end_of, is_in, gone_to}
 use Rattle.noc_model.proofs.BufferLemmas.{same_channel-refl}
 use Rattle.noc_model.proofs.GrantLemmas.{is_granted-true, once-after_verdicts}
 use Rattle.noc_model.proofs.PathLemmas.{IsEject}
@@ -39,9 +39,9 @@ module _ (net : Setup) (good : IsGood net) (F : State) (x : IsOrderedFrozen net 
   pair-is r i k q c at own asks wins =
       let here = at-input r i c at in
       let v : verdict_in net F c ≡ Granted = (verdict-says net good F x r at.router i c here Granted).1 (k, asks, wins) in
-      ap (λ (y : Verdict). cond (is_granted y) (option_and_then (λ s. option_and_then (granted_at net F c s) (owner_of net F c)) (end_of net.relation c)) None) v
-      ∙ ap (λ (a : Option (ℕ × ℕ)). option_and_then (λ s. option_and_then (granted_at net F c s) (owner_of net F c)) (option_map (λ (place : ℕ × ℕ). place.0) a)) here.arrives
-      ∙ ap (option_and_then (granted_at net F c r)) own
+      ap (λ (y : Verdict). cond (is_granted y) (option_and_then (λ s. option_and_then (grant_to_owner net F c s) (owner_of net F c)) (end_of net.relation c)) None) v
+      ∙ ap (λ (a : Option (ℕ × ℕ)). option_and_then (λ s. option_and_then (grant_to_owner net F c s) (owner_of net F c)) (option_map (λ (place : ℕ × ℕ). place.0) a)) here.arrives
+      ∙ ap (option_and_then (grant_to_owner net F c r)) own
       ∙ ap (option_map (λ o. (leaving net r o, q))) (ask-some net good F x r c k asks.may asks.least)
 
   pub granted-to : (o : Channel) (p : ℕ) → owner_of net F o ≡ None → owner_of net T o ≡ Some p → IsGrantedTo net F o p
@@ -50,7 +50,7 @@ module _ (net : Setup) (good : IsGood net) (F : State) (x : IsOrderedFrozen net 
     where
       from : (c : Channel) → Has c (all_inputs net) → granted_pair net F c ≡ Some (o, p) → (b : Bool) → is_granted (verdict_in net F c) ≡ b → IsGrantedTo net F o p
       from c h g false b =
-          let none : None ≡ Some (o, p) = sym (ap (λ (t : Bool). cond t (option_and_then (λ s. option_and_then (granted_at net F c s) (owner_of net F c)) (end_of net.relation c)) None) b) ∙ g in
+          let none : None ≡ Some (o, p) = sym (ap (λ (t : Bool). cond t (option_and_then (λ s. option_and_then (grant_to_owner net F c s) (owner_of net F c)) (end_of net.relation c)) None) b) ∙ g in
           absurd (none-some (o, p) none)
       from c h g true b =
           let place = input-at net good c h in
@@ -122,7 +122,7 @@ module _ (net : Setup) (good : IsGood net) (F : State) (x : IsOrderedFrozen net 
         goes-next net good F x place.0 place.1 c place.2 says.0 sends.goes,
       )
 
-  pub moved-sent : (p i : ℕ) → IsValid net p i → place_of net T p i ≢ place_of net F p i → (o : Channel) × IsSentOn net F p i o
+  pub moved-sent : (p i : ℕ) → IsValid net p i → place_of_flit net T p i ≢ place_of_flit net F p i → (o : Channel) × IsSentOn net F p i o
   moved-sent p i v other = by (moved-to p i v)
     where
       by : Staying p i ⊎ ((c : Channel) × (o : Channel) × Moving p i c o) → (o : Channel) × IsSentOn net F p i o
@@ -131,16 +131,16 @@ module _ (net : Setup) (good : IsGood net) (F : State) (x : IsOrderedFrozen net 
           let s = first-sent p i c m.moves m.first m.owns (next-no-eject net good.built F x.whole.sound.keyed x.whole.sound.worm p c o m.next) in (s.0, s.1)
 
   -- the packet of a flit in a buffer owns the channel
-  pub owns-placed : (p i : ℕ) (c : Channel) → IsValid net p i → place_of net F p i ≡ In c → Has (c, p) F.own × (IsEject c → ⊥)
+  pub owns-placed : (p i : ℕ) (c : Channel) → IsValid net p i → place_of_flit net F p i ≡ In c → Has (c, p) F.own × (IsEject c → ⊥)
   owns-placed p i c v there =
       placed-in net good.built F x.whole.sound.keyed x.whole.sound.worm p c (subst (λ (y : Place). IsPlaced net F.own p y) there (x.whole.sound.worm.placed p i v))
 
   -- the first flit of a buffer, by its packet and index
-  front : (p i : ℕ) (c : Channel) → IsValid net p i → place_of net F p i ≡ In c → ((j : ℕ) → IsValid net p j → place_of net F p j ≡ In c → i ≤ j) → First c p i
+  front : (p i : ℕ) (c : Channel) → IsValid net p i → place_of_flit net F p i ≡ In c → ((j : ℕ) → IsValid net p j → place_of_flit net F p j ≡ In c → i ≤ j) → First c p i
   front p i c v there least =
       let has = flit-there net F x.whole.sound.keyed p i v in
-      let inside : is_in c (place_of net F p i) ≡ true = ap (is_in c) there ∙ same_channel-refl c in
-      let g = find-some (λ (f : Located). is_in c f.place) F.at (record { packet = p; index = i; place = place_of net F p i }) has inside in
+      let inside : is_in c (place_of_flit net F p i) ≡ true = ap (is_in c) there ∙ same_channel-refl c in
+      let g = find-some (λ (f : Located). is_in c f.place) F.at (record { packet = p; index = i; place = place_of_flit net F p i }) has inside in
       let first = first-is net good.built F x.whole.sound.keyed x.whole.sound.worm c g.0 g.1 in
       let mine = owns-placed p i c v there in
       let its = owns-placed g.0.packet g.0.index c first.valid first.there in
@@ -164,24 +164,24 @@ module _ (net : Setup) (good : IsGood net) (F : State) (x : IsOrderedFrozen net 
         goes-next net good F x s.router s.input s.channel at s.output s.sends.goes ∙ ap Some s.is,
       )
 
-  gone : (c o : Channel) (r : ℕ) → begin o ≡ Some r → gone_to net n c (Some o) ≡ (if is_link o then On o else Out n)
+  gone : (c o : Channel) (r : ℕ) → sending_router o ≡ Some r → gone_to net n c (Some o) ≡ (if is_link o then On o else Out n)
   gone c (Link a b u) r e = refl
   gone c (Inject a u) r e = absurd (none-some r e)
   gone c (Eject a u) r e = refl
 
-  pub sent-goes : (p i : ℕ) (o : Channel) → IsValid net p i → IsSentOn net F p i o → place_of net T p i ≡ (if is_link o then On o else Out n)
+  pub sent-goes : (p i : ℕ) (o : Channel) → IsValid net p i → IsSentOn net F p i o → place_of_flit net T p i ≡ (if is_link o then On o else Out n)
   sent-goes p i o v s = by (moved-to p i v) (sent-first p i o v s)
     where
       by : Staying p i ⊎ ((c : Channel) × (o : Channel) × Moving p i c o) → (verdict_in net F s.channel ≡ Moved) × First s.channel p i × (next_channel net F s.channel ≡ Some o)
-          → place_of net T p i ≡ (if is_link o then On o else Out n)
+          → place_of_flit net T p i ≡ (if is_link o then On o else Out n)
       by (inl k) sent = absurd (k.not_first s.channel sent.0 sent.1)
       by (inr (d, q, m)) sent =
           let place : In d ≡ In s.channel = sym m.was ∙ s.there in
           let same : d ≡ s.channel = cc in
           let q_is : q ≡ o = same_Some _ _ (sym m.goes ∙ ap (next_channel net F) same ∙ sent.2) in
-          m.now ∙ ap (λ (z : Channel). gone_to net n d (Some z)) q_is ∙ gone d o s.router (ap begin (sym s.is) ∙ begins-at net good s.router s.output)
+          m.now ∙ ap (λ (z : Channel). gone_to net n d (Some z)) q_is ∙ gone d o s.router (ap sending_router (sym s.is) ∙ begins-at net good s.router s.output)
 
-  pub sent-moved : (p i : ℕ) (o : Channel) → IsValid net p i → IsSentOn net F p i o → place_of net T p i ≢ place_of net F p i
+  pub sent-moved : (p i : ℕ) (o : Channel) → IsValid net p i → IsSentOn net F p i o → place_of_flit net T p i ≢ place_of_flit net F p i
   sent-moved p i o v s e = by o (sym (sent-goes p i o v s) ∙ e ∙ s.there)
     where
       by : (o : Channel) → (if is_link o then On o else Out n) ≡ In s.channel → ⊥

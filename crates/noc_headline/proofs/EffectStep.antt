@@ -1,6 +1,6 @@
 -- What the verdicts of a cycle do.
 use Rattle.std.proofs.Common.{◌≡◌, ℕ, suc, ◌+◌, ◌<◌, refl, ap, sym, subst, ◌∙◌, arith}
-use Rattle.noc_model.specs.Network.{Setup, after_credits, after_injection, after_landing, arbiters_at, frozen, has_channel, owner_of, place_of, size, state_at, frozen_at, network_cycle}
+use Rattle.noc_model.specs.Network.{Setup, after_credits, after_injection, after_landing, arbiters_at, frozen_state, has_channel, owner_of, place_of_flit, size, state_at, frozen_at, network_cycle}
 use Rattle.noc_model.specs.Good.{IsGoodSetup}
 use Rattle.noc_model.proofs.OrderedStates.{ordered-frozen}
 use Rattle.noc_model.proofs.Theorem.{good-network}
@@ -19,11 +19,11 @@ use Rattle.noc_model.proofs.OneBack.{arbiters-frozen}
 use Rattle.noc_model.proofs.RoutedVerdicts.{has-channel}
 use Rattle.std.proofs.lemmas.Bool.{false≢true}
 use Rattle.noc_topo.specs.Shape.{ports}
-use Rattle.noc_alloc.specs.Arbiter.{turn_at}
+use Rattle.noc_alloc.specs.Arbiter.{arbiter_at}
 
 -- the routed channels are those of the start
 routed-frozen : (net : Setup) (n : ℕ) → (frozen_at net n).routed ≡ (state_at net n).routed
-unfolding frozen after_landing after_credits after_injection
+unfolding frozen_state after_landing after_credits after_injection
 routed-frozen net n = refl
 
 module _ (net : Setup) (made : IsGoodSetup net) where
@@ -46,13 +46,13 @@ module _ (net : Setup) (made : IsGoodSetup net) where
             let e = routed-after net good F x n r i c (input r i c at) in
             ((λ h. e.0 (ap (λ m. has_channel (state_at net m).routed c) (sym s) ∙ h)), (λ h. ap (λ m. has_channel (state_at net m).routed c) s ∙ e.1 h));
         channel_turns = λ r o l u.
-            subst (λ (m : ℕ). IsTurned (size net) (λ i. WinsChannel net F r i o) (turn_at (arbiters_at net F r).channels o).pointer (turn_at (arbiters_at net (state_at net m) r).channels o).pointer) (sym s)
+            subst (λ (m : ℕ). IsTurned (size net) (λ i. WinsChannel net F r i o) (arbiter_at (arbiters_at net F r).channels o).pointer (arbiter_at (arbiters_at net (state_at net m) r).channels o).pointer) (sym s)
             (channel-turns net good n x r l o u);
         output_turns = λ r q l u.
-            subst (λ (m : ℕ). IsTurned (ports net.relation.grid) (λ k. WinsSwitch net F r k q) (turn_at (arbiters_at net F r).outputs q).pointer (turn_at (arbiters_at net (state_at net m) r).outputs q).pointer) (sym s)
+            subst (λ (m : ℕ). IsTurned (ports net.relation.grid) (λ k. WinsSwitch net F r k q) (arbiter_at (arbiters_at net F r).outputs q).pointer (arbiter_at (arbiters_at net (state_at net m) r).outputs q).pointer) (sym s)
             (output-turns net good n x r l q u);
         input_turns = λ r q l u.
-            subst (λ (m : ℕ). IsTurned net.relation.vcs (λ v. IsPick net F r q v × ((out : ℕ) × (out < ports net.relation.grid) × WinsSwitch net F r q out)) (turn_at (arbiters_at net F r).inputs q).pointer (turn_at (arbiters_at net (state_at net m) r).inputs q).pointer) (sym s)
+            subst (λ (m : ℕ). IsTurned net.relation.vcs (λ v. IsPick net F r q v × ((out : ℕ) × (out < ports net.relation.grid) × WinsSwitch net F r q out)) (arbiter_at (arbiters_at net F r).inputs q).pointer (arbiter_at (arbiters_at net (state_at net m) r).inputs q).pointer) (sym s)
             (input-turns net good n x r l q u);
         credit = λ r i c at.
             let e = credit-after net good F x n r i c (input r i c at) in
@@ -61,8 +61,8 @@ module _ (net : Setup) (made : IsGoodSetup net) where
         kept = λ o p own stays. ap (λ m. owner_of net (state_at net m) o) s ∙ kept-by net good F x n o p own stays;
         released = λ o p own left. ap (λ m. owner_of net (state_at net m) o) s ∙ released-by net good F x n o p own left;
         moved = λ p i v. (
-          (λ other. moved-sent net good F x n p i v (λ e. other (ap (λ m. place_of net (state_at net m) p i) s ∙ e))),
-          (λ sent e. sent-moved net good F x n p i sent.0 v sent.1 (ap (λ m. place_of net (state_at net m) p i) (sym s) ∙ e)),
+          (λ other. moved-sent net good F x n p i v (λ e. other (ap (λ m. place_of_flit net (state_at net m) p i) s ∙ e))),
+          (λ sent e. sent-moved net good F x n p i sent.0 v sent.1 (ap (λ m. place_of_flit net (state_at net m) p i) (sym s) ∙ e)),
         );
-        goes = λ p i o v sent. ap (λ m. place_of net (state_at net m) p i) s ∙ sent-goes net good F x n p i o v sent;
+        goes = λ p i o v sent. ap (λ m. place_of_flit net (state_at net m) p i) s ∙ sent-goes net good F x n p i o v sent;
       }

@@ -8,7 +8,7 @@ use Rattle.std.proofs.lemmas.Option.{none-some, same_Some}
 use Rattle.noc_topo.specs.Words.{is_some_of}
 use Rattle.noc_topo.specs.Shape.{nodes, ports}
 use Rattle.noc_topo.proofs.WordLemmas.{length-tabulate, get_or-tabulate}
-use Rattle.noc_alloc.specs.Arbiter.{Turn, first_in_turn, pointers_of, turn_at}
+use Rattle.noc_alloc.specs.Arbiter.{RoundRobin, first_in_turn, pointers_of, arbiter_at}
 use Rattle.noc_alloc.specs.Allocation.{grant_of, pick_of, picked_port, winner_of}
 use Rattle.noc_alloc.proofs.WordLemmas.{is_some_of-true, is_some_of-some}
 use Rattle.noc_route.specs.Channel.{Channel}
@@ -20,7 +20,7 @@ use Rattle.noc_headline.specs.Headline.{GoesOnBy, AsksForChannel, CanSend, Holds
 use Rattle.noc_headline.proofs.ClaimLemmas.{Case, off, all_taken, asks, goes, case-of, claim-waits, claim-goes, ask-some, credit-true, credit-from}
 use Rattle.noc_headline.proofs.TurnLemmas.{turn-first, first-turn}
 
-pointer-of : (turns : List Turn) (o : ℕ) → slice_index (pointers_of turns) o ≡ (turn_at turns o).pointer
+pointer-of : (turns : List RoundRobin) (o : ℕ) → slice_index (pointers_of turns) o ≡ (arbiter_at turns o).pointer
 pointer-of [] o = refl
 pointer-of (t ∷ ts) zero = refl
 pointer-of (t ∷ ts) (suc o) = pointer-of ts o
@@ -122,20 +122,20 @@ module _ (net : Setup) (good : IsGood net) (F : State) (x : IsOrderedFrozen net 
   -- ---- grants
 
   grant-is : (o : ℕ) → o < size net → get_or (round_at net F r).grants o None
-      ≡ first_in_turn (size net) (turn_at (arbiters_at net F r).channels o).pointer (λ i. is_some_of (get_or (asks_of (stands_at net F r)) i None) o)
+      ≡ first_in_turn (size net) (arbiter_at (arbiters_at net F r).channels o).pointer (λ i. is_some_of (get_or (asks_of (stands_at net F r)) i None) o)
   grant-is o u =
       get_or-tabulate (size net) o (grant_of (asks_of (stands_at net F r)) (size net) (pointers_of (arbiters_at net F r).channels)) None u
       ∙ ap (λ p. first_in_turn (size net) p (λ i. is_some_of (get_or (asks_of (stands_at net F r)) i None) o)) (pointer-of (arbiters_at net F r).channels o)
 
   pub granted-wins : (i o : ℕ) → o < size net → get_or (round_at net F r).grants o None ≡ Some i → WinsChannel net F r i o
   granted-wins i o u e =
-      turn-first (size net) (turn_at (arbiters_at net F r).channels o).pointer (λ k. is_some_of (get_or (asks_of (stands_at net F r)) k None) o) (HoldsAt net F r (λ c. AsksForChannel net F r c o))
+      turn-first (size net) (arbiter_at (arbiters_at net F r).channels o).pointer (λ k. is_some_of (get_or (asks_of (stands_at net F r)) k None) o) (HoldsAt net F r (λ c. AsksForChannel net F r c o))
       (λ k v. ask-some_at k v o) (λ k v. some_at-ask k v o) i (sym (grant-is o u) ∙ e)
 
   pub wins-granted : (i o : ℕ) → o < size net → WinsChannel net F r i o → get_or (round_at net F r).grants o None ≡ Some i
   wins-granted i o u w =
       grant-is o u
-      ∙ first-turn (size net) (turn_at (arbiters_at net F r).channels o).pointer (λ k. is_some_of (get_or (asks_of (stands_at net F r)) k None) o) (HoldsAt net F r (λ c. AsksForChannel net F r c o))
+      ∙ first-turn (size net) (arbiter_at (arbiters_at net F r).channels o).pointer (λ k. is_some_of (get_or (asks_of (stands_at net F r)) k None) o) (HoldsAt net F r (λ c. AsksForChannel net F r c o))
       (λ k v. ask-some_at k v o) (λ k v. some_at-ask k v o) i w
 
   -- ---- picks
@@ -144,7 +144,7 @@ module _ (net : Setup) (good : IsGood net) (F : State) (x : IsOrderedFrozen net 
   in_size q v a b = let m : q * vcs + v < vcs * ports net.relation.grid = mul-add-lt q vcs v (ports net.relation.grid) a b in omega arith
 
   pick-is : (q : ℕ) → q < ports net.relation.grid → get_or (round_at net F r).picks q None
-      ≡ first_in_turn vcs (turn_at (arbiters_at net F r).inputs q).pointer (λ v. is_some (get_or (ready_of vcs (stands_at net F r)) (q * vcs + v) None))
+      ≡ first_in_turn vcs (arbiter_at (arbiters_at net F r).inputs q).pointer (λ v. is_some (get_or (ready_of vcs (stands_at net F r)) (q * vcs + v) None))
   pick-is q u =
       get_or-tabulate (ports net.relation.grid) q (pick_of (ready_of vcs (stands_at net F r)) vcs (pointers_of (arbiters_at net F r).inputs)) None u
       ∙ ap (λ p. first_in_turn vcs p (λ v. is_some (get_or (ready_of vcs (stands_at net F r)) (q * vcs + v) None))) (pointer-of (arbiters_at net F r).inputs q)
@@ -165,19 +165,19 @@ module _ (net : Setup) (good : IsGood net) (F : State) (x : IsOrderedFrozen net 
 
   pub picked-is : (q v : ℕ) → q < ports net.relation.grid → get_or (round_at net F r).picks q None ≡ Some v → IsPick net F r q v
   picked-is q v u e =
-      turn-first vcs (turn_at (arbiters_at net F r).inputs q).pointer (λ k. is_some (get_or (ready_of vcs (stands_at net F r)) (q * vcs + k) None)) (Ready q)
+      turn-first vcs (arbiter_at (arbiters_at net F r).inputs q).pointer (λ k. is_some (get_or (ready_of vcs (stands_at net F r)) (q * vcs + k) None)) (Ready q)
       (λ k b. some-ready q k u b) (λ k b. ready-some q k u b) v (sym (pick-is q u) ∙ e)
 
   pub is-picked : (q v : ℕ) → q < ports net.relation.grid → IsPick net F r q v → get_or (round_at net F r).picks q None ≡ Some v
   is-picked q v u p =
       pick-is q u
-      ∙ first-turn vcs (turn_at (arbiters_at net F r).inputs q).pointer (λ k. is_some (get_or (ready_of vcs (stands_at net F r)) (q * vcs + k) None)) (Ready q)
+      ∙ first-turn vcs (arbiter_at (arbiters_at net F r).inputs q).pointer (λ k. is_some (get_or (ready_of vcs (stands_at net F r)) (q * vcs + k) None)) (Ready q)
       (λ k b. some-ready q k u b) (λ k b. ready-some q k u b) v p
 
   -- ---- winners
 
   win-is : (port : ℕ) → port < ports net.relation.grid → get_or (round_at net F r).wins port None
-      ≡ first_in_turn (ports net.relation.grid) (turn_at (arbiters_at net F r).outputs port).pointer (λ q. is_some_of (picked_port (ready_of vcs (stands_at net F r)) vcs (round_at net F r).picks q) port)
+      ≡ first_in_turn (ports net.relation.grid) (arbiter_at (arbiters_at net F r).outputs port).pointer (λ q. is_some_of (picked_port (ready_of vcs (stands_at net F r)) vcs (round_at net F r).picks q) port)
   win-is port u =
       get_or-tabulate (ports net.relation.grid) port (winner_of (ready_of vcs (stands_at net F r)) vcs (ports net.relation.grid) (round_at net F r).picks (pointers_of (arbiters_at net F r).outputs)) None u
       ∙ ap (λ p. first_in_turn (ports net.relation.grid) p (λ q. is_some_of (picked_port (ready_of vcs (stands_at net F r)) vcs (round_at net F r).picks q) port)) (pointer-of (arbiters_at net F r).outputs port)
@@ -201,11 +201,11 @@ module _ (net : Setup) (good : IsGood net) (F : State) (x : IsOrderedFrozen net 
 
   pub won-is : (port q : ℕ) → port < ports net.relation.grid → get_or (round_at net F r).wins port None ≡ Some q → WinsSwitch net F r q port
   won-is port q u e =
-      turn-first (ports net.relation.grid) (turn_at (arbiters_at net F r).outputs port).pointer (λ k. is_some_of (picked_port (ready_of vcs (stands_at net F r)) vcs (round_at net F r).picks k) port) (PickGoesThrough net F r port)
+      turn-first (ports net.relation.grid) (arbiter_at (arbiters_at net F r).outputs port).pointer (λ k. is_some_of (picked_port (ready_of vcs (stands_at net F r)) vcs (round_at net F r).picks k) port) (PickGoesThrough net F r port)
       (λ k b. goes-through port k b) (λ k b. through-goes port k b) q (sym (win-is port u) ∙ e)
 
   pub is-won : (port q : ℕ) → port < ports net.relation.grid → WinsSwitch net F r q port → get_or (round_at net F r).wins port None ≡ Some q
   is-won port q u w =
       win-is port u
-      ∙ first-turn (ports net.relation.grid) (turn_at (arbiters_at net F r).outputs port).pointer (λ k. is_some_of (picked_port (ready_of vcs (stands_at net F r)) vcs (round_at net F r).picks k) port) (PickGoesThrough net F r port)
+      ∙ first-turn (ports net.relation.grid) (arbiter_at (arbiters_at net F r).outputs port).pointer (λ k. is_some_of (picked_port (ready_of vcs (stands_at net F r)) vcs (round_at net F r).picks k) port) (PickGoesThrough net F r port)
       (λ k b. goes-through port k b) (λ k b. through-goes port k b) q w

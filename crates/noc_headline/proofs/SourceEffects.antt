@@ -8,7 +8,7 @@ use Rattle.noc_topo.specs.Words.{Has, below}
 use Rattle.noc_topo.specs.Shape.{nodes}
 use Rattle.noc_route.specs.Channel.{Channel, Link, Inject, Eject, is_link, same_channel}
 use Rattle.noc_model.specs.Good.{IsGoodSetup}
-use Rattle.noc_model.specs.Network.{Setup, State, Injection, Located, Place, Source, On, In, Out, after_credits, after_injection, after_landing, count_in, first_waiting, flits_of, frozen, frozen_at, injection_at, injection_with, injections, is_at_source, is_freed, is_idle, is_injection_of, is_on, is_past, landed_place, owned_by, owner_of, packet_at, place_of, state_at, tail_place}
+use Rattle.noc_model.specs.Network.{Setup, State, Injection, Located, Place, Source, On, In, Out, after_credits, after_injection, after_landing, count_in, first_waiting, flits_of, frozen_state, frozen_at, injection_at, injection_with, injections, is_at_source, is_freed, is_idle, is_injection_of, is_on, is_past, landed_place, owned_by, owner_of, packet_at, place_of_flit, state_at, tail_place}
 use Rattle.noc_model.proofs.BuiltLemmas.{good-built, good-wired}
 use Rattle.noc_model.proofs.BuiltRecord.{IsBuilt}
 use Rattle.noc_model.proofs.BufferLemmas.{find-passes}
@@ -27,7 +27,7 @@ use Rattle.noc_model.proofs.Sound.{IsSoundFrozen, IsSoundState}
 use Rattle.noc_model.proofs.WormRecord.{last_of, source-landed, valid-last}
 use Rattle.noc_model.proofs.HasLemmas.{least-some}
 use Rattle.noc_model.proofs.WormLemmas.{filter-none}
-use Rattle.noc_headline.specs.Effects.{Begins, GoesOnAt, HasPassed, IsFirstOfNode, IsNextFlit, entry_of}
+use Rattle.noc_headline.specs.Effects.{Begins, GoesOnAt, HasPassed, IsFirstOfNode, IsNextFlit, entry_channel}
 use Rattle.noc_headline.proofs.SearchLemmas.{find-absent, find-least_below}
 
 module _ (net : Setup) (made : IsGoodSetup net) (n : ℕ) where
@@ -53,14 +53,14 @@ module _ (net : Setup) (made : IsGoodSetup net) (n : ℕ) where
   sound : IsSoundFrozen net (mid_at net made n)
   sound = (whole-mid_at net made n).sound
 
-  landed : (p i : ℕ) → IsValid net p i → place_of net M p i ≡ landed_place net (place_of net S p i)
+  landed : (p i : ℕ) → IsValid net p i → place_of_flit net M p i ≡ landed_place net (place_of_flit net S p i)
   unfolding after_landing after_credits
   landed p i v = place-stepped net (λ (f : Located). landed_place net f.place) S (after_landing net S) was.keyed refl p i v
 
-  to-source : (p i : ℕ) → IsValid net p i → place_of net M p i ≡ Source → place_of net S p i ≡ Source
-  to-source p i v e = source-landed net (place_of net S p i) (sym (landed p i v) ∙ e)
+  to-source : (p i : ℕ) → IsValid net p i → place_of_flit net M p i ≡ Source → place_of_flit net S p i ≡ Source
+  to-source p i v e = source-landed net (place_of_flit net S p i) (sym (landed p i v) ∙ e)
 
-  from-source : (p i : ℕ) → IsValid net p i → place_of net S p i ≡ Source → place_of net M p i ≡ Source
+  from-source : (p i : ℕ) → IsValid net p i → place_of_flit net S p i ≡ Source → place_of_flit net M p i ≡ Source
   from-source p i v e = landed p i v ∙ ap (landed_place net) e
 
   -- ---- owners, once credits have arrived
@@ -142,7 +142,7 @@ module _ (net : Setup) (made : IsGoodSetup net) (n : ℕ) where
       let v = valid-last net built p f.exists in
       let node = (packet_at net p).source in
       let here = from-source p (last_of net p) v f.waits in
-      let one : Located = record { packet = p; index = last_of net p; place = place_of net M p (last_of net p) } in
+      let one : Located = record { packet = p; index = last_of net p; place = place_of_flit net M p (last_of net p) } in
       let listed : Has one (flits_of net M p) = Has-kept (λ (g : Located). nat_eq p g.packet) one M.at (flit-there net M sound.keyed p (last_of net p) v) (eq-eqb p p refl) in
       let test : ℕ → Bool = λ q. nat_eq (packet_at net q).source node && list_any (λ (g : Located). is_at_source g.place) (flits_of net M q) in
       let passes : test p ≡ true = and_from _ _ (eq-eqb node node refl) (list_any-from (λ (g : Located). is_at_source g.place) (flits_of net M p) one listed (ap is_at_source here)) in
@@ -165,29 +165,29 @@ module _ (net : Setup) (made : IsGoodSetup net) (n : ℕ) where
   abbrev Way : ℕ → ℕ → Bool → Type 0
   Way p v begins = ((begins ≡ true) × Begins net n p v) ⊎ ((begins ≡ false) × GoesOnAt net n p v)
 
-  begun-none : (p : ℕ) → find (is_injection_of net (packet_at net p).source) (owned_by net M p) ≡ None → (w : ℕ) → owner_of net S (entry_of net p w) ≢ Some p
+  begun-none : (p : ℕ) → find (is_injection_of net (packet_at net p).source) (owned_by net M p) ≡ None → (w : ℕ) → owner_of net S (entry_channel net p w) ≢ Some p
   begun-none p e w own =
-      let h = owner-has net M (entry_of net p w) p (owner-mid (packet_at net p).source w ∙ own) in
-      false≢true (sym (find-fails (is_injection_of net (packet_at net p).source) (owned_by net M p) (entry_of net p w) e (has-of (entry_of net p w) p M.own h)) ∙ eq-eqb (packet_at net p).source (packet_at net p).source refl)
+      let h = owner-has net M (entry_channel net p w) p (owner-mid (packet_at net p).source w ∙ own) in
+      false≢true (sym (find-fails (is_injection_of net (packet_at net p).source) (owned_by net M p) (entry_channel net p w) e (has-of (entry_channel net p w) p M.own h)) ∙ eq-eqb (packet_at net p).source (packet_at net p).source refl)
 
   way-of : (node : ℕ) (one : Injection net) → injection_at net M n node ≡ Some one
-      → (node ≡ (packet_at net one.packet).source) × ((v : ℕ) × (one.channel ≡ entry_of net one.packet v) × Way one.packet v one.begins)
+      → (node ≡ (packet_at net one.packet).source) × ((v : ℕ) × (one.channel ≡ entry_channel net one.packet v) × Way one.packet v one.begins)
   way-of node one e =
       let r = and_then-some (λ q. injection_with net M n node q (find (is_injection_of net node) (owned_by net M q))) (first_waiting net M node) one e in
       let turn = waiting-turn node r.0 r.1 in
       at r.0 turn.0 turn.1 (find (is_injection_of net node) (owned_by net M r.0)) refl r.2
     where
       Is : Injection net → Type 0
-      Is x = (node ≡ (packet_at net x.packet).source) × ((v : ℕ) × (x.channel ≡ entry_of net x.packet v) × Way x.packet v x.begins)
+      Is x = (node ≡ (packet_at net x.packet).source) × ((v : ℕ) × (x.channel ≡ entry_channel net x.packet v) × Way x.packet v x.begins)
 
-      idle-at : (q v : ℕ) → node ≡ (packet_at net q).source → is_idle net M (Inject node v) ≡ true → owner_of net S (entry_of net q v) ≡ None
+      idle-at : (q v : ℕ) → node ≡ (packet_at net q).source → is_idle net M (Inject node v) ≡ true → owner_of net S (entry_channel net q v) ≡ None
       idle-at q v same t = ap (λ m. owner_of net S (Inject m v)) (sym same) ∙ sym (owner-mid node v) ∙ is_none-none (owner_of net M (Inject node v)) t
 
-      owned-at : (q v : ℕ) → node ≡ (packet_at net q).source → is_idle net M (Inject node v) ≡ false → owner_of net S (entry_of net q v) ≢ None
+      owned-at : (q v : ℕ) → node ≡ (packet_at net q).source → is_idle net M (Inject node v) ≡ false → owner_of net S (entry_channel net q v) ≢ None
       owned-at q v same t own =
           false≢true (sym t ∙ ap is_none (owner-mid node v ∙ ap (λ m. owner_of net S (Inject m v)) same ∙ own))
 
-      begins-at : (q : ℕ) → node ≡ (packet_at net q).source → IsFirstOfNode net S q → ((w : ℕ) → owner_of net S (entry_of net q w) ≢ Some q) → (packet_at net q).due ≤ n
+      begins-at : (q : ℕ) → node ≡ (packet_at net q).source → IsFirstOfNode net S q → ((w : ℕ) → owner_of net S (entry_channel net q w) ≢ Some q) → (packet_at net q).due ≤ n
           → (o : Option ℕ) → find (λ v. is_idle net M (Inject node v)) (below net.relation.vcs) ≡ o → option_map (λ v. (record { packet = q; channel = Inject node v; begins = true })) o ≡ Some one → Is one
       begins-at q same turn none due None f g = absurd (none-some one g)
       begins-at q same turn none due (Some v) f g =
@@ -211,7 +211,7 @@ module _ (net : Setup) (made : IsGoodSetup net) (n : ℕ) where
           let s : record { packet = q; channel = c; begins = false } ≡ one = same_Some (record { packet = q; channel = c; begins = false }) one b.1 in
           let is = injection_of-is net built M sound.keyed sound.worm n node c (find-passes (is_injection_of net node) (owned_by net M q) c f) in
           let own : owner_of net M c ≡ Some q = owner-is net M c q sound.worm.once (of-has c q M.own (find-has (is_injection_of net node) (owned_by net M q) c f)) in
-          let entry : c ≡ entry_of net q is.0 = is.1 ∙ ap (λ m. Inject m is.0) same in
+          let entry : c ≡ entry_channel net q is.0 = is.1 ∙ ap (λ m. Inject m is.0) same in
           let goes : GoesOnAt net n q is.0 = record {
             turn = turn;
             begun = sym (owner-mid (packet_at net q).source is.0) ∙ ap (owner_of net M) (sym entry) ∙ own;
@@ -241,7 +241,7 @@ module _ (net : Setup) (made : IsGoodSetup net) (n : ℕ) where
           let own : owner_of net M c ≡ Some p = owner-is net M c p sound.worm.once (of-has c p M.own (find-has (is_injection_of net (packet_at net p).source) (owned_by net M p) c e)) in
           absurd (b.unbegun is.0 (sym (owner-mid (packet_at net p).source is.0) ∙ ap (owner_of net M) (sym is.1) ∙ own))
 
-      idle : is_idle net M (entry_of net p v) ≡ true
+      idle : is_idle net M (entry_channel net p v) ≡ true
       idle = ap is_none (owner-mid (packet_at net p).source v ∙ b.idle)
 
       least : (o : Option ℕ) → find (λ w. is_idle net M (Inject (packet_at net p).source w)) (below net.relation.vcs) ≡ o → find (λ w. is_idle net M (Inject (packet_at net p).source w)) (below net.relation.vcs) ≡ Some v
@@ -261,16 +261,16 @@ module _ (net : Setup) (made : IsGoodSetup net) (n : ℕ) where
       ∙ ap (λ (t : Bool). if t then Some (going-on p v) else None)
       (lt-ltb _ _ (subst (λ k. k < net.places) (sym (count-mid node v)) g.room))
     where
-      own : Has (entry_of net p v, p) M.own
-      own = owner-has net M (entry_of net p v) p (owner-mid (packet_at net p).source v ∙ g.begun)
+      own : Has (entry_channel net p v, p) M.own
+      own = owner-has net M (entry_channel net p v) p (owner-mid (packet_at net p).source v ∙ g.begun)
 
-      found : (o : Option Channel) → find (is_injection_of net (packet_at net p).source) (owned_by net M p) ≡ o → find (is_injection_of net (packet_at net p).source) (owned_by net M p) ≡ Some (entry_of net p v)
+      found : (o : Option Channel) → find (is_injection_of net (packet_at net p).source) (owned_by net M p) ≡ o → find (is_injection_of net (packet_at net p).source) (owned_by net M p) ≡ Some (entry_channel net p v)
       found None e =
-          absurd (false≢true (sym (find-fails (is_injection_of net (packet_at net p).source) (owned_by net M p) (entry_of net p v) e (has-of (entry_of net p v) p M.own own)) ∙ eq-eqb (packet_at net p).source (packet_at net p).source refl))
+          absurd (false≢true (sym (find-fails (is_injection_of net (packet_at net p).source) (owned_by net M p) (entry_channel net p v) e (has-of (entry_channel net p v) p M.own own)) ∙ eq-eqb (packet_at net p).source (packet_at net p).source refl))
       found (Some c) e =
           let is = injection_of-is net built M sound.keyed sound.worm n (packet_at net p).source c (find-passes (is_injection_of net (packet_at net p).source) (owned_by net M p) c e) in
-          let mine : Has (entry_of net p is.0, p) M.own = subst (λ (d : Channel). Has (d, p) M.own) is.1 (of-has c p M.own (find-has (is_injection_of net (packet_at net p).source) (owned_by net M p) c e)) in
-          let one = two-injects net built M.own (place_of net M) sound.worm p (packet_at net p).source is.0 (packet_at net p).source v mine own in
+          let mine : Has (entry_channel net p is.0, p) M.own = subst (λ (d : Channel). Has (d, p) M.own) is.1 (of-has c p M.own (find-has (is_injection_of net (packet_at net p).source) (owned_by net M p) c e)) in
+          let one = two-injects net built M.own (place_of_flit net M) sound.worm p (packet_at net p).source is.0 (packet_at net p).source v mine own in
           e ∙ ap Some (is.1 ∙ one)
 
   listed : (p : ℕ) (one : Injection net) → p < length net.packets → injection_at net M n (packet_at net p).source ≡ Some one → Has one (injections net M n)
@@ -281,16 +281,16 @@ module _ (net : Setup) (made : IsGoodSetup net) (n : ℕ) where
 
   abbrev Injected : ℕ → Type 0
   Injected p =
-      IsInjected net built M.own (place_of net M) sound.worm (injections net M n) (entries-are net built M sound.keyed sound.worm n) (entries-apart net built M sound.keyed sound.worm n)
-      (place_of net (after_injection net n M)) p
+      IsInjected net built M.own (place_of_flit net M) sound.worm (injections net M n) (entries-are net built M sound.keyed sound.worm n) (entries-apart net built M sound.keyed sound.worm n)
+      (place_of_flit net (after_injection net n M)) p
 
   injects-of : (p : ℕ) → p < length net.packets → Injected p
   injects-of p low = entries-move net built M sound.keyed sound.worm n p low
 
-  way-in : (one : Injection net) → Has one (injections net M n) → (v : ℕ) × (one.channel ≡ entry_of net one.packet v) × Way one.packet v one.begins
+  way-in : (one : Injection net) → Has one (injections net M n) → (v : ℕ) × (one.channel ≡ entry_channel net one.packet v) × Way one.packet v one.begins
   way-in one h = let r = Has-filter_map (injection_at net M n) one (below (nodes net.relation.grid)) h in (way-of r.0 one r.2).1
 
-  same-entry : (p v w : ℕ) → In (entry_of net p w) ≡ In (entry_of net p v) → w ≡ v
+  same-entry : (p v w : ℕ) → In (entry_channel net p w) ≡ In (entry_channel net p v) → w ≡ v
   same-entry p v w e = cc e
 
   abbrev Into : ℕ → ℕ → Type 0
@@ -300,12 +300,12 @@ module _ (net : Setup) (made : IsGoodSetup net) (n : ℕ) where
   into-of p v begins (inl b) = inl b.1
   into-of p v begins (inr g) = inr g.1
 
-  pub injected-by : (p i v : ℕ) → IsValid net p i → place_of net S p i ≡ Source → place_of net F p i ≡ In (entry_of net p v) → Into p v × IsNextFlit net S p i
-  unfolding frozen
+  pub injected-by : (p i v : ℕ) → IsValid net p i → place_of_flit net S p i ≡ Source → place_of_flit net F p i ≡ In (entry_channel net p v) → Into p v × IsNextFlit net S p i
+  unfolding frozen_state
   injected-by p i v valid source now = by (injects-of p valid.0)
     where
-      stays : place_of net (after_injection net n M) p i ≡ place_of net M p i → Into p v × IsNextFlit net S p i
-      stays e = let bad : Source ≡ In (entry_of net p v) = sym (from-source p i valid source) ∙ sym e ∙ now in absurd (cc bad)
+      stays : place_of_flit net (after_injection net n M) p i ≡ place_of_flit net M p i → Into p v × IsNextFlit net S p i
+      stays e = let bad : Source ≡ In (entry_channel net p v) = sym (from-source p i valid source) ∙ sym e ∙ now in absurd (cc bad)
 
       by : Injected p → Into p v × IsNextFlit net S p i
       by (inl none) = stays (none.0 i valid)
@@ -315,33 +315,33 @@ module _ (net : Setup) (made : IsGoodSetup net) (n : ℕ) where
           at (inr other) = stays (e.others i valid other)
           at (inl is) =
               let way = way-in one has in
-              let there : In (entry_of net p way.0) ≡ In (entry_of net p v) = sym (ap (place_of net (after_injection net n M) p) is ∙ e.now ∙ ap In (way.1 ∙ ap (λ q. entry_of net q way.0) same)) ∙ now in
+              let there : In (entry_channel net p way.0) ≡ In (entry_channel net p v) = sym (ap (place_of_flit net (after_injection net n M) p) is ∙ e.now ∙ ap In (way.1 ∙ ap (λ q. entry_channel net q way.0) same)) ∙ now in
               let v_is = same-entry p v way.0 there in (
                 subst (λ w. Into p w) v_is (subst (λ q. Into q way.0) same (into-of one.packet way.0 one.begins way.2)),
                 (source, λ j vj sj. first j vj sj (cases_lt j i)),
               )
             where
-              first : (j : ℕ) → IsValid net p j → place_of net S p j ≡ Source → (j < i) ⊎ (i ≤ j) → i ≤ j
+              first : (j : ℕ) → IsValid net p j → place_of_flit net S p j ≡ Source → (j < i) ⊎ (i ≤ j) → i ≤ j
               first j vj sj (inr l) = l
               first j vj sj (inl l) = absurd (e.first j (omega arith) (from-source p j vj sj))
 
-  pub by-injected : (p i v : ℕ) → IsValid net p i → Into p v → IsNextFlit net S p i → (place_of net S p i ≡ Source) × (place_of net F p i ≡ In (entry_of net p v))
-  unfolding frozen
+  pub by-injected : (p i v : ℕ) → IsValid net p i → Into p v → IsNextFlit net S p i → (place_of_flit net S p i ≡ Source) × (place_of_flit net F p i ≡ In (entry_channel net p v))
+  unfolding frozen_state
   by-injected p i v valid into next = (next.0, goes (injects-of p valid.0) (entry into))
     where
-      entry : Into p v → (one : Injection net) × Has one (injections net M n) × (one.packet ≡ p) × (one.channel ≡ entry_of net p v)
+      entry : Into p v → (one : Injection net) × Has one (injections net M n) × (one.packet ≡ p) × (one.channel ≡ entry_channel net p v)
       entry (inl b) = (beginning-on p v, listed p _ valid.0 (begin-injects p v b), refl, refl)
       entry (inr g) = (going-on p v, listed p _ valid.0 (go-injects p v g), refl, refl)
 
-      goes : Injected p → ((one : Injection net) × Has one (injections net M n) × (one.packet ≡ p) × (one.channel ≡ entry_of net p v)) → place_of net (after_injection net n M) p i ≡ In (entry_of net p v)
+      goes : Injected p → ((one : Injection net) × Has one (injections net M n) × (one.packet ≡ p) × (one.channel ≡ entry_channel net p v)) → place_of_flit net (after_injection net n M) p i ≡ In (entry_channel net p v)
       goes (inl none) (one, has, same, c) = absurd (none.1 one has same)
       goes (inr (other, has, same, e)) (one, here, is, c) =
           let both : other ≡ one = apart-same net other one (injections net M n) (entries-apart net built M sound.keyed sound.worm n) has here (same ∙ sym is) in
           let low = next.1 e.flit e.valid (to-source p e.flit e.valid e.was) in
           let flit : e.flit ≡ i = at e.flit e.first low in
-          ap (place_of net (after_injection net n M) p) (sym flit) ∙ e.now ∙ ap (λ (x : Injection net). In x.channel) both ∙ ap In c
+          ap (place_of_flit net (after_injection net n M) p) (sym flit) ∙ e.now ∙ ap (λ (x : Injection net). In x.channel) both ∙ ap In c
         where
-          at : (j : ℕ) → ((k : ℕ) → k < j → place_of net M p k ≢ Source) → i ≤ j → j ≡ i
+          at : (j : ℕ) → ((k : ℕ) → k < j → place_of_flit net M p k ≢ Source) → i ≤ j → j ≡ i
           at j first low = by (cases_lt i j)
             where
               by : (i < j) ⊎ (j ≤ i) → j ≡ i
@@ -354,13 +354,13 @@ module _ (net : Setup) (made : IsGoodSetup net) (n : ℕ) where
   Kept o p = (owner_of net S o ≡ Some p) × (HasPassed net S p o → ⊥)
 
   abbrev Came : Channel → ℕ → Type 0
-  Came o p = (v : ℕ) × (o ≡ entry_of net p v) × Begins net n p v
+  Came o p = (v : ℕ) × (o ≡ entry_channel net p v) × Begins net n p v
 
   abbrev news : List (Channel × ℕ)
   news = map (λ (one : Injection net). (one.channel, one.packet)) (filter (λ (one : Injection net). one.begins) (injections net M n))
 
   frozen-own : F.own ≡ M.own ++ news
-  unfolding frozen after_injection
+  unfolding frozen_state after_injection
   frozen-own = refl
 
   pub owned-by : (o : Channel) (p : ℕ) → owner_of net F o ≡ Some p → Kept o p ⊎ Came o p
@@ -372,13 +372,13 @@ module _ (net : Setup) (made : IsGoodSetup net) (n : ℕ) where
           let low = was.worm.known o p had.0 in
           inl (owner-is net S o p was.worm.once had.0, λ passed. false≢true (sym had.1 ∙ freed-is o p low ∙ and_from _ _ passed.0 passed.1))
       by (inr h) =
-          let new = new-entry net built M.own (place_of net M) sound.worm (injections net M n) (entries-are net built M sound.keyed sound.worm n) (entries-apart net built M sound.keyed sound.worm n) (place_of net (after_injection net n M)) o p h in
+          let new = new-entry net built M.own (place_of_flit net M) sound.worm (injections net M n) (entries-are net built M sound.keyed sound.worm n) (entries-apart net built M sound.keyed sound.worm n) (place_of_flit net (after_injection net n M)) o p h in
           let way = way-in new.0 new.1 in
           inr (begun new.0 new.2 new.3 new.4 way.0 way.1 way.2)
         where
-          begun : (one : Injection net) → one.begins ≡ true → one.channel ≡ o → one.packet ≡ p → (v : ℕ) → one.channel ≡ entry_of net one.packet v → Way one.packet v one.begins → Came o p
+          begun : (one : Injection net) → one.begins ≡ true → one.channel ≡ o → one.packet ≡ p → (v : ℕ) → one.channel ≡ entry_channel net one.packet v → Way one.packet v one.begins → Came o p
           begun one b c q v is (inr g) = absurd (false≢true (sym g.0 ∙ b))
-          begun one b c q v is (inl w) = (v, sym c ∙ is ∙ ap (λ x. entry_of net x v) q, subst (λ x. Begins net n x v) q w.1)
+          begun one b c q v is (inl w) = (v, sym c ∙ is ∙ ap (λ x. entry_channel net x v) q, subst (λ x. Begins net n x v) q w.1)
 
   pub by-owned : (o : Channel) (p : ℕ) → Kept o p ⊎ Came o p → owner_of net F o ≡ Some p
   by-owned o p h = owner-is net F o p (whole-frozen_at net made n).sound.worm.once (subst (λ (own : List (Channel × ℕ)). Has (o, p) own) (sym frozen-own) (at h))
@@ -397,5 +397,5 @@ module _ (net : Setup) (made : IsGoodSetup net) (n : ℕ) where
       at (inr (v, is, b)) =
           let one : Injection net = beginning-on p v in
           let has = listed p one b.turn.exists (begin-injects p v b) in
-          let mapped : Has (entry_of net p v, p) news = Has-mapped (λ (x : Injection net). (x.channel, x.packet)) one (filter (λ (x : Injection net). x.begins) (injections net M n)) (Has-kept (λ (x : Injection net). x.begins) one (injections net M n) has refl) in
+          let mapped : Has (entry_channel net p v, p) news = Has-mapped (λ (x : Injection net). (x.channel, x.packet)) one (filter (λ (x : Injection net). x.begins) (injections net M n)) (Has-kept (λ (x : Injection net). x.begins) one (injections net M n) has refl) in
           Has-right (o, p) M.own news (subst (λ (c : Channel). Has (c, p) news) (sym is) mapped)

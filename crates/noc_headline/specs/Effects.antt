@@ -3,10 +3,10 @@
 use Rattle.std.specs.Prelude.{◌≡◌, ◌≢◌, ℕ, ◌+◌, ◌-◌, ◌/◌, ◌%◌, ◌<◌, ◌≤◌, true, length, Some, None, ◌↔◌, ◌⊎◌, if◌then◌else◌, IsTrue}
 use Rattle.noc_topo.specs.Words.{Has}
 use Rattle.noc_topo.specs.Shape.{nodes, ports}
-use Rattle.noc_alloc.specs.Arbiter.{turn_at}
+use Rattle.noc_alloc.specs.Arbiter.{arbiter_at}
 use Rattle.noc_router.specs.declared.verdict.Verdict.TheVariants.{Routed, Moved}
 use Rattle.noc_route.specs.Channel.{Channel, Link, Inject, Eject, is_link}
-use Rattle.noc_model.specs.Network.{Setup, State, Source, On, In, Out, arbiters_at, count_in, is_past, landed_place, packet_at, leaving, owner_of, place_of, size, tail_place, state_at, frozen_at}
+use Rattle.noc_model.specs.Network.{Setup, State, Source, On, In, Out, arbiters_at, count_in, is_past, landed_place, packet_at, leaving, owner_of, place_of_flit, size, tail_place, state_at, frozen_at}
 use Rattle.noc_model.specs.Good.{IsValid}
 use Rattle.noc_headline.specs.Headline.{IsInputOf, Owns, IsRouted, AsksForChannel, WinsChannel, CanSend, IsPick, WinsSwitch, Says}
 
@@ -18,8 +18,8 @@ abbrev pub HasPassed : Setup → State → ℕ → Channel → Type 0
 HasPassed net S p o = (is_link o ≡ true) × IsTrue (is_past net o (packet_at net p).destination (tail_place net S p))
 
 -- injection channel v of the node of packet p
-abbrev pub entry_of : Setup → ℕ → ℕ → Channel
-entry_of net p v = Inject (packet_at net p).source v
+abbrev pub entry_channel : Setup → ℕ → ℕ → Channel
+entry_channel net p v = Inject (packet_at net p).source v
 
 -- packet p has its tail at its source, and no other packet of its node that has comes before it, by due time and then by number
 pub record IsFirstOfNode (net : Setup) (S : State) (p : ℕ) : Type 0 where
@@ -33,20 +33,20 @@ pub record IsFirstOfNode (net : Setup) (S : State) (p : ℕ) : Type 0 where
 pub record Begins (net : Setup) (n p v : ℕ) : Type 0 where
   pub turn : IsFirstOfNode net (state_at net n) p
   pub due : (packet_at net p).due ≤ n
-  pub unbegun : (w : ℕ) → owner_of net (state_at net n) (entry_of net p w) ≢ Some p
+  pub unbegun : (w : ℕ) → owner_of net (state_at net n) (entry_channel net p w) ≢ Some p
   pub exists : v < net.relation.vcs
-  pub idle : owner_of net (state_at net n) (entry_of net p v) ≡ None
-  pub least : (w : ℕ) → w < v → owner_of net (state_at net n) (entry_of net p w) ≢ None
+  pub idle : owner_of net (state_at net n) (entry_channel net p v) ≡ None
+  pub least : (w : ℕ) → w < v → owner_of net (state_at net n) (entry_channel net p w) ≢ None
 
 -- packet p goes on from its source on injection channel v, where it has begun and the buffer has room
 pub record GoesOnAt (net : Setup) (n p v : ℕ) : Type 0 where
   pub turn : IsFirstOfNode net (state_at net n) p
-  pub begun : owner_of net (state_at net n) (entry_of net p v) ≡ Some p
-  pub room : count_in net (state_at net n) (entry_of net p v) < net.places
+  pub begun : owner_of net (state_at net n) (entry_channel net p v) ≡ Some p
+  pub room : count_in net (state_at net n) (entry_channel net p v) < net.places
 
 -- flit i of packet p is the first of its packet that is at the source
 abbrev pub IsNextFlit : Setup → State → ℕ → ℕ → Type 0
-IsNextFlit net S p i = (place_of net S p i ≡ Source) × ((j : ℕ) → IsValid net p j → place_of net S p j ≡ Source → i ≤ j)
+IsNextFlit net S p i = (place_of_flit net S p i ≡ Source) × ((j : ℕ) → IsValid net p j → place_of_flit net S p j ≡ Source → i ≤ j)
 
 -- ---- what the verdicts do
 
@@ -75,8 +75,8 @@ pub record IsSentOn (net : Setup) (F : State) (p i : ℕ) (o : Channel) : Type 0
   pub channel : Channel
   pub at : IsInputOf net router input channel
   pub is : leaving net router output ≡ o
-  pub there : place_of net F p i ≡ In channel
-  pub first : (j : ℕ) → IsValid net p j → place_of net F p j ≡ In channel → i ≤ j
+  pub there : place_of_flit net F p i ≡ In channel
+  pub first : (j : ℕ) → IsValid net p j → place_of_flit net F p j ≡ In channel → i ≤ j
   pub sends : CanSend net F router channel output
   pub picked : IsPick net F router (input / net.relation.vcs) (input % net.relation.vcs)
   pub wins : WinsSwitch net F router (input / net.relation.vcs) (output / net.relation.vcs)
@@ -97,16 +97,16 @@ pub record IsRightStep (net : Setup) (n : ℕ) : Type 0 where
   -- before them each flit on a wire lands in the buffer of its channel, and else only a flit at its source may move: into the buffer
   -- of an injection channel of its node
   pub starts : (p i : ℕ) → IsValid net p i
-      → (place_of net (frozen_at net n) p i ≡ landed_place net (place_of net (state_at net n) p i))
-      ⊎ ((place_of net (state_at net n) p i ≡ Source) × (v : ℕ) × (place_of net (frozen_at net n) p i ≡ In (Inject (packet_at net p).source v)))
+      → (place_of_flit net (frozen_at net n) p i ≡ landed_place net (place_of_flit net (state_at net n) p i))
+      ⊎ ((place_of_flit net (state_at net n) p i ≡ Source) × (v : ℕ) × (place_of_flit net (frozen_at net n) p i ≡ In (Inject (packet_at net p).source v)))
   -- it does exactly where its packet begins, or goes on, on that channel, and it is the first flit there
   pub injects : (p i v : ℕ) → IsValid net p i
-      → ((place_of net (state_at net n) p i ≡ Source) × (place_of net (frozen_at net n) p i ≡ In (entry_of net p v)))
+      → ((place_of_flit net (state_at net n) p i ≡ Source) × (place_of_flit net (frozen_at net n) p i ≡ In (entry_channel net p v)))
       ↔ ((Begins net n p v ⊎ GoesOnAt net n p v) × IsNextFlit net (state_at net n) p i)
   -- a channel keeps its owner, but for a link channel that the tail of its owner has passed, which is idle; and a packet that begins
   -- comes to own its injection channel
   pub owners : (o : Channel) (p : ℕ) → (owner_of net (frozen_at net n) o ≡ Some p)
-      ↔ (((owner_of net (state_at net n) o ≡ Some p) × ¬ HasPassed net (state_at net n) p o) ⊎ ((v : ℕ) × (o ≡ entry_of net p v) × Begins net n p v))
+      ↔ (((owner_of net (state_at net n) o ≡ Some p) × ¬ HasPassed net (state_at net n) p o) ⊎ ((v : ℕ) × (o ≡ entry_channel net p v) × Begins net n p v))
   -- all credits arrive, and the routed channels and the pointers are the same
   pub no_credit : (c : Channel) → ¬ Has c (frozen_at net n).back
   pub routed_same : (frozen_at net n).routed ≡ (state_at net n).routed
@@ -123,20 +123,20 @@ pub record IsRightStep (net : Setup) (n : ℕ) : Type 0 where
   pub released : (o : Channel) (p : ℕ) → owner_of net (frozen_at net n) o ≡ Some p → IsLeftBy net (frozen_at net n) p o → owner_of net (state_at net (n + 1)) o ≡ None
   -- a flit leaves its place exactly where it is sent on some channel
   pub moved : (p i : ℕ) → IsValid net p i
-      → (place_of net (state_at net (n + 1)) p i ≢ place_of net (frozen_at net n) p i) ↔ ((o : Channel) × IsSentOn net (frozen_at net n) p i o)
+      → (place_of_flit net (state_at net (n + 1)) p i ≢ place_of_flit net (frozen_at net n) p i) ↔ ((o : Channel) × IsSentOn net (frozen_at net n) p i o)
   -- it goes onto the wire of a link channel, and by an ejection channel it is out
   pub goes : (p i : ℕ) (o : Channel) → IsValid net p i → IsSentOn net (frozen_at net n) p i o
-      → place_of net (state_at net (n + 1)) p i ≡ (if is_link o then On o else Out n)
+      → place_of_flit net (state_at net (n + 1)) p i ≡ (if is_link o then On o else Out n)
   -- for a flit that leaves the buffer of a link channel a credit goes back, and for no other
   pub credit : (r i : ℕ) (c : Channel) → IsInputOf net r i c → Has c (state_at net (n + 1)).back ↔ ((is_link c ≡ true) × Says net (frozen_at net n) r i c Moved)
   -- the arbiter of an output channel turns past the input channel that it chose, that of an output port past the input port, and that of
   -- an input port past its pick where the port won an output port
   pub channel_turns : (r o : ℕ) → r < nodes net.relation.grid → o < size net
       → IsTurned (size net) (λ i. WinsChannel net (frozen_at net n) r i o)
-      (turn_at (arbiters_at net (frozen_at net n) r).channels o).pointer (turn_at (arbiters_at net (state_at net (n + 1)) r).channels o).pointer
+      (arbiter_at (arbiters_at net (frozen_at net n) r).channels o).pointer (arbiter_at (arbiters_at net (state_at net (n + 1)) r).channels o).pointer
   pub output_turns : (r port : ℕ) → r < nodes net.relation.grid → port < ports net.relation.grid
       → IsTurned (ports net.relation.grid) (λ q. WinsSwitch net (frozen_at net n) r q port)
-      (turn_at (arbiters_at net (frozen_at net n) r).outputs port).pointer (turn_at (arbiters_at net (state_at net (n + 1)) r).outputs port).pointer
+      (arbiter_at (arbiters_at net (frozen_at net n) r).outputs port).pointer (arbiter_at (arbiters_at net (state_at net (n + 1)) r).outputs port).pointer
   pub input_turns : (r port : ℕ) → r < nodes net.relation.grid → port < ports net.relation.grid
       → IsTurned net.relation.vcs (λ v. IsPick net (frozen_at net n) r port v × ((out : ℕ) × (out < ports net.relation.grid) × WinsSwitch net (frozen_at net n) r port out))
-      (turn_at (arbiters_at net (frozen_at net n) r).inputs port).pointer (turn_at (arbiters_at net (state_at net (n + 1)) r).inputs port).pointer
+      (arbiter_at (arbiters_at net (frozen_at net n) r).inputs port).pointer (arbiter_at (arbiters_at net (state_at net (n + 1)) r).inputs port).pointer

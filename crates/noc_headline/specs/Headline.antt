@@ -3,14 +3,14 @@
 use Rattle.std.specs.Prelude.{◌≡◌, ℕ, ◌+◌, ◌*◌, ◌/◌, ◌%◌, ◌<◌, ◌≤◌, true, false, IsTrue, Some, None, ◌↔◌, ◌⊎◌}
 use Rattle.noc_topo.specs.Words.{Has}
 use Rattle.noc_topo.specs.Shape.{nodes, ports}
-use Rattle.noc_alloc.specs.Arbiter.{distance_in_turn, turn_at}
+use Rattle.noc_alloc.specs.Arbiter.{distance_in_turn, arbiter_at}
 use Rattle.noc_route.specs.Channel.{Channel, is_link}
 use Rattle.noc_route.specs.Routes.{permits}
 use Rattle.noc_router.specs.declared.verdict.Verdict.{Verdict}
 use Rattle.noc_router.specs.declared.verdict.Verdict.TheVariants.{Empty, Routed, Granted, Moved, NoFlit, NoIdleChannel, LostChannel, NoCredit, LostInput, LostSwitch}
-use Rattle.noc_model.specs.Network.{Setup, State, Out, size, packet_at, arriving, leaving, owner_of, has_channel, count_in, credit_of, arbiters_at, all_inputs, verdict_in, place_of, state_at, frozen_at}
+use Rattle.noc_model.specs.Network.{Setup, State, Out, size, packet_at, arriving, leaving, owner_of, has_channel, count_in, credit_of, arbiters_at, all_inputs, verdict_in, place_of_flit, state_at, frozen_at}
 use Rattle.noc_model.specs.Worm.{IsWormOrder}
-use Rattle.noc_model.specs.Good.{IsValid, held}
+use Rattle.noc_model.specs.Good.{IsValid, places_taken}
 
 -- x comes first in turn: of the requesters below the size that ask, none stands less far behind the pointer
 pub record IsFirstInTurn (size pointer : ℕ) (Asks : ℕ → Type 0) (x : ℕ) : Type 0 where
@@ -86,12 +86,12 @@ module _ (net : Setup) (F : State) (r : ℕ) where
 
   -- input channel i is first in turn among those that ask for output channel o
   abbrev pub WinsChannel : ℕ → ℕ → Type 0
-  WinsChannel i o = IsFirstInTurn (size net) (turn_at (arbiters_at net F r).channels o).pointer (HoldsAt (λ c. AsksForChannel c o)) i
+  WinsChannel i o = IsFirstInTurn (size net) (arbiter_at (arbiters_at net F r).channels o).pointer (HoldsAt (λ c. AsksForChannel c o)) i
 
   -- virtual channel v is first in turn among those of an input port that can send
   abbrev pub IsPick : ℕ → ℕ → Type 0
   IsPick port v =
-      IsFirstInTurn net.relation.vcs (turn_at (arbiters_at net F r).inputs port).pointer
+      IsFirstInTurn net.relation.vcs (arbiter_at (arbiters_at net F r).inputs port).pointer
       (λ vc. HoldsAt (λ c. (o : ℕ) × CanSend c o) (port * net.relation.vcs + vc)) v
 
   -- the pick of an input port goes through an output port
@@ -101,7 +101,7 @@ module _ (net : Setup) (F : State) (r : ℕ) where
 
   -- an input port is first in turn among those whose pick goes through an output port
   abbrev pub WinsSwitch : ℕ → ℕ → Type 0
-  WinsSwitch port out = IsFirstInTurn (ports net.relation.grid) (turn_at (arbiters_at net F r).outputs out).pointer (PickGoesThrough out) port
+  WinsSwitch port out = IsFirstInTurn (ports net.relation.grid) (arbiter_at (arbiters_at net F r).outputs out).pointer (PickGoesThrough out) port
 
   -- ---- what each verdict says of channel c, which arrives as input channel i
   abbrev pub Says : ℕ → Channel → Verdict → Type 0
@@ -133,7 +133,7 @@ pub record IsRightCycle (net : Setup) (n : ℕ) : Type 0 where
   pub start : IsWormOrder net (state_at net n)
   pub frozen : IsWormOrder net (frozen_at net n)
   -- the credits of a channel are the places of its buffer that are left, also those that the verdicts look at
-  pub credits : (c : Channel) → credit_of net (state_at net n) c + held net (state_at net n) c ≡ net.places
-  pub frozen_credits : (c : Channel) → credit_of net (frozen_at net n) c + held net (frozen_at net n) c ≡ net.places
+  pub credits : (c : Channel) → credit_of net (state_at net n) c + places_taken net (state_at net n) c ≡ net.places
+  pub frozen_credits : (c : Channel) → credit_of net (frozen_at net n) c + places_taken net (frozen_at net n) c ≡ net.places
   -- the flits of a packet go out in order
-  pub out_in_order : (p i j a b : ℕ) → IsValid net p j → i < j → place_of net (state_at net n) p i ≡ Out a → place_of net (state_at net n) p j ≡ Out b → a < b
+  pub out_in_order : (p i j a b : ℕ) → IsValid net p j → i < j → place_of_flit net (state_at net n) p i ≡ Out a → place_of_flit net (state_at net n) p j ≡ Out b → a < b

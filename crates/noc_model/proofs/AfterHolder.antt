@@ -5,7 +5,7 @@ use Rattle.std.proofs.lemmas.Bool.{false≢true, true≢false, le-ltb}
 use Rattle.noc_topo.specs.Words.{Has}
 use Rattle.noc_route.specs.Channel.{Channel, Link, Inject, Eject, is_link, same_channel, channel_vc}
 use Rattle.noc_model.specs.Lockstep.{has_come, come_count, seen_source}
-use Rattle.noc_model.specs.Network.{Setup, State, Located, Place, Source, On, In, Out, size, leaving, place_of, tail_place, is_on, is_in, is_past, owner_of, leads_from, verdict_in, tail_leaves, is_released, after_verdicts, all_inputs, has_channel, count_in, count_on, next_channel, verdict_at, round_at, claim_with}
+use Rattle.noc_model.specs.Network.{Setup, State, Located, Place, Source, On, In, Out, size, leaving, place_of_flit, tail_place, is_on, is_in, is_past, owner_of, leads_from, verdict_in, tail_leaves, is_released, after_verdicts, all_inputs, has_channel, count_in, count_on, next_channel, verdict_at, round_at, claim_with}
 use Rattle.noc_model.proofs.BufferLemmas.{same_channel-refl, same_channel-true}
 use Rattle.noc_model.proofs.MoveLemmas.{IsFirst, IsMoved, moved-or-not}
 use Rattle.noc_model.proofs.PathLemmas.{IsEject}
@@ -78,12 +78,12 @@ module _ (net : Setup) (good : IsGood net) (F : State) (x : IsOrderedFrozen net 
     pub owned : Has (o, p) T.own
     pub same : seen_source net T r o ≡ seen_source net F r o
 
-  -- .. where its tail does not leave the channel before it
+  -- the source of an output channel stays where its tail does not leave the channel before it
   pub source-kept : (r j p : ℕ) (o : Channel) → leaving net r j ≡ o → Has (o, p) F.own → ((a u : ℕ) → o ≡ Inject a u → ⊥) → (tail_place net F p ≡ In o → ⊥) → is_past net o (goal net p) (tail_place net F p) ≡ false
       → ((c : Channel) → Next net good F x n p c o → Has (c, p) F.own → tail_leaves net F c ≡ false) → KeepsSource r o p
   source-kept r j p o from own none not_in behind stays =
       let low = x.whole.sound.worm.known o p own in
-      let s = has-source net good.built F.own (place_of net F) x.whole.sound.worm o p own none (x.whole.sound.still p (last_of net p) (last p low) o) not_in behind in
+      let s = has-source net good.built F.own (place_of_flit net F) x.whole.sound.worm o p own none (x.whole.sound.still p (last_of net p) (last p low) o) not_in behind in
       let c : Channel = s.0 in
       let leads : leads_from net c (leaving net r j) ≡ true = subst (λ (y : Channel). leads_from net c y ≡ true) (sym from) s.2 in
       let h : IsHeld net F c p = (s.1, not-end net good F x.whole.sound.keyed x.whole.sound.worm c o s.2) in

@@ -12,7 +12,7 @@ use Rattle.noc_vc.specs.declared.input.InputState.TheVariants.{Idle, Waiting}
 use Rattle.noc_router.specs.Verdict.{is_routed, is_granted, is_moved}
 use Rattle.noc_router.specs.declared.verdict.Verdict.TheVariants.{Empty, Routed, Moved}
 use Rattle.noc_model.specs.Lockstep.{seen_input, seen_phase, seen_phase_with, seen_set, is_present, come_count, last_come, has_come}
-use Rattle.noc_model.specs.Network.{Setup, State, Located, Place, place_of, packet_at, owner_of, next_channel, leads_from, has_channel, verdict_in, tail_leaves, is_released, after_verdicts, all_inputs, tail_place, is_past, count_in}
+use Rattle.noc_model.specs.Network.{Setup, State, Located, Place, place_of_flit, packet_at, owner_of, next_channel, leads_from, has_channel, verdict_in, tail_leaves, is_released, after_verdicts, all_inputs, tail_place, is_past, count_in}
 use Rattle.noc_model.specs.Progress.{head_place}
 use Rattle.noc_model.proofs.OwnedLemmas.{owner-has, idle-none}
 use Rattle.noc_model.proofs.PathLemmas.{IsEject, no-inject}

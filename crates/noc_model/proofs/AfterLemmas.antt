@@ -5,7 +5,7 @@ use Rattle.std.specs.List.{filter_map}
 use Rattle.std.proofs.lemmas.Bool.{false≢true, true≢false, lt-ltb, le-ltb, cases_eq, cases_lt, eqb-true, not-true, or_right}
 use Rattle.noc_topo.specs.Words.{Has}
 use Rattle.noc_route.specs.Channel.{Channel, Link, Inject, Eject, same_channel}
-use Rattle.noc_model.specs.Network.{Setup, State, Located, Place, In, place_of, tail_place, is_in, is_past, gone_to, moved_place, verdict_in, is_released, tail_leaves, after_verdicts, all_inputs, granted_pair}
+use Rattle.noc_model.specs.Network.{Setup, State, Located, Place, In, place_of_flit, tail_place, is_in, is_past, gone_to, moved_place, verdict_in, is_released, tail_leaves, after_verdicts, all_inputs, granted_pair}
 use Rattle.noc_model.specs.Lockstep.{has_come, come_count}
 use Rattle.noc_router.specs.declared.verdict.Verdict.TheVariants.{Moved}
 use Rattle.noc_model.proofs.BufferLemmas.{same_channel-refl, same_channel-true}
@@ -34,7 +34,7 @@ module _ (net : Setup) (good : IsGood net) (F : State) (x : IsOrderedFrozen net 
   abbrev keyed : IsKeyed net F.at
   keyed = x.whole.sound.keyed
 
-  abbrev worm : IsWorm net F.own (place_of net F)
+  abbrev worm : IsWorm net F.own (place_of_flit net F)
   worm = x.whole.sound.worm
 
   abbrev pub Moves : ℕ → ℕ → Channel → Channel → Type 0
@@ -57,10 +57,10 @@ module _ (net : Setup) (good : IsGood net) (F : State) (x : IsOrderedFrozen net 
       v : IsValid net f.packet f.index
       v = keyed.valid f h
 
-      here : place_of net F f.packet f.index ≡ f.place
+      here : place_of_flit net F f.packet f.index ≡ f.place
       here = place-of-flit net F keyed f h
 
-      to : place_of net T f.packet f.index ≡ (step f).place
+      to : place_of_flit net T f.packet f.index ≡ (step f).place
       to = place-stepped net (λ (g : Located). moved_place net F n g g.place) F T keyed refl f.packet f.index v
           ∙ ap (λ (y : Place). moved_place net F n (record { packet = f.packet; index = f.index; place = y }) y) here
 
@@ -128,7 +128,7 @@ module _ (net : Setup) (good : IsGood net) (F : State) (x : IsOrderedFrozen net 
 
   -- ---- owners
 
-  abbrev pub wormT : IsWorm net T.own (place_of net T)
+  abbrev pub wormT : IsWorm net T.own (place_of_flit net T)
   wormT = whole.sound.worm
 
   pub data WasOwned (c : Channel) (p : ℕ) : Type 0 where

@@ -7,7 +7,7 @@ use Rattle.noc_route.specs.Channel.{Channel, Link, Inject, Eject, same_channel}
 use Rattle.noc_router.specs.Verdict.{is_routed, is_granted, is_moved}
 use Rattle.noc_router.specs.declared.verdict.Verdict.{Verdict}
 use Rattle.noc_router.specs.declared.verdict.Verdict.TheVariants.{Granted}
-use Rattle.noc_model.specs.Network.{Setup, State, place_of, owner_of, owned_by, next_channel, leads_from, has_channel, verdict_in, tail_leaves, tail_leaves_to, is_released, after_verdicts, all_inputs, granted_pair}
+use Rattle.noc_model.specs.Network.{Setup, State, place_of_flit, owner_of, owned_by, next_channel, leads_from, has_channel, verdict_in, tail_leaves, tail_leaves_to, is_released, after_verdicts, all_inputs, granted_pair}
 use Rattle.noc_model.proofs.BufferLemmas.{same_channel-true}
 use Rattle.noc_model.proofs.GrantLemmas.{IsGrant}
 use Rattle.noc_model.proofs.Members.{list_any-has}
@@ -57,7 +57,7 @@ module _ (net : Setup) (good : IsGood net) (F : State) (x : IsOrderedFrozen net 
           absurd (false≢true (sym e ∙ ap (tail_leaves net F) is_c ∙ parts.0))
 
   not-left : (d : Channel) → verdict_in net F d ≡ Granted → tail_leaves net F d ≡ false
-  not-left d e = ap (λ (v : Verdict). is_moved v && Rattle.noc_model.specs.Network.is_tail net (Rattle.noc_model.specs.Network.first_in net F d)) e
+  not-left d e = ap (λ (v : Verdict). is_moved v && Rattle.noc_model.specs.Network.is_tail_of_packet net (Rattle.noc_model.specs.Network.front_in net F d)) e
 
   -- the channel from which o was granted, as it is after the verdicts
   pub giver-kept : (d o : Channel) (p : ℕ) → IsGrant net F d o p → Has (d, p) (after_verdicts net n F).own × (leads_from net d o ≡ true)

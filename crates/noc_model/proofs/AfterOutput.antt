@@ -7,7 +7,7 @@ use Rattle.noc_topo.specs.Words.{Has}
 use Rattle.noc_route.specs.Channel.{Channel, is_link}
 use Rattle.noc_router.specs.Verdict.{is_moved}
 use Rattle.noc_router.specs.Counts.{one_if}
-use Rattle.noc_model.specs.Network.{Setup, State, Located, Place, Source, On, In, Out, place_of, is_on, is_in, count_on, count_in, credit_of, has_channel, verdict_in, next_channel, after_verdicts, all_inputs, gone_to, moved_place}
+use Rattle.noc_model.specs.Network.{Setup, State, Located, Place, Source, On, In, Out, place_of_flit, is_on, is_in, count_on, count_in, credit_of, has_channel, verdict_in, next_channel, after_verdicts, all_inputs, gone_to, moved_place}
 use Rattle.noc_model.proofs.BufferLemmas.{buffer-moved, buffer-stays, is_moved-true, next-some}
 use Rattle.noc_model.proofs.InjectionRoom.{filter-none}
 use Rattle.noc_model.proofs.Members.{Has-mapped, Has-map}
@@ -69,7 +69,7 @@ module _ (net : Setup) (good : IsGood net) (F : State) (x : IsOrderedFrozen net 
           let y = comes o m.0 m.1 (ap (λ (z : Located). is_on o z.place) m.2 ∙ r.2) in
           absurd (never y.0 m.0.packet m.0.index y.1)
 
-  -- .. and just one flit where one moves to it
+  -- just one flit comes on the wire of a channel to which one moves
   pub on-one : (o : Channel) (f : Located) → Has f F.at → is_on o (step net good F x n f).place ≡ true → count_on net T o ≡ 1
   unfolding after_verdicts
   on-one o f h e = at (count_on net T o) refl

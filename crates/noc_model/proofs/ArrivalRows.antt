@@ -7,14 +7,14 @@ use Rattle.noc_route.specs.Channel.{inputs}
 use Rattle.noc_router.specs.Verdict.{first_in_turn}
 use Rattle.noc_router.specs.declared.verdict.Verdict.{Verdict}
 use Rattle.noc_router.specs.declared.verdict.Verdict.TheVariants.{Empty, Routed, Granted, Moved, NoIdleChannel, LostChannel, NoCredit}
-use Rattle.noc_model.specs.Network.{Setup, State, opening_state, after_landing, after_credits, after_injection, frozen, after_verdicts, network_cycle, state_at, arrival_in, verdict_in_cycle}
+use Rattle.noc_model.specs.Network.{Setup, State, opening_state, after_landing, after_credits, after_injection, frozen_state, after_verdicts, network_cycle, state_at, arrival_in, verdict_in_cycle}
 use Rattle.noc_model.specs.Lockstep.{counts_before}
 use Rattle.noc_model.specs.Progress.{events, last_event_before, is_stuck, remainder, budget}
 use Rattle.noc_model.proofs.NetworkRows.{one_flit, three_flits, one_place, draining, one_source, due_first, contended, deadlocked, dateline, joined_twice}
 
 -- the state at count n; to open it is to open all that it is computed by
 unfoldable pub state_after : Setup → ℕ → State
-unfolding below tabulate map_indexed least_by inputs first_in_turn opening_state after_landing after_credits after_injection frozen after_verdicts network_cycle state_at
+unfolding below tabulate map_indexed least_by inputs first_in_turn opening_state after_landing after_credits after_injection frozen_state after_verdicts network_cycle state_at
 state_after net n = state_at net n
 
 -- the cycle in which each packet's tail was out, at count n

@@ -6,7 +6,7 @@ use Rattle.std.proofs.lemmas.Bool.{false≢true, and_from, and_parts, and_right,
 use Rattle.noc_topo.specs.Words.{is_some_of}
 use Rattle.noc_route.specs.Channel.{Channel, Link, Inject, Eject, same_channel, arrival_of, channel_vc}
 use Rattle.noc_router.specs.Verdict.{Claim, Unrouted, Waits, Holds, Round, verdict_of}
-use Rattle.noc_model.specs.Network.{Setup, State, Located, Place, Source, On, In, Out, buffer_of, first_in, is_in, is_the_flit, moved_place, after_verdicts, verdict_in, gone_to, next_channel, claim_of, owned_by, owner_of, has_channel, ask, round_at, count_in, verdict_at, leads_from}
+use Rattle.noc_model.specs.Network.{Setup, State, Located, Place, Source, On, In, Out, buffer_of, front_in, is_in, is_the_flit, moved_place, after_verdicts, verdict_in, gone_to, next_channel, claim_of, owned_by, owner_of, has_channel, ask, round_at, count_in, verdict_at, leads_from}
 use Rattle.noc_router.specs.Verdict.{is_moved}
 use Rattle.noc_router.specs.declared.verdict.Verdict.TheVariants.{Empty, Granted, Moved, LostChannel}
 pub use Rattle.noc_router.proofs.SettleLemmas.{is_moved-true}
@@ -153,7 +153,7 @@ module _ (net : Setup) (F : State) (n : ℕ) where
   misses-at c f Source h = refl
   misses-at c f (On d) h = refl
   misses-at c f (Out m) h = refl
-  misses-at c f (In d) h = at (is_moved (verdict_in net F d) && is_the_flit net f (first_in net F d)) (next_channel net F d)
+  misses-at c f (In d) h = at (is_moved (verdict_in net F d) && is_the_flit net f (front_in net F d)) (next_channel net F d)
     where
       at : (b : Bool) (next : Option Channel) → is_in c (cond b (gone_to net n d next) (In d)) ≡ false
       at false next = h
@@ -162,28 +162,28 @@ module _ (net : Setup) (F : State) (n : ℕ) where
       at true (Some (Inject r v)) = h
       at true (Some (Eject r v)) = refl
 
-  leaves-at : (c : Channel) (f : Located) (place : Place) → verdict_in net F c ≡ Moved → is_in c place ≡ true → first_in net F c ≡ Some f
+  leaves-at : (c : Channel) (f : Located) (place : Place) → verdict_in net F c ≡ Moved → is_in c place ≡ true → front_in net F c ≡ Some f
       → is_in c (moved_place net F n f place) ≡ false
   leaves-at c f Source m h first = absurd (false≢true h)
   leaves-at c f (On d) m h first = absurd (false≢true h)
   leaves-at c f (Out k) m h first = absurd (false≢true h)
   leaves-at c f (In d) m h first =
       let same : c ≡ d = same_channel-true c d h in
-      let moves : (is_moved (verdict_in net F c) && is_the_flit net f (first_in net F c)) ≡ true = and_from _ _ (ap (is_moved) m) (ap (is_the_flit net f) first ∙ same_flit-refl f) in
+      let moves : (is_moved (verdict_in net F c) && is_the_flit net f (front_in net F c)) ≡ true = and_from _ _ (ap (is_moved) m) (ap (is_the_flit net f) first ∙ same_flit-refl f) in
       subst (λ (x : Channel). is_in c (moved_place net F n f (In x)) ≡ false) same
       (ap (λ b. is_in c (cond b (gone_to net n c (next_channel net F c)) (In c))) moves ∙ gone-leaves c m)
     where
       same_flit-refl : (g : Located) → same_flit g g ≡ true
       same_flit-refl g = and_from _ _ (eq-eqb g.packet g.packet refl) (eq-eqb g.index g.index refl)
 
-  stays-at : (c : Channel) (f : Located) (place : Place) (g : Located) → is_in c place ≡ true → first_in net F c ≡ Some g → same_flit f g ≡ false
+  stays-at : (c : Channel) (f : Located) (place : Place) (g : Located) → is_in c place ≡ true → front_in net F c ≡ Some g → same_flit f g ≡ false
       → moved_place net F n f place ≡ place
   stays-at c f Source g h first other = refl
   stays-at c f (On d) g h first other = refl
   stays-at c f (Out k) g h first other = refl
   stays-at c f (In d) g h first other =
       let same : c ≡ d = same_channel-true c d h in
-      let no : is_the_flit net f (first_in net F d) ≡ false = ap (λ (x : Channel). is_the_flit net f (first_in net F x)) (sym same) ∙ ap (is_the_flit net f) first ∙ other in
+      let no : is_the_flit net f (front_in net F d) ≡ false = ap (λ (x : Channel). is_the_flit net f (front_in net F x)) (sym same) ∙ ap (is_the_flit net f) first ∙ other in
       ap (λ b. cond b (gone_to net n d (next_channel net F d)) (In d)) (and_right _ _ no)
 
   -- after the moves the buffer of a channel has lost its first flit, where that moved
@@ -191,7 +191,7 @@ module _ (net : Setup) (F : State) (n : ℕ) where
       → buffer_of net (after_verdicts net n F) c ≡ drop 1 (buffer_of net F c)
   unfolding after_verdicts
   buffer-moved c m distinct =
-      filter-first (λ f. is_in c f.place) (same_flit) step (first_in net F c)
+      filter-first (λ f. is_in c f.place) (same_flit) step (front_in net F c)
       (λ f h. misses-at c f f.place h)
       (λ f h first. leaves-at c f f.place m h first)
       (λ f g h first other. ap (λ (q : Place). record f { place = q }) (stays-at c f f.place g h first other))

@@ -10,7 +10,7 @@ use Rattle.noc_packet.proofs.SetLemmas.{has_bit-zero}
 use Rattle.noc_route.specs.Channel.{Channel, Link, Inject, Eject, channel_vc}
 use Rattle.noc_route.specs.Routes.{permits, set_at, IsRelation}
 use Rattle.noc_route.proofs.PermitsLemmas.{PermitsLink-from_test, PermitsEject-from_test, permits-home}
-use Rattle.noc_model.specs.Network.{Setup, State, Injection, injections, is_freed, is_released, opening_state, after_landing, after_credits, after_injection, after_verdicts, frozen, network_cycle, state_at}
+use Rattle.noc_model.specs.Network.{Setup, State, Injection, injections, is_freed, is_released, opening_state, after_landing, after_credits, after_injection, after_verdicts, frozen_state, network_cycle, state_at}
 use Rattle.noc_model.proofs.BuiltRecord.{IsBuilt}
 use Rattle.noc_model.proofs.GrantLemmas.{IsWired, IsGrant}
 use Rattle.noc_model.proofs.Members.{Has-append, Has-filter, Has-map}
@@ -27,7 +27,7 @@ module _ (net : Setup) where
   Came p (Inject n v) = Unit {0}
   Came p (Eject n v) = (d : Channel) × IsTrue (permits net.relation (class_of net p) d (goal net p) (Eject n v))
 
-  -- .. each owner to what it owns
+  -- the relation let each owner go on to what it owns, or the owner began there
   pub record IsLed (S : State) : Type 0 where
     pub came : (c : Channel) (p : ℕ) → Has (c, p) S.own → Came p c
 
@@ -57,8 +57,8 @@ module _ (net : Setup) where
             let is : Inject e.0 e.1.vc ≡ c = sym e.1.channel ∙ ap (λ (x : Channel × ℕ). x.0) m.2 in
             subst (λ (x : Channel). Came p x) is tt
 
-    pub led-frozen : (n : ℕ) (S : State) → IsSoundState net S → IsLed S → IsLed (frozen net n S)
-    unfolding frozen
+    pub led-frozen : (n : ℕ) (S : State) → IsSoundState net S → IsLed S → IsLed (frozen_state net n S)
+    unfolding frozen_state
     led-frozen n S s led =
         led-injection n (after_credits net (after_landing net S)) (sound-credits net built wired (after_landing net S) (sound-landed net built wired S s)) (led-mid S led)
 
@@ -75,7 +75,7 @@ module _ (net : Setup) where
     led-state zero = record { came = λ c p h. absurd h }
     led-state (suc n) =
         let s = sound-state net built wired n in
-        led-verdicts n (frozen net n (state_at net n)) (sound-frozen net built wired n (state_at net n) s) (led-frozen n (state_at net n) s (led-state n))
+        led-verdicts n (frozen_state net n (state_at net n)) (sound-frozen net built wired n (state_at net n) s) (led-frozen n (state_at net n) s (led-state n))
 
   module _ (relation : IsRelation net.relation) (S : State) (led : IsLed S) where
     -- where a link channel of a packet ends, the relation leads the packet on
@@ -94,6 +94,6 @@ module _ (net : Setup) where
     pub ejects-home : (n v p : ℕ) → Has (Eject n v, p) S.own → n ≡ goal net p
     ejects-home n v p h = let d = led.came (Eject n v) p h in permits-home net.relation relation (class_of net p) d.0 (goal net p) n v d.1
 
-    -- .. and one of the virtual channels there
+    -- an ejection channel of a packet is one of the virtual channels at its destination
     pub eject-low : (n v p : ℕ) → Has (Eject n v, p) S.own → v < net.relation.vcs
     eject-low n v p h = let d = led.came (Eject n v) p h in (PermitsEject-from_test net.relation (class_of net p) d.0 (goal net p) n v d.1).vc

@@ -5,7 +5,7 @@ use Rattle.std.specs.List.{list_any}
 use Rattle.std.proofs.lemmas.Bool.{false≢true, and_from, and_parts, eq-eqb, eqb-true, le-ltb}
 use Rattle.noc_topo.specs.Words.{Has, below}
 use Rattle.noc_route.specs.Channel.{Channel, Link, Inject, Eject}
-use Rattle.noc_model.specs.Network.{end_distance, Setup, State, Located, Place, Source, On, In, Out, packet_at, place_of, tail_place, owner_of, owned_by, next_channel, leads_from, has_channel, first_waiting, flits_of, is_at_source, is_past, count_in, is_in, is_injection_of}
+use Rattle.noc_model.specs.Network.{end_distance, Setup, State, Located, Place, Source, On, In, Out, packet_at, place_of_flit, tail_place, owner_of, owned_by, next_channel, leads_from, has_channel, first_waiting, flits_of, is_at_source, is_past, count_in, is_in, is_injection_of}
 use Rattle.noc_model.specs.Progress.{weight, hops}
 use Rattle.noc_model.specs.Worm.{IsPath}
 use Rattle.noc_model.proofs.BuiltRecord.{IsBuilt}
@@ -58,7 +58,7 @@ source-heavy net own at w p (In (Eject m v)) k l = absurd k
 source-heavy net own at w p (Out m) k l = absurd (omega arith)
 
 module _ (net : Setup) (built : IsBuilt net) (F : State) (whole : IsWholeFrozen net F) where
-  abbrev worm : IsWorm net F.own (place_of net F)
+  abbrev worm : IsWorm net F.own (place_of_flit net F)
   worm = whole.sound.worm
 
   abbrev keyed : IsKeyed net F.at
@@ -121,14 +121,14 @@ module _ (net : Setup) (built : IsBuilt net) (F : State) (whole : IsWholeFrozen 
 
   -- the tail is not in an empty buffer
   tail-elsewhere : (p : ℕ) (c : Channel) → p < length net.packets → count_in net F c ≡ 0 → tail_place net F p ≡ In c → ⊥
-  tail-elsewhere p c l z e = not-empty (record { packet = p; index = last_of net p; place = place_of net F p (last_of net p) }) c (flit-there net F keyed p (last_of net p) (valid-last net built p l)) e z
+  tail-elsewhere p c l z e = not-empty (record { packet = p; index = last_of net p; place = place_of_flit net F p (last_of net p) }) c (flit-there net F keyed p (last_of net p) (valid-last net built p l)) e z
 
   -- a channel that the tail of its packet has not reached is the next channel of one
   fed : (o : Channel) (p : ℕ) → Has (o, p) F.own → ((n v : ℕ) → o ≡ Inject n v → ⊥) → (tail_place net F p ≡ In o → ⊥) → is_past net o (goal net p) (tail_place net F p) ≡ false
       → (d : Channel) × (next_channel net F d ≡ Some o)
   fed o p h apart not_in behind =
       let l = worm.known o p h in
-      let d = has-source net built F.own (place_of net F) worm o p h apart (whole.sound.still p (last_of net p) (valid-last net built p l) o) not_in behind in
+      let d = has-source net built F.own (place_of_flit net F) worm o p h apart (whole.sound.still p (last_of net p) (valid-last net built p l) o) not_in behind in
       (d.0, next-from net built F keyed worm p d.0 o d.1 (record { owns = h; leads = d.2 }))
 
   -- no tail is past an owned ejection channel
@@ -147,7 +147,7 @@ module _ (net : Setup) (built : IsBuilt net) (F : State) (whole : IsWholeFrozen 
     first-is n v p h g =
         let low = worm.known (Inject n v) p h in
         let here : n ≡ (packet_at net p).source = worm.near (Inject n v) p h in
-        let f : Located = record { packet = p; index = last_of net p; place = place_of net F p (last_of net p) } in
+        let f : Located = record { packet = p; index = last_of net p; place = place_of_flit net F p (last_of net p) } in
         let mine : Has f (flits_of net F p) = Has-kept (λ (x : Located). nat_eq p x.packet) f F.at (flit-there net F keyed p (last_of net p) (valid-last net built p low)) (eq-eqb p p refl) in
         let any : list_any (λ (x : Located). is_at_source x.place) (flits_of net F p) ≡ true = list_any-from (λ (x : Located). is_at_source x.place) (flits_of net F p) f mine (ap is_at_source g) in
         let waits : Has p (filter (waits_at n) (below (length net.packets)))
@@ -174,14 +174,14 @@ module _ (net : Setup) (built : IsBuilt net) (F : State) (whole : IsWholeFrozen 
             queued.first p low (worm.begun (Inject n v) p h) g q l (eqb-true _ _ b.0 ∙ here) (waiting-tail q l some.0 of_q.0 (eqb-true q some.0.packet of_q.1) some.2)
           where
             -- where one flit of a packet is at the source, its tail is
-            waiting-tail : (q : ℕ) → q < length net.packets → (f : Located) → Has f F.at → q ≡ f.packet → is_at_source f.place ≡ true → place_of net F q (last_of net q) ≡ Source
+            waiting-tail : (q : ℕ) → q < length net.packets → (f : Located) → Has f F.at → q ≡ f.packet → is_at_source f.place ≡ true → place_of_flit net F q (last_of net q) ≡ Source
             waiting-tail q l f k own e =
                 let valid : IsValid net q f.index = subst (λ (x : ℕ). IsValid net x f.index) (sym own) (keyed.valid f k) in
-                let there : place_of net F q f.index ≡ Source = ap (λ (x : ℕ). place_of net F x f.index) own ∙ place-of-flit net F keyed f k ∙ at_source-is f.place e in
+                let there : place_of_flit net F q f.index ≡ Source = ap (λ (x : ℕ). place_of_flit net F x f.index) own ∙ place-of-flit net F keyed f k ∙ at_source-is f.place e in
                 let last : f.index ≤ last_of net q = let s = valid.1 in omega arith in
                 let heavy = worm.order q f.index (last_of net q) (valid-last net built q l) last in
-                let here : weight net q (place_of net F q f.index) ≡ 3 * hops net q + 2 = ap (weight net q) there in
-                source-heavy net F.own (place_of net F) worm q (place_of net F q (last_of net q)) (worm.placed q (last_of net q) (valid-last net built q l)) (omega arith)
+                let here : weight net q (place_of_flit net F q f.index) ≡ 3 * hops net q + 2 = ap (weight net q) there in
+                source-heavy net F.own (place_of_flit net F) worm q (place_of_flit net F q (last_of net q)) (worm.placed q (last_of net q) (valid-last net built q l)) (omega arith)
 
     pub chain-whole : IsLed net F → IsWired net → IsChain net F
     chain-whole led wired = record {

@@ -6,7 +6,7 @@ use Rattle.noc_topo.specs.Words.{Has}
 use Rattle.noc_topo.specs.Shape.{distance}
 use Rattle.noc_route.specs.Channel.{Channel, Link, Inject, Eject, same_channel}
 use Rattle.noc_route.proofs.BoolLemmas.{same_test}
-use Rattle.noc_model.specs.Network.{Setup, State, Located, Place, Source, On, In, Out, packet_at, place_of, flits_of, tail_place}
+use Rattle.noc_model.specs.Network.{Setup, State, Located, Place, Source, On, In, Out, packet_at, place_of_flit, flits_of, tail_place}
 use Rattle.noc_model.specs.Lockstep.{has_come, come_count}
 use Rattle.noc_model.specs.Progress.{weight, hops, head_place}
 use Rattle.noc_model.proofs.BuiltRecord.{IsBuilt}
@@ -20,7 +20,7 @@ use Rattle.noc_model.proofs.LockstepSteps.{count-zero}
 use Rattle.noc_model.proofs.WormRecord.{IsWorm, IsPlaced, goal, last_of, far_of, valid-last, valid-first}
 use Rattle.noc_model.proofs.KeyLemmas.{count-places}
 
-module _ (net : Setup) (built : IsBuilt net) (S : State) (keyed : IsKeyed net S.at) (w : IsWorm net S.own (place_of net S)) where
+module _ (net : Setup) (built : IsBuilt net) (S : State) (keyed : IsKeyed net S.at) (w : IsWorm net S.own (place_of_flit net S)) where
   abbrev pub Holds : Channel → ℕ → Type 0
   Holds c p = Has (c, p) S.own × (IsEject c → ⊥)
 
@@ -76,32 +76,32 @@ module _ (net : Setup) (built : IsBuilt net) (S : State) (keyed : IsKeyed net S.
       let n = (w.near (Link s b u) p k).0 in
       lt-ltb _ _ (omega (arith, f, n)) ∙ sym (le-leb _ _ (omega (arith, n)))
   come-level p (Inject r v) (In (Inject m u)) h k =
-      let same : Inject r v ≡ Inject m u = two-injects net built S.own (place_of net S) w p r v m u h.0 k in
+      let same : Inject r v ≡ Inject m u = two-injects net built S.own (place_of_flit net S) w p r v m u h.0 k in
       or_left _ _ (ap (same_channel (Inject r v)) (sym same) ∙ same_channel-refl (Inject r v)) ∙ sym (le-leb _ _ (omega arith))
   come-level p (Inject r v) (In (Eject m u)) h k = elim k [ ]
   come-level p (Inject r v) (Out m) h k = sym (le-leb _ _ (omega arith))
 
   -- ---- so those that have come are the first ones
 
-  come-at : (p i : ℕ) (c : Channel) → Holds c p → IsValid net p i → has_come net c (goal net p) (place_of net S p i) ≡ nat_le (weight net p (place_of net S p i)) (level p c)
-  come-at p i c h v = come-level p c (place_of net S p i) h (w.placed p i v)
+  come-at : (p i : ℕ) (c : Channel) → Holds c p → IsValid net p i → has_come net c (goal net p) (place_of_flit net S p i) ≡ nat_le (weight net p (place_of_flit net S p i)) (level p c)
+  come-at p i c h v = come-level p c (place_of_flit net S p i) h (w.placed p i v)
 
-  pub come-before : (p i j : ℕ) (c : Channel) → Holds c p → IsValid net p j → i ≤ j → has_come net c (goal net p) (place_of net S p j) ≡ true → has_come net c (goal net p) (place_of net S p i) ≡ true
+  pub come-before : (p i j : ℕ) (c : Channel) → Holds c p → IsValid net p j → i ≤ j → has_come net c (goal net p) (place_of_flit net S p j) ≡ true → has_come net c (goal net p) (place_of_flit net S p i) ≡ true
   come-before p i j c h v l e =
       let u = v.1 in
       let o = w.order p i j v l in
       let m = leb-true _ _ (sym (come-at p j c h v) ∙ e) in
       come-at p i c h (v.0, omega arith) ∙ le-leb _ _ (omega arith)
 
-  pub come-behind : (p i j : ℕ) (c : Channel) → Holds c p → IsValid net p j → i ≤ j → has_come net c (goal net p) (place_of net S p i) ≡ false → has_come net c (goal net p) (place_of net S p j) ≡ false
-  come-behind p i j c h v l e = at (has_come net c (goal net p) (place_of net S p j)) refl
+  pub come-behind : (p i j : ℕ) (c : Channel) → Holds c p → IsValid net p j → i ≤ j → has_come net c (goal net p) (place_of_flit net S p i) ≡ false → has_come net c (goal net p) (place_of_flit net S p j) ≡ false
+  come-behind p i j c h v l e = at (has_come net c (goal net p) (place_of_flit net S p j)) refl
     where
-      at : (b : Bool) → has_come net c (goal net p) (place_of net S p j) ≡ b → has_come net c (goal net p) (place_of net S p j) ≡ false
+      at : (b : Bool) → has_come net c (goal net p) (place_of_flit net S p j) ≡ b → has_come net c (goal net p) (place_of_flit net S p j) ≡ false
       at false k = k
       at true k = absurd (false≢true (sym e ∙ come-before p i j c h v l k))
 
   -- as many as there are before the first that has not come
-  pub count-to : (p k : ℕ) (c : Channel) → Holds c p → IsValid net p k → ((i : ℕ) → i < k → has_come net c (goal net p) (place_of net S p i) ≡ true) → has_come net c (goal net p) (place_of net S p k) ≡ false
+  pub count-to : (p k : ℕ) (c : Channel) → Holds c p → IsValid net p k → ((i : ℕ) → i < k → has_come net c (goal net p) (place_of_flit net S p i) ≡ true) → has_come net c (goal net p) (place_of_flit net S p k) ≡ false
       → come_count net S c p ≡ k
   count-to p k c h v front e = let u = v.1 in count-places net S keyed (has_come net c (goal net p)) p k v.0 (omega arith) front (λ i l m. come-behind p k i c h (v.0, m) l e)
 

@@ -7,9 +7,9 @@ use Rattle.noc_topo.specs.Words.{Has}
 use Rattle.noc_topo.specs.Shape.{nodes, ports, local_port}
 use Rattle.noc_packet.specs.declared.packet.Packet.{Packet}
 use Rattle.noc_route.specs.Channel.{Channel, Link, Inject, Eject}
-use Rattle.noc_router.specs.View.{Site, View, Decisions, planned, flit_out, tail_packet, with_arrival, mover}
+use Rattle.noc_router.specs.View.{Site, View, Decisions, decisions_of, flit_out, tail_packet, with_arrival, mover}
 use Rattle.noc_model.specs.Lockstep.{ends_at}
-use Rattle.noc_model.specs.Network.{Setup, State, On, In, Out, size, leaving, packet_at, place_of, tail_place, out_cycle, gone_to, after_verdicts}
+use Rattle.noc_model.specs.Network.{Setup, State, On, In, Out, size, leaving, packet_at, place_of_flit, tail_place, out_cycle, gone_to, after_verdicts}
 use Rattle.noc_model.proofs.Members.{Has-map, Has-mapped, Has-filter, Has-kept, list_any-from}
 use Rattle.noc_model.proofs.MoveLemmas.{IsMoved, moved-or-not, next-once}
 use Rattle.noc_model.proofs.WormRecord.{last_of, valid-last}
@@ -67,7 +67,7 @@ module _ (net : Setup) (good : IsGood net) (F : State) (x : IsOrderedFrozen net 
   T = after_verdicts net n F
 
   abbrev D : Decisions
-  D = planned net.relation v
+  D = decisions_of net.relation v
 
   abbrev pub arrival : Option ℕ
   arrival = tail_packet (flit_out v D.round (local_port v.site.grid))
@@ -92,7 +92,7 @@ module _ (net : Setup) (good : IsGood net) (F : State) (x : IsOrderedFrozen net 
           stays (ap out_cycle m.now ∙ sym (ap out_cycle m.was))
           (λ k.
           let z : In d ≡ In k.before = sym m.was ∙ k.moves.was in
-          let out : place_of net T q (last_of net q) ≡ gone_to net n k.before (Some (leaving net r k.out)) = k.moves.now in
+          let out : place_of_flit net T q (last_of net q) ≡ gone_to net n k.before (Some (leaving net r k.out)) = k.moves.now in
           ejected k.out k.within k.port k.before (sym m.now ∙ out))
         where
           ejected : (o : ℕ) → o < size net → o / net.relation.vcs ≡ local_port net.relation.grid → (e : Channel) → On (Link a b w) ≡ gone_to net n e (Some (leaving net r o)) → ⊥

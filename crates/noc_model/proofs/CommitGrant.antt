@@ -4,11 +4,11 @@ use Rattle.std.specs.Prelude.{◌&&◌, not, nat_lt, unwrap_or, if◌then◌else
 use Rattle.std.proofs.lemmas.Bool.{lt-ltb, or_left, or_right}
 use Rattle.noc_topo.specs.Words.{Has}
 use Rattle.noc_topo.specs.Shape.{nodes}
-use Rattle.noc_route.specs.Channel.{Channel, Link, Inject, Eject, is_link, begin}
+use Rattle.noc_route.specs.Channel.{Channel, Link, Inject, Eject, is_link, sending_router}
 use Rattle.noc_vc.specs.Input.{Input}
-use Rattle.noc_vc.specs.Output.{held}
+use Rattle.noc_vc.specs.Output.{output_after_hold}
 use Rattle.noc_vc.specs.declared.output.OutputState.TheVariants.{Owned, Draining}
-use Rattle.noc_router.specs.View.{View, Decisions, view_input, view_output, planned, mover_to, output_after}
+use Rattle.noc_router.specs.View.{View, Decisions, view_input, view_output, decisions_of, mover_to, output_after}
 use Rattle.noc_model.specs.Lockstep.{seen_input, seen_output, seen_holder, seen_source, is_present, come_count, has_come}
 use Rattle.noc_model.specs.Network.{Setup, State, Place, size, leaving, owner_of, is_in, is_past, credit_of, tail_place, after_verdicts}
 use Rattle.noc_model.specs.Progress.{head_place}
@@ -51,7 +51,7 @@ module _ (net : Setup) (good : IsGood net) (F : State) (x : IsOrderedFrozen net 
   T = after_verdicts net n F
 
   abbrev D : Decisions
-  D = planned net.relation v
+  D = decisions_of net.relation v
 
   module _ (o : ℕ) (u : o < size net) where
     module _ (i : ℕ) (e : get_or D.round.grants o None ≡ Some i) where
@@ -90,18 +90,18 @@ module _ (net : Setup) (good : IsGood net) (F : State) (x : IsOrderedFrozen net 
           ∙ ap (λ b. cond b Draining (Owned (seen_source net T r c) g.packet)) unsent
           ∙ ap (λ k. Owned k g.packet) (ap (seen_source net T r) (sym is) ∙ source)
 
-      granted : (c : Channel) → leaving net r o ≡ c → held (seen_output net F r c) i g.packet ≡ seen_output net T r c
+      granted : (c : Channel) → leaving net r o ≡ c → output_after_hold (seen_output net F r c) i g.packet ≡ seen_output net T r c
       granted (Link a b w) is =
           let unsent = given-unsent net good F x n (Link a b w) g.packet refl (λ z. z) (ap (owner_of net F) (sym is) ∙ idle) (subst (λ (y : Channel). Has (y, g.packet) T.own) is ownT) in
           let credit = credit-idle net good F x n r l v seen o u (Link a b w) is refl (no-mover net good F x n r l v seen o u idle) in
           ap (link_out net good F x n r l v seen (Owned i g.packet)) (sym credit) ∙ sym (ap (λ h. link_out net good F x n r l v seen h (credit_of net T (Link a b w))) (holder (Link a b w) is unsent))
-      granted (Inject a w) is = let b : Some r ≡ None = sym (begins-at net good r o) ∙ ap begin is in absurd (cc b)
+      granted (Inject a w) is = let b : Some r ≡ None = sym (begins-at net good r o) ∙ ap sending_router is in absurd (cc b)
       granted (Eject a w) is = sym (ap (eject_out net good F x n r l v seen) (holder (Eject a w) is refl))
 
       granted-out : output_after v D.round o (view_output v o) ≡ seen_output net T r (leaving net r o)
       granted-out =
           after-is net good F x n r l v seen o u (Some i) None e (no-mover net good F x n r l v seen o u idle)
-          ∙ ap (λ (k : Option ℕ). held (seen_output net F r (leaving net r o)) i (unwrap_or k 0)) packet-is
+          ∙ ap (λ (k : Option ℕ). output_after_hold (seen_output net F r (leaving net r o)) i (unwrap_or k 0)) packet-is
           ∙ granted (leaving net r o) refl
 
     pub output-commit : output_after v D.round o (view_output v o) ≡ seen_output net T r (leaving net r o)

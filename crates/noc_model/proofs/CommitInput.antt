@@ -14,13 +14,13 @@ use Rattle.noc_route.specs.Routes.{set_at}
 use Rattle.noc_vc.specs.Input.{Input, idle_input, is_idle_phase}
 use Rattle.noc_vc.specs.declared.input.InputState.TheVariants.{Idle, Waiting, Active}
 use Rattle.noc_router.specs.Verdict.{Claim, Unrouted, Waits, Holds, verdict_of, is_routed, is_granted, is_moved, ask_of}
-use Rattle.noc_router.specs.View.{Site, View, Decisions, size_of, view_buffer, view_input, view_claim, planned, decided_verdict, buffer_after, input_after, granted_to, sent_from, first_flit, route_of, route_for}
+use Rattle.noc_router.specs.View.{Site, View, Decisions, size_of, view_buffer, view_input, view_claim, decisions_of, decided_verdict, buffer_after, input_after, granted_to, sent_from, first_flit, route_of, route_for}
 use Rattle.noc_router.specs.declared.verdict.Verdict.{Verdict}
 use Rattle.noc_router.specs.declared.verdict.Verdict.TheVariants.{Empty, Routed, Granted, Moved, NoFlit, NoIdleChannel, LostChannel, NoCredit, LostInput, LostSwitch}
 use Rattle.noc_router.specs.declared.verdict.Finding.{Finding}
 use Rattle.noc_router.proofs.PlanFacts.{verdict-moved, verdict-granted, verdict-routed}
 use Rattle.noc_model.specs.Lockstep.{finding_in, seen_flits, seen_input, seen_phase, seen_phase_with, seen_set}
-use Rattle.noc_model.specs.Network.{Setup, State, Located, size, arriving, leaving, packet_at, place_of, owner_of, next_channel, has_channel, has_credit_in, ask, claim_of, claim_with, verdict_in, round_at, count_in, buffer_of, first_in, is_in, is_tail, tail_leaves, after_verdicts, granted_pair, granted_at, end_of}
+use Rattle.noc_model.specs.Network.{Setup, State, Located, size, arriving, leaving, packet_at, place_of_flit, owner_of, next_channel, has_channel, has_credit_in, ask, claim_of, claim_with, verdict_in, round_at, count_in, buffer_of, front_in, is_in, is_tail_of_packet, tail_leaves, after_verdicts, granted_pair, grant_to_owner, end_of}
 use Rattle.noc_model.proofs.BufferLemmas.{find-passes, buffer-moved, buffer-stays, is_moved-true}
 use Rattle.noc_model.proofs.GrantLemmas.{IsGrant, granted-is}
 use Rattle.noc_model.proofs.Members.{Has-kept, find-has}
@@ -96,7 +96,7 @@ module _ (net : Setup) (good : IsGood net) (F : State) (x : IsOrderedFrozen net 
   T = after_verdicts net n F
 
   abbrev pub d : Decisions
-  d = planned net.relation v
+  d = decisions_of net.relation v
 
   -- ---- verdicts
 
@@ -139,21 +139,21 @@ module _ (net : Setup) (good : IsGood net) (F : State) (x : IsOrderedFrozen net 
           ∙ buffer-by c
           ∙ sym (ap (seen_flits net T) e)
 
-  pub first-is : (i : ℕ) (c : Channel) → i < size net → arriving net r i ≡ Some c → first_flit v i ≡ option_map flit_of (first_in net F c)
+  pub first-is : (i : ℕ) (c : Channel) → i < size net → arriving net r i ≡ Some c → first_flit v i ≡ option_map flit_of (front_in net F c)
   first-is i c u e = ap (λ (fs : List Flit). slice_get fs 0) (seen.buffer i u ∙ ap (seen_flits net F) e) ∙ first-filter flit_of (λ (f : Located). is_in c f.place) F.at
 
   -- the first flit of a buffer that holds one
-  pub first-some : (c : Channel) → nat_lt 0 (count_in net F c) ≡ true → (f : Located) × (first_in net F c ≡ Some f)
-  first-some c e = at (first_in net F c) refl
+  pub first-some : (c : Channel) → nat_lt 0 (count_in net F c) ≡ true → (f : Located) × (front_in net F c ≡ Some f)
+  first-some c e = at (front_in net F c) refl
     where
-      at : (o : Option Located) → first_in net F c ≡ o → (f : Located) × (first_in net F c ≡ Some f)
+      at : (o : Option Located) → front_in net F c ≡ o → (f : Located) × (front_in net F c ≡ Some f)
       at (Some f) k = (f, k)
       at None k =
           let z : count_in net F c ≡ 0 = ap length (find-empty (λ (f : Located). is_in c f.place) F.at k) in
           absurd (false≢true (ap (nat_lt 0) (sym z) ∙ e))
 
-  -- .. is of the owner of the channel
-  pub first-packet : (c : Channel) (p : ℕ) (f : Located) → owner_of net F c ≡ Some p → first_in net F c ≡ Some f → f.packet ≡ p
+  -- the first flit of a buffer is of the owner of the channel
+  pub first-packet : (c : Channel) (p : ℕ) (f : Located) → owner_of net F c ≡ Some p → front_in net F c ≡ Some f → f.packet ≡ p
   first-packet c p f own e =
       let m : Has f (buffer_of net F c) = Has-kept (λ (g : Located). is_in c g.place) f F.at (find-has (λ (g : Located). is_in c g.place) F.at f e) (find-passes (λ (g : Located). is_in c g.place) F.at f e) in
       same_Some f.packet p (sym (in-buffer net good.built F x.whole.sound.keyed x.whole.sound.worm c f m).holder ∙ own)
@@ -170,7 +170,7 @@ module _ (net : Setup) (good : IsGood net) (F : State) (x : IsOrderedFrozen net 
           absurd (none-some i (sym none ∙ e))
 
   route-at : (i : ℕ) → i < size net → slice_index d.routes i ≡ route_of net.relation v i
-  unfolding planned
+  unfolding decisions_of
   route-at i u = let s : size_of v.site ≡ size net = ap size_of seen.site in get_or-tabulate (size_of v.site) i (route_of net.relation v) 0 (omega (arith, s))
 
   -- ---- grants
@@ -191,9 +191,9 @@ module _ (net : Setup) (good : IsGood net) (F : State) (x : IsOrderedFrozen net 
       let o : ℕ = g.0 in
       let w = claim-waits net F r c o g.1 in
       let pair : granted_pair net F c ≡ Some (leaving net r o, p)
-      = ap (λ (verdict : Verdict). if is_granted verdict then option_and_then (λ q. option_and_then (granted_at net F c q) (owner_of net F c)) (end_of net.relation c) else None) m
-      ∙ ap (λ (a : Option (ℕ × ℕ)). option_and_then (λ q. option_and_then (granted_at net F c q) (owner_of net F c)) (option_map (λ (place : ℕ × ℕ). place.0) a)) at.arrives
-      ∙ ap (λ (b : Option ℕ). option_and_then (granted_at net F c r) b) own
+      = ap (λ (verdict : Verdict). if is_granted verdict then option_and_then (λ q. option_and_then (grant_to_owner net F c q) (owner_of net F c)) (end_of net.relation c) else None) m
+      ∙ ap (λ (a : Option (ℕ × ℕ)). option_and_then (λ q. option_and_then (grant_to_owner net F c q) (owner_of net F c)) (option_map (λ (place : ℕ × ℕ). place.0) a)) at.arrives
+      ∙ ap (λ (b : Option ℕ). option_and_then (grant_to_owner net F c r) b) own
       ∙ ap (option_map (λ k. (leaving net r k, p))) w.2 in
       record { out = o; asks = claims ∙ g.1; routed = w.0; won = g.2; pair = pair; grant = granted-is net F c (leaving net r o) p pair }
 
@@ -234,7 +234,7 @@ module _ (net : Setup) (good : IsGood net) (F : State) (x : IsOrderedFrozen net 
       input = input-of i c u e
 
       still : (verdict : Verdict) → verdict_in net F c ≡ verdict → is_moved verdict ≡ false → tail_leaves net F c ≡ false
-      still verdict k m = ap (λ (y : Verdict). is_moved y && is_tail net (first_in net F c)) k ∙ ap (λ b. b && is_tail net (first_in net F c)) m
+      still verdict k m = ap (λ (y : Verdict). is_moved y && is_tail_of_packet net (front_in net F c)) k ∙ ap (λ b. b && is_tail_of_packet net (front_in net F c)) m
 
       same : (verdict : Verdict) → verdict_in net F c ≡ verdict → is_moved verdict ≡ false → is_routed verdict ≡ false → is_granted verdict ≡ false → view_input v i ≡ seen_input net T r i (Some c)
       same verdict k m a b = input ∙ sym (unchanged net good F x n r i c member p h (still verdict k m) (ap is_routed k ∙ a) (ap is_granted k ∙ b))
@@ -270,15 +270,15 @@ module _ (net : Setup) (good : IsGood net) (F : State) (x : IsOrderedFrozen net 
           ∙ sym (phase-after net good F x n r i c member p h (still Granted k refl) (Active g.out) phase)
 
       move : verdict_in net F c ≡ Moved → input_after d v i (view_input v i) Moved ≡ seen_input net T r i (Some c)
-      move k = by_first (first_in net F c) refl
+      move k = by_first (front_in net F c) refl
         where
-          by_first : (o : Option Located) → first_in net F c ≡ o → sent_from (view_input v i) (first_flit v i) ≡ seen_input net T r i (Some c)
+          by_first : (o : Option Located) → front_in net F c ≡ o → sent_from (view_input v i) (first_flit v i) ≡ seen_input net T r i (Some c)
           by_first None z =
               let q = verdict-moved net.relation.vcs (round_at net F r) i (claim_of net F r c) (nat_lt 0 (count_in net F c)) (sym (verdict-at net good F x r l v seen i c at) ∙ k) in
               let f = first-some c q.2 in
               absurd (none-some f.0 (sym z ∙ f.1))
           by_first (Some f) z =
-              let tail : tail_leaves net F c ≡ (flit_of f).last = ap (λ (y : Verdict). is_moved y && is_tail net (first_in net F c)) k ∙ ap (is_tail net) z in
+              let tail : tail_leaves net F c ≡ (flit_of f).last = ap (λ (y : Verdict). is_moved y && is_tail_of_packet net (front_in net F c)) k ∙ ap (is_tail_of_packet net) z in
               ap (sent_from (view_input v i)) (first-is i c u e ∙ ap (option_map flit_of) z) ∙ cases (flit_of f).last tail
             where
               cases : (b : Bool) → tail_leaves net F c ≡ b → cond b idle_input (view_input v i) ≡ seen_input net T r i (Some c)

@@ -9,7 +9,7 @@ use Rattle.noc_topo.proofs.WordLemmas.{get_or-map_indexed, length-map_indexed, g
 use Rattle.noc_vc.specs.Input.{idle_input}
 use Rattle.noc_vc.specs.Output.{ejection_output}
 use Rattle.noc_router.specs.Verdict.{Round, is_event, arbiters_after}
-use Rattle.noc_router.specs.View.{Site, View, Decisions, planned, committed, buffer_after, input_after, output_after, decided_verdict, counted, has_event, beat_out, idle_beat}
+use Rattle.noc_router.specs.View.{Site, View, Decisions, decisions_of, view_after_commit, buffer_after, input_after, output_after, decided_verdict, counts_after, has_event, beat_out, idle_beat}
 use Rattle.noc_model.specs.Lockstep.{starts_at, ends_at, beat_by}
 use Rattle.noc_model.specs.Network.{Setup, State, size, round_at, out_cycle, tail_place, after_verdicts}
 use Rattle.noc_model.proofs.CommitEnds.{arrival-noted}
@@ -29,7 +29,7 @@ module _ (net : Setup) (good : IsGood net) (F : State) (x : IsOrderedFrozen net 
   T = after_verdicts net n F
 
   abbrev D : Decisions
-  D = planned net.relation v
+  D = decisions_of net.relation v
 
   -- the view but for the arrival of a tail
   abbrev w : View
@@ -39,7 +39,7 @@ module _ (net : Setup) (good : IsGood net) (F : State) (x : IsOrderedFrozen net 
     outputs = map_indexed (output_after v D.round) v.outputs;
     arbiters = arbiters_after D.round v.arbiters;
     last_event = if has_event D v then Some v.given else v.last_event;
-    counts = map_indexed (λ i counts. counted (decided_verdict D i) counts) v.counts;
+    counts = map_indexed (λ i counts. counts_after (decided_verdict D i) counts) v.counts;
     findings = D.findings;
     had_event = false;
     to_put = tabulate (local_port v.site.grid) (beat_out D v);
@@ -48,8 +48,8 @@ module _ (net : Setup) (good : IsGood net) (F : State) (x : IsOrderedFrozen net 
   abbrev done : View
   done = record w { ends = map (λ q. (q, out_cycle (tail_place net T q))) (ends_at net r) }
 
-  is_done : committed D v ≡ done
-  unfolding committed
+  is_done : view_after_commit D v ≡ done
+  unfolding view_after_commit
   is_done = arrival-noted net good F x n r l v seen w given seen.ends
 
   shows : IsSeen net T r done
@@ -75,7 +75,7 @@ module _ (net : Setup) (good : IsGood net) (F : State) (x : IsOrderedFrozen net 
       let low : port < local_port v.site.grid = subst (λ (site : Site). port < local_port site.grid) (sym seen.site) back.port in
       get_or-tabulate (local_port v.site.grid) port (beat_out D v) idle_beat low ∙ beat-is net good F x n r l v seen port s q e m
 
-  pub commits : IsCommitted net F n r v (committed D v)
+  pub commits : IsCommitted net F n r v (view_after_commit D v)
   commits = subst (λ (y : View). IsCommitted net F n r v y) (sym is_done)
       (record {
         seen = shows;

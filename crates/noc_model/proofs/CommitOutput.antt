@@ -5,15 +5,15 @@ use Rattle.std.proofs.lemmas.Bool.{true≢false, and_from}
 use Rattle.std.proofs.lemmas.Option.{none-some}
 use Rattle.noc_topo.specs.Words.{Has}
 use Rattle.noc_topo.specs.Shape.{nodes}
-use Rattle.noc_route.specs.Channel.{Channel, Link, Inject, Eject, is_link, same_channel, begin}
-use Rattle.noc_vc.specs.Output.{Output, spent}
+use Rattle.noc_route.specs.Channel.{Channel, Link, Inject, Eject, is_link, same_channel, sending_router}
+use Rattle.noc_vc.specs.Output.{Output, output_after_spend}
 use Rattle.noc_vc.specs.declared.output.OutputState.{OutputState}
 use Rattle.noc_vc.specs.declared.output.OutputState.TheVariants.{Idle as Free, Owned, Draining}
 use Rattle.noc_router.specs.Verdict.{is_moved}
-use Rattle.noc_router.specs.View.{View, Decisions, view_output, planned, first_flit, mover_to, held_by, spent_by, output_after, is_tail as is_tail_flit}
+use Rattle.noc_router.specs.View.{View, Decisions, view_output, decisions_of, first_flit, mover_to, held_by, spent_by, output_after, is_tail as is_tail_flit}
 use Rattle.noc_router.specs.declared.verdict.Verdict.{Verdict}
 use Rattle.noc_model.specs.Lockstep.{seen_output, seen_holder, seen_source, has_come}
-use Rattle.noc_model.specs.Network.{Setup, State, Located, Place, On, size, leaving, place_of, owner_of, owned_by, has_channel, verdict_in, tail_leaves, tail_leaves_to, is_tail, is_released, is_on, is_past, first_in, credit_of, count_on, tail_place, after_verdicts, all_inputs, next_channel}
+use Rattle.noc_model.specs.Network.{Setup, State, Located, Place, On, size, leaving, place_of_flit, owner_of, owned_by, has_channel, verdict_in, tail_leaves, tail_leaves_to, is_tail_of_packet, is_released, is_on, is_past, front_in, credit_of, count_on, tail_place, after_verdicts, all_inputs, next_channel}
 use Rattle.noc_model.proofs.BufferLemmas.{same_channel-refl}
 use Rattle.noc_model.proofs.Members.{list_any-from}
 use Rattle.noc_model.proofs.MoveLemmas.{next-once}
@@ -36,7 +36,7 @@ module _ (net : Setup) (good : IsGood net) (F : State) (x : IsOrderedFrozen net 
   T = after_verdicts net n F
 
   abbrev D : Decisions
-  D = planned net.relation v
+  D = decisions_of net.relation v
 
   -- an output channel of a state, by its owner
   pub holder-at : (S : State) (c : Channel) (o : Option ℕ) → owner_of net S c ≡ o → seen_holder net S r c (owner_of net S c) ≡ seen_holder net S r c o
@@ -100,7 +100,7 @@ module _ (net : Setup) (good : IsGood net) (F : State) (x : IsOrderedFrozen net 
         by (Inject a w) is = absurd (not-inject a w is)
           where
             not-inject : (a w : ℕ) → leaving net r o ≡ Inject a w → ⊥
-            not-inject a w is = let b : Some r ≡ None = sym (Rattle.noc_model.proofs.PlaceViews.begins-at net good r o) ∙ ap Rattle.noc_route.specs.Channel.begin is in cc b
+            not-inject a w is = let b : Some r ≡ None = sym (Rattle.noc_model.proofs.PlaceViews.begins-at net good r o) ∙ ap Rattle.noc_route.specs.Channel.sending_router is in cc b
         by (Eject a w) is =
             let before : owner_of net F (Eject a w) ≡ None = ap (owner_of net F) (sym is) ∙ e in
             let after : owner_of net T (Eject a w) ≡ None = ap (owner_of net T) (sym is) ∙ idle-after e k in
@@ -135,7 +135,7 @@ module _ (net : Setup) (good : IsGood net) (F : State) (x : IsOrderedFrozen net 
           at false e = ap (λ k. Owned k p) (source e)
 
       not-inject : (a w : ℕ) → leaving net r o ≡ Inject a w → ⊥
-      not-inject a w is = let b : Some r ≡ None = sym (begins-at net good r o) ∙ ap begin is in cc b
+      not-inject a w is = let b : Some r ≡ None = sym (begins-at net good r o) ∙ ap sending_router is in cc b
 
       owner-link : (a b w : ℕ) → leaving net r o ≡ Link a b w → owner_of net T (Link a b w) ≡ Some p
       owner-link a b w is = owner-at net good.built T (whole net good F x n).sound.keyed (wormT net good F x n) (Link a b w) p (owned-kept net good F x n (Link a b w) p (holds (Link a b w) is) refl)
@@ -172,7 +172,7 @@ module _ (net : Setup) (good : IsGood net) (F : State) (x : IsOrderedFrozen net 
         last-is : is_tail_flit (first_flit v i) ≡ tail_leaves net F m.channel
         last-is =
             ap is_tail_flit (first-is net good F x n r l v seen i m.channel m.within m.found ∙ ap (option_map _) m.first)
-            ∙ sym (ap (λ (y : Verdict). is_moved y && is_tail net (first_in net F m.channel)) m.verdict ∙ ap (is_tail net) m.first)
+            ∙ sym (ap (λ (y : Verdict). is_moved y && is_tail_of_packet net (front_in net F m.channel)) m.verdict ∙ ap (is_tail_of_packet net) m.first)
 
         -- the channel before it
         before-is : (c d : Channel) → leaving net r o ≡ c → Next net good F x n p d c → Has (d, p) F.own → d ≡ m.channel
@@ -186,7 +186,7 @@ module _ (net : Setup) (good : IsGood net) (F : State) (x : IsOrderedFrozen net 
             (ap (is_on (Link a b w)) m.to ∙ ap (λ (y : Channel). is_on (Link a b w) (Rattle.noc_model.specs.Network.gone_to net n m.channel (Some y))) is ∙ same_channel-refl (Link a b w))
 
         -- it is the tail
-        tail-out : tail_leaves net F m.channel ≡ true → (c : Channel) → leaving net r o ≡ c → spent true (seen_output net F r c) ≡ seen_output net T r c
+        tail-out : tail_leaves net F m.channel ≡ true → (c : Channel) → leaving net r o ≡ c → output_after_spend true (seen_output net F r c) ≡ seen_output net T r c
         tail-out t (Link a b w) is =
             let q : Next net good F x n p m.channel (Link a b w) = subst (λ (y : Channel). Next net good F x n p m.channel y) is goes.next in
             let tail = tail-moves net good F x n m.channel (Link a b w) p goes.owns t q in
@@ -212,7 +212,7 @@ module _ (net : Setup) (good : IsGood net) (F : State) (x : IsOrderedFrozen net 
             gone = owner-none net good.built T (whole net good F x n).sound.keyed (wormT net good F x n) (Eject a w) (λ q h. by q (was-owned net good F x n (Eject a w) q h))
 
         -- it is no tail
-        more-out : tail_leaves net F m.channel ≡ false → (c : Channel) → leaving net r o ≡ c → spent false (seen_output net F r c) ≡ seen_output net T r c
+        more-out : tail_leaves net F m.channel ≡ false → (c : Channel) → leaving net r o ≡ c → output_after_spend false (seen_output net F r c) ≡ seen_output net T r c
         more-out t c is = by c is
           where
             stays : (c : Channel) → leaving net r o ≡ c → (d : Channel) → Next net good F x n p d c → Has (d, p) F.own → tail_leaves net F d ≡ false
@@ -225,7 +225,7 @@ module _ (net : Setup) (good : IsGood net) (F : State) (x : IsOrderedFrozen net 
                 let leaves : tail_leaves net F d ≡ true = leaves-tail net good.built good.wired F x.whole.sound.keyed x.whole.sound.worm n x.whole.sound.still d p low q.moves q.first in
                 true≢false (sym leaves ∙ ap (tail_leaves net F) same ∙ t)
 
-            by : (c : Channel) → leaving net r o ≡ c → spent false (seen_output net F r c) ≡ seen_output net T r c
+            by : (c : Channel) → leaving net r o ≡ c → output_after_spend false (seen_output net F r c) ≡ seen_output net T r c
             by (Link a b w) is =
                 let before : owner_of net F (Link a b w) ≡ Some p = ap (owner_of net F) (sym is) ∙ own in
                 let sent = sent-kept net good F x n p (Link a b w) (holds (Link a b w) is, (λ z. z)) (λ d q. never (Link a b w) d is q) in
@@ -240,8 +240,8 @@ module _ (net : Setup) (good : IsGood net) (F : State) (x : IsOrderedFrozen net 
                 sym (ap eject_out (holder-kept (Eject a w) before after refl (λ z. keeps.same)))
 
         pub moved-out : output_after v D.round o (view_output v o) ≡ seen_output net T r (leaving net r o)
-        moved-out = after-is None (Some i) (not-granted p own) k ∙ ap (λ b. spent b (seen_output net F r (leaving net r o))) last-is ∙ at (tail_leaves net F m.channel) refl
+        moved-out = after-is None (Some i) (not-granted p own) k ∙ ap (λ b. output_after_spend b (seen_output net F r (leaving net r o))) last-is ∙ at (tail_leaves net F m.channel) refl
           where
-            at : (b : Bool) → tail_leaves net F m.channel ≡ b → spent b (seen_output net F r (leaving net r o)) ≡ seen_output net T r (leaving net r o)
+            at : (b : Bool) → tail_leaves net F m.channel ≡ b → output_after_spend b (seen_output net F r (leaving net r o)) ≡ seen_output net T r (leaving net r o)
             at true t = tail-out t (leaving net r o) refl
             at false t = more-out t (leaving net r o) refl

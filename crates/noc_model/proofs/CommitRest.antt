@@ -8,7 +8,7 @@ use Rattle.noc_topo.specs.Shape.{nodes}
 use Rattle.noc_topo.proofs.WordLemmas.{get_or-map_indexed, length-map_indexed, map_indexed-from_each}
 use Rattle.noc_route.specs.Channel.{Channel, Link, Inject, Eject, channel_vc}
 use Rattle.noc_router.specs.Verdict.{is_event, arbiters_after}
-use Rattle.noc_router.specs.View.{View, Decisions, planned, counted, has_event, decided_verdict}
+use Rattle.noc_router.specs.View.{View, Decisions, decisions_of, counts_after, has_event, decided_verdict}
 use Rattle.noc_router.specs.declared.verdict.Verdict.{Verdict}
 use Rattle.noc_router.specs.declared.verdict.Verdict.TheVariants.{Empty}
 use Rattle.noc_router.specs.declared.verdict.Finding.{Finding}
@@ -89,7 +89,7 @@ module _ (net : Setup) (good : IsGood net) (F : State) (x : IsOrderedFrozen net 
 
   module _ (r : ℕ) (l : r < nodes net.relation.grid) (v : View) (seen : IsSeen net F r v) where
     abbrev D : Decisions
-    D = planned net.relation v
+    D = decisions_of net.relation v
 
     finding-verdict : (i : ℕ) (o : Option Channel) → (finding_in net F r i o).verdict ≡ unwrap_or (option_map (verdict_in net F) o) Empty
     finding-verdict i None = refl
@@ -110,7 +110,7 @@ module _ (net : Setup) (good : IsGood net) (F : State) (x : IsOrderedFrozen net 
         (any-map (λ (f : Finding). is_event f.verdict) (λ i. finding_in net F r i (arriving net r i)) (below (size net))
         ∙ any-same (λ i. is_event (finding_in net F r i (arriving net r i)).verdict) (λ i. is_event (verdict_by net F r i)) (below (size net)) (λ i h. ap is_event (finding-verdict i (arriving net r i))))
 
-    pub counts-are : length v.counts ≡ size net → map_indexed (λ i counts. counted (decided_verdict D i) counts) v.counts ≡ map_indexed (λ i counts. counted (verdict_by net F r i) counts) v.counts
+    pub counts-are : length v.counts ≡ size net → map_indexed (λ i counts. counts_after (decided_verdict D i) counts) v.counts ≡ map_indexed (λ i counts. counts_after (verdict_by net F r i) counts) v.counts
     counts-are len =
-        map_indexed-from_each (λ i counts. counted (verdict_by net F r i) counts) v.counts (map_indexed (λ i counts. counted (decided_verdict D i) counts) v.counts) [] [] (length-map_indexed _ v.counts)
-        (λ i u. get_or-map_indexed (λ i counts. counted (decided_verdict D i) counts) v.counts i [] [] u ∙ ap (λ (y : Verdict). counted y (get_or v.counts i [])) (decided-by i (omega (arith, len))))
+        map_indexed-from_each (λ i counts. counts_after (verdict_by net F r i) counts) v.counts (map_indexed (λ i counts. counts_after (decided_verdict D i) counts) v.counts) [] [] (length-map_indexed _ v.counts)
+        (λ i u. get_or-map_indexed (λ i counts. counts_after (decided_verdict D i) counts) v.counts i [] [] u ∙ ap (λ (y : Verdict). counts_after y (get_or v.counts i [])) (decided-by i (omega (arith, len))))

@@ -7,7 +7,7 @@ use Rattle.noc_model.specs.Network.{Setup, opening_state, state_at}
 use Rattle.noc_model.specs.Lockstep.{view_in, view_at, beats_in}
 use Rattle.noc_route.specs.Channel.{inputs}
 use Rattle.noc_router.specs.Verdict.{first_in_turn}
-use Rattle.noc_router.specs.View.{taken, all_taken, injected, view_round, planned, committed, local_step}
+use Rattle.noc_router.specs.View.{view_after_take, view_after_takes, view_after_inject, view_round, decisions_of, view_after_commit, local_step}
 use Rattle.noc_model.specs.declared.event.Event.{Event}
 use Rattle.noc_model.specs.declared.event.Event.TheVariants.{Take, Decide, Put}
 use Rattle.noc_model.specs.Core.{CoreState, Post, opening_core, is_ready, happens, after_events, wire_at}
@@ -15,7 +15,7 @@ use Rattle.noc_model.proofs.NetworkRows.{one_flit, draining}
 
 -- a core from the opening on; to open it is to open all that a core is computed by
 unfoldable pub core_from : Setup → List Event → CoreState
-unfolding below tabulate map_indexed least_by inputs first_in_turn taken all_taken injected view_round planned committed local_step opening_state state_at view_in view_at beats_in opening_core is_ready happens after_events
+unfolding below tabulate map_indexed least_by inputs first_in_turn view_after_take view_after_takes view_after_inject view_round decisions_of view_after_commit local_step opening_state state_at view_in view_at beats_in opening_core is_ready happens after_events
 core_from net events = after_events 1000 events (opening_core (record { net = net; count = 0 }))
 
 -- which of these events are permitted, one after the other

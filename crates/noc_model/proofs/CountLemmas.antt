@@ -7,7 +7,7 @@ use Rattle.std.proofs.lemmas.List.{length-set, get_or-set_same, get_or-set_other
 use Rattle.noc_topo.specs.Words.{below, tabulate}
 use Rattle.noc_topo.proofs.WordLemmas.{get_or-tabulate, length-tabulate, tabulate-from_each, below-next}
 use Rattle.noc_router.specs.Verdict.{column}
-use Rattle.noc_router.specs.View.{counted}
+use Rattle.noc_router.specs.View.{counts_after}
 use Rattle.noc_router.specs.declared.verdict.Verdict.{Verdict}
 use Rattle.noc_router.proofs.CountLemmas.{column-small, sum-raised}
 
@@ -66,7 +66,7 @@ sum-counts verdict (suc n) =
     omega (arith, all, before)
 
 -- the counts after one cycle more, as long as the cycles can be counted
-pub counted-next : (verdict : ℕ → Verdict) (n : ℕ) → n < 2 ^ 64 - 1 → counted (verdict n) (counts_of verdict n) ≡ counts_of verdict (suc n)
+pub counted-next : (verdict : ℕ → Verdict) (n : ℕ) → n < 2 ^ 64 - 1 → counts_after (verdict n) (counts_of verdict n) ≡ counts_of verdict (suc n)
 counted-next verdict n l =
     let few : nat_lt (sum (counts_of verdict n)) (2 ^ 64 - 1) ≡ true = ap (λ x. nat_lt x (2 ^ 64 - 1)) (sum-counts verdict n) ∙ lt-ltb n (2 ^ 64 - 1) l in
     ap (λ b. cond b (set (counts_of verdict n) (column (verdict n)) (get_or (counts_of verdict n) (column (verdict n)) 0 + 1)) (counts_of verdict n)) few

@@ -6,7 +6,7 @@ use Rattle.std.proofs.lemmas.Bool.{ltb-true, and_parts, eqb-true, false_from_ne_
 use Rattle.noc_topo.specs.Words.{Has, Pairs, Each, below}
 use Rattle.noc_route.specs.Channel.{Channel, Link, Inject, Eject, is_link}
 use Rattle.noc_route.proofs.OptionLemmas.{is_none-none}
-use Rattle.noc_model.specs.Network.{Setup, State, Located, Place, Source, On, In, Injection, packet_at, place_of, tail_place, owner_of, owned_by, leads_from, is_past, is_freed, is_idle, count_in, injection_at, injection_with, is_injection_of, first_waiting, after_landing, after_credits}
+use Rattle.noc_model.specs.Network.{Setup, State, Located, Place, Source, On, In, Injection, packet_at, place_of_flit, tail_place, owner_of, owned_by, leads_from, is_past, is_freed, is_idle, count_in, injection_at, injection_with, is_injection_of, first_waiting, after_landing, after_credits}
 use Rattle.noc_model.specs.Progress.{weight, head_place}
 use Rattle.noc_model.proofs.BuiltRecord.{IsBuilt}
 use Rattle.noc_model.proofs.OwnedLemmas.{of-has, once-same, owner-is, owner-has, idle-none}
@@ -41,7 +41,7 @@ distinct-sorted (f ∷ fs) s = (each fs s.0, distinct-sorted fs s.1)
     )
 
 -- what is owned where flits and heads are, in any state between the phases
-module _ (net : Setup) (built : IsBuilt net) (T : State) (keyed : IsKeyed net T.at) (worm : IsWorm net T.own (place_of net T)) where
+module _ (net : Setup) (built : IsBuilt net) (T : State) (keyed : IsKeyed net T.at) (worm : IsWorm net T.own (place_of_flit net T)) where
   -- a head in a buffer is of the packet that owns the channel
   pub head-owned : (p : ℕ) (c : Channel) → p < length net.packets → head_place net T p ≡ In c → Has (c, p) T.own × (IsEject c → ⊥)
   head-owned p c l e = placed-in net built T keyed worm p c (subst (λ (x : Place). IsPlaced net T.own p x) e (worm.placed p 0 (valid-first net built p l)))
@@ -54,7 +54,7 @@ module _ (net : Setup) (built : IsBuilt net) (T : State) (keyed : IsKeyed net T.
       → is_past net (Link r a v) (goal net p) (tail_place net T p) ≡ false
   tail-behind p r a v x l h e w =
       let heavy = worm.order p 0 (last_of net p) (valid-last net built p l) (omega arith) in
-      let here : weight net p (place_of net T p 0) ≡ weight net p x = ap (weight net p) e in
+      let here : weight net p (place_of_flit net T p 0) ≡ weight net p x = ap (weight net p) e in
       heavy-not-past net T.own p (Link r a v) (tail_place net T p) (λ d k. worm.near d p k) (worm.near (Link r a v) p h).0 (worm.placed p (last_of net p) (valid-last net built p l)) (omega arith)
 
 module _ (net : Setup) (built : IsBuilt net) (wired : IsWired net) (S : State) (whole : IsWhole net S) where
@@ -154,7 +154,7 @@ module _ (net : Setup) (built : IsBuilt net) (wired : IsWired net) (S : State) (
         goes node q one j h false g src = cc g
         goes node q one j h true g src =
             let same : ◌≡◌ {A = Injection net} (record { packet = q; channel = j; begins = false }) one = cc in
-            credited_sound.worm.begun j q h (ap (λ (x : Injection net). place_of net credited x.packet 0) same ∙ src)
+            credited_sound.worm.begun j q h (ap (λ (x : Injection net). place_of_flit net credited x.packet 0) same ∙ src)
 
         entered : (node : ℕ) (one : Injection net) → injection_at net credited n node ≡ Some one → head_place net credited one.packet ≡ Source → (w : ℕ) → Has (one.channel, w) credited.own → ⊥
         entered node one e src w h =

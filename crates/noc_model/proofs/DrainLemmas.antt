@@ -3,7 +3,7 @@ use Rattle.std.proofs.Common.{◌≡◌, ℕ, zero, suc, ◌+◌, ◌-◌, ◌<�
 use Rattle.std.specs.Prelude.{find, nat_eq, nat_le, ◌&&◌, option_map, unwrap_or, is_none}
 use Rattle.std.specs.List.{enumerate_from}
 use Rattle.std.proofs.lemmas.Bool.{true≢false, and_from, and_parts, le-leb, false_from_ne_true}
-use Rattle.noc_model.specs.Network.{opening_state, after_verdicts, after_injection, In, Injection, Located, On, Out, Place, Setup, Source, State, after_credits, after_landing, arrival_in, first_at_source, first_in, frozen, gone_to, injected_place, injections, is_at_source, is_the_flit, landed_place, moved_place, network_cycle, next_channel, out_cycle, packet_at, state_at, tail_place, verdict_in}
+use Rattle.noc_model.specs.Network.{opening_state, after_verdicts, after_injection, In, Injection, Located, On, Out, Place, Setup, Source, State, after_credits, after_landing, arrival_in, first_at_source, front_in, frozen_state, gone_to, injected_place, injections, is_at_source, is_the_flit, landed_place, moved_place, network_cycle, next_channel, out_cycle, packet_at, state_at, tail_place, verdict_in}
 use Rattle.noc_model.specs.Progress.{budget, events, is_pending, remainder}
 use Rattle.noc_packet.specs.declared.packet.Packet.{Packet}
 use Rattle.noc_route.specs.Channel.{Channel, Eject, Inject, Link}
@@ -53,9 +53,9 @@ module _ (net : Setup) where
 
   -- a tail that is out stays out
   pub tail-out : (n : ℕ) (S : State) (p m : ℕ) → tail_place net S p ≡ Out m → tail_place net (network_cycle net n S) p ≡ Out m
-  unfolding after_credits after_landing frozen after_injection network_cycle after_verdicts
+  unfolding after_credits after_landing frozen_state after_injection network_cycle after_verdicts
   tail-out n S p m e =
-      place-out (goes n (frozen net n S)) (λ f. refl) (λ f. refl) (λ f m e. ap (moved_place net (frozen net n S) n f) e) (frozen net n S).at p ((packet_at net p).length - 1) m
+      place-out (goes n (frozen_state net n S)) (λ f. refl) (λ f. refl) (λ f m e. ap (moved_place net (frozen_state net n S) n f) e) (frozen_state net n S).at p ((packet_at net p).length - 1) m
       (place-out (injects n (credited S)) (λ f. refl) (λ f. refl) (injected-out n (credited S)) (credited S).at p ((packet_at net p).length - 1) m
       (place-out lands (λ f. refl) (λ f. refl) (λ f m e. ap (landed_place net) e) S.at p ((packet_at net p).length - 1) m e))
 
@@ -70,9 +70,9 @@ module _ (net : Setup) where
   IsPast n S = (f : Located) (m : ℕ) → Has f S.at → f.place ≡ Out m → m < n
 
   past-cycle : (n : ℕ) (S : State) → IsPast n S → IsPast (suc n) (network_cycle net n S)
-  unfolding IsPast frozen network_cycle after_injection after_verdicts after_credits after_landing
+  unfolding IsPast frozen_state network_cycle after_injection after_verdicts after_credits after_landing
   past-cycle n S past f m h e =
-      let a = map-has (goes n (frozen net n S)) f (frozen net n S).at h in
+      let a = map-has (goes n (frozen_state net n S)) f (frozen_state net n S).at h in
       let b = map-has (injects n (credited S)) a.0 (credited S).at a.1 in
       let c = map-has lands b.0 S.at b.1 in
       moved a.0 a.0.place refl (sym (ap (λ (x : Located). x.place) a.2) ∙ e)
@@ -95,11 +95,11 @@ module _ (net : Setup) where
           at None k = k
           at (Some one) k = kept (is_at_source x.place && is_the_flit net x (first_at_source net (credited S) x.packet)) one.channel k
 
-      moved : (x : Located) (q : Place) → x.place ≡ q → moved_place net (frozen net n S) n x x.place ≡ Out m → (x.place ≡ Out m → m < n) → m < suc n
-      moved x Source k g rest = let z : Source ≡ Out m = sym (ap (moved_place net (frozen net n S) n x) k) ∙ g in absurd (cc z)
-      moved x (On d) k g rest = let z : On d ≡ Out m = sym (ap (moved_place net (frozen net n S) n x) k) ∙ g in absurd (cc z)
-      moved x (Out i) k g rest = let z : Out i ≡ Out m = sym (ap (moved_place net (frozen net n S) n x) k) ∙ g in let l = rest (k ∙ z) in omega arith
-      moved x (In d) k g rest = gone-out (is_moved (verdict_in net (frozen net n S) d) && is_the_flit net x (first_in net (frozen net n S) d)) (next_channel net (frozen net n S) d) (sym (ap (moved_place net (frozen net n S) n x) k) ∙ g)
+      moved : (x : Located) (q : Place) → x.place ≡ q → moved_place net (frozen_state net n S) n x x.place ≡ Out m → (x.place ≡ Out m → m < n) → m < suc n
+      moved x Source k g rest = let z : Source ≡ Out m = sym (ap (moved_place net (frozen_state net n S) n x) k) ∙ g in absurd (cc z)
+      moved x (On d) k g rest = let z : On d ≡ Out m = sym (ap (moved_place net (frozen_state net n S) n x) k) ∙ g in absurd (cc z)
+      moved x (Out i) k g rest = let z : Out i ≡ Out m = sym (ap (moved_place net (frozen_state net n S) n x) k) ∙ g in let l = rest (k ∙ z) in omega arith
+      moved x (In d) k g rest = gone-out (is_moved (verdict_in net (frozen_state net n S) d) && is_the_flit net x (front_in net (frozen_state net n S) d)) (next_channel net (frozen_state net n S) d) (sym (ap (moved_place net (frozen_state net n S) n x) k) ∙ g)
         where
           gone-out : (b : Bool) (next : Option Channel) → cond b (gone_to net n d next) (In d) ≡ Out m → m < suc n
           gone-out false next z = absurd (cc z)

@@ -8,10 +8,10 @@ use Rattle.noc_topo.specs.Shape.{nodes}
 use Rattle.noc_packet.specs.Packet.{flit_at}
 use Rattle.noc_packet.specs.declared.packet.Flit.{Flit}
 use Rattle.noc_route.specs.Channel.{Channel, Inject}
-use Rattle.noc_vc.specs.Input.{landed, next_of}
+use Rattle.noc_vc.specs.Input.{input_after_land, next_of}
 use Rattle.noc_vc.specs.declared.input.InputState.{InputState}
 use Rattle.noc_model.specs.Lockstep.{has_come, come_count, seen_flits, seen_input, seen_phase, is_present, last_come}
-use Rattle.noc_model.specs.Network.{Setup, State, Located, Place, Source, In, Injection, packet_at, place_of, tail_place, buffer_of, owner_of, has_channel, is_in, is_past, injections, injection_at, after_injection}
+use Rattle.noc_model.specs.Network.{Setup, State, Located, Place, Source, In, Injection, packet_at, place_of_flit, tail_place, buffer_of, owner_of, has_channel, is_in, is_past, injections, injection_at, after_injection}
 use Rattle.noc_model.proofs.BufferLemmas.{same_channel-refl, same_channel-true}
 use Rattle.noc_model.proofs.InjectionPhase.{IsEntry, light, source-behind, apart-same}
 use Rattle.noc_model.proofs.InjectionState.{entry-of, entries-apart}
@@ -42,7 +42,7 @@ module _ (net : Setup) (good : IsGood net) (M : State) (x : IsOrderedFrozen net 
   pub member : Has one (injections net M n)
   member = Has-filter_mapped (injection_at net M n) r one (below (nodes net.relation.grid)) (below-has r (nodes net.relation.grid) l) found
 
-  pub is_entry : IsEntry net good.built M.own (place_of net M) (worm net good M x n) r one
+  pub is_entry : IsEntry net good.built M.own (place_of_flit net M) (worm net good M x n) r one
   is_entry = entry-of net good.built M (keyed net good M x n) (worm net good M x n) n r one found
 
   pub entered : Enters net good M x n one.packet one
@@ -71,7 +71,7 @@ module _ (net : Setup) (good : IsGood net) (M : State) (x : IsOrderedFrozen net 
   come-from : (y : Place) → IsPlaced net (after_injection net n M).own one.packet y → y ≢ Source → has_come net one.channel (goal net one.packet) y ≡ true
   come-from y placed off =
       let h : Has (Inject r is_entry.vc, one.packet) (after_injection net n M).own = subst (λ (z : Channel). Has (z, one.packet) (after_injection net n M).own) is_entry.channel own in
-      let w = light net good.built (after_injection net n M).own (place_of net (after_injection net n M)) (wormT net good M x n) one.packet y placed off in
+      let w = light net good.built (after_injection net n M).own (place_of_flit net (after_injection net n M)) (wormT net good M x n) one.packet y placed off in
       ap (λ (z : Channel). has_come net z (goal net one.packet) y) is_entry.channel
       ∙ come-level net good.built (after_injection net n M) (keyedT net good M x n) (wormT net good M x n) one.packet (Inject r is_entry.vc) y (h, (λ z. z)) placed
       ∙ le-leb _ _ w
@@ -84,16 +84,16 @@ module _ (net : Setup) (good : IsGood net) (M : State) (x : IsOrderedFrozen net 
       (λ i u. at i u (cases_eq i entered.flit))
       (λ i u w. after i u w)
     where
-      at : (i : ℕ) → i < entered.flit + 1 → (i ≡ entered.flit) ⊎ (i ≡ entered.flit → ⊥) → has_come net one.channel (goal net one.packet) (place_of net (after_injection net n M) one.packet i) ≡ true
-      at i u (inl e) = ap (λ j. has_come net one.channel (goal net one.packet) (place_of net (after_injection net n M) one.packet j)) e ∙ ap (has_come net one.channel (goal net one.packet)) entered.now ∙ or_left _ _ (same_channel-refl one.channel)
+      at : (i : ℕ) → i < entered.flit + 1 → (i ≡ entered.flit) ⊎ (i ≡ entered.flit → ⊥) → has_come net one.channel (goal net one.packet) (place_of_flit net (after_injection net n M) one.packet i) ≡ true
+      at i u (inl e) = ap (λ j. has_come net one.channel (goal net one.packet) (place_of_flit net (after_injection net n M) one.packet j)) e ∙ ap (has_come net one.channel (goal net one.packet)) entered.now ∙ or_left _ _ (same_channel-refl one.channel)
       at i u (inr e) =
           let v : IsValid net one.packet i = valid-below net good.built one.packet i entered.flit entered.valid (omega arith) in
-          come-from (place_of net (after_injection net n M) one.packet i) ((wormT net good M x n).placed one.packet i v) (λ z. entered.first i (omega arith) (sym (entered.others i v e) ∙ z))
+          come-from (place_of_flit net (after_injection net n M) one.packet i) ((wormT net good M x n).placed one.packet i v) (λ z. entered.first i (omega arith) (sym (entered.others i v e) ∙ z))
 
-      after : (i : ℕ) → entered.flit + 1 ≤ i → i < (packet_at net one.packet).length → has_come net one.channel (goal net one.packet) (place_of net (after_injection net n M) one.packet i) ≡ false
+      after : (i : ℕ) → entered.flit + 1 ≤ i → i < (packet_at net one.packet).length → has_come net one.channel (goal net one.packet) (place_of_flit net (after_injection net n M) one.packet i) ≡ false
       after i u w =
           let v : IsValid net one.packet i = (is_entry.low, w) in
-          let source : place_of net M one.packet i ≡ Source = source-behind net good.built M.own (place_of net M) (worm net good M x n) one.packet entered.flit i v (omega arith) entered.was in
+          let source : place_of_flit net M one.packet i ≡ Source = source-behind net good.built M.own (place_of_flit net M) (worm net good M x n) one.packet entered.flit i v (omega arith) entered.was in
           ap (has_come net one.channel (goal net one.packet)) (entered.others i v (λ e. omega arith) ∙ source)
 
   abbrev flit : Flit
@@ -103,7 +103,7 @@ module _ (net : Setup) (good : IsGood net) (M : State) (x : IsOrderedFrozen net 
   flit_of f = flit_at (packet_at net f.packet) f.packet f.index
 
   abbrev last : Located
-  last = record { packet = one.packet; index = entered.flit; place = place_of net M one.packet entered.flit }
+  last = record { packet = one.packet; index = entered.flit; place = place_of_flit net M one.packet entered.flit }
 
   -- the flit is behind those of the buffer
   pub flits-in : seen_flits net (after_injection net n M) (Some one.channel) ≡ seen_flits net M (Some one.channel) ++ flit_at (packet_at net one.packet) one.packet entered.flit ∷ []
@@ -122,17 +122,17 @@ module _ (net : Setup) (good : IsGood net) (M : State) (x : IsOrderedFrozen net 
           let b = in-buffer net good.built M (keyed net good M x n) (worm net good M x n) one.channel g (Has-kept (λ (f : Located). is_in one.channel f.place) g M.at h e) in
           let ownM : Has (one.channel, g.packet) M.own = owner-has net M one.channel g.packet b.holder in
           let same : g.packet ≡ one.packet = Rattle.noc_model.proofs.SourceLemmas.same-owner net good (after_injection net n M) (keyedT net good M x n) (wormT net good M x n) one.channel g.packet one.packet (owned-left net good M x n one.channel g.packet ownM) own in
-          let at_g : place_of net M one.packet g.index ≡ In one.channel = ap (λ q. place_of net M q g.index) (sym same) ∙ b.there in
+          let at_g : place_of_flit net M one.packet g.index ≡ In one.channel = ap (λ q. place_of_flit net M q g.index) (sym same) ∙ b.there in
           let v : IsValid net one.packet g.index = subst (λ q. IsValid net q g.index) same b.valid in
           (ap (λ (y : Place). record g { place = y }) (injected-keeps net good M x n g (find (λ (o : Injection net). nat_eq o.packet g.packet) (injections net M n)) one.channel e), same, before g.index v at_g)
         where
-          before : (i : ℕ) → IsValid net one.packet i → place_of net M one.packet i ≡ In one.channel → i < entered.flit
+          before : (i : ℕ) → IsValid net one.packet i → place_of_flit net M one.packet i ≡ In one.channel → i < entered.flit
           before i v z = by (Rattle.std.proofs.lemmas.Bool.cases_lt i entered.flit)
             where
               by : (i < entered.flit) ⊎ (entered.flit ≤ i) → i < entered.flit
               by (inl u) = u
               by (inr u) =
-                  let source = source-behind net good.built M.own (place_of net M) (worm net good M x n) one.packet entered.flit i v u entered.was in
+                  let source = source-behind net good.built M.own (place_of_flit net M) (worm net good M x n) one.packet entered.flit i v u entered.was in
                   let bad : Source ≡ In one.channel = sym source ∙ z in absurd (cc bad)
 
       missed : (g : Located) → Has g M.at → is_in one.channel g.place ≡ false → (g ≡ last) ⊎ (is_in one.channel (step net good M x n g).place ≡ false)
@@ -145,7 +145,7 @@ module _ (net : Setup) (good : IsGood net) (M : State) (x : IsOrderedFrozen net 
               v : IsValid net g.packet g.index
               v = (keyed net good M x n).valid g h
 
-              here : place_of net M g.packet g.index ≡ g.place
+              here : place_of_flit net M g.packet g.index ≡ g.place
               here = place-of-flit net M (keyed net good M x n) g h
 
               same : Rattle.noc_model.proofs.EntryLemmas.Goes net good M x n g.packet g.index → g ≡ last
@@ -158,12 +158,12 @@ module _ (net : Setup) (good : IsGood net) (M : State) (x : IsOrderedFrozen net 
                   let own_two = Rattle.noc_model.proofs.EntryLemmas.entry-own net good M x n two m k2.0 k2.1.vc g.packet g.index v q now k2.1.channel in
                   let own_g : Has (one.channel, g.packet) (after_injection net n M).own = subst (λ (y : Channel). Has (y, g.packet) (after_injection net n M).own) (sym (is_c ∙ k2.1.channel)) own_two in
                   let packet : g.packet ≡ one.packet = Rattle.noc_model.proofs.SourceLemmas.same-owner net good (after_injection net n M) (keyedT net good M x n) (wormT net good M x n) one.channel g.packet one.packet own_g own in
-                  let index : g.index ≡ entered.flit = index-is g.index (subst (λ j. IsValid net j g.index) packet v) (ap (λ j. place_of net M j g.index) (sym packet) ∙ was) (ap (λ j. place_of net (after_injection net n M) j g.index) (sym packet) ∙ now) in
-                  let place : g.place ≡ place_of net M one.packet entered.flit = sym here ∙ ap (λ j. place_of net M j g.index) packet ∙ ap (place_of net M one.packet) index in
+                  let index : g.index ≡ entered.flit = index-is g.index (subst (λ j. IsValid net j g.index) packet v) (ap (λ j. place_of_flit net M j g.index) (sym packet) ∙ was) (ap (λ j. place_of_flit net (after_injection net n M) j g.index) (sym packet) ∙ now) in
+                  let place : g.place ≡ place_of_flit net M one.packet entered.flit = sym here ∙ ap (λ j. place_of_flit net M j g.index) packet ∙ ap (place_of_flit net M one.packet) index in
                   let all : record { packet = g.packet; index = g.index; place = g.place } ≡ last = cc in
                   all
                 where
-                  index-is : (i : ℕ) → IsValid net one.packet i → place_of net M one.packet i ≡ Source → place_of net (after_injection net n M) one.packet i ≡ In two.channel → i ≡ entered.flit
+                  index-is : (i : ℕ) → IsValid net one.packet i → place_of_flit net M one.packet i ≡ Source → place_of_flit net (after_injection net n M) one.packet i ≡ In two.channel → i ≡ entered.flit
                   index-is i w a b = by (cases_eq i entered.flit)
                     where
                       by : (i ≡ entered.flit) ⊎ (i ≡ entered.flit → ⊥) → i ≡ entered.flit
@@ -171,7 +171,7 @@ module _ (net : Setup) (good : IsGood net) (M : State) (x : IsOrderedFrozen net 
                       by (inr u) = let bad : Source ≡ In two.channel = sym a ∙ sym (entered.others i w u) ∙ b in absurd (cc bad)
 
   -- the input channel has the flit
-  pub input-in : (i : ℕ) → seen_input net (after_injection net n M) r i (Some one.channel) ≡ landed (seen_input net M r i (Some one.channel)) (flit_at (packet_at net one.packet) one.packet entered.flit)
+  pub input-in : (i : ℕ) → seen_input net (after_injection net n M) r i (Some one.channel) ≡ input_after_land (seen_input net M r i (Some one.channel)) (flit_at (packet_at net one.packet) one.packet entered.flit)
   input-in i =
       seen-held net (after_injection net n M) r i one.packet one.channel ownerT
       ∙ ap (λ (ph : InputState). made ph (if is_present net (after_injection net n M) one.channel one.packet then Some one.packet else None) (option_and_then next_of (last_come net (after_injection net n M) one.channel one.packet))) phase

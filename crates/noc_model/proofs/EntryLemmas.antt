@@ -6,7 +6,7 @@ use Rattle.noc_topo.specs.Words.{Has}
 use Rattle.noc_topo.specs.Shape.{distance}
 use Rattle.noc_route.specs.Channel.{Channel, Link, Inject, Eject, same_channel}
 use Rattle.noc_model.specs.Lockstep.{has_come, come_count}
-use Rattle.noc_model.specs.Network.{Setup, State, Located, Place, Source, In, Injection, place_of, owner_of, owned_by, next_channel, leads_from, injections, injected_place, after_injection}
+use Rattle.noc_model.specs.Network.{Setup, State, Located, Place, Source, In, Injection, place_of_flit, owner_of, owned_by, next_channel, leads_from, injections, injected_place, after_injection}
 use Rattle.noc_model.specs.Progress.{hops}
 use Rattle.noc_model.proofs.BufferLemmas.{same_channel-true}
 use Rattle.noc_model.proofs.InjectionPhase.{IsEntry, IsEnteredBy, IsInjected}
@@ -34,10 +34,10 @@ module _ (net : Setup) (good : IsGood net) (M : State) (x : IsOrderedFrozen net 
   abbrev pub keyed : IsKeyed net M.at
   keyed = x.whole.sound.keyed
 
-  abbrev pub worm : IsWorm net M.own (place_of net M)
+  abbrev pub worm : IsWorm net M.own (place_of_flit net M)
   worm = x.whole.sound.worm
 
-  pub wormT : IsWorm net T.own (place_of net T)
+  pub wormT : IsWorm net T.own (place_of_flit net T)
   wormT = worm-after_injection net good.built M keyed worm n
 
   pub keyedT : IsKeyed net T.at
@@ -46,27 +46,27 @@ module _ (net : Setup) (good : IsGood net) (M : State) (x : IsOrderedFrozen net 
   pub routedT : IsRoutedFrozen net T
   routedT = routed-injection net good.built M keyed worm n x.whole.routed
 
-  pub entry : (one : Injection net) → Has one (injections net M n) → (node : ℕ) × IsEntry net good.built M.own (place_of net M) worm node one
+  pub entry : (one : Injection net) → Has one (injections net M n) → (node : ℕ) × IsEntry net good.built M.own (place_of_flit net M) worm node one
   entry one h = entries-are net good.built M keyed worm n one h
 
   abbrev pub Enters : ℕ → Injection net → Type 0
-  Enters p one = IsEnteredBy net good.built M.own (place_of net M) worm (all_entries net good.built M keyed worm n) (entries-are net good.built M keyed worm n) (entries-apart net good.built M keyed worm n) (place_of net T) p one
+  Enters p one = IsEnteredBy net good.built M.own (place_of_flit net M) worm (all_entries net good.built M keyed worm n) (entries-are net good.built M keyed worm n) (entries-apart net good.built M keyed worm n) (place_of_flit net T) p one
 
   pub data Moved (p : ℕ) : Type 0 where
-    still : ((i : ℕ) → IsValid net p i → place_of net T p i ≡ place_of net M p i) → ((one : Injection net) → Has one (injections net M n) → one.packet ≢ p) → Moved p
+    still : ((i : ℕ) → IsValid net p i → place_of_flit net T p i ≡ place_of_flit net M p i) → ((one : Injection net) → Has one (injections net M n) → one.packet ≢ p) → Moved p
     enters : (one : Injection net) → Has one (injections net M n) → one.packet ≡ p → Enters p one → Moved p
 
   pub moved : (p : ℕ) → p < length net.packets → Moved p
   moved p l = by (entries-move net good.built M keyed worm n p l)
     where
-      by : IsInjected net good.built M.own (place_of net M) worm (all_entries net good.built M keyed worm n) (entries-are net good.built M keyed worm n) (entries-apart net good.built M keyed worm n) (place_of net T) p → Moved p
+      by : IsInjected net good.built M.own (place_of_flit net M) worm (all_entries net good.built M keyed worm n) (entries-are net good.built M keyed worm n) (entries-apart net good.built M keyed worm n) (place_of_flit net T) p → Moved p
       by (inl s) = still s.0 s.1
       by (inr r) = enters r.0 r.1 r.2 r.3
 
   -- where a flit is and goes
   pub data Goes (p i : ℕ) : Type 0 where
-    stays : place_of net T p i ≡ place_of net M p i → Goes p i
-    goes_in : (one : Injection net) → Has one (injections net M n) → one.packet ≡ p → place_of net M p i ≡ Source → place_of net T p i ≡ In one.channel → Goes p i
+    stays : place_of_flit net T p i ≡ place_of_flit net M p i → Goes p i
+    goes_in : (one : Injection net) → Has one (injections net M n) → one.packet ≡ p → place_of_flit net M p i ≡ Source → place_of_flit net T p i ≡ In one.channel → Goes p i
 
   pub goes : (p i : ℕ) → IsValid net p i → Goes p i
   goes p i v = by (moved p v.0)
@@ -76,10 +76,10 @@ module _ (net : Setup) (good : IsGood net) (M : State) (x : IsOrderedFrozen net 
       by (enters one h e k) = at (cases_eq i k.flit)
         where
           at : (i ≡ k.flit) ⊎ (i ≡ k.flit → ⊥) → Goes p i
-          at (inl z) = goes_in one h e (ap (place_of net M p) z ∙ k.was) (ap (place_of net T p) z ∙ k.now)
+          at (inl z) = goes_in one h e (ap (place_of_flit net M p) z ∙ k.was) (ap (place_of_flit net T p) z ∙ k.now)
           at (inr z) = stays (k.others i v z)
 
-  pub to-place : (f : Located) → Has f M.at → place_of net T f.packet f.index ≡ (step f).place
+  pub to-place : (f : Located) → Has f M.at → place_of_flit net T f.packet f.index ≡ (step f).place
   unfolding after_injection
   to-place f h =
       place-stepped net (λ (g : Located). injected_place net M g (find (λ (one : Injection net). nat_eq one.packet g.packet) (injections net M n))) M T keyed refl f.packet f.index (keyed.valid f h)
@@ -180,13 +180,13 @@ module _ (net : Setup) (good : IsGood net) (M : State) (x : IsOrderedFrozen net 
   low-far p (Inject a w) h e = let k = far-source p a w h in omega (arith, k)
   low-far p (Eject a w) h e = absurd (e tt)
 
-  pub entry-own : (one : Injection net) → Has one (injections net M n) → (a v p i : ℕ) → IsValid net p i → one.packet ≡ p → place_of net T p i ≡ In one.channel → one.channel ≡ Inject a v → Has (Inject a v, p) T.own
+  pub entry-own : (one : Injection net) → Has one (injections net M n) → (a v p i : ℕ) → IsValid net p i → one.packet ≡ p → place_of_flit net T p i ≡ In one.channel → one.channel ≡ Inject a v → Has (Inject a v, p) T.own
   entry-own one h a v p i valid e now is = subst (λ (y : Place). Rattle.noc_model.proofs.WormRecord.IsPlaced net T.own p y) (now ∙ ap In is) (wormT.placed p i valid)
 
-  pub come-quiet : (p i : ℕ) (c : Channel) → IsValid net p i → IsHeld net M c p → Quiet c → has_come net c (goal net p) (place_of net T p i) ≡ has_come net c (goal net p) (place_of net M p i)
+  pub come-quiet : (p i : ℕ) (c : Channel) → IsValid net p i → IsHeld net M c p → Quiet c → has_come net c (goal net p) (place_of_flit net T p i) ≡ has_come net c (goal net p) (place_of_flit net M p i)
   come-quiet p i c v h quiet = by (goes p i v)
     where
-      by : Goes p i → has_come net c (goal net p) (place_of net T p i) ≡ has_come net c (goal net p) (place_of net M p i)
+      by : Goes p i → has_come net c (goal net p) (place_of_flit net T p i) ≡ has_come net c (goal net p) (place_of_flit net M p i)
       by (stays e) = ap (has_come net c (goal net p)) e
       by (goes_in one k e was now) =
           let r = entry one k in
@@ -210,7 +210,7 @@ module _ (net : Setup) (good : IsGood net) (M : State) (x : IsOrderedFrozen net 
       let e : f.packet ≡ p = sym (eqb-true p f.packet q) in
       let v = keyed.valid f m in
       ap (has_come net c (goal net p)) (sym (to-place f m))
-      ∙ subst (λ k. has_come net c (goal net p) (place_of net T f.packet f.index) ≡ has_come net c (goal net p) (place_of net M f.packet f.index)) e
-      (subst (λ k. has_come net c (goal net k) (place_of net T f.packet f.index) ≡ has_come net c (goal net k) (place_of net M f.packet f.index)) e
+      ∙ subst (λ k. has_come net c (goal net p) (place_of_flit net T f.packet f.index) ≡ has_come net c (goal net p) (place_of_flit net M f.packet f.index)) e
+      (subst (λ k. has_come net c (goal net k) (place_of_flit net T f.packet f.index) ≡ has_come net c (goal net k) (place_of_flit net M f.packet f.index)) e
       (come-quiet f.packet f.index c v (subst (λ k. IsHeld net M c k) (sym e) h) quiet))
       ∙ ap (has_come net c (goal net p)) (place-of-flit net M keyed f m))

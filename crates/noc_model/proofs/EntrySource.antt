@@ -9,7 +9,7 @@ use Rattle.noc_topo.specs.Shape.{nodes}
 use Rattle.noc_packet.specs.declared.packet.Packet.{Packet}
 use Rattle.noc_route.specs.Channel.{Channel, Inject, channel_vc}
 use Rattle.noc_model.specs.Lockstep.{starts_at, has_flit_at_source, seen_sending}
-use Rattle.noc_model.specs.Network.{Setup, State, Located, Place, Source, In, Injection, packet_at, place_of, tail_place, flits_of, owned_by, is_at_source, is_injection_of, first_waiting, injections, injection_at, after_injection}
+use Rattle.noc_model.specs.Network.{Setup, State, Located, Place, Source, In, Injection, packet_at, place_of_flit, tail_place, flits_of, owned_by, is_at_source, is_injection_of, first_waiting, injections, injection_at, after_injection}
 use Rattle.noc_model.proofs.FirstOfNode.{Precedes}
 use Rattle.noc_model.proofs.InjectionPhase.{source-behind}
 use Rattle.noc_model.proofs.InjectionState.{waiting-is}
@@ -34,12 +34,12 @@ module _ (net : Setup) (good : IsGood net) (M : State) (x : IsOrderedFrozen net 
   at_source f = is_at_source f.place
 
   -- a packet that has no entry waits as it did
-  module _ (p : ℕ) (same : (i : ℕ) → IsValid net p i → place_of net (after_injection net n M) p i ≡ place_of net M p i) where
+  module _ (p : ℕ) (same : (i : ℕ) → IsValid net p i → place_of_flit net (after_injection net n M) p i ≡ place_of_flit net M p i) where
     place-same : (f : Located) → Has f M.at → nat_eq p f.packet ≡ true → (step net good M x n f).place ≡ f.place
     place-same f h e =
         let is_p : p ≡ f.packet = eqb-true p f.packet e in
         let v : IsValid net p f.index = subst (λ q. IsValid net q f.index) (sym is_p) ((keyed net good M x n).valid f h) in
-        sym (to-place net good M x n f h) ∙ ap (λ q. place_of net (after_injection net n M) q f.index) (sym is_p) ∙ same f.index v ∙ ap (λ q. place_of net M q f.index) is_p ∙ place-of-flit net M (keyed net good M x n) f h
+        sym (to-place net good M x n f h) ∙ ap (λ q. place_of_flit net (after_injection net n M) q f.index) (sym is_p) ∙ same f.index v ∙ ap (λ q. place_of_flit net M q f.index) is_p ∙ place-of-flit net M (keyed net good M x n) f h
 
     pub waits-still : waits net (after_injection net n M) 0 p ≡ waits net M 0 p
     unfolding after_injection
@@ -60,10 +60,10 @@ module _ (net : Setup) (good : IsGood net) (M : State) (x : IsOrderedFrozen net 
         let k = Rattle.noc_model.proofs.InjectionState.entry-of net good.built M (keyed net good M x n) (worm net good M x n) n f.0 one f.2 in
         ap (injection_at net M n) (sym (k.from ∙ e)) ∙ f.2
 
-    no-entry : injection_at net M n r ≡ None → (p : ℕ) → p < length net.packets → (packet_at net p).source ≡ r → (i : ℕ) → IsValid net p i → place_of net (after_injection net n M) p i ≡ place_of net M p i
+    no-entry : injection_at net M n r ≡ None → (p : ℕ) → p < length net.packets → (packet_at net p).source ≡ r → (i : ℕ) → IsValid net p i → place_of_flit net (after_injection net n M) p i ≡ place_of_flit net M p i
     no-entry none p low e = by (moved net good M x n p low)
       where
-        by : Moved net good M x n p → (i : ℕ) → IsValid net p i → place_of net (after_injection net n M) p i ≡ place_of net M p i
+        by : Moved net good M x n p → (i : ℕ) → IsValid net p i → place_of_flit net (after_injection net n M) p i ≡ place_of_flit net M p i
         by (still s t) = s
         by (enters one h k m) = absurd (none-some one (sym none ∙ entry-here one h (ap (λ q. (packet_at net q).source) k ∙ e)))
 
@@ -124,7 +124,7 @@ module _ (net : Setup) (good : IsGood net) (M : State) (x : IsOrderedFrozen net 
       source = (is_entry net good M x n r l one found).from
 
       -- the other packets of the node have no entry
-      others : (q : ℕ) → q < length net.packets → (packet_at net q).source ≡ r → q ≢ one.packet → ((i : ℕ) → IsValid net q i → place_of net (after_injection net n M) q i ≡ place_of net M q i) × ((two : Injection net) → Has two (injections net M n) → two.packet ≢ q)
+      others : (q : ℕ) → q < length net.packets → (packet_at net q).source ≡ r → q ≢ one.packet → ((i : ℕ) → IsValid net q i → place_of_flit net (after_injection net n M) q i ≡ place_of_flit net M q i) × ((two : Injection net) → Has two (injections net M n) → two.packet ≢ q)
       others q lq e other = by (moved net good M x n q lq)
         where
           same : (two : Injection net) → Has two (injections net M n) → two.packet ≡ q → ⊥
@@ -132,7 +132,7 @@ module _ (net : Setup) (good : IsGood net) (M : State) (x : IsOrderedFrozen net 
               let s : two ≡ one = same_Some _ _ (sym (entry-here two h (ap (λ j. (packet_at net j).source) z ∙ e)) ∙ found) in
               other (sym z ∙ ap (λ (y : Injection net). y.packet) s)
 
-          by : Moved net good M x n q → ((i : ℕ) → IsValid net q i → place_of net (after_injection net n M) q i ≡ place_of net M q i) × ((two : Injection net) → Has two (injections net M n) → two.packet ≢ q)
+          by : Moved net good M x n q → ((i : ℕ) → IsValid net q i → place_of_flit net (after_injection net n M) q i ≡ place_of_flit net M q i) × ((two : Injection net) → Has two (injections net M n) → two.packet ≢ q)
           by (still s t) = (s, t)
           by (enters two h z m) = absurd (same two h z)
 
@@ -141,8 +141,8 @@ module _ (net : Setup) (good : IsGood net) (M : State) (x : IsOrderedFrozen net 
       count-was =
           let e = entered net good M x n r l one found in
           count-places net M (keyed net good M x n) (λ y. not (is_at_source y)) one.packet e.flit low (let v = e.valid.1 in omega (arith, v))
-          (λ i u. off (place_of net M one.packet i) (e.first i u))
-          (λ i u w. ap (λ y. not (is_at_source y)) (source-behind net good.built M.own (place_of net M) (worm net good M x n) one.packet e.flit i (low, w) u e.was))
+          (λ i u. off (place_of_flit net M one.packet i) (e.first i u))
+          (λ i u w. ap (λ y. not (is_at_source y)) (source-behind net good.built M.own (place_of_flit net M) (worm net good M x n) one.packet e.flit i (low, w) u e.was))
         where
           off : (y : Place) → y ≢ Source → not (is_at_source y) ≡ true
           off Source z = absurd (z refl)
@@ -155,7 +155,7 @@ module _ (net : Setup) (good : IsGood net) (M : State) (x : IsOrderedFrozen net 
           let e = entered net good M x n r l one found in
           count-places net (after_injection net n M) (keyedT net good M x n) (λ y. not (is_at_source y)) one.packet (e.flit + 1) low (let v = e.valid.1 in omega (arith, v))
           (λ i u. before i u (cases_eq i e.flit))
-          (λ i u w. ap (λ y. not (is_at_source y)) (e.others i (low, w) (λ z. omega arith) ∙ source-behind net good.built M.own (place_of net M) (worm net good M x n) one.packet e.flit i (low, w) (omega arith) e.was))
+          (λ i u w. ap (λ y. not (is_at_source y)) (e.others i (low, w) (λ z. omega arith) ∙ source-behind net good.built M.own (place_of_flit net M) (worm net good M x n) one.packet e.flit i (low, w) (omega arith) e.was))
         where
           off : (y : Place) → y ≢ Source → not (is_at_source y) ≡ true
           off Source z = absurd (z refl)
@@ -163,12 +163,12 @@ module _ (net : Setup) (good : IsGood net) (M : State) (x : IsOrderedFrozen net 
           off (In c) z = refl
           off (Rattle.noc_model.specs.Network.Out c) z = refl
 
-          before : (i : ℕ) → i < (entered net good M x n r l one found).flit + 1 → (i ≡ (entered net good M x n r l one found).flit) ⊎ (i ≡ (entered net good M x n r l one found).flit → ⊥) → not (is_at_source (place_of net (after_injection net n M) one.packet i)) ≡ true
-          before i u (inl z) = ap (λ j. not (is_at_source (place_of net (after_injection net n M) one.packet j))) z ∙ ap (λ y. not (is_at_source y)) (entered net good M x n r l one found).now
+          before : (i : ℕ) → i < (entered net good M x n r l one found).flit + 1 → (i ≡ (entered net good M x n r l one found).flit) ⊎ (i ≡ (entered net good M x n r l one found).flit → ⊥) → not (is_at_source (place_of_flit net (after_injection net n M) one.packet i)) ≡ true
+          before i u (inl z) = ap (λ j. not (is_at_source (place_of_flit net (after_injection net n M) one.packet j))) z ∙ ap (λ y. not (is_at_source y)) (entered net good M x n r l one found).now
           before i u (inr z) =
               let e = entered net good M x n r l one found in
               let v : IsValid net one.packet i = valid-below net good.built one.packet i e.flit e.valid (omega arith) in
-              off (place_of net (after_injection net n M) one.packet i) (λ y. e.first i (omega arith) (sym (e.others i v z) ∙ y))
+              off (place_of_flit net (after_injection net n M) one.packet i) (λ y. e.first i (omega arith) (sym (e.others i v z) ∙ y))
 
       -- it waits on exactly where the flit was not its tail
       waits-now : waits net (after_injection net n M) 0 one.packet ≡ not (nat_eq ((entered net good M x n r l one found).flit + 1) (packet_at net one.packet).length)
@@ -186,7 +186,7 @@ module _ (net : Setup) (good : IsGood net) (M : State) (x : IsOrderedFrozen net 
                   let m = Has-filter (λ (g : Located). nat_eq one.packet g.packet) f (after_injection net n M).at h in
                   let is_p : f.packet ≡ one.packet = sym (eqb-true one.packet f.packet m.1) in
                   let v : IsValid net one.packet f.index = subst (λ q. IsValid net q f.index) is_p ((keyedT net good M x n).valid f m.0) in
-                  let here : place_of net (after_injection net n M) one.packet f.index ≡ f.place = ap (λ q. place_of net (after_injection net n M) q f.index) (sym is_p) ∙ place-of-flit net (after_injection net n M) (keyedT net good M x n) f m.0 in
+                  let here : place_of_flit net (after_injection net n M) one.packet f.index ≡ f.place = ap (λ q. place_of_flit net (after_injection net n M) q f.index) (sym is_p) ∙ place-of-flit net (after_injection net n M) (keyedT net good M x n) f m.0 in
                   ap is_at_source (sym here) ∙ gone f.index v (cases_eq f.index (entered net good M x n r l one found).flit)
                 where
                   off : (y : Place) → y ≢ Source → is_at_source y ≡ false
@@ -195,19 +195,19 @@ module _ (net : Setup) (good : IsGood net) (M : State) (x : IsOrderedFrozen net 
                   off (In c) z = refl
                   off (Rattle.noc_model.specs.Network.Out c) z = refl
 
-                  gone : (i : ℕ) → IsValid net one.packet i → (i ≡ (entered net good M x n r l one found).flit) ⊎ (i ≡ (entered net good M x n r l one found).flit → ⊥) → is_at_source (place_of net (after_injection net n M) one.packet i) ≡ false
-                  gone i v (inl y) = ap (λ j. is_at_source (place_of net (after_injection net n M) one.packet j)) y ∙ ap is_at_source (entered net good M x n r l one found).now
+                  gone : (i : ℕ) → IsValid net one.packet i → (i ≡ (entered net good M x n r l one found).flit) ⊎ (i ≡ (entered net good M x n r l one found).flit → ⊥) → is_at_source (place_of_flit net (after_injection net n M) one.packet i) ≡ false
+                  gone i v (inl y) = ap (λ j. is_at_source (place_of_flit net (after_injection net n M) one.packet j)) y ∙ ap is_at_source (entered net good M x n r l one found).now
                   gone i v (inr y) =
                       let e = entered net good M x n r l one found in
                       let u = v.1 in
-                      off (place_of net (after_injection net n M) one.packet i) (λ q. e.first i (omega (arith, u, z, y)) (sym (e.others i v y) ∙ q))
+                      off (place_of_flit net (after_injection net n M) one.packet i) (λ q. e.first i (omega (arith, u, z, y)) (sym (e.others i v y) ∙ q))
           by (inr z) =
               let e = entered net good M x n r l one found in
               let lv = valid-last net good.built one.packet low in
               let v = e.valid.1 in
               let s = some in
-              let tail : place_of net (after_injection net n M) one.packet (last_of net one.packet) ≡ Source = e.others (last_of net one.packet) lv (λ y. z (omega arith)) ∙ (is_entry net good M x n r l one found).waits in
-              let f : Located = record { packet = one.packet; index = last_of net one.packet; place = place_of net (after_injection net n M) one.packet (last_of net one.packet) } in
+              let tail : place_of_flit net (after_injection net n M) one.packet (last_of net one.packet) ≡ Source = e.others (last_of net one.packet) lv (λ y. z (omega arith)) ∙ (is_entry net good M x n r l one found).waits in
+              let f : Located = record { packet = one.packet; index = last_of net one.packet; place = place_of_flit net (after_injection net n M) one.packet (last_of net one.packet) } in
               let m : Has f (flits_of net (after_injection net n M) one.packet) = Has-kept (λ (g : Located). nat_eq one.packet g.packet) f (after_injection net n M).at (flit-there net (after_injection net n M) (keyedT net good M x n) one.packet (last_of net one.packet) lv) (eq-eqb one.packet one.packet refl) in
               list_any-from at_source (flits_of net (after_injection net n M) one.packet) f m (ap is_at_source tail) ∙ sym (ap not (ne_eqb _ _ z))
 
@@ -277,13 +277,13 @@ module _ (net : Setup) (good : IsGood net) (M : State) (x : IsOrderedFrozen net 
                 in_rest : Has (q, packet_at net q) rest
                 in_rest = subst (λ (ys : List (ℕ × Packet)). Has (q, packet_at net q) ys) (sym a ∙ queue-last e) (inl refl)
 
-                waiting : (q < length net.packets) × (r ≡ (packet_at net q).source) × (place_of net (after_injection net n M) q (last_of net q) ≡ Source)
+                waiting : (q < length net.packets) × (r ≡ (packet_at net q).source) × (place_of_flit net (after_injection net n M) q (last_of net q) ≡ Source)
                 waiting = waiting-is net good.built (after_injection net n M) (keyedT net good M x n) (wormT net good M x n) n r q b
 
-                still_q : ((i : ℕ) → IsValid net q i → place_of net (after_injection net n M) q i ≡ place_of net M q i) × ((two : Injection net) → Has two (injections net M n) → two.packet ≢ q)
+                still_q : ((i : ℕ) → IsValid net q i → place_of_flit net (after_injection net n M) q i ≡ place_of_flit net M q i) × ((two : Injection net) → Has two (injections net M n) → two.packet ≢ q)
                 still_q = others q waiting.0 (sym waiting.1) (rest_other (q, packet_at net q) in_rest)
 
-                tail : place_of net M q (last_of net q) ≡ Source
+                tail : place_of_flit net M q (last_of net q) ≡ Source
                 tail = sym (still_q.0 (last_of net q) (valid-last net good.built q waiting.0)) ∙ waiting.2
 
                 clash : Precedes (λ j. (packet_at net j).due) q one.packet → IsAhead (one.packet, packet_at net one.packet) (q, packet_at net q) → ⊥

@@ -11,7 +11,7 @@ use Rattle.noc_router.specs.View.{local_step, idle_beat}
 use Rattle.noc_router.specs.Counts.{one_if}
 use Rattle.noc_model.specs.declared.event.Event.{Event}
 use Rattle.noc_model.specs.declared.event.Event.TheVariants.{Take, Decide, Put}
-use Rattle.noc_model.specs.Core.{Post, all_have, deciding, finished, has_beat, is_linked, links, may_decide, may_put, may_take, none_has, putting, rested, taking, wire_of}
+use Rattle.noc_model.specs.Core.{Post, all_have, deciding, post_after_last_put, has_beat, is_linked, link_ports, may_decide, may_put, may_take, none_has, putting, resting_post, taking, wire_of}
 use Rattle.noc_model.specs.InStep.{IsPostInStep, cycle_of, cycle_put, cycle_taken}
 use Rattle.noc_model.specs.Network.{Setup}
 use Rattle.noc_model.specs.Order.{is_decide, is_put, is_take}
@@ -19,13 +19,13 @@ use Rattle.noc_model.proofs.PostLemmas.{all_below, has_none, has_past, has_set_o
 use Rattle.noc_model.proofs.RunLemmas.{no_link}
 
 -- a port with a link is a link port
-pub linked_port : (net : Setup) (r port : ℕ) → is_linked net r port ≡ true → port < links net
+pub linked_port : (net : Setup) (r port : ℕ) → is_linked net r port ≡ true → port < link_ports net
 linked_port net r port e =
-    ⊎_elim (λ (l : port < links net). l)
-    (λ (past : links net ≤ port).
+    ⊎_elim (λ (l : port < link_ports net). l)
+    (λ (past : link_ports net ≤ port).
     let none : is_linked net r port ≡ false = ap is_some (no_link net r port past) in
     absurd (cc (e, none)))
-    (cases_lt port (links net))
+    (cases_lt port (link_ports net))
 
 pub linked_when : (net : Setup) (r port : ℕ) (to : ℕ × ℕ) → neighbour net.relation.grid r port ≡ Some to → is_linked net r port ≡ true
 linked_when net r port to e = ap is_some e
@@ -44,37 +44,37 @@ none_at beats port e =
     by None f = refl
     by (Some beat) f = sym f
 
-pub finished-taken : (net : Setup) (post : Post) (port : ℕ) → has_beat post.taken port ≡ true → cycle_taken port (finished net post) ≡ cycle_taken port post
+pub finished-taken : (net : Setup) (post : Post) (port : ℕ) → has_beat post.taken port ≡ true → cycle_taken port (post_after_last_put net post) ≡ cycle_taken port post
 finished-taken net post port here = by (none_has post.unput)
   where
-    by : (b : Bool) → cycle_taken port (if b then rested net post.view (post.steps + 1) post.wires else post) ≡ cycle_taken port post
+    by : (b : Bool) → cycle_taken port (if b then resting_post net post.view (post.steps + 1) post.wires else post) ≡ cycle_taken port post
     by true =
         let same : post.steps + 1 + 0 ≡ post.steps + 1 = omega arith in
-        ap (λ c. post.steps + 1 + one_if c) (has_none (links net) port) ∙ same ∙ sym (ap (λ c. post.steps + one_if c) here)
+        ap (λ c. post.steps + 1 + one_if c) (has_none (link_ports net) port) ∙ same ∙ sym (ap (λ c. post.steps + one_if c) here)
     by false = refl
 
-pub finished-put : (net : Setup) (post : Post) (port : ℕ) → post.decided ≡ true → cycle_put port (finished net post) ≡ cycle_put port post
+pub finished-put : (net : Setup) (post : Post) (port : ℕ) → post.decided ≡ true → cycle_put port (post_after_last_put net post) ≡ cycle_put port post
 finished-put net post port decided = by (none_has post.unput) refl
   where
-    by : (b : Bool) → none_has post.unput ≡ b → cycle_put port (if b then rested net post.view (post.steps + 1) post.wires else post) ≡ cycle_put port post
+    by : (b : Bool) → none_has post.unput ≡ b → cycle_put port (if b then resting_post net post.view (post.steps + 1) post.wires else post) ≡ cycle_put port post
     by true e =
         let same : post.steps + 1 + 1 + 0 ≡ post.steps + 1 + 1 = omega arith in
         same ∙ sym (ap (λ c. post.steps + 1 + one_if (c && not (has_beat post.unput port))) decided ∙ ap (λ c. post.steps + 1 + one_if (not c)) (none_at post.unput port e))
     by false e = refl
 
-pub finished-cycle : (net : Setup) (post : Post) → post.decided ≡ true → cycle_of (finished net post) ≡ cycle_of post
+pub finished-cycle : (net : Setup) (post : Post) → post.decided ≡ true → cycle_of (post_after_last_put net post) ≡ cycle_of post
 finished-cycle net post decided = by (none_has post.unput)
   where
-    by : (b : Bool) → cycle_of (if b then rested net post.view (post.steps + 1) post.wires else post) ≡ cycle_of post
+    by : (b : Bool) → cycle_of (if b then resting_post net post.view (post.steps + 1) post.wires else post) ≡ cycle_of post
     by true =
         let same : post.steps + 1 + 0 ≡ post.steps + 1 = omega arith in
         same ∙ sym (ap (λ c. post.steps + one_if c) decided)
     by false = refl
 
-pub finished-wires : (net : Setup) (post : Post) → (finished net post).wires ≡ post.wires
+pub finished-wires : (net : Setup) (post : Post) → (post_after_last_put net post).wires ≡ post.wires
 finished-wires net post = by (none_has post.unput)
   where
-    by : (b : Bool) → (if b then rested net post.view (post.steps + 1) post.wires else post).wires ≡ post.wires
+    by : (b : Bool) → (if b then resting_post net post.view (post.steps + 1) post.wires else post).wires ≡ post.wires
     by true = refl
     by false = refl
 
@@ -160,7 +160,7 @@ moves-taking limit net r x p post s long ready = record {
 pub all_at : (net : Setup) (r : ℕ) (beats : List (Option Beat)) (port : ℕ) → all_have net r beats ≡ true → is_linked net r port ≡ true → has_beat beats port ≡ true
 all_at net r beats port e linked =
     sym (ap (λ c. not c || has_beat beats port) linked)
-    ∙ all_below (λ p. not (is_linked net r p) || has_beat beats p) (links net) port e (linked_port net r port linked)
+    ∙ all_below (λ p. not (is_linked net r p) || has_beat beats p) (link_ports net) port e (linked_port net r port linked)
 
 pub may_decide-parts : (limit : ℕ) (net : Setup) (r : ℕ) (post : Post) → may_decide limit net r post ≡ true
     → (post.decided ≡ false) × (all_have net r post.taken ≡ true) × (post.steps < limit)
@@ -186,7 +186,7 @@ has_decided net r beats port l linked =
     ∙ ap (λ c. if c then Some (get_or beats port idle_beat) else None) linked
 
 pub moves-deciding : (limit : ℕ) (net : Setup) (x : ℕ) (post : Post) → may_decide limit net x post ≡ true
-    → length (local_step net.relation post.view (map (λ beat. unwrap_or beat idle_beat) post.taken) post.steps).1 ≡ links net
+    → length (local_step net.relation post.view (map (λ beat. unwrap_or beat idle_beat) post.taken) post.steps).1 ≡ link_ports net
     → Moves net x (Decide x) post (deciding net x post)
 moves-deciding limit net x post ready count =
     let parts = may_decide-parts limit net x post ready in

@@ -6,8 +6,8 @@ use Rattle.noc_topo.specs.Words.{Has}
 use Rattle.noc_topo.specs.Shape.{nodes, neighbour}
 use Rattle.noc_route.specs.Channel.{Channel, Link, Eject}
 use Rattle.noc_route.specs.Routes.{set_at}
-use Rattle.noc_model.specs.Network.{Setup, count_in, count_on, credit_of, State, Source, On, place_of, has_channel, after_landing, after_credits, network_cycle, frozen_at, state_at}
-use Rattle.noc_model.specs.Good.{IsGoodSetup, held}
+use Rattle.noc_model.specs.Network.{Setup, count_in, count_on, credit_of, State, Source, On, place_of_flit, has_channel, after_landing, after_credits, network_cycle, frozen_at, state_at}
+use Rattle.noc_model.specs.Good.{IsGoodSetup, places_taken}
 use Rattle.noc_model.proofs.StateWords.{IsValid, class_of, goal}
 use Rattle.noc_model.proofs.BuiltRecord.{IsBuilt}
 use Rattle.noc_model.proofs.BuiltLemmas.{good-built, good-wired, good-covering}
@@ -42,7 +42,7 @@ module _ (net : Setup) (good : IsGoodSetup net) where
   pub room-frozen_at : (n : ℕ) (c : Channel) → count_in net (frozen_at net n) c ≤ net.places
   room-frozen_at n c = (whole-frozen_at net good n).sound.room c
 
-  pub still-frozen_at : (n p i : ℕ) → IsValid net p i → (c : Channel) → place_of net (frozen_at net n) p i ≢ On c
+  pub still-frozen_at : (n p i : ℕ) → IsValid net p i → (c : Channel) → place_of_flit net (frozen_at net n) p i ≢ On c
   still-frozen_at n p i v c = (whole-frozen_at net good n).sound.still p i v c
 
   -- ---- who has begun is the first of its node
@@ -81,7 +81,7 @@ module _ (net : Setup) (good : IsGoodSetup net) where
 
   -- ---- one flit and one credit on each link
 
-  pub one_on_link-at : (n p i q j r a v u : ℕ) → IsValid net p i → IsValid net q j → place_of net (state_at net n) p i ≡ On (Link r a v) → place_of net (state_at net n) q j ≡ On (Link r a u) → (p ≡ q) × (i ≡ j)
+  pub one_on_link-at : (n p i q j r a v u : ℕ) → IsValid net p i → IsValid net q j → place_of_flit net (state_at net n) p i ≡ On (Link r a v) → place_of_flit net (state_at net n) q j ≡ On (Link r a u) → (p ≡ q) × (i ≡ j)
   unfolding state_at network_cycle
   one_on_link-at zero p i q j r a v u x y e f = let z : Source ≡ On (Link r a v) = sym (at-source net p i x) ∙ e in absurd (cc z)
   one_on_link-at (suc n) p i q j r a v u x y e f = one-on-link net built wired (frozen_at net n) (whole-frozen_at net good n) n p i q j r a v u x y e f
@@ -100,7 +100,7 @@ module _ (net : Setup) (good : IsGoodSetup net) where
   none_back-frozen_at n c = ap (λ (cs : List Channel). has_channel cs c) (no-back-frozen net n (state_at net n))
 
   -- so the credits of a frozen state are the places that are left too
-  pub frozen_credit-at : (n : ℕ) (c : Channel) → credit_of net (frozen_at net n) c + held net (frozen_at net n) c ≡ net.places
+  pub frozen_credit-at : (n : ℕ) (c : Channel) → credit_of net (frozen_at net n) c + places_taken net (frozen_at net n) c ≡ net.places
   frozen_credit-at n c =
       let on = none-on net built (frozen_at net n) (whole-frozen_at net good n).sound.keyed (whole-frozen_at net good n).sound.worm n (whole-frozen_at net good n).sound.still c in
       let back = ap (λ (b : Bool). if b then 1 else 0) (none_back-frozen_at n c) in

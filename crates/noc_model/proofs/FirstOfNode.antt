@@ -7,7 +7,7 @@ use Rattle.std.proofs.lemmas.Option.{none-some, same_Some}
 use Rattle.noc_topo.specs.Words.{below, least_by, lesser_by}
 use Rattle.noc_topo.specs.Shape.{nodes}
 use Rattle.noc_route.specs.Channel.{Channel, Inject}
-use Rattle.noc_model.specs.Network.{Setup, network_cycle, Injection, State, Located, Source, packet_at, place_of, landed_place, flits_of, is_at_source, is_idle, first_waiting, injection_at, injection_with, is_injection_of, owned_by, count_in, after_landing, after_credits, after_injection, after_verdicts, frozen, state_at}
+use Rattle.noc_model.specs.Network.{Setup, network_cycle, Injection, State, Located, Source, packet_at, place_of_flit, landed_place, flits_of, is_at_source, is_idle, first_waiting, injection_at, injection_with, is_injection_of, owned_by, count_in, after_landing, after_credits, after_injection, after_verdicts, frozen_state, state_at}
 use Rattle.noc_model.proofs.BuiltRecord.{IsBuilt}
 use Rattle.noc_model.proofs.OptionLemmas.{and_then-some, cond-some}
 use Rattle.noc_topo.specs.Words.{Has, Pairs}
@@ -61,23 +61,23 @@ least_by-first key (z ∷ zs) x y s e h = at (least_by key zs) refl (same_Some (
 
 module _ (net : Setup) where
   pub record IsQueued (S : State) : Type 0 where
-    pub first : (p : ℕ) → p < length net.packets → place_of net S p 0 ≢ Source → place_of net S p (last_of net p) ≡ Source → IsFirstOf net S p
+    pub first : (p : ℕ) → p < length net.packets → place_of_flit net S p 0 ≢ Source → place_of_flit net S p (last_of net p) ≡ Source → IsFirstOf net S p
 
   module _ (built : IsBuilt net) (wired : IsWired net) where
     -- a step in which no head leaves its source
-    unbegun : (S T : State) → ((p i : ℕ) → IsValid net p i → place_of net T p i ≡ Source → place_of net S p i ≡ Source)
-        → ((p i : ℕ) → IsValid net p i → place_of net S p i ≡ Source → place_of net T p i ≡ Source) → IsQueued S → IsQueued T
+    unbegun : (S T : State) → ((p i : ℕ) → IsValid net p i → place_of_flit net T p i ≡ Source → place_of_flit net S p i ≡ Source)
+        → ((p i : ℕ) → IsValid net p i → place_of_flit net S p i ≡ Source → place_of_flit net T p i ≡ Source) → IsQueued S → IsQueued T
     unbegun S T back there q = record {
       first = λ p low b t k lk same tk.
           q.first p low (λ z. b (there p 0 (valid-first net built p low) z)) (back p (last_of net p) (valid-last net built p low) t) k lk same (back k (last_of net k) (valid-last net built k lk) tk);
     }
 
     -- what waits at a node is preceded by what waits first
-    pub waiting-first : (S : State) → IsKeyed net S.at → (node p : ℕ) → first_waiting net S node ≡ Some p → (q : ℕ) → q < length net.packets → (packet_at net q).source ≡ node → place_of net S q (last_of net q) ≡ Source
+    pub waiting-first : (S : State) → IsKeyed net S.at → (node p : ℕ) → first_waiting net S node ≡ Some p → (q : ℕ) → q < length net.packets → (packet_at net q).source ≡ node → place_of_flit net S q (last_of net q) ≡ Source
         → Precedes (λ x. (packet_at net x).due) p q
     waiting-first S keyed node p e q low same t =
         let test : ℕ → Bool = λ x. nat_eq (packet_at net x).source node && list_any (λ (f : Located). is_at_source f.place) (flits_of net S x) in
-        let f : Located = record { packet = q; index = last_of net q; place = place_of net S q (last_of net q) } in
+        let f : Located = record { packet = q; index = last_of net q; place = place_of_flit net S q (last_of net q) } in
         let member : Has f S.at = flit-there net S keyed q (last_of net q) (valid-last net built q low) in
         let mine : Has f (flits_of net S q) = Has-kept (λ (g : Located). nat_eq q g.packet) f S.at member (eq-eqb q q refl) in
         let any : list_any (λ (g : Located). is_at_source g.place) (flits_of net S q) ≡ true = list_any-from (λ (g : Located). is_at_source g.place) (flits_of net S q) f mine (ap is_at_source t) in
@@ -110,20 +110,20 @@ module _ (net : Setup) where
         T : State
         T = after_injection net n S
 
-        back : (p i : ℕ) → IsValid net p i → place_of net (after_injection net n S) p i ≡ Source → place_of net S p i ≡ Source
+        back : (p i : ℕ) → IsValid net p i → place_of_flit net (after_injection net n S) p i ≡ Source → place_of_flit net S p i ≡ Source
         back p i v e = by (entries-move net built S s.keyed s.worm n p v.0)
           where
-            by : IsInjected net built S.own (place_of net S) s.worm (all_entries net built S s.keyed s.worm n) (entries-are net built S s.keyed s.worm n) (entries-apart net built S s.keyed s.worm n) (place_of net (after_injection net n S)) p → place_of net S p i ≡ Source
+            by : IsInjected net built S.own (place_of_flit net S) s.worm (all_entries net built S s.keyed s.worm n) (entries-are net built S s.keyed s.worm n) (entries-apart net built S s.keyed s.worm n) (place_of_flit net (after_injection net n S)) p → place_of_flit net S p i ≡ Source
             by (inl x) = sym (x.0 i v) ∙ e
             by (inr x) = here (cases_eq i x.3.flit)
               where
-                here : (i ≡ x.3.flit) ⊎ (i ≡ x.3.flit → ⊥) → place_of net S p i ≡ Source
-                here (inl f) = ap (place_of net S p) f ∙ x.3.was
+                here : (i ≡ x.3.flit) ⊎ (i ≡ x.3.flit → ⊥) → place_of_flit net S p i ≡ Source
+                here (inl f) = ap (place_of_flit net S p) f ∙ x.3.was
                 here (inr f) = sym (x.3.others i v f) ∙ e
 
-        at : (p : ℕ) (low : p < length net.packets) → place_of net (after_injection net n S) p 0 ≢ Source → place_of net (after_injection net n S) p (last_of net p) ≡ Source
-            → (k : ℕ) → k < length net.packets → (packet_at net k).source ≡ (packet_at net p).source → place_of net S k (last_of net k) ≡ Source
-            → IsInjected net built S.own (place_of net S) s.worm (all_entries net built S s.keyed s.worm n) (entries-are net built S s.keyed s.worm n) (entries-apart net built S s.keyed s.worm n) (place_of net (after_injection net n S)) p
+        at : (p : ℕ) (low : p < length net.packets) → place_of_flit net (after_injection net n S) p 0 ≢ Source → place_of_flit net (after_injection net n S) p (last_of net p) ≡ Source
+            → (k : ℕ) → k < length net.packets → (packet_at net k).source ≡ (packet_at net p).source → place_of_flit net S k (last_of net k) ≡ Source
+            → IsInjected net built S.own (place_of_flit net S) s.worm (all_entries net built S s.keyed s.worm n) (entries-are net built S s.keyed s.worm n) (entries-apart net built S s.keyed s.worm n) (place_of_flit net (after_injection net n S)) p
             → Precedes (λ x. (packet_at net x).due) p k
         at p low b t k lk same tk (inl x) = q.first p low (λ z. b (x.0 0 (valid-first net built p low) ∙ z)) (back p (last_of net p) (valid-last net built p low) t) k lk same tk
         at p low b t k lk same tk (inr x) =
@@ -136,14 +136,14 @@ module _ (net : Setup) where
     pub queued-mid : (S : State) → IsSoundState net S → IsQueued S → IsQueued (after_credits net (after_landing net S))
     unfolding after_landing after_credits
     queued-mid S s q =
-        let goes : (p i : ℕ) → IsValid net p i → place_of net (after_landing net S) p i ≡ landed_place net (place_of net S p i)
+        let goes : (p i : ℕ) → IsValid net p i → place_of_flit net (after_landing net S) p i ≡ landed_place net (place_of_flit net S p i)
         = λ p i v. place-stepped net (λ (f : Located). landed_place net f.place) S (after_landing net S) s.keyed refl p i v in
         let qa : IsQueued (after_landing net S) = unbegun S (after_landing net S)
-        (λ p i v e. source-landed net (place_of net S p i) (sym (goes p i v) ∙ e)) (λ p i v e. goes p i v ∙ ap (landed_place net) e) q in
+        (λ p i v e. source-landed net (place_of_flit net S p i) (sym (goes p i v) ∙ e)) (λ p i v e. goes p i v ∙ ap (landed_place net) e) q in
         unbegun (after_landing net S) (after_credits net (after_landing net S)) (λ p i v e. e) (λ p i v e. e) qa
 
-    pub queued-frozen : (n : ℕ) (S : State) → IsSoundState net S → IsQueued S → IsQueued (frozen net n S)
-    unfolding frozen
+    pub queued-frozen : (n : ℕ) (S : State) → IsSoundState net S → IsQueued S → IsQueued (frozen_state net n S)
+    unfolding frozen_state
     queued-frozen n S s q =
         queued-injection n (after_credits net (after_landing net S))
         (sound-credits net built wired (after_landing net S) (sound-landed net built wired S s)) (queued-mid S s q)
@@ -158,8 +158,8 @@ module _ (net : Setup) where
     queued-state zero = record { first = λ p low b t. absurd (b (at-source net p 0 (valid-first net built p low))) }
     queued-state (suc n) =
         let s = sound-state net built wired n in
-        queued-verdicts n (frozen net n (state_at net n)) (sound-frozen net built wired n (state_at net n) s) (queued-frozen n (state_at net n) s (queued-state n))
+        queued-verdicts n (frozen_state net n (state_at net n)) (sound-frozen net built wired n (state_at net n) s) (queued-frozen n (state_at net n) s (queued-state n))
 
     -- and in each frozen state
-    pub queued-frozen_state : (n : ℕ) → IsQueued (frozen net n (state_at net n))
+    pub queued-frozen_state : (n : ℕ) → IsQueued (frozen_state net n (state_at net n))
     queued-frozen_state n = queued-frozen n (state_at net n) (sound-state net built wired n) (queued-state n)

@@ -8,10 +8,10 @@ use Rattle.std.proofs.lemmas.Option.{none-some, same_Some}
 use Rattle.std.proofs.lemmas.Nat.{div-add-mod', div-mul-add, mod-mul-add}
 use Rattle.noc_topo.specs.Words.{below}
 use Rattle.noc_topo.specs.Shape.{local_port}
-use Rattle.noc_route.specs.Channel.{Channel, Link, Inject, Eject, begin, arrival_of, channel_vc, output_at, output_index, inputs}
+use Rattle.noc_route.specs.Channel.{Channel, Link, Inject, Eject, sending_router, arrival_of, channel_vc, output_at, output_index, inputs}
 use Rattle.noc_router.specs.Verdict.{Unrouted, Waits, Holds, verdict_of}
 use Rattle.noc_route.specs.Routes.{Routes, permits}
-use Rattle.noc_model.specs.Network.{Setup, State, size, packet_at, owner_of, owned_by, is_idle, ask, next_channel, leads_from, has_credit_in, end_of, has_channel, claim_of, round_at, count_in, verdict_in, verdict_at, granted_pair, granted_at, is_released, after_verdicts}
+use Rattle.noc_model.specs.Network.{Setup, State, size, packet_at, owner_of, owned_by, is_idle, ask, next_channel, leads_from, has_credit_in, end_of, has_channel, claim_of, round_at, count_in, verdict_in, verdict_at, granted_pair, grant_to_owner, is_released, after_verdicts}
 use Rattle.noc_router.specs.Verdict.{is_granted, is_moved}
 use Rattle.noc_router.specs.declared.verdict.Verdict.{Verdict}
 use Rattle.noc_router.specs.declared.verdict.Verdict.TheVariants.{Granted}
@@ -40,10 +40,10 @@ pub Has-below : (i n : ℕ) → Has i (below n) → i < n
 unfolding below
 Has-below i n h = let r = Has-range i 0 n h in omega arith
 
-pub begin-output : (net : Setup) (r i : ℕ) → begin (output_at net.relation.grid net.relation.vcs r i) ≡ Some r
+pub begin-output : (net : Setup) (r i : ℕ) → sending_router (output_at net.relation.grid net.relation.vcs r i) ≡ Some r
 begin-output net r i = at (nat_eq (i / net.relation.vcs) (local_port net.relation.grid))
   where
-    at : (b : Bool) → begin (cond b (Eject r (i % net.relation.vcs)) (Link r (i / net.relation.vcs) (i % net.relation.vcs))) ≡ Some r
+    at : (b : Bool) → sending_router (cond b (Eject r (i % net.relation.vcs)) (Link r (i / net.relation.vcs) (i % net.relation.vcs))) ≡ Some r
     at true = refl
     at false = refl
 
@@ -102,11 +102,11 @@ module _ (net : Setup) (F : State) where
 
   pub granted-is : (c o : Channel) (p : ℕ) → granted_pair net F c ≡ Some (o, p) → IsGrant c o p
   granted-is c o p e =
-      let one = cond-some (is_granted (verdict_in net F c)) (option_and_then (λ r. option_and_then (granted_at net F c r) (owner_of net F c)) (end_of net.relation c)) (o, p) e in
-      let two = and_then-some (λ r. option_and_then (granted_at net F c r) (owner_of net F c)) (end_of net.relation c) (o, p) one.1 in
+      let one = cond-some (is_granted (verdict_in net F c)) (option_and_then (λ r. option_and_then (grant_to_owner net F c r) (owner_of net F c)) (end_of net.relation c)) (o, p) e in
+      let two = and_then-some (λ r. option_and_then (grant_to_owner net F c r) (owner_of net F c)) (end_of net.relation c) (o, p) one.1 in
       let ends = end-some net.relation c two.0 two.1 in
       let place : ℕ × ℕ = (two.0, ends.0) in
-      let three = and_then-some (granted_at net F c two.0) (owner_of net F c) (o, p) two.2 in
+      let three = and_then-some (grant_to_owner net F c two.0) (owner_of net F c) (o, p) two.2 in
       let v : verdict_in net F c ≡ Granted = is_granted-true _ one.0 in
       let at_place : verdict_of net.relation.vcs (round_at net F place.0) (place.1 * net.relation.vcs + channel_vc c) (claim_of net F place.0 c) (nat_lt 0 (count_in net F c)) ≡ Granted = sym (ap (verdict_at net F c) ends.1) ∙ v in
       let held = verdict-granted net.relation.vcs (round_at net F place.0) (place.1 * net.relation.vcs + channel_vc c) (claim_of net F place.0 c) (nat_lt 0 (count_in net F c)) at_place in
@@ -139,7 +139,7 @@ module _ (net : Setup) (wired : IsWired net) (F : State) where
   -- two grants of one channel are one
   pub one_target : (c d o : Channel) (p q : ℕ) → Has c all → Has d all → IsGrant net F c o p → IsGrant net F d o q → c ≡ d
   one_target c d o p q hc hd g h =
-      let ro : Some g.router ≡ Some h.router = sym (begin-output net g.router g.index) ∙ ap begin (g.is_output ∙ sym h.is_output) ∙ begin-output net h.router h.index in
+      let ro : Some g.router ≡ Some h.router = sym (begin-output net g.router g.index) ∙ ap sending_router (g.is_output ∙ sym h.is_output) ∙ begin-output net h.router h.index in
       let r : g.router ≡ h.router = same_Some _ _ ro in
       let i : g.index ≡ h.index = sym (index-output net g.router g.index) ∙ ap (output_index net.relation.grid net.relation.vcs) (g.is_output ∙ sym h.is_output) ∙ index-output net h.router h.index in
       let w : get_or (round_at net F g.router).grants g.index None ≡ Some (h.port * net.relation.vcs + channel_vc d)

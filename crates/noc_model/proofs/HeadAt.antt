@@ -4,7 +4,7 @@ use Rattle.std.specs.Prelude.{◌⊎◌}
 use Rattle.std.proofs.lemmas.Bool.{false≢true, ltb-true, lt-ltb, cases_order}
 use Rattle.std.proofs.lemmas.Option.{same_Some}
 use Rattle.noc_route.specs.Channel.{Channel, Link, Inject, Eject}
-use Rattle.noc_model.specs.Network.{Setup, tail_place, State, Place, Source, On, In, Out, place_of, is_past, leads_from}
+use Rattle.noc_model.specs.Network.{Setup, tail_place, State, Place, Source, On, In, Out, place_of_flit, is_past, leads_from}
 use Rattle.noc_model.specs.Progress.{head_place, weight}
 use Rattle.noc_model.proofs.BuiltRecord.{IsBuilt}
 use Rattle.noc_topo.specs.Words.{Has}
@@ -16,7 +16,7 @@ use Rattle.noc_model.proofs.RoutedRecord.{IsHeld, IsRoutedMid, Come}
 use Rattle.noc_model.proofs.SourceOf.{has-source}
 pub use Rattle.noc_model.proofs.StateWords.{Reached}
 
-module _ (net : Setup) (built : IsBuilt net) (S : State) (keyed : IsKeyed net S.at) (w : IsWorm net S.own (place_of net S)) where
+module _ (net : Setup) (built : IsBuilt net) (S : State) (keyed : IsKeyed net S.at) (w : IsWorm net S.own (place_of_flit net S)) where
   -- a place that weighs at most what the wire of o weighs has reached o
   reach-link : (p r a v : ℕ) (x : Place) → Has (Link r a v, p) S.own → IsPlaced net S.own p x → weight net p x ≤ 3 * far_of net p (Link r a v) + 3 → Reached net p (Link r a v) x
   reach-link p r a v Source h k l = let n = (w.near (Link r a v) p h).0 in absurd (omega arith)
@@ -79,7 +79,7 @@ module _ (net : Setup) (built : IsBuilt net) (S : State) (keyed : IsKeyed net S.
           by true e = absurd (before (inr (inr e)))
 
       source : (c : Channel) × Has (c, p) S.own × (leads_from net c o ≡ true)
-      source = has-source net built S.own (place_of net S) w o p h none (λ e. before (inl e)) (λ e. before (inr (inl e))) behind
+      source = has-source net built S.own (place_of_flit net S) w o p h none (λ e. before (inl e)) (λ e. before (inr (inl e))) behind
 
       next : IsNext net built S keyed w p source.0 o
       next = record { owns = h; leads = source.2 }

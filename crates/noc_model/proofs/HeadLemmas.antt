@@ -8,7 +8,7 @@ use Rattle.noc_topo.specs.Shape.{distance}
 use Rattle.noc_route.specs.Channel.{Channel, Link, Inject, Eject, same_channel}
 use Rattle.noc_router.specs.Verdict.{Claim, Round, Unrouted, Waits, Holds, is_moved, verdict_of}
 use Rattle.noc_router.specs.declared.verdict.Verdict.TheVariants.{Routed, Granted}
-use Rattle.noc_model.specs.Network.{Setup, State, Located, Place, Source, On, In, Out, packet_at, place_of, tail_place, owner_of, owned_by, next_channel, leads_from, has_channel, is_past, is_in, is_tail, tail_leaves, tail_leaves_to, is_released, is_the_flit, first_in, count_in, gone_to, all_inputs, verdict_in, round_at, claim_of}
+use Rattle.noc_model.specs.Network.{Setup, State, Located, Place, Source, On, In, Out, packet_at, place_of_flit, tail_place, owner_of, owned_by, next_channel, leads_from, has_channel, is_past, is_in, is_tail_of_packet, tail_leaves, tail_leaves_to, is_released, is_the_flit, front_in, count_in, gone_to, all_inputs, verdict_in, round_at, claim_of}
 use Rattle.noc_model.specs.Progress.{weight, hops, head_place}
 use Rattle.noc_model.proofs.BuiltRecord.{IsBuilt}
 use Rattle.noc_model.proofs.OwnedLemmas.{of-has, has-of, owner-is, owner-has}
@@ -55,7 +55,7 @@ apart-pairs [] p = tt
 apart-pairs (x ∷ xs) p = (apart-each x xs p.0, apart-pairs xs p.1)
 
 module _ (net : Setup) (built : IsBuilt net) (wired : IsWired net) (F : State) (whole : IsWholeFrozen net F) where
-  abbrev worm : IsWorm net F.own (place_of net F)
+  abbrev worm : IsWorm net F.own (place_of_flit net F)
   worm = whole.sound.worm
 
   abbrev keyed : IsKeyed net F.at
@@ -80,11 +80,11 @@ module _ (net : Setup) (built : IsBuilt net) (wired : IsWired net) (F : State) (
       let z : None ≡ Some f.0 = sym e ∙ s in cc z
 
   -- a head that is not past c, though a flit of its packet is in c, is in c
-  head-in : (p i : ℕ) (c : Channel) → IsValid net p i → place_of net F p i ≡ In c → Has (c, p) F.own → (IsEject c → ⊥) → is_past net c (goal net p) (head_place net F p) ≡ false → head_place net F p ≡ In c
+  head-in : (p i : ℕ) (c : Channel) → IsValid net p i → place_of_flit net F p i ≡ In c → Has (c, p) F.own → (IsEject c → ⊥) → is_past net c (goal net p) (head_place net F p) ≡ false → head_place net F p ≡ In c
   head-in p i c valid e h no_end behind = at (head_place net F p) refl (worm.placed p 0 (valid-first net built p valid.0))
     where
       weighs : weight net p (head_place net F p) ≤ weight net p (In c)
-      weighs = let o = worm.order p 0 i valid (omega arith) in let w : weight net p (place_of net F p i) ≡ weight net p (In c) = ap (weight net p) e in omega arith
+      weighs = let o = worm.order p 0 i valid (omega arith) in let w : weight net p (place_of_flit net F p i) ≡ weight net p (In c) = ap (weight net p) e in omega arith
 
       light : weight net p (In c) ≤ 3 * far_of net p c + 2
       light = (weight-in net built F keyed worm p c (subst (λ (x : Place). IsPlaced net F.own p x) e (worm.placed p i valid))).1
@@ -125,11 +125,11 @@ module _ (net : Setup) (built : IsBuilt net) (wired : IsWired net) (F : State) (
       released p c m v l e waits r =
           let a = list_any-has (tail_leaves_to net F (Eject m v)) (owned_by net F p) r in
           let b = and_parts (tail_leaves net F a.0) (unwrap_or (option_map (same_channel (Eject m v)) (next_channel net F a.0)) false) a.2 in
-          let t = and_parts (is_moved (verdict_in net F a.0)) (is_tail net (first_in net F a.0)) b.0 in
-          goes a.0 (of-has a.0 p F.own a.1) t.0 (next_channel net F a.0) refl b.1 (first_in net F a.0) refl t.1
+          let t = and_parts (is_moved (verdict_in net F a.0)) (is_tail_of_packet net (front_in net F a.0)) b.0 in
+          goes a.0 (of-has a.0 p F.own a.1) t.0 (next_channel net F a.0) refl b.1 (front_in net F a.0) refl t.1
         where
           goes : (d : Channel) → Has (d, p) F.own → is_moved (verdict_in net F d) ≡ true → (next : Option Channel) → next_channel net F d ≡ next → unwrap_or (option_map (same_channel (Eject m v)) next) false ≡ true
-              → (first : Option Located) → first_in net F d ≡ first → is_tail net first ≡ true → ⊥
+              → (first : Option Located) → front_in net F d ≡ first → is_tail_of_packet net first ≡ true → ⊥
           goes d h moves None k s first f t = false≢true s
           goes d h moves (Some o) k s None f t = false≢true t
           goes d h moves (Some o) k s (Some g) f t =
@@ -141,7 +141,7 @@ module _ (net : Setup) (built : IsBuilt net) (wired : IsWired net) (F : State) (
               let same : g.packet ≡ p = one-owner net built F whole d g.packet p of_g.0 h in
               let long : g.index + 1 ≡ (packet_at net g.packet).length = eqb-true _ _ t in
               let last : g.index ≡ last_of net g.packet = omega arith in
-              let tail : tail_place net F p ≡ In d = ap (λ (x : ℕ). place_of net F x (last_of net x)) (sym same) ∙ ap (place_of net F g.packet) (sym last) ∙ it.there in
+              let tail : tail_place net F p ≡ In d = ap (λ (x : ℕ). place_of_flit net F x (last_of net x)) (sym same) ∙ ap (place_of_flit net F g.packet) (sym last) ∙ it.there in
               let c_held = owned p c l e in
               let not_past : far_of net p c ≤ far_of net p d = ltb-false _ _ (sym (ap (is_past net c (goal net p)) tail) ∙ whole.routed.behind c p c_held) in
               let cd : c ≡ d = same-far net built F keyed worm p c d c_held.0 h c_held.1 (next-no-eject net built F keyed worm p d (Eject m v) next) (omega arith) in
@@ -164,20 +164,20 @@ module _ (net : Setup) (built : IsBuilt net) (wired : IsWired net) (F : State) (
           (f.packet, valid.0, head-in f.packet f.index c valid (place-of-flit net F keyed f h ∙ g) m.0 m.1 (false_from_ne_true _ (λ past. false≢true (sym unrouted ∙ whole.routed.mid.passed c f.packet m past (whole.routed.behind c f.packet m)))))
 
   -- the head is the first of its buffer
-  goes-first : (p : ℕ) (c : Channel) (f : Located) → p < length net.packets → f.place ≡ In c → find (λ (g : Located). nat_eq p g.packet && nat_eq 0 g.index) F.at ≡ Some f → is_the_flit net f (first_in net F c) ≡ true
+  goes-first : (p : ℕ) (c : Channel) (f : Located) → p < length net.packets → f.place ≡ In c → find (λ (g : Located). nat_eq p g.packet && nat_eq 0 g.index) F.at ≡ Some f → is_the_flit net f (front_in net F c) ≡ true
   goes-first p c f l e found =
       let k = find-has (λ (g : Located). nat_eq p g.packet && nat_eq 0 g.index) F.at f found in
       let b = and_parts (nat_eq p f.packet) (nat_eq 0 f.index) k.1 in
       let some = find-some (λ (g : Located). is_in c g.place) F.at f k.0 (ap (is_in c) e ∙ same_channel-refl c) in
       ap (is_the_flit net f) some.1 ∙ at f some.0 some.1 k.0 e (eqb-true 0 f.index b.1)
     where
-      at : (f g : Located) → first_in net F c ≡ Some g → Has f F.at → f.place ≡ In c → 0 ≡ f.index → (nat_eq f.packet g.packet && nat_eq f.index g.index) ≡ true
+      at : (f g : Located) → front_in net F c ≡ Some g → Has f F.at → f.place ≡ In c → 0 ≡ f.index → (nat_eq f.packet g.packet && nat_eq f.index g.index) ≡ true
       at f g first h e zero_is =
           let it = first-is net built F keyed worm c g first in
           let m = in-owned net built F whole f c h e in
           let of_g = placed-in net built F keyed worm g.packet c (subst (λ (x : Place). IsPlaced net F.own g.packet x) it.there (worm.placed g.packet g.index it.valid)) in
           let same : f.packet ≡ g.packet = one-owner net built F whole c f.packet g.packet m.0 of_g.0 in
-          let there : place_of net F g.packet f.index ≡ In c = ap (λ (x : ℕ). place_of net F x f.index) (sym same) ∙ place-of-flit net F keyed f h ∙ e in
+          let there : place_of_flit net F g.packet f.index ≡ In c = ap (λ (x : ℕ). place_of_flit net F x f.index) (sym same) ∙ place-of-flit net F keyed f h ∙ e in
           let least = it.least f.index (subst (λ (x : ℕ). IsValid net x f.index) same (keyed.valid f h)) there in
           and_from _ _ (eq-eqb _ _ same) (eq-eqb f.index g.index (omega arith))
 
@@ -209,7 +209,7 @@ module _ (net : Setup) (built : IsBuilt net) (wired : IsWired net) (F : State) (
         lost (Inject m v) p h no_end = let s : distance net.relation.grid m (goal net p) ≡ hops net p = ap (λ (x : ℕ). distance net.relation.grid x (goal net p)) (worm.near (Inject m v) p h) in omega arith
         lost (Eject m v) p h no_end = absurd (no_end tt)
 
-        nearer : (c : Channel) (f : Located) → first_in net F c ≡ Some f → (o : Channel) → next_channel net F c ≡ Some o → weight net f.packet (gone net F n c) + loss net n F c ≡ weight net f.packet (In c)
+        nearer : (c : Channel) (f : Located) → front_in net F c ≡ Some f → (o : Channel) → next_channel net F c ≡ Some o → weight net f.packet (gone net F n c) + loss net n F c ≡ weight net f.packet (In c)
         nearer c f first o next =
             let it = first-is net built F keyed worm c f first in
             let m = placed-in net built F keyed worm f.packet c (subst (λ (x : Place). IsPlaced net F.own f.packet x) it.there (worm.placed f.packet f.index it.valid)) in

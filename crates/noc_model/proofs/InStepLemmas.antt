@@ -13,7 +13,7 @@ use Rattle.noc_packet.specs.declared.packet.Beat.{Beat}
 use Rattle.noc_route.proofs.OptionLemmas.{no-value}
 use Rattle.noc_router.specs.View.{local_step, idle_beat}
 use Rattle.noc_router.specs.Counts.{one_if}
-use Rattle.noc_model.specs.Core.{Post, all_have, finished, has_beat, is_linked, links, may_decide, no_beats, none_has, receiving, rested, taking, wire_of}
+use Rattle.noc_model.specs.Core.{Post, all_have, post_after_last_put, has_beat, is_linked, link_ports, may_decide, no_beats, none_has, receiving, resting_post, taking, wire_of}
 use Rattle.noc_model.specs.Halves.{beat_at}
 use Rattle.noc_model.specs.InStep.{HoldsCycles, IsPostInStep, beats_of_cycles, cycle_of}
 use Rattle.noc_model.specs.Lockstep.{beats_at, lockstep_at}
@@ -25,19 +25,19 @@ use Rattle.noc_model.proofs.SentLemmas.{count_sent, next_view, sent_beat, unlink
 
 -- ---- one router
 
-pub finished_in_step : (limit : ℕ) (net : Setup) (r : ℕ) (post : Post) → IsPostInStep limit net r post → post.decided ≡ true → IsPostInStep limit net r (finished net post)
+pub finished_in_step : (limit : ℕ) (net : Setup) (r : ℕ) (post : Post) → IsPostInStep limit net r post → post.decided ≡ true → IsPostInStep limit net r (post_after_last_put net post)
 finished_in_step limit net r post sound decided = by (none_has post.unput)
   where
     no_beat : (port : ℕ) (beat : Beat) → slice_index_or (no_beats net) port None ≡ Some beat → ⊥
-    no_beat port beat e = false≢true (sym (has_none (links net) port) ∙ ap is_some e)
+    no_beat port beat e = false≢true (sym (has_none (link_ports net) port) ∙ ap is_some e)
 
     cycles : cycle_of post ≡ post.steps + 1 + 0
     cycles = let same : post.steps + 1 ≡ post.steps + 1 + 0 = omega arith in ap (λ c. post.steps + one_if c) decided ∙ same
 
-    count : length (no_beats net) ≡ links net
-    count = length-replicate (links net) _
+    count : length (no_beats net) ≡ link_ports net
+    count = length-replicate (link_ports net) _
 
-    by : (b : Bool) → IsPostInStep limit net r (if b then rested net post.view (post.steps + 1) post.wires else post)
+    by : (b : Bool) → IsPostInStep limit net r (if b then resting_post net post.view (post.steps + 1) post.wires else post)
     by false = sound
     by true = record {
       view = subst (λ (n : ℕ). slice_get (lockstep_at net n).views r ≡ Some post.view) cycles sound.view;
@@ -47,7 +47,7 @@ finished_in_step limit net r post sound decided = by (none_has post.unput)
       unlinked = sound.unlinked;
       beats_taken = λ port beat e. absurd (no_beat port beat e);
       beats_unput = λ port s q beat e to. absurd (no_beat port beat e);
-      some_unput = λ port e. absurd (false≢true (sym (has_none (links net) port) ∙ e));
+      some_unput = λ port e. absurd (false≢true (sym (has_none (link_ports net) port) ∙ e));
       all_taken = λ e. absurd (false≢true e);
       below_limit = λ e. absurd (false≢true e);
     }
@@ -115,7 +115,7 @@ decided_in_step limit net r post grid sound ready =
     let now = view_now limit net r post sound parts.0 in
     let in_net = view_within net post.steps r post.view now in
     let same : taken ≡ beats_at (lockstep_at net post.steps).wires r = taken_beats limit net r post sound parts.1 in_net in
-    let count : length (local_step net.relation post.view (map (λ beat. unwrap_or beat idle_beat) post.taken) post.steps).1 ≡ links net = count_sent net post.steps r post.view taken now in
+    let count : length (local_step net.relation post.view (map (λ beat. unwrap_or beat idle_beat) post.taken) post.steps).1 ≡ link_ports net = count_sent net post.steps r post.view taken now in
     record {
       view = next_view net post.steps r post.view now ∙ ap (λ beats. Some (local_step net.relation post.view beats post.steps).0) (sym same);
       wires = sound.wires;

@@ -11,11 +11,11 @@ use Rattle.noc_packet.specs.Packet.{flit_at}
 use Rattle.noc_packet.specs.declared.packet.Packet.{Packet}
 use Rattle.noc_packet.specs.declared.packet.Flit.{Flit}
 use Rattle.noc_route.specs.Channel.{Channel, Link, Inject, Eject, channel_vc}
-use Rattle.noc_vc.specs.Input.{Input, idle_input, landed, is_idle_phase, is_empty}
-use Rattle.noc_router.specs.View.{Site, View, view_buffer, view_input, local_channel, is_vacant, with_landed, with_injected, begun_on, injected_from, injected}
+use Rattle.noc_vc.specs.Input.{Input, idle_input, input_after_land, is_idle_phase, is_empty}
+use Rattle.noc_router.specs.View.{Site, View, view_buffer, view_input, local_channel, is_vacant, with_landed, with_injected, begun_on, view_after_inject_from, view_after_inject}
 use Rattle.noc_router.proofs.FindLemmas.{find-same, find-some}
 use Rattle.noc_model.specs.Lockstep.{starts_at, ends_at, seen_flits, seen_input, seen_output, seen_phase_with, seen_sending, has_flit_at_source}
-use Rattle.noc_model.specs.Network.{Setup, State, Located, Place, Source, On, In, Out, Injection, size, arriving, leaving, packet_at, place_of, tail_place, flits_of, owner_of, owned_by, next_channel, has_channel, is_idle, is_in, is_past, is_at_source, is_injection_of, first_waiting, beginning, injection_with, injection_at, injections, count_in, buffer_of, out_cycle, after_injection}
+use Rattle.noc_model.specs.Network.{Setup, State, Located, Place, Source, On, In, Out, Injection, size, arriving, leaving, packet_at, place_of_flit, tail_place, flits_of, owner_of, owned_by, next_channel, has_channel, is_idle, is_in, is_past, is_at_source, is_injection_of, first_waiting, beginning, injection_with, injection_at, injections, count_in, buffer_of, out_cycle, after_injection}
 use Rattle.noc_model.specs.Progress.{head_place}
 use Rattle.noc_model.proofs.InjectionPhase.{IsEntry}
 use Rattle.noc_model.proofs.InjectionState.{waiting-is}
@@ -92,7 +92,7 @@ module _ (net : Setup) (good : IsGood net) (M : State) (x : IsOrderedFrozen net 
       quiet : Quiet net good M x n (leaving net r o)
       quiet one h e =
           let y = entry net good M x n one h in
-          let b : Some r ≡ None = sym (begins-at net good r o) ∙ ap Rattle.noc_route.specs.Channel.begin (sym e ∙ y.1.channel) in
+          let b : Some r ≡ None = sym (begins-at net good r o) ∙ ap Rattle.noc_route.specs.Channel.sending_router (sym e ∙ y.1.channel) in
           absurd (cc b)
 
   arbiters-same : v.arbiters ≡ Rattle.noc_model.specs.Network.arbiters_at net T r
@@ -175,11 +175,11 @@ module _ (net : Setup) (good : IsGood net) (M : State) (x : IsOrderedFrozen net 
         ∙ ap (λ j. seen_flits net M (Some (Inject r w)) ++ flit_at (packet_at net one.packet) one.packet j ∷ []) index_is
         ∙ subst (λ (c : Channel). seen_flits net M (Some c) ++ flit_at (packet_at net one.packet) one.packet (entered net good M x n r l one found).flit ∷ [] ≡ seen_flits net T (Some c)) is (sym (flits-in net good M x n r l one found))
 
-    input-here : landed (view_input v (local_channel v.site w)) f ≡ seen_input net T r (local_channel v.site w) (Some (Inject r w))
+    input-here : input_after_land (view_input v (local_channel v.site w)) f ≡ seen_input net T r (local_channel v.site w) (Some (Inject r w))
     input-here =
-        ap (λ (y : Input). landed y f) (input-local w low)
-        ∙ ap (λ j. landed (seen_input net M r (local_port net.relation.grid * net.relation.vcs + w) (Some (Inject r w))) (flit_at (packet_at net one.packet) one.packet j)) index_is
-        ∙ subst (λ (c : Channel). landed (seen_input net M r (local_port net.relation.grid * net.relation.vcs + w) (Some c)) (flit_at (packet_at net one.packet) one.packet (entered net good M x n r l one found).flit) ≡ seen_input net T r (local_port net.relation.grid * net.relation.vcs + w) (Some c)) is
+        ap (λ (y : Input). input_after_land y f) (input-local w low)
+        ∙ ap (λ j. input_after_land (seen_input net M r (local_port net.relation.grid * net.relation.vcs + w) (Some (Inject r w))) (flit_at (packet_at net one.packet) one.packet j)) index_is
+        ∙ subst (λ (c : Channel). input_after_land (seen_input net M r (local_port net.relation.grid * net.relation.vcs + w) (Some c)) (flit_at (packet_at net one.packet) one.packet (entered net good M x n r l one found).flit) ≡ seen_input net T r (local_port net.relation.grid * net.relation.vcs + w) (Some c)) is
         (sym (input-in net good M x n r l one found (local_port net.relation.grid * net.relation.vcs + w)))
         ∙ ap (λ j. seen_input net T r j (Some (Inject r w))) (sym (local-is w))
 
@@ -211,13 +211,13 @@ module _ (net : Setup) (good : IsGood net) (M : State) (x : IsOrderedFrozen net 
         by (inl e) = (
           ap (λ y. get_or (set v.buffers (local_channel v.site w) (view_buffer v (local_channel v.site w) ++ f ∷ [])) y []) e ∙ get_or-set_same v.buffers (local_channel v.site w) (view_buffer v (local_channel v.site w) ++ f ∷ []) [] nb ∙ buffer-here
               ∙ sym (ap (λ y. seen_flits net T (arriving net r y)) e ∙ ap (seen_flits net T) at-i.found),
-          ap (λ y. get_or (set v.inputs (local_channel v.site w) (landed (view_input v (local_channel v.site w)) f)) y idle_input) e ∙ get_or-set_same v.inputs (local_channel v.site w) (landed (view_input v (local_channel v.site w)) f) idle_input ni ∙ input-here
+          ap (λ y. get_or (set v.inputs (local_channel v.site w) (input_after_land (view_input v (local_channel v.site w)) f)) y idle_input) e ∙ get_or-set_same v.inputs (local_channel v.site w) (input_after_land (view_input v (local_channel v.site w)) f) idle_input ni ∙ input-here
               ∙ sym (ap (λ y. seen_input net T r y (arriving net r y)) e ∙ ap (seen_input net T r (local_channel v.site w)) at-i.found),
         )
         by (inr apart) =
             let q = rest-of apart (arriving net r j) refl in (
               get_or-set_other v.buffers (local_channel v.site w) j (view_buffer v (local_channel v.site w) ++ f ∷ []) [] apart ∙ q.0,
-              get_or-set_other v.inputs (local_channel v.site w) j (landed (view_input v (local_channel v.site w)) f) idle_input apart ∙ q.1,
+              get_or-set_other v.inputs (local_channel v.site w) j (input_after_land (view_input v (local_channel v.site w)) f) idle_input apart ∙ q.1,
             )
 
     last-is : f.last ≡ nat_eq ((entered net good M x n r l one found).flit + 1) (packet_at net one.packet).length
@@ -294,7 +294,7 @@ module _ (net : Setup) (good : IsGood net) (M : State) (x : IsOrderedFrozen net 
           no_route : (b : Bool) → has_channel M.routed (Inject r w) ≡ b → ((p : ℕ) → Has (Inject r w, p) M.own → ⊥) → has_channel M.routed (Inject r w) ≡ false
           no_route false z never = z
           no_route true z never = let o = x.whole.routed.mid.only (Inject r w) z in absurd (never o.0 o.1.0)
-      by (Some p) e = head (place_of net M p 0) refl ∙ sym (ap is_none e)
+      by (Some p) e = head (place_of_flit net M p 0) refl ∙ sym (ap is_none e)
         where
           h : IsHeld net M (Inject r w) p
           h = (owner-has net M (Inject r w) p e, (λ z. z))
@@ -308,18 +308,18 @@ module _ (net : Setup) (good : IsGood net) (M : State) (x : IsOrderedFrozen net 
           come : Rattle.noc_model.specs.Lockstep.has_come net (Inject r w) (goal net p) (head_place net M p) ≡ true
           come =
               Rattle.noc_model.proofs.ComeLemmas.come-level net good.built M (keyed net good M x n) (worm net good M x n) p (Inject r w) (head_place net M p) h ((worm net good M x n).placed p 0 (valid-first net good.built p low))
-              ∙ Rattle.std.proofs.lemmas.Bool.le-leb _ _ (Rattle.noc_model.proofs.InjectionPhase.light net good.built M.own (place_of net M) (worm net good M x n) p (head_place net M p) ((worm net good M x n).placed p 0 (valid-first net good.built p low)) off)
+              ∙ Rattle.std.proofs.lemmas.Bool.le-leb _ _ (Rattle.noc_model.proofs.InjectionPhase.light net good.built M.own (place_of_flit net M) (worm net good M x n) p (head_place net M p) ((worm net good M x n).placed p 0 (valid-first net good.built p low)) off)
 
           and-false : (b : Bool) → (b && false) ≡ false
           and-false true = refl
           and-false false = refl
 
-          head : (y : Place) → place_of net M p 0 ≡ y → (is_idle_phase (seen_input net M r (local_port net.relation.grid * net.relation.vcs + w) (Some (Inject r w))).phase && is_empty (seen_flits net M (Some (Inject r w)))) ≡ false
+          head : (y : Place) → place_of_flit net M p 0 ≡ y → (is_idle_phase (seen_input net M r (local_port net.relation.grid * net.relation.vcs + w) (Some (Inject r w))).phase && is_empty (seen_flits net M (Some (Inject r w)))) ≡ false
           head y z = way (or_cases (is_in (Inject r w) (head_place net M p)) (is_past net (Inject r w) (goal net p) (head_place net M p)) come)
             where
               way : (is_in (Inject r w) (head_place net M p) ≡ true) ⊎ (is_past net (Inject r w) (goal net p) (head_place net M p) ≡ true) → (is_idle_phase (seen_input net M r (local_port net.relation.grid * net.relation.vcs + w) (Some (Inject r w))).phase && is_empty (seen_flits net M (Some (Inject r w)))) ≡ false
               way (inl t) =
-                  let g : Located = record { packet = p; index = 0; place = place_of net M p 0 } in
+                  let g : Located = record { packet = p; index = 0; place = place_of_flit net M p 0 } in
                   let member = flit-there net M (keyed net good M x n) p 0 (valid-first net good.built p low) in
                   let some : nat_eq (count_in net M (Inject r w)) 0 ≡ false = filled (nat_eq (count_in net M (Inject r w)) 0) refl g member t in
                   ap (λ b. is_idle_phase (seen_input net M r (local_port net.relation.grid * net.relation.vcs + w) (Some (Inject r w))).phase && b) (empty-is (buffer_of net M (Inject r w)) ∙ some)
@@ -334,7 +334,7 @@ module _ (net : Setup) (good : IsGood net) (M : State) (x : IsOrderedFrozen net 
 
   -- what the source does, from its queue and what it is sending
   abbrev go : List (ℕ × Packet) → Option (ℕ × ℕ) → View
-  go queue sending = injected_from n queue sending u
+  go queue sending = view_after_inject_from n queue sending u
 
   injection-from : (p : ℕ) → first_waiting net M r ≡ Some p → injection_at net M n r ≡ injection_with net M n r p (find (is_injection_of net r) (owned_by net M p))
   injection-from p e = ap (option_and_then (λ q. injection_with net M n r q (find (is_injection_of net r) (owned_by net M q)))) e
@@ -390,18 +390,18 @@ module _ (net : Setup) (good : IsGood net) (M : State) (x : IsOrderedFrozen net 
     begins : find (is_injection_of net r) (owned_by net M p) ≡ None → IsInjected net M n r v (go ((p, packet_at net p) ∷ rest) None)
     begins e = due (nat_le (packet_at net p).due n) refl
       where
-        wait : (p < length net.packets) × (r ≡ (packet_at net p).source) × (place_of net M p (last_of net p) ≡ Source)
+        wait : (p < length net.packets) × (r ≡ (packet_at net p).source) × (place_of_flit net M p (last_of net p) ≡ Source)
         wait = waiting-is net good.built M (keyed net good M x n) (worm net good M x n) n r p first
 
         -- its head is at the source
-        head : (y : Place) → place_of net M p 0 ≡ y → (y ≢ Source → ⊥) → y ≡ Source
+        head : (y : Place) → place_of_flit net M p 0 ≡ y → (y ≢ Source → ⊥) → y ≡ Source
         head Source z k = refl
         head (On c) z k = absurd (k (λ q. cc q))
         head (In c) z k = absurd (k (λ q. cc q))
         head (Out j) z k = absurd (k (λ q. cc q))
 
-        not-begun : place_of net M p 0 ≡ Source
-        not-begun = head (place_of net M p 0) refl (λ off.
+        not-begun : place_of_flit net M p 0 ≡ Source
+        not-begun = head (place_of_flit net M p 0) refl (λ off.
             let h = (worm net good M x n).holds p wait.0 off wait.2 in
             let own : Has (Inject r h.0, p) M.own = subst (λ j. Has (Inject j h.0, p) M.own) (sym wait.1) h.1 in
             none-some (Inject r h.0) (sym e ∙ Rattle.noc_model.proofs.SourceState.injection-at net good.built M (keyed net good M x n) (worm net good M x n) p r h.0 own))
@@ -424,7 +424,7 @@ module _ (net : Setup) (good : IsGood net) (M : State) (x : IsOrderedFrozen net 
             let low = (find-some (λ j. is_idle net M (Inject r j)) net.relation.vcs w k).1 in
             something one found w low refl rest queue_is other ahead 0 (zero-flit (entered net good M x n r l one found).flit (λ i. (entered net good M x n r l one found).first i))
           where
-            zero-flit : (j : ℕ) → ((i : ℕ) → i < j → place_of net M p i ≢ Source) → 0 ≡ j
+            zero-flit : (j : ℕ) → ((i : ℕ) → i < j → place_of_flit net M p i ≢ Source) → 0 ≡ j
             zero-flit zero f = refl
             zero-flit (suc j) f = absurd (f 0 (omega arith) not-begun)
 
@@ -444,18 +444,18 @@ module _ (net : Setup) (good : IsGood net) (M : State) (x : IsOrderedFrozen net 
     front-goes None e =
         subst (λ (s : Option (ℕ × ℕ)). IsInjected net M n r v (go ((p, packet_at net p) ∷ rest) s)) (sym (ap (option_map (λ d. (channel_vc d, count_by (λ (f : Located). not (is_at_source f.place)) (flits_of net M p)))) e)) (begins e)
 
-  pub injects : IsInjected net M n r v (injected n v)
-  unfolding injected
+  pub injects : IsInjected net M n r v (view_after_inject n v)
+  unfolding view_after_inject
   injects = subst (λ (y : View). IsInjected net M n r v y) (sym same) (by (queue-case net M r))
     where
-      same : injected_from n v.queue v.sending u ≡ injected_from n (filter (has_flit_at_source net M) (starts_at net r)) (seen_sending net M r (first_waiting net M r)) u
-      same = ap (λ (q : List (ℕ × Packet)). injected_from n q v.sending u) seen.queue ∙ ap (λ (s : Option (ℕ × ℕ)). injected_from n (filter (has_flit_at_source net M) (starts_at net r)) s u) seen.sending
+      same : view_after_inject_from n v.queue v.sending u ≡ view_after_inject_from n (filter (has_flit_at_source net M) (starts_at net r)) (seen_sending net M r (first_waiting net M r)) u
+      same = ap (λ (q : List (ℕ × Packet)). view_after_inject_from n q v.sending u) seen.queue ∙ ap (λ (s : Option (ℕ × ℕ)). view_after_inject_from n (filter (has_flit_at_source net M) (starts_at net r)) s u) seen.sending
 
-      by : Queue net M r → IsInjected net M n r v (injected_from n (filter (has_flit_at_source net M) (starts_at net r)) (seen_sending net M r (first_waiting net M r)) u)
+      by : Queue net M r → IsInjected net M n r v (view_after_inject_from n (filter (has_flit_at_source net M) (starts_at net r)) (seen_sending net M r (first_waiting net M r)) u)
       by (empty a b) =
-          subst (λ (y : View). IsInjected net M n r v y) (sym (ap (λ (q : List (ℕ × Packet)). injected_from n q (seen_sending net M r (first_waiting net M r)) u) a))
+          subst (λ (y : View). IsInjected net M n r v y) (sym (ap (λ (q : List (ℕ × Packet)). view_after_inject_from n q (seen_sending net M r (first_waiting net M r)) u) a))
           (nothing (ap (option_and_then (λ q. injection_with net M n r q (find (is_injection_of net r) (owned_by net M q)))) b))
       by (front p rest a b o w) =
           subst (λ (y : View). IsInjected net M n r v y)
-          (sym (ap (λ (q : List (ℕ × Packet)). injected_from n q (seen_sending net M r (first_waiting net M r)) u) a ∙ ap (λ (f : Option ℕ). injected_from n ((p, packet_at net p) ∷ rest) (seen_sending net M r f) u) b))
+          (sym (ap (λ (q : List (ℕ × Packet)). view_after_inject_from n q (seen_sending net M r (first_waiting net M r)) u) a ∙ ap (λ (f : Option ℕ). view_after_inject_from n ((p, packet_at net p) ∷ rest) (seen_sending net M r f) u) b))
           (front-goes p rest a b o w (find (is_injection_of net r) (owned_by net M p)) refl)

@@ -5,7 +5,7 @@ use Rattle.std.proofs.lemmas.Bool.{false≢true, true≢false, eqb-true, and_par
 use Rattle.std.proofs.lemmas.Option.{none-some, same_Some}
 use Rattle.noc_topo.specs.Words.{below}
 use Rattle.noc_route.specs.Channel.{Channel, Inject}
-use Rattle.noc_model.specs.Network.{Setup, Injection, State, Located, In, packet_at, place_of, is_in, count_in, after_injection, injection_at, injections, injected_place, injection_with, beginning, first_waiting, is_injection_of, owned_by, first_at_source, is_the_flit, is_at_source, is_idle}
+use Rattle.noc_model.specs.Network.{Setup, Injection, State, Located, In, packet_at, place_of_flit, is_in, count_in, after_injection, injection_at, injections, injected_place, injection_with, beginning, first_waiting, is_injection_of, owned_by, first_at_source, is_the_flit, is_at_source, is_idle}
 use Rattle.noc_model.proofs.BuiltRecord.{IsBuilt}
 use Rattle.noc_model.proofs.OptionLemmas.{and_then-some, cond-some}
 use Rattle.noc_model.proofs.BufferLemmas.{find-passes, same_channel-true}
@@ -36,7 +36,7 @@ apart-by_channel net a b (x ∷ xs) p (inl s) (inr t) e = absurd ((each-at (IsAp
 apart-by_channel net a b (x ∷ xs) p (inr s) (inl t) e = absurd ((each-at (IsApart net x) xs a p.0 s).1 (ap (λ (z : Injection net). z.channel) (sym t) ∙ sym e))
 apart-by_channel net a b (x ∷ xs) p (inr s) (inr t) e = apart-by_channel net a b xs p.1 s t e
 
-module _ (net : Setup) (built : IsBuilt net) (S : State) (keyed : IsKeyed net S.at) (w : IsWorm net S.own (place_of net S)) (n : ℕ) where
+module _ (net : Setup) (built : IsBuilt net) (S : State) (keyed : IsKeyed net S.at) (w : IsWorm net S.own (place_of_flit net S)) (n : ℕ) where
   abbrev all : List (Injection net)
   all = injections net S n
 

@@ -9,11 +9,11 @@ use Rattle.noc_topo.proofs.WordLemmas.{get_or-tabulate, length-tabulate, tabulat
 use Rattle.noc_topo.proofs.LinkLemmas.{neighbour-range}
 use Rattle.noc_packet.specs.declared.packet.Beat.{Beat}
 use Rattle.noc_router.specs.Verdict.{is_event}
-use Rattle.noc_router.specs.View.{Site, View, all_taken, injected, planned, committed, counted, local_step, idle_beat, idle_beats, opening_view}
+use Rattle.noc_router.specs.View.{Site, View, view_after_takes, view_after_inject, decisions_of, view_after_commit, counts_after, local_step, idle_beat, idle_beats, opening_view}
 use Rattle.noc_router.specs.declared.verdict.Verdict.{Verdict}
 use Rattle.noc_model.specs.declared.limits.TheConstants.{CYCLE_LIMIT}
-use Rattle.noc_model.specs.Network.{Setup, State, size, opening_state, state_at, frozen_at, frozen, after_injection, after_verdicts, network_cycle, injection_at, verdict_in_cycle}
-use Rattle.noc_model.specs.Lockstep.{lockstep_at, lockstep_cycle, opening_lockstep, exchanged, beats_at, beat_from, beat_by, beats_in, view_in, view_at, site_at, starts_at, ends_at, has_event_at, counts_before}
+use Rattle.noc_model.specs.Network.{Setup, State, size, opening_state, state_at, frozen_at, frozen_state, after_injection, after_verdicts, network_cycle, injection_at, verdict_in_cycle}
+use Rattle.noc_model.specs.Lockstep.{lockstep_at, lockstep_cycle, opening_lockstep, wires_after_puts, beats_at, beat_from, beat_by, beats_in, view_in, view_at, site_at, starts_at, ends_at, has_event_at, counts_before}
 use Rattle.noc_model.proofs.RunLemmas.{count_views}
 use Rattle.noc_model.proofs.Ordered.{IsGood, IsOrdered, IsOrderedFrozen}
 use Rattle.noc_model.proofs.Phases.{mid, IsTaken, IsInjected, IsCommitted, ArePhases, verdict_by}
@@ -34,13 +34,13 @@ module _ (net : Setup) (phases : ArePhases net) where
     v = view_at net n r
 
     abbrev w : View
-    w = all_taken net.relation (beats_at (beats_in net S) r) v
+    w = view_after_takes net.relation (beats_at (beats_in net S) r) v
 
     abbrev f : View
-    f = injected n w
+    f = view_after_inject n w
 
     abbrev after : View
-    after = committed (planned net.relation f) f
+    after = view_after_commit (decisions_of net.relation f) f
 
     taken : IsTaken net S r v w
     unfolding view_at view_in
@@ -50,7 +50,7 @@ module _ (net : Setup) (phases : ArePhases net) where
     given = phases.injects (mid net S) middle n r l w taken.seen
 
     same_frozen : after_injection net n (mid net S) ≡ frozen_at net n
-    unfolding frozen
+    unfolding frozen_state
     same_frozen = refl
 
     count_counts : length f.counts ≡ size net
@@ -67,12 +67,12 @@ module _ (net : Setup) (phases : ArePhases net) where
     verdict_then : ℕ → ℕ → Verdict
     verdict_then i m = verdict_in_cycle net m r i
 
-    each-count : (i : ℕ) → i < size net → counted (verdict_by net (frozen_at net n) r i) (counts_before net n r i) ≡ counts_before net (suc n) r i
+    each-count : (i : ℕ) → i < size net → counts_after (verdict_by net (frozen_at net n) r i) (counts_before net n r i) ≡ counts_before net (suc n) r i
     each-count i m = counted-next (λ k. verdict_in_cycle net k r i) n few
 
-    counts-next : map_indexed (λ i counts. counted (verdict_by net (frozen_at net n) r i) counts) (tabulate (size net) (counts_before net n r)) ≡ tabulate (size net) (counts_before net (suc n) r)
+    counts-next : map_indexed (λ i counts. counts_after (verdict_by net (frozen_at net n) r i) counts) (tabulate (size net) (counts_before net n r)) ≡ tabulate (size net) (counts_before net (suc n) r)
     counts-next =
-        let count : List ℕ → ℕ → List ℕ = λ counts i. counted (verdict_by net (frozen_at net n) r i) counts in
+        let count : List ℕ → ℕ → List ℕ = λ counts i. counts_after (verdict_by net (frozen_at net n) r i) counts in
         let before : List (List ℕ) = tabulate (size net) (counts_before net n r) in
         let len : length before ≡ size net = length-tabulate (size net) (counts_before net n r) in
         tabulate-from_each (size net) (counts_before net (suc n) r) (map_indexed (λ i counts. count counts i) before) []
@@ -103,7 +103,7 @@ module _ (net : Setup) (phases : ArePhases net) where
           misfits = seen.misfits;
         })
         (done.last_event ∙ ap (λ b. cond b (Some n) f.last_event) event-next ∙ ap (λ (e : Option ℕ). cond (has_event_at net n r) (Some n) e) (given.noted.last_event ∙ taken.noted.last_event))
-        (done.counts ∙ ap (map_indexed (λ i counts. counted (verdict_by net (frozen_at net n) r i) counts)) (given.noted.counts ∙ taken.noted.counts) ∙ counts-next)
+        (done.counts ∙ ap (map_indexed (λ i counts. counts_after (verdict_by net (frozen_at net n) r i) counts)) (given.noted.counts ∙ taken.noted.counts) ∙ counts-next)
         done.findings (done.given ∙ back) done.event (ap (λ (s : Site). idle_beats s) seen.site)
       where
         back : n ≡ suc n - 1
@@ -165,7 +165,7 @@ module _ (net : Setup) (phases : ArePhases net) where
         ∙ sent-beats to.0 to.1 s q low.0 e m
 
     pub seen-next : IsGrid net.relation.grid → AreSeen net (suc n)
-    unfolding lockstep_at lockstep_cycle exchanged beats_in
+    unfolding lockstep_at lockstep_cycle wires_after_puts beats_in
     seen-next grid = record {
       views = views-next;
       wires =

@@ -4,7 +4,7 @@ use Rattle.std.specs.Prelude.{count_by, nat_eq}
 use Rattle.std.specs.List.{range_with_len}
 use Rattle.std.proofs.lemmas.Bool.{eqb-true, eq-eqb}
 use Rattle.noc_topo.specs.Words.{below, Has, Pairs}
-use Rattle.noc_model.specs.Network.{Setup, State, Located, Place, flits_of, place_of, packet_at}
+use Rattle.noc_model.specs.Network.{Setup, State, Located, Place, flits_of, place_of_flit, packet_at}
 use Rattle.noc_model.proofs.Members.{each-at, Has-filter, Has-kept, Pairs-filter}
 use Rattle.noc_model.proofs.PlaceLemmas.{IsSortedPair, IsKeyed, place-of-flit}
 use Rattle.noc_model.proofs.LockstepSteps.{count-cons}
@@ -65,15 +65,15 @@ count-map t f (i ∷ is) = count-cons t (f i) (map f is) ∙ ap (λ k. cond (t (
 
 module _ (net : Setup) (S : State) (keyed : IsKeyed net S.at) where
   -- the flits of a packet are those with its indices, in order
-  pub listed : (p : ℕ) → p < length net.packets → flits_of net S p ≡ map (λ i. record { packet = p; index = i; place = place_of net S p i }) (below (packet_at net p).length)
+  pub listed : (p : ℕ) → p < length net.packets → flits_of net S p ≡ map (λ i. record { packet = p; index = i; place = place_of_flit net S p i }) (below (packet_at net p).length)
   unfolding below
   listed p l =
-      listed-from p (place_of net S p) (packet_at net p).length 0 (flits_of net S p) (Pairs-filter IsSortedPair (λ (f : Located). nat_eq p f.packet) S.at keyed.sorted)
+      listed-from p (place_of_flit net S p) (packet_at net p).length 0 (flits_of net S p) (Pairs-filter IsSortedPair (λ (f : Located). nat_eq p f.packet) S.at keyed.sorted)
       (λ f h.
       let m = Has-filter (λ (g : Located). nat_eq p g.packet) f S.at h in
       let e : f.packet ≡ p = sym (eqb-true p f.packet m.1) in
       let v = keyed.valid f m.0 in
-      let at : place_of net S p f.index ≡ f.place = ap (λ q. place_of net S q f.index) (sym e) ∙ place-of-flit net S keyed f m.0 in
+      let at : place_of_flit net S p f.index ≡ f.place = ap (λ q. place_of_flit net S q f.index) (sym e) ∙ place-of-flit net S keyed f m.0 in
       let low : f.index < (packet_at net p).length = subst (λ q. f.index < (packet_at net q).length) e v.1 in
       (e, sym at, omega arith, omega (arith, low)))
       (λ i u v.
@@ -81,9 +81,9 @@ module _ (net : Setup) (S : State) (keyed : IsKeyed net S.at) where
       (r.0, Has-kept (λ (g : Located). nat_eq p g.packet) r.0 S.at r.1 (eq-eqb p r.0.packet (sym r.2)), r.3))
 
   -- how many flits of a packet pass, if just the first k do
-  pub count-places : (t : Place → Bool) (p k : ℕ) → p < length net.packets → k ≤ (packet_at net p).length → ((i : ℕ) → i < k → t (place_of net S p i) ≡ true)
-      → ((i : ℕ) → k ≤ i → i < (packet_at net p).length → t (place_of net S p i) ≡ false) → count_by (λ (f : Located). t f.place) (flits_of net S p) ≡ k
+  pub count-places : (t : Place → Bool) (p k : ℕ) → p < length net.packets → k ≤ (packet_at net p).length → ((i : ℕ) → i < k → t (place_of_flit net S p i) ≡ true)
+      → ((i : ℕ) → k ≤ i → i < (packet_at net p).length → t (place_of_flit net S p i) ≡ false) → count_by (λ (f : Located). t f.place) (flits_of net S p) ≡ k
   count-places t p k l u pass none =
       ap (count_by (λ (f : Located). t f.place)) (listed p l)
-      ∙ count-map (λ (f : Located). t f.place) (λ i. record { packet = p; index = i; place = place_of net S p i }) (below (packet_at net p).length)
-      ∙ count-front (λ i. t (place_of net S p i)) k (packet_at net p).length u pass none
+      ∙ count-map (λ (f : Located). t f.place) (λ i. record { packet = p; index = i; place = place_of_flit net S p i }) (below (packet_at net p).length)
+      ∙ count-front (λ i. t (place_of_flit net S p i)) k (packet_at net p).length u pass none

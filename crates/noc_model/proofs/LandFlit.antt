@@ -10,11 +10,11 @@ use Rattle.noc_packet.specs.declared.packet.Flit.{Flit}
 use Rattle.noc_packet.specs.declared.limits.TheConstants.{MAX_LENGTH}
 use Rattle.noc_route.specs.Channel.{Channel, Link, same_channel}
 use Rattle.noc_route.specs.Routes.{set_at}
-use Rattle.noc_vc.specs.Input.{Input, landed as landed_on, next_of, fits, is_expected, is_awaited, is_empty, may_begin}
+use Rattle.noc_vc.specs.Input.{Input, input_after_land as landed_on, next_of, fits, is_expected, is_awaited, is_empty, may_begin}
 use Rattle.noc_vc.specs.declared.input.InputState.{InputState}
 use Rattle.noc_vc.specs.declared.input.InputState.TheVariants.{Idle, Waiting}
 use Rattle.noc_model.specs.Lockstep.{flit_on, has_come, come_count, seen_flits, seen_input, seen_phase, seen_phase_with, seen_set, is_present, last_come}
-use Rattle.noc_model.specs.Network.{Setup, State, Located, Place, Source, On, In, Out, packet_at, place_of, tail_place, buffer_of, count_in, count_on, is_on, is_in, is_past, landed_place, owner_of, next_channel, has_channel, after_landing, after_credits}
+use Rattle.noc_model.specs.Network.{Setup, State, Located, Place, Source, On, In, Out, packet_at, place_of_flit, tail_place, buffer_of, count_in, count_on, is_on, is_in, is_past, landed_place, owner_of, next_channel, has_channel, after_landing, after_credits}
 use Rattle.noc_model.specs.Progress.{weight, head_place}
 use Rattle.noc_model.proofs.BufferLemmas.{same_channel-refl, same_channel-true, find-passes}
 use Rattle.noc_model.proofs.Members.{Has-kept, find-has, Has-filter}
@@ -69,7 +69,7 @@ module _ (net : Setup) (good : IsGood net) (S : State) (x : IsOrdered net S) (a 
   valid : IsValid net it.flit.packet it.flit.index
   valid = (keyed net good S x).valid it.flit it.member
 
-  here : place_of net S it.flit.packet it.flit.index ≡ On (Link a b w)
+  here : place_of_flit net S it.flit.packet it.flit.index ≡ On (Link a b w)
   here = place-of-flit net S (keyed net good S x) it.flit it.member ∙ it.place
 
   own : Has (Link a b w, it.flit.packet) S.own
@@ -82,20 +82,20 @@ module _ (net : Setup) (good : IsGood net) (S : State) (x : IsOrdered net S) (a 
   owner = owner-at net good.built S (keyed net good S x) (worm net good S x) (Link a b w) it.flit.packet own
 
   -- no other flit is on this wire
-  alone : (q j : ℕ) → IsValid net q j → place_of net S q j ≡ On (Link a b w) → (q ≡ it.flit.packet) × (j ≡ it.flit.index)
+  alone : (q j : ℕ) → IsValid net q j → place_of_flit net S q j ≡ On (Link a b w) → (q ≡ it.flit.packet) × (j ≡ it.flit.index)
   alone q j v e = x.one_on_link q j it.flit.packet it.flit.index a b w w v valid e here
 
-  not-come : has_come net (Link a b w) (goal net it.flit.packet) (place_of net S it.flit.packet it.flit.index) ≡ false
+  not-come : has_come net (Link a b w) (goal net it.flit.packet) (place_of_flit net S it.flit.packet it.flit.index) ≡ false
   not-come = ap (has_come net (Link a b w) (goal net it.flit.packet)) here ∙ le-ltb (far_of net it.flit.packet (Link a b w)) (far_of net it.flit.packet (Link a b w)) (omega arith)
 
-  before : (j : ℕ) → j < it.flit.index → has_come net (Link a b w) (goal net it.flit.packet) (place_of net S it.flit.packet j) ≡ true
+  before : (j : ℕ) → j < it.flit.index → has_come net (Link a b w) (goal net it.flit.packet) (place_of_flit net S it.flit.packet j) ≡ true
   before j u =
       let v : IsValid net it.flit.packet j = valid-below net good.built it.flit.packet j it.flit.index valid (omega arith) in
       let o = (worm net good S x).order it.flit.packet j it.flit.index valid (omega arith) in
-      let e : weight net it.flit.packet (place_of net S it.flit.packet it.flit.index) ≡ 3 * far_of net it.flit.packet (Link a b w) + 3 = ap (weight net it.flit.packet) here in
+      let e : weight net it.flit.packet (place_of_flit net S it.flit.packet it.flit.index) ≡ 3 * far_of net it.flit.packet (Link a b w) + 3 = ap (weight net it.flit.packet) here in
       let placed = (worm net good S x).placed it.flit.packet j v in
-      let m = wire-weight net good S x it.flit.packet a b w (place_of net S it.flit.packet j) own placed (λ z. let s = (alone it.flit.packet j v z).1 in omega (arith, s)) (omega (arith, o, e)) in
-      come-level net good.built S (keyed net good S x) (worm net good S x) it.flit.packet (Link a b w) (place_of net S it.flit.packet j) holds placed ∙ le-leb _ _ m
+      let m = wire-weight net good S x it.flit.packet a b w (place_of_flit net S it.flit.packet j) own placed (λ z. let s = (alone it.flit.packet j v z).1 in omega (arith, s)) (omega (arith, o, e)) in
+      come-level net good.built S (keyed net good S x) (worm net good S x) it.flit.packet (Link a b w) (place_of_flit net S it.flit.packet j) holds placed ∙ le-leb _ _ m
 
   count-was : come_count net S (Link a b w) it.flit.packet ≡ it.flit.index
   count-was = count-to net good.built S (keyed net good S x) (worm net good S x) it.flit.packet it.flit.index (Link a b w) holds valid before not-come
@@ -105,18 +105,18 @@ module _ (net : Setup) (good : IsGood net) (S : State) (x : IsOrdered net S) (a 
       count-places net (mid net S) (keyedM net good S x) (has_come net (Link a b w) (goal net it.flit.packet)) it.flit.packet (it.flit.index + 1) valid.0 (let v = valid.1 in omega (arith, v))
       (λ j u. front j u (cases_eq j it.flit.index))
       (λ j u m. ap (has_come net (Link a b w) (goal net it.flit.packet)) (landed net good S x it.flit.packet j (valid.0, m))
-      ∙ come-landed net good S x it.flit.packet (Link a b w) (place_of net S it.flit.packet j) (λ z. let s = (alone it.flit.packet j (valid.0, m) z).1 in omega (arith, s, u))
+      ∙ come-landed net good S x it.flit.packet (Link a b w) (place_of_flit net S it.flit.packet j) (λ z. let s = (alone it.flit.packet j (valid.0, m) z).1 in omega (arith, s, u))
       ∙ come-behind net good.built S (keyed net good S x) (worm net good S x) it.flit.packet it.flit.index j (Link a b w) holds (valid.0, m) (omega arith) not-come)
     where
-      front : (j : ℕ) → j < it.flit.index + 1 → (j ≡ it.flit.index) ⊎ (j ≡ it.flit.index → ⊥) → has_come net (Link a b w) (goal net it.flit.packet) (place_of net (mid net S) it.flit.packet j) ≡ true
+      front : (j : ℕ) → j < it.flit.index + 1 → (j ≡ it.flit.index) ⊎ (j ≡ it.flit.index → ⊥) → has_come net (Link a b w) (goal net it.flit.packet) (place_of_flit net (mid net S) it.flit.packet j) ≡ true
       front j u (inl e) =
-          ap (λ y. has_come net (Link a b w) (goal net it.flit.packet) (place_of net (mid net S) it.flit.packet y)) e
+          ap (λ y. has_come net (Link a b w) (goal net it.flit.packet) (place_of_flit net (mid net S) it.flit.packet y)) e
           ∙ ap (has_come net (Link a b w) (goal net it.flit.packet)) (landed net good S x it.flit.packet it.flit.index valid ∙ ap (landed_place net) here)
           ∙ or_left _ _ (same_channel-refl (Link a b w))
       front j u (inr e) =
           let v : IsValid net it.flit.packet j = valid-below net good.built it.flit.packet j it.flit.index valid (omega arith) in
           ap (has_come net (Link a b w) (goal net it.flit.packet)) (landed net good S x it.flit.packet j v)
-          ∙ come-landed net good S x it.flit.packet (Link a b w) (place_of net S it.flit.packet j) (λ z. e (alone it.flit.packet j v z).1) ∙ before j (omega (arith, u, e))
+          ∙ come-landed net good S x it.flit.packet (Link a b w) (place_of_flit net S it.flit.packet j) (λ z. e (alone it.flit.packet j v z).1) ∙ before j (omega (arith, u, e))
 
   -- the tail has not left the buffer
   behind : is_past net (Link a b w) (goal net it.flit.packet) (tail_place net S it.flit.packet) ≡ false
@@ -152,11 +152,11 @@ module _ (net : Setup) (good : IsGood net) (S : State) (x : IsOrdered net S) (a 
       kept g h e =
           let q = in-buffer net good.built S (keyed net good S x) (worm net good S x) (Link a b w) g (Has-kept (λ (f : Located). is_in (Link a b w) f.place) g S.at h e) in
           let same : g.packet ≡ it.flit.packet = same_Some _ _ (sym q.holder ∙ owner) in
-          let there : place_of net S it.flit.packet g.index ≡ In (Link a b w) = ap (λ j. place_of net S j g.index) (sym same) ∙ q.there in
+          let there : place_of_flit net S it.flit.packet g.index ≡ In (Link a b w) = ap (λ j. place_of_flit net S j g.index) (sym same) ∙ q.there in
           let v : IsValid net it.flit.packet g.index = subst (λ j. IsValid net j g.index) same q.valid in
           (ap (λ (y : Place). record g { place = y }) (ap (landed_place net) (in-is g.place e) ∙ sym (in-is g.place e)), same, less g.index v there)
         where
-          less : (j : ℕ) → IsValid net it.flit.packet j → place_of net S it.flit.packet j ≡ In (Link a b w) → j < it.flit.index
+          less : (j : ℕ) → IsValid net it.flit.packet j → place_of_flit net S it.flit.packet j ≡ In (Link a b w) → j < it.flit.index
           less j v there = by (cases_lt j it.flit.index)
             where
               by : (j < it.flit.index) ⊎ (it.flit.index ≤ j) → j < it.flit.index
@@ -297,7 +297,7 @@ module _ (net : Setup) (good : IsGood net) (S : State) (x : IsOrdered net S) (a 
           positive zero z =
               let o = x.whole.routed.mid.only (Link a b w) e in
               let same : o.0 ≡ it.flit.packet = Rattle.noc_model.proofs.SourceLemmas.same-owner net good S (keyed net good S x) (worm net good S x) (Link a b w) o.0 it.flit.packet o.1.0 own in
-              let head : head_place net S it.flit.packet ≡ On (Link a b w) = ap (place_of net S it.flit.packet) (sym z) ∙ here in
+              let head : head_place net S it.flit.packet ≡ On (Link a b w) = ap (place_of_flit net S it.flit.packet) (sym z) ∙ here in
               let come = Rattle.noc_model.proofs.CommitGrant.come-true net S it.flit.packet (Link a b w) (head_place net S it.flit.packet) (subst (λ q. Rattle.noc_model.proofs.RoutedRecord.Come net q (Link a b w) (head_place net S q)) same o.2) in
               absurd (false≢true (sym not-come ∙ ap (has_come net (Link a b w) (goal net it.flit.packet)) (here ∙ sym head) ∙ come))
 

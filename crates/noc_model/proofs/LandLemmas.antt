@@ -5,7 +5,7 @@ use Rattle.std.proofs.lemmas.Bool.{true≢false, cases_eq, not-true}
 use Rattle.noc_topo.specs.Words.{Has}
 use Rattle.noc_route.specs.Channel.{Channel, Link, Inject, Eject, same_channel, is_link}
 use Rattle.noc_model.specs.Lockstep.{has_come}
-use Rattle.noc_model.specs.Network.{Setup, State, Located, Place, Source, On, In, Out, place_of, tail_place, is_on, is_past, is_freed, landed_place, owner_of, next_channel, after_landing, after_credits}
+use Rattle.noc_model.specs.Network.{Setup, State, Located, Place, Source, On, In, Out, place_of_flit, tail_place, is_on, is_past, is_freed, landed_place, owner_of, next_channel, after_landing, after_credits}
 use Rattle.noc_model.specs.Progress.{weight}
 use Rattle.noc_model.proofs.BufferLemmas.{same_channel-true}
 use Rattle.noc_model.proofs.Members.{Has-filter, Has-kept}
@@ -27,7 +27,7 @@ module _ (net : Setup) (good : IsGood net) (S : State) (x : IsOrdered net S) whe
   abbrev pub keyed : IsKeyed net S.at
   keyed = x.whole.sound.keyed
 
-  abbrev pub worm : IsWorm net S.own (place_of net S)
+  abbrev pub worm : IsWorm net S.own (place_of_flit net S)
   worm = x.whole.sound.worm
 
   pub sound : IsSoundFrozen net (mid net S)
@@ -36,10 +36,10 @@ module _ (net : Setup) (good : IsGood net) (S : State) (x : IsOrdered net S) whe
   abbrev pub keyedM : IsKeyed net M.at
   keyedM = sound.keyed
 
-  abbrev pub wormM : IsWorm net M.own (place_of net M)
+  abbrev pub wormM : IsWorm net M.own (place_of_flit net M)
   wormM = sound.worm
 
-  pub landed : (p i : ℕ) → IsValid net p i → place_of net M p i ≡ landed_place net (place_of net S p i)
+  pub landed : (p i : ℕ) → IsValid net p i → place_of_flit net M p i ≡ landed_place net (place_of_flit net S p i)
   unfolding after_landing after_credits
   landed p i v = place-stepped net (λ (f : Located). landed_place net f.place) S (after_landing net S) keyed refl p i v
 

@@ -5,12 +5,12 @@ use Rattle.std.proofs.lemmas.Bool.{false≢true, true≢false, lt-ltb, ltb-true,
 use Rattle.noc_topo.specs.Words.{Has}
 use Rattle.noc_topo.specs.Shape.{nodes}
 use Rattle.noc_route.specs.Channel.{Channel, Link, Inject, Eject, same_channel, is_link}
-use Rattle.noc_vc.specs.Output.{Output, credited, credit_fits, holder_at}
+use Rattle.noc_vc.specs.Output.{Output, output_after_credit, credit_fits, holder_at}
 use Rattle.noc_vc.specs.declared.output.OutputState.{OutputState}
 use Rattle.noc_vc.specs.declared.output.OutputState.TheVariants.{Idle as Free, Owned, Draining}
 use Rattle.noc_router.specs.Counts.{one_if}
 use Rattle.noc_model.specs.Lockstep.{has_come, seen_output, seen_holder, seen_source}
-use Rattle.noc_model.specs.Network.{Setup, State, Located, Place, Source, On, In, Out, leaving, place_of, tail_place, is_on, is_in, is_past, owner_of, leads_from, has_channel, credit_of, count_in, count_on, landed_place, after_credits}
+use Rattle.noc_model.specs.Network.{Setup, State, Located, Place, Source, On, In, Out, leaving, place_of_flit, tail_place, is_on, is_in, is_past, owner_of, leads_from, has_channel, credit_of, count_in, count_on, landed_place, after_credits}
 use Rattle.noc_model.specs.Progress.{weight, hops}
 use Rattle.noc_model.proofs.BufferLemmas.{same_channel-refl, same_channel-true}
 use Rattle.noc_model.proofs.MoveLemmas.{IsNext, far-link, far-eject}
@@ -132,7 +132,7 @@ module _ (net : Setup) (good : IsGood net) (S : State) (x : IsOrdered net S) whe
   source-same : (r j p : ℕ) (o : Channel) → leaving net r j ≡ o → Has (o, p) S.own → Has (o, p) (mid net S).own → ((n v : ℕ) → o ≡ Inject n v → ⊥) → (tail_place net S p ≡ On o → ⊥) → (tail_place net S p ≡ In o → ⊥) → is_past net o (goal net p) (tail_place net S p) ≡ false
       → (is_link o ≡ true → sent S o p ≡ false) → (is_link o ≡ true) ⊎ IsEject o → seen_source net (mid net S) r o ≡ seen_source net S r o
   source-same r j p o from own ownM none not_on not_in behind unsent kind =
-      let s = has-source net good.built S.own (place_of net S) (worm net good S x) o p own none not_on not_in behind in
+      let s = has-source net good.built S.own (place_of_flit net S) (worm net good S x) o p own none not_on not_in behind in
       let c : Channel = s.0 in
       let leads : leads_from net c (leaving net r j) ≡ true = subst (λ (y : Channel). leads_from net c y ≡ true) (sym from) s.2 in
       let h : IsHeld net S c p = (s.1, not-end net good S (keyed net good S x) (worm net good S x) c o s.2) in
@@ -212,19 +212,19 @@ module _ (net : Setup) (good : IsGood net) (S : State) (x : IsOrdered net S) whe
         let c = credit-was (Link a b w) e in
         lt-ltb (credit_of net S (Link a b w)) net.places (omega (arith, h, c))
 
-    pub link-credited : has_channel S.back (Link a b w) ≡ true → seen_output net (mid net S) r (Link a b w) ≡ credited (seen_output net S r (Link a b w))
+    pub link-credited : has_channel S.back (Link a b w) ≡ true → seen_output net (mid net S) r (Link a b w) ≡ output_after_credit (seen_output net S r (Link a b w))
     link-credited bk = at (owner_of net S (Link a b w)) refl
       where
         credit : credit_of net (mid net S) (Link a b w) ≡ credit_of net S (Link a b w) + 1
         credit = credit-back (Link a b w) bk
 
         both : (h h' : OutputState) → seen_holder net (mid net S) r (Link a b w) (owner_of net (mid net S) (Link a b w)) ≡ h' → seen_holder net S r (Link a b w) (owner_of net S (Link a b w)) ≡ h
-            → h' ≡ holder_at net.places (credit_of net S (Link a b w) + 1) h → seen_output net (mid net S) r (Link a b w) ≡ credited (seen_output net S r (Link a b w))
+            → h' ≡ holder_at net.places (credit_of net S (Link a b w) + 1) h → seen_output net (mid net S) r (Link a b w) ≡ output_after_credit (seen_output net S r (Link a b w))
         both h h' e k z =
             ap (λ y. out y (credit_of net (mid net S) (Link a b w))) (e ∙ z) ∙ ap (out (holder_at net.places (credit_of net S (Link a b w) + 1) h)) credit
             ∙ sym (ap (λ y. out (holder_at net.places (credit_of net S (Link a b w) + 1) y) (credit_of net S (Link a b w) + 1)) k)
 
-        at : (o : Option ℕ) → owner_of net S (Link a b w) ≡ o → seen_output net (mid net S) r (Link a b w) ≡ credited (seen_output net S r (Link a b w))
+        at : (o : Option ℕ) → owner_of net S (Link a b w) ≡ o → seen_output net (mid net S) r (Link a b w) ≡ output_after_credit (seen_output net S r (Link a b w))
         at None e = both Free Free (holder-none (mid net S) (owner-gone net good S x (Link a b w) e)) (holder-none S e) refl
         at (Some p) e = way (is_past net (Link a b w) (goal net p) (tail_place net S p)) refl
           where
@@ -245,13 +245,13 @@ module _ (net : Setup) (good : IsGood net) (S : State) (x : IsOrdered net S) whe
                     left : (f : Located) → Has f (mid net S).at → is_in (Link a b w) f.place ≡ true → ⊥
                     left f h z =
                         let in_c : f.place ≡ In (Link a b w) = is_in-is (Link a b w) f.place z in
-                        let there : place_of net (mid net S) f.packet f.index ≡ In (Link a b w) = place-of-flit net (mid net S) (keyedM net good S x) f h ∙ in_c in
+                        let there : place_of_flit net (mid net S) f.packet f.index ≡ In (Link a b w) = place-of-flit net (mid net S) (keyedM net good S x) f h ∙ in_c in
                         let v = (keyedM net good S x).valid f h in
                         let ownM : Has (Link a b w, f.packet) (mid net S).own = subst (λ (y : Place). IsPlaced net (mid net S).own f.packet y) there ((wormM net good S x).placed f.packet f.index v) in
                         let gone = owner-freed net good S x (Link a b w) p e t in
                         Rattle.noc_model.proofs.OwnedLemmas.idle-none net (mid net S) (Link a b w) f.packet gone ownM
 
-            way : (t : Bool) → is_past net (Link a b w) (goal net p) (tail_place net S p) ≡ t → seen_output net (mid net S) r (Link a b w) ≡ credited (seen_output net S r (Link a b w))
+            way : (t : Bool) → is_past net (Link a b w) (goal net p) (tail_place net S p) ≡ t → seen_output net (mid net S) r (Link a b w) ≡ output_after_credit (seen_output net S r (Link a b w))
             way true t =
                 let sent_S : sent S (Link a b w) p ≡ true = or_right (is_on (Link a b w) (tail_place net S p)) _ (or_right (is_in (Link a b w) (tail_place net S p)) _ t) in
                 let full : credit_of net S (Link a b w) + 1 ≡ net.places
@@ -263,7 +263,7 @@ module _ (net : Setup) (good : IsGood net) (S : State) (x : IsOrdered net S) whe
                 same : seen_holder net (mid net S) r (Link a b w) (owner_of net (mid net S) (Link a b w)) ≡ seen_holder net S r (Link a b w) (owner_of net S (Link a b w))
                 same = holder-same p e t
 
-                kind : (y : Bool) → sent S (Link a b w) p ≡ y → seen_output net (mid net S) r (Link a b w) ≡ credited (seen_output net S r (Link a b w))
+                kind : (y : Bool) → sent S (Link a b w) p ≡ y → seen_output net (mid net S) r (Link a b w) ≡ output_after_credit (seen_output net S r (Link a b w))
                 kind false y =
                     let h : seen_holder net S r (Link a b w) (owner_of net S (Link a b w)) ≡ Owned (seen_source net S r (Link a b w)) p = holder-link S p e ∙ ap (λ z. cond z Draining (Owned (seen_source net S r (Link a b w)) p)) y in
                     both (Owned (seen_source net S r (Link a b w)) p) (Owned (seen_source net S r (Link a b w)) p) (same ∙ h) h refl

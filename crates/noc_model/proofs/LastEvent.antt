@@ -7,7 +7,7 @@ use Rattle.std.proofs.lemmas.Option.{same_Some}
 use Rattle.std.proofs.lemmas.List.Sums.{sum_by-cons}
 use Rattle.noc_topo.specs.Words.{Has, below, is_some_of}
 use Rattle.noc_topo.specs.Shape.{nodes}
-use Rattle.noc_route.specs.Channel.{Channel, Link, Inject, Eject, begin, is_link, same_channel}
+use Rattle.noc_route.specs.Channel.{Channel, Link, Inject, Eject, sending_router, is_link, same_channel}
 use Rattle.noc_route.proofs.OptionLemmas.{some-value}
 use Rattle.noc_router.specs.Verdict.{is_event}
 use Rattle.noc_router.specs.declared.verdict.Verdict.TheVariants.{Empty}
@@ -110,8 +110,8 @@ module _ (net : Setup) (made : IsGoodSetup net) (n : ℕ) where
       by : (c : Channel) → Has c S.back → (is_link c ≡ true) × Has c (all_inputs net) → Somewhere
       by (Link r a v) h k =
           let low = link-router r a v k.1 in
-          let goes : is_some_of (begin (Link r a v)) r ≡ true = eq-eqb r r refl in
-          (r, low, or_left _ _ (or_left _ _ (or_right (list_any (λ (f : Located). flies_to net r f.place) S.at) _ (list_any-from (λ c. is_some_of (begin c) r) S.back (Link r a v) h goes))))
+          let goes : is_some_of (sending_router (Link r a v)) r ≡ true = eq-eqb r r refl in
+          (r, low, or_left _ _ (or_left _ _ (or_right (list_any (λ (f : Located). flies_to net r f.place) S.at) _ (list_any-from (λ c. is_some_of (sending_router c) r) S.back (Link r a v) h goes))))
         where
           link-router : (r a v : ℕ) → Has (Link r a v) (all_inputs net) → r < nodes net.relation.grid
           link-router r a v h = let at = input-at net good (Link r a v) h in ltb-true _ _ at.2.sent
@@ -162,21 +162,21 @@ module _ (net : Setup) (made : IsGoodSetup net) (n : ℕ) where
   pub event-here : (r : ℕ) → r < nodes net.relation.grid → has_event_at net n r ≡ true → 0 < events net n (state_at net n)
   event-here r low e = way (or_cases _ _ e)
     where
-      came : (list_any (λ (f : Located). flies_to net r f.place) S.at ≡ true) ⊎ (list_any (λ c. is_some_of (begin c) r) S.back ≡ true) → 0 < events net n (state_at net n)
+      came : (list_any (λ (f : Located). flies_to net r f.place) S.at ≡ true) ⊎ (list_any (λ c. is_some_of (sending_router c) r) S.back ≡ true) → 0 < events net n (state_at net n)
       came (inl y) =
           let f = list_any-has (λ (f : Located). flies_to net r f.place) S.at y in
           let k = counted-some (λ (f : Located). is_flying f.place) S.at f.0 f.1 (flies r f.0.place f.2) in
           omega arith
-      came (inr y) = let c = list_any-has (λ c. is_some_of (begin c) r) S.back y in let k = listed-some S.back c.0 c.1 in omega arith
+      came (inr y) = let c = list_any-has (λ c. is_some_of (sending_router c) r) S.back y in let k = listed-some S.back c.0 c.1 in omega arith
 
-      before : ((list_any (λ (f : Located). flies_to net r f.place) S.at || list_any (λ c. is_some_of (begin c) r) S.back) ≡ true) ⊎ (is_some (injection_at net landed n r) ≡ true) → 0 < events net n (state_at net n)
+      before : ((list_any (λ (f : Located). flies_to net r f.place) S.at || list_any (λ c. is_some_of (sending_router c) r) S.back) ≡ true) ⊎ (is_some (injection_at net landed n r) ≡ true) → 0 < events net n (state_at net n)
       before (inl y) = came (or_cases _ _ y)
       before (inr y) =
           let one = some-value (injection_at net landed n r) y in
           let k = listed-some (injections net landed n) one.0 (Has-filter_mapped (injection_at net landed n) r one.0 (below (nodes net.relation.grid)) (below-has r (nodes net.relation.grid) low) one.1) in
           omega arith
 
-      way : ((list_any (λ (f : Located). flies_to net r f.place) S.at || list_any (λ c. is_some_of (begin c) r) S.back || is_some (injection_at net landed n r)) ≡ true)
+      way : ((list_any (λ (f : Located). flies_to net r f.place) S.at || list_any (λ c. is_some_of (sending_router c) r) S.back || is_some (injection_at net landed n r)) ≡ true)
           ⊎ (list_any (λ i. is_event (verdict_in_cycle net n r i)) (below (size net)) ≡ true) → 0 < events net n (state_at net n)
       way (inl y) = before (or_cases _ _ y)
       way (inr y) =
@@ -208,7 +208,7 @@ module _ (net : Setup) where
       by false h (inl below) rest = rest below
       by false h (inr past) rest = let same : m ≡ n = omega arith in absurd (false≢true (sym h ∙ ap (λ x. has_event_at net x r) (sym same) ∙ e))
 
-  -- the same of the network
+  -- no event of the network is later
   last-of : (n m : ℕ) → last_event_before net n ≡ Some m → (m < n) × (0 < events net m (state_at net m))
   last-of zero m e = absurd (cc e)
   last-of (suc n) m e = by (nat_lt 0 (events net n (state_at net n))) refl e (last-of n m)

@@ -9,7 +9,7 @@ use Rattle.noc_router.specs.View.{View}
 use Rattle.noc_router.specs.Counts.{one_if}
 use Rattle.noc_model.specs.declared.event.Event.{Event}
 use Rattle.noc_model.specs.declared.event.Event.TheVariants.{Take, Decide, Put}
-use Rattle.noc_model.specs.Core.{CoreState, Post, happens, is_ready, may_decide, all_have, holds_at, post_at, rested}
+use Rattle.noc_model.specs.Core.{CoreState, Post, happens, is_ready, may_decide, all_have, holds_at, post_at, resting_post}
 use Rattle.noc_model.specs.InStep.{AreWithin, IsInStep, cycle_of, lockstep_core, lockstep_wires}
 use Rattle.noc_model.specs.Lockstep.{lockstep_at}
 use Rattle.noc_model.specs.Network.{Run}
@@ -32,7 +32,7 @@ module _ (limit : ℕ) where
       let none : one_if post.decided ≡ 0 = not-decided post.decided free.0 in
       omega arith
 
-  -- .. so an event leaves all within it
+  -- an event leaves all routers within the limit
   pub happens-within : (k : CoreState) (e : Event) → IsInStep limit k → AreWithin limit k → is_ready limit k e ≡ true → AreWithin limit (happens k e)
   happens-within k e sound there ready r post at = by e (moves limit k e r post sound ready at).0 (moves limit k e r post sound ready at).1 ready (moves limit k e r post sound ready at).2.cycle
     where
@@ -51,9 +51,9 @@ module _ (limit : ℕ) where
   pub opening-within : (u : Run) → u.count ≤ limit → AreWithin limit (lockstep_core u)
   unfolding lockstep_core
   opening-within u few r post at =
-      let opened = λ (i : ℕ) (view : View). rested u.net view u.count (lockstep_wires u.net u.count i) in
+      let opened = λ (i : ℕ) (view : View). resting_post u.net view u.count (lockstep_wires u.net u.count i) in
       let views = (lockstep_at u.net u.count).views in
-      let count : length (map_indexed (λ (i : ℕ) (view : View). rested u.net view u.count (lockstep_wires u.net u.count i)) (lockstep_at u.net u.count).views) ≡ length (lockstep_at u.net u.count).views = length-map_indexed opened views in
+      let count : length (map_indexed (λ (i : ℕ) (view : View). resting_post u.net view u.count (lockstep_wires u.net u.count i)) (lockstep_at u.net u.count).views) ≡ length (lockstep_at u.net u.count).views = length-map_indexed opened views in
       let within = slice_get_within (map_indexed opened views) r post at in
       let l : r < length (lockstep_at u.net u.count).views = omega arith in
       let is : post ≡ opened r (get_or views r post.view) = sym (get_or_from_slice_get (map_indexed opened views) r post post at) ∙ get_or-map_indexed opened views r post.view post l in

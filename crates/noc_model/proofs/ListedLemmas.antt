@@ -4,14 +4,14 @@ use Rattle.std.specs.Prelude.{nat_eq}
 use Rattle.std.specs.List.{range_with_len}
 use Rattle.std.proofs.lemmas.Bool.{eqb-true, eq-eqb}
 use Rattle.noc_topo.specs.Words.{Has, Pairs, below, tabulate}
-use Rattle.noc_model.specs.Network.{Setup, State, Located, Place, packet_at, place_of, flits_of}
+use Rattle.noc_model.specs.Network.{Setup, State, Located, Place, packet_at, place_of_flit, flits_of}
 use Rattle.noc_model.proofs.Members.{Has-filter, Has-kept, Pairs-filter, each-at}
 use Rattle.noc_model.proofs.PlaceLemmas.{IsValid, IsKeyed, IsSortedPair, place-of-flit}
 
 module _ (net : Setup) (S : State) (keyed : IsKeyed net S.at) where
   -- flit i of packet p, where it is
   abbrev pub located : ℕ → ℕ → Located
-  located p i = record { packet = p; index = i; place = place_of net S p i }
+  located p i = record { packet = p; index = i; place = place_of_flit net S p i }
 
   -- a flit of p whose index is in this range
   abbrev IsRow : ℕ → ℕ → ℕ → Located → Type 0
@@ -70,7 +70,7 @@ module _ (net : Setup) (S : State) (keyed : IsKeyed net S.at) where
           let of_p : p ≡ f.packet = eqb-true p f.packet m.1 in
           let v : IsValid net p f.index = subst (λ (x : ℕ). IsValid net x f.index) (sym of_p) (keyed.valid f m.0) in
           let l = v.1 in
-          let here : place_of net S p f.index ≡ f.place = ap (λ x. place_of net S x f.index) of_p ∙ place-of-flit net S keyed f m.0 in
+          let here : place_of_flit net S p f.index ≡ f.place = ap (λ x. place_of_flit net S x f.index) of_p ∙ place-of-flit net S keyed f m.0 in
           let same : f ≡ located p f.index
           = ap (λ x. record { packet = x; index = f.index; place = f.place }) (sym of_p) ∙ ap (λ (x : Place). record { packet = p; index = f.index; place = x }) (sym here) in
           (sym of_p, (omega arith, omega arith, same))

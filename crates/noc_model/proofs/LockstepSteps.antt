@@ -38,7 +38,7 @@ count-step t u q step keeps (x ∷ xs) same = at (q x) refl (count-step t u q st
         whole = count-cons t (step x) (filter q (map step xs)) ∙ more (t (step x)) (u x) (same x (inl refl) e) ∙ sym (count-cons u x (filter q xs))
     at false e rest = rw (keeps x, e) rest
 
--- .. and the same holds of whether one passes
+-- whether a flit passes q is as before the step
 pub any-step : (t u q : Located → Bool) (step : Located → Located) → ((f : Located) → q (step f) ≡ q f) → (xs : List Located)
     → ((f : Located) → Has f xs → q f ≡ true → t (step f) ≡ u f) → list_any t (filter q (map step xs)) ≡ list_any u (filter q xs)
 any-step t u q step keeps [] same = refl

@@ -4,8 +4,8 @@ use Rattle.std.specs.Prelude.{find, option_map, option_and_then, unwrap_or, ◌�
 use Rattle.std.proofs.lemmas.Bool.{false≢true, true≢false, eqb-true, eq-eqb, and_parts, and_from}
 use Rattle.std.proofs.lemmas.Option.{none-some, same_Some}
 use Rattle.noc_topo.specs.Shape.{distance}
-use Rattle.noc_route.specs.Channel.{Channel, Link, Inject, Eject, begin}
-use Rattle.noc_model.specs.Network.{Setup, State, Located, Place, Source, On, In, Out, place_of, owner_of, owned_by, end_distance, end_of, leads_from, next_channel, first_in, is_in, is_the_flit, verdict_in, moved_place, gone_to, after_verdicts}
+use Rattle.noc_route.specs.Channel.{Channel, Link, Inject, Eject, sending_router}
+use Rattle.noc_model.specs.Network.{Setup, State, Located, Place, Source, On, In, Out, place_of_flit, owner_of, owned_by, end_distance, end_of, leads_from, next_channel, front_in, is_in, is_the_flit, verdict_in, moved_place, gone_to, after_verdicts}
 use Rattle.noc_router.specs.Verdict.{is_moved}
 use Rattle.noc_model.specs.Progress.{weight, hops}
 use Rattle.noc_model.specs.Worm.{IsPath}
@@ -22,7 +22,7 @@ use Rattle.noc_model.proofs.WormRecord.{IsWorm, IsPlaced, class_of, goal, far_of
 
 module _ (net : Setup) where
   -- a channel from which another leads ends where that begins, as far away
-  pub leads-end : (c o : Channel) → leads_from net c o ≡ true → (r : ℕ) × (begin o ≡ Some r) × (end_of net.relation c ≡ Some r)
+  pub leads-end : (c o : Channel) → leads_from net c o ≡ true → (r : ℕ) × (sending_router o ≡ Some r) × (end_of net.relation c ≡ Some r)
   leads-end c (Link r a v) e = (r, refl, is_some_of-true (end_of net.relation c) r e)
   leads-end c (Inject n v) e = absurd (false≢true e)
   leads-end c (Eject n v) e = (n, refl, is_some_of-true (end_of net.relation c) n e)
@@ -56,7 +56,7 @@ module _ (net : Setup) where
       nearer (Eject n v) b h e = b tt
   same-far-in built m t c d (x ∷ xs) path (inr s) (inr u) a b e = same-far-in built m t c d xs (path-tail net built m t x xs path) s u a b e
 
-module _ (net : Setup) (built : IsBuilt net) (F : State) (keyed : IsKeyed net F.at) (w : IsWorm net F.own (place_of net F)) where
+module _ (net : Setup) (built : IsBuilt net) (F : State) (keyed : IsKeyed net F.at) (w : IsWorm net F.own (place_of_flit net F)) where
   pub same-far : (p : ℕ) (c d : Channel) → Has (c, p) F.own → Has (d, p) F.own → (IsEject c → ⊥) → (IsEject d → ⊥) → far_of net p c ≡ far_of net p d → c ≡ d
   same-far p c d h k = same-far-in net built (class_of net p) (goal net p) c d (of p F.own) (w.path p) (has-of c p F.own h) (has-of d p F.own k)
 
@@ -119,14 +119,14 @@ module _ (net : Setup) (built : IsBuilt net) (F : State) (keyed : IsKeyed net F.
   -- the first flit in a buffer is of the owner of the channel, and has the least index there
   pub record IsFirst (c : Channel) (p i : ℕ) : Type 0 where
     pub flit : Located
-    pub found : first_in net F c ≡ Some flit
+    pub found : front_in net F c ≡ Some flit
     pub packet_is : flit.packet ≡ p
     pub index_is : flit.index ≡ i
     pub valid : IsValid net p i
-    pub there : place_of net F p i ≡ In c
-    pub least : (j : ℕ) → IsValid net p j → place_of net F p j ≡ In c → i ≤ j
+    pub there : place_of_flit net F p i ≡ In c
+    pub least : (j : ℕ) → IsValid net p j → place_of_flit net F p j ≡ In c → i ≤ j
 
-  pub first-is : (c : Channel) (g : Located) → first_in net F c ≡ Some g → IsFirst c g.packet g.index
+  pub first-is : (c : Channel) (g : Located) → front_in net F c ≡ Some g → IsFirst c g.packet g.index
   first-is c g e =
       let test : Located → Bool = λ (f : Located). is_in c f.place in
       let member : Has g F.at = find-has test F.at g e in
@@ -140,19 +140,19 @@ module _ (net : Setup) (built : IsBuilt net) (F : State) (keyed : IsKeyed net F.
         there = place-of-flit net F keyed g member ∙ in_c;
         least = λ j v h.
             let m = flit-there net F keyed g.packet j v in
-            let t : is_in c (place_of net F g.packet j) ≡ true = ap (is_in c) h ∙ same_channel-refl c in
-            find-first test F.at (record { packet = g.packet; index = j; place = place_of net F g.packet j }) g keyed.sorted e m t refl;
+            let t : is_in c (place_of_flit net F g.packet j) ≡ true = ap (is_in c) h ∙ same_channel-refl c in
+            find-first test F.at (record { packet = g.packet; index = j; place = place_of_flit net F g.packet j }) g keyed.sorted e m t refl;
       }
 
-  module _ (n : ℕ) (still : (p i : ℕ) → IsValid net p i → (c : Channel) → place_of net F p i ≢ On c) where
+  module _ (n : ℕ) (still : (p i : ℕ) → IsValid net p i → (c : Channel) → place_of_flit net F p i ≢ On c) where
     abbrev pub T : State
     T = after_verdicts net n F
 
     abbrev pub at : ℕ → ℕ → Place
-    at p i = place_of net F p i
+    at p i = place_of_flit net F p i
 
     abbrev pub to : ℕ → ℕ → Place
-    to p i = place_of net T p i
+    to p i = place_of_flit net T p i
 
     -- flit i of p goes from the buffer of c to o
     pub record IsMoving (p i : ℕ) (c o : Channel) : Type 0 where
@@ -179,13 +179,13 @@ module _ (net : Setup) (built : IsBuilt net) (F : State) (keyed : IsKeyed net F.
     goes-to p i v = place-stepped net (λ (f : Located). moved_place net F n f f.place) F T keyed refl p i v
 
     -- a flit that is the first of its buffer is the one named
-    the-flit : (p i : ℕ) (c : Channel) → IsFirst c p i → is_the_flit net (it p i) (first_in net F c) ≡ true
+    the-flit : (p i : ℕ) (c : Channel) → IsFirst c p i → is_the_flit net (it p i) (front_in net F c) ≡ true
     the-flit p i c x = ap (is_the_flit net (it p i)) x.found ∙ and_from _ _ (eq-eqb p x.flit.packet (sym x.packet_is)) (eq-eqb i x.flit.index (sym x.index_is))
 
-    flit-first : (p i : ℕ) (c : Channel) → is_the_flit net (it p i) (first_in net F c) ≡ true → IsFirst c p i
-    flit-first p i c e = named (first_in net F c) refl
+    flit-first : (p i : ℕ) (c : Channel) → is_the_flit net (it p i) (front_in net F c) ≡ true → IsFirst c p i
+    flit-first p i c e = named (front_in net F c) refl
       where
-        named : (o : Option Located) → first_in net F c ≡ o → IsFirst c p i
+        named : (o : Option Located) → front_in net F c ≡ o → IsFirst c p i
         named None f = absurd (false≢true (sym (ap (is_the_flit net (it p i)) f) ∙ e))
         named (Some g) f =
             let t : is_the_flit net (it p i) (Some g) ≡ true = sym (ap (is_the_flit net (it p i)) f) ∙ e in
@@ -198,18 +198,18 @@ module _ (net : Setup) (built : IsBuilt net) (F : State) (keyed : IsKeyed net F.
         out_of : (x : Place) → at p i ≡ x → ((c : Channel) → x ≡ In c → ⊥) → to p i ≡ at p i → IsMoved p i
         out_of x e none t = inl (record { now = t; not_first = λ c m f. none c (sym e ∙ f.there) })
 
-        in_buffer : (c : Channel) → at p i ≡ In c → (b : Bool) → (is_moved (verdict_in net F c) && is_the_flit net (it p i) (first_in net F c)) ≡ b → IsMoved p i
+        in_buffer : (c : Channel) → at p i ≡ In c → (b : Bool) → (is_moved (verdict_in net F c) && is_the_flit net (it p i) (front_in net F c)) ≡ b → IsMoved p i
         in_buffer c e false h =
             inl (record {
               now = goes-to p i v ∙ ap (moved_place net F n (it p i)) e ∙ ap (λ (b : Bool). cond b (gone_to net n c (next_channel net F c)) (In c)) h ∙ sym e;
               not_first = λ d m f.
                   let same : In d ≡ In c = sym f.there ∙ e in
                   let dc : d ≡ c = cc in
-                  let t : (is_moved (verdict_in net F d) && is_the_flit net (it p i) (first_in net F d)) ≡ true = and_from _ _ (ap (is_moved) m) (the-flit p i d f) in
-                  true≢false (sym t ∙ ap (λ (x : Channel). is_moved (verdict_in net F x) && is_the_flit net (it p i) (first_in net F x)) dc ∙ h);
+                  let t : (is_moved (verdict_in net F d) && is_the_flit net (it p i) (front_in net F d)) ≡ true = and_from _ _ (ap (is_moved) m) (the-flit p i d f) in
+                  true≢false (sym t ∙ ap (λ (x : Channel). is_moved (verdict_in net F x) && is_the_flit net (it p i) (front_in net F x)) dc ∙ h);
             })
         in_buffer c e true h =
-            let parts = and_parts (is_moved (verdict_in net F c)) (is_the_flit net (it p i) (first_in net F c)) h in
+            let parts = and_parts (is_moved (verdict_in net F c)) (is_the_flit net (it p i) (front_in net F c)) h in
             let m : verdict_in net F c ≡ Moved = is_moved-true _ parts.0 in
             let x = next-some net F n c m in
             let here = placed-in p c (subst (λ (y : Place). IsPlaced net F.own p y) e (w.placed p i v)) in
@@ -231,4 +231,4 @@ module _ (net : Setup) (built : IsBuilt net) (F : State) (keyed : IsKeyed net F.
         cases Source e = out_of Source e (λ c s. cc s) (goes-to p i v ∙ ap (moved_place net F n (it p i)) e ∙ sym e)
         cases (On d) e = absurd (still p i v d e)
         cases (Out k) e = out_of (Out k) e (λ c s. cc s) (goes-to p i v ∙ ap (moved_place net F n (it p i)) e ∙ sym e)
-        cases (In c) e = in_buffer c e (is_moved (verdict_in net F c) && is_the_flit net (it p i) (first_in net F c)) refl
+        cases (In c) e = in_buffer c e (is_moved (verdict_in net F c) && is_the_flit net (it p i) (front_in net F c)) refl

@@ -3,7 +3,7 @@ use Rattle.std.proofs.Common.{◌≡◌, ◌≢◌, ℕ, zero, suc, ◌+◌, ◌
 use Rattle.std.specs.Prelude.{filter, find, nat_eq, nat_lt, ◌&&◌, sum_by, count_by}
 use Rattle.std.proofs.lemmas.Bool.{false≢true, true≢false, eqb-true, eq-eqb, and_parts, and_right, and_from, ltb-true}
 use Rattle.std.proofs.lemmas.List.Sums.{sum_by-cons, length-filter}
-use Rattle.noc_model.specs.Network.{In, Located, On, Out, Place, Setup, Source, State, after_verdicts, all_inputs, claim_of, count_in, first_in, gone_to, next_channel, is_in, is_the_flit, moved_place, round_at, verdict_at, verdict_in}
+use Rattle.noc_model.specs.Network.{In, Located, On, Out, Place, Setup, Source, State, after_verdicts, all_inputs, claim_of, count_in, front_in, gone_to, next_channel, is_in, is_the_flit, moved_place, round_at, verdict_at, verdict_in}
 use Rattle.noc_model.specs.Progress.{weight}
 use Rattle.noc_route.specs.Channel.{Channel, arrival_of, channel_vc, is_link, same_channel}
 use Rattle.noc_router.specs.Verdict.{is_moved, verdict_of}
@@ -93,11 +93,11 @@ module _ (net : Setup) (n : ℕ) (F : State) where
   -- what is assumed of moves: a channel that moves is one of the network, and its flit comes nearer
   pub record MovesNear : Type 0 where
     pub listed : (c : Channel) → verdict_in net F c ≡ Moved → Has c (all_inputs net)
-    pub nearer : (c : Channel) (f : Located) → verdict_in net F c ≡ Moved → first_in net F c ≡ Some f → weight net f.packet (gone net F n c) + loss c ≡ weight net f.packet (In c)
+    pub nearer : (c : Channel) (f : Located) → verdict_in net F c ≡ Moved → front_in net F c ≡ Some f → weight net f.packet (gone net F n c) + loss c ≡ weight net f.packet (In c)
 
   -- whether f moves off c, which is where it is
   abbrev moves : Located → Channel → Bool
-  moves f c = is_moved (verdict_in net F c) && is_the_flit net f (first_in net F c)
+  moves f c = is_moved (verdict_in net F c) && is_the_flit net f (front_in net F c)
 
   abbrev lost_at : Located → Place → ℕ
   lost_at f Source = 0
@@ -122,15 +122,15 @@ module _ (net : Setup) (n : ℕ) (F : State) where
     weight-moved f (Out m) = omega arith
     weight-moved f (In c) = at (moves f c) refl
       where
-        flit-of : (o : Option Located) → first_in net F c ≡ o → is_the_flit net f o ≡ true → (g : Located) × (first_in net F c ≡ Some g) × (f.packet ≡ g.packet)
+        flit-of : (o : Option Located) → front_in net F c ≡ o → is_the_flit net f o ≡ true → (g : Located) × (front_in net F c ≡ Some g) × (f.packet ≡ g.packet)
         flit-of None e k = absurd (false≢true k)
         flit-of (Some g) e k = (g, e, eqb-true f.packet g.packet (and_parts (nat_eq f.packet g.packet) (nat_eq f.index g.index) k).0)
 
         at : (b : Bool) → moves f c ≡ b → weight net f.packet (cond b (gone net F n c) (In c)) + cond b (loss c) 0 ≡ weight net f.packet (In c)
         at false e = plus-zero (weight net f.packet (In c))
         at true e =
-            let parts = and_parts (is_moved (verdict_in net F c)) (is_the_flit net f (first_in net F c)) e in
-            let g = flit-of (first_in net F c) refl parts.1 in
+            let parts = and_parts (is_moved (verdict_in net F c)) (is_the_flit net f (front_in net F c)) e in
+            let g = flit-of (front_in net F c) refl parts.1 in
             subst (λ (p : ℕ). weight net p (gone net F n c) + loss c ≡ weight net p (In c)) (sym g.2) (near.nearer c g.0 (is_moved-true (verdict_in net F c) parts.0) g.1)
 
     -- the loss of a flit, channel by channel
@@ -145,7 +145,7 @@ module _ (net : Setup) (n : ℕ) (F : State) where
           where
             at : (b : Bool) → moves f d ≡ b → Has d (all_inputs net)
             at false e = absurd (z (ap (λ b. cond b (loss d) 0) e))
-            at true e = near.listed d (is_moved-true (verdict_in net F d) (and_parts (is_moved (verdict_in net F d)) (is_the_flit net f (first_in net F d)) e).0)
+            at true e = near.listed d (is_moved-true (verdict_in net F d) (and_parts (is_moved (verdict_in net F d)) (is_the_flit net f (front_in net F d)) e).0)
 
     -- and the loss at a channel, flit by flit
     lost-in : (c : Channel) → sum_by (λ (f : Located). cond (is_in c f.place) (cond (moves f c) (loss c) 0) 0) F.at ≡ cond (is_moved (verdict_in net F c)) (loss c) 0
@@ -160,7 +160,7 @@ module _ (net : Setup) (n : ℕ) (F : State) where
         some-flit (g ∷ gs) l = (g, inl refl)
 
         at : (b : Bool) → is_moved (verdict_in net F c) ≡ b → sum_by (λ (f : Located). cond (is_in c f.place) (cond (moves f c) (loss c) 0) 0) F.at ≡ cond b (loss c) 0
-        at false e = sum-none (λ (f : Located). cond (is_in c f.place) (cond (moves f c) (loss c) 0) 0) F.at (λ f h. none (is_in c f.place) (is_the_flit net f (first_in net F c)))
+        at false e = sum-none (λ (f : Located). cond (is_in c f.place) (cond (moves f c) (loss c) 0) 0) F.at (λ f h. none (is_in c f.place) (is_the_flit net f (front_in net F c)))
           where
             none : (a d : Bool) → cond a (cond (is_moved (verdict_in net F c) && d) (loss c) 0) 0 ≡ 0
             none true d = ap (λ b. cond (b && d) (loss c) 0) e
@@ -170,7 +170,7 @@ module _ (net : Setup) (n : ℕ) (F : State) where
             let k = Has-filter (λ (f : Located). is_in c f.place) s.0 F.at s.1 in
             let g = find-some (λ (f : Located). is_in c f.place) F.at s.0 k.0 k.1 in
             sum_by-each (λ (f : Located). cond (is_in c f.place) (cond (moves f c) (loss c) 0) 0) (λ (f : Located). cond (is_in c f.place && same_flit f g.0) (loss c) 0) F.at
-            (λ f h. ap (λ b. cond (is_in c f.place) (cond (b && is_the_flit net f (first_in net F c)) (loss c) 0) 0) e
+            (λ f h. ap (λ b. cond (is_in c f.place) (cond (b && is_the_flit net f (front_in net F c)) (loss c) 0) 0) e
             ∙ ap (λ o. cond (is_in c f.place) (cond (is_the_flit net f o) (loss c) 0) 0) g.1 ∙ both (is_in c f.place) (same_flit f g.0))
             ∙ amount-first (loss c) (λ (f : Located). is_in c f.place) (same_flit) g.0 (and_from _ _ (eq-eqb g.0.packet g.0.packet refl) (eq-eqb g.0.index g.0.index refl)) F.at g.1 (distinct-apart (same_flit) F.at distinct)
 

@@ -5,13 +5,13 @@ use Rattle.std.proofs.lemmas.Option.{none-some, same_Some}
 use Rattle.noc_topo.specs.Words.{is_some_of, Has}
 use Rattle.noc_topo.specs.Shape.{nodes, ports}
 use Rattle.noc_alloc.proofs.WordLemmas.{is_some_of-some}
-use Rattle.noc_route.specs.Channel.{Channel, begin, output_index, same_channel}
+use Rattle.noc_route.specs.Channel.{Channel, sending_router, output_index, same_channel}
 use Rattle.noc_router.specs.Verdict.{Claim, Unrouted, Waits, Holds, out_of}
-use Rattle.noc_router.specs.View.{Site, View, Decisions, size_of, view_claim, view_round, planned, mover, mover_to}
+use Rattle.noc_router.specs.View.{Site, View, Decisions, size_of, view_claim, view_round, decisions_of, mover, mover_to}
 use Rattle.noc_router.specs.declared.verdict.Verdict.TheVariants.{Granted, Moved}
 use Rattle.noc_router.proofs.PlanFacts.{Lists, Mover, mover-is, moves-is, granted-asks, is-granted, verdict_in as verdict_at_view}
 use Rattle.noc_router.proofs.SettleLemmas.{mover_to-is}
-use Rattle.noc_model.specs.Network.{Setup, State, Located, Place, In, size, arriving, leaving, place_of, owner_of, next_channel, leads_from, verdict_in, claim_of, count_in, first_in, is_in, round_at}
+use Rattle.noc_model.specs.Network.{Setup, State, Located, Place, In, size, arriving, leaving, place_of_flit, owner_of, next_channel, leads_from, verdict_in, claim_of, count_in, front_in, is_in, round_at}
 use Rattle.noc_model.proofs.BufferLemmas.{find-passes}
 use Rattle.noc_model.proofs.GrantLemmas.{IsGrant}
 use Rattle.noc_model.proofs.Members.{find-has}
@@ -29,22 +29,22 @@ use Rattle.noc_model.specs.Seen.{IsSeen}
 
 module _ (net : Setup) (good : IsGood net) (F : State) (x : IsOrderedFrozen net F) (n r : ℕ) (l : r < nodes net.relation.grid) (v : View) (seen : IsSeen net F r v) where
   abbrev D : Decisions
-  D = planned net.relation v
+  D = decisions_of net.relation v
 
-  pub lists : Lists (planned net.relation v) v
-  unfolding planned view_round
+  pub lists : Lists (decisions_of net.relation v) v
+  unfolding decisions_of view_round
   lists = record { grants = refl; picks = refl; wins = refl; findings = refl }
 
   pub same_size : size_of v.site ≡ size net
   same_size = ap size_of seen.site
 
-  pub same_round : (planned net.relation v).round ≡ round_at net F r
-  unfolding planned
+  pub same_round : (decisions_of net.relation v).round ≡ round_at net F r
+  unfolding decisions_of
   same_round = Rattle.noc_model.proofs.StandLemmas.round-is net good F x r l v seen
 
   -- the verdict of an input channel
-  pub view-verdict : (i : ℕ) (c : Channel) → i < size net → arriving net r i ≡ Some c → IsAt net good r i c → verdict_at_view (planned net.relation v) v i ≡ verdict_in net F c
-  unfolding planned
+  pub view-verdict : (i : ℕ) (c : Channel) → i < size net → arriving net r i ≡ Some c → IsAt net good r i c → verdict_at_view (decisions_of net.relation v) v i ≡ verdict_in net F c
+  unfolding decisions_of
   view-verdict i c u e at = verdict-some net good F x r l v seen i c u e at
 
   -- the output channel with an index is the one that has it
@@ -65,7 +65,7 @@ module _ (net : Setup) (good : IsGood net) (F : State) (x : IsOrderedFrozen net 
     pub own : Has (channel, packet) F.own
     pub verdict : verdict_in net F channel ≡ Moved
     pub next : next_channel net F channel ≡ Some (leaving net r o)
-    pub first : first_in net F channel ≡ Some flit
+    pub first : front_in net F channel ≡ Some flit
     pub member : Has flit F.at
     pub of_packet : flit.packet ≡ packet
     pub claim : view_claim v i ≡ Holds o true
@@ -94,7 +94,7 @@ module _ (net : Setup) (good : IsGood net) (F : State) (x : IsOrderedFrozen net 
           is_o : next.0 ≡ leaving net r o
           is_o = same-out i owner.0 o c next.0 at owner.1 next.1 next.2
 
-          f : (f : Located) × (first_in net F c ≡ Some f)
+          f : (f : Located) × (front_in net F c ≡ Some f)
           f = first-some net good F x n r l v seen c (sym (flit-some net good F x r l v seen i c within e) ∙ mv.flit)
 
           member : Has f.0 F.at
@@ -208,7 +208,7 @@ module _ (net : Setup) (good : IsGood net) (F : State) (x : IsOrderedFrozen net 
   pub given-grant : (o p : ℕ) (c : Channel) → o < size net → IsGrant net F c (leaving net r o) p → (i : ℕ) × (get_or D.round.grants o None ≡ Some i)
   given-grant o p c u g =
       let f = leaving-from net good r o u in
-      let router : g.router ≡ r = same_Some _ _ (sym (begins-at net good g.router g.index) ∙ ap begin g.is_output ∙ begins-at net good r o) in
+      let router : g.router ≡ r = same_Some _ _ (sym (begins-at net good g.router g.index) ∙ ap sending_router g.is_output ∙ begins-at net good r o) in
       let index : g.index ≡ o = sym (Rattle.noc_model.proofs.GrantLemmas.index-output net g.router g.index) ∙ ap (output_index net.relation.grid net.relation.vcs) g.is_output ∙ f.is_index in (
         g.port * net.relation.vcs + Rattle.noc_route.specs.Channel.channel_vc c,
         ap (λ (y : Rattle.noc_router.specs.Verdict.Round). get_or y.grants o None) same_round ∙ ap (λ y. get_or (round_at net F y).grants o None) (sym router) ∙ ap (λ y. get_or (round_at net F g.router).grants y None) (sym index) ∙ g.won,

@@ -6,14 +6,14 @@ use Rattle.noc_topo.specs.Words.{below}
 use Rattle.noc_topo.specs.Shape.{nodes, ports}
 use Rattle.noc_packet.specs.declared.packet.Packet.{Packet}
 use Rattle.noc_route.specs.Channel.{Channel, input_at, output_at}
-use Rattle.noc_route.specs.Relation.{Routing, rule_has}
+use Rattle.noc_route.specs.Relation.{RelationParts, rule_has}
 use Rattle.noc_route.specs.declared.rule.Rule.{Rule}
 use Rattle.noc_route.specs.declared.rule.Rule.TheVariants.{Dor, Dateline, WestFirst}
 use Rattle.noc_route.specs.Routes.{Routes}
 use Rattle.noc_model.specs.Network.{Setup}
 
 -- the set of a rule at an entry; entries that are never reached have theirs too, which no packet sees
-abbrev pub rule_set : Routing → ℕ → ℕ → ℕ → ℕ → ℕ
+abbrev pub rule_set : RelationParts → ℕ → ℕ → ℕ → ℕ → ℕ
 rule_set g m r i t = set_with (input_at g.grid g.vcs r i)
   where
     set_with : Option Channel → ℕ
@@ -21,7 +21,7 @@ rule_set g m r i t = set_with (input_at g.grid g.vcs r i)
     set_with (Some c) = sum_by (λ o. cond (rule_has g m c t (output_at g.grid g.vcs r o)) (2 ^ o) 0) (below (ports g.grid * g.vcs))
 
 -- the table of a rule, by router, class, destination and input channel
-unfoldable pub table_of : Routing → Routes
+unfoldable pub table_of : RelationParts → Routes
 unfolding below
 table_of g = record {
   grid = g.grid;

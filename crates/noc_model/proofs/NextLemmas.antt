@@ -5,7 +5,7 @@ use Rattle.std.proofs.lemmas.Bool.{false≢true}
 use Rattle.std.proofs.lemmas.Option.{same_Some}
 use Rattle.noc_topo.specs.Shape.{distance}
 use Rattle.noc_route.specs.Channel.{Channel, Link, Inject, Eject}
-use Rattle.noc_model.specs.Network.{Setup, State, place_of, leads_from, next_channel, owned_by}
+use Rattle.noc_model.specs.Network.{Setup, State, place_of_flit, leads_from, next_channel, owned_by}
 use Rattle.noc_model.proofs.BuiltRecord.{IsBuilt}
 use Rattle.noc_model.specs.Worm.{IsPath}
 use Rattle.noc_topo.specs.Words.{Has}
@@ -17,7 +17,7 @@ use Rattle.noc_model.proofs.PlaceLemmas.{IsKeyed}
 use Rattle.noc_model.proofs.WormRecord.{IsWorm, class_of, goal, far_of}
 use Rattle.noc_model.proofs.MoveLemmas.{IsNext, leads-end, end-far, same-far, far-link, far-eject}
 
-module _ (net : Setup) (built : IsBuilt net) (F : State) (keyed : IsKeyed net F.at) (w : IsWorm net F.own (place_of net F)) where
+module _ (net : Setup) (built : IsBuilt net) (F : State) (keyed : IsKeyed net F.at) (w : IsWorm net F.own (place_of_flit net F)) where
   -- two channels from which one leads end equally far
   pub leads-far : (p : ℕ) (c d o : Channel) → leads_from net c o ≡ true → leads_from net d o ≡ true → far_of net p c ≡ far_of net p d
   leads-far p c d o x y =

@@ -2,10 +2,10 @@
 use Rattle.std.proofs.Common.{◌≡◌, ◌≢◌, ℕ, ◌+◌, ◌<◌, Bool, true, false, cond, List, [], ◌∷◌, ◌++◌, map, length, Option, Some, None, refl, ap, sym, ◌∙◌, inl, inr, subst}
 use Rattle.std.specs.Prelude.{filter, find, nat_eq, nat_lt, ◌*◌, ◌/◌, ◌%◌, not, option_map, option_and_then, unwrap_or, filter_map}
 use Rattle.std.proofs.lemmas.Bool.{false≢true, eqb-true, eq-eqb, and_left}
-use Rattle.noc_model.specs.Network.{end_of, In, Setup, State, after_verdicts, all_inputs, ask, claim_of, claim_with, count_in, first_in, granted_at, granted_pair, has_channel, is_released, is_tail, leads_from, leaving, next_channel, owned_by, owner_of, round_at, tail_leaves, verdict_at, verdict_in}
+use Rattle.noc_model.specs.Network.{end_of, In, Setup, State, after_verdicts, all_inputs, ask, claim_of, claim_with, count_in, front_in, grant_to_owner, granted_pair, has_channel, is_released, is_tail_of_packet, leads_from, leaving, next_channel, owned_by, owner_of, round_at, tail_leaves, verdict_at, verdict_in}
 use Rattle.noc_model.specs.Progress.{head_place}
 use Rattle.noc_model.proofs.PostLemmas.{some_of_map}
-use Rattle.noc_route.specs.Channel.{Channel, Eject, Inject, Link, arrival_of, begin, channel_vc, same_channel}
+use Rattle.noc_route.specs.Channel.{Channel, Eject, Inject, Link, arrival_of, sending_router, channel_vc, same_channel}
 use Rattle.noc_router.specs.Verdict.{Unrouted, Waits, is_granted, is_moved, verdict_of}
 use Rattle.noc_router.specs.declared.verdict.Verdict.{Verdict}
 use Rattle.noc_router.specs.declared.verdict.Verdict.TheVariants.{Empty, Granted, NoIdleChannel}
@@ -39,11 +39,11 @@ find-unadded_of t f a (x ∷ xs) ys h = at (a x) (t (f x)) refl (find-unadded_of
 output-leads : (net : Setup) (c : Channel) (r i : ℕ) → end_of net.relation c ≡ Some r → leads_from net c (leaving net r i) ≡ true
 output-leads net c r i e = at (leaving net r i) (begins (nat_eq (i / net.relation.vcs) (local_port net.relation.grid)))
   where
-    begins : (b : Bool) → begin (cond b (Eject r (i % net.relation.vcs)) (Link r (i / net.relation.vcs) (i % net.relation.vcs))) ≡ Some r
+    begins : (b : Bool) → sending_router (cond b (Eject r (i % net.relation.vcs)) (Link r (i / net.relation.vcs) (i % net.relation.vcs))) ≡ Some r
     begins true = refl
     begins false = refl
 
-    at : (o : Channel) → begin o ≡ Some r → leads_from net c o ≡ true
+    at : (o : Channel) → sending_router o ≡ Some r → leads_from net c o ≡ true
     at o b = ap (λ (x : Option ℕ). unwrap_or (option_map (is_some_of (end_of net.relation c)) x) false) b ∙ is_some_of-some (end_of net.relation c) r e
 
 module _ (net : Setup) (n : ℕ) (F : State) where
@@ -66,7 +66,7 @@ module _ (net : Setup) (n : ℕ) (F : State) where
     own = holds.held p c l here
 
     unleft : tail_leaves net F c ≡ false
-    unleft = and_left (is_moved (verdict_in net F c)) (is_tail net (first_in net F c)) waits
+    unleft = and_left (is_moved (verdict_in net F c)) (is_tail_of_packet net (front_in net F c)) waits
 
     -- c stays owned
     kept-own : (pair : Channel × ℕ) → Has pair F.own → same_channel c pair.0 ≡ true → not (is_released net F pair) ≡ true
@@ -99,10 +99,10 @@ module _ (net : Setup) (n : ℕ) (F : State) where
         d : Channel
         d = m.0
 
-        packet-of : (o : Option ℕ) → option_and_then (λ r. option_and_then (granted_at net F d r) (owner_of net F d)) o ≡ Some pair → owner_of net F d ≡ Some pair.1
+        packet-of : (o : Option ℕ) → option_and_then (λ r. option_and_then (grant_to_owner net F d r) (owner_of net F d)) o ≡ Some pair → owner_of net F d ≡ Some pair.1
         packet-of None g = absurd (cc g)
         packet-of (Some r) g =
-            let a = and_then-some (granted_at net F d r) (owner_of net F d) pair g in
+            let a = and_then-some (grant_to_owner net F d r) (owner_of net F d) pair g in
             let i = some_of_map (λ i. (leaving net r i, a.0)) (ask net F r d) pair a.2 in
             a.1 ∙ ap (λ (x : Channel × ℕ). Some x.1) i.2
 
@@ -117,10 +117,10 @@ module _ (net : Setup) (n : ℕ) (F : State) where
 
         at : (v : Verdict) → verdict_in net F d ≡ v → granted_pair net F d ≡ Some pair → ⊥
         at Granted g k =
-            let o = packet-of (end_of net.relation d) (sym (ap (λ v. cond (is_granted v) (option_and_then (λ r. option_and_then (granted_at net F d r) (owner_of net F d)) (end_of net.relation d)) None) g) ∙ k) in
+            let o = packet-of (end_of net.relation d) (sym (ap (λ v. cond (is_granted v) (option_and_then (λ r. option_and_then (grant_to_owner net F d r) (owner_of net F d)) (end_of net.relation d)) None) g) ∙ k) in
             other (subst (λ (x : Channel). verdict_in net F x ≡ Granted) (sym (same g o)) g)
         at _ g k =
-            let z : None ≡ Some pair = sym (ap (λ v. cond (is_granted v) (option_and_then (λ r. option_and_then (granted_at net F d r) (owner_of net F d)) (end_of net.relation d)) None) g) ∙ k in
+            let z : None ≡ Some pair = sym (ap (λ v. cond (is_granted v) (option_and_then (λ r. option_and_then (grant_to_owner net F d r) (owner_of net F d)) (end_of net.relation d)) None) g) ∙ k in
             absurd (cc z)
 
     kept-next : (pair : Channel × ℕ) → Has pair F.own → nat_eq p pair.1 ≡ true → leads_from net c pair.0 ≡ true → not (is_released net F pair) ≡ true
@@ -166,9 +166,9 @@ module _ (net : Setup) (n : ℕ) (F : State) where
             asked (Some i) e =
                 let o : Channel = leaving net place.0 i in
                 let given : granted_pair net F c ≡ Some (leaving net place.0 i, p)
-                = ap (λ v. cond (is_granted v) (option_and_then (λ r. option_and_then (granted_at net F c r) (owner_of net F c)) (end_of net.relation c)) None) g
-                ∙ ap (option_and_then (λ r. option_and_then (granted_at net F c r) (owner_of net F c))) ends
-                ∙ ap (option_and_then (granted_at net F c place.0)) own
+                = ap (λ v. cond (is_granted v) (option_and_then (λ r. option_and_then (grant_to_owner net F c r) (owner_of net F c)) (end_of net.relation c)) None) g
+                ∙ ap (option_and_then (λ r. option_and_then (grant_to_owner net F c r) (owner_of net F c))) ends
+                ∙ ap (option_and_then (grant_to_owner net F c place.0)) own
                 ∙ ap (option_map (λ j. (leaving net place.0 j, p))) e in
                 let h : Has (leaving net place.0 i, p) after.own
                 = Has-right (leaving net place.0 i, p) (filter (λ pair. not (is_released net F pair)) F.own) (filter_map (granted_pair net F) (all_inputs net))

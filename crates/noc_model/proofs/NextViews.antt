@@ -4,7 +4,7 @@ use Rattle.std.specs.Prelude.{filter, ◌&&◌, ◌||◌}
 use Rattle.std.proofs.lemmas.Option.{none-some}
 use Rattle.noc_topo.specs.Words.{Has}
 use Rattle.noc_route.specs.Channel.{Channel, same_channel}
-use Rattle.noc_model.specs.Network.{Setup, State, place_of, owner_of, next_channel, has_channel}
+use Rattle.noc_model.specs.Network.{Setup, State, place_of_flit, owner_of, next_channel, has_channel}
 use Rattle.noc_model.proofs.BuiltRecord.{IsBuilt}
 use Rattle.noc_model.proofs.BufferLemmas.{same_channel-true}
 use Rattle.noc_model.proofs.MoveLemmas.{IsNext, next-is}
@@ -38,7 +38,7 @@ channel-append c (x ∷ xs) ys = at (same_channel c x) (channel-append c xs ys)
     at true e = refl
     at false e = e
 
-module _ (net : Setup) (built : IsBuilt net) (S : State) (keyed : IsKeyed net S.at) (w : IsWorm net S.own (place_of net S)) where
+module _ (net : Setup) (built : IsBuilt net) (S : State) (keyed : IsKeyed net S.at) (w : IsWorm net S.own (place_of_flit net S)) where
   abbrev pub Next : ℕ → Channel → Channel → Type 0
   Next p c o = IsNext net built S keyed w p c o
 

@@ -11,7 +11,7 @@ use Rattle.noc_topo.proofs.WordLemmas.{length-map_indexed}
 use Rattle.noc_route.specs.Channel.{Channel, Link, Inject, Eject, is_link}
 use Rattle.noc_router.specs.Verdict.{is_moved}
 use Rattle.noc_router.specs.declared.verdict.Verdict.TheVariants.{Empty, Moved}
-use Rattle.noc_model.specs.Network.{Setup, State, has_channel, all_inputs, verdict_in, verdict_at, claim_of, round_at, count_in, opening_state, after_landing, after_credits, after_injection, after_verdicts, frozen, network_cycle, state_at}
+use Rattle.noc_model.specs.Network.{Setup, State, has_channel, all_inputs, verdict_in, verdict_at, claim_of, round_at, count_in, opening_state, after_landing, after_credits, after_injection, after_verdicts, frozen_state, network_cycle, state_at}
 use Rattle.noc_model.proofs.BufferLemmas.{is_moved-true}
 use Rattle.noc_model.proofs.GrantLemmas.{IsWired}
 use Rattle.noc_model.proofs.Members.{Has-filter}
@@ -65,13 +65,13 @@ module _ (net : Setup) where
     pub back-link-state : (n : ℕ) (c : Channel) → has_channel (state_at net n).back c ≡ true → (r : ℕ) × (a : ℕ) × (v : ℕ) × (c ≡ Link r a v)
     unfolding state_at network_cycle opening_state
     back-link-state zero c e = absurd (false≢true e)
-    back-link-state (suc n) c e = back-link n (frozen net n (state_at net n)) c e
+    back-link-state (suc n) c e = back-link n (frozen_state net n (state_at net n)) c e
 
     -- at the start of each cycle
     pub one-back-state : (n r a v u : ℕ) → has_channel (state_at net n).back (Link r a v) ≡ true → has_channel (state_at net n).back (Link r a u) ≡ true → v ≡ u
     unfolding state_at network_cycle opening_state
     one-back-state zero r a v u h k = absurd (false≢true h)
-    one-back-state (suc n) r a v u h k = one-back n (frozen net n (state_at net n)) r a v u h k
+    one-back-state (suc n) r a v u h k = one-back n (frozen_state net n (state_at net n)) r a v u h k
 
   -- ---- the arbiters: as many as there are routers
 
@@ -79,14 +79,14 @@ module _ (net : Setup) where
   unfolding after_landing after_credits
   arbiters-mid S = refl
 
-  pub arbiters-frozen : (n : ℕ) (S : State) → (frozen net n S).arbiters ≡ S.arbiters
-  unfolding frozen after_landing after_credits after_injection
+  pub arbiters-frozen : (n : ℕ) (S : State) → (frozen_state net n S).arbiters ≡ S.arbiters
+  unfolding frozen_state after_landing after_credits after_injection
   arbiters-frozen n S = refl
 
   pub arbiters-state : (n : ℕ) → length (state_at net n).arbiters ≡ nodes net.relation.grid
   unfolding state_at network_cycle opening_state after_verdicts
   arbiters-state zero = length-replicate (nodes net.relation.grid) _
-  arbiters-state (suc n) = length-map_indexed _ (frozen net n (state_at net n)).arbiters ∙ ap length (arbiters-frozen n (state_at net n)) ∙ arbiters-state n
+  arbiters-state (suc n) = length-map_indexed _ (frozen_state net n (state_at net n)).arbiters ∙ ap length (arbiters-frozen n (state_at net n)) ∙ arbiters-state n
 
   -- ---- no credit is on its way in a frozen state
 
@@ -94,6 +94,6 @@ module _ (net : Setup) where
   unfolding after_landing after_credits
   no-back-mid S = refl
 
-  pub no-back-frozen : (n : ℕ) (S : State) → (frozen net n S).back ≡ []
-  unfolding frozen after_landing after_credits after_injection
+  pub no-back-frozen : (n : ℕ) (S : State) → (frozen_state net n S).back ≡ []
+  unfolding frozen_state after_landing after_credits after_injection
   no-back-frozen n S = refl

@@ -6,7 +6,7 @@ use Rattle.std.proofs.lemmas.Nat.{div-mul-add, mod-mul-add}
 use Rattle.noc_topo.specs.Words.{is_some_of}
 use Rattle.noc_route.specs.Channel.{Channel, Link, Inject, Eject, inputs, arrival_of, channel_vc, output_index}
 use Rattle.noc_router.specs.Verdict.{Claim, Unrouted, Waits, Holds, Round, verdict_of}
-use Rattle.noc_model.specs.Network.{Setup, State, On, place_of, end_of, next_channel, has_channel, verdict_in, verdict_at, claim_of, has_credit_in, round_at, count_in, gone_to, after_verdicts}
+use Rattle.noc_model.specs.Network.{Setup, State, On, place_of_flit, end_of, next_channel, has_channel, verdict_in, verdict_at, claim_of, has_credit_in, round_at, count_in, gone_to, after_verdicts}
 use Rattle.noc_model.proofs.BuiltRecord.{IsBuilt}
 use Rattle.noc_router.specs.declared.verdict.Verdict.TheVariants.{Empty, Granted, Moved, LostChannel, LostInput, LostSwitch}
 use Rattle.noc_model.proofs.OptionLemmas.{is_some_of-true}
@@ -86,7 +86,7 @@ module _ (net : Setup) (built : IsBuilt net) (wired : IsWired net) (F : State) (
       wired.found c d hc hd (s.arrives ∙ ap (λ z. Some (r, z)) ports ∙ sym t.arrives) vcs
 
   -- a flit on a wire came there from a buffer
-  came : (p i : ℕ) (o : Channel) → IsValid net p i → place_of net T p i ≡ On o → (c : Channel) × Moves p i c o
+  came : (p i : ℕ) (o : Channel) → IsValid net p i → place_of_flit net T p i ≡ On o → (c : Channel) × Moves p i c o
   came p i o v e = at (moved-or-not net built F x.sound.keyed x.sound.worm n x.sound.still p i v)
     where
       by : (c d : Channel) → Moves p i c d → gone_to net n c (Some d) ≡ On o → (c : Channel) × Moves p i c o
@@ -99,7 +99,7 @@ module _ (net : Setup) (built : IsBuilt net) (wired : IsWired net) (F : State) (
       at (inr r) = by r.0 r.1 r.2 (sym r.2.now ∙ e)
 
   -- two flits on one link are one
-  pub one-on-link : (p i q j r a v u : ℕ) → IsValid net p i → IsValid net q j → place_of net T p i ≡ On (Link r a v) → place_of net T q j ≡ On (Link r a u) → (p ≡ q) × (i ≡ j)
+  pub one-on-link : (p i q j r a v u : ℕ) → IsValid net p i → IsValid net q j → place_of_flit net T p i ≡ On (Link r a v) → place_of_flit net T q j ≡ On (Link r a u) → (p ≡ q) × (i ≡ j)
   one-on-link p i q j r a v u vi vj e f =
       let s = came p i (Link r a v) vi e in
       let t = came q j (Link r a u) vj f in

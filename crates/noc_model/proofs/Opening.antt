@@ -10,7 +10,7 @@ use Rattle.noc_topo.proofs.WordLemmas.{length-tabulate, get_or-tabulate, length-
 use Rattle.noc_packet.specs.declared.packet.Beat.{Beat}
 use Rattle.noc_router.specs.View.{View}
 use Rattle.noc_model.specs.declared.limits.TheConstants.{CYCLE_LIMIT}
-use Rattle.noc_model.specs.Core.{Post, is_linked, links, opening_core, rested, wires_in_flight}
+use Rattle.noc_model.specs.Core.{Post, is_linked, link_ports, opening_core, resting_post, wires_in_flight}
 use Rattle.noc_model.specs.Good.{IsGoodSetup}
 use Rattle.noc_model.specs.Halves.{beat_at}
 use Rattle.noc_model.specs.InStep.{lockstep_core, lockstep_wires}
@@ -44,8 +44,8 @@ opening-is u good few =
     let n = u.count in
     let size = nodes net.relation.grid in
     let seen = lockstep-is_state net good n few in
-    let at = λ (r : ℕ) (view : View). rested net view n (lockstep_wires net n r) in
-    let first = λ (r : ℕ). rested net (view_at net n r) n (wires_in_flight net n r) in
+    let at = λ (r : ℕ) (view : View). resting_post net view n (lockstep_wires net n r) in
+    let first = λ (r : ℕ). resting_post net (view_at net n r) n (wires_in_flight net n r) in
     let views = tabulate size (view_at net n) in
     let count : length (tabulate size (view_at net n)) ≡ size = length-tabulate size (view_at net n) in
     ap (λ (posts : List Post). record { net = net; posts = posts })
@@ -53,7 +53,7 @@ opening-is u good few =
     (λ r d l.
     let low : r < size = let c = length-tabulate size first in omega arith in
     get_or-tabulate size r first d low
-    ∙ ap (λ (wires : List (List Beat)). rested net (view_at net n r) n (tabulate (links net) (λ port. if is_linked net r port then beat_at wires r port ∷ [] else []))) (sym seen.wires)
+    ∙ ap (λ (wires : List (List Beat)). resting_post net (view_at net n r) n (tabulate (link_ports net) (λ port. if is_linked net r port then beat_at wires r port ∷ [] else []))) (sym seen.wires)
     ∙ ap (at r) (sym (get_or-tabulate size r (view_at net n) (view_at net n r) low))
     ∙ sym (get_or-map_indexed at views r (view_at net n r) d (omega (arith, count))))
     ∙ ap (map_indexed at) (sym seen.views))

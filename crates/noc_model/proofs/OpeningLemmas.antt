@@ -5,7 +5,7 @@ use Rattle.std.specs.List.{flat_map, enumerate_from, range_with_len}
 use Rattle.std.proofs.lemmas.Bool.{false≢true}
 use Rattle.noc_topo.specs.Words.{below}
 use Rattle.noc_route.specs.Channel.{Channel}
-use Rattle.noc_model.specs.Network.{Setup, Located, Place, Source, place_of, is_in, is_on, count_on, count_in, opening_state, frozen, state_at}
+use Rattle.noc_model.specs.Network.{Setup, Located, Place, Source, place_of_flit, is_in, is_on, count_on, count_in, opening_state, frozen_state, state_at}
 use Rattle.noc_model.specs.Progress.{weight}
 use Rattle.noc_model.proofs.BuiltRecord.{IsBuilt}
 use Rattle.noc_packet.specs.declared.packet.Packet.{Packet}
@@ -115,14 +115,14 @@ module _ (net : Setup) where
         (record { packet = p; index = i; place = Source }, subst (λ (x : ℕ). Has (record { packet = x; index = i; place = Source }) (rows 0 net.packets)) z (rows-whole 0 net.packets p i v.0 v.1), refl, refl);
   }
 
-  pub at-source : (p i : ℕ) → IsValid net p i → place_of net (opening_state net) p i ≡ Source
+  pub at-source : (p i : ℕ) → IsValid net p i → place_of_flit net (opening_state net) p i ≡ Source
   unfolding opening_state
   at-source p i v =
       let m = flit-there net (opening_state net) keyed-opening p i v in
-      (rows-has 0 net.packets (record { packet = p; index = i; place = place_of net (opening_state net) p i }) m).3
+      (rows-has 0 net.packets (record { packet = p; index = i; place = place_of_flit net (opening_state net) p i }) m).3
 
   module _ (built : IsBuilt net) (wired : IsWired net) where
-    pub worm-opening : IsWorm net [] (place_of net (opening_state net))
+    pub worm-opening : IsWorm net [] (place_of_flit net (opening_state net))
     worm-opening = record {
       once = tt;
       path = λ p. tt;
@@ -130,8 +130,8 @@ module _ (net : Setup) where
       near = λ c p h. absurd h;
       placed = λ p i v. subst (λ (x : Place). IsPlaced net [] p x) (sym (at-source p i v)) tt;
       order = λ p i j v l.
-          let wi : weight net p (place_of net (opening_state net) p i) ≡ weight net p Source = ap (weight net p) (at-source p i (valid-below net built p i j v l)) in
-          let wj : weight net p (place_of net (opening_state net) p j) ≡ weight net p Source = ap (weight net p) (at-source p j v) in
+          let wi : weight net p (place_of_flit net (opening_state net) p i) ≡ weight net p Source = ap (weight net p) (at-source p i (valid-below net built p i j v l)) in
+          let wj : weight net p (place_of_flit net (opening_state net) p j) ≡ weight net p Source = ap (weight net p) (at-source p j v) in
           omega arith;
       entering = λ n v p h. absurd h;
       begun = λ c p h. absurd h;
@@ -164,5 +164,5 @@ module _ (net : Setup) where
     sound-state (suc n) = sound-cycle net built wired n (state_at net n) (sound-state n)
 
     -- and in each frozen state
-    pub sound-frozen_state : (n : ℕ) → IsSoundFrozen net (frozen net n (state_at net n))
+    pub sound-frozen_state : (n : ℕ) → IsSoundFrozen net (frozen_state net n (state_at net n))
     sound-frozen_state n = sound-frozen net built wired n (state_at net n) (sound-state n)

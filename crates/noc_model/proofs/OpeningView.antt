@@ -124,7 +124,7 @@ module _ (net : Setup) (good : IsGood net) (r : ℕ) (l : r < nodes net.relation
       let k = in-starts net (opening_state net) r one h in
       let valid = valid-first net good.built one.0 k.0 in
       let keyed = (sound-opening net good.built good.wired).keyed in
-      let f : Located = record { packet = one.0; index = 0; place = Rattle.noc_model.specs.Network.place_of net (opening_state net) one.0 0 } in
+      let f : Located = record { packet = one.0; index = 0; place = Rattle.noc_model.specs.Network.place_of_flit net (opening_state net) one.0 0 } in
       let m = Has-kept (λ (g : Located). nat_eq one.0 g.packet) f (opening_state net).at (flit-there net (opening_state net) keyed one.0 0 valid) (eq-eqb one.0 one.0 refl) in
       list_any-from (λ (g : Located). is_at_source g.place) (flits_of net (opening_state net) one.0) f m (ap is_at_source (at-source net one.0 0 valid))
 

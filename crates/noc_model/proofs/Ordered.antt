@@ -5,7 +5,7 @@ use Rattle.noc_topo.specs.Shape.{nodes, neighbour}
 use Rattle.noc_route.specs.Channel.{Channel, Link, Eject, is_link}
 use Rattle.noc_route.specs.Routes.{set_at, IsRelation}
 use Rattle.noc_model.specs.Good.{IsGoodPacket}
-use Rattle.noc_model.specs.Network.{Setup, State, On, packet_at, place_of, has_channel, all_inputs}
+use Rattle.noc_model.specs.Network.{Setup, State, On, packet_at, place_of_flit, has_channel, all_inputs}
 use Rattle.noc_model.proofs.BuiltRecord.{IsBuilt}
 use Rattle.noc_model.proofs.FirstOfNode.{IsQueued}
 use Rattle.noc_model.proofs.GrantLemmas.{IsWired}
@@ -37,7 +37,7 @@ module _ (net : Setup) where
     pub queued : IsQueued net S
     pub more : IsLed S
     -- two flits on one link are one, and two credits
-    pub one_on_link : (p i q j r a v u : ℕ) → IsValid net p i → IsValid net q j → place_of net S p i ≡ On (Link r a v) → place_of net S q j ≡ On (Link r a u) → (p ≡ q) × (i ≡ j)
+    pub one_on_link : (p i q j r a v u : ℕ) → IsValid net p i → IsValid net q j → place_of_flit net S p i ≡ On (Link r a v) → place_of_flit net S q j ≡ On (Link r a u) → (p ≡ q) × (i ≡ j)
     pub one_back : (r a v u : ℕ) → has_channel S.back (Link r a v) ≡ true → has_channel S.back (Link r a u) ≡ true → v ≡ u
     -- each credit is of a link channel of the network
     pub back_in : (c : Channel) → has_channel S.back c ≡ true → (is_link c ≡ true) × Has c (all_inputs net)

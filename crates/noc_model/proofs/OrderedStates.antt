@@ -7,7 +7,7 @@ use Rattle.noc_topo.specs.Shape.{nodes}
 use Rattle.noc_route.specs.Channel.{Channel, Link, is_link}
 use Rattle.noc_router.specs.Verdict.{is_moved}
 use Rattle.noc_model.specs.declared.limits.TheConstants.{CYCLE_LIMIT}
-use Rattle.noc_model.specs.Network.{Setup, State, Source, On, place_of, opening_state, after_credits, after_injection, after_verdicts, frozen, frozen_at, state_at, network_cycle, has_channel, verdict_in, all_inputs}
+use Rattle.noc_model.specs.Network.{Setup, State, Source, On, place_of_flit, opening_state, after_credits, after_injection, after_verdicts, frozen_state, frozen_at, state_at, network_cycle, has_channel, verdict_in, all_inputs}
 use Rattle.noc_model.proofs.CameLemmas.{IsLed as IsCame, led-mid, led-frozen, led-state, leads-further, ejects-home, eject-low}
 use Rattle.noc_model.proofs.FirstOfNode.{queued-mid, queued-state, queued-frozen}
 use Rattle.noc_model.proofs.Members.{Has-filter}
@@ -41,10 +41,10 @@ module _ (net : Setup) (good : IsGood net) where
     n_arbiters = arbiters;
   }
 
-  link-at : (n p i q j r a v u : ℕ) → IsValid net p i → IsValid net q j → place_of net (state_at net n) p i ≡ On (Link r a v) → place_of net (state_at net n) q j ≡ On (Link r a u) → (p ≡ q) × (i ≡ j)
+  link-at : (n p i q j r a v u : ℕ) → IsValid net p i → IsValid net q j → place_of_flit net (state_at net n) p i ≡ On (Link r a v) → place_of_flit net (state_at net n) q j ≡ On (Link r a u) → (p ≡ q) × (i ≡ j)
   unfolding state_at network_cycle
   link-at zero p i q j r a v u vi vj e f = let z : Source ≡ On (Link r a v) = sym (at-source net p i vi) ∙ e in absurd (cc z)
-  link-at (suc n) p i q j r a v u vi vj e f = one-on-link net good.built good.wired (frozen net n (state_at net n)) (frozen-whole n) n p i q j r a v u vi vj e f
+  link-at (suc n) p i q j r a v u vi vj e f = one-on-link net good.built good.wired (frozen_state net n (state_at net n)) (frozen-whole n) n p i q j r a v u vi vj e f
 
   -- each credit is of a link channel of the network
   back-verdicts : (n : ℕ) (F : State) (c : Channel) → has_channel (after_verdicts net n F).back c ≡ true → (is_link c ≡ true) × Has c (all_inputs net)
@@ -56,7 +56,7 @@ module _ (net : Setup) (good : IsGood net) where
   inputs-at : (n : ℕ) (c : Channel) → has_channel (state_at net n).back c ≡ true → (is_link c ≡ true) × Has c (all_inputs net)
   unfolding state_at network_cycle opening_state
   inputs-at zero c h = absurd (false≢true h)
-  inputs-at (suc n) c h = back-verdicts n (frozen net n (state_at net n)) c h
+  inputs-at (suc n) c h = back-verdicts n (frozen_state net n (state_at net n)) c h
 
   pub ordered-state : (n : ℕ) → IsOrdered net (state_at net n)
   ordered-state n = record {
@@ -74,8 +74,8 @@ module _ (net : Setup) (good : IsGood net) where
   unfolding after_credits
   mid-credit S c = refl
 
-  frozen-credit : (n : ℕ) (S : State) (c : Channel) → has_channel (frozen net n S).back c ≡ false
-  unfolding frozen after_injection after_credits
+  frozen-credit : (n : ℕ) (S : State) (c : Channel) → has_channel (frozen_state net n S).back c ≡ false
+  unfolding frozen_state after_injection after_credits
   frozen-credit n S c = refl
 
   pub ordered-mid : (n : ℕ) → IsOrderedFrozen net (mid net (state_at net n))

@@ -3,7 +3,7 @@ use Rattle.std.proofs.Common.{◌≡◌, ℕ, ◌<◌, ◌≤◌, Bool, true, fa
 use Rattle.std.specs.Prelude.{find, option_map, unwrap_or, nat_eq, ◌&&◌}
 use Rattle.std.proofs.lemmas.Bool.{false≢true, and_parts, and_from, eqb-true, eq-eqb}
 use Rattle.std.proofs.lemmas.Option.{same_Some}
-use Rattle.noc_model.specs.Network.{Setup, State, Located, Place, Source, place_of, On, In, Out, is_in, is_on, is_at_source, landed_place}
+use Rattle.noc_model.specs.Network.{Setup, State, Located, Place, Source, place_of_flit, On, In, Out, is_in, is_on, is_at_source, landed_place}
 use Rattle.noc_model.proofs.BufferLemmas.{find-passes, same_channel-true}
 use Rattle.noc_topo.specs.Words.{Has, Pairs}
 use Rattle.noc_route.specs.Channel.{Channel}
@@ -86,7 +86,7 @@ module _ (net : Setup) where
   }
 
   -- where a member is
-  pub place-of-flit : (S : State) → IsKeyed net S.at → (f : Located) → Has f S.at → place_of net S f.packet f.index ≡ f.place
+  pub place-of-flit : (S : State) → IsKeyed net S.at → (f : Located) → Has f S.at → place_of_flit net S f.packet f.index ≡ f.place
   place-of-flit S k f h =
       let test : Located → Bool = λ (g : Located). nat_eq f.packet g.packet && nat_eq f.index g.index in
       let found = find-some test S.at f h (and_from _ _ (eq-eqb f.packet f.packet refl) (eq-eqb f.index f.index refl)) in
@@ -96,20 +96,20 @@ module _ (net : Setup) where
       ap (λ (o : Option Located). unwrap_or (option_map (λ (x : Located). x.place) o) Source) found.1 ∙ ap (λ (x : Located). x.place) same
 
   -- the flit of a key is there
-  pub flit-there : (S : State) → IsKeyed net S.at → (p i : ℕ) → IsValid net p i → Has (record { packet = p; index = i; place = place_of net S p i }) S.at
+  pub flit-there : (S : State) → IsKeyed net S.at → (p i : ℕ) → IsValid net p i → Has (record { packet = p; index = i; place = place_of_flit net S p i }) S.at
   flit-there S k p i v =
       let r = k.whole p i v in
       let f : Located = r.0 in
-      let at_f : place_of net S p i ≡ f.place = ap (λ x. place_of net S x i) (sym r.2) ∙ ap (λ x. place_of net S f.packet x) (sym r.3) ∙ place-of-flit S k f r.1 in
-      let same : f ≡ record { packet = p; index = i; place = place_of net S p i }
+      let at_f : place_of_flit net S p i ≡ f.place = ap (λ x. place_of_flit net S x i) (sym r.2) ∙ ap (λ x. place_of_flit net S f.packet x) (sym r.3) ∙ place-of-flit S k f r.1 in
+      let same : f ≡ record { packet = p; index = i; place = place_of_flit net S p i }
       = ap (λ x. record { packet = x; index = f.index; place = f.place }) r.2 ∙ ap (λ x. record { packet = p; index = x; place = f.place }) r.3 ∙ ap (λ x. record { packet = p; index = i; place = x }) (sym at_f) in
       subst (λ (x : Located). Has x S.at) same r.1
 
   -- and a step moves it
   pub place-stepped : (h : Located → Place) (S T : State) → IsKeyed net S.at → T.at ≡ stepped h S.at → (p i : ℕ) → IsValid net p i
-      → place_of net T p i ≡ h (record { packet = p; index = i; place = place_of net S p i })
+      → place_of_flit net T p i ≡ h (record { packet = p; index = i; place = place_of_flit net S p i })
   place-stepped h S T k e p i v =
       let kT : IsKeyed net T.at = subst (λ (xs : List Located). IsKeyed net xs) (sym e) (keyed-stepped h S.at k) in
-      let f : Located = record { packet = p; index = i; place = place_of net S p i } in
+      let f : Located = record { packet = p; index = i; place = place_of_flit net S p i } in
       let m : Has (record f { place = h f }) (stepped h S.at) = Has-mapped (λ (g : Located). record g { place = h g }) f S.at (flit-there S k p i v) in
       place-of-flit T kT (record f { place = h f }) (subst (λ (xs : List Located). Has (record f { place = h f }) xs) (sym e) m)

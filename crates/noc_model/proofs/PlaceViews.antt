@@ -10,7 +10,7 @@ use Rattle.noc_topo.specs.Words.{below, Has}
 use Rattle.noc_topo.specs.Shape.{IsGrid, nodes, ports, local_port, neighbour, IsLinkBack}
 use Rattle.noc_topo.proofs.LinkLemmas.{link_back}
 use Rattle.noc_packet.specs.Set.{has_bit}
-use Rattle.noc_route.specs.Channel.{Channel, Link, Inject, Eject, arrival_of, begin, channel_vc, input_at, inputs, output_index}
+use Rattle.noc_route.specs.Channel.{Channel, Link, Inject, Eject, arrival_of, sending_router, channel_vc, input_at, inputs, output_index}
 use Rattle.noc_route.specs.Routes.{is_sent, permits, permits_at, set_at}
 use Rattle.noc_model.specs.Network.{Setup, size, arriving, leaving, all_inputs}
 use Rattle.noc_model.proofs.GrantLemmas.{Has-below}
@@ -89,7 +89,7 @@ module _ (net : Setup) (good : IsGood net) where
       Has-flat_mapped (λ r. filter_map (input_at net.relation.grid vcs r) (below (ports net.relation.grid * vcs))) r c (below (nodes net.relation.grid)) (below-has r (nodes net.relation.grid) at.router)
       (Has-filter_mapped (input_at net.relation.grid vcs r) i c (below (ports net.relation.grid * vcs)) (below-has i (ports net.relation.grid * vcs) at.index) at.found)
 
-  -- .. and no ejection channel
+  -- a channel that arrives is no ejection channel
   pub not-eject : {r i : ℕ} {c : Channel} → IsAt r i c → IsEject c → ⊥
   not-eject {r = r} {i = i} {c = Link a b u} at e = e
   not-eject {r = r} {i = i} {c = Inject a u} at e = e
@@ -155,10 +155,10 @@ module _ (net : Setup) (good : IsGood net) where
       }
       by (links p e) = record { index = l; found = refl; is_index = ap (output_index net.relation.grid vcs) e ∙ div-add-mod' j vcs }
 
-  pub begins-at : (r j : ℕ) → begin (leaving net r j) ≡ Some r
+  pub begins-at : (r j : ℕ) → sending_router (leaving net r j) ≡ Some r
   begins-at r j = by (nat_eq (j / vcs) (local_port net.relation.grid))
     where
-      by : (b : Bool) → begin (cond b (Eject r (j % vcs)) (Link r (j / vcs) (j % vcs))) ≡ Some r
+      by : (b : Bool) → sending_router (cond b (Eject r (j % vcs)) (Link r (j / vcs) (j % vcs))) ≡ Some r
       by true = refl
       by false = refl
 

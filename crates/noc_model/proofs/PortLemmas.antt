@@ -11,7 +11,7 @@ use Rattle.noc_packet.specs.Packet.{flit_at}
 use Rattle.noc_packet.specs.declared.packet.Flit.{Flit}
 use Rattle.noc_route.specs.Channel.{Channel, Link, Inject, is_link}
 use Rattle.noc_router.specs.Verdict.{Claim, Holds, out_of, is_moved}
-use Rattle.noc_router.specs.View.{Site, View, Decisions, view_claim, planned, mover, mover_to, flit_out, first_flit, beat_out, decided_verdict}
+use Rattle.noc_router.specs.View.{Site, View, Decisions, view_claim, decisions_of, mover, mover_to, flit_out, first_flit, beat_out, decided_verdict}
 use Rattle.noc_router.proofs.FindLemmas.{find-same, find-at, find-none}
 use Rattle.noc_router.proofs.PlanFacts.{mover-is}
 use Rattle.noc_router.proofs.SettleLemmas.{mover_to-is}
@@ -36,7 +36,7 @@ module _ (net : Setup) (good : IsGood net) (F : State) (x : IsOrderedFrozen net 
   T = after_verdicts net n F
 
   abbrev D : Decisions
-  D = planned net.relation v
+  D = decisions_of net.relation v
 
   abbrev pub flit_of : Located → Flit
   flit_of f = flit_at (packet_at net f.packet) f.packet f.index
@@ -81,7 +81,7 @@ module _ (net : Setup) (good : IsGood net) (F : State) (x : IsOrderedFrozen net 
   pub port-idle : (port o p j : ℕ) (c : Channel) → o < size net → o / net.relation.vcs ≡ port → mover v.site D.round port ≡ None → Moves net good F x n p j c (leaving net r o) → ⊥
   port-idle port o p j c u to e m = let k = port-of o p j c u m in none-some k.0 (sym e ∙ ap (mover v.site D.round) (sym to) ∙ k.1)
 
-  -- .. and where a flit moves by a port, it moves to one of them alone
+  -- where a flit moves by a port, it moves to one of its channels alone
   pub port-one : (port o i q p j : ℕ) (c : Channel) → q < size net → q / net.relation.vcs ≡ port → mover v.site D.round port ≡ Some i → view_claim v i ≡ Holds o true → Moves net good F x n p j c (leaving net r q) → q ≡ o
   port-one port o i q p j c u to e claim m =
       let k = port-of q p j c u m in

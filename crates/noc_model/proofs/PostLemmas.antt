@@ -43,7 +43,7 @@ pub router_when : (may : Post → Bool) (o : Option Post) → holds_at may o ≡
 router_when may None e = absurd (false≢true e)
 router_when may (Some post) e = (post, refl, e)
 
--- the same router is found once
+-- a router is found once
 pub same_router : (k : CoreState) (r : ℕ) (a b : Post) → post_at k r ≡ Some a → post_at k r ≡ Some b → a ≡ b
 same_router k r a b p q = same_Some a b (sym p ∙ q)
 

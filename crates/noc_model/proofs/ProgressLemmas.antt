@@ -3,7 +3,7 @@ use Rattle.std.proofs.Common.{◌≡◌, ℕ, zero, suc, ◌<◌, ◌≤◌, Boo
 use Rattle.std.specs.Prelude.{count_by, find, nat_eq, ◌&&◌, filter, IsTrue}
 use Rattle.std.proofs.lemmas.Bool.{true≢false, and_left, and_right, ne_eqb}
 use Rattle.std.proofs.lemmas.List.{nil_from_length}
-use Rattle.noc_model.specs.Network.{end_distance, after_injection, In, Injection, Located, On, Out, Place, Setup, Source, State, after_credits, after_landing, all_inputs, frozen, injected_place, injections, landed_place, state_at, verdict_in}
+use Rattle.noc_model.specs.Network.{end_distance, after_injection, In, Injection, Located, On, Out, Place, Setup, Source, State, after_credits, after_landing, all_inputs, frozen_state, injected_place, injections, landed_place, state_at, verdict_in}
 use Rattle.noc_model.specs.Progress.{events, is_flying, is_pending, is_stuck}
 use Rattle.noc_model.proofs.ProgressRecord.{IsBuilt}
 use Rattle.noc_route.specs.Channel.{Channel}
@@ -21,7 +21,7 @@ map-same f (x ∷ xs) h = ap₂ (λ y ys. y ∷ ys) (h x (inl refl)) (map-same f
 
 module _ (net : Setup) (n : ℕ) (S : State) (none : events net n S ≡ 0) where
   abbrev F : State
-  F = frozen net n S
+  F = frozen_state net n S
 
   abbrev T : State
   T = after_credits net (after_landing net S)
@@ -48,7 +48,7 @@ module _ (net : Setup) (n : ℕ) (S : State) (none : events net n S ≡ 0) where
       (λ f h. ap (λ (q : Place). record f { place = q }) (landed-same f.place (none-counted (λ (g : Located). is_flying g.place) S.at still-before f h)))
 
   injection-same : F ≡ T
-  unfolding frozen after_credits after_injection
+  unfolding frozen_state after_credits after_injection
   injection-same =
       ap₂ (λ (at : List Located) (own : List (Channel × ℕ)). record T { at = at; own = own })
       (map-same (λ (f : Located). record f { place = injected_place net T f (find (λ (one : Injection net). nat_eq one.packet f.packet) (injections net T n)) }) T.at
@@ -59,7 +59,7 @@ module _ (net : Setup) (n : ℕ) (S : State) (none : events net n S ≡ 0) where
   at-same = ap (λ (X : State). X.at) injection-same ∙ landing-same
 
   pub quiet-frozen : IsQuiet net n F
-  unfolding frozen after_injection after_credits
+  unfolding frozen_state after_injection after_credits
   quiet-frozen = record {
     still = λ f h. none-counted (λ (g : Located). is_flying g.place) S.at still-before f (subst (λ (xs : List Located). Has f xs) at-same h);
     no_credit = refl;
@@ -70,7 +70,7 @@ module _ (net : Setup) (n : ℕ) (S : State) (none : events net n S ≡ 0) where
   pub pending-frozen : is_pending net n F ≡ is_pending net n S
   pending-frozen = ap (λ (at : List Located). is_pending net n (record F { at = at })) at-same
 
-module _ (net : Setup) (built : IsBuilt net) (worms : (n : ℕ) → IsChain net (frozen net n (state_at net n)))
+module _ (net : Setup) (built : IsBuilt net) (worms : (n : ℕ) → IsChain net (frozen_state net n (state_at net n)))
     (nearer : IsNearing net) (bound : ℕ) (within : (c : Channel) (t : ℕ) → end_distance net.relation c t ≤ bound)
     (ranks : ℕ → ℕ → ℕ → Option ℕ) (ranked : IsRanked (λ m c t o. IsTrue (permits net.relation m c t o)) net.relation.grid ranks) where
   -- each pending cycle has an event
@@ -80,7 +80,7 @@ module _ (net : Setup) (built : IsBuilt net) (worms : (n : ℕ) → IsChain net 
       at : (k : ℕ) → events net n (state_at net n) ≡ k → 0 < k
       at (suc k) e = omega arith
       at zero e =
-          absurd (quiet-absurd net (frozen net n (state_at net n)) built (worms n) n (quiet-frozen net n (state_at net n) e) nearer bound within ranks ranked
+          absurd (quiet-absurd net (frozen_state net n (state_at net n)) built (worms n) n (quiet-frozen net n (state_at net n) e) nearer bound within ranks ranked
           (pending-frozen net n (state_at net n) e ∙ pending))
 
   -- so the network is stuck at no count

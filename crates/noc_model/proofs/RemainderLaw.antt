@@ -3,7 +3,7 @@ use Rattle.std.proofs.Common.{◌≡◌, ℕ, ◌+◌, ◌<◌, true, false, Lis
 use Rattle.std.specs.Prelude.{find, nat_eq, count_by, ◌&&◌}
 use Rattle.std.proofs.lemmas.Bool.{true≢false}
 use Rattle.std.specs.List.{AllByRecursion}
-use Rattle.noc_model.specs.Network.{after_injection, In, Injection, Located, Setup, State, after_credits, after_landing, all_inputs, end_distance, first_in, frozen, has_channel, injected_place, injections, is_the_flit, landed_place, network_cycle, next_channel, packet_at, verdict_in}
+use Rattle.noc_model.specs.Network.{after_injection, In, Injection, Located, Setup, State, after_credits, after_landing, all_inputs, end_distance, front_in, frozen_state, has_channel, injected_place, injections, is_the_flit, landed_place, network_cycle, next_channel, packet_at, verdict_in}
 use Rattle.noc_model.specs.Progress.{events, head_place, is_flying, remainder}
 use Rattle.noc_route.specs.Channel.{Channel, Eject, Link, same_channel}
 use Rattle.noc_router.specs.Verdict.{is_event, is_moved}
@@ -35,7 +35,7 @@ module _ (net : Setup) (n : ℕ) (F : State) where
     pub once : IsApart same_channel (all_inputs net)
     -- a head stands before all other flits of its buffer, and one stands where a channel is routed
     pub goes_first : (p : ℕ) (c : Channel) (f : Located) → p < length net.packets → f.place ≡ In c → find (λ (g : Located). nat_eq p g.packet && nat_eq 0 g.index) F.at ≡ Some f
-        → is_the_flit net f (first_in net F c) ≡ true
+        → is_the_flit net f (front_in net F c) ≡ true
     pub at_routes : (c : Channel) → Has c (all_inputs net) → verdict_in net F c ≡ Routed → (p : ℕ) × (p < length net.packets) × (head_place net F p ≡ In c)
     -- the next channel of a head's channel is one nearer, or the destination's
     pub near : (p : ℕ) (c : Channel) (r q v : ℕ) → p < length net.packets → head_place net F p ≡ In c → next_channel net F c ≡ Some (Link r q v)
@@ -69,21 +69,21 @@ module _ (net : Setup) (n : ℕ) (S : State) where
     pub flies : FliesRight net S
     pub frees : FreesBehind net (after_landing net S)
     pub starts : StartsFresh net n credited
-    pub heads : HeadsRight net n (frozen net n S)
-    pub moves : MovesNear net n (frozen net n S)
+    pub heads : HeadsRight net n (frozen_state net n S)
+    pub moves : MovesNear net n (frozen_state net n S)
 
   -- each cycle lowers the remainder by the number of its events
   pub cycle-falls : IsCountable → IsDistinct (same_flit) S.at → remainder net S ≡ remainder net (network_cycle net n S) + events net n S
-  unfolding after_landing after_credits after_injection frozen network_cycle
+  unfolding after_landing after_credits after_injection frozen_state network_cycle
   cycle-falls ok distinct =
       let d : IsDistinct (same_flit) credited.at = distinct-map net (λ (f : Located). record f { place = landed_place net f.place }) (λ f. refl) (λ f. refl) S.at distinct in
-      let e : IsDistinct (same_flit) (frozen net n S).at
+      let e : IsDistinct (same_flit) (frozen_state net n S).at
       = distinct-map net (λ (f : Located). record f { place = injected_place net credited f (find (λ (one : Injection net). nat_eq one.packet f.packet) (injections net credited n)) }) (λ f. refl) (λ f. refl) credited.at d in
       let a : remainder net (after_landing net S) + count_by (λ (f : Located). is_flying f.place) S.at ≡ remainder net S = landing-falls net S ok.flies in
       let b : remainder net credited + length S.back ≡ remainder net (after_landing net S) = credits-fall net (after_landing net S) ok.frees in
-      let c : remainder net (frozen net n S) + length (injections net credited n) ≡ remainder net credited = injections-fall net n credited ok.starts d in
-      let v : remainder net (network_cycle net n S) + count_by (λ c. is_event (verdict_in net (frozen net n S) c)) (all_inputs net) ≡ remainder net (frozen net n S)
-      = verdicts-fall net n (frozen net n S) (turns-right net n (frozen net n S) ok.heads) ok.moves e refl in
+      let c : remainder net (frozen_state net n S) + length (injections net credited n) ≡ remainder net credited = injections-fall net n credited ok.starts d in
+      let v : remainder net (network_cycle net n S) + count_by (λ c. is_event (verdict_in net (frozen_state net n S) c)) (all_inputs net) ≡ remainder net (frozen_state net n S)
+      = verdicts-fall net n (frozen_state net n S) (turns-right net n (frozen_state net n S) ok.heads) ok.moves e refl in
       sums _ _ _ _ _ _ _ _ _ a b c v
     where
       sums : (s l t f r x1 x2 x3 x4 : ℕ) → l + x1 ≡ s → t + x2 ≡ l → f + x3 ≡ t → r + x4 ≡ f → s ≡ r + (x1 + x2 + x3 + x4)

@@ -3,7 +3,7 @@ use Rattle.std.proofs.Common.{◌≡◌, ℕ, ◌+◌, ◌*◌, ◌<◌, Bool, t
 use Rattle.std.specs.Prelude.{filter, find, nat_eq, not, ◌&&◌, sum_by, count_by, is_some, option_map, option_and_then, unwrap_or}
 use Rattle.std.proofs.lemmas.Bool.{false≢true, eqb-true}
 use Rattle.std.proofs.lemmas.List.Sums.{sum_by-cons}
-use Rattle.noc_model.specs.Network.{In, Located, On, Out, Place, Setup, Source, State, after_credits, after_landing, end_distance, has_channel, is_freed, landed_place, leads_from, next_channel, owned_by, owner_of, packet_at, place_of}
+use Rattle.noc_model.specs.Network.{In, Located, On, Out, Place, Setup, Source, State, after_credits, after_landing, end_distance, has_channel, is_freed, landed_place, leads_from, next_channel, owned_by, owner_of, packet_at, place_of_flit}
 use Rattle.noc_model.specs.Progress.{head_place, is_flying, remainder, turns_left, weight}
 use Rattle.noc_route.specs.Channel.{Channel, Eject, Inject, Link, is_link, same_channel}
 use Rattle.noc_topo.specs.Words.{Has, below}
@@ -57,7 +57,7 @@ module _ (net : Setup) (S : State) where
     pub on_links : (f : Located) (c : Channel) → Has f S.at → f.place ≡ On c → is_link c ≡ true
     pub to_unrouted : (p : ℕ) (c : Channel) → p < length net.packets → head_place net S p ≡ On c → has_channel S.routed c ≡ false
 
-  place-landed : (p i : ℕ) → place_of net (after_landing net S) p i ≡ landed_place net (place_of net S p i)
+  place-landed : (p i : ℕ) → place_of_flit net (after_landing net S) p i ≡ landed_place net (place_of_flit net S p i)
   unfolding after_landing
   place-landed p i =
       ap (λ (o : Option Located). unwrap_or (option_map (λ (f : Located). f.place) o) Source)

@@ -3,14 +3,14 @@ use Rattle.std.proofs.Common.{◌≡◌, ℕ, ◌+◌, ◌<◌, ◌≤◌, Bool,
 use Rattle.std.specs.Prelude.{filter, ◌⊎◌}
 use Rattle.std.proofs.lemmas.Bool.{false≢true}
 use Rattle.noc_route.specs.Channel.{Channel, Link, Inject, Eject}
-use Rattle.noc_model.specs.Network.{Setup, State, Located, Place, Source, On, In, Out, place_of, is_in, is_on, count_on, count_in, landed_place, after_landing}
+use Rattle.noc_model.specs.Network.{Setup, State, Located, Place, Source, On, In, Out, place_of_flit, is_in, is_on, count_on, count_in, landed_place, after_landing}
 use Rattle.noc_model.proofs.BuiltRecord.{IsBuilt}
 use Rattle.noc_model.proofs.BufferLemmas.{same_channel-true}
 use Rattle.noc_topo.specs.Words.{Has, Pairs}
 use Rattle.noc_model.proofs.Members.{Has-filter, each-at}
 use Rattle.noc_model.proofs.PlaceLemmas.{IsKeyed, IsSortedPair, place-of-flit}
 use Rattle.noc_model.proofs.WormRecord.{IsWorm, IsPlaced}
-pub use Rattle.noc_model.proofs.StateWords.{held}
+pub use Rattle.noc_model.proofs.StateWords.{places_taken}
 
 -- ---- counting through a step
 
@@ -95,7 +95,7 @@ module _ (net : Setup) where
 
   -- ---- phase three
 
-  module _ (built : IsBuilt net) (S : State) (keyed : IsKeyed net S.at) (w : IsWorm net S.own (place_of net S)) where
+  module _ (built : IsBuilt net) (S : State) (keyed : IsKeyed net S.at) (w : IsWorm net S.own (place_of_flit net S)) where
     -- a channel that nobody owns has an empty buffer
     pub unowned-empty : (c : Channel) → ((p : ℕ) → Has (c, p) S.own → ⊥) → count_in net S c ≡ 0
     unowned-empty c none = cases (filter-some (λ (f : Located). is_in c f.place) S.at)

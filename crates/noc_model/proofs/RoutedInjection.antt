@@ -4,7 +4,7 @@ use Rattle.std.specs.Prelude.{◌⊎◌}
 use Rattle.std.proofs.lemmas.Bool.{false≢true, cases_eq, le-ltb}
 use Rattle.noc_topo.specs.Shape.{distance}
 use Rattle.noc_route.specs.Channel.{Channel, Link, Inject, Eject}
-use Rattle.noc_model.specs.Network.{Setup, tail_place, Injection, State, Place, Source, In, Out, packet_at, place_of, is_past, leads_from, after_injection, has_channel}
+use Rattle.noc_model.specs.Network.{Setup, tail_place, Injection, State, Place, Source, In, Out, packet_at, place_of_flit, is_past, leads_from, after_injection, has_channel}
 use Rattle.noc_model.specs.Progress.{head_place, hops}
 use Rattle.noc_model.proofs.BuiltRecord.{IsBuilt}
 use Rattle.noc_topo.specs.Words.{Has}
@@ -16,27 +16,27 @@ use Rattle.noc_model.proofs.InjectionPhase.{apart-same, IsEnteredBy, IsInjected,
 use Rattle.noc_model.proofs.InjectionState.{entries-move, entries-are, entries-apart, all_entries, worm-after_injection}
 use Rattle.noc_model.proofs.RoutedRecord.{Come, IsHeld, HasNext, IsRoutedFrozen, entering-behind}
 
-module _ (net : Setup) (built : IsBuilt net) (S : State) (keyed : IsKeyed net S.at) (w : IsWorm net S.own (place_of net S)) (n : ℕ) (r : IsRoutedFrozen net S) where
+module _ (net : Setup) (built : IsBuilt net) (S : State) (keyed : IsKeyed net S.at) (w : IsWorm net S.own (place_of_flit net S)) (n : ℕ) (r : IsRoutedFrozen net S) where
   abbrev pub T : State
   T = after_injection net n S
 
   abbrev Moves : ℕ → Type 0
-  Moves p = IsInjected net built S.own (place_of net S) w (all_entries net built S keyed w n) (entries-are net built S keyed w n) (entries-apart net built S keyed w n) (place_of net T) p
+  Moves p = IsInjected net built S.own (place_of_flit net S) w (all_entries net built S keyed w n) (entries-are net built S keyed w n) (entries-apart net built S keyed w n) (place_of_flit net T) p
 
   abbrev Enters : ℕ → Injection net → Type 0
-  Enters p one = IsEnteredBy net built S.own (place_of net S) w (all_entries net built S keyed w n) (entries-are net built S keyed w n) (entries-apart net built S keyed w n) (place_of net T) p one
+  Enters p one = IsEnteredBy net built S.own (place_of_flit net S) w (all_entries net built S keyed w n) (entries-are net built S keyed w n) (entries-apart net built S keyed w n) (place_of_flit net T) p one
 
-  after : IsWorm net T.own (place_of net T)
+  after : IsWorm net T.own (place_of_flit net T)
   after = worm-after_injection net built S keyed w n
 
   abbrev pub added : List (Channel × ℕ)
-  added = news net built S.own (place_of net S) w (all_entries net built S keyed w n) (entries-are net built S keyed w n) (entries-apart net built S keyed w n) (place_of net T)
+  added = news net built S.own (place_of_flit net S) w (all_entries net built S keyed w n) (entries-are net built S keyed w n) (entries-apart net built S keyed w n) (place_of_flit net T)
 
   pub is-new : (c : Channel) (p : ℕ) → Has (c, p) added → (one : Injection net) × Has one (all_entries net built S keyed w n) × (one.begins ≡ true) × (one.channel ≡ c) × (one.packet ≡ p)
-  is-new c p h = new-entry net built S.own (place_of net S) w (all_entries net built S keyed w n) (entries-are net built S keyed w n) (entries-apart net built S keyed w n) (place_of net T) c p h
+  is-new c p h = new-entry net built S.own (place_of_flit net S) w (all_entries net built S keyed w n) (entries-are net built S keyed w n) (entries-apart net built S keyed w n) (place_of_flit net T) c p h
 
   fresh : (c : Channel) (p : ℕ) → Has (c, p) added → (d : Channel) → Has (d, p) S.own → ⊥
-  fresh c p h = (new-fresh net built S.own (place_of net S) w (all_entries net built S keyed w n) (entries-are net built S keyed w n) (entries-apart net built S keyed w n) (place_of net T) c p h).1
+  fresh c p h = (new-fresh net built S.own (place_of_flit net S) w (all_entries net built S keyed w n) (entries-are net built S keyed w n) (entries-apart net built S keyed w n) (place_of_flit net T) c p h).1
 
   -- what is new is an injection channel
   is-inject : (c : Channel) (p : ℕ) → Has (c, p) added → (m : ℕ) × (v : ℕ) × (c ≡ Inject m v)
@@ -57,7 +57,7 @@ module _ (net : Setup) (built : IsBuilt net) (S : State) (keyed : IsKeyed net S.
       low = w.known c p h
 
       entered : (one : Injection net) → (e : Enters p one) → (0 ≡ e.flit) ⊎ (0 ≡ e.flit → ⊥) → head_place net T p ≡ head_place net S p
-      entered one e (inl s) = absurd (w.begun c p h (ap (place_of net S p) s ∙ e.was))
+      entered one e (inl s) = absurd (w.begun c p h (ap (place_of_flit net S p) s ∙ e.was))
       entered one e (inr s) = e.others 0 (valid-first net built p low) s
 
       at : Moves p → head_place net T p ≡ head_place net S p
@@ -75,13 +75,13 @@ module _ (net : Setup) (built : IsBuilt net) (S : State) (keyed : IsKeyed net S.
       x : (one : Injection net) × Has one (all_entries net built S keyed w n) × (one.begins ≡ true) × (one.channel ≡ c) × (one.packet ≡ p)
       x = is-new c p h
 
-      waits : place_of net S p (last_of net p) ≡ Source
-      waits = ap (λ y. place_of net S y (last_of net y)) (sym x.4) ∙ (entries-are net built S keyed w n x.0 x.1).1.waits
+      waits : place_of_flit net S p (last_of net p) ≡ Source
+      waits = ap (λ y. place_of_flit net S y (last_of net y)) (sym x.4) ∙ (entries-are net built S keyed w n x.0 x.1).1.waits
 
       entered : (one : Injection net) → Has one (all_entries net built S keyed w n) → one.packet ≡ p → (e : Enters p one) → (0 ≡ e.flit) ⊎ (0 ≡ e.flit → ⊥) → head_place net T p ≡ In c
       entered one m q e (inl s) =
           let same : one ≡ x.0 = apart-same net one x.0 (all_entries net built S keyed w n) (entries-apart net built S keyed w n) m x.1 (q ∙ sym x.4) in
-          ap (place_of net T p) s ∙ e.now ∙ ap In (ap (λ (y : Injection net). y.channel) same ∙ x.3)
+          ap (place_of_flit net T p) s ∙ e.now ∙ ap In (ap (λ (y : Injection net). y.channel) same ∙ x.3)
       entered one m q e (inr s) =
           let y = w.holds p low (e.first 0 (omega arith)) waits in
           absurd (fresh c p h (Inject (packet_at net p).source y.0) y.1)
@@ -98,7 +98,7 @@ module _ (net : Setup) (built : IsBuilt net) (S : State) (keyed : IsKeyed net S.
           → (tail_place net T p ≡ tail_place net S p) ⊎ ((v : ℕ) × (tail_place net T p ≡ In (Inject (packet_at net p).source v)))
       entered one m q e (inl s) =
           let x = entries-are net built S keyed w n one m in
-          inr (x.1.vc, ap (place_of net T p) s ∙ e.now ∙ ap In (x.1.channel ∙ ap (λ y. Inject y x.1.vc) (x.1.from ∙ ap (λ y. (packet_at net y).source) q)))
+          inr (x.1.vc, ap (place_of_flit net T p) s ∙ e.now ∙ ap In (x.1.channel ∙ ap (λ y. Inject y x.1.vc) (x.1.from ∙ ap (λ y. (packet_at net y).source) q)))
       entered one m q e (inr s) = inl (e.others (last_of net p) (valid-last net built p low) s)
 
       at : Moves p → (tail_place net T p ≡ tail_place net S p) ⊎ ((v : ℕ) × (tail_place net T p ≡ In (Inject (packet_at net p).source v)))

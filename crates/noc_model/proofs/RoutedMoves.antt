@@ -4,7 +4,7 @@ use Rattle.std.specs.Prelude.{find, option_and_then, ◌⊎◌}
 use Rattle.std.proofs.lemmas.Bool.{false≢true, cases_lt, and_left, true≢false, cases_eq, ltb-true, lt-ltb, le-ltb, ltb-false}
 use Rattle.std.proofs.lemmas.Option.{same_Some}
 use Rattle.noc_route.specs.Channel.{Channel, Link, Inject, Eject}
-use Rattle.noc_model.specs.Network.{Setup, tail_place, State, Place, On, In, place_of, is_past, leads_from, owned_by, has_channel, verdict_in, tail_leaves, gone_to, after_verdicts}
+use Rattle.noc_model.specs.Network.{Setup, tail_place, State, Place, On, In, place_of_flit, is_past, leads_from, owned_by, has_channel, verdict_in, tail_leaves, gone_to, after_verdicts}
 use Rattle.noc_router.specs.Verdict.{is_moved}
 use Rattle.noc_model.specs.Progress.{head_place}
 use Rattle.noc_model.proofs.BuiltRecord.{IsBuilt}
@@ -20,12 +20,12 @@ use Rattle.noc_model.proofs.MoveLemmas.{IsNext, IsFirst, IsMoving, IsMoved, lead
 use Rattle.noc_model.proofs.VerdictPhase.{goes, tail-of, leaves-tail, kept-left, inject-kept, worm-after_verdicts}
 use Rattle.noc_model.proofs.RoutedRecord.{Come, IsHeld, HasNext, IsRoutedFrozen}
 
-module _ (net : Setup) (built : IsBuilt net) (wired : IsWired net) (F : State) (keyed : IsKeyed net F.at) (w : IsWorm net F.own (place_of net F))
-    (n : ℕ) (still : (p i : ℕ) → IsValid net p i → (c : Channel) → place_of net F p i ≢ On c) (r : IsRoutedFrozen net F) where
+module _ (net : Setup) (built : IsBuilt net) (wired : IsWired net) (F : State) (keyed : IsKeyed net F.at) (w : IsWorm net F.own (place_of_flit net F))
+    (n : ℕ) (still : (p i : ℕ) → IsValid net p i → (c : Channel) → place_of_flit net F p i ≢ On c) (r : IsRoutedFrozen net F) where
   abbrev pub T : State
   T = after_verdicts net n F
 
-  pub worm : IsWorm net T.own (place_of net T)
+  pub worm : IsWorm net T.own (place_of_flit net T)
   worm = worm-after_verdicts net built wired F keyed w n still
 
   abbrev pub Moves : ℕ → ℕ → Channel → Channel → Type 0

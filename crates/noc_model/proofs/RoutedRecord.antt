@@ -3,7 +3,7 @@ use Rattle.std.proofs.Common.{◌≡◌, ℕ, ◌+◌, ◌<◌, Bool, true, fals
 use Rattle.std.specs.Prelude.{not}
 use Rattle.std.proofs.lemmas.Bool.{false≢true, and_right, ltb-true, le-ltb, lt-ltb, not-true}
 use Rattle.noc_route.specs.Channel.{Channel, Link, Inject, Eject}
-use Rattle.noc_model.specs.Network.{Setup, tail_place, State, Located, Place, Source, On, In, Out, place_of, landed_place, is_past, leads_from, after_landing, after_credits, has_channel}
+use Rattle.noc_model.specs.Network.{Setup, tail_place, State, Located, Place, Source, On, In, Out, place_of_flit, landed_place, is_past, leads_from, after_landing, after_credits, has_channel}
 use Rattle.noc_model.specs.Progress.{head_place}
 use Rattle.noc_model.proofs.BuiltRecord.{IsBuilt}
 use Rattle.noc_topo.specs.Words.{Has}
@@ -36,7 +36,7 @@ module _ (net : Setup) where
     come-landed p c x (inl e) = inl (ap (landed_place net) e)
     come-landed p c x (inr e) = inr (past-landed p c x ∙ e)
 
-    pub routed-landed : (S : State) → IsKeyed net S.at → IsWorm net S.own (place_of net S) → IsRoutedMid net S → IsRoutedMid net (after_landing net S)
+    pub routed-landed : (S : State) → IsKeyed net S.at → IsWorm net S.own (place_of_flit net S) → IsRoutedMid net S → IsRoutedMid net (after_landing net S)
     unfolding after_landing
     routed-landed S keyed w m = record {
       only = λ c h. let r = m.only c h in
@@ -48,7 +48,7 @@ module _ (net : Setup) where
       eject = λ n v p k h e. m.eject n v p k h (out-landed net (tail_place net S p) k (sym (tail p (w.known (Eject n v) p h)) ∙ e));
     }
       where
-        goes : (p i : ℕ) → IsValid net p i → place_of net (after_landing net S) p i ≡ landed_place net (place_of net S p i)
+        goes : (p i : ℕ) → IsValid net p i → place_of_flit net (after_landing net S) p i ≡ landed_place net (place_of_flit net S p i)
         goes p i v = place-stepped net (λ (f : Located). landed_place net f.place) S (after_landing net S) keyed refl p i v
 
         head : (p : ℕ) → p < length net.packets → head_place net (after_landing net S) p ≡ landed_place net (head_place net S p)
@@ -77,7 +77,7 @@ module _ (net : Setup) where
     past-earlier p c o (In d) s e = let l : far_of net p d < far_of net p o = ltb-true _ _ e in lt-ltb (far_of net p d) (far_of net p c) (omega arith)
     past-earlier p c o (Out n) s e = refl
 
-    pub routed-credits : (S : State) → IsKeyed net S.at → IsWorm net S.own (place_of net S) → IsRoutedMid net S → IsRoutedFrozen (after_credits net S)
+    pub routed-credits : (S : State) → IsKeyed net S.at → IsWorm net S.own (place_of_flit net S) → IsRoutedMid net S → IsRoutedFrozen (after_credits net S)
     unfolding after_credits
     routed-credits S keyed w m = record {
       mid = record {
@@ -91,13 +91,13 @@ module _ (net : Setup) where
     }
       where
         keep : Channel × ℕ → Bool
-        keep pair = not (freed net (place_of net S) pair)
+        keep pair = not (freed net (place_of_flit net S) pair)
 
         was : (c : Channel) (p : ℕ) → Has (c, p) (after_credits net S).own → Has (c, p) S.own
-        was c p h = (Has-filter (λ pair. not (freed net (place_of net S) pair)) (c, p) S.own h).0
+        was c p h = (Has-filter (λ pair. not (freed net (place_of_flit net S) pair)) (c, p) S.own h).0
 
         kept : (c : Channel) (p : ℕ) → Has (c, p) S.own → is_past net c (goal net p) (tail_place net S p) ≡ false → Has (c, p) (after_credits net S).own
-        kept c p h e = Has-kept (λ pair. not (freed net (place_of net S) pair)) (c, p) S.own h (ap not (and_right _ _ e))
+        kept c p h e = Has-kept (λ pair. not (freed net (place_of_flit net S) pair)) (c, p) S.own h (ap not (and_right _ _ e))
 
         next-kept : (c o : Channel) (p : ℕ) → Has (o, p) S.own → leads_from net c o ≡ true → is_past net c (goal net p) (tail_place net S p) ≡ false → Has (o, p) (after_credits net S).own
         next-kept c (Link r a v) p h l e = at (is_past net (Link r a v) (goal net p) (tail_place net S p)) refl
@@ -108,9 +108,9 @@ module _ (net : Setup) where
                 let far = far-link net built S keyed w p c r a v (record { owns = h; leads = l }) in
                 absurd (false≢true (sym e ∙ past-earlier p c (Link r a v) (tail_place net S p) far k))
         next-kept c (Inject n v) p h l e = absurd (false≢true l)
-        next-kept c (Eject n v) p h l e = Has-kept (λ pair. not (freed net (place_of net S) pair)) (Eject n v, p) S.own h refl
+        next-kept c (Eject n v) p h l e = Has-kept (λ pair. not (freed net (place_of_flit net S) pair)) (Eject n v, p) S.own h refl
 
         behind-at : (c : Channel) (p : ℕ) → Has (c, p) (after_credits net S).own → (IsEject c → ⊥) → is_past net c (goal net p) (tail_place net S p) ≡ false
-        behind-at (Link r a v) p h e = not-true _ (Has-filter (λ pair. not (freed net (place_of net S) pair)) (Link r a v, p) S.own h).1
+        behind-at (Link r a v) p h e = not-true _ (Has-filter (λ pair. not (freed net (place_of_flit net S) pair)) (Link r a v, p) S.own h).1
         behind-at (Inject n v) p h e = entering-behind p (Inject n v) (tail_place net S p) (w.entering n v p (was (Inject n v) p h))
         behind-at (Eject n v) p h e = absurd (e tt)

@@ -7,7 +7,7 @@ use Rattle.noc_topo.specs.Words.{below}
 use Rattle.noc_topo.specs.Shape.{nodes}
 use Rattle.noc_route.specs.Channel.{Channel, Link, Inject, Eject, inputs, arrival_of, is_link}
 use Rattle.noc_route.specs.Routes.{permits}
-use Rattle.noc_model.specs.Network.{Setup, network_cycle, tail_place, Injection, State, packet_at, place_of, injection_at, injection_with, first_waiting, is_injection_of, owned_by, is_idle, count_in, is_released, is_past, has_channel, opening_state, after_landing, after_credits, after_injection, after_verdicts, frozen, state_at}
+use Rattle.noc_model.specs.Network.{Setup, network_cycle, tail_place, Injection, State, packet_at, place_of_flit, injection_at, injection_with, first_waiting, is_injection_of, owned_by, is_idle, count_in, is_released, is_past, has_channel, opening_state, after_landing, after_credits, after_injection, after_verdicts, frozen_state, state_at}
 use Rattle.noc_model.proofs.BuiltRecord.{IsBuilt}
 use Rattle.noc_model.proofs.OptionLemmas.{and_then-some, cond-some}
 use Rattle.noc_topo.specs.Words.{Has}
@@ -68,7 +68,7 @@ module _ (net : Setup) where
             let s : record { packet = q; channel = j; begins = false } ≡ one = same_Some (record { packet = q; channel = j; begins = false }) one b.1 in
             absurd (false≢true (ap (λ (x : Injection net). x.begins) s ∙ t))
 
-    covered-injection : (n : ℕ) (S : State) (keyed : IsKeyed net S.at) (w : IsWorm net S.own (place_of net S)) (r : IsRoutedFrozen net S) → IsCovered S → IsCovered (after_injection net n S)
+    covered-injection : (n : ℕ) (S : State) (keyed : IsKeyed net S.at) (w : IsWorm net S.own (place_of_flit net S)) (r : IsRoutedFrozen net S) → IsCovered S → IsCovered (after_injection net n S)
     covered-injection n S keyed w r cov c p h = at (split net built S keyed w n r c p h.0)
       where
         at : Has (c, p) S.own ⊎ Has (c, p) (added net built S keyed w n r) → Has c (inputs net.relation.grid net.relation.vcs)
@@ -90,7 +90,7 @@ module _ (net : Setup) where
         record {
           sound = sound-credits net built wired a sa;
           routed = routed-credits net built a sa.keyed sa.worm ra;
-          covered = λ c p h. x.covered c p ((Has-filter (λ pair. not (freed net (place_of net a) pair)) (c, p) a.own h.0).0, h.1);
+          covered = λ c p h. x.covered c p ((Has-filter (λ pair. not (freed net (place_of_flit net a) pair)) (c, p) a.own h.0).0, h.1);
         }
 
     -- after the injections
@@ -101,8 +101,8 @@ module _ (net : Setup) where
       covered = covered-injection n S x.sound.keyed x.sound.worm x.routed x.covered;
     }
 
-    pub whole-frozen : (n : ℕ) (S : State) → IsWhole S → IsWholeFrozen (frozen net n S)
-    unfolding frozen
+    pub whole-frozen : (n : ℕ) (S : State) → IsWhole S → IsWholeFrozen (frozen_state net n S)
+    unfolding frozen_state
     whole-frozen n S x = whole-injection n (after_credits net (after_landing net S)) (whole-mid S x)
 
     pub whole-verdicts : (n : ℕ) (F : State) → IsWholeFrozen F → IsWhole (after_verdicts net n F)
@@ -144,8 +144,8 @@ module _ (net : Setup) where
     pub whole-state : (n : ℕ) → IsWhole (state_at net n)
     unfolding state_at network_cycle
     whole-state zero = whole-opening
-    whole-state (suc n) = whole-verdicts n (frozen net n (state_at net n)) (whole-frozen n (state_at net n) (whole-state n))
+    whole-state (suc n) = whole-verdicts n (frozen_state net n (state_at net n)) (whole-frozen n (state_at net n) (whole-state n))
 
     -- and in each frozen state
-    pub whole-frozen_state : (n : ℕ) → IsWholeFrozen (frozen net n (state_at net n))
+    pub whole-frozen_state : (n : ℕ) → IsWholeFrozen (frozen_state net n (state_at net n))
     whole-frozen_state n = whole-frozen n (state_at net n) (whole-state n)

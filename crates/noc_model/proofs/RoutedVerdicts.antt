@@ -4,7 +4,7 @@ use Rattle.std.specs.Prelude.{filter, ◌⊎◌, not, nat_lt, ◌&&◌, option_m
 use Rattle.std.proofs.lemmas.Bool.{false≢true, and_left, cases_eq, ltb-true, lt-ltb, not-true, and_from, and_parts}
 use Rattle.noc_route.specs.Channel.{Channel, Link, Inject, Eject, inputs, same_channel, is_link, arrival_of, channel_vc}
 use Rattle.noc_router.specs.Verdict.{Claim, Unrouted, verdict_of, Holds, Waits, Round}
-use Rattle.noc_model.specs.Network.{Setup, first_in, is_tail, tail_place, State, Located, Place, Source, On, In, Out, place_of, is_past, is_in, leads_from, owned_by, next_channel, has_channel, verdict_in, verdict_at, tail_leaves, tail_leaves_to, is_released, gone_to, count_in, claim_of, round_at, after_verdicts}
+use Rattle.noc_model.specs.Network.{Setup, front_in, is_tail_of_packet, tail_place, State, Located, Place, Source, On, In, Out, place_of_flit, is_past, is_in, leads_from, owned_by, next_channel, has_channel, verdict_in, verdict_at, tail_leaves, tail_leaves_to, is_released, gone_to, count_in, claim_of, round_at, after_verdicts}
 use Rattle.noc_router.specs.Verdict.{is_moved, is_routed}
 use Rattle.noc_model.specs.Progress.{head_place, weight, hops}
 use Rattle.noc_model.proofs.BuiltRecord.{IsBuilt}
@@ -37,8 +37,8 @@ channel-has c xs e = let r = list_any-has (same_channel c) xs e in subst (λ (d 
 pub has-channel : (c : Channel) (xs : List Channel) → Has c xs → has_channel xs c ≡ true
 has-channel c xs h = list_any-from (same_channel c) xs c h (same_channel-refl c)
 
-module _ (net : Setup) (built : IsBuilt net) (wired : IsWired net) (F : State) (keyed : IsKeyed net F.at) (w : IsWorm net F.own (place_of net F))
-    (n : ℕ) (still : (p i : ℕ) → IsValid net p i → (c : Channel) → place_of net F p i ≢ On c)
+module _ (net : Setup) (built : IsBuilt net) (wired : IsWired net) (F : State) (keyed : IsKeyed net F.at) (w : IsWorm net F.own (place_of_flit net F))
+    (n : ℕ) (still : (p i : ℕ) → IsValid net p i → (c : Channel) → place_of_flit net F p i ≢ On c)
     (r : IsRoutedFrozen net F)
     (covered : (c : Channel) (p : ℕ) → IsHeld net F c p → Has c (inputs net.relation.grid net.relation.vcs))
     (arrives : (c : Channel) → Has c (inputs net.relation.grid net.relation.vcs) → (place : ℕ × ℕ) × (arrival_of net.relation.grid c ≡ Some place)) where
@@ -123,14 +123,14 @@ module _ (net : Setup) (built : IsBuilt net) (wired : IsWired net) (F : State) (
       at (Some place) h = routed-holds net.relation.vcs (round_at net F place.0) (place.1 * net.relation.vcs + channel_vc c) (claim_of net F place.0 c) (nat_lt 0 (count_in net F c)) (sym (ap (verdict_at net F c) h) ∙ e)
 
   -- where a flit is in the buffer of c, the head has come to it
-  head-come : (c : Channel) (p i : ℕ) → IsValid net p i → place_of net F p i ≡ In c → IsHeld net F c p → Come net p c (head_place net F p)
+  head-come : (c : Channel) (p i : ℕ) → IsValid net p i → place_of_flit net F p i ≡ In c → IsHeld net F c p → Come net p c (head_place net F p)
   head-come c p i v e h = at (head_place net F p) refl
     where
       first : IsValid net p 0
       first = valid-first net built p v.0
 
       light : weight net p (head_place net F p) ≤ weight net p (In c)
-      light = let o = w.order p 0 i v (omega arith) in let k : weight net p (place_of net F p i) ≡ weight net p (In c) = ap (weight net p) e in omega arith
+      light = let o = w.order p 0 i v (omega arith) in let k : weight net p (place_of_flit net F p i) ≡ weight net p (In c) = ap (weight net p) e in omega arith
 
       here : IsPlaced net F.own p (In c)
       here = subst (λ (x : Place). IsPlaced net F.own p x) e (w.placed p i v)
@@ -152,7 +152,7 @@ module _ (net : Setup) (built : IsBuilt net) (wired : IsWired net) (F : State) (
       at Source s =
           let l = light in
           let ws : weight net p (head_place net F p) ≡ 3 * hops net p + 2 = ap (weight net p) s in
-          let k = lighter net built F.own (place_of net F) w p (In c) here (λ z. cc z) in absurd (omega arith)
+          let k = lighter net built F.own (place_of_flit net F) w p (In c) here (λ z. cc z) in absurd (omega arith)
       at (On d) s = absurd (still p 0 first d s)
       at (In d) s = in_channel d s (cases_eq (far_of net p d) (far_of net p c))
       at (Out k) s = inr refl
@@ -171,7 +171,7 @@ module _ (net : Setup) (built : IsBuilt net) (wired : IsWired net) (F : State) (
           from (inl z) = let l : 0 < count_in net F c = ltb-true _ _ (routed-flit c v) in absurd (omega arith)
           from (inr x) =
               let f : Located = x.0 in
-              let there : place_of net F f.packet f.index ≡ In c = place-of-flit net F keyed f x.1 ∙ is_in-is c f.place x.2 in
+              let there : place_of_flit net F f.packet f.index ≡ In c = place-of-flit net F keyed f x.1 ∙ is_in-is c f.place x.2 in
               let valid = keyed.valid f x.1 in
               let h = placed-in net built F keyed w f.packet c (subst (λ (y : Place). IsPlaced net F.own f.packet y) there (w.placed f.packet f.index valid)) in
               whole f.packet h (head-come c f.packet f.index valid there h) (and_left _ _ (ap is_moved v))
@@ -348,7 +348,7 @@ module _ (net : Setup) (built : IsBuilt net) (wired : IsWired net) (F : State) (
       at false k = absurd (false≢true (sym (behind-after net built wired F keyed w n still r c p h k) ∙ e))
       at true k =
           has-channel c T.back (Has-kept (λ d. is_link d && is_moved (verdict_in net F d)) c (inputs net.relation.grid net.relation.vcs) (covered c p h)
-          (and_from _ _ l (and_parts (is_moved (verdict_in net F c)) (is_tail net (first_in net F c)) k).0))
+          (and_from _ _ l (and_parts (is_moved (verdict_in net F c)) (is_tail_of_packet net (front_in net F c)) k).0))
 
   -- a channel that was granted has its tail behind it
   given-behind : (d c : Channel) (p : ℕ) → IsGrant net F d c p → (IsEject c → ⊥) → Has (c, p) T.own → is_past net c (goal net p) (tail_place net T p) ≡ false

@@ -11,7 +11,7 @@ use Rattle.noc_model.specs.Network.{arbiters_at, Setup, State, all_inputs, arriv
 use Rattle.noc_model.proofs.ProgressRecord.{IsBuilt, IsReal}
 use Rattle.noc_route.specs.Channel.{Channel, Eject, Inject, Link, arrival_of, channel_vc, inputs}
 use Rattle.noc_route.proofs.BuiltLemmas.{linked-port}
-use Rattle.noc_router.specs.Verdict.{Claim, Holds, Turns, Stand, Unrouted, Waits, ask_of, ready_port, verdict_of}
+use Rattle.noc_router.specs.Verdict.{Claim, Holds, ArbiterStates, Stand, Unrouted, Waits, ask_of, ready_port, verdict_of}
 use Rattle.noc_router.specs.declared.verdict.Verdict.TheVariants.{Granted, Moved}
 use Rattle.noc_topo.specs.Shape.{local_port, neighbour, nodes, ports}
 use Rattle.noc_topo.specs.Words.{tabulate, Has, below, is_some_of}
@@ -118,7 +118,7 @@ module _ (net : Setup) (built : IsBuilt net) where
         → claim_of net F r c ≡ Waits (Some o)
         → (d : Channel) × Has d (all_inputs net) × (verdict_in net F d ≡ Granted)
     grant-given c r i o lr li e lo waits =
-        let turns : Turns = arbiters_at net F r in
+        let turns : ArbiterStates = arbiters_at net F r in
         let asked : get_or (asks r) i None ≡ Some o = stand-at (λ s. ask_of s.claim) None r i li ∙ ap (λ x. ask_of (stand_of net F r x).claim) e ∙ ap ask_of waits in
         let win = first_in_turn-some (size net) (slice_index (pointers_of turns.channels) o) i (λ x. is_some_of (get_or (asks r) x None) o) li (is_some_of-some _ _ asked) in
         let won = first_in_turn-picks (size net) (slice_index (pointers_of turns.channels) o) win.0 (λ x. is_some_of (get_or (asks r) x None) o) win.1 in
@@ -152,7 +152,7 @@ module _ (net : Setup) (built : IsBuilt net) where
         → claim_of net F r c ≡ Holds o true → nat_lt 0 (count_in net F c) ≡ true
         → (d : Channel) × Has d (all_inputs net) × (verdict_in net F d ≡ Moved)
     flit-moved c r q v o lr lq lv e indices holds flit =
-        let turns : Turns = arbiters_at net F r in
+        let turns : ArbiterStates = arbiters_at net F r in
         let li : q * net.relation.vcs + v < size net = index_below (ports net.relation.grid) net.relation.vcs q v lq lv in
         let is_ready : get_or (ready r) (q * net.relation.vcs + v) None ≡ Some (o / net.relation.vcs)
         = stand-at (λ s. ready_port net.relation.vcs s.claim s.has_flit) None r (q * net.relation.vcs + v) li

@@ -9,7 +9,7 @@ use Rattle.noc_topo.proofs.WordLemmas.{get_or-tabulate, length-map_indexed, get_
 use Rattle.noc_packet.specs.declared.packet.Beat.{Beat}
 use Rattle.noc_router.specs.View.{Site, View, local_step, idle_beat}
 use Rattle.noc_model.specs.Halves.{beat_at}
-use Rattle.noc_model.specs.Lockstep.{beat_from, beats_at, exchanged, lockstep_at, lockstep_cycle, opening_lockstep, site_at}
+use Rattle.noc_model.specs.Lockstep.{beat_from, beats_at, wires_after_puts, lockstep_at, lockstep_cycle, opening_lockstep, site_at}
 use Rattle.noc_model.specs.Network.{Setup}
 use Rattle.noc_model.proofs.RunLemmas.{count_views, linked_wires, past_wires, site_views}
 use Rattle.noc_model.proofs.StepLemmas.{count-decided, local_step-beats}
@@ -52,7 +52,7 @@ module _ (net : Setup) where
   pub sent_beat : (n r port s q : ℕ) (view : View) → slice_get (lockstep_at net n).views r ≡ Some view
       → s < nodes net.relation.grid → q < local_port net.relation.grid → neighbour net.relation.grid s q ≡ Some (r, port)
       → beat_at (lockstep_at net (n + 1)).wires s q ≡ get_or (step_of n r view).1 port idle_beat
-  unfolding lockstep_at lockstep_cycle exchanged
+  unfolding lockstep_at lockstep_cycle wires_after_puts
   sent_beat n r port s q view e in_net in_links from =
       let views = (lockstep_at net n).views in
       let steps = map_indexed (step_of n) views in
@@ -70,7 +70,7 @@ module _ (net : Setup) where
 
   -- no beat comes where there is no link
   pub unlinked_beat : (n r port : ℕ) → neighbour net.relation.grid r port ≡ None → beat_at (lockstep_at net n).wires r port ≡ idle_beat
-  unfolding lockstep_at opening_lockstep lockstep_cycle exchanged
+  unfolding lockstep_at opening_lockstep lockstep_cycle wires_after_puts
   unlinked_beat n r port none =
       ⊎_elim (λ (in_net : r < nodes net.relation.grid).
       ⊎_elim (λ (link : port < local_port net.relation.grid). by n in_net link)

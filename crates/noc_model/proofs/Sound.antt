@@ -3,7 +3,7 @@ use Rattle.std.proofs.Common.{◌≡◌, ◌≢◌, ℕ, ◌≤◌, refl, ap, sy
 use Rattle.std.specs.Prelude.{◌⊎◌}
 use Rattle.std.proofs.lemmas.Bool.{cases_eq}
 use Rattle.noc_route.specs.Channel.{Channel}
-use Rattle.noc_model.specs.Network.{Setup, State, Located, Place, Source, On, In, Out, place_of, count_in, landed_place, after_landing, after_credits, after_injection, after_verdicts, frozen, network_cycle}
+use Rattle.noc_model.specs.Network.{Setup, State, Located, Place, Source, On, In, Out, place_of_flit, count_in, landed_place, after_landing, after_credits, after_injection, after_verdicts, frozen_state, network_cycle}
 use Rattle.noc_model.proofs.BuiltRecord.{IsBuilt}
 use Rattle.noc_model.proofs.GrantLemmas.{IsWired}
 use Rattle.noc_model.proofs.PlaceLemmas.{IsValid, IsKeyed, place-stepped, keyed-stepped}
@@ -11,7 +11,7 @@ use Rattle.noc_model.proofs.WormRecord.{IsWorm, worm-landed, worm-freed}
 use Rattle.noc_model.proofs.InjectionPhase.{IsInjected}
 use Rattle.noc_model.proofs.InjectionState.{worm-after_injection, keyed-after_injection, entries-move, entries-are, entries-apart, all_entries}
 use Rattle.noc_model.proofs.VerdictPhase.{worm-after_verdicts, keyed-after_verdicts}
-use Rattle.noc_model.proofs.RoomLemmas.{held, landed-count}
+use Rattle.noc_model.proofs.RoomLemmas.{places_taken, landed-count}
 use Rattle.noc_model.proofs.InjectionRoom.{room-after_injection}
 use Rattle.noc_model.proofs.VerdictRoom.{room-after_verdicts}
 
@@ -19,15 +19,15 @@ module _ (net : Setup) where
   -- the invariant of the state at the start of a cycle
   pub record IsSoundState (S : State) : Type 0 where
     pub keyed : IsKeyed net S.at
-    pub worm : IsWorm net S.own (place_of net S)
-    pub room : (c : Channel) → held net S c ≤ net.places
+    pub worm : IsWorm net S.own (place_of_flit net S)
+    pub room : (c : Channel) → places_taken net S c ≤ net.places
 
   -- the invariant of the frozen state: nothing is on a wire
   pub record IsSoundFrozen (F : State) : Type 0 where
     pub keyed : IsKeyed net F.at
-    pub worm : IsWorm net F.own (place_of net F)
+    pub worm : IsWorm net F.own (place_of_flit net F)
     pub room : (c : Channel) → count_in net F c ≤ net.places
-    pub still : (p i : ℕ) → IsValid net p i → (c : Channel) → place_of net F p i ≢ On c
+    pub still : (p i : ℕ) → IsValid net p i → (c : Channel) → place_of_flit net F p i ≢ On c
 
   module _ (built : IsBuilt net) (wired : IsWired net) where
     no-landed-on : (x : Place) (c : Channel) → landed_place net x ≡ On c → ⊥
@@ -39,20 +39,20 @@ module _ (net : Setup) where
     pub sound-landed : (S : State) → IsSoundState S → IsSoundFrozen (after_landing net S)
     unfolding after_landing
     sound-landed S s =
-        let goes : (p i : ℕ) → IsValid net p i → place_of net (after_landing net S) p i ≡ landed_place net (place_of net S p i)
+        let goes : (p i : ℕ) → IsValid net p i → place_of_flit net (after_landing net S) p i ≡ landed_place net (place_of_flit net S p i)
         = λ p i v. place-stepped net (λ (f : Located). landed_place net f.place) S (after_landing net S) s.keyed refl p i v in
         record {
           keyed = keyed-stepped net (λ (f : Located). landed_place net f.place) S.at s.keyed;
-          worm = worm-landed net built S.own (place_of net S) (place_of net (after_landing net S)) s.worm goes;
+          worm = worm-landed net built S.own (place_of_flit net S) (place_of_flit net (after_landing net S)) s.worm goes;
           room = λ c. let k = s.room c in let e = landed-count net c S in omega arith;
-          still = λ p i v c e. no-landed-on (place_of net S p i) c (sym (goes p i v) ∙ e);
+          still = λ p i v c e. no-landed-on (place_of_flit net S p i) c (sym (goes p i v) ∙ e);
         }
 
     pub sound-credits : (S : State) → IsSoundFrozen S → IsSoundFrozen (after_credits net S)
     unfolding after_credits
     sound-credits S s = record {
       keyed = s.keyed;
-      worm = worm-freed net built S.own (place_of net S) s.worm;
+      worm = worm-freed net built S.own (place_of_flit net S) s.worm;
       room = s.room;
       still = s.still;
     }
@@ -65,17 +65,17 @@ module _ (net : Setup) where
       still = λ p i v c e. moved p i v c e (entries-move net built S s.keyed s.worm n p v.0);
     }
       where
-        moved : (p i : ℕ) → IsValid net p i → (c : Channel) → place_of net (after_injection net n S) p i ≡ On c
-            → IsInjected net built S.own (place_of net S) s.worm (all_entries net built S s.keyed s.worm n) (entries-are net built S s.keyed s.worm n) (entries-apart net built S s.keyed s.worm n) (place_of net (after_injection net n S)) p → ⊥
+        moved : (p i : ℕ) → IsValid net p i → (c : Channel) → place_of_flit net (after_injection net n S) p i ≡ On c
+            → IsInjected net built S.own (place_of_flit net S) s.worm (all_entries net built S s.keyed s.worm n) (entries-are net built S s.keyed s.worm n) (entries-apart net built S s.keyed s.worm n) (place_of_flit net (after_injection net n S)) p → ⊥
         moved p i v c e (inl k) = s.still p i v c (sym (k.0 i v) ∙ e)
         moved p i v c e (inr r) = at (cases_eq i r.3.flit)
           where
             at : (i ≡ r.3.flit) ⊎ (i ≡ r.3.flit → ⊥) → ⊥
-            at (inl k) = let z : In r.0.channel ≡ On c = sym (ap (place_of net (after_injection net n S) p) k ∙ r.3.now) ∙ e in cc z
+            at (inl k) = let z : In r.0.channel ≡ On c = sym (ap (place_of_flit net (after_injection net n S) p) k ∙ r.3.now) ∙ e in cc z
             at (inr k) = s.still p i v c (sym (r.3.others i v k) ∙ e)
 
-    pub sound-frozen : (n : ℕ) (S : State) → IsSoundState S → IsSoundFrozen (frozen net n S)
-    unfolding frozen after_injection
+    pub sound-frozen : (n : ℕ) (S : State) → IsSoundState S → IsSoundFrozen (frozen_state net n S)
+    unfolding frozen_state after_injection
     sound-frozen n S s = sound-injection n (after_credits net (after_landing net S)) (sound-credits (after_landing net S) (sound-landed S s))
 
     pub sound-verdicts : (n : ℕ) (F : State) → IsSoundFrozen F → IsSoundState (after_verdicts net n F)
@@ -87,4 +87,4 @@ module _ (net : Setup) where
 
     pub sound-cycle : (n : ℕ) (S : State) → IsSoundState S → IsSoundState (network_cycle net n S)
     unfolding network_cycle after_verdicts
-    sound-cycle n S s = sound-verdicts n (frozen net n S) (sound-frozen n S s)
+    sound-cycle n S s = sound-verdicts n (frozen_state net n S) (sound-frozen n S s)

@@ -7,7 +7,7 @@ use Rattle.noc_topo.specs.Words.{Has}
 use Rattle.noc_route.specs.Channel.{Channel, same_channel}
 use Rattle.noc_router.proofs.FindLemmas.{find-at}
 use Rattle.noc_model.specs.Lockstep.{seen_source, goes_on_by}
-use Rattle.noc_model.specs.Network.{Setup, State, size, arriving, leaving, place_of, owner_of, owned_by, next_channel, leads_from, all_inputs}
+use Rattle.noc_model.specs.Network.{Setup, State, size, arriving, leaving, place_of_flit, owner_of, owned_by, next_channel, leads_from, all_inputs}
 use Rattle.noc_model.proofs.BufferLemmas.{same_channel-refl, same_channel-true}
 use Rattle.noc_model.proofs.MoveLemmas.{IsNext, next-is, next-once, leads-end, no-end-eject}
 use Rattle.noc_model.proofs.OwnedLemmas.{owner-has, once-same}
@@ -18,7 +18,7 @@ use Rattle.noc_model.proofs.NextLemmas.{next-from}
 use Rattle.noc_model.proofs.Ordered.{IsGood}
 use Rattle.noc_model.proofs.PlaceViews.{IsAt, arriving-at, input-at, same-place, begins-at}
 
-module _ (net : Setup) (good : IsGood net) (S : State) (keyed : IsKeyed net S.at) (w : IsWorm net S.own (place_of net S)) where
+module _ (net : Setup) (good : IsGood net) (S : State) (keyed : IsKeyed net S.at) (w : IsWorm net S.own (place_of_flit net S)) where
   -- one owner
   pub same-owner : (c : Channel) (p q : ℕ) → Has (c, p) S.own → Has (c, q) S.own → p ≡ q
   same-owner c p q h k = ap (λ (z : Channel × ℕ). z.1) (once-same (c, p) (c, q) S.own w.once h k refl)

@@ -7,7 +7,7 @@ use Rattle.noc_topo.specs.Words.{below, Has, least_by}
 use Rattle.noc_packet.specs.declared.packet.Packet.{Packet}
 use Rattle.noc_route.specs.Channel.{Channel, Link, Inject, Eject}
 use Rattle.noc_model.specs.Lockstep.{has_flit_at_source}
-use Rattle.noc_model.specs.Network.{Setup, State, Located, packet_at, place_of, flits_of, owned_by, is_at_source, is_injection_of, first_waiting}
+use Rattle.noc_model.specs.Network.{Setup, State, Located, packet_at, place_of_flit, flits_of, owned_by, is_at_source, is_injection_of, first_waiting}
 use Rattle.noc_model.proofs.BuiltRecord.{IsBuilt}
 use Rattle.noc_model.proofs.BufferLemmas.{find-passes}
 use Rattle.noc_model.proofs.InjectionPhase.{two-injects}
@@ -31,13 +31,13 @@ injection-is net node (Link a b w) e = absurd (false≢true e)
 injection-is net node (Inject m w) e = (w, ap (λ k. Inject k w) (eqb-true m node e))
 injection-is net node (Eject m w) e = absurd (false≢true e)
 
-module _ (net : Setup) (built : IsBuilt net) (S : State) (keyed : IsKeyed net S.at) (w : IsWorm net S.own (place_of net S)) where
+module _ (net : Setup) (built : IsBuilt net) (S : State) (keyed : IsKeyed net S.at) (w : IsWorm net S.own (place_of_flit net S)) where
   pub injection-at : (p node v : ℕ) → Has (Inject node v, p) S.own → find (is_injection_of net node) (owned_by net S p) ≡ Some (Inject node v)
   injection-at p node v h =
       let r = find-some (is_injection_of net node) (owned_by net S p) (Inject node v) (has-of (Inject node v) p S.own h) (eq-eqb node node refl) in
       let i = injection-is net node r.0 (find-passes (is_injection_of net node) (owned_by net S p) r.0 r.1) in
       let own : Has (Inject node i.0, p) S.own = subst (λ (c : Channel). Has (c, p) S.own) i.1 (of-has r.0 p S.own (find-has (is_injection_of net node) (owned_by net S p) r.0 r.1)) in
-      r.1 ∙ ap Some (i.1 ∙ two-injects net built S.own (place_of net S) w p node i.0 node v own h)
+      r.1 ∙ ap Some (i.1 ∙ two-injects net built S.own (place_of_flit net S) w p node i.0 node v own h)
 
   pub injection-own : (p node : ℕ) (c : Channel) → find (is_injection_of net node) (owned_by net S p) ≡ Some c → (v : ℕ) × (c ≡ Inject node v) × Has (Inject node v, p) S.own
   injection-own p node c e =

@@ -15,8 +15,8 @@ use Rattle.noc_vc.specs.Input.{Input, is_empty}
 use Rattle.noc_vc.specs.Output.{Output, is_free, has_credit}
 use Rattle.noc_vc.specs.declared.input.InputState.TheVariants.{Idle}
 use Rattle.noc_vc.specs.declared.output.OutputState.TheVariants.{Owned, Draining}
-use Rattle.noc_router.specs.Verdict.{Claim, Unrouted, Waits, Holds, Stand, Round, Turns, round_of, verdict_of, out_of}
-use Rattle.noc_router.specs.View.{Site, View, size_of, view_buffer, view_input, view_output, asked_for, claim_in, view_claim, view_stand, view_stands, view_round, planned, finding_of, port_and_vc}
+use Rattle.noc_router.specs.Verdict.{Claim, Unrouted, Waits, Holds, Stand, Round, ArbiterStates, round_of, verdict_of, out_of}
+use Rattle.noc_router.specs.View.{Site, View, size_of, view_buffer, view_input, view_output, asked_for, claim_in, view_claim, view_stand, view_stands, view_round, decisions_of, finding_of, port_and_vc}
 use Rattle.noc_router.specs.declared.verdict.Verdict.{Verdict}
 use Rattle.noc_router.specs.declared.verdict.Verdict.TheVariants.{Empty}
 use Rattle.noc_router.specs.declared.verdict.Finding.{Finding}
@@ -59,7 +59,7 @@ module _ (net : Setup) (good : IsGood net) (F : State) (x : IsOrderedFrozen net 
   pub next-from : (i p : ℕ) (c o : Channel) → IsAt net good r i c → Has (c, p) F.own → next_channel net F c ≡ Some o → (j : ℕ) × IsFrom net good r j o
   next-from i p c o at h e = by o (next-is net good.built F x.whole.sound.keyed x.whole.sound.worm p c o h e)
     where
-      end : (o : Channel) → leads_from net c o ≡ true → (s : ℕ) → Rattle.noc_route.specs.Channel.begin o ≡ Some s → s ≡ r
+      end : (o : Channel) → leads_from net c o ≡ true → (s : ℕ) → Rattle.noc_route.specs.Channel.sending_router o ≡ Some s → s ≡ r
       end o leads s b =
           let q = leads-end net c o leads in
           let a : q.0 ≡ s = Rattle.std.proofs.lemmas.Option.same_Some _ _ (sym q.1 ∙ b) in
@@ -171,7 +171,7 @@ module _ (net : Setup) (good : IsGood net) (F : State) (x : IsOrderedFrozen net 
   round-is =
       ap (λ (s : Site). round_of (ports s.grid) s.vcs (view_stands v) v.arbiters) seen.site
       ∙ ap (λ (stands : List Stand). round_of (ports net.relation.grid) net.relation.vcs stands v.arbiters) stands-are
-      ∙ ap (λ (turns : Turns). round_of (ports net.relation.grid) net.relation.vcs (stands_at net F r) turns) seen.arbiters
+      ∙ ap (λ (turns : ArbiterStates). round_of (ports net.relation.grid) net.relation.vcs (stands_at net F r) turns) seen.arbiters
 
   -- ---- verdicts
 
@@ -220,8 +220,8 @@ module _ (net : Setup) (good : IsGood net) (F : State) (x : IsOrderedFrozen net 
           all ∙ sym (ap (finding_in net F r i) e)
 
   -- what is found is what is found of the state
-  pub findings-are : (planned net.relation v).findings ≡ tabulate (size net) (λ i. finding_in net F r i (arriving net r i))
-  unfolding planned
+  pub findings-are : (decisions_of net.relation v).findings ≡ tabulate (size net) (λ i. finding_in net F r i (arriving net r i))
+  unfolding decisions_of
   findings-are =
       ap (λ n. tabulate n (finding_of (view_round v) v)) same_size
       ∙ tabulate-from_each (size net) (λ i. finding_in net F r i (arriving net r i)) (tabulate (size net) (finding_of (view_round v) v)) (record { verdict = Empty; packet = None; out = None })

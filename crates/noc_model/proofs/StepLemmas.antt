@@ -7,9 +7,9 @@ use Rattle.noc_topo.specs.Shape.{Grid, local_port}
 use Rattle.noc_topo.proofs.WordLemmas.{length-tabulate, get_or-tabulate, tabulate-from_each}
 use Rattle.noc_packet.specs.declared.packet.Beat.{Beat}
 use Rattle.noc_route.specs.Routes.{Routes}
-use Rattle.noc_router.specs.View.{Site, View, Decisions, IsRelationOf, taken, taken_from, all_taken, injected, planned, committed, local_step, with_flit, with_credit, with_arrival, tail_packet, flit_out, idle_beat}
+use Rattle.noc_router.specs.View.{Site, View, Decisions, IsRelationOf, view_after_take, view_after_takes_from, view_after_takes, view_after_inject, decisions_of, view_after_commit, local_step, with_flit, with_credit, with_arrival, tail_packet, flit_out, idle_beat}
 use Rattle.noc_router.proofs.SiteLemmas.{all_taken-site, committed-site, injected-site}
-use Rattle.noc_model.specs.Halves.{IsSilent, decided, emptied, incoming}
+use Rattle.noc_model.specs.Halves.{IsSilent, view_after_decide, view_after_puts, incoming}
 
 either_count : (b : Bool) (x y : View) (n : ℕ) → length x.to_put ≡ n → length y.to_put ≡ n → length (if b then x else y).to_put ≡ n
 either_count true x y n p q = p
@@ -19,31 +19,31 @@ count-with_arrival : (p : Option ℕ) (v : View) → length (with_arrival p v).t
 count-with_arrival None v = refl
 count-with_arrival (Some p) v = either_count _ _ _ (length v.to_put) refl refl
 
-pub count-committed : (d : Decisions) (v : View) → length (committed d v).to_put ≡ local_port v.site.grid
-unfolding committed
+pub count-committed : (d : Decisions) (v : View) → length (view_after_commit d v).to_put ≡ local_port v.site.grid
+unfolding view_after_commit
 count-committed d v = count-with_arrival (tail_packet (flit_out v d.round (local_port v.site.grid))) _ ∙ length-tabulate (local_port v.site.grid) _
 
-pub site-decided : (relation : Routes) (n : ℕ) (beats : List Beat) (v : View) → (decided relation n beats v).site ≡ v.site
-unfolding decided
+pub site-decided : (relation : Routes) (n : ℕ) (beats : List Beat) (v : View) → (view_after_decide relation n beats v).site ≡ v.site
+unfolding view_after_decide
 site-decided relation n beats v =
-    let taken_site : (all_taken relation beats v).site ≡ v.site = all_taken-site relation beats v in
-    let injected_site : (injected n (all_taken relation beats v)).site ≡ v.site = injected-site n (all_taken relation beats v) ∙ taken_site in
-    committed-site (planned relation (injected n (all_taken relation beats v))) (injected n (all_taken relation beats v)) ∙ injected_site
+    let taken_site : (view_after_takes relation beats v).site ≡ v.site = all_taken-site relation beats v in
+    let injected_site : (view_after_inject n (view_after_takes relation beats v)).site ≡ v.site = injected-site n (view_after_takes relation beats v) ∙ taken_site in
+    committed-site (decisions_of relation (view_after_inject n (view_after_takes relation beats v))) (view_after_inject n (view_after_takes relation beats v)) ∙ injected_site
 
-pub count-decided : (relation : Routes) (n : ℕ) (beats : List Beat) (v : View) → length (decided relation n beats v).to_put ≡ local_port v.site.grid
-unfolding decided
+pub count-decided : (relation : Routes) (n : ℕ) (beats : List Beat) (v : View) → length (view_after_decide relation n beats v).to_put ≡ local_port v.site.grid
+unfolding view_after_decide
 count-decided relation n beats v =
-    let frozen = injected n (all_taken relation beats v) in
-    let injected_site : (injected n (all_taken relation beats v)).site ≡ v.site = injected-site n (all_taken relation beats v) ∙ all_taken-site relation beats v in
-    count-committed (planned relation frozen) frozen ∙ ap (λ (s : Site). local_port s.grid) injected_site
+    let frozen = view_after_inject n (view_after_takes relation beats v) in
+    let injected_site : (view_after_inject n (view_after_takes relation beats v)).site ≡ v.site = injected-site n (view_after_takes relation beats v) ∙ all_taken-site relation beats v in
+    count-committed (decisions_of relation frozen) frozen ∙ ap (λ (s : Site). local_port s.grid) injected_site
 
 -- the whole step is the first half, and then all beats are put
-pub local_step-view : (relation : Routes) (v : View) (beats : List Beat) (n : ℕ) → (local_step relation v beats n).0 ≡ emptied (decided relation n beats v)
-unfolding decided local_step
+pub local_step-view : (relation : Routes) (v : View) (beats : List Beat) (n : ℕ) → (local_step relation v beats n).0 ≡ view_after_puts (view_after_decide relation n beats v)
+unfolding view_after_decide local_step
 local_step-view relation v beats n = refl
 
-pub local_step-beats : (relation : Routes) (v : View) (beats : List Beat) (n : ℕ) → (local_step relation v beats n).1 ≡ (decided relation n beats v).to_put
-unfolding decided local_step
+pub local_step-beats : (relation : Routes) (v : View) (beats : List Beat) (n : ℕ) → (local_step relation v beats n).1 ≡ (view_after_decide relation n beats v).to_put
+unfolding view_after_decide local_step
 local_step-beats relation v beats n = refl
 
 pub site-local_step : (relation : Routes) (v : View) (beats : List Beat) (n : ℕ) → (local_step relation v beats n).0.site ≡ v.site
@@ -58,15 +58,15 @@ IsRelationOf-same_site relation v w same fits = record {
 -- ---- taking port by port
 
 -- an idle beat changes nothing
-taken-idle : (relation : Routes) (port : ℕ) (beat : Beat) (v : View) → beat ≡ idle_beat → taken relation port beat v ≡ v
-unfolding taken
+taken-idle : (relation : Routes) (port : ℕ) (beat : Beat) (v : View) → beat ≡ idle_beat → view_after_take relation port beat v ≡ v
+unfolding view_after_take
 taken-idle relation port beat v idle = ap (λ b. with_credit port b.credit (with_flit relation port b.flit v)) idle
 
--- .. nor do idle beats at all ports
-taken-silent : (relation : Routes) (port : ℕ) (beats : List Beat) (v : View) → IsSilent beats → taken_from relation port beats v ≡ v
+-- idle beats at all ports change nothing
+taken-silent : (relation : Routes) (port : ℕ) (beats : List Beat) (v : View) → IsSilent beats → view_after_takes_from relation port beats v ≡ v
 taken-silent relation port [] v silent = refl
 taken-silent relation port (beat ∷ beats) v silent =
-    ap (taken_from relation (port + 1) beats) (taken-idle relation port beat v (silent 0)) ∙ taken-silent relation (port + 1) beats v (λ k. silent (suc k))
+    ap (view_after_takes_from relation (port + 1) beats) (taken-idle relation port beat v (silent 0)) ∙ taken-silent relation (port + 1) beats v (λ k. silent (suc k))
 
 -- the beats for the link ports, where that of one of them is another one now
 pub incoming-set : (grid : Grid) (beats : List Beat) (port : ℕ) (beat : Beat) → port < local_port grid → port < length beats → incoming grid (set beats port beat) ≡ set (incoming grid beats) port beat
@@ -83,8 +83,8 @@ incoming-set grid beats port beat l m =
     (cases_eq k port)))
 
 -- where nothing came, nothing is taken
-pub taken_end : (relation : Routes) (grid : Grid) (beats : List Beat) (v : View) → IsSilent beats → all_taken relation (incoming grid beats) v ≡ v
-unfolding all_taken incoming
+pub taken_end : (relation : Routes) (grid : Grid) (beats : List Beat) (v : View) → IsSilent beats → view_after_takes relation (incoming grid beats) v ≡ v
+unfolding view_after_takes incoming
 taken_end relation grid beats v silent = taken-silent relation 0 (incoming grid beats) v (λ port.
     ⊎_elim (λ (l : port < local_port grid). get_or-tabulate (local_port grid) port (λ k. get_or beats k idle_beat) idle_beat l ∙ silent port)
     (λ (past : local_port grid ≤ port). get_or_past (incoming grid beats) port idle_beat (let n = length-tabulate (local_port grid) (λ k. get_or beats k idle_beat) in omega arith))

@@ -11,14 +11,14 @@ use Rattle.noc_topo.proofs.WordLemmas.{get_or-map_indexed, get_or-tabulate, leng
 use Rattle.noc_packet.specs.declared.packet.Packet.{Packet}
 use Rattle.noc_packet.specs.declared.packet.Beat.{Beat}
 use Rattle.noc_route.specs.Routes.{Routes}
-use Rattle.noc_router.specs.Still.{IsHeldBefore, counted_times, takes_effect, waited}
-use Rattle.noc_router.specs.View.{View, Decisions, all_taken, begun_on, committed, counted, decided_verdict, flit_out, idle_beat, idle_beats, injected, injected_from, is_vacant, local_channel, local_step, opening_view, planned, tail_packet, view_buffer, view_round, with_arrival, with_injected}
+use Rattle.noc_router.specs.Still.{IsHeldBefore, counted_times, takes_effect, view_after_waiting}
+use Rattle.noc_router.specs.View.{View, Decisions, view_after_takes, begun_on, view_after_commit, counts_after, decided_verdict, flit_out, idle_beat, idle_beats, view_after_inject, view_after_inject_from, is_vacant, local_channel, local_step, opening_view, decisions_of, tail_packet, view_buffer, view_round, with_arrival, with_injected}
 use Rattle.noc_router.proofs.QuietLemmas.{at_replicate}
 use Rattle.noc_router.proofs.StillLemmas.{map_indexed-same, still-committed}
-use Rattle.noc_model.specs.Halves.{IsSilent, decided, emptied, incoming}
+use Rattle.noc_model.specs.Halves.{IsSilent, view_after_decide, view_after_puts, incoming}
 use Rattle.noc_model.specs.Lockstep.{lockstep_at, lockstep_cycle, opening_lockstep, beats_at, beat_from, site_at, starts_at, ends_at}
 use Rattle.noc_model.specs.Network.{Setup}
-use Rattle.noc_model.specs.Unseen.{AreInStepUnseen, advanced, unseen}
+use Rattle.noc_model.specs.Unseen.{AreInStepUnseen, unseen_after_decide, without_findings}
 use Rattle.noc_model.proofs.RunLemmas.{count_views, silent_at}
 use Rattle.noc_model.proofs.StepLemmas.{local_step-view, taken_end}
 use Rattle.noc_model.proofs.UnseenLemmas.{next-unseen, unseen-count}
@@ -26,7 +26,7 @@ use Rattle.noc_model.proofs.UnseenLemmas.{next-unseen, unseen-count}
 -- ---- one router
 -- one more cycle n in which nothing happens
 abbrev once : Routes → ℕ → View → View
-once relation n v = record v { counts = map_indexed (λ i counts. counted (decided_verdict (planned relation v) i) counts) v.counts; given = n }
+once relation n v = record v { counts = map_indexed (λ i counts. counts_after (decided_verdict (decisions_of relation v) i) counts) v.counts; given = n }
 
 -- k such cycles from cycle n on
 waiting : Routes → ℕ → ℕ → View → View
@@ -37,11 +37,11 @@ waiting relation n (suc k) v = once relation (n + k) (waiting relation n k v)
 abbrev with_counts : List (List ℕ) → ℕ → View → View
 with_counts counts n v = record v { counts = counts; given = n }
 
-planned-counts : (relation : Routes) (counts : List (List ℕ)) (n : ℕ) (v : View) → planned relation (with_counts counts n v) ≡ planned relation v
-unfolding planned view_round
+planned-counts : (relation : Routes) (counts : List (List ℕ)) (n : ℕ) (v : View) → decisions_of relation (with_counts counts n v) ≡ decisions_of relation v
+unfolding decisions_of view_round
 planned-counts relation counts n v = refl
 
--- .. nor of what is injected
+-- counts, and the cycle that was last, change nothing of what is injected
 abbrev but_counts : List (List ℕ) → View → View
 but_counts counts v = record v { counts = counts }
 
@@ -54,7 +54,7 @@ counts-begun_on counts None number p rest v = refl
 counts-begun_on counts (Some vc) number p rest v = refl
 
 counts-injected_from : (counts : List (List ℕ)) (n : ℕ) (queue : List (ℕ × Packet)) (sending : Option (ℕ × ℕ)) (v : View)
-    → injected_from n queue sending (but_counts counts v) ≡ but_counts counts (injected_from n queue sending v)
+    → view_after_inject_from n queue sending (but_counts counts v) ≡ but_counts counts (view_after_inject_from n queue sending v)
 counts-injected_from counts n [] sending v = refl
 counts-injected_from counts n ((number, p) ∷ rest) (Some (vc, index)) v =
     either_counts counts (nat_lt (length (view_buffer v (local_channel v.site vc))) v.site.places) (with_injected vc index number p rest v) v
@@ -62,44 +62,44 @@ counts-injected_from counts n ((number, p) ∷ rest) None v =
     ap (λ x. if nat_le p.due n then x else but_counts counts v) (counts-begun_on counts (find (is_vacant v) (below v.site.vcs)) number p rest v)
     ∙ either_counts counts (nat_le p.due n) (begun_on (find (is_vacant v) (below v.site.vcs)) number p rest v) v
 
-injected-counts : (counts : List (List ℕ)) (m n : ℕ) (v : View) → injected m (with_counts counts n v) ≡ but_counts counts (injected m v)
-unfolding injected
+injected-counts : (counts : List (List ℕ)) (m n : ℕ) (v : View) → view_after_inject m (with_counts counts n v) ≡ but_counts counts (view_after_inject m v)
+unfolding view_after_inject
 injected-counts counts m n v = counts-injected_from counts m v.queue v.sending (record v { given = m })
 
 -- after such cycles only these two are others
 waiting-parts : (relation : Routes) (n k : ℕ) (v : View)
-    → waiting relation n k v ≡ with_counts (map_indexed (λ i counts. counted_times k (decided_verdict (planned relation v) i) counts) v.counts) (waiting relation n k v).given v
+    → waiting relation n k v ≡ with_counts (map_indexed (λ i counts. counted_times k (decided_verdict (decisions_of relation v) i) counts) v.counts) (waiting relation n k v).given v
 unfolding waiting
 waiting-parts relation n zero v = ap (λ counts. record v { counts = counts }) (sym (map_indexed-same (λ i counts. counts) v.counts [] (λ i counts. refl)))
 waiting-parts relation n (suc k) v =
-    let d = planned relation v in
+    let d = decisions_of relation v in
     let f : ℕ → List ℕ → List ℕ = λ i counts. counted_times k (decided_verdict d i) counts in
     let w = waiting relation n k v in
     let before : w ≡ with_counts (map_indexed f v.counts) w.given v = waiting-parts relation n k v in
     ap (once relation (n + k)) before
-    ∙ ap (λ (p : Decisions). with_counts (map_indexed (λ i counts. counted (decided_verdict p i) counts) (map_indexed f v.counts)) (n + k) v) (planned-counts relation (map_indexed f v.counts) w.given v)
+    ∙ ap (λ (p : Decisions). with_counts (map_indexed (λ i counts. counts_after (decided_verdict p i) counts) (map_indexed f v.counts)) (n + k) v) (planned-counts relation (map_indexed f v.counts) w.given v)
     ∙ ap (λ counts. with_counts counts (n + k) v)
-    (map_indexed-from_each (λ i counts. counted_times (suc k) (decided_verdict d i) counts) v.counts (map_indexed (λ i counts. counted (decided_verdict d i) counts) (map_indexed f v.counts)) [] []
+    (map_indexed-from_each (λ i counts. counted_times (suc k) (decided_verdict d i) counts) v.counts (map_indexed (λ i counts. counts_after (decided_verdict d i) counts) (map_indexed f v.counts)) [] []
     (length-map_indexed _ (map_indexed f v.counts) ∙ length-map_indexed f v.counts)
-    (λ i l. get_or-map_indexed (λ i counts. counted (decided_verdict d i) counts) (map_indexed f v.counts) i [] [] (omega (arith, length-map_indexed f v.counts))
-    ∙ ap (counted (decided_verdict d i)) (get_or-map_indexed f v.counts i [] [] l)))
+    (λ i l. get_or-map_indexed (λ i counts. counts_after (decided_verdict d i) counts) (map_indexed f v.counts) i [] [] (omega (arith, length-map_indexed f v.counts))
+    ∙ ap (counts_after (decided_verdict d i)) (get_or-map_indexed f v.counts i [] [] l)))
 
-waiting-is : (relation : Routes) (n k : ℕ) (v : View) → waiting relation n (suc k) v ≡ waited relation (suc k) (n + k) v
-unfolding waited waiting
+waiting-is : (relation : Routes) (n k : ℕ) (v : View) → waiting relation n (suc k) v ≡ view_after_waiting relation (suc k) (n + k) v
+unfolding view_after_waiting waiting
 waiting-is relation n k v = waiting-parts relation n (suc k) v
 
 -- it does what it did
 waiting-effect : (relation : Routes) (n k : ℕ) (v : View) → takes_effect relation v ≡ false → takes_effect relation (waiting relation n k v) ≡ false
 waiting-effect relation n k v off =
-    let same : planned relation (waiting relation n k v) ≡ planned relation v =
-    ap (planned relation) (waiting-parts relation n k v) ∙ planned-counts relation _ _ v in
+    let same : decisions_of relation (waiting relation n k v) ≡ decisions_of relation v =
+    ap (decisions_of relation) (waiting-parts relation n k v) ∙ planned-counts relation _ _ v in
     rw same off
 
-waiting-held : (relation : Routes) (n k m : ℕ) (v : View) → injected m v ≡ record v { given = m } → injected m (waiting relation n k v) ≡ record (waiting relation n k v) { given = m }
+waiting-held : (relation : Routes) (n k m : ℕ) (v : View) → view_after_inject m v ≡ record v { given = m } → view_after_inject m (waiting relation n k v) ≡ record (waiting relation n k v) { given = m }
 waiting-held relation n k m v held =
     let w = waiting relation n k v in
-    let counts = map_indexed (λ i counts. counted_times k (decided_verdict (planned relation v) i) counts) v.counts in
-    ap (injected m) (waiting-parts relation n k v) ∙ injected-counts counts m w.given v ∙ ap (but_counts counts) held
+    let counts = map_indexed (λ i counts. counted_times k (decided_verdict (decisions_of relation v) i) counts) v.counts in
+    ap (view_after_inject m) (waiting-parts relation n k v) ∙ injected-counts counts m w.given v ∙ ap (but_counts counts) held
     ∙ sym (ap (λ (x : View). record x { given = m }) (waiting-parts relation n k v))
 
 -- ---- a router between its cycles
@@ -115,29 +115,29 @@ event-with_arrival : (p : Option ℕ) (v : View) → v.had_event ≡ false → (
 event-with_arrival None v e = e
 event-with_arrival (Some p) v e = either_event _ _ _ e e
 
-event-committed : (d : Decisions) (v : View) → (committed d v).had_event ≡ false
-unfolding committed
+event-committed : (d : Decisions) (v : View) → (view_after_commit d v).had_event ≡ false
+unfolding view_after_commit
 event-committed d v = event-with_arrival (tail_packet (flit_out v d.round (local_port v.site.grid))) _ refl
 
-between-decided : (relation : Routes) (n : ℕ) (beats : List Beat) (v : View) → IsBetween (emptied (decided relation n beats v))
-unfolding decided
-between-decided relation n beats v = let frozen = injected n (all_taken relation beats v) in record { no_event = event-committed (planned relation frozen) frozen; beats = refl }
+between-decided : (relation : Routes) (n : ℕ) (beats : List Beat) (v : View) → IsBetween (view_after_puts (view_after_decide relation n beats v))
+unfolding view_after_decide
+between-decided relation n beats v = let frozen = view_after_inject n (view_after_takes relation beats v) in record { no_event = event-committed (decisions_of relation frozen) frozen; beats = refl }
 
 -- after the first half of a cycle in which nothing happens
-still-half : (relation : Routes) (n : ℕ) (beats : List Beat) (v : View) → IsSilent beats → takes_effect relation v ≡ false → injected n v ≡ record v { given = n } → IsBetween v
-    → advanced relation n (incoming relation.grid beats) v ≡ once relation n v
-unfolding advanced decided
+still-half : (relation : Routes) (n : ℕ) (beats : List Beat) (v : View) → IsSilent beats → takes_effect relation v ≡ false → view_after_inject n v ≡ record v { given = n } → IsBetween v
+    → unseen_after_decide relation n (incoming relation.grid beats) v ≡ once relation n v
+unfolding unseen_after_decide view_after_decide
 still-half relation n beats v silent off held between =
     let w = record v { given = n } in
-    let frozen : injected n (all_taken relation (incoming relation.grid beats) v) ≡ w = ap (injected n) (taken_end relation relation.grid beats v silent) ∙ held in
-    let same : planned relation w ≡ planned relation v = planned-counts relation v.counts n v in
+    let frozen : view_after_inject n (view_after_takes relation (incoming relation.grid beats) v) ≡ w = ap (view_after_inject n) (taken_end relation relation.grid beats v silent) ∙ held in
+    let same : decisions_of relation w ≡ decisions_of relation v = planned-counts relation v.counts n v in
     let still : takes_effect relation w ≡ false = rw same off in
-    let counts = map_indexed (λ i counts. counted (decided_verdict (planned relation v) i) counts) v.counts in
-    ap (λ (x : View). record (committed (planned relation x) x) { findings = v.findings }) frozen
+    let counts = map_indexed (λ i counts. counts_after (decided_verdict (decisions_of relation v) i) counts) v.counts in
+    ap (λ (x : View). record (view_after_commit (decisions_of relation x) x) { findings = v.findings }) frozen
     ∙ ap (λ (x : View). record x { findings = v.findings }) (still-committed relation w still)
     ∙ ap (λ (d : Decisions). record v {
       given = n;
-      counts = map_indexed (λ i counts. counted (decided_verdict d i) counts) v.counts;
+      counts = map_indexed (λ i counts. counts_after (decided_verdict d i) counts) v.counts;
       to_put = idle_beats v.site;
       last_event = if v.had_event then Some n else v.last_event;
       had_event = false;
@@ -167,14 +167,14 @@ module _ (net : Setup) where
       ∙ local_step-view net.relation old (beats_at (lockstep_at net n).wires r) n in
       subst IsBetween (sym now) (between-decided net.relation n (beats_at (lockstep_at net n).wires r) old)
 
-  -- .. and so are routers in step with it
+  -- routers in step with the lockstep run are between their cycles
   between-unseen : (n : ℕ) (routers : List View) (beats : List (List Beat)) → AreInStepUnseen net n routers beats → All IsBetween routers
   between-unseen n routers beats in_step r d l =
       let views = (lockstep_at net n).views in
       let in_net : r < nodes net.relation.grid = omega (arith, unseen-count net n routers beats in_step) in
       let in_views : r < length views = omega (arith, count_views net n) in
-      let same : unseen (get_or routers r d) ≡ unseen (get_or views r d) =
-      sym (get_or-map unseen routers r d (unseen d) l) ∙ ap (λ vs. get_or vs r (unseen d)) in_step.views ∙ get_or-map unseen views r d (unseen d) in_views in
+      let same : without_findings (get_or routers r d) ≡ without_findings (get_or views r d) =
+      sym (get_or-map without_findings routers r d (without_findings d) l) ∙ ap (λ vs. get_or vs r (without_findings d)) in_step.views ∙ get_or-map without_findings views r d (without_findings d) in_views in
       let b = between_views n r d in_net in
       record { no_event = ap (λ (v : View). v.had_event) same ∙ b.no_event; beats = ap (λ (v : View). v.to_put) same ∙ b.beats ∙ ap (λ (v : View). idle_beats v.site) (sym same) }
 
@@ -195,17 +195,17 @@ module _ (net : Setup) where
 
   -- one more cycle in which nothing happens
   still-next : (n : ℕ) (routers : List View) (beats : List (List Beat)) → AreInStepUnseen net n routers beats → All IsSilent beats → length beats ≡ nodes net.relation.grid
-      → All (λ v. takes_effect net.relation v ≡ false) routers → All (λ v. injected n v ≡ record v { given = n }) routers
+      → All (λ v. takes_effect net.relation v ≡ false) routers → All (λ v. view_after_inject n v ≡ record v { given = n }) routers
       → AreInStepUnseen net (n + 1) (map (once net.relation n) routers) beats
   still-next n routers beats in_step silent count still held =
       next-unseen net n routers half (map (once net.relation n) routers) beats beats in_step refl after count
       (λ r port l. silent_at beats silent r port ∙ sym (silent-put half between (neighbour net.relation.grid r port)))
     where
       half : List View
-      half = map_indexed (λ r v. advanced net.relation n (incoming net.relation.grid (beats_at beats r)) v) routers
+      half = map_indexed (λ r v. unseen_after_decide net.relation n (incoming net.relation.grid (beats_at beats r)) v) routers
 
       long : length half ≡ length routers
-      long = length-map_indexed (λ r v. advanced net.relation n (incoming net.relation.grid (beats_at beats r)) v) routers
+      long = length-map_indexed (λ r v. unseen_after_decide net.relation n (incoming net.relation.grid (beats_at beats r)) v) routers
 
       -- no beat arrives at a router
       row : (r : ℕ) → IsSilent (beats_at beats r)
@@ -213,7 +213,7 @@ module _ (net : Setup) where
 
       each : (r : ℕ) (d : View) → r < length routers → get_or half r d ≡ once net.relation n (get_or routers r d)
       each r d l =
-          get_or-map_indexed (λ r v. advanced net.relation n (incoming net.relation.grid (beats_at beats r)) v) routers r d d l
+          get_or-map_indexed (λ r v. unseen_after_decide net.relation n (incoming net.relation.grid (beats_at beats r)) v) routers r d d l
           ∙ still-half net.relation n (beats_at beats r) (get_or routers r d) (row r) (still r d l) (held r d l) (between-unseen n routers beats in_step r d l)
 
       between : All IsBetween half
@@ -222,15 +222,15 @@ module _ (net : Setup) where
           let b = between-unseen n routers beats in_step r d in_routers in
           subst IsBetween (sym (each r d in_routers)) (record { no_event = b.no_event; beats = b.beats })
 
-      after : map (once net.relation n) routers ≡ map emptied half
+      after : map (once net.relation n) routers ≡ map view_after_puts half
       after =
-          same_lists (map (once net.relation n) routers) (map emptied half) (length-map routers (once net.relation n) ∙ sym (length-map half emptied ∙ long))
+          same_lists (map (once net.relation n) routers) (map view_after_puts half) (length-map routers (once net.relation n) ∙ sym (length-map half view_after_puts ∙ long))
           (λ i e l.
           let in_routers : i < length routers = omega (arith, length-map routers (once net.relation n)) in
           let v = get_or routers i e in
           get_or-map (once net.relation n) routers i e e in_routers
           ∙ ap (λ beats. record (once net.relation n v) { to_put = beats }) (between-unseen n routers beats in_step i e in_routers).beats
-          ∙ sym (get_or-map emptied half i e e (omega (arith, long)) ∙ ap emptied (each i e in_routers)))
+          ∙ sym (get_or-map view_after_puts half i e e (omega (arith, long)) ∙ ap view_after_puts (each i e in_routers)))
 
   -- k more of them
   still-run : (k n : ℕ) (routers : List View) (beats : List (List Beat)) → AreInStepUnseen net n routers beats → All IsSilent beats → length beats ≡ nodes net.relation.grid
@@ -248,7 +248,7 @@ module _ (net : Setup) where
       (λ r d l. let i : r < length routers = omega (arith, length-map routers w) in
       ap (takes_effect net.relation) (get_or_default (map w routers) r d (w d) l ∙ get_or-map w routers r d (w d) i) ∙ waiting-effect net.relation n k (get_or routers r d) (still r d i))
       (λ r d l. let i : r < length routers = omega (arith, length-map routers w) in
-      subst (λ (v : View). injected (n + k) v ≡ record v { given = n + k }) (sym (get_or_default (map w routers) r d (w d) l ∙ get_or-map w routers r d (w d) i))
+      subst (λ (v : View). view_after_inject (n + k) v ≡ record v { given = n + k }) (sym (get_or_default (map w routers) r d (w d) l ∙ get_or-map w routers r d (w d) i))
       (waiting-held net.relation n k (n + k) (get_or routers r d) (held r d i (n + k) (omega arith)))) in
       subst (λ m. AreInStepUnseen net m (map (waiting net.relation n (suc k)) routers) beats) more
       (subst (λ vs. AreInStepUnseen net (n + k + 1) vs beats) (map-map (once net.relation (n + k)) w routers) next)
@@ -256,21 +256,21 @@ module _ (net : Setup) where
   -- where no beat is in flight, and no router does anything by itself before the end, all cycles up to there are those that wait
   pub still-wait : (first end : ℕ) (routers : List View) (beats : List (List Beat)) → first < end → AreInStepUnseen net first routers beats → All IsSilent beats → length beats ≡ nodes net.relation.grid
       → All (λ v. takes_effect net.relation v ≡ false) routers → All (IsHeldBefore end) routers
-      → AreInStepUnseen net end (map (waited net.relation (end - first) (end - 1)) routers) beats
+      → AreInStepUnseen net end (map (view_after_waiting net.relation (end - first) (end - 1)) routers) beats
   still-wait first end routers beats less in_step silent count still held = at (end - first) refl
     where
-      at : (k : ℕ) → end - first ≡ k → AreInStepUnseen net end (map (waited net.relation (end - first) (end - 1)) routers) beats
+      at : (k : ℕ) → end - first ≡ k → AreInStepUnseen net end (map (view_after_waiting net.relation (end - first) (end - 1)) routers) beats
       at zero e = absurd (omega arith)
       at (suc k) e =
           let there : first + suc k ≡ end = omega arith in
           let last : first + k ≡ end - 1 = omega arith in
           let run = still-run (suc k) first routers beats in_step silent count still (λ r d l m small. held r d l m (omega arith)) in
           let w = waiting net.relation first (suc k) in
-          let v = waited net.relation (end - first) (end - 1) in
+          let v = view_after_waiting net.relation (end - first) (end - 1) in
           let same : map w routers ≡ map v routers =
           same_lists (map w routers) (map v routers) (length-map routers w ∙ sym (length-map routers v))
           (λ i d l. let inside : i < length routers = omega (arith, length-map routers w) in
           get_or-map w routers i d d inside ∙ waiting-is net.relation first k (get_or routers i d)
-          ∙ ap (λ cycles. waited net.relation cycles (first + k) (get_or routers i d)) (sym e) ∙ ap (λ m. waited net.relation (end - first) m (get_or routers i d)) last
+          ∙ ap (λ cycles. view_after_waiting net.relation cycles (first + k) (get_or routers i d)) (sym e) ∙ ap (λ m. view_after_waiting net.relation (end - first) m (get_or routers i d)) last
           ∙ sym (get_or-map v routers i d d inside)) in
           subst (λ vs. AreInStepUnseen net end vs beats) same (subst (λ m. AreInStepUnseen net m (map w routers) beats) there run)

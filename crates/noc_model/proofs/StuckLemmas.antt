@@ -5,7 +5,7 @@ use Rattle.std.proofs.lemmas.Bool.{true≢false, false_from_ne_true, and_left, a
 use Rattle.noc_topo.specs.Words.{below, is_some_of}
 use Rattle.noc_route.specs.Channel.{Channel}
 use Rattle.noc_router.specs.Verdict.{is_event, is_moved}
-use Rattle.noc_model.specs.Network.{Setup, Located, Place, Source, On, In, Out, packet_at, state_at, frozen_at, network_cycle, after_verdicts, moved_place, is_the_flit, first_in, gone_to, next_channel, verdict_in, arrival_in}
+use Rattle.noc_model.specs.Network.{Setup, Located, Place, Source, On, In, Out, packet_at, state_at, frozen_at, network_cycle, after_verdicts, moved_place, is_the_flit, front_in, gone_to, next_channel, verdict_in, arrival_in}
 use Rattle.noc_model.specs.Progress.{events, is_pending, is_stuck, last_event_before}
 use Rattle.noc_model.proofs.BufferLemmas.{is_moved-true}
 use Rattle.noc_model.proofs.Members.{any-same}
@@ -24,7 +24,7 @@ module _ (net : Setup) (made : IsGoodSetup net) (n : ℕ) (quiet : events net n 
   stays : (f : Located) (place : Place) → moved_place net (frozen_at net n) n f place ≡ place
   stays f Source = refl
   stays f (On c) = refl
-  stays f (In c) = ap (λ b. cond b (gone_to net n c (next_channel net (frozen_at net n) c)) (In c)) (and_left _ (is_the_flit net f (first_in net (frozen_at net n) c)) (unmoved c))
+  stays f (In c) = ap (λ b. cond b (gone_to net n c (next_channel net (frozen_at net n) c)) (In c)) (and_left _ (is_the_flit net f (front_in net (frozen_at net n) c)) (unmoved c))
   stays f (Out m) = refl
 
   -- a cycle without an event leaves each flit where it is

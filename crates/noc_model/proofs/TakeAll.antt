@@ -10,9 +10,9 @@ use Rattle.noc_topo.proofs.LinkLemmas.{link_back}
 use Rattle.noc_topo.proofs.WordLemmas.{get_or-tabulate}
 use Rattle.noc_packet.specs.declared.packet.Flit.{Flit}
 use Rattle.noc_packet.specs.declared.packet.Beat.{Beat}
-use Rattle.noc_route.specs.Channel.{Channel, Link, Inject, Eject, begin, channel_vc, same_channel}
+use Rattle.noc_route.specs.Channel.{Channel, Link, Inject, Eject, sending_router, channel_vc, same_channel}
 use Rattle.noc_route.proofs.BoolLemmas.{same_test}
-use Rattle.noc_router.specs.View.{View, taken, taken_from, all_taken}
+use Rattle.noc_router.specs.View.{View, view_after_take, view_after_takes_from, view_after_takes}
 use Rattle.noc_model.specs.Lockstep.{beat_by, beats_at, beats_in, flit_on, flies_to, seen_flits, seen_input, seen_output, seen_sending, starts_at, ends_at}
 use Rattle.noc_model.specs.Network.{Setup, State, Located, Place, Source, On, In, Out, size, arriving, leaving, packet_at, tail_place, flits_of, owned_by, arbiters_at, first_waiting, is_at_source, is_on, is_injection_of, landed_place, out_cycle, end_of, has_channel, after_landing, after_credits}
 use Rattle.noc_alloc.proofs.WordLemmas.{is_some_of-true}
@@ -118,20 +118,20 @@ module _ (net : Setup) (good : IsGood net) (S : State) (x : IsOrdered net S) whe
         or-false true = refl
         or-false false = refl
 
-    all-from : (m a : ℕ) (v : View) → a + m ≡ local_port net.relation.grid → UpTo a v → UpTo (local_port net.relation.grid) (taken_from net.relation a (map (λ port. beat_by net S r port (neighbour net.relation.grid r port)) (range_with_len a m)) v)
+    all-from : (m a : ℕ) (v : View) → a + m ≡ local_port net.relation.grid → UpTo a v → UpTo (local_port net.relation.grid) (view_after_takes_from net.relation a (map (λ port. beat_by net S r port (neighbour net.relation.grid r port)) (range_with_len a m)) v)
     all-from zero a v e so_far = subst (λ k. UpTo k v) (let z : a ≡ local_port net.relation.grid = omega (arith, e) in z) so_far
-    all-from (suc m) a v e so_far = all-from m (a + 1) (taken net.relation a (beat_by net S r a (neighbour net.relation.grid r a)) v) (omega (arith, e)) (port-taken net good S x r l v0 seen a (omega (arith, e)) v so_far)
+    all-from (suc m) a v e so_far = all-from m (a + 1) (view_after_take net.relation a (beat_by net S r a (neighbour net.relation.grid r a)) v) (omega (arith, e)) (port-taken net good S x r l v0 seen a (omega (arith, e)) v so_far)
 
     beats-are : beats_at (beats_in net S) r ≡ map (λ port. beat_by net S r port (neighbour net.relation.grid r port)) (range_with_len 0 (local_port net.relation.grid))
     unfolding beats_in tabulate below
     beats-are = get_or-tabulate (nodes net.relation.grid) r (λ s. tabulate (local_port net.relation.grid) (λ port. beat_by net S s port (neighbour net.relation.grid s port))) [] l
 
     w : View
-    w = all_taken net.relation (beats_at (beats_in net S) r) v0
+    w = view_after_takes net.relation (beats_at (beats_in net S) r) v0
 
-    done : UpTo (local_port net.relation.grid) (all_taken net.relation (beats_at (beats_in net S) r) v0)
-    unfolding all_taken
-    done = subst (λ (bs : List Beat). UpTo (local_port net.relation.grid) (taken_from net.relation 0 bs v0)) (sym beats-are) (all-from (local_port net.relation.grid) 0 v0 (omega arith) first)
+    done : UpTo (local_port net.relation.grid) (view_after_takes net.relation (beats_at (beats_in net S) r) v0)
+    unfolding view_after_takes
+    done = subst (λ (bs : List Beat). UpTo (local_port net.relation.grid) (view_after_takes_from net.relation 0 bs v0)) (sym beats-are) (all-from (local_port net.relation.grid) 0 v0 (omega arith) first)
 
     -- ---- the local port is as it was
 
@@ -233,12 +233,12 @@ module _ (net : Setup) (good : IsGood net) (S : State) (x : IsOrdered net S) whe
                 list_any-from (λ (f : Located). flies_to net r f.place) S.at g h
                 (ap (flies_to net r) on ∙ ap (λ (o : Option (ℕ × ℕ)). is_some_of (option_map (λ (place : ℕ × ℕ). place.0) o) r) back_link.back ∙ eq-eqb r r refl)
 
-        by-credit : (k : ℕ) → (o : Option ℕ) → find (λ vc. has_channel S.back (Link r k vc)) (below net.relation.vcs) ≡ o → is_some o ≡ true → list_any (λ c. is_some_of (begin c) r) S.back ≡ true
+        by-credit : (k : ℕ) → (o : Option ℕ) → find (λ vc. has_channel S.back (Link r k vc)) (below net.relation.vcs) ≡ o → is_some o ≡ true → list_any (λ c. is_some_of (sending_router c) r) S.back ≡ true
         by-credit k None e t = absurd (false≢true t)
         by-credit k (Some vc) e t =
             let h = find-passes (λ w. has_channel S.back (Link r k w)) (below net.relation.vcs) vc e in
             let m = list_any-has (same_channel (Link r k vc)) S.back h in
-            list_any-from (λ c. is_some_of (begin c) r) S.back m.0 m.1 (ap (λ c. is_some_of (begin c) r) (sym (same_channel-true (Link r k vc) m.0 m.2)) ∙ eq-eqb r r refl)
+            list_any-from (λ c. is_some_of (sending_router c) r) S.back m.0 m.1 (ap (λ c. is_some_of (sending_router c) r) (sym (same_channel-true (Link r k vc) m.0 m.2)) ∙ eq-eqb r r refl)
 
         there : list_any (λ port. came net good S x r l v0 port) (below (local_port net.relation.grid)) ≡ true → has_arrival net r S ≡ true
         there t = at k.0 (neighbour net.relation.grid r k.0) refl k.2
@@ -307,7 +307,7 @@ module _ (net : Setup) (good : IsGood net) (S : State) (x : IsOrdered net S) whe
                         let e1 : from.1 ≡ b = cc q in
                         z ∙ ap (λ j. Some (j, from.1)) e0 ∙ ap (λ j. Some (a, j)) e1
 
-        from-credit : (c : Channel) → Has c S.back → is_some_of (begin c) r ≡ true → list_any (λ port. came net good S x r l v0 port) (below (local_port net.relation.grid)) ≡ true
+        from-credit : (c : Channel) → Has c S.back → is_some_of (sending_router c) r ≡ true → list_any (λ port. came net good S x r l v0 port) (below (local_port net.relation.grid)) ≡ true
         from-credit (Inject a b) h t = absurd (false≢true t)
         from-credit (Eject a b) h t = absurd (false≢true (x.back_in (Eject a b) (Rattle.noc_model.proofs.RoutedVerdicts.has-channel (Eject a b) S.back h)).0)
         from-credit (Link a b c) h t =
@@ -323,13 +323,13 @@ module _ (net : Setup) (good : IsGood net) (S : State) (x : IsOrdered net S) whe
             ∙ or_right (is_some (beat_by net S r b (Some (i.0, i.1 / net.relation.vcs))).flit) _ (ap is_some w.1))
 
         back : has_arrival net r S ≡ true → list_any (λ port. came net good S x r l v0 port) (below (local_port net.relation.grid)) ≡ true
-        back t = way (or_cases (list_any (λ (f : Located). flies_to net r f.place) S.at) (list_any (λ c. is_some_of (begin c) r) S.back) t)
+        back t = way (or_cases (list_any (λ (f : Located). flies_to net r f.place) S.at) (list_any (λ c. is_some_of (sending_router c) r) S.back) t)
           where
-            way : (list_any (λ (f : Located). flies_to net r f.place) S.at ≡ true) ⊎ (list_any (λ c. is_some_of (begin c) r) S.back ≡ true) → list_any (λ port. came net good S x r l v0 port) (below (local_port net.relation.grid)) ≡ true
+            way : (list_any (λ (f : Located). flies_to net r f.place) S.at ≡ true) ⊎ (list_any (λ c. is_some_of (sending_router c) r) S.back ≡ true) → list_any (λ port. came net good S x r l v0 port) (below (local_port net.relation.grid)) ≡ true
             way (inl y) = let m = list_any-has (λ (f : Located). flies_to net r f.place) S.at y in from-flit m.0 m.1 m.0.place refl m.2
-            way (inr y) = let m = list_any-has (λ c. is_some_of (begin c) r) S.back y in from-credit m.0 m.1 m.2
+            way (inr y) = let m = list_any-has (λ c. is_some_of (sending_router c) r) S.back y in from-credit m.0 m.1 m.2
 
-    pub takes : IsTaken net S r v0 (all_taken net.relation (beats_at (beats_in net S) r) v0)
+    pub takes : IsTaken net S r v0 (view_after_takes net.relation (beats_at (beats_in net S) r) v0)
     takes = record {
       seen = record {
         site = done.site ∙ seen.site;

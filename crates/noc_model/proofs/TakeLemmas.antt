@@ -11,7 +11,7 @@ use Rattle.noc_topo.specs.Shape.{nodes, local_port, neighbour}
 use Rattle.noc_packet.specs.declared.packet.Flit.{Flit}
 use Rattle.noc_packet.specs.declared.packet.Beat.{Beat}
 use Rattle.noc_route.specs.Channel.{Channel, Link, Inject}
-use Rattle.noc_vc.specs.Input.{Input, idle_input, fits, landed as landed_on}
+use Rattle.noc_vc.specs.Input.{Input, idle_input, fits, input_after_land as landed_on}
 use Rattle.noc_router.specs.View.{Site, View, has_link, view_buffer, view_input, view_output, with_landed, with_flit, with_misfit}
 use Rattle.noc_model.specs.Lockstep.{beat_by, flit_on, seen_flits, seen_input, seen_output, starts_at, ends_at, has_flit_at_source, seen_sending}
 use Rattle.noc_model.specs.Network.{Setup, State, size, arriving, leaving}

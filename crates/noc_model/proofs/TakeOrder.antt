@@ -7,9 +7,9 @@ use Rattle.std.proofs.lemmas.Nat.{div-mul-add}
 use Rattle.noc_packet.specs.declared.packet.Flit.{Flit}
 use Rattle.noc_packet.specs.declared.packet.Beat.{Beat}
 use Rattle.noc_route.specs.Routes.{Routes}
-use Rattle.noc_vc.specs.Input.{Input, idle_input, fits, landed}
-use Rattle.noc_vc.specs.Output.{Output, ejection_output, credit_fits, credited}
-use Rattle.noc_router.specs.View.{View, has_link, view_buffer, view_input, view_output, with_flit, with_landed, with_misfit, with_credit, taken}
+use Rattle.noc_vc.specs.Input.{Input, idle_input, fits, input_after_land}
+use Rattle.noc_vc.specs.Output.{Output, ejection_output, credit_fits, output_after_credit}
+use Rattle.noc_router.specs.View.{View, has_link, view_buffer, view_input, view_output, with_flit, with_landed, with_misfit, with_credit, view_after_take}
 use Rattle.noc_router.proofs.TakeLemmas.{lands, not_second}
 
 -- ---- what fits changes a view, and what does not is a misfit
@@ -47,7 +47,7 @@ acted-swapped fit fit' change change' v misfit misfit' kept' kept same apart apa
 
 -- ---- a flit and a credit
 
--- .. and the view then
+-- the view after it
 abbrev land : ℕ → ℕ → Flit → View → View
 land port vc f v = with_landed (port * v.site.vcs + vc) f v
 
@@ -55,9 +55,9 @@ land port vc f v = with_landed (port * v.site.vcs + vc) f v
 abbrev arrives : ℕ → ℕ → View → Bool
 arrives port vc v = has_link v.site port && nat_lt vc v.site.vcs && credit_fits (view_output v (port * v.site.vcs + vc))
 
--- .. and the view then
+-- the view after the credit
 abbrev arrive : ℕ → ℕ → View → View
-arrive port vc v = record v { outputs = slice_set v.outputs (port * v.site.vcs + vc) (credited (view_output v (port * v.site.vcs + vc))); had_event = true }
+arrive port vc v = record v { outputs = slice_set v.outputs (port * v.site.vcs + vc) (output_after_credit (view_output v (port * v.site.vcs + vc))); had_event = true }
 
 second_of : (a b d : Bool) → (a && b && d) ≡ true → b ≡ true
 second_of true true d e = refl
@@ -89,7 +89,7 @@ lands-kept relation p q a b f g v other e = at (cases_lt a v.site.vcs)
         ap (λ flits. has_link v.site p && nat_lt a n && fits relation v.site.node p a v.site.places flits (view_input (land q b g v) i) f)
         (get_or-set_other v.buffers j i (view_buffer v j ++ g ∷ []) [] apart)
         ∙ ap (λ input. has_link v.site p && nat_lt a n && fits relation v.site.node p a v.site.places (view_buffer v i) input f)
-        (get_or-set_other v.inputs j i (landed (view_input v j) g) idle_input apart)
+        (get_or-set_other v.inputs j i (input_after_land (view_input v j) g) idle_input apart)
     at (inr past) =
         let w = land q b g v in
         not_second (has_link v.site p) (nat_lt a v.site.vcs) (fits relation v.site.node p a v.site.places (view_buffer w (p * v.site.vcs + a)) (view_input w (p * v.site.vcs + a)) f) (le-ltb a v.site.vcs past)
@@ -105,7 +105,7 @@ arrives-kept p q a b v other e = at (cases_lt a v.site.vcs)
         let j = q * v.site.vcs + b in
         let apart : p * v.site.vcs + a ≢ q * v.site.vcs + b = channels_apart p q a b v.site.vcs other small (arrives-small q b v e) in
         ap (λ output. has_link v.site p && nat_lt a n && credit_fits output)
-        (get_or-set_other v.outputs j i (credited (view_output v j)) ejection_output apart)
+        (get_or-set_other v.outputs j i (output_after_credit (view_output v j)) ejection_output apart)
     at (inr past) =
         not_second (has_link v.site p) (nat_lt a v.site.vcs) (credit_fits (view_output (arrive q b v) (p * v.site.vcs + a))) (le-ltb a v.site.vcs past)
         ∙ sym (not_second (has_link v.site p) (nat_lt a v.site.vcs) (credit_fits (view_output v (p * v.site.vcs + a))) (le-ltb a v.site.vcs past))
@@ -116,30 +116,30 @@ land-swapped p q a b f g v apart =
     let i = p * v.site.vcs + a in
     let j = q * v.site.vcs + b in
     let new = view_buffer v j ++ g ∷ [] in
-    let input = landed (view_input v j) g in
+    let input = input_after_land (view_input v j) g in
     let new' = view_buffer v i ++ f ∷ [] in
-    let input' = landed (view_input v i) f in
-    ap (λ flits. record (land q b g v) { buffers = slice_set (slice_set v.buffers j new) i (flits ++ f ∷ []); inputs = slice_set (slice_set v.inputs j input) i (landed (view_input (land q b g v) i) f) })
+    let input' = input_after_land (view_input v i) f in
+    ap (λ flits. record (land q b g v) { buffers = slice_set (slice_set v.buffers j new) i (flits ++ f ∷ []); inputs = slice_set (slice_set v.inputs j input) i (input_after_land (view_input (land q b g v) i) f) })
     (get_or-set_other v.buffers j i new [] apart)
-    ∙ ap (λ (one : Input). record (land q b g v) { buffers = slice_set (slice_set v.buffers j new) i new'; inputs = slice_set (slice_set v.inputs j input) i (landed one f) })
+    ∙ ap (λ (one : Input). record (land q b g v) { buffers = slice_set (slice_set v.buffers j new) i new'; inputs = slice_set (slice_set v.inputs j input) i (input_after_land one f) })
     (get_or-set_other v.inputs j i input idle_input apart)
     ∙ ap (λ buffers. record (land q b g v) { buffers = buffers; inputs = slice_set (slice_set v.inputs j input) i input' }) (set_comm v.buffers j i new new' (λ e. apart (sym e)))
     ∙ ap (λ inputs. record (land q b g v) { buffers = slice_set (slice_set v.buffers i new') j new; inputs = inputs }) (set_comm v.inputs j i input input' (λ e. apart (sym e)))
-    ∙ sym (ap (λ (one : Input). record (land p a f v) { buffers = slice_set (slice_set v.buffers i new') j new; inputs = slice_set (slice_set v.inputs i input') j (landed one g) })
+    ∙ sym (ap (λ (one : Input). record (land p a f v) { buffers = slice_set (slice_set v.buffers i new') j new; inputs = slice_set (slice_set v.inputs i input') j (input_after_land one g) })
     (get_or-set_other v.inputs i j input' idle_input (λ e. apart (sym e))))
-    ∙ sym (ap (λ flits. record (land p a f v) { buffers = slice_set (slice_set v.buffers i new') j (flits ++ g ∷ []); inputs = slice_set (slice_set v.inputs i input') j (landed (view_input (land p a f v) j) g) })
+    ∙ sym (ap (λ flits. record (land p a f v) { buffers = slice_set (slice_set v.buffers i new') j (flits ++ g ∷ []); inputs = slice_set (slice_set v.inputs i input') j (input_after_land (view_input (land p a f v) j) g) })
     (get_or-set_other v.buffers i j new' [] (λ e. apart (sym e))))
 
--- .. and so do two credits
+-- two credits come in any order
 arrive-swapped : (p q a b : ℕ) (v : View) → p * v.site.vcs + a ≢ q * v.site.vcs + b → arrive p a (arrive q b v) ≡ arrive q b (arrive p a v)
 arrive-swapped p q a b v apart =
     let i = p * v.site.vcs + a in
     let j = q * v.site.vcs + b in
-    let new = credited (view_output v j) in
-    let new' = credited (view_output v i) in
-    ap (λ (one : Output). record (arrive q b v) { outputs = slice_set (slice_set v.outputs j new) i (credited one) }) (get_or-set_other v.outputs j i new ejection_output apart)
+    let new = output_after_credit (view_output v j) in
+    let new' = output_after_credit (view_output v i) in
+    ap (λ (one : Output). record (arrive q b v) { outputs = slice_set (slice_set v.outputs j new) i (output_after_credit one) }) (get_or-set_other v.outputs j i new ejection_output apart)
     ∙ ap (λ outputs. record (arrive q b v) { outputs = outputs }) (set_comm v.outputs j i new new' (λ e. apart (sym e)))
-    ∙ sym (ap (λ (one : Output). record (arrive p a v) { outputs = slice_set (slice_set v.outputs i new') j (credited one) }) (get_or-set_other v.outputs i j new' ejection_output (λ e. apart (sym e))))
+    ∙ sym (ap (λ (one : Output). record (arrive p a v) { outputs = slice_set (slice_set v.outputs i new') j (output_after_credit one) }) (get_or-set_other v.outputs i j new' ejection_output (λ e. apart (sym e))))
 
 -- ---- the takes of two ports change places
 
@@ -167,18 +167,18 @@ credit-past_credit p q (Some a) (Some b) v other =
     (λ e h. arrive-swapped p q a b v (channels_apart p q a b v.site.vcs other (arrives-small p a v h) (arrives-small q b v e)))
     refl refl
 
-flit-past_beat : (relation : Routes) (p q : ℕ) (x : Option (ℕ × Flit)) (beat : Beat) (v : View) → p ≢ q → taken relation q beat (with_flit relation p x v) ≡ with_flit relation p x (taken relation q beat v)
-unfolding taken
+flit-past_beat : (relation : Routes) (p q : ℕ) (x : Option (ℕ × Flit)) (beat : Beat) (v : View) → p ≢ q → view_after_take relation q beat (with_flit relation p x v) ≡ with_flit relation p x (view_after_take relation q beat v)
+unfolding view_after_take
 flit-past_beat relation p q x beat v other =
     sym (ap (with_credit q beat.credit) (flit-past_flit relation p q x beat.flit v other)) ∙ sym (flit-past_credit relation p q x beat.credit (with_flit relation q beat.flit v))
 
-credit-past_beat : (relation : Routes) (p q : ℕ) (x : Option ℕ) (beat : Beat) (v : View) → p ≢ q → taken relation q beat (with_credit p x v) ≡ with_credit p x (taken relation q beat v)
-unfolding taken
+credit-past_beat : (relation : Routes) (p q : ℕ) (x : Option ℕ) (beat : Beat) (v : View) → p ≢ q → view_after_take relation q beat (with_credit p x v) ≡ with_credit p x (view_after_take relation q beat v)
+unfolding view_after_take
 credit-past_beat relation p q x beat v other =
     ap (with_credit q beat.credit) (flit-past_credit relation q p beat.flit x v) ∙ sym (credit-past_credit p q x beat.credit (with_flit relation q beat.flit v) other)
 
-pub taken-swapped : (relation : Routes) (p q : ℕ) (one other : Beat) (v : View) → p ≢ q → taken relation q other (taken relation p one v) ≡ taken relation p one (taken relation q other v)
-unfolding taken
+pub taken-swapped : (relation : Routes) (p q : ℕ) (one other : Beat) (v : View) → p ≢ q → view_after_take relation q other (view_after_take relation p one v) ≡ view_after_take relation p one (view_after_take relation q other v)
+unfolding view_after_take
 taken-swapped relation p q one other v apart =
     credit-past_beat relation p q one.credit other (with_flit relation p one.flit v) apart
     ∙ ap (with_credit p one.credit) (flit-past_beat relation p q one.flit other v apart)

@@ -13,8 +13,8 @@ use Rattle.noc_packet.specs.declared.packet.Flit.{Flit}
 use Rattle.noc_packet.specs.declared.packet.Beat.{Beat}
 use Rattle.noc_route.specs.Channel.{Channel, Link, Inject}
 use Rattle.noc_route.proofs.OptionLemmas.{no-value}
-use Rattle.noc_vc.specs.Output.{Output, ejection_output, credited, credit_fits}
-use Rattle.noc_router.specs.View.{Site, View, has_link, view_output, with_flit, with_credit, with_misfit, taken}
+use Rattle.noc_vc.specs.Output.{Output, ejection_output, output_after_credit, credit_fits}
+use Rattle.noc_router.specs.View.{Site, View, has_link, view_output, with_flit, with_credit, with_misfit, view_after_take}
 use Rattle.noc_router.proofs.FindLemmas.{find-some}
 use Rattle.noc_model.specs.Lockstep.{beat_by, flit_on, seen_output}
 use Rattle.noc_model.specs.Network.{Setup, State, Located, On, size, arriving, leaving, has_channel, is_on, packet_at}
@@ -188,7 +188,7 @@ module _ (net : Setup) (good : IsGood net) (S : State) (x : IsOrdered net S) (r 
 
     -- a credit comes
     credit-comes : (vc : ℕ) → vc < net.relation.vcs → is_some (neighbour net.relation.grid r k) ≡ true → has_channel S.back (Link r k vc) ≡ true → came net good S x r l v0 k ≡ (some_flit || true) → IsUpTo net good S x r l v0 (k + 1) (with_credit k (Some vc) w)
-    credit-comes vc u link back e = subst (λ (y : View). IsUpTo net good S x r l v0 (k + 1) y) (sym is_credited) (made (set w.outputs (k * net.relation.vcs + vc) (credited (view_output w (k * net.relation.vcs + vc)))) true (length-set w.outputs _ _ ∙ ap length outputs-is ∙ so_far.n_outputs) each (or-true w.had_event ∙ events true e))
+    credit-comes vc u link back e = subst (λ (y : View). IsUpTo net good S x r l v0 (k + 1) y) (sym is_credited) (made (set w.outputs (k * net.relation.vcs + vc) (output_after_credit (view_output w (k * net.relation.vcs + vc)))) true (length-set w.outputs _ _ ∙ ap length outputs-is ∙ so_far.n_outputs) each (or-true w.had_event ∙ events true e))
       where
         or-true : (b : Bool) → true ≡ (b || true)
         or-true true = refl
@@ -219,20 +219,20 @@ module _ (net : Setup) (good : IsGood net) (S : State) (x : IsOrdered net S) (r 
             and_from _ _ (and_from _ _ (ap (λ (t : Site). is_some (neighbour t.grid t.node k)) site-w ∙ link) (lt-ltb _ _ (subst (λ j. vc < j) (sym vcs-w) u)))
             (ap (λ j. credit_fits (view_output w (k * j + vc))) vcs-w ∙ ap credit_fits was ∙ Rattle.noc_model.proofs.LandOutput.credit-fits net good S x r (k * net.relation.vcs + vc) r k vc is back)
 
-        is_credited : with_credit k (Some vc) w ≡ record w { outputs = set w.outputs (k * net.relation.vcs + vc) (credited (view_output w (k * net.relation.vcs + vc))); had_event = true }
+        is_credited : with_credit k (Some vc) w ≡ record w { outputs = set w.outputs (k * net.relation.vcs + vc) (output_after_credit (view_output w (k * net.relation.vcs + vc))); had_event = true }
         is_credited =
-            ap (λ b. cond b (record w { outputs = set w.outputs (k * w.site.vcs + vc) (credited (view_output w (k * w.site.vcs + vc))); had_event = true }) (with_misfit w)) fitting
-            ∙ ap (λ j. record w { outputs = set w.outputs (k * j + vc) (credited (view_output w (k * j + vc))); had_event = true }) vcs-w
+            ap (λ b. cond b (record w { outputs = set w.outputs (k * w.site.vcs + vc) (output_after_credit (view_output w (k * w.site.vcs + vc))); had_event = true }) (with_misfit w)) fitting
+            ∙ ap (λ j. record w { outputs = set w.outputs (k * j + vc) (output_after_credit (view_output w (k * j + vc))); had_event = true }) vcs-w
 
-        each : (o : ℕ) → o < size net → get_or (set w.outputs (k * net.relation.vcs + vc) (credited (view_output w (k * net.relation.vcs + vc)))) o ejection_output ≡ seen_output net (at_port net good S x r l v0 (k + 1) o) r (leaving net r o)
+        each : (o : ℕ) → o < size net → get_or (set w.outputs (k * net.relation.vcs + vc) (output_after_credit (view_output w (k * net.relation.vcs + vc)))) o ejection_output ≡ seen_output net (at_port net good S x r l v0 (k + 1) o) r (leaving net r o)
         each o uo = by (cases_eq o (k * net.relation.vcs + vc))
           where
             inside_w : k * net.relation.vcs + vc < length w.outputs
             inside_w = let a : length w.outputs ≡ length v0.outputs = ap length outputs-is ∙ so_far.n_outputs in let b = seen.n_outputs in omega (arith, a, b, inside)
 
-            by : (o ≡ k * net.relation.vcs + vc) ⊎ (o ≡ k * net.relation.vcs + vc → ⊥) → get_or (set w.outputs (k * net.relation.vcs + vc) (credited (view_output w (k * net.relation.vcs + vc)))) o ejection_output ≡ seen_output net (at_port net good S x r l v0 (k + 1) o) r (leaving net r o)
+            by : (o ≡ k * net.relation.vcs + vc) ⊎ (o ≡ k * net.relation.vcs + vc → ⊥) → get_or (set w.outputs (k * net.relation.vcs + vc) (output_after_credit (view_output w (k * net.relation.vcs + vc)))) o ejection_output ≡ seen_output net (at_port net good S x r l v0 (k + 1) o) r (leaving net r o)
             by (inl e) =
-                ap (λ j. get_or (set w.outputs (k * net.relation.vcs + vc) (credited (view_output w (k * net.relation.vcs + vc)))) j ejection_output) e ∙ get_or-set_same w.outputs (k * net.relation.vcs + vc) _ ejection_output inside_w ∙ ap credited was
+                ap (λ j. get_or (set w.outputs (k * net.relation.vcs + vc) (output_after_credit (view_output w (k * net.relation.vcs + vc)))) j ejection_output) e ∙ get_or-set_same w.outputs (k * net.relation.vcs + vc) _ ejection_output inside_w ∙ ap output_after_credit was
                 ∙ sym (link-credited net good S x r (k * net.relation.vcs + vc) r k vc is back)
                 ∙ sym (ap (λ j. seen_output net (at_port net good S x r l v0 (k + 1) j) r (leaving net r j)) e ∙ ap (λ (t : State). seen_output net t r (leaving net r (k * net.relation.vcs + vc))) (here-after net good S x r l v0 seen k low v so_far (k * net.relation.vcs + vc) row)
                 ∙ ap (seen_output net (mid net S) r) is)
@@ -247,8 +247,8 @@ module _ (net : Setup) (good : IsGood net) (S : State) (x : IsOrdered net S) (r 
                     absurd (apart (sym (div-add-mod' o net.relation.vcs) ∙ ap (λ j. j * net.relation.vcs + o % net.relation.vcs) z ∙ ap (λ j. k * net.relation.vcs + j) same))
 
   -- the whole beat of the port
-  pub port-taken : IsUpTo net good S x r l v0 (k + 1) (taken net.relation k (beat_by net S r k (neighbour net.relation.grid r k)) v)
-  unfolding taken
+  pub port-taken : IsUpTo net good S x r l v0 (k + 1) (view_after_take net.relation k (beat_by net S r k (neighbour net.relation.grid r k)) v)
+  unfolding view_after_take
   port-taken = by (neighbour net.relation.grid r k) refl flit-lands
     where
       unlinked : neighbour net.relation.grid r k ≡ None → (vc : ℕ) → has_channel S.back (Link r k vc) ≡ false

@@ -5,7 +5,7 @@ use Rattle.std.specs.List.{range_with_len}
 use Rattle.std.proofs.lemmas.Bool.{false≢true, and_right, and_left, and_from, cases_eq, false_from_ne_true}
 use Rattle.std.proofs.lemmas.List.Sums.{sum_by-cons}
 use Rattle.std.proofs.lemmas.List.Folds.{list_any-append}
-use Rattle.noc_model.specs.Network.{In, Located, On, Out, Place, Setup, Source, State, after_verdicts, all_inputs, ask, claim_of, claim_with, count_in, end_distance, first_in, gone_to, has_channel, has_credit_in, is_in, is_tail, is_the_flit, moved_place, next_channel, packet_at, round_at, tail_leaves, verdict_at, verdict_in}
+use Rattle.noc_model.specs.Network.{In, Located, On, Out, Place, Setup, Source, State, after_verdicts, all_inputs, ask, claim_of, claim_with, count_in, end_distance, front_in, gone_to, has_channel, has_credit_in, is_in, is_tail_of_packet, is_the_flit, moved_place, next_channel, packet_at, round_at, tail_leaves, verdict_at, verdict_in}
 use Rattle.noc_model.specs.Progress.{head_place, remainder, turns_left}
 use Rattle.noc_route.specs.Channel.{Channel, Eject, Inject, Link, arrival_of, channel_vc, output_index, same_channel}
 use Rattle.noc_router.specs.Verdict.{Claim, Holds, Round, Unrouted, Waits, is_event, is_granted, is_moved, is_routed, verdict_of}
@@ -177,7 +177,7 @@ module _ (net : Setup) (n : ℕ) (F : State) where
     pub listed : (p : ℕ) (c : Channel) → p < length net.packets → head_place net F p ≡ In c → Has c (all_inputs net)
     pub one_head : (p q : ℕ) (c : Channel) → p < length net.packets → q < length net.packets → head_place net F p ≡ In c → head_place net F q ≡ In c → p ≡ q
     pub goes_first : (p : ℕ) (c : Channel) (f : Located) → p < length net.packets → f.place ≡ In c → find (λ (g : Located). nat_eq p g.packet && nat_eq 0 g.index) F.at ≡ Some f
-        → is_the_flit net f (first_in net F c) ≡ true
+        → is_the_flit net f (front_in net F c) ≡ true
     -- a channel that is routed or granted another has a head
     pub at_heads : (c : Channel) → Has c (all_inputs net) → (verdict_in net F c ≡ Routed) ⊎ (verdict_in net F c ≡ Granted) → (p : ℕ) × (p < length net.packets) × (head_place net F p ≡ In c)
     -- the next channel of a head's channel is one nearer, or the destination's
@@ -205,12 +205,12 @@ module _ (net : Setup) (n : ℕ) (F : State) where
   module _ (right : TurnsRight) (p : ℕ) (l : p < length net.packets) (c : Channel) (f : Located) (here : head_place net F p ≡ In c)
       (found : find (λ (g : Located). nat_eq p g.packet && nat_eq 0 g.index) F.at ≡ Some f) (place : f.place ≡ In c) where
     unmoved : is_moved (verdict_in net F c) ≡ false → moved_place net F n f (In c) ≡ In c
-    unmoved e = ap (λ b. cond b (gone net F n c) (In c)) (and_left (is_moved (verdict_in net F c)) (is_the_flit net f (first_in net F c)) e)
+    unmoved e = ap (λ b. cond b (gone net F n c) (In c)) (and_left (is_moved (verdict_in net F c)) (is_the_flit net f (front_in net F c)) e)
 
     stays-routed : is_moved (verdict_in net F c) ≡ false → has_channel after.routed c ≡ (has_channel F.routed c || is_routed (verdict_in net F c))
     stays-routed e =
         routed-after c (right.listed p c l here)
-        ∙ ap (λ b. (has_channel F.routed c && not b) || is_routed (verdict_in net F c)) (and_left (is_moved (verdict_in net F c)) (is_tail net (first_in net F c)) e)
+        ∙ ap (λ b. (has_channel F.routed c && not b) || is_routed (verdict_in net F c)) (and_left (is_moved (verdict_in net F c)) (is_tail_of_packet net (front_in net F c)) e)
         ∙ ap (λ b. b || is_routed (verdict_in net F c)) (and-true (has_channel F.routed c))
       where
         and-true : (b : Bool) → (b && true) ≡ b
@@ -262,7 +262,7 @@ module _ (net : Setup) (n : ℕ) (F : State) where
     step-moved e =
         let b = moved-before net F c e in
         let goes : moved_place net F n f (In c) ≡ gone_to net n c (Some b.1)
-        = ap (λ x. cond x (gone net F n c) (In c)) (and_from (is_moved (verdict_in net F c)) (is_the_flit net f (first_in net F c)) (ap (is_moved) e) (right.goes_first p c f l place found)) ∙ ap (gone_to net n c) b.2 in
+        = ap (λ x. cond x (gone net F n c) (In c)) (and_from (is_moved (verdict_in net F c)) (is_the_flit net f (front_in net F c)) (ap (is_moved) e) (right.goes_first p c f l place found)) ∙ ap (gone_to net n c) b.2 in
         let z : turn c ≡ 0 = ap (λ v. cond (is_routed v) 1 0 + cond (is_granted v) 1 0) e in
         let w : turns_left net F p (In c) ≡ left p c true (Some b.1) = ap (λ b. left p c b (next_channel net F c)) b.0 ∙ ap (left p c true) b.2 in
         ap (λ x. turns_left net after p x + turn c) goes ∙ ap (λ x. turns_left net after p (gone_to net n c (Some b.1)) + x) z

@@ -4,7 +4,7 @@ use Rattle.std.specs.Prelude.{◌⊎◌}
 use Rattle.std.proofs.lemmas.Bool.{cases_order}
 use Rattle.std.proofs.lemmas.Option.{same_Some}
 use Rattle.noc_route.specs.Channel.{Channel, Link, Inject, Eject}
-use Rattle.noc_model.specs.Network.{Setup, State, Located, Place, Source, On, In, Out, place_of, is_in, buffer_of, owner_of}
+use Rattle.noc_model.specs.Network.{Setup, State, Located, Place, Source, On, In, Out, place_of_flit, is_in, buffer_of, owner_of}
 use Rattle.noc_model.specs.Progress.{weight}
 use Rattle.noc_model.proofs.BuiltRecord.{IsBuilt}
 use Rattle.noc_model.specs.Worm.{IsRun}
@@ -61,7 +61,7 @@ run-from net p x (y ∷ ys) s of_p full = (of_p x (inl refl), refl, subst (λ (i
                 let l = before f hf in absurd (omega arith)
             member h (inr m) i = (h, m, i)
 
-module _ (net : Setup) (built : IsBuilt net) (S : State) (keyed : IsKeyed net S.at) (w : IsWorm net S.own (place_of net S)) where
+module _ (net : Setup) (built : IsBuilt net) (S : State) (keyed : IsKeyed net S.at) (w : IsWorm net S.own (place_of_flit net S)) where
   -- the weight of a place in a buffer tells the place
   pub weight-tells : (p : ℕ) (x : Place) (c : Channel) → IsPlaced net S.own p x → IsPlaced net S.own p (In c) → weight net p x ≡ weight net p (In c) → x ≡ In c
   weight-tells p Source (Link r a v) h k e = let n = (w.near (Link r a v) p k).0 in absurd (omega arith)
@@ -77,7 +77,7 @@ module _ (net : Setup) (built : IsBuilt net) (S : State) (keyed : IsKeyed net S.
   weight-tells p (On (Inject m u)) (Inject r a) h k e = elim h [ ]
   weight-tells p (On (Eject m u)) (Inject r a) h k e = elim h [ ]
   weight-tells p (In (Link s b u)) (Inject r a) h k e = absurd (omega arith)
-  weight-tells p (In (Inject m u)) (Inject r a) h k e = ap In (two-injects net built S.own (place_of net S) w p m u r a h k)
+  weight-tells p (In (Inject m u)) (Inject r a) h k e = ap In (two-injects net built S.own (place_of_flit net S) w p m u r a h k)
   weight-tells p (In (Eject m u)) (Inject r a) h k e = elim h [ ]
   weight-tells p (Out n) (Inject r a) h k e = absurd (omega arith)
   weight-tells p x (Eject r a) h k e = elim k [ ]
@@ -85,7 +85,7 @@ module _ (net : Setup) (built : IsBuilt net) (S : State) (keyed : IsKeyed net S.
   -- what is in the buffer of c
   pub record IsInBuffer (c : Channel) (f : Located) : Type 0 where
     pub valid : IsValid net f.packet f.index
-    pub there : place_of net S f.packet f.index ≡ In c
+    pub there : place_of_flit net S f.packet f.index ≡ In c
     pub holder : owner_of net S c ≡ Some f.packet
     pub placed : IsPlaced net S.own f.packet (In c)
 
@@ -93,7 +93,7 @@ module _ (net : Setup) (built : IsBuilt net) (S : State) (keyed : IsKeyed net S.
   in-buffer c f h =
       let m = Has-filter (λ (g : Located). is_in c g.place) f S.at h in
       let v = keyed.valid f m.0 in
-      let there : place_of net S f.packet f.index ≡ In c = place-of-flit net S keyed f m.0 ∙ is_in-is c f.place m.1 in
+      let there : place_of_flit net S f.packet f.index ≡ In c = place-of-flit net S keyed f m.0 ∙ is_in-is c f.place m.1 in
       let placed : IsPlaced net S.own f.packet (In c) = subst (λ (x : Place). IsPlaced net S.own f.packet x) there (w.placed f.packet f.index v) in
       record {
         valid = v;
@@ -114,13 +114,13 @@ module _ (net : Setup) (built : IsBuilt net) (S : State) (keyed : IsKeyed net S.
       let vk : IsValid net p k = valid-below net built p k g.index vg (omega arith) in
       let lower = w.order p f.index k vk (omega arith) in
       let upper = w.order p k g.index vg (omega arith) in
-      let wf : weight net p (place_of net S p f.index) ≡ weight net p (In c) = ap (λ q. weight net p (place_of net S q f.index)) (sym fp) ∙ ap (weight net p) x.there in
-      let wg : weight net p (place_of net S p g.index) ≡ weight net p (In c) = ap (λ q. weight net p (place_of net S q g.index)) (sym gp) ∙ ap (weight net p) y.there in
-      let same : weight net p (place_of net S p k) ≡ weight net p (In c) = omega arith in
-      let there : place_of net S p k ≡ In c = weight-tells p (place_of net S p k) c (w.placed p k vk) (subst (λ (q : ℕ). IsPlaced net S.own q (In c)) fp x.placed) same in
+      let wf : weight net p (place_of_flit net S p f.index) ≡ weight net p (In c) = ap (λ q. weight net p (place_of_flit net S q f.index)) (sym fp) ∙ ap (weight net p) x.there in
+      let wg : weight net p (place_of_flit net S p g.index) ≡ weight net p (In c) = ap (λ q. weight net p (place_of_flit net S q g.index)) (sym gp) ∙ ap (weight net p) y.there in
+      let same : weight net p (place_of_flit net S p k) ≡ weight net p (In c) = omega arith in
+      let there : place_of_flit net S p k ≡ In c = weight-tells p (place_of_flit net S p k) c (w.placed p k vk) (subst (λ (q : ℕ). IsPlaced net S.own q (In c)) fp x.placed) same in
       let member = flit-there net S keyed p k vk in (
-        record { packet = p; index = k; place = place_of net S p k },
-        Has-kept (λ (q : Located). is_in c q.place) (record { packet = p; index = k; place = place_of net S p k }) S.at member (ap (is_in c) there ∙ same_channel-refl c),
+        record { packet = p; index = k; place = place_of_flit net S p k },
+        Has-kept (λ (q : Located). is_in c q.place) (record { packet = p; index = k; place = place_of_flit net S p k }) S.at member (ap (is_in c) there ∙ same_channel-refl c),
         refl,
       )
 

@@ -12,13 +12,13 @@ use Rattle.noc_packet.specs.declared.packet.Flit.{Flit}
 use Rattle.noc_packet.specs.declared.packet.Beat.{Beat}
 use Rattle.noc_route.specs.Routes.{Routes}
 use Rattle.noc_vc.specs.Input.{fits}
-use Rattle.noc_vc.specs.Output.{credit_fits, credited}
-use Rattle.noc_router.specs.View.{View, IsRelationOf, has_link, view_buffer, view_input, view_output, local_channel, with_landed, with_misfit, with_injected, taken, taken_from, all_taken, injected, injected_from, begun_on, is_vacant, view_round, planned, committed, local_step, with_flit, with_credit, idle_beat, opening_view}
+use Rattle.noc_vc.specs.Output.{credit_fits, output_after_credit}
+use Rattle.noc_router.specs.View.{View, IsRelationOf, has_link, view_buffer, view_input, view_output, local_channel, with_landed, with_misfit, with_injected, view_after_take, view_after_takes_from, view_after_takes, view_after_inject, view_after_inject_from, begun_on, is_vacant, view_round, decisions_of, view_after_commit, local_step, with_flit, with_credit, idle_beat, opening_view}
 use Rattle.noc_router.specs.declared.verdict.Finding.{Finding}
-use Rattle.noc_model.specs.Halves.{ArePlaced, IsLinked, IsPlaced, beat_at, decided, emptied, incoming}
+use Rattle.noc_model.specs.Halves.{ArePlaced, IsLinked, HasItsBeats, beat_at, view_after_decide, view_after_puts, incoming}
 use Rattle.noc_model.specs.Lockstep.{lockstep_at, beats_at, beat_from, site_at}
 use Rattle.noc_model.specs.Network.{Setup}
-use Rattle.noc_model.specs.Unseen.{AreInStep, AreInStepUnseen, advanced, unseen}
+use Rattle.noc_model.specs.Unseen.{AreInStep, AreInStepUnseen, unseen_after_decide, without_findings}
 use Rattle.noc_model.proofs.RunLemmas.{count_views, map_map_indexed, halfway, linked_wires, next_views, next_wires, placed_halfway, relation_views}
 use Rattle.noc_model.proofs.StepLemmas.{IsRelationOf-same_site}
 
@@ -43,26 +43,26 @@ findings-with_credit findings port None v = refl
 findings-with_credit findings port (Some vc) v =
     let o = port * v.site.vcs + vc in
     either_findings findings (has_link v.site port && nat_lt vc v.site.vcs && credit_fits (view_output v o))
-    (record v { outputs = set v.outputs o (credited (view_output v o)); had_event = true }) (with_misfit v)
+    (record v { outputs = set v.outputs o (output_after_credit (view_output v o)); had_event = true }) (with_misfit v)
 
-findings-taken : (findings : List Finding) (relation : Routes) (port : ℕ) (beat : Beat) (v : View) → taken relation port beat (with_findings findings v) ≡ with_findings findings (taken relation port beat v)
-unfolding taken
+findings-taken : (findings : List Finding) (relation : Routes) (port : ℕ) (beat : Beat) (v : View) → view_after_take relation port beat (with_findings findings v) ≡ with_findings findings (view_after_take relation port beat v)
+unfolding view_after_take
 findings-taken findings relation port beat v =
     ap (with_credit port beat.credit) (findings-with_flit findings relation port beat.flit v)
     ∙ findings-with_credit findings port beat.credit (with_flit relation port beat.flit v)
 
-findings-taken_from : (findings : List Finding) (relation : Routes) (port : ℕ) (beats : List Beat) (v : View) → taken_from relation port beats (with_findings findings v) ≡ with_findings findings (taken_from relation port beats v)
+findings-taken_from : (findings : List Finding) (relation : Routes) (port : ℕ) (beats : List Beat) (v : View) → view_after_takes_from relation port beats (with_findings findings v) ≡ with_findings findings (view_after_takes_from relation port beats v)
 findings-taken_from findings relation port [] v = refl
 findings-taken_from findings relation port (beat ∷ beats) v =
-    ap (taken_from relation (port + 1) beats) (findings-taken findings relation port beat v)
-    ∙ findings-taken_from findings relation (port + 1) beats (taken relation port beat v)
+    ap (view_after_takes_from relation (port + 1) beats) (findings-taken findings relation port beat v)
+    ∙ findings-taken_from findings relation (port + 1) beats (view_after_take relation port beat v)
 
 findings-begun_on : (findings : List Finding) (vc : Option ℕ) (number : ℕ) (p : Packet) (rest : List (ℕ × Packet)) (v : View) → begun_on vc number p rest (with_findings findings v) ≡ with_findings findings (begun_on vc number p rest v)
 findings-begun_on findings None number p rest v = refl
 findings-begun_on findings (Some vc) number p rest v = refl
 
 findings-injected_from : (findings : List Finding) (n : ℕ) (queue : List (ℕ × Packet)) (sending : Option (ℕ × ℕ)) (v : View)
-    → injected_from n queue sending (with_findings findings v) ≡ with_findings findings (injected_from n queue sending v)
+    → view_after_inject_from n queue sending (with_findings findings v) ≡ with_findings findings (view_after_inject_from n queue sending v)
 findings-injected_from findings n [] sending v = refl
 findings-injected_from findings n ((number, p) ∷ rest) (Some (vc, index)) v =
     either_findings findings (nat_lt (length (view_buffer v (local_channel v.site vc))) v.site.places) (with_injected vc index number p rest v) v
@@ -72,30 +72,30 @@ findings-injected_from findings n ((number, p) ∷ rest) None v =
 
 -- the view from which all is decided
 findings-frozen : (findings : List Finding) (relation : Routes) (n : ℕ) (beats : List Beat) (v : View)
-    → injected n (all_taken relation beats (with_findings findings v)) ≡ with_findings findings (injected n (all_taken relation beats v))
-unfolding all_taken injected
+    → view_after_inject n (view_after_takes relation beats (with_findings findings v)) ≡ with_findings findings (view_after_inject n (view_after_takes relation beats v))
+unfolding view_after_takes view_after_inject
 findings-frozen findings relation n beats v =
-    ap (injected n) (findings-taken_from findings relation 0 beats v)
-    ∙ (let w = taken_from relation 0 beats v in findings-injected_from findings n w.queue w.sending (record w { given = n }))
+    ap (view_after_inject n) (findings-taken_from findings relation 0 beats v)
+    ∙ (let w = view_after_takes_from relation 0 beats v in findings-injected_from findings n w.queue w.sending (record w { given = n }))
 
--- .. has the findings that were there before
-pub frozen-findings : (relation : Routes) (n : ℕ) (beats : List Beat) (v : View) → (injected n (all_taken relation beats v)).findings ≡ v.findings
+-- the view from which all is decided has the findings that were there before
+pub frozen-findings : (relation : Routes) (n : ℕ) (beats : List Beat) (v : View) → (view_after_inject n (view_after_takes relation beats v)).findings ≡ v.findings
 frozen-findings relation n beats v = ap (λ (w : View). w.findings) (findings-frozen v.findings relation n beats v)
 
-findings-committed : (findings : List Finding) (relation : Routes) (v : View) → committed (planned relation (with_findings findings v)) (with_findings findings v) ≡ committed (planned relation v) v
-unfolding committed planned view_round
+findings-committed : (findings : List Finding) (relation : Routes) (v : View) → view_after_commit (decisions_of relation (with_findings findings v)) (with_findings findings v) ≡ view_after_commit (decisions_of relation v) v
+unfolding view_after_commit decisions_of view_round
 findings-committed findings relation v = refl
 
 -- what a router decides is the same whatever it found before
-pub findings-decided : (findings : List Finding) (relation : Routes) (n : ℕ) (beats : List Beat) (v : View) → decided relation n beats (with_findings findings v) ≡ decided relation n beats v
-unfolding decided
+pub findings-decided : (findings : List Finding) (relation : Routes) (n : ℕ) (beats : List Beat) (v : View) → view_after_decide relation n beats (with_findings findings v) ≡ view_after_decide relation n beats v
+unfolding view_after_decide
 findings-decided findings relation n beats v =
-    ap (λ w. committed (planned relation w) w) (findings-frozen findings relation n beats v)
-    ∙ findings-committed findings relation (injected n (all_taken relation beats v))
+    ap (λ w. view_after_commit (decisions_of relation w) w) (findings-frozen findings relation n beats v)
+    ∙ findings-committed findings relation (view_after_inject n (view_after_takes relation beats v))
 
 pub findings-local_step : (findings : List Finding) (relation : Routes) (v : View) (beats : List Beat) (n : ℕ) → local_step relation (with_findings findings v) beats n ≡ local_step relation v beats n
-unfolding decided local_step
-findings-local_step findings relation v beats n = ap (λ (w : View). (emptied w, w.to_put)) (findings-decided findings relation n beats v)
+unfolding view_after_decide local_step
+findings-local_step findings relation v beats n = ap (λ (w : View). (view_after_puts w, w.to_put)) (findings-decided findings relation n beats v)
 
 -- ---- all routers
 
@@ -111,7 +111,7 @@ map_indexed-of f u g xs d same =
     ∙ ap (g i) (sym (get_or-map u xs i d (u d) in_xs))
     ∙ sym (get_or-map_indexed g (map u xs) i (u d) e (omega (arith, length-map xs u))))
 
--- .. and what k leaves of it may be left by another f too
+-- what is done to each element, where what k leaves of it may be left by another f too
 map-map_indexed : {X Y Z : Type 0} (k : Y → Z) (f g : ℕ → X → Y) (xs : List X) (d : X) (y : Y) → ((i : ℕ) (x : X) → k (f i x) ≡ k (g i x)) → map k (map_indexed f xs) ≡ map k (map_indexed g xs)
 map-map_indexed k f g xs d y same = map_map_indexed k f k g xs d y y (λ i x l. same i x)
 
@@ -132,14 +132,14 @@ module _ (net : Setup) where
 
   -- the first half of cycle n of router r over these beats, with its findings
   abbrev seen_half : ℕ → List (List Beat) → ℕ → View → View
-  seen_half n beats r v = decided net.relation n (incoming net.relation.grid (beats_at beats r)) v
+  seen_half n beats r v = view_after_decide net.relation n (incoming net.relation.grid (beats_at beats r)) v
 
-  -- .. and without
+  -- the first half of cycle n of router r over these beats, without its findings
   abbrev unseen_half : ℕ → List (List Beat) → ℕ → View → View
-  unseen_half n beats r v = advanced net.relation n (incoming net.relation.grid (beats_at beats r)) v
+  unseen_half n beats r v = unseen_after_decide net.relation n (incoming net.relation.grid (beats_at beats r)) v
 
   pub unseen-count : (n : ℕ) (routers : List View) (beats : List (List Beat)) → AreInStepUnseen net n routers beats → length routers ≡ nodes net.relation.grid
-  unseen-count n routers beats in_step = sym (length-map routers unseen) ∙ ap length in_step.views ∙ length-map (lockstep_at net n).views unseen ∙ count_views net n
+  unseen-count n routers beats in_step = sym (length-map routers without_findings) ∙ ap length in_step.views ∙ length-map (lockstep_at net n).views without_findings ∙ count_views net n
 
   -- the routers are of the relation
   pub unseen-relation : (n : ℕ) (routers : List View) (beats : List (List Beat)) → AreInStepUnseen net n routers beats → All (λ (v : View). IsRelationOf net.relation v) routers
@@ -147,7 +147,7 @@ module _ (net : Setup) where
       let views = (lockstep_at net n).views in
       let in_views : r < length views = omega (arith, unseen-count n routers beats in_step, count_views net n) in
       let site : (get_or routers r d).site ≡ (get_or views r d).site =
-      ap (λ (v : View). v.site) (sym (get_or-map unseen routers r d (unseen d) l) ∙ ap (λ vs. get_or vs r (unseen d)) in_step.views ∙ get_or-map unseen views r d (unseen d) in_views) in
+      ap (λ (v : View). v.site) (sym (get_or-map without_findings routers r d (without_findings d) l) ∙ ap (λ vs. get_or vs r (without_findings d)) in_step.views ∙ get_or-map without_findings views r d (without_findings d) in_views) in
       IsRelationOf-same_site net.relation (get_or views r d) (get_or routers r d) site (relation_views net n r d in_views)
 
   -- the wires past the link ports are idle
@@ -158,48 +158,48 @@ module _ (net : Setup) where
   -- in step the routers decide what those of the lockstep run do
   pub unseen-halfway : (n : ℕ) (routers : List View) (beats : List (List Beat)) → AreInStepUnseen net n routers beats → map_indexed (seen_half n beats) routers ≡ halfway net n beats
   unseen-halfway n routers beats in_step =
-      let as_unseen = λ (vs : List View). map_indexed-of (seen_half n beats) unseen (seen_half n beats) vs some_view (λ r v. sym (findings-decided [] net.relation n (incoming net.relation.grid (beats_at beats r)) v)) in
+      let as_unseen = λ (vs : List View). map_indexed-of (seen_half n beats) without_findings (seen_half n beats) vs some_view (λ r v. sym (findings-decided [] net.relation n (incoming net.relation.grid (beats_at beats r)) v)) in
       as_unseen routers ∙ ap (map_indexed (seen_half n beats)) in_step.views ∙ sym (as_unseen (lockstep_at net n).views)
 
   -- the routers halfway are at their places
   pub unseen-placed : (n : ℕ) (routers : List View) (beats : List (List Beat)) → AreInStepUnseen net n routers beats → ArePlaced net.relation (map_indexed (unseen_half n beats) routers)
-  unfolding advanced
+  unfolding unseen_after_decide
   unseen-placed n routers beats in_step r d l =
       let in_routers : r < length routers = omega (arith, length-map_indexed (unseen_half n beats) routers) in
-      let seen : IsPlaced net.relation r (get_or (map_indexed (seen_half n beats) routers) r d) =
-      subst (λ (vs : List View). IsPlaced net.relation r (get_or vs r d)) (sym (unseen-halfway n routers beats in_step))
+      let seen : HasItsBeats net.relation r (get_or (map_indexed (seen_half n beats) routers) r d) =
+      subst (λ (vs : List View). HasItsBeats net.relation r (get_or vs r d)) (sym (unseen-halfway n routers beats in_step))
       (placed_halfway net n beats r d (omega (arith, ap length (unseen-halfway n routers beats in_step), length-map_indexed (seen_half n beats) routers))) in
-      let here : IsPlaced net.relation r (seen_half n beats r (get_or routers r d)) = subst (IsPlaced net.relation r) (get_or-map_indexed (seen_half n beats) routers r d d in_routers) seen in
-      subst (IsPlaced net.relation r) (sym (get_or-map_indexed (unseen_half n beats) routers r d d in_routers))
+      let here : HasItsBeats net.relation r (seen_half n beats r (get_or routers r d)) = subst (HasItsBeats net.relation r) (get_or-map_indexed (seen_half n beats) routers r d d in_routers) seen in
+      subst (HasItsBeats net.relation r) (sym (get_or-map_indexed (unseen_half n beats) routers r d d in_routers))
       (record { built_for = record { grid = here.built_for.grid; vcs = here.built_for.vcs }; site = here.site; beats = here.beats })
 
   -- a cycle whose findings are read
   pub next-seen : (n : ℕ) (routers half after : List View) (beats beats_after : List (List Beat)) → AreInStepUnseen net n routers beats
-      → half ≡ map_indexed (seen_half n beats) routers → after ≡ map emptied half → length beats_after ≡ nodes net.relation.grid
+      → half ≡ map_indexed (seen_half n beats) routers → after ≡ map view_after_puts half → length beats_after ≡ nodes net.relation.grid
       → ((r port : ℕ) → r < nodes net.relation.grid → beat_at beats_after r port ≡ beat_from (map (λ (v : View). v.to_put) half) (neighbour net.relation.grid r port))
       → AreInStep net (n + 1) after beats_after
   next-seen n routers half after beats beats_after in_step is_half is_after count put =
       let is_halfway : half ≡ halfway net n beats = is_half ∙ unseen-halfway n routers beats in_step in
       record {
-        views = is_after ∙ ap (map emptied) is_halfway ∙ next_views net n beats in_step.wires;
+        views = is_after ∙ ap (map view_after_puts) is_halfway ∙ next_views net n beats in_step.wires;
         wires = next_wires net n beats beats_after in_step.wires count (λ r port l. put r port l ∙ ap (λ (vs : List View). beat_from (map (λ (v : View). v.to_put) vs) (neighbour net.relation.grid r port)) is_halfway);
       }
 
-  -- .. and one whose findings nobody reads
+  -- a cycle whose findings nobody reads
   pub next-unseen : (n : ℕ) (routers half after : List View) (beats beats_after : List (List Beat)) → AreInStepUnseen net n routers beats
-      → half ≡ map_indexed (unseen_half n beats) routers → after ≡ map emptied half → length beats_after ≡ nodes net.relation.grid
+      → half ≡ map_indexed (unseen_half n beats) routers → after ≡ map view_after_puts half → length beats_after ≡ nodes net.relation.grid
       → ((r port : ℕ) → r < nodes net.relation.grid → beat_at beats_after r port ≡ beat_from (map (λ (v : View). v.to_put) half) (neighbour net.relation.grid r port))
       → AreInStepUnseen net (n + 1) after beats_after
-  unfolding advanced
+  unfolding unseen_after_decide
   next-unseen n routers half after beats beats_after in_step is_half is_after count put =
       let seen = map_indexed (seen_half n beats) routers in
-      let left : map (λ (v : View). unseen (emptied v)) half ≡ map (λ (v : View). unseen (emptied v)) seen =
-      ap (map (λ (v : View). unseen (emptied v))) is_half ∙ map-map_indexed (λ (v : View). unseen (emptied v)) (unseen_half n beats) (seen_half n beats) routers some_view some_view (λ r v. refl) in
+      let left : map (λ (v : View). without_findings (view_after_puts v)) half ≡ map (λ (v : View). without_findings (view_after_puts v)) seen =
+      ap (map (λ (v : View). without_findings (view_after_puts v))) is_half ∙ map-map_indexed (λ (v : View). without_findings (view_after_puts v)) (unseen_half n beats) (seen_half n beats) routers some_view some_view (λ r v. refl) in
       let sent : map (λ (v : View). v.to_put) half ≡ map (λ (v : View). v.to_put) seen =
       ap (map (λ (v : View). v.to_put)) is_half ∙ map-map_indexed (λ (v : View). v.to_put) (unseen_half n beats) (seen_half n beats) routers some_view some_view (λ r v. refl) in
       record {
-        views = ap (map unseen) is_after ∙ map-map unseen emptied half ∙ left ∙ sym (map-map unseen emptied seen)
-            ∙ ap (λ vs. map unseen (map emptied vs)) (unseen-halfway n routers beats in_step) ∙ ap (map unseen) (next_views net n beats in_step.wires);
+        views = ap (map without_findings) is_after ∙ map-map without_findings view_after_puts half ∙ left ∙ sym (map-map without_findings view_after_puts seen)
+            ∙ ap (λ vs. map without_findings (map view_after_puts vs)) (unseen-halfway n routers beats in_step) ∙ ap (map without_findings) (next_views net n beats in_step.wires);
         wires = next_wires net n beats beats_after in_step.wires count
             (λ r port l. put r port l ∙ ap (λ sent. beat_from sent (neighbour net.relation.grid r port)) sent
             ∙ ap (λ (vs : List View). beat_from (map (λ (v : View). v.to_put) vs) (neighbour net.relation.grid r port)) (unseen-halfway n routers beats in_step));
@@ -207,4 +207,4 @@ module _ (net : Setup) where
 
 -- in step with all findings is in step without
 pub to_unseen : (net : Setup) (n : ℕ) (routers : List View) (beats : List (List Beat)) → AreInStep net n routers beats → AreInStepUnseen net n routers beats
-to_unseen net n routers beats in_step = record { views = ap (map unseen) in_step.views; wires = in_step.wires }
+to_unseen net n routers beats in_step = record { views = ap (map without_findings) in_step.views; wires = in_step.wires }

@@ -5,9 +5,9 @@ use Rattle.std.specs.List.{filter_map}
 use Rattle.std.proofs.lemmas.Bool.{false≢true, cases_eq, eqb-true, eq-eqb, and_parts, and_from, not-true}
 use Rattle.std.proofs.lemmas.Option.{none-some, same_Some}
 use Rattle.noc_topo.specs.Shape.{distance}
-use Rattle.noc_route.specs.Channel.{Channel, Link, Inject, Eject, begin, inputs}
+use Rattle.noc_route.specs.Channel.{Channel, Link, Inject, Eject, sending_router, inputs}
 use Rattle.noc_route.specs.Routes.{permits}
-use Rattle.noc_model.specs.Network.{Setup, State, Located, Place, Source, On, In, Out, packet_at, place_of, first_in, verdict_in, gone_to, is_tail, tail_leaves, is_released, granted_pair, end_of, moved_place, after_verdicts}
+use Rattle.noc_model.specs.Network.{Setup, State, Located, Place, Source, On, In, Out, packet_at, place_of_flit, front_in, verdict_in, gone_to, is_tail_of_packet, tail_leaves, is_released, granted_pair, end_of, moved_place, after_verdicts}
 use Rattle.noc_router.specs.Verdict.{is_moved}
 use Rattle.noc_model.specs.Progress.{weight, hops}
 use Rattle.noc_model.proofs.BuiltRecord.{IsBuilt}
@@ -23,16 +23,16 @@ use Rattle.noc_model.proofs.WormRecord.{IsWorm, IsPlaced, IsNear, IsEntering, cl
 use Rattle.noc_model.proofs.InjectionPhase.{light}
 use Rattle.noc_model.proofs.MoveLemmas.{IsFirst, IsMoving, IsStaying, IsMoved, moved-or-not, first-is, weight-gone, weight-in, placed-in, same-far, next-no-eject, leads-end, end-far, no-end-eject}
 
-module _ (net : Setup) (built : IsBuilt net) (wired : IsWired net) (F : State) (keyed : IsKeyed net F.at) (w : IsWorm net F.own (place_of net F))
-    (n : ℕ) (still : (p i : ℕ) → IsValid net p i → (c : Channel) → place_of net F p i ≢ On c) where
+module _ (net : Setup) (built : IsBuilt net) (wired : IsWired net) (F : State) (keyed : IsKeyed net F.at) (w : IsWorm net F.own (place_of_flit net F))
+    (n : ℕ) (still : (p i : ℕ) → IsValid net p i → (c : Channel) → place_of_flit net F p i ≢ On c) where
   abbrev pub T : State
   T = after_verdicts net n F
 
   abbrev pub at : ℕ → ℕ → Place
-  at p i = place_of net F p i
+  at p i = place_of_flit net F p i
 
   abbrev pub to : ℕ → ℕ → Place
-  to p i = place_of net T p i
+  to p i = place_of_flit net T p i
 
   abbrev pub kept : List (Channel × ℕ)
   kept = filter (λ pair. not (is_released net F pair)) F.own
@@ -79,7 +79,7 @@ module _ (net : Setup) (built : IsBuilt net) (wired : IsWired net) (F : State) (
       cases : (x : Place) → at p i ≡ x → weight net p x ≤ 3 * far_of net p c
       cases Source e =
           let wi : weight net p (at p i) ≡ 3 * hops net p + 2 = ap (weight net p) e in
-          let lj = light net built F.own (place_of net F) w p (at p j) (w.placed p j v) (λ s. let z : In c ≡ Source = sym m.was ∙ s in cc z) in
+          let lj = light net built F.own (place_of_flit net F) w p (at p j) (w.placed p j v) (λ s. let z : In c ≡ Source = sym m.was ∙ s in cc z) in
           let b = below in
           absurd (omega arith)
       cases (On d) e = absurd (still p i vi d e)
@@ -142,10 +142,10 @@ module _ (net : Setup) (built : IsBuilt net) (wired : IsWired net) (F : State) (
   -- a tail leaves the buffer of a channel of p exactly where it is that of p
   pub tail-of : (c : Channel) (p : ℕ) → Has (c, p) F.own → tail_leaves net F c ≡ true → (verdict_in net F c ≡ Moved) × IsFirst net built F keyed w c p (last_of net p)
   tail-of c p h e =
-      let parts = and_parts (is_moved (verdict_in net F c)) (is_tail net (first_in net F c)) e in
-      (is_moved-true _ parts.0, named (first_in net F c) refl parts.1)
+      let parts = and_parts (is_moved (verdict_in net F c)) (is_tail_of_packet net (front_in net F c)) e in
+      (is_moved-true _ parts.0, named (front_in net F c) refl parts.1)
     where
-      named : (o : Option Located) → first_in net F c ≡ o → is_tail net o ≡ true → IsFirst net built F keyed w c p (last_of net p)
+      named : (o : Option Located) → front_in net F c ≡ o → is_tail_of_packet net o ≡ true → IsFirst net built F keyed w c p (last_of net p)
       named None f t = absurd (false≢true t)
       named (Some g) f t =
           let x = first-is net built F keyed w c g f in
@@ -162,7 +162,7 @@ module _ (net : Setup) (built : IsBuilt net) (wired : IsWired net) (F : State) (
       let v = (valid-last net built p low).1 in
       let len : last_of net p + 1 ≡ (packet_at net p).length = omega arith in
       let len' : f.flit.index + 1 ≡ (packet_at net f.flit.packet).length = ap (λ x. x + 1) f.index_is ∙ len ∙ ap (λ x. (packet_at net x).length) (sym f.packet_is) in
-      and_from _ _ (ap is_moved m) (ap (is_tail net) f.found ∙ eq-eqb _ _ len')
+      and_from _ _ (ap is_moved m) (ap (is_tail_of_packet net) f.found ∙ eq-eqb _ _ len')
 
   pub kept-left : (c : Channel) (p : ℕ) → Has (c, p) F.own → not (is_released net F (c, p)) ≡ true → Has (c, p) T.own
   unfolding after_verdicts
@@ -208,16 +208,16 @@ module _ (net : Setup) (built : IsBuilt net) (wired : IsWired net) (F : State) (
       arrives : IsEject c → ⊥
       arrives = no-end-eject net c (leads-end net c o (built.leads _ _ c o g.allowed)).0 (leads-end net c o (built.leads _ _ c o g.allowed)).2
 
-      named : (x : Channel) → x ≡ o → ((r : ℕ) × (begin o ≡ Some r) × (end_of net.relation c ≡ Some r)) → IsNear net p o
+      named : (x : Channel) → x ≡ o → ((r : ℕ) × (sending_router o ≡ Some r) × (end_of net.relation c ≡ Some r)) → IsNear net p o
       named (Link r a v) e l =
-          let same : l.0 ≡ r = same_Some l.0 r (sym l.1 ∙ ap begin (sym e)) in
+          let same : l.0 ≡ r = same_Some l.0 r (sym l.1 ∙ ap sending_router (sym e)) in
           let far : far_of net p c ≡ distance net.relation.grid r (goal net p) = end-far net c l.0 (goal net p) l.2 ∙ ap (λ y. distance net.relation.grid y (goal net p)) same in
           let step = built.shorter (class_of net p) (goal net p) c r a v (subst (λ (y : Channel). IsTrue (permits net.relation (class_of net p) c (goal net p) y)) (sym e) g.allowed) in
           let top = waiting-far c p owns arrives in
           subst (λ (y : Channel). IsNear net p y) e (omega arith, omega arith)
-      named (Inject m v) e l = absurd (none-some l.0 (ap begin e ∙ l.1))
+      named (Inject m v) e l = absurd (none-some l.0 (ap sending_router e ∙ l.1))
       named (Eject m v) e l =
-          let same : l.0 ≡ m = same_Some l.0 m (sym l.1 ∙ ap begin (sym e)) in
+          let same : l.0 ≡ m = same_Some l.0 m (sym l.1 ∙ ap sending_router (sym e)) in
           let far : far_of net p c ≡ distance net.relation.grid m (goal net p) = end-far net c l.0 (goal net p) l.2 ∙ ap (λ y. distance net.relation.grid y (goal net p)) same in
           let home = built.home (class_of net p) (goal net p) c m v (subst (λ (y : Channel). IsTrue (permits net.relation (class_of net p) c (goal net p) y)) (sym e) g.allowed) in
           subst (λ (y : Channel). IsNear net p y) e (sym far ∙ home)
@@ -327,7 +327,7 @@ module _ (net : Setup) (built : IsBuilt net) (wired : IsWired net) (F : State) (
             let z : In (Inject (packet_at net p).source r.0) ≡ Source = sym x.1.there ∙ tail in cc z),
       )
 
-  pub worm-after_verdicts : IsWorm net T.own (place_of net T)
+  pub worm-after_verdicts : IsWorm net T.own (place_of_flit net T)
   worm-after_verdicts = record {
     once = once-after_verdicts net wired F n w.once;
     path = λ p. path-after_verdicts net wired F built w.once p (w.path p) n;

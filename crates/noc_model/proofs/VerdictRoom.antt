@@ -5,7 +5,7 @@ use Rattle.std.specs.List.{AllByRecursion}
 use Rattle.std.proofs.lemmas.Bool.{false≢true, eqb-true, ne_eqb, and_parts, and_left, and_right, ltb-true, or_cases}
 use Rattle.noc_route.specs.Channel.{Channel, Link, Inject, Eject, same_channel, is_link, inputs, arrival_of, channel_vc, output_index}
 use Rattle.noc_router.specs.Verdict.{Unrouted, Holds}
-use Rattle.noc_model.specs.Network.{Setup, State, Located, Place, On, In, Out, place_of, is_on, has_channel, buffer_of, count_on, count_in, credit_of, has_credit_in, after_verdicts, verdict_in, verdict_at, next_channel, gone_to, moved_place, claim_of, round_at}
+use Rattle.noc_model.specs.Network.{Setup, State, Located, Place, On, In, Out, place_of_flit, is_on, has_channel, buffer_of, count_on, count_in, credit_of, has_credit_in, after_verdicts, verdict_in, verdict_at, next_channel, gone_to, moved_place, claim_of, round_at}
 use Rattle.noc_router.specs.Verdict.{is_moved}
 use Rattle.noc_model.proofs.BufferLemmas.{same_flit}
 use Rattle.noc_model.proofs.BuiltRecord.{IsBuilt}
@@ -17,7 +17,7 @@ use Rattle.noc_model.proofs.OwnedLemmas.{once-same}
 use Rattle.noc_model.proofs.PlaceLemmas.{IsValid, IsKeyed, IsSortedPair, place-of-flit, place-stepped, is_on-is}
 use Rattle.noc_model.proofs.WormRecord.{IsWorm}
 use Rattle.noc_model.proofs.MoveLemmas.{IsMoving, IsMoved, moved-or-not, next-once}
-use Rattle.noc_model.proofs.RoomLemmas.{held, Gains, count-one_more, filter-some}
+use Rattle.noc_model.proofs.RoomLemmas.{places_taken, Gains, count-one_more, filter-some}
 
 -- flits in order are of different keys
 pub sorted-distinct : (net : Setup) (fs : List Located) → Pairs IsSortedPair fs → IsDistinct same_flit fs
@@ -50,11 +50,11 @@ module _ (net : Setup) (F : State) where
       at : (a : Option (ℕ × ℕ)) → arrival_of net.relation.grid c ≡ a → (0 < count_in net F c) × (has_credit_in net F o ≡ true)
       at None h = let g : Empty ≡ Moved = sym (ap (verdict_at net F c) h) ∙ e in absurd (cc g)
       at (Some place) h =
-          let held = moved-holds net.relation.vcs (round_at net F place.0) (place.1 * net.relation.vcs + channel_vc c) (claim_of net F place.0 c) (nat_lt 0 (count_in net F c)) (sym (ap (verdict_at net F c) h) ∙ e) in
-          (ltb-true _ _ held.2, holding place.0 held.0 held.1)
+          let places_taken = moved-holds net.relation.vcs (round_at net F place.0) (place.1 * net.relation.vcs + channel_vc c) (claim_of net F place.0 c) (nat_lt 0 (count_in net F c)) (sym (ap (verdict_at net F c) h) ∙ e) in
+          (ltb-true _ _ places_taken.2, holding place.0 places_taken.0 places_taken.1)
 
-module _ (net : Setup) (built : IsBuilt net) (F : State) (keyed : IsKeyed net F.at) (w : IsWorm net F.own (place_of net F))
-    (n : ℕ) (still : (p i : ℕ) → IsValid net p i → (c : Channel) → place_of net F p i ≢ On c) where
+module _ (net : Setup) (built : IsBuilt net) (F : State) (keyed : IsKeyed net F.at) (w : IsWorm net F.own (place_of_flit net F))
+    (n : ℕ) (still : (p i : ℕ) → IsValid net p i → (c : Channel) → place_of_flit net F p i ≢ On c) where
   abbrev T : State
   T = after_verdicts net n F
 
@@ -103,14 +103,14 @@ module _ (net : Setup) (built : IsBuilt net) (F : State) (keyed : IsKeyed net F.
       v : IsValid net f.packet f.index
       v = keyed.valid f h
 
-      here : place_of net F f.packet f.index ≡ f.place
+      here : place_of_flit net F f.packet f.index ≡ f.place
       here = place-of-flit net F keyed f h
 
-      goes : place_of net T f.packet f.index ≡ (step f).place
+      goes : place_of_flit net T f.packet f.index ≡ (step f).place
       goes = place-stepped net (λ (g : Located). moved_place net F n g g.place) F T keyed refl f.packet f.index v
           ∙ ap (λ (x : Place). moved_place net F n (record { packet = f.packet; index = f.index; place = x }) x) here
 
-      on : place_of net T f.packet f.index ≡ On o
+      on : place_of_flit net T f.packet f.index ≡ On o
       on = goes ∙ is_on-is o (step f).place e
 
       to : (c x : Channel) → IsMoving net built F keyed w n still f.packet f.index c x → gone_to net n c (Some x) ≡ On o → (d : Channel) × IsMoving net built F keyed w n still f.packet f.index d o
@@ -150,7 +150,7 @@ module _ (net : Setup) (built : IsBuilt net) (F : State) (keyed : IsKeyed net F.
           absurd (still f.packet f.index (keyed.valid f r.1) o (place-of-flit net F keyed f r.1 ∙ is_on-is o f.place r.2))
 
   -- the credit law: on + in + back ≤ the places of a buffer
-  pub room-after_verdicts : (c : Channel) → count_in net F c ≤ net.places → held net T c ≤ net.places
+  pub room-after_verdicts : (c : Channel) → count_in net F c ≤ net.places → places_taken net T c ≤ net.places
   unfolding after_verdicts
   room-after_verdicts c room = cases (filter-some (λ (f : Located). is_on c f.place) T.at)
     where
@@ -175,19 +175,19 @@ module _ (net : Setup) (built : IsBuilt net) (F : State) (keyed : IsKeyed net F.
           bounded : (a b k : ℕ) → 0 < net.places - a - b - k → b < net.places
           bounded a b k m = omega arith
 
-      link-of : (f : Located) → Has f F.at → (d o : Channel) → IsMoving net built F keyed w n still f.packet f.index d o → place_of net T f.packet f.index ≡ On o → is_link o ≡ true
+      link-of : (f : Located) → Has f F.at → (d o : Channel) → IsMoving net built F keyed w n still f.packet f.index d o → place_of_flit net T f.packet f.index ≡ On o → is_link o ≡ true
       link-of f h d (Link r a u) m e = refl
       link-of f h d (Inject k u) m e = let z : In d ≡ On (Inject k u) = sym m.now ∙ e in absurd (cc z)
       link-of f h d (Eject k u) m e = let z : Out n ≡ On (Eject k u) = sym m.now ∙ e in absurd (cc z)
 
-      cases : (count_on net T c ≡ 0) ⊎ ((f : Located) × Has f T.at × (is_on c f.place ≡ true)) → held net T c ≤ net.places
+      cases : (count_on net T c ≡ 0) ⊎ ((f : Located) × Has f T.at × (is_on c f.place ≡ true)) → places_taken net T c ≤ net.places
       cases (inl e) = let r = rest in omega arith
       cases (inr r) =
           let m = Has-map step r.0 F.at r.1 in
           let f : Located = m.0 in
           let on : is_on c (step f).place ≡ true = ap (λ (x : Located). is_on c x.place) m.2 ∙ r.2 in
           let x = comes-on c f m.1 on in
-          let goes : place_of net T f.packet f.index ≡ (step f).place
+          let goes : place_of_flit net T f.packet f.index ≡ (step f).place
           = place-stepped net (λ (g : Located). moved_place net F n g g.place) F T keyed refl f.packet f.index (keyed.valid f m.1)
           ∙ ap (λ (y : Place). moved_place net F n (record { packet = f.packet; index = f.index; place = y }) y) (place-of-flit net F keyed f m.1) in
           let l = link-of f m.1 x.0 c x.1 (goes ∙ is_on-is c (step f).place on) in

@@ -7,14 +7,14 @@ use Rattle.noc_packet.specs.declared.packet.Flit.{Flit}
 use Rattle.noc_packet.specs.declared.packet.Beat.{Beat}
 use Rattle.noc_vc.specs.Input.{Input, idle_input}
 use Rattle.noc_vc.specs.Output.{Output, ejection_output}
-use Rattle.noc_router.specs.Verdict.{Turns}
+use Rattle.noc_router.specs.Verdict.{ArbiterStates}
 use Rattle.noc_router.specs.View.{Site, View, idle_beats}
 use Rattle.noc_router.specs.declared.verdict.Finding.{Finding}
 use Rattle.noc_model.specs.Lockstep.{view_in, view_at, site_at, seen_flits, seen_input, seen_output, last_event_at, counts_before, findings_before}
 use Rattle.noc_model.specs.Network.{Setup, State, size, arriving, leaving, state_at}
 use Rattle.noc_model.specs.Seen.{IsSeen}
 
-abbrev pub made : Site → List (List Flit) → List Input → List Output → Turns → List (ℕ × Packet) → Option (ℕ × ℕ) → List (ℕ × Option ℕ) → ℕ → Option ℕ → List (List ℕ) → List Finding → ℕ → Bool → List Beat → View
+abbrev pub made : Site → List (List Flit) → List Input → List Output → ArbiterStates → List (ℕ × Packet) → Option (ℕ × ℕ) → List (ℕ × Option ℕ) → ℕ → Option ℕ → List (List ℕ) → List Finding → ℕ → Bool → List Beat → View
 made site buffers inputs outputs arbiters queue sending ends misfits last_event counts findings given had_event to_put = record {
   site = site;
   buffers = buffers;

@@ -11,7 +11,7 @@ use Rattle.noc_packet.specs.declared.packet.Flit.{Flit}
 use Rattle.noc_packet.specs.Set.{has_bit}
 use Rattle.noc_router.specs.Links.{is_idle_beat}
 use Rattle.noc_router.specs.View.{View, idle_beat, beat_to_put}
-use Rattle.noc_model.specs.Halves.{beat_at, received, sent_on}
+use Rattle.noc_model.specs.Halves.{beat_at, wire_after_puts, sent_on}
 use Rattle.noc_model.specs.Lockstep.{beat_from}
 
 -- of these beats those of the set are left
@@ -150,13 +150,13 @@ left-more rest rest' k before after members l left port =
 pub left-at : (rest k : ℕ) (before after : List Beat) → AreLeft rest before after → has_bit rest k ≡ true → get_or after k idle_beat ≡ get_or before k idle_beat
 left-at rest k before after left e = left k ∙ ap (λ b. if b then get_or before k idle_beat else idle_beat) e
 
--- .. and in the end none is left
+-- in the end no port is left
 pub left-none : (rest n : ℕ) (before after : List Beat) → ((p : ℕ) → has_bit rest p ≡ false) → length after ≡ n → AreLeft rest before after → after ≡ replicate n idle_beat
 left-none rest n before after none count left =
     ext_get_or idle_beat after (replicate n idle_beat) (count ∙ sym (length-replicate n idle_beat))
     (λ k l. left k ∙ ap (λ b. if b then get_or before k idle_beat else idle_beat) (none k) ∙ sym (get_or-idle n k))
 
-pub received-last : (rest : ℕ) (v : View) (from : Option (ℕ × ℕ)) (beat : Beat) → ((p : ℕ) → has_bit rest p ≡ false) → received_but rest v from beat ≡ received v from beat
+pub received-last : (rest : ℕ) (v : View) (from : Option (ℕ × ℕ)) (beat : Beat) → ((p : ℕ) → has_bit rest p ≡ false) → received_but rest v from beat ≡ wire_after_puts v from beat
 received-last rest v None beat none = refl
 received-last rest v (Some (a, q)) beat none = rw (none q) (at (nat_eq a v.site.node))
   where

@@ -6,7 +6,7 @@ use Rattle.noc_model.specs.Network.{In, Located, On, Out, Place, Setup, Source, 
 use Rattle.noc_model.specs.Progress.{is_flying}
 use Rattle.noc_model.proofs.PostLemmas.{some_of_map}
 use Rattle.noc_model.proofs.ProgressRecord.{IsBuilt, IsReal, LeadsOn}
-use Rattle.noc_route.specs.Channel.{Channel, Eject, Inject, Link, begin, channel_vc, output_at, output_index, same_channel}
+use Rattle.noc_route.specs.Channel.{Channel, Eject, Inject, Link, sending_router, channel_vc, output_at, output_index, same_channel}
 use Rattle.noc_route.specs.Routes.{permits}
 use Rattle.noc_route.proofs.BuiltLemmas.{linked-port}
 use Rattle.noc_router.specs.Verdict.{Claim, Holds, Unrouted, Waits, is_event, verdict_of}
@@ -79,9 +79,9 @@ module _ (net : Setup) (F : State) where
   pub next-input : (c o : Channel) → next_channel net F c ≡ Some o → is_input c ≡ true
   next-input (Link r q v) o e = refl
   next-input (Inject n v) o e = refl
-  next-input (Eject n v) o e = absurd (false≢true (at (begin o) refl))
+  next-input (Eject n v) o e = absurd (false≢true (at (sending_router o) refl))
     where
-      at : (b : Option ℕ) → begin o ≡ b → false ≡ true
+      at : (b : Option ℕ) → sending_router o ≡ b → false ≡ true
       at None k = sym (ap (λ b. unwrap_or (option_map (is_some_of None) b) false) k) ∙ (next-has (Eject n v) o e).3
       at (Some x) k = sym (ap (λ b. unwrap_or (option_map (is_some_of None) b) false) k) ∙ (next-has (Eject n v) o e).3
 

@@ -4,7 +4,7 @@ use Rattle.std.specs.Prelude.{◌⊎◌, IsTrue, if◌then◌else◌}
 use Rattle.std.proofs.lemmas.Bool.{false≢true, lt-ltb}
 use Rattle.noc_topo.specs.Words.{Has}
 use Rattle.noc_route.specs.Channel.{Channel, Link, Inject, Eject, is_link}
-use Rattle.noc_model.specs.Network.{Setup, State, Located, Place, Source, On, In, Out, place_of, tail_place, count_in, count_on, credit_of, has_channel, owner_of, owned_by, is_past, packet_at, state_at, frozen_at}
+use Rattle.noc_model.specs.Network.{Setup, State, Located, Place, Source, On, In, Out, place_of_flit, tail_place, count_in, count_on, credit_of, has_channel, owner_of, owned_by, is_past, packet_at, state_at, frozen_at}
 use Rattle.noc_model.specs.Worm.{IsWormOrder, IsPath, IsRear}
 use Rattle.noc_model.specs.Good.{IsGoodSetup}
 use Rattle.noc_model.proofs.BuiltRecord.{IsBuilt}
@@ -14,17 +14,17 @@ use Rattle.noc_model.proofs.PathLemmas.{IsEject, IsBehind, path-behind, ends-at-
 use Rattle.noc_model.proofs.PlaceLemmas.{IsKeyed, place-of-flit}
 use Rattle.noc_model.proofs.WormRecord.{IsWorm, IsPlaced, IsEntering, class_of, goal, last_of, far_of, valid-last}
 use Rattle.noc_model.proofs.MoveLemmas.{placed-in}
-use Rattle.noc_model.proofs.RoomLemmas.{held}
+use Rattle.noc_model.proofs.RoomLemmas.{places_taken}
 use Rattle.noc_model.proofs.Unmixed.{unmixed-buffer}
 use Rattle.noc_model.proofs.RoutedRecord.{IsHeld}
 use Rattle.noc_model.proofs.RoutedState.{IsWhole, IsWholeFrozen, whole-state, whole-frozen_state}
 
-module _ (net : Setup) (built : IsBuilt net) (S : State) (keyed : IsKeyed net S.at) (w : IsWorm net S.own (place_of net S)) where
+module _ (net : Setup) (built : IsBuilt net) (S : State) (keyed : IsKeyed net S.at) (w : IsWorm net S.own (place_of_flit net S)) where
   -- a flit on a wire is on a link channel that its packet owns
   pub on-own : (f : Located) (c : Channel) → Has f S.at → f.place ≡ On c → IsTrue (is_link c) × (owner_of net S c ≡ Some f.packet)
   on-own f c h e =
       let v = keyed.valid f h in
-      let there : place_of net S f.packet f.index ≡ On c = place-of-flit net S keyed f h ∙ e in
+      let there : place_of_flit net S f.packet f.index ≡ On c = place-of-flit net S keyed f h ∙ e in
       owned c (subst (λ (x : Place). IsPlaced net S.own f.packet x) there (w.placed f.packet f.index v))
     where
       owned : (d : Channel) → IsPlaced net S.own f.packet (On d) → IsTrue (is_link d) × (owner_of net S d ≡ Some f.packet)
@@ -156,11 +156,11 @@ module _ (net : Setup) (good : IsGoodSetup net) where
       (λ c p h l e. absurd (false≢true (sym (x.routed.behind c p h) ∙ e))) x.routed.mid.eject x.sound.room
 
   -- what is on the wire, in the buffer and on its way back is never more than the places of a buffer, at the start of each cycle
-  pub held-at : (n : ℕ) (c : Channel) → held net (state_at net n) c ≤ net.places
+  pub held-at : (n : ℕ) (c : Channel) → places_taken net (state_at net n) c ≤ net.places
   held-at n c = (whole-at n).sound.room c
 
   -- and the credits are all that is left
-  pub credit-at : (n : ℕ) (c : Channel) → credit_of net (state_at net n) c + held net (state_at net n) c ≡ net.places
+  pub credit-at : (n : ℕ) (c : Channel) → credit_of net (state_at net n) c + places_taken net (state_at net n) c ≡ net.places
   credit-at n c =
       rest (count_on net (state_at net n) c) (count_in net (state_at net n) c) (if has_channel (state_at net n).back c then 1 else 0) (held-at n c)
     where

@@ -26,30 +26,30 @@ pub record CoreState : Type 0 where
   pub posts : List Post
 
 -- how many link ports a router has, with or without a link
-abbrev pub links : Setup → ℕ
-links net = local_port net.relation.grid
+abbrev pub link_ports : Setup → ℕ
+link_ports net = local_port net.relation.grid
 
 -- no beat for any link port
 abbrev pub no_beats : Setup → List (Option Beat)
-no_beats net = replicate (links net) None
+no_beats net = replicate (link_ports net) None
 
 -- whether a router has a link at a port
 abbrev pub is_linked : Setup → ℕ → ℕ → Bool
 is_linked net r port = is_some (neighbour net.relation.grid r port)
 
 -- a router that is between its cycles
-abbrev pub rested : Setup → View → ℕ → List (List Beat) → Post
-rested net view n wires = record { view = view; steps = n; wires = wires; taken = no_beats net; decided = false; unput = no_beats net }
+abbrev pub resting_post : Setup → View → ℕ → List (List Beat) → Post
+resting_post net view n wires = record { view = view; steps = n; wires = wires; taken = no_beats net; decided = false; unput = no_beats net }
 
 -- the wires that arrive at router r at count n, each with the beat in flight
 abbrev pub wires_in_flight : Setup → ℕ → ℕ → List (List Beat)
-wires_in_flight net n r = tabulate (links net) (λ port. if is_linked net r port then beat_at (beats_in net (state_at net n)) r port ∷ [] else [])
+wires_in_flight net n r = tabulate (link_ports net) (λ port. if is_linked net r port then beat_at (beats_in net (state_at net n)) r port ∷ [] else [])
 
 -- the core that begins where a network is after its cycles: each router has its view of the network's state
 unfoldable pub opening_core : Run → CoreState
 opening_core u = record {
   net = u.net;
-  posts = tabulate (nodes u.net.relation.grid) (λ r. rested u.net (view_at u.net u.count r) u.count (wires_in_flight u.net u.count r));
+  posts = tabulate (nodes u.net.relation.grid) (λ r. resting_post u.net (view_at u.net u.count r) u.count (wires_in_flight u.net u.count r));
 }
 
 -- the router with this number, if it exists
@@ -60,7 +60,7 @@ post_at k r = slice_get k.posts r
 abbrev pub wire_of : Post → ℕ → List Beat
 wire_of post port = slice_index_or post.wires port []
 
--- .. of this router, if it exists
+-- the wire that arrives at a port of this router, if it exists
 abbrev pub wire_at : CoreState → ℕ → ℕ → List Beat
 wire_at k r port = unwrap_or (option_map (λ post. wire_of post port) (post_at k r)) []
 
@@ -84,7 +84,7 @@ none_has beats = list_all (λ beat. is_none beat) beats
 
 -- there is a beat for each link of router r
 abbrev pub all_have : Setup → ℕ → List (Option Beat) → Bool
-all_have net r beats = list_all (λ port. not (is_linked net r port) || has_beat beats port) (below (links net))
+all_have net r beats = list_all (λ port. not (is_linked net r port) || has_beat beats port) (below (link_ports net))
 
 -- ---- when an event may happen, where a router does at most `limit` cycles
 
@@ -120,14 +120,14 @@ taking port post = record post {
 }
 
 -- after its last put a router is between its cycles
-abbrev pub finished : Setup → Post → Post
-finished net post = if none_has post.unput then rested net post.view (post.steps + 1) post.wires else post
+abbrev pub post_after_last_put : Setup → Post → Post
+post_after_last_put net post = if none_has post.unput then resting_post net post.view (post.steps + 1) post.wires else post
 
 -- one whole cycle of the view over the beats that were taken
 abbrev pub deciding : Setup → ℕ → Post → Post
 deciding net r post =
     let after = local_step net.relation post.view (map (λ beat. unwrap_or beat idle_beat) post.taken) post.steps in
-    finished net (record post {
+    post_after_last_put net (record post {
       view = after.0;
       decided = true;
       unput = map_indexed (λ port beat. if is_linked net r port then Some beat else None) after.1;
@@ -135,7 +135,7 @@ deciding net r post =
 
 -- the beat for a port is put
 abbrev pub putting : Setup → ℕ → Post → Post
-putting net port post = finished net (record post { unput = slice_set post.unput port None })
+putting net port post = post_after_last_put net (record post { unput = slice_set post.unput port None })
 
 -- the beat that a router has for a port
 abbrev pub beat_to_send : ℕ → Option Post → Beat
@@ -145,7 +145,7 @@ beat_to_send port post = unwrap_or (option_and_then (λ (post : Post). slice_ind
 abbrev pub receiving : ℕ → Beat → Post → Post
 receiving port beat post = record post { wires = slice_set post.wires port (wire_of post port ++ beat ∷ []) }
 
--- .. of the one that arrives at this router and port, if there is one
+-- a beat comes to the end of the wire that arrives at this router and port, if there is one
 abbrev pub onto_wire : Option (ℕ × ℕ) → Beat → CoreState → CoreState
 onto_wire None beat k = k
 onto_wire (Some to) beat k = with_post to.0 (receiving to.1 beat) k
@@ -160,7 +160,7 @@ happens k (Put r port) = onto_wire (neighbour k.net.relation.grid r port) (beat_
 abbrev pub after_event : ℕ → CoreState → Event → CoreState
 after_event limit k e = if is_ready limit k e then happens k e else k
 
--- .. after a list of events
+-- the core after a list of events, of which those change nothing that are not ready
 unfoldable pub after_events : ℕ → List Event → CoreState → CoreState
 after_events limit [] k = k
 after_events limit (e ∷ es) k = after_events limit es (after_event limit k e)

@@ -31,5 +31,5 @@ module _ (net : Setup) where
   IsValid p i = (p < length net.packets) × (i < (packet_at net p).length)
 
   -- the places of the buffer of c that are taken, by flits on its wire and in it, or by a credit that is on its way back
-  abbrev pub held : State → Channel → ℕ
-  held S c = count_on net S c + count_in net S c + (if has_channel S.back c then 1 else 0)
+  abbrev pub places_taken : State → Channel → ℕ
+  places_taken S c = count_on net S c + count_in net S c + (if has_channel S.back c then 1 else 0)

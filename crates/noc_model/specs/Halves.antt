@@ -4,7 +4,7 @@ use Rattle.noc_topo.specs.Words.{tabulate}
 use Rattle.noc_topo.specs.Shape.{Grid, local_port}
 use Rattle.noc_packet.specs.declared.packet.Beat.{Beat}
 use Rattle.noc_route.specs.Routes.{Routes}
-use Rattle.noc_router.specs.View.{View, IsRelationOf, all_taken, injected, planned, committed, idle_beat, idle_beats, beat_to_put}
+use Rattle.noc_router.specs.View.{View, IsRelationOf, view_after_takes, view_after_inject, decisions_of, view_after_commit, idle_beat, idle_beats, beat_to_put}
 use Rattle.noc_model.specs.Lockstep.{beats_at}
 
 -- the beat on the wire that arrives at a port of router r
@@ -16,19 +16,19 @@ unfoldable pub incoming : Grid → List Beat → List Beat
 incoming grid beats = tabulate (local_port grid) (λ port. slice_index_or beats port idle_beat)
 
 -- a router after the first half of cycle n over these beats
-unfoldable pub decided : Routes → ℕ → List Beat → View → View
-decided relation n beats v =
-    let frozen = injected n (all_taken relation beats v) in
-    committed (planned relation frozen) frozen
+unfoldable pub view_after_decide : Routes → ℕ → List Beat → View → View
+view_after_decide relation n beats v =
+    let frozen = view_after_inject n (view_after_takes relation beats v) in
+    view_after_commit (decisions_of relation frozen) frozen
 
 -- a router that has put all its beats
-abbrev pub emptied : View → View
-emptied v = record v { to_put = idle_beats v.site }
+abbrev pub view_after_puts : View → View
+view_after_puts v = record v { to_put = idle_beats v.site }
 
 -- a wire that arrives, after router v has put its beats: the neighbour at its port is given
-abbrev pub received : View → Option (ℕ × ℕ) → Beat → Beat
-received v None beat = beat
-received v (Some from) beat = if nat_eq from.0 v.site.node then beat_to_put v from.1 else beat
+abbrev pub wire_after_puts : View → Option (ℕ × ℕ) → Beat → Beat
+wire_after_puts v None beat = beat
+wire_after_puts v (Some from) beat = if nat_eq from.0 v.site.node then beat_to_put v from.1 else beat
 
 -- no beat arrives at a port that has no link
 abbrev pub IsLinked : Grid → List Beat → Type 0
@@ -39,14 +39,14 @@ abbrev pub IsSilent : List Beat → Type 0
 IsSilent beats = (port : ℕ) → slice_index_or beats port idle_beat ≡ idle_beat
 
 -- the router of this node, with a beat to put for each link port
-pub record IsPlaced (relation : Routes) (node : ℕ) (v : View) : Type 0 where
+pub record HasItsBeats (relation : Routes) (node : ℕ) (v : View) : Type 0 where
   pub built_for : IsRelationOf relation v
   pub site : v.site.node ≡ node
   pub beats : length v.to_put ≡ local_port relation.grid
 
 -- the routers of a relation, each at the place of its node
 abbrev pub ArePlaced : Routes → List View → Type 0
-ArePlaced relation routers = (node : ℕ) (d : View) → node < length routers → IsPlaced relation node (slice_index_or routers node d)
+ArePlaced relation routers = (node : ℕ) (d : View) → node < length routers → HasItsBeats relation node (slice_index_or routers node d)
 
 -- the wires with this beat on the one that arrives at a place, if there is one
 abbrev pub sent_on : List (List Beat) → Option (ℕ × ℕ) → Beat → List (List Beat)

@@ -6,7 +6,7 @@ use Rattle.noc_topo.specs.Shape.{IsGrid, nodes, neighbour}
 use Rattle.noc_packet.specs.declared.packet.Beat.{Beat}
 use Rattle.noc_topo.specs.Words.{map_indexed, tabulate}
 use Rattle.noc_router.specs.Counts.{one_if}
-use Rattle.noc_model.specs.Core.{Post, CoreState, links, is_linked, post_at, rested, wire_of, has_beat, is_between, are_between}
+use Rattle.noc_model.specs.Core.{Post, CoreState, link_ports, is_linked, post_at, resting_post, wire_of, has_beat, is_between, are_between}
 use Rattle.noc_model.specs.Order.{takes, decides, puts}
 use Rattle.noc_model.specs.declared.event.Event.{Event}
 use Rattle.noc_model.specs.Halves.{beat_at}
@@ -31,21 +31,21 @@ beats_of_cycles net r port a b = map (λ n. beat_at (lockstep_at net n).wires r 
 
 -- the wires that arrive at router r at count n of the lockstep run, each with the beat in flight
 abbrev pub lockstep_wires : Setup → ℕ → ℕ → List (List Beat)
-lockstep_wires net n r = tabulate (links net) (λ port. if is_linked net r port then beat_at (lockstep_at net n).wires r port ∷ [] else [])
+lockstep_wires net n r = tabulate (link_ports net) (λ port. if is_linked net r port then beat_at (lockstep_at net n).wires r port ∷ [] else [])
 
 -- the core that begins where the lockstep run is at a count
 unfoldable pub lockstep_core : Run → CoreState
 lockstep_core u = record {
   net = u.net;
-  posts = map_indexed (λ r view. rested u.net view u.count (lockstep_wires u.net u.count r)) (lockstep_at u.net u.count).views;
+  posts = map_indexed (λ r view. resting_post u.net view u.count (lockstep_wires u.net u.count r)) (lockstep_at u.net u.count).views;
 }
 
 -- router r is in a cycle of the lockstep run
 pub record IsPostInStep (limit : ℕ) (net : Setup) (r : ℕ) (post : Post) : Type 0 where
   pub view : slice_get (lockstep_at net (cycle_of post)).views r ≡ Some post.view
-  pub wires : length post.wires ≡ links net
-  pub taken : length post.taken ≡ links net
-  pub unput : length post.unput ≡ links net
+  pub wires : length post.wires ≡ link_ports net
+  pub taken : length post.taken ≡ link_ports net
+  pub unput : length post.unput ≡ link_ports net
   pub unlinked : (port : ℕ) → is_linked net r port ≡ false → wire_of post port ≡ []
   pub beats_taken : (port : ℕ) (beat : Beat) → slice_index_or post.taken port None ≡ Some beat → beat ≡ beat_at (lockstep_at net post.steps).wires r port
   pub beats_unput : (port s q : ℕ) (beat : Beat) → slice_index_or post.unput port None ≡ Some beat → neighbour net.relation.grid r port ≡ Some (s, q)
@@ -85,7 +85,7 @@ pub record KeepsStep (net : Setup) (count : ℕ) (events : List Event) (k : Core
   pub routers : length k.posts ≡ nodes net.relation.grid
   -- each router has the view of the lockstep run, with its findings, at the count of its last Decide
   pub views : (r : ℕ) (post : Post) → post_at k r ≡ Some post → post.view ≡ slice_index_or (lockstep_at net (count + decides r events)).views r post.view
-  -- .. which is its own number of steps where it is between its cycles
+  -- the count of its last Decide is its own number of steps where it is between its cycles
   pub steps : (r : ℕ) (post : Post) → post_at k r ≡ Some post → is_between post ≡ true → post.steps ≡ count + decides r events
   pub wires : (r port s q : ℕ) (post sender : Post) → post_at k r ≡ Some post → post_at k s ≡ Some sender → neighbour net.relation.grid r port ≡ Some (s, q)
       → KeepsWire net events r port post s q sender

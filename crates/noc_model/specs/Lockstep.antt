@@ -8,7 +8,7 @@ use Rattle.noc_packet.specs.Packet.{flit_at}
 use Rattle.noc_packet.specs.declared.packet.Packet.{Packet}
 use Rattle.noc_packet.specs.declared.packet.Flit.{Flit}
 use Rattle.noc_packet.specs.declared.packet.Beat.{Beat}
-use Rattle.noc_route.specs.Channel.{Channel, Link, same_channel, is_link, begin, output_index, channel_vc}
+use Rattle.noc_route.specs.Channel.{Channel, Link, same_channel, is_link, sending_router, output_index, channel_vc}
 use Rattle.noc_route.specs.Routes.{set_at}
 use Rattle.noc_router.specs.Verdict.{is_event, column, out_of}
 use Rattle.noc_vc.specs.Input.{Input, idle_input, next_of}
@@ -82,8 +82,8 @@ module _ (net : Setup) where
   }
 
   -- the wires after each router has put its beats
-  unfoldable pub exchanged : List (List Beat) → List (List Beat)
-  exchanged sent = tabulate (nodes net.relation.grid) (λ r. tabulate (local_port net.relation.grid) (λ port. beat_from sent (neighbour net.relation.grid r port)))
+  unfoldable pub wires_after_puts : List (List Beat) → List (List Beat)
+  wires_after_puts sent = tabulate (nodes net.relation.grid) (λ r. tabulate (local_port net.relation.grid) (λ port. beat_from sent (neighbour net.relation.grid r port)))
 
   -- cycle n of all routers
   unfoldable pub lockstep_cycle : ℕ → Lockstep → Lockstep
@@ -91,7 +91,7 @@ module _ (net : Setup) where
       let steps = map_indexed (λ r view. local_step net.relation view (beats_at all.wires r) n) all.views in
       record {
         views = map (λ (step : View × List Beat). step.0) steps;
-        wires = exchanged (map (λ (step : View × List Beat). step.1) steps);
+        wires = wires_after_puts (map (λ (step : View × List Beat). step.1) steps);
       }
 
   -- the lockstep run at the start of cycle n
@@ -129,7 +129,7 @@ module _ (net : Setup) where
   seen_phase_with S r i c None = Waiting (seen_set S r i (owner_of net S c))
   seen_phase_with S r i c (Some o) = Active (output_index net.relation.grid net.relation.vcs o)
 
-  -- .. and one that is not routed is idle
+  -- a channel that is not routed is idle; a routed one is active where it has a next channel, and else it waits
   abbrev pub seen_phase : State → ℕ → ℕ → Channel → InputState
   seen_phase S r i c = if has_channel S.routed c then seen_phase_with S r i c (next_channel net S c) else Idle
 
@@ -214,7 +214,7 @@ module _ (net : Setup) where
   has_event_at n r =
       let S = state_at net n in
       list_any (λ (f : Located). flies_to r f.place) S.at
-      || list_any (λ c. is_some_of (begin c) r) S.back
+      || list_any (λ c. is_some_of (sending_router c) r) S.back
       || is_some (injection_at net (after_credits net (after_landing net S)) n r)
       || list_any (λ i. is_event (verdict_in_cycle net n r i)) (below (size net))
 

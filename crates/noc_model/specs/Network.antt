@@ -4,9 +4,9 @@ use Rattle.std.specs.List.{list_any, filter_map, flat_map, enumerate_from}
 use Rattle.noc_topo.specs.Words.{below, tabulate, map_indexed, is_some_of, least_by}
 use Rattle.noc_topo.specs.Shape.{nodes, ports, distance}
 use Rattle.noc_packet.specs.declared.packet.Packet.{Packet}
-use Rattle.noc_route.specs.Channel.{Channel, Link, Inject, Eject, same_channel, is_link, begin, arrival_of, channel_vc, output_at, output_index, input_at, inputs}
+use Rattle.noc_route.specs.Channel.{Channel, Link, Inject, Eject, same_channel, is_link, sending_router, arrival_of, channel_vc, output_at, output_index, input_at, inputs}
 use Rattle.noc_route.specs.Routes.{Routes, permits}
-use Rattle.noc_router.specs.Verdict.{Turns, opening_arbiters, Claim, Unrouted, Waits, Holds, Stand, Round, round_of, verdict_of, is_routed, is_granted, is_moved, arbiters_after}
+use Rattle.noc_router.specs.Verdict.{ArbiterStates, opening_arbiters, Claim, Unrouted, Waits, Holds, Stand, Round, round_of, verdict_of, is_routed, is_granted, is_moved, arbiters_after}
 use Rattle.noc_router.specs.declared.verdict.Verdict.{Verdict}
 use Rattle.noc_router.specs.declared.verdict.Verdict.TheVariants.{Empty}
 
@@ -40,7 +40,7 @@ pub record State : Type 0 where
   pub own : List (Channel × ℕ)  -- channels and the packets that own them, in the order in which they came to
   pub routed : List Channel  -- channels whose head was routed and whose tail has not left
   pub back : List Channel  -- link channels with a credit on its way back
-  pub arbiters : List Turns  -- of each router
+  pub arbiters : List ArbiterStates  -- of each router
 
 -- whether it is the source
 abbrev pub is_at_source : Place → Bool
@@ -120,8 +120,8 @@ module _ (net : Setup) where
   buffer_of S c = filter (λ (f : Located). is_in c f.place) S.at
 
   -- the first flit in the buffer of c
-  abbrev pub first_in : State → Channel → Option Located
-  first_in S c = find (λ (f : Located). is_in c f.place) S.at
+  abbrev pub front_in : State → Channel → Option Located
+  front_in S c = find (λ (f : Located). is_in c f.place) S.at
 
   -- how many flits are in the buffer of c
   abbrev pub count_in : State → Channel → ℕ
@@ -136,12 +136,12 @@ module _ (net : Setup) where
   flits_of S p = filter (λ (f : Located). nat_eq p f.packet) S.at
 
   -- where flit i of packet p is
-  abbrev pub place_of : State → ℕ → ℕ → Place
-  place_of S p i = unwrap_or (option_map (λ (f : Located). f.place) (find (λ (f : Located). nat_eq p f.packet && nat_eq i f.index) S.at)) Source
+  abbrev pub place_of_flit : State → ℕ → ℕ → Place
+  place_of_flit S p i = unwrap_or (option_map (λ (f : Located). f.place) (find (λ (f : Located). nat_eq p f.packet && nat_eq i f.index) S.at)) Source
 
   -- where the tail of p is
   abbrev pub tail_place : State → ℕ → Place
-  tail_place S p = place_of S p ((packet_at p).length - 1)
+  tail_place S p = place_of_flit S p ((packet_at p).length - 1)
 
   -- the places that a link channel has left: not on the wire, not in the buffer, no credit on its way
   abbrev pub credit_of : State → Channel → ℕ
@@ -165,7 +165,7 @@ module _ (net : Setup) where
 
   -- whether o begins at the router where c ends
   abbrev pub leads_from : Channel → Channel → Bool
-  leads_from c o = unwrap_or (option_map (is_some_of (end_of net.relation c)) (begin o)) false
+  leads_from c o = unwrap_or (option_map (is_some_of (end_of net.relation c)) (sending_router o)) false
 
   -- the channel that begins where c ends and belongs to the packet that owns c
   abbrev pub next_channel : State → Channel → Option Channel
@@ -243,7 +243,7 @@ module _ (net : Setup) where
   abbrev pub injection_at : State → ℕ → ℕ → Option Injection
   injection_at S n node = option_and_then (λ p. injection_with S n node p (find (is_injection_of node) (owned_by S p))) (first_waiting S node)
 
-  -- .. at all nodes
+  -- the injections at all nodes
   abbrev pub injections : State → ℕ → List Injection
   injections S n = filter_map (injection_at S n) (below (nodes net.relation.grid))
 
@@ -273,10 +273,10 @@ module _ (net : Setup) where
   -- ---- phase four: each input channel gets its verdict, all from this one frozen state
 
   -- the state after the first three phases of cycle n
-  unfoldable pub frozen : ℕ → State → State
-  frozen n S = after_injection n (after_credits (after_landing S))
+  unfoldable pub frozen_state : ℕ → State → State
+  frozen_state n S = after_injection n (after_credits (after_landing S))
 
-  -- .. which has this next channel
+  -- the claim of a channel that has this next channel
   abbrev pub claim_with : State → ℕ → Channel → Option Channel → Claim
   claim_with F r c None = Waits (ask F r c)
   claim_with F r c (Some o) = Holds (output_index net.relation.grid net.relation.vcs o) (has_credit_in F o)
@@ -295,7 +295,7 @@ module _ (net : Setup) where
   stands_at F r = tabulate size (λ i. stand_of F r (arriving r i))
 
   -- the arbiters of router r
-  abbrev pub arbiters_at : State → ℕ → Turns
+  abbrev pub arbiters_at : State → ℕ → ArbiterStates
   arbiters_at F r = slice_index_or F.arbiters r (record { channels = []; inputs = []; outputs = [] })
 
   -- what the arbiters of router r decide
@@ -325,17 +325,17 @@ module _ (net : Setup) where
   abbrev pub moved_place : State → ℕ → Located → Place → Place
   moved_place F n f Source = Source
   moved_place F n f (On c) = On c
-  moved_place F n f (In c) = if is_moved (verdict_in F c) && is_the_flit f (first_in F c) then gone_to n c (next_channel F c) else In c
+  moved_place F n f (In c) = if is_moved (verdict_in F c) && is_the_flit f (front_in F c) then gone_to n c (next_channel F c) else In c
   moved_place F n f (Out m) = Out m
 
   -- whether it is the tail of its packet
-  abbrev pub is_tail : Option Located → Bool
-  is_tail None = false
-  is_tail (Some f) = nat_eq (f.index + 1) (packet_at f.packet).length
+  abbrev pub is_tail_of_packet : Option Located → Bool
+  is_tail_of_packet None = false
+  is_tail_of_packet (Some f) = nat_eq (f.index + 1) (packet_at f.packet).length
 
   -- whether a tail leaves the buffer of c
   abbrev pub tail_leaves : State → Channel → Bool
-  tail_leaves F c = is_moved (verdict_in F c) && is_tail (first_in F c)
+  tail_leaves F c = is_moved (verdict_in F c) && is_tail_of_packet (front_in F c)
 
   -- whether a tail leaves the buffer of c for channel o
   abbrev pub tail_leaves_to : State → Channel → Channel → Bool
@@ -348,14 +348,14 @@ module _ (net : Setup) where
   is_released F (Eject m v, q) = list_any (tail_leaves_to F (Eject m v)) (owned_by F q)
 
   -- the channel that the owner of c is granted, and that owner; c ends at router r
-  abbrev pub granted_at : State → Channel → ℕ → ℕ → Option (Channel × ℕ)
-  granted_at F c r p = option_map (λ o. (leaving r o, p)) (ask F r c)
+  abbrev pub grant_to_owner : State → Channel → ℕ → ℕ → Option (Channel × ℕ)
+  grant_to_owner F c r p = option_map (λ o. (leaving r o, p)) (ask F r c)
 
-  -- .. where its verdict is Granted
+  -- the channel that the owner of c is granted, and that owner, where the verdict of c is Granted
   abbrev pub granted_pair : State → Channel → Option (Channel × ℕ)
   granted_pair F c =
       if is_granted (verdict_in F c)
-      then option_and_then (λ r. option_and_then (granted_at F c r) (owner_of F c)) (end_of net.relation c)
+      then option_and_then (λ r. option_and_then (grant_to_owner F c r) (owner_of F c)) (end_of net.relation c)
       else None
 
   -- the state after the verdicts of cycle n, which were all taken from F
@@ -372,7 +372,7 @@ module _ (net : Setup) where
 
   -- cycle n
   unfoldable pub network_cycle : ℕ → State → State
-  network_cycle n S = after_verdicts n (frozen n S)
+  network_cycle n S = after_verdicts n (frozen_state n S)
 
   -- the state at the start of cycle n
   unfoldable pub state_at : ℕ → State
@@ -381,7 +381,7 @@ module _ (net : Setup) where
 
   -- the frozen state of cycle n
   abbrev pub frozen_at : ℕ → State
-  frozen_at n = frozen n (state_at n)
+  frozen_at n = frozen_state n (state_at n)
 
   -- the cycle in which the tail of p was out
   abbrev pub arrival_in : State → ℕ → Option ℕ

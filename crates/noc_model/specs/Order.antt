@@ -15,13 +15,13 @@ is_take r port (Take s q) = nat_eq r s && nat_eq port q
 is_take r port (Decide s) = false
 is_take r port (Put s q) = false
 
--- .. a Decide of this router
+-- whether it is a Decide of this router
 abbrev pub is_decide : ℕ → Event → Bool
 is_decide r (Take s q) = false
 is_decide r (Decide s) = nat_eq r s
 is_decide r (Put s q) = false
 
--- .. a Put of this router and port
+-- whether it is a Put of this router and port
 abbrev pub is_put : ℕ → ℕ → Event → Bool
 is_put r port (Take s q) = false
 is_put r port (Decide s) = false

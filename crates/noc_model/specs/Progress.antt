@@ -5,7 +5,7 @@ use Rattle.noc_topo.specs.Words.{below}
 use Rattle.noc_topo.specs.Shape.{distance}
 use Rattle.noc_route.specs.Channel.{Link, Inject, Eject}
 use Rattle.noc_router.specs.Verdict.{is_event}
-use Rattle.noc_model.specs.Network.{Setup, State, Located, place_of, Place, Source, On, In, Out, packet_at, state_at, frozen, verdict_in, after_landing, after_credits, injections, all_inputs, has_channel, next_channel, arrival_in, end_distance}
+use Rattle.noc_model.specs.Network.{Setup, State, Located, place_of_flit, Place, Source, On, In, Out, packet_at, state_at, frozen_state, verdict_in, after_landing, after_credits, injections, all_inputs, has_channel, next_channel, arrival_in, end_distance}
 
 -- whether it is a wire
 abbrev pub is_flying : Place → Bool
@@ -21,7 +21,7 @@ module _ (net : Setup) where
       count_by (λ (f : Located). is_flying f.place) S.at
       + length S.back
       + length (injections net (after_credits net (after_landing net S)) n)
-      + count_by (λ c. is_event (verdict_in net (frozen net n S) c)) (all_inputs net)
+      + count_by (λ c. is_event (verdict_in net (frozen_state net n S) c)) (all_inputs net)
 
   -- the last cycle below n that had an event
   abbrev pub last_event_before : ℕ → Option ℕ
@@ -63,7 +63,7 @@ module _ (net : Setup) where
 
   -- where the head of p is
   abbrev pub head_place : State → ℕ → Place
-  head_place S p = place_of net S p 0
+  head_place S p = place_of_flit net S p 0
 
   -- the events that are left; each event lowers it by one
   abbrev pub remainder : State → ℕ

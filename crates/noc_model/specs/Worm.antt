@@ -3,7 +3,7 @@ use Rattle.std.specs.Prelude.{◌≡◌, ◌≢◌, ℕ, ◌+◌, ◌<◌, ◌�
 use Rattle.noc_topo.specs.Words.{Has, Pairs}
 use Rattle.noc_route.specs.Channel.{Channel, Inject, is_link}
 use Rattle.noc_route.specs.Routes.{permits}
-use Rattle.noc_model.specs.Network.{Setup, State, Located, place_of, tail_place, Place, Source, On, In, is_past, packet_at, buffer_of, owned_by, owner_of, has_channel}
+use Rattle.noc_model.specs.Network.{Setup, State, Located, place_of_flit, tail_place, Place, Source, On, In, is_past, packet_at, buffer_of, owned_by, owner_of, has_channel}
 use Rattle.noc_model.specs.Progress.{weight}
 
 module _ (net : Setup) where
@@ -33,7 +33,7 @@ module _ (net : Setup) where
     pub rear : (p : ℕ) (c : Channel) (rest : List Channel) → p < length net.packets → owned_by net S p ≡ c ∷ rest → IsRear S p c (tail_place net S p)
     -- no flit is ahead of one with a smaller index
     pub in_order : (p i j : ℕ) → p < length net.packets → i ≤ j → j < (packet_at net p).length →
-        weight net p (place_of net S p i) ≤ weight net p (place_of net S p j)
+        weight net p (place_of_flit net S p i) ≤ weight net p (place_of_flit net S p j)
     -- a flit on a wire is on a link channel of its packet
     pub on_own : (f : Located) (c : Channel) → Has f S.at → f.place ≡ On c → IsTrue (is_link c) × (owner_of net S c ≡ Some f.packet)
     -- no buffer holds more flits than it has places

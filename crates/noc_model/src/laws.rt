@@ -3,7 +3,7 @@
 ghost use Rattle.std.specs.Prelude.{◌≡◌, ◌≢◌, ℕ, List};
 ghost use Rattle.noc_packet.specs.declared.packet.Beat.{Beat};
 ghost use Rattle.noc_route.specs.Routes.{Routes};
-ghost use Rattle.noc_router.specs.View.{View, local_step, taken};
+ghost use Rattle.noc_router.specs.View.{View, local_step, view_after_take};
 ghost use Rattle.noc_router.specs.declared.verdict.Finding.{Finding as FindingValue};
 
 /// What was found changes nothing of what comes: from a view with any other findings a cycle over the same beats gives the same
@@ -17,5 +17,5 @@ pub fn findings_change_nothing()
 /// beats, those that do not fit included.
 pub fn takes_change_places()
     ensures { (relation : Routes) (p q : ℕ) (one other : Beat) (view : View) → p ≢ q
-        → taken relation p one (taken relation q other view) ≡ taken relation q other (taken relation p one view) }
+        → view_after_take relation p one (view_after_take relation q other view) ≡ view_after_take relation q other (view_after_take relation p one view) }
 {}

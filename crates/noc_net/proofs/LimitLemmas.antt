@@ -60,7 +60,7 @@ limit-once net a b one other =
     let high = last-below net.packets other.last one.last other.due one.due in
     omega (arith, low, high, one.sum, other.sum)
 
--- .. and there is one
+-- there is a last due time
 last-some : (ps : List Packet) (n : ℕ) → n ≤ length ps → (last : ℕ) × IsLastBefore ps n last
 last-some ps zero l = (0, last-opening ps)
 last-some ps (suc n) l =

@@ -37,7 +37,7 @@ site-seen : (u : Run) (r : ℕ) → (view_at u.net u.count r).site ≡ site_at u
 unfolding view_at view_in
 site-seen u r = refl
 
--- .. and stands at its node
+-- the router of a node stands at its node
 pub router_site : (parts : Parts) → AreParts parts → (r : ℕ) (v : View) → r < nodes parts.relation.grid → v ≡ get_or parts.routers.items r v → v.site ≡ site_at (setup_in parts) r
 router_site parts sound r v l read = ap (λ (w : View). w.site) (router_at parts sound (run_in parts) refl r v l read) ∙ site-seen (run_in parts) r
 

@@ -28,7 +28,7 @@ take_replicate (suc n) (suc m) x l = ap (λ zs. x ∷ zs) (take_replicate n m x 
 pub wires_set : (links : ℕ) (wires : List Wire) (port : ℕ) (wire : Wire) → take links (map wire_beats (set wires port wire)) ≡ set (take links (map wire_beats wires)) port (wire_beats wire)
 wires_set links wires port wire = ap (take links) (map-set wire_beats wires port wire) ∙ take_set links (map wire_beats wires) port (wire_beats wire)
 
--- .. and before
+-- the wires before one of them changed
 pub wire_read : (links : ℕ) (wires : List Wire) (port : ℕ) (d : Wire) → port < links → port < length wires → get_or (take links (map wire_beats wires)) port [] ≡ wire_beats (get_or wires port d)
 wire_read links wires port d l within = get_or-take links (map wire_beats wires) port [] l ∙ get_or-map wire_beats wires port d [] within
 

@@ -18,7 +18,7 @@ use Rattle.noc_model.specs.declared.event.Event.TheVariants.{Take, Decide, Put}
 use Rattle.noc_model.specs.declared.limits.TheConstants.{CYCLE_LIMIT}
 use Rattle.noc_net.specs.declared.parts.Parts.{Parts}
 use Rattle.noc_net.specs.declared.room.Room.{Room}
-use Rattle.noc_model.specs.Core.{CoreState, Post, are_between, rested, beat_to_send, changed_at, happens, has_beat, holds_at, onto_wire, putting, receiving, is_linked, is_ready, may_decide, may_put, may_take, post_at, with_post}
+use Rattle.noc_model.specs.Core.{CoreState, Post, are_between, resting_post, beat_to_send, changed_at, happens, has_beat, holds_at, onto_wire, putting, receiving, is_linked, is_ready, may_decide, may_put, may_take, post_at, with_post}
 use Rattle.noc_model.specs.InStep.{AreWithin, IsInStep, cycle_of, lockstep_core, lockstep_wires}
 use Rattle.noc_model.specs.Halves.{beat_at}
 use Rattle.noc_model.specs.Lockstep.{lockstep_at, site_at}
@@ -60,7 +60,7 @@ posts_set n (v ∷ views) [] (suc r) view room f is = refl
 posts_set n (v ∷ views) (m ∷ rooms) zero view room f is = ap (λ (p : Post). p ∷ posts_of n views rooms) (is v m refl refl)
 posts_set n (v ∷ views) (m ∷ rooms) (suc r) view room f is = ap (λ ps. post_of n v m ∷ ps) (posts_set n views rooms r view room f is)
 
--- .. and its view stays
+-- one router's room changed, and its view stays
 pub posts_room : (n : ℕ) (views : List View) (rooms : List Room) (r : ℕ) (room : Room) (f : Post → Post)
     → ((v : View) (m : Room) → slice_get views r ≡ Some v → slice_get rooms r ≡ Some m → post_of n v room ≡ f (post_of n v m))
     → posts_of n views (set rooms r room) ≡ changed_at r f (posts_of n views rooms)
@@ -132,7 +132,7 @@ room_changed parts r old room f read is =
     (posts_room n parts.routers.items parts.room.items r room f
     (λ v m at_view at_room. is v ∙ ap (λ (one : Room). f (post_of n v one)) (read ∙ get_or_from_slice_get parts.room.items r m old at_room)))
 
--- .. and the router too
+-- the room of one router changed, and the router too
 pub router_changed : (parts : Parts) (r : ℕ) (seen view : View) (old room : Room) (f : Post → Post) → seen ≡ get_or parts.routers.items r seen → old ≡ get_or parts.room.items r old
     → post_of (local_port parts.relation.grid) view room ≡ f (post_of (local_port parts.relation.grid) seen old)
     → core_in (record parts { routers = with_item parts.routers r view; room = with_item parts.room r room }) ≡ with_post r f (core_in parts)
@@ -178,7 +178,7 @@ put_changed parts r port node entry beat old room other new to read is read_othe
     ∙ ap (λ (b : Beat). onto_wire (Some (node, entry)) b mid) beat_is
     ∙ ap (λ (t : Option (ℕ × ℕ)). onto_wire t (beat_to_send port (post_at own r)) mid) (sym to)
 
--- .. for which there was room
+-- a beat was put for which there was room
 pub room_at_end : (parts : Parts) (r port node entry : ℕ) (post : Post) (old room other : Room) → IsInStep CYCLE_LIMIT (core_in parts) → length parts.room.items ≡ nodes parts.relation.grid
     → length parts.routers.items ≡ nodes parts.relation.grid
     → post_at (core_in parts) r ≡ Some post → has_beat post.unput port ≡ true → neighbour parts.relation.grid r port ≡ Some (node, entry)
@@ -245,10 +245,10 @@ opened_core parts rooms sound count opened =
     let net = setup_in parts in
     let n = parts.count in
     let size = local_port parts.relation.grid in
-    let begun = λ (r : ℕ) (view : View). rested net view n (lockstep_wires net n r) in
+    let begun = λ (r : ℕ) (view : View). resting_post net view n (lockstep_wires net n r) in
     let routers : length parts.routers.items ≡ nodes parts.relation.grid = ap length (views-in_step parts sound) ∙ count_views net n in
     let posts : length (posts_of (local_port parts.relation.grid) parts.routers.items rooms) ≡ length rooms = length-posts_of size parts.routers.items rooms (omega arith) in
-    let begun_count : length (map_indexed (λ (r : ℕ) (view : View). rested net view n (lockstep_wires net n r)) (lockstep_at net n).views) ≡ length (lockstep_at net n).views = length-map_indexed begun (lockstep_at net n).views in
+    let begun_count : length (map_indexed (λ (r : ℕ) (view : View). resting_post net view n (lockstep_wires net n r)) (lockstep_at net n).views) ≡ length (lockstep_at net n).views = length-map_indexed begun (lockstep_at net n).views in
     ap (λ (posts : List Post). record { net = net; posts = posts })
     (same_lists (posts_of size parts.routers.items rooms) (map_indexed begun (lockstep_at net n).views) (omega (arith, ap length (views-in_step parts sound)))
     (λ r d l.
@@ -265,7 +265,7 @@ opened_core parts rooms sound count opened =
     ∙ ap (λ (beat : Beat). if is_linked net r port then beat ∷ [] else []) (wires-in_step parts sound r port)) in
     get_or_from_slice_get (posts_of size parts.routers.items rooms) r (post_of size view.0 one.0) d (post_there size parts.routers.items rooms r view.0 one.0 view.1 one.1)
     ∙ opened r view.0 one.0 view.1 one.1
-    ∙ ap (λ (ws : List (List Beat)). rested net view.0 n ws) wires
+    ∙ ap (λ (ws : List (List Beat)). resting_post net view.0 n ws) wires
     ∙ ap (begun r) (sym (get_or_from_slice_get (lockstep_at net n).views r view.0 view.0 seen))
     ∙ sym (get_or-map_indexed begun (lockstep_at net n).views r view.0 d (omega (arith, ap length (views-in_step parts sound))))))
 
@@ -301,7 +301,7 @@ rested_views parts n sound routers rooms all =
     get_or_from_slice_get parts.routers.items r view.0 d view.1
     ∙ sym (get_or_from_slice_get (lockstep_at net n).views r view.0 d (sym (ap (λ m. slice_get (lockstep_at net m).views r) cycle) ∙ (sound.posts r post at).view)))
 
--- .. and, landed, its beats
+-- a core whose routers are all between their cycles at count n has, landed, the beats of the lockstep run
 pub rested_wires : (parts : Parts) (n : ℕ) (beats : List (List Beat)) → IsInStep CYCLE_LIMIT (core_in parts) → length parts.routers.items ≡ nodes parts.relation.grid → length parts.room.items ≡ nodes parts.relation.grid
     → length beats ≡ nodes parts.relation.grid → are_between (core_in parts) n ≡ true
     → ((r : ℕ) (one : Room) (port : ℕ) → slice_get parts.room.items r ≡ Some one → beat_at beats r port ≡ front_of (get_or (take (local_port parts.relation.grid) (wires_in one)) port []))

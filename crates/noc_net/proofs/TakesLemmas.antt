@@ -10,18 +10,18 @@ use Rattle.noc_packet.specs.Set.{has_bit}
 use Rattle.noc_packet.specs.declared.packet.Beat.{Beat}
 use Rattle.noc_packet.specs.declared.packet.Flit.{Flit}
 use Rattle.noc_route.specs.Routes.{Routes}
-use Rattle.noc_router.specs.View.{View, IsRelationOf, idle_beat, taken, all_taken, with_flit, with_credit}
+use Rattle.noc_router.specs.View.{View, IsRelationOf, idle_beat, view_after_take, view_after_takes, with_flit, with_credit}
 use Rattle.noc_router.specs.declared.verdict.Finding.{Finding}
 use Rattle.noc_router.proofs.SiteLemmas.{taken-site}
-use Rattle.noc_model.specs.Halves.{IsLinked, IsSilent, beat_at, decided, incoming, sent_on}
+use Rattle.noc_model.specs.Halves.{IsLinked, IsSilent, beat_at, view_after_decide, incoming, sent_on}
 use Rattle.noc_model.specs.Lockstep.{beats_at}
-use Rattle.noc_model.specs.Unseen.{advanced}
+use Rattle.noc_model.specs.Unseen.{unseen_after_decide}
 use Rattle.noc_model.proofs.StepLemmas.{IsRelationOf-same_site, taken_end}
 use Rattle.noc_model.proofs.TakeAhead.{taken_ahead}
 use Rattle.noc_model.proofs.UnseenLemmas.{frozen-findings}
 use Rattle.noc_model.proofs.WireLemmas.{sent_here, sent_other}
 use Rattle.noc_net.specs.Marks.{AreWhere}
-use Rattle.noc_net.specs.Takes.{HaveTaken, NoneElsewhere, concluded, moved_on}
+use Rattle.noc_net.specs.Takes.{HaveTaken, NoneElsewhere, view_after_conclude, view_after_move_on}
 
 -- ---- where a beat is that is so, if an idle one is not
 
@@ -131,9 +131,9 @@ none-left routers beats same r port l out = absurd (⊎_elim (λ (m : r < 0). om
 -- one router takes a part of a beat
 pub taken-part : (relation : Routes) (first : ℕ) (routers : List View) (beats : List (List Beat)) (now after : List View) (wires : List (List Beat)) (i r port : ℕ) (one left : Beat)
     → HaveTaken relation first routers beats now wires → first + i ≡ r → i < length now → r < length wires → port < local_port relation.grid → port < length (get_or wires r [])
-    → ((w : View) → taken relation port left (taken relation port one w) ≡ taken relation port (beat_at wires r port) w)
+    → ((w : View) → view_after_take relation port left (view_after_take relation port one w) ≡ view_after_take relation port (beat_at wires r port) w)
     → length after ≡ length now
-    → ((k : ℕ) (d : View) → get_or after k d ≡ (if nat_eq k i then taken relation port one (get_or now k d) else get_or now k d))
+    → ((k : ℕ) (d : View) → get_or after k d ≡ (if nat_eq k i then view_after_take relation port one (get_or now k d) else get_or now k d))
     → HaveTaken relation first routers beats after (sent_on wires (Some (r, port)) left)
 taken-part relation first routers beats now after wires i r port one left so_far at in_range in_wires link within parts count each = record {
   count = count ∙ so_far.count;
@@ -152,11 +152,11 @@ taken-part relation first routers beats now after wires i r port one left so_far
     not_out : (k : ℕ) → k ≡ r → (k < first) ⊎ (first + length routers ≤ k) → ⊥
     not_out k same out = ⊎_elim (λ (l : k < first). omega (arith, same, l, at)) (λ (u : first + length routers ≤ k). omega (arith, same, u, at, in_routers)) out
 
-    changed : (d : View) → get_or after i d ≡ taken relation port one (get_or now i d)
-    changed d = each i d ∙ ap (λ (b : Bool). if b then taken relation port one (get_or now i d) else get_or now i d) (eq-eqb i i refl)
+    changed : (d : View) → get_or after i d ≡ view_after_take relation port one (get_or now i d)
+    changed d = each i d ∙ ap (λ (b : Bool). if b then view_after_take relation port one (get_or now i d) else get_or now i d) (eq-eqb i i refl)
 
     kept : (k : ℕ) (d : View) → k ≢ i → get_or after k d ≡ get_or now k d
-    kept k d n = each k d ∙ ap (λ (b : Bool). if b then taken relation port one (get_or now k d) else get_or now k d) (ne_eqb k i n)
+    kept k d n = each k d ∙ ap (λ (b : Bool). if b then view_after_take relation port one (get_or now k d) else get_or now k d) (ne_eqb k i n)
 
     site : (k : ℕ) (d : View) → (get_or after k d).site ≡ (get_or now k d).site
     site k d =
@@ -164,41 +164,41 @@ taken-part relation first routers beats now after wires i r port one left so_far
         (λ (n : k ≢ i). ap (λ (w : View). w.site) (kept k d n)) (cases_eq k i)
 
     here : (d : View)
-        → all_taken relation (incoming relation.grid (beats_at (sent_on wires (Some (r, port)) left) (first + i))) (get_or after i d) ≡ all_taken relation (incoming relation.grid (beats_at beats (first + i))) (get_or routers i d)
+        → view_after_takes relation (incoming relation.grid (beats_at (sent_on wires (Some (r, port)) left) (first + i))) (get_or after i d) ≡ view_after_takes relation (incoming relation.grid (beats_at beats (first + i))) (get_or routers i d)
     here d =
-        ap (λ (n : ℕ). all_taken relation (incoming relation.grid (beats_at (sent_on wires (Some (r, port)) left) n)) (get_or after i d)) at
-        ∙ ap (λ (row : List Beat). all_taken relation (incoming relation.grid row) (get_or after i d)) (get_or-set_same wires r (set (get_or wires r []) port left) [] in_wires)
-        ∙ ap (all_taken relation (incoming relation.grid (set (get_or wires r []) port left))) (changed d)
+        ap (λ (n : ℕ). view_after_takes relation (incoming relation.grid (beats_at (sent_on wires (Some (r, port)) left) n)) (get_or after i d)) at
+        ∙ ap (λ (row : List Beat). view_after_takes relation (incoming relation.grid row) (get_or after i d)) (get_or-set_same wires r (set (get_or wires r []) port left) [] in_wires)
+        ∙ ap (view_after_takes relation (incoming relation.grid (set (get_or wires r []) port left))) (changed d)
         ∙ taken_ahead relation relation.grid (get_or wires r []) port one left (get_or now i d) link within parts
-        ∙ ap (λ (n : ℕ). all_taken relation (incoming relation.grid (beats_at wires n)) (get_or now i d)) (sym at)
+        ∙ ap (λ (n : ℕ). view_after_takes relation (incoming relation.grid (beats_at wires n)) (get_or now i d)) (sym at)
         ∙ so_far.rest i d in_routers
 
     there : (k : ℕ) (d : View) → k ≢ i
-        → all_taken relation (incoming relation.grid (beats_at (sent_on wires (Some (r, port)) left) (first + k))) (get_or after k d) ≡ all_taken relation (incoming relation.grid (beats_at wires (first + k))) (get_or now k d)
+        → view_after_takes relation (incoming relation.grid (beats_at (sent_on wires (Some (r, port)) left) (first + k))) (get_or after k d) ≡ view_after_takes relation (incoming relation.grid (beats_at wires (first + k))) (get_or now k d)
     there k d n =
-        ap (λ (row : List Beat). all_taken relation (incoming relation.grid row) (get_or after k d)) (get_or-set_other wires r (first + k) (set (get_or wires r []) port left) [] (λ e. n (omega (arith, e, at))))
-        ∙ ap (all_taken relation (incoming relation.grid (beats_at wires (first + k)))) (kept k d n)
+        ap (λ (row : List Beat). view_after_takes relation (incoming relation.grid row) (get_or after k d)) (get_or-set_other wires r (first + k) (set (get_or wires r []) port left) [] (λ e. n (omega (arith, e, at))))
+        ∙ ap (view_after_takes relation (incoming relation.grid (beats_at wires (first + k)))) (kept k d n)
 
--- .. its flit
+-- one router takes the flit of a beat
 pub flit-part : (relation : Routes) (port : ℕ) (beat : Beat) (w : View)
-    → taken relation port (record beat { flit = None }) (taken relation port (record { flit = beat.flit; credit = None }) w) ≡ taken relation port beat w
-unfolding taken
+    → view_after_take relation port (record beat { flit = None }) (view_after_take relation port (record { flit = beat.flit; credit = None }) w) ≡ view_after_take relation port beat w
+unfolding view_after_take
 flit-part relation port beat w = refl
 
-pub flit-alone : (relation : Routes) (port : ℕ) (flit : Option (ℕ × Flit)) (w : View) → taken relation port (record { flit = flit; credit = None }) w ≡ with_flit relation port flit w
-unfolding taken
+pub flit-alone : (relation : Routes) (port : ℕ) (flit : Option (ℕ × Flit)) (w : View) → view_after_take relation port (record { flit = flit; credit = None }) w ≡ with_flit relation port flit w
+unfolding view_after_take
 flit-alone relation port flit w = refl
 
--- .. or its credit, where it has no flit
+-- one router takes the credit of a beat that has no flit
 pub credit-part : (relation : Routes) (port : ℕ) (beat : Beat) (w : View) → beat.flit ≡ None
-    → taken relation port (record beat { credit = None }) (taken relation port (record { flit = None; credit = beat.credit }) w) ≡ taken relation port beat w
-unfolding taken
+    → view_after_take relation port (record beat { credit = None }) (view_after_take relation port (record { flit = None; credit = beat.credit }) w) ≡ view_after_take relation port beat w
+unfolding view_after_take
 credit-part relation port beat w none =
     ap (λ (flit : Option (ℕ × Flit)). with_flit relation port flit (with_credit port beat.credit w)) none
     ∙ sym (ap (λ (flit : Option (ℕ × Flit)). with_credit port beat.credit (with_flit relation port flit w)) none)
 
-pub credit-alone : (relation : Routes) (port : ℕ) (credit : Option ℕ) (w : View) → taken relation port (record { flit = None; credit = credit }) w ≡ with_credit port credit w
-unfolding taken
+pub credit-alone : (relation : Routes) (port : ℕ) (credit : Option ℕ) (w : View) → view_after_take relation port (record { flit = None; credit = credit }) w ≡ with_credit port credit w
+unfolding view_after_take
 credit-alone relation port credit w = refl
 
 -- a half of a beat that stays
@@ -235,7 +235,7 @@ taken-flit relation first routers beats now after wires r port so_far at count e
     taken-part relation first routers beats now after wires (r - first) r port (record { flit = beat.flit; credit = None }) (record beat { flit = None }) so_far (omega (arith, at.from)) at.router at.row at.link at.port_of_row (flit-part relation port beat) count
     (λ k d. each k d ∙ ap (λ (w : View). if nat_eq k (r - first) then w else get_or now k d) (sym (flit-alone relation port beat.flit (get_or now k d))))
 
--- .. its credit, where no flit came
+-- one router takes its credit of a port where no flit came
 pub taken-credit : (relation : Routes) (first : ℕ) (routers : List View) (beats : List (List Beat)) (now after : List View) (wires : List (List Beat)) (r port : ℕ)
     → HaveTaken relation first routers beats now wires → IsThere relation first now wires r port → (beat_at wires r port).flit ≡ None → length after ≡ length now
     → ((k : ℕ) (d : View) → get_or after k d ≡ (if nat_eq k (r - first) then with_credit port (beat_at wires r port).credit (get_or now k d) else get_or now k d))
@@ -286,14 +286,14 @@ silent-beat beat none none' =
 
 -- routers that have taken all
 pub taken-all : (relation : Routes) (first : ℕ) (routers : List View) (beats : List (List Beat)) (routers' : List View) (beats' : List (List Beat)) → HaveTaken relation first routers beats routers' beats'
-    → ((r : ℕ) → IsSilent (beats_at beats' r)) → routers' ≡ map_indexed (λ (r : ℕ) (v : View). all_taken relation (incoming relation.grid (beats_at beats (first + r))) v) routers
-taken-all relation first routers beats routers' beats' taken silent =
-    same_lists routers' (map_indexed (λ (r : ℕ) (v : View). all_taken relation (incoming relation.grid (beats_at beats (first + r))) v) routers) (taken.count ∙ sym (length-map_indexed _ routers))
+    → ((r : ℕ) → IsSilent (beats_at beats' r)) → routers' ≡ map_indexed (λ (r : ℕ) (v : View). view_after_takes relation (incoming relation.grid (beats_at beats (first + r))) v) routers
+taken-all relation first routers beats routers' beats' view_after_take silent =
+    same_lists routers' (map_indexed (λ (r : ℕ) (v : View). view_after_takes relation (incoming relation.grid (beats_at beats (first + r))) v) routers) (view_after_take.count ∙ sym (length-map_indexed _ routers))
     (λ r d l.
-    sym (taken_end relation relation.grid (beats_at beats' (first + r)) (get_or routers' r d) (silent (first + r))) ∙ taken.rest r d (omega (arith, taken.count, l))
-    ∙ sym (get_or-map_indexed (λ (r : ℕ) (v : View). all_taken relation (incoming relation.grid (beats_at beats (first + r))) v) routers r d d (omega (arith, taken.count, l))))
+    sym (taken_end relation relation.grid (beats_at beats' (first + r)) (get_or routers' r d) (silent (first + r))) ∙ view_after_take.rest r d (omega (arith, view_after_take.count, l))
+    ∙ sym (get_or-map_indexed (λ (r : ℕ) (v : View). view_after_takes relation (incoming relation.grid (beats_at beats (first + r))) v) routers r d d (omega (arith, view_after_take.count, l))))
 
--- .. where the first is that of the network
+-- routers that have taken all, where the first is that of the network
 pub from-zero : (grid : Grid) (wires : List (List Beat)) (g : List Beat → View → View) (routers : List View)
     → map_indexed (λ (r : ℕ) (v : View). g (incoming grid (beats_at wires (0 + r))) v) routers ≡ map_indexed (λ (r : ℕ) (v : View). g (incoming grid (beats_at wires r)) v) routers
 from-zero grid wires g routers =
@@ -308,20 +308,20 @@ from-zero grid wires g routers =
 
 -- ---- the first half of a cycle is to take, and then to go on
 
-pub moved_on-advanced : (relation : Routes) (n : ℕ) (beats : List Beat) (v : View) → moved_on relation n (all_taken relation beats v) ≡ advanced relation n beats v
-unfolding advanced decided
-moved_on-advanced relation n beats v = ap (λ (findings : List Finding). record (decided relation n beats v) { findings = findings }) (frozen-findings relation n beats v)
+pub moved_on-advanced : (relation : Routes) (n : ℕ) (beats : List Beat) (v : View) → view_after_move_on relation n (view_after_takes relation beats v) ≡ unseen_after_decide relation n beats v
+unfolding unseen_after_decide view_after_decide
+moved_on-advanced relation n beats v = ap (λ (findings : List Finding). record (view_after_decide relation n beats v) { findings = findings }) (frozen-findings relation n beats v)
 
-pub concluded-decided : (relation : Routes) (n : ℕ) (beats : List Beat) (v : View) → concluded relation n (all_taken relation beats v) ≡ decided relation n beats v
-unfolding decided
+pub concluded-decided : (relation : Routes) (n : ℕ) (beats : List Beat) (v : View) → view_after_conclude relation n (view_after_takes relation beats v) ≡ view_after_decide relation n beats v
+unfolding view_after_decide
 concluded-decided relation n beats v = refl
 
--- .. of all routers
-pub all-halves : (relation : Routes) (first : ℕ) (wires : List (List Beat)) (f : View → View) (g : List Beat → View → View) (routers taken now : List View)
-    → ((beats : List Beat) (v : View) → f (all_taken relation beats v) ≡ g beats v)
-    → taken ≡ map_indexed (λ (r : ℕ) (v : View). all_taken relation (incoming relation.grid (beats_at wires (first + r))) v) routers → now ≡ map f taken
+-- the first half of a cycle of all routers is to take, and then to go on
+pub all-halves : (relation : Routes) (first : ℕ) (wires : List (List Beat)) (f : View → View) (g : List Beat → View → View) (routers view_after_take now : List View)
+    → ((beats : List Beat) (v : View) → f (view_after_takes relation beats v) ≡ g beats v)
+    → view_after_take ≡ map_indexed (λ (r : ℕ) (v : View). view_after_takes relation (incoming relation.grid (beats_at wires (first + r))) v) routers → now ≡ map f view_after_take
     → now ≡ map_indexed (λ (r : ℕ) (v : View). g (incoming relation.grid (beats_at wires (first + r))) v) routers
-all-halves relation first wires f g routers taken now half is after =
+all-halves relation first wires f g routers view_after_take now half is after =
     after ∙ ap (map f) is
     ∙ same_lists (map f (map_indexed took routers)) (map_indexed whole routers)
     (length-map (map_indexed took routers) f ∙ length-map_indexed took routers ∙ sym (length-map_indexed whole routers))
@@ -334,7 +334,7 @@ all-halves relation first wires f g routers taken now half is after =
     ∙ sym (get_or-map_indexed whole routers r d d few))
   where
     took : ℕ → View → View
-    took r v = all_taken relation (incoming relation.grid (beats_at wires (first + r))) v
+    took r v = view_after_takes relation (incoming relation.grid (beats_at wires (first + r))) v
 
     whole : ℕ → View → View
     whole r v = g (incoming relation.grid (beats_at wires (first + r))) v

@@ -18,14 +18,14 @@ packet_fault relation row p =
     else (if nat_lt MAX_DUE p.due then Some (BadDue row)
     else None))))
 
-abbrev pub or_else : Option NetFault → Option NetFault → Option NetFault
-or_else None later = later
-or_else (Some fault) later = Some fault
+abbrev pub or_net_fault : Option NetFault → Option NetFault → Option NetFault
+or_net_fault None later = later
+or_net_fault (Some fault) later = Some fault
 
 -- the first fault of the packets from a row on
 abbrev pub fault_from : Routes → ℕ → List Packet → Option NetFault
 fault_from relation row [] = None
-fault_from relation row (p ∷ ps) = or_else (packet_fault relation row p) (fault_from relation (row + 1) ps)
+fault_from relation row (p ∷ ps) = or_net_fault (packet_fault relation row p) (fault_from relation (row + 1) ps)
 
 -- the first fault of a network's packets
 abbrev pub fault_of : Routes → List Packet → Option NetFault

@@ -16,11 +16,11 @@ pub record Marked : Type 0 where
 abbrev pub marked_in : Inside → Marked
 marked_in marks = record { flits = marks.flits; credits = marks.credits }
 
-abbrev pub has_flit : Beat → Bool
-has_flit beat = is_some beat.flit
+abbrev pub carries_flit : Beat → Bool
+carries_flit beat = is_some beat.flit
 
-abbrev pub has_credit : Beat → Bool
-has_credit beat = is_some beat.credit
+abbrev pub carries_credit : Beat → Bool
+carries_credit beat = is_some beat.credit
 
 -- these are the links whose beat is so
 abbrev pub AreWhere : (Beat → Bool) → List ℕ → List (List Beat) → Type 0
@@ -28,8 +28,8 @@ AreWhere is sets beats = (w k : ℕ) → w < SETS → k < INDICES → has_bit (s
 
 -- the links with a flit, and those with a credit
 pub record AreMarked (marked : Marked) (beats : List (List Beat)) : Type 0 where
-  pub flits : AreWhere has_flit marked.flits beats
-  pub credits : AreWhere has_credit marked.credits beats
+  pub flits : AreWhere carries_flit marked.flits beats
+  pub credits : AreWhere carries_credit marked.credits beats
 
 -- one link is a member, or it is none; the others are as they were
 abbrev pub IsMarkedAt : List ℕ → List ℕ → ℕ → ℕ → Bool → Type 0

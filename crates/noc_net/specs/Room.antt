@@ -24,7 +24,7 @@ front_of beats = unwrap_or (slice_get beats 0) idle_beat
 abbrev pub wires_in : Room → List (List Beat)
 wires_in room = map wire_beats room.wires
 
--- .. each with the beat that is in flight to it
+-- the wires that arrive, each with the beat that is in flight on it
 abbrev pub opening_wires : Grid → ℕ → List Beat → List (List Beat)
 opening_wires grid r beats = tabulate (local_port grid) (λ port. if is_some (neighbour grid r port) then slice_index_or beats port idle_beat ∷ [] else [])
 
@@ -43,7 +43,7 @@ post_of links view room = record {
   unput = take links room.unput;
 }
 
--- .. all of them
+-- all routers with so many link ports, and what is kept of each
 abbrev pub posts_of : ℕ → List View → List Room → List Post
 posts_of links [] rooms = []
 posts_of links (view ∷ views) [] = []

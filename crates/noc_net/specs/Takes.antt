@@ -2,7 +2,7 @@
 use Rattle.std.specs.Prelude.{◌≡◌, ◌⊎◌, ℕ, ◌+◌, ◌<◌, ◌≤◌, List, length, slice_index_or}
 use Rattle.noc_packet.specs.declared.packet.Beat.{Beat}
 use Rattle.noc_route.specs.Routes.{Routes}
-use Rattle.noc_router.specs.View.{View, IsRelationOf, idle_beat, all_taken, injected, planned, committed}
+use Rattle.noc_router.specs.View.{View, IsRelationOf, idle_beat, view_after_takes, view_after_inject, decisions_of, view_after_commit}
 use Rattle.noc_model.specs.Halves.{IsLinked, beat_at, incoming}
 use Rattle.noc_model.specs.Lockstep.{beats_at}
 
@@ -17,14 +17,14 @@ pub record HaveTaken (relation : Routes) (first : ℕ) (routers : List View) (be
   pub linked : (r : ℕ) → r < length routers → IsLinked relation.grid (beats_at beats' (first + r))
   pub others : NoneElsewhere first (length routers) beats'
   pub rest : (r : ℕ) (d : View) → r < length routers
-      → all_taken relation (incoming relation.grid (beats_at beats' (first + r))) (slice_index_or routers' r d) ≡ all_taken relation (incoming relation.grid (beats_at beats (first + r))) (slice_index_or routers r d)
+      → view_after_takes relation (incoming relation.grid (beats_at beats' (first + r))) (slice_index_or routers' r d) ≡ view_after_takes relation (incoming relation.grid (beats_at beats (first + r))) (slice_index_or routers r d)
 
 -- a router that has taken its beats, at the end of the first half of cycle n
-abbrev pub concluded : Routes → ℕ → View → View
-concluded relation n v =
-    let frozen = injected n v in
-    committed (planned relation frozen) frozen
+abbrev pub view_after_conclude : Routes → ℕ → View → View
+view_after_conclude relation n v =
+    let frozen = view_after_inject n v in
+    view_after_commit (decisions_of relation frozen) frozen
 
--- .. with the findings that it had before
-abbrev pub moved_on : Routes → ℕ → View → View
-moved_on relation n v = record (concluded relation n v) { findings = (injected n v).findings }
+-- a router that has taken its beats, at the end of the first half of cycle n, with the findings that it had before
+abbrev pub view_after_move_on : Routes → ℕ → View → View
+view_after_move_on relation n v = record (view_after_conclude relation n v) { findings = (view_after_inject n v).findings }

@@ -6,12 +6,12 @@ ghost use Rattle.noc_topo.specs.Words.{map_indexed};
 ghost use Rattle.noc_topo.specs.Shape.{nodes as nodes_of, ports as ports_of, neighbour as neighbour_of};
 ghost use Rattle.noc_router.specs.Decided.{IsDecidedFor};
 ghost use Rattle.noc_router.specs.View.{IsRelationOf, idle_beat};
-ghost use Rattle.noc_model.specs.Halves.{ArePlaced, IsLinked, IsPlaced, IsSilent, beat_at, decided, emptied, incoming, received, sent_on};
+ghost use Rattle.noc_model.specs.Halves.{ArePlaced, IsLinked, HasItsBeats, IsSilent, beat_at, view_after_decide, view_after_puts, incoming, wire_after_puts, sent_on};
 ghost use Rattle.noc_model.specs.Lockstep.{beat_from, beats_at};
 ghost use Rattle.noc_model.specs.Network.{Setup};
 ghost use Rattle.noc_net.specs.Marks.{AreMarked};
-ghost use Rattle.noc_net.specs.Takes.{concluded, moved_on};
-ghost use Rattle.noc_model.specs.Unseen.{AreInStep, AreInStepUnseen, advanced};
+ghost use Rattle.noc_net.specs.Takes.{view_after_conclude, view_after_move_on};
+ghost use Rattle.noc_model.specs.Unseen.{AreInStep, AreInStepUnseen, unseen_after_decide};
 
 use crate::jump::jump;
 use crate::marks::Marks;
@@ -88,7 +88,7 @@ fn advance_all(
     requires beats { All (IsLinked relation.now.grid) beats.old }
     requires count { length beats.old ≡ length routers.old }
     ensures plan { IsDecidedFor (ports_of relation.now.grid) relation.now.vcs plan.new }
-    ensures routers { routers.new ≡ map_indexed (λ r v. advanced relation.now cycle (incoming relation.now.grid (beats_at beats.old r)) v) routers.old }
+    ensures routers { routers.new ≡ map_indexed (λ r v. unseen_after_decide relation.now cycle (incoming relation.now.grid (beats_at beats.old r)) v) routers.old }
     ensures beats { All IsSilent beats.new }
     ensures marks { AreMarked marks.new beats.new }
 {
@@ -96,12 +96,12 @@ fn advance_all(
     move_on_all(relation, plan, cycle, routers);
 }
 
-// .. once it has taken them.
+// Each router, which has taken its beats, injects, decides and commits, and leaves its findings as they were.
 fn move_on_all(relation: &Relation, plan: &mut Plan, cycle: u64, routers: &mut [Router])
     requires plan { IsDecidedFor (ports_of relation.now.grid) relation.now.vcs plan.old }
     requires routers { All (λ v. IsRelationOf relation.now v) routers.old }
     ensures plan { IsDecidedFor (ports_of relation.now.grid) relation.now.vcs plan.new }
-    ensures routers { routers.new ≡ map (moved_on relation.now cycle) routers.old }
+    ensures routers { routers.new ≡ map (view_after_move_on relation.now cycle) routers.old }
 {
     for node in 0..routers.len() {
         move_on(relation, plan, cycle, &mut routers[node]);
@@ -115,7 +115,7 @@ pub fn move_on(relation: &Relation, plan: &mut Plan, cycle: u64, router: &mut Ro
     requires plan { IsDecidedFor (ports_of relation.now.grid) relation.now.vcs plan.old }
     requires router { IsRelationOf relation.now router.old }
     ensures plan { IsDecidedFor (ports_of relation.now.grid) relation.now.vcs plan.new }
-    ensures router { router.new ≡ moved_on relation.now cycle router.old }
+    ensures router { router.new ≡ view_after_move_on relation.now cycle router.old }
 {
     router.inject(cycle);
     router.advance(relation, plan);
@@ -137,7 +137,7 @@ fn decide_all(
     requires beats { All (IsLinked relation.now.grid) beats.old }
     requires count { length beats.old ≡ length routers.old }
     ensures plan { IsDecidedFor (ports_of relation.now.grid) relation.now.vcs plan.new }
-    ensures routers { routers.new ≡ map_indexed (λ r v. decided relation.now cycle (incoming relation.now.grid (beats_at beats.old r)) v) routers.old }
+    ensures routers { routers.new ≡ map_indexed (λ r v. view_after_decide relation.now cycle (incoming relation.now.grid (beats_at beats.old r)) v) routers.old }
     ensures beats { All IsSilent beats.new }
     ensures marks { AreMarked marks.new beats.new }
 {
@@ -145,12 +145,12 @@ fn decide_all(
     conclude_all(relation, plan, cycle, routers);
 }
 
-// .. once it has taken them.
+// Each router, which has taken its beats, injects, decides and commits.
 fn conclude_all(relation: &Relation, plan: &mut Plan, cycle: u64, routers: &mut [Router])
     requires plan { IsDecidedFor (ports_of relation.now.grid) relation.now.vcs plan.old }
     requires routers { All (λ v. IsRelationOf relation.now v) routers.old }
     ensures plan { IsDecidedFor (ports_of relation.now.grid) relation.now.vcs plan.new }
-    ensures routers { routers.new ≡ map (concluded relation.now cycle) routers.old }
+    ensures routers { routers.new ≡ map (view_after_conclude relation.now cycle) routers.old }
 {
     for node in 0..routers.len() {
         conclude(relation, plan, cycle, &mut routers[node]);
@@ -162,7 +162,7 @@ pub fn conclude(relation: &Relation, plan: &mut Plan, cycle: u64, router: &mut R
     requires plan { IsDecidedFor (ports_of relation.now.grid) relation.now.vcs plan.old }
     requires router { IsRelationOf relation.now router.old }
     ensures plan { IsDecidedFor (ports_of relation.now.grid) relation.now.vcs plan.new }
-    ensures router { router.new ≡ concluded relation.now cycle router.old }
+    ensures router { router.new ≡ view_after_conclude relation.now cycle router.old }
 {
     router.inject(cycle);
     router.plan(relation, plan);
@@ -182,7 +182,7 @@ fn deliver_all(
     requires beats { All IsSilent beats.old }
     requires marks { AreMarked marks.old beats.old }
     ensures marks { AreMarked marks.new beats.new }
-    ensures routers { routers.new ≡ map emptied routers.old }
+    ensures routers { routers.new ≡ map view_after_puts routers.old }
     ensures beats { (r port : ℕ) → r < nodes_of relation.now.grid → beat_at beats.new r port ≡ beat_from (map (λ v. v.to_put) routers.old) (neighbour_of relation.now.grid r port) }
 {
     for node in 0..routers.len() {
@@ -197,13 +197,13 @@ pub fn deliver(
     beats: &mut [[Beat; LINKS]],
     marks: &mut Marks,
 )
-    requires router { IsPlaced relation.now router.old.site.node router.old }
+    requires router { HasItsBeats relation.now router.old.site.node router.old }
     requires node { router.old.site.node < nodes_of relation.now.grid }
     requires count { length beats.old ≡ nodes_of relation.now.grid }
     requires idle { (r port q : ℕ) → neighbour_of relation.now.grid r port ≡ Some (router.old.site.node, q) → beat_at beats.old r port ≡ idle_beat }
     ensures marks { AreMarked marks.old beats.old → AreMarked marks.new beats.new }
-    ensures router { router.new ≡ emptied router.old }
-    ensures beats { (r port : ℕ) → r < nodes_of relation.now.grid → beat_at beats.new r port ≡ received router.old (neighbour_of relation.now.grid r port) (beat_at beats.old r port) }
+    ensures router { router.new ≡ view_after_puts router.old }
+    ensures beats { (r port : ℕ) → r < nodes_of relation.now.grid → beat_at beats.new r port ≡ wire_after_puts router.old (neighbour_of relation.now.grid r port) (beat_at beats.old r port) }
 {
     let mut rest = router.loaded();
     while let Some(port) = rest.least_common(&rest) {

@@ -11,7 +11,7 @@ ghost use Rattle.std.specs.Prelude.{◌≡◌, ◌↔◌, ℕ, ◌+◌, ◌-◌,
 ghost use Rattle.noc_topo.specs.Shape.{nodes as nodes_of, ports as ports_of};
 ghost use Rattle.noc_router.specs.Decided.{IsDecidedFor};
 ghost use Rattle.noc_router.specs.Links.{AreLoaded, is_idle_beat};
-ghost use Rattle.noc_router.specs.Still.{IsHeldBefore, waited};
+ghost use Rattle.noc_router.specs.Still.{IsHeldBefore, view_after_waiting};
 ghost use Rattle.noc_router.specs.View.{IsRelationOf};
 ghost use Rattle.noc_model.specs.Halves.{IsSilent};
 ghost use Rattle.noc_model.specs.Network.{Setup};
@@ -141,7 +141,7 @@ fn wait_all(relation: &Relation, plan: &mut Plan, first: u64, end: u64, routers:
     requires plan { IsDecidedFor (ports_of relation.now.grid) relation.now.vcs plan.old }
     requires routers { All (λ v. IsRelationOf relation.now v) routers.old }
     ensures plan { IsDecidedFor (ports_of relation.now.grid) relation.now.vcs plan.new }
-    ensures routers { routers.new ≡ map (waited relation.now (end - first) (end - 1)) routers.old }
+    ensures routers { routers.new ≡ map (view_after_waiting relation.now (end - first) (end - 1)) routers.old }
 {
     for node in 0..routers.len() {
         routers[node].wait(relation, plan, first, end);

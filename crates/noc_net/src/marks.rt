@@ -12,7 +12,7 @@ ghost use Rattle.noc_packet.specs.declared.packet.Beat.{Beat as beat_value};
 ghost use Rattle.noc_model.specs.Halves.{sent_on};
 ghost use Rattle.noc_model.specs.Lockstep.{beats_at};
 ghost use Rattle.noc_net.specs.declared.marks.TheConstants.{SETS};
-ghost use Rattle.noc_net.specs.Marks.{AreMarked, HasTakenOut, IsMarkedAt, IsRowMarked, has_credit, has_flit};
+ghost use Rattle.noc_net.specs.Marks.{AreMarked, HasTakenOut, IsMarkedAt, IsRowMarked, carries_credit, carries_flit};
 
 use noc_packet::{Beat, ChannelSet};
 use noc_topo::{LINKS, MAX_NODES};
@@ -61,8 +61,8 @@ impl Marks {
     // The marks of the beats of one router.
     fn note_row(&mut self, node: usize, row: &[Beat; LINKS])
         requires { node < MAX_NODES }
-        ensures flits { IsRowMarked has_flit self.old.flits self.new.flits node LINKS row.now }
-        ensures credits { IsRowMarked has_credit self.old.credits self.new.credits node LINKS row.now }
+        ensures flits { IsRowMarked carries_flit self.old.flits self.new.flits node LINKS row.now }
+        ensures credits { IsRowMarked carries_credit self.old.credits self.new.credits node LINKS row.now }
     {
         for port in 0..LINKS {
             self.note(node, port, &row[port]);
@@ -73,8 +73,8 @@ impl Marks {
     pub fn note(&mut self, node: usize, port: usize, beat: &Beat)
         requires node { node < MAX_NODES }
         requires port { port < LINKS }
-        ensures flits { IsMarkedAt self.old.flits self.new.flits node port (has_flit beat.now) }
-        ensures credits { IsMarkedAt self.old.credits self.new.credits node port (has_credit beat.now) }
+        ensures flits { IsMarkedAt self.old.flits self.new.flits node port (carries_flit beat.now) }
+        ensures credits { IsMarkedAt self.old.credits self.new.credits node port (carries_credit beat.now) }
         ensures marks { (beats : List (List beat_value)) → node < length beats → port < length (beats_at beats node) → AreMarked self.old beats → AreMarked self.new (sent_on beats (Some (node, port)) beat.now) }
     {
         mark(&mut self.flits, node, port, beat.flit.is_some());

@@ -3,7 +3,7 @@
 ghost use Rattle.std.specs.Prelude.{◌≡◌, ℕ, ◌<◌, ◌≤◌, ◌&&◌, ◌++◌, ◌∷◌, [], None, false, is_none, is_some, length, map, replicate, slice_index_or, take, true, unwrap_or};
 ghost use Rattle.noc_topo.specs.Shape.{local_port, neighbour as neighbour_of};
 ghost use Rattle.noc_router.specs.View.{View, idle_beat, local_step};
-ghost use Rattle.noc_model.specs.Core.{all_have, finished, is_between, may_decide, may_put, may_take, none_has, putting, receiving, taking, wire_of};
+ghost use Rattle.noc_model.specs.Core.{all_have, post_after_last_put, is_between, may_decide, may_put, may_take, none_has, putting, receiving, taking, wire_of};
 ghost use Rattle.noc_model.specs.Network.{Setup};
 ghost use Rattle.noc_net.specs.Room.{front_of, opened_post, post_of, rests_at, unput_for, wires_in};
 
@@ -132,7 +132,7 @@ impl Room {
         requires links { links ≡ local_port router.now.site.grid }
         requires few { links ≤ LINKS }
         requires steps { self.old.steps < CYCLE_LIMIT }
-        ensures { (net : Setup) (view : View) → net.relation.grid ≡ router.now.site.grid → post_of links view self.new ≡ finished net (record (post_of links view self.old) { decided = true; unput = unput_for net router.now.site.node (take links beats.now) }) }
+        ensures { (net : Setup) (view : View) → net.relation.grid ≡ router.now.site.grid → post_of links view self.new ≡ post_after_last_put net (record (post_of links view self.old) { decided = true; unput = unput_for net router.now.site.node (take links beats.now) }) }
     {
         self.decided = true;
         for port in 0..links {
@@ -167,7 +167,7 @@ impl Room {
     fn finish(&mut self, links: usize)
         requires few { links ≤ LINKS }
         requires steps { self.old.steps < CYCLE_LIMIT }
-        ensures { (net : Setup) (view : View) → local_port net.relation.grid ≡ links → post_of links view self.new ≡ finished net (post_of links view self.old) }
+        ensures { (net : Setup) (view : View) → local_port net.relation.grid ≡ links → post_of links view self.new ≡ post_after_last_put net (post_of links view self.old) }
     {
         if have_none(&self.unput[..links]) {
             let wires = self.wires;

@@ -5,10 +5,10 @@ ghost use Rattle.noc_topo.specs.declared.limits.TheConstants.{MAX_NODES};
 ghost use Rattle.noc_topo.specs.Words.{map_indexed};
 ghost use Rattle.noc_topo.specs.Shape.{local_port};
 ghost use Rattle.noc_packet.specs.Set.{has_bit};
-ghost use Rattle.noc_router.specs.View.{View, IsRelationOf, all_taken, with_credit, with_flit};
+ghost use Rattle.noc_router.specs.View.{View, IsRelationOf, view_after_takes, with_credit, with_flit};
 ghost use Rattle.noc_model.specs.Halves.{IsLinked, IsSilent, beat_at, incoming, sent_on};
 ghost use Rattle.noc_model.specs.Lockstep.{beats_at};
-ghost use Rattle.noc_net.specs.Marks.{AreMarked, AreWhere, has_credit, has_flit};
+ghost use Rattle.noc_net.specs.Marks.{AreMarked, AreWhere, carries_credit, carries_flit};
 ghost use Rattle.noc_net.specs.Takes.{HaveTaken, NoneElsewhere};
 ghost use Rattle.noc_net.specs.declared.marks.TheConstants.{ROUTERS, SETS};
 
@@ -32,7 +32,7 @@ pub fn take_all(
     requires beats { All (IsLinked relation.now.grid) beats.old }
     requires others { NoneElsewhere first (length routers.old) beats.old }
     requires marks { AreMarked marks.old beats.old }
-    ensures routers { routers.new ≡ map_indexed (λ r v. all_taken relation.now (incoming relation.now.grid (beats_at beats.old (first + r))) v) routers.old }
+    ensures routers { routers.new ≡ map_indexed (λ r v. view_after_takes relation.now (incoming relation.now.grid (beats_at beats.old (first + r))) v) routers.old }
     ensures built { All (λ v. IsRelationOf relation.now v) routers.new }
     ensures beats { All IsSilent beats.new }
     ensures marks { AreMarked marks.new beats.new }
@@ -60,9 +60,9 @@ fn take_flits(
 )
     requires few { length beats.old ≤ MAX_NODES }
     requires routers { HaveTaken relation.now first routers.old beats.old routers.old beats.old }
-    requires flits { AreWhere has_flit flits.old beats.old }
+    requires flits { AreWhere carries_flit flits.old beats.old }
     ensures routers { HaveTaken relation.now first routers.old beats.old routers.new beats.new }
-    ensures flits { AreWhere has_flit flits.new beats.new }
+    ensures flits { AreWhere carries_flit flits.new beats.new }
     ensures none { (r port : ℕ) → (beat_at beats.new r port).flit ≡ None }
     ensures credits { (r port : ℕ) → (beat_at beats.new r port).credit ≡ (beat_at beats.old r port).credit }
 {
@@ -83,9 +83,9 @@ fn take_flits_in(
 )
     requires set { set < SETS }
     requires routers { HaveTaken relation.now first routers.old beats.old routers.old beats.old }
-    requires flits { AreWhere has_flit flits.old beats.old }
+    requires flits { AreWhere carries_flit flits.old beats.old }
     ensures routers { HaveTaken relation.now first routers.old beats.old routers.new beats.new }
-    ensures flits { AreWhere has_flit flits.new beats.new }
+    ensures flits { AreWhere carries_flit flits.new beats.new }
     ensures none { (k : ℕ) → has_bit (slice_index_or flits.new set 0) k ≡ false }
     ensures others { (w : ℕ) → w ≢ set → slice_index_or flits.new w 0 ≡ slice_index_or flits.old w 0 }
     ensures credits { (r port : ℕ) → (beat_at beats.new r port).credit ≡ (beat_at beats.old r port).credit }
@@ -132,10 +132,10 @@ fn take_credits(
 )
     requires few { length beats.old ≤ MAX_NODES }
     requires routers { HaveTaken relation.now first routers.old beats.old routers.old beats.old }
-    requires credits { AreWhere has_credit credits.old beats.old }
+    requires credits { AreWhere carries_credit credits.old beats.old }
     requires flits { (r port : ℕ) → (beat_at beats.old r port).flit ≡ None }
     ensures routers { HaveTaken relation.now first routers.old beats.old routers.new beats.new }
-    ensures credits { AreWhere has_credit credits.new beats.new }
+    ensures credits { AreWhere carries_credit credits.new beats.new }
     ensures silent { (r : ℕ) → IsSilent (beats_at beats.new r) }
 {
     for set in 0..sets_for(beats.len()) {
@@ -155,10 +155,10 @@ fn take_credits_in(
 )
     requires set { set < SETS }
     requires routers { HaveTaken relation.now first routers.old beats.old routers.old beats.old }
-    requires credits { AreWhere has_credit credits.old beats.old }
+    requires credits { AreWhere carries_credit credits.old beats.old }
     requires flits { (r port : ℕ) → (beat_at beats.old r port).flit ≡ None }
     ensures routers { HaveTaken relation.now first routers.old beats.old routers.new beats.new }
-    ensures credits { AreWhere has_credit credits.new beats.new }
+    ensures credits { AreWhere carries_credit credits.new beats.new }
     ensures none { (k : ℕ) → has_bit (slice_index_or credits.new set 0) k ≡ false }
     ensures others { (w : ℕ) → w ≢ set → slice_index_or credits.new w 0 ≡ slice_index_or credits.old w 0 }
     ensures flits { (r port : ℕ) → (beat_at beats.new r port).flit ≡ None }

@@ -13,7 +13,7 @@ use std::alloc::Global;
 use std::process::Abort;
 use std::test::Fail;
 
-/// A ring or a line of routers with one virtual channel, routed in dimension order.
+// A ring or a line of routers with one virtual channel, routed in dimension order.
 fn network(
     rt: &impl Abort,
     alloc: Global,
@@ -43,7 +43,7 @@ fn network(
     }
 }
 
-/// A packet with so many flits.
+// A packet with so many flits.
 fn packet(source: u32, destination: u32, length: u32, due: u32) -> Packet {
     Packet {
         source,
@@ -54,7 +54,7 @@ fn packet(source: u32, destination: u32, length: u32, due: u32) -> Packet {
     }
 }
 
-/// Four packets that wait for one another on a ring of four routers, each two hops from its source, with one place in each buffer.
+// Four packets that wait for one another on a ring of four routers, each two hops from its source, with one place in each buffer.
 fn stuck_ring(rt: &impl Abort, alloc: Global) -> Result<Network, Fail>
     ensures nodes { IfOk result (λ u. nodes_of u.net.relation.grid ≡ 4) }
     ensures ports { IfOk result (λ u. ports_of u.net.relation.grid ≡ 3) }
@@ -73,7 +73,7 @@ fn stuck_ring(rt: &impl Abort, alloc: Global) -> Result<Network, Fail>
     Ok(network(rt, alloc, Kind::Torus, 4, 1, packets))
 }
 
-/// One packet of one flit on a line of two routers, due at 500.
+// One packet of one flit on a line of two routers, due at 500.
 fn late_packet(rt: &impl Abort, alloc: Global) -> Result<Network, Fail>
     ensures nodes { IfOk result (λ u. nodes_of u.net.relation.grid ≡ 2) }
     ensures ports { IfOk result (λ u. ports_of u.net.relation.grid ≡ 3) }
@@ -84,7 +84,7 @@ fn late_packet(rt: &impl Abort, alloc: Global) -> Result<Network, Fail>
     Ok(network(rt, alloc, Kind::Mesh, 2, 4, packets))
 }
 
-/// So many cycles, each by itself, in which no time jumps.
+// So many cycles, each by itself, in which no time jumps.
 fn step(network: &mut Network, cycles: u64)
     requires { network.old.count + cycles ≤ cycle_limit }
     ensures { network.new ≡ record network.old { count = network.old.count + cycles } }

@@ -10,7 +10,7 @@ use std::alloc::Global;
 use std::process::Abort;
 use std::test::Fail;
 
-/// A line of routers with one virtual channel and two places in each buffer, routed in dimension order.
+// A line of routers with one virtual channel and two places in each buffer, routed in dimension order.
 fn line(rt: &impl Abort, alloc: Global, routers: usize, packets: Vec<Packet>) -> Network
     ensures grid { result.net.relation.grid ≡ record { wraps = false; radix = routers ∷ [] } }
     ensures packets { result.net.packets ≡ packets.items }
@@ -28,7 +28,7 @@ fn line(rt: &impl Abort, alloc: Global, routers: usize, packets: Vec<Packet>) ->
     }
 }
 
-/// A packet of one flit that is due at once.
+// A packet of one flit that is due at once.
 fn packet(source: u32, destination: u32) -> Packet {
     Packet {
         source,
@@ -39,7 +39,7 @@ fn packet(source: u32, destination: u32) -> Packet {
     }
 }
 
-/// Two packets on a line of three routers, of which one waits for the other: after four cycles.
+// Two packets on a line of three routers, of which one waits for the other: after four cycles.
 fn waiting(rt: &impl Abort, alloc: Global) -> Result<Network, Fail>
     ensures { IfOk result (λ u. (length u.net.packets ≡ 2) × (u.count ≡ 4)) }
 {
@@ -59,7 +59,7 @@ fn parts_make_the_network_again(rt: HostRuntime) -> Result<(), Fail> {
     Ok(())
 }
 
-/// All routers of a line of three take, decide and put, from the last to the first.
+// All routers of a line of three take, decide and put, from the last to the first.
 fn backwards(core: &mut Core) {
     for router in [2, 1, 0] {
         for port in 0..2 {
@@ -93,7 +93,7 @@ fn cycles_from_the_last_router_to_the_first(rt: HostRuntime) -> Result<(), Fail>
     Ok(())
 }
 
-/// When a packet was out, where it exists.
+// When a packet was out, where it exists.
 fn arrival(network: &Network, number: usize) -> Option<u64> {
     if number < network.packets() {
         network.arrival(number)
@@ -102,7 +102,7 @@ fn arrival(network: &Network, number: usize) -> Option<u64> {
     }
 }
 
-/// Whether each event is ready or not, as it should be.
+// Whether each event is ready or not, as it should be.
 fn agree(core: &mut Core, answers: &[(Event, bool)]) -> bool
     ensures { core.new.net ≡ core.old.net }
 {
@@ -114,7 +114,7 @@ fn agree(core: &mut Core, answers: &[(Event, bool)]) -> bool
     true
 }
 
-/// The steps of two routers in a line, and the beats on the wires between them, towards the second and back.
+// The steps of two routers in a line, and the beats on the wires between them, towards the second and back.
 fn stand(core: &Core) -> [u64; 4]
     requires { core.now.net.relation.grid ≡ record { wraps = false; radix = 2 ∷ [] } }
 {

@@ -3,7 +3,7 @@
 ghost use Rattle.std.specs.Prelude.{◌≡◌, ◌<◌, ◌≤◌, All};
 ghost use Rattle.noc_topo.specs.Shape.{ports as ports_of, local_port};
 ghost use Rattle.noc_router.specs.Decided.{IsDecidedFor};
-ghost use Rattle.noc_router.specs.Start.{IsStart};
+ghost use Rattle.noc_router.specs.Start.{IsNumberedPacket};
 ghost use Rattle.noc_router.specs.View.{IsRelationOf};
 
 use noc_packet::{Beat, Flit, Packet};
@@ -13,7 +13,7 @@ use noc_topo::{Kind, Shape};
 use std::alloc::Global;
 use std::process::Abort;
 
-/// Dimension order on a line of two routers, in one class.
+// Dimension order on a line of two routers, in one class.
 fn line_of_two(rt: &impl Abort, alloc: Global, vcs: usize) -> Relation
     ensures links { local_port result.grid ≡ 2 }
     ensures vcs { result.vcs ≡ vcs }
@@ -28,7 +28,7 @@ fn line_of_two(rt: &impl Abort, alloc: Global, vcs: usize) -> Relation
     }
 }
 
-/// Router 0 of a network, with the packets that start there.
+// Router 0 of a network, with the packets that start there.
 fn first_router(
     rt: &impl Abort,
     alloc: Global,
@@ -38,7 +38,7 @@ fn first_router(
 ) -> Router
     requires some_place { 0 < places }
     requires places { places ≤ 16 }
-    requires starts { All IsStart starts.items }
+    requires starts { All IsNumberedPacket starts.items }
     ensures { IsRelationOf relation.now result }
 {
     assert!(rt; relation.shape().nodes() > 0);
@@ -48,7 +48,7 @@ fn first_router(
     }
 }
 
-/// A plan for the routers of a network.
+// A plan for the routers of a network.
 fn plan_for(rt: &impl Abort, alloc: Global, relation: &Relation) -> Plan
     ensures { IsDecidedFor (ports_of relation.now.grid) relation.now.vcs result }
 {
@@ -58,7 +58,7 @@ fn plan_for(rt: &impl Abort, alloc: Global, relation: &Relation) -> Plan
     }
 }
 
-/// One cycle of a router with two link ports: this beat comes to the first of them, and an idle one to the other.
+// One cycle of a router with two link ports: this beat comes to the first of them, and an idle one to the other.
 fn cycle(router: &mut Router, relation: &Relation, plan: &mut Plan, number: u64, beat: Beat)
     requires relation { IsRelationOf relation.now router.old }
     requires links { local_port relation.now.grid ≡ 2 }
@@ -70,7 +70,7 @@ fn cycle(router: &mut Router, relation: &Relation, plan: &mut Plan, number: u64,
     router.step(relation, plan, number, &[beat, Beat::idle()], &mut out);
 }
 
-/// The first cycles of a router with two link ports, on idle beats.
+// The first cycles of a router with two link ports, on idle beats.
 fn run_idle(router: &mut Router, relation: &Relation, plan: &mut Plan, cycles: u64)
     requires relation { IsRelationOf relation.now router.old }
     requires links { local_port relation.now.grid ≡ 2 }
@@ -82,7 +82,7 @@ fn run_idle(router: &mut Router, relation: &Relation, plan: &mut Plan, cycles: u
     }
 }
 
-/// A packet of one flit from router 0 to router 1, due at once.
+// A packet of one flit from router 0 to router 1, due at once.
 const SHORT: Packet = Packet {
     source: 0,
     destination: 1,
@@ -91,7 +91,7 @@ const SHORT: Packet = Packet {
     due: 0,
 };
 
-/// The second flit of a packet that ends at router 0.
+// The second flit of a packet that ends at router 0.
 const STRAY: Flit = Flit {
     packet: 0,
     index: 1,

@@ -7,7 +7,7 @@ use noc_topo::{Kind, Shape};
 use std::alloc::Global;
 use std::process::Abort;
 
-/// A shape that exists.
+// A shape that exists.
 fn shape(rt: &impl Abort, kind: Kind, radix: &[usize]) -> Shape {
     match Shape::new(kind, radix) {
         Ok(shape) => shape,
@@ -15,7 +15,7 @@ fn shape(rt: &impl Abort, kind: Kind, radix: &[usize]) -> Shape {
     }
 }
 
-/// A relation that can be made.
+// A relation that can be made.
 fn relation(
     rt: &impl Abort,
     alloc: Global,
@@ -33,7 +33,7 @@ fn relation(
     }
 }
 
-/// The rank of a link channel that exists.
+// The rank of a link channel that exists.
 fn rank(
     rt: &impl Abort,
     shape: &Shape,
@@ -69,7 +69,7 @@ fn adaptive(router: usize, port: usize, vc: usize) -> RankRow {
     }
 }
 
-/// The fault of rows on a line of two nodes with one channel per link.
+// The fault of rows on a line of two nodes with one channel per link.
 fn fault_on_a_line(alloc: Global, rows: &[RankRow]) -> Option<RankFault> {
     let line = Shape::new(Kind::Mesh, &[2]).ok()?;
     Ranks::from_rows(alloc, &line, 1, rows).err()
@@ -258,8 +258,8 @@ fn no_escape_where_all_are_adaptive(rt: HostRuntime) -> Result<(), RankFault> {
     Ok(())
 }
 
-/// Ranks on a line of three nodes with two channels per link, of which channel 1 is adaptive; `second` is the rank of the
-/// channel from node 1 up to node 2.
+// Ranks on a line of three nodes with two channels per link, of which channel 1 is adaptive; `second` is the rank of the
+// channel from node 1 up to node 2.
 fn ranks_on_a_line(alloc: Global, shape: &Shape, second: usize) -> Result<Ranks, RankFault>
     ensures { IfOk result (λ ranks. (ranks.grid ≡ shape.now) × (ranks.vcs ≡ 2)) }
 {

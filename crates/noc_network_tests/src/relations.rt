@@ -6,7 +6,7 @@ use noc_topo::{Kind, Shape};
 use std::alloc::{AllocError, Global};
 use std::process::Abort;
 
-/// A shape that exists.
+// A shape that exists.
 fn shape(rt: &impl Abort, kind: Kind, radix: &[usize]) -> Shape {
     match Shape::new(kind, radix) {
         Ok(shape) => shape,
@@ -14,7 +14,7 @@ fn shape(rt: &impl Abort, kind: Kind, radix: &[usize]) -> Shape {
     }
 }
 
-/// A relation that is built.
+// A relation that is built.
 fn built(
     rt: &impl Abort,
     alloc: Global,
@@ -29,7 +29,7 @@ fn built(
     }
 }
 
-/// The fault of a rule that makes no relation.
+// The fault of a rule that makes no relation.
 fn fault(
     rt: &impl Abort,
     alloc: Global,
@@ -44,7 +44,7 @@ fn fault(
     }
 }
 
-/// Whether exactly these output channels are permitted at an entry.
+// Whether exactly these output channels are permitted at an entry.
 fn permits(rt: &impl Abort, relation: &Relation, entry: Entry, channels: &[usize]) -> bool {
     assert!(rt; entry.class < relation.classes());
     assert!(rt; entry.router < relation.shape().nodes());
@@ -66,7 +66,7 @@ fn permits(rt: &impl Abort, relation: &Relation, entry: Entry, channels: &[usize
     true
 }
 
-/// An entry of class 0.
+// An entry of class 0.
 fn entry(router: usize, in_port: usize, in_vc: usize, dst: usize) -> Entry {
     Entry {
         class: 0,
@@ -77,7 +77,7 @@ fn entry(router: usize, in_port: usize, in_vc: usize, dst: usize) -> Entry {
     }
 }
 
-/// A row of class 0, from an input channel of a router and a destination to an output channel.
+// A row of class 0, from an input channel of a router and a destination to an output channel.
 fn row(from: (usize, usize, usize), dst: usize, to: (usize, usize)) -> RouteRow {
     RouteRow {
         class: 0,

@@ -1,6 +1,6 @@
 //! Rings that wrap, banks of every size that is allowed, and banks that go to a thread and come back.
 ghost use Rattle.std.specs.Prelude.{◌≡◌, ◌<◌, length};
-ghost use Rattle.noc_ring.specs.Rings.{ring_at, pushed, popped};
+ghost use Rattle.noc_ring.specs.Buffers.{buffer_at, buffers_after_push, buffers_after_pop};
 
 use noc_packet::Flit;
 use noc_ring::Bank;
@@ -50,7 +50,7 @@ fn the_largest_bank_keeps_each_ring_apart(rt: HostRuntime) -> Result<(), Fail> {
     Ok(())
 }
 
-/// Dropped empty.
+// Dropped empty.
 #[test]
 fn a_ring_of_one_place_is_full_with_one_flit(rt: HostRuntime) -> Result<(), Fail> {
     let mut bank = Bank::new(rt.alloc(), 1, 1)?;
@@ -74,7 +74,7 @@ fn a_bank_is_dropped_with_a_flit(rt: HostRuntime) -> Result<(), Fail> {
     Ok(())
 }
 
-/// One growth is all that a bank takes: `rt try --test --fail-alloc 2` leaves this test as it is.
+// One growth is all that a bank takes: `rt try --test --fail-alloc 2` leaves this test as it is.
 #[test]
 fn a_full_ring_turns_a_thousand_times(rt: HostRuntime) -> Result<(), Fail> {
     let mut bank = Bank::new(rt.alloc(), 28, 16)?;
@@ -98,9 +98,9 @@ fn a_full_ring_turns_a_thousand_times(rt: HostRuntime) -> Result<(), Fail> {
 
 fn turned(mut bank: Bank, flit: Flit) -> Bank
     requires ring { 0 < length bank.rings }
-    requires some { 0 < length (ring_at bank 0) }
-    requires room { length (ring_at (popped bank 0) 0) < bank.capacity }
-    ensures { result ≡ pushed (popped bank 0) 0 flit }
+    requires some { 0 < length (buffer_at bank 0) }
+    requires room { length (buffer_at (buffers_after_pop bank 0) 0) < bank.capacity }
+    ensures { result ≡ buffers_after_push (buffers_after_pop bank 0) 0 flit }
 {
     let _first = bank.pop(0);
     bank.push(0, flit);

@@ -3,7 +3,7 @@
 use noc_topo::{Kind, Shape, ShapeFault};
 use std::process::Abort;
 
-/// A shape that exists.
+// A shape that exists.
 fn shape(rt: &impl Abort, kind: Kind, radix: &[usize]) -> Shape {
     match Shape::new(kind, radix) {
         Ok(shape) => shape,

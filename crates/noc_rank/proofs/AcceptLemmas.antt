@@ -5,12 +5,12 @@ use Rattle.std.proofs.lemmas.Bool.{cases_lt}
 use Rattle.std.proofs.lemmas.Option.{none-some}
 use Rattle.noc_topo.specs.Shape.{local_port}
 use Rattle.noc_route.specs.Routes.{Routes, IsRelation}
-use Rattle.noc_route.specs.Ranks.{Ranking, is_channel, places, place_of, rank_at, AreAllRanked, IsRankedBy}
+use Rattle.noc_route.specs.Ranks.{Ranking, is_channel, rank_count, rank_index, rank_at, AreAllRanked, IsRankedBy}
 use Rattle.noc_route.specs.declared.rule.RouteRow.{RouteRow}
 use Rattle.noc_route.specs.declared.rule.Entry.{Entry}
 use Rattle.noc_route.proofs.RisingLemmas.{ranked-rising}
-use Rattle.noc_rank.specs.Ahead.{over}
-use Rattle.noc_rank.specs.Descents.{AreReal}
+use Rattle.noc_rank.specs.LeastAhead.{over}
+use Rattle.noc_rank.specs.NotRisingTo.{AreReal}
 use Rattle.noc_rank.specs.Faults.{IsBare, HasEscapes, IsDescent, HasNoDescent}
 use Rattle.noc_rank.specs.Ranking.{IsRanking}
 use Rattle.noc_rank.specs.Rising.{IsFall}
@@ -19,11 +19,11 @@ use Rattle.noc_rank.proofs.BareLemmas.{over-same, escape-of}
 use Rattle.noc_rank.proofs.PlaceLemmas.{is_channel-place, is_place-parts, place-below, place-router, place-port, place-vc}
 
 -- all places are looked at
-pub full-decoded : (k : Ranking) (v p n : ℕ) → v ≡ k.vcs → p ≡ local_port k.grid → places k.grid k.vcs ≤ n
+pub full-decoded : (k : Ranking) (v p n : ℕ) → v ≡ k.vcs → p ≡ local_port k.grid → rank_count k.grid k.vcs ≤ n
     → ((i : ℕ) → i < n → is_channel k.grid k.vcs (i / v / p) (i / v % p) (i % v) ≡ true → is_some (rank_at k (i / v / p) (i / v % p) (i % v)) ≡ true) → AreAllRanked k.grid k.vcs (rank_at k)
 full-decoded k v p n a b all whole r q w e =
     let parts = is_place-parts k.grid k.vcs r q w (is_channel-place k.grid k.vcs r q w e) in
-    let i = place_of k.grid k.vcs r q w in
+    let i = rank_index k.grid k.vcs r q w in
     let router : i / v / p ≡ r = ap (λ x. i / x / p) a ∙ ap (λ x. i / k.vcs / x) b ∙ place-router k.grid k.vcs r q w parts.1 parts.2 in
     let port : i / v % p ≡ q = ap (λ x. i / x % p) a ∙ ap (λ x. i / k.vcs % x) b ∙ place-port k.grid k.vcs r q w parts.1 parts.2 in
     let vc : i % v ≡ w = ap (λ x. i % x) a ∙ place-vc k.grid k.vcs r q w parts.2 in

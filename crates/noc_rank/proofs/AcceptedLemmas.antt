@@ -12,7 +12,7 @@ use Rattle.noc_route.specs.Channel.{Link}
 use Rattle.noc_route.specs.Relation.{leads, takes_port, is_in_block, resource_class}
 use Rattle.noc_route.specs.Routes.{Routes}
 use Rattle.noc_route.specs.Built.{IsRelationOfRule, routing_of}
-use Rattle.noc_route.specs.Ranks.{Ranking, is_channel, places, rank_at, AreAllRanked, IsRankedBy, IsRising}
+use Rattle.noc_route.specs.Ranks.{Ranking, is_channel, rank_count, rank_at, AreAllRanked, IsRankedBy, IsRising}
 use Rattle.noc_route.specs.declared.rule.Rule.{Rule}
 use Rattle.noc_route.specs.declared.rule.Rule.TheVariants.{Dor, Dateline, WestFirst, Adaptive, Rows}
 use Rattle.noc_route.proofs.PermitsLemmas.{PermitsLink-from_test}
@@ -149,14 +149,14 @@ formula-ranked grid vcs classes (Rows rows) routes k made ruled same_grid same_v
 -- the ranks by formula of all places
 formula-ranking : Grid → ℕ → ℕ → Rule → Ranking
 formula-ranking grid vcs classes rule =
-    record { grid = grid; vcs = vcs; ranks = tabulate (places grid vcs) (λ k. formula_at grid vcs classes rule (k / vcs / local_port grid) (k / vcs % local_port grid) (k % vcs)) }
+    record { grid = grid; vcs = vcs; ranks = tabulate (rank_count grid vcs) (λ k. formula_at grid vcs classes rule (k / vcs / local_port grid) (k / vcs % local_port grid) (k % vcs)) }
 
 pub formula-exists : (grid : Grid) (vcs classes : ℕ) (rule : Rule) (routes : Routes) → IsRelationOfRule (routing_of grid vcs classes rule) routes → has_ranks grid vcs classes rule ≡ true
     → (k : Ranking) × IsRankedBy routes k
 unfolding formula-ranking
 formula-exists grid vcs classes rule routes made ruled =
     let f : ℕ → Option ℕ = λ k. formula_at grid vcs classes rule (k / vcs / local_port grid) (k / vcs % local_port grid) (k % vcs) in
-    let n = places grid vcs in (
+    let n = rank_count grid vcs in (
       formula-ranking grid vcs classes rule,
       formula-ranked grid vcs classes rule routes (formula-ranking grid vcs classes rule) made ruled refl refl (listed-rank_at grid vcs classes rule (tabulate n f) (length-tabulate n f) (λ k l. get_or-tabulate n k f None l)),
     )

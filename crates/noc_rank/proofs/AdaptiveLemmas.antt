@@ -7,7 +7,7 @@ use Rattle.noc_topo.proofs.ShapeLemmas.{length-coordinates}
 use Rattle.noc_topo.proofs.LinkLemmas.{AreRadices, AreRadices-from_test, IsWithin-coordinates, hop_of}
 use Rattle.noc_topo.proofs.DistanceLemmas.{hop-coordinates}
 use Rattle.noc_route.specs.Channel.{Channel, Link, arrival_of, channel_vc}
-use Rattle.noc_route.specs.Relation.{Routing, rule_at, rule_has, is_led, is_right, is_escape}
+use Rattle.noc_route.specs.Relation.{RelationParts, rule_offers, rule_has, is_led, is_right, is_escape}
 use Rattle.noc_route.specs.Routes.{Routes, permits}
 use Rattle.noc_route.specs.Built.{IsRelationOfRule, routing_of}
 use Rattle.noc_route.specs.Ranks.{Ranking, LeadsTo, direct, through, is_channel, rank_at, IsRankedBy}
@@ -26,7 +26,7 @@ use Rattle.noc_rank.proofs.EscapeLemmas.{dor_port-found, order-nearer, escape-fo
 
 module _ (grid : Grid) (vcs classes : ℕ) (routes : Routes) (k : Ranking) (made : IsRelationOfRule (routing_of grid vcs classes Adaptive) routes) (ruled : has_ranks grid vcs classes Adaptive ≡ true)
     (given : (r p v : ℕ) → rank_at k r p v ≡ formula_at grid vcs classes Adaptive r p v) where
-  abbrev g : Routing
+  abbrev g : RelationParts
   g = routing_of grid vcs classes Adaptive
 
   abbrev Permits : ℕ → Channel → ℕ → Channel → Type 0
@@ -127,7 +127,7 @@ module _ (grid : Grid) (vcs classes : ℕ) (routes : Routes) (k : Ranking) (made
       record {
         port = found.0;
         vc = channel.0;
-        led = ap (λ from. rule_at g m from (channel_vc c) t (Link r found.0 channel.0)) arrives ∙ rw (self, link) led;
+        led = ap (λ from. rule_offers g m from (channel_vc c) t (Link r found.0 channel.0)) arrives ∙ rw (self, link) led;
         escape = channel.2;
       }
 

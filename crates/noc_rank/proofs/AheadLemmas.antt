@@ -10,20 +10,20 @@ use Rattle.noc_topo.specs.Shape.{Grid, IsLinkBack, nodes, local_port, neighbour,
 use Rattle.noc_topo.proofs.DistanceLemmas.{distance-bound}
 use Rattle.noc_topo.proofs.LinkLemmas.{link_back, neighbour-range}
 use Rattle.noc_route.specs.Channel.{Channel, Link}
-use Rattle.noc_route.specs.Ranks.{Ranking, LeadsTo, direct, through, is_place, places, place_of, rank_at}
+use Rattle.noc_route.specs.Ranks.{Ranking, LeadsTo, direct, through, is_place, rank_count, rank_index, rank_at}
 use Rattle.noc_route.specs.Routes.{Routes, set_at, permits, IsRelation}
 use Rattle.noc_route.proofs.PermitsLemmas.{PermitsLink-from_test, permits-nearer}
 use Rattle.noc_route.proofs.PlaceLemmas.{flat-below, flat-div, flat-mod}
-use Rattle.noc_rank.specs.Ahead.{IsLeastOf, lesser, over, mark_at, IsAhead, outputs, counts_for, IsValueIn, IsBefore, AreLeast, AreAllLeast}
+use Rattle.noc_rank.specs.LeastAhead.{IsLeastOf, lesser, over, mark_at, IsAhead, outputs, counts_for, IsValueIn, IsBefore, AreLeast, AreAllLeast}
 use Rattle.noc_rank.proofs.BareLemmas.{link-member, member-link}
 use Rattle.noc_rank.proofs.LeastLemmas.{least-same, least-none, least-either}
 use Rattle.noc_rank.proofs.PlaceLemmas.{is_place-parts, is_place-true, is_place-index, place-below, place-same, output-place}
 
 -- ---- the members of a set
 
-pub output-inside : (routes : Routes) (r i : ℕ) → r < nodes routes.grid → i < outputs routes → r * outputs routes + i < places routes.grid routes.vcs
+pub output-inside : (routes : Routes) (r i : ℕ) → r < nodes routes.grid → i < outputs routes → r * outputs routes + i < rank_count routes.grid routes.vcs
 output-inside routes r i here l =
-    let whole : nodes routes.grid * outputs routes ≡ places routes.grid routes.vcs = sym (mul_assoc (nodes routes.grid) (local_port routes.grid) routes.vcs) in
+    let whole : nodes routes.grid * outputs routes ≡ rank_count routes.grid routes.vcs = sym (mul_assoc (nodes routes.grid) (local_port routes.grid) routes.vcs) in
     omega (arith, whole, flat-below r (nodes routes.grid) i (outputs routes) here l)
 
 -- one more member
@@ -69,7 +69,7 @@ module _ (routes : Routes) (built : IsRelation routes) (ranks marks : List (Opti
   Permits m c t o = IsTrue (permits routes m c t o)
 
   -- the rank of an output channel, by its index
-  index-place : (r i : ℕ) → place_of g routes.vcs r (i / routes.vcs) (i % routes.vcs) ≡ r * outputs routes + i
+  index-place : (r i : ℕ) → rank_index g routes.vcs r (i / routes.vcs) (i % routes.vcs) ≡ r * outputs routes + i
   index-place r i =
       let whole : r * local_port g * routes.vcs ≡ r * outputs routes = mul_assoc r (local_port g) routes.vcs in
       omega (arith, whole, output-place g routes.vcs r i built.table.some_vcs)
@@ -198,7 +198,7 @@ module _ (routes : Routes) (built : IsRelation routes) (ranks marks : List (Opti
   -- one more channel
   pub least-more : (b i a o : ℕ) (least : List (Option ℕ)) (value : Option ℕ) → b < nodes g → i < outputs routes → neighbour g b (i / routes.vcs) ≡ Some (a, o)
       → AreLeast routes ranks marks m t (distance g b t) b i least → IsLeastOf (IsValueIn routes ranks marks least b (set_at routes m b (i / routes.vcs) (i % routes.vcs) t) (outputs routes)) value
-      → AreLeast routes ranks marks m t (distance g b t) b (i + 1) (set least (place_of g routes.vcs a o (i % routes.vcs)) value)
+      → AreLeast routes ranks marks m t (distance g b t) b (i + 1) (set least (rank_index g routes.vcs a o (i % routes.vcs)) value)
   least-more b i a o least value here l link old new = record { long = length-set least _ value ∙ old.long; each = each }
     where
       back : IsLinkBack g b (i / routes.vcs) a o
@@ -225,10 +225,10 @@ module _ (routes : Routes) (built : IsRelation routes) (ranks marks : List (Opti
           (both.0, both.1, number)
 
       each : (x p v r s : ℕ) → is_place g routes.vcs x p v ≡ true → neighbour g x p ≡ Some (r, s) → IsBefore routes t (distance g b t) b (i + 1) r (s * routes.vcs + v)
-          → IsLeastOf (Ahead x p v) (mark_at routes (set least (place_of g routes.vcs a o (i % routes.vcs)) value) x p v)
-      each x p v r s known to before = at (cases_eq (place_of g routes.vcs x p v) (place_of g routes.vcs a o (i % routes.vcs)))
+          → IsLeastOf (Ahead x p v) (mark_at routes (set least (rank_index g routes.vcs a o (i % routes.vcs)) value) x p v)
+      each x p v r s known to before = at (cases_eq (rank_index g routes.vcs x p v) (rank_index g routes.vcs a o (i % routes.vcs)))
         where
-          kept : place_of g routes.vcs x p v ≢ place_of g routes.vcs a o (i % routes.vcs) → IsBefore routes t (distance g b t) b (i + 1) r (s * routes.vcs + v) → IsBefore routes t (distance g b t) b i r (s * routes.vcs + v)
+          kept : rank_index g routes.vcs x p v ≢ rank_index g routes.vcs a o (i % routes.vcs) → IsBefore routes t (distance g b t) b (i + 1) r (s * routes.vcs + v) → IsBefore routes t (distance g b t) b i r (s * routes.vcs + v)
           kept other (inl near) = inl near
           kept other (inr (inl low)) = inr (inl low)
           kept other (inr (inr mine')) = more (cases_lt (s * routes.vcs + v) i)
@@ -239,20 +239,20 @@ module _ (routes : Routes) (built : IsRelation routes) (ranks marks : List (Opti
                   let is = same-channel x p v r s known to mine'.0 (omega (arith, last, mine'.1)) in
                   absurd (other (rw (is.0, is.1, is.2) refl))
 
-          at : (place_of g routes.vcs x p v ≡ place_of g routes.vcs a o (i % routes.vcs)) ⊎ (place_of g routes.vcs x p v ≢ place_of g routes.vcs a o (i % routes.vcs))
-              → IsLeastOf (Ahead x p v) (mark_at routes (set least (place_of g routes.vcs a o (i % routes.vcs)) value) x p v)
+          at : (rank_index g routes.vcs x p v ≡ rank_index g routes.vcs a o (i % routes.vcs)) ⊎ (rank_index g routes.vcs x p v ≢ rank_index g routes.vcs a o (i % routes.vcs))
+              → IsLeastOf (Ahead x p v) (mark_at routes (set least (rank_index g routes.vcs a o (i % routes.vcs)) value) x p v)
           at (inl e) =
               let is = place-same g routes.vcs x p v a o (i % routes.vcs) known mine e in
-              let below : place_of g routes.vcs a o (i % routes.vcs) < length least = omega (arith, old.long, place-below g routes.vcs a o (i % routes.vcs) mine) in
-              let mark : mark_at routes (set least (place_of g routes.vcs a o (i % routes.vcs)) value) a o (i % routes.vcs) ≡ value = get_or-set_same least (place_of g routes.vcs a o (i % routes.vcs)) value None below in
-              let P : ℕ → ℕ → ℕ → Type 0 = λ x p v. IsLeastOf (Ahead x p v) (mark_at routes (set least (place_of g routes.vcs a o (i % routes.vcs)) value) x p v) in
+              let below : rank_index g routes.vcs a o (i % routes.vcs) < length least = omega (arith, old.long, place-below g routes.vcs a o (i % routes.vcs) mine) in
+              let mark : mark_at routes (set least (rank_index g routes.vcs a o (i % routes.vcs)) value) a o (i % routes.vcs) ≡ value = get_or-set_same least (rank_index g routes.vcs a o (i % routes.vcs)) value None below in
+              let P : ℕ → ℕ → ℕ → Type 0 = λ x p v. IsLeastOf (Ahead x p v) (mark_at routes (set least (rank_index g routes.vcs a o (i % routes.vcs)) value) x p v) in
               let there : P a o (i % routes.vcs) = subst (IsLeastOf (Ahead a o (i % routes.vcs))) (sym mark) whole in
               subst (λ y. P y p v) (sym is.0) (subst (λ y. P a y v) (sym is.1) (subst (P a o) (sym is.2) there))
           at (inr other) =
-              subst (IsLeastOf (Ahead x p v)) (sym (get_or-set_other least (place_of g routes.vcs a o (i % routes.vcs)) (place_of g routes.vcs x p v) value None other))
+              subst (IsLeastOf (Ahead x p v)) (sym (get_or-set_other least (rank_index g routes.vcs a o (i % routes.vcs)) (rank_index g routes.vcs x p v) value None other))
               (old.each x p v r s known to (kept other before))
 
-  -- the same order of channels, with other words
+  -- the order of channels in other words
   pub least-onward : (d b i e c j : ℕ) (least : List (Option ℕ)) → ((r q w : ℕ) → r < nodes g → q < local_port g → w < routes.vcs → is_some (neighbour g r q) ≡ true → IsBefore routes t e c j r (q * routes.vcs + w) → IsBefore routes t d b i r (q * routes.vcs + w))
       → AreLeast routes ranks marks m t d b i least → AreLeast routes ranks marks m t e c j least
   least-onward d b i e c j least back old = record {
@@ -320,7 +320,7 @@ module _ (routes : Routes) (built : IsRelation routes) (ranks marks : List (Opti
       back r q w a c e some (inr (inr mine)) = absurd (omega (arith, mine.1))
 
   -- before all, and after all
-  pub least-start : (least : List (Option ℕ)) → length least ≡ places g routes.vcs → AreLeast routes ranks marks m t 0 0 0 least
+  pub least-start : (least : List (Option ℕ)) → length least ≡ rank_count g routes.vcs → AreLeast routes ranks marks m t 0 0 0 least
   least-start least long = record { long = long; each = λ x p v r s known to before. absurd (never r (s * routes.vcs + v) before) }
     where
       never : (r j : ℕ) → IsBefore routes t 0 0 0 r j → ⊥

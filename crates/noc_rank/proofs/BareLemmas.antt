@@ -15,8 +15,8 @@ use Rattle.noc_route.proofs.BuiltLemmas.{set_at-member}
 use Rattle.noc_route.proofs.PermitsLemmas.{PermitsLink-from_test, PermitsEject-from_test, permits-inject, member-permits, coming-on}
 use Rattle.noc_route.proofs.PlaceLemmas.{flat-below, flat-div, flat-mod}
 use Rattle.noc_route.proofs.OptionLemmas.{some-value}
-use Rattle.noc_rank.specs.Ahead.{over}
-use Rattle.noc_rank.specs.Bare.{entries, entry_at, IsRankedIn, IsBareSet}
+use Rattle.noc_rank.specs.LeastAhead.{over}
+use Rattle.noc_rank.specs.NoEscape.{entries, numbered_entry, IsRankedIn, IsBareSet}
 use Rattle.noc_rank.specs.Faults.{IsBare, IsFirstBare, HasEscapes}
 use Rattle.noc_rank.proofs.CheckLemmas.{IsFirstBut}
 use Rattle.noc_rank.proofs.PlaceLemmas.{flat, flat-before, div-mod}
@@ -39,7 +39,7 @@ module _ (routes : Routes) (built : IsRelation routes) where
       let k = p * routes.vcs + v in
       (k, ap (λ x. has_bit (set_at routes m x q w t) k) (sym same.0) ∙ ap (λ x. has_bit (set_at routes m b x w t) k) (sym same.1) ∙ ap (λ x. has_bit (set_at routes m b e.in_port x t) k) (sym vc) ∙ e.member)
 
-  -- the same of a link channel, by its index
+  -- what is permitted of a link channel is a member of the set, by its index
   pub link-member : (m : ℕ) (c : Channel) (t r p v q w : ℕ) → permits routes m c t (Link r p v) ≡ true → arrival_of routes.grid c ≡ Some (r, q) → channel_vc c ≡ w
       → has_bit (set_at routes m r q w t) (p * routes.vcs + v) ≡ true
   link-member m c t r p v q w h arrives vc =
@@ -126,7 +126,7 @@ module _ (routes : Routes) (built : IsRelation routes) where
     number-below : (e : Entry) → IsKnown e → number_of e < entries routes
     number-below e h = flat-below _ _ _ _ (flat-below _ _ _ _ (flat-below _ _ _ _ (flat-below _ _ _ _ h.class h.router) h.in_port) h.in_vc) h.dst
 
-    entry-again : (e : Entry) → IsKnown e → entry_at routes (number_of e) ≡ e
+    entry-again : (e : Entry) → IsKnown e → numbered_entry routes (number_of e) ≡ e
     entry-again e h =
         let a = (e.class * nodes routes.grid + e.router) * ports routes.grid + e.in_port in
         let dst : number_of e % nodes routes.grid ≡ e.dst = flat-mod (a * routes.vcs + e.in_vc) (nodes routes.grid) e.dst h.dst in
@@ -139,7 +139,7 @@ module _ (routes : Routes) (built : IsRelation routes) where
         let class : (e.class * nodes routes.grid + e.router) / nodes routes.grid ≡ e.class = flat-div e.class (nodes routes.grid) e.router h.router in
         rw (dst, input, vc, port_at, port, router_at, router, class) refl
 
-    number-again : (n : ℕ) → 0 < nodes routes.grid → 0 < ports routes.grid → 0 < routes.vcs → number_of (entry_at routes n) ≡ n
+    number-again : (n : ℕ) → 0 < nodes routes.grid → 0 < ports routes.grid → 0 < routes.vcs → number_of (numbered_entry routes n) ≡ n
     number-again n a b c =
         rw (div-mod (n / nodes routes.grid / routes.vcs / ports routes.grid) (nodes routes.grid) a, div-mod (n / nodes routes.grid / routes.vcs) (ports routes.grid) b, div-mod (n / nodes routes.grid) routes.vcs c)
         (div-mod n (nodes routes.grid) a)
@@ -154,25 +154,25 @@ module _ (routes : Routes) (built : IsRelation routes) where
 
     -- ---- all entries
 
-    no-bare : ((n : ℕ) → n < entries routes → IsBareSet routes k (entry_at routes n) → ⊥) → HasEscapes routes k
+    no-bare : ((n : ℕ) → n < entries routes → IsBareSet routes k (numbered_entry routes n) → ⊥) → HasEscapes routes k
     no-bare none e bare =
         let set = set-from_bare e bare in
         let known = known-bare e set in
         none (number_of e) (number-below e known) (subst (IsBareSet routes k) (sym (entry-again e known)) set)
 
-    one-bare : (n : ℕ) → IsBareSet routes k (entry_at routes n) → ((i : ℕ) → i < n → IsBareSet routes k (entry_at routes i) → ⊥) → IsFirstBare routes k (entry_at routes n)
+    one-bare : (n : ℕ) → IsBareSet routes k (numbered_entry routes n) → ((i : ℕ) → i < n → IsBareSet routes k (numbered_entry routes i) → ⊥) → IsFirstBare routes k (numbered_entry routes n)
     one-bare n here earlier = record {
-      bare = bare-from_set (entry_at routes n) here;
-      first = λ other bare. at other bare (numbers_before (entry_numbers other) (entry_numbers (entry_at routes n))) refl;
+      bare = bare-from_set (numbered_entry routes n) here;
+      first = λ other bare. at other bare (numbers_before (entry_numbers other) (entry_numbers (numbered_entry routes n))) refl;
     }
       where
-        at : (other : Entry) → IsBare routes k other → (b : Bool) → numbers_before (entry_numbers other) (entry_numbers (entry_at routes n)) ≡ b → b ≡ false
+        at : (other : Entry) → IsBare routes k other → (b : Bool) → numbers_before (entry_numbers other) (entry_numbers (numbered_entry routes n)) ≡ b → b ≡ false
         at other bare false f = refl
         at other bare true f =
             let set = set-from_bare other bare in
             let known = known-bare other set in
-            let mine = known-bare (entry_at routes n) here in
-            let less = number-before other (entry_at routes n) known mine f in
+            let mine = known-bare (numbered_entry routes n) here in
+            let less = number-before other (numbered_entry routes n) known mine f in
             let again = number-again n (omega (arith, mine.dst)) (omega (arith, mine.in_port)) (omega (arith, mine.in_vc)) in
             absurd (earlier (number_of other) (omega (arith, less, again)) (subst (IsBareSet routes k) (sym (entry-again other known)) set))
 
@@ -233,7 +233,7 @@ pub over-same : (routes : Routes) (k : Ranking) → routes.grid ≡ k.grid → r
 over-same routes k grid vcs = λ i. record { grid = grid i; vcs = vcs i; ranks = k.ranks }
 
 abbrev pub IsNotBare : Routes → Ranking → ℕ → Type 0
-IsNotBare routes k n = IsBareSet routes k (entry_at routes n) → ⊥
+IsNotBare routes k n = IsBareSet routes k (numbered_entry routes n) → ⊥
 
 pub has-escapes : (routes : Routes) (k : Ranking) → IsRelation routes → routes.grid ≡ k.grid → routes.vcs ≡ k.vcs → (n : ℕ) → n ≡ entries routes → ((i : ℕ) → i < n → IsNotBare routes k i) → HasEscapes routes k
 has-escapes routes k built grid vcs n count none =
@@ -241,13 +241,13 @@ has-escapes routes k built grid vcs n count none =
     subst P (over-same routes k grid vcs) (λ none. no-bare routes built k.ranks (λ i l. none i (omega (arith, count, l)))) none
 
 pub first-is_bare : (routes : Routes) (k : Ranking) → IsRelation routes → routes.grid ≡ k.grid → routes.vcs ≡ k.vcs → (n i : ℕ) (o : Option Entry) → IsFirstBut (IsNotBare routes k) 0 n i
-    → IfNone o (IsNotBare routes k i) → IfSome o (λ e. (e ≡ entry_at routes i) × IsBareSet routes k e) → MatchOption o (HasEscapes routes k) (IsFirstBare routes k)
+    → IfNone o (IsNotBare routes k i) → IfSome o (λ e. (e ≡ numbered_entry routes i) × IsBareSet routes k e) → MatchOption o (HasEscapes routes k) (IsFirstBare routes k)
 first-is_bare routes k built grid vcs n i None found none some = absurd (found.fails none)
 first-is_bare routes k built grid vcs n i (Some e) found none some =
-    let P : Ranking → Type 0 = λ x. IsBareSet routes x (entry_at routes i) → ((j : ℕ) → j < i → IsNotBare routes x j) → IsFirstBare routes x (entry_at routes i) in
-    let here : IsBareSet routes k (entry_at routes i) = subst (IsBareSet routes k) some.0 some.1 in
+    let P : Ranking → Type 0 = λ x. IsBareSet routes x (numbered_entry routes i) → ((j : ℕ) → j < i → IsNotBare routes x j) → IsFirstBare routes x (numbered_entry routes i) in
+    let here : IsBareSet routes k (numbered_entry routes i) = subst (IsBareSet routes k) some.0 some.1 in
     subst (IsFirstBare routes k) (sym some.0) (subst P (over-same routes k grid vcs) (one-bare routes built k.ranks i) here (λ j l. found.earlier j (omega arith) l))
 
-pub told-bare : (routes : Routes) (k : Ranking) (n : ℕ) (o : Option Entry) → IfNone o (IsNotBare routes k n) → IfSome o (λ e. (e ≡ entry_at routes n) × IsBareSet routes k e) → (is_some o ≡ false) ↔ IsNotBare routes k n
+pub told-bare : (routes : Routes) (k : Ranking) (n : ℕ) (o : Option Entry) → IfNone o (IsNotBare routes k n) → IfSome o (λ e. (e ≡ numbered_entry routes n) × IsBareSet routes k e) → (is_some o ≡ false) ↔ IsNotBare routes k n
 told-bare routes k n None none some = (λ e. none, λ e. refl)
 told-bare routes k n (Some e) none some = (λ f. absurd (false≢true (sym f)), λ not. absurd (not (subst (IsBareSet routes k) some.0 some.1)))

@@ -12,12 +12,12 @@ use Rattle.noc_route.specs.Routes.{Routes, set_at}
 use Rattle.noc_route.specs.Ranks.{Ranking, IsRising, rank_at}
 use Rattle.noc_rank.specs.declared.rising.Fall.{Fall}
 use Rattle.noc_rank.specs.Rising.{IsFirstFall}
-use Rattle.noc_rank.specs.Falls.{falls_from, inputs, class_of, router_of, port_of, HasNoFall, IsFirstAt}
+use Rattle.noc_rank.specs.NotRising.{falls_from, input_count, class_of, router_of, input_port_of, HasNoFall, IsFirstAt}
 use Rattle.noc_rank.proofs.FallLemmas.{rising, first_fall, over}
 
 -- ---- all entries
 
-pub count-inputs : (k : Ranking) (c n p v : ℕ) → n ≡ nodes k.grid → p ≡ ports k.grid → v ≡ k.vcs → c * n * p * v ≡ c * inputs k
+pub count-inputs : (k : Ranking) (c n p v : ℕ) → n ≡ nodes k.grid → p ≡ ports k.grid → v ≡ k.vcs → c * n * p * v ≡ c * input_count k
 count-inputs k c n p v node port vcs =
     ap (λ x. c * x * p * v) node ∙ ap (λ x. c * nodes k.grid * x * v) port ∙ ap (λ x. c * nodes k.grid * ports k.grid * x) vcs
     ∙ ap (λ x. x * k.vcs) (mul_assoc c (nodes k.grid) (ports k.grid)) ∙ mul_assoc c (nodes k.grid * ports k.grid) k.vcs
@@ -26,10 +26,10 @@ count-inputs k c n p v node port vcs =
 same_over : (routes : Routes) (k : Ranking) (sound : IsGrid routes.grid) → routes.grid ≡ k.grid → routes.vcs ≡ k.vcs → over routes k.ranks sound ≡ k
 same_over routes k sound grid vcs = λ i. record { grid = grid i; vcs = vcs i; ranks = k.ranks }
 
-pub all-rise : (routes : Routes) (k : Ranking) (n : ℕ) → routes.grid ≡ k.grid → routes.vcs ≡ k.vcs → IsGrid routes.grid → n ≡ routes.classes * inputs k
+pub all-rise : (routes : Routes) (k : Ranking) (n : ℕ) → routes.grid ≡ k.grid → routes.vcs ≡ k.vcs → IsGrid routes.grid → n ≡ routes.classes * input_count k
     → ((e : ℕ) → e < n → HasNoFall routes k e) → IsRising routes (rank_at k)
 all-rise routes k n grid vcs sound count none =
-    let P : Ranking → Type 0 = λ x. n ≡ routes.classes * inputs x → ((e : ℕ) → e < n → HasNoFall routes x e) → IsRising routes (rank_at x) in
+    let P : Ranking → Type 0 = λ x. n ≡ routes.classes * input_count x → ((e : ℕ) → e < n → HasNoFall routes x e) → IsRising routes (rank_at x) in
     let core : P (over routes k.ranks sound) = λ m h. rising routes k.ranks sound (λ e l. h e (omega (arith, m, l))) in
     subst P (same_over routes k sound grid vcs) core count none
 
@@ -47,8 +47,8 @@ fall-some : (routes : Routes) (k : Ranking) (e : ℕ) (fall : Fall) → IsFirstA
 fall-some routes k e fall here none =
     let f = here.first in
     let i = f.index in
-    let quiet : falls_from k (router_of k e) (set_at routes (class_of k e) (router_of k e) (port_of k e) (e % k.vcs) f.dst) (Some here.before) i ≡ false
-    = ap (λ o. falls_from k (router_of k e) (set_at routes (class_of k e) (router_of k e) (port_of k e) (e % k.vcs) f.dst) o i) (sym here.arrival) ∙ none f.dst f.exists i f.least.inside in
+    let quiet : falls_from k (router_of k e) (set_at routes (class_of k e) (router_of k e) (input_port_of k e) (e % k.vcs) f.dst) (Some here.before) i ≡ false
+    = ap (λ o. falls_from k (router_of k e) (set_at routes (class_of k e) (router_of k e) (input_port_of k e) (e % k.vcs) f.dst) o i) (sym here.arrival) ∙ none f.dst f.exists i f.least.inside in
     false≢true (sym quiet ∙ f.least.holds)
 
 pub rises-iff : (routes : Routes) (k : Ranking) (e : ℕ) (o : Option Fall) → MatchOption o (HasNoFall routes k e) (IsFirstAt routes k e) → (is_some o ≡ false) ↔ HasNoFall routes k e

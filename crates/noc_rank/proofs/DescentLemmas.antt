@@ -7,12 +7,12 @@ use Rattle.std.proofs.lemmas.Option.{none-some, same_Some}
 use Rattle.noc_topo.specs.Shape.{nodes, local_port, neighbour}
 use Rattle.noc_route.specs.Channel.{Channel, Link}
 use Rattle.noc_route.specs.Order.{numbers_before}
-use Rattle.noc_route.specs.Ranks.{Ranking, LeadsTo, direct, through, is_place, places, place_of, rank_at}
+use Rattle.noc_route.specs.Ranks.{Ranking, LeadsTo, direct, through, is_place, rank_count, rank_index, rank_at}
 use Rattle.noc_route.specs.Routes.{Routes, permits, IsRelation}
 use Rattle.noc_route.proofs.BuiltLemmas.{set_at-member}
 use Rattle.noc_route.proofs.PermitsLemmas.{PermitsLink-from_test}
-use Rattle.noc_rank.specs.Ahead.{IsLeastOf, over, mark_at, IsAhead, AreAllLeast}
-use Rattle.noc_rank.specs.Descents.{channel_at, IsLinkPlace, AreReal, falls, mark_below, IsStart, IsStartBy, IsAheadAt, IsOver}
+use Rattle.noc_rank.specs.LeastAhead.{IsLeastOf, over, mark_at, IsAhead, AreAllLeast}
+use Rattle.noc_rank.specs.NotRisingTo.{channel_at, IsLinkPlace, AreReal, falls, mark_below, BeginsDescent, IsStartBy, IsAheadAt, IsOver}
 use Rattle.noc_rank.specs.Faults.{IsDescent, IsFirstDescent, HasNoDescent, pair_numbers}
 use Rattle.noc_rank.specs.declared.place.LinkChannel.{LinkChannel}
 use Rattle.noc_rank.specs.declared.descent.Descent.{Descent}
@@ -35,17 +35,17 @@ falls-true a b x y e f l = rw (e, f) (le-leb y x l)
 
 -- the first place of a list that falls
 pub start-here : (ranks least : List (Option ℕ)) (n : ℕ) → n < length ranks → falls (get_or ranks n None) (get_or least n None) ≡ true
-    → ((i : ℕ) → i < n → falls (get_or ranks i None) (get_or least i None) ≡ false) → IsLeastOf (IsStart ranks least) (Some n)
+    → ((i : ℕ) → i < n → falls (get_or ranks i None) (get_or least i None) ≡ false) → IsLeastOf (BeginsDescent ranks least) (Some n)
 start-here ranks least n l here none = least-one _ n (record { inside = l; falls = here }) (λ i h. at i h (cases_lt i n))
   where
-    at : (i : ℕ) → IsStart ranks least i → (i < n) ⊎ (n ≤ i) → n ≤ i
+    at : (i : ℕ) → BeginsDescent ranks least i → (i < n) ⊎ (n ≤ i) → n ≤ i
     at i h (inl less) = absurd (false≢true (sym (none i less) ∙ h.falls))
     at i h (inr more) = more
 
-pub start-none : (ranks least : List (Option ℕ)) → ((i : ℕ) → i < length ranks → falls (get_or ranks i None) (get_or least i None) ≡ false) → IsLeastOf (IsStart ranks least) None
+pub start-none : (ranks least : List (Option ℕ)) → ((i : ℕ) → i < length ranks → falls (get_or ranks i None) (get_or least i None) ≡ false) → IsLeastOf (BeginsDescent ranks least) None
 start-none ranks least none = least-none _ (λ i h. false≢true (sym (none i h.inside) ∙ h.falls))
 
-module _ (routes : Routes) (built : IsRelation routes) (ranks : List (Option ℕ)) (long : length ranks ≡ places routes.grid routes.vcs) (real : AreReal routes ranks) where
+module _ (routes : Routes) (built : IsRelation routes) (ranks : List (Option ℕ)) (long : length ranks ≡ rank_count routes.grid routes.vcs) (real : AreReal routes ranks) where
   abbrev k : Ranking
   k = over routes ranks
 
@@ -59,7 +59,7 @@ module _ (routes : Routes) (built : IsRelation routes) (ranks : List (Option ℕ
   some_ports = omega (arith, built.table.grid.some_dimensions)
 
   -- the rank at a place is that of the list
-  listed : (r p v : ℕ) → is_place routes.grid routes.vcs r p v ≡ true → rank_at k r p v ≡ get_or ranks (place_of routes.grid routes.vcs r p v) None
+  listed : (r p v : ℕ) → is_place routes.grid routes.vcs r p v ≡ true → rank_at k r p v ≡ get_or ranks (rank_index routes.grid routes.vcs r p v) None
   listed r p v known = rw known refl
 
   real-place : (r p v n : ℕ) → rank_at k r p v ≡ Some n → is_place routes.grid routes.vcs r p v ≡ true
@@ -73,15 +73,15 @@ module _ (routes : Routes) (built : IsRelation routes) (ranks : List (Option ℕ
       at None f = absurd (false≢true (sym (ap is_some f) ∙ (and_parts (is_place routes.grid routes.vcs r p v) _ (real r p v n e)).1))
 
   -- the channel at a place
-  decoded : (n : ℕ) → n < places routes.grid routes.vcs → let c = channel_at routes n in (is_place routes.grid routes.vcs c.router c.port c.vc ≡ true) × (place_of routes.grid routes.vcs c.router c.port c.vc ≡ n)
+  decoded : (n : ℕ) → n < rank_count routes.grid routes.vcs → let c = channel_at routes n in (is_place routes.grid routes.vcs c.router c.port c.vc ≡ true) × (rank_index routes.grid routes.vcs c.router c.port c.vc ≡ n)
   decoded n l = (is_place-decoded routes.grid routes.vcs n some_vcs some_ports l, place-again routes.grid routes.vcs n some_vcs some_ports)
 
   -- ---- starts, for one class and one destination
 
-  pub start-by : (m t : ℕ) (least : List (Option ℕ)) (o : Option ℕ) → AreAllLeast routes ranks ranks m t least → IsLeastOf (IsStart ranks least) o → IsLeastOf (IsStartBy routes ranks m t) o
-  start-by m t least o all = least-same (IsStart ranks least) (IsStartBy routes ranks m t) o to from
+  pub start-by : (m t : ℕ) (least : List (Option ℕ)) (o : Option ℕ) → AreAllLeast routes ranks ranks m t least → IsLeastOf (BeginsDescent ranks least) o → IsLeastOf (IsStartBy routes ranks m t) o
+  start-by m t least o all = least-same (BeginsDescent ranks least) (IsStartBy routes ranks m t) o to from
     where
-      to : (n : ℕ) → IsStart ranks least n → IsStartBy routes ranks m t n
+      to : (n : ℕ) → BeginsDescent ranks least n → IsStartBy routes ranks m t n
       to n h =
           let f = falls-parts (get_or ranks n None) (get_or least n None) h.falls in
           let d = decoded n (omega (arith, h.inside, long)) in
@@ -102,7 +102,7 @@ module _ (routes : Routes) (built : IsRelation routes) (ranks : List (Option ℕ
             falls = f.4;
           }
 
-      from : (n : ℕ) → IsStartBy routes ranks m t n → IsStart ranks least n
+      from : (n : ℕ) → IsStartBy routes ranks m t n → BeginsDescent ranks least n
       from n h =
           let link = real-link h.router h.port h.vc h.before h.ranked in
           let low = (all.each h.router h.port h.vc link.0.0 link.0.1 h.known link.1).least h.after h.ahead in
@@ -130,7 +130,7 @@ module _ (routes : Routes) (built : IsRelation routes) (ranks : List (Option ℕ
       (there.place.class, there.place.dst)
 
   abbrev place : LinkChannel → ℕ
-  place c = place_of routes.grid routes.vcs c.router c.port c.vc
+  place c = rank_index routes.grid routes.vcs c.router c.port c.vc
 
   -- the first channel of a descent is a start
   descent-start : (e o : LinkChannel) (x y : ℕ) → IsDescent routes k e o x y → IsOver routes (IsStartBy routes ranks) (place e)
@@ -165,10 +165,10 @@ module _ (routes : Routes) (built : IsRelation routes) (ranks : List (Option ℕ
     by = first.met start refl
 
     -- it is the place of its channel, which has a rank
-    inside : start < places routes.grid routes.vcs
+    inside : start < rank_count routes.grid routes.vcs
     inside = let h = by.holds in omega (arith, h.place, place-below routes.grid routes.vcs h.router h.port h.vc h.known)
 
-    from-place : (r p v : ℕ) → is_place routes.grid routes.vcs r p v ≡ true → place_of routes.grid routes.vcs r p v ≡ start → (r ≡ from.router) × (p ≡ from.port) × (v ≡ from.vc)
+    from-place : (r p v : ℕ) → is_place routes.grid routes.vcs r p v ≡ true → rank_index routes.grid routes.vcs r p v ≡ start → (r ≡ from.router) × (p ≡ from.port) × (v ≡ from.vc)
     from-place r p v known e = let d = decoded start inside in place-same routes.grid routes.vcs r p v from.router from.port from.vc known d.0 (e ∙ sym d.1)
 
     pub start-rank : (x : ℕ) × (rank_at k from.router from.port from.vc ≡ Some x) × (get_or ranks start None ≡ Some x)
@@ -183,34 +183,34 @@ module _ (routes : Routes) (built : IsRelation routes) (ranks : List (Option ℕ
     start-link = real from.router from.port from.vc start-rank.0 start-rank.1
 
     -- the mark of a channel whose rank is no greater is its place, and others have none
-    mark-of : (r p v l : ℕ) → rank_at k r p v ≡ Some l → l ≤ start-rank.0 → mark_at routes marks r p v ≡ Some (place_of routes.grid routes.vcs r p v)
+    mark-of : (r p v l : ℕ) → rank_at k r p v ≡ Some l → l ≤ start-rank.0 → mark_at routes marks r p v ≡ Some (rank_index routes.grid routes.vcs r p v)
     mark-of r p v l e low =
         let known = real-place r p v l e in
-        let below : place_of routes.grid routes.vcs r p v < length ranks = omega (arith, long, place-below routes.grid routes.vcs r p v known) in
-        let there : get_or ranks (place_of routes.grid routes.vcs r p v) None ≡ Some l = sym (listed r p v known) ∙ e in
-        let down : falls (get_or ranks start None) (get_or ranks (place_of routes.grid routes.vcs r p v) None) ≡ true = falls-true _ _ start-rank.0 l start-rank.2 there low in
-        marked (place_of routes.grid routes.vcs r p v) below ∙ rw down refl
+        let below : rank_index routes.grid routes.vcs r p v < length ranks = omega (arith, long, place-below routes.grid routes.vcs r p v known) in
+        let there : get_or ranks (rank_index routes.grid routes.vcs r p v) None ≡ Some l = sym (listed r p v known) ∙ e in
+        let down : falls (get_or ranks start None) (get_or ranks (rank_index routes.grid routes.vcs r p v) None) ≡ true = falls-true _ _ start-rank.0 l start-rank.2 there low in
+        marked (rank_index routes.grid routes.vcs r p v) below ∙ rw down refl
 
-    of-mark : (r p v l n : ℕ) → rank_at k r p v ≡ Some l → mark_at routes marks r p v ≡ Some n → (place_of routes.grid routes.vcs r p v ≡ n) × (l ≤ start-rank.0)
-    of-mark r p v l n e mark = at (falls (get_or ranks start None) (get_or ranks (place_of routes.grid routes.vcs r p v) None)) refl
+    of-mark : (r p v l n : ℕ) → rank_at k r p v ≡ Some l → mark_at routes marks r p v ≡ Some n → (rank_index routes.grid routes.vcs r p v ≡ n) × (l ≤ start-rank.0)
+    of-mark r p v l n e mark = at (falls (get_or ranks start None) (get_or ranks (rank_index routes.grid routes.vcs r p v) None)) refl
       where
         known : is_place routes.grid routes.vcs r p v ≡ true
         known = real-place r p v l e
 
-        below : place_of routes.grid routes.vcs r p v < length ranks
+        below : rank_index routes.grid routes.vcs r p v < length ranks
         below = omega (arith, long, place-below routes.grid routes.vcs r p v known)
 
-        there : get_or ranks (place_of routes.grid routes.vcs r p v) None ≡ Some l
+        there : get_or ranks (rank_index routes.grid routes.vcs r p v) None ≡ Some l
         there = sym (listed r p v known) ∙ e
 
-        at : (b : Bool) → falls (get_or ranks start None) (get_or ranks (place_of routes.grid routes.vcs r p v) None) ≡ b → (place_of routes.grid routes.vcs r p v ≡ n) × (l ≤ start-rank.0)
+        at : (b : Bool) → falls (get_or ranks start None) (get_or ranks (rank_index routes.grid routes.vcs r p v) None) ≡ b → (rank_index routes.grid routes.vcs r p v ≡ n) × (l ≤ start-rank.0)
         at true f =
             let parts = falls-parts _ _ f in
             let a : start-rank.0 ≡ parts.0 = same_Some _ _ (sym start-rank.2 ∙ parts.2) in
             let b : l ≡ parts.1 = same_Some _ _ (sym there ∙ parts.3) in
-            let same : Some (place_of routes.grid routes.vcs r p v) ≡ Some n = sym (rw f refl) ∙ sym (marked (place_of routes.grid routes.vcs r p v) below) ∙ mark in
+            let same : Some (rank_index routes.grid routes.vcs r p v) ≡ Some n = sym (rw f refl) ∙ sym (marked (rank_index routes.grid routes.vcs r p v) below) ∙ mark in
             (same_Some _ n same, omega (arith, a, b, parts.4))
-        at false f = absurd (none-some n (sym (rw f refl) ∙ sym (marked (place_of routes.grid routes.vcs r p v) below) ∙ mark))
+        at false f = absurd (none-some n (sym (rw f refl) ∙ sym (marked (rank_index routes.grid routes.vcs r p v) below) ∙ mark))
 
     abbrev Ends : ℕ → Type 0
     Ends = IsOver routes (λ m t n. IsAheadAt routes ranks marks m t start n)
@@ -232,7 +232,7 @@ module _ (routes : Routes) (built : IsRelation routes) (ranks : List (Option ℕ
         let low : a.rank ≤ start-rank.0 = omega (arith, h.falls, rank-mark _ _ h.router h.port h.vc h.after a, same_Some h.before start-rank.0 (sym h.ranked ∙ ap (λ y. rank_at k y h.port h.vc) is.0 ∙ ap (λ y. rank_at k from.router y h.vc) is.1 ∙ ap (λ y. rank_at k from.router from.port y) is.2 ∙ start-rank.1)) in
         let L : ℕ → ℕ → ℕ → Type 0 = λ r p v. LeadsTo Permits (rank_at k) (by.number / nodes routes.grid) (by.number % nodes routes.grid) (Link r p v) (Link a.router a.port a.vc) in
         let leads : L from.router from.port from.vc = subst (λ y. L y from.port from.vc) is.0 (subst (λ y. L h.router y from.vc) is.1 (subst (L h.router h.port) is.2 a.leads)) in
-        let end = none.least (place_of routes.grid routes.vcs a.router a.port a.vc) (record {
+        let end = none.least (rank_index routes.grid routes.vcs a.router a.port a.vc) (record {
           number = by.number;
           below = by.below;
           holds = record { router = a.router; port = a.port; vc = a.vc; rank = a.rank; leads = leads; ranked = a.ranked; mark = mark-of a.router a.port a.vc a.rank a.ranked low };
@@ -246,13 +246,13 @@ module _ (routes : Routes) (built : IsRelation routes) (ranks : List (Option ℕ
       at-end : Ends end
       at-end = last.met end refl
 
-      end-is : (place_of routes.grid routes.vcs at-end.holds.router at-end.holds.port at-end.holds.vc ≡ end) × (at-end.holds.rank ≤ start-rank.0)
+      end-is : (rank_index routes.grid routes.vcs at-end.holds.router at-end.holds.port at-end.holds.vc ≡ end) × (at-end.holds.rank ≤ start-rank.0)
       end-is = let h = at-end.holds in of-mark h.router h.port h.vc h.rank end h.ranked h.mark
 
       end-known : is_place routes.grid routes.vcs at-end.holds.router at-end.holds.port at-end.holds.vc ≡ true
       end-known = let h = at-end.holds in real-place h.router h.port h.vc h.rank h.ranked
 
-      pub end-inside : end < places routes.grid routes.vcs
+      pub end-inside : end < rank_count routes.grid routes.vcs
       end-inside = let h = at-end.holds in omega (arith, end-is.0, place-below routes.grid routes.vcs h.router h.port h.vc end-known)
 
       to-place : (at-end.holds.router ≡ to.router) × (at-end.holds.port ≡ to.port) × (at-end.holds.vc ≡ to.vc)
@@ -359,7 +359,7 @@ module _ (routes : Routes) (built : IsRelation routes) (ranks : List (Option ℕ
 
 -- a place of a link channel is in the list
 pub link-inside : (routes : Routes) → IsRelation routes → (n : ℕ) → IsLinkPlace routes n → let c = channel_at routes n in
-    (is_place routes.grid routes.vcs c.router c.port c.vc ≡ true) × (place_of routes.grid routes.vcs c.router c.port c.vc ≡ n) × ((to : ℕ × ℕ) × (neighbour routes.grid c.router c.port ≡ Some to))
+    (is_place routes.grid routes.vcs c.router c.port c.vc ≡ true) × (rank_index routes.grid routes.vcs c.router c.port c.vc ≡ n) × ((to : ℕ × ℕ) × (neighbour routes.grid c.router c.port ≡ Some to))
 link-inside routes built n link =
     let c = channel_at routes n in
     (is_channel-place routes.grid routes.vcs c.router c.port c.vc link, place-again routes.grid routes.vcs n (omega (arith, built.table.some_vcs)) (omega (arith, built.table.grid.some_dimensions)), at (neighbour routes.grid c.router c.port) refl)
@@ -375,7 +375,7 @@ end-least routes built ranks marks m t start least link all =
     let c = channel_at routes start in
     subst (λ n. IsLeastOf (IsAheadAt routes ranks marks m t start) (get_or least n None)) there.1 (all.each c.router c.port c.vc there.2.0.0 there.2.0.1 there.0 there.2.1)
 
-pub end-inside_list : (routes : Routes) → IsRelation routes → (start n : ℕ) → IsLinkPlace routes start → n ≡ places routes.grid routes.vcs → start < n
+pub end-inside_list : (routes : Routes) → IsRelation routes → (start n : ℕ) → IsLinkPlace routes start → n ≡ rank_count routes.grid routes.vcs → start < n
 end-inside_list routes built start n link long =
     let there = link-inside routes built start link in
     let c = channel_at routes start in

@@ -17,7 +17,7 @@ use Rattle.noc_route.proofs.PermitsLemmas.{PermitsLink-from_test}
 use Rattle.noc_route.proofs.PlaceLemmas.{flat-below, flat-div, flat-mod}
 use Rattle.noc_rank.specs.declared.rising.Fall.{Fall}
 use Rattle.noc_rank.specs.Rising.{IsFall, IsFirstFall}
-use Rattle.noc_rank.specs.Falls.{rank_from, arrival_rank, is_not_above, falls_to, falls_from, falls_at, links, inputs, class_of, router_of, port_of, IsLeastBelow, HasNone, IsFirstFrom, HasNoFall, IsFirstAt}
+use Rattle.noc_rank.specs.NotRising.{rank_from, arrival_rank, is_not_above, falls_to, falls_from, falls_at, link_output_count, input_count, class_of, router_of, input_port_of, IsLeastBelow, HasNone, IsFirstFrom, HasNoFall, IsFirstAt}
 use Rattle.noc_rank.proofs.PlaceLemmas.{flat, flat-rises, flat-before, div-mod}
 
 -- ---- numbers of entries
@@ -32,22 +32,22 @@ class-below e c n p v n_some p_some v_some l =
 
 -- ---- one entry
 
-first_at-core : (routes : Routes) (k : Ranking) (e before : ℕ) (o : Option Fall) → arrival_rank k (router_of k e) (port_of k e) (e % k.vcs) ≡ Some before
-    → IfNone o ((t : ℕ) → t < nodes k.grid → HasNone (falls_to k (router_of k e) (set_at routes (class_of k e) (router_of k e) (port_of k e) (e % k.vcs) t) before) (links k))
-    → IfSome o (IsFirstFrom routes k (class_of k e) (router_of k e) (port_of k e) (e % k.vcs) before)
+first_at-core : (routes : Routes) (k : Ranking) (e before : ℕ) (o : Option Fall) → arrival_rank k (router_of k e) (input_port_of k e) (e % k.vcs) ≡ Some before
+    → IfNone o ((t : ℕ) → t < nodes k.grid → HasNone (falls_to k (router_of k e) (set_at routes (class_of k e) (router_of k e) (input_port_of k e) (e % k.vcs) t) before) (link_output_count k))
+    → IfSome o (IsFirstFrom routes k (class_of k e) (router_of k e) (input_port_of k e) (e % k.vcs) before)
     → MatchOption o (HasNoFall routes k e) (IsFirstAt routes k e)
 first_at-core routes k e before None arrival none some = λ t l j m. rw arrival (none t l j m)
 first_at-core routes k e before (Some fall) arrival none some = record { before = before; arrival = arrival; first = some }
 
 pub first_at-match : (routes : Routes) (k : Ranking) (e before v p n : ℕ) (o : Option Fall) → v ≡ k.vcs → p ≡ ports k.grid → n ≡ nodes k.grid
     → arrival_rank k (e / v / p % n) (e / v % p) (e % v) ≡ Some before
-    → IfNone o ((t : ℕ) → t < nodes k.grid → HasNone (falls_to k (e / v / p % n) (set_at routes (e / v / p / n) (e / v / p % n) (e / v % p) (e % v) t) before) (links k))
+    → IfNone o ((t : ℕ) → t < nodes k.grid → HasNone (falls_to k (e / v / p % n) (set_at routes (e / v / p / n) (e / v / p % n) (e / v % p) (e % v) t) before) (link_output_count k))
     → IfSome o (IsFirstFrom routes k (e / v / p / n) (e / v / p % n) (e / v % p) (e % v) before)
     → MatchOption o (HasNoFall routes k e) (IsFirstAt routes k e)
 first_at-match routes k e before v p n o a b c =
     let P : ℕ → ℕ → ℕ → Type 0 = λ v p n.
     arrival_rank k (e / v / p % n) (e / v % p) (e % v) ≡ Some before
-    → IfNone o ((t : ℕ) → t < nodes k.grid → HasNone (falls_to k (e / v / p % n) (set_at routes (e / v / p / n) (e / v / p % n) (e / v % p) (e % v) t) before) (links k))
+    → IfNone o ((t : ℕ) → t < nodes k.grid → HasNone (falls_to k (e / v / p % n) (set_at routes (e / v / p / n) (e / v / p % n) (e / v % p) (e % v) t) before) (link_output_count k))
     → IfSome o (IsFirstFrom routes k (e / v / p / n) (e / v / p % n) (e / v % p) (e % v) before)
     → MatchOption o (HasNoFall routes k e) (IsFirstAt routes k e) in
     subst (λ x. P x p n) (sym a) (subst (λ x. P k.vcs x n) (sym b) (subst (λ x. P k.vcs (ports k.grid) x) (sym c) (first_at-core routes k e before o)))
@@ -110,9 +110,9 @@ module _ (routes : Routes) (ranks : List (Option ℕ)) (sound : IsGrid routes.gr
   abbrev number : ℕ → ℕ → ℕ → ℕ → ℕ
   number m r q w = ((m * nodes routes.grid + r) * ports routes.grid + q) * routes.vcs + w
 
-  number-below : (m r q w : ℕ) → m < routes.classes → r < nodes routes.grid → q < ports routes.grid → w < routes.vcs → number m r q w < routes.classes * inputs over
+  number-below : (m r q w : ℕ) → m < routes.classes → r < nodes routes.grid → q < ports routes.grid → w < routes.vcs → number m r q w < routes.classes * input_count over
   number-below m r q w a b c d =
-      let whole : routes.classes * inputs over ≡ routes.classes * nodes routes.grid * ports routes.grid * routes.vcs
+      let whole : routes.classes * input_count over ≡ routes.classes * nodes routes.grid * ports routes.grid * routes.vcs
       = sym (mul_assoc routes.classes (nodes routes.grid * ports routes.grid) routes.vcs) ∙ ap (λ x. x * routes.vcs) (sym (mul_assoc routes.classes (nodes routes.grid) (ports routes.grid))) in
       let pair : m * nodes routes.grid + r < routes.classes * nodes routes.grid = flat-below m routes.classes r (nodes routes.grid) a b in
       let port : (m * nodes routes.grid + r) * ports routes.grid + q < routes.classes * nodes routes.grid * ports routes.grid = flat-below _ _ q (ports routes.grid) pair c in
@@ -121,7 +121,7 @@ module _ (routes : Routes) (ranks : List (Option ℕ)) (sound : IsGrid routes.gr
   number-vc : (m r q w : ℕ) → w < routes.vcs → number m r q w % routes.vcs ≡ w
   number-vc m r q w d = flat-mod _ routes.vcs w d
 
-  number-port : (m r q w : ℕ) → q < ports routes.grid → w < routes.vcs → port_of over (number m r q w) ≡ q
+  number-port : (m r q w : ℕ) → q < ports routes.grid → w < routes.vcs → input_port_of over (number m r q w) ≡ q
   number-port m r q w c d = rw (flat-div ((m * nodes routes.grid + r) * ports routes.grid + q) routes.vcs w d) (flat-mod _ (ports routes.grid) q c)
 
   number-router : (m r q w : ℕ) → r < nodes routes.grid → q < ports routes.grid → w < routes.vcs → router_of over (number m r q w) ≡ r
@@ -140,28 +140,28 @@ module _ (routes : Routes) (ranks : List (Option ℕ)) (sound : IsGrid routes.gr
       let router = number-router m r s.port w s.router_known s.port_known s.vc_known in
       let port = number-port m r s.port w s.port_known s.vc_known in
       let vc = number-vc m r s.port w s.vc_known in
-      let set : set_at routes (class_of over (number m r s.port w)) (router_of over (number m r s.port w)) (port_of over (number m r s.port w)) (number m r s.port w % routes.vcs) t ≡ set_at routes m r s.port w t
-      = ap (λ x. set_at routes x (router_of over (number m r s.port w)) (port_of over (number m r s.port w)) (number m r s.port w % routes.vcs) t) class
-      ∙ ap (λ x. set_at routes m x (port_of over (number m r s.port w)) (number m r s.port w % routes.vcs) t) router
+      let set : set_at routes (class_of over (number m r s.port w)) (router_of over (number m r s.port w)) (input_port_of over (number m r s.port w)) (number m r s.port w % routes.vcs) t ≡ set_at routes m r s.port w t
+      = ap (λ x. set_at routes x (router_of over (number m r s.port w)) (input_port_of over (number m r s.port w)) (number m r s.port w % routes.vcs) t) class
+      ∙ ap (λ x. set_at routes m x (input_port_of over (number m r s.port w)) (number m r s.port w % routes.vcs) t) router
       ∙ ap (λ x. set_at routes m r x (number m r s.port w % routes.vcs) t) port
       ∙ ap (λ x. set_at routes m r s.port x t) vc in
-      let came : arrival_rank over (router_of over (number m r s.port w)) (port_of over (number m r s.port w)) (number m r s.port w % routes.vcs) ≡ Some before
-      = ap (λ x. arrival_rank over x (port_of over (number m r s.port w)) (number m r s.port w % routes.vcs)) router
+      let came : arrival_rank over (router_of over (number m r s.port w)) (input_port_of over (number m r s.port w)) (number m r s.port w % routes.vcs) ≡ Some before
+      = ap (λ x. arrival_rank over x (input_port_of over (number m r s.port w)) (number m r s.port w % routes.vcs)) router
       ∙ ap (λ x. arrival_rank over r x (number m r s.port w % routes.vcs)) port
       ∙ ap (λ x. arrival_rank over r s.port x) vc
       ∙ s.rank
       ∙ ranked in
       let out_port : (p * routes.vcs + v) / routes.vcs ≡ p = flat-div p routes.vcs v s.out_vc_known in
       let out_vc : (p * routes.vcs + v) % routes.vcs ≡ v = flat-mod p routes.vcs v s.out_vc_known in
-      ap (λ x. falls_from over x (set_at routes (class_of over (number m r s.port w)) (router_of over (number m r s.port w)) (port_of over (number m r s.port w)) (number m r s.port w % routes.vcs) t) (arrival_rank over (router_of over (number m r s.port w)) (port_of over (number m r s.port w)) (number m r s.port w % routes.vcs)) (p * routes.vcs + v)) router
-      ∙ ap (λ x. falls_from over r x (arrival_rank over (router_of over (number m r s.port w)) (port_of over (number m r s.port w)) (number m r s.port w % routes.vcs)) (p * routes.vcs + v)) set
+      ap (λ x. falls_from over x (set_at routes (class_of over (number m r s.port w)) (router_of over (number m r s.port w)) (input_port_of over (number m r s.port w)) (number m r s.port w % routes.vcs) t) (arrival_rank over (router_of over (number m r s.port w)) (input_port_of over (number m r s.port w)) (number m r s.port w % routes.vcs)) (p * routes.vcs + v)) router
+      ∙ ap (λ x. falls_from over r x (arrival_rank over (router_of over (number m r s.port w)) (input_port_of over (number m r s.port w)) (number m r s.port w % routes.vcs)) (p * routes.vcs + v)) set
       ∙ ap (λ x. falls_from over r (set_at routes m r s.port w t) x (p * routes.vcs + v)) came
       ∙ ap (λ x. x && is_not_above before (rank_at over r ((p * routes.vcs + v) / routes.vcs) ((p * routes.vcs + v) % routes.vcs))) s.member
       ∙ ap (λ x. is_not_above before (rank_at over r x ((p * routes.vcs + v) % routes.vcs))) out_port
       ∙ ap (λ x. is_not_above before (rank_at over r p x)) out_vc
 
   -- where nothing falls, the ranks rise
-  pub rising : ((e : ℕ) → e < routes.classes * inputs over → HasNoFall routes over e) → IsRising routes (rank_at over)
+  pub rising : ((e : ℕ) → e < routes.classes * input_count over → HasNoFall routes over e) → IsRising routes (rank_at over)
   rising none m t a o w r p v before after permitted one other =
       let s = step_of m a o w t r p v permitted in
       let e = number m r s.port w in
@@ -186,13 +186,13 @@ module _ (routes : Routes) (ranks : List (Option ℕ)) (sound : IsGrid routes.gr
           record { router = from.0; port = from.1; sent = lt-ltb from.0 (nodes routes.grid) back.node; link = back.back; rank = sym (ap (rank_from over w) f) ∙ e }
 
   -- the number of the parts of a number
-  number-again : (e : ℕ) → 0 < routes.vcs → 0 < ports routes.grid → 0 < nodes routes.grid → number (class_of over e) (router_of over e) (port_of over e) (e % routes.vcs) ≡ e
+  number-again : (e : ℕ) → 0 < routes.vcs → 0 < ports routes.grid → 0 < nodes routes.grid → number (class_of over e) (router_of over e) (input_port_of over e) (e % routes.vcs) ≡ e
   number-again e v p n = rw (div-mod (e / routes.vcs / ports routes.grid) (nodes routes.grid) n, div-mod (e / routes.vcs) (ports routes.grid) p) (div-mod e routes.vcs v)
 
   -- the step of an entry by an output channel
   abbrev step_at_number : ℕ → ℕ → ℕ → RouteRow
   step_at_number e t i =
-      record { class = class_of over e; router = router_of over e; in_port = port_of over e; in_vc = e % routes.vcs; dst = t; out_port = i / routes.vcs; out_vc = i % routes.vcs }
+      record { class = class_of over e; router = router_of over e; in_port = input_port_of over e; in_vc = e % routes.vcs; dst = t; out_port = i / routes.vcs; out_vc = i % routes.vcs }
 
   abbrev bases : List ℕ
   bases = routes.classes ∷ nodes routes.grid ∷ ports routes.grid ∷ routes.vcs ∷ nodes routes.grid ∷ local_port routes.grid ∷ routes.vcs ∷ []
@@ -231,16 +231,16 @@ module _ (routes : Routes) (ranks : List (Option ℕ)) (sound : IsGrid routes.gr
               absurd (omega (arith, l, back))
           later (inr most) = let equal : e ≡ f = omega arith in inr (equal, rest equal (cases_lt t u))
 
-  module _ (e t i before : ℕ) (arrival : arrival_rank over (router_of over e) (port_of over e) (e % routes.vcs) ≡ Some before) (inside : t < nodes routes.grid)
-      (least : IsLeastBelow (falls_to over (router_of over e) (set_at routes (class_of over e) (router_of over e) (port_of over e) (e % routes.vcs) t) before) (links over) i) where
-    here_falls : (u j : ℕ) → falls_at routes over e u j ≡ falls_to over (router_of over e) (set_at routes (class_of over e) (router_of over e) (port_of over e) (e % routes.vcs) u) before j
-    here_falls u j = ap (λ x. falls_from over (router_of over e) (set_at routes (class_of over e) (router_of over e) (port_of over e) (e % routes.vcs) u) x j) arrival
+  module _ (e t i before : ℕ) (arrival : arrival_rank over (router_of over e) (input_port_of over e) (e % routes.vcs) ≡ Some before) (inside : t < nodes routes.grid)
+      (least : IsLeastBelow (falls_to over (router_of over e) (set_at routes (class_of over e) (router_of over e) (input_port_of over e) (e % routes.vcs) t) before) (link_output_count over) i) where
+    here_falls : (u j : ℕ) → falls_at routes over e u j ≡ falls_to over (router_of over e) (set_at routes (class_of over e) (router_of over e) (input_port_of over e) (e % routes.vcs) u) before j
+    here_falls u j = ap (λ x. falls_from over (router_of over e) (set_at routes (class_of over e) (router_of over e) (input_port_of over e) (e % routes.vcs) u) x j) arrival
 
-    here_parts : (has_bit (set_at routes (class_of over e) (router_of over e) (port_of over e) (e % routes.vcs) t) i ≡ true) × (is_not_above before (rank_at over (router_of over e) (i / routes.vcs) (i % routes.vcs)) ≡ true)
-    here_parts = and_parts (has_bit (set_at routes (class_of over e) (router_of over e) (port_of over e) (e % routes.vcs) t) i) (is_not_above before (rank_at over (router_of over e) (i / routes.vcs) (i % routes.vcs))) least.holds
+    here_parts : (has_bit (set_at routes (class_of over e) (router_of over e) (input_port_of over e) (e % routes.vcs) t) i ≡ true) × (is_not_above before (rank_at over (router_of over e) (i / routes.vcs) (i % routes.vcs)) ≡ true)
+    here_parts = and_parts (has_bit (set_at routes (class_of over e) (router_of over e) (input_port_of over e) (e % routes.vcs) t) i) (is_not_above before (rank_at over (router_of over e) (i / routes.vcs) (i % routes.vcs))) least.holds
 
-    here_known : (class_of over e < routes.classes) × (router_of over e < nodes routes.grid) × (port_of over e < ports routes.grid) × (e % routes.vcs < routes.vcs) × (t < nodes routes.grid)
-    here_known = entry-known routes (class_of over e) (router_of over e) (port_of over e) (e % routes.vcs) t i here_parts.0
+    here_known : (class_of over e < routes.classes) × (router_of over e < nodes routes.grid) × (input_port_of over e < ports routes.grid) × (e % routes.vcs < routes.vcs) × (t < nodes routes.grid)
+    here_known = entry-known routes (class_of over e) (router_of over e) (input_port_of over e) (e % routes.vcs) t i here_parts.0
 
     vcs_some : 0 < routes.vcs
     vcs_some = omega (arith, here_known.3)
@@ -248,25 +248,25 @@ module _ (routes : Routes) (ranks : List (Option ℕ)) (sound : IsGrid routes.gr
     out_known : (i / routes.vcs < local_port routes.grid) × (i % routes.vcs < routes.vcs)
     out_known = let port : i / routes.vcs < local_port routes.grid = (div-lt_iff_lt-mul {k = routes.vcs} {x = i} {y = local_port routes.grid} vcs_some).1 least.inside in (port, mod-lt i vcs_some)
 
-    here_permits : (c : Channel) → is_sent routes c ≡ true → arrival_of routes.grid c ≡ Some (router_of over e, port_of over e) → channel_vc c ≡ e % routes.vcs
+    here_permits : (c : Channel) → is_sent routes c ≡ true → arrival_of routes.grid c ≡ Some (router_of over e, input_port_of over e) → channel_vc c ≡ e % routes.vcs
         → permits routes (class_of over e) c t (Link (router_of over e) (i / routes.vcs) (i % routes.vcs)) ≡ true
     here_permits c sent place channel =
         let own : nat_eq (router_of over e) (router_of over e) ≡ true = eq-eqb (router_of over e) (router_of over e) refl in
         let port : nat_lt (i / routes.vcs) (local_port routes.grid) ≡ true = lt-ltb (i / routes.vcs) (local_port routes.grid) out_known.0 in
         let vc : nat_lt (i % routes.vcs) routes.vcs ≡ true = lt-ltb (i % routes.vcs) routes.vcs out_known.1 in
-        let member : has_bit (set_at routes (class_of over e) (router_of over e) (port_of over e) (e % routes.vcs) t) (i / routes.vcs * routes.vcs + i % routes.vcs) ≡ true
-        = ap (has_bit (set_at routes (class_of over e) (router_of over e) (port_of over e) (e % routes.vcs) t)) (div-mod i routes.vcs vcs_some) ∙ here_parts.0 in
+        let member : has_bit (set_at routes (class_of over e) (router_of over e) (input_port_of over e) (e % routes.vcs) t) (i / routes.vcs * routes.vcs + i % routes.vcs) ≡ true
+        = ap (has_bit (set_at routes (class_of over e) (router_of over e) (input_port_of over e) (e % routes.vcs) t)) (div-mod i routes.vcs vcs_some) ∙ here_parts.0 in
         ap (λ x. x && permits_at routes (class_of over e) (arrival_of routes.grid c) (channel_vc c) t (Link (router_of over e) (i / routes.vcs) (i % routes.vcs))) sent
         ∙ ap (λ x. permits_at routes (class_of over e) x (channel_vc c) t (Link (router_of over e) (i / routes.vcs) (i % routes.vcs))) place
-        ∙ ap (λ w. permits_at routes (class_of over e) (Some (router_of over e, port_of over e)) w t (Link (router_of over e) (i / routes.vcs) (i % routes.vcs))) channel
-        ∙ ap (λ x. x && nat_lt (i / routes.vcs) (local_port routes.grid) && nat_lt (i % routes.vcs) routes.vcs && has_bit (set_at routes (class_of over e) (router_of over e) (port_of over e) (e % routes.vcs) t) (i / routes.vcs * routes.vcs + i % routes.vcs)) own
-        ∙ ap (λ x. x && nat_lt (i % routes.vcs) routes.vcs && has_bit (set_at routes (class_of over e) (router_of over e) (port_of over e) (e % routes.vcs) t) (i / routes.vcs * routes.vcs + i % routes.vcs)) port
-        ∙ ap (λ x. x && has_bit (set_at routes (class_of over e) (router_of over e) (port_of over e) (e % routes.vcs) t) (i / routes.vcs * routes.vcs + i % routes.vcs)) vc
+        ∙ ap (λ w. permits_at routes (class_of over e) (Some (router_of over e, input_port_of over e)) w t (Link (router_of over e) (i / routes.vcs) (i % routes.vcs))) channel
+        ∙ ap (λ x. x && nat_lt (i / routes.vcs) (local_port routes.grid) && nat_lt (i % routes.vcs) routes.vcs && has_bit (set_at routes (class_of over e) (router_of over e) (input_port_of over e) (e % routes.vcs) t) (i / routes.vcs * routes.vcs + i % routes.vcs)) own
+        ∙ ap (λ x. x && nat_lt (i % routes.vcs) routes.vcs && has_bit (set_at routes (class_of over e) (router_of over e) (input_port_of over e) (e % routes.vcs) t) (i / routes.vcs * routes.vcs + i % routes.vcs)) port
+        ∙ ap (λ x. x && has_bit (set_at routes (class_of over e) (router_of over e) (input_port_of over e) (e % routes.vcs) t) (i / routes.vcs * routes.vcs + i % routes.vcs)) vc
         ∙ member
 
     is_fall : (after : ℕ) → rank_at over (router_of over e) (i / routes.vcs) (i % routes.vcs) ≡ Some after → IsFall routes over (step_at_number e t i) before after
     is_fall after other =
-        let c = came (router_of over e) (port_of over e) (e % routes.vcs) before here_known.1 arrival in
+        let c = came (router_of over e) (input_port_of over e) (e % routes.vcs) before here_known.1 arrival in
         record {
           router = c.router;
           port = c.port;
@@ -277,7 +277,7 @@ module _ (routes : Routes) (ranks : List (Option ℕ)) (sound : IsGrid routes.gr
           falls = leb-true after before (sym (ap (is_not_above before) other) ∙ here_parts.1);
         }
 
-    not_before : ((u : ℕ) → u < t → HasNone (falls_to over (router_of over e) (set_at routes (class_of over e) (router_of over e) (port_of over e) (e % routes.vcs) u) before) (links over))
+    not_before : ((u : ℕ) → u < t → HasNone (falls_to over (router_of over e) (set_at routes (class_of over e) (router_of over e) (input_port_of over e) (e % routes.vcs) u) before) (link_output_count over))
         → ((f : ℕ) → f < e → HasNoFall routes over f)
         → (other : RouteRow) (a b : ℕ) → IsFall routes over other a b → numbers_before (row_numbers other) (row_numbers (step_at_number e t i)) ≡ true → ⊥
     not_before earlier none other a b fall l =
@@ -288,34 +288,34 @@ module _ (routes : Routes) (ranks : List (Option ℕ)) (sound : IsGrid routes.gr
         let index = other.out_port * routes.vcs + other.out_vc in
         let falls : falls_at routes over f other.dst index ≡ true
         = falls-number other.class fall.router fall.port w other.dst other.router other.out_port other.out_vc a s fall.before_is ∙ ap (is_not_above a) fall.after_is ∙ le-leb b a fall.falls in
-        let index_known : index < links over = flat-below other.out_port (local_port routes.grid) other.out_vc routes.vcs s.out_port_known s.out_vc_known in
+        let index_known : index < link_output_count over = flat-below other.out_port (local_port routes.grid) other.out_vc routes.vcs s.out_port_known s.out_vc_known in
         let digits : numbers_before (other.class ∷ other.router ∷ s.port ∷ w ∷ other.dst ∷ other.out_port ∷ other.out_vc ∷ []) (row_numbers (step_at_number e t i)) ≡ true
         = rw port l in
-        let less : order f other.dst other.out_port other.out_vc < order (number (class_of over e) (router_of over e) (port_of over e) (e % routes.vcs)) t (i / routes.vcs) (i % routes.vcs)
-        = rw (flat-number other.class other.router s.port w other.dst other.out_port other.out_vc, flat-number (class_of over e) (router_of over e) (port_of over e) (e % routes.vcs) t (i / routes.vcs) (i % routes.vcs))
+        let less : order f other.dst other.out_port other.out_vc < order (number (class_of over e) (router_of over e) (input_port_of over e) (e % routes.vcs)) t (i / routes.vcs) (i % routes.vcs)
+        = rw (flat-number other.class other.router s.port w other.dst other.out_port other.out_vc, flat-number (class_of over e) (router_of over e) (input_port_of over e) (e % routes.vcs) t (i / routes.vcs) (i % routes.vcs))
         at (flat-before 0 bases (other.class ∷ other.router ∷ s.port ∷ w ∷ other.dst ∷ other.out_port ∷ other.out_vc ∷ []) (row_numbers (step_at_number e t i))
         (s.class_known, (s.router_known, (s.port_known, (s.vc_known, (s.dst_known, (s.out_port_known, (s.out_vc_known, tt)))))))
         (here_known.0, (here_known.1, (here_known.2, (here_known.3, (here_known.4, (out_known.0, (out_known.1, tt)))))))
         digits) in
-        let again : number (class_of over e) (router_of over e) (port_of over e) (e % routes.vcs) ≡ e = number-again e vcs_some (omega (arith, here_known.2)) (omega (arith, here_known.1)) in
+        let again : number (class_of over e) (router_of over e) (input_port_of over e) (e % routes.vcs) ≡ e = number-again e vcs_some (omega (arith, here_known.2)) (omega (arith, here_known.1)) in
         let there : order f other.dst other.out_port other.out_vc < order e t (i / routes.vcs) (i % routes.vcs) = subst (λ x. order f other.dst other.out_port other.out_vc < order x t (i / routes.vcs) (i % routes.vcs)) again less in
         decide s.dst_known index_known falls (order-cases f other.dst other.out_port other.out_vc e t (i / routes.vcs) (i % routes.vcs) s.dst_known s.out_port_known s.out_vc_known inside out_known.0 out_known.1 there)
       where
-        decide : {f u j : ℕ} → u < nodes routes.grid → j < links over → falls_at routes over f u j ≡ true → (f < e) ⊎ ((f ≡ e) × ((u < t) ⊎ ((u ≡ t) × (j < i / routes.vcs * routes.vcs + i % routes.vcs)))) → ⊥
+        decide : {f u j : ℕ} → u < nodes routes.grid → j < link_output_count over → falls_at routes over f u j ≡ true → (f < e) ⊎ ((f ≡ e) × ((u < t) ⊎ ((u ≡ t) × (j < i / routes.vcs * routes.vcs + i % routes.vcs)))) → ⊥
         decide {f} {u} {j} known index falls (inl less) = false≢true (sym (none f less u known j index) ∙ falls)
         decide {f} {u} {j} known index falls (inr rest) =
-            let here : falls_to over (router_of over e) (set_at routes (class_of over e) (router_of over e) (port_of over e) (e % routes.vcs) u) before j ≡ true
+            let here : falls_to over (router_of over e) (set_at routes (class_of over e) (router_of over e) (input_port_of over e) (e % routes.vcs) u) before j ≡ true
             = sym (here_falls u j) ∙ ap (λ x. falls_at routes over x u j) (sym rest.0) ∙ falls in
             same here rest.1
           where
-            same : falls_to over (router_of over e) (set_at routes (class_of over e) (router_of over e) (port_of over e) (e % routes.vcs) u) before j ≡ true → (u < t) ⊎ ((u ≡ t) × (j < i / routes.vcs * routes.vcs + i % routes.vcs)) → ⊥
+            same : falls_to over (router_of over e) (set_at routes (class_of over e) (router_of over e) (input_port_of over e) (e % routes.vcs) u) before j ≡ true → (u < t) ⊎ ((u ≡ t) × (j < i / routes.vcs * routes.vcs + i % routes.vcs)) → ⊥
             same here (inl less) = false≢true (sym (earlier u less j index) ∙ here)
             same here (inr last) =
                 let small : j < i = omega (arith, last.1, div-mod i routes.vcs vcs_some) in
-                let moved = ap (λ x. falls_to over (router_of over e) (set_at routes (class_of over e) (router_of over e) (port_of over e) (e % routes.vcs) x) before j) (sym last.0) ∙ here in
+                let moved = ap (λ x. falls_to over (router_of over e) (set_at routes (class_of over e) (router_of over e) (input_port_of over e) (e % routes.vcs) x) before j) (sym last.0) ∙ here in
                 false≢true (sym (least.none j small) ∙ moved)
 
-    is_first_fall : ((u : ℕ) → u < t → HasNone (falls_to over (router_of over e) (set_at routes (class_of over e) (router_of over e) (port_of over e) (e % routes.vcs) u) before) (links over))
+    is_first_fall : ((u : ℕ) → u < t → HasNone (falls_to over (router_of over e) (set_at routes (class_of over e) (router_of over e) (input_port_of over e) (e % routes.vcs) u) before) (link_output_count over))
         → ((f : ℕ) → f < e → HasNoFall routes over f)
         → (after : ℕ) → rank_at over (router_of over e) (i / routes.vcs) (i % routes.vcs) ≡ Some after → IsFirstFall routes over (step_at_number e t i) before after
     is_first_fall earlier none after other_is = record {

@@ -5,13 +5,13 @@ use Rattle.std.proofs.lemmas.Bool.{leb-true, ltb-true, eqb-true, and_parts}
 use Rattle.std.proofs.Math.Nat.{mul-le-mul_right}
 use Rattle.std.proofs.lemmas.Option.{none-some}
 use Rattle.noc_packet.specs.declared.limits.TheConstants.{MAX_CHANNELS, MAX_CLASSES}
-use Rattle.noc_topo.specs.Shape.{Grid, IsGrid, dimensions, local_port, coordinates, padded}
+use Rattle.noc_topo.specs.Shape.{Grid, IsGrid, dimensions, local_port, coordinates, three_coordinates}
 use Rattle.noc_topo.proofs.LinkLemmas.{AreRadices-from_test, AreRadices-at, IsWithin-at, IsWithin-coordinates, get_or-padded}
 use Rattle.noc_route.specs.Relation.{is_right, escapes, is_escape}
 use Rattle.noc_route.specs.declared.rule.Rule.{Rule}
 use Rattle.noc_route.specs.declared.rule.Rule.TheVariants.{Dateline, WestFirst, Adaptive}
 use Rattle.noc_route.proofs.PlaceLemmas.{half-some}
-use Rattle.noc_route.specs.Ranks.{Ranking, is_place, is_channel, places, place_of, rank_at}
+use Rattle.noc_route.specs.Ranks.{Ranking, is_place, is_channel, rank_count, rank_index, rank_at}
 use Rattle.noc_rank.specs.Ranking.{IsRanking}
 use Rattle.noc_rank.specs.Formulas.{has_ranks, is_numbered, formula_at, IsGenerated}
 use Rattle.noc_rank.proofs.PlaceLemmas.{is_place-parts, place-below, place-router, place-port, place-vc}
@@ -40,7 +40,7 @@ two-dimensions g vcs classes e =
 
 -- ---- coordinates
 
-pub coordinate-inside : (g : Grid) (r i : ℕ) → IsGrid g → i < dimensions g → (get_or (padded (coordinates g.radix r)) i 0 < get_or g.radix i 0) × (get_or g.radix i 0 ≤ 16)
+pub coordinate-inside : (g : Grid) (r i : ℕ) → IsGrid g → i < dimensions g → (get_or (three_coordinates (coordinates g.radix r)) i 0 < get_or g.radix i 0) × (get_or g.radix i 0 ≤ 16)
 coordinate-inside g r i sound l =
     let radices = AreRadices-from_test g.radix sound.sizes in
     let three : i < 3 = omega (arith, sound.few_dimensions) in
@@ -67,18 +67,18 @@ rank-few a b s p l m n o = let most : b * s ≤ 2 * s = mul-le-mul_right s m in 
 
 -- ---- a list of ranks by formula
 
-module _ (g : Grid) (vcs classes : ℕ) (rule : Rule) (ranks : List (Option ℕ)) (long : length ranks ≡ places g vcs)
-    (items : (k : ℕ) → k < places g vcs → get_or ranks k None ≡ formula_at g vcs classes rule (k / vcs / local_port g) (k / vcs % local_port g) (k % vcs)) where
+module _ (g : Grid) (vcs classes : ℕ) (rule : Rule) (ranks : List (Option ℕ)) (long : length ranks ≡ rank_count g vcs)
+    (items : (k : ℕ) → k < rank_count g vcs → get_or ranks k None ≡ formula_at g vcs classes rule (k / vcs / local_port g) (k / vcs % local_port g) (k % vcs)) where
   abbrev listed : Ranking
   listed = record { grid = g; vcs = vcs; ranks = ranks }
 
-  at_place : (r p v : ℕ) → is_place g vcs r p v ≡ true → get_or ranks (place_of g vcs r p v) None ≡ formula_at g vcs classes rule r p v
+  at_place : (r p v : ℕ) → is_place g vcs r p v ≡ true → get_or ranks (rank_index g vcs r p v) None ≡ formula_at g vcs classes rule r p v
   at_place r p v e =
       let parts = is_place-parts g vcs r p v e in
-      let here = items (place_of g vcs r p v) (place-below g vcs r p v e) in
+      let here = items (rank_index g vcs r p v) (place-below g vcs r p v e) in
       rw (place-router g vcs r p v parts.1 parts.2, place-port g vcs r p v parts.1 parts.2, place-vc g vcs r p v parts.2) at here
 
-  at_any : (r p v : ℕ) (b : Bool) → is_place g vcs r p v ≡ b → (if b then get_or ranks (place_of g vcs r p v) None else None) ≡ formula_at g vcs classes rule r p v
+  at_any : (r p v : ℕ) (b : Bool) → is_place g vcs r p v ≡ b → (if b then get_or ranks (rank_index g vcs r p v) None else None) ≡ formula_at g vcs classes rule r p v
   at_any r p v true e = at_place r p v e
   at_any r p v false e = rw e refl
 
@@ -86,7 +86,7 @@ module _ (g : Grid) (vcs classes : ℕ) (rule : Rule) (ranks : List (Option ℕ)
   listed-rank_at r p v = at_any r p v (is_place g vcs r p v) refl
 
   -- the list is ranks where each of them is within the limits
-  pub IsRanking-listed : IsGrid g → ((k : ℕ) → k < places g vcs → IfSome (get_or ranks k None) (λ n. 1 ≤ n)) → ((k : ℕ) → k < places g vcs → IfSome (get_or ranks k None) (λ n. n ≤ 1000)) → IsRanking listed
+  pub IsRanking-listed : IsGrid g → ((k : ℕ) → k < rank_count g vcs → IfSome (get_or ranks k None) (λ n. 1 ≤ n)) → ((k : ℕ) → k < rank_count g vcs → IfSome (get_or ranks k None) (λ n. n ≤ 1000)) → IsRanking listed
   IsRanking-listed sound some few = record {
     grid = sound;
     long = long;
@@ -101,9 +101,9 @@ module _ (g : Grid) (vcs classes : ℕ) (rule : Rule) (ranks : List (Option ℕ)
 
       within : (r p v n : ℕ) (b : Bool) → is_place g vcs r p v ≡ b → rank_at listed r p v ≡ Some n → (1 ≤ n) × (n ≤ 1000)
       within r p v n true e f =
-          let there : get_or ranks (place_of g vcs r p v) None ≡ Some n = sym (rw e refl) ∙ f in
-          let low = some (place_of g vcs r p v) (place-below g vcs r p v e) in
-          let high = few (place_of g vcs r p v) (place-below g vcs r p v e) in
+          let there : get_or ranks (rank_index g vcs r p v) None ≡ Some n = sym (rw e refl) ∙ f in
+          let low = some (rank_index g vcs r p v) (place-below g vcs r p v e) in
+          let high = few (rank_index g vcs r p v) (place-below g vcs r p v e) in
           let L : Option ℕ → Type 0 = λ o. IfSome o (λ n. 1 ≤ n) in
           let H : Option ℕ → Type 0 = λ o. IfSome o (λ n. n ≤ 1000) in
           (subst L there low, subst H there high)

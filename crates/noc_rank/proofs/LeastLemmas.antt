@@ -3,9 +3,9 @@ use Rattle.std.proofs.Common.{◌≡◌, ℕ, ◌<◌, ◌≤◌, Option, Some, 
 use Rattle.std.specs.Prelude.{◌⊎◌}
 use Rattle.std.proofs.lemmas.Bool.{cases_lt}
 use Rattle.std.proofs.lemmas.Option.{none-some, same_Some}
-use Rattle.noc_rank.specs.Ahead.{IsLeastOf, lesser}
+use Rattle.noc_rank.specs.LeastAhead.{IsLeastOf, lesser}
 
--- the same of a property that holds of the same numbers
+-- the least number with a property that holds of just these numbers
 pub least-same : (P Q : ℕ → Type 0) (o : Option ℕ) → ((n : ℕ) → P n → Q n) → ((n : ℕ) → Q n → P n) → IsLeastOf P o → IsLeastOf Q o
 least-same P Q o to from h = record { met = λ n e. to n (h.met n e); least = λ n q. h.least n (from n q) }
 

@@ -5,17 +5,17 @@ use Rattle.std.proofs.lemmas.Bool.{eqb-true, ltb-true, and_parts, false≢true}
 use Rattle.std.proofs.lemmas.Option.{none-some, same_Some}
 use Rattle.noc_topo.specs.Shape.{Grid, coordinates, local_port}
 use Rattle.noc_route.specs.Channel.{Channel, Link, arrival_of, channel_vc}
-use Rattle.noc_route.specs.Relation.{Routing, IsReached, led_on, rule_at, rule_has, leads, is_led, takes_port, takes_channel, is_in_block}
+use Rattle.noc_route.specs.Relation.{RelationParts, IsReached, led_on, rule_offers, rule_has, leads, is_led, takes_port, takes_channel, is_in_block}
 use Rattle.noc_route.specs.Ranks.{is_channel}
 use Rattle.noc_route.specs.declared.rule.Rule.{Rule}
 use Rattle.noc_rank.specs.Formulas.{is_numbered, formula, formula_at}
 
 -- a link channel to which it leads, from router r towards t
-pub record IsLedOn (g : Routing) (m r t p v : ℕ) : Type 0 where
+pub record IsLedOn (g : RelationParts) (m r t p v : ℕ) : Type 0 where
   pub port : takes_port g.grid g.rule (coordinates g.grid.radix r) (coordinates g.grid.radix t) p ≡ true
   pub channel : takes_channel g.grid g.vcs g.classes g.rule m (coordinates g.grid.radix r) (coordinates g.grid.radix t) p v ≡ true
 
-pub is_led-on : (g : Routing) (m r t p v : ℕ) → p < local_port g.grid → is_led g m r t p v ≡ true → IsLedOn g m r t p v
+pub is_led-on : (g : RelationParts) (m r t p v : ℕ) → p < local_port g.grid → is_led g m r t p v ≡ true → IsLedOn g m r t p v
 is_led-on g m r t p v l e = at (nat_eq r t) refl
   where
     at : (b : Bool) → nat_eq r t ≡ b → IsLedOn g m r t p v
@@ -27,12 +27,12 @@ is_led-on g m r t p v l e = at (nat_eq r t) refl
         record { port = parts.0; channel = parts.1 }
 
 -- what a rule has, by the place where the packet's channel arrives
-pub record HasLed (g : Routing) (m t in_vc r p v : ℕ) : Type 0 where
+pub record HasLed (g : RelationParts) (m t in_vc r p v : ℕ) : Type 0 where
   pub in_port : ℕ
   pub link : p < local_port g.grid
   pub led : leads g m (r, in_port) in_vc t p v ≡ true
 
-rule_at-led : (g : Routing) (m t in_vc r p v : ℕ) (from : Option (ℕ × ℕ)) → rule_at g m from in_vc t (Link r p v) ≡ true → HasLed g m t in_vc r p v
+rule_at-led : (g : RelationParts) (m t in_vc r p v : ℕ) (from : Option (ℕ × ℕ)) → rule_offers g m from in_vc t (Link r p v) ≡ true → HasLed g m t in_vc r p v
 rule_at-led g m t in_vc r p v None e = absurd (false≢true e)
 rule_at-led g m t in_vc r p v (Some place) e =
     let a = and_parts _ (leads g m place in_vc t p v) e in
@@ -40,11 +40,11 @@ rule_at-led g m t in_vc r p v (Some place) e =
     let P : ℕ → Type 0 = λ x. leads g m (x, place.1) in_vc t p v ≡ true in
     record { in_port = place.1; link = ltb-true _ _ b.1; led = subst P (sym (eqb-true r place.0 b.0)) a.1 }
 
-pub rule_has-led : (g : Routing) (m : ℕ) (c : Channel) (t r p v : ℕ) → rule_has g m c t (Link r p v) ≡ true → HasLed g m t (channel_vc c) r p v
+pub rule_has-led : (g : RelationParts) (m : ℕ) (c : Channel) (t r p v : ℕ) → rule_has g m c t (Link r p v) ≡ true → HasLed g m t (channel_vc c) r p v
 rule_has-led g m c t r p v e = rule_at-led g m t (channel_vc c) r p v (arrival_of g.grid c) e
 
 -- packets come to a link channel where the rule leads to it
-pub reached-led : (g : Routing) (m t a o w : ℕ) → IsReached g m (Link a o w) t → (in_vc : ℕ) × HasLed g m t in_vc a o w
+pub reached-led : (g : RelationParts) (m t a o w : ℕ) → IsReached g m (Link a o w) t → (in_vc : ℕ) × HasLed g m t in_vc a o w
 reached-led g m t a o w (led_on {c = c} h e) = (channel_vc c, rule_has-led g m c t a o w e)
 
 -- a channel with a rank is numbered, and its rank is that of the formula

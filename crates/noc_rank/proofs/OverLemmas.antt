@@ -5,8 +5,8 @@ use Rattle.std.proofs.lemmas.Bool.{cases_lt}
 use Rattle.noc_topo.specs.Shape.{nodes}
 use Rattle.noc_route.specs.Routes.{Routes}
 use Rattle.noc_route.proofs.PlaceLemmas.{flat-below, flat-div, flat-mod}
-use Rattle.noc_rank.specs.Ahead.{IsLeastOf, lesser}
-use Rattle.noc_rank.specs.Descents.{IsOverFirst, IsOver}
+use Rattle.noc_rank.specs.LeastAhead.{IsLeastOf, lesser}
+use Rattle.noc_rank.specs.NotRisingTo.{IsOverFirst, IsOver}
 use Rattle.noc_rank.proofs.LeastLemmas.{least-same, least-either}
 
 pub over-more : (routes : Routes) (P : ℕ → ℕ → ℕ → Type 0) (i : ℕ) (best value : Option ℕ) → IsLeastOf (IsOverFirst routes P i) best → IsLeastOf (P (i / nodes routes.grid) (i % nodes routes.grid)) value

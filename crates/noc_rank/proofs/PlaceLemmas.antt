@@ -7,7 +7,7 @@ use Rattle.noc_topo.specs.Shape.{Grid, nodes, ports, local_port, neighbour}
 use Rattle.noc_topo.proofs.LinkLemmas.{IsWithin}
 use Rattle.noc_route.specs.Order.{numbers_before}
 use Rattle.noc_route.proofs.PlaceLemmas.{flat-below, flat-div, flat-mod}
-use Rattle.noc_route.specs.Ranks.{Ranking, is_place, is_channel, places, place_of, rank_at}
+use Rattle.noc_route.specs.Ranks.{Ranking, is_place, is_channel, rank_count, rank_index, rank_at}
 
 -- ---- numbers with digits of different bases
 
@@ -60,23 +60,23 @@ is_place-true g vcs r p v a b c =
 pub is_channel-place : (g : Grid) (vcs r p v : ℕ) → is_channel g vcs r p v ≡ true → is_place g vcs r p v ≡ true
 is_channel-place g vcs r p v e = (and_parts (is_place g vcs r p v) (is_some (neighbour g r p)) e).0
 
-pub place-below : (g : Grid) (vcs r p v : ℕ) → is_place g vcs r p v ≡ true → place_of g vcs r p v < places g vcs
+pub place-below : (g : Grid) (vcs r p v : ℕ) → is_place g vcs r p v ≡ true → rank_index g vcs r p v < rank_count g vcs
 place-below g vcs r p v e =
     let parts = is_place-parts g vcs r p v e in
     flat-below (r * local_port g + p) (nodes g * local_port g) v vcs (flat-below r (nodes g) p (local_port g) parts.0 parts.1) parts.2
 
 -- the channel of a place
-pub place-vc : (g : Grid) (vcs r p v : ℕ) → v < vcs → place_of g vcs r p v % vcs ≡ v
+pub place-vc : (g : Grid) (vcs r p v : ℕ) → v < vcs → rank_index g vcs r p v % vcs ≡ v
 place-vc g vcs r p v l = flat-mod (r * local_port g + p) vcs v l
 
-pub place-port : (g : Grid) (vcs r p v : ℕ) → p < local_port g → v < vcs → place_of g vcs r p v / vcs % local_port g ≡ p
+pub place-port : (g : Grid) (vcs r p v : ℕ) → p < local_port g → v < vcs → rank_index g vcs r p v / vcs % local_port g ≡ p
 place-port g vcs r p v k l = rw (flat-div (r * local_port g + p) vcs v l) (flat-mod r (local_port g) p k)
 
-pub place-router : (g : Grid) (vcs r p v : ℕ) → p < local_port g → v < vcs → place_of g vcs r p v / vcs / local_port g ≡ r
+pub place-router : (g : Grid) (vcs r p v : ℕ) → p < local_port g → v < vcs → rank_index g vcs r p v / vcs / local_port g ≡ r
 place-router g vcs r p v k l = rw (flat-div (r * local_port g + p) vcs v l) (flat-div r (local_port g) p k)
 
 -- places are of one channel each
-pub place-same : (g : Grid) (vcs r p v a q w : ℕ) → is_place g vcs r p v ≡ true → is_place g vcs a q w ≡ true → place_of g vcs r p v ≡ place_of g vcs a q w → (r ≡ a) × (p ≡ q) × (v ≡ w)
+pub place-same : (g : Grid) (vcs r p v a q w : ℕ) → is_place g vcs r p v ≡ true → is_place g vcs a q w ≡ true → rank_index g vcs r p v ≡ rank_index g vcs a q w → (r ≡ a) × (p ≡ q) × (v ≡ w)
 place-same g vcs r p v a q w d e same =
     let here = is_place-parts g vcs r p v d in
     let there = is_place-parts g vcs a q w e in (
@@ -89,10 +89,10 @@ pub div-mod : (x n : ℕ) → 0 < n → x / n * n + x % n ≡ x
 div-mod x n l = omega (arith, mul_comm (x / n) n)
 
 -- the place of the channel of a place
-pub place-again : (g : Grid) (vcs k : ℕ) → 0 < vcs → 0 < local_port g → place_of g vcs (k / vcs / local_port g) (k / vcs % local_port g) (k % vcs) ≡ k
+pub place-again : (g : Grid) (vcs k : ℕ) → 0 < vcs → 0 < local_port g → rank_index g vcs (k / vcs / local_port g) (k / vcs % local_port g) (k % vcs) ≡ k
 place-again g vcs k l m = rw (div-mod (k / vcs) (local_port g) m) (div-mod k vcs l)
 
-pub is_place-decoded : (g : Grid) (vcs k : ℕ) → 0 < vcs → 0 < local_port g → k < places g vcs → is_place g vcs (k / vcs / local_port g) (k / vcs % local_port g) (k % vcs) ≡ true
+pub is_place-decoded : (g : Grid) (vcs k : ℕ) → 0 < vcs → 0 < local_port g → k < rank_count g vcs → is_place g vcs (k / vcs / local_port g) (k / vcs % local_port g) (k % vcs) ≡ true
 is_place-decoded g vcs k l m few =
     let pair : k / vcs < nodes g * local_port g = (div-lt_iff_lt-mul {k = vcs} {x = k} {y = nodes g * local_port g} l).1 few in
     let router : k / vcs / local_port g < nodes g = (div-lt_iff_lt-mul {k = local_port g} {x = k / vcs} {y = nodes g} m).1 pair in
@@ -113,13 +113,13 @@ is_place-index g vcs r i some here l =
     let vc : i % vcs < vcs = omega arith in
     is_place-true g vcs r (i / vcs) (i % vcs) here port vc
 
-pub output-place : (g : Grid) (vcs r i : ℕ) → 0 < vcs → place_of g vcs r (i / vcs) (i % vcs) ≡ r * local_port g * vcs + i
+pub output-place : (g : Grid) (vcs r i : ℕ) → 0 < vcs → rank_index g vcs r (i / vcs) (i % vcs) ≡ r * local_port g * vcs + i
 output-place g vcs r i some =
     let whole : (r * local_port g + i / vcs) * vcs ≡ r * local_port g * vcs + i / vcs * vcs = omega arith in
     omega (arith, whole, div-mod i vcs some)
 
 -- the rank of an output channel on a link port, by its index
-pub output-known : (k : Ranking) (r i : ℕ) → r < nodes k.grid → i < local_port k.grid * k.vcs → r * local_port k.grid * k.vcs + i < places k.grid k.vcs
+pub output-known : (k : Ranking) (r i : ℕ) → r < nodes k.grid → i < local_port k.grid * k.vcs → r * local_port k.grid * k.vcs + i < rank_count k.grid k.vcs
 output-known k r i here l =
     let some : 0 < k.vcs = vcs-some (local_port k.grid) k.vcs i l in
     let there = is_place-index k.grid k.vcs r i some here l in
@@ -133,7 +133,7 @@ output-rank k r i here l =
 
 -- the place of what comes before comes before
 pub place-before : (g : Grid) (vcs a q w r p v : ℕ) → is_place g vcs a q w ≡ true → is_place g vcs r p v ≡ true
-    → numbers_before (a ∷ q ∷ w ∷ []) (r ∷ p ∷ v ∷ []) ≡ true → place_of g vcs a q w < place_of g vcs r p v
+    → numbers_before (a ∷ q ∷ w ∷ []) (r ∷ p ∷ v ∷ []) ≡ true → rank_index g vcs a q w < rank_index g vcs r p v
 place-before g vcs a q w r p v d e before =
     let here = is_place-parts g vcs a q w d in
     let there = is_place-parts g vcs r p v e in

@@ -7,7 +7,7 @@ use Rattle.noc_topo.specs.Shape.{coordinates, neighbour}
 use Rattle.noc_route.specs.Built.{IsRelationOfRule, routing_of}
 use Rattle.noc_route.specs.Channel.{Link, Inject, arrival_of}
 use Rattle.noc_route.specs.Ranks.{AreAllRanked, IsRankedRule, Ranking, direct, is_channel, is_place, rank_at}
-use Rattle.noc_route.specs.Relation.{Routing, IsReached, injected, led_on, rule_has, dor_port}
+use Rattle.noc_route.specs.Relation.{RelationParts, IsReached, injected, led_on, rule_has, dor_port}
 use Rattle.noc_route.specs.Routes.{Routes}
 use Rattle.noc_route.specs.declared.rule.Entry.{Entry}
 use Rattle.noc_route.specs.declared.rule.Rule.TheVariants.{Dor}
@@ -15,7 +15,7 @@ use Rattle.noc_rank.specs.Faults.{IsBare}
 use Rattle.noc_route.proofs.NamedLemmas.{some_of-true}
 use Rattle.noc_rank.proofs.LedLemmas.{is_led-on, rule_has-led}
 
-abbrev pub ring : Routing
+abbrev pub ring : RelationParts
 ring = routing_of (record { wraps = true; radix = 4 ∷ [] }) 1 1 Dor
 
 -- a packet to the router opposite goes two hops up

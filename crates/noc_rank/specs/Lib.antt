@@ -4,8 +4,8 @@ pub mod Rows
 pub mod Entered
 pub mod Formulas
 pub mod Rising
-pub mod Falls
+pub mod NotRising
 pub mod Faults
-pub mod Bare
-pub mod Ahead
-pub mod Descents
+pub mod NoEscape
+pub mod LeastAhead
+pub mod NotRisingTo

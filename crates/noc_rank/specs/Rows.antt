@@ -16,47 +16,47 @@ is_rank None = true
 is_rank (Some n) = nat_le 1 n && nat_le n MAX_RANK
 
 -- whether a row names this channel
-abbrev pub is_row_of : ℕ → ℕ → ℕ → RankRow → Bool
-is_row_of r p v row = nat_eq row.router r && nat_eq row.port p && nat_eq row.vc v
+abbrev pub names_channel : ℕ → ℕ → ℕ → RankRow → Bool
+names_channel r p v row = nat_eq row.router r && nat_eq row.port p && nat_eq row.vc v
 
 -- whether one of the rows does
-abbrev pub has_row : List RankRow → ℕ → ℕ → ℕ → Bool
-has_row rows r p v = list_any (is_row_of r p v) rows
+abbrev pub has_rank_row : List RankRow → ℕ → ℕ → ℕ → Bool
+has_rank_row rows r p v = list_any (names_channel r p v) rows
 
 -- the rank that the rows give a channel, none where none names it
 abbrev pub rank_in : List RankRow → ℕ → ℕ → ℕ → Option ℕ
 rank_in [] r p v = None
-rank_in (row ∷ rows) r p v = if is_row_of r p v row then row.rank else rank_in rows r p v
+rank_in (row ∷ rows) r p v = if names_channel r p v row then row.rank else rank_in rows r p v
 
 -- the first fault of row number i, where `named` says whether a row before it names its channel
-abbrev pub fault_of : Grid → ℕ → Bool → ℕ → RankRow → Option RankFault
-fault_of g vcs named i row =
+abbrev pub rank_row_fault : Grid → ℕ → Bool → ℕ → RankRow → Option RankFault
+rank_row_fault g vcs named i row =
     if not (is_channel g vcs row.router row.port row.vc) then Some (UnknownChannel i)
     else (if not (is_rank row.rank) then Some (BadRank i)
     else (if named then Some (DoubleChannel i) else None))
 
 -- the fault of row number i of a list
-abbrev pub row_fault : Grid → ℕ → List RankRow → ℕ → RankRow → Option RankFault
-row_fault g vcs rows i row = fault_of g vcs (has_row (take i rows) row.router row.port row.vc) i row
+abbrev pub listed_row_fault : Grid → ℕ → List RankRow → ℕ → RankRow → Option RankFault
+listed_row_fault g vcs rows i row = rank_row_fault g vcs (has_rank_row (take i rows) row.router row.port row.vc) i row
 
 -- the first n rows have no fault
 abbrev pub AreGood : Grid → ℕ → List RankRow → ℕ → Type 0
-AreGood g vcs rows n = (i : ℕ) (row : RankRow) → i < n → slice_get rows i ≡ Some row → row_fault g vcs rows i row ≡ None
+AreGood g vcs rows n = (i : ℕ) (row : RankRow) → i < n → slice_get rows i ≡ Some row → listed_row_fault g vcs rows i row ≡ None
 
 -- the fault of the first row that has one
 pub record IsFirstRowFault (g : Grid) (vcs : ℕ) (rows : List RankRow) (fault : RankFault) : Type 0 where
   pub number : ℕ
   pub row : RankRow
   pub there : slice_get rows number ≡ Some row
-  pub faulty : row_fault g vcs rows number row ≡ Some fault
+  pub faulty : listed_row_fault g vcs rows number row ≡ Some fault
   pub first : AreGood g vcs rows number
 
 -- the rows have no fault, and this is the first link channel, by router, port and channel, that none of them names
 pub record IsFirstMissing (g : Grid) (vcs : ℕ) (rows : List RankRow) (r p v : ℕ) : Type 0 where
   pub good : (n : ℕ) → AreGood g vcs rows n
   pub channel : is_channel g vcs r p v ≡ true
-  pub missing : has_row rows r p v ≡ false
-  pub first : (a q w : ℕ) → is_channel g vcs a q w ≡ true → numbers_before (a ∷ q ∷ w ∷ []) (r ∷ p ∷ v ∷ []) ≡ true → has_row rows a q w ≡ true
+  pub missing : has_rank_row rows r p v ≡ false
+  pub first : (a q w : ℕ) → is_channel g vcs a q w ≡ true → numbers_before (a ∷ q ∷ w ∷ []) (r ∷ p ∷ v ∷ []) ≡ true → has_rank_row rows a q w ≡ true
 
 -- the first fault of the rows; memory is the allocator's matter
 abbrev pub IsFaultOfRows : Grid → ℕ → List RankRow → RankFault → Type 0
@@ -70,5 +70,5 @@ pub record IsRankingOf (g : Grid) (vcs : ℕ) (rows : List RankRow) (k : Ranking
   pub vcs_are : k.vcs ≡ vcs
   pub ranking : IsRanking k
   pub good : (n : ℕ) → AreGood g vcs rows n
-  pub full : (r p v : ℕ) → is_channel g vcs r p v ≡ true → has_row rows r p v ≡ true
+  pub full : (r p v : ℕ) → is_channel g vcs r p v ≡ true → has_rank_row rows r p v ≡ true
   pub ranks : (r p v : ℕ) → rank_at k r p v ≡ rank_in rows r p v

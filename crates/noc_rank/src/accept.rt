@@ -63,7 +63,7 @@ pub fn check(
     }
 }
 
-/// Whether each link channel has a rank.
+// Whether each link channel has a rank.
 fn is_full(shape: &Shape, vcs: usize, ranks: &Ranks) -> bool
     requires shape { shape.now ≡ ranks.now.grid }
     requires vcs { vcs ≡ ranks.now.vcs }
@@ -80,7 +80,7 @@ fn is_full(shape: &Shape, vcs: usize, ranks: &Ranks) -> bool
     true
 }
 
-/// Whether this is a link channel without a rank.
+// Whether this is a link channel without a rank.
 fn is_adaptive(
     shape: &Shape,
     vcs: usize,
@@ -96,7 +96,7 @@ fn is_adaptive(
     is_channel(shape, vcs, router, port, vc) && rank_at(ranks, router, port, vc).is_none()
 }
 
-/// Where each link channel has a rank, whether ranks rise with each step.
+// Where each link channel has a rank, whether ranks rise with each step.
 fn check_steps(
     rt: &(impl Threads + Sync),
     relation: &Relation,

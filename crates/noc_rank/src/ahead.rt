@@ -3,9 +3,9 @@
 ghost use Rattle.std.specs.Prelude.{◌≡◌, ℕ, ◌+◌, ◌*◌, ◌/◌, ◌%◌, ◌<◌, ◌≤◌, List, Option, Some, None, length, slice_index_or, if◌then◌else◌, true, false};
 ghost use Rattle.noc_topo.specs.Shape.{nodes, ports, local_port, distance};
 ghost use Rattle.noc_packet.specs.declared.limits.TheConstants.{INDICES};
-ghost use Rattle.noc_route.specs.Ranks.{places};
+ghost use Rattle.noc_route.specs.Ranks.{rank_count};
 ghost use Rattle.noc_route.specs.Routes.{IsRelation};
-ghost use Rattle.noc_rank.specs.Ahead.{AreLeast, AreAllLeast, IsLeastOf, IsValueIn, outputs, counts_for, lesser};
+ghost use Rattle.noc_rank.specs.LeastAhead.{AreLeast, AreAllLeast, IsLeastOf, IsValueIn, outputs, counts_for, lesser};
 ghost use Rattle.noc_packet.specs.Set.{has_bit};
 
 use crate::place::{link_ports, place};
@@ -13,9 +13,9 @@ use noc_packet::ChannelSet;
 use noc_route::Relation;
 use noc_topo::MAX_DISTANCE;
 
-/// Writes for each link channel the least of the marks of the channels with a rank to which packets of this class come from
-/// it on their way to `dst`, directly or through adaptive channels.
-pub fn fill_least(
+// Writes for each link channel the least of the marks of the channels with a rank to which packets of this class come from
+// it on their way to `dst`, directly or through adaptive channels.
+pub(crate) fn fill_least(
     relation: &Relation,
     ranks: &[Option<u32>],
     marks: &[Option<u32>],
@@ -23,9 +23,9 @@ pub fn fill_least(
     class: usize,
     dst: usize,
 )
-    requires ranks { length ranks.now ≡ places relation.now.grid relation.now.vcs }
-    requires marks { length marks.now ≡ places relation.now.grid relation.now.vcs }
-    requires least { length least.old ≡ places relation.now.grid relation.now.vcs }
+    requires ranks { length ranks.now ≡ rank_count relation.now.grid relation.now.vcs }
+    requires marks { length marks.now ≡ rank_count relation.now.grid relation.now.vcs }
+    requires least { length least.old ≡ rank_count relation.now.grid relation.now.vcs }
     requires class { class < relation.now.classes }
     requires dst { dst < nodes relation.now.grid }
     requires built { IsRelation relation.now }
@@ -36,7 +36,7 @@ pub fn fill_least(
     }
 }
 
-/// The same for the channels that arrive at a router so far from `dst`, where it is done for those nearer.
+// Fills in the channels that arrive at a router so far from `dst`, where those nearer are done.
 fn fill_at(
     relation: &Relation,
     ranks: &[Option<u32>],
@@ -46,8 +46,8 @@ fn fill_at(
     dst: usize,
     distance: usize,
 )
-    requires ranks { length ranks.now ≡ places relation.now.grid relation.now.vcs }
-    requires marks { length marks.now ≡ places relation.now.grid relation.now.vcs }
+    requires ranks { length ranks.now ≡ rank_count relation.now.grid relation.now.vcs }
+    requires marks { length marks.now ≡ rank_count relation.now.grid relation.now.vcs }
     requires class { class < relation.now.classes }
     requires dst { dst < nodes relation.now.grid }
     requires nearer { AreLeast relation.now ranks.now marks.now class dst distance 0 0 least.old }
@@ -58,7 +58,7 @@ fn fill_at(
     }
 }
 
-/// The same for the channels that arrive at this router, if it is so far from `dst`.
+// Fills in the channels that arrive at this router, if it is so far from `dst`.
 fn fill_if_at(
     relation: &Relation,
     ranks: &[Option<u32>],
@@ -69,8 +69,8 @@ fn fill_if_at(
     distance: usize,
     router: usize,
 )
-    requires ranks { length ranks.now ≡ places relation.now.grid relation.now.vcs }
-    requires marks { length marks.now ≡ places relation.now.grid relation.now.vcs }
+    requires ranks { length ranks.now ≡ rank_count relation.now.grid relation.now.vcs }
+    requires marks { length marks.now ≡ rank_count relation.now.grid relation.now.vcs }
     requires class { class < relation.now.classes }
     requires dst { dst < nodes relation.now.grid }
     requires router { router < nodes relation.now.grid }
@@ -82,7 +82,7 @@ fn fill_if_at(
     }
 }
 
-/// The same for the channels that arrive at this router.
+// Fills in the channels that arrive at this router.
 fn fill_router(
     relation: &Relation,
     ranks: &[Option<u32>],
@@ -92,8 +92,8 @@ fn fill_router(
     dst: usize,
     router: usize,
 )
-    requires ranks { length ranks.now ≡ places relation.now.grid relation.now.vcs }
-    requires marks { length marks.now ≡ places relation.now.grid relation.now.vcs }
+    requires ranks { length ranks.now ≡ rank_count relation.now.grid relation.now.vcs }
+    requires marks { length marks.now ≡ rank_count relation.now.grid relation.now.vcs }
     requires class { class < relation.now.classes }
     requires dst { dst < nodes relation.now.grid }
     requires router { router < nodes relation.now.grid }
@@ -105,7 +105,7 @@ fn fill_router(
     }
 }
 
-/// The same for the channel that arrives at this input channel of a router, if one does.
+// Fills in the channel that arrives at this input channel of a router, if one does.
 fn fill_input(
     relation: &Relation,
     ranks: &[Option<u32>],
@@ -116,8 +116,8 @@ fn fill_input(
     router: usize,
     input: usize,
 )
-    requires ranks { length ranks.now ≡ places relation.now.grid relation.now.vcs }
-    requires marks { length marks.now ≡ places relation.now.grid relation.now.vcs }
+    requires ranks { length ranks.now ≡ rank_count relation.now.grid relation.now.vcs }
+    requires marks { length marks.now ≡ rank_count relation.now.grid relation.now.vcs }
     requires class { class < relation.now.classes }
     requires dst { dst < nodes relation.now.grid }
     requires router { router < nodes relation.now.grid }
@@ -134,7 +134,7 @@ fn fill_input(
     }
 }
 
-/// The least of what the channels of a router's set on link ports count for.
+// The least of what the channels of a router's set on link ports count for.
 fn least_of(
     relation: &Relation,
     ranks: &[Option<u32>],
@@ -143,9 +143,9 @@ fn least_of(
     router: usize,
     set: ChannelSet,
 ) -> Option<u32>
-    requires ranks { length ranks.now ≡ places relation.now.grid relation.now.vcs }
-    requires marks { length marks.now ≡ places relation.now.grid relation.now.vcs }
-    requires least { length least.now ≡ places relation.now.grid relation.now.vcs }
+    requires ranks { length ranks.now ≡ rank_count relation.now.grid relation.now.vcs }
+    requires marks { length marks.now ≡ rank_count relation.now.grid relation.now.vcs }
+    requires least { length least.now ≡ rank_count relation.now.grid relation.now.vcs }
     requires router { router < nodes relation.now.grid }
     ensures { IsLeastOf (IsValueIn relation.now ranks.now marks.now least.now router set (outputs relation.now)) result }
 {
@@ -158,7 +158,7 @@ fn least_of(
     best
 }
 
-/// What the channel of this index counts for, if it is in the set: its mark where it has a rank, else the least mark ahead.
+// What the channel of this index counts for, if it is in the set: its mark where it has a rank, else the least mark ahead.
 fn counted(
     ranks: &[Option<u32>],
     marks: &[Option<u32>],
@@ -184,8 +184,8 @@ fn counted(
     }
 }
 
-/// The lesser of two numbers, where either may be missing.
-pub fn lesser(a: Option<u32>, b: Option<u32>) -> Option<u32>
+// The lesser of two numbers, where either may be missing.
+pub(crate) fn lesser(a: Option<u32>, b: Option<u32>) -> Option<u32>
     ensures { result ≡ lesser a b }
 {
     let Some(x) = a else {

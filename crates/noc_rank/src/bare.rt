@@ -5,7 +5,7 @@ ghost use Rattle.noc_topo.specs.Shape.{nodes, ports, local_port};
 ghost use Rattle.noc_route.specs.Routes.{IsRelation};
 ghost use Rattle.noc_route.specs.Ranks.{rank_at};
 ghost use Rattle.noc_rank.specs.Faults.{HasEscapes, IsFirstBare};
-ghost use Rattle.noc_rank.specs.Bare.{entries, entry_at, IsBareSet, IsRankedIn};
+ghost use Rattle.noc_rank.specs.NoEscape.{entries, numbered_entry, IsBareSet, IsRankedIn};
 
 use crate::place::link_ports;
 use crate::ranks::{Ranks, output_rank};
@@ -14,9 +14,13 @@ use noc_route::{Entry, Relation};
 use rayon::prelude::*;
 use std::thread::Threads;
 
-/// The first entry, in the order of class, router, input port and channel, and destination, to which packets come, away from
-/// their destination, and at which no channel with a rank is permitted. Looks at the entries in parallel.
-pub fn first_bare(rt: &(impl Threads + Sync), relation: &Relation, ranks: &Ranks) -> Option<Entry>
+// The first entry, in the order of class, router, input port and channel, and destination, to which packets come, away from
+// their destination, and at which no channel with a rank is permitted. Looks at the entries in parallel.
+pub(crate) fn first_bare(
+    rt: &(impl Threads + Sync),
+    relation: &Relation,
+    ranks: &Ranks,
+) -> Option<Entry>
     requires shape { relation.now.grid ≡ ranks.now.grid }
     requires vcs { relation.now.vcs ≡ ranks.now.vcs }
     ensures { MatchOption result (HasEscapes relation.now ranks.now) (IsFirstBare relation.now ranks.now) }
@@ -27,19 +31,19 @@ pub fn first_bare(rt: &(impl Threads + Sync), relation: &Relation, ranks: &Ranks
         rt,
         |number: &usize| -> bool
             requires { (relation.now.grid ≡ ranks.now.grid) × (relation.now.vcs ≡ ranks.now.vcs) × (number.now < entries relation.now) }
-            ensures { (result ≡ false) ↔ (IsBareSet relation.entry.now ranks.entry.now (entry_at relation.entry.now number.now) → ⊥) }
+            ensures { (result ≡ false) ↔ (IsBareSet relation.entry.now ranks.entry.now (numbered_entry relation.entry.now number.now) → ⊥) }
         { bare_at(relation, ranks, *number).is_some() },
     )?;
     bare_at(relation, ranks, number)
 }
 
-/// The entry of this number, if no channel with a rank is permitted there though others are.
+// The entry of this number, if no channel with a rank is permitted there though others are.
 fn bare_at(relation: &Relation, ranks: &Ranks, number: usize) -> Option<Entry>
     requires shape { relation.now.grid ≡ ranks.now.grid }
     requires vcs { relation.now.vcs ≡ ranks.now.vcs }
     requires number { number < entries relation.now }
-    ensures none { IfNone result (IsBareSet relation.now ranks.now (entry_at relation.now number) → ⊥) }
-    ensures some { IfSome result (λ entry. (entry ≡ entry_at relation.now number) × IsBareSet relation.now ranks.now entry) }
+    ensures none { IfNone result (IsBareSet relation.now ranks.now (numbered_entry relation.now number) → ⊥) }
+    ensures some { IfSome result (λ entry. (entry ≡ numbered_entry relation.now number) × IsBareSet relation.now ranks.now entry) }
 {
     let entry = entry_of(relation, number);
     let set = relation.permitted(
@@ -55,9 +59,9 @@ fn bare_at(relation: &Relation, ranks: &Ranks, number: usize) -> Option<Entry>
     Some(entry)
 }
 
-/// The entry of a number, of which the destination is the last digit.
+// The entry of a number, of which the destination is the last digit.
 fn entry_of(relation: &Relation, number: usize) -> Entry
-    ensures value { result ≡ entry_at relation.now number }
+    ensures value { result ≡ numbered_entry relation.now number }
     ensures nodes { 1 ≤ nodes relation.now.grid }
     ensures ports { 1 ≤ ports relation.now.grid }
     ensures vcs { 1 ≤ relation.now.vcs }
@@ -76,7 +80,7 @@ fn entry_of(relation: &Relation, number: usize) -> Entry
     }
 }
 
-/// Whether a set of a router has a channel on a link port with a rank.
+// Whether a set of a router has a channel on a link port with a rank.
 fn has_rank(relation: &Relation, ranks: &Ranks, router: usize, set: ChannelSet) -> bool
     requires shape { relation.now.grid ≡ ranks.now.grid }
     requires vcs { relation.now.vcs ≡ ranks.now.vcs }

@@ -2,11 +2,11 @@
 
 ghost use Rattle.std.specs.Prelude.{◌≡◌, ℕ, ◌+◌, ◌*◌, ◌/◌, ◌%◌, ◌<◌, ◌≤◌, ◌⊎◌, List, Option, Some, None, IfOk, IfSome, IfNone, MatchOption, length, slice_index_or, vec_len, true, false};
 ghost use Rattle.noc_topo.specs.Shape.{nodes};
-ghost use Rattle.noc_route.specs.Ranks.{places};
+ghost use Rattle.noc_route.specs.Ranks.{rank_count};
 ghost use Rattle.noc_route.specs.Routes.{IsRelation};
 ghost use Rattle.noc_rank.specs.Faults.{HasNoDescent, IsFirstDescent};
-ghost use Rattle.noc_rank.specs.Ahead.{over, IsLeastOf};
-ghost use Rattle.noc_rank.specs.Descents.{AreReal, IsOver, IsStart, IsStartBy, IsAheadAt, IsLinkPlace, channel_at, falls, mark_below, fault_of_descent};
+ghost use Rattle.noc_rank.specs.LeastAhead.{over, IsLeastOf};
+ghost use Rattle.noc_rank.specs.NotRisingTo.{AreReal, IsOver, BeginsDescent, IsStartBy, IsAheadAt, IsLinkPlace, channel_at, falls, mark_below, fault_of_descent};
 
 use crate::ahead::{fill_least, lesser};
 use crate::fault::RankFault;
@@ -15,9 +15,9 @@ use crate::ranks::{Ranks, list};
 use noc_route::Relation;
 use std::alloc::{AllocError, Global};
 
-/// Two channels such that packets come on from the first to the second, with their ranks, of which the second is not greater.
+// Two channels such that packets come on from the first to the second, with their ranks, of which the second is not greater.
 #[derive(Clone, Copy)]
-pub struct Descent {
+pub(crate) struct Descent {
     from: LinkChannel,
     to: LinkChannel,
     rank: u32,
@@ -25,8 +25,8 @@ pub struct Descent {
 }
 
 impl Descent {
-    /// The fault that names it.
-    pub fn fault(self) -> RankFault
+    // The fault that names it.
+    pub(crate) fn fault(self) -> RankFault
         ensures { result ≡ fault_of_descent self }
     {
         RankFault::NotRisingTo {
@@ -38,8 +38,8 @@ impl Descent {
     }
 }
 
-/// The first descent along the relation, in the order of router, port and channel of the first and then of the second.
-pub fn first_descent(
+// The first descent along the relation, in the order of router, port and channel of the first and then of the second.
+pub(crate) fn first_descent(
     alloc: Global,
     relation: &Relation,
     ranks: &Ranks,
@@ -53,16 +53,16 @@ pub fn first_descent(
     descent_in(alloc, relation, list(ranks), &mut least)
 }
 
-/// The same by the list of ranks; `least` is room.
+// The first descent along the relation, by the list of ranks; `least` is room.
 fn descent_in(
     alloc: Global,
     relation: &Relation,
     ranks: &[Option<u32>],
     least: &mut [Option<u32>],
 ) -> Result<Option<Descent>, AllocError>
-    requires ranks { length ranks.now ≡ places relation.now.grid relation.now.vcs }
-    requires least { length least.old ≡ places relation.now.grid relation.now.vcs }
-    requires few { places relation.now.grid relation.now.vcs < 4294967296 }
+    requires ranks { length ranks.now ≡ rank_count relation.now.grid relation.now.vcs }
+    requires least { length least.old ≡ rank_count relation.now.grid relation.now.vcs }
+    requires few { rank_count relation.now.grid relation.now.vcs < 4294967296 }
     requires real { AreReal relation.now ranks.now }
     requires built { IsRelation relation.now }
     ensures { IfOk result (λ found. MatchOption found (HasNoDescent relation.now (over relation.now ranks.now)) (λ d. IsFirstDescent relation.now (over relation.now ranks.now) d.from d.to d.rank d.next)) }
@@ -77,10 +77,10 @@ fn descent_in(
     Ok(descent_of(relation, ranks, start, end))
 }
 
-/// The place of the first channel from which packets come on to one of no greater rank; `least` is room.
+// The place of the first channel from which packets come on to one of no greater rank; `least` is room.
 fn first_start(relation: &Relation, ranks: &[Option<u32>], least: &mut [Option<u32>]) -> Option<u32>
-    requires ranks { length ranks.now ≡ places relation.now.grid relation.now.vcs }
-    requires least { length least.old ≡ places relation.now.grid relation.now.vcs }
+    requires ranks { length ranks.now ≡ rank_count relation.now.grid relation.now.vcs }
+    requires least { length least.old ≡ rank_count relation.now.grid relation.now.vcs }
     requires real { AreReal relation.now ranks.now }
     requires built { IsRelation relation.now }
     ensures value { IsLeastOf (IsOver relation.now (IsStartBy relation.now ranks.now)) result }
@@ -95,7 +95,7 @@ fn first_start(relation: &Relation, ranks: &[Option<u32>], least: &mut [Option<u
     first
 }
 
-/// The same for packets of one class on their way to one node.
+// The place of the first channel from which packets of one class on their way to one node come on to one of no greater rank.
 fn start_by(
     relation: &Relation,
     ranks: &[Option<u32>],
@@ -103,8 +103,8 @@ fn start_by(
     class: usize,
     dst: usize,
 ) -> Option<u32>
-    requires ranks { length ranks.now ≡ places relation.now.grid relation.now.vcs }
-    requires least { length least.old ≡ places relation.now.grid relation.now.vcs }
+    requires ranks { length ranks.now ≡ rank_count relation.now.grid relation.now.vcs }
+    requires least { length least.old ≡ rank_count relation.now.grid relation.now.vcs }
     requires real { AreReal relation.now ranks.now }
     requires built { IsRelation relation.now }
     requires class { class < relation.now.classes }
@@ -116,11 +116,11 @@ fn start_by(
     start_in(ranks, least)
 }
 
-/// The first place with a rank that is no less than the one ahead of it.
+// The first place with a rank that is no less than the one ahead of it.
 fn start_in(ranks: &[Option<u32>], least: &[Option<u32>]) -> Option<u32>
     requires least { length least.now ≡ length ranks.now }
     requires few { length ranks.now < 4294967296 }
-    ensures { IsLeastOf (IsStart ranks.now least.now) result }
+    ensures { IsLeastOf (BeginsDescent ranks.now least.now) result }
 {
     for place in 0..ranks.len() {
         if falls(ranks[place], least[place]) {
@@ -130,7 +130,7 @@ fn start_in(ranks: &[Option<u32>], least: &[Option<u32>]) -> Option<u32>
     None
 }
 
-/// Whether a rank is no less than the one ahead, where both are there.
+// Whether a rank is no less than the one ahead, where both are there.
 fn falls(rank: Option<u32>, ahead: Option<u32>) -> bool
     ensures { result ≡ falls rank ahead }
 {
@@ -143,7 +143,7 @@ fn falls(rank: Option<u32>, ahead: Option<u32>) -> bool
     ahead <= rank
 }
 
-/// Marks each place whose rank is no greater than that of the place `start` with its number.
+// Marks each place whose rank is no greater than that of the place `start` with its number.
 fn marks_below(
     alloc: Global,
     ranks: &[Option<u32>],
@@ -161,7 +161,7 @@ fn marks_below(
     Ok(marks)
 }
 
-/// The number of a place whose rank is no greater than that of the place `start`.
+// The number of a place whose rank is no greater than that of the place `start`.
 fn mark_below(ranks: &[Option<u32>], start: u32, place: usize) -> Option<u32>
     requires start { start < length ranks.now }
     requires place { place < length ranks.now }
@@ -175,7 +175,7 @@ fn mark_below(ranks: &[Option<u32>], start: u32, place: usize) -> Option<u32>
     }
 }
 
-/// The least mark to which packets come on from the channel at the place `start`; `least` is room.
+// The least mark to which packets come on from the channel at the place `start`; `least` is room.
 fn first_end(
     relation: &Relation,
     ranks: &[Option<u32>],
@@ -183,9 +183,9 @@ fn first_end(
     least: &mut [Option<u32>],
     start: u32,
 ) -> Option<u32>
-    requires ranks { length ranks.now ≡ places relation.now.grid relation.now.vcs }
-    requires marks { length marks.now ≡ places relation.now.grid relation.now.vcs }
-    requires least { length least.old ≡ places relation.now.grid relation.now.vcs }
+    requires ranks { length ranks.now ≡ rank_count relation.now.grid relation.now.vcs }
+    requires marks { length marks.now ≡ rank_count relation.now.grid relation.now.vcs }
+    requires least { length least.old ≡ rank_count relation.now.grid relation.now.vcs }
     requires start { IsLinkPlace relation.now start }
     requires built { IsRelation relation.now }
     ensures { IsLeastOf (IsOver relation.now (λ m t n. IsAheadAt relation.now ranks.now marks.now m t start n)) result }
@@ -207,7 +207,7 @@ fn first_end(
     first
 }
 
-/// The same for packets of one class on their way to one node.
+// The least mark to which packets of one class on their way to one node come on from the channel at the place `start`.
 fn end_by(
     relation: &Relation,
     ranks: &[Option<u32>],
@@ -217,9 +217,9 @@ fn end_by(
     class: usize,
     dst: usize,
 ) -> Option<u32>
-    requires ranks { length ranks.now ≡ places relation.now.grid relation.now.vcs }
-    requires marks { length marks.now ≡ places relation.now.grid relation.now.vcs }
-    requires least { length least.old ≡ places relation.now.grid relation.now.vcs }
+    requires ranks { length ranks.now ≡ rank_count relation.now.grid relation.now.vcs }
+    requires marks { length marks.now ≡ rank_count relation.now.grid relation.now.vcs }
+    requires least { length least.old ≡ rank_count relation.now.grid relation.now.vcs }
     requires start { IsLinkPlace relation.now start }
     requires built { IsRelation relation.now }
     requires class { class < relation.now.classes }
@@ -231,7 +231,7 @@ fn end_by(
     least[start as usize]
 }
 
-/// The descent from one place to another, which have ranks.
+// The descent from one place to another, which have ranks.
 fn descent_of(relation: &Relation, ranks: &[Option<u32>], start: u32, end: u32) -> Option<Descent>
     requires start { start < length ranks.now }
     requires end { end < length ranks.now }
@@ -248,7 +248,7 @@ fn descent_of(relation: &Relation, ranks: &[Option<u32>], start: u32, end: u32) 
     })
 }
 
-/// The channel at a place.
+// The channel at a place.
 fn channel_at(relation: &Relation, place: usize) -> LinkChannel
     ensures { result ≡ channel_at relation.now place }
 {

@@ -3,7 +3,7 @@
 ghost use Rattle.std.specs.Prelude.{◌≡◌, ℕ, ◌+◌, ◌*◌, ◌/◌, ◌%◌, ◌<◌, ◌≤◌, IfOk, IfSome, Option, Some, None, is_some, true, false, slice_index, slice_index_or, vec_len};
 ghost use Rattle.noc_topo.specs.declared.limits.TheConstants.{MAX_RADIX};
 ghost use Rattle.noc_topo.specs.Shape.{IsGrid, nodes, dimensions, coordinates, local_port};
-ghost use Rattle.noc_route.specs.Ranks.{is_channel, places};
+ghost use Rattle.noc_route.specs.Ranks.{is_channel, rank_count};
 ghost use Rattle.noc_rank.specs.Formulas.{has_ranks, is_numbered, passed_in, west_first_rank, formula, formula_at};
 
 use crate::place::{all_ports, is_channel, link_ports};
@@ -11,11 +11,11 @@ use noc_route::{Rule, escapes, is_right, resource_class};
 use noc_topo::{Kind, MAX_RADIX, Shape};
 use std::alloc::{AllocError, Global};
 
-/// No rank by formula is above this one.
+// No rank by formula is above this one.
 const HIGHEST: u32 = 1000;
 
-/// Whether a rule fits these numbers and has ranks by formula: dimension order on a mesh, dateline, west first and adaptive.
-pub fn has_ranks(shape: &Shape, vcs: usize, classes: usize, rule: &Rule) -> bool
+// Whether a rule fits these numbers and has ranks by formula: dimension order on a mesh, dateline, west first and adaptive.
+pub(crate) fn has_ranks(shape: &Shape, vcs: usize, classes: usize, rule: &Rule) -> bool
     ensures { result ≡ has_ranks shape.now vcs classes rule.now }
 {
     is_right(shape, vcs, classes, rule)
@@ -26,8 +26,8 @@ pub fn has_ranks(shape: &Shape, vcs: usize, classes: usize, rule: &Rule) -> bool
         }
 }
 
-/// The ranks by formula of all places, none where a port has no link and for adaptive channels.
-pub fn formula_ranks(
+// The ranks by formula of all places, none where a port has no link and for adaptive channels.
+pub(crate) fn formula_ranks(
     alloc: Global,
     shape: &Shape,
     vcs: usize,
@@ -35,11 +35,11 @@ pub fn formula_ranks(
     rule: &Rule,
 ) -> Result<Vec<Option<u32>>, AllocError>
     requires { has_ranks shape.now vcs classes rule.now ≡ true }
-    ensures len { IfOk result (λ ranks. vec_len ranks ≡ places shape.now vcs) }
+    ensures len { IfOk result (λ ranks. vec_len ranks ≡ rank_count shape.now vcs) }
     ensures grid { IsGrid shape.now }
-    ensures items { IfOk result (λ ranks. (k : ℕ) → k < places shape.now vcs → slice_index_or ranks.items k None ≡ formula_at shape.now vcs classes rule.now (k / vcs / local_port shape.now) (k / vcs % local_port shape.now) (k % vcs)) }
-    ensures some { IfOk result (λ ranks. (k : ℕ) → k < places shape.now vcs → IfSome (slice_index_or ranks.items k None) (λ n. 1 ≤ n)) }
-    ensures few { IfOk result (λ ranks. (k : ℕ) → k < places shape.now vcs → IfSome (slice_index_or ranks.items k None) (λ n. n ≤ HIGHEST)) }
+    ensures items { IfOk result (λ ranks. (k : ℕ) → k < rank_count shape.now vcs → slice_index_or ranks.items k None ≡ formula_at shape.now vcs classes rule.now (k / vcs / local_port shape.now) (k / vcs % local_port shape.now) (k % vcs)) }
+    ensures some { IfOk result (λ ranks. (k : ℕ) → k < rank_count shape.now vcs → IfSome (slice_index_or ranks.items k None) (λ n. 1 ≤ n)) }
+    ensures few { IfOk result (λ ranks. (k : ℕ) → k < rank_count shape.now vcs → IfSome (slice_index_or ranks.items k None) (λ n. n ≤ HIGHEST)) }
 {
     let ports = link_ports(shape);
     let count = all_ports(shape) * vcs;
@@ -51,7 +51,7 @@ pub fn formula_ranks(
     Ok(ranks)
 }
 
-/// The rank by formula of a channel of a link port, none where the port has no link or the channel is adaptive.
+// The rank by formula of a channel of a link port, none where the port has no link or the channel is adaptive.
 fn formula_at(
     shape: &Shape,
     vcs: usize,
@@ -74,7 +74,7 @@ fn formula_at(
     Some(formula(shape, vcs, classes, rule, router, port, vc) as u32)
 }
 
-/// Whether a rule gives this channel of a link a rank: all, but the adaptive ones.
+// Whether a rule gives this channel of a link a rank: all, but the adaptive ones.
 fn is_numbered(shape: &Shape, vcs: usize, classes: usize, rule: &Rule, vc: usize) -> bool
     requires { has_ranks shape.now vcs classes rule.now ≡ true }
     ensures { result ≡ is_numbered shape.now vcs classes rule.now vc }
@@ -85,7 +85,7 @@ fn is_numbered(shape: &Shape, vcs: usize, classes: usize, rule: &Rule, vc: usize
     }
 }
 
-/// The rank by formula of a link channel that has one, at most `HIGHEST`.
+// The rank by formula of a link channel that has one, at most `HIGHEST`.
 fn formula(
     shape: &Shape,
     vcs: usize,
@@ -116,7 +116,7 @@ fn formula(
     }
 }
 
-/// The rank of a link channel by west first: the ports down dimension 0 before all others.
+// The rank of a link channel by west first: the ports down dimension 0 before all others.
 fn west_first_rank(shape: &Shape, router: usize, port: usize) -> usize
     requires dimensions { dimensions shape.now ≡ 2 }
     requires router { router < nodes shape.now }
@@ -135,7 +135,7 @@ fn west_first_rank(shape: &Shape, router: usize, port: usize) -> usize
     }
 }
 
-/// A coordinate in a dimension, with the size of the dimension.
+// A coordinate in a dimension, with the size of the dimension.
 #[derive(Clone, Copy)]
 struct Axis {
     at: usize,
@@ -144,7 +144,7 @@ struct Axis {
     ghost few: { size ≤ MAX_RADIX },
 }
 
-/// The coordinate of a router in a dimension.
+// The coordinate of a router in a dimension.
 fn axis_of(shape: &Shape, router: usize, dimension: usize) -> Axis
     requires router { router < nodes shape.now }
     requires dimension { dimension < dimensions shape.now }
@@ -159,7 +159,7 @@ fn axis_of(shape: &Shape, router: usize, dimension: usize) -> Axis
 }
 
 impl Axis {
-    /// How many routers lie behind this one, seen along a port of its dimension.
+    // How many routers lie behind this one, seen along a port of its dimension.
     fn passed(self, port: usize) -> usize
         ensures value { result ≡ passed_in self.size self.at port }
         ensures few { result < MAX_RADIX }

@@ -3,7 +3,7 @@
 ghost use Rattle.std.specs.Prelude.{◌≡◌, ◌∷◌, [], true};
 ghost use Rattle.noc_route.specs.Built.{IsRelationOfRule, routing_of};
 ghost use Rattle.noc_route.specs.Ranks.{Ranking, AreAllRanked, IsRankedBy, rank_at};
-ghost use Rattle.noc_route.specs.Relation.{Routing};
+ghost use Rattle.noc_route.specs.Relation.{RelationParts};
 ghost use Rattle.noc_route.specs.Routes.{Routes};
 ghost use Rattle.noc_route.specs.declared.rule.Rule.TheVariants.{Dor};
 ghost use Rattle.noc_route.specs.declared.rule.Entry.{Entry as EntryValue};
@@ -15,8 +15,8 @@ use noc_route::a_relation_is_ranked_as_its_rule;
 /// Each relation of dimension order on a mesh, of dateline, of west first, and of adaptive is ranked, whatever the shape and the
 /// numbers of channels and classes: by its ranks by formula, and so there are ranks that make it ranked.
 pub fn formula_ranks_are_accepted()
-    ensures accepted { (g : Routing) (routes : Routes) (ranks : Ranking) → IsRelationOfRule g routes → IsGenerated g.grid g.vcs g.classes g.rule ranks → IsRankedBy routes ranks }
-    ensures exist { (g : Routing) (routes : Routes) → IsRelationOfRule g routes → has_ranks g.grid g.vcs g.classes g.rule ≡ true → (ranks : Ranking) × IsRankedBy routes ranks }
+    ensures accepted { (g : RelationParts) (routes : Routes) (ranks : Ranking) → IsRelationOfRule g routes → IsGenerated g.grid g.vcs g.classes g.rule ranks → IsRankedBy routes ranks }
+    ensures exist { (g : RelationParts) (routes : Routes) → IsRelationOfRule g routes → has_ranks g.grid g.vcs g.classes g.rule ≡ true → (ranks : Ranking) × IsRankedBy routes ranks }
 {}
 
 /// No ranks at all make dimension order on a ring of four routers with one channel per link ranked, so each list of ranks is

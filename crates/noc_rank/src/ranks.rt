@@ -99,8 +99,8 @@ impl Ranks {
     }
 }
 
-/// The rank of a channel of a link port; None of an adaptive one, and where the port has no link.
-pub fn rank_at(ranks: &Ranks, router: usize, port: usize, vc: usize) -> Option<u32>
+// The rank of a channel of a link port; None of an adaptive one, and where the port has no link.
+pub(crate) fn rank_at(ranks: &Ranks, router: usize, port: usize, vc: usize) -> Option<u32>
     requires { is_place ranks.now.grid ranks.now.vcs router port vc ≡ true }
     ensures value { result ≡ rank_at ranks.now router port vc }
     ensures ranking { IsRanking ranks.now }
@@ -108,8 +108,8 @@ pub fn rank_at(ranks: &Ranks, router: usize, port: usize, vc: usize) -> Option<u
     ranks.ranks[place(&ranks.shape, ranks.vcs, router, port, vc)]
 }
 
-/// The rank of an output channel of a router on a link port, by its index, port times channels plus channel.
-pub fn output_rank(ranks: &Ranks, router: usize, index: usize) -> Option<u32>
+// The rank of an output channel of a router on a link port, by its index, port times channels plus channel.
+pub(crate) fn output_rank(ranks: &Ranks, router: usize, index: usize) -> Option<u32>
     requires router { router < nodes ranks.now.grid }
     requires index { index < local_port ranks.now.grid * ranks.now.vcs }
     ensures value { result ≡ rank_at ranks.now router (index / ranks.now.vcs) (index % ranks.now.vcs) }
@@ -118,8 +118,8 @@ pub fn output_rank(ranks: &Ranks, router: usize, index: usize) -> Option<u32>
     ranks.ranks[router * link_ports(&ranks.shape) * ranks.vcs + index]
 }
 
-/// The ranks of all places, router by router, then by link port and channel.
-pub fn list(ranks: &Ranks) -> &[Option<u32>]
+// The ranks of all places, router by router, then by link port and channel.
+pub(crate) fn list(ranks: &Ranks) -> &[Option<u32>]
     ensures value { result.now ≡ ranks.now.ranks }
     ensures ranking { IsRanking ranks.now }
 {

@@ -6,7 +6,7 @@ ghost use Rattle.noc_packet.specs.declared.limits.TheConstants.{INDICES};
 ghost use Rattle.noc_route.specs.Routes.{set_at};
 ghost use Rattle.noc_route.specs.Ranks.{IsRising, rank_at};
 ghost use Rattle.noc_rank.specs.Rising.{IsFirstFall};
-ghost use Rattle.noc_rank.specs.Falls.{fault_of_fall, arrival_rank, falls_to, links, inputs, IsLeastBelow, HasNone, HasNoFall, IsFirstFrom, IsFirstAt};
+ghost use Rattle.noc_rank.specs.NotRising.{fault_of_fall, arrival_rank, falls_to, link_output_count, input_count, IsLeastBelow, HasNone, HasNoFall, IsFirstFrom, IsFirstAt};
 
 use crate::fault::RankFault;
 use crate::place::link_ports;
@@ -17,10 +17,14 @@ use noc_topo::Shape;
 use rayon::prelude::*;
 use std::thread::Threads;
 
-/// The first step of the relation from one channel with a rank to the next that does not rise, in the order of class,
-/// router, input port and channel, destination, output port and channel. Looks at the entries in parallel and takes no
-/// memory.
-pub fn first_fall(rt: &(impl Threads + Sync), relation: &Relation, ranks: &Ranks) -> Option<Fall>
+// The first step of the relation from one channel with a rank to the next that does not rise, in the order of class,
+// router, input port and channel, destination, output port and channel. Looks at the entries in parallel and takes no
+// memory.
+pub(crate) fn first_fall(
+    rt: &(impl Threads + Sync),
+    relation: &Relation,
+    ranks: &Ranks,
+) -> Option<Fall>
     requires shape { relation.now.grid ≡ ranks.now.grid }
     requires vcs { relation.now.vcs ≡ ranks.now.vcs }
     ensures { MatchOption result (IsRising relation.now (rank_at ranks.now)) (λ fall. IsFirstFall relation.now ranks.now fall.step fall.rank fall.next) }
@@ -32,24 +36,24 @@ pub fn first_fall(rt: &(impl Threads + Sync), relation: &Relation, ranks: &Ranks
     let number = (0..count).into_par_iter().find_first(
         rt,
         |number: &usize| -> bool
-            requires { (relation.now.grid ≡ ranks.now.grid) × (relation.now.vcs ≡ ranks.now.vcs) × (number.now < relation.now.classes * inputs ranks.now) }
+            requires { (relation.now.grid ≡ ranks.now.grid) × (relation.now.vcs ≡ ranks.now.vcs) × (number.now < relation.now.classes * input_count ranks.now) }
             ensures { (result ≡ false) ↔ HasNoFall relation.entry.now ranks.entry.now number.now }
         { first_at(relation, ranks, *number).is_some() },
     )?;
     first_at(relation, ranks, number)
 }
 
-/// A step that does not rise, with the ranks before and after it.
+// A step that does not rise, with the ranks before and after it.
 #[derive(Clone, Copy)]
-pub struct Fall {
+pub(crate) struct Fall {
     step: RouteRow,
     rank: u32,
     next: u32,
 }
 
 impl Fall {
-    /// The fault that names it.
-    pub fn fault(self) -> RankFault
+    // The fault that names it.
+    pub(crate) fn fault(self) -> RankFault
         ensures { result ≡ fault_of_fall self }
     {
         let step = self.step;
@@ -69,11 +73,11 @@ impl Fall {
     }
 }
 
-/// The first step that does not rise of those that packets of a class take that came by an input channel, both by number.
+// The first step that does not rise of those that packets of a class take that came by an input channel, both by number.
 fn first_at(relation: &Relation, ranks: &Ranks, number: usize) -> Option<Fall>
     requires shape { relation.now.grid ≡ ranks.now.grid }
     requires vcs { relation.now.vcs ≡ ranks.now.vcs }
-    requires number { number < relation.now.classes * inputs ranks.now }
+    requires number { number < relation.now.classes * input_count ranks.now }
     ensures { MatchOption result (HasNoFall relation.now ranks.now number) (IsFirstAt relation.now ranks.now number) }
 {
     let vcs = relation.vcs();
@@ -87,7 +91,7 @@ fn first_at(relation: &Relation, ranks: &Ranks, number: usize) -> Option<Fall>
     first_from(relation, ranks, class, router, port, vc, rank)
 }
 
-/// The rank of the link channel that arrives at an input channel, if there is one and it has a rank.
+// The rank of the link channel that arrives at an input channel, if there is one and it has a rank.
 fn arrival_rank(shape: &Shape, ranks: &Ranks, router: usize, port: usize, vc: usize) -> Option<u32>
     requires shape { shape.now ≡ ranks.now.grid }
     requires router { router < nodes ranks.now.grid }
@@ -99,7 +103,7 @@ fn arrival_rank(shape: &Shape, ranks: &Ranks, router: usize, port: usize, vc: us
     rank_at(ranks, sender, out_port, vc)
 }
 
-/// The first step from an entry that does not rise, over all destinations, where `rank` is that of the input channel.
+// The first step from an entry that does not rise, over all destinations, where `rank` is that of the input channel.
 fn first_from(
     relation: &Relation,
     ranks: &Ranks,
@@ -115,7 +119,7 @@ fn first_from(
     requires router { router < nodes ranks.now.grid }
     requires in_port { in_port < ports ranks.now.grid }
     requires in_vc { in_vc < ranks.now.vcs }
-    ensures none { IfNone result ((t : ℕ) → t < nodes ranks.now.grid → HasNone (falls_to ranks.now router (set_at relation.now class router in_port in_vc t) rank) (links ranks.now)) }
+    ensures none { IfNone result ((t : ℕ) → t < nodes ranks.now.grid → HasNone (falls_to ranks.now router (set_at relation.now class router in_port in_vc t) rank) (link_output_count ranks.now)) }
     ensures some { IfSome result (IsFirstFrom relation.now ranks.now class router in_port in_vc rank) }
 {
     let vcs = relation.vcs();
@@ -138,7 +142,7 @@ fn first_from(
     None
 }
 
-/// The first channel on a link port in a set of a router whose rank is not greater than `rank`, by its index, with its rank.
+// The first channel on a link port in a set of a router whose rank is not greater than `rank`, by its index, with its rank.
 fn first_to(
     relation: &Relation,
     ranks: &Ranks,
@@ -149,8 +153,8 @@ fn first_to(
     requires shape { relation.now.grid ≡ ranks.now.grid }
     requires vcs { relation.now.vcs ≡ ranks.now.vcs }
     requires router { router < nodes ranks.now.grid }
-    ensures none { IfNone result (HasNone (falls_to ranks.now router set rank) (links ranks.now)) }
-    ensures some { IfSome result (λ found. IsLeastBelow (falls_to ranks.now router set rank) (links ranks.now) found.0 × (rank_at ranks.now router (found.0 / ranks.now.vcs) (found.0 % ranks.now.vcs) ≡ Some found.1)) }
+    ensures none { IfNone result (HasNone (falls_to ranks.now router set rank) (link_output_count ranks.now)) }
+    ensures some { IfSome result (λ found. IsLeastBelow (falls_to ranks.now router set rank) (link_output_count ranks.now) found.0 × (rank_at ranks.now router (found.0 / ranks.now.vcs) (found.0 % ranks.now.vcs) ≡ Some found.1)) }
 {
     let vcs = relation.vcs();
     for index in 0..link_ports(relation.shape()) * vcs {
@@ -161,10 +165,10 @@ fn first_to(
     None
 }
 
-/// The rank of a channel on a link port, by its index, if it is in the set and its rank is not greater than `rank`.
+// The rank of a channel on a link port, by its index, if it is in the set and its rank is not greater than `rank`.
 fn falls_to(ranks: &Ranks, router: usize, set: ChannelSet, index: usize, rank: u32) -> Option<u32>
     requires router { router < nodes ranks.now.grid }
-    requires index { index < links ranks.now }
+    requires index { index < link_output_count ranks.now }
     requires few { index < INDICES }
     ensures none { IfNone result (falls_to ranks.now router set rank index ≡ false) }
     ensures some { IfSome result (λ next. (falls_to ranks.now router set rank index ≡ true) × (rank_at ranks.now router (index / ranks.now.vcs) (index % ranks.now.vcs) ≡ Some next)) }

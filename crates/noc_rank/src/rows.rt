@@ -1,16 +1,16 @@
 //! Ranks that are given row by row.
 
 ghost use Rattle.std.specs.Prelude.{◌≡◌, ℕ, ◌<◌, ◌≤◌, IfErr, IfSome, IfNone, IsOk, OnOk, OnErr, length, slice_index_or, true, false, Some};
-ghost use Rattle.noc_route.specs.Ranks.{is_place, is_channel, places, place_of};
-ghost use Rattle.noc_rank.specs.Rows.{is_rank, fault_of, IsFirstRowFault};
+ghost use Rattle.noc_route.specs.Ranks.{is_place, is_channel, rank_count, rank_index};
+ghost use Rattle.noc_rank.specs.Rows.{is_rank, rank_row_fault, IsFirstRowFault};
 ghost use Rattle.noc_rank.specs.Entered.{AreEntered, IsWhole, IsFirstGap};
 
 use crate::fault::RankFault;
 use crate::place::{is_channel, link_ports, place};
 use noc_topo::Shape;
 
-/// The greatest rank.
-pub const MAX_RANK: usize = 1_000_000;
+// The greatest rank.
+pub(crate) const MAX_RANK: usize = 1_000_000;
 
 /// A link channel, named by the router that sends on it, its port and its number, with its rank, 1 to 1,000,000; None says
 /// that the channel is adaptive.
@@ -22,16 +22,16 @@ pub struct RankRow {
     pub rank: Option<usize>,
 }
 
-/// Writes the ranks of the rows over a list without ranks, and notes the channels that they name; or answers the fault of
-/// the first bad row.
-pub fn enter(
+// Writes the ranks of the rows over a list without ranks, and notes the channels that they name; or answers the fault of
+// the first bad row.
+pub(crate) fn enter(
     shape: &Shape,
     vcs: usize,
     rows: &[RankRow],
     ranks: &mut [Option<u32>],
     named: &mut [bool],
 ) -> Result<(), RankFault>
-    requires few { places shape.now vcs < 18446744073709551616 }
+    requires few { rank_count shape.now vcs < 18446744073709551616 }
     requires blank { AreEntered shape.now vcs rows.now 0 ranks.old named.old }
     ensures err { IfErr result (IsFirstRowFault shape.now vcs rows.now) }
     ensures ok { OnOk result (AreEntered shape.now vcs rows.now (length rows.now) ranks.new named.new) }
@@ -47,7 +47,7 @@ pub fn enter(
     Ok(())
 }
 
-/// What is wrong with a row, where `named` says which channels the rows before it name.
+// What is wrong with a row, where `named` says which channels the rows before it name.
 fn row_fault(
     shape: &Shape,
     vcs: usize,
@@ -55,9 +55,9 @@ fn row_fault(
     number: usize,
     row: &RankRow,
 ) -> Option<RankFault>
-    requires few { places shape.now vcs < 18446744073709551616 }
-    requires long { length named.now ≡ places shape.now vcs }
-    ensures { result ≡ fault_of shape.now vcs (slice_index_or named.now (place_of shape.now vcs row.now.router row.now.port row.now.vc) false) number row.now }
+    requires few { rank_count shape.now vcs < 18446744073709551616 }
+    requires long { length named.now ≡ rank_count shape.now vcs }
+    ensures { result ≡ rank_row_fault shape.now vcs (slice_index_or named.now (rank_index shape.now vcs row.now.router row.now.port row.now.vc) false) number row.now }
 {
     if !is_channel(shape, vcs, row.router, row.port, row.vc) {
         return Some(RankFault::UnknownChannel { row: number });
@@ -71,7 +71,7 @@ fn row_fault(
     None
 }
 
-/// Whether a rank, if there is one, is 1 to 1,000,000.
+// Whether a rank, if there is one, is 1 to 1,000,000.
 fn is_rank(rank: Option<usize>) -> bool
     ensures { result ≡ is_rank rank }
 {
@@ -81,7 +81,7 @@ fn is_rank(rank: Option<usize>) -> bool
     }
 }
 
-/// A rank as it is stored.
+// A rank as it is stored.
 fn stored(rank: Option<usize>) -> Option<u32>
     requires { is_rank rank ≡ true }
     ensures { result ≡ rank }
@@ -92,9 +92,9 @@ fn stored(rank: Option<usize>) -> Option<u32>
     }
 }
 
-/// The first link channel that no row names, in the order of router, port and channel.
-pub fn missing(shape: &Shape, vcs: usize, named: &[bool]) -> Option<RankFault>
-    requires { length named.now ≡ places shape.now vcs }
+// The first link channel that no row names, in the order of router, port and channel.
+pub(crate) fn missing(shape: &Shape, vcs: usize, named: &[bool]) -> Option<RankFault>
+    requires { length named.now ≡ rank_count shape.now vcs }
     ensures none { IfNone result (IsWhole shape.now vcs named.now (length named.now)) }
     ensures some { IfSome result (IsFirstGap shape.now vcs named.now) }
 {

@@ -4,7 +4,7 @@ use Rattle.std.specs.Borrow.{Bor}
 use Rattle.noc_files.specs.declared.configuration.RuleName.{RuleName}
 use Rattle.noc_files.specs.declared.configuration.RuleName.TheVariants as word
 use Rattle.noc_files.specs.declared.fault.InputFault.{InputFault}
-use Rattle.noc_requests.specs.Asked.{is_joined, lent}
+use Rattle.noc_requests.specs.Asked.{is_joined, lent_text}
 use Rattle.noc_requests.specs.Settings.{rule_named}
 use Rattle.noc_requests.specs.declared.request.Command.{Command}
 use Rattle.noc_requests.specs.declared.request.Command.TheVariants as command
@@ -26,10 +26,10 @@ only_table word.Adaptive h = cc
 only_table word.Table h = refl
 
 -- a text is there whether it is lent or not
-pub is_some-lent : (text : Option (Result (Bor (List ℕ)) InputFault)) → is_some (option_map lent text) ≡ is_some text
+pub is_some-lent : (text : Option (Result (Bor (List ℕ)) InputFault)) → is_some (option_map lent_text text) ≡ is_some text
 is_some-lent None = refl
 is_some-lent (Some text) = refl
 
-pub lent-unwrap_or : (text : Option (Result (Bor (List ℕ)) InputFault)) (other : Result (Bor (List ℕ)) InputFault) → lent (unwrap_or text other) ≡ unwrap_or (option_map lent text) (lent other)
+pub lent-unwrap_or : (text : Option (Result (Bor (List ℕ)) InputFault)) (other : Result (Bor (List ℕ)) InputFault) → lent_text (unwrap_or text other) ≡ unwrap_or (option_map lent_text text) (lent_text other)
 lent-unwrap_or None other = refl
 lent-unwrap_or (Some text) other = refl

@@ -16,7 +16,7 @@ use Rattle.noc_files.specs.Configuration.{Settings, config_of}
 use Rattle.noc_files.specs.Table.{table_of}
 use Rattle.noc_files.specs.declared.configuration.RuleName.{RuleName}
 use Rattle.noc_files.specs.declared.fault.InputFault.{InputFault}
-use Rattle.noc_requests.specs.Asked.{Asked, Said, read_by}
+use Rattle.noc_requests.specs.Asked.{Asked, TextValue, read_by}
 use Rattle.noc_requests.specs.Options.{early_fault, late_fault}
 use Rattle.noc_requests.specs.Settings.{AsksForSettings, AsksForShape, AsksForRelation, IsRuleOf, named, tabled, RefusesTable, bad_table, SettingsFault, bad_config, bad_option, bad_shape, bad_late_option, in_table, bad_relation}
 use Rattle.noc_requests.specs.Status.{is_memory}
@@ -88,7 +88,7 @@ same_shaped a s t g h x y =
 -- ---- the rule
 
 -- a rule word and its table file give one rule, up to where its rows lie
-alike : (t : Option Said) (g : Grid) (vcs classes : ℕ) (name : RuleName) (r s : Rule) → IsRuleOf t g name r → IsRuleOf t g name s → AreAlike g vcs classes r s
+alike : (t : Option TextValue) (g : Grid) (vcs classes : ℕ) (name : RuleName) (r s : Rule) → IsRuleOf t g name r → IsRuleOf t g name s → AreAlike g vcs classes r s
 alike t g vcs classes name r s (named e) (named d) =
     let both : Some r ≡ Some s = sym e ∙ d in
     AreAlike-same g vcs classes r s (cc)
@@ -100,7 +100,7 @@ alike t g vcs classes name r s (tabled {text = x} {rows = v} e h) (tabled {text 
     let both : Ok v.items ≡ Ok w.items = sym h ∙ ap (read_by (table_of g)) text ∙ k in
     AreAlike-rows g vcs classes v w (cc)
 
-no_rule_after : (t : Option Said) (g : Grid) (name : RuleName) (r : Rule) (f : Fault) → is_memory f ≡ false → IsRuleOf t g name r → RefusesTable t g name f → ⊥
+no_rule_after : (t : Option TextValue) (g : Grid) (name : RuleName) (r : Rule) (f : Fault) → is_memory f ≡ false → IsRuleOf t g name r → RefusesTable t g name f → ⊥
 no_rule_after t g name r f p (named e) (bad_table d k) = cc
 no_rule_after t g name r f p (tabled {text = x} {rows = v} e h) (bad_table {text = y} {f = i} d k) =
     let texts : Some x ≡ Some y = sym e ∙ d in
@@ -108,7 +108,7 @@ no_rule_after t g name r f p (tabled {text = x} {rows = v} e h) (bad_table {text
     let never : Ok v.items ≡ Err i = sym h ∙ ap (read_by (table_of g)) text ∙ k (table_not_memory i p) in
     cc never
 
-one_table_fault : (t : Option Said) (g : Grid) (name : RuleName) (f k : Fault) → is_memory f ≡ false → is_memory k ≡ false → RefusesTable t g name f → RefusesTable t g name k → f ≡ k
+one_table_fault : (t : Option TextValue) (g : Grid) (name : RuleName) (f k : Fault) → is_memory f ≡ false → is_memory k ≡ false → RefusesTable t g name f → RefusesTable t g name k → f ≡ k
 one_table_fault t g name f k p q (bad_table {text = x} {f = i} e h) (bad_table {text = y} {f = j} d u) =
     let texts : Some x ≡ Some y = sym e ∙ d in
     let text : x ≡ y = cc in
@@ -159,7 +159,7 @@ no_settings_fault a s routes f p asks bad = no_relation_at a s routes f p asks (
 -- ---- the first fault
 
 module _ (a : Asked) where
-  -- the same table's fault, or a fault of the same rule's relation
+  -- two faults of one table, or of the relation of one rule
   tables : (f k : Fault) (s t : Settings) (g h : Grid) → is_memory f ≡ false → is_memory k ≡ false → AsksForShape a s g → AsksForShape a t h → RefusesTable a.table g s.rule f → RefusesTable a.table h t.rule k → f ≡ k
   tables f k s t g h p q x y bad other =
       let same = same_shaped a s t g h x y in

@@ -3,7 +3,7 @@ use Rattle.std.proofs.Common.{◌≡◌, ℕ, Bool, true, false, List, Result, O
 use Rattle.std.specs.Prelude.{if◌then◌else◌}
 use Rattle.std.specs.Result.{IfErr, IfOk}
 use Rattle.noc_files.specs.declared.writing.WriteFault.{WriteFault}
-use Rattle.noc_requests.specs.Outcome.{Ends, IsWriteFault, Refuses}
+use Rattle.noc_requests.specs.Ending.{Ends, IsWriteFault, Refuses}
 use Rattle.noc_requests.specs.declared.status.Status.{Status}
 use Rattle.noc_requests.specs.declared.status.Status.TheVariants.{Done, Stuck}
 use Rattle.noc_requests.specs.declared.fault.Fault.{Fault}

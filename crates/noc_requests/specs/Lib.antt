@@ -1,6 +1,6 @@
 pub mod Asked
 pub mod Status
 pub mod Line
-pub mod Outcome
+pub mod Ending
 pub mod Options
 pub mod Settings

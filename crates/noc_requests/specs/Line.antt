@@ -4,7 +4,7 @@ use Rattle.noc_topo.specs.Shape.{Grid, ports}
 use Rattle.noc_topo.specs.declared.shape.ShapeFault.TheVariants as shape
 use Rattle.noc_files.specs.Keys.{key_name}
 use Rattle.noc_files.specs.Ports.{name_of_port}
-use Rattle.noc_files.specs.Writing.{joined, line_end}
+use Rattle.noc_files.specs.Writing.{text_of_pieces, line_end}
 use Rattle.noc_files.specs.declared.fault.InputFault.{InputFault}
 use Rattle.noc_files.specs.declared.fault.InputFault.TheVariants as input
 use Rattle.noc_net.specs.declared.fault.NetFault.{NetFault}
@@ -27,7 +27,7 @@ use Rattle.noc_requests.specs.declared.fault.Fault.TheVariants as fault
 
 -- `fault`, a family, a number with its name, and the pieces of the details
 unfoldable pub line_with : List ℕ → List ℕ → List (List ℕ) → List ℕ
-line_with family title details = joined (codes "fault " ∷ family ∷ codes " " ∷ title ∷ (details ++ line_end ∷ []))
+line_with family title details = text_of_pieces (codes "fault " ∷ family ∷ codes " " ∷ title ∷ (details ++ line_end ∷ []))
 
 -- ---- families
 

@@ -34,13 +34,13 @@ cycle_fault (Explain cycle router) cycles = if nat_le cycles cycle then Some Bad
 cycle_fault (Trace from to traced) cycles = if is_bad_span (first_cycle from) (last_cycle to cycles) cycles then Some BadCycle else None
 cycle_fault _ cycles = None
 
-abbrev pub or_else : Option OptionFault → Option OptionFault → Option OptionFault
-or_else None later = later
-or_else (Some fault) later = Some fault
+abbrev pub or_option_fault : Option OptionFault → Option OptionFault → Option OptionFault
+or_option_fault None later = later
+or_option_fault (Some fault) later = Some fault
 
 -- the first fault of the options that is looked for before the shape
 abbrev pub early_fault : Command → Bool → Settings → Option OptionFault
-early_fault command has_table s = or_else (table_fault s.rule has_table) (cycle_fault command s.cycles)
+early_fault command has_table s = or_option_fault (table_fault s.rule has_table) (cycle_fault command s.cycles)
 
 -- a router that does not exist
 abbrev pub router_fault : Grid → Option ℕ → Option OptionFault
@@ -60,6 +60,6 @@ number_fault packets None = None
 number_fault packets (Some packet) = if nat_le packets packet then Some BadPacket else None
 
 -- the fault of the options that is looked for once the packets are known
-abbrev pub packet_fault : Command → ℕ → Option OptionFault
-packet_fault (Trace from to traced) packets = number_fault packets traced.packet
-packet_fault _ packets = None
+abbrev pub packet_option_fault : Command → ℕ → Option OptionFault
+packet_option_fault (Trace from to traced) packets = number_fault packets traced.packet
+packet_option_fault _ packets = None

@@ -15,7 +15,7 @@ use Rattle.noc_files.specs.Table.{table_of}
 use Rattle.noc_files.specs.declared.configuration.RuleName.{RuleName}
 use Rattle.noc_files.specs.declared.configuration.RuleName.TheVariants as word
 use Rattle.noc_files.specs.declared.fault.InputFault.{InputFault}
-use Rattle.noc_requests.specs.Asked.{Asked, IsUnread, Said, read_by}
+use Rattle.noc_requests.specs.Asked.{Asked, IsUnread, TextValue, read_by}
 use Rattle.noc_requests.specs.Options.{early_fault, late_fault}
 use Rattle.noc_requests.specs.declared.fault.Fault.{Fault}
 use Rattle.noc_requests.specs.declared.fault.Fault.TheVariants as fault
@@ -41,13 +41,13 @@ pub record AsksForShape (a : Asked) (s : Settings) (g : Grid) : Type 0 where
   pub options : late_fault a.command g ≡ None
 
 -- the rule of a rule word: one by formula, or that of the table file's rows
-pub data IsRuleOf (table : Option Said) (g : Grid) : RuleName → Rule → Type 0 where
+pub data IsRuleOf (table : Option TextValue) (g : Grid) : RuleName → Rule → Type 0 where
   named : {name : RuleName} {r : Rule} → rule_named name ≡ Some r → IsRuleOf table g name r
-  tabled : {text : Said} {rows : Vec RouteRow Global} → table ≡ Some text → read_by (table_of g) text ≡ Ok rows.items → IsRuleOf table g word.Table (rule.Rows rows)
+  tabled : {text : TextValue} {rows : Vec RouteRow Global} → table ≡ Some text → read_by (table_of g) text ≡ Ok rows.items → IsRuleOf table g word.Table (rule.Rows rows)
 
 -- a table file is to be read, and this is why it is not
-pub data RefusesTable (table : Option Said) (g : Grid) : RuleName → Fault → Type 0 where
-  bad_table : {text : Said} {f : InputFault} → table ≡ Some text → IsUnread (table_of g) text f → RefusesTable table g word.Table (fault.Table f)
+pub data RefusesTable (table : Option TextValue) (g : Grid) : RuleName → Fault → Type 0 where
+  bad_table : {text : TextValue} {f : InputFault} → table ≡ Some text → IsUnread (table_of g) text f → RefusesTable table g word.Table (fault.Table f)
 
 -- the routing relation of that rule on that shape, with the channels and the classes of the settings
 pub record AsksForRelation (a : Asked) (s : Settings) (routes : Routes) : Type 0 where

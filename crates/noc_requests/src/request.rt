@@ -1,7 +1,7 @@
 //! What the program is asked for.
 
 ghost use Rattle.std.specs.Prelude.{◌≡◌};
-ghost use Rattle.noc_requests.specs.Asked.{asked_of, files_of, lent, owned, parts};
+ghost use Rattle.noc_requests.specs.Asked.{lent_files, files_of, lent_text, owned_text, parts};
 
 use noc_files::{InputFault, Traced};
 
@@ -73,7 +73,7 @@ pub struct Files<'a> {
 
 /// The texts of a request as they stand.
 pub fn files_of(request: &Request) -> Files<'_>
-    ensures { asked_of result ≡ files_of request.now }
+    ensures { lent_files result ≡ files_of request.now }
 {
     Files {
         config: bytes_of(&request.config),
@@ -84,9 +84,9 @@ pub fn files_of(request: &Request) -> Files<'_>
     }
 }
 
-/// The bytes of a text.
-pub fn bytes_of(text: &Text) -> Bytes<'_>
-    ensures { lent result ≡ owned text.now }
+// The bytes of a text.
+pub(crate) fn bytes_of(text: &Text) -> Bytes<'_>
+    ensures { lent_text result ≡ owned_text text.now }
 {
     match text {
         Ok(bytes) => Ok(bytes.as_slice()),
@@ -96,7 +96,7 @@ pub fn bytes_of(text: &Text) -> Bytes<'_>
 
 /// The two texts of a joined text.
 pub fn parts<'a>(config: &'a [u8], traffic: &'a [u8]) -> Files<'a>
-    ensures { asked_of result ≡ parts config.entry.now traffic.entry.now }
+    ensures { lent_files result ≡ parts config.entry.now traffic.entry.now }
 {
     Files {
         config: Ok(config),

@@ -4,9 +4,9 @@ ghost use Rattle.std.specs.Prelude.{◌≡◌, None, IfErr, IfOk, is_some, optio
 ghost use Rattle.noc_files.specs.Configuration.{config_of, settings, KeepsLimits};
 ghost use Rattle.noc_files.specs.Gives.{Gives};
 ghost use Rattle.noc_files.specs.Table.{table_of};
-ghost use Rattle.noc_requests.specs.Outcome.{Refuses};
-ghost use Rattle.noc_requests.specs.Asked.{asked_of, lent, read_by};
-ghost use Rattle.noc_requests.specs.Options.{cycle_fault, early_fault, first_cycle, is_bad_span, last_cycle, late_fault, packet_fault, router_fault, table_fault};
+ghost use Rattle.noc_requests.specs.Ending.{Refuses};
+ghost use Rattle.noc_requests.specs.Asked.{lent_files, lent_text, read_by};
+ghost use Rattle.noc_requests.specs.Options.{cycle_fault, early_fault, first_cycle, is_bad_span, last_cycle, late_fault, packet_option_fault, router_fault, table_fault};
 ghost use Rattle.noc_requests.specs.Settings.{rule_named, AsksForRelation, AsksForShape, IsRuleOf, RefusesTable, SettingsFault};
 
 use crate::fault::{Fault, OptionFault};
@@ -27,8 +27,8 @@ struct Layout {
 /// table, relation.
 pub fn relation_of(alloc: Global, files: &Files<'_>) -> Result<(Config, Relation), Fault>
     ensures limits { IfOk result (λ r. KeepsLimits r.0) }
-    ensures relation { IfOk result (λ r. AsksForRelation (asked_of files.now) (settings r.0) r.1) }
-    ensures fault { IfErr result (Refuses (SettingsFault (asked_of files.now))) }
+    ensures relation { IfOk result (λ r. AsksForRelation (lent_files files.now) (settings r.0) r.1) }
+    ensures fault { IfErr result (Refuses (SettingsFault (lent_files files.now))) }
 {
     let Layout { config, shape } = layout_of(alloc, files)?;
     let rule = rule_of(alloc, config.rule, files.table, &shape)?;
@@ -41,8 +41,8 @@ pub fn relation_of(alloc: Global, files: &Files<'_>) -> Result<(Config, Relation
 // The configuration and its shape, around which the options are looked at.
 fn layout_of(alloc: Global, files: &Files<'_>) -> Result<Layout, Fault>
     ensures limits { IfOk result (λ r. KeepsLimits r.config) }
-    ensures shape { IfOk result (λ r. AsksForShape (asked_of files.now) (settings r.config) r.shape) }
-    ensures fault { IfErr result (Refuses (SettingsFault (asked_of files.now))) }
+    ensures shape { IfOk result (λ r. AsksForShape (lent_files files.now) (settings r.config) r.shape) }
+    ensures fault { IfErr result (Refuses (SettingsFault (lent_files files.now))) }
 {
     let config = match config_in(alloc, files.config) {
         Ok(config) => config,
@@ -63,7 +63,7 @@ fn layout_of(alloc: Global, files: &Files<'_>) -> Result<Layout, Fault>
 
 // The configuration that a text says.
 fn config_in(alloc: Global, text: Bytes<'_>) -> Result<Config, InputFault>
-    ensures value { Gives settings result (read_by config_of (lent text.entry)) }
+    ensures value { Gives settings result (read_by config_of (lent_text text.entry)) }
     ensures limits { IfOk result KeepsLimits }
 {
     read_config(alloc, text?)
@@ -162,7 +162,7 @@ fn router_fault(shape: &Shape, router: Option<usize>) -> Option<OptionFault>
 
 /// The fault of a packet to be traced that is not among so many.
 pub fn packet_fault(command: Command, packets: usize) -> Option<OptionFault>
-    ensures { result ≡ packet_fault command packets }
+    ensures { result ≡ packet_option_fault command packets }
 {
     let Command::Trace {
         from: _,
@@ -186,8 +186,8 @@ fn rule_of(
     shape: &Shape,
 ) -> Result<Rule, Fault>
     requires { table_fault name (is_some table) ≡ None }
-    ensures rule { IfOk result (IsRuleOf (option_map lent table.entry) shape.now name) }
-    ensures fault { IfErr result (Refuses (RefusesTable (option_map lent table.entry) shape.now name)) }
+    ensures rule { IfOk result (IsRuleOf (option_map lent_text table.entry) shape.now name) }
+    ensures fault { IfErr result (Refuses (RefusesTable (option_map lent_text table.entry) shape.now name)) }
 {
     match (named_rule(name), table) {
         (Some(rule), _) => Ok(rule),
@@ -214,7 +214,7 @@ pub fn named_rule(name: RuleName) -> Option<Rule>
 
 // The rows that a table file says.
 fn rows_in(alloc: Global, shape: &Shape, text: Bytes<'_>) -> Result<Vec<RouteRow>, InputFault>
-    ensures { Gives (λ v. v.items) result (read_by (table_of shape.now) (lent text.entry)) }
+    ensures { Gives (λ v. v.items) result (read_by (table_of shape.now) (lent_text text.entry)) }
 {
     read_table(alloc, shape, text?)
 }

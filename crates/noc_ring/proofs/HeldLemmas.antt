@@ -9,7 +9,7 @@ use Rattle.std.proofs.Math.Nat.{mod-eq_of_lt}
 use Rattle.noc_packet.specs.declared.limits.TheConstants.{INDICES}
 use Rattle.noc_packet.specs.declared.packet.Flit.{Flit}
 use Rattle.noc_ring.specs.declared.bank.Ends.{Ends}
-use Rattle.noc_ring.specs.Rings.{Rings}
+use Rattle.noc_ring.specs.Buffers.{Buffers}
 use Rattle.noc_ring.specs.Slots.{no_ends, slot_of, AreHeld}
 use Rattle.noc_ring.proofs.PlaceLemmas.{apart, next_head, rings_apart}
 use Rattle.noc_ring.proofs.RingLemmas.{IsRing, slot, place-below}
@@ -24,7 +24,7 @@ new-held filled c n ends few is all = record {
 }
 
 -- the slot of the first flit of a ring
-pub front-held : {slots : List Flit} {c many : ℕ} {ends : List Ends} {v : Rings} {r : ℕ} (filled : List Bool) → IsRing slots c many ends v r → AreHeld filled c many ends → 0 < (get_or ends r no_ends).len
+pub front-held : {slots : List Flit} {c many : ℕ} {ends : List Ends} {v : Buffers} {r : ℕ} (filled : List Bool) → IsRing slots c many ends v r → AreHeld filled c many ends → 0 < (get_or ends r no_ends).len
     → get_or filled (r * c + (get_or ends r no_ends).head) false ≡ true
 front-held {c} {ends} {r} filled ring held some =
     let h : ℕ = (get_or ends r no_ends).head in
@@ -52,7 +52,7 @@ held-set filled after c many ends r e held l same_length here others some = reco
         ∙ others q (((get_or ends q no_ends).head + i) % c) other (mod_below ((get_or ends q no_ends).head + i) c some)
         ∙ held.held q i u (omega arith)
 
-pub push-held : {slots : List Flit} {c many : ℕ} {ends : List Ends} {v : Rings} {r : ℕ} (filled : List Bool) → IsRing slots c many ends v r → AreHeld filled c many ends
+pub push-held : {slots : List Flit} {c many : ℕ} {ends : List Ends} {v : Buffers} {r : ℕ} (filled : List Bool) → IsRing slots c many ends v r → AreHeld filled c many ends
     → (p : ℕ) → (get_or ends r no_ends).len < c → p ≡ ((get_or ends r no_ends).head + (get_or ends r no_ends).len) % c
     → AreHeld (set filled (r * c + p) true) c many (set ends r (record { head = (get_or ends r no_ends).head; len = (get_or ends r no_ends).len + 1 }))
 push-held {slots} {c} {many} {ends} {v} {r} filled ring held p room place =
@@ -78,7 +78,7 @@ push-held {slots} {c} {many} {ends} {v} {r} filled ring held p room place =
     at i (inl same) l = ap (λ k. get_or (set filled (r * c + p) true) k false) same ∙ get_or-set_same filled (r * c + p) true false (omega (arith, slot ring p below, held.whole, ring.is_bank.whole))
     at i (inr other) l = get_or-set_other filled (r * c + p) (r * c + (h + i) % c) true false other ∙ held.held r i ring.inside (earlier i l (cases_eq i n) other)
 
-pub pop-held : {slots : List Flit} {c many : ℕ} {ends : List Ends} {v : Rings} {r : ℕ} (filled : List Bool) → IsRing slots c many ends v r → AreHeld filled c many ends
+pub pop-held : {slots : List Flit} {c many : ℕ} {ends : List Ends} {v : Buffers} {r : ℕ} (filled : List Bool) → IsRing slots c many ends v r → AreHeld filled c many ends
     → (p : ℕ) → 0 < (get_or ends r no_ends).len → p ≡ ((get_or ends r no_ends).head + 1) % c
     → AreHeld (set filled (r * c + (get_or ends r no_ends).head) false) c many (set ends r (record { head = p; len = (get_or ends r no_ends).len - 1 }))
 pop-held {slots} {c} {many} {ends} {v} {r} filled ring held p some place =

@@ -11,8 +11,8 @@ use Rattle.std.proofs.Math.Nat.{mod-eq_of_lt}
 use Rattle.noc_packet.specs.declared.limits.TheConstants.{INDICES, MAX_BUFFER}
 use Rattle.noc_packet.specs.declared.packet.Flit.{Flit}
 use Rattle.noc_ring.specs.declared.bank.Ends.{Ends}
-use Rattle.noc_ring.specs.Rings.{Rings, ring_at, pushed, popped, empty_rings}
-use Rattle.noc_ring.specs.Slots.{blank, no_ends, flit_in, ring_in, ring_of, rings_of, IsBank}
+use Rattle.noc_ring.specs.Buffers.{Buffers, buffer_at, buffers_after_push, buffers_after_pop, empty_buffers}
+use Rattle.noc_ring.specs.Slots.{blank, no_ends, flit_in, flits_in_slots, flits_of_ring, rings_of, IsBank}
 use Rattle.noc_ring.proofs.PlaceLemmas.{apart, next_head, rings_apart, in_slots}
 
 -- two functions that agree below n give one list
@@ -26,12 +26,12 @@ map-same d f g a b n same =
     ∙ sym (get_or-map-range_with_len g b n i (b + i) d u refl))
 
 -- ---- one ring
-pub length-ring_in : (slots : List Flit) (base c h n : ℕ) → length (ring_in slots base c h n) ≡ n
+pub length-ring_in : (slots : List Flit) (base c h n : ℕ) → length (flits_in_slots slots base c h n) ≡ n
 length-ring_in slots base c h n = length-map-range_with_len (flit_in slots base c h) 0 n
 
 -- a flit that is written behind the last one
 pub ring_in-push : (slots : List Flit) (base c h n : ℕ) (flit : Flit) → h < c → n < c → base + (h + n) % c < length slots
-    → ring_in (set slots (base + (h + n) % c) flit) base c h (n + 1) ≡ ring_in slots base c h n ++ flit ∷ []
+    → flits_in_slots (set slots (base + (h + n) % c) flit) base c h (n + 1) ≡ flits_in_slots slots base c h n ++ flit ∷ []
 ring_in-push slots base c h n flit l u fits =
     let to : ℕ = base + (h + n) % c in
     map-range_with_len_more (flit_in (set slots (base + (h + n) % c) flit) base c h) 0 n n (omega arith)
@@ -43,7 +43,7 @@ ring_in-push slots base c h n flit l u fits =
 
 -- the ring from its next flit on
 pub ring_in-pop : (slots : List Flit) (base c h n : ℕ) → h < c → 0 < n → n ≤ c
-    → ring_in slots base c h n ≡ get_or slots (base + h) blank ∷ ring_in slots base c ((h + 1) % c) (n - 1)
+    → flits_in_slots slots base c h n ≡ get_or slots (base + h) blank ∷ flits_in_slots slots base c ((h + 1) % c) (n - 1)
 ring_in-pop slots base c h zero l some u = absurd (omega arith)
 ring_in-pop slots base c h (suc n) l some u =
     let less : suc n - 1 ≡ n = omega arith in
@@ -59,7 +59,7 @@ ring_in-pop slots base c h (suc n) l some u =
 
 -- a ring none of whose slots is written
 pub ring_in-other : (slots : List Flit) (q r c h n p : ℕ) (flit : Flit) → q ≢ r → p < c
-    → ring_in (set slots (r * c + p) flit) (q * c) c h n ≡ ring_in slots (q * c) c h n
+    → flits_in_slots (set slots (r * c + p) flit) (q * c) c h n ≡ flits_in_slots slots (q * c) c h n
 ring_in-other slots q r c h n p flit other l =
     map-same blank (flit_in (set slots (r * c + p) flit) (q * c) c h) (flit_in slots (q * c) c h) 0 0 n
     (λ i v. get_or-set_other slots (r * c + p) (q * c + (h + (0 + i)) % c) flit blank
@@ -67,15 +67,15 @@ ring_in-other slots q r c h n p flit other l =
 
 -- ---- all rings
 pub length-rings_of : (slots : List Flit) (c many : ℕ) (ends : List Ends) → length (rings_of slots c many ends) ≡ many
-length-rings_of slots c many ends = length-map-range_with_len (ring_of slots c ends) 0 many
+length-rings_of slots c many ends = length-map-range_with_len (flits_of_ring slots c ends) 0 many
 
-pub get_or-rings_of : (slots : List Flit) (c many : ℕ) (ends : List Ends) (r : ℕ) → r < many → get_or (rings_of slots c many ends) r [] ≡ ring_of slots c ends r
-get_or-rings_of slots c many ends r l = get_or-map-range_with_len (ring_of slots c ends) 0 many r r [] l (omega arith)
+pub get_or-rings_of : (slots : List Flit) (c many : ℕ) (ends : List Ends) (r : ℕ) → r < many → get_or (rings_of slots c many ends) r [] ≡ flits_of_ring slots c ends r
+get_or-rings_of slots c many ends r l = get_or-map-range_with_len (flits_of_ring slots c ends) 0 many r r [] l (omega arith)
 
 -- where ring r alone has changed
 pub rings_of-set : (slots after : List Flit) (c many : ℕ) (ends : List Ends) (r : ℕ) (e : Ends) (ring : List Flit) → r < many → many ≤ length ends
-    → ring_in after (r * c) c e.head e.len ≡ ring
-    → ((q : ℕ) → q < many → q ≢ r → ring_of after c ends q ≡ ring_of slots c ends q)
+    → flits_in_slots after (r * c) c e.head e.len ≡ ring
+    → ((q : ℕ) → q < many → q ≢ r → flits_of_ring after c ends q ≡ flits_of_ring slots c ends q)
     → rings_of after c many (set ends r e) ≡ set (rings_of slots c many ends) r ring
 rings_of-set slots after c many ends r e ring l all here others =
     let m : length (rings_of after c many (set ends r e)) ≡ many = length-rings_of after c many (set ends r e) in
@@ -84,23 +84,23 @@ rings_of-set slots after c many ends r e ring l all here others =
     ext_get_or [] (rings_of after c many (set ends r e)) (set (rings_of slots c many ends) r ring) (m ∙ sym j ∙ sym k)
     (λ q u. get_or-rings_of after c many (set ends r e) q (omega arith) ∙ at q (omega arith) (cases_eq q r))
   where
-    at : (q : ℕ) → q < many → (q ≡ r) ⊎ (q ≡ r → ⊥) → ring_of after c (set ends r e) q ≡ get_or (set (rings_of slots c many ends) r ring) q []
+    at : (q : ℕ) → q < many → (q ≡ r) ⊎ (q ≡ r → ⊥) → flits_of_ring after c (set ends r e) q ≡ get_or (set (rings_of slots c many ends) r ring) q []
     at q u (inl same) =
         let j : length (rings_of slots c many ends) ≡ many = length-rings_of slots c many ends in
         let ours : get_or (set ends r e) q no_ends ≡ e = ap (λ i. get_or (set ends r e) i no_ends) same ∙ get_or-set_same ends r e no_ends (omega arith) in
-        ap (λ (x : Ends). ring_in after (q * c) c x.head x.len) ours
-        ∙ ap (λ i. ring_in after (i * c) c e.head e.len) same
+        ap (λ (x : Ends). flits_in_slots after (q * c) c x.head x.len) ours
+        ∙ ap (λ i. flits_in_slots after (i * c) c e.head e.len) same
         ∙ here
         ∙ sym (ap (λ i. get_or (set (rings_of slots c many ends) r ring) i []) same ∙ get_or-set_same (rings_of slots c many ends) r ring [] (omega arith))
     at q u (inr other) =
-        ap (λ (x : Ends). ring_in after (q * c) c x.head x.len) (get_or-set_other ends r q e no_ends other)
+        ap (λ (x : Ends). flits_in_slots after (q * c) c x.head x.len) (get_or-set_other ends r q e no_ends other)
         ∙ others q u other
         ∙ sym (get_or-set_other (rings_of slots c many ends) r q ring [] other ∙ get_or-rings_of slots c many ends q u)
 
 pub rings_of-push : (slots : List Flit) (c many : ℕ) (ends : List Ends) (r : ℕ) (flit : Flit) → IsBank slots c many ends → r < many
     → (get_or ends r no_ends).len < c
     → rings_of (set slots (r * c + ((get_or ends r no_ends).head + (get_or ends r no_ends).len) % c) flit) c many (set ends r (record { head = (get_or ends r no_ends).head; len = (get_or ends r no_ends).len + 1 }))
-    ≡ set (rings_of slots c many ends) r (ring_of slots c ends r ++ flit ∷ [])
+    ≡ set (rings_of slots c many ends) r (flits_of_ring slots c ends r ++ flit ∷ [])
 rings_of-push slots c many ends r flit bank l room =
     let h : ℕ = (get_or ends r no_ends).head in
     let n : ℕ = (get_or ends r no_ends).len in
@@ -108,43 +108,43 @@ rings_of-push slots c many ends r flit bank l room =
     let head : h < c = bank.heads r l in
     let low : (h + n) % c < c = mod_below (h + n) c bank.some in
     let fits : r * c + p < length slots = omega (arith, bank.whole, in_slots r many c p l low) in
-    rings_of-set slots (set slots (r * c + p) flit) c many ends r (record { head = h; len = n + 1 }) (ring_of slots c ends r ++ flit ∷ []) l (omega (arith, bank.rings, bank.table))
+    rings_of-set slots (set slots (r * c + p) flit) c many ends r (record { head = h; len = n + 1 }) (flits_of_ring slots c ends r ++ flit ∷ []) l (omega (arith, bank.rings, bank.table))
     (ring_in-push slots (r * c) c h n flit head room fits)
     (λ q u other. ring_in-other slots q r c _ _ p flit other low)
 
 pub rings_of-pop : (slots : List Flit) (c many : ℕ) (ends : List Ends) (r : ℕ) → IsBank slots c many ends → r < many
     → 0 < (get_or ends r no_ends).len
     → rings_of slots c many (set ends r (record { head = ((get_or ends r no_ends).head + 1) % c; len = (get_or ends r no_ends).len - 1 }))
-    ≡ set (rings_of slots c many ends) r (drop 1 (ring_of slots c ends r))
+    ≡ set (rings_of slots c many ends) r (drop 1 (flits_of_ring slots c ends r))
 rings_of-pop slots c many ends r bank l some =
     let h : ℕ = (get_or ends r no_ends).head in
     let n : ℕ = (get_or ends r no_ends).len in
-    rings_of-set slots slots c many ends r (record { head = (h + 1) % c; len = n - 1 }) (drop 1 (ring_of slots c ends r)) l (omega (arith, bank.rings, bank.table))
+    rings_of-set slots slots c many ends r (record { head = (h + 1) % c; len = n - 1 }) (drop 1 (flits_of_ring slots c ends r)) l (omega (arith, bank.rings, bank.table))
     (sym (ap (drop 1) (ring_in-pop slots (r * c) c h n (bank.heads r l) some (bank.lens r l))))
     (λ q u other. refl)
 
 -- ---- a bank, seen as its rings
-abbrev pub bank_of : List Flit → ℕ → ℕ → List Ends → Rings
+abbrev pub bank_of : List Flit → ℕ → ℕ → List Ends → Buffers
 bank_of slots c many ends = record { rings = rings_of slots c many ends; capacity = c }
 
 -- what is known of ring r of a bank
-pub record IsRing (slots : List Flit) (c many : ℕ) (ends : List Ends) (v : Rings) (r : ℕ) : Type 0 where
+pub record IsRing (slots : List Flit) (c many : ℕ) (ends : List Ends) (v : Buffers) (r : ℕ) : Type 0 where
   pub is_view : bank_of slots c many ends ≡ v
   pub is_bank : IsBank slots c many ends
   pub inside : r < many
   pub listed : r < INDICES
   pub head_below : (get_or ends r no_ends).head < c
   pub len_within : (get_or ends r no_ends).len ≤ c
-  pub count : length (ring_at v r) ≡ (get_or ends r no_ends).len
+  pub count : length (buffer_at v r) ≡ (get_or ends r no_ends).len
   pub capacity : v.capacity ≡ c
   pub few_slots : length slots ≤ INDICES * MAX_BUFFER
 
-ring_at-is : (slots : List Flit) (c many : ℕ) (ends : List Ends) (v : Rings) (r : ℕ) → bank_of slots c many ends ≡ v → r < many → ring_at v r ≡ ring_of slots c ends r
-ring_at-is slots c many ends v r is l = ap (λ (w : Rings). ring_at w r) (sym is) ∙ get_or-rings_of slots c many ends r l
+ring_at-is : (slots : List Flit) (c many : ℕ) (ends : List Ends) (v : Buffers) (r : ℕ) → bank_of slots c many ends ≡ v → r < many → buffer_at v r ≡ flits_of_ring slots c ends r
+ring_at-is slots c many ends v r is l = ap (λ (w : Buffers). buffer_at w r) (sym is) ∙ get_or-rings_of slots c many ends r l
 
-pub ring-known : {slots : List Flit} {c many : ℕ} {ends : List Ends} {v : Rings} {r : ℕ} → IsBank slots c many ends → bank_of slots c many ends ≡ v → r < length v.rings → IsRing slots c many ends v r
+pub ring-known : {slots : List Flit} {c many : ℕ} {ends : List Ends} {v : Buffers} {r : ℕ} → IsBank slots c many ends → bank_of slots c many ends ≡ v → r < length v.rings → IsRing slots c many ends v r
 ring-known {slots} {c} {many} {ends} {v} {r} bank is l =
-    let n : length (rings_of slots c many ends) ≡ length v.rings = ap (λ (w : Rings). length w.rings) is in
+    let n : length (rings_of slots c many ends) ≡ length v.rings = ap (λ (w : Buffers). length w.rings) is in
     let inside : r < many = omega (arith, length-rings_of slots c many ends) in
     let few : many * c ≤ INDICES * MAX_BUFFER = mul-le many c INDICES MAX_BUFFER bank.rings bank.small in
     record {
@@ -155,64 +155,64 @@ ring-known {slots} {c} {many} {ends} {v} {r} bank is l =
       head_below = bank.heads r inside;
       len_within = bank.lens r inside;
       count = ap length (ring_at-is slots c many ends v r is inside) ∙ length-ring_in slots (r * c) c _ _;
-      capacity = ap (λ (w : Rings). w.capacity) (sym is);
+      capacity = ap (λ (w : Buffers). w.capacity) (sym is);
       few_slots = omega (arith, bank.whole);
     }
 
 -- a place of the ring is one of the slots
-pub slot : {slots : List Flit} {c many : ℕ} {ends : List Ends} {v : Rings} {r : ℕ} → IsRing slots c many ends v r → (p : ℕ) → p < c → r * c + p < length slots
+pub slot : {slots : List Flit} {c many : ℕ} {ends : List Ends} {v : Buffers} {r : ℕ} → IsRing slots c many ends v r → (p : ℕ) → p < c → r * c + p < length slots
 slot {c} {many} {r} ring p u = omega (arith, ring.is_bank.whole, in_slots r many c p ring.inside u)
 
 -- what a place becomes once it is wrapped
-pub place-below : {slots : List Flit} {c many : ℕ} {ends : List Ends} {v : Rings} {r : ℕ} → IsRing slots c many ends v r → (p n : ℕ) → p ≡ n % c → p < c
+pub place-below : {slots : List Flit} {c many : ℕ} {ends : List Ends} {v : Buffers} {r : ℕ} → IsRing slots c many ends v r → (p n : ℕ) → p ≡ n % c → p < c
 place-below {c} ring p n is = let low : n % c < c = mod_below n c ring.is_bank.some in omega arith
 
 -- ---- after a push and a pop
-pub pushed-is : {slots : List Flit} {c many : ℕ} {ends : List Ends} {v : Rings} {r : ℕ} → IsRing slots c many ends v r → (p : ℕ) (flit : Flit) → (get_or ends r no_ends).len < c
+pub pushed-is : {slots : List Flit} {c many : ℕ} {ends : List Ends} {v : Buffers} {r : ℕ} → IsRing slots c many ends v r → (p : ℕ) (flit : Flit) → (get_or ends r no_ends).len < c
     → p ≡ ((get_or ends r no_ends).head + (get_or ends r no_ends).len) % c
-    → bank_of (set slots (r * c + p) flit) c many (set ends r (record { head = (get_or ends r no_ends).head; len = (get_or ends r no_ends).len + 1 })) ≡ pushed v r flit
+    → bank_of (set slots (r * c + p) flit) c many (set ends r (record { head = (get_or ends r no_ends).head; len = (get_or ends r no_ends).len + 1 })) ≡ buffers_after_push v r flit
 pushed-is {slots} {c} {many} {ends} {v} {r} ring p flit room place =
     ap (λ k. bank_of (set slots (r * c + k) flit) c many (set ends r (record { head = (get_or ends r no_ends).head; len = (get_or ends r no_ends).len + 1 }))) place
-    ∙ ap (λ (rs : List (List Flit)). let w : Rings = record { rings = rs; capacity = c } in w)
+    ∙ ap (λ (rs : List (List Flit)). let w : Buffers = record { rings = rs; capacity = c } in w)
     (rings_of-push slots c many ends r flit ring.is_bank ring.inside room
     ∙ ap (λ xs. set (rings_of slots c many ends) r (xs ++ flit ∷ [])) (sym (get_or-rings_of slots c many ends r ring.inside)))
-    ∙ ap (λ (w : Rings). pushed w r flit) ring.is_view
+    ∙ ap (λ (w : Buffers). buffers_after_push w r flit) ring.is_view
 
-pub popped-is : {slots : List Flit} {c many : ℕ} {ends : List Ends} {v : Rings} {r : ℕ} → IsRing slots c many ends v r → (h : ℕ) → 0 < (get_or ends r no_ends).len → h ≡ ((get_or ends r no_ends).head + 1) % c
-    → bank_of slots c many (set ends r (record { head = h; len = (get_or ends r no_ends).len - 1 })) ≡ popped v r
+pub popped-is : {slots : List Flit} {c many : ℕ} {ends : List Ends} {v : Buffers} {r : ℕ} → IsRing slots c many ends v r → (h : ℕ) → 0 < (get_or ends r no_ends).len → h ≡ ((get_or ends r no_ends).head + 1) % c
+    → bank_of slots c many (set ends r (record { head = h; len = (get_or ends r no_ends).len - 1 })) ≡ buffers_after_pop v r
 popped-is {slots} {c} {many} {ends} {v} {r} ring h some place =
     ap (λ k. bank_of slots c many (set ends r (record { head = k; len = (get_or ends r no_ends).len - 1 }))) place
-    ∙ ap (λ (rs : List (List Flit)). let w : Rings = record { rings = rs; capacity = c } in w)
+    ∙ ap (λ (rs : List (List Flit)). let w : Buffers = record { rings = rs; capacity = c } in w)
     (rings_of-pop slots c many ends r ring.is_bank ring.inside some
     ∙ ap (λ xs. set (rings_of slots c many ends) r (drop 1 xs)) (sym (get_or-rings_of slots c many ends r ring.inside)))
-    ∙ ap (λ (w : Rings). popped w r) ring.is_view
+    ∙ ap (λ (w : Buffers). buffers_after_pop w r) ring.is_view
 
 -- the first flit of a ring, as it was read
-pub front-is : {slots : List Flit} {c many : ℕ} {ends : List Ends} {v : Rings} {r : ℕ} → IsRing slots c many ends v r → (flit : Flit) → 0 < (get_or ends r no_ends).len
-    → flit ≡ get_or slots (r * c + (get_or ends r no_ends).head) flit → ring_at v r ≡ flit ∷ drop 1 (ring_at v r)
+pub front-is : {slots : List Flit} {c many : ℕ} {ends : List Ends} {v : Buffers} {r : ℕ} → IsRing slots c many ends v r → (flit : Flit) → 0 < (get_or ends r no_ends).len
+    → flit ≡ get_or slots (r * c + (get_or ends r no_ends).head) flit → buffer_at v r ≡ flit ∷ drop 1 (buffer_at v r)
 front-is {slots} {c} {many} {ends} {v} {r} ring flit some was =
     let h : ℕ = (get_or ends r no_ends).head in
     let n : ℕ = (get_or ends r no_ends).len in
-    let whole : ring_at v r ≡ ring_of slots c ends r = ring_at-is slots c many ends v r ring.is_view ring.inside in
+    let whole : buffer_at v r ≡ flits_of_ring slots c ends r = ring_at-is slots c many ends v r ring.is_view ring.inside in
     let parts = ring_in-pop slots (r * c) c h n ring.head_below some ring.len_within in
     whole ∙ parts
-    ∙ ap (λ x. x ∷ ring_in slots (r * c) c ((h + 1) % c) (n - 1)) (sym (get_or_read slots (r * c + h) flit (slot ring h ring.head_below) was blank))
+    ∙ ap (λ x. x ∷ flits_in_slots slots (r * c) c ((h + 1) % c) (n - 1)) (sym (get_or_read slots (r * c + h) flit (slot ring h ring.head_below) was blank))
     ∙ ap (λ xs. flit ∷ xs) (sym (ap (drop 1) (whole ∙ parts)))
 
 -- the ring that is left after a pop
-pub ring_at-popped : (v : Rings) (r : ℕ) → r < length v.rings → ring_at (popped v r) r ≡ drop 1 (ring_at v r)
-ring_at-popped v r l = get_or-set_same v.rings r (drop 1 (ring_at v r)) [] l
+pub ring_at-popped : (v : Buffers) (r : ℕ) → r < length v.rings → buffer_at (buffers_after_pop v r) r ≡ drop 1 (buffer_at v r)
+ring_at-popped v r l = get_or-set_same v.rings r (drop 1 (buffer_at v r)) [] l
 
 -- ---- a new bank
-pub new-is : (n c : ℕ) (ends : List Ends) (slots : List Flit) → n ≤ INDICES → ends ≡ replicate INDICES no_ends → bank_of slots c n ends ≡ empty_rings n c
+pub new-is : (n c : ℕ) (ends : List Ends) (slots : List Flit) → n ≤ INDICES → ends ≡ replicate INDICES no_ends → bank_of slots c n ends ≡ empty_buffers n c
 new-is n c ends slots few is =
     let k : length (rings_of slots c n ends) ≡ n = length-rings_of slots c n ends in
     let j : length (replicate n (let none : List Flit = [] in none)) ≡ n = length-replicate n (let none : List Flit = [] in none) in
-    ap (λ (rs : List (List Flit)). let w : Rings = record { rings = rs; capacity = c } in w)
+    ap (λ (rs : List (List Flit)). let w : Buffers = record { rings = rs; capacity = c } in w)
     (ext_get_or [] (rings_of slots c n ends) (replicate n []) (k ∙ sym j)
     (λ r l. let u : r < n = omega arith in
     get_or-rings_of slots c n ends r u
-    ∙ ap (λ (x : Ends). ring_in slots (r * c) c x.head x.len) (ap (λ es. get_or es r no_ends) is ∙ get_or-replicate INDICES r no_ends no_ends (omega arith))
+    ∙ ap (λ (x : Ends). flits_in_slots slots (r * c) c x.head x.len) (ap (λ es. get_or es r no_ends) is ∙ get_or-replicate INDICES r no_ends no_ends (omega arith))
     ∙ sym (get_or-replicate n r [] [] u)))
 
 pub new-fits : (n c : ℕ) (ends : List Ends) (slots : List Flit) → n ≤ INDICES → 0 < c → c ≤ MAX_BUFFER → ends ≡ replicate INDICES no_ends → length slots ≡ n * c → IsBank slots c n ends

@@ -5,14 +5,14 @@
 
 ghost use Rattle.std.specs.Prelude.{◌≡◌, ◌+◌, ◌*◌, ◌%◌, ◌<◌, ◌≤◌, nat_le, length, IfOk, ◌∷◌};
 ghost use Rattle.std.specs.List.{slice_get};
-ghost use Rattle.noc_ring.specs.Rings.{empty_rings, ring_at, pushed, popped};
+ghost use Rattle.noc_ring.specs.Buffers.{empty_buffers, buffer_at, buffers_after_push, buffers_after_pop};
 
 use crate::store::Store;
 use noc_packet::{Flit, INDICES, MAX_BUFFER, Memory};
 use std::alloc::Global;
 use std::marker::Model;
 
-/// Where a ring begins in its slots, and how many flits it has.
+// Where a ring begins in its slots, and how many flits it has.
 #[derive(Clone, Copy, Debug)]
 struct Ends {
     head: u8,
@@ -29,9 +29,9 @@ pub struct Bank {
 }
 
 impl Model for Bank {
-    ghost use Rattle.noc_ring.specs.Rings.{Rings};
+    ghost use Rattle.noc_ring.specs.Buffers.{Buffers};
 
-    ghost Value = { Rings };
+    ghost Value = { Buffers };
 
     ghost use Rattle.noc_ring.specs.Slots.{rings_of, IsBank, AreHeld};
 
@@ -40,7 +40,7 @@ impl Model for Bank {
     ghost invariant = { λ b. IsBank b.store.flits b.capacity b.rings b.ends × AreHeld b.store.filled b.capacity b.rings b.ends };
 }
 
-/// The place in a ring, for a place that may be past the ring's end once.
+// The place in a ring, for a place that may be past the ring's end once.
 fn wrapped(place: usize, capacity: usize) -> usize
     requires { place < capacity + capacity }
     ensures { result ≡ place % capacity }
@@ -59,7 +59,7 @@ impl Bank {
         requires rings { rings ≤ INDICES }
         requires some_place { 0 < capacity }
         requires capacity { capacity ≤ MAX_BUFFER }
-        ensures { IfOk result (λ b. b ≡ empty_rings rings capacity) }
+        ensures { IfOk result (λ b. b ≡ empty_buffers rings capacity) }
     {
         Ok(Bank {
             store: Store::new(alloc, rings * capacity)?,
@@ -72,7 +72,7 @@ impl Bank {
     /// How many flits the ring has.
     pub fn len(&self, ring: usize) -> usize
         requires { ring < length self.now.rings }
-        ensures count { result ≡ length (ring_at self.now ring) }
+        ensures count { result ≡ length (buffer_at self.now ring) }
         ensures fits { result ≤ self.now.capacity }
     {
         let ends = &self.ends;
@@ -82,7 +82,7 @@ impl Bank {
     /// Whether the ring has no place left.
     pub fn is_full(&self, ring: usize) -> bool
         requires { ring < length self.now.rings }
-        ensures { result ≡ nat_le self.now.capacity (length (ring_at self.now ring)) }
+        ensures { result ≡ nat_le self.now.capacity (length (buffer_at self.now ring)) }
     {
         self.capacity <= self.ends[ring].len as usize
     }
@@ -90,7 +90,7 @@ impl Bank {
     /// The flit that `pop` would give, or None where the ring is empty.
     pub fn front(&self, ring: usize) -> Option<Flit>
         requires { ring < length self.now.rings }
-        ensures { result ≡ slice_get (ring_at self.now ring) 0 }
+        ensures { result ≡ slice_get (buffer_at self.now ring) 0 }
     {
         let capacity = self.capacity;
         let ends = self.ends[ring];
@@ -103,8 +103,8 @@ impl Bank {
     /// Puts a flit behind those of the ring, which is not full.
     pub fn push(&mut self, ring: usize, flit: Flit)
         requires ring { ring < length self.old.rings }
-        requires room { length (ring_at self.old ring) < self.old.capacity }
-        ensures { self.new ≡ pushed self.old ring flit }
+        requires room { length (buffer_at self.old ring) < self.old.capacity }
+        ensures { self.new ≡ buffers_after_push self.old ring flit }
     {
         let capacity = self.capacity;
         let ends = self.ends[ring];
@@ -119,9 +119,9 @@ impl Bank {
     /// Takes the first flit of the ring, which is not empty.
     pub fn pop(&mut self, ring: usize) -> Flit
         requires ring { ring < length self.old.rings }
-        requires some { 0 < length (ring_at self.old ring) }
-        ensures first { ring_at self.old ring ≡ result ∷ ring_at self.new ring }
-        ensures rest { self.new ≡ popped self.old ring }
+        requires some { 0 < length (buffer_at self.old ring) }
+        ensures first { buffer_at self.old ring ≡ result ∷ buffer_at self.new ring }
+        ensures rest { self.new ≡ buffers_after_pop self.old ring }
     {
         let capacity = self.capacity;
         let ends = self.ends[ring];

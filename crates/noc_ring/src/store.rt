@@ -20,7 +20,7 @@ use std::alloc::Global;
 use std::fmt;
 use std::marker::{Model, Send, Sync};
 
-/// A flit for the list below alone: nothing puts it into a bank.
+// A flit for the list below alone: nothing puts it into a bank.
 const BLANK: Flit = Flit {
     packet: 0,
     index: 0,
@@ -29,13 +29,13 @@ const BLANK: Flit = Flit {
     class: 0,
 };
 
-/// The most places of a bank.
+// The most places of a bank.
 const MOST: usize = INDICES * MAX_BUFFER;
 
-/// `reserve` takes the number of places from the length of a list, and reads nothing else of it.
+// `reserve` takes the number of places from the length of a list, and reads nothing else of it.
 static AS_MANY: [Flit; MOST] = [BLANK; MOST];
 
-/// One block of memory for flits, and the right to free it.
+// One block of memory for flits, and the right to free it.
 struct Block {
     slots: Slots<Flit>,
     lease: Lease<Flit, Global>,

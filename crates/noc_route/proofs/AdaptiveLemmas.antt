@@ -3,7 +3,7 @@ use Rattle.std.proofs.Common.{◌≡◌, ◌≢◌, ℕ, ◌+◌, ◌-◌, ◌/�
 use Rattle.std.specs.Prelude.{◌⊎◌, ◌&&◌, not, nat_eq, nat_lt, nat_le, if◌then◌else◌}
 use Rattle.std.proofs.lemmas.Bool.{cases_lt, eq-eqb, ne_eqb, ltb-true, and_parts, false≢true}
 use Rattle.noc_packet.specs.declared.limits.TheConstants.{MAX_CHANNELS, MAX_CLASSES}
-use Rattle.noc_topo.specs.Shape.{Grid, IsGrid, coordinates, padded, nodes, local_port, is_plus}
+use Rattle.noc_topo.specs.Shape.{Grid, IsGrid, coordinates, three_coordinates, nodes, local_port, is_plus}
 use Rattle.noc_topo.proofs.ShapeLemmas.{length-coordinates}
 use Rattle.noc_topo.proofs.LinkLemmas.{AreRadices-from_test, AreRadices-at, get_or-padded, get_or-past, corner-at, IsWithin-at, IsWithin-coordinates}
 use Rattle.noc_route.specs.Relation.{goes_up, is_nearer, is_right, escapes}
@@ -54,8 +54,8 @@ NearerHop-adaptive g r p t sound l e =
 abbrev pub is_along : Bool → ℕ → ℕ → ℕ → ℕ → Bool
 is_along wraps k x t port = not (nat_eq x t) && (if goes_up wraps k x t then is_plus port else not (is_plus port))
 
-pub nearer-padded : (g : Grid) (here there last : List ℕ) (r t port : ℕ) → IsGrid g → here ≡ padded (coordinates g.radix r) → there ≡ padded (coordinates g.radix t)
-    → last ≡ padded (coordinates g.radix (nodes g - 1)) → port < 6
+pub nearer-padded : (g : Grid) (here there last : List ℕ) (r t port : ℕ) → IsGrid g → here ≡ three_coordinates (coordinates g.radix r) → there ≡ three_coordinates (coordinates g.radix t)
+    → last ≡ three_coordinates (coordinates g.radix (nodes g - 1)) → port < 6
     → is_nearer g (coordinates g.radix r) (coordinates g.radix t) port ≡ is_along g.wraps (get_or last (port / 2) 0 + 1) (get_or here (port / 2) 0) (get_or there (port / 2) 0) port
 nearer-padded g here there last r t port sound e f h few = at (cases_lt (port / 2) (length g.radix))
   where
@@ -80,8 +80,8 @@ nearer-padded g here there last r t port sound e f h few = at (cases_lt (port / 
         rw (at_here, at_there, x, y) refl
 
 -- where the router and the destination differ in the dimension of the port
-pub nearer-found : (g : Grid) (here there last : List ℕ) (r t port : ℕ) (b : Bool) → IsGrid g → here ≡ padded (coordinates g.radix r) → there ≡ padded (coordinates g.radix t)
-    → last ≡ padded (coordinates g.radix (nodes g - 1)) → port < 6 → get_or here (port / 2) 0 ≢ get_or there (port / 2) 0
+pub nearer-found : (g : Grid) (here there last : List ℕ) (r t port : ℕ) (b : Bool) → IsGrid g → here ≡ three_coordinates (coordinates g.radix r) → there ≡ three_coordinates (coordinates g.radix t)
+    → last ≡ three_coordinates (coordinates g.radix (nodes g - 1)) → port < 6 → get_or here (port / 2) 0 ≢ get_or there (port / 2) 0
     → goes_up g.wraps (get_or last (port / 2) 0 + 1) (get_or here (port / 2) 0) (get_or there (port / 2) 0) ≡ b
     → (if b then is_plus port else not (is_plus port)) ≡ is_nearer g (coordinates g.radix r) (coordinates g.radix t) port
 nearer-found g here there last r t port b sound e f h few differ way =

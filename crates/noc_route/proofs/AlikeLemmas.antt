@@ -5,7 +5,7 @@ use Rattle.std.specs.declared.alloc.Global.{Global}
 use Rattle.noc_topo.specs.Shape.{Grid, local_port}
 use Rattle.noc_route.specs.Built.{IsRelationOfRule, routing_of}
 use Rattle.noc_route.specs.Channel.{Channel, Link, Inject, Eject, arrival_of, channel_vc}
-use Rattle.noc_route.specs.Relation.{is_right, leads, has_row, rule_at, rule_has, rows_of, row_fault, IsReached, injected, led_on, IsPermitted, IsNoWay, IsFirstRow, IsFirstFault, IsFaultOf}
+use Rattle.noc_route.specs.Relation.{is_right, leads, has_route_row, rule_offers, rule_has, table_rows_of, row_fault, IsReached, injected, led_on, IsPermitted, IsNoWay, IsFirstRow, IsFirstFault, IsFaultOf}
 use Rattle.noc_route.specs.Routes.{Routes}
 use Rattle.noc_route.specs.declared.rule.Entry.{Entry}
 use Rattle.noc_route.specs.declared.rule.RouteRow.{RouteRow}
@@ -17,13 +17,13 @@ use Rattle.noc_route.specs.declared.rule.Rule.TheVariants.{Rows}
 -- two rules that are right alike, have the same rows, and lead alike
 pub record AreAlike (grid : Grid) (vcs classes : ℕ) (r s : Rule) : Type 0 where
   pub right : is_right grid vcs classes r ≡ is_right grid vcs classes s
-  pub rows : rows_of r ≡ rows_of s
+  pub rows : table_rows_of r ≡ table_rows_of s
   pub lead : (m : ℕ) (place : ℕ × ℕ) (v t p w : ℕ) → leads (routing_of grid vcs classes r) m place v t p w ≡ leads (routing_of grid vcs classes s) m place v t p w
 
 pub AreAlike-same : (grid : Grid) (vcs classes : ℕ) (r s : Rule) → r ≡ s → AreAlike grid vcs classes r s
 AreAlike-same grid vcs classes r s e = record {
   right = ap (is_right grid vcs classes) e;
-  rows = ap rows_of e;
+  rows = ap table_rows_of e;
   lead = λ m place v t p w. ap (λ x. leads (routing_of grid vcs classes x) m place v t p w) e;
 }
 
@@ -31,7 +31,7 @@ pub AreAlike-rows : (grid : Grid) (vcs classes : ℕ) (r s : Vec RouteRow Global
 AreAlike-rows grid vcs classes r s e = record {
   right = refl;
   rows = e;
-  lead = λ m place v t p w. ap (λ (rows : List RouteRow). has_row rows m place v t p w) e;
+  lead = λ m place v t p w. ap (λ (rows : List RouteRow). has_route_row rows m place v t p w) e;
 }
 
 pub AreAlike-turned : (grid : Grid) (vcs classes : ℕ) (r s : Rule) → AreAlike grid vcs classes r s → AreAlike grid vcs classes s r
@@ -39,7 +39,7 @@ AreAlike-turned grid vcs classes r s h = record { right = sym h.right; rows = sy
 
 module _ (grid : Grid) (vcs classes : ℕ) where
   rule_at-alike : (r s : Rule) → AreAlike grid vcs classes r s → (m : ℕ) (from : Option (ℕ × ℕ)) (v t : ℕ) (o : Channel)
-      → rule_at (routing_of grid vcs classes r) m from v t o ≡ rule_at (routing_of grid vcs classes s) m from v t o
+      → rule_offers (routing_of grid vcs classes r) m from v t o ≡ rule_offers (routing_of grid vcs classes s) m from v t o
   rule_at-alike r s h m None v t o = refl
   rule_at-alike r s h m (Some place) v t (Inject n w) = refl
   rule_at-alike r s h m (Some place) v t (Link a p w) = ap (λ b. nat_eq a place.0 && nat_lt p (local_port grid) && b) (h.lead m place v t p w)
@@ -65,7 +65,7 @@ module _ (grid : Grid) (vcs classes : ℕ) where
     none = λ o. sym (rule_has-alike r s h e.class way.channel e.dst o) ∙ way.none o;
   }
 
-  rows-alike : (r s : Rule) → AreAlike grid vcs classes r s → All (λ row. row_fault grid vcs classes row ≡ None) (rows_of r) → All (λ row. row_fault grid vcs classes row ≡ None) (rows_of s)
+  rows-alike : (r s : Rule) → AreAlike grid vcs classes r s → All (λ row. row_fault grid vcs classes row ≡ None) (table_rows_of r) → All (λ row. row_fault grid vcs classes row ≡ None) (table_rows_of s)
   rows-alike r s h good = let P : List RouteRow → Type 0 = λ rows. All (λ row. row_fault grid vcs classes row ≡ None) rows in subst P h.rows good
 
   pub IsRelationOfRule-alike : (r s : Rule) (routes : Routes) → AreAlike grid vcs classes r s → IsRelationOfRule (routing_of grid vcs classes r) routes → IsRelationOfRule (routing_of grid vcs classes s) routes

@@ -9,8 +9,8 @@ use Rattle.noc_topo.proofs.LinkLemmas.{link_back}
 use Rattle.noc_packet.specs.Set.{has_bit}
 use Rattle.noc_packet.proofs.SetLemmas.{has_bit-zero, zero_from_none}
 use Rattle.noc_route.specs.Channel.{Channel, Link, Inject, Eject, arrival_of, channel_vc}
-use Rattle.noc_route.specs.Relation.{Routing, leads, rule_at, rule_has, IsReached, injected, led_on, IsPermitted}
-use Rattle.noc_route.specs.Routes.{Routes, width, pages, page_of, is_entry, set_at, permits, permits_at, is_sent, IsTable, IsRelation, HasLead}
+use Rattle.noc_route.specs.Relation.{RelationParts, leads, rule_offers, rule_has, IsReached, injected, led_on, IsPermitted}
+use Rattle.noc_route.specs.Routes.{Routes, width, pages, page_of, is_entry, set_at, permits, permits_at, is_sent, HasTableSize, IsRelation, HasLead}
 use Rattle.noc_route.specs.Trimming.{set_in, page_set, left_at, comes_in, comes_at, is_stuck_at, any_below, IsPlace, CanCome, injected as come_injected, led as come_led, ComesNearer, IsSoundOut, IsFullOut}
 use Rattle.noc_route.specs.Entered.{IsEntered}
 use Rattle.noc_route.proofs.PlaceLemmas.{flat-below, is_entry-true}
@@ -18,25 +18,25 @@ use Rattle.noc_route.proofs.TrimLemmas.{IsSized, any_below-some, any_below-at, i
 use Rattle.noc_route.proofs.RuleLemmas.{IsWellMade, IsRight-from_test, leads-vc, leads-hop, leads-home}
 
 -- a table over the numbers of a rule
-abbrev pub table : Routing → List ℕ → Routes
+abbrev pub table : RelationParts → List ℕ → Routes
 table g sets = record { grid = g.grid; vcs = g.vcs; classes = g.classes; sets = sets }
 
 -- ---- the rule's own table
 
-pub some_vcs : (g : Routing) → IsWellMade g → 1 ≤ g.vcs
+pub some_vcs : (g : RelationParts) → IsWellMade g → 1 ≤ g.vcs
 some_vcs g good = (IsRight-from_test g.grid g.vcs g.classes g.rule good.right).some_vcs
 
-pub sized : (g : Routing) (sets : List ℕ) → IsWellMade g → IsSized (table g sets)
+pub sized : (g : RelationParts) (sets : List ℕ) → IsWellMade g → IsSized (table g sets)
 sized g sets good = record { grid = good.grid; some_vcs = some_vcs g good }
 
 -- a member of an entered set is a channel to which the rule leads
-pub member-leads : (g : Routing) (sets : List ℕ) (m r t i k : ℕ) → IsEntered g (table g sets) → IsPlace (table g sets) m r t → i < width g.grid g.vcs
+pub member-leads : (g : RelationParts) (sets : List ℕ) (m r t i k : ℕ) → IsEntered g (table g sets) → IsPlace (table g sets) m r t → i < width g.grid g.vcs
     → has_bit (set_in (table g sets) m r t i) k ≡ true → (k < width g.grid g.vcs) × (leads g m (r, i / g.vcs) (i % g.vcs) t (k / g.vcs) (k % g.vcs) ≡ true)
 member-leads g sets m r t i k entered place l e =
     let parts = and_parts (nat_lt k (width g.grid g.vcs)) _ (sym (entered m r t i k place l) ∙ e) in
     (ltb-true k (width g.grid g.vcs) parts.0, parts.1)
 
-pub leads-member : (g : Routing) (sets : List ℕ) (m r t i k : ℕ) → IsEntered g (table g sets) → IsPlace (table g sets) m r t → i < width g.grid g.vcs → k < width g.grid g.vcs
+pub leads-member : (g : RelationParts) (sets : List ℕ) (m r t i k : ℕ) → IsEntered g (table g sets) → IsPlace (table g sets) m r t → i < width g.grid g.vcs → k < width g.grid g.vcs
     → leads g m (r, i / g.vcs) (i % g.vcs) t (k / g.vcs) (k % g.vcs) ≡ true → has_bit (set_in (table g sets) m r t i) k ≡ true
 leads-member g sets m r t i k entered place l within e =
     let small = lt-ltb k (width g.grid g.vcs) within in
@@ -50,7 +50,7 @@ linked-port g r p to e = at (cases_lt p (local_port g))
     at (inl l) = l
     at (inr past) = let none : nat_lt p (local_port g) ≡ false = le-ltb p (local_port g) past in let never : None ≡ Some to = sym (rw none refl) ∙ e in absurd (cc never)
 
-pub ComesNearer-entered : (g : Routing) (sets : List ℕ) → IsWellMade g → IsEntered g (table g sets) → ComesNearer (table g sets)
+pub ComesNearer-entered : (g : RelationParts) (sets : List ℕ) → IsWellMade g → IsEntered g (table g sets) → ComesNearer (table g sets)
 ComesNearer-entered g sets good entered = λ m r t i k b q place l within has link.
     let led = member-leads g sets m r t i k entered place l has in
     let hop = leads-hop g m r (i / g.vcs) (i % g.vcs) t (k / g.vcs) (k % g.vcs) good (linked-port g.grid r (k / g.vcs) (b, q) link) led.1 in
@@ -88,34 +88,34 @@ same-channel g sets vcs classes (Link r p v) (Eject k w) place sound s z e f h =
 same-channel g sets vcs classes (Inject n v) (Eject k w) place sound s z e f h = absurd (false≢true z)
 
 -- what it is for the rule to have a next channel
-pub record HasNext (g : Routing) (m : ℕ) (from : Option (ℕ × ℕ)) (v t r p w : ℕ) : Type 0 where
+pub record HasNext (g : RelationParts) (m : ℕ) (from : Option (ℕ × ℕ)) (v t r p w : ℕ) : Type 0 where
   pub place : ℕ × ℕ
   pub from_there : from ≡ Some place
   pub router : r ≡ place.0
   pub lead : leads g m place v t p w ≡ true
 
-pub next-link : (g : Routing) (m : ℕ) (from : Option (ℕ × ℕ)) (v t r p w : ℕ) → rule_at g m from v t (Link r p w) ≡ true → HasNext g m from v t r p w × (p < local_port g.grid)
+pub next-link : (g : RelationParts) (m : ℕ) (from : Option (ℕ × ℕ)) (v t r p w : ℕ) → rule_offers g m from v t (Link r p w) ≡ true → HasNext g m from v t r p w × (p < local_port g.grid)
 next-link g m None v t r p w e = absurd (false≢true e)
 next-link g m (Some place) v t r p w e =
     let a = and_parts _ (leads g m place v t p w) e in
     let b = and_parts (nat_eq r place.0) (nat_lt p (local_port g.grid)) a.0 in
     (record { place = place; from_there = refl; router = eqb-true _ _ b.0; lead = a.1 }, ltb-true _ _ b.1)
 
-pub next-eject : (g : Routing) (m : ℕ) (from : Option (ℕ × ℕ)) (v t r w : ℕ) → rule_at g m from v t (Eject r w) ≡ true → HasNext g m from v t r (local_port g.grid) w
+pub next-eject : (g : RelationParts) (m : ℕ) (from : Option (ℕ × ℕ)) (v t r w : ℕ) → rule_offers g m from v t (Eject r w) ≡ true → HasNext g m from v t r (local_port g.grid) w
 next-eject g m None v t r w e = absurd (false≢true e)
 next-eject g m (Some place) v t r w e =
     let a = and_parts (nat_eq r place.0) (leads g m place v t (local_port g.grid) w) e in
     record { place = place; from_there = refl; router = eqb-true _ _ a.0; lead = a.1 }
 
 -- packets come to a place on a channel
-pub record ComesOn (g : Routing) (sets : List ℕ) (m t : ℕ) (c : Channel) (place : ℕ × ℕ) : Type 0 where
+pub record ComesOn (g : RelationParts) (sets : List ℕ) (m t : ℕ) (c : Channel) (place : ℕ × ℕ) : Type 0 where
   pub come : CanCome (table g sets) m t place.0 (place.1 * g.vcs + channel_vc c)
   pub vc : channel_vc c < g.vcs
   pub sent : is_sent (table g sets) c ≡ true
 
 -- ---- the rule's reached entries are those of its table
 
-pub ComesOn-reached : (g : Routing) (sets : List ℕ) → IsWellMade g → IsEntered g (table g sets) → (m : ℕ) (c : Channel) (t : ℕ) → IsReached g m c t
+pub ComesOn-reached : (g : RelationParts) (sets : List ℕ) → IsWellMade g → IsEntered g (table g sets) → (m : ℕ) (c : Channel) (t : ℕ) → IsReached g m c t
     → (place : ℕ × ℕ) → arrival_of g.grid c ≡ Some place → ComesOn g sets m t c place
 ComesOn-reached g sets good entered m c t (injected {n = n} {v = v} a b d e other) place f =
     let home : (n, local_port g.grid) ≡ place = cc in
@@ -151,7 +151,7 @@ ComesOn-reached g sets good entered m c t (led_on {c = from} {r = r} {p = p} {v 
     }
 
 -- the channel on which packets come to an input
-pub record CameOn (g : Routing) (sets : List ℕ) (m t r i : ℕ) : Type 0 where
+pub record CameOn (g : RelationParts) (sets : List ℕ) (m t r i : ℕ) : Type 0 where
   pub channel : Channel
   pub arrives : arrival_of g.grid channel ≡ Some (r, i / g.vcs)
   pub vc : channel_vc channel ≡ i % g.vcs
@@ -159,20 +159,20 @@ pub record CameOn (g : Routing) (sets : List ℕ) (m t r i : ℕ) : Type 0 where
   pub sent : is_sent (table g sets) channel ≡ true
 
 -- what leads on is in the rule
-pub rule-link : (g : Routing) (m : ℕ) (c : Channel) (t a q v p w : ℕ) → arrival_of g.grid c ≡ Some (a, q) → channel_vc c ≡ v → p < local_port g.grid
+pub rule-link : (g : RelationParts) (m : ℕ) (c : Channel) (t a q v p w : ℕ) → arrival_of g.grid c ≡ Some (a, q) → channel_vc c ≡ v → p < local_port g.grid
     → leads g m (a, q) v t p w ≡ true → rule_has g m c t (Link a p w) ≡ true
 rule-link g m c t a q v p w e f l lead =
     let here = eq-eqb a a refl in
     let link = lt-ltb p (local_port g.grid) l in
-    ap (λ from. rule_at g m from (channel_vc c) t (Link a p w)) e ∙ ap (λ v. rule_at g m (Some (a, q)) v t (Link a p w)) f ∙ rw (here, link, lead) refl
+    ap (λ from. rule_offers g m from (channel_vc c) t (Link a p w)) e ∙ ap (λ v. rule_offers g m (Some (a, q)) v t (Link a p w)) f ∙ rw (here, link, lead) refl
 
-pub rule-eject : (g : Routing) (m : ℕ) (c : Channel) (t a q v w : ℕ) → arrival_of g.grid c ≡ Some (a, q) → channel_vc c ≡ v
+pub rule-eject : (g : RelationParts) (m : ℕ) (c : Channel) (t a q v w : ℕ) → arrival_of g.grid c ≡ Some (a, q) → channel_vc c ≡ v
     → leads g m (a, q) v t (local_port g.grid) w ≡ true → rule_has g m c t (Eject a w) ≡ true
 rule-eject g m c t a q v w e f lead =
     let here = eq-eqb a a refl in
-    ap (λ from. rule_at g m from (channel_vc c) t (Eject a w)) e ∙ ap (λ v. rule_at g m (Some (a, q)) v t (Eject a w)) f ∙ rw (here, lead) refl
+    ap (λ from. rule_offers g m from (channel_vc c) t (Eject a w)) e ∙ ap (λ v. rule_offers g m (Some (a, q)) v t (Eject a w)) f ∙ rw (here, lead) refl
 
-pub CameOn-come : (g : Routing) (sets : List ℕ) → IsWellMade g → IsEntered g (table g sets) → (m t r i : ℕ) → CanCome (table g sets) m t r i → CameOn g sets m t r i
+pub CameOn-come : (g : RelationParts) (sets : List ℕ) → IsWellMade g → IsEntered g (table g sets) → (m t r i : ℕ) → CanCome (table g sets) m t r i → CameOn g sets m t r i
 CameOn-come g sets good entered m t r i (come_injected {v = v} place away l e) =
     let port : i / g.vcs ≡ local_port g.grid = ap (λ x. x / g.vcs) e ∙ div-mul-add (local_port g.grid) g.vcs v l in
     let number : i % g.vcs ≡ v = ap (λ x. x % g.vcs) e ∙ mod-mul-add (local_port g.grid) g.vcs v l in
@@ -202,7 +202,7 @@ CameOn-come g sets good entered m t r i (come_led {r = a} {i = j} {k = k} {q = q
 -- ---- the trimmed table
 
 -- what the steps of building make
-pub record IsMade (g : Routing) (sets left outs : List ℕ) : Type 0 where
+pub record IsMade (g : RelationParts) (sets left outs : List ℕ) : Type 0 where
   pub good : IsWellMade g
   pub entered : IsEntered g (table g sets)
   pub sound : IsSoundOut (table g sets) outs
@@ -210,7 +210,7 @@ pub record IsMade (g : Routing) (sets left outs : List ℕ) : Type 0 where
   pub trimmed : (b i : ℕ) → b < pages g.grid g.classes → i < width g.grid g.vcs → page_set (table g left) b i ≡ left_at (table g sets) outs b i
 
 -- the set that is left at a place
-pub set-left : (g : Routing) (sets left outs : List ℕ) → IsMade g sets left outs → (m r t i : ℕ) → IsPlace (table g sets) m r t → i < width g.grid g.vcs
+pub set-left : (g : RelationParts) (sets left outs : List ℕ) → IsMade g sets left outs → (m r t i : ℕ) → IsPlace (table g sets) m r t → i < width g.grid g.vcs
     → set_in (table g left) m r t i ≡ (if comes_in (table g sets) outs m r t i then set_in (table g sets) m r t i else 0)
 set-left g sets left outs made m r t i place l =
     let b = page_of g.grid g.classes m r t in
@@ -222,18 +222,18 @@ set-left g sets left outs made m r t i place l =
     ∙ ap (kept m r) (page-dst g.grid g.classes m r t place.dst)
 
 -- packets come exactly by the lists
-pub comes-true : (g : Routing) (sets left outs : List ℕ) → IsMade g sets left outs → (m r t i : ℕ) → CanCome (table g sets) m t r i → comes_in (table g sets) outs m r t i ≡ true
+pub comes-true : (g : RelationParts) (sets left outs : List ℕ) → IsMade g sets left outs → (m r t i : ℕ) → CanCome (table g sets) m t r i → comes_in (table g sets) outs m r t i ≡ true
 comes-true g sets left outs made m r t i come =
     comes_in-full (table g sets) outs m r t i (sized g sets made.good) (ComesNearer-entered g sets made.good made.entered) (λ u place l. made.full m u t place) come
 
-pub kept-set : (g : Routing) (sets left outs : List ℕ) → IsMade g sets left outs → (m r t i : ℕ) → CanCome (table g sets) m t r i → set_in (table g left) m r t i ≡ set_in (table g sets) m r t i
+pub kept-set : (g : RelationParts) (sets left outs : List ℕ) → IsMade g sets left outs → (m r t i : ℕ) → CanCome (table g sets) m t r i → set_in (table g left) m r t i ≡ set_in (table g sets) m r t i
 kept-set g sets left outs made m r t i come =
     let within = CanCome-within (table g sets) m t r i (sized g sets made.good) come in
     let yes = comes-true g sets left outs made m r t i come in
     set-left g sets left outs made m r t i within.0 within.1 ∙ rw yes refl
 
 -- a set with a member is one to which packets come
-pub member-come : (g : Routing) (sets left outs : List ℕ) → IsMade g sets left outs → (m r t i k : ℕ) → IsPlace (table g sets) m r t → i < width g.grid g.vcs
+pub member-come : (g : RelationParts) (sets left outs : List ℕ) → IsMade g sets left outs → (m r t i k : ℕ) → IsPlace (table g sets) m r t → i < width g.grid g.vcs
     → has_bit (set_in (table g left) m r t i) k ≡ true → CanCome (table g sets) m t r i × (has_bit (set_in (table g sets) m r t i) k ≡ true)
 member-come g sets left outs made m r t i k place l e = at (comes_in (table g sets) outs m r t i) refl
   where
@@ -274,7 +274,7 @@ set_at-exists routes m r p v t h =
 
 -- ---- the table is the relation
 
-leads-index : (g : Routing) (m r p v t q w : ℕ) → v < g.vcs → w < g.vcs
+leads-index : (g : RelationParts) (m r p v t q w : ℕ) → v < g.vcs → w < g.vcs
     → leads g m (r, (p * g.vcs + v) / g.vcs) ((p * g.vcs + v) % g.vcs) t ((q * g.vcs + w) / g.vcs) ((q * g.vcs + w) % g.vcs) ≡ leads g m (r, p) v t q w
 leads-index g m r p v t q w l k =
     ap (λ x. leads g m (r, x) ((p * g.vcs + v) % g.vcs) t ((q * g.vcs + w) / g.vcs) ((q * g.vcs + w) % g.vcs)) (div-mul-add p g.vcs v l)
@@ -283,7 +283,7 @@ leads-index g m r p v t q w l k =
     ∙ ap (leads g m (r, p) v t q) (mod-mul-add q g.vcs w k)
 
 -- a member of the set of the place where a channel arrives: packets come on it, and the rule leads on
-permitted-lead : (g : Routing) (sets left outs : List ℕ) → IsMade g sets left outs → (m : ℕ) (c : Channel) (t r p q w : ℕ) → is_sent (table g left) c ≡ true → arrival_of g.grid c ≡ Some (r, p)
+permitted-lead : (g : RelationParts) (sets left outs : List ℕ) → IsMade g sets left outs → (m : ℕ) (c : Channel) (t r p q w : ℕ) → is_sent (table g left) c ≡ true → arrival_of g.grid c ≡ Some (r, p)
     → w < g.vcs → has_bit (set_at (table g left) m r p (channel_vc c) t) (q * g.vcs + w) ≡ true → IsReached g m c t × (leads g m (r, p) (channel_vc c) t q w ≡ true)
 permitted-lead g sets left outs made m c t r p q w sent e small has =
     let v = channel_vc c in
@@ -302,7 +302,7 @@ permitted-lead g sets left outs made m c t r p q w sent e small has =
     (subst P same came.reached, sym (leads-index g m r p v t q w there.vc small) ∙ led.1)
 
 -- where packets come on a channel and the rule leads on, there is a member
-lead-permitted : (g : Routing) (sets left outs : List ℕ) → IsMade g sets left outs → (m : ℕ) (c : Channel) (t : ℕ) (place : ℕ × ℕ) (q w : ℕ) → IsReached g m c t → arrival_of g.grid c ≡ Some place
+lead-permitted : (g : RelationParts) (sets left outs : List ℕ) → IsMade g sets left outs → (m : ℕ) (c : Channel) (t : ℕ) (place : ℕ × ℕ) (q w : ℕ) → IsReached g m c t → arrival_of g.grid c ≡ Some place
     → q < ports g.grid → leads g m place (channel_vc c) t q w ≡ true
     → (w < g.vcs) × (is_sent (table g left) c ≡ true) × (has_bit (set_at (table g left) m place.0 place.1 (channel_vc c) t) (q * g.vcs + w) ≡ true)
 lead-permitted g sets left outs made m c t place q w reached e l lead =
@@ -318,7 +318,7 @@ lead-permitted g sets left outs made m c t place q w reached e l lead =
     let has = leads-member g sets m place.0 t i (q * g.vcs + w) made.entered within.0 within.1 (flat-below q (ports g.grid) w g.vcs l small) (leads-index g m place.0 place.1 v t q w on.vc small ∙ lead) in
     (small, on.sent, ap (λ s. has_bit s (q * g.vcs + w)) (set_at-exists (table g left) m place.0 place.1 v t there ∙ kept-set g sets left outs made m place.0 t i on.come) ∙ has)
 
-permits-permitted : (g : Routing) (sets left outs : List ℕ) → IsMade g sets left outs → (m : ℕ) (c : Channel) (t : ℕ) (o : Channel) → permits (table g left) m c t o ≡ true → IsPermitted g m c t o
+permits-permitted : (g : RelationParts) (sets left outs : List ℕ) → IsMade g sets left outs → (m : ℕ) (c : Channel) (t : ℕ) (o : Channel) → permits (table g left) m c t o ≡ true → IsPermitted g m c t o
 permits-permitted g sets left outs made m c t o e = at o (and_parts (is_sent (table g left) c) (permits_at (table g left) m (arrival_of g.grid c) (channel_vc c) t o) e)
   where
     over : (o : Channel) (from : Option (ℕ × ℕ)) → arrival_of g.grid c ≡ from → is_sent (table g left) c ≡ true → permits_at (table g left) m from (channel_vc c) t o ≡ true → IsPermitted g m c t o
@@ -341,11 +341,11 @@ permits-permitted g sets left outs made m c t o e = at o (and_parts (is_sent (ta
     at : (o : Channel) → (is_sent (table g left) c ≡ true) × (permits_at (table g left) m (arrival_of g.grid c) (channel_vc c) t o ≡ true) → IsPermitted g m c t o
     at o h = over o (arrival_of g.grid c) refl h.0 h.1
 
-pub no-inject : (g : Routing) (m : ℕ) (from : Option (ℕ × ℕ)) (v t n w : ℕ) → rule_at g m from v t (Inject n w) ≡ true → ⊥
+pub no-inject : (g : RelationParts) (m : ℕ) (from : Option (ℕ × ℕ)) (v t n w : ℕ) → rule_offers g m from v t (Inject n w) ≡ true → ⊥
 no-inject g m None v t n w e = false≢true e
 no-inject g m (Some place) v t n w e = false≢true e
 
-permitted-permits : (g : Routing) (sets left outs : List ℕ) → IsMade g sets left outs → (m : ℕ) (c : Channel) (t : ℕ) (o : Channel) → IsReached g m c t → rule_has g m c t o ≡ true → permits (table g left) m c t o ≡ true
+permitted-permits : (g : RelationParts) (sets left outs : List ℕ) → IsMade g sets left outs → (m : ℕ) (c : Channel) (t : ℕ) (o : Channel) → IsReached g m c t → rule_has g m c t o ≡ true → permits (table g left) m c t o ≡ true
 permitted-permits g sets left outs made m c t (Inject n v) reached e = absurd (no-inject g m (arrival_of g.grid c) (channel_vc c) t n v e)
 permitted-permits g sets left outs made m c t (Link r p w) reached e =
     let next = next-link g m (arrival_of g.grid c) (channel_vc c) t r p w e in
@@ -361,7 +361,7 @@ permitted-permits g sets left outs made m c t (Eject r w) reached e =
     let vc = lt-ltb w g.vcs h.0 in
     ap (λ from. is_sent (table g left) c && permits_at (table g left) m from (channel_vc c) t (Eject r w)) next.from_there ∙ rw (h.1, here, vc, h.2) refl
 
-pub exact : (g : Routing) (sets left outs : List ℕ) → IsMade g sets left outs → (m : ℕ) (c : Channel) (t : ℕ) (o : Channel) → IsTrue (permits (table g left) m c t o) ↔ IsPermitted g m c t o
+pub exact : (g : RelationParts) (sets left outs : List ℕ) → IsMade g sets left outs → (m : ℕ) (c : Channel) (t : ℕ) (o : Channel) → IsTrue (permits (table g left) m c t o) ↔ IsPermitted g m c t o
 exact g sets left outs made m c t o = ((λ e. permits-permitted g sets left outs made m c t o e), (λ h. permitted-permits g sets left outs made m c t o h.0 h.1))
 
 -- ---- what is known of it
@@ -379,11 +379,11 @@ some_member set n within e = at (any_below n (has_bit set)) refl
     at false f = absurd (false≢true (sym e ∙ eq-eqb set 0 (zero_from_none set (λ k. none f k (has_bit set k) refl))))
 
 -- no entry to which packets come is empty
-abbrev pub IsUnstuck : Routing → List ℕ → List ℕ → Type 0
+abbrev pub IsUnstuck : RelationParts → List ℕ → List ℕ → Type 0
 IsUnstuck g left outs = (b i : ℕ) → b < pages g.grid g.classes → i < width g.grid g.vcs → is_stuck_at (table g left) outs b i ≡ false
 
 -- where packets come, something is permitted
-come-permits : (g : Routing) (sets left outs : List ℕ) → IsMade g sets left outs → IsUnstuck g left outs → (m r t i : ℕ) → CanCome (table g sets) m t r i
+come-permits : (g : RelationParts) (sets left outs : List ℕ) → IsMade g sets left outs → IsUnstuck g left outs → (m r t i : ℕ) → CanCome (table g sets) m t r i
     → (k : ℕ) × (has_bit (set_in (table g left) m r t i) k ≡ true)
 come-permits g sets left outs made unstuck m r t i come =
     let within = CanCome-within (table g sets) m t r i (sized g sets made.good) come in
@@ -398,8 +398,8 @@ come-permits g sets left outs made unstuck m r t i come =
     some_member (set_in (table g left) m r t i) (width g.grid g.vcs)
     (λ k has. (member-leads g sets m r t i k made.entered within.0 within.1 (member-come g sets left outs made m r t i k within.0 within.1 has).1).0) free
 
--- the same by the entry's numbers
-come-permits_at : (g : Routing) (sets left outs : List ℕ) → IsMade g sets left outs → IsUnstuck g left outs → (m r t p v : ℕ) → v < g.vcs → CanCome (table g sets) m t r (p * g.vcs + v)
+-- where packets come, something is permitted, by the entry's numbers
+come-permits_at : (g : RelationParts) (sets left outs : List ℕ) → IsMade g sets left outs → IsUnstuck g left outs → (m r t p v : ℕ) → v < g.vcs → CanCome (table g sets) m t r (p * g.vcs + v)
     → (k : ℕ) × (has_bit (set_at (table g left) m r p v t) k ≡ true)
 come-permits_at g sets left outs made unstuck m r t p v l come =
     let within = CanCome-within (table g sets) m t r (p * g.vcs + v) (sized g sets made.good) come in
@@ -410,7 +410,7 @@ come-permits_at g sets left outs made unstuck m r t p v l come =
     (found.0, ap (λ s. has_bit s found.0) (set_at-exists (table g left) m r p v t there) ∙ found.1)
 
 -- a member at an entry: packets come there, and the rule leads on
-pub record Member (g : Routing) (sets : List ℕ) (m r p v t k : ℕ) : Type 0 where
+pub record Member (g : RelationParts) (sets : List ℕ) (m r p v t k : ℕ) : Type 0 where
   pub class : m < g.classes
   pub router : r < nodes g.grid
   pub port : p < ports g.grid
@@ -421,7 +421,7 @@ pub record Member (g : Routing) (sets : List ℕ) (m r p v t k : ℕ) : Type 0 w
   pub real : k < width g.grid g.vcs
   pub lead : leads g m (r, (p * g.vcs + v) / g.vcs) ((p * g.vcs + v) % g.vcs) t (k / g.vcs) (k % g.vcs) ≡ true
 
-member-at : (g : Routing) (sets left outs : List ℕ) → IsMade g sets left outs → (m r p v t k : ℕ) → has_bit (set_at (table g left) m r p v t) k ≡ true → Member g sets m r p v t k
+member-at : (g : RelationParts) (sets left outs : List ℕ) → IsMade g sets left outs → (m r p v t k : ℕ) → has_bit (set_at (table g left) m r p v t) k ≡ true → Member g sets m r p v t k
 member-at g sets left outs made m r p v t k e =
     let member = set_at-member (table g left) m r p v t k e in
     let there = member.0 in
@@ -442,7 +442,7 @@ member-at g sets left outs made m r p v t k e =
     }
 
 -- packets come to an entry from the local port, or by a permitted channel of the router before
-came-from : (g : Routing) (sets left outs : List ℕ) → IsMade g sets left outs → (m r p v t i : ℕ) → v < g.vcs → i ≡ p * g.vcs + v → CanCome (table g sets) m t r i
+came-from : (g : RelationParts) (sets left outs : List ℕ) → IsMade g sets left outs → (m r p v t i : ℕ) → v < g.vcs → i ≡ p * g.vcs + v → CanCome (table g sets) m t r i
     → ((p ≡ local_port g.grid) × (r ≢ t)) ⊎ HasLead (table g left) m r p v t
 came-from g sets left outs made m r p v t i l is (come_injected {v = w} place away k e) =
     let port : p ≡ local_port g.grid = sym (div-mul-add p g.vcs v l) ∙ ap (λ x. x / g.vcs) (sym is ∙ e) ∙ div-mul-add (local_port g.grid) g.vcs w k in
@@ -467,7 +467,7 @@ came-from g sets left outs made m r p v t i l is (come_led {r = a} {i = j} {k = 
           ∙ has;
     })
 
-pub IsRelation-made : (g : Routing) (sets left outs : List ℕ) → IsMade g sets left outs → IsUnstuck g left outs → IsTable (table g left) → IsRelation (table g left)
+pub IsRelation-made : (g : RelationParts) (sets left outs : List ℕ) → IsMade g sets left outs → IsUnstuck g left outs → HasTableSize (table g left) → IsRelation (table g left)
 IsRelation-made g sets left outs made unstuck size = record {
   table = size;
   real = λ m r p v t k e. (member-at g sets left outs made m r p v t k e).real;

@@ -8,7 +8,7 @@ use Rattle.std.proofs.lemmas.List.Folds.{list_any_more}
 use Rattle.std.proofs.Math.Bool.{or-false, or-true, and-false}
 use Rattle.noc_packet.specs.Set.{has_bit}
 use Rattle.noc_topo.specs.Shape.{Grid, nodes, ports, local_port, neighbour}
-use Rattle.noc_route.specs.Relation.{Routing, is_row_of, is_open, is_real_row, rows_of, leads, is_led}
+use Rattle.noc_route.specs.Relation.{RelationParts, names_entry, is_open, is_real_row, table_rows_of, leads, is_led}
 use Rattle.noc_route.specs.Routes.{Routes, width, pages, page_of, page_class, page_router, page_dst, entry_place}
 use Rattle.noc_route.specs.Trimming.{page_set}
 use Rattle.noc_packet.proofs.SetLemmas.{has_bit-zero}
@@ -97,7 +97,7 @@ pub record NamesIt (m r p v t q w : ℕ) (row : RouteRow) : Type 0 where
   pub out_port : row.out_port ≡ q
   pub out_vc : row.out_vc ≡ w
 
-pub is_row_of-parts : (m r p v t q w : ℕ) (row : RouteRow) → is_row_of m (r, p) v t q w row ≡ true → NamesIt m r p v t q w row
+pub is_row_of-parts : (m r p v t q w : ℕ) (row : RouteRow) → names_entry m (r, p) v t q w row ≡ true → NamesIt m r p v t q w row
 is_row_of-parts m r p v t q w row e =
     let a = and_parts _ (nat_eq row.out_vc w) e in
     let b = and_parts _ (nat_eq row.out_port q) a.0 in
@@ -115,7 +115,7 @@ is_row_of-parts m r p v t q w row e =
       out_vc = eqb-true _ _ a.1;
     }
 
-is_row_of-all : (m r p v t q w : ℕ) (row : RouteRow) → NamesIt m r p v t q w row → is_row_of m (r, p) v t q w row ≡ true
+is_row_of-all : (m r p v t q w : ℕ) (row : RouteRow) → NamesIt m r p v t q w row → names_entry m (r, p) v t q w row ≡ true
 is_row_of-all m r p v t q w row h =
     let a = eq-eqb _ _ h.class in
     let b = eq-eqb _ _ h.router in
@@ -188,7 +188,7 @@ or_within false l r h = rw (or-false r) refl
 -- whether a row names an entry of a page and an output channel
 abbrev row_at : Routes → ℕ → ℕ → ℕ → RouteRow → Bool
 row_at routes b i k =
-    is_row_of (page_class routes.grid routes.classes b) (page_router routes.grid routes.classes b, i / routes.vcs) (i % routes.vcs) (page_dst routes.grid b) (k / routes.vcs) (k % routes.vcs)
+    names_entry (page_class routes.grid routes.classes b) (page_router routes.grid routes.classes b, i / routes.vcs) (i % routes.vcs) (page_dst routes.grid b) (k / routes.vcs) (k % routes.vcs)
 
 pub HasRows-more : (routes : Routes) (sets : List ℕ) (rows : List RouteRow) (n : ℕ) (row : RouteRow) (value : ℕ) → length sets ≡ pages routes.grid routes.classes * width routes.grid routes.vcs
     → n < length rows → ((d : RouteRow) → get_or rows n d ≡ row) → IsWithinTable routes row
@@ -294,7 +294,7 @@ leads-named grid vcs classes Adaptive m r p v t q w other = refl
 leads-named grid vcs classes (Rows rows) m r p v t q w other = absurd (other rows refl)
 
 -- the sets of all places, by those of all pages
-pub IsEntered-from_pages : (g : Routing) (routes : Routes)
+pub IsEntered-from_pages : (g : RelationParts) (routes : Routes)
     → ((b i k : ℕ) → b < pages routes.grid routes.classes → i < width routes.grid routes.vcs → has_bit (page_set routes b i) k
     ≡ (nat_lt k (width routes.grid routes.vcs) && leads g (page_class routes.grid routes.classes b) (page_router routes.grid routes.classes b, i / routes.vcs) (i % routes.vcs) (page_dst routes.grid b) (k / routes.vcs) (k % routes.vcs)))
     → IsEntered g routes
@@ -306,7 +306,7 @@ IsEntered-from_pages g routes h m r t i k place l =
     ∙ ap (λ x. led m x (page_dst routes.grid b)) (page-sender routes.grid routes.classes m r t place.dst place.class)
     ∙ ap (led m r) (page-dst routes.grid routes.classes m r t place.dst)
 
-pub rows_of-named : (rule : Rule) → ((rows : Vec RouteRow Global) → rule ≡ Rows rows → ⊥) → rows_of rule ≡ []
+pub rows_of-named : (rule : Rule) → ((rows : Vec RouteRow Global) → rule ≡ Rows rows → ⊥) → table_rows_of rule ≡ []
 rows_of-named Dor other = refl
 rows_of-named Dateline other = refl
 rows_of-named WestFirst other = refl

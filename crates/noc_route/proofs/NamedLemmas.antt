@@ -4,7 +4,7 @@ use Rattle.std.specs.Prelude.{◌⊎◌, ◌&&◌, ◌||◌, option_map, nat_eq,
 use Rattle.std.proofs.lemmas.Bool.{cases_lt, cases_eq, eq-eqb, ne_eqb, eqb-true, lt-ltb, le-ltb, ltb-true, ltb-false, leb-true, leb-false, and_parts, or_cases, false≢true}
 use Rattle.std.proofs.Math.Nat.{add-mul-mod_self_left, mod-eq_of_lt}
 use Rattle.std.proofs.Math.Bool.{or-true, or-false, and-false}
-use Rattle.noc_topo.specs.Shape.{Grid, IsGrid, coordinates, padded, nodes, local_port, neighbour, moved_in, is_plus, distance, distance_in}
+use Rattle.noc_topo.specs.Shape.{Grid, IsGrid, coordinates, three_coordinates, nodes, local_port, neighbour, moved_in, is_plus, distance, distance_in}
 use Rattle.noc_topo.proofs.ShapeLemmas.{length-coordinates}
 use Rattle.noc_topo.proofs.LinkLemmas.{AreRadices-from_test, AreRadices-at, get_or-padded, get_or-past, corner-at, IsWithin-at, IsWithin-coordinates, hop_of, led}
 use Rattle.noc_topo.proofs.DistanceLemmas.{hop-distance}
@@ -39,17 +39,17 @@ dor_port_from-none wraps j (k ∷ ks) (x ∷ xs) (t ∷ ts) e f same =
 
 -- by the padded coordinates, where the first that differ are those of dimension i
 pub dor_port-at : (g : Grid) (r t i : ℕ) → IsGrid g → i < 3
-    → ((k : ℕ) → k < i → get_or (padded (coordinates g.radix r)) k 0 ≡ get_or (padded (coordinates g.radix t)) k 0)
-    → get_or (padded (coordinates g.radix r)) i 0 ≢ get_or (padded (coordinates g.radix t)) i 0
+    → ((k : ℕ) → k < i → get_or (three_coordinates (coordinates g.radix r)) k 0 ≡ get_or (three_coordinates (coordinates g.radix t)) k 0)
+    → get_or (three_coordinates (coordinates g.radix r)) i 0 ≢ get_or (three_coordinates (coordinates g.radix t)) i 0
     → dor_port g (coordinates g.radix r) (coordinates g.radix t)
-    ≡ Some (if goes_up g.wraps (get_or (padded (coordinates g.radix (nodes g - 1))) i 0 + 1) (get_or (padded (coordinates g.radix r)) i 0) (get_or (padded (coordinates g.radix t)) i 0) then 2 * i else 2 * i + 1)
+    ≡ Some (if goes_up g.wraps (get_or (three_coordinates (coordinates g.radix (nodes g - 1))) i 0 + 1) (get_or (three_coordinates (coordinates g.radix r)) i 0) (get_or (three_coordinates (coordinates g.radix t)) i 0) then 2 * i else 2 * i + 1)
 dor_port-at g r t i sound three same differ = at (cases_lt i (length g.radix))
   where
     at : (i < length g.radix) ⊎ (length g.radix ≤ i) → dor_port g (coordinates g.radix r) (coordinates g.radix t)
-        ≡ Some (if goes_up g.wraps (get_or (padded (coordinates g.radix (nodes g - 1))) i 0 + 1) (get_or (padded (coordinates g.radix r)) i 0) (get_or (padded (coordinates g.radix t)) i 0) then 2 * i else 2 * i + 1)
+        ≡ Some (if goes_up g.wraps (get_or (three_coordinates (coordinates g.radix (nodes g - 1))) i 0 + 1) (get_or (three_coordinates (coordinates g.radix r)) i 0) (get_or (three_coordinates (coordinates g.radix t)) i 0) then 2 * i else 2 * i + 1)
     at (inl inside) =
         let size = AreRadices-at g.radix i (AreRadices-from_test g.radix sound.sizes) inside in
-        let corner : get_or (padded (coordinates g.radix (nodes g - 1))) i 0 + 1 ≡ get_or g.radix i 0 = omega (arith, corner-at g i sound three, size.0) in
+        let corner : get_or (three_coordinates (coordinates g.radix (nodes g - 1))) i 0 + 1 ≡ get_or g.radix i 0 = omega (arith, corner-at g i sound three, size.0) in
         let here = get_or-padded (coordinates g.radix r) i three in
         let there = get_or-padded (coordinates g.radix t) i three in
         let place : 0 + i ≡ i = omega arith in
@@ -58,30 +58,30 @@ dor_port-at g r t i sound three same differ = at (cases_lt i (length g.radix))
         (λ k l. sym (get_or-padded (coordinates g.radix r) k (omega arith)) ∙ same k l ∙ get_or-padded (coordinates g.radix t) k (omega arith))
         (λ e. differ (here ∙ e ∙ sym there)) ∙ rw place)
     at (inr past) =
-        let here : get_or (padded (coordinates g.radix r)) i 0 ≡ 0 = get_or-padded (coordinates g.radix r) i three ∙ get_or-past (coordinates g.radix r) i (omega (arith, length-coordinates g.radix r)) in
-        let there : get_or (padded (coordinates g.radix t)) i 0 ≡ 0 = get_or-padded (coordinates g.radix t) i three ∙ get_or-past (coordinates g.radix t) i (omega (arith, length-coordinates g.radix t)) in
+        let here : get_or (three_coordinates (coordinates g.radix r)) i 0 ≡ 0 = get_or-padded (coordinates g.radix r) i three ∙ get_or-past (coordinates g.radix r) i (omega (arith, length-coordinates g.radix r)) in
+        let there : get_or (three_coordinates (coordinates g.radix t)) i 0 ≡ 0 = get_or-padded (coordinates g.radix t) i three ∙ get_or-past (coordinates g.radix t) i (omega (arith, length-coordinates g.radix t)) in
         absurd (differ (here ∙ sym there))
 
-pub dor_port-none : (g : Grid) (r t : ℕ) → IsGrid g → ((k : ℕ) → k < 3 → get_or (padded (coordinates g.radix r)) k 0 ≡ get_or (padded (coordinates g.radix t)) k 0)
+pub dor_port-none : (g : Grid) (r t : ℕ) → IsGrid g → ((k : ℕ) → k < 3 → get_or (three_coordinates (coordinates g.radix r)) k 0 ≡ get_or (three_coordinates (coordinates g.radix t)) k 0)
     → dor_port g (coordinates g.radix r) (coordinates g.radix t) ≡ None
 dor_port-none g r t sound same =
     dor_port_from-none g.wraps 0 g.radix (coordinates g.radix r) (coordinates g.radix t) (length-coordinates g.radix r) (length-coordinates g.radix t)
     (λ k l. sym (get_or-padded (coordinates g.radix r) k (omega (arith, sound.few_dimensions))) ∙ same k (omega (arith, sound.few_dimensions)) ∙ get_or-padded (coordinates g.radix t) k (omega (arith, sound.few_dimensions)))
 
-pub dor_port-found : (g : Grid) (here there last : List ℕ) (r t i : ℕ) (b : Bool) → IsGrid g → here ≡ padded (coordinates g.radix r) → there ≡ padded (coordinates g.radix t)
-    → last ≡ padded (coordinates g.radix (nodes g - 1)) → i < 3 → ((k : ℕ) → k < i → get_or here k 0 ≡ get_or there k 0) → get_or here i 0 ≢ get_or there i 0
+pub dor_port-found : (g : Grid) (here there last : List ℕ) (r t i : ℕ) (b : Bool) → IsGrid g → here ≡ three_coordinates (coordinates g.radix r) → there ≡ three_coordinates (coordinates g.radix t)
+    → last ≡ three_coordinates (coordinates g.radix (nodes g - 1)) → i < 3 → ((k : ℕ) → k < i → get_or here k 0 ≡ get_or there k 0) → get_or here i 0 ≢ get_or there i 0
     → goes_up g.wraps (get_or last i 0 + 1) (get_or here i 0) (get_or there i 0) ≡ b
     → Some (if b then 2 * i else 2 * i + 1) ≡ dor_port g (coordinates g.radix r) (coordinates g.radix t)
 dor_port-found g here there last r t i b sound e f h three same differ up =
     let a = λ (k : ℕ). ap (λ xs. get_or xs k 0) e in
     let d = λ (k : ℕ). ap (λ xs. get_or xs k 0) f in
-    let way : goes_up g.wraps (get_or (padded (coordinates g.radix (nodes g - 1))) i 0 + 1) (get_or (padded (coordinates g.radix r)) i 0) (get_or (padded (coordinates g.radix t)) i 0) ≡ b
-    = ap (λ n. goes_up g.wraps (n + 1) (get_or (padded (coordinates g.radix r)) i 0) (get_or (padded (coordinates g.radix t)) i 0)) (sym (ap (λ xs. get_or xs i 0) h))
-    ∙ ap (λ n. goes_up g.wraps (get_or last i 0 + 1) n (get_or (padded (coordinates g.radix t)) i 0)) (sym (a i))
+    let way : goes_up g.wraps (get_or (three_coordinates (coordinates g.radix (nodes g - 1))) i 0 + 1) (get_or (three_coordinates (coordinates g.radix r)) i 0) (get_or (three_coordinates (coordinates g.radix t)) i 0) ≡ b
+    = ap (λ n. goes_up g.wraps (n + 1) (get_or (three_coordinates (coordinates g.radix r)) i 0) (get_or (three_coordinates (coordinates g.radix t)) i 0)) (sym (ap (λ xs. get_or xs i 0) h))
+    ∙ ap (λ n. goes_up g.wraps (get_or last i 0 + 1) n (get_or (three_coordinates (coordinates g.radix t)) i 0)) (sym (a i))
     ∙ ap (λ n. goes_up g.wraps (get_or last i 0 + 1) (get_or here i 0) n) (sym (d i)) ∙ up in
     sym (dor_port-at g r t i sound three (λ k l. sym (a k) ∙ same k l ∙ d k) (λ q. differ (a i ∙ q ∙ sym (d i))) ∙ ap (λ b. Some (if b then 2 * i else 2 * i + 1)) way)
 
-pub dor_port-missing : (g : Grid) (here there : List ℕ) (r t : ℕ) → IsGrid g → here ≡ padded (coordinates g.radix r) → there ≡ padded (coordinates g.radix t)
+pub dor_port-missing : (g : Grid) (here there : List ℕ) (r t : ℕ) → IsGrid g → here ≡ three_coordinates (coordinates g.radix r) → there ≡ three_coordinates (coordinates g.radix t)
     → ((k : ℕ) → k < 3 → get_or here k 0 ≡ get_or there k 0) → None ≡ dor_port g (coordinates g.radix r) (coordinates g.radix t)
 dor_port-missing g here there r t sound e f same =
     sym (dor_port-none g r t sound (λ k l. sym (ap (λ xs. get_or xs k 0) e) ∙ same k l ∙ ap (λ xs. get_or xs k 0) f))

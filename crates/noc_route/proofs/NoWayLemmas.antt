@@ -10,13 +10,13 @@ use Rattle.noc_packet.specs.Set.{has_bit}
 use Rattle.noc_packet.proofs.SetLemmas.{has_bit-zero, zero_from_none}
 use Rattle.noc_route.specs.Channel.{Channel, Link, Inject, Eject, arrival_of, channel_vc}
 use Rattle.noc_route.specs.Order.{numbers_before, entry_numbers}
-use Rattle.noc_route.specs.Relation.{Routing, leads, rule_has, IsReached, IsNoWay, IsFirstNoWay, IsFirstRow, IsFirstFault, IsFaultOf, is_right, rows_of, row_fault, hop_fault, is_real_row}
+use Rattle.noc_route.specs.Relation.{RelationParts, leads, rule_has, IsReached, IsNoWay, IsFirstNoWay, IsFirstRow, IsFirstFault, IsFaultOf, is_right, table_rows_of, row_fault, hop_fault, is_real_row}
 use Rattle.noc_route.specs.Built.{IsRelationOfRule}
 use Rattle.noc_route.specs.declared.rule.RouteRow.{RouteRow}
 use Rattle.noc_route.specs.declared.rule.RouteFault.{RouteFault}
 use Rattle.noc_route.specs.declared.rule.RouteFault.TheVariants.{WrongShape, NoLink, NotMinimal, EarlyEject, LateHop, NoWay, Memory}
-use Rattle.noc_route.specs.Routes.{Routes, IsTable, width, pages, page_of, page_class, page_router, page_dst}
-use Rattle.noc_route.specs.Trimming.{set_in, page_set, left_at, comes_in, comes_at, is_stuck_at, entry_at, IsNoEarlier, IsStuckFirst, IsFirstStuck, IsPlace, CanCome, IsSoundOut, IsFullOut}
+use Rattle.noc_route.specs.Routes.{Routes, HasTableSize, width, pages, page_of, page_class, page_router, page_dst}
+use Rattle.noc_route.specs.Trimming.{set_in, page_set, left_at, comes_in, comes_at, is_stuck_at, entry_on_page, IsNoEarlier, IsStuckFirst, IsFirstStuck, IsPlace, CanCome, IsSoundOut, IsFullOut}
 use Rattle.noc_route.specs.Entered.{IsEntered}
 use Rattle.noc_route.specs.declared.rule.Entry.{Entry}
 use Rattle.noc_route.proofs.PlaceLemmas.{flat-below, page-router}
@@ -28,7 +28,7 @@ use Rattle.noc_route.proofs.BuiltLemmas.{table, sized, some_vcs, member-leads, l
 -- ---- an empty set leads nowhere
 
 -- a lead is a member of the set
-lead-member : (g : Routing) (sets : List ℕ) → IsWellMade g → IsEntered g (table g sets) → (m t r i p w : ℕ) (c : Channel) (place : ℕ × ℕ) → IsReached g m c t → arrival_of g.grid c ≡ Some (r, i / g.vcs)
+lead-member : (g : RelationParts) (sets : List ℕ) → IsWellMade g → IsEntered g (table g sets) → (m t r i p w : ℕ) (c : Channel) (place : ℕ × ℕ) → IsReached g m c t → arrival_of g.grid c ≡ Some (r, i / g.vcs)
     → channel_vc c ≡ i % g.vcs → arrival_of g.grid c ≡ Some place → p < ports g.grid → leads g m place (channel_vc c) t p w ≡ true → has_bit (set_in (table g sets) m r t i) (p * g.vcs + w) ≡ true
 lead-member g sets good entered m t r i p w c place reached e f h l lead =
     let both : Some place ≡ Some (r, i / g.vcs) = sym h ∙ e in
@@ -43,7 +43,7 @@ lead-member g sets good entered m t r i p w c place reached e f h l lead =
     (ap (λ x. leads g m (r, i / g.vcs) (i % g.vcs) t x ((p * g.vcs + w) % g.vcs)) (div-mul-add p g.vcs w vc) ∙ ap (leads g m (r, i / g.vcs) (i % g.vcs) t p) (mod-mul-add p g.vcs w vc) ∙ here)
 
 -- no next channel where the set is empty
-empty-none : (g : Routing) (sets : List ℕ) → IsWellMade g → IsEntered g (table g sets) → (m t r i : ℕ) (c : Channel) → IsReached g m c t → arrival_of g.grid c ≡ Some (r, i / g.vcs)
+empty-none : (g : RelationParts) (sets : List ℕ) → IsWellMade g → IsEntered g (table g sets) → (m t r i : ℕ) (c : Channel) → IsReached g m c t → arrival_of g.grid c ≡ Some (r, i / g.vcs)
     → channel_vc c ≡ i % g.vcs → set_in (table g sets) m r t i ≡ 0 → (o : Channel) → rule_has g m c t o ≡ false
 empty-none g sets good entered m t r i c reached e f zero o = at o (rule_has g m c t o) refl
   where
@@ -64,7 +64,7 @@ empty-none g sets good entered m t r i c reached e f zero o = at o (rule_has g m
     at o false h = h
 
 -- where there is no next channel the set is empty
-none-empty : (g : Routing) (sets : List ℕ) → IsWellMade g → IsEntered g (table g sets) → (m t r i : ℕ) (c : Channel) → IsPlace (table g sets) m r t → i < width g.grid g.vcs → arrival_of g.grid c ≡ Some (r, i / g.vcs)
+none-empty : (g : RelationParts) (sets : List ℕ) → IsWellMade g → IsEntered g (table g sets) → (m t r i : ℕ) (c : Channel) → IsPlace (table g sets) m r t → i < width g.grid g.vcs → arrival_of g.grid c ≡ Some (r, i / g.vcs)
     → channel_vc c ≡ i % g.vcs → ((o : Channel) → rule_has g m c t o ≡ false) → set_in (table g sets) m r t i ≡ 0
 none-empty g sets good entered m t r i c place l e f none = zero_from_none (set_in (table g sets) m r t i) (λ k. at k (has_bit (set_in (table g sets) m r t i) k) refl)
   where
@@ -83,8 +83,8 @@ none-empty g sets good entered m t r i c place l e f none = zero_from_none (set_
 
 -- ---- stuck entries
 
-IsNoWay-stuck : (g : Routing) (sets left outs : List ℕ) → IsMade g sets left outs → (b i : ℕ) → b < pages g.grid g.classes → i < width g.grid g.vcs → is_stuck_at (table g left) outs b i ≡ true
-    → IsNoWay g (entry_at (table g left) b i)
+IsNoWay-stuck : (g : RelationParts) (sets left outs : List ℕ) → IsMade g sets left outs → (b i : ℕ) → b < pages g.grid g.classes → i < width g.grid g.vcs → is_stuck_at (table g left) outs b i ≡ true
+    → IsNoWay g (entry_on_page (table g left) b i)
 IsNoWay-stuck g sets left outs made b i l k stuck =
     let m = page_class g.grid g.classes b in
     let r = page_router g.grid g.classes b in
@@ -112,15 +112,15 @@ IsNoWay-stuck g sets left outs made b i l k stuck =
     }
 
 -- the page and input of an entry with no way, at which packets are stuck
-record StuckAt (g : Routing) (left outs : List ℕ) (e : Entry) : Type 0 where
+record StuckAt (g : RelationParts) (left outs : List ℕ) (e : Entry) : Type 0 where
   page : ℕ
   input : ℕ
   exists : page < pages g.grid g.classes
   within : input < width g.grid g.vcs
   stuck : is_stuck_at (table g left) outs page input ≡ true
-  numbers : entry_numbers (entry_at (table g left) page input) ≡ entry_numbers e
+  numbers : entry_numbers (entry_on_page (table g left) page input) ≡ entry_numbers e
 
-StuckAt-no_way : (g : Routing) (sets left outs : List ℕ) → IsMade g sets left outs → (e : Entry) → IsNoWay g e → StuckAt g left outs e
+StuckAt-no_way : (g : RelationParts) (sets left outs : List ℕ) → IsMade g sets left outs → (e : Entry) → IsNoWay g e → StuckAt g left outs e
 StuckAt-no_way g sets left outs made e h =
     let on = ComesOn-reached g sets made.good made.entered e.class h.channel e.dst h.reached (e.router, e.in_port) h.arrives in
     let i = e.in_port * g.vcs + channel_vc h.channel in
@@ -147,7 +147,7 @@ StuckAt-no_way g sets left outs made e h =
       numbers = rw (class, router, dst, port, number, h.vc) refl;
     }
 
-pub IsFirstNoWay-stuck : (g : Routing) (sets left outs : List ℕ) (e : Entry) → IsMade g sets left outs → IsStuckFirst (table g left) outs (pages g.grid g.classes * width g.grid g.vcs) e → IsFirstNoWay g e
+pub IsFirstNoWay-stuck : (g : RelationParts) (sets left outs : List ℕ) (e : Entry) → IsMade g sets left outs → IsStuckFirst (table g left) outs (pages g.grid g.classes * width g.grid g.vcs) e → IsFirstNoWay g e
 IsFirstNoWay-stuck g sets left outs e made h =
     let P : Entry → Type 0 = λ e. IsNoWay g e in
     record {
@@ -164,7 +164,7 @@ IsFirstNoWay-stuck g sets left outs e made h =
     later other at (inr after) = ap (λ ns. numbers_before ns (entry_numbers e)) (sym at.numbers) ∙ after
 
 -- where no entry is stuck, something is permitted wherever packets come
-pub IsUnstuck-none : (g : Routing) (left outs : List ℕ) (n : ℕ) → n ≡ pages g.grid g.classes * width g.grid g.vcs → IsFirstStuck (table g left) outs n None → IsUnstuck g left outs
+pub IsUnstuck-none : (g : RelationParts) (left outs : List ℕ) (n : ℕ) → n ≡ pages g.grid g.classes * width g.grid g.vcs → IsFirstStuck (table g left) outs n None → IsUnstuck g left outs
 IsUnstuck-none g left outs n e h = λ b i l k. h b i l k (omega (arith, e, flat-below b (pages g.grid g.classes) i (width g.grid g.vcs) l k))
 
 -- ---- what building makes, and its faults
@@ -202,11 +202,11 @@ row_fault-row_kind g vcs classes row = at (is_real_row g vcs classes row)
     at true = hop_fault-kind g row (neighbour g row.router row.out_port)
     at false = refl
 
-only_row : (g : Routing) (row : RouteRow) (fault : RouteFault) → row_fault g.grid g.vcs g.classes row ≡ Some fault → is_row_kind (Some fault) ≡ false → ⊥
+only_row : (g : RelationParts) (row : RouteRow) (fault : RouteFault) → row_fault g.grid g.vcs g.classes row ≡ Some fault → is_row_kind (Some fault) ≡ false → ⊥
 only_row g row fault e kind = false≢true (sym kind ∙ sym (ap is_row_kind e) ∙ row_fault-row_kind g.grid g.vcs g.classes row)
 
 -- no row's fault is another kind of fault
-row_fault-kind : (g : Routing) (row : RouteRow) (fault : RouteFault) → row_fault g.grid g.vcs g.classes row ≡ Some fault → IsFirstRow g fault → IsFaultOf g fault
+row_fault-kind : (g : RelationParts) (row : RouteRow) (fault : RouteFault) → row_fault g.grid g.vcs g.classes row ≡ Some fault → IsFirstRow g fault → IsFaultOf g fault
 unfolding is_row_kind
 row_fault-kind g row (NoLink r) e h = h
 row_fault-kind g row (NotMinimal r) e h = h
@@ -216,22 +216,22 @@ row_fault-kind g row WrongShape e h = absurd (only_row g row WrongShape e refl)
 row_fault-kind g row (NoWay r) e h = absurd (only_row g row (NoWay r) e refl)
 row_fault-kind g row Memory e h = absurd (only_row g row Memory e refl)
 
-pub IsFaultOf-row : (g : Routing) (fault : RouteFault) → is_right g.grid g.vcs g.classes g.rule ≡ true → IsFirstFault g.grid g.vcs g.classes (rows_of g.rule) fault → IsFaultOf g fault
+pub IsFaultOf-row : (g : RelationParts) (fault : RouteFault) → is_right g.grid g.vcs g.classes g.rule ≡ true → IsFirstFault g.grid g.vcs g.classes (table_rows_of g.rule) fault → IsFaultOf g fault
 IsFaultOf-row g fault right h = row_fault-kind g h.row fault h.faulty (record { right = right; first = h })
 
-pub IsMade-steps : (g : Routing) (sets left outs : List ℕ) → IsGrid g.grid → is_right g.grid g.vcs g.classes g.rule ≡ true → All (λ row. row_fault g.grid g.vcs g.classes row ≡ None) (rows_of g.rule)
+pub IsMade-steps : (g : RelationParts) (sets left outs : List ℕ) → IsGrid g.grid → is_right g.grid g.vcs g.classes g.rule ≡ true → All (λ row. row_fault g.grid g.vcs g.classes row ≡ None) (table_rows_of g.rule)
     → IsEntered g (table g sets) → IsSoundOut (table g sets) outs → ((m r t : ℕ) → IsPlace (table g sets) m r t → IsFullOut (table g sets) outs m r t)
     → ((b i : ℕ) → b < pages g.grid g.classes → i < width g.grid g.vcs → page_set (table g left) b i ≡ left_at (table g sets) outs b i) → IsMade g sets left outs
 IsMade-steps g sets left outs grid right rows entered sound full trimmed =
     record { good = record { grid = grid; right = right; rows = rows }; entered = entered; sound = sound; full = full; trimmed = trimmed }
 
 -- where no entry is stuck, the rule leads on wherever packets come
-ways-unstuck : (g : Routing) (sets left outs : List ℕ) → IsMade g sets left outs → IsUnstuck g left outs → (e : Entry) → IsNoWay g e → ⊥
+ways-unstuck : (g : RelationParts) (sets left outs : List ℕ) → IsMade g sets left outs → IsUnstuck g left outs → (e : Entry) → IsNoWay g e → ⊥
 ways-unstuck g sets left outs made unstuck e way =
     let at = StuckAt-no_way g sets left outs made e way in
     false≢true (sym (unstuck at.page at.input at.exists at.within) ∙ at.stuck)
 
-pub IsRelationOfRule-made : (g : Routing) (sets left outs : List ℕ) → IsMade g sets left outs → IsUnstuck g left outs → IsTable (table g left) → IsRelationOfRule g (table g left)
+pub IsRelationOfRule-made : (g : RelationParts) (sets left outs : List ℕ) → IsMade g sets left outs → IsUnstuck g left outs → HasTableSize (table g left) → IsRelationOfRule g (table g left)
 IsRelationOfRule-made g sets left outs made unstuck size = record {
   faultless = record { right = made.good.right; rows = made.good.rows; ways = ways-unstuck g sets left outs made unstuck };
   grid = refl;

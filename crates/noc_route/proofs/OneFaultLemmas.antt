@@ -6,7 +6,7 @@ use Rattle.std.proofs.lemmas.Bool.{false≢true}
 use Rattle.std.proofs.lemmas.Bool.Decides.{nat_tests}
 use Rattle.noc_route.specs.Built.{IsFaultless, IsRelationOfRule}
 use Rattle.noc_route.specs.Order.{numbers_before, row_numbers, entry_numbers}
-use Rattle.noc_route.specs.Relation.{Routing, is_right, IsFaultOf, IsFirstRow, IsFirstNoWay, rows_of, row_fault}
+use Rattle.noc_route.specs.Relation.{RelationParts, is_right, IsFaultOf, IsFirstRow, IsFirstNoWay, table_rows_of, row_fault}
 use Rattle.noc_route.specs.Routes.{Routes}
 use Rattle.noc_route.specs.declared.rule.Entry.{Entry}
 use Rattle.noc_route.specs.declared.rule.RouteRow.{RouteRow}
@@ -49,12 +49,12 @@ one_entry x y h k = ap entry_with (one_place (entry_numbers x) (entry_numbers y)
 -- ---- faults
 
 -- what a fault other than of memory says of a rule
-data Says (g : Routing) (f : RouteFault) : Type 0 where
+data Says (g : RelationParts) (f : RouteFault) : Type 0 where
   wrong : f ≡ WrongShape → is_right g.grid g.vcs g.classes g.rule ≡ false → Says g f
   bad : IsFirstRow g f → Says g f
   no_way : {e : Entry} → f ≡ NoWay e → IsFirstNoWay g e → Says g f
 
-says : (g : Routing) (f : RouteFault) → IsFaultOf g f → (f ≡ Memory) ⊎ Says g f
+says : (g : RelationParts) (f : RouteFault) → IsFaultOf g f → (f ≡ Memory) ⊎ Says g f
 says g WrongShape h = inr (wrong refl h)
 says g (NoLink row) h = inr (bad h)
 says g (NotMinimal row) h = inr (bad h)
@@ -64,18 +64,18 @@ says g (NoWay e) h = inr (no_way refl h)
 says g Memory h = inl refl
 
 -- a bad row is not among rows that are all good
-no_bad : (g : Routing) (f : RouteFault) → All (λ row. row_fault g.grid g.vcs g.classes row ≡ None) (rows_of g.rule) → IsFirstRow g f → ⊥
+no_bad : (g : RelationParts) (f : RouteFault) → All (λ row. row_fault g.grid g.vcs g.classes row ≡ None) (table_rows_of g.rule) → IsFirstRow g f → ⊥
 no_bad g f good h =
-    let none : row_fault g.grid g.vcs g.classes h.first.row ≡ None = All-contains (λ row. row_fault g.grid g.vcs g.classes row ≡ None) (rows_of g.rule) h.first.row good h.first.there in
+    let none : row_fault g.grid g.vcs g.classes h.first.row ≡ None = All-contains (λ row. row_fault g.grid g.vcs g.classes row ≡ None) (table_rows_of g.rule) h.first.row good h.first.there in
     let some = h.first.faulty in
     cc
 
-faultless : (g : Routing) (f : RouteFault) → IsFaultless g → Says g f → ⊥
+faultless : (g : RelationParts) (f : RouteFault) → IsFaultless g → Says g f → ⊥
 faultless g f good (wrong e h) = false≢true (sym h ∙ good.right)
 faultless g f good (bad h) = no_bad g f good.rows h
 faultless g f good (no_way {e = e} is h) = good.ways e h.here
 
-pub only-memory : (g : Routing) (routes : Routes) (f : RouteFault) → IsRelationOfRule g routes → IsFaultOf g f → f ≡ Memory
+pub only-memory : (g : RelationParts) (routes : Routes) (f : RouteFault) → IsRelationOfRule g routes → IsFaultOf g f → f ≡ Memory
 only-memory g routes f good h =
     elim (says g f h) [
       | inl e ↦ e
@@ -83,18 +83,18 @@ only-memory g routes f good h =
     ]
 
 -- no bad row comes before this one
-abbrev IsAfter : Routing → RouteRow → RouteRow → Type 0
+abbrev IsAfter : RelationParts → RouteRow → RouteRow → Type 0
 IsAfter g first row = (row_fault g.grid g.vcs g.classes row ≡ None) ⊎ (numbers_before (row_numbers row) (row_numbers first) ≡ false)
 
 -- a bad row does not come before the first
-after_first : (g : Routing) (f k : RouteFault) (a : IsFirstRow g f) (b : IsFirstRow g k) → numbers_before (row_numbers b.first.row) (row_numbers a.first.row) ≡ false
-after_first g f k a b = at (All-contains (IsAfter g a.first.row) (rows_of g.rule) b.first.row a.first.first b.first.there)
+after_first : (g : RelationParts) (f k : RouteFault) (a : IsFirstRow g f) (b : IsFirstRow g k) → numbers_before (row_numbers b.first.row) (row_numbers a.first.row) ≡ false
+after_first g f k a b = at (All-contains (IsAfter g a.first.row) (table_rows_of g.rule) b.first.row a.first.first b.first.there)
   where
     at : IsAfter g a.first.row b.first.row → numbers_before (row_numbers b.first.row) (row_numbers a.first.row) ≡ false
     at (inl none) = (let some = b.first.faulty in cc)
     at (inr after) = after
 
-one_says : (g : Routing) (f k : RouteFault) → Says g f → Says g k → f ≡ k
+one_says : (g : RelationParts) (f k : RouteFault) → Says g f → Says g k → f ≡ k
 one_says g f k (wrong e h) (wrong d u) = e ∙ sym d
 one_says g f k (wrong e h) (bad u) = absurd (false≢true (sym h ∙ u.right))
 one_says g f k (wrong e h) (no_way d u) = absurd (false≢true (sym h ∙ u.right))
@@ -108,7 +108,7 @@ one_says g f k (no_way e h) (wrong d u) = absurd (false≢true (sym u ∙ h.righ
 one_says g f k (no_way e h) (bad u) = absurd (no_bad g k h.rows u)
 one_says g f k (no_way {e = x} e h) (no_way {e = y} d u) = e ∙ ap NoWay (one_entry x y (u.first x h.here) (h.first y u.here)) ∙ sym d
 
-pub one-fault : (g : Routing) (f k : RouteFault) → f ≢ Memory → k ≢ Memory → IsFaultOf g f → IsFaultOf g k → f ≡ k
+pub one-fault : (g : RelationParts) (f k : RouteFault) → f ≢ Memory → k ≢ Memory → IsFaultOf g f → IsFaultOf g k → f ≡ k
 one-fault g f k p q h u = at (says g f h) (says g k u)
   where
     at : (f ≡ Memory) ⊎ Says g f → (k ≡ Memory) ⊎ Says g k → f ≡ k

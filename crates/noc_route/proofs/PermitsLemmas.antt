@@ -7,7 +7,7 @@ use Rattle.std.proofs.lemmas.Bool.{cases_eq, eq-eqb, ne_eqb, eqb-true, false≢t
 use Rattle.noc_topo.specs.Shape.{Grid, nodes, local_port, neighbour}
 use Rattle.noc_topo.proofs.LinkLemmas.{link_back}
 use Rattle.noc_packet.specs.Set.{has_bit}
-use Rattle.noc_route.specs.Channel.{Channel, Link, Inject, Eject, arrival_of, begin, channel_vc, output_at}
+use Rattle.noc_route.specs.Channel.{Channel, Link, Inject, Eject, arrival_of, sending_router, channel_vc, output_at}
 use Rattle.noc_route.specs.Routes.{Routes, set_at, permits, permits_at, is_sent, IsRelation, HasHop, HasLead}
 use Rattle.noc_route.proofs.TrimLemmas.{index-parts, port-below}
 use Rattle.noc_route.proofs.BuiltLemmas.{Exists, set_at-member, linked-port, same-channel}
@@ -75,7 +75,7 @@ permits-inject routes m c t n v e = at (arrival_of routes.grid c) (and_parts (is
 
 -- a permitted channel begins where the packet's channel arrives
 pub permits-begins : (routes : Routes) (m : ℕ) (c : Channel) (t : ℕ) (o : Channel) → permits routes m c t o ≡ true
-    → (place : ℕ × ℕ) × (arrival_of routes.grid c ≡ Some place) × (begin o ≡ Some place.0)
+    → (place : ℕ × ℕ) × (arrival_of routes.grid c ≡ Some place) × (sending_router o ≡ Some place.0)
 permits-begins routes m c t (Link r p v) e = let h = PermitsLink-from_test routes m c t r p v e in ((r, h.in_port), h.arrives, refl)
 permits-begins routes m c t (Eject r v) e = let h = PermitsEject-from_test routes m c t r v e in ((r, h.in_port), h.arrives, refl)
 permits-begins routes m c t (Inject n v) e = absurd (permits-inject routes m c t n v e)

@@ -10,14 +10,14 @@ use Rattle.noc_packet.specs.Set.{has_bit}
 use Rattle.noc_packet.proofs.SetLemmas.{same_set}
 use Rattle.noc_route.specs.Built.{IsRelationOfRule}
 use Rattle.noc_route.specs.Channel.{Channel, Link, Inject, Eject, arrival_of, channel_vc}
-use Rattle.noc_route.specs.Relation.{Routing}
-use Rattle.noc_route.specs.Routes.{Routes, width, pages, page_class, page_router, page_dst, set_at, permits, permits_at, is_sent, IsTable, IsRelation}
+use Rattle.noc_route.specs.Relation.{RelationParts}
+use Rattle.noc_route.specs.Routes.{Routes, width, pages, page_class, page_router, page_dst, set_at, permits, permits_at, is_sent, HasTableSize, IsRelation}
 use Rattle.noc_route.proofs.PlaceLemmas.{page-router}
 use Rattle.noc_route.proofs.TrimLemmas.{index-parts, port-below}
 use Rattle.noc_route.proofs.EnterLemmas.{page-whole}
 use Rattle.noc_route.proofs.BuiltLemmas.{table, Exists, set_at-member, set_at-exists}
 
-module _ (g : Routing) where
+module _ (g : RelationParts) where
   -- a channel on which packets come to a router's input
   record IsFrom (r p v : ℕ) (c : Channel) : Type 0 where
     pub arrives : arrival_of g.grid c ≡ Some (r, p)
@@ -98,7 +98,7 @@ module _ (g : Routing) where
       at k false true e f = absurd (false≢true (sym e ∙ member-other ys xs other one m r p v t k f))
 
   -- each place of a table is that of an entry
-  place-entry : (sets : List ℕ) (j : ℕ) → IsTable (table g sets) → j < length sets
+  place-entry : (sets : List ℕ) (j : ℕ) → HasTableSize (table g sets) → j < length sets
       → (let b = j / width g.grid g.vcs in let i = j % width g.grid g.vcs in get_or sets j 0 ≡ set_at (table g sets) (page_class g.grid g.classes b) (page_router g.grid g.classes b) (i / g.vcs) (i % g.vcs) (page_dst g.grid b))
   place-entry sets j size l =
       let w = width g.grid g.vcs in

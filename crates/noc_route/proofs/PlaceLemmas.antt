@@ -58,11 +58,11 @@ page-router b n c some few l =
     let pair : b / n < n * c = (div-lt_iff_lt-mul {k = n} {x = b} {y = n * c} (omega arith)).1 l in
     (div-lt_iff_lt-mul {k = c} {x = b / n} {y = n} (omega arith)).1 pair
 
--- .. the port of a channel by its index
+-- the port of a channel by its index exists
 pub index-port : (k n ports vcs : ℕ) → 1 ≤ vcs → n ≡ ports * vcs → k < n → k / vcs < ports
 index-port k n ports vcs some e l = (div-lt_iff_lt-mul {k = vcs} {x = k} {y = ports} some).1 (omega arith)
 
--- .. and so do the two nodes of a pair
+-- the two nodes of a pair exist
 pub pair-first : (n m pair : ℕ) → n ≡ m → 1 ≤ n → pair < n * n → pair / n < m
 pair-first n m pair e some l = let below : pair / n < n = (div-lt_iff_lt-mul {k = n} {x = pair} {y = n} some).1 l in omega arith
 
@@ -109,7 +109,7 @@ each-push d P [] x all last (suc k) l = absurd (omega arith)
 each-push d P (y ∷ xs) x all last zero l = all zero (omega arith)
 each-push d P (y ∷ xs) x all last (suc k) l = each-push d (λ i. P (suc i)) xs x (λ i m. all (suc i) (omega arith)) last k (omega arith)
 
--- .. where the list has n elements, and ys is the one that has grown
+-- what holds of each element of a list of n, and of one more, holds of the list that has grown
 pub each-pushed : {X : Type 0} (d : X) (P : ℕ → X → Type 0) (xs ys : List X) (x : X) (n : ℕ) → length xs ≡ n → ys ≡ xs ++ x ∷ [] → ((k : ℕ) → k < n → P k (get_or xs k d)) → P n x
     → (k : ℕ) → k < n + 1 → P k (get_or ys k d)
 each-pushed {X = X} d P xs ys x n long grown all last =

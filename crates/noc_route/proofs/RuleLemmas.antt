@@ -8,7 +8,7 @@ use Rattle.noc_topo.specs.Words.{is_some_of}
 use Rattle.noc_topo.specs.Shape.{Grid, IsGrid, local_port, neighbour, distance, coordinates}
 use Rattle.noc_topo.proofs.DistanceLemmas.{hop-by_one}
 use Rattle.noc_packet.specs.declared.limits.TheConstants.{MAX_CHANNELS, MAX_CLASSES}
-use Rattle.noc_route.specs.Relation.{Routing, is_right, escapes, is_in_block, takes_port, takes_channel, is_row_of, has_row, rows_of, is_real_row, hop_fault, row_fault, leads, is_led, dor_port, is_west_first, goes_up}
+use Rattle.noc_route.specs.Relation.{RelationParts, is_right, escapes, is_in_block, takes_port, takes_channel, names_entry, has_route_row, table_rows_of, is_real_row, hop_fault, row_fault, leads, is_led, dor_port, is_west_first, goes_up}
 use Rattle.noc_route.specs.declared.rule.Rule.{Rule}
 use Rattle.noc_route.specs.declared.rule.Rule.TheVariants.{Dor, Dateline, WestFirst, Adaptive, Rows}
 use Rattle.noc_route.specs.declared.rule.RouteRow.{RouteRow}
@@ -62,13 +62,13 @@ hop_fault-nearer g row next e = at (nat_eq row.router row.dst) refl (nat_lt (dis
 -- ---- a rule without a fault
 
 -- what is made routing_of right numbers, and routing_of rows without a fault
-pub record IsWellMade (g : Routing) : Type 0 where
+pub record IsWellMade (g : RelationParts) : Type 0 where
   pub grid : IsGrid g.grid
   pub right : is_right g.grid g.vcs g.classes g.rule ≡ true
-  pub rows : All (λ row. row_fault g.grid g.vcs g.classes row ≡ None) (rows_of g.rule)
+  pub rows : All (λ row. row_fault g.grid g.vcs g.classes row ≡ None) (table_rows_of g.rule)
 
 -- the row routing_of a table that leads on
-pub record LeadingRow (g : Routing) (m r p v t q w : ℕ) : Type 0 where
+pub record LeadingRow (g : RelationParts) (m r p v t q w : ℕ) : Type 0 where
   pub row : RouteRow
   pub names : NamesIt m r p v t q w row
   pub faultless : row_fault g.grid g.vcs g.classes row ≡ None
@@ -76,9 +76,9 @@ pub record LeadingRow (g : Routing) (m r p v t q w : ℕ) : Type 0 where
 zero_row : RouteRow
 zero_row = record { class = 0; router = 0; in_port = 0; in_vc = 0; dst = 0; out_port = 0; out_vc = 0 }
 
-leading-row : (g : Routing) (rows : List RouteRow) (m r p v t q w : ℕ) → All (λ row. row_fault g.grid g.vcs g.classes row ≡ None) rows → has_row rows m (r, p) v t q w ≡ true → LeadingRow g m r p v t q w
+leading-row : (g : RelationParts) (rows : List RouteRow) (m r p v t q w : ℕ) → All (λ row. row_fault g.grid g.vcs g.classes row ≡ None) rows → has_route_row rows m (r, p) v t q w ≡ true → LeadingRow g m r p v t q w
 leading-row g rows m r p v t q w good e =
-    let found = some_row (is_row_of m (r, p) v t q w) rows e in
+    let found = some_row (names_entry m (r, p) v t q w) rows e in
     record { row = get_or rows found.0 zero_row; names = is_row_of-parts m r p v t q w (get_or rows found.0 zero_row) (found.2 zero_row); faultless = good found.0 zero_row found.1 }
 
 -- ---- the channel
@@ -117,11 +117,11 @@ channel-in_block g vcs classes Adaptive m xs ts port v e = (and_parts (is_in_blo
 channel-in_block g vcs classes (Rows rows) m xs ts port v e = e
 
 -- at the destination a rule by coordinates leads to the local port, and elsewhere along a port that it takes
-pub record IsLedBy (g : Routing) (m r t p v : ℕ) : Type 0 where
+pub record IsLedBy (g : RelationParts) (m r t p v : ℕ) : Type 0 where
   pub page : is_in_block g.vcs g.classes m v ≡ true
   pub way : ((r ≡ t) × (p ≡ local_port g.grid)) ⊎ ((r ≢ t) × (takes_port g.grid g.rule (coordinates g.grid.radix r) (coordinates g.grid.radix t) p ≡ true))
 
-is_led-parts : (g : Routing) (m r t p v : ℕ) → is_led g m r t p v ≡ true → IsLedBy g m r t p v
+is_led-parts : (g : RelationParts) (m r t p v : ℕ) → is_led g m r t p v ≡ true → IsLedBy g m r t p v
 is_led-parts g m r t p v e = at (nat_eq r t) refl
   where
     at : (b : Bool) → nat_eq r t ≡ b → IsLedBy g m r t p v
@@ -197,7 +197,7 @@ leads-vc_at grid vcs classes (Rows rows) m r p v t q w good l e =
     let real = IsRealRow-from_test grid vcs classes row.row (row_fault-none grid vcs classes row.row row.faultless).0 in
     omega (arith, real.out_vc, row.names.out_vc)
 
-pub leads-vc : (g : Routing) (m r p v t q w : ℕ) → IsWellMade g → m < g.classes → leads g m (r, p) v t q w ≡ true → w < g.vcs
+pub leads-vc : (g : RelationParts) (m r p v t q w : ℕ) → IsWellMade g → m < g.classes → leads g m (r, p) v t q w ≡ true → w < g.vcs
 leads-vc g m r p v t q w good l e = leads-vc_at g.grid g.vcs g.classes g.rule m r p v t q w good l e
 
 -- ---- the hop
@@ -214,7 +214,7 @@ named-hop grid vcs classes rule m r t p v sound right l e = at rule right (is_le
     at Adaptive right (inr way) = NearerHop-adaptive grid r p t sound l way.1
     at (Rows rows) right (inr way) = absurd (false≢true way.1)
 
-row-hop : (g : Routing) (m r q v t p w : ℕ) → IsGrid g.grid → p < local_port g.grid → LeadingRow g m r q v t p w → NearerHop g.grid r p t
+row-hop : (g : RelationParts) (m r q v t p w : ℕ) → IsGrid g.grid → p < local_port g.grid → LeadingRow g m r q v t p w → NearerHop g.grid r p t
 row-hop g m r q v t p w sound l lead = at (neighbour g.grid r p) refl
   where
     good : (is_real_row g.grid g.vcs g.classes lead.row ≡ true) × (hop_fault g.grid lead.row (neighbour g.grid lead.row.router lead.row.out_port) ≡ None)
@@ -248,7 +248,7 @@ leads-hop_at grid vcs classes (Rows rows) m r q v t p w good l e =
     row-hop (routing_of grid vcs classes (Rows rows)) m r q v t p w good.grid l (leading-row (routing_of grid vcs classes (Rows rows)) rows.items m r q v t p w good.rows e)
 
 -- a link to which a rule leads comes nearer by one
-pub leads-hop : (g : Routing) (m r q v t p w : ℕ) → IsWellMade g → p < local_port g.grid → leads g m (r, q) v t p w ≡ true → NearerHop g.grid r p t
+pub leads-hop : (g : RelationParts) (m r q v t p w : ℕ) → IsWellMade g → p < local_port g.grid → leads g m (r, q) v t p w ≡ true → NearerHop g.grid r p t
 leads-hop g m r q v t p w good l e = leads-hop_at g.grid g.vcs g.classes g.rule m r q v t p w good l e
 
 -- the local port has no link
@@ -276,5 +276,5 @@ leads-home_at grid vcs classes (Rows rows) m r q v t w good e =
     sym lead.names.router ∙ hop_fault-home grid lead.row (sym (ap (hop_fault grid lead.row) none) ∙ right.1) ∙ lead.names.dst
 
 -- a rule leads to the local port at the destination alone
-pub leads-home : (g : Routing) (m r q v t w : ℕ) → IsWellMade g → leads g m (r, q) v t (local_port g.grid) w ≡ true → r ≡ t
+pub leads-home : (g : RelationParts) (m r q v t w : ℕ) → IsWellMade g → leads g m (r, q) v t (local_port g.grid) w ≡ true → r ≡ t
 leads-home g m r q v t w good e = leads-home_at g.grid g.vcs g.classes g.rule m r q v t w good e

@@ -6,7 +6,7 @@ use Rattle.std.proofs.lemmas.Bool.{cases_eq, cases_lt, false≢true}
 use Rattle.std.proofs.lemmas.List.{get_or-set_same, get_or-set_other}
 use Rattle.noc_route.specs.Order.{numbers_before, entry_numbers, earlier_entry}
 use Rattle.noc_route.specs.Routes.{Routes, width, pages}
-use Rattle.noc_route.specs.Trimming.{page_set, comes_at, left_at, is_stuck_at, entry_at, IsNoEarlier, IsStuckFirst, IsFirstStuck}
+use Rattle.noc_route.specs.Trimming.{page_set, comes_at, left_at, is_stuck_at, entry_on_page, IsNoEarlier, IsStuckFirst, IsFirstStuck}
 use Rattle.noc_route.specs.declared.rule.Entry.{Entry}
 use Rattle.noc_route.proofs.OrderLemmas.{before-not-self, before-trans}
 use Rattle.noc_route.proofs.PlaceLemmas.{flat-below}
@@ -59,15 +59,15 @@ IsFirstStuck-passed routes outs b i (Some e) l free h = record {
 -- what is no earlier than an entry is no earlier than one before it
 IsNoEarlier-before : (routes : Routes) (outs : List ℕ) (b i : ℕ) (e first : Entry) → numbers_before (entry_numbers first) (entry_numbers e) ≡ true → IsNoEarlier routes outs b i e → IsNoEarlier routes outs b i first
 IsNoEarlier-before routes outs b i e first before (inl free) = inl free
-IsNoEarlier-before routes outs b i e first before (inr later) = at (numbers_before (entry_numbers (entry_at routes b i)) (entry_numbers first)) refl
+IsNoEarlier-before routes outs b i e first before (inr later) = at (numbers_before (entry_numbers (entry_on_page routes b i)) (entry_numbers first)) refl
   where
-    at : (x : Bool) → numbers_before (entry_numbers (entry_at routes b i)) (entry_numbers first) ≡ x → IsNoEarlier routes outs b i first
+    at : (x : Bool) → numbers_before (entry_numbers (entry_on_page routes b i)) (entry_numbers first) ≡ x → IsNoEarlier routes outs b i first
     at false f = inr f
-    at true f = absurd (false≢true (sym later ∙ before-trans (entry_numbers (entry_at routes b i)) (entry_numbers first) (entry_numbers e) refl refl f before))
+    at true f = absurd (false≢true (sym later ∙ before-trans (entry_numbers (entry_on_page routes b i)) (entry_numbers first) (entry_numbers e) refl refl f before))
 
 IsStuckFirst-new : (routes : Routes) (outs : List ℕ) (b i : ℕ) (first : Option Entry) → b < pages routes.grid routes.classes → i < width routes.grid routes.vcs → is_stuck_at routes outs b i ≡ true
-    → ((e : Entry) → first ≡ Some e → numbers_before (entry_numbers (entry_at routes b i)) (entry_numbers e) ≡ true)
-    → IsFirstStuck routes outs (b * width routes.grid routes.vcs + i) first → IsStuckFirst routes outs (b * width routes.grid routes.vcs + i + 1) (entry_at routes b i)
+    → ((e : Entry) → first ≡ Some e → numbers_before (entry_numbers (entry_on_page routes b i)) (entry_numbers e) ≡ true)
+    → IsFirstStuck routes outs (b * width routes.grid routes.vcs + i) first → IsStuckFirst routes outs (b * width routes.grid routes.vcs + i + 1) (entry_on_page routes b i)
 IsStuckFirst-new routes outs b i first m l stuck before h = record {
   page = b;
   input = i;
@@ -78,14 +78,14 @@ IsStuckFirst-new routes outs b i first m l stuck before h = record {
   first = λ b' i' m' l' n. at first before h b' i' m' l' (next_place (width routes.grid routes.vcs) b i b' i' l l' n);
 }
   where
-    at : (first : Option Entry) → ((e : Entry) → first ≡ Some e → numbers_before (entry_numbers (entry_at routes b i)) (entry_numbers e) ≡ true)
+    at : (first : Option Entry) → ((e : Entry) → first ≡ Some e → numbers_before (entry_numbers (entry_on_page routes b i)) (entry_numbers e) ≡ true)
         → IsFirstStuck routes outs (b * width routes.grid routes.vcs + i) first → (b' i' : ℕ) → b' < pages routes.grid routes.classes → i' < width routes.grid routes.vcs
-        → (b' * width routes.grid routes.vcs + i' < b * width routes.grid routes.vcs + i) ⊎ ((b' ≡ b) × (i' ≡ i)) → IsNoEarlier routes outs b' i' (entry_at routes b i)
+        → (b' * width routes.grid routes.vcs + i' < b * width routes.grid routes.vcs + i) ⊎ ((b' ≡ b) × (i' ≡ i)) → IsNoEarlier routes outs b' i' (entry_on_page routes b i)
     at None before h b' i' m' l' (inl n) = inl (h b' i' m' l' n)
-    at (Some e) before h b' i' m' l' (inl n) = IsNoEarlier-before routes outs b' i' e (entry_at routes b i) (before e refl) (h.first b' i' m' l' n)
-    at first before h b' i' m' l' (inr same) = IsNoEarlier-at routes outs b i b' i' (entry_at routes b i) same.0 same.1 (inr (before-not-self (entry_numbers (entry_at routes b i))))
+    at (Some e) before h b' i' m' l' (inl n) = IsNoEarlier-before routes outs b' i' e (entry_on_page routes b i) (before e refl) (h.first b' i' m' l' n)
+    at first before h b' i' m' l' (inr same) = IsNoEarlier-at routes outs b i b' i' (entry_on_page routes b i) same.0 same.1 (inr (before-not-self (entry_numbers (entry_on_page routes b i))))
 
-IsStuckFirst-kept : (routes : Routes) (outs : List ℕ) (b i : ℕ) (e : Entry) → i < width routes.grid routes.vcs → numbers_before (entry_numbers (entry_at routes b i)) (entry_numbers e) ≡ false
+IsStuckFirst-kept : (routes : Routes) (outs : List ℕ) (b i : ℕ) (e : Entry) → i < width routes.grid routes.vcs → numbers_before (entry_numbers (entry_on_page routes b i)) (entry_numbers e) ≡ false
     → IsStuckFirst routes outs (b * width routes.grid routes.vcs + i) e → IsStuckFirst routes outs (b * width routes.grid routes.vcs + i + 1) e
 IsStuckFirst-kept routes outs b i e l later h = record {
   page = h.page;
@@ -104,18 +104,18 @@ IsStuckFirst-kept routes outs b i e l later h = record {
 
 pub IsStuckFirst-earlier : (routes : Routes) (outs : List ℕ) (b i : ℕ) (first : Option Entry) → b < pages routes.grid routes.classes → i < width routes.grid routes.vcs → is_stuck_at routes outs b i ≡ true
     → IsFirstStuck routes outs (b * width routes.grid routes.vcs + i) first
-    → IsStuckFirst routes outs (b * width routes.grid routes.vcs + i + 1) (earlier_entry (entry_at routes b i) first)
+    → IsStuckFirst routes outs (b * width routes.grid routes.vcs + i + 1) (earlier_entry (entry_on_page routes b i) first)
 IsStuckFirst-earlier routes outs b i None m l stuck h = IsStuckFirst-new routes outs b i None m l stuck (λ e never. absurd (cc never)) h
-IsStuckFirst-earlier routes outs b i (Some o) m l stuck h = at (numbers_before (entry_numbers (entry_at routes b i)) (entry_numbers o)) refl
+IsStuckFirst-earlier routes outs b i (Some o) m l stuck h = at (numbers_before (entry_numbers (entry_on_page routes b i)) (entry_numbers o)) refl
   where
-    at : (x : Bool) → numbers_before (entry_numbers (entry_at routes b i)) (entry_numbers o) ≡ x
-        → IsStuckFirst routes outs (b * width routes.grid routes.vcs + i + 1) (earlier_entry (entry_at routes b i) (Some o))
+    at : (x : Bool) → numbers_before (entry_numbers (entry_on_page routes b i)) (entry_numbers o) ≡ x
+        → IsStuckFirst routes outs (b * width routes.grid routes.vcs + i + 1) (earlier_entry (entry_on_page routes b i) (Some o))
     at true f =
-        let P : Bool → Type 0 = λ x. IsStuckFirst routes outs (b * width routes.grid routes.vcs + i + 1) (if x then entry_at routes b i else o) in
+        let P : Bool → Type 0 = λ x. IsStuckFirst routes outs (b * width routes.grid routes.vcs + i + 1) (if x then entry_on_page routes b i else o) in
         subst P (sym f)
-        (IsStuckFirst-new routes outs b i (Some o) m l stuck (λ e same. let one : o ≡ e = cc in ap (λ e. numbers_before (entry_numbers (entry_at routes b i)) (entry_numbers e)) (sym one) ∙ f) h)
+        (IsStuckFirst-new routes outs b i (Some o) m l stuck (λ e same. let one : o ≡ e = cc in ap (λ e. numbers_before (entry_numbers (entry_on_page routes b i)) (entry_numbers e)) (sym one) ∙ f) h)
     at false f =
-        let P : Bool → Type 0 = λ x. IsStuckFirst routes outs (b * width routes.grid routes.vcs + i + 1) (if x then entry_at routes b i else o) in
+        let P : Bool → Type 0 = λ x. IsStuckFirst routes outs (b * width routes.grid routes.vcs + i + 1) (if x then entry_on_page routes b i else o) in
         subst P (sym f) (IsStuckFirst-kept routes outs b i o l f h)
 
 -- ---- another table with the same entries stuck

@@ -22,10 +22,10 @@ is_link (Inject n v) = false
 is_link (Eject n v) = false
 
 -- the router that sends on it
-abbrev pub begin : Channel → Option ℕ
-begin (Link r p v) = Some r
-begin (Inject n v) = None
-begin (Eject n v) = Some n
+abbrev pub sending_router : Channel → Option ℕ
+sending_router (Link r p v) = Some r
+sending_router (Inject n v) = None
+sending_router (Eject n v) = Some n
 
 -- the router that holds its buffer, and the input port there
 abbrev pub arrival_of : Grid → Channel → Option (ℕ × ℕ)

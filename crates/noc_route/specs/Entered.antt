@@ -1,29 +1,29 @@
 -- A rule's sets, before entries that no packet reaches are taken out.
 use Rattle.std.specs.Prelude.{◌≡◌, ℕ, ◌/◌, ◌%◌, ◌<◌, ◌&&◌, Bool, false, List, nat_eq, nat_lt, slice_index_or}
-use Rattle.noc_topo.specs.Shape.{Grid, coordinates, padded}
+use Rattle.noc_topo.specs.Shape.{Grid, coordinates, three_coordinates}
 use Rattle.noc_packet.specs.Set.{has_bit}
-use Rattle.noc_route.specs.Relation.{Routing, dor_port, is_nearer, leads, has_row}
+use Rattle.noc_route.specs.Relation.{RelationParts, dor_port, is_nearer, leads, has_route_row}
 use Rattle.noc_route.specs.Routes.{Routes, width, page_class, page_router, page_dst}
 use Rattle.noc_route.specs.Trimming.{set_in, IsPlace}
-use Rattle.noc_route.specs.declared.frame.Frame.{Frame}
+use Rattle.noc_route.specs.declared.sizes.Sizes.{Sizes}
 use Rattle.noc_route.specs.declared.rule.RouteRow.{RouteRow}
 use Rattle.noc_route.specs.declared.rule.Rule.{Rule}
 use Rattle.noc_route.specs.declared.named.Way.{Way}
 
 -- a rule over the numbers of a frame
-abbrev pub routing_in : Frame → Rule → Routing
+abbrev pub routing_in : Sizes → Rule → RelationParts
 routing_in f rule = record { grid = f.shape; vcs = f.vcs; classes = f.classes; rule = rule }
 
 -- what is known of the way from router r to destination t
 pub record IsWay (g : Grid) (way : Way) (r t : ℕ) : Type 0 where
-  pub here : way.here ≡ padded (coordinates g.radix r)
-  pub there : way.there ≡ padded (coordinates g.radix t)
+  pub here : way.here ≡ three_coordinates (coordinates g.radix r)
+  pub there : way.there ≡ three_coordinates (coordinates g.radix t)
   pub arrived : way.arrived ≡ nat_eq r t
   pub towards : way.towards ≡ dor_port g (coordinates g.radix r) (coordinates g.radix t)
   pub nearer : (port : ℕ) → slice_index_or way.nearer port false ≡ is_nearer g (coordinates g.radix r) (coordinates g.radix t) port
 
 -- each set has the output channels to which the rule leads
-abbrev pub IsEntered : Routing → Routes → Type 0
+abbrev pub IsEntered : RelationParts → Routes → Type 0
 IsEntered g routes =
     (m r t i k : ℕ) → IsPlace routes m r t → i < width routes.grid routes.vcs
     → has_bit (set_in routes m r t i) k ≡ (nat_lt k (width routes.grid routes.vcs) && leads g m (r, i / routes.vcs) (i % routes.vcs) t (k / routes.vcs) (k % routes.vcs))
@@ -31,4 +31,4 @@ IsEntered g routes =
 -- whether one of the rows names this input channel of a page and this output channel
 abbrev pub has_row_at : Routes → List RouteRow → ℕ → ℕ → ℕ → Bool
 has_row_at routes rows b i k =
-    has_row rows (page_class routes.grid routes.classes b) (page_router routes.grid routes.classes b, i / routes.vcs) (i % routes.vcs) (page_dst routes.grid b) (k / routes.vcs) (k % routes.vcs)
+    has_route_row rows (page_class routes.grid routes.classes b) (page_router routes.grid routes.classes b, i / routes.vcs) (i % routes.vcs) (page_dst routes.grid b) (k / routes.vcs) (k % routes.vcs)

@@ -2,7 +2,7 @@
 use Rattle.std.specs.Prelude.{◌≡◌, ◌≢◌, ℕ, ◌+◌, ◌*◌, ◌<◌, Bool, true, ◌&&◌, List, Option, Some, None, nat_lt, is_some, slice_index_or, if◌then◌else◌, IsTrue}
 use Rattle.noc_topo.specs.Shape.{Grid, nodes, local_port, neighbour}
 use Rattle.noc_route.specs.Channel.{Channel, Link, arrival_of}
-use Rattle.noc_route.specs.Relation.{Routing, IsPermitted}
+use Rattle.noc_route.specs.Relation.{RelationParts, IsPermitted}
 use Rattle.noc_route.specs.Routes.{Routes, permits}
 
 -- a rank for each link channel of a shape with this many channels per link, or none for an adaptive one: router by router, then by
@@ -20,15 +20,15 @@ is_place g vcs r p v = nat_lt r (nodes g) && nat_lt p (local_port g) && nat_lt v
 abbrev pub is_channel : Grid → ℕ → ℕ → ℕ → ℕ → Bool
 is_channel g vcs r p v = is_place g vcs r p v && is_some (neighbour g r p)
 
-abbrev pub places : Grid → ℕ → ℕ
-places g vcs = nodes g * local_port g * vcs
+abbrev pub rank_count : Grid → ℕ → ℕ
+rank_count g vcs = nodes g * local_port g * vcs
 
-abbrev pub place_of : Grid → ℕ → ℕ → ℕ → ℕ → ℕ
-place_of g vcs r p v = (r * local_port g + p) * vcs + v
+abbrev pub rank_index : Grid → ℕ → ℕ → ℕ → ℕ → ℕ
+rank_index g vcs r p v = (r * local_port g + p) * vcs + v
 
 -- the rank of a link channel; none of an adaptive one, and where there is no channel
 abbrev pub rank_at : Ranking → ℕ → ℕ → ℕ → Option ℕ
-rank_at k r p v = if is_place k.grid k.vcs r p v then slice_index_or k.ranks (place_of k.grid k.vcs r p v) None else None
+rank_at k r p v = if is_place k.grid k.vcs r p v then slice_index_or k.ranks (rank_index k.grid k.vcs r p v) None else None
 
 -- what may be taken next: by a packet of a class, on a channel, bound for a node, this channel
 abbrev pub Permitting : Type 1
@@ -50,8 +50,8 @@ pub record IsRanked (Permits : Permitting) (g : Grid) (ranks : ℕ → ℕ → �
 abbrev pub IsRankedBy : Routes → Ranking → Type 0
 IsRankedBy routes k = IsRanked (λ m c t o. IsTrue (permits routes m c t o)) routes.grid (rank_at k)
 
--- the same of a rule, before a relation is built of it
-abbrev pub IsRankedRule : Routing → (ℕ → ℕ → ℕ → Option ℕ) → Type 0
+-- a rule is ranked by these ranks, before a relation is built of it
+abbrev pub IsRankedRule : RelationParts → (ℕ → ℕ → ℕ → Option ℕ) → Type 0
 IsRankedRule g ranks = IsRanked (IsPermitted g) g.grid ranks
 
 -- each link channel of a shape with this many channels per link has a rank

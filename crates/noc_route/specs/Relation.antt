@@ -14,7 +14,7 @@ use Rattle.noc_route.specs.declared.rule.Rule.{Rule}
 use Rattle.noc_route.specs.declared.rule.Rule.TheVariants.{Dor, Dateline, WestFirst, Adaptive, Rows}
 
 -- what a relation is made of
-pub record Routing : Type 0 where
+pub record RelationParts : Type 0 where
   pub grid : Grid
   pub vcs : ℕ
   pub classes : ℕ
@@ -117,18 +117,18 @@ takes_channel g vcs classes _ m xs ts port v = is_in_block vcs classes m v
 -- ---- rows
 
 -- the rows of a table, none of another rule
-abbrev pub rows_of : Rule → List RouteRow
-rows_of (Rows rows) = rows.items
-rows_of _ = []
+abbrev pub table_rows_of : Rule → List RouteRow
+table_rows_of (Rows rows) = rows.items
+table_rows_of _ = []
 
 -- whether a row names this entry and this output channel
-abbrev pub is_row_of : ℕ → ℕ × ℕ → ℕ → ℕ → ℕ → ℕ → RouteRow → Bool
-is_row_of m place in_vc t port v row =
+abbrev pub names_entry : ℕ → ℕ × ℕ → ℕ → ℕ → ℕ → ℕ → RouteRow → Bool
+names_entry m place in_vc t port v row =
     nat_eq row.class m && nat_eq row.router place.0 && nat_eq row.in_port place.1 && nat_eq row.in_vc in_vc
     && nat_eq row.dst t && nat_eq row.out_port port && nat_eq row.out_vc v
 
-abbrev pub has_row : List RouteRow → ℕ → ℕ × ℕ → ℕ → ℕ → ℕ → ℕ → Bool
-has_row rows m place in_vc t port v = list_any (is_row_of m place in_vc t port v) rows
+abbrev pub has_route_row : List RouteRow → ℕ → ℕ × ℕ → ℕ → ℕ → ℕ → ℕ → Bool
+has_route_row rows m place in_vc t port v = list_any (names_entry m place in_vc t port v) rows
 
 -- whether a router has this port, and it is local or has a link
 abbrev pub is_open : Grid → ℕ → ℕ → Bool
@@ -166,7 +166,7 @@ pub record IsFirstFault (g : Grid) (vcs classes : ℕ) (rows : List RouteRow) (f
 
 -- whether a rule by coordinates leads a packet of class m at router r, bound for t, on to channel v of this output port:
 -- at the destination to the ejection channels of the class
-abbrev pub is_led : Routing → ℕ → ℕ → ℕ → ℕ → ℕ → Bool
+abbrev pub is_led : RelationParts → ℕ → ℕ → ℕ → ℕ → ℕ → Bool
 is_led g m r t port v =
     if nat_eq r t
     then nat_eq port (local_port g.grid) && is_in_block g.vcs g.classes m v
@@ -175,32 +175,32 @@ is_led g m r t port v =
 
 -- whether the rule leads a packet of class m, that came to this place (a router and an input port) on channel in_vc and is
 -- bound for t, on to channel v of this output port
-abbrev pub leads : Routing → ℕ → ℕ × ℕ → ℕ → ℕ → ℕ → ℕ → Bool
-leads g m place in_vc t port v = elim g.rule [ Rows rows ↦ has_row rows.items m place in_vc t port v | _ ↦ is_led g m place.0 t port v ]
+abbrev pub leads : RelationParts → ℕ → ℕ × ℕ → ℕ → ℕ → ℕ → ℕ → Bool
+leads g m place in_vc t port v = elim g.rule [ Rows rows ↦ has_route_row rows.items m place in_vc t port v | _ ↦ is_led g m place.0 t port v ]
 
-abbrev pub rule_at : Routing → ℕ → Option (ℕ × ℕ) → ℕ → ℕ → Channel → Bool
-rule_at g m None in_vc t o = false
-rule_at g m (Some place) in_vc t (Inject n v) = false
-rule_at g m (Some place) in_vc t (Link r p v) = nat_eq r place.0 && nat_lt p (local_port g.grid) && leads g m place in_vc t p v
-rule_at g m (Some place) in_vc t (Eject n v) = nat_eq n place.0 && leads g m place in_vc t (local_port g.grid) v
+abbrev pub rule_offers : RelationParts → ℕ → Option (ℕ × ℕ) → ℕ → ℕ → Channel → Bool
+rule_offers g m None in_vc t o = false
+rule_offers g m (Some place) in_vc t (Inject n v) = false
+rule_offers g m (Some place) in_vc t (Link r p v) = nat_eq r place.0 && nat_lt p (local_port g.grid) && leads g m place in_vc t p v
+rule_offers g m (Some place) in_vc t (Eject n v) = nat_eq n place.0 && leads g m place in_vc t (local_port g.grid) v
 
 -- the rule has the class m, the channel c on which a packet is, its destination t, and the next channel o
-abbrev pub rule_has : Routing → ℕ → Channel → ℕ → Channel → Bool
-rule_has g m c t o = rule_at g m (arrival_of g.grid c) (channel_vc c) t o
+abbrev pub rule_has : RelationParts → ℕ → Channel → ℕ → Channel → Bool
+rule_has g m c t o = rule_offers g m (arrival_of g.grid c) (channel_vc c) t o
 
 -- the least set of entries with every injection channel, and with each link channel to which the rule leads from one of them
-pub data IsReached (g : Routing) : ℕ → Channel → ℕ → Type 0 where
+pub data IsReached (g : RelationParts) : ℕ → Channel → ℕ → Type 0 where
   injected : {m n v t : ℕ} → m < g.classes → n < nodes g.grid → v < g.vcs → t < nodes g.grid → t ≢ n → IsReached g m (Inject n v) t
   led_on : {m t : ℕ} {c : Channel} {r p v : ℕ} → IsReached g m c t → IsTrue (rule_has g m c t (Link r p v)) → IsReached g m (Link r p v) t
 
 -- the relation: the rule on the entries that packets reach
-abbrev pub IsPermitted : Routing → ℕ → Channel → ℕ → Channel → Type 0
+abbrev pub IsPermitted : RelationParts → ℕ → Channel → ℕ → Channel → Type 0
 IsPermitted g m c t o = IsReached g m c t × IsTrue (rule_has g m c t o)
 
 -- ---- faults
 
 -- packets come to an entry, and the rule leads nowhere from it
-pub record IsNoWay (g : Routing) (e : Entry) : Type 0 where
+pub record IsNoWay (g : RelationParts) (e : Entry) : Type 0 where
   pub channel : Channel
   pub arrives : arrival_of g.grid channel ≡ Some (e.router, e.in_port)
   pub vc : channel_vc channel ≡ e.in_vc
@@ -208,19 +208,19 @@ pub record IsNoWay (g : Routing) (e : Entry) : Type 0 where
   pub none : (o : Channel) → rule_has g e.class channel e.dst o ≡ false
 
 -- the first such entry, by the entries' numbers, of a rule with right numbers and without a bad row
-pub record IsFirstNoWay (g : Routing) (e : Entry) : Type 0 where
+pub record IsFirstNoWay (g : RelationParts) (e : Entry) : Type 0 where
   pub right : is_right g.grid g.vcs g.classes g.rule ≡ true
-  pub rows : All (λ row. row_fault g.grid g.vcs g.classes row ≡ None) (rows_of g.rule)
+  pub rows : All (λ row. row_fault g.grid g.vcs g.classes row ≡ None) (table_rows_of g.rule)
   pub here : IsNoWay g e
   pub first : (other : Entry) → IsNoWay g other → numbers_before (entry_numbers other) (entry_numbers e) ≡ false
 
 -- the fault of the first bad row, of a rule with right numbers
-pub record IsFirstRow (g : Routing) (fault : RouteFault) : Type 0 where
+pub record IsFirstRow (g : RelationParts) (fault : RouteFault) : Type 0 where
   pub right : is_right g.grid g.vcs g.classes g.rule ≡ true
-  pub first : IsFirstFault g.grid g.vcs g.classes (rows_of g.rule) fault
+  pub first : IsFirstFault g.grid g.vcs g.classes (table_rows_of g.rule) fault
 
 -- the first fault of a rule; memory may be refused wherever the numbers are right
-abbrev pub IsFaultOf : Routing → RouteFault → Type 0
+abbrev pub IsFaultOf : RelationParts → RouteFault → Type 0
 IsFaultOf g WrongShape = is_right g.grid g.vcs g.classes g.rule ≡ false
 IsFaultOf g (NoLink row) = IsFirstRow g (NoLink row)
 IsFaultOf g (NotMinimal row) = IsFirstRow g (NotMinimal row)

@@ -50,7 +50,7 @@ set_at routes m r p v t =
     else 0
 
 -- the limits within which a relation is made, and the size of its table
-pub record IsTable (routes : Routes) : Type 0 where
+pub record HasTableSize (routes : Routes) : Type 0 where
   pub grid : IsGrid routes.grid
   pub some_vcs : 1 ≤ routes.vcs
   pub few_vcs : routes.vcs ≤ MAX_CHANNELS
@@ -96,7 +96,7 @@ pub record HasLead (routes : Routes) (m r p v t : ℕ) : Type 0 where
   pub permitted : has_bit (set_at routes m router in_port in_vc t) channel ≡ true
 
 pub record IsRelation (routes : Routes) : Type 0 where
-  pub table : IsTable routes
+  pub table : HasTableSize routes
   -- what is permitted is an output channel of the router
   pub real : (m r p v t k : ℕ) → has_bit (set_at routes m r p v t) k ≡ true → k < width routes.grid routes.vcs
   -- over a link it comes nearer by one

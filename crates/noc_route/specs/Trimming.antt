@@ -5,10 +5,10 @@ use Rattle.noc_packet.specs.Set.{has_bit}
 use Rattle.noc_route.specs.Routes.{Routes, width, page_of, pages, page_class, page_router, page_dst}
 use Rattle.noc_route.specs.Order.{numbers_before, entry_numbers}
 use Rattle.noc_route.specs.declared.rule.Entry.{Entry}
-use Rattle.noc_route.specs.declared.frame.Frame.{Frame}
+use Rattle.noc_route.specs.declared.sizes.Sizes.{Sizes}
 
 -- a table over the numbers of a frame
-abbrev pub routes_in : Frame → List ℕ → Routes
+abbrev pub routes_in : Sizes → List ℕ → Routes
 routes_in f sets = record { grid = f.shape; vcs = f.vcs; classes = f.classes; sets = sets }
 
 -- the set at an input channel, by its index, of a router, a class and a destination that exist
@@ -86,8 +86,8 @@ left_at routes outs b i = if comes_at routes outs b i then page_set routes b i e
 abbrev pub is_stuck_at : Routes → List ℕ → ℕ → ℕ → Bool
 is_stuck_at routes outs b i = comes_at routes outs b i && nat_eq (page_set routes b i) 0
 
-abbrev pub entry_at : Routes → ℕ → ℕ → Entry
-entry_at routes b i = record {
+abbrev pub entry_on_page : Routes → ℕ → ℕ → Entry
+entry_on_page routes b i = record {
   class = page_class routes.grid routes.classes b;
   router = page_router routes.grid routes.classes b;
   in_port = i / routes.vcs;
@@ -97,7 +97,7 @@ entry_at routes b i = record {
 
 -- whether an entry does not come before another, if packets are stuck at it
 abbrev pub IsNoEarlier : Routes → List ℕ → ℕ → ℕ → Entry → Type 0
-IsNoEarlier routes outs b i e = (is_stuck_at routes outs b i ≡ false) ⊎ (numbers_before (entry_numbers (entry_at routes b i)) (entry_numbers e) ≡ false)
+IsNoEarlier routes outs b i e = (is_stuck_at routes outs b i ≡ false) ⊎ (numbers_before (entry_numbers (entry_on_page routes b i)) (entry_numbers e) ≡ false)
 
 -- the first entry at which packets are stuck, among the first n places of the table
 pub record IsStuckFirst (routes : Routes) (outs : List ℕ) (n : ℕ) (e : Entry) : Type 0 where
@@ -105,7 +105,7 @@ pub record IsStuckFirst (routes : Routes) (outs : List ℕ) (n : ℕ) (e : Entry
   pub input : ℕ
   pub exists : page < pages routes.grid routes.classes
   pub within : input < width routes.grid routes.vcs
-  pub entry : e ≡ entry_at routes page input
+  pub entry : e ≡ entry_on_page routes page input
   pub stuck : is_stuck_at routes outs page input ≡ true
   pub first : (b i : ℕ) → b < pages routes.grid routes.classes → i < width routes.grid routes.vcs → b * width routes.grid routes.vcs + i < n → IsNoEarlier routes outs b i e
 

@@ -12,8 +12,8 @@ use crate::named::named_set;
 use crate::rule::{RouteRow, Rule};
 use noc_packet::ChannelSet;
 
-/// Writes the sets of a rule by coordinates.
-pub fn enter_named(map: &Map, rule: &Rule, sets: &mut [ChannelSet])
+// Writes the sets of a rule by coordinates.
+pub(crate) fn enter_named(map: &Map, rule: &Rule, sets: &mut [ChannelSet])
     requires right { is_right map.now.frame.shape map.now.frame.vcs map.now.frame.classes rule.now ≡ true }
     requires long { length sets.old ≡ pages map.now.frame.shape map.now.frame.classes * width map.now.frame.shape map.now.frame.vcs }
     ensures { let f = map.now.frame in (b i k : ℕ) → b < pages f.shape f.classes → i < width f.shape f.vcs → has_bit (page_set (routes_in f sets.new) b i) k ≡ (nat_lt k (width f.shape f.vcs) && is_led (routing_in f rule.now) (page_class f.shape f.classes b) (page_router f.shape f.classes b) (page_dst f.shape b) (k / f.vcs) (k % f.vcs)) }
@@ -26,7 +26,7 @@ pub fn enter_named(map: &Map, rule: &Rule, sets: &mut [ChannelSet])
     }
 }
 
-/// Writes one set to `count` places from `from` on.
+// Writes one set to `count` places from `from` on.
 fn fill(sets: &mut [ChannelSet], from: usize, count: usize, set: ChannelSet)
     requires { from + count ≤ length sets.old }
     ensures { (j : ℕ) → slice_index sets.new j ≡ (if nat_le from j && nat_lt j (from + count) then set else slice_index sets.old j) }
@@ -36,8 +36,8 @@ fn fill(sets: &mut [ChannelSet], from: usize, count: usize, set: ChannelSet)
     }
 }
 
-/// Writes the sets of a table's rows, each of which names what exists, over sets without members.
-pub fn enter_rows(map: &Map, rows: &[RouteRow], sets: &mut [ChannelSet])
+// Writes the sets of a table's rows, each of which names what exists, over sets without members.
+pub(crate) fn enter_rows(map: &Map, rows: &[RouteRow], sets: &mut [ChannelSet])
     requires long { length sets.old ≡ pages map.now.frame.shape map.now.frame.classes * width map.now.frame.shape map.now.frame.vcs }
     requires rows { All (λ row. is_real_row map.now.frame.shape map.now.frame.vcs map.now.frame.classes row ≡ true) rows.now }
     requires empty { (j : ℕ) → slice_index sets.old j ≡ 0 }

@@ -10,9 +10,9 @@ use crate::map::Map;
 use noc_packet::ChannelSet;
 use noc_topo::MAX_DISTANCE;
 
-/// Writes the channels by which packets leave each router, by class and destination. A packet comes nearer with each hop,
-/// so what reaches a router is known once the routers farther off are done.
-pub fn gather(map: &Map, sets: &[ChannelSet], outs: &mut [ChannelSet])
+// Writes the channels by which packets leave each router, by class and destination. A packet comes nearer with each hop,
+// so what reaches a router is known once the routers farther off are done.
+pub(crate) fn gather(map: &Map, sets: &[ChannelSet], outs: &mut [ChannelSet])
     requires sets { length sets.now ≡ pages map.now.frame.shape map.now.frame.classes * width map.now.frame.shape map.now.frame.vcs }
     requires outs { length outs.old ≡ pages map.now.frame.shape map.now.frame.classes }
     requires nearer { ComesNearer (routes_in map.now.frame sets.now) }
@@ -25,7 +25,7 @@ pub fn gather(map: &Map, sets: &[ChannelSet], outs: &mut [ChannelSet])
     }
 }
 
-/// The same for the routers at one distance from the destination.
+// Gathers what reaches the routers at one distance from the destination.
 fn gather_at(map: &Map, sets: &[ChannelSet], outs: &mut [ChannelSet], distance: usize)
     requires sets { length sets.now ≡ pages map.now.frame.shape map.now.frame.classes * width map.now.frame.shape map.now.frame.vcs }
     requires outs { length outs.old ≡ pages map.now.frame.shape map.now.frame.classes }
@@ -43,7 +43,7 @@ fn gather_at(map: &Map, sets: &[ChannelSet], outs: &mut [ChannelSet], distance: 
     }
 }
 
-/// The same for one router and one destination.
+// Gathers what reaches one router on its way to one destination.
 fn gather_pair(map: &Map, sets: &[ChannelSet], outs: &mut [ChannelSet], router: usize, dst: usize)
     requires sets { length sets.now ≡ pages map.now.frame.shape map.now.frame.classes * width map.now.frame.shape map.now.frame.vcs }
     requires outs { length outs.old ≡ pages map.now.frame.shape map.now.frame.classes }
@@ -62,7 +62,7 @@ fn gather_pair(map: &Map, sets: &[ChannelSet], outs: &mut [ChannelSet], router: 
     }
 }
 
-/// The channels by which packets of a class leave a router on their way to `dst`.
+// The channels by which packets of a class leave a router on their way to `dst`.
 fn leaving(
     map: &Map,
     sets: &[ChannelSet],
@@ -87,16 +87,16 @@ fn leaving(
     all
 }
 
-/// The members of a set, and those of another one if they are to be added.
+// The members of a set, and those of another one if they are to be added.
 fn either_if(set: ChannelSet, other: ChannelSet, is_added: bool) -> ChannelSet
     ensures { (k : ℕ) → has_bit result k ≡ (has_bit set k || (is_added && has_bit other k)) }
 {
     if is_added { set.either(other) } else { set }
 }
 
-/// Whether packets of a class, bound for `dst`, come to an input channel of a router, where `outs` has the channels by
-/// which they leave the routers before it.
-pub fn is_reached(
+// Whether packets of a class, bound for `dst`, come to an input channel of a router, where `outs` has the channels by
+// which they leave the routers before it.
+pub(crate) fn is_reached(
     map: &Map,
     outs: &[ChannelSet],
     class: usize,

@@ -2,7 +2,6 @@
 #![tactic(auto)]
 
 mod enter;
-mod frame;
 mod gather;
 mod laws;
 mod map;
@@ -10,12 +9,13 @@ mod named;
 mod relation;
 mod rows;
 mod rule;
+mod sizes;
 mod trim;
 
-pub use frame::{escapes, is_right, resource_class};
 pub use laws::{
     a_relation_is_ranked_as_its_rule, a_rule_has_a_relation_or_a_fault, a_rule_has_one_relation,
     ranks_of_all_channels_need_only_rise,
 };
 pub use relation::Relation;
 pub use rule::{Entry, RouteFault, RouteRow, Rule};
+pub use sizes::{escapes, is_right, resource_class};

@@ -2,20 +2,26 @@
 
 ghost use Rattle.std.specs.Prelude.{◌≡◌, ℕ, ◌/◌, ◌%◌, ◌<◌, ◌≤◌, ◌&&◌, IfSome, slice_index, slice_index_or, EachIndex, IsTrue, nat_lt, true, false};
 ghost use Rattle.noc_packet.specs.Set.{has_bit};
-ghost use Rattle.noc_topo.specs.Shape.{Grid, nodes, ports, coordinates, padded};
+ghost use Rattle.noc_topo.specs.Shape.{Grid, nodes, ports, coordinates, three_coordinates};
 ghost use Rattle.noc_route.specs.Entered.{routing_in, IsWay};
 ghost use Rattle.noc_route.specs.Relation.{is_right, is_led, dor_port, is_nearer, takes_port, takes_channel, place_in_class, is_escape_taken, dateline_class, is_west_first};
 ghost use Rattle.noc_route.specs.Routes.{width};
 
-use crate::frame::{Frame, escapes, resource_class};
 use crate::map::Map;
 use crate::rule::Rule;
+use crate::sizes::{Sizes, escapes, resource_class};
 use noc_packet::ChannelSet;
 use noc_topo::{Kind, LINKS};
 
-/// The output channels by which a rule by coordinates leads a packet of this class, at this router and bound for `dst`;
-/// none by a table.
-pub fn named_set(map: &Map, rule: &Rule, class: usize, router: usize, dst: usize) -> ChannelSet
+// The output channels by which a rule by coordinates leads a packet of this class, at this router and bound for `dst`;
+// none by a table.
+pub(crate) fn named_set(
+    map: &Map,
+    rule: &Rule,
+    class: usize,
+    router: usize,
+    dst: usize,
+) -> ChannelSet
     requires class { class < map.now.frame.classes }
     requires router { router < nodes map.now.frame.shape }
     requires dst { dst < nodes map.now.frame.shape }
@@ -33,7 +39,7 @@ pub fn named_set(map: &Map, rule: &Rule, class: usize, router: usize, dst: usize
     set
 }
 
-/// The coordinates of a router and a destination, the port of dimension order between them, and the ports that come nearer.
+// The coordinates of a router and a destination, the port of dimension order between them, and the ports that come nearer.
 #[derive(Clone, Copy)]
 struct Way {
     here: [usize; 3],
@@ -61,8 +67,8 @@ impl Way {
         }
     }
 
-    /// Whether a rule leads along this port and channel.
-    fn leads(&self, frame: &Frame, rule: &Rule, class: usize, port: usize, vc: usize) -> bool
+    // Whether a rule leads along this port and channel.
+    fn leads(&self, frame: &Sizes, rule: &Rule, class: usize, port: usize, vc: usize) -> bool
         requires class { class < frame.now.classes }
         requires port { port < ports frame.now.shape }
         requires right { is_right frame.now.shape frame.now.vcs frame.now.classes rule.now ≡ true }
@@ -75,7 +81,7 @@ impl Way {
         self.takes_port(rule, port) && self.takes_channel(frame, rule, class, port, vc)
     }
 
-    /// Whether a rule leads along this port, away from the destination.
+    // Whether a rule leads along this port, away from the destination.
     fn takes_port(&self, rule: &Rule, port: usize) -> bool
         requires towards { IfSome self.now.towards (λ port. port < LINKS) }
         ensures link { IsTrue result → port < LINKS }
@@ -89,10 +95,10 @@ impl Way {
         }
     }
 
-    /// Whether a rule takes this channel of a port that it takes.
+    // Whether a rule takes this channel of a port that it takes.
     fn takes_channel(
         &self,
-        frame: &Frame,
+        frame: &Sizes,
         rule: &Rule,
         class: usize,
         port: usize,
@@ -118,8 +124,8 @@ impl Way {
         }
     }
 
-    /// Whether an escape channel, by its place among those of its class, is taken along a port.
-    fn takes_escape(&self, frame: &Frame, port: usize, place: usize) -> bool
+    // Whether an escape channel, by its place among those of its class, is taken along a port.
+    fn takes_escape(&self, frame: &Sizes, port: usize, place: usize) -> bool
         requires { port < LINKS }
         ensures { let f = frame.now in (r t v : ℕ) → IsWay f.shape self.now r t → place ≡ place_in_class f.vcs f.classes v → result ≡ is_escape_taken f.shape f.vcs f.classes (coordinates f.shape.radix r) (coordinates f.shape.radix t) port v }
     {
@@ -133,7 +139,7 @@ impl Way {
         place == taken
     }
 
-    /// The half of a class's channels that the next hop along a port takes.
+    // The half of a class's channels that the next hop along a port takes.
     fn dateline_class(&self, port: usize) -> usize
         requires { port < LINKS }
         ensures { result ≡ dateline_class port (slice_index self.now.here (port / 2)) (slice_index self.now.there (port / 2)) }
@@ -144,7 +150,7 @@ impl Way {
         if crosses { 0 } else { 1 }
     }
 
-    /// Whether west first takes a port.
+    // Whether west first takes a port.
     fn is_west_first(&self, port: usize) -> bool
         ensures link { IsTrue result → port < LINKS }
         ensures value { result ≡ is_west_first self.now.here self.now.there port }
@@ -161,11 +167,11 @@ impl Way {
     }
 }
 
-/// Which of the link ports come nearer.
+// Which of the link ports come nearer.
 fn nearer_ports(map: &Map, here: &[usize; 3], there: &[usize; 3]) -> [bool; LINKS]
     requires here { EachIndex here.now (λ i. slice_index here.now i ≤ slice_index map.now.last i) }
     requires there { EachIndex there.now (λ i. slice_index there.now i ≤ slice_index map.now.last i) }
-    ensures { let g = map.now.frame.shape in (r t : ℕ) → here.now ≡ padded (coordinates g.radix r) → there.now ≡ padded (coordinates g.radix t) → (port : ℕ) → slice_index_or result port false ≡ is_nearer g (coordinates g.radix r) (coordinates g.radix t) port }
+    ensures { let g = map.now.frame.shape in (r t : ℕ) → here.now ≡ three_coordinates (coordinates g.radix r) → there.now ≡ three_coordinates (coordinates g.radix t) → (port : ℕ) → slice_index_or result port false ≡ is_nearer g (coordinates g.radix r) (coordinates g.radix t) port }
 {
     let mut nearer = [false; LINKS];
     for port in 0..LINKS {
@@ -174,12 +180,12 @@ fn nearer_ports(map: &Map, here: &[usize; 3], there: &[usize; 3]) -> [bool; LINK
     nearer
 }
 
-/// Whether a link port leads along the shorter way in its dimension, or up where both are equally long.
+// Whether a link port leads along the shorter way in its dimension, or up where both are equally long.
 fn is_nearer(map: &Map, here: &[usize; 3], there: &[usize; 3], port: usize) -> bool
     requires port { port < LINKS }
     requires here { EachIndex here.now (λ i. slice_index here.now i ≤ slice_index map.now.last i) }
     requires there { EachIndex there.now (λ i. slice_index there.now i ≤ slice_index map.now.last i) }
-    ensures { let g = map.now.frame.shape in (r t : ℕ) → here.now ≡ padded (coordinates g.radix r) → there.now ≡ padded (coordinates g.radix t) → result ≡ is_nearer g (coordinates g.radix r) (coordinates g.radix t) port }
+    ensures { let g = map.now.frame.shape in (r t : ℕ) → here.now ≡ three_coordinates (coordinates g.radix r) → there.now ≡ three_coordinates (coordinates g.radix t) → result ≡ is_nearer g (coordinates g.radix r) (coordinates g.radix t) port }
 {
     let i = port / 2;
     if here[i] == there[i] {
@@ -192,12 +198,12 @@ fn is_nearer(map: &Map, here: &[usize; 3], there: &[usize; 3], port: usize) -> b
     }
 }
 
-/// The port of dimension order: in the lowest dimension in which router and destination differ.
+// The port of dimension order: in the lowest dimension in which router and destination differ.
 fn dor_port(map: &Map, here: &[usize; 3], there: &[usize; 3]) -> Option<usize>
     requires here { EachIndex here.now (λ i. slice_index here.now i ≤ slice_index map.now.last i) }
     requires there { EachIndex there.now (λ i. slice_index there.now i ≤ slice_index map.now.last i) }
     ensures range { IfSome result (λ port. port < LINKS) }
-    ensures value { let g = map.now.frame.shape in (r t : ℕ) → here.now ≡ padded (coordinates g.radix r) → there.now ≡ padded (coordinates g.radix t) → result ≡ dor_port g (coordinates g.radix r) (coordinates g.radix t) }
+    ensures value { let g = map.now.frame.shape in (r t : ℕ) → here.now ≡ three_coordinates (coordinates g.radix r) → there.now ≡ three_coordinates (coordinates g.radix t) → result ≡ dor_port g (coordinates g.radix r) (coordinates g.radix t) }
 {
     for i in 0..3usize {
         if here[i] != there[i] {

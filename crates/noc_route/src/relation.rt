@@ -4,16 +4,16 @@ ghost use Rattle.std.specs.Prelude.{◌≡◌, ◌<◌, MatchResult, IfOk, IfErr
 ghost use Rattle.noc_topo.specs.Shape.{nodes, ports};
 ghost use Rattle.noc_route.specs.Built.{routing_of, IsRelationOfRule};
 ghost use Rattle.noc_route.specs.Entered.{routing_in, IsEntered};
-ghost use Rattle.noc_route.specs.Relation.{is_right, rows_of, row_fault, IsFirstFault, IsFaultOf};
+ghost use Rattle.noc_route.specs.Relation.{is_right, table_rows_of, row_fault, IsFirstFault, IsFaultOf};
 ghost use Rattle.noc_route.specs.Routes.{set_at, IsRelation, pages, width};
 ghost use Rattle.noc_route.specs.Trimming.{routes_in};
 
 use crate::enter::{enter_named, enter_rows};
-use crate::frame::Frame;
 use crate::gather::gather;
 use crate::map::Map;
 use crate::rows::first_fault;
 use crate::rule::{RouteFault, Rule};
+use crate::sizes::Sizes;
 use crate::trim::trim;
 use noc_packet::ChannelSet;
 use noc_topo::Shape;
@@ -23,7 +23,7 @@ use std::marker::Model;
 /// A routing relation: the output channels that each entry permits.
 #[derive(Drop)]
 pub struct Relation {
-    frame: Frame,
+    frame: Sizes,
     sets: Vec<ChannelSet>,
 }
 
@@ -54,7 +54,7 @@ impl Relation {
         ensures exact { let g = routing_of shape.now vcs classes rule in MatchResult result (IsRelationOfRule g) (IsFaultOf g) }
         ensures built { IfOk result IsRelation }
     {
-        let Some(frame) = Frame::of(shape, vcs, classes, &rule) else {
+        let Some(frame) = Sizes::of(shape, vcs, classes, &rule) else {
             return Err(RouteFault::WrongShape);
         };
         let map = Map::new(alloc, frame)?;
@@ -110,7 +110,7 @@ impl Relation {
     }
 }
 
-/// A rule's sets at the entries that packets reach, or the first fault.
+// A rule's sets at the entries that packets reach, or the first fault.
 fn sets_of(alloc: Global, map: &Map, rule: &Rule) -> Result<Vec<ChannelSet>, RouteFault>
     requires { is_right map.now.frame.shape map.now.frame.vcs map.now.frame.classes rule.now ≡ true }
     ensures { MatchResult result (λ sets. IsRelationOfRule (routing_in map.now.frame rule.now) (routes_in map.now.frame sets.items)) (IsFaultOf (routing_in map.now.frame rule.now)) }
@@ -122,7 +122,7 @@ fn sets_of(alloc: Global, map: &Map, rule: &Rule) -> Result<Vec<ChannelSet>, Rou
     Ok(sets)
 }
 
-/// Writes a rule's sets at the entries that packets reach, or answers the first fault; `outs` is room.
+// Writes a rule's sets at the entries that packets reach, or answers the first fault; `outs` is room.
 fn fill(
     map: &Map,
     rule: &Rule,
@@ -144,13 +144,13 @@ fn fill(
     }
 }
 
-/// Writes a rule's sets, or answers the fault of the first bad row.
+// Writes a rule's sets, or answers the fault of the first bad row.
 fn enter(map: &Map, rule: &Rule, sets: &mut [ChannelSet]) -> Result<(), RouteFault>
     requires right { is_right map.now.frame.shape map.now.frame.vcs map.now.frame.classes rule.now ≡ true }
     requires long { length sets.old ≡ pages map.now.frame.shape map.now.frame.classes * width map.now.frame.shape map.now.frame.vcs }
     requires empty { (j : ℕ) → slice_index sets.old j ≡ 0 }
-    ensures err { IfErr result (IsFirstFault map.now.frame.shape map.now.frame.vcs map.now.frame.classes (rows_of rule.now)) }
-    ensures ok { OnOk result (All (λ row. row_fault map.now.frame.shape map.now.frame.vcs map.now.frame.classes row ≡ None) (rows_of rule.now)) }
+    ensures err { IfErr result (IsFirstFault map.now.frame.shape map.now.frame.vcs map.now.frame.classes (table_rows_of rule.now)) }
+    ensures ok { OnOk result (All (λ row. row_fault map.now.frame.shape map.now.frame.vcs map.now.frame.classes row ≡ None) (table_rows_of rule.now)) }
     ensures entered { OnOk result (IsEntered (routing_in map.now.frame rule.now) (routes_in map.now.frame sets.new)) }
 {
     match rule {

@@ -8,8 +8,8 @@ ghost use Rattle.noc_route.specs.Relation.{IsFirstFault, earlier_fault, row_faul
 use crate::map::Map;
 use crate::rule::{RouteFault, RouteRow, comes_before};
 
-/// The first fault of a row.
-pub fn row_fault(map: &Map, row: &RouteRow) -> Option<RouteFault>
+// The first fault of a row.
+pub(crate) fn row_fault(map: &Map, row: &RouteRow) -> Option<RouteFault>
     ensures { result ≡ row_fault map.now.frame.shape map.now.frame.vcs map.now.frame.classes row.now }
 {
     if !is_real(map, row) {
@@ -29,7 +29,7 @@ pub fn row_fault(map: &Map, row: &RouteRow) -> Option<RouteFault>
     }
 }
 
-/// Whether the class, router, ports, channels and destination of a row exist, and its ports are local or have a link.
+// Whether the class, router, ports, channels and destination of a row exist, and its ports are local or have a link.
 fn is_real(map: &Map, row: &RouteRow) -> bool
     ensures { result ≡ is_real_row map.now.frame.shape map.now.frame.vcs map.now.frame.classes row.now }
 {
@@ -44,7 +44,7 @@ fn is_real(map: &Map, row: &RouteRow) -> bool
         && is_port(map, row.router, row.out_port)
 }
 
-/// Whether a router has a port, and it is local or has a link.
+// Whether a router has a port, and it is local or has a link.
 fn is_port(map: &Map, router: usize, port: usize) -> bool
     requires { router < nodes map.now.frame.shape }
     ensures { result ≡ is_open map.now.frame.shape router port }
@@ -53,9 +53,9 @@ fn is_port(map: &Map, router: usize, port: usize) -> bool
     port < ports && (port + 1 == ports || map.link(router, port).is_some())
 }
 
-/// The first fault among the rows, in the order of class, router, input port and channel, destination, output port and
-/// channel.
-pub fn first_fault(map: &Map, rows: &[RouteRow]) -> Option<RouteFault>
+// The first fault among the rows, in the order of class, router, input port and channel, destination, output port and
+// channel.
+pub(crate) fn first_fault(map: &Map, rows: &[RouteRow]) -> Option<RouteFault>
     ensures none { IfNone result (All (λ row. row_fault map.now.frame.shape map.now.frame.vcs map.now.frame.classes row ≡ None) rows.now) }
     ensures some { IfSome result (IsFirstFault map.now.frame.shape map.now.frame.vcs map.now.frame.classes rows.now) }
 {
@@ -66,7 +66,7 @@ pub fn first_fault(map: &Map, rows: &[RouteRow]) -> Option<RouteFault>
     row_fault(map, &first?)
 }
 
-/// A row, if it has a fault and comes before the other, and else the other.
+// A row, if it has a fault and comes before the other, and else the other.
 fn earlier_fault(map: &Map, row: &RouteRow, other: Option<RouteRow>) -> Option<RouteRow>
     ensures { result ≡ earlier_fault map.now.frame.shape map.now.frame.vcs map.now.frame.classes row.now other }
 {
@@ -77,7 +77,7 @@ fn earlier_fault(map: &Map, row: &RouteRow, other: Option<RouteRow>) -> Option<R
     }
 }
 
-/// Whether a row comes before another, if there is one.
+// Whether a row comes before another, if there is one.
 fn is_before(row: &RouteRow, other: &Option<RouteRow>) -> bool
     ensures { result ≡ row_before row.now other.now }
 {

@@ -72,8 +72,8 @@ impl Entry {
     }
 }
 
-/// Whether numbers come before others as many, where the first pair that differs decides.
-pub fn comes_before(these: &[usize], others: &[usize]) -> bool
+// Whether numbers come before others as many, where the first pair that differs decides.
+pub(crate) fn comes_before(these: &[usize], others: &[usize]) -> bool
     requires { length these.now ≡ length others.now }
     ensures { result ≡ numbers_before these.now others.now }
 {

@@ -3,17 +3,17 @@
 ghost use Rattle.std.specs.Prelude.{◌≡◌, ◌≢◌, ℕ, None, ◌+◌, ◌*◌, ◌<◌, if◌then◌else◌, length, slice_set};
 ghost use Rattle.noc_route.specs.Order.{earlier_entry};
 ghost use Rattle.noc_route.specs.Routes.{width, pages};
-ghost use Rattle.noc_route.specs.Trimming.{routes_in, page_set, comes_at, left_at, entry_at, IsFirstStuck};
+ghost use Rattle.noc_route.specs.Trimming.{routes_in, page_set, comes_at, left_at, entry_on_page, IsFirstStuck};
 
 use crate::gather::is_reached;
 use crate::map::Map;
 use crate::rule::{Entry, comes_before};
 use noc_packet::ChannelSet;
 
-/// Empties the sets of the entries that no packet reaches, where `outs` has the channels by which packets leave each
-/// router. Returns the first entry that is reached and has an empty set, in the order of class, router, input port and
-/// channel, and destination.
-pub fn trim(map: &Map, sets: &mut [ChannelSet], outs: &[ChannelSet]) -> Option<Entry>
+// Empties the sets of the entries that no packet reaches, where `outs` has the channels by which packets leave each
+// router. Returns the first entry that is reached and has an empty set, in the order of class, router, input port and
+// channel, and destination.
+pub(crate) fn trim(map: &Map, sets: &mut [ChannelSet], outs: &[ChannelSet]) -> Option<Entry>
     requires sets { length sets.old ≡ pages map.now.frame.shape map.now.frame.classes * width map.now.frame.shape map.now.frame.vcs }
     requires outs { length outs.now ≡ pages map.now.frame.shape map.now.frame.classes }
     ensures left { (b i : ℕ) → b < pages map.now.frame.shape map.now.frame.classes → i < width map.now.frame.shape map.now.frame.vcs → page_set (routes_in map.now.frame sets.new) b i ≡ left_at (routes_in map.now.frame sets.old) outs.now b i }
@@ -26,7 +26,7 @@ pub fn trim(map: &Map, sets: &mut [ChannelSet], outs: &[ChannelSet]) -> Option<E
     first
 }
 
-/// The same for one page; `first` is the first such entry among the pages before.
+// Trims the sets of one page; `first` is the first entry with no way among the pages before.
 fn trim_page(
     map: &Map,
     sets: &mut [ChannelSet],
@@ -58,7 +58,7 @@ fn trim_page(
     first
 }
 
-/// The same for one entry, that of an input channel of a page; `first` is the first such entry among those before.
+// Trims the set of one entry, that of an input channel of a page; `first` is the first entry with no way among those before.
 fn trim_entry(
     map: &Map,
     sets: &mut [ChannelSet],
@@ -72,7 +72,7 @@ fn trim_entry(
     requires outs { length outs.now ≡ pages map.now.frame.shape map.now.frame.classes }
     requires page { page < pages map.now.frame.shape map.now.frame.classes }
     requires input { input < width map.now.frame.shape map.now.frame.vcs }
-    requires entry { entry ≡ entry_at (routes_in map.now.frame sets.old) page input }
+    requires entry { entry ≡ entry_on_page (routes_in map.now.frame sets.old) page input }
     requires first { IsFirstStuck (routes_in map.now.frame sets.old) outs.now (page * width map.now.frame.shape map.now.frame.vcs + input) first }
     ensures sets { sets.new ≡ (if comes_at (routes_in map.now.frame sets.old) outs.now page input then sets.old else slice_set sets.old (page * width map.now.frame.shape map.now.frame.vcs + input) 0) }
     ensures first { IsFirstStuck (routes_in map.now.frame sets.new) outs.now (page * width map.now.frame.shape map.now.frame.vcs + input + 1) result }
@@ -88,7 +88,7 @@ fn trim_entry(
     first
 }
 
-/// The one of two entries that comes first.
+// The one of two entries that comes first.
 fn earlier(entry: Entry, other: Option<Entry>) -> Entry
     ensures { result ≡ earlier_entry entry other }
 {

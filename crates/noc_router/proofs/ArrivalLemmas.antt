@@ -7,7 +7,7 @@ use Rattle.std.specs.List.Sorted.{IsStrictlyIncreasing, IsBinarySearchResult}
 use Rattle.std.proofs.lemmas.Bool.{cases_eq, cases_lt, eq-eqb, ne_eqb, false≢true}
 use Rattle.std.proofs.lemmas.List.Sorted.{searched}
 use Rattle.std.proofs.Math.Bool.{or-false}
-use Rattle.noc_router.specs.Arrivals.{is_expected_in, noted, arrival_in}
+use Rattle.noc_router.specs.Arrivals.{is_expected_in, arrivals_after, noted_arrival}
 
 -- p stands at this place only
 abbrev pub IsOnly : List ℕ → ℕ → ℕ → Type 0
@@ -49,12 +49,12 @@ absent-expected [] cs p h = refl
 absent-expected (e ∷ es) [] p h = refl
 absent-expected (e ∷ es) (c ∷ cs) p h = rw (ne_eqb e p (h 0 (omega arith))) (absent-expected es cs p (λ k l. h (suc k) (omega arith)))
 
-pub absent-noted : (es : List ℕ) (cs : List (Option ℕ)) (p cycle : ℕ) → IsAbsent es p → noted p cycle (zip es cs) ≡ zip es cs
+pub absent-noted : (es : List ℕ) (cs : List (Option ℕ)) (p cycle : ℕ) → IsAbsent es p → arrivals_after p cycle (zip es cs) ≡ zip es cs
 absent-noted [] cs p cycle h = refl
 absent-noted (e ∷ es) [] p cycle h = refl
 absent-noted (e ∷ es) (c ∷ cs) p cycle h = rw (ne_eqb e p (h 0 (omega arith))) (ap (λ rest. (e, c) ∷ rest) (absent-noted es cs p cycle (λ k l. h (suc k) (omega arith))))
 
-pub absent-arrival : (es : List ℕ) (cs : List (Option ℕ)) (p : ℕ) → IsAbsent es p → arrival_in p (zip es cs) ≡ None
+pub absent-arrival : (es : List ℕ) (cs : List (Option ℕ)) (p : ℕ) → IsAbsent es p → noted_arrival p (zip es cs) ≡ None
 absent-arrival [] cs p h = refl
 absent-arrival (e ∷ es) [] p h = refl
 absent-arrival (e ∷ es) (c ∷ cs) p h = rw (ne_eqb e p (h 0 (omega arith))) (absent-arrival es cs p (λ k l. h (suc k) (omega arith)))
@@ -79,7 +79,7 @@ found-expected (e ∷ es) (c ∷ cs) p (suc place) same l is only =
     rw (ne_eqb e p (first-other e es p place only)) (found-expected es cs p place (omega arith) (omega arith) is (rest-only e es p place only))
 
 pub found-noted : (es : List ℕ) (cs : List (Option ℕ)) (p place cycle : ℕ) → length cs ≡ length es → place < length es → get_or es place 0 ≡ p → IsOnly es p place
-    → zip es (set cs place (Some cycle)) ≡ noted p cycle (zip es cs)
+    → zip es (set cs place (Some cycle)) ≡ arrivals_after p cycle (zip es cs)
 found-noted [] cs p place cycle same l is only = absurd (omega arith)
 found-noted (e ∷ es) [] p place cycle same l is only = absurd (omega arith)
 found-noted (e ∷ es) (c ∷ cs) p zero cycle same l is only =
@@ -88,7 +88,7 @@ found-noted (e ∷ es) (c ∷ cs) p (suc place) cycle same l is only =
     rw (ne_eqb e p (first-other e es p place only)) (ap (λ rest. (e, c) ∷ rest) (found-noted es cs p place cycle (omega arith) (omega arith) is (rest-only e es p place only)))
 
 pub found-arrival : (es : List ℕ) (cs : List (Option ℕ)) (p place : ℕ) → length cs ≡ length es → place < length es → get_or es place 0 ≡ p → IsOnly es p place
-    → arrival_in p (zip es cs) ≡ get_or cs place None
+    → noted_arrival p (zip es cs) ≡ get_or cs place None
 found-arrival [] cs p place same l is only = absurd (omega arith)
 found-arrival (e ∷ es) [] p place same l is only = absurd (omega arith)
 found-arrival (e ∷ es) (c ∷ cs) p zero same l is only = rw (eq-eqb e p is) refl

@@ -9,10 +9,10 @@ use Rattle.std.proofs.lemmas.List.Elements.{All-append, All-replicate}
 pub use Rattle.noc_router.proofs.FindLemmas.{find-below, find-none as find-below-none}
 use Rattle.noc_packet.specs.Set.{has_bit}
 use Rattle.noc_packet.specs.declared.packet.Flit.{Flit}
-use Rattle.noc_ring.specs.Rings.{Rings, ring_at, pushed, popped, empty_rings}
+use Rattle.noc_ring.specs.Buffers.{Buffers, buffer_at, buffers_after_push, buffers_after_pop, empty_buffers}
 use Rattle.noc_route.specs.Routes.{Routes}
-use Rattle.noc_vc.specs.Input.{Input, idle_input, is_idle_phase, is_waiting, is_active, is_empty, next_of, may_begin, is_expected, fits, landed, routed, granted, sent}
-use Rattle.noc_vc.specs.Output.{Output, ejection_output, link_output, is_free, is_owned, has_credit_at, has_credit, holder_at, credited_at, credited, held, spent_at, spent}
+use Rattle.noc_vc.specs.Input.{Input, idle_input, is_idle_phase, is_waiting, is_active, is_empty, next_of, may_begin, is_expected, fits, input_after_land, input_after_route, input_after_grant, input_after_send}
+use Rattle.noc_vc.specs.Output.{Output, ejection_output, link_output, is_free, is_owned, has_credit_at, has_credit, holder_at, output_with_credit, output_after_credit, output_after_hold, output_without_credit, output_after_spend}
 use Rattle.noc_vc.specs.declared.input.Awaited.{Awaited}
 use Rattle.noc_vc.specs.declared.input.InputState.{InputState}
 use Rattle.noc_vc.specs.declared.input.InputState.TheVariants.{Idle, Waiting, Active}
@@ -119,7 +119,7 @@ AreSound-changed size sets next buffers inputs outputs after i x flits s rings e
     owner k o u from (inl e) = omega arith
     owner k o u from (inr n) = s.owner_below k o u (sym (others k o u n) ∙ from)
 
--- .. where no output channel changes
+-- one input channel changes, and no output channel
 AreSound-input : (size : ℕ) (sets next : Sets) (buffers : List (List Flit)) (inputs : List Input) (outputs : List Output) (i : ℕ) (x : Input) (flits : List Flit)
     → AreSound size sets buffers inputs outputs → length buffers ≡ size → length inputs ≡ size → i < size
     → IsMarked sets.filled next.filled i (not (is_empty flits)) → IsMarked sets.waiting next.waiting i (is_waiting x.phase)
@@ -143,7 +143,7 @@ is_supplied-other outputs o y Idle e = refl
 is_supplied-other outputs o y (Waiting set) e = refl
 is_supplied-other outputs o y (Active q) e = ap has_credit (get_or-set_other outputs o q y ejection_output (λ same. false≢true (sym e ∙ eq-eqb q o same)))
 
--- .. where one output channel changes too, which no other input channel owns
+-- one input channel changes, and one output channel, which no other input channel owns
 AreSound-turned : (size : ℕ) (sets next : Sets) (buffers : List (List Flit)) (inputs : List Input) (outputs : List Output) (i o : ℕ) (x : Input) (flits : List Flit) (y : Output)
     → AreSound size sets buffers inputs outputs → length buffers ≡ size → length inputs ≡ size → length outputs ≡ size → i < size → o < size
     → IsMarked sets.filled next.filled i (not (is_empty flits)) → IsMarked sets.waiting next.waiting i (is_waiting x.phase)
@@ -273,19 +273,19 @@ not_empty-more [] f = refl
 not_empty-more (g ∷ rest) f = refl
 
 -- a flit lands
-pub AreSound-landed : (size : ℕ) (sets : Sets) (before after : Rings) (inputs : List Input) (outputs : List Output) (filled i : ℕ) (old new : Input) (f : Flit)
+pub AreSound-landed : (size : ℕ) (sets : Sets) (before after : Buffers) (inputs : List Input) (outputs : List Output) (filled i : ℕ) (old new : Input) (f : Flit)
     → AreSound size sets before.rings inputs outputs → length before.rings ≡ size → length inputs ≡ size → i < size
     → ((k : ℕ) → has_bit filled k ≡ (nat_eq k i || has_bit sets.filled k))
-    → old ≡ slice_index_or inputs i idle_input → new ≡ landed old f → after ≡ pushed before i f
-    → (is_empty (ring_at before i) || is_some old.awaited) ≡ true
+    → old ≡ slice_index_or inputs i idle_input → new ≡ input_after_land old f → after ≡ buffers_after_push before i f
+    → (is_empty (buffer_at before i) || is_some old.awaited) ≡ true
     → AreSound size (record sets { filled = filled }) after.rings (slice_set inputs i new) outputs
 AreSound-landed size sets before after inputs outputs filled i old new f s rings each l members at is pushes more =
-    let flits : List Flit = ring_at before i in
+    let flits : List Flit = buffer_at before i in
     let input : Input = slice_index_or inputs i idle_input in
     let some : not (is_empty (flits ++ f ∷ [])) ≡ true = ap not (not_empty-more flits f) in
     let marked : IsMarked sets.filled filled i true = marked-with sets.filled filled i members in
     rw (pushes, is, at)
-    (AreSound-input size sets (record sets { filled = filled }) before.rings inputs outputs i (landed input f) (flits ++ f ∷ []) s rings each l
+    (AreSound-input size sets (record sets { filled = filled }) before.rings inputs outputs i (input_after_land input f) (flits ++ f ∷ []) s rings each l
     (record { at = marked.at ∙ sym some; others = marked.others })
     (marked-same sets.waiting i (is_waiting input.phase) (s.waiting_is i l))
     refl refl refl refl refl
@@ -299,27 +299,27 @@ AreSound-landed size sets before after inputs outputs filled i old new f s rings
     occupied false b e = refl
 
 -- the packet of an idle channel that holds a flit
-pub packet-there : (size : ℕ) (sets : Sets) (bank : Rings) (inputs : List Input) (outputs : List Output) (i : ℕ) (old : Input)
-    → AreSound size sets bank.rings inputs outputs → i < size → old ≡ slice_index_or inputs i idle_input → 0 < length (ring_at bank i)
+pub packet-there : (size : ℕ) (sets : Sets) (bank : Buffers) (inputs : List Input) (outputs : List Output) (i : ℕ) (old : Input)
+    → AreSound size sets bank.rings inputs outputs → i < size → old ≡ slice_index_or inputs i idle_input → 0 < length (buffer_at bank i)
     → is_some old.packet ≡ true
 packet-there size sets bank inputs outputs i old s l at some =
-    rw at (there (ring_at bank i) (s.worms i l) some)
+    rw at (there (buffer_at bank i) (s.worms i l) some)
   where
     there : (flits : List Flit) → is_worm_of (slice_index_or inputs i idle_input) flits ≡ true → 0 < length flits → is_some (slice_index_or inputs i idle_input).packet ≡ true
     there [] w u = absurd (omega arith)
     there (f ∷ flits) w u = is_worm-packet (is_some (slice_index_or inputs i idle_input).packet) (is_some (slice_index_or inputs i idle_input).awaited) f flits w
 
 -- the head of an idle channel is routed
-pub AreSound-routed : (size : ℕ) (sets : Sets) (bank : Rings) (inputs : List Input) (outputs : List Output) (waiting i set : ℕ) (old new : Input)
+pub AreSound-routed : (size : ℕ) (sets : Sets) (bank : Buffers) (inputs : List Input) (outputs : List Output) (waiting i set : ℕ) (old new : Input)
     → AreSound size sets bank.rings inputs outputs → length bank.rings ≡ size → length inputs ≡ size → i < size
     → ((k : ℕ) → has_bit waiting k ≡ (nat_eq k i || has_bit sets.waiting k))
-    → old ≡ slice_index_or inputs i idle_input → new ≡ routed old set → (slice_index_or inputs i idle_input).phase ≡ Idle
+    → old ≡ slice_index_or inputs i idle_input → new ≡ input_after_route old set → (slice_index_or inputs i idle_input).phase ≡ Idle
     → AreSound size (record sets { waiting = waiting }) bank.rings (slice_set inputs i new) outputs
 AreSound-routed size sets bank inputs outputs waiting i set old new s rings each l members at is was =
     let input : Input = slice_index_or inputs i idle_input in
-    rw (is, at) (subst (λ (rs : List (List Flit)). AreSound size (record sets { waiting = waiting }) rs (slice_set inputs i (routed input set)) outputs) (set-get_or bank.rings i [])
-    (AreSound-input size sets (record sets { waiting = waiting }) bank.rings inputs outputs i (routed input set) (ring_at bank i) s rings each l
-    (marked-same sets.filled i (not (is_empty (ring_at bank i))) (s.filled_is i l))
+    rw (is, at) (subst (λ (rs : List (List Flit)). AreSound size (record sets { waiting = waiting }) rs (slice_set inputs i (input_after_route input set)) outputs) (set-get_or bank.rings i [])
+    (AreSound-input size sets (record sets { waiting = waiting }) bank.rings inputs outputs i (input_after_route input set) (buffer_at bank i) s rings each l
+    (marked-same sets.filled i (not (is_empty (buffer_at bank i))) (s.filled_is i l))
     (marked-with sets.waiting waiting i members)
     refl refl refl (ap is_active (sym was)) (ap (is_supplied outputs) (sym was))
     refl
@@ -344,19 +344,19 @@ has_credit-count (Some zero) = refl
 has_credit-count (Some (suc n)) = ap not (ne_eqb (suc n) 0 (λ e. omega arith)) ∙ sym (lt-ltb 0 (suc n) (omega arith))
 
 -- a waiting channel is granted a free output channel
-pub AreSound-granted : (size : ℕ) (sets next : Sets) (bank : Rings) (inputs : List Input) (outputs : List Output) (i o p : ℕ) (old new : Input) (out after : Output)
+pub AreSound-granted : (size : ℕ) (sets next : Sets) (bank : Buffers) (inputs : List Input) (outputs : List Output) (i o p : ℕ) (old new : Input) (out after : Output)
     → AreSound size sets bank.rings inputs outputs → length bank.rings ≡ size → length inputs ≡ size → length outputs ≡ size → i < size → o < size
     → next.filled ≡ sets.filled → IsMarked sets.waiting next.waiting i false → IsMarked sets.active next.active i true
     → IsMarked sets.supplied next.supplied i (has_credit after) → IsMarked sets.idle next.idle o false
-    → old ≡ slice_index_or inputs i idle_input → new ≡ granted old o → is_waiting (slice_index_or inputs i idle_input).phase ≡ true
-    → after ≡ held out i p → is_free (slice_index_or outputs o ejection_output).holder ≡ true
+    → old ≡ slice_index_or inputs i idle_input → new ≡ input_after_grant old o → is_waiting (slice_index_or inputs i idle_input).phase ≡ true
+    → after ≡ output_after_hold out i p → is_free (slice_index_or outputs o ejection_output).holder ≡ true
     → AreSound size next bank.rings (slice_set inputs i new) (slice_set outputs o after)
 AreSound-granted size sets next bank inputs outputs i o p old new out after s rings each outs l u same waiting active supplied idle at is waits holds free =
     let input : Input = slice_index_or inputs i idle_input in
     let inside : o < length outputs = omega arith in
     let holder : after.holder ≡ Owned i p = ap (λ (x : Output). x.holder) holds in
-    rw (is, at) (subst (λ (rs : List (List Flit)). AreSound size next rs (slice_set inputs i (granted input o)) (slice_set outputs o after)) (set-get_or bank.rings i [])
-    (AreSound-turned size sets next bank.rings inputs outputs i o (granted input o) (ring_at bank i) after s rings each outs l u
+    rw (is, at) (subst (λ (rs : List (List Flit)). AreSound size next rs (slice_set inputs i (input_after_grant input o)) (slice_set outputs o after)) (set-get_or bank.rings i [])
+    (AreSound-turned size sets next bank.rings inputs outputs i o (input_after_grant input o) (buffer_at bank i) after s rings each outs l u
     (record { at = ap (λ set. has_bit set i) same ∙ s.filled_is i l; others = λ k n. ap (λ set. has_bit set k) same })
     waiting active
     (record { at = supplied.at ∙ ap has_credit (sym (get_or-set_same outputs o after ejection_output inside)); others = supplied.others })
@@ -370,7 +370,7 @@ AreSound-granted size sets next bank inputs outputs i o p old new out after s ri
     (λ k n. ap (λ h. is_owned_from h k) holder ∙ ne_eqb i k (λ e. n (sym e)))))
 
 -- a credit leaves the owner of an output channel
-credited-owner : (output : Output) (k : ℕ) → is_owned_from (credited output).holder k ≡ is_owned_from output.holder k
+credited-owner : (output : Output) (k : ℕ) → is_owned_from (output_after_credit output).holder k ≡ is_owned_from output.holder k
 credited-owner output k = at output.credit
   where
     freed : (b : Bool) → is_owned_from (if b then Free else Draining) k ≡ false
@@ -382,15 +382,15 @@ credited-owner output k = at output.credit
     held_at places count (Owned j p) = refl
     held_at places count Draining = freed (nat_eq count places)
 
-    at : (credit : Option ℕ) → is_owned_from (credited_at output credit).holder k ≡ is_owned_from output.holder k
+    at : (credit : Option ℕ) → is_owned_from (output_with_credit output credit).holder k ≡ is_owned_from output.holder k
     at None = refl
     at (Some n) = held_at output.places (n + 1) output.holder
 
 -- an output channel to which a credit came has one
-credited-supplied : (output : Output) → has_credit (credited output) ≡ true
+credited-supplied : (output : Output) → has_credit (output_after_credit output) ≡ true
 credited-supplied output = at output.credit refl
   where
-    at : (credit : Option ℕ) → output.credit ≡ credit → has_credit (credited_at output credit) ≡ true
+    at : (credit : Option ℕ) → output.credit ≡ credit → has_credit (output_with_credit output credit) ≡ true
     at None e = ap has_credit_at e
     at (Some n) e = lt-ltb 0 (n + 1) (omega arith)
 
@@ -403,7 +403,7 @@ AreSound-same size sets buffers inputs outputs o y s same = subst (AreSound size
 pub AreSound-returned : (size : ℕ) (sets : Sets) (idle : ℕ) (buffers : List (List Flit)) (inputs : List Input) (outputs : List Output) (o : ℕ) (out after : Output)
     → AreSound size sets buffers inputs outputs → length outputs ≡ size → o < size
     → IsMarked sets.idle idle o (is_free after.holder)
-    → out ≡ slice_index_or outputs o ejection_output → after ≡ credited out → is_owned after.holder ≡ false
+    → out ≡ slice_index_or outputs o ejection_output → after ≡ output_after_credit out → is_owned after.holder ≡ false
     → AreSound size (record sets { idle = idle }) buffers inputs (slice_set outputs o after)
 AreSound-returned size sets idle buffers inputs outputs o out after s outs l marked there is nobody =
     let output : Output = slice_index_or outputs o ejection_output in
@@ -417,10 +417,10 @@ AreSound-returned size sets idle buffers inputs outputs o out after s outs l mar
     none (Owned j p) e k = absurd (false≢true (sym e))
     none Draining e k = refl
 
--- .. and that still misses a credit
+-- a credit comes to an output channel that no packet owns and that still misses one
 pub AreSound-drained : (size : ℕ) (sets : Sets) (buffers : List (List Flit)) (inputs : List Input) (outputs : List Output) (o : ℕ) (out after : Output)
     → AreSound size sets buffers inputs outputs → length outputs ≡ size → o < size
-    → out ≡ slice_index_or outputs o ejection_output → after ≡ credited out → after.holder ≡ Draining
+    → out ≡ slice_index_or outputs o ejection_output → after ≡ output_after_credit out → after.holder ≡ Draining
     → AreSound size sets buffers inputs (slice_set outputs o after)
 AreSound-drained size sets buffers inputs outputs o out after s outs l there is holds =
     AreSound-returned size sets sets.idle buffers inputs outputs o out after s outs l
@@ -433,17 +433,17 @@ AreSound-drained size sets buffers inputs outputs o out after s outs l there is 
     free_at places count (Owned j p) e = refl
     free_at places count Draining e = refl
 
-    free : (output : Output) → is_free (credited output).holder ≡ false → is_free output.holder ≡ false
+    free : (output : Output) → is_free (output_after_credit output).holder ≡ false → is_free output.holder ≡ false
     free output = at output.credit
       where
-        at : (credit : Option ℕ) → is_free (credited_at output credit).holder ≡ false → is_free output.holder ≡ false
+        at : (credit : Option ℕ) → is_free (output_with_credit output credit).holder ≡ false → is_free output.holder ≡ false
         at None e = e
         at (Some n) e = free_at output.places (n + 1) output.holder e
 
 -- the input channel from which an output channel is owned exists
 pub owner-small : (size : ℕ) (sets : Sets) (buffers : List (List Flit)) (inputs : List Input) (outputs : List Output) (o j p : ℕ) (out after : Output)
     → AreSound size sets buffers inputs outputs → o < size
-    → out ≡ slice_index_or outputs o ejection_output → after ≡ credited out → after.holder ≡ Owned j p
+    → out ≡ slice_index_or outputs o ejection_output → after ≡ output_after_credit out → after.holder ≡ Owned j p
     → j < size
 owner-small size sets buffers inputs outputs o j p out after s l there is holds =
     s.owner_below j o l
@@ -453,7 +453,7 @@ owner-small size sets buffers inputs outputs o j p out after s l there is holds 
 pub AreSound-supplied : (size : ℕ) (sets : Sets) (supplied : ℕ) (buffers : List (List Flit)) (inputs : List Input) (outputs : List Output) (o j p : ℕ) (out after : Output)
     → AreSound size sets buffers inputs outputs → length outputs ≡ size → o < size
     → ((k : ℕ) → has_bit supplied k ≡ (nat_eq k j || has_bit sets.supplied k))
-    → out ≡ slice_index_or outputs o ejection_output → after ≡ credited out → after.holder ≡ Owned j p
+    → out ≡ slice_index_or outputs o ejection_output → after ≡ output_after_credit out → after.holder ≡ Owned j p
     → AreSound size (record sets { supplied = supplied }) buffers inputs (slice_set outputs o after)
 AreSound-supplied size sets supplied buffers inputs outputs o j p out after s outs l members there is holds =
     let output : Output = slice_index_or outputs o ejection_output in
@@ -495,22 +495,22 @@ owned-is Free i e = absurd (false≢true e)
 owned-is (Owned j p) i e = (p, ap (λ k. Owned k p) (eqb-true j i e))
 owned-is Draining i e = absurd (false≢true e)
 
-spent-kept : (output : Output) → (spent false output).holder ≡ output.holder
+spent-kept : (output : Output) → (output_after_spend false output).holder ≡ output.holder
 spent-kept output = at output.credit
   where
-    at : (credit : Option ℕ) → (spent_at false output credit).holder ≡ output.holder
+    at : (credit : Option ℕ) → (output_without_credit false output credit).holder ≡ output.holder
     at None = refl
     at (Some n) = refl
 
-spent-gone : (output : Output) (k : ℕ) → is_owned_from (spent true output).holder k ≡ false
+spent-gone : (output : Output) (k : ℕ) → is_owned_from (output_after_spend true output).holder k ≡ false
 spent-gone output k = at output.credit
   where
-    at : (credit : Option ℕ) → is_owned_from (spent_at true output credit).holder k ≡ false
+    at : (credit : Option ℕ) → is_owned_from (output_without_credit true output credit).holder k ≡ false
     at None = refl
     at (Some n) = refl
 
 -- the output channel that an active input channel owns
-pub owner-there : (size : ℕ) (sets : Sets) (bank : Rings) (inputs : List Input) (outputs : List Output) (i o : ℕ)
+pub owner-there : (size : ℕ) (sets : Sets) (bank : Buffers) (inputs : List Input) (outputs : List Output) (i o : ℕ)
     → AreSound size sets bank.rings inputs outputs → i < size → o < size → (slice_index_or inputs i idle_input).phase ≡ Active o
     → is_owned_from (slice_index_or outputs o ejection_output).holder i ≡ true
 owner-there size sets bank inputs outputs i o s l u phase = sym (s.owners i o l u) ∙ ap (λ p. owns p o) phase ∙ eq-eqb o o refl
@@ -527,33 +527,33 @@ is_owned-from (Owned j p) i e = refl
 is_owned-from Draining i e = e
 
 -- a flit that is no tail leaves an output channel as free as it was
-pub free-kept : (x : Output) → is_free (spent false x).holder ≡ is_free x.holder
+pub free-kept : (x : Output) → is_free (output_after_spend false x).holder ≡ is_free x.holder
 free-kept x = at x.credit
   where
-    at : (c : Option ℕ) → is_free (spent_at false x c).holder ≡ is_free x.holder
+    at : (c : Option ℕ) → is_free (output_without_credit false x c).holder ≡ is_free x.holder
     at None = refl
     at (Some n) = refl
 
 -- the first flit of an active channel leaves
-pub AreSound-sent : (size : ℕ) (sets next : Sets) (before after : Rings) (inputs : List Input) (outputs : List Output) (i o : ℕ) (old new : Input) (out left : Output) (f : Flit)
+pub AreSound-sent : (size : ℕ) (sets next : Sets) (before after : Buffers) (inputs : List Input) (outputs : List Output) (i o : ℕ) (old new : Input) (out left : Output) (f : Flit)
     → AreSound size sets before.rings inputs outputs → length before.rings ≡ size → length inputs ≡ size → length outputs ≡ size → i < size → o < size
-    → IsMarked sets.filled next.filled i (not (is_empty (ring_at after i))) → next.waiting ≡ sets.waiting → IsMarked sets.active next.active i (not f.last)
+    → IsMarked sets.filled next.filled i (not (is_empty (buffer_at after i))) → next.waiting ≡ sets.waiting → IsMarked sets.active next.active i (not f.last)
     → IsMarked sets.supplied next.supplied i (not f.last && has_credit left) → IsMarked sets.idle next.idle o (is_free left.holder)
-    → ring_at before i ≡ f ∷ ring_at after i → after ≡ popped before i
-    → old ≡ slice_index_or inputs i idle_input → new ≡ sent old f → (slice_index_or inputs i idle_input).phase ≡ Active o
-    → out ≡ slice_index_or outputs o ejection_output → left ≡ spent f.last out
+    → buffer_at before i ≡ f ∷ buffer_at after i → after ≡ buffers_after_pop before i
+    → old ≡ slice_index_or inputs i idle_input → new ≡ input_after_send old f → (slice_index_or inputs i idle_input).phase ≡ Active o
+    → out ≡ slice_index_or outputs o ejection_output → left ≡ output_after_spend f.last out
     → AreSound size next after.rings (slice_set inputs i new) (slice_set outputs o left)
 AreSound-sent size sets next before after inputs outputs i o old new out left f s rings each outs l u filled same active supplied idle first pops at is phase there spends =
     let input : Input = slice_index_or inputs i idle_input in
     let output : Output = slice_index_or outputs o ejection_output in
-    let flits : List Flit = ring_at after i in
+    let flits : List Flit = buffer_at after i in
     let inside : o < length outputs = omega arith in
-    let leaves : left ≡ spent f.last output = spends ∙ ap (spent f.last) there in
+    let leaves : left ≡ output_after_spend f.last output = spends ∙ ap (output_after_spend f.last) there in
     let worm : is_worm_of input (f ∷ flits) ≡ true = sym (ap (is_worm_of input) first) ∙ s.worms i l in
     let own : (p : ℕ) × (output.holder ≡ Owned i p) = owned-is output.holder i (owner-there size sets before inputs outputs i o s l u phase) in
     let alone : (k : ℕ) → k ≢ i → is_owned_from output.holder k ≡ false = λ k n. ap (λ h. is_owned_from h k) own.1 ∙ ne_eqb i k (λ e. n (sym e)) in
     rw (pops, is, at, ap (drop 1) first)
-    (AreSound-turned size sets next before.rings inputs outputs i o (sent input f) flits left s rings each outs l u
+    (AreSound-turned size sets next before.rings inputs outputs i o (input_after_send input f) flits left s rings each outs l u
     filled
     (record { at = ap (λ set. has_bit set i) same ∙ s.waiting_is i l ∙ waits_then f.last; others = λ k n. ap (λ set. has_bit set k) same })
     (record { at = active.at ∙ acts_then f.last; others = active.others })
@@ -583,16 +583,16 @@ AreSound-sent size sets next before after inputs outputs i o old new out left f 
     within_then true w = refl
     within_then false w = w
 
-    gone_then : (last : Bool) → is_occupied (if last then idle_input else slice_index_or inputs i idle_input) (ring_at after i) ≡ false → (if last then idle_input else slice_index_or inputs i idle_input).packet ≡ None
+    gone_then : (last : Bool) → is_occupied (if last then idle_input else slice_index_or inputs i idle_input) (buffer_at after i) ≡ false → (if last then idle_input else slice_index_or inputs i idle_input).packet ≡ None
     gone_then true off = refl
-    gone_then false off = absurd (false≢true (sym off ∙ ap (λ p. not (is_idle_phase p && is_empty (ring_at after i))) phase))
+    gone_then false off = absurd (false≢true (sym off ∙ ap (λ p. not (is_idle_phase p && is_empty (buffer_at after i))) phase))
 
-    worm_then : (last : Bool) → f.last ≡ last → is_worm_of (slice_index_or inputs i idle_input) (f ∷ ring_at after i) ≡ true → is_worm_of (if last then idle_input else slice_index_or inputs i idle_input) (ring_at after i) ≡ true
-    worm_then true e w = ap (is_worm false false) (is_worm-tail (is_some (slice_index_or inputs i idle_input).packet) (is_some (slice_index_or inputs i idle_input).awaited) f (ring_at after i) w e).0
-    worm_then false e w = is_worm-rest (is_some (slice_index_or inputs i idle_input).packet) (is_some (slice_index_or inputs i idle_input).awaited) f (ring_at after i) w
+    worm_then : (last : Bool) → f.last ≡ last → is_worm_of (slice_index_or inputs i idle_input) (f ∷ buffer_at after i) ≡ true → is_worm_of (if last then idle_input else slice_index_or inputs i idle_input) (buffer_at after i) ≡ true
+    worm_then true e w = ap (is_worm false false) (is_worm-tail (is_some (slice_index_or inputs i idle_input).packet) (is_some (slice_index_or inputs i idle_input).awaited) f (buffer_at after i) w e).0
+    worm_then false e w = is_worm-rest (is_some (slice_index_or inputs i idle_input).packet) (is_some (slice_index_or inputs i idle_input).awaited) f (buffer_at after i) w
 
     owner_then : (last : Bool) → owns (slice_index_or inputs i idle_input).phase o ≡ is_owned_from (slice_index_or outputs o ejection_output).holder i
-        → owns (if last then idle_input else slice_index_or inputs i idle_input).phase o ≡ is_owned_from (spent last (slice_index_or outputs o ejection_output)).holder i
+        → owns (if last then idle_input else slice_index_or inputs i idle_input).phase o ≡ is_owned_from (output_after_spend last (slice_index_or outputs o ejection_output)).holder i
     owner_then true w = sym (spent-gone (slice_index_or outputs o ejection_output) i)
     owner_then false w = w ∙ ap (λ h. is_owned_from h i) (sym (spent-kept (slice_index_or outputs o ejection_output)))
 
@@ -600,24 +600,24 @@ AreSound-sent size sets next before after inputs outputs i o old new out left f 
     other_then true k e = sym (ap (λ p. owns p k) phase ∙ e)
     other_then false k e = refl
 
-    left_then : (last : Bool) (k : ℕ) → is_owned_from (slice_index_or outputs o ejection_output).holder k ≡ false → is_owned_from (spent last (slice_index_or outputs o ejection_output)).holder k ≡ false
+    left_then : (last : Bool) (k : ℕ) → is_owned_from (slice_index_or outputs o ejection_output).holder k ≡ false → is_owned_from (output_after_spend last (slice_index_or outputs o ejection_output)).holder k ≡ false
     left_then true k e = spent-gone (slice_index_or outputs o ejection_output) k
     left_then false k e = ap (λ h. is_owned_from h k) (spent-kept (slice_index_or outputs o ejection_output)) ∙ e
 
--- .. and each channel that awaits a flit still does, since nothing is awaited behind a tail
-pub KeepsAwaiting-sent : (size : ℕ) (sets : Sets) (before after : Rings) (inputs : List Input) (outputs : List Output) (i : ℕ) (old new : Input) (f : Flit)
+-- once a flit has left, each channel that awaits one still does, since nothing is awaited behind a tail
+pub KeepsAwaiting-sent : (size : ℕ) (sets : Sets) (before after : Buffers) (inputs : List Input) (outputs : List Output) (i : ℕ) (old new : Input) (f : Flit)
     → AreSound size sets before.rings inputs outputs → length inputs ≡ size → i < size
-    → ring_at before i ≡ f ∷ ring_at after i → old ≡ slice_index_or inputs i idle_input → new ≡ sent old f
+    → buffer_at before i ≡ f ∷ buffer_at after i → old ≡ slice_index_or inputs i idle_input → new ≡ input_after_send old f
     → KeepsAwaiting inputs (slice_set inputs i new)
 KeepsAwaiting-sent size sets before after inputs outputs i old new f s each l first at is =
     each-set (λ k (x : Input). is_awaiting inputs k ≡ true → is_some x.awaited ≡ true) inputs i new idle_input (omega arith)
-    (λ awaits. ap (λ (x : Input). is_some x.awaited) (is ∙ ap (λ (x : Input). sent x f) at)
+    (λ awaits. ap (λ (x : Input). is_some x.awaited) (is ∙ ap (λ (x : Input). input_after_send x f) at)
     ∙ awaited_then f.last refl (sym (ap (is_worm_of (slice_index_or inputs i idle_input)) first) ∙ s.worms i l) awaits)
     (λ k n awaits. awaits)
   where
-    awaited_then : (last : Bool) → f.last ≡ last → is_worm_of (slice_index_or inputs i idle_input) (f ∷ ring_at after i) ≡ true → is_awaiting inputs i ≡ true
+    awaited_then : (last : Bool) → f.last ≡ last → is_worm_of (slice_index_or inputs i idle_input) (f ∷ buffer_at after i) ≡ true → is_awaiting inputs i ≡ true
         → is_some (if last then idle_input else slice_index_or inputs i idle_input).awaited ≡ true
-    awaited_then true e w awaits = absurd (false≢true (sym (is_worm-tail (is_some (slice_index_or inputs i idle_input).packet) (is_some (slice_index_or inputs i idle_input).awaited) f (ring_at after i) w e).1 ∙ awaits))
+    awaited_then true e w awaits = absurd (false≢true (sym (is_worm-tail (is_some (slice_index_or inputs i idle_input).packet) (is_some (slice_index_or inputs i idle_input).awaited) f (buffer_at after i) w e).1 ∙ awaits))
     awaited_then false e w awaits = awaits
 
 -- of two tests one holds
@@ -648,7 +648,7 @@ occupied-is size sets buffers inputs outputs first all s firsts alls i l =
     at (Active o) true = refl
     at (Active o) false = refl
 
--- .. are below the size
+-- the input channels that hold a packet or a flit are below the size
 pub occupied-below : (size : ℕ) (sets : Sets) (buffers : List (List Flit)) (inputs : List Input) (outputs : List Output) (first all : ℕ)
     → AreSound size sets buffers inputs outputs
     → ((k : ℕ) → has_bit first k ≡ (has_bit sets.filled k || has_bit sets.waiting k)) → ((k : ℕ) → has_bit all k ≡ (has_bit first k || has_bit sets.active k))
@@ -667,19 +667,19 @@ pub AreStanding-by : (size : ℕ) (sets : Sets) (buffers : List (List Flit)) (in
     → AreSound size sets buffers inputs outputs
     → ((k : ℕ) → has_bit sendable k ≡ (has_bit sets.active k && has_bit sets.filled k)) → ((k : ℕ) → has_bit rest k ≡ (not (has_bit sets.waiting k) && has_bit sets.filled k))
     → ((k : ℕ) → has_bit t.heads k ≡ (not (has_bit sets.active k) && has_bit rest k)) → t.waiting ≡ sets.waiting
-    → ((k : ℕ) → has_bit t.starved k ≡ (not (has_bit sets.filled k) && has_bit sets.active k))
-    → ((k : ℕ) → has_bit t.unsupplied k ≡ (not (has_bit sets.supplied k) && has_bit sendable k)) → ((k : ℕ) → has_bit t.ready k ≡ (has_bit sendable k && has_bit sets.supplied k))
+    → ((k : ℕ) → has_bit t.no_flit k ≡ (not (has_bit sets.filled k) && has_bit sets.active k))
+    → ((k : ℕ) → has_bit t.no_credit k ≡ (not (has_bit sets.supplied k) && has_bit sendable k)) → ((k : ℕ) → has_bit t.ready k ≡ (has_bit sendable k && has_bit sets.supplied k))
     → AreStanding size buffers inputs outputs t
-AreStanding-by size sets buffers inputs outputs sendable rest t s sends rests heads waits starved unsupplied ready = record {
+AreStanding-by size sets buffers inputs outputs sendable rest t s sends rests heads waits no_flit no_credit ready = record {
   heads_below = λ k is. s.filled_below k (and_parts (not (has_bit sets.waiting k)) (has_bit sets.filled k) (sym (rests k) ∙ (and_parts (not (has_bit sets.active k)) (has_bit rest k) (sym (heads k) ∙ is)).1)).1;
   waiting_below = λ k is. s.waiting_below k (ap (λ set. has_bit set k) (sym waits) ∙ is);
-  starved_below = λ k is. s.active_below k (and_parts (not (has_bit sets.filled k)) (has_bit sets.active k) (sym (starved k) ∙ is)).1;
-  unsupplied_below = λ k is. s.filled_below k (and_parts (has_bit sets.active k) (has_bit sets.filled k) (sym (sends k) ∙ (and_parts (not (has_bit sets.supplied k)) (has_bit sendable k) (sym (unsupplied k) ∙ is)).1)).1;
+  no_flit_below = λ k is. s.active_below k (and_parts (not (has_bit sets.filled k)) (has_bit sets.active k) (sym (no_flit k) ∙ is)).1;
+  no_credit_below = λ k is. s.filled_below k (and_parts (has_bit sets.active k) (has_bit sets.filled k) (sym (sends k) ∙ (and_parts (not (has_bit sets.supplied k)) (has_bit sendable k) (sym (no_credit k) ∙ is)).1)).1;
   ready_below = λ k is. s.supplied_below k (and_parts (has_bit sendable k) (has_bit sets.supplied k) (sym (ready k) ∙ is)).1;
   heads = λ i l. heads_at i (slice_index_or inputs i idle_input).phase (is_empty (slice_index_or buffers i [])) (s.filled_is i l) (s.waiting_is i l) (s.active_is i l);
   waiting = λ i l. ap (λ set. has_bit set i) waits ∙ s.waiting_is i l;
-  starved = λ i l. starved_at i (is_active (slice_index_or inputs i idle_input).phase) (is_empty (slice_index_or buffers i [])) (s.filled_is i l) (s.active_is i l);
-  unsupplied = λ i l. unsupplied_at i (is_active (slice_index_or inputs i idle_input).phase) (not (is_empty (slice_index_or buffers i []))) (is_supplied outputs (slice_index_or inputs i idle_input).phase)
+  no_flit = λ i l. no_flit_at i (is_active (slice_index_or inputs i idle_input).phase) (is_empty (slice_index_or buffers i [])) (s.filled_is i l) (s.active_is i l);
+  no_credit = λ i l. no_credit_at i (is_active (slice_index_or inputs i idle_input).phase) (not (is_empty (slice_index_or buffers i []))) (is_supplied outputs (slice_index_or inputs i idle_input).phase)
       (s.active_is i l) (s.filled_is i l) (s.supplied_is i l);
   ready = λ i l. ready_at i (is_active (slice_index_or inputs i idle_input).phase) (not (is_empty (slice_index_or buffers i []))) (is_supplied outputs (slice_index_or inputs i idle_input).phase)
       (s.active_is i l) (s.filled_is i l) (s.supplied_is i l);
@@ -691,8 +691,8 @@ AreStanding-by size sets buffers inputs outputs sendable rest t s sends rests he
     heads_at i (Waiting set) none f w a = heads i ∙ ap (λ b. not b && has_bit rest i) a ∙ rests i ∙ ap (λ b. not b && has_bit sets.filled i) w
     heads_at i (Active o) none f w a = heads i ∙ ap (λ b. not b && has_bit rest i) a
 
-    starved_at : (i : ℕ) (acts none : Bool) → has_bit sets.filled i ≡ not none → has_bit sets.active i ≡ acts → has_bit t.starved i ≡ (acts && none)
-    starved_at i acts none f a = starved i ∙ ap (λ b. not b && has_bit sets.active i) f ∙ ap (λ b. not (not none) && b) a ∙ turned acts none
+    no_flit_at : (i : ℕ) (acts none : Bool) → has_bit sets.filled i ≡ not none → has_bit sets.active i ≡ acts → has_bit t.no_flit i ≡ (acts && none)
+    no_flit_at i acts none f a = no_flit i ∙ ap (λ b. not b && has_bit sets.active i) f ∙ ap (λ b. not (not none) && b) a ∙ turned acts none
       where
         turned : (a b : Bool) → (not (not b) && a) ≡ (a && b)
         turned true true = refl
@@ -700,10 +700,10 @@ AreStanding-by size sets buffers inputs outputs sendable rest t s sends rests he
         turned false true = refl
         turned false false = refl
 
-    unsupplied_at : (i : ℕ) (acts some has : Bool) → has_bit sets.active i ≡ acts → has_bit sets.filled i ≡ some → has_bit sets.supplied i ≡ has
-        → has_bit t.unsupplied i ≡ (acts && (some && not has))
-    unsupplied_at i acts some has a f h =
-        unsupplied i ∙ ap (λ b. not b && has_bit sendable i) h ∙ ap (λ b. not has && b) (sends i)
+    no_credit_at : (i : ℕ) (acts some has : Bool) → has_bit sets.active i ≡ acts → has_bit sets.filled i ≡ some → has_bit sets.supplied i ≡ has
+        → has_bit t.no_credit i ≡ (acts && (some && not has))
+    no_credit_at i acts some has a f h =
+        no_credit i ∙ ap (λ b. not b && has_bit sendable i) h ∙ ap (λ b. not has && b) (sends i)
         ∙ ap (λ b. not has && (b && has_bit sets.filled i)) a ∙ ap (λ b. not has && (acts && b)) f ∙ turned acts some has
       where
         turned : (a b c : Bool) → (not c && (a && b)) ≡ (a && (b && not c))
@@ -727,14 +727,14 @@ AreStanding-by size sets buffers inputs outputs sendable rest t s sends rests he
 -- ---- new channels
 
 -- channels of which each is idle and empty
-pub AreSound-opening : (size links places : ℕ) (sets : Sets) (bank : Rings) (inputs : List Input) (outputs : List Output)
+pub AreSound-opening : (size links places : ℕ) (sets : Sets) (bank : Buffers) (inputs : List Input) (outputs : List Output)
     → links ≤ size → ((k : ℕ) → has_bit sets.filled k ≡ false) → ((k : ℕ) → has_bit sets.waiting k ≡ false) → ((k : ℕ) → has_bit sets.active k ≡ false)
     → ((k : ℕ) → has_bit sets.supplied k ≡ false) → ((k : ℕ) → has_bit sets.idle k ≡ nat_lt k size)
-    → bank ≡ empty_rings size places → inputs ≡ replicate size idle_input
+    → bank ≡ empty_buffers size places → inputs ≡ replicate size idle_input
     → outputs ≡ replicate links (link_output places) ++ replicate (size - links) ejection_output
     → AreSound size sets bank.rings inputs outputs
 AreSound-opening size links places sets bank inputs outputs few filled waiting active supplied each rings ins outs =
-    let empty : (i : ℕ) → i < size → ring_at bank i ≡ [] = λ i l. ap (λ (b : Rings). ring_at b i) rings ∙ get_or-replicate size i [] [] l in
+    let empty : (i : ℕ) → i < size → buffer_at bank i ≡ [] = λ i l. ap (λ (b : Buffers). buffer_at b i) rings ∙ get_or-replicate size i [] [] l in
     let input : (i : ℕ) → i < size → slice_index_or inputs i idle_input ≡ idle_input = λ i l. ap (λ (xs : List Input). slice_index_or xs i idle_input) ins ∙ get_or-replicate size i idle_input idle_input l in
     let whole : length outputs ≡ size = ap length outs ∙ length-append (replicate links (link_output places)) (replicate (size - links) ejection_output)
     ∙ (let a : length (replicate links (link_output places)) ≡ links = length-replicate links (link_output places) in
@@ -758,5 +758,5 @@ AreSound-opening size links places sets bank inputs outputs few filled waiting a
       owner_below = λ i o l from. absurd (false≢true (sym (ap (λ h. is_owned_from h i) (holder o l)) ∙ from));
       vacant = λ i l off. ap (λ (x : Input). x.packet) (input i l);
       owners = λ i o l u. ap (λ (x : Input). owns x.phase o) (input i l) ∙ sym (ap (λ h. is_owned_from h i) (holder o u));
-      worms = λ i l. ap (λ (x : Input). is_worm_of x (ring_at bank i)) (input i l) ∙ ap (is_worm_of idle_input) (empty i l);
+      worms = λ i l. ap (λ (x : Input). is_worm_of x (buffer_at bank i)) (input i l) ∙ ap (is_worm_of idle_input) (empty i l);
     }

@@ -6,23 +6,23 @@ use Rattle.std.proofs.lemmas.List.{drop_all}
 use Rattle.noc_packet.specs.declared.packet.Packet.{Packet}
 use Rattle.noc_packet.specs.declared.packet.Flit.{Flit}
 use Rattle.noc_packet.specs.Packet.{flit_at}
-use Rattle.noc_ring.specs.Rings.{pushed}
-use Rattle.noc_vc.specs.Input.{landed}
+use Rattle.noc_ring.specs.Buffers.{buffers_after_push}
+use Rattle.noc_vc.specs.Input.{input_after_land}
 use Rattle.noc_router.specs.declared.channels.Channels.{Channels}
 use Rattle.noc_router.specs.declared.source.Source.{Source}
 use Rattle.noc_router.specs.declared.router.Router.TheInside.{Inside}
 use Rattle.noc_router.specs.Inside.{IsRouter, view_of, queue_of, sending_of}
 use Rattle.noc_router.specs.Injection.{index_in, vc_from, vacant_vc, next_vc}
 use Rattle.noc_router.specs.Queue.{queue_from, sending_from, next_due_of, next_flit_of, is_next_last, is_due_by}
-use Rattle.noc_router.specs.Sound.{input_at}
-use Rattle.noc_router.specs.View.{View, begun_on, view_buffer, local_channel, with_injected, injected_from, injected}
+use Rattle.noc_router.specs.Sound.{nth_input}
+use Rattle.noc_router.specs.View.{View, begun_on, view_buffer, local_channel, with_injected, view_after_inject_from, view_after_inject}
 
 -- ---- by the view
 
 -- nothing is left at the source
-pub injected-nothing : (n : ℕ) (v : View) → v.queue ≡ [] → injected n v ≡ record v { given = n }
-unfolding injected
-injected-nothing n v e = ap (λ queue. injected_from n queue v.sending (record v { given = n })) e
+pub injected-nothing : (n : ℕ) (v : View) → v.queue ≡ [] → view_after_inject n v ≡ record v { given = n }
+unfolding view_after_inject
+injected-nothing n v e = ap (λ queue. view_after_inject_from n queue v.sending (record v { given = n })) e
 
 -- the front of the queue, with its next index, goes to this channel
 abbrev goes_to : Option ℕ → ℕ → ℕ → Packet → List (ℕ × Packet) → View → View
@@ -30,7 +30,7 @@ goes_to None index number p rest v = v
 goes_to (Some vc) index number p rest v = with_injected vc index number p rest v
 
 went : (n number : ℕ) (p : Packet) (rest : List (ℕ × Packet)) (sending : Option (ℕ × ℕ)) (v : View)
-    → injected_from n ((number, p) ∷ rest) sending v ≡ goes_to (vc_from v (nat_le p.due n) sending) (index_in sending) number p rest v
+    → view_after_inject_from n ((number, p) ∷ rest) sending v ≡ goes_to (vc_from v (nat_le p.due n) sending) (index_in sending) number p rest v
 went n number p rest (Some (vc, index)) v = at (nat_lt (length (view_buffer v (local_channel v.site vc))) v.site.places)
   where
     at : (b : Bool) → (if b then with_injected vc index number p rest v else v) ≡ goes_to (if b then Some vc else None) index number p rest v
@@ -48,24 +48,24 @@ went n number p rest None v = at (nat_le p.due n)
 
 -- the front of the queue goes where it can
 pub injected-front : (n number : ℕ) (p : Packet) (rest : List (ℕ × Packet)) (v : View) (vc : Option ℕ) → v.queue ≡ (number, p) ∷ rest
-    → next_vc (record v { given = n }) ≡ vc → injected n v ≡ goes_to vc (index_in v.sending) number p rest (record v { given = n })
-unfolding injected
+    → next_vc (record v { given = n }) ≡ vc → view_after_inject n v ≡ goes_to vc (index_in v.sending) number p rest (record v { given = n })
+unfolding view_after_inject
 injected-front n number p rest v vc queue e =
-    ap (λ q. injected_from n q v.sending (record v { given = n })) queue
+    ap (λ q. view_after_inject_from n q v.sending (record v { given = n })) queue
     ∙ went n number p rest v.sending (record v { given = n })
     ∙ ap (λ o. goes_to o (index_in v.sending) number p rest (record v { given = n }))
     (ap (λ (q : List (ℕ × Packet)). vc_from (record v { given = n }) (is_due_by (slice_get q 0) n) v.sending) (sym queue) ∙ e)
 
 -- where no local channel can take a flit, none goes
-pub injected-stays : (n : ℕ) (v : View) → next_vc (record v { given = n }) ≡ None → injected n v ≡ record v { given = n }
+pub injected-stays : (n : ℕ) (v : View) → next_vc (record v { given = n }) ≡ None → view_after_inject n v ≡ record v { given = n }
 injected-stays n v none = at v.queue refl
   where
-    at : (queue : List (ℕ × Packet)) → v.queue ≡ queue → injected n v ≡ record v { given = n }
+    at : (queue : List (ℕ × Packet)) → v.queue ≡ queue → view_after_inject n v ≡ record v { given = n }
     at [] whole = injected-nothing n v whole
     at ((number, p) ∷ rest) whole = injected-front n number p rest v None whole none
 
 -- where one can, and there is a packet, one goes
-pub injected-goes : (n vc : ℕ) (v : View) → next_vc (record v { given = n }) ≡ Some vc → is_some (slice_get v.queue 0) ≡ true → injected n v ≡ record v { given = n } → ⊥
+pub injected-goes : (n vc : ℕ) (v : View) → next_vc (record v { given = n }) ≡ Some vc → is_some (slice_get v.queue 0) ≡ true → view_after_inject n v ≡ record v { given = n } → ⊥
 injected-goes n vc v some there stays = at v.queue refl
   where
     -- the queue is shorter by its first packet, or the next index is one more
@@ -85,7 +85,7 @@ pub next_vc-begun : (n vc index : ℕ) (b : Bool) (v : View) → v.sending ≡ S
     → next_vc (record v { given = n }) ≡ (if b then Some vc else None)
 next_vc-begun n vc index b v begun room = ap (vc_from (record v { given = n }) (is_due_by (slice_get v.queue 0) n)) begun ∙ ap (λ x. if x then Some vc else None) room
 
--- .. or waits until a packet is due, or for a vacant channel
+-- the source waits until a packet is due, or for a vacant channel
 pub next_vc-waits : (n : ℕ) (v : View) → v.sending ≡ None → next_vc (record v { given = n }) ≡ (if is_due_by (slice_get v.queue 0) n then vacant_vc v else None)
 next_vc-waits n v waits = ap (vc_from (record v { given = n }) (is_due_by (slice_get v.queue 0) n)) waits
 
@@ -107,7 +107,7 @@ index-is None index zero_there = sym (zero_there refl)
 index-is (Some vc) index zero_there = refl
 
 -- where no local channel can take a flit, none goes
-pub stays-view : (r : Inside) (n : ℕ) → next_vc (view_of (record r { cycle = n })) ≡ None → view_of (record r { cycle = n }) ≡ injected n (view_of r)
+pub stays-view : (r : Inside) (n : ℕ) → next_vc (view_of (record r { cycle = n })) ≡ None → view_of (record r { cycle = n }) ≡ view_after_inject n (view_of r)
 stays-view r n none = sym (injected-stays n (view_of r) none)
 
 -- ---- when the packet in front is due
@@ -116,10 +116,10 @@ due_of None due e = absurd (cc)
 due_of (Some start) due e = let same : start.1.due ≡ due = cc in (refl, λ n. ap (λ m. nat_le m n) same)
 
 -- no packet is in front
-pub never-due : (r : Inside) → IsRouter r → next_due_of r.source.front ≡ None → (n : ℕ) → injected n (view_of r) ≡ record (view_of r) { given = n }
+pub never-due : (r : Inside) → IsRouter r → next_due_of r.source.front ≡ None → (n : ℕ) → view_after_inject n (view_of r) ≡ record (view_of r) { given = n }
 never-due r is none n = at r.source.front refl
   where
-    at : (front : Option (ℕ × Packet)) → r.source.front ≡ front → injected n (view_of r) ≡ record (view_of r) { given = n }
+    at : (front : Option (ℕ × Packet)) → r.source.front ≡ front → view_after_inject n (view_of r) ≡ record (view_of r) { given = n }
     at None there =
         injected-nothing n (view_of r) (ap (λ front. queue_from front r.source.begun r.source.packets.items) there
         ∙ drop_all r.source.begun r.source.packets.items (omega (arith, r.source.all_begun (ap (λ (front : Option (ℕ × Packet)). is_none front) there), r.source.packets.ok.0)))
@@ -136,49 +136,49 @@ module _ (r : Inside) (due : ℕ) (is : IsRouter r) (e : next_due_of r.source.fr
   due-by : (n : ℕ) → is_due_by (slice_get (view_of r).queue 0) n ≡ nat_le due n
   due-by n = ap (λ front. is_due_by front n) front-is ∙ (due_of r.source.front due e).1 n
 
-  -- .. it has begun on this channel, and there is room or not
+  -- the packet in front has begun on this channel, and there is room or not
   module _ (vc : ℕ) (b : Bool) (begun : r.source.vc ≡ Some vc) (room : nat_lt (length (view_buffer (view_of r) (local_channel (view_of r).site vc))) r.places ≡ b) where
     next-begun : (n : ℕ) → next_vc (record (view_of r) { given = n }) ≡ (if b then Some vc else None)
     next-begun n = next_vc-begun n vc r.source.index b (view_of r) (ap (λ channel. sending_from channel r.source.index) begun) room
 
-    pub held-begun : b ≡ false → (n : ℕ) → injected n (view_of r) ≡ record (view_of r) { given = n }
+    pub held-begun : b ≡ false → (n : ℕ) → view_after_inject n (view_of r) ≡ record (view_of r) { given = n }
     held-begun none n = injected-stays n (view_of r) (next-begun n ∙ ap (λ x. if x then Some vc else None) none)
 
-    pub goes-begun : b ≡ true → (n : ℕ) → injected n (view_of r) ≡ record (view_of r) { given = n } → ⊥
+    pub goes-begun : b ≡ true → (n : ℕ) → view_after_inject n (view_of r) ≡ record (view_of r) { given = n } → ⊥
     goes-begun some n = injected-goes n vc (view_of r) (next-begun n ∙ ap (λ x. if x then Some vc else None) some) some-front
 
-  -- .. it has not begun
+  -- the packet in front has not begun
   module _ (waits : r.source.vc ≡ None) where
     next-waits : (n : ℕ) → next_vc (record (view_of r) { given = n }) ≡ (if nat_le due n then vacant_vc (view_of r) else None)
     next-waits n = next_vc-waits n (view_of r) (ap (λ channel. sending_from channel r.source.index) waits) ∙ ap (λ b. if b then vacant_vc (view_of r) else None) (due-by n)
 
-    pub held-early : (n : ℕ) → n < due → injected n (view_of r) ≡ record (view_of r) { given = n }
+    pub held-early : (n : ℕ) → n < due → view_after_inject n (view_of r) ≡ record (view_of r) { given = n }
     held-early n early = injected-stays n (view_of r) (next-waits n ∙ ap (λ b. if b then vacant_vc (view_of r) else None) (lt-leb due n early))
 
-    pub held-crowded : vacant_vc (view_of r) ≡ None → (n : ℕ) → injected n (view_of r) ≡ record (view_of r) { given = n }
+    pub held-crowded : vacant_vc (view_of r) ≡ None → (n : ℕ) → view_after_inject n (view_of r) ≡ record (view_of r) { given = n }
     held-crowded none n = injected-stays n (view_of r) (next-waits n ∙ either (nat_le due n))
       where
         either : (b : Bool) → (if b then vacant_vc (view_of r) else None) ≡ None
         either true = none
         either false = refl
 
-    pub goes-due : (vc : ℕ) → vacant_vc (view_of r) ≡ Some vc → injected due (view_of r) ≡ record (view_of r) { given = due } → ⊥
+    pub goes-due : (vc : ℕ) → vacant_vc (view_of r) ≡ Some vc → view_after_inject due (view_of r) ≡ record (view_of r) { given = due } → ⊥
     goes-due vc some = injected-goes due vc (view_of r) (next-waits due ∙ ap (λ b. if b then vacant_vc (view_of r) else None) (le-leb due due (omega arith)) ∙ some) some-front
 
 -- a flit goes to a local channel
 pub goes-view : (r : Inside) (n vc i : ℕ) (flit : Flit) (channels : Channels) (source : Source)
     → (is_none r.source.vc ≡ true → r.source.index ≡ 0) → next_flit_of r.source.front r.source.index ≡ Some flit
     → next_vc (view_of (record r { cycle = n })) ≡ Some vc → i ≡ local_channel (view_of r).site vc
-    → channels.bank ≡ pushed r.channels.bank i flit
-    → channels.inputs.items ≡ slice_set r.channels.inputs.items i (landed (input_at r.channels.inputs.items i) flit)
+    → channels.bank ≡ buffers_after_push r.channels.bank i flit
+    → channels.inputs.items ≡ slice_set r.channels.inputs.items i (input_after_land (nth_input r.channels.inputs.items i) flit)
     → channels.outputs.items ≡ r.channels.outputs.items
     → queue_of source ≡ (if is_next_last r.source.front r.source.index then drop 1 (queue_of r.source) else queue_of r.source)
     → sending_of source ≡ (if is_next_last r.source.front r.source.index then None else Some (vc, r.source.index + 1))
-    → view_of (record r { cycle = n; had_event = true; source = source; channels = channels }) ≡ injected n (view_of r)
+    → view_of (record r { cycle = n; had_event = true; source = source; channels = channels }) ≡ view_after_inject n (view_of r)
 goes-view r n vc i flit channels source at_head some next at bank inputs outputs queue sending = by r.source.front refl some
   where
     by : (front : Option (ℕ × Packet)) → r.source.front ≡ front → next_flit_of front r.source.index ≡ Some flit
-        → view_of (record r { cycle = n; had_event = true; source = source; channels = channels }) ≡ injected n (view_of r)
+        → view_of (record r { cycle = n; had_event = true; source = source; channels = channels }) ≡ view_after_inject n (view_of r)
     by None there e = absurd (cc)
     by (Some (number, p)) there e =
         let f : Flit = flit_at p number r.source.index in
@@ -187,9 +187,9 @@ goes-view r n vc i flit channels source at_head some next at bank inputs outputs
         let v : View = record (view_of r) { given = n } in
         let is : flit ≡ f = cc in
         let whole : queue_of r.source ≡ (number, p) ∷ rest = ap (λ front. queue_from front r.source.begun r.source.packets.items) there in
-        let bank_is : channels.bank ≡ pushed r.channels.bank here f = bank ∙ ap (λ k. pushed r.channels.bank k flit) at ∙ ap (pushed r.channels.bank here) is in
-        let inputs_is : channels.inputs.items ≡ slice_set r.channels.inputs.items here (landed (input_at r.channels.inputs.items here) f) =
-        inputs ∙ ap (λ k. slice_set r.channels.inputs.items k (landed (input_at r.channels.inputs.items k) flit)) at ∙ ap (λ x. slice_set r.channels.inputs.items here (landed (input_at r.channels.inputs.items here) x)) is in
+        let bank_is : channels.bank ≡ buffers_after_push r.channels.bank here f = bank ∙ ap (λ k. buffers_after_push r.channels.bank k flit) at ∙ ap (buffers_after_push r.channels.bank here) is in
+        let inputs_is : channels.inputs.items ≡ slice_set r.channels.inputs.items here (input_after_land (nth_input r.channels.inputs.items here) f) =
+        inputs ∙ ap (λ k. slice_set r.channels.inputs.items k (input_after_land (nth_input r.channels.inputs.items k) flit)) at ∙ ap (λ x. slice_set r.channels.inputs.items here (input_after_land (nth_input r.channels.inputs.items here) x)) is in
         let queue_is : queue_of source ≡ (if f.last then rest else queue_of r.source) =
         queue ∙ ap (λ front. if is_next_last front r.source.index then drop 1 (queue_of r.source) else queue_of r.source) there
         ∙ ap (λ xs. if f.last then drop 1 xs else queue_of r.source) whole in

@@ -6,7 +6,7 @@ use Rattle.std.proofs.lemmas.List.{take-replicate}
 use Rattle.std.proofs.Math.Nat.{add-mul}
 use Rattle.noc_topo.specs.Shape.{Grid, IsGrid, ports, local_port}
 use Rattle.noc_packet.specs.declared.packet.Packet.{Packet}
-use Rattle.noc_ring.specs.Rings.{empty_rings}
+use Rattle.noc_ring.specs.Buffers.{empty_buffers}
 use Rattle.noc_vc.specs.Input.{idle_input}
 use Rattle.noc_vc.specs.Output.{link_output, ejection_output}
 use Rattle.noc_router.specs.declared.arbiters.Arbiters.{Arbiters}
@@ -27,7 +27,7 @@ last_port d vcs = let e : (2 * d + 1) * vcs ≡ 2 * d * vcs + 1 * vcs = add-mul 
 -- the view of a router none of whose parts has done anything
 pub opening-is : (node p vcs places : ℕ) (shape : Grid) (source : Source) (channels : Channels) (links : Links) (tally : Tally) (arbiters : Arbiters) (arrivals : Arrivals) (indices : Indices) (starts : List (ℕ × Packet)) (ends : List ℕ)
     → IsGrid shape → p ≡ ports shape → queue_of source ≡ starts → source.vc ≡ None
-    → channels.bank ≡ empty_rings (p * vcs) places → channels.inputs.items ≡ replicate (p * vcs) idle_input
+    → channels.bank ≡ empty_buffers (p * vcs) places → channels.inputs.items ≡ replicate (p * vcs) idle_input
     → channels.outputs.items ≡ replicate ((p - 1) * vcs) (link_output places) ++ replicate (p * vcs - (p - 1) * vcs) ejection_output
     → links.beats ≡ replicate 6 idle_beat
     → counts_from tally.cycles tally.counters tally.counts.items ≡ replicate (p * vcs) (replicate 10 0) → tally.begun ≡ false
@@ -54,7 +54,7 @@ pub opening-is : (node p vcs places : ℕ) (shape : Grid) (source : Source) (cha
 opening-is node p vcs places shape source channels links tally arbiters arrivals indices starts ends grid ps queue vc bank inputs outputs beats counts begun turns_of_channels turns_of_inputs turns_of_outputs ended =
     let d : ℕ = length shape.radix in
     let before : p - 1 ≡ 2 * d = omega arith in
-    let bank_is : channels.bank ≡ empty_rings (ports shape * vcs) places = bank ∙ ap (λ n. empty_rings (n * vcs) places) ps in
+    let bank_is : channels.bank ≡ empty_buffers (ports shape * vcs) places = bank ∙ ap (λ n. empty_buffers (n * vcs) places) ps in
     let inputs_are : channels.inputs.items ≡ replicate (ports shape * vcs) idle_input = inputs ∙ ap (λ n. replicate (n * vcs) idle_input) ps in
     let outputs_are : channels.outputs.items ≡ replicate (local_port shape * vcs) (link_output places) ++ replicate vcs ejection_output =
     outputs ∙ ap (λ n. replicate ((n - 1) * vcs) (link_output places) ++ replicate (n * vcs - (n - 1) * vcs) ejection_output) ps

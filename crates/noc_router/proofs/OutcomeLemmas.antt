@@ -12,11 +12,11 @@ use Rattle.noc_vc.specs.Input.{is_idle_phase}
 use Rattle.noc_vc.specs.declared.input.InputState.{InputState}
 use Rattle.noc_vc.specs.declared.input.InputState.TheVariants.{Idle, Waiting, Active}
 use Rattle.noc_router.specs.Decided.{IsDecidedFor}
-use Rattle.noc_router.specs.Settled.{CanTakeEffect, IsOutcomeOf, decisions_by, effect_of, finding_by, found_with, outcome_verdict, tallied}
+use Rattle.noc_router.specs.Settled.{CanTakeEffect, AreContentsFor, decisions_by, effect_of, finding_by, found_with, planned_verdict, view_after_tally}
 use Rattle.noc_router.specs.Sound.{is_occupied, out_in}
 use Rattle.noc_router.specs.Tally.{empty_finding, is_empty_verdict}
 use Rattle.noc_router.specs.Verdict.{Round, Waits, Holds, ask_of, out_of, is_event, verdict_of}
-use Rattle.noc_router.specs.View.{View, Outcome, Decisions, asked_for, claim_in, committed, counted, decided_verdict, finding_of, outcome, planned, port_and_vc, route_of, size_of, view_buffer, view_claim, view_input, view_round, idle_beats}
+use Rattle.noc_router.specs.View.{View, PlanContents, Decisions, asked_for, claim_in, view_after_commit, counts_after, decided_verdict, finding_of, plan_contents, decisions_of, port_and_vc, route_of, size_of, view_buffer, view_claim, view_input, view_round, idle_beats}
 use Rattle.noc_router.specs.declared.verdict.Verdict.{Verdict}
 use Rattle.noc_router.specs.declared.verdict.Verdict.TheVariants.{Empty, Granted, Moved, LostChannel, LostInput, LostSwitch}
 use Rattle.noc_router.specs.declared.verdict.Finding.{Finding}
@@ -27,40 +27,40 @@ use Rattle.noc_router.proofs.TallyLemmas.{verdict-at}
 
 -- ---- the decisions of an outcome
 -- the verdict of a channel is that of the outcome
-pub decided-outcome : (p : Outcome) (v : View) (i : ℕ) → i < size_of v.site → decided_verdict (decisions_by p v) i ≡ outcome_verdict p i
+pub decided-outcome : (p : PlanContents) (v : View) (i : ℕ) → i < size_of v.site → decided_verdict (decisions_by p v) i ≡ planned_verdict p i
 decided-outcome p v i l =
-    verdict-at (decisions_by p v) i (omega (arith, length-tabulate (size_of v.site) (λ k. found_with v (outcome_verdict p k) k)))
-    ∙ ap (λ (f : Finding). f.verdict) (get_or-tabulate (size_of v.site) i (λ k. found_with v (outcome_verdict p k) k) empty_finding l)
+    verdict-at (decisions_by p v) i (omega (arith, length-tabulate (size_of v.site) (λ k. found_with v (planned_verdict p k) k)))
+    ∙ ap (λ (f : Finding). f.verdict) (get_or-tabulate (size_of v.site) i (λ k. found_with v (planned_verdict p k) k) empty_finding l)
 
-decisions-planned : (relation : Routes) (v : View) → decisions_by (outcome relation v) v ≡ planned relation v
-unfolding outcome planned
+decisions-planned : (relation : Routes) (v : View) → decisions_by (plan_contents relation v) v ≡ decisions_of relation v
+unfolding plan_contents decisions_of
 decisions-planned relation v =
-    let f : ℕ → Finding = λ i. found_with v (outcome_verdict (outcome relation v) i) i in
+    let f : ℕ → Finding = λ i. found_with v (planned_verdict (plan_contents relation v) i) i in
     ap (λ fs. record { round = view_round v; findings = fs; routes = tabulate (size_of v.site) (route_of relation v) })
     (tabulate-from_each (size_of v.site) (finding_of (view_round v) v) (tabulate (size_of v.site) f) empty_finding (length-tabulate (size_of v.site) f)
     (λ i l. get_or-tabulate (size_of v.site) i f empty_finding l
     ∙ ap (λ x. found_with v x i) (get_or-tabulate (size_of v.site) i (λ k. (finding_of (view_round v) v k).verdict) Empty l)))
 
--- .. they are what is planned
-pub decisions-are : (relation : Routes) (p : Outcome) (v : View) → p ≡ outcome relation v → decisions_by p v ≡ planned relation v
+-- the decisions of an outcome are what is planned
+pub decisions-are : (relation : Routes) (p : PlanContents) (v : View) → p ≡ plan_contents relation v → decisions_by p v ≡ decisions_of relation v
 decisions-are relation p v e = ap (λ x. decisions_by x v) e ∙ decisions-planned relation v
 
--- .. with the lists of a plan
-pub lists_of : (p : Outcome) (v : View) → IsOutcomeOf p v → Lists (decisions_by p v) v
+-- the decisions of an outcome have the lists of a plan
+pub lists_of : (p : PlanContents) (v : View) → AreContentsFor p v → Lists (decisions_by p v) v
 lists_of p v is = let P : Decisions → Type 0 = λ d. Lists d v in subst P (sym (decisions-are is.relation p v is.is)) (lists_of_round is.relation v)
 
 -- it has an entry for each channel and port
-pub outcome-decided : (p : Outcome) (v : View) → IsOutcomeOf p v → IsDecidedFor (ports v.site.grid) v.site.vcs p
+pub outcome-decided : (p : PlanContents) (v : View) → AreContentsFor p v → IsDecidedFor (ports v.site.grid) v.site.vcs p
 outcome-decided p v is = subst (IsDecidedFor (ports v.site.grid) v.site.vcs) (sym is.is) (outcome-lengths is.relation v)
 
 -- ---- what an outcome says of one channel
 -- the output channel that it asks for
-pub outcome-ask : (p : Outcome) (v : View) (i : ℕ) → IsOutcomeOf p v → i < size_of v.site → get_or p.asks i None ≡ ask_of (view_claim v i)
-unfolding outcome
-outcome-ask p v i is l = ap (λ (x : Outcome). get_or x.asks i None) is.is ∙ asks-at v i l
+pub outcome-ask : (p : PlanContents) (v : View) (i : ℕ) → AreContentsFor p v → i < size_of v.site → get_or p.asks i None ≡ ask_of (view_claim v i)
+unfolding plan_contents
+outcome-ask p v i is l = ap (λ (x : PlanContents). get_or x.asks i None) is.is ∙ asks-at v i l
 
 -- the verdict on it
-outcome-verdict : (p : Outcome) (v : View) (i : ℕ) → IsOutcomeOf p v → i < size_of v.site → outcome_verdict p i ≡ verdict_of v.site.vcs p.round i (view_claim v i) (holds_flit v i)
+outcome-verdict : (p : PlanContents) (v : View) (i : ℕ) → AreContentsFor p v → i < size_of v.site → planned_verdict p i ≡ verdict_of v.site.vcs p.round i (view_claim v i) (holds_flit v i)
 outcome-verdict p v i is l = sym (decided-outcome p v i l) ∙ decided-is (decisions_by p v) v i (lists_of p v is) l
 
 full_verdict : (v : View) (round : Round) (i : ℕ) (phase : InputState) (empty : Bool) → not (is_idle_phase phase && empty) ≡ not (is_empty_verdict (verdict_of v.site.vcs round i (claim_in v phase) (not empty)))
@@ -88,13 +88,13 @@ full_verdict v round i (Active o) empty = holds _ empty
     holds true false = moves (is_some_of (get_or round.picks (i / v.site.vcs) None) (i % v.site.vcs)) (is_some_of (get_or round.wins (o / v.site.vcs) None) (i / v.site.vcs))
 
 -- a channel that holds something has another verdict than Empty
-pub outcome-occupied : (p : Outcome) (v : View) (i : ℕ) → IsOutcomeOf p v → i < size_of v.site → is_occupied (view_input v i) (view_buffer v i) ≡ not (is_empty_verdict (outcome_verdict p i))
+pub outcome-occupied : (p : PlanContents) (v : View) (i : ℕ) → AreContentsFor p v → i < size_of v.site → is_occupied (view_input v i) (view_buffer v i) ≡ not (is_empty_verdict (planned_verdict p i))
 outcome-occupied p v i is l = full_verdict v p.round i (view_input v i).phase _ ∙ sym (ap (λ x. not (is_empty_verdict x)) (outcome-verdict p v i is l))
 
 -- what is found of it, by its state
-pub outcome-finding : (p : Outcome) (v : View) (i : ℕ) → IsOutcomeOf p v → i < size_of v.site → finding_by p v.site.vcs v.inputs i ≡ found_with v (outcome_verdict p i) i
+pub outcome-finding : (p : PlanContents) (v : View) (i : ℕ) → AreContentsFor p v → i < size_of v.site → finding_by p v.site.vcs v.inputs i ≡ found_with v (planned_verdict p i) i
 outcome-finding p v i is l =
-    ap (λ x. record { verdict = outcome_verdict p i; packet = (view_input v i).packet; out = option_map (port_and_vc v.site) x }) (named_in (view_input v i).phase (get_or p.asks i None) (outcome-ask p v i is l))
+    ap (λ x. record { verdict = planned_verdict p i; packet = (view_input v i).packet; out = option_map (port_and_vc v.site) x }) (named_in (view_input v i).phase (get_or p.asks i None) (outcome-ask p v i is l))
   where
     named_in : (phase : InputState) (ask : Option ℕ) → ask ≡ ask_of (claim_in v phase) → out_in phase ask ≡ out_of (claim_in v phase)
     named_in Idle ask e = refl
@@ -102,25 +102,25 @@ outcome-finding p v i is l =
     named_in (Active o) ask e = refl
 
 -- ---- all channels are counted
-pub counted-outcome : (p : Outcome) (v : View) (counts : List (List ℕ)) → length counts ≡ size_of v.site
-    → map_indexed (λ i xs. counted (outcome_verdict p i) xs) counts ≡ map_indexed (λ i xs. counted (decided_verdict (decisions_by p v) i) xs) counts
+pub counted-outcome : (p : PlanContents) (v : View) (counts : List (List ℕ)) → length counts ≡ size_of v.site
+    → map_indexed (λ i xs. counts_after (planned_verdict p i) xs) counts ≡ map_indexed (λ i xs. counts_after (decided_verdict (decisions_by p v) i) xs) counts
 counted-outcome p v counts n =
-    let f : ℕ → List ℕ → List ℕ = λ i xs. counted (outcome_verdict p i) xs in
-    map_indexed-from_each (λ i xs. counted (decided_verdict (decisions_by p v) i) xs) counts (map_indexed f counts) [] [] (length-map_indexed f counts)
-    (λ i l. get_or-map_indexed f counts i [] [] l ∙ ap (λ x. counted x (get_or counts i [])) (sym (decided-outcome p v i (omega arith))))
+    let f : ℕ → List ℕ → List ℕ = λ i xs. counts_after (planned_verdict p i) xs in
+    map_indexed-from_each (λ i xs. counts_after (decided_verdict (decisions_by p v) i) xs) counts (map_indexed f counts) [] [] (length-map_indexed f counts)
+    (λ i l. get_or-map_indexed f counts i [] [] l ∙ ap (λ x. counts_after x (get_or counts i [])) (sym (decided-outcome p v i (omega arith))))
 
-pub found-outcome : (p : Outcome) (v : View) (n : ℕ) → IsOutcomeOf p v → n ≡ size_of v.site → tabulate n (finding_by p v.site.vcs v.inputs) ≡ (decisions_by p v).findings
+pub found-outcome : (p : PlanContents) (v : View) (n : ℕ) → AreContentsFor p v → n ≡ size_of v.site → tabulate n (finding_by p v.site.vcs v.inputs) ≡ (decisions_by p v).findings
 found-outcome p v n is e =
     let f : ℕ → Finding = finding_by p v.site.vcs v.inputs in
-    tabulate-from_each (size_of v.site) (λ i. found_with v (outcome_verdict p i) i) (tabulate n f) empty_finding (length-tabulate n f ∙ e)
+    tabulate-from_each (size_of v.site) (λ i. found_with v (planned_verdict p i) i) (tabulate n f) empty_finding (length-tabulate n f ∙ e)
     (λ i l. get_or-tabulate n i f empty_finding (omega arith) ∙ outcome-finding p v i is l)
 
--- .. which leaves the outcome as it is
-outcome-counted : (relation : Routes) (d : Decisions) (v : View) → outcome relation v ≡ outcome relation (tallied d v)
-unfolding outcome view_round
+-- counting leaves the outcome as it is
+outcome-counted : (relation : Routes) (d : Decisions) (v : View) → plan_contents relation v ≡ plan_contents relation (view_after_tally d v)
+unfolding plan_contents view_round
 outcome-counted relation d v = refl
 
-pub outcome-tallied : (p : Outcome) (d : Decisions) (v : View) → IsOutcomeOf p v → IsOutcomeOf p (tallied d v)
+pub outcome-tallied : (p : PlanContents) (d : Decisions) (v : View) → AreContentsFor p v → AreContentsFor p (view_after_tally d v)
 outcome-tallied p d v is = record {
   relation = is.relation;
   fits = record { grid = is.fits.grid; vcs = is.fits.vcs };
@@ -128,11 +128,11 @@ outcome-tallied p d v is = record {
 }
 
 -- ---- the findings are shown, of which nothing is read in a cycle
-pub outcome-shown : (relation : Routes) (v : View) (findings : List Finding) → outcome relation v ≡ outcome relation (record v { findings = findings })
-unfolding outcome view_round
+pub outcome-shown : (relation : Routes) (v : View) (findings : List Finding) → plan_contents relation v ≡ plan_contents relation (record v { findings = findings })
+unfolding plan_contents view_round
 outcome-shown relation v findings = refl
 
-pub outcome_of-shown : (p : Outcome) (v : View) (findings : List Finding) → IsOutcomeOf p v → IsOutcomeOf p (record v { findings = findings })
+pub outcome_of-shown : (p : PlanContents) (v : View) (findings : List Finding) → AreContentsFor p v → AreContentsFor p (record v { findings = findings })
 outcome_of-shown p v findings is = record {
   relation = is.relation;
   fits = record { grid = is.fits.grid; vcs = is.fits.vcs };
@@ -140,22 +140,22 @@ outcome_of-shown p v findings is = record {
 }
 
 pub committed-from-shown : (relation : Routes) (v : View) (findings : List Finding)
-    → committed (planned relation (record v { findings = findings })) (record v { findings = findings }) ≡ committed (planned relation v) v
-unfolding planned view_round committed
+    → view_after_commit (decisions_of relation (record v { findings = findings })) (record v { findings = findings }) ≡ view_after_commit (decisions_of relation v) v
+unfolding decisions_of view_round view_after_commit
 committed-from-shown relation v findings = refl
 
 -- ---- the verdict of one channel takes effect
 -- a verdict that is left can take effect
-pub can_take : (p : Outcome) (v w : View) (rest rest' index : ℕ) → IsWhole v → IsOutcomeOf p v → ((k : ℕ) → has_bit rest' k ≡ (not (nat_eq k index) && has_bit rest k)) → has_bit rest index ≡ true
-    → IsSettling (decisions_by p v) v rest w → CanTakeEffect p w index (outcome_verdict p index)
+pub can_take : (p : PlanContents) (v w : View) (rest rest' index : ℕ) → IsWhole v → AreContentsFor p v → ((k : ℕ) → has_bit rest' k ≡ (not (nat_eq k index) && has_bit rest k)) → has_bit rest index ≡ true
+    → IsSettling (decisions_by p v) v rest w → CanTakeEffect p w index (planned_verdict p index)
 can_take p v w rest rest' index whole is members member so_far =
     let l : index < size_of v.site = so_far.below index member in
     let P : Verdict → Type 0 = λ x. CanTakeEffect p w index x in
     subst P (decided-outcome p v index l) (can_settle p v w rest rest' index whole (lists_of p v is) members member so_far (outcome-ask p v index is l))
 
--- .. and is not left then
-pub effect_more : (p : Outcome) (v w : View) (rest rest' index : ℕ) (new : View) → IsWhole v → IsOutcomeOf p v → ((k : ℕ) → has_bit rest' k ≡ (not (nat_eq k index) && has_bit rest k)) → has_bit rest index ≡ true
-    → IsSettling (decisions_by p v) v rest w → new ≡ effect_of p index w (outcome_verdict p index) → IsSettling (decisions_by p v) v rest' new
+-- a verdict that has taken effect is not left
+pub effect_more : (p : PlanContents) (v w : View) (rest rest' index : ℕ) (new : View) → IsWhole v → AreContentsFor p v → ((k : ℕ) → has_bit rest' k ≡ (not (nat_eq k index) && has_bit rest k)) → has_bit rest index ≡ true
+    → IsSettling (decisions_by p v) v rest w → new ≡ effect_of p index w (planned_verdict p index) → IsSettling (decisions_by p v) v rest' new
 effect_more p v w rest rest' index new whole is members member so_far e =
     let d = decisions_by p v in
     let l : index < size_of v.site = so_far.below index member in
@@ -164,7 +164,7 @@ effect_more p v w rest rest' index new whole is members member so_far e =
     (settling_more p v w rest rest' index whole (lists_of p v is) members member so_far (outcome-ask p v index is l))
 
 -- an event is the verdict of an input channel
-event-below : (p : Outcome) (n k : ℕ) → length p.verdicts ≡ n → is_event (outcome_verdict p k) ≡ true → k < n
+event-below : (p : PlanContents) (n k : ℕ) → length p.verdicts ≡ n → is_event (planned_verdict p k) ≡ true → k < n
 event-below p n k long e = at (cases_lt k n)
   where
     at : (k < n) ⊎ (n ≤ k) → k < n
@@ -172,7 +172,7 @@ event-below p n k long e = at (cases_lt k n)
     at (inr u) = absurd (false≢true (sym (ap is_event (get_or_past p.verdicts k Empty (omega arith))) ∙ e))
 
 -- where all events are left, nothing has taken effect
-pub effect_first : (p : Outcome) (v : View) (rest : ℕ) → IsWhole v → IsOutcomeOf p v → length p.verdicts ≡ size_of v.site → ((k : ℕ) → has_bit rest k ≡ is_event (outcome_verdict p k))
+pub effect_first : (p : PlanContents) (v : View) (rest : ℕ) → IsWhole v → AreContentsFor p v → length p.verdicts ≡ size_of v.site → ((k : ℕ) → has_bit rest k ≡ is_event (planned_verdict p k))
     → v.to_put ≡ idle_beats v.site → IsSettling (decisions_by p v) v rest v
 effect_first p v rest whole is long events idle =
     settling_first (decisions_by p v) v rest whole (lists_of p v is) (λ i l. events i ∙ ap is_event (sym (decided-outcome p v i l)))

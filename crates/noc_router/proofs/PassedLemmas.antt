@@ -12,8 +12,8 @@ use Rattle.noc_packet.specs.declared.packet.Flit.{Flit}
 use Rattle.noc_vc.specs.Input.{Input}
 use Rattle.noc_vc.specs.declared.input.InputState.{InputState}
 use Rattle.noc_vc.specs.declared.input.InputState.TheVariants.{Idle, Waiting, Active}
-use Rattle.noc_alloc.specs.Allocation.{has_won, is_won_by, pick_of, pick_won, picked_port, turned_by, winner_of, winning_pick}
-use Rattle.noc_alloc.specs.Arbiter.{Turn, pointers_of, turn_at, turned}
+use Rattle.noc_alloc.specs.Allocation.{has_won, is_won_by, pick_of, pick_won, picked_port, arbiters_after_winners, winner_of, winning_pick}
+use Rattle.noc_alloc.specs.Arbiter.{RoundRobin, pointers_of, arbiter_at, arbiter_after}
 use Rattle.noc_alloc.proofs.ArbiterLemmas.{first_in_turn-picks}
 use Rattle.noc_alloc.proofs.SwitchLemmas.{won-is_pick_won}
 use Rattle.noc_alloc.proofs.WordLemmas.{is_some_of-true, is_some_of-some}
@@ -21,9 +21,9 @@ use Rattle.noc_router.specs.declared.router.Router.TheInside.{Inside}
 use Rattle.noc_router.specs.declared.verdict.Verdict.{Verdict}
 use Rattle.noc_router.specs.declared.verdict.Verdict.TheVariants.{Empty, Routed, Granted, Moved, NoFlit, NoIdleChannel, LostChannel, NoCredit, LostInput, LostSwitch}
 use Rattle.noc_router.specs.Inside.{IsRouter, view_of}
-use Rattle.noc_router.specs.Settled.{CanGrant, CanMove, CanTakeEffect, IsOutcomeOf, decisions_by, effect_of, outcome_verdict, granted_by, moved_by, moved_in_phase, passed_by, passed_in_phase, settled, switch_past, turned_past}
-use Rattle.noc_router.specs.Verdict.{Turns, arbiters_after, is_event, is_moved, ready_of}
-use Rattle.noc_router.specs.View.{Decisions, Outcome, Site, View, decided_verdict, first_flit, mover, size_of, view_input, view_stands}
+use Rattle.noc_router.specs.Settled.{CanGrant, CanMove, CanTakeEffect, AreContentsFor, decisions_by, effect_of, planned_verdict, granted_by, moved_by, moved_in_phase, passed_by, passed_in_phase, view_after_verdicts, switch_past, arbiters_past}
+use Rattle.noc_router.specs.Verdict.{ArbiterStates, arbiters_after, is_event, is_moved, ready_of}
+use Rattle.noc_router.specs.View.{Decisions, PlanContents, Site, View, decided_verdict, first_flit, mover, size_of, view_input, view_stands}
 use Rattle.noc_router.proofs.FindLemmas.{find-at, find-none, find-same}
 use Rattle.noc_router.proofs.OutcomeLemmas.{decided-outcome, lists_of}
 use Rattle.noc_router.proofs.PlanFacts.{Lists, Moves, decided-is, mover-is, moves-is, one_pick, verdict_in}
@@ -48,12 +48,12 @@ each-view r v view is =
     })
 
 -- the pointers have gone on past the channels that move, but for those that are left
-pub record IsPassing (d : Decisions) (v : View) (rest : ℕ) (turns : Turns) : Type 0 where
+pub record IsPassing (d : Decisions) (v : View) (rest : ℕ) (turns : ArbiterStates) : Type 0 where
   pub channels : turns.channels ≡ v.arbiters.channels
   pub n_inputs : length turns.inputs ≡ ports v.site.grid
   pub n_outputs : length turns.outputs ≡ ports v.site.grid
-  pub inputs : (q : ℕ) → q < ports v.site.grid → turn_at turns.inputs q ≡ turned (turn_at v.arbiters.inputs q) (credit_by d v rest q)
-  pub outputs : (p : ℕ) → p < ports v.site.grid → turn_at turns.outputs p ≡ turned (turn_at v.arbiters.outputs p) (port_by v (left rest (mover v.site d.round p)))
+  pub inputs : (q : ℕ) → q < ports v.site.grid → arbiter_at turns.inputs q ≡ arbiter_after (arbiter_at v.arbiters.inputs q) (credit_by d v rest q)
+  pub outputs : (p : ℕ) → p < ports v.site.grid → arbiter_at turns.outputs p ≡ arbiter_after (arbiter_at v.arbiters.outputs p) (port_by v (left rest (mover v.site d.round p)))
 
 -- all are left
 pub passing-first : (d : Decisions) (v : View) (rest : ℕ) → IsWhole v → Lists d v → AreEach v → ((i : ℕ) → i < size_of v.site → has_bit rest i ≡ is_event (verdict_in d v i)) → IsPassing d v rest v.arbiters
@@ -61,12 +61,12 @@ passing-first d v rest whole lists each events = record {
   channels = refl;
   n_inputs = each.inputs;
   n_outputs = each.outputs;
-  inputs = λ q l. sym (ap (turned (turn_at v.arbiters.inputs q)) (no_credit d v rest whole lists events q l));
-  outputs = λ p l. sym (ap (λ m. turned (turn_at v.arbiters.outputs p) (port_by v m)) (mover_left d v rest whole lists events p l (mover v.site d.round p) refl));
+  inputs = λ q l. sym (ap (arbiter_after (arbiter_at v.arbiters.inputs q)) (no_credit d v rest whole lists events q l));
+  outputs = λ p l. sym (ap (λ m. arbiter_after (arbiter_at v.arbiters.outputs p) (port_by v m)) (mover_left d v rest whole lists events p l (mover v.site d.round p) refl));
 }
 
 -- ---- one channel less is left
-module _ (d : Decisions) (v w : View) (rest rest' index : ℕ) (turns : Turns) (whole : IsWhole v) (lists : Lists d v)
+module _ (d : Decisions) (v w : View) (rest rest' index : ℕ) (turns : ArbiterStates) (whole : IsWhole v) (lists : Lists d v)
     (members : (k : ℕ) → has_bit rest' k ≡ (not (nat_eq k index) && has_bit rest k)) (member : has_bit rest index ≡ true) (so_far : IsSettling d v rest w) (passing : IsPassing d v rest turns) where
   -- which does not move
   passing-still : is_moved (decided_verdict d index) ≡ false → IsPassing d v rest' turns
@@ -74,9 +74,9 @@ module _ (d : Decisions) (v w : View) (rest rest' index : ℕ) (turns : Turns) (
     channels = passing.channels;
     n_inputs = passing.n_inputs;
     n_outputs = passing.n_outputs;
-    inputs = λ q l. passing.inputs q l ∙ ap (turned (turn_at v.arbiters.inputs q)) (sym (credit-kept rest rest' index members member d v q still));
+    inputs = λ q l. passing.inputs q l ∙ ap (arbiter_after (arbiter_at v.arbiters.inputs q)) (sym (credit-kept rest rest' index members member d v q still));
     outputs = λ p l. passing.outputs p l
-        ∙ ap (λ m. turned (turn_at v.arbiters.outputs p) (port_by v m)) (sym (left-kept rest rest' index members member (mover v.site d.round p) (not_mover d v whole lists index p l
+        ∙ ap (λ m. arbiter_after (arbiter_at v.arbiters.outputs p) (port_by v m)) (sym (left-kept rest rest' index members member (mover v.site d.round p) (not_mover d v whole lists index p l
         (λ moved. false≢true (sym still ∙ ap is_moved (decided-is d v index lists (so_far.below index member) ∙ moved))))));
   }
 
@@ -88,57 +88,57 @@ module _ (d : Decisions) (v w : View) (rest rest' index : ℕ) (turns : Turns) (
     to_in : mv.out / v.site.vcs < ports v.site.grid
     to_in = port_below v mv.out whole.some_vc (whole.within index mv.out (so_far.below index member) mv.phase)
 
-    abbrev past : Turns
-    past = record turns { inputs = turned_past (index / v.site.vcs) (index % v.site.vcs) turns.inputs; outputs = turned_past (mv.out / v.site.vcs) (index / v.site.vcs) turns.outputs }
+    abbrev past : ArbiterStates
+    past = record turns { inputs = arbiters_past (index / v.site.vcs) (index % v.site.vcs) turns.inputs; outputs = arbiters_past (mv.out / v.site.vcs) (index / v.site.vcs) turns.outputs }
 
-    input-past : (q : ℕ) → q < ports v.site.grid → turn_at (turned_past (index / v.site.vcs) (index % v.site.vcs) turns.inputs) q ≡ turned (turn_at v.arbiters.inputs q) (credit_by d v rest' q)
+    input-past : (q : ℕ) → q < ports v.site.grid → arbiter_at (arbiters_past (index / v.site.vcs) (index % v.site.vcs) turns.inputs) q ≡ arbiter_after (arbiter_at v.arbiters.inputs q) (credit_by d v rest' q)
     input-past q l = at (cases_eq q (index / v.site.vcs))
       where
-        new : Turn
-        new = turned (turn_at turns.inputs (index / v.site.vcs)) (Some (index % v.site.vcs))
+        new : RoundRobin
+        new = arbiter_after (arbiter_at turns.inputs (index / v.site.vcs)) (Some (index % v.site.vcs))
 
-        at : (q ≡ index / v.site.vcs) ⊎ (q ≡ index / v.site.vcs → ⊥) → turn_at (turned_past (index / v.site.vcs) (index % v.site.vcs) turns.inputs) q ≡ turned (turn_at v.arbiters.inputs q) (credit_by d v rest' q)
+        at : (q ≡ index / v.site.vcs) ⊎ (q ≡ index / v.site.vcs → ⊥) → arbiter_at (arbiters_past (index / v.site.vcs) (index % v.site.vcs) turns.inputs) q ≡ arbiter_after (arbiter_at v.arbiters.inputs q) (credit_by d v rest' q)
         at (inl same) =
             let n : length turns.inputs ≡ ports v.site.grid = passing.n_inputs in
-            ap (turn_at (turned_past (index / v.site.vcs) (index % v.site.vcs) turns.inputs)) same
+            ap (arbiter_at (arbiters_past (index / v.site.vcs) (index % v.site.vcs) turns.inputs)) same
             ∙ get_or-set_same turns.inputs (index / v.site.vcs) new (record { size = 0; pointer = 0 }) (let u = from_in in omega arith)
-            ∙ ap (λ (t : Turn). turned t (Some (index % v.site.vcs))) (passing.inputs (index / v.site.vcs) from_in)
-            ∙ ap (turned (turn_at v.arbiters.inputs (index / v.site.vcs)))
+            ∙ ap (λ (t : RoundRobin). arbiter_after t (Some (index % v.site.vcs))) (passing.inputs (index / v.site.vcs) from_in)
+            ∙ ap (arbiter_after (arbiter_at v.arbiters.inputs (index / v.site.vcs)))
             (sym (credit-from d v w rest rest' index whole lists members member so_far f first mv e (index / v.site.vcs) (index % v.site.vcs) (mv.out / v.site.vcs) (mv.out % v.site.vcs) refl refl refl refl (index / v.site.vcs) from_in refl))
-            ∙ ap (λ k. turned (turn_at v.arbiters.inputs k) (credit_by d v rest' k)) (sym same)
+            ∙ ap (λ k. arbiter_after (arbiter_at v.arbiters.inputs k) (credit_by d v rest' k)) (sym same)
         at (inr other) =
             get_or-set_other turns.inputs (index / v.site.vcs) q new (record { size = 0; pointer = 0 }) other
             ∙ passing.inputs q l
-            ∙ ap (turned (turn_at v.arbiters.inputs q))
+            ∙ ap (arbiter_after (arbiter_at v.arbiters.inputs q))
             (sym (credit-elsewhere d v w rest rest' index whole lists members member so_far f first mv e (index / v.site.vcs) (index % v.site.vcs) (mv.out / v.site.vcs) (mv.out % v.site.vcs) refl refl refl refl q other))
 
     output-past : (p : ℕ) → p < ports v.site.grid
-        → turn_at (turned_past (mv.out / v.site.vcs) (index / v.site.vcs) turns.outputs) p ≡ turned (turn_at v.arbiters.outputs p) (port_by v (left rest' (mover v.site d.round p)))
+        → arbiter_at (arbiters_past (mv.out / v.site.vcs) (index / v.site.vcs) turns.outputs) p ≡ arbiter_after (arbiter_at v.arbiters.outputs p) (port_by v (left rest' (mover v.site d.round p)))
     output-past p l = at (cases_eq p (mv.out / v.site.vcs))
       where
-        new : Turn
-        new = turned (turn_at turns.outputs (mv.out / v.site.vcs)) (Some (index / v.site.vcs))
+        new : RoundRobin
+        new = arbiter_after (arbiter_at turns.outputs (mv.out / v.site.vcs)) (Some (index / v.site.vcs))
 
         at : (p ≡ mv.out / v.site.vcs) ⊎ (p ≡ mv.out / v.site.vcs → ⊥)
-            → turn_at (turned_past (mv.out / v.site.vcs) (index / v.site.vcs) turns.outputs) p ≡ turned (turn_at v.arbiters.outputs p) (port_by v (left rest' (mover v.site d.round p)))
+            → arbiter_at (arbiters_past (mv.out / v.site.vcs) (index / v.site.vcs) turns.outputs) p ≡ arbiter_after (arbiter_at v.arbiters.outputs p) (port_by v (left rest' (mover v.site d.round p)))
         at (inl same) =
             let n : length turns.outputs ≡ ports v.site.grid = passing.n_outputs in
-            ap (turn_at (turned_past (mv.out / v.site.vcs) (index / v.site.vcs) turns.outputs)) same
+            ap (arbiter_at (arbiters_past (mv.out / v.site.vcs) (index / v.site.vcs) turns.outputs)) same
             ∙ get_or-set_same turns.outputs (mv.out / v.site.vcs) new (record { size = 0; pointer = 0 }) (let u = to_in in omega arith)
-            ∙ ap (λ (t : Turn). turned t (Some (index / v.site.vcs))) (passing.outputs (mv.out / v.site.vcs) to_in)
-            ∙ ap (λ m. turned (turn_at v.arbiters.outputs (mv.out / v.site.vcs)) (port_by v m)) (sym (left-gone rest rest' index members member (mover v.site d.round (mv.out / v.site.vcs)) mv.mover))
-            ∙ ap (λ k. turned (turn_at v.arbiters.outputs k) (port_by v (left rest' (mover v.site d.round k)))) (sym same)
+            ∙ ap (λ (t : RoundRobin). arbiter_after t (Some (index / v.site.vcs))) (passing.outputs (mv.out / v.site.vcs) to_in)
+            ∙ ap (λ m. arbiter_after (arbiter_at v.arbiters.outputs (mv.out / v.site.vcs)) (port_by v m)) (sym (left-gone rest rest' index members member (mover v.site d.round (mv.out / v.site.vcs)) mv.mover))
+            ∙ ap (λ k. arbiter_after (arbiter_at v.arbiters.outputs k) (port_by v (left rest' (mover v.site d.round k)))) (sym same)
         at (inr other) =
             get_or-set_other turns.outputs (mv.out / v.site.vcs) p new (record { size = 0; pointer = 0 }) other
             ∙ passing.outputs p l
-            ∙ ap (λ m. turned (turn_at v.arbiters.outputs p) (port_by v m))
+            ∙ ap (λ m. arbiter_after (arbiter_at v.arbiters.outputs p) (port_by v m))
             (sym (flit-elsewhere d v w rest rest' index whole lists members member so_far f first mv e (index / v.site.vcs) (index % v.site.vcs) (mv.out / v.site.vcs) (mv.out % v.site.vcs) refl refl refl refl p l other))
 
     passing-moved : IsPassing d v rest' past
     passing-moved = record {
       channels = passing.channels;
-      n_inputs = length-set turns.inputs (index / v.site.vcs) (turned (turn_at turns.inputs (index / v.site.vcs)) (Some (index % v.site.vcs))) ∙ passing.n_inputs;
-      n_outputs = length-set turns.outputs (mv.out / v.site.vcs) (turned (turn_at turns.outputs (mv.out / v.site.vcs)) (Some (index / v.site.vcs))) ∙ passing.n_outputs;
+      n_inputs = length-set turns.inputs (index / v.site.vcs) (arbiter_after (arbiter_at turns.inputs (index / v.site.vcs)) (Some (index % v.site.vcs))) ∙ passing.n_inputs;
+      n_outputs = length-set turns.outputs (mv.out / v.site.vcs) (arbiter_after (arbiter_at turns.outputs (mv.out / v.site.vcs)) (Some (index / v.site.vcs))) ∙ passing.n_outputs;
       inputs = input-past;
       outputs = output-past;
     }
@@ -251,23 +251,23 @@ module _ (d : Decisions) (v : View) (whole : IsWhole v) (lists : Lists d v) wher
           find-none (λ k. is_moved (decided_verdict d (q * v.site.vcs + k))) v.site.vcs
           (λ k u. false_from_ne_true (is_moved (decided_verdict d (q * v.site.vcs + k))) (λ t. false≢true (sym e ∙ moved-won q k l u t)))
 
-  pub passing-last : (rest : ℕ) (turns : Turns) → AreEach v → ((k : ℕ) → has_bit rest k ≡ false) → IsPassing d v rest turns
+  pub passing-last : (rest : ℕ) (turns : ArbiterStates) → AreEach v → ((k : ℕ) → has_bit rest k ≡ false) → IsPassing d v rest turns
       → turns ≡ record (arbiters_after d.round v.arbiters) { channels = v.arbiters.channels }
   passing-last rest turns each none passing =
       let n_inputs : length v.arbiters.inputs ≡ ports v.site.grid = each.inputs in
       let n_outputs : length v.arbiters.outputs ≡ ports v.site.grid = each.outputs in
-      let inputs : turns.inputs ≡ turned_by (winning_pick d.round.picks d.round.wins) v.arbiters.inputs =
-      map_indexed-from_each (λ q (t : Turn). turned t (winning_pick d.round.picks d.round.wins q)) v.arbiters.inputs turns.inputs (record { size = 0; pointer = 0 }) (record { size = 0; pointer = 0 })
+      let inputs : turns.inputs ≡ arbiters_after_winners (winning_pick d.round.picks d.round.wins) v.arbiters.inputs =
+      map_indexed-from_each (λ q (t : RoundRobin). arbiter_after t (winning_pick d.round.picks d.round.wins q)) v.arbiters.inputs turns.inputs (record { size = 0; pointer = 0 }) (record { size = 0; pointer = 0 })
       (passing.n_inputs ∙ sym each.inputs)
-      (λ q l. passing.inputs q (omega arith) ∙ ap (turned (turn_at v.arbiters.inputs q)) (credit-all q ∙ pick-all q (omega arith))) in
-      let outputs : turns.outputs ≡ turned_by (λ p. get_or d.round.wins p None) v.arbiters.outputs =
-      map_indexed-from_each (λ p (t : Turn). turned t (get_or d.round.wins p None)) v.arbiters.outputs turns.outputs (record { size = 0; pointer = 0 }) (record { size = 0; pointer = 0 })
+      (λ q l. passing.inputs q (omega arith) ∙ ap (arbiter_after (arbiter_at v.arbiters.inputs q)) (credit-all q ∙ pick-all q (omega arith))) in
+      let outputs : turns.outputs ≡ arbiters_after_winners (λ p. get_or d.round.wins p None) v.arbiters.outputs =
+      map_indexed-from_each (λ p (t : RoundRobin). arbiter_after t (get_or d.round.wins p None)) v.arbiters.outputs turns.outputs (record { size = 0; pointer = 0 }) (record { size = 0; pointer = 0 })
       (passing.n_outputs ∙ sym each.outputs)
-      (λ p l. passing.outputs p (omega arith) ∙ ap (turned (turn_at v.arbiters.outputs p)) (ap (port_by v) (left-none (mover v.site d.round p)) ∙ winner-all p (omega arith))) in
+      (λ p l. passing.outputs p (omega arith) ∙ ap (arbiter_after (arbiter_at v.arbiters.outputs p)) (ap (port_by v) (left-none (mover v.site d.round p)) ∙ winner-all p (omega arith))) in
       ap (λ xs. with_lists xs turns.inputs turns.outputs) passing.channels ∙ ap (λ xs. with_lists v.arbiters.channels xs turns.outputs) inputs
-      ∙ ap (λ xs. with_lists v.arbiters.channels (turned_by (winning_pick d.round.picks d.round.wins) v.arbiters.inputs) xs) outputs
+      ∙ ap (λ xs. with_lists v.arbiters.channels (arbiters_after_winners (winning_pick d.round.picks d.round.wins) v.arbiters.inputs) xs) outputs
     where
-      with_lists : List Turn → List Turn → List Turn → Turns
+      with_lists : List RoundRobin → List RoundRobin → List RoundRobin → ArbiterStates
       with_lists channels inputs outputs = record { channels = channels; inputs = inputs; outputs = outputs }
 
       credit-all : (q : ℕ) → credit_by d v rest q ≡ find (λ k. is_moved (decided_verdict d (q * v.site.vcs + k))) (below v.site.vcs)
@@ -281,24 +281,24 @@ module _ (d : Decisions) (v : View) (whole : IsWhole v) (lists : Lists d v) wher
 
 -- ---- the pointers apart from all else
 -- the view with these pointers
-abbrev pub with_turns : Turns → View → View
+abbrev pub with_turns : ArbiterStates → View → View
 with_turns turns w = record w { arbiters = turns }
 
-granted-turns : (turns : Turns) (w : View) (i : ℕ) (ask : Option ℕ) → with_turns turns (granted_by i ask w) ≡ granted_by i ask (with_turns turns w)
+granted-turns : (turns : ArbiterStates) (w : View) (i : ℕ) (ask : Option ℕ) → with_turns turns (granted_by i ask w) ≡ granted_by i ask (with_turns turns w)
 granted-turns turns w i None = refl
 granted-turns turns w i (Some o) = refl
 
-moved-turns : (turns : Turns) (w : View) (i o : ℕ) (f : Option Flit) → with_turns turns (switch_past i o (moved_by i o f w)) ≡ moved_by i o f (with_turns turns w)
+moved-turns : (turns : ArbiterStates) (w : View) (i o : ℕ) (f : Option Flit) → with_turns turns (switch_past i o (moved_by i o f w)) ≡ moved_by i o f (with_turns turns w)
 moved-turns turns w i o None = refl
 moved-turns turns w i o (Some f) = ap (λ x. with_turns turns (switch_past i o x)) (moved-parts i o f w) ∙ sym (moved-parts i o f (with_turns turns w))
 
-phase-turns : (turns : Turns) (w : View) (i : ℕ) (phase : InputState) → with_turns turns (passed_in_phase i phase (moved_in_phase i phase w)) ≡ moved_in_phase i phase (with_turns turns w)
+phase-turns : (turns : ArbiterStates) (w : View) (i : ℕ) (phase : InputState) → with_turns turns (passed_in_phase i phase (moved_in_phase i phase w)) ≡ moved_in_phase i phase (with_turns turns w)
 phase-turns turns w i Idle = refl
 phase-turns turns w i (Waiting set) = refl
 phase-turns turns w i (Active o) = moved-turns turns w i o (first_flit w i)
 
 -- a verdict has the same effect whatever they are
-pub effect-turns : (p : Outcome) (turns : Turns) (w : View) (i : ℕ) (x : Verdict)
+pub effect-turns : (p : PlanContents) (turns : ArbiterStates) (w : View) (i : ℕ) (x : Verdict)
     → with_turns turns (passed_by i (view_input w i).phase x (effect_of p i w x)) ≡ effect_of p i (with_turns turns w) x
 effect-turns p turns w i Routed = refl
 effect-turns p turns w i Granted = granted-turns turns w i (get_or p.asks i None)
@@ -311,17 +311,17 @@ effect-turns p turns w i NoCredit = refl
 effect-turns p turns w i LostInput = refl
 effect-turns p turns w i LostSwitch = refl
 
-can_grant-turns : (turns : Turns) (w : View) (i : ℕ) (ask : Option ℕ) → IfSome ask (CanGrant (with_turns turns w) i) → IfSome ask (CanGrant w i)
+can_grant-turns : (turns : ArbiterStates) (w : View) (i : ℕ) (ask : Option ℕ) → IfSome ask (CanGrant (with_turns turns w) i) → IfSome ask (CanGrant w i)
 can_grant-turns turns w i None can = tt
 can_grant-turns turns w i (Some o) can = record { within = can.within; waits = can.waits; free = can.free }
 
-can_move-turns : (turns : Turns) (w : View) (i : ℕ) (phase : InputState) → CanMove (with_turns turns w) i phase → CanMove w i phase
+can_move-turns : (turns : ArbiterStates) (w : View) (i : ℕ) (phase : InputState) → CanMove (with_turns turns w) i phase → CanMove w i phase
 can_move-turns turns w i Idle can = can
 can_move-turns turns w i (Waiting set) can = can
 can_move-turns turns w i (Active o) can = can
 
--- .. and can take effect whatever they are
-pub can_take-turns : (p : Outcome) (turns : Turns) (w : View) (i : ℕ) (x : Verdict) → CanTakeEffect p (with_turns turns w) i x → CanTakeEffect p w i x
+-- a verdict can take effect whatever the pointers are
+pub can_take-turns : (p : PlanContents) (turns : ArbiterStates) (w : View) (i : ℕ) (x : Verdict) → CanTakeEffect p (with_turns turns w) i x → CanTakeEffect p w i x
 can_take-turns p turns w i Routed can = can
 can_take-turns p turns w i Granted can = can_grant-turns turns w i (get_or p.asks i None) can
 can_take-turns p turns w i Moved can = can_move-turns turns w i (view_input w i).phase can
@@ -338,7 +338,7 @@ granted-keeps : (w : View) (i : ℕ) (ask : Option ℕ) → (granted_by i ask w)
 granted-keeps w i None = refl
 granted-keeps w i (Some o) = refl
 
-module _ (p : Outcome) (v w : View) (rest rest' index : ℕ) (whole : IsWhole v) (lists : Lists (decisions_by p v) v)
+module _ (p : PlanContents) (v w : View) (rest rest' index : ℕ) (whole : IsWhole v) (lists : Lists (decisions_by p v) v)
     (members : (k : ℕ) → has_bit rest' k ≡ (not (nat_eq k index) && has_bit rest k)) (member : has_bit rest index ≡ true) (so_far : IsSettling (decisions_by p v) v rest (with_turns v.arbiters w))
     (passing : IsPassing (decisions_by p v) v rest w.arbiters) where
   -- the pointers after it
@@ -360,11 +360,11 @@ module _ (p : Outcome) (v w : View) (rest rest' index : ℕ) (whole : IsWhole v)
       first : first_flit w index ≡ Some flit.0
       first = ap (λ flits. slice_get flits 0) (buffer-here (decisions_by p v) v (with_turns v.arbiters w) rest rest' index whole lists members member so_far) ∙ flit.1
 
-      past_at : Site → Turns
-      past_at s = record w.arbiters { inputs = turned_past (index / s.vcs) (index % s.vcs) w.arbiters.inputs; outputs = turned_past (mv.out / s.vcs) (index / s.vcs) w.arbiters.outputs }
+      past_at : Site → ArbiterStates
+      past_at s = record w.arbiters { inputs = arbiters_past (index / s.vcs) (index % s.vcs) w.arbiters.inputs; outputs = arbiters_past (mv.out / s.vcs) (index / s.vcs) w.arbiters.outputs }
 
       turns-are : (passed_in_phase index (view_input w index).phase (moved_in_phase index (view_input w index).phase w)).arbiters
-          ≡ record w.arbiters { inputs = turned_past (index / v.site.vcs) (index % v.site.vcs) w.arbiters.inputs; outputs = turned_past (mv.out / v.site.vcs) (index / v.site.vcs) w.arbiters.outputs }
+          ≡ record w.arbiters { inputs = arbiters_past (index / v.site.vcs) (index % v.site.vcs) w.arbiters.inputs; outputs = arbiters_past (mv.out / v.site.vcs) (index / v.site.vcs) w.arbiters.outputs }
       turns-are =
           ap (λ phase. (passed_in_phase index phase (moved_in_phase index phase w)).arbiters) phase_is
           ∙ ap (λ m. (switch_past index mv.out (moved_by index mv.out m w)).arbiters) first
@@ -380,25 +380,25 @@ module _ (p : Outcome) (v w : View) (rest rest' index : ℕ) (whole : IsWhole v)
   step LostInput e = quiet (ap is_moved e)
   step LostSwitch e = quiet (ap is_moved e)
 
-pub passing-more : (p : Outcome) (v w : View) (rest rest' index : ℕ) (new : View) → IsWhole v → IsOutcomeOf p v → ((k : ℕ) → has_bit rest' k ≡ (not (nat_eq k index) && has_bit rest k)) → has_bit rest index ≡ true
+pub passing-more : (p : PlanContents) (v w : View) (rest rest' index : ℕ) (new : View) → IsWhole v → AreContentsFor p v → ((k : ℕ) → has_bit rest' k ≡ (not (nat_eq k index) && has_bit rest k)) → has_bit rest index ≡ true
     → IsSettling (decisions_by p v) v rest (with_turns v.arbiters w) → IsPassing (decisions_by p v) v rest w.arbiters
-    → new ≡ passed_by index (view_input w index).phase (outcome_verdict p index) (effect_of p index w (outcome_verdict p index)) → IsPassing (decisions_by p v) v rest' new.arbiters
+    → new ≡ passed_by index (view_input w index).phase (planned_verdict p index) (effect_of p index w (planned_verdict p index)) → IsPassing (decisions_by p v) v rest' new.arbiters
 passing-more p v w rest rest' index new whole is members member so_far passing e =
     let P : View → Type 0 = λ x. IsPassing (decisions_by p v) v rest' x.arbiters in
     subst P (sym e)
-    (step p v w rest rest' index whole (lists_of p v is) members member so_far passing (outcome_verdict p index) (decided-outcome p v index (so_far.below index member)))
+    (step p v w rest rest' index whole (lists_of p v is) members member so_far passing (planned_verdict p index) (decided-outcome p v index (so_far.below index member)))
 
 -- where all events are left, no pointer has gone on
-pub passing_first : (p : Outcome) (v : View) (rest : ℕ) → IsWhole v → IsOutcomeOf p v → AreEach v → ((k : ℕ) → has_bit rest k ≡ is_event (outcome_verdict p k)) → IsPassing (decisions_by p v) v rest v.arbiters
+pub passing_first : (p : PlanContents) (v : View) (rest : ℕ) → IsWhole v → AreContentsFor p v → AreEach v → ((k : ℕ) → has_bit rest k ≡ is_event (planned_verdict p k)) → IsPassing (decisions_by p v) v rest v.arbiters
 passing_first p v rest whole is each events =
     let d = decisions_by p v in
     let lists = lists_of p v is in
     passing-first d v rest whole lists each (λ i l. events i ∙ ap is_event (sym (decided-outcome p v i l) ∙ decided-is d v i lists l))
 
 -- where none is left, all verdicts have taken effect, and the pointers have gone on past the winners
-pub passed-all : (p : Outcome) (v w : View) (rest : ℕ) → IsWhole v → AreEach v → IsOutcomeOf p v → ((k : ℕ) → has_bit rest k ≡ false)
+pub passed-all : (p : PlanContents) (v w : View) (rest : ℕ) → IsWhole v → AreEach v → AreContentsFor p v → ((k : ℕ) → has_bit rest k ≡ false)
     → IsSettling (decisions_by p v) v rest (with_turns v.arbiters w) → IsPassing (decisions_by p v) v rest w.arbiters
-    → w ≡ record (settled (decisions_by p v) v) { arbiters = record (arbiters_after p.round v.arbiters) { channels = v.arbiters.channels } }
+    → w ≡ record (view_after_verdicts (decisions_by p v) v) { arbiters = record (arbiters_after p.round v.arbiters) { channels = v.arbiters.channels } }
 passed-all p v w rest whole each is none settling passing =
     let lists = lists_of p v is in
     ap (λ turns. with_turns turns w) (passing-last (decisions_by p v) v whole lists rest w.arbiters each none passing)

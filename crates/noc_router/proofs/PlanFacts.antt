@@ -17,7 +17,7 @@ use Rattle.noc_alloc.proofs.ArbiterLemmas.{first_in_turn-picks}
 use Rattle.noc_alloc.proofs.WordLemmas.{is_some_of-true, is_some_of-some}
 use Rattle.noc_router.specs.Tally.{empty_finding, finding_at}
 use Rattle.noc_router.specs.Verdict.{Claim, Unrouted, Waits, Holds, Stand, Round, ask_of, asks_of, ready_of, ready_port, verdict_of, pointers_of}
-use Rattle.noc_router.specs.View.{View, Decisions, planned, view_round, view_stands, view_stand, view_claim, claim_in, asked_for, finding_of, size_of, view_buffer, view_input, view_output, mover, decided_verdict}
+use Rattle.noc_router.specs.View.{View, Decisions, decisions_of, view_round, view_stands, view_stand, view_claim, claim_in, asked_for, finding_of, size_of, view_buffer, view_input, view_output, mover, decided_verdict}
 use Rattle.noc_router.specs.declared.verdict.Verdict.{Verdict}
 use Rattle.noc_router.specs.declared.verdict.Verdict.TheVariants.{Routed, Granted, Moved, LostChannel, LostInput, LostSwitch}
 use Rattle.noc_router.specs.declared.verdict.Finding.{Finding}
@@ -133,8 +133,8 @@ pub record Lists (d : Decisions) (v : View) : Type 0 where
   pub wins : d.round.wins ≡ tabulate (ports v.site.grid) (winner_of (ready_of v.site.vcs (view_stands v)) v.site.vcs (ports v.site.grid) d.round.picks (pointers_of v.arbiters.outputs))
   pub findings : d.findings ≡ tabulate (size_of v.site) (finding_of d.round v)
 
-pub lists_of_round : (relation : _) (v : View) → Lists (planned relation v) v
-unfolding planned view_round
+pub lists_of_round : (relation : _) (v : View) → Lists (decisions_of relation v) v
+unfolding decisions_of view_round
 lists_of_round relation v = record { grants = refl; picks = refl; wins = refl; findings = refl }
 
 -- a channel below the size asks for and is ready for what its claim says

@@ -9,21 +9,21 @@ use Rattle.noc_route.specs.Routes.{Routes}
 use Rattle.noc_router.specs.declared.router.Router.TheInside.{Inside}
 use Rattle.noc_router.specs.declared.verdict.Verdict.{Verdict}
 use Rattle.noc_router.specs.declared.verdict.Verdict.TheVariants.{Empty}
-use Rattle.noc_router.specs.Asked.{grants_on, no_round, picks_on, turns_in, wins_on}
-use Rattle.noc_router.specs.Decided.{IsDecidedFor, no_outcome}
+use Rattle.noc_router.specs.Asked.{grants_on, no_round, picks_on, arbiter_states_in, wins_on}
+use Rattle.noc_router.specs.Decided.{IsDecidedFor, empty_plan_contents}
 use Rattle.noc_router.specs.Inside.{IsRouter, view_of}
 use Rattle.noc_router.specs.Verdict.{Round, asks_of, is_event, ready_of}
-use Rattle.noc_router.specs.View.{Outcome, View, finding_of, outcome, route_of, size_of, view_round, view_stands}
+use Rattle.noc_router.specs.View.{PlanContents, View, finding_of, plan_contents, route_of, size_of, view_round, view_stands}
 use Rattle.noc_router.proofs.StandLemmas.{asks_of-stands}
 
 -- the grants by the arbiters of a router are those of its view
 pub grants-view : (r : Inside) (v : View) (asks : List (Option ℕ)) → view_of r ≡ v → IsRouter r
-    → grants_on r.arbiters.ports r.arbiters.vcs asks (turns_in r.arbiters) ≡ grants_on (ports v.site.grid) v.site.vcs asks v.arbiters
+    → grants_on r.arbiters.ports r.arbiters.vcs asks (arbiter_states_in r.arbiters) ≡ grants_on (ports v.site.grid) v.site.vcs asks v.arbiters
 grants-view r v asks view is =
     let grid : r.arbiters.ports ≡ ports v.site.grid = is.arbiter_ports ∙ is.ports ∙ ap (λ (w : View). ports w.site.grid) view in
     let vcs : r.arbiters.vcs ≡ v.site.vcs = is.arbiter_vcs ∙ ap (λ (w : View). w.site.vcs) view in
-    ap (λ n. grants_on n r.arbiters.vcs asks (turns_in r.arbiters)) grid
-    ∙ ap (λ n. grants_on (ports v.site.grid) n asks (turns_in r.arbiters)) vcs
+    ap (λ n. grants_on n r.arbiters.vcs asks (arbiter_states_in r.arbiters)) grid
+    ∙ ap (λ n. grants_on (ports v.site.grid) n asks (arbiter_states_in r.arbiters)) vcs
     ∙ ap (λ (w : View). grants_on (ports v.site.grid) v.site.vcs asks w.arbiters) view
 
 rounds : List (Option ℕ) → List (Option ℕ) → List (Option ℕ) → Round
@@ -45,24 +45,24 @@ round-made v asks round asked grants picks wins =
     (wins ∙ ap (λ xs. wins_on m v.site.vcs ready xs v.arbiters) picks)
 
 -- outcomes by their parts
-parts : Round → List (Option ℕ) → List Verdict → List ℕ → Outcome
+parts : Round → List (Option ℕ) → List Verdict → List ℕ → PlanContents
 parts round asks verdicts routes = record { round = round; asks = asks; verdicts = verdicts; routes = routes }
 
 same_parts : (a b : Round) (f g : List (Option ℕ)) (w x : List Verdict) (q r : List ℕ) → a ≡ b → f ≡ g → w ≡ x → q ≡ r → parts a f w q ≡ parts b g x r
 same_parts a b f g w x q r rounds asks verdicts routes = cc
 
 -- what has each part of the outcome is the outcome
-pub outcome-parts : (relation : Routes) (v : View) (p : Outcome) → p.round ≡ view_round v → p.asks ≡ asks_of (view_stands v)
+pub outcome-parts : (relation : Routes) (v : View) (p : PlanContents) → p.round ≡ view_round v → p.asks ≡ asks_of (view_stands v)
     → length p.verdicts ≡ size_of v.site → ((k : ℕ) → k < size_of v.site → get_or p.verdicts k Empty ≡ (finding_of p.round v k).verdict)
-    → p.routes ≡ tabulate (size_of v.site) (route_of relation v) → p ≡ outcome relation v
-unfolding outcome parts
+    → p.routes ≡ tabulate (size_of v.site) (route_of relation v) → p ≡ plan_contents relation v
+unfolding plan_contents parts
 outcome-parts relation v p round asks long verdicts routes =
     same_parts p.round (view_round v) p.asks _ p.verdicts _ p.routes _ round asks
     (tabulate-from_each (size_of v.site) (λ i. (finding_of (view_round v) v i).verdict) p.verdicts Empty long (λ k l. verdicts k l ∙ ap (λ r. (finding_of r v k).verdict) round)) routes
 
--- .. which is as long as it should be
-pub outcome-lengths : (relation : Routes) (v : View) → IsDecidedFor (ports v.site.grid) v.site.vcs (outcome relation v)
-unfolding outcome view_round
+-- the outcome is as long as it should be
+pub outcome-lengths : (relation : Routes) (v : View) → IsDecidedFor (ports v.site.grid) v.site.vcs (plan_contents relation v)
+unfolding plan_contents view_round
 outcome-lengths relation v = record {
   grants = length-tabulate _ _;
   picks = length-tabulate _ _;
@@ -74,15 +74,15 @@ outcome-lengths relation v = record {
 
 -- ---- no request
 -- what has no request, and every channel empty
-pub no_outcome-parts : (m vcs : ℕ) (p : Outcome) → p.round ≡ no_round m (m * vcs) → p.asks ≡ replicate (m * vcs) None → length p.verdicts ≡ m * vcs
-    → ((k : ℕ) → k < m * vcs → get_or p.verdicts k Empty ≡ Empty) → p.routes ≡ replicate (m * vcs) 0 → p ≡ no_outcome m vcs
+pub no_outcome-parts : (m vcs : ℕ) (p : PlanContents) → p.round ≡ no_round m (m * vcs) → p.asks ≡ replicate (m * vcs) None → length p.verdicts ≡ m * vcs
+    → ((k : ℕ) → k < m * vcs → get_or p.verdicts k Empty ≡ Empty) → p.routes ≡ replicate (m * vcs) 0 → p ≡ empty_plan_contents m vcs
 unfolding parts
 no_outcome-parts m vcs p round asks long verdicts routes =
     same_parts p.round _ p.asks _ p.verdicts _ p.routes _ round asks
     (ext_get_or Empty p.verdicts (replicate (m * vcs) Empty) (long ∙ sym (length-replicate (m * vcs) Empty)) (λ k l. verdicts k (omega arith) ∙ sym (get_or-replicate (m * vcs) k Empty Empty (omega arith)))) routes
 
--- .. is as long as it should be
-pub no_outcome-lengths : (m vcs : ℕ) → IsDecidedFor m vcs (no_outcome m vcs)
+-- an outcome without requests is as long as it should be
+pub no_outcome-lengths : (m vcs : ℕ) → IsDecidedFor m vcs (empty_plan_contents m vcs)
 no_outcome-lengths m vcs = record {
   grants = length-replicate _ _;
   picks = length-replicate _ _;
@@ -95,6 +95,6 @@ no_outcome-lengths m vcs = record {
 empty_event : (x : Verdict) → x ≡ Empty → is_event x ≡ true → ⊥
 empty_event x e h = false≢true (sym (ap is_event e) ∙ h)
 
--- .. and has no event
+-- an outcome without requests has no event
 pub no_event : (x : Verdict) (k n : ℕ) → x ≡ Empty → is_event x ≡ true → k < n
 no_event x k n e h = absurd (empty_event x e h)

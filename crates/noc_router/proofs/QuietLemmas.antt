@@ -21,7 +21,7 @@ least_member bits i least = sym (and_self (has_bit bits i)) ∙ least.0
 all_same : {X : Type 0} (d : X) (xs : List X) → ((k : ℕ) → get_or xs k d ≡ d) → xs ≡ replicate (length xs) d
 all_same d xs each = ext_get_or d xs (replicate (length xs) d) (sym (length-replicate (length xs) d)) (λ k l. each k ∙ sym (get_or-replicate (length xs) k d d l))
 
--- .. one of its entries
+-- an entry of a list whose entries are all d
 pub at_replicate : {X : Type 0} (d : X) (n k : ℕ) → get_or (replicate n d) k d ≡ d
 at_replicate d n k = at (cases_lt k n)
   where
@@ -59,7 +59,7 @@ somebody_below n y x l e = let same : y ≡ x = cc in omega arith
 pub below-added : (n : ℕ) (xs : List (Option ℕ)) (i y : ℕ) → y < n → AllBelow n xs → AllBelow n (set xs i (Some y))
 below-added n xs i y l all = All-set (λ one. ForSome one (λ k. k < n)) xs i (Some y) (λ x e. somebody_below n y x l e) all
 
--- .. or nobody
+-- somebody below n, or nobody
 pub below-put : (n : ℕ) (xs : List (Option ℕ)) (i : ℕ) (one : Option ℕ) → IfSome one (λ y. y < n) → AllBelow n xs → AllBelow n (set xs i one)
 below-put n xs i (Some y) l all = below-added n xs i y l all
 below-put n xs i None l all = All-set (λ one. ForSome one (λ k. k < n)) xs i None (λ x e. nobody_below n x e) all

@@ -49,20 +49,20 @@ local-index r vc is =
     let e : r.ports - 1 ≡ 2 * length r.shape.radix = omega (arith, is.ports) in
     ap (λ n. n * r.vcs + vc) e
 
--- .. where only its channels and its misfits change, and no input channel does
+-- a router of which only channels and misfits change, and no input channel, is one still
 pub IsRouter-misfit : (r : Inside) (channels : Channels) (n : ℕ) → IsRouter r → channels.size ≡ r.channels.size → channels.bank.capacity ≡ r.channels.bank.capacity
     → channels.inputs.items ≡ r.channels.inputs.items → IsRouter (record r { channels = channels; misfits = n })
 IsRouter-misfit r channels n is size capacity inputs =
     IsRouter-kept r (record r { channels = channels; misfits = n }) is refl refl refl refl refl refl size capacity
     (λ i h. ap (λ (xs : List Input). is_awaiting xs i) inputs ∙ h) refl is.loaded refl refl refl refl refl
 
--- .. where only its channels change, and whether it had an event
+-- a router of which only channels change, and whether it had an event, is one still
 pub IsRouter-channels : (r : Inside) (channels : Channels) (happened : Bool) → IsRouter r → channels.size ≡ r.channels.size → channels.bank.capacity ≡ r.channels.bank.capacity
     → KeepsAwaiting r.channels.inputs.items channels.inputs.items → IsRouter (record r { channels = channels; had_event = happened })
 IsRouter-channels r channels happened is size capacity keeps =
     IsRouter-kept r (record r { channels = channels; had_event = happened }) is refl refl refl refl refl refl size capacity keeps refl is.loaded refl refl refl refl refl
 
--- .. where a flit has come to an input channel of a link port
+-- a router where a flit has come to an input channel of a link port is one still
 pub IsRouter-landed : (r : Inside) (channels : Channels) (i : ℕ) (x : Input) → IsRouter r → channels.size ≡ r.channels.size → channels.bank.capacity ≡ r.channels.bank.capacity
     → channels.inputs.items ≡ slice_set r.channels.inputs.items i x → i < (r.ports - 1) * r.vcs → IsRouter (record r { channels = channels; had_event = true })
 IsRouter-landed r channels i x is size capacity inputs link = record {

@@ -14,22 +14,22 @@ use Rattle.noc_packet.specs.Set.{has_bit}
 use Rattle.noc_packet.specs.declared.packet.Flit.{Flit}
 use Rattle.noc_packet.specs.declared.packet.Beat.{Beat}
 use Rattle.noc_route.proofs.BoolLemmas.{same_test}
-use Rattle.noc_vc.specs.Input.{Input, idle_input, is_waiting, is_empty, routed, granted, sent}
-use Rattle.noc_vc.specs.Output.{Output, ejection_output, is_free, has_credit, held, spent}
+use Rattle.noc_vc.specs.Input.{Input, idle_input, is_waiting, is_empty, input_after_route, input_after_grant, input_after_send}
+use Rattle.noc_vc.specs.Output.{Output, ejection_output, is_free, has_credit, output_after_hold, output_after_spend}
 use Rattle.noc_vc.specs.declared.input.InputState.{InputState}
 use Rattle.noc_vc.specs.declared.input.InputState.TheVariants.{Active}
 use Rattle.noc_vc.specs.declared.output.OutputState.{OutputState}
 use Rattle.noc_vc.specs.declared.output.OutputState.TheVariants.{Idle as Free, Owned, Draining}
 use Rattle.noc_alloc.proofs.WordLemmas.{is_some_of-true, is_some_of-some}
-use Rattle.noc_router.specs.Arrivals.{is_expected_in, noted}
-use Rattle.noc_router.specs.Settled.{CanGrant, CanMove, settled, routed_at, granted_at, granted_by, with_flit_at, with_credit_at, ejected, moved_by, moved_in_phase, CanTakeEffect, decisions_by, effect_of}
+use Rattle.noc_router.specs.Arrivals.{is_expected_in, arrivals_after}
+use Rattle.noc_router.specs.Settled.{CanGrant, CanMove, view_after_verdicts, view_after_route, view_after_grant, granted_by, with_flit_at, with_credit_at, ejected_packet, moved_by, moved_in_phase, CanTakeEffect, decisions_by, effect_of}
 use Rattle.noc_router.specs.declared.router.Router.TheInside.{Inside}
 use Rattle.noc_router.specs.Inside.{IsRouter, view_of}
 use Rattle.noc_router.specs.Members.{is_within}
 use Rattle.noc_router.specs.Sound.{owns, is_owned_from}
 use Rattle.noc_router.specs.Tally.{empty_finding, finding_at}
 use Rattle.noc_router.specs.Verdict.{Waits, Holds, ask_of, out_of, is_moved, is_event}
-use Rattle.noc_router.specs.View.{View, Site, Decisions, finding_of, size_of, view_claim, view_buffer, view_input, view_output, first_flit, mover, mover_to, held_by, spent_by, is_tail, flit_out, tail_packet, with_arrival, raised, decided_verdict, input_after, buffer_after, granted_to, sent_from, output_after, beat_out, idle_beat, idle_beats, has_event, Outcome}
+use Rattle.noc_router.specs.View.{View, Site, Decisions, finding_of, size_of, view_claim, view_buffer, view_input, view_output, first_flit, mover, mover_to, held_by, spent_by, is_tail, flit_out, tail_packet, with_arrival, saturating_next, decided_verdict, input_after, buffer_after, granted_to, sent_from, output_after, beat_out, idle_beat, idle_beats, has_event, PlanContents}
 use Rattle.noc_router.specs.declared.verdict.Verdict.{Verdict}
 use Rattle.noc_router.specs.declared.verdict.Verdict.TheVariants.{Empty, Routed, Granted, Moved, NoFlit, NoIdleChannel, LostChannel, NoCredit, LostInput, LostSwitch}
 use Rattle.noc_router.specs.declared.verdict.Finding.{Finding}
@@ -41,18 +41,18 @@ use Rattle.noc_router.proofs.PlanFacts.{Lists, verdict_in, holds_flit, decided-i
 -- the arrivals and the misfits after a packet has arrived
 abbrev pub sink_ends : Option ℕ → ℕ → List (ℕ × Option ℕ) → List (ℕ × Option ℕ)
 sink_ends None given ends = ends
-sink_ends (Some p) given ends = if is_expected_in p ends then noted p given ends else ends
+sink_ends (Some p) given ends = if is_expected_in p ends then arrivals_after p given ends else ends
 
 abbrev pub sink_misfits : Option ℕ → List (ℕ × Option ℕ) → ℕ → ℕ
 sink_misfits None ends misfits = misfits
-sink_misfits (Some p) ends misfits = if is_expected_in p ends then misfits else raised misfits
+sink_misfits (Some p) ends misfits = if is_expected_in p ends then misfits else saturating_next misfits
 
 pub arrival-is : (a : Option ℕ) (v : View) → with_arrival a v ≡ record v { ends = sink_ends a v.given v.ends; misfits = sink_misfits a v.ends v.misfits }
 arrival-is None v = refl
 arrival-is (Some p) v = at (is_expected_in p v.ends)
   where
-    at : (b : Bool) → (if b then record v { ends = noted p v.given v.ends } else record v { misfits = raised v.misfits })
-        ≡ record v { ends = (if b then noted p v.given v.ends else v.ends); misfits = (if b then v.misfits else raised v.misfits) }
+    at : (b : Bool) → (if b then record v { ends = arrivals_after p v.given v.ends } else record v { misfits = saturating_next v.misfits })
+        ≡ record v { ends = (if b then arrivals_after p v.given v.ends else v.ends); misfits = (if b then v.misfits else saturating_next v.misfits) }
     at true = refl
     at false = refl
 
@@ -294,10 +294,10 @@ module _ (d : Decisions) (v w : View) (rest rest' index : ℕ) (whole : IsWhole 
   }
 
   -- the head of the channel was routed
-  step-routed : decided_verdict d index ≡ Routed → IsSettling d v rest' (routed_at index (slice_index d.routes index) w)
+  step-routed : decided_verdict d index ≡ Routed → IsSettling d v rest' (view_after_route index (slice_index d.routes index) w)
   step-routed e =
       let set_to = slice_index d.routes index in
-      let new = routed (view_input w index) set_to in
+      let new = input_after_route (view_input w index) set_to in
       let no_grant : verdict_in d v index ≢ Granted = λ g. let s : Routed ≡ Granted = sym e ∙ decided ∙ g in cc s in
       let still : verdict_in d v index ≢ Moved = λ g. let s : Routed ≡ Moved = sym e ∙ decided ∙ g in cc s in
       let no_move : is_moved (decided_verdict d index) ≡ false = ap is_moved e in
@@ -311,7 +311,7 @@ module _ (d : Decisions) (v w : View) (rest rest' index : ℕ) (whole : IsWhole 
         buffers = buffers-step w.buffers (buffer-here ∙ sym (ap (λ b. if b then drop 1 (view_buffer v index) else view_buffer v index) no_move)) (λ i other. refl);
         inputs = inputs-step (set w.inputs index new)
             (get_or-set_same w.inputs index new idle_input (let n : length w.inputs ≡ size_of v.site = so_far.n_inputs in let l : index < size_of v.site = inside in omega arith)
-            ∙ ap (λ (x : Input). routed x set_to) input-here ∙ sym (ap (input_after d v index (view_input v index)) e))
+            ∙ ap (λ (x : Input). input_after_route x set_to) input-here ∙ sym (ap (input_after d v index (view_input v index)) e))
             (λ i other. get_or-set_other w.inputs index i new idle_input other);
         outputs = λ o l. outputs-step o l (not_granted d v whole lists index o l no_grant) (not_mover_to d v whole lists index o l still);
         beats = beats-still still no_move;
@@ -323,12 +323,12 @@ module _ (d : Decisions) (v w : View) (rest rest' index : ℕ) (whole : IsWhole 
       }
 
   -- the packet of the channel was granted an output channel
-  step-granted : (o : ℕ) → decided_verdict d index ≡ Granted → view_claim v index ≡ Waits (Some o) → get_or d.round.grants o None ≡ Some index → IsSettling d v rest' (granted_at index o w)
+  step-granted : (o : ℕ) → decided_verdict d index ≡ Granted → view_claim v index ≡ Waits (Some o) → get_or d.round.grants o None ≡ Some index → IsSettling d v rest' (view_after_grant index o w)
   step-granted o e claim g =
-      let new = granted (view_input w index) o in
+      let new = input_after_grant (view_input w index) o in
       let free = claim-waits v (view_input v index).phase o claim in
       let packet = unwrap_or (view_input w index).packet 0 in
-      let out = held (view_output w o) index packet in
+      let out = output_after_hold (view_output w o) index packet in
       let still : verdict_in d v index ≢ Moved = λ m. let s : Granted ≡ Moved = sym e ∙ decided ∙ m in cc s in
       let no_move : is_moved (decided_verdict d index) ≡ false = ap is_moved e in
       record {
@@ -341,7 +341,7 @@ module _ (d : Decisions) (v w : View) (rest rest' index : ℕ) (whole : IsWhole 
         buffers = buffers-step w.buffers (buffer-here ∙ sym (ap (λ b. if b then drop 1 (view_buffer v index) else view_buffer v index) no_move)) (λ i other. refl);
         inputs = inputs-step (set w.inputs index new)
             (get_or-set_same w.inputs index new idle_input (let n : length w.inputs ≡ size_of v.site = so_far.n_inputs in let l : index < size_of v.site = inside in omega arith)
-            ∙ ap (λ (x : Input). granted x o) input-here ∙ sym (ap (input_after d v index (view_input v index)) e ∙ ap (λ c. granted_to (view_input v index) (ask_of c)) claim))
+            ∙ ap (λ (x : Input). input_after_grant x o) input-here ∙ sym (ap (input_after d v index (view_input v index)) e ∙ ap (λ c. granted_to (view_input v index) (ask_of c)) claim))
             (λ i other. get_or-set_other w.inputs index i new idle_input other);
         outputs = λ k l. output_at k l (cases_eq k o) free.2;
         beats = beats-still still no_move;
@@ -365,21 +365,21 @@ module _ (d : Decisions) (v w : View) (rest rest' index : ℕ) (whole : IsWhole 
           ∙ ap (λ x. spent_by v (held_by v (view_output v o) x) (left rest (mover_to v d.round o))) (left-here rest rest' index members member (get_or d.round.grants o None) g)
           ∙ ap (λ m. spent_by v (view_output v o) (left rest m)) (none_moves l (mover_to v d.round o) refl)
 
-      after : o < size_of v.site → output_by d v rest' o ≡ held (view_output v o) index (unwrap_or (view_input v index).packet 0)
+      after : o < size_of v.site → output_by d v rest' o ≡ output_after_hold (view_output v o) index (unwrap_or (view_input v index).packet 0)
       after l =
           ap (λ x. spent_by v (held_by v (view_output v o) x) (left rest' (mover_to v d.round o))) (left-gone rest rest' index members member (get_or d.round.grants o None) g)
-          ∙ ap (λ m. spent_by v (held (view_output v o) index (unwrap_or (view_input v index).packet 0)) (left rest' m)) (none_moves l (mover_to v d.round o) refl)
+          ∙ ap (λ m. spent_by v (output_after_hold (view_output v o) index (unwrap_or (view_input v index).packet 0)) (left rest' m)) (none_moves l (mover_to v d.round o) refl)
 
       output_at : (k : ℕ) → k < size_of v.site → (k ≡ o) ⊎ (k ≡ o → ⊥) → o < size_of v.site
-          → get_or (set w.outputs o (held (view_output w o) index (unwrap_or (view_input w index).packet 0))) k ejection_output ≡ output_by d v rest' k
+          → get_or (set w.outputs o (output_after_hold (view_output w o) index (unwrap_or (view_input w index).packet 0))) k ejection_output ≡ output_by d v rest' k
       output_at k l (inl same) lo =
-          ap (λ j. get_or (set w.outputs o (held (view_output w o) index (unwrap_or (view_input w index).packet 0))) j ejection_output) same
-          ∙ get_or-set_same w.outputs o (held (view_output w o) index (unwrap_or (view_input w index).packet 0)) ejection_output (let n : length w.outputs ≡ size_of v.site = so_far.n_outputs in omega arith)
-          ∙ ap (λ (x : Output). held x index (unwrap_or (view_input w index).packet 0)) (before lo)
-          ∙ ap (λ (x : Input). held (view_output v o) index (unwrap_or x.packet 0)) input-here
+          ap (λ j. get_or (set w.outputs o (output_after_hold (view_output w o) index (unwrap_or (view_input w index).packet 0))) j ejection_output) same
+          ∙ get_or-set_same w.outputs o (output_after_hold (view_output w o) index (unwrap_or (view_input w index).packet 0)) ejection_output (let n : length w.outputs ≡ size_of v.site = so_far.n_outputs in omega arith)
+          ∙ ap (λ (x : Output). output_after_hold x index (unwrap_or (view_input w index).packet 0)) (before lo)
+          ∙ ap (λ (x : Input). output_after_hold (view_output v o) index (unwrap_or x.packet 0)) input-here
           ∙ sym (after lo) ∙ ap (output_by d v rest') (sym same)
       output_at k l (inr other) lo =
-          get_or-set_other w.outputs o k (held (view_output w o) index (unwrap_or (view_input w index).packet 0)) ejection_output other
+          get_or-set_other w.outputs o k (output_after_hold (view_output w o) index (unwrap_or (view_input w index).packet 0)) ejection_output other
           ∙ outputs-step k l
           (λ h. let a : Waits (Some k) ≡ Waits (Some o) = sym (granted-asks d v k index lists l h).1 ∙ claim_is in let s : k ≡ o = cc in other s)
           (not_mover_to d v whole lists index k l (λ m. let s : Granted ≡ Moved = sym e ∙ decided ∙ m in cc s))
@@ -451,18 +451,18 @@ pub moved-parts : (i o : ℕ) (f : Flit) (w : View) →
     let beats = with_flit_at to (o % w.site.vcs) f (with_credit_at from (i % w.site.vcs) w.to_put) in
     moved_by i o (Some f) w ≡ record w {
       buffers = set w.buffers i (drop 1 (view_buffer w i));
-      inputs = set w.inputs i (sent (view_input w i) f);
-      outputs = set w.outputs o (spent f.last (view_output w o));
+      inputs = set w.inputs i (input_after_send (view_input w i) f);
+      outputs = set w.outputs o (output_after_spend f.last (view_output w o));
       had_event = true;
       to_put = beats;
-      ends = sink_ends (ejected w to f) w.given w.ends;
-      misfits = sink_misfits (ejected w to f) w.ends w.misfits;
+      ends = sink_ends (ejected_packet w to f) w.given w.ends;
+      misfits = sink_misfits (ejected_packet w to f) w.ends w.misfits;
     }
 moved-parts i o f w =
-    arrival-is (ejected w (o / w.site.vcs) f) (record w {
+    arrival-is (ejected_packet w (o / w.site.vcs) f) (record w {
       buffers = set w.buffers i (drop 1 (view_buffer w i));
-      inputs = set w.inputs i (sent (view_input w i) f);
-      outputs = set w.outputs o (spent f.last (view_output w o));
+      inputs = set w.inputs i (input_after_send (view_input w i) f);
+      outputs = set w.outputs o (output_after_spend f.last (view_output w o));
       had_event = true;
       to_put = with_flit_at (o / w.site.vcs) (o % w.site.vcs) f (with_credit_at (i / w.site.vcs) (i % w.site.vcs) w.to_put);
     })
@@ -525,22 +525,22 @@ module _ (d : Decisions) (v w : View) (rest rest' index : ℕ) (whole : IsWhole 
       ∙ ap (λ m. spent_by v (held_by v (view_output v mv.out) (left rest (get_or d.round.grants mv.out None))) m) (left-here rest rest' index members member (mover_to v d.round mv.out) moves_to)
       ∙ ap (λ m. held_by v (view_output v mv.out) (left rest m)) (none_granted (get_or d.round.grants mv.out None) refl)
 
-  after-out : output_by d v rest' mv.out ≡ spent f.last (view_output v mv.out)
+  after-out : output_by d v rest' mv.out ≡ output_after_spend f.last (view_output v mv.out)
   after-out =
       ap (λ m. spent_by v (held_by v (view_output v mv.out) (left rest' (get_or d.round.grants mv.out None))) m) (left-gone rest rest' index members member (mover_to v d.round mv.out) moves_to)
-      ∙ ap (λ m. spent (is_tail (first_flit v index)) (held_by v (view_output v mv.out) (left rest' m))) (none_granted (get_or d.round.grants mv.out None) refl)
-      ∙ ap (λ (x : Option Flit). spent (is_tail x) (view_output v mv.out)) first
+      ∙ ap (λ m. output_after_spend (is_tail (first_flit v index)) (held_by v (view_output v mv.out) (left rest' m))) (none_granted (get_or d.round.grants mv.out None) refl)
+      ∙ ap (λ (x : Option Flit). output_after_spend (is_tail x) (view_output v mv.out)) first
 
-  moved-output : (k : ℕ) → k < size_of v.site → get_or (set w.outputs mv.out (spent f.last (view_output w mv.out))) k ejection_output ≡ output_by d v rest' k
+  moved-output : (k : ℕ) → k < size_of v.site → get_or (set w.outputs mv.out (output_after_spend f.last (view_output w mv.out))) k ejection_output ≡ output_by d v rest' k
   moved-output k l = at (cases_eq k mv.out)
     where
-      at : (k ≡ mv.out) ⊎ (k ≡ mv.out → ⊥) → get_or (set w.outputs mv.out (spent f.last (view_output w mv.out))) k ejection_output ≡ output_by d v rest' k
+      at : (k ≡ mv.out) ⊎ (k ≡ mv.out → ⊥) → get_or (set w.outputs mv.out (output_after_spend f.last (view_output w mv.out))) k ejection_output ≡ output_by d v rest' k
       at (inl same) =
-          ap (λ j. get_or (set w.outputs mv.out (spent f.last (view_output w mv.out))) j ejection_output) same
-          ∙ get_or-set_same w.outputs mv.out (spent f.last (view_output w mv.out)) ejection_output (let n : length w.outputs ≡ size_of v.site = so_far.n_outputs in let u : mv.out < size_of v.site = out_in in omega arith)
-          ∙ ap (spent f.last) before-out ∙ sym after-out ∙ ap (output_by d v rest') (sym same)
+          ap (λ j. get_or (set w.outputs mv.out (output_after_spend f.last (view_output w mv.out))) j ejection_output) same
+          ∙ get_or-set_same w.outputs mv.out (output_after_spend f.last (view_output w mv.out)) ejection_output (let n : length w.outputs ≡ size_of v.site = so_far.n_outputs in let u : mv.out < size_of v.site = out_in in omega arith)
+          ∙ ap (output_after_spend f.last) before-out ∙ sym after-out ∙ ap (output_by d v rest') (sym same)
       at (inr other) =
-          get_or-set_other w.outputs mv.out k (spent f.last (view_output w mv.out)) ejection_output other
+          get_or-set_other w.outputs mv.out k (output_after_spend f.last (view_output w mv.out)) ejection_output other
           ∙ outputs-step d v w rest rest' index whole lists members member so_far k l
           (not_granted d v whole lists index k l (λ g. let s : Moved ≡ Granted = sym verdict_now ∙ g in cc s))
           (λ m. let s : Some mv.out ≡ Some k = sym (ap out_of mv.claim) ∙ (mover_to-is d v k index m).1 in let t : k ≡ mv.out = cc s in other t)
@@ -617,17 +617,17 @@ module _ (d : Decisions) (v w : View) (rest rest' index : ℕ) (whole : IsWhole 
   step-moved : (a : Option ℕ) → a ≡ (if nat_lt to (local_port v.site.grid) then None else (if f.last then Some f.packet else None))
       → IsSettling d v rest' (record w {
         buffers = set w.buffers index (drop 1 (view_buffer w index));
-        inputs = set w.inputs index (sent (view_input w index) f);
-        outputs = set w.outputs mv.out (spent f.last (view_output w mv.out));
+        inputs = set w.inputs index (input_after_send (view_input w index) f);
+        outputs = set w.outputs mv.out (output_after_spend f.last (view_output w mv.out));
         had_event = true;
         to_put = with_flit_at to vc f (with_credit_at from back w.to_put);
         ends = sink_ends a w.given w.ends;
         misfits = sink_misfits a w.ends w.misfits;
       })
   step-moved a is =
-      let new = sent (view_input w index) f in
+      let new = input_after_send (view_input w index) f in
       let flits = drop 1 (view_buffer w index) in
-      let out = spent f.last (view_output w mv.out) in
+      let out = output_after_spend f.last (view_output w mv.out) in
       let beats = with_flit_at to vc f (with_credit_at from back w.to_put) in
       let sink = moved-sink a is in
       record {
@@ -653,7 +653,7 @@ module _ (d : Decisions) (v w : View) (rest rest' index : ℕ) (whole : IsWhole 
             (λ i other. get_or-set_other w.buffers index i flits [] other);
         inputs = inputs-step d v w rest rest' index whole lists members member so_far (set w.inputs index new)
             (get_or-set_same w.inputs index new idle_input (let n : length w.inputs ≡ size_of v.site = so_far.n_inputs in let l : index < size_of v.site = index_in in omega arith)
-            ∙ ap (λ (x : Input). sent x f) (input-here d v w rest rest' index whole lists members member so_far)
+            ∙ ap (λ (x : Input). input_after_send x f) (input-here d v w rest rest' index whole lists members member so_far)
             ∙ sym (ap (input_after d v index (view_input v index)) e ∙ ap (sent_from (view_input v index)) first))
             (λ i other. get_or-set_other w.inputs index i new idle_input other);
         outputs = moved-output;
@@ -826,8 +826,8 @@ module _ (d : Decisions) (v w : View) (rest : ℕ) (whole : IsWhole v) (lists : 
   view_with : List (List Flit) → List Input → List Output → List (ℕ × Option ℕ) → ℕ → Bool → List Beat → View
   view_with b i o e m h t = record v { buffers = b; inputs = i; outputs = o; ends = e; misfits = m; had_event = h; to_put = t }
 
-  settling-last : w ≡ settled d v
-  unfolding settled view_with
+  settling-last : w ≡ view_after_verdicts d v
+  unfolding view_after_verdicts view_with
   settling-last =
       let a = tail_packet (flit_out v d.round (local_port v.site.grid)) in
       so_far.others
@@ -856,7 +856,7 @@ full_length [] e = absurd (false≢true e)
 full_length (f ∷ rest) e = omega arith
 
 -- the verdict of channel `index` by an outcome whose lists are those of the decisions d
-module _ (p : Outcome) (d : Decisions) (v w : View) (rest rest' index : ℕ) (routes : p.routes ≡ d.routes) (whole : IsWhole v) (lists : Lists d v)
+module _ (p : PlanContents) (d : Decisions) (v w : View) (rest rest' index : ℕ) (routes : p.routes ≡ d.routes) (whole : IsWhole v) (lists : Lists d v)
     (members : (k : ℕ) → has_bit rest' k ≡ (not (nat_eq k index) && has_bit rest k)) (member : has_bit rest index ≡ true) (so_far : IsSettling d v rest w)
     (asked : get_or p.asks index None ≡ ask_of (view_claim v index)) where
   in_size : index < size_of v.site
@@ -951,12 +951,12 @@ module _ (p : Outcome) (d : Decisions) (v w : View) (rest rest' index : ℕ) (ro
       (step-moved d v w rest rest' index whole lists members member so_far f first mv (decided-is d v index lists in_size ∙ e)
       (index / w.site.vcs) (index % w.site.vcs) (mv.out / w.site.vcs) (mv.out % w.site.vcs)
       (ap (λ (s : Site). index / s.vcs) site_is) (ap (λ (s : Site). index % s.vcs) site_is) (ap (λ (s : Site). mv.out / s.vcs) site_is) (ap (λ (s : Site). mv.out % s.vcs) site_is)
-      (ejected w (mv.out / w.site.vcs) f)
+      (ejected_packet w (mv.out / w.site.vcs) f)
       (ap (λ (s : Site). if nat_lt (mv.out / w.site.vcs) (local_port s.grid) then None else (if f.last then Some f.packet else None)) site_is))))
 
   settle-step : (x : Verdict) → verdict_in d v index ≡ x → IsSettling d v rest' (effect_of p index w x)
   settle-step Routed e =
-      let P : List ℕ → Type 0 = λ xs. IsSettling d v rest' (routed_at index (slice_index xs index) w) in
+      let P : List ℕ → Type 0 = λ xs. IsSettling d v rest' (view_after_route index (slice_index xs index) w) in
       subst P (sym routes) (step-routed d v w rest rest' index whole lists members member so_far (decided-is d v index lists in_size ∙ e))
   settle-step Granted e = let g = verdict-granted v.site.vcs d.round index (view_claim v index) (holds_flit v index) e in settle-granted g.0 e g.1 g.2
   settle-step Moved e =
@@ -972,13 +972,13 @@ module _ (p : Outcome) (d : Decisions) (v w : View) (rest rest' index : ℕ) (ro
   settle-step LostSwitch e = step-quiet LostSwitch e (λ h. cc h) (λ h. cc h) refl refl refl
 
 -- ---- the whole
-pub can_settle : (p : Outcome) (v w : View) (rest rest' index : ℕ) → IsWhole v → Lists (decisions_by p v) v → ((k : ℕ) → has_bit rest' k ≡ (not (nat_eq k index) && has_bit rest k)) → has_bit rest index ≡ true
+pub can_settle : (p : PlanContents) (v w : View) (rest rest' index : ℕ) → IsWhole v → Lists (decisions_by p v) v → ((k : ℕ) → has_bit rest' k ≡ (not (nat_eq k index) && has_bit rest k)) → has_bit rest index ≡ true
     → IsSettling (decisions_by p v) v rest w → get_or p.asks index None ≡ ask_of (view_claim v index) → CanTakeEffect p w index (decided_verdict (decisions_by p v) index)
 can_settle p v w rest rest' index whole lists members member so_far asked =
     let d = decisions_by p v in
     can-settle p d v w rest rest' index refl whole lists members member so_far asked (decided_verdict d index) (sym (decided-is d v index lists (so_far.below index member)))
 
-pub settling_more : (p : Outcome) (v w : View) (rest rest' index : ℕ) → IsWhole v → Lists (decisions_by p v) v → ((k : ℕ) → has_bit rest' k ≡ (not (nat_eq k index) && has_bit rest k)) → has_bit rest index ≡ true
+pub settling_more : (p : PlanContents) (v w : View) (rest rest' index : ℕ) → IsWhole v → Lists (decisions_by p v) v → ((k : ℕ) → has_bit rest' k ≡ (not (nat_eq k index) && has_bit rest k)) → has_bit rest index ≡ true
     → IsSettling (decisions_by p v) v rest w → get_or p.asks index None ≡ ask_of (view_claim v index)
     → IsSettling (decisions_by p v) v rest' (effect_of p index w (decided_verdict (decisions_by p v) index))
 settling_more p v w rest rest' index whole lists members member so_far asked =
@@ -989,7 +989,7 @@ pub settling_first : (d : Decisions) (v : View) (rest : ℕ) → IsWhole v → L
     → ((k : ℕ) → has_bit rest k ≡ true → k < size_of v.site) → v.to_put ≡ idle_beats v.site → IsSettling d v rest v
 settling_first d v rest whole lists are below idle = settling-first d v rest whole lists (λ i l. are i l ∙ ap is_event (decided-is d v i lists l)) below idle
 
-pub settling_last : (d : Decisions) (v w : View) (rest : ℕ) → IsWhole v → Lists d v → IsSettling d v rest w → ((k : ℕ) → has_bit rest k ≡ false) → w ≡ settled d v
+pub settling_last : (d : Decisions) (v w : View) (rest : ℕ) → IsWhole v → Lists d v → IsSettling d v rest w → ((k : ℕ) → has_bit rest k ≡ false) → w ≡ view_after_verdicts d v
 settling_last d v w rest whole lists so_far none = settling-last d v w rest whole lists so_far none
 
 pub none_left : (d : Decisions) (v w : View) (rest : ℕ) → IsSettling d v rest w → ((k : ℕ) → k < size_of v.site → has_bit rest k ≡ false) → (k : ℕ) → has_bit rest k ≡ false

@@ -10,12 +10,12 @@ use Rattle.noc_packet.specs.declared.packet.Flit.{Flit}
 use Rattle.noc_packet.specs.declared.packet.Beat.{Beat}
 use Rattle.noc_route.specs.Routes.{Routes}
 use Rattle.noc_vc.specs.Input.{fits}
-use Rattle.noc_vc.specs.Output.{credit_fits, credited}
+use Rattle.noc_vc.specs.Output.{credit_fits, output_after_credit}
 use Rattle.noc_router.specs.declared.router.Router.TheInside.{Inside}
 use Rattle.noc_router.specs.Inside.{IsRouter, view_of}
-use Rattle.noc_router.specs.Settled.{ejected, flit_put, settled, tallied, with_flit_at}
-use Rattle.noc_router.specs.Verdict.{Turns, arbiters_after}
-use Rattle.noc_router.specs.View.{View, Site, Decisions, with_landed, with_misfit, with_flit, with_credit, taken, taken_from, all_taken, injected, injected_from, begun_on, with_injected, is_vacant, committed, tail_packet, flit_out, has_link, view_buffer, view_input, view_output, idle_beat, idle_beats, decided_verdict, buffer_after, input_after, output_after, has_event, beat_out, counted, local_channel, put}
+use Rattle.noc_router.specs.Settled.{ejected_packet, flit_put, view_after_verdicts, view_after_tally, with_flit_at}
+use Rattle.noc_router.specs.Verdict.{ArbiterStates, arbiters_after}
+use Rattle.noc_router.specs.View.{View, Site, Decisions, with_landed, with_misfit, with_flit, with_credit, view_after_take, view_after_takes_from, view_after_takes, view_after_inject, view_after_inject_from, begun_on, with_injected, is_vacant, view_after_commit, tail_packet, flit_out, has_link, view_buffer, view_input, view_output, idle_beat, idle_beats, decided_verdict, buffer_after, input_after, output_after, has_event, beat_out, counts_after, local_channel, view_after_put}
 use Rattle.noc_router.proofs.SettleLemmas.{arrival-is, sink_ends, sink_misfits}
 
 either_site : (b : Bool) (x y : View) (s : Site) → x.site ≡ s → y.site ≡ s → (if b then x else y).site ≡ s
@@ -32,37 +32,37 @@ credit-site : (port : ℕ) (credit : Option ℕ) (v : View) → (with_credit por
 credit-site port None v = refl
 credit-site port (Some vc) v =
     either_site (has_link v.site port && nat_lt vc v.site.vcs && credit_fits (view_output v (port * v.site.vcs + vc)))
-    (record v { outputs = set v.outputs (port * v.site.vcs + vc) (credited (view_output v (port * v.site.vcs + vc))); had_event = true }) (with_misfit v) v.site refl refl
+    (record v { outputs = set v.outputs (port * v.site.vcs + vc) (output_after_credit (view_output v (port * v.site.vcs + vc))); had_event = true }) (with_misfit v) v.site refl refl
 
-pub taken-site : (relation : Routes) (port : ℕ) (beat : Beat) (v : View) → (taken relation port beat v).site ≡ v.site
-unfolding taken
+pub taken-site : (relation : Routes) (port : ℕ) (beat : Beat) (v : View) → (view_after_take relation port beat v).site ≡ v.site
+unfolding view_after_take
 taken-site relation port beat v = credit-site port beat.credit (with_flit relation port beat.flit v) ∙ flit-site relation port beat.flit v
 
-pub taken_from-site : (relation : Routes) (port : ℕ) (beats : List Beat) (v : View) → (taken_from relation port beats v).site ≡ v.site
+pub taken_from-site : (relation : Routes) (port : ℕ) (beats : List Beat) (v : View) → (view_after_takes_from relation port beats v).site ≡ v.site
 taken_from-site relation port [] v = refl
-taken_from-site relation port (beat ∷ beats) v = taken_from-site relation (port + 1) beats (taken relation port beat v) ∙ taken-site relation port beat v
+taken_from-site relation port (beat ∷ beats) v = taken_from-site relation (port + 1) beats (view_after_take relation port beat v) ∙ taken-site relation port beat v
 
-pub all_taken-site : (relation : Routes) (beats : List Beat) (v : View) → (all_taken relation beats v).site ≡ v.site
-unfolding all_taken
+pub all_taken-site : (relation : Routes) (beats : List Beat) (v : View) → (view_after_takes relation beats v).site ≡ v.site
+unfolding view_after_takes
 all_taken-site relation beats v = taken_from-site relation 0 beats v
 
 begun-site : (vc : Option ℕ) (number : ℕ) (p : Packet) (rest : List (ℕ × Packet)) (v : View) → (begun_on vc number p rest v).site ≡ v.site
 begun-site None number p rest v = refl
 begun-site (Some vc) number p rest v = refl
 
-injected_from-site : (n : ℕ) (queue : List (ℕ × Packet)) (sending : Option (ℕ × ℕ)) (v : View) → (injected_from n queue sending v).site ≡ v.site
+injected_from-site : (n : ℕ) (queue : List (ℕ × Packet)) (sending : Option (ℕ × ℕ)) (v : View) → (view_after_inject_from n queue sending v).site ≡ v.site
 injected_from-site n [] sending v = refl
 injected_from-site n ((number, p) ∷ rest) (Some (vc, index)) v =
     either_site (nat_lt (length (view_buffer v (local_channel v.site vc))) v.site.places) (with_injected vc index number p rest v) v v.site refl refl
 injected_from-site n ((number, p) ∷ rest) None v =
     either_site (nat_le p.due n) (begun_on (find (is_vacant v) (below v.site.vcs)) number p rest v) v v.site (begun-site (find (is_vacant v) (below v.site.vcs)) number p rest v) refl
 
-pub injected-site : (n : ℕ) (v : View) → (injected n v).site ≡ v.site
-unfolding injected
+pub injected-site : (n : ℕ) (v : View) → (view_after_inject n v).site ≡ v.site
+unfolding view_after_inject
 injected-site n v = injected_from-site n v.queue v.sending (record v { given = n })
 
 pub put-site : (port vc : ℕ) (f : Flit) (v : View) → (flit_put port vc f v).site ≡ v.site
-put-site port vc f v = ap (λ (w : View). w.site) (arrival-is (ejected v port f) (record v { to_put = with_flit_at port vc f v.to_put }))
+put-site port vc f v = ap (λ (w : View). w.site) (arrival-is (ejected_packet v port f) (record v { to_put = with_flit_at port vc f v.to_put }))
 
 -- ---- the parts of a commit
 -- what takes effect of all verdicts, but for what the sink does with the tail that leaves
@@ -86,7 +86,7 @@ turned_and_closed d v = record v {
 -- the verdicts are counted and shown
 abbrev counted_and_shown : Decisions → View → View
 counted_and_shown d v = record v {
-  counts = map_indexed (λ i counts. counted (decided_verdict d i) counts) v.counts;
+  counts = map_indexed (λ i counts. counts_after (decided_verdict d i) counts) v.counts;
   findings = d.findings;
 }
 
@@ -96,39 +96,39 @@ sunk d v w =
     let a = tail_packet (flit_out v d.round (local_port v.site.grid)) in
     record w { ends = sink_ends a v.given v.ends; misfits = sink_misfits a v.ends v.misfits }
 
-pub settled-parts : (d : Decisions) (v : View) → settled d v ≡ sunk d v (unsunk d v)
-unfolding settled
+pub settled-parts : (d : Decisions) (v : View) → view_after_verdicts d v ≡ sunk d v (unsunk d v)
+unfolding view_after_verdicts
 settled-parts d v = arrival-is (tail_packet (flit_out v d.round (local_port v.site.grid))) (unsunk d v)
 
-pub committed-parts : (d : Decisions) (v : View) → committed d v ≡ sunk d v (turned_and_closed d (counted_and_shown d (unsunk d v)))
-unfolding committed
+pub committed-parts : (d : Decisions) (v : View) → view_after_commit d v ≡ sunk d v (turned_and_closed d (counted_and_shown d (unsunk d v)))
+unfolding view_after_commit
 committed-parts d v = arrival-is (tail_packet (flit_out v d.round (local_port v.site.grid))) (turned_and_closed d (counted_and_shown d (unsunk d v)))
 
-pub settled-site : (d : Decisions) (v : View) → (settled d v).site ≡ v.site
+pub settled-site : (d : Decisions) (v : View) → (view_after_verdicts d v).site ≡ v.site
 settled-site d v = ap (λ (x : View). x.site) (settled-parts d v)
 
-pub committed-site : (d : Decisions) (v : View) → (committed d v).site ≡ v.site
+pub committed-site : (d : Decisions) (v : View) → (view_after_commit d v).site ≡ v.site
 committed-site d v = ap (λ (x : View). x.site) (committed-parts d v)
 
 -- the pointers are these, and the cycle ends
-abbrev pub closed_with : Turns → View → View
+abbrev pub closed_with : ArbiterStates → View → View
 closed_with turns v = record v { arbiters = turns; last_event = (if v.had_event then Some v.given else v.last_event); had_event = false }
 
 -- what is counted, settled, turned and closed is committed, but for the findings
-pub committed-is : (d : Decisions) (v : View) → closed_with (arbiters_after d.round v.arbiters) (settled d (tallied d v)) ≡ record (committed d v) { findings = v.findings }
-committed-is d v = ap (closed_with (arbiters_after d.round v.arbiters)) (settled-parts d (tallied d v)) ∙ sym (ap (λ (x : View). record x { findings = v.findings }) (committed-parts d v))
+pub committed-is : (d : Decisions) (v : View) → closed_with (arbiters_after d.round v.arbiters) (view_after_verdicts d (view_after_tally d v)) ≡ record (view_after_commit d v) { findings = v.findings }
+committed-is d v = ap (closed_with (arbiters_after d.round v.arbiters)) (settled-parts d (view_after_tally d v)) ∙ sym (ap (λ (x : View). record x { findings = v.findings }) (committed-parts d v))
 
--- .. which are those of the plan
-pub committed-shown : (d : Decisions) (v : View) → record (committed d v) { findings = d.findings } ≡ committed d v
+-- the findings after a commit are those of the plan
+pub committed-shown : (d : Decisions) (v : View) → record (view_after_commit d v) { findings = d.findings } ≡ view_after_commit d v
 committed-shown d v = ap (λ (x : View). record x { findings = d.findings }) (committed-parts d v) ∙ sym (committed-parts d v)
 
 -- ---- a take at each port
 pub taken-more : (relation : Routes) (port : ℕ) (beats : List Beat) (none : Beat) (v : View) (all : View) → port < length beats
-    → taken_from relation port (drop port beats) v ≡ all → taken_from relation (port + 1) (drop (port + 1) beats) (taken relation port (get_or beats port none) v) ≡ all
-taken-more relation port beats none v all l so_far = sym (at_drop_more (λ bs. taken_from relation port bs v) beats port none l) ∙ so_far
+    → view_after_takes_from relation port (drop port beats) v ≡ all → view_after_takes_from relation (port + 1) (drop (port + 1) beats) (view_after_take relation port (get_or beats port none) v) ≡ all
+taken-more relation port beats none v all l so_far = sym (at_drop_more (λ bs. view_after_takes_from relation port bs v) beats port none l) ∙ so_far
 
-pub taken-all : (relation : Routes) (port : ℕ) (beats : List Beat) (v : View) (all : View) → length beats ≤ port → taken_from relation port (drop port beats) v ≡ all → v ≡ all
-taken-all relation port beats v all l so_far = ap (λ bs. taken_from relation port bs v) (sym (drop_all port beats l)) ∙ so_far
+pub taken-all : (relation : Routes) (port : ℕ) (beats : List Beat) (v : View) (all : View) → length beats ≤ port → view_after_takes_from relation port (drop port beats) v ≡ all → v ≡ all
+taken-all relation port beats v all l so_far = ap (λ bs. view_after_takes_from relation port bs v) (sym (drop_all port beats l)) ∙ so_far
 
 -- ---- a put at each port
 -- the beats before this port are put, the others are not
@@ -152,7 +152,7 @@ put-first v n beats c b = record {
   out = λ k l. absurd (omega arith);
 }
 
-pub put-more : (v w new : View) (n port : ℕ) (beats beats' : List Beat) (beat : Beat) → ArePut v w n port beats → port < n → new ≡ put port w → beat ≡ get_or w.to_put port idle_beat → beats' ≡ set beats port beat → ArePut v new n (port + 1) beats'
+pub put-more : (v w new : View) (n port : ℕ) (beats beats' : List Beat) (beat : Beat) → ArePut v w n port beats → port < n → new ≡ view_after_put port w → beat ≡ get_or w.to_put port idle_beat → beats' ≡ set beats port beat → ArePut v new n (port + 1) beats'
 put-more v w new n port beats beats' beat so_far l is one written = let P : View → Type 0 = λ x. ArePut v x n (port + 1) beats' in subst P (sym is) (record {
   others = ap (λ (x : View). record x { to_put = set w.to_put port idle_beat }) so_far.others;
   count = so_far.count;

@@ -15,7 +15,7 @@ use Rattle.noc_vc.specs.declared.input.InputState.TheVariants.{Idle, Waiting, Ac
 use Rattle.noc_router.specs.declared.channels.Standing.{Standing}
 use Rattle.noc_router.specs.declared.router.Router.TheInside.{Inside}
 use Rattle.noc_router.specs.Inside.{IsRouter, view_of}
-use Rattle.noc_router.specs.Sound.{AreStanding, asked_in, input_at, output_at}
+use Rattle.noc_router.specs.Sound.{AreStanding, asked_in, nth_input, nth_output}
 use Rattle.noc_router.specs.Standing.{AreHeads, IsStanding}
 use Rattle.noc_router.specs.Verdict.{Stand, ask_of, asks_of, ready_of, ready_port}
 use Rattle.noc_router.specs.View.{View, claim_in, first_flit, route_for, route_of, size_of, view_buffer, view_claim, view_input, view_stand, view_stands}
@@ -49,13 +49,13 @@ head-route relation v set i heads l here =
 
 ask_in : (r : Inside) (phase : InputState) → IsRouter r → asked_in r.channels.size r.channels.outputs.items phase ≡ ask_of (claim_in (view_of r) phase)
 ask_in r Idle is = refl
-ask_in r (Waiting set) is = ap (λ n. find (λ o. has_bit set o && is_free (output_at r.channels.outputs.items o).holder) (below n)) (is.channels ∙ ap (λ p. p * r.vcs) is.ports)
+ask_in r (Waiting set) is = ap (λ n. find (λ o. has_bit set o && is_free (nth_output r.channels.outputs.items o).holder) (below n)) (is.channels ∙ ap (λ p. p * r.vcs) is.ports)
 ask_in r (Active o) is = refl
 
 -- what a channel asks for, by the channels of a router
 pub asked-view : (r : Inside) (v : View) (i : ℕ) (x : Option ℕ) → view_of r ≡ v → IsRouter r
-    → x ≡ asked_in r.channels.size r.channels.outputs.items (input_at r.channels.inputs.items i).phase → x ≡ ask_of (view_claim v i)
-asked-view r v i x view is asked = asked ∙ subst (λ w. asked_in r.channels.size r.channels.outputs.items (input_at r.channels.inputs.items i).phase ≡ ask_of (view_claim w i)) view (ask_in r (input_at r.channels.inputs.items i).phase is)
+    → x ≡ asked_in r.channels.size r.channels.outputs.items (nth_input r.channels.inputs.items i).phase → x ≡ ask_of (view_claim v i)
+asked-view r v i x view is asked = asked ∙ subst (λ w. asked_in r.channels.size r.channels.outputs.items (nth_input r.channels.inputs.items i).phase ≡ ask_of (view_claim w i)) view (ask_in r (nth_input r.channels.inputs.items i).phase is)
 
 -- the output port of an output channel
 pub port-below : (r : Inside) (o : ℕ) → IsRouter r → nat_lt o r.channels.size ≡ true → o / r.indices.vcs < r.ports

@@ -5,7 +5,7 @@ use Rattle.noc_topo.specs.Words.{below, tabulate, map_indexed, least_by}
 use Rattle.noc_packet.specs.declared.packet.Beat.{Beat}
 use Rattle.noc_route.specs.Routes.{Routes}
 use Rattle.noc_router.specs.Verdict.{first_in_turn}
-use Rattle.noc_router.specs.View.{View, taken, all_taken, injected, view_round, planned, committed, local_step, opening_view, idle_beat, counted}
+use Rattle.noc_router.specs.View.{View, view_after_take, view_after_takes, view_after_inject, view_round, decisions_of, view_after_commit, local_step, opening_view, idle_beat, counts_after}
 use Rattle.noc_router.specs.declared.verdict.Verdict.TheVariants.{Empty, Moved}
 use Rattle.noc_router.specs.declared.verdict.Finding.{Finding}
 
@@ -18,7 +18,7 @@ one_channel = record {
   sets = replicate 3 4 ++ replicate 3 1 ++ replicate 3 2 ++ replicate 3 4;
 }
 
--- .. two virtual channels, at the six input channels
+-- two nodes in a line with two virtual channels: the set at the six input channels
 abbrev pub two_channels : Routes
 two_channels = record {
   grid = record { wraps = false; radix = 2 ∷ [] };
@@ -29,7 +29,7 @@ two_channels = record {
 
 -- to open it is to open all that a step is computed by
 unfoldable pub view_after : Routes → View → List Beat → ℕ → View
-unfolding below tabulate map_indexed least_by first_in_turn taken all_taken injected view_round planned committed local_step
+unfolding below tabulate map_indexed least_by first_in_turn view_after_take view_after_takes view_after_inject view_round decisions_of view_after_commit local_step
 view_after relation v beats n = (local_step relation v beats n).0
 
 -- router 0 of the line, one place in each buffer, no packets
@@ -76,7 +76,7 @@ unfolding view_after
 by_itself-counts = refl
 
 -- counts that add up to the greatest number of 64 bits stay
-counted-greatest : counted Moved ((2 ^ 64 - 4) ∷ 1 ∷ 1 ∷ 1 ∷ replicate 6 0) ≡ (2 ^ 64 - 4) ∷ 1 ∷ 1 ∷ 1 ∷ replicate 6 0
+counted-greatest : counts_after Moved ((2 ^ 64 - 4) ∷ 1 ∷ 1 ∷ 1 ∷ replicate 6 0) ≡ (2 ^ 64 - 4) ∷ 1 ∷ 1 ∷ 1 ∷ replicate 6 0
 counted-greatest = refl
 
 -- a packet that was built to end here comes twice: its first arrival stays, and the second is a misfit

@@ -10,18 +10,18 @@ use Rattle.noc_topo.specs.Words.{below, tabulate, map_indexed, is_some_of}
 use Rattle.noc_topo.specs.Shape.{ports, local_port}
 use Rattle.noc_topo.proofs.WordLemmas.{get_or-map_indexed, get_or-tabulate, length-map_indexed, length-tabulate, map_indexed-from_each, tabulate-from_each}
 use Rattle.noc_route.specs.Routes.{Routes}
-use Rattle.noc_alloc.specs.Arbiter.{Turn, turned}
-use Rattle.noc_alloc.specs.Allocation.{has_won, turned_by, winning_pick, winner_of, picked_port}
+use Rattle.noc_alloc.specs.Arbiter.{RoundRobin, arbiter_after}
+use Rattle.noc_alloc.specs.Allocation.{has_won, arbiters_after_winners, winning_pick, winner_of, picked_port}
 use Rattle.noc_alloc.proofs.ArbiterLemmas.{first_in_turn-picks}
 use Rattle.noc_alloc.proofs.WordLemmas.{is_some_of-true}
 use Rattle.noc_vc.specs.Input.{idle_input}
 use Rattle.noc_vc.specs.Output.{ejection_output}
 use Rattle.noc_packet.specs.Set.{has_bit}
-use Rattle.noc_router.specs.Settled.{outcome_verdict}
+use Rattle.noc_router.specs.Settled.{planned_verdict}
 use Rattle.noc_router.specs.Still.{takes_effect}
 use Rattle.noc_router.specs.Tally.{empty_finding, finding_at}
 use Rattle.noc_router.specs.Verdict.{arbiters_after, is_event, is_moved, out_of, pointers_of, ready_of}
-use Rattle.noc_router.specs.View.{View, Decisions, Outcome, outcome, finding_of, beat_out, buffer_after, committed, counted, decided_verdict, first_flit, flit_out, has_event, held_by, idle_beat, idle_beats, input_after, mover, mover_to, output_after, planned, size_of, spent_by, view_claim, view_round, view_stands}
+use Rattle.noc_router.specs.View.{View, Decisions, PlanContents, plan_contents, finding_of, beat_out, buffer_after, view_after_commit, counts_after, decided_verdict, first_flit, flit_out, has_event, held_by, idle_beat, idle_beats, input_after, mover, mover_to, output_after, decisions_of, size_of, spent_by, view_claim, view_round, view_stands}
 use Rattle.noc_router.specs.declared.verdict.Verdict.{Verdict}
 use Rattle.noc_router.specs.declared.verdict.Verdict.TheVariants.{Empty, Granted, Moved}
 use Rattle.noc_router.specs.declared.verdict.Finding.{Finding}
@@ -54,14 +54,14 @@ module _ (d : Decisions) (v : View) (no_grant : (o : ℕ) → get_or d.round.gra
 
   arbiters-stay : arbiters_after d.round v.arbiters ≡ v.arbiters
   arbiters-stay =
-      let start : Turn = record { size = 0; pointer = 0 } in
-      let channels : turned_by (λ o. get_or d.round.grants o None) v.arbiters.channels ≡ v.arbiters.channels =
-      map_indexed-same (λ o (t : Turn). turned t (get_or d.round.grants o None)) v.arbiters.channels start (λ o t. ap (turned t) (no_grant o)) in
-      let inputs : turned_by (winning_pick d.round.picks d.round.wins) v.arbiters.inputs ≡ v.arbiters.inputs =
-      map_indexed-same (λ q (t : Turn). turned t (winning_pick d.round.picks d.round.wins q)) v.arbiters.inputs start
-      (λ q t. ap (λ b. turned t (if b then get_or d.round.picks q None else None)) (nobody-has_won d.round.wins q no_win)) in
-      let outputs : turned_by (λ port. get_or d.round.wins port None) v.arbiters.outputs ≡ v.arbiters.outputs =
-      map_indexed-same (λ port (t : Turn). turned t (get_or d.round.wins port None)) v.arbiters.outputs start (λ port t. ap (turned t) (no_win port)) in
+      let start : RoundRobin = record { size = 0; pointer = 0 } in
+      let channels : arbiters_after_winners (λ o. get_or d.round.grants o None) v.arbiters.channels ≡ v.arbiters.channels =
+      map_indexed-same (λ o (t : RoundRobin). arbiter_after t (get_or d.round.grants o None)) v.arbiters.channels start (λ o t. ap (arbiter_after t) (no_grant o)) in
+      let inputs : arbiters_after_winners (winning_pick d.round.picks d.round.wins) v.arbiters.inputs ≡ v.arbiters.inputs =
+      map_indexed-same (λ q (t : RoundRobin). arbiter_after t (winning_pick d.round.picks d.round.wins q)) v.arbiters.inputs start
+      (λ q t. ap (λ b. arbiter_after t (if b then get_or d.round.picks q None else None)) (nobody-has_won d.round.wins q no_win)) in
+      let outputs : arbiters_after_winners (λ port. get_or d.round.wins port None) v.arbiters.outputs ≡ v.arbiters.outputs =
+      map_indexed-same (λ port (t : RoundRobin). arbiter_after t (get_or d.round.wins port None)) v.arbiters.outputs start (λ port t. ap (arbiter_after t) (no_win port)) in
       rw (channels, inputs, outputs) refl
 
   buffers-stay : map_indexed (λ i flits. buffer_after flits (decided_verdict d i)) v.buffers ≡ v.buffers
@@ -88,8 +88,8 @@ module _ (d : Decisions) (v : View) (no_grant : (o : ℕ) → get_or d.round.gra
   no_event-more = ap (λ b. v.had_event || b) quiet ∙ or-false v.had_event
 
   -- they are counted, and nothing else changes
-  pub quiet-committed : committed d v ≡ record v {
-    counts = map_indexed (λ i counts. counted (decided_verdict d i) counts) v.counts;
+  pub quiet-committed : view_after_commit d v ≡ record v {
+    counts = map_indexed (λ i counts. counts_after (decided_verdict d i) counts) v.counts;
     findings = d.findings;
     to_put = idle_beats v.site;
     last_event = if v.had_event then Some v.given else v.last_event;
@@ -99,53 +99,53 @@ module _ (d : Decisions) (v : View) (no_grant : (o : ℕ) → get_or d.round.gra
 
 -- ---- whether a verdict takes effect, channel by channel
 -- the verdicts of the outcome are those of the decisions
-verdicts-planned : (relation : Routes) (v : View) (k : ℕ) → outcome_verdict (outcome relation v) k ≡ decided_verdict (planned relation v) k
-unfolding outcome planned
+verdicts-planned : (relation : Routes) (v : View) (k : ℕ) → planned_verdict (plan_contents relation v) k ≡ decided_verdict (decisions_of relation v) k
+unfolding plan_contents decisions_of
 verdicts-planned relation v k = sym (ap (λ xs. get_or xs k Empty) (map-tabulate (λ (f : Finding). f.verdict) (size_of v.site) (finding_of (view_round v) v)))
 
--- .. and so is what is counted by them
-pub counted-planned : (relation : Routes) (v : View) (p : Outcome) → p ≡ outcome relation v → (count : Verdict → List ℕ → List ℕ) (counts : List (List ℕ))
-    → map_indexed (λ i one. count (outcome_verdict p i) one) counts ≡ map_indexed (λ i one. count (decided_verdict (planned relation v) i) one) counts
+-- what is counted by the verdicts of the outcome is what is counted by the decisions
+pub counted-planned : (relation : Routes) (v : View) (p : PlanContents) → p ≡ plan_contents relation v → (count : Verdict → List ℕ → List ℕ) (counts : List (List ℕ))
+    → map_indexed (λ i one. count (planned_verdict p i) one) counts ≡ map_indexed (λ i one. count (decided_verdict (decisions_of relation v) i) one) counts
 counted-planned relation v p is count counts =
-    let f : ℕ → List ℕ → List ℕ = λ i one. count (outcome_verdict p i) one in
-    map_indexed-from_each (λ i one. count (decided_verdict (planned relation v) i) one) counts (map_indexed f counts) [] [] (length-map_indexed f counts)
+    let f : ℕ → List ℕ → List ℕ = λ i one. count (planned_verdict p i) one in
+    map_indexed-from_each (λ i one. count (decided_verdict (decisions_of relation v) i) one) counts (map_indexed f counts) [] [] (length-map_indexed f counts)
     (λ i l. get_or-map_indexed f counts i [] [] l
-    ∙ ap (λ x. count x (get_or counts i [])) (ap (λ (x : Outcome). outcome_verdict x i) is ∙ verdicts-planned relation v i))
+    ∙ ap (λ x. count x (get_or counts i [])) (ap (λ (x : PlanContents). planned_verdict x i) is ∙ verdicts-planned relation v i))
 
-no_effect : (relation : Routes) (v : View) → ((k : ℕ) → is_event (decided_verdict (planned relation v) k) ≡ false) → takes_effect relation v ≡ false
+no_effect : (relation : Routes) (v : View) → ((k : ℕ) → is_event (decided_verdict (decisions_of relation v) k) ≡ false) → takes_effect relation v ≡ false
 no_effect relation v none =
-    let findings = (planned relation v).findings in
+    let findings = (decisions_of relation v).findings in
     list_any_none (λ (f : Finding). is_event f.verdict) findings
     (λ i d l. ap is_event (sym (get_or-map (λ (f : Finding). f.verdict) findings i d Empty l)) ∙ none i)
 
 -- ---- the decisions of a view
 module _ (relation : Routes) (v : View) (off : takes_effect relation v ≡ false) where
-  lists : Lists (planned relation v) v
+  lists : Lists (decisions_of relation v) v
   lists = lists_of_round relation v
 
-  pub still-verdict : (i : ℕ) → is_event (decided_verdict (planned relation v) i) ≡ false
+  pub still-verdict : (i : ℕ) → is_event (decided_verdict (decisions_of relation v) i) ≡ false
   still-verdict i = at (cases_lt i (length findings))
     where
       findings : List Finding
-      findings = (planned relation v).findings
+      findings = (decisions_of relation v).findings
 
       event : (b : Bool) → is_event (finding_at findings i).verdict ≡ b → i < length findings → b ≡ false
       event false e l = refl
       event true e l = absurd (false≢true (sym off ∙ list_any_at (λ (f : Finding). is_event f.verdict) findings i empty_finding l e))
 
-      at : (i < length findings) ⊎ (length findings ≤ i) → is_event (decided_verdict (planned relation v) i) ≡ false
-      at (inl l) = ap is_event (verdict-at (planned relation v) i l) ∙ event (is_event (finding_at findings i).verdict) refl l
+      at : (i < length findings) ⊎ (length findings ≤ i) → is_event (decided_verdict (decisions_of relation v) i) ≡ false
+      at (inl l) = ap is_event (verdict-at (decisions_of relation v) i l) ∙ event (is_event (finding_at findings i).verdict) refl l
       at (inr u) = ap is_event (get_or_past (map (λ (f : Finding). f.verdict) findings) i Empty (omega (arith, length-map findings (λ (f : Finding). f.verdict))))
 
   -- no channel has a verdict that takes effect
-  no_verdict : (i : ℕ) (x : Verdict) → i < size_of v.site → verdict_in (planned relation v) v i ≡ x → is_event x ≡ false
-  no_verdict i x l e = sym (ap is_event (decided-is (planned relation v) v i lists l ∙ e)) ∙ still-verdict i
+  no_verdict : (i : ℕ) (x : Verdict) → i < size_of v.site → verdict_in (decisions_of relation v) v i ≡ x → is_event x ≡ false
+  no_verdict i x l e = sym (ap is_event (decided-is (decisions_of relation v) v i lists l ∙ e)) ∙ still-verdict i
 
-  still-grants : (o : ℕ) → get_or (planned relation v).round.grants o None ≡ None
+  still-grants : (o : ℕ) → get_or (decisions_of relation v).round.grants o None ≡ None
   still-grants o = at (cases_lt o (size_of v.site))
     where
       d : Decisions
-      d = planned relation v
+      d = decisions_of relation v
 
       named : o < size_of v.site → (grant : Option ℕ) → get_or d.round.grants o None ≡ grant → grant ≡ None
       named l None e = refl
@@ -157,11 +157,11 @@ module _ (relation : Routes) (v : View) (off : takes_effect relation v ≡ false
       at (inl l) = named l (get_or d.round.grants o None) refl
       at (inr u) = get_or_past d.round.grants o None (let n : length d.round.grants ≡ size_of v.site = ap length lists.grants ∙ length-tabulate (size_of v.site) _ in omega arith)
 
-  still-wins : (port : ℕ) → get_or (planned relation v).round.wins port None ≡ None
+  still-wins : (port : ℕ) → get_or (decisions_of relation v).round.wins port None ≡ None
   still-wins port = at (cases_lt port (ports v.site.grid))
     where
       d : Decisions
-      d = planned relation v
+      d = decisions_of relation v
 
       ready : List (Option ℕ)
       ready = ready_of v.site.vcs (view_stands v)
@@ -192,22 +192,22 @@ module _ (relation : Routes) (v : View) (off : takes_effect relation v ≡ false
       at (inr u) = get_or_past d.round.wins port None (let n : length d.round.wins ≡ ports v.site.grid = ap length lists.wins ∙ length-tabulate (ports v.site.grid) _ in omega arith)
 
   -- a cycle in which no verdict takes effect counts the verdicts, and leaves all else as it is
-  pub still-committed : committed (planned relation v) v ≡ record v {
-    counts = map_indexed (λ i counts. counted (decided_verdict (planned relation v) i) counts) v.counts;
-    findings = (planned relation v).findings;
+  pub still-committed : view_after_commit (decisions_of relation v) v ≡ record v {
+    counts = map_indexed (λ i counts. counts_after (decided_verdict (decisions_of relation v) i) counts) v.counts;
+    findings = (decisions_of relation v).findings;
     to_put = idle_beats v.site;
     last_event = if v.had_event then Some v.given else v.last_event;
     had_event = false;
   }
-  still-committed = quiet-committed (planned relation v) v still-grants still-wins still-verdict off
+  still-committed = quiet-committed (decisions_of relation v) v still-grants still-wins still-verdict off
 
 -- no verdict takes effect where no channel has one that does
-pub still-is : (relation : Routes) (v : View) (p : Outcome) (events : ℕ) (b : Bool) → p ≡ outcome relation v → ((k : ℕ) → has_bit events k ≡ is_event (outcome_verdict p k))
+pub still-is : (relation : Routes) (v : View) (p : PlanContents) (events : ℕ) (b : Bool) → p ≡ plan_contents relation v → ((k : ℕ) → has_bit events k ≡ is_event (planned_verdict p k))
     → (b ≡ true → (k : ℕ) → has_bit events k ≡ false) → (((k : ℕ) → has_bit events k ≡ false) → b ≡ true) → b ≡ not (takes_effect relation v)
 still-is relation v p events b is each none all = at (takes_effect relation v) refl b refl
   where
-    event : (k : ℕ) → has_bit events k ≡ is_event (decided_verdict (planned relation v) k)
-    event k = each k ∙ ap (λ (x : Outcome). is_event (outcome_verdict x k)) is ∙ ap is_event (verdicts-planned relation v k)
+    event : (k : ℕ) → has_bit events k ≡ is_event (decided_verdict (decisions_of relation v) k)
+    event k = each k ∙ ap (λ (x : PlanContents). is_event (planned_verdict x k)) is ∙ ap is_event (verdicts-planned relation v k)
 
     at : (effect : Bool) → takes_effect relation v ≡ effect → (answer : Bool) → b ≡ answer → b ≡ not (takes_effect relation v)
     at false e answer same = all (λ k. event k ∙ still-verdict relation v e k) ∙ sym (ap not e)

@@ -14,12 +14,12 @@ use Rattle.noc_vc.specs.Input.{is_active}
 use Rattle.noc_vc.specs.declared.input.InputState.{InputState}
 use Rattle.noc_vc.specs.declared.input.InputState.TheVariants.{Idle, Waiting, Active}
 use Rattle.noc_alloc.specs.Allocation.{is_won_by, pick_of, picked_port, winner_of}
-use Rattle.noc_alloc.specs.Arbiter.{Turn, pointers_of, turn_at}
-use Rattle.noc_router.specs.Offers.{farther, nearer, offered}
+use Rattle.noc_alloc.specs.Arbiter.{RoundRobin, pointers_of, arbiter_at}
+use Rattle.noc_router.specs.Offers.{farther, nearer, firsts_after_request}
 use Rattle.noc_alloc.proofs.ArbiterLemmas.{first_in_turn-none, first_in_turn-picks, IsNearest, nearest-is}
 use Rattle.noc_router.proofs.OfferLemmas.{AllNearest, both_lacks, nearest-none, nearest-offered, nearest-up_to}
 use Rattle.noc_alloc.proofs.WordLemmas.{is_some_of-true, is_some_of-some}
-use Rattle.noc_router.specs.Asked.{picks_on, turns_in, wins_on}
+use Rattle.noc_router.specs.Asked.{picks_on, arbiter_states_in, wins_on}
 use Rattle.noc_router.specs.declared.router.Router.TheInside.{Inside}
 use Rattle.noc_router.specs.Inside.{IsRouter, view_of}
 use Rattle.noc_router.specs.Members.{AreBelow}
@@ -35,7 +35,7 @@ use Rattle.noc_router.proofs.WayLemmas.{ready-members, ready-way}
 abbrev pub pick_on : View → ℕ → Option ℕ
 pick_on v q = pick_of (ready_of v.site.vcs (view_stands v)) v.site.vcs (pointers_of v.arbiters.inputs) q
 
--- .. and the output port to which it goes
+-- the output port to which the pick of an input port goes
 abbrev pub way_on : View → ℕ → Option ℕ
 way_on v q = picked_port (ready_of v.site.vcs (view_stands v)) v.site.vcs (tabulate (ports v.site.grid) (pick_on v)) q
 
@@ -60,7 +60,7 @@ pick-ready v ready q c are e =
     let r = first_in_turn-picks v.site.vcs (slice_index (pointers_of v.arbiters.inputs) q) c (λ x. is_some (get_or (ready_of v.site.vcs (view_stands v)) (q * v.site.vcs + x) None)) e in
     (r.1, ready-members v ready are (q * v.site.vcs + c) ∙ r.0)
 
--- .. and goes where its channel sends
+-- a pick goes where its channel sends
 pub way-pick : (v : View) (ready q c : ℕ) → AreReady v ready → q < ports v.site.grid → pick_on v q ≡ Some c → way_on v q ≡ way_of v (q * v.site.vcs + c)
 way-pick v ready q c are l e =
     let i : ℕ = q * v.site.vcs + c in
@@ -208,7 +208,7 @@ module _ (vcs q c o : ℕ) (way : ℕ → Option ℕ) (picks wins : List (Option
       (λ k e goes. ap (λ b. b || not (is_some_of (get_or wins o None) (k / vcs))) (ne_eqb k (q * vcs + c) (not_own k e)) ∙ ap (λ w. not (is_some_of w (k / vcs))) held)
       (λ k e. inl (eqb-true k (q * vcs + c) e))
 
-  -- .. or loses it
+  -- who has won it so far loses it
   lost-taken : (h : ℕ) → get_or wins o None ≡ Some h → (holder : IsHolder vcs q o way picks picked h)
       → (k : ℕ) → (is_loser (Some holder.channel) k || has_bit lost k) ≡ (has_bit more k && not (is_won_by (set wins o (Some q)) (k / vcs) (way k)))
   lost-taken h held holder =
@@ -341,19 +341,19 @@ allocated-none v q picks wins picked lost l long e so_far =
     subst (λ xs. IsAllocated v (q + 1) xs wins picked lost) (sym same)
     (allocated-to v q (q + 1) picks wins picked lost (omega arith) (omega arith) (λ j lj uj. let is : j ≡ q = omega arith in ap (pick_on v) is ∙ e) so_far)
 
--- .. or somebody, to whose output port it is offered
+-- an input port picks somebody, to whose output port it is offered
 pub allocated-next : (v : View) (ready q c o : ℕ) (picks wins : List (Option ℕ)) (picked more lost less : ℕ) → AreReady v ready → 0 < v.site.vcs → q < ports v.site.grid
-    → length picks ≡ ports v.site.grid → length wins ≡ length v.arbiters.outputs → All (λ (t : Turn). t.size ≡ ports v.site.grid) v.arbiters.outputs → o < length v.arbiters.outputs
+    → length picks ≡ ports v.site.grid → length wins ≡ length v.arbiters.outputs → All (λ (t : RoundRobin). t.size ≡ ports v.site.grid) v.arbiters.outputs → o < length v.arbiters.outputs
     → pick_on v q ≡ Some c → way_of v (q * v.site.vcs + c) ≡ Some o
     → ((k : ℕ) → has_bit more k ≡ (nat_eq k (q * v.site.vcs + c) || has_bit picked k))
-    → ((k : ℕ) → has_bit less k ≡ (is_loser (option_and_then (pick_in v.site.vcs (set picks q (Some c))) (farther (turn_at v.arbiters.outputs o).pointer (get_or wins o None) q)) k || has_bit lost k))
-    → IsAllocated v q picks wins picked lost → IsAllocated v (q + 1) (set picks q (Some c)) (offered v.arbiters.outputs o q wins) more less
+    → ((k : ℕ) → has_bit less k ≡ (is_loser (option_and_then (pick_in v.site.vcs (set picks q (Some c))) (farther (arbiter_at v.arbiters.outputs o).pointer (get_or wins o None) q)) k || has_bit lost k))
+    → IsAllocated v q picks wins picked lost → IsAllocated v (q + 1) (set picks q (Some c)) (firsts_after_request v.arbiters.outputs o q wins) more less
 allocated-next v ready q c o picks wins picked more lost less are some l long as_long sizes inside e goes members losers so_far = record {
   picks_are = subst (λ x. (k : ℕ) → k < ports v.site.grid → get_or (set picks q x) k None ≡ (if nat_lt k (q + 1) then pick_on v k else None)) e (picks-more v q picks l long so_far.picks_are);
   wins_are = nearest-offered (ports v.site.grid) q v.arbiters.outputs (way_on v) wins o (way-pick v ready q c are l e ∙ goes) l as_long sizes inside so_far.wins_are;
   below = below-more (size_of v.site) picked more (q * v.site.vcs + c) here members so_far.below;
   picked_are = picked-more v q c picks picked more few (omega arith) (unpicked v q q picks wins picked lost (omega arith) l so_far) members so_far.picked_are;
-  lost_are = λ k. losers k ∙ lost-next v.site.vcs q c o (way_of v) (set picks q (Some c)) wins picked more lost one (turn_at v.arbiters.outputs o).pointer holders k;
+  lost_are = λ k. losers k ∙ lost-next v.site.vcs q c o (way_of v) (set picks q (Some c)) wins picked more lost one (arbiter_at v.arbiters.outputs o).pointer holders k;
 }
   where
     few : c < v.site.vcs
@@ -508,7 +508,7 @@ picks-below v ready next picks wins picked lost are long so_far k d l x e = at (
     at true pick = (pick-ready v ready k x are pick).0
     at false none = absurd (cc none)
 
--- .. of those that are ready
+-- each pick is one of those that are ready
 pub picked-among : (v : View) (ready : ℕ) (picks wins : List (Option ℕ)) (picked lost : ℕ) → AreReady v ready → 0 < v.site.vcs → IsAllocated v (ports v.site.grid) picks wins picked lost → AreAmong ready picked
 picked-among v ready picks wins picked lost are some so_far k e =
     let own = owner-of v (ports v.site.grid) picks wins picked lost some so_far k e in
@@ -543,7 +543,7 @@ kept-won lost false won less e is = is ∙ ap (λ b. not b && false) e
 pub record IsSized (v : View) : Type 0 where
   pub some : 0 < v.site.vcs
   pub each : length v.arbiters.outputs ≡ ports v.site.grid
-  pub sizes : All (λ (t : Turn). t.size ≡ ports v.site.grid) v.arbiters.outputs
+  pub sizes : All (λ (t : RoundRobin). t.size ≡ ports v.site.grid) v.arbiters.outputs
 
 pub sized-view : (r : Inside) (v : View) → view_of r ≡ v → IsRouter r → IsSized v
 sized-view r v view is =
@@ -552,7 +552,7 @@ sized-view r v view is =
     (record {
       some = is.some_vc;
       each = omega (arith, r.arbiters.outputs.ok.0, r.arbiters.one_each_output);
-      sizes = subst (λ n. All (λ (t : Turn). t.size ≡ n) r.arbiters.outputs.items) same r.arbiters.over_ports;
+      sizes = subst (λ n. All (λ (t : RoundRobin). t.size ≡ n) r.arbiters.outputs.items) same r.arbiters.over_ports;
     })
 
 -- the input port of the first of the rest
@@ -602,10 +602,10 @@ active_way vcs (Waiting set) e = absurd (false≢true e)
 active_way vcs (Active o) e = (o / vcs, refl)
 
 pub pick-view : (r : Inside) (v : View) (q : ℕ) (pick : Option ℕ) → view_of r ≡ v → IsRouter r
-    → pick ≡ pick_of (ready_of v.site.vcs (view_stands v)) r.arbiters.vcs (pointers_of (turns_in r.arbiters).inputs) q → pick ≡ pick_on v q
+    → pick ≡ pick_of (ready_of v.site.vcs (view_stands v)) r.arbiters.vcs (pointers_of (arbiter_states_in r.arbiters).inputs) q → pick ≡ pick_on v q
 pick-view r v q pick view is e =
     let vcs : r.arbiters.vcs ≡ v.site.vcs = is.arbiter_vcs ∙ ap (λ (w : View). w.site.vcs) view in
-    e ∙ ap (λ n. pick_of (ready_of v.site.vcs (view_stands v)) n (pointers_of (turns_in r.arbiters).inputs) q) vcs
+    e ∙ ap (λ n. pick_of (ready_of v.site.vcs (view_stands v)) n (pointers_of (arbiter_states_in r.arbiters).inputs) q) vcs
     ∙ ap (λ (w : View). pick_of (ready_of v.site.vcs (view_stands v)) v.site.vcs (pointers_of w.arbiters.inputs) q) view
 
 pub at-pick : (r : Inside) (v : View) (ready q vc : ℕ) → view_of r ≡ v → IsRouter r → AreReady v ready → pick_on v q ≡ Some vc → AtPick r v q vc
@@ -629,15 +629,15 @@ at-pick r v ready q vc view is are pick =
 -- its output port is offered to the input port, and one of two picks loses it
 pub allocated-offered : (r : Inside) (v : View) (ready q c : ℕ) (picks wins before ps ws : List (Option ℕ)) (picked more lost less : ℕ) (result : Option ℕ) → view_of r ≡ v → IsRouter r → AreReady v ready → q < ports v.site.grid
     → length picks ≡ ports v.site.grid → length wins ≡ ports v.site.grid → (at : AtPick r v q c) → at.out < ports v.site.grid
-    → before ≡ set picks q (Some c) → ps ≡ before → ws ≡ offered v.arbiters.outputs at.out q wins
-    → result ≡ option_and_then (pick_in v.site.vcs before) (farther (turn_at v.arbiters.outputs at.out).pointer (get_or wins at.out None) q)
+    → before ≡ set picks q (Some c) → ps ≡ before → ws ≡ firsts_after_request v.arbiters.outputs at.out q wins
+    → result ≡ option_and_then (pick_in v.site.vcs before) (farther (arbiter_at v.arbiters.outputs at.out).pointer (get_or wins at.out None) q)
     → ((k : ℕ) → has_bit more k ≡ (nat_eq k (q * r.vcs + c) || has_bit picked k)) → ((k : ℕ) → has_bit less k ≡ (is_loser result k || has_bit lost k))
     → IsAllocated v q picks wins picked lost → IsAllocated v (q + 1) ps ws more less
 allocated-offered r v ready q c picks wins before ps ws picked more lost less result view is are l long as_long at inside now later won loses members losers so_far =
     let sized = sized-view r v view is in
-    let same_loser : result ≡ option_and_then (pick_in v.site.vcs (set picks q (Some c))) (farther (turn_at v.arbiters.outputs at.out).pointer (get_or wins at.out None) q) =
-    loses ∙ ap (λ xs. option_and_then (pick_in v.site.vcs xs) (farther (turn_at v.arbiters.outputs at.out).pointer (get_or wins at.out None) q)) now in
-    let after : IsAllocated v (q + 1) (set picks q (Some c)) (offered v.arbiters.outputs at.out q wins) more less =
+    let same_loser : result ≡ option_and_then (pick_in v.site.vcs (set picks q (Some c))) (farther (arbiter_at v.arbiters.outputs at.out).pointer (get_or wins at.out None) q) =
+    loses ∙ ap (λ xs. option_and_then (pick_in v.site.vcs xs) (farther (arbiter_at v.arbiters.outputs at.out).pointer (get_or wins at.out None) q)) now in
+    let after : IsAllocated v (q + 1) (set picks q (Some c)) (firsts_after_request v.arbiters.outputs at.out q wins) more less =
     allocated-next v ready q c at.out picks wins picked more lost less are sized.some l long (as_long ∙ sym sized.each) sized.sizes (omega (arith, inside, sized.each)) at.pick at.goes
     (λ k. members k ∙ ap (λ i. nat_eq k i || has_bit picked k) at.same) (λ k. losers k ∙ ap (λ x. is_loser x k || has_bit lost k) same_loser) so_far in
     subst (λ xs. IsAllocated v (q + 1) xs ws more less) (sym (later ∙ now)) (subst (λ xs. IsAllocated v (q + 1) (set picks q (Some c)) xs more less) (sym won) after)

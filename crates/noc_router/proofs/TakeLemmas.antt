@@ -4,15 +4,15 @@ use Rattle.std.specs.Prelude.{◌&&◌, nat_lt, slice_index_or, if◌then◌else
 use Rattle.std.proofs.lemmas.List.{take_more, length-take}
 use Rattle.noc_packet.specs.declared.packet.Flit.{Flit}
 use Rattle.noc_packet.specs.declared.packet.Beat.{Beat}
-use Rattle.noc_ring.specs.Rings.{pushed}
+use Rattle.noc_ring.specs.Buffers.{buffers_after_push}
 use Rattle.noc_route.specs.Routes.{Routes}
-use Rattle.noc_vc.specs.Input.{fits, landed}
-use Rattle.noc_vc.specs.Output.{credit_fits, credited}
+use Rattle.noc_vc.specs.Input.{fits, input_after_land}
+use Rattle.noc_vc.specs.Output.{credit_fits, output_after_credit}
 use Rattle.noc_router.specs.declared.channels.Channels.{Channels}
 use Rattle.noc_router.specs.declared.router.Router.TheInside.{Inside}
 use Rattle.noc_router.specs.Inside.{view_of}
-use Rattle.noc_router.specs.Sound.{input_at, output_at}
-use Rattle.noc_router.specs.View.{View, has_link, view_buffer, view_input, view_output, raised, with_flit, with_landed, with_misfit, with_credit, taken, taken_from}
+use Rattle.noc_router.specs.Sound.{nth_input, nth_output}
+use Rattle.noc_router.specs.View.{View, has_link, view_buffer, view_input, view_output, saturating_next, with_flit, with_landed, with_misfit, with_credit, view_after_take, view_after_takes_from}
 
 -- whether a flit lands
 abbrev pub lands : Routes → ℕ → ℕ → Flit → View → Bool
@@ -64,48 +64,48 @@ no_fit relation port vc f v e =
     not_third (has_link v.site port) (nat_lt vc v.site.vcs) (fits relation v.site.node port vc v.site.places (view_buffer v (port * v.site.vcs + vc)) (view_input v (port * v.site.vcs + vc)) f) e
 
 -- the view once a flit has landed
-pub landed-view : (r : Inside) (channels : Channels) (i : ℕ) (f : Flit) → channels.bank ≡ pushed r.channels.bank i f
-    → channels.inputs.items ≡ slice_set r.channels.inputs.items i (landed (input_at r.channels.inputs.items i) f) → channels.outputs.items ≡ r.channels.outputs.items
+pub landed-view : (r : Inside) (channels : Channels) (i : ℕ) (f : Flit) → channels.bank ≡ buffers_after_push r.channels.bank i f
+    → channels.inputs.items ≡ slice_set r.channels.inputs.items i (input_after_land (nth_input r.channels.inputs.items i) f) → channels.outputs.items ≡ r.channels.outputs.items
     → view_of (record r { channels = channels; had_event = true }) ≡ with_landed i f (view_of r)
 landed-view r channels i f bank inputs outputs = rw (bank, inputs, outputs)
 
--- .. once one was turned away
+-- the view once a flit was turned away
 pub misfit-view : (r : Inside) (channels : Channels) (n : ℕ) → channels.bank ≡ r.channels.bank
-    → channels.inputs.items ≡ r.channels.inputs.items → channels.outputs.items ≡ r.channels.outputs.items → n ≡ raised r.misfits
+    → channels.inputs.items ≡ r.channels.inputs.items → channels.outputs.items ≡ r.channels.outputs.items → n ≡ saturating_next r.misfits
     → view_of (record r { channels = channels; misfits = n }) ≡ with_misfit (view_of r)
 misfit-view r channels n bank inputs outputs more = rw (bank, inputs, outputs, more)
 
 -- a credit arrives where it fits
 pub with_credit-fits : (port vc : ℕ) (v : View) → has_link v.site port ≡ true → nat_lt vc v.site.vcs ≡ true → credit_fits (view_output v (port * v.site.vcs + vc)) ≡ true
-    → with_credit port (Some vc) v ≡ record v { outputs = slice_set v.outputs (port * v.site.vcs + vc) (credited (view_output v (port * v.site.vcs + vc))); had_event = true }
+    → with_credit port (Some vc) v ≡ record v { outputs = slice_set v.outputs (port * v.site.vcs + vc) (output_after_credit (view_output v (port * v.site.vcs + vc))); had_event = true }
 with_credit-fits port vc v link small fit =
     let o = port * v.site.vcs + vc in
-    let arrived : View = record v { outputs = slice_set v.outputs o (credited (view_output v o)); had_event = true } in
+    let arrived : View = record v { outputs = slice_set v.outputs o (output_after_credit (view_output v o)); had_event = true } in
     ap (λ b. if b then arrived else with_misfit v) (three (has_link v.site port) (nat_lt vc v.site.vcs) (credit_fits (view_output v o)) link small fit)
 
 -- the view once a credit has arrived
 pub credited-view : (r : Inside) (channels : Channels) (o : ℕ) → channels.bank ≡ r.channels.bank → channels.inputs.items ≡ r.channels.inputs.items
-    → channels.outputs.items ≡ slice_set r.channels.outputs.items o (credited (output_at r.channels.outputs.items o))
+    → channels.outputs.items ≡ slice_set r.channels.outputs.items o (output_after_credit (nth_output r.channels.outputs.items o))
     → view_of (record r { channels = channels; had_event = true })
-    ≡ record (view_of r) { outputs = slice_set r.channels.outputs.items o (credited (output_at r.channels.outputs.items o)); had_event = true }
+    ≡ record (view_of r) { outputs = slice_set r.channels.outputs.items o (output_after_credit (nth_output r.channels.outputs.items o)); had_event = true }
 credited-view r channels o bank inputs outputs = rw (bank, inputs, outputs)
 
 -- ---- one beat more
 
 taken_from-more : (relation : Routes) (port : ℕ) (beats : List Beat) (beat : Beat) (v : View)
-    → taken_from relation port (beats ++ beat ∷ []) v ≡ taken relation (port + length beats) beat (taken_from relation port beats v)
-taken_from-more relation port [] beat v = let e : port ≡ port + 0 = omega arith in ap (λ p. taken relation p beat v) e
+    → view_after_takes_from relation port (beats ++ beat ∷ []) v ≡ view_after_take relation (port + length beats) beat (view_after_takes_from relation port beats v)
+taken_from-more relation port [] beat v = let e : port ≡ port + 0 = omega arith in ap (λ p. view_after_take relation p beat v) e
 taken_from-more relation port (first ∷ beats) beat v =
     let e : port + 1 + length beats ≡ port + suc (length beats) = omega arith in
-    taken_from-more relation (port + 1) beats beat (taken relation port first v)
-    ∙ ap (λ p. taken relation p beat (taken_from relation (port + 1) beats (taken relation port first v))) e
+    taken_from-more relation (port + 1) beats beat (view_after_take relation port first v)
+    ∙ ap (λ p. view_after_take relation p beat (view_after_takes_from relation (port + 1) beats (view_after_take relation port first v))) e
 
-pub taken_from-next : (relation : Routes) (beats : List Beat) (port : ℕ) (d : Beat) (v w : View) → port < length beats → w ≡ taken_from relation 0 (take port beats) v
-    → taken relation port (slice_index_or beats port d) w ≡ taken_from relation 0 (take (port + 1) beats) v
+pub taken_from-next : (relation : Routes) (beats : List Beat) (port : ℕ) (d : Beat) (v w : View) → port < length beats → w ≡ view_after_takes_from relation 0 (take port beats) v
+    → view_after_take relation port (slice_index_or beats port d) w ≡ view_after_takes_from relation 0 (take (port + 1) beats) v
 taken_from-next relation beats port d v w l so_far =
     let beat : Beat = slice_index_or beats port d in
     let count : 0 + length (take port beats) ≡ port = omega (arith, length-take port beats) in
-    ap (taken relation port beat) so_far
-    ∙ sym (ap (λ xs. taken_from relation 0 xs v) (take_more beats port d l)
+    ap (view_after_take relation port beat) so_far
+    ∙ sym (ap (λ xs. view_after_takes_from relation 0 xs v) (take_more beats port d l)
     ∙ taken_from-more relation 0 (take port beats) beat v
-    ∙ ap (λ p. taken relation p beat (taken_from relation 0 (take port beats) v)) count)
+    ∙ ap (λ p. view_after_take relation p beat (view_after_takes_from relation 0 (take port beats) v)) count)

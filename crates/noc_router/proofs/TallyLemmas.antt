@@ -11,16 +11,16 @@ use Rattle.noc_vc.specs.declared.input.InputState.{InputState}
 use Rattle.noc_vc.specs.declared.input.InputState.TheVariants.{Idle, Waiting, Active}
 use Rattle.noc_router.specs.declared.counters.Counters.{Counters}
 use Rattle.noc_router.specs.declared.plan.Plan.TheInside.{Inside}
-use Rattle.noc_router.specs.Planned.{IsPlan, outcome_in}
-use Rattle.noc_router.specs.VerdictSets.{sets_with, verdict_by, first_in}
+use Rattle.noc_router.specs.Planned.{IsPlan, plan_contents_in}
+use Rattle.noc_router.specs.VerdictSets.{sets_with, verdict_by, first_verdict_in}
 use Rattle.noc_router.specs.declared.verdict.Verdict.{Verdict}
 use Rattle.noc_router.specs.declared.verdict.Verdict.TheVariants.{Empty, Routed, Granted, Moved, NoFlit, NoIdleChannel, LostChannel, NoCredit, LostInput, LostSwitch}
 use Rattle.noc_router.specs.declared.verdict.Finding.{Finding}
 use Rattle.noc_router.specs.Counts.{carried_at, count_at, one_at, one_if, whole_counts}
-use Rattle.noc_router.specs.Settled.{outcome_verdict}
-use Rattle.noc_router.specs.Sound.{is_occupied, named, out_in}
+use Rattle.noc_router.specs.Settled.{planned_verdict}
+use Rattle.noc_router.specs.Sound.{is_occupied, finding_with, out_in}
 use Rattle.noc_router.specs.Tally.{IsTally, empty_finding, finding_at, is_empty_verdict, others_in, risen_at}
-use Rattle.noc_router.specs.View.{Decisions, Outcome, decided_verdict}
+use Rattle.noc_router.specs.View.{Decisions, PlanContents, decided_verdict}
 use Rattle.noc_router.proofs.CountLemmas.{counter_has, sum-risen, whole-below, whole-none, whole-risen}
 use Rattle.noc_router.proofs.DigitLemmas.{one-small}
 use Rattle.noc_topo.proofs.WordLemmas.{get_or-tabulate, length-tabulate}
@@ -48,7 +48,7 @@ pub record IsCounted (counters : Counters) (counts : List (List ℕ)) (column_of
   pub ten : (k : ℕ) → k < length counts → length (get_or counts' k []) ≡ 10
   pub each : (k j : ℕ) → k < length counts → 0 < j → j < 10 → get_or (get_or counts' k []) j 0 + count_at counters' j k ≡ get_or (get_or counts k []) j 0 + count_at counters j k + one_if (nat_eq (column_of k) j)
 
--- .. by sets of channels, of which some may have 512 written down
+-- the counters count one more, by sets of channels, of which some may have 512 written down
 pub counted-by : (counters : Counters) (counts : List (List ℕ)) (column_of : ℕ → ℕ) (counters' : Counters) (counts' : List (List ℕ)) (sets : List ℕ) (carry : Option (List ℕ))
     → ((j k : ℕ) → j < 10 → count_at counters' j k + 512 * carried_at carry j k ≡ count_at counters j k + one_at sets j k)
     → ((j k : ℕ) → k < length counts → 0 < j → j < 10 → one_at sets j k ≡ one_if (nat_eq (column_of k) j))
@@ -64,7 +64,7 @@ counted-by counters counts column_of counters' counts' sets carry added verdicts
     sum_of : (now had now_c had_c carried one one' : ℕ) → now_c + 512 * carried ≡ had_c + one → one ≡ one' → now ≡ had + 512 * carried → now + now_c ≡ had + had_c + one'
     sum_of now had now_c had_c carried one one' a b d = omega arith
 
--- .. the nine counts of each channel
+-- the nine counts of each channel after one more
 pub counted-others : (cycles shown : ℕ) (counters : Counters) (counts : List (List ℕ)) (findings : List Finding) (column_of : ℕ → ℕ) (counters' : Counters) (counts' : List (List ℕ))
     → IsTally cycles shown counters counts findings → IsCounted counters counts column_of counters' counts' → (k : ℕ) → k < length counts
     → others_in counters' counts' k ≡ risen_at (column_of k) (others_in counters counts k)
@@ -75,7 +75,7 @@ counted-others cycles shown counters counts findings column_of counters' counts'
 pub written-back : (n : ℕ) (new old : List (List ℕ)) → n ≡ length new → take n (new ++ drop (length new) old) ≡ new
 written-back n new old e = ap (λ m. take m (new ++ drop (length new) old)) e ∙ take-append_seam new (drop (length new) old)
 
--- .. is a tally of a cycle more
+-- what is written back is a tally of a cycle more
 pub counted_tally : (cycles shown : ℕ) (counters : Counters) (counts : List (List ℕ)) (findings : List Finding) (column_of : ℕ → ℕ) (counters' : Counters) (counts' : List (List ℕ))
     → cycles < 2 ^ 64 - 1 → IsTally cycles shown counters counts findings → IsCounted counters counts column_of counters' counts' → IsTally (cycles + 1) shown counters' counts' findings
 counted_tally cycles shown counters counts findings column_of counters' counts' more sound are = record {
@@ -91,7 +91,7 @@ counted_tally cycles shown counters counts findings column_of counters' counts' 
         let e : sum (others_in counters' counts' i) ≡ sum (risen_at (column_of i) (others_in counters counts i)) = ap sum (counted-others cycles shown counters counts findings column_of counters' counts' sound are i l) in
         omega (arith, e, sum-risen (column_of i) (others_in counters counts i), sound.sums i l)
 
--- .. there is room for what is written down
+-- there is room for what is written down
 pub carried-fits : (cycles shown : ℕ) (counters : Counters) (counts : List (List ℕ)) (findings : List Finding) (k j now more : ℕ) (one : Bool) → cycles < 2 ^ 64 - 1
     → IsTally cycles shown counters counts findings → k < length counts → 0 < j → j < 10 → now + more ≡ count_at counters j k + one_if one → get_or (get_or counts k []) j 0 + more < 2 ^ 64
 carried-fits cycles shown counters counts findings k j now more one room sound l some few is =
@@ -161,7 +161,7 @@ AreGone kept shown gone = (k : ℕ) → has_bit gone k ≡ (not (has_bit kept k)
 pub gone-shown : (kept shown gone k : ℕ) → AreGone kept shown gone → has_bit gone k ≡ true → has_bit shown k ≡ true
 gone-shown kept shown gone k are e = (and_parts (not (has_bit kept k)) (has_bit shown k) (sym (are k) ∙ e)).1
 
--- .. where one of them is forgotten
+-- all but one of them are shown, which is forgotten
 pub gone-less : (kept shown gone shown' gone' index : ℕ) → AreGone kept shown gone → ((k : ℕ) → has_bit gone' k ≡ (not (nat_eq k index) && has_bit gone k))
     → ((k : ℕ) → has_bit shown' k ≡ (not (nat_eq k index) && has_bit shown k)) → AreGone kept shown' gone'
 gone-less kept shown gone shown' gone' index are less lessened = λ k.
@@ -172,7 +172,7 @@ gone-less kept shown gone shown' gone' index are less lessened = λ k.
     turn false true c = refl
     turn false false c = refl
 
--- .. where there are none
+-- none of them is left to forget
 pub none-gone : (kept shown gone k : ℕ) → AreGone kept shown gone → has_bit gone k ≡ false → has_bit kept k ≡ false → has_bit shown k ≡ false
 none-gone kept shown gone k are none off = sym (ap (λ b. not b && has_bit shown k) off) ∙ sym (are k) ∙ none
 
@@ -185,7 +185,7 @@ AreLeft bits before rest = (k : ℕ) → (has_bit rest k ≡ true → has_bit be
 pub left-first : (bits before : ℕ) → AreLeft bits before before
 left-first bits before = λ k. ((λ e. e), (λ off. refl))
 
--- .. one of them less
+-- one of them less is left
 pub left-more : (bits before rest rest' index : ℕ) → AreLeft bits before rest → has_bit bits index ≡ true → ((k : ℕ) → has_bit rest' k ≡ (not (nat_eq k index) && has_bit rest k)) → AreLeft bits before rest'
 left-more bits before rest rest' index are member members = λ k.
     ((λ e. (are k).0 (and_parts (not (nat_eq k index)) (has_bit rest k) (sym (members k) ∙ e)).1), (λ off. at k off (cases_eq k index)))
@@ -206,7 +206,7 @@ shown-first found n before old = λ k l. at k (has_bit before k)
     at k true = refl
     at k false = refl
 
--- .. of one of them more
+-- one of them more is shown
 pub shown-more : (found : ℕ → Finding) (n bits before rest rest' index : ℕ) (old now : List Finding) (finding : Finding) → AreShown found n before rest old now → AreLeft bits before rest
     → has_bit rest index ≡ true → ((k : ℕ) → has_bit rest' k ≡ (not (nat_eq k index) && has_bit rest k)) → length now ≡ n → finding ≡ found index
     → AreShown found n before rest' old (set now index finding)
@@ -223,7 +223,7 @@ shown-more found n bits before rest rest' index old now finding shown are member
         get_or-set_other now index k finding empty_finding other ∙ shown k l
         ∙ ap (λ b. if has_bit before k && not b then found k else finding_at old k) (sym (members k ∙ ap (λ b. not b && has_bit rest k) (ne_eqb k index other)))
 
--- .. of all that are in the set
+-- all that are in the set are shown
 pub shown-last : (found : ℕ → Finding) (n bits before rest : ℕ) (old now : List Finding) → AreShown found n before rest old now → AreLeft bits before rest → ((k : ℕ) → (has_bit bits k && has_bit rest k) ≡ false)
     → (k : ℕ) → k < n → finding_at now k ≡ (if has_bit before k && has_bit bits k then found k else finding_at old k)
 shown-last found n bits before rest old now shown are none k l = shown k l ∙ ap (λ b. if b then found k else finding_at old k) (same (has_bit before k) (has_bit bits k) (has_bit rest k) (none k) (are k).1)
@@ -252,13 +252,13 @@ empty_is LostSwitch e = absurd (false≢true (sym e))
 -- what is noted of the n channels, as their counts or their findings: the verdict of each channel that is left is that of the first of these sets,
 -- and what is noted of it stands as at the start; of each other one its verdict is noted
 pub record IsNoting (X : Type 0) (note : ℕ → Verdict → X → X) (verdict : ℕ → Verdict) (n : ℕ) (start : ℕ → X) (sets : List (ℕ × Verdict)) (rest : ℕ) (now : ℕ → X) : Type 0 where
-  pub left : (k : ℕ) → has_bit rest k ≡ true → verdict k ≡ first_in sets k
+  pub left : (k : ℕ) → has_bit rest k ≡ true → verdict k ≡ first_verdict_in sets k
   pub full : (k : ℕ) → has_bit rest k ≡ true → not (is_empty_verdict (verdict k)) ≡ true
   pub each : (k : ℕ) → k < n → now k ≡ (if has_bit rest k then start k else note k (verdict k) (start k))
 
 -- at first, where Empty changes nothing
 pub noting-first : (X : Type 0) (note : ℕ → Verdict → X → X) (verdict : ℕ → Verdict) (n : ℕ) (start : ℕ → X) (sets : List (ℕ × Verdict)) (rest : ℕ)
-    → ((k : ℕ) → has_bit rest k ≡ true → verdict k ≡ first_in sets k) → ((k : ℕ) → has_bit rest k ≡ true → k < n)
+    → ((k : ℕ) → has_bit rest k ≡ true → verdict k ≡ first_verdict_in sets k) → ((k : ℕ) → has_bit rest k ≡ true → k < n)
     → ((k : ℕ) → k < n → has_bit rest k ≡ not (is_empty_verdict (verdict k))) → ((k : ℕ) → k < n → has_bit rest k ≡ false → note k Empty (start k) ≡ start k)
     → IsNoting X note verdict n start sets rest start
 noting-first X note verdict n start sets rest first below held same = record {
@@ -285,11 +285,11 @@ noting-more X note verdict n start bits v sets before was rest now noting member
     in_before : (k : ℕ) → has_bit rest k ≡ true → has_bit before k ≡ true
     in_before k e = (and_parts (not (has_bit bits k)) (has_bit before k) (sym (members k) ∙ e)).1
 
-    first : (k : ℕ) (b : Bool) → (not b && has_bit before k) ≡ true → verdict k ≡ (if b then v else first_in sets k) → verdict k ≡ first_in sets k
+    first : (k : ℕ) (b : Bool) → (not b && has_bit before k) ≡ true → verdict k ≡ (if b then v else first_verdict_in sets k) → verdict k ≡ first_verdict_in sets k
     first k true e h = absurd (false≢true e)
     first k false e h = h
 
-    cases : (k : ℕ) (a b : Bool) → (a ≡ true → verdict k ≡ (if b then v else first_in sets k))
+    cases : (k : ℕ) (a b : Bool) → (a ≡ true → verdict k ≡ (if b then v else first_verdict_in sets k))
         → (if a && b then note k v (if a then start k else note k (verdict k) (start k)) else (if a then start k else note k (verdict k) (start k)))
         ≡ (if not b && a then start k else note k (verdict k) (start k))
     cases k true true h = ap (λ x. note k x (start k)) (sym (h refl))
@@ -319,19 +319,19 @@ pub verdict-at : (d : Decisions) (i : ℕ) → i < length d.findings → decided
 verdict-at d i l = get_or-map (λ (finding : Finding). finding.verdict) d.findings i empty_finding Empty l
 
 -- the verdict on a channel, by the sets of the plan
-pub plan_verdict : (p : Inside) (q : Outcome) (n k : ℕ) → outcome_in p ≡ q → length q.verdicts ≡ n → k < n → outcome_verdict q k ≡ verdict_by p.verdicts k
+pub plan_verdict : (p : Inside) (q : PlanContents) (n k : ℕ) → plan_contents_in p ≡ q → length q.verdicts ≡ n → k < n → planned_verdict q k ≡ verdict_by p.verdicts k
 plan_verdict p q n k e long l =
-    let size : p.requests.size ≡ n = sym (length-tabulate p.requests.size (verdict_by p.verdicts)) ∙ ap (λ (x : Outcome). length x.verdicts) e ∙ long in
-    sym (ap (λ (x : Outcome). outcome_verdict x k) e) ∙ get_or-tabulate p.requests.size k (verdict_by p.verdicts) Empty (omega arith)
+    let size : p.requests.size ≡ n = sym (length-tabulate p.requests.size (verdict_by p.verdicts)) ∙ ap (λ (x : PlanContents). length x.verdicts) e ∙ long in
+    sym (ap (λ (x : PlanContents). planned_verdict x k) e) ∙ get_or-tabulate p.requests.size k (verdict_by p.verdicts) Empty (omega arith)
 
--- .. each of which is in one of them at most
-pub plan_apart : (p : Inside) (q : Outcome) (n k : ℕ) → outcome_in p ≡ q → IsPlan p → length q.verdicts ≡ n → k < n → sets_with p.verdicts k ≤ 1
+-- each channel is in one set of the plan at most
+pub plan_apart : (p : Inside) (q : PlanContents) (n k : ℕ) → plan_contents_in p ≡ q → IsPlan p → length q.verdicts ≡ n → k < n → sets_with p.verdicts k ≤ 1
 plan_apart p q n k e plan long l =
-    let size : p.requests.size ≡ n = sym (length-tabulate p.requests.size (verdict_by p.verdicts)) ∙ ap (λ (x : Outcome). length x.verdicts) e ∙ long in
+    let size : p.requests.size ≡ n = sym (length-tabulate p.requests.size (verdict_by p.verdicts)) ∙ ap (λ (x : PlanContents). length x.verdicts) e ∙ long in
     plan.apart k (omega arith)
 
 -- what is found of a channel without a packet that asks for nothing
-pub vacant-found : (vcs : ℕ) (input : Input) (flits : List Flit) (ask : Option ℕ) → is_occupied input flits ≡ false → input.packet ≡ None → named vcs input Empty ask ≡ empty_finding
+pub vacant-found : (vcs : ℕ) (input : Input) (flits : List Flit) (ask : Option ℕ) → is_occupied input flits ≡ false → input.packet ≡ None → finding_with vcs input Empty ask ≡ empty_finding
 vacant-found vcs input flits ask off no_packet = idle input.phase input.packet (phase_is input.phase (is_empty flits) off) no_packet
   where
     phase_is : (p : InputState) (b : Bool) → not (is_idle_phase p && b) ≡ false → p ≡ Idle

@@ -13,7 +13,7 @@ use Rattle.noc_vc.specs.declared.input.InputState.{InputState}
 use Rattle.noc_vc.specs.declared.input.InputState.TheVariants.{Idle, Waiting, Active}
 use Rattle.noc_router.specs.Sound.{is_occupied}
 use Rattle.noc_router.specs.Verdict.{Unrouted, Round, is_event, verdict_of}
-use Rattle.noc_router.specs.View.{View, claim_in, committed, counted, decided_verdict, finding_of, idle_beats, planned, size_of, view_buffer, view_claim, view_input, view_round}
+use Rattle.noc_router.specs.View.{View, claim_in, view_after_commit, counts_after, decided_verdict, finding_of, idle_beats, decisions_of, size_of, view_buffer, view_claim, view_input, view_round}
 use Rattle.noc_router.specs.declared.verdict.Verdict.{Verdict}
 use Rattle.noc_router.specs.declared.verdict.Verdict.TheVariants.{Empty}
 use Rattle.noc_router.specs.declared.verdict.Finding.{Finding}
@@ -49,16 +49,16 @@ module _ (v : View) (vacant : IsVacant v) where
       ap (λ c. verdict_of v.site.vcs round i c (not (is_empty (view_buffer v i)))) (claims-nothing i l)
       ∙ ap (verdict_of v.site.vcs round i Unrouted) (has_no_flit i l)
 
-  decided-empty : (relation : Routes) (i : ℕ) → decided_verdict (planned relation v) i ≡ Empty
-  unfolding planned
+  decided-empty : (relation : Routes) (i : ℕ) → decided_verdict (decisions_of relation v) i ≡ Empty
+  unfolding decisions_of
   decided-empty relation i =
       ap (λ xs. get_or xs i Empty)
       (map-tabulate (λ (f : Finding). f.verdict) (size_of v.site) (finding_of (view_round v) v)
       ∙ tabulate-same (size_of v.site) (λ k. (finding_of (view_round v) v k).verdict) Empty (found-empty (view_round v)))
       ∙ at_replicate Empty (size_of v.site) i
 
-  pub no_event : (relation : Routes) → list_any (λ (f : Finding). is_event f.verdict) (planned relation v).findings ≡ false
-  unfolding planned
+  pub no_event : (relation : Routes) → list_any (λ (f : Finding). is_event f.verdict) (decisions_of relation v).findings ≡ false
+  unfolding decisions_of
   no_event relation = list_any_none (λ (f : Finding). is_event f.verdict) (tabulate (size_of v.site) (finding_of (view_round v) v))
       (λ i d l. let inside : i < size_of v.site = omega (arith, l, length-tabulate (size_of v.site) (finding_of (view_round v) v)) in
       ap (λ (f : Finding). is_event f.verdict) (get_or-tabulate (size_of v.site) i (finding_of (view_round v) v) d inside)
@@ -66,20 +66,20 @@ module _ (v : View) (vacant : IsVacant v) where
 
 -- what is counted of each channel by its verdict is counted of Empty
 pub vacant-counted : (relation : Routes) (v : View) → IsVacant v → (count : Verdict → List ℕ → List ℕ) (counts : List (List ℕ))
-    → map (count Empty) counts ≡ map_indexed (λ i one. count (decided_verdict (planned relation v) i) one) counts
+    → map (count Empty) counts ≡ map_indexed (λ i one. count (decided_verdict (decisions_of relation v) i) one) counts
 vacant-counted relation v vacant count counts =
-    map_indexed-from_each (λ i one. count (decided_verdict (planned relation v) i) one) counts (map (count Empty) counts) [] [] (length-map counts (count Empty))
+    map_indexed-from_each (λ i one. count (decided_verdict (decisions_of relation v) i) one) counts (map (count Empty) counts) [] [] (length-map counts (count Empty))
     (λ i l. get_or-map (count Empty) counts i [] [] l ∙ ap (λ x. count x (get_or counts i [])) (sym (decided-empty v vacant relation i)))
 
 -- a cycle in which no input channel holds anything counts them as empty, and no verdict takes effect
 pub vacant-committed : (relation : Routes) (v : View) → IsVacant v → record v {
-  counts = map (counted Empty) v.counts;
+  counts = map (counts_after Empty) v.counts;
   to_put = idle_beats v.site;
   last_event = if v.had_event then Some v.given else v.last_event;
   had_event = false;
-} ≡ record (committed (planned relation v) v) { findings = v.findings }
+} ≡ record (view_after_commit (decisions_of relation v) v) { findings = v.findings }
 vacant-committed relation v vacant =
-    let d = planned relation v in
+    let d = decisions_of relation v in
     ap (λ counts. record v { counts = counts; to_put = idle_beats v.site; last_event = (if v.had_event then Some v.given else v.last_event); had_event = false })
-    (vacant-counted relation v vacant (λ x. counted x) v.counts)
+    (vacant-counted relation v vacant (λ x. counts_after x) v.counts)
     ∙ ap (λ (w : View). record w { findings = v.findings }) (sym (still-committed relation v (no_event v vacant relation)))

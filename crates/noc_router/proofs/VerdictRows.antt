@@ -1,7 +1,7 @@
 -- One round of a switch of three ports with two virtual channels each.
 use Rattle.std.proofs.Common.{◌≡◌, ℕ, true, false, List, [], ◌∷◌, Some, None, refl}
 use Rattle.noc_topo.specs.Words.{below, tabulate, map_indexed, least_by}
-use Rattle.noc_router.specs.Verdict.{Turns, Unrouted, Waits, Holds, Stand, round_of, verdict_of, arbiters_after, pointers_of, opening_arbiters, first_in_turn}
+use Rattle.noc_router.specs.Verdict.{ArbiterStates, Unrouted, Waits, Holds, Stand, round_of, verdict_of, arbiters_after, pointers_of, opening_arbiters, first_in_turn}
 use Rattle.noc_router.specs.declared.verdict.Verdict.{Verdict}
 use Rattle.noc_router.specs.declared.verdict.Verdict.TheVariants.{Empty, Granted, Moved, NoFlit, NoIdleChannel, LostChannel, NoCredit, LostInput, LostSwitch}
 
@@ -11,18 +11,18 @@ sending = record { claim = Holds 4 true; has_flit = true } ∷ record { claim = 
     ∷ record { claim = Unrouted; has_flit = false } ∷ record { claim = Unrouted; has_flit = false } ∷ record { claim = Unrouted; has_flit = false } ∷ []
 
 -- all pointers at 0, but that of output port 2 at 1
-abbrev pub pointing : Turns
+abbrev pub pointing : ArbiterStates
 pointing = record (opening_arbiters 3 2) {
   outputs = record { size = 3; pointer = 0 } ∷ record { size = 3; pointer = 0 } ∷ record { size = 3; pointer = 1 } ∷ [];
 }
 
 -- the verdicts of these input channels, and the pointers of the input ports and of the output ports afterwards;
 -- to open it is to open all that a round is computed by
-unfoldable pub verdicts : List Stand → Turns → List Verdict
+unfoldable pub verdicts : List Stand → ArbiterStates → List Verdict
 unfolding below tabulate map_indexed least_by first_in_turn
 verdicts stands turns = map_indexed (λ i (stand : Stand). verdict_of 2 (round_of 3 2 stands turns) i stand.claim stand.has_flit) stands
 
-abbrev pub pointers : Turns → List (List ℕ)
+abbrev pub pointers : ArbiterStates → List (List ℕ)
 pointers turns = pointers_of turns.inputs ∷ pointers_of turns.outputs ∷ []
 
 -- port 1 wins output port 2; of port 0 channel 0 was picked and lost the switch, so channel 1 lost to it at the input

@@ -11,14 +11,14 @@ use Rattle.noc_vc.specs.Output.{has_credit}
 use Rattle.noc_vc.specs.declared.input.InputState.{InputState}
 use Rattle.noc_vc.specs.declared.input.InputState.TheVariants.{Idle, Waiting, Active}
 use Rattle.noc_router.specs.Counts.{one_at, one_if}
-use Rattle.noc_router.specs.Planned.{outcome_in}
+use Rattle.noc_router.specs.Planned.{plan_contents_in}
 use Rattle.noc_router.specs.Requests.{AreAmong, is_given}
 use Rattle.noc_router.specs.Sound.{is_supplied}
 use Rattle.noc_router.specs.Standing.{IsStanding, is_won_from}
 use Rattle.noc_router.specs.Tally.{risen_at}
 use Rattle.noc_router.specs.Verdict.{Round, Unrouted, Waits, Holds, ask_of, column, is_event, is_granted, is_moved, verdict_of}
 use Rattle.noc_router.specs.VerdictSets.{sets_with, verdict_by}
-use Rattle.noc_router.specs.View.{Outcome, View, asked_for, claim_in, finding_of, size_of, view_buffer, view_claim, view_input, view_output}
+use Rattle.noc_router.specs.View.{PlanContents, View, asked_for, claim_in, finding_of, size_of, view_buffer, view_claim, view_input, view_output}
 use Rattle.noc_router.specs.declared.channels.Standing.{Standing}
 use Rattle.noc_router.specs.declared.plan.Plan.TheInside.{Inside}
 use Rattle.noc_router.specs.declared.verdict.Verdict.{Verdict}
@@ -200,11 +200,11 @@ event-at n sets k below = at (cases_lt k n)
     at (inr u) = none (is_event (verdict_by sets k)) refl u ∙ sym (ap is_event (get_or_past (tabulate n (verdict_by sets)) k Empty (omega (arith, length-tabulate n (verdict_by sets)))))
 
 -- the verdict of a plan on one of its channels
-pub plan-verdict : (p : Inside) (o : Outcome) (i : ℕ) → outcome_in p ≡ o → i < length o.verdicts → (i < p.requests.size) × (get_or o.verdicts i Empty ≡ verdict_by p.verdicts i)
+pub plan-verdict : (p : Inside) (o : PlanContents) (i : ℕ) → plan_contents_in p ≡ o → i < length o.verdicts → (i < p.requests.size) × (get_or o.verdicts i Empty ≡ verdict_by p.verdicts i)
 plan-verdict p o i view l =
-    let same : length o.verdicts ≡ p.requests.size = sym (ap (λ (x : Outcome). length x.verdicts) view) ∙ length-tabulate p.requests.size (verdict_by p.verdicts) in
+    let same : length o.verdicts ≡ p.requests.size = sym (ap (λ (x : PlanContents). length x.verdicts) view) ∙ length-tabulate p.requests.size (verdict_by p.verdicts) in
     let within : i < p.requests.size = omega arith in
-    (within, sym (ap (λ (x : Outcome). get_or x.verdicts i Empty) view) ∙ get_or-tabulate p.requests.size i (verdict_by p.verdicts) Empty within)
+    (within, sym (ap (λ (x : PlanContents). get_or x.verdicts i Empty) view) ∙ get_or-tabulate p.requests.size i (verdict_by p.verdicts) Empty within)
 
 -- ---- the verdict on a channel
 -- the first verdict of a channel in this state, whose buffer may be empty, and which its port may have picked
@@ -301,33 +301,33 @@ pub record AreVerdicts (v : View) (round : Round) (s : Standing) (asking picked 
   pub moved : has_bit sets.moved k ≡ (has_bit picked k && is_won_from v round k (view_input v k).phase)
   pub granted : has_bit sets.granted k ≡ is_given round.grants (ask_of (view_claim v k)) k
   pub routed : sets.routed ≡ s.heads
-  pub no_flit : sets.no_flit ≡ s.starved
+  pub no_flit : sets.no_flit ≡ s.no_flit
   pub no_idle_channel : has_bit sets.no_idle_channel k ≡ (not (has_bit asking k) && has_bit s.waiting k)
   pub lost_channel : has_bit sets.lost_channel k ≡ (not (has_bit sets.granted k) && has_bit asking k)
-  pub no_credit : sets.no_credit ≡ s.unsupplied
+  pub no_credit : sets.no_credit ≡ s.no_credit
   pub lost_input : has_bit sets.lost_input k ≡ (not (has_bit picked k) && has_bit s.ready k)
   pub lost_switch : has_bit sets.lost_switch k ≡ (not (has_bit sets.moved k) && has_bit picked k)
 
--- .. give each channel its verdict
+-- the sets of a round give each channel its verdict
 pub verdict-on : (v : View) (round : Round) (s : Standing) (asking picked : ℕ) (sets : VerdictSets) (k : ℕ) → k < size_of v.site → IsStanding v s → AreVerdicts v round s asking picked sets k
     → verdict_by sets k ≡ (finding_of round v k).verdict
 verdict-on v round s asking picked sets k l standing are =
     let heads = standing.heads k l in
     let waits = standing.waiting k l in
-    let starved = standing.starved k l in
-    let unsupplied = standing.unsupplied k l in
+    let no_flit = standing.no_flit k l in
+    let no_credit = standing.no_credit k l in
     let ready = standing.ready k l in
     first_by sets k ∙ same_first _ _ _ _ _ _ _ _ _ _ _ _ _ _ _ _ _ _ (cc) (cc) (cc) (cc) (cc) (cc) (cc) (cc) (cc)
     ∙ state_verdict v round k (view_input v k).phase (is_empty (view_buffer v k)) (has_bit picked k) are.draws
 
--- .. have each channel once at most
+-- the sets of a round have each channel once at most
 pub apart-on : (v : View) (round : Round) (s : Standing) (asking picked : ℕ) (sets : VerdictSets) (k : ℕ) → k < size_of v.site → IsStanding v s → AreVerdicts v round s asking picked sets k
     → sets_with sets k ≤ 1
 apart-on v round s asking picked sets k l standing are =
     let heads = standing.heads k l in
     let waits = standing.waiting k l in
-    let starved = standing.starved k l in
-    let unsupplied = standing.unsupplied k l in
+    let no_flit = standing.no_flit k l in
+    let no_credit = standing.no_credit k l in
     let ready = standing.ready k l in
     same_sets _ _ _ _ _ _ _ _ _ _ _ _ _ _ _ _ _ _ (cc) (cc) (cc) (cc) (cc) (cc) (cc) (cc) (cc)
     (state_sets v round k (view_input v k).phase (is_empty (view_buffer v k)) (has_bit picked k))

@@ -11,7 +11,7 @@ use Rattle.noc_router.specs.Counts.{counts_from, counts_in, whole_counts}
 use Rattle.noc_router.specs.Still.{counted_times}
 use Rattle.noc_router.specs.Tally.{IsTally, others_in, risen_at, risen_by}
 use Rattle.noc_router.specs.Verdict.{column}
-use Rattle.noc_router.specs.View.{counted, raised}
+use Rattle.noc_router.specs.View.{counts_after, saturating_next}
 use Rattle.noc_topo.specs.Words.{map_indexed}
 use Rattle.noc_topo.proofs.WordLemmas.{map_indexed-from_each}
 use Rattle.noc_router.proofs.CountLemmas.{column-small, counted-is, counter_has, counts-at, counts-length, drop-more, more-here, more-length, more-there, more_at, whole-at, whole-below, whole-length}
@@ -60,10 +60,10 @@ counted_times-is (suc k) cycles n v counts new col small ten s fits is =
     let long : length (risen_by (min k room) n t) ≡ length t = length-risen_by (min k room) n t in
     let before : counts_in now mid ≡ counted_times k v (counts_in cycles counts) = counted_times-is k cycles n v counts mid col small ten s fits refl in
     let total : sum (drop 1 mid) ≤ now = omega (arith, sum-risen_by (min k room) n t) in
-    let after : raised now ≡ min (cycles + suc k) (2 ^ 64 - 1) = omega arith in
+    let after : saturating_next now ≡ min (cycles + suc k) (2 ^ 64 - 1) = omega arith in
     ap (λ m. counts_in m new) (sym after)
     ∙ counted-is now n v mid new col small (omega arith) total (omega arith) (is ∙ one_more (nat_lt now (2 ^ 64 - 1)) refl nine)
-    ∙ ap (counted v) before
+    ∙ ap (counts_after v) before
   where
     one_more : (b : Bool) → nat_lt (min (cycles + k) (2 ^ 64 - 1)) (2 ^ 64 - 1) ≡ b → length (drop 1 counts) ≡ 9
         → risen_by (min (suc k) (2 ^ 64 - 1 - cycles)) n (drop 1 counts)
@@ -143,7 +143,7 @@ added-others counters counts index a j some ten l k = at (cases_eq k index)
         ap (λ xs. drop 1 (whole_counts counters k xs)) (get_or-set_other counts index k more [] other)
         ∙ ap (λ b. if b then risen_by a j (others_in counters counts k) else others_in counters counts k) (sym (ne_eqb k index other))
 
--- .. is a tally, where it can count them
+-- what is added is a tally, where the counters can count it
 pub added_tally : (cycles shown : ℕ) (counters : Counters) (counts : List (List ℕ)) (findings : List Finding) (index a j : ℕ) → IsTally cycles shown counters counts findings
     → 0 < j → j < 10 → index < length counts → sum (others_in counters counts index) + a ≤ cycles
     → IsTally cycles shown counters (set counts index (set (get_or counts index []) j (get_or (get_or counts index []) j 0 + a))) findings
@@ -179,7 +179,7 @@ added_tally cycles shown counters counts findings index a j sound some small l r
         ap sum (others i ∙ ap (λ b. if b then risen_by a j (others_in counters counts i) else others_in counters counts i) (ne_eqb i index other)) in
         omega (arith, now, sound.sums i m)
 
--- .. there is room for them in what is written down
+-- there is room for so many more in what is written down
 pub added-fits : (cycles shown : ℕ) (counters : Counters) (counts : List (List ℕ)) (findings : List Finding) (index a j : ℕ) → IsTally cycles shown counters counts findings
     → 0 < j → j < 10 → index < length counts → sum (others_in counters counts index) + a ≤ cycles → get_or (get_or counts index []) j 0 + a < 2 ^ 64
 added-fits cycles shown counters counts findings index a j sound some small l room =

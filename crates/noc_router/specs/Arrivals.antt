@@ -7,9 +7,9 @@ abbrev pub is_expected_in : ℕ → List (ℕ × Option ℕ) → Bool
 is_expected_in p ends = list_any (λ (one : ℕ × Option ℕ). nat_eq one.0 p && is_none one.1) ends
 
 -- a packet has arrived in this cycle
-abbrev pub noted : ℕ → ℕ → List (ℕ × Option ℕ) → List (ℕ × Option ℕ)
-noted p cycle ends = map (λ (one : ℕ × Option ℕ). (one.0, if nat_eq one.0 p then Some cycle else one.1)) ends
+abbrev pub arrivals_after : ℕ → ℕ → List (ℕ × Option ℕ) → List (ℕ × Option ℕ)
+arrivals_after p cycle ends = map (λ (one : ℕ × Option ℕ). (one.0, if nat_eq one.0 p then Some cycle else one.1)) ends
 
 -- the cycle in which the tail of a packet was out
-abbrev pub arrival_in : ℕ → List (ℕ × Option ℕ) → Option ℕ
-arrival_in p ends = option_and_then (λ (one : ℕ × Option ℕ). one.1) (find (λ (one : ℕ × Option ℕ). nat_eq one.0 p) ends)
+abbrev pub noted_arrival : ℕ → List (ℕ × Option ℕ) → Option ℕ
+noted_arrival p ends = option_and_then (λ (one : ℕ × Option ℕ). one.1) (find (λ (one : ℕ × Option ℕ). nat_eq one.0 p) ends)

@@ -14,7 +14,7 @@ one_if b = if b then 1 else 0
 abbrev pub one_at : List ℕ → ℕ → ℕ → ℕ
 one_at sets j k = one_if (has_bit (slice_index_or sets j 0) k)
 
--- .. if there are sets
+-- 1 where there are sets, and channel k is in that of the verdict in place j
 abbrev pub carried_at : Option (List ℕ) → ℕ → ℕ → ℕ
 carried_at None j k = 0
 carried_at (Some sets) j k = one_at sets j k
@@ -23,7 +23,7 @@ carried_at (Some sets) j k = one_at sets j k
 abbrev pub added_at : Digit → ℕ → ℕ → ℕ
 added_at d j k = one_at d.ones j k + 2 * one_at d.twos j k + 4 * one_at d.fours j k
 
--- .. with what is to be added to it
+-- the digit of the verdict in place j and channel k, with what is to be added to it
 abbrev pub digit_at : Digit → ℕ → ℕ → ℕ
 digit_at d j k = added_at d j k + sum_by (λ sets. one_at sets j k) (take d.kept d.recent)
 

@@ -1,11 +1,11 @@
 -- The outcome of a router with so many ports and virtual channels.
 use Rattle.std.specs.Prelude.{◌≡◌, ℕ, ◌*◌, None, length, replicate}
 use Rattle.noc_router.specs.Asked.{no_round}
-use Rattle.noc_router.specs.View.{Outcome}
+use Rattle.noc_router.specs.View.{PlanContents}
 use Rattle.noc_router.specs.declared.verdict.Verdict.TheVariants.{Empty}
 
 -- an entry for each output channel, port and input channel
-pub record IsDecidedFor (ports vcs : ℕ) (p : Outcome) : Type 0 where
+pub record IsDecidedFor (ports vcs : ℕ) (p : PlanContents) : Type 0 where
   pub grants : length p.round.grants ≡ ports * vcs
   pub picks : length p.round.picks ≡ ports
   pub wins : length p.round.wins ≡ ports
@@ -14,8 +14,8 @@ pub record IsDecidedFor (ports vcs : ℕ) (p : Outcome) : Type 0 where
   pub routes : length p.routes ≡ ports * vcs
 
 -- no request, and every channel empty
-abbrev pub no_outcome : ℕ → ℕ → Outcome
-no_outcome ports vcs = record {
+abbrev pub empty_plan_contents : ℕ → ℕ → PlanContents
+empty_plan_contents ports vcs = record {
   round = no_round ports (ports * vcs);
   asks = replicate (ports * vcs) None;
   verdicts = replicate (ports * vcs) Empty;

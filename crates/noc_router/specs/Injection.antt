@@ -18,6 +18,6 @@ abbrev pub vc_from : View → Bool → Option (ℕ × ℕ) → Option ℕ
 vc_from v due (Some (vc, index)) = if nat_lt (length (view_buffer v (local_channel v.site vc))) v.site.places then Some vc else None
 vc_from v due None = if due then vacant_vc v else None
 
--- .. in the cycle that goes on
+-- the local virtual channel to which the next flit can go in the cycle that goes on
 abbrev pub next_vc : View → Option ℕ
 next_vc v = vc_from v (is_due_by (slice_get v.queue 0) v.given) v.sending

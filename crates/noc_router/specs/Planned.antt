@@ -5,10 +5,10 @@ use Rattle.noc_router.specs.declared.plan.Plan.TheInside.{Inside}
 use Rattle.noc_router.specs.Asked.{round_in}
 use Rattle.noc_router.specs.Verdict.{is_event}
 use Rattle.noc_router.specs.VerdictSets.{sets_with, verdict_by}
-use Rattle.noc_router.specs.View.{Outcome}
+use Rattle.noc_router.specs.View.{PlanContents}
 
-abbrev pub outcome_in : Inside → Outcome
-outcome_in p = record {
+abbrev pub plan_contents_in : Inside → PlanContents
+plan_contents_in p = record {
   round = round_in p.requests;
   asks = p.requests.asks;
   verdicts = tabulate p.requests.size (verdict_by p.verdicts);

@@ -15,12 +15,12 @@ use Rattle.noc_router.specs.declared.verdict.Verdict.{Verdict}
 use Rattle.noc_router.specs.declared.verdict.Finding.{Finding}
 
 -- the input channel with this index, an idle one where it does not exist
-abbrev pub input_at : List Input → ℕ → Input
-input_at inputs i = slice_index_or inputs i idle_input
+abbrev pub nth_input : List Input → ℕ → Input
+nth_input inputs i = slice_index_or inputs i idle_input
 
 -- the output channel with this index
-abbrev pub output_at : List Output → ℕ → Output
-output_at outputs o = slice_index_or outputs o ejection_output
+abbrev pub nth_output : List Output → ℕ → Output
+nth_output outputs o = slice_index_or outputs o ejection_output
 
 -- whether an input channel with these flits holds a packet or a flit
 abbrev pub is_occupied : Input → List Flit → Bool
@@ -76,15 +76,15 @@ out_in (Waiting set) ask = ask
 out_in (Active output) ask = Some output
 
 -- what is found of an input channel with this verdict, that asks for this output channel
-abbrev pub named : ℕ → Input → Verdict → Option ℕ → Finding
-named vcs input verdict ask = record { verdict = verdict; packet = input.packet; out = option_map (λ o. (o / vcs, o % vcs)) (out_in input.phase ask) }
+abbrev pub finding_with : ℕ → Input → Verdict → Option ℕ → Finding
+finding_with vcs input verdict ask = record { verdict = verdict; packet = input.packet; out = option_map (λ o. (o / vcs, o % vcs)) (out_in input.phase ask) }
 
 -- the sets that a router keeps of its channels
 pub record Sets : Type 0 where
   pub filled : ℕ  -- the input channels whose buffer holds a flit
-  pub waiting : ℕ  -- .. whose packet waits for an output channel
-  pub active : ℕ  -- .. whose packet owns one
-  pub supplied : ℕ  -- .. that has a credit
+  pub waiting : ℕ  -- the input channels whose packet waits for an output channel
+  pub active : ℕ  -- the input channels whose packet owns an output channel
+  pub supplied : ℕ  -- the input channels whose packet owns an output channel that has a credit
   pub idle : ℕ  -- the output channels that are idle
 
 -- the channels of a router, by index, with its sets
@@ -109,11 +109,11 @@ pub record AreSound (size : ℕ) (sets : Sets) (buffers : List (List Flit)) (inp
 pub record AreStanding (size : ℕ) (buffers : List (List Flit)) (inputs : List Input) (outputs : List Output) (s : Standing) : Type 0 where
   pub heads_below : AreBelow size s.heads
   pub waiting_below : AreBelow size s.waiting
-  pub starved_below : AreBelow size s.starved
-  pub unsupplied_below : AreBelow size s.unsupplied
+  pub no_flit_below : AreBelow size s.no_flit
+  pub no_credit_below : AreBelow size s.no_credit
   pub ready_below : AreBelow size s.ready
   pub heads : (i : ℕ) → i < size → has_bit s.heads i ≡ (is_idle_phase (slice_index_or inputs i idle_input).phase && not (is_empty (slice_index_or buffers i [])))
   pub waiting : (i : ℕ) → i < size → has_bit s.waiting i ≡ is_waiting (slice_index_or inputs i idle_input).phase
-  pub starved : (i : ℕ) → i < size → has_bit s.starved i ≡ (is_active (slice_index_or inputs i idle_input).phase && is_empty (slice_index_or buffers i []))
-  pub unsupplied : (i : ℕ) → i < size → has_bit s.unsupplied i ≡ (is_active (slice_index_or inputs i idle_input).phase && (not (is_empty (slice_index_or buffers i [])) && not (is_supplied outputs (slice_index_or inputs i idle_input).phase)))
+  pub no_flit : (i : ℕ) → i < size → has_bit s.no_flit i ≡ (is_active (slice_index_or inputs i idle_input).phase && is_empty (slice_index_or buffers i []))
+  pub no_credit : (i : ℕ) → i < size → has_bit s.no_credit i ≡ (is_active (slice_index_or inputs i idle_input).phase && (not (is_empty (slice_index_or buffers i [])) && not (is_supplied outputs (slice_index_or inputs i idle_input).phase)))
   pub ready : (i : ℕ) → i < size → has_bit s.ready i ≡ (is_active (slice_index_or inputs i idle_input).phase && (not (is_empty (slice_index_or buffers i [])) && is_supplied outputs (slice_index_or inputs i idle_input).phase))

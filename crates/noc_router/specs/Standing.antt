@@ -3,7 +3,7 @@ use Rattle.std.specs.Prelude.{◌≡◌, ℕ, ◌<◌, ◌/◌, ◌%◌, Bool, �
 use Rattle.noc_topo.specs.Words.{is_some_of}
 use Rattle.noc_packet.specs.Set.{has_bit}
 use Rattle.noc_alloc.specs.Allocation.{is_won_by}
-use Rattle.noc_alloc.specs.Arbiter.{turn_at}
+use Rattle.noc_alloc.specs.Arbiter.{arbiter_at}
 use Rattle.noc_router.specs.Offers.{farther}
 use Rattle.noc_vc.specs.Input.{is_active, is_empty, is_idle_phase, is_waiting}
 use Rattle.noc_vc.specs.declared.input.InputState.{InputState}
@@ -20,12 +20,12 @@ pub record AreHeads (v : View) (set : ℕ) : Type 0 where
   pub below : AreBelow (size_of v.site) set
   pub each : (i : ℕ) → i < size_of v.site → has_bit set i ≡ (is_idle_phase (view_input v i).phase && not (is_empty (view_buffer v i)))
 
--- .. the channels that wait for an output channel
+-- the set has just the channels that wait for an output channel
 pub record AreWaiting (v : View) (set : ℕ) : Type 0 where
   pub below : AreBelow (size_of v.site) set
   pub each : (i : ℕ) → i < size_of v.site → has_bit set i ≡ is_waiting (view_input v i).phase
 
--- .. the channels that are ready to send
+-- the set has just the channels that are ready to send
 pub record AreReady (v : View) (set : ℕ) : Type 0 where
   pub below : AreBelow (size_of v.site) set
   pub each : (i : ℕ) → i < size_of v.site → has_bit set i ≡ (is_active (view_input v i).phase && (not (is_empty (view_buffer v i)) && is_supplied v.outputs (view_input v i).phase))
@@ -44,7 +44,7 @@ way_in vcs Idle = None
 way_in vcs (Waiting set) = None
 way_in vcs (Active o) = Some (o / vcs)
 
--- .. the input channel with this index
+-- the output port to which the input channel with this index sends
 abbrev pub way_of : View → ℕ → Option ℕ
 way_of v i = way_in v.site.vcs (view_input v i).phase
 
@@ -59,4 +59,4 @@ HaveWon v round picked set = (k : ℕ) → has_bit set k ≡ (has_bit picked k &
 -- of the input port that has won an output port so far and a later one, the pick of the one that loses it
 abbrev pub loser_of : View → Round → ℕ → ℕ → Option ℕ
 loser_of v round output port =
-    option_and_then (pick_in v.site.vcs round.picks) (farther (turn_at v.arbiters.outputs output).pointer (slice_index_or round.wins output None) port)
+    option_and_then (pick_in v.site.vcs round.picks) (farther (arbiter_at v.arbiters.outputs output).pointer (slice_index_or round.wins output None) port)

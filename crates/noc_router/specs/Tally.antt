@@ -17,7 +17,7 @@ abbrev pub risen_by : ℕ → ℕ → List ℕ → List ℕ
 risen_by n zero others = others
 risen_by n (suc k) others = slice_set others k (slice_index others k + n)
 
--- .. with one more
+-- the counts of the nine verdicts behind Empty, with one more for the verdict with this place in the order
 abbrev pub risen_at : ℕ → List ℕ → List ℕ
 risen_at = risen_by 1
 

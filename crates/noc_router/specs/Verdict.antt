@@ -2,20 +2,20 @@
 -- Both the state of the whole network and the view of one router are read by these definitions.
 use Rattle.std.specs.Prelude.{ℕ, ◌*◌, ◌/◌, ◌%◌, Bool, true, false, List, map, replicate, Option, Some, None, slice_index_or, if◌then◌else◌}
 use Rattle.noc_topo.specs.Words.{tabulate, is_some_of}
-pub use Rattle.noc_alloc.specs.Arbiter.{Turn, pointers_of}
+pub use Rattle.noc_alloc.specs.Arbiter.{RoundRobin, pointers_of}
 unfoldable pub use Rattle.noc_alloc.specs.Arbiter.{first_in_turn}
-use Rattle.noc_alloc.specs.Allocation.{grant_of, pick_of, winner_of, winning_pick, turned_by}
+use Rattle.noc_alloc.specs.Allocation.{grant_of, pick_of, winner_of, winning_pick, arbiters_after_winners}
 use Rattle.noc_router.specs.declared.verdict.Verdict.{Verdict}
 use Rattle.noc_router.specs.declared.verdict.Verdict.TheVariants.{Empty, Routed, Granted, Moved, NoFlit, NoIdleChannel, LostChannel, NoCredit, LostInput, LostSwitch}
 
 -- the arbiters of one router (docs/MODEL.md, "Arbiters"; Dally and Towles, chapter 18)
-pub record Turns : Type 0 where
-  pub channels : List Turn  -- of each output channel, over the input channels
-  pub inputs : List Turn  -- of each input port, over its virtual channels
-  pub outputs : List Turn  -- of each output port, over the input ports
+pub record ArbiterStates : Type 0 where
+  pub channels : List RoundRobin  -- of each output channel, over the input channels
+  pub inputs : List RoundRobin  -- of each input port, over its virtual channels
+  pub outputs : List RoundRobin  -- of each output port, over the input ports
 
 -- all pointers at 0
-abbrev pub opening_arbiters : ℕ → ℕ → Turns
+abbrev pub opening_arbiters : ℕ → ℕ → ArbiterStates
 opening_arbiters ports vcs = record {
   channels = replicate (ports * vcs) (record { size = ports * vcs; pointer = 0 });
   inputs = replicate ports (record { size = vcs; pointer = 0 });
@@ -69,7 +69,7 @@ pub record Round : Type 0 where
   pub wins : List (Option ℕ)  -- for each output port, the input port
 
 -- one round, input first (docs/MODEL.md, "Arbiters")
-abbrev pub round_of : ℕ → ℕ → List Stand → Turns → Round
+abbrev pub round_of : ℕ → ℕ → List Stand → ArbiterStates → Round
 round_of ports vcs stands arbiters =
     let ready = ready_of vcs stands in
     let picks = tabulate ports (pick_of ready vcs (pointers_of arbiters.inputs)) in
@@ -97,12 +97,12 @@ abbrev pub is_routed : Verdict → Bool
 is_routed Routed = true
 is_routed _ = false
 
--- .. by which a packet gets an output channel
+-- the verdict by which a packet gets an output channel
 abbrev pub is_granted : Verdict → Bool
 is_granted Granted = true
 is_granted _ = false
 
--- .. by which a flit leaves
+-- the verdict by which a flit leaves
 abbrev pub is_moved : Verdict → Bool
 is_moved Moved = true
 is_moved _ = false
@@ -128,9 +128,9 @@ column LostInput = 8
 column LostSwitch = 9
 
 -- each pointer moves to one past the winner; that of an input port only where its pick also won an output port
-abbrev pub arbiters_after : Round → Turns → Turns
+abbrev pub arbiters_after : Round → ArbiterStates → ArbiterStates
 arbiters_after round arbiters = record {
-  channels = turned_by (λ o. slice_index_or round.grants o None) arbiters.channels;
-  inputs = turned_by (winning_pick round.picks round.wins) arbiters.inputs;
-  outputs = turned_by (λ port. slice_index_or round.wins port None) arbiters.outputs;
+  channels = arbiters_after_winners (λ o. slice_index_or round.grants o None) arbiters.channels;
+  inputs = arbiters_after_winners (winning_pick round.picks round.wins) arbiters.inputs;
+  outputs = arbiters_after_winners (λ port. slice_index_or round.wins port None) arbiters.outputs;
 }

@@ -21,9 +21,9 @@ verdict_by sets i =
     else Empty
 
 -- the verdict of the first of these sets in which channel k is
-abbrev pub first_in : List (ℕ × Verdict) → ℕ → Verdict
-first_in [] k = Empty
-first_in ((bits, v) ∷ sets) k = if has_bit bits k then v else first_in sets k
+abbrev pub first_verdict_in : List (ℕ × Verdict) → ℕ → Verdict
+first_verdict_in [] k = Empty
+first_verdict_in ((bits, v) ∷ sets) k = if has_bit bits k then v else first_verdict_in sets k
 
 -- in how many of the sets channel i is
 abbrev pub sets_with : VerdictSets → ℕ → ℕ

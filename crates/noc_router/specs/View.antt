@@ -9,12 +9,12 @@ use Rattle.noc_packet.specs.declared.packet.Packet.{Packet}
 use Rattle.noc_packet.specs.declared.packet.Flit.{Flit}
 use Rattle.noc_packet.specs.declared.packet.Beat.{Beat}
 use Rattle.noc_route.specs.Routes.{Routes, set_at}
-use Rattle.noc_vc.specs.Input.{Input, idle_input, is_idle_phase, is_empty, fits, landed, routed, granted, sent}
-use Rattle.noc_vc.specs.Output.{Output, link_output, ejection_output, is_free, credit_fits, credited, has_credit, held, spent}
+use Rattle.noc_vc.specs.Input.{Input, idle_input, is_idle_phase, is_empty, fits, input_after_land, input_after_route, input_after_grant, input_after_send}
+use Rattle.noc_vc.specs.Output.{Output, link_output, ejection_output, is_free, credit_fits, output_after_credit, has_credit, output_after_hold, output_after_spend}
 use Rattle.noc_vc.specs.declared.input.InputState.{InputState}
 use Rattle.noc_vc.specs.declared.input.InputState.TheVariants.{Idle, Waiting, Active}
-use Rattle.noc_router.specs.Arrivals.{is_expected_in, noted}
-use Rattle.noc_router.specs.Verdict.{Turns, opening_arbiters, Claim, Unrouted, Waits, Holds, Stand, ask_of, asks_of, out_of, Round, round_of, verdict_of, is_moved, is_event, column, arbiters_after}
+use Rattle.noc_router.specs.Arrivals.{is_expected_in, arrivals_after}
+use Rattle.noc_router.specs.Verdict.{ArbiterStates, opening_arbiters, Claim, Unrouted, Waits, Holds, Stand, ask_of, asks_of, out_of, Round, round_of, verdict_of, is_moved, is_event, column, arbiters_after}
 use Rattle.noc_router.specs.declared.verdict.Verdict.{Verdict}
 use Rattle.noc_router.specs.declared.verdict.Verdict.TheVariants.{Empty, Routed, Granted, Moved}
 use Rattle.noc_router.specs.declared.verdict.Finding.{Finding}
@@ -32,7 +32,7 @@ pub record View : Type 0 where
   pub buffers : List (List Flit)  -- of each input channel
   pub inputs : List Input
   pub outputs : List Output
-  pub arbiters : Turns
+  pub arbiters : ArbiterStates
   pub queue : List (ℕ × Packet)  -- packets with a flit still at the source, with their numbers, in their order
   pub sending : Option (ℕ × ℕ)  -- the local virtual channel of the first of them, once it has begun, and its next index
   pub ends : List (ℕ × Option ℕ)  -- packets that were built to end here, with their arrivals
@@ -84,12 +84,12 @@ abbrev pub view_output : View → ℕ → Output
 view_output v o = slice_index_or v.outputs o ejection_output
 
 -- a counter at the greatest value of 64 bits stays there
-abbrev pub raised : ℕ → ℕ
-raised n = min (n + 1) (2 ^ 64 - 1)
+abbrev pub saturating_next : ℕ → ℕ
+saturating_next n = min (n + 1) (2 ^ 64 - 1)
 
 -- one misfit more (docs/MODEL.md, "Misfits")
 abbrev pub with_misfit : View → View
-with_misfit v = record v { misfits = raised v.misfits }
+with_misfit v = record v { misfits = saturating_next v.misfits }
 
 -- ---- a beat is taken
 
@@ -97,7 +97,7 @@ with_misfit v = record v { misfits = raised v.misfits }
 abbrev pub with_landed : ℕ → Flit → View → View
 with_landed i f v = record v {
   buffers = slice_set v.buffers i (view_buffer v i ++ f ∷ []);
-  inputs = slice_set v.inputs i (landed (view_input v i) f);
+  inputs = slice_set v.inputs i (input_after_land (view_input v i) f);
   had_event = true;
 }
 
@@ -116,21 +116,21 @@ with_credit port None v = v
 with_credit port (Some vc) v =
     let o = port * v.site.vcs + vc in
     if has_link v.site port && nat_lt vc v.site.vcs && credit_fits (view_output v o)
-    then record v { outputs = slice_set v.outputs o (credited (view_output v o)); had_event = true }
+    then record v { outputs = slice_set v.outputs o (output_after_credit (view_output v o)); had_event = true }
     else with_misfit v
 
 -- after `take`: the flit and the credit of a beat, each by itself
-unfoldable pub taken : Routes → ℕ → Beat → View → View
-taken relation port beat v = with_credit port beat.credit (with_flit relation port beat.flit v)
+unfoldable pub view_after_take : Routes → ℕ → Beat → View → View
+view_after_take relation port beat v = with_credit port beat.credit (with_flit relation port beat.flit v)
 
 -- after a `take` of each beat, at this port and those behind it
-abbrev pub taken_from : Routes → ℕ → List Beat → View → View
-taken_from relation port [] v = v
-taken_from relation port (beat ∷ beats) v = taken_from relation (port + 1) beats (taken relation port beat v)
+abbrev pub view_after_takes_from : Routes → ℕ → List Beat → View → View
+view_after_takes_from relation port [] v = v
+view_after_takes_from relation port (beat ∷ beats) v = view_after_takes_from relation (port + 1) beats (view_after_take relation port beat v)
 
 -- after a `take` at each link port, from port 0 on
-unfoldable pub all_taken : Routes → List Beat → View → View
-all_taken relation beats v = taken_from relation 0 beats v
+unfoldable pub view_after_takes : Routes → List Beat → View → View
+view_after_takes relation beats v = view_after_takes_from relation 0 beats v
 
 -- ---- the source injects at most one flit
 
@@ -157,16 +157,16 @@ begun_on None number p rest v = v
 begun_on (Some vc) number p rest v = with_injected vc 0 number p rest v
 
 -- the first packet goes on where its buffer has room; one that is due begins on the lowest vacant local channel
-abbrev pub injected_from : ℕ → List (ℕ × Packet) → Option (ℕ × ℕ) → View → View
-injected_from n [] sending v = v
-injected_from n ((number, p) ∷ rest) (Some (vc, index)) v =
+abbrev pub view_after_inject_from : ℕ → List (ℕ × Packet) → Option (ℕ × ℕ) → View → View
+view_after_inject_from n [] sending v = v
+view_after_inject_from n ((number, p) ∷ rest) (Some (vc, index)) v =
     if nat_lt (length (view_buffer v (local_channel v.site vc))) v.site.places then with_injected vc index number p rest v else v
-injected_from n ((number, p) ∷ rest) None v =
+view_after_inject_from n ((number, p) ∷ rest) None v =
     if nat_le p.due n then begun_on (find (is_vacant v) (below v.site.vcs)) number p rest v else v
 
 -- after `inject`
-unfoldable pub injected : ℕ → View → View
-injected n v = injected_from n v.queue v.sending (record v { given = n })
+unfoldable pub view_after_inject : ℕ → View → View
+view_after_inject n v = view_after_inject_from n v.queue v.sending (record v { given = n })
 
 -- ---- what is decided, all from one frozen state
 
@@ -180,11 +180,11 @@ claim_in v Idle = Unrouted
 claim_in v (Waiting set) = Waits (asked_for v set)
 claim_in v (Active o) = Holds o (has_credit (view_output v o))
 
--- .. the input channel with this index
+-- what the input channel with this index can go on with
 abbrev pub view_claim : View → ℕ → Claim
 view_claim v i = claim_in v (view_input v i).phase
 
--- .. and whether its buffer holds a flit
+-- what the input channel with this index can go on with, and whether its buffer holds a flit
 abbrev pub view_stand : View → ℕ → Stand
 view_stand v i = record { claim = view_claim v i; has_flit = not (is_empty (view_buffer v i)) }
 
@@ -217,27 +217,27 @@ route_for relation v i (Some f) = set_at relation f.class v.site.node (i / v.sit
 abbrev pub first_flit : View → ℕ → Option Flit
 first_flit v i = slice_get (view_buffer v i) 0
 
--- .. where that is idle and holds a head, and else 0
+-- the set to which the head of input channel i is routed, where the channel is idle and holds one, and else 0
 abbrev pub route_of : Routes → View → ℕ → ℕ
 route_of relation v i = if is_idle_phase (view_input v i).phase then route_for relation v i (first_flit v i) else 0
 
 -- after `plan`
-unfoldable pub planned : Routes → View → Decisions
-planned relation v = record {
+unfoldable pub decisions_of : Routes → View → Decisions
+decisions_of relation v = record {
   round = view_round v;
   findings = tabulate (size_of v.site) (finding_of (view_round v) v);
   routes = tabulate (size_of v.site) (route_of relation v);
 }
 
 -- what a plan keeps of it: the packet of each channel and its output channel are those of the view
-pub record Outcome : Type 0 where
+pub record PlanContents : Type 0 where
   pub round : Round
   pub asks : List (Option ℕ)  -- for each input channel, the output channel that it asks for
   pub verdicts : List Verdict
   pub routes : List ℕ
 
-unfoldable pub outcome : Routes → View → Outcome
-outcome relation v = record {
+unfoldable pub plan_contents : Routes → View → PlanContents
+plan_contents relation v = record {
   round = view_round v;
   asks = asks_of (view_stands v);
   verdicts = tabulate (size_of v.site) (λ i. (finding_of (view_round v) v i).verdict);
@@ -253,16 +253,16 @@ decided_verdict d i = slice_index_or (map (λ (finding : Finding). finding.verdi
 -- an input channel that was granted what it asked for
 abbrev pub granted_to : Input → Option ℕ → Input
 granted_to input None = input
-granted_to input (Some o) = granted input o
+granted_to input (Some o) = input_after_grant input o
 
 -- an input channel that has sent its first flit
 abbrev pub sent_from : Input → Option Flit → Input
 sent_from input None = input
-sent_from input (Some f) = sent input f
+sent_from input (Some f) = input_after_send input f
 
 -- an input channel with this verdict: routed, granted what it asks for, or with its first flit gone
 abbrev pub input_after : Decisions → View → ℕ → Input → Verdict → Input
-input_after d v i input Routed = routed input (slice_index d.routes i)
+input_after d v i input Routed = input_after_route input (slice_index d.routes i)
 input_after d v i input Granted = granted_to input (ask_of (view_claim v i))
 input_after d v i input Moved = sent_from input (first_flit v i)
 input_after d v i input _ = input
@@ -282,7 +282,7 @@ mover_to v round o = option_and_then (λ i. if is_some_of (out_of (view_claim v 
 -- an output channel that was granted to the packet of an input channel
 abbrev pub held_by : View → Output → Option ℕ → Output
 held_by v output None = output
-held_by v output (Some i) = held output i (unwrap_or (view_input v i).packet 0)
+held_by v output (Some i) = output_after_hold output i (unwrap_or (view_input v i).packet 0)
 
 -- whether it is a tail
 abbrev pub is_tail : Option Flit → Bool
@@ -292,7 +292,7 @@ is_tail (Some f) = f.last
 -- an output channel by which the first flit of an input channel has left
 abbrev pub spent_by : View → Output → Option ℕ → Output
 spent_by v output None = output
-spent_by v output (Some i) = spent (is_tail (first_flit v i)) output
+spent_by v output (Some i) = output_after_spend (is_tail (first_flit v i)) output
 
 -- an output channel is owned by the packet that it was granted to, and has lost the credit of a flit that left by it
 abbrev pub output_after : View → Round → ℕ → Output → Output
@@ -320,12 +320,12 @@ tail_packet (Some (vc, f)) = if f.last then Some f.packet else None
 abbrev pub with_arrival : Option ℕ → View → View
 with_arrival None v = v
 with_arrival (Some p) v =
-    if is_expected_in p v.ends then record v { ends = noted p v.given v.ends }
+    if is_expected_in p v.ends then record v { ends = arrivals_after p v.given v.ends }
     else with_misfit v
 
 -- one more cycle with this verdict; where the ten counts add up to the greatest number of 64 bits, none rises any more
-abbrev pub counted : Verdict → List ℕ → List ℕ
-counted verdict counts =
+abbrev pub counts_after : Verdict → List ℕ → List ℕ
+counts_after verdict counts =
     if nat_lt (sum counts) (2 ^ 64 - 1)
     then slice_set counts (column verdict) (slice_index counts (column verdict) + 1)
     else counts
@@ -335,14 +335,14 @@ abbrev pub has_event : Decisions → View → Bool
 has_event d v = v.had_event || list_any (λ (finding : Finding). is_event finding.verdict) d.findings
 
 -- after `commit`, with the decisions of this very view
-unfoldable pub committed : Decisions → View → View
-committed d v = with_arrival (tail_packet (flit_out v d.round (local_port v.site.grid))) (record v {
+unfoldable pub view_after_commit : Decisions → View → View
+view_after_commit d v = with_arrival (tail_packet (flit_out v d.round (local_port v.site.grid))) (record v {
   buffers = map_indexed (λ i flits. buffer_after flits (decided_verdict d i)) v.buffers;
   inputs = map_indexed (λ i input. input_after d v i input (decided_verdict d i)) v.inputs;
   outputs = map_indexed (output_after v d.round) v.outputs;
   arbiters = arbiters_after d.round v.arbiters;
   last_event = if has_event d v then Some v.given else v.last_event;
-  counts = map_indexed (λ i counts. counted (decided_verdict d i) counts) v.counts;
+  counts = map_indexed (λ i counts. counts_after (decided_verdict d i) counts) v.counts;
   findings = d.findings;
   had_event = false;
   to_put = tabulate (local_port v.site.grid) (beat_out d v);
@@ -354,17 +354,17 @@ committed d v = with_arrival (tail_packet (flit_out v d.round (local_port v.site
 abbrev pub beat_to_put : View → ℕ → Beat
 beat_to_put v port = slice_index_or v.to_put port idle_beat
 
--- .. and the view after it
-abbrev pub put : ℕ → View → View
-put port v = record v { to_put = slice_set v.to_put port idle_beat }
+-- the view after `put`
+abbrev pub view_after_put : ℕ → View → View
+view_after_put port v = record v { to_put = slice_set v.to_put port idle_beat }
 
 -- ---- one cycle
 
 -- the view after cycle n over these beats, one for each link port, and the beats that go out
 unfoldable pub local_step : Routes → View → List Beat → ℕ → View × List Beat
 local_step relation v beats n =
-    let frozen = injected n (all_taken relation beats v) in
-    let after = committed (planned relation frozen) frozen in
+    let frozen = view_after_inject n (view_after_takes relation beats v) in
+    let after = view_after_commit (decisions_of relation frozen) frozen in
     (record after { to_put = idle_beats after.site }, after.to_put)
 
 -- a new router: `starts` are the packets of its node in the order in which they are injected, `ends` those that end there

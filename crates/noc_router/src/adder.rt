@@ -8,7 +8,7 @@ use noc_packet::ChannelSet;
 
 // Three sets added: the channels that are in one or three of them, and those that are in two or three.
 #[inline(always)]
-pub(crate) fn add_three(a: ChannelSet, b: ChannelSet, c: ChannelSet) -> (ChannelSet, ChannelSet)
+pub(crate) fn full_adder(a: ChannelSet, b: ChannelSet, c: ChannelSet) -> (ChannelSet, ChannelSet)
     ensures { (k : ℕ) → one_if (has_bit result.0 k) + 2 * one_if (has_bit result.1 k) ≡ one_if (has_bit a k) + one_if (has_bit b k) + one_if (has_bit c k) }
 {
     let two = a.both(b);

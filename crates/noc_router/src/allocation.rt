@@ -10,10 +10,10 @@
 ghost use Rattle.std.specs.Prelude.{◌≡◌, ℕ, ◌*◌, ◌<◌, ◌≤◌, List, Option, length, All, IfSome, Some, None, is_some, slice_index_or};
 ghost use Rattle.noc_topo.specs.Words.{tabulate};
 ghost use Rattle.noc_packet.specs.Set.{has_bit};
-ghost use Rattle.noc_alloc.specs.Arbiter.{Turn, pointers_of, turn_at};
-ghost use Rattle.noc_alloc.specs.Allocation.{grant_of, pick_of, winning_pick, turned_by};
-ghost use Rattle.noc_alloc.specs.Steps.{turned_winner};
-ghost use Rattle.noc_router.specs.Offers.{farther, nearer, offered};
+ghost use Rattle.noc_alloc.specs.Arbiter.{RoundRobin, pointers_of, arbiter_at};
+ghost use Rattle.noc_alloc.specs.Allocation.{grant_of, pick_of, winning_pick, arbiters_after_winners};
+ghost use Rattle.noc_alloc.specs.Steps.{arbiters_after_winner};
+ghost use Rattle.noc_router.specs.Offers.{farther, nearer, firsts_after_request};
 
 use crate::places::Places;
 use noc_alloc::Arbiter;
@@ -24,7 +24,7 @@ use noc_packet::{ChannelSet, INDICES};
 // arbiter puts first; `grants` gets that input channel.
 pub(crate) fn allocate_channels(asks: &Places, arbiters: &[Arbiter], grants: &mut Places)
     requires lengths { length grants.old ≡ length arbiters.now }
-    requires sizes { All (λ (t : Turn). t.size ≡ length asks.now) arbiters.now }
+    requires sizes { All (λ (t : RoundRobin). t.size ≡ length asks.now) arbiters.now }
     requires asks { All (λ ask. IfSome ask (λ o. o < length arbiters.now)) asks.now }
     ensures grants { grants.new ≡ tabulate (length arbiters.now) (grant_of asks.now (length asks.now) (pointers_of arbiters.now)) }
     ensures count { length grants.new ≡ length arbiters.now }
@@ -63,9 +63,9 @@ pub(crate) fn offer(
 ) -> Option<usize>
     requires lengths { length held.old ≡ length arbiters.now }
     requires asked { asked < length arbiters.now }
-    ensures held { held.new ≡ offered arbiters.now asked requester held.old }
+    ensures held { held.new ≡ firsts_after_request arbiters.now asked requester held.old }
     ensures count { length held.new ≡ length held.old }
-    ensures other { result ≡ farther (turn_at arbiters.now asked).pointer (slice_index_or held.old asked None) requester }
+    ensures other { result ≡ farther (arbiter_at arbiters.now asked).pointer (slice_index_or held.old asked None) requester }
     ensures within { (n : ℕ) → requester < n → All (λ one. IfSome one (λ r. r < n)) held.old → All (λ one. IfSome one (λ r. r < n)) held.new }
     ensures other_within { (n : ℕ) → requester < n → All (λ one. IfSome one (λ r. r < n)) held.old → IfSome result (λ r. r < n) }
 {
@@ -85,9 +85,9 @@ pub(crate) fn offer(
 // Moves the pointer of each output channel's arbiter past the input channel that was granted.
 pub(crate) fn advance_channels(grants: &Places, arbiters: &mut [Arbiter])
     requires lengths { length grants.now ≡ length arbiters.old }
-    requires grants { (k : ℕ) → k < length arbiters.old → IfSome (slice_index_or grants.now k None) (λ w. w < (turn_at arbiters.old k).size) }
-    ensures pointers { arbiters.new ≡ turned_by (λ o. slice_index_or grants.now o None) arbiters.old }
-    ensures sizes { (k : ℕ) → (turn_at arbiters.new k).size ≡ (turn_at arbiters.old k).size }
+    requires grants { (k : ℕ) → k < length arbiters.old → IfSome (slice_index_or grants.now k None) (λ w. w < (arbiter_at arbiters.old k).size) }
+    ensures pointers { arbiters.new ≡ arbiters_after_winners (λ o. slice_index_or grants.now o None) arbiters.old }
+    ensures sizes { (k : ℕ) → (arbiter_at arbiters.new k).size ≡ (arbiter_at arbiters.old k).size }
 {
     let mut rest = grants.filled();
     while let Some(output) = rest.least_common(&rest) {
@@ -106,7 +106,7 @@ pub(crate) fn pick_channel(
 ) -> Option<usize>
     requires few { length inputs.now * vcs ≤ INDICES }
     requires port { port < length inputs.now }
-    requires sizes { All (λ (t : Turn). t.size ≡ vcs) inputs.now }
+    requires sizes { All (λ (t : RoundRobin). t.size ≡ vcs) inputs.now }
     ensures vc { IfSome result (λ v. v < vcs) }
     ensures pick { (asked : List (Option ℕ)) → ((k : ℕ) → has_bit ready k ≡ is_some (slice_index_or asked k None)) → result ≡ pick_of asked vcs (pointers_of inputs.now) port }
 {

@@ -7,7 +7,7 @@
 
 ghost use Rattle.std.specs.Prelude.{◌≡◌, ◌*◌, ◌<◌, ◌≤◌, All, IfOk, vec_len};
 ghost use Rattle.noc_packet.specs.declared.limits.TheConstants.{MAX_CHANNELS, MAX_PORTS};
-ghost use Rattle.noc_router.specs.Settled.{turned_past};
+ghost use Rattle.noc_router.specs.Settled.{arbiters_past};
 ghost use Rattle.noc_router.specs.Verdict.{opening_arbiters};
 
 use noc_alloc::Arbiter;
@@ -53,15 +53,15 @@ impl Arbiters {
     }
 
     // The pointers of an input port and an output port go on past the virtual channel and the input port that won.
-    pub(crate) fn turn_switch(&mut self, port: usize, vc: usize, output: usize)
+    pub(crate) fn advance_switch_pointers(&mut self, port: usize, vc: usize, output: usize)
         requires port { port < self.old.ports }
         requires vc { vc < self.old.vcs }
         requires output { output < self.old.ports }
         ensures ports { self.new.ports ≡ self.old.ports }
         ensures vcs { self.new.vcs ≡ self.old.vcs }
         ensures channels { self.new.channels.items ≡ self.old.channels.items }
-        ensures inputs { self.new.inputs.items ≡ turned_past port vc self.old.inputs.items }
-        ensures outputs { self.new.outputs.items ≡ turned_past output port self.old.outputs.items }
+        ensures inputs { self.new.inputs.items ≡ arbiters_past port vc self.old.inputs.items }
+        ensures outputs { self.new.outputs.items ≡ arbiters_past output port self.old.outputs.items }
     {
         self.inputs[port].advance(Some(vc));
         self.outputs[output].advance(Some(port));

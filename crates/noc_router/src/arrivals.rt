@@ -3,7 +3,7 @@
 ghost use Rattle.std.specs.Prelude.{◌≡◌, IfOk, if◌then◌else◌, None, map, vec_len};
 ghost use Rattle.std.specs.List.{zip, list_any};
 ghost use Rattle.std.specs.List.Sorted.{IsStrictlyIncreasing};
-ghost use Rattle.noc_router.specs.Arrivals.{is_expected_in, noted, arrival_in};
+ghost use Rattle.noc_router.specs.Arrivals.{is_expected_in, arrivals_after, noted_arrival};
 
 use noc_packet::Memory;
 use std::alloc::Global;
@@ -28,7 +28,7 @@ impl Arrivals {
 
     // The cycle in which a packet's tail was out: None for one that was not built to end here.
     pub(crate) fn cycle_of(&self, packet: u32) -> Option<u64>
-        ensures { result ≡ arrival_in packet (zip self.now.ends.items self.now.cycles.items) }
+        ensures { result ≡ noted_arrival packet (zip self.now.ends.items self.now.cycles.items) }
     {
         match self.ends.binary_search(&packet) {
             Ok(place) => self.cycles[place],
@@ -39,7 +39,7 @@ impl Arrivals {
     // Notes that a packet's tail is out. False where the packet was not built to end here or has arrived before.
     pub(crate) fn note(&mut self, packet: u32, cycle: u64) -> bool
         ensures expected { result ≡ is_expected_in packet (zip self.old.ends.items self.old.cycles.items) }
-        ensures noted { zip self.new.ends.items self.new.cycles.items ≡ (if result then noted packet cycle (zip self.old.ends.items self.old.cycles.items) else zip self.old.ends.items self.old.cycles.items) }
+        ensures noted { zip self.new.ends.items self.new.cycles.items ≡ (if result then arrivals_after packet cycle (zip self.old.ends.items self.old.cycles.items) else zip self.old.ends.items self.old.cycles.items) }
     {
         let Ok(place) = self.ends.binary_search(&packet) else {
             return false;

@@ -11,11 +11,11 @@ ghost use Rattle.noc_topo.specs.Shape.{nodes as nodes_of, ports as ports_of};
 ghost use Rattle.noc_topo.specs.Words.{below};
 ghost use Rattle.noc_packet.specs.Set.{has_bit};
 ghost use Rattle.noc_packet.specs.declared.limits.TheConstants.{INDICES};
-ghost use Rattle.noc_ring.specs.Rings.{empty_rings, ring_at, pushed, popped};
-ghost use Rattle.noc_vc.specs.Input.{idle_input, is_idle_phase, is_waiting, is_empty, fits, landed, routed, granted, sent};
-ghost use Rattle.noc_vc.specs.Output.{ejection_output, link_output, is_free, is_owned, has_credit, credit_fits, credited, held, spent};
+ghost use Rattle.noc_ring.specs.Buffers.{empty_buffers, buffer_at, buffers_after_push, buffers_after_pop};
+ghost use Rattle.noc_vc.specs.Input.{idle_input, is_idle_phase, is_waiting, is_empty, fits, input_after_land, input_after_route, input_after_grant, input_after_send};
+ghost use Rattle.noc_vc.specs.Output.{ejection_output, link_output, is_free, is_owned, has_credit, credit_fits, output_after_credit, output_after_hold, output_after_spend};
 ghost use Rattle.noc_router.specs.Members.{AreBelow, is_within};
-ghost use Rattle.noc_router.specs.Sound.{input_at, output_at, is_occupied, is_awaiting, KeepsAwaiting, AreSound, AreStanding, asked_in, named};
+ghost use Rattle.noc_router.specs.Sound.{nth_input, nth_output, is_occupied, is_awaiting, KeepsAwaiting, AreSound, AreStanding, asked_in, finding_with};
 
 use crate::indices::Indices;
 use crate::plan::Plan;
@@ -34,10 +34,10 @@ pub(crate) struct Standing {
     // A packet that waits for an output channel.
     pub(crate) waiting: ChannelSet,
     // A packet that owns one, whose next flit is not there.
-    pub(crate) starved: ChannelSet,
-    // .. whose next flit is there, where the output channel has no credit.
-    pub(crate) unsupplied: ChannelSet,
-    // .. where it has one.
+    pub(crate) no_flit: ChannelSet,
+    // A packet that owns an output channel with no credit, whose next flit is there.
+    pub(crate) no_credit: ChannelSet,
+    // A packet that owns an output channel with a credit, or one that leads out, whose next flit is there.
     pub(crate) ready: ChannelSet,
 }
 
@@ -82,7 +82,7 @@ impl Channels {
         requires some_place { 0 < places }
         requires places { places ≤ MAX_BUFFER }
         ensures size { IfOk result (λ channels. channels.size ≡ size) }
-        ensures bank { IfOk result (λ channels. channels.bank ≡ empty_rings size places) }
+        ensures bank { IfOk result (λ channels. channels.bank ≡ empty_buffers size places) }
         ensures inputs { IfOk result (λ channels. channels.inputs.items ≡ replicate size idle_input) }
         ensures outputs { IfOk result (λ channels. channels.outputs.items ≡ replicate links (link_output places) ++ replicate (size - links) ejection_output) }
     {
@@ -109,15 +109,15 @@ impl Channels {
     // The input channels that hold a packet or a flit.
     pub(crate) fn occupied(&self) -> ChannelSet
         ensures below { AreBelow self.now.size result }
-        ensures members { (i : ℕ) → i < self.now.size → has_bit result i ≡ is_occupied (input_at self.now.inputs.items i) (ring_at self.now.bank i) }
-        ensures vacant { (i : ℕ) → i < self.now.size → has_bit result i ≡ false → (input_at self.now.inputs.items i).packet ≡ None }
+        ensures members { (i : ℕ) → i < self.now.size → has_bit result i ≡ is_occupied (nth_input self.now.inputs.items i) (buffer_at self.now.bank i) }
+        ensures vacant { (i : ℕ) → i < self.now.size → has_bit result i ≡ false → (nth_input self.now.inputs.items i).packet ≡ None }
     {
         self.filled.either(self.waiting).either(self.active)
     }
 
     // The input channels that are idle with an empty buffer.
     pub(crate) fn vacant(&self) -> ChannelSet
-        ensures { (i : ℕ) → has_bit result i ≡ (nat_lt i self.now.size && (is_idle_phase (input_at self.now.inputs.items i).phase && is_empty (ring_at self.now.bank i))) }
+        ensures { (i : ℕ) → has_bit result i ≡ (nat_lt i self.now.size && (is_idle_phase (nth_input self.now.inputs.items i).phase && is_empty (buffer_at self.now.bank i))) }
     {
         self.every.less(self.occupied())
     }
@@ -130,8 +130,8 @@ impl Channels {
         Standing {
             heads: self.filled.less(self.waiting).less(self.active),
             waiting: self.waiting,
-            starved: self.active.less(self.filled),
-            unsupplied: sendable.less(self.supplied),
+            no_flit: self.active.less(self.filled),
+            no_credit: sendable.less(self.supplied),
             ready: sendable.both(self.supplied),
         }
     }
@@ -151,9 +151,9 @@ impl Channels {
         requires router { router < nodes_of relation.now.grid }
         requires port { port < ports_of relation.now.grid }
         requires vc { vc < relation.now.vcs }
-        ensures fits { result ≡ fits relation.now router port vc self.old.bank.capacity (ring_at self.old.bank index) (input_at self.old.inputs.items index) flit.now }
-        ensures bank { self.new.bank ≡ (if result then pushed self.old.bank index flit.now else self.old.bank) }
-        ensures inputs { self.new.inputs.items ≡ (if result then slice_set self.old.inputs.items index (landed (input_at self.old.inputs.items index) flit.now) else self.old.inputs.items) }
+        ensures fits { result ≡ fits relation.now router port vc self.old.bank.capacity (buffer_at self.old.bank index) (nth_input self.old.inputs.items index) flit.now }
+        ensures bank { self.new.bank ≡ (if result then buffers_after_push self.old.bank index flit.now else self.old.bank) }
+        ensures inputs { self.new.inputs.items ≡ (if result then slice_set self.old.inputs.items index (input_after_land (nth_input self.old.inputs.items index) flit.now) else self.old.inputs.items) }
         ensures outputs { self.new.outputs.items ≡ self.old.outputs.items }
         ensures size { self.new.size ≡ self.old.size }
         ensures places { self.new.bank.capacity ≡ self.old.bank.capacity }
@@ -172,10 +172,10 @@ impl Channels {
     // then the flits that the channel awaits.
     pub(crate) fn inject(&mut self, index: usize, flit: Flit)
         requires exists { index < self.old.size }
-        requires room { length (ring_at self.old.bank index) < self.old.bank.capacity }
-        requires next { is_empty (ring_at self.old.bank index) ≡ true ⊎ is_awaiting self.old.inputs.items index ≡ true }
-        ensures bank { self.new.bank ≡ pushed self.old.bank index flit }
-        ensures inputs { self.new.inputs.items ≡ slice_set self.old.inputs.items index (landed (input_at self.old.inputs.items index) flit) }
+        requires room { length (buffer_at self.old.bank index) < self.old.bank.capacity }
+        requires next { is_empty (buffer_at self.old.bank index) ≡ true ⊎ is_awaiting self.old.inputs.items index ≡ true }
+        ensures bank { self.new.bank ≡ buffers_after_push self.old.bank index flit }
+        ensures inputs { self.new.inputs.items ≡ slice_set self.old.inputs.items index (input_after_land (nth_input self.old.inputs.items index) flit) }
         ensures outputs { self.new.outputs.items ≡ self.old.outputs.items }
         ensures size { self.new.size ≡ self.old.size }
         ensures places { self.new.bank.capacity ≡ self.old.bank.capacity }
@@ -187,8 +187,8 @@ impl Channels {
     // A credit arrives at an output channel. False where it does not fit, and then nothing has changed.
     pub(crate) fn credit_back(&mut self, index: usize) -> bool
         requires { index < self.old.size }
-        ensures fits { result ≡ credit_fits (output_at self.old.outputs.items index) }
-        ensures outputs { self.new.outputs.items ≡ (if result then slice_set self.old.outputs.items index (credited (output_at self.old.outputs.items index)) else self.old.outputs.items) }
+        ensures fits { result ≡ credit_fits (nth_output self.old.outputs.items index) }
+        ensures outputs { self.new.outputs.items ≡ (if result then slice_set self.old.outputs.items index (output_after_credit (nth_output self.old.outputs.items index)) else self.old.outputs.items) }
         ensures bank { self.new.bank ≡ self.old.bank }
         ensures inputs { self.new.inputs.items ≡ self.old.inputs.items }
         ensures size { self.new.size ≡ self.old.size }
@@ -209,7 +209,7 @@ impl Channels {
     // The state of an input channel.
     pub(crate) fn state(&self, index: usize) -> InputState
         requires { index < self.now.size }
-        ensures value { result ≡ (input_at self.now.inputs.items index).phase }
+        ensures value { result ≡ (nth_input self.now.inputs.items index).phase }
         ensures within { is_within self.now.size result ≡ true }
     {
         self.inputs[index].state()
@@ -218,7 +218,7 @@ impl Channels {
     // The output channel that a waiting input channel asks for: the least of the idle ones in its set.
     pub(crate) fn asked(&self, index: usize) -> Option<usize>
         requires { index < self.now.size }
-        ensures value { result ≡ asked_in self.now.size self.now.outputs.items (input_at self.now.inputs.items index).phase }
+        ensures value { result ≡ asked_in self.now.size self.now.outputs.items (nth_input self.now.inputs.items index).phase }
         ensures within { IfSome result (λ output. output < self.now.size) }
     {
         match self.inputs[index].state() {
@@ -238,7 +238,7 @@ impl Channels {
         requires index { index < self.now.size }
         requires indices { indices.now.size ≡ self.now.size }
         requires asks { length plan.now.asks ≡ self.now.size }
-        ensures { result ≡ named indices.now.vcs (input_at self.now.inputs.items index) verdict (slice_index_or plan.now.asks index None) }
+        ensures { result ≡ finding_with indices.now.vcs (nth_input self.now.inputs.items index) verdict (slice_index_or plan.now.asks index None) }
     {
         let input = &self.inputs[index];
         let out = match input.state() {
@@ -255,7 +255,7 @@ impl Channels {
 
     // The least of the idle output channels in a set.
     pub(crate) fn least_idle(&self, set: ChannelSet) -> Option<usize>
-        ensures value { result ≡ find (λ o. has_bit set o && is_free (output_at self.now.outputs.items o).holder) (below self.now.size) }
+        ensures value { result ≡ find (λ o. has_bit set o && is_free (nth_output self.now.outputs.items o).holder) (below self.now.size) }
         ensures within { IfSome result (λ output. output < self.now.size) }
     {
         set.least_common(&self.idle)
@@ -264,7 +264,7 @@ impl Channels {
     // Whether the buffer of an input channel has room for a flit.
     pub(crate) fn has_room(&self, index: usize) -> bool
         requires { index < self.now.size }
-        ensures { result ≡ nat_lt (length (ring_at self.now.bank index)) self.now.bank.capacity }
+        ensures { result ≡ nat_lt (length (buffer_at self.now.bank index)) self.now.bank.capacity }
     {
         !self.bank.is_full(index)
     }
@@ -272,7 +272,7 @@ impl Channels {
     // The first flit in the buffer of an input channel.
     pub(crate) fn front(&self, index: usize) -> Option<Flit>
         requires { index < self.now.size }
-        ensures { result ≡ slice_get (ring_at self.now.bank index) 0 }
+        ensures { result ≡ slice_get (buffer_at self.now.bank index) 0 }
     {
         self.bank.front(index)
     }
@@ -280,9 +280,9 @@ impl Channels {
     // The head in the buffer of an idle input channel gets its set of output channels.
     pub(crate) fn route(&mut self, index: usize, set: ChannelSet)
         requires exists { index < self.old.size }
-        requires idle { (input_at self.old.inputs.items index).phase ≡ InputState.Idle }
-        requires head { 0 < length (ring_at self.old.bank index) }
-        ensures inputs { self.new.inputs.items ≡ slice_set self.old.inputs.items index (routed (input_at self.old.inputs.items index) set) }
+        requires idle { (nth_input self.old.inputs.items index).phase ≡ InputState.Idle }
+        requires head { 0 < length (buffer_at self.old.bank index) }
+        ensures inputs { self.new.inputs.items ≡ slice_set self.old.inputs.items index (input_after_route (nth_input self.old.inputs.items index) set) }
         ensures bank { self.new.bank ≡ self.old.bank }
         ensures outputs { self.new.outputs.items ≡ self.old.outputs.items }
         ensures size { self.new.size ≡ self.old.size }
@@ -297,10 +297,10 @@ impl Channels {
     pub(crate) fn grant(&mut self, index: usize, next: usize)
         requires input { index < self.old.size }
         requires output { next < self.old.size }
-        requires waits { is_waiting (input_at self.old.inputs.items index).phase ≡ true }
-        requires free { is_free (output_at self.old.outputs.items next).holder ≡ true }
-        ensures inputs { self.new.inputs.items ≡ slice_set self.old.inputs.items index (granted (input_at self.old.inputs.items index) next) }
-        ensures outputs { self.new.outputs.items ≡ slice_set self.old.outputs.items next (held (output_at self.old.outputs.items next) index (unwrap_or (input_at self.old.inputs.items index).packet 0)) }
+        requires waits { is_waiting (nth_input self.old.inputs.items index).phase ≡ true }
+        requires free { is_free (nth_output self.old.outputs.items next).holder ≡ true }
+        ensures inputs { self.new.inputs.items ≡ slice_set self.old.inputs.items index (input_after_grant (nth_input self.old.inputs.items index) next) }
+        ensures outputs { self.new.outputs.items ≡ slice_set self.old.outputs.items next (output_after_hold (nth_output self.old.outputs.items next) index (unwrap_or (nth_input self.old.inputs.items index).packet 0)) }
         ensures bank { self.new.bank ≡ self.old.bank }
         ensures size { self.new.size ≡ self.old.size }
         ensures places { self.new.bank.capacity ≡ self.old.bank.capacity }
@@ -320,13 +320,13 @@ impl Channels {
     pub(crate) fn send(&mut self, index: usize, next: usize) -> Flit
         requires input { index < self.old.size }
         requires output { next < self.old.size }
-        requires owned { (input_at self.old.inputs.items index).phase ≡ InputState.Active next }
-        requires some { 0 < length (ring_at self.old.bank index) }
-        requires credit { has_credit (output_at self.old.outputs.items next) ≡ true }
-        ensures value { slice_get (ring_at self.old.bank index) 0 ≡ Some result }
-        ensures bank { self.new.bank ≡ popped self.old.bank index }
-        ensures inputs { self.new.inputs.items ≡ slice_set self.old.inputs.items index (sent (input_at self.old.inputs.items index) result) }
-        ensures outputs { self.new.outputs.items ≡ slice_set self.old.outputs.items next (spent result.last (output_at self.old.outputs.items next)) }
+        requires owned { (nth_input self.old.inputs.items index).phase ≡ InputState.Active next }
+        requires some { 0 < length (buffer_at self.old.bank index) }
+        requires credit { has_credit (nth_output self.old.outputs.items next) ≡ true }
+        ensures value { slice_get (buffer_at self.old.bank index) 0 ≡ Some result }
+        ensures bank { self.new.bank ≡ buffers_after_pop self.old.bank index }
+        ensures inputs { self.new.inputs.items ≡ slice_set self.old.inputs.items index (input_after_send (nth_input self.old.inputs.items index) result) }
+        ensures outputs { self.new.outputs.items ≡ slice_set self.old.outputs.items next (output_after_spend result.last (nth_output self.old.outputs.items next)) }
         ensures size { self.new.size ≡ self.old.size }
         ensures places { self.new.bank.capacity ≡ self.old.bank.capacity }
         ensures awaits { KeepsAwaiting self.old.inputs.items self.new.inputs.items }
@@ -353,7 +353,7 @@ impl Channels {
 fn spend(output: &mut OutputChannel, last: bool)
     requires owned { is_owned output.old.holder ≡ true }
     requires credit { has_credit output.old ≡ true }
-    ensures { output.new ≡ spent last output.old }
+    ensures { output.new ≡ output_after_spend last output.old }
 {
     if output.credit().is_some() {
         output.spend(last);

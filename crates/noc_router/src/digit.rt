@@ -4,7 +4,7 @@ ghost use Rattle.std.specs.Prelude.{◌≡◌, ◌≢◌, ℕ, ◌+◌, ◌*◌,
 ghost use Rattle.noc_packet.specs.declared.limits.TheConstants.{INDICES};
 ghost use Rattle.noc_packet.specs.Set.{has_bit};
 
-use crate::adder::add_three;
+use crate::adder::full_adder;
 use crate::verdict::VERDICTS;
 use noc_packet::{ChannelSet, INDICES};
 
@@ -79,7 +79,7 @@ impl Digit {
         }
     }
 
-    // .. where no sets can be kept any more.
+    // One more for each member of the set of each verdict, where no sets can be kept any more.
     fn fold(&mut self, sets: &Sets) -> Sets
         requires { self.old.kept ≡ 7 }
         ensures { (j k : ℕ) → j < 10 → digit_at self.new j k + 8 * one_at result j k ≡ digit_at self.old j k + one_at sets.now j k }
@@ -103,17 +103,17 @@ impl Digit {
         ensures here { (k : ℕ) → added_at self.new verdict k + 8 * one_if (has_bit result k) ≡ digit_at self.old verdict k + one_if (has_bit set k) }
         ensures others { (j k : ℕ) → j ≢ verdict → added_at self.new j k ≡ added_at self.old j k }
     {
-        let (ones, two_0) = add_three(
+        let (ones, two_0) = full_adder(
             self.ones[verdict],
             self.recent[0][verdict],
             self.recent[1][verdict],
         );
-        let (ones, two_1) = add_three(ones, self.recent[2][verdict], self.recent[3][verdict]);
-        let (ones, two_2) = add_three(ones, self.recent[4][verdict], self.recent[5][verdict]);
-        let (ones, two_3) = add_three(ones, self.recent[6][verdict], set);
-        let (twos, four_0) = add_three(self.twos[verdict], two_0, two_1);
-        let (twos, four_1) = add_three(twos, two_2, two_3);
-        let (fours, eight) = add_three(self.fours[verdict], four_0, four_1);
+        let (ones, two_1) = full_adder(ones, self.recent[2][verdict], self.recent[3][verdict]);
+        let (ones, two_2) = full_adder(ones, self.recent[4][verdict], self.recent[5][verdict]);
+        let (ones, two_3) = full_adder(ones, self.recent[6][verdict], set);
+        let (twos, four_0) = full_adder(self.twos[verdict], two_0, two_1);
+        let (twos, four_1) = full_adder(twos, two_2, two_3);
+        let (fours, eight) = full_adder(self.fours[verdict], four_0, four_1);
         self.ones[verdict] = ones;
         self.twos[verdict] = twos;
         self.fours[verdict] = fours;

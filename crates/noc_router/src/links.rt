@@ -64,7 +64,7 @@ impl Links {
         }
     }
 
-    // .. where some are not.
+    // Every beat is idle again, where some are not.
     #[inline(never)]
     fn clear_loaded(&mut self)
         ensures leads { self.new.leads ≡ self.old.leads }

@@ -1,6 +1,6 @@
 //! What one router decides in one cycle.
 //!
-//! A plan keeps verdicts and no findings: it is seen as an `Outcome`, which has the round, what is asked for,
+//! A plan keeps verdicts and no findings: it is seen as `PlanContents`, which has the round, what is asked for,
 //! the verdicts and the routes. Packet and output channel of a finding are those of the view, so `commit` reads
 //! them there. A whole cycle is defined by `Decisions`, which adds findings; `decisions-are` proves once that
 //! both agree.
@@ -8,8 +8,8 @@
 ghost use Rattle.std.specs.Prelude.{◌≡◌, ℕ, ◌<◌, IfOk, IfSome, length, slice_index, slice_index_or, None};
 ghost use Rattle.noc_topo.specs.Shape.{ports as ports_of};
 ghost use Rattle.noc_packet.specs.Set.{has_bit};
-ghost use Rattle.noc_router.specs.Asked.{turns_in};
-ghost use Rattle.noc_router.specs.Decided.{IsDecidedFor, no_outcome};
+ghost use Rattle.noc_router.specs.Asked.{arbiter_states_in};
+ghost use Rattle.noc_router.specs.Decided.{IsDecidedFor, empty_plan_contents};
 ghost use Rattle.noc_router.specs.declared.verdict.Verdict.TheVariants.{Empty};
 ghost use Rattle.noc_router.specs.Verdict.{arbiters_after, is_event, is_granted, is_moved};
 
@@ -32,13 +32,13 @@ pub struct Plan {
 }
 
 impl Model for Plan {
-    ghost use Rattle.noc_router.specs.View.{Outcome};
+    ghost use Rattle.noc_router.specs.View.{PlanContents};
 
-    ghost Value = { Outcome };
+    ghost Value = { PlanContents };
 
-    ghost use Rattle.noc_router.specs.Planned.{outcome_in, IsPlan};
+    ghost use Rattle.noc_router.specs.Planned.{plan_contents_in, IsPlan};
 
-    ghost view = { outcome_in };
+    ghost view = { plan_contents_in };
 
     ghost invariant = { IsPlan };
 }
@@ -46,7 +46,7 @@ impl Model for Plan {
 impl Plan {
     /// A plan without requests, for the routers of this relation's network.
     pub fn new(alloc: Global, relation: &Relation) -> Result<Plan, Memory>
-        ensures value { IfOk result (λ plan. plan ≡ no_outcome (ports_of relation.now.grid) relation.now.vcs) }
+        ensures value { IfOk result (λ plan. plan ≡ empty_plan_contents (ports_of relation.now.grid) relation.now.vcs) }
         ensures lengths { IfOk result (IsDecidedFor (ports_of relation.now.grid) relation.now.vcs) }
     {
         let ports = relation.shape().ports();
@@ -62,7 +62,7 @@ impl Plan {
         requires lengths { IsDecidedFor arbiters.old.ports arbiters.old.vcs self.now }
         ensures ports { arbiters.new.ports ≡ arbiters.old.ports }
         ensures vcs { arbiters.new.vcs ≡ arbiters.old.vcs }
-        ensures turns { turns_in arbiters.new ≡ record (turns_in arbiters.old) { channels = (arbiters_after self.now.round (turns_in arbiters.old)).channels } }
+        ensures turns { arbiter_states_in arbiters.new ≡ record (arbiter_states_in arbiters.old) { channels = (arbiters_after self.now.round (arbiter_states_in arbiters.old)).channels } }
     {
         self.requests.advance(arbiters);
     }
@@ -82,7 +82,7 @@ impl Plan {
         self.verdicts.moved.contains(index)
     }
 
-    // .. is Granted.
+    // Whether the verdict on an input channel is Granted.
     pub(crate) fn is_granted(&self, index: usize) -> bool
         requires { index < length self.now.verdicts }
         ensures { result ≡ is_granted (slice_index_or self.now.verdicts index Empty) }

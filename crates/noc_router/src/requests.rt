@@ -2,8 +2,8 @@
 
 ghost use Rattle.std.specs.Prelude.{◌≡◌, ℕ, ◌*◌, ◌<◌, ◌≤◌, IfOk, IfSome, List, Option, true, Some, None, is_some, length, option_and_then, replicate, slice_index_or, slice_set, vec_len};
 ghost use Rattle.noc_alloc.specs.Allocation.{pick_of};
-ghost use Rattle.noc_alloc.specs.Arbiter.{turn_at};
-ghost use Rattle.noc_router.specs.Offers.{farther, offered};
+ghost use Rattle.noc_alloc.specs.Arbiter.{arbiter_at};
+ghost use Rattle.noc_router.specs.Offers.{farther, firsts_after_request};
 ghost use Rattle.noc_packet.specs.Set.{has_bit};
 ghost use Rattle.noc_packet.specs.declared.limits.TheConstants.{INDICES, MAX_PORTS};
 ghost use Rattle.noc_router.specs.Members.{AreBelow};
@@ -45,7 +45,7 @@ pub(crate) struct Requests {
 }
 
 impl Requests {
-    ghost use Rattle.noc_router.specs.Asked.{grants_on, no_round, round_in, turns_in};
+    ghost use Rattle.noc_router.specs.Asked.{grants_on, no_round, round_in, arbiter_states_in};
     ghost use Rattle.noc_router.specs.Verdict.{arbiters_after, pointers_of};
 
     // No requests, for routers with so many ports, and so many channels in and out.
@@ -125,7 +125,7 @@ impl Requests {
         ensures size { self.new.size ≡ self.old.size }
         ensures routes { self.new.routes.items ≡ self.old.routes.items }
         ensures asks { self.new.asks ≡ self.old.asks }
-        ensures grants { (round_in self.new).grants ≡ grants_on arbiters.now.ports arbiters.now.vcs self.old.asks (turns_in arbiters.now) }
+        ensures grants { (round_in self.new).grants ≡ grants_on arbiters.now.ports arbiters.now.vcs self.old.asks (arbiter_states_in arbiters.now) }
     {
         allocate_channels(&self.asks, &arbiters.channels, &mut self.grants);
     }
@@ -161,7 +161,7 @@ impl Requests {
         ensures grants { (round_in self.new).grants ≡ (round_in self.old).grants }
         ensures wins { (round_in self.new).wins ≡ (round_in self.old).wins }
         ensures picks { (round_in self.new).picks ≡ slice_set (round_in self.old).picks port result }
-        ensures pick { (asked : List (Option ℕ)) → ((k : ℕ) → has_bit ready k ≡ is_some (slice_index_or asked k None)) → result ≡ pick_of asked arbiters.now.vcs (pointers_of (turns_in arbiters.now).inputs) port }
+        ensures pick { (asked : List (Option ℕ)) → ((k : ℕ) → has_bit ready k ≡ is_some (slice_index_or asked k None)) → result ≡ pick_of asked arbiters.now.vcs (pointers_of (arbiter_states_in arbiters.now).inputs) port }
         ensures within { IfSome result (λ vc. vc < arbiters.now.vcs) }
     {
         let pick = pick_channel(ready, arbiters.vcs, &arbiters.inputs, port);
@@ -183,8 +183,8 @@ impl Requests {
         ensures asks { self.new.asks ≡ self.old.asks }
         ensures grants { (round_in self.new).grants ≡ (round_in self.old).grants }
         ensures picks { (round_in self.new).picks ≡ (round_in self.old).picks }
-        ensures wins { (round_in self.new).wins ≡ offered (turns_in arbiters.now).outputs output port (round_in self.old).wins }
-        ensures loser { result ≡ option_and_then (pick_in arbiters.now.vcs (round_in self.old).picks) (farther (turn_at (turns_in arbiters.now).outputs output).pointer (slice_index_or (round_in self.old).wins output None) port) }
+        ensures wins { (round_in self.new).wins ≡ firsts_after_request (arbiter_states_in arbiters.now).outputs output port (round_in self.old).wins }
+        ensures loser { result ≡ option_and_then (pick_in arbiters.now.vcs (round_in self.old).picks) (farther (arbiter_at (arbiter_states_in arbiters.now).outputs output).pointer (slice_index_or (round_in self.old).wins output None) port) }
         ensures within { IfSome result (λ index. index < self.new.size) }
     {
         let loser = offer(&arbiters.outputs, output, port, &mut self.wins)?;
@@ -197,7 +197,7 @@ impl Requests {
         requires size { arbiters.old.ports * arbiters.old.vcs ≡ self.now.size }
         ensures ports { arbiters.new.ports ≡ arbiters.old.ports }
         ensures vcs { arbiters.new.vcs ≡ arbiters.old.vcs }
-        ensures channels { arbiters.new.channels.items ≡ (arbiters_after (round_in self.now) (turns_in arbiters.old)).channels }
+        ensures channels { arbiters.new.channels.items ≡ (arbiters_after (round_in self.now) (arbiter_states_in arbiters.old)).channels }
         ensures inputs { arbiters.new.inputs.items ≡ arbiters.old.inputs.items }
         ensures outputs { arbiters.new.outputs.items ≡ arbiters.old.outputs.items }
     {

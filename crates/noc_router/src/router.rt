@@ -4,28 +4,28 @@ ghost use Rattle.std.specs.List.Sorted.{IsStrictlyIncreasing};
 ghost use Rattle.std.specs.Prelude.{◌≡◌, ◌+◌, ◌-◌, ◌*◌, ◌<◌, ◌≤◌, All, IfOk, IfSome, Some, map, true, ◌⊎◌, length, ℕ, Bool, not, ◌&&◌, None, replicate, slice_index_or, [], false, if◌then◌else◌};
 ghost use Rattle.noc_topo.specs.Shape.{IsGrid, nodes as nodes_of, ports as ports_of, local_port, neighbour as neighbour_of};
 ghost use Rattle.noc_topo.specs.Words.{tabulate};
-ghost use Rattle.noc_router.specs.Offers.{offered};
+ghost use Rattle.noc_router.specs.Offers.{firsts_after_request};
 ghost use Rattle.noc_router.specs.Members.{AreBelow};
 ghost use Rattle.noc_vc.specs.Input.{is_active, is_empty};
 ghost use Rattle.noc_vc.specs.Output.{has_credit};
-ghost use Rattle.noc_router.specs.Arrivals.{arrival_in};
+ghost use Rattle.noc_router.specs.Arrivals.{noted_arrival};
 ghost use Rattle.noc_router.specs.Asked.{no_round, picks_on, round_in, wins_on};
 ghost use Rattle.noc_router.specs.Decided.{IsDecidedFor};
 ghost use Rattle.noc_router.specs.Found.{empty_finding};
 ghost use Rattle.noc_router.specs.Injection.{next_vc, vacant_vc};
 ghost use Rattle.noc_router.specs.Links.{is_idle_beat};
 ghost use Rattle.noc_router.specs.Requests.{AllBelow, AreAmong};
-ghost use Rattle.noc_router.specs.Settled.{IsOutcomeOf, CanGrant, CanTakeEffect, decisions_by, effect_of, outcome_verdict, passed_by, switch_past, tallied, settled, routed_at, granted_at, moved_by, credit_put, flit_put};
+ghost use Rattle.noc_router.specs.Settled.{AreContentsFor, CanGrant, CanTakeEffect, decisions_by, effect_of, planned_verdict, passed_by, switch_past, view_after_tally, view_after_verdicts, view_after_route, view_after_grant, moved_by, credit_put, flit_put};
 ghost use Rattle.noc_router.specs.Sound.{is_awaiting, is_occupied};
 ghost use Rattle.noc_router.specs.Standing.{AreHeads, AreReady, AreWaiting, HaveWon, IsPickedIn, IsStanding, loser_of, way_of};
 ghost use Rattle.noc_router.specs.VerdictSets.{sets_with, verdict_by};
 ghost use Rattle.noc_route.specs.Routes.{Routes};
 ghost use Rattle.noc_packet.specs.Set.{has_bit};
-ghost use Rattle.noc_router.specs.Start.{IsStart};
-ghost use Rattle.noc_router.specs.Still.{IsHeldBefore, takes_effect, waited};
+ghost use Rattle.noc_router.specs.Start.{IsNumberedPacket};
+ghost use Rattle.noc_router.specs.Still.{IsHeldBefore, takes_effect, view_after_waiting};
 ghost use Rattle.noc_router.specs.Tally.{finding_at};
 ghost use Rattle.noc_router.specs.Verdict.{asks_of, is_event, ready_of, arbiters_after};
-ghost use Rattle.noc_router.specs.View.{IsRelationOf, local_channel, size_of, view_buffer, opening_view, with_flit, with_credit, taken, all_taken, injected, planned, outcome, committed, beat_to_put, put, idle_beats, local_step, finding_of, route_for, route_of, view_claim, view_output, view_stands, first_flit, view_input, port_and_vc, with_arrival, counted};
+ghost use Rattle.noc_router.specs.View.{IsRelationOf, local_channel, size_of, view_buffer, opening_view, with_flit, with_credit, view_after_take, view_after_takes, view_after_inject, decisions_of, plan_contents, view_after_commit, beat_to_put, view_after_put, idle_beats, local_step, finding_of, route_for, route_of, view_claim, view_output, view_stands, first_flit, view_input, port_and_vc, with_arrival, counts_after};
 ghost use Rattle.noc_router.specs.declared.verdict.Verdict.TheVariants.{Empty};
 
 use crate::arbiters::Arbiters;
@@ -100,7 +100,7 @@ impl Router {
         requires node { node < nodes_of relation.now.grid }
         requires some_place { 0 < places }
         requires places { places ≤ MAX_BUFFER }
-        requires starts { All IsStart starts.items }
+        requires starts { All IsNumberedPacket starts.items }
         requires ends { IsStrictlyIncreasing ends.items }
         ensures { IfOk result (λ router. router ≡ opening_view (record { grid = relation.now.grid; node = node; vcs = relation.now.vcs; places = places }) starts.items ends.items) }
     {
@@ -132,7 +132,7 @@ impl Router {
     pub fn take(&mut self, relation: &Relation, port: usize, beat: Beat)
         requires relation { IsRelationOf relation.now self.old }
         requires port { port < local_port self.old.site.grid }
-        ensures { self.new ≡ taken relation.now port beat self.old }
+        ensures { self.new ≡ view_after_take relation.now port beat self.old }
     {
         if let Some((vc, flit)) = &beat.flit {
             self.take_flit(relation, port, usize::from(*vc), flit);
@@ -181,7 +181,7 @@ impl Router {
     /// room, or the head of the next packet that is due by this cycle, on the lowest local channel that is
     /// idle and has an empty buffer (docs/MODEL.md, "Injection").
     pub fn inject(&mut self, cycle: u64)
-        ensures { self.new ≡ injected cycle self.old }
+        ensures { self.new ≡ view_after_inject cycle self.old }
     {
         self.cycle = cycle;
         let Some(vc) = self.next_channel() else {
@@ -228,7 +228,7 @@ impl Router {
     pub fn plan(&self, relation: &Relation, plan: &mut Plan)
         requires relation { IsRelationOf relation.now self.now }
         requires plan { IsDecidedFor (ports_of self.now.site.grid) self.now.site.vcs plan.old }
-        ensures value { plan.new ≡ outcome relation.now self.now }
+        ensures value { plan.new ≡ plan_contents relation.now self.now }
         ensures lengths { IsDecidedFor (ports_of self.now.site.grid) self.now.site.vcs plan.new }
         ensures picks { AllBelow self.now.site.vcs plan.new.round.picks }
     {
@@ -344,7 +344,7 @@ impl Router {
         ensures grants { (round_in requests.new).grants ≡ (round_in requests.old).grants }
         ensures picks { (round_in requests.new).picks ≡ (round_in requests.old).picks }
         ensures way { IfSome (way_of self.now index) (λ output. output < ports_of self.now.site.grid) }
-        ensures wins { (output : ℕ) → way_of self.now index ≡ Some output → (round_in requests.new).wins ≡ offered self.now.arbiters.outputs output port (round_in requests.old).wins }
+        ensures wins { (output : ℕ) → way_of self.now index ≡ Some output → (round_in requests.new).wins ≡ firsts_after_request self.now.arbiters.outputs output port (round_in requests.old).wins }
         ensures loser { (output : ℕ) → way_of self.now index ≡ Some output → result ≡ loser_of self.now (round_in requests.old) output port }
         ensures within { IfSome result (λ loser. loser < size_of self.now.site) }
     {
@@ -380,10 +380,10 @@ impl Router {
             moved,
             granted,
             routed: standing.heads,
-            no_flit: standing.starved,
+            no_flit: standing.no_flit,
             no_idle_channel: standing.waiting.less(asking),
             lost_channel: asking.less(granted),
-            no_credit: standing.unsupplied,
+            no_credit: standing.no_credit,
             lost_input: standing.ready.less(picked),
             lost_switch: picked.less(moved),
         }
@@ -407,8 +407,8 @@ impl Router {
 
     /// Lets the verdicts of the plan of this state take effect, and keeps its findings.
     pub fn commit(&mut self, plan: &Plan)
-        requires { IsOutcomeOf plan.now self.old }
-        ensures { (relation : Routes) → plan.now ≡ outcome relation self.old → self.new ≡ committed (planned relation self.old) self.old }
+        requires { AreContentsFor plan.now self.old }
+        ensures { (relation : Routes) → plan.now ≡ plan_contents relation self.old → self.new ≡ view_after_commit (decisions_of relation self.old) self.old }
     {
         self.show(plan);
         self.take_effect(plan);
@@ -419,11 +419,11 @@ impl Router {
     pub fn advance(&mut self, relation: &Relation, plan: &mut Plan)
         requires relation { IsRelationOf relation.now self.old }
         requires plan { IsDecidedFor (ports_of self.old.site.grid) self.old.site.vcs plan.old }
-        ensures view { self.new ≡ record (committed (planned relation.now self.old) self.old) { findings = self.old.findings } }
+        ensures view { self.new ≡ record (view_after_commit (decisions_of relation.now self.old) self.old) { findings = self.old.findings } }
         ensures plan { IsDecidedFor (ports_of self.old.site.grid) self.old.site.vcs plan.new }
     {
         if self.holds_nothing() {
-            self.pass();
+            self.idle_cycle();
         } else {
             self.plan(relation, plan);
             self.take_effect(plan);
@@ -467,7 +467,7 @@ impl Router {
         requires relation { IsRelationOf relation.now self.old }
         requires plan { IsDecidedFor (ports_of self.old.site.grid) self.old.site.vcs plan.old }
         requires order { first < end }
-        ensures view { self.new ≡ waited relation.now (end - first) (end - 1) self.old }
+        ensures view { self.new ≡ view_after_waiting relation.now (end - first) (end - 1) self.old }
         ensures plan { IsDecidedFor (ports_of self.old.site.grid) self.old.site.vcs plan.new }
     {
         self.cycle = end - 1;
@@ -487,30 +487,30 @@ impl Router {
     }
 
     // A cycle in which no input channel holds anything.
-    fn pass(&mut self)
+    fn idle_cycle(&mut self)
         requires vacant { (i : ℕ) → i < size_of self.old.site → is_occupied (view_input self.old i) (view_buffer self.old i) ≡ false }
-        ensures { (relation : Routes) → self.new ≡ record (committed (planned relation self.old) self.old) { findings = self.old.findings } }
+        ensures { (relation : Routes) → self.new ≡ record (view_after_commit (decisions_of relation self.old) self.old) { findings = self.old.findings } }
     {
         self.count_empty();
-        self.close();
+        self.end_cycle();
     }
 
     // The verdicts of the plan of this state take effect; the findings stay.
     fn take_effect(&mut self, plan: &Plan)
         requires lengths { IsDecidedFor (ports_of self.old.site.grid) self.old.site.vcs plan.now }
-        requires plan { IsOutcomeOf plan.now self.old }
-        ensures { (relation : Routes) → plan.now ≡ outcome relation self.old → self.new ≡ record (committed (planned relation self.old) self.old) { findings = self.old.findings } }
+        requires plan { AreContentsFor plan.now self.old }
+        ensures { (relation : Routes) → plan.now ≡ plan_contents relation self.old → self.new ≡ record (view_after_commit (decisions_of relation self.old) self.old) { findings = self.old.findings } }
     {
         self.count(plan);
-        self.settle_all(plan);
-        self.turn(plan);
-        self.close();
+        self.apply_verdicts(plan);
+        self.advance_channel_pointers(plan);
+        self.end_cycle();
     }
 
     // The findings are those of this plan.
     fn show(&mut self, plan: &Plan)
         requires lengths { IsDecidedFor (ports_of self.old.site.grid) self.old.site.vcs plan.now }
-        requires plan { IsOutcomeOf plan.now self.old }
+        requires plan { AreContentsFor plan.now self.old }
         ensures { self.new ≡ record self.old { findings = (decisions_by plan.now self.old).findings } }
     {
         self.tally.show(&self.channels, &self.indices, plan);
@@ -519,8 +519,8 @@ impl Router {
     // The verdicts are counted, and every beat is idle again.
     fn count(&mut self, plan: &Plan)
         requires lengths { IsDecidedFor (ports_of self.old.site.grid) self.old.site.vcs plan.now }
-        requires plan { IsOutcomeOf plan.now self.old }
-        ensures { self.new ≡ tallied (decisions_by plan.now self.old) self.old }
+        requires plan { AreContentsFor plan.now self.old }
+        ensures { self.new ≡ view_after_tally (decisions_by plan.now self.old) self.old }
     {
         self.tally.count(plan);
         self.links.clear();
@@ -528,14 +528,14 @@ impl Router {
 
     // Every input channel is counted as empty, and every beat is idle again.
     fn count_empty(&mut self)
-        ensures { self.new ≡ record self.old { counts = map (counted Empty) self.old.counts; to_put = idle_beats self.old.site } }
+        ensures { self.new ≡ record self.old { counts = map (counts_after Empty) self.old.counts; to_put = idle_beats self.old.site } }
     {
         self.tally.count_empty(1);
         self.links.clear();
     }
 
     // The pointers of the output channels go on past the input channels that they were granted to.
-    fn turn(&mut self, plan: &Plan)
+    fn advance_channel_pointers(&mut self, plan: &Plan)
         requires lengths { IsDecidedFor (ports_of self.old.site.grid) self.old.site.vcs plan.now }
         ensures { self.new ≡ record self.old { arbiters = record self.old.arbiters { channels = (arbiters_after plan.now.round self.old.arbiters).channels } } }
     {
@@ -543,7 +543,7 @@ impl Router {
     }
 
     // The cycle ends.
-    fn close(&mut self)
+    fn end_cycle(&mut self)
         ensures { self.new ≡ record self.old { last_event = (if self.old.had_event then Some self.old.given else self.old.last_event); had_event = false } }
     {
         if self.had_event {
@@ -553,11 +553,11 @@ impl Router {
     }
 
     // The verdict of every input channel takes effect, and the pointers of the switch go on past the winners.
-    fn settle_all(&mut self, plan: &Plan)
+    fn apply_verdicts(&mut self, plan: &Plan)
         requires lengths { IsDecidedFor (ports_of self.old.site.grid) self.old.site.vcs plan.now }
-        requires plan { IsOutcomeOf plan.now self.old }
+        requires plan { AreContentsFor plan.now self.old }
         requires beats { self.old.to_put ≡ idle_beats self.old.site }
-        ensures { self.new ≡ record (settled (decisions_by plan.now self.old) self.old) { arbiters = record (arbiters_after plan.now.round self.old.arbiters) { channels = self.old.arbiters.channels } } }
+        ensures { self.new ≡ record (view_after_verdicts (decisions_by plan.now self.old) self.old) { arbiters = record (arbiters_after plan.now.round self.old.arbiters) { channels = self.old.arbiters.channels } } }
     {
         let mut rest = plan.events();
         for _ in 0..self.ports * self.vcs {
@@ -565,17 +565,17 @@ impl Router {
                 break;
             };
             rest = rest.without(index);
-            self.settle(plan, index);
+            self.apply_verdict(plan, index);
         }
     }
 
     // The verdict of one input channel takes effect, and the pointers of the switch go on past it, if it moves.
-    fn settle(&mut self, plan: &Plan, index: usize)
+    fn apply_verdict(&mut self, plan: &Plan, index: usize)
         requires lengths { IsDecidedFor (ports_of self.old.site.grid) self.old.site.vcs plan.now }
         requires index { index < size_of self.old.site }
-        requires event { is_event (outcome_verdict plan.now index) ≡ true }
-        requires can { CanTakeEffect plan.now self.old index (outcome_verdict plan.now index) }
-        ensures { self.new ≡ passed_by index (view_input self.old index).phase (outcome_verdict plan.now index) (effect_of plan.now index self.old (outcome_verdict plan.now index)) }
+        requires event { is_event (planned_verdict plan.now index) ≡ true }
+        requires can { CanTakeEffect plan.now self.old index (planned_verdict plan.now index) }
+        ensures { self.new ≡ passed_by index (view_input self.old index).phase (planned_verdict plan.now index) (effect_of plan.now index self.old (planned_verdict plan.now index)) }
     {
         if plan.is_moved(index) {
             if let InputState::Active(next) = self.channels.state(index) {
@@ -595,7 +595,7 @@ impl Router {
         requires index { index < size_of self.old.site }
         requires idle { (view_input self.old index).phase ≡ InputState.Idle }
         requires head { 0 < length (view_buffer self.old index) }
-        ensures { self.new ≡ routed_at index set self.old }
+        ensures { self.new ≡ view_after_route index set self.old }
     {
         self.channels.route(index, set);
         self.had_event = true;
@@ -605,7 +605,7 @@ impl Router {
     fn grant(&mut self, index: usize, next: usize)
         requires index { index < size_of self.old.site }
         requires can { CanGrant self.old index next }
-        ensures { self.new ≡ granted_at index next self.old }
+        ensures { self.new ≡ view_after_grant index next self.old }
     {
         self.channels.grant(index, next);
         self.had_event = true;
@@ -627,7 +627,7 @@ impl Router {
         let (output, next_vc) = self.indices.place(next);
         self.put_credit(port, vc);
         self.put_flit(output, next_vc, flit);
-        self.arbiters.turn_switch(port, vc, output);
+        self.arbiters.advance_switch_pointers(port, vc, output);
     }
 
     // A credit returns by a port; the local port has none.
@@ -668,7 +668,7 @@ impl Router {
     pub fn put(&mut self, port: usize) -> Beat
         requires { port < local_port self.old.site.grid }
         ensures beat { result ≡ beat_to_put self.old port }
-        ensures view { self.new ≡ put port self.old }
+        ensures view { self.new ≡ view_after_put port self.old }
     {
         self.links.unload(port)
     }
@@ -711,7 +711,7 @@ impl Router {
     fn take_all(&mut self, relation: &Relation, beats: &[Beat])
         requires relation { IsRelationOf relation.now self.old }
         requires beats { length beats.now ≡ local_port self.old.site.grid }
-        ensures { self.new ≡ all_taken relation.now beats.now self.old }
+        ensures { self.new ≡ view_after_takes relation.now beats.now self.old }
     {
         for port in 0..beats.len() {
             self.take(relation, port, beats[port]);
@@ -763,7 +763,7 @@ impl Router {
 
     /// The cycle in which the tail of a packet was out here: None for one that was not built to end here.
     pub fn arrival(&self, packet: u32) -> Option<u64>
-        ensures { result ≡ arrival_in packet self.now.ends }
+        ensures { result ≡ noted_arrival packet self.now.ends }
     {
         self.arrivals.cycle_of(packet)
     }

@@ -3,7 +3,7 @@
 ghost use Rattle.std.specs.Prelude.{◌≡◌, ◌≤◌, ◌<◌, ◌+◌, All, Some, None, drop, if◌then◌else◌, is_none, true, vec_len};
 ghost use Rattle.std.specs.Option.{ForSome};
 ghost use Rattle.noc_router.specs.Queue.{queue_from, sending_from, next_flit_of, is_next_last, is_due_by, next_due_of};
-ghost use Rattle.noc_router.specs.Start.{IsStart};
+ghost use Rattle.noc_router.specs.Start.{IsNumberedPacket};
 
 use noc_packet::{Flit, Packet, flit_of};
 
@@ -18,15 +18,15 @@ pub(crate) struct Source {
     // All packets, of which the first `begun` are done or in front.
     packets: Vec<(u32, Packet)>,
     begun: usize,
-    ghost starts: { All IsStart packets.items },
-    ghost in_front: { ForSome front (λ start. IsStart start × (index < start.1.length)) },
+    ghost starts: { All IsNumberedPacket packets.items },
+    ghost in_front: { ForSome front (λ start. IsNumberedPacket start × (index < start.1.length)) },
     ghost at_head: { is_none vc ≡ true → index ≡ 0 },
     ghost all_begun: { is_none front ≡ true → vec_len packets ≤ begun },
 }
 
 impl Source {
     pub(crate) fn new(packets: Vec<(u32, Packet)>) -> Source
-        requires { All IsStart packets.items }
+        requires { All IsNumberedPacket packets.items }
         ensures vc { result.vc ≡ None }
         ensures queue { queue_from result.front result.begun result.packets.items ≡ packets.items }
     {

@@ -6,15 +6,15 @@ ghost use Rattle.noc_packet.specs.declared.limits.TheConstants.{INDICES};
 ghost use Rattle.noc_topo.specs.Words.{map_indexed, tabulate};
 ghost use Rattle.noc_router.specs.Counts.{counts_from, one_at};
 ghost use Rattle.noc_router.specs.Members.{AreBelow};
-ghost use Rattle.noc_ring.specs.Rings.{ring_at};
-ghost use Rattle.noc_router.specs.Sound.{input_at, is_occupied, named};
-ghost use Rattle.noc_router.specs.Settled.{finding_by, outcome_verdict};
+ghost use Rattle.noc_ring.specs.Buffers.{buffer_at};
+ghost use Rattle.noc_router.specs.Sound.{nth_input, is_occupied, finding_with};
+ghost use Rattle.noc_router.specs.Settled.{finding_by, planned_verdict};
 ghost use Rattle.noc_router.specs.Tally.{empty_finding, finding_at, others_in, risen_at, risen_by, IsTally, is_empty_verdict};
 ghost use Rattle.noc_router.specs.Verdict.{column};
 ghost use Rattle.noc_router.specs.VerdictSets.{sets_with, verdict_by};
 ghost use Rattle.noc_router.specs.declared.verdict.Verdict.TheVariants.{Empty};
 ghost use Rattle.noc_router.specs.Still.{counted_times};
-ghost use Rattle.noc_router.specs.View.{counted};
+ghost use Rattle.noc_router.specs.View.{counts_after};
 
 use crate::channels::Channels;
 use crate::counters::Counters;
@@ -70,7 +70,7 @@ impl Tally {
         ensures size { vec_len self.new.counts ≡ vec_len self.old.counts }
         ensures begun { self.new.begun ≡ self.old.begun }
         ensures findings { self.new.findings.items ≡ self.old.findings.items }
-        ensures counts { counts_from self.new.cycles self.new.counters self.new.counts.items ≡ map_indexed (λ i counts. counted (outcome_verdict plan.now i) counts) (counts_from self.old.cycles self.old.counters self.old.counts.items) }
+        ensures counts { counts_from self.new.cycles self.new.counters self.new.counts.items ≡ map_indexed (λ i counts. counts_after (planned_verdict plan.now i) counts) (counts_from self.old.cycles self.old.counters self.old.counts.items) }
     {
         if self.cycles == u64::MAX {
             return;
@@ -119,11 +119,11 @@ impl Tally {
     pub(crate) fn count_more(&mut self, channels: &Channels, plan: &Plan, cycles: u64)
         requires channels { channels.now.size ≡ vec_len self.old.counts }
         requires verdicts { length plan.now.verdicts ≡ vec_len self.old.counts }
-        requires occupied { (k : ℕ) → k < vec_len self.old.counts → is_occupied (input_at channels.now.inputs.items k) (ring_at channels.now.bank k) ≡ not (is_empty_verdict (outcome_verdict plan.now k)) }
+        requires occupied { (k : ℕ) → k < vec_len self.old.counts → is_occupied (nth_input channels.now.inputs.items k) (buffer_at channels.now.bank k) ≡ not (is_empty_verdict (planned_verdict plan.now k)) }
         ensures size { vec_len self.new.counts ≡ vec_len self.old.counts }
         ensures begun { self.new.begun ≡ self.old.begun }
         ensures findings { self.new.findings.items ≡ self.old.findings.items }
-        ensures counts { counts_from self.new.cycles self.new.counters self.new.counts.items ≡ map_indexed (λ i counts. counted_times cycles (outcome_verdict plan.now i) counts) (counts_from self.old.cycles self.old.counters self.old.counts.items) }
+        ensures counts { counts_from self.new.cycles self.new.counters self.new.counts.items ≡ map_indexed (λ i counts. counted_times cycles (planned_verdict plan.now i) counts) (counts_from self.old.cycles self.old.counters self.old.counts.items) }
     {
         let more = cycles.min(u64::MAX - self.cycles);
         self.cycles += more;
@@ -165,7 +165,7 @@ impl Tally {
         requires indices { indices.now.size ≡ vec_len self.old.counts }
         requires asks { length plan.now.asks ≡ vec_len self.old.counts }
         requires verdicts { length plan.now.verdicts ≡ vec_len self.old.counts }
-        requires occupied { (k : ℕ) → k < vec_len self.old.counts → is_occupied (input_at channels.now.inputs.items k) (ring_at channels.now.bank k) ≡ not (is_empty_verdict (outcome_verdict plan.now k)) }
+        requires occupied { (k : ℕ) → k < vec_len self.old.counts → is_occupied (nth_input channels.now.inputs.items k) (buffer_at channels.now.bank k) ≡ not (is_empty_verdict (planned_verdict plan.now k)) }
         ensures size { vec_len self.new.counts ≡ vec_len self.old.counts }
         ensures begun { self.new.begun ≡ true }
         ensures findings { self.new.findings.items ≡ tabulate (vec_len self.old.counts) (finding_by plan.now indices.now.vcs channels.now.inputs.items) }
@@ -186,7 +186,7 @@ impl Tally {
         requires asks { length plan.now.asks ≡ vec_len self.old.counts }
         requires verdicts { length plan.now.verdicts ≡ vec_len self.old.counts }
         requires left { AreBelow (vec_len self.old.counts) left }
-        requires full { (k : ℕ) → k < vec_len self.old.counts → has_bit left k ≡ not (is_empty_verdict (outcome_verdict plan.now k)) }
+        requires full { (k : ℕ) → k < vec_len self.old.counts → has_bit left k ≡ not (is_empty_verdict (planned_verdict plan.now k)) }
         requires others { (k : ℕ) → k < vec_len self.old.counts → has_bit left k ≡ false → finding_at self.old.findings.items k ≡ finding_by plan.now indices.now.vcs channels.now.inputs.items k }
         ensures size { vec_len self.new.counts ≡ vec_len self.old.counts }
         ensures begun { self.new.begun ≡ self.old.begun }
@@ -225,7 +225,7 @@ impl Tally {
         ensures counts { self.new.counts.items ≡ self.old.counts.items }
         ensures left { (k : ℕ) → has_bit result k ≡ (not (has_bit set k) && has_bit left k) }
         ensures below { AreBelow (vec_len self.new.counts) result }
-        ensures findings { (k : ℕ) → k < vec_len self.old.counts → finding_at self.new.findings.items k ≡ (if has_bit left k && has_bit set k then named indices.now.vcs (input_at channels.now.inputs.items k) verdict (slice_index_or plan.now.asks k None) else finding_at self.old.findings.items k) }
+        ensures findings { (k : ℕ) → k < vec_len self.old.counts → finding_at self.new.findings.items k ≡ (if has_bit left k && has_bit set k then finding_with indices.now.vcs (nth_input channels.now.inputs.items k) verdict (slice_index_or plan.now.asks k None) else finding_at self.old.findings.items k) }
     {
         let mut rest = left;
         while let Some(index) = set.least_common(&rest) {

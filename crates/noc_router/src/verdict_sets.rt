@@ -25,7 +25,7 @@ pub(crate) struct VerdictSets {
 }
 
 impl VerdictSets {
-    ghost use Rattle.noc_router.specs.VerdictSets.{first_in, sets_with, verdict_by};
+    ghost use Rattle.noc_router.specs.VerdictSets.{first_verdict_in, sets_with, verdict_by};
     ghost use Rattle.noc_router.specs.declared.verdict.Verdict.TheVariants.{Empty};
 
     // Every channel is empty.
@@ -69,7 +69,7 @@ impl VerdictSets {
     // The channels with each verdict but Empty, and that verdict. A channel in several sets has the verdict of the first.
     pub(crate) fn with_verdicts(&self) -> [(ChannelSet, Verdict); 9]
         ensures count { length result ≡ 9 }
-        ensures verdicts { (k : ℕ) → first_in result k ≡ verdict_by self.now k }
+        ensures verdicts { (k : ℕ) → first_verdict_in result k ≡ verdict_by self.now k }
     {
         [
             (self.moved, Verdict::Moved),

@@ -6,7 +6,7 @@ use noc_tiles::Gate;
 use std::hint;
 use std::sync::atomic::{AtomicBool, Ordering};
 
-/// How often a gate looks whether what it waits for has come.
+// How often a gate looks whether what it waits for has come.
 const TURNS: u32 = 100_000_000;
 
 // Waits until a flag is raised. False where it isn't after so many looks.
@@ -20,11 +20,11 @@ fn is_raised_soon(flag: &AtomicBool) -> bool {
     false
 }
 
-/// The gate that one worker can't pass in one cycle.
+// The gate that one worker can't pass in one cycle.
 #[derive(Clone, Copy)]
-pub struct Closing {
-    pub worker: usize,
-    pub cycle: u64,
+pub(crate) struct Closing {
+    pub(crate) worker: usize,
+    pub(crate) cycle: u64,
 }
 
 impl Gate for Closing {
@@ -41,15 +41,15 @@ impl Gate for Closing {
     }
 }
 
-/// The gate that workers 0 and 1 pass in cycle 1 only when both have come to it.
+// The gate that workers 0 and 1 pass in cycle 1 only when both have come to it.
 #[derive(Drop)]
-pub struct Meeting {
+pub(crate) struct Meeting {
     first: AtomicBool,
     second: AtomicBool,
 }
 
 impl Meeting {
-    pub fn new() -> Self {
+    pub(crate) fn new() -> Self {
         Meeting {
             first: AtomicBool::new(false),
             second: AtomicBool::new(false),
@@ -80,14 +80,14 @@ impl Gate for Meeting {
     }
 }
 
-/// The gate that worker 2 passes in cycle 0 only when worker 0 has come to cycle 2.
+// The gate that worker 2 passes in cycle 0 only when worker 0 has come to cycle 2.
 #[derive(Drop)]
-pub struct HeadStart {
+pub(crate) struct HeadStart {
     ahead: AtomicBool,
 }
 
 impl HeadStart {
-    pub fn new() -> Self {
+    pub(crate) fn new() -> Self {
         HeadStart {
             ahead: AtomicBool::new(false),
         }

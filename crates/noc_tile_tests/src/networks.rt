@@ -13,8 +13,8 @@ use std::sync::Wait;
 use std::test::Fail;
 use std::thread::Threads;
 
-/// A line of two routers, with a packet from one to the other.
-pub fn line_of_two(alloc: Global) -> Result<Network, Fail>
+// A line of two routers, with a packet from one to the other.
+pub(crate) fn line_of_two(alloc: Global) -> Result<Network, Fail>
     ensures { IfOk result (λ n. n.count ≡ 0) }
 {
     let shape = Shape::new(Kind::Mesh, &[2])?;
@@ -23,8 +23,8 @@ pub fn line_of_two(alloc: Global) -> Result<Network, Fail>
     Ok(Network::new(alloc, relation, 2, read_traffic(alloc, traffic)?)?)
 }
 
-/// A line of three routers, in which one packet waits for the channel of another.
-pub fn line_of_three(alloc: Global) -> Result<Network, Fail>
+// A line of three routers, in which one packet waits for the channel of another.
+pub(crate) fn line_of_three(alloc: Global) -> Result<Network, Fail>
     ensures { IfOk result (λ n. n.count ≡ 0) }
 {
     let shape = Shape::new(Kind::Mesh, &[3])?;
@@ -33,8 +33,8 @@ pub fn line_of_three(alloc: Global) -> Result<Network, Fail>
     Ok(Network::new(alloc, relation, 2, read_traffic(alloc, traffic)?)?)
 }
 
-/// The stall report of the line of three routers after 20 cycles.
-pub const LINE_STALLS: &[u8] =
+// The stall report of the line of three routers after 20 cycles.
+pub(crate) const LINE_STALLS: &[u8] =
     b"router,port,vc,empty,routed,granted,moved,no_flit,no_idle_channel,lost_channel,no_credit,lost_input,lost_switch
 0,+0,0,20,0,0,0,0,0,0,0,0,0
 0,local,0,17,1,1,1,0,0,0,0,0,0
@@ -45,14 +45,14 @@ pub const LINE_STALLS: &[u8] =
 2,local,0,20,0,0,0,0,0,0,0,0,0
 ";
 
-/// Its latency report.
-pub const LINE_LATENCY: &[u8] = b"packet,source,destination,class,length,due,out,latency
+// Its latency report.
+pub(crate) const LINE_LATENCY: &[u8] = b"packet,source,destination,class,length,due,out,latency
 0,0,2,0,1,0,10,10
 1,1,2,0,1,0,5,5
 ";
 
-/// A ring of four routers with a dateline, in which four packets go round together.
-pub fn dateline_ring(alloc: Global) -> Result<Network, Fail>
+// A ring of four routers with a dateline, in which four packets go round together.
+pub(crate) fn dateline_ring(alloc: Global) -> Result<Network, Fail>
     ensures { IfOk result (λ n. n.count ≡ 0) }
 {
     let shape = Shape::new(Kind::Torus, &[4])?;
@@ -62,16 +62,16 @@ pub fn dateline_ring(alloc: Global) -> Result<Network, Fail>
     Ok(Network::new(alloc, relation, 1, read_traffic(alloc, traffic)?)?)
 }
 
-/// The latency report of the ring after 60 cycles.
-pub const RING_LATENCY: &[u8] = b"packet,source,destination,class,length,due,out,latency
+// The latency report of the ring after 60 cycles.
+pub(crate) const RING_LATENCY: &[u8] = b"packet,source,destination,class,length,due,out,latency
 0,0,2,0,4,0,24,24
 1,1,3,0,4,0,14,14
 2,2,0,0,4,0,44,44
 3,3,1,0,4,0,34,34
 ";
 
-/// A torus of two routers, with two wires each way between them.
-pub fn torus_of_two(alloc: Global) -> Result<Network, Fail>
+// A torus of two routers, with two wires each way between them.
+pub(crate) fn torus_of_two(alloc: Global) -> Result<Network, Fail>
     ensures { IfOk result (λ n. n.count ≡ 0) }
 {
     let shape = Shape::new(Kind::Torus, &[2])?;
@@ -80,21 +80,21 @@ pub fn torus_of_two(alloc: Global) -> Result<Network, Fail>
     Ok(Network::new(alloc, relation, 2, read_traffic(alloc, traffic)?)?)
 }
 
-/// The latency report of the torus of two after 8 cycles.
-pub const TORUS_LATENCY: &[u8] = b"packet,source,destination,class,length,due,out,latency
+// The latency report of the torus of two after 8 cycles.
+pub(crate) const TORUS_LATENCY: &[u8] = b"packet,source,destination,class,length,due,out,latency
 0,0,1,0,1,0,5,5
 1,1,0,0,1,0,5,5
 ";
 
-/// The reports of a network.
+// The reports of a network.
 #[derive(Drop)]
-pub struct Reports {
-    pub latency: Vec<u8>,
-    pub stalls: Vec<u8>,
+pub(crate) struct Reports {
+    pub(crate) latency: Vec<u8>,
+    pub(crate) stalls: Vec<u8>,
 }
 
-/// The reports of a network that has run.
-pub fn reports_of(alloc: Global, network: &Network) -> Result<Reports, WriteFault> {
+// The reports of a network that has run.
+pub(crate) fn reports_of(alloc: Global, network: &Network) -> Result<Reports, WriteFault> {
     let mut latency = Out::new(Vec::new(alloc));
     let mut stalls = Out::new(Vec::new(alloc));
     write_latency(network, &mut latency)?;
@@ -105,8 +105,8 @@ pub fn reports_of(alloc: Global, network: &Network) -> Result<Reports, WriteFaul
     })
 }
 
-/// The reports of a network that some workers have run.
-pub fn run_by<R: Threads + Wait + Sync, G: Gate>(
+// The reports of a network that some workers have run.
+pub(crate) fn run_by<R: Threads + Wait + Sync, G: Gate>(
     rt: &R,
     alloc: Global,
     network: Network,
@@ -122,8 +122,8 @@ pub fn run_by<R: Threads + Wait + Sync, G: Gate>(
     Ok(reports_of(alloc, &network)?)
 }
 
-/// The reports of a network that `run` has run.
-pub fn run_alone(alloc: Global, network: Network, cycles: u64) -> Result<Reports, Fail>
+// The reports of a network that `run` has run.
+pub(crate) fn run_alone(alloc: Global, network: Network, cycles: u64) -> Result<Reports, Fail>
     requires opening { network.count ≡ 0 }
     requires cycles { cycles ≤ 1000 }
 {

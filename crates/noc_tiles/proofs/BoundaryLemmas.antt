@@ -12,14 +12,14 @@ use Rattle.noc_net.specs.Halves.{beat_at}
 use Rattle.noc_net.specs.Network.{Setup}
 use Rattle.noc_model.proofs.RunLemmas.{count_views}
 use Rattle.noc_tiles.specs.Ends.{End}
-use Rattle.noc_tiles.specs.TileStep.{Layout, TileState, is_own, is_from, is_inside, places, fed_all, cycled, after, puts}
+use Rattle.noc_tiles.specs.TileStep.{Layout, TileState, is_own, is_from, is_inside, arrival_places, ends_after_rows, tile_after_cycle, after, beats_put}
 use Rattle.noc_tiles.specs.Tiles.{IsReady, IsSameTile, AllEnded, Gating, Runs, inlets, outlets, layout_of, state_of}
 use Rattle.noc_tiles.specs.Partition.{AllWhole, IsPartition, IsWire, index_of, routers_of}
 use Rattle.noc_tiles.specs.declared.tile.Tile.{Tile}
 use Rattle.noc_tiles.proofs.FlatLemmas.{offset, flat-at, offset-lt, apart, Found, flat-find, column, fed_all-at, length-puts, length-put_by, puts-at}
 use Rattle.noc_tiles.proofs.RunLemmas.{length-fed_all}
 use Rattle.noc_tiles.proofs.SentLemmas.{own-true, own-false, own-within}
-use Rattle.noc_tiles.specs.Together.{Trace, carried, in_flight}
+use Rattle.noc_tiles.specs.Together.{Trace, beat_carried, in_flight}
 use Rattle.noc_tiles.proofs.ClosingLaw.{steps-count, views-after}
 
 -- ---- the runs of the tiles, one by one
@@ -69,8 +69,8 @@ pub record RunsBy (g : Routes) (k : ℕ) (a b : Tile) (rows : List (List Beat)) 
   pub width : (i : ℕ) → i < k → length (get_or rows i []) ≡ length (inlets a)
   pub views : b.routers.items ≡ (after g (layout_of a) a.start (state_of a) rows).views
   pub wires : (r q : ℕ) → r < nodes g.grid → beat_at b.beats.items r q ≡ (after g (layout_of a) a.start (state_of a) rows).wires r q
-  pub ins : inlets b ≡ fed_all (inlets a) rows
-  pub outs : outlets b ≡ fed_all (outlets a) (puts g (layout_of a) a.start (state_of a) rows)
+  pub ins : inlets b ≡ ends_after_rows (inlets a) rows
+  pub outs : outlets b ≡ ends_after_rows (outlets a) (beats_put g (layout_of a) a.start (state_of a) rows)
 
 pub runs_at : (g : Routes) (k : ℕ) (xs ys : List Tile) (r : AllRuns g k xs ys) (t : ℕ) (d : Tile) → t < length xs → RunsBy g k (get_or xs t d) (get_or ys t d) (get_or (received_of g k xs ys r) t [])
 runs_at g k [] ys r t d l = absurd (omega arith)
@@ -125,7 +125,7 @@ pub record Moved (k : ℕ) (v w : End) : Type 0 where
 
 module _ (g : Routes) (k : ℕ) (a b : Tile) (rows : List (List Beat)) (r : RunsBy g k a b rows) where
   abbrev pub given : List (List Beat)
-  given = puts g (layout_of a) a.start (state_of a) rows
+  given = beats_put g (layout_of a) a.start (state_of a) rows
 
   pub inlet-at : (j : ℕ) (e : End) → j < length (inlets a) → get_or (inlets b) j e ≡ record { at = (get_or (inlets a) j e).at; ring = (get_or (inlets a) j e).ring; past = (get_or (inlets a) j e).past ++ column j rows }
   inlet-at j e l = ap (λ q. get_or q j e) r.ins ∙ fed_all-at (inlets a) rows j e l (λ i h. r.width i (let q = r.count in omega arith))
@@ -152,7 +152,7 @@ vec-length v = v.ok.0
 pub found-get : {Y : Type 0} (f : Tile → List Y) (zs : List Tile) (i : ℕ) (d : Tile) (F : Found f zs i d) (e : Y) → get_or (flat_map f zs) i e ≡ get_or (f (get_or zs F.t d)) F.j e
 found-get f zs i d F e = ap (λ q. get_or (flat_map f zs) q e) F.is ∙ flat-at f zs F.t F.j d e F.in_list F.in_part
 
-pub place-get : (ws : List End) (j : ℕ) (p : ℕ × ℕ) (e : End) → j < length ws → get_or (places ws) j p ≡ (get_or ws j e).at
+pub place-get : (ws : List End) (j : ℕ) (p : ℕ × ℕ) (e : End) → j < length ws → get_or (arrival_places ws) j p ≡ (get_or ws j e).at
 place-get ws j p e l = get_or-map (λ (w : End). w.at) ws j e p l
 
 pub stream : (w x : Beat) (cs ds : List Beat) → (w ∷ []) ++ cs ≡ ds ++ x ∷ [] → (i : ℕ) → i < length ds → get_or ds i idle_beat ≡ get_or (w ∷ cs) i idle_beat
@@ -164,7 +164,7 @@ stream-last w x cs ds e i l = sym (get_or_push ds x idle_beat i l) ∙ sym (ap (
 pub length-after : (net : Setup) (P : Layout) (n : ℕ) (T : TileState) (rows : List (List Beat)) → length (after net.relation P n T rows).views ≡ length T.views
 length-after net P n T [] = refl
 length-after net P n T (row ∷ rows) =
-    length-after net P (suc n) (cycled net.relation P n T row) rows
+    length-after net P (suc n) (tile_after_cycle net.relation P n T row) rows
     ∙ (ap length (views-after net P _) ∙ (length-map _ (λ (s : View × List Beat). s.0) ∙ steps-count net P n T row))
 
 -- ---- all tiles
@@ -204,8 +204,8 @@ module _ (net : Setup) (n k : ℕ) (I O : List (Option End)) (xs : List Tile) (W
     pub u : ℕ
     pub o : ℕ
     pub um : u < length xs
-    pub ol : o < length (places (outlets (get_or xs u d)))
-    pub at : get_or (places (outlets (get_or xs u d))) o (0, 0) ≡ p
+    pub ol : o < length (arrival_places (outlets (get_or xs u d)))
+    pub at : get_or (arrival_places (outlets (get_or xs u d))) o (0, 0) ≡ p
 
   far_end-from : (t : ℕ) → t < length xs → (p : ℕ × ℕ) → p.0 < nodes net.relation.grid → is_own (get_or xs t d).first (length (routers_of (get_or xs t d))) p.0 ≡ true
       → (from : Option (ℕ × ℕ)) → neighbour net.relation.grid p.0 p.1 ≡ from → is_inside (get_or xs t d).first (length (routers_of (get_or xs t d))) from ≡ false → FarEnd p
@@ -222,9 +222,9 @@ module _ (net : Setup) (n k : ℕ) (I O : List (Option End)) (xs : List Tile) (W
       let o = (set_at u F.in_list).parts.leaves p.0 p.1 r not f in
       record { u = u; o = o.0; um = F.in_list; ol = o.1; at = o.2 }
 
-  pub far_end : (t j : ℕ) (l : t < length xs) → j < length (places (inlets (get_or xs t d))) → FarEnd (get_or (places (inlets (get_or xs t d))) j (0, 0))
+  pub far_end : (t j : ℕ) (l : t < length xs) → j < length (arrival_places (inlets (get_or xs t d))) → FarEnd (get_or (arrival_places (inlets (get_or xs t d))) j (0, 0))
   far_end t j l h =
-      let p = get_or (places (inlets (get_or xs t d))) j (0, 0) in
+      let p = get_or (arrival_places (inlets (get_or xs t d))) j (0, 0) in
       let s = (set_at t l).parts in
       far_end-from t l p (s.within j h).0 (s.own j h) (neighbour net.relation.grid p.0 p.1) refl ((W.tiles t d l).crossing j h)
 
@@ -250,7 +250,7 @@ module _ (net : Setup) (n k : ℕ) (I O : List (Option End)) (xs : List Tile) (W
   far_end-flat i l =
       let F = flat-find inlets xs i d l in
       let a = get_or xs F.t d in
-      let jl : F.j < length (places (inlets a)) = rw length-map F.in_part in
+      let jl : F.j < length (arrival_places (inlets a)) = rw length-map F.in_part in
       let M = far_end F.t F.j F.in_list jl in
       let b = get_or xs M.u d in
       let ol : M.o < length (outlets b) = rw length-map at M.ol in (
@@ -268,5 +268,5 @@ pub record Carries (net : Setup) (n k m : ℕ) (T : ℕ → Trace) (t j : ℕ) (
   pub um : u < m
   pub ol : o < length (T u).layout.outs
   pub far_end : get_or (T u).layout.outs o (0, 0) ≡ p
-  pub rows : (i : ℕ) → i < k → get_or (get_or (T t).rows i []) j idle_beat ≡ carried net n (in_flight net n n p.0 p.1) (T u) o i
-  pub last : x ≡ carried net n (in_flight net n n p.0 p.1) (T u) o k
+  pub rows : (i : ℕ) → i < k → get_or (get_or (T t).rows i []) j idle_beat ≡ beat_carried net n (in_flight net n n p.0 p.1) (T u) o i
+  pub last : x ≡ beat_carried net n (in_flight net n n p.0 p.1) (T u) o k

@@ -6,15 +6,15 @@ use Rattle.std.proofs.lemmas.List.{length-map, get_or-map}
 use Rattle.noc_packet.specs.declared.packet.Beat.{Beat}
 use Rattle.noc_router.specs.View.{idle_beat}
 use Rattle.noc_net.specs.Halves.{beat_at}
-use Rattle.noc_tiles.specs.RingEnd.{RingEnd}
+use Rattle.noc_tiles.specs.RingEnd.{WireEnd}
 use Rattle.noc_tiles.specs.Phases.{IsCleared}
-use Rattle.noc_tiles.specs.TileStep.{places}
+use Rattle.noc_tiles.specs.TileStep.{arrival_places}
 use Rattle.noc_tiles.proofs.TileStepLemmas.{Tells, beat_at-set}
 
-pub place-of : {X A : Type 0} (f : X → RingEnd A) (xs : List X) (i : ℕ) (d : X) (e : ℕ × ℕ) → i < length xs → get_or (places (map f xs)) i e ≡ (f (get_or xs i d)).at
+pub place-of : {X A : Type 0} (f : X → WireEnd A) (xs : List X) (i : ℕ) (d : X) (e : ℕ × ℕ) → i < length xs → get_or (arrival_places (map f xs)) i e ≡ (f (get_or xs i d)).at
 place-of {A = A} f xs i d e l =
     let l' : i < length (map f xs) = rw length-map l in
-    get_or-map (λ (w : RingEnd A). w.at) (map f xs) i (f d) e l' ∙ ap (λ (w : RingEnd A). w.at) (get_or-map f xs i d (f d) l)
+    get_or-map (λ (w : WireEnd A). w.at) (map f xs) i (f d) e l' ∙ ap (λ (w : WireEnd A). w.at) (get_or-map f xs i d (f d) l)
 
 -- as a pair
 abbrev pub place_at : ℕ → ℕ → ℕ × ℕ

@@ -13,8 +13,8 @@ use Rattle.noc_model.specs.Lockstep.{lockstep_at, beats_at}
 use Rattle.noc_model.specs.Network.{Setup}
 use Rattle.noc_model.proofs.RunLemmas.{count_views, count_row}
 use Rattle.noc_model.proofs.SentLemmas.{step_of, next_view, sent_beat, unlinked_beat}
-use Rattle.noc_tiles.specs.TileStep.{Layout, TileState, is_own, is_from, is_inside, beat_among, filled, arrived, steps, sent_of, out_at, after_steps, put_by, cycled, after}
-use Rattle.noc_tiles.specs.Together.{Trace, Agrees, PutsInFlight, TilesRan, carried, steps_at, tile_at, in_flight}
+use Rattle.noc_tiles.specs.TileStep.{Layout, TileState, is_own, is_from, is_inside, beat_among, with_row, beats_arriving, steps, sent_of, out_at, after_steps, put_by, tile_after_cycle, after}
+use Rattle.noc_tiles.specs.Together.{Trace, Agrees, PutsInFlight, TilesRan, beat_carried, trace_steps_at, tile_at, in_flight}
 use Rattle.noc_tiles.proofs.CycleLemmas.{some_view, no_link}
 use Rattle.noc_tiles.proofs.FillLemmas.{HasOrGets, filled_right}
 use Rattle.noc_tiles.proofs.RunLemmas.{after-more}
@@ -25,9 +25,9 @@ unfolding steps
 steps-count net P n T row = length-map_indexed _ T.views
 
 pub steps-at : (net : Setup) (P : Layout) (n : ℕ) (T : TileState) (row : List Beat) (c : ℕ) (d : View) (e : View × List Beat) → c < length T.views
-    → get_or (steps net.relation P n T row) c e ≡ local_step net.relation (get_or T.views c d) (arrived net.relation P T row c) n
+    → get_or (steps net.relation P n T row) c e ≡ local_step net.relation (get_or T.views c d) (beats_arriving net.relation P T row c) n
 unfolding steps
-steps-at net P n T row c d e l = get_or-map_indexed (λ (i : ℕ) (v : View). local_step net.relation v (arrived net.relation P T row i) n) T.views c d e l
+steps-at net P n T row c d e l = get_or-map_indexed (λ (i : ℕ) (v : View). local_step net.relation v (beats_arriving net.relation P T row i) n) T.views c d e l
 
 pub views-after : (net : Setup) (P : Layout) (S : List (View × List Beat)) → (after_steps net.relation P S).views ≡ map (λ (s : View × List Beat). s.0) S
 unfolding after_steps
@@ -49,18 +49,18 @@ module _ (net : Setup) (n : ℕ) where
   abbrev pub RowRight : Trace → ℕ → Type 0
   RowRight t i = (j : ℕ) → j < length t.layout.ins → get_or (get_or t.rows i []) j idle_beat ≡ in_flight net n (n + i) (get_or t.layout.ins j (0, 0)).0 (get_or t.layout.ins j (0, 0)).1
 
-  pub state_at-next : (t : Trace) (i : ℕ) → i < length t.rows → tile_at net n t (suc i) ≡ after_steps net.relation t.layout (steps_at net n t i)
+  pub state_at-next : (t : Trace) (i : ℕ) → i < length t.rows → tile_at net n t (suc i) ≡ after_steps net.relation t.layout (trace_steps_at net n t i)
   state_at-next t i l =
       let e : suc i ≡ i + 1 = omega arith in
       ap (λ q. after net.relation t.layout n t.state (take q t.rows)) e
       ∙ (ap (after net.relation t.layout n t.state) (take_more t.rows i [] l)
       ∙ (after-more net.relation t.layout n t.state (take i t.rows) (get_or t.rows i [])
-      ∙ ap (λ q. cycled net.relation t.layout (n + q) (tile_at net n t i) (get_or t.rows i [])) (length-take-le i t.rows (omega arith))))
+      ∙ ap (λ q. tile_after_cycle net.relation t.layout (n + q) (tile_at net n t i) (get_or t.rows i [])) (length-take-le i t.rows (omega arith))))
 
   module _ (k m : ℕ) (T : ℕ → Trace) (tiled : TilesRan net n k m T) where
     -- every wire that arrives at the tile has the beat of the lockstep run, once the row is in
     full-right : (t i : ℕ) → t < m → i < k → Agrees net n (T t) i → RowRight (T t) i → (c q : ℕ) → c < length (T t).state.views
-        → filled (tile_at net n (T t) i).wires (T t).layout.ins (get_or (T t).rows i []) ((T t).layout.first + c) q ≡ in_flight net n (n + i) ((T t).layout.first + c) q
+        → with_row (tile_at net n (T t) i).wires (T t).layout.ins (get_or (T t).rows i []) ((T t).layout.first + c) q ≡ in_flight net n (n + i) ((T t).layout.first + c) q
     full-right t i tm ik a right c q l =
         let P = (T t).layout in
         let row = get_or (T t).rows i [] in
@@ -71,15 +71,15 @@ module _ (net : Setup) (n : ℕ) where
 
     -- each router makes what it makes in the lockstep run
     step-right : (t i : ℕ) → t < m → i < k → Agrees net n (T t) i → RowRight (T t) i → (c : ℕ) (d : View) (e : View × List Beat) → c < length (T t).state.views
-        → get_or (steps_at net n (T t) i) c e ≡ step_of net (n + i) ((T t).layout.first + c) (get_or (lockstep_at net (n + i)).views ((T t).layout.first + c) d)
+        → get_or (trace_steps_at net n (T t) i) c e ≡ step_of net (n + i) ((T t).layout.first + c) (get_or (lockstep_at net (n + i)).views ((T t).layout.first + c) d)
     step-right t i tm ik a right c d e l =
         let P = (T t).layout in
         let S = tile_at net n (T t) i in
         let row = get_or (T t).rows i [] in
         let r = P.first + c in
         let r_in : P.first + c < nodes net.relation.grid = let z = tiled.within t tm in omega arith in
-        let beats : beats_at (lockstep_at net (n + i)).wires r ≡ arrived net.relation P S row c =
-        tabulate-from_each (local_port net.relation.grid) (filled S.wires P.ins row r) (beats_at (lockstep_at net (n + i)).wires r) idle_beat (count_row net (n + i) r r_in) (λ q h. sym (full-right t i tm ik a right c q l)) in
+        let beats : beats_at (lockstep_at net (n + i)).wires r ≡ beats_arriving net.relation P S row c =
+        tabulate-from_each (local_port net.relation.grid) (with_row S.wires P.ins row r) (beats_at (lockstep_at net (n + i)).wires r) idle_beat (count_row net (n + i) r r_in) (λ q h. sym (full-right t i tm ik a right c q l)) in
         steps-at net P (n + i) S row c d e (let z = a.many in omega arith)
         ∙ ap₂ (λ v b. local_step net.relation v b (n + i)) (a.views c d l) (sym beats)
 
@@ -91,13 +91,13 @@ module _ (net : Setup) (n : ℕ) where
 
     -- what goes out on a wire of the tile is the beat of the lockstep run
     out-right : (t i : ℕ) → t < m → i < k → Agrees net n (T t) i → RowRight (T t) i → (r q : ℕ) → r < nodes net.relation.grid → (from : Option (ℕ × ℕ)) → neighbour net.relation.grid r q ≡ from
-        → is_inside (T t).layout.first (length (T t).state.views) from ≡ true → out_at net.relation (T t).layout (steps_at net n (T t) i) r q ≡ in_flight net n (n + i + 1) r q
+        → is_inside (T t).layout.first (length (T t).state.views) from ≡ true → out_at net.relation (T t).layout (trace_steps_at net n (T t) i) r q ≡ in_flight net n (n + i + 1) r q
     out-right t i tm ik a right r q l None e h =
-        ap (λ from. beat_among (T t).layout.first (length (sent_of net.relation (T t).layout (steps_at net n (T t) i))) (sent_of net.relation (T t).layout (steps_at net n (T t) i)) from) e
+        ap (λ from. beat_among (T t).layout.first (length (sent_of net.relation (T t).layout (trace_steps_at net n (T t) i))) (sent_of net.relation (T t).layout (trace_steps_at net n (T t) i)) from) e
         ∙ sym (unlinked_beat net (n + i + 1) r q e)
     out-right t i tm ik a right r q l (Some (s, p)) e h =
         let P = (T t).layout in
-        let S = steps_at net n (T t) i in
+        let S = trace_steps_at net n (T t) i in
         let sent = sent_of net.relation P S in
         let d = some_view net.relation in
         let own = own-within P.first (length (T t).state.views) s h in
@@ -121,7 +121,7 @@ module _ (net : Setup) (n : ℕ) where
     next-agrees : (t i : ℕ) → t < m → i < k → Agrees net n (T t) i → RowRight (T t) i → Agrees net n (T t) (suc i)
     next-agrees t i tm ik a right =
         let P = (T t).layout in
-        let S = steps_at net n (T t) i in
+        let S = trace_steps_at net n (T t) i in
         let d0 = some_view net.relation in
         let rows : i < length (T t).rows = let z = tiled.count t tm in omega arith in
         let is : tile_at net n (T t) (suc i) ≡ after_steps net.relation P S = state_at-next (T t) i rows in
@@ -153,7 +153,7 @@ module _ (net : Setup) (n : ℕ) where
         let p = get_or P.outs o (0, 0) in
         let w = tiled.outs t o tm l in
         let from = neighbour net.relation.grid p.0 p.1 in
-        put_by-at net P (steps_at net n (T t) i) o l
+        put_by-at net P (trace_steps_at net n (T t) i) o l
         ∙ (out-right t i tm ik a right p.0 p.1 w.0 from refl (from_inside P.first (length (T t).state.views) from w.1)
         ∙ ap (λ z. in_flight net n z p.0 p.1) (omega arith))
 
@@ -206,6 +206,6 @@ module _ (net : Setup) (n : ℕ) where
     closing-puts t i tm l = (together k (omega arith)).put t i tm l
 
     -- what a wire brings is the beat of the lockstep run
-    pub carried-right : (u o : ℕ) (p : ℕ × ℕ) → u < m → o < length (T u).layout.outs → get_or (T u).layout.outs o (0, 0) ≡ p → (i : ℕ) → Together i → carried net n (in_flight net n n p.0 p.1) (T u) o i ≡ in_flight net n (n + i) p.0 p.1
+    pub carried-right : (u o : ℕ) (p : ℕ × ℕ) → u < m → o < length (T u).layout.outs → get_or (T u).layout.outs o (0, 0) ≡ p → (i : ℕ) → Together i → beat_carried net n (in_flight net n n p.0 p.1) (T u) o i ≡ in_flight net n (n + i) p.0 p.1
     carried-right u o p um ol e zero g = ap (λ z. in_flight net n z p.0 p.1) (omega arith)
     carried-right u o p um ol e (suc i) g = g.put u i um (omega arith) o ol ∙ ap (λ (z : ℕ × ℕ). in_flight net n (n + suc i) z.0 z.1) e

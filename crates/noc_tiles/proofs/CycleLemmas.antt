@@ -9,17 +9,17 @@ use Rattle.noc_topo.proofs.WordLemmas.{length-tabulate, get_or-tabulate, tabulat
 use Rattle.noc_packet.specs.declared.packet.Beat.{Beat}
 use Rattle.noc_route.specs.Routes.{Routes}
 use Rattle.noc_router.specs.Decided.{IsDecidedFor}
-use Rattle.noc_router.specs.View.{Site, View, IsRelationOf, all_taken, idle_beat, local_step, opening_view}
+use Rattle.noc_router.specs.View.{Site, View, IsRelationOf, view_after_takes, idle_beat, local_step, opening_view}
 use Rattle.noc_router.proofs.SiteLemmas.{all_taken-site}
-use Rattle.noc_net.specs.Halves.{IsPlaced, beat_at, decided, emptied, incoming}
-use Rattle.noc_net.specs.Takes.{concluded}
-use Rattle.noc_net.specs.Unseen.{unseen}
+use Rattle.noc_net.specs.Halves.{HasItsBeats, beat_at, view_after_decide, view_after_puts, incoming}
+use Rattle.noc_net.specs.Takes.{view_after_conclude}
+use Rattle.noc_net.specs.Unseen.{without_findings}
 use Rattle.noc_net.proofs.TakesLemmas.{concluded-decided}
 use Rattle.noc_model.proofs.RunLemmas.{map_map_indexed}
 use Rattle.noc_model.proofs.StepLemmas.{IsRelationOf-same_site, local_step-view, local_step-beats}
 use Rattle.noc_tiles.specs.Inner.{AreInner, CanFinish, to_send}
 use Rattle.noc_tiles.specs.Phases.{IsCleared}
-use Rattle.noc_tiles.specs.TileStep.{Layout, TileState, Beats, with_beat, filled, is_own, is_from, beat_among, beat_of, arrived, steps, sent_of, out_at, after_steps, put_by}
+use Rattle.noc_tiles.specs.TileStep.{Layout, TileState, Beats, with_beat, with_row, is_own, is_from, beat_among, beat_of, beats_arriving, steps, sent_of, out_at, after_steps, put_by}
 use Rattle.noc_tiles.specs.Tiles.{PartsFit}
 use Rattle.noc_tiles.specs.declared.inner.Inner.{Inner}
 use Rattle.noc_tiles.specs.declared.tile.Tile.{Tile}
@@ -31,7 +31,7 @@ use Rattle.noc_tiles.proofs.SentLemmas.{past-rows, sent_by}
 use Rattle.std.proofs.lemmas.Bool.Decides.{eqb_tells}
 
 -- a wire that none of the places is
-pub filled-other : (w : Beats) (ps : List (ℕ × ℕ)) (row : List Beat) (r q : ℕ) → ((j : ℕ) → j < length ps → get_or ps j (0, 0) ≢ place_at r q) → filled w ps row r q ≡ w r q
+pub filled-other : (w : Beats) (ps : List (ℕ × ℕ)) (row : List Beat) (r q : ℕ) → ((j : ℕ) → j < length ps → get_or ps j (0, 0) ≢ place_at r q) → with_row w ps row r q ≡ w r q
 filled-other w [] row r q none = refl
 filled-other w (p ∷ ps) [] r q none = refl
 filled-other w (p ∷ ps) (x ∷ row) r q none =
@@ -64,10 +64,10 @@ module _ (relation : Routes) (first : ℕ) (ins outs : List (ℕ × ℕ)) (views
 
   -- what router i has taken
   abbrev pub took_in : ℕ → View → View
-  took_in i v = all_taken relation (arrived relation at_place at_start row i) v
+  took_in i v = view_after_takes relation (beats_arriving relation at_place at_start row i) v
 
   -- the wires with the beats of the row
-  module _ (b1 : List (List Beat)) (took : (r q : ℕ) → beat_at b1 r q ≡ filled (beat_at b0) ins row r q) where
+  module _ (b1 : List (List Beat)) (took : (r q : ℕ) → beat_at b1 r q ≡ with_row (beat_at b0) ins row r q) where
     pub linked-taken : (r q : ℕ) → local_port relation.grid ≤ q → beat_at b1 r q ≡ idle_beat
     linked-taken r q l = took r q ∙ filled-other (beat_at b0) ins row r q (λ j h e. let w = (set.within j h).1 in let z = ap (λ (p : ℕ × ℕ). p.1) e in absurd (omega arith)) ∙ set.linked r q l
 
@@ -77,17 +77,17 @@ module _ (relation : Routes) (first : ℕ) (ins outs : List (ℕ × ℕ)) (views
         ∙ filled-other (beat_at b0) ins row r q (λ j h e. let z : r ≡ (get_or ins j (0, 0)).0 = ap (λ (p : ℕ × ℕ). p.0) (sym e) in absurd (false≢true (sym l ∙ ap (is_own first (length views)) z ∙ set.own j h)))
         ∙ set.idle r q l
 
-    incoming-is : (i : ℕ) → incoming relation.grid (get_or b1 (first + i) []) ≡ arrived relation at_place at_start row i
+    incoming-is : (i : ℕ) → incoming relation.grid (get_or b1 (first + i) []) ≡ beats_arriving relation at_place at_start row i
     unfolding incoming
-    incoming-is i = tabulate-same (local_port relation.grid) (λ port. beat_at b1 (first + i) port) (filled (beat_at b0) ins row (first + i)) idle_beat (λ q l. took (first + i) q)
+    incoming-is i = tabulate-same (local_port relation.grid) (λ port. beat_at b1 (first + i) port) (with_row (beat_at b0) ins row (first + i)) idle_beat (λ q l. took (first + i) q)
 
-    pub all-took : map_indexed (λ (i : ℕ) (v : View). all_taken relation (incoming relation.grid (get_or b1 (first + i) [])) v) views ≡ map_indexed took_in views
+    pub all-took : map_indexed (λ (i : ℕ) (v : View). view_after_takes relation (incoming relation.grid (get_or b1 (first + i) [])) v) views ≡ map_indexed took_in views
     all-took =
-        let took_from : ℕ → View → View = λ i v. all_taken relation (incoming relation.grid (get_or b1 (first + i) [])) v in
+        let took_from : ℕ → View → View = λ i v. view_after_takes relation (incoming relation.grid (get_or b1 (first + i) [])) v in
         same_lists (map_indexed took_from views) (map_indexed took_in views) (length-map_indexed took_from views ∙ sym (length-map_indexed took_in views))
         (λ i d l.
         let few : i < length views = omega (arith, l, length-map_indexed took_from views) in
-        get_or-map_indexed took_from views i d d few ∙ ap (λ beats. all_taken relation beats (get_or views i d)) (incoming-is i) ∙ sym (get_or-map_indexed took_in views i d d few))
+        get_or-map_indexed took_from views i d d few ∙ ap (λ beats. view_after_takes relation beats (get_or views i d)) (incoming-is i) ∙ sym (get_or-map_indexed took_in views i d d few))
 
   module _ (n : ℕ) where
     -- what each router makes of the cycle
@@ -96,22 +96,22 @@ module _ (relation : Routes) (first : ℕ) (ins outs : List (ℕ × ℕ)) (views
 
     -- the first half of the cycle of router i
     abbrev pub half : ℕ → View → View
-    half i v = decided relation n (arrived relation at_place at_start row i) v
+    half i v = view_after_decide relation n (beats_arriving relation at_place at_start row i) v
 
     abbrev pub halves : List View
     halves = map_indexed half views
 
-    pub made-views : (d : View) → map (λ (s : View × List Beat). s.0) made ≡ map emptied halves
+    pub made-views : (d : View) → map (λ (s : View × List Beat). s.0) made ≡ map view_after_puts halves
     unfolding steps
     made-views d =
-        map_map_indexed (λ (s : View × List Beat). s.0) (λ (i : ℕ) (v : View). local_step relation v (arrived relation at_place at_start row i) n) emptied half views d (d, []) d
-        (λ i v l. local_step-view relation v (arrived relation at_place at_start row i) n)
+        map_map_indexed (λ (s : View × List Beat). s.0) (λ (i : ℕ) (v : View). local_step relation v (beats_arriving relation at_place at_start row i) n) view_after_puts half views d (d, []) d
+        (λ i v l. local_step-view relation v (beats_arriving relation at_place at_start row i) n)
 
     pub made-sent : (d : View) → sent_of relation at_place made ≡ sent_by halves
     unfolding steps
     made-sent d =
-        map_map_indexed (λ (s : View × List Beat). s.1) (λ (i : ℕ) (v : View). local_step relation v (arrived relation at_place at_start row i) n) (λ (v : View). v.to_put) half views d (d, []) d
-        (λ i v l. local_step-beats relation v (arrived relation at_place at_start row i) n)
+        map_map_indexed (λ (s : View × List Beat). s.1) (λ (i : ℕ) (v : View). local_step relation v (beats_arriving relation at_place at_start row i) n) (λ (v : View). v.to_put) half views d (d, []) d
+        (λ i v l. local_step-beats relation v (beats_arriving relation at_place at_start row i) n)
 
     pub made-count : length made ≡ length views
     unfolding steps
@@ -125,16 +125,16 @@ module _ (relation : Routes) (first : ℕ) (ins outs : List (ℕ × ℕ)) (views
       at1 i d l = ap (λ vs. get_or vs i d) taken ∙ get_or-map_indexed took_in views i d d l
 
       site1 : (i : ℕ) (d : View) → i < length views → (get_or views1 i d).site ≡ (get_or views i d).site
-      site1 i d l = ap (λ (v : View). v.site) (at1 i d l) ∙ all_taken-site relation (arrived relation at_place at_start row i) (get_or views i d)
+      site1 i d l = ap (λ (v : View). v.site) (at1 i d l) ∙ all_taken-site relation (beats_arriving relation at_place at_start row i) (get_or views i d)
 
-      half1 : (i : ℕ) (d : View) → i < length views → concluded relation n (get_or views1 i d) ≡ half i (get_or views i d)
-      half1 i d l = ap (concluded relation n) (at1 i d l) ∙ concluded-decided relation n (arrived relation at_place at_start row i) (get_or views i d)
+      half1 : (i : ℕ) (d : View) → i < length views → view_after_conclude relation n (get_or views1 i d) ≡ half i (get_or views i d)
+      half1 i d l = ap (view_after_conclude relation n) (at1 i d l) ∙ concluded-decided relation n (beats_arriving relation at_place at_start row i) (get_or views i d)
 
       sent1 : (d : View) → to_send relation n views1 ≡ sent_of relation at_place made
       sent1 d =
-          ap (map (λ (v : View). (concluded relation n v).to_put)) taken
-          ∙ map_map_indexed (λ (v : View). (concluded relation n v).to_put) took_in (λ (v : View). v.to_put) half views d d d
-          (λ i v l. ap (λ (w : View). w.to_put) (concluded-decided relation n (arrived relation at_place at_start row i) v))
+          ap (map (λ (v : View). (view_after_conclude relation n v).to_put)) taken
+          ∙ map_map_indexed (λ (v : View). (view_after_conclude relation n v).to_put) took_in (λ (v : View). v.to_put) half views d d d
+          (λ i v l. ap (λ (w : View). w.to_put) (concluded-decided relation n (beats_arriving relation at_place at_start row i) v))
           ∙ sym (made-sent d)
 
       -- all routers of the tile can finish
@@ -153,31 +153,31 @@ module _ (relation : Routes) (first : ℕ) (ins outs : List (ℕ × ℕ)) (views
 
       -- they have finished
       module _ (d : View) (views5 : List View) (count5 : length views5 ≡ length views) where
-        all5 : (u : View → View) → ((k : ℕ) (e : View) → k < length views → u (get_or views5 k e) ≡ u (emptied (concluded relation n (get_or views1 k e)))) → map u views5 ≡ map u (after_steps relation at_place made).views
+        all5 : (u : View → View) → ((k : ℕ) (e : View) → k < length views → u (get_or views5 k e) ≡ u (view_after_puts (view_after_conclude relation n (get_or views1 k e)))) → map u views5 ≡ map u (after_steps relation at_place made).views
         unfolding after_steps
         all5 u each =
-            same_lists (map u views5) (map u (map emptied halves))
-            (length-map views5 u ∙ count5 ∙ sym (length-map (map emptied halves) u ∙ length-map halves emptied ∙ length-map_indexed half views))
+            same_lists (map u views5) (map u (map view_after_puts halves))
+            (length-map views5 u ∙ count5 ∙ sym (length-map (map view_after_puts halves) u ∙ length-map halves view_after_puts ∙ length-map_indexed half views))
             (λ k e l.
             let few : k < length views = omega (arith, length-map views5 u, count5, l) in
             let few' : k < length halves = omega (arith, length-map_indexed half views, few) in
             get_or-map u views5 k e e (omega (arith, count5, few))
             ∙ each k e few
-            ∙ ap (λ (v : View). u (emptied v)) (half1 k e few ∙ sym (get_or-map_indexed half views k e e few))
-            ∙ ap u (sym (get_or-map emptied halves k e e few'))
-            ∙ sym (get_or-map u (map emptied halves) k e e (omega (arith, length-map halves emptied, few'))))
+            ∙ ap (λ (v : View). u (view_after_puts v)) (half1 k e few ∙ sym (get_or-map_indexed half views k e e few))
+            ∙ ap u (sym (get_or-map view_after_puts halves k e e few'))
+            ∙ sym (get_or-map u (map view_after_puts halves) k e e (omega (arith, length-map halves view_after_puts, few'))))
             ∙ ap (map u) (sym (made-views d))
 
-        module _ (did : (k : ℕ) (e : View) → k < length views → unseen (get_or views5 k e) ≡ unseen (emptied (concluded relation n (get_or views1 k e)))) where
-          pub unseen5 : map unseen views5 ≡ map unseen (after_steps relation at_place made).views
-          unseen5 = all5 unseen did
+        module _ (did : (k : ℕ) (e : View) → k < length views → without_findings (get_or views5 k e) ≡ without_findings (view_after_puts (view_after_conclude relation n (get_or views1 k e)))) where
+          pub unseen5 : map without_findings views5 ≡ map without_findings (after_steps relation at_place made).views
+          unseen5 = all5 without_findings did
 
-          pub seen5 : ((k : ℕ) (e : View) → k < length views → get_or views5 k e ≡ emptied (concluded relation n (get_or views1 k e))) → views5 ≡ (after_steps relation at_place made).views
+          pub seen5 : ((k : ℕ) (e : View) → k < length views → get_or views5 k e ≡ view_after_puts (view_after_conclude relation n (get_or views1 k e))) → views5 ≡ (after_steps relation at_place made).views
           seen5 each =
               let same : View → View = λ v. v in
               sym (map-id views5) ∙ all5 same each ∙ map-id (after_steps relation at_place made).views
 
-          placed5 : (k : ℕ) (e : View) → k < length views5 → IsPlaced relation (first + k) (get_or views5 k e)
+          placed5 : (k : ℕ) (e : View) → k < length views5 → HasItsBeats relation (first + k) (get_or views5 k e)
           placed5 k e l =
               let l' : k < length views = omega (arith, count5, l) in
               let was = set.placed k e l' in
@@ -188,7 +188,7 @@ module _ (relation : Routes) (first : ℕ) (ins outs : List (ℕ × ℕ)) (views
                 built_for = IsRelationOf-same_site relation (get_or views k e) (get_or views5 k e) site was.built_for;
                 site = ap (λ (s : Site). s.node) site ∙ was.site;
                 beats = ap (λ (v : View). length v.to_put) same
-                    ∙ length-replicate (local_port (concluded relation n (get_or views1 k e)).site.grid) idle_beat
+                    ∙ length-replicate (local_port (view_after_conclude relation n (get_or views1 k e)).site.grid) idle_beat
                     ∙ ap (λ (s : Site). local_port s.grid) (concluded-site relation n (get_or views1 k e) ∙ site1 k e l')
                     ∙ ap local_port (sym was.built_for.grid);
               }

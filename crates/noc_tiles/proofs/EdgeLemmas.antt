@@ -8,9 +8,9 @@ use Rattle.noc_packet.specs.declared.packet.Beat.{Beat}
 use Rattle.noc_route.specs.Routes.{Routes}
 use Rattle.noc_router.specs.Decided.{IsDecidedFor}
 use Rattle.noc_router.specs.View.{View, IsRelationOf, idle_beat}
-use Rattle.noc_net.specs.Halves.{beat_at, emptied}
-use Rattle.noc_net.specs.Takes.{concluded}
-use Rattle.noc_net.specs.Unseen.{unseen}
+use Rattle.noc_net.specs.Halves.{beat_at, view_after_puts}
+use Rattle.noc_net.specs.Takes.{view_after_conclude}
+use Rattle.noc_net.specs.Unseen.{without_findings}
 use Rattle.noc_tiles.specs.Inner.{CanFinish, HaveFinished, put_from, to_send}
 use Rattle.noc_tiles.specs.Phases.{IsCleared}
 use Rattle.noc_tiles.specs.TileStep.{is_own, is_from, beat_among}
@@ -92,7 +92,7 @@ edge-wire first a b n sent (Some (s, q)) l m h =
     first-put : Beat
     first-put = put_from first 0 a sent (Some (s, q)) idle_beat
 
--- .. any wire, once the inner ones have put theirs too
+-- any wire, once the inner routers have put their beats too
 whole-wire : (first a b n : ℕ) (sent : List (List Beat)) (from : Option (ℕ × ℕ)) → a ≤ b → b ≤ n
     → put_from first a b sent from (put_from first b n sent from (put_from first 0 a sent from idle_beat)) ≡ beat_among first n sent from
 whole-wire first a b n sent None l m = refl
@@ -140,7 +140,7 @@ can-after relation n seen i j i' j' a b done can l apart =
           ∙ can.idle r q u f';
     }
 
--- .. and once some wires have become idle too
+-- routers that have not finished still can, once some wires have become idle
 pub can-cleared : (relation : Routes) (i j k : ℕ) (outs : List (ℕ × ℕ)) (a b : Tile) → CanFinish relation i j a → b ≡ record a { beats = b.beats; outs = b.outs }
     → length b.beats.items ≡ length a.beats.items → ((r q : ℕ) → IsCleared outs a.beats.items b.beats.items k r q) → CanFinish relation i j b
 can-cleared relation i j k outs a b can rest size cleared =
@@ -165,7 +165,7 @@ can-cleared relation i j k outs a b can rest size cleared =
 
 sent-same : (relation : Routes) (n : ℕ) (vs ws : List View) (k : ℕ) (d : View) → k < length vs → k < length ws → get_or vs k d ≡ get_or ws k d → get_or (to_send relation n vs) k [] ≡ get_or (to_send relation n ws) k []
 sent-same relation n vs ws k d l m same =
-    let put = λ (v : View). (concluded relation n v).to_put in
+    let put = λ (v : View). (view_after_conclude relation n v).to_put in
     get_or-map put vs k d [] l ∙ ap put same ∙ sym (get_or-map put ws k d [] m)
 
 -- the tile before all, after the routers at its edge below the inner ones and after those above them, with some wires idle, and after the inner ones
@@ -199,14 +199,14 @@ module _ (relation : Routes) (n : ℕ) (seen : Bool) (i j : ℕ) (t1 t2 t3 t4 t5
   above5 k d l = three.others k d (inr l) ∙ ap (λ vs. get_or vs k d) routers4
 
   abbrev finished : View → View
-  finished v = emptied (concluded relation n v)
+  finished v = view_after_puts (view_after_conclude relation n v)
 
-  pub views5 : (k : ℕ) (d : View) → k < length t1.routers.items → unseen (get_or t5.routers.items k d) ≡ unseen (finished (get_or t1.routers.items k d))
+  pub views5 : (k : ℕ) (d : View) → k < length t1.routers.items → without_findings (get_or t5.routers.items k d) ≡ without_findings (finished (get_or t1.routers.items k d))
   views5 k d l =
-      ⊎_elim (λ (x : k < i). ap unseen (below5 k d x) ∙ one.views k d (omega arith) x)
+      ⊎_elim (λ (x : k < i). ap without_findings (below5 k d x) ∙ one.views k d (omega arith) x)
       (λ (x : i ≤ k).
-      ⊎_elim (λ (y : k < j). three.views k d x y ∙ ap (λ v. unseen (finished v)) (still4 k d x y))
-      (λ (y : j ≤ k). ap unseen (above5 k d y) ∙ two.views k d y l ∙ ap (λ v. unseen (finished v)) (still2 k d x))
+      ⊎_elim (λ (y : k < j). three.views k d x y ∙ ap (λ v. without_findings (finished v)) (still4 k d x y))
+      (λ (y : j ≤ k). ap without_findings (above5 k d y) ∙ two.views k d y l ∙ ap (λ v. without_findings (finished v)) (still2 k d x))
       (cases_lt k j))
       (cases_lt k i)
 

@@ -5,7 +5,7 @@ use Rattle.std.proofs.lemmas.Bool.Decides.{eqb_tells}
 use Rattle.std.proofs.lemmas.List.{length-set, get_or-map, length-map}
 use Rattle.noc_packet.specs.declared.packet.Beat.{Beat}
 use Rattle.noc_net.specs.Halves.{beat_at}
-use Rattle.noc_tiles.specs.RingEnd.{RingEnd}
+use Rattle.noc_tiles.specs.RingEnd.{WireEnd}
 use Rattle.noc_tiles.specs.Ends.{End}
 use Rattle.noc_tiles.specs.Emptying.{CanEmpty, Empties, Left}
 use Rattle.noc_tiles.proofs.ClearLemmas.{place_at}
@@ -48,13 +48,13 @@ module _ (I O : List End) (i : ℕ) (old new : List (List Beat)) (a p : ℕ) (x 
   }
 
 -- an end in the middle of the loop: it is still as it was at the start
-pub view-rest : {X A : Type 0} (f : X → RingEnd A) (is is1 is0 : List X) (i : ℕ) (x : X) (e : RingEnd A) → is1 ≡ is0 → get_or is i x ≡ get_or is1 i x → i < length is0 → get_or (map f is0) i e ≡ f (get_or is i x)
+pub view-rest : {X A : Type 0} (f : X → WireEnd A) (is is1 is0 : List X) (i : ℕ) (x : X) (e : WireEnd A) → is1 ≡ is0 → get_or is i x ≡ get_or is1 i x → i < length is0 → get_or (map f is0) i e ≡ f (get_or is i x)
 view-rest f is is1 is0 i x e s r l = get_or-map f is0 i x e l ∙ ap f (ap (λ q. get_or q i x) (sym s) ∙ sym r)
 
-pub view-at : {X A : Type 0} (f : X → RingEnd A) (xs xs0 : List X) (i : ℕ) (x : X) (e : RingEnd A) → map f xs ≡ map f xs0 → i < length xs → get_or (map f xs0) i e ≡ f (get_or xs i x)
+pub view-at : {X A : Type 0} (f : X → WireEnd A) (xs xs0 : List X) (i : ℕ) (x : X) (e : WireEnd A) → map f xs ≡ map f xs0 → i < length xs → get_or (map f xs0) i e ≡ f (get_or xs i x)
 view-at f xs xs0 i x e h l = ap (λ q. get_or q i e) (sym h) ∙ get_or-map f xs i x e l
 
-pub length-views : {X A : Type 0} (f : X → RingEnd A) (xs xs0 : List X) → map f xs ≡ map f xs0 → length xs ≡ length xs0
+pub length-views : {X A : Type 0} (f : X → WireEnd A) (xs xs0 : List X) → map f xs ≡ map f xs0 → length xs ≡ length xs0
 length-views f xs xs0 h = sym (length-map xs f) ∙ (ap length h ∙ length-map xs0 f)
 
 pub meets : (rows : ℕ) (I O : List End) → CanEmpty rows I O → (i o : ℕ) (v w : End) → i < length I → o < length O → get_or I i w ≡ v → get_or O o w ≡ w → w.at ≡ v.at

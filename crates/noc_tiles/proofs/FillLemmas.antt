@@ -4,7 +4,7 @@ use Rattle.std.specs.Prelude.{nat_eq, ◌&&◌, if◌then◌else◌}
 use Rattle.std.proofs.lemmas.Bool.Decides.{eqb_tells}
 use Rattle.noc_packet.specs.declared.packet.Beat.{Beat}
 use Rattle.noc_router.specs.View.{idle_beat}
-use Rattle.noc_tiles.specs.TileStep.{Beats, filled, with_beat}
+use Rattle.noc_tiles.specs.TileStep.{Beats, with_row, with_beat}
 use Rattle.noc_tiles.proofs.ClearLemmas.{place_at}
 use Rattle.noc_tiles.proofs.TileStepLemmas.{Tells}
 
@@ -34,7 +34,7 @@ module _ (w : Beats) (p : ℕ × ℕ) (ps : List (ℕ × ℕ)) (x : Beat) (row :
 
 pub filled_right : (w : Beats) (ps : List (ℕ × ℕ)) (row : List Beat) (meant : Beats) (r q : ℕ)
     → ((j : ℕ) → j < length row → j < length ps → get_or row j idle_beat ≡ meant (get_or ps j (0, 0)).0 (get_or ps j (0, 0)).1)
-    → HasOrGets w ps row meant r q → filled w ps row r q ≡ meant r q
+    → HasOrGets w ps row meant r q → with_row w ps row r q ≡ meant r q
 filled_right w [] row meant r q right (inl e) = e
 filled_right w [] row meant r q right (inr h) = let k = h.1 in absurd (omega arith)
 filled_right w (p ∷ ps) [] meant r q right (inl e) = e

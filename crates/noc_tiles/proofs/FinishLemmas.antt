@@ -8,12 +8,12 @@ use Rattle.noc_topo.specs.Shape.{local_port, neighbour, nodes, ports}
 use Rattle.noc_packet.specs.declared.packet.Beat.{Beat}
 use Rattle.noc_route.specs.Routes.{Routes}
 use Rattle.noc_router.specs.Decided.{IsDecidedFor}
-use Rattle.noc_router.specs.View.{Site, View, IsRelationOf, idle_beat, beat_to_put, injected, planned}
+use Rattle.noc_router.specs.View.{Site, View, IsRelationOf, idle_beat, beat_to_put, view_after_inject, decisions_of}
 use Rattle.noc_router.proofs.SiteLemmas.{injected-site, committed-site}
 use Rattle.noc_model.proofs.StepLemmas.{IsRelationOf-same_site, count-committed}
-use Rattle.noc_net.specs.Halves.{IsPlaced, beat_at, emptied, received}
-use Rattle.noc_net.specs.Takes.{concluded}
-use Rattle.noc_net.specs.Unseen.{unseen}
+use Rattle.noc_net.specs.Halves.{HasItsBeats, beat_at, view_after_puts, wire_after_puts}
+use Rattle.noc_net.specs.Takes.{view_after_conclude}
+use Rattle.noc_net.specs.Unseen.{without_findings}
 use Rattle.noc_tiles.specs.Inner.{CanFinish, HaveFinished, put_from, to_send}
 use Rattle.noc_tiles.specs.TileStep.{is_own, is_from}
 use Rattle.noc_tiles.specs.declared.tile.Tile.{Tile}
@@ -22,30 +22,30 @@ use Rattle.noc_tiles.proofs.TileStepLemmas.{Tells}
 
 -- ---- one router, which has concluded but for what it found
 
-pub concluded-site : (relation : Routes) (n : ℕ) (v : View) → (concluded relation n v).site ≡ v.site
-concluded-site relation n v = committed-site (planned relation (injected n v)) (injected n v) ∙ injected-site n v
+pub concluded-site : (relation : Routes) (n : ℕ) (v : View) → (view_after_conclude relation n v).site ≡ v.site
+concluded-site relation n v = committed-site (decisions_of relation (view_after_inject n v)) (view_after_inject n v) ∙ injected-site n v
 
-pub received-unseen : (v : View) (from : Option (ℕ × ℕ)) (beat : Beat) → received v from beat ≡ received (unseen v) from beat
+pub received-unseen : (v : View) (from : Option (ℕ × ℕ)) (beat : Beat) → wire_after_puts v from beat ≡ wire_after_puts (without_findings v) from beat
 received-unseen v None beat = refl
 received-unseen v (Some from) beat = refl
 
-module _ (relation : Routes) (n : ℕ) (v w : View) (same : unseen w ≡ unseen (concluded relation n v)) where
+module _ (relation : Routes) (n : ℕ) (v w : View) (same : without_findings w ≡ without_findings (view_after_conclude relation n v)) where
   pub site-half : w.site ≡ v.site
   site-half = ap (λ (u : View). u.site) same ∙ concluded-site relation n v
 
-  pub placed-half : IsRelationOf relation v → IsPlaced relation w.site.node w
+  pub placed-half : IsRelationOf relation v → HasItsBeats relation w.site.node w
   placed-half fits = record {
     built_for = IsRelationOf-same_site relation v w site-half fits;
     site = refl;
     beats = ap (λ (u : View). length u.to_put) same
-        ∙ count-committed (planned relation (injected n v)) (injected n v)
+        ∙ count-committed (decisions_of relation (view_after_inject n v)) (view_after_inject n v)
         ∙ ap (λ (s : Site). local_port s.grid) (injected-site n v)
         ∙ ap local_port (sym fits.grid);
   }
 
-  pub received-half : (from : Option (ℕ × ℕ)) (beat : Beat) → received w from beat ≡ received (concluded relation n v) from beat
+  pub received-half : (from : Option (ℕ × ℕ)) (beat : Beat) → wire_after_puts w from beat ≡ wire_after_puts (view_after_conclude relation n v) from beat
   received-half from beat =
-      received-unseen w from beat ∙ ap (λ (u : View). received u from beat) same ∙ sym (received-unseen (concluded relation n v) from beat)
+      received-unseen w from beat ∙ ap (λ (u : View). wire_after_puts u from beat) same ∙ sym (received-unseen (view_after_conclude relation n v) from beat)
 
 -- ---- the wires
 
@@ -55,14 +55,14 @@ from-none first i sent (Some (a, q)) beat =
     ap (λ b. if b then beat_at sent (a - first) q else beat) (own-false (first + i) (i - i) a (⊎_elim (λ (l : a < first + i). inl l) (λ (u : first + i ≤ a). inr (omega arith)) (cases_lt a (first + i))))
 
 pub from-more : (first i k : ℕ) (sent : List (List Beat)) (w : View) (from : Option (ℕ × ℕ)) (beat : Beat) → i ≤ k → w.site.node ≡ first + k → get_or sent k [] ≡ w.to_put
-    → received w from (put_from first i k sent from beat) ≡ put_from first i (k + 1) sent from beat
+    → wire_after_puts w from (put_from first i k sent from beat) ≡ put_from first i (k + 1) sent from beat
 from-more first i k sent w None beat l e g = refl
 from-more first i k sent w (Some (a, q)) beat l e g = at (eqb_tells a w.site.node)
   where
     rest : Beat
     rest = put_from first i k sent (Some (a, q)) beat
 
-    at : Tells a w.site.node → received w (Some (a, q)) rest ≡ put_from first i (k + 1) sent (Some (a, q)) beat
+    at : Tells a w.site.node → wire_after_puts w (Some (a, q)) rest ≡ put_from first i (k + 1) sent (Some (a, q)) beat
     at (inl h) =
         let own : is_own (first + i) ((k + 1) - i) a ≡ true = own-true (first + i) ((k + 1) - i) a (omega (arith, h.1, e)) (omega (arith, h.1, e)) in
         let here : a - first ≡ k = omega (arith, h.1, e) in
@@ -111,7 +111,7 @@ module _ (relation : Routes) (n : ℕ) (seen : Bool) (i j : ℕ) (a : Tile) (can
         (λ (past : nodes relation.grid ≤ r). past-rows b.beats.items r q (omega (arith, so_far.size, can.count, past)))
         (cases_lt r (nodes relation.grid))
 
-    module _ (c : Tile) (w : View) (same : unseen w ≡ unseen (emptied (concluded relation n v))) (sees : seen ≡ true → w ≡ emptied (concluded relation n v)) (set_is : c.routers.items ≡ set b.routers.items k w) where
+    module _ (c : Tile) (w : View) (same : without_findings w ≡ without_findings (view_after_puts (view_after_conclude relation n v))) (sees : seen ≡ true → w ≡ view_after_puts (view_after_conclude relation n v)) (set_is : c.routers.items ≡ set b.routers.items k w) where
       short : k < length b.routers.items
       short = omega (arith, so_far.count, can.within, below)
 
@@ -125,7 +125,7 @@ module _ (relation : Routes) (n : ℕ) (seen : Bool) (i j : ℕ) (a : Tile) (can
       first-at d = get_or_read a.routers.items k v (omega (arith, short, so_far.count)) is-first d
 
       pub finished-more : c ≡ record b { plan = c.plan; routers = c.routers; beats = c.beats } → IsDecidedFor (ports relation.grid) relation.vcs c.plan → length c.beats.items ≡ length b.beats.items
-          → ((r q : ℕ) → r < nodes relation.grid → beat_at c.beats.items r q ≡ received (concluded relation n v) (neighbour relation.grid r q) (beat_at b.beats.items r q))
+          → ((r q : ℕ) → r < nodes relation.grid → beat_at c.beats.items r q ≡ wire_after_puts (view_after_conclude relation n v) (neighbour relation.grid r q) (beat_at b.beats.items r q))
           → HaveFinished relation n seen i (k + 1) a c
       finished-more rest plan size wires = record {
         rest = rest ∙ ap (λ (t : Tile). record t { plan = c.plan; routers = c.routers; beats = c.beats }) so_far.rest;
@@ -133,16 +133,16 @@ module _ (relation : Routes) (n : ℕ) (seen : Bool) (i j : ℕ) (a : Tile) (can
         count = ap length set_is ∙ length-set b.routers.items k w ∙ so_far.count;
         size = size ∙ so_far.size;
         views = λ m d l u.
-            ⊎_elim (λ (e : m ≡ k). rw e (ap unseen (here d) ∙ same ∙ ap (λ (x : View). unseen (emptied (concluded relation n x))) (first-at d)))
-            (λ (ne : m ≢ k). ap unseen (elsewhere m d ne) ∙ so_far.views m d l (omega arith)) (cases_eq m k);
+            ⊎_elim (λ (e : m ≡ k). rw e (ap without_findings (here d) ∙ same ∙ ap (λ (x : View). without_findings (view_after_puts (view_after_conclude relation n x))) (first-at d)))
+            (λ (ne : m ≢ k). ap without_findings (elsewhere m d ne) ∙ so_far.views m d l (omega arith)) (cases_eq m k);
         seen_views = λ s m d l u.
-            ⊎_elim (λ (e : m ≡ k). rw e (here d ∙ sees s ∙ ap (λ (x : View). emptied (concluded relation n x)) (first-at d)))
+            ⊎_elim (λ (e : m ≡ k). rw e (here d ∙ sees s ∙ ap (λ (x : View). view_after_puts (view_after_conclude relation n x)) (first-at d)))
             (λ (ne : m ≢ k). elsewhere m d ne ∙ so_far.seen_views s m d l (omega arith)) (cases_eq m k);
         others = λ m d h. elsewhere m d (omega arith) ∙ so_far.others m d (⊎_elim (λ (l : m < i). inl l) (λ (u : k + 1 ≤ m). inr (omega arith)) h);
         wires = λ r q l.
             wires r q l
-            ∙ ap (received (concluded relation n v) (neighbour relation.grid r q)) (so_far.wires r q l)
-            ∙ from-more a.first i k (to_send relation n a.routers.items) (concluded relation n v) (neighbour relation.grid r q) (beat_at a.beats.items r q) from
+            ∙ ap (wire_after_puts (view_after_conclude relation n v) (neighbour relation.grid r q)) (so_far.wires r q l)
+            ∙ from-more a.first i k (to_send relation n a.routers.items) (view_after_conclude relation n v) (neighbour relation.grid r q) (beat_at a.beats.items r q) from
             (ap (λ (s : Site). s.node) (concluded-site relation n v) ∙ next-node)
-            (get_or-map (λ (x : View). (concluded relation n x).to_put) a.routers.items k v [] (omega (arith, short, so_far.count)) ∙ ap (λ (x : View). (concluded relation n x).to_put) (sym is-first));
+            (get_or-map (λ (x : View). (view_after_conclude relation n x).to_put) a.routers.items k v [] (omega (arith, short, so_far.count)) ∙ ap (λ (x : View). (view_after_conclude relation n x).to_put) (sym is-first));
       }

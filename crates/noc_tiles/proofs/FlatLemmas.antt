@@ -2,11 +2,11 @@
 use Rattle.std.proofs.Common.{◌≡◌, ◌⊎◌, inl, inr, ℕ, zero, suc, ◌+◌, ◌-◌, ◌<◌, ◌≤◌, List, [], ◌∷◌, ◌++◌, map, length, get_or, take, refl, ap, sym, ◌∙◌, arith}
 use Rattle.std.specs.List.{flat_map}
 use Rattle.std.proofs.lemmas.List.{get_or_append_left, get_or-append-add, length-append, append_assoc, append-nil, length-map}
-use Rattle.noc_tiles.specs.RingEnd.{RingEnd, grown}
+use Rattle.noc_tiles.specs.RingEnd.{WireEnd, end_after_beat}
 use Rattle.noc_packet.specs.declared.packet.Beat.{Beat}
 use Rattle.noc_route.specs.Routes.{Routes}
 use Rattle.noc_router.specs.View.{View, idle_beat}
-use Rattle.noc_tiles.specs.TileStep.{Layout, TileState, fed, fed_all, out_at, put_by, put_in, cycled, after, puts}
+use Rattle.noc_tiles.specs.TileStep.{Layout, TileState, ends_after_beats, ends_after_rows, out_at, put_by, put_in, tile_after_cycle, after, beats_put}
 use Rattle.noc_tiles.proofs.TileStepLemmas.{length-fed}
 
 module _ {X Y : Type 0} (f : X → List Y) where
@@ -63,37 +63,37 @@ abbrev pub column : ℕ → List (List Beat) → List Beat
 column j rows = map (λ row. get_or row j idle_beat) rows
 
 module _ {A : Type 0} where
-  pub fed-at : (ws : List (RingEnd A)) (row : List Beat) (j : ℕ) (e : RingEnd A) → j < length ws → length row ≡ length ws → get_or (fed ws row) j e ≡ grown (get_or ws j e) (get_or row j idle_beat)
+  pub fed-at : (ws : List (WireEnd A)) (row : List Beat) (j : ℕ) (e : WireEnd A) → j < length ws → length row ≡ length ws → get_or (ends_after_beats ws row) j e ≡ end_after_beat (get_or ws j e) (get_or row j idle_beat)
   fed-at [] row j e l s = absurd (omega arith)
   fed-at (w ∷ ws) [] j e l s = absurd (omega arith)
   fed-at (w ∷ ws) (x ∷ row) zero e l s = refl
   fed-at (w ∷ ws) (x ∷ row) (suc j) e l s = fed-at ws row j e (omega arith) (omega arith)
 
-  pub fed_all-at : (ws : List (RingEnd A)) (rows : List (List Beat)) (j : ℕ) (e : RingEnd A) → j < length ws → ((i : ℕ) → i < length rows → length (get_or rows i []) ≡ length ws)
-      → get_or (fed_all ws rows) j e ≡ record { at = (get_or ws j e).at; ring = (get_or ws j e).ring; past = (get_or ws j e).past ++ column j rows }
+  pub fed_all-at : (ws : List (WireEnd A)) (rows : List (List Beat)) (j : ℕ) (e : WireEnd A) → j < length ws → ((i : ℕ) → i < length rows → length (get_or rows i []) ≡ length ws)
+      → get_or (ends_after_rows ws rows) j e ≡ record { at = (get_or ws j e).at; ring = (get_or ws j e).ring; past = (get_or ws j e).past ++ column j rows }
   fed_all-at ws [] j e l s =
-      let mk : List Beat → RingEnd A = λ p. record { at = (get_or ws j e).at; ring = (get_or ws j e).ring; past = p } in
+      let mk : List Beat → WireEnd A = λ p. record { at = (get_or ws j e).at; ring = (get_or ws j e).ring; past = p } in
       ap mk (sym (append-nil (get_or ws j e).past))
   fed_all-at ws (r ∷ rows) j e l s =
       let n = length-fed ws r in
-      let mk : RingEnd A → List Beat → RingEnd A = λ w xs. record { at = w.at; ring = w.ring; past = w.past ++ xs } in
-      let mk' : List Beat → RingEnd A = λ p. record { at = (get_or ws j e).at; ring = (get_or ws j e).ring; past = p } in
-      fed_all-at (fed ws r) rows j e (omega arith) (λ i h. s (suc i) (omega arith) ∙ sym n)
+      let mk : WireEnd A → List Beat → WireEnd A = λ w xs. record { at = w.at; ring = w.ring; past = w.past ++ xs } in
+      let mk' : List Beat → WireEnd A = λ p. record { at = (get_or ws j e).at; ring = (get_or ws j e).ring; past = p } in
+      fed_all-at (ends_after_beats ws r) rows j e (omega arith) (λ i h. s (suc i) (omega arith) ∙ sym n)
       ∙ (ap (λ w. mk w (column j rows)) (fed-at ws r j e l (s 0 (omega arith)))
       ∙ ap mk' (append_assoc (get_or ws j e).past (get_or r j idle_beat ∷ []) (column j rows)))
 
 module _ (relation : Routes) (P : Layout) where
-  pub length-puts : (n : ℕ) (T : TileState) (rows : List (List Beat)) → length (puts relation P n T rows) ≡ length rows
+  pub length-puts : (n : ℕ) (T : TileState) (rows : List (List Beat)) → length (beats_put relation P n T rows) ≡ length rows
   length-puts n T [] = refl
-  length-puts n T (r ∷ rows) = ap suc (length-puts (suc n) (cycled relation P n T r) rows)
+  length-puts n T (r ∷ rows) = ap suc (length-puts (suc n) (tile_after_cycle relation P n T r) rows)
 
   pub length-put_by : (S : List (View × List Beat)) → length (put_by relation P S) ≡ length P.outs
   unfolding put_by
   length-put_by S = length-map P.outs (λ (p : ℕ × ℕ). out_at relation P S p.0 p.1)
 
-  pub puts-at : (n : ℕ) (T : TileState) (rows : List (List Beat)) (i : ℕ) → i < length rows → get_or (puts relation P n T rows) i [] ≡ put_in relation P (n + i) (after relation P n T (take i rows)) (get_or rows i [])
+  pub puts-at : (n : ℕ) (T : TileState) (rows : List (List Beat)) (i : ℕ) → i < length rows → get_or (beats_put relation P n T rows) i [] ≡ put_in relation P (n + i) (after relation P n T (take i rows)) (get_or rows i [])
   puts-at n T [] i l = absurd (omega arith)
   puts-at n T (r ∷ rows) zero l = ap (λ m. put_in relation P m T r) (omega arith)
   puts-at n T (r ∷ rows) (suc i) l =
-      puts-at (suc n) (cycled relation P n T r) rows i (omega arith)
-      ∙ ap (λ m. put_in relation P m (after relation P (suc n) (cycled relation P n T r) (take i rows)) (get_or rows i [])) (omega arith)
+      puts-at (suc n) (tile_after_cycle relation P n T r) rows i (omega arith)
+      ∙ ap (λ m. put_in relation P m (after relation P (suc n) (tile_after_cycle relation P n T r) (take i rows)) (get_or rows i [])) (omega arith)

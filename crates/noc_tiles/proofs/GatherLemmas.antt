@@ -13,16 +13,16 @@ use Rattle.noc_net.specs.Lockstep.{lockstep_at}
 use Rattle.noc_net.specs.Network.{Setup}
 use Rattle.noc_model.proofs.RunLemmas.{count_views, past_wires}
 use Rattle.noc_tiles.specs.Ends.{End}
-use Rattle.noc_tiles.specs.TileStep.{TileState, places, after, puts, put_in}
+use Rattle.noc_tiles.specs.TileStep.{TileState, arrival_places, after, beats_put, put_in}
 use Rattle.noc_tiles.specs.Tiles.{CanRun, AllCanRun, inlets, outlets, layout_of, state_of}
 use Rattle.noc_tiles.specs.Emptying.{CanEmpty, Empties, Left}
-use Rattle.noc_tiles.specs.Partition.{IsPartition, routers_of, rows_of}
+use Rattle.noc_tiles.specs.Partition.{IsPartition, routers_of, wire_rows_of}
 use Rattle.noc_tiles.specs.declared.tile.Tile.{Tile}
 use Rattle.noc_tiles.proofs.FlatLemmas.{offset, flat-at, offset-lt, Found, flat-find, column, length-puts, puts-at}
 use Rattle.noc_tiles.proofs.SentLemmas.{past-rows}
 use Rattle.noc_tiles.proofs.EndsLemmas.{some_item}
 use Rattle.noc_tiles.proofs.BoundaryLemmas.{AllRuns, RunsBy, received_of, runs_at, same_count, offset-same, flat-same, offset-two, flat-two, Moved, inlet-at, outlet-at, length-inlets, length-outlets, vec-length, found-get, place-get, stream, stream-last, length-after, set_at, owner, far_end-flat, wire-of, Carries}
-use Rattle.noc_tiles.specs.Together.{Trace, TilesRan, Agrees, carried, tile_at, in_flight}
+use Rattle.noc_tiles.specs.Together.{Trace, TilesRan, Agrees, beat_carried, tile_at, in_flight}
 use Rattle.noc_tiles.proofs.ClosingLaw.{closing, together, carried-right}
 
 module _ (net : Setup) (n k : ℕ) (I O : List (Option End)) (xs ys : List Tile) (W : IsPartition net n k I O xs) (r : AllRuns net.relation k xs ys) (d : Tile) where
@@ -78,7 +78,7 @@ module _ (net : Setup) (n k : ℕ) (I O : List (Option End)) (xs ys : List Tile)
       let a = get_or xs F.t d in
       let rows = rows_at F.t in
       let run = run_at F.t d F.in_list in
-      let ps = puts net.relation (layout_of a) a.start (state_of a) rows in
+      let ps = beats_put net.relation (layout_of a) a.start (state_of a) rows in
       let x = found-get outlets xs i d F e in
       let y = out-ys i F e ∙ outlet-at net.relation k a (get_or ys F.t d) rows run F.j e F.in_part in
       record {
@@ -94,9 +94,9 @@ module _ (net : Setup) (n k : ℕ) (I O : List (Option End)) (xs ys : List Tile)
       let F = flat-find inlets xs i d l in
       let a = get_or xs F.t d in
       let ready = set_at net n k I O xs W d F.t F.in_list in
-      let jl : F.j < length (places (inlets a)) = rw length-map F.in_part in
+      let jl : F.j < length (arrival_places (inlets a)) = rw length-map F.in_part in
       let p = ready.parts.within F.j jl in
-      let x : get_or (places (inlets a)) F.j (0, 0) ≡ (get_or (flat_map inlets xs) i e).at = place-get (inlets a) F.j (0, 0) e F.in_part ∙ sym (ap (λ (w : End). w.at) (found-get inlets xs i d F e)) in
+      let x : get_or (arrival_places (inlets a)) F.j (0, 0) ≡ (get_or (flat_map inlets xs) i e).at = place-get (inlets a) F.j (0, 0) e F.in_part ∙ sym (ap (λ (w : End). w.at) (found-get inlets xs i d F e)) in
       let P : ℕ × ℕ → Type 0 = λ q. (q.0 < nodes net.relation.grid) × (q.1 < 6) in
       let p1 = p.1 in
       let few = ready.few_links in
@@ -133,13 +133,13 @@ module _ (net : Setup) (n k : ℕ) (I O : List (Option End)) (xs ys : List Tile)
   traces t = record { layout = layout_of (get_or xs t d); state = state_of (get_or xs t d); rows = rows_at t }
 
   carried-is : (u o : ℕ) (w : Beat) → u < length xs → (i : ℕ) → i ≤ k
-      → get_or (w ∷ column o (puts net.relation (layout_of (get_or xs u d)) (get_or xs u d).start (state_of (get_or xs u d)) (rows_at u))) i idle_beat ≡ carried net n w (traces u) o i
+      → get_or (w ∷ column o (beats_put net.relation (layout_of (get_or xs u d)) (get_or xs u d).start (state_of (get_or xs u d)) (rows_at u))) i idle_beat ≡ beat_carried net n w (traces u) o i
   carried-is u o w l zero h = refl
   carried-is u o w l (suc i) h =
       let a = get_or xs u d in
       let P = layout_of a in
       let rows = rows_at u in
-      let ps = puts net.relation P a.start (state_of a) rows in
+      let ps = beats_put net.relation P a.start (state_of a) rows in
       let c = (run_at u d l).count in
       let q = length-puts net.relation P a.start (state_of a) rows in
       get_or-map (λ row. get_or row o idle_beat) ps i [] idle_beat (omega arith)
@@ -157,7 +157,7 @@ module _ (net : Setup) (n k : ℕ) (I O : List (Option End)) (xs ys : List Tile)
       let G = flat-find outlets xs o d ol in
       let b = get_or xs G.t d in
       let rows' = rows_at G.t in
-      let ps = puts net.relation (layout_of b) b.start (state_of b) rows' in
+      let ps = beats_put net.relation (layout_of b) b.start (state_of b) rows' in
       let p = (get_or (flat_map inlets xs) i e).at in
       let w = in_flight net n n p.0 p.1 in
       let im = in-moved i e il in
@@ -203,15 +203,15 @@ module _ (net : Setup) (n k : ℕ) (I O : List (Option End)) (xs ys : List Tile)
       let v = vec-length b.beats in
       omega arith
 
-  rows-count : (t : ℕ) (d' : Tile) → t < length ys → length (rows_of (get_or ys t d')) ≡ length (routers_of (get_or ys t d'))
+  rows-count : (t : ℕ) (d' : Tile) → t < length ys → length (wire_rows_of (get_or ys t d')) ≡ length (routers_of (get_or ys t d'))
   rows-count t d' l =
       let b = get_or ys t d' in
       let f = fits t d' (let c = tile-count in omega arith) in
       length-take-le (length b.routers.items) (drop b.first b.beats.items) (let q = length-drop b.first b.beats.items in omega arith)
 
-  pub rows-length : length (flat_map rows_of ys) ≡ nodes net.relation.grid
+  pub rows-length : length (flat_map wire_rows_of ys) ≡ nodes net.relation.grid
   rows-length =
-      flat-two rows_of routers_of ys rows-count
+      flat-two wire_rows_of routers_of ys rows-count
       ∙ (flat-same routers_of net.relation k xs ys r router-lengths ∙ (ap length W.views ∙ count_views net n))
 
   module _ (empties-left : (i : ℕ) → i < length (flat_map inlets ys) → (x : Beat) × Left (flat_map inlets ys) (flat_map outlets ys) i x) where
@@ -239,8 +239,8 @@ module _ (net : Setup) (n k : ℕ) (I O : List (Option End)) (xs ys : List Tile)
           let il : i < length (flat_map inlets ys) = let z = offset-lt inlets xs t j d l h' in let y = in-count in omega arith in
           let x = empties-left i il in
           let C = carries i F x.0 e x.1 in
-          let pe : (get_or (flat_map inlets xs) i e).at ≡ get_or (places (inlets a)) j (0, 0) = ap (λ (w : End). w.at) (found-get inlets xs i d F e) ∙ sym (place-get (inlets a) j (0, 0) e h') in
-          (C.u, C.o, C.um, C.ol, C.far_end ∙ pe, λ i' h''. C.rows i' h'' ∙ ap (λ (p : ℕ × ℕ). carried net n (in_flight net n n p.0 p.1) (traces C.u) C.o i') pe);
+          let pe : (get_or (flat_map inlets xs) i e).at ≡ get_or (arrival_places (inlets a)) j (0, 0) = ap (λ (w : End). w.at) (found-get inlets xs i d F e) ∙ sym (place-get (inlets a) j (0, 0) e h') in
+          (C.u, C.o, C.um, C.ol, C.far_end ∙ pe, λ i' h''. C.rows i' h'' ∙ ap (λ (p : ℕ × ℕ). beat_carried net n (in_flight net n n p.0 p.1) (traces C.u) C.o i') pe);
     }
 
     -- what is left in a ring is the beat of the lockstep run
@@ -284,7 +284,7 @@ module _ (net : Setup) (n k : ℕ) (I O : List (Option End)) (xs ys : List Tile)
 
     -- a wire that no ring ends at
     inside : (s q : ℕ) → s < nodes net.relation.grid → ((i : ℕ) (e : End) → i < length (flat_map inlets ys) → (get_or (flat_map inlets ys) i e).at ≢ (s, q))
-        → beat_at (flat_map rows_of ys) s q ≡ in_flight net n (n + k) s q
+        → beat_at (flat_map wire_rows_of ys) s q ≡ in_flight net n (n + k) s q
     inside s q h none =
         let F = owner net n k I O xs W d s h in
         let t = F.t in
@@ -294,17 +294,17 @@ module _ (net : Setup) (n k : ℕ) (I O : List (Option End)) (xs ys : List Tile)
         let b = get_or ys t d in
         let run = run_at t d l in
         let G = moved-found routers_of router-lengths s F in
-        let o : offset rows_of ys t ≡ offset routers_of ys t = offset-two rows_of routers_of ys rows-count t in
+        let o : offset wire_rows_of ys t ≡ offset routers_of ys t = offset-two wire_rows_of routers_of ys rows-count t in
         let rc = rows-count t d G.in_list in
-        let K : Found rows_of ys s d = record { t = t; j = c; in_list = G.in_list; in_part = (let z = G.in_part in omega arith); is = G.is ∙ ap (λ z. z + c) (sym o) } in
+        let K : Found wire_rows_of ys s d = record { t = t; j = c; in_list = G.in_list; in_part = (let z = G.in_part in omega arith); is = G.is ∙ ap (λ z. z + c) (sym o) } in
         let first : b.first ≡ a.first = run.same.first in
         let here : a.first + c ≡ s = let f = W.firsts t d l in let z = F.is in omega arith in
-        let row : get_or (flat_map rows_of ys) s [] ≡ get_or b.beats.items (a.first + c) [] =
-        found-get rows_of ys s d K []
+        let row : get_or (flat_map wire_rows_of ys) s [] ≡ get_or b.beats.items (a.first + c) [] =
+        found-get wire_rows_of ys s d K []
         ∙ (get_or-take (length b.routers.items) (drop b.first b.beats.items) c [] G.in_part
         ∙ (get_or-drop b.first b.beats.items c [] ∙ ap (λ z. get_or b.beats.items (z + c) []) first)) in
         let r_in : a.first + c < nodes net.relation.grid = omega arith in
-        let done : beat_at (flat_map rows_of ys) s q ≡ (tile_at net n (traces t) k).wires (a.first + c) q =
+        let done : beat_at (flat_map wire_rows_of ys) s q ≡ (tile_at net n (traces t) k).wires (a.first + c) q =
         ap (λ (z : List Beat). get_or z q idle_beat) row ∙ (run.wires (a.first + c) q r_in ∙ ap (λ (z : TileState). z.wires (a.first + c) q) (part-is t l)) in
         done
         ∙ (⊎_elim (λ z. (agrees t l).wires c q F.in_part z)
@@ -324,14 +324,14 @@ module _ (net : Setup) (n k : ℕ) (I O : List (Option End)) (xs ys : List Tile)
 
     by-case : (new : List (List Beat)) (s q : ℕ) → s < nodes net.relation.grid
         → ((i : ℕ) × (i < length (flat_map inlets ys)) × ((e : End) → (get_or (flat_map inlets ys) i e).at ≡ (s, q)) × Left (flat_map inlets ys) (flat_map outlets ys) i (beat_at new s q))
-        ⊎ (((i : ℕ) (e : End) → i < length (flat_map inlets ys) → (get_or (flat_map inlets ys) i e).at ≢ (s, q)) × (beat_at new s q ≡ beat_at (flat_map rows_of ys) s q))
+        ⊎ (((i : ℕ) (e : End) → i < length (flat_map inlets ys) → (get_or (flat_map inlets ys) i e).at ≢ (s, q)) × (beat_at new s q ≡ beat_at (flat_map wire_rows_of ys) s q))
         → beat_at new s q ≡ in_flight net n (n + k) s q
     by-case new s q h (inl z) =
         let e = some_item (flat_map inlets ys) z.0 z.1 in
         left-right z.0 (beat_at new s q) e z.1 z.3 ∙ ap (λ (p : ℕ × ℕ). in_flight net n (n + k) p.0 p.1) (z.2 e)
     by-case new s q h (inr z) = z.1 ∙ inside s q h z.0
 
-    pub wires-done : (new : List (List Beat)) → Empties (flat_map inlets ys) (flat_map outlets ys) (length (flat_map inlets ys)) (flat_map rows_of ys) new → (s q : ℕ) → beat_at new s q ≡ in_flight net n (n + k) s q
+    pub wires-done : (new : List (List Beat)) → Empties (flat_map inlets ys) (flat_map outlets ys) (length (flat_map inlets ys)) (flat_map wire_rows_of ys) new → (s q : ℕ) → beat_at new s q ≡ in_flight net n (n + k) s q
     wires-done new c s q =
         ⊎_elim (λ (h : s < nodes net.relation.grid). by-case new s q h (c.wires s q))
         (λ (h : nodes net.relation.grid ≤ s). past-rows new s q (let z = c.same in let y = rows-length in omega arith) ∙ sym (past_wires net (n + k) s q h))

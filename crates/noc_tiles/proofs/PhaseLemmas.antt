@@ -9,14 +9,14 @@ use Rattle.noc_packet.specs.declared.packet.Beat.{Beat}
 use Rattle.noc_route.specs.Routes.{Routes}
 use Rattle.noc_router.specs.Decided.{IsDecidedFor}
 use Rattle.noc_router.specs.View.{View, idle_beat}
-use Rattle.noc_net.specs.Halves.{IsSilent, beat_at, emptied}
-use Rattle.noc_net.specs.Takes.{concluded}
-use Rattle.noc_net.specs.Unseen.{unseen}
+use Rattle.noc_net.specs.Halves.{IsSilent, beat_at, view_after_puts}
+use Rattle.noc_net.specs.Takes.{view_after_conclude}
+use Rattle.noc_net.specs.Unseen.{without_findings}
 use Rattle.noc_tiles.specs.Ends.{End}
 use Rattle.noc_tiles.specs.Inner.{AreInner, CanFinish, HaveFinished, to_send}
-use Rattle.noc_tiles.specs.Phases.{HasSent, HasTaken, IsCleared}
-use Rattle.noc_tiles.specs.TileStep.{beat_among, fed, filled, is_from, places}
-use Rattle.noc_tiles.specs.Tiles.{AreWithin, Cycles, IsReady, inlets, outlets}
+use Rattle.noc_tiles.specs.Phases.{TileHasSent, TileHasTaken, IsCleared}
+use Rattle.noc_tiles.specs.TileStep.{beat_among, ends_after_beats, with_row, is_from, arrival_places}
+use Rattle.noc_tiles.specs.Tiles.{AreLinkPorts, Cycles, IsReady, inlets, outlets}
 use Rattle.noc_tiles.specs.declared.inner.Inner.{Inner}
 use Rattle.noc_tiles.specs.declared.tile.Tile.{Tile}
 use Rattle.noc_tiles.proofs.CycleLemmas.{can1, unseen5, seen5 as all-seen5, wires5, put5, set5, set-as, some_view}
@@ -32,20 +32,20 @@ at_index P bs each k d l = subst P (get_or_default bs k [] d l) (each k)
 pub silent_at : (bs : List (List Beat)) → All IsSilent bs → (r q : ℕ) → beat_at bs r q ≡ idle_beat
 silent_at bs all r q = ⊎_elim (λ (l : r < length bs). all r [] l q) (λ (u : length bs ≤ r). past-rows bs r q u) (cases_lt r (length bs))
 
--- .. where the beats before and after have another name
-pub took-as : (ins : List (ℕ × ℕ)) (row : List Beat) (old new b0 b1 : List (List Beat)) → old ≡ b0 → b1 ≡ new → ((r q : ℕ) → beat_at new r q ≡ filled (beat_at old) ins row r q)
-    → (r q : ℕ) → beat_at b1 r q ≡ filled (beat_at b0) ins row r q
-took-as ins row old new b0 b1 before after took r q = ap (λ (b : List (List Beat)). beat_at b r q) after ∙ took r q ∙ ap (λ (b : List (List Beat)). filled (beat_at b) ins row r q) before
+-- what is taken, where the beats before and after have another name
+pub took-as : (ins : List (ℕ × ℕ)) (row : List Beat) (old new b0 b1 : List (List Beat)) → old ≡ b0 → b1 ≡ new → ((r q : ℕ) → beat_at new r q ≡ with_row (beat_at old) ins row r q)
+    → (r q : ℕ) → beat_at b1 r q ≡ with_row (beat_at b0) ins row r q
+took-as ins row old new b0 b1 before after took r q = ap (λ (b : List (List Beat)). beat_at b r q) after ∙ took r q ∙ ap (λ (b : List (List Beat)). with_row (beat_at b) ins row r q) before
 
 -- ---- a whole cycle
 
-module _ (relation : Routes) (n : ℕ) (seen : Bool) (inner : Inner) (row : List Beat) (a t1 : Tile) (ready : IsReady relation a) (within : AreInner relation.grid a.first (vec_len a.routers) (places (outlets a)) inner)
-    (rest1 : t1 ≡ record a { routers = t1.routers; beats = t1.beats; ins = t1.ins }) (took : HasTaken relation row a t1) where
+module _ (relation : Routes) (n : ℕ) (seen : Bool) (inner : Inner) (row : List Beat) (a t1 : Tile) (ready : IsReady relation a) (within : AreInner relation.grid a.first (vec_len a.routers) (arrival_places (outlets a)) inner)
+    (rest1 : t1 ≡ record a { routers = t1.routers; beats = t1.beats; ins = t1.ins }) (took : TileHasTaken relation row a t1) where
   abbrev ins : List (ℕ × ℕ)
-  ins = places (inlets a)
+  ins = arrival_places (inlets a)
 
   abbrev outs : List (ℕ × ℕ)
-  outs = places (outlets a)
+  outs = arrival_places (outlets a)
 
   abbrev views : List View
   views = a.routers.items
@@ -92,8 +92,8 @@ module _ (relation : Routes) (n : ℕ) (seen : Bool) (inner : Inner) (row : List
       rows3 : length t3.beats.items ≡ nodes relation.grid
       rows3 = two.size ∙ one.size ∙ rows1
 
-      pub within3 : AreWithin (length t3.beats.items) 6 (places (outlets t3))
-      within3 = subst (AreWithin (length t3.beats.items) 6) (sym (ap places outs3)) (λ j l. let w = ready.parts.outs_within j l in (omega (arith, w.0, rows3), omega (arith, w.1, ready.few_links)))
+      pub within3 : AreLinkPorts (length t3.beats.items) 6 (arrival_places (outlets t3))
+      within3 = subst (AreLinkPorts (length t3.beats.items) 6) (sym (ap arrival_places outs3)) (λ j l. let w = ready.parts.outs_within j l in (omega (arith, w.0, rows3), omega (arith, w.1, ready.few_links)))
 
       middle3 : CanFinish relation inner.from inner.to t3
       middle3 =
@@ -101,9 +101,9 @@ module _ (relation : Routes) (n : ℕ) (seen : Bool) (inner : Inner) (row : List
           (can-after relation n seen 0 inner.from inner.from inner.to t1 t2 one (can-part relation 0 (length views) inner.from inner.to t1 can (omega arith) fits.order fits.within) (omega arith) (inl (omega arith)))
           (omega (arith, all1, n1, fits.within)) (inr (omega arith))
 
-      module _ (t4 : Tile) (rest4 : t4 ≡ record t3 { beats = t4.beats; outs = t4.outs }) (sent : HasSent t3 t4) where
+      module _ (t4 : Tile) (rest4 : t4 ≡ record t3 { beats = t4.beats; outs = t4.outs }) (sent : TileHasSent t3 t4) where
         cleared : (r q : ℕ) → IsCleared outs t3.beats.items t4.beats.items (length outs) r q
-        cleared r q = subst (λ ps. IsCleared ps t3.beats.items t4.beats.items (length ps) r q) (ap places outs3) (sent.cleared r q)
+        cleared r q = subst (λ ps. IsCleared ps t3.beats.items t4.beats.items (length ps) r q) (ap arrival_places outs3) (sent.cleared r q)
 
         pub inner-can : CanFinish relation inner.from inner.to t4
         inner-can = can-cleared relation inner.from inner.to (length outs) outs t3 t4 middle3 rest4 sent.size cleared
@@ -124,7 +124,7 @@ module _ (relation : Routes) (n : ℕ) (seen : Bool) (inner : Inner) (row : List
           n5 : length views' ≡ length views
           n5 = count5 relation n seen inner.from inner.to t1 t2 t3 t4 t5 fits.order below one second rest4 three ∙ n1
 
-          did : (k : ℕ) (e : View) → k < length views → unseen (get_or views' k e) ≡ unseen (emptied (concluded relation n (get_or views1 k e)))
+          did : (k : ℕ) (e : View) → k < length views → without_findings (get_or views' k e) ≡ without_findings (view_after_puts (view_after_conclude relation n (get_or views1 k e)))
           did k e l = views5 relation n seen inner.from inner.to t1 t2 t3 t4 t5 fits.order below one second rest4 three k e (omega (arith, n1, l))
 
           same-put : (r q : ℕ) → beat_among t1.first (length views1) (to_send relation n views1) (neighbour relation.grid r q) ≡ beat_among a.first (length views1) (to_send relation n views1) (neighbour relation.grid r q)
@@ -144,11 +144,11 @@ module _ (relation : Routes) (n : ℕ) (seen : Bool) (inner : Inner) (row : List
           kept : (r q : ℕ) → r < nodes relation.grid → is_from (a.first + inner.from) (inner.to - inner.from) (neighbour relation.grid r q) ≡ false → beat_at t5.beats.items r q ≡ beat_at t4.beats.items r q
           kept r q l h = kept5 relation n seen inner.from inner.to t1 t2 t3 t4 t5 fits.order below one second rest4 three d took.silent r q l (outside r q h)
 
-          ins5 : inlets t5 ≡ fed (inlets a) row
+          ins5 : inlets t5 ≡ ends_after_beats (inlets a) row
           ins5 = ap inlets three.rest ∙ ap inlets rest4 ∙ ap inlets two.rest ∙ ap inlets one.rest ∙ took.ins
 
-          outs5 : outlets t5 ≡ fed (outlets a) (map (λ (p : ℕ × ℕ). beat_at t3.beats.items p.0 p.1) outs)
-          outs5 = ap outlets three.rest ∙ sent.outs ∙ ap (λ (ends : List End). fed ends (map (λ (p : ℕ × ℕ). beat_at t3.beats.items p.0 p.1) (places ends))) outs3
+          outs5 : outlets t5 ≡ ends_after_beats (outlets a) (map (λ (p : ℕ × ℕ). beat_at t3.beats.items p.0 p.1) outs)
+          outs5 = ap outlets three.rest ∙ sent.outs ∙ ap (λ (ends : List End). ends_after_beats ends (map (λ (p : ℕ × ℕ). beat_at t3.beats.items p.0 p.1) (arrival_places ends))) outs3
 
           first5 : t5.first ≡ a.first
           first5 =
@@ -158,24 +158,24 @@ module _ (relation : Routes) (n : ℕ) (seen : Bool) (inner : Inner) (row : List
           rows5 : length t5.beats.items ≡ nodes relation.grid
           rows5 = three.size ∙ sent.size ∙ rows3
 
-          same-ins : places (inlets t5) ≡ ins
-          same-ins = ap places ins5 ∙ places-names (fed (inlets a) row) (inlets a) (names-fed (inlets a) row)
+          same-ins : arrival_places (inlets t5) ≡ ins
+          same-ins = ap arrival_places ins5 ∙ places-names (ends_after_beats (inlets a) row) (inlets a) (names-fed (inlets a) row)
 
-          same-outs : places (outlets t5) ≡ outs
+          same-outs : arrival_places (outlets t5) ≡ outs
           same-outs =
               let beats : List Beat = map (λ (p : ℕ × ℕ). beat_at t3.beats.items p.0 p.1) outs in
-              ap places outs5 ∙ places-names (fed (outlets a) beats) (outlets a) (names-fed (outlets a) beats)
+              ap arrival_places outs5 ∙ places-names (ends_after_beats (outlets a) beats) (outlets a) (names-fed (outlets a) beats)
 
           -- the tile is ready for the next cycle
           pub ready-again : IsReady relation t5
           ready-again = record {
             plan = three.plan;
             few_links = ready.few_links;
-            parts = set-as relation a.first t5.first ins (places (inlets t5)) outs (places (outlets t5)) views' views' t5.beats.items t5.beats.items (sym first5) (sym same-ins) (sym same-outs) refl refl
+            parts = set-as relation a.first t5.first ins (arrival_places (inlets t5)) outs (arrival_places (outlets t5)) views' views' t5.beats.items t5.beats.items (sym first5) (sym same-ins) (sym same-outs) refl refl
                 (set5 relation a.first ins outs views a.beats.items ready.parts row n views1 took.views d views' n5 did t3.beats.items t4.beats.items t5.beats.items inner fits cleared edge whole kept rows5);
           }
 
-          -- .. and it has made this one
+          -- the tile has made this cycle
           pub has-cycled : Cycles relation seen n a t5 row
           has-cycled = record {
             width = took.width;
@@ -185,6 +185,6 @@ module _ (relation : Routes) (n : ℕ) (seen : Bool) (inner : Inner) (row : List
             wires = wires5 relation a.first ins outs views a.beats.items ready.parts row n views1 took.views d views' n5 did t3.beats.items t4.beats.items t5.beats.items inner fits cleared edge whole kept;
             ins = ins5;
             outs = outs5
-                ∙ ap (fed (outlets a))
+                ∙ ap (ends_after_beats (outlets a))
                 (put5 relation a.first ins outs views a.beats.items ready.parts row n views1 took.views d views' n5 did t3.beats.items t4.beats.items t5.beats.items inner fits cleared edge whole kept);
           }

@@ -10,7 +10,7 @@ use Rattle.noc_net.specs.Halves.{beat_at}
 use Rattle.noc_model.proofs.WireLemmas.{same-ports}
 use Rattle.noc_tiles.specs.Ends.{End}
 use Rattle.noc_tiles.specs.TileStep.{is_own, is_from, is_inside}
-use Rattle.noc_tiles.specs.Rings.{AreLeftOut, AreSlots, AreTakenIn, AreTakenOut, GoesOutTo, IsSlot, held, one_of, without}
+use Rattle.noc_tiles.specs.Rings.{AreLeftOut, AreSlots, AreTakenIn, AreTakenOut, GoesOutTo, IsSlot, item_at, one_of, without}
 use Rattle.noc_tiles.proofs.SentLemmas.{own-true}
 
 -- the views of slots, after one was emptied
@@ -30,7 +30,7 @@ module _ {X : Type 0} (f : X → End) where
   seen-without slots k m ne = seen-at (without (Some k) slots) m ∙ (ap (λ (s : Option X). option_map f s) (get_or-set_other slots k m None None ne) ∙ sym (seen-at slots m))
 
   -- what stood in the slot is behind the ends
-  pub held-seen : (slots : List (Option X)) (k : ℕ) (e : End) → get_or (seen slots) k None ≡ Some e → map f (held (Some k) slots) ≡ e ∷ []
+  pub held-seen : (slots : List (Option X)) (k : ℕ) (e : End) → get_or (seen slots) k None ≡ Some e → map f (item_at (Some k) slots) ≡ e ∷ []
   held-seen slots k e h = at (get_or slots k None) (sym (seen-at slots k) ∙ h)
     where
       at : (s : Option X) → option_map f s ≡ Some e → map f (one_of s) ≡ e ∷ []
@@ -72,7 +72,7 @@ module _ (grid : Grid) (first count k : ℕ) (I : List (Option End)) (ends : Lis
         (cases_lt m k);
   }
 
--- .. of the wires that go
+-- one end more of the wires that go
 module _ (grid : Grid) (sound : IsGrid grid) (first count k : ℕ) (O : List (Option End)) (ends : List End) (k_in : k < nodes grid * 6) where
   pub out-none : (is_inside first count (neighbour grid (k / 6) (k % 6)) ≡ true) → AreTakenOut grid first count k O ends → AreTakenOut grid first count (k + 1) O ends
   out-none inside a = record {
@@ -142,7 +142,7 @@ module _ {X : Type 0} (f : X → End) (grid : Grid) (first count k : ℕ) (I : L
 
   pub in-step : (at : Option ℕ) → IfSome at (λ a. (a ≡ k) × (is_inside first count (neighbour grid (k / 6) (k % 6)) ≡ false)) → IfNone at (is_inside first count (neighbour grid (k / 6) (k % 6)) ≡ true)
       → first * 6 ≤ k → (is_inside first count (neighbour grid (k / 6) (k % 6)) ≡ false → is_some (get_or I k None) ≡ true)
-      → AreTakenIn grid first count k I (map f ends) → ((m : ℕ) → k ≤ m → get_or (seen f slots) m None ≡ get_or I m None) → slots' ≡ without at slots → ends' ≡ ends ++ held at slots
+      → AreTakenIn grid first count k I (map f ends) → ((m : ℕ) → k ≤ m → get_or (seen f slots) m None ≡ get_or I m None) → slots' ≡ without at slots → ends' ≡ ends ++ item_at at slots
       → AreTakenIn grid first count (k + 1) I (map f ends') × ((m : ℕ) → k + 1 ≤ m → get_or (seen f slots') m None ≡ get_or I m None)
   in-step None s n low some taken rest e h =
       let same : ends ≡ ends' = sym (append-nil ends) ∙ sym h in (
@@ -152,8 +152,8 @@ module _ {X : Type 0} (f : X → End) (grid : Grid) (first count k : ℕ) (I : L
   in-step (Some a) s n low some taken rest e h =
       let x = some-of (get_or I k None) (some s.1) in
       let here : get_or (seen f slots) k None ≡ Some x.0 = rest k (omega arith) ∙ x.1 in
-      let one : map f (held (Some a) slots) ≡ x.0 ∷ [] = ap (λ z. map f (held (Some z) slots)) s.0 ∙ held-seen f slots k x.0 here in
-      let all : map f ends ++ x.0 ∷ [] ≡ map f ends' = ap (λ z. map f ends ++ z) (sym one) ∙ (sym (map-append f ends (held (Some a) slots)) ∙ ap (map f) (sym h)) in (
+      let one : map f (item_at (Some a) slots) ≡ x.0 ∷ [] = ap (λ z. map f (item_at (Some z) slots)) s.0 ∙ held-seen f slots k x.0 here in
+      let all : map f ends ++ x.0 ∷ [] ≡ map f ends' = ap (λ z. map f ends ++ z) (sym one) ∙ (sym (map-append f ends (item_at (Some a) slots)) ∙ ap (map f) (sym h)) in (
         subst (AreTakenIn grid first count (k + 1) I) all (in-more grid first count k I (map f ends) x.0 low s.1 x.1 taken),
         λ m l. ap (λ (v : List (Option X)). get_or (seen f v) m None) e ∙ (ap (λ z. get_or (seen f (without (Some z) slots)) m None) s.0 ∙ (seen-without f slots k m (λ z. absurd (omega arith)) ∙ rest m (omega arith))),
       )
@@ -177,7 +177,7 @@ module _ {X : Type 0} (f : X → End) (grid : Grid) (sound : IsGrid grid) (first
 
   pub out-step : (at : Option ℕ) → IfSome at (λ a. GoesOutTo grid first count k a) → IfNone at (is_inside first count (neighbour grid (k / 6) (k % 6)) ≡ true)
       → first * 6 ≤ k → k < (first + count) * 6 → ((a : ℕ) → GoesOutTo grid first count k a → is_some (get_or O a None) ≡ true)
-      → AreTakenOut grid first count k O (map f ends) → AreLeftOut grid k O (seen f slots) → slots' ≡ without at slots → ends' ≡ ends ++ held at slots
+      → AreTakenOut grid first count k O (map f ends) → AreLeftOut grid k O (seen f slots) → slots' ≡ without at slots → ends' ≡ ends ++ item_at at slots
       → AreTakenOut grid first count (k + 1) O (map f ends') × AreLeftOut grid (k + 1) O (seen f slots')
   out-step None s n low high some taken rest e h =
       let same : ends ≡ ends' = sym (append-nil ends) ∙ sym h in (
@@ -187,8 +187,8 @@ module _ {X : Type 0} (f : X → End) (grid : Grid) (sound : IsGrid grid) (first
   out-step (Some a) s n low high some taken rest e h =
       let x = some-of (get_or O a None) (some a s) in
       let now : get_or (seen f slots) a None ≡ get_or O a None = ap (λ z. get_or (seen f slots) z None) s.is ∙ (rest (k / 6) (k % 6) s.r s.q (omega arith) (omega arith) s.to (omega arith) ∙ ap (λ z. get_or O z None) (sym s.is)) in
-      let one : map f (held (Some a) slots) ≡ x.0 ∷ [] = held-seen f slots a x.0 (now ∙ x.1) in
-      let all : map f ends ++ x.0 ∷ [] ≡ map f ends' = ap (λ z. map f ends ++ z) (sym one) ∙ (sym (map-append f ends (held (Some a) slots)) ∙ ap (map f) (sym h)) in
+      let one : map f (item_at (Some a) slots) ≡ x.0 ∷ [] = held-seen f slots a x.0 (now ∙ x.1) in
+      let all : map f ends ++ x.0 ∷ [] ≡ map f ends' = ap (λ z. map f ends ++ z) (sym one) ∙ (sym (map-append f ends (item_at (Some a) slots)) ∙ ap (map f) (sym h)) in
       let own : is_own first count (k / 6) ≡ true = own-true first count (k / 6) (omega arith) (omega arith) in (
         subst (AreTakenOut grid first count (k + 1) O) all (out-more grid sound first count k O (map f ends) k_in x.0 a low high s x.1 own taken),
         λ u p r q ul pl to l.

@@ -8,69 +8,69 @@ use Rattle.noc_packet.specs.declared.packet.Beat.{Beat}
 use Rattle.noc_route.specs.Routes.{Routes}
 use Rattle.noc_router.specs.View.{View, local_step, idle_beat}
 use Rattle.noc_net.specs.Halves.{beat_at}
-use Rattle.noc_net.specs.Unseen.{unseen}
+use Rattle.noc_net.specs.Unseen.{without_findings}
 use Rattle.noc_model.proofs.UnseenLemmas.{findings-local_step}
-use Rattle.noc_tiles.specs.RingEnd.{RingEnd}
-use Rattle.noc_tiles.specs.TileStep.{Layout, TileState, fed, fed_all, places, filled, arrived, steps, after_steps, put_by, cycled, put_in, after, puts}
+use Rattle.noc_tiles.specs.RingEnd.{WireEnd}
+use Rattle.noc_tiles.specs.TileStep.{Layout, TileState, ends_after_beats, ends_after_rows, arrival_places, with_row, beats_arriving, steps, after_steps, put_by, tile_after_cycle, put_in, after, beats_put}
 use Rattle.noc_tiles.specs.Tiles.{IsReady, IsSameTile, Cycles, Runs, inlets, outlets, layout_of, state_of}
 use Rattle.noc_tiles.specs.declared.tile.Tile.{Tile}
 use Rattle.noc_tiles.proofs.TileStepLemmas.{length-fed, places-names, filled-same}
 use Rattle.noc_tiles.proofs.CycleLemmas.{tabulate-same, some_view}
 
 module _ {A : Type 0} where
-  pub fed_all-more : (ws : List (RingEnd A)) (rows : List (List Beat)) (row : List Beat) → fed_all ws (rows ++ row ∷ []) ≡ fed (fed_all ws rows) row
+  pub fed_all-more : (ws : List (WireEnd A)) (rows : List (List Beat)) (row : List Beat) → ends_after_rows ws (rows ++ row ∷ []) ≡ ends_after_beats (ends_after_rows ws rows) row
   fed_all-more ws [] row = refl
-  fed_all-more ws (r ∷ rows) row = fed_all-more (fed ws r) rows row
+  fed_all-more ws (r ∷ rows) row = fed_all-more (ends_after_beats ws r) rows row
 
-  pub length-fed_all : (ws : List (RingEnd A)) (rows : List (List Beat)) → length (fed_all ws rows) ≡ length ws
+  pub length-fed_all : (ws : List (WireEnd A)) (rows : List (List Beat)) → length (ends_after_rows ws rows) ≡ length ws
   length-fed_all ws [] = refl
-  length-fed_all ws (r ∷ rows) = length-fed_all (fed ws r) rows ∙ length-fed ws r
+  length-fed_all ws (r ∷ rows) = length-fed_all (ends_after_beats ws r) rows ∙ length-fed ws r
 
 module _ (relation : Routes) (P : Layout) where
-  pub after-more : (n : ℕ) (T : TileState) (rows : List (List Beat)) (row : List Beat) → after relation P n T (rows ++ row ∷ []) ≡ cycled relation P (n + length rows) (after relation P n T rows) row
-  after-more n T [] row = ap (λ k. cycled relation P k T row) (omega arith)
-  after-more n T (r ∷ rows) row = after-more (suc n) (cycled relation P n T r) rows row ∙ ap (λ k. cycled relation P k (after relation P (suc n) (cycled relation P n T r) rows) row) (omega arith)
+  pub after-more : (n : ℕ) (T : TileState) (rows : List (List Beat)) (row : List Beat) → after relation P n T (rows ++ row ∷ []) ≡ tile_after_cycle relation P (n + length rows) (after relation P n T rows) row
+  after-more n T [] row = ap (λ k. tile_after_cycle relation P k T row) (omega arith)
+  after-more n T (r ∷ rows) row = after-more (suc n) (tile_after_cycle relation P n T r) rows row ∙ ap (λ k. tile_after_cycle relation P k (after relation P (suc n) (tile_after_cycle relation P n T r) rows) row) (omega arith)
 
   pub puts-more : (n : ℕ) (T : TileState) (rows : List (List Beat)) (row : List Beat)
-      → puts relation P n T (rows ++ row ∷ []) ≡ puts relation P n T rows ++ put_in relation P (n + length rows) (after relation P n T rows) row ∷ []
+      → beats_put relation P n T (rows ++ row ∷ []) ≡ beats_put relation P n T rows ++ put_in relation P (n + length rows) (after relation P n T rows) row ∷ []
   puts-more n T [] row = ap (λ k. put_in relation P k T row ∷ []) (omega arith)
   puts-more n T (r ∷ rows) row =
       ap (λ ps. put_in relation P n T r ∷ ps)
-      (puts-more (suc n) (cycled relation P n T r) rows row ∙ ap (λ k. puts relation P (suc n) (cycled relation P n T r) rows ++ put_in relation P k (after relation P (suc n) (cycled relation P n T r) rows) row ∷ []) (omega arith))
+      (puts-more (suc n) (tile_after_cycle relation P n T r) rows row ∙ ap (λ k. beats_put relation P (suc n) (tile_after_cycle relation P n T r) rows ++ put_in relation P k (after relation P (suc n) (tile_after_cycle relation P n T r) rows) row ∷ []) (omega arith))
 
   -- what was found before makes no difference
-  pub steps-same : (n : ℕ) (T U : TileState) (row : List Beat) → map unseen T.views ≡ map unseen U.views → ((r q : ℕ) → r < nodes relation.grid → T.wires r q ≡ U.wires r q) → P.first + length T.views ≤ nodes relation.grid
+  pub steps-same : (n : ℕ) (T U : TileState) (row : List Beat) → map without_findings T.views ≡ map without_findings U.views → ((r q : ℕ) → r < nodes relation.grid → T.wires r q ≡ U.wires r q) → P.first + length T.views ≤ nodes relation.grid
       → steps relation P n T row ≡ steps relation P n U row
   unfolding steps
   steps-same n T U row same wires wide =
-      let f = λ (i : ℕ) (v : View). local_step relation v (arrived relation P T row i) n in
-      let g = λ (i : ℕ) (v : View). local_step relation v (arrived relation P U row i) n in
+      let f = λ (i : ℕ) (v : View). local_step relation v (beats_arriving relation P T row i) n in
+      let g = λ (i : ℕ) (v : View). local_step relation v (beats_arriving relation P U row i) n in
       let d = some_view relation in
-      let count : length T.views ≡ length U.views = sym (length-map T.views unseen) ∙ ap length same ∙ length-map U.views unseen in
+      let count : length T.views ≡ length U.views = sym (length-map T.views without_findings) ∙ ap length same ∙ length-map U.views without_findings in
       same_lists (map_indexed f T.views) (map_indexed g U.views) (length-map_indexed f T.views ∙ count ∙ sym (length-map_indexed g U.views))
       (λ i e l.
       let l' : i < length T.views = omega (arith, length-map_indexed f T.views, l) in
       let v = get_or T.views i d in
       let w = get_or U.views i d in
-      let vw : unseen v ≡ unseen w = sym (get_or-map unseen T.views i d (unseen d) l') ∙ ap (λ vs. get_or vs i (unseen d)) same ∙ get_or-map unseen U.views i d (unseen d) (omega (arith, count, l')) in
-      let beats : arrived relation P T row i ≡ arrived relation P U row i =
-      tabulate-same (local_port relation.grid) (filled T.wires P.ins row (P.first + i)) (filled U.wires P.ins row (P.first + i)) idle_beat
+      let vw : without_findings v ≡ without_findings w = sym (get_or-map without_findings T.views i d (without_findings d) l') ∙ ap (λ vs. get_or vs i (without_findings d)) same ∙ get_or-map without_findings U.views i d (without_findings d) (omega (arith, count, l')) in
+      let beats : beats_arriving relation P T row i ≡ beats_arriving relation P U row i =
+      tabulate-same (local_port relation.grid) (with_row T.wires P.ins row (P.first + i)) (with_row U.wires P.ins row (P.first + i)) idle_beat
       (λ q h. filled-same T.wires U.wires P.ins row (P.first + i) q (wires (P.first + i) q (omega arith))) in
       get_or-map_indexed f T.views i d e l'
-      ∙ (sym (findings-local_step [] relation v (arrived relation P T row i) n)
+      ∙ (sym (findings-local_step [] relation v (beats_arriving relation P T row i) n)
       ∙ (ap₂ (λ u b. local_step relation u b n) vw beats
-      ∙ (findings-local_step [] relation w (arrived relation P U row i) n ∙ sym (get_or-map_indexed g U.views i d e (omega (arith, count, l')))))))
+      ∙ (findings-local_step [] relation w (beats_arriving relation P U row i) n ∙ sym (get_or-map_indexed g U.views i d e (omega (arith, count, l')))))))
 
 -- k cycles; only in the last of all is what is found seen
 pub record RunsSoFar (relation : Routes) (k : ℕ) (a b : Tile) : Type 0 where
   pub rows : List (List Beat)
   pub count : length rows ≡ k
   pub width : (i : ℕ) → i < k → length (get_or rows i []) ≡ length (inlets a)
-  pub views : map unseen b.routers.items ≡ map unseen (after relation (layout_of a) a.start (state_of a) rows).views
+  pub views : map without_findings b.routers.items ≡ map without_findings (after relation (layout_of a) a.start (state_of a) rows).views
   pub seen : k ≡ a.cycles → b.routers.items ≡ (after relation (layout_of a) a.start (state_of a) rows).views
   pub wires : (r q : ℕ) → r < nodes relation.grid → beat_at b.beats.items r q ≡ (after relation (layout_of a) a.start (state_of a) rows).wires r q
-  pub ins : inlets b ≡ fed_all (inlets a) rows
-  pub outs : outlets b ≡ fed_all (outlets a) (puts relation (layout_of a) a.start (state_of a) rows)
+  pub ins : inlets b ≡ ends_after_rows (inlets a) rows
+  pub outs : outlets b ≡ ends_after_rows (outlets a) (beats_put relation (layout_of a) a.start (state_of a) rows)
 
 pub runs-none : (relation : Routes) (a : Tile) → RunsSoFar relation 0 a a
 runs-none relation a = record { rows = []; count = refl; width = λ i l. absurd (omega arith); views = refl; seen = λ e. refl; wires = λ r q l. refl; ins = refl; outs = refl }
@@ -81,7 +81,7 @@ runs-all relation a b r = record { rows = r.rows; count = r.count; width = r.wid
 pub place-same : (a b : Tile) → IsSameTile a b → layout_of b ≡ layout_of a
 place-same a b s =
     let mk : ℕ → List (ℕ × ℕ) → List (ℕ × ℕ) → Layout = λ v p q. record { first = v; ins = p; outs = q } in
-    ap₂ (λ v p. mk v p (places (outlets b))) s.first (places-names (inlets b) (inlets a) s.ins) ∙ ap (mk a.first (places (inlets a))) (places-names (outlets b) (outlets a) s.outs)
+    ap₂ (λ v p. mk v p (arrival_places (outlets b))) s.first (places-names (inlets b) (inlets a) s.ins) ∙ ap (mk a.first (arrival_places (inlets a))) (places-names (outlets b) (outlets a) s.outs)
 
 pub runs-more : (relation : Routes) (k : ℕ) (a b b' : Tile) (seen : Bool) (row : List Beat) → IsSameTile a b → IsReady relation b → (k + 1 ≡ a.cycles → seen ≡ true)
     → RunsSoFar relation k a b → Cycles relation seen (a.start + k) b b' row → RunsSoFar relation (k + 1) a b'
@@ -104,13 +104,13 @@ runs-more relation k a b b' seen row s ready last r c =
       width = below_more (λ i. length (get_or (r.rows ++ row ∷ []) i []) ≡ length (inlets a)) k
           (λ i l. let l' : i < length r.rows = let q = r.count in omega arith in ap length (get_or_append_left r.rows (row ∷ []) [] i l') ∙ r.width i l)
           (ap length (get_or_push r.rows row [] k r.count) ∙ w);
-      views = c.views ∙ ap (λ (z : TileState). map unseen z.views) next;
+      views = c.views ∙ ap (λ (z : TileState). map without_findings z.views) next;
       seen = λ h. c.seen_views (last h) ∙ ap (λ (z : TileState). z.views) next;
       wires = λ i q l. c.wires i q l ∙ ap (λ (z : TileState). z.wires i q) next;
-      ins = c.ins ∙ (ap (λ ws. fed ws row) r.ins ∙ sym (fed_all-more (inlets a) r.rows row));
+      ins = c.ins ∙ (ap (λ ws. ends_after_beats ws row) r.ins ∙ sym (fed_all-more (inlets a) r.rows row));
       outs =
           c.outs
-          ∙ (ap₂ (λ ws ps. fed ws ps) r.outs put
-          ∙ (sym (fed_all-more (outlets a) (puts relation P a.start T r.rows) (put_in relation P (a.start + length r.rows) U row))
-          ∙ ap (λ ps. fed_all (outlets a) ps) (sym (puts-more relation P a.start T r.rows row))));
+          ∙ (ap₂ (λ ws ps. ends_after_beats ws ps) r.outs put
+          ∙ (sym (fed_all-more (outlets a) (beats_put relation P a.start T r.rows) (put_in relation P (a.start + length r.rows) U row))
+          ∙ ap (λ ps. ends_after_rows (outlets a) ps) (sym (puts-more relation P a.start T r.rows row))));
     }

@@ -14,7 +14,7 @@ use Rattle.noc_tiles.specs.Ends.{End}
 use Rattle.noc_tiles.specs.TileStep.{is_own, is_from, is_inside}
 use Rattle.noc_tiles.specs.Tiles.{CanRun, PartsFit, Runs, IsSameTile, inlets, outlets}
 use Rattle.noc_tiles.specs.Emptying.{Empties}
-use Rattle.noc_tiles.specs.Partition.{IsPartition, IsTile, routers_of, rows_of}
+use Rattle.noc_tiles.specs.Partition.{IsPartition, IsTile, routers_of, wire_rows_of}
 use Rattle.noc_tiles.specs.declared.tile.Tile.{Tile}
 use Rattle.noc_tiles.proofs.SentLemmas.{own-true, own-outside}
 use Rattle.noc_tiles.proofs.StartLemmas.{placed_views}
@@ -67,11 +67,11 @@ module _ (net : Setup) (n k : ℕ) (a b : Tile) (A : IsAll net n k a) (same : Is
   no-outs : length (outlets a) ≡ 0
   no-outs = ap (λ q. length (map Rattle.noc_tiles.specs.Ends.outlet q)) A.outs
 
-  no-places : length (Rattle.noc_tiles.specs.TileStep.places (inlets a)) ≡ 0
-  no-places = ap (λ q. length (Rattle.noc_tiles.specs.TileStep.places (map Rattle.noc_tiles.specs.Ends.inlet q))) A.ins
+  no-places : length (Rattle.noc_tiles.specs.TileStep.arrival_places (inlets a)) ≡ 0
+  no-places = ap (λ q. length (Rattle.noc_tiles.specs.TileStep.arrival_places (map Rattle.noc_tiles.specs.Ends.inlet q))) A.ins
 
-  no-goals : length (Rattle.noc_tiles.specs.TileStep.places (outlets a)) ≡ 0
-  no-goals = ap (λ q. length (Rattle.noc_tiles.specs.TileStep.places (map Rattle.noc_tiles.specs.Ends.outlet q))) A.outs
+  no-goals : length (Rattle.noc_tiles.specs.TileStep.arrival_places (outlets a)) ≡ 0
+  no-goals = ap (λ q. length (Rattle.noc_tiles.specs.TileStep.arrival_places (map Rattle.noc_tiles.specs.Ends.outlet q))) A.outs
 
   count : length a.routers.items ≡ nodes net.relation.grid
   count = ap length A.views ∙ count_views net n
@@ -120,16 +120,16 @@ module _ (net : Setup) (n k : ℕ) (a b : Tile) (A : IsAll net n k a) (same : Is
 
   ins-after : flat_map inlets (b ∷ []) ≡ []
   ins-after =
-      append-nil (inlets b) ∙ (runs.ins ∙ ap (λ q. Rattle.noc_tiles.specs.TileStep.fed_all (map Rattle.noc_tiles.specs.Ends.inlet q) runs.rows) A.ins ∙ none runs.rows)
+      append-nil (inlets b) ∙ (runs.ins ∙ ap (λ q. Rattle.noc_tiles.specs.TileStep.ends_after_rows (map Rattle.noc_tiles.specs.Ends.inlet q) runs.rows) A.ins ∙ none runs.rows)
     where
       no_ends : List End
       no_ends = []
 
-      none : (rows : List (List Beat)) → Rattle.noc_tiles.specs.TileStep.fed_all no_ends rows ≡ no_ends
+      none : (rows : List (List Beat)) → Rattle.noc_tiles.specs.TileStep.ends_after_rows no_ends rows ≡ no_ends
       none [] = refl
       none (row ∷ rows) = none rows
 
-  closes : Empties (flat_map inlets (b ∷ [])) (flat_map outlets (b ∷ [])) (length (flat_map inlets (b ∷ []))) (flat_map rows_of (b ∷ [])) (flat_map rows_of (b ∷ []))
+  closes : Empties (flat_map inlets (b ∷ [])) (flat_map outlets (b ∷ [])) (length (flat_map inlets (b ∷ []))) (flat_map wire_rows_of (b ∷ [])) (flat_map wire_rows_of (b ∷ []))
   closes = record {
     same = refl;
     left = λ i l. absurd (no-item (flat_map inlets (b ∷ [])) ins-after i l);
@@ -139,7 +139,7 @@ module _ (net : Setup) (n k : ℕ) (a b : Tile) (A : IsAll net n k a) (same : Is
   pub all-views : b.routers.items ≡ (lockstep_at net (n + k)).views
   all-views = sym (append-nil b.routers.items) ∙ views-done net n k [] [] (a ∷ []) (b ∷ []) alone ran a closes.left
 
-  all-rows : flat_map rows_of (b ∷ []) ≡ b.beats.items
+  all-rows : flat_map wire_rows_of (b ∷ []) ≡ b.beats.items
   all-rows =
       let f : b.first ≡ 0 = same.first ∙ A.first in
       let m : length b.routers.items ≡ nodes net.relation.grid = ap length all-views ∙ count_views net (n + k) in
@@ -147,7 +147,7 @@ module _ (net : Setup) (n k : ℕ) (a b : Tile) (A : IsAll net n k a) (same : Is
       let u = vec-length a.beats in
       let v = vec-length b.beats in
       let p = A.can.ready.parts.count in
-      append-nil (rows_of b) ∙ (ap (λ s. take (length b.routers.items) (drop s b.beats.items)) f ∙ take_all (length b.routers.items) b.beats.items (omega arith))
+      append-nil (wire_rows_of b) ∙ (ap (λ s. take (length b.routers.items) (drop s b.beats.items)) f ∙ take_all (length b.routers.items) b.beats.items (omega arith))
 
   pub all-wires : (r q : ℕ) → beat_at b.beats.items r q ≡ beat_at (lockstep_at net (n + k)).wires r q
-  all-wires r q = ap (λ (z : List (List Beat)). beat_at z r q) (sym all-rows) ∙ wires-done net n k [] [] (a ∷ []) (b ∷ []) alone ran a closes.left (flat_map rows_of (b ∷ [])) closes r q
+  all-wires r q = ap (λ (z : List (List Beat)). beat_at z r q) (sym all-rows) ∙ wires-done net n k [] [] (a ∷ []) (b ∷ []) alone ran a closes.left (flat_map wire_rows_of (b ∷ [])) closes r q

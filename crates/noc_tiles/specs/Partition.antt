@@ -10,19 +10,19 @@ use Rattle.noc_net.specs.Halves.{beat_at}
 use Rattle.noc_net.specs.Lockstep.{lockstep_at}
 use Rattle.noc_net.specs.Network.{Setup}
 use Rattle.noc_tiles.specs.Ends.{End, inlet, outlet}
-use Rattle.noc_tiles.specs.TileStep.{places, is_from, is_inside}
+use Rattle.noc_tiles.specs.TileStep.{arrival_places, is_from, is_inside}
 use Rattle.noc_tiles.specs.Rings.{AreLeftOut, AreSlots}
 use Rattle.noc_tiles.specs.Tiles.{CanRun, inlets, outlets}
-use Rattle.noc_tiles.specs.declared.frame.Frame.{Frame}
-use Rattle.noc_tiles.specs.declared.frame.Gathered.{Gathered}
+use Rattle.noc_tiles.specs.declared.kept.Kept.{Kept}
+use Rattle.noc_tiles.specs.declared.kept.Gathered.{Gathered}
 use Rattle.noc_tiles.specs.declared.tile.Tile.{Tile}
 use Rattle.noc_tiles.specs.declared.tile.Outcome.TheVariants.{Whole}
 
-abbrev pub setup_of : Frame → Setup
+abbrev pub setup_of : Kept → Setup
 setup_of f = record { relation = f.relation; places = f.buffer; packets = f.packets.items }
 
 -- what a network keeps while its tiles run
-pub record IsFrame (f : Frame) : Type 0 where
+pub record IsFrame (f : Kept) : Type 0 where
   pub plan : IsDecidedFor (ports f.relation.grid) f.relation.vcs f.plan
   pub room : vec_len f.room ≡ nodes f.relation.grid
   pub good : IsGoodSetup (setup_of f)
@@ -31,13 +31,13 @@ abbrev pub routers_of : Tile → List View
 routers_of t = t.routers.items
 
 -- the rows of the tile's own routers
-abbrev pub rows_of : Tile → List (List Beat)
-rows_of t = take (length t.routers.items) (drop t.first t.beats.items)
+abbrev pub wire_rows_of : Tile → List (List Beat)
+wire_rows_of t = take (length t.routers.items) (drop t.first t.beats.items)
 
 -- the routers and the wires of all tiles, one tile after another
 pub record IsGathered (g : Gathered) (ts : List Tile) : Type 0 where
   pub routers : g.routers.items ≡ flat_map routers_of ts
-  pub beats : g.beats.items ≡ flat_map rows_of ts
+  pub beats : g.beats.items ≡ flat_map wire_rows_of ts
   pub ins : map inlet g.ins.items ≡ flat_map inlets ts
   pub outs : map outlet g.outs.items ≡ flat_map outlets ts
 
@@ -67,11 +67,11 @@ pub record IsTile (net : Setup) (n k : ℕ) (I O : List (Option End)) (t : Tile)
   pub wires : (c q : ℕ) → c < length t.routers.items → is_inside t.first (length t.routers.items) (neighbour net.relation.grid (t.first + c) q) ≡ true
       → beat_at t.beats.items (t.first + c) q ≡ beat_at (lockstep_at net n).wires (t.first + c) q
   pub covers : (c q : ℕ) → c < length t.routers.items → is_inside t.first (length t.routers.items) (neighbour net.relation.grid (t.first + c) q) ≡ true
-      ⊎ ((j : ℕ) × (j < length (places (inlets t))) × (get_or (places (inlets t)) j (0, 0) ≡ (t.first + c, q)))
-  pub crossing : (j : ℕ) → j < length (places (inlets t))
-      → is_inside t.first (length t.routers.items) (neighbour net.relation.grid (get_or (places (inlets t)) j (0, 0)).0 (get_or (places (inlets t)) j (0, 0)).1) ≡ false
-  pub from : (o : ℕ) → o < length (places (outlets t))
-      → is_from t.first (length t.routers.items) (neighbour net.relation.grid (get_or (places (outlets t)) o (0, 0)).0 (get_or (places (outlets t)) o (0, 0)).1) ≡ true
+      ⊎ ((j : ℕ) × (j < length (arrival_places (inlets t))) × (get_or (arrival_places (inlets t)) j (0, 0) ≡ (t.first + c, q)))
+  pub crossing : (j : ℕ) → j < length (arrival_places (inlets t))
+      → is_inside t.first (length t.routers.items) (neighbour net.relation.grid (get_or (arrival_places (inlets t)) j (0, 0)).0 (get_or (arrival_places (inlets t)) j (0, 0)).1) ≡ false
+  pub from : (o : ℕ) → o < length (arrival_places (outlets t))
+      → is_from t.first (length t.routers.items) (neighbour net.relation.grid (get_or (arrival_places (outlets t)) o (0, 0)).0 (get_or (arrival_places (outlets t)) o (0, 0)).1) ≡ true
   pub ins : (j : ℕ) (e : End) → j < length (inlets t) → get_or I (index_of (get_or (inlets t) j e).at) None ≡ Some (get_or (inlets t) j e)
   pub outs : (o : ℕ) (e : End) → o < length (outlets t) → get_or O (index_of (get_or (outlets t) o e).at) None ≡ Some (get_or (outlets t) o e)
 

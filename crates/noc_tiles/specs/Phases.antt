@@ -3,17 +3,17 @@ use Rattle.std.specs.Prelude.{ℕ, ◌≡◌, ◌≢◌, ◌⊎◌, ◌<◌, Lis
 use Rattle.noc_topo.specs.Words.{map_indexed}
 use Rattle.noc_packet.specs.declared.packet.Beat.{Beat}
 use Rattle.noc_route.specs.Routes.{Routes}
-use Rattle.noc_router.specs.View.{View, all_taken, idle_beat}
+use Rattle.noc_router.specs.View.{View, view_after_takes, idle_beat}
 use Rattle.noc_net.specs.Halves.{beat_at}
-use Rattle.noc_tiles.specs.TileStep.{arrived, fed, places}
+use Rattle.noc_tiles.specs.TileStep.{beats_arriving, ends_after_beats, arrival_places}
 use Rattle.noc_tiles.specs.Tiles.{inlets, outlets, layout_of, state_of}
 use Rattle.noc_tiles.specs.declared.tile.Tile.{Tile}
 
 -- the routers of a tile have taken what arrived, with a row of beats from other tiles, and no beat is left
-pub record HasTaken (relation : Routes) (row : List Beat) (a b : Tile) : Type 0 where
+pub record TileHasTaken (relation : Routes) (row : List Beat) (a b : Tile) : Type 0 where
   pub width : length row ≡ length (inlets a)
-  pub ins : inlets b ≡ fed (inlets a) row
-  pub views : b.routers.items ≡ map_indexed (λ (i : ℕ) (v : View). all_taken relation (arrived relation (layout_of a) (state_of a) row i) v) a.routers.items
+  pub ins : inlets b ≡ ends_after_beats (inlets a) row
+  pub views : b.routers.items ≡ map_indexed (λ (i : ℕ) (v : View). view_after_takes relation (beats_arriving relation (layout_of a) (state_of a) row i) v) a.routers.items
   pub size : length b.beats.items ≡ length a.beats.items
   pub silent : (r q : ℕ) → beat_at b.beats.items r q ≡ idle_beat
 
@@ -24,7 +24,7 @@ IsCleared ps old new k r q =
     ⊎ (((o : ℕ) → o < k → get_or ps o (0, 0) ≢ (r, q)) × (beat_at new r q ≡ beat_at old r q))
 
 -- the beats that leave a tile are sent, and their wires idle
-pub record HasSent (a b : Tile) : Type 0 where
-  pub outs : outlets b ≡ fed (outlets a) (map (λ (p : ℕ × ℕ). beat_at a.beats.items p.0 p.1) (places (outlets a)))
-  pub cleared : (r q : ℕ) → IsCleared (places (outlets a)) a.beats.items b.beats.items (length (places (outlets a))) r q
+pub record TileHasSent (a b : Tile) : Type 0 where
+  pub outs : outlets b ≡ ends_after_beats (outlets a) (map (λ (p : ℕ × ℕ). beat_at a.beats.items p.0 p.1) (arrival_places (outlets a)))
+  pub cleared : (r q : ℕ) → IsCleared (arrival_places (outlets a)) a.beats.items b.beats.items (length (arrival_places (outlets a))) r q
   pub size : length b.beats.items ≡ length a.beats.items

@@ -22,7 +22,7 @@ pub record IsSlot (grid : Grid) (workers r q : ℕ) (beat : Beat) (i o : Option 
   pub both : (a b : End) → i ≡ Some a → o ≡ Some b → b.ring ≡ a.ring
   pub apart : (from : ℕ × ℕ) → neighbour grid r q ≡ Some from → AreApart (nodes grid) workers r from.0 → (is_some i ≡ true) × (is_some o ≡ true)
 
--- .. for each place, the place (r, q) at r * 6 + q
+-- the two ends of a fresh ring for each place, the place (r, q) at r * 6 + q
 pub record AreSlots (grid : Grid) (workers : ℕ) (wires : List (List Beat)) (count : ℕ) (I O : List (Option End)) : Type 0 where
   pub ins : length I ≡ count
   pub outs : length O ≡ count
@@ -38,10 +38,10 @@ abbrev pub one_of : {X : Type 0} → Option X → List X
 one_of None = []
 one_of (Some x) = x ∷ []
 
--- .. which is this
-abbrev pub held : {X : Type 0} → Option ℕ → List (Option X) → List X
-held None slots = []
-held (Some k) slots = one_of (get_or slots k None)
+-- the element with this index of a list of options, as a list
+abbrev pub item_at : {X : Type 0} → Option ℕ → List (Option X) → List X
+item_at None slots = []
+item_at (Some k) slots = one_of (get_or slots k None)
 
 -- port k goes to the place with this number, at none of these routers
 pub record GoesOutTo (grid : Grid) (first count k at : ℕ) : Type 0 where
@@ -58,7 +58,7 @@ pub record AreTakenIn (grid : Grid) (first count k : ℕ) (I : List (Option End)
   pub each : (j : ℕ) (e : End) → j < length ends → (m : ℕ) × (first * 6 ≤ m) × (m < k) × (is_inside first count (neighbour grid (m / 6) (m % 6)) ≡ false) × (get_or I m None ≡ Some (get_or ends j e))
   pub covers : (m : ℕ) → first * 6 ≤ m → m < k → (is_inside first count (neighbour grid (m / 6) (m % 6)) ≡ true) ⊎ ((j : ℕ) × (j < length ends) × ((e : End) → get_or I m None ≡ Some (get_or ends j e)))
 
--- .. of the wires that go from these routers, by port k, to others
+-- the ends in `ends` were taken from the slots before k, of the wires that go from these routers to others
 pub record AreTakenOut (grid : Grid) (first count k : ℕ) (O : List (Option End)) (ends : List End) : Type 0 where
   pub each : (o : ℕ) (e : End) → o < length ends → (r : ℕ) × (q : ℕ) × (r < nodes grid) × (q < 6) × (is_own first count r ≡ false) × (is_from first count (neighbour grid r q) ≡ true) × (get_or O (r * 6 + q) None ≡ Some (get_or ends o e))
   pub covers : (m r q : ℕ) → first * 6 ≤ m → m < k → neighbour grid (m / 6) (m % 6) ≡ Some (r, q) → is_own first count r ≡ false → (o : ℕ) × (o < length ends) × ((e : End) → get_or O (r * 6 + q) None ≡ Some (get_or ends o e))

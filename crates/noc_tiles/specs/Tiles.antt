@@ -5,10 +5,10 @@ use Rattle.noc_packet.specs.declared.packet.Beat.{Beat}
 use Rattle.noc_route.specs.Routes.{Routes}
 use Rattle.noc_router.specs.Decided.{IsDecidedFor}
 use Rattle.noc_router.specs.View.{View, idle_beat}
-use Rattle.noc_net.specs.Halves.{IsPlaced, beat_at}
-use Rattle.noc_net.specs.Unseen.{unseen}
+use Rattle.noc_net.specs.Halves.{HasItsBeats, beat_at}
+use Rattle.noc_net.specs.Unseen.{without_findings}
 use Rattle.noc_tiles.specs.Ends.{End, inlet, outlet}
-use Rattle.noc_tiles.specs.TileStep.{Layout, TileState, places, is_own, is_from, fed, fed_all, steps, after_steps, put_by, after, puts}
+use Rattle.noc_tiles.specs.TileStep.{Layout, TileState, arrival_places, is_own, is_from, ends_after_beats, ends_after_rows, steps, after_steps, put_by, after, beats_put}
 use Rattle.noc_tiles.specs.declared.tile.Tile.{Tile}
 use Rattle.noc_tiles.specs.declared.tile.Outcome.TheVariants.{Whole, Closed, Stopped}
 
@@ -19,26 +19,26 @@ abbrev pub outlets : Tile → List End
 outlets t = map outlet t.outs.items
 
 abbrev pub layout_of : Tile → Layout
-layout_of t = record { first = t.first; ins = places (inlets t); outs = places (outlets t) }
+layout_of t = record { first = t.first; ins = arrival_places (inlets t); outs = arrival_places (outlets t) }
 
 abbrev pub state_of : Tile → TileState
 state_of t = record { views = t.routers.items; wires = beat_at t.beats.items }
 
 -- each place is a link port of one of so many routers
-abbrev pub AreWithin : ℕ → ℕ → List (ℕ × ℕ) → Type 0
-AreWithin rows links ps = (j : ℕ) → j < length ps → ((get_or ps j (0, 0)).0 < rows) × ((get_or ps j (0, 0)).1 < links)
+abbrev pub AreLinkPorts : ℕ → ℕ → List (ℕ × ℕ) → Type 0
+AreLinkPorts rows links ps = (j : ℕ) → j < length ps → ((get_or ps j (0, 0)).0 < rows) × ((get_or ps j (0, 0)).1 < links)
 
 -- the routers from `first` on are at their places, `ins` are places of theirs, `outs` are the places of all wires that go from
 -- them to others, and the wires that arrive at others are idle
 pub record PartsFit (relation : Routes) (first : ℕ) (ins outs : List (ℕ × ℕ)) (views : List View) (b : List (List Beat)) : Type 0 where
   pub wide : first + length views ≤ nodes relation.grid
   pub count : length b ≡ nodes relation.grid
-  pub placed : (i : ℕ) (d : View) → i < length views → IsPlaced relation (first + i) (get_or views i d)
+  pub placed : (i : ℕ) (d : View) → i < length views → HasItsBeats relation (first + i) (get_or views i d)
   pub linked : (r q : ℕ) → local_port relation.grid ≤ q → beat_at b r q ≡ idle_beat
   pub idle : (r q : ℕ) → is_own first (length views) r ≡ false → beat_at b r q ≡ idle_beat
-  pub within : AreWithin (nodes relation.grid) (local_port relation.grid) ins
+  pub within : AreLinkPorts (nodes relation.grid) (local_port relation.grid) ins
   pub own : (j : ℕ) → j < length ins → is_own first (length views) (get_or ins j (0, 0)).0 ≡ true
-  pub outs_within : AreWithin (nodes relation.grid) (local_port relation.grid) outs
+  pub outs_within : AreLinkPorts (nodes relation.grid) (local_port relation.grid) outs
   pub others : (o : ℕ) → o < length outs → is_own first (length views) (get_or outs o (0, 0)).0 ≡ false
   pub leaves : (r q : ℕ) → r < nodes relation.grid → is_own first (length views) r ≡ false → is_from first (length views) (neighbour relation.grid r q) ≡ true
       → (o : ℕ) × (o < length outs) × (get_or outs o (0, 0) ≡ (r, q))
@@ -47,7 +47,7 @@ pub record PartsFit (relation : Routes) (first : ℕ) (ins outs : List (ℕ × �
 pub record IsReady (relation : Routes) (t : Tile) : Type 0 where
   pub plan : IsDecidedFor (ports relation.grid) relation.vcs t.plan
   pub few_links : local_port relation.grid ≤ 6
-  pub parts : PartsFit relation t.first (places (inlets t)) (places (outlets t)) t.routers.items t.beats.items
+  pub parts : PartsFit relation t.first (arrival_places (inlets t)) (arrival_places (outlets t)) t.routers.items t.beats.items
 
 -- what a run leaves alone
 pub record IsSameTile (a b : Tile) : Type 0 where
@@ -62,11 +62,11 @@ pub record IsSameTile (a b : Tile) : Type 0 where
 -- cycle n, with the beats of a row; where nobody has seen what was found, the findings are others
 pub record Cycles (relation : Routes) (seen : Bool) (n : ℕ) (a b : Tile) (row : List Beat) : Type 0 where
   pub width : length row ≡ length (inlets a)
-  pub views : map unseen b.routers.items ≡ map unseen (after_steps relation (layout_of a) (steps relation (layout_of a) n (state_of a) row)).views
+  pub views : map without_findings b.routers.items ≡ map without_findings (after_steps relation (layout_of a) (steps relation (layout_of a) n (state_of a) row)).views
   pub seen_views : seen ≡ true → b.routers.items ≡ (after_steps relation (layout_of a) (steps relation (layout_of a) n (state_of a) row)).views
   pub wires : (r q : ℕ) → r < nodes relation.grid → beat_at b.beats.items r q ≡ (after_steps relation (layout_of a) (steps relation (layout_of a) n (state_of a) row)).wires r q
-  pub ins : inlets b ≡ fed (inlets a) row
-  pub outs : outlets b ≡ fed (outlets a) (put_by relation (layout_of a) (steps relation (layout_of a) n (state_of a) row))
+  pub ins : inlets b ≡ ends_after_beats (inlets a) row
+  pub outs : outlets b ≡ ends_after_beats (outlets a) (put_by relation (layout_of a) (steps relation (layout_of a) n (state_of a) row))
 
 -- k cycles, with a row of beats for each
 pub record Runs (relation : Routes) (k : ℕ) (a b : Tile) : Type 0 where
@@ -75,8 +75,8 @@ pub record Runs (relation : Routes) (k : ℕ) (a b : Tile) : Type 0 where
   pub width : (i : ℕ) → i < k → length (get_or rows i []) ≡ length (inlets a)
   pub views : b.routers.items ≡ (after relation (layout_of a) a.start (state_of a) rows).views
   pub wires : (r q : ℕ) → r < nodes relation.grid → beat_at b.beats.items r q ≡ (after relation (layout_of a) a.start (state_of a) rows).wires r q
-  pub ins : inlets b ≡ fed_all (inlets a) rows
-  pub outs : outlets b ≡ fed_all (outlets a) (puts relation (layout_of a) a.start (state_of a) rows)
+  pub ins : inlets b ≡ ends_after_rows (inlets a) rows
+  pub outs : outlets b ≡ ends_after_rows (outlets a) (beats_put relation (layout_of a) a.start (state_of a) rows)
 
 -- what is known of a gate: whether it is open to every worker in every cycle, and to which worker it is shut in which cycle
 pub record Gating : Type 0 where

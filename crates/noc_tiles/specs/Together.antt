@@ -18,20 +18,20 @@ module _ (net : Setup) (n : ℕ) where
   abbrev pub tile_at : Trace → ℕ → TileState
   tile_at t i = after net.relation t.layout n t.state (take i t.rows)
 
-  abbrev pub steps_at : Trace → ℕ → List (View × List Beat)
-  steps_at t i = steps net.relation t.layout (n + i) (tile_at t i) (get_or t.rows i [])
+  abbrev pub trace_steps_at : Trace → ℕ → List (View × List Beat)
+  trace_steps_at t i = steps net.relation t.layout (n + i) (tile_at t i) (get_or t.rows i [])
 
   abbrev pub put_at : Trace → ℕ → List Beat
-  put_at t i = put_by net.relation t.layout (steps_at t i)
+  put_at t i = put_by net.relation t.layout (trace_steps_at t i)
 
   -- the beat of the lockstep run on a wire, at this count
   abbrev pub in_flight : ℕ → ℕ → ℕ → Beat
   in_flight i r q = beat_at (lockstep_at net i).wires r q
 
   -- the beat that a wire brings in cycle i: first w, and then what is put at o
-  abbrev pub carried : Beat → Trace → ℕ → ℕ → Beat
-  carried w t o zero = w
-  carried w t o (suc i) = get_or (put_at t i) o idle_beat
+  abbrev pub beat_carried : Beat → Trace → ℕ → ℕ → Beat
+  beat_carried w t o zero = w
+  beat_carried w t o (suc i) = get_or (put_at t i) o idle_beat
 
   -- no other tile sends on the wire that arrives at port q of router c of the tile
   abbrev pub IsInner : Trace → ℕ → ℕ → Type 0
@@ -60,4 +60,4 @@ module _ (net : Setup) (n : ℕ) where
     pub width : (t i : ℕ) → t < m → i < k → length (get_or (T t).rows i []) ≡ length (T t).layout.ins
     pub wired : (t j : ℕ) → t < m → j < length (T t).layout.ins
         → (u : ℕ) × (o : ℕ) × (u < m) × (o < length (T u).layout.outs) × (get_or (T u).layout.outs o (0, 0) ≡ get_or (T t).layout.ins j (0, 0))
-        × ((i : ℕ) → i < k → get_or (get_or (T t).rows i []) j idle_beat ≡ carried (in_flight n (get_or (T t).layout.ins j (0, 0)).0 (get_or (T t).layout.ins j (0, 0)).1) (T u) o i)
+        × ((i : ℕ) → i < k → get_or (get_or (T t).rows i []) j idle_beat ≡ beat_carried (in_flight n (get_or (T t).layout.ins j (0, 0)).0 (get_or (T t).layout.ins j (0, 0)).1) (T u) o i)

@@ -8,10 +8,10 @@ ghost use Rattle.std.specs.Prelude.{ℕ, ◌≡◌, ◌<◌, true, length, Some}
 ghost use Rattle.noc_topo.specs.Shape.{nodes as nodes_of, ports as ports_of, neighbour as neighbour_of};
 ghost use Rattle.noc_router.specs.Decided.{IsDecidedFor};
 ghost use Rattle.noc_router.specs.View.{IsRelationOf, idle_beat};
-ghost use Rattle.noc_net.specs.Halves.{beat_at, emptied, received};
+ghost use Rattle.noc_net.specs.Halves.{beat_at, view_after_puts, wire_after_puts};
 ghost use Rattle.noc_net.specs.Marks.{AreMarked};
-ghost use Rattle.noc_net.specs.Takes.{concluded};
-ghost use Rattle.noc_net.specs.Unseen.{unseen};
+ghost use Rattle.noc_net.specs.Takes.{view_after_conclude};
+ghost use Rattle.noc_net.specs.Unseen.{without_findings};
 ghost use Rattle.noc_tiles.specs.Inner.{CanFinish, HaveFinished};
 
 use crate::tile::Tile;
@@ -67,9 +67,9 @@ fn finish(
     requires idle { (r q p : ℕ) → neighbour_of relation.now.grid r q ≡ Some (router.old.site.node, p) → beat_at beats.old r q ≡ idle_beat }
     ensures plan { IsDecidedFor (ports_of relation.now.grid) relation.now.vcs plan.new }
     ensures marks { AreMarked marks.old beats.old → AreMarked marks.new beats.new }
-    ensures router { unseen router.new ≡ unseen (emptied (concluded relation.now cycle router.old)) }
-    ensures seen { seen ≡ true → router.new ≡ emptied (concluded relation.now cycle router.old) }
-    ensures beats { (r q : ℕ) → r < nodes_of relation.now.grid → beat_at beats.new r q ≡ received (concluded relation.now cycle router.old) (neighbour_of relation.now.grid r q) (beat_at beats.old r q) }
+    ensures router { without_findings router.new ≡ without_findings (view_after_puts (view_after_conclude relation.now cycle router.old)) }
+    ensures seen { seen ≡ true → router.new ≡ view_after_puts (view_after_conclude relation.now cycle router.old) }
+    ensures beats { (r q : ℕ) → r < nodes_of relation.now.grid → beat_at beats.new r q ≡ wire_after_puts (view_after_conclude relation.now cycle router.old) (neighbour_of relation.now.grid r q) (beat_at beats.old r q) }
 {
     if seen {
         conclude(relation, plan, cycle, router);

@@ -2,7 +2,7 @@
 
 ghost use Rattle.std.specs.Prelude.{◌≡◌, ◌≢◌, ◌⊎◌, ◌++◌, IfErr, IfOk, IsOk, ◌<◌, ◌≤◌, vec_len};
 ghost use Rattle.std.specs.Thread.{IsSync};
-ghost use Rattle.noc_tiles.specs.Faults.{number_of};
+ghost use Rattle.noc_tiles.specs.Faults.{fault_number};
 ghost use Rattle.noc_tiles.specs.Tiles.{AllCanRun, AllEnded};
 ghost use Rattle.noc_tiles.specs.declared.fault.RunFault.TheVariants.{LostWorker};
 
@@ -45,7 +45,7 @@ fn run_last<G: Gate>(
 // The fault with the lower number.
 fn lower_fault(first: RunFault, second: RunFault) -> RunFault
     ensures one { (result ≡ first) ⊎ (result ≡ second) }
-    ensures least { (number_of result ≤ number_of first) × (number_of result ≤ number_of second) }
+    ensures least { (fault_number result ≤ fault_number first) × (fault_number result ≤ fault_number second) }
 {
     match (first, second) {
         (RunFault::Memory, _) | (_, RunFault::Memory) => RunFault::Memory,
@@ -61,7 +61,7 @@ fn joined(
 ) -> Result<Vec<Tile>, RunFault>
     ensures items { IfOk result (λ v. IfOk first (λ a. IfOk second (λ b. v.items ≡ a.items ++ b.items))) }
     ensures firsts { IfOk result (λ _. IsOk first × IsOk second) }
-    ensures least { IfErr result (λ e. IfErr first (λ f. number_of e ≤ number_of f) × IfErr second (λ f. number_of e ≤ number_of f)) }
+    ensures least { IfErr result (λ e. IfErr first (λ f. fault_number e ≤ fault_number f) × IfErr second (λ f. fault_number e ≤ fault_number f)) }
     ensures fault { IfErr first (λ e. e ≢ LostWorker) → IfErr second (λ e. e ≢ LostWorker) → IfErr result (λ e. e ≢ LostWorker) }
 {
     match (first, second) {

@@ -4,10 +4,10 @@
 mod emptying;
 mod fault;
 mod finishing;
-mod frame;
 mod gate;
 mod halves;
 mod inner;
+mod kept;
 mod laws;
 mod limits;
 mod partition;

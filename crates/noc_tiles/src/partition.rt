@@ -7,7 +7,7 @@
 ghost use Rattle.std.specs.Prelude.{ℕ, List, Option, ◌≡◌, ◌+◌, ◌*◌, ◌/◌, ◌%◌, ◌<◌, ◌≤◌, ◌^◌, Some, None, true, false, get_or, is_some, drop, length, take, vec_len, IfOk, IsOk, OnOk};
 ghost use Rattle.noc_topo.specs.Shape.{nodes as nodes_of, neighbour as neighbour_of};
 ghost use Rattle.noc_router.specs.View.{View, idle_beat};
-ghost use Rattle.noc_net.specs.Halves.{IsPlaced, beat_at};
+ghost use Rattle.noc_net.specs.Halves.{HasItsBeats, beat_at};
 ghost use Rattle.noc_net.specs.Network.{Setup};
 ghost use Rattle.noc_net.specs.Lockstep.{lockstep_at};
 ghost use Rattle.noc_tiles.specs.Ends.{End};
@@ -17,8 +17,8 @@ ghost use Rattle.noc_tiles.specs.Rings.{AreLeftOut, AreSlots, GoesOutTo, in_slot
 ghost use Rattle.noc_tiles.specs.Partition.{AreNumbered, InFlight, IsPartition, IsTile, AreUnassigned, setup_of};
 ghost use Rattle.noc_tiles.specs.declared.limits.TheConstants.{MAX_WORKERS};
 
-use crate::frame::Frame;
-use crate::rings::{Rings, make_rings, take_ins, take_outs};
+use crate::kept::Kept;
+use crate::rings::{WireEnds, make_rings, take_ins, take_outs};
 use crate::starts::tile_start;
 use crate::tile::{Outcome, Tile};
 use crate::wires::{Inlet, Outlet};
@@ -49,7 +49,7 @@ fn own_beats(
 // A tile with the routers from `first` on, and the ends of the rings on the wires to other tiles.
 fn new_tile(
     alloc: Global,
-    frame: &Frame,
+    frame: &Kept,
     worker: usize,
     first: usize,
     routers: Vec<Router>,
@@ -102,7 +102,7 @@ fn new_tile(
 /// As many tiles as there are workers, with a ring on each wire between two of them.
 pub(crate) fn partition(
     alloc: Global,
-    frame: &Frame,
+    frame: &Kept,
     routers: Vec<Router>,
     beats: &[[Beat; LINKS]],
 ) -> Result<Vec<Tile>, Memory>
@@ -116,7 +116,7 @@ pub(crate) fn partition(
 {
     let shape = frame.relation.shape();
     let nodes = shape.nodes();
-    let Rings { mut ins, mut outs } = make_rings(alloc, shape, frame.workers, beats)?;
+    let WireEnds { mut ins, mut outs } = make_rings(alloc, shape, frame.workers, beats)?;
     let mut tiles = Vec::new(alloc);
     let mut rest = routers;
     let mut first = 0;

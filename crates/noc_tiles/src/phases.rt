@@ -7,9 +7,9 @@ ghost use Rattle.noc_packet.specs.declared.packet.Beat.{Beat as beat_value};
 ghost use Rattle.noc_net.specs.Halves.{beat_at};
 ghost use Rattle.noc_net.specs.Marks.{AreMarked};
 ghost use Rattle.noc_tiles.specs.Ends.{inlet, outlet};
-ghost use Rattle.noc_tiles.specs.Phases.{HasSent, HasTaken, IsCleared};
-ghost use Rattle.noc_tiles.specs.TileStep.{fed, filled, names, places};
-ghost use Rattle.noc_tiles.specs.Tiles.{AreWithin, IsReady, inlets, outlets};
+ghost use Rattle.noc_tiles.specs.Phases.{TileHasSent, TileHasTaken, IsCleared};
+ghost use Rattle.noc_tiles.specs.TileStep.{ends_after_beats, with_row, names, arrival_places};
+ghost use Rattle.noc_tiles.specs.Tiles.{AreLinkPorts, IsReady, inlets, outlets};
 
 use crate::stop::Stop;
 use crate::tile::Tile;
@@ -37,7 +37,7 @@ pub(crate) fn take(
     ensures routers { vec_len tile.new.routers ≡ vec_len tile.old.routers }
     ensures beats { vec_len tile.new.beats ≡ vec_len tile.old.beats }
     ensures ins { names (inlets tile.new) ≡ names (inlets tile.old) }
-    ensures taken { IsTrue result → (row : List beat_value) × HasTaken relation.now row tile.old tile.new }
+    ensures taken { IsTrue result → (row : List beat_value) × TileHasTaken relation.now row tile.old tile.new }
     ensures stopped { IsFalse result → stop.now ≡ true }
 {
     if !take_all(rt, &mut tile.ins, &mut tile.beats, marks, stop) {
@@ -55,14 +55,14 @@ pub(crate) fn take(
 
 // Puts a beat on each wire that goes to another tile, and leaves idle ones. False where the flag was seen raised.
 pub(crate) fn send(rt: &impl Wait, tile: &mut Tile, marks: &mut Marks, stop: &Stop) -> bool
-    requires within { AreWithin (length tile.old.beats.items) 6 (places (outlets tile.old)) }
+    requires within { AreLinkPorts (length tile.old.beats.items) 6 (arrival_places (outlets tile.old)) }
     requires few { length tile.old.beats.items ≤ MAX_NODES }
     requires marks { AreMarked marks.old tile.old.beats.items }
     ensures marks { IsTrue result → AreMarked marks.new tile.new.beats.items }
     ensures rest { tile.new ≡ record tile.old { beats = tile.new.beats; outs = tile.new.outs } }
     ensures beats { vec_len tile.new.beats ≡ vec_len tile.old.beats }
     ensures outs { names (outlets tile.new) ≡ names (outlets tile.old) }
-    ensures sent { IsTrue result → HasSent tile.old tile.new }
+    ensures sent { IsTrue result → TileHasSent tile.old tile.new }
     ensures stopped { IsFalse result → stop.now ≡ true }
 {
     if !put_all(rt, &mut tile.outs, &tile.beats, stop) {
@@ -80,13 +80,13 @@ fn take_all(
     marks: &mut Marks,
     stop: &Stop,
 ) -> bool
-    requires within { AreWithin (length beats.old) 6 (places (map inlet ins.old.items)) }
+    requires within { AreLinkPorts (length beats.old) 6 (arrival_places (map inlet ins.old.items)) }
     requires few { length beats.old ≤ MAX_NODES }
     requires marks { AreMarked marks.old beats.old }
     ensures marks { AreMarked marks.new beats.new }
     ensures ends { names (map inlet ins.new.items) ≡ names (map inlet ins.old.items) }
     ensures count { length beats.new ≡ length beats.old }
-    ensures taken { IsTrue result → (row : List beat_value) × (length row ≡ vec_len ins.old) × (map inlet ins.new.items ≡ fed (map inlet ins.old.items) row) × ((r q : ℕ) → beat_at beats.new r q ≡ filled (beat_at beats.old) (places (map inlet ins.old.items)) row r q) }
+    ensures taken { IsTrue result → (row : List beat_value) × (length row ≡ vec_len ins.old) × (map inlet ins.new.items ≡ ends_after_beats (map inlet ins.old.items) row) × ((r q : ℕ) → beat_at beats.new r q ≡ with_row (beat_at beats.old) (arrival_places (map inlet ins.old.items)) row r q) }
     ensures stopped { IsFalse result → stop.now ≡ true }
 {
     for one in ins.iter_mut() {
@@ -101,9 +101,9 @@ fn take_all(
 
 // Puts a beat on each wire that goes to another tile. False where the flag was seen raised.
 fn put_all(rt: &impl Wait, ends: &mut Vec<Outlet>, beats: &[[Beat; LINKS]], stop: &Stop) -> bool
-    requires { AreWithin (length beats.now) 6 (places (map outlet ends.old.items)) }
+    requires { AreLinkPorts (length beats.now) 6 (arrival_places (map outlet ends.old.items)) }
     ensures ends { names (map outlet ends.new.items) ≡ names (map outlet ends.old.items) }
-    ensures put { IsTrue result → map outlet ends.new.items ≡ fed (map outlet ends.old.items) (map (λ p. beat_at beats.now p.0 p.1) (places (map outlet ends.old.items))) }
+    ensures put { IsTrue result → map outlet ends.new.items ≡ ends_after_beats (map outlet ends.old.items) (map (λ p. beat_at beats.now p.0 p.1) (arrival_places (map outlet ends.old.items))) }
     ensures stopped { IsFalse result → stop.now ≡ true }
 {
     for one in ends.iter_mut() {
@@ -117,12 +117,12 @@ fn put_all(rt: &impl Wait, ends: &mut Vec<Outlet>, beats: &[[Beat; LINKS]], stop
 
 // The beats that went to other tiles are idle again.
 fn clear_all(ends: &Vec<Outlet>, beats: &mut [[Beat; LINKS]], marks: &mut Marks)
-    requires within { AreWithin (length beats.old) 6 (places (map outlet ends.now.items)) }
+    requires within { AreLinkPorts (length beats.old) 6 (arrival_places (map outlet ends.now.items)) }
     requires few { length beats.old ≤ MAX_NODES }
     requires marks { AreMarked marks.old beats.old }
     ensures marks { AreMarked marks.new beats.new }
     ensures count { length beats.new ≡ length beats.old }
-    ensures beats { (r q : ℕ) → IsCleared (places (map outlet ends.now.items)) beats.old beats.new (length (places (map outlet ends.now.items))) r q }
+    ensures beats { (r q : ℕ) → IsCleared (arrival_places (map outlet ends.now.items)) beats.old beats.new (length (arrival_places (map outlet ends.now.items))) r q }
 {
     for k in 0..ends.len() {
         let end = &ends[k];

@@ -10,7 +10,7 @@ ghost use Rattle.noc_topo.specs.Shape.{IsGrid, nodes as nodes_of, neighbour as n
 ghost use Rattle.noc_tiles.specs.Ends.{inlet, outlet};
 ghost use Rattle.noc_tiles.specs.Starts.{AreTogether};
 ghost use Rattle.noc_tiles.specs.TileStep.{is_inside, is_own};
-ghost use Rattle.noc_tiles.specs.Rings.{AreLeftOut, AreSlots, AreTakenIn, AreTakenOut, GoesOutTo, IsSlot, held, in_slots, out_slots, without};
+ghost use Rattle.noc_tiles.specs.Rings.{AreLeftOut, AreSlots, AreTakenIn, AreTakenOut, GoesOutTo, IsSlot, item_at, in_slots, out_slots, without};
 ghost use Rattle.noc_tiles.specs.declared.limits.TheConstants.{MAX_WORKERS};
 
 use crate::starts::are_together;
@@ -22,7 +22,7 @@ use std::alloc::{AllocError, Global};
 
 /// The ends of the rings, by the place where the wire arrives: port q of router r at r * LINKS + q.
 #[derive(Drop)]
-pub(crate) struct Rings {
+pub(crate) struct WireEnds {
     pub ins: Vec<Option<Inlet>>,
     pub outs: Vec<Option<Outlet>>,
 }
@@ -95,7 +95,7 @@ pub(crate) fn make_rings(
     shape: &Shape,
     workers: usize,
     beats: &[[Beat; LINKS]],
-) -> Result<Rings, AllocError>
+) -> Result<WireEnds, AllocError>
     requires beats { length beats.now ≡ nodes_of shape.now }
     requires workers { (0 < workers) × (workers ≤ MAX_WORKERS) }
     ensures { IfOk result (λ r. AreSlots shape.now workers beats.now (nodes_of shape.now * 6) (in_slots r.ins.items) (out_slots r.outs.items)) }
@@ -114,7 +114,7 @@ pub(crate) fn make_rings(
         ins.push(one)?;
         outs.push(other)?;
     }
-    Ok(Rings { ins, outs })
+    Ok(WireEnds { ins, outs })
 }
 
 // The neighbour at a port, where it is none of `count` routers from `first` on.
@@ -175,7 +175,7 @@ fn move_end<T: Drop>(
     requires { IfSome at (λ k. k < vec_len slots.old) }
     ensures size { vec_len slots.new ≡ vec_len slots.old }
     ensures slots { OnOk result (slots.new.items ≡ without at slots.old.items) }
-    ensures ends { OnOk result (ends.new.items ≡ ends.old.items ++ held at slots.old.items) }
+    ensures ends { OnOk result (ends.new.items ≡ ends.old.items ++ item_at at slots.old.items) }
 {
     let Some(k) = at else {
         return Ok(());

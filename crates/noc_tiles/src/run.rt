@@ -7,7 +7,7 @@ ghost use Rattle.noc_topo.specs.Shape.{nodes as nodes_of, ports as ports_of};
 ghost use Rattle.noc_router.specs.Decided.{IsDecidedFor};
 ghost use Rattle.noc_net.specs.Marks.{AreMarked};
 ghost use Rattle.noc_tiles.specs.Inner.{AreInner};
-ghost use Rattle.noc_tiles.specs.TileStep.{places};
+ghost use Rattle.noc_tiles.specs.TileStep.{arrival_places};
 ghost use Rattle.noc_tiles.specs.Tiles.{IsReady, IsSameTile, Cycles, Runs, outlets};
 ghost use Rattle.noc_tiles.specs.declared.tile.Outcome.TheVariants.{Whole, Closed, Stopped};
 
@@ -33,7 +33,7 @@ fn cycle(
     stop: &Stop,
 ) -> bool
     requires ready { IsReady relation.now tile.old }
-    requires inner { AreInner relation.now.grid tile.old.first (vec_len tile.old.routers) (places (outlets tile.old)) inner }
+    requires inner { AreInner relation.now.grid tile.old.first (vec_len tile.old.routers) (arrival_places (outlets tile.old)) inner }
     requires few { nodes_of relation.now.grid ≤ MAX_NODES }
     requires marks { AreMarked marks.old tile.old.beats.items }
     ensures same { IsSameTile tile.old tile.new }

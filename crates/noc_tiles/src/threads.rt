@@ -5,14 +5,14 @@ ghost use Rattle.noc_model.specs.declared.limits.TheConstants.{CYCLE_LIMIT as cy
 ghost use Rattle.noc_tiles.specs.Ends.{End, inlet, outlet};
 ghost use Rattle.noc_tiles.specs.declared.fault.RunFault.TheVariants.{LostWorker};
 ghost use Rattle.noc_tiles.specs.Tiles.{inlets, outlets};
-ghost use Rattle.noc_tiles.specs.Partition.{AllWhole, AreNumbered, IsPartition, IsFrame, IsGathered, rows_of, setup_of};
+ghost use Rattle.noc_tiles.specs.Partition.{AllWhole, AreNumbered, IsPartition, IsFrame, IsGathered, wire_rows_of, setup_of};
 ghost use Rattle.noc_tiles.specs.declared.tile.Tile.{Tile as tile_value};
 
 use crate::emptying::empty_all;
 use crate::fault::RunFault;
-use crate::frame::{Frame, Gathered};
 use crate::gate::Gate;
 use crate::halves::run_all;
+use crate::kept::{Gathered, Kept};
 use crate::stop::Stop;
 use crate::tile::{Outcome, Tile};
 use noc_net::{Network, Parts};
@@ -24,7 +24,7 @@ use std::thread::Threads;
 fn add(all: &mut Gathered, tile: Tile) -> Result<(), AllocError>
     requires { tile.first + vec_len tile.routers ≤ vec_len tile.beats }
     ensures routers { OnOk result (all.new.routers.items ≡ all.old.routers.items ++ tile.routers.items) }
-    ensures beats { OnOk result (all.new.beats.items ≡ all.old.beats.items ++ rows_of tile) }
+    ensures beats { OnOk result (all.new.beats.items ≡ all.old.beats.items ++ wire_rows_of tile) }
     ensures ins { OnOk result (map inlet all.new.ins.items ≡ map inlet all.old.ins.items ++ inlets tile) }
     ensures outs { OnOk result (map outlet all.new.outs.items ≡ map outlet all.old.outs.items ++ outlets tile) }
 {
@@ -82,7 +82,7 @@ fn all_whole(tiles: &Vec<Tile>) -> bool
 pub(crate) fn run_threads<R: Threads + Wait + Sync, G: Gate>(
     rt: &R,
     alloc: Global,
-    frame: Frame,
+    frame: Kept,
     tiles: Vec<Tile>,
     gate: &G,
 ) -> Result<Network, RunFault>

@@ -6,8 +6,8 @@ ghost use Rattle.noc_tiles.specs.declared.fault.RunFault.TheVariants.{LostWorker
 ghost use Rattle.noc_tiles.specs.declared.limits.TheConstants.{MAX_WORKERS};
 
 use crate::fault::RunFault;
-use crate::frame::Frame;
 use crate::gate::Gate;
+use crate::kept::Kept;
 use crate::partition::partition;
 use crate::single::run_single;
 use crate::threads::run_threads;
@@ -48,7 +48,7 @@ pub fn run_tiles<R: Threads + Wait + Sync, G: Gate>(
         beats,
         room,
     } = network.into_parts();
-    let frame = Frame {
+    let frame = Kept {
         relation,
         buffer,
         packets,

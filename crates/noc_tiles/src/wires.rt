@@ -105,12 +105,12 @@ fn push_waiting(rt: &impl Wait, end: &mut Producer<Beat>, beat: Beat, stop: &Sto
 
 impl Inlet {
     ghost use Rattle.std.specs.Prelude.{◌≡◌, true, MatchOption};
-    ghost use Rattle.noc_tiles.specs.RingEnd.{grown};
+    ghost use Rattle.noc_tiles.specs.RingEnd.{end_after_beat};
     ghost use Rattle.noc_tiles.specs.Ends.{inlet};
 
     pub(crate) fn take(&mut self, rt: &impl Wait, stop: &Stop) -> Option<Beat>
         ensures same { ((inlet self.new).at ≡ (inlet self.old).at) × ((inlet self.new).ring ≡ (inlet self.old).ring) }
-        ensures took { MatchOption result (stop.now ≡ true) (λ x. inlet self.new ≡ grown (inlet self.old) x) }
+        ensures took { MatchOption result (stop.now ≡ true) (λ x. inlet self.new ≡ end_after_beat (inlet self.old) x) }
     {
         pop_waiting(rt, &mut self.end, stop)
     }
@@ -118,12 +118,12 @@ impl Inlet {
 
 impl Outlet {
     ghost use Rattle.std.specs.Prelude.{◌≡◌, true, IsTrue, IsFalse};
-    ghost use Rattle.noc_tiles.specs.RingEnd.{grown};
+    ghost use Rattle.noc_tiles.specs.RingEnd.{end_after_beat};
     ghost use Rattle.noc_tiles.specs.Ends.{outlet};
 
     pub(crate) fn put(&mut self, rt: &impl Wait, beat: Beat, stop: &Stop) -> bool
         ensures same { ((outlet self.new).at ≡ (outlet self.old).at) × ((outlet self.new).ring ≡ (outlet self.old).ring) }
-        ensures put { IsTrue result → outlet self.new ≡ grown (outlet self.old) beat }
+        ensures put { IsTrue result → outlet self.new ≡ end_after_beat (outlet self.old) beat }
         ensures stopped { IsFalse result → stop.now ≡ true }
     {
         push_waiting(rt, &mut self.end, beat, stop)

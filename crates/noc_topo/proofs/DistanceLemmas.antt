@@ -28,7 +28,7 @@ pair-product b c l m =
     let few : i * c ≤ i * 16 = mul-le-mul_left i m in
     omega arith
 
--- .. and so has a third radix with them
+-- three radices of which the sum is great have a great product
 more-product : (a many : ℕ) → 2 ≤ a → 32 ≤ many → 32 * a + 2 * many ≤ a * many + 64
 more-product a many l m =
     let i = a - 2 in

@@ -1,7 +1,7 @@
 -- Small shapes, computed.
 use Rattle.std.proofs.Common.{◌≡◌, true, false, [], ◌∷◌, map, Some, None, Ok, Err, refl}
 use Rattle.noc_topo.specs.Words.{below, tabulate, least_by}
-use Rattle.noc_topo.specs.Shape.{Grid, shape_of, neighbour, distance, coordinates, padded}
+use Rattle.noc_topo.specs.Shape.{Grid, shape_of, neighbour, distance, coordinates, three_coordinates}
 use Rattle.noc_topo.specs.declared.shape.Kind.TheVariants.{Mesh, Torus}
 use Rattle.noc_topo.specs.declared.shape.ShapeFault.TheVariants.{BadDimensions, BadRadix, TooManyNodes}
 
@@ -23,7 +23,7 @@ torus-distance = refl
 mesh : Grid
 mesh = record { wraps = false; radix = 4 ∷ 3 ∷ [] }
 
-mesh-coordinates : padded (coordinates mesh.radix 11) ≡ 3 ∷ 2 ∷ 0 ∷ []
+mesh-coordinates : three_coordinates (coordinates mesh.radix 11) ≡ 3 ∷ 2 ∷ 0 ∷ []
 unfolding mesh
 mesh-coordinates = refl
 

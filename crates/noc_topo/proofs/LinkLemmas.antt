@@ -6,7 +6,7 @@ use Rattle.std.specs.List.{list_all}
 use Rattle.std.proofs.lemmas.Bool.{cases_lt, lt-ltb, le-ltb, and_parts, leb-true}
 use Rattle.std.proofs.lemmas.Bool.Decides.{eqb_tells}
 use Rattle.std.proofs.lemmas.List.{get_or-set_same, set-set, set-get_or}
-use Rattle.noc_topo.specs.Shape.{Grid, IsGrid, node_at, coordinates, moved_in, neighbour, opposite, is_plus, product, is_radix, nodes, local_port, padded, IsLinkBack}
+use Rattle.noc_topo.specs.Shape.{Grid, IsGrid, node_at, coordinates, moved_in, neighbour, opposite, is_plus, product, is_radix, nodes, local_port, three_coordinates, IsLinkBack}
 use Rattle.noc_topo.proofs.ShapeLemmas.{length-coordinates, each_of_three}
 
 -- coordinates that are each below their radix
@@ -264,8 +264,8 @@ neighbour-range g a p (Some to) sound known e = let back = link_back g a p to.0 
 
 -- ---- coordinates as arrays of three
 
-pub get_or-padded : (xs : List ℕ) (i : ℕ) → i < 3 → get_or (padded xs) i 0 ≡ get_or xs i 0
-get_or-padded xs = each_of_three (λ i. get_or (padded xs) i 0 ≡ get_or xs i 0) refl refl refl
+pub get_or-padded : (xs : List ℕ) (i : ℕ) → i < 3 → get_or (three_coordinates xs) i 0 ≡ get_or xs i 0
+get_or-padded xs = each_of_three (λ i. get_or (three_coordinates xs) i 0 ≡ get_or xs i 0) refl refl refl
 
 pub get_or-past : (xs : List ℕ) (i : ℕ) → length xs ≤ i → get_or xs i 0 ≡ 0
 get_or-past [] i l = refl
@@ -278,17 +278,17 @@ get_or-pred (k ∷ ks) zero = refl
 get_or-pred (k ∷ ks) (suc i) = get_or-pred ks i
 
 -- the greatest coordinate in a dimension is one below its size
-pub corner-at : (g : Grid) (i : ℕ) → IsGrid g → i < 3 → get_or (padded (coordinates g.radix (nodes g - 1))) i 0 ≡ get_or g.radix i 0 - 1
+pub corner-at : (g : Grid) (i : ℕ) → IsGrid g → i < 3 → get_or (three_coordinates (coordinates g.radix (nodes g - 1))) i 0 ≡ get_or g.radix i 0 - 1
 corner-at g i sound l =
     get_or-padded (coordinates g.radix (nodes g - 1)) i l
     ∙ ap (λ xs. get_or xs i 0) (coordinates-last g.radix (AreRadices-from_test g.radix sound.sizes))
     ∙ get_or-pred g.radix i
 
 -- no coordinate is greater
-pub padded-below : (g : Grid) (node i : ℕ) → IsGrid g → i < 3 → get_or (padded (coordinates g.radix node)) i 0 ≤ get_or (padded (coordinates g.radix (nodes g - 1))) i 0
+pub padded-below : (g : Grid) (node i : ℕ) → IsGrid g → i < 3 → get_or (three_coordinates (coordinates g.radix node)) i 0 ≤ get_or (three_coordinates (coordinates g.radix (nodes g - 1))) i 0
 padded-below g node i sound l = at (cases_lt i (length g.radix))
   where
-    at : (i < length g.radix) ⊎ (length g.radix ≤ i) → get_or (padded (coordinates g.radix node)) i 0 ≤ get_or (padded (coordinates g.radix (nodes g - 1))) i 0
+    at : (i < length g.radix) ⊎ (length g.radix ≤ i) → get_or (three_coordinates (coordinates g.radix node)) i 0 ≤ get_or (three_coordinates (coordinates g.radix (nodes g - 1))) i 0
     at (inl inside) =
         let radices = AreRadices-from_test g.radix sound.sizes in
         let below = IsWithin-at g.radix (coordinates g.radix node) i (IsWithin-coordinates g.radix node radices) inside in

@@ -5,8 +5,8 @@ use Rattle.std.specs.Prelude.{option_map, nat_lt, nat_le, ◌&&◌, slice_set, �
 use Rattle.std.specs.List.{list_all}
 use Rattle.std.proofs.lemmas.List.{length-set, get_or-set_same, get_or-set_other}
 use Rattle.std.proofs.lemmas.Bool.{cases_eq, lt-ltb, le-ltb, and_parts, leb-true, le-leb}
-use Rattle.noc_topo.specs.Shape.{Grid, node_at, coordinates, moved_in, neighbour, opposite, is_plus, product, padded, is_radix, nodes, distance, distance_in, distance_of, shape_of, wraps_of}
-use Rattle.noc_topo.specs.Filled.{filled}
+use Rattle.noc_topo.specs.Shape.{Grid, node_at, coordinates, moved_in, neighbour, opposite, is_plus, product, three_coordinates, is_radix, nodes, distance, distance_in, distance_of, shape_of, wraps_of}
+use Rattle.noc_topo.specs.Filled.{three_sizes}
 use Rattle.noc_topo.specs.Inside.{grid_of, IsSound}
 use Rattle.noc_topo.specs.declared.shape.Shape.TheInside.{Inside}
 use Rattle.noc_topo.specs.declared.shape.Kind.{Kind}
@@ -21,17 +21,17 @@ each_few P one two three (x ∷ y ∷ []) some few = two x y
 each_few P one two three (x ∷ y ∷ z ∷ []) some few = three x y z
 each_few P one two three (x ∷ y ∷ z ∷ u ∷ us) some few = absurd (omega arith)
 
-pub take-filled : (ks : List ℕ) → 1 ≤ length ks → length ks ≤ 3 → take (length ks) (filled ks) ≡ ks
-take-filled = each_few (λ ks. take (length ks) (filled ks) ≡ ks) (λ x. refl) (λ x y. refl) (λ x y z. refl)
+pub take-filled : (ks : List ℕ) → 1 ≤ length ks → length ks ≤ 3 → take (length ks) (three_sizes ks) ≡ ks
+take-filled = each_few (λ ks. take (length ks) (three_sizes ks) ≡ ks) (λ x. refl) (λ x y. refl) (λ x y z. refl)
 
-pub length-filled : (ks : List ℕ) → length (filled ks) ≡ 3
+pub length-filled : (ks : List ℕ) → length (three_sizes ks) ≡ 3
 length-filled [] = refl
 length-filled (x ∷ []) = refl
 length-filled (x ∷ y ∷ []) = refl
 length-filled (x ∷ y ∷ z ∷ us) = refl
 
-pub product-filled : (ks : List ℕ) → 1 ≤ length ks → length ks ≤ 3 → product (filled ks) ≡ product ks
-product-filled = each_few (λ ks. product (filled ks) ≡ product ks) (λ x. refl) (λ x y. refl) (λ x y z. refl)
+pub product-filled : (ks : List ℕ) → 1 ≤ length ks → length ks ≤ 3 → product (three_sizes ks) ≡ product ks
+product-filled = each_few (λ ks. product (three_sizes ks) ≡ product ks) (λ x. refl) (λ x y. refl) (λ x y z. refl)
 
 -- a fact of each index of three
 pub each_of_three : (Q : ℕ → Type 0) → Q 0 → Q 1 → Q 2 → (i : ℕ) → i < 3 → Q i
@@ -51,9 +51,9 @@ one_is : IsSize 1
 one_is = (omega arith, omega arith)
 
 -- each of the three sizes is 1 to 16
-pub filled-sizes : (ks : List ℕ) → 1 ≤ length ks → length ks ≤ 3 → list_all is_radix ks ≡ true → (i : ℕ) → i < 3 → IsSize (get_or (filled ks) i 0)
+pub filled-sizes : (ks : List ℕ) → 1 ≤ length ks → length ks ≤ 3 → list_all is_radix ks ≡ true → (i : ℕ) → i < 3 → IsSize (get_or (three_sizes ks) i 0)
 filled-sizes =
-    each_few (λ ks. list_all is_radix ks ≡ true → (i : ℕ) → i < 3 → IsSize (get_or (filled ks) i 0))
+    each_few (λ ks. list_all is_radix ks ≡ true → (i : ℕ) → i < 3 → IsSize (get_or (three_sizes ks) i 0))
     (λ x e. let first = and_parts (is_radix x) true e in each_of_three (λ i. IsSize (get_or (x ∷ 1 ∷ 1 ∷ []) i 0)) (is_radix-size x first.0) one_is one_is)
     (λ x y e. let first = and_parts (is_radix x) (is_radix y && true) e in let second = and_parts (is_radix y) true first.1 in
     each_of_three (λ i. IsSize (get_or (x ∷ y ∷ 1 ∷ []) i 0)) (is_radix-size x first.0) (is_radix-size y second.0) one_is)
@@ -69,9 +69,9 @@ three-items (x ∷ y ∷ []) e = absurd (omega (arith, e))
 three-items (x ∷ y ∷ z ∷ []) e = refl
 three-items (x ∷ y ∷ z ∷ u ∷ us) e = absurd (omega (arith, e))
 
-pub coordinates-filled : (ks : List ℕ) → 1 ≤ length ks → length ks ≤ 3 → (node : ℕ) → coordinates (filled ks) node ≡ padded (coordinates ks node)
+pub coordinates-filled : (ks : List ℕ) → 1 ≤ length ks → length ks ≤ 3 → (node : ℕ) → coordinates (three_sizes ks) node ≡ three_coordinates (coordinates ks node)
 coordinates-filled =
-    each_few (λ ks. (node : ℕ) → coordinates (filled ks) node ≡ padded (coordinates ks node))
+    each_few (λ ks. (node : ℕ) → coordinates (three_sizes ks) node ≡ three_coordinates (coordinates ks node))
     (λ x node. simp mod-one) (λ x y node. simp mod-one) (λ x y z node. refl)
 
 distance_in-missing : (wraps : Bool) → distance_in wraps 1 0 0 ≡ 0
@@ -83,14 +83,14 @@ abbrev distance_at : Bool → List ℕ → ℕ → ℕ → ℕ → ℕ
 distance_at wraps ks a b i = distance_in wraps (get_or ks i 0) (get_or (coordinates ks a) i 0) (get_or (coordinates ks b) i 0)
 
 pub distance_of-filled : (wraps : Bool) (ks : List ℕ) → 1 ≤ length ks → length ks ≤ 3 → (a b : ℕ)
-    → distance_at wraps (filled ks) a b 0 + distance_at wraps (filled ks) a b 1 + distance_at wraps (filled ks) a b 2 ≡ distance_of wraps ks (coordinates ks a) (coordinates ks b)
+    → distance_at wraps (three_sizes ks) a b 0 + distance_at wraps (three_sizes ks) a b 1 + distance_at wraps (three_sizes ks) a b 2 ≡ distance_of wraps ks (coordinates ks a) (coordinates ks b)
 distance_of-filled wraps =
-    each_few (λ ks. (a b : ℕ) → distance_at wraps (filled ks) a b 0 + distance_at wraps (filled ks) a b 1 + distance_at wraps (filled ks) a b 2 ≡ distance_of wraps ks (coordinates ks a) (coordinates ks b))
+    each_few (λ ks. (a b : ℕ) → distance_at wraps (three_sizes ks) a b 0 + distance_at wraps (three_sizes ks) a b 1 + distance_at wraps (three_sizes ks) a b 2 ≡ distance_of wraps ks (coordinates ks a) (coordinates ks b))
     (λ x a b. simp (mod-one, distance_in-missing wraps) (omega arith))
     (λ x y a b. simp (mod-one, distance_in-missing wraps) (omega arith))
     (λ x y z a b. omega arith)
 
-pub get_or-filled : (ks : List ℕ) (i : ℕ) → i < length ks → length ks ≤ 3 → get_or (filled ks) i 0 ≡ get_or ks i 0
+pub get_or-filled : (ks : List ℕ) (i : ℕ) → i < length ks → length ks ≤ 3 → get_or (three_sizes ks) i 0 ≡ get_or ks i 0
 get_or-filled [] i l few = absurd (omega arith)
 get_or-filled (x ∷ []) zero l few = refl
 get_or-filled (x ∷ []) (suc i) l few = absurd (omega arith)
@@ -103,7 +103,7 @@ get_or-filled (x ∷ y ∷ z ∷ []) (suc (suc zero)) l few = refl
 get_or-filled (x ∷ y ∷ z ∷ []) (suc (suc (suc i))) l few = absurd (omega arith)
 get_or-filled (x ∷ y ∷ z ∷ u ∷ us) i l few = absurd (omega arith)
 
-pub coordinate-filled : (ks : List ℕ) (node i : ℕ) → i < length ks → length ks ≤ 3 → get_or (coordinates (filled ks) node) i 0 ≡ get_or (coordinates ks node) i 0
+pub coordinate-filled : (ks : List ℕ) (node i : ℕ) → i < length ks → length ks ≤ 3 → get_or (coordinates (three_sizes ks) node) i 0 ≡ get_or (coordinates ks node) i 0
 coordinate-filled [] node i l few = absurd (omega arith)
 coordinate-filled (x ∷ []) node zero l few = refl
 coordinate-filled (x ∷ []) node (suc i) l few = absurd (omega arith)
@@ -117,7 +117,7 @@ coordinate-filled (x ∷ y ∷ z ∷ []) node (suc (suc (suc i))) l few = absurd
 coordinate-filled (x ∷ y ∷ z ∷ u ∷ us) node i l few = absurd (omega arith)
 
 pub node_at-filled : (ks : List ℕ) (node i y : ℕ) → i < length ks → length ks ≤ 3
-    → node_at (filled ks) (slice_set (coordinates (filled ks) node) i y) ≡ node_at ks (slice_set (coordinates ks node) i y)
+    → node_at (three_sizes ks) (slice_set (coordinates (three_sizes ks) node) i y) ≡ node_at ks (slice_set (coordinates ks node) i y)
 node_at-filled [] node i v l few = absurd (omega arith)
 node_at-filled (x ∷ []) node zero v l few = simp mod-one (omega arith)
 node_at-filled (x ∷ []) node (suc i) v l few = absurd (omega arith)
@@ -135,10 +135,10 @@ node_at-filled (x ∷ y ∷ z ∷ u ∷ us) node i v l few = absurd (omega arith
 pub product-stored : (s : Inside) (g : Grid) → grid_of s ≡ g → IsSound s → product s.sizes ≡ nodes g
 product-stored s g e h = ap product (sym h.missing) ∙ product-filled (take s.count s.sizes) h.shape.some_dimensions h.shape.few_dimensions ∙ ap nodes e
 
-pub coordinates-stored : (s : Inside) (g : Grid) → grid_of s ≡ g → IsSound s → (node : ℕ) → coordinates s.sizes node ≡ padded (coordinates g.radix node)
+pub coordinates-stored : (s : Inside) (g : Grid) → grid_of s ≡ g → IsSound s → (node : ℕ) → coordinates s.sizes node ≡ three_coordinates (coordinates g.radix node)
 coordinates-stored s g e h node =
     ap (λ ks. coordinates ks node) (sym h.missing) ∙ coordinates-filled (take s.count s.sizes) h.shape.some_dimensions h.shape.few_dimensions node
-    ∙ ap (λ (g : Grid). padded (coordinates g.radix node)) e
+    ∙ ap (λ (g : Grid). three_coordinates (coordinates g.radix node)) e
 
 pub distance-stored : (s : Inside) (g : Grid) → grid_of s ≡ g → IsSound s → (a b : ℕ)
     → distance_at s.wraps s.sizes a b 0 + distance_at s.wraps s.sizes a b 1 + distance_at s.wraps s.sizes a b 2 ≡ distance g a b
@@ -157,7 +157,7 @@ abbrev stepped : Bool → List ℕ → ℕ → ℕ → Option (ℕ × ℕ)
 stepped wraps ks node port =
     option_map (λ x. (node_at ks (slice_set (coordinates ks node) (port / 2) x), opposite port)) (moved_in wraps (get_or ks (port / 2) 0) (is_plus port) (get_or (coordinates ks node) (port / 2) 0))
 
-stepped-filled : (wraps : Bool) (ks : List ℕ) (node port : ℕ) → port / 2 < length ks → length ks ≤ 3 → stepped wraps (filled ks) node port ≡ stepped wraps ks node port
+stepped-filled : (wraps : Bool) (ks : List ℕ) (node port : ℕ) → port / 2 < length ks → length ks ≤ 3 → stepped wraps (three_sizes ks) node port ≡ stepped wraps ks node port
 stepped-filled wraps ks node port l few =
     rw (get_or-filled ks (port / 2) l few, coordinate-filled ks node (port / 2) l few)
     (ap (λ (f : ℕ → ℕ). option_map (λ x. (f x, opposite port)) (moved_in wraps (get_or ks (port / 2) 0) (is_plus port) (get_or (coordinates ks node) (port / 2) 0)))
@@ -190,7 +190,7 @@ coordinate-below (x ∷ y ∷ z ∷ u ∷ us) node i e l sizes = absurd (omega (
 pub length-stored : (s : Inside) → IsSound s → length s.sizes ≡ 3
 length-stored s h = ap length (sym h.missing) ∙ length-filled (take s.count s.sizes)
 
--- .. of the stored shape
+-- a node's coordinate of the stored shape is below the size
 pub split-below : (s : Inside) (xs : List ℕ) (node i : ℕ) → IsSound s → xs ≡ coordinates s.sizes node → i < 3 → get_or xs i 0 < get_or s.sizes i 0
 split-below s xs node i h e l = rw e (coordinate-below s.sizes node i (length-stored s h) l (sizes-stored s h))
 
@@ -243,11 +243,11 @@ shape_of-many kind ks some few sizes large =
     rw (a, b, sizes, c)
 
 pub IsSound-filled : (wraps : Bool) (ks : List ℕ) → 1 ≤ length ks → length ks ≤ 3 → list_all is_radix ks ≡ true → product ks ≤ 256
-    → IsSound (record { wraps = wraps; sizes = filled ks; count = length ks })
+    → IsSound (record { wraps = wraps; sizes = three_sizes ks; count = length ks })
 IsSound-filled wraps ks some few sizes small =
-    let back : take (length ks) (filled ks) ≡ ks = take-filled ks some few in
+    let back : take (length ks) (three_sizes ks) ≡ ks = take-filled ks some few in
     record {
       fits = omega (arith, length-filled ks);
-      missing = ap filled back;
+      missing = ap three_sizes back;
       shape = record { some_dimensions = rw back some; few_dimensions = rw back few; sizes = rw back sizes; few_nodes = rw back small };
     }

@@ -2,5 +2,5 @@
 use Rattle.std.specs.Prelude.{List, [], ◌∷◌, ◌++◌, ℕ, take}
 
 -- the sizes of all three dimensions, 1 where one is missing
-abbrev pub filled : List ℕ → List ℕ
-filled ks = take 3 (ks ++ 1 ∷ 1 ∷ 1 ∷ [])
+abbrev pub three_sizes : List ℕ → List ℕ
+three_sizes ks = take 3 (ks ++ 1 ∷ 1 ∷ 1 ∷ [])

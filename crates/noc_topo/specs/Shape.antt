@@ -64,8 +64,8 @@ coordinates [] node = []
 coordinates (k ∷ ks) node = (node % k) ∷ coordinates ks (node / k)
 
 -- three coordinates, 0 where a dimension is missing
-abbrev pub padded : List ℕ → List ℕ
-padded xs = slice_index xs 0 ∷ slice_index xs 1 ∷ slice_index xs 2 ∷ []
+abbrev pub three_coordinates : List ℕ → List ℕ
+three_coordinates xs = slice_index xs 0 ∷ slice_index xs 1 ∷ slice_index xs 2 ∷ []
 
 abbrev pub is_plus : ℕ → Bool
 is_plus port = nat_eq (port % 2) 0

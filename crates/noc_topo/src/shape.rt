@@ -1,7 +1,7 @@
 //! The shape of a network: a mesh or a torus of one to three dimensions.
 
 ghost use Rattle.std.specs.Prelude.{◌≡◌, ℕ, ◌+◌, ◌<◌, ◌≤◌, IfOk, IfSome, EachIndex, slice_index};
-ghost use Rattle.noc_topo.specs.Shape.{Grid, IsGrid, IsLinkBack, shape_of, wraps_of, nodes, dimensions, ports, local_port, padded, coordinates, distance, neighbour};
+ghost use Rattle.noc_topo.specs.Shape.{Grid, IsGrid, IsLinkBack, shape_of, wraps_of, nodes, dimensions, ports, local_port, three_coordinates, coordinates, distance, neighbour};
 
 use crate::axis;
 use crate::limits::{MAX_DIMENSIONS, MAX_DISTANCE, MAX_NODES, MAX_PORTS, MAX_RADIX};
@@ -47,7 +47,7 @@ impl Model for Shape {
     ghost inverse = { shape_with };
 }
 
-/// Whether the ends of a dimension are joined.
+// Whether the ends of a dimension are joined.
 fn are_joined(kind: Kind) -> bool
     ensures { result ≡ wraps_of kind }
 {
@@ -134,7 +134,7 @@ impl Shape {
     /// The coordinates of a node, lowest dimension first, 0 where a dimension is missing.
     pub fn coordinates(&self, node: usize) -> [usize; 3]
         requires { node < nodes self.now }
-        ensures value { result ≡ padded (coordinates self.now.radix node) }
+        ensures value { result ≡ three_coordinates (coordinates self.now.radix node) }
         ensures range { EachIndex result (λ i. slice_index result i < MAX_RADIX) }
         ensures grid { IsGrid self.now }
     {

@@ -65,17 +65,17 @@ abbrev pub fits : Routes → ℕ → ℕ → ℕ → ℕ → List Flit → Input
 fits g router port vc places flits input f = nat_lt (length flits) places && is_expected g router port vc flits input f input.phase
 
 -- an input channel after a flit has landed
-abbrev pub landed : Input → Flit → Input
-landed input f = record input { packet = Some f.packet; awaited = next_of f }
+abbrev pub input_after_land : Input → Flit → Input
+input_after_land input f = record input { packet = Some f.packet; awaited = next_of f }
 
--- .. after its head was given the set of output channels
-abbrev pub routed : Input → ℕ → Input
-routed input set = record input { phase = Waiting set }
+-- an input channel after its head was given the set of output channels
+abbrev pub input_after_route : Input → ℕ → Input
+input_after_route input set = record input { phase = Waiting set }
 
--- .. after its packet was granted an output channel
-abbrev pub granted : Input → ℕ → Input
-granted input o = record input { phase = Active o }
+-- an input channel after its packet was granted an output channel
+abbrev pub input_after_grant : Input → ℕ → Input
+input_after_grant input o = record input { phase = Active o }
 
--- .. after it has sent a flit
-abbrev pub sent : Input → Flit → Input
-sent input f = if f.last then idle_input else input
+-- an input channel after it has sent a flit
+abbrev pub input_after_send : Input → Flit → Input
+input_after_send input f = if f.last then idle_input else input

@@ -46,13 +46,13 @@ holder_at places count Free = Free
 holder_at places count (Owned i p) = Owned i p
 holder_at places count Draining = if nat_eq count places then Free else Draining
 
-abbrev pub credited_at : Output → Option ℕ → Output
-credited_at output None = output
-credited_at output (Some n) = record output { holder = holder_at output.places (n + 1) output.holder; credit = Some (n + 1) }
+abbrev pub output_with_credit : Output → Option ℕ → Output
+output_with_credit output None = output
+output_with_credit output (Some n) = record output { holder = holder_at output.places (n + 1) output.holder; credit = Some (n + 1) }
 
 -- an output channel after a credit has come
-abbrev pub credited : Output → Output
-credited output = credited_at output output.credit
+abbrev pub output_after_credit : Output → Output
+output_after_credit output = output_with_credit output output.credit
 
 abbrev pub has_credit_at : Option ℕ → Bool
 has_credit_at None = true
@@ -62,18 +62,18 @@ has_credit_at (Some n) = nat_lt 0 n
 abbrev pub has_credit : Output → Bool
 has_credit output = has_credit_at output.credit
 
--- .. after it was granted to a packet that waits on an input channel
-abbrev pub held : Output → ℕ → ℕ → Output
-held output input packet = record output { holder = Owned input packet }
+-- an output channel after it was granted to a packet that waits on an input channel
+abbrev pub output_after_hold : Output → ℕ → ℕ → Output
+output_after_hold output input packet = record output { holder = Owned input packet }
 
--- .. after its packet has left
-abbrev pub released : Output → Output
-released output = record output { holder = Free }
+-- an output channel after its packet has left
+abbrev pub output_after_release : Output → Output
+output_after_release output = record output { holder = Free }
 
-abbrev pub spent_at : Bool → Output → Option ℕ → Output
-spent_at last output None = if last then released output else output
-spent_at last output (Some n) = record output { holder = if last then Draining else output.holder; credit = Some (n - 1) }
+abbrev pub output_without_credit : Bool → Output → Option ℕ → Output
+output_without_credit last output None = if last then output_after_release output else output
+output_without_credit last output (Some n) = record output { holder = if last then Draining else output.holder; credit = Some (n - 1) }
 
--- .. after a flit has left by it, the tail or another
-abbrev pub spent : Bool → Output → Output
-spent last output = spent_at last output output.credit
+-- an output channel after a flit has left by it, the tail or another
+abbrev pub output_after_spend : Bool → Output → Output
+output_after_spend last output = output_without_credit last output output.credit

@@ -6,8 +6,8 @@
 
 ghost use Rattle.std.specs.Prelude.{◌≡◌, ◌⊎◌, ◌<◌, ◌∷◌, IsTrue, IsSome, length, is_ok, true, if◌then◌else◌};
 ghost use Rattle.noc_topo.specs.Shape.{nodes, ports};
-ghost use Rattle.noc_ring.specs.Rings.{ring_at, pushed, popped};
-ghost use Rattle.noc_vc.specs.Input.{idle_input, is_idle_phase, is_waiting, is_active, is_awaited, next_of, is_expected, may_begin, fits, landed, routed, granted, sent, IsInput};
+ghost use Rattle.noc_ring.specs.Buffers.{buffer_at, buffers_after_push, buffers_after_pop};
+ghost use Rattle.noc_vc.specs.Input.{idle_input, is_idle_phase, is_waiting, is_active, is_awaited, next_of, is_expected, may_begin, fits, input_after_land, input_after_route, input_after_grant, input_after_send, IsInput};
 
 use crate::misfit::Misfit;
 use noc_packet::{ChannelSet, Flit, MAX_LENGTH};
@@ -55,7 +55,7 @@ impl Model for InputChannel {
     ghost inverse = { λ input. record { state = input.phase; packet = input.packet; awaited = input.awaited } };
 }
 
-/// Whether a flit is a head that may begin on this channel of the router.
+// Whether a flit is a head that may begin on this channel of the router.
 fn may_begin(relation: &Relation, router: usize, port: usize, vc: usize, flit: &Flit) -> bool
     requires router { router < nodes relation.now.grid }
     requires port { port < ports relation.now.grid }
@@ -70,7 +70,7 @@ fn may_begin(relation: &Relation, router: usize, port: usize, vc: usize, flit: &
         && !relation.permitted(class, router, port, vc, dst).is_empty()
 }
 
-/// Whether a flit is the one that is awaited.
+// Whether a flit is the one that is awaited.
 fn is_awaited(flit: &Flit, awaited: &Awaited) -> bool
     ensures { result ≡ is_awaited flit.now (Some awaited.now) }
 {
@@ -81,7 +81,7 @@ fn is_awaited(flit: &Flit, awaited: &Awaited) -> bool
         && (flit.index as u32) < MAX_LENGTH
 }
 
-/// The flit behind a flit in its packet; None behind the tail.
+// The flit behind a flit in its packet; None behind the tail.
 fn next_of(flit: &Flit) -> Option<Awaited>
     ensures { result ≡ next_of flit.now }
 {
@@ -124,7 +124,7 @@ impl InputChannel {
         self.packet
     }
 
-    /// Whether the flit is the one that this channel expects next.
+    // Whether the flit is the one that this channel expects next.
     fn expects(
         &self,
         bank: &Bank,
@@ -139,7 +139,7 @@ impl InputChannel {
         requires router { router < nodes relation.now.grid }
         requires port { port < ports relation.now.grid }
         requires vc { vc < relation.now.vcs }
-        ensures { result ≡ is_expected relation.now router port vc (ring_at bank.now ring) self.now flit.now self.now.phase }
+        ensures { result ≡ is_expected relation.now router port vc (buffer_at bank.now ring) self.now flit.now self.now.phase }
     {
         if let InputState::Idle = self.state {
             return bank.len(ring) == 0 && may_begin(relation, router, port, vc, flit);
@@ -154,9 +154,9 @@ impl InputChannel {
     /// flits of a packet in order.
     pub fn inject(&mut self, bank: &mut Bank, ring: usize, flit: Flit)
         requires ring { ring < length bank.old.rings }
-        requires room { length (ring_at bank.old ring) < bank.old.capacity }
-        ensures channel { self.new ≡ landed self.old flit }
-        ensures bank { bank.new ≡ pushed bank.old ring flit }
+        requires room { length (buffer_at bank.old ring) < bank.old.capacity }
+        ensures channel { self.new ≡ input_after_land self.old flit }
+        ensures bank { bank.new ≡ buffers_after_push bank.old ring flit }
     {
         bank.push(ring, flit);
         self.begin(&flit);
@@ -164,7 +164,7 @@ impl InputChannel {
 
     // A flit has landed, whichever it is.
     fn begin(&mut self, flit: &Flit)
-        ensures { self.new ≡ landed self.old flit.now }
+        ensures { self.new ≡ input_after_land self.old flit.now }
     {
         self.packet = Some(flit.packet);
         self.awaited = next_of(flit);
@@ -173,7 +173,7 @@ impl InputChannel {
     // A flit has landed: a head in an idle channel, or the one that was awaited.
     fn follow(&mut self, flit: &Flit)
         requires { is_idle_phase self.old.phase ≡ true ⊎ is_awaited flit.now self.old.awaited ≡ true }
-        ensures { self.new ≡ landed self.old flit.now }
+        ensures { self.new ≡ input_after_land self.old flit.now }
     {
         if let InputState::Idle = self.state {
             self.begin(flit);
@@ -205,9 +205,9 @@ impl InputChannel {
         requires router { router < nodes relation.now.grid }
         requires port { port < ports relation.now.grid }
         requires vc { vc < relation.now.vcs }
-        ensures fits { is_ok result ≡ fits relation.now router port vc bank.old.capacity (ring_at bank.old ring) self.old flit }
-        ensures channel { self.new ≡ (if is_ok result then landed self.old flit else self.old) }
-        ensures bank { bank.new ≡ (if is_ok result then pushed bank.old ring flit else bank.old) }
+        ensures fits { is_ok result ≡ fits relation.now router port vc bank.old.capacity (buffer_at bank.old ring) self.old flit }
+        ensures channel { self.new ≡ (if is_ok result then input_after_land self.old flit else self.old) }
+        ensures bank { bank.new ≡ (if is_ok result then buffers_after_push bank.old ring flit else bank.old) }
     {
         self.land_from(bank, ring, relation, router, port, vc, &flit)
     }
@@ -227,9 +227,9 @@ impl InputChannel {
         requires router { router < nodes relation.now.grid }
         requires port { port < ports relation.now.grid }
         requires vc { vc < relation.now.vcs }
-        ensures fits { is_ok result ≡ fits relation.now router port vc bank.old.capacity (ring_at bank.old ring) self.old flit.now }
-        ensures channel { self.new ≡ (if is_ok result then landed self.old flit.now else self.old) }
-        ensures bank { bank.new ≡ (if is_ok result then pushed bank.old ring flit.now else bank.old) }
+        ensures fits { is_ok result ≡ fits relation.now router port vc bank.old.capacity (buffer_at bank.old ring) self.old flit.now }
+        ensures channel { self.new ≡ (if is_ok result then input_after_land self.old flit.now else self.old) }
+        ensures bank { bank.new ≡ (if is_ok result then buffers_after_push bank.old ring flit.now else bank.old) }
     {
         if bank.is_full(ring) || !self.expects(bank, ring, relation, router, port, vc, flit) {
             return Err(Misfit);
@@ -243,7 +243,7 @@ impl InputChannel {
     pub fn route(&mut self, set: ChannelSet)
         requires idle { self.old.phase ≡ InputState.Idle }
         requires head { IsSome self.old.packet }
-        ensures { self.new ≡ routed self.old set }
+        ensures { self.new ≡ input_after_route self.old set }
     {
         self.state = InputState::Waiting(set);
     }
@@ -251,7 +251,7 @@ impl InputChannel {
     /// The waiting packet owns the output channel with this index.
     pub fn grant(&mut self, output: usize)
         requires { IsTrue (is_waiting self.old.phase) }
-        ensures { self.new ≡ granted self.old output }
+        ensures { self.new ≡ input_after_grant self.old output }
     {
         self.state = InputState::Active(output);
     }
@@ -261,10 +261,10 @@ impl InputChannel {
     pub fn send(&mut self, bank: &mut Bank, ring: usize) -> Flit
         requires active { IsTrue (is_active self.old.phase) }
         requires ring { ring < length bank.old.rings }
-        requires some { 0 < length (ring_at bank.old ring) }
-        ensures first { ring_at bank.old ring ≡ result ∷ ring_at bank.new ring }
-        ensures channel { self.new ≡ sent self.old result }
-        ensures bank { bank.new ≡ popped bank.old ring }
+        requires some { 0 < length (buffer_at bank.old ring) }
+        ensures first { buffer_at bank.old ring ≡ result ∷ buffer_at bank.new ring }
+        ensures channel { self.new ≡ input_after_send self.old result }
+        ensures bank { bank.new ≡ buffers_after_pop bank.old ring }
     {
         let flit = bank.pop(ring);
         if flit.last {

@@ -1,7 +1,7 @@
 //! Output virtual channels and their credits (Dally and Towles, chapters 13 and 16).
 
 ghost use Rattle.std.specs.Prelude.{◌≡◌, ◌<◌, ◌≤◌, IsTrue, IfSome, IsSomeAnd, IsNone, is_ok, if◌then◌else◌};
-ghost use Rattle.noc_vc.specs.Output.{link_output, ejection_output, is_owned, credit_fits, credited, held, spent, released, IsOutput};
+ghost use Rattle.noc_vc.specs.Output.{link_output, ejection_output, is_owned, credit_fits, output_after_credit, output_after_hold, output_after_spend, output_after_release, IsOutput};
 
 use crate::misfit::Misfit;
 use noc_packet::MAX_BUFFER;
@@ -88,7 +88,7 @@ impl OutputChannel {
     /// that comes to an ejection channel, is a misfit and changes nothing (Dally and Towles, chapter 13).
     pub fn credit_back(&mut self) -> Result<(), Misfit>
         ensures fits { is_ok result ≡ credit_fits self.old }
-        ensures channel { self.new ≡ (if is_ok result then credited self.old else self.old) }
+        ensures channel { self.new ≡ (if is_ok result then output_after_credit self.old else self.old) }
     {
         let Some(count) = self.credit else {
             return Err(Misfit);
@@ -106,7 +106,7 @@ impl OutputChannel {
     /// The idle channel goes to the packet with this number, from the input channel with this index.
     pub fn hold(&mut self, input: usize, packet: u32)
         requires { self.old.holder ≡ OutputState.Idle }
-        ensures { self.new ≡ held self.old input packet }
+        ensures { self.new ≡ output_after_hold self.old input packet }
     {
         self.state = OutputState::Owned(input, packet);
     }
@@ -115,7 +115,7 @@ impl OutputChannel {
     pub fn spend(&mut self, last: bool)
         requires owned { IsTrue (is_owned self.old.holder) }
         requires credit { IsSomeAnd self.old.credit (λ count. 0 < count) }
-        ensures { self.new ≡ spent last self.old }
+        ensures { self.new ≡ output_after_spend last self.old }
     {
         if let Some(count) = self.credit {
             self.credit = Some(count - 1);
@@ -129,7 +129,7 @@ impl OutputChannel {
     pub fn release(&mut self)
         requires owned { IsTrue (is_owned self.old.holder) }
         requires ejection { IsNone self.old.credit }
-        ensures { self.new ≡ released self.old }
+        ensures { self.new ≡ output_after_release self.old }
     {
         self.state = OutputState::Idle;
     }

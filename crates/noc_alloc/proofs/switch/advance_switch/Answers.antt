@@ -2,7 +2,7 @@ use Rattle.std.proofs.Common.{◌≡◌, ◌<◌, ◌+◌, None, get_or, length,
 use Rattle.std.specs.Prelude.{if◌then◌else◌}
 use Rattle.std.proofs.lemmas.Bool.{le-ltb}
 use Rattle.std.proofs.lemmas.List.{get_or_default, take_all}
-use Rattle.noc_alloc.specs.Arbiter.{Turn, turned, turn_at}
+use Rattle.noc_alloc.specs.Arbiter.{RoundRobin, arbiter_after, arbiter_at}
 use Rattle.noc_alloc.specs.Allocation.{winning_pick}
 use Rattle.noc_alloc.proofs.WordLemmas.{map_indexed-from_each}
 use Rattle.noc_alloc.proofs.SwitchLemmas.{AllTurned, moved-by_requests, turned-more, turned_below-all, turned_below-more, turned_by-sizes}
@@ -17,18 +17,18 @@ loop-output-preserved c =
           (turned-more c.args.inputs.now c.loop-output.inputs c.args.picks.now c.args.wins.now k (get_or c.args.wins.now k None) refl l c.loop-output.auto.inputs (c.requires.winners k None l) c.loop-output.invariant.inputs);
       outputs = turned_below-more c.args.outputs.now c.loop-output.outputs c.args.wins.now k c.advance.new.self (omega (arith, l, c.requires.wins, c.loop-output.auto.outputs))
           (c.advance.ensures
-          ∙ ap (λ (t : Turn). turned t (get_or c.args.wins.now k None))
+          ∙ ap (λ (t : RoundRobin). arbiter_after t (get_or c.args.wins.now k None))
           (get_or_default c.loop-output.outputs k c.index-outputs-output.result (record { size = 0; pointer = 0 }) (omega (arith, l, c.requires.wins, c.loop-output.auto.outputs))
-          ∙ c.loop-output.invariant.outputs k ∙ ap (λ b. if b then turned (turn_at c.args.outputs.now k) (get_or c.args.wins.now k None) else turn_at c.args.outputs.now k) (le-ltb k k (omega arith))))
+          ∙ c.loop-output.invariant.outputs k ∙ ap (λ b. if b then arbiter_after (arbiter_at c.args.outputs.now k) (get_or c.args.wins.now k None) else arbiter_at c.args.outputs.now k) (le-ltb k k (omega arith))))
           c.loop-output.invariant.outputs;
     }
 
 pub returns-clause-inputs : goal.returns-clause-inputs
 returns-clause-inputs c =
     let n : c.loop-output.output ≡ length c.args.wins.now = omega arith in
-    map_indexed-from_each (λ i (t : Turn). turned t (winning_pick c.args.picks.now c.args.wins.now i)) c.args.inputs.now c.loop-output.inputs (record { size = 0; pointer = 0 }) (record { size = 0; pointer = 0 })
+    map_indexed-from_each (λ i (t : RoundRobin). arbiter_after t (winning_pick c.args.picks.now c.args.wins.now i)) c.args.inputs.now c.loop-output.inputs (record { size = 0; pointer = 0 }) (record { size = 0; pointer = 0 })
     c.loop-output.auto.inputs
-    (λ k l. subst (λ ws. turn_at c.loop-output.inputs k ≡ turned (turn_at c.args.inputs.now k) (winning_pick c.args.picks.now ws k)) (take_all c.loop-output.output c.args.wins.now (omega arith))
+    (λ k l. subst (λ ws. arbiter_at c.loop-output.inputs k ≡ arbiter_after (arbiter_at c.args.inputs.now k) (winning_pick c.args.picks.now ws k)) (take_all c.loop-output.output c.args.wins.now (omega arith))
     (c.loop-output.invariant.inputs k l))
 
 pub returns-clause-by_requests : goal.returns-clause-by_requests

@@ -1,7 +1,7 @@
 use Rattle.std.proofs.Common.{◌≡◌, ap, sym, subst}
 use Rattle.noc_files.specs.Writing.{Wrote}
-use Rattle.noc_requests.specs.Asked.{Asked, ReadsAs, as_files, asked_of, files_of, is_joined}
-use Rattle.noc_requests.specs.Outcome.{Ends}
+use Rattle.noc_requests.specs.Asked.{Asked, ReadsAs, as_files, lent_files, files_of, is_joined}
+use Rattle.noc_requests.specs.Ending.{Ends}
 use Rattle.noc_requests.specs.declared.request.Command.{Command}
 use Rattle.noc_answers.specs.Answer.{Asks, AsksFor, FirstFault, TextsFault, in_texts}
 use Rattle.noc_answers.specs.Run.{workers_of}
@@ -12,7 +12,7 @@ use Rattle.noc_answers.proofs.answers.answer.Goals as goal
 pub returns-in-Run-clause-ends : goal.returns-in-Run-clause-ends
 returns-in-Run-clause-ends g c =
     let r = c.args.request.now in
-    let a = asked_of c.files_of.result in
+    let a = lent_files c.files_of.result in
     let same : a ≡ files_of r = c.files_of.ensures in
     let command : a.command ≡ r.command = ap (λ (z : Asked). z.command) same in
     let reads : ReadsAs r a = subst (ReadsAs r) (sym same) (as_files (ap is_joined c.in-Run.is)) in

@@ -1,7 +1,7 @@
 use Rattle.std.proofs.Common.{◌≡◌, ℕ, subst}
 use Rattle.noc_files.specs.Writing.{Wrote}
-use Rattle.noc_requests.specs.Asked.{asked_of}
-use Rattle.noc_requests.specs.Outcome.{Ends}
+use Rattle.noc_requests.specs.Asked.{lent_files}
+use Rattle.noc_requests.specs.Ending.{Ends}
 use Rattle.noc_answers.specs.Answer.{Asks, AsksFor, FirstFault, TextsFault, in_texts}
 use Rattle.noc_answers.specs.Run.{workers_of}
 use Rattle.noc_requests.proofs.OutcomeFacts.{ends_more}
@@ -12,7 +12,7 @@ use Rattle.noc_answers.proofs.answers.answer_one.Goals as goal
 pub returns-clause-ends : goal.returns-clause-ends
 returns-clause-ends g c =
     let r = c.args.request.now in
-    let a = asked_of c.in_ok-files.files in
+    let a = lent_files c.in_ok-files.files in
     let written = Wrote g.W.Sink.contents g.W.Sink.has_failed c.args.sink.now c.answer_files.new.sink in
     let E : ℕ → Type 0 = λ n. Ends n written (c.answer_files.new.sink ≡ c.args.sink.now) (AsksFor a) (TextsFault a) c.answer_files.result in
     ends_more (workers_of r.command) written (c.answer_files.new.sink ≡ c.args.sink.now) (AsksFor a) (TextsFault a) (Asks r) (FirstFault r) c.answer_files.result

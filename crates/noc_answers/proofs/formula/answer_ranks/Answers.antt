@@ -3,7 +3,7 @@ use Rattle.std.proofs.lemmas.Result.{err_from_is_err_and}
 use Rattle.noc_files.specs.Configuration.{settings}
 use Rattle.noc_files.specs.Ranks.{ranks_text}
 use Rattle.noc_files.specs.Writing.{Wrote}
-use Rattle.noc_requests.specs.Asked.{asked_of}
+use Rattle.noc_requests.specs.Asked.{lent_files}
 use Rattle.noc_requests.specs.Settings.{SettingsFault}
 use Rattle.noc_requests.specs.declared.status.Status.TheVariants.{Done}
 use Rattle.noc_answers.specs.Answer.{AsksFor, TextsFault, in_formula, in_settings, ranks}
@@ -14,7 +14,7 @@ use Rattle.noc_answers.proofs.formula.answer_ranks.Goals as goal
 
 pub returns-in_err-config : goal.returns-in_err-config
 returns-in_err-config g c =
-    let a = asked_of c.args.files.now in
+    let a = lent_files c.args.files.now in
     let p = err_from_is_err_and c.from_residual.result c.from_residual.ensures.1 in
     rw (p.1, p.2) (ends_refused (workers_of c.args.files.now.command) (Wrote g.W.Sink.contents g.W.Sink.has_failed c.args.sink.now c.args.sink.now) (c.args.sink.now ≡ c.args.sink.now) (AsksFor a) (TextsFault a) _ refl
     (refuses_more (SettingsFault a) (TextsFault a) _ (λ first. in_settings first) c.in_err-config.ensures.fault))

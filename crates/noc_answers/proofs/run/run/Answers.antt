@@ -1,6 +1,6 @@
 use Rattle.std.proofs.Common.{◌≡◌}
 use Rattle.noc_files.specs.Writing.{Wrote}
-use Rattle.noc_requests.specs.Asked.{asked_of}
+use Rattle.noc_requests.specs.Asked.{lent_files}
 use Rattle.noc_answers.specs.Answer.{AsksFor, TextsFault, a_report}
 use Rattle.noc_answers.specs.Reports.{report_text}
 use Rattle.noc_answers.specs.Run.{AsksForRun, ending, workers_of}
@@ -10,7 +10,7 @@ use Rattle.noc_answers.proofs.run.run.Goals as goal
 
 pub returns : goal.returns
 returns g c =
-    let a = asked_of c.args.files.now in
+    let a = lent_files c.args.files.now in
     let net = c.run_to_end.new.network in
     let asks : AsksForRun a net = ran a c.args.drain c.in_ok-network.network net c.in_ok-network.cycles c.requires.drain c.in_ok-network.ensures.run c.run_to_end.ensures.net c.run_to_end.ensures.end in
     ends_reported (workers_of c.args.files.now.command) (Wrote g.W.Sink.contents g.W.Sink.has_failed c.args.sink.now c.report_on.new.sink) (c.report_on.new.sink ≡ c.args.sink.now) (AsksFor a) (TextsFault a)

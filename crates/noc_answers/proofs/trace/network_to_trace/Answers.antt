@@ -7,8 +7,8 @@ use Rattle.noc_topo.specs.Shape.{Grid, nodes}
 use Rattle.noc_route.specs.Routes.{Routes}
 use Rattle.noc_files.specs.Configuration.{Settings, settings}
 use Rattle.noc_files.specs.declared.trace.Traced.{Traced}
-use Rattle.noc_requests.specs.Asked.{asked_of}
-use Rattle.noc_requests.specs.Options.{cycle_fault, early_fault, first_cycle, is_bad_span, last_cycle, late_fault, or_else, packet_fault, router_fault, table_fault}
+use Rattle.noc_requests.specs.Asked.{lent_files}
+use Rattle.noc_requests.specs.Options.{cycle_fault, early_fault, first_cycle, is_bad_span, last_cycle, late_fault, or_option_fault, packet_option_fault, router_fault, table_fault}
 use Rattle.noc_requests.specs.declared.fault.OptionFault.{OptionFault}
 use Rattle.noc_requests.specs.declared.fault.OptionFault.TheVariants.{BadCycle, BadRouter}
 use Rattle.noc_requests.specs.declared.request.Command.{Command}
@@ -17,19 +17,19 @@ use Rattle.noc_requests.specs.Settings.{SettingsFault}
 use Rattle.noc_answers.specs.Answer.{TextsFault, in_packets, in_settings, no_packet, runs}
 use Rattle.noc_answers.specs.Check.{Accepts, AsksForChecked, checked_by, checked_ranks}
 use Rattle.noc_answers.specs.Drain.{RunsTo}
-use Rattle.noc_answers.specs.Run.{PacketsFault, cycles_of, is_draining}
+use Rattle.noc_answers.specs.Run.{PacketsFault, cycles_asked, runs_until_out}
 use Rattle.noc_requests.proofs.OutcomeFacts.{refuses_more}
 use Rattle.noc_answers.proofs.trace.network_to_trace.Goals as goal
 
 pub returns-in_err-config-clause-fault : goal.returns-in_err-config-clause-fault
 returns-in_err-config-clause-fault c =
-    let a = asked_of c.args.files.now in
+    let a = lent_files c.args.files.now in
     let p = err_from_is_err_and c.from_residual.result c.from_residual.ensures.1 in
     rw (p.1, p.2) (refuses_more (SettingsFault a) (TextsFault a) _ (λ first. in_settings first) c.in_err-config.ensures.fault)
 
 pub returns-in_err-network-clause-fault : goal.returns-in_err-network-clause-fault
 returns-in_err-network-clause-fault c =
-    let a = asked_of c.args.files.now in
+    let a = lent_files c.args.files.now in
     let p = err_from_is_err_and c.from_residual-in_err-network.result c.from_residual-in_err-network.ensures.1 in
     let none : checked_ranks a ≡ None = ap (λ x. checked_by x a.ranks) c.requires in
     let checked : AsksForChecked a (settings c.in_ok-config.config) c.in_ok-config.relation = record {
@@ -44,7 +44,7 @@ span : (has : Bool) (s : Settings) (command : Command) (from to : Option ℕ) (t
 span has s command from to traced e none =
     passes (table_fault s.rule has) (is_bad_span (first_cycle from) (last_cycle to s.cycles) s.cycles) (subst (λ c. early_fault c has s ≡ None) e none)
   where
-    passes : (earlier : Option OptionFault) (bad : Bool) → or_else earlier (if bad then Some BadCycle else None) ≡ None → bad ≡ false
+    passes : (earlier : Option OptionFault) (bad : Bool) → or_option_fault earlier (if bad then Some BadCycle else None) ≡ None → bad ≡ false
     passes None true h = cc
     passes None false h = refl
     passes (Some fault) bad h = cc
@@ -60,17 +60,17 @@ there g (Some r) h = leb-false (nodes g) r (passes (nat_le (nodes g) r) h)
 
 pub returns-in-Some-clause-fault : goal.returns-in-Some-clause-fault
 returns-in-Some-clause-fault c =
-    let a = asked_of c.args.files.now in
+    let a = lent_files c.args.files.now in
     let none : checked_ranks a ≡ None = ap (λ x. checked_by x a.ranks) c.requires in
     let checked : AsksForChecked a (settings c.in_ok-config.config) c.in_ok-config.relation = record {
       relation = c.in_ok-config.ensures.relation;
       accepted = subst (λ t. IfSome t (Accepts c.in_ok-config.relation)) (sym none) tt;
     } in
-    (refl, no_packet checked c.in_ok-network.ensures.network (ap (packet_fault a.command) (sym c.packets.ensures.value) ∙ sym c.in-Some.ensures))
+    (refl, no_packet checked c.in_ok-network.ensures.network (ap (packet_option_fault a.command) (sym c.packets.ensures.value) ∙ sym c.in-Some.ensures))
 
 pub returns-clause-span : goal.returns-clause-span
 returns-clause-span c =
-    let a = asked_of c.args.files.now in
+    let a = lent_files c.args.files.now in
     span (is_some a.table) (settings c.in_ok-config.config) a.command c.args.from c.args.to c.args.traced c.requires c.in_ok-config.ensures.relation.shape.settings.options
 
 pub returns-clause-router : goal.returns-clause-router
@@ -81,11 +81,11 @@ returns-clause-router c =
     subst (λ (z : Grid). IfSome c.args.traced.router (λ r. r < nodes z)) (sym grid) (there asks.grid c.args.traced.router passed)
 
 pub returns-clause-packet : goal.returns-clause-packet
-returns-clause-packet c = ap (packet_fault c.args.files.now.command) (sym c.packets.ensures.value) ∙ sym c.in-None.ensures
+returns-clause-packet c = ap (packet_option_fault c.args.files.now.command) (sym c.packets.ensures.value) ∙ sym c.in-None.ensures
 
 pub returns-clause-run : goal.returns-clause-run
 returns-clause-run c =
-    let a = asked_of c.args.files.now in
+    let a = lent_files c.args.files.now in
     let s = settings c.in_ok-config.config in
     let none : checked_ranks a ≡ None = ap (λ x. checked_by x a.ranks) c.requires in
     let count : last_cycle c.args.to s.cycles + 1 ≡ last_cycle c.args.to s.cycles + 1 = refl in
@@ -97,5 +97,5 @@ returns-clause-run c =
         accepted = subst (λ t. IfSome t (Accepts c.in_ok-config.relation)) (sym none) tt;
       };
       network = c.in_ok-network.ensures.network;
-      cycles = subst (λ x. RunsTo (is_draining x) c.in_ok-network.network.net (cycles_of x s) (last_cycle c.args.to s.cycles + 1)) (sym c.requires) count;
+      cycles = subst (λ x. RunsTo (runs_until_out x) c.in_ok-network.network.net (cycles_asked x s) (last_cycle c.args.to s.cycles + 1)) (sym c.requires) count;
     }

@@ -5,7 +5,7 @@ use Rattle.noc_net.specs.Network.{Run, Setup}
 use Rattle.noc_files.specs.Trace.{trace_text}
 use Rattle.noc_files.specs.declared.trace.Traced.{Traced}
 use Rattle.noc_files.specs.Writing.{Wrote}
-use Rattle.noc_requests.specs.Asked.{asked_of}
+use Rattle.noc_requests.specs.Asked.{lent_files}
 use Rattle.noc_requests.specs.Options.{first_cycle, is_bad_span, last_cycle}
 use Rattle.noc_requests.specs.declared.status.Status.TheVariants.{Done}
 use Rattle.noc_answers.specs.Answer.{AsksFor, in_packets, runs, traces}
@@ -30,7 +30,7 @@ same_text u net first cycles end t traced same count ends as_asked =
     ap (λ (z : Setup). trace_text (record { net = z; count = u.count + cycles }) u.count t) same ∙ ap (λ k. trace_text (record { net = net; count = k + cycles }) k t) count
     ∙ ap (λ k. trace_text (record { net = net; count = k }) first t) ends ∙ ap (trace_text (record { net = net; count = end }) first) as_asked
 
--- .. that was asked for by a span
+-- the text of a run that was asked for by a span
 asked_text : (u : Run) (net : Setup) (from to : Option ℕ) (cycles opening first end : ℕ) (t traced : Traced) → is_bad_span (first_cycle from) (last_cycle to cycles) cycles ≡ false → opening ≡ 0
     → u.net ≡ net → u.count ≡ opening + first → first ≡ first_cycle from → end ≡ last_cycle to cycles → t ≡ traced
     → trace_text (record u { count = u.count + (end + 1 - first) }) u.count t ≡ trace_text (record { net = net; count = last_cycle to cycles + 1 }) (first_cycle from) traced
@@ -71,7 +71,7 @@ returns-in-Ok-write_trace g c =
     let same = asked_text u given.network.net c.args.from c.args.to given.cycles given.network.count c.first_cycle-first.result c.last_cycle-end.result c.in-Ok.trace.0 c.args.traced given.ensures.span
     given.ensures.opening (ap (λ (x : Run). x.net) c.run.ensures.value) (ap (λ (x : Run). x.count) c.run.ensures.value) c.first_cycle-first.ensures c.last_cycle-end.ensures (ap (λ t. t.0) c.in-Ok.ensures) in (
       trace_text (record u { count = u.count + (c.last_cycle-end.result + 1 - c.first_cycle-first.result) }) u.count c.in-Ok.trace.0,
-      subst (λ x. AsksFor (asked_of c.args.files.now) x Done) (sym same) (traces c.requires given.ensures.run given.ensures.packet),
+      subst (λ x. AsksFor (lent_files c.args.files.now) x Done) (sym same) (traces c.requires given.ensures.run given.ensures.packet),
       c.in-Ok-write_trace.ensures.text,
     )
 
@@ -83,6 +83,6 @@ returns g c =
     given.ensures.opening (ap (λ (x : Run). x.net) c.run.ensures.value) (ap (λ (x : Run). x.count) c.run.ensures.value) c.first_cycle-first.ensures c.last_cycle-end.ensures (ap (λ t. t.0) c.in-Ok.ensures) in (
       trace_text (record u { count = u.count + (c.last_cycle-end.result + 1 - c.first_cycle-first.result) }) u.count c.in-Ok.trace.0,
       Done,
-      subst (λ x. AsksFor (asked_of c.args.files.now) x Done) (sym same) (traces c.requires given.ensures.run given.ensures.packet),
+      subst (λ x. AsksFor (lent_files c.args.files.now) x Done) (sym same) (traces c.requires given.ensures.run given.ensures.packet),
       c.in-Err-write_trace.ensures.text,
     )

@@ -1,6 +1,6 @@
 use Rattle.std.proofs.Common.{◌∙◌}
-use Rattle.noc_model.specs.Unseen.{advanced}
-use Rattle.noc_net.specs.Takes.{moved_on}
+use Rattle.noc_model.specs.Unseen.{unseen_after_decide}
+use Rattle.noc_net.specs.Takes.{view_after_move_on}
 use Rattle.noc_net.proofs.TakesLemmas.{all-halves, from-zero, none-left, moved_on-advanced}
 use Rattle.noc_net.proofs.cycles.advance_all.Goals as goal
 
@@ -10,6 +10,6 @@ take_all-requires-clause-others c = none-left c.args.routers.now c.args.beats.no
 pub returns-clause-routers : goal.returns-clause-routers
 returns-clause-routers c =
     let relation = c.args.relation.now in
-    all-halves relation 0 c.args.beats.now (moved_on relation c.args.cycle) (advanced relation c.args.cycle) c.args.routers.now c.take_all.new.routers c.move_on_all.new.routers (moved_on-advanced relation c.args.cycle)
+    all-halves relation 0 c.args.beats.now (view_after_move_on relation c.args.cycle) (unseen_after_decide relation c.args.cycle) c.args.routers.now c.take_all.new.routers c.move_on_all.new.routers (moved_on-advanced relation c.args.cycle)
     c.take_all.ensures.routers c.move_on_all.ensures.routers
-    ∙ from-zero relation.grid c.args.beats.now (advanced relation c.args.cycle) c.args.routers.now
+    ∙ from-zero relation.grid c.args.beats.now (unseen_after_decide relation c.args.cycle) c.args.routers.now

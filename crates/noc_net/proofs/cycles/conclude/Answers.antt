@@ -1,7 +1,7 @@
 use Rattle.std.proofs.Common.{ℕ, ap, sym, ◌∙◌, subst}
 use Rattle.noc_topo.specs.Shape.{ports}
 use Rattle.noc_router.specs.Decided.{IsDecidedFor}
-use Rattle.noc_router.specs.View.{View, IsRelationOf, planned, committed}
+use Rattle.noc_router.specs.View.{View, IsRelationOf, decisions_of, view_after_commit}
 use Rattle.noc_router.proofs.SiteLemmas.{injected-site}
 use Rattle.noc_model.proofs.StepLemmas.{IsRelationOf-same_site}
 use Rattle.noc_net.proofs.cycles.conclude.Goals as goal
@@ -32,4 +32,4 @@ returns-clause-plan c =
 pub returns-clause-router : goal.returns-clause-router
 returns-clause-router c =
     c.commit.ensures c.args.relation.now c.plan.ensures.value
-    ∙ ap (λ (v : View). committed (planned c.args.relation.now v) v) c.inject.ensures
+    ∙ ap (λ (v : View). view_after_commit (decisions_of c.args.relation.now v) v) c.inject.ensures

@@ -1,11 +1,11 @@
 use Rattle.std.proofs.Common.{◌≡◌, ℕ, length, subst, arith}
 use Rattle.noc_router.specs.View.{View}
 use Rattle.noc_model.proofs.ListLemmas.{IsDoneTo, done_all-map}
-use Rattle.noc_net.specs.Takes.{concluded}
+use Rattle.noc_net.specs.Takes.{view_after_conclude}
 use Rattle.noc_net.proofs.cycles.conclude_all.Goals as goal
 
 pub returns-clause-routers : goal.returns-clause-routers
 returns-clause-routers c =
     let end : c.loop-node.node ≡ length c.args.routers.now = omega (arith, c.loop-node.auto.node-end) in
-    done_all-map (concluded c.args.relation.now c.args.cycle) c.args.routers.now c.loop-node.routers
-    (subst (λ (k : ℕ). IsDoneTo (λ (r : ℕ) (v : View). concluded c.args.relation.now c.args.cycle v) c.args.routers.now c.loop-node.routers k) end c.loop-node.invariant.routers)
+    done_all-map (view_after_conclude c.args.relation.now c.args.cycle) c.args.routers.now c.loop-node.routers
+    (subst (λ (k : ℕ). IsDoneTo (λ (r : ℕ) (v : View). view_after_conclude c.args.relation.now c.args.cycle v) c.args.routers.now c.loop-node.routers k) end c.loop-node.invariant.routers)

@@ -3,7 +3,7 @@ use Rattle.std.proofs.lemmas.List.{length-set}
 use Rattle.noc_topo.specs.Shape.{Grid, IsGrid, local_port, neighbour}
 use Rattle.noc_packet.specs.Set.{has_bit}
 use Rattle.noc_packet.specs.declared.packet.Beat.{Beat}
-use Rattle.noc_router.specs.View.{Site, View, put, beat_to_put, idle_beat}
+use Rattle.noc_router.specs.View.{Site, View, view_after_put, beat_to_put, idle_beat}
 use Rattle.noc_model.specs.Halves.{beat_at, sent_on}
 use Rattle.std.specs.Prelude.{◌&&◌, not, nat_eq}
 use Rattle.std.proofs.lemmas.Bool.{false≢true}
@@ -56,7 +56,7 @@ loop-port-preserved c =
     c.send.ensures.beats ∙ ap (sent_on c.loop-port.beats c.neighbour.result) beat in
     let after : c.put-beat.new.self.to_put ≡ set c.loop-port.router.to_put port idle_beat = ap (λ (w : View). w.to_put) c.put-beat.ensures.view in
     record {
-      router = c.put-beat.ensures.view ∙ ap (put port) c.loop-port.invariant.router ∙ ap (λ (beats : List Beat). record v { to_put = beats }) (sym after);
+      router = c.put-beat.ensures.view ∙ ap (view_after_put port) c.loop-port.invariant.router ∙ ap (λ (beats : List Beat). record v { to_put = beats }) (sym after);
       below = λ p e. c.loop-port.invariant.below p (second (not (nat_eq p port)) (has_bit c.loop-port.rest p) (sym (c.without-rest.ensures.members p) ∙ e));
       count = ap length after ∙ length-set c.loop-port.router.to_put port idle_beat ∙ c.loop-port.invariant.count;
       left = subst (AreLeft c.without-rest.result v.to_put) (sym after)

@@ -3,7 +3,7 @@ use Rattle.noc_topo.specs.Shape.{local_port}
 use Rattle.noc_packet.specs.declared.packet.Beat.{Beat}
 use Rattle.noc_route.specs.Routes.{Routes}
 use Rattle.noc_router.specs.View.{Site, View, idle_beat, local_step}
-use Rattle.noc_model.specs.Core.{finished}
+use Rattle.noc_model.specs.Core.{post_after_last_put}
 use Rattle.noc_net.specs.Room.{post_of, unput_for, wires_in}
 use Rattle.noc_model.proofs.PostLemmas.{same_post}
 use Rattle.noc_net.proofs.RoomLemmas.{take_front, take_of_map}
@@ -38,7 +38,7 @@ returns-clause-post c = λ net same.
     let whole : length c.step.new.beats_out ≡ c.ports-links.result - 1 = omega (arith, c.step.auto.beats_out, length-take-le n (replicate 6 c.idle-sent.result) (omega (arith, c.ports-links.ensures.few))) in
     ap (λ k. post_of k c.step.new.self c.decide.new.self) (sym count)
     ∙ c.decide.ensures net c.step.new.self grid
-    ∙ ap (finished net) (same_post c.step.new.self (local_step net.relation router taken room.steps).0 room.steps room.steps
+    ∙ ap (post_after_last_put net) (same_post c.step.new.self (local_step net.relation router taken room.steps).0 room.steps room.steps
     (take n (wires_in room)) (take links (wires_in room)) (take n room.taken) (take links room.taken) true true (unput_for net c.step.new.self.site.node (take n (c.step.new.beats_out ++ rest))) (unput_for net router.site.node (local_step net.relation router taken room.steps).1)
     view refl (ap (λ k. take k (wires_in room)) count) (ap (λ k. take k room.taken) count) refl
     (ap (λ (s : Site). unput_for net s.node (take n (c.step.new.beats_out ++ rest))) site ∙ ap (unput_for net router.site.node) (take_front n c.step.new.beats_out rest whole ∙ beats_out)))

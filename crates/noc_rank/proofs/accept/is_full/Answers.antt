@@ -2,7 +2,7 @@ use Rattle.std.proofs.Common.{◌≡◌, ◌+◌, ◌*◌, ◌/◌, ◌%◌, ◌
 use Rattle.std.specs.Prelude.{◌⊎◌, is_some}
 use Rattle.std.proofs.lemmas.Bool.{cases_lt}
 use Rattle.noc_topo.specs.Shape.{nodes, local_port}
-use Rattle.noc_route.specs.Ranks.{is_channel, places, rank_at}
+use Rattle.noc_route.specs.Ranks.{is_channel, rank_count, rank_at}
 use Rattle.noc_rank.proofs.AcceptLemmas.{full-decoded}
 use Rattle.noc_rank.proofs.accept.is_full.Goals as goal
 
@@ -23,7 +23,7 @@ returns c = (
       let grid = c.args.ranks.now.grid in
       let ports : c.link_ports-ports.result ≡ local_port grid = c.link_ports-ports.ensures.value ∙ ap local_port c.requires.shape in
       let pairs : c.all_ports.result ≡ nodes grid * local_port grid = c.all_ports.ensures.value ∙ ap (λ g. nodes g * local_port g) c.requires.shape in
-      let count : c.all_ports.result * c.args.vcs ≡ places grid c.args.ranks.now.vcs = ap (λ x. x * c.args.vcs) pairs ∙ ap (λ x. nodes grid * local_port grid * x) c.requires.vcs in
+      let count : c.all_ports.result * c.args.vcs ≡ rank_count grid c.args.ranks.now.vcs = ap (λ x. x * c.args.vcs) pairs ∙ ap (λ x. nodes grid * local_port grid * x) c.requires.vcs in
       full-decoded c.args.ranks.now c.args.vcs c.link_ports-ports.result c.loop-place.place c.requires.vcs ports (omega (arith, count, c.loop-place-test.false)) c.loop-place.invariant,
   λ _. refl,
 )

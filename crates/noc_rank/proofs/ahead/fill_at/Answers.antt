@@ -1,6 +1,6 @@
 use Rattle.std.proofs.Common.{◌≡◌, ap, subst, arith}
 use Rattle.noc_topo.specs.Shape.{nodes}
-use Rattle.noc_rank.specs.Ahead.{AreLeast}
+use Rattle.noc_rank.specs.LeastAhead.{AreLeast}
 use Rattle.noc_rank.proofs.AheadLemmas.{least-next_distance}
 use Rattle.noc_rank.proofs.ahead.fill_at.Goals as goal
 

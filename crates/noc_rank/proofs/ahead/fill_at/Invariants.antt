@@ -1,4 +1,4 @@
-use Rattle.noc_rank.specs.Ahead.{AreLeast}
+use Rattle.noc_rank.specs.LeastAhead.{AreLeast}
 use Rattle.noc_rank.proofs.ahead.fill_at.Given as goal
 
 abbrev pub invariant-loop-router : goal.invariant-loop-router

@@ -3,9 +3,9 @@ use Rattle.std.proofs.Math.Nat.{mod-lt}
 use Rattle.std.specs.Prelude.{slice_set}
 use Rattle.noc_topo.specs.Shape.{Grid, neighbour, distance, ports}
 use Rattle.noc_route.specs.Routes.{set_at}
-use Rattle.noc_route.specs.Ranks.{is_place, place_of, places}
+use Rattle.noc_route.specs.Ranks.{is_place, rank_index, rank_count}
 use Rattle.noc_rank.proofs.PlaceLemmas.{input-port, is_place-true}
-use Rattle.noc_rank.specs.Ahead.{AreLeast, IsLeastOf, IsValueIn, outputs}
+use Rattle.noc_rank.specs.LeastAhead.{AreLeast, IsLeastOf, IsValueIn, outputs}
 use Rattle.noc_rank.proofs.AheadLemmas.{least-more, least-none_here}
 use Rattle.noc_rank.proofs.ahead.fill_input.Goals as goal
 
@@ -20,8 +20,8 @@ returns-in-Some c =
     let set : c.permitted-set.result ≡ set_at routes c.args.class b (i / routes.vcs) (i % routes.vcs) c.args.dst = c.permitted-set.ensures.value ∙ ap (λ v. set_at routes c.args.class b (i / v) (i % v) c.args.dst) vcs in
     let value : IsLeastOf (IsValueIn routes c.args.ranks.now c.args.marks.now c.args.least.now b (set_at routes c.args.class b (i / routes.vcs) (i % routes.vcs) c.args.dst) (outputs routes)) c.least_of-value.result
     = subst (λ s. IsLeastOf (IsValueIn routes c.args.ranks.now c.args.marks.now c.args.least.now b s (outputs routes)) c.least_of-value.result) set c.least_of-value.ensures in
-    let place : c.place.result ≡ place_of routes.grid routes.vcs c.in-Some.sender c.in-Some.out_port (i % routes.vcs)
-    = c.place.ensures.value ∙ ap (λ g. place_of g c.vcs-vcs.result c.in-Some.sender c.in-Some.out_port (i % c.vcs-vcs.result)) c.shape-in-Some.ensures.value ∙ ap (λ v. place_of routes.grid v c.in-Some.sender c.in-Some.out_port (i % v)) vcs in
+    let place : c.place.result ≡ rank_index routes.grid routes.vcs c.in-Some.sender c.in-Some.out_port (i % routes.vcs)
+    = c.place.ensures.value ∙ ap (λ g. rank_index g c.vcs-vcs.result c.in-Some.sender c.in-Some.out_port (i % c.vcs-vcs.result)) c.shape-in-Some.ensures.value ∙ ap (λ v. rank_index routes.grid v c.in-Some.sender c.in-Some.out_port (i % v)) vcs in
     subst (λ n. AreLeast routes c.args.ranks.now c.args.marks.now c.args.class c.args.dst (distance routes.grid b c.args.dst) b (i + 1) (slice_set c.args.least.now n c.least_of-value.result)) (sym place)
     (least-more routes c.vcs-vcs.ensures.built c.args.ranks.now c.args.marks.now c.args.class c.args.dst b i c.in-Some.sender c.in-Some.out_port c.args.least.now c.least_of-value.result c.requires.router c.requires.input link c.requires.before value)
 
@@ -71,7 +71,7 @@ place-requires-clause-place c =
 pub bounds-least-place : goal.bounds-least-place
 bounds-least-place c =
     let routes = c.args.relation.now in
-    let count : places c.shape-in-Some.result.now c.vcs-vcs.result ≡ length c.args.least.now
-    = ap (λ g. places g c.vcs-vcs.result) c.shape-in-Some.ensures.value ∙ ap (λ v. places routes.grid v) c.vcs-vcs.ensures.value ∙ sym c.requires.before.long in
+    let count : rank_count c.shape-in-Some.result.now c.vcs-vcs.result ≡ length c.args.least.now
+    = ap (λ g. rank_count g c.vcs-vcs.result) c.shape-in-Some.ensures.value ∙ ap (λ v. rank_count routes.grid v) c.vcs-vcs.ensures.value ∙ sym c.requires.before.long in
     let P : ℕ → Type 0 = λ n. c.place.result < n in
     subst P count c.place.ensures.within

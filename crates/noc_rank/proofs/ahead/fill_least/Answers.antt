@@ -1,5 +1,5 @@
 use Rattle.std.proofs.Common.{◌≡◌, subst, arith}
-use Rattle.noc_rank.specs.Ahead.{AreLeast}
+use Rattle.noc_rank.specs.LeastAhead.{AreLeast}
 use Rattle.noc_rank.proofs.AheadLemmas.{least-end}
 use Rattle.noc_rank.proofs.ahead.fill_least.Goals as goal
 

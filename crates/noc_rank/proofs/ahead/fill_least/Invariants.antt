@@ -1,4 +1,4 @@
-use Rattle.noc_rank.specs.Ahead.{AreLeast}
+use Rattle.noc_rank.specs.LeastAhead.{AreLeast}
 use Rattle.noc_rank.proofs.ahead.fill_least.Given as goal
 
 abbrev pub invariant-loop-distance : goal.invariant-loop-distance

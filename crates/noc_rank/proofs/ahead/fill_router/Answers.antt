@@ -1,6 +1,6 @@
 use Rattle.std.proofs.Common.{◌≡◌, ◌*◌, ◌∙◌, ap, subst, arith}
 use Rattle.noc_topo.specs.Shape.{local_port, distance}
-use Rattle.noc_rank.specs.Ahead.{AreLeast, outputs}
+use Rattle.noc_rank.specs.LeastAhead.{AreLeast, outputs}
 use Rattle.noc_rank.proofs.AheadLemmas.{least-next_router}
 use Rattle.noc_rank.proofs.ahead.fill_router.Goals as goal
 

@@ -1,5 +1,5 @@
 use Rattle.noc_topo.specs.Shape.{distance}
-use Rattle.noc_rank.specs.Ahead.{AreLeast}
+use Rattle.noc_rank.specs.LeastAhead.{AreLeast}
 use Rattle.noc_rank.proofs.ahead.fill_router.Given as goal
 
 abbrev pub invariant-loop-input : goal.invariant-loop-input

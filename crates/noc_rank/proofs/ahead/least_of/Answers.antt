@@ -1,6 +1,6 @@
 use Rattle.std.proofs.Common.{◌≡◌, ◌*◌, ◌∙◌, refl, ap, arith}
 use Rattle.noc_topo.specs.Shape.{local_port}
-use Rattle.noc_rank.specs.Ahead.{outputs}
+use Rattle.noc_rank.specs.LeastAhead.{outputs}
 use Rattle.noc_rank.proofs.AheadLemmas.{output-inside, least-member}
 use Rattle.noc_rank.proofs.ahead.least_of.Goals as goal
 

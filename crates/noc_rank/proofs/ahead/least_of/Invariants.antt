@@ -1,4 +1,4 @@
-use Rattle.noc_rank.specs.Ahead.{IsLeastOf, IsValueIn}
+use Rattle.noc_rank.specs.LeastAhead.{IsLeastOf, IsValueIn}
 use Rattle.noc_rank.proofs.ahead.least_of.Given as goal
 
 abbrev pub invariant-loop-index : goal.invariant-loop-index

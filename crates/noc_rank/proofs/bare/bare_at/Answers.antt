@@ -4,7 +4,7 @@ use Rattle.std.proofs.lemmas.Bool.{false≢true}
 use Rattle.noc_packet.specs.Set.{has_bit}
 use Rattle.noc_topo.specs.Shape.{ports}
 use Rattle.noc_route.specs.Routes.{set_at}
-use Rattle.noc_rank.specs.Bare.{IsBareSet}
+use Rattle.noc_rank.specs.NoEscape.{IsBareSet}
 use Rattle.noc_route.proofs.BuiltLemmas.{some_member}
 use Rattle.noc_rank.proofs.BareLemmas.{class-known}
 use Rattle.noc_rank.proofs.bare.bare_at.Goals as goal

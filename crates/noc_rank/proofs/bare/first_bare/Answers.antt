@@ -2,7 +2,7 @@ use Rattle.std.proofs.Common.{◌≡◌, ◌*◌, ◌<◌, ◌≤◌, ℕ, refl,
 use Rattle.std.proofs.lemmas.Nat.{mul-le}
 use Rattle.rayon.proofs.ToStd.{nat_range-All}
 use Rattle.noc_topo.specs.Shape.{nodes, ports}
-use Rattle.noc_rank.specs.Bare.{entries}
+use Rattle.noc_rank.specs.NoEscape.{entries}
 use Rattle.noc_rank.proofs.BareLemmas.{IsNotBare, has-escapes, first-is_bare}
 use Rattle.noc_rank.proofs.CheckLemmas.{IsFirstBut, searched}
 use Rattle.noc_rank.proofs.bare.first_bare.Goals as goal

@@ -1,7 +1,7 @@
 use Rattle.std.proofs.Common.{◌≡◌, ℕ, ◌+◌, ◌*◌, ◌<◌, ◌≤◌, ◌∙◌, Option, ap, sym, subst, arith, inl, inr}
 use Rattle.std.specs.Prelude.{◌⊎◌, is_some}
 use Rattle.std.proofs.lemmas.Bool.{cases_lt, false≢true}
-use Rattle.noc_rank.specs.Bare.{IsRankedIn}
+use Rattle.noc_rank.specs.NoEscape.{IsRankedIn}
 use Rattle.std.proofs.Math.Nat.{mul-le-mul_right}
 use Rattle.noc_topo.specs.Shape.{local_port}
 use Rattle.noc_rank.proofs.PlaceLemmas.{index-known, index-few}

@@ -1,5 +1,5 @@
 use Rattle.std.proofs.Common.{ℕ, ◌<◌}
-use Rattle.noc_rank.specs.Bare.{IsRankedIn}
+use Rattle.noc_rank.specs.NoEscape.{IsRankedIn}
 use Rattle.noc_rank.proofs.bare.has_rank.Given as goal
 
 abbrev pub invariant-loop-index : goal.invariant-loop-index

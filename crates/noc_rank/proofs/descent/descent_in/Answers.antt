@@ -1,6 +1,6 @@
 use Rattle.std.proofs.Common.{ℕ, List, Option, Some, None, subst, arith}
-use Rattle.noc_rank.specs.Ahead.{IsLeastOf}
-use Rattle.noc_rank.specs.Descents.{IsOver, IsStartBy, IsAheadAt}
+use Rattle.noc_rank.specs.LeastAhead.{IsLeastOf}
+use Rattle.noc_rank.specs.NotRisingTo.{IsOver, IsStartBy, IsAheadAt}
 use Rattle.noc_rank.proofs.DescentLemmas.{no-start, some-end, start-link, start-inside, end-inside, descent-found}
 use Rattle.noc_rank.proofs.descent.descent_in.Goals as goal
 

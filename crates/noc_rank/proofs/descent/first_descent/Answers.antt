@@ -1,7 +1,7 @@
 use Rattle.std.proofs.Common.{◌∙◌, ap, subst}
 use Rattle.std.specs.Prelude.{IfOk, MatchOption}
 use Rattle.noc_route.specs.Ranks.{Ranking}
-use Rattle.noc_rank.specs.Ahead.{over}
+use Rattle.noc_rank.specs.LeastAhead.{over}
 use Rattle.noc_rank.specs.Faults.{HasNoDescent, IsFirstDescent}
 use Rattle.noc_rank.proofs.AcceptLemmas.{real-over}
 use Rattle.noc_rank.proofs.BareLemmas.{over-same}

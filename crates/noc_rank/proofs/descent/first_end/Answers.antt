@@ -2,8 +2,8 @@ use Rattle.std.proofs.Common.{◌≤◌, ◌≡◌, ℕ, ◌*◌, ◌/◌, ◌%�
 use Rattle.std.proofs.Math.Nat.{mul-le-mul_right}
 use Rattle.noc_topo.specs.Shape.{nodes}
 use Rattle.noc_route.proofs.PlaceLemmas.{index-port, pair-second}
-use Rattle.noc_rank.specs.Ahead.{IsLeastOf}
-use Rattle.noc_rank.specs.Descents.{IsOverFirst, IsAheadAt}
+use Rattle.noc_rank.specs.LeastAhead.{IsLeastOf}
+use Rattle.noc_rank.specs.NotRisingTo.{IsOverFirst, IsAheadAt}
 use Rattle.noc_rank.proofs.OverLemmas.{over-more}
 use Rattle.noc_rank.proofs.descent.first_end.Goals as goal
 

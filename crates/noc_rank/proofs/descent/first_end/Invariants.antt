@@ -1,5 +1,5 @@
-use Rattle.noc_rank.specs.Ahead.{IsLeastOf}
-use Rattle.noc_rank.specs.Descents.{IsOverFirst, IsAheadAt}
+use Rattle.noc_rank.specs.LeastAhead.{IsLeastOf}
+use Rattle.noc_rank.specs.NotRisingTo.{IsOverFirst, IsAheadAt}
 use Rattle.noc_rank.proofs.descent.first_end.Given as goal
 
 abbrev pub invariant-loop-number : goal.invariant-loop-number

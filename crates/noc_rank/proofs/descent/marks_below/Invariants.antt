@@ -1,5 +1,5 @@
 use Rattle.std.proofs.Common.{◌≡◌, ◌<◌, ℕ, None, get_or, vec_len}
-use Rattle.noc_rank.specs.Descents.{mark_below}
+use Rattle.noc_rank.specs.NotRisingTo.{mark_below}
 use Rattle.noc_rank.proofs.descent.marks_below.Given as goal
 
 abbrev pub invariant-loop-place : goal.invariant-loop-place

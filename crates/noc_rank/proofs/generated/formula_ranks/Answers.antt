@@ -2,7 +2,7 @@ use Rattle.std.proofs.Common.{◌≡◌, ℕ, ◌+◌, ◌*◌, ◌<◌, ◌≤�
 use Rattle.std.specs.Prelude.{IfSome}
 use Rattle.std.proofs.Math.Nat.{mod-lt, mul-le-mul_right}
 use Rattle.noc_topo.specs.Shape.{nodes, local_port}
-use Rattle.noc_route.specs.Ranks.{places}
+use Rattle.noc_route.specs.Ranks.{rank_count}
 use Rattle.noc_rank.specs.Formulas.{formula_at}
 use Rattle.noc_rank.proofs.FormulaLemmas.{vcs-few}
 use Rattle.noc_route.proofs.PlaceLemmas.{each-pushed}
@@ -19,7 +19,7 @@ formula_at-requires-clause-router c =
     let g = c.args.shape.now in
     let vcs = c.args.vcs in
     let place = c.loop-place.place in
-    let count : c.all_ports.result * vcs ≡ places g vcs = ap (λ n. n * vcs) c.all_ports.ensures.value in
+    let count : c.all_ports.result * vcs ≡ rank_count g vcs = ap (λ n. n * vcs) c.all_ports.ensures.value in
     let some : 0 < vcs = (vcs-few g vcs c.args.classes c.args.rule.now c.requires).0 in
     let ports : 0 < local_port g = omega (arith, c.link_ports-ports.ensures.value, c.link_ports-ports.ensures.some) in
     let Q : ℕ → Type 0 = λ n. place < n in
@@ -54,23 +54,23 @@ loop-place-preserved c =
 
 pub returns-clause-len : goal.returns-clause-len
 returns-clause-len c =
-    let count : c.all_ports.result * c.args.vcs ≡ places c.args.shape.now c.args.vcs = ap (λ n. n * c.args.vcs) c.all_ports.ensures.value in
+    let count : c.all_ports.result * c.args.vcs ≡ rank_count c.args.shape.now c.args.vcs = ap (λ n. n * c.args.vcs) c.all_ports.ensures.value in
     omega (arith, c.loop-place.invariant.0, count, c.loop-place.auto.place-end, c.loop-place-test.false)
 
 pub returns-clause-items : goal.returns-clause-items
 returns-clause-items c = λ k l.
     let g = c.args.shape.now in
     let vcs = c.args.vcs in
-    let count : c.all_ports.result * vcs ≡ places g vcs = ap (λ n. n * vcs) c.all_ports.ensures.value in
+    let count : c.all_ports.result * vcs ≡ rank_count g vcs = ap (λ n. n * vcs) c.all_ports.ensures.value in
     let P : ℕ → Type 0 = λ n. get_or c.loop-place.ranks.items k None ≡ formula_at g vcs c.args.classes c.args.rule.now (k / vcs / n) (k / vcs % n) (k % vcs) in
     subst P c.link_ports-ports.ensures.value (c.loop-place.invariant.1 k (omega (arith, l, count, c.loop-place-test.false)))
 
 pub returns-clause-some : goal.returns-clause-some
 returns-clause-some c = λ k l.
-    let count : c.all_ports.result * c.args.vcs ≡ places c.args.shape.now c.args.vcs = ap (λ n. n * c.args.vcs) c.all_ports.ensures.value in
+    let count : c.all_ports.result * c.args.vcs ≡ rank_count c.args.shape.now c.args.vcs = ap (λ n. n * c.args.vcs) c.all_ports.ensures.value in
     c.loop-place.invariant.2 k (omega (arith, l, count, c.loop-place-test.false))
 
 pub returns-clause-few : goal.returns-clause-few
 returns-clause-few c = λ k l.
-    let count : c.all_ports.result * c.args.vcs ≡ places c.args.shape.now c.args.vcs = ap (λ n. n * c.args.vcs) c.all_ports.ensures.value in
+    let count : c.all_ports.result * c.args.vcs ≡ rank_count c.args.shape.now c.args.vcs = ap (λ n. n * c.args.vcs) c.all_ports.ensures.value in
     c.loop-place.invariant.3 k (omega (arith, l, count, c.loop-place-test.false))

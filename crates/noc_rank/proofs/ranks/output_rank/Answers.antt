@@ -2,7 +2,7 @@ use Rattle.std.proofs.Common.{◌≡◌, ◌+◌, ◌*◌, ◌/◌, ◌%◌, ◌
 use Rattle.std.proofs.Math.Nat.{mul-le-mul_right, mul_comm}
 use Rattle.std.proofs.lemmas.List.{get_or_default}
 use Rattle.noc_topo.specs.Shape.{nodes, local_port}
-use Rattle.noc_route.specs.Ranks.{Ranking, places, rank_at}
+use Rattle.noc_route.specs.Ranks.{Ranking, rank_count, rank_at}
 use Rattle.noc_rank.specs.Stored.{ranking_of}
 use Rattle.noc_rank.proofs.PlaceLemmas.{output-known, output-rank, vcs-some}
 use Rattle.noc_rank.proofs.ranks.output_rank.Goals as goal
@@ -10,7 +10,7 @@ use Rattle.noc_rank.proofs.ranks.output_rank.Goals as goal
 known : (c : goal.After-link_ports) → c.args.router * c.link_ports.result * c.ranks.inside.vcs + c.args.index < length c.ranks.inside.ranks.items
 known c =
     let P : Ranking → Type 0 = λ k. c.args.router * local_port k.grid * k.vcs + c.args.index < length k.ranks in
-    let long : length c.ranks.inside.ranks.items ≡ places c.ranks.inside.shape c.ranks.inside.vcs = c.ranks.invariant.long in
+    let long : length c.ranks.inside.ranks.items ≡ rank_count c.ranks.inside.shape c.ranks.inside.vcs = c.ranks.invariant.long in
     let here : c.args.router < nodes c.ranks.inside.shape = subst (λ (k : Ranking). c.args.router < nodes k.grid) (sym c.ranks.view_is) c.requires.router in
     let index : c.args.index < local_port c.ranks.inside.shape * c.ranks.inside.vcs = subst (λ (k : Ranking). c.args.index < local_port k.grid * k.vcs) (sym c.ranks.view_is) c.requires.index in
     rw c.link_ports.ensures.value (omega (arith, long, output-known (ranking_of c.ranks.inside) c.args.router c.args.index here index))

@@ -1,7 +1,7 @@
 use Rattle.std.proofs.Common.{◌≡◌, ◌*◌, ◌<◌, ℕ, ap, subst, ◌∙◌, arith}
 use Rattle.rayon.proofs.ToStd.{nat_range-All}
 use Rattle.noc_topo.specs.Shape.{nodes, ports}
-use Rattle.noc_rank.specs.Falls.{inputs, HasNoFall}
+use Rattle.noc_rank.specs.NotRising.{input_count, HasNoFall}
 use Rattle.noc_rank.proofs.CheckLemmas.{count-inputs, all-rise, IsFirstBut, searched, one-first}
 use Rattle.noc_rank.proofs.rising.first_fall.Goals as goal
 
@@ -11,10 +11,10 @@ find_first-requires-clause-items g c κs within =
     let relation = c.args.relation.now in
     let k = c.args.ranks.now in
     let n = c.classes.result * c.nodes.result * c.ports.result * c.vcs.result in
-    let count : n ≡ relation.classes * inputs k
+    let count : n ≡ relation.classes * input_count k
     = ap (λ x. x * c.nodes.result * c.ports.result * c.vcs.result) c.classes.ensures.value
     ∙ count-inputs k relation.classes c.nodes.result c.ports.result c.vcs.result (c.nodes.ensures.value ∙ ap nodes (c.shape.ensures.value ∙ c.requires.shape)) (c.ports.ensures.value ∙ ap ports (c.shape-2.ensures.value ∙ c.requires.shape)) (c.vcs.ensures.value ∙ c.requires.vcs) in
-    let inside = nat_range-All (λ i. (relation.grid ≡ k.grid) × (relation.vcs ≡ k.vcs) × (i < relation.classes * inputs k)) 0 n (λ i low high. (c.requires.shape, c.requires.vcs, subst (λ m. i < m) count high)) in
+    let inside = nat_range-All (λ i. (relation.grid ≡ k.grid) × (relation.vcs ≡ k.vcs) × (i < relation.classes * input_count k)) 0 n (λ i low high. (c.requires.shape, c.requires.vcs, subst (λ m. i < m) count high)) in
     rw (ends.0, ends.1) (λ j d lt p e. rw e (inside j d lt))
 
 pub returns-in_err-number : goal.returns-in_err-number
@@ -23,7 +23,7 @@ returns-in_err-number g c =
     let relation = c.args.relation.now in
     let k = c.args.ranks.now in
     let n = c.classes.result * c.nodes.result * c.ports.result * c.vcs.result in
-    let count : n ≡ relation.classes * inputs k
+    let count : n ≡ relation.classes * input_count k
     = ap (λ x. x * c.nodes.result * c.ports.result * c.vcs.result) c.classes.ensures.value
     ∙ count-inputs k relation.classes c.nodes.result c.ports.result c.vcs.result (c.nodes.ensures.value ∙ ap nodes (c.shape.ensures.value ∙ c.requires.shape)) (c.ports.ensures.value ∙ ap ports (c.shape-2.ensures.value ∙ c.requires.shape)) (c.vcs.ensures.value ∙ c.requires.vcs) in
     let told = searched (HasNoFall relation k) n _ _ c.find_first.result ends.0 ends.1 c.find_first.ensures in
@@ -36,7 +36,7 @@ first_at-requires-clause-number g c =
     let relation = c.args.relation.now in
     let k = c.args.ranks.now in
     let n = c.classes.result * c.nodes.result * c.ports.result * c.vcs.result in
-    let count : n ≡ relation.classes * inputs k
+    let count : n ≡ relation.classes * input_count k
     = ap (λ x. x * c.nodes.result * c.ports.result * c.vcs.result) c.classes.ensures.value
     ∙ count-inputs k relation.classes c.nodes.result c.ports.result c.vcs.result (c.nodes.ensures.value ∙ ap nodes (c.shape.ensures.value ∙ c.requires.shape)) (c.ports.ensures.value ∙ ap ports (c.shape-2.ensures.value ∙ c.requires.shape)) (c.vcs.ensures.value ∙ c.requires.vcs) in
     let told = searched (HasNoFall relation k) n _ _ c.find_first.result ends.0 ends.1 c.find_first.ensures in

@@ -2,7 +2,7 @@ use Rattle.std.proofs.Common.{◌≡◌, ◌/◌, ◌%◌, ℕ, refl, subst, ap,
 use borrow.Author.Count.{below_more}
 use Rattle.noc_topo.specs.Shape.{nodes}
 use Rattle.noc_route.specs.Routes.{set_at}
-use Rattle.noc_rank.specs.Falls.{falls_to, links, HasNone, IsLeastBelow}
+use Rattle.noc_rank.specs.NotRising.{falls_to, link_output_count, HasNone, IsLeastBelow}
 use Rattle.noc_rank.proofs.rising.first_from.Goals as goal
 
 pub permitted-set-requires-clause-dst : goal.permitted-set-requires-clause-dst
@@ -10,7 +10,7 @@ permitted-set-requires-clause-dst c = let all : c.nodes-dst-end.result ≡ nodes
 
 pub loop-dst-preserved : goal.loop-dst-preserved
 loop-dst-preserved c =
-    let P : ℕ → Type 0 = λ set. HasNone (falls_to c.args.ranks.now c.args.router set c.args.rank) (links c.args.ranks.now) in
+    let P : ℕ → Type 0 = λ set. HasNone (falls_to c.args.ranks.now c.args.router set c.args.rank) (link_output_count c.args.ranks.now) in
     below_more (λ t. P (set_at c.args.relation.now c.args.class c.args.router c.args.in_port c.args.in_vc t)) c.loop-dst.dst c.loop-dst.invariant (subst P c.permitted-set.ensures.value c.in_default.ensures.none)
 
 pub returns-clause-none : goal.returns-clause-none
@@ -24,7 +24,7 @@ returns-in-Some-clause-some c =
     let i = c.in-Some.index in
     let vcs : c.vcs-vcs.result ≡ k.vcs = c.vcs-vcs.ensures.value ∙ c.requires.vcs in
     let all : c.nodes-dst-end.result ≡ nodes k.grid = c.nodes-dst-end.ensures.value ∙ ap nodes (c.shape.ensures.value ∙ c.requires.shape) in
-    let L : ℕ → Type 0 = λ set. IsLeastBelow (falls_to k c.args.router set c.args.rank) (links k) i in
+    let L : ℕ → Type 0 = λ set. IsLeastBelow (falls_to k c.args.router set c.args.rank) (link_output_count k) i in
     record {
       index = i;
       dst = c.loop-dst.dst;

@@ -1,7 +1,7 @@
 use Rattle.std.proofs.Common.{◌≡◌, false, ap, ◌∙◌, arith}
 use borrow.Author.Count.{below_more}
 use Rattle.noc_topo.specs.Shape.{local_port}
-use Rattle.noc_rank.specs.Falls.{falls_to}
+use Rattle.noc_rank.specs.NotRising.{falls_to}
 use Rattle.noc_rank.proofs.PlaceLemmas.{index-known, index-past, index-few}
 use Rattle.noc_rank.proofs.rising.first_to.Goals as goal
 

@@ -1,4 +1,4 @@
-use Rattle.noc_rank.specs.Falls.{falls_to, HasNone}
+use Rattle.noc_rank.specs.NotRising.{falls_to, HasNone}
 use Rattle.noc_rank.proofs.rising.first_to.Given as goal
 
 abbrev pub invariant-loop-index : goal.invariant-loop-index

@@ -1,7 +1,7 @@
 use Rattle.std.proofs.Common.{◌≡◌, ◌∙◌, ◌/◌, ◌%◌, List, None, subst, sym, ap, arith}
 use Rattle.std.specs.Prelude.{◌&&◌, nat_lt, All}
 use Rattle.noc_route.specs.Entered.{routing_in, has_row_at, IsEntered}
-use Rattle.noc_route.specs.Relation.{IsFirstFault, row_fault, rows_of}
+use Rattle.noc_route.specs.Relation.{IsFirstFault, row_fault, table_rows_of}
 use Rattle.noc_route.specs.declared.rule.RouteRow.{RouteRow}
 use Rattle.noc_route.proofs.WayLemmas.{real-from_none}
 use Rattle.noc_route.specs.Routes.{width, page_class, page_router, page_dst}
@@ -39,7 +39,7 @@ pub returns-in-Some-clause-err : goal.returns-in-Some-clause-err
 returns-in-Some-clause-err c =
     let f = c.args.map.now.frame in
     let P : List RouteRow → Type 0 = λ rows. IsFirstFault f.shape f.vcs f.classes rows c.in-Some.fault in
-    subst P (c.deref.ensures.value ∙ sym (ap rows_of c.in-Rows.is)) c.in-Some.ensures.some
+    subst P (c.deref.ensures.value ∙ sym (ap table_rows_of c.in-Rows.is)) c.in-Some.ensures.some
 
 pub enter_rows-requires-clause-rows : goal.enter_rows-requires-clause-rows
 enter_rows-requires-clause-rows c =
@@ -52,4 +52,4 @@ pub returns-in_default-first_fault-clause-ok : goal.returns-in_default-first_fau
 returns-in_default-first_fault-clause-ok c =
     let f = c.args.map.now.frame in
     let P : List RouteRow → Type 0 = λ rows. All (λ row. row_fault f.shape f.vcs f.classes row ≡ None) rows in
-    subst P (c.deref.ensures.value ∙ sym (ap rows_of c.in-Rows.is)) c.in_default-first_fault.ensures.none
+    subst P (c.deref.ensures.value ∙ sym (ap table_rows_of c.in-Rows.is)) c.in_default-first_fault.ensures.none

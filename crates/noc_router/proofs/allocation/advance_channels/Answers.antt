@@ -1,13 +1,13 @@
 use Rattle.std.proofs.Common.{◌∙◌, ap, None, get_or}
 use Rattle.std.specs.Prelude.{if◌then◌else◌}
-use Rattle.noc_alloc.specs.Arbiter.{Turn, turned, turn_at}
+use Rattle.noc_alloc.specs.Arbiter.{RoundRobin, arbiter_after, arbiter_at}
 use Rattle.noc_router.proofs.OfferLemmas.{both_lacks}
 use Rattle.noc_alloc.proofs.WordLemmas.{map_indexed-from_each}
 use Rattle.noc_router.proofs.allocation.advance_channels.Goals as goal
 
 pub returns-clause-pointers : goal.returns-clause-pointers
 returns-clause-pointers c =
-    map_indexed-from_each (λ i (t : Turn). turned t (get_or c.args.grants.now i None)) c.args.arbiters.now c.loop-output.arbiters (record { size = 0; pointer = 0 }) (record { size = 0; pointer = 0 })
+    map_indexed-from_each (λ i (t : RoundRobin). arbiter_after t (get_or c.args.grants.now i None)) c.args.arbiters.now c.loop-output.arbiters (record { size = 0; pointer = 0 }) (record { size = 0; pointer = 0 })
     c.loop-output.auto.arbiters
     (λ i l. c.loop-output.invariant.turns i
-    ∙ ap (λ b. if b then turn_at c.args.arbiters.now i else turned (turn_at c.args.arbiters.now i) (get_or c.args.grants.now i None)) (both_lacks c.loop-output.rest i (c.in_default.ensures.least i)))
+    ∙ ap (λ b. if b then arbiter_at c.args.arbiters.now i else arbiter_after (arbiter_at c.args.arbiters.now i) (get_or c.args.grants.now i None)) (both_lacks c.loop-output.rest i (c.in_default.ensures.least i)))

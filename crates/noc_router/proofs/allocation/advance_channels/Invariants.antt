@@ -1,14 +1,14 @@
 use Rattle.std.proofs.Common.{◌≡◌, ◌<◌, ℕ, true, None, get_or, length}
 use Rattle.std.specs.Prelude.{if◌then◌else◌}
 use Rattle.noc_packet.specs.Set.{has_bit}
-use Rattle.noc_alloc.specs.Arbiter.{turned, turn_at}
+use Rattle.noc_alloc.specs.Arbiter.{arbiter_after, arbiter_at}
 use Rattle.noc_router.proofs.allocation.advance_channels.Given as goal
 
 -- the pointers of those that are not left have moved
 abbrev pub invariant-loop-output : goal.invariant-loop-output
 invariant-loop-output l = record {
   within : (k : ℕ) → has_bit l.rest k ≡ true → k < length l.arbiters;
-  turns : (k : ℕ) → turn_at l.arbiters k ≡ (if has_bit l.rest k then turn_at l.initial.arbiters k else turned (turn_at l.initial.arbiters k) (get_or l.grants k None));
+  turns : (k : ℕ) → arbiter_at l.arbiters k ≡ (if has_bit l.rest k then arbiter_at l.initial.arbiters k else arbiter_after (arbiter_at l.initial.arbiters k) (get_or l.grants k None));
 }
 
 abbrev pub decreases-loop-output : goal.decreases-loop-output

@@ -3,9 +3,9 @@ use Rattle.std.specs.Vec.{with_items}
 use Rattle.std.proofs.lemmas.List.{with_items_is}
 use Rattle.noc_topo.specs.Shape.{neighbour}
 use Rattle.noc_packet.specs.declared.packet.Beat.{Beat}
-use Rattle.noc_net.specs.Halves.{beat_at, received}
+use Rattle.noc_net.specs.Halves.{beat_at, wire_after_puts}
 use Rattle.noc_net.specs.Marks.{AreMarked}
-use Rattle.noc_net.specs.Takes.{concluded}
+use Rattle.noc_net.specs.Takes.{view_after_conclude}
 use Rattle.noc_tiles.specs.Inner.{HaveFinished}
 use Rattle.noc_tiles.proofs.FinishLemmas.{finished-none, finished-more, next-built, next-node, next-idle}
 use Rattle.noc_tiles.proofs.finishing.finish_some.Goals as goal
@@ -50,7 +50,7 @@ loop-i-preserved c =
           c.index_mut.result.now c.index_mut.ensures.value _ c.finish.new.router c.finish.ensures.router c.finish.ensures.seen refl refl c.finish.ensures.plan
           (ap length now ∙ size)
           (λ r q l. ap (λ (w : List (List Beat)). beat_at w r q) now ∙ c.finish.ensures.beats r q l
-          ∙ ap (λ (w : List (List Beat)). received (concluded c.args.relation.now c.args.cycle c.index_mut.result.now) (neighbour c.args.relation.now.grid r q) (beat_at w r q)) old);
+          ∙ ap (λ (w : List (List Beat)). wire_after_puts (view_after_conclude c.args.relation.now c.args.cycle c.index_mut.result.now) (neighbour c.args.relation.now.grid r q) (beat_at w r q)) old);
     }
 
 pub returns-clause-finished : goal.returns-clause-finished

@@ -3,7 +3,7 @@ use Rattle.std.proofs.lemmas.List.{length-map, length-set}
 use Rattle.noc_model.proofs.WireLemmas.{rows_kept}
 use Rattle.noc_tiles.specs.Ends.{End, outlet}
 use Rattle.noc_tiles.specs.Phases.{IsCleared}
-use Rattle.noc_tiles.specs.TileStep.{places}
+use Rattle.noc_tiles.specs.TileStep.{arrival_places}
 use Rattle.noc_tiles.specs.declared.wires.Outlet.{Outlet}
 use Rattle.noc_tiles.proofs.ClearLemmas.{place-of, cleared-more}
 use Rattle.noc_tiles.proofs.phases.clear_all.Goals as goal
@@ -22,8 +22,8 @@ note-requires-clause-node c =
     let end = c.index-end.result.now in
     let os = c.args.ends.now.items in
     let l : k < length os = search (rules, arith) in
-    let l' : k < length (places (map outlet os)) = rw (length-map, length-map) l in
-    let at : get_or (places (map outlet os)) k (0, 0) ≡ (end.router, end.port) = place-of outlet os k end (0, 0) l ∙ ap (λ (o : Outlet). (outlet o).at) (sym c.index-end.ensures) in
+    let l' : k < length (arrival_places (map outlet os)) = rw (length-map, length-map) l in
+    let at : get_or (arrival_places (map outlet os)) k (0, 0) ≡ (end.router, end.port) = place-of outlet os k end (0, 0) l ∙ ap (λ (o : Outlet). (outlet o).at) (sym c.index-end.ensures) in
     let w = c.requires.within k l' in
     let r_in : end.router < length c.args.beats.now = let e = ap (λ (z : ℕ × ℕ). z.0) at in omega (arith, w.0, e) in
     let p_in : end.port < 6 = let e = ap (λ (z : ℕ × ℕ). z.1) at in omega (arith, w.1, e) in
@@ -35,8 +35,8 @@ note-requires-clause-port c =
     let end = c.index-end.result.now in
     let os = c.args.ends.now.items in
     let l : k < length os = search (rules, arith) in
-    let l' : k < length (places (map outlet os)) = rw (length-map, length-map) l in
-    let at : get_or (places (map outlet os)) k (0, 0) ≡ (end.router, end.port) = place-of outlet os k end (0, 0) l ∙ ap (λ (o : Outlet). (outlet o).at) (sym c.index-end.ensures) in
+    let l' : k < length (arrival_places (map outlet os)) = rw (length-map, length-map) l in
+    let at : get_or (arrival_places (map outlet os)) k (0, 0) ≡ (end.router, end.port) = place-of outlet os k end (0, 0) l ∙ ap (λ (o : Outlet). (outlet o).at) (sym c.index-end.ensures) in
     let w = c.requires.within k l' in
     let r_in : end.router < length c.args.beats.now = let e = ap (λ (z : ℕ × ℕ). z.0) at in omega (arith, w.0, e) in
     let p_in : end.port < 6 = let e = ap (λ (z : ℕ × ℕ). z.1) at in omega (arith, w.1, e) in
@@ -48,8 +48,8 @@ bounds-beats-end c =
     let end = c.index-end.result.now in
     let os = c.args.ends.now.items in
     let l : k < length os = search (rules, arith) in
-    let l' : k < length (places (map outlet os)) = rw (length-map, length-map) l in
-    let at : get_or (places (map outlet os)) k (0, 0) ≡ (end.router, end.port) = place-of outlet os k end (0, 0) l ∙ ap (λ (o : Outlet). (outlet o).at) (sym c.index-end.ensures) in
+    let l' : k < length (arrival_places (map outlet os)) = rw (length-map, length-map) l in
+    let at : get_or (arrival_places (map outlet os)) k (0, 0) ≡ (end.router, end.port) = place-of outlet os k end (0, 0) l ∙ ap (λ (o : Outlet). (outlet o).at) (sym c.index-end.ensures) in
     let w = c.requires.within k l' in
     let r_in : end.router < length c.args.beats.now = let e = ap (λ (z : ℕ × ℕ). z.0) at in omega (arith, w.0, e) in
     let p_in : end.port < 6 = let e = ap (λ (z : ℕ × ℕ). z.1) at in omega (arith, w.1, e) in
@@ -61,8 +61,8 @@ offset_bounds-beats-end c =
     let end = c.index-end.result.now in
     let os = c.args.ends.now.items in
     let l : k < length os = search (rules, arith) in
-    let l' : k < length (places (map outlet os)) = rw (length-map, length-map) l in
-    let at : get_or (places (map outlet os)) k (0, 0) ≡ (end.router, end.port) = place-of outlet os k end (0, 0) l ∙ ap (λ (o : Outlet). (outlet o).at) (sym c.index-end.ensures) in
+    let l' : k < length (arrival_places (map outlet os)) = rw (length-map, length-map) l in
+    let at : get_or (arrival_places (map outlet os)) k (0, 0) ≡ (end.router, end.port) = place-of outlet os k end (0, 0) l ∙ ap (λ (o : Outlet). (outlet o).at) (sym c.index-end.ensures) in
     let w = c.requires.within k l' in
     let r_in : end.router < length c.args.beats.now = let e = ap (λ (z : ℕ × ℕ). z.0) at in omega (arith, w.0, e) in
     let p_in : end.port < 6 = let e = ap (λ (z : ℕ × ℕ). z.1) at in omega (arith, w.1, e) in
@@ -75,8 +75,8 @@ bounds-beats-end-in-loop-k c =
     let end = c.index-end.result.now in
     let os = c.args.ends.now.items in
     let l : k < length os = search (rules, arith) in
-    let l' : k < length (places (map outlet os)) = rw (length-map, length-map) l in
-    let at : get_or (places (map outlet os)) k (0, 0) ≡ (end.router, end.port) = place-of outlet os k end (0, 0) l ∙ ap (λ (o : Outlet). (outlet o).at) (sym c.index-end.ensures) in
+    let l' : k < length (arrival_places (map outlet os)) = rw (length-map, length-map) l in
+    let at : get_or (arrival_places (map outlet os)) k (0, 0) ≡ (end.router, end.port) = place-of outlet os k end (0, 0) l ∙ ap (λ (o : Outlet). (outlet o).at) (sym c.index-end.ensures) in
     let w = c.requires.within k l' in
     let r_in : end.router < length c.args.beats.now = let e = ap (λ (z : ℕ × ℕ). z.0) at in omega (arith, w.0, e) in
     let p_in : end.port < 6 = let e = ap (λ (z : ℕ × ℕ). z.1) at in omega (arith, w.1, e) in
@@ -88,8 +88,8 @@ offset_bounds-beats-end-in-loop-k c =
     let end = c.index-end.result.now in
     let os = c.args.ends.now.items in
     let l : k < length os = search (rules, arith) in
-    let l' : k < length (places (map outlet os)) = rw (length-map, length-map) l in
-    let at : get_or (places (map outlet os)) k (0, 0) ≡ (end.router, end.port) = place-of outlet os k end (0, 0) l ∙ ap (λ (o : Outlet). (outlet o).at) (sym c.index-end.ensures) in
+    let l' : k < length (arrival_places (map outlet os)) = rw (length-map, length-map) l in
+    let at : get_or (arrival_places (map outlet os)) k (0, 0) ≡ (end.router, end.port) = place-of outlet os k end (0, 0) l ∙ ap (λ (o : Outlet). (outlet o).at) (sym c.index-end.ensures) in
     let w = c.requires.within k l' in
     let r_in : end.router < length c.args.beats.now = let e = ap (λ (z : ℕ × ℕ). z.0) at in omega (arith, w.0, e) in
     let p_in : end.port < 6 = let e = ap (λ (z : ℕ × ℕ). z.1) at in omega (arith, w.1, e) in
@@ -101,8 +101,8 @@ loop-k-preserved c =
     let end = c.index-end.result.now in
     let os = c.args.ends.now.items in
     let l : k < length os = search (rules, arith) in
-    let l' : k < length (places (map outlet os)) = rw (length-map, length-map) l in
-    let at : get_or (places (map outlet os)) k (0, 0) ≡ (end.router, end.port) = place-of outlet os k end (0, 0) l ∙ ap (λ (o : Outlet). (outlet o).at) (sym c.index-end.ensures) in
+    let l' : k < length (arrival_places (map outlet os)) = rw (length-map, length-map) l in
+    let at : get_or (arrival_places (map outlet os)) k (0, 0) ≡ (end.router, end.port) = place-of outlet os k end (0, 0) l ∙ ap (λ (o : Outlet). (outlet o).at) (sym c.index-end.ensures) in
     let w = c.requires.within k l' in
     let r_in : end.router < length c.args.beats.now = let e = ap (λ (z : ℕ × ℕ). z.0) at in omega (arith, w.0, e) in
     let p_in : end.port < 6 = let e = ap (λ (z : ℕ × ℕ). z.1) at in omega (arith, w.1, e) in
@@ -114,12 +114,12 @@ loop-k-preserved c =
       size = length-set bs end.router (set (get_or bs end.router []) end.port c.idle-beat.result) ∙ v.size;
       rows = rows_kept bs (Some (end.router, end.port)) c.idle-beat.result v.rows;
       marks = c.note.ensures.marks bs b long v.marks;
-      beats = λ r q. cleared-more (places (map outlet os)) c.args.beats.now bs k end.router end.port c.idle-beat.result c.idle-beat.ensures at b long r q (v.beats r q);
+      beats = λ r q. cleared-more (arrival_places (map outlet os)) c.args.beats.now bs k end.router end.port c.idle-beat.result c.idle-beat.ensures at b long r q (v.beats r q);
     }
 
 pub returns-clause-beats : goal.returns-clause-beats
 returns-clause-beats c =
-    let ps = places (map outlet c.args.ends.now.items) in
+    let ps = arrival_places (map outlet c.args.ends.now.items) in
     let end : c.loop-k.k ≡ length ps =
     let q : c.loop-k.k ≡ length c.args.ends.now.items = search (rules, arith) in
     q ∙ sym (length-map (map outlet c.args.ends.now.items) (λ (w : End). w.at) ∙ length-map c.args.ends.now.items outlet) in

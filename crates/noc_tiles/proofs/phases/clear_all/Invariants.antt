@@ -3,7 +3,7 @@ use Rattle.noc_router.specs.View.{idle_beat}
 use Rattle.noc_net.specs.Halves.{beat_at}
 use Rattle.noc_net.specs.Marks.{AreMarked}
 use Rattle.noc_tiles.specs.Ends.{outlet}
-use Rattle.noc_tiles.specs.TileStep.{places}
+use Rattle.noc_tiles.specs.TileStep.{arrival_places}
 use Rattle.noc_tiles.proofs.phases.clear_all.Given as goal
 
 -- the wires of the ends before this one are idle, and the others as they were
@@ -13,6 +13,6 @@ invariant-loop-k l = record {
   rows : (i : ℕ) → i < length l.beats → length (get_or l.beats i []) ≡ 6;
   marks : AreMarked l.marks l.beats;
   beats : (r q : ℕ)
-      → ((o : ℕ) × (o < l.k) × (get_or (places (map outlet l.ends.items)) o (0, 0) ≡ (r, q)) × (beat_at l.beats r q ≡ idle_beat))
-      ⊎ (((o : ℕ) → o < l.k → get_or (places (map outlet l.ends.items)) o (0, 0) ≢ (r, q)) × (beat_at l.beats r q ≡ beat_at l.initial.beats r q));
+      → ((o : ℕ) × (o < l.k) × (get_or (arrival_places (map outlet l.ends.items)) o (0, 0) ≡ (r, q)) × (beat_at l.beats r q ≡ idle_beat))
+      ⊎ (((o : ℕ) → o < l.k → get_or (arrival_places (map outlet l.ends.items)) o (0, 0) ≢ (r, q)) × (beat_at l.beats r q ≡ beat_at l.initial.beats r q));
 }

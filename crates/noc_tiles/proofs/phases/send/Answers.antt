@@ -6,16 +6,16 @@ use Rattle.noc_net.specs.Halves.{beat_at}
 use Rattle.noc_net.specs.Marks.{AreMarked}
 use Rattle.noc_tiles.specs.Ends.{outlet}
 use Rattle.noc_tiles.specs.Phases.{IsCleared}
-use Rattle.noc_tiles.specs.TileStep.{fed, places}
-use Rattle.noc_tiles.specs.Tiles.{AreWithin, outlets}
+use Rattle.noc_tiles.specs.TileStep.{ends_after_beats, arrival_places}
+use Rattle.noc_tiles.specs.Tiles.{AreLinkPorts, outlets}
 use Rattle.noc_tiles.proofs.TileStepLemmas.{places-names}
 use Rattle.noc_tiles.proofs.phases.send.Goals as goal
 
 pub clear_all-requires-clause-within : goal.clear_all-requires-clause-within
 clear_all-requires-clause-within g c =
     let a = c.args.tile.now in
-    let same : places (map outlet c.put_all.new.ends.items) ≡ places (outlets a) = places-names (map outlet c.put_all.new.ends.items) (outlets a) c.put_all.ensures.ends in
-    subst (λ (k : ℕ). AreWithin k 6 (places (map outlet c.put_all.new.ends.items))) (sym (ap length c.deref_mut.ensures.value)) (subst (AreWithin (length a.beats.items) 6) (sym same) c.requires.within)
+    let same : arrival_places (map outlet c.put_all.new.ends.items) ≡ arrival_places (outlets a) = places-names (map outlet c.put_all.new.ends.items) (outlets a) c.put_all.ensures.ends in
+    subst (λ (k : ℕ). AreLinkPorts k 6 (arrival_places (map outlet c.put_all.new.ends.items))) (sym (ap length c.deref_mut.ensures.value)) (subst (AreLinkPorts (length a.beats.items) 6) (sym same) c.requires.within)
 
 pub returns-clause-marks : goal.returns-clause-marks
 returns-clause-marks g c h =
@@ -25,15 +25,15 @@ returns-clause-marks g c h =
 pub returns-clause-sent : goal.returns-clause-sent
 returns-clause-sent g c h =
     let a = c.args.tile.now in
-    let same : places (map outlet c.put_all.new.ends.items) ≡ places (outlets a) = places-names (map outlet c.put_all.new.ends.items) (outlets a) c.put_all.ensures.ends in
+    let same : arrival_places (map outlet c.put_all.new.ends.items) ≡ arrival_places (outlets a) = places-names (map outlet c.put_all.new.ends.items) (outlets a) c.put_all.ensures.ends in
     let before : c.deref_mut.result.now ≡ a.beats.items = c.deref_mut.ensures.value in
     let w = with_items a.beats c.clear_all.new.beats in
     let after : w.items ≡ c.clear_all.new.beats = with_items_is a.beats c.clear_all.new.beats (search (rules, arith)) in
     record {
-      outs = c.if-not-put_all.ensures.put refl ∙ ap (λ (b : List (List Beat)). fed (outlets a) (map (λ (p : ℕ × ℕ). beat_at b p.0 p.1) (places (outlets a)))) c.deref.ensures.value;
+      outs = c.if-not-put_all.ensures.put refl ∙ ap (λ (b : List (List Beat)). ends_after_beats (outlets a) (map (λ (p : ℕ × ℕ). beat_at b p.0 p.1) (arrival_places (outlets a)))) c.deref.ensures.value;
       cleared = λ r q.
-          subst (λ (b : List (List Beat)). IsCleared (places (outlets a)) a.beats.items b (length (places (outlets a))) r q) (sym after)
-          (subst (λ (b : List (List Beat)). IsCleared (places (outlets a)) b c.clear_all.new.beats (length (places (outlets a))) r q) before
+          subst (λ (b : List (List Beat)). IsCleared (arrival_places (outlets a)) a.beats.items b (length (arrival_places (outlets a))) r q) (sym after)
+          (subst (λ (b : List (List Beat)). IsCleared (arrival_places (outlets a)) b c.clear_all.new.beats (length (arrival_places (outlets a))) r q) before
           (subst (λ (ps : List (ℕ × ℕ)). IsCleared ps c.deref_mut.result.now c.clear_all.new.beats (length ps) r q) same (c.clear_all.ensures.beats r q)));
       size = ap length after ∙ (c.clear_all.ensures.count ∙ ap length before);
     }

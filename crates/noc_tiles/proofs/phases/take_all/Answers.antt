@@ -3,7 +3,7 @@ use Rattle.std.proofs.lemmas.List.{length_push, length-map, take_at, length-set}
 use Rattle.noc_net.specs.Halves.{beat_at}
 use Rattle.noc_model.proofs.WireLemmas.{rows_kept}
 use Rattle.noc_tiles.specs.Ends.{End, inlet}
-use Rattle.noc_tiles.specs.TileStep.{places, filled, names}
+use Rattle.noc_tiles.specs.TileStep.{arrival_places, with_row, names}
 use Rattle.noc_tiles.proofs.TileStepLemmas.{names-fed, names-set, fed-nil, filled-nil, length-same, place-at, within-at, one-more, filled-more, beat_at-set, with_beat-same}
 use Rattle.noc_tiles.proofs.phases.take_all.Goals as goal
 
@@ -12,7 +12,7 @@ loop-one-init g c = record {
   row = [];
   width = refl;
   ends = sym (fed-nil _);
-  beats = λ r q. sym (filled-nil (beat_at c.args.beats.now) (places (map inlet c.deref_mut-one-items.result.now)) r q);
+  beats = λ r q. sym (filled-nil (beat_at c.args.beats.now) (arrival_places (map inlet c.deref_mut-one-items.result.now)) r q);
   marks = c.requires.marks;
   size = refl;
   rows = λ i l. search rules;
@@ -83,18 +83,18 @@ loop-one-preserved g c =
     let r_in : new.router < length bs = let e = ap (λ (w : ℕ × ℕ). w.0) at in let s = v.size in search (rules, arith) in
     let p_in : new.port < 6 = let e = ap (λ (w : ℕ × ℕ). w.1) at in omega (arith, p.1, e) in
     let long : new.port < length (get_or bs new.router []) = omega (arith, p_in, v.rows new.router r_in) in
-    let place : (new.router, new.port) ≡ get_or (places (map inlet items0)) (length v.row) (0, 0) =
-    at ∙ sym (place-at inlet items0 c.loop-one.one-items v.row i c.one-item.result (0, 0) v.ends l) ∙ ap (λ k. get_or (places (map inlet items0)) k (0, 0)) (sym v.width) in
+    let place : (new.router, new.port) ≡ get_or (arrival_places (map inlet items0)) (length v.row) (0, 0) =
+    at ∙ sym (place-at inlet items0 c.loop-one.one-items v.row i c.one-item.result (0, 0) v.ends l) ∙ ap (λ k. get_or (arrival_places (map inlet items0)) k (0, 0)) (sym v.width) in
     let n = length-same inlet items0 c.loop-one.one-items v.row v.ends in
-    let l0 : length v.row < length (places (map inlet items0)) = rw (length-map, length-map) (omega (arith, v.width, n, l)) in
+    let l0 : length v.row < length (arrival_places (map inlet items0)) = rw (length-map, length-map) (omega (arith, v.width, n, l)) in
     record {
       row = v.row ++ x ∷ [];
       width = length_push v.row x ∙ ap (λ n. n + 1) v.width;
       ends = one-more inlet items0 c.loop-one.one-items v.row i x c.one-item.result new v.ends l v.width took;
       beats = λ r q.
           beat_at-set bs new.router new.port x r_in long r q
-          ∙ with_beat-same (beat_at bs) (filled (beat_at c.args.beats.now) (places (map inlet items0)) v.row) (new.router, new.port) (get_or (places (map inlet items0)) (length v.row) (0, 0)) x r q place (v.beats r q)
-          ∙ filled-more (beat_at c.args.beats.now) (places (map inlet items0)) v.row x (0, 0) r q l0;
+          ∙ with_beat-same (beat_at bs) (with_row (beat_at c.args.beats.now) (arrival_places (map inlet items0)) v.row) (new.router, new.port) (get_or (arrival_places (map inlet items0)) (length v.row) (0, 0)) x r q place (v.beats r q)
+          ∙ filled-more (beat_at c.args.beats.now) (arrival_places (map inlet items0)) v.row x (0, 0) r q l0;
       marks = c.note.ensures.marks bs r_in long v.marks;
       size = length-set bs new.router (set (get_or bs new.router []) new.port x) ∙ v.size;
       rows = rows_kept bs (Some (new.router, new.port)) x v.rows;

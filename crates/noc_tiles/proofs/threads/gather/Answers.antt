@@ -1,7 +1,7 @@
 use Rattle.std.proofs.Common.{◌≡◌, ◌∙◌, ◌++◌, ◌∷◌, List, [], ap}
 use Rattle.std.specs.List.{flat_map}
 use Rattle.std.proofs.lemmas.List.{flat_map_more}
-use Rattle.noc_tiles.specs.Partition.{routers_of, rows_of}
+use Rattle.noc_tiles.specs.Partition.{routers_of, wire_rows_of}
 use Rattle.noc_tiles.specs.Tiles.{inlets, outlets}
 use Rattle.noc_tiles.specs.declared.tile.Tile.{Tile}
 use Rattle.noc_tiles.proofs.threads.gather.Goals as goal
@@ -17,7 +17,7 @@ loop-tile-preserved c =
     let more = c.in_ok-add.ensures in
     record {
       routers = with_one routers_of c.loop-tile.yielded c.in-Some.tile _ _ so_far.routers more.routers;
-      beats = with_one rows_of c.loop-tile.yielded c.in-Some.tile _ _ so_far.beats more.beats;
+      beats = with_one wire_rows_of c.loop-tile.yielded c.in-Some.tile _ _ so_far.beats more.beats;
       ins = with_one inlets c.loop-tile.yielded c.in-Some.tile _ _ so_far.ins more.ins;
       outs = with_one outlets c.loop-tile.yielded c.in-Some.tile _ _ so_far.outs more.outs;
     }

@@ -8,7 +8,7 @@ use Rattle.noc_net.specs.Halves.{beat_at}
 use Rattle.noc_net.specs.declared.parts.Parts.{Parts}
 use Rattle.noc_tiles.specs.Ends.{inlet, outlet}
 use Rattle.noc_tiles.specs.Tiles.{AllCanRun, Gating, inlets, outlets}
-use Rattle.noc_tiles.specs.Partition.{setup_of, rows_of}
+use Rattle.noc_tiles.specs.Partition.{setup_of, wire_rows_of}
 use Rattle.noc_tiles.proofs.BoundaryLemmas.{all_asked, all_runs, same_count, vec-length}
 use Rattle.noc_tiles.proofs.GatherLemmas.{tile_in, all_can, can_empty, can-empty-as, empties-as, fits, rows-length, views-done, wires-done}
 use Rattle.noc_tiles.proofs.PartsLemmas.{parts-again}
@@ -76,7 +76,7 @@ from_parts-requires g c =
     let rows : length all.beats.items ≡ nodes net.relation.grid = ap length G.beats ∙ rows-length net n k I O xs ys W r d in
     let was : c.deref_mut.result.now ≡ all.beats.items = c.deref_mut.ensures.value in
     let i : vec_len all.ins ≡ length (flat_map inlets ys) = vec-length all.ins ∙ (sym (length-map all.ins.items inlet) ∙ ap length G.ins) in
-    let C = empties-as (map inlet all.ins.items) (flat_map inlets ys) (map outlet all.outs.items) (flat_map outlets ys) (vec_len all.ins) (length (flat_map inlets ys)) c.deref_mut.result.now (flat_map rows_of ys) c.empty_all.new.beats
+    let C = empties-as (map inlet all.ins.items) (flat_map inlets ys) (map outlet all.outs.items) (flat_map outlets ys) (vec_len all.ins) (length (flat_map inlets ys)) c.deref_mut.result.now (flat_map wire_rows_of ys) c.empty_all.new.beats
     G.ins G.outs i (was ∙ G.beats) c.empty_all.ensures in
     let now : (with_items all.beats c.empty_all.new.beats).items ≡ c.empty_all.new.beats = with_items_is all.beats c.empty_all.new.beats (c.empty_all.ensures.same ∙ (ap length was ∙ sym (vec-length all.beats))) in
     let Q : Parts = record {

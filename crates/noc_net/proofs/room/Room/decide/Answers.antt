@@ -6,7 +6,7 @@ use Rattle.noc_topo.proofs.WordLemmas.{map_indexed-from_each}
 use Rattle.noc_packet.specs.declared.packet.Beat.{Beat}
 use Rattle.noc_router.specs.View.{idle_beat}
 use Rattle.noc_net.specs.declared.wire.Wire.{Wire}
-use Rattle.noc_model.specs.Core.{finished, is_linked}
+use Rattle.noc_model.specs.Core.{post_after_last_put, is_linked}
 use Rattle.noc_net.specs.Room.{unput_for, wire_beats, wires_in}
 use Rattle.noc_model.proofs.PostLemmas.{same_post}
 use Rattle.noc_net.proofs.RoomLemmas.{each_more, then_some_is}
@@ -51,6 +51,6 @@ returns c = λ net view grid.
     ∙ ap (λ beat. if is_some (neighbour site.grid site.node port) then Some beat else None) (sym (get_or-take links beats port idle_beat l'))
     ∙ ap (λ (g : Grid). if is_some (neighbour g site.node port) then Some (get_or (take links beats) port idle_beat) else None) (sym grid)) in
     c.finish.ensures net view (ap local_port grid ∙ sym c.requires.links)
-    ∙ ap (finished net) (same_post view view room.steps c.args.self.now.steps (take links (wires_in room)) (take links (wires_in c.args.self.now))
+    ∙ ap (post_after_last_put net) (same_post view view room.steps c.args.self.now.steps (take links (wires_in room)) (take links (wires_in c.args.self.now))
     (take links room.taken) (take links c.args.self.now.taken) room.decided true (take links room.unput) (unput_for net site.node (take links beats))
     refl kept.steps (ap (λ (wires : List Wire). take links (map wire_beats wires)) kept.wires) (ap (take links) kept.taken) kept.decided unput)

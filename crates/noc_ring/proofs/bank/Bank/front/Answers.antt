@@ -1,7 +1,7 @@
 use Rattle.std.proofs.Common.{ap, sym, arith}
 use Rattle.std.specs.List.{slice_get}
 use Rattle.std.proofs.lemmas.Option.{slice_get_past}
-use Rattle.noc_ring.specs.Rings.{ring_at}
+use Rattle.noc_ring.specs.Buffers.{buffer_at}
 use Rattle.noc_ring.proofs.RingLemmas.{ring-known, slot, front-is}
 use Rattle.noc_ring.proofs.HeldLemmas.{front-held}
 use Rattle.noc_ring.proofs.bank.Bank.front.Goals as goal
@@ -15,7 +15,7 @@ offset_bounds-self-inside-ring c = let ring = ring-known c.self.invariant.0 c.se
 pub returns-then-ends-eq0 : goal.returns-then-ends-eq0
 returns-then-ends-eq0 c =
     let ring = ring-known c.self.invariant.0 c.self.view_is c.requires in
-    sym (slice_get_past (ring_at c.args.self.now c.args.ring) 0 (omega (arith, ring.count)))
+    sym (slice_get_past (buffer_at c.args.self.now c.args.ring) 0 (omega (arith, ring.count)))
 
 pub overflow_mul-ring : goal.overflow_mul-ring
 overflow_mul-ring c =

@@ -1,6 +1,6 @@
 use Rattle.std.proofs.Common.{ap, sym, ◌∙◌, arith, length}
 use Rattle.std.specs.Prelude.{nat_le}
-use Rattle.noc_ring.specs.Rings.{ring_at}
+use Rattle.noc_ring.specs.Buffers.{buffer_at}
 use Rattle.noc_ring.proofs.RingLemmas.{ring-known}
 use Rattle.noc_ring.proofs.bank.Bank.is_full.Goals as goal
 
@@ -14,4 +14,4 @@ pub returns : goal.returns
 returns c =
     let ring = ring-known c.self.invariant.0 c.self.view_is c.requires in
     ap (nat_le c.self.inside.capacity) (sym ring.count)
-    ∙ ap (λ n. nat_le n (length (ring_at c.args.self.now c.args.ring))) (sym ring.capacity)
+    ∙ ap (λ n. nat_le n (length (buffer_at c.args.self.now c.args.ring))) (sym ring.capacity)

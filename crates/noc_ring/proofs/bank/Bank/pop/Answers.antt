@@ -1,5 +1,5 @@
 use Rattle.std.proofs.Common.{ap, sym, ◌∙◌, ◌∷◌, arith}
-use Rattle.noc_ring.specs.Rings.{Rings, ring_at}
+use Rattle.noc_ring.specs.Buffers.{Buffers, buffer_at}
 use Rattle.noc_ring.proofs.RingLemmas.{ring-known, slot, place-below, set-ends_fits, popped-is, front-is, ring_at-popped}
 use Rattle.noc_ring.proofs.HeldLemmas.{front-held, pop-held}
 use Rattle.noc_ring.proofs.bank.Bank.pop.Goals as goal
@@ -62,4 +62,4 @@ returns-clause-first c =
     let ring = ring-known c.self.invariant.0 c.self.view_is c.requires.ring in
     front-is ring _ (omega (arith, ring.count, c.requires.some)) c.take-flit.ensures.value
     ∙ ap (λ flits. c.take-flit.result ∷ flits)
-    (sym (ap (λ (v : Rings). ring_at v c.args.ring) (returns-clause-rest c) ∙ ring_at-popped c.args.self.now c.args.ring c.requires.ring))
+    (sym (ap (λ (v : Buffers). buffer_at v c.args.ring) (returns-clause-rest c) ∙ ring_at-popped c.args.self.now c.args.ring c.requires.ring))

@@ -2,18 +2,18 @@ use Rattle.std.proofs.Common.{◌≡◌, true, sym, subst}
 use Rattle.std.proofs.lemmas.Result.{err_from_is_err_and}
 use Rattle.noc_route.specs.Built.{IsRelationOfRule}
 use Rattle.noc_route.specs.Entered.{routing_in}
-use Rattle.noc_route.specs.Relation.{Routing, IsFaultOf, is_right}
+use Rattle.noc_route.specs.Relation.{RelationParts, IsFaultOf, is_right}
 use Rattle.noc_route.specs.Routes.{IsRelation}
 use Rattle.noc_route.specs.Trimming.{routes_in}
-use Rattle.noc_route.specs.declared.frame.Frame.{Frame}
+use Rattle.noc_route.specs.declared.sizes.Sizes.{Sizes}
 use Rattle.noc_route.proofs.WayLemmas.{routing_in-frame}
 use Rattle.noc_route.proofs.relation.Relation.build.Goals as goal
 
 pub sets_of-requires : goal.sets_of-requires
 sets_of-requires c =
     let s = c.in-Some.ensures.some in
-    let P : Frame → Type 0 = λ f. is_right f.shape f.vcs f.classes c.args.rule ≡ true in
-    let Q : Routing → Type 0 = λ g. is_right g.grid g.vcs g.classes g.rule ≡ true in
+    let P : Sizes → Type 0 = λ f. is_right f.shape f.vcs f.classes c.args.rule ≡ true in
+    let Q : RelationParts → Type 0 = λ g. is_right g.grid g.vcs g.classes g.rule ≡ true in
     subst P (sym c.in_ok-map.ensures) (subst Q (sym (routing_in-frame c.in-Some.frame c.args.shape.now c.args.vcs c.args.classes c.args.rule s.1 s.2 s.3)) s.0)
 
 pub returns-in_default-clause-exact : goal.returns-in_default-clause-exact
@@ -26,22 +26,22 @@ pub returns-in_err-sets_of-clause-exact : goal.returns-in_err-sets_of-clause-exa
 returns-in_err-sets_of-clause-exact c =
     let s = c.in-Some.ensures.some in
     let p = err_from_is_err_and c.from_residual-in_err-sets_of.result c.from_residual-in_err-sets_of.ensures.1 in
-    let P : Frame → Type 0 = λ f. IsFaultOf (routing_in f c.args.rule) c.in_err-sets_of.field-0.0 in
-    let Q : Routing → Type 0 = λ g. IsFaultOf g c.in_err-sets_of.field-0.0 in
+    let P : Sizes → Type 0 = λ f. IsFaultOf (routing_in f c.args.rule) c.in_err-sets_of.field-0.0 in
+    let Q : RelationParts → Type 0 = λ g. IsFaultOf g c.in_err-sets_of.field-0.0 in
     rw (p.1, p.2)
     (subst Q (routing_in-frame c.in-Some.frame c.args.shape.now c.args.vcs c.args.classes c.args.rule s.1 s.2 s.3)
     (subst P c.in_ok-map.ensures c.in_err-sets_of.ensures))
 
 pub invariant_of-result : goal.invariant_of-result
-invariant_of-result c = let P : Frame → Type 0 = λ f. IsRelation (routes_in f c.in_ok-sets_of.field-0.items) in subst P c.in_ok-map.ensures c.in_ok-sets_of.ensures.built
+invariant_of-result c = let P : Sizes → Type 0 = λ f. IsRelation (routes_in f c.in_ok-sets_of.field-0.items) in subst P c.in_ok-map.ensures c.in_ok-sets_of.ensures.built
 
 pub returns-clause-exact : goal.returns-clause-exact
 returns-clause-exact c =
     let s = c.in-Some.ensures.some in
     let items = c.in_ok-sets_of.field-0.items in
-    let P : Frame → Type 0 = λ f. IsRelationOfRule (routing_in f c.args.rule) (routes_in f items) in
-    let Q : Routing → Type 0 = λ g. IsRelationOfRule g (routes_in c.in-Some.frame items) in
+    let P : Sizes → Type 0 = λ f. IsRelationOfRule (routing_in f c.args.rule) (routes_in f items) in
+    let Q : RelationParts → Type 0 = λ g. IsRelationOfRule g (routes_in c.in-Some.frame items) in
     subst Q (routing_in-frame c.in-Some.frame c.args.shape.now c.args.vcs c.args.classes c.args.rule s.1 s.2 s.3) (subst P c.in_ok-map.ensures c.in_ok-sets_of.ensures)
 
 pub returns-clause-built : goal.returns-clause-built
-returns-clause-built c = let P : Frame → Type 0 = λ f. IsRelation (routes_in f c.in_ok-sets_of.field-0.items) in subst P c.in_ok-map.ensures c.in_ok-sets_of.ensures.built
+returns-clause-built c = let P : Sizes → Type 0 = λ f. IsRelation (routes_in f c.in_ok-sets_of.field-0.items) in subst P c.in_ok-map.ensures c.in_ok-sets_of.ensures.built

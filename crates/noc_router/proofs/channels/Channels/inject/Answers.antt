@@ -1,6 +1,6 @@
 use Rattle.std.proofs.Common.{arith, ap, ◌∙◌}
 use Rattle.std.specs.Prelude.{◌||◌, is_some}
-use Rattle.noc_ring.specs.Rings.{ring_at}
+use Rattle.noc_ring.specs.Buffers.{buffer_at}
 use Rattle.noc_vc.specs.Input.{Input, idle_input, is_empty}
 use Rattle.noc_router.proofs.ChannelLemmas.{AreSound-landed, read-at, next-either}
 use Rattle.noc_router.proofs.channels.Channels.inject.Goals as goal
@@ -12,4 +12,4 @@ invariant_of-self-clause-sound c =
     AreSound-landed s.size _ s.bank c.inject.new.bank s.inputs.items s.outputs.items c.with-self.result c.args.index _ _ c.args.flit
     s.sound (omega arith) (omega arith) c.requires.exists c.with-self.ensures.members
     at c.inject.ensures.channel c.inject.ensures.bank
-    (ap (λ (x : Input). is_empty (ring_at s.bank c.args.index) || is_some x.awaited) at ∙ next-either _ _ c.requires.next)
+    (ap (λ (x : Input). is_empty (buffer_at s.bank c.args.index) || is_some x.awaited) at ∙ next-either _ _ c.requires.next)

@@ -1,7 +1,7 @@
 use Rattle.std.proofs.Common.{◌≡◌, arith, ap, sym, refl, ◌∙◌}
 use Rattle.std.specs.Prelude.{◌&&◌, not, nat_lt}
 use Rattle.noc_vc.specs.Input.{is_active}
-use Rattle.noc_vc.specs.Output.{Output, ejection_output, has_credit_at, is_free, is_owned, spent}
+use Rattle.noc_vc.specs.Output.{Output, ejection_output, has_credit_at, is_free, is_owned, output_after_spend}
 use Rattle.noc_router.proofs.ChannelLemmas.{AreSound-sent, KeepsAwaiting-sent, filled-count, free-kept, has_credit-count, is_owned-from, owner-there, read-at}
 use Rattle.noc_router.proofs.channels.Channels.send.Goals.{then-not-flit, else-not-flit}
 use Rattle.noc_router.proofs.channels.Channels.send.Goals as goal
@@ -23,7 +23,7 @@ let_go-requires-clause-still c = λ more.
     let s = c.args.self.now in
     let there = read-at s.outputs.items c.args.next c.index_mut-output.result.now ejection_output (omega arith) c.index_mut-output.ensures.value in
     s.sound.idle_is c.args.next c.requires.output ∙ sym (ap (λ (x : Output). is_free x.holder) there) ∙ sym (free-kept c.index_mut-output.result.now)
-    ∙ sym (c.is_idle.ensures ∙ ap (λ (x : Output). is_free x.holder) (c.spend.ensures ∙ ap (λ last. spent last c.index_mut-output.result.now) more))
+    ∙ sym (c.is_idle.ensures ∙ ap (λ (x : Output). is_free x.holder) (c.spend.ensures ∙ ap (λ last. output_after_spend last c.index_mut-output.result.now) more))
 
 pub invariant_of-self-clause-sound : goal.invariant_of-self-clause-sound
 invariant_of-self-clause-sound c =

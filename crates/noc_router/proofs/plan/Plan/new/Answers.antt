@@ -2,7 +2,7 @@ use Rattle.std.proofs.Common.{◌≡◌, ◌*◌, ◌∙◌, ap, arith, length, 
 use Rattle.noc_topo.specs.Shape.{ports}
 use Rattle.noc_topo.specs.Words.{tabulate}
 use Rattle.noc_topo.proofs.WordLemmas.{get_or-tabulate, length-tabulate}
-use Rattle.noc_router.specs.Decided.{IsDecidedFor, no_outcome}
+use Rattle.noc_router.specs.Decided.{IsDecidedFor, empty_plan_contents}
 use Rattle.noc_router.specs.VerdictSets.{verdict_by}
 use Rattle.noc_router.specs.declared.verdict.Verdict.TheVariants.{Empty}
 use Rattle.noc_router.proofs.PlannedLemmas.{no_event, no_outcome-lengths, no_outcome-parts}
@@ -22,7 +22,7 @@ returns-clause-value c =
     let long : length (tabulate r.size (verdict_by c.empty.result)) ≡ m * vcs = length-tabulate r.size (verdict_by c.empty.result) ∙ c.in_ok-new.ensures.size in
     no_outcome-parts m vcs _ c.in_ok-new.ensures.round c.in_ok-new.ensures.asks long
     (λ k l. get_or-tabulate r.size k (verdict_by c.empty.result) Empty (omega (arith, c.in_ok-new.ensures.size)) ∙ c.empty.ensures.verdicts k) c.in_ok-new.ensures.routes
-    ∙ ap (λ n. no_outcome n vcs) (c.ports-ports.ensures.value ∙ ap ports c.shape.ensures.value) ∙ ap (no_outcome (ports c.args.relation.now.grid)) c.vcs.ensures.value
+    ∙ ap (λ n. empty_plan_contents n vcs) (c.ports-ports.ensures.value ∙ ap ports c.shape.ensures.value) ∙ ap (empty_plan_contents (ports c.args.relation.now.grid)) c.vcs.ensures.value
 
 pub returns-clause-lengths : goal.returns-clause-lengths
 returns-clause-lengths c =

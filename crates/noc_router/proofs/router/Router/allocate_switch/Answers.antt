@@ -2,8 +2,8 @@ use Rattle.std.proofs.Common.{◌≡◌, ℕ, ◌+◌, ◌*◌, ◌<◌, Some, N
 use Rattle.std.specs.Prelude.{IfSome, option_and_then, ◌||◌}
 use Rattle.noc_topo.specs.Shape.{ports as ports_of}
 use Rattle.noc_packet.specs.Set.{has_bit}
-use Rattle.noc_alloc.specs.Arbiter.{turn_at}
-use Rattle.noc_router.specs.Offers.{farther, offered}
+use Rattle.noc_alloc.specs.Arbiter.{arbiter_at}
+use Rattle.noc_router.specs.Offers.{farther, firsts_after_request}
 use Rattle.noc_router.specs.Standing.{way_of}
 use Rattle.noc_router.specs.Requests.{AllBelow, pick_in}
 use Rattle.noc_router.specs.Verdict.{ready_of}
@@ -154,8 +154,8 @@ loop-first-preserved-in-Some-offer_way c =
           here.behind c.from-rest.result c.offer_way.new.requests.picks c.offer_way.new.requests.wins c.with-picked.result c.with-lost.result c.from-rest.ensures.members
           (allocated-offered r v c.args.ready q vc l.requests.picks l.requests.wins c.pick.new.self.picks c.offer_way.new.requests.picks c.offer_way.new.requests.wins l.picked c.with-picked.result l.lost c.with-lost.result c.offer_way.result
           c.self.view_is c.self.invariant c.requires.ready here.inside (l.requests.a_pick_each ∙ ports) (l.requests.a_win_each ∙ ports) at (subst (λ w. IfSome w (λ output. output < ports_of v.site.grid)) way c.offer_way.ensures.way)
-          (c.pick.ensures.picks ∙ ap (set l.requests.picks q) c.in-Some-pick.is) c.offer_way.ensures.picks (c.offer_way.ensures.wins o way ∙ ap (offered v.arbiters.outputs o q) c.pick.ensures.wins)
-          (c.offer_way.ensures.loser o way ∙ ap (λ ws. option_and_then (pick_in v.site.vcs c.pick.new.self.picks) (farther (turn_at v.arbiters.outputs o).pointer (get_or ws o None) q)) c.pick.ensures.wins)
+          (c.pick.ensures.picks ∙ ap (set l.requests.picks q) c.in-Some-pick.is) c.offer_way.ensures.picks (c.offer_way.ensures.wins o way ∙ ap (firsts_after_request v.arbiters.outputs o q) c.pick.ensures.wins)
+          (c.offer_way.ensures.loser o way ∙ ap (λ ws. option_and_then (pick_in v.site.vcs c.pick.new.self.picks) (farther (arbiter_at v.arbiters.outputs o).pointer (get_or ws o None) q)) c.pick.ensures.wins)
           c.with-picked.ensures.members (λ k. c.with-lost.ensures.members k ∙ ap (λ x. is_loser x k || has_bit l.lost k) (sym c.in-Some-offer_way.is)) here.so_far);
     }
 
@@ -183,8 +183,8 @@ loop-first-preserved-in_default-offer_way c =
           here.behind c.from-rest.result c.offer_way.new.requests.picks c.offer_way.new.requests.wins c.with-picked.result l.lost c.from-rest.ensures.members
           (allocated-offered r v c.args.ready q vc l.requests.picks l.requests.wins c.pick.new.self.picks c.offer_way.new.requests.picks c.offer_way.new.requests.wins l.picked c.with-picked.result l.lost l.lost c.offer_way.result
           c.self.view_is c.self.invariant c.requires.ready here.inside (l.requests.a_pick_each ∙ ports) (l.requests.a_win_each ∙ ports) at (subst (λ w. IfSome w (λ output. output < ports_of v.site.grid)) way c.offer_way.ensures.way)
-          (c.pick.ensures.picks ∙ ap (set l.requests.picks q) c.in-Some-pick.is) c.offer_way.ensures.picks (c.offer_way.ensures.wins o way ∙ ap (offered v.arbiters.outputs o q) c.pick.ensures.wins)
-          (c.offer_way.ensures.loser o way ∙ ap (λ ws. option_and_then (pick_in v.site.vcs c.pick.new.self.picks) (farther (turn_at v.arbiters.outputs o).pointer (get_or ws o None) q)) c.pick.ensures.wins)
+          (c.pick.ensures.picks ∙ ap (set l.requests.picks q) c.in-Some-pick.is) c.offer_way.ensures.picks (c.offer_way.ensures.wins o way ∙ ap (firsts_after_request v.arbiters.outputs o q) c.pick.ensures.wins)
+          (c.offer_way.ensures.loser o way ∙ ap (λ ws. option_and_then (pick_in v.site.vcs c.pick.new.self.picks) (farther (arbiter_at v.arbiters.outputs o).pointer (get_or ws o None) q)) c.pick.ensures.wins)
           c.with-picked.ensures.members (λ k. ap (λ x. is_loser x k || has_bit l.lost k) (sym c.in_default-offer_way.is)) here.so_far);
     }
 

@@ -8,15 +8,15 @@ use Rattle.noc_router.proofs.router.Router.move_flit.Goals as goal
 pub invariant_of-self : goal.invariant_of-self
 invariant_of-self c = IsRouter-channels c.self.inside c.send-flit.new.self true c.self.invariant c.send-flit.ensures.size c.send-flit.ensures.places c.send-flit.ensures.awaits
 
-pub turn_switch-requires-clause-port : goal.turn_switch-requires-clause-port
-turn_switch-requires-clause-port c =
+pub advance_switch_pointers-requires-clause-port : goal.advance_switch_pointers-requires-clause-port
+advance_switch_pointers-requires-clause-port c =
     let of = λ (v : View). ports v.site.grid in
     let same : ports c.self-2.inside.shape ≡ ports c.self.inside.shape = ap of c.self-2.view_is ∙ ap of c.put_flit.ensures ∙ ap (λ (s : Site). ports s.grid) (put-site c.place-output.result.0 c.place-output.result.1 c.send-flit.result c.put_credit.new.self) ∙ ap of c.put_credit.ensures in
     let few : c.place-port.result.0 < ports c.self.inside.shape = search (rules, arith) in
     omega (arith, few, same, c.self-2.invariant.arbiter_ports, c.self-2.invariant.ports)
 
-pub turn_switch-requires-clause-output : goal.turn_switch-requires-clause-output
-turn_switch-requires-clause-output c =
+pub advance_switch_pointers-requires-clause-output : goal.advance_switch_pointers-requires-clause-output
+advance_switch_pointers-requires-clause-output c =
     let of = λ (v : View). ports v.site.grid in
     let same : ports c.self-2.inside.shape ≡ ports c.self.inside.shape = ap of c.self-2.view_is ∙ ap of c.put_flit.ensures ∙ ap (λ (s : Site). ports s.grid) (put-site c.place-output.result.0 c.place-output.result.1 c.send-flit.result c.put_credit.new.self) ∙ ap of c.put_credit.ensures in
     let few : c.place-output.result.0 < ports c.self.inside.shape = search (rules, arith) in

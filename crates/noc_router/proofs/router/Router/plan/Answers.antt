@@ -5,7 +5,7 @@ use Rattle.noc_router.specs.Asked.{grants_on, round_in}
 use Rattle.noc_router.specs.Decided.{IsDecidedFor}
 use Rattle.noc_router.specs.Standing.{IsStanding}
 use Rattle.noc_router.specs.VerdictSets.{verdict_by}
-use Rattle.noc_router.specs.View.{Outcome, size_of}
+use Rattle.noc_router.specs.View.{PlanContents, size_of}
 use Rattle.noc_router.specs.declared.verdict.Verdict.TheVariants.{Empty}
 use Rattle.noc_router.proofs.PlannedLemmas.{grants-view, outcome-lengths, outcome-parts, round-made}
 use Rattle.noc_router.proofs.StandLemmas.{standing-view}
@@ -29,7 +29,7 @@ returns-clause-value c =
     let asked : List (Option ℕ) = c.ask_for_channels.new.requests.asks in
     let sets = c.verdicts-plan-inside.result in
     let before : c.plan.inside.requests.size ≡ size_of v.site =
-    sym c.plan.inside.requests.an_ask_each ∙ ap (λ (o : Outcome). length o.asks) c.plan.view_is ∙ c.requires.plan.asks in
+    sym c.plan.inside.requests.an_ask_each ∙ ap (λ (o : PlanContents). length o.asks) c.plan.view_is ∙ c.requires.plan.asks in
     let size : n.size ≡ size_of v.site = c.allocate_switch.ensures.size ∙ c.grant_all.ensures.size ∙ c.ask_for_channels.ensures.size ∙ c.route_heads.ensures.size ∙ c.clear.ensures.size ∙ before in
     let grants : n.grants ≡ grants_on (ports v.site.grid) v.site.vcs asked v.arbiters =
     c.allocate_switch.ensures.grants ∙ c.grant_all.ensures.grants ∙ grants-view r v asked c.self.view_is c.self.invariant in
@@ -48,7 +48,7 @@ invariant_of-plan c =
     let v = c.args.self.now in
     let n = c.allocate_switch.new.requests in
     let before : c.plan.inside.requests.size ≡ size_of v.site =
-    sym c.plan.inside.requests.an_ask_each ∙ ap (λ (o : Outcome). length o.asks) c.plan.view_is ∙ c.requires.plan.asks in
+    sym c.plan.inside.requests.an_ask_each ∙ ap (λ (o : PlanContents). length o.asks) c.plan.view_is ∙ c.requires.plan.asks in
     let size : n.size ≡ size_of v.site = c.allocate_switch.ensures.size ∙ c.grant_all.ensures.size ∙ c.ask_for_channels.ensures.size ∙ c.route_heads.ensures.size ∙ c.clear.ensures.size ∙ before in
     record {
       events = λ k e. let l = c.verdicts-plan-inside.ensures.events k e in omega arith;

@@ -1,7 +1,7 @@
 use Rattle.std.proofs.Common.{◌≡◌, ap, sym, ◌∙◌, subst}
 use Rattle.noc_topo.specs.Shape.{ports, local_port}
 use Rattle.noc_router.specs.Decided.{IsDecidedFor}
-use Rattle.noc_router.specs.View.{View, Site, local_step, injected, planned, committed, idle_beats}
+use Rattle.noc_router.specs.View.{View, Site, local_step, view_after_inject, decisions_of, view_after_commit, idle_beats}
 use Rattle.noc_router.proofs.SiteLemmas.{all_taken-site, injected-site, committed-site}
 use Rattle.noc_router.proofs.router.Router.step.Goals as goal
 
@@ -36,7 +36,7 @@ put_all-requires c =
     let v = c.args.self.now in
     let relation = c.args.relation.now in
     let site : c.commit.new.self.site ≡ v.site =
-    ap (λ (x : View). x.site) (c.commit.ensures relation c.plan.ensures.value) ∙ committed-site (planned relation c.inject.new.self) c.inject.new.self
+    ap (λ (x : View). x.site) (c.commit.ensures relation c.plan.ensures.value) ∙ committed-site (decisions_of relation c.inject.new.self) c.inject.new.self
     ∙ ap (λ (x : View). x.site) c.inject.ensures ∙ injected-site c.args.cycle c.take_all.new.self ∙ ap (λ (x : View). x.site) c.take_all.ensures ∙ all_taken-site relation c.args.beats_in.now v in
     c.requires.beats_out ∙ ap (λ (s : Site). local_port s.grid) (sym site)
 
@@ -47,7 +47,7 @@ returns-clause-view c =
     c.put_all.ensures.view
     ∙ ap (λ (x : View). record x { to_put = idle_beats x.site })
     (c.commit.ensures relation c.plan.ensures.value
-    ∙ ap (λ (x : View). committed (planned relation x) x) (c.inject.ensures ∙ ap (injected c.args.cycle) c.take_all.ensures))
+    ∙ ap (λ (x : View). view_after_commit (decisions_of relation x) x) (c.inject.ensures ∙ ap (view_after_inject c.args.cycle) c.take_all.ensures))
 
 pub returns-clause-beats : goal.returns-clause-beats
 unfolding local_step
@@ -56,7 +56,7 @@ returns-clause-beats c =
     c.put_all.ensures.beats
     ∙ ap (λ (x : View). x.to_put)
     (c.commit.ensures relation c.plan.ensures.value
-    ∙ ap (λ (x : View). committed (planned relation x) x) (c.inject.ensures ∙ ap (injected c.args.cycle) c.take_all.ensures))
+    ∙ ap (λ (x : View). view_after_commit (decisions_of relation x) x) (c.inject.ensures ∙ ap (view_after_inject c.args.cycle) c.take_all.ensures))
 
 pub returns-clause-plan : goal.returns-clause-plan
 returns-clause-plan c =
@@ -69,6 +69,6 @@ returns-clause-plan c =
 pub returns-clause-site : goal.returns-clause-site
 returns-clause-site c =
     let relation = c.args.relation.now in
-    ap (λ (x : View). x.site) c.put_all.ensures.view ∙ ap (λ (x : View). x.site) (c.commit.ensures relation c.plan.ensures.value) ∙ committed-site (planned relation c.inject.new.self) c.inject.new.self
+    ap (λ (x : View). x.site) c.put_all.ensures.view ∙ ap (λ (x : View). x.site) (c.commit.ensures relation c.plan.ensures.value) ∙ committed-site (decisions_of relation c.inject.new.self) c.inject.new.self
     ∙ ap (λ (x : View). x.site) c.inject.ensures ∙ injected-site c.args.cycle c.take_all.new.self ∙ ap (λ (x : View). x.site) c.take_all.ensures
     ∙ all_taken-site relation c.args.beats_in.now c.args.self.now

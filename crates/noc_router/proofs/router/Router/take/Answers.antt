@@ -1,11 +1,11 @@
 use Rattle.std.proofs.Common.{ℕ, ap, sym, ◌∙◌, Option, Some}
 use Rattle.noc_packet.specs.declared.packet.Flit.{Flit}
-use Rattle.noc_router.specs.View.{View, with_flit, with_credit, taken}
+use Rattle.noc_router.specs.View.{View, with_flit, with_credit, view_after_take}
 use Rattle.noc_router.proofs.router.Router.take.Goals as goal
 use Rattle.noc_router.proofs.router.Router.take.Goals.{in-Some, in_default}
 
 pub returns-in-Some-credit : goal.returns-in-Some-credit
-unfolding taken
+unfolding view_after_take
 returns-in-Some-credit c =
     let v = c.args.self.now in
     let g = c.args.relation.now in
@@ -18,7 +18,7 @@ returns-in-Some-credit c =
     ])
 
 pub returns-in_default-credit : goal.returns-in_default-credit
-unfolding taken
+unfolding view_after_take
 returns-in_default-credit c =
     let v = c.args.self.now in
     let g = c.args.relation.now in

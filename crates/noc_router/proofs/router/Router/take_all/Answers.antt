@@ -1,7 +1,7 @@
 use Rattle.std.proofs.Common.{ap, take, arith, sym, ◌∙◌}
 use Rattle.std.proofs.lemmas.List.{take_all}
 use Rattle.noc_topo.specs.Shape.{local_port}
-use Rattle.noc_router.specs.View.{Site, taken_from, all_taken}
+use Rattle.noc_router.specs.View.{Site, view_after_takes_from, view_after_takes}
 use Rattle.noc_router.proofs.SiteLemmas.{taken_from-site}
 use Rattle.noc_router.proofs.TakeLemmas.{taken_from-next}
 use Rattle.noc_router.proofs.router.Router.take_all.Goals as goal
@@ -25,6 +25,6 @@ loop-port-preserved c =
     c.take.ensures ∙ taken_from-next c.args.relation.now c.args.beats.now c.loop-port.port _ c.args.self.now c.loop-port.self c.loop-port-test.true c.loop-port.invariant
 
 pub returns : goal.returns
-unfolding all_taken
+unfolding view_after_takes
 returns c =
-    c.loop-port.invariant ∙ ap (λ beats. taken_from c.args.relation.now 0 beats c.args.self.now) (take_all c.loop-port.port c.args.beats.now c.loop-port-test.false)
+    c.loop-port.invariant ∙ ap (λ beats. view_after_takes_from c.args.relation.now 0 beats c.args.self.now) (take_all c.loop-port.port c.args.beats.now c.loop-port-test.false)

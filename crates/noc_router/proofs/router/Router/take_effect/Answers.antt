@@ -1,24 +1,24 @@
 use Rattle.std.proofs.Common.{◌≡◌, ap, sym, ◌∙◌, subst}
 use Rattle.noc_topo.specs.Shape.{ports}
 use Rattle.noc_router.specs.Decided.{IsDecidedFor}
-use Rattle.noc_router.specs.Settled.{IsOutcomeOf, decisions_by, settled}
+use Rattle.noc_router.specs.Settled.{AreContentsFor, decisions_by, view_after_verdicts}
 use Rattle.noc_router.specs.Verdict.{arbiters_after}
-use Rattle.noc_router.specs.View.{Site, View, committed}
+use Rattle.noc_router.specs.View.{Site, View, view_after_commit}
 use Rattle.noc_router.proofs.OutcomeLemmas.{decisions-are, outcome-tallied}
 use Rattle.noc_router.proofs.SiteLemmas.{closed_with, committed-is, settled-site}
 use Rattle.noc_router.proofs.router.Router.take_effect.Goals as goal
 
-pub settle_all-requires-clause-plan : goal.settle_all-requires-clause-plan
-settle_all-requires-clause-plan c =
+pub apply_verdicts-requires-clause-plan : goal.apply_verdicts-requires-clause-plan
+apply_verdicts-requires-clause-plan c =
     let p = c.args.plan.now in
     let v = c.args.self.now in
-    let P : View → Type 0 = λ x. IsOutcomeOf p x in
+    let P : View → Type 0 = λ x. AreContentsFor p x in
     subst P (sym c.count.ensures) (outcome-tallied p (decisions_by p v) v c.requires.plan)
 
-pub turn-requires : goal.turn-requires
-turn-requires c =
-    let site : c.settle_all.new.self.site ≡ c.args.self.now.site =
-    ap (λ (v : View). v.site) c.settle_all.ensures ∙ settled-site (decisions_by c.args.plan.now c.count.new.self) c.count.new.self ∙ ap (λ (v : View). v.site) c.count.ensures in
+pub advance_channel_pointers-requires : goal.advance_channel_pointers-requires
+advance_channel_pointers-requires c =
+    let site : c.apply_verdicts.new.self.site ≡ c.args.self.now.site =
+    ap (λ (v : View). v.site) c.apply_verdicts.ensures ∙ settled-site (decisions_by c.args.plan.now c.count.new.self) c.count.new.self ∙ ap (λ (v : View). v.site) c.count.ensures in
     let P : Site → Type 0 = λ s. IsDecidedFor (ports s.grid) s.vcs c.args.plan.now in
     record { lengths = subst P (sym site) c.requires.lengths }
 
@@ -27,9 +27,9 @@ returns c = λ relation is.
     let p = c.args.plan.now in
     let v = c.args.self.now in
     let d = decisions_by p v in
-    c.close.ensures
-    ∙ ap (λ (x : View). closed_with x.arbiters x) c.turn.ensures
+    c.end_cycle.ensures
+    ∙ ap (λ (x : View). closed_with x.arbiters x) c.advance_channel_pointers.ensures
     ∙ ap (λ (x : View). closed_with (record x.arbiters { channels = (arbiters_after d.round x.arbiters).channels }) x)
-    (c.settle_all.ensures ∙ ap (λ (x : View). record (settled (decisions_by p x) x) { arbiters = record (arbiters_after p.round x.arbiters) { channels = x.arbiters.channels } }) c.count.ensures)
+    (c.apply_verdicts.ensures ∙ ap (λ (x : View). record (view_after_verdicts (decisions_by p x) x) { arbiters = record (arbiters_after p.round x.arbiters) { channels = x.arbiters.channels } }) c.count.ensures)
     ∙ committed-is d v
-    ∙ ap (λ x. record (committed x v) { findings = v.findings }) (decisions-are relation p v is)
+    ∙ ap (λ x. record (view_after_commit x v) { findings = v.findings }) (decisions-are relation p v is)

@@ -4,9 +4,9 @@ use Rattle.std.proofs.lemmas.Bool.{lt-ltb, le-leb, leb-true, ltb-true, and_parts
 use Rattle.std.proofs.Math.Nat.{suc-mul}
 use Rattle.noc_topo.specs.Words.{below}
 use Rattle.noc_packet.specs.Set.{has_bit, has_from}
-use Rattle.noc_ring.specs.Rings.{ring_at}
+use Rattle.noc_ring.specs.Buffers.{buffer_at}
 use Rattle.noc_vc.specs.Input.{is_empty, is_idle_phase}
-use Rattle.noc_router.specs.Sound.{input_at}
+use Rattle.noc_router.specs.Sound.{nth_input}
 use Rattle.noc_router.specs.View.{View, is_vacant}
 use Rattle.noc_router.proofs.FindLemmas.{find-below, find-none}
 use Rattle.noc_router.proofs.RouterLemmas.{local-index}
@@ -46,13 +46,13 @@ local-end r vcs same is =
 
 -- what is vacant of the channels of this router, by local virtual channel
 is-vacant : (v : View) (r : Inside) (is : view_of r ≡ v) → IsRouter r → (set : ℕ)
-    → ((i : ℕ) → has_bit set i ≡ (nat_lt i r.channels.size && (is_idle_phase (input_at r.channels.inputs.items i).phase && is_empty (ring_at r.channels.bank i))))
+    → ((i : ℕ) → has_bit set i ≡ (nat_lt i r.channels.size && (is_idle_phase (nth_input r.channels.inputs.items i).phase && is_empty (buffer_at r.channels.bank i))))
     → (i : ℕ) → (r.ports - 1) * r.vcs ≤ i → has_bit set i ≡ (nat_lt i r.channels.size && is_vacant v (i - (r.ports - 1) * r.vcs))
 is-vacant v r is sound set each i from =
     let vc : ℕ = i - (r.ports - 1) * r.vcs in
     let back : (r.ports - 1) * r.vcs + vc ≡ i = omega (arith, from) in
     each i ∙ ap (λ b. nat_lt i r.channels.size && b)
-    (ap (λ k. is_idle_phase (input_at r.channels.inputs.items k).phase && is_empty (ring_at r.channels.bank k)) (sym back ∙ local-index r vc sound)
+    (ap (λ k. is_idle_phase (nth_input r.channels.inputs.items k).phase && is_empty (buffer_at r.channels.bank k)) (sym back ∙ local-index r vc sound)
     ∙ ap (λ (w : View). is_vacant w vc) is)
 
 pub returns-in_err-index-clause-value : goal.returns-in_err-index-clause-value

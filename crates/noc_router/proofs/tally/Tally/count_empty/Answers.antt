@@ -8,7 +8,7 @@ use Rattle.noc_router.specs.declared.verdict.Verdict.TheVariants.{Empty}
 use Rattle.noc_router.proofs.WaitLemmas.{waiting-counts}
 use Rattle.noc_router.proofs.tally.Tally.count_empty.Goals as goal
 
--- the same for each
+-- each list is counted alike
 indexed-same : (f : List ℕ → List ℕ) (xs : List (List ℕ)) → map_indexed (λ i x. f x) xs ≡ map f xs
 indexed-same f xs = sym (map_indexed-from_each (λ i x. f x) xs (map f xs) [] [] (length-map xs f) (λ i l. get_or-map f xs i [] [] l))
 

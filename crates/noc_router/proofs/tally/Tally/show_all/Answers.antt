@@ -1,7 +1,7 @@
 use Rattle.std.proofs.Common.{◌≡◌, ℕ, suc, ◌+◌, ◌<◌, List, ◌∷◌, None, refl, ap, sym, ◌∙◌, add-one, arith, drop, drop-cons, get_or, length, vec_len, subst}
 use Rattle.std.proofs.lemmas.List.{drop_all, get_or_default}
-use Rattle.noc_router.specs.Settled.{outcome_verdict}
-use Rattle.noc_router.specs.Sound.{input_at, named}
+use Rattle.noc_router.specs.Settled.{planned_verdict}
+use Rattle.noc_router.specs.Sound.{nth_input, finding_with}
 use Rattle.noc_router.specs.Tally.{finding_at}
 use Rattle.noc_router.specs.declared.verdict.Finding.{Finding}
 use Rattle.noc_router.specs.declared.verdict.Verdict.{Verdict}
@@ -12,7 +12,7 @@ pub loop-place-init : goal.loop-place-init
 loop-place-init c =
     let q = c.args.plan.now in
     let n = vec_len c.args.self.now.counts in
-    let note : ℕ → Verdict → Finding → Finding = λ k v old. named c.args.indices.now.vcs (input_at c.args.channels.now.inputs.items k) v (get_or q.asks k None) in
+    let note : ℕ → Verdict → Finding → Finding = λ k v old. finding_with c.args.indices.now.vcs (nth_input c.args.channels.now.inputs.items k) v (get_or q.asks k None) in
     record {
       size = refl;
       begun = refl;
@@ -20,17 +20,17 @@ loop-place-init c =
       counters = refl;
       counts = refl;
       below = c.requires.left;
-      noting = noting-first Finding note (outcome_verdict q) n (finding_at c.args.self.now.findings.items) c.with_verdicts-sets.result c.args.left
+      noting = noting-first Finding note (planned_verdict q) n (finding_at c.args.self.now.findings.items) c.with_verdicts-sets.result c.args.left
           (λ k e. plan_verdict c.plan.inside q n k c.plan.view_is c.requires.verdicts (c.requires.left k e) ∙ sym (c.with_verdicts-sets.ensures.verdicts k))
           c.requires.left c.requires.full
-          (λ k l e. ap (λ v. note k v (finding_at c.args.self.now.findings.items k)) (empty_is (outcome_verdict q k) (sym (c.requires.full k l) ∙ e)) ∙ sym (c.requires.others k l e));
+          (λ k l e. ap (λ v. note k v (finding_at c.args.self.now.findings.items k)) (empty_is (planned_verdict q k) (sym (c.requires.full k l) ∙ e)) ∙ sym (c.requires.others k l e));
     }
 
 pub loop-place-preserved : goal.loop-place-preserved
 loop-place-preserved c =
     let q = c.args.plan.now in
     let n = vec_len c.args.self.now.counts in
-    let note : ℕ → Verdict → Finding → Finding = λ k v old. named c.args.indices.now.vcs (input_at c.args.channels.now.inputs.items k) v (get_or q.asks k None) in
+    let note : ℕ → Verdict → Finding → Finding = λ k v old. finding_with c.args.indices.now.vcs (nth_input c.args.channels.now.inputs.items k) v (get_or q.asks k None) in
     let start : ℕ → Finding = finding_at c.args.self.now.findings.items in
     let inv = c.loop-place.invariant in
     let sets = c.with_verdicts-sets.result in
@@ -42,7 +42,7 @@ loop-place-preserved c =
     let next : drop place sets ≡ (first.0, again.1) ∷ drop (place + 1) sets =
     drop-cons sets place c.index-sets-place.result within ∙ ap (λ (x : ℕ × Verdict). (first.0, x.1) ∷ drop (suc place) sets) (sym same)
     ∙ ap (λ m. (first.0, again.1) ∷ drop m sets) (sym (add-one place)) in
-    let P : List (ℕ × Verdict) → Type 0 = λ xs. IsNoting Finding note (outcome_verdict q) n start xs c.loop-place.rest (finding_at c.loop-place.self.findings.items) in
+    let P : List (ℕ × Verdict) → Type 0 = λ xs. IsNoting Finding note (planned_verdict q) n start xs c.loop-place.rest (finding_at c.loop-place.self.findings.items) in
     record {
       size = c.show_each-rest.ensures.size ∙ inv.size;
       begun = c.show_each-rest.ensures.begun ∙ inv.begun;
@@ -50,7 +50,7 @@ loop-place-preserved c =
       counters = c.show_each-rest.ensures.counters ∙ inv.counters;
       counts = c.show_each-rest.ensures.counts ∙ inv.counts;
       below = c.show_each-rest.ensures.below;
-      noting = noting-more Finding note (outcome_verdict q) n start first.0 again.1 (drop (place + 1) sets) c.loop-place.rest (finding_at c.loop-place.self.findings.items) c.show_each-rest.result
+      noting = noting-more Finding note (planned_verdict q) n start first.0 again.1 (drop (place + 1) sets) c.loop-place.rest (finding_at c.loop-place.self.findings.items) c.show_each-rest.result
           (finding_at c.show_each-rest.new.self.findings.items) (subst P next inv.noting) c.show_each-rest.ensures.left (λ k l. c.show_each-rest.ensures.findings k (omega (arith, l, inv.size)));
     }
 
@@ -58,9 +58,9 @@ pub returns-clause-findings : goal.returns-clause-findings
 returns-clause-findings c = λ k l.
     let q = c.args.plan.now in
     let n = vec_len c.args.self.now.counts in
-    let note : ℕ → Verdict → Finding → Finding = λ k v old. named c.args.indices.now.vcs (input_at c.args.channels.now.inputs.items k) v (get_or q.asks k None) in
+    let note : ℕ → Verdict → Finding → Finding = λ k v old. finding_with c.args.indices.now.vcs (nth_input c.args.channels.now.inputs.items k) v (get_or q.asks k None) in
     let start : ℕ → Finding = finding_at c.args.self.now.findings.items in
     let now : ℕ → Finding = finding_at c.loop-place.self.findings.items in
-    let P : List (ℕ × Verdict) → Type 0 = λ xs. IsNoting Finding note (outcome_verdict q) n start xs c.loop-place.rest now in
-    noting-last Finding note (outcome_verdict q) n start c.loop-place.rest now
+    let P : List (ℕ × Verdict) → Type 0 = λ xs. IsNoting Finding note (planned_verdict q) n start xs c.loop-place.rest now in
+    noting-last Finding note (planned_verdict q) n start c.loop-place.rest now
     (subst P (drop_all c.loop-place.place c.with_verdicts-sets.result (omega (arith, c.with_verdicts-sets.ensures.count))) c.loop-place.invariant.noting) k l

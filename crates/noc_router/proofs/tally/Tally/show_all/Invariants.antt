@@ -1,7 +1,7 @@
 use Rattle.std.proofs.Common.{◌≡◌, None, drop, get_or, vec_len}
 use Rattle.noc_router.specs.Members.{AreBelow}
-use Rattle.noc_router.specs.Settled.{outcome_verdict}
-use Rattle.noc_router.specs.Sound.{input_at, named}
+use Rattle.noc_router.specs.Settled.{planned_verdict}
+use Rattle.noc_router.specs.Sound.{nth_input, finding_with}
 use Rattle.noc_router.specs.Tally.{finding_at}
 use Rattle.noc_router.specs.declared.verdict.Finding.{Finding}
 use Rattle.noc_router.proofs.TallyLemmas.{IsNoting}
@@ -16,6 +16,6 @@ invariant-loop-place l = record {
   counters : l.self.counters ≡ l.fn.self.counters;
   counts : l.self.counts.items ≡ l.fn.self.counts.items;
   below : AreBelow (vec_len l.self.counts) l.rest;
-  noting : IsNoting Finding (λ k v old. named l.fn.indices.vcs (input_at l.fn.channels.inputs.items k) v (get_or l.fn.plan.asks k None)) (outcome_verdict l.fn.plan) (vec_len l.fn.self.counts)
+  noting : IsNoting Finding (λ k v old. finding_with l.fn.indices.vcs (nth_input l.fn.channels.inputs.items k) v (get_or l.fn.plan.asks k None)) (planned_verdict l.fn.plan) (vec_len l.fn.self.counts)
       (finding_at l.fn.self.findings.items) (drop l.place l.sets) l.rest (finding_at l.self.findings.items);
 }

@@ -1,14 +1,14 @@
 use Rattle.std.proofs.Common.{◌≡◌, true, None, ℕ, refl, arith, vec_len, get_or}
 use Rattle.std.proofs.lemmas.Bool.{and_parts}
 use Rattle.noc_packet.specs.Set.{has_bit}
-use Rattle.noc_router.specs.Sound.{input_at, named}
+use Rattle.noc_router.specs.Sound.{nth_input, finding_with}
 use Rattle.noc_router.specs.declared.verdict.Finding.{Finding}
 use Rattle.noc_router.proofs.TallyLemmas.{left-first, left-more, shown-first, shown-last, shown-more, shown_tally}
 use Rattle.noc_router.proofs.tally.Tally.show_each.Goals as goal
 
 pub loop-index-init : goal.loop-index-init
 loop-index-init c =
-    let found : ℕ → Finding = λ k. named c.args.indices.now.vcs (input_at c.args.channels.now.inputs.items k) c.args.verdict (get_or c.args.plan.now.asks k None) in
+    let found : ℕ → Finding = λ k. finding_with c.args.indices.now.vcs (nth_input c.args.channels.now.inputs.items k) c.args.verdict (get_or c.args.plan.now.asks k None) in
     record {
       size = refl;
       begun = refl;
@@ -34,7 +34,7 @@ loop-index-preserved c =
     let rest = c.loop-index.rest in
     let i = c.in-Some.index in
     let inv = c.loop-index.invariant in
-    let found : ℕ → Finding = λ k. named c.args.indices.now.vcs (input_at c.args.channels.now.inputs.items k) c.args.verdict (get_or c.args.plan.now.asks k None) in
+    let found : ℕ → Finding = λ k. finding_with c.args.indices.now.vcs (nth_input c.args.channels.now.inputs.items k) c.args.verdict (get_or c.args.plan.now.asks k None) in
     let in_set : has_bit c.args.set i ≡ true = (and_parts (has_bit c.args.set i) (has_bit rest i) c.in-Some.ensures.least.0).0 in
     let in_rest : has_bit rest i ≡ true = (and_parts (has_bit c.args.set i) (has_bit rest i) c.in-Some.ensures.least.0).1 in
     record {
@@ -50,6 +50,6 @@ loop-index-preserved c =
 
 pub returns-clause-findings : goal.returns-clause-findings
 returns-clause-findings c =
-    let found : ℕ → Finding = λ k. named c.args.indices.now.vcs (input_at c.args.channels.now.inputs.items k) c.args.verdict (get_or c.args.plan.now.asks k None) in
+    let found : ℕ → Finding = λ k. finding_with c.args.indices.now.vcs (nth_input c.args.channels.now.inputs.items k) c.args.verdict (get_or c.args.plan.now.asks k None) in
     shown-last found (vec_len c.args.self.now.counts) c.args.set c.args.left c.loop-index.rest c.args.self.now.findings.items c.loop-index.self.findings.items c.loop-index.invariant.shown c.loop-index.invariant.left
     c.in_default.ensures.least

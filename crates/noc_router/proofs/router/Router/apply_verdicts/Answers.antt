@@ -2,13 +2,13 @@ use Rattle.std.proofs.Common.{ap, arith, sym, ◌∙◌}
 use Rattle.std.specs.Prelude.{not, nat_eq}
 use Rattle.std.proofs.lemmas.Bool.{and_parts}
 use Rattle.noc_packet.specs.Set.{has_bit}
-use Rattle.noc_router.specs.Settled.{decisions_by, outcome_verdict}
+use Rattle.noc_router.specs.Settled.{decisions_by, planned_verdict}
 use Rattle.noc_router.proofs.LinkLemmas.{none_below-more, none_from_search}
 use Rattle.noc_router.proofs.OutcomeLemmas.{can_take, effect_first, effect_more}
 use Rattle.noc_router.proofs.PassedLemmas.{can_take-turns, each-view, effect-turns, passed-all, passing-more, passing_first, with_turns}
 use Rattle.noc_router.proofs.QuietLemmas.{least_member}
 use Rattle.noc_router.proofs.SettleLemmas.{none_left, whole_view, size_view}
-use Rattle.noc_router.proofs.router.Router.settle_all.Goals as goal
+use Rattle.noc_router.proofs.router.Router.apply_verdicts.Goals as goal
 
 pub loop-init : goal.loop-init
 loop-init c =
@@ -25,15 +25,15 @@ loop-init c =
       events = λ k e. sym (c.events-rest.ensures k) ∙ e;
     }
 
-pub settle-requires-clause-event : goal.settle-requires-clause-event
-settle-requires-clause-event c = c.loop.invariant.events c.in-Some.index (least_member c.loop.rest c.in-Some.index c.in-Some.ensures.least)
+pub apply_verdict-requires-clause-event : goal.apply_verdict-requires-clause-event
+apply_verdict-requires-clause-event c = c.loop.invariant.events c.in-Some.index (least_member c.loop.rest c.in-Some.index c.in-Some.ensures.least)
 
-pub settle-requires-clause-can : goal.settle-requires-clause-can
-settle-requires-clause-can c =
+pub apply_verdict-requires-clause-can : goal.apply_verdict-requires-clause-can
+apply_verdict-requires-clause-can c =
     let p = c.args.plan.now in
     let v = c.args.self.now in
     let i = c.in-Some.index in
-    can_take-turns p v.arbiters c.loop.self i (outcome_verdict p i)
+    can_take-turns p v.arbiters c.loop.self i (planned_verdict p i)
     (can_take p v (with_turns v.arbiters c.loop.self) c.loop.rest c.without-rest.result i c.loop.invariant.whole c.requires.plan c.without-rest.ensures.members
     (least_member c.loop.rest i c.in-Some.ensures.least) c.loop.invariant.settling)
 
@@ -46,9 +46,9 @@ loop-preserved c =
     record {
       whole = c.loop.invariant.whole;
       each = c.loop.invariant.each;
-      settling = effect_more p v (with_turns v.arbiters c.loop.self) c.loop.rest c.without-rest.result i (with_turns v.arbiters c.settle.new.self) c.loop.invariant.whole c.requires.plan c.without-rest.ensures.members
-          member c.loop.invariant.settling (ap (with_turns v.arbiters) c.settle.ensures ∙ effect-turns p v.arbiters c.loop.self i (outcome_verdict p i));
-      passing = passing-more p v c.loop.self c.loop.rest c.without-rest.result i c.settle.new.self c.loop.invariant.whole c.requires.plan c.without-rest.ensures.members member c.loop.invariant.settling c.loop.invariant.passing c.settle.ensures;
+      settling = effect_more p v (with_turns v.arbiters c.loop.self) c.loop.rest c.without-rest.result i (with_turns v.arbiters c.apply_verdict.new.self) c.loop.invariant.whole c.requires.plan c.without-rest.ensures.members
+          member c.loop.invariant.settling (ap (with_turns v.arbiters) c.apply_verdict.ensures ∙ effect-turns p v.arbiters c.loop.self i (planned_verdict p i));
+      passing = passing-more p v c.loop.self c.loop.rest c.without-rest.result i c.apply_verdict.new.self c.loop.invariant.whole c.requires.plan c.without-rest.ensures.members member c.loop.invariant.settling c.loop.invariant.passing c.apply_verdict.ensures;
       below = none_below-more c.loop.counter i c.loop.rest c.without-rest.result c.in-Some.ensures.least c.without-rest.ensures.members c.loop.invariant.below;
       events = λ k e. c.loop.invariant.events k (and_parts (not (nat_eq k i)) (has_bit c.loop.rest k) (sym (c.without-rest.ensures.members k) ∙ e)).1;
     }

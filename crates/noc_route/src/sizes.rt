@@ -12,14 +12,14 @@ use noc_topo::{Kind, Shape};
 
 const _: () = prove!(noc_topo::MAX_NODES == MAX_NODES && noc_topo::MAX_PORTS == MAX_PORTS);
 
-/// A shape with its numbers of channels per link and of classes.
+// A shape with its numbers of channels per link and of classes.
 #[derive(Clone, Copy)]
-pub struct Frame {
-    pub shape: Shape,
-    pub vcs: usize,
-    pub classes: usize,
-    pub node_count: usize,
-    pub port_count: usize,
+pub(crate) struct Sizes {
+    pub(crate) shape: Shape,
+    pub(crate) vcs: usize,
+    pub(crate) classes: usize,
+    pub(crate) node_count: usize,
+    pub(crate) port_count: usize,
     ghost grid: { IsGrid shape },
     ghost all_nodes: { node_count ≡ nodes shape },
     ghost all_ports: { port_count ≡ ports shape },
@@ -32,16 +32,16 @@ pub struct Frame {
     ghost few_classes: { classes ≤ MAX_CLASSES },
 }
 
-impl Frame {
-    /// The frame of these numbers, where a relation can be made of them and of this rule.
-    pub fn of(shape: &Shape, vcs: usize, classes: usize, rule: &Rule) -> Option<Frame>
+impl Sizes {
+    // The frame of these numbers, where a relation can be made of them and of this rule.
+    pub(crate) fn of(shape: &Shape, vcs: usize, classes: usize, rule: &Rule) -> Option<Sizes>
         ensures none { IfNone result (is_right shape.now vcs classes rule.now ≡ false) }
         ensures some { IfSome result (λ frame. (is_right shape.now vcs classes rule.now ≡ true) × (frame.shape ≡ shape.now) × (frame.vcs ≡ vcs) × (frame.classes ≡ classes)) }
     {
         if !is_right(shape, vcs, classes, rule) {
             return None;
         }
-        Some(Frame {
+        Some(Sizes {
             shape: *shape,
             vcs,
             classes,
@@ -50,24 +50,24 @@ impl Frame {
         })
     }
 
-    /// How many input channels a router has, and output channels.
-    pub fn width(&self) -> usize
+    // How many input channels a router has, and output channels.
+    pub(crate) fn width(&self) -> usize
         ensures value { result ≡ width self.now.shape self.now.vcs }
         ensures few { result ≤ INDICES }
     {
         self.port_count * self.vcs
     }
 
-    /// How many pages the table has: one for each router, class and destination.
-    pub fn pages(&self) -> usize
+    // How many pages the table has: one for each router, class and destination.
+    pub(crate) fn pages(&self) -> usize
         ensures value { result ≡ pages self.now.shape self.now.classes }
         ensures few { result ≤ MAX_NODES * MAX_CLASSES * MAX_NODES }
     {
         self.node_count * self.classes * self.node_count
     }
 
-    /// The number of a page.
-    pub fn page(&self, class: usize, router: usize, dst: usize) -> usize
+    // The number of a page.
+    pub(crate) fn page(&self, class: usize, router: usize, dst: usize) -> usize
         requires class { class < self.now.classes }
         requires router { router < nodes self.now.shape }
         requires dst { dst < nodes self.now.shape }
@@ -77,8 +77,8 @@ impl Frame {
         (router * self.classes + class) * self.node_count + dst
     }
 
-    /// The class, router and destination of a page.
-    pub fn page_parts(&self, page: usize) -> (usize, usize, usize)
+    // The class, router and destination of a page.
+    pub(crate) fn page_parts(&self, page: usize) -> (usize, usize, usize)
         requires { page < pages self.now.shape self.now.classes }
         ensures class { result.0 ≡ page_class self.now.shape self.now.classes page }
         ensures router { result.1 ≡ page_router self.now.shape self.now.classes page }
@@ -93,8 +93,8 @@ impl Frame {
         )
     }
 
-    /// The index of a channel of a router, as an input or as an output.
-    pub fn index(&self, port: usize, vc: usize) -> usize
+    // The index of a channel of a router, as an input or as an output.
+    pub(crate) fn index(&self, port: usize, vc: usize) -> usize
         requires port { port < ports self.now.shape }
         requires vc { vc < self.now.vcs }
         ensures value { result ≡ port * self.now.vcs + vc }
@@ -104,8 +104,8 @@ impl Frame {
         port * self.vcs + vc
     }
 
-    /// The place in the table of an input channel of a page.
-    pub fn slot(&self, page: usize, input: usize) -> usize
+    // The place in the table of an input channel of a page.
+    pub(crate) fn slot(&self, page: usize, input: usize) -> usize
         requires page { page < pages self.now.shape self.now.classes }
         requires input { input < width self.now.shape self.now.vcs }
         ensures value { result ≡ page * width self.now.shape self.now.vcs + input }
@@ -114,8 +114,8 @@ impl Frame {
         page * self.width() + input
     }
 
-    /// The place of an entry in the table.
-    pub fn place(
+    // The place of an entry in the table.
+    pub(crate) fn place(
         &self,
         class: usize,
         router: usize,
@@ -134,8 +134,8 @@ impl Frame {
         self.slot(self.page(class, router, dst), self.index(in_port, in_vc))
     }
 
-    /// Whether a channel is one of a class's channels.
-    pub fn is_in_block(&self, class: usize, vc: usize) -> bool
+    // Whether a channel is one of a class's channels.
+    pub(crate) fn is_in_block(&self, class: usize, vc: usize) -> bool
         requires { class < self.now.classes }
         ensures { result ≡ is_in_block self.now.vcs self.now.classes class vc }
     {

@@ -1,10 +1,10 @@
 use Rattle.std.proofs.Common.{◌≡◌, ℕ, ◌<◌, true, false}
 use Rattle.noc_packet.specs.Set.{has_bit}
-use Rattle.noc_router.specs.Settled.{decisions_by, outcome_verdict}
+use Rattle.noc_router.specs.Settled.{decisions_by, planned_verdict}
 use Rattle.noc_router.specs.Verdict.{is_event}
 use Rattle.noc_router.proofs.PassedLemmas.{AreEach, IsPassing, with_turns}
 use Rattle.noc_router.proofs.SettleLemmas.{IsSettling, IsWhole}
-use Rattle.noc_router.proofs.router.Router.settle_all.Given as goal
+use Rattle.noc_router.proofs.router.Router.apply_verdicts.Given as goal
 
 -- the verdicts of the channels that are not left have taken effect, none is left below the counter, and those that are left are to take effect
 abbrev pub invariant-loop : goal.invariant-loop
@@ -14,5 +14,5 @@ invariant-loop l = record {
   settling : IsSettling (decisions_by l.plan l.fn.self) l.fn.self l.rest (with_turns l.fn.self.arbiters l.self);
   passing : IsPassing (decisions_by l.plan l.fn.self) l.fn.self l.rest l.self.arbiters;
   below : (k : ℕ) → k < l.counter → has_bit l.rest k ≡ false;
-  events : (k : ℕ) → has_bit l.rest k ≡ true → is_event (outcome_verdict l.plan k) ≡ true;
+  events : (k : ℕ) → has_bit l.rest k ≡ true → is_event (planned_verdict l.plan k) ≡ true;
 }

@@ -11,8 +11,8 @@ abbrev pub entries : Routes → ℕ
 entries routes = routes.classes * nodes routes.grid * ports routes.grid * routes.vcs * nodes routes.grid
 
 -- the entry of a number, with class, router, input port and channel, and destination as digits
-abbrev pub entry_at : Routes → ℕ → Entry
-entry_at routes n = record {
+abbrev pub numbered_entry : Routes → ℕ → Entry
+numbered_entry routes n = record {
   class = n / nodes routes.grid / routes.vcs / ports routes.grid / nodes routes.grid;
   router = n / nodes routes.grid / routes.vcs / ports routes.grid % nodes routes.grid;
   in_port = n / nodes routes.grid / routes.vcs % ports routes.grid;

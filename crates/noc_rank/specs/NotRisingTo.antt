@@ -1,9 +1,9 @@
 -- Descents, by places.
 use Rattle.std.specs.Prelude.{◌≡◌, ℕ, ◌*◌, ◌/◌, ◌%◌, ◌<◌, ◌≤◌, Bool, true, false, List, Option, Some, None, nat_le, slice_index_or, length, if◌then◌else◌}
 use Rattle.noc_topo.specs.Shape.{nodes, local_port}
-use Rattle.noc_route.specs.Ranks.{is_place, is_channel, place_of, rank_at}
+use Rattle.noc_route.specs.Ranks.{is_place, is_channel, rank_index, rank_at}
 use Rattle.noc_route.specs.Routes.{Routes}
-use Rattle.noc_rank.specs.Ahead.{over, IsAhead}
+use Rattle.noc_rank.specs.LeastAhead.{over, IsAhead}
 use Rattle.noc_rank.specs.declared.place.LinkChannel.{LinkChannel}
 use Rattle.noc_rank.specs.declared.descent.Descent.{Descent}
 use Rattle.noc_rank.specs.declared.fault.RankFault.{RankFault}
@@ -36,7 +36,7 @@ abbrev pub mark_below : List (Option ℕ) → ℕ → ℕ → Option ℕ
 mark_below ranks start k = if falls (slice_index_or ranks start None) (slice_index_or ranks k None) then Some k else None
 
 -- a place with a rank that is no less than the one ahead of it
-pub record IsStart (ranks least : List (Option ℕ)) (n : ℕ) : Type 0 where
+pub record BeginsDescent (ranks least : List (Option ℕ)) (n : ℕ) : Type 0 where
   pub inside : n < length ranks
   pub falls : falls (slice_index_or ranks n None) (slice_index_or least n None) ≡ true
 
@@ -46,7 +46,7 @@ pub record IsStartBy (routes : Routes) (ranks : List (Option ℕ)) (m t n : ℕ)
   pub port : ℕ
   pub vc : ℕ
   pub known : is_place routes.grid routes.vcs router port vc ≡ true
-  pub place : place_of routes.grid routes.vcs router port vc ≡ n
+  pub place : rank_index routes.grid routes.vcs router port vc ≡ n
   pub before : ℕ
   pub ranked : rank_at (over routes ranks) router port vc ≡ Some before
   pub after : ℕ
@@ -63,6 +63,6 @@ pub record IsOverFirst (routes : Routes) (P : ℕ → ℕ → ℕ → Type 0) (c
   pub below : number < count
   pub holds : P (number / nodes routes.grid) (number % nodes routes.grid) n
 
--- the same of all pairs
+-- something holds of a number for some class and some destination
 abbrev pub IsOver : Routes → (ℕ → ℕ → ℕ → Type 0) → ℕ → Type 0
 IsOver routes P n = IsOverFirst routes P (routes.classes * nodes routes.grid) n

@@ -26,14 +26,14 @@ is_not_above before (Some after) = nat_le after before
 abbrev pub falls_to : Ranking → ℕ → ℕ → ℕ → ℕ → Bool
 falls_to k r set before i = has_bit set i && is_not_above before (rank_at k r (i / k.vcs) (i % k.vcs))
 
--- the same where the packet came on a channel of this rank, if there is one
+-- whether a set of router r has output channel number i, whose rank is not greater than that of the channel on which the packet came, if that has one
 abbrev pub falls_from : Ranking → ℕ → ℕ → Option ℕ → ℕ → Bool
 falls_from k r set None i = false
 falls_from k r set (Some before) i = falls_to k r set before i
 
 -- how many output channels on link ports a router has
-abbrev pub links : Ranking → ℕ
-links k = local_port k.grid * k.vcs
+abbrev pub link_output_count : Ranking → ℕ
+link_output_count k = local_port k.grid * k.vcs
 
 -- the parts of the number of a class and an input channel of the network
 abbrev pub class_of : Ranking → ℕ → ℕ
@@ -42,17 +42,17 @@ class_of k e = e / k.vcs / ports k.grid / nodes k.grid
 abbrev pub router_of : Ranking → ℕ → ℕ
 router_of k e = e / k.vcs / ports k.grid % nodes k.grid
 
-abbrev pub port_of : Ranking → ℕ → ℕ
-port_of k e = e / k.vcs % ports k.grid
+abbrev pub input_port_of : Ranking → ℕ → ℕ
+input_port_of k e = e / k.vcs % ports k.grid
 
 -- how many input channels the network has, with a link or without
-abbrev pub inputs : Ranking → ℕ
-inputs k = nodes k.grid * ports k.grid * k.vcs
+abbrev pub input_count : Ranking → ℕ
+input_count k = nodes k.grid * ports k.grid * k.vcs
 
 -- whether a packet of that class that came by that input channel, bound for t, may go on by output channel i without a rise
 abbrev pub falls_at : Routes → Ranking → ℕ → ℕ → ℕ → Bool
 falls_at routes k e t i =
-    falls_from k (router_of k e) (set_at routes (class_of k e) (router_of k e) (port_of k e) (e % k.vcs) t) (arrival_rank k (router_of k e) (port_of k e) (e % k.vcs)) i
+    falls_from k (router_of k e) (set_at routes (class_of k e) (router_of k e) (input_port_of k e) (e % k.vcs) t) (arrival_rank k (router_of k e) (input_port_of k e) (e % k.vcs)) i
 
 -- the fault that names a fall
 abbrev pub fault_of_fall : Fall → RankFault
@@ -77,15 +77,15 @@ pub record IsFirstFrom (routes : Routes) (k : Ranking) (m r q w before : ℕ) (f
   pub step : fall.step ≡ record { class = m; router = r; in_port = q; in_vc = w; dst = dst; out_port = index / k.vcs; out_vc = index % k.vcs }
   pub rank : fall.rank ≡ before
   pub next : rank_at k r (index / k.vcs) (index % k.vcs) ≡ Some fall.next
-  pub least : IsLeastBelow (falls_to k r (set_at routes m r q w dst) before) (links k) index
-  pub earlier : (t : ℕ) → t < dst → HasNone (falls_to k r (set_at routes m r q w t) before) (links k)
+  pub least : IsLeastBelow (falls_to k r (set_at routes m r q w dst) before) (link_output_count k) index
+  pub earlier : (t : ℕ) → t < dst → HasNone (falls_to k r (set_at routes m r q w t) before) (link_output_count k)
 
 -- each step at this number rises
 abbrev pub HasNoFall : Routes → Ranking → ℕ → Type 0
-HasNoFall routes k e = (t : ℕ) → t < nodes k.grid → HasNone (falls_at routes k e t) (links k)
+HasNoFall routes k e = (t : ℕ) → t < nodes k.grid → HasNone (falls_at routes k e t) (link_output_count k)
 
 -- the first step at this number that does not rise
 pub record IsFirstAt (routes : Routes) (k : Ranking) (e : ℕ) (fall : Fall) : Type 0 where
   pub before : ℕ
-  pub arrival : arrival_rank k (router_of k e) (port_of k e) (e % k.vcs) ≡ Some before
-  pub first : IsFirstFrom routes k (class_of k e) (router_of k e) (port_of k e) (e % k.vcs) before fall
+  pub arrival : arrival_rank k (router_of k e) (input_port_of k e) (e % k.vcs) ≡ Some before
+  pub first : IsFirstFrom routes k (class_of k e) (router_of k e) (input_port_of k e) (e % k.vcs) before fall

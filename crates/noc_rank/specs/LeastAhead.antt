@@ -3,7 +3,7 @@ use Rattle.std.specs.Prelude.{◌≡◌, ℕ, ◌+◌, ◌*◌, ◌<◌, ◌≤�
 use Rattle.noc_packet.specs.Set.{has_bit}
 use Rattle.noc_topo.specs.Shape.{local_port, neighbour, distance}
 use Rattle.noc_route.specs.Channel.{Link}
-use Rattle.noc_route.specs.Ranks.{Ranking, LeadsTo, is_place, places, place_of, rank_at}
+use Rattle.noc_route.specs.Ranks.{Ranking, LeadsTo, is_place, rank_count, rank_index, rank_at}
 use Rattle.noc_route.specs.Routes.{Routes, permits}
 
 -- the least number with this property; none where no number has it
@@ -23,7 +23,7 @@ over routes ranks = record { grid = routes.grid; vcs = routes.vcs; ranks = ranks
 
 -- what a list has for a link channel
 abbrev pub mark_at : Routes → List (Option ℕ) → ℕ → ℕ → ℕ → Option ℕ
-mark_at routes marks r p v = slice_index_or marks (place_of routes.grid routes.vcs r p v) None
+mark_at routes marks r p v = slice_index_or marks (rank_index routes.grid routes.vcs r p v) None
 
 -- permitted steps of a class to a destination lead from a channel to one with a rank and this mark, directly or through adaptive channels
 pub record IsAhead (routes : Routes) (ranks marks : List (Option ℕ)) (m t r p v n : ℕ) : Type 0 where
@@ -57,12 +57,12 @@ IsBefore routes t d b i r j = (distance routes.grid r t < d) ⊎ ((distance rout
 
 -- the list has the least mark ahead of each channel that arrives at one of these
 pub record AreLeast (routes : Routes) (ranks marks : List (Option ℕ)) (m t d b i : ℕ) (least : List (Option ℕ)) : Type 0 where
-  pub long : length least ≡ places routes.grid routes.vcs
+  pub long : length least ≡ rank_count routes.grid routes.vcs
   pub each : (a p w r q : ℕ) → is_place routes.grid routes.vcs a p w ≡ true → neighbour routes.grid a p ≡ Some (r, q) → IsBefore routes t d b i r (q * routes.vcs + w)
       → IsLeastOf (IsAhead routes ranks marks m t a p w) (mark_at routes least a p w)
 
 -- the list has the least mark ahead of each link channel
 pub record AreAllLeast (routes : Routes) (ranks marks : List (Option ℕ)) (m t : ℕ) (least : List (Option ℕ)) : Type 0 where
-  pub long : length least ≡ places routes.grid routes.vcs
+  pub long : length least ≡ rank_count routes.grid routes.vcs
   pub each : (a p w r q : ℕ) → is_place routes.grid routes.vcs a p w ≡ true → neighbour routes.grid a p ≡ Some (r, q)
       → IsLeastOf (IsAhead routes ranks marks m t a p w) (mark_at routes least a p w)
