@@ -10,7 +10,7 @@ use Rattle.noc_topo.specs.Shape.{ports}
 use Rattle.noc_topo.proofs.WordLemmas.{get_or-tabulate, get_or-map_indexed}
 use Rattle.noc_packet.specs.Set.{has_bit}
 use Rattle.noc_packet.proofs.SetLemmas.{has_bit-zero, both_members}
-use Rattle.noc_alloc.specs.Arbiter.{Turn, first_in_turn, turn_at, turned, advanced, pointers_of}
+use Rattle.noc_alloc.specs.Arbiter.{RoundRobin, first_in_turn, arbiter_at, arbiter_after, pointer_after, pointers_of}
 use Rattle.noc_alloc.specs.Allocation.{grant_of}
 use Rattle.noc_alloc.proofs.ArbiterLemmas.{first_in_turn-same, first_in_turn-none, first_in_turn-picks}
 use Rattle.noc_vc.specs.Input.{is_waiting}
@@ -63,17 +63,17 @@ module _ (c : Column) (m : RouterMarks) (v : View) (shows : IsColumn 5 c m v) (f
 
   -- the grants of the round, by the asks of the channels
   pub grants-at : (o : ℕ) → o < size_of v.site → (asks : ℕ → Bool) → ((k : ℕ) → k < size_of v.site → asks k ≡ is_some_of (ask_of (view_claim v k)) o) → length v.arbiters.channels ≡ size_of v.site
-      → slice_index_or (view_round v).grants o None ≡ first_in_turn (size_of v.site) (turn_at v.arbiters.channels o).pointer asks
+      → slice_index_or (view_round v).grants o None ≡ first_in_turn (size_of v.site) (arbiter_at v.arbiters.channels o).pointer asks
   unfolding view_round
   grants-at o l asks same count =
       get_or-tabulate (size_of v.site) o (grant_of (asks_of (view_stands v)) (size_of v.site) (pointers_of v.arbiters.channels)) None l
-      ∙ ap (λ p. first_in_turn (size_of v.site) p (λ i. is_some_of (slice_index_or (asks_of (view_stands v)) i None) o)) (get_or-map (λ (t : Turn). t.pointer) v.arbiters.channels o (record { size = 0; pointer = 0 }) 0 (omega (arith, count)))
-      ∙ sym (first_in_turn-same (size_of v.site) (turn_at v.arbiters.channels o).pointer asks (λ i. is_some_of (slice_index_or (asks_of (view_stands v)) i None) o)
+      ∙ ap (λ p. first_in_turn (size_of v.site) p (λ i. is_some_of (slice_index_or (asks_of (view_stands v)) i None) o)) (get_or-map (λ (t : RoundRobin). t.pointer) v.arbiters.channels o (record { size = 0; pointer = 0 }) 0 (omega (arith, count)))
+      ∙ sym (first_in_turn-same (size_of v.site) (arbiter_at v.arbiters.channels o).pointer asks (λ i. is_some_of (slice_index_or (asks_of (view_stands v)) i None) o)
       (λ k lk. same k lk ∙ ap (λ a. is_some_of a o) (sym (ap (λ xs. get_or xs k None) (asks_of-stands v) ∙ get_or-tabulate (size_of v.site) k (λ i. ask_of (view_claim v i)) None lk))))
 
   -- nobody is granted a channel that nobody asks for
   pub grants-none : (o : ℕ) → o < size_of v.site → ((k : ℕ) → k < size_of v.site → is_some_of (ask_of (view_claim v k)) o ≡ false) → length v.arbiters.channels ≡ size_of v.site → slice_index_or (view_round v).grants o None ≡ None
-  grants-none o l none count = grants-at o l (λ k. false) (λ k lk. sym (none k lk)) count ∙ first_in_turn-none (size_of v.site) (turn_at v.arbiters.channels o).pointer (λ k. false) (λ k lk. refl)
+  grants-none o l none count = grants-at o l (λ k. false) (λ k lk. sym (none k lk)) count ∙ first_in_turn-none (size_of v.site) (arbiter_at v.arbiters.channels o).pointer (λ k. false) (λ k lk. refl)
 
 -- ---- in a router in which something is asked for
 module _ (v : View) (a b : Allocation) (port place : ℕ → ℕ) (shows : IsColumn 5 a.column a.marks v) (few : size_of v.site ≤ 31) (turns : AreTurns (size_of v.site) (size_of v.site) v.arbiters.channels)
@@ -91,7 +91,7 @@ module _ (v : View) (a b : Allocation) (port place : ℕ → ℕ) (shows : IsCol
   -- the winner of an output channel is the one that the round grants it to
   wins-at : (o k : ℕ) → o < size_of v.site → has_bit (winner has.requests a.marks o) k ≡ is_some_of (slice_index_or (view_round v).grants o None) k
   wins-at o k lo =
-      first-members (size_of v.site) (turn_at v.arbiters.channels o).pointer (has.requests o) (a.marks.turn o) (small (has.requests o) (requests-below o lo)) (requests-below o lo) (turns.pointers o lo) (shows.turns.channels o lo) k
+      first-members (size_of v.site) (arbiter_at v.arbiters.channels o).pointer (has.requests o) (a.marks.turn o) (small (has.requests o) (requests-below o lo)) (requests-below o lo) (turns.pointers o lo) (shows.turns.channels o lo) k
       ∙ ap (λ w. is_some_of w k) (sym (grants-at a.column a.marks v shows few o lo (has_bit (has.requests o)) (λ i li. requests-at o i lo li) turns.count))
 
   outs-below : (o : ℕ) → has_bit has.outs o ≡ true → o < 32 → (k : ℕ) → has_bit (winner has.requests a.marks o) k ≡ true → (k < size_of v.site) × (o < size_of v.site) × (ask_of (view_claim v k) ≡ Some o)
@@ -201,23 +201,23 @@ module _ (v : View) (a b : Allocation) (port place : ℕ → ℕ) (shows : IsCol
       at None is = not-out o lo is
       at (Some k) is = (given-at o k lo is).1
 
-  pub turns-show : (o : ℕ) → o < size_of v.site → ShowsPointer (size_of v.site) (b.marks.turn o) 0 (turn_at (arbiters_after (view_round v) v.arbiters).channels o).pointer
+  pub turns-show : (o : ℕ) → o < size_of v.site → ShowsPointer (size_of v.site) (b.marks.turn o) 0 (arbiter_at (arbiters_after (view_round v) v.arbiters).channels o).pointer
   turns-show o lo = subst (λ n. ShowsPointer (size_of v.site) (b.marks.turn o) 0 n) (sym pointer) (at (slice_index_or (view_round v).grants o None) refl)
     where
-      pointer : (turn_at (arbiters_after (view_round v) v.arbiters).channels o).pointer ≡ advanced (turn_at v.arbiters.channels o).size (turn_at v.arbiters.channels o).pointer (slice_index_or (view_round v).grants o None)
+      pointer : (arbiter_at (arbiters_after (view_round v) v.arbiters).channels o).pointer ≡ pointer_after (arbiter_at v.arbiters.channels o).size (arbiter_at v.arbiters.channels o).pointer (slice_index_or (view_round v).grants o None)
       pointer =
-          ap (λ (t : Turn). t.pointer)
-          (get_or-map_indexed (λ i (t : Turn). turned t (slice_index_or (view_round v).grants i None)) v.arbiters.channels o (record { size = 0; pointer = 0 }) (record { size = 0; pointer = 0 }) (omega (arith, turns.count)))
+          ap (λ (t : RoundRobin). t.pointer)
+          (get_or-map_indexed (λ i (t : RoundRobin). arbiter_after t (slice_index_or (view_round v).grants i None)) v.arbiters.channels o (record { size = 0; pointer = 0 }) (record { size = 0; pointer = 0 }) (omega (arith, turns.count)))
 
       at : (grant : Option ℕ) → slice_index_or (view_round v).grants o None ≡ grant
-          → ShowsPointer (size_of v.site) (b.marks.turn o) 0 (advanced (turn_at v.arbiters.channels o).size (turn_at v.arbiters.channels o).pointer (slice_index_or (view_round v).grants o None))
+          → ShowsPointer (size_of v.site) (b.marks.turn o) 0 (pointer_after (arbiter_at v.arbiters.channels o).size (arbiter_at v.arbiters.channels o).pointer (slice_index_or (view_round v).grants o None))
       at None is =
-          subst (λ (grant : Option ℕ). ShowsPointer (size_of v.site) (b.marks.turn o) 0 (advanced (turn_at v.arbiters.channels o).size (turn_at v.arbiters.channels o).pointer grant)) (sym is)
-          (subst (λ n. ShowsPointer (size_of v.site) n 0 (turn_at v.arbiters.channels o).pointer) (sym (has.marks.outputs o (not-out o lo is)).turn) (shows.turns.channels o lo))
+          subst (λ (grant : Option ℕ). ShowsPointer (size_of v.site) (b.marks.turn o) 0 (pointer_after (arbiter_at v.arbiters.channels o).size (arbiter_at v.arbiters.channels o).pointer grant)) (sym is)
+          (subst (λ n. ShowsPointer (size_of v.site) n 0 (arbiter_at v.arbiters.channels o).pointer) (sym (has.marks.outputs o (not-out o lo is)).turn) (shows.turns.channels o lo))
       at (Some k) is =
           let got = given-at o k lo is in
           let alone : winner has.requests a.marks o ≡ 2 ^ k = same-word (winner has.requests a.marks o) (2 ^ k) (λ i. wins-at o i lo ∙ ap (λ w. is_some_of w i) is ∙ eq-turned k i ∙ sym (power-members k i)) in
-          subst (λ (grant : Option ℕ). ShowsPointer (size_of v.site) (b.marks.turn o) 0 (advanced (turn_at v.arbiters.channels o).size (turn_at v.arbiters.channels o).pointer grant)) (sym is)
+          subst (λ (grant : Option ℕ). ShowsPointer (size_of v.site) (b.marks.turn o) 0 (pointer_after (arbiter_at v.arbiters.channels o).size (arbiter_at v.arbiters.channels o).pointer grant)) (sym is)
           (subst (λ n. ShowsPointer (size_of v.site) (b.marks.turn o) 0 ((k + 1) % n)) (sym (turns.sizes o lo))
           (subst (λ n. ShowsPointer (size_of v.site) n 0 ((k + 1) % size_of v.site)) (sym (has.marks.turns o got.1 ∙ ap mask_past alone))
           (mask-past (size_of v.site) k (omega (arith, few)) got.2)))
@@ -343,8 +343,8 @@ module _ (v : View) (a : Allocation) (shows : IsColumn 5 a.column a.marks v) (fe
       same : (k : ℕ) → k < size_of v.site → phase_granted v k ≡ (view_input v k).phase
       same k lk = ap (λ ask. with_grant (view_round v).grants ask k (view_input v k).phase) (asks-nothing k lk)
 
-      pointer : (o : ℕ) → o < size_of v.site → (turn_at (arbiters_after (view_round v) v.arbiters).channels o).pointer ≡ (turn_at v.arbiters.channels o).pointer
+      pointer : (o : ℕ) → o < size_of v.site → (arbiter_at (arbiters_after (view_round v) v.arbiters).channels o).pointer ≡ (arbiter_at v.arbiters.channels o).pointer
       pointer o lo =
-          ap (λ (t : Turn). t.pointer)
-          (get_or-map_indexed (λ i (t : Turn). turned t (slice_index_or (view_round v).grants i None)) v.arbiters.channels o (record { size = 0; pointer = 0 }) (record { size = 0; pointer = 0 }) (omega (arith, turns.count)))
-          ∙ ap (advanced (turn_at v.arbiters.channels o).size (turn_at v.arbiters.channels o).pointer) (no-grant o lo)
+          ap (λ (t : RoundRobin). t.pointer)
+          (get_or-map_indexed (λ i (t : RoundRobin). arbiter_after t (slice_index_or (view_round v).grants i None)) v.arbiters.channels o (record { size = 0; pointer = 0 }) (record { size = 0; pointer = 0 }) (omega (arith, turns.count)))
+          ∙ ap (pointer_after (arbiter_at v.arbiters.channels o).size (arbiter_at v.arbiters.channels o).pointer) (no-grant o lo)

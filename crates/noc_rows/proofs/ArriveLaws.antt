@@ -19,7 +19,7 @@ use Rattle.noc_vc.specs.declared.output.OutputState.TheVariants.{Owned}
 use Rattle.noc_router.specs.Counts.{one_if}
 use Rattle.noc_router.specs.Members.{AreBelow}
 use Rattle.noc_router.specs.Sound.{is_owned_from, is_supplied}
-use Rattle.noc_router.specs.View.{Site, View, size_of, local_channel, view_buffer, view_input, view_output, all_taken, injected, injected_from}
+use Rattle.noc_router.specs.View.{Site, View, size_of, local_channel, view_buffer, view_input, view_output, view_after_takes, view_after_inject, view_after_inject_from}
 use Rattle.noc_rows.specs.Bits.{differ, lowest, negated}
 use Rattle.noc_rows.specs.Column.{Column, RouterMarks, IsColumn, IsTidy, ShowsHolder, ShowsInput, ShowsOutput, ShowsSending, ShowsWires}
 use Rattle.noc_rows.specs.FlitWords.{flit_word}
@@ -42,8 +42,8 @@ use Rattle.noc_rows.proofs.PlaneLemmas.{any-fits, filled-members, raised-fits, r
 use Rattle.noc_rows.proofs.SourceLemmas.{begins_fits}
 use Rattle.noc_rows.proofs.StandLemmas.{AreFilled}
 
-injected-is : (n : ℕ) (w : View) → injected n w ≡ injected_from n w.queue w.sending (record w { given = n })
-unfolding injected
+injected-is : (n : ℕ) (w : View) → view_after_inject n w ≡ view_after_inject_from n w.queue w.sending (record w { given = n })
+unfolding view_after_inject
 injected-is n w = refl
 
 given-same : (n : ℕ) (queue : List (ℕ × Packet)) (sending : Option (ℕ × ℕ)) (w : View) → injection_from n queue sending (record w { given = n }) ≡ injection_from n queue sending w
@@ -79,18 +79,18 @@ pub record ShowsFrozen (count : ℕ) (c : Column) (m : RouterMarks) (y : View) (
 -- the input channels that come to be supplied
 module _ (relation : Routes) (count : ℕ) (c : Column) (m : RouterMarks) (v : View) (beats : List Beat) (n local : ℕ) (starts : List Start) (s : Source) (flits credits up : ℕ) (ring : ℕ → List ℕ)
     (column : IsColumn count c m v) (wires : ShowsWires v flits credits ring beats) (source : ShowsSource starts s v) (tidy : IsTidy v) (size : HasSize v)
-    (taken : HasTaken relation v (all_taken relation beats v) (flit_from v.site.vcs 0 beats) (credit_from v.site.vcs 0 beats))
+    (taken : HasTaken relation v (view_after_takes relation beats v) (flit_from v.site.vcs 0 beats) (credit_from v.site.vcs 0 beats))
     (few : size_of v.site ≤ 31) (room : v.site.places < 2 ^ count) (some_place : 0 < v.site.places) (short : length beats ≤ local_port v.site.grid) (now : n < NEVER)
     (is-local : (i : ℕ) → has_bit local i ≡ (nat_le (local_channel v.site 0) i && nat_lt i (size_of v.site)))
     (ups : AreOwners (lane_raised credits c) (λ o. m.owner o % 32) up) (up_fits : up < 2 ^ 32) where
   abbrev w : View
-  w = all_taken relation beats v
+  w = view_after_takes relation beats v
 
   abbrev x : View
-  x = injected n (all_taken relation beats v)
+  x = view_after_inject n (view_after_takes relation beats v)
 
   abbrev u : View
-  u = record (all_taken relation beats v) { given = n }
+  u = record (view_after_takes relation beats v) { given = n }
 
   abbrev bits : List ℕ
   bits = words_of count v.site.places
@@ -139,8 +139,8 @@ module _ (relation : Routes) (count : ℕ) (c : Column) (m : RouterMarks) (v : V
   pub sent : HasSent c starts s u x (lane_injected (words_of count v.site.places) c) (lane_begins local n s.due c) (bit_or (lane_injected (words_of count v.site.places) c) (lowest (lane_begins local n s.due c))) (injection_in n w)
   sent =
       subst (λ (y : View). HasSent c starts s u y (lane_injected (words_of count v.site.places) c) (lane_begins local n s.due c) (bit_or (lane_injected (words_of count v.site.places) c) (lowest (lane_begins local n s.due c))) (injection_in n w)) (sym (injected-is n w))
-      (subst (λ (o : Option (ℕ × Flit)). HasSent c starts s u (injected_from n w.queue w.sending u) (lane_injected (words_of count v.site.places) c) (lane_begins local n s.due c) (bit_or (lane_injected (words_of count v.site.places) c) (lowest (lane_begins local n s.due c))) o) (given-same n w.queue w.sending w)
-      (subst (λ (k : ℕ). HasSent c starts s u (injected_from n w.queue w.sending u) (lane_injected (words_of count k) c) (lane_begins local n s.due c) (bit_or (lane_injected (words_of count k) c) (lowest (lane_begins local n s.due c))) (injection_from n w.queue w.sending u)) (ap (λ (t : Site). t.places) site)
+      (subst (λ (o : Option (ℕ × Flit)). HasSent c starts s u (view_after_inject_from n w.queue w.sending u) (lane_injected (words_of count v.site.places) c) (lane_begins local n s.due c) (bit_or (lane_injected (words_of count v.site.places) c) (lowest (lane_begins local n s.due c))) o) (given-same n w.queue w.sending w)
+      (subst (λ (k : ℕ). HasSent c starts s u (view_after_inject_from n w.queue w.sending u) (lane_injected (words_of count k) c) (lane_begins local n s.due c) (bit_or (lane_injected (words_of count k) c) (lowest (lane_begins local n s.due c))) (injection_from n w.queue w.sending u)) (ap (λ (t : Site). t.places) site)
       (sent-by count c starts s u n local column.words source.few now
       (subst (λ (t : Site). size_of t ≤ 32) (sym site) (omega (arith, few)))
       (subst (λ (t : Site). t.places < 2 ^ count) (sym site) room)

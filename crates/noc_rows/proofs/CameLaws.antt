@@ -10,8 +10,8 @@ use Rattle.noc_topo.proofs.WordLemmas.{get_or-tabulate, length-tabulate}
 use Rattle.noc_packet.specs.Set.{has_bit}
 use Rattle.noc_packet.specs.declared.packet.Flit.{Flit}
 use Rattle.noc_packet.proofs.SetLemmas.{zero_from_none}
-use Rattle.noc_vc.specs.Output.{Output, credit_fits, credit_fits_at, credited, credited_at}
-use Rattle.noc_router.specs.View.{Site, View, all_taken, local_channel, size_of, view_buffer, view_output}
+use Rattle.noc_vc.specs.Output.{Output, credit_fits, credit_fits_at, output_after_credit, output_with_credit}
+use Rattle.noc_router.specs.View.{Site, View, view_after_takes, local_channel, size_of, view_buffer, view_output}
 use Rattle.noc_model.specs.declared.limits.TheConstants.{CYCLE_LIMIT}
 use Rattle.noc_model.specs.Good.{IsGoodSetup}
 use Rattle.noc_model.specs.Lockstep.{beat_by, beats_in, view_at, view_in}
@@ -57,13 +57,13 @@ longer (g ∷ flits) f e = longer flits f (ap tail e)
     tail (x ∷ xs) = xs
 
 -- a channel to which a credit came has one more
-raised-credit : (o : Output) → credit_fits o ≡ true → o ≡ credited o → ⊥
+raised-credit : (o : Output) → credit_fits o ≡ true → o ≡ output_after_credit o → ⊥
 raised-credit o fits same = at o.credit refl
   where
     at : (credit : Option ℕ) → o.credit ≡ credit → ⊥
     at None e = false≢true (sym (ap (credit_fits_at o.places) e) ∙ fits)
     at (Some n) e =
-        let more : Some n ≡ Some (n + 1) = sym e ∙ ap (λ (x : Output). x.credit) same ∙ ap (λ (c : Option ℕ). (credited_at o c).credit) e in
+        let more : Some n ≡ Some (n + 1) = sym e ∙ ap (λ (x : Output). x.credit) same ∙ ap (λ (c : Option ℕ). (output_with_credit o c).credit) e in
         let m : n ≡ n + 1 = same_Some n (n + 1) more in
         omega (arith, m)
 
@@ -72,14 +72,14 @@ module _ (net : Setup) (setup : IsGoodSetup net) (n r : ℕ) (l : r < nodes net.
   v = view_at net n r
 
   abbrev w : View
-  w = all_taken net.relation (beats net setup n r l) (view_at net n r)
+  w = view_after_takes net.relation (beats net setup n r l) (view_at net n r)
 
   no-event-yet : (view_at net n r).had_event ≡ false
   unfolding view_at view_in
   no-event-yet = refl
 
   all-quiet : w.had_event ≡ false → w ≡ view_at net n r
-  unfolding all_taken
+  unfolding view_after_takes
   all-quiet e = taken-quiet net.relation 0 (beats net setup n r l) (view_at net n r) e (taken-seen net setup n r l).seen.misfits
 
   short : length (beats net setup n r l) ≡ local_port net.relation.grid
@@ -156,7 +156,7 @@ module _ (net : Setup) (setup : IsGoodSetup net) (n r : ℕ) (l : r < nodes net.
     s = source_at old.sources k
 
     abbrev u : View
-    u = record (all_taken net.relation (beats net setup n r l) (view_at net n r)) { given = n }
+    u = record (view_after_takes net.relation (beats net setup n r l) (view_at net n r)) { given = n }
 
     abbrev bits : List ℕ
     bits = words_of count net.places

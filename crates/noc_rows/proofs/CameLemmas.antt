@@ -14,8 +14,8 @@ use Rattle.noc_packet.specs.declared.packet.Packet.{Packet}
 use Rattle.noc_packet.proofs.SetLemmas.{has_bit-zero, zero_from_none}
 use Rattle.noc_route.specs.Routes.{Routes}
 use Rattle.noc_vc.specs.Input.{fits}
-use Rattle.noc_vc.specs.Output.{credit_fits, credited}
-use Rattle.noc_router.specs.View.{View, begun_on, has_link, injected, injected_from, is_vacant, local_channel, size_of, taken, taken_from, view_buffer, view_input, view_output, with_credit, with_flit, with_injected, with_landed, with_misfit}
+use Rattle.noc_vc.specs.Output.{credit_fits, output_after_credit}
+use Rattle.noc_router.specs.View.{View, begun_on, has_link, view_after_inject, view_after_inject_from, is_vacant, local_channel, size_of, view_after_take, view_after_takes_from, view_buffer, view_input, view_output, with_credit, with_flit, with_injected, with_landed, with_misfit}
 use Rattle.noc_model.proofs.GrantLemmas.{Has-below}
 use Rattle.noc_model.proofs.Members.{find-has}
 use Rattle.noc_rows.specs.Injected.{injected_to, injection_from, injection_in}
@@ -34,7 +34,7 @@ flit-quiet relation port (Some (vc, f)) v e m =
     at false e m = absurd (omega (arith, m))
 
 abbrev with_return : ℕ → View → View
-with_return o v = record v { outputs = slice_set v.outputs o (credited (view_output v o)); had_event = true }
+with_return o v = record v { outputs = slice_set v.outputs o (output_after_credit (view_output v o)); had_event = true }
 
 credit-quiet : (port : ℕ) (credit : Option ℕ) (v : View) → (with_credit port credit v).had_event ≡ false → (with_credit port credit v).misfits ≡ 0 → with_credit port credit v ≡ v
 credit-quiet port None v e m = refl
@@ -47,14 +47,14 @@ credit-quiet port (Some vc) v e m =
     at false e m = absurd (omega (arith, m))
 
 -- where no beat misses its place and none is noted as an event, the beats change nothing
-pub taken-quiet : (relation : Routes) (port : ℕ) (row : List Beat) (v : View) → (taken_from relation port row v).had_event ≡ false → (taken_from relation port row v).misfits ≡ 0 → taken_from relation port row v ≡ v
-unfolding taken
+pub taken-quiet : (relation : Routes) (port : ℕ) (row : List Beat) (v : View) → (view_after_takes_from relation port row v).had_event ≡ false → (view_after_takes_from relation port row v).misfits ≡ 0 → view_after_takes_from relation port row v ≡ v
+unfolding view_after_take
 taken-quiet relation port [] v e m = refl
 taken-quiet relation port (beat ∷ row) v e m =
-    let rest : taken_from relation (port + 1) row (taken relation port beat v) ≡ taken relation port beat v = taken-quiet relation (port + 1) row (taken relation port beat v) e m in
-    let e1 : (taken relation port beat v).had_event ≡ false = sym (ap (λ (x : View). x.had_event) rest) ∙ e in
-    let m1 : (taken relation port beat v).misfits ≡ 0 = sym (ap (λ (x : View). x.misfits) rest) ∙ m in
-    let c : taken relation port beat v ≡ with_flit relation port beat.flit v = credit-quiet port beat.credit (with_flit relation port beat.flit v) e1 m1 in
+    let rest : view_after_takes_from relation (port + 1) row (view_after_take relation port beat v) ≡ view_after_take relation port beat v = taken-quiet relation (port + 1) row (view_after_take relation port beat v) e m in
+    let e1 : (view_after_take relation port beat v).had_event ≡ false = sym (ap (λ (x : View). x.had_event) rest) ∙ e in
+    let m1 : (view_after_take relation port beat v).misfits ≡ 0 = sym (ap (λ (x : View). x.misfits) rest) ∙ m in
+    let c : view_after_take relation port beat v ≡ with_flit relation port beat.flit v = credit-quiet port beat.credit (with_flit relation port beat.flit v) e1 m1 in
     let f : with_flit relation port beat.flit v ≡ v = flit-quiet relation port beat.flit v (sym (ap (λ (x : View). x.had_event) c) ∙ e1) (sym (ap (λ (x : View). x.misfits) c) ∙ m1) in
     rest ∙ c ∙ f
 
@@ -69,11 +69,11 @@ or-on true = refl
 or-on false = refl
 
 -- a flit that is injected is an event
-pub injected-event : (n : ℕ) (v : View) → (injected n v).had_event ≡ (v.had_event || is_some (injection_in n v))
-unfolding injected
+pub injected-event : (n : ℕ) (v : View) → (view_after_inject n v).had_event ≡ (v.had_event || is_some (injection_in n v))
+unfolding view_after_inject
 injected-event n v = by v.queue v.sending
   where
-    by : (queue : List (ℕ × Packet)) (sending : Option (ℕ × ℕ)) → (injected_from n queue sending (record v { given = n })).had_event ≡ (v.had_event || is_some (injection_from n queue sending v))
+    by : (queue : List (ℕ × Packet)) (sending : Option (ℕ × ℕ)) → (view_after_inject_from n queue sending (record v { given = n })).had_event ≡ (v.had_event || is_some (injection_from n queue sending v))
     by [] sending = or-off v.had_event
     by ((number, p) ∷ rest) (Some (vc, index)) = room (nat_lt (length (view_buffer v (local_channel v.site vc))) v.site.places)
       where

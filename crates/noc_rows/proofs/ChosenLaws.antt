@@ -8,7 +8,7 @@ use Rattle.noc_topo.specs.Shape.{ports}
 use Rattle.noc_packet.specs.Set.{has_bit}
 use Rattle.noc_packet.specs.declared.packet.Flit.{Flit}
 use Rattle.noc_packet.proofs.SetLemmas.{has_bit-zero}
-use Rattle.noc_alloc.specs.Arbiter.{turn_at}
+use Rattle.noc_alloc.specs.Arbiter.{arbiter_at}
 use Rattle.noc_route.specs.Routes.{Routes, IsRelation, width}
 use Rattle.noc_vc.specs.Output.{is_free}
 use Rattle.noc_vc.specs.declared.input.InputState.{InputState}
@@ -100,7 +100,7 @@ pub record ShowsChosen (relation : Routes) (filled : ℕ) (a b : Allocation) (ou
   pub lost : (k : ℕ) → k < size_of v.site → has_bit b.lost k ≡ (not (has_bit b.granted k) && is_some (ask_of (view_claim v k)))
   pub taken : (o : ℕ) → o < size_of v.site → has_bit outs o ≡ is_some (slice_index_or (view_round v).grants o None)
   pub column : b.column ≡ record a.column { wanted = b.column.wanted; idle = less a.column.idle outs; supplied = bit_or a.column.supplied b.granted }
-  pub turns : (o : ℕ) → o < size_of v.site → ShowsPointer (size_of v.site) (b.marks.turn o) 0 (turn_at (arbiters_after (view_round v) v.arbiters).channels o).pointer
+  pub turns : (o : ℕ) → o < size_of v.site → ShowsPointer (size_of v.site) (b.marks.turn o) 0 (arbiter_at (arbiters_after (view_round v) v.arbiters).channels o).pointer
   pub routed : (k : ℕ) → k < size_of v.site → has_bit (lane_heads filled a.column) k ≡ true → ShowsPhase b.column b.marks v.site k (Waiting (route_of relation v k))
   pub phases : (k : ℕ) → k < size_of v.site → has_bit (lane_heads filled a.column) k ≡ false → ShowsPhase b.column b.marks v.site k (phase_granted v k)
   pub owners : (o k : ℕ) → o < size_of v.site → slice_index_or (view_round v).grants o None ≡ Some k → b.marks.owner o ≡ k
@@ -211,7 +211,7 @@ module _ (relation : Routes) (frame : Frame) (x : Surroundings) (v : View) (stil
     column = ap (λ (z : Allocation). z.column) chosen.rest
         ∙ ap (λ (z : Column). record z { wanted = b.column.wanted }) given.shows.column
         ∙ ap (λ (g : ℕ). record a.column { wanted = b.column.wanted; idle = less a.column.idle given.outs; supplied = bit_or a.column.supplied g }) (sym same-granted);
-    turns = λ o l. subst (λ (m : RouterMarks). ShowsPointer (size_of v.site) (m.turn o) 0 (turn_at (arbiters_after (view_round v) v.arbiters).channels o).pointer) (sym keeps.rest) (given.shows.turns o l);
+    turns = λ o l. subst (λ (m : RouterMarks). ShowsPointer (size_of v.site) (m.turn o) 0 (arbiter_at (arbiters_after (view_round v) v.arbiters).channels o).pointer) (sym keeps.rest) (given.shows.turns o l);
     routed = head-waits;
     phases = λ k l h. phase-as chosen.granted.column b.column chosen.granted.marks b.marks v.site k (phase_granted v k) (keeps.sets k h)
         (ap (λ (m : RouterMarks). m.taken k) keeps.rest) (ap (λ (m : RouterMarks). m.target k) keeps.rest) keeps.wants (given.shows.phases k l);

@@ -10,12 +10,12 @@ use Rattle.noc_packet.specs.declared.packet.Flit.{Flit}
 use Rattle.noc_packet.specs.declared.packet.Beat.{Beat}
 use Rattle.noc_route.specs.Routes.{Routes}
 use Rattle.noc_vc.specs.Input.{Input, idle_input, fits}
-use Rattle.noc_vc.specs.Output.{Output, ejection_output, credit_fits, credited}
-use Rattle.noc_router.specs.Arrivals.{is_expected_in, noted}
+use Rattle.noc_vc.specs.Output.{Output, ejection_output, credit_fits, output_after_credit}
+use Rattle.noc_router.specs.Arrivals.{is_expected_in, arrivals_after}
 use Rattle.noc_router.specs.Verdict.{arbiters_after}
 use Rattle.noc_router.specs.declared.verdict.Verdict.TheVariants.{Empty}
 use Rattle.noc_router.specs.declared.verdict.Finding.{Finding}
-use Rattle.noc_router.specs.View.{View, Decisions, size_of, has_link, view_buffer, view_input, view_output, view_round, finding_of, planned, committed, decided_verdict, buffer_after, input_after, output_after, with_arrival, with_misfit, with_landed, with_flit, with_credit, taken, taken_from, all_taken, tail_packet, flit_out, local_step}
+use Rattle.noc_router.specs.View.{View, Decisions, size_of, has_link, view_buffer, view_input, view_output, view_round, finding_of, decisions_of, view_after_commit, decided_verdict, buffer_after, input_after, output_after, with_arrival, with_misfit, with_landed, with_flit, with_credit, view_after_take, view_after_takes_from, view_after_takes, tail_packet, flit_out, local_step}
 use Rattle.noc_rows.specs.Taken.{HasTaken, HasSize, flit_from, credit_from}
 use Rattle.noc_rows.specs.Column.{Column, AreWords, ShowsInput}
 use Rattle.noc_rows.specs.Fields.{Fields}
@@ -29,36 +29,36 @@ arrival-keeps : (p : Option ℕ) (v : View) → ((with_arrival p v).buffers ≡ 
 arrival-keeps None v = (refl, refl, refl, refl)
 arrival-keeps (Some p) v = at (is_expected_in p v.ends)
   where
-    at : (b : Bool) → let w = if b then record v { ends = noted p v.given v.ends } else with_misfit v in (w.buffers ≡ v.buffers) × (w.inputs ≡ v.inputs) × (w.outputs ≡ v.outputs) × (w.arbiters ≡ v.arbiters)
+    at : (b : Bool) → let w = if b then record v { ends = arrivals_after p v.given v.ends } else with_misfit v in (w.buffers ≡ v.buffers) × (w.inputs ≡ v.inputs) × (w.outputs ≡ v.outputs) × (w.arbiters ≡ v.arbiters)
     at true = (refl, refl, refl, refl)
     at false = (refl, refl, refl, refl)
 
 module _ (d : Decisions) (v : View) (size : HasSize v) where
-  pub buffer-committed : (i : ℕ) → i < size_of v.site → view_buffer (committed d v) i ≡ buffer_after (view_buffer v i) (decided_verdict d i)
-  unfolding committed
+  pub buffer-committed : (i : ℕ) → i < size_of v.site → view_buffer (view_after_commit d v) i ≡ buffer_after (view_buffer v i) (decided_verdict d i)
+  unfolding view_after_commit
   buffer-committed i l =
       ap (λ (xs : List (List Flit)). get_or xs i []) (arrival-keeps (tail_packet (flit_out v d.round (local_port v.site.grid))) _).0
       ∙ get_or-map_indexed (λ j flits. buffer_after flits (decided_verdict d j)) v.buffers i [] [] (omega (arith, size.buffers))
 
-  pub input-committed : (i : ℕ) → i < size_of v.site → view_input (committed d v) i ≡ input_after d v i (view_input v i) (decided_verdict d i)
-  unfolding committed
+  pub input-committed : (i : ℕ) → i < size_of v.site → view_input (view_after_commit d v) i ≡ input_after d v i (view_input v i) (decided_verdict d i)
+  unfolding view_after_commit
   input-committed i l =
       ap (λ (xs : List Input). get_or xs i idle_input) (arrival-keeps (tail_packet (flit_out v d.round (local_port v.site.grid))) _).1
       ∙ get_or-map_indexed (λ j (input : Input). input_after d v j input (decided_verdict d j)) v.inputs i idle_input idle_input (omega (arith, size.inputs))
 
-  pub output-committed : (o : ℕ) → o < size_of v.site → view_output (committed d v) o ≡ output_after v d.round o (view_output v o)
-  unfolding committed
+  pub output-committed : (o : ℕ) → o < size_of v.site → view_output (view_after_commit d v) o ≡ output_after v d.round o (view_output v o)
+  unfolding view_after_commit
   output-committed o l =
       ap (λ (xs : List Output). get_or xs o ejection_output) (arrival-keeps (tail_packet (flit_out v d.round (local_port v.site.grid))) _).2
       ∙ get_or-map_indexed (output_after v d.round) v.outputs o ejection_output ejection_output (omega (arith, size.outputs))
 
-  pub arbiters-committed : (committed d v).arbiters ≡ arbiters_after d.round v.arbiters
-  unfolding committed
+  pub arbiters-committed : (view_after_commit d v).arbiters ≡ arbiters_after d.round v.arbiters
+  unfolding view_after_commit
   arbiters-committed = (arrival-keeps (tail_packet (flit_out v d.round (local_port v.site.grid))) _).3
 
 -- what is decided of a channel
-pub verdict-planned : (relation : Routes) (v : View) (i : ℕ) → i < size_of v.site → decided_verdict (planned relation v) i ≡ (finding_of (view_round v) v i).verdict
-unfolding planned
+pub verdict-planned : (relation : Routes) (v : View) (i : ℕ) → i < size_of v.site → decided_verdict (decisions_of relation v) i ≡ (finding_of (view_round v) v i).verdict
+unfolding decisions_of
 verdict-planned relation v i l =
     get_or-map (λ (finding : Finding). finding.verdict) (tabulate (size_of v.site) (finding_of (view_round v) v)) i (finding_of (view_round v) v i) Empty (omega (arith, length-tabulate (size_of v.site) (finding_of (view_round v) v)))
     ∙ ap (λ (finding : Finding). finding.verdict) (get_or-tabulate (size_of v.site) i (finding_of (view_round v) v) (finding_of (view_round v) v i) l)
@@ -67,12 +67,12 @@ verdict-planned relation v i l =
 pub input-shows : (relation : Routes) (count : ℕ) (c : Column) (v : View) (frame : Fields) (links local : ℕ) (e : Effects) → AreWords count c → AreEffects e → HasSize v
     → (i : ℕ) → i < size_of v.site → ShowsInput c i (view_buffer v i) (view_input v i) → SaysOf v (view_round v) e i
     → (a b g h j k : Bool) → (finding_of (view_round v) v i).verdict ≡ verdict_of_bits (has_bit e.moved i) (has_bit e.granted i) (has_bit e.heads i) a b g h j k
-    → ShowsInput (settled_lane frame links local e c) i (view_buffer (committed (planned relation v) v) i) (view_input (committed (planned relation v) v) i)
+    → ShowsInput (settled_lane frame links local e c) i (view_buffer (view_after_commit (decisions_of relation v) v) i) (view_input (view_after_commit (decisions_of relation v) v) i)
 input-shows relation count c v frame links local e words effects size i l shows says a b g h j k is =
-    let d : Decisions = planned relation v in
-    subst (λ xs. ShowsInput (settled_lane frame links local e c) i xs (view_input (committed (planned relation v) v) i)) (sym (buffer-committed (planned relation v) v size i l))
-    (subst (λ (x : Input). ShowsInput (settled_lane frame links local e c) i (buffer_after (view_buffer v i) (decided_verdict (planned relation v) i)) x) (sym (input-committed (planned relation v) v size i l))
-    (settled-input count c v frame links local e words effects (view_round v) (planned relation v) i shows says (decided_verdict (planned relation v) i) a b g h j k (verdict-planned relation v i l ∙ is)))
+    let d : Decisions = decisions_of relation v in
+    subst (λ xs. ShowsInput (settled_lane frame links local e c) i xs (view_input (view_after_commit (decisions_of relation v) v) i)) (sym (buffer-committed (decisions_of relation v) v size i l))
+    (subst (λ (x : Input). ShowsInput (settled_lane frame links local e c) i (buffer_after (view_buffer v i) (decided_verdict (decisions_of relation v) i)) x) (sym (input-committed (decisions_of relation v) v size i l))
+    (settled-input count c v frame links local e words effects (view_round v) (decisions_of relation v) i shows says (decided_verdict (decisions_of relation v) i) a b g h j k (verdict-planned relation v i l ∙ is)))
 
 -- ---- the sizes stay
 abbrev KeepsSize : View → View → Type 0
@@ -91,23 +91,23 @@ keeps-credit : (port : ℕ) (credit : Option ℕ) (v : View) → KeepsSize v (wi
 keeps-credit port None v = (refl, refl, refl, refl)
 keeps-credit port (Some vc) v = at (has_link v.site port && nat_lt vc v.site.vcs && credit_fits (view_output v (port * v.site.vcs + vc)))
   where
-    at : (b : Bool) → KeepsSize v (if b then record v { outputs = slice_set v.outputs (port * v.site.vcs + vc) (credited (view_output v (port * v.site.vcs + vc))); had_event = true } else with_misfit v)
+    at : (b : Bool) → KeepsSize v (if b then record v { outputs = slice_set v.outputs (port * v.site.vcs + vc) (output_after_credit (view_output v (port * v.site.vcs + vc))); had_event = true } else with_misfit v)
     at true = (refl, refl, refl, length-set v.outputs (port * v.site.vcs + vc) _)
     at false = (refl, refl, refl, refl)
 
 keeps-both : (u v w : View) → KeepsSize u v → KeepsSize v w → KeepsSize u w
 keeps-both u v w a b = (b.0 ∙ a.0, b.1 ∙ a.1, b.2 ∙ a.2, b.3 ∙ a.3)
 
-keeps-taken : (relation : Routes) (port : ℕ) (beats : List Beat) (v : View) → KeepsSize v (taken_from relation port beats v)
-unfolding taken
+keeps-taken : (relation : Routes) (port : ℕ) (beats : List Beat) (v : View) → KeepsSize v (view_after_takes_from relation port beats v)
+unfolding view_after_take
 keeps-taken relation port [] v = (refl, refl, refl, refl)
 keeps-taken relation port (beat ∷ beats) v =
-    keeps-both v (taken relation port beat v) (taken_from relation (port + 1) beats (taken relation port beat v))
-    (keeps-both v (with_flit relation port beat.flit v) (taken relation port beat v) (keeps-flit relation port beat.flit v) (keeps-credit port beat.credit (with_flit relation port beat.flit v)))
-    (keeps-taken relation (port + 1) beats (taken relation port beat v))
+    keeps-both v (view_after_take relation port beat v) (view_after_takes_from relation (port + 1) beats (view_after_take relation port beat v))
+    (keeps-both v (with_flit relation port beat.flit v) (view_after_take relation port beat v) (keeps-flit relation port beat.flit v) (keeps-credit port beat.credit (with_flit relation port beat.flit v)))
+    (keeps-taken relation (port + 1) beats (view_after_take relation port beat v))
 
-pub size-taken : (relation : Routes) (beats : List Beat) (v : View) → HasSize v → HasSize (all_taken relation beats v)
-unfolding all_taken
+pub size-taken : (relation : Routes) (beats : List Beat) (v : View) → HasSize v → HasSize (view_after_takes relation beats v)
+unfolding view_after_takes
 size-taken relation beats v size =
     let k = keeps-taken relation 0 beats v in
     record {
@@ -119,5 +119,5 @@ size-taken relation beats v size =
 
 -- where a cycle leaves no misfit, all beats fit, and each channel is as its own beat leaves it
 pub beats-fit : (relation : Routes) (v : View) (beats : List Beat) (n : ℕ) → HasSize v → length beats ≤ ports v.site.grid → (local_step relation v beats n).0.misfits ≡ 0
-    → HasTaken relation v (all_taken relation beats v) (flit_from v.site.vcs 0 beats) (credit_from v.site.vcs 0 beats)
+    → HasTaken relation v (view_after_takes relation beats v) (flit_from v.site.vcs 0 beats) (credit_from v.site.vcs 0 beats)
 beats-fit relation v beats n size few none = all-taken relation beats v size few (step-none relation v beats n (size-taken relation beats v size) none)

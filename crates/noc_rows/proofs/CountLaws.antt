@@ -9,11 +9,11 @@ use Rattle.noc_packet.specs.declared.packet.Packet.{Packet}
 use Rattle.noc_topo.specs.Words.{below}
 use Rattle.noc_route.specs.Routes.{Routes}
 use Rattle.noc_packet.specs.Set.{has_bit}
-use Rattle.noc_router.specs.Arrivals.{is_expected_in, noted}
+use Rattle.noc_router.specs.Arrivals.{is_expected_in, arrivals_after}
 use Rattle.noc_router.specs.Counts.{one_if}
 use Rattle.noc_router.specs.Verdict.{column}
 use Rattle.noc_router.specs.VerdictSets.{verdict_by, sets_with}
-use Rattle.noc_router.specs.View.{Site, View, Decisions, size_of, counted, committed, planned, injected, injected_from, with_injected, begun_on, is_vacant, local_channel, view_buffer, all_taken, local_step, decided_verdict, has_event, with_arrival, with_misfit, tail_packet, flit_out}
+use Rattle.noc_router.specs.View.{Site, View, Decisions, size_of, counts_after, view_after_commit, decisions_of, view_after_inject, view_after_inject_from, with_injected, begun_on, is_vacant, local_channel, view_buffer, view_after_takes, local_step, decided_verdict, has_event, with_arrival, with_misfit, tail_packet, flit_out}
 use Rattle.noc_router.specs.declared.verdict.Verdict.{Verdict}
 use Rattle.noc_router.specs.declared.verdict_sets.VerdictSets.{VerdictSets}
 use Rattle.noc_rows.specs.Tallied.{nine_counts, ten_counts, with_verdicts, ShowsCounts, ShowsLastEvent}
@@ -97,7 +97,7 @@ pub counts-after : (sets : VerdictSets) (k cycles : ℕ) (counts : VerdictCounts
           sets.lost_input;
       lost_switch = sets.lost_switch;
     }) k counts in
-    (counted (verdict_by sets k) (ten_counts cycles counts routed granted lost)
+    (counts_after (verdict_by sets k) (ten_counts cycles counts routed granted lost)
     ≡ ten_counts (cycles + 1) next (routed + one_if (has_bit sets.routed k)) (granted + one_if (has_bit sets.granted k)) (lost + one_if
     (has_bit sets.lost_channel k)))
     × (sum (nine_counts next (routed + one_if (has_bit sets.routed k)) (granted + one_if (has_bit sets.granted k)) (lost + one_if
@@ -118,18 +118,18 @@ arrival-event : (p : Option ℕ) (v : View) → (with_arrival p v).last_event �
 arrival-event None v = refl
 arrival-event (Some p) v = at (is_expected_in p v.ends)
   where
-    at : (b : Bool) → let w = if b then record v { ends = noted p v.given v.ends } else with_misfit v in w.last_event ≡ v.last_event
+    at : (b : Bool) → let w = if b then record v { ends = arrivals_after p v.given v.ends } else with_misfit v in w.last_event ≡ v.last_event
     at true = refl
     at false = refl
 
-committed-event : (d : Decisions) (v : View) → (committed d v).last_event ≡ (if has_event d v then Some v.given else v.last_event)
-unfolding committed
+committed-event : (d : Decisions) (v : View) → (view_after_commit d v).last_event ≡ (if has_event d v then Some v.given else v.last_event)
+unfolding view_after_commit
 committed-event d v = arrival-event (tail_packet (flit_out v d.round (local_port v.site.grid))) _
 
 -- the row of the last event, where it has the cycle after this one just where something happened in it
 pub event-after : (d : Decisions) (v : View) (last event cycle : ℕ) → ShowsLastEvent last v.last_event → v.given ≡ cycle → cycle + 1 < 2 ^ 32
     → nat_eq event 0 ≡ not (has_event d v)
-    → ShowsLastEvent (if nat_eq event 0 then last else (cycle + 1) % 2 ^ 32) (committed d v).last_event
+    → ShowsLastEvent (if nat_eq event 0 then last else (cycle + 1) % 2 ^ 32) (view_after_commit d v).last_event
 event-after d v last event cycle shows given small is =
     subst (ShowsLastEvent (if nat_eq event 0 then last else (cycle + 1) % 2 ^ 32)) (sym (committed-event d v)) (at (has_event d v) is)
   where
@@ -142,16 +142,16 @@ arrival-counts : (p : Option ℕ) (v : View) → (with_arrival p v).counts ≡ v
 arrival-counts None v = refl
 arrival-counts (Some p) v = at (is_expected_in p v.ends)
   where
-    at : (b : Bool) → let w = if b then record v { ends = noted p v.given v.ends } else with_misfit v in w.counts ≡ v.counts
+    at : (b : Bool) → let w = if b then record v { ends = arrivals_after p v.given v.ends } else with_misfit v in w.counts ≡ v.counts
     at true = refl
     at false = refl
 
-counts-committed : (d : Decisions) (v : View) (i : ℕ) → i < length v.counts → slice_index_or (committed d v).counts i []
-    ≡ counted (decided_verdict d i) (slice_index_or v.counts i [])
-unfolding committed
+counts-committed : (d : Decisions) (v : View) (i : ℕ) → i < length v.counts → slice_index_or (view_after_commit d v).counts i []
+    ≡ counts_after (decided_verdict d i) (slice_index_or v.counts i [])
+unfolding view_after_commit
 counts-committed d v i l =
     ap (λ (xs : List (List ℕ)). slice_index_or xs i []) (arrival-counts (tail_packet (flit_out v d.round (local_port v.site.grid))) _)
-    ∙ get_or-map_indexed (λ j counts. counted (decided_verdict d j) counts) v.counts i [] [] l
+    ∙ get_or-map_indexed (λ j counts. counts_after (decided_verdict d j) counts) v.counts i [] [] l
 
 module _ (relation : Routes) (count : ℕ) (f : Fields) (c : Column) (v : View) (filled lost_set : ℕ) (e : Effects) (words : AreWords count c)
     (effects : AreEffects e) (frame : IsFields (ports v.site.grid) f) (width : f.width ≡ v.site.vcs)
@@ -161,9 +161,9 @@ module _ (relation : Routes) (count : ℕ) (f : Fields) (c : Column) (v : View) 
       → ShowsCounts cycles counts routed granted lost v
       → ShowsCounts (cycles + 1) (λ i. with_verdicts (lane_verdicts filled (lane_standing f filled c) e.granted lost_set e.moved c) i (counts i))
       (λ i. routed i + one_if (has_bit (lane_heads filled c) i)) (λ i. granted i + one_if (has_bit e.granted i)) (λ i. lost i + one_if
-      (has_bit lost_set i)) (committed (planned relation v) v)
+      (has_bit lost_set i)) (view_after_commit (decisions_of relation v) v)
   counts-decided cycles counts routed granted lost small long counted_so i l_after =
-      let l : i < size_of v.site = subst (λ (s : Site). i < size_of s) (committed-site (planned relation v) v).0 l_after in
+      let l : i < size_of v.site = subst (λ (s : Site). i < size_of s) (committed-site (decisions_of relation v) v).0 l_after in
       let was = counted_so i l in
       let is = verdicts count c v filled words shows fill f frame width turns.ahead turns.pointers turns.arbiters e.granted lost_set e.moved
       effects.granted are.lost_fits effects.moved are.granted are.lost are.moved i l in
@@ -184,9 +184,9 @@ module _ (relation : Routes) (count : ℕ) (f : Fields) (c : Column) (v : View) 
         lost_switch = less (lane_picked f filled c) e.moved;
       })
       i cycles (counts i) (routed i) (granted i) (lost i) apart was.1 small in (
-        counts-committed (planned relation v) v i (omega (arith, l, long))
-            ∙ ap (λ (x : Verdict). counted x (slice_index_or v.counts i [])) (verdict-planned relation v i l ∙ sym is)
-            ∙ ap (λ xs. counted (verdict_by
+        counts-committed (decisions_of relation v) v i (omega (arith, l, long))
+            ∙ ap (λ (x : Verdict). counts_after x (slice_index_or v.counts i [])) (verdict-planned relation v i l ∙ sym is)
+            ∙ ap (λ xs. counts_after (verdict_by
             (record {
               routed = lane_heads filled c;
               granted = e.granted;
@@ -208,11 +208,11 @@ module _ (relation : Routes) (count : ℕ) (f : Fields) (c : Column) (v : View) 
 abbrev Keeps : ℕ → View → View → Type 0
 Keeps n v w = (w.counts ≡ v.counts) × (w.last_event ≡ v.last_event) × (w.given ≡ n)
 
-pub injected-keeps : (n : ℕ) (v : View) → Keeps n v (injected n v)
-unfolding injected
+pub injected-keeps : (n : ℕ) (v : View) → Keeps n v (view_after_inject n v)
+unfolding view_after_inject
 injected-keeps n v = by v.queue v.sending
   where
-    by : (queue : List (ℕ × Packet)) (sending : Option (ℕ × ℕ)) → Keeps n v (injected_from n queue sending (record v { given = n }))
+    by : (queue : List (ℕ × Packet)) (sending : Option (ℕ × ℕ)) → Keeps n v (view_after_inject_from n queue sending (record v { given = n }))
     by [] sending = (refl, refl, refl)
     by ((number, p) ∷ rest) (Some (vc, index)) = room (nat_lt (length (view_buffer v (local_channel v.site vc))) v.site.places)
       where
@@ -232,14 +232,14 @@ injected-keeps n v = by v.queue v.sending
 
 -- ---- after the cycle, once its beats are put
 pub counts-put : (cycles : ℕ) (counts : ℕ → VerdictCounts) (routed granted lost : ℕ → ℕ) (relation : Routes) (v : View) (beats : List Beat) (n : ℕ)
-    → ShowsCounts cycles counts routed granted lost (committed (planned relation (injected n (all_taken relation beats v))) (injected n
-    (all_taken relation beats v)))
+    → ShowsCounts cycles counts routed granted lost (view_after_commit (decisions_of relation (view_after_inject n (view_after_takes relation beats v))) (view_after_inject n
+    (view_after_takes relation beats v)))
     → ShowsCounts cycles counts routed granted lost (local_step relation v beats n).0
 unfolding local_step
 counts-put cycles counts routed granted lost relation v beats n shows = shows
 
 pub event-put : (word : ℕ) (relation : Routes) (v : View) (beats : List Beat) (n : ℕ)
-    → ShowsLastEvent word (committed (planned relation (injected n (all_taken relation beats v))) (injected n (all_taken relation beats v))).last_event
+    → ShowsLastEvent word (view_after_commit (decisions_of relation (view_after_inject n (view_after_takes relation beats v))) (view_after_inject n (view_after_takes relation beats v))).last_event
     → ShowsLastEvent word (local_step relation v beats n).0.last_event
 unfolding local_step
 event-put word relation v beats n shows = shows

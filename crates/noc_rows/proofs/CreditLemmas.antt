@@ -4,7 +4,7 @@ use Rattle.std.specs.Prelude.{◌⊎◌, ◌&&◌, ◌||◌, not, is_some, nat_e
 use Rattle.std.proofs.lemmas.Bool.{eq-eqb, ne_eqb, cases_lt, false≢true, lt-ltb, ltb-true, eqb-true, and_parts, or_parts}
 use Rattle.noc_packet.specs.Set.{has_bit}
 use Rattle.noc_packet.proofs.SetLemmas.{either_members}
-use Rattle.noc_vc.specs.Output.{Output, is_free, credit_fits, credit_fits_at, credited, has_credit, has_credit_at, holder_at}
+use Rattle.noc_vc.specs.Output.{Output, is_free, credit_fits, credit_fits_at, output_after_credit, has_credit, has_credit_at, holder_at}
 use Rattle.noc_vc.specs.declared.input.InputState.{InputState}
 use Rattle.noc_vc.specs.declared.input.InputState.TheVariants.{Idle, Waiting, Active}
 use Rattle.noc_vc.specs.declared.output.OutputState.{OutputState}
@@ -136,7 +136,7 @@ credited-shows count c places came o output b words small l room shows holds few
         let p : output.places ≡ places = holds (ap is_some e) in
         let whole : output ≡ record { holder = output.holder; credit = Some n; places = places } = ap₂ (λ k m. record output { credit = k; places = m }) e p in
         let less_than : n < places = ltb-true n places (ap₂ credit_fits_at (sym p) (sym e) ∙ f refl) in
-        subst (λ (x : Output). ShowsOutput (with_credits (words_of count places) came c) o (credited x)) (sym whole)
+        subst (λ (x : Output). ShowsOutput (with_credits (words_of count places) came c) o (output_after_credit x)) (sym whole)
         (comes count c places came o words small l room output.holder n (subst (λ (x : Output). ShowsOutput c o x) whole shows) less_than h)
     at (Some n) e false h f =
         let p : output.places ≡ places = holds (ap is_some e) in
@@ -166,10 +166,10 @@ credited-has output true f = at output.credit refl
     or_true true = refl
     or_true false = refl
 
-    at : (credit : Option ℕ) → output.credit ≡ credit → has_credit (credited output) ≡ (has_credit output || true)
+    at : (credit : Option ℕ) → output.credit ≡ credit → has_credit (output_after_credit output) ≡ (has_credit output || true)
     at None e = absurd (false≢true (ap (credit_fits_at output.places) (sym e) ∙ f refl))
     at (Some n) e =
-        ap (λ (x : Output). has_credit (credited x)) (ap (λ k. record output { credit = k }) e) ∙ lt-ltb 0 (n + 1) (omega arith) ∙ sym (or_true (has_credit output))
+        ap (λ (x : Output). has_credit (output_after_credit x)) (ap (λ k. record output { credit = k }) e) ∙ lt-ltb 0 (n + 1) (omega arith) ∙ sym (or_true (has_credit output))
 
 holds-out : (holder : OutputState) (i : ℕ) → is_owned_from holder i ≡ true → (is_free holder ≡ false) × (is_draining holder ≡ false)
 holds-out Free i e = absurd (false≢true e)

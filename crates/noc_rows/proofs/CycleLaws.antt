@@ -7,7 +7,7 @@ use Rattle.noc_model.specs.Good.{IsGoodSetup}
 use Rattle.noc_model.specs.Lockstep.{view_at, site_at}
 use Rattle.noc_model.specs.Network.{Setup, frozen_at, size}
 use Rattle.noc_packet.specs.declared.packet.Flit.{Flit}
-use Rattle.noc_router.specs.View.{Site, View, size_of, view_buffer, planned, committed, local_step}
+use Rattle.noc_router.specs.View.{Site, View, size_of, view_buffer, decisions_of, view_after_commit, local_step}
 use Rattle.noc_rows.specs.Column.{Column, RouterMarks, IsColumn, Leads}
 use Rattle.noc_rows.specs.Cycle.{AreTails, HasCycled, HasSwitched, Surroundings}
 use Rattle.noc_rows.specs.FlitWords.{FitsWord, flit_word}
@@ -81,7 +81,7 @@ module _ (net : Setup) (setup : IsGoodSetup net) (n r : ℕ) (l : r < nodes net.
   column-after frame x a b routes routes_after e c w few is_frame here leads shows fill rings tails cycled =
       subst (λ (v : View). IsColumn 5 c w v) (next-count net setup n r l few)
       (column-put 5 c w net.relation (view_at net n r) (beats net setup n r l) n
-      (subst (λ (d : Column). IsColumn 5 d w (committed (planned net.relation (frozen_view net setup n r l)) (frozen_view net setup n r l))) (sym cycled.column)
+      (subst (λ (d : Column). IsColumn 5 d w (view_after_commit (decisions_of net.relation (frozen_view net setup n r l)) (frozen_view net setup n r l))) (sym cycled.column)
       (column-settled net.relation frame x (frozen_view net setup n r l) (still frame x is_frame here leads fill rings tails) a b outs shows put w e cycled.supplied cycled.switched cycled.heads cycled.granted)))
     where
       outs : ℕ

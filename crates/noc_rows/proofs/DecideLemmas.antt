@@ -4,14 +4,14 @@ use Rattle.std.specs.Prelude.{◌&&◌, not, is_some}
 use Rattle.std.proofs.lemmas.Bool.{false≢true, and_parts}
 use Rattle.noc_topo.specs.Shape.{ports}
 use Rattle.noc_packet.specs.Set.{has_bit}
-use Rattle.noc_alloc.specs.Arbiter.{turn_at}
+use Rattle.noc_alloc.specs.Arbiter.{arbiter_at}
 use Rattle.noc_route.specs.Routes.{Routes}
 use Rattle.noc_vc.specs.Input.{is_active, is_empty}
 use Rattle.noc_router.specs.Requests.{is_given}
 use Rattle.noc_router.specs.Sound.{is_supplied}
 use Rattle.noc_router.specs.Standing.{is_won_from}
 use Rattle.noc_router.specs.Verdict.{ask_of}
-use Rattle.noc_router.specs.View.{View, size_of, view_buffer, view_input, view_claim, view_round, first_flit, planned, committed, is_tail}
+use Rattle.noc_router.specs.View.{View, size_of, view_buffer, view_input, view_claim, view_round, first_flit, decisions_of, view_after_commit, is_tail}
 use Rattle.noc_rows.specs.Bits.{less}
 use Rattle.noc_rows.specs.Fields.{Fields, IsFields, ShowsPointer}
 use Rattle.noc_rows.specs.Taken.{HasSize}
@@ -32,8 +32,8 @@ pub record AreDecided (f : Fields) (c : Column) (v : View) (filled lost_set : �
 
 -- what is true of the arbiters of a view
 pub record HasTurns (c : Column) (v : View) : Type 0 where
-  pub ahead : (p : ℕ) → p < ports v.site.grid → ShowsPointer v.site.vcs c.ahead p (turn_at v.arbiters.inputs p).pointer
-  pub pointers : (p : ℕ) → p < ports v.site.grid → (turn_at v.arbiters.inputs p).pointer < v.site.vcs
+  pub ahead : (p : ℕ) → p < ports v.site.grid → ShowsPointer v.site.vcs c.ahead p (arbiter_at v.arbiters.inputs p).pointer
+  pub pointers : (p : ℕ) → p < ports v.site.grid → (arbiter_at v.arbiters.inputs p).pointer < v.site.vcs
   pub arbiters : length v.arbiters.inputs ≡ ports v.site.grid
 
 module _ (relation : Routes) (count : ℕ) (f : Fields) (c : Column) (v : View) (filled links local lost_set : ℕ) (e : Effects) (words : AreWords count c) (effects : AreEffects e) (size : HasSize v) (frame : IsFields (ports v.site.grid) f) (width : f.width ≡ v.site.vcs)
@@ -51,7 +51,7 @@ module _ (relation : Routes) (count : ℕ) (f : Fields) (c : Column) (v : View) 
       unnot false z = refl
 
   -- an input channel after the verdicts
-  pub inputs-decided : (k : ℕ) → k < size_of v.site → ShowsInput (settled_lane f links local e c) k (view_buffer (committed (planned relation v) v) k) (view_input (committed (planned relation v) v) k)
+  pub inputs-decided : (k : ℕ) → k < size_of v.site → ShowsInput (settled_lane f links local e c) k (view_buffer (view_after_commit (decisions_of relation v) v) k) (view_input (view_after_commit (decisions_of relation v) v) k)
   inputs-decided k l =
       input-shows relation count c v f links local e words effects size k l (shows.inputs k l)
       (record {

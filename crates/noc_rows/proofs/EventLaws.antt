@@ -12,7 +12,7 @@ use Rattle.noc_packet.proofs.SetLemmas.{has_bit-zero, zero_from_none}
 use Rattle.noc_route.specs.Routes.{Routes}
 use Rattle.noc_router.specs.Members.{AreBelow}
 use Rattle.noc_router.specs.Verdict.{is_event}
-use Rattle.noc_router.specs.View.{View, size_of, view_round, finding_of, planned, has_event}
+use Rattle.noc_router.specs.View.{View, size_of, view_round, finding_of, decisions_of, has_event}
 use Rattle.noc_router.specs.declared.verdict.Finding.{Finding}
 use Rattle.noc_router.specs.declared.verdict.Verdict.{Verdict}
 use Rattle.noc_rows.specs.Bits.{less}
@@ -132,8 +132,8 @@ module _ (relation : Routes) (count : ℕ) (f : Fields) (c : Column) (v : View) 
 
   -- something happened in the cycle just where one of the words has a channel; a flit that landed and a credit that came are events too
   pub event-decided : (landed credited : ℕ) → v.had_event ≡ not (nat_eq (bit_or landed credited) 0)
-      → nat_eq (bit_or (bit_or (bit_or (bit_or landed credited) (lane_heads filled c)) e.granted) e.moved) 0 ≡ not (has_event (planned relation v) v)
-  unfolding planned
+      → nat_eq (bit_or (bit_or (bit_or (bit_or landed credited) (lane_heads filled c)) e.granted) e.moved) 0 ≡ not (has_event (decisions_of relation v) v)
+  unfolding decisions_of
   event-decided landed credited had =
       or-zero (bit_or (bit_or (bit_or landed credited) (lane_heads filled c)) e.granted) e.moved
       ∙ ap (λ b. b && nat_eq e.moved 0) (or-zero (bit_or (bit_or landed credited) (lane_heads filled c)) e.granted

@@ -11,7 +11,7 @@ use Rattle.noc_packet.specs.declared.packet.Flit.{Flit}
 use Rattle.noc_packet.proofs.SetLemmas.{both_members, either_members, has_bit-zero}
 use Rattle.noc_route.specs.Routes.{Routes}
 use Rattle.noc_vc.specs.Input.{Input, idle_input, is_active, is_empty, is_idle_phase}
-use Rattle.noc_vc.specs.Output.{Output, has_credit, has_credit_at, held, is_free, spent}
+use Rattle.noc_vc.specs.Output.{Output, has_credit, has_credit_at, output_after_hold, is_free, output_after_spend}
 use Rattle.noc_vc.specs.declared.input.InputState.{InputState}
 use Rattle.noc_vc.specs.declared.input.InputState.TheVariants.{Idle, Waiting, Active}
 use Rattle.noc_vc.specs.declared.output.OutputState.{OutputState}
@@ -21,7 +21,7 @@ use Rattle.noc_router.specs.Requests.{is_given}
 use Rattle.noc_router.specs.Sound.{is_owned_from, is_supplied, owns}
 use Rattle.noc_router.specs.Verdict.{ask_of}
 use Rattle.noc_router.specs.declared.verdict.Verdict.{Verdict}
-use Rattle.noc_router.specs.View.{View, size_of, view_buffer, view_claim, claim_in, view_input, view_output, view_round, first_flit, is_tail, mover_to, planned, committed, decided_verdict, finding_of, input_after, held_by, spent_by, sent_from, granted_to, route_of}
+use Rattle.noc_router.specs.View.{View, size_of, view_buffer, view_claim, claim_in, view_input, view_output, view_round, first_flit, is_tail, mover_to, decisions_of, view_after_commit, decided_verdict, finding_of, input_after, held_by, spent_by, sent_from, granted_to, route_of}
 use Rattle.noc_rows.specs.Bits.{less}
 use Rattle.noc_rows.specs.Column.{Column, IsColumn, RouterMarks}
 use Rattle.noc_rows.specs.Cycle.{HasSwitched, Surroundings, chosen_by, single_in}
@@ -63,11 +63,11 @@ module _ (relation : Routes) (frame : Frame) (x : Surroundings) (v : View) (stil
     (heads_are : e.heads ≡ lane_heads x.filled a.column) (granted_are : e.granted ≡ b.granted) where
   -- the view once this has taken effect
   abbrev pub after : View
-  after = committed (planned relation v) v
+  after = view_after_commit (decisions_of relation v) v
 
   -- the verdict of a channel, by the sets that say so
   verdict-is : (k : ℕ) → k < size_of v.site
-      → decided_verdict (planned relation v) k
+      → decided_verdict (decisions_of relation v) k
       ≡ verdict_of_bits (has_bit e.moved k) (has_bit e.granted k) (has_bit e.heads k) (has_bit (lane_no_flit x.filled a.column) k) (has_bit (lane_no_idle_channel e.granted b.lost a.column) k) (has_bit b.lost k)
       (has_bit (lane_no_credit x.filled a.column) k) (has_bit (less (lane_ready x.filled a.column) (lane_picked frame.fields x.filled a.column)) k) (has_bit (less (lane_picked frame.fields x.filled a.column) e.moved) k)
   verdict-is k l =
@@ -79,34 +79,34 @@ module _ (relation : Routes) (frame : Frame) (x : Surroundings) (v : View) (stil
       ∙ ap (λ n. verdict_of_bits (has_bit e.moved k) (has_bit e.granted k) (has_bit n k) (has_bit (lane_no_flit x.filled a.column) k) (has_bit (lane_no_idle_channel e.granted b.lost a.column) k) (has_bit b.lost k)
       (has_bit (lane_no_credit x.filled a.column) k) (has_bit (less (lane_ready x.filled a.column) (lane_picked frame.fields x.filled a.column)) k) (has_bit (less (lane_picked frame.fields x.filled a.column) e.moved) k)) (sym heads_are)
 
-  route-at : (k : ℕ) → k < size_of v.site → slice_index (planned relation v).routes k ≡ route_of relation v k
-  unfolding planned
+  route-at : (k : ℕ) → k < size_of v.site → slice_index (decisions_of relation v).routes k ≡ route_of relation v k
+  unfolding decisions_of
   route-at k l = get_or-tabulate (size_of v.site) k (route_of relation v) 0 l
 
-  pub fate : (k : ℕ) → k < size_of v.site → Fate v (committed (planned relation v) v) e (route_of relation v k) k
+  pub fate : (k : ℕ) → k < size_of v.site → Fate v (view_after_commit (decisions_of relation v) v) e (route_of relation v k) k
   fate k l = by (has_bit e.moved k) refl (has_bit e.granted k) refl (has_bit e.heads k) refl
     where
       After : Verdict → InputState
-      After verdict = (input_after (planned relation v) v k (view_input v k) verdict).phase
+      After verdict = (input_after (decisions_of relation v) v k (view_input v k) verdict).phase
 
       after-is : (m g h : Bool) → has_bit e.moved k ≡ m → has_bit e.granted k ≡ g → has_bit e.heads k ≡ h
-          → (view_input (committed (planned relation v) v) k).phase
+          → (view_input (view_after_commit (decisions_of relation v) v) k).phase
           ≡ After (verdict_of_bits m g h (has_bit (lane_no_flit x.filled a.column) k) (has_bit (lane_no_idle_channel e.granted b.lost a.column) k) (has_bit b.lost k)
           (has_bit (lane_no_credit x.filled a.column) k) (has_bit (less (lane_ready x.filled a.column) (lane_picked frame.fields x.filled a.column)) k) (has_bit (less (lane_picked frame.fields x.filled a.column) e.moved) k))
       after-is m g h em eg eh =
-          ap (λ (input : Input). input.phase) (input-committed (planned relation v) v still.size k l)
+          ap (λ (input : Input). input.phase) (input-committed (decisions_of relation v) v still.size k l)
           ∙ ap After (verdict-is k l)
           ∙ ap After (rw (em, eg, eh) refl)
 
       -- a flit moves
-      moves : has_bit e.moved k ≡ true → (view_input (committed (planned relation v) v) k).phase ≡ (sent_from (view_input v k) (first_flit v k)).phase
-          → Fate v (committed (planned relation v) v) e (route_of relation v k) k
+      moves : has_bit e.moved k ≡ true → (view_input (view_after_commit (decisions_of relation v) v) k).phase ≡ (sent_from (view_input v k) (first_flit v k)).phase
+          → Fate v (view_after_commit (decisions_of relation v) v) e (route_of relation v k) k
       moves em is = at (view_buffer v k) refl (view_input v k).phase refl
         where
           here : (is_active (view_input v k).phase ≡ true) × (is_empty (view_buffer v k) ≡ false) × (is_supplied v.outputs (view_input v k).phase ≡ true)
           here = picked-is relation frame x v still a b outs shows put k l (moves-picked relation frame x v still a b outs shows put w e supplied switched heads_are granted_are k em)
 
-          at : (flits : List Flit) → view_buffer v k ≡ flits → (p : InputState) → (view_input v k).phase ≡ p → Fate v (committed (planned relation v) v) e (route_of relation v k) k
+          at : (flits : List Flit) → view_buffer v k ≡ flits → (p : InputState) → (view_input v k).phase ≡ p → Fate v (view_after_commit (decisions_of relation v) v) e (route_of relation v k) k
           at [] ef p ep = absurd (true≢false (ap is_empty (sym ef) ∙ here.1))
           at (f ∷ rest) ef Idle ep = absurd (false≢true (sym (ap is_active ep) ∙ here.0))
           at (f ∷ rest) ef (Waiting set) ep = absurd (false≢true (sym (ap is_active ep) ∙ here.0))
@@ -115,20 +115,20 @@ module _ (relation : Routes) (frame : Frame) (x : Surroundings) (v : View) (stil
               first : first_flit v k ≡ Some f
               first = ap (λ xs. slice_get xs 0) ef
 
-              last : (t : Bool) → f.last ≡ t → Fate v (committed (planned relation v) v) e (route_of relation v k) k
+              last : (t : Bool) → f.last ≡ t → Fate v (view_after_commit (decisions_of relation v) v) e (route_of relation v k) k
               last true et = Leaves o em (ap is_tail first ∙ et) ep (is ∙ ap (λ (y : Option Flit). (sent_from (view_input v k) y).phase) first ∙ ap (λ t. (if t then idle_input else view_input v k).phase) et)
               last false et = Sends o em (ap is_tail first ∙ et) ep (is ∙ ap (λ (y : Option Flit). (sent_from (view_input v k) y).phase) first ∙ ap (λ t. (if t then idle_input else view_input v k).phase) et ∙ ep)
 
       -- an output channel is granted
-      gets : has_bit e.moved k ≡ false → has_bit e.granted k ≡ true → (view_input (committed (planned relation v) v) k).phase ≡ (granted_to (view_input v k) (ask_of (view_claim v k))).phase
-          → Fate v (committed (planned relation v) v) e (route_of relation v k) k
+      gets : has_bit e.moved k ≡ false → has_bit e.granted k ≡ true → (view_input (view_after_commit (decisions_of relation v) v) k).phase ≡ (granted_to (view_input v k) (ask_of (view_claim v k))).phase
+          → Fate v (view_after_commit (decisions_of relation v) v) e (route_of relation v k) k
       gets em eg is =
           let g = grant-found relation frame x v still a b outs shows put w e supplied switched heads_are granted_are k l eg in
           Gets g.out g.to.set em eg g.to.phase g.to.asks g.round (is ∙ ap (λ (y : Option ℕ). (granted_to (view_input v k) y).phase) g.to.asks)
 
       -- a head is routed
-      begins : has_bit e.moved k ≡ false → has_bit e.granted k ≡ false → has_bit e.heads k ≡ true → (view_input (committed (planned relation v) v) k).phase ≡ Waiting (slice_index (planned relation v).routes k)
-          → Fate v (committed (planned relation v) v) e (route_of relation v k) k
+      begins : has_bit e.moved k ≡ false → has_bit e.granted k ≡ false → has_bit e.heads k ≡ true → (view_input (view_after_commit (decisions_of relation v) v) k).phase ≡ Waiting (slice_index (decisions_of relation v).routes k)
+          → Fate v (view_after_commit (decisions_of relation v) v) e (route_of relation v k) k
       begins em eg eh is = Begins em eg eh (idle (view_input v k).phase refl) (is ∙ ap Waiting (route-at k l))
         where
           both : (is_idle_phase (view_input v k).phase ≡ true) × (not (is_empty (view_buffer v k)) ≡ true)
@@ -139,13 +139,13 @@ module _ (relation : Routes) (frame : Frame) (x : Surroundings) (v : View) (stil
           idle (Waiting set) ep = absurd (false≢true (sym (ap is_idle_phase ep) ∙ both.0))
           idle (Active o) ep = absurd (false≢true (sym (ap is_idle_phase ep) ∙ both.0))
 
-      by : (m : Bool) → has_bit e.moved k ≡ m → (g : Bool) → has_bit e.granted k ≡ g → (h : Bool) → has_bit e.heads k ≡ h → Fate v (committed (planned relation v) v) e (route_of relation v k) k
+      by : (m : Bool) → has_bit e.moved k ≡ m → (g : Bool) → has_bit e.granted k ≡ g → (h : Bool) → has_bit e.heads k ≡ h → Fate v (view_after_commit (decisions_of relation v) v) e (route_of relation v k) k
       by true em g eg h eh = moves em (after-is true g h em eg eh)
       by false em true eg h eh = gets em eg (after-is false true h em eg eh)
       by false em false eg true eh = begins em eg eh (after-is false false true em eg eh)
       by false em false eg false eh = Rests em eg eh
           (after-is false false false em eg eh
-          ∙ ap (λ (input : Input). input.phase) (quiet-input (planned relation v) v k (view_input v k) (has_bit (lane_no_flit x.filled a.column) k) (has_bit (lane_no_idle_channel e.granted b.lost a.column) k) (has_bit b.lost k)
+          ∙ ap (λ (input : Input). input.phase) (quiet-input (decisions_of relation v) v k (view_input v k) (has_bit (lane_no_flit x.filled a.column) k) (has_bit (lane_no_idle_channel e.granted b.lost a.column) k) (has_bit b.lost k)
           (has_bit (lane_no_credit x.filled a.column) k) (has_bit (less (lane_ready x.filled a.column) (lane_picked frame.fields x.filled a.column)) k) (has_bit (less (lane_picked frame.fields x.filled a.column) e.moved) k)))
 
   -- ---- credits
@@ -197,10 +197,10 @@ module _ (relation : Routes) (frame : Frame) (x : Surroundings) (v : View) (stil
 
   -- ---- output channels after the cycle
   pub output-by : (o : ℕ) (grant mover : Option ℕ) → o < size_of v.site → slice_index_or (view_round v).grants o None ≡ grant → mover_to v (view_round v) o ≡ mover
-      → view_output (committed (planned relation v) v) o ≡ spent_by v (held_by v (view_output v o) grant) mover
-  unfolding planned
+      → view_output (view_after_commit (decisions_of relation v) v) o ≡ spent_by v (held_by v (view_output v o) grant) mover
+  unfolding decisions_of
   output-by o grant mover l eg em =
-      output-committed (planned relation v) v still.size o l ∙ ap₂ (λ g m. spent_by v (held_by v (view_output v o) g) m) eg em
+      output-committed (decisions_of relation v) v still.size o l ∙ ap₂ (λ g m. spent_by v (held_by v (view_output v o) g) m) eg em
 
   -- who sends by an output channel, no one else is granted it
   no-grant-at : (o i : ℕ) → o < size_of v.site → is_owned_from (view_output v o).holder i ≡ true → slice_index_or (view_round v).grants o None ≡ None
@@ -239,7 +239,7 @@ module _ (relation : Routes) (frame : Frame) (x : Surroundings) (v : View) (stil
   active-ungranted k o l ep =
       granted-is relation frame x v still a b outs shows put w e supplied switched heads_are granted_are k l ∙ ap (λ p. is_given (view_round v).grants (ask_of (claim_in v p)) k) ep
 
-  pub says-supplied : (k : ℕ) → k < size_of v.site → SaysSupplied v (committed (planned relation v) v) a.column e supplied dry k
+  pub says-supplied : (k : ℕ) → k < size_of v.site → SaysSupplied v (view_after_commit (decisions_of relation v) v) a.column e supplied dry k
   says-supplied k l = by (fate k l)
     where
       last-credit : (o : ℕ) → has_bit e.moved k ≡ true → (view_input v k).phase ≡ Active o → has_bit dry k ≡ (not (nat_lt 1 (number_at a.column.credit o)) && is_some (view_output v o).credit)
@@ -264,7 +264,7 @@ module _ (relation : Routes) (frame : Frame) (x : Surroundings) (v : View) (stil
           at (Some n) h e = (e ∙ turn (not (nat_lt 1 (number_at a.column.credit o))) ∙ ap (λ c. not (nat_lt 1 c)) h, λ z. absurd (true≢false (ap is_some z)))
 
       -- all credits of a free channel are there
-      rich : (o : ℕ) (set : ℕ) → o < size_of v.site → slice_index_or (view_round v).grants o None ≡ Some k → has_credit (view_output (committed (planned relation v) v) o) ≡ true
+      rich : (o : ℕ) (set : ℕ) → o < size_of v.site → slice_index_or (view_round v).grants o None ≡ Some k → has_credit (view_output (view_after_commit (decisions_of relation v) v) o) ≡ true
       rich o set lo eg =
           let free = (grantee relation frame x v still a b outs shows put w e supplied switched heads_are granted_are o k lo eg).free in
           let none = ((says-out relation frame x v still a b outs shows put w e supplied switched heads_are granted_are o lo).free (ap is_some eg)).1 in
@@ -277,7 +277,7 @@ module _ (relation : Routes) (frame : Frame) (x : Surroundings) (v : View) (stil
       bit : has_bit supplied k ≡ ((has_bit a.column.supplied k || has_bit e.granted k) && not (has_bit dry k))
       bit = supplied-bit k
 
-      by : Fate v (committed (planned relation v) v) e (route_of relation v k) k → SaysSupplied v (committed (planned relation v) v) a.column e supplied dry k
+      by : Fate v (view_after_commit (decisions_of relation v) v) e (route_of relation v k) k → SaysSupplied v (view_after_commit (decisions_of relation v) v) a.column e supplied dry k
       by (Leaves o em et ep ew) = record {
         bit = bit;
         turn = Gone o ep ew;
@@ -289,7 +289,7 @@ module _ (relation : Routes) (frame : Frame) (x : Surroundings) (v : View) (stil
           let credits = one-left o lo (last-credit o em ep) in
           record {
             bit = bit;
-            turn = SendsOn o ep ew (output-by o None (Some k) lo (no-grant-at o k lo (owns-it k o l ep)) moves ∙ ap (λ t. spent t (view_output v o)) et)
+            turn = SendsOn o ep ew (output-by o None (Some k) lo (no-grant-at o k lo (owns-it k o l ep)) moves ∙ ap (λ t. output_after_spend t (view_output v o)) et)
                 (sym (ap (is_supplied v.outputs) ep) ∙ (picked-is relation frame x v still a b outs shows put k l (moves-picked relation frame x v still a b outs shows put w e supplied switched heads_are granted_are k em)).2);
             says = (
               released-is relation frame x v still a b outs shows put w e supplied switched heads_are granted_are k l ∙ ap₂ (λ p q. p && q) em et,

@@ -6,14 +6,14 @@ use Rattle.noc_topo.specs.Shape.{ports}
 use Rattle.noc_packet.specs.Set.{has_bit}
 use Rattle.noc_packet.specs.declared.packet.Beat.{Beat}
 use Rattle.noc_packet.proofs.SetLemmas.{either_members}
-use Rattle.noc_alloc.specs.Arbiter.{turn_at}
-use Rattle.noc_vc.specs.Output.{Output, credited_at, holder_at}
+use Rattle.noc_alloc.specs.Arbiter.{arbiter_at}
+use Rattle.noc_vc.specs.Output.{Output, output_with_credit, holder_at}
 use Rattle.noc_vc.specs.declared.input.InputState.{InputState}
 use Rattle.noc_vc.specs.declared.input.InputState.TheVariants.{Idle, Waiting, Active}
 use Rattle.noc_vc.specs.declared.output.OutputState.{OutputState}
 use Rattle.noc_vc.specs.declared.output.OutputState.TheVariants.{Idle as Free, Owned, Draining}
 use Rattle.noc_router.specs.Counts.{one_if}
-use Rattle.noc_router.specs.Verdict.{Turns}
+use Rattle.noc_router.specs.Verdict.{ArbiterStates}
 use Rattle.noc_router.specs.View.{Site, View, size_of, view_input, view_output}
 use Rattle.noc_rows.specs.Bits.{lowest, negated}
 use Rattle.noc_rows.specs.Column.{Column, RouterMarks, AreWords, ShowsHolder, ShowsMarks, ShowsPhase, ShowsSending, ShowsTurns, sends_by}
@@ -67,7 +67,7 @@ holder-kept m o output true t = at output.credit
         full true = tt
         full false = tt
 
-    at : (credit : Option ℕ) → ShowsHolder m o (credited_at output credit).holder
+    at : (credit : Option ℕ) → ShowsHolder m o (output_with_credit output credit).holder
     at None = t
     at (Some n) = same output.places (n + 1) output.holder t
 
@@ -77,15 +77,15 @@ sending-kept c d v (Some (vc, index)) e t = (t.0, e ∙ t.1)
 
 pub turns-kept : (c d : Column) (m : RouterMarks) (v x : View) → d.ahead ≡ c.ahead → x.site ≡ v.site → x.arbiters ≡ v.arbiters → ShowsTurns c m v → ShowsTurns d m x
 turns-kept c d m v x ahead site arbiters t = record {
-  inputs = subst (λ (s : Site). (p : ℕ) → p < ports s.grid → ShowsPointer s.vcs d.ahead p (turn_at x.arbiters.inputs p).pointer) (sym site)
-      (subst (λ (a : Turns). (p : ℕ) → p < ports v.site.grid → ShowsPointer v.site.vcs d.ahead p (turn_at a.inputs p).pointer) (sym arbiters)
-      (subst (λ (w : ℕ). (p : ℕ) → p < ports v.site.grid → ShowsPointer v.site.vcs w p (turn_at v.arbiters.inputs p).pointer) (sym ahead) t.inputs));
-  channels = subst (λ (s : Site). (o : ℕ) → o < size_of s → ShowsPointer (size_of s) (m.turn o) 0 (turn_at x.arbiters.channels o).pointer) (sym site)
-      (subst (λ (a : Turns). (o : ℕ) → o < size_of v.site → ShowsPointer (size_of v.site) (m.turn o) 0 (turn_at a.channels o).pointer) (sym arbiters) t.channels);
+  inputs = subst (λ (s : Site). (p : ℕ) → p < ports s.grid → ShowsPointer s.vcs d.ahead p (arbiter_at x.arbiters.inputs p).pointer) (sym site)
+      (subst (λ (a : ArbiterStates). (p : ℕ) → p < ports v.site.grid → ShowsPointer v.site.vcs d.ahead p (arbiter_at a.inputs p).pointer) (sym arbiters)
+      (subst (λ (w : ℕ). (p : ℕ) → p < ports v.site.grid → ShowsPointer v.site.vcs w p (arbiter_at v.arbiters.inputs p).pointer) (sym ahead) t.inputs));
+  channels = subst (λ (s : Site). (o : ℕ) → o < size_of s → ShowsPointer (size_of s) (m.turn o) 0 (arbiter_at x.arbiters.channels o).pointer) (sym site)
+      (subst (λ (a : ArbiterStates). (o : ℕ) → o < size_of v.site → ShowsPointer (size_of v.site) (m.turn o) 0 (arbiter_at a.channels o).pointer) (sym arbiters) t.channels);
   outputs = subst (λ (s : Site). (q i : ℕ) → q < ports s.grid → i < size_of s
-      → (has_bit (m.port_turn q) i ≡ nat_le (turn_at x.arbiters.outputs q).pointer (i / s.vcs)) ⊎ (((turn_at x.arbiters.outputs q).pointer ≡ 0) × ((k : ℕ) → k < size_of s → has_bit (m.port_turn q) k ≡ false))) (sym site)
-      (subst (λ (a : Turns). (q i : ℕ) → q < ports v.site.grid → i < size_of v.site
-      → (has_bit (m.port_turn q) i ≡ nat_le (turn_at a.outputs q).pointer (i / v.site.vcs)) ⊎ (((turn_at a.outputs q).pointer ≡ 0) × ((k : ℕ) → k < size_of v.site → has_bit (m.port_turn q) k ≡ false))) (sym arbiters) t.outputs);
+      → (has_bit (m.port_turn q) i ≡ nat_le (arbiter_at x.arbiters.outputs q).pointer (i / s.vcs)) ⊎ (((arbiter_at x.arbiters.outputs q).pointer ≡ 0) × ((k : ℕ) → k < size_of s → has_bit (m.port_turn q) k ≡ false))) (sym site)
+      (subst (λ (a : ArbiterStates). (q i : ℕ) → q < ports v.site.grid → i < size_of v.site
+      → (has_bit (m.port_turn q) i ≡ nat_le (arbiter_at a.outputs q).pointer (i / v.site.vcs)) ⊎ (((arbiter_at a.outputs q).pointer ≡ 0) × ((k : ℕ) → k < size_of v.site → has_bit (m.port_turn q) k ≡ false))) (sym arbiters) t.outputs);
 }
 
 pub marks-kept : (c d : Column) (m : RouterMarks) (v x : View) (b : ℕ → Bool) → d.wanted ≡ c.wanted → x.site ≡ v.site

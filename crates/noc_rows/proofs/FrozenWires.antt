@@ -4,7 +4,7 @@ use Rattle.noc_topo.specs.Shape.{nodes}
 use Rattle.noc_packet.specs.Set.{has_bit}
 use Rattle.noc_vc.specs.declared.input.InputState.TheVariants.{Active}
 use Rattle.noc_router.specs.Members.{AreBelow}
-use Rattle.noc_router.specs.View.{View, all_taken, injected, view_buffer, view_input}
+use Rattle.noc_router.specs.View.{View, view_after_takes, view_after_inject, view_buffer, view_input}
 use Rattle.noc_model.specs.Lockstep.{beats_at, beats_in, site_at, view_at}
 use Rattle.noc_model.specs.Network.{Setup, size, state_at}
 use Rattle.noc_rows.specs.Carried.{WireWords}
@@ -14,7 +14,7 @@ use Rattle.noc_rows.proofs.SwitchLemmas.{AreMoved}
 
 -- the view of router r from which the verdicts of cycle n are taken
 abbrev pub frozen_of : Setup → ℕ → ℕ → View
-frozen_of net n r = injected n (all_taken net.relation (beats_at (beats_in net (state_at net n)) r) (view_at net n r))
+frozen_of net n r = view_after_inject n (view_after_takes net.relation (beats_at (beats_in net (state_at net n)) r) (view_at net n r))
 
 -- the rings have the flits of the buffers and nothing is on the wires; by router the channels that move, which by place are those
 -- that have gone, each to its target, with a credit back

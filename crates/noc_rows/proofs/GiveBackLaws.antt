@@ -14,7 +14,7 @@ use Rattle.noc_vc.specs.declared.input.InputState.TheVariants.{Idle, Waiting, Ac
 use Rattle.noc_router.specs.Standing.{is_won_from}
 use Rattle.noc_router.specs.Verdict.{Holds, Waits, is_moved, ready_port, verdict_of}
 use Rattle.noc_router.specs.declared.verdict.Verdict.TheVariants.{Moved, LostSwitch}
-use Rattle.noc_router.specs.View.{View, size_of, view_buffer, view_input, view_output, view_claim, claim_in, view_round, asked_for, planned, decided_verdict, beat_out}
+use Rattle.noc_router.specs.View.{View, size_of, view_buffer, view_input, view_output, view_claim, claim_in, view_round, asked_for, decisions_of, decided_verdict, beat_out}
 use Rattle.noc_router.proofs.FindLemmas.{find-below, find-none}
 use Rattle.noc_rows.proofs.CommittedLemmas.{verdict-planned}
 use Rattle.noc_rows.proofs.SwitchLemmas.{AreMoved}
@@ -29,7 +29,7 @@ module _ (relation : Routes) (v : View) (moved : ℕ) (some_vc : 0 < v.site.vcs)
   abbrev is_pick : ℕ → Bool
   is_pick k = is_some_of (slice_index_or (view_round v).picks (k / v.site.vcs) None) (k % v.site.vcs)
 
-  verdict-moves : (k : ℕ) → k < size_of v.site → is_moved (decided_verdict (planned relation v) k) ≡ has_bit moved k
+  verdict-moves : (k : ℕ) → k < size_of v.site → is_moved (decided_verdict (decisions_of relation v) k) ≡ has_bit moved k
   verdict-moves k l = ap is_moved (verdict-planned relation v k l) ∙ by (view_input v k).phase refl ∙ sym (are.each k l)
     where
       by : (phase : InputState) → (view_input v k).phase ≡ phase
@@ -75,7 +75,7 @@ module _ (relation : Routes) (v : View) (moved : ℕ) (some_vc : 0 < v.site.vcs)
           at false false false z h = rw z refl
 
   -- a credit goes back for the channel of the port of which a flit moves
-  pub credit-left : (q vc : ℕ) → q < ports v.site.grid → vc < v.site.vcs → is_some_of (beat_out (planned relation v) v q).credit vc ≡ has_bit moved (q * v.site.vcs + vc)
+  pub credit-left : (q vc : ℕ) → q < ports v.site.grid → vc < v.site.vcs → is_some_of (beat_out (decisions_of relation v) v q).credit vc ≡ has_bit moved (q * v.site.vcs + vc)
   credit-left q vc lq lv = by (slice_index_or (view_round v).picks q None) refl
     where
       place : (x : ℕ) → x < v.site.vcs → q * v.site.vcs + x < size_of v.site
@@ -87,49 +87,49 @@ module _ (relation : Routes) (v : View) (moved : ℕ) (some_vc : 0 < v.site.vcs)
           ∙ ap (λ b. b && is_won_from v (view_round v) (q * v.site.vcs + x) (view_input v (q * v.site.vcs + x)).phase)
           (ap₂ (λ a b. is_some_of (slice_index_or (view_round v).picks a None) b) (div-mul-add q v.site.vcs x lx) (mod-mul-add q v.site.vcs x lx) ∙ ap (λ p. is_some_of p x) e ∙ z)
 
-      test : (x : ℕ) → x < v.site.vcs → is_moved (decided_verdict (planned relation v) (q * v.site.vcs + x)) ≡ has_bit moved (q * v.site.vcs + x)
+      test : (x : ℕ) → x < v.site.vcs → is_moved (decided_verdict (decisions_of relation v) (q * v.site.vcs + x)) ≡ has_bit moved (q * v.site.vcs + x)
       test x lx = verdict-moves (q * v.site.vcs + x) (place x lx)
 
       by : (o : Option ℕ) → slice_index_or (view_round v).picks q None ≡ o
-          → is_some_of (find (λ x. is_moved (decided_verdict (planned relation v) (q * v.site.vcs + x))) (below v.site.vcs)) vc ≡ has_bit moved (q * v.site.vcs + vc)
+          → is_some_of (find (λ x. is_moved (decided_verdict (decisions_of relation v) (q * v.site.vcs + x))) (below v.site.vcs)) vc ≡ has_bit moved (q * v.site.vcs + vc)
       by None e =
-          ap (λ (f : Option ℕ). is_some_of f vc) (find-none (λ x. is_moved (decided_verdict (planned relation v) (q * v.site.vcs + x))) v.site.vcs (λ x lx. test x lx ∙ bit x lx None e refl))
+          ap (λ (f : Option ℕ). is_some_of f vc) (find-none (λ x. is_moved (decided_verdict (decisions_of relation v) (q * v.site.vcs + x))) v.site.vcs (λ x lx. test x lx ∙ bit x lx None e refl))
           ∙ sym (bit vc lv None e refl)
       by (Some d) e = won (cases_eq d vc) (has_bit moved (q * v.site.vcs + vc)) refl
         where
           apart : (x : ℕ) → x < v.site.vcs → d ≢ x → has_bit moved (q * v.site.vcs + x) ≡ false
           apart x lx other = bit x lx (Some d) e (ne_eqb d x other)
 
-          found : (f : Option ℕ) → find (λ x. is_moved (decided_verdict (planned relation v) (q * v.site.vcs + x))) (below v.site.vcs) ≡ f
-              → is_some_of (find (λ x. is_moved (decided_verdict (planned relation v) (q * v.site.vcs + x))) (below v.site.vcs)) vc ≡ is_some_of f vc
+          found : (f : Option ℕ) → find (λ x. is_moved (decided_verdict (decisions_of relation v) (q * v.site.vcs + x))) (below v.site.vcs) ≡ f
+              → is_some_of (find (λ x. is_moved (decided_verdict (decisions_of relation v) (q * v.site.vcs + x))) (below v.site.vcs)) vc ≡ is_some_of f vc
           found f h = ap (λ (g : Option ℕ). is_some_of g vc) h
 
           won : (d ≡ vc) ⊎ (d ≢ vc) → (b : Bool) → has_bit moved (q * v.site.vcs + vc) ≡ b
-              → is_some_of (find (λ x. is_moved (decided_verdict (planned relation v) (q * v.site.vcs + x))) (below v.site.vcs)) vc ≡ has_bit moved (q * v.site.vcs + vc)
+              → is_some_of (find (λ x. is_moved (decided_verdict (decisions_of relation v) (q * v.site.vcs + x))) (below v.site.vcs)) vc ≡ has_bit moved (q * v.site.vcs + vc)
           won (inl same) true m =
-              found (Some vc) (find-below (λ x. is_moved (decided_verdict (planned relation v) (q * v.site.vcs + x))) v.site.vcs vc lv (test vc lv ∙ m)
+              found (Some vc) (find-below (λ x. is_moved (decided_verdict (decisions_of relation v) (q * v.site.vcs + x))) v.site.vcs vc lv (test vc lv ∙ m)
               (λ x lx. test x (omega (arith, lx, lv)) ∙ apart x (omega (arith, lx, lv)) (λ z. absurd (omega (arith, z, same, lx)))))
               ∙ eq-eqb vc vc refl ∙ sym m
           won (inl same) false m =
-              found None (find-none (λ x. is_moved (decided_verdict (planned relation v) (q * v.site.vcs + x))) v.site.vcs
+              found None (find-none (λ x. is_moved (decided_verdict (decisions_of relation v) (q * v.site.vcs + x))) v.site.vcs
               (λ x lx. test x lx ∙ elim (cases_eq d x) [ inl here ↦ ap (λ n. has_bit moved (q * v.site.vcs + n)) (sym here ∙ same) ∙ m | inr other ↦ apart x lx other ]))
               ∙ sym m
           won (inr other) b m =
-              beyond (find (λ x. is_moved (decided_verdict (planned relation v) (q * v.site.vcs + x))) (below v.site.vcs)) refl ∙ sym (apart vc lv other)
+              beyond (find (λ x. is_moved (decided_verdict (decisions_of relation v) (q * v.site.vcs + x))) (below v.site.vcs)) refl ∙ sym (apart vc lv other)
             where
-              beyond : (f : Option ℕ) → find (λ x. is_moved (decided_verdict (planned relation v) (q * v.site.vcs + x))) (below v.site.vcs) ≡ f
-                  → is_some_of (find (λ x. is_moved (decided_verdict (planned relation v) (q * v.site.vcs + x))) (below v.site.vcs)) vc ≡ false
+              beyond : (f : Option ℕ) → find (λ x. is_moved (decided_verdict (decisions_of relation v) (q * v.site.vcs + x))) (below v.site.vcs) ≡ f
+                  → is_some_of (find (λ x. is_moved (decided_verdict (decisions_of relation v) (q * v.site.vcs + x))) (below v.site.vcs)) vc ≡ false
               beyond f h = at (has_bit moved (q * v.site.vcs + d)) refl (cases_lt d v.site.vcs)
                 where
                   at : (b : Bool) → has_bit moved (q * v.site.vcs + d) ≡ b → (d < v.site.vcs) ⊎ (v.site.vcs ≤ d)
-                      → is_some_of (find (λ x. is_moved (decided_verdict (planned relation v) (q * v.site.vcs + x))) (below v.site.vcs)) vc ≡ false
+                      → is_some_of (find (λ x. is_moved (decided_verdict (decisions_of relation v) (q * v.site.vcs + x))) (below v.site.vcs)) vc ≡ false
                   at true m (inl l) =
-                      ap (λ (g : Option ℕ). is_some_of g vc) (find-below (λ x. is_moved (decided_verdict (planned relation v) (q * v.site.vcs + x))) v.site.vcs d l (test d l ∙ m)
+                      ap (λ (g : Option ℕ). is_some_of g vc) (find-below (λ x. is_moved (decided_verdict (decisions_of relation v) (q * v.site.vcs + x))) v.site.vcs d l (test d l ∙ m)
                       (λ x lx. test x (omega (arith, lx, l)) ∙ apart x (omega (arith, lx, l)) (λ z. absurd (omega (arith, z, lx)))))
                       ∙ ne_eqb d vc other
                   at false m (inl l) =
-                      ap (λ (g : Option ℕ). is_some_of g vc) (find-none (λ x. is_moved (decided_verdict (planned relation v) (q * v.site.vcs + x))) v.site.vcs
+                      ap (λ (g : Option ℕ). is_some_of g vc) (find-none (λ x. is_moved (decided_verdict (decisions_of relation v) (q * v.site.vcs + x))) v.site.vcs
                       (λ x lx. test x lx ∙ elim (cases_eq d x) [ inl here ↦ ap (λ n. has_bit moved (q * v.site.vcs + n)) (sym here) ∙ m | inr o ↦ apart x lx o ]))
                   at b m (inr u) =
-                      ap (λ (g : Option ℕ). is_some_of g vc) (find-none (λ x. is_moved (decided_verdict (planned relation v) (q * v.site.vcs + x))) v.site.vcs
+                      ap (λ (g : Option ℕ). is_some_of g vc) (find-none (λ x. is_moved (decided_verdict (decisions_of relation v) (q * v.site.vcs + x))) v.site.vcs
                       (λ x lx. test x lx ∙ apart x lx (λ z. absurd (omega (arith, z, lx, u)))))

@@ -15,7 +15,7 @@ use Rattle.noc_vc.specs.Input.{is_active, is_empty, is_idle_phase, is_waiting}
 use Rattle.noc_vc.specs.declared.input.InputState.{InputState}
 use Rattle.noc_vc.specs.declared.input.InputState.TheVariants.{Idle, Waiting, Active}
 use Rattle.noc_router.specs.Counts.{one_if}
-use Rattle.noc_router.specs.View.{View, size_of, local_channel, view_buffer, view_input, is_vacant, with_injected, begun_on, injected_from}
+use Rattle.noc_router.specs.View.{View, size_of, local_channel, view_buffer, view_input, is_vacant, with_injected, begun_on, view_after_inject_from}
 use Rattle.noc_rows.specs.Bits.{lowest}
 use Rattle.noc_rows.specs.Column.{Column, AreWords, ShowsSending}
 use Rattle.noc_rows.specs.FlitWords.{flit_word}
@@ -225,7 +225,7 @@ module _ (count : ℕ) (c : Column) (starts : List Start) (s : Source) (u : View
   -- a packet that has begun
   going : (vc index number : ℕ) (p : Packet) (rest : List (ℕ × Packet)) → u.queue ≡ (number, p) ∷ rest → u.sending ≡ Some (vc, index) → s.due ≡ p.due
       → ShowsQueue starts s.queue ((number, p) ∷ rest) → ShowsNext s ((number, p) ∷ rest) (Some (vc, index)) → ShowsSending c u (Some (vc, index))
-      → Sent (injected_from n ((number, p) ∷ rest) (Some (vc, index)) u) (injection_from n ((number, p) ∷ rest) (Some (vc, index)) u)
+      → Sent (view_after_inject_from n ((number, p) ∷ rest) (Some (vc, index)) u) (injection_from n ((number, p) ∷ rest) (Some (vc, index)) u)
   going vc index number p rest queue sending due shows next sends = at (nat_lt (length (view_buffer u (local_channel u.site vc))) u.site.places) refl
     where
       none : lane_begins local n s.due c ≡ 0
@@ -276,7 +276,7 @@ module _ (count : ℕ) (c : Column) (starts : List Start) (s : Source) (u : View
 
   -- a packet that may begin
   beginning : (number : ℕ) (p : Packet) (rest : List (ℕ × Packet)) → u.queue ≡ (number, p) ∷ rest → u.sending ≡ None → s.due ≡ p.due
-      → ShowsQueue starts s.queue ((number, p) ∷ rest) → c.injecting ≡ 0 → Sent (injected_from n ((number, p) ∷ rest) None u) (injection_from n ((number, p) ∷ rest) None u)
+      → ShowsQueue starts s.queue ((number, p) ∷ rest) → c.injecting ≡ 0 → Sent (view_after_inject_from n ((number, p) ∷ rest) None u) (injection_from n ((number, p) ∷ rest) None u)
   beginning number p rest queue sending due shows idle = at (nat_le p.due n) refl
     where
       may-if : lane_begins local n s.due c ≡ (if nat_le p.due n then lane_free local c else 0)
@@ -376,7 +376,7 @@ module _ (count : ℕ) (c : Column) (starts : List Start) (s : Source) (u : View
 
   -- what the source injects
   pub sent-by : (queue : List (ℕ × Packet)) (sending : Option (ℕ × ℕ)) → u.queue ≡ queue → u.sending ≡ sending → s.due ≡ due_of queue
-      → ShowsQueue starts s.queue queue → ShowsNext s queue sending → ShowsSending c u sending → Sent (injected_from n queue sending u) (injection_from n queue sending u)
+      → ShowsQueue starts s.queue queue → ShowsNext s queue sending → ShowsSending c u sending → Sent (view_after_inject_from n queue sending u) (injection_from n queue sending u)
   sent-by [] None left still due shows next idle =
       words-as u None 0 0 0 (quiet idle)
       (ap (λ d. if nat_le d n && nat_eq c.injecting 0 then lane_free local c else 0) due ∙ ap (λ y. if y && nat_eq c.injecting 0 then lane_free local c else 0) (lt-leb NEVER n now))

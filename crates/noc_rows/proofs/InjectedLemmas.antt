@@ -9,9 +9,9 @@ use Rattle.noc_packet.specs.Packet.{flit_at}
 use Rattle.noc_packet.specs.declared.packet.Packet.{Packet}
 use Rattle.noc_packet.specs.declared.packet.Beat.{Beat}
 use Rattle.noc_route.specs.Routes.{Routes}
-use Rattle.noc_vc.specs.Input.{idle_input, landed}
-use Rattle.noc_router.specs.Arrivals.{is_expected_in, noted}
-use Rattle.noc_router.specs.View.{View, size_of, local_channel, view_buffer, view_input, is_vacant, with_injected, begun_on, injected_from, injected, with_misfit, with_arrival, tail_packet, flit_out, committed, planned, all_taken, local_step}
+use Rattle.noc_vc.specs.Input.{idle_input, input_after_land}
+use Rattle.noc_router.specs.Arrivals.{is_expected_in, arrivals_after}
+use Rattle.noc_router.specs.View.{View, size_of, local_channel, view_buffer, view_input, is_vacant, with_injected, begun_on, view_after_inject_from, view_after_inject, with_misfit, with_arrival, tail_packet, flit_out, view_after_commit, decisions_of, view_after_takes, local_step}
 use Rattle.noc_rows.specs.Taken.{with_one, landed_by, HasSize}
 use Rattle.noc_rows.specs.Injected.{injection_from, injection_in, injected_to, HasInjected}
 
@@ -55,15 +55,15 @@ with-injected n vc index number p rest v size = record {
         → view_input (with_injected vc index number p rest (record v { given = n })) i ≡ landed_by (view_input v i) (injected_to v (Some (vc, flit_at p number index)) i)
     input i l (inl same) =
         ap (view_input (with_injected vc index number p rest (record v { given = n }))) same
-        ∙ get_or-set_same v.inputs (local_channel v.site vc) (landed (view_input v (local_channel v.site vc)) (flit_at p number index)) idle_input (omega (arith, size.inputs, same))
-        ∙ ap (λ k. landed (view_input v k) (flit_at p number index)) (sym same)
+        ∙ get_or-set_same v.inputs (local_channel v.site vc) (input_after_land (view_input v (local_channel v.site vc)) (flit_at p number index)) idle_input (omega (arith, size.inputs, same))
+        ∙ ap (λ k. input_after_land (view_input v k) (flit_at p number index)) (sym same)
         ∙ ap (λ b. landed_by (view_input v i) (if b then Some (flit_at p number index) else None)) (sym (eq-eqb i (local_channel v.site vc) same))
     input i l (inr other) =
-        get_or-set_other v.inputs (local_channel v.site vc) i (landed (view_input v (local_channel v.site vc)) (flit_at p number index)) idle_input other
+        get_or-set_other v.inputs (local_channel v.site vc) i (input_after_land (view_input v (local_channel v.site vc)) (flit_at p number index)) idle_input other
         ∙ ap (λ b. landed_by (view_input v i) (if b then Some (flit_at p number index) else None)) (sym (ne_eqb i (local_channel v.site vc) other))
 
 -- by the packet in front and what is being sent
-injected-by : (n : ℕ) (queue : List (ℕ × Packet)) (sending : Option (ℕ × ℕ)) (v : View) → HasSize v → HasInjected v (injected_from n queue sending (record v { given = n })) (injection_from n queue sending v)
+injected-by : (n : ℕ) (queue : List (ℕ × Packet)) (sending : Option (ℕ × ℕ)) (v : View) → HasSize v → HasInjected v (view_after_inject_from n queue sending (record v { given = n })) (injection_from n queue sending v)
 injected-by n [] sending v size = not-injected n v
 injected-by n ((number, p) ∷ rest) (Some (vc, index)) v size = at (nat_lt (length (view_buffer v (local_channel v.site vc))) v.site.places)
   where
@@ -82,8 +82,8 @@ injected-by n ((number, p) ∷ rest) None v size = at (nat_le p.due n)
     at false = not-injected n v
 
 -- a router after `inject`
-pub has-injected : (n : ℕ) (v : View) → HasSize v → HasInjected v (injected n v) (injection_in n v)
-unfolding injected
+pub has-injected : (n : ℕ) (v : View) → HasSize v → HasInjected v (view_after_inject n v) (injection_in n v)
+unfolding view_after_inject
 has-injected n v size = injected-by n v.queue v.sending v size
 
 -- ---- no misfit in a cycle
@@ -91,17 +91,17 @@ arrival-none : (p : Option ℕ) (v : View) → (with_arrival p v).misfits ≡ 0 
 arrival-none None v e = e
 arrival-none (Some p) v e = at (is_expected_in p v.ends) e
   where
-    at : (b : Bool) → (if b then record v { ends = noted p v.given v.ends } else with_misfit v).misfits ≡ 0 → v.misfits ≡ 0
+    at : (b : Bool) → (if b then record v { ends = arrivals_after p v.given v.ends } else with_misfit v).misfits ≡ 0 → v.misfits ≡ 0
     at true z = z
     at false z = absurd (omega (arith, z))
 
 -- .. before the verdicts
-pub committed-none : (relation : Routes) (v : View) → (committed (planned relation v) v).misfits ≡ 0 → v.misfits ≡ 0
-unfolding committed
-committed-none relation v e = arrival-none (tail_packet (flit_out v (planned relation v).round (local_port v.site.grid))) _ e
+pub committed-none : (relation : Routes) (v : View) → (view_after_commit (decisions_of relation v) v).misfits ≡ 0 → v.misfits ≡ 0
+unfolding view_after_commit
+committed-none relation v e = arrival-none (tail_packet (flit_out v (decisions_of relation v).round (local_port v.site.grid))) _ e
 
 -- .. after the beats
-pub step-none : (relation : Routes) (v : View) (beats : List Beat) (n : ℕ) → HasSize (all_taken relation beats v) → (local_step relation v beats n).0.misfits ≡ 0 → (all_taken relation beats v).misfits ≡ 0
+pub step-none : (relation : Routes) (v : View) (beats : List Beat) (n : ℕ) → HasSize (view_after_takes relation beats v) → (local_step relation v beats n).0.misfits ≡ 0 → (view_after_takes relation beats v).misfits ≡ 0
 unfolding local_step
 step-none relation v beats n size e =
-    sym (has-injected n (all_taken relation beats v) size).misfits ∙ committed-none relation (injected n (all_taken relation beats v)) e
+    sym (has-injected n (view_after_takes relation beats v) size).misfits ∙ committed-none relation (view_after_inject n (view_after_takes relation beats v)) e

@@ -12,7 +12,7 @@ use Rattle.noc_topo.proofs.WordLemmas.{get_or-tabulate, length-tabulate}
 use Rattle.noc_packet.specs.Set.{has_bit}
 use Rattle.noc_packet.specs.declared.packet.Beat.{Beat}
 use Rattle.noc_packet.specs.declared.packet.Flit.{Flit}
-use Rattle.noc_router.specs.View.{Site, size_of, idle_beat, planned, beat_out}
+use Rattle.noc_router.specs.View.{Site, size_of, idle_beat, decisions_of, beat_out}
 use Rattle.noc_model.specs.declared.limits.TheConstants.{CYCLE_LIMIT}
 use Rattle.noc_model.specs.Good.{IsGoodSetup}
 use Rattle.noc_model.specs.Lockstep.{beats_at, beats_in, beat_by, site_at}
@@ -75,7 +75,7 @@ module _ (net : Setup) (setup : IsGoodSetup net) where
     -- what the router at the other end of a link has put
     abbrev pub put_by : Option (ℕ × ℕ) → Beat
     put_by None = idle_beat
-    put_by (Some (to, port)) = beat_out (planned net.relation (frozen_of net n to)) (frozen_of net n to) port
+    put_by (Some (to, port)) = beat_out (decisions_of net.relation (frozen_of net n to)) (frozen_of net n to) port
 
     module _ (few : n < CYCLE_LIMIT) (r : ℕ) (l : r < nodes net.relation.grid) where
       abbrev pub next_beats : List Beat

@@ -7,14 +7,14 @@ use Rattle.noc_topo.specs.Shape.{ports}
 use Rattle.noc_packet.specs.Set.{has_bit}
 use Rattle.noc_route.specs.Routes.{Routes}
 use Rattle.noc_vc.specs.Input.{is_empty, is_idle_phase}
-use Rattle.noc_vc.specs.Output.{Output, spent, spent_at}
+use Rattle.noc_vc.specs.Output.{Output, output_after_spend, output_without_credit}
 use Rattle.noc_vc.specs.declared.input.InputState.{InputState}
 use Rattle.noc_vc.specs.declared.input.InputState.TheVariants.{Idle, Waiting, Active}
 use Rattle.noc_vc.specs.declared.output.OutputState.{OutputState}
 use Rattle.noc_vc.specs.declared.output.OutputState.TheVariants.{Idle as Free, Owned, Draining}
 use Rattle.noc_router.specs.Requests.{is_given}
 use Rattle.noc_router.specs.Verdict.{ask_of}
-use Rattle.noc_router.specs.View.{Site, View, size_of, view_buffer, view_claim, claim_in, view_input, view_output, view_round, first_flit, is_tail, mover_to, planned, committed, held_by, spent_by, route_of}
+use Rattle.noc_router.specs.View.{Site, View, size_of, view_buffer, view_claim, claim_in, view_input, view_output, view_round, first_flit, is_tail, mover_to, decisions_of, view_after_commit, held_by, spent_by, route_of}
 use Rattle.noc_rows.specs.Column.{Column, IsColumn, RouterMarks, ShowsHolder, ShowsMarks, ShowsPhase, sends_by}
 use Rattle.noc_rows.specs.Cycle.{HasSwitched, Surroundings, chosen_by, single_in}
 use Rattle.noc_rows.specs.Grants.{Allocation, phase_granted, with_grant}
@@ -41,10 +41,10 @@ holder-as m w o Free e is = tt
 holder-as m w o (Owned i p) e is = e ∙ is
 holder-as m w o Draining e is = tt
 
-holder-spent : (m : RouterMarks) (o : ℕ) (last : Bool) (output : Output) → ShowsHolder m o output.holder → ShowsHolder m o (spent last output).holder
+holder-spent : (m : RouterMarks) (o : ℕ) (last : Bool) (output : Output) → ShowsHolder m o output.holder → ShowsHolder m o (output_after_spend last output).holder
 holder-spent m o last output is = at output.credit last
   where
-    at : (credit : Option ℕ) (t : Bool) → ShowsHolder m o (spent_at t output credit).holder
+    at : (credit : Option ℕ) (t : Bool) → ShowsHolder m o (output_without_credit t output credit).holder
     at None true = tt
     at None false = is
     at (Some n) true = tt
@@ -97,13 +97,13 @@ module _ (relation : Routes) (frame : Frame) (x : Surroundings) (v : View) (stil
   waiting-headless : (i set : ℕ) → i < size_of v.site → (view_input v i).phase ≡ Waiting set → has_bit (lane_heads x.filled a.column) i ≡ false
   waiting-headless i set l ep = head-is relation frame x v still a b outs shows put i l ∙ ap (λ (p : InputState). is_idle_phase p && not (is_empty (view_buffer v i))) ep
 
-  phases-after : (i : ℕ) → i < size_of v.site → ShowsPhase column_after w v.site i (view_input (committed (planned relation v) v) i).phase
+  phases-after : (i : ℕ) → i < size_of v.site → ShowsPhase column_after w v.site i (view_input (view_after_commit (decisions_of relation v) v) i).phase
   phases-after i l = by (fate relation frame x v still a b outs shows put w e supplied switched heads_are granted_are i l)
     where
       To : InputState → Type 0
       To p = ShowsPhase column_after w v.site i p
 
-      by : Fate v (committed (planned relation v) v) e (route_of relation v i) i → To (view_input (committed (planned relation v) v) i).phase
+      by : Fate v (view_after_commit (decisions_of relation v) v) e (route_of relation v i) i → To (view_input (view_after_commit (decisions_of relation v) v) i).phase
       by (Leaves o em et ep ew) = subst To (sym ew) tt
       by (Sends o em et ep ew) =
           subst To (sym ew) (phase-kept i (Active o) (subst (ShowsPhase b.column b.marks v.site i) (active-granted relation frame x v still a b outs shows put i o ep)
@@ -115,7 +115,7 @@ module _ (relation : Routes) (frame : Frame) (x : Surroundings) (v : View) (stil
           subst To (sym same) (phase-kept i (view_input v i).phase (subst (ShowsPhase b.column b.marks v.site i) (same-phase i l eg) (put.phases i l (headless i eh))))
 
   -- ---- holders
-  holders-after : (o : ℕ) → o < size_of v.site → ShowsHolder w o (view_output (committed (planned relation v) v) o).holder
+  holders-after : (o : ℕ) → o < size_of v.site → ShowsHolder w o (view_output (view_after_commit (decisions_of relation v) v) o).holder
   holders-after o l = by (slice_index_or (view_round v).grants o None) refl (mover_to v (view_round v) o) refl
     where
       To : Output → Type 0
@@ -125,13 +125,13 @@ module _ (relation : Routes) (frame : Frame) (x : Surroundings) (v : View) (stil
       After grant mover = spent_by v (held_by v (view_output v o) grant) mover
 
       is : (grant mover : Option ℕ) → slice_index_or (view_round v).grants o None ≡ grant → mover_to v (view_round v) o ≡ mover
-          → view_output (committed (planned relation v) v) o ≡ After grant mover
+          → view_output (view_after_commit (decisions_of relation v) v) o ≡ After grant mover
       is grant mover eg em = output-by relation frame x v still a b outs shows put w e supplied switched heads_are granted_are o grant mover l eg em
 
       owner : w.owner o ≡ b.marks.owner o
       owner = ap (λ (m : RouterMarks). m.owner o) sw.rest
 
-      by : (grant : Option ℕ) → slice_index_or (view_round v).grants o None ≡ grant → (mover : Option ℕ) → mover_to v (view_round v) o ≡ mover → To (view_output (committed (planned relation v) v) o)
+      by : (grant : Option ℕ) → slice_index_or (view_round v).grants o None ≡ grant → (mover : Option ℕ) → mover_to v (view_round v) o ≡ mover → To (view_output (view_after_commit (decisions_of relation v) v) o)
       by None eg None em = subst To (sym (is None None eg em)) (holder-as a.marks w o (view_output v o).holder (owner ∙ put.others o l eg) (shows.marks.holders o l))
       by None eg (Some i) em =
           subst To (sym (is None (Some i) eg em)) (holder-spent w o (is_tail (first_flit v i)) (view_output v o) (holder-as a.marks w o (view_output v o).holder (owner ∙ put.others o l eg) (shows.marks.holders o l)))
@@ -140,7 +140,7 @@ module _ (relation : Routes) (frame : Frame) (x : Surroundings) (v : View) (stil
           absurd (true≢false (ap is_some (sym em ∙ ((says-out relation frame x v still a b outs shows put w e supplied switched heads_are granted_are o l).free (ap is_some eg)).1)))
 
   -- ---- who sends by a port
-  ports-after : (q i : ℕ) → q < ports v.site.grid → i < size_of v.site → has_bit (w.to_port q) i ≡ sends_by v.site.vcs q (view_input (committed (planned relation v) v) i).phase
+  ports-after : (q i : ℕ) → q < ports v.site.grid → i < size_of v.site → has_bit (w.to_port q) i ≡ sends_by v.site.vcs q (view_input (view_after_commit (decisions_of relation v) v) i).phase
   ports-after q i lq l = sw.to_port q i lq (channel-small relation frame x v still a b outs shows put w e supplied switched heads_are granted_are i l)
       ∙ ap₂ (λ s c. s && not (c && x.tail i)) (put.to_port q i lq l)
       (chosen-is relation frame x v still a b outs shows put q i lq l ∙ ap (λ n. has_bit n i && sends_by v.site.vcs q (view_input v i).phase) (sym sw.moved))
@@ -166,16 +166,16 @@ module _ (relation : Routes) (frame : Frame) (x : Surroundings) (v : View) (stil
       idle-granted : (view_input v i).phase ≡ Idle → phase_granted v i ≡ Idle
       idle-granted ep = ap (λ (p : InputState). with_grant (view_round v).grants (ask_of (claim_in v p)) i p) ep
 
-      by : Fate v (committed (planned relation v) v) e (route_of relation v i) i
-          → Left (phase_granted v i) (has_bit e.moved i) (view_input v i).phase (x.tail i) ≡ sends_by v.site.vcs q (view_input (committed (planned relation v) v) i).phase
+      by : Fate v (view_after_commit (decisions_of relation v) v) e (route_of relation v i) i
+          → Left (phase_granted v i) (has_bit e.moved i) (view_input v i).phase (x.tail i) ≡ sends_by v.site.vcs q (view_input (view_after_commit (decisions_of relation v) v) i).phase
       by (Leaves o em et ep ew) = gone o true em et ep ∙ left-off (sends_by v.site.vcs q (Active o)) ∙ sym (ap (sends_by v.site.vcs q) ew)
       by (Sends o em et ep ew) = gone o false em et ep ∙ left-on (sends_by v.site.vcs q (Active o)) ∙ sym (ap (sends_by v.site.vcs q) ew)
       by (Gets o set em eg ep ask round ew) = stays (Active o) em (granted-phase i o ask round) ∙ sym (ap (sends_by v.site.vcs q) ew)
       by (Begins em eg eh ep ew) = stays Idle em (idle-granted ep) ∙ sym (ap (sends_by v.site.vcs q) ew)
       by (Rests em eg eh same) = stays (view_input v i).phase em (same-phase i l eg) ∙ sym (ap (sends_by v.site.vcs q) same)
 
-  pub marks-after : ShowsMarks (settled_lane frame.fields frame.link_set frame.local_set e (record b.column { supplied = supplied })) w (committed (planned relation v) v)
+  pub marks-after : ShowsMarks (settled_lane frame.fields frame.link_set frame.local_set e (record b.column { supplied = supplied })) w (view_after_commit (decisions_of relation v) v)
   marks-after =
-      shows-marks column_after w (committed (planned relation v) v)
-      (subst (λ site. MarksIn site column_after w (committed (planned relation v) v)) (sym (committed-site (planned relation v) v).0)
+      shows-marks column_after w (view_after_commit (decisions_of relation v) v)
+      (subst (λ site. MarksIn site column_after w (view_after_commit (decisions_of relation v) v)) (sym (committed-site (decisions_of relation v) v).0)
       (record { phases = phases-after; holders = holders-after; to_port = ports-after }))

@@ -13,7 +13,7 @@ use Rattle.noc_topo.specs.Shape.{ports}
 use Rattle.noc_topo.proofs.WordLemmas.{get_or-map_indexed}
 use Rattle.noc_packet.specs.Set.{has_bit, IsLeast}
 use Rattle.noc_packet.proofs.SetLemmas.{bit_at-true, bit_at-false, both_members, has_bit-zero, zero_from_none}
-use Rattle.noc_alloc.specs.Arbiter.{Turn, advanced, pointers_of, turn_at, turned}
+use Rattle.noc_alloc.specs.Arbiter.{RoundRobin, pointer_after, pointers_of, arbiter_at, arbiter_after}
 use Rattle.noc_vc.specs.declared.input.InputState.{InputState}
 use Rattle.noc_vc.specs.declared.input.InputState.TheVariants.{Idle, Waiting, Active}
 use Rattle.noc_router.specs.Members.{AreBelow}
@@ -402,14 +402,14 @@ module _ (v : View) (picked : ℕ) (to turn : ℕ → ℕ) (are : AreMoving v pi
   module _ (after : List ℕ) (after_is : (i k : ℕ) → i < size_of v.site → k < size_of v.site → has_bit (slice_index after i) k ≡ nat_lt (i / v.site.vcs) (k / v.site.vcs)) where
     -- the mask of a port after its winner
     turned-shows : (q : ℕ) → q < ports v.site.grid
-        → ShowsPorts v.site.vcs (ports v.site.grid) (turned_by (sel q) after (turn q)) (advanced (ports v.site.grid) (slice_index (pointers_of v.arbiters.outputs) q) (slice_index_or (view_round v).wins q None))
+        → ShowsPorts v.site.vcs (ports v.site.grid) (turned_by (sel q) after (turn q)) (pointer_after (ports v.site.grid) (slice_index (pointers_of v.arbiters.outputs) q) (slice_index_or (view_round v).wins q None))
     turned-shows q lq =
-        subst (λ (won : Option ℕ). ShowsPorts v.site.vcs (ports v.site.grid) (turned_by (sel q) after (turn q)) (advanced (ports v.site.grid) (slice_index (pointers_of v.arbiters.outputs) q) won)) (sym (won-is q lq))
+        subst (λ (won : Option ℕ). ShowsPorts v.site.vcs (ports v.site.grid) (turned_by (sel q) after (turn q)) (pointer_after (ports v.site.grid) (slice_index (pointers_of v.arbiters.outputs) q) won)) (sym (won-is q lq))
         (at (cases_eq (sel q) 0))
       where
         Shows : Bool → Type 0
         Shows b = ShowsPorts v.site.vcs (ports v.site.grid) (if b then turn q else slice_index after (lead q))
-            (advanced (ports v.site.grid) (slice_index (pointers_of v.arbiters.outputs) q) (if b then None else Some (lead q / v.site.vcs)))
+            (pointer_after (ports v.site.grid) (slice_index (pointers_of v.arbiters.outputs) q) (if b then None else Some (lead q / v.site.vcs)))
 
         within : (k : ℕ) → k / v.site.vcs < ports v.site.grid → k < size_of v.site
         within k l =
@@ -444,11 +444,11 @@ module _ (v : View) (picked : ℕ) (to turn : ℕ → ℕ) (are : AreMoving v pi
                 )
 
     -- the masks after the cycle show the pointers after it
-    pub turns-after : (q : ℕ) → q < ports v.site.grid → length v.arbiters.outputs ≡ ports v.site.grid → (turn_at v.arbiters.outputs q).size ≡ ports v.site.grid
-        → ShowsPorts v.site.vcs (ports v.site.grid) (turned_by (sel q) after (turn q)) (turn_at (arbiters_after (view_round v) v.arbiters).outputs q).pointer
+    pub turns-after : (q : ℕ) → q < ports v.site.grid → length v.arbiters.outputs ≡ ports v.site.grid → (arbiter_at v.arbiters.outputs q).size ≡ ports v.site.grid
+        → ShowsPorts v.site.vcs (ports v.site.grid) (turned_by (sel q) after (turn q)) (arbiter_at (arbiters_after (view_round v) v.arbiters).outputs q).pointer
     turns-after q lq long size =
         subst (ShowsPorts v.site.vcs (ports v.site.grid) (turned_by (sel q) after (turn q)))
-        (ap₂ (λ n p. advanced n p (slice_index_or (view_round v).wins q None)) (sym size) (get_or-map (λ (t : Turn). t.pointer) v.arbiters.outputs q (record { size = 0; pointer = 0 }) 0 (omega (arith, long)))
-        ∙ sym (ap (λ (t : Turn). t.pointer)
-        (get_or-map_indexed (λ p (t : Turn). turned t (slice_index_or (view_round v).wins p None)) v.arbiters.outputs q (record { size = 0; pointer = 0 }) (record { size = 0; pointer = 0 }) (omega (arith, long)))))
+        (ap₂ (λ n p. pointer_after n p (slice_index_or (view_round v).wins q None)) (sym size) (get_or-map (λ (t : RoundRobin). t.pointer) v.arbiters.outputs q (record { size = 0; pointer = 0 }) 0 (omega (arith, long)))
+        ∙ sym (ap (λ (t : RoundRobin). t.pointer)
+        (get_or-map_indexed (λ p (t : RoundRobin). arbiter_after t (slice_index_or (view_round v).wins p None)) v.arbiters.outputs q (record { size = 0; pointer = 0 }) (record { size = 0; pointer = 0 }) (omega (arith, long)))))
         (turned-shows q lq)

@@ -5,12 +5,12 @@ use Rattle.noc_topo.specs.Shape.{nodes, ports, local_port, neighbour}
 use Rattle.noc_topo.proofs.WordLemmas.{get_or-tabulate, length-tabulate}
 use Rattle.noc_packet.specs.declared.packet.Beat.{Beat}
 use Rattle.noc_vc.specs.Output.{is_free}
-use Rattle.noc_router.specs.View.{Site, View, size_of, view_output, all_taken, injected, local_step}
-use Rattle.noc_router.specs.Verdict.{Turns}
+use Rattle.noc_router.specs.View.{Site, View, size_of, view_output, view_after_takes, view_after_inject, local_step}
+use Rattle.noc_router.specs.Verdict.{ArbiterStates}
 use Rattle.noc_model.specs.declared.limits.TheConstants.{CYCLE_LIMIT}
 use Rattle.noc_model.specs.Good.{IsGoodSetup}
 use Rattle.noc_model.specs.Lockstep.{beats_at, beats_in, beat_by, view_in, view_at}
-use Rattle.noc_model.specs.Network.{Setup, State, state_at, frozen, frozen_at, after_injection}
+use Rattle.noc_model.specs.Network.{Setup, State, state_at, frozen_state, frozen_at, after_injection}
 use Rattle.noc_model.proofs.JoinLemmas.{next-view}
 use Rattle.noc_model.proofs.Joined.{phases}
 use Rattle.noc_model.proofs.Ordered.{IsGood}
@@ -42,10 +42,10 @@ module _ (net : Setup) (setup : IsGoodSetup net) where
     beats = beats_at (beats_in net (state_at net n)) r
 
     abbrev pub taken_view : View
-    taken_view = all_taken net.relation (beats_at (beats_in net (state_at net n)) r) (view_at net n r)
+    taken_view = view_after_takes net.relation (beats_at (beats_in net (state_at net n)) r) (view_at net n r)
 
     abbrev pub frozen_view : View
-    frozen_view = injected n (all_taken net.relation (beats_at (beats_in net (state_at net n)) r) (view_at net n r))
+    frozen_view = view_after_inject n (view_after_takes net.relation (beats_at (beats_in net (state_at net n)) r) (view_at net n r))
 
     pub taken-seen : IsTaken net (state_at net n) r (view_at net n r) taken_view
     unfolding view_at view_in
@@ -55,7 +55,7 @@ module _ (net : Setup) (setup : IsGoodSetup net) where
     entered-seen = (phases net good).injects (mid net (state_at net n)) (ordered-mid net good n) n r l taken_view taken-seen.seen
 
     same-frozen : after_injection net n (mid net (state_at net n)) ≡ frozen_at net n
-    unfolding frozen
+    unfolding frozen_state
     same-frozen = refl
 
     pub frozen-seen : IsSeen net (frozen_at net n) r frozen_view
@@ -73,7 +73,7 @@ module _ (net : Setup) (setup : IsGoodSetup net) where
     start-full = full net good (state_at net n) (steady-state n) r l (view_at net n r) (view_at-seen net n r)
 
     pub start-arbiters : AreArbiters (ports net.relation.grid) net.relation.vcs (view_at net n r).arbiters
-    start-arbiters = subst (λ (a : Turns). AreArbiters (ports net.relation.grid) net.relation.vcs a) (sym (view_at-seen net n r).arbiters) (arbiters-start net good.relation.table.some_vcs n r l)
+    start-arbiters = subst (λ (a : ArbiterStates). AreArbiters (ports net.relation.grid) net.relation.vcs a) (sym (view_at-seen net n r).arbiters) (arbiters-start net good.relation.table.some_vcs n r l)
 
     -- ---- the frozen view
 
@@ -87,7 +87,7 @@ module _ (net : Setup) (setup : IsGoodSetup net) where
     frozen-full = full net good (frozen_at net n) (steady-still n) r l frozen_view frozen-seen
 
     pub frozen-arbiters : AreArbiters (ports net.relation.grid) net.relation.vcs frozen_view.arbiters
-    frozen-arbiters = subst (λ (a : Turns). AreArbiters (ports net.relation.grid) net.relation.vcs a) (sym frozen-seen.arbiters) (arbiters-frozen_at net good.relation.table.some_vcs n r l)
+    frozen-arbiters = subst (λ (a : ArbiterStates). AreArbiters (ports net.relation.grid) net.relation.vcs a) (sym frozen-seen.arbiters) (arbiters-frozen_at net good.relation.table.some_vcs n r l)
 
     -- ---- one cycle
 

@@ -178,6 +178,7 @@ module _ (ports local : ℕ) (selected : ℕ → ℕ → ℕ) (tail : ℕ → �
       (λ q u other. of-none q (test_gone s (k * 32 + i)) (λ j x lj lx. ap (λ b. b && nat_eq (k * 32 + i) ((q * 1024 + (j * 32 + x)) % 1024)) (port-of q s j x u ls lj lx ∙ ne_eqb q s other)))
       ∙ of-router k s (nat_eq i) (test_gone s (k * 32 + i)) lk (λ j x lj lx. ap (λ b. b && nat_eq (k * 32 + i) ((s * 1024 + (j * 32 + x)) % 1024)) (port-of s s j x ls ls lj lx ∙ eq-eqb s s refl) ∙ same-channel s k i j x li lj lx)
       ∙ one-is (selected k s) i (tail k) (lone k s)
+
   out-is : (p : ℕ) → local < ports → some_below tails.count (λ n. has_gone tails local n && nat_eq p (slice_index tails.numbers n)) ≡ some_below 32 (λ k. one_has (selected k local) (λ i. tail k i && nat_eq p (packet k i)))
   out-is p ls =
       has (test_out local p) ∙ some-one ports local (λ q. some_moved (λ j. selected j q) q tail packet (test_out local p)) ls
@@ -185,6 +186,7 @@ module _ (ports local : ℕ) (selected : ℕ → ℕ → ℕ) (tail : ℕ → �
       ∙ some-same 32 (λ j. one_has (selected j local) (λ i. tail j i && (test_out local p) (local * 1024 + (j * 32 + i)) (packet j i))) (λ k. one_has (selected k local) (λ i. tail k i && nat_eq p (packet k i)))
       (λ k l. one-same (selected k local) (λ i. tail k i && (test_out local p) (local * 1024 + (k * 32 + i)) (packet k i)) (λ i. tail k i && nat_eq p (packet k i)) (lone k local)
       (λ i v. ap (λ b. tail k i && (b && nat_eq p (packet k i))) (port-of local local k i ls ls l v ∙ eq-eqb local local refl)))
+
   pub out-some : (k i : ℕ) → local < ports → k < 32 → has_bit (selected k local) i ≡ true → tail k i ≡ true
       → some_below tails.count (λ n. has_gone tails local n && nat_eq (packet k i) (slice_index tails.numbers n)) ≡ true
   out-some k i ls lk member t =

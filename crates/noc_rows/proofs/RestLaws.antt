@@ -16,8 +16,8 @@ use Rattle.noc_route.specs.Channel.{Link}
 use Rattle.noc_vc.specs.Input.{is_idle_phase, is_waiting, is_active}
 use Rattle.noc_vc.specs.declared.input.InputState.{InputState}
 use Rattle.noc_vc.specs.declared.input.InputState.TheVariants.{Idle, Waiting, Active}
-use Rattle.noc_router.specs.Still.{counted_times, waited}
-use Rattle.noc_router.specs.View.{Site, View, size_of, view_input, local_channel, idle_beat, counted, decided_verdict, planned}
+use Rattle.noc_router.specs.Still.{counted_times, view_after_waiting}
+use Rattle.noc_router.specs.View.{Site, View, size_of, view_input, local_channel, idle_beat, counts_after, decided_verdict, decisions_of}
 use Rattle.noc_router.specs.declared.verdict.Finding.{Finding}
 use Rattle.noc_router.specs.declared.verdict.Verdict.TheVariants.{Empty}
 use Rattle.noc_model.specs.declared.limits.TheConstants.{CYCLE_LIMIT}
@@ -25,7 +25,7 @@ use Rattle.noc_model.specs.Good.{IsGoodSetup}
 use Rattle.noc_model.specs.Halves.{IsSilent}
 use Rattle.noc_model.specs.Lockstep.{beats_at, beats_in, beat_by, flit_on, view_at}
 use Rattle.noc_model.specs.Network.{Setup, State, has_channel, state_at}
-use Rattle.noc_model.specs.Unseen.{unseen}
+use Rattle.noc_model.specs.Unseen.{without_findings}
 use Rattle.noc_model.proofs.GrantLemmas.{Has-below}
 use Rattle.noc_model.proofs.Members.{find-has}
 use Rattle.noc_rows.specs.Column.{Column, RouterMarks, ShowsSending, ShowsWires, IsColumn}
@@ -196,9 +196,9 @@ seen-column count c m counts given findings v s = record {
 }
 
 -- the findings of a view are no part of what is shown of it
-same-column : (count : ℕ) (c : Column) (m : RouterMarks) (v w : View) → unseen v ≡ unseen w → IsColumn count c m w → IsColumn count c m v
+same-column : (count : ℕ) (c : Column) (m : RouterMarks) (v w : View) → without_findings v ≡ without_findings w → IsColumn count c m w → IsColumn count c m v
 same-column count c m v w e s =
-    seen-column count c m v.counts v.given v.findings (unseen v)
+    seen-column count c m v.counts v.given v.findings (without_findings v)
     (subst (λ (u : View). IsColumn count c m u) (sym e) (seen-column count c m w.counts w.given [] w s))
 
 module _ (net : Setup) (setup : IsGoodSetup net) where
@@ -206,13 +206,13 @@ module _ (net : Setup) (setup : IsGoodSetup net) where
   pub column-stays : (count n r : ℕ) (l : r < nodes net.relation.grid) (c : Column) (m : RouterMarks) → n < CYCLE_LIMIT → IsAsleep (suc n) (view_at net n r) → IsSilent (beats net setup n r l)
       → IsColumn count c m (view_at net n r) → IsColumn count c m (view_at net (suc n) r)
   column-stays count n r l c m few asleep silent shows =
-      same-column count c m (view_at net (suc n) r) (record (view_at net n r) { counts = map (counted Empty) (view_at net n r).counts; given = n }) (asleep-stays net setup n r l few asleep silent)
-      (seen-column count c m (map (counted Empty) (view_at net n r).counts) n (view_at net n r).findings (view_at net n r) shows)
+      same-column count c m (view_at net (suc n) r) (record (view_at net n r) { counts = map (counts_after Empty) (view_at net n r).counts; given = n }) (asleep-stays net setup n r l few asleep silent)
+      (seen-column count c m (map (counts_after Empty) (view_at net n r).counts) n (view_at net n r).findings (view_at net n r) shows)
 
   -- where all sleep up to a cycle and nothing is in flight, the words of each show it then
   pub columns-stay : (count n end : ℕ) → n < end → end ≤ CYCLE_LIMIT → ((r : ℕ) → r < nodes net.relation.grid → IsAsleep end (view_at net n r)) → ((r : ℕ) → r < nodes net.relation.grid → IsSilent (beats_at (beats_in net (state_at net n)) r))
       → (r : ℕ) → r < nodes net.relation.grid → (c : Column) (m : RouterMarks) → IsColumn count c m (view_at net n r) → IsColumn count c m (view_at net end r)
-  unfolding waited
+  unfolding view_after_waiting
   columns-stay count n end less limit asleep silent r l c m shows =
-      same-column count c m (view_at net end r) (waited net.relation (end - n) (end - 1) (view_at net n r)) (all-asleep net setup n end less limit asleep silent r l)
-      (seen-column count c m (map_indexed (λ i counts. counted_times (end - n) (decided_verdict (planned net.relation (view_at net n r)) i) counts) (view_at net n r).counts) (end - 1) (view_at net n r).findings (view_at net n r) shows)
+      same-column count c m (view_at net end r) (view_after_waiting net.relation (end - n) (end - 1) (view_at net n r)) (all-asleep net setup n end less limit asleep silent r l)
+      (seen-column count c m (map_indexed (λ i counts. counted_times (end - n) (decided_verdict (decisions_of net.relation (view_at net n r)) i) counts) (view_at net n r).counts) (end - 1) (view_at net n r).findings (view_at net n r) shows)

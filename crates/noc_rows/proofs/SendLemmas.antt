@@ -152,11 +152,11 @@ module _ (room : ℕ) (power : is_room room ≡ true) (first : ℕ → ℕ) (num
     gone-from q (inl same) =
         let P : ℕ → Type 0 = λ n. ring_in room (inbox_at old (n / 1024)) (n % 1024) (firsts_with first number onward n) ≡ after_one (number * 1024 + channel) before n in
         subst P (sym same) (
-          ap (λ n. ring_in room (inbox_at old ((number * 1024 + channel) / 1024)) ((number * 1024 + channel) % 1024) n)
-          (first-at onward ∙ get_or-set_same firsts channel ((get_or firsts channel 0 + 1) % 256) 0 (omega (arith, within, long)))
-          ∙ behind-is room power (inbox_at old ((number * 1024 + channel) / 1024)) ((number * 1024 + channel) % 1024) (get_or firsts channel 0) flit rest low
-          (ap (λ n. ring_in room (inbox_at old ((number * 1024 + channel) / 1024)) ((number * 1024 + channel) % 1024) n) (sym (first-at firsts)) ∙ head)
-          ∙ sym (ap (λ b. if b then without_first (before.ring (number * 1024 + channel)) else before.ring (number * 1024 + channel)) (eq-eqb (number * 1024 + channel) (number * 1024 + channel) refl) ∙ ap (λ r. without_first r) head)
+        ap (λ n. ring_in room (inbox_at old ((number * 1024 + channel) / 1024)) ((number * 1024 + channel) % 1024) n)
+        (first-at onward ∙ get_or-set_same firsts channel ((get_or firsts channel 0 + 1) % 256) 0 (omega (arith, within, long)))
+        ∙ behind-is room power (inbox_at old ((number * 1024 + channel) / 1024)) ((number * 1024 + channel) % 1024) (get_or firsts channel 0) flit rest low
+        (ap (λ n. ring_in room (inbox_at old ((number * 1024 + channel) / 1024)) ((number * 1024 + channel) % 1024) n) (sym (first-at firsts)) ∙ head)
+        ∙ sym (ap (λ b. if b then without_first (before.ring (number * 1024 + channel)) else before.ring (number * 1024 + channel)) (eq-eqb (number * 1024 + channel) (number * 1024 + channel) refl) ∙ ap (λ r. without_first r) head)
         )
 
     within-block : (n : ℕ) → n < limit → n / 1024 < length old

@@ -7,16 +7,16 @@ use Rattle.noc_topo.specs.Shape.{ports, local_port}
 use Rattle.noc_packet.specs.Set.{has_bit}
 use Rattle.noc_packet.specs.declared.packet.Beat.{Beat}
 use Rattle.noc_packet.proofs.SetLemmas.{both_members, either_members}
-use Rattle.noc_alloc.specs.Arbiter.{turn_at}
+use Rattle.noc_alloc.specs.Arbiter.{arbiter_at}
 use Rattle.noc_route.specs.Routes.{Routes}
 use Rattle.noc_vc.specs.Output.{Output}
-use Rattle.noc_router.specs.Arrivals.{is_expected_in, noted}
+use Rattle.noc_router.specs.Arrivals.{is_expected_in, arrivals_after}
 use Rattle.noc_router.specs.Counts.{one_if}
 use Rattle.noc_router.specs.Members.{AreBelow}
 use Rattle.noc_router.specs.Sound.{is_supplied}
 use Rattle.noc_router.specs.Standing.{is_won_from}
-use Rattle.noc_router.specs.Verdict.{Turns, arbiters_after}
-use Rattle.noc_router.specs.View.{Site, View, Decisions, size_of, local_channel, view_buffer, view_input, view_output, view_round, mover_to, planned, committed, with_arrival, with_misfit, tail_packet, flit_out, injected, all_taken, local_step}
+use Rattle.noc_router.specs.Verdict.{ArbiterStates, arbiters_after}
+use Rattle.noc_router.specs.View.{Site, View, Decisions, size_of, local_channel, view_buffer, view_input, view_output, view_round, mover_to, decisions_of, view_after_commit, with_arrival, with_misfit, tail_packet, flit_out, view_after_inject, view_after_takes, local_step}
 use Rattle.noc_rows.specs.Bits.{less}
 use Rattle.noc_rows.specs.Fields.{Fields, IsFields, ShowsPointer, lane_some, lane_whole}
 use Rattle.noc_rows.specs.Planes.{number_at}
@@ -63,12 +63,12 @@ arrival-site : (p : Option ℕ) (v : View) → ((with_arrival p v).site ≡ v.si
 arrival-site None v = (refl, refl)
 arrival-site (Some p) v = at (is_expected_in p v.ends)
   where
-    at : (b : Bool) → let w = if b then record v { ends = noted p v.given v.ends } else with_misfit v in (w.site ≡ v.site) × (w.sending ≡ v.sending)
+    at : (b : Bool) → let w = if b then record v { ends = arrivals_after p v.given v.ends } else with_misfit v in (w.site ≡ v.site) × (w.sending ≡ v.sending)
     at true = (refl, refl)
     at false = (refl, refl)
 
-pub committed-site : (d : Decisions) (v : View) → ((committed d v).site ≡ v.site) × ((committed d v).sending ≡ v.sending)
-unfolding committed
+pub committed-site : (d : Decisions) (v : View) → ((view_after_commit d v).site ≡ v.site) × ((view_after_commit d v).sending ≡ v.sending)
+unfolding view_after_commit
 committed-site d v = (
   (arrival-site (tail_packet (flit_out v d.round (local_port v.site.grid))) _).0,
   (arrival-site (tail_packet (flit_out v d.round
@@ -99,12 +99,12 @@ shows-channels c v parts = record {
 }
 
 -- the pointers of the arbiters of a site
-pub record TurnsIn (site : Site) (arbiters : Turns) (c : Column) (m : RouterMarks) : Type 0 where
-  pub inputs : (p : ℕ) → p < ports site.grid → ShowsPointer site.vcs c.ahead p (turn_at arbiters.inputs p).pointer
-  pub channels : (o : ℕ) → o < size_of site → ShowsPointer (size_of site) (m.turn o) 0 (turn_at arbiters.channels o).pointer
+pub record TurnsIn (site : Site) (arbiters : ArbiterStates) (c : Column) (m : RouterMarks) : Type 0 where
+  pub inputs : (p : ℕ) → p < ports site.grid → ShowsPointer site.vcs c.ahead p (arbiter_at arbiters.inputs p).pointer
+  pub channels : (o : ℕ) → o < size_of site → ShowsPointer (size_of site) (m.turn o) 0 (arbiter_at arbiters.channels o).pointer
   pub outputs : (q i : ℕ) → q < ports site.grid → i < size_of site
-      → (has_bit (m.port_turn q) i ≡ nat_le (turn_at arbiters.outputs q).pointer (i / site.vcs))
-      ⊎ (((turn_at arbiters.outputs q).pointer ≡ 0) × ((k : ℕ) → k < size_of site → has_bit (m.port_turn q) k ≡ false))
+      → (has_bit (m.port_turn q) i ≡ nat_le (arbiter_at arbiters.outputs q).pointer (i / site.vcs))
+      ⊎ (((arbiter_at arbiters.outputs q).pointer ≡ 0) × ((k : ℕ) → k < size_of site → has_bit (m.port_turn q) k ≡ false))
 
 shows-turns : (c : Column) (m : RouterMarks) (v : View) (parts : TurnsIn v.site v.arbiters c m) → ShowsTurns c m v
 shows-turns c m v parts = record { inputs = parts.inputs; channels = parts.channels; outputs = parts.outputs }
@@ -134,16 +134,16 @@ pub record AreSettling (v w : View) (c : Column) (m : RouterMarks) (links local 
   pub moved_below : AreBelow (size_of v.site) e.moved
   pub local_below : AreBelow (size_of v.site) local
   pub links_below : AreBelow (size_of v.site) links
-  pub sizes : (p : ℕ) → p < ports v.site.grid → (turn_at v.arbiters.inputs p).size ≡ v.site.vcs
+  pub sizes : (p : ℕ) → p < ports v.site.grid → (arbiter_at v.arbiters.inputs p).size ≡ v.site.vcs
   pub outputs : (o : ℕ) → o < size_of v.site → SaysOut v links local outs e o (view_output v o) (slice_index_or (view_round v).grants o None) (mover_to v
       (view_round v) o)
   pub supplies : (i : ℕ) → i < size_of v.site → SaysSupplied v w c e supplied dry i
   -- the pointers of output channels and output ports
-  pub channel_turns : (o : ℕ) → o < size_of v.site → ShowsPointer (size_of v.site) (m.turn o) 0 (turn_at (arbiters_after
+  pub channel_turns : (o : ℕ) → o < size_of v.site → ShowsPointer (size_of v.site) (m.turn o) 0 (arbiter_at (arbiters_after
       (view_round v) v.arbiters).channels o).pointer
   pub port_turns : (q i : ℕ) → q < ports v.site.grid → i < size_of v.site
-      → (has_bit (m.port_turn q) i ≡ nat_le (turn_at (arbiters_after (view_round v) v.arbiters).outputs q).pointer (i / v.site.vcs))
-      ⊎ (((turn_at (arbiters_after (view_round v) v.arbiters).outputs q).pointer ≡ 0) × ((k : ℕ) → k < size_of v.site → has_bit (m.port_turn q) k ≡ false))
+      → (has_bit (m.port_turn q) i ≡ nat_le (arbiter_at (arbiters_after (view_round v) v.arbiters).outputs q).pointer (i / v.site.vcs))
+      ⊎ (((arbiter_at (arbiters_after (view_round v) v.arbiters).outputs q).pointer ≡ 0) × ((k : ℕ) → k < size_of v.site → has_bit (m.port_turn q) k ≡ false))
 
 module _ (relation : Routes) (count : ℕ) (f : Fields) (c : Column) (v : View) (filled links local lost_set : ℕ) (e : Effects) (words : AreWords count c)
     (effects : AreEffects e) (size : HasSize v) (frame : IsFields (ports v.site.grid) f) (width : f.width ≡ v.site.vcs)
@@ -155,15 +155,15 @@ module _ (relation : Routes) (count : ℕ) (f : Fields) (c : Column) (v : View) 
   -- an output channel after the verdicts
   pub outputs-decided : links < 2 ^ 32 → outs < 2 ^ 32 → (o : ℕ) → o < size_of v.site
       → SaysOut v links local outs e o (view_output v o) (slice_index_or (view_round v).grants o None) (mover_to v (view_round v) o)
-      → ShowsOutput settled o (view_output (committed (planned relation v) v) o)
-  unfolding planned
+      → ShowsOutput settled o (view_output (view_after_commit (decisions_of relation v) v) o)
+  unfolding decisions_of
   outputs-decided links_fit outs_fit o l says =
       let s = settled-output count c v f links local outs e words effects links_fit outs_fit o (view_output v o) (slice_index_or
       (view_round v).grants o None) (mover_to v (view_round v) o) (shows.outputs o l) says in
-      subst (λ (x : Output). ShowsOutput settled o x) (sym (output-committed (planned relation v) v size o l))
+      subst (λ (x : Output). ShowsOutput settled o x) (sym (output-committed (decisions_of relation v) v size o l))
       (record { idle = s.idle; draining = s.draining; credit = s.credit })
 
-  module _ (m : RouterMarks) (dry : ℕ) (s : AreSettling v (committed (planned relation v) v) c m links local outs wanted supplied dry e) where
+  module _ (m : RouterMarks) (dry : ℕ) (s : AreSettling v (view_after_commit (decisions_of relation v) v) c m links local outs wanted supplied dry e) where
     settled-words : AreWords count settled
     settled-words =
         let whole : lane_whole f (lane_some f e.moved) < 2 ^ 32 = mod_below _ (2 ^ 32) (omega arith) in
@@ -183,7 +183,7 @@ module _ (relation : Routes) (count : ℕ) (f : Fields) (c : Column) (v : View) 
           injecting = words.injecting;
         }
 
-    settled-channels : ChannelsIn v.site settled (committed (planned relation v) v)
+    settled-channels : ChannelsIn v.site settled (view_after_commit (decisions_of relation v) v)
     settled-channels = record {
       inputs = λ i l. let x = inputs-decided relation count f c v filled links local lost_set e words effects size frame width shows fill turns are i l in
           record { waiting = x.waiting; active = x.active; len = x.len };
@@ -192,7 +192,7 @@ module _ (relation : Routes) (count : ℕ) (f : Fields) (c : Column) (v : View) 
           let says = s.supplies i l in
           less_members supplied e.released i s.supplied_fits effects.released
           ∙ ap (λ b. b && not (has_bit e.released i)) says.bit
-          ∙ supplied-after v (committed (planned relation v) v) (view_input v i).phase (view_input (committed (planned relation v) v) i).phase says.turn
+          ∙ supplied-after v (view_after_commit (decisions_of relation v) v) (view_input v i).phase (view_input (view_after_commit (decisions_of relation v) v) i).phase says.turn
           (has_bit c.supplied i) (has_bit dry i) (has_bit e.granted i) (has_bit e.released i) (shows.supplied i l) says.says;
       waiting_below = or-below (size_of v.site) (less c.waiting e.granted) e.heads (less-below
           (size_of v.site) c.waiting e.granted words.waiting effects.granted shows.waiting_below)
@@ -224,26 +224,26 @@ module _ (relation : Routes) (count : ℕ) (f : Fields) (c : Column) (v : View) 
     }
 
     -- the column after the cycle shows the view after it, where the marks do
-    pub settled-column : ShowsMarks settled m (committed (planned relation v) v) → ShowsSending c v v.sending
-        → IsColumn count settled m (committed (planned relation v) v)
-    unfolding planned
+    pub settled-column : ShowsMarks settled m (view_after_commit (decisions_of relation v) v) → ShowsSending c v v.sending
+        → IsColumn count settled m (view_after_commit (decisions_of relation v) v)
+    unfolding decisions_of
     settled-column marks sending =
-        let rest = committed-site (planned relation v) v in
+        let rest = committed-site (decisions_of relation v) v in
         record {
           words = settled-words;
-          channels = shows-channels settled (committed (planned relation v) v) (subst (λ site. ChannelsIn site settled (committed (planned relation v) v))
+          channels = shows-channels settled (view_after_commit (decisions_of relation v) v) (subst (λ site. ChannelsIn site settled (view_after_commit (decisions_of relation v) v))
               (sym rest.0) settled-channels);
-          turns = shows-turns settled m (committed (planned relation v) v)
-              (subst (λ site. TurnsIn site (committed (planned relation v) v).arbiters settled m) (sym rest.0)
-              (subst (λ arbiters. TurnsIn v.site arbiters settled m) (sym (arbiters-committed (planned relation v) v size)) settled-turns));
+          turns = shows-turns settled m (view_after_commit (decisions_of relation v) v)
+              (subst (λ site. TurnsIn site (view_after_commit (decisions_of relation v) v).arbiters settled m) (sym rest.0)
+              (subst (λ arbiters. TurnsIn v.site arbiters settled m) (sym (arbiters-committed (decisions_of relation v) v size)) settled-turns));
           marks = marks;
-          sending = sending-same c settled v (committed (planned relation v) v) refl rest.0 (committed (planned relation v) v).sending (subst
+          sending = sending-same c settled v (view_after_commit (decisions_of relation v) v) refl rest.0 (view_after_commit (decisions_of relation v) v).sending (subst
               (λ x. ShowsSending c v x) (sym rest.1) sending);
         }
 
 -- what holds of a view after its commit holds of it after the cycle, once its beats are put
 pub column-put : (count : ℕ) (c : Column) (m : RouterMarks) (relation : Routes) (v : View) (beats : List Beat) (n : ℕ)
-    → IsColumn count c m (committed (planned relation (injected n (all_taken relation beats v))) (injected n (all_taken relation beats v)))
+    → IsColumn count c m (view_after_commit (decisions_of relation (view_after_inject n (view_after_takes relation beats v))) (view_after_inject n (view_after_takes relation beats v)))
     → IsColumn count c m (local_step relation v beats n).0
 unfolding local_step
 column-put count c m relation v beats n is = record {
@@ -260,8 +260,8 @@ column-put count c m relation v beats n is = record {
   };
   turns = record { inputs = is.turns.inputs; channels = is.turns.channels; outputs = is.turns.outputs };
   marks = record { phases = is.marks.phases; holders = is.marks.holders; to_port = is.marks.to_port };
-  sending = sending-same c c (committed (planned relation (injected n (all_taken relation beats v))) (injected n (all_taken relation beats v)))
-      (local_step relation v beats n).0 refl (refl {a = (committed (planned relation (injected n (all_taken relation beats v))) (injected n
-      (all_taken relation beats v))).site}) (committed (planned relation (injected n (all_taken relation beats v))) (injected n
-      (all_taken relation beats v))).sending is.sending;
+  sending = sending-same c c (view_after_commit (decisions_of relation (view_after_inject n (view_after_takes relation beats v))) (view_after_inject n (view_after_takes relation beats v)))
+      (local_step relation v beats n).0 refl (refl {a = (view_after_commit (decisions_of relation (view_after_inject n (view_after_takes relation beats v))) (view_after_inject n
+      (view_after_takes relation beats v))).site}) (view_after_commit (decisions_of relation (view_after_inject n (view_after_takes relation beats v))) (view_after_inject n
+      (view_after_takes relation beats v))).sending is.sending;
 }

@@ -6,7 +6,7 @@ use Rattle.noc_packet.specs.Set.{has_bit}
 use Rattle.noc_packet.specs.declared.packet.Flit.{Flit}
 use Rattle.noc_packet.proofs.SetLemmas.{both_members, either_members}
 use Rattle.noc_vc.specs.Input.{Input, is_active, is_waiting, is_idle_phase, is_empty, idle_input}
-use Rattle.noc_vc.specs.Output.{Output, is_free, spent, spent_at, released}
+use Rattle.noc_vc.specs.Output.{Output, is_free, output_after_spend, output_without_credit, output_after_release}
 use Rattle.noc_vc.specs.declared.input.InputState.{InputState}
 use Rattle.noc_vc.specs.declared.input.InputState.TheVariants.{Idle, Waiting, Active}
 use Rattle.noc_vc.specs.declared.output.OutputState.{OutputState}
@@ -296,10 +296,10 @@ module _ (count : ℕ) (c : Column) (v : View) (frame : Fields) (links local out
   settled-output o output None (Some i) shows says = by output.credit refl (is_tail (first_flit v i)) refl
     where
       by : (credit : Option ℕ) → output.credit ≡ credit → (last : Bool) → is_tail (first_flit v i) ≡ last
-          → ShowsOutput (settled_lane frame links local e granted_lane) o (spent (is_tail (first_flit v i)) output)
+          → ShowsOutput (settled_lane frame links local e granted_lane) o (output_after_spend (is_tail (first_flit v i)) output)
       by None ec last el =
-          subst (λ b. ShowsOutput (settled_lane frame links local e granted_lane) o (spent b output)) (sym el)
-          (subst (λ k. ShowsOutput (settled_lane frame links local e granted_lane) o (spent_at last output k)) (sym ec) (out last (says.freed ∙ el)))
+          subst (λ b. ShowsOutput (settled_lane frame links local e granted_lane) o (output_after_spend b output)) (sym el)
+          (subst (λ k. ShowsOutput (settled_lane frame links local e granted_lane) o (output_without_credit last output k)) (sym ec) (out last (says.freed ∙ el)))
         where
           local_yes : has_bit local o ≡ true
           local_yes = says.eject ∙ ap (λ k. not (is_some k)) ec
@@ -307,7 +307,7 @@ module _ (count : ℕ) (c : Column) (v : View) (frame : Fields) (links local out
           link_no : has_bit links o ≡ false
           link_no = says.link ∙ ap is_some ec
 
-          out : (last : Bool) → has_bit e.freed o ≡ last → ShowsOutput (settled_lane frame links local e granted_lane) o (if last then released output else output)
+          out : (last : Bool) → has_bit e.freed o ≡ last → ShowsOutput (settled_lane frame links local e granted_lane) o (if last then output_after_release output else output)
           out true ef = record {
             idle = idle-bit o ∙ rw (says.taken, ef, local_yes) (on (has_bit c.idle o && true));
             draining = draining-bit o ∙ rw (ef, link_no, shows.draining, (says.owned refl).1) refl;
@@ -323,8 +323,8 @@ module _ (count : ℕ) (c : Column) (v : View) (frame : Fields) (links local out
             credit = subst (λ k. IfSome k (λ n. number_at (settled_lane frame links local e granted_lane).credit o ≡ n)) (sym ec) tt;
           }
       by (Some n) ec last el =
-          subst (λ b. ShowsOutput (settled_lane frame links local e granted_lane) o (spent b output)) (sym el)
-          (subst (λ k. ShowsOutput (settled_lane frame links local e granted_lane) o (spent_at last output k)) (sym ec) (out last (says.freed ∙ el)))
+          subst (λ b. ShowsOutput (settled_lane frame links local e granted_lane) o (output_after_spend b output)) (sym el)
+          (subst (λ k. ShowsOutput (settled_lane frame links local e granted_lane) o (output_without_credit last output k)) (sym ec) (out last (says.freed ∙ el)))
         where
           local_no : has_bit local o ≡ false
           local_no = says.eject ∙ ap (λ k. not (is_some k)) ec

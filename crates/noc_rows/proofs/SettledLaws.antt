@@ -7,12 +7,12 @@ use Rattle.noc_topo.specs.Shape.{local_port, ports}
 use Rattle.noc_packet.specs.Set.{has_bit}
 use Rattle.noc_packet.specs.declared.packet.Beat.{Beat}
 use Rattle.noc_packet.specs.declared.packet.Packet.{Packet}
-use Rattle.noc_alloc.specs.Arbiter.{turn_at}
+use Rattle.noc_alloc.specs.Arbiter.{arbiter_at}
 use Rattle.noc_route.specs.Routes.{Routes}
-use Rattle.noc_router.specs.Arrivals.{is_expected_in, noted}
+use Rattle.noc_router.specs.Arrivals.{is_expected_in, arrivals_after}
 use Rattle.noc_router.specs.Members.{AreBelow}
 use Rattle.noc_router.specs.Verdict.{arbiters_after}
-use Rattle.noc_router.specs.View.{View, Decisions, size_of, view_round, planned, committed, with_arrival, with_misfit, tail_packet, flit_out, injected, all_taken, local_step}
+use Rattle.noc_router.specs.View.{View, Decisions, size_of, view_round, decisions_of, view_after_commit, with_arrival, with_misfit, tail_packet, flit_out, view_after_inject, view_after_takes, local_step}
 use Rattle.noc_rows.specs.Bits.{less}
 use Rattle.noc_rows.specs.Column.{Column, IsColumn, RouterMarks, ShowsMarks}
 use Rattle.noc_rows.specs.Cycle.{HasSwitched, Surroundings, single_in}
@@ -52,14 +52,14 @@ module _ (relation : Routes) (frame : Frame) (x : Surroundings) (v : View) (stil
       ltb-true k (ports v.site.grid * v.site.vcs)
       (and_parts (nat_le (local_port v.site.grid * v.site.vcs) k) (nat_lt k (ports v.site.grid * v.site.vcs)) (sym (still.sides.local_is k) ∙ h)).1
 
-  ports-turn : (q : ℕ) → q < ports v.site.grid → ShowsPorts v.site.vcs (ports v.site.grid) (w.port_turn q) (turn_at (arbiters_after (view_round v) v.arbiters).outputs q).pointer
+  ports-turn : (q : ℕ) → q < ports v.site.grid → ShowsPorts v.site.vcs (ports v.site.grid) (w.port_turn q) (arbiter_at (arbiters_after (view_round v) v.arbiters).outputs q).pointer
   ports-turn q lq =
-      subst (λ m. ShowsPorts v.site.vcs (ports v.site.grid) m (turn_at (arbiters_after (view_round v) v.arbiters).outputs q).pointer) (sym (sw.turns q lq))
+      subst (λ m. ShowsPorts v.site.vcs (ports v.site.grid) m (arbiter_at (arbiters_after (view_round v) v.arbiters).outputs q).pointer) (sym (sw.turns q lq))
       (turns-after v (lane_picked frame.fields x.filled a.column) b.marks.to_port b.marks.port_turn (moving relation frame x v still a b outs shows put) frame.after
       (λ i k li lk. (still.channels i li).later k (channel-small relation frame x v still a b outs shows put w e supplied switched heads_are granted_are k lk))
       q lq still.arbiters.outputs.count (still.arbiters.outputs.sizes q lq))
 
-  settling : AreSettling v (committed (planned relation v) v) a.column w frame.link_set frame.local_set outs b.column.wanted supplied (dry relation frame x v still a b outs shows put w e supplied switched heads_are granted_are) e
+  settling : AreSettling v (view_after_commit (decisions_of relation v) v) a.column w frame.link_set frame.local_set outs b.column.wanted supplied (dry relation frame x v still a b outs shows put w e supplied switched heads_are granted_are) e
   settling = record {
     links_fit = still.sides.link_fits;
     outs_fit = put.outs_fit;
@@ -72,28 +72,28 @@ module _ (relation : Routes) (frame : Frame) (x : Surroundings) (v : View) (stil
     sizes = still.arbiters.inputs.sizes;
     outputs = says-out relation frame x v still a b outs shows put w e supplied switched heads_are granted_are;
     supplies = says-supplied relation frame x v still a b outs shows put w e supplied switched heads_are granted_are;
-    channel_turns = λ o l. subst (λ (m : RouterMarks). ShowsPointer (size_of v.site) (m.turn o) 0 (turn_at (arbiters_after (view_round v) v.arbiters).channels o).pointer) (sym sw.rest) (put.turns o l);
+    channel_turns = λ o l. subst (λ (m : RouterMarks). ShowsPointer (size_of v.site) (m.turn o) 0 (arbiter_at (arbiters_after (view_round v) v.arbiters).channels o).pointer) (sym sw.rest) (put.turns o l);
     port_turns = λ q i lq l. at q i l (ports-turn q lq);
   }
     where
-      at : (q i : ℕ) → i < size_of v.site → ShowsPorts v.site.vcs (ports v.site.grid) (w.port_turn q) (turn_at (arbiters_after (view_round v) v.arbiters).outputs q).pointer
-          → (has_bit (w.port_turn q) i ≡ nat_le (turn_at (arbiters_after (view_round v) v.arbiters).outputs q).pointer (i / v.site.vcs))
-          ⊎ (((turn_at (arbiters_after (view_round v) v.arbiters).outputs q).pointer ≡ 0) × ((k : ℕ) → k < size_of v.site → has_bit (w.port_turn q) k ≡ false))
+      at : (q i : ℕ) → i < size_of v.site → ShowsPorts v.site.vcs (ports v.site.grid) (w.port_turn q) (arbiter_at (arbiters_after (view_round v) v.arbiters).outputs q).pointer
+          → (has_bit (w.port_turn q) i ≡ nat_le (arbiter_at (arbiters_after (view_round v) v.arbiters).outputs q).pointer (i / v.site.vcs))
+          ⊎ (((arbiter_at (arbiters_after (view_round v) v.arbiters).outputs q).pointer ≡ 0) × ((k : ℕ) → k < size_of v.site → has_bit (w.port_turn q) k ≡ false))
       at q i l (inl is) = inl (is i (div_below i v.site.vcs (ports v.site.grid) still.size.some l))
       at q i l (inr none) = inr (none.0, λ k lk. none.1 k (div_below k v.site.vcs (ports v.site.grid) still.size.some lk))
 
   lane-is : record b.column { supplied = supplied } ≡ decided_lane outs b.column.wanted supplied a.column
   lane-is = ap (λ (c : Column). record c { supplied = supplied }) put.column
 
-  pub column-settled : IsColumn 5 (settled_lane frame.fields frame.link_set frame.local_set e (record b.column { supplied = supplied })) w (committed (planned relation v) v)
+  pub column-settled : IsColumn 5 (settled_lane frame.fields frame.link_set frame.local_set e (record b.column { supplied = supplied })) w (view_after_commit (decisions_of relation v) v)
   column-settled =
-      subst (λ (c : Column). IsColumn 5 (settled_lane frame.fields frame.link_set frame.local_set e c) w (committed (planned relation v) v)) (sym lane-is)
+      subst (λ (c : Column). IsColumn 5 (settled_lane frame.fields frame.link_set frame.local_set e c) w (view_after_commit (decisions_of relation v) v)) (sym lane-is)
       (settled-column relation 5 frame.fields a.column v x.filled frame.link_set frame.local_set b.lost e shows.words
       (effects relation frame x v still a b outs shows put w e supplied switched heads_are granted_are) still.size still.fields still.field_width shows.channels still.filled
       (record { ahead = shows.turns.inputs; pointers = still.arbiters.inputs.pointers; arbiters = still.arbiters.inputs.count })
       (decided relation frame x v still a b outs shows put w e supplied switched heads_are granted_are) outs b.column.wanted supplied w
       (dry relation frame x v still a b outs shows put w e supplied switched heads_are granted_are) settling
-      (subst (λ (c : Column). ShowsMarks (settled_lane frame.fields frame.link_set frame.local_set e c) w (committed (planned relation v) v)) lane-is
+      (subst (λ (c : Column). ShowsMarks (settled_lane frame.fields frame.link_set frame.local_set e c) w (view_after_commit (decisions_of relation v) v)) lane-is
       (marks-after relation frame x v still a b outs shows put w e supplied switched heads_are granted_are))
       shows.sending)
 
@@ -102,26 +102,26 @@ arrival-queue : (p : Option ℕ) (v : View) → (with_arrival p v).queue ≡ v.q
 arrival-queue None v = refl
 arrival-queue (Some p) v = at (is_expected_in p v.ends)
   where
-    at : (b : Bool) → (if b then record v { ends = noted p v.given v.ends } else with_misfit v).queue ≡ v.queue
+    at : (b : Bool) → (if b then record v { ends = arrivals_after p v.given v.ends } else with_misfit v).queue ≡ v.queue
     at true = refl
     at false = refl
 
-committed-queue : (d : Decisions) (v : View) → (committed d v).queue ≡ v.queue
-unfolding committed
+committed-queue : (d : Decisions) (v : View) → (view_after_commit d v).queue ≡ v.queue
+unfolding view_after_commit
 committed-queue d v = arrival-queue (tail_packet (flit_out v d.round (local_port v.site.grid))) _
 
 -- a source shows a view after a cycle as it showed the frozen one
 pub source-put : (starts : List Start) (s : Source) (relation : Routes) (v : View) (beats : List Beat) (n : ℕ)
-    → ShowsSource starts s (injected n (all_taken relation beats v)) → ShowsSource starts s (local_step relation v beats n).0
+    → ShowsSource starts s (view_after_inject n (view_after_takes relation beats v)) → ShowsSource starts s (local_step relation v beats n).0
 unfolding local_step
 source-put starts s relation v beats n is =
-    let y : View = injected n (all_taken relation beats v) in
-    let queue : (committed (planned relation y) y).queue ≡ y.queue = committed-queue (planned relation y) y in
-    let sending : (committed (planned relation y) y).sending ≡ y.sending = (committed-site (planned relation y) y).1 in
+    let y : View = view_after_inject n (view_after_takes relation beats v) in
+    let queue : (view_after_commit (decisions_of relation y) y).queue ≡ y.queue = committed-queue (decisions_of relation y) y in
+    let sending : (view_after_commit (decisions_of relation y) y).sending ≡ y.sending = (committed-site (decisions_of relation y) y).1 in
     record {
       few = is.few;
       due = is.due ∙ ap due_of (sym queue);
       queue = subst (λ (q : List (ℕ × Packet)). ShowsQueue starts s.queue q) (sym queue) is.queue;
-      next = subst (λ (q : List (ℕ × Packet)). ShowsNext s q (committed (planned relation y) y).sending) (sym queue)
+      next = subst (λ (q : List (ℕ × Packet)). ShowsNext s q (view_after_commit (decisions_of relation y) y).sending) (sym queue)
           (subst (λ (t : Option (ℕ × ℕ)). ShowsNext s y.queue t) (sym sending) is.next);
     }

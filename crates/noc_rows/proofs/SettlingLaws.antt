@@ -8,7 +8,7 @@ use Rattle.noc_topo.specs.Shape.{local_port, ports}
 use Rattle.noc_packet.specs.Set.{has_bit}
 use Rattle.noc_packet.specs.declared.packet.Flit.{Flit}
 use Rattle.noc_packet.proofs.SetLemmas.{either_members, has_bit-zero}
-use Rattle.noc_alloc.specs.Arbiter.{turn_at}
+use Rattle.noc_alloc.specs.Arbiter.{arbiter_at}
 use Rattle.noc_alloc.proofs.ArbiterLemmas.{first_in_turn-picks}
 use Rattle.noc_route.specs.Routes.{Routes}
 use Rattle.noc_vc.specs.Input.{is_empty}
@@ -166,7 +166,7 @@ module _ (relation : Routes) (frame : Frame) (x : Surroundings) (v : View) (stil
   -- to whom the round grants an output channel
   pub grantee : (o k : ℕ) → o < size_of v.site → slice_index_or (view_round v).grants o None ≡ Some k → Grantee o k
   grantee o k l is =
-      let picks = first_in_turn-picks (size_of v.site) (turn_at v.arbiters.channels o).pointer k (λ i. is_some_of (ask_of (view_claim v i)) o)
+      let picks = first_in_turn-picks (size_of v.site) (arbiter_at v.arbiters.channels o).pointer k (λ i. is_some_of (ask_of (view_claim v i)) o)
       (sym (grants-at a.column a.marks v shows still.few o l (λ i. is_some_of (ask_of (view_claim v i)) o) (λ i li. refl) still.arbiters.channels.count) ∙ is) in
       asker o k picks.1 (some-of (ask_of (view_claim v k)) o picks.0)
 

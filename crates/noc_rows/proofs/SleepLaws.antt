@@ -16,17 +16,17 @@ use Rattle.noc_route.specs.Routes.{Routes}
 use Rattle.noc_vc.specs.Input.{Input, is_empty, is_idle_phase}
 use Rattle.noc_vc.specs.declared.input.InputState.TheVariants.{Idle}
 use Rattle.noc_router.specs.Sound.{is_occupied}
-use Rattle.noc_router.specs.Still.{IsHeldBefore, takes_effect, waited}
+use Rattle.noc_router.specs.Still.{IsHeldBefore, takes_effect, view_after_waiting}
 use Rattle.noc_router.specs.declared.verdict.Verdict.TheVariants.{Empty}
-use Rattle.noc_router.specs.View.{Site, View, size_of, view_buffer, view_input, idle_beat, idle_beats, taken, taken_from, all_taken, with_flit, with_credit, injected_from, injected, planned, committed, counted, local_step}
+use Rattle.noc_router.specs.View.{Site, View, size_of, view_buffer, view_input, idle_beat, idle_beats, view_after_take, view_after_takes_from, view_after_takes, with_flit, with_credit, view_after_inject_from, view_after_inject, decisions_of, view_after_commit, counts_after, local_step}
 use Rattle.noc_router.proofs.VacantLemmas.{vacant-committed, no_event}
 use Rattle.noc_model.specs.declared.limits.TheConstants.{CYCLE_LIMIT}
 use Rattle.noc_model.specs.Good.{IsGoodSetup}
 use Rattle.noc_model.specs.Halves.{IsSilent, beat_at}
 use Rattle.noc_model.specs.Lockstep.{beats_at, beats_in, seen_flits, seen_input, seen_phase_with, has_come, view_at, view_in}
-use Rattle.noc_model.specs.Network.{Setup, State, Located, Place, Source, On, In, Out, size, arriving, packet_at, place_of, tail_place, is_in, is_past, has_channel, next_channel, buffer_of, state_at}
+use Rattle.noc_model.specs.Network.{Setup, State, Located, Place, Source, On, In, Out, size, arriving, packet_at, place_of_flit, tail_place, is_in, is_past, has_channel, next_channel, buffer_of, state_at}
 use Rattle.noc_model.specs.Progress.{weight, hops, head_place}
-use Rattle.noc_model.specs.Unseen.{AreInStepUnseen, unseen}
+use Rattle.noc_model.specs.Unseen.{AreInStepUnseen, without_findings}
 use Rattle.noc_model.proofs.StillRun.{still-wait}
 use Rattle.noc_model.proofs.BufferLemmas.{same_channel-refl}
 use Rattle.noc_model.proofs.OwnedLemmas.{owner-has}
@@ -55,7 +55,7 @@ module _ (net : Setup) (made : IsGood net) (S : State) (x : IsOrdered net S) whe
   in-heavy p (Eject a w) h n = absurd (n tt)
 
   -- the tail is not past a channel in which a flit is
-  tail-behind : (p k : ℕ) (c : Channel) → IsHeld net S c p → IsValid net p k → place_of net S p k ≡ In c → is_past net c (goal net p) (tail_place net S p) ≡ false
+  tail-behind : (p k : ℕ) (c : Channel) → IsHeld net S c p → IsValid net p k → place_of_flit net S p k ≡ In c → is_past net c (goal net p) (tail_place net S p) ≡ false
   tail-behind p k c h v e =
       at (tail_place net S p) (x.whole.sound.worm.placed p (last_of net p) last)
       (subst (λ (y : Place). weight net p y ≤ weight net p (tail_place net S p)) e (x.whole.sound.worm.order p k (last_of net p) last (let l = v.1 in omega (arith, l))))
@@ -84,7 +84,7 @@ module _ (net : Setup) (made : IsGood net) (S : State) (x : IsOrdered net S) whe
   full-routed r i c place f h =
       let one = in-buffer net made.built S x.whole.sound.keyed x.whole.sound.worm c f h in
       let held : IsHeld net S c f.packet = (owner-has net S c f.packet one.holder, not-eject net made place) in
-      let here : has_come net c (goal net f.packet) (place_of net S f.packet f.index) ≡ true = ap (has_come net c (goal net f.packet)) one.there ∙ or_left _ _ (same_channel-refl c) in
+      let here : has_come net c (goal net f.packet) (place_of_flit net S f.packet f.index) ≡ true = ap (has_come net c (goal net f.packet)) one.there ∙ or_left _ _ (same_channel-refl c) in
       let head = come-before net made.built S x.whole.sound.keyed x.whole.sound.worm f.packet 0 f.index c held one.valid (omega arith) here in
       x.whole.routed.come c f.packet held (way f.packet (or_cases (is_in c (head_place net S f.packet)) (is_past net c (goal net f.packet) (head_place net S f.packet)) head)) (tail-behind f.packet f.index c held one.valid one.there)
     where
@@ -122,25 +122,25 @@ pub record IsAsleep (end : ℕ) (v : View) : Type 0 where
   pub sending : v.sending ≡ None
   pub due : IsDueFrom end v.queue
 
-taken-silent : (relation : Routes) (port : ℕ) (row : List Beat) (v : View) → IsSilent row → taken_from relation port row v ≡ v
-unfolding taken
+taken-silent : (relation : Routes) (port : ℕ) (row : List Beat) (v : View) → IsSilent row → view_after_takes_from relation port row v ≡ v
+unfolding view_after_take
 taken-silent relation port [] v silent = refl
 taken-silent relation port (beat ∷ row) v silent =
-    let one : taken relation port beat v ≡ v = ap (λ (b : Beat). with_credit port b.credit (with_flit relation port b.flit v)) (silent 0) in
-    ap (taken_from relation (port + 1) row) one ∙ taken-silent relation (port + 1) row v (λ k. silent (suc k))
+    let one : view_after_take relation port beat v ≡ v = ap (λ (b : Beat). with_credit port b.credit (with_flit relation port b.flit v)) (silent 0) in
+    ap (view_after_takes_from relation (port + 1) row) one ∙ taken-silent relation (port + 1) row v (λ k. silent (suc k))
 
-pub all-silent : (relation : Routes) (row : List Beat) (v : View) → IsSilent row → all_taken relation row v ≡ v
-unfolding all_taken
+pub all-silent : (relation : Routes) (row : List Beat) (v : View) → IsSilent row → view_after_takes relation row v ≡ v
+unfolding view_after_takes
 all-silent relation row v silent = taken-silent relation 0 row v silent
 
-none-due : (end n : ℕ) (queue : List (ℕ × Packet)) (v : View) → n < end → IsDueFrom end queue → injected_from n queue None v ≡ v
+none-due : (end n : ℕ) (queue : List (ℕ × Packet)) (v : View) → n < end → IsDueFrom end queue → view_after_inject_from n queue None v ≡ v
 none-due end n [] v l due = refl
 none-due end n ((number, p) ∷ rest) v l due =
     ap (λ b. if b then Rattle.noc_router.specs.View.begun_on (Rattle.std.specs.Prelude.find (Rattle.noc_router.specs.View.is_vacant v) (Rattle.noc_topo.specs.Words.below v.site.vcs)) number p rest v else v) (lt-leb p.due n (omega (arith, l, due)))
 
 pub asleep-held : (end : ℕ) (v : View) → IsAsleep end v → IsHeldBefore end v
-unfolding injected
-asleep-held end v asleep n l = ap (λ s. injected_from n v.queue s (record v { given = n })) asleep.sending ∙ none-due end n v.queue (record v { given = n }) l asleep.due
+unfolding view_after_inject
+asleep-held end v asleep n l = ap (λ s. view_after_inject_from n v.queue s (record v { given = n })) asleep.sending ∙ none-due end n v.queue (record v { given = n }) l asleep.due
 
 module _ (net : Setup) (setup : IsGoodSetup net) where
   module _ (n r : ℕ) (l : r < nodes net.relation.grid) where
@@ -157,16 +157,16 @@ module _ (net : Setup) (setup : IsGoodSetup net) where
         ap (λ b. not (b && is_empty (view_buffer (view_at net n r) i))) (asleep.idle i h) ∙ ap not (idle-empty i h (asleep.idle i h))
 
     -- the frozen view of a router that sleeps
-    frozen-asleep : IsAsleep (suc n) (view_at net n r) → IsSilent (beats net setup n r l) → injected n (all_taken net.relation (beats net setup n r l) (view_at net n r)) ≡ record (view_at net n r) { given = n }
-    frozen-asleep asleep silent = ap (injected n) (all-silent net.relation (beats net setup n r l) (view_at net n r) silent) ∙ asleep-held (suc n) (view_at net n r) asleep n (omega arith)
+    frozen-asleep : IsAsleep (suc n) (view_at net n r) → IsSilent (beats net setup n r l) → view_after_inject n (view_after_takes net.relation (beats net setup n r l) (view_at net n r)) ≡ record (view_at net n r) { given = n }
+    frozen-asleep asleep silent = ap (view_after_inject n) (all-silent net.relation (beats net setup n r l) (view_at net n r) silent) ∙ asleep-held (suc n) (view_at net n r) asleep n (omega arith)
 
     -- it stays as it is, but for its counts of Empty
     pub asleep-stays : n < CYCLE_LIMIT → IsAsleep (suc n) (view_at net n r) → IsSilent (beats net setup n r l)
-        → unseen (view_at net (suc n) r) ≡ unseen (record (view_at net n r) { counts = map (counted Empty) (view_at net n r).counts; given = n })
+        → without_findings (view_at net (suc n) r) ≡ without_findings (record (view_at net n r) { counts = map (counts_after Empty) (view_at net n r).counts; given = n })
     unfolding local_step view_at view_in
     asleep-stays few asleep silent =
-        ap unseen (sym (next-count net setup n r l few))
-        ∙ ap (λ (f : View). unseen (record (committed (planned net.relation f) f) { to_put = idle_beats (committed (planned net.relation f) f).site })) (frozen-asleep asleep silent)
+        ap without_findings (sym (next-count net setup n r l few))
+        ∙ ap (λ (f : View). without_findings (record (view_after_commit (decisions_of net.relation f) f) { to_put = idle_beats (view_after_commit (decisions_of net.relation f) f).site })) (frozen-asleep asleep silent)
         ∙ ap (λ (w : View). record w { to_put = idle_beats w.site; findings = [] }) (sym (vacant-committed net.relation (record (view_at net n r) { given = n }) (vacant (suc n) asleep)))
 
   -- where all routers sleep up to a cycle and nothing is in flight, each waits: its counts of Empty rise, and nothing else changes
@@ -176,7 +176,7 @@ module _ (net : Setup) (setup : IsGoodSetup net) where
     views = tabulate (nodes net.relation.grid) (view_at net n)
 
     abbrev w : View → View
-    w = waited net.relation (end - n) (end - 1)
+    w = view_after_waiting net.relation (end - n) (end - 1)
 
     many : length views ≡ nodes net.relation.grid
     many = length-tabulate (nodes net.relation.grid) (view_at net n)
@@ -188,7 +188,7 @@ module _ (net : Setup) (setup : IsGoodSetup net) where
     then_seen = lockstep-is_state net setup end limit
 
     in_step : AreInStepUnseen net n views (beats_in net (state_at net n))
-    in_step = record { views = ap (map unseen) (sym now.views); wires = λ s port. ap (λ ws. beat_at ws s port) (sym now.wires) }
+    in_step = record { views = ap (map without_findings) (sym now.views); wires = λ s port. ap (λ ws. beat_at ws s port) (sym now.wires) }
 
     each : (P : View → Type 0) → ((s : ℕ) → s < nodes net.relation.grid → P (view_at net n s)) → All P views
     each P all s d u = let low : s < nodes net.relation.grid = omega (arith, u, many) in subst P (sym (get_or-tabulate (nodes net.relation.grid) s (view_at net n) d low)) (all s low)
@@ -208,15 +208,15 @@ module _ (net : Setup) (setup : IsGoodSetup net) where
         (each (λ v. takes_effect net.relation v ≡ false) (λ s low. no_event (view_at net n s) (vacant n s low end (asleep s low)) net.relation))
         (each (IsHeldBefore end) (λ s low. asleep-held end (view_at net n s) (asleep s low)))
 
-    pub all-asleep : (r : ℕ) → r < nodes net.relation.grid → unseen (view_at net end r) ≡ unseen (waited net.relation (end - n) (end - 1) (view_at net n r))
+    pub all-asleep : (r : ℕ) → r < nodes net.relation.grid → without_findings (view_at net end r) ≡ without_findings (view_after_waiting net.relation (end - n) (end - 1) (view_at net n r))
     all-asleep r l =
         let more : length (map w views) ≡ nodes net.relation.grid = length-map views w ∙ many in
         let later : length (tabulate (nodes net.relation.grid) (view_at net end)) ≡ nodes net.relation.grid = length-tabulate (nodes net.relation.grid) (view_at net end) in
         let d : View = w (view_at net n r) in
-        sym (get_or-map unseen (tabulate (nodes net.relation.grid) (view_at net end)) r d (unseen d) (omega (arith, l, later)) ∙ ap unseen (get_or-tabulate (nodes net.relation.grid) r (view_at net end) d l))
-        ∙ ap (λ vs. get_or vs r (unseen d)) (sym (waits.views ∙ ap (map unseen) then_seen.views))
-        ∙ get_or-map unseen (map w views) r d (unseen d) (omega (arith, l, more))
-        ∙ ap unseen (get_or-map w views r (view_at net n r) d (omega (arith, l, many)) ∙ ap w (get_or-tabulate (nodes net.relation.grid) r (view_at net n) (view_at net n r) l))
+        sym (get_or-map without_findings (tabulate (nodes net.relation.grid) (view_at net end)) r d (without_findings d) (omega (arith, l, later)) ∙ ap without_findings (get_or-tabulate (nodes net.relation.grid) r (view_at net end) d l))
+        ∙ ap (λ vs. get_or vs r (without_findings d)) (sym (waits.views ∙ ap (map without_findings) then_seen.views))
+        ∙ get_or-map without_findings (map w views) r d (without_findings d) (omega (arith, l, more))
+        ∙ ap without_findings (get_or-map w views r (view_at net n r) d (omega (arith, l, many)) ∙ ap w (get_or-tabulate (nodes net.relation.grid) r (view_at net n) (view_at net n r) l))
 
     pub still-silent : (r : ℕ) → r < nodes net.relation.grid → IsSilent (beats_at (beats_in net (state_at net end)) r)
     still-silent r l port = ap (λ ws. beat_at ws r port) (sym then_seen.wires) ∙ sym (waits.wires r port) ∙ silent r l port

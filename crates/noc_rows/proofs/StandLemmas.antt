@@ -9,7 +9,7 @@ use Rattle.noc_topo.specs.Shape.{ports}
 use Rattle.noc_topo.proofs.WordLemmas.{get_or-tabulate}
 use Rattle.noc_packet.specs.Set.{has_bit}
 use Rattle.noc_packet.proofs.SetLemmas.{both_members, either_members}
-use Rattle.noc_alloc.specs.Arbiter.{Turn, first_in_turn, turn_at, pointers_of}
+use Rattle.noc_alloc.specs.Arbiter.{RoundRobin, first_in_turn, arbiter_at, pointers_of}
 use Rattle.noc_alloc.specs.Allocation.{pick_of}
 use Rattle.noc_alloc.proofs.ArbiterLemmas.{first_in_turn-same, first_in_turn-picks}
 use Rattle.noc_vc.specs.Input.{is_active, is_waiting, is_idle_phase, is_empty}
@@ -69,17 +69,17 @@ module _ (count : ℕ) (c : Column) (v : View) (filled : ℕ) (words : AreWords 
   by_phase (Active o) false = refl
 
   -- the sets of the lane are those that the verdicts rest on
-  pub standing : IsStanding v (record { heads = lane_heads filled c; waiting = c.waiting; starved = lane_no_flit filled c; unsupplied = lane_no_credit filled c; ready = lane_ready filled c })
+  pub standing : IsStanding v (record { heads = lane_heads filled c; waiting = c.waiting; no_flit = lane_no_flit filled c; no_credit = lane_no_credit filled c; ready = lane_ready filled c })
   standing = record {
     heads_below = part_below filled _ (size_of v.site) fill.below;
     waiting_below = shows.waiting_below;
-    starved_below = part_below c.active _ (size_of v.site) shows.active_below;
-    unsupplied_below = part_below (bit_and c.active filled) _ (size_of v.site) (part_below c.active filled (size_of v.site) shows.active_below);
+    no_flit_below = part_below c.active _ (size_of v.site) shows.active_below;
+    no_credit_below = part_below (bit_and c.active filled) _ (size_of v.site) (part_below c.active filled (size_of v.site) shows.active_below);
     ready_below = part_below (bit_and c.active filled) c.supplied (size_of v.site) (part_below c.active filled (size_of v.site) shows.active_below);
     heads = λ i l. heads-bit i ∙ rw (fill.each i l, (shows.inputs i l).waiting, (shows.inputs i l).active) (by_phase (view_input v i).phase (is_empty (view_buffer v i)));
     waiting = λ i l. (shows.inputs i l).waiting;
-    starved = λ i l. less_members c.active filled i words.active fill.fits ∙ rw (fill.each i l, (shows.inputs i l).active) (starve (is_active (view_input v i).phase) (is_empty (view_buffer v i)));
-    unsupplied = λ i l. no_credit-bit i ∙ rw (fill.each i l, (shows.inputs i l).active, shows.supplied i l) (dry (is_active (view_input v i).phase) (is_empty (view_buffer v i)) (is_supplied v.outputs (view_input v i).phase));
+    no_flit = λ i l. less_members c.active filled i words.active fill.fits ∙ rw (fill.each i l, (shows.inputs i l).active) (starve (is_active (view_input v i).phase) (is_empty (view_buffer v i)));
+    no_credit = λ i l. no_credit-bit i ∙ rw (fill.each i l, (shows.inputs i l).active, shows.supplied i l) (dry (is_active (view_input v i).phase) (is_empty (view_buffer v i)) (is_supplied v.outputs (view_input v i).phase));
     ready = λ i l. ready-bit i ∙ rw (fill.each i l, (shows.inputs i l).active, shows.supplied i l) (wet (is_active (view_input v i).phase) (is_empty (view_buffer v i)) (is_supplied v.outputs (view_input v i).phase));
   }
     where
@@ -119,8 +119,8 @@ module _ (count : ℕ) (c : Column) (v : View) (filled : ℕ) (words : AreWords 
       ∙ ap is_some (sym (ap (λ xs. get_or xs i None) (ready_of-stands v) ∙ get_or-tabulate (size_of v.site) i (λ k. ready_port v.site.vcs (view_claim v k) (not (is_empty (view_buffer v k)))) None l))
 
   module _ (f : Fields) (frame : IsFields (ports v.site.grid) f) (width : f.width ≡ v.site.vcs)
-      (ahead : (p : ℕ) → p < ports v.site.grid → ShowsPointer v.site.vcs c.ahead p (turn_at v.arbiters.inputs p).pointer)
-      (pointers : (p : ℕ) → p < ports v.site.grid → (turn_at v.arbiters.inputs p).pointer < v.site.vcs)
+      (ahead : (p : ℕ) → p < ports v.site.grid → ShowsPointer v.site.vcs c.ahead p (arbiter_at v.arbiters.inputs p).pointer)
+      (pointers : (p : ℕ) → p < ports v.site.grid → (arbiter_at v.arbiters.inputs p).pointer < v.site.vcs)
       (arbiters : length v.arbiters.inputs ≡ ports v.site.grid) where
     ready-small : lane_ready filled c < 2 ^ (ports v.site.grid * f.width)
     ready-small = rw width (below_fits (size_of v.site) (lane_ready filled c) standing.ready_below)
@@ -135,19 +135,19 @@ module _ (count : ℕ) (c : Column) (v : View) (filled : ℕ) (words : AreWords 
         let lp : k / v.site.vcs < ports v.site.grid = div_below k v.site.vcs (ports v.site.grid) some l in
         let lv : k % v.site.vcs < v.site.vcs = mod_below k v.site.vcs some in
         let place : k / v.site.vcs * v.site.vcs + k % v.site.vcs ≡ k = div-add-mod' k v.site.vcs in
-        let pointer : ℕ = (turn_at v.arbiters.inputs (k / v.site.vcs)).pointer in
+        let pointer : ℕ = (arbiter_at v.arbiters.inputs (k / v.site.vcs)).pointer in
         ap (has_bit (lane_picked f filled c)) (sym place ∙ ap (λ w. k / v.site.vcs * w + k % v.site.vcs) (sym width))
-        ∙ pick-members (ports v.site.grid) f frame (lane_ready filled c) c.ahead (k / v.site.vcs) (turn_at v.arbiters.inputs (k / v.site.vcs)).pointer (k % v.site.vcs) ready-small lp (rw width (pointers (k / v.site.vcs) lp)) (rw width (ahead (k / v.site.vcs) lp)) (rw width lv)
+        ∙ pick-members (ports v.site.grid) f frame (lane_ready filled c) c.ahead (k / v.site.vcs) (arbiter_at v.arbiters.inputs (k / v.site.vcs)).pointer (k % v.site.vcs) ready-small lp (rw width (pointers (k / v.site.vcs) lp)) (rw width (ahead (k / v.site.vcs) lp)) (rw width lv)
         ∙ ap (λ o. is_some_of o (k % v.site.vcs))
-        (ap (λ w. first_in_turn w (turn_at v.arbiters.inputs (k / v.site.vcs)).pointer (λ d. has_bit (lane_ready filled c) (k / v.site.vcs * w + d))) width
-        ∙ first_in_turn-same v.site.vcs (turn_at v.arbiters.inputs (k / v.site.vcs)).pointer (λ d. has_bit (lane_ready filled c) (k / v.site.vcs * v.site.vcs + d))
+        (ap (λ w. first_in_turn w (arbiter_at v.arbiters.inputs (k / v.site.vcs)).pointer (λ d. has_bit (lane_ready filled c) (k / v.site.vcs * w + d))) width
+        ∙ first_in_turn-same v.site.vcs (arbiter_at v.arbiters.inputs (k / v.site.vcs)).pointer (λ d. has_bit (lane_ready filled c) (k / v.site.vcs * v.site.vcs + d))
         (λ d. is_some (slice_index_or (ready_of v.site.vcs (view_stands v)) (k / v.site.vcs * v.site.vcs + d) None))
         (λ d ld. ready-asked (k / v.site.vcs * v.site.vcs + d) (let m : k / v.site.vcs * v.site.vcs + d < v.site.vcs * ports v.site.grid = mul-add-lt (k / v.site.vcs) v.site.vcs d (ports v.site.grid) lp ld in omega arith))
         ∙ ap (λ q. first_in_turn v.site.vcs q (λ d. is_some (slice_index_or (ready_of v.site.vcs (view_stands v)) (k / v.site.vcs * v.site.vcs + d) None))) (sym (pointer-at (k / v.site.vcs) lp))
         ∙ sym (get_or-tabulate (ports v.site.grid) (k / v.site.vcs) (pick_of (ready_of v.site.vcs (view_stands v)) v.site.vcs (pointers_of v.arbiters.inputs)) None lp))
       where
-        pointer-at : (p : ℕ) → p < ports v.site.grid → slice_index (pointers_of v.arbiters.inputs) p ≡ (turn_at v.arbiters.inputs p).pointer
-        pointer-at p l = get_or-map (λ (t : Turn). t.pointer) v.arbiters.inputs p (record { size = 0; pointer = 0 }) 0 (omega (arith, arbiters))
+        pointer-at : (p : ℕ) → p < ports v.site.grid → slice_index (pointers_of v.arbiters.inputs) p ≡ (arbiter_at v.arbiters.inputs p).pointer
+        pointer-at p l = get_or-map (λ (t : RoundRobin). t.pointer) v.arbiters.inputs p (record { size = 0; pointer = 0 }) 0 (omega (arith, arbiters))
 
     picked-fits : lane_picked f filled c < 2 ^ 32
     picked-fits = less_fits _ _ (or_fits _ _ (and_fits (lane_ready filled c) c.ahead ready-fits) (less_fits (lane_ready filled c) _ ready-fits))
@@ -194,7 +194,7 @@ module _ (count : ℕ) (c : Column) (v : View) (filled : ℕ) (words : AreWords 
       not-granted true a = refl
       not-granted false a = refl
 
-      are : (k : ℕ) → k < size_of v.site → AreVerdicts v (view_round v) (record { heads = lane_heads filled c; waiting = c.waiting; starved = lane_no_flit filled c; unsupplied = lane_no_credit filled c; ready = lane_ready filled c }) (bit_or granted lost) (lane_picked f filled c) (record { routed = lane_heads filled c; granted = granted; moved = moved; no_flit = lane_no_flit filled c; no_idle_channel = lane_no_idle_channel granted lost c; lost_channel = lost; no_credit = lane_no_credit filled c; lost_input = less (lane_ready filled c) (lane_picked f filled c); lost_switch = less (lane_picked f filled c) moved }) k
+      are : (k : ℕ) → k < size_of v.site → AreVerdicts v (view_round v) (record { heads = lane_heads filled c; waiting = c.waiting; no_flit = lane_no_flit filled c; no_credit = lane_no_credit filled c; ready = lane_ready filled c }) (bit_or granted lost) (lane_picked f filled c) (record { routed = lane_heads filled c; granted = granted; moved = moved; no_flit = lane_no_flit filled c; no_idle_channel = lane_no_idle_channel granted lost c; lost_channel = lost; no_credit = lane_no_credit filled c; lost_input = less (lane_ready filled c) (lane_picked f filled c); lost_switch = less (lane_picked f filled c) moved }) k
       are k l =
           let both : has_bit (bit_or granted lost) k ≡ (has_bit granted k || (not (has_bit granted k) && is_some (ask_of (view_claim v k)))) = either_members granted lost k ∙ ap (λ b. has_bit granted k || b) (lost_is k l) in
           record {
@@ -214,8 +214,8 @@ module _ (count : ℕ) (c : Column) (v : View) (filled : ℕ) (words : AreWords 
 
       -- the sets of the lane give each channel its verdict
       pub verdicts : (k : ℕ) → k < size_of v.site → verdict_by (record { routed = lane_heads filled c; granted = granted; moved = moved; no_flit = lane_no_flit filled c; no_idle_channel = lane_no_idle_channel granted lost c; lost_channel = lost; no_credit = lane_no_credit filled c; lost_input = less (lane_ready filled c) (lane_picked f filled c); lost_switch = less (lane_picked f filled c) moved }) k ≡ (finding_of (view_round v) v k).verdict
-      verdicts k l = verdict-on v (view_round v) (record { heads = lane_heads filled c; waiting = c.waiting; starved = lane_no_flit filled c; unsupplied = lane_no_credit filled c; ready = lane_ready filled c }) (bit_or granted lost) (lane_picked f filled c) (record { routed = lane_heads filled c; granted = granted; moved = moved; no_flit = lane_no_flit filled c; no_idle_channel = lane_no_idle_channel granted lost c; lost_channel = lost; no_credit = lane_no_credit filled c; lost_input = less (lane_ready filled c) (lane_picked f filled c); lost_switch = less (lane_picked f filled c) moved }) k l standing (are k l)
+      verdicts k l = verdict-on v (view_round v) (record { heads = lane_heads filled c; waiting = c.waiting; no_flit = lane_no_flit filled c; no_credit = lane_no_credit filled c; ready = lane_ready filled c }) (bit_or granted lost) (lane_picked f filled c) (record { routed = lane_heads filled c; granted = granted; moved = moved; no_flit = lane_no_flit filled c; no_idle_channel = lane_no_idle_channel granted lost c; lost_channel = lost; no_credit = lane_no_credit filled c; lost_input = less (lane_ready filled c) (lane_picked f filled c); lost_switch = less (lane_picked f filled c) moved }) k l standing (are k l)
 
       -- .. and have it once at most
       pub verdicts-apart : (k : ℕ) → k < size_of v.site → sets_with (record { routed = lane_heads filled c; granted = granted; moved = moved; no_flit = lane_no_flit filled c; no_idle_channel = lane_no_idle_channel granted lost c; lost_channel = lost; no_credit = lane_no_credit filled c; lost_input = less (lane_ready filled c) (lane_picked f filled c); lost_switch = less (lane_picked f filled c) moved }) k ≤ 1
-      verdicts-apart k l = apart-on v (view_round v) (record { heads = lane_heads filled c; waiting = c.waiting; starved = lane_no_flit filled c; unsupplied = lane_no_credit filled c; ready = lane_ready filled c }) (bit_or granted lost) (lane_picked f filled c) (record { routed = lane_heads filled c; granted = granted; moved = moved; no_flit = lane_no_flit filled c; no_idle_channel = lane_no_idle_channel granted lost c; lost_channel = lost; no_credit = lane_no_credit filled c; lost_input = less (lane_ready filled c) (lane_picked f filled c); lost_switch = less (lane_picked f filled c) moved }) k l standing (are k l)
+      verdicts-apart k l = apart-on v (view_round v) (record { heads = lane_heads filled c; waiting = c.waiting; no_flit = lane_no_flit filled c; no_credit = lane_no_credit filled c; ready = lane_ready filled c }) (bit_or granted lost) (lane_picked f filled c) (record { routed = lane_heads filled c; granted = granted; moved = moved; no_flit = lane_no_flit filled c; no_idle_channel = lane_no_idle_channel granted lost c; lost_channel = lost; no_credit = lane_no_credit filled c; lost_input = less (lane_ready filled c) (lane_picked f filled c); lost_switch = less (lane_picked f filled c) moved }) k l standing (are k l)

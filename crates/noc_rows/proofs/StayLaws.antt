@@ -12,16 +12,16 @@ use Rattle.noc_packet.specs.declared.packet.Flit.{Flit}
 use Rattle.noc_packet.specs.declared.packet.Packet.{Packet}
 use Rattle.noc_router.proofs.VacantLemmas.{vacant-counted}
 use Rattle.noc_router.specs.Members.{AreBelow}
-use Rattle.noc_router.specs.Still.{counted_times, waited}
+use Rattle.noc_router.specs.Still.{counted_times, view_after_waiting}
 use Rattle.noc_router.specs.Verdict.{column}
-use Rattle.noc_router.specs.View.{Site, View, size_of, counted, view_buffer}
+use Rattle.noc_router.specs.View.{Site, View, size_of, counts_after, view_buffer}
 use Rattle.noc_router.specs.declared.verdict.Verdict.TheVariants.{Empty}
 use Rattle.noc_model.specs.declared.limits.TheConstants.{CYCLE_LIMIT}
 use Rattle.noc_model.specs.Good.{IsGoodSetup}
 use Rattle.noc_model.specs.Halves.{IsSilent}
 use Rattle.noc_model.specs.Lockstep.{beats_at, beats_in, counts_before, view_at, view_in}
 use Rattle.noc_model.specs.Network.{Setup, size, state_at}
-use Rattle.noc_model.specs.Unseen.{unseen}
+use Rattle.noc_model.specs.Unseen.{without_findings}
 use Rattle.noc_rows.specs.Column.{ShowsWires}
 use Rattle.noc_rows.specs.FlitWords.{flit_word}
 use Rattle.noc_rows.specs.InRows.{RouterWords, ShowsRouter}
@@ -96,7 +96,7 @@ wires-same v w flits credits ring row later site buffers now still x = record {
 -- ---- more cycles of Empty
 
 module _ (counts : VerdictCounts) (routed granted lost : ℕ) where
-  one-empty : (n : ℕ) → sum (nine_counts counts routed granted lost) ≤ n → n < 2 ^ 64 - 1 → counted Empty (ten_counts n counts routed granted lost) ≡ ten_counts (n + 1) counts routed granted lost
+  one-empty : (n : ℕ) → sum (nine_counts counts routed granted lost) ≤ n → n < 2 ^ 64 - 1 → counts_after Empty (ten_counts n counts routed granted lost) ≡ ten_counts (n + 1) counts routed granted lost
   one-empty n few small =
       let whole : sum (ten_counts n counts routed granted lost) ≡ n = omega arith in
       let room : nat_lt (sum (ten_counts n counts routed granted lost)) (2 ^ 64 - 1) ≡ true = lt-ltb (sum (ten_counts n counts routed granted lost)) (2 ^ 64 - 1) (omega (arith, whole, small)) in
@@ -107,7 +107,7 @@ module _ (counts : VerdictCounts) (routed granted lost : ℕ) where
   times-empty : (k n : ℕ) → sum (nine_counts counts routed granted lost) ≤ n → n + k < 2 ^ 64 → counted_times k Empty (ten_counts n counts routed granted lost) ≡ ten_counts (n + k) counts routed granted lost
   times-empty zero n few small = ap (λ m. ten_counts m counts routed granted lost) (let z : n ≡ n + 0 = omega arith in z)
   times-empty (suc k) n few small =
-      ap (counted Empty) (times-empty k n few (omega (arith, small)))
+      ap (counts_after Empty) (times-empty k n few (omega (arith, small)))
       ∙ one-empty (n + k) (omega (arith, few)) (omega (arith, small))
       ∙ ap (λ m. ten_counts m counts routed granted lost) (let z : n + k + 1 ≡ n + suc k = omega arith in z)
 
@@ -160,34 +160,34 @@ module _ (net : Setup) (setup : IsGoodSetup net) where
     abbrev v : View
     v = view_at net n r
 
-    stays : unseen (view_at net end r) ≡ unseen (waited net.relation (end - n) (end - 1) (view_at net n r))
+    stays : without_findings (view_at net end r) ≡ without_findings (view_after_waiting net.relation (end - n) (end - 1) (view_at net n r))
     stays = all-asleep net setup n end less limit asleep silent r l
 
     same-counts : (view_at net end r).counts ≡ map (counted_times (end - n) Empty) (view_at net n r).counts
-    unfolding waited
+    unfolding view_after_waiting
     same-counts =
         ap (λ (u : View). u.counts) stays
         ∙ sym (vacant-counted net.relation (view_at net n r) (vacant net setup n r l end (asleep r l)) (counted_times (end - n)) (view_at net n r).counts)
 
     same-site : (view_at net end r).site ≡ (view_at net n r).site
-    unfolding waited
+    unfolding view_after_waiting
     same-site = ap (λ (u : View). u.site) stays
 
     same-buffers : (view_at net end r).buffers ≡ (view_at net n r).buffers
-    unfolding waited
+    unfolding view_after_waiting
     same-buffers = ap (λ (u : View). u.buffers) stays
 
     same-queue : ((view_at net end r).queue ≡ (view_at net n r).queue) × ((view_at net end r).sending ≡ (view_at net n r).sending)
-    unfolding waited
+    unfolding view_after_waiting
     same-queue = (ap (λ (u : View). u.queue) stays, ap (λ (u : View). u.sending) stays)
 
     same-event : (view_at net end r).last_event ≡ (view_at net n r).last_event
-    unfolding waited
+    unfolding view_after_waiting
     same-event = ap (λ (u : View). u.last_event) stays
 
     -- the arrivals that it has noted
     pub ends-stay : (view_at net end r).ends ≡ (view_at net n r).ends
-    unfolding waited
+    unfolding view_after_waiting
     ends-stay = ap (λ (u : View). u.ends) stays
 
     pub all-stay : (starts : List Start) (w : RouterWords) → ShowsRouter starts n w (view_at net n r) (beats_at (beats_in net (state_at net n)) r)

@@ -5,15 +5,15 @@ use Rattle.std.proofs.lemmas.Bool.{false≢true, true≢false, and_parts, le-ltb
 use Rattle.std.proofs.lemmas.Option.{same_Some}
 use Rattle.noc_topo.specs.Words.{Has}
 use Rattle.noc_topo.specs.Shape.{nodes, local_port, distance}
-use Rattle.noc_route.specs.Channel.{Channel, Link, Inject, Eject, begin, is_link, same_channel, output_index}
+use Rattle.noc_route.specs.Channel.{Channel, Link, Inject, Eject, sending_router, is_link, same_channel, output_index}
 use Rattle.noc_route.proofs.BuiltLemmas.{linked-port}
 use Rattle.noc_vc.specs.declared.input.InputState.TheVariants.{Idle, Waiting, Active}
 use Rattle.noc_vc.specs.declared.output.OutputState.TheVariants.{Owned, Draining}
 use Rattle.noc_router.specs.Counts.{one_if}
 use Rattle.noc_router.specs.Verdict.{is_moved}
-use Rattle.noc_model.specs.Good.{held}
+use Rattle.noc_model.specs.Good.{places_taken}
 use Rattle.noc_model.specs.Lockstep.{has_come, seen_phase, seen_phase_with, seen_holder, seen_source, seen_set}
-use Rattle.noc_model.specs.Network.{Setup, State, Place, Source, On, In, Out, leaving, place_of, tail_place, is_on, is_in, is_past, owner_of, leads_from, next_channel, verdict_in, is_released, after_verdicts, all_inputs, has_channel, opening_state, network_cycle, state_at, frozen_at}
+use Rattle.noc_model.specs.Network.{Setup, State, Place, Source, On, In, Out, leaving, place_of_flit, tail_place, is_on, is_in, is_past, owner_of, leads_from, next_channel, verdict_in, is_released, after_verdicts, all_inputs, has_channel, opening_state, network_cycle, state_at, frozen_at}
 use Rattle.noc_model.specs.Progress.{hops}
 use Rattle.noc_model.proofs.BufferLemmas.{same_channel-refl, same_channel-true}
 use Rattle.noc_model.proofs.Members.{Has-filter}
@@ -44,10 +44,10 @@ module _ (net : Setup) (good : IsGood net) where
   -- a state in which flits stand along paths, and channels hold what they have room for
   pub record IsSteady (S : State) : Type 0 where
     pub keyed : IsKeyed net S.at
-    pub worm : IsWorm net S.own (place_of net S)
+    pub worm : IsWorm net S.own (place_of_flit net S)
     pub routed : IsRoutedMid net S
     pub covered : IsCovered net S
-    pub room : (c : Channel) → held net S c ≤ net.places
+    pub room : (c : Channel) → places_taken net S c ≤ net.places
     pub low : (a u p : ℕ) → Has (Eject a u, p) S.own → u < net.relation.vcs
     -- the tail is past an owned link channel only while its last credit is on the way
     pub backed : (c : Channel) (p : ℕ) → IsHeld net S c p → is_link c ≡ true → is_past net c (goal net p) (tail_place net S p) ≡ true → has_channel S.back c ≡ true
@@ -109,7 +109,7 @@ module _ (net : Setup) (good : IsGood net) where
     owed = λ c e. absurd (false≢true (sym (x.no_credit c) ∙ e));
   }
     where
-      room : (c : Channel) → held net F c ≤ net.places
+      room : (c : Channel) → places_taken net F c ≤ net.places
       room c =
           let on = none-on net good.built F x.whole.sound.keyed x.whole.sound.worm 0 x.whole.sound.still c in
           let back : one_if (has_channel F.back c) ≡ 0 = ap one_if (x.no_credit c) in
@@ -213,7 +213,7 @@ module _ (net : Setup) (good : IsGood net) where
       pub next-here : (i p : ℕ) (c o : Channel) → IsAt net good r i c → Next p c o → (j : ℕ) × IsFrom net good r j o
       next-here i p c o at n = by o n
         where
-          end : (o : Channel) → leads_from net c o ≡ true → (s : ℕ) → begin o ≡ Some s → s ≡ r
+          end : (o : Channel) → leads_from net c o ≡ true → (s : ℕ) → sending_router o ≡ Some s → s ≡ r
           end o leads s b =
               let q = leads-end net c o leads in
               let a : q.0 ≡ s = same_Some q.0 s (sym q.1 ∙ b) in
@@ -302,7 +302,7 @@ module _ (net : Setup) (good : IsGood net) where
               → ((d : Channel) → Next q d c → is_past net d (goal net q) (tail_place net S q) ≡ false) → seen_source net S r c ≡ i → Sends i o
           with q k none not_on not_in behind unpast source =
               let own : Has (c, q) S.own = owner-has net S c q k in
-              let s = has-source net good.built S.own (place_of net S) x.worm c q own none not_on not_in behind in
+              let s = has-source net good.built S.own (place_of_flit net S) x.worm c q own none not_on not_in behind in
               let d : Channel = s.0 in
               let leads : leads_from net d (leaving net r o) ≡ true = subst (λ (y : Channel). leads_from net d y ≡ true) (sym from.found) s.2 in
               let h : IsHeld net S d q = (s.1, not-end net good S x.keyed x.worm d c s.2) in
@@ -341,7 +341,7 @@ module _ (net : Setup) (good : IsGood net) where
               (subst (λ (y : Channel). is_past net y (goal net q) (tail_place net S q) ≡ false) g z.2)
               (λ e' m. unpast-link q e' a b w (subst (λ (y : Channel). Next q e' y) (sym g) m) t) (source-of q f)
           tell q k (Inject a w) g false t f =
-              let b : Some r ≡ None = sym (Rattle.noc_model.proofs.PlaceViews.begins-at net good r o) ∙ ap begin (from.found ∙ sym g) in absurd (cc b)
+              let b : Some r ≡ None = sym (Rattle.noc_model.proofs.PlaceViews.begins-at net good r o) ∙ ap sending_router (from.found ∙ sym g) in absurd (cc b)
           tell q k (Eject a w) g false t f =
               let own : Has (Eject a w, q) S.own = subst (λ (y : Channel). Has (y, q) S.own) (sym g) (owner-has net S c q k) in
               let placed = tail-placed q (Eject a w) own in

@@ -62,11 +62,10 @@ module _ (room limit : ℕ) (all gone : ℕ → Bool) (target back : ℕ → ℕ
       at : ((k : ℕ) × ((gone k && nat_eq (target k) p) ≡ true)) ⊎ ((k : ℕ) → k < limit → (gone k && nat_eq (target k) p) ≡ false) → (rest : List ℕ) × (w.ring p ≡ first_of (start.ring p) ∷ rest)
       at (inl found) =
           let both = and_parts (gone found.0) (nat_eq (target found.0) p) found.1 in
-          let to : target found.0 ≡ p = eqb-true (target found.0) p both.1 in
-          (
+          let to : target found.0 ≡ p = eqb-true (target found.0) p both.1 in (
             flit-of.rest ++ first_of (start.ring found.0) ∷ [],
             ap (λ q. w.ring q) (sym to) ∙ moved.comes found.0 both.0 (omega (arith, to, low))
-            ∙ ap (λ q. left_of gone start q ++ first_of (start.ring found.0) ∷ []) to ∙ ap (λ r. r ++ first_of (start.ring found.0) ∷ []) (whole ∙ head-of),
+                ∙ ap (λ q. left_of gone start q ++ first_of (start.ring found.0) ∷ []) to ∙ ap (λ r. r ++ first_of (start.ring found.0) ∷ []) (whole ∙ head-of),
           )
       at (inr none) = (
         flit-of.rest,

@@ -5,7 +5,7 @@ use Rattle.std.specs.Int.{bit_not}
 use Rattle.std.proofs.lemmas.Bool.{cases_lt, lt-ltb, le-ltb}
 use Rattle.noc_packet.specs.Set.{has_bit}
 use Rattle.noc_packet.proofs.SetLemmas.{both_members}
-use Rattle.noc_vc.specs.Output.{Output, has_credit, spent}
+use Rattle.noc_vc.specs.Output.{Output, has_credit, output_after_spend}
 use Rattle.noc_vc.specs.declared.input.InputState.{InputState}
 use Rattle.noc_vc.specs.declared.input.InputState.TheVariants.{Idle, Waiting, Active}
 use Rattle.noc_router.specs.Sound.{is_supplied}
@@ -28,7 +28,7 @@ single-members count c links came o words small l =
 -- what becomes of an input channel: its flit moves to an output channel that it owns, it is granted one, or it loses none
 pub data Turn (v w : View) (before after : InputState) : Type 0 where
   Gone : (o : ℕ) → before ≡ Active o → after ≡ Idle → Turn v w before after
-  Sends : (o : ℕ) → before ≡ Active o → after ≡ Active o → view_output w o ≡ spent false (view_output v o) → has_credit (view_output v o) ≡ true → Turn v w before after
+  Sends : (o : ℕ) → before ≡ Active o → after ≡ Active o → view_output w o ≡ output_after_spend false (view_output v o) → has_credit (view_output v o) ≡ true → Turn v w before after
   Gets : (o : ℕ) (set : ℕ) → before ≡ Waiting set → after ≡ Active o → has_credit (view_output w o) ≡ true → Turn v w before after
   Waits : (set : ℕ) → after ≡ Waiting set → is_supplied v.outputs before ≡ false → Turn v w before after
   Stays : before ≡ after → ((o : ℕ) → before ≡ Active o → has_credit (view_output w o) ≡ has_credit (view_output v o)) → Turn v w before after
@@ -41,17 +41,17 @@ Says v w before after dry granted released (Gets o set a b c) = (released ≡ fa
 Says v w before after dry granted released (Waits set a b) = granted ≡ false
 Says v w before after dry granted released (Stays a b) = (released ≡ false) × (granted ≡ false) × (dry ≡ false)
 
-sends-on : (output : Output) (dry : Bool) → IfSome output.credit (λ n. dry ≡ not (nat_lt 1 n)) → (output.credit ≡ None → dry ≡ false) → not dry ≡ has_credit (spent false output)
+sends-on : (output : Output) (dry : Bool) → IfSome output.credit (λ n. dry ≡ not (nat_lt 1 n)) → (output.credit ≡ None → dry ≡ false) → not dry ≡ has_credit (output_after_spend false output)
 sends-on output dry some none = at output.credit refl some none
   where
     twice : (b : Bool) → not (not b) ≡ b
     twice true = refl
     twice false = refl
 
-    at : (credit : Option ℕ) → output.credit ≡ credit → IfSome credit (λ n. dry ≡ not (nat_lt 1 n)) → (credit ≡ None → dry ≡ false) → not dry ≡ has_credit (spent false output)
-    at None e h k = ap not (k refl) ∙ sym (ap (λ (x : Output). has_credit (spent false x)) (ap (λ c. record output { credit = c }) e))
+    at : (credit : Option ℕ) → output.credit ≡ credit → IfSome credit (λ n. dry ≡ not (nat_lt 1 n)) → (credit ≡ None → dry ≡ false) → not dry ≡ has_credit (output_after_spend false output)
+    at None e h k = ap not (k refl) ∙ sym (ap (λ (x : Output). has_credit (output_after_spend false x)) (ap (λ c. record output { credit = c }) e))
     at (Some n) e h k =
-        ap not h ∙ twice (nat_lt 1 n) ∙ shift (cases_lt 1 n) ∙ sym (ap (λ (x : Output). has_credit (spent false x)) (ap (λ c. record output { credit = c }) e))
+        ap not h ∙ twice (nat_lt 1 n) ∙ shift (cases_lt 1 n) ∙ sym (ap (λ (x : Output). has_credit (output_after_spend false x)) (ap (λ c. record output { credit = c }) e))
       where
         shift : (1 < n) ⊎ (n ≤ 1) → nat_lt 1 n ≡ nat_lt 0 (n - 1)
         shift (inl l) = lt-ltb 1 n l ∙ sym (lt-ltb 0 (n - 1) (omega arith))

@@ -7,7 +7,7 @@ use Rattle.noc_topo.specs.Words.{is_some_of}
 use Rattle.noc_topo.specs.Shape.{ports}
 use Rattle.noc_topo.proofs.WordLemmas.{get_or-tabulate, get_or-map_indexed}
 use Rattle.noc_packet.specs.Set.{has_bit}
-use Rattle.noc_alloc.specs.Arbiter.{Turn, turn_at, turned, advanced, pointers_of}
+use Rattle.noc_alloc.specs.Arbiter.{RoundRobin, arbiter_at, arbiter_after, pointer_after, pointers_of}
 use Rattle.noc_alloc.specs.Allocation.{pick_of, has_won, winning_pick, is_won_by}
 use Rattle.noc_alloc.proofs.ArbiterLemmas.{first_in_turn-picks}
 use Rattle.noc_alloc.proofs.SwitchLemmas.{won-is_pick_won}
@@ -70,28 +70,28 @@ module _ (v : View) (moved : ℕ) (some_vc : 0 < v.site.vcs) (are : AreMoved v m
 
   -- the pointers of the input ports go on
   module _ (f : Fields) (frame : IsFields (ports v.site.grid) f) (width : f.width ≡ v.site.vcs) (ahead : ℕ) (ahead_fits : ahead < 2 ^ 32) (moved_fits : moved < 2 ^ (ports v.site.grid * f.width))
-      (arbiters : length v.arbiters.inputs ≡ ports v.site.grid) (sizes : (p : ℕ) → p < ports v.site.grid → (turn_at v.arbiters.inputs p).size ≡ v.site.vcs)
-      (shows : (p : ℕ) → p < ports v.site.grid → ShowsPointer v.site.vcs ahead p (turn_at v.arbiters.inputs p).pointer) where
-    pub ahead-after : (p : ℕ) → p < ports v.site.grid → ShowsPointer v.site.vcs (lane_past f ahead moved) p (turn_at (arbiters_after (view_round v) v.arbiters).inputs p).pointer
+      (arbiters : length v.arbiters.inputs ≡ ports v.site.grid) (sizes : (p : ℕ) → p < ports v.site.grid → (arbiter_at v.arbiters.inputs p).size ≡ v.site.vcs)
+      (shows : (p : ℕ) → p < ports v.site.grid → ShowsPointer v.site.vcs ahead p (arbiter_at v.arbiters.inputs p).pointer) where
+    pub ahead-after : (p : ℕ) → p < ports v.site.grid → ShowsPointer v.site.vcs (lane_past f ahead moved) p (arbiter_at (arbiters_after (view_round v) v.arbiters).inputs p).pointer
     ahead-after p lp = subst (λ n. ShowsPointer v.site.vcs (lane_past f ahead moved) p n) (sym pointer) (at (slice_index_or (view_round v).picks p None) refl)
       where
-        pointer : (turn_at (arbiters_after (view_round v) v.arbiters).inputs p).pointer
-            ≡ advanced (turn_at v.arbiters.inputs p).size (turn_at v.arbiters.inputs p).pointer (winning_pick (view_round v).picks (view_round v).wins p)
+        pointer : (arbiter_at (arbiters_after (view_round v) v.arbiters).inputs p).pointer
+            ≡ pointer_after (arbiter_at v.arbiters.inputs p).size (arbiter_at v.arbiters.inputs p).pointer (winning_pick (view_round v).picks (view_round v).wins p)
         pointer =
-            ap (λ (t : Turn). t.pointer)
-            (get_or-map_indexed (λ i (t : Turn). turned t (winning_pick (view_round v).picks (view_round v).wins i)) v.arbiters.inputs p (record { size = 0; pointer = 0 }) (record { size = 0; pointer = 0 }) (omega (arith, arbiters)))
+            ap (λ (t : RoundRobin). t.pointer)
+            (get_or-map_indexed (λ i (t : RoundRobin). arbiter_after t (winning_pick (view_round v).picks (view_round v).wins i)) v.arbiters.inputs p (record { size = 0; pointer = 0 }) (record { size = 0; pointer = 0 }) (omega (arith, arbiters)))
 
-        stays : ((c : ℕ) → c < v.site.vcs → has_bit moved (p * v.site.vcs + c) ≡ false) → ShowsPointer v.site.vcs (lane_past f ahead moved) p (turn_at v.arbiters.inputs p).pointer
+        stays : ((c : ℕ) → c < v.site.vcs → has_bit moved (p * v.site.vcs + c) ≡ false) → ShowsPointer v.site.vcs (lane_past f ahead moved) p (arbiter_at v.arbiters.inputs p).pointer
         stays none =
-            subst (λ w. ShowsPointer w (lane_past f ahead moved) p (turn_at v.arbiters.inputs p).pointer) width
-            (past-stays (ports v.site.grid) f frame ahead moved p (turn_at v.arbiters.inputs p).pointer ahead_fits moved_fits lp
+            subst (λ w. ShowsPointer w (lane_past f ahead moved) p (arbiter_at v.arbiters.inputs p).pointer) width
+            (past-stays (ports v.site.grid) f frame ahead moved p (arbiter_at v.arbiters.inputs p).pointer ahead_fits moved_fits lp
             (λ c lc. ap (λ w. has_bit moved (p * w + c)) width ∙ none c (rw (sym width) lc))
-            (subst (λ w. ShowsPointer w ahead p (turn_at v.arbiters.inputs p).pointer) (sym width) (shows p lp)))
+            (subst (λ w. ShowsPointer w ahead p (arbiter_at v.arbiters.inputs p).pointer) (sym width) (shows p lp)))
 
         at : (o : Option ℕ) → slice_index_or (view_round v).picks p None ≡ o
-            → ShowsPointer v.site.vcs (lane_past f ahead moved) p (advanced (turn_at v.arbiters.inputs p).size (turn_at v.arbiters.inputs p).pointer (winning_pick (view_round v).picks (view_round v).wins p))
+            → ShowsPointer v.site.vcs (lane_past f ahead moved) p (pointer_after (arbiter_at v.arbiters.inputs p).size (arbiter_at v.arbiters.inputs p).pointer (winning_pick (view_round v).picks (view_round v).wins p))
         at None e =
-            subst (λ (o : Option ℕ). ShowsPointer v.site.vcs (lane_past f ahead moved) p (advanced (turn_at v.arbiters.inputs p).size (turn_at v.arbiters.inputs p).pointer o)) (sym (none-wins (has_won (view_round v).wins p)))
+            subst (λ (o : Option ℕ). ShowsPointer v.site.vcs (lane_past f ahead moved) p (pointer_after (arbiter_at v.arbiters.inputs p).size (arbiter_at v.arbiters.inputs p).pointer o)) (sym (none-wins (has_won (view_round v).wins p)))
             (stays (λ c lc. let q = at_place p c lp lc in are.each (p * v.site.vcs + c) q.0 ∙ rw (q.1, e) refl))
           where
             none-wins : (b : Bool) → (if b then slice_index_or (view_round v).picks p None else None) ≡ None
@@ -112,9 +112,9 @@ module _ (v : View) (moved : ℕ) (some_vc : 0 < v.site.vcs) (are : AreMoved v m
                     ∙ sym (ap (λ b. b && has_won (view_round v).wins p) (ne_eqb d c other))
 
             won : (b : Bool) → has_won (view_round v).wins p ≡ b
-                → ShowsPointer v.site.vcs (lane_past f ahead moved) p (advanced (turn_at v.arbiters.inputs p).size (turn_at v.arbiters.inputs p).pointer (if has_won (view_round v).wins p then slice_index_or (view_round v).picks p None else None))
+                → ShowsPointer v.site.vcs (lane_past f ahead moved) p (pointer_after (arbiter_at v.arbiters.inputs p).size (arbiter_at v.arbiters.inputs p).pointer (if has_won (view_round v).wins p then slice_index_or (view_round v).picks p None else None))
             won true eb =
-                subst (λ (o : Option ℕ). ShowsPointer v.site.vcs (lane_past f ahead moved) p (advanced (turn_at v.arbiters.inputs p).size (turn_at v.arbiters.inputs p).pointer o))
+                subst (λ (o : Option ℕ). ShowsPointer v.site.vcs (lane_past f ahead moved) p (pointer_after (arbiter_at v.arbiters.inputs p).size (arbiter_at v.arbiters.inputs p).pointer o))
                 (sym (ap (λ b. if b then slice_index_or (view_round v).picks p None else None) eb ∙ e))
                 (subst (λ n. ShowsPointer v.site.vcs (lane_past f ahead moved) p ((d + 1) % n)) (sym (sizes p lp))
                 (subst (λ w. ShowsPointer w (lane_past f ahead moved) p ((d + 1) % w)) width
@@ -125,7 +125,7 @@ module _ (v : View) (moved : ℕ) (some_vc : 0 < v.site.vcs) (are : AreMoved v m
                 alone true = refl
                 alone false = refl
             won false eb =
-                subst (λ (o : Option ℕ). ShowsPointer v.site.vcs (lane_past f ahead moved) p (advanced (turn_at v.arbiters.inputs p).size (turn_at v.arbiters.inputs p).pointer o))
+                subst (λ (o : Option ℕ). ShowsPointer v.site.vcs (lane_past f ahead moved) p (pointer_after (arbiter_at v.arbiters.inputs p).size (arbiter_at v.arbiters.inputs p).pointer o))
                 (sym (ap (λ b. if b then slice_index_or (view_round v).picks p None else None) eb))
                 (stays (λ c lc. bit c lc ∙ ap (λ b. nat_eq d c && b) eb ∙ off (nat_eq d c)))
               where

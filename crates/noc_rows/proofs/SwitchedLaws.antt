@@ -10,7 +10,7 @@ use Rattle.noc_topo.specs.Shape.{ports}
 use Rattle.noc_packet.specs.Set.{has_bit}
 use Rattle.noc_packet.specs.declared.packet.Flit.{Flit}
 use Rattle.noc_packet.proofs.SetLemmas.{both_members, either_members, has_bit-zero}
-use Rattle.noc_alloc.specs.Arbiter.{Turn, turn_at, pointers_of}
+use Rattle.noc_alloc.specs.Arbiter.{RoundRobin, arbiter_at, pointers_of}
 use Rattle.noc_route.specs.Routes.{Routes}
 use Rattle.noc_vc.specs.Input.{is_active, is_empty, is_idle_phase}
 use Rattle.noc_vc.specs.declared.input.InputState.{InputState}
@@ -126,8 +126,8 @@ module _ (relation : Routes) (frame : Frame) (x : Surroundings) (v : View) (stil
       Shows p = ShowsPhase b.column b.marks v.site i p
 
   -- ---- what the switch goes by
-  pointers-at : (q : ℕ) → q < ports v.site.grid → slice_index (pointers_of v.arbiters.outputs) q ≡ (turn_at v.arbiters.outputs q).pointer
-  pointers-at q lq = let long = still.arbiters.outputs.count in get_or-map (λ (t : Turn). t.pointer) v.arbiters.outputs q (record { size = 0; pointer = 0 }) 0 (omega (arith, lq, long))
+  pointers-at : (q : ℕ) → q < ports v.site.grid → slice_index (pointers_of v.arbiters.outputs) q ≡ (arbiter_at v.arbiters.outputs q).pointer
+  pointers-at q lq = let long = still.arbiters.outputs.count in get_or-map (λ (t : RoundRobin). t.pointer) v.arbiters.outputs q (record { size = 0; pointer = 0 }) 0 (omega (arith, lq, long))
 
   port-of : (k : ℕ) → k < size_of v.site → k / v.site.vcs < ports v.site.grid
   port-of k l = div_below k v.site.vcs (ports v.site.grid) still.size.some l
@@ -138,22 +138,22 @@ module _ (relation : Routes) (frame : Frame) (x : Surroundings) (v : View) (stil
       let e : k / v.site.vcs * v.site.vcs + k % v.site.vcs ≡ k = div-add-mod' k v.site.vcs in
       omega arith
 
-  ports-show : (q : ℕ) → q < ports v.site.grid → ShowsPorts v.site.vcs (ports v.site.grid) (a.marks.port_turn q) (turn_at v.arbiters.outputs q).pointer
+  ports-show : (q : ℕ) → q < ports v.site.grid → ShowsPorts v.site.vcs (ports v.site.grid) (a.marks.port_turn q) (arbiter_at v.arbiters.outputs q).pointer
   ports-show q lq = from (shows.turns.outputs q 0 lq first)
     where
       first : 0 < size_of v.site
       first = let m : 0 * v.site.vcs + 0 < v.site.vcs * ports v.site.grid = mul-add-lt 0 v.site.vcs 0 (ports v.site.grid) (omega arith) still.size.some in omega (arith, m)
 
-      from : (has_bit (a.marks.port_turn q) 0 ≡ nat_le (turn_at v.arbiters.outputs q).pointer (0 / v.site.vcs))
-          ⊎ (((turn_at v.arbiters.outputs q).pointer ≡ 0) × ((k : ℕ) → k < size_of v.site → has_bit (a.marks.port_turn q) k ≡ false))
-          → ShowsPorts v.site.vcs (ports v.site.grid) (a.marks.port_turn q) (turn_at v.arbiters.outputs q).pointer
+      from : (has_bit (a.marks.port_turn q) 0 ≡ nat_le (arbiter_at v.arbiters.outputs q).pointer (0 / v.site.vcs))
+          ⊎ (((arbiter_at v.arbiters.outputs q).pointer ≡ 0) × ((k : ℕ) → k < size_of v.site → has_bit (a.marks.port_turn q) k ≡ false))
+          → ShowsPorts v.site.vcs (ports v.site.grid) (a.marks.port_turn q) (arbiter_at v.arbiters.outputs q).pointer
       from (inr none) = inr (none.0, λ k l. none.1 k (within k l))
       from (inl is) = inl (λ k l. each k (within k l) (shows.turns.outputs q k lq (within k l)))
         where
           each : (k : ℕ) → k < size_of v.site
-              → (has_bit (a.marks.port_turn q) k ≡ nat_le (turn_at v.arbiters.outputs q).pointer (k / v.site.vcs))
-              ⊎ (((turn_at v.arbiters.outputs q).pointer ≡ 0) × ((i : ℕ) → i < size_of v.site → has_bit (a.marks.port_turn q) i ≡ false))
-              → has_bit (a.marks.port_turn q) k ≡ nat_le (turn_at v.arbiters.outputs q).pointer (k / v.site.vcs)
+              → (has_bit (a.marks.port_turn q) k ≡ nat_le (arbiter_at v.arbiters.outputs q).pointer (k / v.site.vcs))
+              ⊎ (((arbiter_at v.arbiters.outputs q).pointer ≡ 0) × ((i : ℕ) → i < size_of v.site → has_bit (a.marks.port_turn q) i ≡ false))
+              → has_bit (a.marks.port_turn q) k ≡ nat_le (arbiter_at v.arbiters.outputs q).pointer (k / v.site.vcs)
           each k l (inl e) = e
           each k l (inr none) = absurd (false≢true (sym (none.1 0 first) ∙ is ∙ ap (λ p. nat_le p (0 / v.site.vcs)) none.0 ∙ le-leb 0 (0 / v.site.vcs) (omega arith)))
 
@@ -166,7 +166,7 @@ module _ (relation : Routes) (frame : Frame) (x : Surroundings) (v : View) (stil
     to_port = λ q k lq l e. put.to_port q k lq l ∙ ap (sends_by v.site.vcs q) (kept k (view_input v k).phase refl (picked-is k l e).0);
     pointers = λ q lq. subst (λ p. p < ports v.site.grid) (sym (pointers-at q lq)) (still.arbiters.outputs.pointers q lq);
     turns = λ q lq. subst (λ p. ShowsPorts v.site.vcs (ports v.site.grid) (b.marks.port_turn q) p) (sym (pointers-at q lq))
-        (subst (λ (turn : ℕ → ℕ). ShowsPorts v.site.vcs (ports v.site.grid) (turn q) (turn_at v.arbiters.outputs q).pointer) (sym put.port_turn) (ports-show q lq));
+        (subst (λ (turn : ℕ → ℕ). ShowsPorts v.site.vcs (ports v.site.grid) (turn q) (arbiter_at v.arbiters.outputs q).pointer) (sym put.port_turn) (ports-show q lq));
     within = still.tidy.owned_below;
   }
     where

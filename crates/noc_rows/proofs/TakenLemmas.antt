@@ -9,9 +9,9 @@ use Rattle.noc_topo.specs.Shape.{ports}
 use Rattle.noc_packet.specs.declared.packet.Flit.{Flit}
 use Rattle.noc_packet.specs.declared.packet.Beat.{Beat}
 use Rattle.noc_route.specs.Routes.{Routes}
-use Rattle.noc_vc.specs.Input.{Input, idle_input, fits, landed}
-use Rattle.noc_vc.specs.Output.{Output, ejection_output, credit_fits, credited}
-use Rattle.noc_router.specs.View.{Site, View, size_of, has_link, view_buffer, view_input, view_output, with_misfit, with_landed, with_flit, with_credit, taken, taken_from, all_taken}
+use Rattle.noc_vc.specs.Input.{Input, idle_input, fits, input_after_land}
+use Rattle.noc_vc.specs.Output.{Output, ejection_output, credit_fits, output_after_credit}
+use Rattle.noc_router.specs.View.{Site, View, size_of, has_link, view_buffer, view_input, view_output, with_misfit, with_landed, with_flit, with_credit, view_after_take, view_after_takes_from, view_after_takes}
 use Rattle.noc_rows.specs.Taken.{flit_on_vc, flit_by, credit_by, flit_from, credit_from, with_one, landed_by, credited_by, HasTaken, HasSize}
 
 -- ---- a misfit stays
@@ -32,13 +32,13 @@ credit-stays : (port : ℕ) (credit : Option ℕ) (v : View) → 0 < v.misfits �
 credit-stays port None v l = l
 credit-stays port (Some vc) v l =
     either (has_link v.site port && nat_lt vc v.site.vcs && credit_fits (view_output v (port * v.site.vcs + vc)))
-    (record v { outputs = slice_set v.outputs (port * v.site.vcs + vc) (credited (view_output v (port * v.site.vcs + vc))); had_event = true }) v (λ h. h) l
+    (record v { outputs = slice_set v.outputs (port * v.site.vcs + vc) (output_after_credit (view_output v (port * v.site.vcs + vc))); had_event = true }) v (λ h. h) l
 
-taken-stays : (relation : Routes) (port : ℕ) (beats : List Beat) (v : View) → 0 < v.misfits → 0 < (taken_from relation port beats v).misfits
-unfolding taken
+taken-stays : (relation : Routes) (port : ℕ) (beats : List Beat) (v : View) → 0 < v.misfits → 0 < (view_after_takes_from relation port beats v).misfits
+unfolding view_after_take
 taken-stays relation port [] v l = l
 taken-stays relation port (beat ∷ beats) v l =
-    taken-stays relation (port + 1) beats (taken relation port beat v) (credit-stays port beat.credit (with_flit relation port beat.flit v) (flit-stays relation port beat.flit v l))
+    taken-stays relation (port + 1) beats (view_after_take relation port beat v) (credit-stays port beat.credit (with_flit relation port beat.flit v) (flit-stays relation port beat.flit v l))
 
 none-before : (v w : View) → (0 < v.misfits → 0 < w.misfits) → w.misfits ≡ 0 → v.misfits ≡ 0
 none-before v w stays e = at (cases_lt 0 v.misfits)
@@ -167,11 +167,11 @@ flit-taken relation port (Some (vc, f)) v size l none =
                 → view_input (with_landed (port * v.site.vcs + vc) f v) i ≡ landed_by (view_input v i) (flit_by v.site.vcs port (Some (vc, f)) i)
             input i u (inl same) =
                 ap (λ n. view_input (with_landed (port * v.site.vcs + vc) f v) n) same
-                ∙ get_or-set_same v.inputs (port * v.site.vcs + vc) (landed (view_input v (port * v.site.vcs + vc)) f) idle_input (omega (arith, within, size.inputs))
-                ∙ ap (λ n. landed (view_input v n) f) (sym same)
+                ∙ get_or-set_same v.inputs (port * v.site.vcs + vc) (input_after_land (view_input v (port * v.site.vcs + vc)) f) idle_input (omega (arith, within, size.inputs))
+                ∙ ap (λ n. input_after_land (view_input v n) f) (sym same)
                 ∙ ap (landed_by (view_input v i)) (sym (flit_by-here v.site.vcs port vc i f small same))
             input i u (inr other) =
-                get_or-set_other v.inputs (port * v.site.vcs + vc) i (landed (view_input v (port * v.site.vcs + vc)) f) idle_input other
+                get_or-set_other v.inputs (port * v.site.vcs + vc) i (input_after_land (view_input v (port * v.site.vcs + vc)) f) idle_input other
                 ∙ ap (landed_by (view_input v i)) (sym (flit_by-other v.site.vcs port vc i f size.some other))
 
             fit : (i : ℕ) → i < size_of v.site → (i ≡ port * v.site.vcs + vc) ⊎ (i ≡ port * v.site.vcs + vc → ⊥)
@@ -208,11 +208,11 @@ credit-taken relation port (Some vc) v size l none =
         absurd (omega (
           arith,
           misfit-some v,
-          ap (λ (b : Bool). (if b then record v { outputs = slice_set v.outputs (port * v.site.vcs + vc) (credited (view_output v (port * v.site.vcs + vc))); had_event = true } else with_misfit v).misfits) e,
+          ap (λ (b : Bool). (if b then record v { outputs = slice_set v.outputs (port * v.site.vcs + vc) (output_after_credit (view_output v (port * v.site.vcs + vc))); had_event = true } else with_misfit v).misfits) e,
           none,
         ))
     at true e =
-        subst (λ (b : Bool). HasTaken relation v (if b then record v { outputs = slice_set v.outputs (port * v.site.vcs + vc) (credited (view_output v (port * v.site.vcs + vc))); had_event = true } else with_misfit v) (λ i. None)
+        subst (λ (b : Bool). HasTaken relation v (if b then record v { outputs = slice_set v.outputs (port * v.site.vcs + vc) (output_after_credit (view_output v (port * v.site.vcs + vc))); had_event = true } else with_misfit v) (λ i. None)
         (credit_by v.site.vcs port (Some vc))) (sym e) it
       where
         parts : (nat_lt vc v.site.vcs ≡ true) × (credit_fits (view_output v (port * v.site.vcs + vc)) ≡ true)
@@ -226,7 +226,7 @@ credit-taken relation port (Some vc) v size l none =
         within : port * v.site.vcs + vc < size_of v.site
         within = let m : port * v.site.vcs + vc < v.site.vcs * ports v.site.grid = mul-add-lt port v.site.vcs vc (ports v.site.grid) l small in omega arith
 
-        it : HasTaken relation v (record v { outputs = slice_set v.outputs (port * v.site.vcs + vc) (credited (view_output v (port * v.site.vcs + vc))); had_event = true }) (λ i. None) (credit_by v.site.vcs port (Some vc))
+        it : HasTaken relation v (record v { outputs = slice_set v.outputs (port * v.site.vcs + vc) (output_after_credit (view_output v (port * v.site.vcs + vc))); had_event = true }) (λ i. None) (credit_by v.site.vcs port (Some vc))
         it = record {
           buffer = λ i u. refl;
           input = λ i u. refl;
@@ -240,14 +240,14 @@ credit-taken relation port (Some vc) v size l none =
         }
           where
             output : (o : ℕ) → o < size_of v.site → (o ≡ port * v.site.vcs + vc) ⊎ (o ≡ port * v.site.vcs + vc → ⊥)
-                → slice_index_or (slice_set v.outputs (port * v.site.vcs + vc) (credited (view_output v (port * v.site.vcs + vc)))) o ejection_output ≡ credited_by (view_output v o) (credit_by v.site.vcs port (Some vc) o)
+                → slice_index_or (slice_set v.outputs (port * v.site.vcs + vc) (output_after_credit (view_output v (port * v.site.vcs + vc)))) o ejection_output ≡ credited_by (view_output v o) (credit_by v.site.vcs port (Some vc) o)
             output o u (inl same) =
-                ap (λ n. slice_index_or (slice_set v.outputs (port * v.site.vcs + vc) (credited (view_output v (port * v.site.vcs + vc)))) n ejection_output) same
-                ∙ get_or-set_same v.outputs (port * v.site.vcs + vc) (credited (view_output v (port * v.site.vcs + vc))) ejection_output (omega (arith, within, size.outputs))
-                ∙ ap (λ n. credited (view_output v n)) (sym same)
+                ap (λ n. slice_index_or (slice_set v.outputs (port * v.site.vcs + vc) (output_after_credit (view_output v (port * v.site.vcs + vc)))) n ejection_output) same
+                ∙ get_or-set_same v.outputs (port * v.site.vcs + vc) (output_after_credit (view_output v (port * v.site.vcs + vc))) ejection_output (omega (arith, within, size.outputs))
+                ∙ ap (λ n. output_after_credit (view_output v n)) (sym same)
                 ∙ ap (credited_by (view_output v o)) (sym (credit_by-here v.site.vcs port vc o small same))
             output o u (inr other) =
-                get_or-set_other v.outputs (port * v.site.vcs + vc) o (credited (view_output v (port * v.site.vcs + vc))) ejection_output other
+                get_or-set_other v.outputs (port * v.site.vcs + vc) o (output_after_credit (view_output v (port * v.site.vcs + vc))) ejection_output other
                 ∙ ap (credited_by (view_output v o)) (sym (credit_by-other v.site.vcs port vc o size.some other))
 
             fit : (o : ℕ) → o < size_of v.site → credit_by v.site.vcs port (Some vc) o ≡ true → (o ≡ port * v.site.vcs + vc) ⊎ (o ≡ port * v.site.vcs + vc → ⊥) → credit_fits (view_output v o) ≡ true
@@ -321,9 +321,9 @@ HasSize-kept relation v w f c t size =
     }
 
 -- a whole beat
-one-taken : (relation : Routes) (port : ℕ) (beat : Beat) (v : View) → HasSize v → port < ports v.site.grid → (taken relation port beat v).misfits ≡ 0
-    → HasTaken relation v (taken relation port beat v) (flit_by v.site.vcs port beat.flit) (credit_by v.site.vcs port beat.credit)
-unfolding taken
+one-taken : (relation : Routes) (port : ℕ) (beat : Beat) (v : View) → HasSize v → port < ports v.site.grid → (view_after_take relation port beat v).misfits ≡ 0
+    → HasTaken relation v (view_after_take relation port beat v) (flit_by v.site.vcs port beat.flit) (credit_by v.site.vcs port beat.credit)
+unfolding view_after_take
 one-taken relation port beat v size l none =
     let landed_first : (with_flit relation port beat.flit v).misfits ≡ 0 = none-before (with_flit relation port beat.flit v) (with_credit port beat.credit (with_flit relation port beat.flit v)) (credit-stays port beat.credit (with_flit relation port beat.flit v)) none in
     let first = flit-taken relation port beat.flit v size l landed_first in
@@ -345,23 +345,23 @@ credit_from-before vcs port [] o l = refl
 credit_from-before vcs port (beat ∷ beats) o l = rw (ne_eqb (o / vcs) port (λ e. absurd (omega arith))) (credit_from-before vcs (port + 1) beats o (omega arith))
 
 -- ---- all beats
-pub all-taken-from : (relation : Routes) (port : ℕ) (beats : List Beat) (v : View) → HasSize v → port + length beats ≤ ports v.site.grid → (taken_from relation port beats v).misfits ≡ 0
-    → HasTaken relation v (taken_from relation port beats v) (flit_from v.site.vcs port beats) (credit_from v.site.vcs port beats)
+pub all-taken-from : (relation : Routes) (port : ℕ) (beats : List Beat) (v : View) → HasSize v → port + length beats ≤ ports v.site.grid → (view_after_takes_from relation port beats v).misfits ≡ 0
+    → HasTaken relation v (view_after_takes_from relation port beats v) (flit_from v.site.vcs port beats) (credit_from v.site.vcs port beats)
 all-taken-from relation port [] v size l none = taken-nothing relation v
 all-taken-from relation port (beat ∷ beats) v size l none =
-    let one_none : (taken relation port beat v).misfits ≡ 0 = none-before (taken relation port beat v) (taken_from relation (port + 1) beats (taken relation port beat v)) (taken-stays relation (port + 1) beats (taken relation port beat v)) none in
+    let one_none : (view_after_take relation port beat v).misfits ≡ 0 = none-before (view_after_take relation port beat v) (view_after_takes_from relation (port + 1) beats (view_after_take relation port beat v)) (taken-stays relation (port + 1) beats (view_after_take relation port beat v)) none in
     let first = one-taken relation port beat v size (omega arith) one_none in
-    let same : (taken relation port beat v).site ≡ v.site = ap (λ (x : View). x.site) first.rest in
-    let later = all-taken-from relation (port + 1) beats (taken relation port beat v) (HasSize-kept relation v (taken relation port beat v) (flit_by v.site.vcs port beat.flit) (credit_by v.site.vcs port beat.credit) first size) (rw same (omega arith)) none in
-    taken-both relation v (taken relation port beat v) (taken_from relation (port + 1) beats (taken relation port beat v))
-    (flit_by v.site.vcs port beat.flit) (flit_from (taken relation port beat v).site.vcs (port + 1) beats) (flit_from v.site.vcs port (beat ∷ beats))
-    (credit_by v.site.vcs port beat.credit) (credit_from (taken relation port beat v).site.vcs (port + 1) beats) (credit_from v.site.vcs port (beat ∷ beats))
+    let same : (view_after_take relation port beat v).site ≡ v.site = ap (λ (x : View). x.site) first.rest in
+    let later = all-taken-from relation (port + 1) beats (view_after_take relation port beat v) (HasSize-kept relation v (view_after_take relation port beat v) (flit_by v.site.vcs port beat.flit) (credit_by v.site.vcs port beat.credit) first size) (rw same (omega arith)) none in
+    taken-both relation v (view_after_take relation port beat v) (view_after_takes_from relation (port + 1) beats (view_after_take relation port beat v))
+    (flit_by v.site.vcs port beat.flit) (flit_from (view_after_take relation port beat v).site.vcs (port + 1) beats) (flit_from v.site.vcs port (beat ∷ beats))
+    (credit_by v.site.vcs port beat.credit) (credit_from (view_after_take relation port beat v).site.vcs (port + 1) beats) (credit_from v.site.vcs port (beat ∷ beats))
     (λ i. flit i same (cases_eq (i / v.site.vcs) port))
     (λ o. credit o same (cases_eq (o / v.site.vcs) port))
     first later
   where
-    flit : (i : ℕ) → (taken relation port beat v).site ≡ v.site → (i / v.site.vcs ≡ port) ⊎ (i / v.site.vcs ≡ port → ⊥)
-        → IsEither None (flit_by v.site.vcs port beat.flit i) (flit_from (taken relation port beat v).site.vcs (port + 1) beats i) (flit_from v.site.vcs port (beat ∷ beats) i)
+    flit : (i : ℕ) → (view_after_take relation port beat v).site ≡ v.site → (i / v.site.vcs ≡ port) ⊎ (i / v.site.vcs ≡ port → ⊥)
+        → IsEither None (flit_by v.site.vcs port beat.flit i) (flit_from (view_after_take relation port beat v).site.vcs (port + 1) beats i) (flit_from v.site.vcs port (beat ∷ beats) i)
     flit i same (inl e) = inr (
       ap (λ (s : Site). flit_from s.vcs (port + 1) beats i) same ∙ flit_from-before v.site.vcs (port + 1) beats i (omega arith),
       rw (eq-eqb (i / v.site.vcs) port e) refl,
@@ -371,8 +371,8 @@ all-taken-from relation port (beat ∷ beats) v size l none =
       rw (ne_eqb (i / v.site.vcs) port o) (ap (λ (s : Site). flit_from s.vcs (port + 1) beats i) (sym same)),
     )
 
-    credit : (i : ℕ) → (taken relation port beat v).site ≡ v.site → (i / v.site.vcs ≡ port) ⊎ (i / v.site.vcs ≡ port → ⊥)
-        → IsEither false (credit_by v.site.vcs port beat.credit i) (credit_from (taken relation port beat v).site.vcs (port + 1) beats i) (credit_from v.site.vcs port (beat ∷ beats) i)
+    credit : (i : ℕ) → (view_after_take relation port beat v).site ≡ v.site → (i / v.site.vcs ≡ port) ⊎ (i / v.site.vcs ≡ port → ⊥)
+        → IsEither false (credit_by v.site.vcs port beat.credit i) (credit_from (view_after_take relation port beat v).site.vcs (port + 1) beats i) (credit_from v.site.vcs port (beat ∷ beats) i)
     credit i same (inl e) = inr (
       ap (λ (s : Site). credit_from s.vcs (port + 1) beats i) same ∙ credit_from-before v.site.vcs (port + 1) beats i (omega arith),
       rw (eq-eqb (i / v.site.vcs) port e) refl,
@@ -383,7 +383,7 @@ all-taken-from relation port (beat ∷ beats) v size l none =
     )
 
 -- a router that has taken its beats, and has no misfit
-pub all-taken : (relation : Routes) (beats : List Beat) (v : View) → HasSize v → length beats ≤ ports v.site.grid → (all_taken relation beats v).misfits ≡ 0
-    → HasTaken relation v (all_taken relation beats v) (flit_from v.site.vcs 0 beats) (credit_from v.site.vcs 0 beats)
-unfolding all_taken
+pub all-taken : (relation : Routes) (beats : List Beat) (v : View) → HasSize v → length beats ≤ ports v.site.grid → (view_after_takes relation beats v).misfits ≡ 0
+    → HasTaken relation v (view_after_takes relation beats v) (flit_from v.site.vcs 0 beats) (credit_from v.site.vcs 0 beats)
+unfolding view_after_takes
 all-taken relation beats v size l none = all-taken-from relation 0 beats v size (omega arith) none

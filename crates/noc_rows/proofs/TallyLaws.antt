@@ -5,11 +5,11 @@ use Rattle.noc_topo.specs.Shape.{nodes, ports}
 use Rattle.noc_topo.proofs.WordLemmas.{get_or-tabulate, length-tabulate}
 use Rattle.noc_packet.specs.Set.{has_bit}
 use Rattle.noc_packet.proofs.SetLemmas.{both_members, has_bit-zero}
-use Rattle.noc_alloc.specs.Arbiter.{turn_at}
+use Rattle.noc_alloc.specs.Arbiter.{arbiter_at}
 use Rattle.noc_router.specs.Counts.{one_if}
 use Rattle.noc_router.specs.Members.{AreBelow}
 use Rattle.noc_router.specs.Standing.{is_won_from}
-use Rattle.noc_router.specs.View.{Site, View, first_flit, is_tail, local_channel, planned, size_of, view_input, view_round}
+use Rattle.noc_router.specs.View.{Site, View, first_flit, is_tail, local_channel, decisions_of, size_of, view_input, view_round}
 use Rattle.noc_model.specs.declared.limits.TheConstants.{CYCLE_LIMIT}
 use Rattle.noc_model.specs.Good.{IsGoodSetup}
 use Rattle.noc_model.specs.Lockstep.{counts_before, view_at, view_in}
@@ -134,7 +134,7 @@ module _ (net : Setup) (setup : IsGoodSetup net) (n r : ℕ) (l : r < nodes net.
       let are = (frozen-arbiters net setup n r l).inputs in
       record {
         ahead = shows.turns.inputs;
-        pointers = subst (λ (s : Site). (p : ℕ) → p < ports s.grid → (turn_at (frozen_view net setup n r l).arbiters.inputs p).pointer < s.vcs) (sym (frozen-seen net setup n r l).site) are.pointers;
+        pointers = subst (λ (s : Site). (p : ℕ) → p < ports s.grid → (arbiter_at (frozen_view net setup n r l).arbiters.inputs p).pointer < s.vcs) (sym (frozen-seen net setup n r l).site) are.pointers;
         arbiters = are.count ∙ sym (ap (λ (s : Site). ports s.grid) (frozen-seen net setup n r l).site);
       }
 
@@ -199,7 +199,7 @@ module _ (net : Setup) (setup : IsGoodSetup net) (n r : ℕ) (l : r < nodes net.
         subst (λ h. ShowsLastEvent (if nat_eq (bit_or (bit_or (bit_or (bit_or landed credited) h) e.granted) e.moved) 0 then last else (n + 1) % 2 ^ 32) (view_at net (suc n) r).last_event) (sym heads-same)
         (subst (λ (u : View). ShowsLastEvent (if nat_eq (bit_or (bit_or (bit_or (bit_or landed credited) (lane_heads filled c)) e.granted) e.moved) 0 then last else (n + 1) % 2 ^ 32) u.last_event) (next-count net setup n r l few)
         (event-put (if nat_eq (bit_or (bit_or (bit_or (bit_or landed credited) (lane_heads filled c)) e.granted) e.moved) 0 then last else (n + 1) % 2 ^ 32) net.relation (view_at net n r) (beats net setup n r l) n
-        (event-after (planned net.relation v) v last (bit_or (bit_or (bit_or (bit_or landed credited) (lane_heads filled c)) e.granted) e.moved) n
+        (event-after (decisions_of net.relation v) v last (bit_or (bit_or (bit_or (bit_or landed credited) (lane_heads filled c)) e.granted) e.moved) n
         (subst (ShowsLastEvent last) (sym frozen-keeps.1) before) frozen-keeps.2 (omega (arith, few))
         (event-decided net.relation 5 f c v filled lost e shows.words effects (frame-here f frame) (width-here f width) shows.channels fill (turns-here c m shows) decided granted_below moved_below landed credited had))))
 

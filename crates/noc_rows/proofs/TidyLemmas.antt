@@ -20,7 +20,7 @@ use Rattle.noc_router.specs.Counts.{one_if}
 use Rattle.noc_router.specs.Sound.{owns, is_owned_from}
 use Rattle.noc_router.specs.View.{Site, View, size_of, view_buffer, view_output}
 use Rattle.noc_model.specs.Lockstep.{has_come, seen_flits, seen_input, seen_output, seen_phase_with, seen_holder, seen_source, goes_on_by}
-use Rattle.noc_model.specs.Network.{Setup, State, Located, Place, Source, On, In, Out, size, arriving, leaving, packet_at, place_of, tail_place, is_on, is_in, is_past, owner_of, next_channel, has_channel, count_in, count_on, credit_of, buffer_of}
+use Rattle.noc_model.specs.Network.{Setup, State, Located, Place, Source, On, In, Out, size, arriving, leaving, packet_at, place_of_flit, tail_place, is_on, is_in, is_past, owner_of, next_channel, has_channel, count_in, count_on, credit_of, buffer_of}
 use Rattle.noc_model.specs.Progress.{head_place}
 use Rattle.noc_model.proofs.BufferLemmas.{same_channel-refl}
 use Rattle.noc_model.proofs.GrantLemmas.{Has-below}
@@ -41,18 +41,18 @@ use Rattle.noc_rows.proofs.SteadyLemmas.{IsSteady, Sends, sends-active, sends-ow
 
 module _ (net : Setup) (good : IsGood net) (S : State) (x : IsSteady net good S) where
   -- what a flit at a place takes of a channel
-  pub in-some : (c : Channel) (p i : ℕ) → IsValid net p i → is_in c (place_of net S p i) ≡ true → 0 < count_in net S c
+  pub in-some : (c : Channel) (p i : ℕ) → IsValid net p i → is_in c (place_of_flit net S p i) ≡ true → 0 < count_in net S c
   in-some c p i v e = at (count_in net S c) refl
     where
       at : (k : ℕ) → count_in net S c ≡ k → 0 < count_in net S c
-      at zero h = absurd (false≢true (sym (filter-none (λ (f : Located). is_in c f.place) S.at (record { packet = p; index = i; place = place_of net S p i }) h (flit-there net S x.keyed p i v)) ∙ e))
+      at zero h = absurd (false≢true (sym (filter-none (λ (f : Located). is_in c f.place) S.at (record { packet = p; index = i; place = place_of_flit net S p i }) h (flit-there net S x.keyed p i v)) ∙ e))
       at (suc k) h = omega (arith, h)
 
-  pub on-some : (c : Channel) (p i : ℕ) → IsValid net p i → is_on c (place_of net S p i) ≡ true → 0 < count_on net S c
+  pub on-some : (c : Channel) (p i : ℕ) → IsValid net p i → is_on c (place_of_flit net S p i) ≡ true → 0 < count_on net S c
   on-some c p i v e = at (count_on net S c) refl
     where
       at : (k : ℕ) → count_on net S c ≡ k → 0 < count_on net S c
-      at zero h = absurd (false≢true (sym (filter-none (λ (f : Located). is_on c f.place) S.at (record { packet = p; index = i; place = place_of net S p i }) h (flit-there net S x.keyed p i v)) ∙ e))
+      at zero h = absurd (false≢true (sym (filter-none (λ (f : Located). is_on c f.place) S.at (record { packet = p; index = i; place = place_of_flit net S p i }) h (flit-there net S x.keyed p i v)) ∙ e))
       at (suc k) h = omega (arith, h)
 
   -- a channel that nobody owns holds nothing, and all its credits are there

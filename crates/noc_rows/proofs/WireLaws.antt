@@ -9,7 +9,7 @@ use Rattle.noc_topo.proofs.WordLemmas.{get_or-tabulate}
 use Rattle.noc_packet.specs.declared.packet.Beat.{Beat}
 use Rattle.noc_router.specs.View.{Site, View, Decisions, idle_beat, beat_out}
 use Rattle.noc_model.specs.Network.{Setup}
-use Rattle.noc_model.specs.Lockstep.{beat_from, beats_at, exchanged}
+use Rattle.noc_model.specs.Lockstep.{beat_from, beats_at, wires_after_puts}
 use Rattle.noc_rows.specs.Column.{Leads, LeadsTo, place_of}
 use Rattle.noc_rows.specs.Taken.{flit_from, flit_on_vc, credit_from}
 
@@ -39,24 +39,24 @@ credit-at vcs port (beat ∷ beats) o l = elim (cases_eq (o / vcs) port) [
 ]
 
 module _ (net : Setup) (sent : List (List Beat)) (r : ℕ) (router : r < nodes net.relation.grid) where
-  exchanged-at : (p : ℕ) → p < local_port net.relation.grid → slice_index_or (beats_at (exchanged net sent) r) p idle_beat ≡ beat_from sent (neighbour net.relation.grid r p)
-  unfolding exchanged
+  exchanged-at : (p : ℕ) → p < local_port net.relation.grid → slice_index_or (beats_at (wires_after_puts net sent) r) p idle_beat ≡ beat_from sent (neighbour net.relation.grid r p)
+  unfolding wires_after_puts
   exchanged-at p l =
       ap (λ (xs : List Beat). get_or xs p idle_beat)
       (get_or-tabulate (nodes net.relation.grid) r (λ k. tabulate (local_port net.relation.grid) (λ port. beat_from sent (neighbour net.relation.grid k port))) [] router)
       ∙ get_or-tabulate (local_port net.relation.grid) p (λ port. beat_from sent (neighbour net.relation.grid r port)) idle_beat l
 
   -- the flit that comes to an input channel of a link, and whether a credit comes to an output channel of it
-  pub flit-comes : (vcs i : ℕ) → i / vcs < local_port net.relation.grid → flit_from vcs 0 (beats_at (exchanged net sent) r) i ≡ flit_on_vc (i % vcs) (beat_from sent (neighbour net.relation.grid r (i / vcs))).flit
+  pub flit-comes : (vcs i : ℕ) → i / vcs < local_port net.relation.grid → flit_from vcs 0 (beats_at (wires_after_puts net sent) r) i ≡ flit_on_vc (i % vcs) (beat_from sent (neighbour net.relation.grid r (i / vcs))).flit
   flit-comes vcs i l =
-      flit-at vcs 0 (beats_at (exchanged net sent) r) i (omega arith)
-      ∙ ap (λ n. flit_on_vc (i % vcs) (slice_index_or (beats_at (exchanged net sent) r) n idle_beat).flit) (let z : i / vcs - 0 ≡ i / vcs = omega arith in z)
+      flit-at vcs 0 (beats_at (wires_after_puts net sent) r) i (omega arith)
+      ∙ ap (λ n. flit_on_vc (i % vcs) (slice_index_or (beats_at (wires_after_puts net sent) r) n idle_beat).flit) (let z : i / vcs - 0 ≡ i / vcs = omega arith in z)
       ∙ ap (λ (b : Beat). flit_on_vc (i % vcs) b.flit) (exchanged-at (i / vcs) l)
 
-  pub credit-comes : (vcs o : ℕ) → o / vcs < local_port net.relation.grid → credit_from vcs 0 (beats_at (exchanged net sent) r) o ≡ is_some_of (beat_from sent (neighbour net.relation.grid r (o / vcs))).credit (o % vcs)
+  pub credit-comes : (vcs o : ℕ) → o / vcs < local_port net.relation.grid → credit_from vcs 0 (beats_at (wires_after_puts net sent) r) o ≡ is_some_of (beat_from sent (neighbour net.relation.grid r (o / vcs))).credit (o % vcs)
   credit-comes vcs o l =
-      credit-at vcs 0 (beats_at (exchanged net sent) r) o (omega arith)
-      ∙ ap (λ n. is_some_of (slice_index_or (beats_at (exchanged net sent) r) n idle_beat).credit (o % vcs)) (let z : o / vcs - 0 ≡ o / vcs = omega arith in z)
+      credit-at vcs 0 (beats_at (wires_after_puts net sent) r) o (omega arith)
+      ∙ ap (λ n. is_some_of (slice_index_or (beats_at (wires_after_puts net sent) r) n idle_beat).credit (o % vcs)) (let z : o / vcs - 0 ≡ o / vcs = omega arith in z)
       ∙ ap (λ (b : Beat). is_some_of b.credit (o % vcs)) (exchanged-at (o / vcs) l)
 
 -- the beat that a router has put for a port

@@ -3,7 +3,7 @@ use Rattle.std.specs.Prelude.{◌≡◌, ◌⊎◌, ℕ, ◌+◌, ◌*◌, ◌/�
 use Rattle.noc_topo.specs.Shape.{Grid, nodes, ports, local_port, neighbour}
 use Rattle.noc_packet.specs.Set.{has_bit}
 use Rattle.noc_packet.specs.declared.packet.Flit.{Flit}
-use Rattle.noc_alloc.specs.Arbiter.{turn_at}
+use Rattle.noc_alloc.specs.Arbiter.{arbiter_at}
 use Rattle.noc_vc.specs.Input.{Input, is_active, is_waiting, is_empty}
 use Rattle.noc_vc.specs.Output.{Output, is_free}
 use Rattle.noc_vc.specs.declared.input.InputState.{InputState}
@@ -87,11 +87,11 @@ pub record ShowsChannels (c : Column) (v : View) : Type 0 where
 
 -- the pointers of the arbiters
 pub record ShowsTurns (c : Column) (m : RouterMarks) (v : View) : Type 0 where
-  pub inputs : (p : ℕ) → p < ports v.site.grid → ShowsPointer v.site.vcs c.ahead p (turn_at v.arbiters.inputs p).pointer
-  pub channels : (o : ℕ) → o < size_of v.site → ShowsPointer (size_of v.site) (m.turn o) 0 (turn_at v.arbiters.channels o).pointer
+  pub inputs : (p : ℕ) → p < ports v.site.grid → ShowsPointer v.site.vcs c.ahead p (arbiter_at v.arbiters.inputs p).pointer
+  pub channels : (o : ℕ) → o < size_of v.site → ShowsPointer (size_of v.site) (m.turn o) 0 (arbiter_at v.arbiters.channels o).pointer
   pub outputs : (q i : ℕ) → q < ports v.site.grid → i < size_of v.site
-      → (has_bit (m.port_turn q) i ≡ nat_le (turn_at v.arbiters.outputs q).pointer (i / v.site.vcs))
-      ⊎ (((turn_at v.arbiters.outputs q).pointer ≡ 0) × ((k : ℕ) → k < size_of v.site → has_bit (m.port_turn q) k ≡ false))
+      → (has_bit (m.port_turn q) i ≡ nat_le (arbiter_at v.arbiters.outputs q).pointer (i / v.site.vcs))
+      ⊎ (((arbiter_at v.arbiters.outputs q).pointer ≡ 0) × ((k : ℕ) → k < size_of v.site → has_bit (m.port_turn q) k ≡ false))
 
 -- the place of channel i of router r: 32 channels for each router
 abbrev pub place_of : ℕ → ℕ → ℕ

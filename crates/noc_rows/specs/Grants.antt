@@ -4,7 +4,7 @@ use Rattle.std.specs.Int.{trailing_zeros, w32}
 use Rattle.noc_topo.specs.Words.{is_some_of}
 use Rattle.noc_topo.specs.Shape.{ports}
 use Rattle.noc_packet.specs.Set.{has_bit}
-use Rattle.noc_alloc.specs.Arbiter.{turn_at}
+use Rattle.noc_alloc.specs.Arbiter.{arbiter_at}
 use Rattle.noc_vc.specs.declared.input.InputState.{InputState}
 use Rattle.noc_vc.specs.declared.input.InputState.TheVariants.{Active}
 use Rattle.noc_router.specs.Requests.{is_given}
@@ -151,7 +151,7 @@ pub record ShowsGrants (a b : Allocation) (outs : ℕ) (v : View) : Type 0 where
   pub taken : (o : ℕ) → o < size_of v.site → has_bit outs o ≡ is_some (slice_index_or (view_round v).grants o None)
   pub column : b.column ≡ record a.column { wanted = b.column.wanted; idle = less a.column.idle outs; supplied = bit_or a.column.supplied b.granted }
   pub turns : (o : ℕ) → o < size_of v.site
-      → ShowsPointer (size_of v.site) (b.marks.turn o) 0 (turn_at (arbiters_after (view_round v) v.arbiters).channels o).pointer
+      → ShowsPointer (size_of v.site) (b.marks.turn o) 0 (arbiter_at (arbiters_after (view_round v) v.arbiters).channels o).pointer
   pub phases : (k : ℕ) → k < size_of v.site → ShowsPhase b.column b.marks v.site k (phase_granted v k)
   pub owners : (o k : ℕ) → o < size_of v.site → slice_index_or (view_round v).grants o None ≡ Some k → b.marks.owner o ≡ k
   pub others : (o : ℕ) → o < size_of v.site → slice_index_or (view_round v).grants o None ≡ None → b.marks.owner o ≡ a.marks.owner o

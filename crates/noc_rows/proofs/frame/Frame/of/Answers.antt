@@ -28,7 +28,7 @@ loop-index-preserved c =
 pub returns-clause-frame : goal.returns-clause-frame
 returns-clause-frame c =
     let all : c.ports-ports.result * c.vcs-vcs.result ≡ ports c.args.relation.now.grid * c.args.relation.now.vcs =
-        ap₂ (λ a b. a * b) (c.ports-ports.ensures.value ∙ ap ports c.shape.ensures.value) c.vcs-vcs.ensures.value in
+    ap₂ (λ a b. a * b) (c.ports-ports.ensures.value ∙ ap ports c.shape.ensures.value) c.vcs-vcs.ensures.value in
     let done = c.loop-index-test.false in
     record {
       nodes_are = search rules;
