@@ -50,7 +50,7 @@ set-all net n first views b f v c w =
       wide = omega arith;
       count = c;
       placed = λ i d l.
-          subst (λ (z : ℕ). Rattle.noc_net.specs.Halves.IsPlaced net.relation z (get_or views i d)) (omega arith) (subst (λ (vs : List View). Rattle.noc_net.specs.Halves.IsPlaced net.relation i (get_or vs i d)) (sym v) (placed_views net n i d (omega arith)));
+          subst (λ (z : ℕ). Rattle.noc_net.specs.Halves.HasItsBeats net.relation z (get_or views i d)) (omega arith) (subst (λ (vs : List View). Rattle.noc_net.specs.Halves.HasItsBeats net.relation i (get_or vs i d)) (sym v) (placed_views net n i d (omega arith)));
       linked = λ r q l. w r q ∙ linked_wires net n r q l;
       idle = λ r q h. w r q ∙ past_wires net n r q (⊎_elim (λ z. absurd (omega arith)) (λ z. omega arith) (own-outside first (length views) r h));
       within = λ j l. absurd (omega arith);
