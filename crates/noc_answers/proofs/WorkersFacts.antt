@@ -1,5 +1,5 @@
 -- Workers change no report.
-use Rattle.std.proofs.Common.{◌≡◌, ◌<◌, ◌≤◌, ℕ, Bool, true, false, List, Option, Some, None, refl, sym, ◌∙◌, arith, inl, inr}
+use Rattle.std.proofs.Common.{◌≡◌, ◌<◌, ◌≤◌, ℕ, Bool, true, false, List, Some, None, refl, sym, ◌∙◌, arith, inl, inr}
 use Rattle.std.specs.Prelude.{◌⊎◌, nat_lt, if◌then◌else◌}
 use Rattle.std.proofs.lemmas.Bool.{cases_lt, false≢true, lt-ltb, ltb-true}
 use Rattle.noc_topo.specs.Shape.{Grid, nodes}
@@ -8,14 +8,12 @@ use Rattle.noc_files.specs.Configuration.{Settings}
 use Rattle.noc_requests.specs.Asked.{as_files, as_joined, files_of}
 use Rattle.noc_requests.specs.Options.{late_fault}
 use Rattle.noc_requests.specs.Settings.{AsksForRelation}
-use Rattle.noc_requests.specs.declared.fault.OptionFault.{OptionFault}
 use Rattle.noc_requests.specs.declared.fault.OptionFault.TheVariants.{BadWorkers}
 use Rattle.noc_requests.specs.declared.request.Command.TheVariants as command
 use Rattle.noc_requests.specs.declared.request.Report.{Report}
 use Rattle.noc_requests.specs.declared.request.Request.{Request}
 use Rattle.noc_requests.specs.declared.status.Status.{Status}
 use Rattle.noc_answers.specs.Answer.{Asks, AsksFor, a_report, accepted, by_workers, findings, ranks, traces}
-use Rattle.noc_answers.specs.Run.{AsksForRun}
 use Rattle.noc_answers.proofs.OneAnswerFacts.{one_answer}
 
 module _ (r : Request) (report : Report) (drain : Bool) (many few : ℕ) (less : few ≤ many) where

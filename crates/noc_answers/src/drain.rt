@@ -3,6 +3,7 @@
 ghost use Rattle.std.specs.Prelude.{◌≡◌, ◌≢◌, ◌⊎◌, ◌+◌, ◌-◌, ◌<◌, ◌≤◌, min, true, false, IfErr, IfNone, IfOk, IfSome};
 ghost use Rattle.noc_tiles.specs.declared.fault.RunFault.TheVariants.{LostWorker};
 ghost use Rattle.noc_answers.specs.Drain.{DrainsAt, RunsTo, is_out_at};
+ghost use Rattle.noc_model.specs.declared.limits.TheConstants.{CYCLE_LIMIT};
 ghost use Rattle.noc_tiles.specs.declared.limits.TheConstants.{MAX_WORKERS};
 
 use noc_files::MAX_CYCLES;
@@ -14,6 +15,9 @@ use std::thread::Threads;
 
 // After how many cycles a run that is to drain looks again whether every packet is out.
 const DRAIN_CHECK_INTERVAL: u64 = 64;
+
+// How many cycles workers run at most before it is looked whether anything still happens.
+const STRETCH: u64 = 8192;
 
 // Runs a network that has not run for so many cycles, and on where it is to drain.
 pub(crate) fn run_to_end(network: &mut Network, cycles: u64, drain: bool)
@@ -44,7 +48,7 @@ pub(crate) fn run_to_end_by_workers<R: Threads + Wait + Sync>(
     ensures end { IfOk result (λ n. RunsTo drain n.net cycles n.count) }
     ensures lost { IfErr result (λ e. e ≢ LostWorker) }
 {
-    let network = run_tiles(rt, alloc, network, cycles, workers, &AllOpen)?;
+    let network = run_stretches(rt, alloc, network, cycles, workers)?;
     if drain {
         run_on_by_workers(rt, alloc, network, workers)
     } else {
@@ -77,9 +81,60 @@ fn run_on_by_workers<R: Threads + Wait + Sync>(
 {
     let limit = network.limit();
     while let Some(cycles) = next_piece(&network, limit) {
-        network = run_tiles(rt, alloc, network, cycles, workers, &AllOpen)?;
+        network = run_stretch(rt, alloc, network, cycles, workers)?;
     }
     Ok(network)
+}
+
+// Runs so many cycles of a network by two or more workers, stretch by stretch.
+fn run_stretches<R: Threads + Wait + Sync>(
+    rt: &R,
+    alloc: Global,
+    mut network: Network,
+    cycles: u64,
+    workers: usize,
+) -> Result<Network, RunFault>
+    requires end { network.count + cycles ≤ CYCLE_LIMIT }
+    requires workers { (1 < workers) × (workers ≤ MAX_WORKERS) }
+    ensures net { IfOk result (λ n. n ≡ record network { count = network.count + cycles }) }
+    ensures lost { IfErr result (λ e. e ≢ LostWorker) }
+{
+    let mut left = cycles;
+    while left > 0 {
+        let stretch = STRETCH.min(left);
+        network = run_stretch(rt, alloc, network, stretch, workers)?;
+        left -= stretch;
+    }
+    Ok(network)
+}
+
+// Runs a stretch of cycles: by workers, or by one where nothing happened in the last cycle, since its time jumps.
+fn run_stretch<R: Threads + Wait + Sync>(
+    rt: &R,
+    alloc: Global,
+    mut network: Network,
+    cycles: u64,
+    workers: usize,
+) -> Result<Network, RunFault>
+    requires end { network.count + cycles ≤ CYCLE_LIMIT }
+    requires workers { (1 < workers) × (workers ≤ MAX_WORKERS) }
+    ensures net { IfOk result (λ n. n ≡ record network { count = network.count + cycles }) }
+    ensures lost { IfErr result (λ e. e ≢ LostWorker) }
+{
+    if is_at_rest(&network) {
+        network.run(cycles);
+        Ok(network)
+    } else {
+        run_tiles(rt, alloc, network, cycles, workers, &AllOpen)
+    }
+}
+
+// Whether a network has run, and nothing happened in its last cycle.
+fn is_at_rest(network: &Network) -> bool {
+    match network.count().checked_sub(1) {
+        Some(last) => network.last_event() != Some(last),
+        None => false,
+    }
 }
 
 // How many cycles a network that is to drain runs next: up to the next look or the limit, and none where it has drained.

@@ -1,4 +1,4 @@
-use Rattle.std.proofs.Common.{◌≡◌, ◌∙◌, ◌<◌, ◌+◌, ℕ, Bool, true, false, Option, Some, None, refl, arith, ap, length, subst, sym}
+use Rattle.std.proofs.Common.{◌≡◌, ◌∙◌, ◌<◌, ◌+◌, ℕ, Bool, true, false, Option, Some, None, refl, ap, subst, sym}
 use Rattle.std.specs.Prelude.{is_some, nat_le, if◌then◌else◌}
 use Rattle.std.proofs.lemmas.Bool.{leb-false}
 use Rattle.std.specs.Option.{IfSome}
@@ -8,7 +8,7 @@ use Rattle.noc_route.specs.Routes.{Routes}
 use Rattle.noc_files.specs.Configuration.{Settings, settings}
 use Rattle.noc_files.specs.declared.trace.Traced.{Traced}
 use Rattle.noc_requests.specs.Asked.{lent_files}
-use Rattle.noc_requests.specs.Options.{cycle_fault, early_fault, first_cycle, is_bad_span, last_cycle, late_fault, or_option_fault, packet_option_fault, router_fault, table_fault}
+use Rattle.noc_requests.specs.Options.{early_fault, first_cycle, is_bad_span, last_cycle, late_fault, or_option_fault, packet_option_fault, router_fault, table_fault}
 use Rattle.noc_requests.specs.declared.fault.OptionFault.{OptionFault}
 use Rattle.noc_requests.specs.declared.fault.OptionFault.TheVariants.{BadCycle, BadRouter}
 use Rattle.noc_requests.specs.declared.request.Command.{Command}

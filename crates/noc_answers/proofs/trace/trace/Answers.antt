@@ -1,15 +1,14 @@
-use Rattle.std.proofs.Common.{◌≡◌, ◌∙◌, ◌<◌, ◌≤◌, ◌+◌, ◌-◌, ℕ, List, Ok, Err, Option, ap, arith, false, inr, length, refl, subst, sym}
+use Rattle.std.proofs.Common.{◌≡◌, ◌∙◌, ◌<◌, ◌≤◌, ◌+◌, ◌-◌, ℕ, Option, ap, arith, false, inr, refl, subst, sym}
 use Rattle.std.specs.Prelude.{◌||◌, nat_le, nat_lt}
 use Rattle.std.proofs.lemmas.Bool.{leb-false, ltb-false, or_parts}
 use Rattle.noc_net.specs.Network.{Run, Setup}
 use Rattle.noc_files.specs.Trace.{trace_text}
 use Rattle.noc_files.specs.declared.trace.Traced.{Traced}
-use Rattle.noc_files.specs.Writing.{Wrote}
 use Rattle.noc_requests.specs.Asked.{lent_files}
 use Rattle.noc_requests.specs.Options.{first_cycle, is_bad_span, last_cycle}
 use Rattle.noc_requests.specs.declared.status.Status.TheVariants.{Done}
 use Rattle.noc_answers.specs.Answer.{AsksFor, in_packets, runs, traces}
-use Rattle.noc_answers.specs.Run.{AsksForRun, bad_network}
+use Rattle.noc_answers.specs.Run.{bad_network}
 use Rattle.noc_answers.proofs.trace.trace.Goals as goal
 
 -- a span that is not bad lies in the run
