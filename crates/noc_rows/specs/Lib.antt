@@ -25,3 +25,5 @@ pub mod Blank
 pub mod Opened
 pub mod Switched
 pub mod Cycle
+pub mod Whole
+pub mod Stages
