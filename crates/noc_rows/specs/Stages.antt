@@ -8,7 +8,7 @@ use Rattle.noc_rows.specs.Passes.{lane_asks, lane_heads, lane_standing, lane_ver
 use Rattle.noc_rows.specs.Rows.{column_at, effects_at, event_in, planes_of, standing_at, word}
 use Rattle.noc_rows.specs.Switched.{AreApart, MovesFlits, ReleasesTails, moved_by}
 use Rattle.noc_rows.specs.Tallied.{cycles_of, sheet_counts, with_verdicts}
-use Rattle.noc_rows.specs.Wires.{inbox_at, room_of}
+use Rattle.noc_rows.specs.Wires.{inbox_at}
 use Rattle.noc_rows.specs.declared.block.Block.{Block}
 use Rattle.noc_rows.specs.declared.cycle.DecidedRows.{DecidedRows}
 use Rattle.noc_rows.specs.declared.frame.Frame.{Frame}
@@ -106,15 +106,13 @@ pub record HasConcluded (frame : Frame) (cycle : ℕ) (old new : Block) (before 
 
 -- ---- what each pass makes of all blocks
 
--- .. of the blocks that are awake; one that is asleep, its in-box and its ring stay
-pub record HaveFrozen (frame : Frame) (cycle : ℕ) (starts : List Start) (old new : List Block) (before after : Wires) : Type 0 where
+-- .. of the blocks that are awake, where rings have so much room; one that is asleep stays as it is, with its in-box
+pub record HaveFrozen (frame : Frame) (cycle room : ℕ) (starts : List Start) (old new : List Block) (before after : List Inbox) : Type 0 where
   pub many : length new ≡ length old
-  pub awake : (b : ℕ) (was is : Block) → slice_get old b ≡ Some was → slice_get new b ≡ Some is → was.awake ≡ true
-      → HasFrozen frame cycle (room_of before.room) starts was is (inbox_at before.inboxes.items b) (inbox_at after.inboxes.items b)
-  pub asleep : (b : ℕ) (was : Block) → slice_get old b ≡ Some was → was.awake ≡ false
-      → (slice_get new b ≡ Some was) × (inbox_at after.inboxes.items b ≡ inbox_at before.inboxes.items b)
-  pub wires : after ≡ record before { inboxes = after.inboxes }
-  pub inboxes : length after.inboxes.items ≡ length before.inboxes.items
+  pub inboxes : length after ≡ length before
+  pub awake : (b : ℕ) (was is : Block) → slice_get old b ≡ Some was → slice_get new b ≡ Some is → was.awake ≡ true → b < length before
+      → HasFrozen frame cycle room starts was is (inbox_at before b) (inbox_at after b)
+  pub asleep : (b : ℕ) (was : Block) → slice_get old b ≡ Some was → was.awake ≡ false → (slice_get new b ≡ Some was) × (inbox_at after b ≡ inbox_at before b)
 
 -- one block after the other has decided: `Decides b was is before after` is what it is for block b, and `at b` are the wires when it begins
 pub record HaveDecided (Decides : ℕ → Block → Block → Wires → Wires → Type 0) (old new : List Block) (before after : Wires) : Type 0 where
