@@ -95,3 +95,5 @@ pub mod MarkedLaws
 pub mod FitLaws
 pub mod SettledLaws
 pub mod CycleLaws
+pub mod PassAll
+pub mod StageLemmas

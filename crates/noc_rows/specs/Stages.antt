@@ -130,4 +130,4 @@ pub record HaveConcluded (frame : Frame) (cycle near : ℕ) (old new : List Bloc
   pub awake : (b : ℕ) (was is : Block) (sheet next : Sheet) → slice_get old b ≡ Some was → slice_get new b ≡ Some is → slice_get before b ≡ Some sheet → slice_get after b ≡ Some next
       → was.awake ≡ true → HasConcluded frame cycle was is sheet next
   pub asleep : (b : ℕ) (was : Block) → slice_get old b ≡ Some was → was.awake ≡ false → (slice_get new b ≡ Some was) × (slice_get after b ≡ slice_get before b)
-  pub near_is : (b q : ℕ) (is : Block) → slice_get new b ≡ Some is → is.awake ≡ true → is.moves ≡ true → has_bit is.near q ≡ true → has_bit near q ≡ true
+  pub near_is : (b q : ℕ) (is : Block) → slice_get new b ≡ Some is → b < length before → is.awake ≡ true → is.moves ≡ true → has_bit is.near q ≡ true → has_bit near q ≡ true
