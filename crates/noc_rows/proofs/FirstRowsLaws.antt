@@ -1,15 +1,17 @@
 -- Rows before the first cycle show a network at count 0.
-use Rattle.std.proofs.Common.{◌≡◌, ℕ, zero, suc, ◌+◌, ◌*◌, ◌/◌, ◌<◌, ◌≤◌, false, List, length, replicate, get_or, refl, ap, sym, subst, ◌∙◌, inl, arith, bit_or, slice_index}
-use Rattle.std.specs.Prelude.{◌||◌, ◌-◌, Bool, Option, Some, None, min, nat_eq, not, slice_get}
+use Rattle.std.proofs.Common.{◌≡◌, ℕ, zero, suc, ◌+◌, ◌*◌, ◌/◌, ◌<◌, ◌≤◌, false, List, length}
+use Rattle.std.proofs.Common.{replicate, get_or, refl, ap, sym, subst, ◌∙◌, inl, arith}
+use Rattle.std.specs.Prelude.{◌||◌, ◌-◌, Bool, Some, min, nat_eq, not, slice_get}
 use Rattle.std.proofs.lemmas.List.{get_or-replicate, length-replicate}
 use Rattle.std.proofs.lemmas.Option.{get_or_from_slice_get, slice_get_within}
-use Rattle.noc_topo.specs.Shape.{nodes, ports}
+use Rattle.noc_topo.specs.Shape.{nodes}
 use Rattle.noc_packet.specs.declared.packet.Packet.{Packet}
+use Rattle.noc_route.specs.Routes.{Routes}
 use Rattle.noc_model.specs.Good.{IsGoodPacket, IsGoodSetup}
 use Rattle.noc_model.specs.Lockstep.{beats_at, beats_in, view_at}
 use Rattle.noc_model.specs.Network.{Setup, Place, Source, arrival_in, opening_state, out_cycle, packet_at, state_at, tail_place}
 use Rattle.noc_model.proofs.OpeningLemmas.{at-source}
-use Rattle.noc_rows.specs.Blank.{IsBlank}
+use Rattle.noc_rows.specs.Blank.{AreNone, IsBlank}
 use Rattle.noc_rows.specs.Column.{Column, place_of}
 use Rattle.noc_rows.specs.Frames.{IsFrame}
 use Rattle.noc_rows.specs.InRows.{ShowsRouter}
@@ -19,7 +21,7 @@ use Rattle.noc_rows.specs.Outlook.{holding_in, some_below}
 use Rattle.noc_rows.specs.Rows.{column_at, planes_of, word}
 use Rattle.noc_rows.specs.Source.{source_at}
 use Rattle.noc_rows.specs.Tallied.{cycles_of, no_counts, sheet_counts}
-use Rattle.noc_rows.specs.Whole.{IsQuiet, IsRows, ShowsArrival, ShowsBlock, lane_words}
+use Rattle.noc_rows.specs.Whole.{IsRows, ShowsArrival, ShowsBlock, lane_words}
 use Rattle.noc_rows.specs.Wires.{inbox_at, room_of}
 use Rattle.noc_rows.specs.declared.block.Block.{Block}
 use Rattle.noc_rows.specs.declared.block.Source.{Source as Feed}
@@ -41,9 +43,17 @@ none-below test (suc n) none =
     let before : false ≡ some_below test n = none-below test n (λ k l. none k (omega (arith, l))) in
     ap (λ b. b || false) before ∙ ap (λ b. some_below test n || b) (sym (none n (omega arith)))
 
--- an empty column holds nothing
-holds-nothing : (links local : ℕ) (places : List ℕ) → holding_in (empty_column links local places) ≡ 0
-holds-nothing links local places = refl
+-- a network is what it is built from
+pub same-setup : (net : Setup) (relation : Routes) (places : ℕ) (packets : List Packet)
+    → net.relation ≡ relation → net.places ≡ places → net.packets ≡ packets
+    → net ≡ record { relation = relation; places = places; packets = packets }
+same-setup net relation places packets r n ps =
+    ap (λ (x : Routes). made x net.places net.packets) r
+    ∙ ap (λ x. made relation x net.packets) n
+    ∙ ap (λ (xs : List Packet). made relation places xs) ps
+  where
+    made : Routes → ℕ → List Packet → Setup
+    made relation places packets = record { relation = relation; places = places; packets = packets }
 
 -- what all rows before the first cycle are made of
 pub record AreFirstRows (net : Setup) (rows : Rows) : Type 0 where
@@ -90,7 +100,7 @@ module _ (net : Setup) (setup : IsGoodSetup net) where
         record {
           waiting = ap (λ (x : Column). x.waiting) c;
           active = ap (λ (x : Column). x.active) c;
-          len = subst (λ (x : Column). Rattle.noc_rows.specs.Blank.AreNone x.len) (sym c) (refl, (refl, (refl, (refl, (refl, tt)))));
+          len = subst (λ (x : Column). AreNone x.len) (sym c) (refl, (refl, (refl, (refl, (refl, tt)))));
           supplied = ap (λ (x : Column). x.supplied) c;
           wanted = ap (λ (x : Column). x.wanted) c;
           injecting = ap (λ (x : Column). x.injecting) c;
@@ -145,7 +155,11 @@ module _ (net : Setup) (setup : IsGoodSetup net) where
       flags = ap (λ (xs : List Bool). length xs) first.wires.busy ∙ length-replicate (min (length rows.blocks.items) 8 + 1) false ∙ omega (arith, few)
 
       places : net.places ≤ room_of rows.wires.room
-      places = let few = first.frame.few_places in let are = first.frame.places_are in let r = first.wires.room (omega (arith, few, are)) in omega (arith, r, are)
+      places =
+          let few = first.frame.few_places in
+          let are = first.frame.places_are in
+          let enough = first.wires.room (omega (arith, few, are)) in
+          omega (arith, enough, are)
 
       arrivals : rows.wires.arrivals.items ≡ replicate (length net.packets + 1) NEVER
       arrivals =
@@ -153,8 +167,12 @@ module _ (net : Setup) (setup : IsGoodSetup net) where
           let count : min (length net.packets) 20000 + 1 ≡ length net.packets + 1 = omega (arith, few_packets) in
           first.wires.arrivals ∙ ap (λ n. replicate n NEVER) count
 
+      shows : ℕ → Block → Sheet → List Start → Type 0
+      shows b block sheet starts =
+          ShowsBlock net 0 rows.frame starts (room_of rows.wires.room) (length rows.blocks.items) b block sheet (inbox_at rows.wires.inboxes.items b)
+
       at : (b : ℕ) (block : Block) (sheet : Sheet) → slice_get rows.blocks.items b ≡ Some block → slice_get rows.sheets.items b ≡ Some sheet
-          → ShowsBlock net 0 rows.frame rows.starts.items (room_of rows.wires.room) (length rows.blocks.items) b block sheet (inbox_at rows.wires.inboxes.items b)
+          → shows b block sheet rows.starts.items
       at b block sheet there counted =
           let within : b < length rows.blocks.items = slice_get_within rows.blocks.items b block there in
           let counted_is : slice_get (replicate (length rows.blocks.items) first.sheet) b ≡ Some sheet =
@@ -162,7 +180,7 @@ module _ (net : Setup) (setup : IsGoodSetup net) where
           let same : first.sheet ≡ sheet =
           sym (get_or-replicate (length rows.blocks.items) b first.sheet first.sheet within)
           ∙ get_or_from_slice_get (replicate (length rows.blocks.items) first.sheet) b sheet first.sheet counted_is in
-          subst (λ (starts : List Start). ShowsBlock net 0 rows.frame starts (room_of rows.wires.room) (length rows.blocks.items) b block sheet (inbox_at rows.wires.inboxes.items b)) (sym starts)
+          subst (shows b block sheet) (sym starts)
           (block-opens rows.frame first.frame (length rows.blocks.items) b block sheet (inbox_at rows.wires.inboxes.items b) (room_of rows.wires.room)
           (λ j k l. ap (λ (s : Sheet). sheet_counts s j k) (sym same) ∙ first.counts j k l) (ap cycles_of (sym same) ∙ first.cycles)
           (first.blocks.each b block there) (inbox b within))
