@@ -97,3 +97,4 @@ pub mod SettledLaws
 pub mod CycleLaws
 pub mod PassAll
 pub mod StageLemmas
+pub mod FirstRowsLaws

@@ -45,6 +45,12 @@ pub struct Rows {
 }
 
 impl Rows {
+    ghost use Rattle.std.specs.Prelude.{◌*◌, ◌&&◌, IfOk, IfSome, is_some, nat_le};
+    ghost use Rattle.noc_model.specs.Good.{IsGoodSetup};
+    ghost use Rattle.noc_model.specs.Network.{Setup};
+    ghost use Rattle.noc_topo.specs.Shape.{ports as ports_of};
+    ghost use Rattle.noc_rows.specs.Whole.{IsRows};
+
     /// The network of a relation, `places` (1 to 16 flits) in each buffer and these packets, before its first cycle.
     /// None where a router has more than 31 channels, or there are more places.
     pub fn new(
@@ -52,7 +58,10 @@ impl Rows {
         relation: &Relation,
         places: usize,
         packets: &[Packet],
-    ) -> Result<Option<Rows>, Memory> {
+    ) -> Result<Option<Rows>, Memory>
+        ensures rows { (net : Setup) → net.relation ≡ relation.now → net.places ≡ places → net.packets ≡ packets.now → IsGoodSetup net → IfOk result (λ made. IfSome made (IsRows net 0)) }
+        ensures some { IfOk result (λ made. is_some made ≡ (nat_le (ports_of relation.now.grid * relation.now.vcs) 31 && nat_le places 16)) }
+    {
         let Some(frame) = Frame::of(relation, places) else {
             return Ok(None);
         };
