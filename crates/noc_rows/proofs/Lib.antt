@@ -95,3 +95,4 @@ pub mod MarkedLaws
 pub mod FitLaws
 pub mod SettledLaws
 pub mod CycleLaws
+pub mod LaneNext
