@@ -1,7 +1,7 @@
 -- The lane of a router in a block that is awake: once it is frozen, and what its ports select of it.
-use Rattle.std.proofs.Common.{◌≡◌, ℕ, ◌+◌, ◌*◌, ◌/◌, ◌%◌, ◌^◌, ◌<◌, ◌≤◌, Bool, true, false, List, [], ◌∷◌, length, map, Option, Some, None, refl, ap, ap₂, sym, ◌∙◌, subst, arith, bit_and}
-use Rattle.std.specs.Prelude.{◌&&◌, nat_eq, nat_le, nat_lt, slice_get, slice_index, slice_index_or}
-use Rattle.std.proofs.lemmas.Bool.{and_parts, eqb-true, false≢true, true≢false}
+use Rattle.std.proofs.Common.{◌≡◌, ◌≢◌, ℕ, ◌+◌, ◌*◌, ◌/◌, ◌%◌, ◌^◌, ◌<◌, ◌≤◌, Bool, true, false, List, [], ◌∷◌, length, map, Option, Some, None, refl, ap, ap₂, sym, ◌∙◌, subst, arith, inl, inr, bit_and}
+use Rattle.std.specs.Prelude.{◌⊎◌, ◌&&◌, nat_eq, nat_le, nat_lt, slice_get, slice_index, slice_index_or}
+use Rattle.std.proofs.lemmas.Bool.{and_parts, cases_eq, eqb-true, false≢true, true≢false}
 use Rattle.noc_topo.specs.Words.{tabulate}
 use Rattle.noc_topo.specs.Shape.{local_port, neighbour, nodes, ports}
 use Rattle.noc_topo.proofs.WordLemmas.{get_or-tabulate, length-tabulate}
@@ -25,11 +25,11 @@ use Rattle.noc_rows.specs.Column.{Column, IsColumn, Leads, RouterMarks, ShowsHol
 use Rattle.noc_rows.specs.Cycle.{AreTails, HasChosen, Surroundings, chosen_by}
 use Rattle.noc_rows.specs.FlitWords.{FitsWord, flit_word}
 use Rattle.noc_rows.specs.Frames.{IsFrame}
-use Rattle.noc_rows.specs.Grants.{Allocation, leads_by, leads_to}
+use Rattle.noc_rows.specs.Grants.{Allocation, ShowsGrants, leads_by, leads_to}
 use Rattle.noc_rows.specs.InRows.{ShowsRouter}
 use Rattle.noc_rows.specs.Moves.{ports_of, selected_by, selected_in, to_port_in, turn_in, union_from}
 use Rattle.noc_rows.specs.Opened.{IsLinked}
-use Rattle.noc_rows.specs.Passes.{lane_heads, lane_picked}
+use Rattle.noc_rows.specs.Passes.{lane_asks, lane_heads, lane_picked}
 use Rattle.noc_rows.specs.Planes.{words_of}
 use Rattle.noc_rows.specs.Routed.{sets_by}
 use Rattle.noc_rows.specs.Rows.{allocation_at, by_port, column_at, marks_at, of_router, planes_of, word}
@@ -50,6 +50,7 @@ use Rattle.noc_rows.proofs.FrozenWires.{frozen_of}
 use Rattle.noc_rows.proofs.LeadLaws.{back-leads, lead-leads}
 use Rattle.noc_rows.proofs.MoveLaws.{moved-is}
 use Rattle.noc_rows.proofs.NetworkLaws.{beats, beats-taken, frozen-seen, frozen_view, start-size, start-tidy}
+use Rattle.noc_rows.proofs.RoundLaws.{AreRound, round-allocated, round-quiet}
 use Rattle.noc_rows.proofs.SwitchLemmas.{AreMoved}
 use Rattle.noc_rows.proofs.SwitchedLaws.{active-granted, active-headless, chosen-below, chosen-is, moved-below, moved-picked, moving, picked-is, union-same}
 
@@ -270,6 +271,34 @@ module _ (net : Setup) (setup : IsGoodSetup net) (n r : ℕ) (l : r < nodes net.
             tail = ap (λ (xs : List Flit). is_tail (slice_get xs 0)) is_some;
             packet = ap (λ (xs : List Flit). packet_of (slice_get xs 0)) is_some;
           }
+
+      -- the channels that its ports choose
+      pub lane-moved : (AreMoved (frozen_of net n r) (union_from 0 (ports_of frame) (chosen_by (lane_picked frame.fields (word frozen.arrived.filled k) (column_at frozen.lanes k)) (marks_at chosen.marks k))))
+          × AreBelow (size_of (frozen_of net n r).site) (union_from 0 (ports_of frame) (chosen_by (lane_picked frame.fields (word frozen.arrived.filled k) (column_at frozen.lanes k)) (marks_at chosen.marks k)))
+      lane-moved =
+          let same = ap (λ n. union_from 0 n (chosen_by (lane_picked frame.fields (word frozen.arrived.filled k) (column_at frozen.lanes k)) (marks_at chosen.marks k))) stands.ports_are in (
+            subst (AreMoved (frozen_of net n r)) (sym same) sent-moves,
+            subst (AreBelow (size_of (frozen_of net n r).site)) (sym same) (subst (λ s. AreBelow s all_moved) (sym size-same) sent-below),
+          )
+
+      -- its grants, its losses and these moves are those of the round
+      pub lane-round : (moves : ℕ) → AreMoved (frozen_of net n r) moves → AreBelow (size_of (frozen_of net n r).site) moves
+          → AreRound (frozen_view net setup n r l) (word chosen.decided.granted k) (word chosen.decided.lost k) moves
+      lane-round moves are below =
+          subst (λ g. AreRound v g (word chosen.decided.lost k) moves) (sym (ap (λ (a : Allocation). a.granted) has.rest))
+          (subst (λ t. AreRound v has.granted.granted t moves) (sym (ap (λ (a : Allocation). a.lost) has.rest)) (at (cases_eq (lane_asks (column_at frozen.lanes k)) 0)))
+        where
+          grants : ShowsGrants (allocation_in frozen k) has.granted (given net.relation frame x (frozen_view net setup n r l) stands (allocation_in frozen k) (allocation_in chosen k) (routes_in frozen k) (routes_in chosen k) is.column no_grant no_loss has).outs v
+          grants = (given net.relation frame x (frozen_view net setup n r l) stands (allocation_in frozen k) (allocation_in chosen k) (routes_in frozen k) (routes_in chosen k) is.column no_grant no_loss has).shows
+
+          at : (lane_asks (column_at frozen.lanes k) ≡ 0) ⊎ (lane_asks (column_at frozen.lanes k) ≢ 0) → AreRound v has.granted.granted has.granted.lost moves
+          at (inl none) =
+              let same = has.unasked none in
+              round-quiet v (allocation_in frozen k) has.granted outs moves is.column stands.few grants are below
+              (ap (λ (a : Allocation). a.granted) same ∙ no_grant) (ap (λ (a : Allocation). a.lost) same ∙ no_loss)
+          at (inr some) =
+              round-allocated v (allocation_in frozen k) has.granted outs moves is.column stands.few grants are below
+              (leads_by frame) (leads_to frame frozen.marks.lead k) (has.asked some)
 
       -- what its ports select moves
       pub lane-sent : (picked : ℕ) → picked ≡ lane_picked frame.fields (word frozen.arrived.filled k) (column_at frozen.lanes k) → chosen.marks.back ≡ frozen.marks.back

@@ -96,3 +96,4 @@ pub mod FitLaws
 pub mod SettledLaws
 pub mod CycleLaws
 pub mod LaneNext
+pub mod LaneShows
