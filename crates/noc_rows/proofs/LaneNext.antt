@@ -1,6 +1,6 @@
 -- The lane of a router in a block that is awake: once it is frozen, and what its ports select of it.
-use Rattle.std.proofs.Common.{◌≡◌, ◌≢◌, ℕ, ◌+◌, ◌*◌, ◌/◌, ◌%◌, ◌^◌, ◌<◌, ◌≤◌, Bool, true, false, List, [], ◌∷◌, length, map, Option, Some, None, refl, ap, ap₂, sym, ◌∙◌, subst, arith, inl, inr, bit_and}
-use Rattle.std.specs.Prelude.{◌⊎◌, ◌&&◌, nat_eq, nat_le, nat_lt, slice_get, slice_index, slice_index_or}
+use Rattle.std.proofs.Common.{◌≡◌, ◌≢◌, ℕ, ◌+◌, ◌*◌, ◌/◌, ◌%◌, ◌^◌, ◌<◌, ◌≤◌, Bool, true, false, List, [], ◌∷◌, length, map, Option, Some, None, refl, ap, ap₂, sym, ◌∙◌, subst, arith, inl, inr, bit_and, bit_or}
+use Rattle.std.specs.Prelude.{◌⊎◌, ◌&&◌, not, nat_eq, nat_le, nat_lt, slice_get, slice_index, slice_index_or}
 use Rattle.std.proofs.lemmas.Bool.{and_parts, cases_eq, eqb-true, false≢true, true≢false}
 use Rattle.noc_topo.specs.Words.{tabulate}
 use Rattle.noc_topo.specs.Shape.{local_port, neighbour, nodes, ports}
@@ -53,6 +53,7 @@ use Rattle.noc_rows.proofs.NetworkLaws.{beats, beats-taken, frozen-seen, frozen_
 use Rattle.noc_rows.proofs.RoundLaws.{AreRound, round-allocated, round-quiet}
 use Rattle.noc_rows.proofs.SwitchLemmas.{AreMoved}
 use Rattle.noc_rows.proofs.SwitchedLaws.{active-granted, active-headless, chosen-below, chosen-is, moved-below, moved-picked, moving, picked-is, union-same}
+use Rattle.noc_rows.proofs.TallyLaws.{arrived-event}
 
 -- ---- what a block has of router k
 
@@ -175,6 +176,24 @@ module _ (net : Setup) (setup : IsGoodSetup net) (n r : ℕ) (l : r < nodes net.
           shows.wires shows.source (start-tidy net setup n r l) (start-size net setup n r l) (beats-taken net setup n r l few)
           is_frame.few (let p = is_frame.few_places in omega (arith, p)) setup.some_place enough (let q = short in omega (arith, q)) (omega (arith, few)) is-local (λ o. refl) (λ i. bytes (place_of k i))
           (subst (λ (bits : List ℕ). HasArrived bits frame.link_set frame.local_set n room starts old frozen before after k) is_frame.place_bits arrived)
+
+  -- whether something came to it or was injected
+  pub lane-came : n < CYCLE_LIMIT → (room : ℕ) (starts : List Start) (old frozen : Block) (before after : Inbox) (sheet : Sheet) (k : ℕ)
+      → ShowsRouter starts n (lane_words room old sheet before k) (view_at net n r) (beats net setup n r l)
+      → HasArrived (planes_of frame.place_bits) frame.link_set frame.local_set n room starts old frozen before after k
+      → (frozen_view net setup n r l).had_event ≡ not (nat_eq (bit_or (word frozen.arrived.landed k) (word frozen.returned.credited k)) 0)
+  unfolding view_at view_in
+  lane-came few room starts old frozen before after sheet k shows arrived =
+      arrived-event net setup n r l few is_frame.few 5 frame.link_set frame.local_set room starts named old frozen before after k (λ i. ring_in room before (place_of k i) (slice_index old.marks.first (place_of k i)))
+      (with-owners 5 (column_at old.lanes k) (marks_at old.marks k) named.owner (view_at net n r) (λ o u. sym (of-lane old.marks.owner k o (let w = start-few o u in omega (arith, w)))) shows.column)
+      shows.wires shows.source (let p = is_frame.few_places in omega (arith, p)) setup.some_place is-local (λ o. refl)
+      (subst (λ (bits : List ℕ). HasArrived bits frame.link_set frame.local_set n room starts old frozen before after k) is_frame.place_bits arrived)
+    where
+      named : RouterMarks
+      named = record (marks_at old.marks k) { owner = λ o. slice_index_or old.marks.owner (k * 32 + o) 0 }
+
+      start-few : (o : ℕ) → o < size_of (view_at net n r).site → o < 31
+      start-few o u = let w : o < size net = subst (λ (s : Site). o < size_of s) (view_at-seen net n r).site u in let few_channels = is_frame.few in omega (arith, w, few_channels)
 
   -- ---- a lane that is frozen
   module _ (spare : ℕ) (far : nodes net.relation.grid * 32 ≤ spare) (room : ℕ) (starts : List Start) (frozen : Block) (after : Inbox) (k : ℕ) (linked : IsLinked net.relation frame spare frozen r k)
