@@ -97,3 +97,4 @@ pub mod SettledLaws
 pub mod CycleLaws
 pub mod LaneNext
 pub mod LaneShows
+pub mod LaneRests
