@@ -98,3 +98,6 @@ pub mod CycleLaws
 pub mod PassAll
 pub mod StageLemmas
 pub mod FirstRowsLaws
+pub mod LaneNext
+pub mod LaneShows
+pub mod LaneRests
