@@ -1,6 +1,6 @@
 -- The passes over all blocks, as far as they have come: the blocks below a number are done, and the others as they were.
 use Rattle.std.proofs.Common.{◌≡◌, ◌≢◌, ℕ, suc, ◌+◌, ◌^◌, ◌<◌, ◌≤◌, Bool, true, false, List, [], length, get_or, set, length-set, get_or-set_same, get_or-set_other, Option, Some, None, refl, ap, sym, ◌∙◌, subst, inl, inr, arith, slice_get}
-use Rattle.std.specs.Prelude.{◌⊎◌, ◌||◌, bit_or, min}
+use Rattle.std.specs.Prelude.{◌⊎◌, ◌||◌, bit_or, min, slice_index}
 use Rattle.std.proofs.lemmas.Bool.{cases_eq, cases_lt, false≢true, or_left, or_right}
 use Rattle.std.proofs.lemmas.List.{get_or_default}
 use Rattle.std.proofs.lemmas.Option.{slice_get-get_or, slice_get_past, slice_get_within, get_or_from_slice_get, same_Some}
@@ -40,6 +40,7 @@ pub record AreWokenTo (number cycle next : ℕ) (busy : List Bool) (old new : Li
   pub rest : (b : ℕ) → number ≤ b → slice_get new b ≡ slice_get old b
   pub none_before : (b : ℕ) (block : Block) → b < number → slice_get old b ≡ Some block → next ≤ next_of cycle (is_busy busy b) block
   pub word : next < 2 ^ 32
+  pub bytes : (b : ℕ) (block : Block) → b < number → slice_get new b ≡ Some block → (p : ℕ) → slice_index block.marks.first p < 256
 
 pub woken-none : (cycle next : ℕ) (busy : List Bool) (blocks : List Block) → next < 2 ^ 32 → AreWokenTo 0 cycle next busy blocks blocks
 woken-none cycle next busy blocks fits = record {
@@ -48,17 +49,20 @@ woken-none cycle next busy blocks fits = record {
   each = λ b block l. absurd (omega (arith, l));
   rest = λ b l. refl;
   none_before = λ b block l. absurd (omega (arith, l));
+  bytes = λ b block l. absurd (omega (arith, l));
 }
 
 pub woken-more : (number cycle next due : ℕ) (busy : List Bool) (old mid : List Block) (flag : Bool) (made d : Block) → AreWokenTo number cycle next busy old mid → number < length mid
     → flag ≡ is_busy busy number → made ≡ woken cycle flag (get_or mid number d) → due ≡ next_of cycle flag (get_or mid number d)
+    → ((p : ℕ) → slice_index made.marks.first p < 256)
     → AreWokenTo (number + 1) cycle (min next due) busy old (set mid number made)
-woken-more number cycle next due busy old mid flag made d so_far within flag_is made_is due_is = record {
+woken-more number cycle next due busy old mid flag made d so_far within flag_is made_is due_is made_bytes = record {
   many = length-set mid number made ∙ so_far.many;
   each = λ b block l e. each b block l e (cases_eq b number);
   rest = λ b l. write-elsewhere mid number b made (λ e. absurd (omega (arith, e, l))) ∙ so_far.rest b (omega (arith, l));
   none_before = λ b block l e. none b block l e (cases_eq b number);
   word = let fits = so_far.word in omega (arith, fits);
+  bytes = λ b block l e. bytes b block l e (cases_eq b number);
 }
   where
     here : (b : ℕ) (block : Block) → b ≡ number → slice_get old b ≡ Some block → get_or mid number d ≡ block
@@ -73,6 +77,12 @@ woken-more number cycle next due busy old mid flag made d so_far within flag_is 
         ∙ ap Some (made_is ∙ ap (λ q. woken cycle q (get_or mid number d)) (flag_is ∙ ap (is_busy busy) (sym k)) ∙ ap (woken cycle (is_busy busy b)) (here b block k e))
     each b block l e (inr o) = write-elsewhere mid number b made o ∙ so_far.each b block (omega (arith, l, o)) e
 
+    bytes : (b : ℕ) (block : Block) → b < number + 1 → slice_get (set mid number made) b ≡ Some block → (b ≡ number) ⊎ (b ≢ number) → (p : ℕ) → slice_index block.marks.first p < 256
+    bytes b block l e (inl k) =
+        let made_is : made ≡ block = same_Some made block (sym (write-there mid number made within) ∙ ap (slice_get (set mid number made)) (sym k) ∙ e) in
+        subst (λ (x : Block). (p : ℕ) → slice_index x.marks.first p < 256) made_is made_bytes
+    bytes b block l e (inr o) = so_far.bytes b block (omega (arith, l, o)) (sym (write-elsewhere mid number b made o) ∙ e)
+
     none : (b : ℕ) (block : Block) → b < number + 1 → slice_get old b ≡ Some block → (b ≡ number) ⊎ (b ≢ number) → min next due ≤ next_of cycle (is_busy busy b) block
     none b block l e (inl k) =
         let same : due ≡ next_of cycle (is_busy busy b) block
@@ -86,6 +96,7 @@ woken-all number cycle next busy old new all so_far = record {
   each = λ b block e. so_far.each b block (let l = slice_get_within old b block e in omega (arith, l, all)) e;
   none_before = λ b block e. so_far.none_before b block (let l = slice_get_within old b block e in omega (arith, l, all)) e;
   word = so_far.word;
+  bytes = λ b block e. so_far.bytes b block (let l = slice_get_within new b block e in let same = so_far.many in omega (arith, l, all, same)) e;
 }
 
 -- ---- beats are taken

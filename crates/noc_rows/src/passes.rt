@@ -1,6 +1,6 @@
 //! The passes of a cycle over all blocks: each is done in the blocks that are awake.
 
-ghost use Rattle.std.specs.Prelude.{◌≡◌, ℕ, ◌<◌, length, slice_get, true, Some};
+ghost use Rattle.std.specs.Prelude.{◌≡◌, ℕ, ◌<◌, length, slice_get, slice_index, true, Some};
 ghost use Rattle.noc_packet.specs.Set.{has_bit};
 ghost use Rattle.noc_rows.specs.Stages.{AreWoken, HasConcluded, HasFrozen, HaveConcluded, HaveFrozen, is_busy, next_of, woken};
 ghost use Rattle.noc_rows.specs.Wires.{room_of};
@@ -37,10 +37,18 @@ fn may_come(busy: &[bool], number: usize) -> bool
 fn wake_one(cycle: u32, busy: bool, block: &mut Block) -> u32
     ensures block { block.new ≡ woken cycle busy block.old }
     ensures next { result ≡ next_of cycle busy block.old }
+    ensures bytes { (p : ℕ) → slice_index block.new.marks.first p < 256 }
 {
+    know_bytes(&block.marks.first);
     let now = block.holds || busy;
     block.awake = now || block.next_due <= cycle;
     if now { cycle } else { block.next_due }
+}
+
+// Bytes are below 256.
+fn know_bytes(places: &[u8])
+    ensures { (p : ℕ) → slice_index places.now p < 256 }
+{
 }
 
 /// Beats are taken, flits are injected, and it is known where channels stand.
