@@ -98,3 +98,4 @@ pub mod CycleLaws
 pub mod LaneNext
 pub mod LaneShows
 pub mod LaneRests
+pub mod LaneBlanks
