@@ -102,3 +102,5 @@ pub mod LaneNext
 pub mod LaneShows
 pub mod LaneRests
 pub mod DecideAll
+pub mod LaneBlanks
+pub mod LaneCycles
