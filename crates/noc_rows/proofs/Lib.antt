@@ -104,3 +104,4 @@ pub mod LaneRests
 pub mod DecideAll
 pub mod LaneBlanks
 pub mod LaneCycles
+pub mod ChosenIn
