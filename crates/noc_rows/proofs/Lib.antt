@@ -100,3 +100,4 @@ pub mod LaneShows
 pub mod LaneRests
 pub mod LaneBlanks
 pub mod LaneCycles
+pub mod LaneTargets
