@@ -95,9 +95,13 @@ pub mod MarkedLaws
 pub mod FitLaws
 pub mod SettledLaws
 pub mod CycleLaws
+pub mod PassAll
+pub mod StageLemmas
+pub mod FirstRowsLaws
 pub mod LaneNext
 pub mod LaneShows
 pub mod LaneRests
+pub mod DecideAll
 pub mod LaneBlanks
 pub mod LaneCycles
 pub mod LaneTargets

@@ -1,5 +1,5 @@
 -- What rows are between the passes of a cycle: which blocks are awake, and what each pass makes of a block.
-use Rattle.std.specs.Prelude.{◌≡◌, ℕ, suc, ◌+◌, ◌%◌, ◌^◌, ◌<◌, ◌≤◌, Bool, true, false, ◌||◌, not, List, length, Some, nat_eq, nat_le, slice_get, slice_index_or, if◌then◌else◌}
+use Rattle.std.specs.Prelude.{◌≡◌, ℕ, suc, ◌+◌, ◌%◌, ◌^◌, ◌<◌, ◌≤◌, Bool, true, false, ◌||◌, not, List, length, Some, nat_eq, nat_le, slice_get, slice_index, slice_index_or, if◌then◌else◌}
 use Rattle.noc_packet.specs.Set.{has_bit}
 use Rattle.noc_rows.specs.Arrive.{HasArrived}
 use Rattle.noc_rows.specs.Moves.{dry_by, of_one, ports_of, rest_from, selected_in, taken_in, turn_in, turned_by, union_from}
@@ -37,6 +37,8 @@ pub record AreWoken (cycle next : ℕ) (busy : List Bool) (old new : List Block)
   pub each : (b : ℕ) (block : Block) → slice_get old b ≡ Some block → slice_get new b ≡ Some (woken cycle (is_busy busy b) block)
   pub none_before : (b : ℕ) (block : Block) → slice_get old b ≡ Some block → next ≤ next_of cycle (is_busy busy b) block
   pub word : next < 2 ^ 32
+  -- places in rings are bytes
+  pub bytes : (b : ℕ) (block : Block) → slice_get new b ≡ Some block → (p : ℕ) → slice_index block.marks.first p < 256
 
 -- ---- what each pass makes of a block that is awake
 
@@ -130,4 +132,4 @@ pub record HaveConcluded (frame : Frame) (cycle near : ℕ) (old new : List Bloc
   pub awake : (b : ℕ) (was is : Block) (sheet next : Sheet) → slice_get old b ≡ Some was → slice_get new b ≡ Some is → slice_get before b ≡ Some sheet → slice_get after b ≡ Some next
       → was.awake ≡ true → HasConcluded frame cycle was is sheet next
   pub asleep : (b : ℕ) (was : Block) → slice_get old b ≡ Some was → was.awake ≡ false → (slice_get new b ≡ Some was) × (slice_get after b ≡ slice_get before b)
-  pub near_is : (b q : ℕ) (is : Block) → slice_get new b ≡ Some is → is.awake ≡ true → is.moves ≡ true → has_bit is.near q ≡ true → has_bit near q ≡ true
+  pub near_is : (b q : ℕ) (is : Block) → slice_get new b ≡ Some is → b < length before → is.awake ≡ true → is.moves ≡ true → has_bit is.near q ≡ true → has_bit near q ≡ true

@@ -22,6 +22,7 @@ mod marks;
 mod moves;
 mod numbers;
 mod open;
+mod passes;
 mod room;
 mod route;
 mod rows;

@@ -45,6 +45,12 @@ pub struct Rows {
 }
 
 impl Rows {
+    ghost use Rattle.std.specs.Prelude.{◌*◌, ◌&&◌, IfOk, IfSome, is_some, nat_le};
+    ghost use Rattle.noc_model.specs.Good.{IsGoodSetup};
+    ghost use Rattle.noc_model.specs.Network.{Setup};
+    ghost use Rattle.noc_topo.specs.Shape.{ports as ports_of};
+    ghost use Rattle.noc_rows.specs.Whole.{IsRows};
+
     /// The network of a relation, `places` (1 to 16 flits) in each buffer and these packets, before its first cycle.
     /// None where a router has more than 31 channels, or there are more places.
     pub fn new(
@@ -52,7 +58,10 @@ impl Rows {
         relation: &Relation,
         places: usize,
         packets: &[Packet],
-    ) -> Result<Option<Rows>, Memory> {
+    ) -> Result<Option<Rows>, Memory>
+        ensures rows { (net : Setup) → net.relation ≡ relation.now → net.places ≡ places → net.packets ≡ packets.now → IsGoodSetup net → IfOk result (λ made. IfSome made (IsRows net 0)) }
+        ensures some { IfOk result (λ made. is_some made ≡ (nat_le (ports_of relation.now.grid * relation.now.vcs) 31 && nat_le places 16)) }
+    {
         let Some(frame) = Frame::of(relation, places) else {
             return Ok(None);
         };
@@ -199,7 +208,7 @@ impl Rows {
 }
 
 // Beats are taken in a block, and flits are injected.
-fn arrive_one(
+pub(crate) fn arrive_one(
     frame: &Frame,
     cycle: u32,
     starts: &[Start],
@@ -238,7 +247,7 @@ fn arrive_one(
 }
 
 // Where the input channels of a block stand, before anything is decided.
-fn stand_one(frame: &Frame, block: &mut Block)
+pub(crate) fn stand_one(frame: &Frame, block: &mut Block)
     ensures standing { (k : ℕ) → k < 32 → standing_at block.new.standing k ≡ lane_standing frame.now.fields (word block.old.arrived.filled k) (column_at block.old.lanes k) }
     ensures heading { (k : ℕ) → k < 32 → has_bit block.new.work.heading k ≡ not (nat_eq (lane_heads (word block.old.arrived.filled k) (column_at block.old.lanes k)) 0) }
     ensures asking { (k : ℕ) → k < 32 → has_bit block.new.work.asking k ≡ not (nat_eq (lane_asks (column_at block.old.lanes k)) 0) }
@@ -289,7 +298,7 @@ fn grant_and_route(
 }
 
 // What has happened in a block is counted, and takes effect.
-fn conclude_one(frame: &Frame, cycle: u32, block: &mut Block, sheet: &mut Sheet)
+pub(crate) fn conclude_one(frame: &Frame, cycle: u32, block: &mut Block, sheet: &mut Sheet)
     ensures columns { (k : ℕ) → k < 32 → column_at block.new.lanes k ≡ settled_lane frame.now.fields frame.now.link_set frame.now.local_set (effects_at block.old.standing block.old.decided k) (column_at block.old.lanes k) }
     ensures counts { cycles_of sheet.old + 1 < 2 ^ 32 → (j k : ℕ) → j < 32 → sheet_counts sheet.new j k ≡ with_verdicts (lane_verdicts (word block.old.arrived.filled j) (standing_at block.old.standing j) (word block.old.decided.granted j) (word block.old.decided.lost j) (word block.old.decided.moved j) (column_at block.old.lanes j)) k (sheet_counts sheet.old j k) }
     ensures cycles { cycles_of sheet.new ≡ (cycles_of sheet.old + 1) % 2 ^ 32 }
