@@ -105,3 +105,4 @@ pub mod DecideAll
 pub mod LaneBlanks
 pub mod LaneCycles
 pub mod LaneTargets
+pub mod BlockShows
