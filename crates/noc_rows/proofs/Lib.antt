@@ -105,3 +105,5 @@ pub mod DecideAll
 pub mod LaneBlanks
 pub mod LaneCycles
 pub mod ChosenIn
+pub mod LaneTargets
+pub mod BlockShows
