@@ -107,3 +107,4 @@ pub mod LaneCycles
 pub mod ChosenIn
 pub mod LaneTargets
 pub mod BlockShows
+pub mod ReaderLaws
