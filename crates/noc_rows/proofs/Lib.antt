@@ -106,3 +106,4 @@ pub mod LaneBlanks
 pub mod LaneCycles
 pub mod LaneTargets
 pub mod BlockShows
+pub mod BlockRests
