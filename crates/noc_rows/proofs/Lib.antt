@@ -104,6 +104,7 @@ pub mod LaneRests
 pub mod DecideAll
 pub mod LaneBlanks
 pub mod LaneCycles
+pub mod ChosenIn
 pub mod LaneTargets
 pub mod BlockShows
 pub mod BlockRests
