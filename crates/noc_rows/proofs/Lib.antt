@@ -101,3 +101,4 @@ pub mod FirstRowsLaws
 pub mod LaneNext
 pub mod LaneShows
 pub mod LaneRests
+pub mod LaneBlanks
