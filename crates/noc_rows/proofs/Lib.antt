@@ -102,3 +102,4 @@ pub mod LaneNext
 pub mod LaneShows
 pub mod LaneRests
 pub mod LaneBlanks
+pub mod LaneCycles
