@@ -103,3 +103,4 @@ pub mod LaneShows
 pub mod LaneRests
 pub mod LaneBlanks
 pub mod LaneCycles
+pub mod NetworkMoves
