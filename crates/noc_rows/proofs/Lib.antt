@@ -108,3 +108,4 @@ pub mod ChosenIn
 pub mod LaneTargets
 pub mod BlockShows
 pub mod BlockRests
+pub mod NetworkMoves
