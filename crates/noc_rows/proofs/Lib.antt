@@ -109,3 +109,4 @@ pub mod LaneTargets
 pub mod BlockShows
 pub mod BlockRests
 pub mod NetworkMoves
+pub mod LaneDecided
