@@ -104,3 +104,4 @@ pub mod LaneRests
 pub mod LaneBlanks
 pub mod LaneCycles
 pub mod NetworkMoves
+pub mod DecidedSteps
