@@ -101,7 +101,11 @@ pub mod FirstRowsLaws
 pub mod LaneNext
 pub mod LaneShows
 pub mod LaneRests
+pub mod DecideAll
 pub mod LaneBlanks
 pub mod LaneCycles
 pub mod NetworkMoves
 pub mod DecidedSteps
+pub mod ChosenIn
+pub mod LaneTargets
+pub mod BlockShows

@@ -27,3 +27,4 @@ pub mod Switched
 pub mod Cycle
 pub mod Whole
 pub mod Stages
+pub mod Decided

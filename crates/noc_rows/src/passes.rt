@@ -1,17 +1,21 @@
 //! The passes of a cycle over all blocks: each is done in the blocks that are awake.
 
-ghost use Rattle.std.specs.Prelude.{◌≡◌, ℕ, ◌<◌, length, slice_get, slice_index, true, Some};
+ghost use Rattle.std.specs.Prelude.{◌≡◌, ℕ, ◌^◌, ◌<◌, length, slice_get, slice_index, true, Some};
 ghost use Rattle.noc_packet.specs.Set.{has_bit};
-ghost use Rattle.noc_rows.specs.Stages.{AreWoken, HasConcluded, HasFrozen, HaveConcluded, HaveFrozen, is_busy, next_of, woken};
+ghost use Rattle.noc_rows.specs.Decided.{HasDecided};
+ghost use Rattle.noc_rows.specs.Rows.{word};
+ghost use Rattle.noc_rows.specs.Stages.{AreWoken, HasConcluded, HasFrozen, HaveConcluded, HaveDecided, HaveFrozen, is_busy, next_of, woken};
 ghost use Rattle.noc_rows.specs.Wires.{room_of};
 
 use crate::block::Block;
 use crate::frame::Frame;
+use crate::moves::move_block;
 use crate::room::Room;
-use crate::rows::{arrive_one, conclude_one, stand_one};
+use crate::rows::{arrive_one, conclude_one, grant_and_route, stand_one};
 use crate::sheet::Sheet;
 use crate::starts::{NEVER, Start};
-use crate::wires::Inbox;
+use crate::wires::{Inbox, Wires};
+use noc_route::Relation;
 
 /// The blocks in which something is to happen are awake. The answer is when the next one is to be.
 pub fn wake_all(cycle: u32, busy: &[bool], blocks: &mut [Block]) -> u32
@@ -83,6 +87,47 @@ fn freeze_one(
 {
     arrive_one(frame, cycle, starts, room, inbox, block);
     stand_one(frame, block);
+}
+
+/// One block after the other decides: channels are granted, heads are routed, and flits move.
+pub fn decide_all(
+    relation: &Relation,
+    frame: &Frame,
+    cycle: u32,
+    blocks: &mut [Block],
+    wires: &mut Wires,
+)
+    ensures { HaveDecided (HasDecided relation.now frame.now cycle) blocks.old blocks.new wires.old wires.new }
+{
+    for number in 0..blocks.len() {
+        if blocks[number].awake {
+            let block = &mut blocks[number];
+            decide_one(relation, frame, cycle, number, block, wires);
+        }
+    }
+}
+
+// .. one block.
+fn decide_one(
+    relation: &Relation,
+    frame: &Frame,
+    cycle: u32,
+    number: usize,
+    block: &mut Block,
+    wires: &mut Wires,
+)
+    ensures { HasDecided relation.now frame.now cycle number block.old block.new wires.old wires.new }
+{
+    grant_and_route(relation, frame, number, block, wires);
+    move_block(frame, cycle, number, block, wires);
+    know_words(&block.decided.released);
+    know_words(&block.decided.freed);
+}
+
+/// Words are below 2 ^ 32.
+pub fn know_words(row: &[u32])
+    ensures { (k : ℕ) → word row.now k < 2 ^ 32 }
+{
 }
 
 /// What has happened is counted, and takes effect. The answer has the blocks to which something may be on its way.

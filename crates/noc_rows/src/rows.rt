@@ -1,13 +1,14 @@
 //! A network in rows.
 
-ghost use Rattle.std.specs.Prelude.{◌≡◌, ◌+◌, ◌%◌, ◌^◌, ◌<◌, ℕ, not, nat_eq, slice_index_or, if◌then◌else◌};
+ghost use Rattle.std.specs.Prelude.{◌≡◌, ◌+◌, ◌%◌, ◌^◌, ◌<◌, ◌≤◌, ℕ, length, not, nat_eq, slice_index_or, if◌then◌else◌};
 ghost use Rattle.noc_packet.specs.Set.{has_bit};
 ghost use Rattle.noc_rows.specs.Arrive.{HasArrived};
+ghost use Rattle.noc_rows.specs.Decided.{HasChosenIn};
 ghost use Rattle.noc_rows.specs.Outlook.{holding_in, least_below, some_below};
 ghost use Rattle.noc_rows.specs.Passes.{lane_asks, lane_heads, lane_standing, lane_verdicts, settled_lane};
 ghost use Rattle.noc_rows.specs.Rows.{column_at, effects_at, event_in, planes_of, standing_at, word};
 ghost use Rattle.noc_rows.specs.Tallied.{AreBelow, counts_by, cycles_of, sheet_counts, ten_counts, with_verdicts};
-ghost use Rattle.noc_rows.specs.Wires.{room_of};
+ghost use Rattle.noc_rows.specs.Wires.{inbox_at, room_of};
 
 use crate::allocate::allocate_all;
 use crate::block::Block;
@@ -17,8 +18,8 @@ use crate::flits::take_flits;
 use crate::frame::Frame;
 use crate::lanes::ROUTERS;
 use crate::marks::Tallies;
-use crate::moves::move_block;
 use crate::open::{new_blocks, new_wires};
+use crate::passes::{arrive_all, conclude_all, decide_all, know_words, note_busy, wake_all};
 use crate::room::Room;
 use crate::route::route_all;
 use crate::settle::{look_ahead, note_events, settle};
@@ -84,79 +85,43 @@ impl Rows {
     pub fn run(&mut self, relation: &Relation, cycles: u32) {
         let mut left = cycles;
         while left > 0 {
-            let due = self.wake();
-            let idle = due.saturating_sub(self.cycle).min(left);
-            if idle > 0 {
-                self.cycle = self.cycle.saturating_add(idle);
-                left -= idle;
-            } else {
-                self.arrive();
-                self.decide(relation);
-                self.conclude();
-                self.cycle = self.cycle.saturating_add(1);
-                left -= 1;
-            }
+            left -= self.advance(relation, left);
         }
     }
 
-    // The blocks in which something is to happen are awake. The answer is when the next one is to be.
-    fn wake(&mut self) -> u32 {
-        let cycle = self.cycle;
-        let mut next = NEVER;
-        for (block, busy) in self.blocks.iter_mut().zip(self.wires.busy.iter()) {
-            let now = block.holds || *busy;
-            block.awake = now || block.next_due <= cycle;
-            next = next.min(if now { cycle } else { block.next_due });
-        }
-        next
-    }
-
-    // Beats are taken, and flits are injected.
-    fn arrive(&mut self) {
-        let mut number = 0usize;
-        for block in self.blocks.iter_mut() {
-            if block.awake && number < self.wires.inboxes.len() {
-                let inbox = &mut self.wires.inboxes[number];
-                arrive_one(
-                    &self.frame,
-                    self.cycle,
-                    &self.starts,
-                    self.wires.room,
-                    inbox,
-                    block,
-                );
-                stand_one(&self.frame, block);
-            }
-            number = number.wrapping_add(1);
+    // Runs one cycle, or as many of these as nothing happens in. The answer is how many it has run.
+    fn advance(&mut self, relation: &Relation, most: u32) -> u32
+        requires { 0 < most }
+        ensures some { 0 < result }
+        ensures within { result ≤ most }
+    {
+        let due = wake_all(self.cycle, &self.wires.busy, &mut self.blocks);
+        let idle = due.saturating_sub(self.cycle).min(most);
+        if idle > 0 {
+            self.cycle = self.cycle.saturating_add(idle);
+            idle
+        } else {
+            self.step(relation);
+            1
         }
     }
 
-    // Channels are granted, heads are routed, and flits move.
-    fn decide(&mut self, relation: &Relation) {
-        let mut number = 0usize;
-        for block in self.blocks.iter_mut() {
-            if block.awake {
-                let frame = &self.frame;
-                grant_and_route(relation, frame, number, block, &self.wires);
-                move_block(frame, self.cycle, number, block, &mut self.wires);
-            }
-            number = number.wrapping_add(1);
-        }
-    }
-
-    // What has happened is counted, and takes effect.
-    fn conclude(&mut self) {
-        let mut near = 0u32;
-        for (block, sheet) in self.blocks.iter_mut().zip(self.sheets.iter_mut()) {
-            if block.awake {
-                conclude_one(&self.frame, self.cycle, block, sheet);
-                near |= if block.moves { block.near } else { 0 };
-            }
-        }
-        for busy in self.wires.busy.iter_mut() {
-            *busy = near % 2 == 1;
-            near /= 2;
-        }
+    // Runs one cycle of the blocks that are awake.
+    fn step(&mut self, relation: &Relation) {
+        let frame = &self.frame;
+        let wires = &mut self.wires;
+        arrive_all(
+            frame,
+            self.cycle,
+            &self.starts,
+            wires.room,
+            &mut wires.inboxes,
+            &mut self.blocks,
+        );
+        decide_all(relation, frame, self.cycle, &mut self.blocks, wires);
+        let near = conclude_all(frame, self.cycle, &mut self.blocks, &mut self.sheets);
+        note_busy(near, &mut wires.busy);
+        self.cycle = self.cycle.saturating_add(1);
     }
 
     /// How many cycles have run.
@@ -266,13 +231,15 @@ pub(crate) fn stand_one(frame: &Frame, block: &mut Block)
 }
 
 // Output channels are granted and heads are routed in a block.
-fn grant_and_route(
+pub(crate) fn grant_and_route(
     relation: &Relation,
     frame: &Frame,
     number: usize,
     block: &mut Block,
     wires: &Wires,
-) {
+)
+    ensures { number < length wires.now.inboxes.items → HasChosenIn relation.now frame.now number (room_of wires.now.room) (inbox_at wires.now.inboxes.items number) block.old block.new }
+{
     allocate_all(
         frame,
         block.work.asking,
@@ -294,6 +261,7 @@ fn grant_and_route(
             &mut block.lanes.wanted,
             &mut block.tallies.routed,
         );
+        know_words(&block.lanes.wanted);
     }
 }
 
