@@ -109,3 +109,8 @@ pub mod DecidedSteps
 pub mod ChosenIn
 pub mod LaneTargets
 pub mod BlockShows
+pub mod ChosenIn
+pub mod LaneTargets
+pub mod BlockShows
+pub mod BlockRests
+pub mod NetworkMoves
