@@ -104,6 +104,11 @@ pub mod LaneRests
 pub mod DecideAll
 pub mod LaneBlanks
 pub mod LaneCycles
+pub mod NetworkMoves
+pub mod DecidedSteps
+pub mod ChosenIn
+pub mod LaneTargets
+pub mod BlockShows
 pub mod ChosenIn
 pub mod LaneTargets
 pub mod BlockShows
