@@ -109,9 +109,6 @@ pub mod DecidedSteps
 pub mod ChosenIn
 pub mod LaneTargets
 pub mod BlockShows
-pub mod ChosenIn
-pub mod LaneTargets
-pub mod BlockShows
 pub mod BlockRests
-pub mod NetworkMoves
 pub mod LaneDecided
+pub mod BlocksNext
