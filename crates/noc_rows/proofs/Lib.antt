@@ -104,7 +104,13 @@ pub mod LaneRests
 pub mod DecideAll
 pub mod LaneBlanks
 pub mod LaneCycles
+pub mod NetworkMoves
+pub mod DecidedSteps
 pub mod ChosenIn
 pub mod LaneTargets
 pub mod BlockShows
 pub mod ReaderLaws
+pub mod BlockRests
+pub mod LaneDecided
+pub mod BlocksNext
+pub mod QuietLaws
