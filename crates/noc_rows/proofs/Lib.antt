@@ -109,8 +109,4 @@ pub mod DecidedSteps
 pub mod ChosenIn
 pub mod LaneTargets
 pub mod BlockShows
-pub mod ChosenIn
-pub mod LaneTargets
-pub mod BlockShows
 pub mod BlockRests
-pub mod NetworkMoves
