@@ -110,3 +110,4 @@ pub mod ChosenIn
 pub mod LaneTargets
 pub mod BlockShows
 pub mod BlockRests
+pub mod LaneDecided
