@@ -111,3 +111,4 @@ pub mod LaneTargets
 pub mod BlockShows
 pub mod BlockRests
 pub mod LaneDecided
+pub mod DecidedLanes
