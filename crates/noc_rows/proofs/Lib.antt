@@ -112,5 +112,6 @@ pub mod BlockShows
 pub mod ReaderLaws
 pub mod BlockRests
 pub mod LaneDecided
+pub mod DecidedLanes
 pub mod BlocksNext
 pub mod QuietLaws
