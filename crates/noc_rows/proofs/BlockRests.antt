@@ -1,7 +1,7 @@
 -- A block that sleeps through a cycle, and all blocks that sleep up to one: they show their routers as long as they do.
 use Rattle.std.proofs.Common.{◌≡◌, ℕ, suc, ◌+◌, ◌*◌, ◌/◌, ◌%◌, ◌<◌, ◌≤◌, Bool, true, false, List, length, get_or, Option, Some, refl, ap, sym, ◌∙◌, subst, arith, inl, inr}
-use Rattle.std.specs.Prelude.{◌⊎◌, ◌||◌, find, min, nat_eq, nat_le, option_and_then, slice_get}
-use Rattle.std.proofs.lemmas.Bool.{cases_lt, false≢true, le-leb, true≢false}
+use Rattle.std.specs.Prelude.{◌⊎◌, ◌||◌, find, nat_eq, nat_le, option_and_then, slice_get}
+use Rattle.std.proofs.lemmas.Bool.{cases_lt, le-leb, true≢false}
 use Rattle.std.proofs.lemmas.Nat.{div-add-mod'}
 use Rattle.std.proofs.lemmas.Option.{slice_get-get_or, slice_get_within}
 use Rattle.noc_topo.specs.Shape.{nodes}
@@ -11,8 +11,6 @@ use Rattle.noc_model.specs.Halves.{IsSilent}
 use Rattle.noc_model.specs.Lockstep.{beats_at, beats_in, view_at}
 use Rattle.noc_model.specs.Network.{Setup, arrival_in, packet_at, state_at}
 use Rattle.noc_model.proofs.Arrivals.{arrival-noted}
-use Rattle.noc_rows.specs.Frames.{IsFrame}
-use Rattle.noc_rows.specs.Opened.{IsLinked}
 use Rattle.noc_rows.specs.Rows.{column_at, word}
 use Rattle.noc_rows.specs.Source.{source_at}
 use Rattle.noc_rows.specs.Stages.{woken}

@@ -1,6 +1,6 @@
 -- A block that is awake in a cycle: it shows its routers after the cycle.
-use Rattle.std.proofs.Common.{◌≡◌, ℕ, suc, ◌+◌, ◌*◌, ◌/◌, ◌%◌, ◌^◌, ◌<◌, ◌≤◌, Bool, true, List, refl, ap, sym, ◌∙◌, subst, arith, bit_or}
-use Rattle.std.specs.Prelude.{min, not, nat_eq, slice_index}
+use Rattle.std.proofs.Common.{◌≡◌, ℕ, suc, ◌+◌, ◌*◌, ◌/◌, ◌%◌, ◌^◌, ◌<◌, ◌≤◌, Bool, List, refl, ap, sym, ◌∙◌, subst, arith, bit_or}
+use Rattle.std.specs.Prelude.{min, slice_index}
 use Rattle.noc_topo.specs.Shape.{neighbour, nodes}
 use Rattle.noc_packet.specs.Set.{has_bit}
 use Rattle.noc_router.specs.View.{first_flit, is_tail}
@@ -20,7 +20,6 @@ use Rattle.noc_rows.specs.Rows.{column_at, marks_at, word}
 use Rattle.noc_rows.specs.Source.{source_at}
 use Rattle.noc_rows.specs.Stages.{HasConcluded, HasFrozen, HasMoved, selected_of}
 use Rattle.noc_rows.specs.Switched.{HaveReleased}
-use Rattle.noc_rows.specs.Tallied.{cycles_of}
 use Rattle.noc_rows.specs.Whole.{IsTarget, ShowsBlock, lane_words}
 use Rattle.noc_rows.specs.Wires.{ring_in}
 use Rattle.noc_rows.specs.declared.block.Block.{Block}

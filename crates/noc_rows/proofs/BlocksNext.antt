@@ -1,5 +1,5 @@
 -- All blocks after a cycle: each that is awake, and each that is asleep, shows its routers.
-use Rattle.std.proofs.Common.{◌≡◌, ℕ, suc, ◌+◌, ◌*◌, ◌^◌, ◌<◌, ◌≤◌, Bool, true, false, List, length, get_or, Some, refl, ap, sym, ◌∙◌, subst, arith}
+use Rattle.std.proofs.Common.{◌≡◌, ℕ, suc, ◌+◌, ◌*◌, ◌<◌, ◌≤◌, Bool, true, false, List, length, get_or, Some, refl, ap, sym, ◌∙◌, subst, arith}
 use Rattle.std.specs.Prelude.{slice_get, slice_index}
 use Rattle.std.proofs.lemmas.Option.{same_Some, slice_get-get_or, slice_get_within}
 use Rattle.noc_topo.specs.Shape.{nodes}
@@ -10,8 +10,7 @@ use Rattle.noc_model.specs.Network.{Setup}
 use Rattle.noc_rows.specs.Decided.{HasDecided}
 use Rattle.noc_rows.specs.Frames.{IsFrame}
 use Rattle.noc_rows.specs.Moves.{ports_of}
-use Rattle.noc_rows.specs.Rows.{word}
-use Rattle.noc_rows.specs.Stages.{HasConcluded, HasFrozen, HasMoved, HaveConcluded, HaveDecided, HaveFrozen, selected_of}
+use Rattle.noc_rows.specs.Stages.{HasConcluded, HasFrozen, HaveConcluded, HaveDecided, HaveFrozen, selected_of}
 use Rattle.noc_rows.specs.Switched.{HaveReleased}
 use Rattle.noc_rows.specs.Whole.{IsQuiet, ShowsBlock}
 use Rattle.noc_rows.specs.Wires.{inbox_at}

@@ -1,25 +1,20 @@
 -- A lane without a router in a block that is awake: it is blank after the cycle too.
-use Rattle.std.proofs.Common.{◌≡◌, ℕ, suc, ◌+◌, ◌%◌, ◌^◌, ◌<◌, List, refl, ap, ap₂, sym, ◌∙◌, subst, arith}
+use Rattle.std.proofs.Common.{◌≡◌, ℕ, ◌+◌, ◌%◌, ◌^◌, ◌<◌, List, refl, ap, sym, ◌∙◌, subst}
 use Rattle.std.specs.Prelude.{nat_eq, if◌then◌else◌}
 use Rattle.noc_rows.specs.Blank.{IsBlank}
 use Rattle.noc_rows.specs.Column.{Column}
-use Rattle.noc_rows.specs.Cycle.{routing_of}
 use Rattle.noc_rows.specs.Grants.{Allocation}
-use Rattle.noc_rows.specs.Moves.{dry_by, ports_of, rest_from, taken_in, union_from}
-use Rattle.noc_rows.specs.Passes.{Effects, lane_asks, lane_heads, lane_standing, settled_lane}
+use Rattle.noc_rows.specs.Moves.{ports_of, union_from}
+use Rattle.noc_rows.specs.Passes.{lane_asks, lane_heads}
 use Rattle.noc_rows.specs.Routed.{Routing}
-use Rattle.noc_rows.specs.Rows.{column_at, effects_at, event_in, standing_at, word}
+use Rattle.noc_rows.specs.Rows.{column_at, effects_at, standing_at, word}
 use Rattle.noc_rows.specs.Source.{source_at}
 use Rattle.noc_rows.specs.Stages.{HasConcluded, HasFrozen, HasMoved, selected_of}
 use Rattle.noc_rows.specs.declared.block.Block.{Block}
 use Rattle.noc_rows.specs.declared.block.Source.{Source}
-use Rattle.noc_rows.specs.declared.block.Sources.{Sources}
 use Rattle.noc_rows.specs.declared.column.Lanes.{Lanes}
-use Rattle.noc_rows.specs.declared.cycle.ArrivedRows.{ArrivedRows}
 use Rattle.noc_rows.specs.declared.cycle.DecidedRows.{DecidedRows}
-use Rattle.noc_rows.specs.declared.cycle.ReturnedRows.{ReturnedRows}
 use Rattle.noc_rows.specs.declared.cycle.Standing.{Standing}
-use Rattle.noc_rows.specs.declared.cycle.StandingRows.{StandingRows}
 use Rattle.noc_rows.specs.declared.frame.Frame.{Frame}
 use Rattle.noc_rows.specs.declared.sheet.Sheet.{Sheet}
 use Rattle.noc_rows.specs.declared.starts.Start.{Start}
@@ -27,7 +22,7 @@ use Rattle.noc_rows.specs.declared.starts.TheConstants.{NEVER}
 use Rattle.noc_rows.specs.declared.wires.Inbox.{Inbox}
 use Rattle.noc_rows.specs.declared.wires.Wires.{Wires}
 use Rattle.noc_model.specs.Network.{Setup}
-use Rattle.noc_rows.proofs.BlankLaws.{ArrivesBlank, blank-arrives, blank-asks, blank-decided, blank-event, blank-settles, blank-stands, none-moved, none-rest}
+use Rattle.noc_rows.proofs.BlankLaws.{ArrivesBlank, blank-arrives, blank-asks, blank-event, blank-settles, blank-stands, none-moved, none-rest}
 use Rattle.noc_rows.proofs.LaneNext.{LaneChosen}
 use Rattle.noc_rows.proofs.LaneShows.{KeepsFrozen}
 

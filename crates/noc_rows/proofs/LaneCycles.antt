@@ -1,23 +1,22 @@
 -- A lane of a block that is awake: what a cycle decides of it takes effect.
-use Rattle.std.proofs.Common.{◌≡◌, ◌≢◌, ℕ, zero, suc, ◌+◌, ◌-◌, ◌*◌, ◌%◌, ◌^◌, ◌<◌, ◌≤◌, Bool, true, false, List, [], refl, ap, ap₂, sym, ◌∙◌, subst, arith, inl, inr, bit_and, bit_or}
-use Rattle.std.specs.Prelude.{◌⊎◌, ◌&&◌, ◌||◌, not, min, nat_eq, slice_index, slice_index_or, if◌then◌else◌}
-use Rattle.std.specs.Int.{bit_not, trailing_zeros, w32}
-use Rattle.std.proofs.lemmas.Bool.{cases_eq, eq-eqb, ne_eqb}
+use Rattle.std.proofs.Common.{◌≡◌, ◌≢◌, ℕ, zero, suc, ◌-◌, ◌^◌, ◌<◌, Bool, List, [], refl, ap, ap₂, sym, ◌∙◌, arith, inl, inr, bit_and}
+use Rattle.std.specs.Prelude.{◌⊎◌, ◌&&◌, ◌||◌, not, nat_eq, slice_index_or, if◌then◌else◌}
+use Rattle.std.specs.Int.{trailing_zeros, w32}
+use Rattle.std.proofs.lemmas.Bool.{cases_eq, eq-eqb}
 use Rattle.std.proofs.lemmas.Nat.{and_le_r, mod_below}
 use Rattle.noc_topo.proofs.WordLemmas.{get_or-tabulate}
 use Rattle.noc_packet.specs.Set.{has_bit}
 use Rattle.noc_packet.proofs.SetLemmas.{has_bit-zero}
 use Rattle.noc_model.specs.Network.{Setup}
 use Rattle.noc_rows.specs.Bits.{less, lowest, negated}
-use Rattle.noc_rows.specs.Column.{Column, RouterMarks, place_of}
+use Rattle.noc_rows.specs.Column.{Column, RouterMarks}
 use Rattle.noc_rows.specs.Cycle.{HasSwitched, chosen_by, single_in}
-use Rattle.noc_rows.specs.Moves.{dry_by, of_one, ports_of, rest_from, selected_in, taken_in, to_port_in, turn_in, turned_by, union_from}
+use Rattle.noc_rows.specs.Moves.{dry_by, of_one, ports_of, rest_from, taken_in, to_port_in, turn_in, turned_by, union_from}
 use Rattle.noc_rows.specs.Passes.{lane_picked, settled_lane}
-use Rattle.noc_rows.specs.Planes.{more_than_one}
-use Rattle.noc_rows.specs.Rows.{by_port, column_at, effects_at, marks_at, of_router, word}
+use Rattle.noc_rows.specs.Rows.{column_at, effects_at, marks_at, word}
 use Rattle.noc_rows.specs.Stages.{HasConcluded, HasFrozen, HasMoved, selected_of}
 use Rattle.noc_rows.specs.Switched.{HaveReleased, moved_by}
-use Rattle.noc_rows.specs.Turns.{first_bit, in_turn}
+use Rattle.noc_rows.specs.Turns.{in_turn}
 use Rattle.noc_rows.specs.declared.block.Block.{Block}
 use Rattle.noc_rows.specs.declared.column.Lanes.{Lanes}
 use Rattle.noc_rows.specs.declared.cycle.DecidedRows.{DecidedRows}
@@ -29,7 +28,7 @@ use Rattle.noc_rows.specs.declared.sheet.Sheet.{Sheet}
 use Rattle.noc_rows.specs.declared.starts.Start.{Start}
 use Rattle.noc_rows.specs.declared.wires.Inbox.{Inbox}
 use Rattle.noc_rows.specs.declared.wires.Wires.{Wires}
-use Rattle.noc_rows.proofs.BitLemmas.{and_fits, least_below}
+use Rattle.noc_rows.proofs.BitLemmas.{least_below}
 use Rattle.noc_rows.proofs.LaneNext.{LaneChosen, of-lane, selected-same}
 use Rattle.noc_rows.proofs.LaneShows.{KeepsFrozen, LaneCycled}
 use Rattle.noc_rows.proofs.SwitchedLaws.{union-same}

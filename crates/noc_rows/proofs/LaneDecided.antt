@@ -7,11 +7,10 @@ use Rattle.noc_route.specs.Routes.{Routes, width}
 use Rattle.noc_model.specs.Network.{Setup}
 use Rattle.noc_rows.specs.Column.{place_of}
 use Rattle.noc_rows.specs.Cycle.{HasChosen}
-use Rattle.noc_rows.specs.Decided.{HasChosenIn, IsNoted}
+use Rattle.noc_rows.specs.Decided.{HasChosenIn}
 use Rattle.noc_rows.specs.FlitWords.{flit_word}
 use Rattle.noc_rows.specs.Grants.{Allocation, leads_by, leads_to}
 use Rattle.noc_rows.specs.Passes.{lane_heads}
-use Rattle.noc_rows.specs.Routed.{HasRouted}
 use Rattle.noc_rows.specs.Routed.{sets_by}
 use Rattle.noc_rows.specs.Rows.{column_at, word}
 use Rattle.noc_rows.specs.Stages.{HasFrozen}

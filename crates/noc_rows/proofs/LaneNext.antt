@@ -1,5 +1,5 @@
 -- The lane of a router in a block that is awake: once it is frozen, and what its ports select of it.
-use Rattle.std.proofs.Common.{◌≡◌, ◌≢◌, ℕ, ◌+◌, ◌*◌, ◌/◌, ◌%◌, ◌^◌, ◌<◌, ◌≤◌, Bool, true, false, List, [], ◌∷◌, length, map, Option, Some, None, refl, ap, ap₂, sym, ◌∙◌, subst, arith, inl, inr, bit_and, bit_or}
+use Rattle.std.proofs.Common.{◌≡◌, ◌≢◌, ℕ, ◌+◌, ◌*◌, ◌/◌, ◌<◌, ◌≤◌, Bool, true, false, List, [], ◌∷◌, length, map, Option, Some, None, refl, ap, ap₂, sym, ◌∙◌, subst, arith, inl, inr, bit_and, bit_or}
 use Rattle.std.specs.Prelude.{◌⊎◌, ◌&&◌, not, nat_eq, nat_le, nat_lt, slice_get, slice_index, slice_index_or}
 use Rattle.std.proofs.lemmas.Bool.{and_parts, cases_eq, eqb-true, false≢true, true≢false}
 use Rattle.noc_topo.specs.Words.{tabulate}
@@ -23,16 +23,15 @@ use Rattle.noc_rows.specs.Arrive.{HasArrived}
 use Rattle.noc_rows.specs.Carried.{first_of}
 use Rattle.noc_rows.specs.Column.{Column, IsColumn, Leads, RouterMarks, ShowsHolder, ShowsPhase, place_of, sends_by}
 use Rattle.noc_rows.specs.Cycle.{AreTails, HasChosen, Surroundings, chosen_by}
-use Rattle.noc_rows.specs.FlitWords.{FitsWord, flit_word}
+use Rattle.noc_rows.specs.FlitWords.{flit_word}
 use Rattle.noc_rows.specs.Frames.{IsFrame}
 use Rattle.noc_rows.specs.Grants.{Allocation, ShowsGrants, leads_by, leads_to}
 use Rattle.noc_rows.specs.InRows.{ShowsRouter}
-use Rattle.noc_rows.specs.Moves.{ports_of, selected_by, selected_in, to_port_in, turn_in, union_from}
+use Rattle.noc_rows.specs.Moves.{ports_of, selected_in, union_from}
 use Rattle.noc_rows.specs.Opened.{IsLinked}
 use Rattle.noc_rows.specs.Passes.{lane_asks, lane_heads, lane_picked}
-use Rattle.noc_rows.specs.Planes.{words_of}
 use Rattle.noc_rows.specs.Routed.{sets_by}
-use Rattle.noc_rows.specs.Rows.{allocation_at, by_port, column_at, marks_at, of_router, planes_of, word}
+use Rattle.noc_rows.specs.Rows.{allocation_at, column_at, marks_at, of_router, planes_of, word}
 use Rattle.noc_rows.specs.Switched.{HasFirst}
 use Rattle.noc_rows.specs.Turns.{first_bit}
 use Rattle.noc_rows.specs.Whole.{lane_words}

@@ -1,26 +1,23 @@
 -- A lane of a block that sleeps through a cycle, or up to one: it shows its router as long as it does.
-use Rattle.std.proofs.Common.{◌≡◌, ℕ, zero, suc, ◌+◌, ◌*◌, ◌/◌, ◌%◌, ◌<◌, ◌≤◌, Bool, true, false, List, map, Option, None, refl, ap, ap₂, sym, ◌∙◌, subst, arith, inl, inr, bit_or}
-use Rattle.std.specs.Prelude.{◌⊎◌, ◌&&◌, ◌||◌, not, nat_eq, min, slice_index, slice_index_or, is_some}
-use Rattle.std.proofs.lemmas.Bool.{cases_eq, cases_lt, false≢true, ne_eqb, true≢false}
+use Rattle.std.proofs.Common.{◌≡◌, ℕ, zero, suc, ◌*◌, ◌/◌, ◌%◌, ◌<◌, ◌≤◌, Bool, true, false, List, map, Option, None, refl, ap, ap₂, sym, ◌∙◌, subst, arith, inl, inr, bit_or}
+use Rattle.std.specs.Prelude.{◌⊎◌, ◌&&◌, ◌||◌, not, nat_eq, min, slice_index, slice_index_or}
+use Rattle.std.proofs.lemmas.Bool.{cases_eq, false≢true, ne_eqb, true≢false}
 use Rattle.noc_topo.specs.Words.{is_some_of}
 use Rattle.noc_topo.specs.Shape.{nodes}
 use Rattle.noc_packet.specs.Set.{has_bit}
-use Rattle.noc_packet.specs.declared.packet.Beat.{Beat}
 use Rattle.noc_packet.specs.declared.packet.Flit.{Flit}
 use Rattle.noc_packet.proofs.SetLemmas.{has_bit-zero}
 use Rattle.noc_vc.specs.Input.{is_idle_phase}
 use Rattle.noc_vc.specs.declared.input.InputState.{InputState}
 use Rattle.noc_vc.specs.declared.input.InputState.TheVariants.{Idle, Waiting, Active}
-use Rattle.noc_router.specs.Members.{AreBelow}
 use Rattle.noc_router.specs.Standing.{is_won_from}
-use Rattle.noc_router.specs.View.{Site, View, first_flit, is_tail, size_of, view_after_inject, view_after_takes, view_buffer, view_input, view_round}
+use Rattle.noc_router.specs.View.{View, size_of, view_after_inject, view_buffer, view_input, view_round}
 use Rattle.noc_model.specs.declared.limits.TheConstants.{CYCLE_LIMIT}
 use Rattle.noc_model.specs.Good.{IsGoodSetup}
 use Rattle.noc_model.specs.Halves.{IsSilent}
-use Rattle.noc_model.specs.Lockstep.{beats_at, beats_in, site_at, view_at}
-use Rattle.noc_model.specs.Network.{Setup, size, state_at}
-use Rattle.noc_model.proofs.ViewLemmas.{view_at-seen}
-use Rattle.noc_rows.specs.Column.{Leads, ShowsWires, place_of}
+use Rattle.noc_model.specs.Lockstep.{beats_at, beats_in, view_at}
+use Rattle.noc_model.specs.Network.{Setup, state_at}
+use Rattle.noc_rows.specs.Column.{ShowsWires, place_of}
 use Rattle.noc_rows.specs.FlitWords.{flit_word}
 use Rattle.noc_rows.specs.Frames.{IsFrame}
 use Rattle.noc_rows.specs.InRows.{ShowsRouter}
@@ -28,7 +25,7 @@ use Rattle.noc_rows.specs.Moves.{union_from}
 use Rattle.noc_rows.specs.Opened.{IsLinked}
 use Rattle.noc_rows.specs.Outlook.{holding_in, least_below, some_below}
 use Rattle.noc_rows.specs.Rows.{column_at, word}
-use Rattle.noc_rows.specs.Taken.{flit_from, with_one}
+use Rattle.noc_rows.specs.Taken.{with_one}
 use Rattle.noc_rows.specs.Whole.{lane_words}
 use Rattle.noc_rows.specs.Wires.{ring_in}
 use Rattle.noc_rows.specs.declared.block.Block.{Block}
@@ -37,9 +34,9 @@ use Rattle.noc_rows.specs.declared.sheet.Sheet.{Sheet}
 use Rattle.noc_rows.specs.declared.starts.Start.{Start}
 use Rattle.noc_rows.specs.declared.wires.Inbox.{Inbox}
 use Rattle.noc_rows.proofs.FrozenWires.{frozen_of}
-use Rattle.noc_rows.proofs.LaneNext.{SendsBy, packet_of}
+use Rattle.noc_rows.proofs.LaneNext.{SendsBy}
 use Rattle.noc_rows.proofs.LeadLaws.{back-leads}
-use Rattle.noc_rows.proofs.NetworkLaws.{beats, frozen-seen, frozen_view}
+use Rattle.noc_rows.proofs.NetworkLaws.{beats}
 use Rattle.noc_rows.proofs.SleepLaws.{IsAsleep, all-silent, asleep-held}
 use Rattle.noc_rows.proofs.StayLaws.{all-stay, asleep-shown, router-stays, silent-flit, silent-shown}
 use Rattle.noc_rows.proofs.SwitchLemmas.{AreMoved}

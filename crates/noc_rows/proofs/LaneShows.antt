@@ -1,18 +1,15 @@
 -- A router of a block that is awake: its lane shows it after the cycle.
-use Rattle.std.proofs.Common.{◌≡◌, ◌≢◌, ℕ, suc, ◌+◌, ◌*◌, ◌%◌, ◌^◌, ◌<◌, ◌≤◌, Bool, List, refl, ap, ap₂, sym, ◌∙◌, subst, arith, inl, inr, bit_or}
-use Rattle.std.specs.Prelude.{◌⊎◌, ◌&&◌, nat_eq, nat_le, nat_lt, slice_index, slice_index_or, if◌then◌else◌}
+use Rattle.std.proofs.Common.{◌≡◌, ◌≢◌, ℕ, suc, ◌+◌, ◌*◌, ◌%◌, ◌^◌, ◌<◌, ◌≤◌, Bool, List, refl, ap, sym, ◌∙◌, subst, arith, inl, inr}
+use Rattle.std.specs.Prelude.{◌⊎◌, nat_eq, slice_index, slice_index_or, if◌then◌else◌}
 use Rattle.std.proofs.lemmas.Bool.{cases_eq}
-use Rattle.noc_topo.specs.Shape.{local_port, nodes, ports}
-use Rattle.noc_packet.specs.Set.{has_bit}
-use Rattle.noc_router.specs.View.{Site, View, first_flit, is_tail, local_channel, size_of}
+use Rattle.noc_topo.specs.Shape.{nodes}
+use Rattle.noc_router.specs.View.{View, first_flit, is_tail, size_of}
 use Rattle.noc_model.specs.declared.limits.TheConstants.{CYCLE_LIMIT}
 use Rattle.noc_model.specs.Good.{IsGoodSetup}
-use Rattle.noc_model.specs.Lockstep.{beats_at, beats_in, site_at, view_at, view_in}
-use Rattle.noc_model.specs.Network.{Setup, size, state_at}
-use Rattle.noc_model.proofs.ViewLemmas.{view_at-seen}
-use Rattle.noc_rows.specs.Arrive.{HasArrived}
-use Rattle.noc_rows.specs.Column.{Column, IsColumn, RouterMarks, ShowsWires, place_of}
-use Rattle.noc_rows.specs.Cycle.{AreTails, HasCycled, chosen_by, routing_of}
+use Rattle.noc_model.specs.Lockstep.{beats_at, beats_in, view_at}
+use Rattle.noc_model.specs.Network.{Setup, state_at}
+use Rattle.noc_rows.specs.Column.{IsColumn, ShowsWires, place_of}
+use Rattle.noc_rows.specs.Cycle.{HasCycled, chosen_by}
 use Rattle.noc_rows.specs.Frames.{IsFrame}
 use Rattle.noc_rows.specs.Grants.{Allocation, AreTallied, KeepsMoves, KeepsPlaces}
 use Rattle.noc_rows.specs.InRows.{ShowsRouter}
@@ -20,7 +17,7 @@ use Rattle.noc_rows.specs.Moves.{ports_of, union_from}
 use Rattle.noc_rows.specs.Opened.{IsLinked}
 use Rattle.noc_rows.specs.Passes.{lane_asks, lane_heads, lane_picked, lane_standing, lane_verdicts}
 use Rattle.noc_rows.specs.Routed.{Routing}
-use Rattle.noc_rows.specs.Rows.{column_at, effects_at, event_in, marks_at, of_router, planes_of, standing_at, word}
+use Rattle.noc_rows.specs.Rows.{column_at, effects_at, event_in, marks_at, of_router, standing_at, word}
 use Rattle.noc_rows.specs.Source.{ShowsSource, source_at}
 use Rattle.noc_rows.specs.Stages.{HasConcluded, HasFrozen, HasMoved}
 use Rattle.noc_rows.specs.Tallied.{ShowsCounts, ShowsLastEvent, cycles_of, sheet_counts, with_verdicts}
@@ -43,10 +40,10 @@ use Rattle.noc_rows.specs.declared.wires.Wires.{Wires}
 use Rattle.noc_rows.proofs.CycleLaws.{column-after, source-after}
 use Rattle.noc_rows.proofs.FrozenLaws.{IsFrozen}
 use Rattle.noc_rows.proofs.FrozenWires.{frozen_of}
-use Rattle.noc_rows.proofs.LaneNext.{LaneChosen, allocation_in, lane-came, lane-frozen, lane-leads, lane-moved, lane-round, lane_surroundings, of-lane, routes_in, tails-of, with-owners}
-use Rattle.noc_rows.proofs.NetworkLaws.{beats, frozen-seen, frozen_view}
+use Rattle.noc_rows.proofs.LaneNext.{LaneChosen, allocation_in, lane-came, lane-frozen, lane-leads, lane-moved, lane-round, lane_surroundings, routes_in, tails-of}
+use Rattle.noc_rows.proofs.NetworkLaws.{beats, frozen_view}
 use Rattle.noc_rows.proofs.RoundLaws.{AreRound}
-use Rattle.noc_rows.proofs.TallyLaws.{IsTallied, arrived-event, counts-next, event-next, tallied-none, tallied-of}
+use Rattle.noc_rows.proofs.TallyLaws.{IsTallied, counts-next, event-next, tallied-none, tallied-of}
 
 -- what a cycle decides of lane k of a block takes effect
 abbrev pub LaneCycled : Setup → Frame → ℕ → Block → Block → Block → Block → Inbox → (ℕ → ℕ → Bool) → ℕ → ℕ → Type 0

@@ -1,15 +1,15 @@
 -- Where the channels of a router lead: to a channel of a router, or beyond all blocks.
-use Rattle.std.proofs.Common.{◌≡◌, ◌≢◌, ℕ, zero, suc, ◌+◌, ◌*◌, ◌/◌, ◌%◌, ◌^◌, ◌<◌, ◌≤◌, Bool, true, false, List, Option, Some, None, refl, ap, ap₂, sym, ◌∙◌, subst, arith, inl, inr, bit_or}
+use Rattle.std.proofs.Common.{◌≡◌, ◌≢◌, ℕ, zero, suc, ◌+◌, ◌*◌, ◌/◌, ◌%◌, ◌<◌, ◌≤◌, Bool, true, false, List, Option, Some, None, refl, ap, ap₂, sym, ◌∙◌, subst, arith, inl, inr}
 use Rattle.std.specs.Prelude.{◌⊎◌, ◌&&◌, ◌||◌, is_some, min, slice_index}
 use Rattle.std.proofs.lemmas.Bool.{and_parts, cases_eq, cases_lt, false≢true, true≢false}
 use Rattle.std.proofs.lemmas.Nat.{div_below, le_or_l}
-use Rattle.noc_topo.specs.Shape.{IsGrid, neighbour, nodes, ports}
-use Rattle.noc_topo.proofs.LinkLemmas.{hop_of, link_back}
+use Rattle.noc_topo.specs.Shape.{neighbour, nodes, ports}
+use Rattle.noc_topo.proofs.LinkLemmas.{link_back}
 use Rattle.noc_packet.specs.Set.{has_bit}
 use Rattle.noc_vc.specs.declared.input.InputState.{InputState}
 use Rattle.noc_vc.specs.declared.input.InputState.TheVariants.{Active}
 use Rattle.noc_router.specs.Verdict.{ask_of}
-use Rattle.noc_router.specs.View.{Site, View, claim_in, first_flit, is_tail, size_of, view_input}
+use Rattle.noc_router.specs.View.{Site, claim_in, first_flit, is_tail, size_of, view_input}
 use Rattle.noc_model.specs.Good.{IsGoodSetup}
 use Rattle.noc_model.specs.Lockstep.{site_at}
 use Rattle.noc_model.specs.Network.{Setup, size}
@@ -32,7 +32,7 @@ use Rattle.noc_rows.proofs.BitLemmas.{above_32}
 use Rattle.noc_rows.proofs.ChosenLaws.{IsStill}
 use Rattle.noc_rows.proofs.FrozenLaws.{IsFrozen}
 use Rattle.noc_rows.proofs.FrozenWires.{frozen_of}
-use Rattle.noc_rows.proofs.LaneNext.{LaneChosen, allocation_in, lane-leads, lane-still, lane_surroundings, of-lane, tails-of}
+use Rattle.noc_rows.proofs.LaneNext.{LaneChosen, allocation_in, lane-still, lane_surroundings, of-lane, tails-of}
 use Rattle.noc_rows.proofs.LeadLaws.{back-leads, lead-leads}
 use Rattle.noc_rows.proofs.NetworkLaws.{frozen-seen, frozen_view, good}
 use Rattle.noc_rows.proofs.SwitchedLaws.{some-found}

@@ -1,7 +1,7 @@
 -- After a cycle, of all blocks: one that is near to none that has moved a flit has nothing on its wires.
-use Rattle.std.proofs.Common.{◌≡◌, ◌≢◌, ℕ, suc, ◌+◌, ◌*◌, ◌/◌, ◌%◌, ◌^◌, ◌<◌, ◌≤◌, Bool, true, false, List, length, get_or, Some, refl, ap, sym, ◌∙◌, subst, arith}
+use Rattle.std.proofs.Common.{◌≡◌, ℕ, ◌+◌, ◌*◌, ◌/◌, ◌%◌, ◌^◌, ◌<◌, ◌≤◌, Bool, true, false, List, length, get_or, Some, refl, ap, sym, ◌∙◌, subst, arith}
 use Rattle.std.specs.Prelude.{◌&&◌, None, min, nat_lt, slice_get, slice_index_or}
-use Rattle.std.proofs.lemmas.Bool.{and_parts, false≢true, ltb-true, true≢false}
+use Rattle.std.proofs.lemmas.Bool.{and_parts, false≢true, ltb-true}
 use Rattle.std.proofs.lemmas.Nat.{div-add-mod'}
 use Rattle.std.proofs.lemmas.Option.{slice_get-get_or}
 use Rattle.noc_topo.specs.Words.{is_some_of}
@@ -11,7 +11,7 @@ use Rattle.noc_packet.proofs.SetLemmas.{has_bit-zero}
 use Rattle.noc_vc.specs.declared.input.InputState.{InputState}
 use Rattle.noc_vc.specs.declared.input.InputState.TheVariants.{Idle, Waiting, Active}
 use Rattle.noc_router.specs.Standing.{is_won_from}
-use Rattle.noc_router.specs.View.{Site, View, size_of, view_input, view_round}
+use Rattle.noc_router.specs.View.{Site, size_of, view_input, view_round}
 use Rattle.noc_model.specs.Good.{IsGoodSetup}
 use Rattle.noc_model.specs.Lockstep.{site_at}
 use Rattle.noc_model.specs.Network.{Setup, size}
