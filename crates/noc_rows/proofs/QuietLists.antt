@@ -34,13 +34,19 @@ use Rattle.noc_rows.proofs.NetworkLaws.{frozen-seen, frozen-tidy}
 use Rattle.noc_rows.proofs.NetworkMoves.{is_moving, moves-are, moves-below, moves_at}
 use Rattle.noc_rows.proofs.QuietLaws.{block-moves, block-quiet}
 
-module _ (net : Setup) (setup : IsGoodSetup net) (n : ℕ) (frame : Frame) (is_frame : IsFrame net.relation net.places frame) (moved new : List Block) (sheets nexts : List Sheet) (near : ℕ)
-    (few_blocks : length moved ≤ 8) (covered : nodes net.relation.grid * 32 ≤ length moved * 1024) (paired : length sheets ≡ length moved) (concluded : HaveConcluded frame n near moved new sheets nexts)
-    (links : (b : ℕ) (block : Block) → slice_get new b ≡ Some block → (k : ℕ) → k < 32 → b * 32 + k < nodes net.relation.grid → IsLinked net.relation frame (min (length moved) 8 * 1024) block (b * 32 + k) k)
-    (decided : (b : ℕ) (block : Block) → slice_get moved b ≡ Some block → block.awake ≡ true → (k : ℕ) → k < 32 → b * 32 + k < nodes net.relation.grid → word block.decided.moved k ≡ moves_at net n (b * 32 + k))
-    (asleep : (b : ℕ) (block : Block) → slice_get moved b ≡ Some block → block.awake ≡ false → (k : ℕ) → k < 32 → b * 32 + k < nodes net.relation.grid → moves_at net n (b * 32 + k) ≡ 0)
+module _ (net : Setup) (setup : IsGoodSetup net) (n : ℕ) (frame : Frame) (is_frame : IsFrame net.relation net.places frame) (moved new : List Block)
+    (sheets nexts : List Sheet) (near : ℕ)
+    (few_blocks : length moved ≤ 8) (covered : nodes net.relation.grid * 32 ≤ length moved * 1024) (paired : length sheets ≡ length moved)
+        (concluded : HaveConcluded frame n near moved new sheets nexts)
+    (links : (b : ℕ) (block : Block) → slice_get new b ≡ Some block → (k : ℕ) → k < 32 → b * 32 + k < nodes net.relation.grid
+        → IsLinked net.relation frame (min (length moved) 8 * 1024) block (b * 32 + k) k)
+    (decided : (b : ℕ) (block : Block) → slice_get moved b ≡ Some block → block.awake ≡ true → (k : ℕ) → k < 32 → b * 32 + k < nodes net.relation.grid
+        → word block.decided.moved k ≡ moves_at net n (b * 32 + k))
+    (asleep : (b : ℕ) (block : Block) → slice_get moved b ≡ Some block → block.awake ≡ false → (k : ℕ) → k < 32 → b * 32 + k < nodes net.relation.grid
+        → moves_at net n (b * 32 + k) ≡ 0)
     (target back : ℕ → ℕ) (start : WireWords) (are : AreFrozenWires net n (moves_at net n) (is_moving net n) target back start)
-    (targets : (p : ℕ) → is_moving net n p ≡ true → IsTarget (nodes net.relation.grid) (length moved) (target p)) (backs : (p : ℕ) → is_moving net n p ≡ true → IsTarget (nodes net.relation.grid) (length moved) (back p))
+    (targets : (p : ℕ) → is_moving net n p ≡ true → IsTarget (nodes net.relation.grid) (length moved) (target p)) (backs : (p : ℕ)
+        → is_moving net n p ≡ true → IsTarget (nodes net.relation.grid) (length moved) (back p))
     (some_block : Block) (some_sheet : Sheet) where
   -- a router and a channel of it of which a flit moves, and by which output channel
   pub record Moves (p : ℕ) : Type 0 where
@@ -55,7 +61,8 @@ module _ (net : Setup) (setup : IsGoodSetup net) (n : ℕ) (frame : Frame) (is_f
   moves p e = at (view_input (frozen_of net n (p / 32)) (p % 32)).phase refl
     where
       router : p / 32 < nodes net.relation.grid
-      router = ltb-true (p / 32) (nodes net.relation.grid) (and_parts (nat_lt (p / 32) (nodes net.relation.grid)) (has_bit (moves_at net n (p / 32)) (p % 32)) e).0
+      router = ltb-true (p / 32) (nodes net.relation.grid) (and_parts (nat_lt (p / 32) (nodes net.relation.grid)) (has_bit (moves_at net n (p / 32))
+          (p % 32)) e).0
 
       bit : has_bit (moves_at net n (p / 32)) (p % 32) ≡ true
       bit = (and_parts (nat_lt (p / 32) (nodes net.relation.grid)) (has_bit (moves_at net n (p / 32)) (p % 32)) e).1
@@ -71,7 +78,8 @@ module _ (net : Setup) (setup : IsGoodSetup net) (n : ℕ) (frame : Frame) (is_f
       off false = refl
 
       Wins : InputState → Type 0
-      Wins phase = (is_some_of (slice_index_or (view_round (frozen_of net n (p / 32))).picks (p % 32 / (frozen_of net n (p / 32)).site.vcs) None) (p % 32 % (frozen_of net n (p / 32)).site.vcs)
+      Wins phase = (is_some_of (slice_index_or (view_round (frozen_of net n (p / 32))).picks (p % 32 / (frozen_of net n (p / 32)).site.vcs) None)
+          (p % 32 % (frozen_of net n (p / 32)).site.vcs)
           && is_won_from (frozen_of net n (p / 32)) (view_round (frozen_of net n (p / 32))) (p % 32) phase) ≡ true
 
       wins : Wins (view_input (frozen_of net n (p / 32)) (p % 32)).phase
@@ -102,7 +110,8 @@ module _ (net : Setup) (setup : IsGoodSetup net) (n : ℕ) (frame : Frame) (is_f
 
   -- .. in the block of the router, which is awake
   abbrev Near : ℕ → ℕ → Type 0
-  Near p q = (o place : ℕ) → o < size net → Leads (site_at net (p / 32)) o place → IsTarget (nodes net.relation.grid) (length moved) place → place / 1024 ≡ q → q < length moved → has_bit near q ≡ true
+  Near p q = (o place : ℕ) → o < size net → Leads (site_at net (p / 32)) o place → IsTarget (nodes net.relation.grid) (length moved) place
+      → place / 1024 ≡ q → q < length moved → has_bit near q ≡ true
 
   moves-near : (p q : ℕ) → Moves p → Near p q
   moves-near p q m = at (moved_one (p / 1024)).awake refl
@@ -133,14 +142,18 @@ module _ (net : Setup) (setup : IsGoodSetup net) (n : ℕ) (frame : Frame) (is_f
           (links (p / 1024) (new_one (p / 1024)) there_next (p / 32 % 32) (place-is p).1 known)
 
       at : (a : Bool) → (moved_one (p / 1024)).awake ≡ a → Near p q
-      at false asleep_is = absurd (false≢true (sym (ap (λ w. has_bit w (p % 32)) (asleep (p / 1024) (moved_one (p / 1024)) there asleep_is (p / 32 % 32) (place-is p).1 known) ∙ has_bit-zero (p % 32)) ∙ bit))
+      at false asleep_is = absurd (false≢true (sym (ap (λ w. has_bit w (p % 32)) (asleep (p / 1024) (moved_one (p / 1024)) there asleep_is
+          (p / 32 % 32) (place-is p).1 known) ∙ has_bit-zero (p % 32)) ∙ bit))
       at true awake = λ o place u leads target here few_q.
-          let concludes = concluded.awake (p / 1024) (moved_one (p / 1024)) (new_one (p / 1024)) (get_or sheets (p / 1024) some_sheet) (get_or nexts (p / 1024) some_sheet) there there_next sheet_is next_is awake in
+          let concludes = concluded.awake (p / 1024) (moved_one (p / 1024)) (new_one (p / 1024)) (get_or sheets (p / 1024) some_sheet)
+              (get_or nexts (p / 1024) some_sheet) there there_next sheet_is next_is awake in
           let on : (new_one (p / 1024)).awake ≡ true = ap (λ (x : Block). x.awake) concludes.rest ∙ awake in
-          let moves_it : (new_one (p / 1024)).moves ≡ true = block-moves frame n (moved_one (p / 1024)) (new_one (p / 1024)) (get_or sheets (p / 1024) some_sheet) (get_or nexts (p / 1024) some_sheet) (p / 32 % 32) (p % 32) concludes
+          let moves_it : (new_one (p / 1024)).moves ≡ true = block-moves frame n (moved_one (p / 1024)) (new_one (p / 1024))
+              (get_or sheets (p / 1024) some_sheet) (get_or nexts (p / 1024) some_sheet) (p / 32 % 32) (p % 32) concludes
           (place-is p).1 (ap (λ w. has_bit w (p % 32)) (decided (p / 1024) (moved_one (p / 1024)) there awake (p / 32 % 32) (place-is p).1 known) ∙ bit) in
           concluded.near_is (p / 1024) q (new_one (p / 1024)) there_next (omega (arith, low, paired)) on moves_it
-          (leads-near net setup frame is_frame (length moved) few_blocks covered (new_one (p / 1024)) (p / 32) (p / 32 % 32) m.router linked o place q u leads target here few_q)
+          (leads-near net setup frame is_frame (length moved) few_blocks covered (new_one (p / 1024)) (p / 32) (p / 32 % 32) m.router linked o place q
+              u leads target here few_q)
 
   -- one that moves goes to a block that is near
   target-near : (p q : ℕ) → is_moving net n p ≡ true → target p / 1024 ≡ q → q < length moved → has_bit near q ≡ true
@@ -149,24 +162,29 @@ module _ (net : Setup) (setup : IsGoodSetup net) (n : ℕ) (frame : Frame) (is_f
       let is : place_of (p / 32) (p % 32) ≡ p = div-add-mod' p 32 in
       let leads : Leads (frozen_of net n (p / 32)).site m.out (target p) = subst (λ t. Leads (frozen_of net n (p / 32)).site m.out (target t)) is
       (are.targets (p / 32) (p % 32) m.out m.router m.channel m.bit m.phase) in
-      moves-near p q m m.out (target p) m.below (subst (λ (s : Site). Leads s m.out (target p)) (frozen-seen net setup n (p / 32) m.router).site leads) (targets p e) here few_q
+      moves-near p q m m.out (target p) m.below (subst (λ (s : Site). Leads s m.out (target p)) (frozen-seen net setup n (p / 32) m.router).site
+          leads) (targets p e) here few_q
 
   -- .. and so does its credit
   back-near : (p q : ℕ) → is_moving net n p ≡ true → back p / 1024 ≡ q → q < length moved → has_bit near q ≡ true
   back-near p q e here few_q =
       let m : Moves p = moves p e in
       let is : place_of (p / 32) (p % 32) ≡ p = div-add-mod' p 32 in
-      let leads : Leads (site_at net (p / 32)) (p % 32) (back p) = subst (λ t. Leads (site_at net (p / 32)) (p % 32) (back t)) is (are.backs (p / 32) (p % 32) m.router m.channel) in
+      let leads : Leads (site_at net (p / 32)) (p % 32) (back p) = subst (λ t. Leads (site_at net (p / 32)) (p % 32) (back t)) is
+          (are.backs (p / 32) (p % 32) m.router m.channel) in
       moves-near p q m (p % 32) (back p) m.channel leads (backs p e) here few_q
 
   -- ---- a block that is near to none has nothing on its wires, as its in-box had nothing when it was frozen
   pub lists-quiet : (limit room : ℕ) (inboxes frozen : List Inbox) (first before : ℕ → ℕ) → start ≡ wire_words room frozen before
-      → HaveMoved limit (is_moving net n) target back start (wire_words room inboxes first) → (q : ℕ) → q < length moved → has_bit near q ≡ false → IsQuiet (inbox_at frozen q)
+      → HaveMoved limit (is_moving net n) target back start (wire_words room inboxes first) → (q : ℕ) → q < length moved → has_bit near q ≡ false
+          → IsQuiet (inbox_at frozen q)
       → ((k : ℕ) → word (inbox_at inboxes q).flits k < 2 ^ 32) → ((k : ℕ) → word (inbox_at inboxes q).credits k < 2 ^ 32)
       → IsQuiet (inbox_at inboxes q)
   lists-quiet limit room inboxes frozen first before start_is have q few_q far quiet flits_fit credits_fit =
       block-quiet limit (is_moving net n) target back start room inboxes first q have
       (λ p e to. false≢true (sym far ∙ target-near p q e to few_q)) (λ p e to. false≢true (sym far ∙ back-near p q e to few_q))
-      (λ k i low u. ap (λ (w : WireWords). w.comes (place_of (q * 32 + k) i)) start_is ∙ lane-comes room frozen before q k i low u ∙ ap (λ w. has_bit w i) (quiet.flits k low) ∙ has_bit-zero i)
-      (λ k i low u. ap (λ (w : WireWords). w.returns (place_of (q * 32 + k) i)) start_is ∙ lane-returns room frozen before q k i low u ∙ ap (λ w. has_bit w i) (quiet.credits k low) ∙ has_bit-zero i)
+      (λ k i low u. ap (λ (w : WireWords). w.comes (place_of (q * 32 + k) i)) start_is ∙ lane-comes room frozen before q k i low u
+          ∙ ap (λ w. has_bit w i) (quiet.flits k low) ∙ has_bit-zero i)
+      (λ k i low u. ap (λ (w : WireWords). w.returns (place_of (q * 32 + k) i)) start_is ∙ lane-returns room frozen before q k i low u
+          ∙ ap (λ w. has_bit w i) (quiet.credits k low) ∙ has_bit-zero i)
       flits_fit credits_fit
