@@ -112,4 +112,5 @@ pub mod BlockShows
 pub mod BlockRests
 pub mod LaneDecided
 pub mod DecidedLanes
+pub mod DecidedRests
 pub mod BlocksNext
