@@ -113,4 +113,5 @@ pub mod BlockRests
 pub mod LaneDecided
 pub mod DecidedLanes
 pub mod DecidedRests
+pub mod DecidedWires
 pub mod BlocksNext
