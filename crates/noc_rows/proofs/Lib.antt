@@ -112,3 +112,4 @@ pub mod BlockShows
 pub mod BlockRests
 pub mod LaneDecided
 pub mod BlocksNext
+pub mod ArrivalLaws
