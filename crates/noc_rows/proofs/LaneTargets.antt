@@ -1,12 +1,15 @@
 -- Where the channels of a router lead: to a channel of a router, or beyond all blocks.
 use Rattle.std.proofs.Common.{◌≡◌, ◌≢◌, ℕ, zero, suc, ◌+◌, ◌*◌, ◌/◌, ◌%◌, ◌^◌, ◌<◌, ◌≤◌, Bool, true, false, List, Option, Some, None, refl, ap, ap₂, sym, ◌∙◌, subst, arith, inl, inr, bit_or}
-use Rattle.std.specs.Prelude.{◌⊎◌, ◌&&◌, ◌||◌, min, slice_index}
+use Rattle.std.specs.Prelude.{◌⊎◌, ◌&&◌, ◌||◌, is_some, min, slice_index}
 use Rattle.std.proofs.lemmas.Bool.{and_parts, cases_eq, cases_lt, false≢true, true≢false}
 use Rattle.std.proofs.lemmas.Nat.{div_below, le_or_l}
 use Rattle.noc_topo.specs.Shape.{IsGrid, neighbour, nodes, ports}
 use Rattle.noc_topo.proofs.LinkLemmas.{hop_of, link_back}
 use Rattle.noc_packet.specs.Set.{has_bit}
-use Rattle.noc_router.specs.View.{Site, View, first_flit, is_tail, size_of}
+use Rattle.noc_vc.specs.declared.input.InputState.{InputState}
+use Rattle.noc_vc.specs.declared.input.InputState.TheVariants.{Active}
+use Rattle.noc_router.specs.Verdict.{ask_of}
+use Rattle.noc_router.specs.View.{Site, View, claim_in, first_flit, is_tail, size_of, view_input}
 use Rattle.noc_model.specs.Good.{IsGoodSetup}
 use Rattle.noc_model.specs.Lockstep.{site_at}
 use Rattle.noc_model.specs.Network.{Setup, size}
@@ -30,7 +33,7 @@ use Rattle.noc_rows.proofs.ChosenLaws.{IsStill}
 use Rattle.noc_rows.proofs.FrozenLaws.{IsFrozen}
 use Rattle.noc_rows.proofs.FrozenWires.{frozen_of}
 use Rattle.noc_rows.proofs.LaneNext.{LaneChosen, allocation_in, lane-leads, lane-still, lane_surroundings, of-lane, tails-of}
-use Rattle.noc_rows.proofs.LeadLaws.{lead-leads}
+use Rattle.noc_rows.proofs.LeadLaws.{back-leads, lead-leads}
 use Rattle.noc_rows.proofs.NetworkLaws.{frozen-seen, frozen_view, good}
 use Rattle.noc_rows.proofs.SwitchedLaws.{some-found}
 
@@ -46,25 +49,56 @@ module _ (net : Setup) (setup : IsGoodSetup net) (frame : Frame) (is_frame : IsF
       let is = (is_frame.channels o u).port in
       omega (arith, is, below, few_ports)
 
-  -- an output channel leads to a channel of a router or out of all blocks
-  pub leads-target : (o : ℕ) → o < size net → IsTarget (nodes net.relation.grid) blocks (leads_to frame block.marks.lead k o)
-  leads-target o u = at (neighbour net.relation.grid r (o / net.relation.vcs)) refl
-      (lead-leads net setup frame is_frame.few is_frame.channels (min blocks 8 * 1024) (omega (arith, covered, spare-is)) block r k linked o u)
+  -- a channel leads to a channel of a router or out of all blocks
+  is-target : (o place : ℕ) → o < size net → slice_index block.marks.lead (k * 8 + leads_by frame o) ≤ place → Leads (site_at net r) o place → IsTarget (nodes net.relation.grid) blocks place
+  is-target o place u least leads = at (neighbour net.relation.grid r (o / net.relation.vcs)) refl leads
       (subst (λ q. LeadsOut (min blocks 8 * 1024) (slice_index block.marks.lead (k * 8 + leads_by frame o)) (neighbour net.relation.grid r q)) (port-is o u) (linked.lead (leads_by frame o) (omega arith)))
     where
-      at : (x : Option (ℕ × ℕ)) → neighbour net.relation.grid r (o / net.relation.vcs) ≡ x → LeadsTo net.relation.grid net.relation.vcs (o % net.relation.vcs) (leads_to frame block.marks.lead k o) x
-          → LeadsOut (min blocks 8 * 1024) (slice_index block.marks.lead (k * 8 + leads_by frame o)) x → IsTarget (nodes net.relation.grid) blocks (leads_to frame block.marks.lead k o)
-      at None e to out =
-          let least : slice_index block.marks.lead (k * 8 + leads_by frame o) ≤ leads_to frame block.marks.lead k o = le_or_l (slice_index block.marks.lead (k * 8 + leads_by frame o)) (slice_index frame.other_end o) in
-          inr (omega (arith, least, out, spare-is))
+      at : (x : Option (ℕ × ℕ)) → neighbour net.relation.grid r (o / net.relation.vcs) ≡ x → LeadsTo net.relation.grid net.relation.vcs (o % net.relation.vcs) place x
+          → LeadsOut (min blocks 8 * 1024) (slice_index block.marks.lead (k * 8 + leads_by frame o)) x → IsTarget (nodes net.relation.grid) blocks place
+      at None e to out = inr (omega (arith, least, out, spare-is))
       at (Some (to, port)) e leads out =
           let back = link_back net.relation.grid r (o / net.relation.vcs) to port (good net setup).relation.table.grid l e in
           let node = back.node in
           let end = back.port in
           let low : port * net.relation.vcs + o % net.relation.vcs < size net = in-size net (good net setup) port (o % net.relation.vcs) (omega (arith, end)) (mod-below net (good net setup) o) in
           let narrow = is_frame.few in
-          let is : leads_to frame block.marks.lead k o ≡ to * 32 + (port * net.relation.vcs + o % net.relation.vcs) = leads in
+          let is : place ≡ to * 32 + (port * net.relation.vcs + o % net.relation.vcs) = leads in
           inl (omega (arith, is, node, low, narrow))
+
+  -- .. an output channel, to which its flits go
+  pub leads-target : (o : ℕ) → o < size net → IsTarget (nodes net.relation.grid) blocks (leads_to frame block.marks.lead k o)
+  leads-target o u =
+      is-target o (leads_to frame block.marks.lead k o) u (le_or_l (slice_index block.marks.lead (k * 8 + leads_by frame o)) (slice_index frame.other_end o))
+      (lead-leads net setup frame is_frame.few is_frame.channels (min blocks 8 * 1024) (omega (arith, covered, spare-is)) block r k linked o u)
+
+  -- .. and an input channel, to which its credits go
+  pub back-target : (i : ℕ) → i < size net → IsTarget (nodes net.relation.grid) blocks (slice_index block.marks.back (place_of k i))
+  back-target i u =
+      let narrow = is_frame.few in
+      let least : slice_index block.marks.lead (k * 8 + leads_by frame i) ≤ slice_index block.marks.back (place_of k i)
+      = subst (λ p. slice_index block.marks.lead (k * 8 + leads_by frame i) ≤ p) (sym (linked.back i (omega (arith, u, narrow))))
+      (le_or_l (slice_index block.marks.lead (k * 8 + leads_by frame i)) (slice_index frame.other_end i % 32)) in
+      is-target i (slice_index block.marks.back (place_of k i)) u least
+      (back-leads net setup frame is_frame.few is_frame.channels (min blocks 8 * 1024) (omega (arith, covered, spare-is)) block r k linked i u)
+
+  -- the block to which a channel leads is near
+  pub leads-near : (o place q : ℕ) → o < size net → Leads (site_at net r) o place → IsTarget (nodes net.relation.grid) blocks place → place / 1024 ≡ q → q < blocks → has_bit block.near q ≡ true
+  leads-near o place q u leads target here few_q = at (neighbour net.relation.grid r (o / net.relation.vcs)) refl leads target
+    where
+      at : (x : Option (ℕ × ℕ)) → neighbour net.relation.grid r (o / net.relation.vcs) ≡ x → LeadsTo net.relation.grid net.relation.vcs (o % net.relation.vcs) place x
+          → IsTarget (nodes net.relation.grid) blocks place → has_bit block.near q ≡ true
+      at None e beyond (inl within) = absurd (omega (arith, beyond, within))
+      at None e beyond (inr out) = absurd (omega (arith, out, here, few_q))
+      at (Some (to, port)) e leads either =
+          let back = link_back net.relation.grid r (o / net.relation.vcs) to port (good net setup).relation.table.grid l e in
+          let end = back.port in
+          let low : port * net.relation.vcs + o % net.relation.vcs < size net = in-size net (good net setup) port (o % net.relation.vcs) (omega (arith, end)) (mod-below net (good net setup) o) in
+          let narrow = is_frame.few in
+          let is : place ≡ to * 32 + (port * net.relation.vcs + o % net.relation.vcs) = leads in
+          let same : to / 32 ≡ q = omega (arith, is, low, narrow, here) in
+          let port_few : o / net.relation.vcs < 8 = let port = port-is o u in omega (arith, port) in
+          ap (has_bit block.near) (sym same) ∙ linked.near (o / net.relation.vcs) to port port_few e
 
 -- ---- where the flits of active channels go
 
@@ -147,3 +181,28 @@ module _ (net : Setup) (setup : IsGoodSetup net) (n r : ℕ) (l : r < nodes net.
   lane-targets were i u =
       subst (IsTarget (nodes net.relation.grid) blocks) (sym (sym (of-lane chosen.marks.target k i u) ∙ ap (λ (t : ℕ → ℕ). t i) routed-target))
       (granted-target (λ j v. subst (IsTarget (nodes net.relation.grid) blocks) (sym (of-lane frozen.marks.target k j v)) (were j v)) i u)
+
+  -- ---- an active channel asks for nothing, so its target is as it was
+  granted-kept : (i o : ℕ) → i < size net → (view_input (frozen_view net setup n r l) i).phase ≡ Active o → has.granted.marks.target i ≡ (marks_at frozen.marks k).target i
+  granted-kept i o u phase = at (cases_eq (lane_asks (column_at frozen.lanes k)) 0)
+    where
+      at : (lane_asks (column_at frozen.lanes k) ≡ 0) ⊎ (lane_asks (column_at frozen.lanes k) ≢ 0) → has.granted.marks.target i ≡ (marks_at frozen.marks k).target i
+      at (inl none) = ap (λ (a : Allocation). a.marks.target i) (has.unasked none)
+      at (inr some) =
+          ((has.asked some).marks.inputs i (λ p out. loses p out (has_bit (winner (has.asked some).requests (marks_at frozen.marks k) p) i) refl)).target
+        where
+          loses : (p : ℕ) → has_bit (has.asked some).outs p ≡ true → (w : Bool) → has_bit (winner (has.asked some).requests (marks_at frozen.marks k) p) i ≡ w
+              → has_bit (winner (has.asked some).requests (marks_at frozen.marks k) p) i ≡ false
+          loses p out false is_false = is_false
+          loses p out true won =
+              let asked = asker (frozen_view net setup n r l) (allocation_in frozen k) has.granted (leads_by frame) (leads_to frame frozen.marks.lead k) is.column stands.few stands.arbiters.channels
+              (ports-are (leads_by frame) (port-is net setup frame is_frame blocks few_blocks covered frozen r k l linked)) stands.leads (has.asked some) p i out won in
+              absurd (false≢true (ap is_some (sym (ap (λ (s : InputState). ask_of (claim_in (frozen_view net setup n r l) s)) phase) ∙ asked.2)))
+
+  pub lane-target-kept : (i o : ℕ) → i < size net → (view_input (frozen_of net n r) i).phase ≡ Active o → slice_index chosen.marks.target (place_of k i) ≡ slice_index frozen.marks.target (place_of k i)
+  lane-target-kept i o u phase =
+      let narrow = is_frame.few in
+      sym (of-lane chosen.marks.target k i (omega (arith, u, narrow)))
+      ∙ ap (λ (t : ℕ → ℕ). t i) routed-target
+      ∙ granted-kept i o u phase
+      ∙ of-lane frozen.marks.target k i (omega (arith, u, narrow))

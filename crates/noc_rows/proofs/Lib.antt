@@ -109,7 +109,11 @@ pub mod DecidedSteps
 pub mod ChosenIn
 pub mod LaneTargets
 pub mod BlockShows
+pub mod ReaderLaws
 pub mod BlockRests
 pub mod LaneDecided
+pub mod DecidedLanes
 pub mod BlocksNext
 pub mod ArrivalLaws
+pub mod QuietLaws
+pub mod QuietLists
