@@ -85,6 +85,17 @@ module _ (net : Setup) (setup : IsGoodSetup net) (n : ℕ) where
         ∙ ap (flit_out (frozen_of net n r) (view_round (frozen_of net n r))) (sym to) ∙ m.put)
         ∙ ap (λ b. if b then Some m.flit.packet else None) last
 
+    -- .. which is the node at which it ends
+    pub tail-ends : (i : ℕ) (m : IsMover (site_at net r) (frozen_of net n r) i) → m.out / net.relation.vcs ≡ local_port net.relation.grid → m.flit.last ≡ true
+        → (packet_at net m.flit.packet).destination ≡ r
+    tail-ends i m to last = by noted
+      where
+        by : Noted → (packet_at net m.flit.packet).destination ≡ r
+        by (nobody e same) = absurd (none-some m.flit.packet (sym e ∙ mover-out i m to last))
+        by (somebody p e member before same) =
+            let is : p ≡ m.flit.packet = same_Some p m.flit.packet (sym e ∙ mover-out i m to last) in
+            ap (λ q. (packet_at net q).destination) (sym is) ∙ (ends-here net r p member).1
+
     -- .. and its packet has arrived
     pub tail-arrives : (i : ℕ) (m : IsMover (site_at net r) (frozen_of net n r) i) → m.out / net.relation.vcs ≡ local_port net.relation.grid → m.flit.last ≡ true
         → arrival_in net (state_at net (suc n)) m.flit.packet ≡ Some n
@@ -125,6 +136,18 @@ module _ (net : Setup) (setup : IsGoodSetup net) (n : ℕ) where
           last = ap (λ (g : Flit). g.last) put.is ∙ last;
           packet = ap (λ (g : Flit). g.packet) put.is ∙ packet;
         }
+
+    -- the tail of a packet goes out here, or does not
+    pub out-or-not : (p : ℕ) → IsOut p ⊎ (IsOut p → ⊥)
+    out-or-not p = by gone_out refl
+      where
+        by : (o : Option ℕ) → gone_out ≡ o → IsOut p ⊎ (IsOut p → ⊥)
+        by None e = inr (λ x. none-some p (sym e ∙ mover-out x.channel x.mover x.port x.last ∙ ap Some x.packet))
+        by (Some q) e = at (cases_eq q p)
+          where
+            at : (q ≡ p) ⊎ (q ≢ p) → IsOut p ⊎ (IsOut p → ⊥)
+            at (inl same) = inl (is-out p (e ∙ ap Some same))
+            at (inr other) = inr (λ x. other (same_Some q p (sym e ∙ mover-out x.channel x.mover x.port x.last ∙ ap Some x.packet)))
 
   -- ---- a packet of which no tail moves by a local port arrives no more than before
   pub no-arrival : (p : ℕ) → p < length net.packets

@@ -118,3 +118,4 @@ pub mod BlocksNext
 pub mod ArrivalLaws
 pub mod QuietLaws
 pub mod QuietLists
+pub mod LanePorts
