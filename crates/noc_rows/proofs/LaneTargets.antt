@@ -82,6 +82,24 @@ module _ (net : Setup) (setup : IsGoodSetup net) (frame : Frame) (is_frame : IsF
       is-target i (slice_index block.marks.back (place_of k i)) u least
       (back-leads net setup frame is_frame.few is_frame.channels (min blocks 8 * 1024) (omega (arith, covered, spare-is)) block r k linked i u)
 
+  -- the block to which a channel leads is near
+  pub leads-near : (o place q : ℕ) → o < size net → Leads (site_at net r) o place → IsTarget (nodes net.relation.grid) blocks place → place / 1024 ≡ q → q < blocks → has_bit block.near q ≡ true
+  leads-near o place q u leads target here few_q = at (neighbour net.relation.grid r (o / net.relation.vcs)) refl leads target
+    where
+      at : (x : Option (ℕ × ℕ)) → neighbour net.relation.grid r (o / net.relation.vcs) ≡ x → LeadsTo net.relation.grid net.relation.vcs (o % net.relation.vcs) place x
+          → IsTarget (nodes net.relation.grid) blocks place → has_bit block.near q ≡ true
+      at None e beyond (inl within) = absurd (omega (arith, beyond, within))
+      at None e beyond (inr out) = absurd (omega (arith, out, here, few_q))
+      at (Some (to, port)) e leads either =
+          let back = link_back net.relation.grid r (o / net.relation.vcs) to port (good net setup).relation.table.grid l e in
+          let end = back.port in
+          let low : port * net.relation.vcs + o % net.relation.vcs < size net = in-size net (good net setup) port (o % net.relation.vcs) (omega (arith, end)) (mod-below net (good net setup) o) in
+          let narrow = is_frame.few in
+          let is : place ≡ to * 32 + (port * net.relation.vcs + o % net.relation.vcs) = leads in
+          let same : to / 32 ≡ q = omega (arith, is, low, narrow, here) in
+          let port_few : o / net.relation.vcs < 8 = let port = port-is o u in omega (arith, port) in
+          ap (has_bit block.near) (sym same) ∙ linked.near (o / net.relation.vcs) to port port_few e
+
 -- ---- where the flits of active channels go
 
 none-of : (n : ℕ) (test : ℕ → Bool) (o : ℕ) → some_below n test ≡ false → o < n → test o ≡ false

@@ -109,9 +109,14 @@ pub mod DecidedSteps
 pub mod ChosenIn
 pub mod LaneTargets
 pub mod BlockShows
+pub mod ReaderLaws
 pub mod BlockRests
 pub mod LaneDecided
 pub mod DecidedLanes
 pub mod DecidedRests
 pub mod DecidedWires
 pub mod BlocksNext
+pub mod ArrivalLaws
+pub mod QuietLaws
+pub mod QuietLists
+pub mod LanePorts

@@ -28,3 +28,4 @@ pub mod Cycle
 pub mod Whole
 pub mod Stages
 pub mod Decided
+pub mod Readers

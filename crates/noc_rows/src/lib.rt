@@ -18,6 +18,7 @@ mod fields;
 mod flits;
 mod frame;
 mod lanes;
+mod latest;
 mod marks;
 mod moves;
 mod numbers;

@@ -17,6 +17,7 @@ use crate::cycle::DecidedRows;
 use crate::flits::take_flits;
 use crate::frame::Frame;
 use crate::lanes::ROUTERS;
+use crate::latest::latest;
 use crate::marks::Tallies;
 use crate::open::{new_blocks, new_wires};
 use crate::passes::{arrive_all, conclude_all, decide_all, know_words, note_busy, wake_all};
@@ -48,8 +49,11 @@ pub struct Rows {
 impl Rows {
     ghost use Rattle.std.specs.Prelude.{◌*◌, ◌&&◌, IfOk, IfSome, is_some, nat_le};
     ghost use Rattle.noc_model.specs.Good.{IsGoodSetup};
-    ghost use Rattle.noc_model.specs.Network.{Setup};
-    ghost use Rattle.noc_topo.specs.Shape.{ports as ports_of};
+    ghost use Rattle.noc_model.specs.Lockstep.{counts_before};
+    ghost use Rattle.noc_model.specs.Network.{Setup, arrival_in, state_at};
+    ghost use Rattle.noc_model.specs.Progress.{last_event_before};
+    ghost use Rattle.noc_topo.specs.Shape.{nodes as nodes_of, ports as ports_of};
+    ghost use Rattle.noc_rows.specs.Readers.{are_all_out};
     ghost use Rattle.noc_rows.specs.Whole.{IsRows};
 
     /// The network of a relation, `places` (1 to 16 flits) in each buffer and these packets, before its first cycle.
@@ -125,12 +129,16 @@ impl Rows {
     }
 
     /// How many cycles have run.
-    pub fn count(&self) -> u32 {
+    pub fn count(&self) -> u32
+        ensures { (net : Setup) (n : ℕ) → IsRows net n self.now → result ≡ n }
+    {
         self.cycle
     }
 
     /// The cycle in which the tail of a packet was out.
-    pub fn arrival(&self, number: usize) -> Option<u64> {
+    pub fn arrival(&self, number: usize) -> Option<u64>
+        ensures { (net : Setup) (n : ℕ) → IsRows net n self.now → number < length net.packets → result ≡ arrival_in net (state_at net n) number }
+    {
         let arrivals = &self.wires.arrivals;
         if number < arrivals.len() && arrivals[number] != NEVER {
             Some(u64::from(arrivals[number]))
@@ -139,8 +147,22 @@ impl Rows {
         }
     }
 
+    /// Whether the tail of every packet is out.
+    pub fn all_out(&self) -> bool
+        ensures { (net : Setup) (n : ℕ) → IsRows net n self.now → result ≡ are_all_out net (state_at net n) }
+    {
+        for number in 1..self.wires.arrivals.len() {
+            if self.wires.arrivals[number - 1] == NEVER {
+                return false;
+            }
+        }
+        true
+    }
+
     /// How often an input channel of a router had each verdict, in the order of the stall report.
-    pub fn counts(&self, router: usize, port: usize, vc: usize) -> [u64; 10] {
+    pub fn counts(&self, router: usize, port: usize, vc: usize) -> [u64; 10]
+        ensures { (net : Setup) (n : ℕ) → IsRows net n self.now → router < nodes_of net.relation.grid → port < ports_of net.relation.grid → vc < net.relation.vcs → result ≡ counts_before net n router (port * net.relation.vcs + vc) }
+    {
         let number = router / ROUTERS;
         let lane = router % ROUTERS;
         let channel = port.wrapping_mul(self.frame.vcs).wrapping_add(vc) % 32;
@@ -157,13 +179,10 @@ impl Rows {
     }
 
     /// The last cycle in which something happened.
-    pub fn last_event(&self) -> Option<u64> {
-        let mut last = 0u32;
-        for block in &self.blocks {
-            for event in &block.last_event {
-                last = last.max(*event);
-            }
-        }
+    pub fn last_event(&self) -> Option<u64>
+        ensures { (net : Setup) (n : ℕ) → IsGoodSetup net → IsRows net n self.now → result ≡ last_event_before net n }
+    {
+        let last = latest(&self.blocks);
         if last == 0 {
             None
         } else {
