@@ -22,7 +22,7 @@ use Rattle.noc_rows.specs.Passes.{lane_heads}
 use Rattle.noc_rows.specs.Routed.{sets_by}
 use Rattle.noc_rows.specs.Rows.{column_at, word}
 use Rattle.noc_rows.specs.Stages.{HasFrozen, HaveDecided, HaveFrozen, selected_of}
-use Rattle.noc_rows.specs.Switched.{AreNext, HaveReleased, moved_by}
+use Rattle.noc_rows.specs.Switched.{AreApart, AreNext, HaveReleased, in_words, moved_by}
 use Rattle.noc_rows.specs.Whole.{IsTarget, ShowsBlock}
 use Rattle.noc_rows.specs.Wires.{inbox_at, ring_in, room_of}
 use Rattle.noc_rows.specs.declared.block.Block.{Block}
@@ -258,3 +258,133 @@ module _ (net : Setup) (setup : IsGoodSetup net) (n : ℕ) (few : n < CYCLE_LIMI
                 (ap (λ t. t && is_moving net n (place_of (b * 32 + k) i)) (le-ltb (place_of (b * 32 + k) i / 1024) b (let p = (lane-place b k i low u).0 in omega (arith, p))))
                 (ring-then k i low u ∙ is) in
                 (first-still.0, sym (ring-now k i low u) ∙ first-still.1)
+
+    -- ---- its flits move
+    in-block : (lists : ℕ → List ℕ) (c : ℕ) → c < 1024 → by_block lists (b * 1024 + c) ≡ slice_index (lists b) c
+    in-block lists c l =
+        let block : (b * 1024 + c) / 1024 ≡ b = omega (arith, l) in
+        let channel : (b * 1024 + c) % 1024 ≡ c = omega (arith, l) in
+        ap₂ (λ q e. slice_index (lists q) e) block channel
+
+    abbrev movers : ℕ → ℕ
+    movers = moved_by (ports_of frame) (selected_of d.chosen)
+
+    wide : nodes net.relation.grid * 32 ≤ 1024 * length start.inboxes.items
+    wide = let s = longer in omega (arith, s, covered)
+
+    firsts-are : d.chosen.marks.first ≡ first b
+    firsts-are = keeps.places.first ∙ sym (list-of frozen (λ (y : Block). y.marks.first) b x.f x.f_is)
+
+    nows-are : x.m.marks.first ≡ now b
+    nows-are = sym (list-of moved (λ (y : Block). y.marks.first) b x.m x.m_is)
+
+    moving-are : (c : ℕ) → c < 1024 → in_words (moved_by (ports_of frame) (selected_of d.chosen)) c ≡ is_moving net n (b * 1024 + c)
+    moving-are =
+        awake-moves net setup n few frame is_frame starts room enough (length woke) few_blocks covered b x.w x.f (inbox_at before b) (inbox_at after b) x.sheet (bytes b x.w x.w_is) (shown b x) (freezes b x awake)
+        d.chosen keeps frozen-chosen
+
+    leads-are : (c : ℕ) → c < 1024 → in_words (moved_by (ports_of frame) (selected_of d.chosen)) c ≡ true → by_block target (b * 1024 + c) ≡ slice_index d.chosen.marks.target c
+    leads-are c l e =
+        in-block target c l ∙ ap (λ (xs : List ℕ). slice_index xs c) (list-of frozen (λ (y : Block). y.marks.target) b x.f x.f_is)
+        ∙ awake-leads net setup n few frame is_frame starts room enough (length woke) few_blocks covered b x.w x.f (inbox_at before b) (inbox_at after b) x.sheet (bytes b x.w x.w_is) (shown b x) (freezes b x awake)
+        d.chosen keeps frozen-chosen c l e
+
+    backs-are : (c : ℕ) → c < 1024 → in_words (moved_by (ports_of frame) (selected_of d.chosen)) c ≡ true → by_block back (b * 1024 + c) ≡ slice_index d.chosen.marks.back c
+    backs-are c l e =
+        in-block back c l ∙ ap (λ (xs : List ℕ). slice_index xs c) (list-of frozen (λ (y : Block). y.marks.back) b x.f x.f_is ∙ sym keeps.places.back)
+
+    apart-are : AreApart (ports_of frame) (selected_of d.chosen)
+    apart-are =
+        awake-apart net setup n few frame is_frame starts room enough (length woke) few_blocks covered b x.w x.f (inbox_at before b) (inbox_at after b) x.sheet (bytes b x.w x.w_is) (shown b x) (freezes b x awake)
+        d.chosen keeps frozen-chosen
+
+    pub block-next : AreNext b (moved_by (ports_of frame) (selected_of d.chosen)) d.chosen.marks (decided.at b) (nodes net.relation.grid * 32) (is_moving net n) (gone_below (is_moving net n) b)
+        (by_block target) (by_block back) (firsts_below now first b) words
+    block-next =
+        are-next (nodes net.relation.grid * 32) room (length start.inboxes.items) (is_moving net n) (by_block target) (by_block back) first now words b (decided.at b) have
+        (moved_by (ports_of frame) (selected_of d.chosen)) d.chosen.marks x.m.marks can wide (λ c p. (first-bytes c p, later-bytes c p)) firsts-are nows-are moving-are leads-are backs-are
+
+    -- then those of the blocks up to this one have moved
+    pub block-moved : Moved (suc b) (decided.at (suc b))
+    block-moved =
+        moved-to-next (nodes net.relation.grid * 32) room (length start.inboxes.items) (is_moving net n) (by_block target) (by_block back) first now words b (decided.at b) have
+        (moved_by (ports_of frame) (selected_of d.chosen)) d.chosen.marks x.m.marks can wide (λ c p. (first-bytes c p, later-bytes c p)) firsts-are nows-are moving-are leads-are backs-are
+        (decided.at (suc b)) (d.moved.flits apart-are) (ap (λ (w : Wires). w.room) d.moved.wires) d.moved.inboxes
+
+    ports-are : ports_of frame ≡ frame.links + 1
+    ports-are =
+        let grid = (good net setup).relation.table.grid.few_dimensions in
+        let links = is_frame.links_are in
+        omega (arith, grid, links)
+
+    ports-few : ports_of frame ≤ 7
+    ports-few =
+        let grid = (good net setup).relation.table.grid.few_dimensions in
+        let links = is_frame.links_are in
+        let same_ports = ports-are in
+        omega (arith, grid, links, same_ports)
+
+    -- and what their tails held is given back
+    pub block-released : HaveReleased (ports_of frame) frame.links n (selected_of d.chosen) (λ k i. is_tail (first_flit (frozen_of net n (b * 32 + k)) i)) (λ k i. packet_of (first_flit (frozen_of net n (b * 32 + k)) i))
+        d.chosen.marks x.m.marks d.chosen.decided x.m.decided (decided.at b).arrivals.items (decided.at (suc b)).arrivals.items
+    block-released =
+        d.moved.tails (nodes net.relation.grid * 32) (is_moving net n) (gone_below (is_moving net n) b) (by_block target) (by_block back) (firsts_below now first b) words
+        (λ k i. is_tail (first_flit (frozen_of net n (b * 32 + k)) i)) (λ k i. packet_of (first_flit (frozen_of net n (b * 32 + k)) i)) block-next
+        (awake-firsts net setup n few frame is_frame starts room enough (length woke) few_blocks covered b x.w x.f (inbox_at before b) (inbox_at after b) x.sheet (bytes b x.w x.w_is) (shown b x) (freezes b x awake)
+        d.chosen keeps frozen-chosen words rings-are)
+        apart-are ports-are ports-few
+      where
+        rings-are : (k i : ℕ) → k < 32 → i < 32 → words.ring (b * 1024 + (k * 32 + i)) ≡ ring_in room (inbox_at after b) (place_of k i) (slice_index x.f.marks.first (place_of k i))
+        rings-are k i low u =
+            let place : b * 1024 + (k * 32 + i) ≡ place_of (b * 32 + k) i = omega arith in
+            ap words.ring place ∙ ring-then k i low u
+
+    pub block-decides : DecidesLanes net frame n room b x.f d.chosen x.m (inbox_at after b)
+    block-decides = record {
+      keeps = keeps;
+      lanes = frozen-chosen;
+      packet = λ k i. packet_of (first_flit (frozen_of net n (b * 32 + k)) i);
+      was = (decided.at b).arrivals.items;
+      is = (decided.at (suc b)).arrivals.items;
+      released = block-released;
+    }
+
+  -- ---- one block after the other
+  moved-step : (b : ℕ) → b < length woke → Moved b (decided.at b) → Moved (suc b) (decided.at (suc b))
+  moved-step b l have = by x.w.awake refl
+    where
+      x : OneBlock b
+      x = one-block b l
+
+      by : (a : Bool) → x.w.awake ≡ a → Moved (suc b) (decided.at (suc b))
+      by true e = block-moved b x e (decided.awake b x.f x.m x.f_is x.m_is (still-awake b x e)) have
+      by false e =
+          subst (λ (w : Wires). Moved (suc b) w) (sym (asleep-decided b x e).1)
+          (moved-to-asleep (nodes net.relation.grid * 32) room (length start.inboxes.items) (is_moving net n) (by_block target) (by_block back) first now words b (decided.at b) have
+          (asleep-moves net setup n frame is_frame starts room (length woke) few_blocks covered b x.w (inbox_at before b) x.sheet (shown b x)
+          (λ j u. lanes-rest x.w (suc n) j u (shown b x).holds (shown b x).next_due (resting b x e).holds (resting b x e).due) (resting b x e).quiet)
+          (list-of moved (λ (y : Block). y.marks.first) b x.w (asleep-decided b x e).0 ∙ sym (list-of frozen (λ (y : Block). y.marks.first) b x.w (asleep-frozen b x e))))
+
+  pub moved-to : (b : ℕ) → b ≤ length woke → Moved b (decided.at b)
+  moved-to zero l =
+      subst (λ (w : Wires). Moved 0 w) (sym decided.first)
+      (subst (λ (xs : List Inbox). HaveMovedTo (nodes net.relation.grid * 32) room (length start.inboxes.items) (is_moving net n) (by_block target) (by_block back) first now (wire_words room xs (by_block first)) 0 start) same
+      (moved-to-none (nodes net.relation.grid * 32) room (length start.inboxes.items) (is_moving net n) (by_block target) (by_block back) first now start room_is refl))
+  moved-to (suc b) l = moved-step b (omega (arith, l)) (moved-to b (omega (arith, l)))
+
+  -- what is decided in the lanes of a block that is awake
+  pub lanes-decided : (b : ℕ) (f m : Block) → slice_get frozen b ≡ Some f → slice_get moved b ≡ Some m → f.awake ≡ true → (d : HasDecided net.relation frame n b f m (decided.at b) (decided.at (suc b)))
+      → DecidesLanes net frame n room b f d.chosen m (inbox_at after b)
+  lanes-decided b f m f_is m_is awake d = by x.w.awake refl
+    where
+      l : b < length woke
+      l = let u = slice_get_within frozen b f f_is in let c = froze.many in omega (arith, u, c)
+
+      x : OneBlock b
+      x = let y = one-block b l in record { w = y.w; f = f; m = m; sheet = y.sheet; w_is = y.w_is; f_is = f_is; m_is = m_is; sheet_is = y.sheet_is }
+
+      by : (a : Bool) → x.w.awake ≡ a → DecidesLanes net frame n room b f d.chosen m (inbox_at after b)
+      by true e = block-decides b x e d (moved-to b (omega (arith, l)))
+      by false e =
+          let asleep : x.w ≡ f = same_Some x.w f (sym (asleep-frozen b x e) ∙ f_is) in
+          absurd (false≢true (sym e ∙ ap (λ (y : Block). y.awake) asleep ∙ awake))
