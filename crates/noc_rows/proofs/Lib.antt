@@ -113,6 +113,10 @@ pub mod ReaderLaws
 pub mod BlockRests
 pub mod LaneDecided
 pub mod DecidedLanes
+pub mod DecidedRests
+pub mod DecidedWires
 pub mod BlocksNext
+pub mod ArrivalLaws
 pub mod QuietLaws
 pub mod QuietLists
+pub mod LanePorts
