@@ -119,3 +119,4 @@ pub mod ArrivalLaws
 pub mod QuietLaws
 pub mod QuietLists
 pub mod LanePorts
+pub mod ArrivalSteps
