@@ -120,3 +120,4 @@ pub mod QuietLaws
 pub mod QuietLists
 pub mod LanePorts
 pub mod ArrivalSteps
+pub mod ArrivalLanes
