@@ -120,3 +120,5 @@ pub mod ArrivalLaws
 pub mod QuietLaws
 pub mod QuietLists
 pub mod LanePorts
+pub mod ArrivalSteps
+pub mod ArrivalLanes
