@@ -122,3 +122,4 @@ pub mod QuietLists
 pub mod LanePorts
 pub mod ArrivalSteps
 pub mod ArrivalLanes
+pub mod StepQuiet

@@ -40,10 +40,9 @@ module _ (net : Setup) (setup : IsGoodSetup net) (n : ℕ) (frame : Frame) (is_f
         (concluded : HaveConcluded frame n near moved new sheets nexts)
     (links : (b : ℕ) (block : Block) → slice_get new b ≡ Some block → (k : ℕ) → k < 32 → b * 32 + k < nodes net.relation.grid
         → IsLinked net.relation frame (min (length moved) 8 * 1024) block (b * 32 + k) k)
-    (decided : (b : ℕ) (block : Block) → slice_get moved b ≡ Some block → block.awake ≡ true → (k : ℕ) → k < 32 → b * 32 + k < nodes net.relation.grid
-        → word block.decided.moved k ≡ moves_at net n (b * 32 + k))
-    (asleep : (b : ℕ) (block : Block) → slice_get moved b ≡ Some block → block.awake ≡ false → (k : ℕ) → k < 32 → b * 32 + k < nodes net.relation.grid
-        → moves_at net n (b * 32 + k) ≡ 0)
+    (decided : (b : ℕ) (block : Block) → slice_get moved b ≡ Some block → block.awake ≡ true → (c : ℕ) → c < 1024 → is_moving net n (b * 1024 + c) ≡ true
+        → has_bit (word block.decided.moved (c / 32)) (c % 32) ≡ true)
+    (asleep : (b : ℕ) (block : Block) → slice_get moved b ≡ Some block → block.awake ≡ false → (p : ℕ) → p / 1024 ≡ b → is_moving net n p ≡ false)
     (target back : ℕ → ℕ) (start : WireWords) (are : AreFrozenWires net n (moves_at net n) (is_moving net n) target back start)
     (targets : (p : ℕ) → is_moving net n p ≡ true → IsTarget (nodes net.relation.grid) (length moved) (target p)) (backs : (p : ℕ)
         → is_moving net n p ≡ true → IsTarget (nodes net.relation.grid) (length moved) (back p))
@@ -56,6 +55,7 @@ module _ (net : Setup) (setup : IsGoodSetup net) (n : ℕ) (frame : Frame) (is_f
     pub out : ℕ
     pub phase : (view_input (frozen_of net n (p / 32)) (p % 32)).phase ≡ Active out
     pub below : out < size net
+    pub moving : is_moving net n p ≡ true
 
   moves : (p : ℕ) → is_moving net n p ≡ true → Moves p
   moves p e = at (view_input (frozen_of net n (p / 32)) (p % 32)).phase refl
@@ -95,6 +95,7 @@ module _ (net : Setup) (setup : IsGoodSetup net) (n : ℕ) (frame : Frame) (is_f
         out = o;
         phase = is;
         below = subst (λ s. o < s) size-same ((frozen-tidy net setup n (p / 32) router).owned_below (p % 32) o channel is);
+        moving = e;
       }
 
   -- ---- what a flit that moves goes to, and what its credit goes to, is near
@@ -134,23 +135,19 @@ module _ (net : Setup) (setup : IsGoodSetup net) (n : ℕ) (frame : Frame) (is_f
       known : p / 1024 * 32 + p / 32 % 32 < nodes net.relation.grid
       known = let r = m.router in let e = (place-is p).0 in omega (arith, r, e)
 
-      bit : has_bit (moves_at net n (p / 1024 * 32 + p / 32 % 32)) (p % 32) ≡ true
-      bit = ap (λ r. has_bit (moves_at net n r) (p % 32)) (place-is p).0 ∙ m.bit
-
       linked : IsLinked net.relation frame (min (length moved) 8 * 1024) (new_one (p / 1024)) (p / 32) (p / 32 % 32)
       linked = subst (λ r. IsLinked net.relation frame (min (length moved) 8 * 1024) (new_one (p / 1024)) r (p / 32 % 32)) (place-is p).0
           (links (p / 1024) (new_one (p / 1024)) there_next (p / 32 % 32) (place-is p).1 known)
 
       at : (a : Bool) → (moved_one (p / 1024)).awake ≡ a → Near p q
-      at false asleep_is = absurd (false≢true (sym (ap (λ w. has_bit w (p % 32)) (asleep (p / 1024) (moved_one (p / 1024)) there asleep_is
-          (p / 32 % 32) (place-is p).1 known) ∙ has_bit-zero (p % 32)) ∙ bit))
+      at false asleep_is = absurd (false≢true (sym (asleep (p / 1024) (moved_one (p / 1024)) there asleep_is p refl) ∙ m.moving))
       at true awake = λ o place u leads target here few_q.
           let concludes = concluded.awake (p / 1024) (moved_one (p / 1024)) (new_one (p / 1024)) (get_or sheets (p / 1024) some_sheet)
               (get_or nexts (p / 1024) some_sheet) there there_next sheet_is next_is awake in
           let on : (new_one (p / 1024)).awake ≡ true = ap (λ (x : Block). x.awake) concludes.rest ∙ awake in
           let moves_it : (new_one (p / 1024)).moves ≡ true = block-moves frame n (moved_one (p / 1024)) (new_one (p / 1024))
-              (get_or sheets (p / 1024) some_sheet) (get_or nexts (p / 1024) some_sheet) (p / 32 % 32) (p % 32) concludes
-          (place-is p).1 (ap (λ w. has_bit w (p % 32)) (decided (p / 1024) (moved_one (p / 1024)) there awake (p / 32 % 32) (place-is p).1 known) ∙ bit) in
+              (get_or sheets (p / 1024) some_sheet) (get_or nexts (p / 1024) some_sheet) (p % 1024 / 32) (p % 1024 % 32) concludes (omega arith)
+              (decided (p / 1024) (moved_one (p / 1024)) there awake (p % 1024) (omega arith) (ap (is_moving net n) (div-add-mod' p 1024) ∙ m.moving)) in
           concluded.near_is (p / 1024) q (new_one (p / 1024)) there_next (omega (arith, low, paired)) on moves_it
           (leads-near net setup frame is_frame (length moved) few_blocks covered (new_one (p / 1024)) (p / 32) (p / 32 % 32) m.router linked o place q
               u leads target here few_q)
@@ -175,14 +172,15 @@ module _ (net : Setup) (setup : IsGoodSetup net) (n : ℕ) (frame : Frame) (is_f
       moves-near p q m (p % 32) (back p) m.channel leads (backs p e) here few_q
 
   -- ---- a block that is near to none has nothing on its wires, as its in-box had nothing when it was frozen
-  pub lists-quiet : (limit room : ℕ) (inboxes frozen : List Inbox) (first before : ℕ → ℕ) → start ≡ wire_words room frozen before
-      → HaveMoved limit (is_moving net n) target back start (wire_words room inboxes first) → (q : ℕ) → q < length moved → has_bit near q ≡ false
-          → IsQuiet (inbox_at frozen q)
+  pub lists-quiet : (limit room : ℕ) (inboxes frozen : List Inbox) (first before : ℕ → ℕ) (gone : ℕ → Bool)
+      → ((p : ℕ) → gone p ≡ true → is_moving net n p ≡ true)
+      → start ≡ wire_words room frozen before → HaveMoved limit gone target back start (wire_words room inboxes first)
+      → (q : ℕ) → q < length moved → has_bit near q ≡ false → IsQuiet (inbox_at frozen q)
       → ((k : ℕ) → word (inbox_at inboxes q).flits k < 2 ^ 32) → ((k : ℕ) → word (inbox_at inboxes q).credits k < 2 ^ 32)
       → IsQuiet (inbox_at inboxes q)
-  lists-quiet limit room inboxes frozen first before start_is have q few_q far quiet flits_fit credits_fit =
-      block-quiet limit (is_moving net n) target back start room inboxes first q have
-      (λ p e to. false≢true (sym far ∙ target-near p q e to few_q)) (λ p e to. false≢true (sym far ∙ back-near p q e to few_q))
+  lists-quiet limit room inboxes frozen first before gone part start_is have q few_q far quiet flits_fit credits_fit =
+      block-quiet limit gone target back start room inboxes first q have
+      (λ p e to. false≢true (sym far ∙ target-near p q (part p e) to few_q)) (λ p e to. false≢true (sym far ∙ back-near p q (part p e) to few_q))
       (λ k i low u. ap (λ (w : WireWords). w.comes (place_of (q * 32 + k) i)) start_is ∙ lane-comes room frozen before q k i low u
           ∙ ap (λ w. has_bit w i) (quiet.flits k low) ∙ has_bit-zero i)
       (λ k i low u. ap (λ (w : WireWords). w.returns (place_of (q * 32 + k) i)) start_is ∙ lane-returns room frozen before q k i low u
