@@ -115,3 +115,4 @@ pub mod LaneDecided
 pub mod DecidedLanes
 pub mod BlocksNext
 pub mod QuietLaws
+pub mod StepLaws
