@@ -1,6 +1,6 @@
 -- A block that sleeps through a cycle, and all blocks that sleep up to one: they show their routers as long as they do.
 use Rattle.std.proofs.Common.{◌≡◌, ℕ, suc, ◌+◌, ◌*◌, ◌/◌, ◌%◌, ◌<◌, ◌≤◌, Bool, true, false, List, length, get_or, Option, Some, refl, ap, sym, ◌∙◌, subst, arith, inl, inr}
-use Rattle.std.specs.Prelude.{◌⊎◌, ◌||◌, min, nat_le, slice_get}
+use Rattle.std.specs.Prelude.{◌⊎◌, ◌||◌, find, min, nat_eq, nat_le, option_and_then, slice_get}
 use Rattle.std.proofs.lemmas.Bool.{cases_lt, false≢true, le-leb, true≢false}
 use Rattle.std.proofs.lemmas.Nat.{div-add-mod'}
 use Rattle.std.proofs.lemmas.Option.{slice_get-get_or, slice_get_within}
@@ -9,7 +9,8 @@ use Rattle.noc_model.specs.declared.limits.TheConstants.{CYCLE_LIMIT}
 use Rattle.noc_model.specs.Good.{IsGoodSetup}
 use Rattle.noc_model.specs.Halves.{IsSilent}
 use Rattle.noc_model.specs.Lockstep.{beats_at, beats_in, view_at}
-use Rattle.noc_model.specs.Network.{Setup, state_at}
+use Rattle.noc_model.specs.Network.{Setup, arrival_in, packet_at, state_at}
+use Rattle.noc_model.proofs.Arrivals.{arrival-noted}
 use Rattle.noc_rows.specs.Frames.{IsFrame}
 use Rattle.noc_rows.specs.Opened.{IsLinked}
 use Rattle.noc_rows.specs.Rows.{column_at, word}
@@ -26,6 +27,7 @@ use Rattle.noc_rows.proofs.BlockShows.{ShowsInbox}
 use Rattle.noc_rows.proofs.LaneBlanks.{blank-still}
 use Rattle.noc_rows.proofs.LaneRests.{IsResting, lane-asleep, lane-rests, lane-silent, lane-waits, lanes-rest}
 use Rattle.noc_rows.proofs.SleepLaws.{IsAsleep}
+use Rattle.noc_rows.proofs.StayLaws.{ends-stay}
 
 -- ---- who is awake
 
@@ -109,7 +111,7 @@ module _ (net : Setup) (setup : IsGoodSetup net) (n end : ℕ) (less : n < end) 
         lane-silent net setup n (b * 32 + k) l room starts (get_or blocks b block) (get_or sheets b sheet) (inbox_at inboxes b) k end (shows.routers k low l) rests (quiet.flits k low) (quiet.credits k low),
       )
 
-  all-sleep : (s : ℕ) → s < nodes net.relation.grid → (IsAsleep end (view_at net n s)) × (IsSilent (beats_at (beats_in net (state_at net n)) s))
+  pub all-sleep : (s : ℕ) → s < nodes net.relation.grid → (IsAsleep end (view_at net n s)) × (IsSilent (beats_at (beats_in net (state_at net n)) s))
   all-sleep s l =
       let is : s / 32 * 32 + s % 32 ≡ s = div-add-mod' s 32 in
       let covered = all.covered in
@@ -133,3 +135,11 @@ module _ (net : Setup) (setup : IsGoodSetup net) (n end : ℕ) (less : n < end) 
         holds = was.holds;
         next_due = was.next_due;
       }
+
+  -- no packet arrives meanwhile
+  pub arrivals-wait : (p : ℕ) → p < length net.packets → arrival_in net (state_at net end) p ≡ arrival_in net (state_at net n) p
+  arrivals-wait p l =
+      sym (arrival-noted net end p l)
+      ∙ ap (λ (ends : List (ℕ × Option ℕ)). option_and_then (λ (one : ℕ × Option ℕ). one.1) (find (λ (one : ℕ × Option ℕ). nat_eq one.0 p) ends))
+      (ends-stay net setup n end less limit (λ s u. (all-sleep s u).0) (λ s u. (all-sleep s u).1) (packet_at net p).destination (setup.packets p _ l).destination)
+      ∙ arrival-noted net n p l

@@ -116,3 +116,4 @@ pub mod DecidedLanes
 pub mod BlocksNext
 pub mod QuietLaws
 pub mod StepLaws
+pub mod QuietLists
