@@ -113,6 +113,7 @@ pub mod ReaderLaws
 pub mod BlockRests
 pub mod LaneDecided
 pub mod DecidedLanes
+pub mod DecidedRests
 pub mod BlocksNext
 pub mod QuietLaws
 pub mod StepLaws
