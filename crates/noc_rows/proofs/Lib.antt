@@ -115,6 +115,7 @@ pub mod LaneDecided
 pub mod DecidedLanes
 pub mod DecidedRests
 pub mod BlocksNext
+pub mod ArrivalLaws
 pub mod QuietLaws
 pub mod StepLaws
 pub mod QuietLists

@@ -43,3 +43,4 @@ pub record HasDecided (relation : Routes) (frame : Frame) (cycle b : ℕ) (old n
   pub moved : HasMoved frame cycle b chosen new before after
   pub released_fits : (k : ℕ) → word new.decided.released k < 2 ^ 32
   pub freed_fits : (k : ℕ) → word new.decided.freed k < 2 ^ 32
+  pub bytes : (p : ℕ) → slice_index new.marks.first p < 256

@@ -5,7 +5,7 @@ ghost use Rattle.noc_packet.specs.Set.{has_bit};
 ghost use Rattle.noc_rows.specs.Decided.{HasDecided};
 ghost use Rattle.noc_rows.specs.Rows.{word};
 ghost use Rattle.noc_rows.specs.Stages.{AreWoken, HasConcluded, HasFrozen, HaveConcluded, HaveDecided, HaveFrozen, is_busy, next_of, woken};
-ghost use Rattle.noc_rows.specs.Wires.{room_of};
+ghost use Rattle.noc_rows.specs.Wires.{inbox_at, room_of};
 
 use crate::block::Block;
 use crate::frame::Frame;
@@ -52,8 +52,7 @@ fn wake_one(cycle: u32, busy: bool, block: &mut Block) -> u32
 // Bytes are below 256.
 fn know_bytes(places: &[u8])
     ensures { (p : ℕ) → slice_index places.now p < 256 }
-{
-}
+{}
 
 /// Beats are taken, flits are injected, and it is known where channels stand.
 pub fn arrive_all(
@@ -97,13 +96,26 @@ pub fn decide_all(
     blocks: &mut [Block],
     wires: &mut Wires,
 )
-    ensures { HaveDecided (HasDecided relation.now frame.now cycle) blocks.old blocks.new wires.old wires.new }
+    ensures decided { HaveDecided (HasDecided relation.now frame.now cycle) blocks.old blocks.new wires.old wires.new }
+    ensures fits { (b k : ℕ) → (word (inbox_at wires.new.inboxes.items b).flits k < 2 ^ 32) × (word (inbox_at wires.new.inboxes.items b).credits k < 2 ^ 32) }
 {
     for number in 0..blocks.len() {
         if blocks[number].awake {
             let block = &mut blocks[number];
             decide_one(relation, frame, cycle, number, block, wires);
         }
+    }
+    know_inboxes(&wires.inboxes);
+}
+
+// The words of in-boxes are below 2 ^ 32.
+fn know_inboxes(inboxes: &[Inbox])
+    ensures { (b k : ℕ) → (word (inbox_at inboxes.now b).flits k < 2 ^ 32) × (word (inbox_at inboxes.now b).credits k < 2 ^ 32) }
+{
+    for number in 0..inboxes.len() {
+        let inbox = &inboxes[number];
+        know_words(&inbox.flits);
+        know_words(&inbox.credits);
     }
 }
 
@@ -122,13 +134,13 @@ fn decide_one(
     move_block(frame, cycle, number, block, wires);
     know_words(&block.decided.released);
     know_words(&block.decided.freed);
+    know_bytes(&block.marks.first);
 }
 
 /// Words are below 2 ^ 32.
 pub fn know_words(row: &[u32])
     ensures { (k : ℕ) → word row.now k < 2 ^ 32 }
-{
-}
+{}
 
 /// What has happened is counted, and takes effect. The answer has the blocks to which something may be on its way.
 pub fn conclude_all(frame: &Frame, cycle: u32, blocks: &mut [Block], sheets: &mut [Sheet]) -> u32

@@ -1,5 +1,7 @@
-use Rattle.std.proofs.Common.{◌+◌, ◌≤◌, arith, length, set, subst, sym}
+use Rattle.std.proofs.Common.{ℕ, ◌+◌, ◌^◌, ◌<◌, ◌≤◌, arith, length, set, subst, sym}
 use Rattle.noc_rows.specs.Decided.{HasDecided}
+use Rattle.noc_rows.specs.Rows.{word}
+use Rattle.noc_rows.specs.Wires.{inbox_at}
 use Rattle.noc_rows.proofs.DecideAll.{HaveDecidedTo, decided-all, decided-more, decided-none, decided-skip}
 use Rattle.noc_rows.proofs.passes.decide_all.Goals as goal
 use Rattle.noc_rows.proofs.passes.decide_all.Goals.{then-blocks-number, else-blocks-number}
@@ -23,5 +25,9 @@ loop-number-preserved c =
           (decided-skip number (HasDecided c.args.relation.now c.args.frame.now c.args.cycle) c.args.blocks.now c.loop-number.blocks c.args.wires.now c.loop-number.wires so_far (omega arith) _ w.if-blocks-number.false)))
     ]
 
-pub returns : goal.returns
-returns c = decided-all c.loop-number.number (HasDecided c.args.relation.now c.args.frame.now c.args.cycle) c.args.blocks.now c.loop-number.blocks c.args.wires.now c.loop-number.wires (omega arith) c.loop-number.invariant
+pub returns-clause-decided : goal.returns-clause-decided
+returns-clause-decided c = decided-all c.loop-number.number (HasDecided c.args.relation.now c.args.frame.now c.args.cycle) c.args.blocks.now c.loop-number.blocks c.args.wires.now c.loop-number.wires (omega arith) c.loop-number.invariant
+
+pub returns-clause-fits : goal.returns-clause-fits
+returns-clause-fits c =
+    subst (λ inboxes. (b k : ℕ) → (word (inbox_at inboxes b).flits k < 2 ^ 32) × (word (inbox_at inboxes b).credits k < 2 ^ 32)) c.deref.ensures.value c.know_inboxes.ensures
