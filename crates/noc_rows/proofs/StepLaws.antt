@@ -6,7 +6,7 @@ use Rattle.noc_topo.specs.Shape.{nodes}
 use Rattle.noc_packet.specs.Set.{has_bit}
 use Rattle.noc_model.specs.declared.limits.TheConstants.{CYCLE_LIMIT}
 use Rattle.noc_model.specs.Good.{IsGoodSetup}
-use Rattle.noc_model.specs.Network.{Setup, arrival_in, state_at}
+use Rattle.noc_model.specs.Network.{Setup, arrival_in, packet_at, state_at}
 use Rattle.noc_model.proofs.CoreLemmas.{get_some}
 use Rattle.noc_rows.specs.Decided.{HasDecided}
 use Rattle.noc_rows.specs.Frames.{IsFrame}
@@ -20,7 +20,7 @@ use Rattle.noc_rows.specs.declared.rows.Rows.{Rows}
 use Rattle.noc_rows.specs.declared.sheet.Sheet.{Sheet}
 use Rattle.noc_rows.specs.declared.wires.Inbox.{Inbox}
 use Rattle.noc_rows.specs.declared.wires.Wires.{Wires}
-use Rattle.noc_rows.proofs.BlockRests.{AllRest, asleep-parts, blocks-wait, shows-woken}
+use Rattle.noc_rows.proofs.BlockRests.{AllRest, arrivals-wait, asleep-parts, blocks-wait, shows-woken}
 use Rattle.noc_rows.proofs.BlockShows.{ShowsInbox}
 use Rattle.noc_rows.proofs.BlocksNext.{DecidesLanes, Rests, blocks-next}
 
@@ -136,7 +136,14 @@ module _ (net : Setup) (n next : ℕ) (rows : Rows) (is : IsRows net n rows) (wo
             (ap (λ xs. slice_get xs b) (sym blocks) ∙ e) (ap (λ (x : Rows). slice_get x.sheets.items b) (sym kept) ∙ f)))
 
         stays : (p : ℕ) → p < length net.packets → arrival_in net (state_at net end) p ≡ arrival_in net (state_at net n) p
-        stays p l = ?
+        stays p l =
+            let nodes_some : 0 < nodes net.relation.grid = (let to = (setup.packets p (packet_at net p) l).destination in omega (arith, to)) in
+            let blocks_many = is.blocks_are in
+            let sheets_many = is.sheets_are in
+            let many = wakes.many in
+            let block = get_some woke 0 (omega (arith, nodes_some, blocks_many, many)) in
+            let sheet = get_some rows.sheets.items 0 (omega (arith, nodes_some, blocks_many, sheets_many)) in
+            arrivals-wait net setup n end less limit rows.frame rows.starts.items (room_of rows.wires.room) woke rows.sheets.items rows.wires.inboxes.items all-rest block.0 sheet.0 p l
 
         not-busy-then : (b : ℕ) → b < length new.blocks.items → slice_get new.wires.busy.items b ≡ Some false → IsQuiet (inbox_at new.wires.inboxes.items b)
         not-busy-then b l e =
