@@ -119,3 +119,5 @@ pub mod ArrivalLaws
 pub mod QuietLaws
 pub mod StepLaws
 pub mod QuietLists
+pub mod StepParts
+pub mod StepMoves
