@@ -179,7 +179,7 @@ module _ (relation : Routes) (frame : Frame) (cycle : ℕ) (old new : List Block
         busy = ap (λ (x : Wires). x.busy) same;
       }
 
-  so-far-kept : (b : ℕ) → b ≤ length old → KeepsWires before (decided.at b)
+  pub so-far-kept : (b : ℕ) → b ≤ length old → KeepsWires before (decided.at b)
   so-far-kept zero l = subst (λ x. KeepsWires before x) (sym decided.first) (record { inboxes = refl; arrivals = refl; room = refl; busy = refl })
   so-far-kept (suc b) l =
       let many = decided.many in
