@@ -24,7 +24,7 @@ use Rattle.noc_rows.proofs.ArrivalSteps.{PutsOut, arrival-next}
 use Rattle.noc_rows.proofs.BlockShows.{ShowsInbox}
 use Rattle.noc_rows.proofs.BlocksNext.{DecidesLanes, Rests}
 use Rattle.noc_rows.proofs.DecidedRests.{asleep-moves}
-use Rattle.noc_rows.proofs.DecidedWires.{OneBlock, block-decides, block-released, element, lanes-decided, moved-to, one-block}
+use Rattle.noc_rows.proofs.DecidedWires.{OneBlock, block-decides, block-released, element, lanes-decided, moved-to, one-block, wires-decided}
 use Rattle.noc_rows.proofs.LaneRests.{lanes-rest}
 use Rattle.noc_rows.proofs.NetworkLaws.{good}
 use Rattle.noc_rows.proofs.StepLaws.{KeepsWires, all-kept, so-far-kept, woke-rests, woke-shows}
@@ -54,7 +54,8 @@ module _ (net : Setup) (setup : IsGoodSetup net) (n : ℕ) (few : n < CYCLE_LIMI
       (inbox_at woken.before.wires.inboxes.items b)
   woke-shown = woke-shows net n woken.next woken.before woken.shows old.blocks.items woken.wakes
 
-  woke-resting : (b : ℕ) (block : Block) → slice_get old.blocks.items b ≡ Some block → block.awake ≡ false → Rests n block (inbox_at woken.before.wires.inboxes.items b)
+  woke-resting : (b : ℕ) (block : Block) → slice_get old.blocks.items b ≡ Some block → block.awake ≡ false
+      → Rests n block (inbox_at woken.before.wires.inboxes.items b)
   woke-resting = woke-rests net n woken.next woken.before woken.shows old.blocks.items woken.wakes
 
   room-same : room_of step.start.room ≡ room_of woken.before.wires.room
@@ -103,11 +104,14 @@ module _ (net : Setup) (setup : IsGoodSetup net) (n : ℕ) (few : n < CYCLE_LIMI
       at true e =
           let freezes = step.froze.awake b x.w x.f x.w_is x.f_is e (omega (arith, l, long)) in
           let on : x.f.awake ≡ true = ap (λ (y : Block). y.awake) freezes.rest ∙ e in
-          let d : HasDecided net.relation woken.before.frame n b x.f x.m (step.decided.at b) (step.decided.at (suc b)) = step.decided.awake b x.f x.m x.f_is x.m_is on in
-          let have = moved-to net setup n few woken.before.frame woken.shows.frame woken.before.starts.items (room_of woken.before.wires.room) woken.shows.places
+          let d : HasDecided net.relation woken.before.frame n b x.f x.m (step.decided.at b) (step.decided.at (suc b)) = step.decided.awake b x.f x.m
+              x.f_is x.m_is on in
+          let have = moved-to net setup n few woken.before.frame woken.shows.frame woken.before.starts.items (room_of woken.before.wires.room)
+              woken.shows.places
           old.blocks.items step.frozen step.moved woken.before.wires.inboxes.items step.start.inboxes.items step.start step.end woken.before.sheets.items
           few-blocks covered long paired woken.wakes.bytes woke-shown woke-resting step.froze step.decided now-bytes room-same refl b (omega (arith, l)) in
-          let lane = block-decides net setup n few woken.before.frame woken.shows.frame woken.before.starts.items (room_of woken.before.wires.room) woken.shows.places
+          let lane = block-decides net setup n few woken.before.frame woken.shows.frame woken.before.starts.items (room_of woken.before.wires.room)
+              woken.shows.places
           old.blocks.items step.frozen step.moved woken.before.wires.inboxes.items step.start.inboxes.items step.start step.end woken.before.sheets.items
           few-blocks covered long paired woken.wakes.bytes woke-shown woke-resting step.froze step.decided now-bytes room-same refl b x e d have in
           awake-puts net setup n few woken.before.frame woken.shows.frame woken.before.starts.items (room_of woken.before.wires.room) woken.shows.places
@@ -129,7 +133,8 @@ module _ (net : Setup) (setup : IsGoodSetup net) (n : ℕ) (few : n < CYCLE_LIMI
 
   arrivals-long : (b : ℕ) → b ≤ length old.blocks.items → length (step.decided.at b).arrivals.items ≡ length net.packets + 1
   arrivals-long b l =
-      (so-far-kept net.relation woken.before.frame n step.frozen step.moved step.start step.end step.decided b (let f = step.froze.many in omega (arith, l, f))).arrivals
+      (so-far-kept net.relation woken.before.frame n step.frozen step.moved step.start step.end step.decided b (let f = step.froze.many in omega
+          (arith, l, f))).arrivals
       ∙ ap (λ (w : Wires). length w.arrivals.items) step.start_is ∙ woken.shows.arrivals_are
 
   arrived : (p : ℕ) → p < length net.packets → ShowsArrival (slice_index step.end.arrivals.items p) (arrival_in net (state_at net (suc n)) p)
@@ -138,19 +143,27 @@ module _ (net : Setup) (setup : IsGoodSetup net) (n : ℕ) (few : n < CYCLE_LIMI
       let start : step.decided.at 0 ≡ step.start = step.decided.first in
       subst (λ (w : Wires). ShowsArrival (slice_index w.arrivals.items p) (arrival_in net (state_at net (suc n)) p)) last
       (arrival-next net setup n few (length old.blocks.items) covered (λ b. (step.decided.at b).arrivals.items) arrivals-long puts p l
-      (subst (λ (w : Wires). ShowsArrival (slice_index w.arrivals.items p) (arrival_in net (state_at net n) p)) (sym (start ∙ step.start_is)) (woken.shows.arrivals p l)))
+      (subst (λ (w : Wires). ShowsArrival (slice_index w.arrivals.items p) (arrival_in net (state_at net n) p)) (sym (start ∙ step.start_is))
+          (woken.shows.arrivals p l)))
 
-  -- ---- all of it, where these are the wires
-  pub moves-shown : ((b : ℕ) (block : Block) → slice_get new.blocks.items b ≡ Some block
-      → ShowsInbox net (suc n) (room_of woken.before.wires.room) b block (inbox_at step.end.inboxes.items b)) → ShowsMoves net n (record woken.before { blocks = old.blocks }) new step
-  moves-shown wires = record {
+  -- ---- all of it
+  wires-shown : (b : ℕ) (block : Block) → slice_get new.blocks.items b ≡ Some block
+      → ShowsInbox net (suc n) (room_of woken.before.wires.room) b block (inbox_at step.end.inboxes.items b)
+  wires-shown = wires-decided net setup n few woken.before.frame woken.shows.frame woken.before.starts.items (room_of woken.before.wires.room)
+      woken.shows.places
+          old.blocks.items step.frozen step.moved woken.before.wires.inboxes.items step.start.inboxes.items step.start step.end woken.before.sheets.items
+          few-blocks covered long paired woken.wakes.bytes woke-shown woke-resting step.froze step.decided now-bytes room-same refl
+      step.fits new.blocks.items new.sheets.items step.near step.concluded
+
+  pub shows-moves : ShowsMoves net n (record woken.before { blocks = old.blocks }) new step
+  shows-moves = record {
     lanes = lanes-decided net setup n few woken.before.frame woken.shows.frame woken.before.starts.items (room_of woken.before.wires.room) woken.shows.places
           old.blocks.items step.frozen step.moved woken.before.wires.inboxes.items step.start.inboxes.items step.start step.end woken.before.sheets.items
           few-blocks covered long paired woken.wakes.bytes woke-shown woke-resting step.froze step.decided now-bytes room-same refl;
-    wires = wires;
+    wires = wires-shown;
     arrived = arrived;
     quiet = step-quiet net setup n few woken.before.frame woken.shows.frame woken.before.starts.items (room_of woken.before.wires.room) woken.shows.places
           old.blocks.items step.frozen step.moved woken.before.wires.inboxes.items step.start.inboxes.items step.start step.end woken.before.sheets.items
           few-blocks covered long paired woken.wakes.bytes woke-shown woke-resting step.froze step.decided now-bytes room-same refl
-        new.blocks.items new.sheets.items step.near step.concluded wires step.fits;
+        new.blocks.items new.sheets.items step.near step.concluded wires-shown step.fits;
   }
