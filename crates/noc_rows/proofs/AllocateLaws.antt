@@ -117,7 +117,7 @@ module _ (v : View) (a b : Allocation) (port place : ℕ → ℕ) (shows : IsCol
               subst (λ n. n < size_of v.site) is (below (trailing_zeros w32 (bit_and (a.marks.set k) a.column.idle)) (least_is (bit_and (a.marks.set k) a.column.idle) (omega arith) (small (bit_and (a.marks.set k) a.column.idle) below)).0)
 
   -- who wins an output channel that is asked for has asked for it
-  asker : (o k : ℕ) → has_bit has.outs o ≡ true → has_bit (winner has.requests a.marks o) k ≡ true → (k < size_of v.site) × (o < size_of v.site) × (ask_of (view_claim v k) ≡ Some o)
+  pub asker : (o k : ℕ) → has_bit has.outs o ≡ true → has_bit (winner has.requests a.marks o) k ≡ true → (k < size_of v.site) × (o < size_of v.site) × (ask_of (view_claim v k) ≡ Some o)
   asker o k e won = at (cases_lt o 32)
     where
       at : (o < 32) ⊎ (32 ≤ o) → (k < size_of v.site) × (o < size_of v.site) × (ask_of (view_claim v k) ≡ Some o)

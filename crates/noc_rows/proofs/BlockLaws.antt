@@ -36,6 +36,7 @@ module _ (relation : Routes) (frame : Frame) (packets : List Packet) (count : �
     columns = columns;
     marks = marks;
     first = empty.first;
+    target = empty.target;
     last_event = empty.last_event;
     routed = empty.routed;
     granted = empty.granted;
@@ -89,6 +90,7 @@ module _ (relation : Routes) (frame : Frame) (packets : List Packet) (count : �
           columns = λ k l. ap (λ (x : Block). column_at x.lanes k) rest ∙ before.columns k l;
           marks = λ k l. subst (λ (x : Block). AreEmptyMarks (marks_at x.marks k)) (sym rest) (before.marks k l);
           first = λ p. ap (λ (x : Block). slice_index x.marks.first p) rest ∙ before.first p;
+          target = λ p. ap (λ (x : Block). slice_index x.marks.target p) rest ∙ before.target p;
           last_event = λ k l. ap (λ (x : Block). word x.last_event k) rest ∙ before.last_event k l;
           routed = λ p l. ap (λ (x : Block). get_or x.tallies.routed p 0) rest ∙ before.routed p l;
           granted = λ p l. ap (λ (x : Block). get_or x.tallies.granted p 0) rest ∙ before.granted p l;
@@ -128,6 +130,7 @@ module _ (relation : Routes) (frame : Frame) (packets : List Packet) (count : �
     columns = before.columns;
     marks = before.marks;
     first = before.first;
+    target = before.target;
     last_event = before.last_event;
     routed = before.routed;
     granted = before.granted;

@@ -69,7 +69,7 @@ source-same starts s v w queue sending x = record {
 }
 
 -- no flit and no credit comes by beats that carry nothing
-silent-flit : (vcs : ℕ) (row : List Beat) (i : ℕ) → IsSilent row → flit_from vcs 0 row i ≡ None
+pub silent-flit : (vcs : ℕ) (row : List Beat) (i : ℕ) → IsSilent row → flit_from vcs 0 row i ≡ None
 silent-flit vcs row i silent = flit-at vcs 0 row i (omega arith) ∙ ap (λ (b : Beat). flit_on_vc (i % vcs) b.flit) (silent (i / vcs - 0))
 
 silent-credit : (vcs : ℕ) (row : List Beat) (o : ℕ) → IsSilent row → credit_from vcs 0 row o ≡ false

@@ -25,3 +25,7 @@ pub mod Blank
 pub mod Opened
 pub mod Switched
 pub mod Cycle
+pub mod Whole
+pub mod Stages
+pub mod Decided
+pub mod Readers

@@ -106,6 +106,7 @@ pub record IsAsleep (block : Block) : Type 0 where
 -- a block in which nothing has happened, no router has packets, and no flit has gone into a ring
 pub record IsEmptyBlock (block : Block) : Type 0 where
   pub first : (p : ℕ) → slice_index block.marks.first p ≡ 0
+  pub target : (p : ℕ) → slice_index block.marks.target p ≡ 0
   pub last_event : (k : ℕ) → k < 32 → word block.last_event k ≡ 0
   pub routed : (p : ℕ) → p < 1024 → slice_index_or block.tallies.routed p 0 ≡ 0
   pub granted : (p : ℕ) → p < 1024 → slice_index_or block.tallies.granted p 0 ≡ 0
@@ -119,6 +120,7 @@ pub record IsOpenBlock (relation : Routes) (frame : Frame) (packets : List Packe
   pub columns : (k : ℕ) → k < 32 → column_at block.lanes k ≡ empty_column frame.link_set frame.local_set (planes_of frame.place_bits)
   pub marks : (k : ℕ) → k < 32 → AreEmptyMarks (marks_at block.marks k)
   pub first : (p : ℕ) → slice_index block.marks.first p ≡ 0
+  pub target : (p : ℕ) → slice_index block.marks.target p ≡ 0
   pub last_event : (k : ℕ) → k < 32 → word block.last_event k ≡ 0
   pub routed : (p : ℕ) → p < 1024 → slice_index_or block.tallies.routed p 0 ≡ 0
   pub granted : (p : ℕ) → p < 1024 → slice_index_or block.tallies.granted p 0 ≡ 0

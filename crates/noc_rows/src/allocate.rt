@@ -28,6 +28,7 @@ pub fn allocate_all(
     ensures marks { KeepsPlaces marks.old marks.new }
     ensures decided { KeepsMoves decided.old decided.new }
     ensures tallies { tallies.new.routed ≡ tallies.old.routed }
+    ensures lanes { lanes.new ≡ record lanes.old { wanted = lanes.new.wanted; idle = lanes.new.idle; supplied = lanes.new.supplied } }
 {
     let mut rest = asking;
     while rest != 0 {
@@ -52,6 +53,7 @@ fn allocate(
     ensures marks { KeepsPlaces marks.old marks.new }
     ensures decided { KeepsMoves decided.old decided.new }
     ensures tallies { tallies.new.routed ≡ tallies.old.routed }
+    ensures lanes { lanes.new ≡ record lanes.old { wanted = lanes.new.wanted; idle = lanes.new.idle; supplied = lanes.new.supplied } }
 {
     let mut requests = [0u32; 33];
     let waiting = lanes.waiting[lane];

@@ -108,6 +108,7 @@ impl Lanes {
         requires { lane < 32 }
         ensures here { column_at self.new lane ≡ record (column_at self.old lane) { wanted = wanted; idle = less (column_at self.old lane).idle outs; supplied = bit_or (column_at self.old lane).supplied granted } }
         ensures others { (k : ℕ) → k ≢ lane → column_at self.new k ≡ column_at self.old k }
+        ensures rest { self.new ≡ record self.old { wanted = self.new.wanted; idle = self.new.idle; supplied = self.new.supplied } }
     {
         let idle = self.idle[lane] & !outs;
         let supplied = self.supplied[lane] | granted;

@@ -1,13 +1,14 @@
 //! A network in rows.
 
-ghost use Rattle.std.specs.Prelude.{◌≡◌, ◌+◌, ◌%◌, ◌^◌, ◌<◌, ℕ, not, nat_eq, slice_index_or, if◌then◌else◌};
+ghost use Rattle.std.specs.Prelude.{◌≡◌, ◌+◌, ◌%◌, ◌^◌, ◌<◌, ◌≤◌, ℕ, length, not, nat_eq, slice_index_or, if◌then◌else◌};
 ghost use Rattle.noc_packet.specs.Set.{has_bit};
 ghost use Rattle.noc_rows.specs.Arrive.{HasArrived};
+ghost use Rattle.noc_rows.specs.Decided.{HasChosenIn};
 ghost use Rattle.noc_rows.specs.Outlook.{holding_in, least_below, some_below};
 ghost use Rattle.noc_rows.specs.Passes.{lane_asks, lane_heads, lane_standing, lane_verdicts, settled_lane};
 ghost use Rattle.noc_rows.specs.Rows.{column_at, effects_at, event_in, planes_of, standing_at, word};
 ghost use Rattle.noc_rows.specs.Tallied.{AreBelow, counts_by, cycles_of, sheet_counts, ten_counts, with_verdicts};
-ghost use Rattle.noc_rows.specs.Wires.{room_of};
+ghost use Rattle.noc_rows.specs.Wires.{inbox_at, room_of};
 
 use crate::allocate::allocate_all;
 use crate::block::Block;
@@ -16,9 +17,10 @@ use crate::cycle::DecidedRows;
 use crate::flits::take_flits;
 use crate::frame::Frame;
 use crate::lanes::ROUTERS;
+use crate::latest::latest;
 use crate::marks::Tallies;
-use crate::moves::move_block;
 use crate::open::{new_blocks, new_wires};
+use crate::passes::{arrive_all, conclude_all, decide_all, know_words, note_busy, wake_all};
 use crate::room::Room;
 use crate::route::route_all;
 use crate::settle::{look_ahead, note_events, settle};
@@ -45,6 +47,16 @@ pub struct Rows {
 }
 
 impl Rows {
+    ghost use Rattle.std.specs.Prelude.{◌*◌, ◌&&◌, IfOk, IfSome, is_some, nat_le};
+    ghost use Rattle.noc_model.specs.Good.{IsGoodSetup};
+    ghost use Rattle.noc_model.specs.Lockstep.{counts_before};
+    ghost use Rattle.noc_model.specs.Network.{Setup, arrival_in, state_at};
+    ghost use Rattle.noc_model.specs.Progress.{last_event_before};
+    ghost use Rattle.noc_topo.specs.Shape.{nodes as nodes_of, ports as ports_of};
+    ghost use Rattle.noc_rows.specs.Readers.{are_all_out};
+    ghost use Rattle.noc_rows.specs.Whole.{IsRows, IsWoken};
+    ghost use Rattle.noc_model.specs.declared.limits.TheConstants.{CYCLE_LIMIT};
+
     /// The network of a relation, `places` (1 to 16 flits) in each buffer and these packets, before its first cycle.
     /// None where a router has more than 31 channels, or there are more places.
     pub fn new(
@@ -52,7 +64,10 @@ impl Rows {
         relation: &Relation,
         places: usize,
         packets: &[Packet],
-    ) -> Result<Option<Rows>, Memory> {
+    ) -> Result<Option<Rows>, Memory>
+        ensures rows { (net : Setup) → net.relation ≡ relation.now → net.places ≡ places → net.packets ≡ packets.now → IsGoodSetup net → IfOk result (λ made. IfSome made (IsRows net 0)) }
+        ensures some { IfOk result (λ made. is_some made ≡ (nat_le (ports_of relation.now.grid * relation.now.vcs) 31 && nat_le places 16)) }
+    {
         let Some(frame) = Frame::of(relation, places) else {
             return Ok(None);
         };
@@ -72,91 +87,64 @@ impl Rows {
 
     /// Runs so many cycles, by the relation that it was made for. Those in which nothing happens are run at once. It
     /// takes no memory.
-    pub fn run(&mut self, relation: &Relation, cycles: u32) {
+    pub fn run(&mut self, relation: &Relation, cycles: u32)
+        ensures { (net : Setup) (n : ℕ) → IsGoodSetup net → net.relation ≡ relation.now → n + cycles ≤ CYCLE_LIMIT → IsRows net n self.old → IsRows net (n + cycles) self.new }
+    {
         let mut left = cycles;
         while left > 0 {
-            let due = self.wake();
-            let idle = due.saturating_sub(self.cycle).min(left);
-            if idle > 0 {
-                self.cycle = self.cycle.saturating_add(idle);
-                left -= idle;
-            } else {
-                self.arrive();
-                self.decide(relation);
-                self.conclude();
-                self.cycle = self.cycle.saturating_add(1);
-                left -= 1;
-            }
+            left -= self.advance(relation, left);
         }
     }
 
-    // The blocks in which something is to happen are awake. The answer is when the next one is to be.
-    fn wake(&mut self) -> u32 {
-        let cycle = self.cycle;
-        let mut next = NEVER;
-        for (block, busy) in self.blocks.iter_mut().zip(self.wires.busy.iter()) {
-            let now = block.holds || *busy;
-            block.awake = now || block.next_due <= cycle;
-            next = next.min(if now { cycle } else { block.next_due });
-        }
-        next
-    }
-
-    // Beats are taken, and flits are injected.
-    fn arrive(&mut self) {
-        let mut number = 0usize;
-        for block in self.blocks.iter_mut() {
-            if block.awake && number < self.wires.inboxes.len() {
-                let inbox = &mut self.wires.inboxes[number];
-                arrive_one(
-                    &self.frame,
-                    self.cycle,
-                    &self.starts,
-                    self.wires.room,
-                    inbox,
-                    block,
-                );
-                stand_one(&self.frame, block);
-            }
-            number = number.wrapping_add(1);
+    // Runs one cycle, or as many of these as nothing happens in. The answer is how many it has run.
+    fn advance(&mut self, relation: &Relation, most: u32) -> u32
+        requires { 0 < most }
+        ensures some { 0 < result }
+        ensures within { result ≤ most }
+        ensures rows { (net : Setup) (n : ℕ) → IsGoodSetup net → net.relation ≡ relation.now → n + most ≤ CYCLE_LIMIT → IsRows net n self.old → IsRows net (n + result) self.new }
+    {
+        let due = wake_all(self.cycle, &self.wires.busy, &mut self.blocks);
+        let idle = due.saturating_sub(self.cycle).min(most);
+        if idle > 0 {
+            self.cycle = self.cycle.saturating_add(idle);
+            idle
+        } else {
+            self.step(relation);
+            1
         }
     }
 
-    // Channels are granted, heads are routed, and flits move.
-    fn decide(&mut self, relation: &Relation) {
-        let mut number = 0usize;
-        for block in self.blocks.iter_mut() {
-            if block.awake {
-                let frame = &self.frame;
-                grant_and_route(relation, frame, number, block, &self.wires);
-                move_block(frame, self.cycle, number, block, &mut self.wires);
-            }
-            number = number.wrapping_add(1);
-        }
-    }
-
-    // What has happened is counted, and takes effect.
-    fn conclude(&mut self) {
-        let mut near = 0u32;
-        for (block, sheet) in self.blocks.iter_mut().zip(self.sheets.iter_mut()) {
-            if block.awake {
-                conclude_one(&self.frame, self.cycle, block, sheet);
-                near |= if block.moves { block.near } else { 0 };
-            }
-        }
-        for busy in self.wires.busy.iter_mut() {
-            *busy = near % 2 == 1;
-            near /= 2;
-        }
+    // Runs one cycle of the blocks that are awake.
+    fn step(&mut self, relation: &Relation)
+        ensures { (net : Setup) (n : ℕ) → IsGoodSetup net → net.relation ≡ relation.now → n < CYCLE_LIMIT → IsWoken net n self.old → IsRows net (n + 1) self.new }
+    {
+        let frame = &self.frame;
+        let wires = &mut self.wires;
+        arrive_all(
+            frame,
+            self.cycle,
+            &self.starts,
+            wires.room,
+            &mut wires.inboxes,
+            &mut self.blocks,
+        );
+        decide_all(relation, frame, self.cycle, &mut self.blocks, wires);
+        let near = conclude_all(frame, self.cycle, &mut self.blocks, &mut self.sheets);
+        note_busy(near, &mut wires.busy);
+        self.cycle = self.cycle.saturating_add(1);
     }
 
     /// How many cycles have run.
-    pub fn count(&self) -> u32 {
+    pub fn count(&self) -> u32
+        ensures { (net : Setup) (n : ℕ) → IsRows net n self.now → result ≡ n }
+    {
         self.cycle
     }
 
     /// The cycle in which the tail of a packet was out.
-    pub fn arrival(&self, number: usize) -> Option<u64> {
+    pub fn arrival(&self, number: usize) -> Option<u64>
+        ensures { (net : Setup) (n : ℕ) → IsRows net n self.now → number < length net.packets → result ≡ arrival_in net (state_at net n) number }
+    {
         let arrivals = &self.wires.arrivals;
         if number < arrivals.len() && arrivals[number] != NEVER {
             Some(u64::from(arrivals[number]))
@@ -165,8 +153,22 @@ impl Rows {
         }
     }
 
+    /// Whether the tail of every packet is out.
+    pub fn all_out(&self) -> bool
+        ensures { (net : Setup) (n : ℕ) → IsRows net n self.now → result ≡ are_all_out net (state_at net n) }
+    {
+        for number in 1..self.wires.arrivals.len() {
+            if self.wires.arrivals[number - 1] == NEVER {
+                return false;
+            }
+        }
+        true
+    }
+
     /// How often an input channel of a router had each verdict, in the order of the stall report.
-    pub fn counts(&self, router: usize, port: usize, vc: usize) -> [u64; 10] {
+    pub fn counts(&self, router: usize, port: usize, vc: usize) -> [u64; 10]
+        ensures { (net : Setup) (n : ℕ) → IsRows net n self.now → router < nodes_of net.relation.grid → port < ports_of net.relation.grid → vc < net.relation.vcs → result ≡ counts_before net n router (port * net.relation.vcs + vc) }
+    {
         let number = router / ROUTERS;
         let lane = router % ROUTERS;
         let channel = port.wrapping_mul(self.frame.vcs).wrapping_add(vc) % 32;
@@ -183,13 +185,10 @@ impl Rows {
     }
 
     /// The last cycle in which something happened.
-    pub fn last_event(&self) -> Option<u64> {
-        let mut last = 0u32;
-        for block in &self.blocks {
-            for event in &block.last_event {
-                last = last.max(*event);
-            }
-        }
+    pub fn last_event(&self) -> Option<u64>
+        ensures { (net : Setup) (n : ℕ) → IsGoodSetup net → IsRows net n self.now → result ≡ last_event_before net n }
+    {
+        let last = latest(&self.blocks);
         if last == 0 {
             None
         } else {
@@ -199,7 +198,7 @@ impl Rows {
 }
 
 // Beats are taken in a block, and flits are injected.
-fn arrive_one(
+pub(crate) fn arrive_one(
     frame: &Frame,
     cycle: u32,
     starts: &[Start],
@@ -238,7 +237,7 @@ fn arrive_one(
 }
 
 // Where the input channels of a block stand, before anything is decided.
-fn stand_one(frame: &Frame, block: &mut Block)
+pub(crate) fn stand_one(frame: &Frame, block: &mut Block)
     ensures standing { (k : ℕ) → k < 32 → standing_at block.new.standing k ≡ lane_standing frame.now.fields (word block.old.arrived.filled k) (column_at block.old.lanes k) }
     ensures heading { (k : ℕ) → k < 32 → has_bit block.new.work.heading k ≡ not (nat_eq (lane_heads (word block.old.arrived.filled k) (column_at block.old.lanes k)) 0) }
     ensures asking { (k : ℕ) → k < 32 → has_bit block.new.work.asking k ≡ not (nat_eq (lane_asks (column_at block.old.lanes k)) 0) }
@@ -257,13 +256,15 @@ fn stand_one(frame: &Frame, block: &mut Block)
 }
 
 // Output channels are granted and heads are routed in a block.
-fn grant_and_route(
+pub(crate) fn grant_and_route(
     relation: &Relation,
     frame: &Frame,
     number: usize,
     block: &mut Block,
     wires: &Wires,
-) {
+)
+    ensures { number < length wires.now.inboxes.items → HasChosenIn relation.now frame.now number (room_of wires.now.room) (inbox_at wires.now.inboxes.items number) block.old block.new }
+{
     allocate_all(
         frame,
         block.work.asking,
@@ -285,11 +286,12 @@ fn grant_and_route(
             &mut block.lanes.wanted,
             &mut block.tallies.routed,
         );
+        know_words(&block.lanes.wanted);
     }
 }
 
 // What has happened in a block is counted, and takes effect.
-fn conclude_one(frame: &Frame, cycle: u32, block: &mut Block, sheet: &mut Sheet)
+pub(crate) fn conclude_one(frame: &Frame, cycle: u32, block: &mut Block, sheet: &mut Sheet)
     ensures columns { (k : ℕ) → k < 32 → column_at block.new.lanes k ≡ settled_lane frame.now.fields frame.now.link_set frame.now.local_set (effects_at block.old.standing block.old.decided k) (column_at block.old.lanes k) }
     ensures counts { cycles_of sheet.old + 1 < 2 ^ 32 → (j k : ℕ) → j < 32 → sheet_counts sheet.new j k ≡ with_verdicts (lane_verdicts (word block.old.arrived.filled j) (standing_at block.old.standing j) (word block.old.decided.granted j) (word block.old.decided.lost j) (word block.old.decided.moved j) (column_at block.old.lanes j)) k (sheet_counts sheet.old j k) }
     ensures cycles { cycles_of sheet.new ≡ (cycles_of sheet.old + 1) % 2 ^ 32 }

@@ -1,8 +1,14 @@
-use Rattle.std.proofs.Common.{◌<◌, ◌∙◌, ap, arith}
+use Rattle.std.proofs.Common.{◌≡◌, ◌<◌, ◌∙◌, ap, arith}
+use Rattle.noc_rows.specs.declared.column.Lanes.{Lanes}
 use Rattle.noc_rows.specs.Grants.{leads_to}
 use Rattle.noc_rows.proofs.EachLemmas.{each-all, each-next}
 use Rattle.noc_rows.proofs.GrantLemmas.{allocated-at}
 use Rattle.noc_rows.proofs.allocate.allocate_all.Goals as goal
+
+-- what keeps the other rows of lanes, twice
+lanes-then : (a b c : Lanes) → b ≡ record a { wanted = b.wanted; idle = b.idle; supplied = b.supplied } → c ≡ record b { wanted = c.wanted; idle = c.idle; supplied = c.supplied }
+    → c ≡ record a { wanted = c.wanted; idle = c.idle; supplied = c.supplied }
+lanes-then a b c first second = second ∙ ap (λ (x : Lanes). record x { wanted = c.wanted; idle = c.idle; supplied = c.supplied }) first
 
 pub loop-rest-preserved : goal.loop-rest-preserved
 loop-rest-preserved c =
@@ -26,6 +32,7 @@ loop-rest-preserved c =
         freed = c.allocate.ensures.decided.freed ∙ inv.moves.freed;
       };
       routed = c.allocate.ensures.tallies ∙ inv.routed;
+      lanes = lanes-then c.args.lanes.now c.loop-rest.lanes c.allocate.new.lanes inv.lanes c.allocate.ensures.lanes;
     }
 
 pub returns-clause-here : goal.returns-clause-here

@@ -11,6 +11,7 @@ invariant-loop-rest l = record {
   places : KeepsPlaces l.fn.marks l.marks;
   moves : KeepsMoves l.fn.decided l.decided;
   routed : l.tallies.routed ≡ l.fn.tallies.routed;
+  lanes : l.lanes ≡ record l.fn.lanes { wanted = l.lanes.wanted; idle = l.lanes.idle; supplied = l.lanes.supplied };
 }
 
 abbrev pub decreases-loop-rest : goal.decreases-loop-rest

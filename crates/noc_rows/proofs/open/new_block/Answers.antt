@@ -14,6 +14,7 @@ returns-clause-marks c k l = record {
 pub returns-clause-blank : goal.returns-clause-blank
 returns-clause-blank c = record {
   first = λ p. at_replicate 0 1024 p;
+  target = λ p. at_replicate 0 1024 p;
   last_event = λ k l. none-at 32 k l;
   routed = λ p l. none-at 1024 p l;
   granted = λ p l. none-at 1024 p l;

@@ -1,0 +1,6 @@
+use Rattle.noc_rows.specs.Decided.{HasDecided}
+use Rattle.noc_rows.proofs.DecideAll.{HaveDecidedTo}
+use Rattle.noc_rows.proofs.passes.decide_all.Given as goal
+
+abbrev pub invariant-loop-number : goal.invariant-loop-number
+invariant-loop-number l = HaveDecidedTo l.number (HasDecided l.relation l.frame l.cycle) l.initial.blocks l.blocks l.initial.wires l.wires

@@ -1,0 +1,21 @@
+-- What the readers of rows answer.
+use Rattle.std.specs.Prelude.{◌≡◌, ◌⊎◌, ℕ, ◌<◌, ◌≤◌, Bool, List, Some, is_some, length, slice_get}
+use Rattle.std.specs.List.{list_all}
+use Rattle.noc_topo.specs.Words.{below}
+use Rattle.noc_model.specs.Network.{Setup, State, arrival_in}
+use Rattle.noc_rows.specs.Rows.{word}
+use Rattle.noc_rows.specs.declared.block.Block.{Block}
+
+-- the tail of every packet is out
+abbrev pub are_all_out : Setup → State → Bool
+are_all_out net S = list_all (λ p. is_some (arrival_in net S p)) (below (length net.packets))
+
+-- the greatest word of a row
+pub record IsGreatestIn (row : List ℕ) (last : ℕ) : Type 0 where
+  pub bound : (k : ℕ) → k < 32 → word row k ≤ last
+  pub one : (last ≡ 0) ⊎ ((k : ℕ) × (k < 32) × (word row k ≡ last))
+
+-- the greatest word of the last events of these blocks
+pub record IsLatest (blocks : List Block) (last : ℕ) : Type 0 where
+  pub bound : (b k : ℕ) (block : Block) → slice_get blocks b ≡ Some block → k < 32 → word block.last_event k ≤ last
+  pub one : (last ≡ 0) ⊎ ((b : ℕ) × (k : ℕ) × (block : Block) × (slice_get blocks b ≡ Some block) × (k < 32) × (word block.last_event k ≡ last))

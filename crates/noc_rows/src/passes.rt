@@ -1,0 +1,189 @@
+//! The passes of a cycle over all blocks: each is done in the blocks that are awake.
+
+ghost use Rattle.std.specs.Prelude.{◌≡◌, ℕ, ◌^◌, ◌<◌, length, slice_get, slice_index, true, Some};
+ghost use Rattle.noc_packet.specs.Set.{has_bit};
+ghost use Rattle.noc_rows.specs.Decided.{HasDecided};
+ghost use Rattle.noc_rows.specs.Rows.{word};
+ghost use Rattle.noc_rows.specs.Stages.{AreWoken, HasConcluded, HasFrozen, HaveConcluded, HaveDecided, HaveFrozen, is_busy, next_of, woken};
+ghost use Rattle.noc_rows.specs.Wires.{inbox_at, room_of};
+
+use crate::block::Block;
+use crate::frame::Frame;
+use crate::moves::move_block;
+use crate::room::Room;
+use crate::rows::{arrive_one, conclude_one, grant_and_route, stand_one};
+use crate::sheet::Sheet;
+use crate::starts::{NEVER, Start};
+use crate::wires::{Inbox, Wires};
+use noc_route::Relation;
+
+/// The blocks in which something is to happen are awake. The answer is when the next one is to be.
+pub fn wake_all(cycle: u32, busy: &[bool], blocks: &mut [Block]) -> u32
+    ensures { AreWoken cycle result busy.now blocks.old blocks.new }
+{
+    let mut next = NEVER;
+    for number in 0..blocks.len() {
+        let busy_now = may_come(busy, number);
+        let block = &mut blocks[number];
+        next = next.min(wake_one(cycle, busy_now, block));
+    }
+    next
+}
+
+// Whether there may be anything on the wires to a block.
+fn may_come(busy: &[bool], number: usize) -> bool
+    ensures { result ≡ is_busy busy.now number }
+{
+    number < busy.len() && busy[number]
+}
+
+// A block is awake or asleep in this cycle. The answer is when something is to happen in it.
+fn wake_one(cycle: u32, busy: bool, block: &mut Block) -> u32
+    ensures block { block.new ≡ woken cycle busy block.old }
+    ensures next { result ≡ next_of cycle busy block.old }
+    ensures bytes { (p : ℕ) → slice_index block.new.marks.first p < 256 }
+{
+    know_bytes(&block.marks.first);
+    let now = block.holds || busy;
+    block.awake = now || block.next_due <= cycle;
+    if now { cycle } else { block.next_due }
+}
+
+// Bytes are below 256.
+fn know_bytes(places: &[u8])
+    ensures { (p : ℕ) → slice_index places.now p < 256 }
+{}
+
+/// Beats are taken, flits are injected, and it is known where channels stand.
+pub fn arrive_all(
+    frame: &Frame,
+    cycle: u32,
+    starts: &[Start],
+    room: Room,
+    inboxes: &mut [Inbox],
+    blocks: &mut [Block],
+)
+    ensures { HaveFrozen frame.now cycle (room_of room) starts.now blocks.old blocks.new inboxes.old inboxes.new }
+{
+    for number in 0..blocks.len() {
+        if number < inboxes.len() && blocks[number].awake {
+            let inbox = &mut inboxes[number];
+            freeze_one(frame, cycle, starts, room, inbox, &mut blocks[number]);
+        }
+    }
+}
+
+// .. in one block.
+fn freeze_one(
+    frame: &Frame,
+    cycle: u32,
+    starts: &[Start],
+    room: Room,
+    inbox: &mut Inbox,
+    block: &mut Block,
+)
+    ensures { HasFrozen frame.now cycle (room_of room) starts.now block.old block.new inbox.old inbox.new }
+{
+    arrive_one(frame, cycle, starts, room, inbox, block);
+    stand_one(frame, block);
+}
+
+/// One block after the other decides: channels are granted, heads are routed, and flits move.
+pub fn decide_all(
+    relation: &Relation,
+    frame: &Frame,
+    cycle: u32,
+    blocks: &mut [Block],
+    wires: &mut Wires,
+)
+    ensures decided { HaveDecided (HasDecided relation.now frame.now cycle) blocks.old blocks.new wires.old wires.new }
+    ensures fits { (b k : ℕ) → (word (inbox_at wires.new.inboxes.items b).flits k < 2 ^ 32) × (word (inbox_at wires.new.inboxes.items b).credits k < 2 ^ 32) }
+{
+    for number in 0..blocks.len() {
+        if blocks[number].awake {
+            let block = &mut blocks[number];
+            decide_one(relation, frame, cycle, number, block, wires);
+        }
+    }
+    know_inboxes(&wires.inboxes);
+}
+
+// The words of in-boxes are below 2 ^ 32.
+fn know_inboxes(inboxes: &[Inbox])
+    ensures { (b k : ℕ) → (word (inbox_at inboxes.now b).flits k < 2 ^ 32) × (word (inbox_at inboxes.now b).credits k < 2 ^ 32) }
+{
+    for number in 0..inboxes.len() {
+        let inbox = &inboxes[number];
+        know_words(&inbox.flits);
+        know_words(&inbox.credits);
+    }
+}
+
+// .. one block.
+fn decide_one(
+    relation: &Relation,
+    frame: &Frame,
+    cycle: u32,
+    number: usize,
+    block: &mut Block,
+    wires: &mut Wires,
+)
+    ensures { HasDecided relation.now frame.now cycle number block.old block.new wires.old wires.new }
+{
+    grant_and_route(relation, frame, number, block, wires);
+    move_block(frame, cycle, number, block, wires);
+    know_words(&block.decided.released);
+    know_words(&block.decided.freed);
+    know_bytes(&block.marks.first);
+}
+
+/// Words are below 2 ^ 32.
+pub fn know_words(row: &[u32])
+    ensures { (k : ℕ) → word row.now k < 2 ^ 32 }
+{}
+
+/// What has happened is counted, and takes effect. The answer has the blocks to which something may be on its way.
+pub fn conclude_all(frame: &Frame, cycle: u32, blocks: &mut [Block], sheets: &mut [Sheet]) -> u32
+    ensures { HaveConcluded frame.now cycle result blocks.old blocks.new sheets.old sheets.new }
+{
+    let mut near = 0u32;
+    for number in 0..blocks.len() {
+        if number < sheets.len() && blocks[number].awake {
+            let sheet = &mut sheets[number];
+            near |= settle_one(frame, cycle, &mut blocks[number], sheet);
+        }
+    }
+    near
+}
+
+// .. in one block.
+fn settle_one(frame: &Frame, cycle: u32, block: &mut Block, sheet: &mut Sheet) -> u32
+    ensures block { HasConcluded frame.now cycle block.old block.new sheet.old sheet.new }
+    ensures near { block.new.moves ≡ true → result ≡ block.new.near }
+{
+    conclude_one(frame, cycle, block, sheet);
+    near_to(block)
+}
+
+// The blocks to which something of a block may be on its way.
+fn near_to(block: &Block) -> u32
+    ensures { block.now.moves ≡ true → result ≡ block.now.near }
+{
+    if block.moves { block.near } else { 0 }
+}
+
+/// The blocks to which something may be on its way are busy.
+pub fn note_busy(near: u32, busy: &mut [bool])
+    ensures { (b : ℕ) → b < length busy.old → b < 32 → slice_get busy.new b ≡ Some (has_bit near b) }
+{
+    for number in 0..busy.len() {
+        busy[number] = is_near(near, number);
+    }
+}
+
+// Whether a block is in a set of blocks.
+fn is_near(near: u32, number: usize) -> bool
+    ensures { number < 32 → result ≡ has_bit near number }
+{
+    number < 32 && near >> number as u32 & 1 == 1
+}
