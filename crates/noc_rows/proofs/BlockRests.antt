@@ -59,7 +59,7 @@ asleep-parts cycle busy block none = at block.holds busy refl refl none (cases_l
 module _ (net : Setup) (setup : IsGoodSetup net) (n : ℕ) (few : n < CYCLE_LIMIT) (frame : Frame) (starts : List Start) (room blocks b : ℕ)
     (block : Block) (sheet : Sheet) (before : Inbox)
     (was : ShowsBlock net n frame starts room blocks b block sheet before) (holds : block.holds ≡ false) (due : suc n ≤ block.next_due)
-        (quiet : IsQuiet before) where
+    (quiet : IsQuiet before) where
   pub block-resting : (k : ℕ) → k < 32 → IsResting block (suc n) k
   block-resting k low = lanes-rest block (suc n) k low was.holds was.next_due holds due
 
@@ -68,10 +68,10 @@ module _ (net : Setup) (setup : IsGoodSetup net) (n : ℕ) (few : n < CYCLE_LIMI
   block-rests inbox wires = record {
     routers = λ k low l.
         lane-rests net setup n (b * 32 + k) l room starts block sheet before k (was.routers k low l) (block-resting k low) (quiet.flits k low)
-            (quiet.credits k low) few inbox (wires.routers k low l);
+        (quiet.credits k low) few inbox (wires.routers k low l);
     blank = λ k low beyond.
         blank-still (column_at block.lanes k) (source_at block.sources k) (word before.flits k) (word before.credits k) (word block.last_event k)
-            (word inbox.flits k) (word inbox.credits k)
+        (word inbox.flits k) (word inbox.credits k)
         (wires.flits k low beyond) (wires.credits k low beyond) (was.blank k low beyond);
     links = was.links;
     targets = was.targets;
@@ -112,7 +112,7 @@ module _ (net : Setup) (setup : IsGoodSetup net) (n end : ℕ) (less : n < end) 
   sleeps b k u low l =
       let shows = all.shows b (get_or blocks b block) (get_or sheets b sheet) (here b u) (there b u) in
       let rests = lanes-rest (get_or blocks b block) end k low shows.holds shows.next_due (all.holds b (get_or blocks b block) (here b u))
-          (all.due b (get_or blocks b block) (here b u)) in
+      (all.due b (get_or blocks b block) (here b u)) in
       let quiet = all.quiet b u in (
         lane-asleep net setup n (b * 32 + k) l room starts (get_or blocks b block) (get_or sheets b sheet) (inbox_at inboxes b) k end
             (shows.routers k low l) rests (quiet.flits k low) (quiet.credits k low),
@@ -152,5 +152,5 @@ module _ (net : Setup) (setup : IsGoodSetup net) (n end : ℕ) (less : n < end) 
       sym (arrival-noted net end p l)
       ∙ ap (λ (ends : List (ℕ × Option ℕ)). option_and_then (λ (one : ℕ × Option ℕ). one.1) (find (λ (one : ℕ × Option ℕ). nat_eq one.0 p) ends))
       (ends-stay net setup n end less limit (λ s u. (all-sleep s u).0) (λ s u. (all-sleep s u).1) (packet_at net p).destination
-          (setup.packets p _ l).destination)
+      (setup.packets p _ l).destination)
       ∙ arrival-noted net n p l

@@ -42,7 +42,7 @@ use Rattle.noc_rows.proofs.LaneTargets.{lane-targets}
 pub record ShowsInbox (net : Setup) (n room b : ℕ) (block : Block) (inbox : Inbox) : Type 0 where
   pub routers : (k : ℕ) → k < 32 → b * 32 + k < nodes net.relation.grid
       → ShowsWires (view_at net n (b * 32 + k)) (word inbox.flits k) (word inbox.credits k) (λ i. ring_in room inbox (place_of k i)
-          (slice_index block.marks.first (place_of k i)))
+      (slice_index block.marks.first (place_of k i)))
       (beats_at (beats_in net (state_at net n)) (b * 32 + k))
   pub flits : (k : ℕ) → k < 32 → nodes net.relation.grid ≤ b * 32 + k → word inbox.flits k ≡ 0
   pub credits : (k : ℕ) → k < 32 → nodes net.relation.grid ≤ b * 32 + k → word inbox.credits k ≡ 0
@@ -50,14 +50,14 @@ pub record ShowsInbox (net : Setup) (n room b : ℕ) (block : Block) (inbox : In
 module _ (net : Setup) (setup : IsGoodSetup net) (n : ℕ) (few : n < CYCLE_LIMIT) (frame : Frame) (is_frame : IsFrame net.relation net.places frame)
     (starts : List Start) (room : ℕ) (enough : net.places ≤ room)
     (blocks : ℕ) (few_blocks : blocks ≤ 8) (covered : nodes net.relation.grid * 32 ≤ blocks * 1024) (b : ℕ) (old frozen chosen moved new : Block)
-        (before after : Inbox) (sheet next : Sheet) (start end : Wires)
+    (before after : Inbox) (sheet next : Sheet) (start end : Wires)
     (bytes : (p : ℕ) → slice_index old.marks.first p < 256) (was : ShowsBlock net n frame starts room blocks b old sheet before)
     (froze : HasFrozen frame n room starts old frozen before after) (keeps : KeepsFrozen frozen chosen) (has : (k : ℕ) → k < 32
-        → LaneChosen net frame room frozen chosen after (b * 32 + k) k)
+    → LaneChosen net frame room frozen chosen after (b * 32 + k) k)
     (moves : HasMoved frame n b chosen moved start end) (concludes : HasConcluded frame n moved new sheet next)
     (packet : ℕ → ℕ → ℕ) (arrivals later : List ℕ)
     (released : HaveReleased (ports_of frame) frame.links n (selected_of chosen) (λ k i. is_tail (first_flit (frozen_of net n (b * 32 + k)) i)) packet
-        chosen.marks moved.marks chosen.decided moved.decided arrivals later)
+    chosen.marks moved.marks chosen.decided moved.decided arrivals later)
     (released_fits : (k : ℕ) → word moved.decided.released k < 2 ^ 32) (freed_fits : (k : ℕ) → word moved.decided.freed k < 2 ^ 32)
     (inbox : Inbox) (wires : ShowsInbox net (suc n) room b new inbox) where
   abbrev spare : ℕ
@@ -71,13 +71,13 @@ module _ (net : Setup) (setup : IsGoodSetup net) (n : ℕ) (few : n < CYCLE_LIMI
 
   routers-show : (k : ℕ) → k < 32 → b * 32 + k < nodes net.relation.grid
       → ShowsRouter starts (suc n) (lane_words room new next inbox k) (view_at net (suc n) (b * 32 + k))
-          (beats_at (beats_in net (state_at net (suc n))) (b * 32 + k))
+      (beats_at (beats_in net (state_at net (suc n))) (b * 32 + k))
   routers-show k low l =
       lane-shows net setup n (b * 32 + k) l few frame is_frame (min blocks 8 * 1024) far room enough starts old frozen chosen moved new before after
-          sheet next b start end k low (was.links k low l) bytes was.cycles
+      sheet next b start end k low (was.links k low l) bytes was.cycles
       (was.routers k low l) froze keeps moves concludes tail (λ i u. refl)
       (lane-cycled net frame n room starts old frozen chosen moved new before after sheet next b (b * 32 + k) start end k low froze (has k low) keeps
-          moves concludes tail packet arrivals later released
+      moves concludes tail packet arrivals later released
       (released_fits k) (freed_fits k))
       inbox (wires.routers k low l)
 
@@ -85,7 +85,7 @@ module _ (net : Setup) (setup : IsGoodSetup net) (n : ℕ) (few : n < CYCLE_LIMI
       → IsBlank (column_at new.lanes k) (source_at new.sources k) (word inbox.flits k) (word inbox.credits k) (word new.last_event k)
   blank-stays k low beyond =
       lane-blank net frame n room starts old frozen chosen moved new before after sheet next b (b * 32 + k) start end k low (omega (arith, few))
-          (was.blank k low beyond) froze (has k low) keeps moves concludes
+      (was.blank k low beyond) froze (has k low) keeps moves concludes
       inbox (wires.flits k low beyond) (wires.credits k low beyond)
 
   -- ---- its marks
@@ -122,15 +122,15 @@ module _ (net : Setup) (setup : IsGoodSetup net) (n : ℕ) (few : n < CYCLE_LIMI
   linked-frozen k low l =
       let linked = was.links k low l in
       subst (λ (x : Block). IsLinked net.relation frame (min blocks 8 * 1024) x (b * 32 + k) k) (sym froze.rest)
-          (record { lead = linked.lead; back = linked.back; near = linked.near })
+      (record { lead = linked.lead; back = linked.back; near = linked.near })
 
   frozen-lane : (k : ℕ) → k < 32 → b * 32 + k < nodes net.relation.grid
       → IsFrozen 5 room starts (marks_at frozen.marks k) (λ i. slice_index frozen.marks.first (place_of k i)) frozen after k (frozen_of net n (b * 32 + k))
   frozen-lane k low l =
       subst (λ (m : Marks). IsFrozen 5 room starts (marks_at m k) (λ i. slice_index m.first (place_of k i)) frozen after k
-          (frozen_of net n (b * 32 + k))) (sym marks-frozen)
+      (frozen_of net n (b * 32 + k))) (sym marks-frozen)
       (lane-frozen net setup n (b * 32 + k) l frame is_frame few room starts old frozen before after sheet k enough bytes (was.routers k low l)
-          (froze.lanes k low))
+      (froze.lanes k low))
 
   targets-stay : (k i : ℕ) → k < 32 → i < 32 → b * 32 + k < nodes net.relation.grid → IsTarget (nodes net.relation.grid) blocks
       (slice_index new.marks.target (place_of k i))
@@ -138,9 +138,9 @@ module _ (net : Setup) (setup : IsGoodSetup net) (n : ℕ) (few : n < CYCLE_LIMI
       subst (λ (target : List ℕ). IsTarget (nodes net.relation.grid) blocks (slice_index target (place_of k i)))
       (sym (ap (λ (x : Marks). x.target) marks-moved ∙ ap (λ (x : Marks). x.target) moves.marks))
       (lane-targets net setup n (b * 32 + k) l frame is_frame blocks few_blocks covered room starts frozen chosen after k (linked-frozen k low l)
-          (frozen-lane k low l) (has k low)
+      (frozen-lane k low l) (has k low)
       (λ j v. subst (λ (m : Marks). IsTarget (nodes net.relation.grid) blocks (slice_index m.target (place_of k j))) (sym marks-frozen)
-          (was.targets k j low v l)) i u)
+      (was.targets k j low v l)) i u)
 
   -- ---- what it has to do next
   sources-same : new.sources ≡ moved.sources

@@ -50,15 +50,15 @@ module _ (net : Setup) (setup : IsGoodSetup net) (n : ℕ) (few : n < CYCLE_LIMI
     (starts : List Start) (room : ℕ) (enough : net.places ≤ room)
     (woke frozen moved new : List Block) (before after : List Inbox) (start end : Wires) (sheets nexts : List Sheet) (near : ℕ)
     (few_blocks : length woke ≤ 8) (covered : nodes net.relation.grid * 32 ≤ length woke * 1024) (long : length woke ≤ length before)
-        (paired : length sheets ≡ length woke)
+    (paired : length sheets ≡ length woke)
     (bytes : (b : ℕ) (block : Block) → slice_get woke b ≡ Some block → (p : ℕ) → slice_index block.marks.first p < 256)
     (shows : (b : ℕ) (block : Block) (sheet : Sheet) → slice_get woke b ≡ Some block → slice_get sheets b ≡ Some sheet
-        → ShowsBlock net n frame starts room (length woke) b block sheet (inbox_at before b))
+    → ShowsBlock net n frame starts room (length woke) b block sheet (inbox_at before b))
     (rests : (b : ℕ) (block : Block) → slice_get woke b ≡ Some block → block.awake ≡ false → Rests n block (inbox_at before b))
     (froze : HaveFrozen frame n room starts woke frozen before after) (decided : HaveDecided (HasDecided net.relation frame n) frozen moved start end)
-        (concluded : HaveConcluded frame n near moved new sheets nexts)
+    (concluded : HaveConcluded frame n near moved new sheets nexts)
     (lanes : (b : ℕ) (f m : Block) → slice_get frozen b ≡ Some f → slice_get moved b ≡ Some m → f.awake ≡ true
-        → (d : HasDecided net.relation frame n b f m (decided.at b) (decided.at (suc b)))
+    → (d : HasDecided net.relation frame n b f m (decided.at b) (decided.at (suc b)))
     → DecidesLanes net frame n room b f d.chosen m (inbox_at after b))
     (wires : (b : ℕ) (block : Block) → slice_get new b ≡ Some block → ShowsInbox net (suc n) room b block (inbox_at end.inboxes.items b)) where
   -- ---- a block that is awake
@@ -98,19 +98,19 @@ module _ (net : Setup) (setup : IsGoodSetup net) (n : ℕ) (few : n < CYCLE_LIMI
     awake-shows : woke_one.awake ≡ true → ShowsBlock net (suc n) frame starts room (length woke) b block sheet (inbox_at end.inboxes.items b)
     awake-shows awake =
         let freezes : HasFrozen frame n room starts woke_one frozen_one (inbox_at before b) (inbox_at after b) = froze.awake b woke_one frozen_one
-            woke-is frozen-is awake (let l = low in omega (arith, l, long)) in
+        woke-is frozen-is awake (let l = low in omega (arith, l, long)) in
         let still : frozen_one.awake ≡ true = ap (λ (x : Block). x.awake) freezes.rest ∙ awake in
         let decides : HasDecided net.relation frame n b frozen_one moved_one (decided.at b) (decided.at (suc b)) = decided.awake b frozen_one
-            moved_one frozen-is moved-is still in
+        moved_one frozen-is moved-is still in
         let lane : DecidesLanes net frame n room b frozen_one decides.chosen moved_one (inbox_at after b) = lanes b frozen_one moved_one frozen-is
-            moved-is still decides in
+        moved-is still decides in
         let on : moved_one.awake ≡ true = ap (λ (x : Block). x.awake) decides.moved.rest ∙ ap (λ (x : Block). x.awake) lane.keeps.rest ∙ still in
         let concludes : HasConcluded frame n moved_one block sheet_one sheet = concluded.awake b moved_one block sheet_one sheet moved-is is sheet-is
-            is_sheet on in
+        is_sheet on in
         block-shows net setup n few frame is_frame starts room enough (length woke) few_blocks covered b woke_one frozen_one decides.chosen moved_one
-            block (inbox_at before b) (inbox_at after b) sheet_one sheet
+        block (inbox_at before b) (inbox_at after b) sheet_one sheet
         (decided.at b) (decided.at (suc b)) (bytes b woke_one woke-is) (shows b woke_one sheet_one woke-is sheet-is) freezes lane.keeps lane.lanes
-            decides.moved concludes lane.packet lane.was lane.is lane.released
+        decides.moved concludes lane.packet lane.was lane.is lane.released
         decides.released_fits decides.freed_fits (inbox_at end.inboxes.items b) (wires b block is)
 
     -- one that is asleep is as it was
@@ -124,7 +124,7 @@ module _ (net : Setup) (setup : IsGoodSetup net) (n : ℕ) (few : n < CYCLE_LIMI
         let here : slice_get woke b ≡ Some block = woke-is ∙ ap (λ (x : Block). Some x) same in
         let rest : Rests n block (inbox_at before b) = rests b block here (sym (ap (λ (x : Block). x.awake) same) ∙ asleep) in
         block-rests net setup n few frame starts room (length woke) b block sheet (inbox_at before b) (shows b block sheet here same_sheet) rest.holds
-            rest.due rest.quiet (inbox_at end.inboxes.items b) (wires b block is)
+        rest.due rest.quiet (inbox_at end.inboxes.items b) (wires b block is)
 
     block-next : (a : Bool) → woke_one.awake ≡ a → ShowsBlock net (suc n) frame starts room (length woke) b block sheet (inbox_at end.inboxes.items b)
     block-next true e = awake-shows e
@@ -135,5 +135,5 @@ module _ (net : Setup) (setup : IsGoodSetup net) (n : ℕ) (few : n < CYCLE_LIMI
       → ShowsBlock net (suc n) frame starts room (length new) b block sheet (inbox_at end.inboxes.items b)
   blocks-next b block sheet is is_sheet =
       subst (λ many. ShowsBlock net (suc n) frame starts room many b block sheet (inbox_at end.inboxes.items b)) (sym (concluded.many ∙ decided.many
-          ∙ froze.many))
+      ∙ froze.many))
       (block-next b block sheet is is_sheet (get_or woke b block).awake refl)

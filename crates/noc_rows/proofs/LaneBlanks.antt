@@ -52,7 +52,7 @@ module _ (frame : Frame) (n room : ℕ) (starts : List Start) (old frozen : Bloc
   stands =
       froze.standing k low
       ∙ blank-stands (column_at frozen.lanes k) (source_at frozen.sources k) (word after.flits k) (word after.credits k) (word old.last_event k)
-          arrives.blank frame.fields (word frozen.arrived.filled k) arrives.filled
+      arrives.blank frame.fields (word frozen.arrived.filled k) arrives.filled
 
   -- its channels ask for nothing, and have no head
   pub blank-lane-asks : lane_asks (column_at frozen.lanes k) ≡ 0
@@ -73,7 +73,7 @@ module _ (net : Setup) (frame : Frame) (n room : ℕ) (starts : List Start) (old
     (sheet next : Sheet) (b r : ℕ) (start end : Wires) (k : ℕ) (low : k < 32)
     (now : n < NEVER) (was : IsBlank (column_at old.lanes k) (source_at old.sources k) (word before.flits k) (word before.credits k) (word old.last_event k))
     (froze : HasFrozen frame n room starts old frozen before after) (has : LaneChosen net frame room frozen chosen after r k)
-        (keeps : KeepsFrozen frozen chosen)
+    (keeps : KeepsFrozen frozen chosen)
     (moves : HasMoved frame n b chosen moved start end) (concludes : HasConcluded frame n moved new sheet next) where
   -- ---- frozen
   arrival : ArrivesBlank frozen after k (word old.last_event k)
@@ -106,13 +106,16 @@ module _ (net : Setup) (frame : Frame) (n room : ℕ) (starts : List Start) (old
   none_moved =
       moves.moved k low
       ∙ none-moved (word chosen.decided.moved k) (word chosen.standing.picked k) (ports_of frame) _ _
-          (ap (λ (xs : List ℕ). word xs k) keeps.moves.moved ∙ (froze.undecided k low).moved) picked
+      (ap (λ (xs : List ℕ). word xs k) keeps.moves.moved ∙ (froze.undecided k low).moved) picked
 
   none_supplied : word moved.lanes.supplied k ≡ 0
   none_supplied = moves.supplied k low ∙ none-rest (word chosen.lanes.supplied k) (ports_of frame) _ supplied-same
 
-  column-moved : column_at moved.lanes k ≡ record (column_at frozen.lanes k) { wanted = word chosen.lanes.wanted k; idle = word chosen.lanes.idle k;
-      supplied = word moved.lanes.supplied k }
+  column-moved : column_at moved.lanes k ≡ record (column_at frozen.lanes k) {
+    wanted = word chosen.lanes.wanted k;
+    idle = word chosen.lanes.idle k;
+    supplied = word moved.lanes.supplied k;
+  }
   column-moved = ap (λ (x : Lanes). column_at x k) moves.lanes ∙ ap (λ (x : Lanes). column_at (record x { supplied = moved.lanes.supplied }) k) keeps.lanes
 
   blank-moved : IsBlank (column_at moved.lanes k) (source_at frozen.sources k) (word after.flits k) (word after.credits k) (word old.last_event k)
@@ -142,9 +145,9 @@ module _ (net : Setup) (frame : Frame) (n room : ℕ) (starts : List Start) (old
   blank-new : IsBlank (column_at new.lanes k) (source_at frozen.sources k) (word after.flits k) (word after.credits k) (word old.last_event k)
   blank-new =
       subst (λ (d : Column). IsBlank d (source_at frozen.sources k) (word after.flits k) (word after.credits k) (word old.last_event k))
-          (sym (concludes.columns k low))
+      (sym (concludes.columns k low))
       (blank-settles frame.fields frame.link_set frame.local_set (effects_at moved.standing moved.decided k) (column_at moved.lanes k)
-          (source_at frozen.sources k) (word after.flits k) (word after.credits k)
+      (source_at frozen.sources k) (word after.flits k) (word after.credits k)
       (word old.last_event k) standing-kept granted-kept none_moved blank-moved)
 
   event-same : word new.last_event k ≡ word old.last_event k
@@ -156,7 +159,7 @@ module _ (net : Setup) (frame : Frame) (n room : ℕ) (starts : List Start) (old
       (ap (λ (x : Block). word x.returned.credited k) moves.rest ∙ ap (λ (x : Block). word x.returned.credited k) keeps.rest ∙ arrival.credited)
       standing-kept granted-kept none_moved)
       ∙ ap (λ (x : Block). word x.last_event k) moves.rest ∙ ap (λ (x : Block). word x.last_event k) keeps.rest
-          ∙ ap (λ (x : Block). word x.last_event k) froze.rest
+      ∙ ap (λ (x : Block). word x.last_event k) froze.rest
 
   sources-kept : source_at new.sources k ≡ source_at frozen.sources k
   sources-kept = ap (λ (x : Block). source_at x.sources k) concludes.rest ∙ ap (λ (x : Block). source_at x.sources k) moves.rest
@@ -173,4 +176,4 @@ module _ (net : Setup) (frame : Frame) (n room : ℕ) (starts : List Start) (old
       subst (λ (s : Source). IsBlank (column_at new.lanes k) s (word inbox.flits k) (word inbox.credits k) (word new.last_event k)) (sym sources-kept)
       (subst (λ e. IsBlank (column_at new.lanes k) (source_at frozen.sources k) (word inbox.flits k) (word inbox.credits k) e) (sym event-same)
       (blank-still (column_at new.lanes k) (source_at frozen.sources k) (word after.flits k) (word after.credits k) (word old.last_event k)
-          (word inbox.flits k) (word inbox.credits k) flits credits blank-new))
+      (word inbox.flits k) (word inbox.credits k) flits credits blank-new))

@@ -57,7 +57,7 @@ few-ports frame q l = omega (arith, l)
 module _ (net : Setup) (frame : Frame) (n room : ℕ) (starts : List Start) (old frozen chosen moved new : Block) (before after : Inbox)
     (sheet next : Sheet) (b r : ℕ) (start end : Wires) (k : ℕ) (low : k < 32)
     (froze : HasFrozen frame n room starts old frozen before after) (has : LaneChosen net frame room frozen chosen after r k)
-        (keeps : KeepsFrozen frozen chosen)
+    (keeps : KeepsFrozen frozen chosen)
     (moves : HasMoved frame n b chosen moved start end) (concludes : HasConcluded frame n moved new sheet next)
     (tail : ℕ → ℕ → Bool) (packet : ℕ → ℕ → ℕ) (was is : List ℕ)
     (released : HaveReleased (ports_of frame) frame.links n (selected_of chosen) tail packet chosen.marks moved.marks chosen.decided moved.decided was is)
@@ -103,9 +103,9 @@ module _ (net : Setup) (frame : Frame) (n room : ℕ) (starts : List Start) (old
   out-is =
       moves.out k low
       ∙ ap (λ w. union_from w (ports_of frame) (λ q. of_one (selected_of chosen k q) (taken_in chosen.marks k)))
-          (ap (λ (xs : List ℕ). word xs k) keeps.moves.out ∙ (froze.undecided k low).out)
+      (ap (λ (xs : List ℕ). word xs k) keeps.moves.out ∙ (froze.undecided k low).out)
       ∙ union-same (ports_of frame) (λ q. of_one (selected_of chosen k q) (taken_in chosen.marks k)) (λ q. of_one (sel q) m.taken)
-          (λ q l. by-sel (taken_in chosen.marks k) m.taken q l taken-is)
+      (λ q l. by-sel (taken_in chosen.marks k) m.taken q l taken-is)
 
   -- ---- who is supplied
   single-is : word chosen.returned.single k ≡ single_in frame.link_set (column_at frozen.lanes k)
@@ -119,7 +119,7 @@ module _ (net : Setup) (frame : Frame) (n room : ℕ) (starts : List Start) (old
   supplied-is =
       moves.supplied k low
       ∙ rest-same (word chosen.lanes.supplied k) (ports_of frame) (λ q. dry_by (word chosen.returned.single k) (taken_in chosen.marks k)
-          (selected_of chosen k q))
+      (selected_of chosen k q))
       (λ q. dry_by (single_in frame.link_set (column_at frozen.lanes k)) m.taken (sel q)) dry
     where
       dry : (q : ℕ) → q < ports_of frame → dry_by (word chosen.returned.single k) (taken_in chosen.marks k) (selected_of chosen k q) ≡ dry_by
@@ -127,7 +127,7 @@ module _ (net : Setup) (frame : Frame) (n room : ℕ) (starts : List Start) (old
       dry q l =
           ap (λ w. dry_by w (taken_in chosen.marks k) (selected_of chosen k q)) single-is
           ∙ ap (λ w. if nat_eq (bit_and (single_in frame.link_set (column_at frozen.lanes k)) w) 0 then 0 else selected_of chosen k q)
-              (by-sel (taken_in chosen.marks k) m.taken q l taken-is)
+          (by-sel (taken_in chosen.marks k) m.taken q l taken-is)
           ∙ ap (λ w. if nat_eq (bit_and (single_in frame.link_set (column_at frozen.lanes k)) (of_one (sel q) m.taken)) 0 then 0 else w) (selected-is q l)
 
   -- ---- tails
@@ -135,7 +135,7 @@ module _ (net : Setup) (frame : Frame) (n room : ℕ) (starts : List Start) (old
   released-is i l =
       released.released k i low l
       ∙ ap (λ w. has_bit w i || (has_bit (moved_by (ports_of frame) (selected_of chosen) k) i && tail k i))
-          (ap (λ (xs : List ℕ). word xs k) keeps.moves.released ∙ (froze.undecided k low).released)
+      (ap (λ (xs : List ℕ). word xs k) keeps.moves.released ∙ (froze.undecided k low).released)
       ∙ ap (λ b. b || (has_bit (moved_by (ports_of frame) (selected_of chosen) k) i && tail k i)) (has_bit-zero i)
       ∙ ap (λ w. has_bit w i && tail k i) all-moved
 
@@ -144,15 +144,15 @@ module _ (net : Setup) (frame : Frame) (n room : ℕ) (starts : List Start) (old
   freed-is o l =
       released.freed k o low
       ∙ ap (λ w. has_bit w o || has_bit (union_from 0 (ports_of frame) (λ q. of_one (selected_of chosen k q)
-          (λ i. if tail k i then taken_in chosen.marks k i else 0))) o)
+      (λ i. if tail k i then taken_in chosen.marks k i else 0))) o)
       (ap (λ (xs : List ℕ). word xs k) keeps.moves.freed ∙ (froze.undecided k low).freed)
       ∙ ap (λ b. b || has_bit (union_from 0 (ports_of frame) (λ q. of_one (selected_of chosen k q) (λ i. if tail k i then taken_in chosen.marks k i
-          else 0))) o) (has_bit-zero o)
+      else 0))) o) (has_bit-zero o)
       ∙ ap (λ w. has_bit w o)
       (union-same (ports_of frame) (λ q. of_one (selected_of chosen k q) (λ i. if tail k i then taken_in chosen.marks k i else 0))
-          (λ q. of_one (sel q) (λ i. if tail k i then m.taken i else 0))
+      (λ q. of_one (sel q) (λ i. if tail k i then m.taken i else 0))
       (λ q lq. by-sel (λ i. if tail k i then taken_in chosen.marks k i else 0) (λ i. if tail k i then m.taken i else 0) q lq
-          (λ i li. ap (λ w. if tail k i then w else 0) (taken-is i li))))
+      (λ i li. ap (λ w. if tail k i then w else 0) (taken-is i li))))
 
   -- ---- the marks
   marks-new : new.marks ≡ moved.marks

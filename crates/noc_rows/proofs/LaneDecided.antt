@@ -38,7 +38,7 @@ module _ (net : Setup) (frame : Frame) (n room : ℕ) (starts : List Start) (old
   pub lane-chosen : (k : ℕ) → k < 32 → LaneChosen net frame room frozen chosen inbox (b * 32 + k) k
   lane-chosen k low =
       subst (λ heads. HasChosen (leads_by frame) (leads_to frame frozen.marks.lead k) heads (λ i. ring_in room inbox (place_of k i)
-          (slice_index frozen.marks.first (place_of k i)))
+      (slice_index frozen.marks.first (place_of k i)))
       (sets_by net.relation frame (b * 32 + k)) (allocation_in frozen k) (allocation_in chosen k) (routes_in frozen k) (routes_in chosen k)) (heads-are k low)
       (has.routers narrow small k low
       (record { asking = froze.asking k low; heading = froze.heading k low ∙ ap (λ heads. not (nat_eq heads 0)) (sym (heads-are k low)) }))

@@ -105,7 +105,7 @@ of-lane entries k i l = get_or-tabulate 32 i (λ c. slice_index entries (place_o
 pub selected-same : (picked : ℕ) (marks : Marks) (k q : ℕ) → q < 8 → selected_in picked marks k q ≡ chosen_by picked (marks_at marks k) q
 selected-same picked marks k q l =
     sym (ap₂ (λ t u. first_bit (bit_and picked t) u) (get_or-tabulate 8 q (λ p. word (slice_index_or marks.to_port p []) k) 0 l)
-        (get_or-tabulate 8 q (λ p. word (slice_index_or marks.port_turn p []) k) 0 l))
+    (get_or-tabulate 8 q (λ p. word (slice_index_or marks.port_turn p []) k) 0 l))
 
 -- ---- the first flits
 
@@ -140,7 +140,7 @@ module _ (net : Setup) (setup : IsGoodSetup net) (n r : ℕ) (l : r < nodes net.
   unfolding beats_in
   short =
       ap (λ (xs : List _). length xs) (get_or-tabulate (nodes net.relation.grid) r (λ s. tabulate (local_port net.relation.grid)
-          (λ q. beat_by net (state_at net n) s q (neighbour net.relation.grid s q))) [] l)
+      (λ q. beat_by net (state_at net n) s q (neighbour net.relation.grid s q))) [] l)
       ∙ length-tabulate (local_port net.relation.grid) (λ q. beat_by net (state_at net n) r q (neighbour net.relation.grid r q))
 
   is-local : (i : ℕ) → has_bit frame.local_set i ≡ (nat_le (local_channel (site_at net r) 0) i && nat_lt i (size_of (site_at net r)))
@@ -179,12 +179,12 @@ module _ (net : Setup) (setup : IsGoodSetup net) (n r : ℕ) (l : r < nodes net.
       is : IsFrozen 5 room starts named (λ i. slice_index old.marks.first (place_of k i)) frozen after k (frozen_of net n r)
       is =
           arrived-frozen net.relation 5 named (view_at net n r) (beats net setup n r l) n frame.link_set frame.local_set room starts
-              (λ i. slice_index old.marks.first (place_of k i)) old frozen before after k
+          (λ i. slice_index old.marks.first (place_of k i)) old frozen before after k
           (with-owners 5 (column_at old.lanes k) (marks_at old.marks k) named.owner (view_at net n r)
-              (λ o u. sym (of-lane old.marks.owner k o (let w = start-few o u in omega (arith, w)))) shows.column)
+          (λ o u. sym (of-lane old.marks.owner k o (let w = start-few o u in omega (arith, w)))) shows.column)
           shows.wires shows.source (start-tidy net setup n r l) (start-size net setup n r l) (beats-taken net setup n r l few)
           is_frame.few (let p = is_frame.few_places in omega (arith, p)) setup.some_place enough (let q = short in omega (arith, q))
-              (omega (arith, few)) is-local (λ o. refl) (λ i. bytes (place_of k i))
+          (omega (arith, few)) is-local (λ o. refl) (λ i. bytes (place_of k i))
           (subst (λ (bits : List ℕ). HasArrived bits frame.link_set frame.local_set n room starts old frozen before after k) is_frame.place_bits arrived)
 
   -- whether something came to it or was injected
@@ -195,9 +195,9 @@ module _ (net : Setup) (setup : IsGoodSetup net) (n r : ℕ) (l : r < nodes net.
   unfolding view_at view_in
   lane-came few room starts old frozen before after sheet k shows arrived =
       arrived-event net setup n r l few is_frame.few 5 frame.link_set frame.local_set room starts named old frozen before after k
-          (λ i. ring_in room before (place_of k i) (slice_index old.marks.first (place_of k i)))
+      (λ i. ring_in room before (place_of k i) (slice_index old.marks.first (place_of k i)))
       (with-owners 5 (column_at old.lanes k) (marks_at old.marks k) named.owner (view_at net n r)
-          (λ o u. sym (of-lane old.marks.owner k o (let w = start-few o u in omega (arith, w)))) shows.column)
+      (λ o u. sym (of-lane old.marks.owner k o (let w = start-few o u in omega (arith, w)))) shows.column)
       shows.wires shows.source (let p = is_frame.few_places in omega (arith, p)) setup.some_place is-local (λ o. refl)
       (subst (λ (bits : List ℕ). HasArrived bits frame.link_set frame.local_set n room starts old frozen before after k) is_frame.place_bits arrived)
     where
@@ -246,7 +246,7 @@ module _ (net : Setup) (setup : IsGoodSetup net) (n r : ℕ) (l : r < nodes net.
 
       put : ShowsChosen net.relation (word frozen.arrived.filled k) (allocation_in frozen k) (allocation_in chosen k)
           (given net.relation frame x (frozen_view net setup n r l) stands (allocation_in frozen k) (allocation_in chosen k) (routes_in frozen k)
-              (routes_in chosen k) is.column no_grant no_loss has).outs
+          (routes_in chosen k) is.column no_grant no_loss has).outs
           (frozen_view net setup n r l)
       put = choice net.relation frame x (frozen_view net setup n r l) stands (allocation_in frozen k) (allocation_in chosen k) (routes_in frozen k)
           (routes_in chosen k) is.column no_grant no_loss has
@@ -265,7 +265,7 @@ module _ (net : Setup) (setup : IsGoodSetup net) (n r : ℕ) (l : r < nodes net.
       sent-moves : AreMoved (frozen_view net setup n r l) all_moved
       sent-moves =
           moved-is (frozen_view net setup n r l) (lane_picked frame.fields (word frozen.arrived.filled k) (column_at frozen.lanes k))
-              (marks_at chosen.marks k).to_port (marks_at chosen.marks k).port_turn
+          (marks_at chosen.marks k).to_port (marks_at chosen.marks k).port_turn
           (moving net.relation frame x v stands (allocation_in frozen k) (allocation_in chosen k) outs is.column put)
 
       sent-below : AreBelow (size net) all_moved
@@ -307,7 +307,7 @@ module _ (net : Setup) (setup : IsGoodSetup net) (n r : ℕ) (l : r < nodes net.
 
           at : (fs : List Flit) → view_buffer v i ≡ fs
               → HasFirst (ring_in room after (place_of k i) (slice_index frozen.marks.first (place_of k i))) (is_tail (first_flit v i))
-                  (packet_of (first_flit v i))
+              (packet_of (first_flit v i))
           at [] is_none = absurd (true≢false (ap (λ (fs : List Flit). is_empty fs) (sym is_none) ∙ full))
           at (f ∷ fs) is_some = record {
             flit = f;
@@ -321,10 +321,10 @@ module _ (net : Setup) (setup : IsGoodSetup net) (n r : ℕ) (l : r < nodes net.
       pub lane-moved : (AreMoved (frozen_of net n r) (union_from 0 (ports_of frame)
           (chosen_by (lane_picked frame.fields (word frozen.arrived.filled k) (column_at frozen.lanes k)) (marks_at chosen.marks k))))
           × AreBelow (size_of (frozen_of net n r).site) (union_from 0 (ports_of frame)
-              (chosen_by (lane_picked frame.fields (word frozen.arrived.filled k) (column_at frozen.lanes k)) (marks_at chosen.marks k)))
+          (chosen_by (lane_picked frame.fields (word frozen.arrived.filled k) (column_at frozen.lanes k)) (marks_at chosen.marks k)))
       lane-moved =
           let same = ap (λ n. union_from 0 n (chosen_by (lane_picked frame.fields (word frozen.arrived.filled k) (column_at frozen.lanes k))
-              (marks_at chosen.marks k))) stands.ports_are in (
+          (marks_at chosen.marks k))) stands.ports_are in (
             subst (AreMoved (frozen_of net n r)) (sym same) sent-moves,
             subst (AreBelow (size_of (frozen_of net n r).site)) (sym same) (subst (λ s. AreBelow s all_moved) (sym size-same) sent-below),
           )
@@ -335,7 +335,7 @@ module _ (net : Setup) (setup : IsGoodSetup net) (n r : ℕ) (l : r < nodes net.
       lane-round moves are below =
           subst (λ g. AreRound v g (word chosen.decided.lost k) moves) (sym (ap (λ (a : Allocation). a.granted) has.rest))
           (subst (λ t. AreRound v has.granted.granted t moves) (sym (ap (λ (a : Allocation). a.lost) has.rest))
-              (at (cases_eq (lane_asks (column_at frozen.lanes k)) 0)))
+          (at (cases_eq (lane_asks (column_at frozen.lanes k)) 0)))
         where
           grants : ShowsGrants (allocation_in frozen k) has.granted (given net.relation frame x (frozen_view net setup n r l) stands
               (allocation_in frozen k) (allocation_in chosen k) (routes_in frozen k) (routes_in chosen k) is.column no_grant no_loss has).outs v
@@ -355,7 +355,7 @@ module _ (net : Setup) (setup : IsGoodSetup net) (n r : ℕ) (l : r < nodes net.
       pub lane-sent : (picked : ℕ) → picked ≡ lane_picked frame.fields (word frozen.arrived.filled k) (column_at frozen.lanes k)
           → chosen.marks.back ≡ frozen.marks.back
           → SendsBy net n r (ports_of frame) (selected_in picked chosen.marks k) (λ i. ring_in room after (place_of k i)
-              (slice_index frozen.marks.first (place_of k i)))
+          (slice_index frozen.marks.first (place_of k i)))
           (λ i. slice_index chosen.marks.target (place_of k i)) (λ i. slice_index chosen.marks.back (place_of k i))
       lane-sent picked picked_is back_is = record {
         moves = subst (AreMoved (frozen_of net n r)) (sym all-same) sent-moves;

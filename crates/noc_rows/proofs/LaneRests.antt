@@ -133,12 +133,12 @@ module _ (net : Setup) (setup : IsGoodSetup net) (n r : ℕ) (l : r < nodes net.
   -- it shows its router after the cycle, where these words then show its wires
   pub lane-rests : n < CYCLE_LIMIT → (later : Inbox)
       → ShowsWires (view_at net (suc n) r) (word later.flits k) (word later.credits k) (λ i. ring_in room later (place_of k i)
-          (slice_index block.marks.first (place_of k i)))
+      (slice_index block.marks.first (place_of k i)))
       (beats_at (beats_in net (state_at net (suc n))) r)
       → ShowsRouter starts (suc n) (lane_words room block sheet later k) (view_at net (suc n) r) (beats_at (beats_in net (state_at net (suc n))) r)
   lane-rests few later wires =
       router-stays net setup n r l starts (lane_words room block sheet inbox k) (word later.flits k) (word later.credits k)
-          (λ i. ring_in room later (place_of k i) (slice_index block.marks.first (place_of k i)))
+      (λ i. ring_in room later (place_of k i) (slice_index block.marks.first (place_of k i)))
       few asleep silent shows wires
 
   -- its frozen view is that at the count
@@ -152,7 +152,7 @@ module _ (net : Setup) (setup : IsGoodSetup net) (n r : ℕ) (l : r < nodes net.
   rests-rings i u =
       shows.wires.rings i (subst (λ (v : View). i < size_of v.site) frozen-is u)
       ∙ ap (λ (o : Option Flit). map flit_word (with_one (view_buffer (view_at net n r) i) o)) (silent-flit (view_at net n r).site.vcs
-          (beats net setup n r l) i silent)
+      (beats net setup n r l) i silent)
       ∙ sym (ap (λ (v : View). map flit_word (view_buffer v i)) frozen-is)
 
   -- nothing moves
@@ -164,7 +164,7 @@ module _ (net : Setup) (setup : IsGoodSetup net) (n r : ℕ) (l : r < nodes net.
       → IsLinked net.relation frame spare block r k
       → (ports : ℕ) (target : ℕ → ℕ)
       → SendsBy net n r ports (λ q. 0) (λ i. ring_in room inbox (place_of k i) (slice_index block.marks.first (place_of k i))) target
-          (λ i. slice_index block.marks.back (place_of k i))
+      (λ i. slice_index block.marks.back (place_of k i))
   rests-sends frame is_frame spare far linked ports target = record {
     moves = subst (AreMoved (frozen_of net n r)) (sym (no-union ports)) rests-moves;
     below = λ i e. absurd (none i e);

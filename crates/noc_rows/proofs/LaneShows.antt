@@ -49,7 +49,7 @@ use Rattle.noc_rows.proofs.TallyLaws.{IsTallied, counts-next, event-next, tallie
 abbrev pub LaneCycled : Setup → Frame → ℕ → Block → Block → Block → Block → Inbox → (ℕ → ℕ → Bool) → ℕ → ℕ → Type 0
 LaneCycled net frame room frozen chosen moved new after tail r k =
     HasCycled net.relation frame (lane_surroundings frame room frozen after tail r k) (allocation_in frozen k) (allocation_in chosen k)
-        (routes_in frozen k) (routes_in chosen k)
+    (routes_in frozen k) (routes_in chosen k)
     (effects_at moved.standing moved.decided k) (column_at new.lanes k) (marks_at new.marks k)
 
 -- of a block that is frozen nothing has changed but what grants and routes change
@@ -89,7 +89,7 @@ module _ (net : Setup) (frame : Frame) (room : ℕ) (frozen chosen : Block) (aft
 
       at : (lane_asks (column_at frozen.lanes k) ≡ 0) ⊎ (lane_asks (column_at frozen.lanes k) ≢ 0)
           → IsTallied (word chosen.decided.granted k) (λ i. slice_index_or frozen.tallies.granted (k * 32 + i) 0)
-              (λ i. slice_index_or chosen.tallies.granted (k * 32 + i) 0)
+          (λ i. slice_index_or chosen.tallies.granted (k * 32 + i) 0)
       at (inl none) =
           tallied-none (word chosen.decided.granted k) k frozen.tallies.granted chosen.tallies.granted
           (same ∙ ap (λ (a : Allocation). a.granted) (has.unasked none) ∙ no_grant) (grants ∙ ap (λ (a : Allocation). a.grants) (has.unasked none))
@@ -111,7 +111,7 @@ module _ (net : Setup) (frame : Frame) (room : ℕ) (frozen chosen : Block) (aft
 
       at : (lane_asks (column_at frozen.lanes k) ≡ 0) ⊎ (lane_asks (column_at frozen.lanes k) ≢ 0)
           → IsTallied (word chosen.decided.lost k) (λ i. slice_index_or frozen.tallies.lost (k * 32 + i) 0) (λ i. slice_index_or chosen.tallies.lost
-              (k * 32 + i) 0)
+          (k * 32 + i) 0)
       at (inl none) =
           tallied-none (word chosen.decided.lost k) k frozen.tallies.lost chosen.tallies.lost
           (same ∙ ap (λ (a : Allocation). a.lost) (has.unasked none) ∙ no_loss) (losses ∙ ap (λ (a : Allocation). a.losses) (has.unasked none))
@@ -125,12 +125,12 @@ module _ (net : Setup) (frame : Frame) (room : ℕ) (frozen chosen : Block) (aft
 module _ (net : Setup) (setup : IsGoodSetup net) (n r : ℕ) (l : r < nodes net.relation.grid) (few : n < CYCLE_LIMIT) (frame : Frame)
     (is_frame : IsFrame net.relation net.places frame)
     (spare : ℕ) (far : nodes net.relation.grid * 32 ≤ spare) (room : ℕ) (enough : net.places ≤ room) (starts : List Start)
-        (old frozen chosen moved new : Block) (before after : Inbox) (sheet next : Sheet)
+    (old frozen chosen moved new : Block) (before after : Inbox) (sheet next : Sheet)
     (b : ℕ) (start end : Wires) (k : ℕ) (low : k < 32) (linked : IsLinked net.relation frame spare old r k) (bytes : (p : ℕ)
-        → slice_index old.marks.first p < 256) (counted : cycles_of sheet ≤ n)
+    → slice_index old.marks.first p < 256) (counted : cycles_of sheet ≤ n)
     (shows : ShowsRouter starts n (lane_words room old sheet before k) (view_at net n r) (beats net setup n r l))
     (froze : HasFrozen frame n room starts old frozen before after) (keeps : KeepsFrozen frozen chosen) (moves : HasMoved frame n b chosen moved start
-        end) (concludes : HasConcluded frame n moved new sheet next)
+    end) (concludes : HasConcluded frame n moved new sheet next)
     (tail : ℕ → ℕ → Bool) (tails : (i : ℕ) → i < size_of (frozen_of net n r).site → tail k i ≡ is_tail (first_flit (frozen_of net n r) i))
     (cycled : LaneCycled net frame room frozen chosen moved new after tail r k) where
   abbrev v : View
@@ -171,7 +171,7 @@ module _ (net : Setup) (setup : IsGoodSetup net) (n r : ℕ) (l : r < nodes net.
   is : IsFrozen 5 room starts (marks_at frozen.marks k) (λ i. slice_index frozen.marks.first (place_of k i)) frozen after k (frozen_of net n r)
   is =
       subst (λ (m : Marks). IsFrozen 5 room starts (marks_at m k) (λ i. slice_index m.first (place_of k i)) frozen after k (frozen_of net n r))
-          (sym marks-frozen)
+      (sym marks-frozen)
       (lane-frozen net setup n r l frame is_frame few room starts old frozen before after sheet k enough bytes shows (froze.lanes k low))
 
   linked-frozen : IsLinked net.relation frame spare frozen r k
@@ -188,10 +188,10 @@ module _ (net : Setup) (setup : IsGoodSetup net) (n r : ℕ) (l : r < nodes net.
   pub lane-column : IsColumn 5 (column_at new.lanes k) (marks_at new.marks k) (view_at net (suc n) r)
   lane-column =
       column-after net setup n r l frame (lane_surroundings frame room frozen after tail r k) (allocation_in frozen k) (allocation_in chosen k)
-          (routes_in frozen k) (routes_in chosen k)
+      (routes_in frozen k) (routes_in chosen k)
       (effects_at moved.standing moved.decided k) (column_at new.lanes k) (marks_at new.marks k) few is_frame refl
       (lane-leads net setup n r l frame is_frame spare far room starts frozen after k linked-frozen is) is.column is.filled is.rings
-          (tails-of (tail k) (frozen_of net n r) tails) cycled
+      (tails-of (tail k) (frozen_of net n r) tails) cycled
 
   pub lane-source : ShowsSource starts (source_at new.sources k) (view_at net (suc n) r)
   lane-source = subst (λ (s : _). ShowsSource starts (source_at s k) (view_at net (suc n) r)) (sym sources-kept) (source-after net setup n r l starts
@@ -212,7 +212,7 @@ module _ (net : Setup) (setup : IsGoodSetup net) (n r : ℕ) (l : r < nodes net.
       (subst (λ m. AreRound (frozen_view net setup n r l) (word chosen.decided.granted k) (word chosen.decided.lost k) m) (sym cycled.switched.moved)
       (lane-round net setup n r l frame is_frame spare far room starts frozen after k linked-frozen is chosen cycled.chosen no_grant no_loss
       (union_from 0 (ports_of frame) (chosen_by (lane_picked frame.fields (word frozen.arrived.filled k) (column_at frozen.lanes k))
-          (marks_at chosen.marks k))) both.0 both.1)))
+      (marks_at chosen.marks k))) both.0 both.1)))
 
   stands : standing_at frozen.standing k ≡ lane_standing frame.fields (word frozen.arrived.filled k) (column_at frozen.lanes k)
   stands = froze.standing k low
@@ -228,22 +228,22 @@ module _ (net : Setup) (setup : IsGoodSetup net) (n r : ℕ) (l : r < nodes net.
   tallied set now entries same are =
       subst (λ s. IsTallied s (λ i. slice_index_or (entries old.tallies) (k * 32 + i) 0) (λ i. slice_index_or (entries new.tallies) (k * 32 + i) 0)) (sym same)
       (subst (λ (t : Tallies). IsTallied set (λ i. slice_index_or (entries t) (k * 32 + i) 0) (λ i. slice_index_or (entries new.tallies) (k * 32 + i)
-          0)) tallies-frozen
+      0)) tallies-frozen
       (subst (λ (t : Tallies). IsTallied set (λ i. slice_index_or (entries frozen.tallies) (k * 32 + i) 0) (λ i. slice_index_or (entries t)
-          (k * 32 + i) 0)) (sym tallies-chosen) are))
+      (k * 32 + i) 0)) (sym tallies-chosen) are))
 
   counts-are : (i : ℕ) → i < 32 → sheet_counts next k i
       ≡ with_verdicts
       (lane_verdicts (word frozen.arrived.filled k) (standing_at frozen.standing k) (word moved.decided.granted k) (word moved.decided.lost k)
-          (word moved.decided.moved k) (column_at moved.lanes k)) i
+      (word moved.decided.moved k) (column_at moved.lanes k)) i
       (sheet_counts sheet k i)
   counts-are i u =
       concludes.counts (omega (arith, counted, few)) k i low
       ∙ ap (λ w. with_verdicts (lane_verdicts w (standing_at moved.standing k) (word moved.decided.granted k) (word moved.decided.lost k)
-          (word moved.decided.moved k) (column_at moved.lanes k)) i (sheet_counts sheet k i))
+      (word moved.decided.moved k) (column_at moved.lanes k)) i (sheet_counts sheet k i))
       (ap (λ (x : ArrivedRows). word x.filled k) arrived-kept)
       ∙ ap (λ s. with_verdicts (lane_verdicts (word frozen.arrived.filled k) s (word moved.decided.granted k) (word moved.decided.lost k)
-          (word moved.decided.moved k) (column_at moved.lanes k)) i (sheet_counts sheet k i))
+      (word moved.decided.moved k) (column_at moved.lanes k)) i (sheet_counts sheet k i))
       (ap (λ (x : StandingRows). standing_at x k) standing-kept)
 
   pub lane-counts : ShowsCounts (suc n) (λ i. sheet_counts next k i) (λ i. slice_index_or new.tallies.routed (k * 32 + i) 0)
@@ -251,20 +251,20 @@ module _ (net : Setup) (setup : IsGoodSetup net) (n r : ℕ) (l : r < nodes net.
       (λ i. slice_index_or new.tallies.lost (k * 32 + i) 0) (view_at net (suc n) r)
   lane-counts =
       counts-next net setup n r l few is_frame.few frame.fields (column_at frozen.lanes k) (marks_at frozen.marks k) (word frozen.arrived.filled k)
-          (word moved.decided.granted k) (word moved.decided.lost k)
+      (word moved.decided.granted k) (word moved.decided.lost k)
       (word moved.decided.moved k) (standing_at frozen.standing k) is_frame.fields is_frame.width is.column is.filled round stands
-          (column_at moved.lanes k) (λ i. sheet_counts sheet k i) (λ i. sheet_counts next k i)
+      (column_at moved.lanes k) (λ i. sheet_counts sheet k i) (λ i. sheet_counts next k i)
       (λ i. slice_index_or old.tallies.routed (k * 32 + i) 0) (λ i. slice_index_or new.tallies.routed (k * 32 + i) 0)
       (λ i. slice_index_or old.tallies.granted (k * 32 + i) 0) (λ i. slice_index_or new.tallies.granted (k * 32 + i) 0)
       (λ i. slice_index_or old.tallies.lost (k * 32 + i) 0) (λ i. slice_index_or new.tallies.lost (k * 32 + i) 0)
       (ap (λ (xs : List ℕ). word xs k) lanes-kept.0) (ap (λ (xs : List ℕ). word xs k) lanes-kept.1) counts-are
       (tallied (lane_heads (word frozen.arrived.filled k) (column_at frozen.lanes k)) (standing_at frozen.standing k).heads
-          (λ (t : Tallies). t.routed) heads-same
+      (λ (t : Tallies). t.routed) heads-same
       (lane-routed net frame room frozen chosen after r k cycled.chosen no_grant no_loss))
       (tallied (word chosen.decided.granted k) (word moved.decided.granted k) (λ (t : Tallies). t.granted) granted-same
-          (lane-granted net frame room frozen chosen after r k cycled.chosen no_grant no_loss))
+      (lane-granted net frame room frozen chosen after r k cycled.chosen no_grant no_loss))
       (tallied (word chosen.decided.lost k) (word moved.decided.lost k) (λ (t : Tallies). t.lost) lost-same
-          (lane-lost net frame room frozen chosen after r k cycled.chosen no_grant no_loss))
+      (lane-lost net frame room frozen chosen after r k cycled.chosen no_grant no_loss))
       shows.counts
 
   -- ---- its last event
@@ -272,7 +272,7 @@ module _ (net : Setup) (setup : IsGoodSetup net) (n r : ℕ) (l : r < nodes net.
   lane-event =
       subst (λ e. ShowsLastEvent e (view_at net (suc n) r).last_event) (sym same)
       (event-next net setup n r l few is_frame.few frame.fields (column_at frozen.lanes k) (marks_at frozen.marks k) (word frozen.arrived.filled k)
-          (word moved.decided.granted k) (word moved.decided.lost k)
+      (word moved.decided.granted k) (word moved.decided.lost k)
       (word moved.decided.moved k) (standing_at frozen.standing k) is_frame.fields is_frame.width is.column is.filled round stands
       (word old.last_event k) (word frozen.arrived.landed k) (word frozen.returned.credited k)
       (lane-came net setup n r l frame is_frame few room starts old frozen before after sheet k shows (froze.lanes k low)) shows.last_event)
@@ -292,7 +292,7 @@ module _ (net : Setup) (setup : IsGoodSetup net) (n r : ℕ) (l : r < nodes net.
   -- ---- all of it, where these words show its wires
   pub lane-shows : (inbox : Inbox)
       → ShowsWires (view_at net (suc n) r) (word inbox.flits k) (word inbox.credits k) (λ i. ring_in room inbox (place_of k i)
-          (slice_index new.marks.first (place_of k i)))
+      (slice_index new.marks.first (place_of k i)))
       (beats_at (beats_in net (state_at net (suc n))) r)
       → ShowsRouter starts (suc n) (lane_words room new next inbox k) (view_at net (suc n) r) (beats_at (beats_in net (state_at net (suc n))) r)
   lane-shows inbox wires = record { column = lane-column; wires = wires; source = lane-source; counts = lane-counts; last_event = lane-event }

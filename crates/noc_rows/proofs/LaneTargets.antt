@@ -55,7 +55,7 @@ module _ (net : Setup) (setup : IsGoodSetup net) (frame : Frame) (is_frame : IsF
       → IsTarget (nodes net.relation.grid) blocks place
   is-target o place u least leads = at (neighbour net.relation.grid r (o / net.relation.vcs)) refl leads
       (subst (λ q. LeadsOut (min blocks 8 * 1024) (slice_index block.marks.lead (k * 8 + leads_by frame o)) (neighbour net.relation.grid r q))
-          (port-is o u) (linked.lead (leads_by frame o) (omega arith)))
+      (port-is o u) (linked.lead (leads_by frame o) (omega arith)))
     where
       at : (x : Option (ℕ × ℕ)) → neighbour net.relation.grid r (o / net.relation.vcs) ≡ x → LeadsTo net.relation.grid net.relation.vcs
           (o % net.relation.vcs) place x
@@ -66,7 +66,7 @@ module _ (net : Setup) (setup : IsGoodSetup net) (frame : Frame) (is_frame : IsF
           let node = back.node in
           let end = back.port in
           let low : port * net.relation.vcs + o % net.relation.vcs < size net = in-size net (good net setup) port (o % net.relation.vcs)
-              (omega (arith, end)) (mod-below net (good net setup) o) in
+          (omega (arith, end)) (mod-below net (good net setup) o) in
           let narrow = is_frame.few in
           let is : place ≡ to * 32 + (port * net.relation.vcs + o % net.relation.vcs) = leads in
           inl (omega (arith, is, node, low, narrow))
@@ -101,7 +101,7 @@ module _ (net : Setup) (setup : IsGoodSetup net) (frame : Frame) (is_frame : IsF
           let back = link_back net.relation.grid r (o / net.relation.vcs) to port (good net setup).relation.table.grid l e in
           let end = back.port in
           let low : port * net.relation.vcs + o % net.relation.vcs < size net = in-size net (good net setup) port (o % net.relation.vcs)
-              (omega (arith, end)) (mod-below net (good net setup) o) in
+          (omega (arith, end)) (mod-below net (good net setup) o) in
           let narrow = is_frame.few in
           let is : place ≡ to * 32 + (port * net.relation.vcs + o % net.relation.vcs) = leads in
           let same : to / 32 ≡ q = omega (arith, is, low, narrow, here) in
@@ -124,7 +124,7 @@ none-of (suc n) test o e l = at (some_below n test) refl (test n) refl (cases_eq
 module _ (net : Setup) (setup : IsGoodSetup net) (n r : ℕ) (l : r < nodes net.relation.grid) (frame : Frame)
     (is_frame : IsFrame net.relation net.places frame) (blocks : ℕ) (few_blocks : blocks ≤ 8)
     (covered : nodes net.relation.grid * 32 ≤ blocks * 1024) (room : ℕ) (starts : List Start) (frozen chosen : Block) (after : Inbox) (k : ℕ)
-        (linked : IsLinked net.relation frame (min blocks 8 * 1024) frozen r k)
+    (linked : IsLinked net.relation frame (min blocks 8 * 1024) frozen r k)
     (is : IsFrozen 5 room starts (marks_at frozen.marks k) (λ i. slice_index frozen.marks.first (place_of k i)) frozen after k (frozen_of net n r))
     (has : LaneChosen net frame room frozen chosen after r k) where
   abbrev spare : ℕ
@@ -176,17 +176,17 @@ module _ (net : Setup) (setup : IsGoodSetup net) (n r : ℕ) (l : r < nodes net.
           by true e =
               let found = some-found 32 wins e in
               let parts = and_parts (has_bit (has.asked some).outs found.0) (has_bit (winner (has.asked some).requests (marks_at frozen.marks k)
-                  found.0) i) found.2 in
+              found.0) i) found.2 in
               let asked = asker (frozen_view net setup n r l) (allocation_in frozen k) has.granted (leads_by frame)
-                  (leads_to frame frozen.marks.lead k) is.column stands.few stands.arbiters.channels
+              (leads_to frame frozen.marks.lead k) is.column stands.few stands.arbiters.channels
               (ports-are (leads_by frame) (port-is net setup frame is_frame blocks few_blocks covered frozen r k l linked)) stands.leads all found.0 i
-                  parts.0 parts.1 in
+              parts.0 parts.1 in
               subst (IsTarget (nodes net.relation.grid) blocks) (sym (all.marks.bound found.0 i parts.0 parts.1).target)
               (leads-target net setup frame is_frame blocks few_blocks covered frozen r k l linked found.0 (subst (λ s. found.0 < s) size-same asked.1))
           by false e =
               subst (IsTarget (nodes net.relation.grid) blocks)
-                  (sym (all.marks.inputs i (λ o out. loses o out (has_bit (winner (has.asked some).requests (marks_at frozen.marks k) o) i)
-                  refl)).target) (were i u)
+              (sym (all.marks.inputs i (λ o out. loses o out (has_bit (winner (has.asked some).requests (marks_at frozen.marks k) o) i)
+              refl)).target) (were i u)
             where
               loses : (o : ℕ) → has_bit (has.asked some).outs o ≡ true → (w : Bool)
                   → has_bit (winner (has.asked some).requests (marks_at frozen.marks k) o) i ≡ w
@@ -221,9 +221,9 @@ module _ (net : Setup) (setup : IsGoodSetup net) (n r : ℕ) (l : r < nodes net.
           loses p out false is_false = is_false
           loses p out true won =
               let asked = asker (frozen_view net setup n r l) (allocation_in frozen k) has.granted (leads_by frame)
-                  (leads_to frame frozen.marks.lead k) is.column stands.few stands.arbiters.channels
+              (leads_to frame frozen.marks.lead k) is.column stands.few stands.arbiters.channels
               (ports-are (leads_by frame) (port-is net setup frame is_frame blocks few_blocks covered frozen r k l linked)) stands.leads
-                  (has.asked some) p i out won in
+              (has.asked some) p i out won in
               absurd (false≢true (ap is_some (sym (ap (λ (s : InputState). ask_of (claim_in (frozen_view net setup n r l) s)) phase) ∙ asked.2)))
 
   pub lane-target-kept : (i o : ℕ) → i < size net → (view_input (frozen_of net n r) i).phase ≡ Active o

@@ -24,7 +24,7 @@ module _ (limit : ℕ) (gone : ℕ → Bool) (target back : ℕ → ℕ) (start 
     (moved : HaveMoved limit gone target back start (wire_words room inboxes first))
     (none_to : (p : ℕ) → gone p ≡ true → target p / 1024 ≢ b) (none_back : (p : ℕ) → gone p ≡ true → back p / 1024 ≢ b)
     (no_flit : (k i : ℕ) → k < 32 → i < 32 → start.comes (place_of (b * 32 + k) i) ≡ false) (no_credit : (k i : ℕ) → k < 32 → i < 32
-        → start.returns (place_of (b * 32 + k) i) ≡ false)
+    → start.returns (place_of (b * 32 + k) i) ≡ false)
     (flits_fit : (k : ℕ) → word (inbox_at inboxes b).flits k < 2 ^ 32) (credits_fit : (k : ℕ) → word (inbox_at inboxes b).credits k < 2 ^ 32) where
   none-comes : (k i : ℕ) → k < 32 → i < 32 → has_bit (word (inbox_at inboxes b).flits k) i ≡ false
   none-comes k i low u =
@@ -70,4 +70,4 @@ pub block-moves : (frame : Frame) (n : ℕ) (old new : Block) (before after : Sh
     → has_bit (word old.decided.moved k) i ≡ true → new.moves ≡ true
 block-moves frame n old new before after k i concludes low e =
     concludes.moves ∙ some-above (λ j. not (nat_eq (word old.decided.moved j) 0)) 32 k low
-        (ap not (ne_eqb (word old.decided.moved k) 0 (λ z. true≢false (sym e ∙ ap (λ w. has_bit w i) z ∙ has_bit-zero i))))
+    (ap not (ne_eqb (word old.decided.moved k) 0 (λ z. true≢false (sym e ∙ ap (λ w. has_bit w i) z ∙ has_bit-zero i))))

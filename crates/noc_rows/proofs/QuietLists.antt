@@ -37,15 +37,15 @@ use Rattle.noc_rows.proofs.QuietLaws.{block-moves, block-quiet}
 module _ (net : Setup) (setup : IsGoodSetup net) (n : ℕ) (frame : Frame) (is_frame : IsFrame net.relation net.places frame) (moved new : List Block)
     (sheets nexts : List Sheet) (near : ℕ)
     (few_blocks : length moved ≤ 8) (covered : nodes net.relation.grid * 32 ≤ length moved * 1024) (paired : length sheets ≡ length moved)
-        (concluded : HaveConcluded frame n near moved new sheets nexts)
+    (concluded : HaveConcluded frame n near moved new sheets nexts)
     (links : (b : ℕ) (block : Block) → slice_get new b ≡ Some block → (k : ℕ) → k < 32 → b * 32 + k < nodes net.relation.grid
-        → IsLinked net.relation frame (min (length moved) 8 * 1024) block (b * 32 + k) k)
+    → IsLinked net.relation frame (min (length moved) 8 * 1024) block (b * 32 + k) k)
     (decided : (b : ℕ) (block : Block) → slice_get moved b ≡ Some block → block.awake ≡ true → (c : ℕ) → c < 1024 → is_moving net n (b * 1024 + c) ≡ true
-        → has_bit (word block.decided.moved (c / 32)) (c % 32) ≡ true)
+    → has_bit (word block.decided.moved (c / 32)) (c % 32) ≡ true)
     (asleep : (b : ℕ) (block : Block) → slice_get moved b ≡ Some block → block.awake ≡ false → (p : ℕ) → p / 1024 ≡ b → is_moving net n p ≡ false)
     (target back : ℕ → ℕ) (start : WireWords) (are : AreFrozenWires net n (moves_at net n) (is_moving net n) target back start)
     (targets : (p : ℕ) → is_moving net n p ≡ true → IsTarget (nodes net.relation.grid) (length moved) (target p)) (backs : (p : ℕ)
-        → is_moving net n p ≡ true → IsTarget (nodes net.relation.grid) (length moved) (back p))
+    → is_moving net n p ≡ true → IsTarget (nodes net.relation.grid) (length moved) (back p))
     (some_block : Block) (some_sheet : Sheet) where
   -- a router and a channel of it of which a flit moves, and by which output channel
   pub record Moves (p : ℕ) : Type 0 where
@@ -143,14 +143,14 @@ module _ (net : Setup) (setup : IsGoodSetup net) (n : ℕ) (frame : Frame) (is_f
       at false asleep_is = absurd (false≢true (sym (asleep (p / 1024) (moved_one (p / 1024)) there asleep_is p refl) ∙ m.moving))
       at true awake = λ o place u leads target here few_q.
           let concludes = concluded.awake (p / 1024) (moved_one (p / 1024)) (new_one (p / 1024)) (get_or sheets (p / 1024) some_sheet)
-              (get_or nexts (p / 1024) some_sheet) there there_next sheet_is next_is awake in
+          (get_or nexts (p / 1024) some_sheet) there there_next sheet_is next_is awake in
           let on : (new_one (p / 1024)).awake ≡ true = ap (λ (x : Block). x.awake) concludes.rest ∙ awake in
           let moves_it : (new_one (p / 1024)).moves ≡ true = block-moves frame n (moved_one (p / 1024)) (new_one (p / 1024))
-              (get_or sheets (p / 1024) some_sheet) (get_or nexts (p / 1024) some_sheet) (p % 1024 / 32) (p % 1024 % 32) concludes (omega arith)
-              (decided (p / 1024) (moved_one (p / 1024)) there awake (p % 1024) (omega arith) (ap (is_moving net n) (div-add-mod' p 1024) ∙ m.moving)) in
+          (get_or sheets (p / 1024) some_sheet) (get_or nexts (p / 1024) some_sheet) (p % 1024 / 32) (p % 1024 % 32) concludes (omega arith)
+          (decided (p / 1024) (moved_one (p / 1024)) there awake (p % 1024) (omega arith) (ap (is_moving net n) (div-add-mod' p 1024) ∙ m.moving)) in
           concluded.near_is (p / 1024) q (new_one (p / 1024)) there_next (omega (arith, low, paired)) on moves_it
           (leads-near net setup frame is_frame (length moved) few_blocks covered (new_one (p / 1024)) (p / 32) (p / 32 % 32) m.router linked o place q
-              u leads target here few_q)
+          u leads target here few_q)
 
   -- one that moves goes to a block that is near
   target-near : (p q : ℕ) → is_moving net n p ≡ true → target p / 1024 ≡ q → q < length moved → has_bit near q ≡ true
@@ -160,7 +160,7 @@ module _ (net : Setup) (setup : IsGoodSetup net) (n : ℕ) (frame : Frame) (is_f
       let leads : Leads (frozen_of net n (p / 32)).site m.out (target p) = subst (λ t. Leads (frozen_of net n (p / 32)).site m.out (target t)) is
       (are.targets (p / 32) (p % 32) m.out m.router m.channel m.bit m.phase) in
       moves-near p q m m.out (target p) m.below (subst (λ (s : Site). Leads s m.out (target p)) (frozen-seen net setup n (p / 32) m.router).site
-          leads) (targets p e) here few_q
+      leads) (targets p e) here few_q
 
   -- .. and so does its credit
   back-near : (p q : ℕ) → is_moving net n p ≡ true → back p / 1024 ≡ q → q < length moved → has_bit near q ≡ true
@@ -168,7 +168,7 @@ module _ (net : Setup) (setup : IsGoodSetup net) (n : ℕ) (frame : Frame) (is_f
       let m : Moves p = moves p e in
       let is : place_of (p / 32) (p % 32) ≡ p = div-add-mod' p 32 in
       let leads : Leads (site_at net (p / 32)) (p % 32) (back p) = subst (λ t. Leads (site_at net (p / 32)) (p % 32) (back t)) is
-          (are.backs (p / 32) (p % 32) m.router m.channel) in
+      (are.backs (p / 32) (p % 32) m.router m.channel) in
       moves-near p q m (p % 32) (back p) m.channel leads (backs p e) here few_q
 
   -- ---- a block that is near to none has nothing on its wires, as its in-box had nothing when it was frozen
@@ -182,7 +182,7 @@ module _ (net : Setup) (setup : IsGoodSetup net) (n : ℕ) (frame : Frame) (is_f
       block-quiet limit gone target back start room inboxes first q have
       (λ p e to. false≢true (sym far ∙ target-near p q (part p e) to few_q)) (λ p e to. false≢true (sym far ∙ back-near p q (part p e) to few_q))
       (λ k i low u. ap (λ (w : WireWords). w.comes (place_of (q * 32 + k) i)) start_is ∙ lane-comes room frozen before q k i low u
-          ∙ ap (λ w. has_bit w i) (quiet.flits k low) ∙ has_bit-zero i)
+      ∙ ap (λ w. has_bit w i) (quiet.flits k low) ∙ has_bit-zero i)
       (λ k i low u. ap (λ (w : WireWords). w.returns (place_of (q * 32 + k) i)) start_is ∙ lane-returns room frozen before q k i low u
-          ∙ ap (λ w. has_bit w i) (quiet.credits k low) ∙ has_bit-zero i)
+      ∙ ap (λ w. has_bit w i) (quiet.credits k low) ∙ has_bit-zero i)
       flits_fit credits_fit

@@ -105,13 +105,13 @@ module _ (net : Setup) (setup : IsGoodSetup net) (n : ℕ) (few : n < CYCLE_LIMI
           let freezes = step.froze.awake b x.w x.f x.w_is x.f_is e (omega (arith, l, long)) in
           let on : x.f.awake ≡ true = ap (λ (y : Block). y.awake) freezes.rest ∙ e in
           let d : HasDecided net.relation woken.before.frame n b x.f x.m (step.decided.at b) (step.decided.at (suc b)) = step.decided.awake b x.f x.m
-              x.f_is x.m_is on in
+          x.f_is x.m_is on in
           let have = moved-to net setup n few woken.before.frame woken.shows.frame woken.before.starts.items (room_of woken.before.wires.room)
-              woken.shows.places
+          woken.shows.places
           old.blocks.items step.frozen step.moved woken.before.wires.inboxes.items step.start.inboxes.items step.start step.end woken.before.sheets.items
           few-blocks covered long paired woken.wakes.bytes woke-shown woke-resting step.froze step.decided now-bytes room-same refl b (omega (arith, l)) in
           let lane = block-decides net setup n few woken.before.frame woken.shows.frame woken.before.starts.items (room_of woken.before.wires.room)
-              woken.shows.places
+          woken.shows.places
           old.blocks.items step.frozen step.moved woken.before.wires.inboxes.items step.start.inboxes.items step.start step.end woken.before.sheets.items
           few-blocks covered long paired woken.wakes.bytes woke-shown woke-resting step.froze step.decided now-bytes room-same refl b x e d have in
           awake-puts net setup n few woken.before.frame woken.shows.frame woken.before.starts.items (room_of woken.before.wires.room) woken.shows.places
@@ -134,7 +134,7 @@ module _ (net : Setup) (setup : IsGoodSetup net) (n : ℕ) (few : n < CYCLE_LIMI
   arrivals-long : (b : ℕ) → b ≤ length old.blocks.items → length (step.decided.at b).arrivals.items ≡ length net.packets + 1
   arrivals-long b l =
       (so-far-kept net.relation woken.before.frame n step.frozen step.moved step.start step.end step.decided b (let f = step.froze.many in omega
-          (arith, l, f))).arrivals
+      (arith, l, f))).arrivals
       ∙ ap (λ (w : Wires). length w.arrivals.items) step.start_is ∙ woken.shows.arrivals_are
 
   arrived : (p : ℕ) → p < length net.packets → ShowsArrival (slice_index step.end.arrivals.items p) (arrival_in net (state_at net (suc n)) p)
@@ -144,26 +144,26 @@ module _ (net : Setup) (setup : IsGoodSetup net) (n : ℕ) (few : n < CYCLE_LIMI
       subst (λ (w : Wires). ShowsArrival (slice_index w.arrivals.items p) (arrival_in net (state_at net (suc n)) p)) last
       (arrival-next net setup n few (length old.blocks.items) covered (λ b. (step.decided.at b).arrivals.items) arrivals-long puts p l
       (subst (λ (w : Wires). ShowsArrival (slice_index w.arrivals.items p) (arrival_in net (state_at net n) p)) (sym (start ∙ step.start_is))
-          (woken.shows.arrivals p l)))
+      (woken.shows.arrivals p l)))
 
   -- ---- all of it
   wires-shown : (b : ℕ) (block : Block) → slice_get new.blocks.items b ≡ Some block
       → ShowsInbox net (suc n) (room_of woken.before.wires.room) b block (inbox_at step.end.inboxes.items b)
   wires-shown = wires-decided net setup n few woken.before.frame woken.shows.frame woken.before.starts.items (room_of woken.before.wires.room)
       woken.shows.places
-          old.blocks.items step.frozen step.moved woken.before.wires.inboxes.items step.start.inboxes.items step.start step.end woken.before.sheets.items
-          few-blocks covered long paired woken.wakes.bytes woke-shown woke-resting step.froze step.decided now-bytes room-same refl
+      old.blocks.items step.frozen step.moved woken.before.wires.inboxes.items step.start.inboxes.items step.start step.end woken.before.sheets.items
+      few-blocks covered long paired woken.wakes.bytes woke-shown woke-resting step.froze step.decided now-bytes room-same refl
       step.fits new.blocks.items new.sheets.items step.near step.concluded
 
   pub shows-moves : ShowsMoves net n (record woken.before { blocks = old.blocks }) new step
   shows-moves = record {
     lanes = lanes-decided net setup n few woken.before.frame woken.shows.frame woken.before.starts.items (room_of woken.before.wires.room) woken.shows.places
-          old.blocks.items step.frozen step.moved woken.before.wires.inboxes.items step.start.inboxes.items step.start step.end woken.before.sheets.items
-          few-blocks covered long paired woken.wakes.bytes woke-shown woke-resting step.froze step.decided now-bytes room-same refl;
+        old.blocks.items step.frozen step.moved woken.before.wires.inboxes.items step.start.inboxes.items step.start step.end woken.before.sheets.items
+        few-blocks covered long paired woken.wakes.bytes woke-shown woke-resting step.froze step.decided now-bytes room-same refl;
     wires = wires-shown;
     arrived = arrived;
     quiet = step-quiet net setup n few woken.before.frame woken.shows.frame woken.before.starts.items (room_of woken.before.wires.room) woken.shows.places
-          old.blocks.items step.frozen step.moved woken.before.wires.inboxes.items step.start.inboxes.items step.start step.end woken.before.sheets.items
-          few-blocks covered long paired woken.wakes.bytes woke-shown woke-resting step.froze step.decided now-bytes room-same refl
+        old.blocks.items step.frozen step.moved woken.before.wires.inboxes.items step.start.inboxes.items step.start step.end woken.before.sheets.items
+        few-blocks covered long paired woken.wakes.bytes woke-shown woke-resting step.froze step.decided now-bytes room-same refl
         new.blocks.items new.sheets.items step.near step.concluded wires-shown step.fits;
   }

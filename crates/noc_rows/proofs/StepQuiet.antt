@@ -48,7 +48,7 @@ module _ (net : Setup) (setup : IsGoodSetup net) (n : ℕ) (few : n < CYCLE_LIMI
     (paired : length sheets ≡ length woke)
     (bytes : (b : ℕ) (block : Block) → slice_get woke b ≡ Some block → (p : ℕ) → slice_index block.marks.first p < 256)
     (shows : (b : ℕ) (block : Block) (sheet : Sheet) → slice_get woke b ≡ Some block → slice_get sheets b ≡ Some sheet
-        → ShowsBlock net n frame starts room (length woke) b block sheet (inbox_at before b))
+    → ShowsBlock net n frame starts room (length woke) b block sheet (inbox_at before b))
     (rests : (b : ℕ) (block : Block) → slice_get woke b ≡ Some block → block.awake ≡ false → Rests n block (inbox_at before b))
     (froze : HaveFrozen frame n room starts woke frozen before after) (decided : HaveDecided (HasDecided net.relation frame n) frozen moved start end)
     (now_bytes : (b : ℕ) (block : Block) → slice_get moved b ≡ Some block → (p : ℕ) → slice_index block.marks.first p < 256)
@@ -211,24 +211,24 @@ module _ (net : Setup) (setup : IsGoodSetup net) (n : ℕ) (few : n < CYCLE_LIMI
       let low : q < length woke = let c = concluded.many in let m = many-moved in omega (arith, l, c, m) in
       let x = one q low in
       lists-quiet net setup n frame is_frame moved new sheets nexts near (let m = many-moved in omega (arith, few_blocks, m))
-          (let m = many-moved in omega (arith, covered, m))
+      (let m = many-moved in omega (arith, covered, m))
       (paired ∙ sym many-moved) concluded links-new
       (λ b block is awake. let y = one b (let u = slice_get_within moved b block is in let m = many-moved in omega (arith, u, m)) in
-          let here : y.m ≡ block = same_Some y.m block (sym y.m_is ∙ is) in
-          subst (λ (z : Block). (c : ℕ) → c < 1024 → is_moving net n (b * 1024 + c) ≡ true → has_bit (word z.decided.moved (c / 32)) (c % 32) ≡ true) here
-          (moved-bits b y (sym (awake-same b y) ∙ ap (λ (z : Block). z.awake) here ∙ awake)))
+      let here : y.m ≡ block = same_Some y.m block (sym y.m_is ∙ is) in
+      subst (λ (z : Block). (c : ℕ) → c < 1024 → is_moving net n (b * 1024 + c) ≡ true → has_bit (word z.decided.moved (c / 32)) (c % 32) ≡ true) here
+      (moved-bits b y (sym (awake-same b y) ∙ ap (λ (z : Block). z.awake) here ∙ awake)))
       (λ b block is asleep. let y = one b (let u = slice_get_within moved b block is in let m = many-moved in omega (arith, u, m)) in
-          let here : y.m ≡ block = same_Some y.m block (sym y.m_is ∙ is) in
-          none-moving b y (sym (awake-same b y) ∙ ap (λ (z : Block). z.awake) here ∙ asleep))
+      let here : y.m ≡ block = same_Some y.m block (sym y.m_is ∙ is) in
+      none-moving b y (sym (awake-same b y) ∙ ap (λ (z : Block). z.awake) here ∙ asleep))
       (by_block target) (by_block back) (wire_words room after (by_block first))
       (are-frozen net setup n few frame is_frame starts room enough woke frozen moved before after start end sheets
       few_blocks covered long paired bytes shows rests froze decided now_bytes room_is same)
       (λ p e. subst (λ m. IsTarget (nodes net.relation.grid) m (by_block target p)) (sym many-moved) (target-is p e))
       (λ p e. subst (λ m. IsTarget (nodes net.relation.grid) m (by_block back p)) (sym many-moved) (back-is p e))
       x.w x.sheet (nodes net.relation.grid * 32) room end.inboxes.items after (firsts_below now first (length woke)) (by_block first)
-          (gone_below (is_moving net n) (length woke))
+      (gone_below (is_moving net n) (length woke))
       (λ p e. (and_parts (nat_lt (p / 1024) (length woke)) (is_moving net n p) e).1) refl moved-all q (let m = many-moved in omega (arith, low, m))
-          far (frozen-quiet q low)
+      far (frozen-quiet q low)
       (λ k. (fits q k).0) (λ k. (fits q k).1)
     where
       moved-all : HaveMoved (nodes net.relation.grid * 32) (gone_below (is_moving net n) (length woke)) (by_block target) (by_block back)
