@@ -1,7 +1,7 @@
 -- All that decide in a cycle: once they have, the rings and the wires of the blocks are those of the network's next count.
 use Rattle.std.proofs.Common.{◌≡◌, ◌≢◌, ℕ, zero, suc, ◌+◌, ◌*◌, ◌/◌, ◌%◌, ◌^◌, ◌<◌, ◌≤◌, Bool, true, false, List, [], ◌∷◌, length, get_or, Option, Some, None, refl, ap, ap₂, sym, ◌∙◌, subst, arith, inl, inr}
 use Rattle.std.specs.Prelude.{◌⊎◌, ◌&&◌, nat_lt, option_map, slice_get, slice_index, unwrap_or, if◌then◌else◌}
-use Rattle.std.proofs.lemmas.Bool.{and_parts, cases_Bool, cases_lt, le-ltb, lt-ltb, false≢true}
+use Rattle.std.proofs.lemmas.Bool.{and_parts, cases_Bool, cases_lt, le-ltb, lt-ltb, ltb-true, false≢true}
 use Rattle.std.proofs.lemmas.Option.{same_Some, slice_get-get_or, slice_get_within}
 use Rattle.noc_topo.specs.Shape.{nodes, ports}
 use Rattle.noc_packet.specs.Set.{has_bit}
@@ -10,9 +10,10 @@ use Rattle.noc_packet.specs.declared.packet.Flit.{Flit}
 use Rattle.noc_router.specs.View.{Site, first_flit, is_tail, size_of}
 use Rattle.noc_model.specs.declared.limits.TheConstants.{CYCLE_LIMIT}
 use Rattle.noc_model.specs.Good.{IsGoodSetup}
-use Rattle.noc_model.specs.Network.{Setup, size}
-use Rattle.noc_rows.specs.Carried.{CanMove, HaveMoved, WireWords, wire_words}
-use Rattle.noc_rows.specs.Column.{place_of}
+use Rattle.noc_model.specs.Lockstep.{beats_at, beats_in, view_at}
+use Rattle.noc_model.specs.Network.{Setup, size, state_at}
+use Rattle.noc_rows.specs.Carried.{CanMove, HaveMoved, NoneTo, WireWords, wire_words}
+use Rattle.noc_rows.specs.Column.{ShowsWires, place_of}
 use Rattle.noc_rows.specs.Decided.{HasChosenIn, HasDecided}
 use Rattle.noc_rows.specs.FlitWords.{flit_word}
 use Rattle.noc_rows.specs.Frames.{IsFrame}
@@ -21,9 +22,9 @@ use Rattle.noc_rows.specs.Moves.{ports_of}
 use Rattle.noc_rows.specs.Passes.{lane_heads}
 use Rattle.noc_rows.specs.Routed.{sets_by}
 use Rattle.noc_rows.specs.Rows.{column_at, word}
-use Rattle.noc_rows.specs.Stages.{HasFrozen, HaveDecided, HaveFrozen, selected_of}
+use Rattle.noc_rows.specs.Stages.{HasFrozen, HaveConcluded, HaveDecided, HaveFrozen, selected_of}
 use Rattle.noc_rows.specs.Switched.{AreApart, AreNext, HaveReleased, in_words, moved_by}
-use Rattle.noc_rows.specs.Whole.{IsTarget, ShowsBlock}
+use Rattle.noc_rows.specs.Whole.{IsQuiet, IsTarget, ShowsBlock}
 use Rattle.noc_rows.specs.Wires.{inbox_at, ring_in, room_of}
 use Rattle.noc_rows.specs.declared.block.Block.{Block}
 use Rattle.noc_rows.specs.declared.frame.Frame.{Frame}
@@ -32,6 +33,7 @@ use Rattle.noc_rows.specs.declared.sheet.Sheet.{Sheet}
 use Rattle.noc_rows.specs.declared.starts.Start.{Start}
 use Rattle.noc_rows.specs.declared.wires.Inbox.{Inbox}
 use Rattle.noc_rows.specs.declared.wires.Wires.{Wires}
+use Rattle.noc_rows.proofs.BlockShows.{ShowsInbox}
 use Rattle.noc_rows.proofs.BlocksNext.{DecidesLanes, Rests}
 use Rattle.noc_rows.proofs.CanMoveLaws.{can-move}
 use Rattle.noc_rows.proofs.DecidedLanes.{awake-apart, awake-firsts, awake-leads, awake-moves, awake-still, frozen-lane}
@@ -43,9 +45,11 @@ use Rattle.noc_rows.proofs.LaneDecided.{keeps-frozen, lane-chosen, rings-chosen}
 use Rattle.noc_rows.proofs.LaneNext.{LaneChosen, allocation_in, packet_of, routes_in}
 use Rattle.noc_rows.proofs.LaneRests.{lanes-rest}
 use Rattle.noc_rows.proofs.LaneShows.{KeepsFrozen}
-use Rattle.noc_rows.proofs.LaneWires.{lane-place, lane-ring}
+use Rattle.noc_rows.proofs.LaneTargets.{back-target}
+use Rattle.noc_rows.proofs.LaneWires.{lane-comes, lane-place, lane-returns, lane-ring, lane-wires}
 use Rattle.noc_rows.proofs.NetworkLaws.{good, frozen-seen}
-use Rattle.noc_rows.proofs.NetworkMoves.{IsStillLane, by-block, by_block, is_moving, moves_at, network-wires}
+use Rattle.noc_rows.proofs.NetworkMoves.{IsStillLane, by-block, by_block, is_moving, moves-below, moves_at, network-wires}
+use Rattle.noc_rows.proofs.StepLemmas.{moved-same}
 
 -- ---- lists of blocks
 
@@ -388,3 +392,165 @@ module _ (net : Setup) (setup : IsGoodSetup net) (n : ℕ) (few : n < CYCLE_LIMI
       by false e =
           let asleep : x.w ≡ f = same_Some x.w f (sym (asleep-frozen b x e) ∙ f_is) in
           absurd (false≢true (sym e ∙ ap (λ (y : Block). y.awake) asleep ∙ awake))
+
+  -- ---- after all of them
+  module _ (fits : (b k : ℕ) → (word (inbox_at end.inboxes.items b).flits k < 2 ^ 32) × (word (inbox_at end.inboxes.items b).credits k < 2 ^ 32)) where
+    -- by place, where in its ring the first word is then
+    abbrev pub last_firsts : ℕ → ℕ
+    last_firsts p = firsts_below now first (length woke) p
+
+    pub all-moved : HaveMoved (nodes net.relation.grid * 32) (is_moving net n) (by_block target) (by_block back) words (wire_words room end.inboxes.items (firsts_below now first (length woke)))
+    all-moved =
+        moved-same (nodes net.relation.grid * 32) (gone_below (is_moving net n) (length woke)) (is_moving net n) (by_block target) (by_block back) words
+        (wire_words room end.inboxes.items (firsts_below now first (length woke))) all
+        (subst (λ (w : Wires). HaveMoved (nodes net.relation.grid * 32) (gone_below (is_moving net n) (length woke)) (by_block target) (by_block back) words
+        (wire_words room w.inboxes.items (firsts_below now first (length woke)))) (ap decided.at (sym froze.many) ∙ decided.last) (moved-to (length woke) (omega arith)).moved)
+      where
+        all : (p : ℕ) → gone_below (is_moving net n) (length woke) p ≡ is_moving net n p
+        all p = at (cases_lt (p / 1024) (length woke)) (cases_Bool (is_moving net n p))
+          where
+            at : (p / 1024 < length woke) ⊎ (length woke ≤ p / 1024) → (is_moving net n p ≡ true) ⊎ (is_moving net n p ≡ false) → gone_below (is_moving net n) (length woke) p ≡ is_moving net n p
+            at (inl l) moves = ap (λ t. t && is_moving net n p) (lt-ltb (p / 1024) (length woke) l)
+            at (inr u) (inl e) = let low = can.below p e in absurd (omega (arith, low, u, covered))
+            at (inr u) (inr e) = ap (λ t. t && is_moving net n p) (le-ltb (p / 1024) (length woke) u) ∙ sym e
+
+    -- ---- nothing was on the wires before, nor is there now to a lane without a router
+    pub frozen-quiet : (b : ℕ) → b < length woke → IsQuiet (inbox_at after b)
+    frozen-quiet b l = by x.w.awake refl
+      where
+        x : OneBlock b
+        x = one-block b l
+
+        by : (a : Bool) → x.w.awake ≡ a → IsQuiet (inbox_at after b)
+        by true e = record { flits = λ k low. ((freezes b x e).lanes k low).flits; credits = λ k low. ((freezes b x e).lanes k low).credits }
+        by false e = subst IsQuiet (sym (froze.asleep b x.w x.w_is e).1) (resting b x e).quiet
+
+    marks-same : (b : ℕ) (x : OneBlock b) → x.f.marks ≡ x.w.marks
+    marks-same b x = by x.w.awake refl
+      where
+        by : (a : Bool) → x.w.awake ≡ a → x.f.marks ≡ x.w.marks
+        by true e = ap (λ (y : Block). y.marks) (freezes b x e).rest
+        by false e = sym (ap (λ (y : Block). y.marks) (same_Some x.w x.f (sym (asleep-frozen b x e) ∙ x.f_is)))
+
+    -- a flit that moves is that of a channel of a router in a lane of a block
+    record Mover (p : ℕ) : Type 0 where
+      block : OneBlock (p / 1024)
+      lane : p / 32 % 32 < 32
+      router : p / 1024 * 32 + p / 32 % 32 < nodes net.relation.grid
+      channel : p % 32 < size net
+      place : place_of (p / 32 % 32) (p % 32) ≡ p % 1024
+
+    mover : (p : ℕ) → is_moving net n p ≡ true → Mover p
+    mover p e =
+        let parts = and_parts (nat_lt (p / 32) (nodes net.relation.grid)) (has_bit (moves_at net n (p / 32)) (p % 32)) e in
+        let l : p / 32 < nodes net.relation.grid = ltb-true (p / 32) (nodes net.relation.grid) parts.0 in
+        let same_router : p / 1024 * 32 + p / 32 % 32 ≡ p / 32 = omega arith in
+        let site : size_of (frozen_of net n (p / 32)).site ≡ size net = ap (λ (s : Site). size_of s) (frozen-seen net setup n (p / 32) l).site in
+        let small_channel = moves-below (frozen_of net n (p / 32)) (p % 32) parts.1 in
+        record {
+          block = one-block (p / 1024) (omega (arith, l, covered));
+          lane = omega arith;
+          router = omega (arith, same_router, l);
+          channel = omega (arith, small_channel, site);
+          place = omega arith;
+        }
+
+    pub targets-in : (p : ℕ) → is_moving net n p ≡ true → IsTarget (nodes net.relation.grid) (length woke) (by_block target p)
+    targets-in p e =
+        let m = mover p e in
+        let x = m.block in
+        subst (IsTarget (nodes net.relation.grid) (length woke))
+        (ap (λ c. slice_index x.w.marks.target c) m.place ∙ ap (λ (y : Marks). slice_index y.target (p % 1024)) (sym (marks-same (p / 1024) x))
+        ∙ ap (λ (xs : List ℕ). slice_index xs (p % 1024)) (sym (list-of frozen (λ (y : Block). y.marks.target) (p / 1024) x.f x.f_is)))
+        ((shown (p / 1024) x).targets (p / 32 % 32) (p % 32) m.lane (omega arith) m.router)
+
+    pub backs-in : (p : ℕ) → is_moving net n p ≡ true → IsTarget (nodes net.relation.grid) (length woke) (by_block back p)
+    backs-in p e =
+        let m = mover p e in
+        let x = m.block in
+        subst (IsTarget (nodes net.relation.grid) (length woke))
+        (ap (λ c. slice_index x.w.marks.back c) m.place ∙ ap (λ (y : Marks). slice_index y.back (p % 1024)) (sym (marks-same (p / 1024) x))
+        ∙ ap (λ (xs : List ℕ). slice_index xs (p % 1024)) (sym (list-of frozen (λ (y : Block). y.marks.back) (p / 1024) x.f x.f_is)))
+        (back-target net setup frame is_frame (length woke) few_blocks covered x.w (p / 1024 * 32 + p / 32 % 32) (p / 32 % 32) m.router
+        ((shown (p / 1024) x).links (p / 32 % 32) m.lane m.router) (p % 32) m.channel)
+
+    -- none goes to a lane without a router
+    none-beyond : (to : ℕ → ℕ) → ((p : ℕ) → is_moving net n p ≡ true → IsTarget (nodes net.relation.grid) (length woke) (to p)) → (b k i : ℕ) → b < length woke → k < 32 → i < 32
+        → nodes net.relation.grid ≤ b * 32 + k → NoneTo (is_moving net n) to (place_of (b * 32 + k) i)
+    none-beyond to goes b k i l low u beyond p e is = at (goes p e)
+      where
+        at : IsTarget (nodes net.relation.grid) (length woke) (to p) → ⊥
+        at (inl small_place) = absurd (omega (arith, small_place, is, beyond))
+        at (inr large_place) = absurd (omega (arith, large_place, is, l, low, u))
+
+    blank-flits : (b k : ℕ) → b < length woke → k < 32 → nodes net.relation.grid ≤ b * 32 + k → word (inbox_at end.inboxes.items b).flits k ≡ 0
+    blank-flits b k l low beyond = zero_from_none (word (inbox_at end.inboxes.items b).flits k) (λ i. at i (cases_lt i 32))
+      where
+        at : (i : ℕ) → (i < 32) ⊎ (32 ≤ i) → has_bit (word (inbox_at end.inboxes.items b).flits k) i ≡ false
+        at i (inr large) = has_bit-above (word (inbox_at end.inboxes.items b).flits k) 32 i (fits b k).0 large
+        at i (inl u) =
+            sym (lane-comes room end.inboxes.items (firsts_below now first (length woke)) b k i low u)
+            ∙ all-moved.unsent (place_of (b * 32 + k) i) (none-beyond (by_block target) targets-in b k i l low u beyond)
+            ∙ lane-comes room after (by_block first) b k i low u ∙ ap (λ w. has_bit w i) ((frozen-quiet b l).flits k low) ∙ has_bit-zero i
+
+    blank-credits : (b k : ℕ) → b < length woke → k < 32 → nodes net.relation.grid ≤ b * 32 + k → word (inbox_at end.inboxes.items b).credits k ≡ 0
+    blank-credits b k l low beyond = zero_from_none (word (inbox_at end.inboxes.items b).credits k) (λ i. at i (cases_lt i 32))
+      where
+        at : (i : ℕ) → (i < 32) ⊎ (32 ≤ i) → has_bit (word (inbox_at end.inboxes.items b).credits k) i ≡ false
+        at i (inr large) = has_bit-above (word (inbox_at end.inboxes.items b).credits k) 32 i (fits b k).1 large
+        at i (inl u) =
+            sym (lane-returns room end.inboxes.items (firsts_below now first (length woke)) b k i low u)
+            ∙ all-moved.unreturned (place_of (b * 32 + k) i) (none-beyond (by_block back) backs-in b k i l low u beyond)
+            ∙ lane-returns room after (by_block first) b k i low u ∙ ap (λ w. has_bit w i) ((frozen-quiet b l).credits k low) ∙ has_bit-zero i
+
+    -- ---- the words of the wires to a block are those of the next count
+    inbox-shows : (b : ℕ) (m : Block) → slice_get moved b ≡ Some m → ShowsInbox net (suc n) room b m (inbox_at end.inboxes.items b)
+    inbox-shows b m is = record {
+      routers = λ k low l.
+          lane-wires net setup n few (moves_at net n) (is_moving net n) (by_block target) (by_block back) words room end.inboxes.items (firsts_below now first (length woke)) are-frozen small all-moved
+          b k l low (fits b k).0 (fits b k).1 (λ i. ring_in room (inbox_at end.inboxes.items b) (place_of k i) (slice_index m.marks.first (place_of k i)))
+          (λ i u. ap (ring_in room (inbox_at end.inboxes.items b) (place_of k i)) (sym (first-then k i low u)));
+      flits = λ k low beyond. blank-flits b k in_range low beyond;
+      credits = λ k low beyond. blank-credits b k in_range low beyond;
+    }
+      where
+        in_range : b < length woke
+        in_range = let u = slice_get_within moved b m is in let c = froze.many in let d = decided.many in omega (arith, u, c, d)
+
+        first-then : (k i : ℕ) → k < 32 → i < 32 → firsts_below now first (length woke) (place_of (b * 32 + k) i) ≡ slice_index m.marks.first (place_of k i)
+        first-then k i low u =
+            let at = (lane-place b k i low u).0 in
+            ap (λ t. if t then by_block now (place_of (b * 32 + k) i) else by_block first (place_of (b * 32 + k) i))
+            (lt-ltb (place_of (b * 32 + k) i / 1024) (length woke) (let r = in_range in omega (arith, at, r)))
+            ∙ by-block now b k i low u ∙ ap (λ (xs : List ℕ). slice_index xs (place_of k i)) (list-of moved (λ (y : Block). y.marks.first) b m is)
+
+    -- .. where the blocks have concluded
+    pub wires-decided : (new : List Block) (nexts : List Sheet) (near : ℕ) → HaveConcluded frame n near moved new sheets nexts
+        → (b : ℕ) (block : Block) → slice_get new b ≡ Some block → ShowsInbox net (suc n) room b block (inbox_at end.inboxes.items b)
+    wires-decided new nexts near concluded b block is = by x.m.awake refl
+      where
+        in_range : b < length woke
+        in_range = let u = slice_get_within new b block is in let e = concluded.many in let c = froze.many in let d = decided.many in omega (arith, u, e, c, d)
+
+        x : OneBlock b
+        x = one-block b in_range
+
+        with-first : block.marks.first ≡ x.m.marks.first → ShowsInbox net (suc n) room b block (inbox_at end.inboxes.items b)
+        with-first e =
+            let shown_there = inbox-shows b x.m x.m_is in
+            record {
+              routers = λ k low l.
+                  subst (λ (xs : List ℕ). ShowsWires (view_at net (suc n) (b * 32 + k)) (word (inbox_at end.inboxes.items b).flits k) (word (inbox_at end.inboxes.items b).credits k)
+                  (λ i. ring_in room (inbox_at end.inboxes.items b) (place_of k i) (slice_index xs (place_of k i))) (beats_at (beats_in net (state_at net (suc n))) (b * 32 + k))) (sym e) (shown_there.routers k low l);
+              flits = shown_there.flits;
+              credits = shown_there.credits;
+            }
+
+        next-sheet : (s : Sheet) × (slice_get nexts b ≡ Some s)
+        next-sheet = element nexts b (let l = in_range in let c = concluded.sheets in omega (arith, l, c, paired))
+
+        by : (a : Bool) → x.m.awake ≡ a → ShowsInbox net (suc n) room b block (inbox_at end.inboxes.items b)
+        by true e =
+            let has = concluded.awake b x.m block x.sheet next-sheet.0 x.m_is is x.sheet_is next-sheet.1 e in
+            with-first (ap (λ (y : Block). y.marks.first) has.rest)
+        by false e = with-first (ap (λ (y : Block). y.marks.first) (same_Some block x.m (sym is ∙ (concluded.asleep b x.m x.m_is e).0)))
