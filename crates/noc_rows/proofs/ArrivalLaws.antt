@@ -1,18 +1,17 @@
 -- The arrivals of a network in a cycle: a packet whose tail moves by a local port has arrived then, and no other.
-use Rattle.std.proofs.Common.{◌≡◌, ◌≢◌, ℕ, suc, ◌*◌, ◌/◌, ◌%◌, ◌<◌, Bool, true, false, length, Option, Some, None, refl, ap, sym, ◌∙◌, subst, inl, inr, arith}
-use Rattle.std.specs.Prelude.{◌⊎◌, nat_eq, if◌then◌else◌}
+use Rattle.std.proofs.Common.{◌≡◌, ◌≢◌, ℕ, suc, ◌/◌, ◌<◌, Bool, true, false, length, Option, Some, None, refl, ap, sym, ◌∙◌, subst, inl, inr, arith}
+use Rattle.std.specs.Prelude.{◌⊎◌, if◌then◌else◌}
 use Rattle.std.proofs.lemmas.Bool.{cases_eq, eq-eqb, ne_eqb}
 use Rattle.std.proofs.lemmas.Option.{none-some, same_Some}
 use Rattle.noc_topo.specs.Words.{Has}
-use Rattle.noc_topo.specs.Shape.{nodes, ports, local_port}
+use Rattle.noc_topo.specs.Shape.{nodes, local_port}
 use Rattle.noc_packet.specs.Set.{has_bit}
 use Rattle.noc_packet.specs.declared.packet.Flit.{Flit}
-use Rattle.noc_packet.specs.declared.packet.Packet.{Packet}
-use Rattle.noc_router.specs.View.{Site, View, decisions_of, flit_out, size_of, tail_packet, view_round}
+use Rattle.noc_router.specs.View.{Site, decisions_of, flit_out, tail_packet, view_round}
 use Rattle.noc_model.specs.Good.{IsGoodSetup}
 use Rattle.noc_model.specs.Lockstep.{ends_at, site_at}
-use Rattle.noc_model.specs.Network.{Setup, State, Place, Source, On, In, Out, size, packet_at, state_at, frozen_at, frozen_state, network_cycle, after_injection, after_verdicts, arrival_in, landed_place, out_cycle, tail_place}
-use Rattle.noc_model.proofs.CommitEnds.{Arrives, nobody, somebody, arrival, arrives, ends-here, here-ends}
+use Rattle.noc_model.specs.Network.{Setup, State, Place, Source, On, In, Out, packet_at, state_at, frozen_at, frozen_state, network_cycle, after_injection, after_verdicts, arrival_in, landed_place, out_cycle, tail_place}
+use Rattle.noc_model.proofs.CommitEnds.{Arrives, nobody, somebody, arrives, ends-here, here-ends}
 use Rattle.noc_model.proofs.EntryLemmas.{Goes, goes, stays, goes_in}
 use Rattle.noc_model.proofs.LandLemmas.{landed-tail}
 use Rattle.noc_model.proofs.OrderedStates.{ordered-state, ordered-mid, ordered-frozen}
@@ -22,6 +21,25 @@ use Rattle.noc_rows.proofs.FrozenWires.{frozen_of}
 use Rattle.noc_rows.proofs.NetworkLaws.{good, frozen-seen}
 use Rattle.noc_rows.proofs.NetworkMoves.{moves_at, moves-are}
 use Rattle.noc_rows.proofs.PutLemmas.{IsMover, IsPut, flit-put}
+
+-- the flit of channel i of router r moves in cycle n, out of the network
+pub record GoesOut (net : Setup) (n r i : ℕ) : Type 0 where
+  pub known : r < nodes net.relation.grid
+  pub bit : has_bit (moves_at net n r) i ≡ true
+  pub mover : IsMover (site_at net r) (frozen_of net n r) i
+  pub port : mover.out / net.relation.vcs ≡ local_port net.relation.grid
+
+-- the tail of packet p does
+pub record TailOut (net : Setup) (n p : ℕ) : Type 0 where
+  pub router : ℕ
+  pub channel : ℕ
+  pub goes : GoesOut net n router channel
+  pub last : goes.mover.flit.last ≡ true
+  pub packet : goes.mover.flit.packet ≡ p
+
+-- the packet whose tail leaves router r by its local port
+abbrev tail_of : Setup → ℕ → ℕ → Option ℕ
+tail_of net n r = tail_packet (flit_out (frozen_of net n r) (decisions_of net.relation (frozen_of net n r)).round (local_port (frozen_of net n r).site.grid))
 
 -- a tail that leaves is the last flit of its packet
 tail-is : (o : Option (ℕ × Flit)) (p : ℕ) → tail_packet o ≡ Some p → (vc : ℕ) × (f : Flit) × (o ≡ Some (vc, f)) × (f.last ≡ true) × (f.packet ≡ p)
@@ -63,9 +81,6 @@ module _ (net : Setup) (setup : IsGoodSetup net) (n : ℕ) where
     abbrev Noted : Type 0
     Noted = Arrives net (good net setup) (frozen_at net n) (ordered-frozen net (good net setup) n) n r l (frozen_of net n r) (frozen-seen net setup n r l)
 
-    abbrev gone_out : Option ℕ
-    gone_out = arrival net (good net setup) (frozen_at net n) (ordered-frozen net (good net setup) n) n r l (frozen_of net n r) (frozen-seen net setup n r l)
-
     noted : Noted
     noted = arrives net (good net setup) (frozen_at net n) (ordered-frozen net (good net setup) n) n r l (frozen_of net n r) (frozen-seen net setup n r l)
 
@@ -76,49 +91,8 @@ module _ (net : Setup) (setup : IsGoodSetup net) (n : ℕ) where
     same-site : (frozen_of net n r).site ≡ site_at net r
     same-site = (frozen-seen net setup n r l).site
 
-    -- a tail that moves by its local port is the one that goes out there
-    mover-out : (i : ℕ) (m : IsMover (site_at net r) (frozen_of net n r) i) → m.out / net.relation.vcs ≡ local_port net.relation.grid → m.flit.last ≡ true → gone_out ≡ Some m.flit.packet
-    mover-out i m to last =
-        ap tail_packet
-        (ap (λ (s : Site). flit_out (frozen_of net n r) (decisions_of net.relation (frozen_of net n r)).round (local_port s.grid)) same-site
-        ∙ ap (λ round. flit_out (frozen_of net n r) round (local_port net.relation.grid)) same-round
-        ∙ ap (flit_out (frozen_of net n r) (view_round (frozen_of net n r))) (sym to) ∙ m.put)
-        ∙ ap (λ b. if b then Some m.flit.packet else None) last
-
-    -- .. which is the node at which it ends
-    pub tail-ends : (i : ℕ) (m : IsMover (site_at net r) (frozen_of net n r) i) → m.out / net.relation.vcs ≡ local_port net.relation.grid → m.flit.last ≡ true
-        → (packet_at net m.flit.packet).destination ≡ r
-    tail-ends i m to last = by noted
-      where
-        by : Noted → (packet_at net m.flit.packet).destination ≡ r
-        by (nobody e same) = absurd (none-some m.flit.packet (sym e ∙ mover-out i m to last))
-        by (somebody p e member before same) =
-            let is : p ≡ m.flit.packet = same_Some p m.flit.packet (sym e ∙ mover-out i m to last) in
-            ap (λ q. (packet_at net q).destination) (sym is) ∙ (ends-here net r p member).1
-
-    -- .. and its packet has arrived
-    pub tail-arrives : (i : ℕ) (m : IsMover (site_at net r) (frozen_of net n r) i) → m.out / net.relation.vcs ≡ local_port net.relation.grid → m.flit.last ≡ true
-        → arrival_in net (state_at net (suc n)) m.flit.packet ≡ Some n
-    tail-arrives i m to last = ap (λ (t : State). out_cycle (tail_place net t m.flit.packet)) (sym next-state) ∙ by noted
-      where
-        by : Noted → out_cycle (tail_place net (after_verdicts net n (frozen_at net n)) m.flit.packet) ≡ Some n
-        by (nobody e same) = absurd (none-some m.flit.packet (sym e ∙ mover-out i m to last))
-        by (somebody p e member before same) =
-            let is : p ≡ m.flit.packet = same_Some p m.flit.packet (sym e ∙ mover-out i m to last) in
-            subst (λ q. out_cycle (tail_place net (after_verdicts net n (frozen_at net n)) q) ≡ Some n) is
-            (same p member ∙ ap (λ b. if b then Some n else out_cycle (tail_place net (frozen_at net n) p)) (eq-eqb p p refl))
-
-    -- a tail that goes out there is that of a channel that moves by the local port
-    pub record IsOut (p : ℕ) : Type 0 where
-      pub channel : ℕ
-      pub within : channel < size net
-      pub bit : has_bit (moves_at net n r) channel ≡ true
-      pub mover : IsMover (site_at net r) (frozen_of net n r) channel
-      pub port : mover.out / net.relation.vcs ≡ local_port net.relation.grid
-      pub last : mover.flit.last ≡ true
-      pub packet : mover.flit.packet ≡ p
-
-    is-out : (p : ℕ) → gone_out ≡ Some p → IsOut p
+    -- a tail that leaves is that of a channel that moves by the local port
+    is-out : (p : ℕ) → tail_of net n r ≡ Some p → TailOut net n p
     is-out p e =
         let v = frozen_of net n r in
         let t = tail-is (flit_out v (decisions_of net.relation v).round (local_port v.site.grid)) p e in
@@ -126,51 +100,83 @@ module _ (net : Setup) (setup : IsGoodSetup net) (n : ℕ) where
         = flit-put net.relation v (moves_at net n r) (subst (λ (s : Site). 0 < s.vcs) (sym same-site) (good net setup).relation.table.some_vcs) (moves-are v) (local_port v.site.grid) t.0 t.1 (omega arith) t.2 in
         at t.0 t.1 (subst (λ (s : Site). IsPut s v (moves_at net n r) (local_port s.grid) t.0 t.1) same-site put) t.3 t.4
       where
-        at : (vc : ℕ) (f : Flit) → IsPut (site_at net r) (frozen_of net n r) (moves_at net n r) (local_port net.relation.grid) vc f → f.last ≡ true → f.packet ≡ p → IsOut p
+        at : (vc : ℕ) (f : Flit) → IsPut (site_at net r) (frozen_of net n r) (moves_at net n r) (local_port net.relation.grid) vc f → f.last ≡ true → f.packet ≡ p → TailOut net n p
         at vc f put last packet = record {
+          router = r;
           channel = put.channel;
-          within = put.mover.channel;
-          bit = put.bit;
-          mover = put.mover;
-          port = put.by_port;
+          goes = record { known = l; bit = put.bit; mover = put.mover; port = put.by_port };
           last = ap (λ (g : Flit). g.last) put.is ∙ last;
           packet = ap (λ (g : Flit). g.packet) put.is ∙ packet;
         }
 
-    -- the tail of a packet goes out here, or does not
-    pub out-or-not : (p : ℕ) → IsOut p ⊎ (IsOut p → ⊥)
-    out-or-not p = by gone_out refl
-      where
-        by : (o : Option ℕ) → gone_out ≡ o → IsOut p ⊎ (IsOut p → ⊥)
-        by None e = inr (λ x. none-some p (sym e ∙ mover-out x.channel x.mover x.port x.last ∙ ap Some x.packet))
-        by (Some q) e = at (cases_eq q p)
-          where
-            at : (q ≡ p) ⊎ (q ≢ p) → IsOut p ⊎ (IsOut p → ⊥)
-            at (inl same) = inl (is-out p (e ∙ ap Some same))
-            at (inr other) = inr (λ x. other (same_Some q p (sym e ∙ mover-out x.channel x.mover x.port x.last ∙ ap Some x.packet)))
+  -- ---- the tail of packet p
+  module _ (p : ℕ) where
+    -- it leaves its router
+    leaves : (x : TailOut net n p) → tail_of net n x.router ≡ Some p
+    leaves x =
+        let v = frozen_of net n x.router in
+        let m = x.goes.mover in
+        ap tail_packet
+        (ap (λ (s : Site). flit_out v (decisions_of net.relation v).round (local_port s.grid)) (same-site x.router x.goes.known)
+        ∙ ap (λ round. flit_out v round (local_port net.relation.grid)) (same-round x.router x.goes.known)
+        ∙ ap (flit_out v (view_round v)) (sym x.goes.port) ∙ m.put)
+        ∙ ap (λ b. if b then Some m.flit.packet else None) x.last
+        ∙ ap Some x.packet
 
-  -- ---- a packet of which no tail moves by a local port arrives no more than before
-  pub no-arrival : (p : ℕ) → p < length net.packets
-      → ((r i : ℕ) → r < nodes net.relation.grid → has_bit (moves_at net n r) i ≡ true → (m : IsMover (site_at net r) (frozen_of net n r) i)
-      → m.out / net.relation.vcs ≡ local_port net.relation.grid → m.flit.last ≡ true → m.flit.packet ≢ p)
-      → arrival_in net (state_at net (suc n)) p ≡ arrival_in net (state_at net n) p
-  no-arrival p low never = ap (λ (t : State). out_cycle (tail_place net t p)) (sym next-state) ∙ by (noted r known) ∙ frozen-same p low
-    where
-      r : ℕ
+    -- which is where it ends
+    pub tail-ends : (x : TailOut net n p) → (packet_at net p).destination ≡ x.router
+    tail-ends x = by (noted x.router x.goes.known)
+      where
+        by : Noted x.router x.goes.known → (packet_at net p).destination ≡ x.router
+        by (nobody e same) = absurd (none-some p (sym e ∙ leaves x))
+        by (somebody q e member before same) =
+            let is : q ≡ p = same_Some q p (sym e ∙ leaves x) in
+            ap (λ k. (packet_at net k).destination) (sym is) ∙ (ends-here net x.router q member).1
+
+    -- and it has arrived
+    pub tail-arrives : TailOut net n p → arrival_in net (state_at net (suc n)) p ≡ Some n
+    tail-arrives x = ap (λ (t : State). out_cycle (tail_place net t p)) (sym next-state) ∙ by (noted x.router x.goes.known)
+      where
+        by : Noted x.router x.goes.known → out_cycle (tail_place net (after_verdicts net n (frozen_at net n)) p) ≡ Some n
+        by (nobody e same) = absurd (none-some p (sym e ∙ leaves x))
+        by (somebody q e member before same) =
+            let is : q ≡ p = same_Some q p (sym e ∙ leaves x) in
+            subst (λ k. out_cycle (tail_place net (after_verdicts net n (frozen_at net n)) k) ≡ Some n) is
+            (same q member ∙ ap (λ b. if b then Some n else out_cycle (tail_place net (frozen_at net n) q)) (eq-eqb q q refl))
+
+    module _ (low : p < length net.packets) where
+      abbrev r : ℕ
       r = (packet_at net p).destination
 
-      known : r < nodes net.relation.grid
+      known : (packet_at net p).destination < nodes net.relation.grid
       known = (setup.packets p _ low).destination
 
       here : Has p (ends_at net r)
       here = here-ends net r p low refl
 
-      by : Noted r known → out_cycle (tail_place net (after_verdicts net n (frozen_at net n)) p) ≡ out_cycle (tail_place net (frozen_at net n) p)
-      by (nobody e same) = same p here
-      by (somebody q e member before same) = at (cases_eq p q)
+      -- it leaves the network, or not
+      pub out-or-not : TailOut net n p ⊎ (TailOut net n p → ⊥)
+      out-or-not = by (tail_of net n r) refl
         where
-          at : (p ≡ q) ⊎ (p ≢ q) → out_cycle (tail_place net (after_verdicts net n (frozen_at net n)) p) ≡ out_cycle (tail_place net (frozen_at net n) p)
-          at (inl is) =
-              let o : IsOut r known p = is-out r known p (e ∙ ap Some (sym is)) in
-              absurd (never r o.channel known o.bit o.mover o.port o.last o.packet)
-          at (inr other) = same p here ∙ ap (λ b. if b then Some n else out_cycle (tail_place net (frozen_at net n) p)) (ne_eqb p q other)
+          at-home : (x : TailOut net n p) → tail_of net n r ≡ Some p
+          at-home x = ap (tail_of net n) (tail-ends x) ∙ leaves x
+
+          by : (o : Option ℕ) → tail_of net n r ≡ o → TailOut net n p ⊎ (TailOut net n p → ⊥)
+          by None e = inr (λ x. none-some p (sym e ∙ at-home x))
+          by (Some q) e = at (cases_eq q p)
+            where
+              at : (q ≡ p) ⊎ (q ≢ p) → TailOut net n p ⊎ (TailOut net n p → ⊥)
+              at (inl same) = inl (is-out r known p (e ∙ ap Some same))
+              at (inr other) = inr (λ x. other (same_Some q p (sym e ∙ at-home x)))
+
+      -- where it does not, its arrival is what it was
+      pub no-arrival : (TailOut net n p → ⊥) → arrival_in net (state_at net (suc n)) p ≡ arrival_in net (state_at net n) p
+      no-arrival never = ap (λ (t : State). out_cycle (tail_place net t p)) (sym next-state) ∙ by (noted r known) ∙ frozen-same p low
+        where
+          by : Noted r known → out_cycle (tail_place net (after_verdicts net n (frozen_at net n)) p) ≡ out_cycle (tail_place net (frozen_at net n) p)
+          by (nobody e same) = same p here
+          by (somebody q e member before same) = at (cases_eq p q)
+            where
+              at : (p ≡ q) ⊎ (p ≢ q) → out_cycle (tail_place net (after_verdicts net n (frozen_at net n)) p) ≡ out_cycle (tail_place net (frozen_at net n) p)
+              at (inl is) = absurd (never (is-out r known p (e ∙ ap Some (sym is))))
+              at (inr other) = same p here ∙ ap (λ b. if b then Some n else out_cycle (tail_place net (frozen_at net n) p)) (ne_eqb p q other)

@@ -1,7 +1,7 @@
 -- A block that sleeps through a cycle, and all blocks that sleep up to one: they show their routers as long as they do.
 use Rattle.std.proofs.Common.{◌≡◌, ℕ, suc, ◌+◌, ◌*◌, ◌/◌, ◌%◌, ◌<◌, ◌≤◌, Bool, true, false, List, length, get_or, Option, Some, refl, ap, sym, ◌∙◌, subst, arith, inl, inr}
-use Rattle.std.specs.Prelude.{◌⊎◌, ◌||◌, find, min, nat_eq, nat_le, option_and_then, slice_get}
-use Rattle.std.proofs.lemmas.Bool.{cases_lt, false≢true, le-leb, true≢false}
+use Rattle.std.specs.Prelude.{◌⊎◌, ◌||◌, find, nat_eq, nat_le, option_and_then, slice_get}
+use Rattle.std.proofs.lemmas.Bool.{cases_lt, le-leb, true≢false}
 use Rattle.std.proofs.lemmas.Nat.{div-add-mod'}
 use Rattle.std.proofs.lemmas.Option.{slice_get-get_or, slice_get_within}
 use Rattle.noc_topo.specs.Shape.{nodes}
@@ -11,8 +11,6 @@ use Rattle.noc_model.specs.Halves.{IsSilent}
 use Rattle.noc_model.specs.Lockstep.{beats_at, beats_in, view_at}
 use Rattle.noc_model.specs.Network.{Setup, arrival_in, packet_at, state_at}
 use Rattle.noc_model.proofs.Arrivals.{arrival-noted}
-use Rattle.noc_rows.specs.Frames.{IsFrame}
-use Rattle.noc_rows.specs.Opened.{IsLinked}
 use Rattle.noc_rows.specs.Rows.{column_at, word}
 use Rattle.noc_rows.specs.Source.{source_at}
 use Rattle.noc_rows.specs.Stages.{woken}
@@ -45,10 +43,12 @@ shows-woken net n frame starts room blocks b block sheet inbox awake is = record
 }
 
 -- a block that is not awake holds nothing, is not busy, and has nothing due
-pub asleep-parts : (cycle : ℕ) (busy : Bool) (block : Block) → (woken cycle busy block).awake ≡ false → (block.holds ≡ false) × (busy ≡ false) × (suc cycle ≤ block.next_due)
+pub asleep-parts : (cycle : ℕ) (busy : Bool) (block : Block) → (woken cycle busy block).awake ≡ false
+    → (block.holds ≡ false) × (busy ≡ false) × (suc cycle ≤ block.next_due)
 asleep-parts cycle busy block none = at block.holds busy refl refl none (cases_lt cycle block.next_due)
   where
-    at : (h y : Bool) → block.holds ≡ h → busy ≡ y → ((h || y) || nat_le block.next_due cycle) ≡ false → (cycle < block.next_due) ⊎ (block.next_due ≤ cycle) → (block.holds ≡ false) × (busy ≡ false) × (suc cycle ≤ block.next_due)
+    at : (h y : Bool) → block.holds ≡ h → busy ≡ y → ((h || y) || nat_le block.next_due cycle) ≡ false
+        → (cycle < block.next_due) ⊎ (block.next_due ≤ cycle) → (block.holds ≡ false) × (busy ≡ false) × (suc cycle ≤ block.next_due)
     at true y eh ey e case = absurd (true≢false e)
     at false true eh ey e case = absurd (true≢false e)
     at false false eh ey e (inl l) = (eh, ey, l)
@@ -56,8 +56,10 @@ asleep-parts cycle busy block none = at block.holds busy refl refl none (cases_l
 
 -- ---- through a cycle
 
-module _ (net : Setup) (setup : IsGoodSetup net) (n : ℕ) (few : n < CYCLE_LIMIT) (frame : Frame) (starts : List Start) (room blocks b : ℕ) (block : Block) (sheet : Sheet) (before : Inbox)
-    (was : ShowsBlock net n frame starts room blocks b block sheet before) (holds : block.holds ≡ false) (due : suc n ≤ block.next_due) (quiet : IsQuiet before) where
+module _ (net : Setup) (setup : IsGoodSetup net) (n : ℕ) (few : n < CYCLE_LIMIT) (frame : Frame) (starts : List Start) (room blocks b : ℕ)
+    (block : Block) (sheet : Sheet) (before : Inbox)
+    (was : ShowsBlock net n frame starts room blocks b block sheet before) (holds : block.holds ≡ false) (due : suc n ≤ block.next_due)
+        (quiet : IsQuiet before) where
   pub block-resting : (k : ℕ) → k < 32 → IsResting block (suc n) k
   block-resting k low = lanes-rest block (suc n) k low was.holds was.next_due holds due
 
@@ -65,9 +67,11 @@ module _ (net : Setup) (setup : IsGoodSetup net) (n : ℕ) (few : n < CYCLE_LIMI
   pub block-rests : (inbox : Inbox) → ShowsInbox net (suc n) room b block inbox → ShowsBlock net (suc n) frame starts room blocks b block sheet inbox
   block-rests inbox wires = record {
     routers = λ k low l.
-        lane-rests net setup n (b * 32 + k) l room starts block sheet before k (was.routers k low l) (block-resting k low) (quiet.flits k low) (quiet.credits k low) few inbox (wires.routers k low l);
+        lane-rests net setup n (b * 32 + k) l room starts block sheet before k (was.routers k low l) (block-resting k low) (quiet.flits k low)
+            (quiet.credits k low) few inbox (wires.routers k low l);
     blank = λ k low beyond.
-        blank-still (column_at block.lanes k) (source_at block.sources k) (word before.flits k) (word before.credits k) (word block.last_event k) (word inbox.flits k) (word inbox.credits k)
+        blank-still (column_at block.lanes k) (source_at block.sources k) (word before.flits k) (word before.credits k) (word block.last_event k)
+            (word inbox.flits k) (word inbox.credits k)
         (wires.flits k low beyond) (wires.credits k low beyond) (was.blank k low beyond);
     links = was.links;
     targets = was.targets;
@@ -79,7 +83,8 @@ module _ (net : Setup) (setup : IsGoodSetup net) (n : ℕ) (few : n < CYCLE_LIMI
 -- ---- up to a cycle
 
 -- all blocks show their routers, hold nothing, and have nothing due before this cycle
-pub record AllRest (net : Setup) (n : ℕ) (frame : Frame) (starts : List Start) (room end : ℕ) (blocks : List Block) (sheets : List Sheet) (inboxes : List Inbox) : Type 0 where
+pub record AllRest (net : Setup) (n : ℕ) (frame : Frame) (starts : List Start) (room end : ℕ) (blocks : List Block) (sheets : List Sheet)
+    (inboxes : List Inbox) : Type 0 where
   pub covered : nodes net.relation.grid ≤ length blocks * 32
   pub many : length sheets ≡ length blocks
   pub shows : (b : ℕ) (block : Block) (sheet : Sheet) → slice_get blocks b ≡ Some block → slice_get sheets b ≡ Some sheet
@@ -88,7 +93,8 @@ pub record AllRest (net : Setup) (n : ℕ) (frame : Frame) (starts : List Start)
   pub due : (b : ℕ) (block : Block) → slice_get blocks b ≡ Some block → end ≤ block.next_due
   pub quiet : (b : ℕ) → b < length blocks → IsQuiet (inbox_at inboxes b)
 
-module _ (net : Setup) (setup : IsGoodSetup net) (n end : ℕ) (less : n < end) (limit : end ≤ CYCLE_LIMIT) (frame : Frame) (starts : List Start) (room : ℕ) (blocks : List Block) (sheets : List Sheet) (inboxes : List Inbox)
+module _ (net : Setup) (setup : IsGoodSetup net) (n end : ℕ) (less : n < end) (limit : end ≤ CYCLE_LIMIT) (frame : Frame) (starts : List Start)
+    (room : ℕ) (blocks : List Block) (sheets : List Sheet) (inboxes : List Inbox)
     (all : AllRest net n frame starts room end blocks sheets inboxes) (block : Block) (sheet : Sheet) where
   -- block b, where there is one
   abbrev one : ℕ → Block
@@ -105,10 +111,13 @@ module _ (net : Setup) (setup : IsGoodSetup net) (n end : ℕ) (less : n < end) 
       → (IsAsleep end (view_at net n (b * 32 + k))) × (IsSilent (beats_at (beats_in net (state_at net n)) (b * 32 + k)))
   sleeps b k u low l =
       let shows = all.shows b (get_or blocks b block) (get_or sheets b sheet) (here b u) (there b u) in
-      let rests = lanes-rest (get_or blocks b block) end k low shows.holds shows.next_due (all.holds b (get_or blocks b block) (here b u)) (all.due b (get_or blocks b block) (here b u)) in
+      let rests = lanes-rest (get_or blocks b block) end k low shows.holds shows.next_due (all.holds b (get_or blocks b block) (here b u))
+          (all.due b (get_or blocks b block) (here b u)) in
       let quiet = all.quiet b u in (
-        lane-asleep net setup n (b * 32 + k) l room starts (get_or blocks b block) (get_or sheets b sheet) (inbox_at inboxes b) k end (shows.routers k low l) rests (quiet.flits k low) (quiet.credits k low),
-        lane-silent net setup n (b * 32 + k) l room starts (get_or blocks b block) (get_or sheets b sheet) (inbox_at inboxes b) k end (shows.routers k low l) rests (quiet.flits k low) (quiet.credits k low),
+        lane-asleep net setup n (b * 32 + k) l room starts (get_or blocks b block) (get_or sheets b sheet) (inbox_at inboxes b) k end
+            (shows.routers k low l) rests (quiet.flits k low) (quiet.credits k low),
+        lane-silent net setup n (b * 32 + k) l room starts (get_or blocks b block) (get_or sheets b sheet) (inbox_at inboxes b) k end
+            (shows.routers k low l) rests (quiet.flits k low) (quiet.credits k low),
       )
 
   pub all-sleep : (s : ℕ) → s < nodes net.relation.grid → (IsAsleep end (view_at net n s)) × (IsSilent (beats_at (beats_in net (state_at net n)) s))
@@ -119,7 +128,8 @@ module _ (net : Setup) (setup : IsGoodSetup net) (n end : ℕ) (less : n < end) 
       (sleeps (s / 32) (s % 32) (omega (arith, l, covered)) (omega arith) (omega (arith, is, l)))
 
   -- they show them then
-  pub blocks-wait : (b : ℕ) → slice_get blocks b ≡ Some block → slice_get sheets b ≡ Some sheet → ShowsBlock net end frame starts room (length blocks) b block sheet (inbox_at inboxes b)
+  pub blocks-wait : (b : ℕ) → slice_get blocks b ≡ Some block → slice_get sheets b ≡ Some sheet → ShowsBlock net end frame starts room (length blocks)
+      b block sheet (inbox_at inboxes b)
   blocks-wait b is is_sheet =
       let was = all.shows b block sheet is is_sheet in
       let quiet = all.quiet b (slice_get_within blocks b block is) in
@@ -141,5 +151,6 @@ module _ (net : Setup) (setup : IsGoodSetup net) (n end : ℕ) (less : n < end) 
   arrivals-wait p l =
       sym (arrival-noted net end p l)
       ∙ ap (λ (ends : List (ℕ × Option ℕ)). option_and_then (λ (one : ℕ × Option ℕ). one.1) (find (λ (one : ℕ × Option ℕ). nat_eq one.0 p) ends))
-      (ends-stay net setup n end less limit (λ s u. (all-sleep s u).0) (λ s u. (all-sleep s u).1) (packet_at net p).destination (setup.packets p _ l).destination)
+      (ends-stay net setup n end less limit (λ s u. (all-sleep s u).0) (λ s u. (all-sleep s u).1) (packet_at net p).destination
+          (setup.packets p _ l).destination)
       ∙ arrival-noted net n p l

@@ -1,5 +1,5 @@
 -- All blocks after a cycle: each that is awake, and each that is asleep, shows its routers.
-use Rattle.std.proofs.Common.{◌≡◌, ℕ, suc, ◌+◌, ◌*◌, ◌^◌, ◌<◌, ◌≤◌, Bool, true, false, List, length, get_or, Some, refl, ap, sym, ◌∙◌, subst, arith}
+use Rattle.std.proofs.Common.{◌≡◌, ℕ, suc, ◌+◌, ◌*◌, ◌<◌, ◌≤◌, Bool, true, false, List, length, get_or, Some, refl, ap, sym, ◌∙◌, subst, arith}
 use Rattle.std.specs.Prelude.{slice_get, slice_index}
 use Rattle.std.proofs.lemmas.Option.{same_Some, slice_get-get_or, slice_get_within}
 use Rattle.noc_topo.specs.Shape.{nodes}
@@ -10,8 +10,7 @@ use Rattle.noc_model.specs.Network.{Setup}
 use Rattle.noc_rows.specs.Decided.{HasDecided}
 use Rattle.noc_rows.specs.Frames.{IsFrame}
 use Rattle.noc_rows.specs.Moves.{ports_of}
-use Rattle.noc_rows.specs.Rows.{word}
-use Rattle.noc_rows.specs.Stages.{HasConcluded, HasFrozen, HasMoved, HaveConcluded, HaveDecided, HaveFrozen, selected_of}
+use Rattle.noc_rows.specs.Stages.{HasConcluded, HasFrozen, HaveConcluded, HaveDecided, HaveFrozen, selected_of}
 use Rattle.noc_rows.specs.Switched.{HaveReleased}
 use Rattle.noc_rows.specs.Whole.{IsQuiet, ShowsBlock}
 use Rattle.noc_rows.specs.Wires.{inbox_at}
@@ -34,7 +33,8 @@ pub record DecidesLanes (net : Setup) (frame : Frame) (n room b : ℕ) (frozen c
   pub packet : ℕ → ℕ → ℕ
   pub was : List ℕ
   pub is : List ℕ
-  pub released : HaveReleased (ports_of frame) frame.links n (selected_of chosen) (λ k i. is_tail (first_flit (frozen_of net n (b * 32 + k)) i)) packet chosen.marks moved.marks chosen.decided moved.decided was is
+  pub released : HaveReleased (ports_of frame) frame.links n (selected_of chosen) (λ k i. is_tail (first_flit (frozen_of net n (b * 32 + k)) i))
+      packet chosen.marks moved.marks chosen.decided moved.decided was is
 
 -- a block that is asleep holds nothing, has nothing due, and has nothing on its wires
 pub record Rests (n : ℕ) (block : Block) (inbox : Inbox) : Type 0 where
@@ -46,14 +46,19 @@ pub record Rests (n : ℕ) (block : Block) (inbox : Inbox) : Type 0 where
 there : {X : Type 0} (xs : List X) (b : ℕ) (d : X) → b < length xs → slice_get xs b ≡ Some (get_or xs b d)
 there xs b d l = slice_get-get_or xs b d l
 
-module _ (net : Setup) (setup : IsGoodSetup net) (n : ℕ) (few : n < CYCLE_LIMIT) (frame : Frame) (is_frame : IsFrame net.relation net.places frame) (starts : List Start) (room : ℕ) (enough : net.places ≤ room)
+module _ (net : Setup) (setup : IsGoodSetup net) (n : ℕ) (few : n < CYCLE_LIMIT) (frame : Frame) (is_frame : IsFrame net.relation net.places frame)
+    (starts : List Start) (room : ℕ) (enough : net.places ≤ room)
     (woke frozen moved new : List Block) (before after : List Inbox) (start end : Wires) (sheets nexts : List Sheet) (near : ℕ)
-    (few_blocks : length woke ≤ 8) (covered : nodes net.relation.grid * 32 ≤ length woke * 1024) (long : length woke ≤ length before) (paired : length sheets ≡ length woke)
+    (few_blocks : length woke ≤ 8) (covered : nodes net.relation.grid * 32 ≤ length woke * 1024) (long : length woke ≤ length before)
+        (paired : length sheets ≡ length woke)
     (bytes : (b : ℕ) (block : Block) → slice_get woke b ≡ Some block → (p : ℕ) → slice_index block.marks.first p < 256)
-    (shows : (b : ℕ) (block : Block) (sheet : Sheet) → slice_get woke b ≡ Some block → slice_get sheets b ≡ Some sheet → ShowsBlock net n frame starts room (length woke) b block sheet (inbox_at before b))
+    (shows : (b : ℕ) (block : Block) (sheet : Sheet) → slice_get woke b ≡ Some block → slice_get sheets b ≡ Some sheet
+        → ShowsBlock net n frame starts room (length woke) b block sheet (inbox_at before b))
     (rests : (b : ℕ) (block : Block) → slice_get woke b ≡ Some block → block.awake ≡ false → Rests n block (inbox_at before b))
-    (froze : HaveFrozen frame n room starts woke frozen before after) (decided : HaveDecided (HasDecided net.relation frame n) frozen moved start end) (concluded : HaveConcluded frame n near moved new sheets nexts)
-    (lanes : (b : ℕ) (f m : Block) → slice_get frozen b ≡ Some f → slice_get moved b ≡ Some m → f.awake ≡ true → (d : HasDecided net.relation frame n b f m (decided.at b) (decided.at (suc b)))
+    (froze : HaveFrozen frame n room starts woke frozen before after) (decided : HaveDecided (HasDecided net.relation frame n) frozen moved start end)
+        (concluded : HaveConcluded frame n near moved new sheets nexts)
+    (lanes : (b : ℕ) (f m : Block) → slice_get frozen b ≡ Some f → slice_get moved b ≡ Some m → f.awake ≡ true
+        → (d : HasDecided net.relation frame n b f m (decided.at b) (decided.at (suc b)))
     → DecidesLanes net frame n room b f d.chosen m (inbox_at after b))
     (wires : (b : ℕ) (block : Block) → slice_get new b ≡ Some block → ShowsInbox net (suc n) room b block (inbox_at end.inboxes.items b)) where
   -- ---- a block that is awake
@@ -92,14 +97,20 @@ module _ (net : Setup) (setup : IsGoodSetup net) (n : ℕ) (few : n < CYCLE_LIMI
 
     awake-shows : woke_one.awake ≡ true → ShowsBlock net (suc n) frame starts room (length woke) b block sheet (inbox_at end.inboxes.items b)
     awake-shows awake =
-        let freezes : HasFrozen frame n room starts woke_one frozen_one (inbox_at before b) (inbox_at after b) = froze.awake b woke_one frozen_one woke-is frozen-is awake (let l = low in omega (arith, l, long)) in
+        let freezes : HasFrozen frame n room starts woke_one frozen_one (inbox_at before b) (inbox_at after b) = froze.awake b woke_one frozen_one
+            woke-is frozen-is awake (let l = low in omega (arith, l, long)) in
         let still : frozen_one.awake ≡ true = ap (λ (x : Block). x.awake) freezes.rest ∙ awake in
-        let decides : HasDecided net.relation frame n b frozen_one moved_one (decided.at b) (decided.at (suc b)) = decided.awake b frozen_one moved_one frozen-is moved-is still in
-        let lane : DecidesLanes net frame n room b frozen_one decides.chosen moved_one (inbox_at after b) = lanes b frozen_one moved_one frozen-is moved-is still decides in
+        let decides : HasDecided net.relation frame n b frozen_one moved_one (decided.at b) (decided.at (suc b)) = decided.awake b frozen_one
+            moved_one frozen-is moved-is still in
+        let lane : DecidesLanes net frame n room b frozen_one decides.chosen moved_one (inbox_at after b) = lanes b frozen_one moved_one frozen-is
+            moved-is still decides in
         let on : moved_one.awake ≡ true = ap (λ (x : Block). x.awake) decides.moved.rest ∙ ap (λ (x : Block). x.awake) lane.keeps.rest ∙ still in
-        let concludes : HasConcluded frame n moved_one block sheet_one sheet = concluded.awake b moved_one block sheet_one sheet moved-is is sheet-is is_sheet on in
-        block-shows net setup n few frame is_frame starts room enough (length woke) few_blocks covered b woke_one frozen_one decides.chosen moved_one block (inbox_at before b) (inbox_at after b) sheet_one sheet
-        (decided.at b) (decided.at (suc b)) (bytes b woke_one woke-is) (shows b woke_one sheet_one woke-is sheet-is) freezes lane.keeps lane.lanes decides.moved concludes lane.packet lane.was lane.is lane.released
+        let concludes : HasConcluded frame n moved_one block sheet_one sheet = concluded.awake b moved_one block sheet_one sheet moved-is is sheet-is
+            is_sheet on in
+        block-shows net setup n few frame is_frame starts room enough (length woke) few_blocks covered b woke_one frozen_one decides.chosen moved_one
+            block (inbox_at before b) (inbox_at after b) sheet_one sheet
+        (decided.at b) (decided.at (suc b)) (bytes b woke_one woke-is) (shows b woke_one sheet_one woke-is sheet-is) freezes lane.keeps lane.lanes
+            decides.moved concludes lane.packet lane.was lane.is lane.released
         decides.released_fits decides.freed_fits (inbox_at end.inboxes.items b) (wires b block is)
 
     -- one that is asleep is as it was
@@ -112,7 +123,8 @@ module _ (net : Setup) (setup : IsGoodSetup net) (n : ℕ) (few : n < CYCLE_LIMI
         let same_sheet : slice_get sheets b ≡ Some sheet = sym last.1 ∙ is_sheet in
         let here : slice_get woke b ≡ Some block = woke-is ∙ ap (λ (x : Block). Some x) same in
         let rest : Rests n block (inbox_at before b) = rests b block here (sym (ap (λ (x : Block). x.awake) same) ∙ asleep) in
-        block-rests net setup n few frame starts room (length woke) b block sheet (inbox_at before b) (shows b block sheet here same_sheet) rest.holds rest.due rest.quiet (inbox_at end.inboxes.items b) (wires b block is)
+        block-rests net setup n few frame starts room (length woke) b block sheet (inbox_at before b) (shows b block sheet here same_sheet) rest.holds
+            rest.due rest.quiet (inbox_at end.inboxes.items b) (wires b block is)
 
     block-next : (a : Bool) → woke_one.awake ≡ a → ShowsBlock net (suc n) frame starts room (length woke) b block sheet (inbox_at end.inboxes.items b)
     block-next true e = awake-shows e
@@ -122,5 +134,6 @@ module _ (net : Setup) (setup : IsGoodSetup net) (n : ℕ) (few : n < CYCLE_LIMI
   pub blocks-next : (b : ℕ) (block : Block) (sheet : Sheet) → slice_get new b ≡ Some block → slice_get nexts b ≡ Some sheet
       → ShowsBlock net (suc n) frame starts room (length new) b block sheet (inbox_at end.inboxes.items b)
   blocks-next b block sheet is is_sheet =
-      subst (λ many. ShowsBlock net (suc n) frame starts room many b block sheet (inbox_at end.inboxes.items b)) (sym (concluded.many ∙ decided.many ∙ froze.many))
+      subst (λ many. ShowsBlock net (suc n) frame starts room many b block sheet (inbox_at end.inboxes.items b)) (sym (concluded.many ∙ decided.many
+          ∙ froze.many))
       (block-next b block sheet is is_sheet (get_or woke b block).awake refl)

@@ -1,23 +1,22 @@
 -- A lane of a block that is awake: what a cycle decides of it takes effect.
-use Rattle.std.proofs.Common.{◌≡◌, ◌≢◌, ℕ, zero, suc, ◌+◌, ◌-◌, ◌*◌, ◌%◌, ◌^◌, ◌<◌, ◌≤◌, Bool, true, false, List, [], refl, ap, ap₂, sym, ◌∙◌, subst, arith, inl, inr, bit_and, bit_or}
-use Rattle.std.specs.Prelude.{◌⊎◌, ◌&&◌, ◌||◌, not, min, nat_eq, slice_index, slice_index_or, if◌then◌else◌}
-use Rattle.std.specs.Int.{bit_not, trailing_zeros, w32}
-use Rattle.std.proofs.lemmas.Bool.{cases_eq, eq-eqb, ne_eqb}
+use Rattle.std.proofs.Common.{◌≡◌, ◌≢◌, ℕ, zero, suc, ◌-◌, ◌^◌, ◌<◌, Bool, List, [], refl, ap, ap₂, sym, ◌∙◌, arith, inl, inr, bit_and}
+use Rattle.std.specs.Prelude.{◌⊎◌, ◌&&◌, ◌||◌, not, nat_eq, slice_index_or, if◌then◌else◌}
+use Rattle.std.specs.Int.{trailing_zeros, w32}
+use Rattle.std.proofs.lemmas.Bool.{cases_eq, eq-eqb}
 use Rattle.std.proofs.lemmas.Nat.{and_le_r, mod_below}
 use Rattle.noc_topo.proofs.WordLemmas.{get_or-tabulate}
 use Rattle.noc_packet.specs.Set.{has_bit}
 use Rattle.noc_packet.proofs.SetLemmas.{has_bit-zero}
 use Rattle.noc_model.specs.Network.{Setup}
 use Rattle.noc_rows.specs.Bits.{less, lowest, negated}
-use Rattle.noc_rows.specs.Column.{Column, RouterMarks, place_of}
+use Rattle.noc_rows.specs.Column.{Column, RouterMarks}
 use Rattle.noc_rows.specs.Cycle.{HasSwitched, chosen_by, single_in}
-use Rattle.noc_rows.specs.Moves.{dry_by, of_one, ports_of, rest_from, selected_in, taken_in, to_port_in, turn_in, turned_by, union_from}
+use Rattle.noc_rows.specs.Moves.{dry_by, of_one, ports_of, rest_from, taken_in, to_port_in, turn_in, turned_by, union_from}
 use Rattle.noc_rows.specs.Passes.{lane_picked, settled_lane}
-use Rattle.noc_rows.specs.Planes.{more_than_one}
-use Rattle.noc_rows.specs.Rows.{by_port, column_at, effects_at, marks_at, of_router, word}
+use Rattle.noc_rows.specs.Rows.{column_at, effects_at, marks_at, word}
 use Rattle.noc_rows.specs.Stages.{HasConcluded, HasFrozen, HasMoved, selected_of}
 use Rattle.noc_rows.specs.Switched.{HaveReleased, moved_by}
-use Rattle.noc_rows.specs.Turns.{first_bit, in_turn}
+use Rattle.noc_rows.specs.Turns.{in_turn}
 use Rattle.noc_rows.specs.declared.block.Block.{Block}
 use Rattle.noc_rows.specs.declared.column.Lanes.{Lanes}
 use Rattle.noc_rows.specs.declared.cycle.DecidedRows.{DecidedRows}
@@ -29,7 +28,7 @@ use Rattle.noc_rows.specs.declared.sheet.Sheet.{Sheet}
 use Rattle.noc_rows.specs.declared.starts.Start.{Start}
 use Rattle.noc_rows.specs.declared.wires.Inbox.{Inbox}
 use Rattle.noc_rows.specs.declared.wires.Wires.{Wires}
-use Rattle.noc_rows.proofs.BitLemmas.{and_fits, least_below}
+use Rattle.noc_rows.proofs.BitLemmas.{least_below}
 use Rattle.noc_rows.proofs.LaneNext.{LaneChosen, of-lane, selected-same}
 use Rattle.noc_rows.proofs.LaneShows.{KeepsFrozen, LaneCycled}
 use Rattle.noc_rows.proofs.SwitchedLaws.{union-same}
@@ -44,7 +43,8 @@ one-same : (set : ℕ) (f g : ℕ → ℕ) → set < 2 ^ 32 → ((i : ℕ) → i
 one-same set f g fits same = at (cases_eq set 0)
   where
     at : (set ≡ 0) ⊎ (set ≢ 0) → of_one set f ≡ of_one set g
-    at (inl none) = ap (λ b. if b then 0 else f (trailing_zeros w32 set)) (eq-eqb set 0 none) ∙ sym (ap (λ b. if b then 0 else g (trailing_zeros w32 set)) (eq-eqb set 0 none))
+    at (inl none) = ap (λ b. if b then 0 else f (trailing_zeros w32 set)) (eq-eqb set 0 none)
+        ∙ sym (ap (λ b. if b then 0 else g (trailing_zeros w32 set)) (eq-eqb set 0 none))
     at (inr some) = ap (λ k. if nat_eq set 0 then 0 else k) (same (trailing_zeros w32 set) (least_below set (omega (arith, some)) fits))
 
 rest-same : (base n : ℕ) (f g : ℕ → ℕ) → ((q : ℕ) → q < n → f q ≡ g q) → rest_from base n f ≡ rest_from base n g
@@ -54,8 +54,10 @@ rest-same base (suc n) f g same = ap₂ less (rest-same base n f g (λ q l. same
 few-ports : (frame : Frame) (q : ℕ) → q < ports_of frame → q < 8
 few-ports frame q l = omega (arith, l)
 
-module _ (net : Setup) (frame : Frame) (n room : ℕ) (starts : List Start) (old frozen chosen moved new : Block) (before after : Inbox) (sheet next : Sheet) (b r : ℕ) (start end : Wires) (k : ℕ) (low : k < 32)
-    (froze : HasFrozen frame n room starts old frozen before after) (has : LaneChosen net frame room frozen chosen after r k) (keeps : KeepsFrozen frozen chosen)
+module _ (net : Setup) (frame : Frame) (n room : ℕ) (starts : List Start) (old frozen chosen moved new : Block) (before after : Inbox)
+    (sheet next : Sheet) (b r : ℕ) (start end : Wires) (k : ℕ) (low : k < 32)
+    (froze : HasFrozen frame n room starts old frozen before after) (has : LaneChosen net frame room frozen chosen after r k)
+        (keeps : KeepsFrozen frozen chosen)
     (moves : HasMoved frame n b chosen moved start end) (concludes : HasConcluded frame n moved new sheet next)
     (tail : ℕ → ℕ → Bool) (packet : ℕ → ℕ → ℕ) (was is : List ℕ)
     (released : HaveReleased (ports_of frame) frame.links n (selected_of chosen) tail packet chosen.marks moved.marks chosen.decided moved.decided was is)
@@ -73,7 +75,8 @@ module _ (net : Setup) (frame : Frame) (n room : ℕ) (starts : List Start) (old
   picked-is = ap (λ (x : Block). word x.standing.picked k) keeps.rest ∙ ap (λ (s : Standing). s.picked) (froze.standing k low)
 
   selected-is : (q : ℕ) → q < ports_of frame → selected_of chosen k q ≡ sel q
-  selected-is q l = selected-same (word chosen.standing.picked k) chosen.marks k q (few-ports frame q l) ∙ ap (λ w. chosen_by w (marks_at chosen.marks k) q) picked-is
+  selected-is q l = selected-same (word chosen.standing.picked k) chosen.marks k q (few-ports frame q l)
+      ∙ ap (λ w. chosen_by w (marks_at chosen.marks k) q) picked-is
 
   taken-is : (i : ℕ) → i < 32 → taken_in chosen.marks k i ≡ m.taken i
   taken-is i l = sym (of-lane chosen.marks.taken k i l)
@@ -82,7 +85,8 @@ module _ (net : Setup) (frame : Frame) (n room : ℕ) (starts : List Start) (old
   nothing-moved = ap (λ (xs : List ℕ). word xs k) keeps.moves.moved ∙ (froze.undecided k low).moved
 
   moved-is : word moved.decided.moved k ≡ union_from 0 (ports_of frame) sel
-  moved-is = moves.moved k low ∙ ap (λ w. union_from w (ports_of frame) (selected_of chosen k)) nothing-moved ∙ union-same (ports_of frame) (selected_of chosen k) sel selected-is
+  moved-is = moves.moved k low ∙ ap (λ w. union_from w (ports_of frame) (selected_of chosen k)) nothing-moved ∙ union-same (ports_of frame)
+      (selected_of chosen k) sel selected-is
 
   all-moved : moved_by (ports_of frame) (selected_of chosen) k ≡ word moved.decided.moved k
   all-moved = union-same (ports_of frame) (selected_of chosen k) sel selected-is ∙ sym moved-is
@@ -98,8 +102,10 @@ module _ (net : Setup) (frame : Frame) (n room : ℕ) (starts : List Start) (old
   out-is : word moved.decided.out k ≡ union_from 0 (ports_of frame) (λ q. of_one (sel q) m.taken)
   out-is =
       moves.out k low
-      ∙ ap (λ w. union_from w (ports_of frame) (λ q. of_one (selected_of chosen k q) (taken_in chosen.marks k))) (ap (λ (xs : List ℕ). word xs k) keeps.moves.out ∙ (froze.undecided k low).out)
-      ∙ union-same (ports_of frame) (λ q. of_one (selected_of chosen k q) (taken_in chosen.marks k)) (λ q. of_one (sel q) m.taken) (λ q l. by-sel (taken_in chosen.marks k) m.taken q l taken-is)
+      ∙ ap (λ w. union_from w (ports_of frame) (λ q. of_one (selected_of chosen k q) (taken_in chosen.marks k)))
+          (ap (λ (xs : List ℕ). word xs k) keeps.moves.out ∙ (froze.undecided k low).out)
+      ∙ union-same (ports_of frame) (λ q. of_one (selected_of chosen k q) (taken_in chosen.marks k)) (λ q. of_one (sel q) m.taken)
+          (λ q l. by-sel (taken_in chosen.marks k) m.taken q l taken-is)
 
   -- ---- who is supplied
   single-is : word chosen.returned.single k ≡ single_in frame.link_set (column_at frozen.lanes k)
@@ -108,35 +114,45 @@ module _ (net : Setup) (frame : Frame) (n room : ℕ) (starts : List Start) (old
       ∙ ap (λ (x : Returned). x.single) (froze.lanes k low).returned
       ∙ sym (ap (λ (c : Column). single_in frame.link_set c) (froze.lanes k low).column)
 
-  supplied-is : word moved.lanes.supplied k ≡ rest_from (word chosen.lanes.supplied k) (ports_of frame) (λ q. dry_by (single_in frame.link_set (column_at frozen.lanes k)) m.taken (sel q))
+  supplied-is : word moved.lanes.supplied k ≡ rest_from (word chosen.lanes.supplied k) (ports_of frame)
+      (λ q. dry_by (single_in frame.link_set (column_at frozen.lanes k)) m.taken (sel q))
   supplied-is =
       moves.supplied k low
-      ∙ rest-same (word chosen.lanes.supplied k) (ports_of frame) (λ q. dry_by (word chosen.returned.single k) (taken_in chosen.marks k) (selected_of chosen k q))
+      ∙ rest-same (word chosen.lanes.supplied k) (ports_of frame) (λ q. dry_by (word chosen.returned.single k) (taken_in chosen.marks k)
+          (selected_of chosen k q))
       (λ q. dry_by (single_in frame.link_set (column_at frozen.lanes k)) m.taken (sel q)) dry
     where
-      dry : (q : ℕ) → q < ports_of frame → dry_by (word chosen.returned.single k) (taken_in chosen.marks k) (selected_of chosen k q) ≡ dry_by (single_in frame.link_set (column_at frozen.lanes k)) m.taken (sel q)
+      dry : (q : ℕ) → q < ports_of frame → dry_by (word chosen.returned.single k) (taken_in chosen.marks k) (selected_of chosen k q) ≡ dry_by
+          (single_in frame.link_set (column_at frozen.lanes k)) m.taken (sel q)
       dry q l =
           ap (λ w. dry_by w (taken_in chosen.marks k) (selected_of chosen k q)) single-is
-          ∙ ap (λ w. if nat_eq (bit_and (single_in frame.link_set (column_at frozen.lanes k)) w) 0 then 0 else selected_of chosen k q) (by-sel (taken_in chosen.marks k) m.taken q l taken-is)
+          ∙ ap (λ w. if nat_eq (bit_and (single_in frame.link_set (column_at frozen.lanes k)) w) 0 then 0 else selected_of chosen k q)
+              (by-sel (taken_in chosen.marks k) m.taken q l taken-is)
           ∙ ap (λ w. if nat_eq (bit_and (single_in frame.link_set (column_at frozen.lanes k)) (of_one (sel q) m.taken)) 0 then 0 else w) (selected-is q l)
 
   -- ---- tails
   released-is : (i : ℕ) → i < 32 → has_bit (word moved.decided.released k) i ≡ (has_bit (word moved.decided.moved k) i && tail k i)
   released-is i l =
       released.released k i low l
-      ∙ ap (λ w. has_bit w i || (has_bit (moved_by (ports_of frame) (selected_of chosen) k) i && tail k i)) (ap (λ (xs : List ℕ). word xs k) keeps.moves.released ∙ (froze.undecided k low).released)
+      ∙ ap (λ w. has_bit w i || (has_bit (moved_by (ports_of frame) (selected_of chosen) k) i && tail k i))
+          (ap (λ (xs : List ℕ). word xs k) keeps.moves.released ∙ (froze.undecided k low).released)
       ∙ ap (λ b. b || (has_bit (moved_by (ports_of frame) (selected_of chosen) k) i && tail k i)) (has_bit-zero i)
       ∙ ap (λ w. has_bit w i && tail k i) all-moved
 
-  freed-is : (o : ℕ) → o < 32 → has_bit (word moved.decided.freed k) o ≡ has_bit (union_from 0 (ports_of frame) (λ q. of_one (sel q) (λ i. if tail k i then m.taken i else 0))) o
+  freed-is : (o : ℕ) → o < 32 → has_bit (word moved.decided.freed k) o ≡ has_bit (union_from 0 (ports_of frame)
+      (λ q. of_one (sel q) (λ i. if tail k i then m.taken i else 0))) o
   freed-is o l =
       released.freed k o low
-      ∙ ap (λ w. has_bit w o || has_bit (union_from 0 (ports_of frame) (λ q. of_one (selected_of chosen k q) (λ i. if tail k i then taken_in chosen.marks k i else 0))) o)
+      ∙ ap (λ w. has_bit w o || has_bit (union_from 0 (ports_of frame) (λ q. of_one (selected_of chosen k q)
+          (λ i. if tail k i then taken_in chosen.marks k i else 0))) o)
       (ap (λ (xs : List ℕ). word xs k) keeps.moves.freed ∙ (froze.undecided k low).freed)
-      ∙ ap (λ b. b || has_bit (union_from 0 (ports_of frame) (λ q. of_one (selected_of chosen k q) (λ i. if tail k i then taken_in chosen.marks k i else 0))) o) (has_bit-zero o)
+      ∙ ap (λ b. b || has_bit (union_from 0 (ports_of frame) (λ q. of_one (selected_of chosen k q) (λ i. if tail k i then taken_in chosen.marks k i
+          else 0))) o) (has_bit-zero o)
       ∙ ap (λ w. has_bit w o)
-      (union-same (ports_of frame) (λ q. of_one (selected_of chosen k q) (λ i. if tail k i then taken_in chosen.marks k i else 0)) (λ q. of_one (sel q) (λ i. if tail k i then m.taken i else 0))
-      (λ q lq. by-sel (λ i. if tail k i then taken_in chosen.marks k i else 0) (λ i. if tail k i then m.taken i else 0) q lq (λ i li. ap (λ w. if tail k i then w else 0) (taken-is i li))))
+      (union-same (ports_of frame) (λ q. of_one (selected_of chosen k q) (λ i. if tail k i then taken_in chosen.marks k i else 0))
+          (λ q. of_one (sel q) (λ i. if tail k i then m.taken i else 0))
+      (λ q lq. by-sel (λ i. if tail k i then taken_in chosen.marks k i else 0) (λ i. if tail k i then m.taken i else 0) q lq
+          (λ i li. ap (λ w. if tail k i then w else 0) (taken-is i li))))
 
   -- ---- the marks
   marks-new : new.marks ≡ moved.marks
@@ -155,7 +171,8 @@ module _ (net : Setup) (frame : Frame) (n room : ℕ) (starts : List Start) (old
       ∙ moves.turns q k l low
       ∙ ap₂ (λ s t. turned_by s frame.after t) (selected-is q l) (sym (port-turn chosen.marks q (few-ports frame q l)))
 
-  to-ports-are : (q i : ℕ) → q < ports_of frame → i < 32 → has_bit ((marks_at new.marks k).to_port q) i ≡ (has_bit (m.to_port q) i && not (has_bit (sel q) i && tail k i))
+  to-ports-are : (q i : ℕ) → q < ports_of frame → i < 32 → has_bit ((marks_at new.marks k).to_port q) i ≡ (has_bit (m.to_port q) i && not
+      (has_bit (sel q) i && tail k i))
   to-ports-are q i l u =
       ap (λ (x : Marks). has_bit ((marks_at x k).to_port q) i) marks-new
       ∙ ap (λ w. has_bit w i) (to-port moved.marks q (few-ports frame q l))
@@ -167,7 +184,8 @@ module _ (net : Setup) (frame : Frame) (n room : ℕ) (starts : List Start) (old
       ap (λ (x : Marks). marks_at x k) (marks-new ∙ moves.marks)
       ∙ ap (λ (x : Marks). record m { port_turn = (marks_at x k).port_turn; to_port = (marks_at x k).to_port }) (sym marks-new)
 
-  switches : HasSwitched (ports_of frame) (lane_picked frame.fields (word frozen.arrived.filled k) (column_at frozen.lanes k)) (single_in frame.link_set (column_at frozen.lanes k)) frame.after (tail k)
+  switches : HasSwitched (ports_of frame) (lane_picked frame.fields (word frozen.arrived.filled k) (column_at frozen.lanes k))
+      (single_in frame.link_set (column_at frozen.lanes k)) frame.after (tail k)
       (marks_at chosen.marks k) (marks_at new.marks k) (effects_at moved.standing moved.decided k) (word chosen.lanes.supplied k) (word moved.lanes.supplied k)
   switches = record {
     moved = moved-is;
@@ -190,7 +208,9 @@ module _ (net : Setup) (frame : Frame) (n room : ℕ) (starts : List Start) (old
     chosen = has;
     supplied = word moved.lanes.supplied k;
     switched = switches;
-    heads = ap (λ (x : Block). word x.standing.heads k) moves.rest ∙ ap (λ (x : Block). word x.standing.heads k) keeps.rest ∙ ap (λ (s : Standing). s.heads) (froze.standing k low);
+    heads = ap (λ (x : Block). word x.standing.heads k) moves.rest ∙ ap (λ (x : Block). word x.standing.heads k) keeps.rest
+        ∙ ap (λ (s : Standing). s.heads) (froze.standing k low);
     granted = ap (λ (d : DecidedRows). word d.granted k) moves.decided;
-    column = concludes.columns k low ∙ ap (settled_lane frame.fields frame.link_set frame.local_set (effects_at moved.standing moved.decided k)) (ap (λ (x : Lanes). column_at x k) moves.lanes);
+    column = concludes.columns k low ∙ ap (settled_lane frame.fields frame.link_set frame.local_set (effects_at moved.standing moved.decided k))
+        (ap (λ (x : Lanes). column_at x k) moves.lanes);
   }

@@ -1,5 +1,5 @@
 -- The lane of a router in a block that is awake: once it is frozen, and what its ports select of it.
-use Rattle.std.proofs.Common.{◌≡◌, ◌≢◌, ℕ, ◌+◌, ◌*◌, ◌/◌, ◌%◌, ◌^◌, ◌<◌, ◌≤◌, Bool, true, false, List, [], ◌∷◌, length, map, Option, Some, None, refl, ap, ap₂, sym, ◌∙◌, subst, arith, inl, inr, bit_and, bit_or}
+use Rattle.std.proofs.Common.{◌≡◌, ◌≢◌, ℕ, ◌+◌, ◌*◌, ◌/◌, ◌<◌, ◌≤◌, Bool, true, false, List, [], ◌∷◌, length, map, Option, Some, None, refl, ap, ap₂, sym, ◌∙◌, subst, arith, inl, inr, bit_and, bit_or}
 use Rattle.std.specs.Prelude.{◌⊎◌, ◌&&◌, not, nat_eq, nat_le, nat_lt, slice_get, slice_index, slice_index_or}
 use Rattle.std.proofs.lemmas.Bool.{and_parts, cases_eq, eqb-true, false≢true, true≢false}
 use Rattle.noc_topo.specs.Words.{tabulate}
@@ -23,16 +23,15 @@ use Rattle.noc_rows.specs.Arrive.{HasArrived}
 use Rattle.noc_rows.specs.Carried.{first_of}
 use Rattle.noc_rows.specs.Column.{Column, IsColumn, Leads, RouterMarks, ShowsHolder, ShowsPhase, place_of, sends_by}
 use Rattle.noc_rows.specs.Cycle.{AreTails, HasChosen, Surroundings, chosen_by}
-use Rattle.noc_rows.specs.FlitWords.{FitsWord, flit_word}
+use Rattle.noc_rows.specs.FlitWords.{flit_word}
 use Rattle.noc_rows.specs.Frames.{IsFrame}
 use Rattle.noc_rows.specs.Grants.{Allocation, ShowsGrants, leads_by, leads_to}
 use Rattle.noc_rows.specs.InRows.{ShowsRouter}
-use Rattle.noc_rows.specs.Moves.{ports_of, selected_by, selected_in, to_port_in, turn_in, union_from}
+use Rattle.noc_rows.specs.Moves.{ports_of, selected_in, union_from}
 use Rattle.noc_rows.specs.Opened.{IsLinked}
 use Rattle.noc_rows.specs.Passes.{lane_asks, lane_heads, lane_picked}
-use Rattle.noc_rows.specs.Planes.{words_of}
 use Rattle.noc_rows.specs.Routed.{sets_by}
-use Rattle.noc_rows.specs.Rows.{allocation_at, by_port, column_at, marks_at, of_router, planes_of, word}
+use Rattle.noc_rows.specs.Rows.{allocation_at, column_at, marks_at, of_router, planes_of, word}
 use Rattle.noc_rows.specs.Switched.{HasFirst}
 use Rattle.noc_rows.specs.Turns.{first_bit}
 use Rattle.noc_rows.specs.Whole.{lane_words}
@@ -83,7 +82,8 @@ LaneChosen net frame room frozen chosen inbox r k =
 
 -- ---- the owners of output channels: those of the list of a block are those of its marks
 
-pub with-owners : (count : ℕ) (c : Column) (m : RouterMarks) (owner : ℕ → ℕ) (v : View) → ((o : ℕ) → o < size_of v.site → owner o ≡ m.owner o) → IsColumn count c m v → IsColumn count c (record m { owner = owner }) v
+pub with-owners : (count : ℕ) (c : Column) (m : RouterMarks) (owner : ℕ → ℕ) (v : View) → ((o : ℕ) → o < size_of v.site → owner o ≡ m.owner o)
+    → IsColumn count c m v → IsColumn count c (record m { owner = owner }) v
 with-owners count c m owner v same s = record {
   words = s.words;
   channels = s.channels;
@@ -104,7 +104,8 @@ of-lane entries k i l = get_or-tabulate 32 i (λ c. slice_index entries (place_o
 -- what a port of a block selects of router k is what its marks say
 pub selected-same : (picked : ℕ) (marks : Marks) (k q : ℕ) → q < 8 → selected_in picked marks k q ≡ chosen_by picked (marks_at marks k) q
 selected-same picked marks k q l =
-    sym (ap₂ (λ t u. first_bit (bit_and picked t) u) (get_or-tabulate 8 q (λ p. word (slice_index_or marks.to_port p []) k) 0 l) (get_or-tabulate 8 q (λ p. word (slice_index_or marks.port_turn p []) k) 0 l))
+    sym (ap₂ (λ t u. first_bit (bit_and picked t) u) (get_or-tabulate 8 q (λ p. word (slice_index_or marks.to_port p []) k) 0 l)
+        (get_or-tabulate 8 q (λ p. word (slice_index_or marks.port_turn p []) k) 0 l))
 
 -- ---- the first flits
 
@@ -122,12 +123,14 @@ pub record SendsBy (net : Setup) (n r ports : ℕ) (selected : ℕ → ℕ) (rin
   pub moves : AreMoved (frozen_of net n r) (union_from 0 ports selected)
   pub below : AreBelow (size net) (union_from 0 ports selected)
   pub apart : (i q s : ℕ) → q < ports → s < ports → has_bit (selected q) i ≡ true → has_bit (selected s) i ≡ true → q ≡ s
-  pub targets : (i o : ℕ) → i < size net → has_bit (union_from 0 ports selected) i ≡ true → (view_input (frozen_of net n r) i).phase ≡ Active o → Leads (frozen_of net n r).site o (target i)
+  pub targets : (i o : ℕ) → i < size net → has_bit (union_from 0 ports selected) i ≡ true → (view_input (frozen_of net n r) i).phase ≡ Active o
+      → Leads (frozen_of net n r).site o (target i)
   pub backs : (i : ℕ) → i < size net → Leads (site_at net r) i (back i)
   pub firsts : (i : ℕ) → has_bit (union_from 0 ports selected) i ≡ true
       → HasFirst (ring i) (is_tail (first_flit (frozen_of net n r) i)) (packet_of (first_flit (frozen_of net n r) i))
 
-module _ (net : Setup) (setup : IsGoodSetup net) (n r : ℕ) (l : r < nodes net.relation.grid) (frame : Frame) (is_frame : IsFrame net.relation net.places frame) where
+module _ (net : Setup) (setup : IsGoodSetup net) (n r : ℕ) (l : r < nodes net.relation.grid) (frame : Frame)
+    (is_frame : IsFrame net.relation net.places frame) where
   site-is : (frozen_view net setup n r l).site ≡ site_at net r
   site-is = (frozen-seen net setup n r l).site
 
@@ -136,7 +139,8 @@ module _ (net : Setup) (setup : IsGoodSetup net) (n r : ℕ) (l : r < nodes net.
   short : length (beats net setup n r l) ≡ local_port net.relation.grid
   unfolding beats_in
   short =
-      ap (λ (xs : List _). length xs) (get_or-tabulate (nodes net.relation.grid) r (λ s. tabulate (local_port net.relation.grid) (λ q. beat_by net (state_at net n) s q (neighbour net.relation.grid s q))) [] l)
+      ap (λ (xs : List _). length xs) (get_or-tabulate (nodes net.relation.grid) r (λ s. tabulate (local_port net.relation.grid)
+          (λ q. beat_by net (state_at net n) s q (neighbour net.relation.grid s q))) [] l)
       ∙ length-tabulate (local_port net.relation.grid) (λ q. beat_by net (state_at net n) r q (neighbour net.relation.grid r q))
 
   is-local : (i : ℕ) → has_bit frame.local_set i ≡ (nat_le (local_channel (site_at net r) 0) i && nat_lt i (size_of (site_at net r)))
@@ -145,14 +149,16 @@ module _ (net : Setup) (setup : IsGoodSetup net) (n r : ℕ) (l : r < nodes net.
       is_frame.sides.local_is i ∙ ap (λ k. nat_le k i && nat_lt i (size_of (site_at net r))) same
 
   -- the lane of a router that showed its view shows its frozen state after the arrival
-  pub lane-frozen : n < CYCLE_LIMIT → (room : ℕ) (starts : List Start) (old frozen : Block) (before after : Inbox) (sheet : Sheet) (k : ℕ) → net.places ≤ room → ((p : ℕ) → slice_index old.marks.first p < 256)
+  pub lane-frozen : n < CYCLE_LIMIT → (room : ℕ) (starts : List Start) (old frozen : Block) (before after : Inbox) (sheet : Sheet) (k : ℕ)
+      → net.places ≤ room → ((p : ℕ) → slice_index old.marks.first p < 256)
       → ShowsRouter starts n (lane_words room old sheet before k) (view_at net n r) (beats net setup n r l)
       → HasArrived (planes_of frame.place_bits) frame.link_set frame.local_set n room starts old frozen before after k
       → IsFrozen 5 room starts (marks_at old.marks k) (λ i. slice_index old.marks.first (place_of k i)) frozen after k (frozen_of net n r)
   unfolding view_at view_in
   lane-frozen few room starts old frozen before after sheet k enough bytes shows arrived =
       record {
-        column = with-owners 5 (column_at frozen.lanes k) named (marks_at old.marks k).owner (frozen_of net n r) (λ o u. of-lane old.marks.owner k o (omega (arith, frozen-few o u))) is.column;
+        column = with-owners 5 (column_at frozen.lanes k) named (marks_at old.marks k).owner (frozen_of net n r) (λ o u. of-lane old.marks.owner k o
+            (omega (arith, frozen-few o u))) is.column;
         source = is.source;
         filled = is.filled;
         rings = is.rings;
@@ -164,17 +170,21 @@ module _ (net : Setup) (setup : IsGoodSetup net) (n r : ℕ) (l : r < nodes net.
       named = record (marks_at old.marks k) { owner = λ o. slice_index_or old.marks.owner (k * 32 + o) 0 }
 
       start-few : (o : ℕ) → o < size_of (view_at net n r).site → o < 31
-      start-few o u = let w : o < size net = subst (λ (s : Site). o < size_of s) (view_at-seen net n r).site u in let few_channels = is_frame.few in omega (arith, w, few_channels)
+      start-few o u = let w : o < size net = subst (λ (s : Site). o < size_of s) (view_at-seen net n r).site u in let few_channels = is_frame.few in
+          omega (arith, w, few_channels)
 
       frozen-few : (o : ℕ) → o < size_of (frozen_of net n r).site → o < 31
       frozen-few o u = let w : o < size net = subst (λ (s : Site). o < size_of s) site-is u in let few_channels = is_frame.few in omega (arith, w, few_channels)
 
       is : IsFrozen 5 room starts named (λ i. slice_index old.marks.first (place_of k i)) frozen after k (frozen_of net n r)
       is =
-          arrived-frozen net.relation 5 named (view_at net n r) (beats net setup n r l) n frame.link_set frame.local_set room starts (λ i. slice_index old.marks.first (place_of k i)) old frozen before after k
-          (with-owners 5 (column_at old.lanes k) (marks_at old.marks k) named.owner (view_at net n r) (λ o u. sym (of-lane old.marks.owner k o (let w = start-few o u in omega (arith, w)))) shows.column)
+          arrived-frozen net.relation 5 named (view_at net n r) (beats net setup n r l) n frame.link_set frame.local_set room starts
+              (λ i. slice_index old.marks.first (place_of k i)) old frozen before after k
+          (with-owners 5 (column_at old.lanes k) (marks_at old.marks k) named.owner (view_at net n r)
+              (λ o u. sym (of-lane old.marks.owner k o (let w = start-few o u in omega (arith, w)))) shows.column)
           shows.wires shows.source (start-tidy net setup n r l) (start-size net setup n r l) (beats-taken net setup n r l few)
-          is_frame.few (let p = is_frame.few_places in omega (arith, p)) setup.some_place enough (let q = short in omega (arith, q)) (omega (arith, few)) is-local (λ o. refl) (λ i. bytes (place_of k i))
+          is_frame.few (let p = is_frame.few_places in omega (arith, p)) setup.some_place enough (let q = short in omega (arith, q))
+              (omega (arith, few)) is-local (λ o. refl) (λ i. bytes (place_of k i))
           (subst (λ (bits : List ℕ). HasArrived bits frame.link_set frame.local_set n room starts old frozen before after k) is_frame.place_bits arrived)
 
   -- whether something came to it or was injected
@@ -184,8 +194,10 @@ module _ (net : Setup) (setup : IsGoodSetup net) (n r : ℕ) (l : r < nodes net.
       → (frozen_view net setup n r l).had_event ≡ not (nat_eq (bit_or (word frozen.arrived.landed k) (word frozen.returned.credited k)) 0)
   unfolding view_at view_in
   lane-came few room starts old frozen before after sheet k shows arrived =
-      arrived-event net setup n r l few is_frame.few 5 frame.link_set frame.local_set room starts named old frozen before after k (λ i. ring_in room before (place_of k i) (slice_index old.marks.first (place_of k i)))
-      (with-owners 5 (column_at old.lanes k) (marks_at old.marks k) named.owner (view_at net n r) (λ o u. sym (of-lane old.marks.owner k o (let w = start-few o u in omega (arith, w)))) shows.column)
+      arrived-event net setup n r l few is_frame.few 5 frame.link_set frame.local_set room starts named old frozen before after k
+          (λ i. ring_in room before (place_of k i) (slice_index old.marks.first (place_of k i)))
+      (with-owners 5 (column_at old.lanes k) (marks_at old.marks k) named.owner (view_at net n r)
+          (λ o u. sym (of-lane old.marks.owner k o (let w = start-few o u in omega (arith, w)))) shows.column)
       shows.wires shows.source (let p = is_frame.few_places in omega (arith, p)) setup.some_place is-local (λ o. refl)
       (subst (λ (bits : List ℕ). HasArrived bits frame.link_set frame.local_set n room starts old frozen before after k) is_frame.place_bits arrived)
     where
@@ -193,21 +205,26 @@ module _ (net : Setup) (setup : IsGoodSetup net) (n r : ℕ) (l : r < nodes net.
       named = record (marks_at old.marks k) { owner = λ o. slice_index_or old.marks.owner (k * 32 + o) 0 }
 
       start-few : (o : ℕ) → o < size_of (view_at net n r).site → o < 31
-      start-few o u = let w : o < size net = subst (λ (s : Site). o < size_of s) (view_at-seen net n r).site u in let few_channels = is_frame.few in omega (arith, w, few_channels)
+      start-few o u = let w : o < size net = subst (λ (s : Site). o < size_of s) (view_at-seen net n r).site u in let few_channels = is_frame.few in
+          omega (arith, w, few_channels)
 
   -- ---- a lane that is frozen
-  module _ (spare : ℕ) (far : nodes net.relation.grid * 32 ≤ spare) (room : ℕ) (starts : List Start) (frozen : Block) (after : Inbox) (k : ℕ) (linked : IsLinked net.relation frame spare frozen r k)
+  module _ (spare : ℕ) (far : nodes net.relation.grid * 32 ≤ spare) (room : ℕ) (starts : List Start) (frozen : Block) (after : Inbox) (k : ℕ)
+      (linked : IsLinked net.relation frame spare frozen r k)
       (is : IsFrozen 5 room starts (marks_at frozen.marks k) (λ i. slice_index frozen.marks.first (place_of k i)) frozen after k (frozen_of net n r)) where
-    pub lane-leads : (o : ℕ) → o < size_of (frozen_view net setup n r l).site → Leads (frozen_view net setup n r l).site o (leads_to frame frozen.marks.lead k o)
+    pub lane-leads : (o : ℕ) → o < size_of (frozen_view net setup n r l).site → Leads (frozen_view net setup n r l).site o
+        (leads_to frame frozen.marks.lead k o)
     lane-leads =
         subst (λ (s : Site). (o : ℕ) → o < size_of s → Leads s o (leads_to frame frozen.marks.lead k o)) (sym site-is)
         (lead-leads net setup frame is_frame.few is_frame.channels spare far frozen r k linked)
 
-    pub lane-still : (tail : ℕ → ℕ → Bool) → AreTails (tail k) (frozen_of net n r) → IsStill net.relation frame (lane_surroundings frame room frozen after tail r k) (frozen_view net setup n r l)
+    pub lane-still : (tail : ℕ → ℕ → Bool) → AreTails (tail k) (frozen_of net n r)
+        → IsStill net.relation frame (lane_surroundings frame room frozen after tail r k) (frozen_view net setup n r l)
     lane-still tail tails = still net setup n r l frame (lane_surroundings frame room frozen after tail r k) is_frame refl lane-leads is.filled is.rings tails
 
     -- ---- .. and in which grants and routes are chosen
-    module _ (chosen : Block) (has : LaneChosen net frame room frozen chosen after r k) (no_grant : word frozen.decided.granted k ≡ 0) (no_loss : word frozen.decided.lost k ≡ 0) where
+    module _ (chosen : Block) (has : LaneChosen net frame room frozen chosen after r k) (no_grant : word frozen.decided.granted k ≡ 0)
+        (no_loss : word frozen.decided.lost k ≡ 0) where
       abbrev v : View
       v = frozen_view net setup n r l
 
@@ -218,22 +235,28 @@ module _ (net : Setup) (setup : IsGoodSetup net) (n r : ℕ) (l : r < nodes net.
       abbrev x : Surroundings
       x = lane_surroundings frame room frozen after (λ j i. is_tail (first_flit (frozen_view net setup n r l) i)) r k
 
-      stands : IsStill net.relation frame (lane_surroundings frame room frozen after (λ j i. is_tail (first_flit (frozen_view net setup n r l) i)) r k) (frozen_view net setup n r l)
-      stands = lane-still (λ j i. is_tail (first_flit (frozen_view net setup n r l) i)) (tails-of (λ i. is_tail (first_flit (frozen_view net setup n r l) i)) (frozen_view net setup n r l) (λ i u. refl))
+      stands : IsStill net.relation frame (lane_surroundings frame room frozen after (λ j i. is_tail (first_flit (frozen_view net setup n r l) i)) r
+          k) (frozen_view net setup n r l)
+      stands = lane-still (λ j i. is_tail (first_flit (frozen_view net setup n r l) i))
+          (tails-of (λ i. is_tail (first_flit (frozen_view net setup n r l) i)) (frozen_view net setup n r l) (λ i u. refl))
 
       abbrev outs : ℕ
-      outs = (given net.relation frame x (frozen_view net setup n r l) stands (allocation_in frozen k) (allocation_in chosen k) (routes_in frozen k) (routes_in chosen k) is.column no_grant no_loss has).outs
+      outs = (given net.relation frame x (frozen_view net setup n r l) stands (allocation_in frozen k) (allocation_in chosen k) (routes_in frozen k)
+          (routes_in chosen k) is.column no_grant no_loss has).outs
 
       put : ShowsChosen net.relation (word frozen.arrived.filled k) (allocation_in frozen k) (allocation_in chosen k)
-          (given net.relation frame x (frozen_view net setup n r l) stands (allocation_in frozen k) (allocation_in chosen k) (routes_in frozen k) (routes_in chosen k) is.column no_grant no_loss has).outs
+          (given net.relation frame x (frozen_view net setup n r l) stands (allocation_in frozen k) (allocation_in chosen k) (routes_in frozen k)
+              (routes_in chosen k) is.column no_grant no_loss has).outs
           (frozen_view net setup n r l)
-      put = choice net.relation frame x (frozen_view net setup n r l) stands (allocation_in frozen k) (allocation_in chosen k) (routes_in frozen k) (routes_in chosen k) is.column no_grant no_loss has
+      put = choice net.relation frame x (frozen_view net setup n r l) stands (allocation_in frozen k) (allocation_in chosen k) (routes_in frozen k)
+          (routes_in chosen k) is.column no_grant no_loss has
 
       abbrev sel : ℕ → ℕ
       sel q = chosen_by (lane_picked frame.fields (word frozen.arrived.filled k) (column_at frozen.lanes k)) (marks_at chosen.marks k) q
 
       abbrev all_moved : ℕ
-      all_moved = union_from 0 (ports (frozen_view net setup n r l).site.grid) (chosen_by (lane_picked frame.fields (word frozen.arrived.filled k) (column_at frozen.lanes k)) (marks_at chosen.marks k))
+      all_moved = union_from 0 (ports (frozen_view net setup n r l).site.grid) (chosen_by (lane_picked frame.fields (word frozen.arrived.filled k)
+          (column_at frozen.lanes k)) (marks_at chosen.marks k))
 
       -- the size of a view, and the ports of a frame
       size-same : size_of (frozen_view net setup n r l).site ≡ size net
@@ -241,11 +264,13 @@ module _ (net : Setup) (setup : IsGoodSetup net) (n r : ℕ) (l : r < nodes net.
 
       sent-moves : AreMoved (frozen_view net setup n r l) all_moved
       sent-moves =
-          moved-is (frozen_view net setup n r l) (lane_picked frame.fields (word frozen.arrived.filled k) (column_at frozen.lanes k)) (marks_at chosen.marks k).to_port (marks_at chosen.marks k).port_turn
+          moved-is (frozen_view net setup n r l) (lane_picked frame.fields (word frozen.arrived.filled k) (column_at frozen.lanes k))
+              (marks_at chosen.marks k).to_port (marks_at chosen.marks k).port_turn
           (moving net.relation frame x v stands (allocation_in frozen k) (allocation_in chosen k) outs is.column put)
 
       sent-below : AreBelow (size net) all_moved
-      sent-below = subst (λ s. AreBelow s all_moved) size-same (moved-below net.relation frame x v stands (allocation_in frozen k) (allocation_in chosen k) outs is.column put)
+      sent-below = subst (λ s. AreBelow s all_moved) size-same (moved-below net.relation frame x v stands (allocation_in frozen k)
+          (allocation_in chosen k) outs is.column put)
 
       in-view : (i : ℕ) → i < size net → i < size_of (frozen_view net setup n r l).site
       in-view i u = subst (λ s. i < s) (sym size-same) u
@@ -281,7 +306,8 @@ module _ (net : Setup) (setup : IsGoodSetup net) (n r : ℕ) (l : r < nodes net.
               (moved-picked net.relation frame x v stands (allocation_in frozen k) (allocation_in chosen k) outs is.column put i e)).1
 
           at : (fs : List Flit) → view_buffer v i ≡ fs
-              → HasFirst (ring_in room after (place_of k i) (slice_index frozen.marks.first (place_of k i))) (is_tail (first_flit v i)) (packet_of (first_flit v i))
+              → HasFirst (ring_in room after (place_of k i) (slice_index frozen.marks.first (place_of k i))) (is_tail (first_flit v i))
+                  (packet_of (first_flit v i))
           at [] is_none = absurd (true≢false (ap (λ (fs : List Flit). is_empty fs) (sym is_none) ∙ full))
           at (f ∷ fs) is_some = record {
             flit = f;
@@ -292,10 +318,13 @@ module _ (net : Setup) (setup : IsGoodSetup net) (n r : ℕ) (l : r < nodes net.
           }
 
       -- the channels that its ports choose
-      pub lane-moved : (AreMoved (frozen_of net n r) (union_from 0 (ports_of frame) (chosen_by (lane_picked frame.fields (word frozen.arrived.filled k) (column_at frozen.lanes k)) (marks_at chosen.marks k))))
-          × AreBelow (size_of (frozen_of net n r).site) (union_from 0 (ports_of frame) (chosen_by (lane_picked frame.fields (word frozen.arrived.filled k) (column_at frozen.lanes k)) (marks_at chosen.marks k)))
+      pub lane-moved : (AreMoved (frozen_of net n r) (union_from 0 (ports_of frame)
+          (chosen_by (lane_picked frame.fields (word frozen.arrived.filled k) (column_at frozen.lanes k)) (marks_at chosen.marks k))))
+          × AreBelow (size_of (frozen_of net n r).site) (union_from 0 (ports_of frame)
+              (chosen_by (lane_picked frame.fields (word frozen.arrived.filled k) (column_at frozen.lanes k)) (marks_at chosen.marks k)))
       lane-moved =
-          let same = ap (λ n. union_from 0 n (chosen_by (lane_picked frame.fields (word frozen.arrived.filled k) (column_at frozen.lanes k)) (marks_at chosen.marks k))) stands.ports_are in (
+          let same = ap (λ n. union_from 0 n (chosen_by (lane_picked frame.fields (word frozen.arrived.filled k) (column_at frozen.lanes k))
+              (marks_at chosen.marks k))) stands.ports_are in (
             subst (AreMoved (frozen_of net n r)) (sym same) sent-moves,
             subst (AreBelow (size_of (frozen_of net n r).site)) (sym same) (subst (λ s. AreBelow s all_moved) (sym size-same) sent-below),
           )
@@ -305,10 +334,13 @@ module _ (net : Setup) (setup : IsGoodSetup net) (n r : ℕ) (l : r < nodes net.
           → AreRound (frozen_view net setup n r l) (word chosen.decided.granted k) (word chosen.decided.lost k) moves
       lane-round moves are below =
           subst (λ g. AreRound v g (word chosen.decided.lost k) moves) (sym (ap (λ (a : Allocation). a.granted) has.rest))
-          (subst (λ t. AreRound v has.granted.granted t moves) (sym (ap (λ (a : Allocation). a.lost) has.rest)) (at (cases_eq (lane_asks (column_at frozen.lanes k)) 0)))
+          (subst (λ t. AreRound v has.granted.granted t moves) (sym (ap (λ (a : Allocation). a.lost) has.rest))
+              (at (cases_eq (lane_asks (column_at frozen.lanes k)) 0)))
         where
-          grants : ShowsGrants (allocation_in frozen k) has.granted (given net.relation frame x (frozen_view net setup n r l) stands (allocation_in frozen k) (allocation_in chosen k) (routes_in frozen k) (routes_in chosen k) is.column no_grant no_loss has).outs v
-          grants = (given net.relation frame x (frozen_view net setup n r l) stands (allocation_in frozen k) (allocation_in chosen k) (routes_in frozen k) (routes_in chosen k) is.column no_grant no_loss has).shows
+          grants : ShowsGrants (allocation_in frozen k) has.granted (given net.relation frame x (frozen_view net setup n r l) stands
+              (allocation_in frozen k) (allocation_in chosen k) (routes_in frozen k) (routes_in chosen k) is.column no_grant no_loss has).outs v
+          grants = (given net.relation frame x (frozen_view net setup n r l) stands (allocation_in frozen k) (allocation_in chosen k)
+              (routes_in frozen k) (routes_in chosen k) is.column no_grant no_loss has).shows
 
           at : (lane_asks (column_at frozen.lanes k) ≡ 0) ⊎ (lane_asks (column_at frozen.lanes k) ≢ 0) → AreRound v has.granted.granted has.granted.lost moves
           at (inl none) =
@@ -320,8 +352,10 @@ module _ (net : Setup) (setup : IsGoodSetup net) (n r : ℕ) (l : r < nodes net.
               (leads_by frame) (leads_to frame frozen.marks.lead k) (has.asked some)
 
       -- what its ports select moves
-      pub lane-sent : (picked : ℕ) → picked ≡ lane_picked frame.fields (word frozen.arrived.filled k) (column_at frozen.lanes k) → chosen.marks.back ≡ frozen.marks.back
-          → SendsBy net n r (ports_of frame) (selected_in picked chosen.marks k) (λ i. ring_in room after (place_of k i) (slice_index frozen.marks.first (place_of k i)))
+      pub lane-sent : (picked : ℕ) → picked ≡ lane_picked frame.fields (word frozen.arrived.filled k) (column_at frozen.lanes k)
+          → chosen.marks.back ≡ frozen.marks.back
+          → SendsBy net n r (ports_of frame) (selected_in picked chosen.marks k) (λ i. ring_in room after (place_of k i)
+              (slice_index frozen.marks.first (place_of k i)))
           (λ i. slice_index chosen.marks.target (place_of k i)) (λ i. slice_index chosen.marks.back (place_of k i))
       lane-sent picked picked_is back_is = record {
         moves = subst (AreMoved (frozen_of net n r)) (sym all-same) sent-moves;
@@ -345,4 +379,5 @@ module _ (net : Setup) (setup : IsGoodSetup net) (n r : ℕ) (l : r < nodes net.
               selected-same picked chosen.marks k q (omega (arith, lq, few)) ∙ ap (λ w. chosen_by w (marks_at chosen.marks k) q) picked_is
 
           all-same : union_from 0 (ports_of frame) (selected_in picked chosen.marks k) ≡ all_moved
-          all-same = ap (λ n. union_from 0 n (selected_in picked chosen.marks k)) stands.ports_are ∙ union-same (ports v.site.grid) (selected_in picked chosen.marks k) sel one-same
+          all-same = ap (λ n. union_from 0 n (selected_in picked chosen.marks k)) stands.ports_are ∙ union-same (ports v.site.grid)
+              (selected_in picked chosen.marks k) sel one-same

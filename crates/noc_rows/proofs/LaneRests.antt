@@ -1,26 +1,23 @@
 -- A lane of a block that sleeps through a cycle, or up to one: it shows its router as long as it does.
-use Rattle.std.proofs.Common.{◌≡◌, ℕ, zero, suc, ◌+◌, ◌*◌, ◌/◌, ◌%◌, ◌<◌, ◌≤◌, Bool, true, false, List, map, Option, None, refl, ap, ap₂, sym, ◌∙◌, subst, arith, inl, inr, bit_or}
-use Rattle.std.specs.Prelude.{◌⊎◌, ◌&&◌, ◌||◌, not, nat_eq, min, slice_index, slice_index_or, is_some}
-use Rattle.std.proofs.lemmas.Bool.{cases_eq, cases_lt, false≢true, ne_eqb, true≢false}
+use Rattle.std.proofs.Common.{◌≡◌, ℕ, zero, suc, ◌*◌, ◌/◌, ◌%◌, ◌<◌, ◌≤◌, Bool, true, false, List, map, Option, None, refl, ap, ap₂, sym, ◌∙◌, subst, arith, inl, inr, bit_or}
+use Rattle.std.specs.Prelude.{◌⊎◌, ◌&&◌, ◌||◌, not, nat_eq, min, slice_index, slice_index_or}
+use Rattle.std.proofs.lemmas.Bool.{cases_eq, false≢true, ne_eqb, true≢false}
 use Rattle.noc_topo.specs.Words.{is_some_of}
 use Rattle.noc_topo.specs.Shape.{nodes}
 use Rattle.noc_packet.specs.Set.{has_bit}
-use Rattle.noc_packet.specs.declared.packet.Beat.{Beat}
 use Rattle.noc_packet.specs.declared.packet.Flit.{Flit}
 use Rattle.noc_packet.proofs.SetLemmas.{has_bit-zero}
 use Rattle.noc_vc.specs.Input.{is_idle_phase}
 use Rattle.noc_vc.specs.declared.input.InputState.{InputState}
 use Rattle.noc_vc.specs.declared.input.InputState.TheVariants.{Idle, Waiting, Active}
-use Rattle.noc_router.specs.Members.{AreBelow}
 use Rattle.noc_router.specs.Standing.{is_won_from}
-use Rattle.noc_router.specs.View.{Site, View, first_flit, is_tail, size_of, view_after_inject, view_after_takes, view_buffer, view_input, view_round}
+use Rattle.noc_router.specs.View.{View, size_of, view_after_inject, view_buffer, view_input, view_round}
 use Rattle.noc_model.specs.declared.limits.TheConstants.{CYCLE_LIMIT}
 use Rattle.noc_model.specs.Good.{IsGoodSetup}
 use Rattle.noc_model.specs.Halves.{IsSilent}
-use Rattle.noc_model.specs.Lockstep.{beats_at, beats_in, site_at, view_at}
-use Rattle.noc_model.specs.Network.{Setup, size, state_at}
-use Rattle.noc_model.proofs.ViewLemmas.{view_at-seen}
-use Rattle.noc_rows.specs.Column.{Leads, ShowsWires, place_of}
+use Rattle.noc_model.specs.Lockstep.{beats_at, beats_in, view_at}
+use Rattle.noc_model.specs.Network.{Setup, state_at}
+use Rattle.noc_rows.specs.Column.{ShowsWires, place_of}
 use Rattle.noc_rows.specs.FlitWords.{flit_word}
 use Rattle.noc_rows.specs.Frames.{IsFrame}
 use Rattle.noc_rows.specs.InRows.{ShowsRouter}
@@ -28,7 +25,7 @@ use Rattle.noc_rows.specs.Moves.{union_from}
 use Rattle.noc_rows.specs.Opened.{IsLinked}
 use Rattle.noc_rows.specs.Outlook.{holding_in, least_below, some_below}
 use Rattle.noc_rows.specs.Rows.{column_at, word}
-use Rattle.noc_rows.specs.Taken.{flit_from, with_one}
+use Rattle.noc_rows.specs.Taken.{with_one}
 use Rattle.noc_rows.specs.Whole.{lane_words}
 use Rattle.noc_rows.specs.Wires.{ring_in}
 use Rattle.noc_rows.specs.declared.block.Block.{Block}
@@ -37,9 +34,9 @@ use Rattle.noc_rows.specs.declared.sheet.Sheet.{Sheet}
 use Rattle.noc_rows.specs.declared.starts.Start.{Start}
 use Rattle.noc_rows.specs.declared.wires.Inbox.{Inbox}
 use Rattle.noc_rows.proofs.FrozenWires.{frozen_of}
-use Rattle.noc_rows.proofs.LaneNext.{SendsBy, packet_of}
+use Rattle.noc_rows.proofs.LaneNext.{SendsBy}
 use Rattle.noc_rows.proofs.LeadLaws.{back-leads}
-use Rattle.noc_rows.proofs.NetworkLaws.{beats, frozen-seen, frozen_view}
+use Rattle.noc_rows.proofs.NetworkLaws.{beats}
 use Rattle.noc_rows.proofs.SleepLaws.{IsAsleep, all-silent, asleep-held}
 use Rattle.noc_rows.proofs.StayLaws.{all-stay, asleep-shown, router-stays, silent-flit, silent-shown}
 use Rattle.noc_rows.proofs.SwitchLemmas.{AreMoved}
@@ -51,7 +48,8 @@ unfolding some_below
 none-below test zero k e l = absurd (omega (arith, l))
 none-below test (suc n) k e l = at (some_below test n) refl (test n) refl (cases_eq k n) (λ none lower. none-below test n k none lower)
   where
-    at : (a : Bool) → some_below test n ≡ a → (t : Bool) → test n ≡ t → (k ≡ n) ⊎ (k ≡ n → ⊥) → (some_below test n ≡ false → k < n → test k ≡ false) → test k ≡ false
+    at : (a : Bool) → some_below test n ≡ a → (t : Bool) → test n ≡ t → (k ≡ n) ⊎ (k ≡ n → ⊥) → (some_below test n ≡ false → k < n → test k ≡ false)
+        → test k ≡ false
     at true ea t et is lower = absurd (true≢false (sym (ap (λ b. b || test n) ea) ∙ e))
     at false ea true et is lower = absurd (true≢false (sym (ap₂ (λ a b. a || b) ea et) ∙ e))
     at false ea false et (inl same) lower = ap test same ∙ et
@@ -71,7 +69,8 @@ pub record IsResting (block : Block) (end k : ℕ) : Type 0 where
   pub holds : holding_in (column_at block.lanes k) ≡ 0
   pub due : end ≤ word block.sources.due k
 
-pub lanes-rest : (block : Block) (end k : ℕ) → k < 32 → block.holds ≡ some_below (λ j. not (nat_eq (holding_in (column_at block.lanes j)) 0)) 32 → block.next_due ≡ least_below (word block.sources.due) 32
+pub lanes-rest : (block : Block) (end k : ℕ) → k < 32 → block.holds ≡ some_below (λ j. not (nat_eq (holding_in (column_at block.lanes j)) 0)) 32
+    → block.next_due ≡ least_below (word block.sources.due) 32
     → block.holds ≡ false → end ≤ block.next_due → IsResting block end k
 lanes-rest block end k low holds next none later = record {
   holds = at (cases_eq (holding_in (column_at block.lanes k)) 0);
@@ -104,7 +103,8 @@ none-moves v idle = record { each = λ i l. has_bit-zero i ∙ sym (at i (view_i
     at i (Waiting set) e = absurd (false≢true e)
     at i (Active o) e = absurd (false≢true e)
 
-module _ (net : Setup) (setup : IsGoodSetup net) (n r : ℕ) (l : r < nodes net.relation.grid) (room : ℕ) (starts : List Start) (block : Block) (sheet : Sheet) (inbox : Inbox) (k end : ℕ)
+module _ (net : Setup) (setup : IsGoodSetup net) (n r : ℕ) (l : r < nodes net.relation.grid) (room : ℕ) (starts : List Start) (block : Block)
+    (sheet : Sheet) (inbox : Inbox) (k end : ℕ)
     (shows : ShowsRouter starts n (lane_words room block sheet inbox k) (view_at net n r) (beats net setup n r l)) (rests : IsResting block end k)
     (flits : word inbox.flits k ≡ 0) (credits : word inbox.credits k ≡ 0) where
   -- the router sleeps, and nothing comes to it
@@ -115,11 +115,13 @@ module _ (net : Setup) (setup : IsGoodSetup net) (n r : ℕ) (l : r < nodes net.
   lane-silent = silent-shown net setup n r l starts (lane_words room block sheet inbox k) shows flits credits
 
   -- where all routers sleep, each shows its view at a later count
-  pub lane-waits : n < end → end ≤ CYCLE_LIMIT → ((s : ℕ) → s < nodes net.relation.grid → IsAsleep end (view_at net n s)) → ((s : ℕ) → s < nodes net.relation.grid → IsSilent (beats_at (beats_in net (state_at net n)) s))
+  pub lane-waits : n < end → end ≤ CYCLE_LIMIT → ((s : ℕ) → s < nodes net.relation.grid → IsAsleep end (view_at net n s))
+      → ((s : ℕ) → s < nodes net.relation.grid → IsSilent (beats_at (beats_in net (state_at net n)) s))
       → ShowsRouter starts end (lane_words room block sheet inbox k) (view_at net end r) (beats_at (beats_in net (state_at net end)) r)
   lane-waits less limit asleep silent = all-stay net setup n end less limit asleep silent r l starts (lane_words room block sheet inbox k) shows
 
-module _ (net : Setup) (setup : IsGoodSetup net) (n r : ℕ) (l : r < nodes net.relation.grid) (room : ℕ) (starts : List Start) (block : Block) (sheet : Sheet) (inbox : Inbox) (k : ℕ)
+module _ (net : Setup) (setup : IsGoodSetup net) (n r : ℕ) (l : r < nodes net.relation.grid) (room : ℕ) (starts : List Start) (block : Block)
+    (sheet : Sheet) (inbox : Inbox) (k : ℕ)
     (shows : ShowsRouter starts n (lane_words room block sheet inbox k) (view_at net n r) (beats net setup n r l)) (rests : IsResting block (suc n) k)
     (flits : word inbox.flits k ≡ 0) (credits : word inbox.credits k ≡ 0) where
   asleep : IsAsleep (suc n) (view_at net n r)
@@ -130,23 +132,27 @@ module _ (net : Setup) (setup : IsGoodSetup net) (n r : ℕ) (l : r < nodes net.
 
   -- it shows its router after the cycle, where these words then show its wires
   pub lane-rests : n < CYCLE_LIMIT → (later : Inbox)
-      → ShowsWires (view_at net (suc n) r) (word later.flits k) (word later.credits k) (λ i. ring_in room later (place_of k i) (slice_index block.marks.first (place_of k i)))
+      → ShowsWires (view_at net (suc n) r) (word later.flits k) (word later.credits k) (λ i. ring_in room later (place_of k i)
+          (slice_index block.marks.first (place_of k i)))
       (beats_at (beats_in net (state_at net (suc n))) r)
       → ShowsRouter starts (suc n) (lane_words room block sheet later k) (view_at net (suc n) r) (beats_at (beats_in net (state_at net (suc n))) r)
   lane-rests few later wires =
-      router-stays net setup n r l starts (lane_words room block sheet inbox k) (word later.flits k) (word later.credits k) (λ i. ring_in room later (place_of k i) (slice_index block.marks.first (place_of k i)))
+      router-stays net setup n r l starts (lane_words room block sheet inbox k) (word later.flits k) (word later.credits k)
+          (λ i. ring_in room later (place_of k i) (slice_index block.marks.first (place_of k i)))
       few asleep silent shows wires
 
   -- its frozen view is that at the count
   frozen-is : frozen_of net n r ≡ record (view_at net n r) { given = n }
-  frozen-is = ap (view_after_inject n) (all-silent net.relation (beats net setup n r l) (view_at net n r) silent) ∙ asleep-held (suc n) (view_at net n r) asleep n (omega arith)
+  frozen-is = ap (view_after_inject n) (all-silent net.relation (beats net setup n r l) (view_at net n r) silent)
+      ∙ asleep-held (suc n) (view_at net n r) asleep n (omega arith)
 
   -- its rings have the flits of the frozen view
   pub rests-rings : (i : ℕ) → i < size_of (frozen_of net n r).site
       → ring_in room inbox (place_of k i) (slice_index block.marks.first (place_of k i)) ≡ map flit_word (view_buffer (frozen_of net n r) i)
   rests-rings i u =
       shows.wires.rings i (subst (λ (v : View). i < size_of v.site) frozen-is u)
-      ∙ ap (λ (o : Option Flit). map flit_word (with_one (view_buffer (view_at net n r) i) o)) (silent-flit (view_at net n r).site.vcs (beats net setup n r l) i silent)
+      ∙ ap (λ (o : Option Flit). map flit_word (with_one (view_buffer (view_at net n r) i) o)) (silent-flit (view_at net n r).site.vcs
+          (beats net setup n r l) i silent)
       ∙ sym (ap (λ (v : View). map flit_word (view_buffer v i)) frozen-is)
 
   -- nothing moves
@@ -154,9 +160,11 @@ module _ (net : Setup) (setup : IsGoodSetup net) (n r : ℕ) (l : r < nodes net.
   rests-moves = subst (λ (v : View). AreMoved v 0) (sym frozen-is) (none-moves (record (view_at net n r) { given = n }) asleep.idle)
 
   -- .. where its ports select nothing
-  pub rests-sends : (frame : Frame) → IsFrame net.relation net.places frame → (spare : ℕ) → nodes net.relation.grid * 32 ≤ spare → IsLinked net.relation frame spare block r k
+  pub rests-sends : (frame : Frame) → IsFrame net.relation net.places frame → (spare : ℕ) → nodes net.relation.grid * 32 ≤ spare
+      → IsLinked net.relation frame spare block r k
       → (ports : ℕ) (target : ℕ → ℕ)
-      → SendsBy net n r ports (λ q. 0) (λ i. ring_in room inbox (place_of k i) (slice_index block.marks.first (place_of k i))) target (λ i. slice_index block.marks.back (place_of k i))
+      → SendsBy net n r ports (λ q. 0) (λ i. ring_in room inbox (place_of k i) (slice_index block.marks.first (place_of k i))) target
+          (λ i. slice_index block.marks.back (place_of k i))
   rests-sends frame is_frame spare far linked ports target = record {
     moves = subst (AreMoved (frozen_of net n r)) (sym (no-union ports)) rests-moves;
     below = λ i e. absurd (none i e);

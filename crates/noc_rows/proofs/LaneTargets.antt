@@ -1,15 +1,15 @@
 -- Where the channels of a router lead: to a channel of a router, or beyond all blocks.
-use Rattle.std.proofs.Common.{◌≡◌, ◌≢◌, ℕ, zero, suc, ◌+◌, ◌*◌, ◌/◌, ◌%◌, ◌^◌, ◌<◌, ◌≤◌, Bool, true, false, List, Option, Some, None, refl, ap, ap₂, sym, ◌∙◌, subst, arith, inl, inr, bit_or}
+use Rattle.std.proofs.Common.{◌≡◌, ◌≢◌, ℕ, zero, suc, ◌+◌, ◌*◌, ◌/◌, ◌%◌, ◌<◌, ◌≤◌, Bool, true, false, List, Option, Some, None, refl, ap, ap₂, sym, ◌∙◌, subst, arith, inl, inr}
 use Rattle.std.specs.Prelude.{◌⊎◌, ◌&&◌, ◌||◌, is_some, min, slice_index}
 use Rattle.std.proofs.lemmas.Bool.{and_parts, cases_eq, cases_lt, false≢true, true≢false}
 use Rattle.std.proofs.lemmas.Nat.{div_below, le_or_l}
-use Rattle.noc_topo.specs.Shape.{IsGrid, neighbour, nodes, ports}
-use Rattle.noc_topo.proofs.LinkLemmas.{hop_of, link_back}
+use Rattle.noc_topo.specs.Shape.{neighbour, nodes, ports}
+use Rattle.noc_topo.proofs.LinkLemmas.{link_back}
 use Rattle.noc_packet.specs.Set.{has_bit}
 use Rattle.noc_vc.specs.declared.input.InputState.{InputState}
 use Rattle.noc_vc.specs.declared.input.InputState.TheVariants.{Active}
 use Rattle.noc_router.specs.Verdict.{ask_of}
-use Rattle.noc_router.specs.View.{Site, View, claim_in, first_flit, is_tail, size_of, view_input}
+use Rattle.noc_router.specs.View.{Site, claim_in, first_flit, is_tail, size_of, view_input}
 use Rattle.noc_model.specs.Good.{IsGoodSetup}
 use Rattle.noc_model.specs.Lockstep.{site_at}
 use Rattle.noc_model.specs.Network.{Setup, size}
@@ -32,12 +32,13 @@ use Rattle.noc_rows.proofs.BitLemmas.{above_32}
 use Rattle.noc_rows.proofs.ChosenLaws.{IsStill}
 use Rattle.noc_rows.proofs.FrozenLaws.{IsFrozen}
 use Rattle.noc_rows.proofs.FrozenWires.{frozen_of}
-use Rattle.noc_rows.proofs.LaneNext.{LaneChosen, allocation_in, lane-leads, lane-still, lane_surroundings, of-lane, tails-of}
+use Rattle.noc_rows.proofs.LaneNext.{LaneChosen, allocation_in, lane-still, lane_surroundings, of-lane, tails-of}
 use Rattle.noc_rows.proofs.LeadLaws.{back-leads, lead-leads}
 use Rattle.noc_rows.proofs.NetworkLaws.{frozen-seen, frozen_view, good}
 use Rattle.noc_rows.proofs.SwitchedLaws.{some-found}
 
-module _ (net : Setup) (setup : IsGoodSetup net) (frame : Frame) (is_frame : IsFrame net.relation net.places frame) (blocks : ℕ) (few_blocks : blocks ≤ 8) (covered : nodes net.relation.grid * 32 ≤ blocks * 1024)
+module _ (net : Setup) (setup : IsGoodSetup net) (frame : Frame) (is_frame : IsFrame net.relation net.places frame) (blocks : ℕ)
+    (few_blocks : blocks ≤ 8) (covered : nodes net.relation.grid * 32 ≤ blocks * 1024)
     (block : Block) (r k : ℕ) (l : r < nodes net.relation.grid) (linked : IsLinked net.relation frame (min blocks 8 * 1024) block r k) where
   spare-is : min blocks 8 * 1024 ≡ blocks * 1024
   spare-is = omega (arith, few_blocks)
@@ -50,18 +51,22 @@ module _ (net : Setup) (setup : IsGoodSetup net) (frame : Frame) (is_frame : IsF
       omega (arith, is, below, few_ports)
 
   -- a channel leads to a channel of a router or out of all blocks
-  is-target : (o place : ℕ) → o < size net → slice_index block.marks.lead (k * 8 + leads_by frame o) ≤ place → Leads (site_at net r) o place → IsTarget (nodes net.relation.grid) blocks place
+  is-target : (o place : ℕ) → o < size net → slice_index block.marks.lead (k * 8 + leads_by frame o) ≤ place → Leads (site_at net r) o place
+      → IsTarget (nodes net.relation.grid) blocks place
   is-target o place u least leads = at (neighbour net.relation.grid r (o / net.relation.vcs)) refl leads
-      (subst (λ q. LeadsOut (min blocks 8 * 1024) (slice_index block.marks.lead (k * 8 + leads_by frame o)) (neighbour net.relation.grid r q)) (port-is o u) (linked.lead (leads_by frame o) (omega arith)))
+      (subst (λ q. LeadsOut (min blocks 8 * 1024) (slice_index block.marks.lead (k * 8 + leads_by frame o)) (neighbour net.relation.grid r q))
+          (port-is o u) (linked.lead (leads_by frame o) (omega arith)))
     where
-      at : (x : Option (ℕ × ℕ)) → neighbour net.relation.grid r (o / net.relation.vcs) ≡ x → LeadsTo net.relation.grid net.relation.vcs (o % net.relation.vcs) place x
+      at : (x : Option (ℕ × ℕ)) → neighbour net.relation.grid r (o / net.relation.vcs) ≡ x → LeadsTo net.relation.grid net.relation.vcs
+          (o % net.relation.vcs) place x
           → LeadsOut (min blocks 8 * 1024) (slice_index block.marks.lead (k * 8 + leads_by frame o)) x → IsTarget (nodes net.relation.grid) blocks place
       at None e to out = inr (omega (arith, least, out, spare-is))
       at (Some (to, port)) e leads out =
           let back = link_back net.relation.grid r (o / net.relation.vcs) to port (good net setup).relation.table.grid l e in
           let node = back.node in
           let end = back.port in
-          let low : port * net.relation.vcs + o % net.relation.vcs < size net = in-size net (good net setup) port (o % net.relation.vcs) (omega (arith, end)) (mod-below net (good net setup) o) in
+          let low : port * net.relation.vcs + o % net.relation.vcs < size net = in-size net (good net setup) port (o % net.relation.vcs)
+              (omega (arith, end)) (mod-below net (good net setup) o) in
           let narrow = is_frame.few in
           let is : place ≡ to * 32 + (port * net.relation.vcs + o % net.relation.vcs) = leads in
           inl (omega (arith, is, node, low, narrow))
@@ -83,17 +88,20 @@ module _ (net : Setup) (setup : IsGoodSetup net) (frame : Frame) (is_frame : IsF
       (back-leads net setup frame is_frame.few is_frame.channels (min blocks 8 * 1024) (omega (arith, covered, spare-is)) block r k linked i u)
 
   -- the block to which a channel leads is near
-  pub leads-near : (o place q : ℕ) → o < size net → Leads (site_at net r) o place → IsTarget (nodes net.relation.grid) blocks place → place / 1024 ≡ q → q < blocks → has_bit block.near q ≡ true
+  pub leads-near : (o place q : ℕ) → o < size net → Leads (site_at net r) o place → IsTarget (nodes net.relation.grid) blocks place → place / 1024 ≡ q
+      → q < blocks → has_bit block.near q ≡ true
   leads-near o place q u leads target here few_q = at (neighbour net.relation.grid r (o / net.relation.vcs)) refl leads target
     where
-      at : (x : Option (ℕ × ℕ)) → neighbour net.relation.grid r (o / net.relation.vcs) ≡ x → LeadsTo net.relation.grid net.relation.vcs (o % net.relation.vcs) place x
+      at : (x : Option (ℕ × ℕ)) → neighbour net.relation.grid r (o / net.relation.vcs) ≡ x → LeadsTo net.relation.grid net.relation.vcs
+          (o % net.relation.vcs) place x
           → IsTarget (nodes net.relation.grid) blocks place → has_bit block.near q ≡ true
       at None e beyond (inl within) = absurd (omega (arith, beyond, within))
       at None e beyond (inr out) = absurd (omega (arith, out, here, few_q))
       at (Some (to, port)) e leads either =
           let back = link_back net.relation.grid r (o / net.relation.vcs) to port (good net setup).relation.table.grid l e in
           let end = back.port in
-          let low : port * net.relation.vcs + o % net.relation.vcs < size net = in-size net (good net setup) port (o % net.relation.vcs) (omega (arith, end)) (mod-below net (good net setup) o) in
+          let low : port * net.relation.vcs + o % net.relation.vcs < size net = in-size net (good net setup) port (o % net.relation.vcs)
+              (omega (arith, end)) (mod-below net (good net setup) o) in
           let narrow = is_frame.few in
           let is : place ≡ to * 32 + (port * net.relation.vcs + o % net.relation.vcs) = leads in
           let same : to / 32 ≡ q = omega (arith, is, low, narrow, here) in
@@ -106,14 +114,17 @@ none-of : (n : ℕ) (test : ℕ → Bool) (o : ℕ) → some_below n test ≡ fa
 none-of zero test o e l = absurd (omega (arith, l))
 none-of (suc n) test o e l = at (some_below n test) refl (test n) refl (cases_eq o n) (λ none lower. none-of n test o none lower)
   where
-    at : (a : Bool) → some_below n test ≡ a → (t : Bool) → test n ≡ t → (o ≡ n) ⊎ (o ≢ n) → (some_below n test ≡ false → o < n → test o ≡ false) → test o ≡ false
+    at : (a : Bool) → some_below n test ≡ a → (t : Bool) → test n ≡ t → (o ≡ n) ⊎ (o ≢ n) → (some_below n test ≡ false → o < n → test o ≡ false)
+        → test o ≡ false
     at true ea t et is lower = absurd (true≢false (sym (ap (λ b. b || test n) ea) ∙ e))
     at false ea true et is lower = absurd (true≢false (sym (ap₂ (λ a b. a || b) ea et) ∙ e))
     at false ea false et (inl same) lower = ap test same ∙ et
     at false ea false et (inr other) lower = lower ea (omega (arith, l, other))
 
-module _ (net : Setup) (setup : IsGoodSetup net) (n r : ℕ) (l : r < nodes net.relation.grid) (frame : Frame) (is_frame : IsFrame net.relation net.places frame) (blocks : ℕ) (few_blocks : blocks ≤ 8)
-    (covered : nodes net.relation.grid * 32 ≤ blocks * 1024) (room : ℕ) (starts : List Start) (frozen chosen : Block) (after : Inbox) (k : ℕ) (linked : IsLinked net.relation frame (min blocks 8 * 1024) frozen r k)
+module _ (net : Setup) (setup : IsGoodSetup net) (n r : ℕ) (l : r < nodes net.relation.grid) (frame : Frame)
+    (is_frame : IsFrame net.relation net.places frame) (blocks : ℕ) (few_blocks : blocks ≤ 8)
+    (covered : nodes net.relation.grid * 32 ≤ blocks * 1024) (room : ℕ) (starts : List Start) (frozen chosen : Block) (after : Inbox) (k : ℕ)
+        (linked : IsLinked net.relation frame (min blocks 8 * 1024) frozen r k)
     (is : IsFrozen 5 room starts (marks_at frozen.marks k) (λ i. slice_index frozen.marks.first (place_of k i)) frozen after k (frozen_of net n r))
     (has : LaneChosen net frame room frozen chosen after r k) where
   abbrev spare : ℕ
@@ -122,29 +133,35 @@ module _ (net : Setup) (setup : IsGoodSetup net) (n r : ℕ) (l : r < nodes net.
   far : nodes net.relation.grid * 32 ≤ min blocks 8 * 1024
   far = omega (arith, few_blocks, covered)
 
-  stands : IsStill net.relation frame (lane_surroundings frame room frozen after (λ j i. is_tail (first_flit (frozen_view net setup n r l) i)) r k) (frozen_view net setup n r l)
-  stands = lane-still net setup n r l frame is_frame (min blocks 8 * 1024) far room starts frozen after k linked is (λ j i. is_tail (first_flit (frozen_view net setup n r l) i))
+  stands : IsStill net.relation frame (lane_surroundings frame room frozen after (λ j i. is_tail (first_flit (frozen_view net setup n r l) i)) r k)
+      (frozen_view net setup n r l)
+  stands = lane-still net setup n r l frame is_frame (min blocks 8 * 1024) far room starts frozen after k linked is
+      (λ j i. is_tail (first_flit (frozen_view net setup n r l) i))
       (tails-of (λ i. is_tail (first_flit (frozen_view net setup n r l) i)) (frozen_view net setup n r l) (λ i u. refl))
 
   size-same : size_of (frozen_view net setup n r l).site ≡ size net
   size-same = ap (λ (s : Site). size_of s) (frozen-seen net setup n r l).site
 
-  ports-are : (port : ℕ → ℕ) → ((o : ℕ) → o < size net → port o ≡ o / net.relation.vcs) → (o : ℕ) → o < size_of (frozen_view net setup n r l).site → port o ≡ o / (frozen_view net setup n r l).site.vcs
+  ports-are : (port : ℕ → ℕ) → ((o : ℕ) → o < size net → port o ≡ o / net.relation.vcs) → (o : ℕ) → o < size_of (frozen_view net setup n r l).site
+      → port o ≡ o / (frozen_view net setup n r l).site.vcs
   ports-are port same = subst (λ (s : Site). (o : ℕ) → o < size_of s → port o ≡ o / s.vcs) (sym (frozen-seen net setup n r l).site) same
 
   -- routing leaves targets as they are
   routed-target : (marks_at chosen.marks k).target ≡ has.granted.marks.target
   routed-target = at (cases_eq (lane_heads (word frozen.arrived.filled k) (column_at frozen.lanes k)) 0)
     where
-      at : (lane_heads (word frozen.arrived.filled k) (column_at frozen.lanes k) ≡ 0) ⊎ (lane_heads (word frozen.arrived.filled k) (column_at frozen.lanes k) ≢ 0)
+      at : (lane_heads (word frozen.arrived.filled k) (column_at frozen.lanes k) ≡ 0) ⊎ (lane_heads (word frozen.arrived.filled k)
+          (column_at frozen.lanes k) ≢ 0)
           → (marks_at chosen.marks k).target ≡ has.granted.marks.target
       at (inl none) = ap (λ (z : Routing). z.marks.target) (has.headless none)
       at (inr some) = ap (λ (m : RouterMarks). m.target) (has.headed some).routed.rest
 
-  granted-target : ((i : ℕ) → i < 32 → IsTarget (nodes net.relation.grid) blocks ((marks_at frozen.marks k).target i)) → (i : ℕ) → i < 32 → IsTarget (nodes net.relation.grid) blocks (has.granted.marks.target i)
+  granted-target : ((i : ℕ) → i < 32 → IsTarget (nodes net.relation.grid) blocks ((marks_at frozen.marks k).target i)) → (i : ℕ) → i < 32
+      → IsTarget (nodes net.relation.grid) blocks (has.granted.marks.target i)
   granted-target were i u = at (cases_eq (lane_asks (column_at frozen.lanes k)) 0)
     where
-      at : (lane_asks (column_at frozen.lanes k) ≡ 0) ⊎ (lane_asks (column_at frozen.lanes k) ≢ 0) → IsTarget (nodes net.relation.grid) blocks (has.granted.marks.target i)
+      at : (lane_asks (column_at frozen.lanes k) ≡ 0) ⊎ (lane_asks (column_at frozen.lanes k) ≢ 0) → IsTarget (nodes net.relation.grid) blocks
+          (has.granted.marks.target i)
       at (inl none) = subst (λ (a : Allocation). IsTarget (nodes net.relation.grid) blocks (a.marks.target i)) (sym (has.unasked none)) (were i u)
       at (inr some) = by (some_below 32 wins) refl
         where
@@ -158,15 +175,21 @@ module _ (net : Setup) (setup : IsGoodSetup net) (n r : ℕ) (l : r < nodes net.
           by : (b : Bool) → some_below 32 wins ≡ b → IsTarget (nodes net.relation.grid) blocks (has.granted.marks.target i)
           by true e =
               let found = some-found 32 wins e in
-              let parts = and_parts (has_bit (has.asked some).outs found.0) (has_bit (winner (has.asked some).requests (marks_at frozen.marks k) found.0) i) found.2 in
-              let asked = asker (frozen_view net setup n r l) (allocation_in frozen k) has.granted (leads_by frame) (leads_to frame frozen.marks.lead k) is.column stands.few stands.arbiters.channels
-              (ports-are (leads_by frame) (port-is net setup frame is_frame blocks few_blocks covered frozen r k l linked)) stands.leads all found.0 i parts.0 parts.1 in
+              let parts = and_parts (has_bit (has.asked some).outs found.0) (has_bit (winner (has.asked some).requests (marks_at frozen.marks k)
+                  found.0) i) found.2 in
+              let asked = asker (frozen_view net setup n r l) (allocation_in frozen k) has.granted (leads_by frame)
+                  (leads_to frame frozen.marks.lead k) is.column stands.few stands.arbiters.channels
+              (ports-are (leads_by frame) (port-is net setup frame is_frame blocks few_blocks covered frozen r k l linked)) stands.leads all found.0 i
+                  parts.0 parts.1 in
               subst (IsTarget (nodes net.relation.grid) blocks) (sym (all.marks.bound found.0 i parts.0 parts.1).target)
               (leads-target net setup frame is_frame blocks few_blocks covered frozen r k l linked found.0 (subst (λ s. found.0 < s) size-same asked.1))
           by false e =
-              subst (IsTarget (nodes net.relation.grid) blocks) (sym (all.marks.inputs i (λ o out. loses o out (has_bit (winner (has.asked some).requests (marks_at frozen.marks k) o) i) refl)).target) (were i u)
+              subst (IsTarget (nodes net.relation.grid) blocks)
+                  (sym (all.marks.inputs i (λ o out. loses o out (has_bit (winner (has.asked some).requests (marks_at frozen.marks k) o) i)
+                  refl)).target) (were i u)
             where
-              loses : (o : ℕ) → has_bit (has.asked some).outs o ≡ true → (w : Bool) → has_bit (winner (has.asked some).requests (marks_at frozen.marks k) o) i ≡ w
+              loses : (o : ℕ) → has_bit (has.asked some).outs o ≡ true → (w : Bool)
+                  → has_bit (winner (has.asked some).requests (marks_at frozen.marks k) o) i ≡ w
                   → has_bit (winner (has.asked some).requests (marks_at frozen.marks k) o) i ≡ false
               loses o out false is_false = is_false
               loses o out true won = absurd (false≢true (sym (none-of 32 wins o e (within (cases_lt o 32))) ∙ ap₂ (λ a b. a && b) out won))
@@ -183,10 +206,12 @@ module _ (net : Setup) (setup : IsGoodSetup net) (n r : ℕ) (l : r < nodes net.
       (granted-target (λ j v. subst (IsTarget (nodes net.relation.grid) blocks) (sym (of-lane frozen.marks.target k j v)) (were j v)) i u)
 
   -- ---- an active channel asks for nothing, so its target is as it was
-  granted-kept : (i o : ℕ) → i < size net → (view_input (frozen_view net setup n r l) i).phase ≡ Active o → has.granted.marks.target i ≡ (marks_at frozen.marks k).target i
+  granted-kept : (i o : ℕ) → i < size net → (view_input (frozen_view net setup n r l) i).phase ≡ Active o
+      → has.granted.marks.target i ≡ (marks_at frozen.marks k).target i
   granted-kept i o u phase = at (cases_eq (lane_asks (column_at frozen.lanes k)) 0)
     where
-      at : (lane_asks (column_at frozen.lanes k) ≡ 0) ⊎ (lane_asks (column_at frozen.lanes k) ≢ 0) → has.granted.marks.target i ≡ (marks_at frozen.marks k).target i
+      at : (lane_asks (column_at frozen.lanes k) ≡ 0) ⊎ (lane_asks (column_at frozen.lanes k) ≢ 0)
+          → has.granted.marks.target i ≡ (marks_at frozen.marks k).target i
       at (inl none) = ap (λ (a : Allocation). a.marks.target i) (has.unasked none)
       at (inr some) =
           ((has.asked some).marks.inputs i (λ p out. loses p out (has_bit (winner (has.asked some).requests (marks_at frozen.marks k) p) i) refl)).target
@@ -195,11 +220,14 @@ module _ (net : Setup) (setup : IsGoodSetup net) (n r : ℕ) (l : r < nodes net.
               → has_bit (winner (has.asked some).requests (marks_at frozen.marks k) p) i ≡ false
           loses p out false is_false = is_false
           loses p out true won =
-              let asked = asker (frozen_view net setup n r l) (allocation_in frozen k) has.granted (leads_by frame) (leads_to frame frozen.marks.lead k) is.column stands.few stands.arbiters.channels
-              (ports-are (leads_by frame) (port-is net setup frame is_frame blocks few_blocks covered frozen r k l linked)) stands.leads (has.asked some) p i out won in
+              let asked = asker (frozen_view net setup n r l) (allocation_in frozen k) has.granted (leads_by frame)
+                  (leads_to frame frozen.marks.lead k) is.column stands.few stands.arbiters.channels
+              (ports-are (leads_by frame) (port-is net setup frame is_frame blocks few_blocks covered frozen r k l linked)) stands.leads
+                  (has.asked some) p i out won in
               absurd (false≢true (ap is_some (sym (ap (λ (s : InputState). ask_of (claim_in (frozen_view net setup n r l) s)) phase) ∙ asked.2)))
 
-  pub lane-target-kept : (i o : ℕ) → i < size net → (view_input (frozen_of net n r) i).phase ≡ Active o → slice_index chosen.marks.target (place_of k i) ≡ slice_index frozen.marks.target (place_of k i)
+  pub lane-target-kept : (i o : ℕ) → i < size net → (view_input (frozen_of net n r) i).phase ≡ Active o
+      → slice_index chosen.marks.target (place_of k i) ≡ slice_index frozen.marks.target (place_of k i)
   lane-target-kept i o u phase =
       let narrow = is_frame.few in
       sym (of-lane chosen.marks.target k i (omega (arith, u, narrow)))

@@ -118,5 +118,11 @@ pub mod DecidedWires
 pub mod BlocksNext
 pub mod ArrivalLaws
 pub mod QuietLaws
+pub mod StepLaws
 pub mod QuietLists
 pub mod LanePorts
+pub mod ArrivalSteps
+pub mod ArrivalLanes
+pub mod StepQuiet
+pub mod StepParts
+pub mod StepMoves

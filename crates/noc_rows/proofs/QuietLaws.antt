@@ -1,7 +1,7 @@
 -- A block to which nothing has gone in a cycle has nothing on its wires.
-use Rattle.std.proofs.Common.{◌≡◌, ◌≢◌, ℕ, zero, suc, ◌+◌, ◌*◌, ◌/◌, ◌%◌, ◌^◌, ◌<◌, ◌≤◌, Bool, true, false, List, refl, ap, ap₂, sym, ◌∙◌, subst, arith, inl, inr}
+use Rattle.std.proofs.Common.{◌≡◌, ◌≢◌, ℕ, zero, suc, ◌+◌, ◌*◌, ◌/◌, ◌^◌, ◌<◌, ◌≤◌, Bool, true, false, List, refl, ap, sym, ◌∙◌, arith, inl, inr}
 use Rattle.std.specs.Prelude.{◌⊎◌, ◌||◌, not, nat_eq}
-use Rattle.std.proofs.lemmas.Bool.{cases_eq, cases_lt, ne_eqb, false≢true, true≢false}
+use Rattle.std.proofs.lemmas.Bool.{cases_eq, cases_lt, ne_eqb, true≢false}
 use Rattle.noc_packet.specs.Set.{has_bit}
 use Rattle.noc_packet.proofs.SetLemmas.{has_bit-zero, zero_from_none}
 use Rattle.noc_rows.specs.Carried.{HaveMoved, WireWords, wire_words}
@@ -23,7 +23,8 @@ use Rattle.noc_rows.proofs.LaneWires.{lane-comes, lane-place, lane-returns}
 module _ (limit : ℕ) (gone : ℕ → Bool) (target back : ℕ → ℕ) (start : WireWords) (room : ℕ) (inboxes : List Inbox) (first : ℕ → ℕ) (b : ℕ)
     (moved : HaveMoved limit gone target back start (wire_words room inboxes first))
     (none_to : (p : ℕ) → gone p ≡ true → target p / 1024 ≢ b) (none_back : (p : ℕ) → gone p ≡ true → back p / 1024 ≢ b)
-    (no_flit : (k i : ℕ) → k < 32 → i < 32 → start.comes (place_of (b * 32 + k) i) ≡ false) (no_credit : (k i : ℕ) → k < 32 → i < 32 → start.returns (place_of (b * 32 + k) i) ≡ false)
+    (no_flit : (k i : ℕ) → k < 32 → i < 32 → start.comes (place_of (b * 32 + k) i) ≡ false) (no_credit : (k i : ℕ) → k < 32 → i < 32
+        → start.returns (place_of (b * 32 + k) i) ≡ false)
     (flits_fit : (k : ℕ) → word (inbox_at inboxes b).flits k < 2 ^ 32) (credits_fit : (k : ℕ) → word (inbox_at inboxes b).credits k < 2 ^ 32) where
   none-comes : (k i : ℕ) → k < 32 → i < 32 → has_bit (word (inbox_at inboxes b).flits k) i ≡ false
   none-comes k i low u =
@@ -65,6 +66,8 @@ some-above test (suc n) k l e = at (cases_eq k n) (λ lower. some-above test n k
     at (inl same) lower = ap (λ x. some_below test n || x) (ap test (sym same) ∙ e) ∙ or-true (some_below test n)
     at (inr other) lower = ap (λ x. x || test n) (lower (omega (arith, l, other)))
 
-pub block-moves : (frame : Frame) (n : ℕ) (old new : Block) (before after : Sheet) (k i : ℕ) → HasConcluded frame n old new before after → k < 32 → has_bit (word old.decided.moved k) i ≡ true → new.moves ≡ true
+pub block-moves : (frame : Frame) (n : ℕ) (old new : Block) (before after : Sheet) (k i : ℕ) → HasConcluded frame n old new before after → k < 32
+    → has_bit (word old.decided.moved k) i ≡ true → new.moves ≡ true
 block-moves frame n old new before after k i concludes low e =
-    concludes.moves ∙ some-above (λ j. not (nat_eq (word old.decided.moved j) 0)) 32 k low (ap not (ne_eqb (word old.decided.moved k) 0 (λ z. true≢false (sym e ∙ ap (λ w. has_bit w i) z ∙ has_bit-zero i))))
+    concludes.moves ∙ some-above (λ j. not (nat_eq (word old.decided.moved j) 0)) 32 k low
+        (ap not (ne_eqb (word old.decided.moved k) 0 (λ z. true≢false (sym e ∙ ap (λ w. has_bit w i) z ∙ has_bit-zero i))))

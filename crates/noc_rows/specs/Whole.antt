@@ -11,6 +11,7 @@ use Rattle.noc_rows.specs.Opened.{IsLinked, starts_list}
 use Rattle.noc_rows.specs.Outlook.{holding_in, least_below, some_below}
 use Rattle.noc_rows.specs.Rows.{column_at, marks_at, word}
 use Rattle.noc_rows.specs.Source.{source_at}
+use Rattle.noc_rows.specs.Stages.{AreWoken}
 use Rattle.noc_rows.specs.Tallied.{cycles_of, sheet_counts}
 use Rattle.noc_rows.specs.Wires.{inbox_at, ring_in, room_of}
 use Rattle.noc_rows.specs.declared.block.Block.{Block}
@@ -86,3 +87,11 @@ pub record IsRows (net : Setup) (n : ℕ) (rows : Rows) : Type 0 where
   pub quiet : (b : ℕ) → b < length rows.blocks.items → slice_get rows.wires.busy.items b ≡ Some false → IsQuiet (inbox_at rows.wires.inboxes.items b)
   pub arrivals_are : length rows.wires.arrivals.items ≡ length net.packets + 1
   pub arrivals : (p : ℕ) → p < length net.packets → ShowsArrival (slice_index rows.wires.arrivals.items p) (arrival_in net (state_at net n) p)
+
+-- .. and it is known which blocks take part in the next cycle
+pub record IsWoken (net : Setup) (n : ℕ) (rows : Rows) : Type 0 where
+  pub before : Rows
+  pub next : ℕ
+  pub shows : IsRows net n before
+  pub wakes : AreWoken n next before.wires.busy.items before.blocks.items rows.blocks.items
+  pub rest : rows ≡ record before { blocks = rows.blocks }

@@ -54,7 +54,8 @@ impl Rows {
     ghost use Rattle.noc_model.specs.Progress.{last_event_before};
     ghost use Rattle.noc_topo.specs.Shape.{nodes as nodes_of, ports as ports_of};
     ghost use Rattle.noc_rows.specs.Readers.{are_all_out};
-    ghost use Rattle.noc_rows.specs.Whole.{IsRows};
+    ghost use Rattle.noc_rows.specs.Whole.{IsRows, IsWoken};
+    ghost use Rattle.noc_model.specs.declared.limits.TheConstants.{CYCLE_LIMIT};
 
     /// The network of a relation, `places` (1 to 16 flits) in each buffer and these packets, before its first cycle.
     /// None where a router has more than 31 channels, or there are more places.
@@ -86,7 +87,9 @@ impl Rows {
 
     /// Runs so many cycles, by the relation that it was made for. Those in which nothing happens are run at once. It
     /// takes no memory.
-    pub fn run(&mut self, relation: &Relation, cycles: u32) {
+    pub fn run(&mut self, relation: &Relation, cycles: u32)
+        ensures { (net : Setup) (n : ℕ) → IsGoodSetup net → net.relation ≡ relation.now → n + cycles ≤ CYCLE_LIMIT → IsRows net n self.old → IsRows net (n + cycles) self.new }
+    {
         let mut left = cycles;
         while left > 0 {
             left -= self.advance(relation, left);
@@ -98,6 +101,7 @@ impl Rows {
         requires { 0 < most }
         ensures some { 0 < result }
         ensures within { result ≤ most }
+        ensures rows { (net : Setup) (n : ℕ) → IsGoodSetup net → net.relation ≡ relation.now → n + most ≤ CYCLE_LIMIT → IsRows net n self.old → IsRows net (n + result) self.new }
     {
         let due = wake_all(self.cycle, &self.wires.busy, &mut self.blocks);
         let idle = due.saturating_sub(self.cycle).min(most);
@@ -111,7 +115,9 @@ impl Rows {
     }
 
     // Runs one cycle of the blocks that are awake.
-    fn step(&mut self, relation: &Relation) {
+    fn step(&mut self, relation: &Relation)
+        ensures { (net : Setup) (n : ℕ) → IsGoodSetup net → net.relation ≡ relation.now → n < CYCLE_LIMIT → IsWoken net n self.old → IsRows net (n + 1) self.new }
+    {
         let frame = &self.frame;
         let wires = &mut self.wires;
         arrive_all(
