@@ -63,10 +63,19 @@ pub fn note_events(
             | standing.heads[j]
             | decided.granted[j]
             | decided.moved[j];
-        let before = last_event[j];
-        let last = if event != 0 { now } else { before };
+        let last = later_if(event, now, last_event[j]);
         put(last_event, j, last);
     }
+}
+
+// The later word where something happened, and else the word before. (There is no branch, so that a row is one loop of
+// vectors.)
+#[inline(always)]
+fn later_if(event: u32, later: u32, before: u32) -> u32
+    ensures { result ≡ (if nat_eq event 0 then before else later) }
+{
+    let mask = if event == 0 { 0u32 } else { 0xffff_ffff };
+    (later & mask) | (before & !mask)
 }
 
 /// What a block has to do next.
