@@ -306,7 +306,10 @@ module _ (v : View) (a : Allocation) (shows : IsColumn 5 a.column a.marks v) (fe
           free i false h wanted = h
           free i true h wanted =
               let both = and_parts (has_bit set i) (has_bit a.column.idle i) (sym (both_members set a.column.idle i) ∙ h) in
-              let member : has_bit (lane_asks a.column) i ≡ true = both_members a.column.wanted a.column.idle i ∙ ap₂ (λ x y. x && y) (wanted i both.0) both.1 in
+              let waits : has_bit a.column.waiting k ≡ true = (shows.channels.inputs k lk).waiting ∙ ap is_waiting e in
+              let some : nat_eq a.column.waiting 0 ≡ false = ne_eqb a.column.waiting 0 (λ z. absurd (true≢false (sym waits ∙ ap (λ n. has_bit n k) z ∙ has_bit-zero k))) in
+              let member : has_bit (lane_asks a.column) i ≡ true = ap (λ t. has_bit (if t then 0 else bit_and a.column.wanted a.column.idle) i) some
+              ∙ both_members a.column.wanted a.column.idle i ∙ ap₂ (λ x y. x && y) (wanted i both.0) both.1 in
               absurd (true≢false (sym member ∙ ap (λ n. has_bit n i) quiet ∙ has_bit-zero i))
 
   no-grant : (o : ℕ) → o < size_of v.site → slice_index_or (view_round v).grants o None ≡ None

@@ -1,5 +1,5 @@
 -- A cycle leaves a lane blank to which no router belongs.
-use Rattle.std.proofs.Common.{◌≡◌, ℕ, zero, suc, ◌<◌, Bool, true, false, List, [], ◌∷◌, refl, ap, ap₂, sym, ◌∙◌, subst, arith, bit_and, bit_or}
+use Rattle.std.proofs.Common.{◌≡◌, ℕ, zero, suc, ◌<◌, Bool, true, false, List, [], ◌∷◌, refl, ap, ap₂, sym, ◌∙◌, subst, arith, bit_and, bit_or, eq-eqb}
 use Rattle.std.specs.Prelude.{◌&&◌, nat_eq, bit_xor, if◌then◌else◌}
 use Rattle.std.specs.Int.{bit_not, w32}
 use Rattle.std.specs.Int.Bits.{and_zero_l}
@@ -171,7 +171,7 @@ module _ (c : Column) (s : Source) (flits credits last : ℕ) (is : IsBlank c s 
       ∙ ap (λ x. the-standing 0 0 x) (picked-none f filled)
 
   pub blank-asks : lane_asks c ≡ 0
-  blank-asks = and-none c.wanted c.idle is.wanted
+  blank-asks = ap (λ t. if t then 0 else bit_and c.wanted c.idle) (eq-eqb c.waiting 0 is.waiting)
 
 -- ---- what moves
 

@@ -1,16 +1,15 @@
 -- A block that is awake, among all that decide in a cycle: its lanes are frozen, and the channels that its ports select are those that the
 -- network moves.
-use Rattle.std.proofs.Common.{◌≡◌, ◌≢◌, ℕ, zero, suc, ◌+◌, ◌*◌, ◌/◌, ◌%◌, ◌^◌, ◌<◌, ◌≤◌, Bool, true, false, List, [], ◌∷◌, map, refl, ap, ap₂, sym, ◌∙◌, subst, arith, inl, inr}
+use Rattle.std.proofs.Common.{◌≡◌, ℕ, zero, suc, ◌+◌, ◌*◌, ◌/◌, ◌%◌, ◌<◌, ◌≤◌, Bool, true, false, List, refl, ap, ap₂, sym, ◌∙◌, subst, arith, inl, inr}
 use Rattle.std.specs.Prelude.{◌⊎◌, ◌&&◌, ◌||◌, min, nat_lt, slice_index}
-use Rattle.std.proofs.lemmas.Bool.{cases_Bool, cases_lt, le-ltb, lt-ltb, true≢false, false≢true}
+use Rattle.std.proofs.lemmas.Bool.{cases_lt, le-ltb, lt-ltb, false≢true}
 use Rattle.std.proofs.lemmas.Nat.{div-add-mod'}
 use Rattle.noc_topo.specs.Shape.{nodes}
 use Rattle.noc_packet.specs.Set.{has_bit}
 use Rattle.noc_packet.proofs.SetLemmas.{has_bit-zero}
 use Rattle.noc_vc.specs.declared.input.InputState.{InputState}
-use Rattle.noc_vc.specs.declared.input.InputState.TheVariants.{Active}
 use Rattle.noc_router.specs.Members.{AreBelow}
-use Rattle.noc_router.specs.View.{Site, View, first_flit, is_tail, size_of, view_input}
+use Rattle.noc_router.specs.View.{Site, first_flit, is_tail, size_of}
 use Rattle.noc_model.specs.declared.limits.TheConstants.{CYCLE_LIMIT}
 use Rattle.noc_model.specs.Good.{IsGoodSetup}
 use Rattle.noc_model.specs.Lockstep.{site_at}
@@ -18,10 +17,9 @@ use Rattle.noc_model.specs.Network.{Setup, size}
 use Rattle.noc_rows.specs.Carried.{WireWords}
 use Rattle.noc_rows.specs.Column.{Leads, ShowsPhase, place_of}
 use Rattle.noc_rows.specs.Frames.{IsFrame}
-use Rattle.noc_rows.specs.Moves.{ports_of, some_below, union_from}
+use Rattle.noc_rows.specs.Moves.{ports_of, some_below}
 use Rattle.noc_rows.specs.Opened.{IsLinked}
-use Rattle.noc_rows.specs.Passes.{lane_picked}
-use Rattle.noc_rows.specs.Rows.{column_at, marks_at, standing_at, word}
+use Rattle.noc_rows.specs.Rows.{column_at, marks_at, word}
 use Rattle.noc_rows.specs.Stages.{HasFrozen, selected_of}
 use Rattle.noc_rows.specs.Switched.{AreApart, HasFirst, HaveFirsts, in_words, moved_by}
 use Rattle.noc_rows.specs.Whole.{ShowsBlock}
@@ -39,10 +37,9 @@ use Rattle.noc_rows.proofs.LaneBlanks.{blank-selects}
 use Rattle.noc_rows.proofs.LaneNext.{LaneChosen, SendsBy, lane-frozen, lane-sent, of-lane, packet_of}
 use Rattle.noc_rows.proofs.LaneShows.{KeepsFrozen}
 use Rattle.noc_rows.proofs.LaneTargets.{lane-target-kept}
-use Rattle.noc_rows.proofs.LaneWires.{lane-place}
 use Rattle.noc_rows.proofs.LeadLaws.{back-leads}
 use Rattle.noc_rows.proofs.NetworkLaws.{frozen-seen, good}
-use Rattle.noc_rows.proofs.NetworkMoves.{IsStillLane, is_moving, moves_at, moves-are, moves-below, one-move}
+use Rattle.noc_rows.proofs.NetworkMoves.{IsStillLane, is_moving, moves_at, moves-are, one-move}
 use Rattle.noc_rows.proofs.PutLemmas.{IsMover, bit-moves}
 use Rattle.noc_rows.proofs.UnionLemmas.{union-members}
 
@@ -62,9 +59,6 @@ some-true (suc n) q test l e = at (cases_lt q n) (λ u. some-true n q test u e)
 module _ (net : Setup) (setup : IsGoodSetup net) (n : ℕ) (few : n < CYCLE_LIMIT) (frame : Frame) (is_frame : IsFrame net.relation net.places frame) (starts : List Start) (room : ℕ) (enough : net.places ≤ room)
     (blocks : ℕ) (few_blocks : blocks ≤ 8) (covered : nodes net.relation.grid * 32 ≤ blocks * 1024) (b : ℕ) (old frozen : Block) (before after : Inbox) (sheet : Sheet)
     (bytes : (p : ℕ) → slice_index old.marks.first p < 256) (was : ShowsBlock net n frame starts room blocks b old sheet before) (froze : HasFrozen frame n room starts old frozen before after) where
-  abbrev spare : ℕ
-  spare = min blocks 8 * 1024
-
   far : nodes net.relation.grid * 32 ≤ min blocks 8 * 1024
   far = omega (arith, few_blocks, covered)
 
@@ -154,8 +148,6 @@ module _ (net : Setup) (setup : IsGoodSetup net) (n : ℕ) (few : n < CYCLE_LIMI
     -- .. and active, so it leads where it led before the grants
     pub awake-leads : (c : ℕ) → c < 1024 → in_words (moved_by (ports_of frame) (selected_of chosen)) c ≡ true → slice_index frozen.marks.target c ≡ slice_index chosen.marks.target c
     awake-leads c lc e =
-        let k : ℕ = c / 32 in
-        let i : ℕ = c % 32 in
         let low : c / 32 < 32 = omega (arith, lc) in
         let l = known (c / 32) (c % 32) low e in
         let small : c % 32 < size net = (sends (c / 32) low l).below (c % 32) e in

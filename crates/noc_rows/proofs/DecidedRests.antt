@@ -1,22 +1,19 @@
 -- A block that is asleep, among all that decide in a cycle: its lanes are frozen, and the network moves none of its flits.
-use Rattle.std.proofs.Common.{◌≡◌, ℕ, suc, ◌+◌, ◌*◌, ◌/◌, ◌%◌, ◌<◌, ◌≤◌, Bool, true, false, List, refl, ap, ap₂, sym, ◌∙◌, subst, arith, inl, inr}
-use Rattle.std.specs.Prelude.{◌⊎◌, ◌&&◌, min, nat_lt, slice_index}
+use Rattle.std.proofs.Common.{◌≡◌, ℕ, suc, ◌+◌, ◌*◌, ◌/◌, ◌%◌, ◌<◌, ◌≤◌, true, false, List, ap, sym, ◌∙◌, subst, arith, inl, inr}
+use Rattle.std.specs.Prelude.{◌⊎◌, ◌&&◌, min}
 use Rattle.std.proofs.lemmas.Bool.{cases_lt, le-ltb, lt-ltb, false≢true}
 use Rattle.noc_topo.specs.Shape.{nodes}
 use Rattle.noc_packet.specs.Set.{has_bit}
 use Rattle.noc_packet.proofs.SetLemmas.{has_bit-zero}
 use Rattle.noc_vc.specs.Input.{is_idle_phase}
 use Rattle.noc_vc.specs.declared.input.InputState.{InputState}
-use Rattle.noc_vc.specs.declared.input.InputState.TheVariants.{Active}
 use Rattle.noc_router.specs.View.{Site, View, size_of, view_after_inject, view_input}
 use Rattle.noc_model.specs.Good.{IsGoodSetup}
 use Rattle.noc_model.specs.Halves.{IsSilent}
-use Rattle.noc_model.specs.Lockstep.{site_at, view_at}
+use Rattle.noc_model.specs.Lockstep.{view_at}
 use Rattle.noc_model.specs.Network.{Setup, size}
 use Rattle.noc_model.proofs.ViewLemmas.{view_at-seen}
-use Rattle.noc_rows.specs.Column.{place_of}
 use Rattle.noc_rows.specs.Frames.{IsFrame}
-use Rattle.noc_rows.specs.Opened.{IsLinked}
 use Rattle.noc_rows.specs.Whole.{IsQuiet, ShowsBlock}
 use Rattle.noc_rows.specs.declared.block.Block.{Block}
 use Rattle.noc_rows.specs.declared.frame.Frame.{Frame}
@@ -37,9 +34,6 @@ module _ (net : Setup) (setup : IsGoodSetup net) (n : ℕ) (frame : Frame) (is_f
   far = omega (arith, few_blocks, covered)
 
   module _ (k : ℕ) (low : k < 32) (l : b * 32 + k < nodes net.relation.grid) where
-    abbrev r : ℕ
-    r = b * 32 + k
-
     asleep : IsAsleep (suc n) (view_at net n (b * 32 + k))
     asleep = lane-asleep net setup n (b * 32 + k) l room starts block sheet inbox k (suc n) (was.routers k low l) (rests k low) (quiet.flits k low) (quiet.credits k low)
 

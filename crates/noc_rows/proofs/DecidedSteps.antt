@@ -3,7 +3,7 @@ use Rattle.std.proofs.Common.{◌≡◌, ◌≢◌, ℕ, zero, suc, ◌+◌, ◌
 use Rattle.std.specs.Prelude.{◌⊎◌, ◌&&◌, ◌||◌, nat_eq, nat_lt, slice_index, if◌then◌else◌}
 use Rattle.std.proofs.lemmas.Bool.{and_parts, cases_Bool, cases_eq, cases_lt, eq-eqb, eqb-true, ne_eqb, le-ltb, lt-ltb, true≢false, false≢true}
 use Rattle.noc_rows.specs.Carried.{CanMove, HaveMoved, WireWords, first_of, left_of, wire_words, without_first}
-use Rattle.noc_rows.specs.Switched.{AreNext, MovesFlits, firsts_with, gone_with, in_words, words_with}
+use Rattle.noc_rows.specs.Switched.{AreNext, MovesFlits, firsts_with, gone_with, in_words}
 use Rattle.noc_rows.specs.Wires.{inbox_at, ring_in, room_of}
 use Rattle.noc_rows.specs.declared.marks.Marks.{Marks}
 use Rattle.noc_rows.specs.declared.wires.Inbox.{Inbox}

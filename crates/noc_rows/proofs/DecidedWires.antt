@@ -1,9 +1,9 @@
 -- All that decide in a cycle: once they have, the rings and the wires of the blocks are those of the network's next count.
-use Rattle.std.proofs.Common.{◌≡◌, ◌≢◌, ℕ, zero, suc, ◌+◌, ◌*◌, ◌/◌, ◌%◌, ◌^◌, ◌<◌, ◌≤◌, Bool, true, false, List, [], ◌∷◌, length, get_or, Option, Some, None, refl, ap, ap₂, sym, ◌∙◌, subst, arith, inl, inr}
+use Rattle.std.proofs.Common.{◌≡◌, ℕ, zero, suc, ◌+◌, ◌*◌, ◌/◌, ◌%◌, ◌^◌, ◌<◌, ◌≤◌, Bool, true, false, List, [], ◌∷◌, length, get_or, Option, Some, None, refl, ap, ap₂, sym, ◌∙◌, subst, arith, inl, inr}
 use Rattle.std.specs.Prelude.{◌⊎◌, ◌&&◌, nat_lt, option_map, slice_get, slice_index, unwrap_or, if◌then◌else◌}
 use Rattle.std.proofs.lemmas.Bool.{and_parts, cases_Bool, cases_lt, le-ltb, lt-ltb, ltb-true, false≢true}
 use Rattle.std.proofs.lemmas.Option.{same_Some, slice_get-get_or, slice_get_within}
-use Rattle.noc_topo.specs.Shape.{nodes, ports}
+use Rattle.noc_topo.specs.Shape.{nodes}
 use Rattle.noc_packet.specs.Set.{has_bit}
 use Rattle.noc_packet.proofs.SetLemmas.{both_members, has_bit-above, has_bit-zero, zero_from_none}
 use Rattle.noc_packet.specs.declared.packet.Flit.{Flit}
@@ -212,9 +212,6 @@ module _ (net : Setup) (setup : IsGoodSetup net) (n : ℕ) (few : n < CYCLE_LIMI
         lane-ring room after (by_block first) b k i low u
         ∙ ap (ring_in room (inbox_at after b) (place_of k i)) (by-block first b k i low u ∙ ap (λ (xs : List ℕ). slice_index xs (place_of k i)) (list-of frozen (λ (y : Block). y.marks.first) b x.f x.f_is))
 
-    now_words : WireWords
-    now_words = wire_words room (decided.at b).inboxes.items (firsts_below now first b)
-
     ring-now : (k i : ℕ) → k < 32 → i < 32
         → (wire_words room (decided.at b).inboxes.items (firsts_below now first b)).ring (place_of (b * 32 + k) i)
         ≡ ring_in room (inbox_at (decided.at b).inboxes.items b) (place_of k i) (slice_index x.f.marks.first (place_of k i))
@@ -269,9 +266,6 @@ module _ (net : Setup) (setup : IsGoodSetup net) (n : ℕ) (few : n < CYCLE_LIMI
         let block : (b * 1024 + c) / 1024 ≡ b = omega (arith, l) in
         let channel : (b * 1024 + c) % 1024 ≡ c = omega (arith, l) in
         ap₂ (λ q e. slice_index (lists q) e) block channel
-
-    abbrev movers : ℕ → ℕ
-    movers = moved_by (ports_of frame) (selected_of d.chosen)
 
     wide : nodes net.relation.grid * 32 ≤ 1024 * length start.inboxes.items
     wide = let s = longer in omega (arith, s, covered)
@@ -395,10 +389,6 @@ module _ (net : Setup) (setup : IsGoodSetup net) (n : ℕ) (few : n < CYCLE_LIMI
 
   -- ---- after all of them
   module _ (fits : (b k : ℕ) → (word (inbox_at end.inboxes.items b).flits k < 2 ^ 32) × (word (inbox_at end.inboxes.items b).credits k < 2 ^ 32)) where
-    -- by place, where in its ring the first word is then
-    abbrev pub last_firsts : ℕ → ℕ
-    last_firsts p = firsts_below now first (length woke) p
-
     pub all-moved : HaveMoved (nodes net.relation.grid * 32) (is_moving net n) (by_block target) (by_block back) words (wire_words room end.inboxes.items (firsts_below now first (length woke)))
     all-moved =
         moved-same (nodes net.relation.grid * 32) (gone_below (is_moving net n) (length woke)) (is_moving net n) (by_block target) (by_block back) words

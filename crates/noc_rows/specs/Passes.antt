@@ -118,7 +118,7 @@ abbrev pub lane_heads : ℕ → Column → ℕ
 lane_heads filled c = less filled (bit_or c.waiting c.active)
 
 abbrev pub lane_asks : Column → ℕ
-lane_asks c = bit_and c.wanted c.idle
+lane_asks c = if nat_eq c.waiting 0 then 0 else bit_and c.wanted c.idle
 
 abbrev pub lane_ready : ℕ → Column → ℕ
 lane_ready filled c = bit_and (bit_and c.active filled) c.supplied

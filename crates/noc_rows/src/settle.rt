@@ -63,7 +63,8 @@ pub fn note_events(
             | standing.heads[j]
             | decided.granted[j]
             | decided.moved[j];
-        let last = if event != 0 { now } else { last_event[j] };
+        let before = last_event[j];
+        let last = if event != 0 { now } else { before };
         put(last_event, j, last);
     }
 }

@@ -32,7 +32,7 @@ pub fn stand(fields: Fields, lanes: &Lanes, filled: &Row, standing: &mut Standin
         let words = standing_of(fields, lane, filled[j]);
         standing.put(j, words);
         pending.heading |= alone_if(j, words.heads);
-        pending.asking |= alone_if(j, lane.wanted & lane.idle);
+        pending.asking |= alone_if(j, asked_for(lane));
     }
     pending
 }
@@ -47,5 +47,17 @@ fn standing_of(fields: Fields, lane: Lane, filled: u32) -> Standing
         heads: filled & !(lane.waiting | lane.active),
         ready,
         picked: fields.pick(ready, lane.ahead),
+    }
+}
+
+// The idle output channels that are wanted, where a channel waits.
+#[inline(always)]
+fn asked_for(lane: Lane) -> u32
+    ensures { result ≡ lane_asks (column_of lane) }
+{
+    if lane.waiting == 0 {
+        0
+    } else {
+        lane.wanted & lane.idle
     }
 }

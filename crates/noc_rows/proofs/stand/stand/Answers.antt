@@ -16,5 +16,6 @@ loop-j-preserved c =
     record {
       standing = passed-next _ _ _ _ _ j inv.standing (c.put.ensures.here ∙ words) c.put.ensures.others;
       heading = lanes-next _ _ _ j inv.heading (λ k. c.alone_if.ensures k ∙ ap (λ (w : Standing). nat_eq k j && not (nat_eq w.heads 0)) words);
-      asking = lanes-next _ _ _ j inv.asking (λ k. c.alone_if-in-loop-j.ensures k ∙ ap (λ (x : Column). nat_eq k j && not (nat_eq (lane_asks x) 0)) c.at-lane.ensures);
+      asking = lanes-next _ _ _ j inv.asking (λ k. c.alone_if-in-loop-j.ensures k
+          ∙ ap (λ w. nat_eq k j && not (nat_eq w 0)) (c.asked_for.ensures ∙ ap (λ (x : Column). lane_asks x) c.at-lane.ensures));
     }
