@@ -5,7 +5,8 @@
 //! (`specs/Passes.antt`). What few channels need, as a flit from the source, a grant, a head's route, a move or a tail,
 //! is done one by one; the contracts of these parts say router by router what the words and the counts then are
 //! (`specs/Arrive.antt`, `Grants.antt`, `Routed.antt`, `Moves.antt`, `Tallied.antt`). Laws in `proofs/*Laws.antt` say
-//! what this shows of a router's view. No contract joins them to a whole cycle yet.
+//! what this shows of a router's view. The passes over all blocks (`specs/Stages.antt`) make a whole cycle: rows that
+//! show a network at a count of cycles show it at the next (`IsRows`, `specs/Whole.antt`).
 #![tactic(auto)]
 
 mod allocate;

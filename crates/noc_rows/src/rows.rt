@@ -34,8 +34,9 @@ use std::alloc::Global;
 
 /// A network whose routers are in rows.
 ///
-/// Of its calls it is proved that they are safe and end, and of the parts of a cycle, as arrivals, grants, moves and
-/// counts, what they do to the words of each router. That it runs as the network does is not proved.
+/// It is proved to be the network of `noc_model` at its count of cycles (`IsRows` of `specs/Whole.antt`): rows that
+/// show a network at count n show it at count n + cycles once they have run, and the readers answer what the network's
+/// own readers answer.
 #[derive(Drop)]
 pub struct Rows {
     frame: Frame,
