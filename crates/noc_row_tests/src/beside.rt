@@ -105,7 +105,7 @@ fn run_all(alloc: Global, shapes: Range<usize>, turns: usize) -> Result<Tally, F
     Ok(tally)
 }
 
-/// .. of one shape.
+/// Networks of one shape are run.
 fn run_shape(
     alloc: Global,
     shape: usize,

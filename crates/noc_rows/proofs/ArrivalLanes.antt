@@ -13,12 +13,12 @@ use Rattle.noc_model.specs.Good.{IsGoodSetup}
 use Rattle.noc_model.specs.Lockstep.{site_at}
 use Rattle.noc_model.specs.Network.{Setup, size}
 use Rattle.noc_rows.specs.Column.{place_of, sends_by}
-use Rattle.noc_rows.specs.Frames.{IsFrame}
+use Rattle.noc_rows.specs.Frames.{IsFrameOf}
 use Rattle.noc_rows.specs.Moves.{ports_of, some_below}
 use Rattle.noc_rows.specs.Passes.{lane_picked}
 use Rattle.noc_rows.specs.Rows.{column_at, word}
 use Rattle.noc_rows.specs.Stages.{HasFrozen, selected_of}
-use Rattle.noc_rows.specs.Switched.{HaveReleased, in_words, moved_by}
+use Rattle.noc_rows.specs.Switched.{HaveReleased, in_words, selected_by_ports}
 use Rattle.noc_rows.specs.Whole.{ShowsBlock}
 use Rattle.noc_rows.specs.declared.block.Block.{Block}
 use Rattle.noc_rows.specs.declared.cycle.DecidedRows.{DecidedRows}
@@ -78,7 +78,7 @@ module _ (net : Setup) (setup : IsGoodSetup net) (n : ℕ) (small : size net ≤
   }
 
 -- ---- a block that is awake
-module _ (net : Setup) (setup : IsGoodSetup net) (n : ℕ) (few : n < CYCLE_LIMIT) (frame : Frame) (is_frame : IsFrame net.relation net.places frame) (starts : List Start) (room : ℕ) (enough : net.places ≤ room)
+module _ (net : Setup) (setup : IsGoodSetup net) (n : ℕ) (few : n < CYCLE_LIMIT) (frame : Frame) (is_frame : IsFrameOf net.relation net.places frame) (starts : List Start) (room : ℕ) (enough : net.places ≤ room)
     (blocks : ℕ) (few_blocks : blocks ≤ 8) (covered : nodes net.relation.grid * 32 ≤ blocks * 1024) (b : ℕ) (old frozen : Block) (before after : Inbox) (sheet : Sheet)
     (bytes : (p : ℕ) → slice_index old.marks.first p < 256) (was : ShowsBlock net n frame starts room blocks b old sheet before) (froze : HasFrozen frame n room starts old frozen before after)
     (chosen : Block) (keeps : KeepsFrozen frozen chosen) (has : (k : ℕ) → k < 32 → LaneChosen net frame room frozen chosen after (b * 32 + k) k) where
@@ -88,7 +88,7 @@ module _ (net : Setup) (setup : IsGoodSetup net) (n : ℕ) (few : n < CYCLE_LIMI
   -- a channel of a router is selected by a port where it moves and sends by it
   by-port : (k i q : ℕ) → k < 32 → b * 32 + k < nodes net.relation.grid → q < ports_of frame → i < size net
       → has_bit (selected_of chosen k q) i
-      ≡ (has_bit (moved_by (ports_of frame) (selected_of chosen) k) i && sends_by (frozen_of net n (b * 32 + k)).site.vcs q (view_input (frozen_of net n (b * 32 + k)) i).phase)
+      ≡ (has_bit (selected_by_ports (ports_of frame) (selected_of chosen) k) i && sends_by (frozen_of net n (b * 32 + k)).site.vcs q (view_input (frozen_of net n (b * 32 + k)) i).phase)
   by-port k i q low l lq u =
       lane-ports net setup n (b * 32 + k) l frame is_frame (min blocks 8 * 1024) far room starts frozen after k
       (linked-frozen net setup n few frame is_frame starts room enough blocks few_blocks covered b old frozen before after sheet bytes was froze k low l)
@@ -106,11 +106,11 @@ module _ (net : Setup) (setup : IsGoodSetup net) (n : ℕ) (few : n < CYCLE_LIMI
       let links = is_frame.links_are in
       omega (arith, many, grid, links)
 
-  moves-place : (k i : ℕ) → k < 32 → i < 32 → has_bit (moved_by (ports_of frame) (selected_of chosen) k) i ≡ is_moving net n (b * 1024 + (k * 32 + i))
+  moves-place : (k i : ℕ) → k < 32 → i < 32 → has_bit (selected_by_ports (ports_of frame) (selected_of chosen) k) i ≡ is_moving net n (b * 1024 + (k * 32 + i))
   moves-place k i low u =
       let lane : (k * 32 + i) / 32 ≡ k = omega (arith, u) in
       let channel : (k * 32 + i) % 32 ≡ i = omega (arith, u) in
-      sym (ap₂ (λ j c. has_bit (moved_by (ports_of frame) (selected_of chosen) j) c) lane channel)
+      sym (ap₂ (λ j c. has_bit (selected_by_ports (ports_of frame) (selected_of chosen) j) c) lane channel)
       ∙ awake-moves net setup n few frame is_frame starts room enough blocks few_blocks covered b old frozen before after sheet bytes was froze chosen keeps has (k * 32 + i) (omega (arith, low, u))
 
   -- what goes out is selected by the local port
@@ -118,7 +118,7 @@ module _ (net : Setup) (setup : IsGoodSetup net) (n : ℕ) (few : n < CYCLE_LIMI
   out-selected k i low g =
       let v = frozen_of net n (b * 32 + k) in
       let vcs : v.site.vcs ≡ net.relation.vcs = ap (λ (s : Site). s.vcs) (frozen-seen net setup n (b * 32 + k) g.known).site in
-      let moves : has_bit (moved_by (ports_of frame) (selected_of chosen) k) i ≡ true
+      let moves : has_bit (selected_by_ports (ports_of frame) (selected_of chosen) k) i ≡ true
       = moves-place k i low (out-below net setup n is_frame.few b k i g) ∙ out-moves net setup n is_frame.few b k i g in
       let sends : sends_by v.site.vcs frame.links (view_input v i).phase ≡ true
       = ap (sends_by v.site.vcs frame.links) g.mover.phase ∙ ap (λ w. nat_eq (g.mover.out / w) frame.links) vcs ∙ eq-eqb _ _ (g.port ∙ sym is_frame.links_are) in
@@ -127,7 +127,7 @@ module _ (net : Setup) (setup : IsGoodSetup net) (n : ℕ) (few : n < CYCLE_LIMI
   -- and what is selected by it goes out
   selected-out : (k i : ℕ) → k < 32 → i < 32 → has_bit (selected_of chosen k frame.links) i ≡ true → frame.links < ports_of frame → GoesOut net n (b * 32 + k) i
   selected-out k i low u e lq =
-      let moves : has_bit (moved_by (ports_of frame) (selected_of chosen) k) i ≡ true
+      let moves : has_bit (selected_by_ports (ports_of frame) (selected_of chosen) k) i ≡ true
       = union-members 0 (ports_of frame) (selected_of chosen k) i ∙ ap (λ x. has_bit 0 i || x) (some-true (ports_of frame) frame.links (λ q. has_bit (selected_of chosen k q) i) lq e) ∙ or-true (has_bit 0 i) in
       let parts = and_parts (nat_lt (b * 32 + k) (nodes net.relation.grid)) (has_bit (moves_at net n (b * 32 + k)) i)
       (sym (moving-place net setup n is_frame.few b k i u) ∙ sym (moves-place k i low u) ∙ moves) in
@@ -145,7 +145,7 @@ module _ (net : Setup) (setup : IsGoodSetup net) (n : ℕ) (few : n < CYCLE_LIMI
           let mover : IsMover (site_at net (b * 32 + k)) v i
           = subst (λ (s : Site). IsMover s v i) site
           (bit-moves net.relation v (moves_at net n (b * 32 + k)) (subst (λ (s : Site). 0 < s.vcs) (sym site) (good net setup).relation.table.some_vcs) (moves-are v) i within bit) in
-          let sends = (and_parts (has_bit (moved_by (ports_of frame) (selected_of chosen) k) i) (sends_by v.site.vcs frame.links (view_input v i).phase)
+          let sends = (and_parts (has_bit (selected_by_ports (ports_of frame) (selected_of chosen) k) i) (sends_by v.site.vcs frame.links (view_input v i).phase)
           (sym (by-port k i frame.links low l lq mover.channel) ∙ e)).1 in
           record {
             known = l;

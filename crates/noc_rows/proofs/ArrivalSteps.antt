@@ -35,7 +35,7 @@ module _ (net : Setup) (setup : IsGoodSetup net) (n : ℕ) (few : n < CYCLE_LIMI
         (puts b l).others p (inside b (omega (arith, l)))
         (λ k i u g last is. elsewhere (record { router = b * 32 + k; channel = i; goes = g; last = last; packet = is }) (let z : (b * 32 + k) / 32 ≡ b = omega (arith, u) in z))
 
-    -- .. and that out of which it goes has the cycle
+    -- the block out of which the tail goes has the cycle
     put-at : (x : TailOut net n p) → (b k : ℕ) → k < 32 → x.router ≡ b * 32 + k → b < blocks → slice_index (at (suc b)) p ≡ n
     put-at x b k u is l = at-router x.router is x.channel x.goes x.last x.packet
       where

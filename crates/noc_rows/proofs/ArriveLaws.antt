@@ -25,7 +25,7 @@ use Rattle.noc_rows.specs.Column.{Column, RouterMarks, IsColumn, IsTidy, ShowsHo
 use Rattle.noc_rows.specs.FlitWords.{flit_word}
 use Rattle.noc_rows.specs.Injected.{HasInjected, injected_to, injection_from, injection_in}
 use Rattle.noc_rows.specs.Passes.{AreOwners, frozen_column, lane_begins, lane_filled, lane_home, lane_injected, lane_landed, lane_raised}
-use Rattle.noc_rows.specs.Planes.{any_from, number_at, raised_by, words_of, wrong_from}
+use Rattle.noc_rows.specs.Planes.{any_from, plane_number, raised_by, words_of, wrong_from}
 use Rattle.noc_rows.specs.Source.{ShowsNext, ShowsQueue, ShowsSource, begun_source, due_of, sent_source}
 use Rattle.noc_rows.specs.Taken.{HasSize, HasTaken, credit_from, credited_by, flit_from, with_one}
 use Rattle.noc_rows.specs.declared.block.Source.{Source}
@@ -146,7 +146,7 @@ module _ (relation : Routes) (count : ℕ) (c : Column) (m : RouterMarks) (v : V
       (subst (λ (t : Site). t.places < 2 ^ count) (sym site) room)
       (subst (λ (t : Site). 0 < t.places) (sym site) some_place)
       (subst (λ (t : Site). (i : ℕ) → has_bit local i ≡ (nat_le (local_channel t 0) i && nat_lt i (size_of t))) (sym site) is-local)
-      (subst (λ (t : Site). (i : ℕ) → local_channel t 0 ≤ i → i < size_of t → number_at c.len i ≡ length (view_buffer w i)) (sym site) (λ i a l. (column.channels.inputs i l).len ∙ ap (λ (xs : List Flit). length xs) (sym (buffer_w i a l))))
+      (subst (λ (t : Site). (i : ℕ) → local_channel t 0 ≤ i → i < size_of t → plane_number c.len i ≡ length (view_buffer w i)) (sym site) (λ i a l. (column.channels.inputs i l).len ∙ ap (λ (xs : List Flit). length xs) (sym (buffer_w i a l))))
       (subst (λ (t : Site). (i : ℕ) → local_channel t 0 ≤ i → i < size_of t → has_bit c.waiting i ≡ is_waiting (view_input w i).phase) (sym site) (λ i a l. (column.channels.inputs i l).waiting ∙ ap is_waiting (sym (phase_w i l))))
       (subst (λ (t : Site). (i : ℕ) → local_channel t 0 ≤ i → i < size_of t → has_bit c.active i ≡ is_active (view_input w i).phase) (sym site) (λ i a l. (column.channels.inputs i l).active ∙ ap is_active (sym (phase_w i l))))
       (subst (λ (t : Site). (i : ℕ) → local_channel t 0 ≤ i → i < size_of t → length (view_buffer w i) ≤ t.places) (sym site) (λ i a l. subst (λ (xs : List Flit). length xs ≤ v.site.places) (sym (buffer_w i a l)) (tidy.lens i l)))
@@ -187,13 +187,13 @@ module _ (relation : Routes) (count : ℕ) (c : Column) (m : RouterMarks) (v : V
       ∙ with-one-length (with_one (view_buffer v i) (flit_from v.site.vcs 0 beats i)) (injected_to w (injection_in n w) i)
       ∙ ap₂ (λ a b. a + one_if b) (with-one-length (view_buffer v i) (flit_from v.site.vcs 0 beats i) ∙ ap (λ b. length (view_buffer v i) + one_if b) (sym (wires.comes i l))) (sym (went-is i l))
 
-  fitting : (i : ℕ) → i < size_of v.site → number_at c.len i + one_if (has_bit flits i) + one_if (has_bit went i) ≤ v.site.places
+  fitting : (i : ℕ) → i < size_of v.site → plane_number c.len i + one_if (has_bit flits i) + one_if (has_bit went i) ≤ v.site.places
   fitting i l = at (has_bit went i) refl
     where
-      was : number_at c.len i ≡ length (view_buffer v i)
+      was : plane_number c.len i ≡ length (view_buffer v i)
       was = (column.channels.inputs i l).len
 
-      at : (b : Bool) → has_bit went i ≡ b → number_at c.len i + one_if (has_bit flits i) + one_if (has_bit went i) ≤ v.site.places
+      at : (b : Bool) → has_bit went i ≡ b → plane_number c.len i + one_if (has_bit flits i) + one_if (has_bit went i) ≤ v.site.places
       at true e =
           let place = subst (λ (t : Site). length (view_buffer w i) < t.places) site (sent.place i e) in
           let same : length (view_buffer w i) ≡ length (view_buffer v i) = ap (λ (xs : List Flit). length xs) (buffer_w i (went-local i e).0 l) in
@@ -207,16 +207,16 @@ module _ (relation : Routes) (count : ℕ) (c : Column) (m : RouterMarks) (v : V
           omega (arith, left, comes, none, was)
 
   -- the length of a buffer
-  number_x : (i : ℕ) → number_at c.len i + one_if (has_bit flits i) + one_if (has_bit went i) < 2 ^ count
-      → number_at frozen.len i ≡ number_at c.len i + one_if (has_bit flits i) + one_if (has_bit went i)
+  number_x : (i : ℕ) → plane_number c.len i + one_if (has_bit flits i) + one_if (has_bit went i) < 2 ^ count
+      → plane_number frozen.len i ≡ plane_number c.len i + one_if (has_bit flits i) + one_if (has_bit went i)
   number_x i small =
       let parts = sent.parts i in
       let landed : one_if (has_bit (lane_landed (words_of count v.site.places) flits c) i) ≡ one_if (has_bit flits i) + one_if (has_bit (lane_injected (words_of count v.site.places) c) i) =
       ap one_if (either_members flits (lane_injected (words_of count v.site.places) c) i) ∙ apart (has_bit flits i) (has_bit (lane_injected (words_of count v.site.places) c) i) alone in
-      let raised : number_at (raised_by c.len (lane_landed (words_of count v.site.places) flits c)) i ≡ number_at c.len i + one_if (has_bit (lane_landed (words_of count v.site.places) flits c) i) =
-      raised-number c.len (lane_landed (words_of count v.site.places) flits c) i (subst (λ (k : ℕ). number_at c.len i + one_if (has_bit (lane_landed (words_of count v.site.places) flits c) i) < 2 ^ k) (sym column.words.len_bits) (omega (arith, landed, parts, small))) in
+      let raised : plane_number (raised_by c.len (lane_landed (words_of count v.site.places) flits c)) i ≡ plane_number c.len i + one_if (has_bit (lane_landed (words_of count v.site.places) flits c) i) =
+      raised-number c.len (lane_landed (words_of count v.site.places) flits c) i (subst (λ (k : ℕ). plane_number c.len i + one_if (has_bit (lane_landed (words_of count v.site.places) flits c) i) < 2 ^ k) (sym column.words.len_bits) (omega (arith, landed, parts, small))) in
       first-number (lowest begins) (raised_by c.len (lane_landed (words_of count v.site.places) flits c)) i long
-      (λ e. let none : number_at c.len i ≡ 0 = sent.vacant i e in
+      (λ e. let none : plane_number c.len i ≡ 0 = sent.vacant i e in
       let one : one_if (has_bit (lowest begins) i) ≡ 1 = ap one_if e in
       let goes : has_bit went i ≡ true = either-is (has_bit (lane_injected (words_of count v.site.places) c) i) (has_bit (lowest begins) i) (has_bit went i) parts ∙ ap (λ b. has_bit (lane_injected (words_of count v.site.places) c) i || b) e ∙ or-yes (has_bit (lane_injected (words_of count v.site.places) c) i) in
       let comes : one_if (has_bit flits i) ≡ 0 = ap one_if (comes-alone i goes) in
@@ -313,9 +313,9 @@ module _ (relation : Routes) (count : ℕ) (c : Column) (m : RouterMarks) (v : V
   went_below : AreBelow (size_of v.site) went
   went_below k e = (went-local k e).1
 
-  len_below_x : (i : ℕ) → size_of v.site ≤ i → number_at frozen.len i ≡ 0
+  len_below_x : (i : ℕ) → size_of v.site ≤ i → plane_number frozen.len i ≡ 0
   len_below_x i beyond =
-      let none : number_at c.len i ≡ 0 = column.channels.len_below i beyond in
+      let none : plane_number c.len i ≡ 0 = column.channels.len_below i beyond in
       let comes : one_if (has_bit flits i) ≡ 0 = ap one_if (not-member flits i wires.comes_below beyond) in
       let goes : one_if (has_bit went i) ≡ 0 = ap one_if (not-member went i went_below beyond) in
       number_x i (omega (arith, none, comes, goes, room, some_place)) ∙ omega (arith, none, comes, goes)
@@ -336,7 +336,7 @@ module _ (relation : Routes) (count : ℕ) (c : Column) (m : RouterMarks) (v : V
       active_below = subst (λ (t : Site). AreBelow (size_of t) c.active) (sym x_site) column.channels.active_below;
       idle_below = subst (λ (t : Site). AreBelow (size_of t) frozen.idle) (sym x_site) idle_below_x;
       draining_below = subst (λ (t : Site). AreBelow (size_of t) frozen.draining) (sym x_site) draining_below_x;
-      len_below = subst (λ (t : Site). (i : ℕ) → size_of t ≤ i → number_at frozen.len i ≡ 0) (sym x_site) len_below_x;
+      len_below = subst (λ (t : Site). (i : ℕ) → size_of t ≤ i → plane_number frozen.len i ≡ 0) (sym x_site) len_below_x;
     };
     turns = turns-kept c frozen m v x refl x_site (injects.arbiters ∙ ap (λ (y : View). y.arbiters) taken.rest) column.turns;
     marks = marks-kept c frozen m v x (credit_from v.site.vcs 0 beats) refl x_site phase_x output-is column.marks;
@@ -349,14 +349,14 @@ module _ (relation : Routes) (count : ℕ) (c : Column) (m : RouterMarks) (v : V
 
   -- ---- the channels with a flit
   filled-bit : (i : ℕ) → has_bit (bit_or (lane_filled (words_of count v.site.places) flits c) (lowest (lane_begins local n s.due c))) i
-      ≡ ((nat_lt 0 (number_at c.len i) || has_bit flits i) || has_bit went i)
+      ≡ ((nat_lt 0 (plane_number c.len i) || has_bit flits i) || has_bit went i)
   filled-bit i =
       either_members (lane_filled (words_of count v.site.places) flits c) (lowest (lane_begins local n s.due c)) i
       ∙ ap (λ b. b || has_bit (lowest (lane_begins local n s.due c)) i)
       (either_members (any_from 0 c.len) (lane_landed (words_of count v.site.places) flits c) i
       ∙ ap₂ (λ a b. a || b) (filled-members c.len i) (either_members flits (lane_injected (words_of count v.site.places) c) i))
-      ∙ assoc (nat_lt 0 (number_at c.len i)) (has_bit flits i) (has_bit (lane_injected (words_of count v.site.places) c) i) (has_bit (lowest (lane_begins local n s.due c)) i)
-      ∙ ap (λ b. (nat_lt 0 (number_at c.len i) || has_bit flits i) || b) (sym (either-is (has_bit (lane_injected (words_of count v.site.places) c) i) (has_bit (lowest (lane_begins local n s.due c)) i) (has_bit went i) (sent.parts i)))
+      ∙ assoc (nat_lt 0 (plane_number c.len i)) (has_bit flits i) (has_bit (lane_injected (words_of count v.site.places) c) i) (has_bit (lowest (lane_begins local n s.due c)) i)
+      ∙ ap (λ b. (nat_lt 0 (plane_number c.len i) || has_bit flits i) || b) (sym (either-is (has_bit (lane_injected (words_of count v.site.places) c) i) (has_bit (lowest (lane_begins local n s.due c)) i) (has_bit went i) (sent.parts i)))
     where
       assoc : (a b j l : Bool) → ((a || (b || j)) || l) ≡ ((a || b) || (j || l))
       assoc true b j l = refl

@@ -97,7 +97,7 @@ module _ (relation : Routes) (count : ℕ) (c : Column) (m : RouterMarks) (v w :
         (subst (λ (y : Input). ShowsInput (with_flits (words_of count v.site.places) came c) i (with_one (view_buffer v i) (flits i)) y) (sym (input-is i l))
         (landed-shows count c v.site.places came i (view_buffer v i) (view_input v i) (flits i) words came_fits (is i l) (let le = left i l in omega arith) (shows.inputs i l)))
 
-    -- .. and whether each holds a flit
+    -- whether each input channel holds a flit, once flits have come
     pub filled-arrived : (i : ℕ) → i < size_of v.site → has_bit (lane_filled (words_of count v.site.places) came c) i ≡ not (is_empty (view_buffer x i))
     filled-arrived i l =
         landed-fills count c v.site.places came i (view_buffer v i) (view_input v i) (flits i) (is i l) (shows.inputs i l) ∙ ap (λ xs. not (is_empty xs)) (sym (buffer-is i l))

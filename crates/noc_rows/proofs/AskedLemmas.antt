@@ -264,7 +264,7 @@ module _ (waiting rest idle t : ℕ) (set : ℕ → ℕ) (xs : List ℕ) (outs i
           beyond : bit_and (set t) idle ≡ 0 → (o : ℕ) → o < 32 → o ≢ trailing_zeros w32 (bit_and (set t) idle)
           beyond e o l same = let last : trailing_zeros w32 (bit_and (set t) idle) ≡ 32 = ap (trailing_zeros w32) e ∙ trailing_of_zero 32 in absurd (omega (arith, same, last, l))
 
-  -- .. in the words of the code
+  -- one channel more has asked, in the words of the code
   pub asks-stepped : (s bit low one : ℕ) → s ≡ set t → bit ≡ lowest rest → low ≡ lowest (bit_and s idle) → one ≡ (if nat_eq (bit_and s idle) 0 then 0 else bit)
       → AreAsks (λ k. has_bit waiting k && not (has_bit (bit_and rest (rest - 1)) k)) idle set
       (λ o. get_or (write xs (trailing_zeros w32 (bit_and s idle)) (bit_or (get_or xs (trailing_zeros w32 (bit_and s idle)) 0) bit)) o 0)

@@ -188,7 +188,7 @@ union-none base (suc n) words none each = or-both (union_from base n words) (wor
 pub none-moved : (base picked n : ℕ) (to turn : ℕ → ℕ) → base ≡ 0 → picked ≡ 0 → union_from base n (selected_by picked to turn) ≡ 0
 none-moved base picked n to turn none empty = union-none base n (selected_by picked to turn) none (λ q. selected-none picked to turn q empty)
 
--- .. by no output channel
+-- where none is picked, none moves by an output channel
 pub none-out : (base picked n : ℕ) (to turn taken : ℕ → ℕ) → base ≡ 0 → picked ≡ 0 → union_from base n (λ q. of_one (selected_by picked to turn q) taken) ≡ 0
 none-out base picked n to turn taken none empty =
     union-none base n (λ q. of_one (selected_by picked to turn q) taken) none (λ q. ap (λ w. of_one w taken) (selected-none picked to turn q empty))

@@ -11,7 +11,7 @@ use Rattle.noc_route.specs.Routes.{Routes}
 use Rattle.noc_model.specs.Lockstep.{starts_of}
 use Rattle.noc_rows.specs.Column.{place_of}
 use Rattle.noc_rows.specs.Grants.{leads_by}
-use Rattle.noc_rows.specs.Opened.{AreOpenBlocks, AreStartsOf, HasOpened, IsEmptyBlock, IsEndFrom, IsLinked, IsOpenBlock, KeepsLinks, LeadsOut, no_source, opened_source, starts_list}
+use Rattle.noc_rows.specs.Opened.{AreOpenBlocks, AreStartsOf, HasOpened, IsEmptyBlock, IsEndFrom, HasLinksOf, IsOpenBlock, KeepsLinks, LeadsOut, no_source, opened_source, starts_list}
 use Rattle.noc_rows.specs.Opening.{AreEmptyMarks, empty_column}
 use Rattle.noc_rows.specs.Rows.{column_at, marks_at, planes_of, word}
 use Rattle.noc_rows.specs.Source.{due_of, source_at, start_in}
@@ -63,8 +63,8 @@ module _ (relation : Routes) (frame : Frame) (packets : List Packet) (count : �
 
   -- ---- one router more
   module _ (starts : List Start) (n queue : ℕ) (old new : Block) (b : ℕ) (here : b ≡ n / 32) (router : n < nodes relation.grid) where
-    kept-links : (k : ℕ) → k < 32 → k ≢ n % 32 → KeepsLinks old new (n % 32) → IsLinked relation frame (min count 8 * 1024) old (b * 32 + k) k
-        → IsLinked relation frame (min count 8 * 1024) new (b * 32 + k) k
+    kept-links : (k : ℕ) → k < 32 → k ≢ n % 32 → KeepsLinks old new (n % 32) → HasLinksOf relation frame (min count 8 * 1024) old (b * 32 + k) k
+        → HasLinksOf relation frame (min count 8 * 1024) new (b * 32 + k) k
     kept-links k l apart keeps links =
         let lead : (q : ℕ) → q < 8 → slice_index new.marks.lead (k * 8 + q) ≡ slice_index old.marks.lead (k * 8 + q) =
         λ q lq. keeps.lead (k * 8 + q) (λ e. absurd (apart (omega (arith, e, lq)))) in
@@ -111,10 +111,10 @@ module _ (relation : Routes) (frame : Frame) (packets : List Packet) (count : �
         with-places : ℕ → ℕ → Source
         with-places d q = record { due = d; left = 0; queue = q; word = 0 }
 
-        links-by : (k : ℕ) → k < 32 → b * 32 + k < n + 1 → (k ≡ n % 32) ⊎ (k ≢ n % 32) → IsLinked relation frame (min count 8 * 1024) new (b * 32 + k) k
+        links-by : (k : ℕ) → k < 32 → b * 32 + k < n + 1 → (k ≡ n % 32) ⊎ (k ≢ n % 32) → HasLinksOf relation frame (min count 8 * 1024) new (b * 32 + k) k
         links-by k l few (inl e) =
             let r : n ≡ b * 32 + k = omega (arith, here, e) in
-            subst (λ r. IsLinked relation frame (min count 8 * 1024) new r k) r (subst (λ j. IsLinked relation frame (min count 8 * 1024) new n j) (sym e) (opened.links router))
+            subst (λ r. HasLinksOf relation frame (min count 8 * 1024) new r k) r (subst (λ j. HasLinksOf relation frame (min count 8 * 1024) new n j) (sym e) (opened.links router))
         links-by k l few (inr o) = kept-links k l o opened.others (before.links k l (omega (arith, few, here, o)))
 
         sources-by : (k : ℕ) → k < 32 → b * 32 + k < n + 1 → source_at new.sources (n % 32) ≡ opened_source packets n → (k ≡ n % 32) ⊎ (k ≢ n % 32)
@@ -124,7 +124,7 @@ module _ (relation : Routes) (frame : Frame) (packets : List Packet) (count : �
             ap (source_at new.sources) e ∙ source ∙ ap (opened_source packets) r
         sources-by k l few source (inr o) = opened.others.sources k o ∙ before.sources k l (omega (arith, few, here, o))
 
-  -- .. in another block
+  -- a router in another block is opened
   other-next : (n b : ℕ) (block : Block) → b ≢ n / 32 → IsOpenBlock relation frame packets count n b block → IsOpenBlock relation frame packets count (n + 1) b block
   other-next n b block other before = record {
     columns = before.columns;

@@ -10,11 +10,11 @@ use Rattle.noc_model.specs.Lockstep.{beats_at, beats_in, view_at}
 use Rattle.noc_model.specs.Network.{Setup, state_at}
 use Rattle.noc_rows.specs.Blank.{IsBlank}
 use Rattle.noc_rows.specs.Column.{ShowsWires, place_of}
-use Rattle.noc_rows.specs.Frames.{IsFrame}
+use Rattle.noc_rows.specs.Frames.{IsFrameOf}
 use Rattle.noc_rows.specs.Grants.{leads_by}
 use Rattle.noc_rows.specs.InRows.{ShowsRouter}
 use Rattle.noc_rows.specs.Moves.{ports_of}
-use Rattle.noc_rows.specs.Opened.{IsLinked, LeadsOut}
+use Rattle.noc_rows.specs.Opened.{HasLinksOf, LeadsOut}
 use Rattle.noc_rows.specs.Outlook.{least_below}
 use Rattle.noc_rows.specs.Rows.{column_at, marks_at, word}
 use Rattle.noc_rows.specs.Source.{source_at}
@@ -47,7 +47,7 @@ pub record ShowsInbox (net : Setup) (n room b : ℕ) (block : Block) (inbox : In
   pub flits : (k : ℕ) → k < 32 → nodes net.relation.grid ≤ b * 32 + k → word inbox.flits k ≡ 0
   pub credits : (k : ℕ) → k < 32 → nodes net.relation.grid ≤ b * 32 + k → word inbox.credits k ≡ 0
 
-module _ (net : Setup) (setup : IsGoodSetup net) (n : ℕ) (few : n < CYCLE_LIMIT) (frame : Frame) (is_frame : IsFrame net.relation net.places frame)
+module _ (net : Setup) (setup : IsGoodSetup net) (n : ℕ) (few : n < CYCLE_LIMIT) (frame : Frame) (is_frame : IsFrameOf net.relation net.places frame)
     (starts : List Start) (room : ℕ) (enough : net.places ≤ room)
     (blocks : ℕ) (few_blocks : blocks ≤ 8) (covered : nodes net.relation.grid * 32 ≤ blocks * 1024) (b : ℕ) (old frozen chosen moved new : Block)
     (before after : Inbox) (sheet next : Sheet) (start end : Wires)
@@ -105,7 +105,7 @@ module _ (net : Setup) (setup : IsGoodSetup net) (n : ℕ) (few : n < CYCLE_LIMI
   near-same = ap (λ (x : Block). x.near) concludes.rest ∙ ap (λ (x : Block). x.near) moves.rest ∙ ap (λ (x : Block). x.near) keeps.rest
       ∙ ap (λ (x : Block). x.near) froze.rest
 
-  links-stay : (k : ℕ) → k < 32 → b * 32 + k < nodes net.relation.grid → IsLinked net.relation frame (min blocks 8 * 1024) new (b * 32 + k) k
+  links-stay : (k : ℕ) → k < 32 → b * 32 + k < nodes net.relation.grid → HasLinksOf net.relation frame (min blocks 8 * 1024) new (b * 32 + k) k
   links-stay k low l =
       let linked = was.links k low l in
       record {
@@ -118,10 +118,10 @@ module _ (net : Setup) (setup : IsGoodSetup net) (n : ℕ) (few : n < CYCLE_LIMI
         near = λ q to port u e. ap (λ w. has_bit w (to / 32)) near-same ∙ linked.near q to port u e;
       }
 
-  linked-frozen : (k : ℕ) → k < 32 → b * 32 + k < nodes net.relation.grid → IsLinked net.relation frame (min blocks 8 * 1024) frozen (b * 32 + k) k
+  linked-frozen : (k : ℕ) → k < 32 → b * 32 + k < nodes net.relation.grid → HasLinksOf net.relation frame (min blocks 8 * 1024) frozen (b * 32 + k) k
   linked-frozen k low l =
       let linked = was.links k low l in
-      subst (λ (x : Block). IsLinked net.relation frame (min blocks 8 * 1024) x (b * 32 + k) k) (sym froze.rest)
+      subst (λ (x : Block). HasLinksOf net.relation frame (min blocks 8 * 1024) x (b * 32 + k) k) (sym froze.rest)
       (record { lead = linked.lead; back = linked.back; near = linked.near })
 
   frozen-lane : (k : ℕ) → k < 32 → b * 32 + k < nodes net.relation.grid

@@ -8,7 +8,7 @@ use Rattle.noc_model.specs.declared.limits.TheConstants.{CYCLE_LIMIT}
 use Rattle.noc_model.specs.Good.{IsGoodSetup}
 use Rattle.noc_model.specs.Network.{Setup}
 use Rattle.noc_rows.specs.Decided.{HasDecided}
-use Rattle.noc_rows.specs.Frames.{IsFrame}
+use Rattle.noc_rows.specs.Frames.{IsFrameOf}
 use Rattle.noc_rows.specs.Moves.{ports_of}
 use Rattle.noc_rows.specs.Stages.{HasConcluded, HasFrozen, HaveConcluded, HaveDecided, HaveFrozen, selected_of}
 use Rattle.noc_rows.specs.Switched.{HaveReleased}
@@ -46,7 +46,7 @@ pub record Rests (n : ℕ) (block : Block) (inbox : Inbox) : Type 0 where
 there : {X : Type 0} (xs : List X) (b : ℕ) (d : X) → b < length xs → slice_get xs b ≡ Some (get_or xs b d)
 there xs b d l = slice_get-get_or xs b d l
 
-module _ (net : Setup) (setup : IsGoodSetup net) (n : ℕ) (few : n < CYCLE_LIMIT) (frame : Frame) (is_frame : IsFrame net.relation net.places frame)
+module _ (net : Setup) (setup : IsGoodSetup net) (n : ℕ) (few : n < CYCLE_LIMIT) (frame : Frame) (is_frame : IsFrameOf net.relation net.places frame)
     (starts : List Start) (room : ℕ) (enough : net.places ≤ room)
     (woke frozen moved new : List Block) (before after : List Inbox) (start end : Wires) (sheets nexts : List Sheet) (near : ℕ)
     (few_blocks : length woke ≤ 8) (covered : nodes net.relation.grid * 32 ≤ length woke * 1024) (long : length woke ≤ length before)

@@ -17,7 +17,7 @@ use Rattle.noc_model.specs.Good.{IsGoodSetup}
 use Rattle.noc_model.specs.Lockstep.{seen_flits, seen_output, site_at}
 use Rattle.noc_model.specs.Network.{Setup, Located, size, arriving, buffer_of, count_in, credit_of, packet_at, frozen_at}
 use Rattle.noc_model.proofs.PlaceViews.{OutputCase, ejects, links, output-case, in-size, mod-below}
-use Rattle.noc_rows.specs.Carried.{WireWords, CanMove, HasFlit}
+use Rattle.noc_rows.specs.Carried.{WireWords, FlitsCanMove, HasFlit}
 use Rattle.noc_rows.specs.Column.{place_of}
 use Rattle.noc_rows.specs.FlitWords.{flit_word}
 use Rattle.noc_rows.proofs.FlitLaws.{FitsBits, flit-fits, frozen-flits}
@@ -105,7 +105,7 @@ module _ (net : Setup) (setup : IsGoodSetup net) (n : ℕ) (moved : ℕ → ℕ)
           omega (arith, ring, buffer, credit)
 
 pub can-move : (net : Setup) → IsGoodSetup net → (n : ℕ) (moved : ℕ → ℕ) (gone : ℕ → Bool) (target back : ℕ → ℕ) (s : WireWords) (room : ℕ)
-    → AreFrozenWires net n moved gone target back s → size net ≤ 31 → net.places ≤ room → CanMove room (nodes net.relation.grid * 32) gone target s
+    → AreFrozenWires net n moved gone target back s → size net ≤ 31 → net.places ≤ room → FlitsCanMove room (nodes net.relation.grid * 32) gone target s
 can-move net setup n moved gone target back s room are few places = record {
   flits = λ p e. has-flit net setup n moved gone target back s are few p (gone-is net setup n moved gone target back s are few p e);
   below = are.below;

@@ -12,7 +12,7 @@ use Rattle.noc_rows.specs.Column.{Column, RouterMarks, IsColumn, Leads}
 use Rattle.noc_rows.specs.Cycle.{AreTails, HasCycled, HasSwitched, Surroundings}
 use Rattle.noc_rows.specs.FlitWords.{FitsWord, flit_word}
 use Rattle.noc_rows.specs.Fields.{IsFields}
-use Rattle.noc_rows.specs.Frames.{IsFrame, IsPlaced}
+use Rattle.noc_rows.specs.Frames.{IsFrameOf, IsPlaced}
 use Rattle.noc_rows.specs.Grants.{Allocation}
 use Rattle.noc_rows.specs.Moves.{ports_of}
 use Rattle.noc_rows.specs.Opening.{AreSides}
@@ -33,13 +33,13 @@ module _ (net : Setup) (setup : IsGoodSetup net) (n r : ℕ) (l : r < nodes net.
   site-is : (frozen_view net setup n r l).site ≡ site_at net r
   site-is = (frozen-seen net setup n r l).site
 
-  ports-are : (frame : Frame) → IsFrame net.relation net.places frame → (ports_of frame ≡ ports net.relation.grid) × (ports net.relation.grid ≤ 8)
+  ports-are : (frame : Frame) → IsFrameOf net.relation net.places frame → (ports_of frame ≡ ports net.relation.grid) × (ports net.relation.grid ≤ 8)
   ports-are frame is_frame =
       let few = (good net setup).relation.table.grid.few_dimensions in
       let links = is_frame.links_are in
       (omega (arith, few, links), omega (arith, few))
 
-  pub still : (frame : Frame) (x : Surroundings) → IsFrame net.relation net.places frame → x.node ≡ r
+  pub still : (frame : Frame) (x : Surroundings) → IsFrameOf net.relation net.places frame → x.node ≡ r
       → ((o : ℕ) → o < size_of (frozen_view net setup n r l).site → Leads (frozen_view net setup n r l).site o (x.place o))
       → AreFilled (frozen_view net setup n r l) x.filled
       → ((i : ℕ) → i < size_of (frozen_view net setup n r l).site → x.ring i ≡ map flit_word (view_buffer (frozen_view net setup n r l) i))
@@ -71,7 +71,7 @@ module _ (net : Setup) (setup : IsGoodSetup net) (n r : ℕ) (l : r < nodes net.
 
   -- the words of a router that showed its frozen state show its view at the next count, once what the cycle decides has taken effect
   pub column-after : (frame : Frame) (x : Surroundings) (a b : Allocation) (routes routes_after : List ℕ) (e : Effects) (c : Column) (w : RouterMarks)
-      → n < CYCLE_LIMIT → IsFrame net.relation net.places frame → x.node ≡ r
+      → n < CYCLE_LIMIT → IsFrameOf net.relation net.places frame → x.node ≡ r
       → ((o : ℕ) → o < size_of (frozen_view net setup n r l).site → Leads (frozen_view net setup n r l).site o (x.place o))
       → IsColumn 5 a.column a.marks (frozen_view net setup n r l) → AreFilled (frozen_view net setup n r l) x.filled
       → ((i : ℕ) → i < size_of (frozen_view net setup n r l).site → x.ring i ≡ map flit_word (view_buffer (frozen_view net setup n r l) i))
@@ -90,7 +90,7 @@ module _ (net : Setup) (setup : IsGoodSetup net) (n r : ℕ) (l : r < nodes net.
       put : ShowsChosen net.relation x.filled a b (given net.relation frame x (frozen_view net setup n r l) (still frame x is_frame here leads fill rings tails) a b routes routes_after shows cycled.no_grant cycled.no_loss cycled.chosen).outs (frozen_view net setup n r l)
       put = choice net.relation frame x (frozen_view net setup n r l) (still frame x is_frame here leads fill rings tails) a b routes routes_after shows cycled.no_grant cycled.no_loss cycled.chosen
 
-  -- .. and so does its source
+  -- the source shows the view at the next count
   pub source-after : (starts : List Start) (s : Source) → n < CYCLE_LIMIT → ShowsSource starts s (frozen_view net setup n r l) → ShowsSource starts s (view_at net (suc n) r)
   source-after starts s few shows =
       subst (λ (v : View). ShowsSource starts s v) (next-count net setup n r l few)

@@ -82,7 +82,7 @@ module _ (number : ℕ) (Decides : ℕ → Block → Block → Wires → Wires �
           let stays = so_far.asleep b was (omega (arith, l, o)) g a in
           (write-elsewhere mid number b made o ∙ stays.0, then-before after (suc b) (omega (arith, l, o)) ∙ stays.1 ∙ sym (then-before after b (omega (arith, l, o))))
 
-  -- .. is asleep
+  -- block `number` is asleep
   pub decided-skip : (get_or mid number d).awake ≡ false → HaveDecidedTo (number + 1) Decides old mid before between
   decided-skip down = record {
     many = so_far.many;

@@ -16,12 +16,12 @@ use Rattle.noc_model.specs.Lockstep.{site_at}
 use Rattle.noc_model.specs.Network.{Setup, size}
 use Rattle.noc_rows.specs.Carried.{WireWords}
 use Rattle.noc_rows.specs.Column.{Leads, ShowsPhase, place_of}
-use Rattle.noc_rows.specs.Frames.{IsFrame}
+use Rattle.noc_rows.specs.Frames.{IsFrameOf}
 use Rattle.noc_rows.specs.Moves.{ports_of, some_below}
-use Rattle.noc_rows.specs.Opened.{IsLinked}
+use Rattle.noc_rows.specs.Opened.{HasLinksOf}
 use Rattle.noc_rows.specs.Rows.{column_at, marks_at, word}
 use Rattle.noc_rows.specs.Stages.{HasFrozen, selected_of}
-use Rattle.noc_rows.specs.Switched.{AreApart, HasFirst, HaveFirsts, in_words, moved_by}
+use Rattle.noc_rows.specs.Switched.{AreSelectedOnce, HasFirst, HaveFirsts, in_words, selected_by_ports}
 use Rattle.noc_rows.specs.Whole.{ShowsBlock}
 use Rattle.noc_rows.specs.Wires.{ring_in}
 use Rattle.noc_rows.specs.declared.block.Block.{Block}
@@ -56,7 +56,7 @@ some-true (suc n) q test l e = at (cases_lt q n) (λ u. some-true n q test u e)
     at (inl u) lower = ap (λ x. x || test n) (lower u)
     at (inr u) lower = let same : q ≡ n = omega (arith, l, u) in ap (λ x. some_below n test || x) (ap test (sym same) ∙ e) ∙ or-true (some_below n test)
 
-module _ (net : Setup) (setup : IsGoodSetup net) (n : ℕ) (few : n < CYCLE_LIMIT) (frame : Frame) (is_frame : IsFrame net.relation net.places frame) (starts : List Start) (room : ℕ) (enough : net.places ≤ room)
+module _ (net : Setup) (setup : IsGoodSetup net) (n : ℕ) (few : n < CYCLE_LIMIT) (frame : Frame) (is_frame : IsFrameOf net.relation net.places frame) (starts : List Start) (room : ℕ) (enough : net.places ≤ room)
     (blocks : ℕ) (few_blocks : blocks ≤ 8) (covered : nodes net.relation.grid * 32 ≤ blocks * 1024) (b : ℕ) (old frozen : Block) (before after : Inbox) (sheet : Sheet)
     (bytes : (p : ℕ) → slice_index old.marks.first p < 256) (was : ShowsBlock net n frame starts room blocks b old sheet before) (froze : HasFrozen frame n room starts old frozen before after) where
   far : nodes net.relation.grid * 32 ≤ min blocks 8 * 1024
@@ -66,10 +66,10 @@ module _ (net : Setup) (setup : IsGoodSetup net) (n : ℕ) (few : n < CYCLE_LIMI
   marks-frozen : frozen.marks ≡ old.marks
   marks-frozen = ap (λ (x : Block). x.marks) froze.rest
 
-  pub linked-frozen : (k : ℕ) → k < 32 → b * 32 + k < nodes net.relation.grid → IsLinked net.relation frame (min blocks 8 * 1024) frozen (b * 32 + k) k
+  pub linked-frozen : (k : ℕ) → k < 32 → b * 32 + k < nodes net.relation.grid → HasLinksOf net.relation frame (min blocks 8 * 1024) frozen (b * 32 + k) k
   linked-frozen k low l =
       let linked = was.links k low l in
-      subst (λ (x : Block). IsLinked net.relation frame (min blocks 8 * 1024) x (b * 32 + k) k) (sym froze.rest) (record { lead = linked.lead; back = linked.back; near = linked.near })
+      subst (λ (x : Block). HasLinksOf net.relation frame (min blocks 8 * 1024) x (b * 32 + k) k) (sym froze.rest) (record { lead = linked.lead; back = linked.back; near = linked.near })
 
   pub frozen-lane : (k : ℕ) → k < 32 → b * 32 + k < nodes net.relation.grid
       → IsFrozen 5 room starts (marks_at frozen.marks k) (λ i. slice_index frozen.marks.first (place_of k i)) frozen after k (frozen_of net n (b * 32 + k))
@@ -108,16 +108,16 @@ module _ (net : Setup) (setup : IsGoodSetup net) (n : ℕ) (few : n < CYCLE_LIMI
         (ap (λ (x : Block). word x.standing.picked k) keeps.rest ∙ ap (λ (s : Standing). s.picked) (froze.standing k low)) keeps.places.back
 
     -- those of a router are those that the network moves
-    moves-same : (k : ℕ) → k < 32 → b * 32 + k < nodes net.relation.grid → moved_by (ports_of frame) (selected_of chosen) k ≡ moves_at net n (b * 32 + k)
+    moves-same : (k : ℕ) → k < 32 → b * 32 + k < nodes net.relation.grid → selected_by_ports (ports_of frame) (selected_of chosen) k ≡ moves_at net n (b * 32 + k)
     moves-same k low l =
-        one-move (frozen_of net n (b * 32 + k)) (moved_by (ports_of frame) (selected_of chosen) k) (sends k low l).moves
-        (subst (λ (s : Site). AreBelow (size_of s) (moved_by (ports_of frame) (selected_of chosen) k)) (sym (same-site k l)) (sends k low l).below)
+        one-move (frozen_of net n (b * 32 + k)) (selected_by_ports (ports_of frame) (selected_of chosen) k) (sends k low l).moves
+        (subst (λ (s : Site). AreBelow (size_of s) (selected_by_ports (ports_of frame) (selected_of chosen) k)) (sym (same-site k l)) (sends k low l).below)
 
     -- those of a lane without a router are none
-    none-beyond : (k : ℕ) → k < 32 → nodes net.relation.grid ≤ b * 32 + k → moved_by (ports_of frame) (selected_of chosen) k ≡ 0
+    none-beyond : (k : ℕ) → k < 32 → nodes net.relation.grid ≤ b * 32 + k → selected_by_ports (ports_of frame) (selected_of chosen) k ≡ 0
     none-beyond k low beyond = blank-selects frame n room starts old frozen before after k low (omega (arith, few)) (was.blank k low beyond) froze chosen (ports_of frame) keeps
 
-    pub awake-moves : (c : ℕ) → c < 1024 → in_words (moved_by (ports_of frame) (selected_of chosen)) c ≡ is_moving net n (b * 1024 + c)
+    pub awake-moves : (c : ℕ) → c < 1024 → in_words (selected_by_ports (ports_of frame) (selected_of chosen)) c ≡ is_moving net n (b * 1024 + c)
     awake-moves c lc = at (cases_lt (b * 32 + c / 32) (nodes net.relation.grid))
       where
         low : c / 32 < 32
@@ -129,7 +129,7 @@ module _ (net : Setup) (setup : IsGoodSetup net) (n : ℕ) (few : n < CYCLE_LIMI
             let channel : (b * 1024 + c) % 32 ≡ c % 32 = omega arith in
             ap₂ (λ r i. nat_lt r (nodes net.relation.grid) && has_bit (moves_at net n r) i) router channel
 
-        at : (b * 32 + c / 32 < nodes net.relation.grid) ⊎ (nodes net.relation.grid ≤ b * 32 + c / 32) → in_words (moved_by (ports_of frame) (selected_of chosen)) c ≡ is_moving net n (b * 1024 + c)
+        at : (b * 32 + c / 32 < nodes net.relation.grid) ⊎ (nodes net.relation.grid ≤ b * 32 + c / 32) → in_words (selected_by_ports (ports_of frame) (selected_of chosen)) c ≡ is_moving net n (b * 1024 + c)
         at (inl l) =
             ap (λ w. has_bit w (c % 32)) (moves-same (c / 32) low l)
             ∙ sym (place ∙ ap (λ x. x && has_bit (moves_at net n (b * 32 + c / 32)) (c % 32)) (lt-ltb (b * 32 + c / 32) (nodes net.relation.grid) l))
@@ -138,15 +138,15 @@ module _ (net : Setup) (setup : IsGoodSetup net) (n : ℕ) (few : n < CYCLE_LIMI
             ∙ sym (place ∙ ap (λ x. x && has_bit (moves_at net n (b * 32 + c / 32)) (c % 32)) (le-ltb (b * 32 + c / 32) (nodes net.relation.grid) beyond))
 
     -- one that moves is a channel of a router
-    known : (k i : ℕ) → k < 32 → has_bit (moved_by (ports_of frame) (selected_of chosen) k) i ≡ true → b * 32 + k < nodes net.relation.grid
+    known : (k i : ℕ) → k < 32 → has_bit (selected_by_ports (ports_of frame) (selected_of chosen) k) i ≡ true → b * 32 + k < nodes net.relation.grid
     known k i low e = at (cases_lt (b * 32 + k) (nodes net.relation.grid))
       where
         at : (b * 32 + k < nodes net.relation.grid) ⊎ (nodes net.relation.grid ≤ b * 32 + k) → b * 32 + k < nodes net.relation.grid
         at (inl l) = l
         at (inr beyond) = absurd (false≢true (sym (ap (λ w. has_bit w i) (none-beyond k low beyond) ∙ has_bit-zero i) ∙ e))
 
-    -- .. and active, so it leads where it led before the grants
-    pub awake-leads : (c : ℕ) → c < 1024 → in_words (moved_by (ports_of frame) (selected_of chosen)) c ≡ true → slice_index frozen.marks.target c ≡ slice_index chosen.marks.target c
+    -- a channel that moves is active, so it leads where it led before the grants
+    pub awake-leads : (c : ℕ) → c < 1024 → in_words (selected_by_ports (ports_of frame) (selected_of chosen)) c ≡ true → slice_index frozen.marks.target c ≡ slice_index chosen.marks.target c
     awake-leads c lc e =
         let low : c / 32 < 32 = omega (arith, lc) in
         let l = known (c / 32) (c % 32) low e in
@@ -160,7 +160,7 @@ module _ (net : Setup) (setup : IsGoodSetup net) (n : ℕ) (few : n < CYCLE_LIMI
         let place : c / 32 * 32 + c % 32 ≡ c = div-add-mod' c 32 in
         sym (subst (λ p. slice_index chosen.marks.target p ≡ slice_index frozen.marks.target p) place kept)
 
-    pub awake-apart : AreApart (ports_of frame) (selected_of chosen)
+    pub awake-apart : AreSelectedOnce (ports_of frame) (selected_of chosen)
     awake-apart k i q s low lq ls e f =
         (sends k low (known k i low (union-members 0 (ports_of frame) (selected_of chosen k) i
         ∙ ap₂ (λ x y. x || y) (has_bit-zero i) (some-true (ports_of frame) q (λ p. has_bit (selected_of chosen k p) i) lq e)))).apart i q s lq ls e f
@@ -168,7 +168,7 @@ module _ (net : Setup) (setup : IsGoodSetup net) (n : ℕ) (few : n < CYCLE_LIMI
     -- the first flits of their rings
     pub awake-firsts : (start : WireWords)
         → ((k i : ℕ) → k < 32 → i < 32 → start.ring (b * 1024 + (k * 32 + i)) ≡ ring_in room after (place_of k i) (slice_index frozen.marks.first (place_of k i)))
-        → HaveFirsts b (moved_by (ports_of frame) (selected_of chosen)) start (λ k i. is_tail (first_flit (frozen_of net n (b * 32 + k)) i)) (λ k i. packet_of (first_flit (frozen_of net n (b * 32 + k)) i))
+        → HaveFirsts b (selected_by_ports (ports_of frame) (selected_of chosen)) start (λ k i. is_tail (first_flit (frozen_of net n (b * 32 + k)) i)) (λ k i. packet_of (first_flit (frozen_of net n (b * 32 + k)) i))
     awake-firsts start rings k i low u e =
         subst (λ ring. HasFirst ring (is_tail (first_flit (frozen_of net n (b * 32 + k)) i)) (packet_of (first_flit (frozen_of net n (b * 32 + k)) i))) (sym (rings k i low u))
         ((sends k low (known k i low e)).firsts i e)

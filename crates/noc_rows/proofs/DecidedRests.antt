@@ -13,7 +13,7 @@ use Rattle.noc_model.specs.Halves.{IsSilent}
 use Rattle.noc_model.specs.Lockstep.{view_at}
 use Rattle.noc_model.specs.Network.{Setup, size}
 use Rattle.noc_model.proofs.ViewLemmas.{view_at-seen}
-use Rattle.noc_rows.specs.Frames.{IsFrame}
+use Rattle.noc_rows.specs.Frames.{IsFrameOf}
 use Rattle.noc_rows.specs.Whole.{IsQuiet, ShowsBlock}
 use Rattle.noc_rows.specs.declared.block.Block.{Block}
 use Rattle.noc_rows.specs.declared.frame.Frame.{Frame}
@@ -27,7 +27,7 @@ use Rattle.noc_rows.proofs.NetworkLaws.{beats, frozen-seen}
 use Rattle.noc_rows.proofs.NetworkMoves.{IsStillLane, is_moving, moves_at, one-move}
 use Rattle.noc_rows.proofs.SleepLaws.{IsAsleep, all-silent, asleep-held}
 
-module _ (net : Setup) (setup : IsGoodSetup net) (n : ℕ) (frame : Frame) (is_frame : IsFrame net.relation net.places frame) (starts : List Start) (room : ℕ)
+module _ (net : Setup) (setup : IsGoodSetup net) (n : ℕ) (frame : Frame) (is_frame : IsFrameOf net.relation net.places frame) (starts : List Start) (room : ℕ)
     (blocks : ℕ) (few_blocks : blocks ≤ 8) (covered : nodes net.relation.grid * 32 ≤ blocks * 1024) (b : ℕ) (block : Block) (inbox : Inbox) (sheet : Sheet)
     (was : ShowsBlock net n frame starts room blocks b block sheet inbox) (rests : (k : ℕ) → k < 32 → IsResting block (suc n) k) (quiet : IsQuiet inbox) where
   far : nodes net.relation.grid * 32 ≤ min blocks 8 * 1024

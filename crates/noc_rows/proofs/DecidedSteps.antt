@@ -2,7 +2,7 @@
 use Rattle.std.proofs.Common.{◌≡◌, ◌≢◌, ℕ, zero, suc, ◌+◌, ◌*◌, ◌/◌, ◌%◌, ◌<◌, ◌≤◌, Bool, true, false, List, [], ◌∷◌, ◌++◌, length, refl, ap, ap₂, sym, ◌∙◌, subst, arith, inl, inr}
 use Rattle.std.specs.Prelude.{◌⊎◌, ◌&&◌, ◌||◌, nat_eq, nat_lt, slice_index, if◌then◌else◌}
 use Rattle.std.proofs.lemmas.Bool.{and_parts, cases_Bool, cases_eq, cases_lt, eq-eqb, eqb-true, ne_eqb, le-ltb, lt-ltb, true≢false, false≢true}
-use Rattle.noc_rows.specs.Carried.{CanMove, HaveMoved, WireWords, first_of, left_of, wire_words, without_first}
+use Rattle.noc_rows.specs.Carried.{FlitsCanMove, HaveMoved, WireWords, first_of, left_of, wire_words, without_first}
 use Rattle.noc_rows.specs.Switched.{AreNext, MovesFlits, firsts_with, gone_with, in_words}
 use Rattle.noc_rows.specs.Wires.{inbox_at, ring_in, room_of}
 use Rattle.noc_rows.specs.declared.marks.Marks.{Marks}
@@ -153,7 +153,7 @@ module _ (limit room many : ℕ) (all : ℕ → Bool) (target back : ℕ → ℕ
             at (Above l u e) = ap (λ x. if x then by_block now p else by_block first p) (l ∙ sym u)
 
     -- ---- a block of which some move
-    module _ (moved : ℕ → ℕ) (marks new : Marks) (can : CanMove room limit all target start) (within : limit ≤ 1024 * many)
+    module _ (moved : ℕ → ℕ) (marks new : Marks) (can : FlitsCanMove room limit all target start) (within : limit ≤ 1024 * many)
         (bytes : (c p : ℕ) → (slice_index (first c) p < 256) × (slice_index (now c) p < 256)) (firsts : marks.first ≡ first b) (nows : new.first ≡ now b)
         (are : (c : ℕ) → c < 1024 → in_words moved c ≡ all (b * 1024 + c)) (leads : (c : ℕ) → c < 1024 → in_words moved c ≡ true → target (b * 1024 + c) ≡ slice_index marks.target c)
         (returns : (c : ℕ) → c < 1024 → in_words moved c ≡ true → back (b * 1024 + c) ≡ slice_index marks.back c) where
@@ -210,7 +210,7 @@ module _ (limit room many : ℕ) (all : ℕ → Bool) (target back : ℕ → ℕ
       are-next = record {
         within = let m = have.many_are in omega (arith, m, within);
         bytes = byte;
-        can = subst (λ r. CanMove r limit all target start) (sym have.room_is) can;
+        can = subst (λ r. FlitsCanMove r limit all target start) (sym have.room_is) can;
         so_far =
             moved-firsts limit (gone_below all b) target back start room (room_of before.room) before.inboxes.items (firsts_below now first b) (firsts_with (firsts_below now first b) b marks.first)
             (sym have.room_is) with-marks have.moved;

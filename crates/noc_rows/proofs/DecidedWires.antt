@@ -12,18 +12,18 @@ use Rattle.noc_model.specs.declared.limits.TheConstants.{CYCLE_LIMIT}
 use Rattle.noc_model.specs.Good.{IsGoodSetup}
 use Rattle.noc_model.specs.Lockstep.{beats_at, beats_in, view_at}
 use Rattle.noc_model.specs.Network.{Setup, size, state_at}
-use Rattle.noc_rows.specs.Carried.{CanMove, HaveMoved, NoneTo, WireWords, wire_words}
+use Rattle.noc_rows.specs.Carried.{FlitsCanMove, HaveMoved, NoneTo, WireWords, wire_words}
 use Rattle.noc_rows.specs.Column.{ShowsWires, place_of}
 use Rattle.noc_rows.specs.Decided.{HasChosenIn, HasDecided}
 use Rattle.noc_rows.specs.FlitWords.{flit_word}
-use Rattle.noc_rows.specs.Frames.{IsFrame}
+use Rattle.noc_rows.specs.Frames.{IsFrameOf}
 use Rattle.noc_rows.specs.Grants.{leads_by, leads_to}
 use Rattle.noc_rows.specs.Moves.{ports_of}
 use Rattle.noc_rows.specs.Passes.{lane_heads}
 use Rattle.noc_rows.specs.Routed.{sets_by}
 use Rattle.noc_rows.specs.Rows.{column_at, word}
 use Rattle.noc_rows.specs.Stages.{HasFrozen, HaveConcluded, HaveDecided, HaveFrozen, selected_of}
-use Rattle.noc_rows.specs.Switched.{AreApart, AreNext, HaveReleased, in_words, moved_by}
+use Rattle.noc_rows.specs.Switched.{AreSelectedOnce, AreNext, HaveReleased, in_words, selected_by_ports}
 use Rattle.noc_rows.specs.Whole.{IsQuiet, IsTarget, ShowsBlock}
 use Rattle.noc_rows.specs.Wires.{inbox_at, ring_in, room_of}
 use Rattle.noc_rows.specs.declared.block.Block.{Block}
@@ -64,7 +64,7 @@ pub element : {X : Type 0} (xs : List X) (b : ℕ) → b < length xs → (x : X)
 element [] b l = absurd (omega (arith, l))
 element (x ∷ xs) b l = (get_or (x ∷ xs) b x, slice_get-get_or (x ∷ xs) b x l)
 
-module _ (net : Setup) (setup : IsGoodSetup net) (n : ℕ) (few : n < CYCLE_LIMIT) (frame : Frame) (is_frame : IsFrame net.relation net.places frame) (starts : List Start) (room : ℕ) (enough : net.places ≤ room)
+module _ (net : Setup) (setup : IsGoodSetup net) (n : ℕ) (few : n < CYCLE_LIMIT) (frame : Frame) (is_frame : IsFrameOf net.relation net.places frame) (starts : List Start) (room : ℕ) (enough : net.places ≤ room)
     (woke frozen moved : List Block) (before after : List Inbox) (start end : Wires) (sheets : List Sheet)
     (few_blocks : length woke ≤ 8) (covered : nodes net.relation.grid * 32 ≤ length woke * 1024) (long : length woke ≤ length before) (paired : length sheets ≡ length woke)
     (bytes : (b : ℕ) (block : Block) → slice_get woke b ≡ Some block → (p : ℕ) → slice_index block.marks.first p < 256)
@@ -161,7 +161,7 @@ module _ (net : Setup) (setup : IsGoodSetup net) (n : ℕ) (few : n < CYCLE_LIMI
   pub are-frozen : AreFrozenWires net n (moves_at net n) (is_moving net n) (by_block target) (by_block back) words
   are-frozen = network-wires net setup n room after first target back small lane-still
 
-  can : CanMove room (nodes net.relation.grid * 32) (is_moving net n) (by_block target) words
+  can : FlitsCanMove room (nodes net.relation.grid * 32) (is_moving net n) (by_block target) words
   can = can-move net setup n (moves_at net n) (is_moving net n) (by_block target) (by_block back) words room are-frozen small enough
 
   first-bytes : (b p : ℕ) → slice_index (first b) p < 256
@@ -276,37 +276,37 @@ module _ (net : Setup) (setup : IsGoodSetup net) (n : ℕ) (few : n < CYCLE_LIMI
     nows-are : x.m.marks.first ≡ now b
     nows-are = sym (list-of moved (λ (y : Block). y.marks.first) b x.m x.m_is)
 
-    moving-are : (c : ℕ) → c < 1024 → in_words (moved_by (ports_of frame) (selected_of d.chosen)) c ≡ is_moving net n (b * 1024 + c)
+    moving-are : (c : ℕ) → c < 1024 → in_words (selected_by_ports (ports_of frame) (selected_of d.chosen)) c ≡ is_moving net n (b * 1024 + c)
     moving-are =
         awake-moves net setup n few frame is_frame starts room enough (length woke) few_blocks covered b x.w x.f (inbox_at before b) (inbox_at after b) x.sheet (bytes b x.w x.w_is) (shown b x) (freezes b x awake)
         d.chosen keeps frozen-chosen
 
-    leads-are : (c : ℕ) → c < 1024 → in_words (moved_by (ports_of frame) (selected_of d.chosen)) c ≡ true → by_block target (b * 1024 + c) ≡ slice_index d.chosen.marks.target c
+    leads-are : (c : ℕ) → c < 1024 → in_words (selected_by_ports (ports_of frame) (selected_of d.chosen)) c ≡ true → by_block target (b * 1024 + c) ≡ slice_index d.chosen.marks.target c
     leads-are c l e =
         in-block target c l ∙ ap (λ (xs : List ℕ). slice_index xs c) (list-of frozen (λ (y : Block). y.marks.target) b x.f x.f_is)
         ∙ awake-leads net setup n few frame is_frame starts room enough (length woke) few_blocks covered b x.w x.f (inbox_at before b) (inbox_at after b) x.sheet (bytes b x.w x.w_is) (shown b x) (freezes b x awake)
         d.chosen keeps frozen-chosen c l e
 
-    backs-are : (c : ℕ) → c < 1024 → in_words (moved_by (ports_of frame) (selected_of d.chosen)) c ≡ true → by_block back (b * 1024 + c) ≡ slice_index d.chosen.marks.back c
+    backs-are : (c : ℕ) → c < 1024 → in_words (selected_by_ports (ports_of frame) (selected_of d.chosen)) c ≡ true → by_block back (b * 1024 + c) ≡ slice_index d.chosen.marks.back c
     backs-are c l e =
         in-block back c l ∙ ap (λ (xs : List ℕ). slice_index xs c) (list-of frozen (λ (y : Block). y.marks.back) b x.f x.f_is ∙ sym keeps.places.back)
 
-    apart-are : AreApart (ports_of frame) (selected_of d.chosen)
+    apart-are : AreSelectedOnce (ports_of frame) (selected_of d.chosen)
     apart-are =
         awake-apart net setup n few frame is_frame starts room enough (length woke) few_blocks covered b x.w x.f (inbox_at before b) (inbox_at after b) x.sheet (bytes b x.w x.w_is) (shown b x) (freezes b x awake)
         d.chosen keeps frozen-chosen
 
-    pub block-next : AreNext b (moved_by (ports_of frame) (selected_of d.chosen)) d.chosen.marks (decided.at b) (nodes net.relation.grid * 32) (is_moving net n) (gone_below (is_moving net n) b)
+    pub block-next : AreNext b (selected_by_ports (ports_of frame) (selected_of d.chosen)) d.chosen.marks (decided.at b) (nodes net.relation.grid * 32) (is_moving net n) (gone_below (is_moving net n) b)
         (by_block target) (by_block back) (firsts_below now first b) words
     block-next =
         are-next (nodes net.relation.grid * 32) room (length start.inboxes.items) (is_moving net n) (by_block target) (by_block back) first now words b (decided.at b) have
-        (moved_by (ports_of frame) (selected_of d.chosen)) d.chosen.marks x.m.marks can wide (λ c p. (first-bytes c p, later-bytes c p)) firsts-are nows-are moving-are leads-are backs-are
+        (selected_by_ports (ports_of frame) (selected_of d.chosen)) d.chosen.marks x.m.marks can wide (λ c p. (first-bytes c p, later-bytes c p)) firsts-are nows-are moving-are leads-are backs-are
 
     -- then those of the blocks up to this one have moved
     pub block-moved : Moved (suc b) (decided.at (suc b))
     block-moved =
         moved-to-next (nodes net.relation.grid * 32) room (length start.inboxes.items) (is_moving net n) (by_block target) (by_block back) first now words b (decided.at b) have
-        (moved_by (ports_of frame) (selected_of d.chosen)) d.chosen.marks x.m.marks can wide (λ c p. (first-bytes c p, later-bytes c p)) firsts-are nows-are moving-are leads-are backs-are
+        (selected_by_ports (ports_of frame) (selected_of d.chosen)) d.chosen.marks x.m.marks can wide (λ c p. (first-bytes c p, later-bytes c p)) firsts-are nows-are moving-are leads-are backs-are
         (decided.at (suc b)) (d.moved.flits apart-are) (ap (λ (w : Wires). w.room) d.moved.wires) d.moved.inboxes
 
     ports-are : ports_of frame ≡ frame.links + 1
@@ -514,7 +514,7 @@ module _ (net : Setup) (setup : IsGoodSetup net) (n : ℕ) (few : n < CYCLE_LIMI
             (lt-ltb (place_of (b * 32 + k) i / 1024) (length woke) (let r = in_range in omega (arith, at, r)))
             ∙ by-block now b k i low u ∙ ap (λ (xs : List ℕ). slice_index xs (place_of k i)) (list-of moved (λ (y : Block). y.marks.first) b m is)
 
-    -- .. where the blocks have concluded
+    -- what the wires show where the blocks have concluded
     pub wires-decided : (new : List Block) (nexts : List Sheet) (near : ℕ) → HaveConcluded frame n near moved new sheets nexts
         → (b : ℕ) (block : Block) → slice_get new b ≡ Some block → ShowsInbox net (suc n) room b block (inbox_at end.inboxes.items b)
     wires-decided new nexts near concluded b block is = by x.m.awake refl

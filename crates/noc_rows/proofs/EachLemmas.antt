@@ -69,7 +69,7 @@ module _ (A : Type 0) (P : ℕ → A → Type 0) (old : ℕ → A) (set : ℕ) w
   pub each-all : (now : ℕ → A) (rest : ℕ) → rest ≡ 0 → IsEach A P old now set rest → (k : ℕ) → has_bit set k ≡ true → P k (now k)
   each-all now rest none each k e = each.done k e (ap (λ x. has_bit x k) none ∙ has_bit-zero k)
 
--- .. where P says what each is
+-- after the last one, each has what P says
 pub each-is : (A : Type 0) (f old now : ℕ → A) (set rest : ℕ) → rest ≡ 0 → IsEach A (λ k x. x ≡ f k) old now set rest → (k : ℕ) → (has_bit set k ≡ false → old k ≡ f k) → now k ≡ f k
 each-is A f old now set rest none each k same = at (has_bit set k) refl
   where

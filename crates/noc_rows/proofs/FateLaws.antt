@@ -28,7 +28,7 @@ use Rattle.noc_rows.specs.Cycle.{HasSwitched, Surroundings, chosen_by, single_in
 use Rattle.noc_rows.specs.Grants.{Allocation, phase_granted, with_grant}
 use Rattle.noc_rows.specs.Moves.{dry_by, of_one, ports_of, rest_from, some_below, union_from}
 use Rattle.noc_rows.specs.Passes.{Effects, lane_heads, lane_no_credit, lane_no_flit, lane_no_idle_channel, lane_picked, lane_ready}
-use Rattle.noc_rows.specs.Planes.{more_than_one, number_at}
+use Rattle.noc_rows.specs.Planes.{more_than_one, plane_number}
 use Rattle.noc_rows.specs.declared.frame.Frame.{Frame}
 use Rattle.noc_rows.proofs.BitLemmas.{not_members, or_fits}
 use Rattle.noc_rows.proofs.ChosenLaws.{IsStill, ShowsChosen}
@@ -187,7 +187,7 @@ module _ (relation : Routes) (frame : Frame) (x : Surroundings) (v : View) (stil
           at false = small relation frame x v still a b outs shows put (chosen_by (lane_picked frame.fields x.filled a.column) b.marks q) (chosen-below relation frame x v still a b outs shows put q lq)
 
   -- the link channels with one credit at most
-  single-bit : (o : ℕ) → o < size_of v.site → has_bit (single_in frame.link_set a.column) o ≡ (not (nat_lt 1 (number_at a.column.credit o)) && is_some (view_output v o).credit)
+  single-bit : (o : ℕ) → o < size_of v.site → has_bit (single_in frame.link_set a.column) o ≡ (not (nat_lt 1 (plane_number a.column.credit o)) && is_some (view_output v o).credit)
   single-bit o l =
       both_members (bit_not w32 (more_than_one a.column.credit)) frame.link_set o
       ∙ ap₂ (λ p q. p && q)
@@ -242,11 +242,11 @@ module _ (relation : Routes) (frame : Frame) (x : Surroundings) (v : View) (stil
   pub says-supplied : (k : ℕ) → k < size_of v.site → SaysSupplied v (view_after_commit (decisions_of relation v) v) a.column e supplied dry k
   says-supplied k l = by (fate k l)
     where
-      last-credit : (o : ℕ) → has_bit e.moved k ≡ true → (view_input v k).phase ≡ Active o → has_bit dry k ≡ (not (nat_lt 1 (number_at a.column.credit o)) && is_some (view_output v o).credit)
+      last-credit : (o : ℕ) → has_bit e.moved k ≡ true → (view_input v k).phase ≡ Active o → has_bit dry k ≡ (not (nat_lt 1 (plane_number a.column.credit o)) && is_some (view_output v o).credit)
       last-credit o em ep =
           dry-bit k ∙ ap₂ (λ m (p : InputState). m && last_by p) em ep ∙ single-bit o (still.tidy.owned_below k o l ep)
 
-      one-left : (o : ℕ) → o < size_of v.site → has_bit dry k ≡ (not (nat_lt 1 (number_at a.column.credit o)) && is_some (view_output v o).credit)
+      one-left : (o : ℕ) → o < size_of v.site → has_bit dry k ≡ (not (nat_lt 1 (plane_number a.column.credit o)) && is_some (view_output v o).credit)
           → IfSome (view_output v o).credit (λ n. has_bit dry k ≡ not (nat_lt 1 n)) × ((view_output v o).credit ≡ None → has_bit dry k ≡ false)
       one-left o lo is = at (view_output v o).credit (shows.channels.outputs o lo).credit is
         where
@@ -258,10 +258,10 @@ module _ (relation : Routes) (frame : Frame) (x : Surroundings) (v : View) (stil
           drop true = refl
           drop false = refl
 
-          at : (credit : Option ℕ) → IfSome credit (λ n. number_at a.column.credit o ≡ n) → has_bit dry k ≡ (not (nat_lt 1 (number_at a.column.credit o)) && is_some credit)
+          at : (credit : Option ℕ) → IfSome credit (λ n. plane_number a.column.credit o ≡ n) → has_bit dry k ≡ (not (nat_lt 1 (plane_number a.column.credit o)) && is_some credit)
               → IfSome credit (λ n. has_bit dry k ≡ not (nat_lt 1 n)) × (credit ≡ None → has_bit dry k ≡ false)
-          at None h e = (tt, λ z. e ∙ drop (not (nat_lt 1 (number_at a.column.credit o))))
-          at (Some n) h e = (e ∙ turn (not (nat_lt 1 (number_at a.column.credit o))) ∙ ap (λ c. not (nat_lt 1 c)) h, λ z. absurd (true≢false (ap is_some z)))
+          at None h e = (tt, λ z. e ∙ drop (not (nat_lt 1 (plane_number a.column.credit o))))
+          at (Some n) h e = (e ∙ turn (not (nat_lt 1 (plane_number a.column.credit o))) ∙ ap (λ c. not (nat_lt 1 c)) h, λ z. absurd (true≢false (ap is_some z)))
 
       -- all credits of a free channel are there
       rich : (o : ℕ) (set : ℕ) → o < size_of v.site → slice_index_or (view_round v).grants o None ≡ Some k → has_credit (view_output (view_after_commit (decisions_of relation v) v) o) ≡ true

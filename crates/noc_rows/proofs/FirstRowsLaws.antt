@@ -13,11 +13,11 @@ use Rattle.noc_model.specs.Network.{Setup, Place, Source, arrival_in, opening_st
 use Rattle.noc_model.proofs.OpeningLemmas.{at-source}
 use Rattle.noc_rows.specs.Blank.{AreNone, IsBlank}
 use Rattle.noc_rows.specs.Column.{Column, place_of}
-use Rattle.noc_rows.specs.Frames.{IsFrame}
+use Rattle.noc_rows.specs.Frames.{IsFrameOf}
 use Rattle.noc_rows.specs.InRows.{ShowsRouter}
 use Rattle.noc_rows.specs.Opened.{AreOpenBlocks, AreOpenWires, IsOpenBlock, IsOpenInbox, starts_list}
 use Rattle.noc_rows.specs.Opening.{empty_column}
-use Rattle.noc_rows.specs.Outlook.{holding_in, some_below}
+use Rattle.noc_rows.specs.Outlook.{holding_in, is_some_below}
 use Rattle.noc_rows.specs.Rows.{column_at, planes_of, word}
 use Rattle.noc_rows.specs.Source.{source_at}
 use Rattle.noc_rows.specs.Tallied.{cycles_of, no_counts, sheet_counts}
@@ -36,12 +36,12 @@ use Rattle.noc_rows.proofs.OpeningWires.{opening-wires}
 
 -- ---- words in which nothing is
 -- no number below n passes
-none-below : (test : ℕ → Bool) (n : ℕ) → ((k : ℕ) → k < n → test k ≡ false) → false ≡ some_below test n
-unfolding some_below
+none-below : (test : ℕ → Bool) (n : ℕ) → ((k : ℕ) → k < n → test k ≡ false) → false ≡ is_some_below test n
+unfolding is_some_below
 none-below test zero none = refl
 none-below test (suc n) none =
-    let before : false ≡ some_below test n = none-below test n (λ k l. none k (omega (arith, l))) in
-    ap (λ b. b || false) before ∙ ap (λ b. some_below test n || b) (sym (none n (omega arith)))
+    let before : false ≡ is_some_below test n = none-below test n (λ k l. none k (omega (arith, l))) in
+    ap (λ b. b || false) before ∙ ap (λ b. is_some_below test n || b) (sym (none n (omega arith)))
 
 -- a network is what it is built from
 pub same-setup : (net : Setup) (relation : Routes) (places : ℕ) (packets : List Packet)
@@ -58,7 +58,7 @@ same-setup net relation places packets r n ps =
 -- what all rows before the first cycle are made of
 pub record AreFirstRows (net : Setup) (rows : Rows) : Type 0 where
   pub cycle : rows.cycle ≡ 0
-  pub frame : IsFrame net.relation net.places rows.frame
+  pub frame : IsFrameOf net.relation net.places rows.frame
   pub starts : rows.starts.items ≡ starts_list net.packets rows.frame.nodes
   pub blocks : AreOpenBlocks net.relation rows.frame net.packets rows.blocks.items
   pub sheet : Sheet
@@ -80,7 +80,7 @@ module _ (net : Setup) (setup : IsGoodSetup net) where
       at-source net p ((packet_at net p).length - 1) (l, (let some = sent.some_flit in omega (arith, some))) in
       subst (λ (place : Place). ShowsArrival NEVER (out_cycle place)) (sym tail) refl
 
-  module _ (frame : Frame) (made : IsFrame net.relation net.places frame) (count b : ℕ) (block : Block) (sheet : Sheet) (inbox : Inbox) (room : ℕ)
+  module _ (frame : Frame) (made : IsFrameOf net.relation net.places frame) (count b : ℕ) (block : Block) (sheet : Sheet) (inbox : Inbox) (room : ℕ)
       (counts : (j k : ℕ) → j < 32 → sheet_counts sheet j k ≡ no_counts) (cycles : cycles_of sheet ≡ 0)
       (opened : IsOpenBlock net.relation frame net.packets count frame.nodes b block) (none : IsOpenInbox inbox) where
     lane-opens : (k : ℕ) → k < 32 → b * 32 + k < nodes net.relation.grid

@@ -7,7 +7,7 @@ use Rattle.noc_packet.specs.declared.packet.Flit.{Flit}
 use Rattle.noc_packet.proofs.SetLemmas.{both_members, either_members}
 use Rattle.noc_vc.specs.Input.{Input, is_active, is_waiting, is_empty}
 use Rattle.noc_router.specs.Counts.{one_if}
-use Rattle.noc_rows.specs.Planes.{number_at, any_from, wrong_from, words_of}
+use Rattle.noc_rows.specs.Planes.{plane_number, any_from, wrong_from, words_of}
 use Rattle.noc_rows.specs.Taken.{with_one, landed_by}
 use Rattle.noc_rows.specs.Column.{Column, AreWords, ShowsInput}
 use Rattle.noc_rows.specs.Passes.{lane_injected, lane_landed, lane_filled, lane_free, with_flits}
@@ -16,7 +16,7 @@ use Rattle.noc_rows.proofs.PlaneLemmas.{raised-number, filled-members, wrong-mem
 
 -- the channels that get a flit
 pub landed-members : (count : ℕ) (c : Column) (places came i : ℕ) → AreWords count c → i < 32 → places < 2 ^ count
-    → has_bit (lane_landed (words_of count places) came c) i ≡ (has_bit came i || (has_bit c.injecting i && not (nat_eq (number_at c.len i) places)))
+    → has_bit (lane_landed (words_of count places) came c) i ≡ (has_bit came i || (has_bit c.injecting i && not (nat_eq (plane_number c.len i) places)))
 landed-members count c places came i words l room =
     either_members came (lane_injected (words_of count places) c) i
     ∙ ap (λ b. has_bit came i || b) (both_members c.injecting (wrong_from 0 c.len (words_of count places)) i ∙ ap (λ b. has_bit c.injecting i && b) (wrong-members c.len count places i words.len_bits l room))
@@ -48,14 +48,14 @@ pub landed-shows : (count : ℕ) (c : Column) (places came i : ℕ) (flits : Lis
     → ShowsInput c i flits input → ShowsInput (with_flits (words_of count places) came c) i (with_one flits f) (landed_by input f)
 landed-shows count c places came i flits input f words small here room shows =
     let more : one_if (has_bit (lane_landed (words_of count places) came c) i) ≡ one_if (is_some f) = ap one_if here in
-    let was : number_at c.len i ≡ length flits = shows.len in
+    let was : plane_number c.len i ≡ length flits = shows.len in
     record {
       waiting = shows.waiting ∙ ap is_waiting (sym (phase-kept input f));
       active = shows.active ∙ ap is_active (sym (phase-kept input f));
       len = raised-number c.len (lane_landed (words_of count places) came c) i (rw words.len_bits (omega arith)) ∙ omega (arith, with-one-length flits f);
     }
 
--- .. and whether it holds a flit then
+-- whether a buffer holds a flit, once one has landed
 pub landed-fills : (count : ℕ) (c : Column) (places came i : ℕ) (flits : List Flit) (input : Input) (f : Option Flit)
     → has_bit (lane_landed (words_of count places) came c) i ≡ is_some f → ShowsInput c i flits input
     → has_bit (lane_filled (words_of count places) came c) i ≡ not (is_empty (with_one flits f))
@@ -67,7 +67,7 @@ landed-fills count c places came i flits input f here shows =
 
 -- the local channels that hold nothing
 pub free-members : (count : ℕ) (c : Column) (local i : ℕ) → AreWords count c → i < 32
-    → has_bit (lane_free local c) i ≡ (has_bit local i && not ((has_bit c.waiting i || has_bit c.active i) || nat_lt 0 (number_at c.len i)))
+    → has_bit (lane_free local c) i ≡ (has_bit local i && not ((has_bit c.waiting i || has_bit c.active i) || nat_lt 0 (plane_number c.len i)))
 free-members count c local i words l =
     both_members local _ i
     ∙ ap (λ b. has_bit local i && b)

@@ -61,7 +61,7 @@ sides-are grid vcs few = record {
     fewer : local_port grid * vcs ≤ 31
     fewer = let m : local_port grid * vcs ≤ ports grid * vcs = mul-le-mul_right vcs (omega arith) in omega (arith, few, m)
 
--- .. by the number of ports
+-- the sides of a router, by the number of ports
 pub sides-by : (grid : Grid) (vcs count width links local : ℕ) → count ≡ ports grid → width ≡ vcs → count * width ≤ 31
     → links ≡ 2 ^ ((count - 1) * width) - 1 → local ≡ less (2 ^ (count * width) - 1) (2 ^ ((count - 1) * width) - 1) → AreSides grid vcs links local
 sides-by grid vcs count width links local ports_are vcs_are few links_are local_are =
@@ -77,7 +77,7 @@ sides-by grid vcs count width links local ports_are vcs_are few links_are local_
 pub same-each : (x j k : ℕ) → j < 32 → k < 32 → get_or (of_router (replicate 1024 x) j) k 0 ≡ x
 same-each x j k lj lk = entry-at (replicate 1024 x) j k lk ∙ get_or-replicate 1024 (j * 32 + k) x 0 (omega (arith, lj, lk))
 
--- .. by port
+-- what a router has by port, where each port of the block has the same
 pub same-port : (x j q : ℕ) → j < 32 → q < 8 → get_or (by_port (replicate 8 (replicate 32 x)) j) q 0 ≡ x
 same-port x j q lj lq =
     port-at (replicate 8 (replicate 32 x)) j q lq

@@ -19,7 +19,7 @@ use Rattle.noc_rows.specs.Bits.{lowest, negated}
 use Rattle.noc_rows.specs.Column.{Column, RouterMarks, AreWords, ShowsHolder, ShowsMarks, ShowsPhase, ShowsSending, ShowsTurns, sends_by}
 use Rattle.noc_rows.specs.Fields.{ShowsPointer}
 use Rattle.noc_rows.specs.Passes.{frozen_column, lane_home, lane_injected, lane_landed, with_first}
-use Rattle.noc_rows.specs.Planes.{ArePlanes, number_at, raised_by, words_of, wrong_from}
+use Rattle.noc_rows.specs.Planes.{ArePlanes, plane_number, raised_by, words_of, wrong_from}
 use Rattle.noc_rows.specs.Taken.{credited_by, flit_from}
 use Rattle.noc_rows.proofs.BitLemmas.{and_fits, less_fits, or_fits, xor_fits}
 use Rattle.noc_rows.proofs.PlaneLemmas.{raised-fits, raised-length}
@@ -38,15 +38,15 @@ pub first-fits : (bit : ℕ) (planes : List ℕ) → ArePlanes planes → bit < 
 first-fits bit [] fits small = fits
 first-fits bit (plane ∷ planes) fits small = (or_fits plane bit fits.0 small, fits.1)
 
-pub first-number : (bit : ℕ) (planes : List ℕ) (i : ℕ) → 0 < length planes → (has_bit bit i ≡ true → number_at planes i ≡ 0) → number_at (with_first bit planes) i ≡ number_at planes i + one_if (has_bit bit i)
+pub first-number : (bit : ℕ) (planes : List ℕ) (i : ℕ) → 0 < length planes → (has_bit bit i ≡ true → plane_number planes i ≡ 0) → plane_number (with_first bit planes) i ≡ plane_number planes i + one_if (has_bit bit i)
 first-number bit [] i some none = absurd (omega arith)
-first-number bit (plane ∷ planes) i some none = ap (λ b. one_if b + 2 * number_at planes i) (either_members plane bit i) ∙ at (has_bit plane i) (has_bit bit i) none
+first-number bit (plane ∷ planes) i some none = ap (λ b. one_if b + 2 * plane_number planes i) (either_members plane bit i) ∙ at (has_bit plane i) (has_bit bit i) none
   where
-    at : (a b : Bool) → (b ≡ true → one_if a + 2 * number_at planes i ≡ 0) → one_if (a || b) + 2 * number_at planes i ≡ one_if a + 2 * number_at planes i + one_if b
+    at : (a b : Bool) → (b ≡ true → one_if a + 2 * plane_number planes i ≡ 0) → one_if (a || b) + 2 * plane_number planes i ≡ one_if a + 2 * plane_number planes i + one_if b
     at true true h = absurd (let z = h refl in omega (arith, z))
     at false true h = let z = h refl in omega (arith, z)
-    at true false h = sym (add-zero (1 + 2 * number_at planes i))
-    at false false h = sym (add-zero (0 + 2 * number_at planes i))
+    at true false h = sym (add-zero (1 + 2 * plane_number planes i))
+    at false false h = sym (add-zero (0 + 2 * plane_number planes i))
 
 -- ---- what stays
 pub phase-same : (c d : Column) (m : RouterMarks) (site : Site) (i : ℕ) (phase : InputState) → d.wanted ≡ c.wanted → ShowsPhase c m site i phase → ShowsPhase d m site i phase

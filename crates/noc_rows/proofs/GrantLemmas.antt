@@ -30,7 +30,7 @@ first-among requests mask k e = among (in_turn-among (nat_eq (bit_and requests m
     among (inl h) = h
     among (inr h) = (and_parts (has_bit requests k) (has_bit mask k) (sym (both_members requests mask k) ∙ h)).0
 
--- .. one alone, where there are requests
+-- the first in turn is one alone, where there are requests
 pub first-is : (requests mask : ℕ) → 0 < requests → requests < 2 ^ 32 → (0 < in_turn requests mask) × (in_turn requests mask < 2 ^ 32) × (first_bit requests mask ≡ 2 ^ trailing_zeros w32 (in_turn requests mask))
 first-is requests mask some fits = let p = parts (cases_eq (bit_and requests mask) 0) in (p.0, p.1, lowest-is (in_turn requests mask) p.0 p.1)
   where

@@ -21,7 +21,7 @@ use Rattle.noc_rows.specs.Column.{Column, AreWords, ShowsSending}
 use Rattle.noc_rows.specs.FlitWords.{flit_word}
 use Rattle.noc_rows.specs.Injected.{injection_from, injected_to}
 use Rattle.noc_rows.specs.Passes.{injecting_after, lane_begins, lane_free, lane_injected}
-use Rattle.noc_rows.specs.Planes.{any_from, number_at, words_of, wrong_from}
+use Rattle.noc_rows.specs.Planes.{any_from, plane_number, words_of, wrong_from}
 use Rattle.noc_rows.specs.Source.{ShowsNext, ShowsQueue, ShowsSource, begun_source, due_of, first_source, next_source, sent_source, start_in}
 use Rattle.noc_rows.specs.declared.block.Source.{Source}
 use Rattle.noc_rows.specs.declared.starts.Start.{Start}
@@ -52,7 +52,7 @@ power-some k = ne_eqb (2 ^ k) 0 (λ e. absurd (true≢false (sym (power-members 
 pub record HasSent (c : Column) (starts : List Start) (s : Source) (w x : View) (j b went : ℕ) (new : Option (ℕ × Flit)) : Type 0 where
   pub goes : (i : ℕ) → i < size_of w.site → has_bit went i ≡ is_some (injected_to w new i)
   pub local : (i : ℕ) → has_bit went i ≡ true → (local_channel w.site 0 ≤ i) × (i < size_of w.site)
-  pub vacant : (i : ℕ) → has_bit (lowest b) i ≡ true → number_at c.len i ≡ 0
+  pub vacant : (i : ℕ) → has_bit (lowest b) i ≡ true → plane_number c.len i ≡ 0
   pub place : (i : ℕ) → has_bit went i ≡ true → length (view_buffer w i) < w.site.places
   pub alone : lowest went ≡ went
   pub parts : (i : ℕ) → one_if (has_bit j i) + one_if (has_bit (lowest b) i) ≡ one_if (has_bit went i)
@@ -124,7 +124,7 @@ module _ (c : Column) (starts : List Start) (s : Source) (w : View) (number inde
       at true false e = absurd (true≢false e)
       at false true e = absurd (false≢true e)
 
-  -- .. one that has begun
+  -- a packet that has begun
   goes-on : ShowsNext s ((number, p) ∷ rest) (Some (vc, index)) → c.injecting ≡ 2 ^ local_channel w.site vc
       → HasSent c starts s w (with_injected vc index number p rest w) (2 ^ local_channel w.site vc) 0 (2 ^ local_channel w.site vc) (Some (vc, flit_at p number index))
   goes-on next holds = record {
@@ -141,8 +141,8 @@ module _ (c : Column) (starts : List Start) (s : Source) (w : View) (number inde
         (sym (or-zero c.injecting ∙ holds)) (sending-after s (tail-is starts few s number index vc p rest w same due queue next));
   }
 
-  -- .. one that begins in the least of the vacant channels
-  begins : (b : ℕ) → nat_eq b 0 ≡ false → lowest b ≡ 2 ^ local_channel w.site vc → ((i : ℕ) → has_bit (lowest b) i ≡ true → number_at c.len i ≡ 0) → c.injecting ≡ 0 → index ≡ 0
+  -- a packet that begins in the least of the vacant channels
+  begins : (b : ℕ) → nat_eq b 0 ≡ false → lowest b ≡ 2 ^ local_channel w.site vc → ((i : ℕ) → has_bit (lowest b) i ≡ true → plane_number c.len i ≡ 0) → c.injecting ≡ 0 → index ≡ 0
       → HasSent c starts s w (with_injected vc 0 number p rest w) 0 b (2 ^ local_channel w.site vc) (Some (vc, flit_at p number 0))
   begins b some is vacant idle head = record {
     goes = λ i l. reaches (flit_at p number 0) i;
@@ -186,7 +186,7 @@ idle-empty (Active o) flits = refl
 -- the words of a router, of which the local channels are as the view u shows them, before its source injects in cycle n
 module _ (count : ℕ) (c : Column) (starts : List Start) (s : Source) (u : View) (n local : ℕ) (words : AreWords count c) (few : length starts < 2 ^ 32) (now : n < NEVER) (size : size_of u.site ≤ 32) (room : u.site.places < 2 ^ count) (some_place : 0 < u.site.places)
     (is-local : (i : ℕ) → has_bit local i ≡ (nat_le (local_channel u.site 0) i && nat_lt i (size_of u.site)))
-    (len : (i : ℕ) → local_channel u.site 0 ≤ i → i < size_of u.site → number_at c.len i ≡ length (view_buffer u i))
+    (len : (i : ℕ) → local_channel u.site 0 ≤ i → i < size_of u.site → plane_number c.len i ≡ length (view_buffer u i))
     (waiting : (i : ℕ) → local_channel u.site 0 ≤ i → i < size_of u.site → has_bit c.waiting i ≡ is_waiting (view_input u i).phase)
     (active : (i : ℕ) → local_channel u.site 0 ≤ i → i < size_of u.site → has_bit c.active i ≡ is_active (view_input u i).phase)
     (lens : (i : ℕ) → local_channel u.site 0 ≤ i → i < size_of u.site → length (view_buffer u i) ≤ u.site.places) where
@@ -292,13 +292,13 @@ module _ (count : ℕ) (c : Column) (starts : List Start) (s : Source) (u : View
       no-flit : lane_begins local n s.due c ≡ 0 → Sent u None
       no-flit e = words-as u None 0 0 0 (quiet idle) e refl (none-sent c starts s u u ((number, p) ∷ rest) None few due shows tt queue sending idle)
 
-      members : (i : ℕ) → i < 32 → has_bit (lane_free local c) i ≡ (has_bit local i && not ((has_bit c.waiting i || has_bit c.active i) || nat_lt 0 (number_at c.len i)))
+      members : (i : ℕ) → i < 32 → has_bit (lane_free local c) i ≡ (has_bit local i && not ((has_bit c.waiting i || has_bit c.active i) || nat_lt 0 (plane_number c.len i)))
       members i l = free-members count c local i words l
 
       range : (i : ℕ) → has_bit (lane_free local c) i ≡ true → (local_channel u.site 0 ≤ i) × (i < local_channel u.site u.site.vcs)
       range i e =
           let l : i < 32 = has_bit-below (lane_free local c) 32 i (free_fits local c) e in
-          let is = and_parts (has_bit local i) (not ((has_bit c.waiting i || has_bit c.active i) || nat_lt 0 (number_at c.len i))) (sym (members i l) ∙ e) in
+          let is = and_parts (has_bit local i) (not ((has_bit c.waiting i || has_bit c.active i) || nat_lt 0 (plane_number c.len i))) (sym (members i l) ∙ e) in
           let both = and_parts (nat_le (local_channel u.site 0) i) (nat_lt i (size_of u.site)) (sym (is-local i) ∙ is.0) in
           let low : local_channel u.site 0 ≤ i = leb-true (local_channel u.site 0) i both.0 in
           let high : i < size_of u.site = ltb-true i (size_of u.site) both.1 in
@@ -308,7 +308,7 @@ module _ (count : ℕ) (c : Column) (starts : List Start) (s : Source) (u : View
       each vc l =
           let place = of-channel vc l in
           members (local_channel u.site vc) (omega (arith, place.1, size))
-          ∙ ap (λ y. y && not ((has_bit c.waiting (local_channel u.site vc) || has_bit c.active (local_channel u.site vc)) || nat_lt 0 (number_at c.len (local_channel u.site vc))))
+          ∙ ap (λ y. y && not ((has_bit c.waiting (local_channel u.site vc) || has_bit c.active (local_channel u.site vc)) || nat_lt 0 (plane_number c.len (local_channel u.site vc))))
           (is-local (local_channel u.site vc) ∙ ap₂ (λ a b. a && b) (le-leb (local_channel u.site 0) (local_channel u.site vc) place.0) (lt-ltb (local_channel u.site vc) (size_of u.site) place.1))
           ∙ ap₂ (λ a b. not (a || b)) (ap₂ (λ a b. a || b) (waiting (local_channel u.site vc) place.0 place.1) (active (local_channel u.site vc) place.0 place.1)) (ap (nat_lt 0) (len (local_channel u.site vc) place.0 place.1))
           ∙ idle-empty (view_input u (local_channel u.site vc)).phase (view_buffer u (local_channel u.site vc))
@@ -344,13 +344,13 @@ module _ (count : ℕ) (c : Column) (starts : List Start) (s : Source) (u : View
               lowest-is (lane_free local c) (trailing_zeros w32 (lane_free local c)) (free_fits local c) least
               ∙ ap (λ k. 2 ^ k) (sym back)
 
-          empty : (i : ℕ) → has_bit (lowest (lane_free local c)) i ≡ true → number_at c.len i ≡ 0
+          empty : (i : ℕ) → has_bit (lowest (lane_free local c)) i ≡ true → plane_number c.len i ≡ 0
           empty i h =
               let same : i ≡ trailing_zeros w32 (lane_free local c) = eqb-true i (trailing_zeros w32 (lane_free local c)) (sym (lowest_members (lane_free local c) (trailing_zeros w32 (lane_free local c)) i (free_fits local c) least) ∙ h) in
               let member : has_bit (lane_free local c) i ≡ true = ap (has_bit (lane_free local c)) same ∙ least.0 in
               let l : i < 32 = has_bit-below (lane_free local c) 32 i (free_fits local c) member in
-              let is = and_parts (has_bit local i) (not ((has_bit c.waiting i || has_bit c.active i) || nat_lt 0 (number_at c.len i))) (sym (members i l) ∙ member) in
-              zero-of (number_at c.len i) (nor (has_bit c.waiting i || has_bit c.active i) (nat_lt 0 (number_at c.len i)) is.1)
+              let is = and_parts (has_bit local i) (not ((has_bit c.waiting i || has_bit c.active i) || nat_lt 0 (plane_number c.len i))) (sym (members i l) ∙ member) in
+              zero-of (plane_number c.len i) (nor (has_bit c.waiting i || has_bit c.active i) (nat_lt 0 (plane_number c.len i)) is.1)
             where
               nor : (a b : Bool) → not (a || b) ≡ true → b ≡ false
               nor true b q = absurd (false≢true q)

@@ -95,12 +95,12 @@ arrival-none (Some p) v e = at (is_expected_in p v.ends) e
     at true z = z
     at false z = absurd (omega (arith, z))
 
--- .. before the verdicts
+-- where nothing misfits after the verdicts, nothing did before them
 pub committed-none : (relation : Routes) (v : View) → (view_after_commit (decisions_of relation v) v).misfits ≡ 0 → v.misfits ≡ 0
 unfolding view_after_commit
 committed-none relation v e = arrival-none (tail_packet (flit_out v (decisions_of relation v).round (local_port v.site.grid))) _ e
 
--- .. after the beats
+-- where nothing misfits after a step, nothing did after the beats
 pub step-none : (relation : Routes) (v : View) (beats : List Beat) (n : ℕ) → HasSize (view_after_takes relation beats v) → (local_step relation v beats n).0.misfits ≡ 0 → (view_after_takes relation beats v).misfits ≡ 0
 unfolding local_step
 step-none relation v beats n size e =

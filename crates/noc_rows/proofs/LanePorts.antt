@@ -8,9 +8,9 @@ use Rattle.noc_model.specs.Good.{IsGoodSetup}
 use Rattle.noc_model.specs.Network.{Setup, size}
 use Rattle.noc_rows.specs.Column.{place_of, sends_by}
 use Rattle.noc_rows.specs.Cycle.{Surroundings, chosen_by}
-use Rattle.noc_rows.specs.Frames.{IsFrame}
+use Rattle.noc_rows.specs.Frames.{IsFrameOf}
 use Rattle.noc_rows.specs.Moves.{ports_of, selected_in, union_from}
-use Rattle.noc_rows.specs.Opened.{IsLinked}
+use Rattle.noc_rows.specs.Opened.{HasLinksOf}
 use Rattle.noc_rows.specs.Passes.{lane_picked}
 use Rattle.noc_rows.specs.Rows.{column_at, marks_at, word}
 use Rattle.noc_rows.specs.declared.block.Block.{Block}
@@ -24,8 +24,8 @@ use Rattle.noc_rows.proofs.LaneNext.{LaneChosen, allocation_in, lane-still, lane
 use Rattle.noc_rows.proofs.NetworkLaws.{frozen-seen, frozen_view}
 use Rattle.noc_rows.proofs.SwitchedLaws.{chosen-is, union-same}
 
-module _ (net : Setup) (setup : IsGoodSetup net) (n r : ℕ) (l : r < nodes net.relation.grid) (frame : Frame) (is_frame : IsFrame net.relation net.places frame)
-    (spare : ℕ) (far : nodes net.relation.grid * 32 ≤ spare) (room : ℕ) (starts : List Start) (frozen : Block) (after : Inbox) (k : ℕ) (linked : IsLinked net.relation frame spare frozen r k)
+module _ (net : Setup) (setup : IsGoodSetup net) (n r : ℕ) (l : r < nodes net.relation.grid) (frame : Frame) (is_frame : IsFrameOf net.relation net.places frame)
+    (spare : ℕ) (far : nodes net.relation.grid * 32 ≤ spare) (room : ℕ) (starts : List Start) (frozen : Block) (after : Inbox) (k : ℕ) (linked : HasLinksOf net.relation frame spare frozen r k)
     (is : IsFrozen 5 room starts (marks_at frozen.marks k) (λ i. slice_index frozen.marks.first (place_of k i)) frozen after k (frozen_of net n r))
     (chosen : Block) (has : LaneChosen net frame room frozen chosen after r k) (no_grant : word frozen.decided.granted k ≡ 0) (no_loss : word frozen.decided.lost k ≡ 0) where
   abbrev v : View

@@ -19,11 +19,11 @@ use Rattle.noc_model.specs.Lockstep.{beats_at, beats_in, view_at}
 use Rattle.noc_model.specs.Network.{Setup, state_at}
 use Rattle.noc_rows.specs.Column.{ShowsWires, place_of}
 use Rattle.noc_rows.specs.FlitWords.{flit_word}
-use Rattle.noc_rows.specs.Frames.{IsFrame}
+use Rattle.noc_rows.specs.Frames.{IsFrameOf}
 use Rattle.noc_rows.specs.InRows.{ShowsRouter}
 use Rattle.noc_rows.specs.Moves.{union_from}
-use Rattle.noc_rows.specs.Opened.{IsLinked}
-use Rattle.noc_rows.specs.Outlook.{holding_in, least_below, some_below}
+use Rattle.noc_rows.specs.Opened.{HasLinksOf}
+use Rattle.noc_rows.specs.Outlook.{holding_in, least_below, is_some_below}
 use Rattle.noc_rows.specs.Rows.{column_at, word}
 use Rattle.noc_rows.specs.Taken.{with_one}
 use Rattle.noc_rows.specs.Whole.{lane_words}
@@ -43,12 +43,12 @@ use Rattle.noc_rows.proofs.SwitchLemmas.{AreMoved}
 
 -- ---- what a block that holds nothing says of its lanes
 
-pub none-below : (test : ℕ → Bool) (n k : ℕ) → some_below test n ≡ false → k < n → test k ≡ false
-unfolding some_below
+pub none-below : (test : ℕ → Bool) (n k : ℕ) → is_some_below test n ≡ false → k < n → test k ≡ false
+unfolding is_some_below
 none-below test zero k e l = absurd (omega (arith, l))
-none-below test (suc n) k e l = at (some_below test n) refl (test n) refl (cases_eq k n) (λ none lower. none-below test n k none lower)
+none-below test (suc n) k e l = at (is_some_below test n) refl (test n) refl (cases_eq k n) (λ none lower. none-below test n k none lower)
   where
-    at : (a : Bool) → some_below test n ≡ a → (t : Bool) → test n ≡ t → (k ≡ n) ⊎ (k ≡ n → ⊥) → (some_below test n ≡ false → k < n → test k ≡ false)
+    at : (a : Bool) → is_some_below test n ≡ a → (t : Bool) → test n ≡ t → (k ≡ n) ⊎ (k ≡ n → ⊥) → (is_some_below test n ≡ false → k < n → test k ≡ false)
         → test k ≡ false
     at true ea t et is lower = absurd (true≢false (sym (ap (λ b. b || test n) ea) ∙ e))
     at false ea true et is lower = absurd (true≢false (sym (ap₂ (λ a b. a || b) ea et) ∙ e))
@@ -69,7 +69,7 @@ pub record IsResting (block : Block) (end k : ℕ) : Type 0 where
   pub holds : holding_in (column_at block.lanes k) ≡ 0
   pub due : end ≤ word block.sources.due k
 
-pub lanes-rest : (block : Block) (end k : ℕ) → k < 32 → block.holds ≡ some_below (λ j. not (nat_eq (holding_in (column_at block.lanes j)) 0)) 32
+pub lanes-rest : (block : Block) (end k : ℕ) → k < 32 → block.holds ≡ is_some_below (λ j. not (nat_eq (holding_in (column_at block.lanes j)) 0)) 32
     → block.next_due ≡ least_below (word block.sources.due) 32
     → block.holds ≡ false → end ≤ block.next_due → IsResting block end k
 lanes-rest block end k low holds next none later = record {
@@ -159,9 +159,9 @@ module _ (net : Setup) (setup : IsGoodSetup net) (n r : ℕ) (l : r < nodes net.
   pub rests-moves : AreMoved (frozen_of net n r) 0
   rests-moves = subst (λ (v : View). AreMoved v 0) (sym frozen-is) (none-moves (record (view_at net n r) { given = n }) asleep.idle)
 
-  -- .. where its ports select nothing
-  pub rests-sends : (frame : Frame) → IsFrame net.relation net.places frame → (spare : ℕ) → nodes net.relation.grid * 32 ≤ spare
-      → IsLinked net.relation frame spare block r k
+  -- the ports of a router that rests select nothing
+  pub rests-sends : (frame : Frame) → IsFrameOf net.relation net.places frame → (spare : ℕ) → nodes net.relation.grid * 32 ≤ spare
+      → HasLinksOf net.relation frame spare block r k
       → (ports : ℕ) (target : ℕ → ℕ)
       → SendsBy net n r ports (λ q. 0) (λ i. ring_in room inbox (place_of k i) (slice_index block.marks.first (place_of k i))) target
       (λ i. slice_index block.marks.back (place_of k i))

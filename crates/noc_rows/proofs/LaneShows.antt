@@ -10,11 +10,11 @@ use Rattle.noc_model.specs.Lockstep.{beats_at, beats_in, view_at}
 use Rattle.noc_model.specs.Network.{Setup, state_at}
 use Rattle.noc_rows.specs.Column.{IsColumn, ShowsWires, place_of}
 use Rattle.noc_rows.specs.Cycle.{HasCycled, chosen_by}
-use Rattle.noc_rows.specs.Frames.{IsFrame}
+use Rattle.noc_rows.specs.Frames.{IsFrameOf}
 use Rattle.noc_rows.specs.Grants.{Allocation, AreTallied, KeepsMoves, KeepsPlaces}
 use Rattle.noc_rows.specs.InRows.{ShowsRouter}
 use Rattle.noc_rows.specs.Moves.{ports_of, union_from}
-use Rattle.noc_rows.specs.Opened.{IsLinked}
+use Rattle.noc_rows.specs.Opened.{HasLinksOf}
 use Rattle.noc_rows.specs.Passes.{lane_asks, lane_heads, lane_picked, lane_standing, lane_verdicts}
 use Rattle.noc_rows.specs.Routed.{Routing}
 use Rattle.noc_rows.specs.Rows.{column_at, effects_at, event_in, marks_at, of_router, standing_at, word}
@@ -76,7 +76,7 @@ module _ (net : Setup) (frame : Frame) (room : ℕ) (frozen chosen : Block) (aft
       at (inl none) = tallied-none heads k frozen.tallies.routed chosen.tallies.routed none (ap (λ (z : Routing). z.routes) (has.headless none))
       at (inr some) = tallied-of heads k frozen.tallies.routed chosen.tallies.routed (has.headed some).counted
 
-  -- .. granted an output channel
+  -- how often each channel was granted an output channel
   pub lane-granted : IsTallied (word chosen.decided.granted k) (λ i. slice_index_or frozen.tallies.granted (k * 32 + i) 0)
       (λ i. slice_index_or chosen.tallies.granted (k * 32 + i) 0)
   lane-granted = at (cases_eq (lane_asks (column_at frozen.lanes k)) 0)
@@ -98,7 +98,7 @@ module _ (net : Setup) (frame : Frame) (room : ℕ) (frozen chosen : Block) (aft
           (subst (λ g. AreTallied g (of_router frozen.tallies.granted k) (of_router chosen.tallies.granted k)) (sym same)
           (subst (AreTallied has.granted.granted (of_router frozen.tallies.granted k)) (sym grants) (has.asked some).grants))
 
-  -- .. and lost one
+  -- how often each channel lost an output channel
   pub lane-lost : IsTallied (word chosen.decided.lost k) (λ i. slice_index_or frozen.tallies.lost (k * 32 + i) 0)
       (λ i. slice_index_or chosen.tallies.lost (k * 32 + i) 0)
   lane-lost = at (cases_eq (lane_asks (column_at frozen.lanes k)) 0)
@@ -123,10 +123,10 @@ module _ (net : Setup) (frame : Frame) (room : ℕ) (frozen chosen : Block) (aft
 -- ---- the cycle
 
 module _ (net : Setup) (setup : IsGoodSetup net) (n r : ℕ) (l : r < nodes net.relation.grid) (few : n < CYCLE_LIMIT) (frame : Frame)
-    (is_frame : IsFrame net.relation net.places frame)
+    (is_frame : IsFrameOf net.relation net.places frame)
     (spare : ℕ) (far : nodes net.relation.grid * 32 ≤ spare) (room : ℕ) (enough : net.places ≤ room) (starts : List Start)
     (old frozen chosen moved new : Block) (before after : Inbox) (sheet next : Sheet)
-    (b : ℕ) (start end : Wires) (k : ℕ) (low : k < 32) (linked : IsLinked net.relation frame spare old r k) (bytes : (p : ℕ)
+    (b : ℕ) (start end : Wires) (k : ℕ) (low : k < 32) (linked : HasLinksOf net.relation frame spare old r k) (bytes : (p : ℕ)
     → slice_index old.marks.first p < 256) (counted : cycles_of sheet ≤ n)
     (shows : ShowsRouter starts n (lane_words room old sheet before k) (view_at net n r) (beats net setup n r l))
     (froze : HasFrozen frame n room starts old frozen before after) (keeps : KeepsFrozen frozen chosen) (moves : HasMoved frame n b chosen moved start
@@ -174,8 +174,8 @@ module _ (net : Setup) (setup : IsGoodSetup net) (n r : ℕ) (l : r < nodes net.
       (sym marks-frozen)
       (lane-frozen net setup n r l frame is_frame few room starts old frozen before after sheet k enough bytes shows (froze.lanes k low))
 
-  linked-frozen : IsLinked net.relation frame spare frozen r k
-  linked-frozen = subst (λ (x : Block). IsLinked net.relation frame spare x r k) (sym froze.rest)
+  linked-frozen : HasLinksOf net.relation frame spare frozen r k
+  linked-frozen = subst (λ (x : Block). HasLinksOf net.relation frame spare x r k) (sym froze.rest)
       (record { lead = linked.lead; back = linked.back; near = linked.near })
 
   abbrev no_grant : word frozen.decided.granted k ≡ 0

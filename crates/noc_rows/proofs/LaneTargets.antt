@@ -14,11 +14,11 @@ use Rattle.noc_model.specs.Good.{IsGoodSetup}
 use Rattle.noc_model.specs.Lockstep.{site_at}
 use Rattle.noc_model.specs.Network.{Setup, size}
 use Rattle.noc_model.proofs.PlaceViews.{in-size, mod-below}
-use Rattle.noc_rows.specs.Column.{Leads, LeadsTo, RouterMarks, place_of}
-use Rattle.noc_rows.specs.Frames.{IsFrame}
+use Rattle.noc_rows.specs.Column.{Leads, LeadsToPlace, RouterMarks, place_of}
+use Rattle.noc_rows.specs.Frames.{IsFrameOf}
 use Rattle.noc_rows.specs.Grants.{Allocation, HasAllocated, leads_by, leads_to, winner}
 use Rattle.noc_rows.specs.Moves.{some_below}
-use Rattle.noc_rows.specs.Opened.{IsLinked, LeadsOut}
+use Rattle.noc_rows.specs.Opened.{HasLinksOf, LeadsOut}
 use Rattle.noc_rows.specs.Passes.{lane_asks, lane_heads}
 use Rattle.noc_rows.specs.Routed.{Routing}
 use Rattle.noc_rows.specs.Rows.{column_at, marks_at, word}
@@ -37,9 +37,9 @@ use Rattle.noc_rows.proofs.LeadLaws.{back-leads, lead-leads}
 use Rattle.noc_rows.proofs.NetworkLaws.{frozen-seen, frozen_view, good}
 use Rattle.noc_rows.proofs.SwitchedLaws.{some-found}
 
-module _ (net : Setup) (setup : IsGoodSetup net) (frame : Frame) (is_frame : IsFrame net.relation net.places frame) (blocks : ℕ)
+module _ (net : Setup) (setup : IsGoodSetup net) (frame : Frame) (is_frame : IsFrameOf net.relation net.places frame) (blocks : ℕ)
     (few_blocks : blocks ≤ 8) (covered : nodes net.relation.grid * 32 ≤ blocks * 1024)
-    (block : Block) (r k : ℕ) (l : r < nodes net.relation.grid) (linked : IsLinked net.relation frame (min blocks 8 * 1024) block r k) where
+    (block : Block) (r k : ℕ) (l : r < nodes net.relation.grid) (linked : HasLinksOf net.relation frame (min blocks 8 * 1024) block r k) where
   spare-is : min blocks 8 * 1024 ≡ blocks * 1024
   spare-is = omega (arith, few_blocks)
 
@@ -57,7 +57,7 @@ module _ (net : Setup) (setup : IsGoodSetup net) (frame : Frame) (is_frame : IsF
       (subst (λ q. LeadsOut (min blocks 8 * 1024) (slice_index block.marks.lead (k * 8 + leads_by frame o)) (neighbour net.relation.grid r q))
       (port-is o u) (linked.lead (leads_by frame o) (omega arith)))
     where
-      at : (x : Option (ℕ × ℕ)) → neighbour net.relation.grid r (o / net.relation.vcs) ≡ x → LeadsTo net.relation.grid net.relation.vcs
+      at : (x : Option (ℕ × ℕ)) → neighbour net.relation.grid r (o / net.relation.vcs) ≡ x → LeadsToPlace net.relation.grid net.relation.vcs
           (o % net.relation.vcs) place x
           → LeadsOut (min blocks 8 * 1024) (slice_index block.marks.lead (k * 8 + leads_by frame o)) x → IsTarget (nodes net.relation.grid) blocks place
       at None e to out = inr (omega (arith, least, out, spare-is))
@@ -71,13 +71,13 @@ module _ (net : Setup) (setup : IsGoodSetup net) (frame : Frame) (is_frame : IsF
           let is : place ≡ to * 32 + (port * net.relation.vcs + o % net.relation.vcs) = leads in
           inl (omega (arith, is, node, low, narrow))
 
-  -- .. an output channel, to which its flits go
+  -- a place to which the flits of an output channel go
   pub leads-target : (o : ℕ) → o < size net → IsTarget (nodes net.relation.grid) blocks (leads_to frame block.marks.lead k o)
   leads-target o u =
       is-target o (leads_to frame block.marks.lead k o) u (le_or_l (slice_index block.marks.lead (k * 8 + leads_by frame o)) (slice_index frame.other_end o))
       (lead-leads net setup frame is_frame.few is_frame.channels (min blocks 8 * 1024) (omega (arith, covered, spare-is)) block r k linked o u)
 
-  -- .. and an input channel, to which its credits go
+  -- a place to which the credits of an input channel go
   pub back-target : (i : ℕ) → i < size net → IsTarget (nodes net.relation.grid) blocks (slice_index block.marks.back (place_of k i))
   back-target i u =
       let narrow = is_frame.few in
@@ -92,7 +92,7 @@ module _ (net : Setup) (setup : IsGoodSetup net) (frame : Frame) (is_frame : IsF
       → q < blocks → has_bit block.near q ≡ true
   leads-near o place q u leads target here few_q = at (neighbour net.relation.grid r (o / net.relation.vcs)) refl leads target
     where
-      at : (x : Option (ℕ × ℕ)) → neighbour net.relation.grid r (o / net.relation.vcs) ≡ x → LeadsTo net.relation.grid net.relation.vcs
+      at : (x : Option (ℕ × ℕ)) → neighbour net.relation.grid r (o / net.relation.vcs) ≡ x → LeadsToPlace net.relation.grid net.relation.vcs
           (o % net.relation.vcs) place x
           → IsTarget (nodes net.relation.grid) blocks place → has_bit block.near q ≡ true
       at None e beyond (inl within) = absurd (omega (arith, beyond, within))
@@ -122,9 +122,9 @@ none-of (suc n) test o e l = at (some_below n test) refl (test n) refl (cases_eq
     at false ea false et (inr other) lower = lower ea (omega (arith, l, other))
 
 module _ (net : Setup) (setup : IsGoodSetup net) (n r : ℕ) (l : r < nodes net.relation.grid) (frame : Frame)
-    (is_frame : IsFrame net.relation net.places frame) (blocks : ℕ) (few_blocks : blocks ≤ 8)
+    (is_frame : IsFrameOf net.relation net.places frame) (blocks : ℕ) (few_blocks : blocks ≤ 8)
     (covered : nodes net.relation.grid * 32 ≤ blocks * 1024) (room : ℕ) (starts : List Start) (frozen chosen : Block) (after : Inbox) (k : ℕ)
-    (linked : IsLinked net.relation frame (min blocks 8 * 1024) frozen r k)
+    (linked : HasLinksOf net.relation frame (min blocks 8 * 1024) frozen r k)
     (is : IsFrozen 5 room starts (marks_at frozen.marks k) (λ i. slice_index frozen.marks.first (place_of k i)) frozen after k (frozen_of net n r))
     (has : LaneChosen net frame room frozen chosen after r k) where
   abbrev spare : ℕ

@@ -8,10 +8,10 @@ use Rattle.noc_topo.proofs.LinkLemmas.{hop_of}
 use Rattle.noc_model.specs.Good.{IsGoodSetup}
 use Rattle.noc_model.specs.Lockstep.{site_at}
 use Rattle.noc_model.specs.Network.{Setup}
-use Rattle.noc_rows.specs.Column.{Leads, LeadsTo, place_of}
-use Rattle.noc_rows.specs.Frames.{IsPlaced, opposite}
+use Rattle.noc_rows.specs.Column.{Leads, LeadsToPlace, place_of}
+use Rattle.noc_rows.specs.Frames.{IsPlaced, opposite_channel}
 use Rattle.noc_rows.specs.Grants.{leads_by, leads_to}
-use Rattle.noc_rows.specs.Opened.{IsLinked, LeadsOut}
+use Rattle.noc_rows.specs.Opened.{HasLinksOf, LeadsOut}
 use Rattle.noc_rows.specs.declared.block.Block.{Block}
 use Rattle.noc_rows.specs.declared.frame.Frame.{Frame}
 
@@ -20,10 +20,10 @@ parts : (vcs i : ℕ) → 0 < vcs → i ≡ i / vcs * vcs + i % vcs
 parts vcs i some = let e = div-add-mod' i vcs in omega (arith, e)
 
 -- the channel at the other end is the same one of the port that points the other way
-other-end : (vcs i : ℕ) → 0 < vcs → opposite vcs i ≡ opposite_port (i / vcs) * vcs + i % vcs
+other-end : (vcs i : ℕ) → 0 < vcs → opposite_channel vcs i ≡ opposite_port (i / vcs) * vcs + i % vcs
 other-end vcs i some = at (cases_eq (i / vcs % 2) 0)
   where
-    at : (i / vcs % 2 ≡ 0) ⊎ (i / vcs % 2 ≡ 0 → ⊥) → opposite vcs i ≡ opposite_port (i / vcs) * vcs + i % vcs
+    at : (i / vcs % 2 ≡ 0) ⊎ (i / vcs % 2 ≡ 0 → ⊥) → opposite_channel vcs i ≡ opposite_port (i / vcs) * vcs + i % vcs
     at (inl e) =
         let p = parts vcs i some in
         let more : (i / vcs + 1) * vcs ≡ i / vcs * vcs + vcs = omega arith in
@@ -36,7 +36,7 @@ other-end vcs i some = at (cases_eq (i / vcs % 2) 0)
         rw (ne_eqb (i / vcs % 2) 0 o) (omega (arith, p, whole))
 
 module _ (grid : Grid) (vcs spare r i : ℕ) (sound : IsGrid grid) (some : 0 < vcs) (few : ports grid * vcs ≤ 31) (far : nodes grid * 32 ≤ spare) (within : i < ports grid * vcs) where
-  at-link : (to port : ℕ) → neighbour grid r (i / vcs) ≡ Some (to, port) → (opposite vcs i ≡ port * vcs + i % vcs) × (port * vcs + i % vcs < 31)
+  at-link : (to port : ℕ) → neighbour grid r (i / vcs) ≡ Some (to, port) → (opposite_channel vcs i ≡ port * vcs + i % vcs) × (port * vcs + i % vcs < 31)
   at-link to port e =
       let hop = hop_of grid r (i / vcs) to port sound e in
       let below : port < local_port grid = rw hop.port (turned (i / vcs) hop.link) in
@@ -51,8 +51,8 @@ module _ (grid : Grid) (vcs spare r i : ℕ) (sound : IsGrid grid) (some : 0 < v
           at (inl e) = rw (eq-eqb (q % 2) 0 e) (omega (arith, l, e))
           at (inr o) = rw (ne_eqb (q % 2) 0 o) (omega (arith, l, o))
 
-  leads-by : (lead end : ℕ) → end ≡ min (opposite vcs i) 31 → (x : Option (ℕ × ℕ)) → neighbour grid r (i / vcs) ≡ x → LeadsOut spare lead x
-      → LeadsTo grid vcs (i % vcs) (bit_or lead end) x
+  leads-by : (lead end : ℕ) → end ≡ min (opposite_channel vcs i) 31 → (x : Option (ℕ × ℕ)) → neighbour grid r (i / vcs) ≡ x → LeadsOut spare lead x
+      → LeadsToPlace grid vcs (i % vcs) (bit_or lead end) x
   leads-by lead end is None e leads =
       let l : lead ≤ bit_or lead end = le_or_l lead end in
       omega (arith, far, leads, l)
@@ -62,7 +62,7 @@ module _ (grid : Grid) (vcs spare r i : ℕ) (sound : IsGrid grid) (some : 0 < v
       let small : port * vcs + i % vcs < 2 ^ 5 = let b = link.1 in omega (arith, b) in
       ap₂ bit_or leads low ∙ or_shifted to 5 (port * vcs + i % vcs) small
 
-module _ (net : Setup) (setup : IsGoodSetup net) (frame : Frame) (few : ports net.relation.grid * net.relation.vcs ≤ 31) (placed : (i : ℕ) → i < ports net.relation.grid * net.relation.vcs → IsPlaced net.relation.vcs frame i) (spare : ℕ) (far : nodes net.relation.grid * 32 ≤ spare) (block : Block) (r k : ℕ) (linked : IsLinked net.relation frame spare block r k) where
+module _ (net : Setup) (setup : IsGoodSetup net) (frame : Frame) (few : ports net.relation.grid * net.relation.vcs ≤ 31) (placed : (i : ℕ) → i < ports net.relation.grid * net.relation.vcs → IsPlaced net.relation.vcs frame i) (spare : ℕ) (far : nodes net.relation.grid * 32 ≤ spare) (block : Block) (r k : ℕ) (linked : HasLinksOf net.relation frame spare block r k) where
   abbrev grid : Grid
   grid = net.relation.grid
 
@@ -96,6 +96,6 @@ module _ (net : Setup) (setup : IsGoodSetup net) (frame : Frame) (few : ports ne
 
   pub back-leads : (i : ℕ) → i < ports grid * vcs → Leads (site_at net r) i (slice_index block.marks.back (place_of k i))
   back-leads i l =
-      let end : slice_index frame.other_end i % 32 ≡ min (opposite vcs i) 31 = let e = (placed i l).end in omega (arith, e) in
+      let end : slice_index frame.other_end i % 32 ≡ min (opposite_channel vcs i) 31 = let e = (placed i l).end in omega (arith, e) in
       subst (λ p. Leads (site_at net r) i p) (sym (linked.back i (omega (arith, l, few))))
       (leads-by grid vcs spare r i sound-grid some-vcs few far l _ _ end (neighbour grid r (i / vcs)) refl (lead-at i l))

@@ -11,7 +11,7 @@ use Rattle.noc_packet.specs.Packet.{IsWithinLimits}
 use Rattle.noc_packet.specs.declared.packet.Packet.{Packet}
 use Rattle.noc_model.specs.Lockstep.{starts_of}
 use Rattle.noc_rows.specs.Opened.{IsEndFrom, start_value, with_end, starts_list}
-use Rattle.noc_rows.specs.Source.{IsSendable, ShowsQueue, due_of, start_in}
+use Rattle.noc_rows.specs.Source.{HasFlitWords, ShowsQueue, due_of, start_in}
 use Rattle.noc_rows.specs.declared.starts.Start.{Start}
 use Rattle.noc_rows.specs.declared.starts.TheConstants.{NEVER, END}
 use Rattle.noc_rows.proofs.StartLemmas.{all-starts-hold, start-has, starts-few}
@@ -83,7 +83,7 @@ at-seam (w ∷ xs) x ys = at-seam xs x ys
 
 -- its queue, from there on
 shows-queue : (starts front rest : List Start) (place : ℕ) (queue : List (ℕ × Packet)) → starts ≡ front ++ (with_end queue ++ rest) → place ≡ length front
-    → ((one : ℕ × Packet) → Has one queue → IsSendable one.0 one.1) → ShowsQueue starts place queue
+    → ((one : ℕ × Packet) → Has one queue → HasFlitWords one.0 one.1) → ShowsQueue starts place queue
 shows-queue starts front rest place [] is here sendable = ap₂ (λ xs k. slice_get xs k) is here ∙ at-seam front END rest
 shows-queue starts front rest place ((number, p) ∷ queue) is here sendable = (
   ap₂ (λ xs k. slice_get xs k) is here ∙ at-seam front (start_value (number, p)) (with_end queue ++ rest),
@@ -143,14 +143,14 @@ module _ (packets : List Packet) (n : ℕ) (few : length packets ≤ 20000) (lim
       subst (λ xs. IsEndFrom xs (length (starts_list packets r)) (length (starts_list packets r) + length (starts_of packets r))) (sym stands.is)
       (end-from (starts_list packets r) stands.rest (starts_of packets r) (all-starts-hold IsWithinLimits packets r limits))
 
-  -- .. and behind it are the starts of the router, where each packet has a flit
+  -- behind its place in the list are the starts of the router, where each packet has a flit
   pub list-shows : ((one : ℕ × Packet) → Has one (starts_of packets r) → 0 < one.1.length) → ShowsQueue (starts_list packets n) (length (starts_list packets r)) (starts_of packets r)
   list-shows some =
       let stands = list-of packets r n l in
       shows-queue (starts_list packets n) (starts_list packets r) stands.rest (length (starts_list packets r)) (starts_of packets r) stands.is refl
       (λ one h. let is = start-has IsWithinLimits packets r limits one h in record { number = let k = is.0 in omega (arith, k, few); some = some one h; limits = is.1 })
 
-  -- .. of which the first is due when it is
+  -- the first start behind its place is due when the first packet of the router is
   pub list-due : (start_in (starts_list packets n) (length (starts_list packets r))).due ≡ due_of (starts_of packets r)
   list-due =
       let stands = list-of packets r n l in

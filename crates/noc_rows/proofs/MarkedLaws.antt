@@ -159,7 +159,7 @@ module _ (relation : Routes) (frame : Frame) (x : Surroundings) (v : View) (stil
           ap₂ (λ g m. Left g m (view_input v i).phase (x.tail i)) (active-granted relation frame x v still a b outs shows put i o ep) em
           ∙ ap₂ (λ p y. Left (Active o) true p y) ep (tail em ∙ et)
 
-      -- .. and one that does not
+      -- one that does not move
       stays : (p : InputState) → has_bit e.moved i ≡ false → phase_granted v i ≡ p → Left (phase_granted v i) (has_bit e.moved i) (view_input v i).phase (x.tail i) ≡ sends_by v.site.vcs q p
       stays p em eg = ap₂ (λ g m. Left g m (view_input v i).phase (x.tail i)) eg em ∙ kept-on (sends_by v.site.vcs q p) (x.tail i)
 

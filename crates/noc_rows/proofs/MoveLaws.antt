@@ -279,7 +279,7 @@ module _ (v : View) (picked : ℕ) (to turn : ℕ → ℕ) (are : AreMoving v pi
         at None = refl
         at (Some i) = refl
 
-    -- .. a tail
+    -- the output channels by which a tail leaves
     pub freed-is : (o : ℕ) → o < size_of v.site
         → has_bit (union_from 0 (ports v.site.grid) (λ q. of_one (sel q) (λ i. if is_tail (first_flit v i) then taken i else 0))) o ≡ is_tail_by v (mover_to v (view_round v) o)
     freed-is o l = gone-is taken shows (λ i. is_tail (first_flit v i)) o l ∙ at (mover_to v (view_round v) o)

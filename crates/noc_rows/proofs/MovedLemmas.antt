@@ -8,7 +8,7 @@ use Rattle.noc_packet.proofs.SetLemmas.{has_bit-zero, both_members, either_membe
 use Rattle.noc_rows.specs.Bits.{lowest, negated}
 use Rattle.noc_rows.specs.Carried.{HaveMoved, WireWords, wire_words}
 use Rattle.noc_rows.specs.Moves.{some_below, union_from}
-use Rattle.noc_rows.specs.Switched.{AreApart, AreNext, HasTails, HaveFirsts, IsOne, MovesFlits, NotesTails, firsts_with, gone_with, in_words, moved_by, one_has, some_moved, some_tail, words_with}
+use Rattle.noc_rows.specs.Switched.{AreSelectedOnce, AreNext, HasTails, HaveFirsts, IsOne, MovesFlits, NotesTails, firsts_with, gone_with, in_words, selected_by_ports, one_has, some_moved, some_tail, words_with}
 use Rattle.noc_rows.specs.Turns.{first_bit, in_turn}
 use Rattle.noc_rows.specs.Wires.{room_of}
 use Rattle.noc_rows.specs.declared.marks.Marks.{Marks}

@@ -8,13 +8,13 @@ use Rattle.noc_packet.specs.declared.packet.Packet.{Packet}
 use Rattle.noc_router.specs.View.{View, local_channel, with_landed, with_injected}
 use Rattle.noc_rows.specs.Bits.{minus}
 use Rattle.noc_rows.specs.FlitWords.{flit_word}
-use Rattle.noc_rows.specs.Source.{IsSendable, ShowsNext, ShowsQueue, ShowsSource, due_of, next_source, next_word, start_in}
+use Rattle.noc_rows.specs.Source.{HasFlitWords, ShowsNext, ShowsQueue, ShowsSource, due_of, next_source, next_word, start_in}
 use Rattle.noc_rows.specs.declared.block.Source.{Source}
 use Rattle.noc_rows.specs.declared.starts.Start.{Start}
 use Rattle.noc_rows.specs.declared.starts.TheConstants.{END}
 
 -- the flit behind one that is not the tail
-pub next-is : (p : Packet) (number index left : ℕ) → IsSendable number p → left + (index + 1) ≡ p.length → 0 < left
+pub next-is : (p : Packet) (number index left : ℕ) → HasFlitWords number p → left + (index + 1) ≡ p.length → 0 < left
     → next_word (flit_word (flit_at p number index)) left ≡ flit_word (flit_at p number (index + 1))
 next-is p number index left sendable sum some = at (cases_eq left 1)
   where

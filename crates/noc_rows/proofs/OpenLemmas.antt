@@ -38,7 +38,7 @@ still-member a b k e = either_members a b k ∙ or-left (has_bit a k) (has_bit b
 pub also-member : (a b k : ℕ) → has_bit b k ≡ true → has_bit (bit_or a b) k ≡ true
 also-member a b k e = either_members a b k ∙ or-right (has_bit a k) (has_bit b k) e
 
--- .. and one that comes is a member
+-- a member that comes is one
 pub new-member : (a x k : ℕ) → x < 32 → k ≡ x → has_bit (bit_or a (1 * 2 ^ x % 2 ^ 32)) k ≡ true
 new-member a x k l e = also-member a (1 * 2 ^ x % 2 ^ 32) k (ap (λ n. has_bit n k) (power-is x (omega (arith, l))) ∙ power-members x k ∙ eq-eqb k x e)
 

@@ -51,7 +51,7 @@ module _ (net : Setup) (setup : IsGoodSetup net) where
         due = p.due;
       }
 
-  -- .. so that the starts that are made are those of its packets
+  -- the starts that are made are those of the packets of the network
   pub good-starts : (frame : Frame) (starts : List Start) → frame.nodes ≡ nodes net.relation.grid → starts ≡ starts_list net.packets frame.nodes → AreStartsOf net.relation frame net.packets starts
   good-starts frame starts all list = record {
     few = setup.few_packets;

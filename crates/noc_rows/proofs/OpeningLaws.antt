@@ -25,7 +25,7 @@ use Rattle.noc_model.proofs.OpeningView.{opens}
 use Rattle.noc_rows.specs.Column.{Column, RouterMarks, AreWords, ShowsInput, ShowsOutput, ShowsChannels, ShowsTurns, ShowsMarks, ShowsPhase, ShowsHolder, sends_by, IsColumn}
 use Rattle.noc_rows.specs.Fields.{ShowsPointer}
 use Rattle.noc_rows.specs.Opening.{AreEmptyMarks, AreSides, empty_column}
-use Rattle.noc_rows.specs.Planes.{number_at, ArePlanes, word_of, words_of}
+use Rattle.noc_rows.specs.Planes.{plane_number, ArePlanes, word_of, words_of}
 use Rattle.noc_rows.proofs.BitLemmas.{and_fits, or_fits}
 use Rattle.noc_rows.proofs.NetworkLaws.{good}
 
@@ -35,11 +35,11 @@ word-members true x l = has_bit-one _ x (bit_at_ones 32 x l)
 word-members false x l = has_bit-zero x
 
 -- a constant is the number of each channel
-pub words-number : (count n x : ℕ) → x < 32 → n < 2 ^ count → number_at (words_of count n) x ≡ n
+pub words-number : (count n x : ℕ) → x < 32 → n < 2 ^ count → plane_number (words_of count n) x ≡ n
 words-number zero n x l small = omega (arith, small)
 words-number (suc count) n x l small =
     let half : n / 2 < 2 ^ count = omega (arith, small, pow-suc 2 count) in
-    ap (λ b. one_if b + 2 * number_at (words_of count (n / 2)) x) (word-members (nat_eq (n % 2) 1) x l)
+    ap (λ b. one_if b + 2 * plane_number (words_of count (n / 2)) x) (word-members (nat_eq (n % 2) 1) x l)
     ∙ ap (λ k. one_if (nat_eq (n % 2) 1) + 2 * k) (words-number count (n / 2) x l half)
     ∙ parts (cases_eq (n % 2) 1)
   where
@@ -47,11 +47,11 @@ words-number (suc count) n x l small =
     parts (inl e) = rw (eq-eqb (n % 2) 1 e) (omega arith)
     parts (inr o) = let z : n % 2 ≡ 0 = omega arith in rw (ne_eqb (n % 2) 1 o) (omega arith)
 
--- .. of each member of a set
-pub among-number : (planes : List ℕ) (set x : ℕ) → has_bit set x ≡ true → number_at (map (λ plane. bit_and plane set) planes) x ≡ number_at planes x
+-- the number of each member of a set
+pub among-number : (planes : List ℕ) (set x : ℕ) → has_bit set x ≡ true → plane_number (map (λ plane. bit_and plane set) planes) x ≡ plane_number planes x
 among-number [] set x e = refl
 among-number (plane ∷ planes) set x e =
-    ap (λ b. one_if b + 2 * number_at (map (λ plane. bit_and plane set) planes) x) (both_members plane set x ∙ member (has_bit plane x) (has_bit set x) e)
+    ap (λ b. one_if b + 2 * plane_number (map (λ plane. bit_and plane set) planes) x) (both_members plane set x ∙ member (has_bit plane x) (has_bit set x) e)
     ∙ ap (λ k. one_if (has_bit plane x) + 2 * k) (among-number planes set x e)
   where
     member : (a b : Bool) → b ≡ true → (a && b) ≡ a
@@ -75,7 +75,7 @@ words-length : (count n : ℕ) → length (words_of count n) ≡ count
 words-length zero n = refl
 words-length (suc count) n = ap suc (words-length count (n / 2))
 
-zeros-number : (x : ℕ) → number_at (0 ∷ 0 ∷ 0 ∷ 0 ∷ 0 ∷ []) x ≡ 0
+zeros-number : (x : ℕ) → plane_number (0 ∷ 0 ∷ 0 ∷ 0 ∷ 0 ∷ []) x ≡ 0
 zeros-number x = rw (has_bit-zero x) refl
 
 module _ (site : Site) (starts : List (ℕ × Packet)) (ends : List ℕ) (m : RouterMarks) (links local : ℕ) (few : size_of site ≤ 31) (few_ports : ports site.grid ≤ 8) (small : site.places < 32) (sides : AreSides site.grid site.vcs links local) (marks : AreEmptyMarks m) where
@@ -207,7 +207,7 @@ module _ (net : Setup) (setup : IsGoodSetup net) (r : ℕ) (l : r < nodes net.re
   few-ports : ports net.relation.grid ≤ 8
   few-ports = let d = setup.relation.table.grid.few_dimensions in omega (arith, d)
 
-  -- .. of each router of a network
+  -- the words of an empty router show the opening view of each router of a network
   pub opening-shows : IsColumn 5 (empty_column links local (words_of 5 net.places)) m (view_at net 0 r)
   opening-shows =
       subst (λ (v : View). IsColumn 5 (empty_column links local (words_of 5 net.places)) m v) (opens net (good net setup) r l)

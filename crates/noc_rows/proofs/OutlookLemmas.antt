@@ -3,7 +3,7 @@ use Rattle.std.proofs.Common.{◌≡◌, ◌≢◌, ℕ, ◌+◌, ◌≤◌, Boo
 use Rattle.std.specs.Prelude.{◌⊎◌, ◌&&◌, ◌||◌, not, nat_eq, min}
 use Rattle.std.proofs.lemmas.Bool.{cases_eq, eq-eqb, ne_eqb}
 use Rattle.std.proofs.lemmas.Nat.{le_or_l, le_or_r}
-use Rattle.noc_rows.specs.Outlook.{least_below, some_below}
+use Rattle.noc_rows.specs.Outlook.{least_below, is_some_below}
 
 pub or-zero : (a b : ℕ) → nat_eq (bit_or a b) 0 ≡ (nat_eq a 0 && nat_eq b 0)
 or-zero a b = by (cases_eq a 0) (cases_eq b 0)
@@ -17,16 +17,16 @@ or-zero a b = by (cases_eq a 0) (cases_eq b 0)
         let l : a ≤ bit_or a b = le_or_l a b in
         ne_eqb (bit_or a b) 0 (omega arith) ∙ sym (ap (λ x. x && nat_eq b 0) (ne_eqb a 0 na))
 
-pub some-none : (test : ℕ → Bool) → nat_eq 0 0 ≡ not (some_below test 0)
-unfolding some_below
+pub some-none : (test : ℕ → Bool) → nat_eq 0 0 ≡ not (is_some_below test 0)
+unfolding is_some_below
 some-none test = refl
 
-pub some-next : (test : ℕ → Bool) (held w j : ℕ) → nat_eq held 0 ≡ not (some_below test j) → test j ≡ not (nat_eq w 0) → nat_eq (bit_or held w) 0
-    ≡ not (some_below test (j + 1))
-unfolding some_below
+pub some-next : (test : ℕ → Bool) (held w j : ℕ) → nat_eq held 0 ≡ not (is_some_below test j) → test j ≡ not (nat_eq w 0) → nat_eq (bit_or held w) 0
+    ≡ not (is_some_below test (j + 1))
+unfolding is_some_below
 some-next test held w j is here =
-    or-zero held w ∙ ap₂ (λ x y. x && y) is (twice (nat_eq w 0) ∙ ap not (sym here)) ∙ neither (some_below test j) (test j)
-    ∙ ap (λ n. not (some_below test n)) (sym (add-one j))
+    or-zero held w ∙ ap₂ (λ x y. x && y) is (twice (nat_eq w 0) ∙ ap not (sym here)) ∙ neither (is_some_below test j) (test j)
+    ∙ ap (λ n. not (is_some_below test n)) (sym (add-one j))
   where
     twice : (b : Bool) → b ≡ not (not b)
     twice true = refl
@@ -37,8 +37,8 @@ some-next test held w j is here =
     neither false b = refl
 
 -- whether there is one, by what is held
-pub some-all : (test : ℕ → Bool) (held : ℕ) → nat_eq held 0 ≡ not (some_below test 32) → not (nat_eq held 0) ≡ some_below test 32
-some-all test held is = ap not is ∙ twice (some_below test 32)
+pub some-all : (test : ℕ → Bool) (held : ℕ) → nat_eq held 0 ≡ not (is_some_below test 32) → not (nat_eq held 0) ≡ is_some_below test 32
+some-all test held is = ap not is ∙ twice (is_some_below test 32)
   where
     twice : (b : Bool) → not (not b) ≡ b
     twice true = refl

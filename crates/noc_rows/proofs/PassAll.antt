@@ -170,7 +170,7 @@ module _ (number : ℕ) (frame : Frame) (cycle room : ℕ) (starts : List Start)
           let stays = so_far.asleep b was (omega (arith, l, o)) g a in
           (write-elsewhere mid number b made o ∙ stays.0, inbox-elsewhere between number b inbox_made o ∙ stays.1)
 
-  -- .. is asleep, or has no in-box
+  -- block `number` is asleep, or has no in-box
   frozen-next : ((get_or mid number d).awake ≡ false) ⊎ (length between ≤ number) → HaveFrozenTo (number + 1) frame cycle room starts old mid before between
   frozen-next skips = record {
     many = so_far.many;
@@ -283,7 +283,7 @@ module _ (number : ℕ) (frame : Frame) (cycle near : ℕ) (old mid : List Block
       near_or b q is l h s a m f (inr o) =
           or_left (has_bit near q) (has_bit more q) (so_far.near_is b q is (omega (arith, l, o)) (sym (write-elsewhere mid number b made o) ∙ h) s a m f)
 
-  -- .. is asleep, or has no sheet
+  -- block `number` is asleep, or has no sheet
   concluded-next : ((get_or mid number d).awake ≡ false) ⊎ (length between ≤ number) → HaveConcludedTo (number + 1) frame cycle near old mid before between
   concluded-next skips = record {
     many = so_far.many;

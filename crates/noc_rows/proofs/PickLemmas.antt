@@ -462,7 +462,7 @@ module _ (n : ℕ) (f : Fields) (is : IsFields n f) where
             λ c v. bit c v ∙ lt-leb (d + 1) c (omega arith),
           )
 
-  -- .. and one with no channel that has moved
+  -- the pointer of a port with no channel that has moved
   pub past-stays : (in_hi moved p pointer : ℕ) → in_hi < 2 ^ 32 → moved < 2 ^ (n * f.width) → p < n
       → ((c : ℕ) → c < f.width → has_bit moved (p * f.width + c) ≡ false)
       → ShowsPointer f.width in_hi p pointer → ShowsPointer f.width (lane_past f in_hi moved) p pointer

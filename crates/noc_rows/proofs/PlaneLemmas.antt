@@ -8,7 +8,7 @@ use Rattle.noc_packet.proofs.SetLemmas.{both_members, either_members, has_bit-on
 use Rattle.noc_router.specs.Counts.{one_if}
 use Rattle.noc_router.proofs.DigitLemmas.{one-small}
 use Rattle.noc_rows.specs.Bits.{differ, less}
-use Rattle.noc_rows.specs.Planes.{number_at, ArePlanes, raised_by, carry_of, lowered_by, borrow_of, any_from, more_than_one, wrong_from, word_of, words_of}
+use Rattle.noc_rows.specs.Planes.{plane_number, ArePlanes, raised_by, carry_of, lowered_by, borrow_of, any_from, more_than_one, wrong_from, word_of, words_of}
 use Rattle.noc_rows.proofs.BitLemmas.{xor_members, less_members, less_fits, and_fits, or_fits, xor_fits}
 
 -- ---- one more
@@ -20,7 +20,7 @@ add_bits false false = omega arith
 
 -- a number that is raised, with what the planes cannot hold
 pub raised-is : (planes : List ℕ) (set x : ℕ)
-    → number_at (raised_by planes set) x + 2 ^ length planes * one_if (has_bit (carry_of planes set) x) ≡ number_at planes x + one_if (has_bit set x)
+    → plane_number (raised_by planes set) x + 2 ^ length planes * one_if (has_bit (carry_of planes set) x) ≡ plane_number planes x + one_if (has_bit set x)
 raised-is [] set x = omega arith
 raised-is (plane ∷ planes) set x =
     let rest = raised-is planes (bit_and set plane) x in
@@ -40,12 +40,12 @@ carry_none n p a c s e l = at (nat_eq c 1) e
     at false h = refl
 
 -- where the planes can hold it
-pub raised-number : (planes : List ℕ) (set x : ℕ) → number_at planes x + one_if (has_bit set x) < 2 ^ length planes
-    → number_at (raised_by planes set) x ≡ number_at planes x + one_if (has_bit set x)
+pub raised-number : (planes : List ℕ) (set x : ℕ) → plane_number planes x + one_if (has_bit set x) < 2 ^ length planes
+    → plane_number (raised_by planes set) x ≡ plane_number planes x + one_if (has_bit set x)
 raised-number planes set x room = at (has_bit (carry_of planes set) x) (raised-is planes set x)
   where
-    at : (b : Bool) → number_at (raised_by planes set) x + 2 ^ length planes * one_if b ≡ number_at planes x + one_if (has_bit set x)
-        → number_at (raised_by planes set) x ≡ number_at planes x + one_if (has_bit set x)
+    at : (b : Bool) → plane_number (raised_by planes set) x + 2 ^ length planes * one_if b ≡ plane_number planes x + one_if (has_bit set x)
+        → plane_number (raised_by planes set) x ≡ plane_number planes x + one_if (has_bit set x)
     at true h = absurd (omega arith)
     at false h = omega arith
 
@@ -65,7 +65,7 @@ take_bits false true = omega arith
 take_bits false false = omega arith
 
 pub lowered-is : (planes : List ℕ) (set x : ℕ) → ArePlanes planes → set < 2 ^ 32
-    → number_at (lowered_by planes set) x + one_if (has_bit set x) ≡ number_at planes x + 2 ^ length planes * one_if (has_bit (borrow_of planes set) x)
+    → plane_number (lowered_by planes set) x + one_if (has_bit set x) ≡ plane_number planes x + 2 ^ length planes * one_if (has_bit (borrow_of planes set) x)
 lowered-is [] set x fits small = omega arith
 lowered-is (plane ∷ planes) set x fits small =
     let rest = lowered-is planes (less set plane) x fits.1 (less_fits set plane small) in
@@ -77,26 +77,26 @@ lowered-is (plane ∷ planes) set x fits small =
     twice p q c low new b old plane set e r l =
         let m : q * c ≡ 2 * (p * c) = ap (λ z. z * c) e ∙ omega arith in omega arith
 
-pub number-small : (planes : List ℕ) (x : ℕ) → number_at planes x < 2 ^ length planes
+pub number-small : (planes : List ℕ) (x : ℕ) → plane_number planes x < 2 ^ length planes
 number-small [] x = omega arith
 number-small (plane ∷ planes) x = omega (arith, number-small planes x, one-small (has_bit plane x), pow-suc 2 (length planes))
 
 -- where there is one
-pub lowered-number : (planes : List ℕ) (set x : ℕ) → ArePlanes planes → set < 2 ^ 32 → one_if (has_bit set x) ≤ number_at planes x
-    → number_at (lowered_by planes set) x + one_if (has_bit set x) ≡ number_at planes x
+pub lowered-number : (planes : List ℕ) (set x : ℕ) → ArePlanes planes → set < 2 ^ 32 → one_if (has_bit set x) ≤ plane_number planes x
+    → plane_number (lowered_by planes set) x + one_if (has_bit set x) ≡ plane_number planes x
 lowered-number planes set x fits small some = at (has_bit (borrow_of planes set) x) (lowered-is planes set x fits small)
   where
-    at : (b : Bool) → number_at (lowered_by planes set) x + one_if (has_bit set x) ≡ number_at planes x + 2 ^ length planes * one_if b
-        → number_at (lowered_by planes set) x + one_if (has_bit set x) ≡ number_at planes x
+    at : (b : Bool) → plane_number (lowered_by planes set) x + one_if (has_bit set x) ≡ plane_number planes x + 2 ^ length planes * one_if b
+        → plane_number (lowered_by planes set) x + one_if (has_bit set x) ≡ plane_number planes x
     at true h =
-        let l : number_at (lowered_by planes set) x < 2 ^ length planes = lowered-small planes set x in
+        let l : plane_number (lowered_by planes set) x < 2 ^ length planes = lowered-small planes set x in
         absurd (omega (arith, number-small planes x))
       where
         lowered-length : (planes : List ℕ) (set : ℕ) → length (lowered_by planes set) ≡ length planes
         lowered-length [] set = refl
         lowered-length (plane ∷ planes) set = ap suc (lowered-length planes (less set plane))
 
-        lowered-small : (planes : List ℕ) (set x : ℕ) → number_at (lowered_by planes set) x < 2 ^ length planes
+        lowered-small : (planes : List ℕ) (set x : ℕ) → plane_number (lowered_by planes set) x < 2 ^ length planes
         lowered-small planes set x = rw (sym (lowered-length planes set)) (number-small (lowered_by planes set) x)
     at false h = omega arith
 
@@ -129,26 +129,26 @@ some_of false n = at (cases_lt 0 n)
     at (inl l) = lt-ltb 0 (0 + 2 * n) (omega arith) ∙ sym (lt-ltb 0 n l)
     at (inr u) = le-ltb 0 (0 + 2 * n) (omega arith) ∙ sym (le-ltb 0 n u)
 
-pub any-members : (any : ℕ) (planes : List ℕ) (x : ℕ) → has_bit (any_from any planes) x ≡ (has_bit any x || nat_lt 0 (number_at planes x))
+pub any-members : (any : ℕ) (planes : List ℕ) (x : ℕ) → has_bit (any_from any planes) x ≡ (has_bit any x || nat_lt 0 (plane_number planes x))
 any-members any [] x = sym (or_false (has_bit any x))
 any-members any (plane ∷ planes) x =
     any-members (bit_or any plane) planes x
-    ∙ ap (λ b. b || nat_lt 0 (number_at planes x)) (either_members any plane x)
-    ∙ or_assoc (has_bit any x) (has_bit plane x) (nat_lt 0 (number_at planes x))
-    ∙ ap (λ b. has_bit any x || b) (sym (some_of (has_bit plane x) (number_at planes x)))
+    ∙ ap (λ b. b || nat_lt 0 (plane_number planes x)) (either_members any plane x)
+    ∙ or_assoc (has_bit any x) (has_bit plane x) (nat_lt 0 (plane_number planes x))
+    ∙ ap (λ b. has_bit any x || b) (sym (some_of (has_bit plane x) (plane_number planes x)))
 
 -- the channels whose number is not 0
-pub filled-members : (planes : List ℕ) (x : ℕ) → has_bit (any_from 0 planes) x ≡ nat_lt 0 (number_at planes x)
-filled-members planes x = any-members 0 planes x ∙ ap (λ b. b || nat_lt 0 (number_at planes x)) (has_bit-zero x)
+pub filled-members : (planes : List ℕ) (x : ℕ) → has_bit (any_from 0 planes) x ≡ nat_lt 0 (plane_number planes x)
+filled-members planes x = any-members 0 planes x ∙ ap (λ b. b || nat_lt 0 (plane_number planes x)) (has_bit-zero x)
 
--- .. is more than 1
-pub more-members : (planes : List ℕ) (x : ℕ) → has_bit (more_than_one planes) x ≡ nat_lt 1 (number_at planes x)
+-- whether a number is more than 1
+pub more-members : (planes : List ℕ) (x : ℕ) → has_bit (more_than_one planes) x ≡ nat_lt 1 (plane_number planes x)
 more-members [] x = has_bit-zero x ∙ sym (le-ltb 1 0 (omega arith))
-more-members (plane ∷ planes) x = filled-members planes x ∙ at (has_bit plane x) (cases_lt 0 (number_at planes x))
+more-members (plane ∷ planes) x = filled-members planes x ∙ at (has_bit plane x) (cases_lt 0 (plane_number planes x))
   where
-    at : (b : Bool) → (0 < number_at planes x) ⊎ (number_at planes x ≤ 0) → nat_lt 0 (number_at planes x) ≡ nat_lt 1 (one_if b + 2 * number_at planes x)
-    at b (inl l) = lt-ltb 0 (number_at planes x) l ∙ sym (lt-ltb 1 (one_if b + 2 * number_at planes x) (omega arith))
-    at b (inr u) = le-ltb 0 (number_at planes x) u ∙ sym (le-ltb 1 (one_if b + 2 * number_at planes x) (omega (arith, one-small b)))
+    at : (b : Bool) → (0 < plane_number planes x) ⊎ (plane_number planes x ≤ 0) → nat_lt 0 (plane_number planes x) ≡ nat_lt 1 (one_if b + 2 * plane_number planes x)
+    at b (inl l) = lt-ltb 0 (plane_number planes x) l ∙ sym (lt-ltb 1 (one_if b + 2 * plane_number planes x) (omega arith))
+    at b (inr u) = le-ltb 0 (plane_number planes x) u ∙ sym (le-ltb 1 (one_if b + 2 * plane_number planes x) (omega (arith, one-small b)))
 
 word_members : (b : Bool) (x : ℕ) → x < 32 → has_bit (word_of b) x ≡ b
 word_members true x l = has_bit-one _ x (bit_at_ones 32 x l)
@@ -165,9 +165,9 @@ differ_bit a b m n = at a b (cases_eq m n)
     at false false (inl e) = rw (eq-eqb m n e, eq-eqb (0 + 2 * m) (0 + 2 * n) (omega arith)) refl
     at false false (inr o) = rw (ne_eqb m n o, ne_eqb (0 + 2 * m) (0 + 2 * n) (λ e. o (omega arith))) refl
 
--- .. is not this constant
+-- whether a number is not this constant
 wrong-from : (wrong : ℕ) (planes : List ℕ) (n x : ℕ) → x < 32 → n < 2 ^ length planes
-    → has_bit (wrong_from wrong planes (words_of (length planes) n)) x ≡ (has_bit wrong x || not (nat_eq (number_at planes x) n))
+    → has_bit (wrong_from wrong planes (words_of (length planes) n)) x ≡ (has_bit wrong x || not (nat_eq (plane_number planes x) n))
 wrong-from wrong [] n x l small =
     let z : n ≡ 0 = omega arith in
     rw (eq-eqb 0 n (sym z)) (sym (or_false (has_bit wrong x)))
@@ -175,19 +175,19 @@ wrong-from wrong (plane ∷ planes) n x l small =
     let half : n / 2 < 2 ^ length planes = omega (arith, pow-suc 2 (length planes)) in
     let whole : one_if (nat_eq (n % 2) 1) + 2 * (n / 2) ≡ n = parts (cases_eq (n % 2) 1) in
     wrong-from (bit_or wrong (bit_xor plane (word_of (nat_eq (n % 2) 1)))) planes (n / 2) x l half
-    ∙ ap (λ b. b || not (nat_eq (number_at planes x) (n / 2))) (either_members wrong (bit_xor plane (word_of (nat_eq (n % 2) 1))) x)
-    ∙ or_assoc (has_bit wrong x) (has_bit (bit_xor plane (word_of (nat_eq (n % 2) 1))) x) (not (nat_eq (number_at planes x) (n / 2)))
-    ∙ ap (λ b. has_bit wrong x || (b || not (nat_eq (number_at planes x) (n / 2)))) (xor_members plane (word_of (nat_eq (n % 2) 1)) x ∙ ap (differ (has_bit plane x)) (word_members (nat_eq (n % 2) 1) x l))
-    ∙ ap (λ b. has_bit wrong x || b) (differ_bit (has_bit plane x) (nat_eq (n % 2) 1) (number_at planes x) (n / 2) ∙ ap (λ m. not (nat_eq (number_at (plane ∷ planes) x) m)) whole)
+    ∙ ap (λ b. b || not (nat_eq (plane_number planes x) (n / 2))) (either_members wrong (bit_xor plane (word_of (nat_eq (n % 2) 1))) x)
+    ∙ or_assoc (has_bit wrong x) (has_bit (bit_xor plane (word_of (nat_eq (n % 2) 1))) x) (not (nat_eq (plane_number planes x) (n / 2)))
+    ∙ ap (λ b. has_bit wrong x || (b || not (nat_eq (plane_number planes x) (n / 2)))) (xor_members plane (word_of (nat_eq (n % 2) 1)) x ∙ ap (differ (has_bit plane x)) (word_members (nat_eq (n % 2) 1) x l))
+    ∙ ap (λ b. has_bit wrong x || b) (differ_bit (has_bit plane x) (nat_eq (n % 2) 1) (plane_number planes x) (n / 2) ∙ ap (λ m. not (nat_eq (plane_number (plane ∷ planes) x) m)) whole)
   where
     parts : (n % 2 ≡ 1) ⊎ (n % 2 ≡ 1 → ⊥) → one_if (nat_eq (n % 2) 1) + 2 * (n / 2) ≡ n
     parts (inl e) = rw (eq-eqb (n % 2) 1 e) (omega arith)
     parts (inr o) = let z : n % 2 ≡ 0 = omega arith in rw (ne_eqb (n % 2) 1 o) (omega arith)
 
-pub wrong-members : (planes : List ℕ) (count n x : ℕ) → length planes ≡ count → x < 32 → n < 2 ^ count → has_bit (wrong_from 0 planes (words_of count n)) x ≡ not (nat_eq (number_at planes x) n)
+pub wrong-members : (planes : List ℕ) (count n x : ℕ) → length planes ≡ count → x < 32 → n < 2 ^ count → has_bit (wrong_from 0 planes (words_of count n)) x ≡ not (nat_eq (plane_number planes x) n)
 wrong-members planes count n x long l small =
     ap (λ k. has_bit (wrong_from 0 planes (words_of k n)) x) (sym long)
-    ∙ wrong-from 0 planes n x l (rw long small) ∙ ap (λ b. b || not (nat_eq (number_at planes x) n)) (has_bit-zero x)
+    ∙ wrong-from 0 planes n x l (rw long small) ∙ ap (λ b. b || not (nat_eq (plane_number planes x) n)) (has_bit-zero x)
 
 word-fits : (b : Bool) → word_of b < 2 ^ 32
 word-fits true = omega arith

@@ -6,7 +6,7 @@ use Rattle.noc_packet.specs.Set.{has_bit}
 use Rattle.noc_packet.proofs.SetLemmas.{has_bit-zero, zero_from_none}
 use Rattle.noc_rows.specs.Carried.{HaveMoved, WireWords, wire_words}
 use Rattle.noc_rows.specs.Column.{place_of}
-use Rattle.noc_rows.specs.Outlook.{some_below}
+use Rattle.noc_rows.specs.Outlook.{is_some_below}
 use Rattle.noc_rows.specs.Rows.{word}
 use Rattle.noc_rows.specs.Stages.{HasConcluded}
 use Rattle.noc_rows.specs.Whole.{IsQuiet}
@@ -53,8 +53,8 @@ module _ (limit : ℕ) (gone : ℕ → Bool) (target back : ℕ → ℕ) (start 
 
 -- ---- a block of which a flit moves is among those from which something goes
 
-pub some-above : (test : ℕ → Bool) (n k : ℕ) → k < n → test k ≡ true → some_below test n ≡ true
-unfolding some_below
+pub some-above : (test : ℕ → Bool) (n k : ℕ) → k < n → test k ≡ true → is_some_below test n ≡ true
+unfolding is_some_below
 some-above test zero k l e = absurd (omega (arith, l))
 some-above test (suc n) k l e = at (cases_eq k n) (λ lower. some-above test n k lower e)
   where
@@ -62,8 +62,8 @@ some-above test (suc n) k l e = at (cases_eq k n) (λ lower. some-above test n k
     or-true true = refl
     or-true false = refl
 
-    at : (k ≡ n) ⊎ (k ≢ n) → (k < n → some_below test n ≡ true) → (some_below test n || test n) ≡ true
-    at (inl same) lower = ap (λ x. some_below test n || x) (ap test (sym same) ∙ e) ∙ or-true (some_below test n)
+    at : (k ≡ n) ⊎ (k ≢ n) → (k < n → is_some_below test n ≡ true) → (is_some_below test n || test n) ≡ true
+    at (inl same) lower = ap (λ x. is_some_below test n || x) (ap test (sym same) ∙ e) ∙ or-true (is_some_below test n)
     at (inr other) lower = ap (λ x. x || test n) (lower (omega (arith, l, other)))
 
 pub block-moves : (frame : Frame) (n : ℕ) (old new : Block) (before after : Sheet) (k i : ℕ) → HasConcluded frame n old new before after → k < 32

@@ -17,8 +17,8 @@ use Rattle.noc_model.specs.Lockstep.{site_at}
 use Rattle.noc_model.specs.Network.{Setup, size}
 use Rattle.noc_rows.specs.Carried.{HaveMoved, WireWords, wire_words}
 use Rattle.noc_rows.specs.Column.{Leads, place_of}
-use Rattle.noc_rows.specs.Frames.{IsFrame}
-use Rattle.noc_rows.specs.Opened.{IsLinked}
+use Rattle.noc_rows.specs.Frames.{IsFrameOf}
+use Rattle.noc_rows.specs.Opened.{HasLinksOf}
 use Rattle.noc_rows.specs.Rows.{word}
 use Rattle.noc_rows.specs.Stages.{HaveConcluded}
 use Rattle.noc_rows.specs.Whole.{IsQuiet, IsTarget}
@@ -34,12 +34,12 @@ use Rattle.noc_rows.proofs.NetworkLaws.{frozen-seen, frozen-tidy}
 use Rattle.noc_rows.proofs.NetworkMoves.{is_moving, moves-are, moves-below, moves_at}
 use Rattle.noc_rows.proofs.QuietLaws.{block-moves, block-quiet}
 
-module _ (net : Setup) (setup : IsGoodSetup net) (n : ℕ) (frame : Frame) (is_frame : IsFrame net.relation net.places frame) (moved new : List Block)
+module _ (net : Setup) (setup : IsGoodSetup net) (n : ℕ) (frame : Frame) (is_frame : IsFrameOf net.relation net.places frame) (moved new : List Block)
     (sheets nexts : List Sheet) (near : ℕ)
     (few_blocks : length moved ≤ 8) (covered : nodes net.relation.grid * 32 ≤ length moved * 1024) (paired : length sheets ≡ length moved)
     (concluded : HaveConcluded frame n near moved new sheets nexts)
     (links : (b : ℕ) (block : Block) → slice_get new b ≡ Some block → (k : ℕ) → k < 32 → b * 32 + k < nodes net.relation.grid
-    → IsLinked net.relation frame (min (length moved) 8 * 1024) block (b * 32 + k) k)
+    → HasLinksOf net.relation frame (min (length moved) 8 * 1024) block (b * 32 + k) k)
     (decided : (b : ℕ) (block : Block) → slice_get moved b ≡ Some block → block.awake ≡ true → (c : ℕ) → c < 1024 → is_moving net n (b * 1024 + c) ≡ true
     → has_bit (word block.decided.moved (c / 32)) (c % 32) ≡ true)
     (asleep : (b : ℕ) (block : Block) → slice_get moved b ≡ Some block → block.awake ≡ false → (p : ℕ) → p / 1024 ≡ b → is_moving net n p ≡ false)
@@ -109,7 +109,7 @@ module _ (net : Setup) (setup : IsGoodSetup net) (n : ℕ) (frame : Frame) (is_f
   abbrev new_one : ℕ → Block
   new_one b = get_or new b some_block
 
-  -- .. in the block of the router, which is awake
+  -- a place to which a router leads is in a block that is near to the router's
   abbrev Near : ℕ → ℕ → Type 0
   Near p q = (o place : ℕ) → o < size net → Leads (site_at net (p / 32)) o place → IsTarget (nodes net.relation.grid) (length moved) place
       → place / 1024 ≡ q → q < length moved → has_bit near q ≡ true
@@ -135,8 +135,8 @@ module _ (net : Setup) (setup : IsGoodSetup net) (n : ℕ) (frame : Frame) (is_f
       known : p / 1024 * 32 + p / 32 % 32 < nodes net.relation.grid
       known = let r = m.router in let e = (place-is p).0 in omega (arith, r, e)
 
-      linked : IsLinked net.relation frame (min (length moved) 8 * 1024) (new_one (p / 1024)) (p / 32) (p / 32 % 32)
-      linked = subst (λ r. IsLinked net.relation frame (min (length moved) 8 * 1024) (new_one (p / 1024)) r (p / 32 % 32)) (place-is p).0
+      linked : HasLinksOf net.relation frame (min (length moved) 8 * 1024) (new_one (p / 1024)) (p / 32) (p / 32 % 32)
+      linked = subst (λ r. HasLinksOf net.relation frame (min (length moved) 8 * 1024) (new_one (p / 1024)) r (p / 32 % 32)) (place-is p).0
           (links (p / 1024) (new_one (p / 1024)) there_next (p / 32 % 32) (place-is p).1 known)
 
       at : (a : Bool) → (moved_one (p / 1024)).awake ≡ a → Near p q
@@ -162,7 +162,7 @@ module _ (net : Setup) (setup : IsGoodSetup net) (n : ℕ) (frame : Frame) (is_f
       moves-near p q m m.out (target p) m.below (subst (λ (s : Site). Leads s m.out (target p)) (frozen-seen net setup n (p / 32) m.router).site
       leads) (targets p e) here few_q
 
-  -- .. and so does its credit
+  -- a block to which a credit goes is near
   back-near : (p q : ℕ) → is_moving net n p ≡ true → back p / 1024 ≡ q → q < length moved → has_bit near q ≡ true
   back-near p q e here few_q =
       let m : Moves p = moves p e in

@@ -117,7 +117,7 @@ module _ (room : ℕ) (is : IsRoom room) where
             ∙ sym (ap (λ s. get_or (set words (slot room channel next) flit) s 0) (same-slot channel (first + i) next wrap)
             ∙ get_or-set_same words (slot room channel next) flit 0 (let b : slot room channel next < 16384 = slot-below channel next within in omega arith))
 
-    -- .. and the other rings are as they were
+    -- a push leaves the other rings as they were
     pub others-are : (c from to : ℕ) → c < 1024 → c ≢ channel → ring_of room (set words (slot room channel next) flit) c from to ≡ ring_of room words c from to
     others-are c from to l other =
         tabulate-same ((to + (256 - from)) % 256) (λ k. get_or (set words (slot room channel next) flit) (slot room c (from + k)) 0) (λ k. get_or words (slot room c (from + k)) 0)

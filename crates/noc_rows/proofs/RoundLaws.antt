@@ -97,7 +97,7 @@ module _ (v : View) (a b : Allocation) (outs moved : ℕ) (shows : IsColumn 5 a.
       moved = moves;
     }
 
-  -- .. in which nothing is
+  -- a round in which nothing is granted
   pub round-quiet : b.granted ≡ 0 → b.lost ≡ 0 → AreRound v b.granted b.lost moved
   round-quiet no_grant no_loss = record {
     granted_below = none-below (size_of v.site) b.granted no_grant;

@@ -19,7 +19,7 @@ pub record IsSending (room : ℕ) (old new : List Inbox) (to flit : ℕ) : Type 
   pub others : (b : ℕ) → b ≢ to / 1024 → inbox_at new b ≡ inbox_at old b
   pub long : length new ≡ length old
 
--- .. and a credit
+-- a credit is given back
 pub record IsGiving (old new : List Inbox) (to : ℕ) : Type 0 where
   pub there : to / 1024 < length old → HasGivenBack (inbox_at old (to / 1024)) (inbox_at new (to / 1024)) (to % 1024)
   pub others : (b : ℕ) → b ≢ to / 1024 → inbox_at new b ≡ inbox_at old b

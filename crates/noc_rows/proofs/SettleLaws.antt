@@ -19,7 +19,7 @@ use Rattle.noc_router.specs.Verdict.{ArbiterStates, arbiters_after}
 use Rattle.noc_router.specs.View.{Site, View, Decisions, size_of, local_channel, view_buffer, view_input, view_output, view_round, mover_to, decisions_of, view_after_commit, with_arrival, with_misfit, tail_packet, flit_out, view_after_inject, view_after_takes, local_step}
 use Rattle.noc_rows.specs.Bits.{less}
 use Rattle.noc_rows.specs.Fields.{Fields, IsFields, ShowsPointer, lane_some, lane_whole}
-use Rattle.noc_rows.specs.Planes.{number_at}
+use Rattle.noc_rows.specs.Planes.{plane_number}
 use Rattle.noc_rows.specs.Taken.{HasSize}
 use Rattle.noc_rows.specs.Column.{Column, RouterMarks, AreWords, ShowsInput, ShowsOutput, ShowsChannels, ShowsTurns, ShowsMarks, ShowsSending, IsColumn}
 use Rattle.noc_rows.specs.Passes.{Effects, settled_lane}
@@ -84,7 +84,7 @@ record ChannelsIn (site : Site) (c : Column) (v : View) : Type 0 where
   active_below : AreBelow (size_of site) c.active
   idle_below : AreBelow (size_of site) c.idle
   draining_below : AreBelow (size_of site) c.draining
-  len_below : (i : ℕ) → size_of site ≤ i → number_at c.len i ≡ 0
+  len_below : (i : ℕ) → size_of site ≤ i → plane_number c.len i ≡ 0
 
 shows-channels : (c : Column) (v : View) (parts : ChannelsIn v.site c v) → ShowsChannels c v
 shows-channels c v parts = record {

@@ -19,7 +19,7 @@ use Rattle.noc_router.specs.declared.verdict.Verdict.TheVariants.{Empty, Routed,
 use Rattle.noc_router.specs.View.{View, Decisions, view_buffer, view_input, view_claim, claim_in, first_flit, input_after, buffer_after, granted_to, sent_from, is_tail, held_by, spent_by}
 use Rattle.noc_rows.specs.Bits.{less}
 use Rattle.noc_rows.specs.Fields.{Fields}
-use Rattle.noc_rows.specs.Planes.{number_at}
+use Rattle.noc_rows.specs.Planes.{plane_number}
 use Rattle.noc_rows.specs.Column.{Column, AreWords, ShowsInput, ShowsOutput, is_draining}
 use Rattle.noc_rows.specs.Passes.{Effects, settled_lane}
 use Rattle.noc_rows.proofs.BitLemmas.{less_members, or_fits, and_fits}
@@ -84,15 +84,15 @@ module _ (count : ℕ) (c : Column) (v : View) (frame : Fields) (links local : �
       less_members (bit_or c.active e.granted) e.released i (or_fits c.active e.granted words.active effects.granted) effects.released
       ∙ ap (λ b. b && not (has_bit e.released i)) (either_members c.active e.granted i)
 
-  len-number : (i : ℕ) → one_if (has_bit e.moved i) ≤ number_at c.len i → number_at (settled_lane frame links local e c).len i + one_if (has_bit e.moved i) ≡ number_at c.len i
+  len-number : (i : ℕ) → one_if (has_bit e.moved i) ≤ plane_number c.len i → plane_number (settled_lane frame links local e c).len i + one_if (has_bit e.moved i) ≡ plane_number c.len i
   len-number i some = lowered-number c.len e.moved i words.len effects.moved some
 
   module _ (round : Round) (d : Decisions) (i : ℕ) (shows : ShowsInput c i (view_buffer v i) (view_input v i)) (says : SaysOf v round e i) where
     -- where no flit moves
-    same-len : has_bit e.moved i ≡ false → number_at (settled_lane frame links local e c).len i ≡ length (view_buffer v i)
+    same-len : has_bit e.moved i ≡ false → plane_number (settled_lane frame links local e c).len i ≡ length (view_buffer v i)
     same-len none =
         let z : one_if (has_bit e.moved i) ≡ 0 = ap one_if none in
-        let some : one_if (has_bit e.moved i) ≤ number_at c.len i = omega arith in
+        let some : one_if (has_bit e.moved i) ≤ plane_number c.len i = omega arith in
         omega (arith, len-number i some, shows.len)
 
     no-release : has_bit e.moved i ≡ false → has_bit e.released i ≡ false
@@ -115,8 +115,8 @@ module _ (count : ℕ) (c : Column) (v : View) (frame : Fields) (links local : �
             let w_no : has_bit c.waiting i ≡ false = shows.waiting ∙ ap is_waiting ep in
             let a_yes : has_bit c.active i ≡ true = shows.active ∙ ap is_active ep in
             let one : one_if (has_bit e.moved i) ≡ 1 = ap one_if here in
-            let long : number_at c.len i ≡ suc (length flits) = shows.len ∙ ap (λ xs. length xs) ef in
-            let rest : number_at (settled_lane frame links local e c).len i + one_if (has_bit e.moved i) ≡ number_at c.len i = len-number i (omega arith) in
+            let long : plane_number c.len i ≡ suc (length flits) = shows.len ∙ ap (λ xs. length xs) ef in
+            let rest : plane_number (settled_lane frame links local e c).len i + one_if (has_bit e.moved i) ≡ plane_number c.len i = len-number i (omega arith) in
             record {
               waiting = waiting-bit i ∙ rw (w_no, idle_no) (sym (ap (λ (x : Option Flit). is_waiting (sent_from (view_input v i) x).phase) first ∙ after_waiting f.last ep));
               active = active-bit i ∙ rw (a_yes, last) (sym (ap (λ (x : Option Flit). is_active (sent_from (view_input v i) x).phase) first ∙ after_active f.last ep));
@@ -131,7 +131,7 @@ module _ (count : ℕ) (c : Column) (v : View) (frame : Fields) (links local : �
             after_active true ep = refl
             after_active false ep = ap is_active ep
 
-            number-is : number_at (settled_lane frame links local e c).len i ≡ length flits → number_at (settled_lane frame links local e c).len i ≡ length (drop 1 (f ∷ flits))
+            number-is : plane_number (settled_lane frame links local e c).len i ≡ length flits → plane_number (settled_lane frame links local e c).len i ≡ length (drop 1 (f ∷ flits))
             number-is h = h
 
     -- an output channel is granted
@@ -238,17 +238,17 @@ module _ (count : ℕ) (c : Column) (v : View) (frame : Fields) (links local out
   draining-bit : (o : ℕ) → has_bit (settled_lane frame links local e granted_lane).draining o ≡ (has_bit c.draining o || (has_bit e.freed o && has_bit links o))
   draining-bit o = either_members c.draining (bit_and e.freed links) o ∙ ap (λ b. has_bit c.draining o || b) (both_members e.freed links o)
 
-  credit-number : (o : ℕ) → one_if (has_bit (bit_and e.out links) o) ≤ number_at c.credit o
-      → number_at (settled_lane frame links local e granted_lane).credit o + one_if (has_bit (bit_and e.out links) o) ≡ number_at c.credit o
+  credit-number : (o : ℕ) → one_if (has_bit (bit_and e.out links) o) ≤ plane_number c.credit o
+      → plane_number (settled_lane frame links local e granted_lane).credit o + one_if (has_bit (bit_and e.out links) o) ≡ plane_number c.credit o
   credit-number o some = lowered-number c.credit (bit_and e.out links) o words.credit (and_fits e.out links effects.out) some
 
-  unspent : (o n : ℕ) → has_bit (bit_and e.out links) o ≡ false → number_at c.credit o ≡ n → number_at (settled_lane frame links local e granted_lane).credit o ≡ n
+  unspent : (o n : ℕ) → has_bit (bit_and e.out links) o ≡ false → plane_number c.credit o ≡ n → plane_number (settled_lane frame links local e granted_lane).credit o ≡ n
   unspent o n none is =
       let z : one_if (has_bit (bit_and e.out links) o) ≡ 0 = ap one_if none in
-      let some : one_if (has_bit (bit_and e.out links) o) ≤ number_at c.credit o = omega arith in
+      let some : one_if (has_bit (bit_and e.out links) o) ≤ plane_number c.credit o = omega arith in
       omega (arith, credit-number o some)
 
-  kept : (o : ℕ) (credit : Option ℕ) → has_bit (bit_and e.out links) o ≡ false → IfSome credit (λ n. number_at c.credit o ≡ n) → IfSome credit (λ n. number_at (settled_lane frame links local e granted_lane).credit o ≡ n)
+  kept : (o : ℕ) (credit : Option ℕ) → has_bit (bit_and e.out links) o ≡ false → IfSome credit (λ n. plane_number c.credit o ≡ n) → IfSome credit (λ n. plane_number (settled_lane frame links local e granted_lane).credit o ≡ n)
   kept o None none is = tt
   kept o (Some n) none is = unspent o n none is
 
@@ -311,7 +311,7 @@ module _ (count : ℕ) (c : Column) (v : View) (frame : Fields) (links local out
           out true ef = record {
             idle = idle-bit o ∙ rw (says.taken, ef, local_yes) (on (has_bit c.idle o && true));
             draining = draining-bit o ∙ rw (ef, link_no, shows.draining, (says.owned refl).1) refl;
-            credit = subst (λ k. IfSome k (λ n. number_at (settled_lane frame links local e granted_lane).credit o ≡ n)) (sym ec) tt;
+            credit = subst (λ k. IfSome k (λ n. plane_number (settled_lane frame links local e granted_lane).credit o ≡ n)) (sym ec) tt;
           }
             where
               on : (b : Bool) → (b || true) ≡ true
@@ -320,7 +320,7 @@ module _ (count : ℕ) (c : Column) (v : View) (frame : Fields) (links local out
           out false ef = record {
             idle = idle-bit o ∙ rw (says.taken, ef, shows.idle, (says.owned refl).0) refl;
             draining = draining-bit o ∙ rw (ef, shows.draining, (says.owned refl).1) refl;
-            credit = subst (λ k. IfSome k (λ n. number_at (settled_lane frame links local e granted_lane).credit o ≡ n)) (sym ec) tt;
+            credit = subst (λ k. IfSome k (λ n. plane_number (settled_lane frame links local e granted_lane).credit o ≡ n)) (sym ec) tt;
           }
       by (Some n) ec last el =
           subst (λ b. ShowsOutput (settled_lane frame links local e granted_lane) o (output_after_spend b output)) (sym el)
@@ -335,10 +335,10 @@ module _ (count : ℕ) (c : Column) (v : View) (frame : Fields) (links local out
           positive : 0 < n
           positive = rw ec at (says.owned refl).2
 
-          was : number_at c.credit o ≡ n
+          was : plane_number c.credit o ≡ n
           was = rw ec at shows.credit
 
-          now : number_at (settled_lane frame links local e granted_lane).credit o ≡ n - 1
+          now : plane_number (settled_lane frame links local e granted_lane).credit o ≡ n - 1
           now =
               let here : has_bit (bit_and e.out links) o ≡ true = both_members e.out links o ∙ rw (says.left, link_yes) refl in
               let one : one_if (has_bit (bit_and e.out links) o) ≡ 1 = ap one_if here in

@@ -216,6 +216,6 @@ module _ (count : ℕ) (c : Column) (v : View) (filled : ℕ) (words : AreWords 
       pub verdicts : (k : ℕ) → k < size_of v.site → verdict_by (record { routed = lane_heads filled c; granted = granted; moved = moved; no_flit = lane_no_flit filled c; no_idle_channel = lane_no_idle_channel granted lost c; lost_channel = lost; no_credit = lane_no_credit filled c; lost_input = less (lane_ready filled c) (lane_picked f filled c); lost_switch = less (lane_picked f filled c) moved }) k ≡ (finding_of (view_round v) v k).verdict
       verdicts k l = verdict-on v (view_round v) (record { heads = lane_heads filled c; waiting = c.waiting; no_flit = lane_no_flit filled c; no_credit = lane_no_credit filled c; ready = lane_ready filled c }) (bit_or granted lost) (lane_picked f filled c) (record { routed = lane_heads filled c; granted = granted; moved = moved; no_flit = lane_no_flit filled c; no_idle_channel = lane_no_idle_channel granted lost c; lost_channel = lost; no_credit = lane_no_credit filled c; lost_input = less (lane_ready filled c) (lane_picked f filled c); lost_switch = less (lane_picked f filled c) moved }) k l standing (are k l)
 
-      -- .. and have it once at most
+      -- a channel has one verdict at most
       pub verdicts-apart : (k : ℕ) → k < size_of v.site → sets_with (record { routed = lane_heads filled c; granted = granted; moved = moved; no_flit = lane_no_flit filled c; no_idle_channel = lane_no_idle_channel granted lost c; lost_channel = lost; no_credit = lane_no_credit filled c; lost_input = less (lane_ready filled c) (lane_picked f filled c); lost_switch = less (lane_picked f filled c) moved }) k ≤ 1
       verdicts-apart k l = apart-on v (view_round v) (record { heads = lane_heads filled c; waiting = c.waiting; no_flit = lane_no_flit filled c; no_credit = lane_no_credit filled c; ready = lane_ready filled c }) (bit_or granted lost) (lane_picked f filled c) (record { routed = lane_heads filled c; granted = granted; moved = moved; no_flit = lane_no_flit filled c; no_idle_channel = lane_no_idle_channel granted lost c; lost_channel = lost; no_credit = lane_no_credit filled c; lost_input = less (lane_ready filled c) (lane_picked f filled c); lost_switch = less (lane_picked f filled c) moved }) k l standing (are k l)

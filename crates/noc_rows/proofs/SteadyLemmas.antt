@@ -274,7 +274,7 @@ module _ (net : Setup) (good : IsGood net) where
           by true h f = with (next_channel net S c) refl h f
           by false h f = absurd (cc f)
 
-      -- .. so its output channel is owned from it
+      -- the output channel of one that sends is owned from it
       pub holder-sends : (i o : ℕ) (s : Sends i o) → seen_holder net S r s.to (owner_of net S s.to) ≡ Owned i s.packet
       holder-sends i o s =
           ap (seen_holder net S r s.to) (owner-is net S s.to s.packet x.worm.once s.next.owns)
@@ -286,7 +286,7 @@ module _ (net : Setup) (good : IsGood net) where
           free (Inject a w) m = refl
           free (Eject a w) m = refl
 
-      -- .. and it is active
+      -- an input channel that sends is active
       pub active-sends : (i o : ℕ) (s : Sends i o) → seen_phase net S r i s.from ≡ Active o
       active-sends i o s =
           ap (λ b. cond b (seen_phase_with net S r i s.from (next_channel net S s.from)) Idle) s.routed

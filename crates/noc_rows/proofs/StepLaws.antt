@@ -9,7 +9,7 @@ use Rattle.noc_model.specs.Good.{IsGoodSetup}
 use Rattle.noc_model.specs.Network.{Setup, arrival_in, packet_at, state_at}
 use Rattle.noc_model.proofs.CoreLemmas.{get_some}
 use Rattle.noc_rows.specs.Decided.{HasDecided}
-use Rattle.noc_rows.specs.Frames.{IsFrame}
+use Rattle.noc_rows.specs.Frames.{IsFrameOf}
 use Rattle.noc_rows.specs.Stages.{AreWoken, HaveConcluded, HaveDecided, HaveFrozen, is_busy, next_of, woken}
 use Rattle.noc_rows.specs.Whole.{IsQuiet, IsRows, ShowsArrival, ShowsBlock}
 use Rattle.noc_rows.specs.Wires.{inbox_at, room_of}
@@ -109,7 +109,7 @@ module _ (net : Setup) (n next : ℕ) (rows : Rows) (is : IsRows net n rows) (wo
     pub rows-later : IsGoodSetup net → end ≤ CYCLE_LIMIT → (new : Rows) → new ≡ record rows { blocks = new.blocks; cycle = new.cycle } → new.blocks.items ≡ woke → new.cycle ≡ end → IsRows net end new
     rows-later setup limit new kept blocks cycle = record {
       cycle = cycle;
-      frame = subst (λ f. IsFrame net.relation net.places f) (sym (ap (λ (x : Rows). x.frame) kept)) is.frame;
+      frame = subst (λ f. IsFrameOf net.relation net.places f) (sym (ap (λ (x : Rows). x.frame) kept)) is.frame;
       starts = ap (λ (x : Rows). x.starts.items) kept ∙ is.starts;
       blocks_are = count ∙ is.blocks_are;
       sheets_are = ap (λ (x : Rows). length x.sheets.items) kept ∙ is.sheets_are ∙ sym count;
@@ -221,7 +221,7 @@ module _ (net : Setup) (setup : IsGoodSetup net) (n : ℕ) (few : n < CYCLE_LIMI
       → ((b : ℕ) → b < length end.busy.items → b < 32 → slice_get busy b ≡ Some (has_bit near b)) → after.cycle ≡ suc n → IsRows net (suc n) after
   step-rows after busy after_is blocks sheets_is wires_are busy_is busy_long noted cycle = record {
     cycle = cycle;
-    frame = subst (λ f. IsFrame net.relation net.places f) (sym same-frame) is.frame;
+    frame = subst (λ f. IsFrameOf net.relation net.places f) (sym same-frame) is.frame;
     starts = same-starts ∙ is.starts;
     blocks_are = count ∙ is.blocks_are;
     sheets_are = ap (λ xs. length xs) sheets_is ∙ concluded.sheets ∙ is.sheets_are ∙ sym count;

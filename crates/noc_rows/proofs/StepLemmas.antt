@@ -3,7 +3,7 @@ use Rattle.std.proofs.Common.{◌≡◌, ◌≢◌, ℕ, zero, suc, ◌+◌, ◌
 use Rattle.std.specs.Prelude.{◌⊎◌, ◌&&◌, ◌||◌, nat_eq, if◌then◌else◌}
 use Rattle.std.proofs.lemmas.Bool.{cases_eq, cases_Bool, eq-eqb, ne_eqb, eqb-true, true≢false, and_parts}
 use Rattle.noc_rows.specs.FlitWords.{flit_word}
-use Rattle.noc_rows.specs.Carried.{CanMove, HasFlit, HaveMoved, NoneTo, WireWords, first_of, left_of, without_first}
+use Rattle.noc_rows.specs.Carried.{FlitsCanMove, HasFlit, HaveMoved, NoneTo, WireWords, first_of, left_of, without_first}
 use Rattle.noc_rows.proofs.UnionLemmas.{or-none}
 
 -- some number below n passes a test, or none does
@@ -41,7 +41,7 @@ shorter false r = omega arith
 shorter true [] = omega arith
 shorter true (f ∷ r) = let e : length (f ∷ r) ≡ suc (length r) = refl in omega arith
 
-module _ (room limit : ℕ) (all gone : ℕ → Bool) (target back : ℕ → ℕ) (start w : WireWords) (can : CanMove room limit all target start) (part : (q : ℕ) → gone q ≡ true → all q ≡ true)
+module _ (room limit : ℕ) (all gone : ℕ → Bool) (target back : ℕ → ℕ) (start w : WireWords) (can : FlitsCanMove room limit all target start) (part : (q : ℕ) → gone q ≡ true → all q ≡ true)
     (moved : HaveMoved limit gone target back start w) (p : ℕ) (in_all : all p ≡ true) (new : gone p ≡ false) where
   whole : left_of gone start p ≡ start.ring p
   whole = ap (λ b. if b then without_first (start.ring p) else start.ring p) new

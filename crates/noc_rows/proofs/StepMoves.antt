@@ -8,7 +8,7 @@ use Rattle.noc_model.specs.declared.limits.TheConstants.{CYCLE_LIMIT}
 use Rattle.noc_model.specs.Good.{IsGoodSetup}
 use Rattle.noc_model.specs.Network.{Setup, arrival_in, state_at}
 use Rattle.noc_rows.specs.Decided.{HasDecided}
-use Rattle.noc_rows.specs.Frames.{IsFrame}
+use Rattle.noc_rows.specs.Frames.{IsFrameOf}
 use Rattle.noc_rows.specs.Moves.{ports_of}
 use Rattle.noc_rows.specs.Stages.{HasFrozen}
 use Rattle.noc_rows.specs.Whole.{IsQuiet, IsRows, IsWoken, ShowsArrival, ShowsBlock}

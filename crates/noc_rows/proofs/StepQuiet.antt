@@ -13,12 +13,12 @@ use Rattle.noc_model.specs.Network.{Setup, size}
 use Rattle.noc_rows.specs.Carried.{HaveMoved, wire_words}
 use Rattle.noc_rows.specs.Column.{place_of}
 use Rattle.noc_rows.specs.Decided.{HasDecided}
-use Rattle.noc_rows.specs.Frames.{IsFrame}
+use Rattle.noc_rows.specs.Frames.{IsFrameOf}
 use Rattle.noc_rows.specs.Moves.{ports_of, union_from}
-use Rattle.noc_rows.specs.Opened.{IsLinked}
+use Rattle.noc_rows.specs.Opened.{HasLinksOf}
 use Rattle.noc_rows.specs.Rows.{word}
 use Rattle.noc_rows.specs.Stages.{HasFrozen, HaveConcluded, HaveDecided, HaveFrozen, selected_of}
-use Rattle.noc_rows.specs.Switched.{in_words, moved_by}
+use Rattle.noc_rows.specs.Switched.{in_words, selected_by_ports}
 use Rattle.noc_rows.specs.Whole.{IsQuiet, IsTarget, ShowsBlock}
 use Rattle.noc_rows.specs.Wires.{inbox_at, room_of}
 use Rattle.noc_rows.specs.declared.block.Block.{Block}
@@ -41,7 +41,7 @@ use Rattle.noc_rows.proofs.NetworkMoves.{by_block, is_moving, moves-below, moves
 use Rattle.noc_rows.proofs.QuietLists.{lists-quiet}
 use Rattle.noc_rows.proofs.FrozenWires.{AreFrozenWires, frozen_of}
 
-module _ (net : Setup) (setup : IsGoodSetup net) (n : ℕ) (few : n < CYCLE_LIMIT) (frame : Frame) (is_frame : IsFrame net.relation net.places frame)
+module _ (net : Setup) (setup : IsGoodSetup net) (n : ℕ) (few : n < CYCLE_LIMIT) (frame : Frame) (is_frame : IsFrameOf net.relation net.places frame)
     (starts : List Start) (room : ℕ) (enough : net.places ≤ room)
     (woke frozen moved : List Block) (before after : List Inbox) (start end : Wires) (sheets : List Sheet)
     (few_blocks : length woke ≤ 8) (covered : nodes net.relation.grid * 32 ≤ length woke * 1024) (long : length woke ≤ length before)
@@ -112,7 +112,7 @@ module _ (net : Setup) (setup : IsGoodSetup net) (n : ℕ) (few : n < CYCLE_LIMI
       (subst (λ c. IsTarget (nodes net.relation.grid) (length woke) (slice_index x.w.marks.target c)) place
       (shown.targets (p / 32 % 32) (p % 32) (omega arith) (omega arith) (omega (arith, router, k.0))))
 
-  -- .. and so does its credit
+  -- the credit of a channel leads to a router or out of all blocks
   back-is : (p : ℕ) → is_moving net n p ≡ true → IsTarget (nodes net.relation.grid) (length woke) (by_block back p)
   back-is p e =
       let k = known p e in
@@ -166,7 +166,7 @@ module _ (net : Setup) (setup : IsGoodSetup net) (n : ℕ) (few : n < CYCLE_LIMI
       x.sheet (bytes b x.w x.w_is) (shows b x.w x.sheet x.w_is x.sheet_is) freezes d.chosen lane.keeps lane.lanes c l
       ∙ here
 
-  -- .. and where it was asleep, the network moves nothing of it
+  -- where a block was asleep, the network moves nothing of it
   none-moving : (b : ℕ) (x : One b) → x.w.awake ≡ false → (p : ℕ) → p / 1024 ≡ b → is_moving net n p ≡ false
   none-moving b x e =
       let shown = shows b x.w x.sheet x.w_is x.sheet_is in
@@ -186,7 +186,7 @@ module _ (net : Setup) (setup : IsGoodSetup net) (n : ℕ) (few : n < CYCLE_LIMI
 
   -- ---- the links of the blocks after the cycle
   links-new : (b : ℕ) (block : Block) → slice_get new b ≡ Some block → (k : ℕ) → k < 32 → b * 32 + k < nodes net.relation.grid
-      → IsLinked net.relation frame (min (length moved) 8 * 1024) block (b * 32 + k) k
+      → HasLinksOf net.relation frame (min (length moved) 8 * 1024) block (b * 32 + k) k
   links-new b block is k low l =
       let there = slice_get_within new b block is in
       let many : length new ≡ length moved = concluded.many in
@@ -196,7 +196,7 @@ module _ (net : Setup) (setup : IsGoodSetup net) (n : ℕ) (few : n < CYCLE_LIMI
       covered long paired bytes shows rests froze decided concluded
       (lanes-decided net setup n few frame is_frame starts room enough woke frozen moved before after start end sheets
       few_blocks covered long paired bytes shows rests froze decided now_bytes room_is same) wires b block sheet.0 is sheet.1 in
-      subst (λ m. IsLinked net.relation frame (min m 8 * 1024) block (b * 32 + k) k) many (shown.links k low l)
+      subst (λ m. HasLinksOf net.relation frame (min m 8 * 1024) block (b * 32 + k) k) many (shown.links k low l)
 
   -- ---- all of it
   abbrev first : ℕ → List ℕ

@@ -10,7 +10,7 @@ use Rattle.noc_vc.specs.declared.input.InputState.{InputState}
 use Rattle.noc_vc.specs.declared.input.InputState.TheVariants.{Idle, Waiting, Active}
 use Rattle.noc_router.specs.Sound.{is_supplied}
 use Rattle.noc_router.specs.View.{View, view_output}
-use Rattle.noc_rows.specs.Planes.{number_at, raised_by, more_than_one}
+use Rattle.noc_rows.specs.Planes.{plane_number, raised_by, more_than_one}
 use Rattle.noc_rows.specs.Column.{Column, AreWords}
 use Rattle.noc_rows.specs.Passes.{lane_single}
 use Rattle.noc_rows.proofs.BitLemmas.{not_members}
@@ -18,7 +18,7 @@ use Rattle.noc_rows.proofs.PlaneLemmas.{more-members, more-fits, raised-fits}
 
 -- the link channels with one credit at most, once the credits have come
 pub single-members : (count : ℕ) (c : Column) (links came o : ℕ) → AreWords count c → came < 2 ^ 32 → o < 32
-    → has_bit (lane_single links came c) o ≡ (not (nat_lt 1 (number_at (raised_by c.credit came) o)) && has_bit links o)
+    → has_bit (lane_single links came c) o ≡ (not (nat_lt 1 (plane_number (raised_by c.credit came) o)) && has_bit links o)
 single-members count c links came o words small l =
     both_members (bit_not w32 (more_than_one (raised_by c.credit came))) links o
     ∙ ap (λ b. b && has_bit links o)

@@ -206,7 +206,7 @@ module _ (relation : Routes) (frame : Frame) (x : Surroundings) (v : View) (stil
       → has_bit picked k ≡ true
   moved-picked k e = let t = moved-found k e in chosen-picked t.0 t.1 k t.2
 
-  -- .. are those that the round moves
+  -- the flits that move are those that the round moves
   pub moved-won : (k : ℕ) → k < size_of v.site → has_bit all_moved k
       ≡ (has_bit picked k && is_won_from v (view_round v) k (view_input v k).phase)
   moved-won k l =

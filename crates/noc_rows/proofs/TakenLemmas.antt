@@ -185,7 +185,7 @@ flit-taken relation port (Some (vc, f)) v size l none =
                 ∙ parts.1)
             fit i u (inr other) = rw (flit_by-other v.site.vcs port vc i f size.some other) tt
 
--- .. its credit
+-- the credit of a beat is taken
 credit-taken : (relation : Routes) (port : ℕ) (credit : Option ℕ) (v : View) → HasSize v → port < ports v.site.grid → (with_credit port credit v).misfits ≡ 0
     → HasTaken relation v (with_credit port credit v) (λ i. None) (credit_by v.site.vcs port credit)
 credit-taken relation port None v size l none = record {

@@ -4,7 +4,7 @@ use Rattle.std.specs.Prelude.{slice_index_or}
 use Rattle.noc_packet.specs.Set.{has_bit}
 use Rattle.noc_router.specs.Counts.{one_if}
 use Rattle.noc_rows.specs.Rows.{verdicts_at}
-use Rattle.noc_rows.specs.Tallied.{AreBelow, no_rows, with_recent, with_verdicts}
+use Rattle.noc_rows.specs.Tallied.{CountsAreBelow, no_rows, with_recent, with_verdicts}
 use Rattle.noc_rows.specs.declared.sheet.Verdicts.{Verdicts}
 use Rattle.noc_rows.specs.declared.sheet.VerdictRows.{VerdictRows}
 use Rattle.noc_rows.specs.declared.sheet.VerdictCounts.{VerdictCounts}
@@ -52,7 +52,7 @@ one-few : (b : Bool) → one_if b < 2
 one-few true = omega arith
 one-few false = omega arith
 
-pub below-next : (n : ℕ) (words : Verdicts) (k : ℕ) (counts : VerdictCounts) → AreBelow n counts → AreBelow (n + 1) (with_verdicts words k counts)
+pub below-next : (n : ℕ) (words : Verdicts) (k : ℕ) (counts : VerdictCounts) → CountsAreBelow n counts → CountsAreBelow (n + 1) (with_verdicts words k counts)
 below-next n words k counts below = record {
   moved = omega (arith, one-few (has_bit words.moved k), below.moved);
   no_flit = omega (arith, one-few (has_bit words.no_flit k), below.no_flit);
@@ -62,7 +62,7 @@ below-next n words k counts below = record {
   lost_switch = omega (arith, one-few (has_bit words.lost_switch k), below.lost_switch);
 }
 
-pub below-more : (m n : ℕ) (counts : VerdictCounts) → m ≤ n → AreBelow m counts → AreBelow n counts
+pub below-more : (m n : ℕ) (counts : VerdictCounts) → m ≤ n → CountsAreBelow m counts → CountsAreBelow n counts
 below-more m n counts l below = record {
   moved = omega (arith, below.moved);
   no_flit = omega (arith, below.no_flit);

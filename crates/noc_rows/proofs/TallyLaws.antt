@@ -52,7 +52,7 @@ pub tallied-of : (set j : ℕ) (old new : List ℕ) → AreTallied set (of_route
 tallied-of set j old new are i l =
     sym (of-router new j i l) ∙ are i ∙ ap (λ x. if has_bit set i then plus x 1 else x) (of-router old j i l)
 
--- .. where none has risen
+-- the tallies where none has risen
 pub tallied-none : (set j : ℕ) (old new : List ℕ) → set ≡ 0 → of_router new j ≡ of_router old j → IsTallied set (λ i. slice_index_or old (j * 32 + i) 0) (λ i. slice_index_or new (j * 32 + i) 0)
 tallied-none set j old new none same i l =
     sym (of-router new j i l) ∙ ap (λ (xs : List ℕ). slice_index xs i) same ∙ of-router old j i l
@@ -203,7 +203,7 @@ module _ (net : Setup) (setup : IsGoodSetup net) (n r : ℕ) (l : r < nodes net.
         (subst (ShowsLastEvent last) (sym frozen-keeps.1) before) frozen-keeps.2 (omega (arith, few))
         (event-decided net.relation 5 f c v filled lost e shows.words effects (frame-here f frame) (width-here f width) shows.channels fill (turns-here c m shows) decided granted_below moved_below landed credited had))))
 
-  -- .. and these sets are those of the round
+  -- the sets of verdicts are those of the round
   module _ (f : Fields) (c : Column) (m : RouterMarks) (filled granted lost moved : ℕ) (standing : Standing)
       (frame : IsFields (ports net.relation.grid) f) (width : f.width ≡ net.relation.vcs)
       (shows : IsColumn 5 c m (frozen_view net setup n r l)) (fill : AreFilled (frozen_view net setup n r l) filled)

@@ -19,7 +19,7 @@ pub some-none : (n : ℕ) (test : ℕ → Bool) → ((q : ℕ) → q < n → tes
 some-none zero test none = refl
 some-none (suc n) test none = ap₂ (λ a b. a || b) (some-none n test (λ q l. none q (omega arith))) (none n (omega arith))
 
--- .. of one alone
+-- a test that one port alone can pass
 pub some-one : (n p : ℕ) (test : ℕ → Bool) → p < n → ((q : ℕ) → q < n → q ≢ p → test q ≡ false) → some_below n test ≡ test p
 some-one zero p test l others = absurd (omega arith)
 some-one (suc n) p test l others = elim (cases_eq n p) [

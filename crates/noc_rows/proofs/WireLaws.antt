@@ -10,7 +10,7 @@ use Rattle.noc_packet.specs.declared.packet.Beat.{Beat}
 use Rattle.noc_router.specs.View.{Site, View, Decisions, idle_beat, beat_out}
 use Rattle.noc_model.specs.Network.{Setup}
 use Rattle.noc_model.specs.Lockstep.{beat_from, beats_at, wires_after_puts}
-use Rattle.noc_rows.specs.Column.{Leads, LeadsTo, place_of}
+use Rattle.noc_rows.specs.Column.{Leads, LeadsToPlace, place_of}
 use Rattle.noc_rows.specs.Taken.{flit_from, flit_on_vc, credit_from}
 
 -- by beats of this port and those behind it, the beat of the channel's port
@@ -66,7 +66,7 @@ beat-put sent count to port d v put l = ap (λ (xs : List Beat). get_or xs port 
 -- ---- places
 -- the place at the other end of a link
 pub leads-is : (site : Site) (o target to port : ℕ) → Leads site o target → neighbour site.grid site.node (o / site.vcs) ≡ Some (to, port) → target ≡ place_of to (port * site.vcs + o % site.vcs)
-leads-is site o target to port leads e = subst (λ (n : Option (ℕ × ℕ)). LeadsTo site.grid site.vcs (o % site.vcs) target n) e leads
+leads-is site o target to port leads e = subst (λ (n : Option (ℕ × ℕ)). LeadsToPlace site.grid site.vcs (o % site.vcs) target n) e leads
 
 -- a place is that of one channel of one router
 pub place-apart : (r i s k : ℕ) → i < 32 → k < 32 → place_of r i ≡ place_of s k → (r ≡ s) × (i ≡ k)

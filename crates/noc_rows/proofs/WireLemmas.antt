@@ -47,7 +47,7 @@ marked-is row channel long within k l = at (cases_eq (k / 32) (channel / 32))
         place (inl e) = eq-eqb (k % 32) (channel % 32) (ap (λ n. n % 32) e) ∙ sym (eq-eqb k channel e)
         place (inr o) = ne_eqb (k % 32) (channel % 32) (λ e. o (omega arith)) ∙ sym (ne_eqb k channel o)
 
--- .. and taken out of it
+-- a channel that is taken out of a row
 pub cleared-is : (row : List ℕ) (channel : ℕ) → length row ≡ 32 → channel < 1024 → get_or row (channel / 32) 0 < 2 ^ 32
     → HasCleared row (set row (channel / 32) (less (get_or row (channel / 32) 0) (1 * 2 ^ (channel % 32) % 2 ^ 32))) channel
 cleared-is row channel long within fits k l = at (cases_eq (k / 32) (channel / 32))

@@ -11,7 +11,7 @@ power-is n l = let e : 1 * 2 ^ n % 2 ^ 32 ≡ 1 * 2 ^ n = shl_whole 1 1 n 32 (om
 pub next-is : (width n one x s y : ℕ) → x ≡ spread width n (λ p. one) → s ≡ 2 ^ width → y ≡ one → x * s + y ≡ spread width (n + 1) (λ p. one)
 next-is width n one x s y ex es ey = rw (ex, es, ey) (ap (λ m. spread width m (λ p. one)) (sym (add-one n)))
 
--- .. fits a word
+-- one port more fits a word
 pub next-fits : (width n ports one x s y : ℕ) → x ≡ spread width n (λ p. one) → s ≡ 2 ^ width → y ≡ one → one < 2 ^ width → n < ports → ports * width ≤ 31 → x * s + y < 2 ^ 32
 next-fits width n ports one x s y ex es ey fits l few =
     let m : suc n * width ≤ ports * width = mul-le-mul_right width (omega arith) in

@@ -44,7 +44,7 @@ pub record HasFlit (ring : List ℕ) : Type 0 where
 
 -- the flits of these places below the limit may move to these targets: each has one, no two go to one place below the limit, and there is
 -- room
-pub record CanMove (room limit : ℕ) (gone : ℕ → Bool) (target : ℕ → ℕ) (before : WireWords) : Type 0 where
+pub record FlitsCanMove (room limit : ℕ) (gone : ℕ → Bool) (target : ℕ → ℕ) (before : WireWords) : Type 0 where
   pub below : (p : ℕ) → gone p ≡ true → p < limit
   pub flits : (p : ℕ) → gone p ≡ true → HasFlit (before.ring p)
   pub apart : (p q : ℕ) → gone p ≡ true → gone q ≡ true → target p ≡ target q → target p < limit → p ≡ q

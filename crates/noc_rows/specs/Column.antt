@@ -16,7 +16,7 @@ use Rattle.noc_router.specs.View.{Site, View, size_of, local_channel, view_buffe
 use Rattle.noc_packet.specs.declared.packet.Beat.{Beat}
 use Rattle.noc_rows.specs.Taken.{flit_from, credit_from, with_one}
 use Rattle.noc_rows.specs.FlitWords.{flit_word}
-use Rattle.noc_rows.specs.Planes.{number_at, ArePlanes}
+use Rattle.noc_rows.specs.Planes.{plane_number, ArePlanes}
 use Rattle.noc_rows.specs.Fields.{ShowsPointer}
 
 -- the words of one lane
@@ -66,13 +66,13 @@ is_draining Draining = true
 pub record ShowsOutput (c : Column) (o : ℕ) (output : Output) : Type 0 where
   pub idle : has_bit c.idle o ≡ is_free output.holder
   pub draining : has_bit c.draining o ≡ is_draining output.holder
-  pub credit : IfSome output.credit (λ n. number_at c.credit o ≡ n)
+  pub credit : IfSome output.credit (λ n. plane_number c.credit o ≡ n)
 
 -- input channel i with these flits in its buffer
 pub record ShowsInput (c : Column) (i : ℕ) (flits : List Flit) (input : Input) : Type 0 where
   pub waiting : has_bit c.waiting i ≡ is_waiting input.phase
   pub active : has_bit c.active i ≡ is_active input.phase
-  pub len : number_at c.len i ≡ length flits
+  pub len : plane_number c.len i ≡ length flits
 
 -- all channels
 pub record ShowsChannels (c : Column) (v : View) : Type 0 where
@@ -83,7 +83,7 @@ pub record ShowsChannels (c : Column) (v : View) : Type 0 where
   pub active_below : AreBelow (size_of v.site) c.active
   pub idle_below : AreBelow (size_of v.site) c.idle
   pub draining_below : AreBelow (size_of v.site) c.draining
-  pub len_below : (i : ℕ) → size_of v.site ≤ i → number_at c.len i ≡ 0
+  pub len_below : (i : ℕ) → size_of v.site ≤ i → plane_number c.len i ≡ 0
 
 -- the pointers of the arbiters
 pub record ShowsTurns (c : Column) (m : RouterMarks) (v : View) : Type 0 where
@@ -97,14 +97,14 @@ pub record ShowsTurns (c : Column) (m : RouterMarks) (v : View) : Type 0 where
 abbrev pub place_of : ℕ → ℕ → ℕ
 place_of r i = r * 32 + i
 
--- .. of the channel at the other end of the link of a port, where there is a link; else a place beyond all routers
-abbrev pub LeadsTo : Grid → ℕ → ℕ → ℕ → Option (ℕ × ℕ) → Type 0
-LeadsTo grid vcs vc place None = place_of (nodes grid) 0 ≤ place
-LeadsTo grid vcs vc place (Some (to, port)) = place ≡ place_of to (port * vcs + vc)
+-- the place of the channel at the other end of the link of a port, where there is a link; else a place beyond all routers
+abbrev pub LeadsToPlace : Grid → ℕ → ℕ → ℕ → Option (ℕ × ℕ) → Type 0
+LeadsToPlace grid vcs vc place None = place_of (nodes grid) 0 ≤ place
+LeadsToPlace grid vcs vc place (Some (to, port)) = place ≡ place_of to (port * vcs + vc)
 
 -- where channel i of a router leads
 abbrev pub Leads : Site → ℕ → ℕ → Type 0
-Leads site i place = LeadsTo site.grid site.vcs (i % site.vcs) place (neighbour site.grid site.node (i / site.vcs))
+Leads site i place = LeadsToPlace site.grid site.vcs (i % site.vcs) place (neighbour site.grid site.node (i / site.vcs))
 
 -- input channel i, by channel: the set of one that waits, and the output channel of one that is active
 abbrev pub ShowsPhase : Column → RouterMarks → Site → ℕ → InputState → Type 0

@@ -14,16 +14,16 @@ use Rattle.noc_rows.specs.Routed.{HasRoutes, Routing, sets_by}
 use Rattle.noc_rows.specs.declared.frame.Frame.{Frame}
 
 -- ---- output channels are granted, and then heads are routed
-abbrev pub routing_of : Allocation → List ℕ → Routing
-routing_of a routes = record { marks = a.marks; wanted = a.column.wanted; routes = routes }
+abbrev pub routing_of_allocation : Allocation → List ℕ → Routing
+routing_of_allocation a routes = record { marks = a.marks; wanted = a.column.wanted; routes = routes }
 
 -- from a to b, where by port and by place each output channel leads: nothing is done where nothing is asked for, or where no head is
 pub record HasChosen (port place : ℕ → ℕ) (heads : ℕ) (ring : ℕ → List ℕ) (sets : ℕ → Flit → ℕ) (a b : Allocation) (routes routes_after : List ℕ) : Type 0 where
   pub granted : Allocation  -- before the heads are routed
   pub asked : lane_asks a.column ≢ 0 → HasAllocated port place a granted
   pub unasked : lane_asks a.column ≡ 0 → granted ≡ a
-  pub headed : heads ≢ 0 → HasRoutes heads ring sets (routing_of granted routes) (routing_of b routes_after)
-  pub headless : heads ≡ 0 → routing_of b routes_after ≡ routing_of granted routes
+  pub headed : heads ≢ 0 → HasRoutes heads ring sets (routing_of_allocation granted routes) (routing_of_allocation b routes_after)
+  pub headless : heads ≡ 0 → routing_of_allocation b routes_after ≡ routing_of_allocation granted routes
   pub rest : b ≡ record granted { column = record granted.column { wanted = b.column.wanted }; marks = b.marks }
   pub wanted_fits : b.column.wanted < 2 ^ 32
 

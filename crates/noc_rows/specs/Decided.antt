@@ -28,7 +28,7 @@ HasChosenAt relation frame b room inbox old new k =
     (allocation_at old.lanes old.marks old.decided old.tallies k) (allocation_at new.lanes new.marks new.decided new.tallies k)
     (of_router old.tallies.routed k) (of_router new.tallies.routed k)
 
--- .. in all routers of the block, and nothing else has changed
+-- output channels are granted and heads are routed in all routers of block b, and nothing else has changed
 pub record HasChosenIn (relation : Routes) (frame : Frame) (b room : ℕ) (inbox : Inbox) (old new : Block) : Type 0 where
   pub routers : width relation.grid relation.vcs ≤ 31 → b < 2 ^ 32 → (k : ℕ) → k < 32 → IsNoted old k → HasChosenAt relation frame b room inbox old new k
   pub lanes : new.lanes ≡ record old.lanes { wanted = new.lanes.wanted; idle = new.lanes.idle; supplied = new.lanes.supplied }

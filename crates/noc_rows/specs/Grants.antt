@@ -51,12 +51,12 @@ pub record KeepsInput (m w : RouterMarks) (k : ℕ) : Type 0 where
   pub target : w.target k ≡ m.target k
   pub to_port : (q : ℕ) → has_bit (w.to_port q) k ≡ has_bit (m.to_port q) k
 
--- .. of output channel o
+-- these marks have what those have of output channel o
 pub record KeepsOutput (m w : RouterMarks) (o : ℕ) : Type 0 where
   pub owner : w.owner o ≡ m.owner o
   pub turn : w.turn o ≡ m.turn o
 
--- .. of the sets of waiting channels and of the pointers of output ports
+-- these marks have the sets of waiting channels and the pointers of output ports that those have
 pub record KeepsRest (m w : RouterMarks) : Type 0 where
   pub set : w.set ≡ m.set
   pub port_turn : w.port_turn ≡ m.port_turn
@@ -68,7 +68,7 @@ pub record IsBound (m w : RouterMarks) (o k port place : ℕ) : Type 0 where
   pub target : w.target k ≡ place
   pub to_port : (q : ℕ) → has_bit (w.to_port q) k ≡ (nat_eq q port || has_bit (m.to_port q) k)
 
--- .. and nothing else has changed, but for the pointer of the output channel
+-- output channel o is owned by input channel k, and nothing else has changed but the pointer of the output channel
 pub record HasBound (m w : RouterMarks) (o k port place pointer : ℕ) : Type 0 where
   pub bound : IsBound m w o k port place
   pub turn : w.turn o ≡ pointer
@@ -140,7 +140,7 @@ abbrev pub with_grant : List (Option ℕ) → Option ℕ → ℕ → InputState 
 with_grant grants None k phase = phase
 with_grant grants (Some o) k phase = if is_some_of (slice_index_or grants o None) k then Active o else phase
 
--- .. where k is its index
+-- input channel k after the grants of the round of a view
 abbrev pub phase_granted : View → ℕ → InputState
 phase_granted v k = with_grant (view_round v).grants (ask_of (view_claim v k)) k (view_input v k).phase
 

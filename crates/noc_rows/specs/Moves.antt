@@ -14,7 +14,7 @@ abbrev pub union_from : ℕ → ℕ → (ℕ → ℕ) → ℕ
 union_from base zero words = base
 union_from base (suc n) words = bit_or (union_from base n words) (words n)
 
--- .. without them
+-- a word without the words of the ports below n
 abbrev pub rest_from : ℕ → ℕ → (ℕ → ℕ) → ℕ
 rest_from base zero words = base
 rest_from base (suc n) words = less (rest_from base n words) (words n)

@@ -71,13 +71,13 @@ LeadsOut spare lead None = lead ≡ spare
 LeadsOut spare lead (Some (to, port)) = lead ≡ to * 32
 
 -- lane k of a block has the links of router r
-pub record IsLinked (relation : Routes) (frame : Frame) (spare : ℕ) (block : Block) (r k : ℕ) : Type 0 where
+pub record HasLinksOf (relation : Routes) (frame : Frame) (spare : ℕ) (block : Block) (r k : ℕ) : Type 0 where
   pub lead : (q : ℕ) → q < 8 → LeadsOut spare (slice_index block.marks.lead (k * 8 + q)) (neighbour relation.grid r q)
   pub back : (i : ℕ) → i < 32
       → slice_index block.marks.back (place_of k i) ≡ bit_or (slice_index block.marks.lead (k * 8 + leads_by frame i)) (slice_index frame.other_end i % 32)
   pub near : (q to port : ℕ) → q < 8 → neighbour relation.grid r q ≡ Some (to, port) → has_bit block.near (to / 32) ≡ true
 
--- .. and what the other lanes have is as it was
+-- the lanes other than this one have what they had
 pub record KeepsLinks (old new : Block) (lane : ℕ) : Type 0 where
   pub lead : (p : ℕ) → p / 8 ≢ lane → slice_index new.marks.lead p ≡ slice_index old.marks.lead p
   pub back : (p : ℕ) → p / 32 ≢ lane → slice_index new.marks.back p ≡ slice_index old.marks.back p
@@ -92,7 +92,7 @@ pub record KeepsLinks (old new : Block) (lane : ℕ) : Type 0 where
 
 -- router r is in its lane, with the starts from a place on
 pub record HasOpened (relation : Routes) (frame : Frame) (starts : List Start) (r spare place : ℕ) (old new : Block) : Type 0 where
-  pub links : r < nodes relation.grid → IsLinked relation frame spare new r (r % 32)
+  pub links : r < nodes relation.grid → HasLinksOf relation frame spare new r (r % 32)
   pub source : source_at new.sources (r % 32) ≡ record (source_at old.sources (r % 32)) { due = (start_in starts place).due; queue = place }
   pub next_due : new.next_due ≡ min old.next_due (start_in starts place).due
   pub others : KeepsLinks old new (r % 32)
@@ -125,7 +125,7 @@ pub record IsOpenBlock (relation : Routes) (frame : Frame) (packets : List Packe
   pub routed : (p : ℕ) → p < 1024 → slice_index_or block.tallies.routed p 0 ≡ 0
   pub granted : (p : ℕ) → p < 1024 → slice_index_or block.tallies.granted p 0 ≡ 0
   pub lost : (p : ℕ) → p < 1024 → slice_index_or block.tallies.lost p 0 ≡ 0
-  pub links : (k : ℕ) → k < 32 → b * 32 + k < routers → IsLinked relation frame (min blocks 8 * 1024) block (b * 32 + k) k
+  pub links : (k : ℕ) → k < 32 → b * 32 + k < routers → HasLinksOf relation frame (min blocks 8 * 1024) block (b * 32 + k) k
   pub sources : (k : ℕ) → k < 32 → b * 32 + k < routers → source_at block.sources k ≡ opened_source packets (b * 32 + k)
   pub beyond : (k : ℕ) → k < 32 → routers ≤ b * 32 + k → source_at block.sources k ≡ no_source
   pub next_due : block.next_due ≡ least_below (word block.sources.due) 32

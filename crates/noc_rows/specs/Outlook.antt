@@ -3,9 +3,9 @@ use Rattle.std.specs.Prelude.{ℕ, zero, suc, ◌^◌, ◌-◌, Bool, false, ◌
 use Rattle.noc_rows.specs.Column.{Column}
 
 -- whether a test holds of a number below n
-unfoldable pub some_below : (ℕ → Bool) → ℕ → Bool
-some_below test zero = false
-some_below test (suc n) = some_below test n || test n
+unfoldable pub is_some_below : (ℕ → Bool) → ℕ → Bool
+is_some_below test zero = false
+is_some_below test (suc n) = is_some_below test n || test n
 
 -- the least of the numbers of those below n, and of the greatest word
 unfoldable pub least_below : (ℕ → ℕ) → ℕ → ℕ

@@ -69,7 +69,7 @@ with_flits bits came c = record c { len = raised_by c.len (lane_landed bits came
 abbrev pub lane_free : ℕ → Column → ℕ
 lane_free local c = bit_and local (bit_not w32 (bit_or (bit_or c.waiting c.active) (any_from 0 c.len)))
 
--- .. where the source injects nothing and its next packet is due
+-- the local channels that may begin a packet, where the source injects nothing and its next packet is due
 abbrev pub lane_begins : ℕ → ℕ → ℕ → Column → ℕ
 lane_begins local cycle due c = if nat_le due cycle && nat_eq c.injecting 0 then lane_free local c else 0
 
@@ -160,7 +160,7 @@ pub record Effects : Type 0 where
   pub released : ℕ
   pub freed : ℕ
 
--- .. on the sets of channels and the pointers of input ports
+-- the sets of channels and the pointers of input ports after these effects
 abbrev pub settled_sets : Fields → ℕ → ℕ → Effects → Column → Column
 settled_sets f links local e c = record c {
   ahead = lane_past f c.ahead e.moved;

@@ -5,9 +5,9 @@ use Rattle.noc_router.specs.Counts.{one_if}
 use Rattle.noc_rows.specs.Bits.{less}
 
 -- the number of channel x, by planes from the lowest bit on
-abbrev pub number_at : List ℕ → ℕ → ℕ
-number_at [] x = 0
-number_at (plane ∷ planes) x = one_if (has_bit plane x) + 2 * number_at planes x
+abbrev pub plane_number : List ℕ → ℕ → ℕ
+plane_number [] x = 0
+plane_number (plane ∷ planes) x = one_if (has_bit plane x) + 2 * plane_number planes x
 
 -- each plane is a word
 abbrev pub ArePlanes : List ℕ → Type 0
@@ -19,7 +19,7 @@ abbrev pub raised_by : List ℕ → ℕ → List ℕ
 raised_by [] set = []
 raised_by (plane ∷ planes) set = bit_xor plane set ∷ raised_by planes (bit_and set plane)
 
--- .. those whose number then was too great for the planes
+-- those whose number was too great for the planes, where there is one more at each member of the set
 abbrev pub carry_of : List ℕ → ℕ → ℕ
 carry_of [] set = set
 carry_of (plane ∷ planes) set = carry_of planes (bit_and set plane)

@@ -34,7 +34,7 @@ pub record Routing : Type 0 where
   pub wanted : ℕ
   pub routes : List ℕ  -- how often each channel was routed
 
--- .. of router j
+-- what routing changes of router j
 abbrev pub routing_at : Marks → List ℕ → List ℕ → ℕ → Routing
 routing_at marks wanted routes j = record { marks = marks_at marks j; wanted = word wanted j; routes = of_router routes j }
 

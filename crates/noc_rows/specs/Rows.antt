@@ -28,7 +28,7 @@ word row j = slice_index_or row j 0
 abbrev pub planes_of : Numbers → List ℕ
 planes_of numbers = numbers.ones ∷ numbers.twos ∷ numbers.fours ∷ numbers.eights ∷ numbers.sixteens ∷ []
 
--- .. of router j
+-- the numbers of router j, bit by bit from the lowest
 abbrev pub planes_at : Planes → ℕ → List ℕ
 planes_at planes j = word planes.ones j ∷ word planes.twos j ∷ word planes.fours j ∷ word planes.eights j ∷ word planes.sixteens j ∷ []
 
@@ -66,7 +66,7 @@ column_at lanes j = record {
 abbrev pub of_router : List ℕ → ℕ → List ℕ
 of_router entries j = tabulate 32 (λ i. slice_index entries (place_of j i))
 
--- .. by port, of rows of words
+-- what router j has by port, of rows of words
 abbrev pub by_port : List (List ℕ) → ℕ → List ℕ
 by_port rows j = tabulate 8 (λ q. word (slice_index_or rows q []) j)
 

@@ -31,18 +31,18 @@ next_word word left = (word + (if nat_eq left 1 then 2 ^ 39 + 2 ^ 32 else 2 ^ 32
 abbrev pub first_source : Start → Source → Source
 first_source start s = record s { left = start.length; word = start.word }
 
--- .. and once its next flit is injected
+-- the source once its next flit is injected
 abbrev pub next_source : List Start → Source → Source
 next_source starts s =
     if nat_eq s.left 1
     then record s { due = (start_in starts ((s.queue + 1) % 2 ^ 32)).due; left = 0; queue = (s.queue + 1) % 2 ^ 32 }
     else record s { left = minus s.left 1; word = next_word s.word (minus s.left 1) }
 
--- .. where its next packet begins, if it may in one of these channels
+-- the source where its next packet begins, if it may in one of these channels
 abbrev pub begun_source : List Start → ℕ → Source → Source
 begun_source starts begins s = if nat_eq begins 0 then s else first_source (start_in starts s.queue) s
 
--- .. and where a flit is injected, if it is into one of these
+-- the source where a flit is injected, if it is into one of these channels
 abbrev pub sent_source : List Start → ℕ → Source → Source
 sent_source starts injected s = if nat_eq injected 0 then s else next_source starts s
 
@@ -54,7 +54,7 @@ due_of [] = NEVER
 due_of ((number, p) ∷ rest) = p.due
 
 -- a packet with a flit, all of whose flits fit words
-pub record IsSendable (n : ℕ) (p : Packet) : Type 0 where
+pub record HasFlitWords (n : ℕ) (p : Packet) : Type 0 where
   pub number : n < 2 ^ 32
   pub some : 0 < p.length
   pub limits : IsWithinLimits p
@@ -64,7 +64,7 @@ abbrev pub ShowsQueue : List Start → ℕ → List (ℕ × Packet) → Type 0
 ShowsQueue starts place [] = slice_get starts place ≡ Some END
 ShowsQueue starts place ((number, p) ∷ rest) =
     (slice_get starts place ≡ Some (record { word = flit_word (flit_at p number 0); length = p.length; due = p.due }))
-    × IsSendable number p
+    × HasFlitWords number p
     × ShowsQueue starts (place + 1) rest
 
 -- of the first packet of the queue, once it has begun, the flit with this index is the next, and so many are left

@@ -3,10 +3,10 @@ use Rattle.std.specs.Prelude.{◌≡◌, ℕ, suc, ◌+◌, ◌%◌, ◌^◌, �
 use Rattle.noc_packet.specs.Set.{has_bit}
 use Rattle.noc_rows.specs.Arrive.{HasArrived}
 use Rattle.noc_rows.specs.Moves.{dry_by, of_one, ports_of, rest_from, selected_in, taken_in, turn_in, turned_by, union_from}
-use Rattle.noc_rows.specs.Outlook.{holding_in, least_below, some_below}
+use Rattle.noc_rows.specs.Outlook.{holding_in, least_below, is_some_below}
 use Rattle.noc_rows.specs.Passes.{lane_asks, lane_heads, lane_standing, lane_verdicts, settled_lane}
 use Rattle.noc_rows.specs.Rows.{column_at, effects_at, event_in, planes_of, standing_at, word}
-use Rattle.noc_rows.specs.Switched.{AreApart, MovesFlits, ReleasesTails, moved_by}
+use Rattle.noc_rows.specs.Switched.{AreSelectedOnce, MovesFlits, ReleasesTails, selected_by_ports}
 use Rattle.noc_rows.specs.Tallied.{cycles_of, sheet_counts, with_verdicts}
 use Rattle.noc_rows.specs.Wires.{inbox_at}
 use Rattle.noc_rows.specs.declared.block.Block.{Block}
@@ -79,7 +79,7 @@ pub record HasMoved (frame : Frame) (cycle b : ℕ) (old new : Block) (before af
   pub supplied : (k : ℕ) → k < 32
       → word new.lanes.supplied k ≡ rest_from (word old.lanes.supplied k) (ports_of frame) (λ q. dry_by (word old.returned.single k) (taken_in old.marks k) (selected_of old k q))
   pub turns : (q k : ℕ) → q < ports_of frame → k < 32 → turn_in new.marks k q ≡ turned_by (selected_of old k q) frame.after (turn_in old.marks k q)
-  pub flits : AreApart (ports_of frame) (selected_of old) → MovesFlits b (moved_by (ports_of frame) (selected_of old)) old.marks new.marks before after
+  pub flits : AreSelectedOnce (ports_of frame) (selected_of old) → MovesFlits b (selected_by_ports (ports_of frame) (selected_of old)) old.marks new.marks before after
   pub tails : ReleasesTails b (ports_of frame) frame.links cycle (selected_of old) old.marks new.marks old.decided new.decided before after
   pub wires : after ≡ record before { inboxes = after.inboxes; arrivals = after.arrivals; tails = after.tails }
   pub inboxes : length after.inboxes.items ≡ length before.inboxes.items
@@ -101,14 +101,14 @@ pub record HasConcluded (frame : Frame) (cycle : ℕ) (old new : Block) (before 
   pub cycles : cycles_of after ≡ (cycles_of before + 1) % 2 ^ 32
   pub events : (k : ℕ) → k < 32
       → word new.last_event k ≡ (if nat_eq (event_in old.returned old.arrived old.standing old.decided k) 0 then word old.last_event k else (cycle + 1) % 2 ^ 32)
-  pub holds : new.holds ≡ some_below (λ k. not (nat_eq (holding_in (column_at new.lanes k)) 0)) 32
-  pub moves : new.moves ≡ some_below (λ k. not (nat_eq (word old.decided.moved k) 0)) 32
+  pub holds : new.holds ≡ is_some_below (λ k. not (nat_eq (holding_in (column_at new.lanes k)) 0)) 32
+  pub moves : new.moves ≡ is_some_below (λ k. not (nat_eq (word old.decided.moved k) 0)) 32
   pub next_due : new.next_due ≡ least_below (word old.sources.due) 32
   pub rest : new ≡ record old { lanes = new.lanes; last_event = new.last_event; holds = new.holds; moves = new.moves; next_due = new.next_due }
 
 -- ---- what each pass makes of all blocks
 
--- .. of the blocks that are awake, where rings have so much room; one that is asleep stays as it is, with its in-box
+-- each block that is awake has taken beats and injected flits, where rings have so much room; one that is asleep stays as it is, with its in-box
 pub record HaveFrozen (frame : Frame) (cycle room : ℕ) (starts : List Start) (old new : List Block) (before after : List Inbox) : Type 0 where
   pub many : length new ≡ length old
   pub inboxes : length after ≡ length before

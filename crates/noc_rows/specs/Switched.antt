@@ -3,7 +3,7 @@ use Rattle.std.specs.Prelude.{◌≡◌, ◌≢◌, ℕ, ◌+◌, ◌*◌, ◌/�
 use Rattle.std.specs.Int.{trailing_zeros, w32}
 use Rattle.noc_packet.specs.Set.{has_bit}
 use Rattle.noc_packet.specs.declared.packet.Flit.{Flit}
-use Rattle.noc_rows.specs.Carried.{CanMove, HaveMoved, WireWords, first_of, wire_words}
+use Rattle.noc_rows.specs.Carried.{FlitsCanMove, HaveMoved, WireWords, first_of, wire_words}
 use Rattle.noc_rows.specs.FlitWords.{FitsWord, flit_word}
 use Rattle.noc_rows.specs.Moves.{of_one, some_below, taken_in, to_port_in, union_from}
 use Rattle.noc_rows.specs.Rows.{word}
@@ -35,19 +35,19 @@ abbrev pub IsOne : ℕ → Type 0
 IsOne set = (i : ℕ) → has_bit set i ≡ true → i ≡ trailing_zeros w32 set
 
 -- no channel is selected by two ports
-abbrev pub AreApart : ℕ → (ℕ → ℕ → ℕ) → Type 0
-AreApart ports selected = (k i q s : ℕ) → k < 32 → q < ports → s < ports → has_bit (selected k q) i ≡ true → has_bit (selected k s) i ≡ true → q ≡ s
+abbrev pub AreSelectedOnce : ℕ → (ℕ → ℕ → ℕ) → Type 0
+AreSelectedOnce ports selected = (k i q s : ℕ) → k < 32 → q < ports → s < ports → has_bit (selected k q) i ≡ true → has_bit (selected k s) i ≡ true → q ≡ s
 
 -- the channels that the ports select
-abbrev pub moved_by : ℕ → (ℕ → ℕ → ℕ) → ℕ → ℕ
-moved_by ports selected k = union_from 0 ports (selected k)
+abbrev pub selected_by_ports : ℕ → (ℕ → ℕ → ℕ) → ℕ → ℕ
+selected_by_ports ports selected k = union_from 0 ports (selected k)
 
 -- the flits of these channels of the block move next: some have gone of all that may move in the cycle, which was to start with `start`;
 -- these are of all too, have not gone, and lead where the marks say
 pub record AreNext (number : ℕ) (moved : ℕ → ℕ) (marks : Marks) (wires : Wires) (limit : ℕ) (all gone : ℕ → Bool) (target back first : ℕ → ℕ) (start : WireWords) : Type 0 where
   pub within : limit ≤ 1024 * length wires.inboxes.items
   pub bytes : (p : ℕ) → first p < 256
-  pub can : CanMove (room_of wires.room) limit all target start
+  pub can : FlitsCanMove (room_of wires.room) limit all target start
   pub so_far : HaveMoved limit gone target back start (words_with first number marks wires)
   pub part : (p : ℕ) → gone p ≡ true → all p ≡ true
   pub among : (c : ℕ) → c < 1024 → in_words moved c ≡ true → all (number * 1024 + c) ≡ true
@@ -70,7 +70,7 @@ pub record HasFirst (ring : List ℕ) (is_last : Bool) (number : ℕ) : Type 0 w
   pub tail : is_last ≡ flit.last
   pub packet : number ≡ flit.packet
 
--- .. by router and channel, of these channels of a block
+-- by router and channel, the first flits of these channels of a block
 abbrev pub HaveFirsts : ℕ → (ℕ → ℕ) → WireWords → (ℕ → ℕ → Bool) → (ℕ → ℕ → ℕ) → Type 0
 HaveFirsts number moved start tail packet = (k i : ℕ) → k < 32 → i < 32 → has_bit (moved k) i ≡ true → HasFirst (start.ring (number * 1024 + (k * 32 + i))) (tail k i) (packet k i)
 
@@ -82,7 +82,7 @@ one_has set test = if nat_eq set 0 then false else test (trailing_zeros w32 set)
 abbrev pub some_tail : Tails → (ℕ → ℕ → Bool) → Bool
 some_tail tails test = some_below tails.count (λ n. test (slice_index tails.list n) (slice_index tails.numbers n))
 
--- .. some tail that moves by a port
+-- whether some tail that moves by a port passes a test of its place and its packet
 abbrev pub some_moved : (ℕ → ℕ) → ℕ → (ℕ → ℕ → Bool) → (ℕ → ℕ → ℕ) → (ℕ → ℕ → Bool) → Bool
 some_moved selected port tail packet test = some_below 32 (λ k. one_has (selected k) (λ i. tail k i && test (port * 1024 + (k * 32 + i)) (packet k i)))
 
@@ -93,26 +93,26 @@ NotesTails number port selected marks before after =
     → AreNext number selected marks before limit all gone target back first start → HaveFirsts number selected start tail packet → before.tails.count < 224
     → some_tail after.tails test ≡ (some_tail before.tails test || some_moved selected port tail packet test)
 
--- .. by so many ports, and no others
+-- the tails among the flits that move by so many ports are noted, and no others
 abbrev pub HasTails : ℕ → ℕ → (ℕ → ℕ → ℕ) → Marks → Wires → Wires → Type 0
 HasTails number ports selected marks before after =
     (limit : ℕ) (all gone : ℕ → Bool) (target back first : ℕ → ℕ) (start : WireWords) (tail : ℕ → ℕ → Bool) (packet : ℕ → ℕ → ℕ) (test : ℕ → ℕ → Bool)
-    → AreNext number (moved_by ports selected) marks before limit all gone target back first start → HaveFirsts number (moved_by ports selected) start tail packet → AreApart ports selected → ports ≤ 7
+    → AreNext number (selected_by_ports ports selected) marks before limit all gone target back first start → HaveFirsts number (selected_by_ports ports selected) start tail packet → AreSelectedOnce ports selected → ports ≤ 7
     → some_tail after.tails test ≡ some_below ports (λ q. some_moved (λ k. selected k q) q tail packet test)
 
 -- what the tails held is given back, and those that go out, by the local port, have arrived
 pub record HaveReleased (ports local cycle : ℕ) (selected : ℕ → ℕ → ℕ) (tail : ℕ → ℕ → Bool) (packet : ℕ → ℕ → ℕ) (old new : Marks) (before after : DecidedRows) (was is : List ℕ) : Type 0 where
-  pub released : (k i : ℕ) → k < 32 → i < 32 → has_bit (word after.released k) i ≡ (has_bit (word before.released k) i || (has_bit (moved_by ports selected k) i && tail k i))
+  pub released : (k i : ℕ) → k < 32 → i < 32 → has_bit (word after.released k) i ≡ (has_bit (word before.released k) i || (has_bit (selected_by_ports ports selected k) i && tail k i))
   pub freed : (k o : ℕ) → k < 32
       → has_bit (word after.freed k) o ≡ (has_bit (word before.freed k) o || has_bit (union_from 0 ports (λ q. of_one (selected k q) (λ i. if tail k i then taken_in old k i else 0))) o)
   pub to_port : (q k i : ℕ) → q < ports → k < 32 → i < 32 → has_bit (to_port_in new k q) i ≡ (has_bit (to_port_in old k q) i && not (has_bit (selected k q) i && tail k i))
   pub arrived : (k i : ℕ) → k < 32 → i < 32 → has_bit (selected k local) i ≡ true → tail k i ≡ true → packet k i + 1 < length was → slice_index is (packet k i) ≡ cycle
   pub others : (p : ℕ) → p + 1 < length was → ((k i : ℕ) → k < 32 → i < 32 → has_bit (selected k local) i ≡ true → tail k i ≡ true → packet k i ≢ p) → slice_index is p ≡ slice_index was p
 
--- .. of a block in which the ports select these channels
+-- what the tails held is given back, in a block in which the ports select these channels
 abbrev pub ReleasesTails : ℕ → ℕ → ℕ → ℕ → (ℕ → ℕ → ℕ) → Marks → Marks → DecidedRows → DecidedRows → Wires → Wires → Type 0
 ReleasesTails number ports local cycle selected old new decided_before decided_after before after =
     (limit : ℕ) (all gone : ℕ → Bool) (target back first : ℕ → ℕ) (start : WireWords) (tail : ℕ → ℕ → Bool) (packet : ℕ → ℕ → ℕ)
-    → AreNext number (moved_by ports selected) old before limit all gone target back first start → HaveFirsts number (moved_by ports selected) start tail packet
-    → AreApart ports selected → ports ≡ local + 1 → ports ≤ 7
+    → AreNext number (selected_by_ports ports selected) old before limit all gone target back first start → HaveFirsts number (selected_by_ports ports selected) start tail packet
+    → AreSelectedOnce ports selected → ports ≡ local + 1 → ports ≤ 7
     → HaveReleased ports local cycle selected tail packet old new decided_before decided_after before.arrivals.items after.arrivals.items

@@ -53,7 +53,7 @@ abbrev pub sheet_counts : Sheet → ℕ → ℕ → VerdictCounts
 sheet_counts sheet j k = with_recent sheet.recent (sheet.cycles % 4) j k (counters_at sheet (sheet.cycles / 4) j k)
 
 -- each is below a number
-pub record AreBelow (n : ℕ) (counts : VerdictCounts) : Type 0 where
+pub record CountsAreBelow (n : ℕ) (counts : VerdictCounts) : Type 0 where
   pub moved : counts.moved < n
   pub no_flit : counts.no_flit < n
   pub no_idle_channel : counts.no_idle_channel < n

@@ -5,10 +5,10 @@ use Rattle.noc_model.specs.Lockstep.{beats_at, beats_in, view_at}
 use Rattle.noc_model.specs.Network.{Setup, arrival_in, state_at}
 use Rattle.noc_rows.specs.Blank.{IsBlank}
 use Rattle.noc_rows.specs.Column.{place_of}
-use Rattle.noc_rows.specs.Frames.{IsFrame}
+use Rattle.noc_rows.specs.Frames.{IsFrameOf}
 use Rattle.noc_rows.specs.InRows.{RouterWords, ShowsRouter}
-use Rattle.noc_rows.specs.Opened.{IsLinked, starts_list}
-use Rattle.noc_rows.specs.Outlook.{holding_in, least_below, some_below}
+use Rattle.noc_rows.specs.Opened.{HasLinksOf, starts_list}
+use Rattle.noc_rows.specs.Outlook.{holding_in, least_below, is_some_below}
 use Rattle.noc_rows.specs.Rows.{column_at, marks_at, word}
 use Rattle.noc_rows.specs.Source.{source_at}
 use Rattle.noc_rows.specs.Stages.{AreWoken}
@@ -50,12 +50,12 @@ pub record ShowsBlock (net : Setup) (n : ℕ) (frame : Frame) (starts : List Sta
       → ShowsRouter starts n (lane_words room block sheet inbox k) (view_at net n (b * 32 + k)) (beats_at (beats_in net (state_at net n)) (b * 32 + k))
   pub blank : (k : ℕ) → k < 32 → nodes net.relation.grid ≤ b * 32 + k
       → IsBlank (column_at block.lanes k) (source_at block.sources k) (word inbox.flits k) (word inbox.credits k) (word block.last_event k)
-  pub links : (k : ℕ) → k < 32 → b * 32 + k < nodes net.relation.grid → IsLinked net.relation frame (min blocks 8 * 1024) block (b * 32 + k) k
+  pub links : (k : ℕ) → k < 32 → b * 32 + k < nodes net.relation.grid → HasLinksOf net.relation frame (min blocks 8 * 1024) block (b * 32 + k) k
   pub targets : (k i : ℕ) → k < 32 → i < 32 → b * 32 + k < nodes net.relation.grid → IsTarget (nodes net.relation.grid) blocks (slice_index block.marks.target (place_of k i))
   -- it was counted in no more cycles than have run
   pub cycles : cycles_of sheet ≤ n
   -- what it has to do next
-  pub holds : block.holds ≡ some_below (λ k. not (nat_eq (holding_in (column_at block.lanes k)) 0)) 32
+  pub holds : block.holds ≡ is_some_below (λ k. not (nat_eq (holding_in (column_at block.lanes k)) 0)) 32
   pub next_due : block.next_due ≡ least_below (word block.sources.due) 32
 
 -- ---- all of it
@@ -73,7 +73,7 @@ ShowsArrival word (Some cycle) = (word ≡ cycle) × (cycle < NEVER)
 -- rows show a network after n cycles
 pub record IsRows (net : Setup) (n : ℕ) (rows : Rows) : Type 0 where
   pub cycle : rows.cycle ≡ n
-  pub frame : IsFrame net.relation net.places rows.frame
+  pub frame : IsFrameOf net.relation net.places rows.frame
   pub starts : rows.starts.items ≡ starts_list net.packets (nodes net.relation.grid)
   -- a block for each 32 routers, a sheet and an in-box for each block, and one in-box more
   pub blocks_are : length rows.blocks.items ≡ (nodes net.relation.grid + 31) / 32
@@ -88,7 +88,7 @@ pub record IsRows (net : Setup) (n : ℕ) (rows : Rows) : Type 0 where
   pub arrivals_are : length rows.wires.arrivals.items ≡ length net.packets + 1
   pub arrivals : (p : ℕ) → p < length net.packets → ShowsArrival (slice_index rows.wires.arrivals.items p) (arrival_in net (state_at net n) p)
 
--- .. and it is known which blocks take part in the next cycle
+-- rows show a network after n cycles, and it is known which blocks take part in the next cycle
 pub record IsWoken (net : Setup) (n : ℕ) (rows : Rows) : Type 0 where
   pub before : Rows
   pub next : ℕ

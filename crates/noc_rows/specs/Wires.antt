@@ -28,7 +28,7 @@ in_row row channel = has_bit (slice_index_or row (channel / 32) 0) (channel % 32
 abbrev pub HasMarked : List ℕ → List ℕ → ℕ → Type 0
 HasMarked old new channel = (c : ℕ) → c < 1024 → in_row new c ≡ (nat_eq c channel || in_row old c)
 
--- .. or has it no more
+-- the row has this channel no more
 abbrev pub HasCleared : List ℕ → List ℕ → ℕ → Type 0
 HasCleared old new channel = (c : ℕ) → c < 1024 → in_row new c ≡ (in_row old c && not (nat_eq c channel))
 

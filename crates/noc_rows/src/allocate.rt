@@ -14,8 +14,8 @@ use crate::lanes::{CHANNELS, least, least_bit};
 use crate::marks::{Marks, Tallies, tally};
 use crate::moves::first_in_turn;
 
-/// In each of these routers of a block the waiting channels ask, and one that asks for a channel is granted it.
-pub fn allocate_all(
+// In each of these routers of a block the waiting channels ask, and one that asks for a channel is granted it.
+pub(crate) fn allocate_all(
     frame: &Frame,
     asking: u32,
     lanes: &mut Lanes,
@@ -38,7 +38,7 @@ pub fn allocate_all(
     }
 }
 
-// .. in one router.
+// Output channels of one router are granted.
 fn allocate(
     frame: &Frame,
     lane: usize,

@@ -9,48 +9,48 @@ use crate::marks::{Marks, Tallies};
 
 /// 32 routers.
 #[derive(Clone, Copy)]
-pub struct Block {
+pub(crate) struct Block {
     pub lanes: Lanes,
     pub returned: ReturnedRows,
     pub arrived: ArrivedRows,
     pub standing: StandingRows,
     pub decided: DecidedRows,
-    /// The input channels of which a flit goes by the output port that is at its turn.
+    // The input channels of which a flit goes by the output port that is at its turn.
     pub selected: Row,
-    /// The cycle after the one in which something last happened, 0 before the first such.
+    // The cycle after the one in which something last happened, 0 before the first such.
     pub last_event: Row,
     pub marks: Marks,
     pub tallies: Tallies,
     pub sources: Sources,
     pub work: Work,
-    /// The blocks to which its links lead.
+    // The blocks to which its links lead.
     pub near: u32,
-    /// The first cycle in which a packet is due.
+    // The first cycle in which a packet is due.
     pub next_due: u32,
-    /// Whether a channel is waiting or active, or a packet is being injected.
+    // Whether a channel is waiting or active, or a packet is being injected.
     pub holds: bool,
-    /// Whether a flit moved in this cycle.
+    // Whether a flit moved in this cycle.
     pub moves: bool,
-    /// Whether it takes part in this cycle.
+    // Whether it takes part in this cycle.
     pub awake: bool,
 }
 
 /// What the source of one router has to inject.
 #[derive(Clone, Copy)]
-pub struct Source {
-    /// When the next packet is due.
+pub(crate) struct Source {
+    // When the next packet is due.
     pub due: u32,
-    /// How many flits of the packet that is being injected are left.
+    // How many flits of the packet that is being injected are left.
     pub left: u32,
-    /// The place of the next packet in the list of starts.
+    // The place of the next packet in the list of starts.
     pub queue: u32,
-    /// The next flit of the packet that is being injected.
+    // The next flit of the packet that is being injected.
     pub word: u64,
 }
 
-/// .. of the routers of a block.
+/// What the sources of the routers of a block have to inject.
 #[derive(Clone, Copy)]
-pub struct Sources {
+pub(crate) struct Sources {
     pub due: Row,
     pub left: Row,
     pub queue: Row,
@@ -60,9 +60,9 @@ pub struct Sources {
 impl Sources {
     ghost use Rattle.noc_rows.specs.Source.{source_at};
 
-    /// The source of one router.
+    // The source of one router.
     #[inline(always)]
-    pub fn at(&self, lane: usize) -> Source
+    pub(crate) fn at(&self, lane: usize) -> Source
         requires { lane < 32 }
         ensures { result ≡ source_at self.now lane }
     {
@@ -74,9 +74,9 @@ impl Sources {
         }
     }
 
-    /// Writes the source of one router.
+    // Writes the source of one router.
     #[inline(always)]
-    pub fn put(&mut self, lane: usize, source: Source)
+    pub(crate) fn put(&mut self, lane: usize, source: Source)
         requires { lane < 32 }
         ensures here { source_at self.new lane ≡ source }
         ensures others { (k : ℕ) → k ≢ lane → source_at self.new k ≡ source_at self.old k }
@@ -100,16 +100,16 @@ fn put_flit(words: &mut [u64; ROUTERS], lane: usize, word: u64)
 
 /// The lanes of a block in which something is to be done one by one in this cycle.
 #[derive(Clone, Copy)]
-pub struct Work {
-    /// An idle output channel is in the set of a waiting channel.
+pub(crate) struct Work {
+    // An idle output channel is in the set of a waiting channel.
     pub asking: u32,
-    /// A head is there.
+    // A head is there.
     pub heading: u32,
 }
 
 impl Work {
-    /// Nothing is to be done.
-    pub const NONE: Work = Work {
+    // Nothing is to be done.
+    pub(crate) const NONE: Work = Work {
         asking: 0,
         heading: 0,
     };

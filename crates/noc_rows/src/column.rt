@@ -10,32 +10,32 @@ use crate::numbers::{Numbers, Planes};
 
 /// The words of one router.
 #[derive(Clone, Copy)]
-pub struct Lane {
-    /// Input channels that wait for an output channel.
+pub(crate) struct Lane {
+    // Input channels that wait for an output channel.
     pub waiting: u32,
-    /// Input channels that own an output channel.
+    // Input channels that own an output channel.
     pub active: u32,
-    /// How many flits the buffer of each input channel has.
+    // How many flits the buffer of each input channel has.
     pub len: Numbers,
-    /// Active input channels whose output channel leads out of the network or has a credit.
+    // Active input channels whose output channel leads out of the network or has a credit.
     pub supplied: u32,
-    /// By input port, the channels at or after its pointer.
+    // By input port, the channels at or after its pointer.
     pub ahead: u32,
-    /// Holds the sets of all waiting channels.
+    // Holds the sets of all waiting channels.
     pub wanted: u32,
-    /// Output channels that nobody owns and that have all their credits.
+    // Output channels that nobody owns and that have all their credits.
     pub idle: u32,
-    /// Output channels whose tail has gone, and that miss a credit.
+    // Output channels whose tail has gone, and that miss a credit.
     pub draining: u32,
-    /// How many credits each output channel of a link has.
+    // How many credits each output channel of a link has.
     pub credit: Numbers,
-    /// The local channel of the packet that is being injected.
+    // The local channel of the packet that is being injected.
     pub injecting: u32,
 }
 
 /// The words of the routers of a block.
 #[derive(Clone, Copy)]
-pub struct Lanes {
+pub(crate) struct Lanes {
     pub waiting: Row,
     pub active: Row,
     pub len: Planes,
@@ -49,8 +49,8 @@ pub struct Lanes {
 }
 
 impl Lanes {
-    /// The same words of each router.
-    pub fn of(lane: Lane) -> Lanes
+    // The same words of each router.
+    pub(crate) fn of(lane: Lane) -> Lanes
         ensures { (k : ℕ) → k < 32 → column_at result k ≡ column_of lane }
     {
         let len = Planes::of(lane.len);
@@ -69,9 +69,9 @@ impl Lanes {
         }
     }
 
-    /// The words of one router.
+    // The words of one router.
     #[inline(always)]
-    pub fn at(&self, lane: usize) -> Lane
+    pub(crate) fn at(&self, lane: usize) -> Lane
         requires { lane < 32 }
         ensures { column_of result ≡ column_at self.now lane }
     {
@@ -89,9 +89,9 @@ impl Lanes {
         }
     }
 
-    /// Writes what the output channels of one router are, and how many credits they have.
+    // Writes what the output channels of one router are, and how many credits they have.
     #[inline(always)]
-    pub fn put_outputs(&mut self, lane: usize, words: Lane)
+    pub(crate) fn put_outputs(&mut self, lane: usize, words: Lane)
         requires { lane < 32 }
         ensures here { column_at self.new lane ≡ record (column_at self.old lane) { idle = words.idle; draining = words.draining; credit = planes_of words.credit } }
         ensures others { (k : ℕ) → k ≢ lane → column_at self.new k ≡ column_at self.old k }
@@ -101,10 +101,10 @@ impl Lanes {
         self.credit.put(lane, words.credit);
     }
 
-    /// Of one router, writes the channels that are wanted; these output channels are not idle any more, and these input
-    /// channels are supplied too.
+    // Of one router, writes the channels that are wanted; these output channels are not idle any more, and these input
+    // channels are supplied too.
     #[inline(always)]
-    pub fn put_asked(&mut self, lane: usize, wanted: u32, outs: u32, granted: u32)
+    pub(crate) fn put_asked(&mut self, lane: usize, wanted: u32, outs: u32, granted: u32)
         requires { lane < 32 }
         ensures here { column_at self.new lane ≡ record (column_at self.old lane) { wanted = wanted; idle = less (column_at self.old lane).idle outs; supplied = bit_or (column_at self.old lane).supplied granted } }
         ensures others { (k : ℕ) → k ≢ lane → column_at self.new k ≡ column_at self.old k }
@@ -117,9 +117,9 @@ impl Lanes {
         put(&mut self.supplied, lane, supplied);
     }
 
-    /// Writes how many flits the buffers of one router have.
+    // Writes how many flits the buffers of one router have.
     #[inline(always)]
-    pub fn put_len(&mut self, lane: usize, len: Numbers)
+    pub(crate) fn put_len(&mut self, lane: usize, len: Numbers)
         requires { lane < 32 }
         ensures here { column_at self.new lane ≡ record (column_at self.old lane) { len = planes_of len } }
         ensures others { (k : ℕ) → k ≢ lane → column_at self.new k ≡ column_at self.old k }
@@ -127,9 +127,9 @@ impl Lanes {
         self.len.put(lane, len);
     }
 
-    /// Writes the sets of channels of one router that a cycle changes, and the pointers of its input ports.
+    // Writes the sets of channels of one router that a cycle changes, and the pointers of its input ports.
     #[inline(always)]
-    pub fn put_sets(&mut self, lane: usize, words: Lane)
+    pub(crate) fn put_sets(&mut self, lane: usize, words: Lane)
         requires { lane < 32 }
         ensures here { column_at self.new lane ≡ record (column_at self.old lane) { waiting = words.waiting; active = words.active; supplied = words.supplied; ahead = words.ahead; idle = words.idle; draining = words.draining } }
         ensures others { (k : ℕ) → k ≢ lane → column_at self.new k ≡ column_at self.old k }
@@ -142,9 +142,9 @@ impl Lanes {
         put(&mut self.draining, lane, words.draining);
     }
 
-    /// A packet begins in the least of these local channels of one router, if there is one: its head is in the buffer.
+    // A packet begins in the least of these local channels of one router, if there is one: its head is in the buffer.
     #[inline(always)]
-    pub fn begin(&mut self, lane: usize, begins: u32)
+    pub(crate) fn begin(&mut self, lane: usize, begins: u32)
         requires { lane < 32 }
         ensures here { column_at self.new lane ≡ begun_column begins (column_at self.old lane) }
         ensures others { (k : ℕ) → k ≢ lane → column_at self.new k ≡ column_at self.old k }

@@ -16,7 +16,7 @@ const LEVELS: usize = 30;
 /// The sets of four cycles are added to the two lowest bits at once. What they carry is pending at the next bit until
 /// the next four cycles, and so on up, so that each bit is added to half as often as the one below it.
 #[derive(Clone, Copy)]
-pub struct Counter {
+pub(crate) struct Counter {
     ones: Row,
     twos: Row,
     // From the bit that counts four on.
@@ -25,17 +25,17 @@ pub struct Counter {
 }
 
 impl Counter {
-    /// No counts.
-    pub const NONE: Counter = Counter {
+    // No counts.
+    pub(crate) const NONE: Counter = Counter {
         ones: [0; ROUTERS],
         twos: [0; ROUTERS],
         bits: [[0; ROUTERS]; LEVELS],
         pending: [[0; ROUTERS]; LEVELS],
     };
 
-    /// Adds the sets of four cycles, before which the sets of four cycles were added so many times. The counts are
-    /// right for 2^30 - 1 times.
-    pub fn add(&mut self, a: &Row, b: &Row, c: &Row, d: &Row, times: u32)
+    // Adds the sets of four cycles, before which the sets of four cycles were added so many times. The counts are
+    // right for 2^30 - 1 times.
+    pub(crate) fn add(&mut self, a: &Row, b: &Row, c: &Row, d: &Row, times: u32)
         ensures { times + 1 < 2 ^ 30 → (j k : ℕ) → j < 32 → counted_at self.new (times + 1) j k ≡ counted_at self.old times j k + one_if (has_bit (word a.now j) k) + one_if (has_bit (word b.now j) k) + one_if (has_bit (word c.now j) k) + one_if (has_bit (word d.now j) k) }
     {
         let mut carry = [0u32; ROUTERS];
@@ -43,8 +43,8 @@ impl Counter {
         add_carry(&mut self.bits, &mut self.pending, &mut carry, times);
     }
 
-    /// How often a channel of a router had the verdict by now, where sets were added so many times.
-    pub fn total(&self, lane: usize, channel: usize, times: u32) -> u64
+    // How often a channel of a router had the verdict by now, where sets were added so many times.
+    pub(crate) fn total(&self, lane: usize, channel: usize, times: u32) -> u64
         requires lane { lane < 32 }
         requires channel { channel < 32 }
         ensures count { result ≡ counted_at self.now times lane channel }
@@ -77,9 +77,9 @@ impl Counter {
     }
 }
 
-/// 1 where a channel is a member of a set, and else 0.
+// 1 where a channel is a member of a set, and else 0.
 #[inline(always)]
-pub fn one_if_member(set: u32, channel: usize) -> u64
+pub(crate) fn one_if_member(set: u32, channel: usize) -> u64
     requires { channel < 32 }
     ensures count { result ≡ one_if (has_bit set channel) }
     ensures small { result < 2 }

@@ -13,9 +13,9 @@ use crate::lanes::{ROUTERS, Row, alone_if, least, put};
 use crate::marks::Marks;
 use crate::numbers::Numbers;
 
-/// The credits of an in-box are counted, and the in-box is empty. A draining channel that has all its credits then is
-/// idle. The input channels that own a channel that had no credit and has one now are supplied.
-pub fn return_credits(frame: &Frame, block: &mut Block, inbox: &mut Row)
+// The credits of an in-box are counted, and the in-box is empty. A draining channel that has all its credits then is
+// idle. The input channels that own a channel that had no credit and has one now are supplied.
+pub(crate) fn return_credits(frame: &Frame, block: &mut Block, inbox: &mut Row)
     ensures lanes { (k : ℕ) → k < 32 → column_at block.new.lanes k ≡ record (with_credits (planes_of frame.now.place_bits) (word inbox.old k) (column_at block.old.lanes k)) { supplied = word block.new.lanes.supplied k } }
     ensures supplied { (k : ℕ) → k < 32 → HasSupplied (lane_raised (word inbox.old k) (column_at block.old.lanes k)) (owner_in block.old.marks.owner k) (word block.old.lanes.supplied k) (word block.new.lanes.supplied k) }
     ensures returned { (k : ℕ) → k < 32 → returned_at block.new.returned k ≡ lane_returned frame.now.link_set (word inbox.old k) (column_at block.old.lanes k) }

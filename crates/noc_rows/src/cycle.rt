@@ -10,34 +10,34 @@ const NONE: Row = [0; ROUTERS];
 
 /// What the credits that come are to one router.
 #[derive(Clone, Copy)]
-pub struct Returned {
-    /// Output channels that a credit comes to.
+pub(crate) struct Returned {
+    // Output channels that a credit comes to.
     pub credited: u32,
-    /// Owned output channels that had no credit and have one now.
+    // Owned output channels that had no credit and have one now.
     pub raised: u32,
-    /// Output channels of links with no credit but perhaps one.
+    // Output channels of links with no credit but perhaps one.
     pub single: u32,
 }
 
-/// .. to the routers of a block.
+/// What the credits that come are to the routers of a block.
 #[derive(Clone, Copy)]
-pub struct ReturnedRows {
+pub(crate) struct ReturnedRows {
     pub credited: Row,
     pub raised: Row,
     pub single: Row,
 }
 
 impl ReturnedRows {
-    /// Nothing has come.
-    pub const NONE: ReturnedRows = ReturnedRows {
+    // Nothing has come.
+    pub(crate) const NONE: ReturnedRows = ReturnedRows {
         credited: NONE,
         raised: NONE,
         single: NONE,
     };
 
-    /// Writes the words of one router.
+    // Writes the words of one router.
     #[inline(always)]
-    pub fn put(&mut self, lane: usize, words: Returned)
+    pub(crate) fn put(&mut self, lane: usize, words: Returned)
         requires { lane < 32 }
         ensures here { returned_at self.new lane ≡ words }
         ensures others { (k : ℕ) → k ≢ lane → returned_at self.new k ≡ returned_at self.old k }
@@ -50,20 +50,20 @@ impl ReturnedRows {
 
 /// What the flits that come are to one router.
 #[derive(Clone, Copy)]
-pub struct Arrived {
-    /// Input channels in which a flit lands, by a link or from the source.
+pub(crate) struct Arrived {
+    // Input channels in which a flit lands, by a link or from the source.
     pub landed: u32,
-    /// Local channels in which a flit of a packet that has begun is injected.
+    // Local channels in which a flit of a packet that has begun is injected.
     pub injected: u32,
-    /// Local channels in which a packet that is due may begin.
+    // Local channels in which a packet that is due may begin.
     pub begins: u32,
-    /// Input channels whose buffer then has a flit.
+    // Input channels whose buffer then has a flit.
     pub filled: u32,
 }
 
-/// .. to the routers of a block.
+/// What the flits that come are to the routers of a block.
 #[derive(Clone, Copy)]
-pub struct ArrivedRows {
+pub(crate) struct ArrivedRows {
     pub landed: Row,
     pub injected: Row,
     pub begins: Row,
@@ -71,17 +71,17 @@ pub struct ArrivedRows {
 }
 
 impl ArrivedRows {
-    /// Nothing has come.
-    pub const NONE: ArrivedRows = ArrivedRows {
+    // Nothing has come.
+    pub(crate) const NONE: ArrivedRows = ArrivedRows {
         landed: NONE,
         injected: NONE,
         begins: NONE,
         filled: NONE,
     };
 
-    /// Writes the words of one router.
+    // Writes the words of one router.
     #[inline(always)]
-    pub fn put(&mut self, lane: usize, words: Arrived)
+    pub(crate) fn put(&mut self, lane: usize, words: Arrived)
         requires { lane < 32 }
         ensures here { arrived_at self.new lane ≡ words }
         ensures others { (k : ℕ) → k ≢ lane → arrived_at self.new k ≡ arrived_at self.old k }
@@ -92,10 +92,10 @@ impl ArrivedRows {
         put(&mut self.filled, lane, words.filled);
     }
 
-    /// A packet begins in the least of the channels of one router in which it may, if there is one: its head is
-    /// injected.
+    // A packet begins in the least of the channels of one router in which it may, if there is one: its head is
+    // injected.
     #[inline(always)]
-    pub fn begin(&mut self, lane: usize)
+    pub(crate) fn begin(&mut self, lane: usize)
         requires { lane < 32 }
         ensures here { arrived_at self.new lane ≡ begun_arrived (arrived_at self.old lane) }
         ensures others { (k : ℕ) → k ≢ lane → arrived_at self.new k ≡ arrived_at self.old k }
@@ -112,34 +112,34 @@ impl ArrivedRows {
 
 /// Where the input channels of one router stand, before any verdict takes effect.
 #[derive(Clone, Copy)]
-pub struct Standing {
-    /// Idle channels with a flit, which is a head.
+pub(crate) struct Standing {
+    // Idle channels with a flit, which is a head.
     pub heads: u32,
-    /// Active channels with a flit whose output channel leads out of the network or has a credit.
+    // Active channels with a flit whose output channel leads out of the network or has a credit.
     pub ready: u32,
-    /// Of each input port, the ready channel that is first in turn.
+    // Of each input port, the ready channel that is first in turn.
     pub picked: u32,
 }
 
-/// .. of the routers of a block.
+/// Where the input channels of the routers of a block stand, before any verdict takes effect.
 #[derive(Clone, Copy)]
-pub struct StandingRows {
+pub(crate) struct StandingRows {
     pub heads: Row,
     pub ready: Row,
     pub picked: Row,
 }
 
 impl StandingRows {
-    /// No channel stands anywhere.
-    pub const NONE: StandingRows = StandingRows {
+    // No channel stands anywhere.
+    pub(crate) const NONE: StandingRows = StandingRows {
         heads: NONE,
         ready: NONE,
         picked: NONE,
     };
 
-    /// Writes the words of one router.
+    // Writes the words of one router.
     #[inline(always)]
-    pub fn put(&mut self, lane: usize, words: Standing)
+    pub(crate) fn put(&mut self, lane: usize, words: Standing)
         requires { lane < 32 }
         ensures here { standing_at self.new lane ≡ words }
         ensures others { (k : ℕ) → k ≢ lane → standing_at self.new k ≡ standing_at self.old k }
@@ -152,18 +152,18 @@ impl StandingRows {
 
 /// What is decided of the channels of the routers of a block.
 #[derive(Clone, Copy)]
-pub struct DecidedRows {
-    /// Input channels that are granted an output channel.
+pub(crate) struct DecidedRows {
+    // Input channels that are granted an output channel.
     pub granted: Row,
-    /// Input channels that ask for an output channel, and are not granted it.
+    // Input channels that ask for an output channel, and are not granted it.
     pub lost: Row,
-    /// Input channels of which a flit moves.
+    // Input channels of which a flit moves.
     pub moved: Row,
-    /// Output channels by which a flit moves.
+    // Output channels by which a flit moves.
     pub out: Row,
-    /// Input channels of which a tail moves.
+    // Input channels of which a tail moves.
     pub released: Row,
-    /// Output channels by which a tail moves.
+    // Output channels by which a tail moves.
     pub freed: Row,
 }
 
@@ -171,8 +171,8 @@ impl DecidedRows {
     ghost use Rattle.noc_rows.specs.Grants.{KeepsMoves};
     ghost use Rattle.noc_rows.specs.Rows.{word};
 
-    /// Nothing is decided.
-    pub const NONE: DecidedRows = DecidedRows {
+    // Nothing is decided.
+    pub(crate) const NONE: DecidedRows = DecidedRows {
         granted: NONE,
         lost: NONE,
         moved: NONE,
@@ -181,9 +181,9 @@ impl DecidedRows {
         freed: NONE,
     };
 
-    /// Writes which input channels of one router are granted an output channel, and which lose.
+    // Writes which input channels of one router are granted an output channel, and which lose.
     #[inline(always)]
-    pub fn put_grants(&mut self, lane: usize, granted: u32, lost: u32)
+    pub(crate) fn put_grants(&mut self, lane: usize, granted: u32, lost: u32)
         requires { lane < 32 }
         ensures granted { word self.new.granted lane ≡ granted }
         ensures lost { word self.new.lost lane ≡ lost }

@@ -5,7 +5,7 @@ ghost use Rattle.std.specs.Prelude.{◌≡◌, ◌*◌, ◌<◌, ◌≤◌};
 /// How many virtual channels each port has, and its first channel, its last and all but the last, for all ports at
 /// once.
 #[derive(Clone, Copy)]
-pub struct Fields {
+pub(crate) struct Fields {
     pub width: u32,
     pub low: u32,
     pub high: u32,
@@ -17,8 +17,8 @@ pub struct Fields {
 impl Fields {
     ghost use Rattle.noc_rows.specs.Fields.{IsFields, lane_past, lane_pick};
 
-    /// Of so many ports with so many virtual channels each.
-    pub fn of(width: u32, ports: u32) -> Fields
+    // Of so many ports with so many virtual channels each.
+    pub(crate) fn of(width: u32, ports: u32) -> Fields
         requires some { 0 < width }
         requires ports { 0 < ports }
         requires fits { ports * width ≤ 31 }
@@ -43,10 +43,10 @@ impl Fields {
         }
     }
 
-    /// Of each port the first of the ready channels in turn, where `ahead` has the channels at or after the port's
-    /// pointer.
+    // Of each port the first of the ready channels in turn, where `ahead` has the channels at or after the port's
+    // pointer.
     #[inline(always)]
-    pub fn pick(&self, ready: u32, ahead: u32) -> u32
+    pub(crate) fn pick(&self, ready: u32, ahead: u32) -> u32
         ensures { result ≡ lane_pick self.now ready ahead }
     {
         let high = ready & ahead;
@@ -56,10 +56,10 @@ impl Fields {
         candidates & !(candidates | self.high).wrapping_sub(self.low)
     }
 
-    /// The channels at or after the pointer of each port, after these channels, one of a port at most, have sent a
-    /// flit.
+    // The channels at or after the pointer of each port, after these channels, one of a port at most, have sent a
+    // flit.
     #[inline(always)]
-    pub fn past(&self, ahead: u32, moved: u32) -> u32
+    pub(crate) fn past(&self, ahead: u32, moved: u32) -> u32
         ensures { result ≡ lane_past self.now ahead moved }
     {
         let some = ((moved & self.rest).wrapping_add(self.rest) | moved) & self.high;

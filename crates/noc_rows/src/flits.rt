@@ -13,14 +13,14 @@ use crate::numbers::Numbers;
 
 /// The lanes in which a packet may begin, and those in which a flit of one that has begun is injected.
 #[derive(Clone, Copy)]
-pub struct Injecting {
+pub(crate) struct Injecting {
     pub beginning: u32,
     pub pushing: u32,
 }
 
-/// The flits of an in-box land, and the in-box is empty. Of a packet that has begun a flit is injected where there is
-/// a place. A router that injects nothing, and has a packet due, may begin it in a free local channel.
-pub fn take_flits(
+// The flits of an in-box land, and the in-box is empty. Of a packet that has begun a flit is injected where there is
+// a place. A router that injects nothing, and has a packet due, may begin it in a free local channel.
+pub(crate) fn take_flits(
     frame: &Frame,
     cycle: u32,
     due: &Row,

@@ -2,7 +2,7 @@
 
 ghost use Rattle.std.specs.Prelude.{◌≡◌, ◌≢◌, ℕ, ◌+◌, ◌-◌, ◌*◌, ◌/◌, ◌^◌, ◌<◌, ◌≤◌, ◌&&◌, IfSome, is_some, nat_le, nat_lt};
 ghost use Rattle.noc_packet.specs.Set.{has_bit};
-ghost use Rattle.noc_rows.specs.Frames.{IsFrame, IsPlaced, IsPlacedAs};
+ghost use Rattle.noc_rows.specs.Frames.{IsFrameOf, IsPlaced, IsPlacedAs};
 ghost use Rattle.noc_route.specs.Routes.{IsRelation};
 ghost use Rattle.noc_topo.specs.Shape.{local_port, nodes as nodes_of, ports as ports_of};
 ghost use Rattle.noc_rows.specs.Fields.{IsFields};
@@ -14,43 +14,43 @@ use crate::fields::Fields;
 use crate::numbers::Numbers;
 use noc_route::Relation;
 
-/// The most channels of a router that a word of a row holds.
-pub const MOST: usize = 31;
+// The most channels of a router that a word of a row holds.
+pub(crate) const MOST: usize = 31;
 
-/// The most places of a buffer.
-pub const MOST_PLACES: usize = 16;
+// The most places of a buffer.
+pub(crate) const MOST_PLACES: usize = 16;
 
 /// The numbers of a network, and its channels as words.
 #[derive(Clone, Copy)]
-pub struct Frame {
-    /// How many routers there are.
+pub(crate) struct Frame {
+    // How many routers there are.
     pub nodes: usize,
-    /// How many virtual channels each port has.
+    // How many virtual channels each port has.
     pub vcs: usize,
-    /// How many ports with a link a router has, which is the local port.
+    // How many ports with a link a router has, which is the local port.
     pub links: usize,
-    /// How many places each buffer has.
+    // How many places each buffer has.
     pub places: usize,
-    /// .. bit by bit, for each channel.
+    // The places of a buffer bit by bit, for each channel.
     pub place_bits: Numbers,
-    /// The channels of the ports with a link.
+    // The channels of the ports with a link.
     pub link_set: u32,
-    /// The channels of the local port.
+    // The channels of the local port.
     pub local_set: u32,
     pub fields: Fields,
-    /// By channel, its port.
+    // By channel, its port.
     pub port_of: [u8; 32],
-    /// By channel, which virtual channel of its port it is.
+    // By channel, which virtual channel of its port it is.
     pub vc_of: [u8; 32],
-    /// By channel, the channels of the ports after its port.
+    // By channel, the channels of the ports after its port.
     pub after: [u32; 32],
-    /// By channel, the channel at the other end of its link.
+    // By channel, the channel at the other end of its link.
     pub other_end: [u8; 32],
 }
 
 impl Frame {
-    /// The frame of a relation and so many places in each buffer, where the channels of a router fit a word.
-    pub fn of(relation: &Relation, places: usize) -> Option<Frame>
+    // The frame of a relation and so many places in each buffer, where the channels of a router fit a word.
+    pub(crate) fn of(relation: &Relation, places: usize) -> Option<Frame>
         ensures fields { IfSome result (λ frame. IsFields (ports_of relation.now.grid) frame.fields) }
         ensures width { IfSome result (λ frame. frame.fields.width ≡ relation.now.vcs) }
         ensures places { IfSome result (λ frame. planes_of frame.place_bits ≡ words_of 5 places) }
@@ -60,7 +60,7 @@ impl Frame {
         ensures some { is_some result ≡ (nat_le (ports_of relation.now.grid * relation.now.vcs) 31 && nat_le places 16) }
         ensures sides { IfSome result (λ frame. AreSides relation.now.grid relation.now.vcs frame.link_set frame.local_set) }
         ensures numbers { IfSome result (λ frame. (frame.nodes ≡ nodes_of relation.now.grid) × (frame.vcs ≡ relation.now.vcs) × (frame.links ≡ local_port relation.now.grid) × (frame.places ≡ places)) }
-        ensures frame { IfSome result (IsFrame relation.now places) }
+        ensures frame { IfSome result (IsFrameOf relation.now places) }
     {
         let vcs = relation.vcs();
         let ports = relation.shape().ports();

@@ -5,20 +5,20 @@ ghost use Rattle.noc_packet.specs.Set.{IsLeast, has_bit};
 ghost use Rattle.noc_rows.specs.Bits.{lowest};
 ghost use Rattle.noc_rows.specs.Rows.{word};
 
-/// How many routers a block has. Router `j` of a block has lane `j` of each of its rows.
-pub const ROUTERS: usize = 32;
+// How many routers a block has. Router `j` of a block has lane `j` of each of its rows.
+pub(crate) const ROUTERS: usize = 32;
 
-/// How many channels the routers of a block have at most: 32 times the lane and the channel are a channel's place.
-pub const CHANNELS: usize = 1024;
+// How many channels the routers of a block have at most: 32 times the lane and the channel are a channel's place.
+pub(crate) const CHANNELS: usize = 1024;
 
-/// How many ports the routers of a block have at most: 8 times the lane and the port are a port's place.
-pub const PORTS: usize = 256;
+// How many ports the routers of a block have at most: 8 times the lane and the port are a port's place.
+pub(crate) const PORTS: usize = 256;
 
 /// A word of each router of a block.
-pub type Row = [u32; ROUTERS];
+pub(crate) type Row = [u32; ROUTERS];
 
-/// By lane, the set of it alone.
-pub static ALONE: Row = [
+// By lane, the set of it alone.
+pub(crate) static ALONE: Row = [
     1 << 0,
     1 << 1,
     1 << 2,
@@ -53,9 +53,9 @@ pub static ALONE: Row = [
     1 << 31,
 ];
 
-/// Writes the word of one lane.
+// Writes the word of one lane.
 #[inline(always)]
-pub fn put(row: &mut Row, lane: usize, value: u32)
+pub(crate) fn put(row: &mut Row, lane: usize, value: u32)
     requires { lane < 32 }
     ensures here { word row.new lane ≡ value }
     ensures others { (k : ℕ) → k ≢ lane → word row.new k ≡ word row.old k }
@@ -63,9 +63,9 @@ pub fn put(row: &mut Row, lane: usize, value: u32)
     row[lane] = value;
 }
 
-/// The word of one lane has this member too.
+// The word of one lane has this member too.
 #[inline(always)]
-pub fn add(row: &mut Row, lane: usize, member: usize)
+pub(crate) fn add(row: &mut Row, lane: usize, member: usize)
     requires lane { lane < 32 }
     requires member { member < 32 }
     ensures here { (k : ℕ) → has_bit (word row.new lane) k ≡ (nat_eq k member || has_bit (word row.old lane) k) }
@@ -74,18 +74,18 @@ pub fn add(row: &mut Row, lane: usize, member: usize)
     row[lane] |= 1u32 << member as u32;
 }
 
-/// A lane alone where a set has a member, and else none.
+// A lane alone where a set has a member, and else none.
 #[inline(always)]
-pub fn alone_if(lane: usize, set: u32) -> u32
+pub(crate) fn alone_if(lane: usize, set: u32) -> u32
     requires { lane < 32 }
     ensures { (k : ℕ) → has_bit result k ≡ (nat_eq k lane && not (nat_eq set 0)) }
 {
     if set != 0 { ALONE[lane] } else { 0 }
 }
 
-/// The least member of a set that has one.
+// The least member of a set that has one.
 #[inline(always)]
-pub fn least(set: u32) -> usize
+pub(crate) fn least(set: u32) -> usize
     ensures within { result < 32 }
     ensures least { 0 < set → IsLeast (has_bit set) (Some result) }
     ensures alone { 0 < set → lowest set ≡ 2 ^ result }
@@ -93,9 +93,9 @@ pub fn least(set: u32) -> usize
     (set.trailing_zeros() & 31) as usize
 }
 
-/// The least member alone, or no member where there is none.
+// The least member alone, or no member where there is none.
 #[inline(always)]
-pub fn least_bit(set: u32) -> u32
+pub(crate) fn least_bit(set: u32) -> u32
     ensures { result ≡ lowest set }
 {
     set & set.wrapping_neg()

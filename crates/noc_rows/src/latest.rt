@@ -6,8 +6,8 @@ ghost use Rattle.noc_rows.specs.Readers.{IsGreatestIn, IsLatest};
 use crate::block::Block;
 use crate::lanes::{ROUTERS, Row};
 
-/// The greatest word of the last events of some blocks: the cycle after the last event, 0 before the first.
-pub fn latest(blocks: &[Block]) -> u32
+// The greatest word of the last events of some blocks: the cycle after the last event, 0 before the first.
+pub(crate) fn latest(blocks: &[Block]) -> u32
     ensures { IsLatest blocks.now result }
 {
     let mut last = 0u32;

@@ -9,26 +9,26 @@ use crate::lanes::{CHANNELS, PORTS, ROUTERS, Row, add, least};
 
 /// What channels and ports have.
 #[derive(Clone, Copy)]
-pub struct Marks {
-    /// By output port, the active input channels that own a channel of it.
+pub(crate) struct Marks {
+    // By output port, the active input channels that own a channel of it.
     pub to_port: [Row; 8],
-    /// By output port, the input channels at or after the pointer of its arbiter.
+    // By output port, the input channels at or after the pointer of its arbiter.
     pub port_turn: [Row; 8],
-    /// By port, 32 times the place of the neighbour.
+    // By port, 32 times the place of the neighbour.
     pub lead: [u32; PORTS],
-    /// By waiting input channel, the output channels that it may take.
+    // By waiting input channel, the output channels that it may take.
     pub set: [u32; CHANNELS],
-    /// By output channel, the input channels at or after the pointer of its arbiter.
+    // By output channel, the input channels at or after the pointer of its arbiter.
     pub turn: [u32; CHANNELS],
-    /// By active input channel, the place of the channel at the other end.
+    // By active input channel, the place of the channel at the other end.
     pub target: [u32; CHANNELS],
-    /// By input channel, the place of the output channel from which it gets its flits.
+    // By input channel, the place of the output channel from which it gets its flits.
     pub back: [u32; CHANNELS],
-    /// By active input channel, its output channel, as a set.
+    // By active input channel, its output channel, as a set.
     pub taken: [u32; CHANNELS],
-    /// By owned output channel, its input channel.
+    // By owned output channel, its input channel.
     pub owner: [u8; CHANNELS],
-    /// By input channel, the place of the first flit in its ring.
+    // By input channel, the place of the first flit in its ring.
     pub first: [u8; CHANNELS],
 }
 
@@ -37,8 +37,8 @@ impl Marks {
     ghost use Rattle.noc_rows.specs.Passes.{AreOwners, owner_in};
     ghost use Rattle.noc_rows.specs.Rows.{marks_at};
 
-    /// Nothing waits, nothing is owned, and every pointer is at the first channel.
-    pub const NONE: Marks = Marks {
+    // Nothing waits, nothing is owned, and every pointer is at the first channel.
+    pub(crate) const NONE: Marks = Marks {
         to_port: [[0; ROUTERS]; 8],
         port_turn: [[0xffff_ffff; ROUTERS]; 8],
         lead: [0; PORTS],
@@ -51,9 +51,9 @@ impl Marks {
         first: [0; CHANNELS],
     };
 
-    /// An output channel belongs to an input channel from now on.
+    // An output channel belongs to an input channel from now on.
     #[inline(always)]
-    pub fn bind(&mut self, frame: &Frame, lane: usize, input: usize, out: usize)
+    pub(crate) fn bind(&mut self, frame: &Frame, lane: usize, input: usize, out: usize)
         requires lane { lane < 32 }
         requires input { input < 32 }
         requires out { out < 32 }
@@ -69,9 +69,9 @@ impl Marks {
         add(&mut self.to_port[port], lane, input);
     }
 
-    /// The input channels of one router that own one of these output channels.
+    // The input channels of one router that own one of these output channels.
     #[inline(always)]
-    pub fn owners(&self, lane: usize, outputs: u32) -> u32
+    pub(crate) fn owners(&self, lane: usize, outputs: u32) -> u32
         requires { lane < 32 }
         ensures { AreOwners outputs (owner_in self.now.owner lane) result }
     {
@@ -88,24 +88,24 @@ impl Marks {
 
 /// How often each input channel had the verdicts that are counted one by one.
 #[derive(Clone, Copy)]
-pub struct Tallies {
+pub(crate) struct Tallies {
     pub routed: [u32; CHANNELS],
     pub granted: [u32; CHANNELS],
     pub lost: [u32; CHANNELS],
 }
 
 impl Tallies {
-    /// No verdict was given.
-    pub const NONE: Tallies = Tallies {
+    // No verdict was given.
+    pub(crate) const NONE: Tallies = Tallies {
         routed: [0; CHANNELS],
         granted: [0; CHANNELS],
         lost: [0; CHANNELS],
     };
 }
 
-/// One more for each channel of a set of a router.
+// One more for each channel of a set of a router.
 #[inline(always)]
-pub fn tally(lane: usize, set: u32, counts: &mut [u32; CHANNELS])
+pub(crate) fn tally(lane: usize, set: u32, counts: &mut [u32; CHANNELS])
     requires { lane < 32 }
     ensures here { AreTallied set (of_router counts.old lane) (of_router counts.new lane) }
     ensures others { (j : ℕ) → j ≢ lane → of_router counts.new j ≡ of_router counts.old j }

@@ -5,7 +5,7 @@ ghost use Rattle.noc_packet.specs.Set.{has_bit};
 ghost use Rattle.noc_rows.specs.Bits.{less};
 ghost use Rattle.noc_rows.specs.Moves.{channel_word, dry_by, has_freed, has_gone, has_left, of_one, ports_of, rest_from, selected_in, some_below, taken_in, turn_in, turned_by, union_from};
 ghost use Rattle.noc_rows.specs.Rows.{word};
-ghost use Rattle.noc_rows.specs.Switched.{AreApart, HasTails, IsOne, MovesFlits, NotesTails, ReleasesTails, moved_by};
+ghost use Rattle.noc_rows.specs.Switched.{AreSelectedOnce, HasTails, IsOne, MovesFlits, NotesTails, ReleasesTails, selected_by_ports};
 ghost use Rattle.noc_rows.specs.Turns.{first_bit, in_turn};
 ghost use Rattle.noc_rows.specs.Wires.{HasCleared, HasMarked, in_row};
 
@@ -16,13 +16,19 @@ use crate::lanes::{CHANNELS, ROUTERS, Row, alone_if, least, least_bit, put};
 use crate::marks::Marks;
 use crate::wires::{Tails, Wires, arrive, clear, give_back, mark, send};
 
-/// The flits of a block that the switch lets through move, and what their tails held is given back.
-pub fn move_block(frame: &Frame, cycle: u32, number: usize, block: &mut Block, wires: &mut Wires)
+// The flits of a block that the switch lets through move, and what their tails held is given back.
+pub(crate) fn move_block(
+    frame: &Frame,
+    cycle: u32,
+    number: usize,
+    block: &mut Block,
+    wires: &mut Wires,
+)
     ensures moved { (k : ℕ) → k < 32 → word block.new.decided.moved k ≡ union_from (word block.old.decided.moved k) (ports_of frame.now) (selected_in (word block.old.standing.picked k) block.old.marks k) }
     ensures out { (k : ℕ) → k < 32 → word block.new.decided.out k ≡ union_from (word block.old.decided.out k) (ports_of frame.now) (λ q. of_one (selected_in (word block.old.standing.picked k) block.old.marks k q) (taken_in block.old.marks k)) }
     ensures supplied { (k : ℕ) → k < 32 → word block.new.lanes.supplied k ≡ rest_from (word block.old.lanes.supplied k) (ports_of frame.now) (λ q. dry_by (word block.old.returned.single k) (taken_in block.old.marks k) (selected_in (word block.old.standing.picked k) block.old.marks k q)) }
     ensures turns { (q k : ℕ) → q < ports_of frame.now → k < 32 → turn_in block.new.marks k q ≡ turned_by (selected_in (word block.old.standing.picked k) block.old.marks k q) frame.now.after (turn_in block.old.marks k q) }
-    ensures flits { AreApart (ports_of frame.now) (λ k. selected_in (word block.old.standing.picked k) block.old.marks k) → MovesFlits number (moved_by (ports_of frame.now) (λ k. selected_in (word block.old.standing.picked k) block.old.marks k)) block.old.marks block.new.marks wires.old wires.new }
+    ensures flits { AreSelectedOnce (ports_of frame.now) (λ k. selected_in (word block.old.standing.picked k) block.old.marks k) → MovesFlits number (selected_by_ports (ports_of frame.now) (λ k. selected_in (word block.old.standing.picked k) block.old.marks k)) block.old.marks block.new.marks wires.old wires.new }
     ensures tails { ReleasesTails number (ports_of frame.now) frame.now.links cycle (λ k. selected_in (word block.old.standing.picked k) block.old.marks k) block.old.marks block.new.marks block.old.decided block.new.decided wires.old wires.new }
     ensures wires { wires.new ≡ record wires.old { inboxes = wires.new.inboxes; arrivals = wires.new.arrivals; tails = wires.new.tails } }
     ensures inboxes { length wires.new.inboxes.items ≡ length wires.old.inboxes.items }
@@ -69,7 +75,7 @@ fn move_all(
     ensures out { (k : ℕ) → k < 32 → word decided.new.out k ≡ union_from (word decided.old.out k) (ports_of frame.now) (λ q. of_one (selected_in (word standing.now.picked k) marks.old k q) (taken_in marks.old k)) }
     ensures supplied { (k : ℕ) → k < 32 → word supplied.new k ≡ rest_from (word supplied.old k) (ports_of frame.now) (λ q. dry_by (word single.now k) (taken_in marks.old k) (selected_in (word standing.now.picked k) marks.old k q)) }
     ensures turns { (q k : ℕ) → q < ports_of frame.now → k < 32 → turn_in marks.new k q ≡ turned_by (selected_in (word standing.now.picked k) marks.old k q) frame.now.after (turn_in marks.old k q) }
-    ensures flits { AreApart (ports_of frame.now) (λ k. selected_in (word standing.now.picked k) marks.old k) → MovesFlits number (moved_by (ports_of frame.now) (λ k. selected_in (word standing.now.picked k) marks.old k)) marks.old marks.new wires.old wires.new }
+    ensures flits { AreSelectedOnce (ports_of frame.now) (λ k. selected_in (word standing.now.picked k) marks.old k) → MovesFlits number (selected_by_ports (ports_of frame.now) (λ k. selected_in (word standing.now.picked k) marks.old k)) marks.old marks.new wires.old wires.new }
     ensures tails { HasTails number (ports_of frame.now) (λ k. selected_in (word standing.now.picked k) marks.old k) marks.old wires.old wires.new }
     ensures wires { wires.new ≡ record wires.old { inboxes = wires.new.inboxes; tails = wires.new.tails } }
     ensures inboxes { length wires.new.inboxes.items ≡ length wires.old.inboxes.items }
@@ -85,7 +91,7 @@ fn move_all(
     }
 }
 
-// .. of one output port.
+// Of one output port of each router of a block one flit moves, where one is picked.
 fn move_through(
     frame: &Frame,
     number: usize,
@@ -150,10 +156,10 @@ fn select(picked: &Row, to_port: &Row, turn: &Row, selected: &mut Row, moved: &m
     moving
 }
 
-/// The first of these requests, from the pointer of an arbiter on, and around; `turn` has the channels at or after
-/// the pointer.
+// The first of these requests, from the pointer of an arbiter on, and around; `turn` has the channels at or after
+// the pointer.
 #[inline(always)]
-pub fn first_in_turn(requests: u32, turn: u32) -> u32
+pub(crate) fn first_in_turn(requests: u32, turn: u32) -> u32
     ensures { result ≡ first_bit requests turn }
 {
     least_bit(in_turn(requests, turn))
@@ -265,7 +271,7 @@ fn release_all(
     }
 }
 
-// .. of one channel.
+// A tail that has moved gives its channels back.
 #[inline(always)]
 fn release(port: usize, channel: usize, marks: &mut Marks, decided: &mut DecidedRows)
     requires port { port < 8 }

@@ -8,7 +8,7 @@ use crate::lanes::{ROUTERS, Row, put};
 
 /// A number, 0 to 31, of each channel of a router.
 #[derive(Clone, Copy)]
-pub struct Numbers {
+pub(crate) struct Numbers {
     pub ones: u32,
     pub twos: u32,
     pub fours: u32,
@@ -17,8 +17,8 @@ pub struct Numbers {
 }
 
 impl Numbers {
-    /// The number 0 of each channel.
-    pub const NONE: Numbers = Numbers {
+    // The number 0 of each channel.
+    pub(crate) const NONE: Numbers = Numbers {
         ones: 0,
         twos: 0,
         fours: 0,
@@ -26,8 +26,8 @@ impl Numbers {
         sixteens: 0,
     };
 
-    /// The same number, 0 to 31, of each channel.
-    pub fn all(number: usize) -> Numbers
+    // The same number, 0 to 31, of each channel.
+    pub(crate) fn all(number: usize) -> Numbers
         ensures { planes_of result ≡ words_of 5 number }
     {
         Numbers {
@@ -39,8 +39,8 @@ impl Numbers {
         }
     }
 
-    /// The numbers of the channels of a set, and 0 for the others.
-    pub fn among(self, set: u32) -> Numbers
+    // The numbers of the channels of a set, and 0 for the others.
+    pub(crate) fn among(self, set: u32) -> Numbers
         ensures { planes_of result ≡ map (λ plane. bit_and plane set) (planes_of self) }
     {
         Numbers {
@@ -52,9 +52,9 @@ impl Numbers {
         }
     }
 
-    /// One more for each member of a set. A number of 31 becomes 0.
+    // One more for each member of a set. A number of 31 becomes 0.
     #[inline(always)]
-    pub fn raised(self, set: u32) -> Numbers
+    pub(crate) fn raised(self, set: u32) -> Numbers
         ensures { planes_of result ≡ raised_by (planes_of self) set }
     {
         let twos = set & self.ones;
@@ -70,9 +70,9 @@ impl Numbers {
         }
     }
 
-    /// One less for each member of a set. A number of 0 becomes 31.
+    // One less for each member of a set. A number of 0 becomes 31.
     #[inline(always)]
-    pub fn lowered(self, set: u32) -> Numbers
+    pub(crate) fn lowered(self, set: u32) -> Numbers
         ensures { planes_of result ≡ lowered_by (planes_of self) set }
     {
         let twos = set & !self.ones;
@@ -88,25 +88,25 @@ impl Numbers {
         }
     }
 
-    /// The channels whose number is not 0.
+    // The channels whose number is not 0.
     #[inline(always)]
-    pub fn some(self) -> u32
+    pub(crate) fn some(self) -> u32
         ensures { result ≡ any_from 0 (planes_of self) }
     {
         self.ones | self.twos | self.fours | self.eights | self.sixteens
     }
 
-    /// The channels whose number is more than 1.
+    // The channels whose number is more than 1.
     #[inline(always)]
-    pub fn more_than_one(self) -> u32
+    pub(crate) fn more_than_one(self) -> u32
         ensures { result ≡ more_than_one (planes_of self) }
     {
         self.twos | self.fours | self.eights | self.sixteens
     }
 
-    /// The channels whose number is not that of other numbers.
+    // The channels whose number is not that of other numbers.
     #[inline(always)]
-    pub fn other_than(self, numbers: Numbers) -> u32
+    pub(crate) fn other_than(self, numbers: Numbers) -> u32
         ensures { result ≡ wrong_from 0 (planes_of self) (planes_of numbers) }
     {
         (self.ones ^ numbers.ones)
@@ -126,7 +126,7 @@ fn all_if_odd(number: usize) -> u32
 
 /// The numbers of the channels of all routers of a block.
 #[derive(Clone, Copy)]
-pub struct Planes {
+pub(crate) struct Planes {
     pub ones: Row,
     pub twos: Row,
     pub fours: Row,
@@ -135,8 +135,8 @@ pub struct Planes {
 }
 
 impl Planes {
-    /// The same numbers in each router.
-    pub fn of(numbers: Numbers) -> Planes
+    // The same numbers in each router.
+    pub(crate) fn of(numbers: Numbers) -> Planes
         ensures { (k : ℕ) → k < 32 → planes_at result k ≡ planes_of numbers }
     {
         Planes {
@@ -148,9 +148,9 @@ impl Planes {
         }
     }
 
-    /// The numbers of one router.
+    // The numbers of one router.
     #[inline(always)]
-    pub fn at(&self, lane: usize) -> Numbers
+    pub(crate) fn at(&self, lane: usize) -> Numbers
         requires { lane < 32 }
         ensures { planes_of result ≡ planes_at self.now lane }
     {
@@ -163,9 +163,9 @@ impl Planes {
         }
     }
 
-    /// Writes the numbers of one router.
+    // Writes the numbers of one router.
     #[inline(always)]
-    pub fn put(&mut self, lane: usize, numbers: Numbers)
+    pub(crate) fn put(&mut self, lane: usize, numbers: Numbers)
         requires { lane < 32 }
         ensures here { planes_at self.new lane ≡ planes_of numbers }
         ensures others { (k : ℕ) → k ≢ lane → planes_at self.new k ≡ planes_at self.old k }
@@ -177,8 +177,8 @@ impl Planes {
         put(&mut self.sixteens, lane, numbers.sixteens);
     }
 
-    /// One less in each router for the channels of its set.
-    pub fn lower(&mut self, sets: &Row)
+    // One less in each router for the channels of its set.
+    pub(crate) fn lower(&mut self, sets: &Row)
         ensures { (k : ℕ) → k < 32 → planes_at self.new k ≡ lowered_by (planes_at self.old k) (word sets.now k) }
     {
         for j in 0..ROUTERS {
@@ -187,8 +187,8 @@ impl Planes {
         }
     }
 
-    /// One less in each router for the channels of its set that are among these.
-    pub fn lower_among(&mut self, sets: &Row, among: u32)
+    // One less in each router for the channels of its set that are among these.
+    pub(crate) fn lower_among(&mut self, sets: &Row, among: u32)
         ensures { (k : ℕ) → k < 32 → planes_at self.new k ≡ lowered_by (planes_at self.old k) (bit_and (word sets.now k) among) }
     {
         for j in 0..ROUTERS {

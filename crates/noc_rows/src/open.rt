@@ -68,8 +68,8 @@ fn empty_lane(frame: &Frame) -> Lane
     }
 }
 
-/// The routers of a relation, with the packets that start there.
-pub fn new_blocks(
+// The routers of a relation, with the packets that start there.
+pub(crate) fn new_blocks(
     alloc: Global,
     relation: &Relation,
     frame: &Frame,
@@ -156,8 +156,8 @@ fn lead_back(frame: &Frame, lane: usize, lead: &[u32; PORTS], back: &mut [u32; C
     }
 }
 
-/// What the routers of so many blocks share: no flit, no beat, no arrival of so many packets.
-pub fn new_wires(
+// What the routers of so many blocks share: no flit, no beat, no arrival of so many packets.
+pub(crate) fn new_wires(
     alloc: Global,
     blocks: usize,
     places: usize,

@@ -17,8 +17,8 @@ use crate::starts::{NEVER, Start};
 use crate::wires::{Inbox, Wires};
 use noc_route::Relation;
 
-/// The blocks in which something is to happen are awake. The answer is when the next one is to be.
-pub fn wake_all(cycle: u32, busy: &[bool], blocks: &mut [Block]) -> u32
+// The blocks in which something is to happen are awake. The answer is when the next one is to be.
+pub(crate) fn wake_all(cycle: u32, busy: &[bool], blocks: &mut [Block]) -> u32
     ensures { AreWoken cycle result busy.now blocks.old blocks.new }
 {
     let mut next = NEVER;
@@ -54,8 +54,8 @@ fn know_bytes(places: &[u8])
     ensures { (p : ℕ) → slice_index places.now p < 256 }
 {}
 
-/// Beats are taken, flits are injected, and it is known where channels stand.
-pub fn arrive_all(
+// Beats are taken, flits are injected, and it is known where channels stand.
+pub(crate) fn arrive_all(
     frame: &Frame,
     cycle: u32,
     starts: &[Start],
@@ -73,7 +73,7 @@ pub fn arrive_all(
     }
 }
 
-// .. in one block.
+// Beats are taken and flits are injected in one block, and it is known where its channels stand.
 fn freeze_one(
     frame: &Frame,
     cycle: u32,
@@ -88,8 +88,8 @@ fn freeze_one(
     stand_one(frame, block);
 }
 
-/// One block after the other decides: channels are granted, heads are routed, and flits move.
-pub fn decide_all(
+// One block after the other decides: channels are granted, heads are routed, and flits move.
+pub(crate) fn decide_all(
     relation: &Relation,
     frame: &Frame,
     cycle: u32,
@@ -119,7 +119,7 @@ fn know_inboxes(inboxes: &[Inbox])
     }
 }
 
-// .. one block.
+// One block decides: channels are granted, heads are routed, and flits move.
 fn decide_one(
     relation: &Relation,
     frame: &Frame,
@@ -137,13 +137,18 @@ fn decide_one(
     know_bytes(&block.marks.first);
 }
 
-/// Words are below 2 ^ 32.
-pub fn know_words(row: &[u32])
+// Words are below 2 ^ 32.
+pub(crate) fn know_words(row: &[u32])
     ensures { (k : ℕ) → word row.now k < 2 ^ 32 }
 {}
 
-/// What has happened is counted, and takes effect. The answer has the blocks to which something may be on its way.
-pub fn conclude_all(frame: &Frame, cycle: u32, blocks: &mut [Block], sheets: &mut [Sheet]) -> u32
+// What has happened is counted, and takes effect. The answer has the blocks to which something may be on its way.
+pub(crate) fn conclude_all(
+    frame: &Frame,
+    cycle: u32,
+    blocks: &mut [Block],
+    sheets: &mut [Sheet],
+) -> u32
     ensures { HaveConcluded frame.now cycle result blocks.old blocks.new sheets.old sheets.new }
 {
     let mut near = 0u32;
@@ -156,7 +161,7 @@ pub fn conclude_all(frame: &Frame, cycle: u32, blocks: &mut [Block], sheets: &mu
     near
 }
 
-// .. in one block.
+// What has happened in one block is counted, and takes effect.
 fn settle_one(frame: &Frame, cycle: u32, block: &mut Block, sheet: &mut Sheet) -> u32
     ensures block { HasConcluded frame.now cycle block.old block.new sheet.old sheet.new }
     ensures near { block.new.moves ≡ true → result ≡ block.new.near }
@@ -172,8 +177,8 @@ fn near_to(block: &Block) -> u32
     if block.moves { block.near } else { 0 }
 }
 
-/// The blocks to which something may be on its way are busy.
-pub fn note_busy(near: u32, busy: &mut [bool])
+// The blocks to which something may be on its way are busy.
+pub(crate) fn note_busy(near: u32, busy: &mut [bool])
     ensures { (b : ℕ) → b < length busy.old → b < 32 → slice_get busy.new b ≡ Some (has_bit near b) }
 {
     for number in 0..busy.len() {

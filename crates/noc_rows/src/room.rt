@@ -5,7 +5,7 @@ ghost use Rattle.noc_rows.specs.FlitWords.{is_room};
 
 /// How many words a ring has room for: a power of two.
 #[derive(Clone, Copy)]
-pub struct Room {
+pub(crate) struct Room {
     mask: u8,
     ghost power: { is_room (mask + 1) ≡ true },
 }
@@ -14,8 +14,8 @@ impl Room {
     ghost use Rattle.noc_rows.specs.FlitWords.{slot};
     ghost use Rattle.noc_rows.specs.Wires.{room_of};
 
-    /// The least that is so many places, or 16.
-    pub fn of(places: usize) -> Room
+    // The least that is so many places, or 16.
+    pub(crate) fn of(places: usize) -> Room
         ensures { places ≤ 16 → places ≤ room_of result }
     {
         if places <= 1 {
@@ -31,9 +31,9 @@ impl Room {
         }
     }
 
-    /// Where a word of the ring of a channel is.
+    // Where a word of the ring of a channel is.
     #[inline(always)]
-    pub fn at(self, channel: usize, place: u8) -> usize
+    pub(crate) fn at(self, channel: usize, place: u8) -> usize
         requires { channel < 1024 }
         ensures place { result ≡ slot (room_of self) channel place }
         ensures within { result < 16384 }

@@ -19,8 +19,8 @@ use crate::word::{class, destination};
 use noc_packet::ChannelSet;
 use noc_route::Relation;
 
-/// Each head of these routers of a block waits for one of the channels that it may take. `number` is the block's.
-pub fn route_all(
+// Each head of these routers of a block waits for one of the channels that it may take. `number` is the block's.
+pub(crate) fn route_all(
     relation: &Relation,
     frame: &Frame,
     room: Room,

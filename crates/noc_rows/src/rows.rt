@@ -4,10 +4,10 @@ ghost use Rattle.std.specs.Prelude.{◌≡◌, ◌+◌, ◌%◌, ◌^◌, ◌<�
 ghost use Rattle.noc_packet.specs.Set.{has_bit};
 ghost use Rattle.noc_rows.specs.Arrive.{HasArrived};
 ghost use Rattle.noc_rows.specs.Decided.{HasChosenIn};
-ghost use Rattle.noc_rows.specs.Outlook.{holding_in, least_below, some_below};
+ghost use Rattle.noc_rows.specs.Outlook.{holding_in, least_below, is_some_below};
 ghost use Rattle.noc_rows.specs.Passes.{lane_asks, lane_heads, lane_standing, lane_verdicts, settled_lane};
 ghost use Rattle.noc_rows.specs.Rows.{column_at, effects_at, event_in, planes_of, standing_at, word};
-ghost use Rattle.noc_rows.specs.Tallied.{AreBelow, counts_by, cycles_of, sheet_counts, ten_counts, with_verdicts};
+ghost use Rattle.noc_rows.specs.Tallied.{CountsAreBelow, counts_by, cycles_of, sheet_counts, ten_counts, with_verdicts};
 ghost use Rattle.noc_rows.specs.Wires.{inbox_at, room_of};
 
 use crate::allocate::allocate_all;
@@ -297,8 +297,8 @@ pub(crate) fn conclude_one(frame: &Frame, cycle: u32, block: &mut Block, sheet: 
     ensures counts { cycles_of sheet.old + 1 < 2 ^ 32 → (j k : ℕ) → j < 32 → sheet_counts sheet.new j k ≡ with_verdicts (lane_verdicts (word block.old.arrived.filled j) (standing_at block.old.standing j) (word block.old.decided.granted j) (word block.old.decided.lost j) (word block.old.decided.moved j) (column_at block.old.lanes j)) k (sheet_counts sheet.old j k) }
     ensures cycles { cycles_of sheet.new ≡ (cycles_of sheet.old + 1) % 2 ^ 32 }
     ensures events { (k : ℕ) → k < 32 → word block.new.last_event k ≡ (if nat_eq (event_in block.old.returned block.old.arrived block.old.standing block.old.decided k) 0 then word block.old.last_event k else (cycle + 1) % 2 ^ 32) }
-    ensures holds { block.new.holds ≡ some_below (λ k. not (nat_eq (holding_in (column_at block.new.lanes k)) 0)) 32 }
-    ensures moves { block.new.moves ≡ some_below (λ k. not (nat_eq (word block.old.decided.moved k) 0)) 32 }
+    ensures holds { block.new.holds ≡ is_some_below (λ k. not (nat_eq (holding_in (column_at block.new.lanes k)) 0)) 32 }
+    ensures moves { block.new.moves ≡ is_some_below (λ k. not (nat_eq (word block.old.decided.moved k) 0)) 32 }
     ensures next_due { block.new.next_due ≡ least_below (word block.old.sources.due) 32 }
     ensures rest { block.new ≡ record block.old { lanes = block.new.lanes; last_event = block.new.last_event; holds = block.new.holds; moves = block.new.moves; next_due = block.new.next_due } }
 {
@@ -347,7 +347,7 @@ fn counts_in(
 // are left.
 fn with_tallies(cycles: u32, counts: VerdictCounts, tallies: &Tallies, place: usize) -> [u64; 10]
     requires place { place < 1024 }
-    requires small { AreBelow (2 ^ 34) counts }
+    requires small { CountsAreBelow (2 ^ 34) counts }
     ensures { result ≡ ten_counts cycles counts (slice_index_or tallies.now.routed place 0) (slice_index_or tallies.now.granted place 0) (slice_index_or tallies.now.lost place 0) }
 {
     let routed = u64::from(tallies.routed[place]);

@@ -1,7 +1,7 @@
 //! What a cycle changes in all routers.
 
 ghost use Rattle.std.specs.Prelude.{◌≡◌, ◌+◌, ◌%◌, ◌^◌, ◌<◌, ℕ, not, nat_eq, if◌then◌else◌};
-ghost use Rattle.noc_rows.specs.Outlook.{holding_in, least_below, some_below};
+ghost use Rattle.noc_rows.specs.Outlook.{holding_in, least_below, is_some_below};
 ghost use Rattle.noc_rows.specs.Passes.{settled_lane, settled_sets};
 ghost use Rattle.noc_rows.specs.Rows.{column_at, effects_at, event_in, word};
 
@@ -11,8 +11,13 @@ use crate::fields::Fields;
 use crate::frame::Frame;
 use crate::lanes::{ROUTERS, Row, put};
 
-/// Grants, moves and tails take effect.
-pub fn settle(frame: &Frame, standing: &StandingRows, decided: &DecidedRows, lanes: &mut Lanes)
+// Grants, moves and tails take effect.
+pub(crate) fn settle(
+    frame: &Frame,
+    standing: &StandingRows,
+    decided: &DecidedRows,
+    lanes: &mut Lanes,
+)
     ensures { (k : ℕ) → k < 32 → column_at lanes.new k ≡ settled_lane frame.now.fields frame.now.link_set frame.now.local_set (effects_at standing.now decided.now k) (column_at lanes.old k) }
 {
     settle_sets(frame, standing, decided, lanes);
@@ -20,7 +25,7 @@ pub fn settle(frame: &Frame, standing: &StandingRows, decided: &DecidedRows, lan
     lanes.credit.lower_among(&decided.out, frame.link_set);
 }
 
-// .. on the sets of channels and the pointers of input ports.
+// What has happened takes effect on the sets of channels and the pointers of input ports.
 fn settle_sets(frame: &Frame, standing: &StandingRows, decided: &DecidedRows, lanes: &mut Lanes)
     ensures { (k : ℕ) → k < 32 → column_at lanes.new k ≡ settled_sets frame.now.fields frame.now.link_set frame.now.local_set (effects_at standing.now decided.now k) (column_at lanes.old k) }
 {
@@ -45,8 +50,8 @@ fn settle_sets(frame: &Frame, standing: &StandingRows, decided: &DecidedRows, la
     }
 }
 
-/// Where something happened in this cycle, the last event was in it: the row has the cycle after it.
-pub fn note_events(
+// Where something happened in this cycle, the last event was in it: the row has the cycle after it.
+pub(crate) fn note_events(
     cycle: u32,
     returned: &ReturnedRows,
     arrived: &ArrivedRows,
@@ -80,19 +85,19 @@ fn later_if(event: u32, later: u32, before: u32) -> u32
 
 /// What a block has to do next.
 #[derive(Clone, Copy)]
-pub struct Outlook {
-    /// Whether a channel is waiting or active, or a packet is being injected.
+pub(crate) struct Outlook {
+    // Whether a channel is waiting or active, or a packet is being injected.
     pub holds: bool,
-    /// Whether a flit moved in this cycle.
+    // Whether a flit moved in this cycle.
     pub moves: bool,
-    /// The first cycle in which a packet is due.
+    // The first cycle in which a packet is due.
     pub next_due: u32,
 }
 
-/// Whether the routers of a block hold anything, whether these flits have moved, and when the next packet is due.
-pub fn look_ahead(lanes: &Lanes, moved: &Row, due: &Row) -> Outlook
-    ensures holds { result.holds ≡ some_below (λ k. not (nat_eq (holding_in (column_at lanes.now k)) 0)) 32 }
-    ensures moves { result.moves ≡ some_below (λ k. not (nat_eq (word moved.now k) 0)) 32 }
+// Whether the routers of a block hold anything, whether these flits have moved, and when the next packet is due.
+pub(crate) fn look_ahead(lanes: &Lanes, moved: &Row, due: &Row) -> Outlook
+    ensures holds { result.holds ≡ is_some_below (λ k. not (nat_eq (holding_in (column_at lanes.now k)) 0)) 32 }
+    ensures moves { result.moves ≡ is_some_below (λ k. not (nat_eq (word moved.now k) 0)) 32 }
     ensures next_due { result.next_due ≡ least_below (word due.now) 32 }
 {
     let mut held = 0u32;

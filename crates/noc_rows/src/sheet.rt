@@ -3,7 +3,7 @@
 ghost use Rattle.std.specs.Prelude.{◌≡◌, ◌≢◌, ◌+◌, ◌/◌, ◌%◌, ◌^◌, ◌<◌, ℕ};
 ghost use Rattle.noc_rows.specs.Passes.{lane_verdicts};
 ghost use Rattle.noc_rows.specs.Rows.{column_at, standing_at, verdicts_at, word};
-ghost use Rattle.noc_rows.specs.Tallied.{AreBelow, counters_at, cycles_of, no_counts, sheet_counts, with_recent, with_verdicts};
+ghost use Rattle.noc_rows.specs.Tallied.{CountsAreBelow, counters_at, cycles_of, no_counts, sheet_counts, with_recent, with_verdicts};
 
 use crate::column::{Lane, Lanes};
 use crate::counter::{Counter, one_if_member};
@@ -13,7 +13,7 @@ use crate::lanes::{ROUTERS, Row, put};
 /// The verdicts of one router that are counted for all channels at once. (Routed, Granted and LostChannel are counted
 /// one by one.)
 #[derive(Clone, Copy)]
-pub struct Verdicts {
+pub(crate) struct Verdicts {
     pub moved: u32,
     pub no_flit: u32,
     pub no_idle_channel: u32,
@@ -22,9 +22,9 @@ pub struct Verdicts {
     pub lost_switch: u32,
 }
 
-/// .. of the routers of a block.
+/// The verdicts of the routers of a block that are counted for all channels at once.
 #[derive(Clone, Copy)]
-pub struct VerdictRows {
+pub(crate) struct VerdictRows {
     pub moved: Row,
     pub no_flit: Row,
     pub no_idle_channel: Row,
@@ -34,8 +34,8 @@ pub struct VerdictRows {
 }
 
 impl VerdictRows {
-    /// No verdicts.
-    pub const NONE: VerdictRows = VerdictRows {
+    // No verdicts.
+    pub(crate) const NONE: VerdictRows = VerdictRows {
         moved: [0; ROUTERS],
         no_flit: [0; ROUTERS],
         no_idle_channel: [0; ROUTERS],
@@ -44,8 +44,8 @@ impl VerdictRows {
         lost_switch: [0; ROUTERS],
     };
 
-    /// The verdicts of one router.
-    pub fn at(&self, lane: usize) -> Verdicts
+    // The verdicts of one router.
+    pub(crate) fn at(&self, lane: usize) -> Verdicts
         requires { lane < 32 }
         ensures { result ≡ verdicts_at self.now lane }
     {
@@ -59,9 +59,9 @@ impl VerdictRows {
         }
     }
 
-    /// Writes the verdicts of one router.
+    // Writes the verdicts of one router.
     #[inline(always)]
-    pub fn put(&mut self, lane: usize, words: Verdicts)
+    pub(crate) fn put(&mut self, lane: usize, words: Verdicts)
         requires { lane < 32 }
         ensures here { verdicts_at self.new lane ≡ words }
         ensures others { (k : ℕ) → k ≢ lane → verdicts_at self.new k ≡ verdicts_at self.old k }
@@ -77,7 +77,7 @@ impl VerdictRows {
 
 /// How often a channel had each of these verdicts.
 #[derive(Clone, Copy)]
-pub struct VerdictCounts {
+pub(crate) struct VerdictCounts {
     pub moved: u64,
     pub no_flit: u64,
     pub no_idle_channel: u64,
@@ -87,10 +87,10 @@ pub struct VerdictCounts {
 }
 
 impl VerdictCounts {
-    /// One more for each verdict of a channel.
-    pub fn with(self, words: Verdicts, channel: usize) -> VerdictCounts
+    // One more for each verdict of a channel.
+    pub(crate) fn with(self, words: Verdicts, channel: usize) -> VerdictCounts
         requires channel { channel < 32 }
-        requires small { AreBelow (2 ^ 34) self }
+        requires small { CountsAreBelow (2 ^ 34) self }
         ensures { result ≡ with_verdicts words channel self }
     {
         VerdictCounts {
@@ -106,7 +106,7 @@ impl VerdictCounts {
 
 /// The counts of a block.
 #[derive(Clone, Copy)]
-pub struct Sheet {
+pub(crate) struct Sheet {
     // The verdicts of the cycles after the last four that were added.
     recent: [VerdictRows; 4],
     moved: Counter,
@@ -119,8 +119,8 @@ pub struct Sheet {
 }
 
 impl Sheet {
-    /// No counts.
-    pub fn new() -> Sheet
+    // No counts.
+    pub(crate) fn new() -> Sheet
         ensures counts { (j k : ℕ) → j < 32 → sheet_counts result j k ≡ no_counts }
         ensures cycles { cycles_of result ≡ 0 }
     {
@@ -136,8 +136,8 @@ impl Sheet {
         }
     }
 
-    /// Counts the verdicts of one cycle, before they take effect. The counts are right for 2^32 - 1 cycles.
-    pub fn count(
+    // Counts the verdicts of one cycle, before they take effect. The counts are right for 2^32 - 1 cycles.
+    pub(crate) fn count(
         &mut self,
         lanes: &Lanes,
         filled: &Row,
@@ -198,12 +198,12 @@ impl Sheet {
         self.cycles = self.cycles.wrapping_add(1);
     }
 
-    /// How often a channel of a router had each verdict that is counted here.
-    pub fn totals(&self, lane: usize, channel: usize) -> VerdictCounts
+    // How often a channel of a router had each verdict that is counted here.
+    pub(crate) fn totals(&self, lane: usize, channel: usize) -> VerdictCounts
         requires lane { lane < 32 }
         requires channel { channel < 32 }
         ensures counts { result ≡ sheet_counts self.now lane channel }
-        ensures small { AreBelow (2 ^ 34) result }
+        ensures small { CountsAreBelow (2 ^ 34) result }
     {
         let times = self.cycles / 4;
         let mut counts = VerdictCounts {

@@ -12,13 +12,18 @@ use crate::lanes::{ROUTERS, Row, alone_if};
 
 /// The lanes in which a head is there, and those in which an idle output channel is in the set of a waiting channel.
 #[derive(Clone, Copy)]
-pub struct Pending {
+pub(crate) struct Pending {
     pub heading: u32,
     pub asking: u32,
 }
 
-/// Where the input channels stand of which these have a flit.
-pub fn stand(fields: Fields, lanes: &Lanes, filled: &Row, standing: &mut StandingRows) -> Pending
+// Where the input channels stand of which these have a flit.
+pub(crate) fn stand(
+    fields: Fields,
+    lanes: &Lanes,
+    filled: &Row,
+    standing: &mut StandingRows,
+) -> Pending
     ensures standing { (k : ℕ) → k < 32 → standing_at standing.new k ≡ lane_standing fields (word filled.now k) (column_at lanes.now k) }
     ensures heading { (k : ℕ) → k < 32 → has_bit result.heading k ≡ not (nat_eq (lane_heads (word filled.now k) (column_at lanes.now k)) 0) }
     ensures asking { (k : ℕ) → k < 32 → has_bit result.asking k ≡ not (nat_eq (lane_asks (column_at lanes.now k)) 0) }
@@ -37,7 +42,7 @@ pub fn stand(fields: Fields, lanes: &Lanes, filled: &Row, standing: &mut Standin
     pending
 }
 
-// .. in one router.
+// Where the input channels of one router stand.
 #[inline(always)]
 fn standing_of(fields: Fields, lane: Lane, filled: u32) -> Standing
     ensures { result ≡ lane_standing fields filled (column_of lane) }

@@ -9,35 +9,35 @@ use crate::lanes::{CHANNELS, Row};
 use crate::room::Room;
 use crate::word::{last, number};
 
-/// How many words the rings of a block have at most.
-pub const WORDS: usize = 16_384;
+// How many words the rings of a block have at most.
+pub(crate) const WORDS: usize = 16_384;
 
 /// The wires that lead to the routers of a block, and their rings.
 #[derive(Clone, Copy)]
-pub struct Inbox {
-    /// The input channels that a flit comes to.
+pub(crate) struct Inbox {
+    // The input channels that a flit comes to.
     pub flits: Row,
-    /// The output channels that a credit comes to.
+    // The output channels that a credit comes to.
     pub credits: Row,
-    /// By input channel, how many flits have gone into its ring, as a byte.
+    // By input channel, how many flits have gone into its ring, as a byte.
     pub next: [u8; CHANNELS],
-    /// By place in the ring and input channel, the flits in the buffer and on the wire to it.
+    // By place in the ring and input channel, the flits in the buffer and on the wire to it.
     pub words: [u64; WORDS],
 }
 
 impl Inbox {
-    /// The first flit of the ring of a channel.
+    // The first flit of the ring of a channel.
     #[inline(always)]
-    pub fn first(&self, room: Room, channel: usize, place: u8) -> u64
+    pub(crate) fn first(&self, room: Room, channel: usize, place: u8) -> u64
         requires { channel < 1024 }
         ensures { (flit : ℕ) (rest : List ℕ) → ring_in (room_of room) self.now channel place ≡ flit ∷ rest → result ≡ flit }
     {
         self.words[room.at(channel, place)]
     }
 
-    /// A flit is at the end of the ring of a channel.
+    // A flit is at the end of the ring of a channel.
     #[inline(always)]
-    pub fn push(&mut self, room: Room, channel: usize, word: u64)
+    pub(crate) fn push(&mut self, room: Room, channel: usize, word: u64)
         requires { channel < 1024 }
         ensures rings { HasPushed (room_of room) self.old self.new channel word }
         ensures flits { self.new.flits ≡ self.old.flits }
@@ -49,7 +49,7 @@ impl Inbox {
         self.words[at] = word;
     }
 
-    // .. and on the wire to it.
+    // A flit is at the end of the ring of a channel, and on the wire to it.
     #[inline(always)]
     fn send(&mut self, room: Room, channel: usize, word: u64)
         requires { channel < 1024 }
@@ -60,18 +60,18 @@ impl Inbox {
     }
 }
 
-/// A row has this channel too.
+// A row has this channel too.
 #[inline(always)]
-pub fn mark(row: &mut Row, channel: usize)
+pub(crate) fn mark(row: &mut Row, channel: usize)
     requires { channel < 1024 }
     ensures { HasMarked row.old row.new channel }
 {
     row[channel / 32] |= 1u32 << (channel % 32) as u32;
 }
 
-/// A row has this channel no more.
+// A row has this channel no more.
 #[inline(always)]
-pub fn clear(row: &mut Row, channel: usize)
+pub(crate) fn clear(row: &mut Row, channel: usize)
     requires { channel < 1024 }
     ensures { HasCleared row.old row.new channel }
 {
@@ -81,38 +81,38 @@ pub fn clear(row: &mut Row, channel: usize)
 /// The wires that lead to the routers of each block, and the arrivals. The last block is a spare one: to it leads
 /// what has no link.
 #[derive(Drop)]
-pub struct Wires {
+pub(crate) struct Wires {
     pub inboxes: Vec<Inbox>,
-    /// Whether there may be anything on the wires to a block.
+    // Whether there may be anything on the wires to a block.
     pub busy: Vec<bool>,
-    /// Of each ring.
+    // Of each ring.
     pub room: Room,
-    /// By packet, the cycle in which its tail is out. One place more takes what is no arrival.
+    // By packet, the cycle in which its tail is out. One place more takes what is no arrival.
     pub arrivals: Vec<u32>,
     pub tails: Tails,
 }
 
 /// The tails that have moved.
 #[derive(Clone, Copy)]
-pub struct Tails {
-    /// 1024 times the output port, 32 times the router's lane, and the input channel.
+pub(crate) struct Tails {
+    // 1024 times the output port, 32 times the router's lane, and the input channel.
     pub list: [u16; 256],
-    /// The numbers of the packets.
+    // The numbers of the packets.
     pub numbers: [u32; 256],
     pub count: u8,
 }
 
 impl Tails {
-    /// No tail has moved.
-    pub const NONE: Tails = Tails {
+    // No tail has moved.
+    pub(crate) const NONE: Tails = Tails {
         list: [0; 256],
         numbers: [0; 256],
         count: 0,
     };
 
-    /// If the flit is a tail, it is noted.
+    // If the flit is a tail, it is noted.
     #[inline(always)]
-    pub fn note(&mut self, place: u16, word: u64)
+    pub(crate) fn note(&mut self, place: u16, word: u64)
         ensures few { self.new.count ≤ self.old.count + 1 }
         ensures noted { (f : Flit) → FitsWord f → word ≡ flit_word f → self.old.count < 255 → tails_of self.new ≡ (if f.last then tails_of self.old ++ (place, f.packet) ∷ [] else tails_of self.old) }
     {
@@ -123,9 +123,9 @@ impl Tails {
     }
 }
 
-/// A flit is on the wire to the channel at a place, and at the end of its ring.
+// A flit is on the wire to the channel at a place, and at the end of its ring.
 #[inline(always)]
-pub fn send(room: Room, inboxes: &mut [Inbox], target: u32, word: u64)
+pub(crate) fn send(room: Room, inboxes: &mut [Inbox], target: u32, word: u64)
     ensures there { target / 1024 < length inboxes.old → HasSent (room_of room) (inbox_at inboxes.old (target / 1024)) (inbox_at inboxes.new (target / 1024)) (target % 1024) word }
     ensures others { (b : ℕ) → b ≢ target / 1024 → inbox_at inboxes.new b ≡ inbox_at inboxes.old b }
 {
@@ -135,9 +135,9 @@ pub fn send(room: Room, inboxes: &mut [Inbox], target: u32, word: u64)
     }
 }
 
-/// A credit is on the wire to the output channel at a place.
+// A credit is on the wire to the output channel at a place.
 #[inline(always)]
-pub fn give_back(inboxes: &mut [Inbox], back: u32)
+pub(crate) fn give_back(inboxes: &mut [Inbox], back: u32)
     ensures there { back / 1024 < length inboxes.old → HasGivenBack (inbox_at inboxes.old (back / 1024)) (inbox_at inboxes.new (back / 1024)) (back % 1024) }
     ensures others { (b : ℕ) → b ≢ back / 1024 → inbox_at inboxes.new b ≡ inbox_at inboxes.old b }
 {
@@ -147,9 +147,9 @@ pub fn give_back(inboxes: &mut [Inbox], back: u32)
     }
 }
 
-/// The tail of a packet is out, or not.
+// The tail of a packet is out, or not.
 #[inline(always)]
-pub fn arrive(arrivals: &mut [u32], cycle: u32, number: u32, is_out: bool)
+pub(crate) fn arrive(arrivals: &mut [u32], cycle: u32, number: u32, is_out: bool)
     ensures { (p : ℕ) → p + 1 < length arrivals.old → slice_index arrivals.new p ≡ (if is_out && nat_eq p number then cycle else slice_index arrivals.old p) }
 {
     let nowhere = arrivals.len().wrapping_sub(1);
@@ -160,9 +160,9 @@ pub fn arrive(arrivals: &mut [u32], cycle: u32, number: u32, is_out: bool)
 }
 
 impl Wires {
-    /// The first flit of the ring of a channel of a block, whose first word has this place.
+    // The first flit of the ring of a channel of a block, whose first word has this place.
     #[inline(always)]
-    pub fn get(&self, block: usize, channel: usize, place: u8) -> u64
+    pub(crate) fn get(&self, block: usize, channel: usize, place: u8) -> u64
         requires { channel < 1024 }
         ensures { block < length self.now.inboxes.items → (flit : ℕ) (rest : List ℕ) → ring_in (room_of self.now.room) (inbox_at self.now.inboxes.items block) channel place ≡ flit ∷ rest → result ≡ flit }
     {

@@ -7,7 +7,7 @@ use Rattle.noc_rows.specs.Turns.{first_bit}
 use Rattle.noc_rows.specs.declared.cycle.DecidedRows.{DecidedRows}
 use Rattle.noc_rows.specs.declared.marks.Marks.{Marks}
 use Rattle.noc_rows.specs.declared.wires.Wires.{Wires}
-use Rattle.noc_rows.specs.Switched.{AreApart, HasTails, MovesFlits, moved_by}
+use Rattle.noc_rows.specs.Switched.{AreSelectedOnce, HasTails, MovesFlits, selected_by_ports}
 use Rattle.noc_rows.proofs.MovedLemmas.{moves-as, notes-as}
 use Rattle.noc_rows.proofs.PortLemmas.{moves-more, moves-none, notes-more}
 use Rattle.noc_rows.proofs.moves.move_all.Goals as goal
@@ -80,7 +80,7 @@ pub returns-clause-flits : goal.returns-clause-flits
 returns-clause-flits c =
     let done : c.loop-port.port ≡ ports_of c.args.frame.now = omega (arith, c.loop-port-test.false, c.loop-port.auto.port-end, c.min-port-end.ensures) in
     let selected : ℕ → ℕ → ℕ = λ k. selected_in (word c.args.standing.now.picked k) c.args.marks.now k in
-    subst (λ n. AreApart n selected → MovesFlits c.args.number (moved_by n selected) c.args.marks.now c.loop-port.marks c.args.wires.now c.loop-port.wires) done c.loop-port.invariant.flits
+    subst (λ n. AreSelectedOnce n selected → MovesFlits c.args.number (selected_by_ports n selected) c.args.marks.now c.loop-port.marks c.args.wires.now c.loop-port.wires) done c.loop-port.invariant.flits
 
 pub returns-clause-tails : goal.returns-clause-tails
 returns-clause-tails c =

@@ -5,7 +5,7 @@ use Rattle.std.proofs.lemmas.List.{with_items_is}
 use Rattle.noc_packet.specs.Set.{has_bit}
 use Rattle.noc_rows.specs.Moves.{has_freed, has_gone, ports_of, selected_in, some_below}
 use Rattle.noc_rows.specs.Rows.{word}
-use Rattle.noc_rows.specs.Switched.{moved_by, some_moved, some_tail}
+use Rattle.noc_rows.specs.Switched.{selected_by_ports, some_moved, some_tail}
 use Rattle.noc_rows.specs.Wires.{in_row}
 use Rattle.noc_rows.specs.declared.cycle.DecidedRows.{DecidedRows}
 use Rattle.noc_rows.specs.declared.marks.Marks.{Marks}
@@ -16,7 +16,7 @@ use Rattle.noc_rows.proofs.moves.move_block.Goals as goal
 
 pub returns-clause-flits : goal.returns-clause-flits
 returns-clause-flits c = λ apart.
-    moves-then c.args.number (moved_by (ports_of c.args.frame.now) (λ k. selected_in (word c.args.block.now.standing.picked k) c.args.block.now.marks k)) c.args.block.now.marks c.move_all.new.marks c.release_all.new.marks c.args.wires.now c.move_all.new.wires (record c.move_all.new.wires { arrivals = with_items c.move_all.new.wires.arrivals c.release_all.new.arrivals })
+    moves-then c.args.number (selected_by_ports (ports_of c.args.frame.now) (λ k. selected_in (word c.args.block.now.standing.picked k) c.args.block.now.marks k)) c.args.block.now.marks c.move_all.new.marks c.release_all.new.marks c.args.wires.now c.move_all.new.wires (record c.move_all.new.wires { arrivals = with_items c.move_all.new.wires.arrivals c.release_all.new.arrivals })
     (c.move_all.ensures.flits apart) (ap (λ (m : Marks). m.first) c.release_all.ensures.marks) refl refl
 
 pub returns-clause-tails : goal.returns-clause-tails

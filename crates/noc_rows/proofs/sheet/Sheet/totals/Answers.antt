@@ -1,7 +1,7 @@
 use Rattle.std.proofs.Common.{◌∙◌, ◌+◌, ◌^◌, ap, sym, subst, arith}
 use Rattle.std.specs.Prelude.{slice_index_or}
 use Rattle.noc_rows.specs.Rows.{verdicts_at}
-use Rattle.noc_rows.specs.Tallied.{AreBelow, no_counts, no_rows, with_verdicts}
+use Rattle.noc_rows.specs.Tallied.{CountsAreBelow, no_counts, no_rows, with_verdicts}
 use Rattle.noc_rows.specs.declared.sheet.Verdicts.{Verdicts}
 use Rattle.noc_rows.specs.declared.sheet.VerdictCounts.{VerdictCounts}
 use Rattle.noc_rows.proofs.TalliedLemmas.{below-more, below-next, counts-same, recent-next, recent-none}
@@ -33,7 +33,7 @@ loop-slot-preserved c =
           ∙ ap (λ (w : Verdicts). with_verdicts w channel c.loop-slot.counts) c.at.ensures
           ∙ ap (λ (x : VerdictCounts). with_verdicts (verdicts_at (slice_index_or recent slot no_rows) lane) channel x) c.loop-slot.invariant.counts
           ∙ recent-next recent slot lane channel _;
-      small = subst (AreBelow (2 ^ 33 + (slot + 1))) (sym c.with-counts.ensures)
+      small = subst (CountsAreBelow (2 ^ 33 + (slot + 1))) (sym c.with-counts.ensures)
           (below-more (2 ^ 33 + slot + 1) (2 ^ 33 + (slot + 1)) _ (omega arith) (below-next
           (2 ^ 33 + slot) c.at.result channel c.loop-slot.counts c.loop-slot.invariant.small));
     }
