@@ -20,7 +20,7 @@ use Rattle.noc_router.specs.Counts.{one_if}
 use Rattle.noc_router.specs.Members.{AreBelow}
 use Rattle.noc_router.specs.Sound.{is_owned_from, is_supplied}
 use Rattle.noc_router.specs.View.{Site, View, size_of, local_channel, view_buffer, view_input, view_output, view_after_takes, view_after_inject, view_after_inject_from}
-use Rattle.noc_rows.specs.Bits.{differ, lowest, negated}
+use Rattle.noc_rows.specs.Bits.{differ, lowest, negation}
 use Rattle.noc_rows.specs.Column.{Column, RouterMarks, IsColumn, IsTidy, ShowsHolder, ShowsInput, ShowsOutput, ShowsSending, ShowsWires}
 use Rattle.noc_rows.specs.FlitWords.{flit_word}
 use Rattle.noc_rows.specs.Injected.{HasInjected, injected_to, injection_from, injection_in}
@@ -368,7 +368,7 @@ module _ (relation : Routes) (count : ℕ) (c : Column) (m : RouterMarks) (v : V
     fits = or_fits (lane_filled (words_of count v.site.places) flits c) (lowest (lane_begins local n s.due c))
         (or_fits (any_from 0 c.len) (lane_landed (words_of count v.site.places) flits c) (any-fits c.len column.words.len)
         (or_fits flits (lane_injected (words_of count v.site.places) c) flits_fit (and_fits c.injecting (wrong_from 0 c.len (words_of count v.site.places)) column.words.injecting)))
-        (and_fits (lane_begins local n s.due c) (negated (lane_begins local n s.due c)) (begins_fits local n s.due c));
+        (and_fits (lane_begins local n s.due c) (negation (lane_begins local n s.due c)) (begins_fits local n s.due c));
     below = subst (λ (t : Site). AreBelow (size_of t) (bit_or (lane_filled (words_of count v.site.places) flits c) (lowest (lane_begins local n s.due c)))) (sym x_site) (λ k e. within k e (cases_lt k (size_of v.site)));
     each = subst (λ (t : Site). (i : ℕ) → i < size_of t → has_bit (bit_or (lane_filled (words_of count v.site.places) flits c) (lowest (lane_begins local n s.due c))) i ≡ not (is_empty (view_buffer x i))) (sym x_site) fills;
   }

@@ -8,7 +8,7 @@ use Rattle.std.proofs.lemmas.Nat.Bits.{bit_at-zero, bit_at_xor, bit_at_above, sa
 use Rattle.noc_packet.specs.Set.{has_bit, IsLeast}
 use Rattle.noc_packet.proofs.SetLemmas.{has_bit-one, has_bit-none, bit_at-true, bit_at-false, has_bit-above, has_bit-zero, both_members}
 use Rattle.noc_router.specs.Members.{AreBelow}
-use Rattle.noc_rows.specs.Bits.{differ, less, up_by, down_by, minus, negated, lowest, but_lowest}
+use Rattle.noc_rows.specs.Bits.{differ, less, up_by, down_by, minus, negation, lowest, but_lowest}
 
 pub xor_members : (a b k : ℕ) → has_bit (bit_xor a b) k ≡ differ (has_bit a k) (has_bit b k)
 xor_members a b k = at (has_bit a k) (has_bit b k) refl refl
@@ -171,7 +171,7 @@ lowest_members a t k fits least = at (cases_lt a 1)
         let z : a ≡ 0 = omega arith in
         absurd (false≢true (sym (ap (λ n. has_bit n t) z ∙ has_bit-zero t) ∙ least.0))
     at (inr some) =
-        let turned : negated a ≡ bit_not w32 (a - 1) = omega arith in
+        let turned : negation a ≡ bit_not w32 (a - 1) = omega arith in
         ap (λ n. has_bit (bit_and a n) k) turned ∙ less_members a (a - 1) k fits (omega arith)
         ∙ ap (λ b. has_bit a k && not b) (pred_members a t k least) ∙ both (has_bit a k) refl
 

@@ -15,7 +15,7 @@ use Rattle.noc_vc.specs.declared.output.OutputState.TheVariants.{Idle as Free, O
 use Rattle.noc_router.specs.Counts.{one_if}
 use Rattle.noc_router.specs.Verdict.{ArbiterStates}
 use Rattle.noc_router.specs.View.{Site, View, size_of, view_input, view_output}
-use Rattle.noc_rows.specs.Bits.{lowest, negated}
+use Rattle.noc_rows.specs.Bits.{lowest, negation}
 use Rattle.noc_rows.specs.Column.{Column, RouterMarks, AreWords, ShowsHolder, ShowsMarks, ShowsPhase, ShowsSending, ShowsTurns, sends_by}
 use Rattle.noc_rows.specs.Fields.{ShowsPointer}
 use Rattle.noc_rows.specs.Passes.{frozen_column, lane_home, lane_injected, lane_landed, with_first}
@@ -119,7 +119,7 @@ frozen-words count places credits up flits begins went left c words credits_fit 
 }
   where
     low_fits : lowest begins < 2 ^ 32
-    low_fits = and_fits begins (negated begins) begins_fit
+    low_fits = and_fits begins (negation begins) begins_fit
 
     home_fits : lane_home (words_of count places) credits c < 2 ^ 32
     home_fits = less_fits c.draining (wrong_from 0 (raised_by c.credit credits) (words_of count places)) words.draining

@@ -5,7 +5,7 @@ use Rattle.std.specs.Int.{trailing_zeros}
 use Rattle.std.proofs.lemmas.Bool.{cases_eq, eq-eqb, ne_eqb, eqb-true, false≢true, true≢false, and_parts}
 use Rattle.noc_packet.specs.Set.{has_bit}
 use Rattle.noc_packet.proofs.SetLemmas.{has_bit-zero, either_members, both_members}
-use Rattle.noc_rows.specs.Bits.{less, lowest, negated}
+use Rattle.noc_rows.specs.Bits.{less, lowest, negation}
 use Rattle.noc_rows.specs.Column.{Column, RouterMarks}
 use Rattle.noc_rows.specs.Grants.{Allocation, AreAsks, AreTallied, HasAllocated, HasBound, HasGranted, IsBound, KeepsInput, KeepsOutput, KeepsRest, winner}
 use Rattle.noc_rows.specs.Rows.{of_router, by_port}
@@ -20,7 +20,7 @@ pub first-among : (requests mask k : ℕ) → has_bit (first_bit requests mask) 
 first-among requests mask k e = among (in_turn-among (nat_eq (bit_and requests mask) 0) (low e))
   where
     low : has_bit (lowest (in_turn requests mask)) k ≡ true → has_bit (in_turn requests mask) k ≡ true
-    low h = (and_parts (has_bit (in_turn requests mask) k) (has_bit (negated (in_turn requests mask)) k) (sym (both_members (in_turn requests mask) (negated (in_turn requests mask)) k) ∙ h)).0
+    low h = (and_parts (has_bit (in_turn requests mask) k) (has_bit (negation (in_turn requests mask)) k) (sym (both_members (in_turn requests mask) (negation (in_turn requests mask)) k) ∙ h)).0
 
     in_turn-among : (b : Bool) → has_bit (if b then requests else bit_and requests mask) k ≡ true → (has_bit requests k ≡ true) ⊎ (has_bit (bit_and requests mask) k ≡ true)
     in_turn-among true h = inl h

@@ -8,7 +8,7 @@ use Rattle.noc_topo.proofs.WordLemmas.{get_or-tabulate}
 use Rattle.noc_packet.specs.Set.{has_bit}
 use Rattle.noc_packet.proofs.SetLemmas.{has_bit-zero}
 use Rattle.noc_model.specs.Network.{Setup}
-use Rattle.noc_rows.specs.Bits.{less, lowest, negated}
+use Rattle.noc_rows.specs.Bits.{less, lowest, negation}
 use Rattle.noc_rows.specs.Column.{Column, RouterMarks}
 use Rattle.noc_rows.specs.Cycle.{HasSwitched, chosen_by, single_in}
 use Rattle.noc_rows.specs.Moves.{dry_by, of_one, ports_of, rest_from, taken_in, to_port_in, turn_in, turned_by, union_from}
@@ -36,7 +36,7 @@ use Rattle.noc_rows.proofs.SwitchedLaws.{union-same}
 -- ---- the first of some requests is a channel of a router
 
 lowest-fits : (a : ℕ) → lowest a < 2 ^ 32
-lowest-fits a = let l = mod_below (2 ^ 32 - a) (2 ^ 32) (omega arith) in let u = and_le_r a (negated a) in omega (arith, l, u)
+lowest-fits a = let l = mod_below (2 ^ 32 - a) (2 ^ 32) (omega arith) in let u = and_le_r a (negation a) in omega (arith, l, u)
 
 -- of a set that fits a word
 one-same : (set : ℕ) (f g : ℕ → ℕ) → set < 2 ^ 32 → ((i : ℕ) → i < 32 → f i ≡ g i) → of_one set f ≡ of_one set g

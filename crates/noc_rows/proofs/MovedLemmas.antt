@@ -5,7 +5,7 @@ use Rattle.std.specs.Int.{trailing_zeros}
 use Rattle.std.proofs.lemmas.Bool.{cases_eq, cases_lt, cases_Bool, eq-eqb, ne_eqb, eqb-true, true≢false, false≢true, and_parts, or_cases, false_from_ne_true}
 use Rattle.noc_packet.specs.Set.{has_bit, IsLeast}
 use Rattle.noc_packet.proofs.SetLemmas.{has_bit-zero, both_members, either_members}
-use Rattle.noc_rows.specs.Bits.{lowest, negated}
+use Rattle.noc_rows.specs.Bits.{lowest, negation}
 use Rattle.noc_rows.specs.Carried.{HaveMoved, WireWords, wire_words}
 use Rattle.noc_rows.specs.Moves.{some_below, union_from}
 use Rattle.noc_rows.specs.Switched.{AreSelectedOnce, AreNext, HasTails, HaveFirsts, IsOne, MovesFlits, NotesTails, firsts_with, gone_with, in_words, selected_by_ports, one_has, some_moved, some_tail, words_with}
@@ -56,8 +56,8 @@ first-alone requests mask = any (in_turn requests mask)
         at : (a < 2 ^ 32) ⊎ (2 ^ 32 ≤ a) → IsOne (lowest a)
         at (inl small) = alone a small
         at (inr past) = λ i e.
-            let z : negated a ≡ 0 = omega (arith, past) in
-            absurd (false≢true (sym (both_members a (negated a) i ∙ ap (λ b. has_bit a i && b) (ap (λ n. has_bit n i) z ∙ has_bit-zero i) ∙ and-none (has_bit a i)) ∙ e))
+            let z : negation a ≡ 0 = omega (arith, past) in
+            absurd (false≢true (sym (both_members a (negation a) i ∙ ap (λ b. has_bit a i && b) (ap (λ n. has_bit n i) z ∙ has_bit-zero i) ∙ and-none (has_bit a i)) ∙ e))
 
 -- ---- the same words, said in another way
 next-as : (number : ℕ) (f g : ℕ → ℕ) (m n : Marks) (w : Wires) → ((k : ℕ) → k < 32 → f k ≡ g k) → n.first ≡ m.first → n.target ≡ m.target → n.back ≡ m.back

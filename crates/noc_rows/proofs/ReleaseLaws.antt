@@ -5,7 +5,7 @@ use Rattle.std.specs.Int.{trailing_zeros}
 use Rattle.std.proofs.lemmas.Bool.{cases_eq, cases_lt, cases_Bool, eq-eqb, ne_eqb, eqb-true, false≢true, and_right}
 use Rattle.noc_packet.specs.Set.{has_bit, IsLeast}
 use Rattle.noc_packet.proofs.SetLemmas.{has_bit-zero, both_members, zero_from_none}
-use Rattle.noc_rows.specs.Bits.{lowest, negated}
+use Rattle.noc_rows.specs.Bits.{lowest, negation}
 use Rattle.noc_rows.specs.Moves.{channel_word, has_freed, has_gone, has_left, of_one, some_below, union_from}
 use Rattle.noc_rows.specs.Rows.{word}
 use Rattle.noc_rows.specs.Switched.{selected_by_ports, one_has, some_moved, some_tail}
@@ -41,7 +41,7 @@ first-lone requests mask = of (in_turn requests mask)
         let members : (k : ℕ) → has_bit (lowest a) k ≡ nat_eq k (trailing_zeros w32 a) = λ k. lowest_members a (trailing_zeros w32 a) k small (least_is a some small) in
         let there : has_bit (lowest a) (trailing_zeros w32 a) ≡ true = members (trailing_zeros w32 a) ∙ eq-eqb (trailing_zeros w32 a) (trailing_zeros w32 a) refl in
         let other : lowest a ≢ 0 = positive (lowest a) (trailing_zeros w32 a) there in
-        let same : trailing_zeros w32 a ≡ trailing_zeros w32 (lowest a) = least-zeros (lowest a) (trailing_zeros w32 a) (omega (arith, other)) (and_fits a (negated a) small)
+        let same : trailing_zeros w32 a ≡ trailing_zeros w32 (lowest a) = least-zeros (lowest a) (trailing_zeros w32 a) (omega (arith, other)) (and_fits a (negation a) small)
         (there, λ k l. members k ∙ ne_eqb k (trailing_zeros w32 a) (λ s. absurd (omega (arith, l, s)))) in
         record {
           some = ne_eqb (lowest a) 0 other;
@@ -56,10 +56,10 @@ first-lone requests mask = of (in_turn requests mask)
         at (inl some) (inl small) = inr (single a some small)
         at (inr none) _ =
             let z : a ≡ 0 = omega arith in
-            inl (zero_from_none (lowest a) (λ i. both_members a (negated a) i ∙ ap (λ b. b && has_bit (negated a) i) (ap (λ n. has_bit n i) z ∙ has_bit-zero i)))
+            inl (zero_from_none (lowest a) (λ i. both_members a (negation a) i ∙ ap (λ b. b && has_bit (negation a) i) (ap (λ n. has_bit n i) z ∙ has_bit-zero i)))
         at (inl some) (inr past) =
-            let z : negated a ≡ 0 = omega (arith, past) in
-            inl (zero_from_none (lowest a) (λ i. both_members a (negated a) i ∙ ap (λ b. has_bit a i && b) (ap (λ n. has_bit n i) z ∙ has_bit-zero i) ∙ and-none (has_bit a i)))
+            let z : negation a ≡ 0 = omega (arith, past) in
+            inl (zero_from_none (lowest a) (λ i. both_members a (negation a) i ∙ ap (λ b. has_bit a i && b) (ap (λ n. has_bit n i) z ∙ has_bit-zero i) ∙ and-none (has_bit a i)))
 
 -- ---- the one member of a set
 one-same : (w : ℕ) (f g : ℕ → Bool) → IsLone w → ((i : ℕ) → i < 32 → f i ≡ g i) → one_has w f ≡ one_has w g
