@@ -5,7 +5,7 @@ ghost use Rattle.noc_model.specs.declared.limits.TheConstants.{CYCLE_LIMIT as cy
 ghost use Rattle.noc_topo.specs.Shape.{nodes as nodes_of, ports as ports_of};
 
 use crate::chance::Chance;
-use crate::networks::{Pair, pair_of, stuck_ring};
+use crate::networks::{Pair, pair_of, stuck_ring, stuck_ring_beside_another};
 use noc_net::Network;
 use noc_route::{Relation, Rule};
 use noc_rows::Rows;
@@ -156,6 +156,20 @@ fn a_stuck_ring_runs_in_rows_as_in_routers(rt: HostRuntime) -> Result<(), Fail> 
         panic!(rt; "no rows")
     };
     assert!(rt; same_run(&mut pair));
+    assert!(rt; pair.network.stuck());
+    Ok(())
+}
+
+#[test]
+fn a_network_that_is_partly_stuck_runs_in_rows_as_in_routers(rt: HostRuntime) -> Result<(), Fail> {
+    let Some(mut pair) = stuck_ring_beside_another(rt.alloc())? else {
+        panic!(rt; "no rows")
+    };
+    assert!(rt; same_run(&mut pair));
+    assert!(rt; pair.network.arrival(6).is_some());
+    assert!(rt; same_after(&mut pair.rows, &mut pair.network, 30_000));
+    assert!(rt; pair.network.arrival(7).is_some());
+    assert!(rt; same_after(&mut pair.rows, &mut pair.network, 2_000_000));
     assert!(rt; pair.network.stuck());
     Ok(())
 }

@@ -78,14 +78,46 @@ pub fn stuck_ring(alloc: Global) -> Result<Option<Pair>, Fail>
     Ok(Some(Pair { rows, network }))
 }
 
+/// Two such rings side by side. In the second one packet after the other has the way to itself, with long times between
+/// them in which nothing happens although the first ring holds flits.
+pub fn stuck_ring_beside_another(alloc: Global) -> Result<Option<Pair>, Fail>
+    ensures { IfOk result (λ made. IfSome made (λ pair. pair.network.count ≡ 0)) }
+{
+    let shape = Shape::new(Kind::Torus, &[4, 3])?;
+    let relation = Relation::build(alloc, &shape, 1, 1, Rule::Dor)?;
+    let packets = Vec::from_array(
+        alloc,
+        [
+            two_hops(0, 2),
+            two_hops(1, 3),
+            two_hops(2, 0),
+            two_hops(3, 1),
+            later(4, 6, 90),
+            later(5, 7, 91),
+            later(6, 8, 300),
+            later(4, 11, 30_000),
+        ],
+    )?;
+    let Some(rows) = Rows::new(alloc, &relation, 1, &packets)? else {
+        return Ok(None);
+    };
+    let network = Network::new(alloc, relation, 1, packets)?;
+    Ok(Some(Pair { rows, network }))
+}
+
 /// A packet of four flits.
 fn two_hops(source: u32, destination: u32) -> Packet {
+    later(source, destination, 0)
+}
+
+/// One that is due in a cycle.
+fn later(source: u32, destination: u32, due: u32) -> Packet {
     Packet {
         source,
         destination,
         class: 0,
         length: 4,
-        due: 0,
+        due,
     }
 }
 

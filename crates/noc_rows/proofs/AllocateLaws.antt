@@ -1,6 +1,6 @@
 -- What allocation decides of a router is what the round of its frozen view has.
-use Rattle.std.proofs.Common.{◌≡◌, ◌≢◌, ℕ, ◌+◌, ◌*◌, ◌/◌, ◌%◌, ◌^◌, ◌<◌, ◌≤◌, Bool, true, false, List, length, get_or, Option, Some, None, refl, ap, ap₂, sym, ◌∙◌, subst, arith, inl, inr, w32, bit_and, bit_or}
-use Rattle.std.specs.Prelude.{◌⊎◌, ◌&&◌, ◌||◌, not, is_some, nat_eq, slice_index, slice_index_or, if◌then◌else◌}
+use Rattle.std.proofs.Common.{◌≡◌, ◌≢◌, ℕ, ◌+◌, ◌/◌, ◌%◌, ◌^◌, ◌<◌, ◌≤◌, Bool, true, false, length, get_or, Option, Some, None, refl, ap, ap₂, sym, ◌∙◌, subst, arith, inl, inr, w32, bit_and, bit_or}
+use Rattle.std.specs.Prelude.{◌⊎◌, ◌&&◌, ◌||◌, not, is_some, nat_eq, slice_index_or, if◌then◌else◌}
 use Rattle.std.specs.Int.{trailing_zeros}
 use Rattle.std.proofs.lemmas.Bool.{cases_eq, cases_lt, eq-eqb, ne_eqb, eqb-true, false≢true, true≢false, and_parts}
 use Rattle.std.proofs.lemmas.Nat.{pow_below}
@@ -12,23 +12,23 @@ use Rattle.noc_packet.specs.Set.{has_bit}
 use Rattle.noc_packet.proofs.SetLemmas.{has_bit-zero, both_members}
 use Rattle.noc_alloc.specs.Arbiter.{RoundRobin, first_in_turn, arbiter_at, arbiter_after, pointer_after, pointers_of}
 use Rattle.noc_alloc.specs.Allocation.{grant_of}
-use Rattle.noc_alloc.proofs.ArbiterLemmas.{first_in_turn-same, first_in_turn-none, first_in_turn-picks}
+use Rattle.noc_alloc.proofs.ArbiterLemmas.{first_in_turn-same, first_in_turn-none}
 use Rattle.noc_vc.specs.Input.{is_waiting}
 use Rattle.noc_vc.specs.Output.{is_free}
 use Rattle.noc_vc.specs.declared.input.InputState.{InputState}
 use Rattle.noc_vc.specs.declared.input.InputState.TheVariants.{Idle, Waiting, Active}
 use Rattle.noc_router.specs.Members.{AreBelow}
 use Rattle.noc_router.specs.Requests.{is_given}
-use Rattle.noc_router.specs.Verdict.{Claim, ask_of, asks_of, arbiters_after}
-use Rattle.noc_router.specs.View.{View, size_of, asked_for, claim_in, view_claim, view_input, view_output, view_round, view_stands}
+use Rattle.noc_router.specs.Verdict.{ask_of, asks_of, arbiters_after}
+use Rattle.noc_router.specs.View.{View, size_of, claim_in, view_claim, view_input, view_output, view_round, view_stands}
 use Rattle.noc_router.proofs.FindLemmas.{find-some}
 use Rattle.noc_router.proofs.StandLemmas.{asks_of-stands}
 use Rattle.noc_rows.specs.Bits.{less}
 use Rattle.noc_rows.specs.Column.{Column, RouterMarks, IsColumn, Leads, ShowsPhase, sends_by}
 use Rattle.noc_rows.specs.Fields.{ShowsPointer}
-use Rattle.noc_rows.specs.Grants.{Allocation, AreAsks, HasAllocated, HasGranted, IsBound, KeepsInput, ShowsGrants, asked_of, phase_granted, winner, with_grant}
+use Rattle.noc_rows.specs.Grants.{Allocation, HasAllocated, KeepsInput, ShowsGrants, asked_of, phase_granted, winner, with_grant}
 use Rattle.noc_rows.specs.Passes.{lane_asks}
-use Rattle.noc_rows.specs.Turns.{first_bit, in_turn, mask_past}
+use Rattle.noc_rows.specs.Turns.{in_turn, mask_past}
 use Rattle.noc_rows.proofs.AskLemmas.{asked-is}
 use Rattle.noc_rows.proofs.AskedLemmas.{eq-turned, or-false, or-zero, same-word}
 use Rattle.noc_rows.proofs.BitLemmas.{above_32, below_fits, least_is, less_members}
@@ -285,6 +285,7 @@ module _ (v : View) (a b : Allocation) (port place : ℕ → ℕ) (shows : IsCol
     others = λ o lo is. (has.marks.outputs o (not-out o lo is)).owner;
     to_port = ports-show;
     port_turn = has.marks.rest.port_turn;
+    packet = has.marks.rest.packet;
   }
 
 -- ---- in a router in which no idle channel is wanted
@@ -327,6 +328,7 @@ module _ (v : View) (a : Allocation) (shows : IsColumn 5 a.column a.marks v) (fe
     others = λ o lo is. refl;
     to_port = λ q k lq lk. shows.marks.to_port q k lq lk ∙ ap (sends_by v.site.vcs q) (sym (same k lk));
     port_turn = refl;
+    packet = refl;
   }
     where
       none : (x : Bool) → (x && false) ≡ false

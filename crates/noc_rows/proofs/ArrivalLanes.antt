@@ -1,24 +1,21 @@
 -- The tails that go out of a block in a cycle arrive: of a block that is awake, and of one that is asleep.
-use Rattle.std.proofs.Common.{◌≡◌, ◌≢◌, ℕ, zero, suc, ◌+◌, ◌*◌, ◌/◌, ◌%◌, ◌<◌, ◌≤◌, Bool, true, false, List, length, refl, ap, ap₂, sym, ◌∙◌, subst, arith, inl, inr}
+use Rattle.std.proofs.Common.{◌≡◌, ℕ, zero, suc, ◌+◌, ◌*◌, ◌/◌, ◌%◌, ◌<◌, ◌≤◌, Bool, true, false, List, length, refl, ap, ap₂, sym, ◌∙◌, subst, arith, inl, inr}
 use Rattle.std.specs.Prelude.{◌⊎◌, ◌&&◌, ◌||◌, min, nat_lt, nat_eq, slice_get, slice_index}
 use Rattle.std.proofs.lemmas.Bool.{and_parts, cases_lt, eq-eqb, eqb-true, false≢true, lt-ltb, ltb-true}
-use Rattle.noc_topo.specs.Shape.{local_port, nodes, ports}
+use Rattle.noc_topo.specs.Shape.{nodes, ports}
 use Rattle.noc_packet.specs.Set.{has_bit}
-use Rattle.noc_packet.proofs.SetLemmas.{has_bit-zero}
 use Rattle.noc_packet.specs.declared.packet.Flit.{Flit}
-use Rattle.noc_vc.specs.declared.input.InputState.{InputState}
-use Rattle.noc_router.specs.View.{Site, View, first_flit, is_tail, size_of, view_input}
+use Rattle.noc_router.specs.View.{Site, first_flit, is_tail, size_of, view_input}
 use Rattle.noc_model.specs.declared.limits.TheConstants.{CYCLE_LIMIT}
 use Rattle.noc_model.specs.Good.{IsGoodSetup}
 use Rattle.noc_model.specs.Lockstep.{site_at}
 use Rattle.noc_model.specs.Network.{Setup, size}
-use Rattle.noc_rows.specs.Column.{place_of, sends_by}
+use Rattle.noc_rows.specs.Column.{sends_by}
 use Rattle.noc_rows.specs.Frames.{IsFrameOf}
 use Rattle.noc_rows.specs.Moves.{ports_of, some_below}
-use Rattle.noc_rows.specs.Passes.{lane_picked}
-use Rattle.noc_rows.specs.Rows.{column_at, word}
+use Rattle.noc_rows.specs.Rows.{word}
 use Rattle.noc_rows.specs.Stages.{HasFrozen, selected_of}
-use Rattle.noc_rows.specs.Switched.{HaveReleased, in_words, selected_by_ports}
+use Rattle.noc_rows.specs.Switched.{HaveReleased, selected_by_ports}
 use Rattle.noc_rows.specs.Whole.{ShowsBlock}
 use Rattle.noc_rows.specs.declared.block.Block.{Block}
 use Rattle.noc_rows.specs.declared.cycle.DecidedRows.{DecidedRows}

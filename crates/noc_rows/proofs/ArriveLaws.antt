@@ -1,7 +1,7 @@
 -- From the words of a router before a cycle to those of its frozen state: beats are taken, and a flit is injected.
 use Rattle.std.proofs.Common.{◌≡◌, ℕ, zero, suc, ◌+◌, ◌/◌, ◌%◌, ◌^◌, ◌<◌, ◌≤◌, Bool, true, false, List, [], ◌∷◌, ◌++◌, length, map, Option, Some, None, IfSome, refl, ap, ap₂, sym, ◌∙◌, subst, arith, inl, inr, bit_or}
 use Rattle.std.specs.Prelude.{◌⊎◌, ◌&&◌, ◌||◌, not, is_some, nat_eq, nat_le, nat_lt, if◌then◌else◌, slice_index_or}
-use Rattle.std.proofs.lemmas.Bool.{cases_lt, eq-eqb, le-ltb, true≢false, false≢true, and_parts}
+use Rattle.std.proofs.lemmas.Bool.{cases_lt, eq-eqb, eqb-true, le-ltb, true≢false, false≢true, and_parts}
 use Rattle.std.proofs.lemmas.List.{length-map, map-append}
 use Rattle.std.proofs.Math.Nat.{le-div_iff_mul-le}
 use Rattle.noc_topo.specs.Shape.{local_port}
@@ -11,14 +11,15 @@ use Rattle.noc_packet.specs.declared.packet.Flit.{Flit}
 use Rattle.noc_packet.specs.declared.packet.Beat.{Beat}
 use Rattle.noc_packet.proofs.SetLemmas.{either_members}
 use Rattle.noc_route.specs.Routes.{Routes}
-use Rattle.noc_vc.specs.Input.{Input, is_active, is_empty, is_waiting}
+use Rattle.noc_vc.specs.Input.{Input, is_active, is_empty, is_idle_phase, is_waiting}
 use Rattle.noc_vc.specs.Output.{Output, ejection_output}
 use Rattle.noc_vc.specs.declared.input.InputState.{InputState}
 use Rattle.noc_vc.specs.declared.output.OutputState.{OutputState}
-use Rattle.noc_vc.specs.declared.output.OutputState.TheVariants.{Owned}
+use Rattle.noc_vc.specs.declared.input.InputState.TheVariants.{Idle, Waiting, Active}
+use Rattle.noc_vc.specs.declared.output.OutputState.TheVariants.{Idle as Free, Owned, Draining}
 use Rattle.noc_router.specs.Counts.{one_if}
 use Rattle.noc_router.specs.Members.{AreBelow}
-use Rattle.noc_router.specs.Sound.{is_owned_from, is_supplied}
+use Rattle.noc_router.specs.Sound.{is_owned_from, is_supplied, owns}
 use Rattle.noc_router.specs.View.{Site, View, size_of, local_channel, view_buffer, view_input, view_output, view_after_takes, view_after_inject, view_after_inject_from}
 use Rattle.noc_rows.specs.Bits.{differ, lowest, negation}
 use Rattle.noc_rows.specs.Column.{Column, RouterMarks, IsColumn, IsTidy, ShowsHolder, ShowsInput, ShowsOutput, ShowsSending, ShowsWires}
@@ -35,7 +36,7 @@ use Rattle.noc_rows.proofs.ArriveLemmas.{AreCredits, outputs-arrived, place-left
 use Rattle.noc_rows.proofs.BitLemmas.{and_fits, below_fits, less_members, or_fits, xor_members}
 use Rattle.noc_rows.proofs.CommittedLemmas.{size-taken}
 use Rattle.noc_rows.proofs.FlitLemmas.{empty-length, phase-kept, with-one-empty, with-one-length}
-use Rattle.noc_rows.proofs.FrozenLemmas.{first-number, flit_from-beyond, frozen-words, marks-kept, sending-kept, turns-kept}
+use Rattle.noc_rows.proofs.FrozenLemmas.{first-number, flit_from-beyond, frozen-words, marks-kept, owned-kept, sending-kept, turns-kept}
 use Rattle.noc_rows.proofs.InjectLemmas.{HasSent, sent-by}
 use Rattle.noc_rows.proofs.InjectedLemmas.{has-injected}
 use Rattle.noc_rows.proofs.PlaneLemmas.{any-fits, filled-members, raised-fits, raised-length, raised-number, wrong-fits}
@@ -323,9 +324,46 @@ module _ (relation : Routes) (count : ℕ) (c : Column) (m : RouterMarks) (v : V
   output-is : (o : ℕ) → o < size_of v.site → view_output x o ≡ credited_by (view_output v o) (credit_from v.site.vcs 0 beats o)
   output-is o l = ap (λ (os : List Output). slice_index_or os o ejection_output) injects.outputs ∙ taken.output o l
 
+  -- a channel that is not idle keeps its packet: a flit in it stays there, and so does the owner of its output channel
+  packet_x : IsTidy (view_after_inject n (view_after_takes relation beats v)) → (i : ℕ) → i < size_of v.site → is_idle_phase (view_input v i).phase ≡ false → (view_input x i).packet ≡ (view_input v i).packet
+  packet_x tidy_x i l busy = by (view_input v i).phase refl
+    where
+      inside : (k : ℕ) → k < size_of v.site → k < size_of x.site
+      inside k h = subst (λ (t : Site). k < size_of t) (sym x_site) h
+
+      more : (f : Flit) (rest : List Flit) (a b : Option Flit) → with_one (with_one (f ∷ rest) a) b ≡ f ∷ with_one (with_one rest a) b
+      more f rest None None = refl
+      more f rest None (Some h) = refl
+      more f rest (Some g) None = refl
+      more f rest (Some g) (Some h) = refl
+
+      holds : (flits : List Flit) → view_buffer v i ≡ flits → is_empty flits ≡ false → (view_input x i).packet ≡ (view_input v i).packet
+      holds [] e some = absurd (true≢false some)
+      holds (f ∷ rest) e some =
+          tidy_x.firsts i f (with_one (with_one rest (flit_from v.site.vcs 0 beats i)) (injected_to w (injection_in n w) i)) (inside i l)
+          (buffer_x i l
+          ∙ ap (λ xs. with_one (with_one xs (flit_from v.site.vcs 0 beats i)) (injected_to w (injection_in n w) i)) e
+          ∙ more f rest (flit_from v.site.vcs 0 beats i) (injected_to w (injection_in n w) i))
+          ∙ sym (tidy.firsts i f rest l e)
+
+      owns-one : (o : ℕ) → o < size_of v.site → (h : OutputState) → (view_output v o).holder ≡ h → is_owned_from h i ≡ true → (view_input x i).packet ≡ (view_input v i).packet
+      owns-one o lo Free e owned = absurd (false≢true owned)
+      owns-one o lo Draining e owned = absurd (false≢true owned)
+      owns-one o lo (Owned j p) e owned =
+          let is : (view_output v o).holder ≡ Owned i p = e ∙ ap (λ k. Owned k p) (eqb-true j i owned) in
+          tidy_x.named i o p (inside i l) (inside o lo) (ap (λ (y : Output). y.holder) (output-is o lo) ∙ owned-kept (view_output v o) (credit_from v.site.vcs 0 beats o) i p is)
+          ∙ sym (tidy.named i o p l lo is)
+
+      by : (p : InputState) → (view_input v i).phase ≡ p → (view_input x i).packet ≡ (view_input v i).packet
+      by Idle e = absurd (true≢false (ap is_idle_phase (sym e) ∙ busy))
+      by (Waiting set) e = holds (view_buffer v i) refl (tidy.waits i l (ap is_waiting e))
+      by (Active o) e =
+          let lo = tidy.owned_below i o l e in
+          owns-one o lo (view_output v o).holder refl (sym (tidy.owners i o l lo) ∙ ap (λ p. owns p o) e ∙ eq-eqb o o refl)
+
   -- the column shows the frozen state
-  pub column-frozen : IsColumn count frozen m x
-  column-frozen = record {
+  pub column-frozen : IsTidy (view_after_inject n (view_after_takes relation beats v)) → IsColumn count frozen m x
+  column-frozen tidy_x = record {
     words = frozen-words count v.site.places credits up flits (lane_begins local n s.due c) (bit_or (lane_injected (words_of count v.site.places) c) (lowest (lane_begins local n s.due c))) (begun_source starts (lane_begins local n s.due c) s).left c
         column.words credits_fit up_fits flits_fit (begins_fits local n s.due c);
     channels = record {
@@ -339,7 +377,7 @@ module _ (relation : Routes) (count : ℕ) (c : Column) (m : RouterMarks) (v : V
       len_below = subst (λ (t : Site). (i : ℕ) → size_of t ≤ i → plane_number frozen.len i ≡ 0) (sym x_site) len_below_x;
     };
     turns = turns-kept c frozen m v x refl x_site (injects.arbiters ∙ ap (λ (y : View). y.arbiters) taken.rest) column.turns;
-    marks = marks-kept c frozen m v x (credit_from v.site.vcs 0 beats) refl x_site phase_x output-is column.marks;
+    marks = marks-kept c frozen m v x (credit_from v.site.vcs 0 beats) refl x_site phase_x output-is (packet_x tidy_x) column.marks;
     sending = sending-kept (record c { injecting = frozen.injecting }) frozen x x.sending refl sent.injecting;
   }
 
@@ -427,10 +465,10 @@ module _ (relation : Routes) (count : ℕ) (c : Column) (m : RouterMarks) (v : V
               ∙ ap (λ k. map flit_word (with_one (view_buffer v i) (flit_from v.site.vcs 0 beats i)) ++ k ∷ []) (sym is)
           at false t = absurd (false≢true t)
 
-  pub shows-frozen : ShowsFrozen count frozen m x starts (sent_source starts went (begun_source starts begins s)) (bit_or (lane_filled (words_of count v.site.places) flits c) (lowest (lane_begins local n s.due c))) went
+  pub shows-frozen : IsTidy (view_after_inject n (view_after_takes relation beats v)) → ShowsFrozen count frozen m x starts (sent_source starts went (begun_source starts begins s)) (bit_or (lane_filled (words_of count v.site.places) flits c) (lowest (lane_begins local n s.due c))) went
       (begun_source starts begins s).word v.site.places ring
-  shows-frozen = record {
-    column = column-frozen;
+  shows-frozen tidy_x = record {
+    column = column-frozen tidy_x;
     source = source-frozen;
     fill = filled-frozen;
     few = subst (λ (t : Site). size_of t ≤ 31) (sym x_site) few;

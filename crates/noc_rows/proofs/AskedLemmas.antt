@@ -1,5 +1,5 @@
 -- Waiting channels ask one by one.
-use Rattle.std.proofs.Common.{◌≡◌, ◌≢◌, ℕ, ◌+◌, ◌-◌, ◌*◌, ◌%◌, ◌^◌, ◌<◌, ◌≤◌, Bool, true, false, List, length, get_or, replicate, set as write, get_or-set_other, get_or-set_same, Option, Some, None, refl, ap, ap₂, sym, ◌∙◌, subst, arith, inl, inr, w32, bit_and, bit_or}
+use Rattle.std.proofs.Common.{◌≡◌, ◌≢◌, ℕ, ◌-◌, ◌^◌, ◌<◌, ◌≤◌, Bool, true, false, List, length, get_or, replicate, set as write, get_or-set_other, get_or-set_same, Option, Some, None, refl, ap, ap₂, sym, ◌∙◌, subst, arith, inl, inr, w32, bit_and, bit_or}
 use Rattle.std.specs.Prelude.{◌⊎◌, ◌&&◌, ◌||◌, not, is_some, nat_eq, if◌then◌else◌}
 use Rattle.std.specs.Int.{bit_at, trailing_zeros}
 use lib.Count.{trailing_of_zero}
@@ -8,7 +8,7 @@ use Rattle.std.proofs.lemmas.List.{get_or-replicate, get_or_past, length-replica
 use Rattle.std.proofs.lemmas.Nat.Bits.{same_from_bits}
 use Rattle.noc_topo.specs.Words.{is_some_of}
 use Rattle.noc_packet.specs.Set.{has_bit, IsLeast}
-use Rattle.noc_packet.proofs.SetLemmas.{has_bit-zero, either_members, both_members, bit_at-true, bit_at-false}
+use Rattle.noc_packet.proofs.SetLemmas.{has_bit-zero, either_members, bit_at-true, bit_at-false}
 use Rattle.noc_rows.specs.Bits.{lowest}
 use Rattle.noc_rows.specs.Grants.{AreAsks, asked_of}
 use Rattle.noc_rows.proofs.BitLemmas.{above_32, least_below, least_is, lowest_members}

@@ -78,7 +78,8 @@ module _ (net : Setup) (setup : IsGoodSetup net) (n r : ℕ) (l : r < nodes net.
   unfolding view_at view_in
   no-event-yet = refl
 
-  all-quiet : w.had_event ≡ false → w ≡ view_at net n r
+  -- beats that are no event change nothing
+  pub all-quiet : w.had_event ≡ false → w ≡ view_at net n r
   unfolding view_after_takes
   all-quiet e = taken-quiet net.relation 0 (beats net setup n r l) (view_at net n r) e (taken-seen net setup n r l).seen.misfits
 
@@ -89,7 +90,7 @@ module _ (net : Setup) (setup : IsGoodSetup net) (n r : ℕ) (l : r < nodes net.
       ∙ length-tabulate (local_port net.relation.grid) _
 
   module _ (flits credits : ℕ) (ring : ℕ → List ℕ) (wires : ShowsWires (view_at net n r) flits credits ring (beats net setup n r l)) where
-    nothing-comes : w ≡ view_at net n r → flits ≡ 0
+    pub nothing-comes : w ≡ view_at net n r → flits ≡ 0
     nothing-comes same = zero_from_none flits (λ i. at i (has_bit flits i) refl)
       where
         at : (i : ℕ) (b : Bool) → has_bit flits i ≡ b → has_bit flits i ≡ false
@@ -105,7 +106,7 @@ module _ (net : Setup) (setup : IsGoodSetup net) (n r : ℕ) (l : r < nodes net.
                 (sym (ap (λ (y : View). view_buffer y i) same) ∙ (beats-taken net setup n r l few).buffer i within ∙ ap (with_one (view_buffer v i)) q)
         at i false e = e
 
-    nothing-returns : w ≡ view_at net n r → credits ≡ 0
+    pub nothing-returns : w ≡ view_at net n r → credits ≡ 0
     nothing-returns same = zero_from_none credits (λ o. at o (has_bit credits o) refl)
       where
         at : (o : ℕ) (b : Bool) → has_bit credits o ≡ b → has_bit credits o ≡ false

@@ -2,20 +2,18 @@
 use Rattle.std.proofs.Common.{◌≡◌, ◌≢◌, ℕ, ◌+◌, ◌-◌, ◌*◌, ◌/◌, ◌%◌, ◌^◌, ◌<◌, ◌≤◌, Bool, true, false, List, [], ◌∷◌, ◌++◌, length, Some, get_or, set, refl, ap, ap₂, sym, ◌∙◌, subst, arith, inl, inr, bit_and, w32}
 use Rattle.std.specs.Prelude.{◌⊎◌, ◌&&◌, ◌||◌, not, nat_eq, slice_index, if◌then◌else◌}
 use Rattle.std.specs.Int.{trailing_zeros}
-use Rattle.std.proofs.lemmas.Bool.{cases_eq, cases_lt, cases_Bool, eq-eqb, ne_eqb, eqb-true, true≢false, false≢true, and_parts, or_cases, false_from_ne_true}
+use Rattle.std.proofs.lemmas.Bool.{cases_eq, cases_lt, eq-eqb, ne_eqb, eqb-true, true≢false, false≢true, and_parts, or_cases, false_from_ne_true}
 use Rattle.std.proofs.lemmas.List.{get_or-set_same, get_or-set_other}
 use Rattle.noc_packet.specs.Set.{has_bit, IsLeast}
 use Rattle.noc_packet.specs.declared.packet.Flit.{Flit}
 use Rattle.noc_packet.proofs.SetLemmas.{has_bit-zero}
 use Rattle.noc_rows.specs.Carried.{HaveMoved, WireWords, first_of, wire_words}
 use Rattle.noc_rows.specs.FlitWords.{FitsWord, flit_word, is_room}
-use Rattle.noc_rows.specs.Moves.{some_below}
 use Rattle.noc_rows.specs.Switched.{AreNext, HasFirst, HaveFirsts, IsOne, MovesFlits, NotesTails, firsts_with, gone_with, in_words, one_has, some_moved, some_tail, words_with}
 use Rattle.noc_rows.specs.Wires.{inbox_at, ring_in, room_of, tails_of}
 use Rattle.noc_rows.specs.declared.marks.Marks.{Marks}
 use Rattle.noc_rows.specs.declared.room.Room.{Room}
 use Rattle.noc_rows.specs.declared.wires.Inbox.{Inbox}
-use Rattle.noc_rows.specs.declared.wires.Tails.{Tails}
 use Rattle.noc_rows.specs.declared.wires.Wires.{Wires}
 use Rattle.noc_rows.proofs.EachLemmas.{left-members}
 use Rattle.noc_rows.proofs.NotedLemmas.{noted-some, some-added}

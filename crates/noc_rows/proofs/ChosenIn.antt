@@ -1,11 +1,10 @@
 -- What grants and routes make of a block, by what each of the two makes of its rows.
-use Rattle.std.proofs.Common.{◌≡◌, ◌≢◌, ℕ, ◌+◌, ◌*◌, ◌^◌, ◌<◌, ◌≤◌, Bool, true, false, List, refl, ap, sym, ◌∙◌, subst}
-use Rattle.std.specs.Prelude.{nat_eq, not, slice_index}
+use Rattle.std.proofs.Common.{◌≡◌, ℕ, ◌+◌, ◌*◌, ◌^◌, ◌<◌, ◌≤◌, true, false, List, refl, ap, ◌∙◌, subst}
+use Rattle.std.specs.Prelude.{not, slice_index}
 use Rattle.std.proofs.lemmas.Bool.{eq-eqb, ne_eqb}
 use Rattle.noc_packet.specs.Set.{has_bit}
 use Rattle.noc_route.specs.Routes.{Routes, width}
 use Rattle.noc_rows.specs.Column.{place_of}
-use Rattle.noc_rows.specs.Cycle.{HasChosen}
 use Rattle.noc_rows.specs.Decided.{HasChosenAt, HasChosenIn, IsNoted}
 use Rattle.noc_rows.specs.Grants.{HasAllocated, KeepsMoves, KeepsPlaces, leads_by, leads_to}
 use Rattle.noc_rows.specs.Passes.{lane_asks}

@@ -1,5 +1,5 @@
 -- What grants and routes leave in the words of a router.
-use Rattle.std.proofs.Common.{◌≡◌, ◌≢◌, ℕ, ◌*◌, ◌/◌, ◌%◌, ◌^◌, ◌<◌, ◌≤◌, Bool, true, false, List, ◌∷◌, map, Option, Some, None, IfSome, refl, ap, sym, ◌∙◌, subst, arith, inl, inr, bit_or, mod-eq_of_lt}
+use Rattle.std.proofs.Common.{◌≡◌, ◌≢◌, ℕ, ◌/◌, ◌%◌, ◌^◌, ◌<◌, ◌≤◌, Bool, true, false, List, ◌∷◌, map, Some, None, IfSome, refl, ap, sym, ◌∙◌, subst, arith, inl, inr, bit_or, mod-eq_of_lt}
 use Rattle.std.specs.Prelude.{◌⊎◌, ◌&&◌, not, is_some, slice_index_or}
 use Rattle.std.proofs.lemmas.Bool.{cases_eq, cases_lt, true≢false, false≢true, and_parts}
 use Rattle.std.proofs.lemmas.Nat.{div_below, pow_below}
@@ -34,7 +34,7 @@ use Rattle.noc_rows.proofs.AllocateLaws.{allocated, not-allocated}
 use Rattle.noc_rows.proofs.BitLemmas.{above_32, below_fits, less_fits}
 use Rattle.noc_rows.proofs.GrantLemmas.{first-among}
 use Rattle.noc_rows.proofs.PointerLemmas.{AreArbiters}
-use Rattle.noc_rows.proofs.RouteLaws.{phase-shows}
+use Rattle.noc_rows.proofs.RouteLaws.{number-is, phase-shows}
 use Rattle.noc_rows.proofs.StandLemmas.{AreFilled, standing}
 
 -- a frozen view of a router of a frame, with its surroundings
@@ -83,13 +83,14 @@ pub record HasGrants (a b : Allocation) (v : View) : Type 0 where
   pub lost_fit : b.lost < 2 ^ 32
   pub shows : ShowsGrants a b outs v
 
--- only the sets of these heads have changed, and more may be wanted
+-- only the sets and the packets of these heads have changed, and more may be wanted
 pub record KeepsMarks (heads : ℕ) (m w : RouterMarks) (wanted all : ℕ) : Type 0 where
-  pub rest : w ≡ record m { set = w.set }
-  pub sets : (k : ℕ) → has_bit heads k ≡ false → w.set k ≡ m.set k
+  pub rest : w ≡ record m { set = w.set; packet = w.packet }
+  pub others : (k : ℕ) → has_bit heads k ≡ false → (w.set k ≡ m.set k) × (w.packet k ≡ m.packet k)
   pub wants : (o : ℕ) → has_bit wanted o ≡ true → has_bit all o ≡ true
 
--- from a to b: the grants are those of the round, and the marks show the phases after grants and routes; `outs` are those granted
+-- from a to b: the grants are those of the round, and the marks show the phases after grants and routes, and the packets of the heads; `outs` are
+-- those granted
 pub record ShowsChosen (relation : Routes) (filled : ℕ) (a b : Allocation) (outs : ℕ) (v : View) : Type 0 where
   pub outs_fit : outs < 2 ^ 32
   pub granted_fit : b.granted < 2 ^ 32
@@ -107,6 +108,8 @@ pub record ShowsChosen (relation : Routes) (filled : ℕ) (a b : Allocation) (ou
   pub others : (o : ℕ) → o < size_of v.site → slice_index_or (view_round v).grants o None ≡ None → b.marks.owner o ≡ a.marks.owner o
   pub to_port : (q k : ℕ) → q < ports v.site.grid → k < size_of v.site → has_bit (b.marks.to_port q) k ≡ sends_by v.site.vcs q (phase_granted v k)
   pub port_turn : b.marks.port_turn ≡ a.marks.port_turn
+  pub numbers : (k : ℕ) → k < size_of v.site → has_bit (lane_heads filled a.column) k ≡ true → (view_input v k).packet ≡ Some (b.marks.packet k)
+  pub packets : (k : ℕ) → has_bit (lane_heads filled a.column) k ≡ false → b.marks.packet k ≡ a.marks.packet k
 
 module _ (relation : Routes) (frame : Frame) (x : Surroundings) (v : View) (still : IsStill relation frame x v) (a b : Allocation) (routes routes_after : List ℕ)
     (shows : IsColumn 5 a.column a.marks v) (no_grant : a.granted ≡ 0) (no_loss : a.lost ≡ 0)
@@ -172,11 +175,17 @@ module _ (relation : Routes) (frame : Frame) (x : Surroundings) (v : View) (stil
       at (inl none) =
           let same : b.marks ≡ chosen.granted.marks = ap (λ (z : Routing). z.marks) (chosen.headless none) in
           record {
-            rest = subst (λ (w : RouterMarks). w ≡ record chosen.granted.marks { set = w.set }) (sym same) refl;
-            sets = λ k h. ap (λ (w : RouterMarks). w.set k) same;
+            rest = subst (λ (w : RouterMarks). w ≡ record chosen.granted.marks { set = w.set; packet = w.packet }) (sym same) refl;
+            others = λ k h. (ap (λ (w : RouterMarks). w.set k) same, ap (λ (w : RouterMarks). w.packet k) same);
             wants = λ o h. ap (λ (z : Routing). has_bit z.wanted o) (chosen.headless none) ∙ h;
           }
-      at (inr some) = let has = (chosen.headed some).routed in record { rest = has.rest; sets = has.kept; wants = has.still }
+      at (inr some) = let has = (chosen.headed some).routed in record { rest = has.rest; others = has.kept; wants = has.still }
+
+  heads-routed : lane_heads x.filled a.column ≢ 0
+      → HasRouted (lane_heads x.filled a.column) x.ring (sets_by relation frame v.site.node) chosen.granted.marks b.marks chosen.granted.column.wanted b.column.wanted
+  heads-routed some =
+      subst (λ node. HasRouted (lane_heads x.filled a.column) x.ring (sets_by relation frame node) chosen.granted.marks b.marks chosen.granted.column.wanted b.column.wanted) still.node
+      (chosen.headed some).routed
 
   head-waits : (k : ℕ) → k < size_of v.site → has_bit (lane_heads x.filled a.column) k ≡ true → ShowsPhase b.column b.marks v.site k (Waiting (route_of relation v k))
   head-waits k l e = at (cases_eq (lane_heads x.filled a.column) 0)
@@ -186,10 +195,19 @@ module _ (relation : Routes) (frame : Frame) (x : Surroundings) (v : View) (stil
       at (inr some) =
           phase-shows relation frame v (lane_heads x.filled a.column) chosen.granted.column.wanted b.column.wanted x.ring chosen.granted.marks b.marks
           still.rings still.fits (λ i li. (still.channels i li).port) (λ i li. (still.channels i li).vc)
-          (standing 5 a.column v x.filled shows.words shows.channels still.filled).heads
-          (subst (λ node. HasRouted (lane_heads x.filled a.column) x.ring (sets_by relation frame node) chosen.granted.marks b.marks chosen.granted.column.wanted b.column.wanted) still.node
-          (chosen.headed some).routed)
+          (standing 5 a.column v x.filled shows.words shows.channels still.filled).heads (heads-routed some)
           b.column refl still.is_relation still.narrow k l e
+
+  head-packet : (k : ℕ) → k < size_of v.site → has_bit (lane_heads x.filled a.column) k ≡ true → (view_input v k).packet ≡ Some (b.marks.packet k)
+  head-packet k l e = at (cases_eq (lane_heads x.filled a.column) 0)
+    where
+      at : (lane_heads x.filled a.column ≡ 0) ⊎ (lane_heads x.filled a.column ≢ 0) → (view_input v k).packet ≡ Some (b.marks.packet k)
+      at (inl none) = absurd (true≢false (sym e ∙ ap (λ n. has_bit n k) none ∙ has_bit-zero k))
+      at (inr some) =
+          number-is relation frame v (lane_heads x.filled a.column) chosen.granted.column.wanted b.column.wanted x.ring chosen.granted.marks b.marks
+          still.rings still.fits (λ i li. (still.channels i li).port) (λ i li. (still.channels i li).vc)
+          (standing 5 a.column v x.filled shows.words shows.channels still.filled).heads (heads-routed some)
+          still.tidy.firsts k l e
 
   same-granted : b.granted ≡ chosen.granted.granted
   same-granted = ap (λ (z : Allocation). z.granted) chosen.rest
@@ -213,10 +231,12 @@ module _ (relation : Routes) (frame : Frame) (x : Surroundings) (v : View) (stil
         ∙ ap (λ (g : ℕ). record a.column { wanted = b.column.wanted; idle = less a.column.idle given.outs; supplied = bit_or a.column.supplied g }) (sym same-granted);
     turns = λ o l. subst (λ (m : RouterMarks). ShowsPointer (size_of v.site) (m.turn o) 0 (arbiter_at (arbiters_after (view_round v) v.arbiters).channels o).pointer) (sym keeps.rest) (given.shows.turns o l);
     routed = head-waits;
-    phases = λ k l h. phase-as chosen.granted.column b.column chosen.granted.marks b.marks v.site k (phase_granted v k) (keeps.sets k h)
+    phases = λ k l h. phase-as chosen.granted.column b.column chosen.granted.marks b.marks v.site k (phase_granted v k) (keeps.others k h).0
         (ap (λ (m : RouterMarks). m.taken k) keeps.rest) (ap (λ (m : RouterMarks). m.target k) keeps.rest) keeps.wants (given.shows.phases k l);
     owners = λ o k l is. ap (λ (m : RouterMarks). m.owner o) keeps.rest ∙ given.shows.owners o k l is;
     others = λ o l is. ap (λ (m : RouterMarks). m.owner o) keeps.rest ∙ given.shows.others o l is;
     to_port = λ q k lq l. ap (λ (m : RouterMarks). has_bit (m.to_port q) k) keeps.rest ∙ given.shows.to_port q k lq l;
     port_turn = ap (λ (m : RouterMarks). m.port_turn) keeps.rest ∙ given.shows.port_turn;
+    numbers = head-packet;
+    packets = λ k h. (keeps.others k h).1 ∙ ap (λ (p : ℕ → ℕ). p k) given.shows.packet;
   }

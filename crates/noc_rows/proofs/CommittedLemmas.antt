@@ -1,6 +1,7 @@
 -- A router after its verdicts, channel by channel; and what the words of a lane then show.
 use Rattle.std.proofs.Common.{◌≡◌, ℕ, ◌+◌, ◌*◌, ◌<◌, ◌≤◌, Bool, true, false, List, [], ◌∷◌, length, Option, Some, None, refl, ap, sym, ◌∙◌, subst, arith, get_or}
 use Rattle.std.specs.Prelude.{◌&&◌, nat_lt, slice_set, if◌then◌else◌}
+use Rattle.std.proofs.lemmas.Bool.{true≢false}
 use Rattle.std.proofs.lemmas.List.{get_or-map, length-set}
 use Rattle.noc_topo.specs.Words.{tabulate}
 use Rattle.noc_topo.specs.Shape.{ports, local_port}
@@ -9,13 +10,14 @@ use Rattle.noc_packet.specs.Set.{has_bit}
 use Rattle.noc_packet.specs.declared.packet.Flit.{Flit}
 use Rattle.noc_packet.specs.declared.packet.Beat.{Beat}
 use Rattle.noc_route.specs.Routes.{Routes}
-use Rattle.noc_vc.specs.Input.{Input, idle_input, fits}
+use Rattle.noc_vc.specs.Input.{Input, idle_input, is_idle_phase, fits}
 use Rattle.noc_vc.specs.Output.{Output, ejection_output, credit_fits, output_after_credit}
 use Rattle.noc_router.specs.Arrivals.{is_expected_in, arrivals_after}
-use Rattle.noc_router.specs.Verdict.{arbiters_after}
-use Rattle.noc_router.specs.declared.verdict.Verdict.TheVariants.{Empty}
+use Rattle.noc_router.specs.Verdict.{arbiters_after, ask_of}
+use Rattle.noc_router.specs.declared.verdict.Verdict.{Verdict}
+use Rattle.noc_router.specs.declared.verdict.Verdict.TheVariants.{Empty, Routed, Granted, Moved, NoFlit, NoIdleChannel, LostChannel, NoCredit, LostInput, LostSwitch}
 use Rattle.noc_router.specs.declared.verdict.Finding.{Finding}
-use Rattle.noc_router.specs.View.{View, Decisions, size_of, has_link, view_buffer, view_input, view_output, view_round, finding_of, decisions_of, view_after_commit, decided_verdict, buffer_after, input_after, output_after, with_arrival, with_misfit, with_landed, with_flit, with_credit, view_after_take, view_after_takes_from, view_after_takes, tail_packet, flit_out, local_step}
+use Rattle.noc_router.specs.View.{View, Decisions, size_of, has_link, view_buffer, view_input, view_output, view_round, finding_of, decisions_of, view_after_commit, decided_verdict, view_claim, first_flit, granted_to, sent_from, buffer_after, input_after, output_after, with_arrival, with_misfit, with_landed, with_flit, with_credit, view_after_take, view_after_takes_from, view_after_takes, tail_packet, flit_out, local_step}
 use Rattle.noc_rows.specs.Taken.{HasTaken, HasSize, flit_from, credit_from}
 use Rattle.noc_rows.specs.Column.{Column, AreWords, ShowsInput}
 use Rattle.noc_rows.specs.Fields.{Fields}
@@ -55,6 +57,37 @@ module _ (d : Decisions) (v : View) (size : HasSize v) where
   pub arbiters-committed : (view_after_commit d v).arbiters ≡ arbiters_after d.round v.arbiters
   unfolding view_after_commit
   arbiters-committed = (arrival-keeps (tail_packet (flit_out v d.round (local_port v.site.grid))) _).3
+
+-- an input channel that is not idle after the verdicts has the packet that it had
+pub packet-committed : (d : Decisions) (v : View) → HasSize v → (i : ℕ) → i < size_of v.site → is_idle_phase (view_input (view_after_commit d v) i).phase ≡ false
+    → (view_input (view_after_commit d v) i).packet ≡ (view_input v i).packet
+packet-committed d v size i l busy =
+    ap (λ (input : Input). input.packet) (input-committed d v size i l)
+    ∙ at (decided_verdict d i) (ap (λ (input : Input). is_idle_phase input.phase) (sym (input-committed d v size i l)) ∙ busy)
+  where
+    granted : (ask : Option ℕ) → (granted_to (view_input v i) ask).packet ≡ (view_input v i).packet
+    granted None = refl
+    granted (Some o) = refl
+
+    sent : (first : Option Flit) → is_idle_phase (sent_from (view_input v i) first).phase ≡ false → (sent_from (view_input v i) first).packet ≡ (view_input v i).packet
+    sent None e = refl
+    sent (Some f) e = last f.last e
+      where
+        last : (t : Bool) → is_idle_phase (if t then idle_input else view_input v i).phase ≡ false → (if t then idle_input else view_input v i).packet ≡ (view_input v i).packet
+        last true h = absurd (true≢false h)
+        last false h = refl
+
+    at : (verdict : Verdict) → is_idle_phase (input_after d v i (view_input v i) verdict).phase ≡ false → (input_after d v i (view_input v i) verdict).packet ≡ (view_input v i).packet
+    at Routed e = refl
+    at Granted e = granted (ask_of (view_claim v i))
+    at Moved e = sent (first_flit v i) e
+    at Empty e = refl
+    at NoFlit e = refl
+    at NoIdleChannel e = refl
+    at LostChannel e = refl
+    at NoCredit e = refl
+    at LostInput e = refl
+    at LostSwitch e = refl
 
 -- what is decided of a channel
 pub verdict-planned : (relation : Routes) (v : View) (i : ℕ) → i < size_of v.site → decided_verdict (decisions_of relation v) i ≡ (finding_of (view_round v) v i).verdict

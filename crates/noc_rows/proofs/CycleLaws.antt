@@ -1,22 +1,21 @@
 -- A whole cycle of one router: the words that showed its frozen state show its view at the next count.
-use Rattle.std.proofs.Common.{◌≡◌, ℕ, suc, ◌+◌, ◌*◌, ◌%◌, ◌<◌, ◌≤◌, List, ◌∷◌, map, refl, ap, sym, ◌∙◌, subst, arith}
-use Rattle.std.specs.Prelude.{min}
-use Rattle.noc_topo.specs.Shape.{nodes, ports, local_port}
+use Rattle.std.proofs.Common.{◌≡◌, ℕ, suc, ◌<◌, ◌≤◌, List, ◌∷◌, map, ap, sym, ◌∙◌, subst, arith}
+use Rattle.noc_topo.specs.Shape.{nodes, ports}
 use Rattle.noc_model.specs.declared.limits.TheConstants.{CYCLE_LIMIT}
 use Rattle.noc_model.specs.Good.{IsGoodSetup}
 use Rattle.noc_model.specs.Lockstep.{view_at, site_at}
-use Rattle.noc_model.specs.Network.{Setup, frozen_at, size}
+use Rattle.noc_model.specs.Network.{Setup, frozen_at}
 use Rattle.noc_packet.specs.declared.packet.Flit.{Flit}
-use Rattle.noc_router.specs.View.{Site, View, size_of, view_buffer, decisions_of, view_after_commit, local_step}
+use Rattle.noc_router.specs.View.{Site, View, size_of, view_buffer, decisions_of, view_after_commit}
 use Rattle.noc_rows.specs.Column.{Column, RouterMarks, IsColumn, Leads}
-use Rattle.noc_rows.specs.Cycle.{AreTails, HasCycled, HasSwitched, Surroundings}
+use Rattle.noc_rows.specs.Cycle.{AreTails, HasCycled, Surroundings}
 use Rattle.noc_rows.specs.FlitWords.{FitsWord, flit_word}
 use Rattle.noc_rows.specs.Fields.{IsFields}
 use Rattle.noc_rows.specs.Frames.{IsFrameOf, IsPlaced}
 use Rattle.noc_rows.specs.Grants.{Allocation}
 use Rattle.noc_rows.specs.Moves.{ports_of}
 use Rattle.noc_rows.specs.Opening.{AreSides}
-use Rattle.noc_rows.specs.Passes.{Effects, settled_lane}
+use Rattle.noc_rows.specs.Passes.{Effects}
 use Rattle.noc_rows.specs.Source.{ShowsSource}
 use Rattle.noc_rows.specs.declared.block.Source.{Source}
 use Rattle.noc_rows.specs.declared.frame.Frame.{Frame}

@@ -99,7 +99,7 @@ module _ (net : Setup) (setup : IsGoodSetup net) (n : ℕ) (few : n < CYCLE_LIMI
 
   -- ---- what its ports select
   module _ (chosen : Block) (keeps : KeepsFrozen frozen chosen) (has : (k : ℕ) → k < 32 → LaneChosen net frame room frozen chosen after (b * 32 + k) k) where
-    sends : (k : ℕ) → k < 32 → b * 32 + k < nodes net.relation.grid
+    pub sends : (k : ℕ) → k < 32 → b * 32 + k < nodes net.relation.grid
         → SendsBy net n (b * 32 + k) (ports_of frame) (selected_of chosen k) (λ i. ring_in room after (place_of k i) (slice_index frozen.marks.first (place_of k i)))
         (λ i. slice_index chosen.marks.target (place_of k i)) (λ i. slice_index chosen.marks.back (place_of k i))
     sends k low l =

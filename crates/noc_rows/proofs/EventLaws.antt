@@ -1,5 +1,5 @@
 -- Whether something happened in a router in a cycle, by the words of its channels.
-use Rattle.std.proofs.Common.{◌≡◌, ℕ, suc, ◌<◌, ◌≤◌, Bool, true, false, List, [], ◌∷◌, length, get_or, refl, ap, ap₂, sym, ◌∙◌, subst, arith, inl, inr, bit_or}
+use Rattle.std.proofs.Common.{◌≡◌, ℕ, suc, ◌<◌, ◌≤◌, Bool, true, false, List, [], ◌∷◌, length, get_or, refl, ap, ap₂, sym, ◌∙◌, arith, inl, inr, bit_or}
 use Rattle.std.specs.Prelude.{◌⊎◌, ◌&&◌, ◌||◌, not, nat_eq}
 use Rattle.std.specs.List.{list_any}
 use Rattle.std.proofs.lemmas.Bool.{cases_eq, cases_lt, eq-eqb, ne_eqb, false≢true, true≢false}
@@ -14,7 +14,6 @@ use Rattle.noc_router.specs.Members.{AreBelow}
 use Rattle.noc_router.specs.Verdict.{is_event}
 use Rattle.noc_router.specs.View.{View, size_of, view_round, finding_of, decisions_of, has_event}
 use Rattle.noc_router.specs.declared.verdict.Finding.{Finding}
-use Rattle.noc_router.specs.declared.verdict.Verdict.{Verdict}
 use Rattle.noc_rows.specs.Bits.{less}
 use Rattle.noc_rows.specs.Column.{Column, AreWords, ShowsChannels}
 use Rattle.noc_rows.specs.Fields.{Fields, IsFields}

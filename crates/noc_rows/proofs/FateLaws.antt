@@ -1,32 +1,30 @@
 -- What becomes of each input channel of a router in a cycle, and which are supplied after it.
-use Rattle.std.proofs.Common.{◌≡◌, ◌≢◌, ℕ, ◌*◌, ◌/◌, ◌^◌, ◌<◌, ◌≤◌, Bool, true, false, List, [], ◌∷◌, Option, Some, None, IfSome, refl, ap, ap₂, sym, ◌∙◌, subst, arith, inl, inr, bit_and, bit_or}
-use Rattle.std.specs.Prelude.{◌⊎◌, ◌&&◌, ◌||◌, not, is_some, nat_eq, nat_le, nat_lt, slice_get, slice_index, slice_index_or, if◌then◌else◌}
+use Rattle.std.proofs.Common.{◌≡◌, ℕ, ◌^◌, ◌<◌, Bool, true, false, List, [], ◌∷◌, Option, Some, None, IfSome, refl, ap, ap₂, sym, ◌∙◌, subst, arith, bit_and, bit_or}
+use Rattle.std.specs.Prelude.{◌&&◌, ◌||◌, not, is_some, nat_eq, nat_lt, slice_get, slice_index, slice_index_or, if◌then◌else◌}
 use Rattle.std.specs.Int.{bit_not, w32}
-use Rattle.std.proofs.lemmas.Bool.{cases_eq, cases_lt, eq-eqb, eqb-true, lt-ltb, true≢false, false≢true, and_parts}
-use Rattle.noc_topo.specs.Words.{is_some_of, tabulate}
-use Rattle.noc_topo.specs.Shape.{local_port, ports}
+use Rattle.std.proofs.lemmas.Bool.{eq-eqb, eqb-true, lt-ltb, true≢false, false≢true, and_parts}
+use Rattle.noc_topo.specs.Shape.{ports}
 use Rattle.noc_topo.proofs.WordLemmas.{get_or-tabulate}
 use Rattle.noc_packet.specs.Set.{has_bit}
 use Rattle.noc_packet.specs.declared.packet.Flit.{Flit}
 use Rattle.noc_packet.proofs.SetLemmas.{both_members, either_members, has_bit-zero}
 use Rattle.noc_route.specs.Routes.{Routes}
 use Rattle.noc_vc.specs.Input.{Input, idle_input, is_active, is_empty, is_idle_phase}
-use Rattle.noc_vc.specs.Output.{Output, has_credit, has_credit_at, output_after_hold, is_free, output_after_spend}
+use Rattle.noc_vc.specs.Output.{has_credit, has_credit_at, output_after_spend}
 use Rattle.noc_vc.specs.declared.input.InputState.{InputState}
 use Rattle.noc_vc.specs.declared.input.InputState.TheVariants.{Idle, Waiting, Active}
 use Rattle.noc_vc.specs.declared.output.OutputState.{OutputState}
 use Rattle.noc_vc.specs.declared.output.OutputState.TheVariants.{Idle as Free, Owned, Draining}
-use Rattle.noc_router.specs.Members.{AreBelow}
 use Rattle.noc_router.specs.Requests.{is_given}
 use Rattle.noc_router.specs.Sound.{is_owned_from, is_supplied, owns}
 use Rattle.noc_router.specs.Verdict.{ask_of}
 use Rattle.noc_router.specs.declared.verdict.Verdict.{Verdict}
-use Rattle.noc_router.specs.View.{View, size_of, view_buffer, view_claim, claim_in, view_input, view_output, view_round, first_flit, is_tail, mover_to, decisions_of, view_after_commit, decided_verdict, finding_of, input_after, held_by, spent_by, sent_from, granted_to, route_of}
+use Rattle.noc_router.specs.View.{View, size_of, view_buffer, view_claim, claim_in, view_input, view_output, view_round, first_flit, is_tail, mover_to, decisions_of, view_after_commit, decided_verdict, input_after, held_by, spent_by, sent_from, granted_to, route_of}
 use Rattle.noc_rows.specs.Bits.{less}
-use Rattle.noc_rows.specs.Column.{Column, IsColumn, RouterMarks}
+use Rattle.noc_rows.specs.Column.{IsColumn, RouterMarks}
 use Rattle.noc_rows.specs.Cycle.{HasSwitched, Surroundings, chosen_by, single_in}
-use Rattle.noc_rows.specs.Grants.{Allocation, phase_granted, with_grant}
-use Rattle.noc_rows.specs.Moves.{dry_by, of_one, ports_of, rest_from, some_below, union_from}
+use Rattle.noc_rows.specs.Grants.{Allocation}
+use Rattle.noc_rows.specs.Moves.{dry_by, of_one, ports_of, some_below, union_from}
 use Rattle.noc_rows.specs.Passes.{Effects, lane_heads, lane_no_credit, lane_no_flit, lane_no_idle_channel, lane_picked, lane_ready}
 use Rattle.noc_rows.specs.Planes.{more_than_one, plane_number}
 use Rattle.noc_rows.specs.declared.frame.Frame.{Frame}
@@ -37,7 +35,7 @@ use Rattle.noc_rows.proofs.MoveLaws.{dry-is, spends}
 use Rattle.noc_rows.proofs.PlaneLemmas.{more-fits, more-members}
 use Rattle.noc_rows.proofs.SettleLaws.{SaysSupplied}
 use Rattle.noc_rows.proofs.SettleLemmas.{quiet-input, verdict_of_bits}
-use Rattle.noc_rows.proofs.SettlingLaws.{Grant, Grantee, asker, channel-small, decided, effects, grant-found, grantee, granted-is, moves-picked, owned-not-free, released-is, says-out, supplied-was, turned}
+use Rattle.noc_rows.proofs.SettlingLaws.{asker, channel-small, decided, effects, grant-found, grantee, granted-is, moves-picked, owned-not-free, released-is, says-out, supplied-was, turned}
 use Rattle.noc_rows.proofs.StandLemmas.{verdicts}
 use Rattle.noc_rows.proofs.SuppliedLemmas.{Gone, Sends as SendsOn, Gets as GetsOne, Waits, Stays}
 use Rattle.noc_rows.proofs.SwitchedLaws.{chosen-below, head-is, mover-at, mover-from, moving, picked-is, small, taken-shows}

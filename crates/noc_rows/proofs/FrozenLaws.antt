@@ -36,14 +36,14 @@ pub record IsFrozen (count room : ℕ) (starts : List Start) (m : RouterMarks) (
 -- a router of a block whose words show its view shows its frozen state after an arrival
 pub arrived-frozen : (relation : Routes) (count : ℕ) (m : RouterMarks) (v : View) (beats : List Beat) (n links local room : ℕ) (starts : List Start) (first : ℕ → ℕ) (old new : Block) (before after : Inbox) (k : ℕ)
     → IsColumn count (column_at old.lanes k) m v → ShowsWires v (word before.flits k) (word before.credits k) (λ i. ring_in room before (k * 32 + i) (first i)) beats
-    → ShowsSource starts (source_at old.sources k) v → IsTidy v → HasSize v
+    → ShowsSource starts (source_at old.sources k) v → IsTidy v → IsTidy (view_after_inject n (view_after_takes relation beats v)) → HasSize v
     → HasTaken relation v (view_after_takes relation beats v) (flit_from v.site.vcs 0 beats) (credit_from v.site.vcs 0 beats)
     → size_of v.site ≤ 31 → v.site.places < 2 ^ count → 0 < v.site.places → v.site.places ≤ room → length beats ≤ local_port v.site.grid → n < NEVER
     → ((i : ℕ) → has_bit local i ≡ (nat_le (local_channel v.site 0) i && nat_lt i (size_of v.site)))
     → ((o : ℕ) → m.owner o % 32 ≡ owner_in old.marks.owner k o) → ((i : ℕ) → first i < 256)
     → HasArrived (words_of count v.site.places) links local n room starts old new before after k
     → IsFrozen count room starts m first new after k (view_after_inject n (view_after_takes relation beats v))
-arrived-frozen relation count m v beats n links local room starts first old new before after k column wires source tidy size taken few fits some_place enough short now is-local named bytes arrived =
+arrived-frozen relation count m v beats n links local room starts first old new before after k column wires source tidy tidy_after size taken few fits some_place enough short now is-local named bytes arrived =
     record {
       column = subst (λ (c : Column). IsColumn count c m (view_after_inject n (view_after_takes relation beats v))) (sym arrived.column) laws.column;
       source = subst (λ (s : Source). ShowsSource starts s (view_after_inject n (view_after_takes relation beats v))) (sym arrived.source) laws.source;
@@ -68,7 +68,7 @@ arrived-frozen relation count m v beats n links local room starts first old new 
           each = λ o e. ap (has_bit arrived.up) (named o) ∙ arrived.ups.each o e;
           some = λ i e. let t = arrived.ups.some i e in (t.0, t.1, named t.0 ∙ t.2);
         })
-        arrived.up_fits
+        arrived.up_fits tidy_after
 
     at : (i : ℕ) → i < size_of (view_after_inject n (view_after_takes relation beats v)).site → (b : Bool) → has_bit (lowest (went_in (words_of count v.site.places) local n (source_at old.sources k) (column_at old.lanes k))) i ≡ b
         → ring_in room after (k * 32 + i) (first i) ≡ map flit_word (view_buffer (view_after_inject n (view_after_takes relation beats v)) i)

@@ -7,6 +7,7 @@ use Rattle.noc_packet.specs.Set.{has_bit}
 use Rattle.noc_packet.specs.declared.packet.Beat.{Beat}
 use Rattle.noc_packet.proofs.SetLemmas.{either_members}
 use Rattle.noc_alloc.specs.Arbiter.{arbiter_at}
+use Rattle.noc_vc.specs.Input.{is_idle_phase}
 use Rattle.noc_vc.specs.Output.{Output, output_with_credit, holder_at}
 use Rattle.noc_vc.specs.declared.input.InputState.{InputState}
 use Rattle.noc_vc.specs.declared.input.InputState.TheVariants.{Idle, Waiting, Active}
@@ -71,6 +72,15 @@ holder-kept m o output true t = at output.credit
     at None = t
     at (Some n) = same output.places (n + 1) output.holder t
 
+-- an owner stays one
+pub owned-kept : (output : Output) (b : Bool) (i p : ℕ) → output.holder ≡ Owned i p → (credited_by output b).holder ≡ Owned i p
+owned-kept output false i p e = e
+owned-kept output true i p e = at output.credit
+  where
+    at : (credit : Option ℕ) → (output_with_credit output credit).holder ≡ Owned i p
+    at None = e
+    at (Some n) = ap (holder_at output.places (n + 1)) e
+
 pub sending-kept : (c d : Column) (v : View) (sending : Option (ℕ × ℕ)) → d.injecting ≡ c.injecting → ShowsSending c v sending → ShowsSending d v sending
 sending-kept c d v None e t = e ∙ t
 sending-kept c d v (Some (vc, index)) e t = (t.0, e ∙ t.1)
@@ -90,12 +100,15 @@ turns-kept c d m v x ahead site arbiters t = record {
 
 pub marks-kept : (c d : Column) (m : RouterMarks) (v x : View) (b : ℕ → Bool) → d.wanted ≡ c.wanted → x.site ≡ v.site
     → ((i : ℕ) → i < size_of v.site → (view_input x i).phase ≡ (view_input v i).phase) → ((o : ℕ) → o < size_of v.site → view_output x o ≡ credited_by (view_output v o) (b o))
+    → ((i : ℕ) → i < size_of v.site → is_idle_phase (view_input v i).phase ≡ false → (view_input x i).packet ≡ (view_input v i).packet)
     → ShowsMarks c m v → ShowsMarks d m x
-marks-kept c d m v x b wanted site phases outputs t = record {
+marks-kept c d m v x b wanted site phases outputs packets t = record {
   phases = subst (λ (s : Site). (i : ℕ) → i < size_of s → ShowsPhase d m s i (view_input x i).phase) (sym site)
       (λ i l. subst (ShowsPhase d m v.site i) (sym (phases i l)) (phase-same c d m v.site i (view_input v i).phase wanted (t.phases i l)));
   holders = subst (λ (s : Site). (o : ℕ) → o < size_of s → ShowsHolder m o (view_output x o).holder) (sym site)
       (λ o l. subst (λ (y : Output). ShowsHolder m o y.holder) (sym (outputs o l)) (holder-kept m o (view_output v o) (b o) (t.holders o l)));
+  packets = subst (λ (s : Site). (i : ℕ) → i < size_of s → is_idle_phase (view_input x i).phase ≡ false → (view_input x i).packet ≡ Some (m.packet i)) (sym site)
+      (λ i l e. let busy = ap is_idle_phase (sym (phases i l)) ∙ e in packets i l busy ∙ t.packets i l busy);
   to_port = subst (λ (s : Site). (q i : ℕ) → q < ports s.grid → i < size_of s → has_bit (m.to_port q) i ≡ sends_by s.vcs q (view_input x i).phase) (sym site)
       (λ q i lq l. t.to_port q i lq l ∙ ap (sends_by v.site.vcs q) (sym (phases i l)));
 }

@@ -1,5 +1,5 @@
 -- Output channels are granted one by one.
-use Rattle.std.proofs.Common.{◌≡◌, ◌≢◌, ℕ, ◌+◌, ◌*◌, ◌^◌, ◌<◌, ◌≤◌, Bool, true, false, List, [], length, get_or, set as write, refl, ap, sym, ◌∙◌, subst, arith, inl, inr, w32, bit_and, bit_or}
+use Rattle.std.proofs.Common.{◌≡◌, ◌≢◌, ℕ, ◌+◌, ◌*◌, ◌^◌, ◌<◌, Bool, true, false, List, [], length, get_or, set as write, refl, ap, sym, ◌∙◌, subst, arith, inl, inr, w32, bit_and, bit_or}
 use Rattle.std.specs.Prelude.{◌⊎◌, ◌&&◌, ◌||◌, nat_eq, if◌then◌else◌}
 use Rattle.std.specs.Int.{trailing_zeros}
 use Rattle.std.proofs.lemmas.Bool.{cases_eq, eq-eqb, ne_eqb, eqb-true, false≢true, true≢false, and_parts}
@@ -7,13 +7,13 @@ use Rattle.noc_packet.specs.Set.{has_bit}
 use Rattle.noc_packet.proofs.SetLemmas.{has_bit-zero, either_members, both_members}
 use Rattle.noc_rows.specs.Bits.{less, lowest, negation}
 use Rattle.noc_rows.specs.Column.{Column, RouterMarks}
-use Rattle.noc_rows.specs.Grants.{Allocation, AreAsks, AreTallied, HasAllocated, HasBound, HasGranted, IsBound, KeepsInput, KeepsOutput, KeepsRest, winner}
+use Rattle.noc_rows.specs.Grants.{Allocation, AreAsks, AreTallied, HasAllocated, HasBound, HasGranted, IsBound, KeepsInput, KeepsOutput, winner}
 use Rattle.noc_rows.specs.Rows.{of_router, by_port}
 use Rattle.noc_rows.specs.Turns.{first_bit, in_turn, mask_past}
-use Rattle.noc_rows.proofs.BitLemmas.{and_fits, zero_members}
+use Rattle.noc_rows.proofs.BitLemmas.{and_fits}
 use Rattle.noc_rows.proofs.PassLemmas.{power-members}
 use Rattle.noc_rows.proofs.RouterLemmas.{entry-here, entry-other, port-at, port-here, port-other}
-use Rattle.noc_rows.proofs.AskedLemmas.{lowest-is, or-left, or-right, or-cases, or-none, or-false}
+use Rattle.noc_rows.proofs.AskedLemmas.{lowest-is, or-left, or-right, or-cases, or-none}
 
 -- the first in turn is among the requests
 pub first-among : (requests mask k : ℕ) → has_bit (first_bit requests mask) k ≡ true → has_bit requests k ≡ true
@@ -54,7 +54,7 @@ module _ (m : RouterMarks) where
     none = λ k e. has_bit-zero k;
     inputs = λ k e. input-kept k;
     outputs = λ o e. output-kept o;
-    rest = record { set = refl; port_turn = refl };
+    rest = record { set = refl; packet = refl; port_turn = refl };
   }
 
   -- one more output channel is granted
@@ -142,7 +142,7 @@ module _ (m : RouterMarks) where
         owner = has_now.owner ∙ had.owner;
         turn = has_now.turn ∙ had.turn;
       };
-      rest = record { set = has.rest.set ∙ are.rest.set; port_turn = has.rest.port_turn ∙ are.rest.port_turn };
+      rest = record { set = has.rest.set ∙ are.rest.set; packet = has.rest.packet ∙ are.rest.packet; port_turn = has.rest.port_turn ∙ are.rest.port_turn };
     }
       where
         bound : (o k : ℕ) → has_bit (winner requests m o) k ≡ true → (outs o ≡ true) ⊎ (o ≡ t) → IsBound m x o k (port o) (target o)
@@ -178,7 +178,7 @@ bound-turned m w turn o k port target old value has here others = record {
   turn = here;
   inputs = λ i other. let had = has.inputs i other in record { taken = had.taken; target = had.target; to_port = had.to_port };
   outputs = λ p other. let had = has.outputs p other in record { owner = had.owner; turn = others p other ∙ had.turn };
-  rest = record { set = has.rest.set; port_turn = has.rest.port_turn };
+  rest = record { set = has.rest.set; packet = has.rest.packet; port_turn = has.rest.port_turn };
 }
 
 -- whether a port has an input channel, once input channel k goes by it
@@ -186,13 +186,13 @@ abbrev with_member : List (List ℕ) → ℕ → ℕ → ℕ → ℕ → ℕ →
 with_member rows j k port q i = (nat_eq q port && nat_eq i k) || has_bit (get_or (by_port rows j) q 0) i
 
 -- an output channel is bound, entry by entry
-pub bound-lists : (set turn port_turn : ℕ → ℕ) (owner taken target : List ℕ) (rows : List (List ℕ)) (row : List ℕ) (j o k port place word : ℕ) → o < 32 → k < 32 → port < 8
+pub bound-lists : (set packet turn port_turn : ℕ → ℕ) (owner taken target : List ℕ) (rows : List (List ℕ)) (row : List ℕ) (j o k port place word : ℕ) → o < 32 → k < 32 → port < 8
     → j * 32 + o < length owner → j * 32 + k < length taken → j * 32 + k < length target → port < length rows → word ≡ 2 ^ o
     → ((i : ℕ) → has_bit (get_or row j 0) i ≡ (nat_eq i k || has_bit (get_or (get_or rows port []) j 0) i))
-    → HasBound (record { set = set; taken = λ i. get_or (of_router taken j) i 0; target = λ i. get_or (of_router target j) i 0; owner = λ i. get_or (of_router owner j) i 0; turn = turn; to_port = λ q. get_or (by_port rows j) q 0; port_turn = port_turn })
-    (record { set = set; taken = λ i. get_or (of_router (write taken (j * 32 + k) word) j) i 0; target = λ i. get_or (of_router (write target (j * 32 + k) place) j) i 0; owner = λ i. get_or (of_router (write owner (j * 32 + o) k) j) i 0; turn = turn; to_port = λ q. get_or (by_port (write rows port row) j) q 0; port_turn = port_turn })
+    → HasBound (record { set = set; packet = packet; taken = λ i. get_or (of_router taken j) i 0; target = λ i. get_or (of_router target j) i 0; owner = λ i. get_or (of_router owner j) i 0; turn = turn; to_port = λ q. get_or (by_port rows j) q 0; port_turn = port_turn })
+    (record { set = set; packet = packet; taken = λ i. get_or (of_router (write taken (j * 32 + k) word) j) i 0; target = λ i. get_or (of_router (write target (j * 32 + k) place) j) i 0; owner = λ i. get_or (of_router (write owner (j * 32 + o) k) j) i 0; turn = turn; to_port = λ q. get_or (by_port (write rows port row) j) q 0; port_turn = port_turn })
     o k port place (turn o)
-bound-lists set turn port_turn owner taken target rows row j o k port place word lo lk lp in_owner in_taken in_target in_rows is members = record {
+bound-lists set packet turn port_turn owner taken target rows row j o k port place word lo lk lp in_owner in_taken in_target in_rows is members = record {
   bound = record {
     owner = entry-here owner j o k lo in_owner;
     taken = entry-here taken j k word lk in_taken ∙ is;
@@ -206,7 +206,7 @@ bound-lists set turn port_turn owner taken target rows row j o k port place word
     to_port = λ q. ports q i (cases_eq q port) ∙ same q i (ne_eqb i k other) (cases_eq q port);
   };
   outputs = λ p other. record { owner = entry-other owner j o k lo p other; turn = refl };
-  rest = record { set = refl; port_turn = refl };
+  rest = record { set = refl; packet = refl; port_turn = refl };
 }
   where
     ports : (q i : ℕ) → (q ≡ port) ⊎ (q ≢ port) → has_bit (get_or (by_port (write rows port row) j) q 0) i ≡ with_member rows j k port q i
@@ -261,9 +261,10 @@ bound-at m w o k port other place there pointer value ep el ev has = subst (λ p
 pub allocated-at : (port place there : ℕ → ℕ) (a c b : Allocation) → a ≡ c → place ≡ there → HasAllocated port place a b → HasAllocated port there c b
 allocated-at port place there a c b ea ep has = subst (λ x. HasAllocated port there x b) ea (subst (λ f. HasAllocated port f a b) ep has)
 
-abbrev the-marks : (set turn port_turn : ℕ → ℕ) (taken target owner to_port : List ℕ) → RouterMarks
-the-marks set turn port_turn taken target owner to_port = record {
+abbrev the-marks : (set packet turn port_turn : ℕ → ℕ) (taken target owner to_port : List ℕ) → RouterMarks
+the-marks set packet turn port_turn taken target owner to_port = record {
   set = set;
+  packet = packet;
   taken = λ i. get_or taken i 0;
   target = λ i. get_or target i 0;
   owner = λ i. get_or owner i 0;
@@ -273,8 +274,8 @@ the-marks set turn port_turn taken target owner to_port = record {
 }
 
 -- marks by lists are the same where the lists are
-pub same-marks : (set turn port_turn : ℕ → ℕ) (taken target owner to_port takens targets owners to_ports : List ℕ) → takens ≡ taken → targets ≡ target → owners ≡ owner → to_ports ≡ to_port
-    → the-marks set turn port_turn takens targets owners to_ports ≡ the-marks set turn port_turn taken target owner to_port
-same-marks set turn port_turn taken target owner to_port takens targets owners to_ports et eg eo ep =
-    ap (λ xs. the-marks set turn port_turn xs targets owners to_ports) et ∙ ap (λ xs. the-marks set turn port_turn taken xs owners to_ports) eg
-    ∙ ap (λ xs. the-marks set turn port_turn taken target xs to_ports) eo ∙ ap (the-marks set turn port_turn taken target owner) ep
+pub same-marks : (set packet turn port_turn : ℕ → ℕ) (taken target owner to_port takens targets owners to_ports : List ℕ) → takens ≡ taken → targets ≡ target → owners ≡ owner → to_ports ≡ to_port
+    → the-marks set packet turn port_turn takens targets owners to_ports ≡ the-marks set packet turn port_turn taken target owner to_port
+same-marks set packet turn port_turn taken target owner to_port takens targets owners to_ports et eg eo ep =
+    ap (λ xs. the-marks set packet turn port_turn xs targets owners to_ports) et ∙ ap (λ xs. the-marks set packet turn port_turn taken xs owners to_ports) eg
+    ∙ ap (λ xs. the-marks set packet turn port_turn taken target xs to_ports) eo ∙ ap (the-marks set packet turn port_turn taken target owner) ep

@@ -48,7 +48,7 @@ use Rattle.noc_rows.proofs.FrozenLaws.{IsFrozen, arrived-frozen}
 use Rattle.noc_rows.proofs.FrozenWires.{frozen_of}
 use Rattle.noc_rows.proofs.LeadLaws.{back-leads, lead-leads}
 use Rattle.noc_rows.proofs.MoveLaws.{moved-is}
-use Rattle.noc_rows.proofs.NetworkLaws.{beats, beats-taken, frozen-seen, frozen_view, start-size, start-tidy}
+use Rattle.noc_rows.proofs.NetworkLaws.{beats, beats-taken, frozen-seen, frozen-tidy, frozen_view, start-size, start-tidy}
 use Rattle.noc_rows.proofs.RoundLaws.{AreRound, round-allocated, round-quiet}
 use Rattle.noc_rows.proofs.SwitchLemmas.{AreMoved}
 use Rattle.noc_rows.proofs.SwitchedLaws.{active-granted, active-headless, chosen-below, chosen-is, moved-below, moved-picked, moving, picked-is, union-same}
@@ -88,7 +88,7 @@ with-owners count c m owner v same s = record {
   words = s.words;
   channels = s.channels;
   turns = record { inputs = s.turns.inputs; channels = s.turns.channels; outputs = s.turns.outputs };
-  marks = record { phases = s.marks.phases; holders = λ o l. at o l (view_output v o).holder (s.marks.holders o l); to_port = s.marks.to_port };
+  marks = record { phases = s.marks.phases; holders = λ o l. at o l (view_output v o).holder (s.marks.holders o l); packets = s.marks.packets; to_port = s.marks.to_port };
   sending = s.sending;
 }
   where
@@ -182,7 +182,7 @@ module _ (net : Setup) (setup : IsGoodSetup net) (n r : ℕ) (l : r < nodes net.
           (λ i. slice_index old.marks.first (place_of k i)) old frozen before after k
           (with-owners 5 (column_at old.lanes k) (marks_at old.marks k) named.owner (view_at net n r)
           (λ o u. sym (of-lane old.marks.owner k o (let w = start-few o u in omega (arith, w)))) shows.column)
-          shows.wires shows.source (start-tidy net setup n r l) (start-size net setup n r l) (beats-taken net setup n r l few)
+          shows.wires shows.source (start-tidy net setup n r l) (frozen-tidy net setup n r l) (start-size net setup n r l) (beats-taken net setup n r l few)
           is_frame.few (let p = is_frame.few_places in omega (arith, p)) setup.some_place enough (let q = short in omega (arith, q))
           (omega (arith, few)) is-local (λ o. refl) (λ i. bytes (place_of k i))
           (subst (λ (bits : List ℕ). HasArrived bits frame.link_set frame.local_set n room starts old frozen before after k) is_frame.place_bits arrived)

@@ -124,7 +124,7 @@ module _ (net : Setup) (setup : IsGoodSetup net) (n r : ℕ) (l : r < nodes net.
     (sheet : Sheet) (inbox : Inbox) (k : ℕ)
     (shows : ShowsRouter starts n (lane_words room block sheet inbox k) (view_at net n r) (beats net setup n r l)) (rests : IsResting block (suc n) k)
     (flits : word inbox.flits k ≡ 0) (credits : word inbox.credits k ≡ 0) where
-  asleep : IsAsleep (suc n) (view_at net n r)
+  pub asleep : IsAsleep (suc n) (view_at net n r)
   asleep = lane-asleep net setup n r l room starts block sheet inbox k (suc n) shows rests flits credits
 
   silent : IsSilent (beats net setup n r l)
@@ -142,7 +142,7 @@ module _ (net : Setup) (setup : IsGoodSetup net) (n r : ℕ) (l : r < nodes net.
       few asleep silent shows wires
 
   -- its frozen view is that at the count
-  frozen-is : frozen_of net n r ≡ record (view_at net n r) { given = n }
+  pub frozen-is : frozen_of net n r ≡ record (view_at net n r) { given = n }
   frozen-is = ap (view_after_inject n) (all-silent net.relation (beats net setup n r l) (view_at net n r) silent)
       ∙ asleep-held (suc n) (view_at net n r) asleep n (omega arith)
 

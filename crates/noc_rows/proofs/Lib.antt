@@ -27,7 +27,8 @@ pub mod AskLemmas
 pub mod PassLemmas
 pub mod WordLemmas
 pub mod SteadyLemmas
-pub mod TidyLemmas
+pub mod PresentLemmas
+mod TidyLemmas
 pub mod PointerLemmas
 pub mod NetworkLaws
 pub mod FlitLaws
@@ -51,6 +52,7 @@ pub mod ComposeLemmas
 pub mod ArriveLaws
 pub mod FrameLemmas
 pub mod FrozenLaws
+pub mod StillLaws
 pub mod SleepLaws
 pub mod OpeningLaws
 mod SameLemmas
@@ -126,3 +128,16 @@ pub mod ArrivalLanes
 pub mod StepQuiet
 pub mod StepParts
 pub mod StepMoves
+pub mod FoundPasses
+pub mod FoundClaims
+pub mod FoundVerdicts
+pub mod FoundNetwork
+pub mod FoundLanes
+pub mod FoundSteps
+pub mod FoundReaders
+pub mod StillLemmas
+pub mod StillVerdicts
+pub mod StillRouter
+pub mod StillCounts
+pub mod StillShown
+pub mod WaitLaws

@@ -1,7 +1,7 @@
 -- The marks of a router after a cycle show its view after it.
-use Rattle.std.proofs.Common.{◌≡◌, ℕ, ◌*◌, ◌/◌, ◌^◌, ◌<◌, Bool, true, false, Option, Some, None, refl, ap, ap₂, sym, ◌∙◌, subst, arith}
+use Rattle.std.proofs.Common.{◌≡◌, ℕ, ◌<◌, Bool, true, false, Option, Some, None, refl, ap, ap₂, sym, ◌∙◌, subst}
 use Rattle.std.specs.Prelude.{◌&&◌, not, is_some, slice_index_or, if◌then◌else◌}
-use Rattle.std.proofs.lemmas.Bool.{eq-eqb, false≢true, true≢false}
+use Rattle.std.proofs.lemmas.Bool.{eq-eqb, true≢false}
 use Rattle.noc_topo.specs.Words.{is_some_of}
 use Rattle.noc_topo.specs.Shape.{ports}
 use Rattle.noc_packet.specs.Set.{has_bit}
@@ -16,12 +16,13 @@ use Rattle.noc_router.specs.Requests.{is_given}
 use Rattle.noc_router.specs.Verdict.{ask_of}
 use Rattle.noc_router.specs.View.{Site, View, size_of, view_buffer, view_claim, claim_in, view_input, view_output, view_round, first_flit, is_tail, mover_to, decisions_of, view_after_commit, held_by, spent_by, route_of}
 use Rattle.noc_rows.specs.Column.{Column, IsColumn, RouterMarks, ShowsHolder, ShowsMarks, ShowsPhase, sends_by}
-use Rattle.noc_rows.specs.Cycle.{HasSwitched, Surroundings, chosen_by, single_in}
+use Rattle.noc_rows.specs.Cycle.{HasSwitched, Surroundings, single_in}
 use Rattle.noc_rows.specs.Grants.{Allocation, phase_granted, with_grant}
 use Rattle.noc_rows.specs.Moves.{ports_of}
 use Rattle.noc_rows.specs.Passes.{Effects, lane_heads, lane_picked, settled_lane}
 use Rattle.noc_rows.specs.declared.frame.Frame.{Frame}
 use Rattle.noc_rows.proofs.ChosenLaws.{IsStill, ShowsChosen, phase-as}
+use Rattle.noc_rows.proofs.CommittedLemmas.{packet-committed}
 use Rattle.noc_rows.proofs.FateLaws.{Fate, Leaves, Sends, Gets, Begins, Rests, fate, output-by}
 use Rattle.noc_rows.proofs.SettleLaws.{committed-site}
 use Rattle.noc_rows.proofs.SettlingLaws.{channel-small, granted-is, moves-picked, says-out, tail-is, turned}
@@ -31,10 +32,11 @@ use Rattle.noc_rows.proofs.SwitchedLaws.{active-granted, active-headless, chosen
 record MarksIn (site : Site) (c : Column) (m : RouterMarks) (v : View) : Type 0 where
   phases : (i : ℕ) → i < size_of site → ShowsPhase c m site i (view_input v i).phase
   holders : (o : ℕ) → o < size_of site → ShowsHolder m o (view_output v o).holder
+  packets : (i : ℕ) → i < size_of site → is_idle_phase (view_input v i).phase ≡ false → (view_input v i).packet ≡ Some (m.packet i)
   to_port : (q i : ℕ) → q < ports site.grid → i < size_of site → has_bit (m.to_port q) i ≡ sends_by site.vcs q (view_input v i).phase
 
 shows-marks : (c : Column) (m : RouterMarks) (v : View) → MarksIn v.site c m v → ShowsMarks c m v
-shows-marks c m v parts = record { phases = parts.phases; holders = parts.holders; to_port = parts.to_port }
+shows-marks c m v parts = record { phases = parts.phases; holders = parts.holders; packets = parts.packets; to_port = parts.to_port }
 
 holder-as : (m w : RouterMarks) (o : ℕ) (h : OutputState) → w.owner o ≡ m.owner o → ShowsHolder m o h → ShowsHolder w o h
 holder-as m w o Free e is = tt
@@ -139,6 +141,24 @@ module _ (relation : Routes) (frame : Frame) (x : Surroundings) (v : View) (stil
       by (Some k) eg (Some i) em =
           absurd (true≢false (ap is_some (sym em ∙ ((says-out relation frame x v still a b outs shows put w e supplied switched heads_are granted_are o l).free (ap is_some eg)).1)))
 
+  -- ---- packets
+  packets-after : (i : ℕ) → i < size_of v.site → is_idle_phase (view_input (view_after_commit (decisions_of relation v) v) i).phase ≡ false
+      → (view_input (view_after_commit (decisions_of relation v) v) i).packet ≡ Some (w.packet i)
+  packets-after i l busy =
+      packet-committed (decisions_of relation v) v still.size i l busy ∙ by (has_bit e.heads i) refl ∙ ap Some (sym (ap (λ (m : RouterMarks). m.packet i) sw.rest))
+    where
+      by : (h : Bool) → has_bit e.heads i ≡ h → (view_input v i).packet ≡ Some (b.marks.packet i)
+      by true eh = put.numbers i l (ap (λ n. has_bit n i) (sym heads_are) ∙ eh)
+      by false eh =
+          shows.marks.packets i l (was (fate relation frame x v still a b outs shows put w e supplied switched heads_are granted_are i l)) ∙ ap Some (sym (put.packets i (headless i eh)))
+        where
+          was : Fate v (view_after_commit (decisions_of relation v) v) e (route_of relation v i) i → is_idle_phase (view_input v i).phase ≡ false
+          was (Leaves o em et ep ew) = absurd (true≢false (ap is_idle_phase (sym ew) ∙ busy))
+          was (Sends o em et ep ew) = ap is_idle_phase ep
+          was (Gets o set em eg ep ask round ew) = ap is_idle_phase ep
+          was (Begins em eg head ep ew) = absurd (true≢false (sym head ∙ eh))
+          was (Rests em eg head same) = ap is_idle_phase (sym same) ∙ busy
+
   -- ---- who sends by a port
   ports-after : (q i : ℕ) → q < ports v.site.grid → i < size_of v.site → has_bit (w.to_port q) i ≡ sends_by v.site.vcs q (view_input (view_after_commit (decisions_of relation v) v) i).phase
   ports-after q i lq l = sw.to_port q i lq (channel-small relation frame x v still a b outs shows put w e supplied switched heads_are granted_are i l)
@@ -178,4 +198,4 @@ module _ (relation : Routes) (frame : Frame) (x : Surroundings) (v : View) (stil
   marks-after =
       shows-marks column_after w (view_after_commit (decisions_of relation v) v)
       (subst (λ site. MarksIn site column_after w (view_after_commit (decisions_of relation v) v)) (sym (committed-site (decisions_of relation v) v).0)
-      (record { phases = phases-after; holders = holders-after; to_port = ports-after }))
+      (record { phases = phases-after; holders = holders-after; packets = packets-after; to_port = ports-after }))

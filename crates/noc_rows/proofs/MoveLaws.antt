@@ -1,9 +1,9 @@
 -- What goes through the switch is what the view's round says: the channels that move, the output channels by which they
 -- leave, the tails among them, and the pointers of the output ports after it.
-use Rattle.std.proofs.Common.{◌≡◌, ◌≢◌, ℕ, ◌+◌, ◌*◌, ◌/◌, ◌%◌, ◌^◌, ◌<◌, ◌≤◌, Bool, true, false, List, length, Option, Some, None, refl, ap, ap₂, sym, ◌∙◌, subst, arith, inl, inr, w32, bit_and, get_or, div-add-mod', mod-eq_of_lt}
+use Rattle.std.proofs.Common.{◌≡◌, ◌≢◌, ℕ, ◌+◌, ◌*◌, ◌/◌, ◌%◌, ◌^◌, ◌<◌, ◌≤◌, Bool, true, false, List, length, Option, Some, None, refl, ap, ap₂, sym, ◌∙◌, subst, arith, inl, inr, w32, bit_and, div-add-mod', mod-eq_of_lt}
 use Rattle.std.specs.Prelude.{nat_eq, nat_le, nat_lt, ◌⊎◌, ◌&&◌, ◌||◌, not, is_some, option_and_then, option_map, slice_index, slice_index_or, if◌then◌else◌}
 use Rattle.std.specs.Int.{trailing_zeros}
-use Rattle.std.proofs.lemmas.Bool.{eq-eqb, ne_eqb, cases_eq, cases_lt, false≢true, true≢false, and_parts, eqb-true, lt-leb, le-leb, lt-ltb, le-ltb}
+use Rattle.std.proofs.lemmas.Bool.{eq-eqb, ne_eqb, cases_eq, cases_lt, false≢true, and_parts, eqb-true, lt-leb, le-leb, lt-ltb, le-ltb}
 use Rattle.std.proofs.lemmas.List.{get_or-map}
 use Rattle.std.proofs.lemmas.Nat.{div_below, mod_below, mul-add-lt, pow_pos}
 use Rattle.std.proofs.lemmas.Nat.Bits.{and_pow}
@@ -12,7 +12,7 @@ use Rattle.noc_topo.specs.Words.{is_some_of}
 use Rattle.noc_topo.specs.Shape.{ports}
 use Rattle.noc_topo.proofs.WordLemmas.{get_or-map_indexed}
 use Rattle.noc_packet.specs.Set.{has_bit, IsLeast}
-use Rattle.noc_packet.proofs.SetLemmas.{bit_at-true, bit_at-false, both_members, has_bit-zero, zero_from_none}
+use Rattle.noc_packet.proofs.SetLemmas.{bit_at-true, bit_at-false, both_members, has_bit-zero}
 use Rattle.noc_alloc.specs.Arbiter.{RoundRobin, pointer_after, pointers_of, arbiter_at, arbiter_after}
 use Rattle.noc_vc.specs.declared.input.InputState.{InputState}
 use Rattle.noc_vc.specs.declared.input.InputState.TheVariants.{Idle, Waiting, Active}
@@ -25,7 +25,7 @@ use Rattle.noc_rows.specs.Moves.{some_below, union_from, of_one, selected_by, dr
 use Rattle.noc_rows.specs.Turns.{in_turn}
 use Rattle.noc_rows.proofs.BitLemmas.{and_fits, least_is, lowest_members}
 use Rattle.noc_rows.proofs.PassLemmas.{power-members}
-use Rattle.noc_rows.proofs.SelectLemmas.{selected, wins-is, pick-of-member, in_turn-among, in_turn-some}
+use Rattle.noc_rows.proofs.SelectLemmas.{selected, wins-is, pick-of-member, in_turn-some}
 use Rattle.noc_rows.proofs.SettleLemmas.{is_tail_by}
 use Rattle.noc_rows.proofs.SwitchLemmas.{AreMoved}
 use Rattle.noc_rows.proofs.UnionLemmas.{some-none, some-one, some-same, some-and, union-members}

@@ -1,26 +1,22 @@
 -- Flits that move in a block, port after port.
-use Rattle.std.proofs.Common.{◌≡◌, ◌≢◌, ℕ, zero, suc, ◌+◌, ◌*◌, ◌/◌, ◌%◌, ◌^◌, ◌<◌, ◌≤◌, Bool, true, false, List, length, Some, refl, ap, ap₂, sym, ◌∙◌, subst, arith, inl, inr, bit_and, w32, add-one}
-use Rattle.std.specs.Prelude.{◌⊎◌, ◌&&◌, ◌||◌, not, nat_eq, slice_index, if◌then◌else◌}
+use Rattle.std.proofs.Common.{◌≡◌, ℕ, ◌+◌, ◌*◌, ◌/◌, ◌%◌, ◌^◌, ◌<◌, ◌≤◌, Bool, true, false, List, refl, ap, sym, ◌∙◌, subst, arith, inl, inr, w32}
+use Rattle.std.specs.Prelude.{◌⊎◌, ◌&&◌, ◌||◌, nat_eq, slice_index}
 use Rattle.std.specs.Int.{trailing_zeros}
-use Rattle.std.proofs.lemmas.Bool.{cases_eq, cases_lt, cases_Bool, eq-eqb, ne_eqb, eqb-true, true≢false, false≢true, and_parts, or_cases, false_from_ne_true}
-use Rattle.noc_packet.specs.Set.{has_bit, IsLeast}
-use Rattle.noc_packet.proofs.SetLemmas.{has_bit-zero, both_members, either_members}
+use Rattle.std.proofs.lemmas.Bool.{cases_lt, eq-eqb, ne_eqb, eqb-true, false≢true}
+use Rattle.noc_packet.specs.Set.{has_bit}
+use Rattle.noc_packet.proofs.SetLemmas.{has_bit-zero, both_members}
 use Rattle.noc_rows.specs.Bits.{lowest, negation}
 use Rattle.noc_rows.specs.Carried.{HaveMoved, WireWords, wire_words}
-use Rattle.noc_rows.specs.Moves.{some_below, union_from}
-use Rattle.noc_rows.specs.Switched.{AreSelectedOnce, AreNext, HasTails, HaveFirsts, IsOne, MovesFlits, NotesTails, firsts_with, gone_with, in_words, selected_by_ports, one_has, some_moved, some_tail, words_with}
+use Rattle.noc_rows.specs.Switched.{AreNext, HaveFirsts, IsOne, MovesFlits, NotesTails, firsts_with, gone_with, in_words, one_has, some_moved, some_tail, words_with}
 use Rattle.noc_rows.specs.Turns.{first_bit, in_turn}
 use Rattle.noc_rows.specs.Wires.{room_of}
 use Rattle.noc_rows.specs.declared.marks.Marks.{Marks}
-use Rattle.noc_rows.specs.declared.room.Room.{Room}
-use Rattle.noc_rows.specs.declared.wires.Inbox.{Inbox}
 use Rattle.noc_rows.specs.declared.wires.Wires.{Wires}
 use Rattle.noc_rows.proofs.BitLemmas.{and_fits, least_is, lowest_members, zero_members}
-use Rattle.noc_rows.proofs.CarryLaws.{gone-none, gone-same}
+use Rattle.noc_rows.proofs.CarryLaws.{gone-same}
 use Rattle.noc_rows.proofs.LaneLemmas.{least-zeros}
 use Rattle.noc_rows.proofs.StepLemmas.{moved-same}
-use Rattle.noc_rows.proofs.TailLemmas.{some-more}
-use Rattle.noc_rows.proofs.UnionLemmas.{or-none, or-assoc, some-none, some-same, union-members}
+use Rattle.noc_rows.proofs.UnionLemmas.{some-same}
 
 -- the one that comes first is alone
 pub first-alone : (requests mask : ℕ) → IsOne (first_bit requests mask)

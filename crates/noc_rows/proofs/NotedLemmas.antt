@@ -1,6 +1,6 @@
 -- The tails that are noted, and what holds of some of them.
-use Rattle.std.proofs.Common.{◌≡◌, ◌≢◌, ℕ, zero, suc, ◌+◌, ◌<◌, Bool, true, false, List, [], ◌∷◌, ◌++◌, length, get_or, refl, ap, ap₂, sym, ◌∙◌, arith, inl, inr}
-use Rattle.std.specs.Prelude.{◌⊎◌, ◌&&◌, ◌||◌, slice_index_or, if◌then◌else◌}
+use Rattle.std.proofs.Common.{◌≡◌, ◌≢◌, ℕ, zero, suc, ◌<◌, Bool, true, false, List, [], ◌∷◌, ◌++◌, length, get_or, refl, ap, ap₂, sym, ◌∙◌, arith, inl, inr}
+use Rattle.std.specs.Prelude.{◌&&◌, ◌||◌, slice_index_or, if◌then◌else◌}
 use Rattle.std.proofs.lemmas.Bool.{cases_eq}
 use Rattle.std.proofs.lemmas.List.{get_or_append_left, get_or_push, length_push}
 use Rattle.noc_topo.proofs.WordLemmas.{get_or-tabulate, length-tabulate}
@@ -9,7 +9,7 @@ use Rattle.noc_rows.specs.Switched.{some_tail}
 use Rattle.noc_rows.specs.Wires.{tails_of}
 use Rattle.noc_rows.specs.declared.wires.Tails.{Tails}
 use Rattle.noc_rows.proofs.TailLemmas.{some-more}
-use Rattle.noc_rows.proofs.UnionLemmas.{or-none, or-assoc, some-same}
+use Rattle.noc_rows.proofs.UnionLemmas.{or-none, some-same}
 
 or-turned : (a b c : Bool) → ((a || b) || c) ≡ ((a || c) || b)
 or-turned true b c = refl

@@ -1,7 +1,7 @@
 -- Before the first cycle the words of an empty router show its opening view.
 use Rattle.std.proofs.Common.{◌≡◌, ℕ, zero, suc, ◌+◌, ◌-◌, ◌*◌, ◌/◌, ◌%◌, ◌^◌, ◌<◌, ◌≤◌, Bool, true, false, List, [], ◌∷◌, map, length, replicate, refl, ap, sym, ◌∙◌, inl, inr, subst, arith, bit_and, pow-suc}
 use Rattle.std.specs.Prelude.{◌⊎◌, ◌&&◌, ◌||◌, nat_eq, nat_lt, nat_le}
-use Rattle.std.proofs.lemmas.Bool.{false≢true, lt-ltb, le-ltb, ltb-true, le-leb, or_cases, and_parts, cases_eq, cases_lt, eq-eqb, ne_eqb}
+use Rattle.std.proofs.lemmas.Bool.{false≢true, true≢false, lt-ltb, le-ltb, ltb-true, le-leb, or_cases, and_parts, cases_eq, cases_lt, eq-eqb, ne_eqb}
 use Rattle.std.proofs.lemmas.List.{get_or-replicate, length-replicate, length-map, get_or_append_left, get_or-append_right}
 use Rattle.std.proofs.Math.Nat.{mul-le-mul_right, add-mul}
 use Rattle.std.proofs.lemmas.Nat.Bits.{bit_at_ones}
@@ -11,7 +11,7 @@ use Rattle.noc_packet.proofs.SetLemmas.{both_members, either_members, has_bit-on
 use Rattle.noc_packet.specs.declared.packet.Packet.{Packet}
 use Rattle.noc_packet.specs.declared.packet.Flit.{Flit}
 use Rattle.noc_alloc.specs.Arbiter.{RoundRobin, arbiter_at}
-use Rattle.noc_vc.specs.Input.{Input, idle_input}
+use Rattle.noc_vc.specs.Input.{Input, idle_input, is_idle_phase}
 use Rattle.noc_vc.specs.Output.{Output, link_output, ejection_output}
 use Rattle.noc_vc.specs.declared.output.OutputState.TheVariants.{Idle as Free}
 use Rattle.noc_router.specs.Counts.{one_if}
@@ -196,6 +196,7 @@ module _ (site : Site) (starts : List (ℕ × Packet)) (ends : List ℕ) (m : Ro
   shows-marks = record {
     phases = λ i l. subst (λ (y : Input). ShowsPhase c m site i y.phase) (sym (idle-input i)) tt;
     holders = λ o l. subst (λ h. ShowsHolder m o h) (sym (holder-is o l)) tt;
+    packets = λ i l e. absurd (true≢false (ap (λ (y : Input). is_idle_phase y.phase) (sym (idle-input i)) ∙ e));
     to_port = λ q i lq li. ap (λ w. has_bit w i) (marks.to_port q (omega (arith, lq, few_ports))) ∙ has_bit-zero i ∙ ap (λ (y : Input). sends_by site.vcs q y.phase) (sym (idle-input i));
   }
 

@@ -1,8 +1,8 @@
 -- What rows show, as their readers have it.
 use Rattle.std.proofs.Common.{◌≡◌, ◌≢◌, ℕ, ◌+◌, ◌-◌, ◌*◌, ◌/◌, ◌%◌, ◌^◌, ◌<◌, ◌≤◌, Bool, true, false, List, [], length, get_or, Option, Some, None, refl, ap, ap₂, sym, ◌∙◌, subst, inl, inr, arith, slice_get, max}
-use Rattle.std.specs.Prelude.{◌⊎◌, is_some, not, nat_eq, slice_index, slice_index_or, if◌then◌else◌}
+use Rattle.std.specs.Prelude.{◌⊎◌, is_some, nat_eq, slice_index, slice_index_or, if◌then◌else◌}
 use Rattle.std.specs.List.{list_all}
-use Rattle.std.proofs.lemmas.Bool.{cases_eq, cases_lt, eq-eqb, ne_eqb, false≢true}
+use Rattle.std.proofs.lemmas.Bool.{cases_eq, cases_lt, eq-eqb, ne_eqb}
 use Rattle.std.proofs.lemmas.List.Folds.{list_all_at}
 use Rattle.std.proofs.lemmas.List.Sums.{list_all-from_AllPass}
 use Rattle.std.proofs.Math.Nat.{mul_comm}
@@ -11,7 +11,7 @@ use Rattle.std.proofs.lemmas.Option.{slice_get-get_or, slice_get_within, same_So
 use Rattle.noc_topo.specs.Shape.{nodes, ports}
 use Rattle.noc_topo.specs.Words.{below}
 use Rattle.noc_topo.proofs.WordLemmas.{get_or-below, get_or-tabulate, length-below}
-use Rattle.noc_router.specs.View.{Site, View, size_of}
+use Rattle.noc_router.specs.View.{Site, size_of}
 use Rattle.noc_model.specs.Good.{IsGoodSetup}
 use Rattle.noc_model.specs.Lockstep.{counts_before, last_event_at, view_at, view_in}
 use Rattle.noc_model.specs.Network.{Setup, arrival_in, size, state_at}
@@ -19,10 +19,9 @@ use Rattle.noc_model.specs.Progress.{last_event_before}
 use Rattle.noc_model.proofs.CoreLemmas.{get_some}
 use Rattle.noc_model.proofs.LastEvent.{last-is}
 use Rattle.noc_model.proofs.ViewLemmas.{view_at-seen}
-use Rattle.noc_rows.specs.Blank.{IsBlank}
 use Rattle.noc_rows.specs.Readers.{IsGreatestIn, IsLatest, are_all_out}
 use Rattle.noc_rows.specs.Rows.{word}
-use Rattle.noc_rows.specs.Tallied.{ShowsCounts, ShowsLastEvent, counts_by, ten_counts}
+use Rattle.noc_rows.specs.Tallied.{ShowsCounts, ShowsLastEvent, counts_by}
 use Rattle.noc_rows.specs.Whole.{IsRows, ShowsArrival, ShowsBlock}
 use Rattle.noc_rows.specs.Wires.{inbox_at, room_of}
 use Rattle.noc_rows.specs.declared.block.Block.{Block}

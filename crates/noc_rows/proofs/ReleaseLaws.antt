@@ -1,9 +1,9 @@
 -- What the tails that are noted say of the flits that have moved: what is released, freed and has arrived.
-use Rattle.std.proofs.Common.{◌≡◌, ◌≢◌, ℕ, zero, suc, ◌+◌, ◌*◌, ◌/◌, ◌%◌, ◌^◌, ◌<◌, ◌≤◌, Bool, true, false, List, Some, refl, ap, ap₂, sym, ◌∙◌, arith, inl, inr, w32, bit_and}
+use Rattle.std.proofs.Common.{◌≡◌, ◌≢◌, ℕ, zero, suc, ◌+◌, ◌*◌, ◌/◌, ◌%◌, ◌^◌, ◌<◌, ◌≤◌, Bool, true, false, List, refl, ap, ap₂, sym, ◌∙◌, arith, inl, inr, w32}
 use Rattle.std.specs.Prelude.{◌⊎◌, ◌&&◌, ◌||◌, nat_eq, slice_index, if◌then◌else◌}
 use Rattle.std.specs.Int.{trailing_zeros}
-use Rattle.std.proofs.lemmas.Bool.{cases_eq, cases_lt, cases_Bool, eq-eqb, ne_eqb, eqb-true, false≢true, and_right}
-use Rattle.noc_packet.specs.Set.{has_bit, IsLeast}
+use Rattle.std.proofs.lemmas.Bool.{cases_eq, cases_lt, cases_Bool, eq-eqb, ne_eqb, eqb-true, false≢true}
+use Rattle.noc_packet.specs.Set.{has_bit}
 use Rattle.noc_packet.proofs.SetLemmas.{has_bit-zero, both_members, zero_from_none}
 use Rattle.noc_rows.specs.Bits.{lowest, negation}
 use Rattle.noc_rows.specs.Moves.{channel_word, has_freed, has_gone, has_left, of_one, some_below, union_from}
@@ -12,7 +12,6 @@ use Rattle.noc_rows.specs.Switched.{selected_by_ports, one_has, some_moved, some
 use Rattle.noc_rows.specs.Turns.{first_bit, in_turn}
 use Rattle.noc_rows.specs.declared.wires.Tails.{Tails}
 use Rattle.noc_rows.proofs.BitLemmas.{and_fits, least_below, least_is, lowest_members}
-use Rattle.noc_rows.proofs.EachLemmas.{lowest-is}
 use Rattle.noc_rows.proofs.LaneLemmas.{least-zeros}
 use Rattle.noc_rows.proofs.UnionLemmas.{some-and, some-none, some-one, some-same, union-members}
 

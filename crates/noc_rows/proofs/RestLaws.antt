@@ -191,9 +191,18 @@ seen-column count c m counts given findings v s = record {
     len_below = s.channels.len_below;
   };
   turns = record { inputs = s.turns.inputs; channels = s.turns.channels; outputs = s.turns.outputs };
-  marks = record { phases = s.marks.phases; holders = s.marks.holders; to_port = s.marks.to_port };
+  marks = record { phases = s.marks.phases; holders = s.marks.holders; packets = s.marks.packets; to_port = s.marks.to_port };
   sending = s.sending;
 }
+
+-- a view but for what it has counted and found, and the cycle that was last
+abbrev pub bare : View → View
+bare v = record v { counts = []; given = 0; findings = [] }
+
+-- none of these is a part of what is shown of it
+pub bare-column : (count : ℕ) (c : Column) (m : RouterMarks) (v w : View) → bare v ≡ bare w → IsColumn count c m v → IsColumn count c m w
+bare-column count c m v w e s =
+    seen-column count c m w.counts w.given w.findings (bare w) (subst (λ (u : View). IsColumn count c m u) e (seen-column count c m [] 0 [] v s))
 
 -- the findings of a view are no part of what is shown of it
 same-column : (count : ℕ) (c : Column) (m : RouterMarks) (v w : View) → without_findings v ≡ without_findings w → IsColumn count c m w → IsColumn count c m v

@@ -1,5 +1,5 @@
 -- The heads of a router wait for what its frozen view routes them to.
-use Rattle.std.proofs.Common.{◌≡◌, ℕ, ◌/◌, ◌%◌, ◌^◌, ◌<◌, ◌≤◌, Bool, true, false, List, [], ◌∷◌, map, Option, Some, None, refl, ap, ap₂, sym, ◌∙◌, subst, arith}
+use Rattle.std.proofs.Common.{◌≡◌, ℕ, ◌/◌, ◌%◌, ◌^◌, ◌<◌, ◌≤◌, Bool, true, false, List, [], ◌∷◌, map, Option, Some, None, refl, ap, ap₂, sym, ◌∙◌, arith}
 use Rattle.std.specs.Prelude.{◌&&◌, not, slice_get, slice_index, if◌then◌else◌}
 use Rattle.std.proofs.lemmas.Bool.{false≢true, and_parts}
 use Rattle.std.proofs.lemmas.Nat.{pow_below}
@@ -36,9 +36,22 @@ module _ (relation : Routes) (frame : Frame) (v : View) (heads wanted all : ℕ)
       at : (flits : List Flit) → view_buffer v k ≡ flits → w.set k ≡ route_of relation v k
       at [] is = absurd (false≢true (sym (ap (λ (xs : List Flit). not (is_empty xs)) is) ∙ parts.1))
       at (f ∷ rest) is =
-          has.each k f (map flit_word rest) e (fits k f rest l is) (rings k l ∙ ap (map flit_word) is)
+          (has.each k f (map flit_word rest) e (fits k f rest l is) (rings k l ∙ ap (map flit_word) is)).0
           ∙ ap₂ (λ p c. set_at relation f.class v.site.node p c f.dst) (port k l) (vc k l)
           ∙ sym (ap (λ b. if b then route_for relation v k (first_flit v k) else 0) parts.0 ∙ ap (λ (xs : List Flit). route_for relation v k (first_of xs)) is)
+
+  -- the number of its packet
+  pub number-is : ((k : ℕ) (f : Flit) (rest : List Flit) → k < size_of v.site → view_buffer v k ≡ f ∷ rest → (view_input v k).packet ≡ Some f.packet)
+      → (k : ℕ) → k < size_of v.site → has_bit heads k ≡ true → (view_input v k).packet ≡ Some (w.packet k)
+  number-is firsts k l e = at (view_buffer v k) refl
+    where
+      some : not (is_empty (view_buffer v k)) ≡ true
+      some = (and_parts (is_idle_phase (view_input v k).phase) (not (is_empty (view_buffer v k))) (sym (is_head k l) ∙ e)).1
+
+      at : (flits : List Flit) → view_buffer v k ≡ flits → (view_input v k).packet ≡ Some (w.packet k)
+      at [] is = absurd (false≢true (sym (ap (λ (xs : List Flit). not (is_empty xs)) is) ∙ some))
+      at (f ∷ rest) is =
+          firsts k f rest l is ∙ ap Some (sym (has.each k f (map flit_word rest) e (fits k f rest l is) (rings k l ∙ ap (map flit_word) is)).1)
 
   -- and it is wanted, and a word
   pub phase-shows : (c : Column) → c.wanted ≡ all → IsRelation relation → width relation.grid relation.vcs ≤ 31 → (k : ℕ) → k < size_of v.site → has_bit heads k ≡ true → ShowsPhase c w v.site k (Waiting (route_of relation v k))

@@ -1,7 +1,7 @@
 -- Heads are routed one by one.
-use Rattle.std.proofs.Common.{◌≡◌, ◌≢◌, ℕ, ◌-◌, ◌^◌, ◌<◌, Bool, true, false, List, ◌∷◌, get_or, Option, Some, refl, ap, sym, ◌∙◌, subst, arith, inl, inr, bit_and, bit_or}
+use Rattle.std.proofs.Common.{◌≡◌, ◌≢◌, ℕ, ◌-◌, ◌^◌, ◌<◌, Bool, true, false, List, ◌∷◌, get_or, Some, refl, ap, sym, ◌∙◌, subst, inl, inr, bit_and, bit_or}
 use Rattle.std.specs.Prelude.{◌⊎◌, ◌&&◌, ◌||◌, not, nat_eq}
-use Rattle.std.proofs.lemmas.Bool.{cases_eq, eq-eqb, ne_eqb, false≢true, true≢false, and_parts}
+use Rattle.std.proofs.lemmas.Bool.{cases_eq, eq-eqb, ne_eqb, true≢false, and_parts}
 use Rattle.noc_packet.specs.Set.{has_bit, IsLeast}
 use Rattle.noc_packet.specs.declared.packet.Flit.{Flit}
 use Rattle.noc_packet.proofs.SetLemmas.{either_members, has_bit-zero}
@@ -13,56 +13,69 @@ use Rattle.noc_rows.proofs.AskedLemmas.{left-part, or-false, or-left, or-right, 
 use Rattle.noc_rows.proofs.EachLemmas.{left-members}
 use Rattle.noc_rows.proofs.PassLemmas.{power-members}
 
--- those of the heads that are not left wait, each for its set
-pub record AreRouted (heads : ℕ) (ring : ℕ → List ℕ) (sets : ℕ → Flit → ℕ) (old now : List ℕ) (wanted all left : ℕ) : Type 0 where
+-- those of the heads that are not left wait, each for its set, and have the numbers of their packets: from `old` and `was` to `now` and `named`
+pub record AreRouted (heads : ℕ) (ring : ℕ → List ℕ) (sets : ℕ → Flit → ℕ) (old now was named : List ℕ) (wanted all left : ℕ) : Type 0 where
   pub part : (k : ℕ) → has_bit left k ≡ true → has_bit heads k ≡ true
-  pub each : (k : ℕ) (f : Flit) (rest : List ℕ) → has_bit heads k ≡ true → has_bit left k ≡ false → FitsWord f → ring k ≡ flit_word f ∷ rest → get_or now k 0 ≡ sets k f
+  pub each : (k : ℕ) (f : Flit) (rest : List ℕ) → has_bit heads k ≡ true → has_bit left k ≡ false → FitsWord f → ring k ≡ flit_word f ∷ rest → (get_or now k 0 ≡ sets k f) × (get_or named k 0 ≡ f.packet)
   pub wants : (k o : ℕ) → has_bit heads k ≡ true → has_bit left k ≡ false → has_bit (get_or now k 0) o ≡ true → has_bit all o ≡ true
   pub still : (o : ℕ) → has_bit wanted o ≡ true → has_bit all o ≡ true
-  pub kept : (k : ℕ) → has_bit heads k ≡ false → get_or now k 0 ≡ get_or old k 0
+  pub kept : (k : ℕ) → has_bit heads k ≡ false → (get_or now k 0 ≡ get_or old k 0) × (get_or named k 0 ≡ get_or was k 0)
 
-module _ (heads : ℕ) (ring : ℕ → List ℕ) (sets : ℕ → Flit → ℕ) (old : List ℕ) (wanted : ℕ) where
-  pub routed-none : AreRouted heads ring sets old old wanted wanted heads
+module _ (heads : ℕ) (ring : ℕ → List ℕ) (sets : ℕ → Flit → ℕ) (old was : List ℕ) (wanted : ℕ) where
+  pub routed-none : AreRouted heads ring sets old old was was wanted wanted heads
   routed-none = record {
     part = λ k e. e;
     each = λ k f rest a b. absurd (true≢false (sym a ∙ b));
     wants = λ k o a b. absurd (true≢false (sym a ∙ b));
     still = λ o e. e;
-    kept = λ k e. refl;
+    kept = λ k e. (refl, refl);
   }
 
-  pub routed-next : (now new : List ℕ) (all left t set : ℕ) → 0 < left → left < 2 ^ 32 → IsLeast (has_bit left) (Some t) → AreRouted heads ring sets old now wanted all left
-      → ((f : Flit) (rest : List ℕ) → FitsWord f → ring t ≡ flit_word f ∷ rest → set ≡ sets t f)
-      → get_or new t 0 ≡ set → ((k : ℕ) → k ≢ t → get_or new k 0 ≡ get_or now k 0) → AreRouted heads ring sets old new wanted (bit_or all set) (bit_and left (left - 1))
-  routed-next now new all left t set some fits least are is here others = record {
+  pub routed-next : (now new named noted : List ℕ) (all left t set number : ℕ) → 0 < left → left < 2 ^ 32 → IsLeast (has_bit left) (Some t) → AreRouted heads ring sets old now was named wanted all left
+      → ((f : Flit) (rest : List ℕ) → FitsWord f → ring t ≡ flit_word f ∷ rest → (set ≡ sets t f) × (number ≡ f.packet))
+      → (get_or new t 0 ≡ set) × (get_or noted t 0 ≡ number) → ((k : ℕ) → k ≢ t → (get_or new k 0 ≡ get_or now k 0) × (get_or noted k 0 ≡ get_or named k 0))
+      → AreRouted heads ring sets old new was noted wanted (bit_or all set) (bit_and left (left - 1))
+  routed-next now new named noted all left t set number some fits least are is here others = record {
     part = left-part heads left t some fits least are.part;
     each = λ k f rest a b. each k f rest a b (cases_eq k t);
     wants = λ k o a b e. wants k o a b e (cases_eq k t);
     still = λ o e. either_members all set o ∙ or-left (has_bit all o) (has_bit set o) (are.still o e);
-    kept = λ k e. others k (λ same. true≢false (sym (are.part t least.0) ∙ ap (has_bit heads) (sym same) ∙ e)) ∙ are.kept k e;
+    kept = λ k e.
+        let same = others k (λ same. true≢false (sym (are.part t least.0) ∙ ap (has_bit heads) (sym same) ∙ e)) in
+        let had = are.kept k e in
+        (same.0 ∙ had.0, same.1 ∙ had.1);
   }
     where
-      was : (k : ℕ) → k ≢ t → has_bit (bit_and left (left - 1)) k ≡ false → has_bit left k ≡ false
-      was k other e = sym (and-true (has_bit left k)) ∙ ap (λ b. has_bit left k && not b) (sym (ne_eqb k t other)) ∙ sym (left-members left t k some fits least) ∙ e
+      left-before : (k : ℕ) → k ≢ t → has_bit (bit_and left (left - 1)) k ≡ false → has_bit left k ≡ false
+      left-before k other e = sym (and-true (has_bit left k)) ∙ ap (λ b. has_bit left k && not b) (sym (ne_eqb k t other)) ∙ sym (left-members left t k some fits least) ∙ e
         where
           and-true : (b : Bool) → (b && true) ≡ b
           and-true true = refl
           and-true false = refl
 
-      each : (k : ℕ) (f : Flit) (rest : List ℕ) → has_bit heads k ≡ true → has_bit (bit_and left (left - 1)) k ≡ false → (k ≡ t) ⊎ (k ≢ t) → FitsWord f → ring k ≡ flit_word f ∷ rest → get_or new k 0 ≡ sets k f
-      each k f rest a b (inl same) word_fits first = ap (λ n. get_or new n 0) same ∙ here ∙ is f rest word_fits (ap ring (sym same) ∙ first) ∙ ap (λ n. sets n f) (sym same)
-      each k f rest a b (inr other) word_fits first = others k other ∙ are.each k f rest a (was k other b) word_fits first
+      each : (k : ℕ) (f : Flit) (rest : List ℕ) → has_bit heads k ≡ true → has_bit (bit_and left (left - 1)) k ≡ false → (k ≡ t) ⊎ (k ≢ t) → FitsWord f → ring k ≡ flit_word f ∷ rest
+          → (get_or new k 0 ≡ sets k f) × (get_or noted k 0 ≡ f.packet)
+      each k f rest a b (inl same) word_fits first =
+          let head = is f rest word_fits (ap ring (sym same) ∙ first) in
+          (ap (λ n. get_or new n 0) same ∙ here.0 ∙ head.0 ∙ ap (λ n. sets n f) (sym same), ap (λ n. get_or noted n 0) same ∙ here.1 ∙ head.1)
+      each k f rest a b (inr other) word_fits first =
+          let same = others k other in
+          let had = are.each k f rest a (left-before k other b) word_fits first in
+          (same.0 ∙ had.0, same.1 ∙ had.1)
 
       wants : (k o : ℕ) → has_bit heads k ≡ true → has_bit (bit_and left (left - 1)) k ≡ false → has_bit (get_or new k 0) o ≡ true → (k ≡ t) ⊎ (k ≢ t) → has_bit (bit_or all set) o ≡ true
-      wants k o a b e (inl same) = either_members all set o ∙ or-right (has_bit all o) (has_bit set o) (ap (λ n. has_bit n o) (sym here ∙ ap (λ n. get_or new n 0) (sym same)) ∙ e)
-      wants k o a b e (inr other) = either_members all set o ∙ or-left (has_bit all o) (has_bit set o) (are.wants k o a (was k other b) (ap (λ n. has_bit n o) (sym (others k other)) ∙ e))
+      wants k o a b e (inl same) = either_members all set o ∙ or-right (has_bit all o) (has_bit set o) (ap (λ n. has_bit n o) (sym here.0 ∙ ap (λ n. get_or new n 0) (sym same)) ∙ e)
+      wants k o a b e (inr other) = either_members all set o ∙ or-left (has_bit all o) (has_bit set o) (are.wants k o a (left-before k other b) (ap (λ n. has_bit n o) (sym (others k other).0) ∙ e))
 
-  pub routed-all : (m : RouterMarks) (new : List ℕ) (all left : ℕ) → left ≡ 0 → m.set ≡ (λ k. get_or old k 0) → AreRouted heads ring sets old new wanted all left → HasRouted heads ring sets m (record m { set = λ k. get_or new k 0 }) wanted all
-  routed-all m new all left none is are = record {
+  pub routed-all : (m : RouterMarks) (new noted : List ℕ) (all left : ℕ) → left ≡ 0 → m.set ≡ (λ k. get_or old k 0) → m.packet ≡ (λ k. get_or was k 0) → AreRouted heads ring sets old new was noted wanted all left
+      → HasRouted heads ring sets m (record m { set = λ k. get_or new k 0; packet = λ k. get_or noted k 0 }) wanted all
+  routed-all m new noted all left none is numbers are = record {
     each = λ k f rest a. are.each k f rest a (empty k);
     wants = λ k o a. are.wants k o a (empty k);
     still = are.still;
-    kept = λ k e. are.kept k e ∙ sym (ap (λ (s : ℕ → ℕ). s k) is);
+    kept = λ k e.
+        let had = are.kept k e in
+        (had.0 ∙ sym (ap (λ (s : ℕ → ℕ). s k) is), had.1 ∙ sym (ap (λ (s : ℕ → ℕ). s k) numbers));
     rest = refl;
   }
     where

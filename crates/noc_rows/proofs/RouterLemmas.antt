@@ -1,10 +1,10 @@
 -- What a router of a block has by channel and by port, after one entry is written.
-use Rattle.std.proofs.Common.{◌≡◌, ◌≢◌, ℕ, ◌+◌, ◌*◌, ◌<◌, ◌≤◌, List, [], length, get_or, set, refl, ap, sym, ◌∙◌, arith, inl, inr, get_or-set_other, get_or-set_same}
-use Rattle.std.specs.Prelude.{◌⊎◌, slice_index_or}
+use Rattle.std.proofs.Common.{◌≡◌, ◌≢◌, ℕ, ◌+◌, ◌*◌, ◌<◌, ◌≤◌, List, [], length, get_or, set, ap, sym, ◌∙◌, arith, inl, inr, get_or-set_other, get_or-set_same}
+use Rattle.std.specs.Prelude.{◌⊎◌}
 use Rattle.std.proofs.lemmas.Bool.{cases_eq, cases_lt}
 use Rattle.std.proofs.lemmas.List.{get_or_past}
 use Rattle.noc_topo.proofs.WordLemmas.{get_or-tabulate, length-tabulate, tabulate-from_each}
-use Rattle.noc_rows.specs.Rows.{of_router, by_port, word}
+use Rattle.noc_rows.specs.Rows.{of_router, by_port}
 
 pub entry-at : (xs : List ℕ) (j k : ℕ) → k < 32 → get_or (of_router xs j) k 0 ≡ get_or xs (j * 32 + k) 0
 entry-at xs j k l = get_or-tabulate 32 k (λ i. get_or xs (j * 32 + i) 0) 0 l

@@ -259,7 +259,7 @@ column-put count c m relation v beats n is = record {
     len_below = is.channels.len_below;
   };
   turns = record { inputs = is.turns.inputs; channels = is.turns.channels; outputs = is.turns.outputs };
-  marks = record { phases = is.marks.phases; holders = is.marks.holders; to_port = is.marks.to_port };
+  marks = record { phases = is.marks.phases; holders = is.marks.holders; packets = is.marks.packets; to_port = is.marks.to_port };
   sending = sending-same c c (view_after_commit (decisions_of relation (view_after_inject n (view_after_takes relation beats v))) (view_after_inject n (view_after_takes relation beats v)))
       (local_step relation v beats n).0 refl (refl {a = (view_after_commit (decisions_of relation (view_after_inject n (view_after_takes relation beats v))) (view_after_inject n
       (view_after_takes relation beats v))).site}) (view_after_commit (decisions_of relation (view_after_inject n (view_after_takes relation beats v))) (view_after_inject n

@@ -1,6 +1,6 @@
 -- What was decided in a cycle takes effect: the words of a router show its view after its verdicts.
-use Rattle.std.proofs.Common.{◌≡◌, ℕ, ◌*◌, ◌/◌, ◌^◌, ◌<◌, ◌≤◌, Bool, true, false, List, Option, Some, None, refl, ap, sym, ◌∙◌, subst, arith, inl, inr, bit_or, mul-le-mul_right}
-use Rattle.std.specs.Prelude.{◌⊎◌, ◌&&◌, nat_le, nat_lt, slice_index, if◌then◌else◌}
+use Rattle.std.proofs.Common.{◌≡◌, ℕ, ◌*◌, ◌/◌, ◌<◌, ◌≤◌, Bool, true, false, List, Option, Some, None, refl, ap, sym, ◌∙◌, subst, arith, inl, inr, mul-le-mul_right}
+use Rattle.std.specs.Prelude.{◌⊎◌, nat_le, nat_lt, if◌then◌else◌}
 use Rattle.std.proofs.lemmas.Bool.{and_parts, ltb-true}
 use Rattle.std.proofs.lemmas.Nat.{div_below}
 use Rattle.noc_topo.specs.Shape.{local_port, ports}
@@ -13,7 +13,6 @@ use Rattle.noc_router.specs.Arrivals.{is_expected_in, arrivals_after}
 use Rattle.noc_router.specs.Members.{AreBelow}
 use Rattle.noc_router.specs.Verdict.{arbiters_after}
 use Rattle.noc_router.specs.View.{View, Decisions, size_of, view_round, decisions_of, view_after_commit, with_arrival, with_misfit, tail_packet, flit_out, view_after_inject, view_after_takes, local_step}
-use Rattle.noc_rows.specs.Bits.{less}
 use Rattle.noc_rows.specs.Column.{Column, IsColumn, RouterMarks, ShowsMarks}
 use Rattle.noc_rows.specs.Cycle.{HasSwitched, Surroundings, single_in}
 use Rattle.noc_rows.specs.Grants.{Allocation}
@@ -25,7 +24,6 @@ use Rattle.noc_rows.specs.declared.block.Source.{Source}
 use Rattle.noc_rows.specs.declared.frame.Frame.{Frame}
 use Rattle.noc_rows.specs.declared.starts.Start.{Start}
 use Rattle.noc_rows.proofs.ChosenLaws.{IsStill, ShowsChosen}
-use Rattle.noc_rows.proofs.DecideLemmas.{HasTurns}
 use Rattle.noc_rows.proofs.FateLaws.{dry, says-supplied}
 use Rattle.noc_rows.proofs.MarkedLaws.{marks-after}
 use Rattle.noc_rows.proofs.MoveLaws.{turns-after}

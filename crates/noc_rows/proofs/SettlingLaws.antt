@@ -1,13 +1,13 @@
 -- What grants, routes and moves have decided of a router, as the passes that take effect rest on it.
-use Rattle.std.proofs.Common.{◌≡◌, ◌≢◌, ℕ, zero, suc, ◌*◌, ◌/◌, ◌^◌, ◌<◌, ◌≤◌, Bool, true, false, List, [], ◌∷◌, Option, Some, None, IfSome, refl, ap, ap₂, sym, ◌∙◌, subst, arith, inl, inr, bit_or, mul-le-mul_right}
-use Rattle.std.specs.Prelude.{◌⊎◌, ◌&&◌, ◌||◌, not, is_some, nat_eq, nat_le, nat_lt, slice_get, slice_index, slice_index_or, if◌then◌else◌}
+use Rattle.std.proofs.Common.{◌≡◌, ◌≢◌, ℕ, zero, suc, ◌*◌, ◌^◌, ◌<◌, ◌≤◌, Bool, true, false, List, [], ◌∷◌, Option, Some, None, IfSome, refl, ap, sym, ◌∙◌, subst, arith, inl, inr, bit_or}
+use Rattle.std.specs.Prelude.{◌⊎◌, ◌&&◌, ◌||◌, not, is_some, nat_eq, nat_le, nat_lt, slice_get, slice_index_or, if◌then◌else◌}
 use Rattle.std.specs.Int.{trailing_zeros, w32}
 use Rattle.std.proofs.lemmas.Bool.{cases_eq, cases_lt, eq-eqb, ne_eqb, eqb-true, le-leb, lt-leb, lt-ltb, le-ltb, true≢false, false≢true, and_parts}
 use Rattle.noc_topo.specs.Words.{is_some_of}
 use Rattle.noc_topo.specs.Shape.{local_port, ports}
 use Rattle.noc_packet.specs.Set.{has_bit}
 use Rattle.noc_packet.specs.declared.packet.Flit.{Flit}
-use Rattle.noc_packet.proofs.SetLemmas.{either_members, has_bit-zero}
+use Rattle.noc_packet.proofs.SetLemmas.{has_bit-zero}
 use Rattle.noc_alloc.specs.Arbiter.{arbiter_at}
 use Rattle.noc_alloc.proofs.ArbiterLemmas.{first_in_turn-picks}
 use Rattle.noc_route.specs.Routes.{Routes}
@@ -21,23 +21,22 @@ use Rattle.noc_router.specs.Members.{AreBelow}
 use Rattle.noc_router.specs.Requests.{is_given}
 use Rattle.noc_router.specs.Sound.{is_owned_from, is_supplied, owns}
 use Rattle.noc_router.specs.Verdict.{ask_of}
-use Rattle.noc_router.specs.View.{View, size_of, view_buffer, view_claim, claim_in, view_input, view_output, view_round, asked_for, first_flit, is_tail, mover_to}
+use Rattle.noc_router.specs.View.{View, size_of, view_buffer, view_claim, claim_in, view_input, view_output, view_round, first_flit, is_tail, mover_to}
 use Rattle.noc_router.proofs.FindLemmas.{find-some}
 use Rattle.noc_rows.specs.Column.{Column, IsColumn, RouterMarks, is_draining}
 use Rattle.noc_rows.specs.Cycle.{HasSwitched, Surroundings, chosen_by, single_in}
 use Rattle.noc_rows.specs.Grants.{Allocation}
-use Rattle.noc_rows.specs.Moves.{of_one, ports_of, rest_from, some_below, union_from}
+use Rattle.noc_rows.specs.Moves.{of_one, ports_of, rest_from, some_below}
 use Rattle.noc_rows.specs.Passes.{Effects, lane_heads, lane_picked}
-use Rattle.noc_rows.specs.Bits.{less}
 use Rattle.noc_rows.specs.declared.frame.Frame.{Frame}
 use Rattle.noc_rows.proofs.AllocateLaws.{grants-at}
 use Rattle.noc_rows.proofs.BitLemmas.{less_fits, or_fits}
 use Rattle.noc_rows.proofs.ChosenLaws.{IsStill, ShowsChosen}
 use Rattle.noc_rows.proofs.DecideLemmas.{AreDecided}
-use Rattle.noc_rows.proofs.MoveLaws.{IsTaken, freed-is, left-is, taken-is}
+use Rattle.noc_rows.proofs.MoveLaws.{freed-is, left-is, taken-is}
 use Rattle.noc_rows.proofs.PassLemmas.{power-members}
-use Rattle.noc_rows.proofs.SettleLemmas.{AreEffects, SaysOut, is_tail_by}
-use Rattle.noc_rows.proofs.SwitchedLaws.{Sender, chosen-picked, mover-from, moved-below, moved-picked, moved-won, moving, picked-below, picked-is, small, some-found, taken-shows, union-same}
+use Rattle.noc_rows.proofs.SettleLemmas.{AreEffects, SaysOut}
+use Rattle.noc_rows.proofs.SwitchedLaws.{chosen-picked, mover-from, moved-below, moved-picked, moved-won, moving, picked-is, small, some-found, taken-shows, union-same}
 use Rattle.noc_rows.proofs.UnionLemmas.{union-members}
 
 some-of : (o : Option ℕ) (n : ℕ) → is_some_of o n ≡ true → o ≡ Some n

@@ -1,12 +1,10 @@
 -- A router in which nothing is held, to which nothing comes, and whose next packet is not due: it stays as it is.
-use Rattle.std.proofs.Common.{◌≡◌, ℕ, suc, ◌+◌, ◌-◌, ◌*◌, ◌<◌, ◌≤◌, true, false, cond, List, [], ◌∷◌, map, length, get_or, Option, Some, None, refl, ap, sym, ◌∙◌, inl, inr, subst, arith}
+use Rattle.std.proofs.Common.{◌≡◌, ℕ, suc, ◌+◌, ◌-◌, ◌*◌, ◌<◌, ◌≤◌, true, false, cond, List, [], ◌∷◌, map, Option, Some, None, refl, ap, sym, ◌∙◌, inl, inr, subst, arith}
 use Rattle.std.specs.Prelude.{◌⊎◌, ◌&&◌, not, nat_le, nat_lt, if◌then◌else◌}
 use Rattle.std.specs.List.{All}
 use Rattle.std.proofs.lemmas.Bool.{false≢true, le-ltb, lt-leb, or_left, or_cases}
-use Rattle.std.proofs.lemmas.List.{length-map, get_or-map, get_or_default}
 use Rattle.noc_topo.specs.Words.{Has, tabulate, map_indexed}
 use Rattle.noc_topo.specs.Shape.{nodes, distance}
-use Rattle.noc_topo.proofs.WordLemmas.{get_or-tabulate, length-tabulate}
 use Rattle.noc_packet.specs.Packet.{flit_at}
 use Rattle.noc_packet.specs.declared.packet.Packet.{Packet}
 use Rattle.noc_packet.specs.declared.packet.Flit.{Flit}
@@ -22,12 +20,11 @@ use Rattle.noc_router.specs.View.{Site, View, size_of, view_buffer, view_input, 
 use Rattle.noc_router.proofs.VacantLemmas.{vacant-committed, no_event}
 use Rattle.noc_model.specs.declared.limits.TheConstants.{CYCLE_LIMIT}
 use Rattle.noc_model.specs.Good.{IsGoodSetup}
-use Rattle.noc_model.specs.Halves.{IsSilent, beat_at}
+use Rattle.noc_model.specs.Halves.{IsSilent}
 use Rattle.noc_model.specs.Lockstep.{beats_at, beats_in, seen_flits, seen_input, seen_phase_with, has_come, view_at, view_in}
 use Rattle.noc_model.specs.Network.{Setup, State, Located, Place, Source, On, In, Out, size, arriving, packet_at, place_of_flit, tail_place, is_in, is_past, has_channel, next_channel, buffer_of, state_at}
 use Rattle.noc_model.specs.Progress.{weight, hops, head_place}
-use Rattle.noc_model.specs.Unseen.{AreInStepUnseen, without_findings}
-use Rattle.noc_model.proofs.StillRun.{still-wait}
+use Rattle.noc_model.specs.Unseen.{without_findings}
 use Rattle.noc_model.proofs.BufferLemmas.{same_channel-refl}
 use Rattle.noc_model.proofs.OwnedLemmas.{owner-has}
 use Rattle.noc_model.proofs.PathLemmas.{IsEject}
@@ -39,10 +36,9 @@ use Rattle.noc_model.proofs.ComeLemmas.{come-before}
 use Rattle.noc_model.proofs.Ordered.{IsGood, IsOrdered}
 use Rattle.noc_model.proofs.OrderedStates.{ordered-state}
 use Rattle.noc_model.proofs.PlaceViews.{IsAt, arriving-at, not-eject}
-use Rattle.noc_model.proofs.Theorem.{lockstep-is_state}
 use Rattle.noc_model.proofs.ViewLemmas.{view_at-seen}
-use Rattle.noc_model.specs.Seen.{AreSeen}
 use Rattle.noc_rows.proofs.NetworkLaws.{good, beats, next-count}
+use Rattle.noc_rows.proofs.StillLaws.{all-still, still-silent}
 
 -- ---- at the start of a cycle a channel that is idle has no flit
 
@@ -172,51 +168,11 @@ module _ (net : Setup) (setup : IsGoodSetup net) where
   -- where all routers sleep up to a cycle and nothing is in flight, each waits: its counts of Empty rise, and nothing else changes
   module _ (n end : ℕ) (less : n < end) (limit : end ≤ CYCLE_LIMIT) (asleep : (r : ℕ) → r < nodes net.relation.grid → IsAsleep end (view_at net n r))
       (silent : (r : ℕ) → r < nodes net.relation.grid → IsSilent (beats_at (beats_in net (state_at net n)) r)) where
-    abbrev views : List View
-    views = tabulate (nodes net.relation.grid) (view_at net n)
-
-    abbrev w : View → View
-    w = view_after_waiting net.relation (end - n) (end - 1)
-
-    many : length views ≡ nodes net.relation.grid
-    many = length-tabulate (nodes net.relation.grid) (view_at net n)
-
-    now : AreSeen net n
-    now = lockstep-is_state net setup n (omega (arith, less, limit))
-
-    then_seen : AreSeen net end
-    then_seen = lockstep-is_state net setup end limit
-
-    in_step : AreInStepUnseen net n views (beats_in net (state_at net n))
-    in_step = record { views = ap (map without_findings) (sym now.views); wires = λ s port. ap (λ ws. beat_at ws s port) (sym now.wires) }
-
-    each : (P : View → Type 0) → ((s : ℕ) → s < nodes net.relation.grid → P (view_at net n s)) → All P views
-    each P all s d u = let low : s < nodes net.relation.grid = omega (arith, u, many) in subst P (sym (get_or-tabulate (nodes net.relation.grid) s (view_at net n) d low)) (all s low)
-
-    rows : length (beats_in net (state_at net n)) ≡ nodes net.relation.grid
-    unfolding beats_in
-    rows = length-tabulate (nodes net.relation.grid) _
-
-    quiet : All IsSilent (beats_in net (state_at net n))
-    quiet s d u =
-        let low : s < nodes net.relation.grid = omega (arith, u, rows) in
-        subst IsSilent (get_or_default (beats_in net (state_at net n)) s [] d u) (silent s low)
-
-    waits : AreInStepUnseen net end (map w views) (beats_in net (state_at net n))
-    waits =
-        still-wait net n end views (beats_in net (state_at net n)) less in_step quiet rows
-        (each (λ v. takes_effect net.relation v ≡ false) (λ s low. no_event (view_at net n s) (vacant n s low end (asleep s low)) net.relation))
-        (each (IsHeldBefore end) (λ s low. asleep-held end (view_at net n s) (asleep s low)))
+    effect : (s : ℕ) → s < nodes net.relation.grid → takes_effect net.relation (view_at net n s) ≡ false
+    effect s low = no_event (view_at net n s) (vacant n s low end (asleep s low)) net.relation
 
     pub all-asleep : (r : ℕ) → r < nodes net.relation.grid → without_findings (view_at net end r) ≡ without_findings (view_after_waiting net.relation (end - n) (end - 1) (view_at net n r))
-    all-asleep r l =
-        let more : length (map w views) ≡ nodes net.relation.grid = length-map views w ∙ many in
-        let later : length (tabulate (nodes net.relation.grid) (view_at net end)) ≡ nodes net.relation.grid = length-tabulate (nodes net.relation.grid) (view_at net end) in
-        let d : View = w (view_at net n r) in
-        sym (get_or-map without_findings (tabulate (nodes net.relation.grid) (view_at net end)) r d (without_findings d) (omega (arith, l, later)) ∙ ap without_findings (get_or-tabulate (nodes net.relation.grid) r (view_at net end) d l))
-        ∙ ap (λ vs. get_or vs r (without_findings d)) (sym (waits.views ∙ ap (map without_findings) then_seen.views))
-        ∙ get_or-map without_findings (map w views) r d (without_findings d) (omega (arith, l, more))
-        ∙ ap without_findings (get_or-map w views r (view_at net n r) d (omega (arith, l, many)) ∙ ap w (get_or-tabulate (nodes net.relation.grid) r (view_at net n) (view_at net n r) l))
+    all-asleep = all-still net setup n end less limit effect (λ s low. asleep-held end (view_at net n s) (asleep s low)) silent
 
-    pub still-silent : (r : ℕ) → r < nodes net.relation.grid → IsSilent (beats_at (beats_in net (state_at net end)) r)
-    still-silent r l port = ap (λ ws. beat_at ws r port) (sym then_seen.wires) ∙ sym (waits.wires r port) ∙ silent r l port
+    pub asleep-silent : (r : ℕ) → r < nodes net.relation.grid → IsSilent (beats_at (beats_in net (state_at net end)) r)
+    asleep-silent = still-silent net setup n end less limit effect (λ s low. asleep-held end (view_at net n s) (asleep s low)) silent

@@ -1,5 +1,5 @@
 -- What a pass makes of a block is what its parts make of it.
-use Rattle.std.proofs.Common.{◌≡◌, ℕ, ◌<◌, Bool, List, refl, ap, sym, ◌∙◌, subst}
+use Rattle.std.proofs.Common.{◌≡◌, ℕ, ◌<◌, List, ap, sym, subst}
 use Rattle.std.specs.Prelude.{nat_eq, not}
 use Rattle.noc_packet.specs.Set.{has_bit}
 use Rattle.noc_rows.specs.Arrive.{HasArrived}

@@ -34,7 +34,7 @@ use Rattle.noc_rows.specs.declared.sheet.VerdictCounts.{VerdictCounts}
 use Rattle.noc_rows.specs.declared.starts.Start.{Start}
 use Rattle.noc_rows.proofs.NetworkLaws.{beats}
 use Rattle.noc_rows.proofs.RestLaws.{column-stays, columns-stay, words-asleep, words-silent}
-use Rattle.noc_rows.proofs.SleepLaws.{IsAsleep, IsDueFrom, all-asleep, asleep-stays, still-silent, vacant}
+use Rattle.noc_rows.proofs.SleepLaws.{IsAsleep, IsDueFrom, all-asleep, asleep-silent, asleep-stays, vacant}
 use Rattle.noc_rows.proofs.WireLaws.{credit-at, flit-at}
 
 -- ---- by the words, whether a router sleeps
@@ -60,7 +60,7 @@ asleep-shown starts cycles end w v row shows none due =
 
 -- ---- what shows a view shows one with the same queue, wires or counts
 
-source-same : (starts : List Start) (s : Source) (v w : View) → w.queue ≡ v.queue → w.sending ≡ v.sending → ShowsSource starts s v → ShowsSource starts s w
+pub source-same : (starts : List Start) (s : Source) (v w : View) → w.queue ≡ v.queue → w.sending ≡ v.sending → ShowsSource starts s v → ShowsSource starts s w
 source-same starts s v w queue sending x = record {
   few = x.few;
   due = x.due ∙ ap due_of (sym queue);
@@ -76,7 +76,7 @@ silent-credit : (vcs : ℕ) (row : List Beat) (o : ℕ) → IsSilent row → cre
 silent-credit vcs row o silent = credit-at vcs 0 row o (omega arith) ∙ ap (λ (b : Beat). is_some_of b.credit (o % vcs)) (silent (o / vcs - 0))
 
 -- words that show wires with nothing on them
-wires-same : (v w : View) (flits credits : ℕ) (ring : ℕ → List ℕ) (row later : List Beat) → w.site ≡ v.site → w.buffers ≡ v.buffers → IsSilent row → IsSilent later
+pub wires-same : (v w : View) (flits credits : ℕ) (ring : ℕ → List ℕ) (row later : List Beat) → w.site ≡ v.site → w.buffers ≡ v.buffers → IsSilent row → IsSilent later
     → ShowsWires v flits credits ring row → ShowsWires w flits credits ring later
 wires-same v w flits credits ring row later site buffers now still x = record {
   comes = λ i l. x.comes i (within i l) ∙ ap is_some (silent-flit v.site.vcs row i now ∙ sym (silent-flit w.site.vcs later i still));
@@ -126,7 +126,8 @@ counts-same k n end counts routed granted lost v w sums small many site same x i
     )
 
 module _ (net : Setup) (setup : IsGoodSetup net) where
-  counts-many : (n r : ℕ) → length (view_at net n r).counts ≡ size_of (view_at net n r).site
+  -- it counts each of its channels
+  pub counts-many : (n r : ℕ) → length (view_at net n r).counts ≡ size_of (view_at net n r).site
   unfolding view_at view_in
   counts-many n r = length-tabulate (size net) (counts_before net n r)
 
@@ -195,7 +196,7 @@ module _ (net : Setup) (setup : IsGoodSetup net) where
     all-stay starts w shows = record {
       column = columns-stay net setup 5 n end less limit asleep silent r l w.column w.marks shows.column;
       wires = wires-same (view_at net n r) (view_at net end r) w.flits w.credits w.ring (beats_at (beats_in net (state_at net n)) r) (beats_at (beats_in net (state_at net end)) r)
-          same-site same-buffers (silent r l) (still-silent net setup n end less limit asleep silent r l) shows.wires;
+          same-site same-buffers (silent r l) (asleep-silent net setup n end less limit asleep silent r l) shows.wires;
       source = source-same starts w.source (view_at net n r) (view_at net end r) same-queue.0 same-queue.1 shows.source;
       counts = counts-same (end - n) n end w.counts w.routed w.granted w.lost (view_at net n r) (view_at net end r) (omega (arith, less)) (omega (arith, limit)) (counts-many n r)
           same-site same-counts shows.counts;

@@ -1,6 +1,6 @@
 -- Rows after one cycle, and after cycles in which nothing happens.
-use Rattle.std.proofs.Common.{◌≡◌, ◌≢◌, ℕ, zero, suc, ◌+◌, ◌*◌, ◌/◌, ◌^◌, ◌<◌, ◌≤◌, Bool, true, false, List, length, Some, refl, ap, sym, ◌∙◌, subst, arith, slice_get, Vec, Global}
-use Rattle.std.specs.Prelude.{◌||◌, if◌then◌else◌, nat_le, slice_index, slice_index_or}
+use Rattle.std.proofs.Common.{◌≡◌, ℕ, zero, suc, ◌+◌, ◌<◌, ◌≤◌, Bool, true, false, List, length, Some, refl, ap, sym, ◌∙◌, subst, arith, slice_get, Vec, Global}
+use Rattle.std.specs.Prelude.{◌||◌, if◌then◌else◌, slice_index}
 use Rattle.std.proofs.lemmas.Option.{get_or_from_slice_get, same_Some, slice_get_within}
 use Rattle.noc_topo.specs.Shape.{nodes}
 use Rattle.noc_packet.specs.Set.{has_bit}
@@ -216,7 +216,7 @@ module _ (net : Setup) (setup : IsGoodSetup net) (n : ℕ) (few : n < CYCLE_LIMI
   kept : KeepsWires start end
   kept = all-kept net.relation rows.frame n frozen moved start end decided
 
-  pub step-rows : (after : Rows) (busy : List Bool) → after ≡ record rows { blocks = after.blocks; sheets = after.sheets; wires = after.wires; cycle = after.cycle }
+  pub step-rows : (after : Rows) (busy : List Bool) → after ≡ record rows { blocks = after.blocks; sheets = after.sheets; wires = after.wires; cycle = after.cycle; found = after.found }
       → after.blocks.items ≡ last → after.sheets.items ≡ sheets → after.wires ≡ record end { busy = after.wires.busy } → after.wires.busy.items ≡ busy → length busy ≡ length end.busy.items
       → ((b : ℕ) → b < length end.busy.items → b < 32 → slice_get busy b ≡ Some (has_bit near b)) → after.cycle ≡ suc n → IsRows net (suc n) after
   step-rows after busy after_is blocks sheets_is wires_are busy_is busy_long noted cycle = record {

@@ -1,33 +1,28 @@
 -- What the flits that move in a cycle make of the wires of all blocks.
-use Rattle.std.proofs.Common.{◌≡◌, ℕ, suc, ◌+◌, ◌*◌, ◌^◌, ◌<◌, ◌≤◌, Bool, true, false, List, length, Some, refl, ap, sym, ◌∙◌, subst, arith}
-use Rattle.std.specs.Prelude.{min, slice_get, slice_index}
+use Rattle.std.proofs.Common.{◌≡◌, ℕ, suc, ◌+◌, ◌*◌, ◌<◌, ◌≤◌, Bool, true, false, length, Some, refl, ap, sym, ◌∙◌, subst, arith}
+use Rattle.std.specs.Prelude.{slice_get, slice_index}
 use Rattle.std.proofs.lemmas.Option.{same_Some, slice_get_within}
 use Rattle.noc_topo.specs.Shape.{nodes}
-use Rattle.noc_packet.specs.Set.{has_bit}
 use Rattle.noc_model.specs.declared.limits.TheConstants.{CYCLE_LIMIT}
 use Rattle.noc_model.specs.Good.{IsGoodSetup}
 use Rattle.noc_model.specs.Network.{Setup, arrival_in, state_at}
 use Rattle.noc_rows.specs.Decided.{HasDecided}
-use Rattle.noc_rows.specs.Frames.{IsFrameOf}
 use Rattle.noc_rows.specs.Moves.{ports_of}
-use Rattle.noc_rows.specs.Stages.{HasFrozen}
-use Rattle.noc_rows.specs.Whole.{IsQuiet, IsRows, IsWoken, ShowsArrival, ShowsBlock}
+use Rattle.noc_rows.specs.Whole.{IsWoken, ShowsArrival, ShowsBlock}
 use Rattle.noc_rows.specs.Wires.{inbox_at, room_of}
 use Rattle.noc_rows.specs.declared.block.Block.{Block}
-use Rattle.noc_rows.specs.declared.marks.Marks.{Marks}
 use Rattle.noc_rows.specs.declared.rows.Rows.{Rows}
 use Rattle.noc_rows.specs.declared.sheet.Sheet.{Sheet}
-use Rattle.noc_rows.specs.declared.wires.Inbox.{Inbox}
 use Rattle.noc_rows.specs.declared.wires.Wires.{Wires}
 use Rattle.noc_rows.proofs.ArrivalLanes.{asleep-puts, awake-puts}
 use Rattle.noc_rows.proofs.ArrivalSteps.{PutsOut, arrival-next}
 use Rattle.noc_rows.proofs.BlockShows.{ShowsInbox}
-use Rattle.noc_rows.proofs.BlocksNext.{DecidesLanes, Rests}
+use Rattle.noc_rows.proofs.BlocksNext.{Rests}
 use Rattle.noc_rows.proofs.DecidedRests.{asleep-moves}
 use Rattle.noc_rows.proofs.DecidedWires.{OneBlock, block-decides, block-released, element, lanes-decided, moved-to, one-block, wires-decided}
 use Rattle.noc_rows.proofs.LaneRests.{lanes-rest}
 use Rattle.noc_rows.proofs.NetworkLaws.{good}
-use Rattle.noc_rows.proofs.StepLaws.{KeepsWires, all-kept, so-far-kept, woke-rests, woke-shows}
+use Rattle.noc_rows.proofs.StepLaws.{so-far-kept, woke-rests, woke-shows}
 use Rattle.noc_rows.proofs.StepParts.{IsStep, ShowsMoves}
 use Rattle.noc_rows.proofs.StepQuiet.{step-quiet}
 

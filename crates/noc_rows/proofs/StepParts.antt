@@ -1,18 +1,21 @@
 -- What a cycle of rows is made of, and that it shows the network at the next count.
-use Rattle.std.proofs.Common.{◌≡◌, ℕ, suc, ◌+◌, ◌^◌, ◌<◌, ◌≤◌, Bool, true, false, List, length, Some, refl, ap, sym, ◌∙◌, subst, arith, slice_get}
+use Rattle.std.proofs.Common.{Vec, Global, ◌≡◌, ℕ, suc, ◌+◌, ◌^◌, ◌<◌, ◌≤◌, true, false, List, length, Some, refl, ap, sym, ◌∙◌, subst, arith, slice_get}
 use Rattle.std.specs.Prelude.{slice_index}
 use Rattle.noc_packet.specs.Set.{has_bit}
 use Rattle.noc_model.specs.declared.limits.TheConstants.{CYCLE_LIMIT}
 use Rattle.noc_model.specs.Good.{IsGoodSetup}
 use Rattle.noc_model.specs.Network.{Setup, arrival_in, state_at}
+use Rattle.noc_router.specs.declared.verdict.Finding.{Finding}
 use Rattle.noc_rows.specs.Decided.{HasDecided}
 use Rattle.noc_rows.specs.Rows.{word}
-use Rattle.noc_rows.specs.Stages.{AreWoken, HaveConcluded, HaveDecided, HaveFrozen}
+use Rattle.noc_rows.specs.Stages.{HaveConcluded, HaveDecided, HaveFrozen}
+use Rattle.noc_rows.specs.Steps.{HasArrivedRows, HasConcludedRows, HasDecidedRows}
 use Rattle.noc_rows.specs.Whole.{IsQuiet, IsRows, IsWoken, ShowsArrival}
 use Rattle.noc_rows.specs.Wires.{inbox_at, room_of}
 use Rattle.noc_rows.specs.declared.block.Block.{Block}
+use Rattle.noc_rows.specs.declared.frame.Frame.{Frame}
 use Rattle.noc_rows.specs.declared.rows.Rows.{Rows}
-use Rattle.noc_rows.specs.declared.wires.Inbox.{Inbox}
+use Rattle.noc_rows.specs.declared.starts.Start.{Start}
 use Rattle.noc_rows.specs.declared.wires.Wires.{Wires}
 use Rattle.noc_rows.proofs.BlockShows.{ShowsInbox}
 use Rattle.noc_rows.proofs.BlocksNext.{DecidesLanes}
@@ -34,7 +37,79 @@ pub record IsStep (net : Setup) (n : ℕ) (old new : Rows) : Type 0 where
   pub flags : length new.wires.busy.items ≡ length end.busy.items
   pub wires : new.wires ≡ record end { busy = new.wires.busy }
   pub cycle : new.cycle ≡ suc n
-  pub rest : new ≡ record old { blocks = new.blocks; sheets = new.sheets; wires = new.wires; cycle = new.cycle }
+  pub rest : new ≡ record old { blocks = new.blocks; sheets = new.sheets; wires = new.wires; cycle = new.cycle; found = new.found }
+
+-- they are those that are told by their parts: from `old` to `arrived`, then to `decided` and to `new`, where what is found may be noted in between
+unfoldable pub whole-step : (net : Setup) (n : ℕ) (old arrived noted decided named new : Rows) → n < CYCLE_LIMIT → old.cycle ≡ n
+    → HasArrivedRows old arrived → noted ≡ record arrived { found = noted.found } → HasDecidedRows net.relation noted decided
+    → named ≡ record decided { found = named.found } → HasConcludedRows named new → IsStep net n old new
+whole-step net n old arrived noted decided named new few at_n arrives notes decides names concludes = record {
+  frozen = arrived.blocks.items;
+  moved = decided.blocks.items;
+  start = arrived.wires;
+  end = decided.wires;
+  near = concludes.near;
+  froze =
+      subst (λ m. HaveFrozen old.frame m (room_of old.wires.room) old.starts.items old.blocks.items arrived.blocks.items old.wires.inboxes.items
+      arrived.wires.inboxes.items) at_n arrives.froze;
+  start_is = arrives.wires;
+  decided =
+      subst (λ f. HaveDecided (HasDecided net.relation f n) arrived.blocks.items decided.blocks.items arrived.wires decided.wires) noted-frame
+      (subst (λ m. HaveDecided (HasDecided net.relation noted.frame m) arrived.blocks.items decided.blocks.items arrived.wires decided.wires) noted-cycle
+      (subst (λ (x : Vec Block Global). HaveDecided (HasDecided net.relation noted.frame noted.cycle) x.items decided.blocks.items arrived.wires decided.wires)
+      (ap (λ (x : Rows). x.blocks) notes)
+      (subst (λ (x : Wires). HaveDecided (HasDecided net.relation noted.frame noted.cycle) noted.blocks.items decided.blocks.items x decided.wires)
+      (ap (λ (x : Rows). x.wires) notes) decides.decided)));
+  fits = decides.fits;
+  concluded =
+      subst (λ f. HaveConcluded f n concludes.near decided.blocks.items new.blocks.items old.sheets.items new.sheets.items) named-frame
+      (subst (λ m. HaveConcluded named.frame m concludes.near decided.blocks.items new.blocks.items old.sheets.items new.sheets.items) named-cycle
+      (subst (λ xs. HaveConcluded named.frame named.cycle concludes.near decided.blocks.items new.blocks.items xs new.sheets.items) named-sheets
+      (subst (λ xs. HaveConcluded named.frame named.cycle concludes.near xs new.blocks.items named.sheets.items new.sheets.items)
+      (ap (λ (x : Rows). x.blocks.items) names) concludes.concluded)));
+  noted = λ b l small. concludes.noted b (subst (λ (w : Wires). b < length w.busy.items) (sym (ap (λ (x : Rows). x.wires) names)) l) small;
+  flags = concludes.flags ∙ ap (λ (x : Rows). length x.wires.busy.items) names;
+  wires = concludes.wires ∙ ap (λ (w : Wires). record w { busy = new.wires.busy }) (ap (λ (x : Rows). x.wires) names);
+  cycle = let c = concludes.cycle in let m = named-cycle in omega (arith, c, m, few);
+  rest =
+      concludes.rest
+      ∙ ap (λ f. made f named.starts named.found) named-frame
+      ∙ ap (λ t. made old.frame t named.found) named-starts
+      ∙ ap (made old.frame old.starts) (sym (ap (λ (x : Rows). x.found) concludes.rest));
+}
+  where
+    made : Frame → Vec Start Global → Vec Finding Global → Rows
+    made frame starts found = record {
+      frame = frame;
+      blocks = new.blocks;
+      sheets = new.sheets;
+      starts = starts;
+      wires = new.wires;
+      cycle = new.cycle;
+      found = found;
+    }
+
+    noted-frame : noted.frame ≡ old.frame
+    noted-frame = ap (λ (x : Rows). x.frame) notes ∙ ap (λ (x : Rows). x.frame) arrives.rest
+
+    noted-cycle : noted.cycle ≡ n
+    noted-cycle = ap (λ (x : Rows). x.cycle) notes ∙ ap (λ (x : Rows). x.cycle) arrives.rest ∙ at_n
+
+    named-frame : named.frame ≡ old.frame
+    named-frame = ap (λ (x : Rows). x.frame) names ∙ ap (λ (x : Rows). x.frame) decides.rest ∙ noted-frame
+
+    named-cycle : named.cycle ≡ n
+    named-cycle = ap (λ (x : Rows). x.cycle) names ∙ ap (λ (x : Rows). x.cycle) decides.rest ∙ noted-cycle
+
+    named-starts : named.starts ≡ old.starts
+    named-starts =
+        ap (λ (x : Rows). x.starts) names ∙ ap (λ (x : Rows). x.starts) decides.rest ∙ ap (λ (x : Rows). x.starts) notes
+        ∙ ap (λ (x : Rows). x.starts) arrives.rest
+
+    named-sheets : named.sheets.items ≡ old.sheets.items
+    named-sheets =
+        ap (λ (x : Rows). x.sheets.items) names ∙ ap (λ (x : Rows). x.sheets.items) decides.rest ∙ ap (λ (x : Rows). x.sheets.items) notes
+        ∙ ap (λ (x : Rows). x.sheets.items) arrives.rest
 
 -- what the flits that move make of the wires
 pub record ShowsMoves (net : Setup) (n : ℕ) (old new : Rows) (step : IsStep net n old new) : Type 0 where

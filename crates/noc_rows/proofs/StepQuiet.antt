@@ -1,8 +1,7 @@
 -- What a cycle leaves on the wires of blocks that are near to none that has moved a flit: nothing.
 use Rattle.std.proofs.Common.{◌≡◌, ℕ, suc, ◌+◌, ◌*◌, ◌/◌, ◌%◌, ◌^◌, ◌<◌, ◌≤◌, Bool, true, false, List, length, Some, refl, ap, sym, ◌∙◌, subst, arith}
-use Rattle.std.specs.Prelude.{◌&&◌, min, nat_lt, slice_get, slice_index}
-use Rattle.std.proofs.lemmas.Bool.{and_parts, false≢true, ltb-true, true≢false}
-use Rattle.std.proofs.lemmas.Nat.{div-add-mod'}
+use Rattle.std.specs.Prelude.{min, nat_lt, slice_get, slice_index}
+use Rattle.std.proofs.lemmas.Bool.{and_parts, ltb-true}
 use Rattle.std.proofs.lemmas.Option.{same_Some, slice_get_within}
 use Rattle.noc_topo.specs.Shape.{nodes}
 use Rattle.noc_packet.specs.Set.{has_bit}
@@ -18,7 +17,6 @@ use Rattle.noc_rows.specs.Moves.{ports_of, union_from}
 use Rattle.noc_rows.specs.Opened.{HasLinksOf}
 use Rattle.noc_rows.specs.Rows.{word}
 use Rattle.noc_rows.specs.Stages.{HasFrozen, HaveConcluded, HaveDecided, HaveFrozen, selected_of}
-use Rattle.noc_rows.specs.Switched.{in_words, selected_by_ports}
 use Rattle.noc_rows.specs.Whole.{IsQuiet, IsTarget, ShowsBlock}
 use Rattle.noc_rows.specs.Wires.{inbox_at, room_of}
 use Rattle.noc_rows.specs.declared.block.Block.{Block}
@@ -32,14 +30,14 @@ use Rattle.noc_rows.proofs.BlockShows.{ShowsInbox}
 use Rattle.noc_rows.proofs.BlocksNext.{DecidesLanes, Rests, blocks-next}
 use Rattle.noc_rows.proofs.DecidedLanes.{awake-moves}
 use Rattle.noc_rows.proofs.DecidedRests.{asleep-moves}
-use Rattle.noc_rows.proofs.DecidedSteps.{HaveMovedTo, firsts_below, gone_below}
+use Rattle.noc_rows.proofs.DecidedSteps.{firsts_below, gone_below}
 use Rattle.noc_rows.proofs.DecidedWires.{OneBlock, are-frozen, element, lanes-decided, list-of, list_of, moved-to, one-block}
 use Rattle.noc_rows.proofs.LaneRests.{lanes-rest}
 use Rattle.noc_rows.proofs.LaneTargets.{back-target}
 use Rattle.noc_rows.proofs.NetworkLaws.{frozen-seen}
 use Rattle.noc_rows.proofs.NetworkMoves.{by_block, is_moving, moves-below, moves_at}
 use Rattle.noc_rows.proofs.QuietLists.{lists-quiet}
-use Rattle.noc_rows.proofs.FrozenWires.{AreFrozenWires, frozen_of}
+use Rattle.noc_rows.proofs.FrozenWires.{frozen_of}
 
 module _ (net : Setup) (setup : IsGoodSetup net) (n : ℕ) (few : n < CYCLE_LIMIT) (frame : Frame) (is_frame : IsFrameOf net.relation net.places frame)
     (starts : List Start) (room : ℕ) (enough : net.places ≤ room)

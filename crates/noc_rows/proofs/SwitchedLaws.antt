@@ -1,14 +1,13 @@
 -- What the switch leaves in the words of a router is what the round of its frozen view has.
-use Rattle.std.proofs.Common.{◌≡◌, ◌≢◌, ℕ, zero, suc, ◌+◌, ◌*◌, ◌/◌, ◌%◌, ◌^◌, ◌<◌, ◌≤◌, Bool, true, false, List, [], ◌∷◌, Option, Some, None, refl, ap, ap₂, sym, ◌∙◌, subst, arith, inl, inr, bit_and, bit_or, div-add-mod'}
-use Rattle.std.specs.Prelude.{◌⊎◌, ◌&&◌, ◌||◌, not, is_some, nat_eq, nat_le, option_and_then, slice_get, slice_index, slice_index_or, if◌then◌else◌}
+use Rattle.std.proofs.Common.{◌≡◌, ◌≢◌, ℕ, zero, suc, ◌+◌, ◌*◌, ◌/◌, ◌%◌, ◌^◌, ◌<◌, Bool, true, false, Option, Some, None, refl, ap, ap₂, sym, ◌∙◌, subst, arith, inl, inr, bit_and, bit_or, div-add-mod'}
+use Rattle.std.specs.Prelude.{◌⊎◌, ◌&&◌, ◌||◌, not, is_some, nat_eq, nat_le, option_and_then, slice_index, slice_index_or, if◌then◌else◌}
 use Rattle.std.specs.Int.{trailing_zeros, w32}
-use Rattle.std.proofs.lemmas.Bool.{cases_eq, cases_lt, eq-eqb, le-leb, ne_eqb, eqb-true, true≢false, false≢true, and_parts}
+use Rattle.std.proofs.lemmas.Bool.{cases_eq, eq-eqb, le-leb, ne_eqb, eqb-true, true≢false, false≢true, and_parts}
 use Rattle.std.proofs.lemmas.List.{get_or-map}
 use Rattle.std.proofs.lemmas.Nat.{div_below, mod_below, mul-add-lt, pow_below}
 use Rattle.noc_topo.specs.Words.{is_some_of}
 use Rattle.noc_topo.specs.Shape.{ports}
 use Rattle.noc_packet.specs.Set.{has_bit}
-use Rattle.noc_packet.specs.declared.packet.Flit.{Flit}
 use Rattle.noc_packet.proofs.SetLemmas.{both_members, either_members, has_bit-zero}
 use Rattle.noc_alloc.specs.Arbiter.{RoundRobin, arbiter_at, pointers_of}
 use Rattle.noc_route.specs.Routes.{Routes}
@@ -18,23 +17,21 @@ use Rattle.noc_vc.specs.declared.input.InputState.TheVariants.{Idle, Waiting, Ac
 use Rattle.noc_router.specs.Members.{AreBelow}
 use Rattle.noc_router.specs.Sound.{is_supplied}
 use Rattle.noc_router.specs.Standing.{is_won_from}
-use Rattle.noc_router.specs.Verdict.{arbiters_after, ask_of, out_of}
-use Rattle.noc_router.specs.View.{View, size_of, view_buffer, view_claim, claim_in, view_input, view_round, first_flit, is_tail, mover_to}
-use Rattle.noc_rows.specs.Column.{IsColumn, RouterMarks, ShowsPhase, sends_by}
-use Rattle.noc_rows.specs.Cycle.{HasSwitched, Surroundings, chosen_by, single_in}
+use Rattle.noc_router.specs.Verdict.{ask_of, out_of}
+use Rattle.noc_router.specs.View.{View, size_of, view_buffer, view_claim, claim_in, view_input, view_round, mover_to}
+use Rattle.noc_rows.specs.Column.{IsColumn, ShowsPhase, sends_by}
+use Rattle.noc_rows.specs.Cycle.{Surroundings, chosen_by}
 use Rattle.noc_rows.specs.Grants.{Allocation, phase_granted, with_grant}
-use Rattle.noc_rows.specs.Moves.{dry_by, of_one, ports_of, rest_from, selected_by, some_below, union_from}
-use Rattle.noc_rows.specs.Passes.{Effects, lane_heads, lane_picked, lane_ready}
+use Rattle.noc_rows.specs.Moves.{some_below, union_from}
+use Rattle.noc_rows.specs.Passes.{lane_heads, lane_picked, lane_ready}
 use Rattle.noc_rows.specs.Fields.{lane_turn, lane_some, lane_whole}
 use Rattle.noc_rows.specs.Bits.{less, minus}
 use Rattle.noc_rows.specs.declared.frame.Frame.{Frame}
 use Rattle.noc_rows.proofs.BitLemmas.{and_fits, below_fits, less_fits, less_members, or_fits}
 use Rattle.noc_rows.proofs.ChosenLaws.{IsStill, ShowsChosen}
-use Rattle.noc_rows.proofs.MoveLaws.{AreMoving, IsTaken, bit-is, dry-is, freed-is, left-is, moved-is, mover-is, taken-is, turns-after}
-use Rattle.noc_rows.proofs.SettleLemmas.{is_tail_by}
-use Rattle.noc_rows.proofs.StandLemmas.{draws, picked-ready, ready-fits, standing}
-use Rattle.noc_rows.proofs.SwitchLemmas.{AreMoved}
-use Rattle.noc_rows.proofs.UnionLemmas.{rest-members, union-members}
+use Rattle.noc_rows.proofs.MoveLaws.{AreMoving, IsTaken, bit-is, moved-is, mover-is, taken-is}
+use Rattle.noc_rows.proofs.StandLemmas.{draws, ready-fits, standing}
+use Rattle.noc_rows.proofs.UnionLemmas.{union-members}
 use Rattle.noc_rows.proofs.WinnerLemmas.{ShowsPorts}
 
 -- ---- unions

@@ -1,9 +1,6 @@
 -- One tail more is released.
-use Rattle.std.proofs.Common.{◌≡◌, ◌≢◌, ℕ, ◌+◌, Bool, true, false, refl, ap, ap₂, sym, ◌∙◌, inl, inr, add-one, bit_or}
-use Rattle.std.specs.Prelude.{◌&&◌, ◌||◌, not, nat_eq, if◌then◌else◌}
-use Rattle.std.proofs.lemmas.Bool.{cases_eq, eq-eqb, ne_eqb}
-use Rattle.noc_packet.specs.Set.{has_bit}
-use Rattle.noc_packet.proofs.SetLemmas.{either_members}
+use Rattle.std.proofs.Common.{◌≡◌, ℕ, ◌+◌, Bool, true, false, refl, ap, add-one}
+use Rattle.std.specs.Prelude.{◌&&◌, ◌||◌, not, if◌then◌else◌}
 use Rattle.noc_rows.specs.Moves.{some_below}
 
 -- one number more

@@ -1,13 +1,14 @@
 -- The verdicts of a channel are counted.
 use Rattle.std.proofs.Common.{◌≡◌, ℕ, zero, suc, ◌+◌, ◌<◌, ◌≤◌, Bool, true, false, List, length, set, refl, ap, sym, ◌∙◌, arith, add-one, get_or-set_same, get_or-set_other}
-use Rattle.std.specs.Prelude.{slice_index_or}
+use Rattle.std.specs.Prelude.{slice_index, slice_index_or}
 use Rattle.noc_packet.specs.Set.{has_bit}
 use Rattle.noc_router.specs.Counts.{one_if}
 use Rattle.noc_rows.specs.Rows.{verdicts_at}
-use Rattle.noc_rows.specs.Tallied.{CountsAreBelow, no_rows, with_recent, with_verdicts}
+use Rattle.noc_rows.specs.Tallied.{CountsAreBelow, no_rows, with_recent, with_verdicts, with_waits}
 use Rattle.noc_rows.specs.declared.sheet.Verdicts.{Verdicts}
 use Rattle.noc_rows.specs.declared.sheet.VerdictRows.{VerdictRows}
 use Rattle.noc_rows.specs.declared.sheet.VerdictCounts.{VerdictCounts}
+use Rattle.noc_rows.specs.declared.waits.Waits.{Waits}
 
 pub counts-same : (a b c d e f x y z u v w : ℕ) → a ≡ x → b ≡ y → c ≡ z → d ≡ u → e ≡ v → f ≡ w → (counts : VerdictCounts)
     → record counts { moved = a; no_flit = b; no_idle_channel = c; no_credit = d; lost_input = e; lost_switch = f }
@@ -46,6 +47,16 @@ pub recent-four : (recent : List VerdictRows) (j k : ℕ) (counts : VerdictCount
     ≡ with_recent recent 4 j k counts
 unfolding with_recent
 recent-four recent j k counts = refl
+
+-- ---- with what was counted of many cycles at once
+pub waits-verdicts : (waits : Waits) (place : ℕ) (words : Verdicts) (k : ℕ) (counts : VerdictCounts)
+    → with_waits waits place (with_verdicts words k counts) ≡ with_verdicts words k (with_waits waits place counts)
+waits-verdicts waits place words k counts =
+    counts-same _ _ _ _ _ _ _ _ _ _ _ _ refl (omega arith) (omega arith) (omega arith) refl refl counts
+
+pub waits-none : (waits : Waits) (place : ℕ) (counts : VerdictCounts) → slice_index waits.no_flit place ≡ 0 → slice_index waits.no_idle_channel place ≡ 0 → slice_index waits.no_credit place ≡ 0
+    → with_waits waits place counts ≡ counts
+waits-none waits place counts no_flit no_idle no_credit = counts-same _ _ _ _ _ _ _ _ _ _ _ _ refl (omega arith) (omega arith) (omega arith) refl refl counts
 
 -- ---- how great they are
 one-few : (b : Bool) → one_if b < 2

@@ -120,16 +120,16 @@ module _ (net : Setup) (setup : IsGoodSetup net) (n r : ℕ) (l : r < nodes net.
   unfolding view_at view_in
   counts-many = length-tabulate (size net) (counts_before net n r)
 
-  frozen-few : size_of (frozen_view net setup n r l).site ≤ 31
+  pub frozen-few : size_of (frozen_view net setup n r l).site ≤ 31
   frozen-few = subst (λ (s : Site). size_of s ≤ 31) (sym (frozen-seen net setup n r l).site) narrow
 
-  frame-here : (f : Fields) → IsFields (ports net.relation.grid) f → IsFields (ports (frozen_view net setup n r l).site.grid) f
+  pub frame-here : (f : Fields) → IsFields (ports net.relation.grid) f → IsFields (ports (frozen_view net setup n r l).site.grid) f
   frame-here f frame = subst (λ (s : Site). IsFields (ports s.grid) f) (sym (frozen-seen net setup n r l).site) frame
 
-  width-here : (f : Fields) → f.width ≡ net.relation.vcs → f.width ≡ (frozen_view net setup n r l).site.vcs
+  pub width-here : (f : Fields) → f.width ≡ net.relation.vcs → f.width ≡ (frozen_view net setup n r l).site.vcs
   width-here f width = width ∙ sym (ap (λ (s : Site). s.vcs) (frozen-seen net setup n r l).site)
 
-  turns-here : (c : Column) (m : RouterMarks) → IsColumn 5 c m (frozen_view net setup n r l) → HasTurns c (frozen_view net setup n r l)
+  pub turns-here : (c : Column) (m : RouterMarks) → IsColumn 5 c m (frozen_view net setup n r l) → HasTurns c (frozen_view net setup n r l)
   turns-here c m shows =
       let are = (frozen-arbiters net setup n r l).inputs in
       record {

@@ -1,6 +1,6 @@
 -- A view that shows a steady state is tidy.
 use Rattle.std.proofs.Common.{◌≡◌, ℕ, zero, suc, ◌*◌, ◌/◌, ◌<◌, ◌≤◌, Bool, true, false, cond, List, [], ◌∷◌, map, length, Option, Some, None, IfSome, refl, ap, sym, ◌∙◌, inl, inr, subst, arith, div-lt_iff_lt-mul}
-use Rattle.std.specs.Prelude.{find, option_map, unwrap_or, ◌⊎◌, ◌&&◌, ◌||◌, nat_lt, is_some}
+use Rattle.std.specs.Prelude.{find, option_map, slice_get, unwrap_or, ◌⊎◌, ◌&&◌, ◌||◌, nat_lt, is_some}
 use Rattle.std.proofs.lemmas.Bool.{false≢true, lt-ltb, le-ltb, eqb-true, eq-eqb}
 use Rattle.std.proofs.lemmas.List.{length-map}
 use Rattle.std.proofs.lemmas.Nat.{div-add-mod'}
@@ -10,7 +10,7 @@ use Rattle.noc_topo.specs.Shape.{nodes, local_port}
 use Rattle.noc_packet.specs.Packet.{flit_at}
 use Rattle.noc_packet.specs.declared.packet.Flit.{Flit}
 use Rattle.noc_route.specs.Channel.{Channel, Link, Inject, Eject, is_link}
-use Rattle.noc_vc.specs.Input.{Input, is_waiting, is_empty}
+use Rattle.noc_vc.specs.Input.{Input, is_idle_phase, is_waiting, is_empty}
 use Rattle.noc_vc.specs.Output.{Output, is_free}
 use Rattle.noc_vc.specs.declared.input.InputState.{InputState}
 use Rattle.noc_vc.specs.declared.input.InputState.TheVariants.{Idle, Waiting, Active}
@@ -18,36 +18,33 @@ use Rattle.noc_vc.specs.declared.output.OutputState.{OutputState}
 use Rattle.noc_vc.specs.declared.output.OutputState.TheVariants.{Idle as Free, Owned, Draining}
 use Rattle.noc_router.specs.Counts.{one_if}
 use Rattle.noc_router.specs.Sound.{owns, is_owned_from}
-use Rattle.noc_router.specs.View.{Site, View, size_of, view_buffer, view_output}
+use Rattle.noc_router.specs.View.{Site, View, size_of, first_flit, view_buffer, view_input, view_output}
 use Rattle.noc_model.specs.Lockstep.{has_come, seen_flits, seen_input, seen_output, seen_phase_with, seen_holder, seen_source, goes_on_by}
 use Rattle.noc_model.specs.Network.{Setup, State, Located, Place, Source, On, In, Out, size, arriving, leaving, packet_at, place_of_flit, tail_place, is_on, is_in, is_past, owner_of, next_channel, has_channel, count_in, count_on, credit_of, buffer_of}
 use Rattle.noc_model.specs.Progress.{head_place}
 use Rattle.noc_model.proofs.BufferLemmas.{same_channel-refl}
+use Rattle.noc_model.proofs.CommitGrant.{come-true}
 use Rattle.noc_model.proofs.GrantLemmas.{Has-below}
 use Rattle.noc_model.proofs.InjectionRoom.{filter-none}
-use Rattle.noc_model.proofs.Members.{find-has}
+use Rattle.noc_model.proofs.Members.{Has-filter, find-has}
 use Rattle.noc_model.proofs.NextLemmas.{next-from}
 use Rattle.noc_model.proofs.OwnedLemmas.{owner-has, idle-none}
 use Rattle.noc_model.proofs.PathLemmas.{IsEject}
 use Rattle.noc_model.proofs.PlaceLemmas.{IsValid, flit-there, place-of-flit}
 use Rattle.noc_model.proofs.RoomLemmas.{filter-some, unowned-empty}
+use Rattle.noc_model.proofs.RoutedRecord.{Come}
+use Rattle.noc_model.proofs.SourceLemmas.{same-owner}
 use Rattle.noc_model.proofs.WormRecord.{IsPlaced, goal, last_of, valid-last, valid-first}
 use Rattle.noc_model.proofs.Ordered.{IsGood}
-use Rattle.noc_model.proofs.PlaceViews.{arriving-at, leaving-from, OutputCase, ejects, links, output-case}
+use Rattle.noc_model.proofs.PlaceViews.{arriving-at, leaving-from, not-eject, OutputCase, ejects, links, output-case}
 use Rattle.noc_model.specs.Seen.{IsSeen}
 use Rattle.noc_rows.specs.Column.{IsTidy, is_draining}
 use Rattle.noc_rows.specs.Taken.{HasSize}
+use Rattle.noc_rows.proofs.PresentLemmas.{in-some, packet-in, packet-none, packet-there}
 use Rattle.noc_rows.proofs.SteadyLemmas.{IsSteady, Sends, sends-active, sends-owned, holder-sends, active-sends, same-truth}
 
 module _ (net : Setup) (good : IsGood net) (S : State) (x : IsSteady net good S) where
   -- what a flit at a place takes of a channel
-  pub in-some : (c : Channel) (p i : ℕ) → IsValid net p i → is_in c (place_of_flit net S p i) ≡ true → 0 < count_in net S c
-  in-some c p i v e = at (count_in net S c) refl
-    where
-      at : (k : ℕ) → count_in net S c ≡ k → 0 < count_in net S c
-      at zero h = absurd (false≢true (sym (filter-none (λ (f : Located). is_in c f.place) S.at (record { packet = p; index = i; place = place_of_flit net S p i }) h (flit-there net S x.keyed p i v)) ∙ e))
-      at (suc k) h = omega (arith, h)
-
   pub on-some : (c : Channel) (p i : ℕ) → IsValid net p i → is_on c (place_of_flit net S p i) ≡ true → 0 < count_on net S c
   on-some c p i v e = at (count_on net S c) refl
     where
@@ -96,7 +93,7 @@ module _ (net : Setup) (good : IsGood net) (S : State) (x : IsSteady net good S)
       from : (a : Bool) → is_on c (tail_place net S p) ≡ a → (b : Bool) → is_in c (tail_place net S p) ≡ b → (d : Bool) → is_past net c (goal net p) (tail_place net S p) ≡ d
           → (is_on c (tail_place net S p) || (is_in c (tail_place net S p) || is_past net c (goal net p) (tail_place net S p))) ≡ true → credit_of net S c < net.places
       from true f b g d k e = let one = on-some c p (last_of net p) tail f in let room = x.room c in omega (arith, one, room)
-      from false f true g d k e = let one = in-some c p (last_of net p) tail g in let room = x.room c in omega (arith, one, room)
+      from false f true g d k e = let one = in-some net good S x c p (last_of net p) tail g in let room = x.room c in omega (arith, one, room)
       from false f false g true k e =
           let one : one_if (has_channel S.back c) ≡ 1 = ap one_if (x.backed c p (h, goes) link k) in
           let room = x.room c in
@@ -266,7 +263,7 @@ module _ (net : Setup) (good : IsGood net) (S : State) (x : IsSteady net good S)
                 come : Rattle.noc_model.proofs.RoutedRecord.Come net only.0 c (head_place net S only.0) → is_empty (seen_flits net S (Some c)) ≡ false
                 come (inl e) =
                     some (buffer_of net S c)
-                    (in-some c only.0 0 (valid-first net good.built only.0 (x.worm.known c only.0 only.1.0)) (ap (is_in c) e ∙ same_channel-refl c))
+                    (in-some net good S x c only.0 0 (valid-first net good.built only.0 (x.worm.known c only.0 only.1.0)) (ap (is_in c) e ∙ same_channel-refl c))
                 come (inr e) =
                     let next = x.routed.leads c only.0 only.1 e only.3 in
                     absurd (none-some next.0 (sym n ∙ next-from net good.built S x.keyed x.worm only.0 c next.0 only.1.0 (record { owns = next.1; leads = next.2 })))
@@ -274,6 +271,48 @@ module _ (net : Setup) (good : IsGood net) (S : State) (x : IsSteady net good S)
             by : (b : Bool) → has_channel S.routed c ≡ b → is_waiting (cond b (seen_phase_with net S r i c (next_channel net S c)) Idle) ≡ true → is_empty (seen_flits net S (Some c)) ≡ false
             by false h g = absurd (false≢true g)
             by true h g = with (next_channel net S c) refl h g
+
+    -- ---- the packet of a channel
+
+    firsts-at : (i : ℕ) (f : Flit) (rest : List Flit) → seen_flits net S (arriving net r i) ≡ f ∷ rest → (seen_input net S r i (arriving net r i)).packet ≡ Some f.packet
+    firsts-at i f rest e = at (arriving net r i) e
+      where
+        at : (c : Option Channel) → seen_flits net S c ≡ f ∷ rest → (seen_input net S r i c).packet ≡ Some f.packet
+        at None h = absurd (cc h)
+        at (Some c) h = by (buffer_of net S c) refl h
+          where
+            flit : Located → Flit
+            flit g = flit_at (packet_at net g.packet) g.packet g.index
+
+            by : (fs : List Located) → buffer_of net S c ≡ fs → map flit fs ≡ f ∷ rest → (seen_input net S r i (Some c)).packet ≡ Some f.packet
+            by [] k z = absurd (cc z)
+            by (g ∷ fs) k z =
+                let member = Has-filter (λ (y : Located). is_in c y.place) g S.at (subst (Has g) (sym k) (inl refl)) in
+                let first : flit g ≡ f = cc z in
+                packet-in net good S x r i c g member.0 member.1 ∙ ap (λ (y : Flit). Some y.packet) first
+
+    vacant-at : (i : ℕ) → i < size net → is_idle_phase (seen_input net S r i (arriving net r i)).phase ≡ true → seen_flits net S (arriving net r i) ≡ [] → (seen_input net S r i (arriving net r i)).packet ≡ None
+    vacant-at i u idle empty = at (arriving net r i) refl idle empty
+      where
+        at : (c : Option Channel) → arriving net r i ≡ c → is_idle_phase (seen_input net S r i c).phase ≡ true → seen_flits net S c ≡ [] → (seen_input net S r i c).packet ≡ None
+        at None k h e = refl
+        at (Some c) k h e =
+            packet-none net good S x r i c (not-eject net good (arriving-at net good r i c l u k)) h
+            (sym (length-map (buffer_of net S c) (λ (f : Located). flit_at (packet_at net f.packet) f.packet f.index)) ∙ ap length e)
+
+    named-at : (i o p : ℕ) → o < size net → holder o ≡ Owned i p → (seen_input net S r i (arriving net r i)).packet ≡ Some p
+    named-at i o p u e =
+        let s = sends-owned net good S x r l i o p (leaving net r o) (leaving-from net good r o u) (sym (holder-is (leaving net r o)) ∙ e) in
+        let only = x.routed.only s.from s.routed in
+        let same : only.0 ≡ s.packet = same-owner net good S x.keyed x.worm s.from only.0 s.packet only.1.0 s.owned in
+        let come : has_come net s.from (goal net s.packet) (head_place net S s.packet) ≡ true
+        = come-true net S s.packet s.from (head_place net S s.packet) (subst (λ (q : ℕ). Come net q s.from (head_place net S q)) same only.2) in
+        let owner : Owned i s.packet ≡ Owned i p
+        = sym (holder-sends net good S x r l i o s) ∙ sym (ap (λ c. seen_holder net S r c (owner_of net S c)) s.there.found) ∙ sym (holder-is (leaving net r o)) ∙ e in
+        let number : s.packet ≡ p = cc owner in
+        ap (λ (c : Option Channel). (seen_input net S r i c).packet) s.here.found
+        ∙ packet-there net good S x r i s.packet s.from (s.owned, not-eject net good s.here) come s.behind
+        ∙ ap Some number
 
     -- ---- all
 
@@ -312,4 +351,19 @@ module _ (net : Setup) (good : IsGood net) (S : State) (x : IsSteady net good S)
           subst (λ (z : Site). i < size_of z) (sym seen.site) (owner-below (leaving net r o) i some (sym (ap (λ (y : Output). is_owned_from y.holder i) (seen.output o (within o h))) ∙ e));
       waits = λ i h e.
           ap (λ (fs : List Flit). is_empty fs) (seen.buffer i (within i h)) ∙ waits-at i (within i h) (sym (ap (λ (y : Input). is_waiting y.phase) (seen.input i (within i h))) ∙ e);
+      firsts = λ i f rest h e.
+          ap (λ (y : Input). y.packet) (seen.input i (within i h)) ∙ firsts-at i f rest (sym (seen.buffer i (within i h)) ∙ e);
+      vacant = λ i h idle e.
+          let is = seen.input i (within i h) in
+          ap (λ (y : Input). y.packet) is ∙ vacant-at i (within i h) (ap (λ (y : Input). is_idle_phase y.phase) (sym is) ∙ idle) (sym (seen.buffer i (within i h)) ∙ e);
+      named = λ i o p h k e.
+          ap (λ (y : Input). y.packet) (seen.input i (within i h)) ∙ named-at i o p (within o k) (ap (λ (y : Output). y.holder) (sym (seen.output o (within o k))) ∙ e);
     }
+
+-- the packet of an idle channel is that of its first flit, and it has none where it has no flit
+pub idle-packet : (v : View) → IsTidy v → (i : ℕ) → i < size_of v.site → is_idle_phase (view_input v i).phase ≡ true → (view_input v i).packet ≡ option_map (λ (f : Flit). f.packet) (first_flit v i)
+idle-packet v is i l idle = at (view_buffer v i) refl
+  where
+    at : (flits : List Flit) → view_buffer v i ≡ flits → (view_input v i).packet ≡ option_map (λ (f : Flit). f.packet) (first_flit v i)
+    at [] e = is.vacant i l idle e ∙ sym (ap (λ (xs : List Flit). option_map (λ (f : Flit). f.packet) (slice_get xs 0)) e)
+    at (f ∷ rest) e = is.firsts i f rest l e ∙ sym (ap (λ (xs : List Flit). option_map (λ (f : Flit). f.packet) (slice_get xs 0)) e)

@@ -1,5 +1,5 @@
 -- The words of the ports, port by port.
-use Rattle.std.proofs.Common.{◌≡◌, ℕ, suc, ◌+◌, ◌*◌, ◌%◌, ◌^◌, ◌<◌, ◌≤◌, ap, sym, ◌∙◌, arith, add-one, mul-le-mul_right}
+use Rattle.std.proofs.Common.{◌≡◌, ℕ, suc, ◌+◌, ◌*◌, ◌%◌, ◌^◌, ◌<◌, ◌≤◌, ap, sym, arith, add-one, mul-le-mul_right}
 use Rattle.std.proofs.lemmas.Nat.{pow_below, shl_whole}
 use Rattle.noc_rows.specs.Fields.{spread}
 use Rattle.noc_rows.proofs.FieldLemmas.{spread-fits}

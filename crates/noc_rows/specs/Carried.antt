@@ -1,5 +1,5 @@
 -- Flits that move in a cycle: each leaves its ring, and stands at the end of the ring at the other end of the link; a credit goes back.
-use Rattle.std.specs.Prelude.{◌≡◌, ◌≢◌, ℕ, ◌+◌, ◌*◌, ◌/◌, ◌%◌, ◌^◌, ◌<◌, Bool, true, List, [], ◌∷◌, ◌++◌, length, if◌then◌else◌}
+use Rattle.std.specs.Prelude.{◌≡◌, ◌≢◌, ℕ, ◌/◌, ◌%◌, ◌<◌, Bool, true, List, [], ◌∷◌, ◌++◌, length, if◌then◌else◌}
 use Rattle.noc_packet.specs.declared.packet.Flit.{Flit}
 use Rattle.noc_rows.specs.FlitWords.{FitsWord, flit_word}
 use Rattle.noc_rows.specs.Wires.{in_row, inbox_at, ring_in}

@@ -1,10 +1,10 @@
 -- The words that one router has in rows, and what it means that they show a view.
-use Rattle.std.specs.Prelude.{◌≡◌, ◌⊎◌, ℕ, ◌+◌, ◌*◌, ◌/◌, ◌%◌, ◌^◌, ◌<◌, ◌≤◌, Bool, true, false, List, map, length, Option, Some, None, IfSome, is_some, nat_lt, nat_le, nat_eq}
+use Rattle.std.specs.Prelude.{◌≡◌, ◌⊎◌, ℕ, ◌+◌, ◌*◌, ◌/◌, ◌%◌, ◌^◌, ◌<◌, ◌≤◌, Bool, true, false, List, [], ◌∷◌, map, length, Option, Some, None, IfSome, is_some, nat_lt, nat_le, nat_eq}
 use Rattle.noc_topo.specs.Shape.{Grid, nodes, ports, local_port, neighbour}
 use Rattle.noc_packet.specs.Set.{has_bit}
 use Rattle.noc_packet.specs.declared.packet.Flit.{Flit}
 use Rattle.noc_alloc.specs.Arbiter.{arbiter_at}
-use Rattle.noc_vc.specs.Input.{Input, is_active, is_waiting, is_empty}
+use Rattle.noc_vc.specs.Input.{Input, is_active, is_idle_phase, is_waiting, is_empty}
 use Rattle.noc_vc.specs.Output.{Output, is_free}
 use Rattle.noc_vc.specs.declared.input.InputState.{InputState}
 use Rattle.noc_vc.specs.declared.input.InputState.TheVariants.{Idle, Waiting, Active}
@@ -36,6 +36,7 @@ pub record Column : Type 0 where
 pub record RouterMarks : Type 0 where
   pub set : ℕ → ℕ  -- by waiting input channel, where it may go
   pub taken : ℕ → ℕ  -- by active input channel, its output channel, as a set
+  pub packet : ℕ → ℕ  -- by waiting or active input channel, the number of its packet
   pub target : ℕ → ℕ  -- by active input channel, the place to which its flits go
   pub owner : ℕ → ℕ  -- by owned output channel, its input channel
   pub turn : ℕ → ℕ  -- by output channel, the input channels at or after the pointer of its arbiter
@@ -126,6 +127,7 @@ sends_by vcs port (Active o) = nat_eq (o / vcs) port
 pub record ShowsMarks (c : Column) (m : RouterMarks) (v : View) : Type 0 where
   pub phases : (i : ℕ) → i < size_of v.site → ShowsPhase c m v.site i (view_input v i).phase
   pub holders : (o : ℕ) → o < size_of v.site → ShowsHolder m o (view_output v o).holder
+  pub packets : (i : ℕ) → i < size_of v.site → is_idle_phase (view_input v i).phase ≡ false → (view_input v i).packet ≡ Some (m.packet i)
   pub to_port : (q i : ℕ) → q < ports v.site.grid → i < size_of v.site → has_bit (m.to_port q) i ≡ sends_by v.site.vcs q (view_input v i).phase
 
 -- what is being injected
@@ -164,5 +166,9 @@ pub record IsTidy (v : View) : Type 0 where
   pub owners : (i o : ℕ) → i < size_of v.site → o < size_of v.site → owns (view_input v i).phase o ≡ is_owned_from (view_output v o).holder i
   pub owned_below : (i o : ℕ) → i < size_of v.site → (view_input v i).phase ≡ Active o → o < size_of v.site
   pub owner_below : (i o : ℕ) → o < size_of v.site → is_owned_from (view_output v o).holder i ≡ true → i < size_of v.site
-  -- one that waits or is active has a packet, which the holder of its output channel names
+  -- one that waits has a flit
   pub waits : (i : ℕ) → i < size_of v.site → is_waiting (view_input v i).phase ≡ true → is_empty (view_buffer v i) ≡ false
+  -- the packet of a channel: that of its first flit, none where it is idle and has no flit, and that which its output channel names
+  pub firsts : (i : ℕ) (f : Flit) (rest : List Flit) → i < size_of v.site → view_buffer v i ≡ f ∷ rest → (view_input v i).packet ≡ Some f.packet
+  pub vacant : (i : ℕ) → i < size_of v.site → is_idle_phase (view_input v i).phase ≡ true → view_buffer v i ≡ [] → (view_input v i).packet ≡ None
+  pub named : (i o p : ℕ) → i < size_of v.site → o < size_of v.site → (view_output v o).holder ≡ Owned i p → (view_input v i).packet ≡ Some p

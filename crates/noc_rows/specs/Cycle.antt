@@ -1,5 +1,5 @@
 -- What a cycle decides in one router, and what of that takes effect: from the words of its frozen state to those after the cycle.
-use Rattle.std.specs.Prelude.{◌≡◌, ◌≢◌, ℕ, ◌^◌, ◌<◌, Bool, true, false, ◌&&◌, not, List, ◌∷◌, bit_and, if◌then◌else◌}
+use Rattle.std.specs.Prelude.{◌≡◌, ◌≢◌, ℕ, ◌^◌, ◌<◌, Bool, ◌&&◌, not, List, ◌∷◌, bit_and, if◌then◌else◌}
 use Rattle.std.specs.Int.{bit_not, w32}
 use Rattle.noc_packet.specs.Set.{has_bit}
 use Rattle.noc_packet.specs.declared.packet.Flit.{Flit}

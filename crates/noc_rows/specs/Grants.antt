@@ -56,9 +56,10 @@ pub record KeepsOutput (m w : RouterMarks) (o : ℕ) : Type 0 where
   pub owner : w.owner o ≡ m.owner o
   pub turn : w.turn o ≡ m.turn o
 
--- these marks have the sets of waiting channels and the pointers of output ports that those have
+-- these marks have the sets of waiting channels, the numbers of packets and the pointers of output ports that those have
 pub record KeepsRest (m w : RouterMarks) : Type 0 where
   pub set : w.set ≡ m.set
+  pub packet : w.packet ≡ m.packet
   pub port_turn : w.port_turn ≡ m.port_turn
 
 -- output channel o is owned by input channel k, and leads by this port to this place
@@ -157,3 +158,4 @@ pub record ShowsGrants (a b : Allocation) (outs : ℕ) (v : View) : Type 0 where
   pub others : (o : ℕ) → o < size_of v.site → slice_index_or (view_round v).grants o None ≡ None → b.marks.owner o ≡ a.marks.owner o
   pub to_port : (q k : ℕ) → q < ports v.site.grid → k < size_of v.site → has_bit (b.marks.to_port q) k ≡ sends_by v.site.vcs q (phase_granted v k)
   pub port_turn : b.marks.port_turn ≡ a.marks.port_turn
+  pub packet : b.marks.packet ≡ a.marks.packet

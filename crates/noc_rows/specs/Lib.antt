@@ -29,3 +29,6 @@ pub mod Whole
 pub mod Stages
 pub mod Decided
 pub mod Readers
+pub mod Found
+pub mod Steps
+pub mod Still

@@ -1,5 +1,5 @@
 -- Heads are routed: what that changes of a router.
-use Rattle.std.specs.Prelude.{◌≡◌, ℕ, Bool, true, false, List, ◌∷◌, slice_index}
+use Rattle.std.specs.Prelude.{◌≡◌, ℕ, true, false, List, ◌∷◌, slice_index}
 use Rattle.noc_packet.specs.Set.{has_bit}
 use Rattle.noc_packet.specs.declared.packet.Flit.{Flit}
 use Rattle.noc_route.specs.Routes.{Routes, set_at}
@@ -20,13 +20,14 @@ ring_at room inbox first j k = ring_in room inbox (place_of j k) (slice_index fi
 abbrev pub sets_by : Routes → Frame → ℕ → ℕ → Flit → ℕ
 sets_by relation frame node k f = set_at relation f.class node (slice_index frame.port_of k) (slice_index frame.vc_of k) f.dst
 
--- these channels wait, each for what its head may take, which is wanted besides what was; nothing else has changed
+-- these channels wait, each for what its head may take, which is wanted besides what was, and each has the number of its packet; nothing else
+-- has changed
 pub record HasRouted (heads : ℕ) (ring : ℕ → List ℕ) (sets : ℕ → Flit → ℕ) (m w : RouterMarks) (wanted all : ℕ) : Type 0 where
-  pub each : (k : ℕ) (f : Flit) (rest : List ℕ) → has_bit heads k ≡ true → FitsWord f → ring k ≡ flit_word f ∷ rest → w.set k ≡ sets k f
+  pub each : (k : ℕ) (f : Flit) (rest : List ℕ) → has_bit heads k ≡ true → FitsWord f → ring k ≡ flit_word f ∷ rest → (w.set k ≡ sets k f) × (w.packet k ≡ f.packet)
   pub wants : (k o : ℕ) → has_bit heads k ≡ true → has_bit (w.set k) o ≡ true → has_bit all o ≡ true
   pub still : (o : ℕ) → has_bit wanted o ≡ true → has_bit all o ≡ true
-  pub kept : (k : ℕ) → has_bit heads k ≡ false → w.set k ≡ m.set k
-  pub rest : w ≡ record m { set = w.set }
+  pub kept : (k : ℕ) → has_bit heads k ≡ false → (w.set k ≡ m.set k) × (w.packet k ≡ m.packet k)
+  pub rest : w ≡ record m { set = w.set; packet = w.packet }
 
 -- what routing changes of a router
 pub record Routing : Type 0 where

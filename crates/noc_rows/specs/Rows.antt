@@ -1,5 +1,5 @@
 -- What of the rows of a block belongs to one router of it.
-use Rattle.std.specs.Prelude.{ℕ, ◌+◌, ◌*◌, List, [], ◌∷◌, slice_index, slice_index_or, bit_or}
+use Rattle.std.specs.Prelude.{ℕ, List, [], ◌∷◌, slice_index, slice_index_or, bit_or}
 use Rattle.noc_topo.specs.Words.{tabulate}
 use Rattle.noc_rows.specs.Column.{Column, RouterMarks, place_of}
 use Rattle.noc_rows.specs.declared.marks.Marks.{Marks}
@@ -75,6 +75,7 @@ abbrev pub marks_at : Marks → ℕ → RouterMarks
 marks_at marks j = record {
   set = slice_index (of_router marks.set j);
   taken = slice_index (of_router marks.taken j);
+  packet = slice_index (of_router marks.packet j);
   target = slice_index (of_router marks.target j);
   owner = slice_index (of_router marks.owner j);
   turn = slice_index (of_router marks.turn j);

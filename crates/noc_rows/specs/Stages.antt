@@ -7,7 +7,7 @@ use Rattle.noc_rows.specs.Outlook.{holding_in, least_below, is_some_below}
 use Rattle.noc_rows.specs.Passes.{lane_asks, lane_heads, lane_standing, lane_verdicts, settled_lane}
 use Rattle.noc_rows.specs.Rows.{column_at, effects_at, event_in, planes_of, standing_at, word}
 use Rattle.noc_rows.specs.Switched.{AreSelectedOnce, MovesFlits, ReleasesTails, selected_by_ports}
-use Rattle.noc_rows.specs.Tallied.{cycles_of, sheet_counts, with_verdicts}
+use Rattle.noc_rows.specs.Tallied.{cycles_of, last_verdicts, sheet_counts, with_verdicts}
 use Rattle.noc_rows.specs.Wires.{inbox_at}
 use Rattle.noc_rows.specs.declared.block.Block.{Block}
 use Rattle.noc_rows.specs.declared.cycle.DecidedRows.{DecidedRows}
@@ -98,6 +98,9 @@ pub record HasConcluded (frame : Frame) (cycle : ℕ) (old new : Block) (before 
       ≡ with_verdicts
       (lane_verdicts (word old.arrived.filled j) (standing_at old.standing j) (word old.decided.granted j) (word old.decided.lost j) (word old.decided.moved j) (column_at old.lanes j)) k
       (sheet_counts before j k)
+  pub last : (j : ℕ) → j < 32
+      → last_verdicts after j
+      ≡ lane_verdicts (word old.arrived.filled j) (standing_at old.standing j) (word old.decided.granted j) (word old.decided.lost j) (word old.decided.moved j) (column_at old.lanes j)
   pub cycles : cycles_of after ≡ (cycles_of before + 1) % 2 ^ 32
   pub events : (k : ℕ) → k < 32
       → word new.last_event k ≡ (if nat_eq (event_in old.returned old.arrived old.standing old.decided k) 0 then word old.last_event k else (cycle + 1) % 2 ^ 32)

@@ -1,15 +1,17 @@
 -- What a sheet says of a channel: how often it had each verdict that is counted for all channels at once.
-use Rattle.std.specs.Prelude.{◌≡◌, ℕ, zero, suc, ◌+◌, ◌-◌, ◌*◌, ◌/◌, ◌%◌, ◌<◌, ◌≤◌, List, [], ◌∷◌, Option, Some, None, slice_index_or, sum}
+use Rattle.std.specs.Prelude.{◌≡◌, ℕ, zero, suc, ◌+◌, ◌-◌, ◌*◌, ◌/◌, ◌%◌, ◌^◌, ◌<◌, ◌≤◌, List, [], ◌∷◌, Option, Some, None, slice_index, slice_index_or, sum}
 use Rattle.noc_router.specs.View.{View, size_of}
 use Rattle.noc_packet.specs.Set.{has_bit}
 use Rattle.noc_router.specs.Counts.{one_if}
-use Rattle.noc_rows.specs.Rows.{verdicts_at}
+use Rattle.noc_rows.specs.Column.{place_of}
+use Rattle.noc_rows.specs.Rows.{verdicts_at, word}
 use Rattle.noc_rows.specs.Sheet.{counted_at}
 use Rattle.noc_rows.specs.declared.sheet.Verdicts.{Verdicts}
 use Rattle.noc_rows.specs.declared.sheet.VerdictRows.{VerdictRows}
 use Rattle.noc_rows.specs.declared.sheet.VerdictCounts.{VerdictCounts}
 use Rattle.noc_rows.specs.declared.sheet.Sheet.{Sheet}
 use Rattle.noc_rows.specs.declared.marks.Tallies.{Tallies}
+use Rattle.noc_rows.specs.declared.waits.Waits.{Waits}
 
 abbrev pub no_counts : VerdictCounts
 no_counts = record { moved = 0; no_flit = 0; no_idle_channel = 0; no_credit = 0; lost_input = 0; lost_switch = 0 }
@@ -44,13 +46,38 @@ counters_at sheet times j k = record {
   lost_switch = counted_at sheet.lost_switch times j k;
 }
 
--- how many cycles have been counted
+-- with what was counted of the channel at a place in many cycles at once
+abbrev pub with_waits : Waits → ℕ → VerdictCounts → VerdictCounts
+with_waits waits place counts = record counts {
+  no_flit = counts.no_flit + slice_index waits.no_flit place;
+  no_idle_channel = counts.no_idle_channel + slice_index waits.no_idle_channel place;
+  no_credit = counts.no_credit + slice_index waits.no_credit place;
+}
+
+-- how many cycles have been counted one by one
 abbrev pub cycles_of : Sheet → ℕ
 cycles_of sheet = sheet.cycles
 
 -- how often channel k of router j had each verdict
 abbrev pub sheet_counts : Sheet → ℕ → ℕ → VerdictCounts
-sheet_counts sheet j k = with_recent sheet.recent (sheet.cycles % 4) j k (counters_at sheet (sheet.cycles / 4) j k)
+sheet_counts sheet j k = with_waits sheet.waits (place_of j k) (with_recent sheet.recent (sheet.cycles % 4) j k (counters_at sheet (sheet.cycles / 4) j k))
+
+-- the verdicts of router j in the cycle that was counted last
+abbrev pub last_verdicts : Sheet → ℕ → Verdicts
+last_verdicts sheet j = verdicts_at (slice_index_or sheet.recent ((sheet.cycles + 3) % 4) no_rows) j
+
+-- so many more for each verdict of a channel that waits whose set has channel k
+abbrev pub with_times : ℕ → Verdicts → ℕ → VerdictCounts → VerdictCounts
+with_times times words k counts = record counts {
+  no_flit = counts.no_flit + times * one_if (has_bit words.no_flit k);
+  no_idle_channel = counts.no_idle_channel + times * one_if (has_bit words.no_idle_channel k);
+  no_credit = counts.no_credit + times * one_if (has_bit words.no_credit k);
+}
+
+-- the counts of all channels have risen by so many for each channel of these sets
+abbrev pub HaveRisen : ℕ → List ℕ → List ℕ → List ℕ → Type 0
+HaveRisen times sets old new = (p : ℕ) → p < 1024
+    → slice_index new p ≡ (slice_index old p + times * one_if (has_bit (word sets (p / 32)) (p % 32))) % 2 ^ 32
 
 -- each is below a number
 pub record CountsAreBelow (n : ℕ) (counts : VerdictCounts) : Type 0 where

@@ -1,10 +1,11 @@
 -- What rows are as a whole: they show the state of a network at a count of cycles, block by block.
-use Rattle.std.specs.Prelude.{◌≡◌, ◌⊎◌, ℕ, ◌+◌, ◌*◌, ◌/◌, ◌<◌, ◌≤◌, Bool, true, false, not, List, length, Option, Some, None, min, nat_eq, slice_get, slice_index, slice_index_or}
+use Rattle.std.specs.Prelude.{◌≡◌, ◌⊎◌, ℕ, ◌+◌, ◌*◌, ◌/◌, ◌<◌, ◌≤◌, false, not, List, length, Option, Some, None, min, nat_eq, slice_get, slice_index, slice_index_or}
 use Rattle.noc_topo.specs.Shape.{nodes}
-use Rattle.noc_model.specs.Lockstep.{beats_at, beats_in, view_at}
+use Rattle.noc_model.specs.Lockstep.{beats_at, beats_in, findings_before, view_at}
 use Rattle.noc_model.specs.Network.{Setup, arrival_in, state_at}
 use Rattle.noc_rows.specs.Blank.{IsBlank}
 use Rattle.noc_rows.specs.Column.{place_of}
+use Rattle.noc_rows.specs.Found.{finding_at}
 use Rattle.noc_rows.specs.Frames.{IsFrameOf}
 use Rattle.noc_rows.specs.InRows.{RouterWords, ShowsRouter}
 use Rattle.noc_rows.specs.Opened.{HasLinksOf, starts_list}
@@ -87,6 +88,17 @@ pub record IsRows (net : Setup) (n : ℕ) (rows : Rows) : Type 0 where
   pub quiet : (b : ℕ) → b < length rows.blocks.items → slice_get rows.wires.busy.items b ≡ Some false → IsQuiet (inbox_at rows.wires.inboxes.items b)
   pub arrivals_are : length rows.wires.arrivals.items ≡ length net.packets + 1
   pub arrivals : (p : ℕ) → p < length net.packets → ShowsArrival (slice_index rows.wires.arrivals.items p) (arrival_in net (state_at net n) p)
+
+-- they have a place for what is found of each channel of each block
+abbrev pub HasPlaces : Setup → Rows → Type 0
+HasPlaces net rows = length rows.found.items ≡ (nodes net.relation.grid + 31) / 32 * 1024
+
+-- .. and have what each router found in the cycle before count n, if there is one
+pub record ShowsNetwork (net : Setup) (n : ℕ) (all : Rows) : Type 0 where
+  pub rows : IsRows net n all
+  pub places : HasPlaces net all
+  pub found : (r i : ℕ) → r < nodes net.relation.grid → i < length (findings_before net n r)
+      → finding_at all.found.items (place_of r i) ≡ finding_at (findings_before net n r) i
 
 -- rows show a network after n cycles, and it is known which blocks take part in the next cycle
 pub record IsWoken (net : Setup) (n : ℕ) (rows : Rows) : Type 0 where

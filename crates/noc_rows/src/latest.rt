@@ -18,7 +18,7 @@ pub(crate) fn latest(blocks: &[Block]) -> u32
 }
 
 // The greatest word of a row.
-fn greatest(row: &Row) -> u32
+pub(crate) fn greatest(row: &Row) -> u32
     ensures { IsGreatestIn row.now result }
 {
     let mut last = 0u32;

@@ -16,6 +16,7 @@ mod counter;
 mod credits;
 mod cycle;
 mod fields;
+mod findings;
 mod flits;
 mod frame;
 mod lanes;
@@ -32,6 +33,8 @@ mod settle;
 mod sheet;
 mod stand;
 mod starts;
+mod still;
+mod waits;
 mod wires;
 mod word;
 

@@ -26,6 +26,8 @@ pub(crate) struct Marks {
     pub back: [u32; CHANNELS],
     // By active input channel, its output channel, as a set.
     pub taken: [u32; CHANNELS],
+    // By waiting or active input channel, the number of its packet.
+    pub packet: [u32; CHANNELS],
     // By owned output channel, its input channel.
     pub owner: [u8; CHANNELS],
     // By input channel, the place of the first flit in its ring.
@@ -47,6 +49,7 @@ impl Marks {
         target: [0; CHANNELS],
         back: [0; CHANNELS],
         taken: [0; CHANNELS],
+        packet: [0; CHANNELS],
         owner: [0; CHANNELS],
         first: [0; CHANNELS],
     };

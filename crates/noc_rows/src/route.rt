@@ -15,7 +15,7 @@ use crate::lanes::{CHANNELS, ROUTERS, Row, least, put};
 use crate::marks::{Marks, tally};
 use crate::room::Room;
 use crate::wires::Inbox;
-use crate::word::{class, destination};
+use crate::word::{class, destination, number};
 use noc_packet::ChannelSet;
 use noc_route::Relation;
 
@@ -82,6 +82,7 @@ fn route(
         let word = inbox.first(room, channel, marks.first[channel]);
         let set = set_of(relation, frame, node, input, word);
         marks.set[channel] = set;
+        marks.packet[channel] = number(word);
         all |= set;
         rest &= rest - 1;
     }

@@ -7,16 +7,17 @@ ghost use Rattle.noc_rows.specs.Decided.{HasChosenIn};
 ghost use Rattle.noc_rows.specs.Outlook.{holding_in, least_below, is_some_below};
 ghost use Rattle.noc_rows.specs.Passes.{lane_asks, lane_heads, lane_standing, lane_verdicts, settled_lane};
 ghost use Rattle.noc_rows.specs.Rows.{column_at, effects_at, event_in, planes_of, standing_at, word};
-ghost use Rattle.noc_rows.specs.Tallied.{CountsAreBelow, counts_by, cycles_of, sheet_counts, ten_counts, with_verdicts};
+ghost use Rattle.noc_rows.specs.Tallied.{CountsAreBelow, counts_by, cycles_of, last_verdicts, sheet_counts, ten_counts, with_verdicts};
 ghost use Rattle.noc_rows.specs.Wires.{inbox_at, room_of};
 
 use crate::allocate::allocate_all;
 use crate::block::Block;
 use crate::credits::return_credits;
 use crate::cycle::DecidedRows;
+use crate::findings::{EMPTY, note_claims, note_verdicts};
 use crate::flits::take_flits;
 use crate::frame::Frame;
-use crate::lanes::ROUTERS;
+use crate::lanes::{CHANNELS, ROUTERS};
 use crate::latest::latest;
 use crate::marks::Tallies;
 use crate::open::{new_blocks, new_wires};
@@ -27,9 +28,11 @@ use crate::settle::{look_ahead, note_events, settle};
 use crate::sheet::{Sheet, VerdictCounts};
 use crate::stand::stand;
 use crate::starts::{NEVER, Start, all_starts, begin_all, inject_all};
+use crate::still::{still_for, wait_all};
 use crate::wires::{Inbox, Wires};
 use noc_packet::{Memory, Packet};
 use noc_route::Relation;
+use noc_router::Finding;
 use std::alloc::Global;
 
 /// A network whose routers are in rows.
@@ -45,17 +48,21 @@ pub struct Rows {
     starts: Vec<Start>,
     wires: Wires,
     cycle: u32,
+    // What each router found in the last cycle of a run: 1024 places for each block, 32 for each router.
+    found: Vec<Finding>,
 }
 
 impl Rows {
     ghost use Rattle.std.specs.Prelude.{◌*◌, ◌&&◌, IfOk, IfSome, is_some, nat_le};
     ghost use Rattle.noc_model.specs.Good.{IsGoodSetup};
-    ghost use Rattle.noc_model.specs.Lockstep.{counts_before};
+    ghost use Rattle.noc_model.specs.Lockstep.{counts_before, findings_before};
     ghost use Rattle.noc_model.specs.Network.{Setup, arrival_in, state_at};
     ghost use Rattle.noc_model.specs.Progress.{last_event_before};
     ghost use Rattle.noc_topo.specs.Shape.{nodes as nodes_of, ports as ports_of};
     ghost use Rattle.noc_rows.specs.Readers.{are_all_out};
-    ghost use Rattle.noc_rows.specs.Whole.{IsRows, IsWoken};
+    ghost use Rattle.noc_rows.specs.Steps.{HasArrivedRows, HasConcludedRows, HasDecidedRows};
+    ghost use Rattle.noc_rows.specs.Still.{HaveCounted};
+    ghost use Rattle.noc_rows.specs.Whole.{HasPlaces, IsRows, IsWoken, ShowsNetwork};
     ghost use Rattle.noc_model.specs.declared.limits.TheConstants.{CYCLE_LIMIT};
 
     /// The network of a relation, `places` (1 to 16 flits) in each buffer and these packets, before its first cycle.
@@ -66,7 +73,7 @@ impl Rows {
         places: usize,
         packets: &[Packet],
     ) -> Result<Option<Rows>, Memory>
-        ensures rows { (net : Setup) → net.relation ≡ relation.now → net.places ≡ places → net.packets ≡ packets.now → IsGoodSetup net → IfOk result (λ made. IfSome made (IsRows net 0)) }
+        ensures rows { (net : Setup) → net.relation ≡ relation.now → net.places ≡ places → net.packets ≡ packets.now → IsGoodSetup net → IfOk result (λ made. IfSome made (ShowsNetwork net 0)) }
         ensures some { IfOk result (λ made. is_some made ≡ (nat_le (ports_of relation.now.grid * relation.now.vcs) 31 && nat_le places 16)) }
     {
         let Some(frame) = Frame::of(relation, places) else {
@@ -76,6 +83,7 @@ impl Rows {
         let blocks = new_blocks(alloc, relation, &frame, &starts)?;
         let sheets = vec![in alloc; Sheet::new(); blocks.len()]?;
         let wires = new_wires(alloc, blocks.len(), frame.places, packets.len())?;
+        let found = vec![in alloc; EMPTY; blocks.len().min(8) * CHANNELS]?;
         Ok(Some(Rows {
             frame,
             blocks,
@@ -83,18 +91,30 @@ impl Rows {
             starts,
             wires,
             cycle: 0,
+            found,
         }))
     }
 
-    /// Runs so many cycles, by the relation that it was made for. Those in which nothing happens are run at once. It
-    /// takes no memory.
+    /// Runs so many cycles, by the relation that it was made for. Those in which nothing happens are run at once, but
+    /// for the last one, in which it is noted what each router finds. It takes no memory.
     pub fn run(&mut self, relation: &Relation, cycles: u32)
-        ensures { (net : Setup) (n : ℕ) → IsGoodSetup net → net.relation ≡ relation.now → n + cycles ≤ CYCLE_LIMIT → IsRows net n self.old → IsRows net (n + cycles) self.new }
+        ensures { (net : Setup) (n : ℕ) → IsGoodSetup net → net.relation ≡ relation.now → n + cycles ≤ CYCLE_LIMIT → ShowsNetwork net n self.old → ShowsNetwork net (n + cycles) self.new }
     {
         let mut left = cycles;
-        while left > 0 {
-            left -= self.advance(relation, left);
+        while left > 1 {
+            left -= self.advance(relation, left - 1);
         }
+        if left > 0 {
+            self.finish(relation);
+        }
+    }
+
+    // Runs one cycle, the last of a run, and notes what each router finds in it.
+    fn finish(&mut self, relation: &Relation)
+        ensures { (net : Setup) (n : ℕ) → IsGoodSetup net → net.relation ≡ relation.now → n < CYCLE_LIMIT → IsRows net n self.old → HasPlaces net self.old → ShowsNetwork net (n + 1) self.new }
+    {
+        wake_all(self.cycle, &self.wires.busy, &mut self.blocks);
+        self.find(relation);
     }
 
     // Runs one cycle, or as many of these as nothing happens in. The answer is how many it has run.
@@ -103,6 +123,7 @@ impl Rows {
         ensures some { 0 < result }
         ensures within { result ≤ most }
         ensures rows { (net : Setup) (n : ℕ) → IsGoodSetup net → net.relation ≡ relation.now → n + most ≤ CYCLE_LIMIT → IsRows net n self.old → IsRows net (n + result) self.new }
+        ensures found { self.new.found ≡ self.old.found }
     {
         let due = wake_all(self.cycle, &self.wires.busy, &mut self.blocks);
         let idle = due.saturating_sub(self.cycle).min(most);
@@ -111,28 +132,84 @@ impl Rows {
             idle
         } else {
             self.step(relation);
-            1
+            1 + self.wait(most - 1)
         }
     }
 
     // Runs one cycle of the blocks that are awake.
     fn step(&mut self, relation: &Relation)
-        ensures { (net : Setup) (n : ℕ) → IsGoodSetup net → net.relation ≡ relation.now → n < CYCLE_LIMIT → IsWoken net n self.old → IsRows net (n + 1) self.new }
+        ensures rows { (net : Setup) (n : ℕ) → IsGoodSetup net → net.relation ≡ relation.now → n < CYCLE_LIMIT → IsWoken net n self.old → IsRows net (n + 1) self.new }
+        ensures counted { HaveCounted self.new.blocks.items self.old.sheets.items self.new.sheets.items }
+        ensures found { self.new.found ≡ self.old.found }
     {
-        let frame = &self.frame;
+        self.arrive();
+        self.decide(relation);
+        self.conclude();
+    }
+
+    // Runs one cycle of the blocks that are awake, and notes what each router finds in it.
+    fn find(&mut self, relation: &Relation)
+        ensures { (net : Setup) (n : ℕ) → IsGoodSetup net → net.relation ≡ relation.now → n < CYCLE_LIMIT → IsWoken net n self.old → HasPlaces net self.old → ShowsNetwork net (n + 1) self.new }
+    {
+        self.arrive();
+        let wires = &self.wires;
+        note_claims(
+            &self.frame,
+            wires.room,
+            &wires.inboxes,
+            &self.blocks,
+            &mut self.found,
+        );
+        self.decide(relation);
+        note_verdicts(&self.blocks, &mut self.found);
+        self.conclude();
+    }
+
+    // The blocks that are awake take beats and inject, and it is known where their channels stand.
+    fn arrive(&mut self)
+        ensures { HasArrivedRows self.old self.new }
+    {
         let wires = &mut self.wires;
         arrive_all(
-            frame,
+            &self.frame,
             self.cycle,
             &self.starts,
             wires.room,
             &mut wires.inboxes,
             &mut self.blocks,
         );
-        decide_all(relation, frame, self.cycle, &mut self.blocks, wires);
-        let near = conclude_all(frame, self.cycle, &mut self.blocks, &mut self.sheets);
-        note_busy(near, &mut wires.busy);
+    }
+
+    // The blocks that are awake decide.
+    fn decide(&mut self, relation: &Relation)
+        ensures { HasDecidedRows relation.now self.old self.new }
+    {
+        let blocks = &mut self.blocks;
+        decide_all(relation, &self.frame, self.cycle, blocks, &mut self.wires);
+    }
+
+    // What was decided in a cycle is counted, and takes effect.
+    fn conclude(&mut self)
+        ensures { HasConcludedRows self.old self.new }
+    {
+        let near = conclude_all(&self.frame, self.cycle, &mut self.blocks, &mut self.sheets);
+        note_busy(near, &mut self.wires.busy);
         self.cycle = self.cycle.saturating_add(1);
+    }
+
+    // Runs the cycles after the last one that are like it, at most so many, where nothing happened in it. The answer is
+    // how many these are.
+    fn wait(&mut self, most: u32) -> u32
+        ensures within { result ≤ most }
+        ensures rows { (net : Setup) (n : ℕ) (before : Rows) → IsGoodSetup net → n + 1 + most ≤ CYCLE_LIMIT → IsRows net n before → HaveCounted self.old.blocks.items before.sheets.items self.old.sheets.items → IsRows net (n + 1) self.old → IsRows net (n + 1 + result) self.new }
+        ensures found { self.new.found ≡ self.old.found }
+    {
+        let times = still_for(self.cycle, most, &self.blocks);
+        if times > 0 {
+            wait_all(times, &self.blocks, &mut self.sheets);
+            self.cycle = self.cycle.saturating_add(times);
+        }
+        times
     }
 
     /// How many cycles have run.
@@ -183,6 +260,21 @@ impl Rows {
             lane,
             channel,
         )
+    }
+
+    /// What a router found in the last cycle that has run: of each input channel, by port and virtual channel. Nothing
+    /// before the first cycle.
+    pub fn findings(&self, router: usize) -> &[Finding]
+        ensures { (net : Setup) (n : ℕ) → ShowsNetwork net n self.now → router < nodes_of net.relation.grid → result.now ≡ findings_before net n router }
+    {
+        let links = self.frame.links;
+        let channels = links.wrapping_add(1).wrapping_mul(self.frame.vcs);
+        let first = router.wrapping_mul(ROUTERS);
+        let end = first.saturating_add(channels);
+        if self.cycle == 0 || end > self.found.len() {
+            return &[];
+        }
+        &self.found[first..end]
     }
 
     /// The last cycle in which something happened.
@@ -295,6 +387,7 @@ pub(crate) fn grant_and_route(
 pub(crate) fn conclude_one(frame: &Frame, cycle: u32, block: &mut Block, sheet: &mut Sheet)
     ensures columns { (k : ℕ) → k < 32 → column_at block.new.lanes k ≡ settled_lane frame.now.fields frame.now.link_set frame.now.local_set (effects_at block.old.standing block.old.decided k) (column_at block.old.lanes k) }
     ensures counts { cycles_of sheet.old + 1 < 2 ^ 32 → (j k : ℕ) → j < 32 → sheet_counts sheet.new j k ≡ with_verdicts (lane_verdicts (word block.old.arrived.filled j) (standing_at block.old.standing j) (word block.old.decided.granted j) (word block.old.decided.lost j) (word block.old.decided.moved j) (column_at block.old.lanes j)) k (sheet_counts sheet.old j k) }
+    ensures last { (j : ℕ) → j < 32 → last_verdicts sheet.new j ≡ lane_verdicts (word block.old.arrived.filled j) (standing_at block.old.standing j) (word block.old.decided.granted j) (word block.old.decided.lost j) (word block.old.decided.moved j) (column_at block.old.lanes j) }
     ensures cycles { cycles_of sheet.new ≡ (cycles_of sheet.old + 1) % 2 ^ 32 }
     ensures events { (k : ℕ) → k < 32 → word block.new.last_event k ≡ (if nat_eq (event_in block.old.returned block.old.arrived block.old.standing block.old.decided k) 0 then word block.old.last_event k else (cycle + 1) % 2 ^ 32) }
     ensures holds { block.new.holds ≡ is_some_below (λ k. not (nat_eq (holding_in (column_at block.new.lanes k)) 0)) 32 }

@@ -2,13 +2,16 @@
 
 ghost use Rattle.std.specs.Prelude.{◌≡◌, ◌≢◌, ◌+◌, ◌/◌, ◌%◌, ◌^◌, ◌<◌, ℕ};
 ghost use Rattle.noc_rows.specs.Passes.{lane_verdicts};
+ghost use Rattle.noc_rows.specs.Column.{place_of};
 ghost use Rattle.noc_rows.specs.Rows.{column_at, standing_at, verdicts_at, word};
-ghost use Rattle.noc_rows.specs.Tallied.{CountsAreBelow, counters_at, cycles_of, no_counts, sheet_counts, with_recent, with_verdicts};
+ghost use Rattle.noc_rows.specs.Still.{HasWaited};
+ghost use Rattle.noc_rows.specs.Tallied.{CountsAreBelow, counters_at, cycles_of, last_verdicts, no_counts, sheet_counts, with_recent, with_verdicts, with_waits};
 
 use crate::column::{Lane, Lanes};
 use crate::counter::{Counter, one_if_member};
 use crate::cycle::{DecidedRows, Standing, StandingRows};
 use crate::lanes::{ROUTERS, Row, put};
+use crate::waits::Waits;
 
 /// The verdicts of one router that are counted for all channels at once. (Routed, Granted and LostChannel are counted
 /// one by one.)
@@ -115,6 +118,9 @@ pub(crate) struct Sheet {
     no_credit: Counter,
     lost_input: Counter,
     lost_switch: Counter,
+    // What was counted of many cycles at once.
+    waits: Waits,
+    // How many cycles were counted one by one.
     cycles: u32,
 }
 
@@ -132,6 +138,7 @@ impl Sheet {
             no_credit: Counter::NONE,
             lost_input: Counter::NONE,
             lost_switch: Counter::NONE,
+            waits: Waits::NONE,
             cycles: 0,
         }
     }
@@ -145,6 +152,7 @@ impl Sheet {
         decided: &DecidedRows,
     )
         ensures counts { cycles_of self.old + 1 < 2 ^ 32 → (j k : ℕ) → j < 32 → sheet_counts self.new j k ≡ with_verdicts (lane_verdicts (word filled.now j) (standing_at standing.now j) (word decided.now.granted j) (word decided.now.lost j) (word decided.now.moved j) (column_at lanes.now j)) k (sheet_counts self.old j k) }
+        ensures last { (j : ℕ) → j < 32 → last_verdicts self.new j ≡ lane_verdicts (word filled.now j) (standing_at standing.now j) (word decided.now.granted j) (word decided.now.lost j) (word decided.now.moved j) (column_at lanes.now j) }
         ensures cycles { cycles_of self.new ≡ (cycles_of self.old + 1) % 2 ^ 32 }
     {
         let slot = (self.cycles % 4) as usize;
@@ -158,7 +166,8 @@ impl Sheet {
 
     // The verdicts of four cycles are added.
     fn add_recent(&mut self)
-        ensures counts { self.old.cycles + 1 < 2 ^ 32 → self.old.cycles % 4 ≡ 3 → (j k : ℕ) → j < 32 → sheet_counts self.new j k ≡ with_recent self.old.recent 4 j k (counters_at self.old (self.old.cycles / 4) j k) }
+        ensures counts { self.old.cycles + 1 < 2 ^ 32 → self.old.cycles % 4 ≡ 3 → (j k : ℕ) → j < 32 → sheet_counts self.new j k ≡ with_waits self.old.waits (place_of j k) (with_recent self.old.recent 4 j k (counters_at self.old (self.old.cycles / 4) j k)) }
+        ensures recent { self.new.recent ≡ self.old.recent }
         ensures cycles { cycles_of self.new ≡ (cycles_of self.old + 1) % 2 ^ 32 }
     {
         let times = self.cycles / 4;
@@ -198,6 +207,14 @@ impl Sheet {
         self.cycles = self.cycles.wrapping_add(1);
     }
 
+    // Counts the verdicts of the last cycle so many times more for the channels that wait.
+    pub(crate) fn repeat(&mut self, times: u32)
+        ensures { HasWaited times self.old self.new }
+    {
+        let last = self.recent[(self.cycles.wrapping_add(3) % 4) as usize];
+        self.waits.add(&last, times);
+    }
+
     // How often a channel of a router had each verdict that is counted here.
     pub(crate) fn totals(&self, lane: usize, channel: usize) -> VerdictCounts
         requires lane { lane < 32 }
@@ -217,7 +234,7 @@ impl Sheet {
         for slot in 0..(self.cycles % 4) as usize {
             counts = counts.with(self.recent[slot].at(lane), channel);
         }
-        counts
+        self.waits.with(counts, lane * 32 + channel)
     }
 }
 

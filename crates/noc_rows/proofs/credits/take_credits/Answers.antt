@@ -1,4 +1,4 @@
-use Rattle.std.proofs.Common.{◌≡◌, ℕ, ◌∙◌, ap, ap₂, arith}
+use Rattle.std.proofs.Common.{◌≡◌, ◌∙◌, ap, ap₂, arith}
 use Rattle.std.specs.Prelude.{◌&&◌, nat_eq, not}
 use Rattle.noc_rows.specs.Column.{Column}
 use Rattle.noc_rows.specs.Passes.{lane_returned, with_credits}

@@ -1,4 +1,4 @@
-use Rattle.std.proofs.Common.{◌+◌, ◌≤◌, arith, length, sym, subst}
+use Rattle.std.proofs.Common.{◌+◌, arith, sym, subst}
 use Rattle.noc_rows.proofs.ReaderLaws.{IsLatestTo, latest-all, latest-more, latest-none}
 use Rattle.noc_rows.proofs.latest.latest.Goals as goal
 

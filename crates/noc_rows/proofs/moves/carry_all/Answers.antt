@@ -1,16 +1,13 @@
-use Rattle.std.proofs.Common.{◌≡◌, ◌≢◌, ℕ, ◌+◌, ◌*◌, ◌%◌, ◌^◌, ◌<◌, ◌≤◌, Bool, true, false, List, [], ◌∷◌, ◌++◌, length, get_or, refl, ap, ap₂, sym, ◌∙◌, subst, arith, inl, inr, w32, rules}
-use Rattle.std.specs.Prelude.{◌&&◌, ◌||◌, not, nat_eq, slice_index, if◌then◌else◌}
-use Rattle.std.specs.Int.{trailing_zeros}
+use Rattle.std.proofs.Common.{◌≡◌, ◌+◌, ◌*◌, ◌^◌, ◌<◌, true, List, length, get_or, refl, ap, sym, ◌∙◌, subst, arith, rules}
 use Rattle.std.specs.Vec.{with_items}
 use Rattle.std.proofs.lemmas.List.{with_items_is}
 use Rattle.noc_packet.specs.Set.{has_bit}
 use Rattle.noc_rows.specs.Rows.{word}
-use Rattle.noc_rows.specs.Switched.{IsOne, gone_with, in_words, one_has, some_moved, some_tail}
-use Rattle.noc_rows.specs.Wires.{room_of, tails_of}
+use Rattle.noc_rows.specs.Wires.{room_of}
 use Rattle.noc_rows.specs.declared.wires.Inbox.{Inbox}
 use Rattle.noc_rows.proofs.SendLemmas.{IsGiving, IsSending}
-use Rattle.noc_rows.proofs.CarryLaws.{IsTurn, carrying-next, carrying-none, carried-all, noted-all}
-use Rattle.noc_rows.proofs.LaneLemmas.{least-zeros, not-zero}
+use Rattle.noc_rows.proofs.CarryLaws.{carrying-next, carrying-none, carried-all, noted-all}
+use Rattle.noc_rows.proofs.LaneLemmas.{not-zero}
 use Rattle.noc_rows.proofs.moves.carry_all.Goals as goal
 
 pub loop-rest-init : goal.loop-rest-init

@@ -1,4 +1,4 @@
-use Rattle.std.proofs.Common.{◌≡◌, ℕ, ◌+◌, ◌*◌, ◌%◌, ◌<◌, ◌≤◌, List, [], refl, subst, ap, ap₂, sym, ◌∙◌, arith, inl, inr, add-one, bit_and, bit_or, get_or}
+use Rattle.std.proofs.Common.{◌≡◌, ℕ, ◌<◌, List, [], refl, subst, ap, ap₂, sym, ◌∙◌, arith, inl, inr, add-one, bit_and, bit_or, get_or}
 use Rattle.std.proofs.lemmas.Bool.{cases_eq}
 use Rattle.noc_rows.specs.Bits.{less}
 use Rattle.noc_rows.specs.Moves.{channel_word, dry_by, of_one, ports_of, rest_from, selected_in, taken_in, turn_in, turned_by, union_from}

@@ -1,9 +1,9 @@
-use Rattle.std.proofs.Common.{◌≡◌, ℕ, ◌+◌, ◌*◌, ◌/◌, ◌%◌, ◌<◌, ◌≤◌, Bool, true, false, List, [], length, refl, ap, ap₂, sym, ◌∙◌, subst, arith, get_or, bit_and, rules}
-use Rattle.std.specs.Prelude.{◌&&◌, ◌||◌, not, nat_eq, slice_index, slice_index_or, if◌then◌else◌}
+use Rattle.std.proofs.Common.{◌≡◌, ℕ, ◌+◌, ◌*◌, ◌/◌, ◌%◌, ◌<◌, Bool, List, [], length, refl, ap, ap₂, sym, ◌∙◌, arith, get_or, bit_and, rules}
+use Rattle.std.specs.Prelude.{◌&&◌, ◌||◌, not, slice_index_or, if◌then◌else◌}
 use Rattle.std.specs.Vec.{with_items}
 use Rattle.std.proofs.lemmas.List.{with_items_is}
 use Rattle.noc_packet.specs.Set.{has_bit}
-use Rattle.noc_rows.specs.Moves.{has_freed, has_gone, ports_of, selected_in, some_below}
+use Rattle.noc_rows.specs.Moves.{has_freed, ports_of, selected_in, some_below}
 use Rattle.noc_rows.specs.Rows.{word}
 use Rattle.noc_rows.specs.Switched.{selected_by_ports, some_moved, some_tail}
 use Rattle.noc_rows.specs.Wires.{in_row}

@@ -1,4 +1,4 @@
-use Rattle.std.proofs.Common.{◌≡◌, ℕ, [], refl, sym, subst, get_or, bit_and}
+use Rattle.std.proofs.Common.{[], refl, sym, subst, get_or, bit_and}
 use Rattle.noc_rows.specs.Moves.{selected_in}
 use Rattle.noc_rows.specs.Rows.{word}
 use Rattle.noc_rows.specs.Switched.{IsOne}

@@ -1,4 +1,4 @@
-use Rattle.std.proofs.Common.{◌≡◌, ◌+◌, ◌≤◌, List, arith, length, set, sym, subst}
+use Rattle.std.proofs.Common.{◌+◌, List, arith, set, sym, subst}
 use Rattle.noc_rows.specs.declared.block.Block.{Block}
 use Rattle.noc_rows.specs.declared.wires.Inbox.{Inbox}
 use Rattle.noc_rows.specs.Wires.{room_of}

@@ -1,6 +1,4 @@
-use Rattle.std.proofs.Common.{◌+◌, ◌≤◌, ℕ, List, bit_or, arith, length, set, subst, sym}
-use Rattle.noc_rows.specs.declared.block.Block.{Block}
-use Rattle.noc_rows.specs.declared.sheet.Sheet.{Sheet}
+use Rattle.std.proofs.Common.{◌+◌, bit_or, arith, set, subst, sym}
 use Rattle.noc_rows.proofs.PassAll.{HaveConcludedTo, concluded-all, concluded-more, concluded-none, concluded-skip, concluded-without}
 use Rattle.noc_rows.proofs.passes.conclude_all.Goals as goal
 use Rattle.noc_rows.proofs.passes.conclude_all.Goals.{then-number-sheets+then-blocks-number, else-number-sheets, else-number-sheets-via-then-number-sheets+else-blocks-number, else-number-sheets-via-else-number-sheets}

@@ -1,4 +1,4 @@
-use Rattle.std.proofs.Common.{ℕ, ◌+◌, ◌^◌, ◌<◌, ◌≤◌, arith, length, set, subst, sym}
+use Rattle.std.proofs.Common.{ℕ, ◌+◌, ◌^◌, ◌<◌, arith, set, subst, sym}
 use Rattle.noc_rows.specs.Decided.{HasDecided}
 use Rattle.noc_rows.specs.Rows.{word}
 use Rattle.noc_rows.specs.Wires.{inbox_at}

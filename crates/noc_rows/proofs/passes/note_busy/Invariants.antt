@@ -1,4 +1,4 @@
-use Rattle.std.proofs.Common.{◌≡◌, ℕ, ◌<◌, length, Some, slice_get}
+use Rattle.std.proofs.Common.{◌≡◌, ℕ, ◌<◌, Some, slice_get}
 use Rattle.noc_packet.specs.Set.{has_bit}
 use Rattle.noc_rows.proofs.passes.note_busy.Given as goal
 

@@ -6,6 +6,7 @@ returns-clause-block c =
     record {
       columns = e.columns;
       counts = e.counts;
+      last = e.last;
       cycles = e.cycles;
       events = e.events;
       holds = e.holds;

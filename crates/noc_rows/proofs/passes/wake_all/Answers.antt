@@ -1,4 +1,4 @@
-use Rattle.std.proofs.Common.{◌≡◌, ◌+◌, length, arith, set, subst, sym}
+use Rattle.std.proofs.Common.{◌+◌, arith, set, subst, sym}
 use Rattle.noc_rows.proofs.PassAll.{AreWokenTo, woken-all, woken-more, woken-none}
 use Rattle.noc_rows.proofs.passes.wake_all.Goals as goal
 

@@ -1,5 +1,5 @@
-use Rattle.std.proofs.Common.{◌≡◌, ◌+◌, ◌*◌, ◌%◌, ◌<◌, ◌^◌, ◌∙◌, refl, arith}
-use Rattle.noc_rows.specs.Routed.{ring_at, routing_at, sets_by}
+use Rattle.std.proofs.Common.{◌+◌, ◌*◌, ◌<◌, ◌∙◌, refl, arith}
+use Rattle.noc_rows.specs.Routed.{ring_at, sets_by}
 use Rattle.noc_rows.specs.Wires.{room_of}
 use Rattle.noc_rows.proofs.EachLemmas.{each-all, each-next, each-none}
 use Rattle.noc_rows.proofs.RouteLemmas.{routes-from, same-routing}

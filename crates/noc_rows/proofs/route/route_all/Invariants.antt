@@ -1,4 +1,4 @@
-use Rattle.std.proofs.Common.{ℕ, ◌+◌, ◌*◌, ◌^◌, ◌≤◌, ◌<◌}
+use Rattle.std.proofs.Common.{◌+◌, ◌*◌, ◌^◌, ◌≤◌, ◌<◌}
 use Rattle.noc_route.specs.Routes.{width}
 use Rattle.noc_rows.specs.Grants.{KeepsPlaces}
 use Rattle.noc_rows.specs.Routed.{HasRoutes, Routing, ring_at, routing_at, sets_by}

@@ -1,4 +1,4 @@
-use Rattle.std.proofs.Common.{◌≡◌, ◌<◌, [], length, subst, arith, ◌∙◌}
+use Rattle.std.proofs.Common.{◌≡◌, [], subst, arith, ◌∙◌}
 use Rattle.std.proofs.lemmas.List.{get_or_default}
 use Rattle.noc_rows.specs.Decided.{HasChosenIn}
 use Rattle.noc_rows.specs.Wires.{inbox_at, room_of}

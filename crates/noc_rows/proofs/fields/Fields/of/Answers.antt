@@ -1,4 +1,4 @@
-use Rattle.std.proofs.Common.{◌≡◌, ℕ, ◌+◌, ◌-◌, ◌*◌, ◌%◌, ◌^◌, ◌<◌, ◌≤◌, ap, arith, refl}
+use Rattle.std.proofs.Common.{◌+◌, ◌-◌, ◌*◌, ◌%◌, ◌^◌, ◌<◌, ◌≤◌, ap, arith, refl}
 use Rattle.std.proofs.lemmas.Nat.{pow_below}
 use Rattle.noc_rows.proofs.FieldLemmas.{one-field}
 use Rattle.noc_rows.proofs.WordLemmas.{next-fits, next-is, power-is}

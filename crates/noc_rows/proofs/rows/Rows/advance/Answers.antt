@@ -1,9 +1,8 @@
-use Rattle.std.proofs.Common.{◌≡◌, ◌+◌, ◌<◌, ◌≤◌, ℕ, Bool, List, refl, sym, subst, arith, ◌∙◌}
+use Rattle.std.proofs.Common.{◌≡◌, ◌+◌, refl, sym, subst, arith, ◌∙◌}
 use Rattle.std.specs.Vec.{with_items}
 use Rattle.std.proofs.lemmas.List.{with_items_is}
 use Rattle.noc_rows.specs.Stages.{AreWoken}
-use Rattle.noc_rows.specs.Whole.{IsRows, IsWoken}
-use Rattle.noc_rows.specs.declared.block.Block.{Block}
+use Rattle.noc_rows.specs.Whole.{IsRows}
 use Rattle.noc_rows.proofs.StepLaws.{rows-later}
 use Rattle.noc_rows.proofs.rows.Rows.advance.Goals as goal
 
@@ -32,11 +31,14 @@ returns-else-idle-gt0-clause-rows c net n setup same limit is =
     = subst (λ cycle. AreWoken cycle next rows.wires.busy.items rows.blocks.items woke) is.cycle
     (subst (λ busy. AreWoken rows.cycle next busy rows.blocks.items woke) c.deref.ensures.value
     (subst (λ blocks. AreWoken rows.cycle next c.deref.result.now blocks woke) c.deref_mut.ensures.value c.wake_all-due.ensures)) in
-    c.step.ensures net n setup same (omega arith)
+    let next_count : n + 1 + c.wait.result ≡ n + (1 + c.wait.result) = omega arith in
+    subst (λ m. IsRows net m c.wait.new.self) next_count
+    (c.wait.ensures.rows net n rows setup (omega arith) is c.step.ensures.counted
+    (c.step.ensures.rows net n setup same (omega arith)
     (record {
       before = rows;
       next = next;
       shows = is;
       wakes = subst (λ blocks. AreWoken n next rows.wires.busy.items rows.blocks.items blocks) (sym items) wakes;
       rest = refl;
-    })
+    })))

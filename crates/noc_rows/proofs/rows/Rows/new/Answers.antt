@@ -1,8 +1,9 @@
-use Rattle.std.proofs.Common.{◌≡◌, length, replicate, refl, ap, sym, subst, ◌∙◌, arith, rules}
+use Rattle.std.proofs.Common.{◌≡◌, ◌+◌, ◌*◌, ◌/◌, length, replicate, refl, ap, sym, subst, ◌∙◌, arith, rules}
 use Rattle.noc_model.specs.Good.{IsGoodSetup}
 use Rattle.noc_model.specs.Network.{Setup}
-use Rattle.noc_rows.specs.Opened.{AreOpenWires}
-use Rattle.noc_rows.specs.Whole.{IsRows}
+use Rattle.noc_topo.specs.Shape.{nodes}
+use Rattle.noc_rows.specs.Opened.{AreOpenBlocks, AreOpenWires}
+use Rattle.noc_rows.specs.Whole.{IsRows, ShowsNetwork}
 use Rattle.noc_rows.specs.declared.rows.Rows.{Rows}
 use Rattle.noc_rows.proofs.FirstRowsLaws.{first-rows, same-setup}
 use Rattle.noc_rows.proofs.OpenedLaws.{good-limits, good-starts}
@@ -27,15 +28,31 @@ returns-clause-rows c given relation places packets good =
       starts = c.in_ok-starts.starts;
       wires = c.in_ok-wires.wires;
       cycle = 0;
+      found = c.in_ok-found.found;
     } in
-    subst (λ (net : Setup). IsRows net 0 rows) (sym same) (first-rows net setup rows (record {
+    let blocks_are : AreOpenBlocks net.relation c.in-Some.frame net.packets blocks
+    = c.in_ok-blocks.ensures net.packets (good-starts net setup c.in-Some.frame c.deref.result.now frame.nodes_are (c.deref.ensures.value ∙ starts)) in
+    let shows : IsRows net 0 rows = first-rows net setup rows (record {
       cycle = refl;
       frame = frame;
       starts = starts;
-      blocks = c.in_ok-blocks.ensures net.packets (good-starts net setup c.in-Some.frame c.deref.result.now frame.nodes_are (c.deref.ensures.value ∙ starts));
+      blocks = blocks_are;
       sheet = c.new.result;
       sheets = sheets;
       counts = c.new.ensures.counts;
       cycles = c.new.ensures.cycles;
       wires = subst (λ n. AreOpenWires n c.in-Some.frame.places (length net.packets) c.in_ok-wires.wires) many_again c.in_ok-wires.ensures;
-    }))
+    }) in
+    let few = setup.relation.table.grid.few_nodes in
+    let found : length c.in_ok-found.found.items ≡ (nodes net.relation.grid + 31) / 32 * 1024 =
+    let many = c.len-3.ensures in
+    let least = c.min.ensures in
+    let long = c.in_ok-found.ensures.len in
+    let blocks_many = blocks_are.many in
+    let nodes_are = frame.nodes_are in
+    omega (arith, many, least, long, blocks_many, nodes_are, few) in
+    subst (λ (net : Setup). ShowsNetwork net 0 rows) (sym same) (record {
+      rows = shows;
+      places = found;
+      found = λ r i l u. absurd (omega (arith, u));
+    })

@@ -1,5 +1,6 @@
 use Rattle.std.proofs.Common.{◌≡◌, ℕ, ◌∙◌, ◌+◌, ◌/◌, ◌%◌, ◌^◌, ◌<◌, ap, sym, arith}
-use Rattle.noc_rows.specs.Tallied.{counters_at, no_counts, with_recent}
+use Rattle.noc_rows.specs.Tallied.{counters_at, no_counts, with_recent, with_waits}
+use Rattle.noc_rows.specs.Column.{place_of}
 use Rattle.noc_rows.specs.Sheet.{counted_at}
 use Rattle.noc_rows.specs.declared.sheet.VerdictCounts.{VerdictCounts}
 use Rattle.noc_rows.proofs.TalliedLemmas.{counts-same, recent-four, recent-none}
@@ -19,9 +20,9 @@ returns-clause-counts c = λ few full j k l.
       lost_input = counted_at c.add-5.new.self m j k;
       lost_switch = counted_at c.add-6.new.self m j k;
     } in
-    ap (λ n. with_recent old.recent n j k (new ((old.cycles + 1) % 4294967296 / 4))) last
-    ∙ ap (λ m. with_recent old.recent 0 j k (new m)) more
-    ∙ sym (recent-none old.recent j k (new (old.cycles / 4 + 1)))
+    ap (λ n. with_waits old.waits (place_of j k) (with_recent old.recent n j k (new ((old.cycles + 1) % 4294967296 / 4)))) last
+    ∙ ap (λ m. with_waits old.waits (place_of j k) (with_recent old.recent 0 j k (new m))) more
+    ∙ ap (with_waits old.waits (place_of j k)) (sym (recent-none old.recent j k (new (old.cycles / 4 + 1)))
     ∙ counts-same _ _ _ _ _ _ _ _ _ _ _ _ (c.add.ensures fits j k l) (c.add-2.ensures fits j k l) (c.add-3.ensures fits j k l)
     (c.add-4.ensures fits j k l) (c.add-5.ensures fits j k l) (c.add-6.ensures fits j k l) no_counts
-    ∙ recent-four old.recent j k (counters_at old (old.cycles / 4) j k)
+    ∙ recent-four old.recent j k (counters_at old (old.cycles / 4) j k))

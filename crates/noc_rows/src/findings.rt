@@ -1,0 +1,179 @@
+//! What each router finds in a cycle: of each input channel its packet, its output channel and its verdict.
+//!
+//! The packet and the output channel are noted while the blocks are frozen, the verdict once they have decided.
+
+ghost use Rattle.std.specs.Prelude.{◌≡◌, ◌/◌, ◌%◌, ◌<◌};
+ghost use Rattle.noc_packet.specs.Set.{has_bit};
+ghost use Rattle.noc_router.specs.VerdictSets.{verdict_by};
+ghost use Rattle.noc_rows.specs.Found.{AreClaimed, HasPacket, HaveVerdicts, IsClaimed, least_place, out_at, sets_at};
+ghost use Rattle.noc_rows.specs.Wires.{in_row, room_of};
+
+use crate::block::Block;
+use crate::frame::Frame;
+use crate::lanes::{CHANNELS, ROUTERS, Row, least};
+use crate::room::Room;
+use crate::wires::Inbox;
+use crate::word::number;
+use noc_router::{Finding, Verdict};
+
+// What is found of a channel that holds nothing.
+pub(crate) const EMPTY: Finding = Finding {
+    verdict: Verdict::Empty,
+    packet: None,
+    out: None,
+};
+
+// The packet and the output channel of each input channel, in blocks that are frozen.
+pub(crate) fn note_claims(
+    frame: &Frame,
+    room: Room,
+    inboxes: &[Inbox],
+    blocks: &[Block],
+    found: &mut [Finding],
+)
+    ensures { AreClaimed frame.now (room_of room) inboxes.now blocks.now found.old found.new }
+{
+    for place in 0..found.len() {
+        let number = place / CHANNELS;
+        if number < blocks.len() && number < inboxes.len() {
+            let inbox = &inboxes[number];
+            found[place] = claim(frame, room, inbox, &blocks[number], place % CHANNELS);
+        }
+    }
+}
+
+// What is noted of one channel of a block that is frozen.
+fn claim(frame: &Frame, room: Room, inbox: &Inbox, block: &Block, channel: usize) -> Finding
+    requires { channel < 1024 }
+    ensures { IsClaimed frame.now (room_of room) inbox.now block.now channel result }
+{
+    if !block.awake {
+        return EMPTY;
+    }
+    Finding {
+        verdict: Verdict::Empty,
+        packet: packet_of(room, inbox, block, channel),
+        out: out_of(frame, block, channel),
+    }
+}
+
+// The packet of a channel.
+fn packet_of(room: Room, inbox: &Inbox, block: &Block, channel: usize) -> Option<u32>
+    requires { channel < 1024 }
+    ensures { HasPacket (room_of room) inbox.now block.now channel result }
+{
+    if has(&block.lanes.waiting, channel) || has(&block.lanes.active, channel) {
+        Some(block.marks.packet[channel])
+    } else if has(&block.arrived.filled, channel) {
+        Some(number(inbox.first(room, channel, block.marks.first[channel])))
+    } else {
+        None
+    }
+}
+
+// The output channel that a channel asks for or owns.
+fn out_of(frame: &Frame, block: &Block, channel: usize) -> Option<(usize, usize)>
+    requires { channel < 1024 }
+    ensures { result ≡ out_at frame.now block.now channel }
+{
+    if has(&block.lanes.waiting, channel) {
+        let idle = block.lanes.idle[channel / ROUTERS];
+        place_of_least(frame, block.marks.set[channel] & idle)
+    } else if has(&block.lanes.active, channel) {
+        place_of_least(frame, block.marks.taken[channel])
+    } else {
+        None
+    }
+}
+
+// The port and the virtual channel of the least channel of a set, if it has one.
+fn place_of_least(frame: &Frame, set: u32) -> Option<(usize, usize)>
+    ensures { result ≡ least_place frame.now set }
+{
+    if set == 0 {
+        return None;
+    }
+    let channel = least(set);
+    let port = usize::from(frame.port_of[channel]);
+    Some((port, usize::from(frame.vc_of[channel])))
+}
+
+// Whether a row has a channel of a block.
+#[inline(always)]
+fn has(row: &Row, channel: usize) -> bool
+    requires { channel < 1024 }
+    ensures { result ≡ in_row row.now channel }
+{
+    is_member(row[channel / ROUTERS], channel % ROUTERS)
+}
+
+// Whether a set has a channel.
+#[inline(always)]
+fn is_member(set: u32, channel: usize) -> bool
+    requires { channel < 32 }
+    ensures { result ≡ has_bit set channel }
+{
+    set >> channel as u32 & 1 == 1
+}
+
+// The verdict of each input channel, in blocks that have decided.
+pub(crate) fn note_verdicts(blocks: &[Block], found: &mut [Finding])
+    ensures { HaveVerdicts blocks.now found.old found.new }
+{
+    for place in 0..found.len() {
+        let number = place / CHANNELS;
+        if number < blocks.len() && blocks[number].awake {
+            let verdict = verdict(&blocks[number], place % CHANNELS);
+            found[place] = with_verdict(found[place], verdict);
+        }
+    }
+}
+
+// A finding with this verdict.
+fn with_verdict(finding: Finding, verdict: Verdict) -> Finding
+    ensures { result ≡ record finding { verdict = verdict } }
+{
+    Finding {
+        verdict,
+        packet: finding.packet,
+        out: finding.out,
+    }
+}
+
+// The verdict of one channel of a block that has decided.
+fn verdict(block: &Block, channel: usize) -> Verdict
+    requires { channel < 1024 }
+    ensures { result ≡ verdict_by (sets_at block.now (channel / 32)) (channel % 32) }
+{
+    let lane = channel / ROUTERS;
+    let channel = channel % ROUTERS;
+    let waiting = block.lanes.waiting[lane];
+    let active = block.lanes.active[lane];
+    let filled = block.arrived.filled[lane];
+    let ready = block.standing.ready[lane];
+    let picked = block.standing.picked[lane];
+    let granted = block.decided.granted[lane];
+    let lost = block.decided.lost[lane];
+    let moved = block.decided.moved[lane];
+    if is_member(moved, channel) {
+        Verdict::Moved
+    } else if is_member(granted, channel) {
+        Verdict::Granted
+    } else if is_member(block.standing.heads[lane], channel) {
+        Verdict::Routed
+    } else if is_member(active & !filled, channel) {
+        Verdict::NoFlit
+    } else if is_member(waiting & !(granted | lost), channel) {
+        Verdict::NoIdleChannel
+    } else if is_member(lost, channel) {
+        Verdict::LostChannel
+    } else if is_member(active & filled & !ready, channel) {
+        Verdict::NoCredit
+    } else if is_member(ready & !picked, channel) {
+        Verdict::LostInput
+    } else if is_member(picked & !moved, channel) {
+        Verdict::LostSwitch
+    } else {
+        Verdict::Empty
+    }
+}
