@@ -1,10 +1,19 @@
 -- What a network's fields are seen as, and what is true of them.
+use Rattle.std.specs.Prelude.{◌≡◌, ◌≤◌, IfSome, None}
+use Rattle.noc_model.specs.declared.limits.TheConstants.{CYCLE_LIMIT}
 use Rattle.noc_model.specs.Network.{Run}
+use Rattle.noc_rows.specs.Whole.{ShowsNetwork}
 use Rattle.noc_net.specs.declared.network.Network.TheInside.{Inside}
-use Rattle.noc_net.specs.Parts.{AreParts, run_in}
+use Rattle.noc_net.specs.Parts.{AreParts, setup_in}
 
 abbrev pub run_of : Inside → Run
-run_of n = run_in n.parts
+run_of n = record { net = setup_in n.parts; count = n.count }
 
-abbrev pub IsNetwork : Inside → Type 0
-IsNetwork n = AreParts n.parts
+-- the routers are those of the network at their own count, which is not above the network's; rows show the network at its count, and
+-- where there are none the routers are at it
+pub record IsNetwork (n : Inside) : Type 0 where
+  pub parts : AreParts n.parts
+  pub behind : n.parts.count ≤ n.count
+  pub within : n.count ≤ CYCLE_LIMIT
+  pub rows : IfSome n.rows (ShowsNetwork (setup_in n.parts) n.count)
+  pub routers : n.rows ≡ None → n.parts.count ≡ n.count

@@ -1,4 +1,9 @@
 //! The network.
+//!
+//! A network runs by rows (`noc_rows`) where its channels and places fit their words, and its routers stay at the
+//! count at which it was made. Where they do not fit, and after `from_parts`, its routers run. The readers ask whichever of
+//! the two has run. Nothing is carried from one to the other: `into_parts` has the routers run the cycles that the rows
+//! have run, and lets the rows go.
 
 ghost use Rattle.std.specs.Prelude.{◌≡◌, ℕ, ◌+◌, ◌*◌, ◌<◌, ◌≤◌, ◌&&◌, All, Err, IfErr, IfOk, None, Some, false, is_none, length, nat_le, vec_len};
 ghost use Rattle.std.specs.List.{slice_get};
@@ -16,10 +21,8 @@ ghost use Rattle.noc_model.specs.Good.{IsGoodSetup};
 ghost use Rattle.noc_model.specs.Network.{arrival_in, packet_at, state_at};
 ghost use Rattle.noc_model.specs.Progress.{is_pending, is_stuck, last_event_before};
 ghost use Rattle.noc_net.specs.Parts.{AreParts, run_in};
-ghost use Rattle.noc_net.specs.Latest.{later_of, latest_of};
 ghost use Rattle.noc_net.specs.Limit.{IsLimit};
 
-use crate::cycles::run_all;
 use crate::fault::NetFault;
 use crate::packets::{ends_at, first_fault, starts_at};
 use crate::parts::Parts;
@@ -28,6 +31,7 @@ use noc_model::CYCLE_LIMIT;
 use noc_packet::{Beat, MAX_BUFFER, MAX_PACKETS, Memory, Packet};
 use noc_route::Relation;
 use noc_router::{Finding, Plan, Router, VERDICTS};
+use noc_rows::Rows;
 use noc_topo::LINKS;
 use std::alloc::Global;
 use std::marker::Model;
@@ -38,7 +42,10 @@ use std::marker::Model;
 /// cycles that it has run. What its readers answer follows from them (docs/MODEL.md).
 #[derive(Drop)]
 pub struct Network {
+    // The routers, at their own count: that of the network where there are no rows.
     parts: Parts,
+    rows: Option<Rows>,
+    count: u64,
 }
 
 impl Model for Network {
@@ -76,6 +83,7 @@ impl Network {
             return Err(fault);
         }
         let (routers, plan, beats, room) = new_state(alloc, &relation, places, &packets)?;
+        let rows = Rows::new(alloc, &relation, places, &packets)?;
         Ok(Network {
             parts: Parts {
                 relation,
@@ -87,15 +95,19 @@ impl Network {
                 beats,
                 room,
             },
+            rows,
+            count: 0,
         })
     }
 
     /// Takes the network apart: its routers with their findings, and its beats in flight, are those of its state at its count.
+    /// The routers run the cycles again that rows have run, which takes them as long as it ever does.
     pub fn into_parts(self) -> Parts
         ensures network { run_in result ≡ self }
         ensures parts { AreParts result }
     {
-        let Network { parts } = self;
+        let Network { mut parts, rows: _, count } = self;
+        parts.run(count - parts.count);
         parts
     }
 
@@ -104,7 +116,8 @@ impl Network {
         requires { AreParts parts }
         ensures { result ≡ run_in parts }
     {
-        Network { parts }
+        let count = parts.count;
+        Network { parts, rows: None, count }
     }
 
     /// Runs one cycle: each router takes its beats, injects, decides and commits, and then all put. A network whose relation
@@ -123,20 +136,11 @@ impl Network {
         ensures value { self.new ≡ record self.old { count = self.old.count + cycles } }
         ensures unstuck { (ranks : Ranking) → IsRankedBy self.new.net.relation ranks → is_stuck self.new.net self.new.count ≡ false }
     {
-        let first = self.parts.count;
-        if cycles == 0 {
-            return;
+        match &mut self.rows {
+            Some(rows) => rows.run(&self.parts.relation, cycles as u32),
+            None => self.parts.run(cycles),
         }
-        let parts = &mut self.parts;
-        run_all(
-            &parts.relation,
-            &mut parts.plan,
-            first,
-            first + cycles - 1,
-            &mut parts.routers,
-            &mut parts.beats,
-        );
-        parts.count = first + cycles;
+        self.count += cycles;
     }
 
     /// How many cycles have run, at most the limit: a network never goes beyond it.
@@ -144,7 +148,7 @@ impl Network {
         ensures value { result ≡ self.now.count }
         ensures within { result ≤ CYCLE_LIMIT }
     {
-        self.parts.count
+        self.count
     }
 
     /// Whether cycle `count` is pending: a packet due by then has its tail not out yet. None is where the relation is ranked and
@@ -153,7 +157,7 @@ impl Network {
         ensures value { result ≡ is_pending self.now.net self.now.count (state_at self.now.net self.now.count) }
         ensures ranked { (ranks : Ranking) (limit : ℕ) → IsRankedBy self.now.net.relation ranks → IsLimit self.now.net limit → limit ≤ self.now.count → result ≡ false }
     {
-        self.is_waiting_by(self.parts.count)
+        self.is_waiting_by(self.count)
     }
 
     // Whether a packet due by this cycle has its tail not out.
@@ -180,7 +184,10 @@ impl Network {
     pub fn last_event(&self) -> Option<u64>
         ensures { result ≡ last_event_before self.now.net self.now.count }
     {
-        latest_event(&self.parts.routers)
+        match &self.rows {
+            Some(rows) => rows.last_event(),
+            None => self.parts.last_event(),
+        }
     }
 
     /// Whether the last cycle was pending and had no event: never where the relation is ranked.
@@ -188,7 +195,7 @@ impl Network {
         ensures value { result ≡ is_stuck self.now.net self.now.count }
         ensures ranked { (ranks : Ranking) → IsRankedBy self.now.net.relation ranks → result ≡ false }
     {
-        match self.parts.count.checked_sub(1) {
+        match self.count.checked_sub(1) {
             Some(last) => self.is_stuck_since(last),
             None => false,
         }
@@ -209,8 +216,10 @@ impl Network {
         ensures value { result ≡ arrival_in self.now.net (state_at self.now.net self.now.count) number }
         ensures ranked { (ranks : Ranking) (limit : ℕ) → IsRankedBy self.now.net.relation ranks → IsLimit self.now.net limit → limit ≤ self.now.count → (cycle : ℕ) × (result ≡ Some cycle) × (cycle < limit) }
     {
-        let parts = &self.parts;
-        parts.routers[parts.packets[number].destination as usize].arrival(number as u32)
+        match &self.rows {
+            Some(rows) => rows.arrival(number),
+            None => self.parts.arrival(number),
+        }
     }
 
     /// In how many of the cycles each verdict was that of an input channel, in the order of `Verdict`. The ten counts add up to
@@ -221,7 +230,10 @@ impl Network {
         requires vc { vc < self.now.net.relation.vcs }
         ensures { result ≡ counts_before self.now.net self.now.count router (port * self.now.net.relation.vcs + vc) }
     {
-        self.parts.routers[router].counts(port, vc)
+        match &self.rows {
+            Some(rows) => rows.counts(router, port, vc),
+            None => self.parts.counts(router, port, vc),
+        }
     }
 
     /// What a router found in the last cycle, by input channel: none before the first cycle.
@@ -229,14 +241,17 @@ impl Network {
         requires { router < nodes_of self.now.net.relation.grid }
         ensures { result.now ≡ findings_before self.now.net self.now.count router }
     {
-        self.parts.routers[router].findings()
+        match &self.rows {
+            Some(rows) => rows.findings(router),
+            None => self.parts.findings(router),
+        }
     }
 
     /// How many flits and credits did not fit, in all routers: none ever does.
     pub fn misfits(&self) -> u64
         ensures { result ≡ 0 }
     {
-        total_misfits(&self.parts.routers)
+        self.parts.misfits()
     }
 
     /// The packet with this number.
@@ -262,40 +277,6 @@ impl Network {
     {
         &self.parts.relation
     }
-}
-
-// The last cycle with an event, in any of these routers.
-fn latest_event(routers: &[Router]) -> Option<u64>
-    ensures { result ≡ latest_of routers.now }
-{
-    let mut last = None;
-    for router in routers {
-        last = later(last, router.last_event());
-    }
-    last
-}
-
-// The later of two cycles, where there are any.
-fn later(first: Option<u64>, second: Option<u64>) -> Option<u64>
-    ensures { result ≡ later_of first second }
-{
-    match (first, second) {
-        (None, _) => second,
-        (Some(_), None) => first,
-        (Some(a), Some(b)) => { if a < b { second } else { first } }
-    }
-}
-
-// The misfits of these routers, which have none.
-fn total_misfits(routers: &[Router]) -> u64
-    requires { All (λ v. v.misfits ≡ 0) routers.now }
-    ensures { result ≡ 0 }
-{
-    let mut misfits = 0u64;
-    for router in routers {
-        misfits = misfits.saturating_add(router.misfits());
-    }
-    misfits
 }
 
 // The routers of a network, a plan for them, an idle beat on every wire, and the storage of a core.

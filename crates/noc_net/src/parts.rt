@@ -1,9 +1,19 @@
-//! A network taken apart.
+//! A network taken apart: its routers, how they run, and what they answer.
 
+ghost use Rattle.std.specs.Prelude.{◌≡◌, ◌+◌, ◌*◌, ◌<◌, ◌≤◌, All, length};
+ghost use Rattle.noc_topo.specs.Shape.{nodes as nodes_of, ports as ports_of};
+ghost use Rattle.noc_model.specs.Lockstep.{counts_before, findings_before};
+ghost use Rattle.noc_model.specs.Network.{arrival_in, state_at};
+ghost use Rattle.noc_model.specs.Progress.{last_event_before};
+ghost use Rattle.noc_net.specs.Parts.{AreParts, run_in, setup_in};
+ghost use Rattle.noc_net.specs.Latest.{later_of, latest_of};
+
+use crate::cycles::run_all;
 use crate::room::Room;
+use noc_model::CYCLE_LIMIT;
 use noc_packet::{Beat, Packet};
 use noc_route::Relation;
-use noc_router::{Plan, Router};
+use noc_router::{Finding, Plan, Router, VERDICTS};
 use noc_topo::LINKS;
 
 /// What a network is made of, so that others can run its routers (`Network::into_parts`, `Network::from_parts`).
@@ -25,4 +35,107 @@ pub struct Parts {
     pub beats: Vec<[Beat; LINKS]>,
     /// The storage of a core, one for each router.
     pub room: Vec<Room>,
+}
+
+impl Parts {
+    // Runs so many cycles.
+    pub(crate) fn run(&mut self, cycles: u64)
+        requires parts { AreParts self.old }
+        requires within { self.old.count + cycles ≤ CYCLE_LIMIT }
+        ensures parts { AreParts self.new }
+        ensures network { run_in self.new ≡ record { net = setup_in self.old; count = self.old.count + cycles } }
+    {
+        let first = self.count;
+        if cycles == 0 {
+            return;
+        }
+        run_all(
+            &self.relation,
+            &mut self.plan,
+            first,
+            first + cycles - 1,
+            &mut self.routers,
+            &mut self.beats,
+        );
+        self.count = first + cycles;
+    }
+
+    // The last cycle with an event, in any router.
+    pub(crate) fn last_event(&self) -> Option<u64>
+        requires { AreParts self.now }
+        ensures { result ≡ last_event_before (setup_in self.now) self.now.count }
+    {
+        latest_event(&self.routers)
+    }
+
+    // The cycle in which the tail of a packet was out.
+    pub(crate) fn arrival(&self, number: usize) -> Option<u64>
+        requires parts { AreParts self.now }
+        requires number { number < length self.now.packets.items }
+        ensures { result ≡ arrival_in (setup_in self.now) (state_at (setup_in self.now) self.now.count) number }
+    {
+        self.routers[self.packets[number].destination as usize].arrival(number as u32)
+    }
+
+    // In how many of the cycles each verdict was that of an input channel, in the order of `Verdict`.
+    pub(crate) fn counts(&self, router: usize, port: usize, vc: usize) -> [u64; VERDICTS]
+        requires parts { AreParts self.now }
+        requires router { router < nodes_of self.now.relation.grid }
+        requires port { port < ports_of self.now.relation.grid }
+        requires vc { vc < self.now.relation.vcs }
+        ensures { result ≡ counts_before (setup_in self.now) self.now.count router (port * self.now.relation.vcs + vc) }
+    {
+        self.routers[router].counts(port, vc)
+    }
+
+    // What a router found in the last cycle, by input channel: none before the first cycle.
+    pub(crate) fn findings(&self, router: usize) -> &[Finding]
+        requires parts { AreParts self.now }
+        requires router { router < nodes_of self.now.relation.grid }
+        ensures { result.now ≡ findings_before (setup_in self.now) self.now.count router }
+    {
+        self.routers[router].findings()
+    }
+
+    // How many flits and credits did not fit, in all routers: none ever does.
+    pub(crate) fn misfits(&self) -> u64
+        requires { AreParts self.now }
+        ensures { result ≡ 0 }
+    {
+        total_misfits(&self.routers)
+    }
+}
+
+// The last cycle with an event, in any of these routers.
+fn latest_event(routers: &[Router]) -> Option<u64>
+    ensures { result ≡ latest_of routers.now }
+{
+    let mut last = None;
+    for router in routers {
+        last = later(last, router.last_event());
+    }
+    last
+}
+
+// The later of two cycles, where there are any.
+fn later(first: Option<u64>, second: Option<u64>) -> Option<u64>
+    ensures { result ≡ later_of first second }
+{
+    match (first, second) {
+        (None, _) => second,
+        (Some(_), None) => first,
+        (Some(a), Some(b)) => { if a < b { second } else { first } }
+    }
+}
+
+// The misfits of these routers, which have none.
+fn total_misfits(routers: &[Router]) -> u64
+    requires { All (λ v. v.misfits ≡ 0) routers.now }
+    ensures { result ≡ 0 }
+{
+    let mut misfits = 0u64;
+    for router in routers {
+        misfits = misfits.saturating_add(router.misfits());
+    }
+    misfits
 }

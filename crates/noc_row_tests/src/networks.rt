@@ -12,11 +12,33 @@ use noc_topo::{Kind, Shape};
 use std::alloc::{AllocError, Global};
 use std::test::Fail;
 
-/// A network twice.
+/// A network twice: in rows, and one that its routers run.
 #[derive(Drop)]
 pub struct Pair {
     pub rows: Rows,
     pub network: Network,
+}
+
+/// The network of a relation and some packets twice, where it fits into rows. One that is put together from parts has no
+/// rows, so that its routers run.
+fn pair(
+    alloc: Global,
+    relation: Relation,
+    places: usize,
+    packets: Vec<Packet>,
+) -> Result<Option<Pair>, Fail>
+    requires some_place { 0 < places }
+    requires places { places ≤ 16 }
+    ensures { IfOk result (λ made. IfSome made (λ pair. pair.network.count ≡ 0)) }
+{
+    let Some(rows) = Rows::new(alloc, &relation, places, &packets)? else {
+        return Ok(None);
+    };
+    let network = Network::new(alloc, relation, places, packets)?;
+    Ok(Some(Pair {
+        rows,
+        network: Network::from_parts(network.into_parts()),
+    }))
 }
 
 /// A network of the shape with this number, twice, if its rule fits its shape: each rule in turn, and every tenth with one
@@ -48,11 +70,7 @@ pub fn pair_of(
     let load = if dense { 3 } else { chance.below(4) };
     let classes = if relation.classes() > 1 { 2 } else { 1 };
     let packets = traffic(alloc, shape.nodes() as u32, classes, load, chance)?;
-    let Some(rows) = Rows::new(alloc, &relation, places, &packets)? else {
-        return Ok(None);
-    };
-    let network = Network::new(alloc, relation, places, packets)?;
-    Ok(Some(Pair { rows, network }))
+    pair(alloc, relation, places, packets)
 }
 
 /// Four packets that wait for one another on a ring of four routers, each two hops from its source, with one place in each
@@ -71,11 +89,7 @@ pub fn stuck_ring(alloc: Global) -> Result<Option<Pair>, Fail>
             two_hops(3, 1),
         ],
     )?;
-    let Some(rows) = Rows::new(alloc, &relation, 1, &packets)? else {
-        return Ok(None);
-    };
-    let network = Network::new(alloc, relation, 1, packets)?;
-    Ok(Some(Pair { rows, network }))
+    pair(alloc, relation, 1, packets)
 }
 
 /// Two such rings side by side. In the second one packet after the other has the way to itself, with long times between
@@ -98,11 +112,7 @@ pub fn stuck_ring_beside_another(alloc: Global) -> Result<Option<Pair>, Fail>
             later(4, 11, 30_000),
         ],
     )?;
-    let Some(rows) = Rows::new(alloc, &relation, 1, &packets)? else {
-        return Ok(None);
-    };
-    let network = Network::new(alloc, relation, 1, packets)?;
-    Ok(Some(Pair { rows, network }))
+    pair(alloc, relation, 1, packets)
 }
 
 /// A packet of four flits.

@@ -1,6 +1,6 @@
 use Rattle.std.proofs.Common.{◌≡◌, take}
 use Rattle.noc_net.specs.Latest.{latest_of}
-use Rattle.noc_net.proofs.network.latest_event.Given as goal
+use Rattle.noc_net.proofs.parts.latest_event.Given as goal
 
 -- the latest of the routers so far
 abbrev pub invariant-loop-router : goal.invariant-loop-router
