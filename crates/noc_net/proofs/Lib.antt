@@ -1,6 +1,7 @@
 pub mod FaultLemmas
 pub mod LimitLemmas
 pub mod MarkLemmas
+pub mod NetworkLemmas
 pub mod PacketLemmas
 pub mod PartsLemmas
 pub mod ReaderLemmas

@@ -101,13 +101,18 @@ impl Network {
     }
 
     /// Takes the network apart: its routers with their findings, and its beats in flight, are those of its state at its count.
-    /// The routers run the cycles again that rows have run, which takes them as long as it ever does.
+    /// It costs as many cycles of the routers as have run by rows, since the routers run these again.
     pub fn into_parts(self) -> Parts
         ensures network { run_in result ≡ self }
         ensures parts { AreParts result }
     {
-        let Network { mut parts, rows: _, count } = self;
-        parts.run(count - parts.count);
+        let Network {
+            mut parts,
+            rows: _,
+            count,
+        } = self;
+        let behind = count - parts.count;
+        parts.run(behind);
         parts
     }
 
@@ -117,7 +122,11 @@ impl Network {
         ensures { result ≡ run_in parts }
     {
         let count = parts.count;
-        Network { parts, rows: None, count }
+        Network {
+            parts,
+            rows: None,
+            count,
+        }
     }
 
     /// Runs one cycle: each router takes its beats, injects, decides and commits, and then all put. A network whose relation

@@ -21,7 +21,7 @@ pub struct Pair {
 
 /// The network of a relation and some packets twice, where it fits into rows. One that is put together from parts has no
 /// rows, so that its routers run.
-fn pair(
+fn twice(
     alloc: Global,
     relation: Relation,
     places: usize,
@@ -70,7 +70,7 @@ pub fn pair_of(
     let load = if dense { 3 } else { chance.below(4) };
     let classes = if relation.classes() > 1 { 2 } else { 1 };
     let packets = traffic(alloc, shape.nodes() as u32, classes, load, chance)?;
-    pair(alloc, relation, places, packets)
+    twice(alloc, relation, places, packets)
 }
 
 /// Four packets that wait for one another on a ring of four routers, each two hops from its source, with one place in each
@@ -89,7 +89,7 @@ pub fn stuck_ring(alloc: Global) -> Result<Option<Pair>, Fail>
             two_hops(3, 1),
         ],
     )?;
-    pair(alloc, relation, 1, packets)
+    twice(alloc, relation, 1, packets)
 }
 
 /// Two such rings side by side. In the second one packet after the other has the way to itself, with long times between
@@ -112,7 +112,7 @@ pub fn stuck_ring_beside_another(alloc: Global) -> Result<Option<Pair>, Fail>
             later(4, 11, 30_000),
         ],
     )?;
-    pair(alloc, relation, 1, packets)
+    twice(alloc, relation, 1, packets)
 }
 
 /// A packet of four flits.

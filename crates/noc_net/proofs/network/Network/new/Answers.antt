@@ -18,14 +18,20 @@ invariant_of-result c =
     ∙ ap (λ (packets : List Packet). tabulate (nodes c.args.relation.grid) (λ node. opening_view (record { grid = c.args.relation.grid; node = node; vcs = c.args.relation.vcs; places = c.args.places }) (starts_of packets node) (ends_of packets node))) c.deref-2.ensures.value in
     let good : IsGoodSetup net = subst (λ (packets : List Packet). IsGoodSetup (record { relation = c.args.relation; places = c.args.places; packets = packets })) c.deref.ensures.value
     (c.in_default.ensures.good c.args.places c.requires.some_place) in
-    parts-in_step _ good (omega arith)
-    (record {
-      views = views ∙ sym (opening_views net);
-      wires = opening_wires net c.in_ok-routers.beats.items (silent_at c.in_ok-routers.beats.items c.in_ok-routers.ensures.idle);
-    })
-    c.in_ok-routers.ensures.beats
-    c.in_ok-routers.ensures.plan
-    c.in_ok-routers.ensures.room
+    record {
+      parts = parts-in_step _ good (omega arith)
+          (record {
+            views = views ∙ sym (opening_views net);
+            wires = opening_wires net c.in_ok-routers.beats.items (silent_at c.in_ok-routers.beats.items c.in_ok-routers.ensures.idle);
+          })
+          c.in_ok-routers.ensures.beats
+          c.in_ok-routers.ensures.plan
+          c.in_ok-routers.ensures.room;
+      behind = omega arith;
+      within = omega arith;
+      rows = c.in_ok-rows.ensures.rows net refl refl (sym c.deref-3.ensures.value) good;
+      routers = λ e. refl;
+    }
 
 pub returns-clause-made : goal.returns-clause-made
 returns-clause-made c = refl

@@ -9,4 +9,4 @@ pub returns-clause-ranked : goal.returns-clause-ranked
 returns-clause-ranked c = λ ranks limit ranked is late.
     let now = c.args.self.now in
     c.is_waiting_by.ensures ∙ ap (λ (u : Run). is_pending now.net u.count (state_at now.net now.count)) c.self.view_is
-    ∙ idle now.net (subst (λ (u : Run). IsGoodSetup u.net) c.self.view_is c.self.invariant.good) ranks ranked limit is now.count late
+    ∙ idle now.net (subst (λ (u : Run). IsGoodSetup u.net) c.self.view_is c.self.invariant.parts.good) ranks ranked limit is now.count late

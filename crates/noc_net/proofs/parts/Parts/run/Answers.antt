@@ -9,7 +9,7 @@ use Rattle.noc_net.proofs.parts.Parts.run.Goals as goal
 
 pub run_all-requires-clause-in_step : goal.run_all-requires-clause-in_step
 run_all-requires-clause-in_step c =
-    let parts = c.args.self.old in (
+    let parts = c.args.self.now in (
       setup_in parts,
       refl,
       record {
@@ -20,7 +20,7 @@ run_all-requires-clause-in_step c =
 
 pub returns-clause-parts : goal.returns-clause-parts
 returns-clause-parts c =
-    let parts = c.args.self.old in
+    let parts = c.args.self.now in
     let sound = c.requires.parts in
     let net = setup_in parts in
     let first : AreInStep net parts.count c.deref_mut.result.now c.deref_mut-2.result.now = record {

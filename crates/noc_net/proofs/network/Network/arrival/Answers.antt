@@ -1,0 +1,32 @@
+use Rattle.std.proofs.Common.{◌≡◌, ℕ, ◌<◌, ◌≤◌, Option, Some, length, ap, sym, ◌∙◌, subst}
+use Rattle.noc_route.specs.Ranks.{IsRankedBy, Ranking}
+use Rattle.noc_model.specs.Good.{IsGoodSetup}
+use Rattle.noc_model.specs.Network.{Run, arrival_in, state_at}
+use Rattle.noc_net.specs.Limit.{IsLimit}
+use Rattle.noc_net.specs.Parts.{setup_in}
+use Rattle.noc_net.proofs.LimitLemmas.{arrives}
+use Rattle.noc_net.proofs.NetworkLemmas.{routers-run, shown}
+use Rattle.noc_net.proofs.network.Network.arrival.Goals as goal
+
+-- a ranked network has this answer by its limit
+abbrev IsInTime : Run → Option ℕ → Type 0
+IsInTime u answer = (ranks : Ranking) → (limit : ℕ) → IsRankedBy u.net.relation ranks → IsLimit u.net limit → limit ≤ u.count → (cycle : ℕ) × (answer ≡ Some cycle) × (cycle < limit)
+
+in-time : (u : Run) → IsGoodSetup u.net → (number : ℕ) → number < length u.net.packets → (answer : Option ℕ) → answer ≡ arrival_in u.net (state_at u.net u.count) number → IsInTime u answer
+in-time u good number l answer e = λ ranks limit ranked is late.
+    let one = arrives u.net good ranks ranked limit is u.count late number l in
+    (one.0, e ∙ one.1, one.2)
+
+pub returns-in-Some-clause-ranked : goal.returns-in-Some-clause-ranked
+returns-in-Some-clause-ranked c =
+    let n = c.self.inside in
+    let within : c.args.number < length n.parts.packets.items = subst (λ (u : Run). c.args.number < length u.net.packets) (sym c.self.view_is) c.requires in
+    in-time c.args.self.now (subst (λ (u : Run). IsGoodSetup u.net) c.self.view_is c.self.invariant.parts.good) c.args.number c.requires c.arrival.result
+    (c.arrival.ensures (setup_in n.parts) n.count (shown n c.self.invariant c.in-Some.rows c.in-Some.is).rows within
+        ∙ ap (λ (u : Run). arrival_in u.net (state_at u.net u.count) c.args.number) c.self.view_is)
+
+pub returns-in-None-clause-ranked : goal.returns-in-None-clause-ranked
+returns-in-None-clause-ranked c =
+    let n = c.self.inside in
+    in-time c.args.self.now (subst (λ (u : Run). IsGoodSetup u.net) c.self.view_is c.self.invariant.parts.good) c.args.number c.requires c.arrival-in-None.result
+    (c.arrival-in-None.ensures ∙ ap (λ (u : Run). arrival_in u.net (state_at u.net u.count) c.args.number) (routers-run n c.self.invariant c.in-None.is ∙ c.self.view_is))
