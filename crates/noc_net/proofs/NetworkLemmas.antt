@@ -1,8 +1,8 @@
 -- A network by rows, or by its routers.
-use Rattle.std.proofs.Common.{◌≡◌, ℕ, ◌+◌, ◌≤◌, Option, Some, None, refl, ap, sym, ◌∙◌, subst, arith}
+use Rattle.std.proofs.Common.{◌≡◌, ℕ, ◌+◌, ◌≤◌, Option, Some, None, ap, sym, ◌∙◌, subst, arith}
 use Rattle.std.specs.Prelude.{IfSome}
 use Rattle.noc_model.specs.declared.limits.TheConstants.{CYCLE_LIMIT}
-use Rattle.noc_model.specs.Network.{Run, Setup}
+use Rattle.noc_model.specs.Network.{Run}
 use Rattle.noc_rows.specs.Whole.{ShowsNetwork}
 use Rattle.noc_rows.specs.declared.rows.Rows.{Rows}
 use Rattle.noc_net.specs.declared.network.Network.TheInside.{Inside}
@@ -22,12 +22,12 @@ routers-run n sound none = ap (λ (k : ℕ). (let u : Run = record { net = setup
 pub by-rows : (n : Inside) → IsNetwork n → (cycles : ℕ) → n.count + cycles ≤ CYCLE_LIMIT → (rows : Rows) → ShowsNetwork (setup_in n.parts) (n.count + cycles) rows
     → IsNetwork (record { parts = n.parts; rows = Some rows; count = n.count + cycles })
 by-rows n sound cycles within rows shows = record {
-      parts = sound.parts;
-      behind = let b = sound.behind in omega arith;
-      within = within;
-      rows = shows;
-      routers = λ e. absurd (cc e);
-    }
+  parts = sound.parts;
+  behind = let b = sound.behind in omega arith;
+  within = within;
+  rows = shows;
+  routers = λ e. absurd (cc e);
+}
 
 -- more cycles by its routers
 pub by-routers : (n : Inside) → IsNetwork n → n.rows ≡ None → (cycles : ℕ) → n.count + cycles ≤ CYCLE_LIMIT → (parts : Parts) → AreParts parts

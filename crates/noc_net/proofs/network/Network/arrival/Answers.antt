@@ -23,7 +23,7 @@ returns-in-Some-clause-ranked c =
     let within : c.args.number < length n.parts.packets.items = subst (λ (u : Run). c.args.number < length u.net.packets) (sym c.self.view_is) c.requires in
     in-time c.args.self.now (subst (λ (u : Run). IsGoodSetup u.net) c.self.view_is c.self.invariant.parts.good) c.args.number c.requires c.arrival.result
     (c.arrival.ensures (setup_in n.parts) n.count (shown n c.self.invariant c.in-Some.rows c.in-Some.is).rows within
-        ∙ ap (λ (u : Run). arrival_in u.net (state_at u.net u.count) c.args.number) c.self.view_is)
+    ∙ ap (λ (u : Run). arrival_in u.net (state_at u.net u.count) c.args.number) c.self.view_is)
 
 pub returns-in-None-clause-ranked : goal.returns-in-None-clause-ranked
 returns-in-None-clause-ranked c =

@@ -14,11 +14,11 @@ invariant_of-self c =
     let n = c.self.inside in
     let within : n.count + c.args.cycles ≤ CYCLE_LIMIT = subst (λ (u : Run). u.count + c.args.cycles ≤ CYCLE_LIMIT) (sym c.self.view_is) c.requires in
     elim c.match-self.branch [
-      in-Some w ↦ subst (λ (m : Inside). IsNetwork (record { parts = m.parts; rows = m.rows; count = m.count + c.args.cycles })) (sym w.self-inside-is)
-      (by-rows n c.self.invariant c.args.cycles within w.run.new.self
-      (w.run.ensures (setup_in n.parts) n.count c.self.invariant.parts.good refl within (shown n c.self.invariant w.in-Some.rows w.in-Some.is)))
-    | in-None w ↦ subst (λ (m : Inside). IsNetwork (record { parts = m.parts; rows = m.rows; count = m.count + c.args.cycles })) (sym w.self-inside-is)
-      (by-routers n c.self.invariant w.in-None.is c.args.cycles within w.run-in-None.new.self w.run-in-None.ensures.parts w.run-in-None.ensures.network)
+      | in-Some w ↦ subst (λ (m : Inside). IsNetwork (record { parts = m.parts; rows = m.rows; count = m.count + c.args.cycles })) (sym w.self-inside-is)
+          (by-rows n c.self.invariant c.args.cycles within w.run.new.self
+          (w.run.ensures (setup_in n.parts) n.count c.self.invariant.parts.good refl within (shown n c.self.invariant w.in-Some.rows w.in-Some.is)))
+      | in-None w ↦ subst (λ (m : Inside). IsNetwork (record { parts = m.parts; rows = m.rows; count = m.count + c.args.cycles })) (sym w.self-inside-is)
+          (by-routers n c.self.invariant w.in-None.is c.args.cycles within w.run-in-None.new.self w.run-in-None.ensures.parts w.run-in-None.ensures.network)
     ]
 
 pub returns-clause-unstuck : goal.returns-clause-unstuck
