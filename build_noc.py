@@ -1,9 +1,11 @@
 #!/usr/bin/env python3
 """Proves and builds the program crates/noc/out/noc. ./noc calls this where there is no program, or an old one.
 
-`rt lib` makes each library and `rt run` the program, side by side as far as processors and memory go. rt lets no two runs into one
-crate, nor into one that a crate stands on; so each crate is made in a room: a folder with its sources, and with links to what was
-made of the libraries below. What is made goes back to the crate and is kept, so a build that was stopped goes on where it was.
+`rt lib` makes each library and `rt run` the program, side by side as far as processors and memory go. Where the
+processor has AVX2, the program is compiled for that, and else as rt does by itself; the libraries are the same for both.
+rt lets no two runs into one crate, nor into one that a crate stands on; so each crate is made in a room: a folder with
+its sources, and with links to what was made of the libraries below. What is made goes back to the crate and is kept, so
+a build that was stopped goes on where it was.
 Standard error tells how far the build is: on a terminal in one line that is written anew, elsewhere in a line for each crate.
 The toolchain's command is $RT, or else rt on PATH. The exit status is 0 where the program is built, else 1.
 """
@@ -21,9 +23,12 @@ from pathlib import Path
 TOP = Path(__file__).resolve().parent
 OUT = TOP / "crates/noc/out"
 PROGRAM, LOG, ROOMS = OUT / "noc", OUT / "build.log", OUT / "rooms"
-KIT = "rattle-kit-13f"
+KITS = ("rattle-kit-13b", "rattle-kit-13f")
 PARTS = ("src", "specs", "proofs")
 DISK, MEMORY = 4 << 30, 2 << 30
+# A processor with these flags runs what is compiled for CPU. LZCNT is called abm by Linux.
+CPUINFO, CPU = Path("/proc/cpuinfo"), "x86-64-v3"
+FLAGS = {"avx2", "bmi1", "bmi2", "f16c", "fma", "movbe"}
 # The seconds that each crate took beside the others on four processors, once. Only their shares count.
 SECONDS = {
     "noc_topo": 35, "noc_packet": 30, "noc_ring": 40, "noc_route": 150, "noc_rank": 180, "noc_alloc": 50, "noc_vc": 50,
@@ -101,8 +106,9 @@ def look_round():
     if rt is None:
         raise Failed(f"{wanted} is not there: put rt of the Rattle kit on PATH, or its path into RT")
     version = subprocess.run([rt, "version"], stdin=subprocess.DEVNULL, capture_output=True, text=True).stdout
-    if KIT not in version.split():
-        print(f"noc: {wanted} is of {version.strip() or 'another kit'}, and this is proved with {KIT}: the build may fail", file=sys.stderr)
+    if not set(KITS) & set(version.split()):
+        kit, known = version.strip() or "another kit", " and ".join(KITS)
+        print(f"noc: {wanted} is of {kit}, and this is proved with {known}: the build may fail", file=sys.stderr)
     if shutil.disk_usage(OUT).free < DISK:
         raise Failed(f"a build takes some {DISK >> 30} GB of disk, and {OUT} has {shutil.disk_usage(OUT).free >> 20} MB left")
     if free_memory() < MEMORY:
@@ -112,6 +118,13 @@ def look_round():
 
 def free_memory():
     return 1024 * int(re.search(r"MemAvailable:\s+(\d+)", Path("/proc/meminfo").read_text())[1])
+
+
+def has_avx2():
+    """Whether the machine's first processor has AVX2, and what comes with it in CPU."""
+    found = re.search(r"^flags\s*:(.*)", CPUINFO.read_text() if CPUINFO.exists() else "", re.M)
+    flags = set(found[1].split()) if found else set()
+    return FLAGS <= flags and not flags.isdisjoint({"abm", "lzcnt"})
 
 
 def in_minutes(seconds):
@@ -149,9 +162,10 @@ class Build:
 
     def begin(self, crate, jobs):
         crate.enter()
-        verb = "run" if crate.made == PROGRAM else "lib"
+        words = [self.rt, "run" if crate.made == PROGRAM else "lib", "--jobs", str(jobs)]
+        if crate.made == PROGRAM and has_avx2():
+            words += ["--cpu", CPU]
         with LOG.open("a") as log:
-            words = [self.rt, verb, "--jobs", str(jobs)]
             run = subprocess.Popen(words, cwd=crate.room / "crates" / crate.name, stdin=subprocess.DEVNULL, stdout=log, stderr=log)
         self.running[crate] = run, time.time()
 

@@ -1,7 +1,7 @@
 #!/usr/bin/env python3
 """Measures how fast a program simulates, and compares it with another one.
 
-    measure.py PROGRAM [--rows] [--against OTHER [--own-clock]] [--repeat N] [--only NAME..]
+    measure.py PROGRAM [--against OTHER [--own-clock]] [--repeat N] [--only NAME..]
 
 For each workload of make_workloads.py the program gets the joined text on standard input twice: once with the workload's
 cycles and once with one cycle. What the first takes longer is the time of the cycle loop, since reading, setting up and
@@ -10,10 +10,9 @@ router that does one cycle is one router-cycle. A table in Markdown goes to stan
 
 OTHER is measured in the same way, its runs between those of PROGRAM, so that both meet the same neighbours on the machine.
 With --own-clock OTHER is run as 'OTHER run CONFIG TRAFFIC --time' instead, and must write 'seconds S' with the time of its
-cycle loop to standard error. Reports that differ are an error, and so are statuses other than 0 and 5.
-
-With --rows PROGRAM is crates/noc_rows_bench, which is called as 'PROGRAM CONFIG TRAFFIC latency [CYCLES]' for the two runs.
-The stall reports are compared too then.
+cycle loop to standard error. The latency reports of all runs must be the same, and so must the stall reports of both
+programs, which are called for them as 'run CONFIG TRAFFIC --report stalls' once, without a clock. Reports that differ are
+an error, and so are statuses other than 0 and 5.
 """
 import argparse
 import re
@@ -47,46 +46,30 @@ def texts_in(folder, load):
     return [str(name) for name in names]
 
 
-class TwoRuns:
-    """A program that is measured by two runs, with all cycles and with one."""
+def stalls(program, load, folder):
+    """The stall report of a program."""
+    return timed_run([program, "run", *texts_in(folder, load), "--report", "stalls"], b"")[1]
+
+
+class Joined:
+    """A program that is measured by two runs on joined texts, with all cycles and with one."""
 
     def __init__(self, program):
         self.program = str(Path(program).resolve())
 
-    def start(self, load, folder):
-        self.runs = self.runs_of(load, folder)
+    def start(self, load, _):
+        tail = b"---\n" + load.traffic().encode()
+        self.texts = [load.config(cycles).encode() + tail for cycles in (load.cycles, 1)]
         self.best = [float("inf"), float("inf")]
 
     def round(self):
         """Makes one measurement; returns the report."""
-        runs = [timed_run(words, text) for words, text in self.runs]
+        runs = [timed_run([self.program], text) for text in self.texts]
         self.best = [min(best, run[0]) for best, run in zip(self.best, runs)]
         return runs[0][1]
 
     def speed(self, load):
         return load.routers() * (load.cycles - 1) / max(self.best[0] - self.best[1], 1e-9)
-
-
-class Joined(TwoRuns):
-    """A program that reads joined texts."""
-
-    def runs_of(self, load, _):
-        tail = b"---\n" + load.traffic().encode()
-        return [([self.program], load.config(cycles).encode() + tail) for cycles in (load.cycles, 1)]
-
-    def stalls(self, load, folder):
-        return timed_run([self.program, "run", *texts_in(folder, load), "--report", "stalls"], b"")[1]
-
-
-class InRows(TwoRuns):
-    """The program of crates/noc_rows_bench."""
-
-    def runs_of(self, load, folder):
-        words = [self.program, *texts_in(folder, load), "latency"]
-        return [(words, b""), ([*words, "1"], b"")]
-
-    def stalls(self, load, folder):
-        return timed_run([self.program, *texts_in(folder, load), "stalls"], b"")[1]
 
 
 class OwnClock:
@@ -98,9 +81,6 @@ class OwnClock:
     def start(self, load, folder):
         self.words = [self.program, "run", *texts_in(folder, load), "--time"]
         self.best = float("inf")
-
-    def stalls(self, load, folder):
-        return timed_run([self.program, "run", *texts_in(folder, load), "--report", "stalls"], b"")[1]
 
     def round(self):
         _, report, said = timed_run(self.words, b"")
@@ -122,21 +102,20 @@ def measure(load, sides, repeat, folder):
     return [side.speed(load) for side in sides], reports
 
 
-def same_stalls(load, sides, folder):
+def write_same_stalls(load, sides, folder):
     """Whether all sides write the same stall report."""
-    return len({side.stalls(load, folder) for side in sides}) == 1
+    return len(sides) == 1 or len({stalls(side.program, load, folder) for side in sides}) == 1
 
 
 def main():
     parser = argparse.ArgumentParser(description="Measures how fast a program simulates.")
     parser.add_argument("program")
-    parser.add_argument("--rows", action="store_true", help="PROGRAM is crates/noc_rows_bench")
     parser.add_argument("--against", metavar="OTHER", help="a second program to compare with")
     parser.add_argument("--own-clock", action="store_true", help="OTHER times its cycle loop itself")
     parser.add_argument("--repeat", type=int, default=5, metavar="N", help="runs of which the best counts")
     parser.add_argument("--only", nargs="+", metavar="NAME", help="these workloads alone")
     options = parser.parse_args()
-    sides = [(InRows if options.rows else Joined)(options.program)]
+    sides = [Joined(options.program)]
     if options.against:
         sides.append((OwnClock if options.own_clock else Joined)(options.against))
     heads = ["workload", "routers", "cycles", "M router-cycles/s"] + (["the other", "ratio"] if options.against else [])
@@ -152,7 +131,7 @@ def main():
             if options.against:
                 cells.append(f"{speeds[0] / speeds[1]:.2f}")
             print("|", " | ".join(cells), "|", flush=True)
-            if len(reports) > 1 or options.rows and not same_stalls(load, sides, Path(folder)):
+            if len(reports) > 1 or not write_same_stalls(load, sides, Path(folder)):
                 print(f"measure: the reports on {load.name} differ", file=sys.stderr)
                 well = False
     return 0 if well else 1
