@@ -85,7 +85,7 @@ module _ (net : Setup) (setup : IsGoodSetup net) (n : ℕ) (few : n < CYCLE_LIMI
   found : (b k i : ℕ) → k < 32 → b * 32 + k < nodes net.relation.grid → i < size net
       → finding_at new.found.items (b * 1024 + place_of k i) ≡ finding_of (view_round (frozen_of net n (b * 32 + k))) (frozen_of net n (b * 32 + k)) i
   found b k i low l u =
-      has.verdicts.each b (place_of k i) m.0 m.1 inside (let c = has.claims.many in omega (arith, within, c))
+      has.verdicts.each b (place_of k i) m.0 m.1 inside (let c = has.claims.many in omega (arith, within, c)) claimed.verdict
       ∙ by w.0.awake refl
     where
       there : b < length old.blocks.items
@@ -110,8 +110,8 @@ module _ (net : Setup) (setup : IsGoodSetup net) (n : ℕ) (few : n < CYCLE_LIMI
       inside : place_of k i < 1024
       inside = let s = woken.shows.frame.few in omega (arith, low, u, s)
 
-      within : b * 1024 + place_of k i < length woken.before.found.items
-      within = let s = woken.shows.frame.few in omega (arith, low, u, s, l, places)
+      within : b * 1024 + 1024 ≤ length woken.before.found.items
+      within = let t = there in let m = many in omega (arith, t, m, places)
 
       claimed : IsClaimed woken.before.frame (room_of woken.before.wires.room) (inbox_at has.step.start.inboxes.items b) f.0 (place_of k i)
           (finding_at has.claimed (b * 1024 + place_of k i))
