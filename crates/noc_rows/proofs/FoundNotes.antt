@@ -7,11 +7,10 @@ use Rattle.noc_packet.specs.Set.{has_bit}
 use Rattle.noc_packet.proofs.SetLemmas.{both_members, either_members, has_bit-zero}
 use Rattle.noc_router.specs.Found.{empty_finding}
 use Rattle.noc_router.specs.VerdictSets.{verdict_by}
-use Rattle.noc_router.specs.declared.verdict.Verdict.{Verdict}
-use Rattle.noc_router.specs.declared.verdict.Verdict.TheVariants.{Empty, Routed, Granted, Moved, NoFlit, NoIdleChannel, LostChannel, NoCredit, LostInput, LostSwitch}
+use Rattle.noc_router.specs.declared.verdict.Verdict.TheVariants.{Empty}
 use Rattle.noc_router.specs.declared.verdict_sets.VerdictSets.{VerdictSets}
 use Rattle.noc_rows.specs.Bits.{less}
-use Rattle.noc_rows.specs.Found.{HasPacket, IsClaimed, is_held, is_noted, least_place, out_at, sets_at}
+use Rattle.noc_rows.specs.Found.{IsClaimed, is_held, is_noted, least_place, sets_at}
 use Rattle.noc_rows.specs.Rows.{word}
 use Rattle.noc_rows.specs.Wires.{in_row}
 use Rattle.noc_rows.specs.declared.block.Block.{Block}

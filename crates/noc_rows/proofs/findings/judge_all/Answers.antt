@@ -1,6 +1,4 @@
-use Rattle.std.proofs.Common.{◌≡◌, ◌≢◌, ℕ, ◌+◌, ◌<◌, Bool, true, false, length, arith, refl, ap, sym, ◌∙◌, get_or, get_or-set_same, get_or-set_other}
-use Rattle.std.proofs.lemmas.List.{get_or_default}
-use Rattle.noc_packet.specs.Set.{has_bit}
+use Rattle.std.proofs.Common.{◌≡◌, ◌+◌, ◌<◌, length, arith, ap, sym, ◌∙◌, get_or-set_same, get_or-set_other}
 use Rattle.noc_router.specs.Found.{empty_finding}
 use Rattle.noc_router.specs.declared.verdict.Finding.{Finding}
 use Rattle.noc_router.specs.declared.verdict.Verdict.{Verdict}

@@ -1,4 +1,4 @@
-use Rattle.std.proofs.Common.{◌≢◌, ℕ, ◌+◌, ◌<◌, ◌≤◌, get_or, length}
+use Rattle.std.proofs.Common.{◌≢◌, ℕ, ◌+◌, ◌<◌, ◌≤◌, get_or}
 use Rattle.noc_rows.specs.declared.starts.TheConstants.{NEVER}
 use Rattle.noc_rows.proofs.rows.Rows.all_out.Given as goal
 
