@@ -1,4 +1,4 @@
--- The channels of a router of which nothing is noted, or that have no verdict but Empty.
+-- The channels of a router of which something is noted, and those that have a verdict.
 use Rattle.std.proofs.Common.{◌≡◌, ℕ, ◌+◌, ◌*◌, ◌/◌, ◌%◌, ◌<◌, Bool, true, false, None, refl, ap, ap₂, sym, ◌∙◌, arith, bit_and, bit_or}
 use Rattle.std.specs.Prelude.{◌&&◌, ◌||◌, Option, slice_index, if◌then◌else◌}
 use Rattle.std.specs.Int.{bit_not, w32}
@@ -6,11 +6,10 @@ use Rattle.std.proofs.lemmas.Bool.{true≢false}
 use Rattle.noc_packet.specs.Set.{has_bit}
 use Rattle.noc_packet.proofs.SetLemmas.{both_members, either_members, has_bit-zero}
 use Rattle.noc_router.specs.Found.{empty_finding}
-use Rattle.noc_router.specs.VerdictSets.{verdict_by}
+use Rattle.noc_router.specs.declared.verdict.Finding.{Finding}
+use Rattle.noc_router.specs.declared.verdict.Verdict.{Verdict}
 use Rattle.noc_router.specs.declared.verdict.Verdict.TheVariants.{Empty}
-use Rattle.noc_router.specs.declared.verdict_sets.VerdictSets.{VerdictSets}
-use Rattle.noc_rows.specs.Bits.{less}
-use Rattle.noc_rows.specs.Found.{IsClaimed, is_held, is_noted, least_place, sets_at}
+use Rattle.noc_rows.specs.Found.{IsClaimed, given_to, is_held, is_noted, least_place}
 use Rattle.noc_rows.specs.Rows.{word}
 use Rattle.noc_rows.specs.Wires.{in_row}
 use Rattle.noc_rows.specs.declared.block.Block.{Block}
@@ -60,35 +59,17 @@ noted-members block lane i l u on =
 pub noted-asleep : (block : Block) (p i : ℕ) → block.awake ≡ false → has_bit 0 i ≡ is_noted block p
 noted-asleep block p i down = has_bit-zero i ∙ sym (ap (λ a. a && (is_held block p || in_row block.arrived.filled p)) down)
 
--- ---- a channel that has no verdict but Empty
+-- ---- verdicts, one set after the other
 
-less-off : (a b i : ℕ) → has_bit a i ≡ false → has_bit (less a b) i ≡ false
-less-off a b i off = both_members a (bit_not w32 b) i ∙ ap (λ x. x && has_bit (bit_not w32 b) i) off
+-- a finding that has the verdict w gets another one
+over : (b : Bool) (v w : Verdict) (f : Finding) → (if b then record f { verdict = v } else record f { verdict = w }) ≡ record f { verdict = if b then v else w }
+over true v w f = refl
+over false v w f = refl
 
-and-off : (a b i : ℕ) → has_bit a i ≡ false → has_bit (bit_and a b) i ≡ false
-and-off a b i off = both_members a b i ∙ ap (λ x. x && has_bit b i) off
+pub given-over : (set : ℕ) (v w : Verdict) (i : ℕ) (f mid new : Finding) → new ≡ given_to set v i mid → mid ≡ record f { verdict = w }
+    → new ≡ record f { verdict = if has_bit set i then v else w }
+given-over set v w i f mid new is was = is ∙ ap (given_to set v i) was ∙ over (has_bit set i) v w f
 
--- one that is in none of the sets
-in-none : (sets : VerdictSets) (i : ℕ) → has_bit sets.moved i ≡ false → has_bit sets.granted i ≡ false → has_bit sets.routed i ≡ false → has_bit sets.no_flit i ≡ false
-    → has_bit sets.no_idle_channel i ≡ false → has_bit sets.lost_channel i ≡ false → has_bit sets.no_credit i ≡ false → has_bit sets.lost_input i ≡ false
-    → has_bit sets.lost_switch i ≡ false → verdict_by sets i ≡ Empty
-in-none sets i moved granted routed no_flit no_idle lost no_credit input switch =
-    rw (moved, granted, routed, no_flit, no_idle, lost, no_credit, input, switch) refl
-
-apart : (a b i : ℕ) → has_bit (bit_or a b) i ≡ false → (has_bit a i ≡ false) × (has_bit b i ≡ false)
-apart a b i off = or-off (has_bit a i) (has_bit b i) (sym (either_members a b i) ∙ off)
-
-pub unjudged : (block : Block) (lane i : ℕ)
-    → has_bit (bit_or (bit_or (bit_or (bit_or (bit_or (bit_or (bit_or (word block.lanes.waiting lane) (word block.lanes.active lane)) (word block.standing.heads lane))
-    (word block.standing.ready lane)) (word block.standing.picked lane)) (word block.decided.granted lane)) (word block.decided.lost lane)) (word block.decided.moved lane)) i ≡ false
-    → verdict_by (sets_at block lane) i ≡ Empty
-unjudged block lane i off =
-    let moved = apart _ _ i off in
-    let lost = apart _ _ i moved.0 in
-    let granted = apart _ _ i lost.0 in
-    let picked = apart _ _ i granted.0 in
-    let ready = apart _ _ i picked.0 in
-    let heads = apart _ _ i ready.0 in
-    let held = apart _ _ i heads.0 in
-    in-none (sets_at block lane) i moved.1 granted.1 heads.1 (less-off _ _ i held.1) (less-off _ _ i held.0) lost.1
-    (less-off _ _ i (and-off _ _ i held.1)) (less-off _ _ i ready.1) (less-off _ _ i picked.1)
+-- a finding that has no verdict yet
+pub given-none : (f : Finding) → f.verdict ≡ Empty → f ≡ record f { verdict = Empty }
+given-none f none = ap (λ (v : Verdict). record f { verdict = v }) none

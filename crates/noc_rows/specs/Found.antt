@@ -1,10 +1,12 @@
 -- What each router finds in a cycle: of each input channel its packet, its output channel and its verdict.
 use Rattle.std.specs.Prelude.{◌≡◌, ℕ, ◌+◌, ◌*◌, ◌/◌, ◌%◌, ◌<◌, ◌≤◌, Bool, true, false, ◌&&◌, ◌||◌, List, ◌∷◌, length, Option, Some, None, nat_eq, slice_get, slice_index, slice_index_or, bit_and, if◌then◌else◌}
 use Rattle.std.specs.Int.{trailing_zeros, w32}
+use Rattle.noc_packet.specs.Set.{has_bit}
 use Rattle.noc_packet.specs.declared.packet.Flit.{Flit}
 use Rattle.noc_router.specs.Found.{empty_finding}
 use Rattle.noc_router.specs.VerdictSets.{verdict_by}
 use Rattle.noc_router.specs.declared.verdict.Finding.{Finding}
+use Rattle.noc_router.specs.declared.verdict.Verdict.{Verdict}
 use Rattle.noc_router.specs.declared.verdict.Verdict.TheVariants.{Empty}
 use Rattle.noc_router.specs.declared.verdict_sets.VerdictSets.{VerdictSets}
 use Rattle.noc_rows.specs.FlitWords.{FitsWord, flit_word}
@@ -92,6 +94,10 @@ pub record HaveVerdicts (blocks : List Block) (old new : List Finding) : Type 0 
   pub many : length new ≡ length old
   pub each : (b p : ℕ) (block : Block) → slice_get blocks b ≡ Some block → p < 1024 → b * 1024 + 1024 ≤ length old → (finding_at old (b * 1024 + p)).verdict ≡ Empty
       → finding_at new (b * 1024 + p) ≡ with_verdict block p (finding_at old (b * 1024 + p))
+
+-- the finding of channel i with this verdict, where that is in the set
+abbrev pub given_to : ℕ → Verdict → ℕ → Finding → Finding
+given_to set verdict i finding = if has_bit set i then record finding { verdict = verdict } else finding
 
 -- ---- of one router: its 32 places begin at the first
 -- the others are as they were

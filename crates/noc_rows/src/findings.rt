@@ -5,9 +5,8 @@
 ghost use Rattle.std.specs.Prelude.{◌≡◌, ℕ, ◌+◌, ◌*◌, ◌<◌, ◌≤◌, true, false, length};
 ghost use Rattle.noc_packet.specs.Set.{has_bit};
 ghost use Rattle.noc_router.specs.Found.{empty_finding};
-ghost use Rattle.noc_router.specs.VerdictSets.{verdict_by};
 ghost use Rattle.noc_router.specs.declared.verdict.Verdict.TheVariants.{Empty};
-ghost use Rattle.noc_rows.specs.Found.{AreClaimed, HasPacket, HaveVerdicts, IsClaimed, KeepsOthers, finding_at, is_noted, judged_by, least_place, out_at, sets_at};
+ghost use Rattle.noc_rows.specs.Found.{AreClaimed, HasPacket, HaveVerdicts, IsClaimed, KeepsOthers, finding_at, given_to, is_noted, judged_by, least_place, out_at, sets_at};
 ghost use Rattle.noc_rows.specs.Wires.{in_row, room_of};
 
 use crate::block::Block;
@@ -184,42 +183,13 @@ pub(crate) fn note_verdicts(blocks: &[Block], found: &mut [Finding])
     }
 }
 
-// The verdicts of the channels of one router of a block that has decided. They have 32 places from the first on.
+// The verdicts of the channels of one router of a block that has decided. They have 32 places from the first on. Of two
+// verdicts the later one stays.
 fn judge_all(block: &Block, lane: usize, first: usize, found: &mut [Finding])
     requires lane { lane < 32 }
     requires places { first + 32 ≤ length found.old }
     ensures judged { (i : ℕ) → i < 32 → (finding_at found.old (first + i)).verdict ≡ Empty → finding_at found.new (first + i) ≡ judged_by (sets_at block.now lane) i (finding_at found.old (first + i)) }
     ensures others { KeepsOthers first found.old found.new }
-{
-    let judged = judged(block, lane);
-    let mut rest = judged;
-    while rest != 0 {
-        let channel = least(rest);
-        found[first + channel].verdict = verdict(block, lane, channel);
-        rest &= rest - 1;
-    }
-}
-
-// The channels of a router that may have another verdict than Empty.
-fn judged(block: &Block, lane: usize) -> u32
-    requires { lane < 32 }
-    ensures { (i : ℕ) → has_bit result i ≡ false → verdict_by (sets_at block.now lane) i ≡ Empty }
-{
-    block.lanes.waiting[lane]
-        | block.lanes.active[lane]
-        | block.standing.heads[lane]
-        | block.standing.ready[lane]
-        | block.standing.picked[lane]
-        | block.decided.granted[lane]
-        | block.decided.lost[lane]
-        | block.decided.moved[lane]
-}
-
-// The verdict of one channel of a block that has decided.
-fn verdict(block: &Block, lane: usize, channel: usize) -> Verdict
-    requires lane { lane < 32 }
-    requires channel { channel < 32 }
-    ensures { result ≡ verdict_by (sets_at block.now lane) channel }
 {
     let waiting = block.lanes.waiting[lane];
     let active = block.lanes.active[lane];
@@ -229,25 +199,32 @@ fn verdict(block: &Block, lane: usize, channel: usize) -> Verdict
     let granted = block.decided.granted[lane];
     let lost = block.decided.lost[lane];
     let moved = block.decided.moved[lane];
-    if is_member(moved, channel) {
-        Verdict::Moved
-    } else if is_member(granted, channel) {
-        Verdict::Granted
-    } else if is_member(block.standing.heads[lane], channel) {
-        Verdict::Routed
-    } else if is_member(active & !filled, channel) {
-        Verdict::NoFlit
-    } else if is_member(waiting & !(granted | lost), channel) {
-        Verdict::NoIdleChannel
-    } else if is_member(lost, channel) {
-        Verdict::LostChannel
-    } else if is_member(active & filled & !ready, channel) {
-        Verdict::NoCredit
-    } else if is_member(ready & !picked, channel) {
-        Verdict::LostInput
-    } else if is_member(picked & !moved, channel) {
-        Verdict::LostSwitch
-    } else {
-        Verdict::Empty
+    give(Verdict::LostSwitch, picked & !moved, first, found);
+    give(Verdict::LostInput, ready & !picked, first, found);
+    give(Verdict::NoCredit, active & filled & !ready, first, found);
+    give(Verdict::LostChannel, lost, first, found);
+    give(
+        Verdict::NoIdleChannel,
+        waiting & !(granted | lost),
+        first,
+        found,
+    );
+    give(Verdict::NoFlit, active & !filled, first, found);
+    give(Verdict::Routed, block.standing.heads[lane], first, found);
+    give(Verdict::Granted, granted, first, found);
+    give(Verdict::Moved, moved, first, found);
+}
+
+// The channels of a set have this verdict, of those with 32 places from the first on.
+#[inline(always)]
+fn give(verdict: Verdict, set: u32, first: usize, found: &mut [Finding])
+    requires { first + 32 ≤ length found.old }
+    ensures given { (i : ℕ) → i < 32 → finding_at found.new (first + i) ≡ given_to set verdict i (finding_at found.old (first + i)) }
+    ensures others { KeepsOthers first found.old found.new }
+{
+    let mut rest = set;
+    while rest != 0 {
+        found[first + least(rest)].verdict = verdict;
+        rest &= rest - 1;
     }
 }
