@@ -1,4 +1,4 @@
-use Rattle.std.proofs.Common.{◌≡◌, ◌≢◌, ℕ, ◌+◌, ◌<◌, Bool, true, false, length, arith, refl, ap, sym, ◌∙◌, get_or-set_same, get_or-set_other}
+use Rattle.std.proofs.Common.{◌≡◌, ◌+◌, ◌<◌, Bool, true, false, length, arith, refl, ap, sym, ◌∙◌, get_or-set_same, get_or-set_other}
 use Rattle.std.specs.Prelude.{if◌then◌else◌}
 use Rattle.noc_packet.specs.Set.{has_bit}
 use Rattle.noc_router.specs.Found.{empty_finding}

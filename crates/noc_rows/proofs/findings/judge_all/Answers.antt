@@ -1,4 +1,4 @@
-use Rattle.std.proofs.Common.{◌≡◌, ◌+◌}
+use Rattle.std.proofs.Common.{◌+◌}
 use Rattle.noc_rows.proofs.FoundNotes.{given-none, given-over}
 use Rattle.noc_rows.proofs.FoundPasses.{keeps-both}
 use Rattle.noc_rows.specs.Found.{finding_at}
