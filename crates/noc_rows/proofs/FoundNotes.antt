@@ -46,13 +46,15 @@ unnoted frame room inbox block p off = record {
 
 -- those of a router that is awake, as a word
 pub noted-members : (block : Block) (lane i : ℕ) → lane < 32 → i < 32 → block.awake ≡ true
-    → has_bit (bit_or (bit_or (word block.lanes.waiting lane) (word block.lanes.active lane)) (word block.arrived.filled lane)) i ≡ is_noted block (lane * 32 + i)
+    → has_bit (bit_or (bit_or (word block.lanes.waiting lane) (word block.lanes.active lane)) (word block.arrived.filled lane)) i
+    ≡ is_noted block (lane * 32 + i)
 noted-members block lane i l u on =
     let row : (lane * 32 + i) / 32 ≡ lane = omega (arith, u) in
     let channel : (lane * 32 + i) % 32 ≡ i = omega (arith, u) in
     either_members (bit_or (word block.lanes.waiting lane) (word block.lanes.active lane)) (word block.arrived.filled lane) i
     ∙ ap (λ b. b || has_bit (word block.arrived.filled lane) i) (either_members (word block.lanes.waiting lane) (word block.lanes.active lane) i)
-    ∙ ap₂ (λ j c. (has_bit (word block.lanes.waiting j) c || has_bit (word block.lanes.active j) c) || has_bit (word block.arrived.filled j) c) (sym row) (sym channel)
+    ∙ ap₂ (λ j c. (has_bit (word block.lanes.waiting j) c || has_bit (word block.lanes.active j) c) || has_bit (word block.arrived.filled j) c)
+    (sym row) (sym channel)
     ∙ sym (ap (λ a. a && (is_held block (lane * 32 + i) || in_row block.arrived.filled (lane * 32 + i))) on)
 
 pub noted-asleep : (block : Block) (p i : ℕ) → block.awake ≡ false → has_bit 0 i ≡ is_noted block p

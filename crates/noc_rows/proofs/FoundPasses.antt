@@ -47,7 +47,8 @@ claimed-none frame room inboxes blocks found = record { many = refl; each = λ b
 module _ (number : ℕ) (frame : Frame) (room : ℕ) (inboxes : List Inbox) (blocks : List Block) (old mid : List Finding)
     (so_far : AreClaimedTo number frame room inboxes blocks old mid) where
   pub claimed-more : (new : List Finding) (d : Block) (e : Inbox)
-      → ((i : ℕ) → i < 32 → IsClaimed frame room (get_or inboxes (number / 32) e) (get_or blocks (number / 32) d) (number % 32 * 32 + i) (finding_at new (number * 32 + i)))
+      → ((i : ℕ) → i < 32
+      → IsClaimed frame room (get_or inboxes (number / 32) e) (get_or blocks (number / 32) d) (number % 32 * 32 + i) (finding_at new (number * 32 + i)))
       → KeepsOthers (number * 32) mid new → AreClaimedTo (number + 1) frame room inboxes blocks old new
   claimed-more new d e has keeps = record {
     many = keeps.many ∙ so_far.many;
@@ -98,7 +99,8 @@ claimed-all number frame room inboxes blocks old new all so_far = record {
 -- the places of the routers below a number have their verdicts, and the others are as they were
 pub record HaveVerdictsTo (number : ℕ) (blocks : List Block) (old new : List Finding) : Type 0 where
   pub many : length new ≡ length old
-  pub each : (b p : ℕ) (block : Block) → slice_get blocks b ≡ Some block → p < 1024 → b * 1024 + p < number * 32 → (finding_at old (b * 1024 + p)).verdict ≡ Empty
+  pub each : (b p : ℕ) (block : Block) → slice_get blocks b ≡ Some block → p < 1024 → b * 1024 + p < number * 32
+      → (finding_at old (b * 1024 + p)).verdict ≡ Empty
       → finding_at new (b * 1024 + p) ≡ with_verdict block p (finding_at old (b * 1024 + p))
   pub rest : (q : ℕ) → number * 32 ≤ q → finding_at new q ≡ finding_at old q
 
@@ -107,7 +109,8 @@ verdicts-none blocks found = record { many = refl; each = λ b p block is low l 
 
 module _ (number : ℕ) (blocks : List Block) (old mid : List Finding) (so_far : HaveVerdictsTo number blocks old mid) where
   -- the block of this router
-  the-block : (d : Block) (b p : ℕ) (block : Block) → slice_get blocks b ≡ Some block → p < 1024 → number * 32 ≤ b * 1024 + p → b * 1024 + p < (number + 1) * 32
+  the-block : (d : Block) (b p : ℕ) (block : Block) → slice_get blocks b ≡ Some block → p < 1024
+      → number * 32 ≤ b * 1024 + p → b * 1024 + p < (number + 1) * 32
       → get_or blocks (number / 32) d ≡ block
   the-block d b p block is low past l =
       let b_is : number / 32 ≡ b = omega (arith, past, l, low) in
@@ -124,7 +127,8 @@ module _ (number : ℕ) (blocks : List Block) (old mid : List Finding) (so_far :
     rest = λ q l. keeps.after q (omega (arith, l)) ∙ so_far.rest q (omega (arith, l));
   }
     where
-      at : (b p : ℕ) (block : Block) → slice_get blocks b ≡ Some block → p < 1024 → b * 1024 + p < (number + 1) * 32 → (finding_at old (b * 1024 + p)).verdict ≡ Empty
+      at : (b p : ℕ) (block : Block) → slice_get blocks b ≡ Some block → p < 1024 → b * 1024 + p < (number + 1) * 32
+          → (finding_at old (b * 1024 + p)).verdict ≡ Empty
           → (b * 1024 + p < number * 32) ⊎ (number * 32 ≤ b * 1024 + p) → finding_at new (b * 1024 + p) ≡ with_verdict block p (finding_at old (b * 1024 + p))
       at b p block is low l none (inl below) = keeps.before (b * 1024 + p) below ∙ so_far.each b p block is low below none
       at b p block is low l none (inr past) =
@@ -151,7 +155,8 @@ module _ (number : ℕ) (blocks : List Block) (old mid : List Finding) (so_far :
     rest = λ q l. so_far.rest q (omega (arith, l));
   }
     where
-      at : (b p : ℕ) (block : Block) → slice_get blocks b ≡ Some block → p < 1024 → b * 1024 + p < (number + 1) * 32 → (finding_at old (b * 1024 + p)).verdict ≡ Empty
+      at : (b p : ℕ) (block : Block) → slice_get blocks b ≡ Some block → p < 1024 → b * 1024 + p < (number + 1) * 32
+          → (finding_at old (b * 1024 + p)).verdict ≡ Empty
           → (b * 1024 + p < number * 32) ⊎ (number * 32 ≤ b * 1024 + p) → finding_at mid (b * 1024 + p) ≡ with_verdict block p (finding_at old (b * 1024 + p))
       at b p block is low l none (inl below) = so_far.each b p block is low below none
       at b p block is low l none (inr past) =

@@ -86,13 +86,15 @@ with_verdict block p finding = if block.awake then judged_by (sets_at block (p /
 -- these are noted while the blocks are frozen
 pub record AreClaimed (frame : Frame) (room : ℕ) (inboxes : List Inbox) (blocks : List Block) (old new : List Finding) : Type 0 where
   pub many : length new ≡ length old
-  pub each : (b p : ℕ) (block : Block) → slice_get blocks b ≡ Some block → b < length inboxes → p < 1024 → b * 1024 + 1024 ≤ length old
+  pub each : (b p : ℕ) (block : Block) → slice_get blocks b ≡ Some block → b < length inboxes → p < 1024
+      → b * 1024 + 1024 ≤ length old
       → IsClaimed frame room (inbox_at inboxes b) block p (finding_at new (b * 1024 + p))
 
 -- they have their verdicts too, where those were Empty
 pub record HaveVerdicts (blocks : List Block) (old new : List Finding) : Type 0 where
   pub many : length new ≡ length old
-  pub each : (b p : ℕ) (block : Block) → slice_get blocks b ≡ Some block → p < 1024 → b * 1024 + 1024 ≤ length old → (finding_at old (b * 1024 + p)).verdict ≡ Empty
+  pub each : (b p : ℕ) (block : Block) → slice_get blocks b ≡ Some block → p < 1024 → b * 1024 + 1024 ≤ length old
+      → (finding_at old (b * 1024 + p)).verdict ≡ Empty
       → finding_at new (b * 1024 + p) ≡ with_verdict block p (finding_at old (b * 1024 + p))
 
 -- the finding of channel i with this verdict, where that is in the set
