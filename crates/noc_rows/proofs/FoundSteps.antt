@@ -1,9 +1,8 @@
 -- A cycle in which it is noted what each router finds: rows then show the findings of the network.
 use Rattle.std.proofs.Common.{Vec, Global, ◌≡◌, ℕ, suc, ◌+◌, ◌*◌, ◌/◌, ◌%◌, ◌<◌, ◌≤◌, Bool, true, false, List, length, Some, refl, ap, sym, ◌∙◌, subst, arith}
-use Rattle.std.specs.Prelude.{min, slice_get, slice_index, if◌then◌else◌}
+use Rattle.std.specs.Prelude.{slice_get, if◌then◌else◌}
 use Rattle.std.proofs.lemmas.Option.{same_Some}
 use Rattle.noc_topo.specs.Shape.{nodes}
-use Rattle.noc_router.specs.Found.{empty_finding}
 use Rattle.noc_router.specs.View.{Site, finding_of, size_of, view_round}
 use Rattle.noc_router.specs.declared.verdict.Finding.{Finding}
 use Rattle.noc_model.specs.declared.limits.TheConstants.{CYCLE_LIMIT}
@@ -85,7 +84,7 @@ module _ (net : Setup) (setup : IsGoodSetup net) (n : ℕ) (few : n < CYCLE_LIMI
   found : (b k i : ℕ) → k < 32 → b * 32 + k < nodes net.relation.grid → i < size net
       → finding_at new.found.items (b * 1024 + place_of k i) ≡ finding_of (view_round (frozen_of net n (b * 32 + k))) (frozen_of net n (b * 32 + k)) i
   found b k i low l u =
-      has.verdicts.each b (place_of k i) m.0 m.1 inside (let c = has.claims.many in omega (arith, within, c))
+      has.verdicts.each b (place_of k i) m.0 m.1 inside (let c = has.claims.many in omega (arith, within, c)) claimed.verdict
       ∙ by w.0.awake refl
     where
       there : b < length old.blocks.items
@@ -110,8 +109,8 @@ module _ (net : Setup) (setup : IsGoodSetup net) (n : ℕ) (few : n < CYCLE_LIMI
       inside : place_of k i < 1024
       inside = let s = woken.shows.frame.few in omega (arith, low, u, s)
 
-      within : b * 1024 + place_of k i < length woken.before.found.items
-      within = let s = woken.shows.frame.few in omega (arith, low, u, s, l, places)
+      within : b * 1024 + 1024 ≤ length woken.before.found.items
+      within = let t = there in let m = many in omega (arith, t, m, places)
 
       claimed : IsClaimed woken.before.frame (room_of woken.before.wires.room) (inbox_at has.step.start.inboxes.items b) f.0 (place_of k i)
           (finding_at has.claimed (b * 1024 + place_of k i))

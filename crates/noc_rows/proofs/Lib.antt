@@ -129,6 +129,7 @@ pub mod StepQuiet
 pub mod StepParts
 pub mod StepMoves
 pub mod FoundPasses
+pub mod FoundNotes
 pub mod FoundClaims
 pub mod FoundVerdicts
 pub mod FoundNetwork

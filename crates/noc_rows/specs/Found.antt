@@ -1,10 +1,13 @@
 -- What each router finds in a cycle: of each input channel its packet, its output channel and its verdict.
-use Rattle.std.specs.Prelude.{◌≡◌, ℕ, ◌+◌, ◌*◌, ◌/◌, ◌%◌, ◌<◌, Bool, true, false, ◌||◌, List, ◌∷◌, length, Option, Some, None, nat_eq, slice_get, slice_index, slice_index_or, bit_and, if◌then◌else◌}
+use Rattle.std.specs.Prelude.{◌≡◌, ℕ, ◌+◌, ◌*◌, ◌/◌, ◌%◌, ◌<◌, ◌≤◌, Bool, true, false, ◌&&◌, ◌||◌, List, ◌∷◌, length, Option, Some, None, nat_eq, slice_get, slice_index, slice_index_or, bit_and, if◌then◌else◌}
 use Rattle.std.specs.Int.{trailing_zeros, w32}
+use Rattle.noc_packet.specs.Set.{has_bit}
 use Rattle.noc_packet.specs.declared.packet.Flit.{Flit}
 use Rattle.noc_router.specs.Found.{empty_finding}
 use Rattle.noc_router.specs.VerdictSets.{verdict_by}
 use Rattle.noc_router.specs.declared.verdict.Finding.{Finding}
+use Rattle.noc_router.specs.declared.verdict.Verdict.{Verdict}
+use Rattle.noc_router.specs.declared.verdict.Verdict.TheVariants.{Empty}
 use Rattle.noc_router.specs.declared.verdict_sets.VerdictSets.{VerdictSets}
 use Rattle.noc_rows.specs.FlitWords.{FitsWord, flit_word}
 use Rattle.noc_rows.specs.Passes.{lane_verdicts}
@@ -22,6 +25,10 @@ finding_at found p = slice_index_or found p empty_finding
 -- whether it waits or is active
 abbrev pub is_held : Block → ℕ → Bool
 is_held block p = in_row block.lanes.waiting p || in_row block.lanes.active p
+
+-- whether something is to be noted of it: it holds something, and the block is awake
+abbrev pub is_noted : Block → ℕ → Bool
+is_noted block p = block.awake && (is_held block p || in_row block.arrived.filled p)
 
 -- its packet while the block is frozen: the one that is kept of a channel that waits or is active, else that of its first flit
 pub record HasPacket (room : ℕ) (inbox : Inbox) (block : Block) (p : ℕ) (packet : Option ℕ) : Type 0 where
@@ -47,6 +54,7 @@ pub record IsClaimed (frame : Frame) (room : ℕ) (inbox : Inbox) (block : Block
   pub asleep : block.awake ≡ false → finding ≡ empty_finding
   pub packet : block.awake ≡ true → HasPacket room inbox block p finding.packet
   pub out : block.awake ≡ true → finding.out ≡ out_at frame block p
+  pub verdict : finding.verdict ≡ Empty
 
 -- of router k of a block that has decided, the channels with each verdict but Empty
 abbrev pub sets_at : Block → ℕ → VerdictSets
@@ -66,19 +74,36 @@ sets_at block k =
       lost_switch = words.lost_switch;
     }
 
+-- the finding with the verdict of channel i of a router with these sets
+abbrev pub judged_by : VerdictSets → ℕ → Finding → Finding
+judged_by sets i finding = record finding { verdict = verdict_by sets i }
+
 -- the finding with its verdict once the block has decided, and as it was where the block is asleep
 abbrev pub with_verdict : Block → ℕ → Finding → Finding
-with_verdict block p finding = if block.awake then record finding { verdict = verdict_by (sets_at block (p / 32)) (p % 32) } else finding
+with_verdict block p finding = if block.awake then judged_by (sets_at block (p / 32)) (p % 32) finding else finding
 
 -- ---- of all blocks: each has 1024 places, one for each of its channels
 -- these are noted while the blocks are frozen
 pub record AreClaimed (frame : Frame) (room : ℕ) (inboxes : List Inbox) (blocks : List Block) (old new : List Finding) : Type 0 where
   pub many : length new ≡ length old
-  pub each : (b p : ℕ) (block : Block) → slice_get blocks b ≡ Some block → b < length inboxes → p < 1024 → b * 1024 + p < length old
+  pub each : (b p : ℕ) (block : Block) → slice_get blocks b ≡ Some block → b < length inboxes → p < 1024
+      → b * 1024 + 1024 ≤ length old
       → IsClaimed frame room (inbox_at inboxes b) block p (finding_at new (b * 1024 + p))
 
--- they have their verdicts too
+-- they have their verdicts too, where those were Empty
 pub record HaveVerdicts (blocks : List Block) (old new : List Finding) : Type 0 where
   pub many : length new ≡ length old
-  pub each : (b p : ℕ) (block : Block) → slice_get blocks b ≡ Some block → p < 1024 → b * 1024 + p < length old
+  pub each : (b p : ℕ) (block : Block) → slice_get blocks b ≡ Some block → p < 1024 → b * 1024 + 1024 ≤ length old
+      → (finding_at old (b * 1024 + p)).verdict ≡ Empty
       → finding_at new (b * 1024 + p) ≡ with_verdict block p (finding_at old (b * 1024 + p))
+
+-- the finding of channel i with this verdict, where that is in the set
+abbrev pub given_to : ℕ → Verdict → ℕ → Finding → Finding
+given_to set verdict i finding = if has_bit set i then record finding { verdict = verdict } else finding
+
+-- ---- of one router: its 32 places begin at the first
+-- the others are as they were
+pub record KeepsOthers (first : ℕ) (old new : List Finding) : Type 0 where
+  pub many : length new ≡ length old
+  pub before : (q : ℕ) → q < first → finding_at new q ≡ finding_at old q
+  pub after : (q : ℕ) → first + 32 ≤ q → finding_at new q ≡ finding_at old q

@@ -2,15 +2,16 @@
 //!
 //! The packet and the output channel are noted while the blocks are frozen, the verdict once they have decided.
 
-ghost use Rattle.std.specs.Prelude.{◌≡◌, ◌/◌, ◌%◌, ◌<◌};
+ghost use Rattle.std.specs.Prelude.{◌≡◌, ℕ, ◌+◌, ◌*◌, ◌<◌, ◌≤◌, true, false, length};
 ghost use Rattle.noc_packet.specs.Set.{has_bit};
-ghost use Rattle.noc_router.specs.VerdictSets.{verdict_by};
-ghost use Rattle.noc_rows.specs.Found.{AreClaimed, HasPacket, HaveVerdicts, IsClaimed, least_place, out_at, sets_at};
+ghost use Rattle.noc_router.specs.Found.{empty_finding};
+ghost use Rattle.noc_router.specs.declared.verdict.Verdict.TheVariants.{Empty};
+ghost use Rattle.noc_rows.specs.Found.{AreClaimed, HasPacket, HaveVerdicts, IsClaimed, KeepsOthers, finding_at, given_to, is_noted, judged_by, least_place, out_at, sets_at};
 ghost use Rattle.noc_rows.specs.Wires.{in_row, room_of};
 
 use crate::block::Block;
 use crate::frame::Frame;
-use crate::lanes::{CHANNELS, ROUTERS, Row, least};
+use crate::lanes::{ROUTERS, Row, least};
 use crate::room::Room;
 use crate::wires::Inbox;
 use crate::word::number;
@@ -33,23 +34,77 @@ pub(crate) fn note_claims(
 )
     ensures { AreClaimed frame.now (room_of room) inboxes.now blocks.now found.old found.new }
 {
-    for place in 0..found.len() {
-        let number = place / CHANNELS;
+    for router in 0..found.len() / 32 {
+        let number = router / ROUTERS;
         if number < blocks.len() && number < inboxes.len() {
             let inbox = &inboxes[number];
-            found[place] = claim(frame, room, inbox, &blocks[number], place % CHANNELS);
+            let lane = router % ROUTERS;
+            claim_all(
+                frame,
+                room,
+                inbox,
+                &blocks[number],
+                lane,
+                router * 32,
+                found,
+            );
         }
     }
 }
 
-// What is noted of one channel of a block that is frozen.
-fn claim(frame: &Frame, room: Room, inbox: &Inbox, block: &Block, channel: usize) -> Finding
-    requires { channel < 1024 }
-    ensures { IsClaimed frame.now (room_of room) inbox.now block.now channel result }
+// What is noted of the channels of one router of a block that is frozen. They have 32 places from the first on.
+fn claim_all(
+    frame: &Frame,
+    room: Room,
+    inbox: &Inbox,
+    block: &Block,
+    lane: usize,
+    first: usize,
+    found: &mut [Finding],
+)
+    requires lane { lane < 32 }
+    requires places { first + 32 ≤ length found.old }
+    ensures claimed { (i : ℕ) → i < 32 → IsClaimed frame.now (room_of room) inbox.now block.now (lane * 32 + i) (finding_at found.new (first + i)) }
+    ensures others { KeepsOthers first found.old found.new }
+{
+    empty(first, found);
+    let noted = holding(block, lane);
+    let mut rest = noted;
+    while rest != 0 {
+        let channel = least(rest);
+        found[first + channel] = claim(frame, room, inbox, block, lane * 32 + channel);
+        rest &= rest - 1;
+    }
+}
+
+// Nothing is noted at 32 places from the first on.
+fn empty(first: usize, found: &mut [Finding])
+    requires { first + 32 ≤ length found.old }
+    ensures empty { (i : ℕ) → i < 32 → finding_at found.new (first + i) ≡ empty_finding }
+    ensures others { KeepsOthers first found.old found.new }
+{
+    for place in first..first + 32 {
+        found[place] = EMPTY;
+    }
+}
+
+// The channels of a router of which there is something to note: those that hold something, in a block that is awake.
+fn holding(block: &Block, lane: usize) -> u32
+    requires { lane < 32 }
+    ensures { (i : ℕ) → i < 32 → has_bit result i ≡ is_noted block.now (lane * 32 + i) }
 {
     if !block.awake {
-        return EMPTY;
+        return 0;
     }
+    block.lanes.waiting[lane] | block.lanes.active[lane] | block.arrived.filled[lane]
+}
+
+// What is noted of one channel of a block that is frozen.
+fn claim(frame: &Frame, room: Room, inbox: &Inbox, block: &Block, channel: usize) -> Finding
+    requires channel { channel < 1024 }
+    requires awake { block.now.awake ≡ true }
+    ensures { IsClaimed frame.now (room_of room) inbox.now block.now channel result }
+{
     Finding {
         verdict: Verdict::Empty,
         packet: packet_of(room, inbox, block, channel),
@@ -120,33 +175,22 @@ fn is_member(set: u32, channel: usize) -> bool
 pub(crate) fn note_verdicts(blocks: &[Block], found: &mut [Finding])
     ensures { HaveVerdicts blocks.now found.old found.new }
 {
-    for place in 0..found.len() {
-        let number = place / CHANNELS;
+    for router in 0..found.len() / 32 {
+        let number = router / ROUTERS;
         if number < blocks.len() && blocks[number].awake {
-            let verdict = verdict(&blocks[number], place % CHANNELS);
-            found[place] = with_verdict(found[place], verdict);
+            judge_all(&blocks[number], router % ROUTERS, router * 32, found);
         }
     }
 }
 
-// A finding with this verdict.
-fn with_verdict(finding: Finding, verdict: Verdict) -> Finding
-    ensures { result ≡ record finding { verdict = verdict } }
+// The verdicts of the channels of one router of a block that has decided. They have 32 places from the first on. Of two
+// verdicts the later one stays.
+fn judge_all(block: &Block, lane: usize, first: usize, found: &mut [Finding])
+    requires lane { lane < 32 }
+    requires places { first + 32 ≤ length found.old }
+    ensures judged { (i : ℕ) → i < 32 → (finding_at found.old (first + i)).verdict ≡ Empty → finding_at found.new (first + i) ≡ judged_by (sets_at block.now lane) i (finding_at found.old (first + i)) }
+    ensures others { KeepsOthers first found.old found.new }
 {
-    Finding {
-        verdict,
-        packet: finding.packet,
-        out: finding.out,
-    }
-}
-
-// The verdict of one channel of a block that has decided.
-fn verdict(block: &Block, channel: usize) -> Verdict
-    requires { channel < 1024 }
-    ensures { result ≡ verdict_by (sets_at block.now (channel / 32)) (channel % 32) }
-{
-    let lane = channel / ROUTERS;
-    let channel = channel % ROUTERS;
     let waiting = block.lanes.waiting[lane];
     let active = block.lanes.active[lane];
     let filled = block.arrived.filled[lane];
@@ -155,25 +199,32 @@ fn verdict(block: &Block, channel: usize) -> Verdict
     let granted = block.decided.granted[lane];
     let lost = block.decided.lost[lane];
     let moved = block.decided.moved[lane];
-    if is_member(moved, channel) {
-        Verdict::Moved
-    } else if is_member(granted, channel) {
-        Verdict::Granted
-    } else if is_member(block.standing.heads[lane], channel) {
-        Verdict::Routed
-    } else if is_member(active & !filled, channel) {
-        Verdict::NoFlit
-    } else if is_member(waiting & !(granted | lost), channel) {
-        Verdict::NoIdleChannel
-    } else if is_member(lost, channel) {
-        Verdict::LostChannel
-    } else if is_member(active & filled & !ready, channel) {
-        Verdict::NoCredit
-    } else if is_member(ready & !picked, channel) {
-        Verdict::LostInput
-    } else if is_member(picked & !moved, channel) {
-        Verdict::LostSwitch
-    } else {
-        Verdict::Empty
+    give(Verdict::LostSwitch, picked & !moved, first, found);
+    give(Verdict::LostInput, ready & !picked, first, found);
+    give(Verdict::NoCredit, active & filled & !ready, first, found);
+    give(Verdict::LostChannel, lost, first, found);
+    give(
+        Verdict::NoIdleChannel,
+        waiting & !(granted | lost),
+        first,
+        found,
+    );
+    give(Verdict::NoFlit, active & !filled, first, found);
+    give(Verdict::Routed, block.standing.heads[lane], first, found);
+    give(Verdict::Granted, granted, first, found);
+    give(Verdict::Moved, moved, first, found);
+}
+
+// The channels of a set have this verdict, of those with 32 places from the first on.
+#[inline(always)]
+fn give(verdict: Verdict, set: u32, first: usize, found: &mut [Finding])
+    requires { first + 32 ≤ length found.old }
+    ensures given { (i : ℕ) → i < 32 → finding_at found.new (first + i) ≡ given_to set verdict i (finding_at found.old (first + i)) }
+    ensures others { KeepsOthers first found.old found.new }
+{
+    let mut rest = set;
+    while rest != 0 {
+        found[first + least(rest)].verdict = verdict;
+        rest &= rest - 1;
     }
 }

@@ -235,8 +235,10 @@ impl Rows {
     pub fn all_out(&self) -> bool
         ensures { (net : Setup) (n : ℕ) → IsRows net n self.now → result ≡ are_all_out net (state_at net n) }
     {
-        for number in 1..self.wires.arrivals.len() {
-            if self.wires.arrivals[number - 1] == NEVER {
+        // (the last packets are mostly the last ones that are out)
+        let places = self.wires.arrivals.len();
+        for past in 1..places {
+            if self.wires.arrivals[places - 1 - past] == NEVER {
                 return false;
             }
         }

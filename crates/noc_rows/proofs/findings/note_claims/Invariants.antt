@@ -2,5 +2,5 @@ use Rattle.noc_rows.specs.Wires.{room_of}
 use Rattle.noc_rows.proofs.FoundPasses.{AreClaimedTo}
 use Rattle.noc_rows.proofs.findings.note_claims.Given as goal
 
-abbrev pub invariant-loop-place : goal.invariant-loop-place
-invariant-loop-place l = AreClaimedTo l.place l.frame (room_of l.room) l.inboxes l.blocks l.initial.found l.found
+abbrev pub invariant-loop-router : goal.invariant-loop-router
+invariant-loop-router l = AreClaimedTo l.router l.frame (room_of l.room) l.inboxes l.blocks l.initial.found l.found

@@ -1,5 +1,5 @@
 use Rattle.noc_rows.proofs.FoundPasses.{HaveVerdictsTo}
 use Rattle.noc_rows.proofs.findings.note_verdicts.Given as goal
 
-abbrev pub invariant-loop-place : goal.invariant-loop-place
-invariant-loop-place l = HaveVerdictsTo l.place l.blocks l.initial.found l.found
+abbrev pub invariant-loop-router : goal.invariant-loop-router
+invariant-loop-router l = HaveVerdictsTo l.router l.blocks l.initial.found l.found
