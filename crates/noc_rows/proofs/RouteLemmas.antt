@@ -1,7 +1,7 @@
 -- Heads are routed one by one.
-use Rattle.std.proofs.Common.{◌≡◌, ◌≢◌, ℕ, ◌-◌, ◌^◌, ◌<◌, Bool, true, false, List, ◌∷◌, get_or, Some, refl, ap, sym, ◌∙◌, subst, inl, inr, bit_and, bit_or}
-use Rattle.std.specs.Prelude.{◌⊎◌, ◌&&◌, ◌||◌, not, nat_eq}
-use Rattle.std.proofs.lemmas.Bool.{cases_eq, eq-eqb, ne_eqb, true≢false, and_parts}
+use Rattle.std.proofs.Common.{◌≡◌, ◌≢◌, ℕ, ◌+◌, ◌-◌, ◌^◌, ◌<◌, ◌≤◌, Bool, true, false, List, ◌∷◌, get_or, Some, refl, ap, ap₂, arith, sym, ◌∙◌, subst, inl, inr, bit_and, bit_or}
+use Rattle.std.specs.Prelude.{◌⊎◌, ◌&&◌, ◌||◌, not, nat_eq, nat_lt}
+use Rattle.std.proofs.lemmas.Bool.{cases_Bool, cases_eq, cases_lt, eq-eqb, le-ltb, lt-ltb, ne_eqb, true≢false}
 use Rattle.noc_packet.specs.Set.{has_bit, IsLeast}
 use Rattle.noc_packet.specs.declared.packet.Flit.{Flit}
 use Rattle.noc_packet.proofs.SetLemmas.{either_members, has_bit-zero}
@@ -11,7 +11,6 @@ use Rattle.noc_rows.specs.Grants.{AreTallied}
 use Rattle.noc_rows.specs.Routed.{HasRouted, HasRoutes, Routing}
 use Rattle.noc_rows.proofs.AskedLemmas.{left-part, or-false, or-left, or-right, same-word}
 use Rattle.noc_rows.proofs.EachLemmas.{left-members}
-use Rattle.noc_rows.proofs.PassLemmas.{power-members}
 
 -- those of the heads that are not left wait, each for its set, and have the numbers of their packets: from `old` and `was` to `now` and `named`
 pub record AreRouted (heads : ℕ) (ring : ℕ → List ℕ) (sets : ℕ → Flit → ℕ) (old now was named : List ℕ) (wanted all left : ℕ) : Type 0 where
@@ -82,39 +81,29 @@ module _ (heads : ℕ) (ring : ℕ → List ℕ) (sets : ℕ → Flit → ℕ) (
       empty : (k : ℕ) → has_bit left k ≡ false
       empty k = ap (λ n. has_bit n k) none ∙ has_bit-zero k
 
--- ---- the members of a set, from the least on, as a word
-pub members-none : (set k : ℕ) → has_bit 0 k ≡ (has_bit set k && not (has_bit set k))
-members-none set k = has_bit-zero k ∙ sym (at (has_bit set k))
+-- ---- the members of a set, channel by channel, as a word
+pub members-none : (set k : ℕ) → has_bit 0 k ≡ (nat_lt k 0 && has_bit set k)
+members-none set k = has_bit-zero k ∙ sym (ap (λ b. b && has_bit set k) (le-ltb k 0 (omega arith)))
+
+pub members-next : (set word bit x : ℕ) → ((k : ℕ) → has_bit word k ≡ (nat_lt k x && has_bit set k)) → ((k : ℕ) → has_bit bit k ≡ (nat_eq k x && has_bit set x))
+    → (k : ℕ) → has_bit (bit_or word bit) k ≡ (nat_lt k (x + 1) && has_bit set k)
+members-next set word bit x are alone k = either_members word bit k ∙ ap₂ (λ a b. a || b) (are k) (alone k) ∙ at (cases_eq k x) (cases_lt k x)
   where
-    at : (b : Bool) → (b && not b) ≡ false
-    at true = refl
-    at false = refl
+    at : (k ≡ x) ⊎ (k ≢ x) → (k < x) ⊎ (x ≤ k) → ((nat_lt k x && has_bit set k) || (nat_eq k x && has_bit set x)) ≡ (nat_lt k (x + 1) && has_bit set k)
+    at (inl same) less = rw (le-ltb k x (omega (arith, same)), eq-eqb k x same, lt-ltb k (x + 1) (omega (arith, same))) (sym (ap (has_bit set) same))
+    at (inr other) (inl less) = rw (lt-ltb k x less, ne_eqb k x other, lt-ltb k (x + 1) (omega (arith, less))) (or-false (has_bit set k))
+    at (inr other) (inr above) = rw (le-ltb k x above, ne_eqb k x other, le-ltb k (x + 1) (omega (arith, above, other))) refl
 
-pub next-part : (set rest next x : ℕ) → ((k : ℕ) → has_bit rest k ≡ true → has_bit set k ≡ true) → ((k : ℕ) → has_bit next k ≡ (not (nat_eq k x) && has_bit rest k)) → (k : ℕ) → has_bit next k ≡ true → has_bit set k ≡ true
-next-part set rest next x part is k e = part k (and_parts (not (nat_eq k x)) (has_bit rest k) (sym (is k) ∙ e)).1
-
-pub members-next : (set rest next word bit x : ℕ) → ((k : ℕ) → has_bit rest k ≡ true → has_bit set k ≡ true) → ((k : ℕ) → has_bit next k ≡ (not (nat_eq k x) && has_bit rest k)) → has_bit rest x ≡ true → bit ≡ 2 ^ x
-    → ((k : ℕ) → has_bit word k ≡ (has_bit set k && not (has_bit rest k))) → (k : ℕ) → has_bit (bit_or word bit) k ≡ (has_bit set k && not (has_bit next k))
-members-next set rest next word bit x part is member alone are k =
-    either_members word bit k ∙ ap (λ b. has_bit word k || b) (ap (λ n. has_bit n k) alone ∙ power-members x k) ∙ ap (λ b. b || nat_eq k x) (are k) ∙ at (cases_eq k x) ∙ ap (λ b. has_bit set k && not b) (sym (is k))
+pub members-all : (set word end : ℕ) → 32 ≤ end → ((k : ℕ) → has_bit set k ≡ true → k < 32) → ((k : ℕ) → has_bit word k ≡ (nat_lt k end && has_bit set k)) → word ≡ set
+members-all set word end far few are = same-word word set (λ k. are k ∙ at k (cases_Bool (has_bit set k)))
   where
-    at : (k ≡ x) ⊎ (k ≢ x) → ((has_bit set k && not (has_bit rest k)) || nat_eq k x) ≡ (has_bit set k && not (not (nat_eq k x) && has_bit rest k))
-    at (inl same) =
-        let in_set : has_bit set k ≡ true = part k (ap (has_bit rest) same ∙ member) in
-        let in_rest : has_bit rest k ≡ true = ap (has_bit rest) same ∙ member in
-        rw (in_set, in_rest, eq-eqb k x same) refl
-    at (inr other) = rw (ne_eqb k x other) (or-false (has_bit set k && not (has_bit rest k)))
+    none : (b : Bool) → (b && false) ≡ false
+    none true = refl
+    none false = refl
 
-pub members-all : (set rest word : ℕ) → ((k : ℕ) → has_bit rest k ≡ false) → ((k : ℕ) → has_bit word k ≡ (has_bit set k && not (has_bit rest k))) → word ≡ set
-members-all set rest word none are = same-word word set (λ k. are k ∙ ap (λ b. has_bit set k && not b) (none k) ∙ and-true (has_bit set k))
-  where
-    and-true : (b : Bool) → (b && true) ≡ b
-    and-true true = refl
-    and-true false = refl
-
-pub not-both : (b : Bool) → (b && b) ≡ false → b ≡ false
-not-both true e = absurd (true≢false e)
-not-both false e = refl
+    at : (k : ℕ) → (has_bit set k ≡ true) ⊎ (has_bit set k ≡ false) → (nat_lt k end && has_bit set k) ≡ has_bit set k
+    at k (inl e) = ap (λ b. b && has_bit set k) (lt-ltb k end (omega (arith, few k e, far)))
+    at k (inr e) = rw e (none (nat_lt k end))
 
 -- a router is routed, from what it had
 pub routes-from : (heads node there : ℕ) (sets : ℕ → ℕ → Flit → ℕ) (rings : List ℕ → ℕ → List ℕ) (now first : List ℕ) (a c b : Routing) → now ≡ first → node ≡ there → a ≡ c

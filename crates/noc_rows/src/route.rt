@@ -1,6 +1,6 @@
 //! Heads are routed.
 
-ghost use Rattle.std.specs.Prelude.{◌≡◌, ◌≢◌, ℕ, ◌+◌, ◌*◌, ◌^◌, ◌<◌, ◌≤◌, true, false, slice_index};
+ghost use Rattle.std.specs.Prelude.{◌≡◌, ◌≢◌, ℕ, ◌+◌, ◌*◌, ◌^◌, ◌<◌, ◌≤◌, ◌&&◌, true, false, nat_eq, slice_index};
 ghost use Rattle.noc_packet.specs.Set.{has_bit};
 ghost use Rattle.noc_packet.specs.declared.packet.Flit.{Flit};
 ghost use Rattle.noc_route.specs.Routes.{set_at, width};
@@ -121,27 +121,23 @@ fn set_for(
     word_of(relation.permitted(class, node, port, vc, dst))
 }
 
-// A set of channels below 32, as a word.
+// A set of channels below 32, as a word. (Nothing depends on how many there are, so the processor need not wait for the
+// set before it goes on.)
 fn word_of(set: ChannelSet) -> u32
     ensures { ((k : ℕ) → has_bit set k ≡ true → k < 32) → result ≡ set }
 {
-    let mut rest = set;
     let mut word = 0u32;
-    while let Some(channel) = rest.least_common(&rest) {
-        word |= bit_of(channel);
-        rest = rest.without(channel);
+    for channel in 0..32usize {
+        word |= alone_where(channel, set.contains(channel));
     }
     word
 }
 
-// A channel below 32 alone.
+// A channel alone, or none.
 #[inline(always)]
-fn bit_of(channel: usize) -> u32
-    ensures { channel < 32 → result ≡ 2 ^ channel }
+fn alone_where(channel: usize, is_member: bool) -> u32
+    requires { channel < 32 }
+    ensures { (k : ℕ) → has_bit result k ≡ (nat_eq k channel && is_member) }
 {
-    if channel < 32 {
-        1u32 << channel as u32
-    } else {
-        0
-    }
+    u32::from(is_member) << channel as u32
 }
