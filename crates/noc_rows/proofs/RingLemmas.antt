@@ -4,7 +4,7 @@ use Rattle.std.specs.Prelude.{◌⊎◌, ◌||◌, nat_eq}
 use Rattle.std.proofs.lemmas.Bool.{cases_lt, eqb-true}
 use Rattle.std.proofs.lemmas.List.{get_or_append_left, get_or_push, get_or-set_same, get_or-set_other, length_push}
 use Rattle.std.proofs.lemmas.Nat.{and_mask, div-add-mod', mod-mul-add, mod-pow-add, mod_below, pow_pos, same_from_place}
-use Rattle.std.proofs.Math.Nat.{pow-le-pow_right}
+use Rattle.std.proofs.Math.Nat.{mul-le-mul_right, pow-le-pow_right}
 use Rattle.noc_topo.specs.Words.{tabulate}
 use Rattle.noc_topo.proofs.WordLemmas.{get_or-tabulate, length-tabulate, tabulate-from_each}
 use Rattle.noc_rows.specs.FlitWords.{is_room, ring_of, slot}
@@ -69,7 +69,7 @@ module _ (room : ℕ) (is : IsRoom room) where
       ∙ sym (ap (λ m. x % m) is.is)
 
   same-slot : (channel x y : ℕ) → x % 256 ≡ y % 256 → slot room channel x ≡ slot room channel y
-  same-slot channel x y e = ap (λ p. p * 1024 + channel) (sym (byte-mod x) ∙ ap (λ m. m % room) e ∙ byte-mod y)
+  same-slot channel x y e = ap (λ p. channel * room + p) (sym (byte-mod x) ∙ ap (λ m. m % room) e ∙ byte-mod y)
 
   -- fewer places apart than there is room
   apart : (a k l : ℕ) → k < l → l < k + room → (a + k) % room ≡ (a + l) % room → ⊥
@@ -82,10 +82,14 @@ module _ (room : ℕ) (is : IsRoom room) where
       omega arith
 
   slots-apart : (c d x y : ℕ) → c < 1024 → d < 1024 → slot room c x ≡ slot room d y → (x % room ≡ y % room) × (c ≡ d)
-  slots-apart c d x y lc ld e = same_from_place (x % room) c (y % room) d 1024 lc ld e
+  slots-apart c d x y lc ld e = let p = same_from_place c (x % room) d (y % room) room (mod_below x room room-some) (mod_below y room room-some) e in (p.1, p.0)
 
-  slot-below : (c x : ℕ) → c < 1024 → slot room c x < 16384
-  slot-below c x l = let m : x % room < room = mod_below x room room-some in let f : room ≤ 16 = room-few in omega arith
+  pub slot-below : (c x : ℕ) → c < 1024 → slot room c x < 16384
+  slot-below c x l =
+      let m : x % room < room = mod_below x room room-some in
+      let f : room ≤ 16 = room-few in
+      let p : c * room ≤ 1023 * room = mul-le-mul_right room (omega arith) in
+      omega arith
 
   module _ (words : List ℕ) (channel first next flit : ℕ) (whole : length words ≡ 16384) (within : channel < 1024) (low : first < 256) (high : next < 256) where
     -- a word goes to the end of a ring that has room

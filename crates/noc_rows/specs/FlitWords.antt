@@ -20,7 +20,7 @@ is_room room = nat_eq room 1 || nat_eq room 2 || nat_eq room 4 || nat_eq room 8 
 
 -- the place of word `place` of the ring of a channel, in which a power of two of words has room
 abbrev pub slot : ℕ → ℕ → ℕ → ℕ
-slot room channel place = place % room * 1024 + channel
+slot room channel place = channel * room + place % room
 
 -- the words of the ring of a channel, where places are counted as bytes
 abbrev pub ring_of : ℕ → List ℕ → ℕ → ℕ → ℕ → List ℕ

@@ -31,13 +31,15 @@ impl Room {
         }
     }
 
-    // Where a word of the ring of a channel is.
+    // Where a word of the ring of a channel is. The words of a ring are side by side.
     #[inline(always)]
     pub(crate) fn at(self, channel: usize, place: u8) -> usize
         requires { channel < 1024 }
         ensures place { result ≡ slot (room_of self) channel place }
         ensures within { result < 16384 }
     {
-        usize::from(place & self.mask) % 16 * 1024 + channel
+        let size = usize::from(self.mask) + 1;
+        let at = usize::from(place & self.mask);
+        channel * size + at
     }
 }

@@ -21,7 +21,7 @@ pub(crate) struct Inbox {
     pub credits: Row,
     // By input channel, how many flits have gone into its ring, as a byte.
     pub next: [u8; CHANNELS],
-    // By place in the ring and input channel, the flits in the buffer and on the wire to it.
+    // By input channel and place in its ring, the flits in the buffer and on the wire to it.
     pub words: [u64; WORDS],
 }
 
