@@ -75,6 +75,7 @@ fn same_after(rows: &mut Rows, network: &mut Network, cycles: u32) -> bool
 /// Whether both run alike.
 fn same_run(pair: &mut Pair) -> bool
     requires { pair.old.network.count ≡ 0 }
+    ensures { pair.new.network ≡ record pair.old.network { count = 400 } }
 {
     let Pair { rows, network } = pair;
     let first = same_after(rows, network, 1);
@@ -94,7 +95,7 @@ struct Tally {
 
 /// Networks of the shapes with these numbers are run, so many of each.
 fn run_all(alloc: Global, shapes: Range<usize>, turns: usize) -> Result<Tally, Fail> {
-    let mut chance = Chance::new();
+    let mut chance = Chance::new(shapes.start);
     let mut tally = Tally {
         alike: 0,
         unlike: None,
@@ -127,26 +128,86 @@ fn run_shape(
 }
 
 #[test]
-fn lines_and_rings_run_in_rows_as_in_routers(rt: HostRuntime) -> Result<(), Fail> {
-    let tally = run_all(rt.alloc(), 0..4, 50)?;
+fn two_routers_run_in_rows_as_in_routers(rt: HostRuntime) -> Result<(), Fail> {
+    let tally = run_all(rt.alloc(), 0..2, 60)?;
     assert_eq!(rt; tally.unlike, None);
-    assert!(rt; tally.alike >= 100);
+    assert!(rt; tally.alike >= 60);
     Ok(())
 }
 
 #[test]
-fn networks_of_two_dimensions_run_in_rows_as_in_routers(rt: HostRuntime) -> Result<(), Fail> {
-    let tally = run_all(rt.alloc(), 4..10, 30)?;
+fn a_line_and_a_ring_run_in_rows_as_in_routers(rt: HostRuntime) -> Result<(), Fail> {
+    let tally = run_all(rt.alloc(), 2..4, 60)?;
     assert_eq!(rt; tally.unlike, None);
-    assert!(rt; tally.alike >= 100);
+    assert!(rt; tally.alike >= 60);
     Ok(())
 }
 
 #[test]
-fn networks_of_three_dimensions_run_in_rows_as_in_routers(rt: HostRuntime) -> Result<(), Fail> {
-    let tally = run_all(rt.alloc(), 10..14, 50)?;
+fn squares_of_four_run_in_rows_as_in_routers(rt: HostRuntime) -> Result<(), Fail> {
+    let tally = run_all(rt.alloc(), 4..6, 60)?;
     assert_eq!(rt; tally.unlike, None);
-    assert!(rt; tally.alike >= 100);
+    assert!(rt; tally.alike >= 65);
+    Ok(())
+}
+
+#[test]
+fn networks_of_twelve_run_in_rows_as_in_routers(rt: HostRuntime) -> Result<(), Fail> {
+    let tally = run_all(rt.alloc(), 6..8, 25)?;
+    assert_eq!(rt; tally.unlike, None);
+    assert!(rt; tally.alike >= 26);
+    Ok(())
+}
+
+#[test]
+fn a_mesh_of_36_runs_in_rows_as_in_routers(rt: HostRuntime) -> Result<(), Fail> {
+    let tally = run_all(rt.alloc(), 8..9, 20)?;
+    assert_eq!(rt; tally.unlike, None);
+    assert!(rt; tally.alike >= 15);
+    Ok(())
+}
+
+#[test]
+fn a_torus_of_35_runs_in_rows_as_in_routers(rt: HostRuntime) -> Result<(), Fail> {
+    let tally = run_all(rt.alloc(), 9..10, 20)?;
+    assert_eq!(rt; tally.unlike, None);
+    assert!(rt; tally.alike >= 11);
+    Ok(())
+}
+
+#[test]
+fn a_cube_of_eight_runs_in_rows_as_in_routers(rt: HostRuntime) -> Result<(), Fail> {
+    let tally = run_all(rt.alloc(), 10..11, 50)?;
+    assert_eq!(rt; tally.unlike, None);
+    assert!(rt; tally.alike >= 24);
+    Ok(())
+}
+
+#[test]
+fn a_torus_of_three_dimensions_runs_in_rows_as_in_routers(rt: HostRuntime) -> Result<(), Fail> {
+    let tally = run_all(rt.alloc(), 11..12, 30)?;
+    assert_eq!(rt; tally.unlike, None);
+    assert!(rt; tally.alike >= 15);
+    Ok(())
+}
+
+#[test]
+fn a_mesh_of_18_in_three_dimensions_runs_in_rows_as_in_routers(
+    rt: HostRuntime,
+) -> Result<(), Fail> {
+    let tally = run_all(rt.alloc(), 12..13, 20)?;
+    assert_eq!(rt; tally.unlike, None);
+    assert!(rt; tally.alike >= 11);
+    Ok(())
+}
+
+#[test]
+fn a_mesh_of_12_in_three_dimensions_runs_in_rows_as_in_routers(
+    rt: HostRuntime,
+) -> Result<(), Fail> {
+    let tally = run_all(rt.alloc(), 13..14, 30)?;
+    assert_eq!(rt; tally.unlike, None);
+    assert!(rt; tally.alike >= 14);
     Ok(())
 }
 

@@ -1,18 +1,18 @@
-//! A fixed sequence of numbers.
+//! Fixed sequences of numbers.
 
 ghost use Rattle.std.specs.Prelude.{◌<◌};
 
-/// Numbers by shifts of 64 bits, always the same.
+/// Numbers by shifts of 64 bits, of a sequence always the same.
 #[derive(Clone, Copy)]
 pub struct Chance {
     state: u64,
 }
 
 impl Chance {
-    /// The start of the sequence.
-    pub fn new() -> Chance {
+    /// The start of the sequence with this number.
+    pub fn new(number: usize) -> Chance {
         Chance {
-            state: 0x9e37_79b9_7f4a_7c15,
+            state: 0x9e37_79b9_7f4a_7c15 ^ (number as u64) << 32,
         }
     }
 

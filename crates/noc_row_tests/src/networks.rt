@@ -1,6 +1,6 @@
 //! Networks that are made by a fixed sequence of numbers.
 
-ghost use Rattle.std.specs.Prelude.{◌≡◌, ◌<◌, ◌≤◌, IfSome, IfOk};
+ghost use Rattle.std.specs.Prelude.{◌≡◌, ◌<◌, ◌≤◌, IfSome, IfOk, length};
 
 use crate::chance::Chance;
 use crate::rules::{RULES, relation_of, shape_of};
@@ -29,7 +29,8 @@ fn twice(
 ) -> Result<Option<Pair>, Fail>
     requires some_place { 0 < places }
     requires places { places ≤ 16 }
-    ensures { IfOk result (λ made. IfSome made (λ pair. pair.network.count ≡ 0)) }
+    ensures count { IfOk result (λ made. IfSome made (λ pair. pair.network.count ≡ 0)) }
+    ensures packets { IfOk result (λ made. IfSome made (λ pair. pair.network.net.packets ≡ packets.items)) }
 {
     let Some(rows) = Rows::new(alloc, &relation, places, &packets)? else {
         return Ok(None);
@@ -95,7 +96,8 @@ pub fn stuck_ring(alloc: Global) -> Result<Option<Pair>, Fail>
 /// Two such rings side by side. In the second one packet after the other has the way to itself, with long times between
 /// them in which nothing happens although the first ring holds flits.
 pub fn stuck_ring_beside_another(alloc: Global) -> Result<Option<Pair>, Fail>
-    ensures { IfOk result (λ made. IfSome made (λ pair. pair.network.count ≡ 0)) }
+    ensures count { IfOk result (λ made. IfSome made (λ pair. pair.network.count ≡ 0)) }
+    ensures packets { IfOk result (λ made. IfSome made (λ pair. length pair.network.net.packets ≡ 8)) }
 {
     let shape = Shape::new(Kind::Torus, &[4, 3])?;
     let relation = Relation::build(alloc, &shape, 1, 1, Rule::Dor)?;
