@@ -1,21 +1,23 @@
 -- What is noted of a channel of a block that is frozen: the packet and the output channel that its view has.
-use Rattle.std.proofs.Common.{◌≡◌, ◌≢◌, ℕ, ◌/◌, ◌%◌, ◌^◌, ◌<◌, ◌≤◌, Bool, true, false, List, [], ◌∷◌, map, Option, Some, None, refl, ap, ap₂, sym, ◌∙◌, subst, inl, inr, arith, bit_and}
+use Rattle.std.proofs.Common.{◌≡◌, ◌≢◌, ℕ, zero, suc, ◌+◌, ◌*◌, ◌/◌, ◌%◌, ◌^◌, ◌<◌, ◌≤◌, Bool, true, false, List, [], ◌∷◌, map, length, Option, Some, None, refl, ap, ap₂, sym, ◌∙◌, subst, inl, inr, arith, bit_and}
 use Rattle.std.specs.Prelude.{◌⊎◌, ◌||◌, not, nat_eq, option_map, slice_index, if◌then◌else◌}
 use Rattle.std.specs.Int.{trailing_zeros, w32}
-use Rattle.std.proofs.lemmas.Bool.{and_parts, cases_eq, eq-eqb, eqb-true, false≢true, ne_eqb}
+use Rattle.std.proofs.lemmas.Bool.{and_parts, cases_eq, cases_lt, eq-eqb, eqb-true, false≢true, ne_eqb}
 use Rattle.noc_topo.proofs.WordLemmas.{get_or-tabulate}
 use Rattle.noc_packet.specs.Set.{IsLeast, has_bit}
 use Rattle.noc_packet.specs.declared.packet.Flit.{Flit}
 use Rattle.noc_packet.proofs.SetLemmas.{both_members, has_bit-zero}
 use Rattle.noc_vc.specs.Input.{is_active, is_empty, is_idle_phase, is_waiting}
+use Rattle.noc_vc.specs.Output.{has_credit}
 use Rattle.noc_vc.specs.declared.input.InputState.{InputState}
 use Rattle.noc_vc.specs.declared.input.InputState.TheVariants.{Idle, Waiting, Active}
 use Rattle.noc_router.specs.Members.{AreBelow}
 use Rattle.noc_router.specs.Verdict.{out_of}
-use Rattle.noc_router.specs.View.{View, claim_in, port_and_vc, size_of, view_buffer, view_claim, view_input}
+use Rattle.noc_router.specs.View.{View, asked_for, claim_in, port_and_vc, size_of, view_buffer, view_claim, view_input, view_output}
+use Rattle.noc_router.specs.declared.verdict.Finding.{Finding}
 use Rattle.noc_rows.specs.Column.{IsColumn, ShowsPhase, place_of}
 use Rattle.noc_rows.specs.FlitWords.{FitsWord, flit_word}
-use Rattle.noc_rows.specs.Found.{HasPacket, is_held, least_place, out_at}
+use Rattle.noc_rows.specs.Found.{HasPacket, IsClaimed, is_held, least_place, out_at}
 use Rattle.noc_rows.specs.Frames.{IsPlaced}
 use Rattle.noc_rows.specs.Rows.{column_at, marks_at, of_router, word}
 use Rattle.noc_rows.specs.Wires.{in_row, ring_in}

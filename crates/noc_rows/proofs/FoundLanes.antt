@@ -1,10 +1,11 @@
 -- What is noted of the channels of a block is what its routers find in the cycle.
-use Rattle.std.proofs.Common.{◌≡◌, ℕ, suc, ◌+◌, ◌*◌, ◌/◌, ◌%◌, ◌<◌, ◌≤◌, true, List, [], ◌∷◌, Option, refl, ap, ap₂, sym, ◌∙◌, subst, arith}
+use Rattle.std.proofs.Common.{◌≡◌, ℕ, suc, ◌+◌, ◌*◌, ◌/◌, ◌%◌, ◌<◌, ◌≤◌, true, false, List, [], ◌∷◌, Option, None, refl, ap, ap₂, sym, ◌∙◌, subst, arith}
 use Rattle.std.specs.Prelude.{min, option_map, slice_index, if◌then◌else◌}
 use Rattle.std.proofs.lemmas.Bool.{false≢true}
 use Rattle.noc_topo.specs.Shape.{nodes}
+use Rattle.noc_packet.specs.Set.{has_bit}
 use Rattle.noc_packet.specs.declared.packet.Flit.{Flit}
-use Rattle.noc_vc.specs.Input.{is_empty}
+use Rattle.noc_vc.specs.Input.{is_empty, is_idle_phase}
 use Rattle.noc_router.specs.Found.{empty_finding}
 use Rattle.noc_router.specs.Members.{AreBelow}
 use Rattle.noc_router.specs.Verdict.{out_of}
@@ -17,6 +18,7 @@ use Rattle.noc_model.specs.Good.{IsGoodSetup}
 use Rattle.noc_model.specs.Lockstep.{site_at, view_at}
 use Rattle.noc_model.specs.Network.{Setup, frozen_at, size}
 use Rattle.noc_rows.specs.Column.{IsTidy, place_of}
+use Rattle.noc_rows.specs.FlitWords.{FitsWord}
 use Rattle.noc_rows.specs.Found.{IsClaimed, out_at, sets_at, with_verdict}
 use Rattle.noc_rows.specs.Frames.{IsFrameOf, IsPlaced}
 use Rattle.noc_rows.specs.InRows.{ShowsRouter}
@@ -25,7 +27,9 @@ use Rattle.noc_rows.specs.Rows.{column_at, marks_at, standing_at, word}
 use Rattle.noc_rows.specs.Stages.{HasFrozen, HasMoved, selected_of}
 use Rattle.noc_rows.specs.Whole.{ShowsBlock, lane_words}
 use Rattle.noc_rows.specs.declared.block.Block.{Block}
+use Rattle.noc_rows.specs.declared.cycle.ArrivedRows.{ArrivedRows}
 use Rattle.noc_rows.specs.declared.cycle.DecidedRows.{DecidedRows}
+use Rattle.noc_rows.specs.declared.cycle.StandingRows.{StandingRows}
 use Rattle.noc_rows.specs.declared.column.Lanes.{Lanes}
 use Rattle.noc_rows.specs.declared.frame.Frame.{Frame}
 use Rattle.noc_rows.specs.declared.sheet.Sheet.{Sheet}

@@ -1,6 +1,6 @@
 -- What a router of a network found in the cycle before a count, by the frozen view of that cycle.
-use Rattle.std.proofs.Common.{◌≡◌, ℕ, suc, ◌<◌, Bool, true, false, List, length, Option, Some, None, refl, ap, sym, ◌∙◌}
-use Rattle.std.specs.Prelude.{not, option_map, if◌then◌else◌}
+use Rattle.std.proofs.Common.{◌≡◌, ℕ, suc, ◌<◌, ◌≤◌, Bool, true, false, List, [], length, Option, Some, None, refl, ap, sym, ◌∙◌, subst}
+use Rattle.std.specs.Prelude.{not, option_map, slice_index_or, if◌then◌else◌}
 use Rattle.std.proofs.lemmas.Bool.{false≢true}
 use Rattle.noc_topo.specs.Words.{tabulate}
 use Rattle.noc_topo.specs.Shape.{local_port, nodes}
@@ -13,15 +13,15 @@ use Rattle.noc_vc.specs.declared.input.InputState.TheVariants.{Idle, Waiting, Ac
 use Rattle.noc_router.specs.Arrivals.{arrivals_after, is_expected_in}
 use Rattle.noc_router.specs.Found.{empty_finding}
 use Rattle.noc_router.specs.Verdict.{Round, out_of, verdict_of}
-use Rattle.noc_router.specs.View.{Decisions, View, claim_in, decisions_of, finding_of, flit_out, local_step, port_and_vc, size_of, tail_packet, view_after_commit, view_after_inject, view_after_takes, view_buffer, view_input, view_round, with_arrival, with_misfit}
+use Rattle.noc_router.specs.View.{Decisions, Site, View, claim_in, decisions_of, finding_of, flit_out, local_step, port_and_vc, size_of, tail_packet, view_after_commit, view_after_inject, view_after_takes, view_buffer, view_input, view_round, with_arrival, with_misfit}
 use Rattle.noc_router.specs.declared.verdict.Finding.{Finding}
 use Rattle.noc_model.specs.declared.limits.TheConstants.{CYCLE_LIMIT}
 use Rattle.noc_model.specs.Good.{IsGoodSetup}
-use Rattle.noc_model.specs.Lockstep.{findings_before, view_at}
-use Rattle.noc_model.specs.Network.{Setup, size}
+use Rattle.noc_model.specs.Lockstep.{beats_at, beats_in, findings_before, view_at}
+use Rattle.noc_model.specs.Network.{Setup, size, state_at}
 use Rattle.noc_rows.specs.Found.{finding_at}
 use Rattle.noc_rows.proofs.FrozenWires.{frozen_of}
-use Rattle.noc_rows.proofs.NetworkLaws.{beats, frozen_view, next-count}
+use Rattle.noc_rows.proofs.NetworkLaws.{beats, frozen-seen, frozen_view, next-count}
 
 -- ---- the findings of a view after a cycle
 

@@ -1,8 +1,9 @@
 -- A cycle in which it is noted what each router finds: rows then show the findings of the network.
 use Rattle.std.proofs.Common.{Vec, Global, ◌≡◌, ℕ, suc, ◌+◌, ◌*◌, ◌/◌, ◌%◌, ◌<◌, ◌≤◌, Bool, true, false, List, length, Some, refl, ap, sym, ◌∙◌, subst, arith}
-use Rattle.std.specs.Prelude.{slice_get, if◌then◌else◌}
+use Rattle.std.specs.Prelude.{min, slice_get, slice_index, if◌then◌else◌}
 use Rattle.std.proofs.lemmas.Option.{same_Some}
 use Rattle.noc_topo.specs.Shape.{nodes}
+use Rattle.noc_router.specs.Found.{empty_finding}
 use Rattle.noc_router.specs.View.{Site, finding_of, size_of, view_round}
 use Rattle.noc_router.specs.declared.verdict.Finding.{Finding}
 use Rattle.noc_model.specs.declared.limits.TheConstants.{CYCLE_LIMIT}

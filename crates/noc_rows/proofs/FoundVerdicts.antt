@@ -1,15 +1,16 @@
 -- The verdict of a channel of a block that has decided is the one of its frozen view.
-use Rattle.std.proofs.Common.{◌≡◌, ℕ, ◌<◌, ◌≤◌, ap, ap₂, sym, ◌∙◌, arith, bit_and, bit_or}
+use Rattle.std.proofs.Common.{◌≡◌, ℕ, ◌^◌, ◌<◌, ◌≤◌, length, refl, ap, ap₂, sym, ◌∙◌, arith, bit_and, bit_or}
 use Rattle.std.specs.Prelude.{◌&&◌}
 use Rattle.noc_topo.specs.Shape.{ports}
 use Rattle.noc_packet.specs.Set.{has_bit}
+use Rattle.noc_alloc.specs.Arbiter.{arbiter_at}
 use Rattle.noc_router.specs.Standing.{is_won_from}
 use Rattle.noc_router.specs.VerdictSets.{verdict_by}
 use Rattle.noc_router.specs.View.{View, finding_of, size_of, view_input, view_round}
 use Rattle.noc_router.specs.declared.verdict_sets.VerdictSets.{VerdictSets}
 use Rattle.noc_rows.specs.Bits.{less}
 use Rattle.noc_rows.specs.Column.{AreWords, Column, ShowsChannels}
-use Rattle.noc_rows.specs.Fields.{Fields, IsFields}
+use Rattle.noc_rows.specs.Fields.{Fields, IsFields, ShowsPointer}
 use Rattle.noc_rows.specs.Found.{sets_at}
 use Rattle.noc_rows.specs.Passes.{lane_picked, lane_standing}
 use Rattle.noc_rows.specs.Rows.{standing_at, word}

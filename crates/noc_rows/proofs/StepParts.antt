@@ -1,5 +1,5 @@
 -- What a cycle of rows is made of, and that it shows the network at the next count.
-use Rattle.std.proofs.Common.{Vec, Global, ◌≡◌, ℕ, suc, ◌^◌, ◌<◌, true, false, List, length, Some, refl, ap, sym, ◌∙◌, subst, arith, slice_get}
+use Rattle.std.proofs.Common.{Vec, Global, ◌≡◌, ℕ, suc, ◌+◌, ◌^◌, ◌<◌, ◌≤◌, true, false, List, length, Some, refl, ap, sym, ◌∙◌, subst, arith, slice_get}
 use Rattle.std.specs.Prelude.{slice_index}
 use Rattle.noc_packet.specs.Set.{has_bit}
 use Rattle.noc_model.specs.declared.limits.TheConstants.{CYCLE_LIMIT}

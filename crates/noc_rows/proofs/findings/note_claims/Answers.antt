@@ -1,4 +1,4 @@
-use Rattle.std.proofs.Common.{◌+◌, List, arith, sym, subst}
+use Rattle.std.proofs.Common.{◌≡◌, ◌+◌, ◌≤◌, List, arith, set, sym, subst}
 use Rattle.noc_router.specs.declared.verdict.Finding.{Finding}
 use Rattle.noc_rows.specs.Wires.{room_of}
 use Rattle.noc_rows.proofs.FoundPasses.{AreClaimedTo, claimed-all, claimed-more, claimed-none, claimed-skip, claimed-without}

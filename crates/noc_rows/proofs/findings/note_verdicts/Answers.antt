@@ -1,4 +1,4 @@
-use Rattle.std.proofs.Common.{◌+◌, List, arith, sym, subst, refl}
+use Rattle.std.proofs.Common.{◌≡◌, ◌+◌, ◌≤◌, List, arith, set, sym, subst, refl}
 use Rattle.noc_router.specs.declared.verdict.Finding.{Finding}
 use Rattle.noc_rows.proofs.FoundPasses.{HaveVerdictsTo, verdicts-all, verdicts-asleep, verdicts-more, verdicts-none, verdicts-skip}
 use Rattle.noc_rows.proofs.findings.note_verdicts.Goals as goal

@@ -1,5 +1,6 @@
-use Rattle.std.proofs.Common.{◌≡◌, ◌+◌, ◌-◌, ◌*◌, ◌%◌, ◌^◌, ◌≤◌, zero, suc, List, length, take, drop, ap, ◌∙◌, arith}
+use Rattle.std.proofs.Common.{◌≡◌, ◌+◌, ◌-◌, ◌*◌, ◌%◌, ◌^◌, ◌<◌, ◌≤◌, ℕ, zero, suc, List, length, take, drop, ap, sym, subst, ◌∙◌, arith}
 use Rattle.noc_router.specs.declared.verdict.Finding.{Finding}
+use Rattle.noc_topo.specs.Shape.{ports}
 use Rattle.noc_model.specs.Network.{size}
 use Rattle.noc_rows.proofs.FoundReaders.{channels-are, found-part}
 use Rattle.noc_rows.proofs.rows.Rows.findings.Goals as goal

@@ -1,4 +1,4 @@
-use Rattle.std.proofs.Common.{◌≡◌, ap, refl, sym, subst, ◌∙◌, add-one}
+use Rattle.std.proofs.Common.{◌≡◌, ◌+◌, List, ap, refl, sym, subst, ◌∙◌, add-one}
 use Rattle.noc_rows.specs.Steps.{HasDecidedRows}
 use Rattle.noc_rows.specs.Still.{HaveCounted}
 use Rattle.noc_rows.specs.Whole.{IsRows}
