@@ -125,17 +125,18 @@ fn move_through(
         selected,
         &mut decided.moved,
     );
-    spend_all(
+    carry_all(
+        number,
+        port,
         moving,
         selected,
         &frame.after,
-        &marks.taken,
         single,
-        &mut marks.port_turn[port],
+        marks,
         &mut decided.out,
         supplied,
+        wires,
     );
-    carry_all(number, port, moving, selected, marks, wires);
 }
 
 // An output port takes the first of the picked channels that go by it, from its pointer on, and around. The answer is
@@ -174,38 +175,6 @@ fn in_turn(requests: u32, turn: u32) -> u32
     if high == 0 { requests } else { high }
 }
 
-// Each of these lanes has used the port: its pointer goes on, the output channel is among those that are left by a
-// flit, and who took the last credit of it is supplied no more.
-fn spend_all(
-    moving: u32,
-    selected: &Row,
-    after: &[u32; 32],
-    taken: &[u32; CHANNELS],
-    single: &Row,
-    turn: &mut Row,
-    out: &mut Row,
-    supplied: &mut Row,
-)
-    requires { (k : ℕ) → k < 32 → has_bit moving k ≡ not (nat_eq (word selected.now k) 0) }
-    ensures turn { (k : ℕ) → k < 32 → word turn.new k ≡ turned_by (word selected.now k) after.now (word turn.old k) }
-    ensures out { (k : ℕ) → k < 32 → word out.new k ≡ bit_or (word out.old k) (of_one (word selected.now k) (channel_word taken.now k)) }
-    ensures supplied { (k : ℕ) → k < 32 → word supplied.new k ≡ less (word supplied.old k) (dry_by (word single.now k) (channel_word taken.now k) (word selected.now k)) }
-{
-    let mut rest = moving;
-    while rest != 0 {
-        let lane = least(rest);
-        let bit = selected[lane];
-        let input = least(bit);
-        let used = taken[lane * 32 + input];
-        let all = out[lane] | used;
-        let left = supplied[lane] & !dry(single[lane], used, bit);
-        put(turn, lane, after[input]);
-        put(out, lane, all);
-        put(supplied, lane, left);
-        rest &= rest - 1;
-    }
-}
-
 // The input channel, where it takes the last credit of this output channel.
 #[inline(always)]
 fn dry(single: u32, used: u32, bit: u32) -> u32
@@ -214,29 +183,46 @@ fn dry(single: u32, used: u32, bit: u32) -> u32
     if single & used == 0 { 0 } else { bit }
 }
 
-// The flit of each of these lanes leaves its ring, and goes to the other end of the link.
+// The flit of each of these lanes leaves its ring, and goes to the other end of the link. The pointer of the port goes
+// on, the output channel is among those that are left by a flit, and who took the last credit of it is supplied no more.
 fn carry_all(
     number: usize,
     port: usize,
     moving: u32,
     selected: &Row,
+    after: &[u32; 32],
+    single: &Row,
     marks: &mut Marks,
+    out: &mut Row,
+    supplied: &mut Row,
     wires: &mut Wires,
 )
     requires port { port < 8 }
     requires moving { (k : ℕ) → k < 32 → has_bit moving k ≡ not (nat_eq (word selected.now k) 0) }
     requires one { (k : ℕ) → k < 32 → IsOne (word selected.now k) }
+    ensures turn { (k : ℕ) → k < 32 → turn_in marks.new k port ≡ turned_by (word selected.now k) after.now (turn_in marks.old k port) }
+    ensures turns { (q k : ℕ) → q ≢ port → turn_in marks.new k q ≡ turn_in marks.old k q }
+    ensures out { (k : ℕ) → k < 32 → word out.new k ≡ bit_or (word out.old k) (of_one (word selected.now k) (taken_in marks.old k)) }
+    ensures supplied { (k : ℕ) → k < 32 → word supplied.new k ≡ less (word supplied.old k) (dry_by (word single.now k) (taken_in marks.old k) (word selected.now k)) }
     ensures flits { MovesFlits number (word selected.now) marks.old marks.new wires.old wires.new }
     ensures tails { NotesTails number port (word selected.now) marks.old wires.old wires.new }
     ensures few { wires.new.tails.count ≤ wires.old.tails.count + 32 }
     ensures wires { wires.new ≡ record wires.old { inboxes = wires.new.inboxes; tails = wires.new.tails } }
     ensures inboxes { length wires.new.inboxes.items ≡ length wires.old.inboxes.items }
-    ensures marks { marks.new ≡ record marks.old { first = marks.new.first } }
+    ensures marks { marks.new ≡ record marks.old { first = marks.new.first; port_turn = marks.new.port_turn } }
 {
     let mut rest = moving;
     while rest != 0 {
         let lane = least(rest);
-        let channel = lane * 32 + least(selected[lane]);
+        let bit = selected[lane];
+        let input = least(bit);
+        let channel = lane * 32 + input;
+        let used = marks.taken[channel];
+        let all = out[lane] | used;
+        let left = supplied[lane] & !dry(single[lane], used, bit);
+        put(&mut marks.port_turn[port], lane, after[input]);
+        put(out, lane, all);
+        put(supplied, lane, left);
         let first = marks.first[channel];
         marks.first[channel] = first.wrapping_add(1);
         let word = wires.get(number, channel, first);
