@@ -8,7 +8,7 @@ use noc_net::Network;
 use noc_packet::Packet;
 use noc_route::{Relation, Rule};
 use noc_topo::{Kind, Shape};
-use std::alloc::{AllocError, Global};
+use std::alloc::Global;
 use std::process::Abort;
 use std::test::Fail;
 
@@ -59,23 +59,21 @@ fn lone_packets_take_as_long_by_rows_as_by_routers(rt: HostRuntime) -> Result<()
 }
 
 // A packet from each corner of the cube to the opposite one, and one that is due late.
-fn crossing(alloc: Global) -> Result<Vec<Packet>, AllocError>
+fn crossing(alloc: Global) -> Result<Vec<Packet>, Fail>
     ensures { IfOk result (λ packets. length packets.items ≡ 9) }
 {
-    Vec::from_array(
-        alloc,
-        [
-            packet(0, 7, 5, 0),
-            packet(1, 6, 20, 0),
-            packet(2, 5, 20, 0),
-            packet(3, 4, 5, 0),
-            packet(4, 3, 20, 3),
-            packet(5, 2, 5, 3),
-            packet(6, 1, 5, 3),
-            packet(7, 0, 20, 3),
-            packet(3, 4, 5, 100),
-        ],
-    )
+    let packets = [
+        packet(0, 7, 5, 0),
+        packet(1, 6, 20, 0),
+        packet(2, 5, 20, 0),
+        packet(3, 4, 5, 0),
+        packet(4, 3, 20, 3),
+        packet(5, 2, 5, 3),
+        packet(6, 1, 5, 3),
+        packet(7, 0, 20, 3),
+        packet(3, 4, 5, 100),
+    ];
+    Ok(Vec::from_array(alloc, packets)?)
 }
 
 // Whether an input port of a router has the same counts in two cubes of four channels.
