@@ -23,19 +23,19 @@ use Rattle.noc_router.specs.Verdict.{ask_of, asks_of, arbiters_after}
 use Rattle.noc_router.specs.View.{View, size_of, claim_in, view_claim, view_input, view_output, view_round, view_stands}
 use Rattle.noc_router.proofs.FindLemmas.{find-some}
 use Rattle.noc_router.proofs.StandLemmas.{asks_of-stands}
-use Rattle.noc_rows.specs.Bits.{less}
-use Rattle.noc_rows.specs.Column.{Column, RouterMarks, IsColumn, Leads, ShowsPhase, sends_by}
-use Rattle.noc_rows.specs.Fields.{ShowsPointer}
-use Rattle.noc_rows.specs.Grants.{Allocation, HasAllocated, KeepsInput, ShowsGrants, asked_of, phase_granted, winner, with_grant}
-use Rattle.noc_rows.specs.Passes.{lane_asks}
-use Rattle.noc_rows.specs.Turns.{in_turn, mask_past}
-use Rattle.noc_rows.proofs.AskLemmas.{asked-is}
-use Rattle.noc_rows.proofs.AskedLemmas.{eq-turned, or-false, or-zero, same-word}
-use Rattle.noc_rows.proofs.BitLemmas.{above_32, below_fits, least_is, less_members}
-use Rattle.noc_rows.proofs.GrantLemmas.{first-among, first-is}
-use Rattle.noc_rows.proofs.PassLemmas.{power-members}
+use Rattle.noc_row_words.specs.Bits.{less}
+use Rattle.noc_row_words.specs.Column.{Column, RouterMarks, IsColumn, Leads, ShowsPhase, sends_by}
+use Rattle.noc_row_words.specs.Fields.{ShowsPointer}
+use Rattle.noc_row_words.specs.Grants.{Allocation, HasAllocated, KeepsInput, ShowsGrants, asked_of, phase_granted, winner, with_grant}
+use Rattle.noc_row_words.specs.Passes.{lane_asks}
+use Rattle.noc_row_words.specs.Turns.{in_turn, mask_past}
+use Rattle.noc_row_words.proofs.AskLemmas.{asked-is}
+use Rattle.noc_row_words.proofs.AskedLemmas.{eq-turned, or-false, or-zero, same-word}
+use Rattle.noc_row_words.proofs.BitLemmas.{above_32, below_fits, least_is, less_members}
+use Rattle.noc_row_words.proofs.GrantLemmas.{first-among, first-is}
+use Rattle.noc_row_words.proofs.PassLemmas.{power-members}
 use Rattle.noc_rows.proofs.PointerLemmas.{AreTurns}
-use Rattle.noc_rows.proofs.TurnLemmas.{first-members, mask-past}
+use Rattle.noc_row_words.proofs.TurnLemmas.{first-members, mask-past}
 
 some-of : (o : Option ℕ) (x : ℕ) → is_some_of o x ≡ true → o ≡ Some x
 some-of None x e = absurd (false≢true e)

@@ -21,27 +21,27 @@ use Rattle.noc_router.specs.Counts.{one_if}
 use Rattle.noc_router.specs.Members.{AreBelow}
 use Rattle.noc_router.specs.Sound.{is_owned_from, is_supplied, owns}
 use Rattle.noc_router.specs.View.{Site, View, size_of, local_channel, view_buffer, view_input, view_output, view_after_takes, view_after_inject, view_after_inject_from}
-use Rattle.noc_rows.specs.Bits.{differ, lowest, negation}
-use Rattle.noc_rows.specs.Column.{Column, RouterMarks, IsColumn, IsTidy, ShowsHolder, ShowsInput, ShowsOutput, ShowsSending, ShowsWires}
-use Rattle.noc_rows.specs.FlitWords.{flit_word}
+use Rattle.noc_row_words.specs.Bits.{differ, lowest, negation}
+use Rattle.noc_row_words.specs.Column.{Column, RouterMarks, IsColumn, IsTidy, ShowsHolder, ShowsInput, ShowsOutput, ShowsSending, ShowsWires}
+use Rattle.noc_row_words.specs.FlitWords.{flit_word}
 use Rattle.noc_rows.specs.Injected.{HasInjected, injected_to, injection_from, injection_in}
-use Rattle.noc_rows.specs.Passes.{AreOwners, frozen_column, lane_begins, lane_filled, lane_home, lane_injected, lane_landed, lane_raised}
-use Rattle.noc_rows.specs.Planes.{any_from, plane_number, raised_by, words_of, wrong_from}
-use Rattle.noc_rows.specs.Source.{ShowsNext, ShowsQueue, ShowsSource, begun_source, due_of, sent_source}
-use Rattle.noc_rows.specs.Taken.{HasSize, HasTaken, credit_from, credited_by, flit_from, with_one}
-use Rattle.noc_rows.specs.declared.block.Source.{Source}
-use Rattle.noc_rows.specs.declared.starts.Start.{Start}
-use Rattle.noc_rows.specs.declared.starts.TheConstants.{NEVER}
+use Rattle.noc_row_words.specs.Passes.{AreOwners, frozen_column, lane_begins, lane_filled, lane_home, lane_injected, lane_landed, lane_raised}
+use Rattle.noc_row_words.specs.Planes.{any_from, plane_number, raised_by, words_of, wrong_from}
+use Rattle.noc_row_words.specs.Source.{ShowsNext, ShowsQueue, ShowsSource, begun_source, due_of, sent_source}
+use Rattle.noc_row_words.specs.Taken.{HasSize, HasTaken, credit_from, credited_by, flit_from, with_one}
+use Rattle.noc_row_words.specs.declared.block.Source.{Source}
+use Rattle.noc_row_words.specs.declared.starts.Start.{Start}
+use Rattle.noc_row_words.specs.declared.starts.TheConstants.{NEVER}
 use Rattle.noc_rows.proofs.ArriveLemmas.{AreCredits, outputs-arrived, place-left, supplied-arrived}
-use Rattle.noc_rows.proofs.BitLemmas.{and_fits, below_fits, less_members, or_fits, xor_members}
+use Rattle.noc_row_words.proofs.BitLemmas.{and_fits, below_fits, less_members, or_fits, xor_members}
 use Rattle.noc_rows.proofs.CommittedLemmas.{size-taken}
-use Rattle.noc_rows.proofs.FlitLemmas.{empty-length, phase-kept, with-one-empty, with-one-length}
-use Rattle.noc_rows.proofs.FrozenLemmas.{first-number, flit_from-beyond, frozen-words, marks-kept, owned-kept, sending-kept, turns-kept}
+use Rattle.noc_row_words.proofs.FlitLemmas.{empty-length, phase-kept, with-one-empty, with-one-length}
+use Rattle.noc_row_words.proofs.FrozenLemmas.{first-number, flit_from-beyond, frozen-words, marks-kept, owned-kept, sending-kept, turns-kept}
 use Rattle.noc_rows.proofs.InjectLemmas.{HasSent, sent-by}
 use Rattle.noc_rows.proofs.InjectedLemmas.{has-injected}
-use Rattle.noc_rows.proofs.PlaneLemmas.{any-fits, filled-members, raised-fits, raised-length, raised-number, wrong-fits}
-use Rattle.noc_rows.proofs.SourceLemmas.{begins_fits}
-use Rattle.noc_rows.proofs.StandLemmas.{AreFilled}
+use Rattle.noc_row_words.proofs.PlaneLemmas.{any-fits, filled-members, raised-fits, raised-length, raised-number, wrong-fits}
+use Rattle.noc_row_blocks.proofs.SourceLemmas.{begins_fits}
+use Rattle.noc_row_words.proofs.StandLemmas.{AreFilled}
 
 injected-is : (n : ℕ) (w : View) → view_after_inject n w ≡ view_after_inject_from n w.queue w.sending (record w { given = n })
 unfolding view_after_inject

@@ -6,29 +6,30 @@ use Rattle.std.specs.Int.Bits.{and_zero_l}
 use Rattle.std.proofs.lemmas.Bool.{false≢true, lt-leb}
 use Rattle.noc_packet.specs.Set.{has_bit}
 use Rattle.noc_packet.proofs.SetLemmas.{has_bit-zero, zero_from_none}
-use Rattle.noc_rows.specs.Arrive.{HasArrived, begins_in, ready_source, went_in}
-use Rattle.noc_rows.specs.Bits.{less, lowest, minus}
+use Rattle.noc_row_blocks.specs.Arrive.{HasArrived, begins_in, ready_source, went_in}
+use Rattle.noc_row_words.specs.Bits.{less, lowest, minus}
 use Rattle.noc_rows.specs.Blank.{AreNone, IsBlank}
-use Rattle.noc_rows.specs.Column.{Column}
-use Rattle.noc_rows.specs.Fields.{Fields, lane_least, lane_pick, lane_some, lane_whole}
-use Rattle.noc_rows.specs.Moves.{of_one, rest_from, selected_by, union_from}
-use Rattle.noc_rows.specs.Opening.{empty_column}
-use Rattle.noc_rows.specs.Passes.{Effects, injecting_after, lane_asks, lane_free, lane_injected, lane_landed, lane_picked, lane_raised, lane_ready, lane_standing, settled_lane, with_first}
-use Rattle.noc_rows.specs.Planes.{any_from, lowered_by, raised_by, wrong_from}
-use Rattle.noc_rows.specs.Rows.{column_at, event_in, word}
-use Rattle.noc_rows.specs.Source.{first_source, next_source, source_at, start_in}
-use Rattle.noc_rows.specs.Turns.{first_bit}
-use Rattle.noc_rows.specs.declared.block.Block.{Block}
-use Rattle.noc_rows.specs.declared.block.Source.{Source}
-use Rattle.noc_rows.specs.declared.cycle.ArrivedRows.{ArrivedRows}
-use Rattle.noc_rows.specs.declared.cycle.DecidedRows.{DecidedRows}
-use Rattle.noc_rows.specs.declared.cycle.Returned.{Returned}
-use Rattle.noc_rows.specs.declared.cycle.ReturnedRows.{ReturnedRows}
-use Rattle.noc_rows.specs.declared.cycle.Standing.{Standing}
-use Rattle.noc_rows.specs.declared.cycle.StandingRows.{StandingRows}
-use Rattle.noc_rows.specs.declared.starts.Start.{Start}
-use Rattle.noc_rows.specs.declared.starts.TheConstants.{NEVER}
-use Rattle.noc_rows.specs.declared.wires.Inbox.{Inbox}
+use Rattle.noc_row_words.specs.Column.{Column}
+use Rattle.noc_row_words.specs.Fields.{lane_least, lane_pick, lane_some, lane_whole}
+use Rattle.noc_row_words.specs.declared.fields.Fields.{Fields}
+use Rattle.noc_row_blocks.specs.Moves.{of_one, rest_from, selected_by, union_from}
+use Rattle.noc_row_words.specs.Opening.{empty_column}
+use Rattle.noc_row_words.specs.Passes.{Effects, injecting_after, lane_asks, lane_free, lane_injected, lane_landed, lane_picked, lane_raised, lane_ready, lane_standing, settled_lane, with_first}
+use Rattle.noc_row_words.specs.Planes.{any_from, lowered_by, raised_by, wrong_from}
+use Rattle.noc_row_words.specs.Rows.{column_at, event_in, word}
+use Rattle.noc_row_words.specs.Source.{first_source, next_source, source_at, start_in}
+use Rattle.noc_row_words.specs.Turns.{first_bit}
+use Rattle.noc_row_words.specs.declared.block.Block.{Block}
+use Rattle.noc_row_words.specs.declared.block.Source.{Source}
+use Rattle.noc_row_words.specs.declared.cycle.ArrivedRows.{ArrivedRows}
+use Rattle.noc_row_words.specs.declared.cycle.DecidedRows.{DecidedRows}
+use Rattle.noc_row_words.specs.declared.cycle.Returned.{Returned}
+use Rattle.noc_row_words.specs.declared.cycle.ReturnedRows.{ReturnedRows}
+use Rattle.noc_row_words.specs.declared.cycle.Standing.{Standing}
+use Rattle.noc_row_words.specs.declared.cycle.StandingRows.{StandingRows}
+use Rattle.noc_row_words.specs.declared.starts.Start.{Start}
+use Rattle.noc_row_words.specs.declared.starts.TheConstants.{NEVER}
+use Rattle.noc_row_words.specs.declared.wires.Inbox.{Inbox}
 
 -- the words of an empty router, whose source has no packet
 pub blank-empty : (links local : ℕ) (places : List ℕ) (s : Source) → s.due ≡ NEVER → IsBlank (empty_column links local places) s 0 0 0

@@ -9,16 +9,16 @@ use Rattle.noc_topo.specs.Shape.{neighbour, nodes}
 use Rattle.noc_packet.specs.declared.packet.Packet.{Packet}
 use Rattle.noc_route.specs.Routes.{Routes}
 use Rattle.noc_model.specs.Lockstep.{starts_of}
-use Rattle.noc_rows.specs.Column.{place_of}
-use Rattle.noc_rows.specs.Grants.{leads_by}
+use Rattle.noc_row_words.specs.Column.{place_of}
+use Rattle.noc_row_words.specs.Grants.{leads_by}
 use Rattle.noc_rows.specs.Opened.{AreOpenBlocks, AreStartsOf, HasOpened, IsEmptyBlock, IsEndFrom, HasLinksOf, IsOpenBlock, KeepsLinks, LeadsOut, no_source, opened_source, starts_list}
-use Rattle.noc_rows.specs.Opening.{AreEmptyMarks, empty_column}
-use Rattle.noc_rows.specs.Rows.{column_at, marks_at, planes_of, word}
-use Rattle.noc_rows.specs.Source.{due_of, source_at, start_in}
-use Rattle.noc_rows.specs.declared.block.Block.{Block}
-use Rattle.noc_rows.specs.declared.block.Source.{Source}
-use Rattle.noc_rows.specs.declared.frame.Frame.{Frame}
-use Rattle.noc_rows.specs.declared.starts.Start.{Start}
+use Rattle.noc_row_words.specs.Opening.{AreEmptyMarks, empty_column}
+use Rattle.noc_row_words.specs.Rows.{column_at, marks_at, planes_of, word}
+use Rattle.noc_row_words.specs.Source.{due_of, source_at, start_in}
+use Rattle.noc_row_words.specs.declared.block.Block.{Block}
+use Rattle.noc_row_words.specs.declared.block.Source.{Source}
+use Rattle.noc_row_words.specs.declared.frame.Frame.{Frame}
+use Rattle.noc_row_words.specs.declared.starts.Start.{Start}
 use Rattle.noc_rows.proofs.ListedLemmas.{list-due, list-end, list-few, list-length}
 use Rattle.noc_rows.proofs.OpenLemmas.{least-never, least-with}
 use Rattle.noc_rows.proofs.StartLemmas.{starts-few}

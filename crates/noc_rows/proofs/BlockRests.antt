@@ -11,16 +11,16 @@ use Rattle.noc_model.specs.Halves.{IsSilent}
 use Rattle.noc_model.specs.Lockstep.{beats_at, beats_in, view_at}
 use Rattle.noc_model.specs.Network.{Setup, arrival_in, packet_at, state_at}
 use Rattle.noc_model.proofs.Arrivals.{arrival-noted}
-use Rattle.noc_rows.specs.Rows.{column_at, word}
-use Rattle.noc_rows.specs.Source.{source_at}
-use Rattle.noc_rows.specs.Stages.{woken}
+use Rattle.noc_row_words.specs.Rows.{column_at, word}
+use Rattle.noc_row_words.specs.Source.{source_at}
+use Rattle.noc_row_blocks.specs.Stages.{woken}
 use Rattle.noc_rows.specs.Whole.{IsQuiet, ShowsBlock}
-use Rattle.noc_rows.specs.Wires.{inbox_at}
-use Rattle.noc_rows.specs.declared.block.Block.{Block}
-use Rattle.noc_rows.specs.declared.frame.Frame.{Frame}
-use Rattle.noc_rows.specs.declared.sheet.Sheet.{Sheet}
-use Rattle.noc_rows.specs.declared.starts.Start.{Start}
-use Rattle.noc_rows.specs.declared.wires.Inbox.{Inbox}
+use Rattle.noc_row_words.specs.Wires.{inbox_at}
+use Rattle.noc_row_words.specs.declared.block.Block.{Block}
+use Rattle.noc_row_words.specs.declared.frame.Frame.{Frame}
+use Rattle.noc_row_words.specs.declared.sheet.Sheet.{Sheet}
+use Rattle.noc_row_words.specs.declared.starts.Start.{Start}
+use Rattle.noc_row_words.specs.declared.wires.Inbox.{Inbox}
 use Rattle.noc_rows.proofs.BlockShows.{ShowsInbox}
 use Rattle.noc_rows.proofs.LaneBlanks.{blank-still}
 use Rattle.noc_rows.proofs.LaneRests.{IsResting, lane-asleep, lane-rests, lane-silent, lane-waits, lanes-rest}

@@ -9,27 +9,27 @@ use Rattle.noc_model.specs.Good.{IsGoodSetup}
 use Rattle.noc_model.specs.Lockstep.{beats_at, beats_in, view_at}
 use Rattle.noc_model.specs.Network.{Setup, state_at}
 use Rattle.noc_rows.specs.Blank.{IsBlank}
-use Rattle.noc_rows.specs.Column.{ShowsWires, place_of}
-use Rattle.noc_rows.specs.Frames.{IsFrameOf}
-use Rattle.noc_rows.specs.Grants.{leads_by}
+use Rattle.noc_row_words.specs.Column.{ShowsWires, place_of}
+use Rattle.noc_row_words.specs.Frames.{IsFrameOf}
+use Rattle.noc_row_words.specs.Grants.{leads_by}
 use Rattle.noc_rows.specs.InRows.{ShowsRouter}
-use Rattle.noc_rows.specs.Moves.{ports_of}
+use Rattle.noc_row_blocks.specs.Moves.{ports_of}
 use Rattle.noc_rows.specs.Opened.{HasLinksOf, LeadsOut}
-use Rattle.noc_rows.specs.Outlook.{least_below}
-use Rattle.noc_rows.specs.Rows.{column_at, marks_at, word}
-use Rattle.noc_rows.specs.Source.{source_at}
-use Rattle.noc_rows.specs.Stages.{HasConcluded, HasFrozen, HasMoved, selected_of}
-use Rattle.noc_rows.specs.Switched.{HaveReleased}
+use Rattle.noc_row_blocks.specs.Outlook.{least_below}
+use Rattle.noc_row_words.specs.Rows.{column_at, marks_at, word}
+use Rattle.noc_row_words.specs.Source.{source_at}
+use Rattle.noc_row_blocks.specs.Stages.{HasConcluded, HasFrozen, HasMoved, selected_of}
+use Rattle.noc_row_blocks.specs.Switched.{HaveReleased}
 use Rattle.noc_rows.specs.Whole.{IsTarget, ShowsBlock, lane_words}
-use Rattle.noc_rows.specs.Wires.{ring_in}
-use Rattle.noc_rows.specs.declared.block.Block.{Block}
-use Rattle.noc_rows.specs.declared.block.Sources.{Sources}
-use Rattle.noc_rows.specs.declared.frame.Frame.{Frame}
-use Rattle.noc_rows.specs.declared.marks.Marks.{Marks}
-use Rattle.noc_rows.specs.declared.sheet.Sheet.{Sheet}
-use Rattle.noc_rows.specs.declared.starts.Start.{Start}
-use Rattle.noc_rows.specs.declared.wires.Inbox.{Inbox}
-use Rattle.noc_rows.specs.declared.wires.Wires.{Wires}
+use Rattle.noc_row_words.specs.Wires.{ring_in}
+use Rattle.noc_row_words.specs.declared.block.Block.{Block}
+use Rattle.noc_row_words.specs.declared.block.Sources.{Sources}
+use Rattle.noc_row_words.specs.declared.frame.Frame.{Frame}
+use Rattle.noc_row_words.specs.declared.marks.Marks.{Marks}
+use Rattle.noc_row_words.specs.declared.sheet.Sheet.{Sheet}
+use Rattle.noc_row_words.specs.declared.starts.Start.{Start}
+use Rattle.noc_row_words.specs.declared.wires.Inbox.{Inbox}
+use Rattle.noc_row_words.specs.declared.wires.Wires.{Wires}
 use Rattle.noc_rows.proofs.FrozenLaws.{IsFrozen}
 use Rattle.noc_rows.proofs.FrozenWires.{frozen_of}
 use Rattle.noc_rows.proofs.LaneBlanks.{lane-blank}

@@ -7,19 +7,19 @@ use Rattle.noc_router.specs.View.{first_flit, is_tail}
 use Rattle.noc_model.specs.declared.limits.TheConstants.{CYCLE_LIMIT}
 use Rattle.noc_model.specs.Good.{IsGoodSetup}
 use Rattle.noc_model.specs.Network.{Setup}
-use Rattle.noc_rows.specs.Decided.{HasDecided}
-use Rattle.noc_rows.specs.Frames.{IsFrameOf}
-use Rattle.noc_rows.specs.Moves.{ports_of}
-use Rattle.noc_rows.specs.Stages.{HasConcluded, HasFrozen, HaveConcluded, HaveDecided, HaveFrozen, selected_of}
-use Rattle.noc_rows.specs.Switched.{HaveReleased}
+use Rattle.noc_row_blocks.specs.Decided.{HasDecided}
+use Rattle.noc_row_words.specs.Frames.{IsFrameOf}
+use Rattle.noc_row_blocks.specs.Moves.{ports_of}
+use Rattle.noc_row_blocks.specs.Stages.{HasConcluded, HasFrozen, HaveConcluded, HaveDecided, HaveFrozen, selected_of}
+use Rattle.noc_row_blocks.specs.Switched.{HaveReleased}
 use Rattle.noc_rows.specs.Whole.{IsQuiet, ShowsBlock}
-use Rattle.noc_rows.specs.Wires.{inbox_at}
-use Rattle.noc_rows.specs.declared.block.Block.{Block}
-use Rattle.noc_rows.specs.declared.frame.Frame.{Frame}
-use Rattle.noc_rows.specs.declared.sheet.Sheet.{Sheet}
-use Rattle.noc_rows.specs.declared.starts.Start.{Start}
-use Rattle.noc_rows.specs.declared.wires.Inbox.{Inbox}
-use Rattle.noc_rows.specs.declared.wires.Wires.{Wires}
+use Rattle.noc_row_words.specs.Wires.{inbox_at}
+use Rattle.noc_row_words.specs.declared.block.Block.{Block}
+use Rattle.noc_row_words.specs.declared.frame.Frame.{Frame}
+use Rattle.noc_row_words.specs.declared.sheet.Sheet.{Sheet}
+use Rattle.noc_row_words.specs.declared.starts.Start.{Start}
+use Rattle.noc_row_words.specs.declared.wires.Inbox.{Inbox}
+use Rattle.noc_row_words.specs.declared.wires.Wires.{Wires}
 use Rattle.noc_rows.proofs.BlockRests.{block-rests}
 use Rattle.noc_rows.proofs.BlockShows.{ShowsInbox, block-shows}
 use Rattle.noc_rows.proofs.FrozenWires.{frozen_of}

@@ -16,25 +16,25 @@ use Rattle.noc_model.specs.declared.limits.TheConstants.{CYCLE_LIMIT}
 use Rattle.noc_model.specs.Good.{IsGoodSetup}
 use Rattle.noc_model.specs.Lockstep.{beat_by, beats_in, view_at, view_in}
 use Rattle.noc_model.specs.Network.{Setup, state_at}
-use Rattle.noc_rows.specs.Arrive.{HasArrived}
-use Rattle.noc_rows.specs.Bits.{lowest}
-use Rattle.noc_rows.specs.Column.{Column, RouterMarks, IsColumn, ShowsSending, ShowsWires}
+use Rattle.noc_row_blocks.specs.Arrive.{HasArrived}
+use Rattle.noc_row_words.specs.Bits.{lowest}
+use Rattle.noc_row_words.specs.Column.{Column, RouterMarks, IsColumn, ShowsSending, ShowsWires}
 use Rattle.noc_rows.specs.Injected.{injection_in}
-use Rattle.noc_rows.specs.Passes.{AreOwners, lane_begins, lane_injected, lane_raised, owner_in}
-use Rattle.noc_rows.specs.Planes.{words_of}
-use Rattle.noc_rows.specs.Rows.{column_at, word}
-use Rattle.noc_rows.specs.Source.{ShowsSource, source_at}
-use Rattle.noc_rows.specs.Taken.{credit_from, credited_by, flit_from, with_one}
-use Rattle.noc_rows.specs.declared.block.Block.{Block}
-use Rattle.noc_rows.specs.declared.block.Source.{Source}
-use Rattle.noc_rows.specs.declared.cycle.Returned.{Returned}
-use Rattle.noc_rows.specs.declared.starts.Start.{Start}
-use Rattle.noc_rows.specs.declared.wires.Inbox.{Inbox}
+use Rattle.noc_row_words.specs.Passes.{AreOwners, lane_begins, lane_injected, lane_raised, owner_in}
+use Rattle.noc_row_words.specs.Planes.{words_of}
+use Rattle.noc_row_words.specs.Rows.{column_at, word}
+use Rattle.noc_row_words.specs.Source.{ShowsSource, source_at}
+use Rattle.noc_row_words.specs.Taken.{credit_from, credited_by, flit_from, with_one}
+use Rattle.noc_row_words.specs.declared.block.Block.{Block}
+use Rattle.noc_row_words.specs.declared.block.Source.{Source}
+use Rattle.noc_row_words.specs.declared.cycle.Returned.{Returned}
+use Rattle.noc_row_words.specs.declared.starts.Start.{Start}
+use Rattle.noc_row_words.specs.declared.wires.Inbox.{Inbox}
 use Rattle.noc_rows.proofs.ArriveLaws.{sent}
 use Rattle.noc_rows.proofs.InjectLemmas.{HasSent}
 use Rattle.noc_rows.proofs.CameLemmas.{SendsLow, injected-event, injection-low, taken-quiet, went-some}
 use Rattle.noc_rows.proofs.NetworkLaws.{beats, beats-taken, frozen_view, start-size, start-tidy, taken-seen}
-use Rattle.noc_rows.proofs.OutlookLemmas.{or-zero}
+use Rattle.noc_row_blocks.proofs.OutlookLemmas.{or-zero}
 use Rattle.noc_rows.proofs.RestLaws.{words-silent}
 use Rattle.noc_rows.proofs.SleepLaws.{all-silent}
 

@@ -17,9 +17,9 @@ use Rattle.noc_model.specs.Good.{IsGoodSetup}
 use Rattle.noc_model.specs.Lockstep.{seen_flits, seen_output, site_at}
 use Rattle.noc_model.specs.Network.{Setup, Located, size, arriving, buffer_of, count_in, credit_of, packet_at, frozen_at}
 use Rattle.noc_model.proofs.PlaceViews.{OutputCase, ejects, links, output-case, in-size, mod-below}
-use Rattle.noc_rows.specs.Carried.{WireWords, FlitsCanMove, HasFlit}
-use Rattle.noc_rows.specs.Column.{place_of}
-use Rattle.noc_rows.specs.FlitWords.{flit_word}
+use Rattle.noc_row_blocks.specs.Carried.{WireWords, FlitsCanMove, HasFlit}
+use Rattle.noc_row_words.specs.Column.{place_of}
+use Rattle.noc_row_words.specs.FlitWords.{flit_word}
 use Rattle.noc_rows.proofs.FlitLaws.{FitsBits, flit-fits, frozen-flits}
 use Rattle.noc_rows.proofs.FrozenWires.{AreFrozenWires, frozen_of}
 use Rattle.noc_rows.proofs.LinkLaws.{IsGone, gone-is, ring-is, Reaches, reaches}

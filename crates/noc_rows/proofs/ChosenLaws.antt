@@ -17,25 +17,25 @@ use Rattle.noc_router.specs.Members.{AreBelow}
 use Rattle.noc_router.specs.Requests.{is_given}
 use Rattle.noc_router.specs.Verdict.{ask_of, arbiters_after}
 use Rattle.noc_router.specs.View.{Site, View, size_of, view_buffer, view_claim, view_input, view_output, view_round, route_of}
-use Rattle.noc_rows.specs.Bits.{less}
-use Rattle.noc_rows.specs.Column.{Column, RouterMarks, IsColumn, IsTidy, Leads, ShowsPhase, sends_by}
-use Rattle.noc_rows.specs.Cycle.{AreTails, HasChosen, Surroundings}
-use Rattle.noc_rows.specs.Fields.{IsFields, ShowsPointer}
-use Rattle.noc_rows.specs.FlitWords.{FitsWord, flit_word}
-use Rattle.noc_rows.specs.Frames.{IsPlaced}
-use Rattle.noc_rows.specs.Grants.{Allocation, HasAllocated, ShowsGrants, asked_of, leads_by, phase_granted, winner}
-use Rattle.noc_rows.specs.Moves.{ports_of}
-use Rattle.noc_rows.specs.Opening.{AreSides}
-use Rattle.noc_rows.specs.Passes.{lane_asks, lane_heads}
-use Rattle.noc_rows.specs.Routed.{HasRouted, Routing, sets_by}
-use Rattle.noc_rows.specs.Taken.{HasSize}
-use Rattle.noc_rows.specs.declared.frame.Frame.{Frame}
+use Rattle.noc_row_words.specs.Bits.{less}
+use Rattle.noc_row_words.specs.Column.{Column, RouterMarks, IsColumn, IsTidy, Leads, ShowsPhase, sends_by}
+use Rattle.noc_row_blocks.specs.Cycle.{AreTails, HasChosen, Surroundings}
+use Rattle.noc_row_words.specs.Fields.{IsFields, ShowsPointer}
+use Rattle.noc_row_words.specs.FlitWords.{FitsWord, flit_word}
+use Rattle.noc_row_words.specs.Frames.{IsPlaced}
+use Rattle.noc_row_words.specs.Grants.{Allocation, HasAllocated, ShowsGrants, asked_of, leads_by, phase_granted, winner}
+use Rattle.noc_row_blocks.specs.Moves.{ports_of}
+use Rattle.noc_row_words.specs.Opening.{AreSides}
+use Rattle.noc_row_words.specs.Passes.{lane_asks, lane_heads}
+use Rattle.noc_row_blocks.specs.Routed.{HasRouted, Routing, sets_by}
+use Rattle.noc_row_words.specs.Taken.{HasSize}
+use Rattle.noc_row_words.specs.declared.frame.Frame.{Frame}
 use Rattle.noc_rows.proofs.AllocateLaws.{allocated, not-allocated}
-use Rattle.noc_rows.proofs.BitLemmas.{above_32, below_fits, less_fits}
-use Rattle.noc_rows.proofs.GrantLemmas.{first-among}
+use Rattle.noc_row_words.proofs.BitLemmas.{above_32, below_fits, less_fits}
+use Rattle.noc_row_words.proofs.GrantLemmas.{first-among}
 use Rattle.noc_rows.proofs.PointerLemmas.{AreArbiters}
 use Rattle.noc_rows.proofs.RouteLaws.{number-is, phase-shows}
-use Rattle.noc_rows.proofs.StandLemmas.{AreFilled, standing}
+use Rattle.noc_row_words.proofs.StandLemmas.{AreFilled, standing}
 
 -- a frozen view of a router of a frame, with its surroundings
 pub record IsStill (relation : Routes) (frame : Frame) (x : Surroundings) (v : View) : Type 0 where

@@ -18,12 +18,12 @@ use Rattle.noc_router.specs.declared.verdict.Verdict.{Verdict}
 use Rattle.noc_router.specs.declared.verdict.Verdict.TheVariants.{Empty, Routed, Granted, Moved, NoFlit, NoIdleChannel, LostChannel, NoCredit, LostInput, LostSwitch}
 use Rattle.noc_router.specs.declared.verdict.Finding.{Finding}
 use Rattle.noc_router.specs.View.{View, Decisions, size_of, has_link, view_buffer, view_input, view_output, view_round, finding_of, decisions_of, view_after_commit, decided_verdict, view_claim, first_flit, granted_to, sent_from, buffer_after, input_after, output_after, with_arrival, with_misfit, with_landed, with_flit, with_credit, view_after_take, view_after_takes_from, view_after_takes, tail_packet, flit_out, local_step}
-use Rattle.noc_rows.specs.Taken.{HasTaken, HasSize, flit_from, credit_from}
-use Rattle.noc_rows.specs.Column.{Column, AreWords, ShowsInput}
-use Rattle.noc_rows.specs.Fields.{Fields}
-use Rattle.noc_rows.specs.Passes.{Effects, settled_lane}
-use Rattle.noc_rows.proofs.SettleLemmas.{AreEffects, SaysOf, settled-input, verdict_of_bits}
-use Rattle.noc_rows.proofs.TakenLemmas.{all-taken}
+use Rattle.noc_row_words.specs.Taken.{HasTaken, HasSize, flit_from, credit_from}
+use Rattle.noc_row_words.specs.Column.{Column, AreWords, ShowsInput}
+use Rattle.noc_row_words.specs.declared.fields.Fields.{Fields}
+use Rattle.noc_row_words.specs.Passes.{Effects, settled_lane}
+use Rattle.noc_row_words.proofs.SettleLemmas.{AreEffects, SaysOf, settled-input, verdict_of_bits}
+use Rattle.noc_row_words.proofs.TakenLemmas.{all-taken}
 use Rattle.noc_rows.proofs.InjectedLemmas.{step-none}
 
 -- an arrival changes no channel and no arbiter

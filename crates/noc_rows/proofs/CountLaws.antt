@@ -16,14 +16,15 @@ use Rattle.noc_router.specs.VerdictSets.{verdict_by, sets_with}
 use Rattle.noc_router.specs.View.{Site, View, Decisions, size_of, counts_after, view_after_commit, decisions_of, view_after_inject, view_after_inject_from, with_injected, begun_on, is_vacant, local_channel, view_buffer, view_after_takes, local_step, decided_verdict, has_event, with_arrival, with_misfit, tail_packet, flit_out}
 use Rattle.noc_router.specs.declared.verdict.Verdict.{Verdict}
 use Rattle.noc_router.specs.declared.verdict_sets.VerdictSets.{VerdictSets}
-use Rattle.noc_rows.specs.Tallied.{nine_counts, ten_counts, with_verdicts, ShowsCounts, ShowsLastEvent}
-use Rattle.noc_rows.specs.declared.sheet.VerdictCounts.{VerdictCounts}
-use Rattle.noc_rows.specs.Bits.{less}
-use Rattle.noc_rows.specs.Column.{Column, AreWords, ShowsChannels}
-use Rattle.noc_rows.specs.Fields.{Fields, IsFields}
-use Rattle.noc_rows.specs.Passes.{Effects, lane_heads, lane_no_credit, lane_no_flit, lane_no_idle_channel, lane_picked, lane_ready, lane_standing, lane_verdicts}
-use Rattle.noc_rows.proofs.SettleLemmas.{AreEffects, verdict_of_bits}
-use Rattle.noc_rows.proofs.StandLemmas.{AreFilled, verdicts, verdicts-apart}
+use Rattle.noc_row_words.specs.Tallied.{nine_counts, ten_counts, with_verdicts, ShowsCounts, ShowsLastEvent}
+use Rattle.noc_row_words.specs.declared.sheet.VerdictCounts.{VerdictCounts}
+use Rattle.noc_row_words.specs.Bits.{less}
+use Rattle.noc_row_words.specs.Column.{Column, AreWords, ShowsChannels}
+use Rattle.noc_row_words.specs.Fields.{IsFields}
+use Rattle.noc_row_words.specs.declared.fields.Fields.{Fields}
+use Rattle.noc_row_words.specs.Passes.{Effects, lane_heads, lane_no_credit, lane_no_flit, lane_no_idle_channel, lane_picked, lane_ready, lane_standing, lane_verdicts}
+use Rattle.noc_row_words.proofs.SettleLemmas.{AreEffects, verdict_of_bits}
+use Rattle.noc_row_words.proofs.StandLemmas.{AreFilled, verdicts, verdicts-apart}
 use Rattle.noc_rows.proofs.CommittedLemmas.{verdict-planned}
 use Rattle.noc_rows.proofs.DecideLemmas.{AreDecided, HasTurns}
 use Rattle.noc_rows.proofs.SettleLaws.{committed-site}

@@ -7,26 +7,26 @@ use Rattle.noc_model.specs.Lockstep.{view_at, site_at}
 use Rattle.noc_model.specs.Network.{Setup, frozen_at}
 use Rattle.noc_packet.specs.declared.packet.Flit.{Flit}
 use Rattle.noc_router.specs.View.{Site, View, size_of, view_buffer, decisions_of, view_after_commit}
-use Rattle.noc_rows.specs.Column.{Column, RouterMarks, IsColumn, Leads}
-use Rattle.noc_rows.specs.Cycle.{AreTails, HasCycled, Surroundings}
-use Rattle.noc_rows.specs.FlitWords.{FitsWord, flit_word}
-use Rattle.noc_rows.specs.Fields.{IsFields}
-use Rattle.noc_rows.specs.Frames.{IsFrameOf, IsPlaced}
-use Rattle.noc_rows.specs.Grants.{Allocation}
-use Rattle.noc_rows.specs.Moves.{ports_of}
-use Rattle.noc_rows.specs.Opening.{AreSides}
-use Rattle.noc_rows.specs.Passes.{Effects}
-use Rattle.noc_rows.specs.Source.{ShowsSource}
-use Rattle.noc_rows.specs.declared.block.Source.{Source}
-use Rattle.noc_rows.specs.declared.frame.Frame.{Frame}
-use Rattle.noc_rows.specs.declared.starts.Start.{Start}
+use Rattle.noc_row_words.specs.Column.{Column, RouterMarks, IsColumn, Leads}
+use Rattle.noc_row_blocks.specs.Cycle.{AreTails, HasCycled, Surroundings}
+use Rattle.noc_row_words.specs.FlitWords.{FitsWord, flit_word}
+use Rattle.noc_row_words.specs.Fields.{IsFields}
+use Rattle.noc_row_words.specs.Frames.{IsFrameOf, IsPlaced}
+use Rattle.noc_row_words.specs.Grants.{Allocation}
+use Rattle.noc_row_blocks.specs.Moves.{ports_of}
+use Rattle.noc_row_words.specs.Opening.{AreSides}
+use Rattle.noc_row_words.specs.Passes.{Effects}
+use Rattle.noc_row_words.specs.Source.{ShowsSource}
+use Rattle.noc_row_words.specs.declared.block.Source.{Source}
+use Rattle.noc_row_words.specs.declared.frame.Frame.{Frame}
+use Rattle.noc_row_words.specs.declared.starts.Start.{Start}
 use Rattle.noc_rows.proofs.ChosenLaws.{IsStill, ShowsChosen, choice, given}
 use Rattle.noc_rows.proofs.FitLaws.{flit-fits}
 use Rattle.noc_rows.proofs.NetworkLaws.{good, beats, frozen_view, frozen-seen, frozen-tidy, frozen-size, frozen-full, frozen-arbiters, next-count, steady-still}
 use Rattle.noc_rows.proofs.PointerLemmas.{AreArbiters}
 use Rattle.noc_rows.proofs.SettledLaws.{column-settled, source-put}
 use Rattle.noc_rows.proofs.SettleLaws.{column-put}
-use Rattle.noc_rows.proofs.StandLemmas.{AreFilled}
+use Rattle.noc_row_words.proofs.StandLemmas.{AreFilled}
 
 module _ (net : Setup) (setup : IsGoodSetup net) (n r : ℕ) (l : r < nodes net.relation.grid) where
   site-is : (frozen_view net setup n r l).site ≡ site_at net r

@@ -3,9 +3,9 @@ use Rattle.std.proofs.Common.{◌≡◌, ◌≢◌, ℕ, suc, ◌+◌, ◌<◌, 
 use Rattle.std.specs.Prelude.{◌⊎◌, nat_lt, if◌then◌else◌}
 use Rattle.std.proofs.lemmas.Bool.{cases_eq, false≢true, le-ltb, lt-ltb}
 use Rattle.std.proofs.lemmas.Option.{slice_get-get_or, slice_get_within, same_Some}
-use Rattle.noc_rows.specs.Stages.{HaveDecided}
-use Rattle.noc_rows.specs.declared.block.Block.{Block}
-use Rattle.noc_rows.specs.declared.wires.Wires.{Wires}
+use Rattle.noc_row_blocks.specs.Stages.{HaveDecided}
+use Rattle.noc_row_words.specs.declared.block.Block.{Block}
+use Rattle.noc_row_words.specs.declared.wires.Wires.{Wires}
 use Rattle.noc_rows.proofs.PassAll.{write-elsewhere, write-there}
 
 -- the blocks below a number have decided, and the others are as they were

@@ -12,13 +12,14 @@ use Rattle.noc_router.specs.Sound.{is_supplied}
 use Rattle.noc_router.specs.Standing.{is_won_from}
 use Rattle.noc_router.specs.Verdict.{ask_of}
 use Rattle.noc_router.specs.View.{View, size_of, view_buffer, view_input, view_claim, view_round, first_flit, decisions_of, view_after_commit, is_tail}
-use Rattle.noc_rows.specs.Bits.{less}
-use Rattle.noc_rows.specs.Fields.{Fields, IsFields, ShowsPointer}
-use Rattle.noc_rows.specs.Taken.{HasSize}
-use Rattle.noc_rows.specs.Column.{Column, AreWords, ShowsInput, ShowsChannels}
-use Rattle.noc_rows.specs.Passes.{Effects, settled_lane, lane_heads, lane_ready, lane_picked, lane_no_flit, lane_no_idle_channel, lane_no_credit}
-use Rattle.noc_rows.proofs.StandLemmas.{AreFilled, standing, picked-ready, verdicts}
-use Rattle.noc_rows.proofs.SettleLemmas.{AreEffects, verdict_of_bits}
+use Rattle.noc_row_words.specs.Bits.{less}
+use Rattle.noc_row_words.specs.Fields.{IsFields, ShowsPointer}
+use Rattle.noc_row_words.specs.declared.fields.Fields.{Fields}
+use Rattle.noc_row_words.specs.Taken.{HasSize}
+use Rattle.noc_row_words.specs.Column.{Column, AreWords, ShowsInput, ShowsChannels}
+use Rattle.noc_row_words.specs.Passes.{Effects, settled_lane, lane_heads, lane_ready, lane_picked, lane_no_flit, lane_no_idle_channel, lane_no_credit}
+use Rattle.noc_row_words.proofs.StandLemmas.{AreFilled, standing, picked-ready, verdicts}
+use Rattle.noc_row_words.proofs.SettleLemmas.{AreEffects, verdict_of_bits}
 use Rattle.noc_rows.proofs.CommittedLemmas.{input-shows}
 
 -- what is decided by the scalar parts: grants, losses and moves, by the round of the view

@@ -14,23 +14,23 @@ use Rattle.noc_model.specs.declared.limits.TheConstants.{CYCLE_LIMIT}
 use Rattle.noc_model.specs.Good.{IsGoodSetup}
 use Rattle.noc_model.specs.Lockstep.{site_at}
 use Rattle.noc_model.specs.Network.{Setup, size}
-use Rattle.noc_rows.specs.Carried.{WireWords}
-use Rattle.noc_rows.specs.Column.{Leads, ShowsPhase, place_of}
-use Rattle.noc_rows.specs.Frames.{IsFrameOf}
-use Rattle.noc_rows.specs.Moves.{ports_of, some_below}
+use Rattle.noc_row_blocks.specs.Carried.{WireWords}
+use Rattle.noc_row_words.specs.Column.{Leads, ShowsPhase, place_of}
+use Rattle.noc_row_words.specs.Frames.{IsFrameOf}
+use Rattle.noc_row_blocks.specs.Moves.{ports_of, some_below}
 use Rattle.noc_rows.specs.Opened.{HasLinksOf}
-use Rattle.noc_rows.specs.Rows.{column_at, marks_at, word}
-use Rattle.noc_rows.specs.Stages.{HasFrozen, selected_of}
-use Rattle.noc_rows.specs.Switched.{AreSelectedOnce, HasFirst, HaveFirsts, in_words, selected_by_ports}
+use Rattle.noc_row_words.specs.Rows.{column_at, marks_at, word}
+use Rattle.noc_row_blocks.specs.Stages.{HasFrozen, selected_of}
+use Rattle.noc_row_blocks.specs.Switched.{AreSelectedOnce, HasFirst, HaveFirsts, in_words, selected_by_ports}
 use Rattle.noc_rows.specs.Whole.{ShowsBlock}
-use Rattle.noc_rows.specs.Wires.{ring_in}
-use Rattle.noc_rows.specs.declared.block.Block.{Block}
-use Rattle.noc_rows.specs.declared.cycle.Standing.{Standing}
-use Rattle.noc_rows.specs.declared.frame.Frame.{Frame}
-use Rattle.noc_rows.specs.declared.marks.Marks.{Marks}
-use Rattle.noc_rows.specs.declared.sheet.Sheet.{Sheet}
-use Rattle.noc_rows.specs.declared.starts.Start.{Start}
-use Rattle.noc_rows.specs.declared.wires.Inbox.{Inbox}
+use Rattle.noc_row_words.specs.Wires.{ring_in}
+use Rattle.noc_row_words.specs.declared.block.Block.{Block}
+use Rattle.noc_row_words.specs.declared.cycle.Standing.{Standing}
+use Rattle.noc_row_words.specs.declared.frame.Frame.{Frame}
+use Rattle.noc_row_words.specs.declared.marks.Marks.{Marks}
+use Rattle.noc_row_words.specs.declared.sheet.Sheet.{Sheet}
+use Rattle.noc_row_words.specs.declared.starts.Start.{Start}
+use Rattle.noc_row_words.specs.declared.wires.Inbox.{Inbox}
 use Rattle.noc_rows.proofs.FrozenLaws.{IsFrozen}
 use Rattle.noc_rows.proofs.FrozenWires.{frozen_of}
 use Rattle.noc_rows.proofs.LaneBlanks.{blank-selects}
@@ -41,7 +41,7 @@ use Rattle.noc_rows.proofs.LeadLaws.{back-leads}
 use Rattle.noc_rows.proofs.NetworkLaws.{frozen-seen, good}
 use Rattle.noc_rows.proofs.NetworkMoves.{IsStillLane, is_moving, moves_at, moves-are, one-move}
 use Rattle.noc_rows.proofs.PutLemmas.{IsMover, bit-moves}
-use Rattle.noc_rows.proofs.UnionLemmas.{union-members}
+use Rattle.noc_row_blocks.proofs.UnionLemmas.{union-members}
 
 -- a test that some number below n passes
 some-true : (n q : ℕ) (test : ℕ → Bool) → q < n → test q ≡ true → some_below n test ≡ true

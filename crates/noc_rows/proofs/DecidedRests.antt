@@ -13,13 +13,13 @@ use Rattle.noc_model.specs.Halves.{IsSilent}
 use Rattle.noc_model.specs.Lockstep.{view_at}
 use Rattle.noc_model.specs.Network.{Setup, size}
 use Rattle.noc_model.proofs.ViewLemmas.{view_at-seen}
-use Rattle.noc_rows.specs.Frames.{IsFrameOf}
+use Rattle.noc_row_words.specs.Frames.{IsFrameOf}
 use Rattle.noc_rows.specs.Whole.{IsQuiet, ShowsBlock}
-use Rattle.noc_rows.specs.declared.block.Block.{Block}
-use Rattle.noc_rows.specs.declared.frame.Frame.{Frame}
-use Rattle.noc_rows.specs.declared.sheet.Sheet.{Sheet}
-use Rattle.noc_rows.specs.declared.starts.Start.{Start}
-use Rattle.noc_rows.specs.declared.wires.Inbox.{Inbox}
+use Rattle.noc_row_words.specs.declared.block.Block.{Block}
+use Rattle.noc_row_words.specs.declared.frame.Frame.{Frame}
+use Rattle.noc_row_words.specs.declared.sheet.Sheet.{Sheet}
+use Rattle.noc_row_words.specs.declared.starts.Start.{Start}
+use Rattle.noc_row_words.specs.declared.wires.Inbox.{Inbox}
 use Rattle.noc_rows.proofs.FrozenWires.{frozen_of}
 use Rattle.noc_rows.proofs.LaneRests.{IsResting, lane-asleep, lane-silent, rests-moves, rests-rings}
 use Rattle.noc_rows.proofs.LeadLaws.{back-leads}

@@ -2,14 +2,14 @@
 use Rattle.std.proofs.Common.{◌≡◌, ◌≢◌, ℕ, zero, suc, ◌+◌, ◌*◌, ◌/◌, ◌%◌, ◌<◌, ◌≤◌, Bool, true, false, List, [], ◌∷◌, ◌++◌, length, refl, ap, ap₂, sym, ◌∙◌, subst, arith, inl, inr}
 use Rattle.std.specs.Prelude.{◌⊎◌, ◌&&◌, ◌||◌, nat_eq, nat_lt, slice_index, if◌then◌else◌}
 use Rattle.std.proofs.lemmas.Bool.{and_parts, cases_Bool, cases_eq, cases_lt, eq-eqb, eqb-true, ne_eqb, le-ltb, lt-ltb, true≢false, false≢true}
-use Rattle.noc_rows.specs.Carried.{FlitsCanMove, HaveMoved, WireWords, first_of, left_of, wire_words, without_first}
-use Rattle.noc_rows.specs.Switched.{AreNext, MovesFlits, firsts_with, gone_with, in_words}
-use Rattle.noc_rows.specs.Wires.{inbox_at, ring_in, room_of}
-use Rattle.noc_rows.specs.declared.marks.Marks.{Marks}
-use Rattle.noc_rows.specs.declared.wires.Inbox.{Inbox}
-use Rattle.noc_rows.specs.declared.wires.Wires.{Wires}
+use Rattle.noc_row_blocks.specs.Carried.{FlitsCanMove, HaveMoved, WireWords, first_of, left_of, wire_words, without_first}
+use Rattle.noc_row_blocks.specs.Switched.{AreNext, MovesFlits, firsts_with, gone_with, in_words}
+use Rattle.noc_row_words.specs.Wires.{inbox_at, ring_in, room_of}
+use Rattle.noc_row_words.specs.declared.marks.Marks.{Marks}
+use Rattle.noc_row_words.specs.declared.wires.Inbox.{Inbox}
+use Rattle.noc_row_words.specs.declared.wires.Wires.{Wires}
 use Rattle.noc_rows.proofs.NetworkMoves.{by_block}
-use Rattle.noc_rows.proofs.StepLemmas.{moved-same}
+use Rattle.noc_row_blocks.proofs.StepLemmas.{moved-same}
 
 -- ---- words that have the same rings and wires
 

@@ -12,27 +12,27 @@ use Rattle.noc_model.specs.declared.limits.TheConstants.{CYCLE_LIMIT}
 use Rattle.noc_model.specs.Good.{IsGoodSetup}
 use Rattle.noc_model.specs.Lockstep.{beats_at, beats_in, view_at}
 use Rattle.noc_model.specs.Network.{Setup, size, state_at}
-use Rattle.noc_rows.specs.Carried.{FlitsCanMove, HaveMoved, NoneTo, WireWords, wire_words}
-use Rattle.noc_rows.specs.Column.{ShowsWires, place_of}
-use Rattle.noc_rows.specs.Decided.{HasChosenIn, HasDecided}
-use Rattle.noc_rows.specs.FlitWords.{flit_word}
-use Rattle.noc_rows.specs.Frames.{IsFrameOf}
-use Rattle.noc_rows.specs.Grants.{leads_by, leads_to}
-use Rattle.noc_rows.specs.Moves.{ports_of}
-use Rattle.noc_rows.specs.Passes.{lane_heads}
-use Rattle.noc_rows.specs.Routed.{sets_by}
-use Rattle.noc_rows.specs.Rows.{column_at, word}
-use Rattle.noc_rows.specs.Stages.{HasFrozen, HaveConcluded, HaveDecided, HaveFrozen, selected_of}
-use Rattle.noc_rows.specs.Switched.{AreSelectedOnce, AreNext, HaveReleased, in_words, selected_by_ports}
+use Rattle.noc_row_blocks.specs.Carried.{FlitsCanMove, HaveMoved, NoneTo, WireWords, wire_words}
+use Rattle.noc_row_words.specs.Column.{ShowsWires, place_of}
+use Rattle.noc_row_blocks.specs.Decided.{HasChosenIn, HasDecided}
+use Rattle.noc_row_words.specs.FlitWords.{flit_word}
+use Rattle.noc_row_words.specs.Frames.{IsFrameOf}
+use Rattle.noc_row_words.specs.Grants.{leads_by, leads_to}
+use Rattle.noc_row_blocks.specs.Moves.{ports_of}
+use Rattle.noc_row_words.specs.Passes.{lane_heads}
+use Rattle.noc_row_blocks.specs.Routed.{sets_by}
+use Rattle.noc_row_words.specs.Rows.{column_at, word}
+use Rattle.noc_row_blocks.specs.Stages.{HasFrozen, HaveConcluded, HaveDecided, HaveFrozen, selected_of}
+use Rattle.noc_row_blocks.specs.Switched.{AreSelectedOnce, AreNext, HaveReleased, in_words, selected_by_ports}
 use Rattle.noc_rows.specs.Whole.{IsQuiet, IsTarget, ShowsBlock}
-use Rattle.noc_rows.specs.Wires.{inbox_at, ring_in, room_of}
-use Rattle.noc_rows.specs.declared.block.Block.{Block}
-use Rattle.noc_rows.specs.declared.frame.Frame.{Frame}
-use Rattle.noc_rows.specs.declared.marks.Marks.{Marks}
-use Rattle.noc_rows.specs.declared.sheet.Sheet.{Sheet}
-use Rattle.noc_rows.specs.declared.starts.Start.{Start}
-use Rattle.noc_rows.specs.declared.wires.Inbox.{Inbox}
-use Rattle.noc_rows.specs.declared.wires.Wires.{Wires}
+use Rattle.noc_row_words.specs.Wires.{inbox_at, ring_in, room_of}
+use Rattle.noc_row_words.specs.declared.block.Block.{Block}
+use Rattle.noc_row_words.specs.declared.frame.Frame.{Frame}
+use Rattle.noc_row_words.specs.declared.marks.Marks.{Marks}
+use Rattle.noc_row_words.specs.declared.sheet.Sheet.{Sheet}
+use Rattle.noc_row_words.specs.declared.starts.Start.{Start}
+use Rattle.noc_row_words.specs.declared.wires.Inbox.{Inbox}
+use Rattle.noc_row_words.specs.declared.wires.Wires.{Wires}
 use Rattle.noc_rows.proofs.BlockShows.{ShowsInbox}
 use Rattle.noc_rows.proofs.BlocksNext.{DecidesLanes, Rests}
 use Rattle.noc_rows.proofs.CanMoveLaws.{can-move}
@@ -49,7 +49,7 @@ use Rattle.noc_rows.proofs.LaneTargets.{back-target}
 use Rattle.noc_rows.proofs.LaneWires.{lane-comes, lane-place, lane-returns, lane-ring, lane-wires}
 use Rattle.noc_rows.proofs.NetworkLaws.{good, frozen-seen}
 use Rattle.noc_rows.proofs.NetworkMoves.{IsStillLane, by-block, by_block, is_moving, moves-below, moves_at, network-wires}
-use Rattle.noc_rows.proofs.StepLemmas.{moved-same}
+use Rattle.noc_row_blocks.proofs.StepLemmas.{moved-same}
 
 -- ---- lists of blocks
 

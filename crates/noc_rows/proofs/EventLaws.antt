@@ -14,16 +14,17 @@ use Rattle.noc_router.specs.Members.{AreBelow}
 use Rattle.noc_router.specs.Verdict.{is_event}
 use Rattle.noc_router.specs.View.{View, size_of, view_round, finding_of, decisions_of, has_event}
 use Rattle.noc_router.specs.declared.verdict.Finding.{Finding}
-use Rattle.noc_rows.specs.Bits.{less}
-use Rattle.noc_rows.specs.Column.{Column, AreWords, ShowsChannels}
-use Rattle.noc_rows.specs.Fields.{Fields, IsFields}
-use Rattle.noc_rows.specs.Passes.{Effects, lane_heads, lane_no_credit, lane_no_flit, lane_no_idle_channel, lane_picked, lane_ready}
-use Rattle.noc_rows.proofs.SettleLemmas.{AreEffects, verdict_of_bits}
-use Rattle.noc_rows.proofs.StandLemmas.{AreFilled, verdicts}
-use Rattle.noc_rows.proofs.OutlookLemmas.{or-zero}
+use Rattle.noc_row_words.specs.Bits.{less}
+use Rattle.noc_row_words.specs.Column.{Column, AreWords, ShowsChannels}
+use Rattle.noc_row_words.specs.Fields.{IsFields}
+use Rattle.noc_row_words.specs.declared.fields.Fields.{Fields}
+use Rattle.noc_row_words.specs.Passes.{Effects, lane_heads, lane_no_credit, lane_no_flit, lane_no_idle_channel, lane_picked, lane_ready}
+use Rattle.noc_row_words.proofs.SettleLemmas.{AreEffects, verdict_of_bits}
+use Rattle.noc_row_words.proofs.StandLemmas.{AreFilled, verdicts}
+use Rattle.noc_row_blocks.proofs.OutlookLemmas.{or-zero}
 use Rattle.noc_rows.proofs.DecideLemmas.{AreDecided, HasTurns}
 use Rattle.noc_rows.proofs.SettleLaws.{less-below, none-above}
-use Rattle.noc_rows.proofs.BitLemmas.{or_fits}
+use Rattle.noc_row_words.proofs.BitLemmas.{or_fits}
 
 any-at : (p : Finding → Bool) (fs : List Finding) (d : Finding) → list_any p fs ≡ true → (i : ℕ) × (i < length fs) × (p (get_or fs i d) ≡ true)
 any-at p [] d e = absurd (false≢true e)

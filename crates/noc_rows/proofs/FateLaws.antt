@@ -20,26 +20,26 @@ use Rattle.noc_router.specs.Sound.{is_owned_from, is_supplied, owns}
 use Rattle.noc_router.specs.Verdict.{ask_of}
 use Rattle.noc_router.specs.declared.verdict.Verdict.{Verdict}
 use Rattle.noc_router.specs.View.{View, size_of, view_buffer, view_claim, claim_in, view_input, view_output, view_round, first_flit, is_tail, mover_to, decisions_of, view_after_commit, decided_verdict, input_after, held_by, spent_by, sent_from, granted_to, route_of}
-use Rattle.noc_rows.specs.Bits.{less}
-use Rattle.noc_rows.specs.Column.{IsColumn, RouterMarks}
-use Rattle.noc_rows.specs.Cycle.{HasSwitched, Surroundings, chosen_by, single_in}
-use Rattle.noc_rows.specs.Grants.{Allocation}
-use Rattle.noc_rows.specs.Moves.{dry_by, of_one, ports_of, some_below, union_from}
-use Rattle.noc_rows.specs.Passes.{Effects, lane_heads, lane_no_credit, lane_no_flit, lane_no_idle_channel, lane_picked, lane_ready}
-use Rattle.noc_rows.specs.Planes.{more_than_one, plane_number}
-use Rattle.noc_rows.specs.declared.frame.Frame.{Frame}
-use Rattle.noc_rows.proofs.BitLemmas.{not_members, or_fits}
+use Rattle.noc_row_words.specs.Bits.{less}
+use Rattle.noc_row_words.specs.Column.{IsColumn, RouterMarks}
+use Rattle.noc_row_blocks.specs.Cycle.{HasSwitched, Surroundings, chosen_by, single_in}
+use Rattle.noc_row_words.specs.Grants.{Allocation}
+use Rattle.noc_row_blocks.specs.Moves.{dry_by, of_one, ports_of, some_below, union_from}
+use Rattle.noc_row_words.specs.Passes.{Effects, lane_heads, lane_no_credit, lane_no_flit, lane_no_idle_channel, lane_picked, lane_ready}
+use Rattle.noc_row_words.specs.Planes.{more_than_one, plane_number}
+use Rattle.noc_row_words.specs.declared.frame.Frame.{Frame}
+use Rattle.noc_row_words.proofs.BitLemmas.{not_members, or_fits}
 use Rattle.noc_rows.proofs.ChosenLaws.{IsStill, ShowsChosen}
 use Rattle.noc_rows.proofs.CommittedLemmas.{input-committed, output-committed, verdict-planned}
 use Rattle.noc_rows.proofs.MoveLaws.{dry-is, spends}
-use Rattle.noc_rows.proofs.PlaneLemmas.{more-fits, more-members}
+use Rattle.noc_row_words.proofs.PlaneLemmas.{more-fits, more-members}
 use Rattle.noc_rows.proofs.SettleLaws.{SaysSupplied}
-use Rattle.noc_rows.proofs.SettleLemmas.{quiet-input, verdict_of_bits}
+use Rattle.noc_row_words.proofs.SettleLemmas.{quiet-input, verdict_of_bits}
 use Rattle.noc_rows.proofs.SettlingLaws.{asker, channel-small, decided, effects, grant-found, grantee, granted-is, moves-picked, owned-not-free, released-is, says-out, supplied-was, turned}
-use Rattle.noc_rows.proofs.StandLemmas.{verdicts}
-use Rattle.noc_rows.proofs.SuppliedLemmas.{Gone, Sends as SendsOn, Gets as GetsOne, Waits, Stays}
+use Rattle.noc_row_words.proofs.StandLemmas.{verdicts}
+use Rattle.noc_row_words.proofs.SuppliedLemmas.{Gone, Sends as SendsOn, Gets as GetsOne, Waits, Stays}
 use Rattle.noc_rows.proofs.SwitchedLaws.{chosen-below, head-is, mover-at, mover-from, moving, picked-is, small, taken-shows}
-use Rattle.noc_rows.proofs.UnionLemmas.{rest-members, union-members}
+use Rattle.noc_row_blocks.proofs.UnionLemmas.{rest-members, union-members}
 
 one-owner : (h : OutputState) (i j : ℕ) → is_owned_from h i ≡ true → is_owned_from h j ≡ true → i ≡ j
 one-owner Free i j ei ej = absurd (false≢true ei)

@@ -12,25 +12,25 @@ use Rattle.noc_model.specs.Lockstep.{beats_at, beats_in, view_at}
 use Rattle.noc_model.specs.Network.{Setup, Place, Source, arrival_in, opening_state, out_cycle, packet_at, state_at, tail_place}
 use Rattle.noc_model.proofs.OpeningLemmas.{at-source}
 use Rattle.noc_rows.specs.Blank.{AreNone, IsBlank}
-use Rattle.noc_rows.specs.Column.{Column, place_of}
-use Rattle.noc_rows.specs.Frames.{IsFrameOf}
+use Rattle.noc_row_words.specs.Column.{Column, place_of}
+use Rattle.noc_row_words.specs.Frames.{IsFrameOf}
 use Rattle.noc_rows.specs.InRows.{ShowsRouter}
 use Rattle.noc_rows.specs.Opened.{AreOpenBlocks, AreOpenWires, IsOpenBlock, IsOpenInbox, starts_list}
-use Rattle.noc_rows.specs.Opening.{empty_column}
-use Rattle.noc_rows.specs.Outlook.{holding_in, is_some_below}
-use Rattle.noc_rows.specs.Rows.{column_at, planes_of, word}
-use Rattle.noc_rows.specs.Source.{source_at}
-use Rattle.noc_rows.specs.Tallied.{cycles_of, no_counts, sheet_counts}
+use Rattle.noc_row_words.specs.Opening.{empty_column}
+use Rattle.noc_row_blocks.specs.Outlook.{holding_in, is_some_below}
+use Rattle.noc_row_words.specs.Rows.{column_at, planes_of, word}
+use Rattle.noc_row_words.specs.Source.{source_at}
+use Rattle.noc_row_words.specs.Tallied.{cycles_of, no_counts, sheet_counts}
 use Rattle.noc_rows.specs.Whole.{IsRows, ShowsArrival, ShowsBlock, lane_words}
-use Rattle.noc_rows.specs.Wires.{inbox_at, room_of}
-use Rattle.noc_rows.specs.declared.block.Block.{Block}
-use Rattle.noc_rows.specs.declared.block.Source.{Source as Feed}
-use Rattle.noc_rows.specs.declared.frame.Frame.{Frame}
+use Rattle.noc_row_words.specs.Wires.{inbox_at, room_of}
+use Rattle.noc_row_words.specs.declared.block.Block.{Block}
+use Rattle.noc_row_words.specs.declared.block.Source.{Source as Feed}
+use Rattle.noc_row_words.specs.declared.frame.Frame.{Frame}
 use Rattle.noc_rows.specs.declared.rows.Rows.{Rows}
-use Rattle.noc_rows.specs.declared.sheet.Sheet.{Sheet}
-use Rattle.noc_rows.specs.declared.starts.Start.{Start}
-use Rattle.noc_rows.specs.declared.starts.TheConstants.{NEVER}
-use Rattle.noc_rows.specs.declared.wires.Inbox.{Inbox}
+use Rattle.noc_row_words.specs.declared.sheet.Sheet.{Sheet}
+use Rattle.noc_row_words.specs.declared.starts.Start.{Start}
+use Rattle.noc_row_words.specs.declared.starts.TheConstants.{NEVER}
+use Rattle.noc_row_words.specs.declared.wires.Inbox.{Inbox}
 use Rattle.noc_rows.proofs.OpenedLaws.{open-words, opening-in-rows}
 use Rattle.noc_rows.proofs.OpeningWires.{opening-wires}
 

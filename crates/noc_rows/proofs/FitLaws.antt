@@ -11,7 +11,7 @@ use Rattle.noc_model.specs.Network.{Setup, State, Located, size, arriving, buffe
 use Rattle.noc_model.specs.Seen.{IsSeen}
 use Rattle.noc_model.proofs.Members.{Has-filter}
 use Rattle.noc_model.proofs.Ordered.{IsGood}
-use Rattle.noc_rows.specs.FlitWords.{FitsWord}
+use Rattle.noc_row_words.specs.FlitWords.{FitsWord}
 use Rattle.noc_rows.proofs.SteadyLemmas.{IsSteady}
 
 module _ (net : Setup) (setup : IsGoodSetup net) (good : IsGood net) where

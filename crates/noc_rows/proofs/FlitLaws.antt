@@ -15,7 +15,7 @@ use Rattle.noc_model.proofs.OrderedStates.{ordered-mid}
 use Rattle.noc_model.proofs.Phases.{mid}
 use Rattle.noc_model.proofs.ViewLemmas.{view_at-seen}
 use Rattle.noc_model.specs.Seen.{IsSeen}
-use Rattle.noc_rows.specs.Taken.{with_one, flit_from}
+use Rattle.noc_row_words.specs.Taken.{with_one, flit_from}
 use Rattle.noc_rows.proofs.NetworkLaws.{good, beats, taken_view, frozen_view, taken-seen, frozen-seen, beats-taken, steady-state, steady-still}
 use Rattle.noc_rows.proofs.SteadyLemmas.{IsSteady, steady-frozen}
 

@@ -13,20 +13,20 @@ use Rattle.noc_vc.specs.declared.input.InputState.TheVariants.{Idle, Waiting, Ac
 use Rattle.noc_router.specs.Members.{AreBelow}
 use Rattle.noc_router.specs.Verdict.{out_of}
 use Rattle.noc_router.specs.View.{View, claim_in, port_and_vc, size_of, view_buffer, view_claim, view_input}
-use Rattle.noc_rows.specs.Column.{IsColumn, ShowsPhase, place_of}
-use Rattle.noc_rows.specs.FlitWords.{FitsWord, flit_word}
+use Rattle.noc_row_words.specs.Column.{IsColumn, ShowsPhase, place_of}
+use Rattle.noc_row_words.specs.FlitWords.{FitsWord, flit_word}
 use Rattle.noc_rows.specs.Found.{HasPacket, is_held, least_place, out_at}
-use Rattle.noc_rows.specs.Frames.{IsPlaced}
-use Rattle.noc_rows.specs.Rows.{column_at, marks_at, of_router, word}
-use Rattle.noc_rows.specs.Wires.{in_row, ring_in}
-use Rattle.noc_rows.specs.declared.block.Block.{Block}
-use Rattle.noc_rows.specs.declared.frame.Frame.{Frame}
-use Rattle.noc_rows.specs.declared.wires.Inbox.{Inbox}
-use Rattle.noc_rows.proofs.AskLemmas.{asked-is}
-use Rattle.noc_rows.proofs.BitLemmas.{and_fits, below_fits, least_is}
-use Rattle.noc_rows.proofs.LaneLemmas.{least-zeros}
-use Rattle.noc_rows.proofs.PassLemmas.{power-members}
-use Rattle.noc_rows.proofs.StandLemmas.{AreFilled}
+use Rattle.noc_row_words.specs.Frames.{IsPlaced}
+use Rattle.noc_row_words.specs.Rows.{column_at, marks_at, of_router, word}
+use Rattle.noc_row_words.specs.Wires.{in_row, ring_in}
+use Rattle.noc_row_words.specs.declared.block.Block.{Block}
+use Rattle.noc_row_words.specs.declared.frame.Frame.{Frame}
+use Rattle.noc_row_words.specs.declared.wires.Inbox.{Inbox}
+use Rattle.noc_row_words.proofs.AskLemmas.{asked-is}
+use Rattle.noc_row_words.proofs.BitLemmas.{and_fits, below_fits, least_is}
+use Rattle.noc_row_blocks.proofs.LaneLemmas.{least-zeros}
+use Rattle.noc_row_words.proofs.PassLemmas.{power-members}
+use Rattle.noc_row_words.proofs.StandLemmas.{AreFilled}
 
 -- ---- the least channel of a set
 

@@ -16,22 +16,22 @@ use Rattle.noc_model.specs.declared.limits.TheConstants.{CYCLE_LIMIT}
 use Rattle.noc_model.specs.Good.{IsGoodSetup}
 use Rattle.noc_model.specs.Lockstep.{site_at, view_at}
 use Rattle.noc_model.specs.Network.{Setup, frozen_at, size}
-use Rattle.noc_rows.specs.Column.{IsTidy, place_of}
+use Rattle.noc_row_words.specs.Column.{IsTidy, place_of}
 use Rattle.noc_rows.specs.Found.{IsClaimed, out_at, sets_at, with_verdict}
-use Rattle.noc_rows.specs.Frames.{IsFrameOf, IsPlaced}
+use Rattle.noc_row_words.specs.Frames.{IsFrameOf, IsPlaced}
 use Rattle.noc_rows.specs.InRows.{ShowsRouter}
-use Rattle.noc_rows.specs.Moves.{ports_of, union_from}
-use Rattle.noc_rows.specs.Rows.{column_at, marks_at, standing_at, word}
-use Rattle.noc_rows.specs.Stages.{HasFrozen, HasMoved, selected_of}
+use Rattle.noc_row_blocks.specs.Moves.{ports_of, union_from}
+use Rattle.noc_row_words.specs.Rows.{column_at, marks_at, standing_at, word}
+use Rattle.noc_row_blocks.specs.Stages.{HasFrozen, HasMoved, selected_of}
 use Rattle.noc_rows.specs.Whole.{ShowsBlock, lane_words}
-use Rattle.noc_rows.specs.declared.block.Block.{Block}
-use Rattle.noc_rows.specs.declared.cycle.DecidedRows.{DecidedRows}
-use Rattle.noc_rows.specs.declared.column.Lanes.{Lanes}
-use Rattle.noc_rows.specs.declared.frame.Frame.{Frame}
-use Rattle.noc_rows.specs.declared.sheet.Sheet.{Sheet}
-use Rattle.noc_rows.specs.declared.starts.Start.{Start}
-use Rattle.noc_rows.specs.declared.wires.Inbox.{Inbox}
-use Rattle.noc_rows.specs.declared.wires.Wires.{Wires}
+use Rattle.noc_row_words.specs.declared.block.Block.{Block}
+use Rattle.noc_row_words.specs.declared.cycle.DecidedRows.{DecidedRows}
+use Rattle.noc_row_words.specs.declared.column.Lanes.{Lanes}
+use Rattle.noc_row_words.specs.declared.frame.Frame.{Frame}
+use Rattle.noc_row_words.specs.declared.sheet.Sheet.{Sheet}
+use Rattle.noc_row_words.specs.declared.starts.Start.{Start}
+use Rattle.noc_row_words.specs.declared.wires.Inbox.{Inbox}
+use Rattle.noc_row_words.specs.declared.wires.Wires.{Wires}
 use Rattle.noc_rows.proofs.DecidedLanes.{frozen-lane, linked-frozen, sends}
 use Rattle.noc_rows.proofs.FitLaws.{flit-fits}
 use Rattle.noc_rows.proofs.FoundClaims.{out-same, packet-same}

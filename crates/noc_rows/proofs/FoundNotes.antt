@@ -9,11 +9,11 @@ use Rattle.noc_router.specs.declared.verdict.Finding.{Finding}
 use Rattle.noc_router.specs.declared.verdict.Verdict.{Verdict}
 use Rattle.noc_router.specs.declared.verdict.Verdict.TheVariants.{Empty}
 use Rattle.noc_rows.specs.Found.{IsClaimed, given_to, is_held, is_noted, least_place}
-use Rattle.noc_rows.specs.Rows.{word}
-use Rattle.noc_rows.specs.Wires.{in_row}
-use Rattle.noc_rows.specs.declared.block.Block.{Block}
-use Rattle.noc_rows.specs.declared.frame.Frame.{Frame}
-use Rattle.noc_rows.specs.declared.wires.Inbox.{Inbox}
+use Rattle.noc_row_words.specs.Rows.{word}
+use Rattle.noc_row_words.specs.Wires.{in_row}
+use Rattle.noc_row_words.specs.declared.block.Block.{Block}
+use Rattle.noc_row_words.specs.declared.frame.Frame.{Frame}
+use Rattle.noc_row_words.specs.declared.wires.Inbox.{Inbox}
 
 or-off : (a b : Bool) → (a || b) ≡ false → (a ≡ false) × (b ≡ false)
 or-off true b e = absurd (true≢false e)

@@ -8,10 +8,10 @@ use Rattle.noc_router.specs.Found.{empty_finding}
 use Rattle.noc_router.specs.declared.verdict.Finding.{Finding}
 use Rattle.noc_router.specs.declared.verdict.Verdict.TheVariants.{Empty}
 use Rattle.noc_rows.specs.Found.{AreClaimed, HaveVerdicts, IsClaimed, KeepsOthers, finding_at, judged_by, sets_at, with_verdict}
-use Rattle.noc_rows.specs.Wires.{inbox_at}
-use Rattle.noc_rows.specs.declared.block.Block.{Block}
-use Rattle.noc_rows.specs.declared.frame.Frame.{Frame}
-use Rattle.noc_rows.specs.declared.wires.Inbox.{Inbox}
+use Rattle.noc_row_words.specs.Wires.{inbox_at}
+use Rattle.noc_row_words.specs.declared.block.Block.{Block}
+use Rattle.noc_row_words.specs.declared.frame.Frame.{Frame}
+use Rattle.noc_row_words.specs.declared.wires.Inbox.{Inbox}
 
 -- ---- the places of one router
 

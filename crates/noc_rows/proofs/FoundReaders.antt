@@ -7,7 +7,7 @@ use Rattle.noc_router.specs.Found.{empty_finding}
 use Rattle.noc_router.specs.declared.verdict.Finding.{Finding}
 use Rattle.noc_model.specs.Lockstep.{findings_before}
 use Rattle.noc_model.specs.Network.{Setup, size}
-use Rattle.noc_rows.specs.Column.{place_of}
+use Rattle.noc_row_words.specs.Column.{place_of}
 use Rattle.noc_rows.specs.Whole.{ShowsNetwork}
 use Rattle.noc_rows.specs.declared.rows.Rows.{Rows}
 use Rattle.noc_rows.proofs.FoundNetwork.{found-many}

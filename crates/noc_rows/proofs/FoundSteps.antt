@@ -9,17 +9,17 @@ use Rattle.noc_model.specs.declared.limits.TheConstants.{CYCLE_LIMIT}
 use Rattle.noc_model.specs.Good.{IsGoodSetup}
 use Rattle.noc_model.specs.Lockstep.{findings_before}
 use Rattle.noc_model.specs.Network.{Setup, size}
-use Rattle.noc_rows.specs.Column.{place_of}
-use Rattle.noc_rows.specs.Decided.{HasDecided}
+use Rattle.noc_row_words.specs.Column.{place_of}
+use Rattle.noc_row_blocks.specs.Decided.{HasDecided}
 use Rattle.noc_rows.specs.Found.{AreClaimed, HaveVerdicts, IsClaimed, finding_at, with_verdict}
-use Rattle.noc_rows.specs.Stages.{HasFrozen}
+use Rattle.noc_row_blocks.specs.Stages.{HasFrozen}
 use Rattle.noc_rows.specs.Steps.{HasArrivedRows, HasConcludedRows, HasDecidedRows}
 use Rattle.noc_rows.specs.Whole.{HasPlaces, IsWoken, ShowsBlock, ShowsNetwork}
-use Rattle.noc_rows.specs.Wires.{inbox_at, room_of}
-use Rattle.noc_rows.specs.declared.block.Block.{Block}
+use Rattle.noc_row_words.specs.Wires.{inbox_at, room_of}
+use Rattle.noc_row_words.specs.declared.block.Block.{Block}
 use Rattle.noc_rows.specs.declared.rows.Rows.{Rows}
-use Rattle.noc_rows.specs.declared.sheet.Sheet.{Sheet}
-use Rattle.noc_rows.specs.declared.wires.Wires.{Wires}
+use Rattle.noc_row_words.specs.declared.sheet.Sheet.{Sheet}
+use Rattle.noc_row_words.specs.declared.wires.Wires.{Wires}
 use Rattle.noc_rows.proofs.BlocksNext.{Rests}
 use Rattle.noc_rows.proofs.DecidedWires.{element}
 use Rattle.noc_rows.proofs.FoundLanes.{asleep-found, awake-found}

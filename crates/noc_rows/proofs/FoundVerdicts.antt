@@ -7,17 +7,18 @@ use Rattle.noc_router.specs.Standing.{is_won_from}
 use Rattle.noc_router.specs.VerdictSets.{verdict_by}
 use Rattle.noc_router.specs.View.{View, finding_of, size_of, view_input, view_round}
 use Rattle.noc_router.specs.declared.verdict_sets.VerdictSets.{VerdictSets}
-use Rattle.noc_rows.specs.Bits.{less}
-use Rattle.noc_rows.specs.Column.{AreWords, Column, ShowsChannels}
-use Rattle.noc_rows.specs.Fields.{Fields, IsFields}
+use Rattle.noc_row_words.specs.Bits.{less}
+use Rattle.noc_row_words.specs.Column.{AreWords, Column, ShowsChannels}
+use Rattle.noc_row_words.specs.Fields.{IsFields}
+use Rattle.noc_row_words.specs.declared.fields.Fields.{Fields}
 use Rattle.noc_rows.specs.Found.{sets_at}
-use Rattle.noc_rows.specs.Passes.{lane_picked, lane_standing}
-use Rattle.noc_rows.specs.Rows.{standing_at, word}
-use Rattle.noc_rows.specs.declared.block.Block.{Block}
-use Rattle.noc_rows.specs.declared.cycle.Standing.{Standing}
+use Rattle.noc_row_words.specs.Passes.{lane_picked, lane_standing}
+use Rattle.noc_row_words.specs.Rows.{standing_at, word}
+use Rattle.noc_row_words.specs.declared.block.Block.{Block}
+use Rattle.noc_row_words.specs.declared.cycle.Standing.{Standing}
 use Rattle.noc_rows.proofs.DecideLemmas.{HasTurns}
 use Rattle.noc_rows.proofs.RoundLaws.{AreRound, small-below}
-use Rattle.noc_rows.proofs.StandLemmas.{AreFilled, draws, verdicts}
+use Rattle.noc_row_words.proofs.StandLemmas.{AreFilled, draws, verdicts}
 
 -- the channels with each verdict but Empty, by where channels stand and what was decided
 abbrev sets_of : ℕ → Standing → ℕ → ℕ → ℕ → ℕ → ℕ → VerdictSets

@@ -6,23 +6,23 @@ use Rattle.noc_packet.specs.Set.{has_bit}
 use Rattle.noc_packet.specs.declared.packet.Beat.{Beat}
 use Rattle.noc_route.specs.Routes.{Routes}
 use Rattle.noc_router.specs.View.{View, size_of, local_channel, view_buffer, view_after_takes, view_after_inject}
-use Rattle.noc_rows.specs.Arrive.{HasArrived, begins_in, ready_source, went_in}
-use Rattle.noc_rows.specs.Bits.{lowest}
-use Rattle.noc_rows.specs.Column.{Column, RouterMarks, IsColumn, IsTidy, ShowsWires}
-use Rattle.noc_rows.specs.FlitWords.{flit_word}
-use Rattle.noc_rows.specs.Passes.{frozen_column, lane_filled, owner_in}
-use Rattle.noc_rows.specs.Planes.{words_of}
-use Rattle.noc_rows.specs.Rows.{column_at, word}
-use Rattle.noc_rows.specs.Source.{ShowsSource, sent_source, source_at}
-use Rattle.noc_rows.specs.Taken.{HasSize, HasTaken, credit_from, flit_from}
-use Rattle.noc_rows.specs.Wires.{ring_in}
-use Rattle.noc_rows.specs.declared.block.Block.{Block}
-use Rattle.noc_rows.specs.declared.block.Source.{Source}
-use Rattle.noc_rows.specs.declared.starts.Start.{Start}
-use Rattle.noc_rows.specs.declared.starts.TheConstants.{NEVER}
-use Rattle.noc_rows.specs.declared.wires.Inbox.{Inbox}
+use Rattle.noc_row_blocks.specs.Arrive.{HasArrived, begins_in, ready_source, went_in}
+use Rattle.noc_row_words.specs.Bits.{lowest}
+use Rattle.noc_row_words.specs.Column.{Column, RouterMarks, IsColumn, IsTidy, ShowsWires}
+use Rattle.noc_row_words.specs.FlitWords.{flit_word}
+use Rattle.noc_row_words.specs.Passes.{frozen_column, lane_filled, owner_in}
+use Rattle.noc_row_words.specs.Planes.{words_of}
+use Rattle.noc_row_words.specs.Rows.{column_at, word}
+use Rattle.noc_row_words.specs.Source.{ShowsSource, sent_source, source_at}
+use Rattle.noc_row_words.specs.Taken.{HasSize, HasTaken, credit_from, flit_from}
+use Rattle.noc_row_words.specs.Wires.{ring_in}
+use Rattle.noc_row_words.specs.declared.block.Block.{Block}
+use Rattle.noc_row_words.specs.declared.block.Source.{Source}
+use Rattle.noc_row_words.specs.declared.starts.Start.{Start}
+use Rattle.noc_row_words.specs.declared.starts.TheConstants.{NEVER}
+use Rattle.noc_row_words.specs.declared.wires.Inbox.{Inbox}
 use Rattle.noc_rows.proofs.ArriveLaws.{ShowsFrozen, shows-frozen}
-use Rattle.noc_rows.proofs.StandLemmas.{AreFilled}
+use Rattle.noc_row_words.proofs.StandLemmas.{AreFilled}
 
 -- router k of a block in its frozen state, where these are the places of the first words of its rings
 pub record IsFrozen (count room : ℕ) (starts : List Start) (m : RouterMarks) (first : ℕ → ℕ) (new : Block) (after : Inbox) (k : ℕ) (y : View) : Type 0 where

@@ -7,10 +7,10 @@ use Rattle.noc_router.specs.Members.{AreBelow}
 use Rattle.noc_router.specs.View.{View, view_after_takes, view_after_inject, view_buffer, view_input}
 use Rattle.noc_model.specs.Lockstep.{beats_at, beats_in, site_at, view_at}
 use Rattle.noc_model.specs.Network.{Setup, size, state_at}
-use Rattle.noc_rows.specs.Carried.{WireWords}
-use Rattle.noc_rows.specs.Column.{Leads, place_of}
-use Rattle.noc_rows.specs.FlitWords.{flit_word}
-use Rattle.noc_rows.proofs.SwitchLemmas.{AreMoved}
+use Rattle.noc_row_blocks.specs.Carried.{WireWords}
+use Rattle.noc_row_words.specs.Column.{Leads, place_of}
+use Rattle.noc_row_words.specs.FlitWords.{flit_word}
+use Rattle.noc_row_words.proofs.SwitchLemmas.{AreMoved}
 
 -- the view of router r from which the verdicts of cycle n are taken
 abbrev pub frozen_of : Setup → ℕ → ℕ → View

@@ -17,7 +17,7 @@ use Rattle.noc_router.specs.declared.verdict.Verdict.TheVariants.{Moved, LostSwi
 use Rattle.noc_router.specs.View.{View, size_of, view_buffer, view_input, view_output, view_claim, claim_in, view_round, asked_for, decisions_of, decided_verdict, beat_out}
 use Rattle.noc_router.proofs.FindLemmas.{find-below, find-none}
 use Rattle.noc_rows.proofs.CommittedLemmas.{verdict-planned}
-use Rattle.noc_rows.proofs.SwitchLemmas.{AreMoved}
+use Rattle.noc_row_words.proofs.SwitchLemmas.{AreMoved}
 
 and-none : (b : Bool) → (b && false) ≡ false
 and-none true = refl

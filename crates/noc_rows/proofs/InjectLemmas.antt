@@ -16,24 +16,24 @@ use Rattle.noc_vc.specs.declared.input.InputState.{InputState}
 use Rattle.noc_vc.specs.declared.input.InputState.TheVariants.{Idle, Waiting, Active}
 use Rattle.noc_router.specs.Counts.{one_if}
 use Rattle.noc_router.specs.View.{View, size_of, local_channel, view_buffer, view_input, is_vacant, with_injected, begun_on, view_after_inject_from}
-use Rattle.noc_rows.specs.Bits.{lowest}
-use Rattle.noc_rows.specs.Column.{Column, AreWords, ShowsSending}
-use Rattle.noc_rows.specs.FlitWords.{flit_word}
+use Rattle.noc_row_words.specs.Bits.{lowest}
+use Rattle.noc_row_words.specs.Column.{Column, AreWords, ShowsSending}
+use Rattle.noc_row_words.specs.FlitWords.{flit_word}
 use Rattle.noc_rows.specs.Injected.{injection_from, injected_to}
-use Rattle.noc_rows.specs.Passes.{injecting_after, lane_begins, lane_free, lane_injected}
-use Rattle.noc_rows.specs.Planes.{any_from, plane_number, words_of, wrong_from}
-use Rattle.noc_rows.specs.Source.{ShowsNext, ShowsQueue, ShowsSource, begun_source, due_of, first_source, next_source, sent_source, start_in}
-use Rattle.noc_rows.specs.declared.block.Source.{Source}
-use Rattle.noc_rows.specs.declared.starts.Start.{Start}
-use Rattle.noc_rows.specs.declared.starts.TheConstants.{NEVER, END}
-use Rattle.noc_rows.proofs.AskLemmas.{vacant-is}
-use Rattle.noc_rows.proofs.BitLemmas.{least_is, lowest_members, not_fits}
-use Rattle.noc_rows.proofs.EachLemmas.{lowest-is}
-use Rattle.noc_rows.proofs.FlitLemmas.{free-members}
-use Rattle.noc_rows.proofs.NextLemmas.{next-shows, tail-is}
-use Rattle.noc_rows.proofs.OwnerLemmas.{or-zero}
-use Rattle.noc_rows.proofs.PassLemmas.{power-members}
-use Rattle.noc_rows.proofs.PlaneLemmas.{wrong-members}
+use Rattle.noc_row_words.specs.Passes.{injecting_after, lane_begins, lane_free, lane_injected}
+use Rattle.noc_row_words.specs.Planes.{any_from, plane_number, words_of, wrong_from}
+use Rattle.noc_row_words.specs.Source.{ShowsNext, ShowsQueue, ShowsSource, begun_source, due_of, first_source, next_source, sent_source, start_in}
+use Rattle.noc_row_words.specs.declared.block.Source.{Source}
+use Rattle.noc_row_words.specs.declared.starts.Start.{Start}
+use Rattle.noc_row_words.specs.declared.starts.TheConstants.{NEVER, END}
+use Rattle.noc_row_words.proofs.AskLemmas.{vacant-is}
+use Rattle.noc_row_words.proofs.BitLemmas.{least_is, lowest_members, not_fits}
+use Rattle.noc_row_words.proofs.EachLemmas.{lowest-is}
+use Rattle.noc_row_words.proofs.FlitLemmas.{free-members}
+use Rattle.noc_row_words.proofs.NextLemmas.{next-shows, tail-is}
+use Rattle.noc_row_words.proofs.OwnerLemmas.{or-zero}
+use Rattle.noc_row_words.proofs.PassLemmas.{power-members}
+use Rattle.noc_row_words.proofs.PlaneLemmas.{wrong-members}
 
 zero-or : (a : ℕ) → bit_or 0 a ≡ a
 zero-or a = same_set (bit_or 0 a) a (λ k. either_members 0 a k ∙ ap (λ b. b || has_bit a k) (has_bit-zero k))

@@ -12,7 +12,7 @@ use Rattle.noc_route.specs.Routes.{Routes}
 use Rattle.noc_vc.specs.Input.{idle_input, input_after_land}
 use Rattle.noc_router.specs.Arrivals.{is_expected_in, arrivals_after}
 use Rattle.noc_router.specs.View.{View, size_of, local_channel, view_buffer, view_input, is_vacant, with_injected, begun_on, view_after_inject_from, view_after_inject, with_misfit, with_arrival, tail_packet, flit_out, view_after_commit, decisions_of, view_after_takes, local_step}
-use Rattle.noc_rows.specs.Taken.{with_one, landed_by, HasSize}
+use Rattle.noc_row_words.specs.Taken.{with_one, landed_by, HasSize}
 use Rattle.noc_rows.specs.Injected.{injection_from, injection_in, injected_to, HasInjected}
 
 not-injected : (n : ℕ) (v : View) → HasInjected v (record v { given = n }) None

@@ -2,25 +2,25 @@
 use Rattle.std.proofs.Common.{◌≡◌, ℕ, ◌+◌, ◌%◌, ◌^◌, ◌<◌, List, refl, ap, sym, ◌∙◌, subst}
 use Rattle.std.specs.Prelude.{nat_eq, if◌then◌else◌}
 use Rattle.noc_rows.specs.Blank.{IsBlank}
-use Rattle.noc_rows.specs.Column.{Column}
-use Rattle.noc_rows.specs.Grants.{Allocation}
-use Rattle.noc_rows.specs.Moves.{ports_of, union_from}
-use Rattle.noc_rows.specs.Passes.{lane_asks, lane_heads}
-use Rattle.noc_rows.specs.Routed.{Routing}
-use Rattle.noc_rows.specs.Rows.{column_at, effects_at, standing_at, word}
-use Rattle.noc_rows.specs.Source.{source_at}
-use Rattle.noc_rows.specs.Stages.{HasConcluded, HasFrozen, HasMoved, selected_of}
-use Rattle.noc_rows.specs.declared.block.Block.{Block}
-use Rattle.noc_rows.specs.declared.block.Source.{Source}
-use Rattle.noc_rows.specs.declared.column.Lanes.{Lanes}
-use Rattle.noc_rows.specs.declared.cycle.DecidedRows.{DecidedRows}
-use Rattle.noc_rows.specs.declared.cycle.Standing.{Standing}
-use Rattle.noc_rows.specs.declared.frame.Frame.{Frame}
-use Rattle.noc_rows.specs.declared.sheet.Sheet.{Sheet}
-use Rattle.noc_rows.specs.declared.starts.Start.{Start}
-use Rattle.noc_rows.specs.declared.starts.TheConstants.{NEVER}
-use Rattle.noc_rows.specs.declared.wires.Inbox.{Inbox}
-use Rattle.noc_rows.specs.declared.wires.Wires.{Wires}
+use Rattle.noc_row_words.specs.Column.{Column}
+use Rattle.noc_row_words.specs.Grants.{Allocation}
+use Rattle.noc_row_blocks.specs.Moves.{ports_of, union_from}
+use Rattle.noc_row_words.specs.Passes.{lane_asks, lane_heads}
+use Rattle.noc_row_blocks.specs.Routed.{Routing}
+use Rattle.noc_row_words.specs.Rows.{column_at, effects_at, standing_at, word}
+use Rattle.noc_row_words.specs.Source.{source_at}
+use Rattle.noc_row_blocks.specs.Stages.{HasConcluded, HasFrozen, HasMoved, selected_of}
+use Rattle.noc_row_words.specs.declared.block.Block.{Block}
+use Rattle.noc_row_words.specs.declared.block.Source.{Source}
+use Rattle.noc_row_words.specs.declared.column.Lanes.{Lanes}
+use Rattle.noc_row_words.specs.declared.cycle.DecidedRows.{DecidedRows}
+use Rattle.noc_row_words.specs.declared.cycle.Standing.{Standing}
+use Rattle.noc_row_words.specs.declared.frame.Frame.{Frame}
+use Rattle.noc_row_words.specs.declared.sheet.Sheet.{Sheet}
+use Rattle.noc_row_words.specs.declared.starts.Start.{Start}
+use Rattle.noc_row_words.specs.declared.starts.TheConstants.{NEVER}
+use Rattle.noc_row_words.specs.declared.wires.Inbox.{Inbox}
+use Rattle.noc_row_words.specs.declared.wires.Wires.{Wires}
 use Rattle.noc_model.specs.Network.{Setup}
 use Rattle.noc_rows.proofs.BlankLaws.{ArrivesBlank, blank-arrives, blank-asks, blank-event, blank-settles, blank-stands, none-moved, none-rest}
 use Rattle.noc_rows.proofs.LaneNext.{LaneChosen}

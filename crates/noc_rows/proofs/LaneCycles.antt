@@ -8,27 +8,27 @@ use Rattle.noc_topo.proofs.WordLemmas.{get_or-tabulate}
 use Rattle.noc_packet.specs.Set.{has_bit}
 use Rattle.noc_packet.proofs.SetLemmas.{has_bit-zero}
 use Rattle.noc_model.specs.Network.{Setup}
-use Rattle.noc_rows.specs.Bits.{less, lowest, negation}
-use Rattle.noc_rows.specs.Column.{Column, RouterMarks}
-use Rattle.noc_rows.specs.Cycle.{HasSwitched, chosen_by, single_in}
-use Rattle.noc_rows.specs.Moves.{dry_by, of_one, ports_of, rest_from, taken_in, to_port_in, turn_in, turned_by, union_from}
-use Rattle.noc_rows.specs.Passes.{lane_picked, settled_lane}
-use Rattle.noc_rows.specs.Rows.{column_at, effects_at, marks_at, word}
-use Rattle.noc_rows.specs.Stages.{HasConcluded, HasFrozen, HasMoved, selected_of}
-use Rattle.noc_rows.specs.Switched.{HaveReleased, selected_by_ports}
-use Rattle.noc_rows.specs.Turns.{in_turn}
-use Rattle.noc_rows.specs.declared.block.Block.{Block}
-use Rattle.noc_rows.specs.declared.column.Lanes.{Lanes}
-use Rattle.noc_rows.specs.declared.cycle.DecidedRows.{DecidedRows}
-use Rattle.noc_rows.specs.declared.cycle.Returned.{Returned}
-use Rattle.noc_rows.specs.declared.cycle.Standing.{Standing}
-use Rattle.noc_rows.specs.declared.frame.Frame.{Frame}
-use Rattle.noc_rows.specs.declared.marks.Marks.{Marks}
-use Rattle.noc_rows.specs.declared.sheet.Sheet.{Sheet}
-use Rattle.noc_rows.specs.declared.starts.Start.{Start}
-use Rattle.noc_rows.specs.declared.wires.Inbox.{Inbox}
-use Rattle.noc_rows.specs.declared.wires.Wires.{Wires}
-use Rattle.noc_rows.proofs.BitLemmas.{least_below}
+use Rattle.noc_row_words.specs.Bits.{less, lowest, negation}
+use Rattle.noc_row_words.specs.Column.{Column, RouterMarks}
+use Rattle.noc_row_blocks.specs.Cycle.{HasSwitched, chosen_by, single_in}
+use Rattle.noc_row_blocks.specs.Moves.{dry_by, of_one, ports_of, rest_from, taken_in, to_port_in, turn_in, turned_by, union_from}
+use Rattle.noc_row_words.specs.Passes.{lane_picked, settled_lane}
+use Rattle.noc_row_words.specs.Rows.{column_at, effects_at, marks_at, word}
+use Rattle.noc_row_blocks.specs.Stages.{HasConcluded, HasFrozen, HasMoved, selected_of}
+use Rattle.noc_row_blocks.specs.Switched.{HaveReleased, selected_by_ports}
+use Rattle.noc_row_words.specs.Turns.{in_turn}
+use Rattle.noc_row_words.specs.declared.block.Block.{Block}
+use Rattle.noc_row_words.specs.declared.column.Lanes.{Lanes}
+use Rattle.noc_row_words.specs.declared.cycle.DecidedRows.{DecidedRows}
+use Rattle.noc_row_words.specs.declared.cycle.Returned.{Returned}
+use Rattle.noc_row_words.specs.declared.cycle.Standing.{Standing}
+use Rattle.noc_row_words.specs.declared.frame.Frame.{Frame}
+use Rattle.noc_row_words.specs.declared.marks.Marks.{Marks}
+use Rattle.noc_row_words.specs.declared.sheet.Sheet.{Sheet}
+use Rattle.noc_row_words.specs.declared.starts.Start.{Start}
+use Rattle.noc_row_words.specs.declared.wires.Inbox.{Inbox}
+use Rattle.noc_row_words.specs.declared.wires.Wires.{Wires}
+use Rattle.noc_row_words.proofs.BitLemmas.{least_below}
 use Rattle.noc_rows.proofs.LaneNext.{LaneChosen, of-lane, selected-same}
 use Rattle.noc_rows.proofs.LaneShows.{KeepsFrozen, LaneCycled}
 use Rattle.noc_rows.proofs.SwitchedLaws.{union-same}

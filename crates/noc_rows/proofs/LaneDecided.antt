@@ -5,21 +5,21 @@ use Rattle.noc_packet.specs.Set.{has_bit}
 use Rattle.noc_packet.specs.declared.packet.Flit.{Flit}
 use Rattle.noc_route.specs.Routes.{Routes, width}
 use Rattle.noc_model.specs.Network.{Setup}
-use Rattle.noc_rows.specs.Column.{place_of}
-use Rattle.noc_rows.specs.Cycle.{HasChosen}
-use Rattle.noc_rows.specs.Decided.{HasChosenIn}
-use Rattle.noc_rows.specs.FlitWords.{flit_word}
-use Rattle.noc_rows.specs.Grants.{Allocation, leads_by, leads_to}
-use Rattle.noc_rows.specs.Passes.{lane_heads}
-use Rattle.noc_rows.specs.Routed.{sets_by}
-use Rattle.noc_rows.specs.Rows.{column_at, word}
-use Rattle.noc_rows.specs.Stages.{HasFrozen}
-use Rattle.noc_rows.specs.Wires.{ring_in}
-use Rattle.noc_rows.specs.declared.block.Block.{Block}
-use Rattle.noc_rows.specs.declared.cycle.Standing.{Standing}
-use Rattle.noc_rows.specs.declared.frame.Frame.{Frame}
-use Rattle.noc_rows.specs.declared.starts.Start.{Start}
-use Rattle.noc_rows.specs.declared.wires.Inbox.{Inbox}
+use Rattle.noc_row_words.specs.Column.{place_of}
+use Rattle.noc_row_blocks.specs.Cycle.{HasChosen}
+use Rattle.noc_row_blocks.specs.Decided.{HasChosenIn}
+use Rattle.noc_row_words.specs.FlitWords.{flit_word}
+use Rattle.noc_row_words.specs.Grants.{Allocation, leads_by, leads_to}
+use Rattle.noc_row_words.specs.Passes.{lane_heads}
+use Rattle.noc_row_blocks.specs.Routed.{sets_by}
+use Rattle.noc_row_words.specs.Rows.{column_at, word}
+use Rattle.noc_row_blocks.specs.Stages.{HasFrozen}
+use Rattle.noc_row_words.specs.Wires.{ring_in}
+use Rattle.noc_row_words.specs.declared.block.Block.{Block}
+use Rattle.noc_row_words.specs.declared.cycle.Standing.{Standing}
+use Rattle.noc_row_words.specs.declared.frame.Frame.{Frame}
+use Rattle.noc_row_words.specs.declared.starts.Start.{Start}
+use Rattle.noc_row_words.specs.declared.wires.Inbox.{Inbox}
 use Rattle.noc_rows.proofs.LaneNext.{LaneChosen, allocation_in, routes_in}
 use Rattle.noc_rows.proofs.LaneShows.{KeepsFrozen}
 

@@ -19,29 +19,29 @@ use Rattle.noc_model.specs.Good.{IsGoodSetup}
 use Rattle.noc_model.specs.Lockstep.{beat_by, beats_in, site_at, view_at, view_in}
 use Rattle.noc_model.specs.Network.{Setup, size, state_at}
 use Rattle.noc_model.proofs.ViewLemmas.{view_at-seen}
-use Rattle.noc_rows.specs.Arrive.{HasArrived}
-use Rattle.noc_rows.specs.Carried.{first_of}
-use Rattle.noc_rows.specs.Column.{Column, IsColumn, Leads, RouterMarks, ShowsHolder, ShowsPhase, place_of, sends_by}
-use Rattle.noc_rows.specs.Cycle.{AreTails, HasChosen, Surroundings, chosen_by}
-use Rattle.noc_rows.specs.FlitWords.{flit_word}
-use Rattle.noc_rows.specs.Frames.{IsFrameOf}
-use Rattle.noc_rows.specs.Grants.{Allocation, ShowsGrants, leads_by, leads_to}
+use Rattle.noc_row_blocks.specs.Arrive.{HasArrived}
+use Rattle.noc_row_blocks.specs.Carried.{first_of}
+use Rattle.noc_row_words.specs.Column.{Column, IsColumn, Leads, RouterMarks, ShowsHolder, ShowsPhase, place_of, sends_by}
+use Rattle.noc_row_blocks.specs.Cycle.{AreTails, HasChosen, Surroundings, chosen_by}
+use Rattle.noc_row_words.specs.FlitWords.{flit_word}
+use Rattle.noc_row_words.specs.Frames.{IsFrameOf}
+use Rattle.noc_row_words.specs.Grants.{Allocation, ShowsGrants, leads_by, leads_to}
 use Rattle.noc_rows.specs.InRows.{ShowsRouter}
-use Rattle.noc_rows.specs.Moves.{ports_of, selected_in, union_from}
+use Rattle.noc_row_blocks.specs.Moves.{ports_of, selected_in, union_from}
 use Rattle.noc_rows.specs.Opened.{HasLinksOf}
-use Rattle.noc_rows.specs.Passes.{lane_asks, lane_heads, lane_picked}
-use Rattle.noc_rows.specs.Routed.{sets_by}
-use Rattle.noc_rows.specs.Rows.{allocation_at, column_at, marks_at, of_router, planes_of, word}
-use Rattle.noc_rows.specs.Switched.{HasFirst}
-use Rattle.noc_rows.specs.Turns.{first_bit}
+use Rattle.noc_row_words.specs.Passes.{lane_asks, lane_heads, lane_picked}
+use Rattle.noc_row_blocks.specs.Routed.{sets_by}
+use Rattle.noc_row_words.specs.Rows.{allocation_at, column_at, marks_at, of_router, planes_of, word}
+use Rattle.noc_row_blocks.specs.Switched.{HasFirst}
+use Rattle.noc_row_words.specs.Turns.{first_bit}
 use Rattle.noc_rows.specs.Whole.{lane_words}
-use Rattle.noc_rows.specs.Wires.{ring_in}
-use Rattle.noc_rows.specs.declared.block.Block.{Block}
-use Rattle.noc_rows.specs.declared.frame.Frame.{Frame}
-use Rattle.noc_rows.specs.declared.marks.Marks.{Marks}
-use Rattle.noc_rows.specs.declared.sheet.Sheet.{Sheet}
-use Rattle.noc_rows.specs.declared.starts.Start.{Start}
-use Rattle.noc_rows.specs.declared.wires.Inbox.{Inbox}
+use Rattle.noc_row_words.specs.Wires.{ring_in}
+use Rattle.noc_row_words.specs.declared.block.Block.{Block}
+use Rattle.noc_row_words.specs.declared.frame.Frame.{Frame}
+use Rattle.noc_row_words.specs.declared.marks.Marks.{Marks}
+use Rattle.noc_row_words.specs.declared.sheet.Sheet.{Sheet}
+use Rattle.noc_row_words.specs.declared.starts.Start.{Start}
+use Rattle.noc_row_words.specs.declared.wires.Inbox.{Inbox}
 use Rattle.noc_rows.proofs.ChosenLaws.{IsStill, ShowsChosen, choice, given}
 use Rattle.noc_rows.proofs.CycleLaws.{still}
 use Rattle.noc_rows.proofs.FrozenLaws.{IsFrozen, arrived-frozen}
@@ -50,7 +50,7 @@ use Rattle.noc_rows.proofs.LeadLaws.{back-leads, lead-leads}
 use Rattle.noc_rows.proofs.MoveLaws.{moved-is}
 use Rattle.noc_rows.proofs.NetworkLaws.{beats, beats-taken, frozen-seen, frozen-tidy, frozen_view, start-size, start-tidy}
 use Rattle.noc_rows.proofs.RoundLaws.{AreRound, round-allocated, round-quiet}
-use Rattle.noc_rows.proofs.SwitchLemmas.{AreMoved}
+use Rattle.noc_row_words.proofs.SwitchLemmas.{AreMoved}
 use Rattle.noc_rows.proofs.SwitchedLaws.{active-granted, active-headless, chosen-below, chosen-is, moved-below, moved-picked, moving, picked-is, union-same}
 use Rattle.noc_rows.proofs.TallyLaws.{arrived-event}
 

@@ -6,17 +6,17 @@ use Rattle.noc_packet.specs.Set.{has_bit}
 use Rattle.noc_router.specs.View.{Site, View, first_flit, is_tail, size_of, view_input}
 use Rattle.noc_model.specs.Good.{IsGoodSetup}
 use Rattle.noc_model.specs.Network.{Setup, size}
-use Rattle.noc_rows.specs.Column.{place_of, sends_by}
-use Rattle.noc_rows.specs.Cycle.{Surroundings, chosen_by}
-use Rattle.noc_rows.specs.Frames.{IsFrameOf}
-use Rattle.noc_rows.specs.Moves.{ports_of, selected_in, union_from}
+use Rattle.noc_row_words.specs.Column.{place_of, sends_by}
+use Rattle.noc_row_blocks.specs.Cycle.{Surroundings, chosen_by}
+use Rattle.noc_row_words.specs.Frames.{IsFrameOf}
+use Rattle.noc_row_blocks.specs.Moves.{ports_of, selected_in, union_from}
 use Rattle.noc_rows.specs.Opened.{HasLinksOf}
-use Rattle.noc_rows.specs.Passes.{lane_picked}
-use Rattle.noc_rows.specs.Rows.{column_at, marks_at, word}
-use Rattle.noc_rows.specs.declared.block.Block.{Block}
-use Rattle.noc_rows.specs.declared.frame.Frame.{Frame}
-use Rattle.noc_rows.specs.declared.starts.Start.{Start}
-use Rattle.noc_rows.specs.declared.wires.Inbox.{Inbox}
+use Rattle.noc_row_words.specs.Passes.{lane_picked}
+use Rattle.noc_row_words.specs.Rows.{column_at, marks_at, word}
+use Rattle.noc_row_words.specs.declared.block.Block.{Block}
+use Rattle.noc_row_words.specs.declared.frame.Frame.{Frame}
+use Rattle.noc_row_words.specs.declared.starts.Start.{Start}
+use Rattle.noc_row_words.specs.declared.wires.Inbox.{Inbox}
 use Rattle.noc_rows.proofs.ChosenLaws.{IsStill, ShowsChosen, choice, given}
 use Rattle.noc_rows.proofs.FrozenLaws.{IsFrozen}
 use Rattle.noc_rows.proofs.FrozenWires.{frozen_of}

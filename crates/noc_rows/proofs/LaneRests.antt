@@ -17,29 +17,29 @@ use Rattle.noc_model.specs.Good.{IsGoodSetup}
 use Rattle.noc_model.specs.Halves.{IsSilent}
 use Rattle.noc_model.specs.Lockstep.{beats_at, beats_in, view_at}
 use Rattle.noc_model.specs.Network.{Setup, state_at}
-use Rattle.noc_rows.specs.Column.{ShowsWires, place_of}
-use Rattle.noc_rows.specs.FlitWords.{flit_word}
-use Rattle.noc_rows.specs.Frames.{IsFrameOf}
+use Rattle.noc_row_words.specs.Column.{ShowsWires, place_of}
+use Rattle.noc_row_words.specs.FlitWords.{flit_word}
+use Rattle.noc_row_words.specs.Frames.{IsFrameOf}
 use Rattle.noc_rows.specs.InRows.{ShowsRouter}
-use Rattle.noc_rows.specs.Moves.{union_from}
+use Rattle.noc_row_blocks.specs.Moves.{union_from}
 use Rattle.noc_rows.specs.Opened.{HasLinksOf}
-use Rattle.noc_rows.specs.Outlook.{holding_in, least_below, is_some_below}
-use Rattle.noc_rows.specs.Rows.{column_at, word}
-use Rattle.noc_rows.specs.Taken.{with_one}
+use Rattle.noc_row_blocks.specs.Outlook.{holding_in, least_below, is_some_below}
+use Rattle.noc_row_words.specs.Rows.{column_at, word}
+use Rattle.noc_row_words.specs.Taken.{with_one}
 use Rattle.noc_rows.specs.Whole.{lane_words}
-use Rattle.noc_rows.specs.Wires.{ring_in}
-use Rattle.noc_rows.specs.declared.block.Block.{Block}
-use Rattle.noc_rows.specs.declared.frame.Frame.{Frame}
-use Rattle.noc_rows.specs.declared.sheet.Sheet.{Sheet}
-use Rattle.noc_rows.specs.declared.starts.Start.{Start}
-use Rattle.noc_rows.specs.declared.wires.Inbox.{Inbox}
+use Rattle.noc_row_words.specs.Wires.{ring_in}
+use Rattle.noc_row_words.specs.declared.block.Block.{Block}
+use Rattle.noc_row_words.specs.declared.frame.Frame.{Frame}
+use Rattle.noc_row_words.specs.declared.sheet.Sheet.{Sheet}
+use Rattle.noc_row_words.specs.declared.starts.Start.{Start}
+use Rattle.noc_row_words.specs.declared.wires.Inbox.{Inbox}
 use Rattle.noc_rows.proofs.FrozenWires.{frozen_of}
 use Rattle.noc_rows.proofs.LaneNext.{SendsBy}
 use Rattle.noc_rows.proofs.LeadLaws.{back-leads}
 use Rattle.noc_rows.proofs.NetworkLaws.{beats}
 use Rattle.noc_rows.proofs.SleepLaws.{IsAsleep, all-silent, asleep-held}
 use Rattle.noc_rows.proofs.StayLaws.{all-stay, asleep-shown, router-stays, silent-flit, silent-shown}
-use Rattle.noc_rows.proofs.SwitchLemmas.{AreMoved}
+use Rattle.noc_row_words.proofs.SwitchLemmas.{AreMoved}
 
 -- ---- what a block that holds nothing says of its lanes
 

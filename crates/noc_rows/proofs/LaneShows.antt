@@ -8,35 +8,35 @@ use Rattle.noc_model.specs.declared.limits.TheConstants.{CYCLE_LIMIT}
 use Rattle.noc_model.specs.Good.{IsGoodSetup}
 use Rattle.noc_model.specs.Lockstep.{beats_at, beats_in, view_at}
 use Rattle.noc_model.specs.Network.{Setup, state_at}
-use Rattle.noc_rows.specs.Column.{IsColumn, ShowsWires, place_of}
-use Rattle.noc_rows.specs.Cycle.{HasCycled, chosen_by}
-use Rattle.noc_rows.specs.Frames.{IsFrameOf}
-use Rattle.noc_rows.specs.Grants.{Allocation, AreTallied, KeepsMoves, KeepsPlaces}
+use Rattle.noc_row_words.specs.Column.{IsColumn, ShowsWires, place_of}
+use Rattle.noc_row_blocks.specs.Cycle.{HasCycled, chosen_by}
+use Rattle.noc_row_words.specs.Frames.{IsFrameOf}
+use Rattle.noc_row_words.specs.Grants.{Allocation, AreTallied, KeepsMoves, KeepsPlaces}
 use Rattle.noc_rows.specs.InRows.{ShowsRouter}
-use Rattle.noc_rows.specs.Moves.{ports_of, union_from}
+use Rattle.noc_row_blocks.specs.Moves.{ports_of, union_from}
 use Rattle.noc_rows.specs.Opened.{HasLinksOf}
-use Rattle.noc_rows.specs.Passes.{lane_asks, lane_heads, lane_picked, lane_standing, lane_verdicts}
-use Rattle.noc_rows.specs.Routed.{Routing}
-use Rattle.noc_rows.specs.Rows.{column_at, effects_at, event_in, marks_at, of_router, standing_at, word}
-use Rattle.noc_rows.specs.Source.{ShowsSource, source_at}
-use Rattle.noc_rows.specs.Stages.{HasConcluded, HasFrozen, HasMoved}
-use Rattle.noc_rows.specs.Tallied.{ShowsCounts, ShowsLastEvent, cycles_of, sheet_counts, with_verdicts}
+use Rattle.noc_row_words.specs.Passes.{lane_asks, lane_heads, lane_picked, lane_standing, lane_verdicts}
+use Rattle.noc_row_blocks.specs.Routed.{Routing}
+use Rattle.noc_row_words.specs.Rows.{column_at, effects_at, event_in, marks_at, of_router, standing_at, word}
+use Rattle.noc_row_words.specs.Source.{ShowsSource, source_at}
+use Rattle.noc_row_blocks.specs.Stages.{HasConcluded, HasFrozen, HasMoved}
+use Rattle.noc_row_words.specs.Tallied.{ShowsCounts, ShowsLastEvent, cycles_of, sheet_counts, with_verdicts}
 use Rattle.noc_rows.specs.Whole.{lane_words}
-use Rattle.noc_rows.specs.Wires.{ring_in}
-use Rattle.noc_rows.specs.declared.block.Block.{Block}
-use Rattle.noc_rows.specs.declared.column.Lanes.{Lanes}
-use Rattle.noc_rows.specs.declared.cycle.ArrivedRows.{ArrivedRows}
-use Rattle.noc_rows.specs.declared.cycle.DecidedRows.{DecidedRows}
-use Rattle.noc_rows.specs.declared.cycle.ReturnedRows.{ReturnedRows}
-use Rattle.noc_rows.specs.declared.cycle.StandingRows.{StandingRows}
-use Rattle.noc_rows.specs.declared.cycle.Standing.{Standing}
-use Rattle.noc_rows.specs.declared.frame.Frame.{Frame}
-use Rattle.noc_rows.specs.declared.marks.Marks.{Marks}
-use Rattle.noc_rows.specs.declared.marks.Tallies.{Tallies}
-use Rattle.noc_rows.specs.declared.sheet.Sheet.{Sheet}
-use Rattle.noc_rows.specs.declared.starts.Start.{Start}
-use Rattle.noc_rows.specs.declared.wires.Inbox.{Inbox}
-use Rattle.noc_rows.specs.declared.wires.Wires.{Wires}
+use Rattle.noc_row_words.specs.Wires.{ring_in}
+use Rattle.noc_row_words.specs.declared.block.Block.{Block}
+use Rattle.noc_row_words.specs.declared.column.Lanes.{Lanes}
+use Rattle.noc_row_words.specs.declared.cycle.ArrivedRows.{ArrivedRows}
+use Rattle.noc_row_words.specs.declared.cycle.DecidedRows.{DecidedRows}
+use Rattle.noc_row_words.specs.declared.cycle.ReturnedRows.{ReturnedRows}
+use Rattle.noc_row_words.specs.declared.cycle.StandingRows.{StandingRows}
+use Rattle.noc_row_words.specs.declared.cycle.Standing.{Standing}
+use Rattle.noc_row_words.specs.declared.frame.Frame.{Frame}
+use Rattle.noc_row_words.specs.declared.marks.Marks.{Marks}
+use Rattle.noc_row_words.specs.declared.marks.Tallies.{Tallies}
+use Rattle.noc_row_words.specs.declared.sheet.Sheet.{Sheet}
+use Rattle.noc_row_words.specs.declared.starts.Start.{Start}
+use Rattle.noc_row_words.specs.declared.wires.Inbox.{Inbox}
+use Rattle.noc_row_words.specs.declared.wires.Wires.{Wires}
 use Rattle.noc_rows.proofs.CycleLaws.{column-after, source-after}
 use Rattle.noc_rows.proofs.FrozenLaws.{IsFrozen}
 use Rattle.noc_rows.proofs.FrozenWires.{frozen_of}

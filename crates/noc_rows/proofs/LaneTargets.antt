@@ -14,21 +14,21 @@ use Rattle.noc_model.specs.Good.{IsGoodSetup}
 use Rattle.noc_model.specs.Lockstep.{site_at}
 use Rattle.noc_model.specs.Network.{Setup, size}
 use Rattle.noc_model.proofs.PlaceViews.{in-size, mod-below}
-use Rattle.noc_rows.specs.Column.{Leads, LeadsToPlace, RouterMarks, place_of}
-use Rattle.noc_rows.specs.Frames.{IsFrameOf}
-use Rattle.noc_rows.specs.Grants.{Allocation, HasAllocated, leads_by, leads_to, winner}
-use Rattle.noc_rows.specs.Moves.{some_below}
+use Rattle.noc_row_words.specs.Column.{Leads, LeadsToPlace, RouterMarks, place_of}
+use Rattle.noc_row_words.specs.Frames.{IsFrameOf}
+use Rattle.noc_row_words.specs.Grants.{Allocation, HasAllocated, leads_by, leads_to, winner}
+use Rattle.noc_row_blocks.specs.Moves.{some_below}
 use Rattle.noc_rows.specs.Opened.{HasLinksOf, LeadsOut}
-use Rattle.noc_rows.specs.Passes.{lane_asks, lane_heads}
-use Rattle.noc_rows.specs.Routed.{Routing}
-use Rattle.noc_rows.specs.Rows.{column_at, marks_at, word}
+use Rattle.noc_row_words.specs.Passes.{lane_asks, lane_heads}
+use Rattle.noc_row_blocks.specs.Routed.{Routing}
+use Rattle.noc_row_words.specs.Rows.{column_at, marks_at, word}
 use Rattle.noc_rows.specs.Whole.{IsTarget}
-use Rattle.noc_rows.specs.declared.block.Block.{Block}
-use Rattle.noc_rows.specs.declared.frame.Frame.{Frame}
-use Rattle.noc_rows.specs.declared.starts.Start.{Start}
-use Rattle.noc_rows.specs.declared.wires.Inbox.{Inbox}
+use Rattle.noc_row_words.specs.declared.block.Block.{Block}
+use Rattle.noc_row_words.specs.declared.frame.Frame.{Frame}
+use Rattle.noc_row_words.specs.declared.starts.Start.{Start}
+use Rattle.noc_row_words.specs.declared.wires.Inbox.{Inbox}
 use Rattle.noc_rows.proofs.AllocateLaws.{asker}
-use Rattle.noc_rows.proofs.BitLemmas.{above_32}
+use Rattle.noc_row_words.proofs.BitLemmas.{above_32}
 use Rattle.noc_rows.proofs.ChosenLaws.{IsStill}
 use Rattle.noc_rows.proofs.FrozenLaws.{IsFrozen}
 use Rattle.noc_rows.proofs.FrozenWires.{frozen_of}

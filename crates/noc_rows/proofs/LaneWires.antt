@@ -12,15 +12,15 @@ use Rattle.noc_model.specs.Good.{IsGoodSetup}
 use Rattle.noc_model.specs.Lockstep.{beats_at, beats_in, site_at, view_at}
 use Rattle.noc_model.specs.Network.{Setup, size, state_at}
 use Rattle.noc_model.proofs.ViewLemmas.{view_at-seen}
-use Rattle.noc_rows.specs.Carried.{WireWords, HaveMoved, wire_words}
-use Rattle.noc_rows.specs.Column.{Leads, ShowsWires, place_of}
-use Rattle.noc_rows.specs.FlitWords.{flit_word}
-use Rattle.noc_rows.specs.Rows.{word}
-use Rattle.noc_rows.specs.Wires.{inbox_at, in_row, ring_in}
-use Rattle.noc_rows.specs.declared.wires.Inbox.{Inbox}
+use Rattle.noc_row_blocks.specs.Carried.{WireWords, HaveMoved, wire_words}
+use Rattle.noc_row_words.specs.Column.{Leads, ShowsWires, place_of}
+use Rattle.noc_row_words.specs.FlitWords.{flit_word}
+use Rattle.noc_row_words.specs.Rows.{word}
+use Rattle.noc_row_words.specs.Wires.{inbox_at, in_row, ring_in}
+use Rattle.noc_row_words.specs.declared.wires.Inbox.{Inbox}
 use Rattle.noc_rows.proofs.FrozenWires.{AreFrozenWires, frozen_of}
 use Rattle.noc_rows.proofs.NextWires.{next-wires}
-use Rattle.noc_rows.proofs.SwitchLemmas.{AreMoved}
+use Rattle.noc_row_words.proofs.SwitchLemmas.{AreMoved}
 
 -- channel i of the router with lane k of block b: channel k*32 + i of the block
 pub lane-place : (b k i : ℕ) → k < 32 → i < 32 → (place_of (b * 32 + k) i / 1024 ≡ b) × (place_of (b * 32 + k) i % 1024 ≡ place_of k i)

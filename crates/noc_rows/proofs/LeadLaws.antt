@@ -8,12 +8,12 @@ use Rattle.noc_topo.proofs.LinkLemmas.{hop_of}
 use Rattle.noc_model.specs.Good.{IsGoodSetup}
 use Rattle.noc_model.specs.Lockstep.{site_at}
 use Rattle.noc_model.specs.Network.{Setup}
-use Rattle.noc_rows.specs.Column.{Leads, LeadsToPlace, place_of}
-use Rattle.noc_rows.specs.Frames.{IsPlaced, opposite_channel}
-use Rattle.noc_rows.specs.Grants.{leads_by, leads_to}
+use Rattle.noc_row_words.specs.Column.{Leads, LeadsToPlace, place_of}
+use Rattle.noc_row_words.specs.Frames.{IsPlaced, opposite_channel}
+use Rattle.noc_row_words.specs.Grants.{leads_by, leads_to}
 use Rattle.noc_rows.specs.Opened.{HasLinksOf, LeadsOut}
-use Rattle.noc_rows.specs.declared.block.Block.{Block}
-use Rattle.noc_rows.specs.declared.frame.Frame.{Frame}
+use Rattle.noc_row_words.specs.declared.block.Block.{Block}
+use Rattle.noc_row_words.specs.declared.frame.Frame.{Frame}
 
 -- a channel by its port and virtual channel
 parts : (vcs i : ℕ) → 0 < vcs → i ≡ i / vcs * vcs + i % vcs

@@ -20,10 +20,10 @@ use Rattle.noc_model.specs.Network.{Setup, size, state_at}
 use Rattle.noc_model.proofs.JoinLemmas.{next-beats}
 use Rattle.noc_model.proofs.Joined.{phases}
 use Rattle.noc_model.proofs.OrderedStates.{ordered-state, ordered-mid, ordered-frozen}
-use Rattle.noc_rows.specs.Carried.{WireWords}
-use Rattle.noc_rows.specs.Column.{Leads, LeadsToPlace, place_of}
-use Rattle.noc_rows.specs.FlitWords.{flit_word}
-use Rattle.noc_rows.specs.Taken.{flit_from, flit_on_vc, credit_from}
+use Rattle.noc_row_blocks.specs.Carried.{WireWords}
+use Rattle.noc_row_words.specs.Column.{Leads, LeadsToPlace, place_of}
+use Rattle.noc_row_words.specs.FlitWords.{flit_word}
+use Rattle.noc_row_words.specs.Taken.{flit_from, flit_on_vc, credit_from}
 use Rattle.noc_rows.proofs.FrozenWires.{AreFrozenWires, frozen_of}
 use Rattle.noc_rows.proofs.PutLemmas.{IsMover, IsPut, bit-moves, flit-put, put-flit, credit-put, beat-next}
 use Rattle.noc_rows.proofs.NetworkLaws.{good, frozen-seen}

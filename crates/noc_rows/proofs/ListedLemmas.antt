@@ -11,9 +11,9 @@ use Rattle.noc_packet.specs.Packet.{IsWithinLimits}
 use Rattle.noc_packet.specs.declared.packet.Packet.{Packet}
 use Rattle.noc_model.specs.Lockstep.{starts_of}
 use Rattle.noc_rows.specs.Opened.{IsEndFrom, start_value, with_end, starts_list}
-use Rattle.noc_rows.specs.Source.{HasFlitWords, ShowsQueue, due_of, start_in}
-use Rattle.noc_rows.specs.declared.starts.Start.{Start}
-use Rattle.noc_rows.specs.declared.starts.TheConstants.{NEVER, END}
+use Rattle.noc_row_words.specs.Source.{HasFlitWords, ShowsQueue, due_of, start_in}
+use Rattle.noc_row_words.specs.declared.starts.Start.{Start}
+use Rattle.noc_row_words.specs.declared.starts.TheConstants.{NEVER, END}
 use Rattle.noc_rows.proofs.StartLemmas.{all-starts-hold, start-has, starts-few}
 
 -- one packet more of a queue

@@ -15,12 +15,12 @@ use Rattle.noc_vc.specs.declared.output.OutputState.TheVariants.{Idle as Free, O
 use Rattle.noc_router.specs.Requests.{is_given}
 use Rattle.noc_router.specs.Verdict.{ask_of}
 use Rattle.noc_router.specs.View.{Site, View, size_of, view_buffer, view_claim, claim_in, view_input, view_output, view_round, first_flit, is_tail, mover_to, decisions_of, view_after_commit, held_by, spent_by, route_of}
-use Rattle.noc_rows.specs.Column.{Column, IsColumn, RouterMarks, ShowsHolder, ShowsMarks, ShowsPhase, sends_by}
-use Rattle.noc_rows.specs.Cycle.{HasSwitched, Surroundings, single_in}
-use Rattle.noc_rows.specs.Grants.{Allocation, phase_granted, with_grant}
-use Rattle.noc_rows.specs.Moves.{ports_of}
-use Rattle.noc_rows.specs.Passes.{Effects, lane_heads, lane_picked, settled_lane}
-use Rattle.noc_rows.specs.declared.frame.Frame.{Frame}
+use Rattle.noc_row_words.specs.Column.{Column, IsColumn, RouterMarks, ShowsHolder, ShowsMarks, ShowsPhase, sends_by}
+use Rattle.noc_row_blocks.specs.Cycle.{HasSwitched, Surroundings, single_in}
+use Rattle.noc_row_words.specs.Grants.{Allocation, phase_granted, with_grant}
+use Rattle.noc_row_blocks.specs.Moves.{ports_of}
+use Rattle.noc_row_words.specs.Passes.{Effects, lane_heads, lane_picked, settled_lane}
+use Rattle.noc_row_words.specs.declared.frame.Frame.{Frame}
 use Rattle.noc_rows.proofs.ChosenLaws.{IsStill, ShowsChosen, phase-as}
 use Rattle.noc_rows.proofs.CommittedLemmas.{packet-committed}
 use Rattle.noc_rows.proofs.FateLaws.{Fate, Leaves, Sends, Gets, Begins, Rests, fate, output-by}

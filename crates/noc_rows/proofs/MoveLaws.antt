@@ -20,16 +20,16 @@ use Rattle.noc_router.specs.Members.{AreBelow}
 use Rattle.noc_router.specs.Standing.{is_won_from}
 use Rattle.noc_router.specs.Verdict.{arbiters_after, out_of}
 use Rattle.noc_router.specs.View.{View, size_of, view_input, view_claim, claim_in, view_round, first_flit, flit_out, is_tail, mover, mover_to}
-use Rattle.noc_rows.specs.Column.{sends_by}
-use Rattle.noc_rows.specs.Moves.{some_below, union_from, of_one, selected_by, dry_by, turned_by}
-use Rattle.noc_rows.specs.Turns.{in_turn}
-use Rattle.noc_rows.proofs.BitLemmas.{and_fits, least_is, lowest_members}
-use Rattle.noc_rows.proofs.PassLemmas.{power-members}
-use Rattle.noc_rows.proofs.SelectLemmas.{selected, wins-is, pick-of-member, in_turn-some}
-use Rattle.noc_rows.proofs.SettleLemmas.{is_tail_by}
-use Rattle.noc_rows.proofs.SwitchLemmas.{AreMoved}
-use Rattle.noc_rows.proofs.UnionLemmas.{some-none, some-one, some-same, some-and, union-members}
-use Rattle.noc_rows.proofs.WinnerLemmas.{ShowsPorts}
+use Rattle.noc_row_words.specs.Column.{sends_by}
+use Rattle.noc_row_blocks.specs.Moves.{some_below, union_from, of_one, selected_by, dry_by, turned_by}
+use Rattle.noc_row_words.specs.Turns.{in_turn}
+use Rattle.noc_row_words.proofs.BitLemmas.{and_fits, least_is, lowest_members}
+use Rattle.noc_row_words.proofs.PassLemmas.{power-members}
+use Rattle.noc_row_words.proofs.SelectLemmas.{selected, wins-is, pick-of-member, in_turn-some}
+use Rattle.noc_row_words.proofs.SettleLemmas.{is_tail_by}
+use Rattle.noc_row_words.proofs.SwitchLemmas.{AreMoved}
+use Rattle.noc_row_blocks.proofs.UnionLemmas.{some-none, some-one, some-same, some-and, union-members}
+use Rattle.noc_row_words.proofs.WinnerLemmas.{ShowsPorts}
 
 -- the words that the switch of a router goes by: the picked channels, by output port those that go by it, and the pointers
 pub record AreMoving (v : View) (picked : ℕ) (to turn : ℕ → ℕ) : Type 0 where

@@ -19,8 +19,8 @@ use Rattle.noc_model.proofs.Phases.{mid, IsTaken, IsInjected}
 use Rattle.noc_model.proofs.Theorem.{good-network}
 use Rattle.noc_model.proofs.ViewLemmas.{view_at-seen}
 use Rattle.noc_model.specs.Seen.{IsSeen}
-use Rattle.noc_rows.specs.Column.{IsTidy}
-use Rattle.noc_rows.specs.Taken.{HasSize, HasTaken, flit_from, credit_from}
+use Rattle.noc_row_words.specs.Column.{IsTidy}
+use Rattle.noc_row_words.specs.Taken.{HasSize, HasTaken, flit_from, credit_from}
 use Rattle.noc_rows.proofs.CommittedLemmas.{beats-fit}
 use Rattle.noc_rows.proofs.PointerLemmas.{AreArbiters, arbiters-start, arbiters-frozen_at}
 use Rattle.noc_rows.proofs.SteadyLemmas.{IsSteady, steady-start, steady-frozen, owed-at}

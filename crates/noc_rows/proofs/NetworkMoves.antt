@@ -14,19 +14,19 @@ use Rattle.noc_router.specs.View.{Site, View, size_of, view_buffer, view_input, 
 use Rattle.noc_model.specs.Good.{IsGoodSetup}
 use Rattle.noc_model.specs.Lockstep.{site_at}
 use Rattle.noc_model.specs.Network.{Setup, size}
-use Rattle.noc_rows.specs.Carried.{wire_words}
-use Rattle.noc_rows.specs.Column.{Leads, place_of}
-use Rattle.noc_rows.specs.FlitWords.{flit_word}
-use Rattle.noc_rows.specs.Moves.{some_below, union_from}
-use Rattle.noc_rows.specs.Rows.{word}
-use Rattle.noc_rows.specs.Wires.{inbox_at, ring_in}
-use Rattle.noc_rows.specs.declared.wires.Inbox.{Inbox}
+use Rattle.noc_row_blocks.specs.Carried.{wire_words}
+use Rattle.noc_row_words.specs.Column.{Leads, place_of}
+use Rattle.noc_row_words.specs.FlitWords.{flit_word}
+use Rattle.noc_row_blocks.specs.Moves.{some_below, union_from}
+use Rattle.noc_row_words.specs.Rows.{word}
+use Rattle.noc_row_words.specs.Wires.{inbox_at, ring_in}
+use Rattle.noc_row_words.specs.declared.wires.Inbox.{Inbox}
 use Rattle.noc_rows.proofs.FrozenWires.{AreFrozenWires, frozen_of}
 use Rattle.noc_rows.proofs.LaneWires.{IsFrozenLane, frozen-wires, lane-place}
 use Rattle.noc_rows.proofs.NetworkLaws.{frozen-seen}
-use Rattle.noc_rows.proofs.PassLemmas.{power-members}
-use Rattle.noc_rows.proofs.SwitchLemmas.{AreMoved}
-use Rattle.noc_rows.proofs.UnionLemmas.{some-none, some-one, union-members}
+use Rattle.noc_row_words.proofs.PassLemmas.{power-members}
+use Rattle.noc_row_words.proofs.SwitchLemmas.{AreMoved}
+use Rattle.noc_row_blocks.proofs.UnionLemmas.{some-none, some-one, union-members}
 
 -- ---- a set by a test
 

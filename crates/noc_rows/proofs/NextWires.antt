@@ -15,10 +15,10 @@ use Rattle.noc_model.specs.Good.{IsGoodSetup}
 use Rattle.noc_model.specs.Lockstep.{beats_at, beats_in, site_at, view_at}
 use Rattle.noc_model.specs.Network.{Setup, size, state_at}
 use Rattle.noc_model.proofs.ViewLemmas.{view_at-seen}
-use Rattle.noc_rows.specs.Carried.{WireWords, HaveMoved, NoneTo, left_of, first_of, without_first}
-use Rattle.noc_rows.specs.Column.{ShowsWires, place_of}
-use Rattle.noc_rows.specs.FlitWords.{flit_word}
-use Rattle.noc_rows.specs.Taken.{flit_from, credit_from, with_one}
+use Rattle.noc_row_blocks.specs.Carried.{WireWords, HaveMoved, NoneTo, left_of, first_of, without_first}
+use Rattle.noc_row_words.specs.Column.{ShowsWires, place_of}
+use Rattle.noc_row_words.specs.FlitWords.{flit_word}
+use Rattle.noc_row_words.specs.Taken.{flit_from, credit_from, with_one}
 use Rattle.noc_rows.proofs.FrozenWires.{AreFrozenWires, frozen_of}
 use Rattle.noc_rows.proofs.LinkLaws.{IsSent, gone-is, ring-is, flit-on, flit-sent, credit-on, credit-sent}
 use Rattle.noc_rows.proofs.PutLemmas.{buffer-next}

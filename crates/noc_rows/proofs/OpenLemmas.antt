@@ -6,12 +6,12 @@ use Rattle.std.proofs.lemmas.List.{get_or-replicate}
 use Rattle.noc_packet.specs.Set.{has_bit}
 use Rattle.noc_packet.proofs.SetLemmas.{either_members}
 use Rattle.noc_rows.specs.Opened.{no_source}
-use Rattle.noc_rows.specs.Outlook.{least_below}
-use Rattle.noc_rows.specs.Source.{source_at}
-use Rattle.noc_rows.specs.declared.block.Source.{Source}
-use Rattle.noc_rows.specs.declared.block.Sources.{Sources}
-use Rattle.noc_rows.proofs.PassLemmas.{power-members}
-use Rattle.noc_rows.proofs.WordLemmas.{power-is}
+use Rattle.noc_row_blocks.specs.Outlook.{least_below}
+use Rattle.noc_row_words.specs.Source.{source_at}
+use Rattle.noc_row_words.specs.declared.block.Source.{Source}
+use Rattle.noc_row_words.specs.declared.block.Sources.{Sources}
+use Rattle.noc_row_words.proofs.PassLemmas.{power-members}
+use Rattle.noc_row_words.proofs.WordLemmas.{power-is}
 
 -- one entry more, of which each is right
 pub entry-more : (xs : List ℕ) (base n v : ℕ) (R : ℕ → ℕ → Type 0) → base + n < length xs → ((q : ℕ) → q < n → R q (get_or xs (base + q) 0)) → R n v → (q : ℕ) → q < n + 1

@@ -15,22 +15,22 @@ use Rattle.noc_model.specs.Good.{IsGoodPacket, IsGoodSetup}
 use Rattle.noc_model.specs.Lockstep.{beats_at, beats_in, ends_at, site_at, starts_at, starts_of, view_at}
 use Rattle.noc_model.specs.Network.{Setup, state_at}
 use Rattle.noc_model.proofs.OpeningView.{opens}
-use Rattle.noc_rows.specs.Column.{IsColumn, RouterMarks, ShowsWires, place_of}
-use Rattle.noc_rows.specs.FlitWords.{slot}
+use Rattle.noc_row_words.specs.Column.{IsColumn, RouterMarks, ShowsWires, place_of}
+use Rattle.noc_row_words.specs.FlitWords.{slot}
 use Rattle.noc_rows.specs.InRows.{RouterWords, ShowsRouter}
 use Rattle.noc_rows.specs.Opened.{AreOpenWords, AreStartsOf, IsOpenBlock, IsOpenInbox, opened_source, starts_list}
-use Rattle.noc_rows.specs.Opening.{AreEmptyMarks, AreSides, empty_column}
-use Rattle.noc_rows.specs.Planes.{words_of}
-use Rattle.noc_rows.specs.Rows.{column_at, marks_at, planes_of, word}
-use Rattle.noc_rows.specs.Source.{ShowsNext, ShowsSource, source_at}
-use Rattle.noc_rows.specs.Tallied.{ShowsCounts, ShowsLastEvent, no_counts}
-use Rattle.noc_rows.specs.Wires.{ring_in}
-use Rattle.noc_rows.specs.declared.block.Block.{Block}
-use Rattle.noc_rows.specs.declared.block.Source.{Source}
-use Rattle.noc_rows.specs.declared.frame.Frame.{Frame}
-use Rattle.noc_rows.specs.declared.sheet.VerdictCounts.{VerdictCounts}
-use Rattle.noc_rows.specs.declared.starts.Start.{Start}
-use Rattle.noc_rows.specs.declared.wires.Inbox.{Inbox}
+use Rattle.noc_row_words.specs.Opening.{AreEmptyMarks, AreSides, empty_column}
+use Rattle.noc_row_words.specs.Planes.{words_of}
+use Rattle.noc_row_words.specs.Rows.{column_at, marks_at, planes_of, word}
+use Rattle.noc_row_words.specs.Source.{ShowsNext, ShowsSource, source_at}
+use Rattle.noc_row_words.specs.Tallied.{ShowsCounts, ShowsLastEvent, no_counts}
+use Rattle.noc_row_words.specs.Wires.{ring_in}
+use Rattle.noc_row_words.specs.declared.block.Block.{Block}
+use Rattle.noc_row_words.specs.declared.block.Source.{Source}
+use Rattle.noc_row_words.specs.declared.frame.Frame.{Frame}
+use Rattle.noc_row_words.specs.declared.sheet.VerdictCounts.{VerdictCounts}
+use Rattle.noc_row_words.specs.declared.starts.Start.{Start}
+use Rattle.noc_row_words.specs.declared.wires.Inbox.{Inbox}
 use Rattle.noc_rows.proofs.ListedLemmas.{list-few, list-shows}
 use Rattle.noc_rows.proofs.NetworkLaws.{good}
 use Rattle.noc_rows.proofs.OpeningLaws.{opening-shows}

@@ -22,11 +22,11 @@ use Rattle.noc_model.specs.Good.{IsGoodSetup}
 use Rattle.noc_model.specs.Lockstep.{site_at, starts_at, ends_at, view_at}
 use Rattle.noc_model.specs.Network.{Setup}
 use Rattle.noc_model.proofs.OpeningView.{opens}
-use Rattle.noc_rows.specs.Column.{Column, RouterMarks, AreWords, ShowsInput, ShowsOutput, ShowsChannels, ShowsTurns, ShowsMarks, ShowsPhase, ShowsHolder, sends_by, IsColumn}
-use Rattle.noc_rows.specs.Fields.{ShowsPointer}
-use Rattle.noc_rows.specs.Opening.{AreEmptyMarks, AreSides, empty_column}
-use Rattle.noc_rows.specs.Planes.{plane_number, ArePlanes, word_of, words_of}
-use Rattle.noc_rows.proofs.BitLemmas.{and_fits, or_fits}
+use Rattle.noc_row_words.specs.Column.{Column, RouterMarks, AreWords, ShowsInput, ShowsOutput, ShowsChannels, ShowsTurns, ShowsMarks, ShowsPhase, ShowsHolder, sends_by, IsColumn}
+use Rattle.noc_row_words.specs.Fields.{ShowsPointer}
+use Rattle.noc_row_words.specs.Opening.{AreEmptyMarks, AreSides, empty_column}
+use Rattle.noc_row_words.specs.Planes.{plane_number, ArePlanes, word_of, words_of}
+use Rattle.noc_row_words.proofs.BitLemmas.{and_fits, or_fits}
 use Rattle.noc_rows.proofs.NetworkLaws.{good}
 
 -- ---- numbers of a set of channels

@@ -16,9 +16,9 @@ use Rattle.noc_model.specs.Lockstep.{beat_by, beats_at, beats_in, site_at, view_
 use Rattle.noc_model.specs.Network.{Setup, opening_state, state_at}
 use Rattle.noc_model.proofs.OpeningView.{opens}
 use Rattle.noc_model.proofs.OpeningViews.{no-beat}
-use Rattle.noc_rows.specs.Column.{ShowsWires}
-use Rattle.noc_rows.specs.FlitWords.{flit_word}
-use Rattle.noc_rows.specs.Taken.{flit_from, flit_on_vc, credit_from, with_one}
+use Rattle.noc_row_words.specs.Column.{ShowsWires}
+use Rattle.noc_row_words.specs.FlitWords.{flit_word}
+use Rattle.noc_row_words.specs.Taken.{flit_from, flit_on_vc, credit_from, with_one}
 use Rattle.noc_rows.proofs.NetworkLaws.{good}
 use Rattle.noc_rows.proofs.WireLaws.{flit-at, credit-at}
 

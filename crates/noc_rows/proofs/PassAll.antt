@@ -7,13 +7,13 @@ use Rattle.std.proofs.lemmas.Option.{slice_get-get_or, slice_get_past, slice_get
 use Rattle.noc_packet.specs.Set.{has_bit}
 use Rattle.noc_packet.proofs.SetLemmas.{either_members}
 use Rattle.noc_model.proofs.CoreLemmas.{get_some}
-use Rattle.noc_rows.specs.Stages.{AreWoken, HasConcluded, HasFrozen, HaveConcluded, HaveFrozen, is_busy, next_of, woken}
-use Rattle.noc_rows.specs.Wires.{inbox_at}
-use Rattle.noc_rows.specs.declared.block.Block.{Block}
-use Rattle.noc_rows.specs.declared.frame.Frame.{Frame}
-use Rattle.noc_rows.specs.declared.sheet.Sheet.{Sheet}
-use Rattle.noc_rows.specs.declared.starts.Start.{Start}
-use Rattle.noc_rows.specs.declared.wires.Inbox.{Inbox}
+use Rattle.noc_row_blocks.specs.Stages.{AreWoken, HasConcluded, HasFrozen, HaveConcluded, HaveFrozen, is_busy, next_of, woken}
+use Rattle.noc_row_words.specs.Wires.{inbox_at}
+use Rattle.noc_row_words.specs.declared.block.Block.{Block}
+use Rattle.noc_row_words.specs.declared.frame.Frame.{Frame}
+use Rattle.noc_row_words.specs.declared.sheet.Sheet.{Sheet}
+use Rattle.noc_row_words.specs.declared.starts.Start.{Start}
+use Rattle.noc_row_words.specs.declared.wires.Inbox.{Inbox}
 
 -- ---- a write to a list
 pub write-there : {X : Type 0} (xs : List X) (i : ℕ) (x : X) → i < length xs → slice_get (set xs i x) i ≡ Some x

@@ -28,10 +28,10 @@ use Rattle.noc_router.specs.View.{Site, View, size_of, view_buffer, view_input, 
 use Rattle.noc_router.proofs.PlanFacts.{Mover, Moves, claim-holds, lists_of_round, mover-is, moves-is, verdict-moved, decided-is, verdict_in, holds_flit}
 use Rattle.noc_router.proofs.SettleLemmas.{flit-first, port_below}
 use Rattle.noc_router.proofs.StandLemmas.{ready_of-stands}
-use Rattle.noc_rows.specs.Taken.{HasSize}
+use Rattle.noc_row_words.specs.Taken.{HasSize}
 use Rattle.noc_rows.proofs.CommittedLemmas.{buffer-committed}
 use Rattle.noc_rows.proofs.GiveBackLaws.{credit-left}
-use Rattle.noc_rows.proofs.SwitchLemmas.{AreMoved}
+use Rattle.noc_row_words.proofs.SwitchLemmas.{AreMoved}
 
 -- input channel k of a router moves its first flit
 pub record IsMover (site : Site) (v : View) (k : ℕ) : Type 0 where

@@ -4,18 +4,18 @@ use Rattle.std.specs.Prelude.{◌⊎◌, ◌||◌, not, nat_eq}
 use Rattle.std.proofs.lemmas.Bool.{cases_eq, cases_lt, ne_eqb, true≢false}
 use Rattle.noc_packet.specs.Set.{has_bit}
 use Rattle.noc_packet.proofs.SetLemmas.{has_bit-zero, zero_from_none}
-use Rattle.noc_rows.specs.Carried.{HaveMoved, WireWords, wire_words}
-use Rattle.noc_rows.specs.Column.{place_of}
-use Rattle.noc_rows.specs.Outlook.{is_some_below}
-use Rattle.noc_rows.specs.Rows.{word}
-use Rattle.noc_rows.specs.Stages.{HasConcluded}
+use Rattle.noc_row_blocks.specs.Carried.{HaveMoved, WireWords, wire_words}
+use Rattle.noc_row_words.specs.Column.{place_of}
+use Rattle.noc_row_blocks.specs.Outlook.{is_some_below}
+use Rattle.noc_row_words.specs.Rows.{word}
+use Rattle.noc_row_blocks.specs.Stages.{HasConcluded}
 use Rattle.noc_rows.specs.Whole.{IsQuiet}
-use Rattle.noc_rows.specs.Wires.{inbox_at}
-use Rattle.noc_rows.specs.declared.block.Block.{Block}
-use Rattle.noc_rows.specs.declared.frame.Frame.{Frame}
-use Rattle.noc_rows.specs.declared.sheet.Sheet.{Sheet}
-use Rattle.noc_rows.specs.declared.wires.Inbox.{Inbox}
-use Rattle.noc_rows.proofs.BitLemmas.{above_32}
+use Rattle.noc_row_words.specs.Wires.{inbox_at}
+use Rattle.noc_row_words.specs.declared.block.Block.{Block}
+use Rattle.noc_row_words.specs.declared.frame.Frame.{Frame}
+use Rattle.noc_row_words.specs.declared.sheet.Sheet.{Sheet}
+use Rattle.noc_row_words.specs.declared.wires.Inbox.{Inbox}
+use Rattle.noc_row_words.proofs.BitLemmas.{above_32}
 use Rattle.noc_rows.proofs.LaneWires.{lane-comes, lane-place, lane-returns}
 
 -- ---- nothing has come where nothing has gone

@@ -15,18 +15,18 @@ use Rattle.noc_router.specs.View.{Site, size_of, view_input, view_round}
 use Rattle.noc_model.specs.Good.{IsGoodSetup}
 use Rattle.noc_model.specs.Lockstep.{site_at}
 use Rattle.noc_model.specs.Network.{Setup, size}
-use Rattle.noc_rows.specs.Carried.{HaveMoved, WireWords, wire_words}
-use Rattle.noc_rows.specs.Column.{Leads, place_of}
-use Rattle.noc_rows.specs.Frames.{IsFrameOf}
+use Rattle.noc_row_blocks.specs.Carried.{HaveMoved, WireWords, wire_words}
+use Rattle.noc_row_words.specs.Column.{Leads, place_of}
+use Rattle.noc_row_words.specs.Frames.{IsFrameOf}
 use Rattle.noc_rows.specs.Opened.{HasLinksOf}
-use Rattle.noc_rows.specs.Rows.{word}
-use Rattle.noc_rows.specs.Stages.{HaveConcluded}
+use Rattle.noc_row_words.specs.Rows.{word}
+use Rattle.noc_row_blocks.specs.Stages.{HaveConcluded}
 use Rattle.noc_rows.specs.Whole.{IsQuiet, IsTarget}
-use Rattle.noc_rows.specs.Wires.{inbox_at}
-use Rattle.noc_rows.specs.declared.block.Block.{Block}
-use Rattle.noc_rows.specs.declared.frame.Frame.{Frame}
-use Rattle.noc_rows.specs.declared.sheet.Sheet.{Sheet}
-use Rattle.noc_rows.specs.declared.wires.Inbox.{Inbox}
+use Rattle.noc_row_words.specs.Wires.{inbox_at}
+use Rattle.noc_row_words.specs.declared.block.Block.{Block}
+use Rattle.noc_row_words.specs.declared.frame.Frame.{Frame}
+use Rattle.noc_row_words.specs.declared.sheet.Sheet.{Sheet}
+use Rattle.noc_row_words.specs.declared.wires.Inbox.{Inbox}
 use Rattle.noc_rows.proofs.FrozenWires.{AreFrozenWires, frozen_of}
 use Rattle.noc_rows.proofs.LaneTargets.{leads-near}
 use Rattle.noc_rows.proofs.LaneWires.{lane-comes, lane-returns}

@@ -20,14 +20,14 @@ use Rattle.noc_model.proofs.CoreLemmas.{get_some}
 use Rattle.noc_model.proofs.LastEvent.{last-is}
 use Rattle.noc_model.proofs.ViewLemmas.{view_at-seen}
 use Rattle.noc_rows.specs.Readers.{IsGreatestIn, IsLatest, are_all_out}
-use Rattle.noc_rows.specs.Rows.{word}
-use Rattle.noc_rows.specs.Tallied.{ShowsCounts, ShowsLastEvent, counts_by}
+use Rattle.noc_row_words.specs.Rows.{word}
+use Rattle.noc_row_words.specs.Tallied.{ShowsCounts, ShowsLastEvent, counts_by}
 use Rattle.noc_rows.specs.Whole.{IsRows, ShowsArrival, ShowsBlock}
-use Rattle.noc_rows.specs.Wires.{inbox_at, room_of}
-use Rattle.noc_rows.specs.declared.block.Block.{Block}
+use Rattle.noc_row_words.specs.Wires.{inbox_at, room_of}
+use Rattle.noc_row_words.specs.declared.block.Block.{Block}
 use Rattle.noc_rows.specs.declared.rows.Rows.{Rows}
-use Rattle.noc_rows.specs.declared.sheet.Sheet.{Sheet}
-use Rattle.noc_rows.specs.declared.starts.TheConstants.{NEVER}
+use Rattle.noc_row_words.specs.declared.sheet.Sheet.{Sheet}
+use Rattle.noc_row_words.specs.declared.starts.TheConstants.{NEVER}
 use Rattle.noc_rows.proofs.PassAll.{read-there}
 
 -- ---- arrivals

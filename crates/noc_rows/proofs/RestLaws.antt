@@ -28,8 +28,8 @@ use Rattle.noc_model.specs.Network.{Setup, State, has_channel, state_at}
 use Rattle.noc_model.specs.Unseen.{without_findings}
 use Rattle.noc_model.proofs.GrantLemmas.{Has-below}
 use Rattle.noc_model.proofs.Members.{find-has}
-use Rattle.noc_rows.specs.Column.{Column, RouterMarks, ShowsSending, ShowsWires, IsColumn}
-use Rattle.noc_rows.specs.Taken.{flit_from, flit_on_vc, credit_from}
+use Rattle.noc_row_words.specs.Column.{Column, RouterMarks, ShowsSending, ShowsWires, IsColumn}
+use Rattle.noc_row_words.specs.Taken.{flit_from, flit_on_vc, credit_from}
 use Rattle.noc_model.proofs.PlaceViews.{in-size}
 use Rattle.noc_model.proofs.ViewLemmas.{view_at-seen}
 use Rattle.noc_rows.proofs.NetworkLaws.{beats, good}

@@ -8,14 +8,14 @@ use Rattle.noc_router.specs.Members.{AreBelow}
 use Rattle.noc_router.specs.Requests.{is_given}
 use Rattle.noc_router.specs.Verdict.{ask_of}
 use Rattle.noc_router.specs.View.{View, size_of, view_claim, view_round}
-use Rattle.noc_rows.specs.Column.{IsColumn}
-use Rattle.noc_rows.specs.Grants.{Allocation, HasAllocated, ShowsGrants, winner}
-use Rattle.noc_rows.specs.Moves.{selected_by, some_below, union_from}
-use Rattle.noc_rows.proofs.BitLemmas.{above_32, below_fits, less_members}
-use Rattle.noc_rows.proofs.GrantLemmas.{first-among}
-use Rattle.noc_rows.proofs.PassLemmas.{power-members}
-use Rattle.noc_rows.proofs.SwitchLemmas.{AreMoved}
-use Rattle.noc_rows.proofs.UnionLemmas.{some-one, union-members}
+use Rattle.noc_row_words.specs.Column.{IsColumn}
+use Rattle.noc_row_words.specs.Grants.{Allocation, HasAllocated, ShowsGrants, winner}
+use Rattle.noc_row_blocks.specs.Moves.{selected_by, some_below, union_from}
+use Rattle.noc_row_words.proofs.BitLemmas.{above_32, below_fits, less_members}
+use Rattle.noc_row_words.proofs.GrantLemmas.{first-among}
+use Rattle.noc_row_words.proofs.PassLemmas.{power-members}
+use Rattle.noc_row_words.proofs.SwitchLemmas.{AreMoved}
+use Rattle.noc_row_blocks.proofs.UnionLemmas.{some-one, union-members}
 
 -- these channels of a router are granted an output channel, lose one, and move a flit, as the round of its frozen view has it
 pub record AreRound (v : View) (grants losses moves : ℕ) : Type 0 where

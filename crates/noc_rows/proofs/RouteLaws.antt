@@ -10,11 +10,11 @@ use Rattle.noc_route.specs.Routes.{Routes, IsRelation, set_at, width}
 use Rattle.noc_vc.specs.Input.{is_empty, is_idle_phase}
 use Rattle.noc_vc.specs.declared.input.InputState.TheVariants.{Waiting}
 use Rattle.noc_router.specs.View.{View, size_of, view_buffer, view_input, first_flit, route_of, route_for}
-use Rattle.noc_rows.specs.Column.{Column, RouterMarks, ShowsPhase}
-use Rattle.noc_rows.specs.FlitWords.{FitsWord, flit_word}
-use Rattle.noc_rows.specs.Routed.{HasRouted, sets_by}
-use Rattle.noc_rows.specs.declared.frame.Frame.{Frame}
-use Rattle.noc_rows.proofs.BitLemmas.{below_fits}
+use Rattle.noc_row_words.specs.Column.{Column, RouterMarks, ShowsPhase}
+use Rattle.noc_row_words.specs.FlitWords.{FitsWord, flit_word}
+use Rattle.noc_row_blocks.specs.Routed.{HasRouted, sets_by}
+use Rattle.noc_row_words.specs.declared.frame.Frame.{Frame}
+use Rattle.noc_row_words.proofs.BitLemmas.{below_fits}
 
 -- the first of some flits
 abbrev first_of : List Flit → Option Flit

@@ -17,18 +17,19 @@ use Rattle.noc_router.specs.Sound.{is_supplied}
 use Rattle.noc_router.specs.Standing.{is_won_from}
 use Rattle.noc_router.specs.Verdict.{ArbiterStates, arbiters_after}
 use Rattle.noc_router.specs.View.{Site, View, Decisions, size_of, local_channel, view_buffer, view_input, view_output, view_round, mover_to, decisions_of, view_after_commit, with_arrival, with_misfit, tail_packet, flit_out, view_after_inject, view_after_takes, local_step}
-use Rattle.noc_rows.specs.Bits.{less}
-use Rattle.noc_rows.specs.Fields.{Fields, IsFields, ShowsPointer, lane_some, lane_whole}
-use Rattle.noc_rows.specs.Planes.{plane_number}
-use Rattle.noc_rows.specs.Taken.{HasSize}
-use Rattle.noc_rows.specs.Column.{Column, RouterMarks, AreWords, ShowsInput, ShowsOutput, ShowsChannels, ShowsTurns, ShowsMarks, ShowsSending, IsColumn}
-use Rattle.noc_rows.specs.Passes.{Effects, settled_lane}
-use Rattle.noc_rows.proofs.BitLemmas.{and_fits, or_fits, less_fits, less_members, below_fits}
-use Rattle.noc_rows.proofs.PlaneLemmas.{lowered-fits, lowered-length, lowered-number}
-use Rattle.noc_rows.proofs.StandLemmas.{AreFilled, draws}
-use Rattle.noc_rows.proofs.SettleLemmas.{AreEffects, SaysOut, settled-output}
-use Rattle.noc_rows.proofs.SuppliedLemmas.{Turn, Says, supplied-after}
-use Rattle.noc_rows.proofs.SwitchLemmas.{ahead-after}
+use Rattle.noc_row_words.specs.Bits.{less}
+use Rattle.noc_row_words.specs.Fields.{IsFields, ShowsPointer, lane_some, lane_whole}
+use Rattle.noc_row_words.specs.declared.fields.Fields.{Fields}
+use Rattle.noc_row_words.specs.Planes.{plane_number}
+use Rattle.noc_row_words.specs.Taken.{HasSize}
+use Rattle.noc_row_words.specs.Column.{Column, RouterMarks, AreWords, ShowsInput, ShowsOutput, ShowsChannels, ShowsTurns, ShowsMarks, ShowsSending, IsColumn}
+use Rattle.noc_row_words.specs.Passes.{Effects, settled_lane}
+use Rattle.noc_row_words.proofs.BitLemmas.{and_fits, or_fits, less_fits, less_members, below_fits}
+use Rattle.noc_row_words.proofs.PlaneLemmas.{lowered-fits, lowered-length, lowered-number}
+use Rattle.noc_row_words.proofs.StandLemmas.{AreFilled, draws}
+use Rattle.noc_row_words.proofs.SettleLemmas.{AreEffects, SaysOut, settled-output}
+use Rattle.noc_row_words.proofs.SuppliedLemmas.{Turn, Says, supplied-after}
+use Rattle.noc_row_words.proofs.SwitchLemmas.{ahead-after}
 use Rattle.noc_rows.proofs.CommittedLemmas.{output-committed, arbiters-committed}
 use Rattle.noc_rows.proofs.DecideLemmas.{AreDecided, HasTurns, inputs-decided}
 

@@ -13,16 +13,16 @@ use Rattle.noc_router.specs.Arrivals.{is_expected_in, arrivals_after}
 use Rattle.noc_router.specs.Members.{AreBelow}
 use Rattle.noc_router.specs.Verdict.{arbiters_after}
 use Rattle.noc_router.specs.View.{View, Decisions, size_of, view_round, decisions_of, view_after_commit, with_arrival, with_misfit, tail_packet, flit_out, view_after_inject, view_after_takes, local_step}
-use Rattle.noc_rows.specs.Column.{Column, IsColumn, RouterMarks, ShowsMarks}
-use Rattle.noc_rows.specs.Cycle.{HasSwitched, Surroundings, single_in}
-use Rattle.noc_rows.specs.Grants.{Allocation}
-use Rattle.noc_rows.specs.Fields.{ShowsPointer}
-use Rattle.noc_rows.specs.Moves.{ports_of}
-use Rattle.noc_rows.specs.Passes.{Effects, lane_heads, lane_picked, settled_lane}
-use Rattle.noc_rows.specs.Source.{ShowsNext, ShowsQueue, ShowsSource, due_of}
-use Rattle.noc_rows.specs.declared.block.Source.{Source}
-use Rattle.noc_rows.specs.declared.frame.Frame.{Frame}
-use Rattle.noc_rows.specs.declared.starts.Start.{Start}
+use Rattle.noc_row_words.specs.Column.{Column, IsColumn, RouterMarks, ShowsMarks}
+use Rattle.noc_row_blocks.specs.Cycle.{HasSwitched, Surroundings, single_in}
+use Rattle.noc_row_words.specs.Grants.{Allocation}
+use Rattle.noc_row_words.specs.Fields.{ShowsPointer}
+use Rattle.noc_row_blocks.specs.Moves.{ports_of}
+use Rattle.noc_row_words.specs.Passes.{Effects, lane_heads, lane_picked, settled_lane}
+use Rattle.noc_row_words.specs.Source.{ShowsNext, ShowsQueue, ShowsSource, due_of}
+use Rattle.noc_row_words.specs.declared.block.Source.{Source}
+use Rattle.noc_row_words.specs.declared.frame.Frame.{Frame}
+use Rattle.noc_row_words.specs.declared.starts.Start.{Start}
 use Rattle.noc_rows.proofs.ChosenLaws.{IsStill, ShowsChosen}
 use Rattle.noc_rows.proofs.FateLaws.{dry, says-supplied}
 use Rattle.noc_rows.proofs.MarkedLaws.{marks-after}
@@ -30,7 +30,7 @@ use Rattle.noc_rows.proofs.MoveLaws.{turns-after}
 use Rattle.noc_rows.proofs.SettleLaws.{AreSettling, committed-site, decided_lane, settled-column}
 use Rattle.noc_rows.proofs.SettlingLaws.{channel-small, decided, effects, moves-below, says-out, supplied-fits, turned}
 use Rattle.noc_rows.proofs.SwitchedLaws.{moving}
-use Rattle.noc_rows.proofs.WinnerLemmas.{ShowsPorts}
+use Rattle.noc_row_words.proofs.WinnerLemmas.{ShowsPorts}
 
 module _ (relation : Routes) (frame : Frame) (x : Surroundings) (v : View) (still : IsStill relation frame x v) (a b : Allocation) (outs : ℕ)
     (shows : IsColumn 5 a.column a.marks v) (put : ShowsChosen relation x.filled a b outs v) (w : RouterMarks) (e : Effects) (supplied : ℕ)

@@ -23,21 +23,21 @@ use Rattle.noc_router.specs.Sound.{is_owned_from, is_supplied, owns}
 use Rattle.noc_router.specs.Verdict.{ask_of}
 use Rattle.noc_router.specs.View.{View, size_of, view_buffer, view_claim, claim_in, view_input, view_output, view_round, first_flit, is_tail, mover_to}
 use Rattle.noc_router.proofs.FindLemmas.{find-some}
-use Rattle.noc_rows.specs.Column.{Column, IsColumn, RouterMarks, is_draining}
-use Rattle.noc_rows.specs.Cycle.{HasSwitched, Surroundings, chosen_by, single_in}
-use Rattle.noc_rows.specs.Grants.{Allocation}
-use Rattle.noc_rows.specs.Moves.{of_one, ports_of, rest_from, some_below}
-use Rattle.noc_rows.specs.Passes.{Effects, lane_heads, lane_picked}
-use Rattle.noc_rows.specs.declared.frame.Frame.{Frame}
+use Rattle.noc_row_words.specs.Column.{Column, IsColumn, RouterMarks, is_draining}
+use Rattle.noc_row_blocks.specs.Cycle.{HasSwitched, Surroundings, chosen_by, single_in}
+use Rattle.noc_row_words.specs.Grants.{Allocation}
+use Rattle.noc_row_blocks.specs.Moves.{of_one, ports_of, rest_from, some_below}
+use Rattle.noc_row_words.specs.Passes.{Effects, lane_heads, lane_picked}
+use Rattle.noc_row_words.specs.declared.frame.Frame.{Frame}
 use Rattle.noc_rows.proofs.AllocateLaws.{grants-at}
-use Rattle.noc_rows.proofs.BitLemmas.{less_fits, or_fits}
+use Rattle.noc_row_words.proofs.BitLemmas.{less_fits, or_fits}
 use Rattle.noc_rows.proofs.ChosenLaws.{IsStill, ShowsChosen}
 use Rattle.noc_rows.proofs.DecideLemmas.{AreDecided}
 use Rattle.noc_rows.proofs.MoveLaws.{freed-is, left-is, taken-is}
-use Rattle.noc_rows.proofs.PassLemmas.{power-members}
-use Rattle.noc_rows.proofs.SettleLemmas.{AreEffects, SaysOut}
+use Rattle.noc_row_words.proofs.PassLemmas.{power-members}
+use Rattle.noc_row_words.proofs.SettleLemmas.{AreEffects, SaysOut}
 use Rattle.noc_rows.proofs.SwitchedLaws.{chosen-picked, mover-from, moved-below, moved-picked, moved-won, moving, picked-is, small, some-found, taken-shows, union-same}
-use Rattle.noc_rows.proofs.UnionLemmas.{union-members}
+use Rattle.noc_row_blocks.proofs.UnionLemmas.{union-members}
 
 some-of : (o : Option ℕ) (n : ℕ) → is_some_of o n ≡ true → o ≡ Some n
 some-of None n e = absurd (false≢true e)

@@ -2,17 +2,17 @@
 use Rattle.std.proofs.Common.{◌≡◌, ℕ, ◌<◌, List, ap, sym, subst}
 use Rattle.std.specs.Prelude.{nat_eq, not}
 use Rattle.noc_packet.specs.Set.{has_bit}
-use Rattle.noc_rows.specs.Arrive.{HasArrived}
-use Rattle.noc_rows.specs.Passes.{lane_asks, lane_heads, lane_standing}
-use Rattle.noc_rows.specs.Rows.{column_at, planes_of, standing_at, word}
-use Rattle.noc_rows.specs.Stages.{HasFrozen, IsUndecided}
-use Rattle.noc_rows.specs.declared.block.Block.{Block}
-use Rattle.noc_rows.specs.declared.block.Work.{Work}
-use Rattle.noc_rows.specs.declared.cycle.DecidedRows.{DecidedRows}
-use Rattle.noc_rows.specs.declared.cycle.StandingRows.{StandingRows}
-use Rattle.noc_rows.specs.declared.frame.Frame.{Frame}
-use Rattle.noc_rows.specs.declared.starts.Start.{Start}
-use Rattle.noc_rows.specs.declared.wires.Inbox.{Inbox}
+use Rattle.noc_row_blocks.specs.Arrive.{HasArrived}
+use Rattle.noc_row_words.specs.Passes.{lane_asks, lane_heads, lane_standing}
+use Rattle.noc_row_words.specs.Rows.{column_at, planes_of, standing_at, word}
+use Rattle.noc_row_blocks.specs.Stages.{HasFrozen, IsUndecided}
+use Rattle.noc_row_words.specs.declared.block.Block.{Block}
+use Rattle.noc_row_words.specs.declared.block.Work.{Work}
+use Rattle.noc_row_words.specs.declared.cycle.DecidedRows.{DecidedRows}
+use Rattle.noc_row_words.specs.declared.cycle.StandingRows.{StandingRows}
+use Rattle.noc_row_words.specs.declared.frame.Frame.{Frame}
+use Rattle.noc_row_words.specs.declared.starts.Start.{Start}
+use Rattle.noc_row_words.specs.declared.wires.Inbox.{Inbox}
 
 -- what has arrived in a block is read from its lanes, its sources, and what has come
 abbrev stood : StandingRows → DecidedRows → Work → Block → Block

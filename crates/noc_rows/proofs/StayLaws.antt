@@ -22,16 +22,16 @@ use Rattle.noc_model.specs.Halves.{IsSilent}
 use Rattle.noc_model.specs.Lockstep.{beats_at, beats_in, counts_before, view_at, view_in}
 use Rattle.noc_model.specs.Network.{Setup, size, state_at}
 use Rattle.noc_model.specs.Unseen.{without_findings}
-use Rattle.noc_rows.specs.Column.{ShowsWires}
-use Rattle.noc_rows.specs.FlitWords.{flit_word}
+use Rattle.noc_row_words.specs.Column.{ShowsWires}
+use Rattle.noc_row_words.specs.FlitWords.{flit_word}
 use Rattle.noc_rows.specs.InRows.{RouterWords, ShowsRouter}
-use Rattle.noc_rows.specs.Outlook.{holding_in}
-use Rattle.noc_rows.specs.Source.{ShowsNext, ShowsQueue, ShowsSource, due_of}
-use Rattle.noc_rows.specs.Taken.{credit_from, flit_from, flit_on_vc, with_one}
-use Rattle.noc_rows.specs.Tallied.{ShowsCounts, ShowsLastEvent, nine_counts, ten_counts}
-use Rattle.noc_rows.specs.declared.block.Source.{Source}
-use Rattle.noc_rows.specs.declared.sheet.VerdictCounts.{VerdictCounts}
-use Rattle.noc_rows.specs.declared.starts.Start.{Start}
+use Rattle.noc_row_blocks.specs.Outlook.{holding_in}
+use Rattle.noc_row_words.specs.Source.{ShowsNext, ShowsQueue, ShowsSource, due_of}
+use Rattle.noc_row_words.specs.Taken.{credit_from, flit_from, flit_on_vc, with_one}
+use Rattle.noc_row_words.specs.Tallied.{ShowsCounts, ShowsLastEvent, nine_counts, ten_counts}
+use Rattle.noc_row_words.specs.declared.block.Source.{Source}
+use Rattle.noc_row_words.specs.declared.sheet.VerdictCounts.{VerdictCounts}
+use Rattle.noc_row_words.specs.declared.starts.Start.{Start}
 use Rattle.noc_rows.proofs.NetworkLaws.{beats}
 use Rattle.noc_rows.proofs.RestLaws.{column-stays, columns-stay, words-asleep, words-silent}
 use Rattle.noc_rows.proofs.SleepLaws.{IsAsleep, IsDueFrom, all-asleep, asleep-silent, asleep-stays, vacant}

@@ -8,18 +8,18 @@ use Rattle.noc_model.specs.declared.limits.TheConstants.{CYCLE_LIMIT}
 use Rattle.noc_model.specs.Good.{IsGoodSetup}
 use Rattle.noc_model.specs.Network.{Setup, arrival_in, packet_at, state_at}
 use Rattle.noc_model.proofs.CoreLemmas.{get_some}
-use Rattle.noc_rows.specs.Decided.{HasDecided}
-use Rattle.noc_rows.specs.Frames.{IsFrameOf}
-use Rattle.noc_rows.specs.Stages.{AreWoken, HaveConcluded, HaveDecided, HaveFrozen, is_busy, next_of, woken}
+use Rattle.noc_row_blocks.specs.Decided.{HasDecided}
+use Rattle.noc_row_words.specs.Frames.{IsFrameOf}
+use Rattle.noc_row_blocks.specs.Stages.{AreWoken, HaveConcluded, HaveDecided, HaveFrozen, is_busy, next_of, woken}
 use Rattle.noc_rows.specs.Whole.{IsQuiet, IsRows, ShowsArrival, ShowsBlock}
-use Rattle.noc_rows.specs.Wires.{inbox_at, room_of}
+use Rattle.noc_row_words.specs.Wires.{inbox_at, room_of}
 use Rattle.noc_route.specs.Routes.{Routes}
-use Rattle.noc_rows.specs.declared.block.Block.{Block}
-use Rattle.noc_rows.specs.declared.frame.Frame.{Frame}
+use Rattle.noc_row_words.specs.declared.block.Block.{Block}
+use Rattle.noc_row_words.specs.declared.frame.Frame.{Frame}
 use Rattle.noc_rows.specs.declared.rows.Rows.{Rows}
-use Rattle.noc_rows.specs.declared.sheet.Sheet.{Sheet}
-use Rattle.noc_rows.specs.declared.wires.Inbox.{Inbox}
-use Rattle.noc_rows.specs.declared.wires.Wires.{Wires}
+use Rattle.noc_row_words.specs.declared.sheet.Sheet.{Sheet}
+use Rattle.noc_row_words.specs.declared.wires.Inbox.{Inbox}
+use Rattle.noc_row_words.specs.declared.wires.Wires.{Wires}
 use Rattle.noc_rows.proofs.BlockRests.{AllRest, arrivals-wait, asleep-parts, blocks-wait, shows-woken}
 use Rattle.noc_rows.proofs.BlockShows.{ShowsInbox}
 use Rattle.noc_rows.proofs.BlocksNext.{DecidesLanes, Rests, blocks-next}

@@ -6,14 +6,14 @@ use Rattle.noc_topo.specs.Shape.{nodes}
 use Rattle.noc_model.specs.declared.limits.TheConstants.{CYCLE_LIMIT}
 use Rattle.noc_model.specs.Good.{IsGoodSetup}
 use Rattle.noc_model.specs.Network.{Setup, arrival_in, state_at}
-use Rattle.noc_rows.specs.Decided.{HasDecided}
-use Rattle.noc_rows.specs.Moves.{ports_of}
+use Rattle.noc_row_blocks.specs.Decided.{HasDecided}
+use Rattle.noc_row_blocks.specs.Moves.{ports_of}
 use Rattle.noc_rows.specs.Whole.{IsWoken, ShowsArrival, ShowsBlock}
-use Rattle.noc_rows.specs.Wires.{inbox_at, room_of}
-use Rattle.noc_rows.specs.declared.block.Block.{Block}
+use Rattle.noc_row_words.specs.Wires.{inbox_at, room_of}
+use Rattle.noc_row_words.specs.declared.block.Block.{Block}
 use Rattle.noc_rows.specs.declared.rows.Rows.{Rows}
-use Rattle.noc_rows.specs.declared.sheet.Sheet.{Sheet}
-use Rattle.noc_rows.specs.declared.wires.Wires.{Wires}
+use Rattle.noc_row_words.specs.declared.sheet.Sheet.{Sheet}
+use Rattle.noc_row_words.specs.declared.wires.Wires.{Wires}
 use Rattle.noc_rows.proofs.ArrivalLanes.{asleep-puts, awake-puts}
 use Rattle.noc_rows.proofs.ArrivalSteps.{PutsOut, arrival-next}
 use Rattle.noc_rows.proofs.BlockShows.{ShowsInbox}

@@ -9,23 +9,23 @@ use Rattle.noc_router.specs.View.{Site, size_of}
 use Rattle.noc_model.specs.declared.limits.TheConstants.{CYCLE_LIMIT}
 use Rattle.noc_model.specs.Good.{IsGoodSetup}
 use Rattle.noc_model.specs.Network.{Setup, size}
-use Rattle.noc_rows.specs.Carried.{HaveMoved, wire_words}
-use Rattle.noc_rows.specs.Column.{place_of}
-use Rattle.noc_rows.specs.Decided.{HasDecided}
-use Rattle.noc_rows.specs.Frames.{IsFrameOf}
-use Rattle.noc_rows.specs.Moves.{ports_of, union_from}
+use Rattle.noc_row_blocks.specs.Carried.{HaveMoved, wire_words}
+use Rattle.noc_row_words.specs.Column.{place_of}
+use Rattle.noc_row_blocks.specs.Decided.{HasDecided}
+use Rattle.noc_row_words.specs.Frames.{IsFrameOf}
+use Rattle.noc_row_blocks.specs.Moves.{ports_of, union_from}
 use Rattle.noc_rows.specs.Opened.{HasLinksOf}
-use Rattle.noc_rows.specs.Rows.{word}
-use Rattle.noc_rows.specs.Stages.{HasFrozen, HaveConcluded, HaveDecided, HaveFrozen, selected_of}
+use Rattle.noc_row_words.specs.Rows.{word}
+use Rattle.noc_row_blocks.specs.Stages.{HasFrozen, HaveConcluded, HaveDecided, HaveFrozen, selected_of}
 use Rattle.noc_rows.specs.Whole.{IsQuiet, IsTarget, ShowsBlock}
-use Rattle.noc_rows.specs.Wires.{inbox_at, room_of}
-use Rattle.noc_rows.specs.declared.block.Block.{Block}
-use Rattle.noc_rows.specs.declared.frame.Frame.{Frame}
-use Rattle.noc_rows.specs.declared.marks.Marks.{Marks}
-use Rattle.noc_rows.specs.declared.sheet.Sheet.{Sheet}
-use Rattle.noc_rows.specs.declared.starts.Start.{Start}
-use Rattle.noc_rows.specs.declared.wires.Inbox.{Inbox}
-use Rattle.noc_rows.specs.declared.wires.Wires.{Wires}
+use Rattle.noc_row_words.specs.Wires.{inbox_at, room_of}
+use Rattle.noc_row_words.specs.declared.block.Block.{Block}
+use Rattle.noc_row_words.specs.declared.frame.Frame.{Frame}
+use Rattle.noc_row_words.specs.declared.marks.Marks.{Marks}
+use Rattle.noc_row_words.specs.declared.sheet.Sheet.{Sheet}
+use Rattle.noc_row_words.specs.declared.starts.Start.{Start}
+use Rattle.noc_row_words.specs.declared.wires.Inbox.{Inbox}
+use Rattle.noc_row_words.specs.declared.wires.Wires.{Wires}
 use Rattle.noc_rows.proofs.BlockShows.{ShowsInbox}
 use Rattle.noc_rows.proofs.BlocksNext.{DecidesLanes, Rests, blocks-next}
 use Rattle.noc_rows.proofs.DecidedLanes.{awake-moves}

@@ -8,12 +8,12 @@ use Rattle.noc_router.specs.Verdict.{is_event}
 use Rattle.noc_router.specs.View.{counts_after}
 use Rattle.noc_router.specs.declared.verdict.Verdict.{Verdict}
 use Rattle.noc_router.specs.declared.verdict.Verdict.TheVariants.{Empty, Routed, Granted, Moved, NoFlit, NoIdleChannel, LostChannel, NoCredit, LostInput, LostSwitch}
-use Rattle.noc_rows.specs.Tallied.{nine_counts, ten_counts}
-use Rattle.noc_rows.specs.declared.sheet.VerdictCounts.{VerdictCounts}
+use Rattle.noc_row_words.specs.Tallied.{nine_counts, ten_counts}
+use Rattle.noc_row_words.specs.declared.sheet.VerdictCounts.{VerdictCounts}
 use Rattle.noc_rows.proofs.CountLaws.{rises, risen, ten-same}
-use Rattle.noc_rows.proofs.SettleLemmas.{verdict_of_bits}
+use Rattle.noc_row_words.proofs.SettleLemmas.{verdict_of_bits}
 use Rattle.noc_rows.proofs.StillVerdicts.{is_loss}
-use Rattle.noc_rows.proofs.TalliedLemmas.{counts-same}
+use Rattle.noc_row_words.proofs.TalliedLemmas.{counts-same}
 
 -- ---- the verdict of a channel that is empty or waits, by whether it waits for a flit, an idle channel or a credit
 

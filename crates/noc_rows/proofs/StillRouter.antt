@@ -21,10 +21,10 @@ use Rattle.noc_model.specs.Lockstep.{view_at}
 use Rattle.noc_model.specs.Network.{Setup}
 use Rattle.noc_rows.specs.InRows.{RouterWords, ShowsRouter}
 use Rattle.noc_rows.specs.Injected.{injection_from, injection_in}
-use Rattle.noc_rows.specs.Source.{due_of}
-use Rattle.noc_rows.specs.Tallied.{ShowsLastEvent}
-use Rattle.noc_rows.specs.declared.starts.Start.{Start}
-use Rattle.noc_rows.proofs.AskedLemmas.{or-none}
+use Rattle.noc_row_words.specs.Source.{due_of}
+use Rattle.noc_row_words.specs.Tallied.{ShowsLastEvent}
+use Rattle.noc_row_words.specs.declared.starts.Start.{Start}
+use Rattle.noc_row_words.proofs.AskedLemmas.{or-none}
 use Rattle.noc_rows.proofs.CameLaws.{all-quiet, nothing-comes, nothing-returns}
 use Rattle.noc_rows.proofs.CameLemmas.{injected-event}
 use Rattle.noc_rows.proofs.CountLaws.{committed-event, injected-keeps}

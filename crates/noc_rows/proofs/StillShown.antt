@@ -12,9 +12,9 @@ use Rattle.noc_model.specs.Halves.{IsSilent}
 use Rattle.noc_model.specs.Lockstep.{beats_at, beats_in, view_at}
 use Rattle.noc_model.specs.Network.{Setup, state_at}
 use Rattle.noc_rows.specs.InRows.{RouterWords, ShowsRouter}
-use Rattle.noc_rows.specs.Tallied.{ShowsCounts, ShowsLastEvent, nine_counts, ten_counts}
-use Rattle.noc_rows.specs.declared.sheet.VerdictCounts.{VerdictCounts}
-use Rattle.noc_rows.specs.declared.starts.Start.{Start}
+use Rattle.noc_row_words.specs.Tallied.{ShowsCounts, ShowsLastEvent, nine_counts, ten_counts}
+use Rattle.noc_row_words.specs.declared.sheet.VerdictCounts.{VerdictCounts}
+use Rattle.noc_row_words.specs.declared.starts.Start.{Start}
 use Rattle.noc_rows.proofs.NetworkLaws.{start-size, start-tidy}
 use Rattle.noc_rows.proofs.RestLaws.{bare, bare-column}
 use Rattle.noc_rows.proofs.StayLaws.{counts-many, source-same, wires-same}

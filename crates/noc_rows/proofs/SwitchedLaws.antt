@@ -19,20 +19,20 @@ use Rattle.noc_router.specs.Sound.{is_supplied}
 use Rattle.noc_router.specs.Standing.{is_won_from}
 use Rattle.noc_router.specs.Verdict.{ask_of, out_of}
 use Rattle.noc_router.specs.View.{View, size_of, view_buffer, view_claim, claim_in, view_input, view_round, mover_to}
-use Rattle.noc_rows.specs.Column.{IsColumn, ShowsPhase, sends_by}
-use Rattle.noc_rows.specs.Cycle.{Surroundings, chosen_by}
-use Rattle.noc_rows.specs.Grants.{Allocation, phase_granted, with_grant}
-use Rattle.noc_rows.specs.Moves.{some_below, union_from}
-use Rattle.noc_rows.specs.Passes.{lane_heads, lane_picked, lane_ready}
-use Rattle.noc_rows.specs.Fields.{lane_turn, lane_some, lane_whole}
-use Rattle.noc_rows.specs.Bits.{less, minus}
-use Rattle.noc_rows.specs.declared.frame.Frame.{Frame}
-use Rattle.noc_rows.proofs.BitLemmas.{and_fits, below_fits, less_fits, less_members, or_fits}
+use Rattle.noc_row_words.specs.Column.{IsColumn, ShowsPhase, sends_by}
+use Rattle.noc_row_blocks.specs.Cycle.{Surroundings, chosen_by}
+use Rattle.noc_row_words.specs.Grants.{Allocation, phase_granted, with_grant}
+use Rattle.noc_row_blocks.specs.Moves.{some_below, union_from}
+use Rattle.noc_row_words.specs.Passes.{lane_heads, lane_picked, lane_ready}
+use Rattle.noc_row_words.specs.Fields.{lane_turn, lane_some, lane_whole}
+use Rattle.noc_row_words.specs.Bits.{less, minus}
+use Rattle.noc_row_words.specs.declared.frame.Frame.{Frame}
+use Rattle.noc_row_words.proofs.BitLemmas.{and_fits, below_fits, less_fits, less_members, or_fits}
 use Rattle.noc_rows.proofs.ChosenLaws.{IsStill, ShowsChosen}
 use Rattle.noc_rows.proofs.MoveLaws.{AreMoving, IsTaken, bit-is, moved-is, mover-is, taken-is}
-use Rattle.noc_rows.proofs.StandLemmas.{draws, ready-fits, standing}
-use Rattle.noc_rows.proofs.UnionLemmas.{union-members}
-use Rattle.noc_rows.proofs.WinnerLemmas.{ShowsPorts}
+use Rattle.noc_row_words.proofs.StandLemmas.{draws, ready-fits, standing}
+use Rattle.noc_row_blocks.proofs.UnionLemmas.{union-members}
+use Rattle.noc_row_words.proofs.WinnerLemmas.{ShowsPorts}
 
 -- ---- unions
 pub union-same : (n : ℕ) (f g : ℕ → ℕ) → ((q : ℕ) → q < n → f q ≡ g q) → union_from 0 n f ≡ union_from 0 n g

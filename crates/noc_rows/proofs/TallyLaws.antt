@@ -14,31 +14,32 @@ use Rattle.noc_model.specs.declared.limits.TheConstants.{CYCLE_LIMIT}
 use Rattle.noc_model.specs.Good.{IsGoodSetup}
 use Rattle.noc_model.specs.Lockstep.{counts_before, view_at, view_in}
 use Rattle.noc_model.specs.Network.{Setup, size}
-use Rattle.noc_rows.specs.Arrive.{HasArrived}
-use Rattle.noc_rows.specs.Bits.{less, plus}
-use Rattle.noc_rows.specs.Column.{Column, RouterMarks, IsColumn, ShowsWires, place_of}
-use Rattle.noc_rows.specs.Fields.{Fields, IsFields}
-use Rattle.noc_rows.specs.Grants.{AreTallied}
-use Rattle.noc_rows.specs.Passes.{Effects, lane_heads, lane_standing, lane_verdicts, owner_in}
-use Rattle.noc_rows.specs.Planes.{words_of}
-use Rattle.noc_rows.specs.Rows.{column_at, of_router, word}
-use Rattle.noc_rows.specs.Source.{ShowsSource, source_at}
-use Rattle.noc_rows.specs.Tallied.{ShowsCounts, ShowsLastEvent, nine_counts, ten_counts, with_verdicts}
-use Rattle.noc_rows.specs.declared.block.Block.{Block}
-use Rattle.noc_rows.specs.declared.cycle.Standing.{Standing}
-use Rattle.noc_rows.specs.declared.sheet.VerdictCounts.{VerdictCounts}
-use Rattle.noc_rows.specs.declared.sheet.Verdicts.{Verdicts}
-use Rattle.noc_rows.specs.declared.starts.Start.{Start}
-use Rattle.noc_rows.specs.declared.wires.Inbox.{Inbox}
-use Rattle.noc_rows.proofs.BitLemmas.{and_fits, less_fits}
+use Rattle.noc_row_blocks.specs.Arrive.{HasArrived}
+use Rattle.noc_row_words.specs.Bits.{less, plus}
+use Rattle.noc_row_words.specs.Column.{Column, RouterMarks, IsColumn, ShowsWires, place_of}
+use Rattle.noc_row_words.specs.Fields.{IsFields}
+use Rattle.noc_row_words.specs.declared.fields.Fields.{Fields}
+use Rattle.noc_row_words.specs.Grants.{AreTallied}
+use Rattle.noc_row_words.specs.Passes.{Effects, lane_heads, lane_standing, lane_verdicts, owner_in}
+use Rattle.noc_row_words.specs.Planes.{words_of}
+use Rattle.noc_row_words.specs.Rows.{column_at, of_router, word}
+use Rattle.noc_row_words.specs.Source.{ShowsSource, source_at}
+use Rattle.noc_row_words.specs.Tallied.{ShowsCounts, ShowsLastEvent, nine_counts, ten_counts, with_verdicts}
+use Rattle.noc_row_words.specs.declared.block.Block.{Block}
+use Rattle.noc_row_words.specs.declared.cycle.Standing.{Standing}
+use Rattle.noc_row_words.specs.declared.sheet.VerdictCounts.{VerdictCounts}
+use Rattle.noc_row_words.specs.declared.sheet.Verdicts.{Verdicts}
+use Rattle.noc_row_words.specs.declared.starts.Start.{Start}
+use Rattle.noc_row_words.specs.declared.wires.Inbox.{Inbox}
+use Rattle.noc_row_words.proofs.BitLemmas.{and_fits, less_fits}
 use Rattle.noc_rows.proofs.CameLaws.{came-event}
 use Rattle.noc_rows.proofs.CountLaws.{counts-decided, counts-put, event-after, event-put, injected-keeps}
 use Rattle.noc_rows.proofs.DecideLemmas.{AreDecided, HasTurns}
 use Rattle.noc_rows.proofs.EventLaws.{event-decided}
 use Rattle.noc_rows.proofs.NetworkLaws.{beats, beats-taken, frozen-arbiters, frozen-seen, frozen_view, next-count, taken_view}
 use Rattle.noc_rows.proofs.RoundLaws.{AreRound, small-below, tails-are, tails_in}
-use Rattle.noc_rows.proofs.SettleLemmas.{AreEffects}
-use Rattle.noc_rows.proofs.StandLemmas.{AreFilled, draws}
+use Rattle.noc_row_words.proofs.SettleLemmas.{AreEffects}
+use Rattle.noc_row_words.proofs.StandLemmas.{AreFilled, draws}
 
 -- one more for each of these channels; a tally at its greatest value goes on from 0
 abbrev pub IsTallied : ℕ → (ℕ → ℕ) → (ℕ → ℕ) → Type 0

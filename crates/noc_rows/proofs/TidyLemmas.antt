@@ -38,8 +38,8 @@ use Rattle.noc_model.proofs.WormRecord.{IsPlaced, goal, last_of, valid-last, val
 use Rattle.noc_model.proofs.Ordered.{IsGood}
 use Rattle.noc_model.proofs.PlaceViews.{arriving-at, leaving-from, not-eject, OutputCase, ejects, links, output-case}
 use Rattle.noc_model.specs.Seen.{IsSeen}
-use Rattle.noc_rows.specs.Column.{IsTidy, is_draining}
-use Rattle.noc_rows.specs.Taken.{HasSize}
+use Rattle.noc_row_words.specs.Column.{IsTidy, is_draining}
+use Rattle.noc_row_words.specs.Taken.{HasSize}
 use Rattle.noc_rows.proofs.PresentLemmas.{in-some, packet-in, packet-none, packet-there}
 use Rattle.noc_rows.proofs.SteadyLemmas.{IsSteady, Sends, sends-active, sends-owned, holder-sends, active-sends, same-truth}
 

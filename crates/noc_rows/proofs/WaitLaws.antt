@@ -14,17 +14,17 @@ use Rattle.noc_model.specs.Network.{Setup, arrival_in, packet_at, state_at}
 use Rattle.noc_model.proofs.Arrivals.{arrival-noted}
 use Rattle.noc_model.proofs.CoreLemmas.{get_some}
 use Rattle.noc_model.proofs.ViewLemmas.{view_at-seen}
-use Rattle.noc_rows.specs.Frames.{IsFrameOf}
+use Rattle.noc_row_words.specs.Frames.{IsFrameOf}
 use Rattle.noc_rows.specs.InRows.{ShowsRouter}
-use Rattle.noc_rows.specs.Rows.{word}
-use Rattle.noc_rows.specs.Still.{HasWaited, HaveCounted, HaveWaited, IsStillFor}
-use Rattle.noc_rows.specs.Tallied.{CountsAreBelow, cycles_of, last_verdicts, nine_counts, sheet_counts, with_verdicts}
+use Rattle.noc_row_words.specs.Rows.{word}
+use Rattle.noc_row_words.specs.Still.{HasWaited, HaveCounted, HaveWaited, IsStillFor}
+use Rattle.noc_row_words.specs.Tallied.{CountsAreBelow, cycles_of, last_verdicts, nine_counts, sheet_counts, with_verdicts}
 use Rattle.noc_rows.specs.Whole.{IsQuiet, IsRows, ShowsArrival, ShowsBlock, lane_words}
-use Rattle.noc_rows.specs.Wires.{inbox_at, room_of}
-use Rattle.noc_rows.specs.declared.block.Block.{Block}
+use Rattle.noc_row_words.specs.Wires.{inbox_at, room_of}
+use Rattle.noc_row_words.specs.declared.block.Block.{Block}
 use Rattle.noc_rows.specs.declared.rows.Rows.{Rows}
-use Rattle.noc_rows.specs.declared.sheet.Sheet.{Sheet}
-use Rattle.noc_rows.specs.declared.sheet.VerdictCounts.{VerdictCounts}
+use Rattle.noc_row_words.specs.declared.sheet.Sheet.{Sheet}
+use Rattle.noc_row_words.specs.declared.sheet.VerdictCounts.{VerdictCounts}
 use Rattle.noc_rows.proofs.StillCounts.{RunOn}
 use Rattle.noc_rows.proofs.StillRouter.{quiet-effect, quiet-held, quiet-silent}
 use Rattle.noc_rows.proofs.StillShown.{shows-on, stays-on}

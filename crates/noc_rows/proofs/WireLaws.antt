@@ -10,8 +10,8 @@ use Rattle.noc_packet.specs.declared.packet.Beat.{Beat}
 use Rattle.noc_router.specs.View.{Site, View, Decisions, idle_beat, beat_out}
 use Rattle.noc_model.specs.Network.{Setup}
 use Rattle.noc_model.specs.Lockstep.{beat_from, beats_at, wires_after_puts}
-use Rattle.noc_rows.specs.Column.{Leads, LeadsToPlace, place_of}
-use Rattle.noc_rows.specs.Taken.{flit_from, flit_on_vc, credit_from}
+use Rattle.noc_row_words.specs.Column.{Leads, LeadsToPlace, place_of}
+use Rattle.noc_row_words.specs.Taken.{flit_from, flit_on_vc, credit_from}
 
 -- by beats of this port and those behind it, the beat of the channel's port
 pub flit-at : (vcs port : ℕ) (beats : List Beat) (i : ℕ) → port ≤ i / vcs → flit_from vcs port beats i ≡ flit_on_vc (i % vcs) (slice_index_or beats (i / vcs - port) idle_beat).flit

@@ -1,8 +1,8 @@
 -- A lane of the last block to which no router belongs.
 use Rattle.std.specs.Prelude.{◌≡◌, ℕ, List, [], ◌∷◌}
-use Rattle.noc_rows.specs.Column.{Column}
-use Rattle.noc_rows.specs.declared.block.Source.{Source}
-use Rattle.noc_rows.specs.declared.starts.TheConstants.{NEVER}
+use Rattle.noc_row_words.specs.Column.{Column}
+use Rattle.noc_row_words.specs.declared.block.Source.{Source}
+use Rattle.noc_row_words.specs.declared.starts.TheConstants.{NEVER}
 
 -- no plane has a member
 abbrev pub AreNone : List ℕ → Type 0

@@ -9,13 +9,13 @@ use Rattle.noc_router.specs.declared.verdict.Finding.{Finding}
 use Rattle.noc_router.specs.declared.verdict.Verdict.{Verdict}
 use Rattle.noc_router.specs.declared.verdict.Verdict.TheVariants.{Empty}
 use Rattle.noc_router.specs.declared.verdict_sets.VerdictSets.{VerdictSets}
-use Rattle.noc_rows.specs.FlitWords.{FitsWord, flit_word}
-use Rattle.noc_rows.specs.Passes.{lane_verdicts}
-use Rattle.noc_rows.specs.Rows.{column_at, standing_at, word}
-use Rattle.noc_rows.specs.Wires.{in_row, inbox_at, ring_in}
-use Rattle.noc_rows.specs.declared.block.Block.{Block}
-use Rattle.noc_rows.specs.declared.frame.Frame.{Frame}
-use Rattle.noc_rows.specs.declared.wires.Inbox.{Inbox}
+use Rattle.noc_row_words.specs.FlitWords.{FitsWord, flit_word}
+use Rattle.noc_row_words.specs.Passes.{lane_verdicts}
+use Rattle.noc_row_words.specs.Rows.{column_at, standing_at, word}
+use Rattle.noc_row_words.specs.Wires.{in_row, inbox_at, ring_in}
+use Rattle.noc_row_words.specs.declared.block.Block.{Block}
+use Rattle.noc_row_words.specs.declared.frame.Frame.{Frame}
+use Rattle.noc_row_words.specs.declared.wires.Inbox.{Inbox}
 
 -- the finding at a place of a list
 abbrev pub finding_at : List Finding → ℕ → Finding

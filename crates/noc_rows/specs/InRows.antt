@@ -5,12 +5,12 @@ use Rattle.noc_packet.specs.declared.packet.Beat.{Beat}
 use Rattle.noc_router.specs.View.{View}
 use Rattle.noc_model.specs.Network.{Setup, state_at}
 use Rattle.noc_model.specs.Lockstep.{view_at, beats_at, beats_in}
-use Rattle.noc_rows.specs.Column.{Column, RouterMarks, IsColumn, ShowsWires}
-use Rattle.noc_rows.specs.Source.{ShowsSource}
-use Rattle.noc_rows.specs.Tallied.{ShowsCounts, ShowsLastEvent}
-use Rattle.noc_rows.specs.declared.block.Source.{Source}
-use Rattle.noc_rows.specs.declared.sheet.VerdictCounts.{VerdictCounts}
-use Rattle.noc_rows.specs.declared.starts.Start.{Start}
+use Rattle.noc_row_words.specs.Column.{Column, RouterMarks, IsColumn, ShowsWires}
+use Rattle.noc_row_words.specs.Source.{ShowsSource}
+use Rattle.noc_row_words.specs.Tallied.{ShowsCounts, ShowsLastEvent}
+use Rattle.noc_row_words.specs.declared.block.Source.{Source}
+use Rattle.noc_row_words.specs.declared.sheet.VerdictCounts.{VerdictCounts}
+use Rattle.noc_row_words.specs.declared.starts.Start.{Start}
 
 -- the words of one router, the words of the wires that lead to it, its rings, and what was counted of it
 pub record RouterWords : Type 0 where

@@ -5,7 +5,7 @@ use Rattle.noc_packet.specs.Packet.{flit_at}
 use Rattle.noc_packet.specs.declared.packet.Packet.{Packet}
 use Rattle.noc_packet.specs.declared.packet.Flit.{Flit}
 use Rattle.noc_router.specs.View.{View, size_of, local_channel, view_buffer, view_input, is_vacant}
-use Rattle.noc_rows.specs.Taken.{with_one, landed_by}
+use Rattle.noc_row_words.specs.Taken.{with_one, landed_by}
 
 -- the local virtual channel to which a flit is injected in cycle n, and the flit
 abbrev pub injection_from : ℕ → List (ℕ × Packet) → Option (ℕ × ℕ) → View → Option (ℕ × Flit)

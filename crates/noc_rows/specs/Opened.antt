@@ -8,23 +8,23 @@ use Rattle.noc_packet.specs.Set.{has_bit}
 use Rattle.noc_packet.specs.declared.packet.Packet.{Packet}
 use Rattle.noc_route.specs.Routes.{Routes}
 use Rattle.noc_model.specs.Lockstep.{starts_of}
-use Rattle.noc_rows.specs.Column.{place_of}
-use Rattle.noc_rows.specs.FlitWords.{flit_word}
-use Rattle.noc_rows.specs.Grants.{leads_by}
+use Rattle.noc_row_words.specs.Column.{place_of}
+use Rattle.noc_row_words.specs.FlitWords.{flit_word}
+use Rattle.noc_row_words.specs.Grants.{leads_by}
 use Rattle.noc_rows.specs.InRows.{RouterWords}
-use Rattle.noc_rows.specs.Opening.{AreEmptyMarks, empty_column}
-use Rattle.noc_rows.specs.Outlook.{least_below}
-use Rattle.noc_rows.specs.Rows.{column_at, marks_at, planes_of, word}
-use Rattle.noc_rows.specs.Source.{due_of, source_at, start_in}
-use Rattle.noc_rows.specs.Tallied.{no_counts}
-use Rattle.noc_rows.specs.Wires.{inbox_at, room_of}
-use Rattle.noc_rows.specs.declared.block.Block.{Block}
-use Rattle.noc_rows.specs.declared.block.Source.{Source}
-use Rattle.noc_rows.specs.declared.frame.Frame.{Frame}
-use Rattle.noc_rows.specs.declared.starts.Start.{Start}
-use Rattle.noc_rows.specs.declared.starts.TheConstants.{NEVER, END}
-use Rattle.noc_rows.specs.declared.wires.Inbox.{Inbox}
-use Rattle.noc_rows.specs.declared.wires.Wires.{Wires}
+use Rattle.noc_row_words.specs.Opening.{AreEmptyMarks, empty_column}
+use Rattle.noc_row_blocks.specs.Outlook.{least_below}
+use Rattle.noc_row_words.specs.Rows.{column_at, marks_at, planes_of, word}
+use Rattle.noc_row_words.specs.Source.{due_of, source_at, start_in}
+use Rattle.noc_row_words.specs.Tallied.{no_counts}
+use Rattle.noc_row_words.specs.Wires.{inbox_at, room_of}
+use Rattle.noc_row_words.specs.declared.block.Block.{Block}
+use Rattle.noc_row_words.specs.declared.block.Source.{Source}
+use Rattle.noc_row_words.specs.declared.frame.Frame.{Frame}
+use Rattle.noc_row_words.specs.declared.starts.Start.{Start}
+use Rattle.noc_row_words.specs.declared.starts.TheConstants.{NEVER, END}
+use Rattle.noc_row_words.specs.declared.wires.Inbox.{Inbox}
+use Rattle.noc_row_words.specs.declared.wires.Wires.{Wires}
 
 -- ---- the starts
 

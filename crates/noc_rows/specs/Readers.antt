@@ -3,8 +3,8 @@ use Rattle.std.specs.Prelude.{◌≡◌, ◌⊎◌, ℕ, ◌<◌, ◌≤◌, Boo
 use Rattle.std.specs.List.{list_all}
 use Rattle.noc_topo.specs.Words.{below}
 use Rattle.noc_model.specs.Network.{Setup, State, arrival_in}
-use Rattle.noc_rows.specs.Rows.{word}
-use Rattle.noc_rows.specs.declared.block.Block.{Block}
+use Rattle.noc_row_words.specs.Rows.{word}
+use Rattle.noc_row_words.specs.declared.block.Block.{Block}
 use Rattle.noc_rows.specs.declared.rows.Rows.{Rows}
 
 -- how many cycles rows have run

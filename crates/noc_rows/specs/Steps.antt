@@ -2,10 +2,10 @@
 use Rattle.std.specs.Prelude.{◌≡◌, ℕ, ◌+◌, ◌-◌, ◌^◌, ◌<◌, length, min, slice_get, Some}
 use Rattle.noc_packet.specs.Set.{has_bit}
 use Rattle.noc_route.specs.Routes.{Routes}
-use Rattle.noc_rows.specs.Decided.{HasDecided}
-use Rattle.noc_rows.specs.Rows.{word}
-use Rattle.noc_rows.specs.Stages.{HaveConcluded, HaveDecided, HaveFrozen}
-use Rattle.noc_rows.specs.Wires.{inbox_at, room_of}
+use Rattle.noc_row_blocks.specs.Decided.{HasDecided}
+use Rattle.noc_row_words.specs.Rows.{word}
+use Rattle.noc_row_blocks.specs.Stages.{HaveConcluded, HaveDecided, HaveFrozen}
+use Rattle.noc_row_words.specs.Wires.{inbox_at, room_of}
 use Rattle.noc_rows.specs.declared.rows.Rows.{Rows}
 
 -- the blocks that are awake have taken beats and injected flits

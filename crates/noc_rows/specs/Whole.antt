@@ -4,24 +4,24 @@ use Rattle.noc_topo.specs.Shape.{nodes}
 use Rattle.noc_model.specs.Lockstep.{beats_at, beats_in, findings_before, view_at}
 use Rattle.noc_model.specs.Network.{Setup, arrival_in, state_at}
 use Rattle.noc_rows.specs.Blank.{IsBlank}
-use Rattle.noc_rows.specs.Column.{place_of}
+use Rattle.noc_row_words.specs.Column.{place_of}
 use Rattle.noc_rows.specs.Found.{finding_at}
-use Rattle.noc_rows.specs.Frames.{IsFrameOf}
+use Rattle.noc_row_words.specs.Frames.{IsFrameOf}
 use Rattle.noc_rows.specs.InRows.{RouterWords, ShowsRouter}
 use Rattle.noc_rows.specs.Opened.{HasLinksOf, starts_list}
-use Rattle.noc_rows.specs.Outlook.{holding_in, least_below, is_some_below}
-use Rattle.noc_rows.specs.Rows.{column_at, marks_at, word}
-use Rattle.noc_rows.specs.Source.{source_at}
-use Rattle.noc_rows.specs.Stages.{AreWoken}
-use Rattle.noc_rows.specs.Tallied.{cycles_of, sheet_counts}
-use Rattle.noc_rows.specs.Wires.{inbox_at, ring_in, room_of}
-use Rattle.noc_rows.specs.declared.block.Block.{Block}
-use Rattle.noc_rows.specs.declared.frame.Frame.{Frame}
+use Rattle.noc_row_blocks.specs.Outlook.{holding_in, least_below, is_some_below}
+use Rattle.noc_row_words.specs.Rows.{column_at, marks_at, word}
+use Rattle.noc_row_words.specs.Source.{source_at}
+use Rattle.noc_row_blocks.specs.Stages.{AreWoken}
+use Rattle.noc_row_words.specs.Tallied.{cycles_of, sheet_counts}
+use Rattle.noc_row_words.specs.Wires.{inbox_at, ring_in, room_of}
+use Rattle.noc_row_words.specs.declared.block.Block.{Block}
+use Rattle.noc_row_words.specs.declared.frame.Frame.{Frame}
 use Rattle.noc_rows.specs.declared.rows.Rows.{Rows}
-use Rattle.noc_rows.specs.declared.sheet.Sheet.{Sheet}
-use Rattle.noc_rows.specs.declared.starts.Start.{Start}
-use Rattle.noc_rows.specs.declared.starts.TheConstants.{NEVER}
-use Rattle.noc_rows.specs.declared.wires.Inbox.{Inbox}
+use Rattle.noc_row_words.specs.declared.sheet.Sheet.{Sheet}
+use Rattle.noc_row_words.specs.declared.starts.Start.{Start}
+use Rattle.noc_row_words.specs.declared.starts.TheConstants.{NEVER}
+use Rattle.noc_row_words.specs.declared.wires.Inbox.{Inbox}
 
 -- ---- a block
 

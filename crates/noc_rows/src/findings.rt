@@ -7,15 +7,15 @@ ghost use Rattle.noc_packet.specs.Set.{has_bit};
 ghost use Rattle.noc_router.specs.Found.{empty_finding};
 ghost use Rattle.noc_router.specs.declared.verdict.Verdict.TheVariants.{Empty};
 ghost use Rattle.noc_rows.specs.Found.{AreClaimed, HasPacket, HaveVerdicts, IsClaimed, KeepsOthers, finding_at, given_to, is_noted, judged_by, least_place, out_at, sets_at};
-ghost use Rattle.noc_rows.specs.Wires.{in_row, room_of};
+ghost use Rattle.noc_row_words.specs.Wires.{in_row, room_of};
 
-use crate::block::Block;
-use crate::frame::Frame;
-use crate::lanes::{ROUTERS, Row, least};
-use crate::room::Room;
-use crate::wires::Inbox;
-use crate::word::number;
 use noc_router::{Finding, Verdict};
+use noc_row_words::block::Block;
+use noc_row_words::frame::Frame;
+use noc_row_words::lanes::{ROUTERS, Row, least};
+use noc_row_words::room::Room;
+use noc_row_words::wires::Inbox;
+use noc_row_words::word::number;
 
 // What is found of a channel that holds nothing.
 pub(crate) const EMPTY: Finding = Finding {

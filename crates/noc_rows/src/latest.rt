@@ -3,8 +3,8 @@
 ghost use Rattle.std.specs.Prelude.{◌≡◌};
 ghost use Rattle.noc_rows.specs.Readers.{IsGreatestIn, IsLatest};
 
-use crate::block::Block;
-use crate::lanes::{ROUTERS, Row};
+use noc_row_words::block::Block;
+use noc_row_words::lanes::{ROUTERS, Row};
 
 // The greatest word of the last events of some blocks: the cycle after the last event, 0 before the first.
 pub(crate) fn latest(blocks: &[Block]) -> u32

@@ -4,24 +4,25 @@ ghost use Rattle.std.specs.Prelude.{◌≡◌, ◌≢◌, ◌+◌, ◌*◌, ◌/
 ghost use Rattle.noc_packet.specs.Set.{has_bit};
 ghost use Rattle.noc_packet.specs.declared.packet.Packet.{Packet};
 ghost use Rattle.noc_topo.specs.Shape.{neighbour, nodes as nodes_of};
-ghost use Rattle.noc_rows.specs.Column.{place_of};
-ghost use Rattle.noc_rows.specs.Grants.{leads_by};
+ghost use Rattle.noc_row_words.specs.Column.{place_of};
+ghost use Rattle.noc_row_words.specs.Grants.{leads_by};
 ghost use Rattle.noc_rows.specs.Opened.{AreOpenBlocks, AreOpenWires, AreStartsOf, HasOpened, IsEmptyBlock, LeadsOut};
-ghost use Rattle.noc_rows.specs.Opening.{AreEmptyMarks, empty_column};
-ghost use Rattle.noc_rows.specs.Rows.{column_at, column_of, marks_at, planes_of};
+ghost use Rattle.noc_row_words.specs.Opening.{AreEmptyMarks, empty_column};
+ghost use Rattle.noc_row_words.specs.Rows.{column_at, column_of, marks_at, planes_of};
 
-use crate::block::{Block, Sources, Work};
-use crate::column::{Lane, Lanes};
-use crate::cycle::{ArrivedRows, DecidedRows, ReturnedRows, StandingRows};
-use crate::frame::Frame;
-use crate::lanes::{CHANNELS, PORTS, ROUTERS};
-use crate::marks::{Marks, Tallies};
-use crate::numbers::Numbers;
-use crate::room::Room;
-use crate::starts::{NEVER, Start, after_end, start_at};
-use crate::wires::{Inbox, Tails, WORDS, Wires};
+use crate::lists::after_end;
 use noc_packet::Memory;
 use noc_route::Relation;
+use noc_row_words::block::{Block, Sources, Work};
+use noc_row_words::column::{Lane, Lanes};
+use noc_row_words::cycle::{ArrivedRows, DecidedRows, ReturnedRows, StandingRows};
+use noc_row_words::frame::Frame;
+use noc_row_words::lanes::{CHANNELS, PORTS, ROUTERS};
+use noc_row_words::marks::{Marks, Tallies};
+use noc_row_words::numbers::Numbers;
+use noc_row_words::room::Room;
+use noc_row_words::starts::{NEVER, Start, start_at};
+use noc_row_words::wires::{Inbox, Tails, WORDS, Wires};
 use std::alloc::Global;
 
 // Routers in which nothing is, with all credits.

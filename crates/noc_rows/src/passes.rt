@@ -2,20 +2,21 @@
 
 ghost use Rattle.std.specs.Prelude.{◌≡◌, ℕ, ◌^◌, ◌<◌, length, slice_get, slice_index, true, Some};
 ghost use Rattle.noc_packet.specs.Set.{has_bit};
-ghost use Rattle.noc_rows.specs.Decided.{HasDecided};
-ghost use Rattle.noc_rows.specs.Rows.{word};
-ghost use Rattle.noc_rows.specs.Stages.{AreWoken, HasConcluded, HasFrozen, HaveConcluded, HaveDecided, HaveFrozen, is_busy, next_of, woken};
-ghost use Rattle.noc_rows.specs.Wires.{inbox_at, room_of};
+ghost use Rattle.noc_row_blocks.specs.Decided.{HasDecided};
+ghost use Rattle.noc_row_words.specs.Rows.{word};
+ghost use Rattle.noc_row_blocks.specs.Stages.{AreWoken, HasConcluded, HasFrozen, HaveConcluded, HaveDecided, HaveFrozen, is_busy, next_of, woken};
+ghost use Rattle.noc_row_words.specs.Wires.{inbox_at, room_of};
 
-use crate::block::Block;
-use crate::frame::Frame;
-use crate::moves::move_block;
-use crate::room::Room;
-use crate::rows::{arrive_one, conclude_one, grant_and_route, stand_one};
-use crate::sheet::Sheet;
-use crate::starts::{NEVER, Start};
-use crate::wires::{Inbox, Wires};
 use noc_route::Relation;
+use noc_row_blocks::moves::move_block;
+use noc_row_blocks::steps::{arrive_one, conclude_one, grant_and_route, stand_one};
+use noc_row_words::block::Block;
+use noc_row_words::frame::Frame;
+use noc_row_words::lanes::know_words;
+use noc_row_words::room::Room;
+use noc_row_words::sheet::Sheet;
+use noc_row_words::starts::{NEVER, Start};
+use noc_row_words::wires::{Inbox, Wires};
 
 // The blocks in which something is to happen are awake. The answer is when the next one is to be.
 pub(crate) fn wake_all(cycle: u32, busy: &[bool], blocks: &mut [Block]) -> u32
@@ -136,11 +137,6 @@ fn decide_one(
     know_words(&block.decided.freed);
     know_bytes(&block.marks.first);
 }
-
-// Words are below 2 ^ 32.
-pub(crate) fn know_words(row: &[u32])
-    ensures { (k : ℕ) → word row.now k < 2 ^ 32 }
-{}
 
 // What has happened is counted, and takes effect. The answer has the blocks to which something may be on its way.
 pub(crate) fn conclude_all(

@@ -1,38 +1,24 @@
 //! A network in rows.
 
-ghost use Rattle.std.specs.Prelude.{◌≡◌, ◌+◌, ◌%◌, ◌^◌, ◌<◌, ◌≤◌, ℕ, length, not, nat_eq, slice_index_or, if◌then◌else◌};
-ghost use Rattle.noc_packet.specs.Set.{has_bit};
-ghost use Rattle.noc_rows.specs.Arrive.{HasArrived};
-ghost use Rattle.noc_rows.specs.Decided.{HasChosenIn};
-ghost use Rattle.noc_rows.specs.Outlook.{holding_in, least_below, is_some_below};
-ghost use Rattle.noc_rows.specs.Passes.{lane_asks, lane_heads, lane_standing, lane_verdicts, settled_lane};
-ghost use Rattle.noc_rows.specs.Rows.{column_at, effects_at, event_in, planes_of, standing_at, word};
-ghost use Rattle.noc_rows.specs.Tallied.{CountsAreBelow, counts_by, cycles_of, last_verdicts, sheet_counts, ten_counts, with_verdicts};
-ghost use Rattle.noc_rows.specs.Wires.{inbox_at, room_of};
+ghost use Rattle.std.specs.Prelude.{◌≡◌, ◌+◌, ◌^◌, ◌<◌, ◌≤◌, ℕ, length, slice_index_or};
+ghost use Rattle.noc_row_words.specs.Tallied.{CountsAreBelow, counts_by, ten_counts};
 
-use crate::allocate::allocate_all;
-use crate::block::Block;
-use crate::credits::return_credits;
-use crate::cycle::DecidedRows;
 use crate::findings::{EMPTY, note_claims, note_verdicts};
-use crate::flits::take_flits;
-use crate::frame::Frame;
-use crate::lanes::{CHANNELS, ROUTERS};
 use crate::latest::latest;
-use crate::marks::Tallies;
+use crate::lists::all_starts;
 use crate::open::{new_blocks, new_wires};
-use crate::passes::{arrive_all, conclude_all, decide_all, know_words, note_busy, wake_all};
-use crate::room::Room;
-use crate::route::route_all;
-use crate::settle::{look_ahead, note_events, settle};
-use crate::sheet::{Sheet, VerdictCounts};
-use crate::stand::stand;
-use crate::starts::{NEVER, Start, all_starts, begin_all, inject_all};
+use crate::passes::{arrive_all, conclude_all, decide_all, note_busy, wake_all};
 use crate::still::{still_for, wait_all};
-use crate::wires::{Inbox, Wires};
 use noc_packet::{Memory, Packet};
 use noc_route::Relation;
 use noc_router::Finding;
+use noc_row_words::block::Block;
+use noc_row_words::frame::Frame;
+use noc_row_words::lanes::{CHANNELS, ROUTERS};
+use noc_row_words::marks::Tallies;
+use noc_row_words::sheet::{Sheet, VerdictCounts};
+use noc_row_words::starts::{NEVER, Start};
+use noc_row_words::wires::Wires;
 use std::alloc::Global;
 
 /// A network whose routers are in rows.
@@ -61,7 +47,7 @@ impl Rows {
     ghost use Rattle.noc_topo.specs.Shape.{nodes as nodes_of, ports as ports_of};
     ghost use Rattle.noc_rows.specs.Readers.{are_all_out};
     ghost use Rattle.noc_rows.specs.Steps.{HasArrivedRows, HasConcludedRows, HasDecidedRows};
-    ghost use Rattle.noc_rows.specs.Still.{HaveCounted};
+    ghost use Rattle.noc_row_words.specs.Still.{HaveCounted};
     ghost use Rattle.noc_rows.specs.Whole.{HasPlaces, IsRows, IsWoken, ShowsNetwork};
     ghost use Rattle.noc_model.specs.declared.limits.TheConstants.{CYCLE_LIMIT};
 
@@ -290,132 +276,6 @@ impl Rows {
             Some(u64::from(last - 1))
         }
     }
-}
-
-// Beats are taken in a block, and flits are injected.
-pub(crate) fn arrive_one(
-    frame: &Frame,
-    cycle: u32,
-    starts: &[Start],
-    room: Room,
-    inbox: &mut Inbox,
-    block: &mut Block,
-)
-    ensures lanes { (k : ℕ) → k < 32 → HasArrived (planes_of frame.now.place_bits) frame.now.link_set frame.now.local_set cycle (room_of room) starts.now block.old block.new inbox.old inbox.new k }
-    ensures rest { block.new ≡ record block.old { lanes = block.new.lanes; returned = block.new.returned; arrived = block.new.arrived; sources = block.new.sources } }
-{
-    return_credits(frame, block, &mut inbox.credits);
-    let injecting = take_flits(
-        frame,
-        cycle,
-        &block.sources.due,
-        &mut block.lanes,
-        &mut block.arrived,
-        &mut inbox.flits,
-    );
-    begin_all(
-        injecting.beginning,
-        starts,
-        &mut block.lanes,
-        &mut block.arrived,
-        &mut block.sources,
-    );
-    inject_all(
-        injecting.pushing | injecting.beginning,
-        room,
-        starts,
-        &block.arrived.injected,
-        &mut block.lanes.injecting,
-        &mut block.sources,
-        inbox,
-    );
-}
-
-// Where the input channels of a block stand, before anything is decided.
-pub(crate) fn stand_one(frame: &Frame, block: &mut Block)
-    ensures standing { (k : ℕ) → k < 32 → standing_at block.new.standing k ≡ lane_standing frame.now.fields (word block.old.arrived.filled k) (column_at block.old.lanes k) }
-    ensures heading { (k : ℕ) → k < 32 → has_bit block.new.work.heading k ≡ not (nat_eq (lane_heads (word block.old.arrived.filled k) (column_at block.old.lanes k)) 0) }
-    ensures asking { (k : ℕ) → k < 32 → has_bit block.new.work.asking k ≡ not (nat_eq (lane_asks (column_at block.old.lanes k)) 0) }
-    ensures decided { block.new.decided ≡ DecidedRows.NONE }
-    ensures rest { block.new ≡ record block.old { standing = block.new.standing; work = block.new.work; decided = block.new.decided } }
-{
-    let pending = stand(
-        frame.fields,
-        &block.lanes,
-        &block.arrived.filled,
-        &mut block.standing,
-    );
-    block.work.heading = pending.heading;
-    block.work.asking = pending.asking;
-    block.decided = DecidedRows::NONE;
-}
-
-// Output channels are granted and heads are routed in a block.
-pub(crate) fn grant_and_route(
-    relation: &Relation,
-    frame: &Frame,
-    number: usize,
-    block: &mut Block,
-    wires: &Wires,
-)
-    ensures { number < length wires.now.inboxes.items → HasChosenIn relation.now frame.now number (room_of wires.now.room) (inbox_at wires.now.inboxes.items number) block.old block.new }
-{
-    allocate_all(
-        frame,
-        block.work.asking,
-        &mut block.lanes,
-        &mut block.marks,
-        &mut block.decided,
-        &mut block.tallies,
-    );
-    if number < wires.inboxes.len() {
-        route_all(
-            relation,
-            frame,
-            wires.room,
-            number,
-            block.work.heading,
-            &block.standing.heads,
-            &wires.inboxes[number],
-            &mut block.marks,
-            &mut block.lanes.wanted,
-            &mut block.tallies.routed,
-        );
-        know_words(&block.lanes.wanted);
-    }
-}
-
-// What has happened in a block is counted, and takes effect.
-pub(crate) fn conclude_one(frame: &Frame, cycle: u32, block: &mut Block, sheet: &mut Sheet)
-    ensures columns { (k : ℕ) → k < 32 → column_at block.new.lanes k ≡ settled_lane frame.now.fields frame.now.link_set frame.now.local_set (effects_at block.old.standing block.old.decided k) (column_at block.old.lanes k) }
-    ensures counts { cycles_of sheet.old + 1 < 2 ^ 32 → (j k : ℕ) → j < 32 → sheet_counts sheet.new j k ≡ with_verdicts (lane_verdicts (word block.old.arrived.filled j) (standing_at block.old.standing j) (word block.old.decided.granted j) (word block.old.decided.lost j) (word block.old.decided.moved j) (column_at block.old.lanes j)) k (sheet_counts sheet.old j k) }
-    ensures last { (j : ℕ) → j < 32 → last_verdicts sheet.new j ≡ lane_verdicts (word block.old.arrived.filled j) (standing_at block.old.standing j) (word block.old.decided.granted j) (word block.old.decided.lost j) (word block.old.decided.moved j) (column_at block.old.lanes j) }
-    ensures cycles { cycles_of sheet.new ≡ (cycles_of sheet.old + 1) % 2 ^ 32 }
-    ensures events { (k : ℕ) → k < 32 → word block.new.last_event k ≡ (if nat_eq (event_in block.old.returned block.old.arrived block.old.standing block.old.decided k) 0 then word block.old.last_event k else (cycle + 1) % 2 ^ 32) }
-    ensures holds { block.new.holds ≡ is_some_below (λ k. not (nat_eq (holding_in (column_at block.new.lanes k)) 0)) 32 }
-    ensures moves { block.new.moves ≡ is_some_below (λ k. not (nat_eq (word block.old.decided.moved k) 0)) 32 }
-    ensures next_due { block.new.next_due ≡ least_below (word block.old.sources.due) 32 }
-    ensures rest { block.new ≡ record block.old { lanes = block.new.lanes; last_event = block.new.last_event; holds = block.new.holds; moves = block.new.moves; next_due = block.new.next_due } }
-{
-    sheet.count(
-        &block.lanes,
-        &block.arrived.filled,
-        &block.standing,
-        &block.decided,
-    );
-    settle(frame, &block.standing, &block.decided, &mut block.lanes);
-    note_events(
-        cycle,
-        &block.returned,
-        &block.arrived,
-        &block.standing,
-        &block.decided,
-        &mut block.last_event,
-    );
-    let outlook = look_ahead(&block.lanes, &block.decided.moved, &block.sources.due);
-    block.holds = outlook.holds;
-    block.moves = outlook.moves;
-    block.next_due = outlook.next_due;
 }
 
 // The counts of a channel of a router of a block, of all ten verdicts.

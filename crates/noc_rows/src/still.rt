@@ -4,13 +4,13 @@
 //! it, up to the first in which a packet becomes due. In each of them each channel has the verdict that it had.
 
 ghost use Rattle.std.specs.Prelude.{◌≡◌, ℕ, ◌+◌, ◌^◌, ◌<◌, ◌≤◌, true, false};
-ghost use Rattle.noc_rows.specs.Still.{HadEvent, HaveWaited, IsNextDue, IsNextDueIn, IsStillFor, WereQuiet};
+ghost use Rattle.noc_row_words.specs.Still.{HadEvent, HaveWaited, IsNextDue, IsNextDueIn, IsStillFor, WereQuiet};
 
-use crate::block::Block;
-use crate::lanes::{ROUTERS, Row};
 use crate::latest::greatest;
-use crate::sheet::Sheet;
-use crate::starts::NEVER;
+use noc_row_words::block::Block;
+use noc_row_words::lanes::{ROUTERS, Row};
+use noc_row_words::sheet::Sheet;
+use noc_row_words::starts::NEVER;
 
 // How many cycles from this one on, of so many, are like the one before it, in which nothing happened: none where
 // something did.

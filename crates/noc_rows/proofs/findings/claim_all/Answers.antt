@@ -5,8 +5,8 @@ use Rattle.noc_packet.specs.Set.{has_bit}
 use Rattle.noc_router.specs.Found.{empty_finding}
 use Rattle.noc_router.specs.declared.verdict.Finding.{Finding}
 use Rattle.noc_rows.specs.Found.{IsClaimed, finding_at, is_held}
-use Rattle.noc_rows.specs.Wires.{in_row, room_of}
-use Rattle.noc_rows.proofs.EachLemmas.{each-all, each-next, each-none}
+use Rattle.noc_row_words.specs.Wires.{in_row, room_of}
+use Rattle.noc_row_words.proofs.EachLemmas.{each-all, each-next, each-none}
 use Rattle.noc_rows.proofs.FoundNotes.{unnoted}
 use Rattle.noc_rows.proofs.FoundPasses.{keeps-both, keeps-more, keeps-none}
 use Rattle.noc_rows.proofs.findings.claim_all.Goals as goal

@@ -1,8 +1,8 @@
 use Rattle.std.proofs.Common.{◌+◌, ◌*◌}
 use Rattle.noc_router.specs.declared.verdict.Finding.{Finding}
 use Rattle.noc_rows.specs.Found.{IsClaimed, KeepsOthers, finding_at}
-use Rattle.noc_rows.specs.Wires.{room_of}
-use Rattle.noc_rows.proofs.EachLemmas.{IsEach}
+use Rattle.noc_row_words.specs.Wires.{room_of}
+use Rattle.noc_row_words.proofs.EachLemmas.{IsEach}
 use Rattle.noc_rows.proofs.findings.claim_all.Given as goal
 
 abbrev pub invariant-loop-rest : goal.invariant-loop-rest

@@ -4,7 +4,7 @@ use Rattle.noc_packet.specs.Set.{has_bit}
 use Rattle.noc_router.specs.Found.{empty_finding}
 use Rattle.noc_router.specs.declared.verdict.Finding.{Finding}
 use Rattle.noc_rows.specs.Found.{finding_at, given_to}
-use Rattle.noc_rows.proofs.EachLemmas.{each-all, each-next, each-none}
+use Rattle.noc_row_words.proofs.EachLemmas.{each-all, each-next, each-none}
 use Rattle.noc_rows.proofs.FoundPasses.{keeps-more, keeps-none}
 use Rattle.noc_rows.proofs.findings.give.Goals as goal
 

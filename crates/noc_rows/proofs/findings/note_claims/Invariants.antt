@@ -1,4 +1,4 @@
-use Rattle.noc_rows.specs.Wires.{room_of}
+use Rattle.noc_row_words.specs.Wires.{room_of}
 use Rattle.noc_rows.proofs.FoundPasses.{AreClaimedTo}
 use Rattle.noc_rows.proofs.findings.note_claims.Given as goal
 

@@ -2,7 +2,7 @@ use Rattle.std.proofs.Common.{◌≡◌, ◌≢◌, ◌<◌, ◌^◌, Some, None
 use Rattle.std.specs.Prelude.{slice_index, if◌then◌else◌}
 use Rattle.std.specs.Int.{trailing_zeros, w32}
 use Rattle.std.proofs.lemmas.Bool.{ne_eqb}
-use Rattle.noc_rows.proofs.LaneLemmas.{least-zeros}
+use Rattle.noc_row_blocks.proofs.LaneLemmas.{least-zeros}
 use Rattle.noc_rows.proofs.findings.place_of_least.Goals as goal
 
 pub returns : goal.returns

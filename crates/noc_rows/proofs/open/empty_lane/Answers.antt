@@ -1,5 +1,5 @@
 use Rattle.std.proofs.Common.{ap, List, ℕ}
-use Rattle.noc_rows.specs.Opening.{empty_column}
+use Rattle.noc_row_words.specs.Opening.{empty_column}
 use Rattle.noc_rows.proofs.open.empty_lane.Goals as goal
 
 pub returns : goal.returns

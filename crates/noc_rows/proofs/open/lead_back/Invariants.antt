@@ -1,6 +1,6 @@
 use Rattle.std.proofs.Common.{◌≡◌, ◌≢◌, ℕ, ◌+◌, ◌*◌, ◌/◌, ◌%◌, ◌<◌, slice_index, bit_or}
-use Rattle.noc_rows.specs.Column.{place_of}
-use Rattle.noc_rows.specs.Grants.{leads_by}
+use Rattle.noc_row_words.specs.Column.{place_of}
+use Rattle.noc_row_words.specs.Grants.{leads_by}
 use Rattle.noc_rows.proofs.open.lead_back.Given as goal
 
 -- the channels so far lead back

@@ -1,4 +1,4 @@
-use Rattle.noc_rows.proofs.FrameLemmas.{same-each, same-port}
+use Rattle.noc_row_words.proofs.FrameLemmas.{same-each, same-port}
 use Rattle.std.proofs.Common.{refl}
 use Rattle.noc_router.proofs.QuietLemmas.{at_replicate}
 use Rattle.noc_rows.proofs.OpenLemmas.{none-at, sources-none}

@@ -3,8 +3,8 @@ use Rattle.std.specs.Prelude.{min, Option}
 use Rattle.noc_packet.specs.Set.{has_bit}
 use Rattle.noc_topo.specs.Shape.{neighbour}
 use Rattle.noc_rows.specs.Opened.{LeadsOut}
-use Rattle.noc_rows.specs.Source.{source_at}
-use Rattle.noc_rows.specs.declared.starts.Start.{Start}
+use Rattle.noc_row_words.specs.Source.{source_at}
+use Rattle.noc_row_words.specs.declared.starts.Start.{Start}
 use Rattle.noc_rows.proofs.OpenLemmas.{also-member, block-of, source-other, source-put, still-member}
 use Rattle.noc_rows.proofs.open.open_router.Goals as goal
 

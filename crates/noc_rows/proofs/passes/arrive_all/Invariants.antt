@@ -1,4 +1,4 @@
-use Rattle.noc_rows.specs.Wires.{room_of}
+use Rattle.noc_row_words.specs.Wires.{room_of}
 use Rattle.noc_rows.proofs.PassAll.{HaveFrozenTo}
 use Rattle.noc_rows.proofs.passes.arrive_all.Given as goal
 

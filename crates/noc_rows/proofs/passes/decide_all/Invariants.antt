@@ -1,4 +1,4 @@
-use Rattle.noc_rows.specs.Decided.{HasDecided}
+use Rattle.noc_row_blocks.specs.Decided.{HasDecided}
 use Rattle.noc_rows.proofs.DecideAll.{HaveDecidedTo}
 use Rattle.noc_rows.proofs.passes.decide_all.Given as goal
 

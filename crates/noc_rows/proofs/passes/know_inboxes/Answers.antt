@@ -2,9 +2,9 @@ use Rattle.std.proofs.Common.{[], ◌≡◌, ◌≢◌, ℕ, ◌^◌, ◌<◌, �
 use Rattle.std.specs.Prelude.{◌⊎◌}
 use Rattle.std.proofs.lemmas.Bool.{cases_eq, cases_lt}
 use Rattle.std.proofs.lemmas.List.{get_or_past}
-use Rattle.noc_rows.specs.Rows.{word}
-use Rattle.noc_rows.specs.Wires.{inbox_at}
-use Rattle.noc_rows.specs.declared.wires.Inbox.{Inbox}
+use Rattle.noc_row_words.specs.Rows.{word}
+use Rattle.noc_row_words.specs.Wires.{inbox_at}
+use Rattle.noc_row_words.specs.declared.wires.Inbox.{Inbox}
 use Rattle.noc_rows.proofs.passes.know_inboxes.Goals as goal
 
 abbrev Fits : Inbox → Type 0

@@ -1,6 +1,6 @@
 use Rattle.std.proofs.Common.{ℕ, ◌<◌, ◌^◌}
-use Rattle.noc_rows.specs.Rows.{word}
-use Rattle.noc_rows.specs.Wires.{inbox_at}
+use Rattle.noc_row_words.specs.Rows.{word}
+use Rattle.noc_row_words.specs.Wires.{inbox_at}
 use Rattle.noc_rows.proofs.passes.know_inboxes.Given as goal
 
 abbrev pub invariant-loop-number : goal.invariant-loop-number

@@ -2,7 +2,7 @@ use Rattle.std.proofs.Common.{◌≡◌, ◌≢◌, ◌+◌, ◌-◌, ◌<◌, �
 use Rattle.std.specs.Prelude.{◌⊎◌}
 use Rattle.std.proofs.lemmas.Bool.{cases_lt}
 use Rattle.std.proofs.lemmas.List.{get_or_default}
-use Rattle.noc_rows.specs.declared.starts.TheConstants.{NEVER}
+use Rattle.noc_row_words.specs.declared.starts.TheConstants.{NEVER}
 use Rattle.noc_rows.proofs.ReaderLaws.{all-out, one-left}
 use Rattle.noc_rows.proofs.rows.Rows.all_out.Goals as goal
 

@@ -1,5 +1,5 @@
 use Rattle.std.proofs.Common.{◌≢◌, ℕ, ◌+◌, ◌<◌, ◌≤◌, get_or}
-use Rattle.noc_rows.specs.declared.starts.TheConstants.{NEVER}
+use Rattle.noc_row_words.specs.declared.starts.TheConstants.{NEVER}
 use Rattle.noc_rows.proofs.rows.Rows.all_out.Given as goal
 
 abbrev pub invariant-loop-past : goal.invariant-loop-past

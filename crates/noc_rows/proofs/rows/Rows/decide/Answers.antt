@@ -1,7 +1,7 @@
 use Rattle.std.proofs.Common.{refl, sym, subst, ◌∙◌}
 use Rattle.std.proofs.lemmas.List.{with_items_is}
-use Rattle.noc_rows.specs.Decided.{HasDecided}
-use Rattle.noc_rows.specs.Stages.{HaveDecided}
+use Rattle.noc_row_blocks.specs.Decided.{HasDecided}
+use Rattle.noc_row_blocks.specs.Stages.{HaveDecided}
 use Rattle.noc_rows.proofs.rows.Rows.decide.Goals as goal
 
 pub returns : goal.returns

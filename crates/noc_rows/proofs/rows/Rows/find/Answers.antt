@@ -4,7 +4,7 @@ use Rattle.std.proofs.lemmas.List.{with_items_is}
 use Rattle.noc_rows.specs.Found.{AreClaimed, HaveVerdicts}
 use Rattle.noc_rows.specs.Steps.{HasDecidedRows}
 use Rattle.noc_rows.specs.Whole.{ShowsNetwork}
-use Rattle.noc_rows.specs.Wires.{room_of}
+use Rattle.noc_row_words.specs.Wires.{room_of}
 use Rattle.noc_rows.specs.declared.rows.Rows.{Rows}
 use Rattle.noc_rows.proofs.FoundSteps.{find-shows, whole-found}
 use Rattle.noc_rows.proofs.rows.Rows.find.Goals as goal

@@ -1,7 +1,7 @@
 use Rattle.std.proofs.Common.{◌≡◌, ◌∙◌, refl, sym, subst}
 use Rattle.std.specs.Vec.{with_items}
 use Rattle.std.proofs.lemmas.List.{with_items_is}
-use Rattle.noc_rows.specs.Stages.{AreWoken}
+use Rattle.noc_row_blocks.specs.Stages.{AreWoken}
 use Rattle.noc_rows.proofs.rows.Rows.finish.Goals as goal
 
 pub returns : goal.returns

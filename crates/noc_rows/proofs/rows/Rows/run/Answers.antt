@@ -1,7 +1,7 @@
 use Rattle.std.proofs.Common.{Vec, Global, ◌≡◌, ◌+◌, ◌-◌, ap, arith, length, refl, subst, ◌∙◌, ⊎_elim}
 use Rattle.std.proofs.lemmas.Bool.{cases_lt}
 use Rattle.noc_router.specs.declared.verdict.Finding.{Finding}
-use Rattle.noc_rows.specs.Column.{place_of}
+use Rattle.noc_row_words.specs.Column.{place_of}
 use Rattle.noc_rows.specs.Found.{finding_at}
 use Rattle.noc_rows.specs.Whole.{IsRows, ShowsNetwork}
 use Rattle.noc_rows.proofs.rows.Rows.run.Goals as goal

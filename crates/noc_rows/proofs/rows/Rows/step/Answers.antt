@@ -1,6 +1,6 @@
 use Rattle.std.proofs.Common.{◌≡◌, ap, refl, sym, subst, ◌∙◌, add-one}
 use Rattle.noc_rows.specs.Steps.{HasDecidedRows}
-use Rattle.noc_rows.specs.Still.{HaveCounted}
+use Rattle.noc_row_words.specs.Still.{HaveCounted}
 use Rattle.noc_rows.specs.Whole.{IsRows}
 use Rattle.noc_rows.specs.declared.rows.Rows.{Rows}
 use Rattle.noc_rows.proofs.StillLemmas.{counted-all}

@@ -1,7 +1,7 @@
 use Rattle.std.proofs.Common.{◌≡◌, ◌+◌, suc, refl, subst, arith, ◌∙◌, add-one}
 use Rattle.std.specs.Vec.{with_items}
 use Rattle.std.proofs.lemmas.List.{with_items_is}
-use Rattle.noc_rows.specs.Still.{HaveWaited, IsStillFor}
+use Rattle.noc_row_words.specs.Still.{HaveWaited, IsStillFor}
 use Rattle.noc_rows.specs.Whole.{IsRows}
 use Rattle.noc_rows.proofs.WaitLaws.{wait-rows}
 use Rattle.noc_rows.proofs.rows.Rows.wait.Goals as goal

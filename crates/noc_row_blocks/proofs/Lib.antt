@@ -1,0 +1,16 @@
+pub mod OutlookLemmas
+pub mod SourceLemmas
+pub mod UnionLemmas
+pub mod LaneLemmas
+pub mod TailLemmas
+pub mod PushLemmas
+pub mod ComposeLemmas
+pub mod RouteLemmas
+pub mod CarryLaws
+pub mod StepLemmas
+pub mod SendLemmas
+pub mod NotedLemmas
+pub mod MovedLemmas
+pub mod PortLemmas
+pub mod ReleaseLaws
+pub mod ChosenIn

@@ -1,0 +1,17 @@
+pub mod Bits
+pub mod Planes
+pub mod Fields
+pub mod Taken
+pub mod FlitWords
+pub mod Column
+pub mod Passes
+pub mod Sheet
+pub mod Turns
+pub mod Rows
+pub mod Source
+pub mod Tallied
+pub mod Opening
+pub mod Wires
+pub mod Grants
+pub mod Frames
+pub mod Still
