@@ -1,9 +1,9 @@
 //! The network.
 //!
 //! A network runs by rows (`noc_rows`) where its channels and places fit their words, and its routers stay at the
-//! count at which it was made. Where they do not fit, and after `from_parts`, its routers run. The readers ask whichever of
-//! the two has run. Nothing is carried from one to the other: `into_parts` has the routers run the cycles that the rows
-//! have run, and lets the rows go.
+//! count at which it was made. Where they do not fit, and after `from_parts`, its routers run. The readers ask
+//! whichever of the two has run. Nothing is carried from one to the other: `into_parts` has the routers run the
+//! cycles that the rows have run, and lets the rows go.
 
 ghost use Rattle.std.specs.Prelude.{◌≡◌, ℕ, ◌+◌, ◌*◌, ◌<◌, ◌≤◌, ◌&&◌, All, Err, IfErr, IfOk, None, Some, false, is_none, length, nat_le, vec_len};
 ghost use Rattle.std.specs.List.{slice_get};
