@@ -86,7 +86,8 @@ one-is w i f (inr single) =
     by (inr other) =
         ap (λ b. f (trailing_zeros w32 w) && b) (ne_eqb i (trailing_zeros w32 w) other) ∙ and-none (f (trailing_zeros w32 w)) ∙ sym (ap (λ b. b && f i) (ne_eqb i (trailing_zeros w32 w) other))
 
-some-true : (n k : ℕ) (test : ℕ → Bool) → k < n → test k ≡ true → some_below n test ≡ true
+-- a test that some number below n passes
+pub some-true : (n k : ℕ) (test : ℕ → Bool) → k < n → test k ≡ true → some_below n test ≡ true
 some-true zero k test l e = absurd (omega arith)
 some-true (suc n) k test l e = elim (cases_eq n k) [
   | inl same ↦ ap (λ b. some_below n test || b) (ap test same ∙ e) ∙ or-true (some_below n test)

@@ -1,7 +1,7 @@
 -- The tails that go out of a block in a cycle arrive: of a block that is awake, and of one that is asleep.
-use Rattle.std.proofs.Common.{◌≡◌, ℕ, zero, suc, ◌+◌, ◌*◌, ◌/◌, ◌%◌, ◌<◌, ◌≤◌, Bool, true, false, List, length, refl, ap, ap₂, sym, ◌∙◌, subst, arith, inl, inr}
-use Rattle.std.specs.Prelude.{◌⊎◌, ◌&&◌, ◌||◌, min, nat_lt, nat_eq, slice_get, slice_index}
-use Rattle.std.proofs.lemmas.Bool.{and_parts, cases_lt, eq-eqb, eqb-true, false≢true, lt-ltb, ltb-true}
+use Rattle.std.proofs.Common.{◌≡◌, ℕ, ◌+◌, ◌*◌, ◌/◌, ◌%◌, ◌<◌, ◌≤◌, Bool, true, false, List, length, refl, ap, ap₂, sym, ◌∙◌, subst, arith}
+use Rattle.std.specs.Prelude.{◌&&◌, ◌||◌, min, nat_lt, nat_eq, slice_get, slice_index}
+use Rattle.std.proofs.lemmas.Bool.{and_parts, eq-eqb, eqb-true, false≢true, lt-ltb, ltb-true}
 use Rattle.noc_topo.specs.Shape.{nodes, ports}
 use Rattle.noc_packet.specs.Set.{has_bit}
 use Rattle.noc_packet.specs.declared.packet.Flit.{Flit}
@@ -12,7 +12,7 @@ use Rattle.noc_model.specs.Lockstep.{site_at}
 use Rattle.noc_model.specs.Network.{Setup, size}
 use Rattle.noc_row_words.specs.Column.{sends_by}
 use Rattle.noc_row_words.specs.Frames.{IsFrameOf}
-use Rattle.noc_row_blocks.specs.Moves.{ports_of, some_below}
+use Rattle.noc_row_blocks.specs.Moves.{ports_of}
 use Rattle.noc_row_words.specs.Rows.{word}
 use Rattle.noc_row_blocks.specs.Stages.{HasFrozen, selected_of}
 use Rattle.noc_row_blocks.specs.Switched.{HaveReleased, selected_by_ports}
@@ -35,20 +35,8 @@ use Rattle.noc_rows.proofs.LaneShows.{KeepsFrozen}
 use Rattle.noc_rows.proofs.NetworkLaws.{frozen-seen, good}
 use Rattle.noc_rows.proofs.NetworkMoves.{is_moving, moves_at, moves-are, moves-below}
 use Rattle.noc_rows.proofs.PutLemmas.{IsMover, bit-moves}
+use Rattle.noc_row_blocks.proofs.ReleaseLaws.{some-true}
 use Rattle.noc_row_blocks.proofs.UnionLemmas.{union-members}
-
--- a test that some number below n passes
-some-true : (n q : ℕ) (test : ℕ → Bool) → q < n → test q ≡ true → some_below n test ≡ true
-some-true zero q test l e = absurd (omega (arith, l))
-some-true (suc n) q test l e = at (cases_lt q n) (λ u. some-true n q test u e)
-  where
-    or-true : (x : Bool) → (x || true) ≡ true
-    or-true true = refl
-    or-true false = refl
-
-    at : (q < n) ⊎ (n ≤ q) → (q < n → some_below n test ≡ true) → (some_below n test || test n) ≡ true
-    at (inl u) lower = ap (λ x. x || test n) (lower u)
-    at (inr u) lower = let same : q ≡ n = omega (arith, l, u) in ap (λ x. some_below n test || x) (ap test (sym same) ∙ e) ∙ or-true (some_below n test)
 
 module _ (net : Setup) (setup : IsGoodSetup net) (n : ℕ) (small : size net ≤ 31) (b : ℕ) where
   -- ---- which channels move

@@ -1,6 +1,6 @@
 -- A block that is awake, among all that decide in a cycle: its lanes are frozen, and the channels that its ports select are those that the
 -- network moves.
-use Rattle.std.proofs.Common.{◌≡◌, ℕ, zero, suc, ◌+◌, ◌*◌, ◌/◌, ◌%◌, ◌<◌, ◌≤◌, Bool, true, false, List, refl, ap, ap₂, sym, ◌∙◌, subst, arith, inl, inr}
+use Rattle.std.proofs.Common.{◌≡◌, ℕ, ◌+◌, ◌*◌, ◌/◌, ◌%◌, ◌<◌, ◌≤◌, true, List, ap, ap₂, sym, ◌∙◌, subst, arith, inl, inr}
 use Rattle.std.specs.Prelude.{◌⊎◌, ◌&&◌, ◌||◌, min, nat_lt, slice_index}
 use Rattle.std.proofs.lemmas.Bool.{cases_lt, le-ltb, lt-ltb, false≢true}
 use Rattle.std.proofs.lemmas.Nat.{div-add-mod'}
@@ -17,7 +17,7 @@ use Rattle.noc_model.specs.Network.{Setup, size}
 use Rattle.noc_row_blocks.specs.Carried.{WireWords}
 use Rattle.noc_row_words.specs.Column.{Leads, ShowsPhase, place_of}
 use Rattle.noc_row_words.specs.Frames.{IsFrameOf}
-use Rattle.noc_row_blocks.specs.Moves.{ports_of, some_below}
+use Rattle.noc_row_blocks.specs.Moves.{ports_of}
 use Rattle.noc_rows.specs.Opened.{HasLinksOf}
 use Rattle.noc_row_words.specs.Rows.{column_at, marks_at, word}
 use Rattle.noc_row_blocks.specs.Stages.{HasFrozen, selected_of}
@@ -41,20 +41,8 @@ use Rattle.noc_rows.proofs.LeadLaws.{back-leads}
 use Rattle.noc_rows.proofs.NetworkLaws.{frozen-seen, good}
 use Rattle.noc_rows.proofs.NetworkMoves.{IsStillLane, is_moving, moves_at, moves-are, one-move}
 use Rattle.noc_rows.proofs.PutLemmas.{IsMover, bit-moves}
+use Rattle.noc_row_blocks.proofs.ReleaseLaws.{some-true}
 use Rattle.noc_row_blocks.proofs.UnionLemmas.{union-members}
-
--- a test that some number below n passes
-some-true : (n q : ℕ) (test : ℕ → Bool) → q < n → test q ≡ true → some_below n test ≡ true
-some-true zero q test l e = absurd (omega (arith, l))
-some-true (suc n) q test l e = at (cases_lt q n) (λ u. some-true n q test u e)
-  where
-    or-true : (x : Bool) → (x || true) ≡ true
-    or-true true = refl
-    or-true false = refl
-
-    at : (q < n) ⊎ (n ≤ q) → (q < n → some_below n test ≡ true) → (some_below n test || test n) ≡ true
-    at (inl u) lower = ap (λ x. x || test n) (lower u)
-    at (inr u) lower = let same : q ≡ n = omega (arith, l, u) in ap (λ x. some_below n test || x) (ap test (sym same) ∙ e) ∙ or-true (some_below n test)
 
 module _ (net : Setup) (setup : IsGoodSetup net) (n : ℕ) (few : n < CYCLE_LIMIT) (frame : Frame) (is_frame : IsFrameOf net.relation net.places frame) (starts : List Start) (room : ℕ) (enough : net.places ≤ room)
     (blocks : ℕ) (few_blocks : blocks ≤ 8) (covered : nodes net.relation.grid * 32 ≤ blocks * 1024) (b : ℕ) (old frozen : Block) (before after : Inbox) (sheet : Sheet)
