@@ -4,7 +4,7 @@ use Rattle.std.specs.Prelude.{not, is_some}
 use Rattle.std.proofs.lemmas.Bool.{eqb-true, and_parts, false≢true}
 use Rattle.noc_topo.specs.Shape.{Grid, IsGrid, dimensions, coordinates, local_port, neighbour, moved_in, is_plus}
 use Rattle.noc_topo.specs.Words.{tabulate}
-use Rattle.noc_topo.proofs.WordLemmas.{length-tabulate, get_or-tabulate}
+use Rattle.noc_topo.proofs.WordLemmas.{get_or-tabulate}
 use Rattle.noc_topo.proofs.ShapeLemmas.{length-coordinates}
 use Rattle.noc_topo.proofs.LinkLemmas.{IsWithin-at, IsWithin-coordinates, AreRadices, AreRadices-from_test, Hop, hop_of}
 use Rattle.noc_topo.proofs.DistanceLemmas.{hop-coordinates}
@@ -158,5 +158,5 @@ formula-exists grid vcs classes rule routes made ruled =
     let f : ℕ → Option ℕ = λ k. formula_at grid vcs classes rule (k / vcs / local_port grid) (k / vcs % local_port grid) (k % vcs) in
     let n = rank_count grid vcs in (
       formula-ranking grid vcs classes rule,
-      formula-ranked grid vcs classes rule routes (formula-ranking grid vcs classes rule) made ruled refl refl (listed-rank_at grid vcs classes rule (tabulate n f) (length-tabulate n f) (λ k l. get_or-tabulate n k f None l)),
+      formula-ranked grid vcs classes rule routes (formula-ranking grid vcs classes rule) made ruled refl refl (listed-rank_at grid vcs classes rule (tabulate n f) (λ k l. get_or-tabulate n k f None l)),
     )

@@ -14,6 +14,7 @@ use Rattle.noc_route.specs.Ranks.{Ranking, LeadsTo, direct, through, is_place, r
 use Rattle.noc_route.specs.Routes.{Routes, set_at, permits, IsRelation}
 use Rattle.noc_route.proofs.PermitsLemmas.{PermitsLink-from_test, permits-nearer}
 use Rattle.noc_route.proofs.PlaceLemmas.{flat-below, flat-div, flat-mod}
+use Rattle.noc_rank.specs.declared.ahead.Search.{Search}
 use Rattle.noc_rank.specs.LeastAhead.{IsLeastOf, lesser, over, mark_at, IsAhead, outputs, counts_for, IsValueIn, IsBefore, AreLeast, AreAllLeast}
 use Rattle.noc_rank.proofs.BareLemmas.{link-member, member-link}
 use Rattle.noc_rank.proofs.LeastLemmas.{least-same, least-none, least-either}
@@ -55,7 +56,22 @@ least-member routes ranks marks least r set i best value old e = least-same _ _ 
 pub least-no_member : (routes : Routes) (ranks marks least : List (Option ℕ)) (r set : ℕ) → IsLeastOf (IsValueIn routes ranks marks least r set 0) None
 least-no_member routes ranks marks least r set = least-none _ (λ n v. omega (arith, v.below))
 
-module _ (routes : Routes) (built : IsRelation routes) (ranks marks : List (Option ℕ)) (m t : ℕ) where
+module _ (s : Search) (built : IsRelation s.relation.now) where
+  abbrev routes : Routes
+  routes = s.relation.now
+
+  abbrev ranks : List (Option ℕ)
+  ranks = s.ranks.now
+
+  abbrev marks : List (Option ℕ)
+  marks = s.marks.now
+
+  abbrev m : ℕ
+  m = s.class
+
+  abbrev t : ℕ
+  t = s.dst
+
   abbrev g : Grid
   g = routes.grid
 

@@ -15,6 +15,7 @@ use Rattle.noc_rank.specs.LeastAhead.{IsLeastOf, over, mark_at, IsAhead, AreAllL
 use Rattle.noc_rank.specs.NotRisingTo.{channel_at, IsLinkPlace, AreReal, falls, mark_below, BeginsDescent, IsStartBy, IsAheadAt, IsOver}
 use Rattle.noc_rank.specs.Faults.{IsDescent, IsFirstDescent, HasNoDescent, pair_numbers}
 use Rattle.noc_rank.specs.declared.place.LinkChannel.{LinkChannel}
+use Rattle.noc_rank.specs.declared.ahead.RankList.{RankList}
 use Rattle.noc_rank.specs.declared.descent.Descent.{Descent}
 use Rattle.noc_rank.proofs.LeastLemmas.{least-same, least-none, least-one}
 use Rattle.noc_rank.proofs.OverLemmas.{over-one}
@@ -45,7 +46,19 @@ start-here ranks least n l here none = least-one _ n (record { inside = l; falls
 pub start-none : (ranks least : List (Option ℕ)) → ((i : ℕ) → i < length ranks → falls (get_or ranks i None) (get_or least i None) ≡ false) → IsLeastOf (BeginsDescent ranks least) None
 start-none ranks least none = least-none _ (λ i h. false≢true (sym (none i h.inside) ∙ h.falls))
 
-module _ (routes : Routes) (built : IsRelation routes) (ranks : List (Option ℕ)) (long : length ranks ≡ rank_count routes.grid routes.vcs) (real : AreReal routes ranks) where
+module _ (list : RankList) (built : IsRelation list.relation.now) where
+  abbrev routes : Routes
+  routes = list.relation.now
+
+  abbrev ranks : List (Option ℕ)
+  ranks = list.ranks.now
+
+  abbrev long : length ranks ≡ rank_count routes.grid routes.vcs
+  long = list.all
+
+  abbrev real : AreReal routes ranks
+  real = list.real
+
   abbrev k : Ranking
   k = over routes ranks
 

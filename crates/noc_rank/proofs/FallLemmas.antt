@@ -1,6 +1,6 @@
 -- Steps that do not rise.
 use Rattle.std.proofs.Common.{◌≡◌, ℕ, ◌+◌, ◌*◌, ◌/◌, ◌%◌, ◌<◌, ◌≤◌, Bool, true, false, List, [], ◌∷◌, Option, Some, None, refl, ap, sym, subst, ◌∙◌, arith, inl, inr}
-use Rattle.std.specs.Prelude.{nat_lt, nat_eq, ◌&&◌, ◌⊎◌, IfNone, IfSome, MatchOption}
+use Rattle.std.specs.Prelude.{nat_lt, nat_eq, ◌&&◌, ◌⊎◌, MatchOption}
 use Rattle.std.proofs.Math.Nat.{div-lt_iff_lt-mul, mul_assoc, mod-lt, zero-mul}
 use Rattle.std.proofs.lemmas.Option.{none-some, some_pair_parts}
 use Rattle.std.proofs.lemmas.Bool.{lt-ltb, ltb-true, leb-true, leb-false, le-leb, eq-eqb, and_parts, false≢true, cases_lt}
@@ -33,22 +33,22 @@ class-below e c n p v n_some p_some v_some l =
 -- ---- one entry
 
 first_at-core : (routes : Routes) (k : Ranking) (e before : ℕ) (o : Option Fall) → arrival_rank k (router_of k e) (input_port_of k e) (e % k.vcs) ≡ Some before
-    → IfNone o ((t : ℕ) → t < nodes k.grid → HasNone (falls_to k (router_of k e) (set_at routes (class_of k e) (router_of k e) (input_port_of k e) (e % k.vcs) t) before) (link_output_count k))
-    → IfSome o (IsFirstFrom routes k (class_of k e) (router_of k e) (input_port_of k e) (e % k.vcs) before)
+    → MatchOption o ((t : ℕ) → t < nodes k.grid → HasNone (falls_to k (router_of k e) (set_at routes (class_of k e) (router_of k e) (input_port_of k e) (e % k.vcs) t) before) (link_output_count k))
+    (IsFirstFrom routes k (class_of k e) (router_of k e) (input_port_of k e) (e % k.vcs) before)
     → MatchOption o (HasNoFall routes k e) (IsFirstAt routes k e)
-first_at-core routes k e before None arrival none some = λ t l j m. rw arrival (none t l j m)
-first_at-core routes k e before (Some fall) arrival none some = record { before = before; arrival = arrival; first = some }
+first_at-core routes k e before None arrival none = λ t l j m. rw arrival (none t l j m)
+first_at-core routes k e before (Some fall) arrival some = record { before = before; arrival = arrival; first = some }
 
 pub first_at-match : (routes : Routes) (k : Ranking) (e before v p n : ℕ) (o : Option Fall) → v ≡ k.vcs → p ≡ ports k.grid → n ≡ nodes k.grid
     → arrival_rank k (e / v / p % n) (e / v % p) (e % v) ≡ Some before
-    → IfNone o ((t : ℕ) → t < nodes k.grid → HasNone (falls_to k (e / v / p % n) (set_at routes (e / v / p / n) (e / v / p % n) (e / v % p) (e % v) t) before) (link_output_count k))
-    → IfSome o (IsFirstFrom routes k (e / v / p / n) (e / v / p % n) (e / v % p) (e % v) before)
+    → MatchOption o ((t : ℕ) → t < nodes k.grid → HasNone (falls_to k (e / v / p % n) (set_at routes (e / v / p / n) (e / v / p % n) (e / v % p) (e % v) t) before) (link_output_count k))
+    (IsFirstFrom routes k (e / v / p / n) (e / v / p % n) (e / v % p) (e % v) before)
     → MatchOption o (HasNoFall routes k e) (IsFirstAt routes k e)
 first_at-match routes k e before v p n o a b c =
     let P : ℕ → ℕ → ℕ → Type 0 = λ v p n.
     arrival_rank k (e / v / p % n) (e / v % p) (e % v) ≡ Some before
-    → IfNone o ((t : ℕ) → t < nodes k.grid → HasNone (falls_to k (e / v / p % n) (set_at routes (e / v / p / n) (e / v / p % n) (e / v % p) (e % v) t) before) (link_output_count k))
-    → IfSome o (IsFirstFrom routes k (e / v / p / n) (e / v / p % n) (e / v % p) (e % v) before)
+    → MatchOption o ((t : ℕ) → t < nodes k.grid → HasNone (falls_to k (e / v / p % n) (set_at routes (e / v / p / n) (e / v / p % n) (e / v % p) (e % v) t) before) (link_output_count k))
+    (IsFirstFrom routes k (e / v / p / n) (e / v / p % n) (e / v % p) (e % v) before)
     → MatchOption o (HasNoFall routes k e) (IsFirstAt routes k e) in
     subst (λ x. P x p n) (sym a) (subst (λ x. P k.vcs x n) (sym b) (subst (λ x. P k.vcs (ports k.grid) x) (sym c) (first_at-core routes k e before o)))
 

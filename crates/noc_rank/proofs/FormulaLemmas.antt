@@ -1,20 +1,22 @@
 -- Ranks by formula.
-use Rattle.std.proofs.Common.{◌≡◌, ℕ, ◌+◌, ◌*◌, ◌/◌, ◌%◌, ◌<◌, ◌≤◌, Bool, true, false, List, Option, Some, None, length, get_or, refl, sym, subst, ap, ◌∙◌, arith}
+use Rattle.std.proofs.Common.{◌≡◌, ℕ, ◌+◌, ◌*◌, ◌/◌, ◌%◌, ◌<◌, ◌≤◌, Bool, true, false, List, [], ◌∷◌, ◌++◌, Option, Some, None, length, length-append, get_or, refl, sym, subst, ap, ◌∙◌, arith}
 use Rattle.std.specs.Prelude.{nat_le, nat_eq, not, ◌&&◌, IfSome, if◌then◌else◌}
 use Rattle.std.proofs.lemmas.Bool.{leb-true, ltb-true, eqb-true, and_parts}
-use Rattle.std.proofs.Math.Nat.{mul-le-mul_right}
+use Rattle.std.proofs.Math.Nat.{mul-le-mul_right, zero-mul}
 use Rattle.std.proofs.lemmas.Option.{none-some}
 use Rattle.noc_packet.specs.declared.limits.TheConstants.{MAX_CHANNELS, MAX_CLASSES}
-use Rattle.noc_topo.specs.Shape.{Grid, IsGrid, dimensions, local_port, coordinates, three_coordinates}
+use Rattle.noc_topo.specs.Shape.{Grid, IsGrid, nodes, dimensions, local_port, coordinates, three_coordinates}
 use Rattle.noc_topo.proofs.LinkLemmas.{AreRadices-from_test, AreRadices-at, IsWithin-at, IsWithin-coordinates, get_or-padded}
 use Rattle.noc_route.specs.Relation.{is_right, escapes, is_escape}
 use Rattle.noc_route.specs.declared.rule.Rule.{Rule}
-use Rattle.noc_route.specs.declared.rule.Rule.TheVariants.{Dateline, WestFirst, Adaptive}
-use Rattle.noc_route.proofs.PlaceLemmas.{half-some}
+use Rattle.noc_route.specs.declared.rule.Rule.TheVariants.{Dor, Dateline, WestFirst, Adaptive, Rows}
+use Rattle.noc_route.proofs.PlaceLemmas.{half-some, each-pushed}
 use Rattle.noc_route.specs.Ranks.{Ranking, is_place, is_channel, rank_count, rank_index, rank_at}
 use Rattle.noc_rank.specs.Ranking.{IsRanking}
-use Rattle.noc_rank.specs.Formulas.{has_ranks, is_numbered, formula_at, IsGenerated}
-use Rattle.noc_rank.proofs.PlaceLemmas.{is_place-parts, place-below, place-router, place-port, place-vc}
+use Rattle.noc_rank.specs.Formulas.{has_ranks, is_numbered, formula, formula_at, hops_passed, IsGenerated}
+use Rattle.noc_rank.specs.Formulated.{IsWithin, AreByFormula, rank_in, turn_by}
+use Rattle.noc_rank.specs.declared.generated.Formula.{Formula}
+use Rattle.noc_rank.proofs.PlaceLemmas.{is_place-parts, is_place-decoded, place-below, place-router, place-port, place-vc}
 
 -- ---- what a rule with ranks has
 
@@ -65,13 +67,34 @@ escape-low g vcs classes v rule e known =
 pub rank-few : (a b s p : ℕ) → a < 3 → b ≤ 2 → s ≤ 16 → p < 16 → (b * s ≤ 32) × (32 * a + b * s + p + 1 ≤ 145)
 rank-few a b s p l m n o = let most : b * s ≤ 2 * s = mul-le-mul_right s m in (omega arith, omega arith)
 
+-- every rule but west first has its ranks dimension by dimension
+pub formula-turned : (g : Grid) (vcs classes r p v : ℕ) (rule : Rule) → (rule ≡ WestFirst → ⊥) → formula g vcs classes rule r p v ≡ 32 * (p / 2) + turn_by vcs classes rule v * get_or g.radix (p / 2) 0 + hops_passed g r p + 1
+formula-turned g vcs classes r p v Dor other = omega (arith, zero-mul (get_or g.radix (p / 2) 0))
+formula-turned g vcs classes r p v Dateline other = refl
+formula-turned g vcs classes r p v WestFirst other = absurd (other refl)
+formula-turned g vcs classes r p v Adaptive other = refl
+formula-turned g vcs classes r p v (Rows rows) other = omega (arith, zero-mul (get_or g.radix (p / 2) 0))
+
 -- ---- a list of ranks by formula
 
-module _ (g : Grid) (vcs classes : ℕ) (rule : Rule) (ranks : List (Option ℕ)) (long : length ranks ≡ rank_count g vcs)
-    (items : (k : ℕ) → k < rank_count g vcs → get_or ranks k None ≡ formula_at g vcs classes rule (k / vcs / local_port g) (k / vcs % local_port g) (k % vcs)) where
-  abbrev listed : Ranking
-  listed = record { grid = g; vcs = vcs; ranks = ranks }
+-- one more place, where p is the number of link ports
+pub by_formula-push : (f : Formula) (p n : ℕ) (xs ys : List (Option ℕ)) (x : Option ℕ) → p ≡ local_port f.shape.now → AreByFormula f n xs → ys ≡ xs ++ x ∷ []
+    → x ≡ rank_in f (n / f.vcs / p) (n / f.vcs % p) (n % f.vcs) → IfSome x IsWithin → AreByFormula f (n + 1) ys
+by_formula-push f p n xs ys x ports old grown value within = record {
+  long = ap length grown ∙ length-append xs (x ∷ []) ∙ ap (λ k. k + 1) old.long;
+  items = each-pushed None (λ k r. r ≡ rank_in f (k / f.vcs / local_port f.shape.now) (k / f.vcs % local_port f.shape.now) (k % f.vcs)) xs ys x n old.long grown old.items
+      (subst (λ q. x ≡ rank_in f (n / f.vcs / q) (n / f.vcs % q) (n % f.vcs)) ports value);
+  within = each-pushed None (λ k r. IfSome r IsWithin) xs ys x n old.long grown old.within within;
+}
 
+-- the place of a loop over all places
+pub place-known : (g : Grid) (vcs p n : ℕ) → 0 < vcs → 2 ≤ p → p ≡ local_port g → n < rank_count g vcs → n / vcs / p < nodes g
+place-known g vcs p n some ports count below =
+    let parts = is_place-parts g vcs (n / vcs / local_port g) (n / vcs % local_port g) (n % vcs) (is_place-decoded g vcs n some (omega (arith, ports, count)) below) in
+    subst (λ q. n / vcs / q < nodes g) (sym count) parts.0
+
+module _ (g : Grid) (vcs classes : ℕ) (rule : Rule) (ranks : List (Option ℕ))
+    (items : (k : ℕ) → k < rank_count g vcs → get_or ranks k None ≡ formula_at g vcs classes rule (k / vcs / local_port g) (k / vcs % local_port g) (k % vcs)) where
   at_place : (r p v : ℕ) → is_place g vcs r p v ≡ true → get_or ranks (rank_index g vcs r p v) None ≡ formula_at g vcs classes rule r p v
   at_place r p v e =
       let parts = is_place-parts g vcs r p v e in
@@ -82,32 +105,39 @@ module _ (g : Grid) (vcs classes : ℕ) (rule : Rule) (ranks : List (Option ℕ)
   at_any r p v true e = at_place r p v e
   at_any r p v false e = rw e refl
 
-  pub listed-rank_at : (r p v : ℕ) → rank_at listed r p v ≡ formula_at g vcs classes rule r p v
+  pub listed-rank_at : (r p v : ℕ) → rank_at (record { grid = g; vcs = vcs; ranks = ranks }) r p v ≡ formula_at g vcs classes rule r p v
   listed-rank_at r p v = at_any r p v (is_place g vcs r p v) refl
 
-  -- the list is ranks where each of them is within the limits
-  pub IsRanking-listed : IsGrid g → ((k : ℕ) → k < rank_count g vcs → IfSome (get_or ranks k None) (λ n. 1 ≤ n)) → ((k : ℕ) → k < rank_count g vcs → IfSome (get_or ranks k None) (λ n. n ≤ 1000)) → IsRanking listed
-  IsRanking-listed sound some few = record {
+module _ (f : Formula) (ranks : List (Option ℕ)) (made : AreByFormula f (rank_count f.shape.now f.vcs) ranks) where
+  abbrev g : Grid
+  g = f.shape.now
+
+  abbrev listed : Ranking
+  listed = record { grid = g; vcs = f.vcs; ranks = ranks }
+
+  ranks-are : (r p v : ℕ) → rank_at listed r p v ≡ rank_in f r p v
+  ranks-are = listed-rank_at g f.vcs f.classes f.rule.now ranks made.items
+
+  -- the list is ranks
+  pub IsRanking-listed : IsGrid g → IsRanking listed
+  IsRanking-listed sound = record {
     grid = sound;
-    long = long;
-    real = λ r p v n e. real_at r p v n (is_channel g vcs r p v) refl (sym (listed-rank_at r p v) ∙ e);
-    low = λ r p v n e. (within r p v n (is_place g vcs r p v) refl e).0;
-    high = λ r p v n e. omega (arith, (within r p v n (is_place g vcs r p v) refl e).1);
+    long = made.long;
+    real = λ r p v n e. real_at r p v n (is_channel g f.vcs r p v) refl (sym (ranks-are r p v) ∙ e);
+    low = λ r p v n e. (within r p v n (is_place g f.vcs r p v) refl e).0;
+    high = λ r p v n e. omega (arith, (within r p v n (is_place g f.vcs r p v) refl e).1);
   }
     where
-      real_at : (r p v n : ℕ) (b : Bool) → is_channel g vcs r p v ≡ b → formula_at g vcs classes rule r p v ≡ Some n → is_channel g vcs r p v ≡ true
-      real_at r p v n true e f = e
-      real_at r p v n false e f = absurd (none-some n (sym (rw e refl) ∙ f))
+      real_at : (r p v n : ℕ) (b : Bool) → is_channel g f.vcs r p v ≡ b → rank_in f r p v ≡ Some n → is_channel g f.vcs r p v ≡ true
+      real_at r p v n true e h = e
+      real_at r p v n false e h = absurd (none-some n (sym (rw e refl) ∙ h))
 
-      within : (r p v n : ℕ) (b : Bool) → is_place g vcs r p v ≡ b → rank_at listed r p v ≡ Some n → (1 ≤ n) × (n ≤ 1000)
-      within r p v n true e f =
-          let there : get_or ranks (rank_index g vcs r p v) None ≡ Some n = sym (rw e refl) ∙ f in
-          let low = some (rank_index g vcs r p v) (place-below g vcs r p v e) in
-          let high = few (rank_index g vcs r p v) (place-below g vcs r p v e) in
-          let L : Option ℕ → Type 0 = λ o. IfSome o (λ n. 1 ≤ n) in
-          let H : Option ℕ → Type 0 = λ o. IfSome o (λ n. n ≤ 1000) in
-          (subst L there low, subst H there high)
-      within r p v n false e f = absurd (none-some n (sym (rw e refl) ∙ f))
+      within : (r p v n : ℕ) (b : Bool) → is_place g f.vcs r p v ≡ b → rank_at listed r p v ≡ Some n → IsWithin n
+      within r p v n true e h =
+          let there : get_or ranks (rank_index g f.vcs r p v) None ≡ Some n = sym (rw e refl) ∙ h in
+          let W : Option ℕ → Type 0 = λ o. IfSome o IsWithin in
+          subst W there (made.within (rank_index g f.vcs r p v) (place-below g f.vcs r p v e))
+      within r p v n false e h = absurd (none-some n (sym (rw e refl) ∙ h))
 
-  pub IsGenerated-listed : has_ranks g vcs classes rule ≡ true → IsRanking listed → IsGenerated g vcs classes rule listed
-  IsGenerated-listed ruled sound = record { ruled = ruled; grid = refl; vcs_are = refl; ranking = sound; ranks = listed-rank_at }
+  pub IsGenerated-listed : IsRanking listed → IsGenerated g f.vcs f.classes f.rule.now listed
+  IsGenerated-listed sound = record { ruled = f.ruled; grid = refl; vcs_are = refl; ranking = sound; ranks = ranks-are }

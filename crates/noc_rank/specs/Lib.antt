@@ -9,3 +9,6 @@ pub mod Faults
 pub mod NoEscape
 pub mod LeastAhead
 pub mod NotRisingTo
+pub mod Filled
+pub mod Arriving
+pub mod Formulated

@@ -7,7 +7,6 @@
 //! the other.
 
 ghost use Rattle.std.specs.Prelude.{◌≡◌, ℕ, ◌+◌, ◌*◌, ◌/◌, ◌%◌, ◌<◌, ◌≤◌, ◌↔◌, IsOk, OnOk, IfErr, IfSome, IfNone, IsTrue, is_some, true, false};
-ghost use Rattle.noc_packet.specs.declared.limits.TheConstants.{MAX_CHANNELS};
 ghost use Rattle.noc_route.specs.Ranks.{AreAllRanked, IsRankedBy, is_channel, rank_at};
 ghost use Rattle.noc_route.specs.Routes.{IsRelation};
 ghost use Rattle.noc_rank.specs.Faults.{IsFaultOfCheck};
@@ -17,10 +16,10 @@ use crate::bare::first_bare;
 use crate::descent::first_descent;
 use crate::fault::RankFault;
 use crate::place::{all_ports, is_channel, link_ports};
+use crate::ranked::Ranked;
 use crate::ranks::{Ranks, rank_at};
 use crate::rising::first_fall;
 use noc_route::Relation;
-use noc_topo::Shape;
 use std::alloc::Global;
 use std::thread::Threads;
 
@@ -51,29 +50,30 @@ pub fn check(
     ensures accepted { AreAllRanked ranks.now.grid ranks.now.vcs (rank_at ranks.now) → IsRankedBy relation.now ranks.now → IsOk result }
     ensures refused { IsRankedBy relation.now ranks.now → IfErr result (λ fault. fault ≡ Memory) }
 {
-    if is_full(relation.shape(), relation.vcs(), ranks) {
-        return check_steps(rt, relation, ranks);
+    let ranked = Ranked { relation, ranks };
+    if is_full(&ranked) {
+        return check_steps(rt, &ranked);
     }
-    if let Some(entry) = first_bare(rt, relation, ranks) {
+    if let Some(entry) = first_bare(rt, &ranked) {
         return Err(RankFault::NoEscape(entry));
     }
-    match first_descent(alloc, relation, ranks)? {
+    match first_descent(alloc, &ranked)? {
         None => Ok(Accepted),
         Some(descent) => Err(descent.fault()),
     }
 }
 
 // Whether each link channel has a rank.
-fn is_full(shape: &Shape, vcs: usize, ranks: &Ranks) -> bool
-    requires shape { shape.now ≡ ranks.now.grid }
-    requires vcs { vcs ≡ ranks.now.vcs }
-    requires few { vcs ≤ MAX_CHANNELS }
-    ensures { IsTrue result ↔ AreAllRanked ranks.now.grid ranks.now.vcs (rank_at ranks.now) }
+fn is_full(ranked: &Ranked) -> bool
+    ensures full { let k = ranked.now.ranks.now in IsTrue result ↔ AreAllRanked k.grid k.vcs (rank_at k) }
+    ensures built { IsRelation ranked.now.relation.now }
 {
+    let shape = ranked.relation.shape();
+    let vcs = ranked.relation.vcs();
     let ports = link_ports(shape);
     for place in 0..all_ports(shape) * vcs {
         let (router, port, vc) = (place / vcs / ports, place / vcs % ports, place % vcs);
-        if is_adaptive(shape, vcs, ranks, router, port, vc) {
+        if is_adaptive(ranked, router, port, vc) {
             return false;
         }
     }
@@ -81,36 +81,27 @@ fn is_full(shape: &Shape, vcs: usize, ranks: &Ranks) -> bool
 }
 
 // Whether this is a link channel without a rank.
-fn is_adaptive(
-    shape: &Shape,
-    vcs: usize,
-    ranks: &Ranks,
-    router: usize,
-    port: usize,
-    vc: usize,
-) -> bool
-    requires shape { shape.now ≡ ranks.now.grid }
-    requires vcs { vcs ≡ ranks.now.vcs }
-    ensures { (result ≡ false) ↔ (is_channel ranks.now.grid ranks.now.vcs router port vc ≡ true → is_some (rank_at ranks.now router port vc) ≡ true) }
+fn is_adaptive(ranked: &Ranked, router: usize, port: usize, vc: usize) -> bool
+    ensures { let k = ranked.now.ranks.now in (result ≡ false) ↔ (is_channel k.grid k.vcs router port vc ≡ true → is_some (rank_at k router port vc) ≡ true) }
 {
-    is_channel(shape, vcs, router, port, vc) && rank_at(ranks, router, port, vc).is_none()
+    is_channel(
+        ranked.relation.shape(),
+        ranked.relation.vcs(),
+        router,
+        port,
+        vc,
+    ) && rank_at(ranked.ranks, router, port, vc).is_none()
 }
 
 // Where each link channel has a rank, whether ranks rise with each step.
-fn check_steps(
-    rt: &(impl Threads + Sync),
-    relation: &Relation,
-    ranks: &Ranks,
-) -> Result<Accepted, RankFault>
-    requires shape { relation.now.grid ≡ ranks.now.grid }
-    requires vcs { relation.now.vcs ≡ ranks.now.vcs }
-    requires full { AreAllRanked ranks.now.grid ranks.now.vcs (rank_at ranks.now) }
-    requires built { IsRelation relation.now }
-    ensures ok { OnOk result (IsRankedBy relation.now ranks.now) }
-    ensures err { IfErr result (IsFaultOfCheck relation.now ranks.now) }
-    ensures accepted { IsRankedBy relation.now ranks.now → IsOk result }
+fn check_steps(rt: &(impl Threads + Sync), ranked: &Ranked) -> Result<Accepted, RankFault>
+    requires full { let k = ranked.now.ranks.now in AreAllRanked k.grid k.vcs (rank_at k) }
+    requires built { IsRelation ranked.now.relation.now }
+    ensures ok { OnOk result (IsRankedBy ranked.now.relation.now ranked.now.ranks.now) }
+    ensures err { IfErr result (IsFaultOfCheck ranked.now.relation.now ranked.now.ranks.now) }
+    ensures accepted { IsRankedBy ranked.now.relation.now ranked.now.ranks.now → IsOk result }
 {
-    match first_fall(rt, relation, ranks) {
+    match first_fall(rt, ranked) {
         None => Ok(Accepted),
         Some(fall) => Err(fall.fault()),
     }

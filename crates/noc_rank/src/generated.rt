@@ -3,8 +3,8 @@
 ghost use Rattle.std.specs.Prelude.{◌≡◌, ℕ, ◌+◌, ◌*◌, ◌/◌, ◌%◌, ◌<◌, ◌≤◌, IfOk, IfSome, Option, Some, None, is_some, true, false, slice_index, slice_index_or, vec_len};
 ghost use Rattle.noc_topo.specs.declared.limits.TheConstants.{MAX_RADIX};
 ghost use Rattle.noc_topo.specs.Shape.{IsGrid, nodes, dimensions, coordinates, local_port};
-ghost use Rattle.noc_route.specs.Ranks.{is_channel, rank_count};
-ghost use Rattle.noc_rank.specs.Formulas.{has_ranks, is_numbered, passed_in, west_first_rank, formula, formula_at};
+ghost use Rattle.noc_route.specs.Ranks.{rank_count};
+ghost use Rattle.noc_rank.specs.Formulas.{has_ranks, is_numbered, passed_in, west_first_rank, formula};
 
 use crate::place::{all_ports, is_channel, link_ports};
 use noc_route::{Rule, escapes, is_right, resource_class};
@@ -26,93 +26,82 @@ pub(crate) fn has_ranks(shape: &Shape, vcs: usize, classes: usize, rule: &Rule) 
         }
 }
 
-// The ranks by formula of all places, none where a port has no link and for adaptive channels.
-pub(crate) fn formula_ranks(
-    alloc: Global,
-    shape: &Shape,
-    vcs: usize,
-    classes: usize,
-    rule: &Rule,
-) -> Result<Vec<Option<u32>>, AllocError>
-    requires { has_ranks shape.now vcs classes rule.now ≡ true }
-    ensures len { IfOk result (λ ranks. vec_len ranks ≡ rank_count shape.now vcs) }
-    ensures grid { IsGrid shape.now }
-    ensures items { IfOk result (λ ranks. (k : ℕ) → k < rank_count shape.now vcs → slice_index_or ranks.items k None ≡ formula_at shape.now vcs classes rule.now (k / vcs / local_port shape.now) (k / vcs % local_port shape.now) (k % vcs)) }
-    ensures some { IfOk result (λ ranks. (k : ℕ) → k < rank_count shape.now vcs → IfSome (slice_index_or ranks.items k None) (λ n. 1 ≤ n)) }
-    ensures few { IfOk result (λ ranks. (k : ℕ) → k < rank_count shape.now vcs → IfSome (slice_index_or ranks.items k None) (λ n. n ≤ HIGHEST)) }
-{
-    let ports = link_ports(shape);
-    let count = all_ports(shape) * vcs;
-    let mut ranks = Vec::with_capacity(alloc, count)?;
-    for place in 0..count {
-        let (router, port, vc) = (place / vcs / ports, place / vcs % ports, place % vcs);
-        ranks.push(formula_at(shape, vcs, classes, rule, router, port, vc))?;
-    }
-    Ok(ranks)
+// A rule that has ranks by formula, with the shape and the numbers that it fits.
+#[derive(Drop)]
+pub(crate) struct Formula<'a> {
+    pub(crate) shape: &'a Shape,
+    pub(crate) vcs: usize,
+    pub(crate) classes: usize,
+    pub(crate) rule: &'a Rule,
+    ghost ruled: { has_ranks shape.now vcs classes rule.now ≡ true },
 }
 
-// The rank by formula of a channel of a link port, none where the port has no link or the channel is adaptive.
-fn formula_at(
-    shape: &Shape,
-    vcs: usize,
-    classes: usize,
-    rule: &Rule,
-    router: usize,
-    port: usize,
-    vc: usize,
-) -> Option<u32>
-    requires ruled { has_ranks shape.now vcs classes rule.now ≡ true }
-    requires router { router < nodes shape.now }
-    requires port { port < local_port shape.now }
-    ensures value { result ≡ formula_at shape.now vcs classes rule.now router port vc }
-    ensures some { IfSome result (λ n. 1 ≤ n) }
-    ensures few { IfSome result (λ n. n ≤ HIGHEST) }
-{
-    if !is_channel(shape, vcs, router, port, vc) || !is_numbered(shape, vcs, classes, rule, vc) {
-        return None;
-    }
-    Some(formula(shape, vcs, classes, rule, router, port, vc) as u32)
-}
+impl<'a> Formula<'a> {
+    ghost use Rattle.noc_rank.specs.Formulated.{AreByFormula, IsWithin, rank_in, turn_in};
 
-// Whether a rule gives this channel of a link a rank: all, but the adaptive ones.
-fn is_numbered(shape: &Shape, vcs: usize, classes: usize, rule: &Rule, vc: usize) -> bool
-    requires { has_ranks shape.now vcs classes rule.now ≡ true }
-    ensures { result ≡ is_numbered shape.now vcs classes rule.now vc }
-{
-    match rule {
-        Rule::Adaptive => vc % (vcs / classes) < escapes(shape),
-        _ => true,
-    }
-}
-
-// The rank by formula of a link channel that has one, at most `HIGHEST`.
-fn formula(
-    shape: &Shape,
-    vcs: usize,
-    classes: usize,
-    rule: &Rule,
-    router: usize,
-    port: usize,
-    vc: usize,
-) -> usize
-    requires ruled { has_ranks shape.now vcs classes rule.now ≡ true }
-    requires router { router < nodes shape.now }
-    requires port { port < local_port shape.now }
-    requires numbered { is_numbered shape.now vcs classes rule.now vc ≡ true }
-    ensures value { result ≡ formula shape.now vcs classes rule.now router port vc }
-    ensures some { 1 ≤ result }
-    ensures few { result ≤ HIGHEST }
-{
-    let axis = axis_of(shape, router, port / 2);
-    match rule {
-        Rule::Dateline => {
-            32 * (port / 2) + resource_class(vcs, classes, vc) * axis.size + axis.passed(port) + 1
+    // The ranks of all places, none where a port has no link and for adaptive channels.
+    pub(crate) fn ranks(&self, alloc: Global) -> Result<Vec<Option<u32>>, AllocError>
+        ensures ranks { IfOk result (λ ranks. AreByFormula self.now (rank_count self.now.shape.now self.now.vcs) ranks.items) }
+        ensures grid { IsGrid self.now.shape.now }
+    {
+        let ports = link_ports(self.shape);
+        let count = all_ports(self.shape) * self.vcs;
+        let mut ranks = Vec::with_capacity(alloc, count)?;
+        for place in 0..count {
+            let channel = place / self.vcs;
+            ranks.push(self.rank_at(channel / ports, channel % ports, place % self.vcs))?;
         }
-        Rule::WestFirst => west_first_rank(shape, router, port),
-        Rule::Adaptive => {
-            32 * (port / 2) + vc % (vcs / classes) * axis.size + axis.passed(port) + 1
+        Ok(ranks)
+    }
+
+    // The rank of a channel of a link port, none where the port has no link or the channel is adaptive.
+    fn rank_at(&self, router: usize, port: usize, vc: usize) -> Option<u32>
+        requires router { router < nodes self.now.shape.now }
+        requires port { port < local_port self.now.shape.now }
+        ensures value { result ≡ rank_in self.now router port vc }
+        ensures within { IfSome result IsWithin }
+    {
+        if !is_channel(self.shape, self.vcs, router, port, vc) || !self.is_numbered(vc) {
+            return None;
         }
-        Rule::Dor | Rule::Rows(_) => 32 * (port / 2) + axis.passed(port) + 1,
+        Some(self.rank(router, port, vc) as u32)
+    }
+
+    // Whether the rule gives this channel of a link a rank: all, but the adaptive ones.
+    fn is_numbered(&self, vc: usize) -> bool
+        ensures { result ≡ is_numbered self.now.shape.now self.now.vcs self.now.classes self.now.rule.now vc }
+    {
+        match self.rule {
+            Rule::Adaptive => vc % (self.vcs / self.classes) < escapes(self.shape),
+            _ => true,
+        }
+    }
+
+    // The rank of a link channel that has one.
+    fn rank(&self, router: usize, port: usize, vc: usize) -> usize
+        requires router { router < nodes self.now.shape.now }
+        requires port { port < local_port self.now.shape.now }
+        requires numbered { is_numbered self.now.shape.now self.now.vcs self.now.classes self.now.rule.now vc ≡ true }
+        ensures value { result ≡ formula self.now.shape.now self.now.vcs self.now.classes self.now.rule.now router port vc }
+        ensures within { IsWithin result }
+    {
+        match self.rule {
+            Rule::WestFirst => west_first_rank(self.shape, router, port),
+            _ => axis_of(self.shape, router, port / 2).rank(port, self.turn(vc)),
+        }
+    }
+
+    // How many times a packet on this channel has gone along its dimension before: once where a dateline was crossed.
+    fn turn(&self, vc: usize) -> usize
+        requires { is_numbered self.now.shape.now self.now.vcs self.now.classes self.now.rule.now vc ≡ true }
+        ensures value { result ≡ turn_in self.now vc }
+        ensures few { result ≤ 2 }
+    {
+        match self.rule {
+            Rule::Dateline => resource_class(self.vcs, self.classes, vc),
+            Rule::Adaptive => vc % (self.vcs / self.classes),
+            Rule::Dor | Rule::WestFirst | Rule::Rows(_) => 0,
+        }
     }
 }
 
@@ -122,8 +111,7 @@ fn west_first_rank(shape: &Shape, router: usize, port: usize) -> usize
     requires router { router < nodes shape.now }
     requires port { port < 4 }
     ensures value { result ≡ west_first_rank shape.now router port }
-    ensures some { 1 ≤ result }
-    ensures few { result ≤ HIGHEST }
+    ensures within { (1 ≤ result) × (result ≤ HIGHEST) }
 {
     let first = axis_of(shape, router, 0);
     let second = axis_of(shape, router, 1);
@@ -159,6 +147,16 @@ fn axis_of(shape: &Shape, router: usize, dimension: usize) -> Axis
 }
 
 impl Axis {
+    // The rank of a channel along a port of this dimension: dimension by dimension, turn by turn, link by link.
+    fn rank(self, port: usize, turn: usize) -> usize
+        requires port { port < 6 }
+        requires turn { turn ≤ 2 }
+        ensures value { result ≡ 32 * (port / 2) + turn * self.size + passed_in self.size self.at port + 1 }
+        ensures few { result ≤ HIGHEST }
+    {
+        32 * (port / 2) + turn * self.size + self.passed(port) + 1
+    }
+
     // How many routers lie behind this one, seen along a port of its dimension.
     fn passed(self, port: usize) -> usize
         ensures value { result ≡ passed_in self.size self.at port }

@@ -9,6 +9,7 @@ mod fault;
 mod generated;
 mod laws;
 mod place;
+mod ranked;
 mod ranks;
 mod rising;
 mod rows;

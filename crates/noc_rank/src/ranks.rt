@@ -8,7 +8,7 @@ ghost use Rattle.noc_rank.specs.Formulas.{IsGenerated, IsFaultOfFormula};
 ghost use Rattle.noc_rank.specs.Rows.{IsRankingOf, IsFaultOfRows};
 
 use crate::fault::RankFault;
-use crate::generated::{formula_ranks, has_ranks};
+use crate::generated::{Formula, has_ranks};
 use crate::place::{all_ports, link_ports, place};
 use crate::rows::{RankRow, enter, missing};
 use noc_route::Rule;
@@ -81,7 +81,13 @@ impl Ranks {
         if !has_ranks(shape, vcs, classes, rule) {
             return Err(RankFault::NoGenerated);
         }
-        let ranks = formula_ranks(alloc, shape, vcs, classes, rule)?;
+        let formula = Formula {
+            shape,
+            vcs,
+            classes,
+            rule,
+        };
+        let ranks = formula.ranks(alloc)?;
         Ok(Ranks {
             shape: *shape,
             vcs,

@@ -10,25 +10,20 @@ ghost use Rattle.noc_rank.specs.NotRising.{fault_of_fall, arrival_rank, falls_to
 
 use crate::fault::RankFault;
 use crate::place::link_ports;
-use crate::ranks::{Ranks, output_rank, rank_at};
+use crate::ranked::Ranked;
+use crate::ranks::{output_rank, rank_at};
 use noc_packet::ChannelSet;
-use noc_route::{Entry, Relation, RouteRow};
-use noc_topo::Shape;
+use noc_route::{Entry, RouteRow};
 use rayon::prelude::*;
 use std::thread::Threads;
 
 // The first step of the relation from one channel with a rank to the next that does not rise, in the order of class,
 // router, input port and channel, destination, output port and channel. Looks at the entries in parallel and takes no
 // memory.
-pub(crate) fn first_fall(
-    rt: &(impl Threads + Sync),
-    relation: &Relation,
-    ranks: &Ranks,
-) -> Option<Fall>
-    requires shape { relation.now.grid ≡ ranks.now.grid }
-    requires vcs { relation.now.vcs ≡ ranks.now.vcs }
-    ensures { MatchOption result (IsRising relation.now (rank_at ranks.now)) (λ fall. IsFirstFall relation.now ranks.now fall.step fall.rank fall.next) }
+pub(crate) fn first_fall(rt: &(impl Threads + Sync), ranked: &Ranked) -> Option<Fall>
+    ensures { MatchOption result (IsRising ranked.now.relation.now (rank_at ranked.now.ranks.now)) (λ fall. IsFirstFall ranked.now.relation.now ranked.now.ranks.now fall.step fall.rank fall.next) }
 {
+    let relation = ranked.relation;
     let count = relation.classes()
         * relation.shape().nodes()
         * relation.shape().ports()
@@ -36,11 +31,11 @@ pub(crate) fn first_fall(
     let number = (0..count).into_par_iter().find_first(
         rt,
         |number: &usize| -> bool
-            requires { (relation.now.grid ≡ ranks.now.grid) × (relation.now.vcs ≡ ranks.now.vcs) × (number.now < relation.now.classes * input_count ranks.now) }
-            ensures { (result ≡ false) ↔ HasNoFall relation.entry.now ranks.entry.now number.now }
-        { first_at(relation, ranks, *number).is_some() },
+            requires { number.now < ranked.now.relation.now.classes * input_count ranked.now.ranks.now }
+            ensures { (result ≡ false) ↔ HasNoFall ranked.entry.now.relation.now ranked.entry.now.ranks.now number.now }
+        { first_at(ranked, *number).is_some() },
     )?;
-    first_at(relation, ranks, number)
+    first_at(ranked, number)
 }
 
 // A step that does not rise, with the ranks before and after it.
@@ -74,108 +69,113 @@ impl Fall {
 }
 
 // The first step that does not rise of those that packets of a class take that came by an input channel, both by number.
-fn first_at(relation: &Relation, ranks: &Ranks, number: usize) -> Option<Fall>
-    requires shape { relation.now.grid ≡ ranks.now.grid }
-    requires vcs { relation.now.vcs ≡ ranks.now.vcs }
-    requires number { number < relation.now.classes * input_count ranks.now }
-    ensures { MatchOption result (HasNoFall relation.now ranks.now number) (IsFirstAt relation.now ranks.now number) }
+fn first_at(ranked: &Ranked, number: usize) -> Option<Fall>
+    requires { number < ranked.now.relation.now.classes * input_count ranked.now.ranks.now }
+    ensures { MatchOption result (HasNoFall ranked.now.relation.now ranked.now.ranks.now number) (IsFirstAt ranked.now.relation.now ranked.now.ranks.now number) }
 {
-    let vcs = relation.vcs();
-    let ports = relation.shape().ports();
-    let nodes = relation.shape().nodes();
-    let class = number / vcs / ports / nodes;
-    let router = number / vcs / ports % nodes;
-    let port = number / vcs % ports;
-    let vc = number % vcs;
-    let rank = arrival_rank(relation.shape(), ranks, router, port, vc)?;
-    first_from(relation, ranks, class, router, port, vc, rank)
+    let vcs = ranked.relation.vcs();
+    let ports = ranked.relation.shape().ports();
+    let nodes = ranked.relation.shape().nodes();
+    let (router, in_port, in_vc) = (
+        number / vcs / ports % nodes,
+        number / vcs % ports,
+        number % vcs,
+    );
+    let rank = arrival_rank(ranked, router, in_port, in_vc)?;
+    let arrival = Arrival {
+        ranked,
+        class: number / vcs / ports / nodes,
+        router,
+        in_port,
+        in_vc,
+        rank,
+    };
+    arrival.first_fall()
 }
 
 // The rank of the link channel that arrives at an input channel, if there is one and it has a rank.
-fn arrival_rank(shape: &Shape, ranks: &Ranks, router: usize, port: usize, vc: usize) -> Option<u32>
-    requires shape { shape.now ≡ ranks.now.grid }
-    requires router { router < nodes ranks.now.grid }
-    requires port { port < ports ranks.now.grid }
-    requires vc { vc < ranks.now.vcs }
-    ensures { result ≡ arrival_rank ranks.now router port vc }
+fn arrival_rank(ranked: &Ranked, router: usize, port: usize, vc: usize) -> Option<u32>
+    requires router { router < nodes ranked.now.ranks.now.grid }
+    requires port { port < ports ranked.now.ranks.now.grid }
+    requires vc { vc < ranked.now.ranks.now.vcs }
+    ensures { result ≡ arrival_rank ranked.now.ranks.now router port vc }
 {
-    let (sender, out_port) = shape.neighbour(router, port)?;
-    rank_at(ranks, sender, out_port, vc)
+    let (sender, out_port) = ranked.relation.shape().neighbour(router, port)?;
+    rank_at(ranked.ranks, sender, out_port, vc)
 }
 
-// The first step from an entry that does not rise, over all destinations, where `rank` is that of the input channel.
-fn first_from(
-    relation: &Relation,
-    ranks: &Ranks,
+// Packets of a class that come to a router on a channel with this rank.
+#[derive(Drop)]
+struct Arrival<'a> {
+    ranked: &'a Ranked<'a>,
     class: usize,
     router: usize,
     in_port: usize,
     in_vc: usize,
     rank: u32,
-) -> Option<Fall>
-    requires shape { relation.now.grid ≡ ranks.now.grid }
-    requires vcs { relation.now.vcs ≡ ranks.now.vcs }
-    requires class { class < relation.now.classes }
-    requires router { router < nodes ranks.now.grid }
-    requires in_port { in_port < ports ranks.now.grid }
-    requires in_vc { in_vc < ranks.now.vcs }
-    ensures none { IfNone result ((t : ℕ) → t < nodes ranks.now.grid → HasNone (falls_to ranks.now router (set_at relation.now class router in_port in_vc t) rank) (link_output_count ranks.now)) }
-    ensures some { IfSome result (IsFirstFrom relation.now ranks.now class router in_port in_vc rank) }
-{
-    let vcs = relation.vcs();
-    for dst in 0..relation.shape().nodes() {
-        let set = relation.permitted(class, router, in_port, in_vc, dst);
-        if let Some((index, next)) = first_to(relation, ranks, router, set, rank) {
-            let (out_port, out_vc) = (index / vcs, index % vcs);
-            let step = RouteRow {
-                class,
-                router,
-                in_port,
-                in_vc,
-                dst,
-                out_port,
-                out_vc,
-            };
-            return Some(Fall { step, rank, next });
-        }
-    }
-    None
+    ghost class_exists: { class < ranked.now.relation.now.classes },
+    ghost router_exists: { router < nodes ranked.now.ranks.now.grid },
+    ghost port_exists: { in_port < ports ranked.now.ranks.now.grid },
+    ghost vc_exists: { in_vc < ranked.now.ranks.now.vcs },
 }
 
-// The first channel on a link port in a set of a router whose rank is not greater than `rank`, by its index, with its rank.
-fn first_to(
-    relation: &Relation,
-    ranks: &Ranks,
-    router: usize,
-    set: ChannelSet,
-    rank: u32,
-) -> Option<(usize, u32)>
-    requires shape { relation.now.grid ≡ ranks.now.grid }
-    requires vcs { relation.now.vcs ≡ ranks.now.vcs }
-    requires router { router < nodes ranks.now.grid }
-    ensures none { IfNone result (HasNone (falls_to ranks.now router set rank) (link_output_count ranks.now)) }
-    ensures some { IfSome result (λ found. IsLeastBelow (falls_to ranks.now router set rank) (link_output_count ranks.now) found.0 × (rank_at ranks.now router (found.0 / ranks.now.vcs) (found.0 % ranks.now.vcs) ≡ Some found.1)) }
-{
-    let vcs = relation.vcs();
-    for index in 0..link_ports(relation.shape()) * vcs {
-        if let Some(next) = falls_to(ranks, router, set, index, rank) {
-            return Some((index, next));
-        }
-    }
-    None
-}
+impl<'a> Arrival<'a> {
+    ghost use Rattle.noc_rank.specs.Arriving.{IsFirstOf, HasNoneOf, falls_in};
 
-// The rank of a channel on a link port, by its index, if it is in the set and its rank is not greater than `rank`.
-fn falls_to(ranks: &Ranks, router: usize, set: ChannelSet, index: usize, rank: u32) -> Option<u32>
-    requires router { router < nodes ranks.now.grid }
-    requires index { index < link_output_count ranks.now }
-    requires few { index < INDICES }
-    ensures none { IfNone result (falls_to ranks.now router set rank index ≡ false) }
-    ensures some { IfSome result (λ next. (falls_to ranks.now router set rank index ≡ true) × (rank_at ranks.now router (index / ranks.now.vcs) (index % ranks.now.vcs) ≡ Some next)) }
-{
-    if !set.contains(index) {
-        return None;
+    // The first step that does not rise, over all destinations.
+    fn first_fall(&self) -> Option<Fall>
+        ensures { MatchOption result (HasNoneOf self.now) (IsFirstOf self.now) }
+    {
+        let relation = self.ranked.relation;
+        let vcs = relation.vcs();
+        for dst in 0..relation.shape().nodes() {
+            let set = relation.permitted(self.class, self.router, self.in_port, self.in_vc, dst);
+            if let Some((index, next)) = self.first_in(set) {
+                let (out_port, out_vc) = (index / vcs, index % vcs);
+                let step = RouteRow {
+                    class: self.class,
+                    router: self.router,
+                    in_port: self.in_port,
+                    in_vc: self.in_vc,
+                    dst,
+                    out_port,
+                    out_vc,
+                };
+                return Some(Fall {
+                    step,
+                    rank: self.rank,
+                    next,
+                });
+            }
+        }
+        None
     }
-    let next = output_rank(ranks, router, index)?;
-    if next <= rank { Some(next) } else { None }
+
+    // The first channel on a link port in a set whose rank is not greater, by its index, with its rank.
+    fn first_in(&self, set: ChannelSet) -> Option<(usize, u32)>
+        ensures none { IfNone result (HasNone (falls_in self.now set) (link_output_count self.now.ranked.now.ranks.now)) }
+        ensures some { let k = self.now.ranked.now.ranks.now in IfSome result (λ found. IsLeastBelow (falls_in self.now set) (link_output_count k) found.0 × (rank_at k self.now.router (found.0 / k.vcs) (found.0 % k.vcs) ≡ Some found.1)) }
+    {
+        let relation = self.ranked.relation;
+        for index in 0..link_ports(relation.shape()) * relation.vcs() {
+            if let Some(next) = self.falls_to(set, index) {
+                return Some((index, next));
+            }
+        }
+        None
+    }
+
+    // The rank of a channel on a link port, by its index, if it is in the set and its rank is not greater.
+    fn falls_to(&self, set: ChannelSet, index: usize) -> Option<u32>
+        requires index { index < link_output_count self.now.ranked.now.ranks.now }
+        requires few { index < INDICES }
+        ensures none { IfNone result (falls_in self.now set index ≡ false) }
+        ensures some { let k = self.now.ranked.now.ranks.now in IfSome result (λ next. (falls_in self.now set index ≡ true) × (rank_at k self.now.router (index / k.vcs) (index % k.vcs) ≡ Some next)) }
+    {
+        if !set.contains(index) {
+            return None;
+        }
+        let next = output_rank(self.ranked.ranks, self.router, index)?;
+        if next <= self.rank { Some(next) } else { None }
+    }
 }

@@ -1,4 +1,4 @@
-use Rattle.std.proofs.Common.{◌≡◌, ◌∙◌, Option, Result, Ok, Err, subst, sym, arith}
+use Rattle.std.proofs.Common.{◌≡◌, ◌∙◌, Option, Result, Ok, Err, subst, sym}
 use Rattle.std.proofs.lemmas.Bool.{false≢true}
 use Rattle.std.specs.Prelude.{MatchOption, IfErr, IsOk}
 use Rattle.noc_rank.specs.declared.accept.Accepted.{Accepted}
@@ -24,7 +24,7 @@ returns-in-None-clause-ok g c =
     let k = c.args.ranks.now in
     let B : Option Entry → Type 0 = λ o. MatchOption o (HasEscapes routes k) (IsFirstBare routes k) in
     let D : Option Descent → Type 0 = λ o. MatchOption o (HasNoDescent routes k) (λ d. IsFirstDescent routes k d.from d.to d.rank d.next) in
-    escape-over routes k c.requires.shape c.requires.vcs c.shape.ensures.built (subst B c.in_default.is c.first_bare.ensures) (subst D c.in-None.is c.in_ok-first_descent.ensures)
+    escape-over routes k c.requires.shape c.requires.vcs c.is_full.ensures.built (subst B c.in_default.is c.first_bare.ensures) (subst D c.in-None.is c.in_ok-first_descent.ensures)
 
 pub returns-in-Some-2-clause-refused : goal.returns-in-Some-2-clause-refused
 returns-in-Some-2-clause-refused g c = λ ranked.
@@ -33,9 +33,6 @@ returns-in-Some-2-clause-refused g c = λ ranked.
     let D : Option Descent → Type 0 = λ o. MatchOption o (HasNoDescent routes k) (λ d. IsFirstDescent routes k d.from d.to d.rank d.next) in
     let first = subst D c.in-Some-2.is c.in_ok-first_descent.ensures in
     absurd (ranked-no_descent routes k ranked _ _ _ _ first.descent)
-
-pub is_full-requires-clause-few : goal.is_full-requires-clause-few
-is_full-requires-clause-few g c = omega (arith, c.vcs.ensures.value, c.vcs.ensures.built.table.few_vcs)
 
 pub returns-then-is_full-clause-ok : goal.returns-then-is_full-clause-ok
 returns-then-is_full-clause-ok g c = c.check_steps.ensures.ok
@@ -50,13 +47,13 @@ pub returns-then-is_full-clause-refused : goal.returns-then-is_full-clause-refus
 returns-then-is_full-clause-refused g c = λ ranked. ok-no_err c.check_steps.result (λ fault. fault ≡ Memory) (c.check_steps.ensures.accepted ranked)
 
 pub returns-in-Some-clause-err : goal.returns-in-Some-clause-err
-returns-in-Some-clause-err g c = (λ full. false≢true (sym c.if-is_full.false ∙ c.is_full.ensures.1 full), c.in-Some.ensures)
+returns-in-Some-clause-err g c = (λ full. false≢true (sym c.if-is_full.false ∙ c.is_full.ensures.full.1 full), c.in-Some.ensures)
 
 pub returns-in-Some-clause-accepted : goal.returns-in-Some-clause-accepted
-returns-in-Some-clause-accepted g c = λ full _. absurd (false≢true (sym c.if-is_full.false ∙ c.is_full.ensures.1 full))
+returns-in-Some-clause-accepted g c = λ full _. absurd (false≢true (sym c.if-is_full.false ∙ c.is_full.ensures.full.1 full))
 
 pub returns-in_err-first_descent-clause-accepted : goal.returns-in_err-first_descent-clause-accepted
-returns-in_err-first_descent-clause-accepted g c = λ full _. absurd (false≢true (sym c.if-is_full.false ∙ c.is_full.ensures.1 full))
+returns-in_err-first_descent-clause-accepted g c = λ full _. absurd (false≢true (sym c.if-is_full.false ∙ c.is_full.ensures.full.1 full))
 
 pub returns-in-Some-2-clause-accepted : goal.returns-in-Some-2-clause-accepted
-returns-in-Some-2-clause-accepted g c = λ full _. absurd (false≢true (sym c.if-is_full.false ∙ c.is_full.ensures.1 full))
+returns-in-Some-2-clause-accepted g c = λ full _. absurd (false≢true (sym c.if-is_full.false ∙ c.is_full.ensures.full.1 full))

@@ -10,20 +10,23 @@ pub loop-place-preserved : goal.loop-place-preserved
 loop-place-preserved c = λ n l. at n l (cases_lt n c.loop-place.place)
   where
     at : (n : ℕ) → n < c.loop-place.place + 1 → (n < c.loop-place.place) ⊎ (c.loop-place.place ≤ n)
-        → is_channel c.args.ranks.now.grid c.args.ranks.now.vcs (n / c.args.vcs / c.link_ports-ports.result) (n / c.args.vcs % c.link_ports-ports.result) (n % c.args.vcs) ≡ true
-        → is_some (rank_at c.args.ranks.now (n / c.args.vcs / c.link_ports-ports.result) (n / c.args.vcs % c.link_ports-ports.result) (n % c.args.vcs)) ≡ true
+        → is_channel c.args.ranked.now.ranks.now.grid c.args.ranked.now.ranks.now.vcs (n / c.vcs-vcs.result / c.link_ports-ports.result) (n / c.vcs-vcs.result % c.link_ports-ports.result) (n % c.vcs-vcs.result) ≡ true
+        → is_some (rank_at c.args.ranked.now.ranks.now (n / c.vcs-vcs.result / c.link_ports-ports.result) (n / c.vcs-vcs.result % c.link_ports-ports.result) (n % c.vcs-vcs.result)) ≡ true
     at n l (inl less) = c.loop-place.invariant n less
     at n l (inr more) =
         let same : n ≡ c.loop-place.place = omega (arith, l, more) in
         rw same (c.is_adaptive.ensures.0 c.if-is_adaptive.false)
 
-pub returns : goal.returns
-returns c = (
+pub returns-clause-full : goal.returns-clause-full
+returns-clause-full c = (
   λ _.
-      let grid = c.args.ranks.now.grid in
-      let ports : c.link_ports-ports.result ≡ local_port grid = c.link_ports-ports.ensures.value ∙ ap local_port c.requires.shape in
-      let pairs : c.all_ports.result ≡ nodes grid * local_port grid = c.all_ports.ensures.value ∙ ap (λ g. nodes g * local_port g) c.requires.shape in
-      let count : c.all_ports.result * c.args.vcs ≡ rank_count grid c.args.ranks.now.vcs = ap (λ x. x * c.args.vcs) pairs ∙ ap (λ x. nodes grid * local_port grid * x) c.requires.vcs in
-      full-decoded c.args.ranks.now c.args.vcs c.link_ports-ports.result c.loop-place.place c.requires.vcs ports (omega (arith, count, c.loop-place-test.false)) c.loop-place.invariant,
+      let ranked = c.args.ranked.now in
+      let k = ranked.ranks.now in
+      let shape = c.shape-shape.ensures.value ∙ ranked.grid in
+      let vcs : c.vcs-vcs.result ≡ k.vcs = c.vcs-vcs.ensures.value ∙ ranked.vcs in
+      let ports : c.link_ports-ports.result ≡ local_port k.grid = c.link_ports-ports.ensures.value ∙ ap local_port shape in
+      let pairs : c.all_ports.result ≡ nodes k.grid * local_port k.grid = c.all_ports.ensures.value ∙ ap (λ g. nodes g * local_port g) shape in
+      let count : c.all_ports.result * c.vcs-vcs.result ≡ rank_count k.grid k.vcs = ap (λ x. x * c.vcs-vcs.result) pairs ∙ ap (λ x. nodes k.grid * local_port k.grid * x) vcs in
+      full-decoded k c.vcs-vcs.result c.link_ports-ports.result c.loop-place.place vcs ports (omega (arith, count, c.loop-place-test.false)) c.loop-place.invariant,
   λ _. refl,
 )

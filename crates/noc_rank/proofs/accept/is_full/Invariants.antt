@@ -5,4 +5,4 @@ use Rattle.noc_rank.proofs.accept.is_full.Given as goal
 
 abbrev pub invariant-loop-place : goal.invariant-loop-place
 invariant-loop-place l = (n : ℕ) → n < l.place
-    → is_channel l.ranks.grid l.ranks.vcs (n / l.vcs / l.ports) (n / l.vcs % l.ports) (n % l.vcs) ≡ true → is_some (rank_at l.ranks (n / l.vcs / l.ports) (n / l.vcs % l.ports) (n % l.vcs)) ≡ true
+    → is_channel l.ranked.ranks.now.grid l.ranked.ranks.now.vcs (n / l.vcs / l.ports) (n / l.vcs % l.ports) (n % l.vcs) ≡ true → is_some (rank_at l.ranked.ranks.now (n / l.vcs / l.ports) (n / l.vcs % l.ports) (n % l.vcs)) ≡ true

@@ -12,11 +12,11 @@ use Rattle.noc_rank.proofs.bare.bare_at.Goals.{then-entry-via-then-entry, then-e
 
 pub permitted-set-requires-clause-class : goal.permitted-set-requires-clause-class
 permitted-set-requires-clause-class c =
-    rw c.entry_of-entry.ensures.value (class-known c.args.relation.now c.args.number (omega (arith, c.entry_of-entry.ensures.nodes)) (omega (arith, c.entry_of-entry.ensures.ports)) (omega (arith, c.entry_of-entry.ensures.vcs)) c.requires.number)
+    rw c.entry_of-entry.ensures.value (class-known c.args.ranked.now.relation.now c.args.number (omega (arith, c.entry_of-entry.ensures.nodes)) (omega (arith, c.entry_of-entry.ensures.ports)) (omega (arith, c.entry_of-entry.ensures.vcs)) c.requires)
 
 pub returns-then-entry-clause-none : goal.returns-then-entry-clause-none
 returns-then-entry-clause-none c = λ bare.
-    let mine : IsBareSet c.args.relation.now c.args.ranks.now c.entry_of-entry.result = subst (IsBareSet c.args.relation.now c.args.ranks.now) (sym c.entry_of-entry.ensures.value) bare in
+    let mine : IsBareSet c.args.ranked.now.relation.now c.args.ranked.now.ranks.now c.entry_of-entry.result = subst (IsBareSet c.args.ranked.now.relation.now c.args.ranked.now.ranks.now) (sym c.entry_of-entry.ensures.value) bare in
     elim c.then-entry.branch [
       | then-entry-via-then-entry w ↦ mine.away w.if-entry.true
       | then-entry-via-else-entry+then-is_empty w ↦
@@ -28,10 +28,10 @@ returns-then-entry-clause-none c = λ bare.
     ]
 
 -- a set that is not empty has a member
-some : (c : goal.Else-has_rank) → (k : ℕ) × (has_bit (set_at c.args.relation.now c.entry_of-entry.result.class c.entry_of-entry.result.router c.entry_of-entry.result.in_port c.entry_of-entry.result.in_vc c.entry_of-entry.result.dst) k ≡ true)
+some : (c : goal.Else-has_rank) → (k : ℕ) × (has_bit (set_at c.args.ranked.now.relation.now c.entry_of-entry.result.class c.entry_of-entry.result.router c.entry_of-entry.result.in_port c.entry_of-entry.result.in_vc c.entry_of-entry.result.dst) k ≡ true)
 some c =
     let filled : nat_eq c.permitted-set.result 0 ≡ false = sym c.is_empty.ensures.bits ∙ c.if-is_empty.false in
-    let found = some_member c.permitted-set.result (ports c.args.relation.now.grid * c.args.relation.now.vcs) (λ k h. c.entry_of-entry.ensures.built.real _ _ _ _ _ k (ap (λ s. has_bit s k) (sym c.permitted-set.ensures.value) ∙ h)) filled in
+    let found = some_member c.permitted-set.result (ports c.args.ranked.now.relation.now.grid * c.args.ranked.now.relation.now.vcs) (λ k h. c.entry_of-entry.ensures.built.real _ _ _ _ _ k (ap (λ s. has_bit s k) (sym c.permitted-set.ensures.value) ∙ h)) filled in
     (found.0, ap (λ s. has_bit s found.0) (sym c.permitted-set.ensures.value) ∙ found.1)
 
 pub returns-clause-some : goal.returns-clause-some

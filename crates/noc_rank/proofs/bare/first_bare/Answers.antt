@@ -23,43 +23,43 @@ count-is c n p v a b d e i j k l = rw (i, j, k, l) refl
 pub find_first-requires-clause-items : goal.find_first-requires-clause-items
 find_first-requires-clause-items g c κs within =
     let ends = c.into_par_iter.ensures in
-    let relation = c.args.relation.now in
-    let k = c.args.ranks.now in
+    let relation = c.args.ranked.now.relation.now in
+    let k = c.args.ranked.now.ranks.now in
     let n = c.classes.result * c.nodes-nodes.result * c.ports.result * c.vcs.result * c.nodes-nodes.result in
     let count : n ≡ entries relation
     = count-is _ _ _ _ relation.classes (nodes relation.grid) (ports relation.grid) relation.vcs c.classes.ensures.value (c.nodes-nodes.ensures.value ∙ ap nodes c.shape.ensures.value) (c.ports.ensures.value ∙ ap ports c.shape-2.ensures.value) c.vcs.ensures.value in
-    let inside = nat_range-All (λ i. (relation.grid ≡ k.grid) × (relation.vcs ≡ k.vcs) × (i < entries relation)) 0 n (λ i low high. (c.requires.shape, c.requires.vcs, subst (λ m. i < m) count high)) in
+    let inside = nat_range-All (λ i. i < entries relation) 0 n (λ i low high. subst (λ m. i < m) count high) in
     rw (ends.0, ends.1) (λ j d lt p e. rw e (inside j d lt))
 
 pub returns-in_err-number : goal.returns-in_err-number
 returns-in_err-number g c =
     let ends = c.into_par_iter.ensures in
-    let relation = c.args.relation.now in
-    let k = c.args.ranks.now in
+    let relation = c.args.ranked.now.relation.now in
+    let k = c.args.ranked.now.ranks.now in
     let n = c.classes.result * c.nodes-nodes.result * c.ports.result * c.vcs.result * c.nodes-nodes.result in
     let count : n ≡ entries relation
     = count-is _ _ _ _ relation.classes (nodes relation.grid) (ports relation.grid) relation.vcs c.classes.ensures.value (c.nodes-nodes.ensures.value ∙ ap nodes c.shape.ensures.value) (c.ports.ensures.value ∙ ap ports c.shape-2.ensures.value) c.vcs.ensures.value in
     let told = searched (IsNotBare relation k) n _ _ c.find_first.result ends.0 ends.1 c.find_first.ensures in
     let none : (e : ℕ) → e < n → IsNotBare relation k e = rw c.in_err-number.was at told in
-    rw c.from_residual.ensures (has-escapes relation k c.vcs.ensures.built c.requires.shape c.requires.vcs n count none)
+    rw c.from_residual.ensures (has-escapes relation k c.vcs.ensures.built c.args.ranked.now.grid c.args.ranked.now.vcs n count none)
 
-pub bare_at-requires-clause-number : goal.bare_at-requires-clause-number
-bare_at-requires-clause-number g c =
+pub bare_at-requires : goal.bare_at-requires
+bare_at-requires g c =
     let ends = c.into_par_iter.ensures in
-    let relation = c.args.relation.now in
+    let relation = c.args.ranked.now.relation.now in
     let n = c.classes.result * c.nodes-nodes.result * c.ports.result * c.vcs.result * c.nodes-nodes.result in
     let count : n ≡ entries relation
     = count-is _ _ _ _ relation.classes (nodes relation.grid) (ports relation.grid) relation.vcs c.classes.ensures.value (c.nodes-nodes.ensures.value ∙ ap nodes c.shape.ensures.value) (c.ports.ensures.value ∙ ap ports c.shape-2.ensures.value) c.vcs.ensures.value in
-    let told = searched (IsNotBare relation c.args.ranks.now) n _ _ c.find_first.result ends.0 ends.1 c.find_first.ensures in
-    let found : IsFirstBut (IsNotBare relation c.args.ranks.now) 0 n c.in_ok-number.number = rw c.in_ok-number.was at told in
+    let told = searched (IsNotBare relation c.args.ranked.now.ranks.now) n _ _ c.find_first.result ends.0 ends.1 c.find_first.ensures in
+    let found : IsFirstBut (IsNotBare relation c.args.ranked.now.ranks.now) 0 n c.in_ok-number.number = rw c.in_ok-number.was at told in
     omega (arith, count, found.below)
 
 pub returns : goal.returns
 returns g c =
     let ends = c.into_par_iter.ensures in
-    let relation = c.args.relation.now in
-    let k = c.args.ranks.now in
+    let relation = c.args.ranked.now.relation.now in
+    let k = c.args.ranked.now.ranks.now in
     let n = c.classes.result * c.nodes-nodes.result * c.ports.result * c.vcs.result * c.nodes-nodes.result in
     let told = searched (IsNotBare relation k) n _ _ c.find_first.result ends.0 ends.1 c.find_first.ensures in
     let found : IsFirstBut (IsNotBare relation k) 0 n c.in_ok-number.number = rw c.in_ok-number.was at told in
-    first-is_bare relation k c.vcs.ensures.built c.requires.shape c.requires.vcs n c.in_ok-number.number c.bare_at.result found c.bare_at.ensures.none c.bare_at.ensures.some
+    first-is_bare relation k c.vcs.ensures.built c.args.ranked.now.grid c.args.ranked.now.vcs n c.in_ok-number.number c.bare_at.result found c.bare_at.ensures.none c.bare_at.ensures.some

@@ -13,12 +13,12 @@ contains-requires c = index-few c.loop-index.index c.link_ports.result c.vcs.res
 
 pub output_rank-requires-clause-index : goal.output_rank-requires-clause-index
 output_rank-requires-clause-index c =
-    index-known c.args.ranks.now c.loop-index.index c.link_ports.result c.vcs.result (c.link_ports.ensures.value ∙ ap local_port (c.shape.ensures.value ∙ c.requires.shape)) (c.vcs.ensures.value ∙ c.requires.vcs) c.loop-index-test.true
+    index-known c.args.ranked.now.ranks.now c.loop-index.index c.link_ports.result c.vcs.result (c.link_ports.ensures.value ∙ ap local_port (c.shape.ensures.value ∙ c.args.ranked.now.grid)) (c.vcs.ensures.value ∙ c.args.ranked.now.vcs) c.loop-index-test.true
 
 pub returns-clause-no : goal.returns-clause-no
 returns-clause-no c = λ no i l.
-    let count : c.link_ports.result * c.vcs.result ≡ local_port c.args.ranks.now.grid * c.args.ranks.now.vcs
-    = ap (λ x. x * c.vcs.result) (c.link_ports.ensures.value ∙ ap local_port (c.shape.ensures.value ∙ c.requires.shape)) ∙ ap (λ x. local_port c.args.ranks.now.grid * x) (c.vcs.ensures.value ∙ c.requires.vcs) in
+    let count : c.link_ports.result * c.vcs.result ≡ local_port c.args.ranked.now.ranks.now.grid * c.args.ranked.now.ranks.now.vcs
+    = ap (λ x. x * c.vcs.result) (c.link_ports.ensures.value ∙ ap local_port (c.shape.ensures.value ∙ c.args.ranked.now.grid)) ∙ ap (λ x. local_port c.args.ranked.now.ranks.now.grid * x) (c.vcs.ensures.value ∙ c.args.ranked.now.vcs) in
     c.loop-index.invariant i (omega (arith, l, count, c.loop-index-test.false))
 
 pub overflow_mul-index-end : goal.overflow_mul-index-end
@@ -33,7 +33,7 @@ pub returns-then-is_some-clause-yes : goal.returns-then-is_some-clause-yes
 returns-then-is_some-clause-yes c =
     λ _. (
       c.loop-index.index,
-      index-known c.args.ranks.now c.loop-index.index c.link_ports.result c.vcs.result (c.link_ports.ensures.value ∙ ap local_port (c.shape.ensures.value ∙ c.requires.shape)) (c.vcs.ensures.value ∙ c.requires.vcs) c.loop-index-test.true,
+      index-known c.args.ranked.now.ranks.now c.loop-index.index c.link_ports.result c.vcs.result (c.link_ports.ensures.value ∙ ap local_port (c.shape.ensures.value ∙ c.args.ranked.now.grid)) (c.vcs.ensures.value ∙ c.args.ranked.now.vcs) c.loop-index-test.true,
       record {
         member = sym c.contains.ensures ∙ c.if-contains.true;
         ranked = ap (λ (o : Option ℕ). is_some o) (sym c.output_rank.ensures.value) ∙ sym c.is_some.ensures ∙ c.if-is_some.true;
@@ -43,18 +43,18 @@ returns-then-is_some-clause-yes c =
 pub loop-index-preserved : goal.loop-index-preserved
 loop-index-preserved c = λ i l ranked. at i l ranked (cases_lt i c.loop-index.index)
   where
-    here : IsRankedIn c.args.ranks.now c.args.router c.args.set c.loop-index.index → ⊥
+    here : IsRankedIn c.args.ranked.now.ranks.now c.args.router c.args.set c.loop-index.index → ⊥
     here r = elim c.else-contains.branch [
       | else-contains-via-then-contains+else-is_some w ↦
           false≢true (sym (ap (λ (o : Option ℕ). is_some o) (sym w.output_rank.ensures.value) ∙ sym w.is_some.ensures ∙ w.if-is_some.false) ∙ r.ranked)
       | else-contains-via-else-contains w ↦ false≢true (sym (sym c.contains.ensures ∙ w.if-contains.false) ∙ r.member)
     ]
 
-    at : (i : ℕ) → i < c.loop-index.index + 1 → IsRankedIn c.args.ranks.now c.args.router c.args.set i → (i < c.loop-index.index) ⊎ (c.loop-index.index ≤ i) → ⊥
+    at : (i : ℕ) → i < c.loop-index.index + 1 → IsRankedIn c.args.ranked.now.ranks.now c.args.router c.args.set i → (i < c.loop-index.index) ⊎ (c.loop-index.index ≤ i) → ⊥
     at i l ranked (inl less) = c.loop-index.invariant i less ranked
     at i l ranked (inr more) =
         let same : i ≡ c.loop-index.index = omega (arith, l, more) in
-        let P : ℕ → Type 0 = λ j. IsRankedIn c.args.ranks.now c.args.router c.args.set j in
+        let P : ℕ → Type 0 = λ j. IsRankedIn c.args.ranked.now.ranks.now c.args.router c.args.set j in
         here (subst P same ranked)
 
 pub returns-clause-yes : goal.returns-clause-yes

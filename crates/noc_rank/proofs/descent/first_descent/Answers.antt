@@ -7,11 +7,11 @@ use Rattle.noc_rank.proofs.AcceptLemmas.{real-over}
 use Rattle.noc_rank.proofs.BareLemmas.{over-same}
 use Rattle.noc_rank.proofs.descent.first_descent.Goals as goal
 
-pub descent_in-requires-clause-real : goal.descent_in-requires-clause-real
-descent_in-requires-clause-real c = real-over c.args.relation.now c.args.ranks.now c.requires.shape c.requires.vcs c.list.ensures.ranking c.list.result.now c.list.ensures.value
+pub invariant_of-list-clause-real : goal.invariant_of-list-clause-real
+invariant_of-list-clause-real c = real-over c.args.ranked.now.relation.now c.args.ranked.now.ranks.now c.args.ranked.now.grid c.args.ranked.now.vcs c.list.ensures.ranking c.list.result.now c.list.ensures.value
 
 pub returns : goal.returns
 returns c =
-    let routes = c.args.relation.now in
+    let routes = c.args.ranked.now.relation.now in
     let P : Ranking → Type 0 = λ x. IfOk c.descent_in.result (λ found. MatchOption found (HasNoDescent routes x) (λ d. IsFirstDescent routes x d.from d.to d.rank d.next)) in
-    subst P (ap (over routes) c.list.ensures.value ∙ over-same routes c.args.ranks.now c.requires.shape c.requires.vcs) c.descent_in.ensures
+    subst P (ap (over routes) c.list.ensures.value ∙ over-same routes c.args.ranked.now.ranks.now c.args.ranked.now.grid c.args.ranked.now.vcs) c.descent_in.ensures

@@ -1,44 +1,41 @@
-use Rattle.std.proofs.Common.{◌≤◌, ◌≡◌, ℕ, ◌*◌, ◌/◌, ◌%◌, ◌∙◌, ap, subst, arith}
-use Rattle.std.proofs.Math.Nat.{mul-le-mul_right}
+use Rattle.std.proofs.Common.{◌≡◌, ◌*◌, ◌/◌, ◌%◌, ◌∙◌, ap, arith}
 use Rattle.noc_topo.specs.Shape.{nodes}
-use Rattle.noc_route.proofs.PlaceLemmas.{index-port, pair-second}
-use Rattle.noc_rank.specs.LeastAhead.{IsLeastOf}
-use Rattle.noc_rank.specs.NotRisingTo.{IsOverFirst, IsAheadAt}
-use Rattle.noc_rank.proofs.OverLemmas.{over-more}
+use Rattle.std.proofs.Common.{None, get_or}
+use Rattle.noc_rank.specs.NotRisingTo.{IsAheadAt}
+use Rattle.noc_rank.proofs.DescentLemmas.{end-least, end-inside_list}
+use Rattle.noc_rank.proofs.OverLemmas.{over-more, over-all, pair-class, pair-dst, pairs-few}
 use Rattle.noc_rank.proofs.descent.first_end.Goals as goal
 
 pub loop-number-preserved : goal.loop-number-preserved
 loop-number-preserved c =
-    let routes = c.args.relation.now in
-    let P : ℕ → ℕ → ℕ → Type 0 = λ m t n. IsAheadAt routes c.args.ranks.now c.args.marks.now m t c.args.start n in
-    let n = c.loop-number.number in
-    let node : c.nodes-nodes.result ≡ nodes routes.grid = c.nodes-nodes.ensures.value ∙ ap nodes c.shape.ensures.value in
-    let value : IsLeastOf (P (n / nodes routes.grid) (n % nodes routes.grid)) c.end_by-end.result = subst (λ k. IsLeastOf (P (n / k) (n % k)) c.end_by-end.result) node c.end_by-end.ensures.value in
-    rw c.lesser-first.ensures (over-more routes P n c.loop-number.first c.end_by-end.result c.loop-number.invariant value)
+    let list = c.args.list.now in
+    let routes = list.relation.now in
+    let built = c.shape.ensures.built in
+    let i = c.loop-number.number in
+    let k = c.nodes-nodes.result in
+    let least = c.fill_least.new.least in
+    let count : k ≡ nodes routes.grid = c.nodes-nodes.ensures.value ∙ ap nodes c.shape.ensures.value in
+    let value = end-least routes built list.ranks.now c.args.marks.now (i / k) (i % k) c.args.start least c.requires.start c.fill_least.ensures in
+    rw c.lesser-first.ensures (over-more routes (λ m t n. IsAheadAt routes list.ranks.now c.args.marks.now m t c.args.start n) k i c.loop-number.first (get_or least c.args.start None) count c.loop-number.invariant value)
+
+pub slice_copy_out-lesser : goal.slice_copy_out-lesser
+slice_copy_out-lesser c = end-inside_list c.args.list.now.relation.now c.shape.ensures.built c.args.start _ c.requires.start c.fill_least.ensures.long
+
+pub overflow_mul-number-end : goal.overflow_mul-number-end
+overflow_mul-number-end c = omega (arith, pairs-few c.classes.result c.nodes-nodes.result (omega (arith, c.classes.ensures.value, c.classes.ensures.built.table.few_classes)) c.nodes-nodes.ensures.few)
+
+pub nonzero_div-search : goal.nonzero_div-search
+nonzero_div-search c = omega (arith, c.nodes-nodes.ensures.some)
+
+pub invariant_of-search-clause-class_exists : goal.invariant_of-search-clause-class_exists
+invariant_of-search-clause-class_exists c =
+    pair-class c.args.list.now.relation.now c.classes.result c.nodes-nodes.result c.loop-number.number c.classes.ensures.value (c.nodes-nodes.ensures.value ∙ ap nodes c.shape.ensures.value) c.nodes-nodes.ensures.some c.loop-number-test.true
+
+pub invariant_of-search-clause-dst_exists : goal.invariant_of-search-clause-dst_exists
+invariant_of-search-clause-dst_exists c = pair-dst c.args.list.now.relation.now c.nodes-nodes.result c.loop-number.number (c.nodes-nodes.ensures.value ∙ ap nodes c.shape.ensures.value) c.nodes-nodes.ensures.some
 
 pub returns : goal.returns
 returns c =
-    let routes = c.args.relation.now in
-    let P : ℕ → ℕ → ℕ → Type 0 = λ m t n. IsAheadAt routes c.args.ranks.now c.args.marks.now m t c.args.start n in
-    let count : c.classes.result * c.nodes-nodes.result ≡ routes.classes * nodes routes.grid
-    = ap (λ x. x * c.nodes-nodes.result) c.classes.ensures.value ∙ ap (λ x. routes.classes * x) (c.nodes-nodes.ensures.value ∙ ap nodes c.shape.ensures.value) in
-    let last : c.loop-number.number ≡ routes.classes * nodes routes.grid = omega (arith, count, c.loop-number-test.false, c.loop-number.auto.number-end) in
-    subst (λ k. IsLeastOf (IsOverFirst routes P k) c.loop-number.first) last c.loop-number.invariant
-
-pub overflow_mul-number-end : goal.overflow_mul-number-end
-overflow_mul-number-end c =
-    let n = c.nodes-nodes.result in
-    let few : c.classes.result * n ≤ 4 * n = mul-le-mul_right n (omega (arith, c.classes.ensures.value, c.classes.ensures.built.table.few_classes)) in
-    omega (arith, few, c.nodes-nodes.ensures.few)
-
-pub nonzero_div-number : goal.nonzero_div-number
-nonzero_div-number c = omega (arith, c.nodes-nodes.ensures.some)
-
-pub end_by-end-requires-clause-class : goal.end_by-end-requires-clause-class
-end_by-end-requires-clause-class c =
-    let n = c.nodes-nodes.result in
-    index-port c.loop-number.number (c.classes.result * n) c.args.relation.now.classes n (omega (arith, c.nodes-nodes.ensures.some)) (ap (λ k. k * n) c.classes.ensures.value) c.loop-number-test.true
-
-pub end_by-end-requires-clause-dst : goal.end_by-end-requires-clause-dst
-end_by-end-requires-clause-dst c =
-    pair-second c.nodes-nodes.result _ c.loop-number.number (c.nodes-nodes.ensures.value ∙ ap nodes c.shape.ensures.value) (omega (arith, c.nodes-nodes.ensures.some))
+    let routes = c.args.list.now.relation.now in
+    let last : c.loop-number.number ≡ c.classes.result * c.nodes-nodes.result = omega (arith, c.loop-number-test.false, c.loop-number.auto.number-end) in
+    over-all routes (λ m t n. IsAheadAt routes c.args.list.now.ranks.now c.args.marks.now m t c.args.start n) c.classes.result c.nodes-nodes.result c.loop-number.number c.loop-number.first c.classes.ensures.value (c.nodes-nodes.ensures.value ∙ ap nodes c.shape.ensures.value) last c.loop-number.invariant

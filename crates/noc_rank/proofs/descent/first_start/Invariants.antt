@@ -3,4 +3,4 @@ use Rattle.noc_rank.specs.NotRisingTo.{IsOverFirst, IsStartBy}
 use Rattle.noc_rank.proofs.descent.first_start.Given as goal
 
 abbrev pub invariant-loop-number : goal.invariant-loop-number
-invariant-loop-number l = IsLeastOf (IsOverFirst l.relation (IsStartBy l.relation l.ranks) l.number) l.first
+invariant-loop-number l = IsLeastOf (IsOverFirst l.list.relation.now (IsStartBy l.list.relation.now l.list.ranks.now) l.number) l.first
