@@ -14,7 +14,7 @@ use Rattle.noc_route.proofs.PlaceLemmas.{half-some, each-pushed}
 use Rattle.noc_route.specs.Ranks.{Ranking, is_place, is_channel, rank_count, rank_index, rank_at}
 use Rattle.noc_rank.specs.Ranking.{IsRanking}
 use Rattle.noc_rank.specs.Formulas.{has_ranks, is_numbered, formula, formula_at, hops_passed, IsGenerated}
-use Rattle.noc_rank.specs.Formulated.{IsWithin, AreByFormula, rank_in, turn_by}
+use Rattle.noc_rank.specs.Formulated.{IsWithin, AreByFormula, rank_in, part_by}
 use Rattle.noc_rank.specs.declared.generated.Formula.{Formula}
 use Rattle.noc_rank.proofs.PlaceLemmas.{is_place-parts, is_place-decoded, place-below, place-router, place-port, place-vc}
 
@@ -67,13 +67,16 @@ escape-low g vcs classes v rule e known =
 pub rank-few : (a b s p : ℕ) → a < 3 → b ≤ 2 → s ≤ 16 → p < 16 → (b * s ≤ 32) × (32 * a + b * s + p + 1 ≤ 145)
 rank-few a b s p l m n o = let most : b * s ≤ 2 * s = mul-le-mul_right s m in (omega arith, omega arith)
 
+first-part : (a s h : ℕ) → a + h + 1 ≡ a + 0 * s + h + 1
+first-part a s h = rw (zero-mul s) (omega arith)
+
 -- every rule but west first has its ranks dimension by dimension
-pub formula-turned : (g : Grid) (vcs classes r p v : ℕ) (rule : Rule) → (rule ≡ WestFirst → ⊥) → formula g vcs classes rule r p v ≡ 32 * (p / 2) + turn_by vcs classes rule v * get_or g.radix (p / 2) 0 + hops_passed g r p + 1
-formula-turned g vcs classes r p v Dor other = omega (arith, zero-mul (get_or g.radix (p / 2) 0))
-formula-turned g vcs classes r p v Dateline other = refl
-formula-turned g vcs classes r p v WestFirst other = absurd (other refl)
-formula-turned g vcs classes r p v Adaptive other = refl
-formula-turned g vcs classes r p v (Rows rows) other = omega (arith, zero-mul (get_or g.radix (p / 2) 0))
+pub formula-parted : (g : Grid) (vcs classes r p v : ℕ) (rule : Rule) → (rule ≡ WestFirst → ⊥) → formula g vcs classes rule r p v ≡ 32 * (p / 2) + part_by vcs classes rule v * get_or g.radix (p / 2) 0 + hops_passed g r p + 1
+formula-parted g vcs classes r p v Dor other = first-part (32 * (p / 2)) (get_or g.radix (p / 2) 0) (hops_passed g r p)
+formula-parted g vcs classes r p v Dateline other = refl
+formula-parted g vcs classes r p v WestFirst other = absurd (other refl)
+formula-parted g vcs classes r p v Adaptive other = refl
+formula-parted g vcs classes r p v (Rows rows) other = first-part (32 * (p / 2)) (get_or g.radix (p / 2) 0) (hops_passed g r p)
 
 -- ---- a list of ranks by formula
 

@@ -15,14 +15,14 @@ IsWithin n = (1 ≤ n) × (n ≤ HIGHEST)
 abbrev pub rank_in : Formula → ℕ → ℕ → ℕ → Option ℕ
 rank_in f r p v = formula_at f.shape.now f.vcs f.classes f.rule.now r p v
 
--- what stands before the links of a dimension: by dateline the half of the class's channels, by adaptive the escape channel
-abbrev pub turn_by : ℕ → ℕ → Rule → ℕ → ℕ
-turn_by vcs classes Dateline v = resource_class vcs classes v
-turn_by vcs classes Adaptive v = place_in_class vcs classes v
-turn_by vcs classes _ v = 0
+-- the part of a dimension's channels in which a channel is: by dateline the half of its class's channels, by adaptive the escape channel
+abbrev pub part_by : ℕ → ℕ → Rule → ℕ → ℕ
+part_by vcs classes Dateline v = resource_class vcs classes v
+part_by vcs classes Adaptive v = place_in_class vcs classes v
+part_by vcs classes _ v = 0
 
-abbrev pub turn_in : Formula → ℕ → ℕ
-turn_in f v = turn_by f.vcs f.classes f.rule.now v
+abbrev pub part_in : Formula → ℕ → ℕ
+part_in f v = part_by f.vcs f.classes f.rule.now v
 
 -- the ranks of the first n places
 pub record AreByFormula (f : Formula) (n : ℕ) (ranks : List (Option ℕ)) : Type 0 where

@@ -37,7 +37,7 @@ pub(crate) struct Formula<'a> {
 }
 
 impl<'a> Formula<'a> {
-    ghost use Rattle.noc_rank.specs.Formulated.{AreByFormula, IsWithin, rank_in, turn_in};
+    ghost use Rattle.noc_rank.specs.Formulated.{AreByFormula, IsWithin, rank_in, part_in};
 
     // The ranks of all places, none where a port has no link and for adaptive channels.
     pub(crate) fn ranks(&self, alloc: Global) -> Result<Vec<Option<u32>>, AllocError>
@@ -87,14 +87,15 @@ impl<'a> Formula<'a> {
     {
         match self.rule {
             Rule::WestFirst => west_first_rank(self.shape, router, port),
-            _ => axis_of(self.shape, router, port / 2).rank(port, self.turn(vc)),
+            _ => axis_of(self.shape, router, port / 2).rank(port, self.part(vc)),
         }
     }
 
-    // How many times a packet on this channel has gone along its dimension before: once where a dateline was crossed.
-    fn turn(&self, vc: usize) -> usize
+    // The part of a dimension's channels in which this one is, in the order in which packets take them: by dateline the half
+    // of its class's channels, by adaptive the escape channel.
+    fn part(&self, vc: usize) -> usize
         requires { is_numbered self.now.shape.now self.now.vcs self.now.classes self.now.rule.now vc ≡ true }
-        ensures value { result ≡ turn_in self.now vc }
+        ensures value { result ≡ part_in self.now vc }
         ensures few { result ≤ 2 }
     {
         match self.rule {
@@ -147,14 +148,14 @@ fn axis_of(shape: &Shape, router: usize, dimension: usize) -> Axis
 }
 
 impl Axis {
-    // The rank of a channel along a port of this dimension: dimension by dimension, turn by turn, link by link.
-    fn rank(self, port: usize, turn: usize) -> usize
+    // The rank of a channel of this part along a port of this dimension: dimension by dimension, part by part, link by link.
+    fn rank(self, port: usize, part: usize) -> usize
         requires port { port < 6 }
-        requires turn { turn ≤ 2 }
-        ensures value { result ≡ 32 * (port / 2) + turn * self.size + passed_in self.size self.at port + 1 }
+        requires part { part ≤ 2 }
+        ensures value { result ≡ 32 * (port / 2) + part * self.size + passed_in self.size self.at port + 1 }
         ensures few { result ≤ HIGHEST }
     {
-        32 * (port / 2) + turn * self.size + self.passed(port) + 1
+        32 * (port / 2) + part * self.size + self.passed(port) + 1
     }
 
     // How many routers lie behind this one, seen along a port of its dimension.

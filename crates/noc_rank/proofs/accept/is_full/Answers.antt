@@ -1,10 +1,16 @@
 use Rattle.std.proofs.Common.{◌≡◌, ◌+◌, ◌*◌, ◌/◌, ◌%◌, ◌<◌, ◌≤◌, ℕ, true, refl, ap, ◌∙◌, arith, inl, inr}
 use Rattle.std.specs.Prelude.{◌⊎◌, is_some}
+use Rattle.std.proofs.Math.Nat.{mul-le-mul_right}
 use Rattle.std.proofs.lemmas.Bool.{cases_lt}
 use Rattle.noc_topo.specs.Shape.{nodes, local_port}
 use Rattle.noc_route.specs.Ranks.{is_channel, rank_count, rank_at}
 use Rattle.noc_rank.proofs.AcceptLemmas.{full-decoded}
 use Rattle.noc_rank.proofs.accept.is_full.Goals as goal
+
+pub overflow_mul-place-end : goal.overflow_mul-place-end
+overflow_mul-place-end c =
+    let few : c.all_ports.result * c.vcs-vcs.result ≤ 1536 * c.vcs-vcs.result = mul-le-mul_right c.vcs-vcs.result c.all_ports.ensures.few in
+    omega (arith, few, c.vcs-vcs.ensures.value, c.vcs-vcs.ensures.built.table.few_vcs)
 
 pub loop-place-preserved : goal.loop-place-preserved
 loop-place-preserved c = λ n l. at n l (cases_lt n c.loop-place.place)
