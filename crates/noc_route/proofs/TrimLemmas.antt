@@ -5,13 +5,15 @@ use Rattle.std.proofs.Math.Nat.{mod-lt, div-add-mod, mul_comm, div-lt_iff_lt-mul
 use Rattle.std.proofs.lemmas.Nat.{div-mul-add, mod-mul-add}
 use Rattle.std.proofs.lemmas.Bool.{cases_eq, cases_lt, eq-eqb, ne_eqb, false≢true, and_parts, or_cases}
 use Rattle.std.proofs.lemmas.Bool.Decides.{eqb_tells}
-use Rattle.std.proofs.lemmas.List.{get_or-set_same, get_or-set_other}
+use Rattle.std.proofs.lemmas.List.{length-set, get_or-set_same, get_or-set_other}
 use Rattle.std.proofs.Math.Bool.{or-true}
 use Rattle.noc_packet.specs.Set.{has_bit}
+use Rattle.noc_packet.proofs.SetLemmas.{has_bit-zero}
 use Rattle.noc_topo.specs.Shape.{Grid, IsGrid, nodes, ports, local_port, neighbour, distance}
 use Rattle.noc_topo.proofs.LinkLemmas.{link_back, neighbour-range}
 use Rattle.noc_route.specs.Routes.{Routes, width, pages, page_of}
 use Rattle.noc_route.specs.Trimming.{set_in, IsPlace, CanCome, injected, led, ComesNearer, CanLeave, comes_in, any_below, IsSoundOut, IsFullOut}
+use Rattle.noc_route.specs.Gathering.{AreOuts, AreOutsFrom, FartherFull, IsPairDone}
 use Rattle.noc_route.proofs.PlaceLemmas.{flat-below}
 
 -- ---- a test of the numbers below one
@@ -159,10 +161,6 @@ IsGathered-more routes outs m r t n out set more reached come same either had = 
     let here : (reached && has_bit set k) ≡ F n = ap (λ b. b && has_bit set k) come ∙ ap (λ s. comes_in routes outs m r t n && has_bit s k) same in
     either k ∙ ap (λ b. b || (reached && has_bit set k)) (had k l) ∙ ap (λ b. any_below n F || b) here ∙ sym (any_below-more n F)
 
--- every list of a router farther from t is full
-abbrev pub FartherFull : Routes → List ℕ → ℕ → ℕ → Type 0
-FartherFull routes outs r t = (m u : ℕ) → IsPlace routes m u t → distance routes.grid r t < distance routes.grid u t → IsFullOut routes outs m u t
-
 out-sound : (routes : Routes) (outs : List ℕ) (m r t out k : ℕ) → IsSized routes → IsSoundOut routes outs → IsPlace routes m r t → IsOutOf routes outs m r t out
     → k < width routes.grid routes.vcs → has_bit out k ≡ true → CanLeave routes m r t k
 out-sound routes outs m r t out k sized sound place is l e =
@@ -237,23 +235,21 @@ IsFullOut-set routes outs m r t out m' r' t' sized long nearer full place is oth
 
 -- ---- the loops over places
 
--- the lists of the first classes at a router and a destination are full, and no list that was full is not
-pub record IsPairDone (routes : Routes) (before outs : List ℕ) (r t class : ℕ) : Type 0 where
-  pub sound : IsSoundOut routes outs
-  pub done : (m : ℕ) → m < class → IsPlace routes m r t → IsFullOut routes outs m r t
-  pub kept : (m u d : ℕ) → IsPlace routes m u d → IsFullOut routes before m u d → IsFullOut routes outs m u d
-
-pub IsPairDone-more : (routes : Routes) (before outs : List ℕ) (r t class out : ℕ) → IsSized routes → length outs ≡ pages routes.grid routes.classes → ComesNearer routes → FartherFull routes before r t
+-- one more class
+pub IsPairDone-more : (routes : Routes) (before outs : List ℕ) (r t class out : ℕ) → IsSized routes → ComesNearer routes → FartherFull routes before r t
     → IsPlace routes class r t → IsOutOf routes outs class r t out → IsPairDone routes before outs r t class
     → IsPairDone routes before (set outs (page_of routes.grid routes.classes class r t) out) r t (class + 1)
-IsPairDone-more routes before outs r t class out sized long nearer farther place is h =
+IsPairDone-more routes before outs r t class out sized nearer farther place is h =
     let full : FartherFull routes outs r t = λ m u other l. h.kept m u t other (farther m u other l) in
     record {
-      sound = IsSoundOut-set routes outs class r t out sized long h.sound place is;
+      lists = record { long = length-set outs _ out ∙ long; sound = IsSoundOut-set routes outs class r t out sized long h.lists.sound place is };
       done = λ m l other. at full m l other (cases_lt m class);
       kept = λ m u d other had. IsFullOut-set routes outs class r t out m u d sized long nearer full place is other (h.kept m u d other had);
     }
   where
+    long : length outs ≡ pages routes.grid routes.classes
+    long = h.lists.long
+
     at : FartherFull routes outs r t → (m : ℕ) → m < class + 1 → IsPlace routes m r t → (m < class) ⊎ (class ≤ m) → IsFullOut routes (set outs (page_of routes.grid routes.classes class r t) out) m r t
     at full m l other (inl b) = IsFullOut-set routes outs class r t out m r t sized long nearer full place is other (h.done m b other)
     at full m l other (inr g) =
@@ -263,7 +259,7 @@ IsPairDone-more routes before outs r t class out sized long nearer farther place
 
 -- the lists of all routers farther off are full, and of the first pairs of a router and a destination at this distance
 pub record IsRingDone (routes : Routes) (outs : List ℕ) (apart pair : ℕ) : Type 0 where
-  pub sound : IsSoundOut routes outs
+  pub lists : AreOuts routes outs
   pub farther : (m r t : ℕ) → IsPlace routes m r t → apart < distance routes.grid r t → IsFullOut routes outs m r t
   pub done : (m r t : ℕ) → IsPlace routes m r t → r * nodes routes.grid + t < pair → distance routes.grid r t ≡ apart → IsFullOut routes outs m r t
 
@@ -272,12 +268,12 @@ pair-parts : (g : Grid) (r t pair : ℕ) → t < nodes g → r * nodes g + t ≡
 pair-parts g r t pair l e =
     (sym (div-mul-add r (nodes g) t l) ∙ ap (λ x. x / nodes g) e, sym (mod-mul-add r (nodes g) t l) ∙ ap (λ x. x % nodes g) e)
 
-IsRingDone-next : (routes : Routes) (before outs : List ℕ) (apart pair : ℕ) → IsRingDone routes before apart pair → IsSoundOut routes outs
+IsRingDone-next : (routes : Routes) (before outs : List ℕ) (apart pair : ℕ) → IsRingDone routes before apart pair → AreOuts routes outs
     → ((m : ℕ) → IsPlace routes m (pair / nodes routes.grid) (pair % nodes routes.grid) → IsFullOut routes outs m (pair / nodes routes.grid) (pair % nodes routes.grid))
     → ((m u d : ℕ) → IsPlace routes m u d → IsFullOut routes before m u d → IsFullOut routes outs m u d)
     → IsRingDone routes outs apart (pair + 1)
 IsRingDone-next routes before outs apart pair h sound full kept = record {
-  sound = sound;
+  lists = sound;
   farther = λ m r t place l. kept m r t place (h.farther m r t place l);
   done = λ m r t place l e. at m r t place e (cases_lt (r * nodes routes.grid + t) pair) l;
 }
@@ -294,19 +290,17 @@ IsRingDone-next routes before outs apart pair h sound full kept = record {
         let S : ℕ → Type 0 = λ x. IsFullOut routes outs m x t in
         subst S (sym same.0) (subst R (sym same.1) (full m here))
 
-pub IsRingDone-more : (routes : Routes) (before outs : List ℕ) (apart pair n : ℕ) → n ≡ nodes routes.grid → IsRingDone routes before apart pair → IsSoundOut routes outs
-    → ((m : ℕ) → IsPlace routes m (pair / n) (pair % n) → IsFullOut routes outs m (pair / n) (pair % n))
-    → ((m u d : ℕ) → IsPlace routes m u d → IsFullOut routes before m u d → IsFullOut routes outs m u d)
-    → IsRingDone routes outs apart (pair + 1)
-IsRingDone-more routes before outs apart pair n e h sound full kept =
+pub IsRingDone-more : (routes : Routes) (before outs : List ℕ) (apart pair n : ℕ) → n ≡ nodes routes.grid → IsRingDone routes before apart pair
+    → IsPairDone routes before outs (pair / n) (pair % n) routes.classes → IsRingDone routes outs apart (pair + 1)
+IsRingDone-more routes before outs apart pair n e h more =
     let P : ℕ → Type 0 = λ n. (m : ℕ) → IsPlace routes m (pair / n) (pair % n) → IsFullOut routes outs m (pair / n) (pair % n) in
-    IsRingDone-next routes before outs apart pair h sound (subst P e full) kept
+    IsRingDone-next routes before outs apart pair h more.lists (subst P e (λ m place. more.done m place.class place)) more.kept
 
 -- a pair at another distance is passed over
 pub IsRingDone-passed : (routes : Routes) (outs : List ℕ) (apart pair : ℕ) → distance routes.grid (pair / nodes routes.grid) (pair % nodes routes.grid) ≢ apart
     → IsRingDone routes outs apart pair → IsRingDone routes outs apart (pair + 1)
 IsRingDone-passed routes outs apart pair other h = record {
-  sound = h.sound;
+  lists = h.lists;
   farther = h.farther;
   done = λ m r t place l e. at m r t place e (cases_lt (r * nodes routes.grid + t) pair) l;
 }
@@ -318,11 +312,26 @@ IsRingDone-passed routes outs apart pair other h = record {
         let same = pair-parts routes.grid r t pair place.dst (omega arith) in
         absurd (other (sym (ap (λ x. distance routes.grid x t) same.0 ∙ ap (distance routes.grid (pair / nodes routes.grid)) same.1) ∙ e))
 
--- after the last pair
-pub IsRingDone-all : (routes : Routes) (outs : List ℕ) (apart pair : ℕ) → nodes routes.grid * nodes routes.grid ≤ pair → IsRingDone routes outs apart pair
-    → (m r t : ℕ) → IsPlace routes m r t → apart ≤ distance routes.grid r t → IsFullOut routes outs m r t
-IsRingDone-all routes outs apart pair end h m r t place l = at (cases_lt apart (distance routes.grid r t))
+-- before the first pair, and after the last
+pub IsRingDone-none : (routes : Routes) (outs : List ℕ) (apart : ℕ) → AreOutsFrom routes (apart + 1) outs → IsRingDone routes outs apart 0
+IsRingDone-none routes outs apart h = record {
+  lists = h.lists;
+  farther = λ m r t place l. h.full m r t place (omega (arith, l));
+  done = λ m r t place l e. absurd (omega (arith, l));
+}
+
+pub IsRingDone-all : (routes : Routes) (outs : List ℕ) (apart pair : ℕ) → nodes routes.grid * nodes routes.grid ≤ pair → IsRingDone routes outs apart pair → AreOutsFrom routes apart outs
+IsRingDone-all routes outs apart pair end h = record { lists = h.lists; full = λ m r t place l. at m r t place l (cases_lt apart (distance routes.grid r t)) }
   where
-    at : (apart < distance routes.grid r t) ⊎ (distance routes.grid r t ≤ apart) → IsFullOut routes outs m r t
-    at (inl f) = h.farther m r t place f
-    at (inr n) = h.done m r t place (omega (arith, flat-below r (nodes routes.grid) t (nodes routes.grid) place.router place.dst)) (omega arith)
+    at : (m r t : ℕ) → IsPlace routes m r t → apart ≤ distance routes.grid r t → (apart < distance routes.grid r t) ⊎ (distance routes.grid r t ≤ apart) → IsFullOut routes outs m r t
+    at m r t place l (inl f) = h.farther m r t place f
+    at m r t place l (inr n) = h.done m r t place (omega (arith, flat-below r (nodes routes.grid) t (nodes routes.grid) place.router place.dst)) (omega arith)
+
+-- lists without channels
+pub outs-none : (routes : Routes) (outs : List ℕ) → length outs ≡ pages routes.grid routes.classes → ((j : ℕ) → slice_index outs j ≡ 0) → AreOuts routes outs
+outs-none routes outs long none = record {
+  long = long;
+  sound = λ m r t k place l e.
+      let free : has_bit (slice_index outs (page_of routes.grid routes.classes m r t)) k ≡ false = ap (λ s. has_bit s k) (none (page_of routes.grid routes.classes m r t)) ∙ has_bit-zero k in
+      absurd (false≢true (sym free ∙ e));
+}

@@ -7,3 +7,4 @@ pub mod Stored
 pub mod Trimming
 pub mod Entered
 pub mod Built
+pub mod Gathering

@@ -5,6 +5,7 @@ ghost use Rattle.noc_packet.specs.Set.{has_bit};
 ghost use Rattle.noc_route.specs.Entered.{routing_in, has_row_at};
 ghost use Rattle.noc_route.specs.Relation.{is_real_row, is_right, is_led};
 ghost use Rattle.noc_route.specs.Routes.{width, pages, page_class, page_router, page_dst};
+ghost use Rattle.noc_route.specs.Gathering.{IsTable};
 ghost use Rattle.noc_route.specs.Trimming.{routes_in, page_set};
 
 use crate::map::Map;
@@ -15,7 +16,7 @@ use noc_packet::ChannelSet;
 // Writes the sets of a rule by coordinates.
 pub(crate) fn enter_named(map: &Map, rule: &Rule, sets: &mut [ChannelSet])
     requires right { is_right map.now.frame.shape map.now.frame.vcs map.now.frame.classes rule.now ≡ true }
-    requires long { length sets.old ≡ pages map.now.frame.shape map.now.frame.classes * width map.now.frame.shape map.now.frame.vcs }
+    requires long { IsTable map.now.frame sets.old }
     ensures { let f = map.now.frame in (b i k : ℕ) → b < pages f.shape f.classes → i < width f.shape f.vcs → has_bit (page_set (routes_in f sets.new) b i) k ≡ (nat_lt k (width f.shape f.vcs) && is_led (routing_in f rule.now) (page_class f.shape f.classes b) (page_router f.shape f.classes b) (page_dst f.shape b) (k / f.vcs) (k % f.vcs)) }
 {
     let width = map.frame.width();
@@ -38,7 +39,7 @@ fn fill(sets: &mut [ChannelSet], from: usize, count: usize, set: ChannelSet)
 
 // Writes the sets of a table's rows, each of which names what exists, over sets without members.
 pub(crate) fn enter_rows(map: &Map, rows: &[RouteRow], sets: &mut [ChannelSet])
-    requires long { length sets.old ≡ pages map.now.frame.shape map.now.frame.classes * width map.now.frame.shape map.now.frame.vcs }
+    requires long { IsTable map.now.frame sets.old }
     requires rows { All (λ row. is_real_row map.now.frame.shape map.now.frame.vcs map.now.frame.classes row ≡ true) rows.now }
     requires empty { (j : ℕ) → slice_index sets.old j ≡ 0 }
     ensures { let f = map.now.frame in (b i k : ℕ) → b < pages f.shape f.classes → i < width f.shape f.vcs → has_bit (page_set (routes_in f sets.new) b i) k ≡ (nat_lt k (width f.shape f.vcs) && has_row_at (routes_in f sets.new) rows.now b i k) }

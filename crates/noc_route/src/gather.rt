@@ -2,9 +2,10 @@
 
 ghost use Rattle.std.specs.Prelude.{◌≡◌, ℕ, ◌+◌, ◌*◌, ◌/◌, ◌%◌, ◌<◌, ◌≤◌, ◌&&◌, ◌||◌, List, length};
 ghost use Rattle.noc_packet.specs.Set.{has_bit};
-ghost use Rattle.noc_topo.specs.Shape.{nodes, distance as distance_between};
-ghost use Rattle.noc_route.specs.Routes.{width, pages, page_of};
-ghost use Rattle.noc_route.specs.Trimming.{routes_in, set_in, IsPlace, ComesNearer, IsSoundOut, IsFullOut, comes_in, any_below};
+ghost use Rattle.noc_topo.specs.Shape.{nodes};
+ghost use Rattle.noc_route.specs.Routes.{width, pages};
+ghost use Rattle.noc_route.specs.Trimming.{routes_in, set_in, ComesNearer, comes_in, any_below};
+ghost use Rattle.noc_route.specs.Gathering.{IsTable, AreOuts, AreOutsFrom, FartherFull, IsPairDone};
 
 use crate::map::Map;
 use noc_packet::ChannelSet;
@@ -13,78 +14,71 @@ use noc_topo::MAX_DISTANCE;
 // Writes the channels by which packets leave each router, by class and destination. A packet comes nearer with each hop,
 // so what reaches a router is known once the routers farther off are done.
 pub(crate) fn gather(map: &Map, sets: &[ChannelSet], outs: &mut [ChannelSet])
-    requires sets { length sets.now ≡ pages map.now.frame.shape map.now.frame.classes * width map.now.frame.shape map.now.frame.vcs }
-    requires outs { length outs.old ≡ pages map.now.frame.shape map.now.frame.classes }
+    requires sets { IsTable map.now.frame sets.now }
     requires nearer { ComesNearer (routes_in map.now.frame sets.now) }
-    requires sound { IsSoundOut (routes_in map.now.frame sets.now) outs.old }
-    ensures sound { IsSoundOut (routes_in map.now.frame sets.now) outs.new }
-    ensures full { let routes = routes_in map.now.frame sets.now in (m r t : ℕ) → IsPlace routes m r t → IsFullOut routes outs.new m r t }
+    requires outs { AreOuts (routes_in map.now.frame sets.now) outs.old }
+    ensures { AreOutsFrom (routes_in map.now.frame sets.now) 0 outs.new }
 {
+    let table = Table { map, sets };
     for step in 0..MAX_DISTANCE + 1 {
-        gather_at(map, sets, outs, MAX_DISTANCE - step);
+        table.gather_at(outs, MAX_DISTANCE - step);
     }
 }
 
-// Gathers what reaches the routers at one distance from the destination.
-fn gather_at(map: &Map, sets: &[ChannelSet], outs: &mut [ChannelSet], distance: usize)
-    requires sets { length sets.now ≡ pages map.now.frame.shape map.now.frame.classes * width map.now.frame.shape map.now.frame.vcs }
-    requires outs { length outs.old ≡ pages map.now.frame.shape map.now.frame.classes }
-    requires nearer { ComesNearer (routes_in map.now.frame sets.now) }
-    requires sound { IsSoundOut (routes_in map.now.frame sets.now) outs.old }
-    requires farther { let routes = routes_in map.now.frame sets.now in (m r t : ℕ) → IsPlace routes m r t → distance < distance_between routes.grid r t → IsFullOut routes outs.old m r t }
-    ensures sound { IsSoundOut (routes_in map.now.frame sets.now) outs.new }
-    ensures full { let routes = routes_in map.now.frame sets.now in (m r t : ℕ) → IsPlace routes m r t → distance ≤ distance_between routes.grid r t → IsFullOut routes outs.new m r t }
-{
-    let nodes = map.frame.node_count;
-    for pair in 0..nodes * nodes {
-        if map.distance(pair / nodes, pair % nodes) == distance {
-            gather_pair(map, sets, outs, pair / nodes, pair % nodes);
+// A table of sets over a map. Each link of it comes nearer to the destination.
+#[derive(Drop)]
+struct Table<'a> {
+    map: &'a Map,
+    sets: &'a [ChannelSet],
+    ghost long: { IsTable map.now.frame sets.now },
+    ghost nearer: { ComesNearer (routes_in map.now.frame sets.now) },
+}
+
+impl<'a> Table<'a> {
+    // Gathers what reaches the routers at one distance from the destination, where those farther off are done.
+    fn gather_at(&self, outs: &mut [ChannelSet], distance: usize)
+        requires { AreOutsFrom (routes_in self.now.map.now.frame self.now.sets.now) (distance + 1) outs.old }
+        ensures { AreOutsFrom (routes_in self.now.map.now.frame self.now.sets.now) distance outs.new }
+    {
+        let nodes = self.map.frame.node_count;
+        for pair in 0..nodes * nodes {
+            if self.map.distance(pair / nodes, pair % nodes) == distance {
+                self.gather_pair(outs, pair / nodes, pair % nodes);
+            }
         }
     }
-}
 
-// Gathers what reaches one router on its way to one destination.
-fn gather_pair(map: &Map, sets: &[ChannelSet], outs: &mut [ChannelSet], router: usize, dst: usize)
-    requires sets { length sets.now ≡ pages map.now.frame.shape map.now.frame.classes * width map.now.frame.shape map.now.frame.vcs }
-    requires outs { length outs.old ≡ pages map.now.frame.shape map.now.frame.classes }
-    requires router { router < nodes map.now.frame.shape }
-    requires dst { dst < nodes map.now.frame.shape }
-    requires nearer { ComesNearer (routes_in map.now.frame sets.now) }
-    requires sound { IsSoundOut (routes_in map.now.frame sets.now) outs.old }
-    requires farther { let routes = routes_in map.now.frame sets.now in (m r : ℕ) → IsPlace routes m r dst → distance_between routes.grid router dst < distance_between routes.grid r dst → IsFullOut routes outs.old m r dst }
-    ensures sound { IsSoundOut (routes_in map.now.frame sets.now) outs.new }
-    ensures full { let routes = routes_in map.now.frame sets.now in (m : ℕ) → IsPlace routes m router dst → IsFullOut routes outs.new m router dst }
-    ensures kept { let routes = routes_in map.now.frame sets.now in (m r t : ℕ) → IsPlace routes m r t → IsFullOut routes outs.old m r t → IsFullOut routes outs.new m r t }
-{
-    for class in 0..map.frame.classes {
-        let out = leaving(map, sets, outs, class, router, dst);
-        outs[map.frame.page(class, router, dst)] = out;
+    // Gathers what reaches one router on its way to one destination.
+    fn gather_pair(&self, outs: &mut [ChannelSet], router: usize, dst: usize)
+        requires router { router < nodes self.now.map.now.frame.shape }
+        requires dst { dst < nodes self.now.map.now.frame.shape }
+        requires outs { AreOuts (routes_in self.now.map.now.frame self.now.sets.now) outs.old }
+        requires farther { FartherFull (routes_in self.now.map.now.frame self.now.sets.now) outs.old router dst }
+        ensures { let f = self.now.map.now.frame in IsPairDone (routes_in f self.now.sets.now) outs.old outs.new router dst f.classes }
+    {
+        for class in 0..self.map.frame.classes {
+            let out = self.leaving(outs, class, router, dst);
+            outs[self.map.frame.page(class, router, dst)] = out;
+        }
     }
-}
 
-// The channels by which packets of a class leave a router on their way to `dst`.
-fn leaving(
-    map: &Map,
-    sets: &[ChannelSet],
-    outs: &[ChannelSet],
-    class: usize,
-    router: usize,
-    dst: usize,
-) -> ChannelSet
-    requires sets { length sets.now ≡ pages map.now.frame.shape map.now.frame.classes * width map.now.frame.shape map.now.frame.vcs }
-    requires outs { length outs.now ≡ pages map.now.frame.shape map.now.frame.classes }
-    requires class { class < map.now.frame.classes }
-    requires router { router < nodes map.now.frame.shape }
-    requires dst { dst < nodes map.now.frame.shape }
-    ensures { let routes = routes_in map.now.frame sets.now in (k : ℕ) → k < width routes.grid routes.vcs → has_bit result k ≡ any_below (width routes.grid routes.vcs) (λ i. comes_in routes outs.now class router dst i && has_bit (set_in routes class router dst i) k) }
-{
-    let page = map.frame.page(class, router, dst);
-    let mut all = ChannelSet::empty();
-    for input in 0..map.frame.width() {
-        let reached = is_reached(map, outs, class, router, dst, input);
-        all = either_if(all, sets[map.frame.slot(page, input)], reached);
+    // The channels by which packets of a class leave a router on their way to `dst`.
+    fn leaving(&self, outs: &[ChannelSet], class: usize, router: usize, dst: usize) -> ChannelSet
+        requires outs { length outs.now ≡ pages self.now.map.now.frame.shape self.now.map.now.frame.classes }
+        requires class { class < self.now.map.now.frame.classes }
+        requires router { router < nodes self.now.map.now.frame.shape }
+        requires dst { dst < nodes self.now.map.now.frame.shape }
+        ensures { let routes = routes_in self.now.map.now.frame self.now.sets.now in (k : ℕ) → k < width routes.grid routes.vcs → has_bit result k ≡ any_below (width routes.grid routes.vcs) (λ i. comes_in routes outs.now class router dst i && has_bit (set_in routes class router dst i) k) }
+    {
+        let (map, sets) = (self.map, self.sets);
+        let page = map.frame.page(class, router, dst);
+        let mut all = ChannelSet::empty();
+        for input in 0..map.frame.width() {
+            let reached = is_reached(map, outs, class, router, dst, input);
+            all = either_if(all, sets[map.frame.slot(page, input)], reached);
+        }
+        all
     }
-    all
 }
 
 // The members of a set, and those of another one if they are to be added.

@@ -6,6 +6,7 @@ ghost use Rattle.noc_route.specs.Built.{routing_of, IsRelationOfRule};
 ghost use Rattle.noc_route.specs.Entered.{routing_in, IsEntered};
 ghost use Rattle.noc_route.specs.Relation.{is_right, table_rows_of, row_fault, IsFirstFault, IsFaultOf};
 ghost use Rattle.noc_route.specs.Routes.{set_at, IsRelation, pages, width};
+ghost use Rattle.noc_route.specs.Gathering.{IsTable};
 ghost use Rattle.noc_route.specs.Trimming.{routes_in};
 
 use crate::enter::{enter_named, enter_rows};
@@ -130,7 +131,7 @@ fn fill(
     outs: &mut [ChannelSet],
 ) -> Result<(), RouteFault>
     requires right { is_right map.now.frame.shape map.now.frame.vcs map.now.frame.classes rule.now ≡ true }
-    requires sets { length sets.old ≡ pages map.now.frame.shape map.now.frame.classes * width map.now.frame.shape map.now.frame.vcs }
+    requires sets { IsTable map.now.frame sets.old }
     requires outs { length outs.old ≡ pages map.now.frame.shape map.now.frame.classes }
     requires empty { (j : ℕ) → slice_index sets.old j ≡ 0 }
     requires unused { (j : ℕ) → slice_index outs.old j ≡ 0 }
@@ -147,7 +148,7 @@ fn fill(
 // Writes a rule's sets, or answers the fault of the first bad row.
 fn enter(map: &Map, rule: &Rule, sets: &mut [ChannelSet]) -> Result<(), RouteFault>
     requires right { is_right map.now.frame.shape map.now.frame.vcs map.now.frame.classes rule.now ≡ true }
-    requires long { length sets.old ≡ pages map.now.frame.shape map.now.frame.classes * width map.now.frame.shape map.now.frame.vcs }
+    requires long { IsTable map.now.frame sets.old }
     requires empty { (j : ℕ) → slice_index sets.old j ≡ 0 }
     ensures err { IfErr result (IsFirstFault map.now.frame.shape map.now.frame.vcs map.now.frame.classes (table_rows_of rule.now)) }
     ensures ok { OnOk result (All (λ row. row_fault map.now.frame.shape map.now.frame.vcs map.now.frame.classes row ≡ None) (table_rows_of rule.now)) }

@@ -3,6 +3,7 @@
 ghost use Rattle.std.specs.Prelude.{◌≡◌, ◌≢◌, ℕ, None, ◌+◌, ◌*◌, ◌<◌, if◌then◌else◌, length, slice_set};
 ghost use Rattle.noc_route.specs.Order.{earlier_entry};
 ghost use Rattle.noc_route.specs.Routes.{width, pages};
+ghost use Rattle.noc_route.specs.Gathering.{IsTable};
 ghost use Rattle.noc_route.specs.Trimming.{routes_in, page_set, comes_at, left_at, entry_on_page, IsFirstStuck};
 
 use crate::gather::is_reached;
@@ -14,7 +15,7 @@ use noc_packet::ChannelSet;
 // router. Returns the first entry that is reached and has an empty set, in the order of class, router, input port and
 // channel, and destination.
 pub(crate) fn trim(map: &Map, sets: &mut [ChannelSet], outs: &[ChannelSet]) -> Option<Entry>
-    requires sets { length sets.old ≡ pages map.now.frame.shape map.now.frame.classes * width map.now.frame.shape map.now.frame.vcs }
+    requires sets { IsTable map.now.frame sets.old }
     requires outs { length outs.now ≡ pages map.now.frame.shape map.now.frame.classes }
     ensures left { (b i : ℕ) → b < pages map.now.frame.shape map.now.frame.classes → i < width map.now.frame.shape map.now.frame.vcs → page_set (routes_in map.now.frame sets.new) b i ≡ left_at (routes_in map.now.frame sets.old) outs.now b i }
     ensures first { IsFirstStuck (routes_in map.now.frame sets.new) outs.now (length sets.old) result }
@@ -34,7 +35,7 @@ fn trim_page(
     page: usize,
     first: Option<Entry>,
 ) -> Option<Entry>
-    requires sets { length sets.old ≡ pages map.now.frame.shape map.now.frame.classes * width map.now.frame.shape map.now.frame.vcs }
+    requires sets { IsTable map.now.frame sets.old }
     requires outs { length outs.now ≡ pages map.now.frame.shape map.now.frame.classes }
     requires page { page < pages map.now.frame.shape map.now.frame.classes }
     requires first { IsFirstStuck (routes_in map.now.frame sets.old) outs.now (page * width map.now.frame.shape map.now.frame.vcs) first }
@@ -68,7 +69,7 @@ fn trim_entry(
     entry: Entry,
     first: Option<Entry>,
 ) -> Option<Entry>
-    requires sets { length sets.old ≡ pages map.now.frame.shape map.now.frame.classes * width map.now.frame.shape map.now.frame.vcs }
+    requires sets { IsTable map.now.frame sets.old }
     requires outs { length outs.now ≡ pages map.now.frame.shape map.now.frame.classes }
     requires page { page < pages map.now.frame.shape map.now.frame.classes }
     requires input { input < width map.now.frame.shape map.now.frame.vcs }

@@ -1,6 +1,0 @@
-use Rattle.noc_route.specs.Trimming.{routes_in}
-use Rattle.noc_route.proofs.TrimLemmas.{IsRingDone}
-use Rattle.noc_route.proofs.gather.gather_at.Given as goal
-
-abbrev pub invariant-loop-pair : goal.invariant-loop-pair
-invariant-loop-pair l = IsRingDone (routes_in l.map.frame l.sets) l.outs l.distance l.pair

@@ -1,6 +1,0 @@
-use Rattle.noc_route.specs.Trimming.{routes_in}
-use Rattle.noc_route.proofs.TrimLemmas.{IsPairDone}
-use Rattle.noc_route.proofs.gather.gather_pair.Given as goal
-
-abbrev pub invariant-loop-class : goal.invariant-loop-class
-invariant-loop-class l = IsPairDone (routes_in l.map.frame l.sets) l.fn.outs l.outs l.router l.dst l.class
