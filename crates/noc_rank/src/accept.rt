@@ -6,7 +6,7 @@
 //! pair that does not rise. Entries are looked at in parallel, and the pairs one class and destination after
 //! the other.
 
-ghost use Rattle.std.specs.Prelude.{◌≡◌, ℕ, ◌+◌, ◌*◌, ◌/◌, ◌%◌, ◌<◌, ◌≤◌, ◌↔◌, IsOk, OnOk, IfErr, IfSome, IfNone, IsTrue, is_some, true, false};
+ghost use Rattle.std.specs.Prelude.{◌≡◌, ◌↔◌, IsOk, OnOk, IfErr, IsTrue, is_some, true, false};
 ghost use Rattle.noc_route.specs.Ranks.{AreAllRanked, IsRankedBy, is_channel, rank_at};
 ghost use Rattle.noc_route.specs.Routes.{IsRelation};
 ghost use Rattle.noc_rank.specs.Faults.{IsFaultOfCheck};

@@ -1,7 +1,7 @@
 //! The least mark ahead of each channel, through adaptive channels.
 
-ghost use Rattle.std.specs.Prelude.{◌≡◌, ℕ, ◌+◌, ◌*◌, ◌/◌, ◌%◌, ◌<◌, ◌≤◌, List, Option, Some, None, length, slice_index_or, if◌then◌else◌, true, false};
-ghost use Rattle.noc_topo.specs.Shape.{nodes, ports, local_port, distance};
+ghost use Rattle.std.specs.Prelude.{◌≡◌, ◌+◌, ◌<◌, None, length, if◌then◌else◌};
+ghost use Rattle.noc_topo.specs.Shape.{nodes, distance};
 ghost use Rattle.noc_packet.specs.declared.limits.TheConstants.{INDICES};
 ghost use Rattle.noc_route.specs.Ranks.{rank_count};
 ghost use Rattle.noc_route.specs.Routes.{IsRelation};

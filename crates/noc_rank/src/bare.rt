@@ -1,6 +1,6 @@
 //! Entries at which no channel with a rank is permitted.
 
-ghost use Rattle.std.specs.Prelude.{◌≡◌, ℕ, ◌+◌, ◌*◌, ◌/◌, ◌%◌, ◌<◌, ◌≤◌, ◌↔◌, IfSome, IfNone, MatchOption, true, false};
+ghost use Rattle.std.specs.Prelude.{◌≡◌, ℕ, ◌*◌, ◌<◌, ◌≤◌, ◌↔◌, IfSome, IfNone, MatchOption, true, false};
 ghost use Rattle.noc_topo.specs.Shape.{nodes, ports, local_port};
 ghost use Rattle.noc_route.specs.Routes.{IsRelation};
 ghost use Rattle.noc_rank.specs.Faults.{HasEscapes, IsFirstBare};

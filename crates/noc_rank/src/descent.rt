@@ -1,6 +1,6 @@
 //! Channels from which packets come on, through adaptive channels, to one of no greater rank.
 
-ghost use Rattle.std.specs.Prelude.{◌≡◌, ℕ, ◌+◌, ◌*◌, ◌/◌, ◌%◌, ◌<◌, ◌≤◌, ◌⊎◌, List, Option, Some, None, IfOk, IfSome, IfNone, MatchOption, length, slice_index_or, vec_len, true, false};
+ghost use Rattle.std.specs.Prelude.{◌≡◌, ℕ, ◌<◌, ◌⊎◌, Some, None, IfOk, IfSome, IfNone, MatchOption, length, slice_index_or, vec_len};
 ghost use Rattle.noc_route.specs.Routes.{IsRelation};
 ghost use Rattle.noc_rank.specs.Faults.{HasNoDescent, IsFirstDescent};
 ghost use Rattle.noc_rank.specs.LeastAhead.{over, IsLeastOf};

@@ -1,12 +1,11 @@
 //! Steps from one channel to the next along which ranks do not rise.
 
-ghost use Rattle.std.specs.Prelude.{◌≡◌, ℕ, ◌+◌, ◌*◌, ◌/◌, ◌%◌, ◌<◌, ◌≤◌, ◌↔◌, IfSome, IfNone, MatchOption, Some, false, true};
+ghost use Rattle.std.specs.Prelude.{◌≡◌, ◌*◌, ◌/◌, ◌%◌, ◌<◌, ◌↔◌, IfSome, IfNone, MatchOption, Some, false, true};
 ghost use Rattle.noc_topo.specs.Shape.{nodes, ports};
 ghost use Rattle.noc_packet.specs.declared.limits.TheConstants.{INDICES};
-ghost use Rattle.noc_route.specs.Routes.{set_at};
 ghost use Rattle.noc_route.specs.Ranks.{IsRising, rank_at};
 ghost use Rattle.noc_rank.specs.Rising.{IsFirstFall};
-ghost use Rattle.noc_rank.specs.NotRising.{fault_of_fall, arrival_rank, falls_to, link_output_count, input_count, IsLeastBelow, HasNone, HasNoFall, IsFirstFrom, IsFirstAt};
+ghost use Rattle.noc_rank.specs.NotRising.{fault_of_fall, arrival_rank, link_output_count, input_count, IsLeastBelow, HasNone, HasNoFall, IsFirstAt};
 
 use crate::fault::RankFault;
 use crate::place::link_ports;
