@@ -9,7 +9,7 @@ use Rattle.noc_packet.specs.declared.packet.Flit.{Flit}
 use Rattle.noc_packet.proofs.SetLemmas.{has_bit-zero}
 use Rattle.noc_row_blocks.specs.Carried.{HaveMoved, WireWords, first_of, wire_words}
 use Rattle.noc_row_words.specs.FlitWords.{FitsWord, flit_word, is_room}
-use Rattle.noc_row_blocks.specs.Switched.{AreNext, HasFirst, HaveFirsts, IsOne, MovesFlits, NotesTails, firsts_with, gone_with, in_words, one_has, some_moved, some_tail, words_with}
+use Rattle.noc_row_blocks.specs.Switched.{AreNext, HasCarried, HasFirst, HaveFirsts, IsOne, firsts_with, gone_with, in_words, one_has, some_moved, some_tail, words_with}
 use Rattle.noc_row_words.specs.Wires.{inbox_at, ring_in, room_of, tails_of}
 use Rattle.noc_row_words.specs.declared.marks.Marks.{Marks}
 use Rattle.noc_row_words.specs.declared.room.Room.{Room}
@@ -80,16 +80,22 @@ carrying-none number port selected marks wires moving movers = record {
 all-left : (selected : ℕ → ℕ) (rest : ℕ) → rest ≡ 0 → (k : ℕ) → left_out selected rest k ≡ selected k
 all-left selected rest none k = ap (λ b. if b then 0 else selected k) (ap (λ r. has_bit r k) none ∙ has_bit-zero k)
 
-pub carried-all : (number port : ℕ) (selected : ℕ → ℕ) (old now : Marks) (before after : Wires) (moving rest : ℕ) → rest ≡ 0 → IsCarrying number port selected old now before after moving rest → MovesFlits number selected old now before after
-carried-all number port selected old now before after moving rest none is = λ limit all gone target back first start n.
-    moved-same limit (gone_with gone number (left_out selected rest)) (gone_with gone number selected) target back start (words_with first number now after)
-    (gone-same gone number (left_out selected rest) selected (λ k l. all-left selected rest none k)) (is.flits limit all gone target back first start n)
-
-pub noted-all : (number port : ℕ) (selected : ℕ → ℕ) (old now : Marks) (before after : Wires) (moving rest : ℕ) → rest ≡ 0 → IsCarrying number port selected old now before after moving rest → NotesTails number port selected old before after
-noted-all number port selected old now before after moving rest none is = λ limit all gone target back first start tail packet test n firsts few.
-    is.tails limit all gone target back first start tail packet test n firsts few
-    ∙ ap (λ b. some_tail before.tails test || b) (some-same 32 (λ k. one_has (left_out selected rest k) (λ i. tail k i && test (port * 1024 + (k * 32 + i)) (packet k i)))
-    (λ k. one_has (selected k) (λ i. tail k i && test (port * 1024 + (k * 32 + i)) (packet k i))) (λ k l. ap (λ w. one_has w (λ i. tail k i && test (port * 1024 + (k * 32 + i)) (packet k i))) (all-left selected rest none k)))
+-- (`new` is `now` but for the pointers of ports)
+pub carried-all : (number port : ℕ) (selected : ℕ → ℕ) (old now new : Marks) (before after : Wires) (moving rest : ℕ) → rest ≡ 0 → new.first ≡ now.first → IsCarrying number port selected old now before after moving rest
+    → HasCarried number port selected old new before after
+carried-all number port selected old now new before after moving rest none same is = record {
+  flits = λ limit all gone target back first start n.
+      subst (λ (xs : List ℕ). HaveMoved limit (gone_with gone number selected) target back start (wire_words (room_of after.room) after.inboxes.items (firsts_with first number xs))) (sym same)
+      (moved-same limit (gone_with gone number (left_out selected rest)) (gone_with gone number selected) target back start (words_with first number now after)
+      (gone-same gone number (left_out selected rest) selected (λ k l. all-left selected rest none k)) (is.flits limit all gone target back first start n));
+  tails = λ limit all gone target back first start tail packet test n firsts few.
+      is.tails limit all gone target back first start tail packet test n firsts few
+      ∙ ap (λ b. some_tail before.tails test || b) (some-same 32 (λ k. one_has (left_out selected rest k) (λ i. tail k i && test (port * 1024 + (k * 32 + i)) (packet k i)))
+      (λ k. one_has (selected k) (λ i. tail k i && test (port * 1024 + (k * 32 + i)) (packet k i))) (λ k l. ap (λ w. one_has w (λ i. tail k i && test (port * 1024 + (k * 32 + i)) (packet k i))) (all-left selected rest none k)));
+  few = is.count;
+  wires = is.wires;
+  inboxes = is.inboxes;
+}
 
 -- what one turn does: the flit of a channel leaves its ring
 pub record IsTurn (channel place : ℕ) (now new : Marks) (after next : Wires) (number : ℕ) : Type 0 where

@@ -1,5 +1,5 @@
 -- What goes through the switch of a router, by words of channels: for each output port one input channel at most.
-use Rattle.std.specs.Prelude.{ℕ, zero, suc, ◌+◌, ◌*◌, ◌/◌, ◌%◌, Bool, false, ◌&&◌, ◌||◌, List, [], bit_and, bit_or, min, nat_eq, slice_index, slice_index_or, if◌then◌else◌}
+use Rattle.std.specs.Prelude.{◌≡◌, ◌≢◌, ℕ, zero, suc, ◌+◌, ◌*◌, ◌/◌, ◌%◌, ◌<◌, Bool, false, ◌&&◌, ◌||◌, List, [], bit_and, bit_or, min, nat_eq, slice_index, slice_index_or, if◌then◌else◌}
 use Rattle.std.specs.Int.{trailing_zeros, w32}
 use Rattle.noc_packet.specs.Set.{has_bit}
 use Rattle.noc_row_words.specs.Bits.{less}
@@ -51,11 +51,22 @@ to_port_in marks j q = word (slice_index_or marks.to_port q []) j
 abbrev pub selected_in : ℕ → Marks → ℕ → ℕ → ℕ
 selected_in picked marks j q = selected_by picked (to_port_in marks j) (turn_in marks j) q
 
+-- the pointer of a port goes on in each router that selects an input channel, and nothing else changes but where rings begin
+pub record TurnsOn (port : ℕ) (selected : ℕ → ℕ) (after : List ℕ) (old new : Marks) : Type 0 where
+  pub here : (k : ℕ) → k < 32 → turn_in new k port ≡ turned_by (selected k) after (turn_in old k port)
+  pub others : (q k : ℕ) → q ≢ port → turn_in new k q ≡ turn_in old k q
+  pub rest : new ≡ record old { first = new.first; port_turn = new.port_turn }
+
 -- how many ports the rows have words for
 abbrev pub ports_of : Frame → ℕ
 ports_of frame = min (frame.links % 8 + 1) 8
 
 -- ---- the tails that have moved
+-- the word of one router has these members too
+pub record HasJoined (old new : List ℕ) (k set : ℕ) : Type 0 where
+  pub here : word new k ≡ bit_or (word old k) set
+  pub others : (j : ℕ) → j ≢ k → word new j ≡ word old j
+
 -- whether a test holds of some number below n
 abbrev pub some_below : ℕ → (ℕ → Bool) → Bool
 some_below zero test = false

@@ -100,6 +100,21 @@ HasTails number ports selected marks before after =
     → AreNext number (selected_by_ports ports selected) marks before limit all gone target back first start → HaveFirsts number (selected_by_ports ports selected) start tail packet → AreSelectedOnce ports selected → ports ≤ 7
     → some_tail after.tails test ≡ some_below ports (λ q. some_moved (λ k. selected k q) q tail packet test)
 
+-- the flits that move by a port have moved, and the tails among them are noted; of the wires only in-boxes and tails have changed
+pub record HasCarried (number port : ℕ) (selected : ℕ → ℕ) (old new : Marks) (before after : Wires) : Type 0 where
+  pub flits : MovesFlits number selected old new before after
+  pub tails : NotesTails number port selected old before after
+  pub few : after.tails.count ≤ before.tails.count + 32
+  pub wires : after ≡ record before { inboxes = after.inboxes; tails = after.tails }
+  pub inboxes : length after.inboxes.items ≡ length before.inboxes.items
+
+-- those that move by so many ports have
+pub record HaveCarried (number ports : ℕ) (selected : ℕ → ℕ → ℕ) (old new : Marks) (before after : Wires) : Type 0 where
+  pub flits : AreSelectedOnce ports selected → MovesFlits number (selected_by_ports ports selected) old new before after
+  pub tails : HasTails number ports selected old before after
+  pub wires : after ≡ record before { inboxes = after.inboxes; tails = after.tails }
+  pub inboxes : length after.inboxes.items ≡ length before.inboxes.items
+
 -- what the tails held is given back, and those that go out, by the local port, have arrived
 pub record HaveReleased (ports local cycle : ℕ) (selected : ℕ → ℕ → ℕ) (tail : ℕ → ℕ → Bool) (packet : ℕ → ℕ → ℕ) (old new : Marks) (before after : DecidedRows) (was is : List ℕ) : Type 0 where
   pub released : (k i : ℕ) → k < 32 → i < 32 → has_bit (word after.released k) i ≡ (has_bit (word before.released k) i || (has_bit (selected_by_ports ports selected k) i && tail k i))

@@ -3,9 +3,10 @@
 ghost use Rattle.std.specs.Prelude.{◌≡◌, ◌≢◌, ℕ, ◌+◌, ◌/◌, ◌<◌, ◌≤◌, ◌&&◌, ◌||◌, [], bit_and, bit_or, length, not, nat_eq, slice_index, slice_index_or, if◌then◌else◌};
 ghost use Rattle.noc_packet.specs.Set.{has_bit};
 ghost use Rattle.noc_row_words.specs.Bits.{less};
-ghost use Rattle.noc_row_blocks.specs.Moves.{channel_word, dry_by, has_freed, has_gone, has_left, of_one, ports_of, rest_from, selected_in, some_below, taken_in, turn_in, turned_by, union_from};
+ghost use Rattle.noc_row_blocks.specs.Moves.{HasJoined, TurnsOn, channel_word, dry_by, has_freed, has_gone, has_left, of_one, ports_of, rest_from, selected_in, some_below, taken_in, turn_in, turned_by, union_from};
 ghost use Rattle.noc_row_words.specs.Rows.{word};
-ghost use Rattle.noc_row_blocks.specs.Switched.{AreSelectedOnce, HasTails, IsOne, MovesFlits, NotesTails, ReleasesTails, selected_by_ports};
+ghost use Rattle.noc_row_blocks.specs.Stages.{HasMoved};
+ghost use Rattle.noc_row_blocks.specs.Switched.{HasCarried, HaveCarried, IsOne};
 ghost use Rattle.noc_row_words.specs.Turns.{first_bit, in_turn};
 ghost use Rattle.noc_row_words.specs.Wires.{HasCleared, HasMarked, in_row};
 
@@ -18,19 +19,7 @@ use noc_row_words::wires::{Tails, Wires, arrive, clear, give_back, mark, send};
 
 /// The flits of a block that the switch lets through move, and what their tails held is given back.
 pub fn move_block(frame: &Frame, cycle: u32, number: usize, block: &mut Block, wires: &mut Wires)
-    ensures moved { (k : ℕ) → k < 32 → word block.new.decided.moved k ≡ union_from (word block.old.decided.moved k) (ports_of frame.now) (selected_in (word block.old.standing.picked k) block.old.marks k) }
-    ensures out { (k : ℕ) → k < 32 → word block.new.decided.out k ≡ union_from (word block.old.decided.out k) (ports_of frame.now) (λ q. of_one (selected_in (word block.old.standing.picked k) block.old.marks k q) (taken_in block.old.marks k)) }
-    ensures supplied { (k : ℕ) → k < 32 → word block.new.lanes.supplied k ≡ rest_from (word block.old.lanes.supplied k) (ports_of frame.now) (λ q. dry_by (word block.old.returned.single k) (taken_in block.old.marks k) (selected_in (word block.old.standing.picked k) block.old.marks k q)) }
-    ensures turns { (q k : ℕ) → q < ports_of frame.now → k < 32 → turn_in block.new.marks k q ≡ turned_by (selected_in (word block.old.standing.picked k) block.old.marks k q) frame.now.after (turn_in block.old.marks k q) }
-    ensures flits { AreSelectedOnce (ports_of frame.now) (λ k. selected_in (word block.old.standing.picked k) block.old.marks k) → MovesFlits number (selected_by_ports (ports_of frame.now) (λ k. selected_in (word block.old.standing.picked k) block.old.marks k)) block.old.marks block.new.marks wires.old wires.new }
-    ensures tails { ReleasesTails number (ports_of frame.now) frame.now.links cycle (λ k. selected_in (word block.old.standing.picked k) block.old.marks k) block.old.marks block.new.marks block.old.decided block.new.decided wires.old wires.new }
-    ensures wires { wires.new ≡ record wires.old { inboxes = wires.new.inboxes; arrivals = wires.new.arrivals; tails = wires.new.tails } }
-    ensures inboxes { length wires.new.inboxes.items ≡ length wires.old.inboxes.items }
-    ensures arrivals { length wires.new.arrivals.items ≡ length wires.old.arrivals.items }
-    ensures marks { block.new.marks ≡ record block.old.marks { first = block.new.marks.first; port_turn = block.new.marks.port_turn; to_port = block.new.marks.to_port } }
-    ensures decided { block.new.decided ≡ record block.old.decided { moved = block.new.decided.moved; out = block.new.decided.out; released = block.new.decided.released; freed = block.new.decided.freed } }
-    ensures lanes { block.new.lanes ≡ record block.old.lanes { supplied = block.new.lanes.supplied } }
-    ensures rest { block.new ≡ record block.old { lanes = block.new.lanes; decided = block.new.decided; selected = block.new.selected; marks = block.new.marks } }
+    ensures { HasMoved frame.now cycle number block.old block.new wires.old wires.new }
 {
     move_all(
         frame,
@@ -69,10 +58,7 @@ fn move_all(
     ensures out { (k : ℕ) → k < 32 → word decided.new.out k ≡ union_from (word decided.old.out k) (ports_of frame.now) (λ q. of_one (selected_in (word standing.now.picked k) marks.old k q) (taken_in marks.old k)) }
     ensures supplied { (k : ℕ) → k < 32 → word supplied.new k ≡ rest_from (word supplied.old k) (ports_of frame.now) (λ q. dry_by (word single.now k) (taken_in marks.old k) (selected_in (word standing.now.picked k) marks.old k q)) }
     ensures turns { (q k : ℕ) → q < ports_of frame.now → k < 32 → turn_in marks.new k q ≡ turned_by (selected_in (word standing.now.picked k) marks.old k q) frame.now.after (turn_in marks.old k q) }
-    ensures flits { AreSelectedOnce (ports_of frame.now) (λ k. selected_in (word standing.now.picked k) marks.old k) → MovesFlits number (selected_by_ports (ports_of frame.now) (λ k. selected_in (word standing.now.picked k) marks.old k)) marks.old marks.new wires.old wires.new }
-    ensures tails { HasTails number (ports_of frame.now) (λ k. selected_in (word standing.now.picked k) marks.old k) marks.old wires.old wires.new }
-    ensures wires { wires.new ≡ record wires.old { inboxes = wires.new.inboxes; tails = wires.new.tails } }
-    ensures inboxes { length wires.new.inboxes.items ≡ length wires.old.inboxes.items }
+    ensures carried { HaveCarried number (ports_of frame.now) (λ k. selected_in (word standing.now.picked k) marks.old k) marks.old marks.new wires.old wires.new }
     ensures marks { marks.new ≡ record marks.old { first = marks.new.first; port_turn = marks.new.port_turn } }
     ensures decided { decided.new ≡ record decided.old { moved = decided.new.moved; out = decided.new.out } }
 {
@@ -102,14 +88,8 @@ fn move_through(
     ensures moved { (k : ℕ) → k < 32 → word decided.new.moved k ≡ bit_or (word decided.old.moved k) (selected_in (word standing.now.picked k) marks.old k port) }
     ensures out { (k : ℕ) → k < 32 → word decided.new.out k ≡ bit_or (word decided.old.out k) (of_one (selected_in (word standing.now.picked k) marks.old k port) (taken_in marks.old k)) }
     ensures supplied { (k : ℕ) → k < 32 → word supplied.new k ≡ less (word supplied.old k) (dry_by (word single.now k) (taken_in marks.old k) (selected_in (word standing.now.picked k) marks.old k port)) }
-    ensures turn { (k : ℕ) → k < 32 → turn_in marks.new k port ≡ turned_by (selected_in (word standing.now.picked k) marks.old k port) frame.now.after (turn_in marks.old k port) }
-    ensures turns { (q k : ℕ) → q ≢ port → turn_in marks.new k q ≡ turn_in marks.old k q }
-    ensures flits { MovesFlits number (λ k. selected_in (word standing.now.picked k) marks.old k port) marks.old marks.new wires.old wires.new }
-    ensures tails { NotesTails number port (λ k. selected_in (word standing.now.picked k) marks.old k port) marks.old wires.old wires.new }
-    ensures few { wires.new.tails.count ≤ wires.old.tails.count + 32 }
-    ensures wires { wires.new ≡ record wires.old { inboxes = wires.new.inboxes; tails = wires.new.tails } }
-    ensures inboxes { length wires.new.inboxes.items ≡ length wires.old.inboxes.items }
-    ensures marks { marks.new ≡ record marks.old { first = marks.new.first; port_turn = marks.new.port_turn } }
+    ensures turns { TurnsOn port (λ k. selected_in (word standing.now.picked k) marks.old k port) frame.now.after marks.old marks.new }
+    ensures carried { HasCarried number port (λ k. selected_in (word standing.now.picked k) marks.old k port) marks.old marks.new wires.old wires.new }
     ensures decided { decided.new ≡ record decided.old { moved = decided.new.moved; out = decided.new.out } }
 {
     let moving = select(
@@ -194,16 +174,10 @@ fn carry_all(
     requires port { port < 8 }
     requires moving { (k : ℕ) → k < 32 → has_bit moving k ≡ not (nat_eq (word selected.now k) 0) }
     requires one { (k : ℕ) → k < 32 → IsOne (word selected.now k) }
-    ensures turn { (k : ℕ) → k < 32 → turn_in marks.new k port ≡ turned_by (word selected.now k) after.now (turn_in marks.old k port) }
-    ensures turns { (q k : ℕ) → q ≢ port → turn_in marks.new k q ≡ turn_in marks.old k q }
+    ensures turns { TurnsOn port (word selected.now) after.now marks.old marks.new }
     ensures out { (k : ℕ) → k < 32 → word out.new k ≡ bit_or (word out.old k) (of_one (word selected.now k) (taken_in marks.old k)) }
     ensures supplied { (k : ℕ) → k < 32 → word supplied.new k ≡ less (word supplied.old k) (dry_by (word single.now k) (taken_in marks.old k) (word selected.now k)) }
-    ensures flits { MovesFlits number (word selected.now) marks.old marks.new wires.old wires.new }
-    ensures tails { NotesTails number port (word selected.now) marks.old wires.old wires.new }
-    ensures few { wires.new.tails.count ≤ wires.old.tails.count + 32 }
-    ensures wires { wires.new ≡ record wires.old { inboxes = wires.new.inboxes; tails = wires.new.tails } }
-    ensures inboxes { length wires.new.inboxes.items ≡ length wires.old.inboxes.items }
-    ensures marks { marks.new ≡ record marks.old { first = marks.new.first; port_turn = marks.new.port_turn } }
+    ensures carried { HasCarried number port (word selected.now) marks.old marks.new wires.old wires.new }
 {
     let mut rest = moving;
     while rest != 0 {
@@ -257,8 +231,7 @@ fn release(port: usize, channel: usize, marks: &mut Marks, decided: &mut Decided
     requires port { port < 8 }
     requires channel { channel < 1024 }
     ensures released { HasMarked decided.old.released decided.new.released channel }
-    ensures freed { word decided.new.freed (channel / 32) ≡ bit_or (word decided.old.freed (channel / 32)) (word marks.old.taken channel) }
-    ensures others { (k : ℕ) → k ≢ channel / 32 → word decided.new.freed k ≡ word decided.old.freed k }
+    ensures freed { HasJoined decided.old.freed decided.new.freed (channel / 32) (word marks.old.taken channel) }
     ensures to_port { HasCleared (slice_index_or marks.old.to_port port []) (slice_index_or marks.new.to_port port []) channel }
     ensures other_ports { (q : ℕ) → q ≢ port → slice_index_or marks.new.to_port q [] ≡ slice_index_or marks.old.to_port q [] }
     ensures marks { marks.new ≡ record marks.old { to_port = marks.new.to_port } }

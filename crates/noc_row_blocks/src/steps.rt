@@ -1,13 +1,12 @@
 //! The steps of a cycle in one block.
 
-ghost use Rattle.std.specs.Prelude.{◌≡◌, ◌+◌, ◌%◌, ◌^◌, ◌<◌, ℕ, length, not, nat_eq, if◌then◌else◌};
+ghost use Rattle.std.specs.Prelude.{◌≡◌, ◌<◌, ℕ, length, not, nat_eq};
 ghost use Rattle.noc_packet.specs.Set.{has_bit};
 ghost use Rattle.noc_row_blocks.specs.Arrive.{HasArrived};
 ghost use Rattle.noc_row_blocks.specs.Decided.{HasChosenIn};
-ghost use Rattle.noc_row_blocks.specs.Outlook.{holding_in, least_below, is_some_below};
-ghost use Rattle.noc_row_words.specs.Passes.{lane_asks, lane_heads, lane_standing, lane_verdicts, settled_lane};
-ghost use Rattle.noc_row_words.specs.Rows.{column_at, effects_at, event_in, planes_of, standing_at, word};
-ghost use Rattle.noc_row_words.specs.Tallied.{cycles_of, last_verdicts, sheet_counts, with_verdicts};
+ghost use Rattle.noc_row_blocks.specs.Stages.{HasConcluded};
+ghost use Rattle.noc_row_words.specs.Passes.{lane_asks, lane_heads, lane_standing};
+ghost use Rattle.noc_row_words.specs.Rows.{column_at, planes_of, standing_at, word};
 ghost use Rattle.noc_row_words.specs.Wires.{inbox_at, room_of};
 
 use crate::allocate::allocate_all;
@@ -122,15 +121,7 @@ pub fn grant_and_route(
 
 /// What has happened in a block is counted, and takes effect.
 pub fn conclude_one(frame: &Frame, cycle: u32, block: &mut Block, sheet: &mut Sheet)
-    ensures columns { (k : ℕ) → k < 32 → column_at block.new.lanes k ≡ settled_lane frame.now.fields frame.now.link_set frame.now.local_set (effects_at block.old.standing block.old.decided k) (column_at block.old.lanes k) }
-    ensures counts { cycles_of sheet.old + 1 < 2 ^ 32 → (j k : ℕ) → j < 32 → sheet_counts sheet.new j k ≡ with_verdicts (lane_verdicts (word block.old.arrived.filled j) (standing_at block.old.standing j) (word block.old.decided.granted j) (word block.old.decided.lost j) (word block.old.decided.moved j) (column_at block.old.lanes j)) k (sheet_counts sheet.old j k) }
-    ensures last { (j : ℕ) → j < 32 → last_verdicts sheet.new j ≡ lane_verdicts (word block.old.arrived.filled j) (standing_at block.old.standing j) (word block.old.decided.granted j) (word block.old.decided.lost j) (word block.old.decided.moved j) (column_at block.old.lanes j) }
-    ensures cycles { cycles_of sheet.new ≡ (cycles_of sheet.old + 1) % 2 ^ 32 }
-    ensures events { (k : ℕ) → k < 32 → word block.new.last_event k ≡ (if nat_eq (event_in block.old.returned block.old.arrived block.old.standing block.old.decided k) 0 then word block.old.last_event k else (cycle + 1) % 2 ^ 32) }
-    ensures holds { block.new.holds ≡ is_some_below (λ k. not (nat_eq (holding_in (column_at block.new.lanes k)) 0)) 32 }
-    ensures moves { block.new.moves ≡ is_some_below (λ k. not (nat_eq (word block.old.decided.moved k) 0)) 32 }
-    ensures next_due { block.new.next_due ≡ least_below (word block.old.sources.due) 32 }
-    ensures rest { block.new ≡ record block.old { lanes = block.new.lanes; last_event = block.new.last_event; holds = block.new.holds; moves = block.new.moves; next_due = block.new.next_due } }
+    ensures { HasConcluded frame.now cycle block.old block.new sheet.old sheet.new }
 {
     sheet.count(
         &block.lanes,

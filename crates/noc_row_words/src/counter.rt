@@ -107,18 +107,31 @@ fn add_four(ones: &mut Row, twos: &mut Row, a: &Row, b: &Row, c: &Row, d: &Row, 
     ensures carry { (k : ℕ) → k < 32 → word carry.new k ≡ (with_four (word ones.old k) (word twos.old k) (word a.now k) (word b.now k) (word c.now k) (word d.now k)).carry }
 {
     for j in 0..ROUTERS {
-        let one = ones[j];
-        let two = twos[j];
-        let with_a = one ^ a[j];
-        let first = (one & a[j]) | (with_a & b[j]);
-        let with_b = with_a ^ b[j];
-        let with_c = with_b ^ c[j];
-        let second = (with_b & c[j]) | (with_c & d[j]);
-        let with_first = two ^ first;
-        put(ones, j, with_c ^ d[j]);
-        put(twos, j, with_first ^ second);
-        put(carry, j, (two & first) | (with_first & second));
+        let (one, two, over) = with_four(ones[j], twos[j], a[j], b[j], c[j], d[j]);
+        put(ones, j, one);
+        put(twos, j, two);
+        put(carry, j, over);
     }
+}
+
+// The same of one router: its two lowest bits, and what they carry.
+#[inline(always)]
+fn with_four(one: u32, two: u32, a: u32, b: u32, c: u32, d: u32) -> (u32, u32, u32)
+    ensures ones { result.0 ≡ (with_four one two a b c d).ones }
+    ensures twos { result.1 ≡ (with_four one two a b c d).twos }
+    ensures carry { result.2 ≡ (with_four one two a b c d).carry }
+{
+    let with_a = one ^ a;
+    let first = (one & a) | (with_a & b);
+    let with_b = with_a ^ b;
+    let with_c = with_b ^ c;
+    let second = (with_b & c) | (with_c & d);
+    let with_first = two ^ first;
+    (
+        with_c ^ d,
+        with_first ^ second,
+        (two & first) | (with_first & second),
+    )
 }
 
 // What is pending at a bit is added, with the carry of the bit below. The carry of this one goes on.

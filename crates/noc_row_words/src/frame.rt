@@ -52,15 +52,7 @@ pub struct Frame {
 impl Frame {
     /// The frame of a relation and so many places in each buffer, where the channels of a router fit a word.
     pub fn of(relation: &Relation, places: usize) -> Option<Frame>
-        ensures fields { IfSome result (λ frame. IsFields (ports_of relation.now.grid) frame.fields) }
-        ensures width { IfSome result (λ frame. frame.fields.width ≡ relation.now.vcs) }
-        ensures places { IfSome result (λ frame. planes_of frame.place_bits ≡ words_of 5 places) }
-        ensures channels { IfSome result (λ frame. (k : ℕ) → k < ports_of relation.now.grid * relation.now.vcs → IsPlaced relation.now.vcs frame k) }
-        ensures few { IfSome result (λ frame. ports_of relation.now.grid * relation.now.vcs ≤ 31) }
-        ensures few_places { IfSome result (λ frame. places ≤ 16) }
         ensures some { is_some result ≡ (nat_le (ports_of relation.now.grid * relation.now.vcs) 31 && nat_le places 16) }
-        ensures sides { IfSome result (λ frame. AreSides relation.now.grid relation.now.vcs frame.link_set frame.local_set) }
-        ensures numbers { IfSome result (λ frame. (frame.nodes ≡ nodes_of relation.now.grid) × (frame.vcs ≡ relation.now.vcs) × (frame.links ≡ local_port relation.now.grid) × (frame.places ≡ places)) }
         ensures frame { IfSome result (IsFrameOf relation.now places) }
     {
         let vcs = relation.vcs();
@@ -96,11 +88,7 @@ impl Frame {
         requires some { 0 < self.old.vcs }
         ensures here { IsPlaced self.old.vcs self.new index }
         ensures others { (k : ℕ) → k ≢ index → IsPlacedAs self.old self.new k }
-        ensures vcs { self.new.vcs ≡ self.old.vcs }
-        ensures fields { self.new.fields ≡ self.old.fields }
-        ensures places { self.new.place_bits ≡ self.old.place_bits }
-        ensures sides { (self.new.link_set ≡ self.old.link_set) × (self.new.local_set ≡ self.old.local_set) }
-        ensures numbers { (self.new.nodes ≡ self.old.nodes) × (self.new.links ≡ self.old.links) × (self.new.places ≡ self.old.places) }
+        ensures rest { self.new ≡ record self.old { port_of = self.new.port_of; vc_of = self.new.vc_of; after = self.new.after; other_end = self.new.other_end } }
     {
         let port = index / self.vcs;
         let vc = index % self.vcs;

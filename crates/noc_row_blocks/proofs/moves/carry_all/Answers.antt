@@ -5,13 +5,13 @@ use Rattle.std.specs.Vec.{with_items}
 use Rattle.std.proofs.lemmas.List.{get_or-set_other, get_or-set_same, with_items_is}
 use Rattle.noc_packet.specs.Set.{has_bit}
 use Rattle.noc_row_words.specs.Bits.{less}
-use Rattle.noc_row_blocks.specs.Moves.{of_one, taken_in, turn_in}
+use Rattle.noc_row_blocks.specs.Moves.{of_one, taken_in, turn_in, turned_by}
 use Rattle.noc_row_words.specs.Rows.{word}
 use Rattle.noc_row_words.specs.Wires.{room_of}
 use Rattle.noc_row_words.specs.declared.marks.Marks.{Marks}
 use Rattle.noc_row_words.specs.declared.wires.Inbox.{Inbox}
 use Rattle.noc_row_blocks.proofs.SendLemmas.{IsGiving, IsSending}
-use Rattle.noc_row_blocks.proofs.CarryLaws.{carrying-next, carrying-none, carried-all, noted-all}
+use Rattle.noc_row_blocks.proofs.CarryLaws.{carrying-next, carrying-none, carried-all}
 use Rattle.noc_row_words.proofs.EachLemmas.{each-is, each-next, each-none}
 use Rattle.noc_row_blocks.proofs.LaneLemmas.{is-zero, least-zeros, not-zero, or-zero}
 use Rattle.noc_row_blocks.proofs.moves.carry_all.Goals as goal
@@ -88,15 +88,19 @@ returns-clause-out c = λ k l.
     each-is ℕ (λ j. bit_or (word c.args.out.now j) (of_one (word c.args.selected.now j) (taken_in c.args.marks.now j))) (word c.args.out.now) (word c.loop-rest.out) c.args.moving c.loop-rest.rest none c.loop-rest.invariant.out k
     (λ off. sym (ap (λ s. bit_or (word c.args.out.now k) (of_one s (taken_in c.args.marks.now k))) (is-zero (word c.args.selected.now k) (sym (c.requires.moving k l) ∙ off)) ∙ or-zero (word c.args.out.now k)))
 
-pub returns-clause-flits : goal.returns-clause-flits
-returns-clause-flits c =
+pub returns-clause-carried : goal.returns-clause-carried
+returns-clause-carried c =
     let none : c.loop-rest.rest ≡ 0 = omega (arith, c.loop-rest-test.false) in
-    carried-all c.args.number c.args.port (word c.args.selected.now) c.args.marks.now (record c.loop-rest.marks { port_turn = c.args.marks.now.port_turn }) c.args.wires.now c.loop-rest.wires c.args.moving c.loop-rest.rest none c.loop-rest.invariant.carried
+    carried-all c.args.number c.args.port (word c.args.selected.now) c.args.marks.now (record c.loop-rest.marks { port_turn = c.args.marks.now.port_turn }) c.loop-rest.marks c.args.wires.now c.loop-rest.wires c.args.moving c.loop-rest.rest none refl c.loop-rest.invariant.carried
 
-pub returns-clause-tails : goal.returns-clause-tails
-returns-clause-tails c =
+pub returns-clause-turns : goal.returns-clause-turns
+returns-clause-turns c =
     let none : c.loop-rest.rest ≡ 0 = omega (arith, c.loop-rest-test.false) in
-    noted-all c.args.number c.args.port (word c.args.selected.now) c.args.marks.now (record c.loop-rest.marks { port_turn = c.args.marks.now.port_turn }) c.args.wires.now c.loop-rest.wires c.args.moving c.loop-rest.rest none c.loop-rest.invariant.carried
-
-pub returns-clause-marks : goal.returns-clause-marks
-returns-clause-marks c = ap (λ (m : Marks). record m { port_turn = c.loop-rest.marks.port_turn }) c.loop-rest.invariant.carried.marks
+    let inv = c.loop-rest.invariant in
+    record {
+      here = λ k l.
+          each-is ℕ (λ j. turned_by (word c.args.selected.now j) c.args.after.now (turn_in c.args.marks.now j c.args.port)) (λ j. turn_in c.args.marks.now j c.args.port) (λ j. turn_in c.loop-rest.marks j c.args.port) c.args.moving c.loop-rest.rest none inv.turn k
+          (λ off. sym (ap (λ s. turned_by s c.args.after.now (turn_in c.args.marks.now k c.args.port)) (is-zero (word c.args.selected.now k) (sym (c.requires.moving k l) ∙ off))));
+      others = inv.turns;
+      rest = ap (λ (m : Marks). record m { port_turn = c.loop-rest.marks.port_turn }) inv.carried.marks;
+    }

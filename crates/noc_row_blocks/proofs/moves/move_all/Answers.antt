@@ -7,7 +7,7 @@ use Rattle.noc_row_words.specs.Turns.{first_bit}
 use Rattle.noc_row_words.specs.declared.cycle.DecidedRows.{DecidedRows}
 use Rattle.noc_row_words.specs.declared.marks.Marks.{Marks}
 use Rattle.noc_row_words.specs.declared.wires.Wires.{Wires}
-use Rattle.noc_row_blocks.specs.Switched.{AreSelectedOnce, HasTails, MovesFlits, selected_by_ports}
+use Rattle.noc_row_blocks.specs.Switched.{HaveCarried}
 use Rattle.noc_row_blocks.proofs.MovedLemmas.{moves-as, notes-as}
 use Rattle.noc_row_blocks.proofs.PortLemmas.{moves-more, moves-none, notes-more}
 use Rattle.noc_row_blocks.proofs.moves.move_all.Goals as goal
@@ -39,24 +39,24 @@ loop-port-preserved c =
           ∙ sym (ap (λ n. rest_from (word c.args.supplied.now k) n (λ q. dry_by (word c.args.single.now k) (taken_in old k) (selected_in (word picked k) old k q))) (add-one p));
       done = λ q k u l. elim (cases_eq q p) [
         | inl same ↦
-            ap (turn_in new_marks k) same ∙ e.turn k l ∙ ap₂ (λ s t. turned_by s after t) (sel k l) (inv.left p k (omega arith) l)
+            ap (turn_in new_marks k) same ∙ e.turns.here k l ∙ ap₂ (λ s t. turned_by s after t) (sel k l) (inv.left p k (omega arith) l)
             ∙ sym (ap (λ n. turned_by (selected_in (word picked k) old k n) after (turn_in old k n)) same)
-        | inr other ↦ e.turns q k other ∙ inv.done q k (omega arith) l
+        | inr other ↦ e.turns.others q k other ∙ inv.done q k (omega arith) l
       ];
-      left = λ q k u l. e.turns q k (λ same. omega arith) ∙ inv.left q k (omega arith) l;
+      left = λ q k u l. e.turns.others q k (λ same. omega arith) ∙ inv.left q k (omega arith) l;
       flits = λ apart.
           let before = inv.flits (λ k i q s l a b x y. apart k i q s l (omega (arith, a)) (omega (arith, b)) x y) in
           moves-more c.args.number p selected apart old c.loop-port.marks new_marks c.args.wires.now c.loop-port.wires c.move_through.new.wires before targets backs room inv.inboxes
-          (moves-as c.args.number (λ k. selected_in (word picked k) c.loop-port.marks k p) (λ k. selected k p) c.loop-port.marks c.loop-port.marks new_marks c.loop-port.wires c.move_through.new.wires e.flits sel refl refl refl);
+          (moves-as c.args.number (λ k. selected_in (word picked k) c.loop-port.marks k p) (λ k. selected k p) c.loop-port.marks c.loop-port.marks new_marks c.loop-port.wires c.move_through.new.wires e.carried.flits sel refl refl refl);
       tails = λ limit all gone target back first start tail packet test n firsts apart few.
           let before = inv.flits (λ k i q s l a b x y. apart k i q s l (omega (arith, a)) (omega (arith, b)) x y) in
           notes-more c.args.number p selected apart old c.loop-port.marks new_marks c.args.wires.now c.loop-port.wires c.move_through.new.wires before targets backs room inv.inboxes inv.tails
-          (notes-as c.args.number p (λ k. selected_in (word picked k) c.loop-port.marks k p) (λ k. selected k p) c.loop-port.marks c.loop-port.marks c.loop-port.wires c.move_through.new.wires e.tails sel refl refl refl)
+          (notes-as c.args.number p (λ k. selected_in (word picked k) c.loop-port.marks k p) (λ k. selected k p) c.loop-port.marks c.loop-port.marks c.loop-port.wires c.move_through.new.wires e.carried.tails sel refl refl refl)
           inv.count limit all gone target back first start tail packet test n firsts few;
-      count = omega (arith, inv.count, e.few);
-      wires = e.wires ∙ ap (λ (w : Wires). record w { inboxes = c.move_through.new.wires.inboxes; tails = c.move_through.new.wires.tails }) inv.wires;
-      inboxes = e.inboxes ∙ inv.inboxes;
-      marks = e.marks ∙ ap (λ (m : Marks). record m { first = new_marks.first; port_turn = new_marks.port_turn }) inv.marks;
+      count = omega (arith, inv.count, e.carried.few);
+      wires = e.carried.wires ∙ ap (λ (w : Wires). record w { inboxes = c.move_through.new.wires.inboxes; tails = c.move_through.new.wires.tails }) inv.wires;
+      inboxes = e.carried.inboxes ∙ inv.inboxes;
+      marks = e.turns.rest ∙ ap (λ (m : Marks). record m { first = new_marks.first; port_turn = new_marks.port_turn }) inv.marks;
       decided = e.decided ∙ ap (λ (d : DecidedRows). record d { moved = new_decided.moved; out = new_decided.out }) inv.decided;
     }
 
@@ -76,13 +76,9 @@ loop-port-init c = record {
   decided = refl;
 }
 
-pub returns-clause-flits : goal.returns-clause-flits
-returns-clause-flits c =
+pub returns-clause-carried : goal.returns-clause-carried
+returns-clause-carried c =
     let done : c.loop-port.port ≡ ports_of c.args.frame.now = omega (arith, c.loop-port-test.false, c.loop-port.auto.port-end, c.min-port-end.ensures) in
-    let selected : ℕ → ℕ → ℕ = λ k. selected_in (word c.args.standing.now.picked k) c.args.marks.now k in
-    subst (λ n. AreSelectedOnce n selected → MovesFlits c.args.number (selected_by_ports n selected) c.args.marks.now c.loop-port.marks c.args.wires.now c.loop-port.wires) done c.loop-port.invariant.flits
-
-pub returns-clause-tails : goal.returns-clause-tails
-returns-clause-tails c =
-    let done : c.loop-port.port ≡ ports_of c.args.frame.now = omega (arith, c.loop-port-test.false, c.loop-port.auto.port-end, c.min-port-end.ensures) in
-    subst (λ n. HasTails c.args.number n (λ k. selected_in (word c.args.standing.now.picked k) c.args.marks.now k) c.args.marks.now c.args.wires.now c.loop-port.wires) done c.loop-port.invariant.tails
+    let inv = c.loop-port.invariant in
+    subst (λ n. HaveCarried c.args.number n (λ k. selected_in (word c.args.standing.now.picked k) c.args.marks.now k) c.args.marks.now c.loop-port.marks c.args.wires.now c.loop-port.wires) done
+    (record { flits = inv.flits; tails = inv.tails; wires = inv.wires; inboxes = inv.inboxes })

@@ -29,7 +29,7 @@ loop-index-preserved c =
           ∙ ap (λ b. in_row c.args.decided.now.released k || b) (sym (some-more n (has_left tails k)));
       freed = λ k o l. elim (cases_eq k (c.from-place.result % 1024 / 32)) [
         | inl same ↦
-            ap (λ j. has_bit (word decided.freed j) o) same ∙ ap (λ w. has_bit w o) c.release.ensures.freed
+            ap (λ j. has_bit (word decided.freed j) o) same ∙ ap (λ w. has_bit w o) c.release.ensures.freed.here
             ∙ either_members (word c.loop-index.decided.freed (c.from-place.result % 1024 / 32)) (word c.loop-index.marks.taken (c.from-place.result % 1024)) o
             ∙ ap₂ (λ a b. a || b) (ap (λ j. has_bit (word c.loop-index.decided.freed j) o) (sym same) ∙ inv.freed k o l)
             (ap₂ (λ (xs : List ℕ) j. has_bit (get_or xs j 0) o) taken channel
@@ -37,7 +37,7 @@ loop-index-preserved c =
             ∙ or-both (has_bit (word c.args.decided.now.freed k) o) (some_below n (has_freed tails c.args.marks.now.taken k o)) (has_freed tails c.args.marks.now.taken k o n)
             ∙ ap (λ b. has_bit (word c.args.decided.now.freed k) o || b) (sym (some-more n (has_freed tails c.args.marks.now.taken k o)))
         | inr other ↦
-            ap (λ w. has_bit w o) (c.release.ensures.others k other) ∙ inv.freed k o l
+            ap (λ w. has_bit w o) (c.release.ensures.freed.others k other) ∙ inv.freed k o l
             ∙ kept-more (has_bit (word c.args.decided.now.freed k) o) (some_below n (has_freed tails c.args.marks.now.taken k o))
             ∙ ap (λ b. has_bit (word c.args.decided.now.freed k) o || (some_below n (has_freed tails c.args.marks.now.taken k o) || b))
             (sym (ap (λ b. b && has_bit (word c.args.marks.now.taken (slice_index tails.list n % 1024)) o) (ne_eqb k (slice_index tails.list n % 1024 / 32) (λ e. other (e ∙ sym (ap (λ x. x / 32) channel))))))

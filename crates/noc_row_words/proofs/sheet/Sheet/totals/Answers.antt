@@ -37,3 +37,9 @@ loop-slot-preserved c =
           (below-more (2 ^ 33 + slot + 1) (2 ^ 33 + (slot + 1)) _ (omega arith) (below-next
           (2 ^ 33 + slot) c.at.result channel c.loop-slot.counts c.loop-slot.invariant.small));
     }
+
+pub with-counts-requires-clause-small : goal.with-counts-requires-clause-small
+with-counts-requires-clause-small c = below-more (2 ^ 33 + c.loop-slot.slot) (2 ^ 34) _ (omega arith) c.loop-slot.invariant.small
+
+pub with-requires-clause-small : goal.with-requires-clause-small
+with-requires-clause-small c = below-more (2 ^ 33 + c.loop-slot.slot) (2 ^ 33 + 3) _ (omega arith) c.loop-slot.invariant.small
