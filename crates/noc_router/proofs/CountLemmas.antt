@@ -2,31 +2,22 @@
 use Rattle.std.proofs.Common.{◌≡◌, ◌≢◌, ℕ, zero, suc, ◌+◌, ◌-◌, ◌*◌, ◌^◌, ◌<◌, ◌≤◌, Bool, true, false, List, [], ◌∷◌, length, drop, get_or, set, sum, refl, ap, sym, ◌∙◌, arith, inl, inr, subst, replicate}
 use Rattle.std.specs.Prelude.{◌⊎◌, min, nat_eq, nat_lt, if◌then◌else◌}
 use Rattle.std.proofs.Math.ListN.{drop_of_length-le}
-use Rattle.std.proofs.lemmas.Bool.{cases_eq, cases_lt, eq-eqb, ne_eqb, ltb-true, ltb-false}
-use Rattle.std.proofs.lemmas.List.{length-set, get_or-set_same, get_or-set_other, get_or-replicate, length-replicate, ext_get_or, length-drop, get_or-drop, drop-set-add, set_past}
+use Rattle.std.proofs.lemmas.Bool.{cases_eq, eq-eqb, ne_eqb, ltb-true, ltb-false}
+use Rattle.std.proofs.lemmas.List.{length-set, get_or-set_same, get_or-set_other, get_or-replicate, length-replicate, ext_get_or, length-drop, get_or-drop, drop-set-add}
 use Rattle.std.proofs.lemmas.List.Sums.{sum_by-set, sum_by-cons, sum_by-drop_more, get_or-le-sum_by}
+use Rattle.noc_packet.specs.declared.limits.TheConstants.{INDICES}
 use Rattle.noc_router.specs.declared.counters.Counters.{Counters}
 use Rattle.noc_router.specs.declared.verdict.Verdict.{Verdict}
 use Rattle.noc_router.specs.declared.verdict.Verdict.TheVariants.{Empty}
-use Rattle.noc_router.specs.Counts.{count_at, counts_from, counts_in, one_if, whole_counts}
-use Rattle.noc_router.specs.Tally.{others_in, risen_at, risen_by}
+use Rattle.noc_router.specs.Counts.{AreRows, count_at, counts_in, one_if, others_of, whole_counts}
+use Rattle.noc_router.specs.Tally.{risen_at, risen_by}
 use Rattle.noc_router.specs.Verdict.{column}
 use Rattle.noc_router.specs.View.{counts_after, saturating_next}
-use Rattle.noc_topo.specs.Words.{map_indexed}
-use Rattle.noc_topo.proofs.WordLemmas.{get_or-map_indexed, length-map_indexed, map_indexed-from_each}
+use Rattle.noc_topo.proofs.WordLemmas.{get_or-map_indexed, length-map_indexed}
 
 -- ---- one more in a list
 pub sum-raised : (xs : List ℕ) (k : ℕ) → k < length xs → sum (set xs k (get_or xs k 0 + 1)) ≡ sum xs + 1
 sum-raised xs k l = omega (arith, sum_by-set (λ x. x) xs k (get_or xs k 0 + 1) 0 l)
-
--- the sum of the nine grows by at most one
-pub sum-risen : (n : ℕ) (xs : List ℕ) → sum (risen_at n xs) ≤ sum xs + 1
-sum-risen zero xs = omega arith
-sum-risen (suc k) xs = at (cases_lt k (length xs))
-  where
-    at : (k < length xs) ⊎ (length xs ≤ k) → sum (set xs k (get_or xs k 0 + 1)) ≤ sum xs + 1
-    at (inl l) = omega (arith, sum-raised xs k l)
-    at (inr u) = rw (set_past xs k (get_or xs k 0 + 1) u) (omega arith)
 
 -- a list with n more in place j, where b says so
 abbrev pub more_at : Bool → ℕ → ℕ → List ℕ → List ℕ
@@ -120,11 +111,11 @@ whole-risen old new i n was now ten_was ten_now each =
     (λ j some few. omega (arith, whole-at new i j now (omega (arith, ten_now)), whole-at old i j was (omega (arith, ten_was)), each j some few))
 
 -- ---- the ten counts of a channel, with the nine behind Empty
-counts-from : (cycles first : ℕ) (new t : List ℕ) → drop 1 new ≡ t → cycles - sum t ≡ first → counts_in cycles new ≡ first ∷ t
-counts-from cycles first new t e f = ap (λ xs. (cycles - sum xs) ∷ xs) e ∙ ap (λ x. x ∷ t) f
+counts-from : (cycles first : ℕ) (new t : List ℕ) → new ≡ t → cycles - sum t ≡ first → counts_in cycles new ≡ first ∷ t
+counts-from cycles first new t e f = ap (counts_in cycles) e ∙ ap (λ x. x ∷ t) f
 
 counted-step : (b : Bool) (n cycles first : ℕ) (t new : List ℕ) → first + sum t ≡ cycles → nat_lt cycles (2 ^ 64 - 1) ≡ b → n ≤ length t → cycles < 2 ^ 64
-    → drop 1 new ≡ (if b then risen_at n t else t)
+    → new ≡ (if b then risen_at n t else t)
     → counts_in (saturating_next cycles) new ≡ (if b then set (first ∷ t) n (get_or (first ∷ t) n 0 + 1) else (first ∷ t))
 counted-step true zero cycles first t new s c l fits is =
     let lt : cycles < 2 ^ 64 - 1 = ltb-true cycles (2 ^ 64 - 1) c in
@@ -138,15 +129,13 @@ counted-step false n cycles first t new s c l fits is =
     counts-from (saturating_next cycles) first new t is (omega arith)
 
 -- the ten counts rise as the nine do
-pub counted-is : (cycles n : ℕ) (v : Verdict) (counts new : List ℕ) → column v ≡ n → n < 10 → length counts ≡ 10 → sum (drop 1 counts) ≤ cycles → cycles < 2 ^ 64
-    → drop 1 new ≡ (if nat_lt cycles (2 ^ 64 - 1) then risen_at n (drop 1 counts) else drop 1 counts)
-    → counts_in (saturating_next cycles) new ≡ counts_after v (counts_in cycles counts)
-counted-is cycles n v counts new col small ten s fits is =
-    let t = drop 1 counts in
+pub counted-is : (cycles n : ℕ) (v : Verdict) (t new : List ℕ) → column v ≡ n → n < 10 → length t ≡ 9 → sum t ≤ cycles → cycles < 2 ^ 64
+    → new ≡ (if nat_lt cycles (2 ^ 64 - 1) then risen_at n t else t)
+    → counts_in (saturating_next cycles) new ≡ counts_after v (counts_in cycles t)
+counted-is cycles n v t new col small nine s fits is =
     let first = cycles - sum t in
     let whole : sum (first ∷ t) ≡ cycles = let h : sum (first ∷ t) ≡ first + sum t = sum_by-cons (λ x. x) first t in omega arith in
-    let step = counted-step (nat_lt cycles (2 ^ 64 - 1)) n cycles first t new (omega arith) refl (omega (arith, length-drop 1 counts)) fits is in
-    step
+    counted-step (nat_lt cycles (2 ^ 64 - 1)) n cycles first t new (omega arith) refl (omega arith) fits is
     ∙ ap (λ k. if nat_lt cycles (2 ^ 64 - 1) then set (first ∷ t) k (get_or (first ∷ t) k 0 + 1) else (first ∷ t)) (sym col)
     ∙ ap (λ total. if nat_lt total (2 ^ 64 - 1) then set (first ∷ t) (column v) (get_or (first ∷ t) (column v) 0 + 1) else (first ∷ t)) (sym whole)
 
@@ -155,50 +144,39 @@ pub column-small : (v : Verdict) → column v < 10
 column-small Empty = omega arith
 column-small _ = omega arith
 
--- ---- the counts of all channels
-pub counts-length : (cycles : ℕ) (counters : Counters) (counts : List (List ℕ)) → length (counts_from cycles counters counts) ≡ length counts
-counts-length cycles counters counts = length-map_indexed (λ i written. counts_in cycles (whole_counts counters i written)) counts
+-- ---- the nine counts of all channels
+pub others-length : (counters : Counters) (written : List (List ℕ)) → length (others_of counters written) ≡ length written
+others-length counters written = length-map_indexed (λ i counts. drop 1 (whole_counts counters i counts)) written
 
-pub counts-at : (cycles : ℕ) (counters : Counters) (counts : List (List ℕ)) (i : ℕ) → i < length counts
-    → get_or (counts_from cycles counters counts) i [] ≡ counts_in cycles (whole_counts counters i (get_or counts i []))
-counts-at cycles counters counts i l = get_or-map_indexed (λ k written. counts_in cycles (whole_counts counters k written)) counts i [] [] l
+pub others-at : (counters : Counters) (written : List (List ℕ)) (i : ℕ) → i < length written → get_or (others_of counters written) i [] ≡ drop 1 (whole_counts counters i (get_or written i []))
+others-at counters written i l = get_or-map_indexed (λ k counts. drop 1 (whole_counts counters k counts)) written i [] [] l
 
--- after a cycle in which the nine of each channel rise as its verdict says
-pub counting-counts : (cycles0 : ℕ) (counters0 : Counters) (counts0 : List (List ℕ)) (cycles : ℕ) (counters : Counters) (counts : List (List ℕ)) (verdict : ℕ → Verdict)
-    → cycles0 < 2 ^ 64 → ((i : ℕ) → i < length counts0 → length (get_or counts0 i []) ≡ 10) → ((i : ℕ) → i < length counts0 → sum (others_in counters0 counts0 i) ≤ cycles0)
-    → cycles ≡ saturating_next cycles0 → length counts ≡ length counts0
-    → ((i : ℕ) → i < length counts0 → others_in counters counts i ≡ (if nat_lt cycles0 (2 ^ 64 - 1) then risen_at (column (verdict i)) (others_in counters0 counts0 i) else others_in counters0 counts0 i))
-    → counts_from cycles counters counts ≡ map_indexed (λ i xs. counts_after (verdict i) xs) (counts_from cycles0 counters0 counts0)
-counting-counts cycles0 counters0 counts0 cycles counters counts verdict fits ten sums y same others =
-    map_indexed-from_each (λ i xs. counts_after (verdict i) xs) (counts_from cycles0 counters0 counts0) (counts_from cycles counters counts) [] []
-    (counts-length cycles counters counts ∙ same ∙ sym (counts-length cycles0 counters0 counts0))
-    (λ i l. each i (omega (arith, counts-length cycles0 counters0 counts0)))
+-- the first of them
+pub first-others : (size : ℕ) (counters : Counters) (written : List (List ℕ)) → ((i j : ℕ) → j < 10 → counter_has counters i j ≡ 0) → written ≡ replicate size (replicate 10 0)
+    → others_of counters written ≡ replicate size (replicate 9 0)
+first-others size counters written none is =
+    ext_get_or [] (others_of counters written) (replicate size (replicate 9 0)) (others-length counters written ∙ long ∙ sym (length-replicate size (replicate 9 0)))
+    (λ i l. each i (omega (arith, others-length counters written)))
   where
-    each : (i : ℕ) → i < length counts0 → get_or (counts_from cycles counters counts) i [] ≡ counts_after (verdict i) (get_or (counts_from cycles0 counters0 counts0) i [])
-    each i l =
-        let before = whole_counts counters0 i (get_or counts0 i []) in
-        let now = whole_counts counters i (get_or counts i []) in
-        counts-at cycles counters counts i (omega arith)
-        ∙ ap (λ n. counts_in n now) y
-        ∙ counted-is cycles0 (column (verdict i)) (verdict i) before now refl (column-small (verdict i)) (whole-length counters0 i (get_or counts0 i []) ∙ ten i l) (sums i l) fits (others i l)
-        ∙ ap (counts_after (verdict i)) (sym (counts-at cycles0 counters0 counts0 i l))
+    long : length written ≡ size
+    long = ap length is ∙ length-replicate size (replicate 10 0)
 
--- the first counts
-pub first-counts : (size : ℕ) (counters : Counters) (counts : List (List ℕ)) → ((i j : ℕ) → j < 10 → counter_has counters i j ≡ 0) → counts ≡ replicate size (replicate 10 0)
-    → counts_from 0 counters counts ≡ replicate size (replicate 10 0)
-first-counts size counters counts none is =
-    ext_get_or [] (counts_from 0 counters counts) (replicate size (replicate 10 0)) (counts-length 0 counters counts ∙ ap length is)
-    (λ i l. let small : i < length counts = omega (arith, counts-length 0 counters counts) in each i small)
-  where
-    each : (i : ℕ) → i < length counts → get_or (counts_from 0 counters counts) i [] ≡ get_or (replicate size (replicate 10 0)) i []
+    each : (i : ℕ) → i < length written → get_or (others_of counters written) i [] ≡ get_or (replicate size (replicate 9 0)) i []
     each i l =
-        let long : length counts ≡ size = ap length is ∙ length-replicate size (replicate 10 0) in
-        let here : get_or (replicate size (replicate 10 0)) i [] ≡ replicate 10 0 = get_or-replicate size i (replicate 10 0) [] (omega arith) in
-        let written : get_or counts i [] ≡ replicate 10 0 = ap (λ (xs : List (List ℕ)). get_or xs i []) is ∙ here in
-        counts-at 0 counters counts i l
-        ∙ ap (λ xs. counts_in 0 (whole_counts counters i xs)) written
-        ∙ ap (counts_in 0) (whole-none counters i (replicate 10 0) (λ j small. none i j small))
-        ∙ sym here
+        let row : get_or written i [] ≡ replicate 10 0 = ap (λ (xs : List (List ℕ)). get_or xs i []) is ∙ get_or-replicate size i (replicate 10 0) [] (omega (arith, long)) in
+        others-at counters written i l
+        ∙ ap (λ xs. drop 1 (whole_counts counters i xs)) row
+        ∙ ap (drop 1) (whole-none counters i (replicate 10 0) (λ j small. none i j small))
+        ∙ sym (get_or-replicate size i (replicate 9 0) [] (omega (arith, long)))
+
+-- the first rows
+pub first-rows : (size : ℕ) (written : List (List ℕ)) → size ≤ INDICES → written ≡ replicate size (replicate 10 0) → AreRows written
+first-rows size written few is =
+    let long : length written ≡ size = ap length is ∙ length-replicate size (replicate 10 0) in
+    record {
+      few = omega arith;
+      ten = λ i l. ap (λ (xs : List (List ℕ)). length (get_or xs i [])) is ∙ ap length (get_or-replicate size i (replicate 10 0) [] (omega arith));
+    }
 
 -- ---- the counts of one channel, made whole one by one from place 1 on
 -- the counts from 1 to before j are whole, those from j on are as written, and the sum of those that are whole is known
@@ -242,16 +220,16 @@ made-more counters i j written counts others cycles value others' made some smal
 
 -- all channels are counted, and Empty too
 pub made-last : (counters : Counters) (i j : ℕ) (written counts : List ℕ) (others cycles first : ℕ) → IsMade counters i j written counts others → 10 ≤ j → length written ≡ 10 → first ≡ cycles - others
-    → set counts 0 first ≡ counts_in cycles (whole_counts counters i written)
+    → set counts 0 first ≡ counts_in cycles (drop 1 (whole_counts counters i written))
 made-last counters i j written counts others cycles first made end ten is =
     let whole = whole_counts counters i written in
     let long : length whole ≡ 10 = whole-length counters i written ∙ ten in
     let none : drop j whole ≡ [] = drop_of_length-le whole (omega arith) in
     let all : others ≡ sum (drop 1 whole) = let e : sum (drop j whole) ≡ 0 = ap sum none in omega (arith, made.so_far) in
-    ext_get_or 0 (set counts 0 first) (counts_in cycles whole) (let e : length (drop 1 whole) ≡ length whole - 1 = length-drop 1 whole in omega (arith, length-set counts 0 first, made.ten))
+    ext_get_or 0 (set counts 0 first) (counts_in cycles (drop 1 whole)) (let e : length (drop 1 whole) ≡ length whole - 1 = length-drop 1 whole in omega (arith, length-set counts 0 first, made.ten))
     (λ k l. at k (omega (arith, length-set counts 0 first, made.ten)) (is ∙ ap (λ n. cycles - n) all))
   where
-    at : (k : ℕ) → k < 10 → first ≡ cycles - sum (drop 1 (whole_counts counters i written)) → get_or (set counts 0 first) k 0 ≡ get_or (counts_in cycles (whole_counts counters i written)) k 0
+    at : (k : ℕ) → k < 10 → first ≡ cycles - sum (drop 1 (whole_counts counters i written)) → get_or (set counts 0 first) k 0 ≡ get_or (counts_in cycles (drop 1 (whole_counts counters i written))) k 0
     at zero l e = get_or-set_same counts 0 first 0 (omega (arith, made.ten)) ∙ e
     at (suc k) l e =
         let n : 1 + k ≡ suc k = omega arith in

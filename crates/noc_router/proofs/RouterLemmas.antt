@@ -1,13 +1,15 @@
 -- What is true of a router stays true.
-use Rattle.std.proofs.Common.{◌≡◌, ℕ, ◌+◌, ◌-◌, ◌*◌, ◌<◌, Bool, true, List, Option, None, refl, ap, sym, ◌∙◌, subst, arith, length, slice_index_or, slice_set, vec_len}
+use Rattle.std.proofs.Common.{◌≡◌, ℕ, ◌+◌, ◌-◌, ◌*◌, ◌<◌, Bool, true, List, Option, None, refl, ap, sym, ◌∙◌, subst, arith, length, slice_index_or, slice_set}
 use Rattle.std.specs.Prelude.{is_some}
 use Rattle.std.proofs.lemmas.List.{get_or-set_other}
 use Rattle.std.specs.Option.{ForSome}
 use Rattle.noc_topo.specs.Shape.{Grid, IsGrid, ports, local_port, neighbour}
 use Rattle.noc_vc.specs.Input.{Input, idle_input}
 use Rattle.noc_router.specs.declared.channels.Channels.{Channels}
+use Rattle.noc_router.specs.declared.links.Links.{Links}
 use Rattle.noc_router.specs.declared.router.Router.TheInside.{Inside}
 use Rattle.noc_router.specs.Inside.{IsRouter, view_of}
+use Rattle.noc_router.specs.Tally.{TallyContents}
 use Rattle.noc_router.specs.View.{local_channel}
 use Rattle.noc_router.specs.Members.{AreBelow}
 use Rattle.noc_router.specs.Sound.{is_awaiting, KeepsAwaiting}
@@ -19,7 +21,7 @@ for_some P Q o f h = λ x e. f x (h x e)
 pub IsRouter-kept : (r s : Inside) → IsRouter r → s.shape ≡ r.shape → s.node ≡ r.node → s.ports ≡ r.ports → s.vcs ≡ r.vcs → s.places ≡ r.places
     → s.source.vc ≡ r.source.vc → s.channels.size ≡ r.channels.size → s.channels.bank.capacity ≡ r.channels.bank.capacity
     → KeepsAwaiting r.channels.inputs.items s.channels.inputs.items → s.links.leads ≡ r.links.leads → AreBelow (local_port r.shape) s.links.loaded
-    → vec_len s.tally.counts ≡ vec_len r.tally.counts → s.arbiters.ports ≡ r.arbiters.ports → s.arbiters.vcs ≡ r.arbiters.vcs → s.indices.size ≡ r.indices.size → s.indices.vcs ≡ r.indices.vcs → IsRouter s
+    → length s.tally.counts ≡ length r.tally.counts → s.arbiters.ports ≡ r.arbiters.ports → s.arbiters.vcs ≡ r.arbiters.vcs → s.indices.size ≡ r.indices.size → s.indices.vcs ≡ r.indices.vcs → IsRouter s
 IsRouter-kept r s is shape node ports_same vcs places vc size capacity keeps leads loaded counts arbiter_ports arbiter_vcs indices index_vcs =
     let all : r.ports * r.vcs ≡ s.ports * s.vcs = ap (λ n. n * r.vcs) (sym ports_same) ∙ ap (λ n. s.ports * n) (sym vcs) in
     let first : (r.ports - 1) * r.vcs ≡ (s.ports - 1) * s.vcs = ap (λ n. (n - 1) * r.vcs) (sym ports_same) ∙ ap (λ n. (s.ports - 1) * n) (sym vcs) in
@@ -85,3 +87,9 @@ IsRouter-landed r channels i x is size capacity inputs link = record {
   indices = is.indices;
   index_vcs = is.index_vcs;
 }
+
+-- a router of which as many channels are counted as before, and whose links lead where they led, is one still
+pub IsRouter-counted : (r : Inside) (cycle : ℕ) (tally : TallyContents) (links : Links) → IsRouter r → length tally.counts ≡ length r.tally.counts → links.leads ≡ r.links.leads
+    → AreBelow (local_port r.shape) links.loaded → IsRouter (record r { cycle = cycle; tally = tally; links = links })
+IsRouter-counted r cycle tally links is counts leads loaded =
+    IsRouter-kept r (record r { cycle = cycle; tally = tally; links = links }) is refl refl refl refl refl refl refl refl (λ i h. h) leads loaded counts refl refl refl refl

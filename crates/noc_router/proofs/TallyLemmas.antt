@@ -2,10 +2,12 @@
 use Rattle.std.proofs.Common.{◌≡◌, ℕ, ◌+◌, ◌-◌, ◌*◌, ◌^◌, ◌<◌, ◌≤◌, Bool, true, false, List, [], ◌∷◌, ◌++◌, length, drop, take, get_or, set, sum, refl, ap, sym, ◌∙◌, arith, inl, inr, replicate, Option, None}
 use Rattle.std.specs.Prelude.{◌/◌, ◌%◌, ◌&&◌, ◌||◌, ◌⊎◌, option_map, not, nat_eq, if◌then◌else◌}
 use Rattle.std.proofs.Math.Seq.{take-append_seam}
-use Rattle.std.proofs.lemmas.Bool.{cases_eq, cases_lt, eq-eqb, ne_eqb, eqb-true, false≢true, and_parts}
-use Rattle.std.proofs.lemmas.List.{length-set, get_or-set_same, get_or-set_other, get_or-replicate, length-replicate, get_or-map, get_or_past}
+use Rattle.std.proofs.lemmas.Bool.{cases_eq, cases_lt, eq-eqb, ne_eqb, false≢true, and_parts}
+use Rattle.std.proofs.lemmas.List.{get_or-set_same, get_or-set_other, get_or-replicate, length-replicate, get_or-map, get_or_past}
 use Rattle.noc_packet.specs.Set.{has_bit}
 use Rattle.noc_packet.specs.declared.packet.Flit.{Flit}
+use Rattle.noc_topo.specs.Words.{map_indexed, tabulate}
+use Rattle.noc_topo.proofs.WordLemmas.{get_or-tabulate, length-tabulate, map_indexed-from_each}
 use Rattle.noc_vc.specs.Input.{Input, is_empty, is_idle_phase}
 use Rattle.noc_vc.specs.declared.input.InputState.{InputState}
 use Rattle.noc_vc.specs.declared.input.InputState.TheVariants.{Idle, Waiting, Active}
@@ -16,165 +18,69 @@ use Rattle.noc_router.specs.VerdictSets.{sets_with, verdict_by, first_verdict_in
 use Rattle.noc_router.specs.declared.verdict.Verdict.{Verdict}
 use Rattle.noc_router.specs.declared.verdict.Verdict.TheVariants.{Empty, Routed, Granted, Moved, NoFlit, NoIdleChannel, LostChannel, NoCredit, LostInput, LostSwitch}
 use Rattle.noc_router.specs.declared.verdict.Finding.{Finding}
-use Rattle.noc_router.specs.Counts.{carried_at, count_at, one_at, one_if, whole_counts}
-use Rattle.noc_router.specs.Settled.{planned_verdict}
-use Rattle.noc_router.specs.Sound.{is_occupied, finding_with, out_in}
-use Rattle.noc_router.specs.Tally.{IsTally, empty_finding, finding_at, is_empty_verdict, others_in, risen_at}
+use Rattle.noc_router.specs.Counts.{AreRows, carried_at, count_at, one_at, one_if, others_of, whole_counts}
+use Rattle.noc_router.specs.Members.{AreBelow}
+use Rattle.noc_router.specs.Settled.{finding_by, planned_verdict}
+use Rattle.noc_router.specs.Sound.{is_occupied, finding_with, nth_input, out_in}
+use Rattle.noc_router.specs.Tally.{AreFindings, empty_finding, finding_at, is_empty_verdict, risen_by}
+use Rattle.noc_router.specs.Verdict.{column}
 use Rattle.noc_router.specs.View.{Decisions, PlanContents, decided_verdict}
-use Rattle.noc_router.proofs.CountLemmas.{counter_has, sum-risen, whole-below, whole-none, whole-risen}
+use Rattle.noc_router.proofs.CountLemmas.{others-at, others-length, whole-below, whole-risen}
 use Rattle.noc_router.proofs.DigitLemmas.{one-small}
-use Rattle.noc_topo.proofs.WordLemmas.{get_or-tabulate, length-tabulate}
-
--- ---- the first tally
--- nothing is counted yet
-pub first_tally : (size bits : ℕ) (counters : Counters) (counts : List (List ℕ)) (findings : List Finding) → ((k : ℕ) → has_bit bits k ≡ false)
-    → ((i j : ℕ) → j < 10 → counter_has counters i j ≡ 0)
-    → counts ≡ replicate size (replicate 10 0) → findings ≡ replicate size empty_finding → IsTally 0 bits counters counts findings
-first_tally size bits counters counts findings none nothing c f = record {
-  fits = omega arith;
-  ten = λ i l. ap length (ten i l);
-  sums = λ i l. let h : sum (others_in counters counts i) ≡ 0 = ap (λ xs. sum (drop 1 (whole_counts counters i xs))) (ten i l) ∙ ap (λ xs. sum (drop 1 xs)) (whole-none counters i (replicate 10 0) (λ j small. nothing i j small)) in omega arith;
-  within = λ i t. absurd (false≢true (sym (none i) ∙ t));
-  plain = λ i l e. ap (λ xs. finding_at xs i) f ∙ get_or-replicate size i empty_finding empty_finding (let h : length findings ≡ size = ap length f ∙ length-replicate size empty_finding in omega arith);
-}
-  where
-    ten : (i : ℕ) → i < length counts → get_or counts i [] ≡ replicate 10 0
-    ten i l = ap (λ xs. get_or xs i []) c ∙ get_or-replicate size i (replicate 10 0) [] (let h : length counts ≡ size = ap length c ∙ length-replicate size (replicate 10 0) in omega arith)
 
 -- ---- a verdict is counted of each channel
 -- the counters count one more of the verdict of each channel, or have some written down with it
-pub record IsCounted (counters : Counters) (counts : List (List ℕ)) (column_of : ℕ → ℕ) (counters' : Counters) (counts' : List (List ℕ)) : Type 0 where
-  pub size : length counts' ≡ length counts
-  pub ten : (k : ℕ) → k < length counts → length (get_or counts' k []) ≡ 10
-  pub each : (k j : ℕ) → k < length counts → 0 < j → j < 10 → get_or (get_or counts' k []) j 0 + count_at counters' j k ≡ get_or (get_or counts k []) j 0 + count_at counters j k + one_if (nat_eq (column_of k) j)
+pub record IsCounted (counters : Counters) (written : List (List ℕ)) (column_of : ℕ → ℕ) (counters' : Counters) (written' : List (List ℕ)) : Type 0 where
+  pub size : length written' ≡ length written
+  pub ten : (k : ℕ) → k < length written → length (get_or written' k []) ≡ 10
+  pub each : (k j : ℕ) → k < length written → 0 < j → j < 10 → get_or (get_or written' k []) j 0 + count_at counters' j k ≡ get_or (get_or written k []) j 0 + count_at counters j k + one_if (nat_eq (column_of k) j)
 
 -- the counters count one more, by sets of channels, of which some may have 512 written down
-pub counted-by : (counters : Counters) (counts : List (List ℕ)) (column_of : ℕ → ℕ) (counters' : Counters) (counts' : List (List ℕ)) (sets : List ℕ) (carry : Option (List ℕ))
+pub counted-by : (counters : Counters) (written : List (List ℕ)) (column_of : ℕ → ℕ) (counters' : Counters) (written' : List (List ℕ)) (sets : List ℕ) (carry : Option (List ℕ))
     → ((j k : ℕ) → j < 10 → count_at counters' j k + 512 * carried_at carry j k ≡ count_at counters j k + one_at sets j k)
-    → ((j k : ℕ) → k < length counts → 0 < j → j < 10 → one_at sets j k ≡ one_if (nat_eq (column_of k) j))
-    → length counts' ≡ length counts → ((k : ℕ) → k < length counts → length (get_or counts' k []) ≡ 10)
-    → ((k j : ℕ) → k < length counts → 0 < j → j < 10 → get_or (get_or counts' k []) j 0 ≡ get_or (get_or counts k []) j 0 + 512 * carried_at carry j k)
-    → IsCounted counters counts column_of counters' counts'
-counted-by counters counts column_of counters' counts' sets carry added verdicts size ten written = record {
+    → ((j k : ℕ) → k < length written → 0 < j → j < 10 → one_at sets j k ≡ one_if (nat_eq (column_of k) j))
+    → length written' ≡ length written → ((k : ℕ) → k < length written → length (get_or written' k []) ≡ 10)
+    → ((k j : ℕ) → k < length written → 0 < j → j < 10 → get_or (get_or written' k []) j 0 ≡ get_or (get_or written k []) j 0 + 512 * carried_at carry j k)
+    → IsCounted counters written column_of counters' written'
+counted-by counters written column_of counters' written' sets carry added verdicts size ten more = record {
   size = size;
   ten = ten;
-  each = λ k j l some few. sum_of _ _ _ _ _ _ _ (added j k few) (verdicts j k l some few) (written k j l some few);
+  each = λ k j l some few. sum_of _ _ _ _ _ _ _ (added j k few) (verdicts j k l some few) (more k j l some few);
 }
   where
     sum_of : (now had now_c had_c carried one one' : ℕ) → now_c + 512 * carried ≡ had_c + one → one ≡ one' → now ≡ had + 512 * carried → now + now_c ≡ had + had_c + one'
     sum_of now had now_c had_c carried one one' a b d = omega arith
 
--- the nine counts of each channel after one more
-pub counted-others : (cycles shown : ℕ) (counters : Counters) (counts : List (List ℕ)) (findings : List Finding) (column_of : ℕ → ℕ) (counters' : Counters) (counts' : List (List ℕ))
-    → IsTally cycles shown counters counts findings → IsCounted counters counts column_of counters' counts' → (k : ℕ) → k < length counts
-    → others_in counters' counts' k ≡ risen_at (column_of k) (others_in counters counts k)
-counted-others cycles shown counters counts findings column_of counters' counts' sound are k l =
-    whole-risen counters counters' k (column_of k) (get_or counts k []) (get_or counts' k []) (sound.ten k l) (are.ten k l) (λ j some few. are.each k j l some few)
+-- the nine counts of all channels after one more
+pub counted-others : (counters : Counters) (written : List (List ℕ)) (column_of : ℕ → ℕ) (counters' : Counters) (written' : List (List ℕ))
+    → AreRows written → IsCounted counters written column_of counters' written' → others_of counters' written' ≡ map_indexed (λ k xs. risen_by 1 (column_of k) xs) (others_of counters written)
+counted-others counters written column_of counters' written' rows are =
+    map_indexed-from_each (λ k xs. risen_by 1 (column_of k) xs) (others_of counters written) (others_of counters' written') [] []
+    (others-length counters' written' ∙ are.size ∙ sym (others-length counters written))
+    (λ k l. let small : k < length written = omega (arith, others-length counters written) in
+    others-at counters' written' k (omega (arith, are.size))
+    ∙ whole-risen counters counters' k (column_of k) (get_or written k []) (get_or written' k []) (rows.ten k small) (are.ten k small) (λ j some few. are.each k j small some few)
+    ∙ ap (risen_by 1 (column_of k)) (sym (others-at counters written k small)))
+
+-- the rows stay rows of ten
+pub counted-rows : (counters : Counters) (written : List (List ℕ)) (column_of : ℕ → ℕ) (counters' : Counters) (written' : List (List ℕ))
+    → AreRows written → IsCounted counters written column_of counters' written' → AreRows written'
+counted-rows counters written column_of counters' written' rows are = record {
+  few = omega (arith, are.size, rows.few);
+  ten = λ i l. are.ten i (omega (arith, are.size));
+}
 
 -- a list that is written back as a whole
-pub written-back : (n : ℕ) (new old : List (List ℕ)) → n ≡ length new → take n (new ++ drop (length new) old) ≡ new
+pub written-back : {X : Type 0} (n : ℕ) (new old : List X) → n ≡ length new → take n (new ++ drop (length new) old) ≡ new
 written-back n new old e = ap (λ m. take m (new ++ drop (length new) old)) e ∙ take-append_seam new (drop (length new) old)
 
--- what is written back is a tally of a cycle more
-pub counted_tally : (cycles shown : ℕ) (counters : Counters) (counts : List (List ℕ)) (findings : List Finding) (column_of : ℕ → ℕ) (counters' : Counters) (counts' : List (List ℕ))
-    → cycles < 2 ^ 64 - 1 → IsTally cycles shown counters counts findings → IsCounted counters counts column_of counters' counts' → IsTally (cycles + 1) shown counters' counts' findings
-counted_tally cycles shown counters counts findings column_of counters' counts' more sound are = record {
-  fits = omega arith;
-  ten = λ i l. are.ten i (omega (arith, are.size));
-  sums = λ i l. sums_at i (omega (arith, are.size));
-  within = sound.within;
-  plain = sound.plain;
-}
-  where
-    sums_at : (i : ℕ) → i < length counts → sum (others_in counters' counts' i) ≤ cycles + 1
-    sums_at i l =
-        let e : sum (others_in counters' counts' i) ≡ sum (risen_at (column_of i) (others_in counters counts i)) = ap sum (counted-others cycles shown counters counts findings column_of counters' counts' sound are i l) in
-        omega (arith, e, sum-risen (column_of i) (others_in counters counts i), sound.sums i l)
-
 -- there is room for what is written down
-pub carried-fits : (cycles shown : ℕ) (counters : Counters) (counts : List (List ℕ)) (findings : List Finding) (k j now more : ℕ) (one : Bool) → cycles < 2 ^ 64 - 1
-    → IsTally cycles shown counters counts findings → k < length counts → 0 < j → j < 10 → now + more ≡ count_at counters j k + one_if one → get_or (get_or counts k []) j 0 + more < 2 ^ 64
-carried-fits cycles shown counters counts findings k j now more one room sound l some few is =
-    let le : get_or (get_or counts k []) j 0 + count_at counters j k ≤ sum (others_in counters counts k) = whole-below counters k j (get_or counts k []) some (omega (arith, sound.ten k l)) in
-    omega (arith, le, sound.sums k l, is, one-small one)
-
--- ---- one channel more is shown
--- a tally with this finding
-pub shown_tally : (cycles shown shown' : ℕ) (counters : Counters) (counts : List (List ℕ)) (findings : List Finding) (index : ℕ) (finding : Finding)
-    → IsTally cycles shown counters counts findings → index < length findings → ((k : ℕ) → has_bit shown' k ≡ (nat_eq k index || has_bit shown k))
-    → IsTally cycles shown' counters counts (set findings index finding)
-shown_tally cycles shown shown' counters counts findings index finding sound lf members = record {
-  fits = sound.fits;
-  ten = sound.ten;
-  sums = sound.sums;
-  within = λ i t. omega (arith, length-set findings index finding, within_at i (either (nat_eq i index) (has_bit shown i) (sym (members i) ∙ t)));
-  plain = λ i l e. plain_at i (omega (arith, length-set findings index finding)) (neither (nat_eq i index) (has_bit shown i) (sym (members i) ∙ e)) (cases_eq i index);
-}
-  where
-    either : (a b : Bool) → (a || b) ≡ true → (a ≡ true) ⊎ (b ≡ true)
-    either true b e = inl refl
-    either false b e = inr e
-
-    neither : (a b : Bool) → (a || b) ≡ false → (a ≡ false) × (b ≡ false)
-    neither true b e = absurd (false≢true (sym e))
-    neither false b e = (refl, e)
-
-    within_at : (i : ℕ) → (nat_eq i index ≡ true) ⊎ (has_bit shown i ≡ true) → i < length findings
-    within_at i (inl t) = let e : i ≡ index = eqb-true i index t in omega arith
-    within_at i (inr t) = sound.within i t
-
-    plain_at : (i : ℕ) → i < length findings → (nat_eq i index ≡ false) × (has_bit shown i ≡ false) → (i ≡ index) ⊎ (i ≡ index → ⊥) → finding_at (set findings index finding) i ≡ empty_finding
-    plain_at i l e (inl same) = absurd (false≢true (sym e.0 ∙ eq-eqb i index same))
-    plain_at i l e (inr other) = get_or-set_other findings index i finding empty_finding other ∙ sound.plain i l e.1
-
--- ---- nothing is found of one channel any more
--- a tally without this finding
-pub forgotten_tally : (cycles shown shown' : ℕ) (counters : Counters) (counts : List (List ℕ)) (findings : List Finding) (index : ℕ) (none : Finding)
-    → none ≡ empty_finding → IsTally cycles shown counters counts findings → index < length findings
-    → ((k : ℕ) → has_bit shown' k ≡ (not (nat_eq k index) && has_bit shown k))
-    → IsTally cycles shown' counters counts (set findings index none)
-forgotten_tally cycles shown shown' counters counts findings index none is sound lf members = record {
-  fits = sound.fits;
-  ten = sound.ten;
-  sums = sound.sums;
-  within = λ i t. omega (arith, length-set findings index none, sound.within i (and_parts (not (nat_eq i index)) (has_bit shown i) (sym (members i) ∙ t)).1);
-  plain = λ i l e. plain_at i (omega (arith, length-set findings index none)) (sym (members i) ∙ e) (cases_eq i index);
-}
-  where
-    plain_at : (i : ℕ) → i < length findings → (not (nat_eq i index) && has_bit shown i) ≡ false → (i ≡ index) ⊎ (i ≡ index → ⊥) → finding_at (set findings index none) i ≡ empty_finding
-    plain_at i l e (inl same) = ap (λ k. finding_at (set findings index none) k) same ∙ get_or-set_same findings index none empty_finding lf ∙ is
-    plain_at i l e (inr other) = get_or-set_other findings index i none empty_finding other ∙ sound.plain i l (ap (λ b. not b && has_bit shown i) (sym (ne_eqb i index other)) ∙ e)
-
--- of a channel that is not shown nothing is found
-pub plain-at : (cycles shown : ℕ) (counters : Counters) (counts : List (List ℕ)) (findings : List Finding) → IsTally cycles shown counters counts findings → (k : ℕ) → has_bit shown k ≡ false → finding_at findings k ≡ empty_finding
-plain-at cycles shown counters counts findings sound k none = at (cases_lt k (length findings))
-  where
-    at : (k < length findings) ⊎ (length findings ≤ k) → finding_at findings k ≡ empty_finding
-    at (inl l) = sound.plain k l none
-    at (inr u) = get_or_past findings k empty_finding u
-
--- the channels that are shown but not kept
-abbrev pub AreGone : ℕ → ℕ → ℕ → Type 0
-AreGone kept shown gone = (k : ℕ) → has_bit gone k ≡ (not (has_bit kept k) && has_bit shown k)
-
--- each of them is shown
-pub gone-shown : (kept shown gone k : ℕ) → AreGone kept shown gone → has_bit gone k ≡ true → has_bit shown k ≡ true
-gone-shown kept shown gone k are e = (and_parts (not (has_bit kept k)) (has_bit shown k) (sym (are k) ∙ e)).1
-
--- all but one of them are shown, which is forgotten
-pub gone-less : (kept shown gone shown' gone' index : ℕ) → AreGone kept shown gone → ((k : ℕ) → has_bit gone' k ≡ (not (nat_eq k index) && has_bit gone k))
-    → ((k : ℕ) → has_bit shown' k ≡ (not (nat_eq k index) && has_bit shown k)) → AreGone kept shown' gone'
-gone-less kept shown gone shown' gone' index are less lessened = λ k.
-    less k ∙ ap (λ b. not (nat_eq k index) && b) (are k) ∙ turn (not (nat_eq k index)) (not (has_bit kept k)) (has_bit shown k) ∙ sym (ap (λ b. not (has_bit kept k) && b) (lessened k))
-  where
-    turn : (a b c : Bool) → (a && (b && c)) ≡ (b && (a && c))
-    turn true b c = refl
-    turn false true c = refl
-    turn false false c = refl
-
--- none of them is left to forget
-pub none-gone : (kept shown gone k : ℕ) → AreGone kept shown gone → has_bit gone k ≡ false → has_bit kept k ≡ false → has_bit shown k ≡ false
-none-gone kept shown gone k are none off = sym (ap (λ b. not b && has_bit shown k) off) ∙ sym (are k) ∙ none
+pub carried-fits : (counters : Counters) (written : List (List ℕ)) (k j now more : ℕ) (one : Bool) → AreRows written → sum (get_or (others_of counters written) k []) < 2 ^ 64 - 1
+    → k < length written → 0 < j → j < 10 → now + more ≡ count_at counters j k + one_if one → get_or (get_or written k []) j 0 + more < 2 ^ 64
+carried-fits counters written k j now more one rows room l some few is =
+    let le : get_or (get_or written k []) j 0 + count_at counters j k ≤ sum (drop 1 (whole_counts counters k (get_or written k []))) =
+    whole-below counters k j (get_or written k []) some (omega (arith, rows.ten k l)) in
+    omega (arith, le, ap sum (others-at counters written k l), is, one-small one)
 
 -- ---- the channels of one set
 -- of the channels that were left, those are left that are not in the set
@@ -249,69 +155,44 @@ empty_is NoCredit e = absurd (false≢true (sym e))
 empty_is LostInput e = absurd (false≢true (sym e))
 empty_is LostSwitch e = absurd (false≢true (sym e))
 
--- what is noted of the n channels, as their counts or their findings: the verdict of each channel that is left is that of the first of these sets,
--- and what is noted of it stands as at the start; of each other one its verdict is noted
-pub record IsNoting (X : Type 0) (note : ℕ → Verdict → X → X) (verdict : ℕ → Verdict) (n : ℕ) (start : ℕ → X) (sets : List (ℕ × Verdict)) (rest : ℕ) (now : ℕ → X) : Type 0 where
-  pub left : (k : ℕ) → has_bit rest k ≡ true → verdict k ≡ first_verdict_in sets k
-  pub full : (k : ℕ) → has_bit rest k ≡ true → not (is_empty_verdict (verdict k)) ≡ true
-  pub each : (k : ℕ) → k < n → now k ≡ (if has_bit rest k then start k else note k (verdict k) (start k))
+-- another verdict than Empty has a place behind it
+pub some-column : (v : Verdict) → not (is_empty_verdict v) ≡ true → 0 < column v
+some-column Empty e = absurd (false≢true e)
+some-column _ e = omega arith
 
--- at first, where Empty changes nothing
-pub noting-first : (X : Type 0) (note : ℕ → Verdict → X → X) (verdict : ℕ → Verdict) (n : ℕ) (start : ℕ → X) (sets : List (ℕ × Verdict)) (rest : ℕ)
-    → ((k : ℕ) → has_bit rest k ≡ true → verdict k ≡ first_verdict_in sets k) → ((k : ℕ) → has_bit rest k ≡ true → k < n)
-    → ((k : ℕ) → k < n → has_bit rest k ≡ not (is_empty_verdict (verdict k))) → ((k : ℕ) → k < n → has_bit rest k ≡ false → note k Empty (start k) ≡ start k)
-    → IsNoting X note verdict n start sets rest start
-noting-first X note verdict n start sets rest first below held same = record {
-  left = first;
-  full = λ k e. sym (held k (below k e)) ∙ e;
-  each = λ k l. at k l (has_bit rest k) refl;
-}
-  where
-    at : (k : ℕ) → k < n → (b : Bool) → has_bit rest k ≡ b → start k ≡ (if b then start k else note k (verdict k) (start k))
-    at k l true e = refl
-    at k l false e = sym (same k l e) ∙ ap (λ v. note k v (start k)) (empty_is (verdict k) (sym (held k l) ∙ e))
+-- what is found of the n channels: the verdict of each that is left is that of the first of these sets, and of each other one its verdict is noted
+pub record IsNoting (note : ℕ → Verdict → Finding) (verdict : ℕ → Verdict) (n : ℕ) (sets : List (ℕ × Verdict)) (rest : ℕ) (now : List Finding) : Type 0 where
+  pub left : (k : ℕ) → has_bit rest k ≡ true → verdict k ≡ first_verdict_in sets k
+  pub each : (k : ℕ) → k < n → has_bit rest k ≡ false → finding_at now k ≡ note k (verdict k)
 
 -- one set less
-pub noting-more : (X : Type 0) (note : ℕ → Verdict → X → X) (verdict : ℕ → Verdict) (n : ℕ) (start : ℕ → X) (bits : ℕ) (v : Verdict) (sets : List (ℕ × Verdict)) (before : ℕ) (was : ℕ → X) (rest : ℕ) (now : ℕ → X)
-    → IsNoting X note verdict n start ((bits, v) ∷ sets) before was → ((k : ℕ) → has_bit rest k ≡ (not (has_bit bits k) && has_bit before k))
-    → ((k : ℕ) → k < n → now k ≡ (if has_bit before k && has_bit bits k then note k v (was k) else was k))
-    → IsNoting X note verdict n start sets rest now
-noting-more X note verdict n start bits v sets before was rest now noting members noted = record {
-  left = λ k e. first k (has_bit bits k) (sym (members k) ∙ e) (noting.left k (in_before k e));
-  full = λ k e. noting.full k (in_before k e);
-  each = at;
+pub noting-more : (note : ℕ → Verdict → Finding) (verdict : ℕ → Verdict) (n bits : ℕ) (v : Verdict) (sets : List (ℕ × Verdict)) (before : ℕ) (was : List Finding) (rest : ℕ) (now : List Finding)
+    → IsNoting note verdict n ((bits, v) ∷ sets) before was → ((k : ℕ) → has_bit rest k ≡ (not (has_bit bits k) && has_bit before k))
+    → ((k : ℕ) → k < n → finding_at now k ≡ (if has_bit before k && has_bit bits k then note k v else finding_at was k))
+    → IsNoting note verdict n sets rest now
+noting-more note verdict n bits v sets before was rest now noting members noted = record {
+  left = λ k e. first k (has_bit bits k) (sym (members k) ∙ e) (noting.left k (and_parts (not (has_bit bits k)) (has_bit before k) (sym (members k) ∙ e)).1);
+  each = λ k l off. noted k l ∙ cases k l (has_bit before k) (has_bit bits k) refl refl (sym (members k) ∙ off);
 }
   where
-    in_before : (k : ℕ) → has_bit rest k ≡ true → has_bit before k ≡ true
-    in_before k e = (and_parts (not (has_bit bits k)) (has_bit before k) (sym (members k) ∙ e)).1
-
     first : (k : ℕ) (b : Bool) → (not b && has_bit before k) ≡ true → verdict k ≡ (if b then v else first_verdict_in sets k) → verdict k ≡ first_verdict_in sets k
     first k true e h = absurd (false≢true e)
     first k false e h = h
 
-    cases : (k : ℕ) (a b : Bool) → (a ≡ true → verdict k ≡ (if b then v else first_verdict_in sets k))
-        → (if a && b then note k v (if a then start k else note k (verdict k) (start k)) else (if a then start k else note k (verdict k) (start k)))
-        ≡ (if not b && a then start k else note k (verdict k) (start k))
-    cases k true true h = ap (λ x. note k x (start k)) (sym (h refl))
-    cases k true false h = refl
-    cases k false true h = refl
-    cases k false false h = refl
+    cases : (k : ℕ) → k < n → (a b : Bool) → has_bit before k ≡ a → has_bit bits k ≡ b → (not b && a) ≡ false → (if a && b then note k v else finding_at was k) ≡ note k (verdict k)
+    cases k l true true ea eb off = ap (note k) (sym (noting.left k ea ∙ ap (λ c. if c then v else first_verdict_in sets k) eb))
+    cases k l true false ea eb off = absurd (false≢true (sym off))
+    cases k l false b ea eb off = noting.each k l ea
 
-    at : (k : ℕ) → k < n → now k ≡ (if has_bit rest k then start k else note k (verdict k) (start k))
-    at k l =
-        noted k l
-        ∙ ap (λ x. if has_bit before k && has_bit bits k then note k v x else x) (noting.each k l)
-        ∙ cases k (has_bit before k) (has_bit bits k) (noting.left k)
-        ∙ ap (λ x. if x then start k else note k (verdict k) (start k)) (sym (members k))
-
--- no set is left: the verdict of each channel is noted
-pub noting-last : (X : Type 0) (note : ℕ → Verdict → X → X) (verdict : ℕ → Verdict) (n : ℕ) (start : ℕ → X) (rest : ℕ) (now : ℕ → X)
-    → IsNoting X note verdict n start [] rest now → (k : ℕ) → k < n → now k ≡ note k (verdict k) (start k)
-noting-last X note verdict n start rest now noting k l = noting.each k l ∙ ap (λ b. if b then start k else note k (verdict k) (start k)) (none (has_bit rest k) refl)
+-- no set is left, and those that are left are Empty
+pub noting-last : (note : ℕ → Verdict → Finding) (verdict : ℕ → Verdict) (n rest : ℕ) (was now : List Finding) → IsNoting note verdict n [] rest was
+    → ((k : ℕ) → k < n → finding_at now k ≡ (if has_bit rest k && has_bit rest k then note k Empty else finding_at was k))
+    → (k : ℕ) → k < n → finding_at now k ≡ note k (verdict k)
+noting-last note verdict n rest was now noting noted k l = noted k l ∙ at (has_bit rest k) refl
   where
-    none : (b : Bool) → has_bit rest k ≡ b → has_bit rest k ≡ false
-    none false e = e
-    none true e = absurd (false≢true (sym (ap (λ x. not (is_empty_verdict x)) (noting.left k e)) ∙ noting.full k e))
+    at : (b : Bool) → has_bit rest k ≡ b → (if b && b then note k Empty else finding_at was k) ≡ note k (verdict k)
+    at true e = ap (note k) (sym (noting.left k e))
+    at false e = noting.each k l e
 
 -- ---- the verdicts of a plan
 -- the verdict of a decision is that of its finding
@@ -330,6 +211,13 @@ plan_apart p q n k e plan long l =
     let size : p.requests.size ≡ n = sym (length-tabulate p.requests.size (verdict_by p.verdicts)) ∙ ap (λ (x : PlanContents). length x.verdicts) e ∙ long in
     plan.apart k (omega arith)
 
+-- by sets in which each channel is in that of its verdict
+pub plan-each : (p : Inside) (q : PlanContents) (n : ℕ) (sets : List ℕ) → plan_contents_in p ≡ q → IsPlan p → length q.verdicts ≡ n
+    → ((j k : ℕ) → sets_with p.verdicts k ≤ 1 → 0 < j → j < 10 → one_at sets j k ≡ one_if (nat_eq (column (verdict_by p.verdicts k)) j))
+    → (j k : ℕ) → k < n → 0 < j → j < 10 → one_at sets j k ≡ one_if (nat_eq (column (planned_verdict q k)) j)
+plan-each p q n sets e plan long each j k l some few =
+    each j k (plan_apart p q n k e plan long l) some few ∙ ap (λ (v : Verdict). one_if (nat_eq (column v) j)) (sym (plan_verdict p q n k e long l))
+
 -- what is found of a channel without a packet that asks for nothing
 pub vacant-found : (vcs : ℕ) (input : Input) (flits : List Flit) (ask : Option ℕ) → is_occupied input flits ≡ false → input.packet ≡ None → finding_with vcs input Empty ask ≡ empty_finding
 vacant-found vcs input flits ask off no_packet = idle input.phase input.packet (phase_is input.phase (is_empty flits) off) no_packet
@@ -344,3 +232,42 @@ vacant-found vcs input flits ask off no_packet = idle input.phase input.packet (
     idle p packet a b =
         ap (λ x. record { verdict = Empty; packet = packet; out = option_map (λ o. (o / vcs, o % vcs)) (out_in x ask) }) a
         ∙ ap (λ x. record { verdict = Empty; packet = x; out = None }) b
+
+-- nothing is found of a channel that holds nothing
+pub vacant-by : (p : PlanContents) (vcs : ℕ) (inputs : List Input) (flits : List Flit) (k : ℕ) → is_occupied (nth_input inputs k) flits ≡ false
+    → is_occupied (nth_input inputs k) flits ≡ not (is_empty_verdict (planned_verdict p k)) → (nth_input inputs k).packet ≡ None → finding_by p vcs inputs k ≡ empty_finding
+vacant-by p vcs inputs flits k nothing verdict no_packet =
+    ap (λ v. finding_with vcs (nth_input inputs k) v (get_or p.asks k None)) (sym (empty_is (planned_verdict p k) (sym verdict ∙ nothing)))
+    ∙ vacant-found vcs (nth_input inputs k) flits (get_or p.asks k None) nothing no_packet
+
+-- ---- all findings
+-- a member of either set
+pub either-some : (a b : Bool) → (a || b) ≡ true → (a ≡ true) ⊎ (b ≡ true)
+either-some true b e = inl refl
+either-some false b e = inr e
+
+pub either-none : (a b : Bool) → (a || b) ≡ false → (a ≡ false) × (b ≡ false)
+either-none true b e = absurd (false≢true (sym e))
+either-none false b e = (refl, e)
+
+-- nothing is found at first
+pub first-findings : (size bits : ℕ) (findings : List Finding) → ((k : ℕ) → has_bit bits k ≡ false) → findings ≡ replicate size empty_finding → AreFindings bits findings
+first-findings size bits findings none is = record {
+  within = λ k e. absurd (false≢true (sym (none k) ∙ e));
+  plain = λ k off. ap (λ xs. finding_at xs k) is ∙ at k (cases_lt k size);
+}
+  where
+    at : (k : ℕ) → (k < size) ⊎ (size ≤ k) → finding_at (replicate size empty_finding) k ≡ empty_finding
+    at k (inl l) = get_or-replicate size k empty_finding empty_finding l
+    at k (inr u) = get_or_past (replicate size empty_finding) k empty_finding (omega (arith, length-replicate size empty_finding))
+
+-- they are shown where nothing is found of the other channels
+pub shown-findings : (n bits : ℕ) (f : ℕ → Finding) → AreBelow n bits → ((k : ℕ) → k < n → has_bit bits k ≡ false → f k ≡ empty_finding) → AreFindings bits (tabulate n f)
+shown-findings n bits f below none = record {
+  within = λ k e. omega (arith, length-tabulate n f, below k e);
+  plain = λ k off. at k off (cases_lt k n);
+}
+  where
+    at : (k : ℕ) → has_bit bits k ≡ false → (k < n) ⊎ (n ≤ k) → finding_at (tabulate n f) k ≡ empty_finding
+    at k off (inl l) = get_or-tabulate n k f empty_finding l ∙ none k l off
+    at k off (inr u) = get_or_past (tabulate n f) k empty_finding (omega (arith, length-tabulate n f))

@@ -1,7 +1,8 @@
 -- The ten counts of each channel.
-use Rattle.std.specs.Prelude.{ℕ, ◌+◌, ◌*◌, ◌-◌, Bool, List, ◌∷◌, Option, None, Some, drop, sum, take, slice_index_or, if◌then◌else◌}
+use Rattle.std.specs.Prelude.{◌≡◌, ℕ, ◌+◌, ◌*◌, ◌-◌, ◌<◌, ◌≤◌, Bool, List, [], ◌∷◌, Option, None, Some, drop, sum, take, length, slice_index_or, if◌then◌else◌}
 use Rattle.std.specs.List.{sum_by}
 use Rattle.noc_packet.specs.Set.{has_bit}
+use Rattle.noc_packet.specs.declared.limits.TheConstants.{INDICES}
 use Rattle.noc_topo.specs.Words.{map_indexed}
 use Rattle.noc_router.specs.declared.counters.Counters.{Counters}
 use Rattle.noc_router.specs.declared.digit.Digit.{Digit}
@@ -31,14 +32,19 @@ digit_at d j k = added_at d j k + sum_by (λ sets. one_at sets j k) (take d.kept
 abbrev pub count_at : Counters → ℕ → ℕ → ℕ
 count_at c j k = digit_at c.units j k + 8 * digit_at c.eights j k + 64 * digit_at c.sixty_fours j k
 
--- empty in the cycles that no other verdict has
-abbrev pub counts_in : ℕ → List ℕ → List ℕ
-counts_in cycles counts = (cycles - sum (drop 1 counts)) ∷ drop 1 counts
-
 -- the counts of channel i of all ten verdicts, that of Empty of no meaning: what is written down, and what the counters have
 abbrev pub whole_counts : Counters → ℕ → List ℕ → List ℕ
 whole_counts counters i counts = map_indexed (λ column count. count + count_at counters column i) counts
 
--- the counts of each channel after so many cycles
-abbrev pub counts_from : ℕ → Counters → List (List ℕ) → List (List ℕ)
-counts_from cycles counters counts = map_indexed (λ i written. counts_in cycles (whole_counts counters i written)) counts
+-- the counts of each channel of the nine verdicts behind Empty
+abbrev pub others_of : Counters → List (List ℕ) → List (List ℕ)
+others_of counters written = map_indexed (λ i counts. drop 1 (whole_counts counters i counts)) written
+
+-- the ten counts of a channel after so many cycles: it was empty in those that have no other verdict
+abbrev pub counts_in : ℕ → List ℕ → List ℕ
+counts_in cycles others = (cycles - sum others) ∷ others
+
+-- a row of ten for each channel, of which there are no more than a set has indices
+pub record AreRows (written : List (List ℕ)) : Type 0 where
+  pub few : length written ≤ INDICES
+  pub ten : (i : ℕ) → i < length written → length (slice_index_or written i []) ≡ 10

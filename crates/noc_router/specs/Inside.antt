@@ -1,5 +1,5 @@
 -- What a router's fields are seen as, and what is true of them.
-use Rattle.std.specs.Prelude.{◌≡◌, ℕ, ◌+◌, ◌-◌, ◌*◌, ◌<◌, ◌≤◌, true, List, [], take, Option, None, if◌then◌else◌, slice_index_or, vec_len}
+use Rattle.std.specs.Prelude.{◌≡◌, ℕ, ◌+◌, ◌-◌, ◌*◌, ◌<◌, ◌≤◌, true, List, length, take, Option, None, slice_index_or}
 use Rattle.std.specs.Option.{ForSome}
 use Rattle.std.specs.List.{zip}
 use Rattle.noc_packet.specs.declared.packet.Packet.{Packet}
@@ -7,7 +7,6 @@ use Rattle.noc_packet.specs.declared.limits.TheConstants.{MAX_CHANNELS}
 use Rattle.noc_topo.specs.Shape.{IsGrid, nodes, ports, local_port, neighbour}
 use Rattle.noc_router.specs.declared.router.Router.TheInside.{Inside}
 use Rattle.noc_router.specs.declared.source.Source.{Source}
-use Rattle.noc_router.specs.Counts.{counts_from}
 use Rattle.noc_router.specs.Members.{AreBelow}
 use Rattle.noc_router.specs.Queue.{queue_from, sending_from}
 use Rattle.noc_router.specs.Sound.{is_awaiting}
@@ -33,8 +32,8 @@ view_of r = record {
   ends = zip r.arrivals.ends.items r.arrivals.cycles.items;
   misfits = r.misfits;
   last_event = r.last_event;
-  counts = counts_from r.tally.cycles r.tally.counters r.tally.counts.items;
-  findings = if r.tally.begun then r.tally.findings.items else [];
+  counts = r.tally.counts;
+  findings = r.tally.findings;
   given = r.cycle;
   had_event = r.had_event;
   to_put = take (local_port r.shape) r.links.beats;
@@ -54,7 +53,7 @@ pub record IsRouter (r : Inside) : Type 0 where
   pub sending : ForSome r.source.vc (λ vc. vc < r.vcs)
   -- the local channel that the source sends on awaits the next flit
   pub awaiting : ForSome r.source.vc (λ vc. is_awaiting r.channels.inputs.items ((r.ports - 1) * r.vcs + vc) ≡ true)
-  pub counts : vec_len r.tally.counts ≡ r.ports * r.vcs
+  pub counts : length r.tally.counts ≡ r.ports * r.vcs
   pub arbiter_ports : r.arbiters.ports ≡ r.ports
   pub arbiter_vcs : r.arbiters.vcs ≡ r.vcs
   pub indices : r.indices.size ≡ r.ports * r.vcs

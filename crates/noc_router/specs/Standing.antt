@@ -1,5 +1,5 @@
 -- What the input channels of a router can go on with, by sets.
-use Rattle.std.specs.Prelude.{◌≡◌, ℕ, ◌<◌, ◌/◌, ◌%◌, Bool, ◌&&◌, List, Option, Some, None, not, option_and_then, slice_index_or}
+use Rattle.std.specs.Prelude.{◌≡◌, ℕ, ◌<◌, ◌≤◌, ◌/◌, ◌%◌, Bool, true, ◌&&◌, List, Option, Some, None, not, option_and_then, slice_index_or}
 use Rattle.noc_topo.specs.Words.{is_some_of}
 use Rattle.noc_packet.specs.Set.{has_bit}
 use Rattle.noc_alloc.specs.Allocation.{is_won_by}
@@ -11,9 +11,11 @@ use Rattle.noc_vc.specs.declared.input.InputState.TheVariants.{Idle, Waiting, Ac
 use Rattle.noc_router.specs.Members.{AreBelow}
 use Rattle.noc_router.specs.Requests.{pick_in}
 use Rattle.noc_router.specs.Sound.{AreStanding, is_supplied}
-use Rattle.noc_router.specs.Verdict.{Round}
-use Rattle.noc_router.specs.View.{View, size_of, view_buffer, view_input}
+use Rattle.noc_router.specs.Verdict.{Round, is_event}
+use Rattle.noc_router.specs.VerdictSets.{sets_with, verdict_by}
+use Rattle.noc_router.specs.View.{View, finding_of, size_of, view_buffer, view_input}
 use Rattle.noc_router.specs.declared.channels.Standing.{Standing}
+use Rattle.noc_router.specs.declared.verdict_sets.VerdictSets.{VerdictSets}
 
 -- the set has just the channels that hold a head which is not routed
 pub record AreHeads (v : View) (set : ℕ) : Type 0 where
@@ -60,3 +62,9 @@ HaveWon v round picked set = (k : ℕ) → has_bit set k ≡ (has_bit picked k &
 abbrev pub loser_of : View → Round → ℕ → ℕ → Option ℕ
 loser_of v round output port =
     option_and_then (pick_in v.site.vcs round.picks) (farther (arbiter_at v.arbiters.outputs output).pointer (slice_index_or round.wins output None) port)
+
+-- the sets give each input channel its verdict in this round, and have each once at most
+pub record AreVerdictsOf (v : View) (round : Round) (sets : VerdictSets) : Type 0 where
+  pub verdicts : (k : ℕ) → k < size_of v.site → verdict_by sets k ≡ (finding_of round v k).verdict
+  pub events : (k : ℕ) → is_event (verdict_by sets k) ≡ true → k < size_of v.site
+  pub apart : (k : ℕ) → k < size_of v.site → sets_with sets k ≤ 1

@@ -1,16 +1,27 @@
--- What a router counts of its input channels.
-use Rattle.std.specs.Prelude.{◌≡◌, ℕ, zero, suc, ◌+◌, ◌^◌, ◌<◌, ◌≤◌, Bool, true, false, List, [], drop, sum, length, slice_index, slice_index_or, slice_set}
+-- What a router counts of its input channels, and what it finds of them.
+use Rattle.std.specs.Prelude.{◌≡◌, ℕ, zero, suc, ◌+◌, ◌^◌, ◌<◌, ◌≤◌, Bool, true, false, not, List, [], sum, length, replicate, slice_index, slice_index_or, slice_set}
 use Rattle.noc_packet.specs.Set.{has_bit}
+use Rattle.noc_topo.specs.Words.{map_indexed}
+use Rattle.noc_ring.specs.Buffers.{buffer_at}
 pub use Rattle.noc_router.specs.Found.{empty_finding}
 use Rattle.noc_router.specs.declared.verdict.Verdict.{Verdict}
 use Rattle.noc_router.specs.declared.verdict.Verdict.TheVariants.{Empty}
-use Rattle.noc_router.specs.declared.counters.Counters.{Counters}
-use Rattle.noc_router.specs.Counts.{whole_counts}
+use Rattle.noc_router.specs.declared.channels.Channels.{Channels}
 use Rattle.noc_router.specs.declared.verdict.Finding.{Finding}
+use Rattle.noc_router.specs.Members.{AreBelow}
+use Rattle.noc_router.specs.Settled.{planned_verdict}
+use Rattle.noc_router.specs.Sound.{nth_input, is_occupied}
+use Rattle.noc_router.specs.Verdict.{column}
+use Rattle.noc_router.specs.View.{PlanContents}
 
 -- the finding of channel i
 abbrev pub finding_at : List Finding → ℕ → Finding
 finding_at findings i = slice_index_or findings i empty_finding
+
+-- the channels that are shown exist, and nothing is found of the others
+pub record AreFindings (shown : ℕ) (findings : List Finding) : Type 0 where
+  pub within : AreBelow (length findings) shown
+  pub plain : (k : ℕ) → has_bit shown k ≡ false → finding_at findings k ≡ empty_finding
 
 -- the counts of the nine verdicts behind Empty, with n more for the verdict with this place in the order
 abbrev pub risen_by : ℕ → ℕ → List ℕ → List ℕ
@@ -21,19 +32,38 @@ risen_by n (suc k) others = slice_set others k (slice_index others k + n)
 abbrev pub risen_at : ℕ → List ℕ → List ℕ
 risen_at = risen_by 1
 
--- the counts of channel i of the nine verdicts behind Empty, with what the counters have
-abbrev pub others_in : Counters → List (List ℕ) → ℕ → List ℕ
-others_in counters counts i = drop 1 (whole_counts counters i (slice_index_or counts i []))
+-- the nine counts of each channel, with n more for its verdict in this plan
+abbrev pub others_after : ℕ → PlanContents → List (List ℕ) → List (List ℕ)
+others_after n p others = map_indexed (λ i xs. risen_by n (column (planned_verdict p i)) xs) others
 
--- no channel had its verdicts in more cycles than there were
-pub record IsTally (cycles : ℕ) (shown : ℕ) (counters : Counters) (counts : List (List ℕ)) (findings : List Finding) : Type 0 where
+-- the ten counts of each channel, and what was found of each when findings were last shown: none before the first time
+pub record TallyContents : Type 0 where
+  pub counts : List (List ℕ)
+  pub findings : List Finding
+
+-- nothing is counted yet
+abbrev pub empty_tally : ℕ → TallyContents
+empty_tally size = record { counts = replicate size (replicate 10 0); findings = [] }
+
+-- no channel had the nine verdicts behind Empty in more cycles than there were
+pub record AreCounted (cycles : ℕ) (others : List (List ℕ)) : Type 0 where
   pub fits : cycles < 2 ^ 64
-  pub ten : (i : ℕ) → i < length counts → length (slice_index_or counts i []) ≡ 10
-  pub sums : (i : ℕ) → i < length counts → sum (others_in counters counts i) ≤ cycles
-  pub within : (i : ℕ) → has_bit shown i ≡ true → i < length findings
-  pub plain : (i : ℕ) → i < length findings → has_bit shown i ≡ false → finding_at findings i ≡ empty_finding
+  pub nine : (i : ℕ) → i < length others → length (slice_index_or others i []) ≡ 9
+  pub sums : (i : ℕ) → i < length others → sum (slice_index_or others i []) ≤ cycles
+
+-- as many channels are counted as are found
+pub record IsTally (cycles : ℕ) (others : List (List ℕ)) (findings : List Finding) : Type 0 where
+  pub counted : AreCounted cycles others
+  pub size : length findings ≡ length others
 
 -- whether a channel with this verdict holds nothing
 abbrev pub is_empty_verdict : Verdict → Bool
 is_empty_verdict Empty = true
 is_empty_verdict _ = false
+
+-- a plan of these channels, of which there are so many: those that hold something have another verdict than Empty
+pub record IsPlanOf (router : Channels) (size : ℕ) (p : PlanContents) : Type 0 where
+  pub channels : router.size ≡ size
+  pub asks : length p.asks ≡ size
+  pub verdicts : length p.verdicts ≡ size
+  pub occupied : (k : ℕ) → k < size → is_occupied (nth_input router.inputs.items k) (buffer_at router.bank k) ≡ not (is_empty_verdict (planned_verdict p k))

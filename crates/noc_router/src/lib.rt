@@ -8,6 +8,7 @@ mod arrivals;
 mod channels;
 mod counters;
 mod digit;
+mod findings;
 mod indices;
 mod links;
 mod places;
@@ -17,6 +18,7 @@ mod router;
 mod source;
 mod tally;
 mod verdict;
+mod verdict_counts;
 mod verdict_sets;
 
 pub use plan::Plan;

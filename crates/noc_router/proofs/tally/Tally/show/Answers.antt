@@ -1,32 +1,38 @@
-use Rattle.std.proofs.Common.{◌<◌, None, ap, get_or, sym, ◌∙◌, arith, vec_len}
-use Rattle.noc_topo.proofs.WordLemmas.{tabulate-from_each}
-use Rattle.noc_ring.specs.Buffers.{buffer_at}
-use Rattle.noc_router.specs.Settled.{finding_by, planned_verdict}
-use Rattle.noc_router.specs.Sound.{nth_input, finding_with}
-use Rattle.noc_router.specs.Tally.{empty_finding}
-use Rattle.noc_router.proofs.TallyLemmas.{empty_is, vacant-found}
+use Rattle.std.proofs.Common.{◌≡◌, List, ℕ, length, map, ap, sym, ◌∙◌, subst}
+use Rattle.std.proofs.lemmas.List.{length-map}
+use Rattle.noc_topo.specs.Words.{tabulate}
+use Rattle.noc_topo.proofs.WordLemmas.{length-tabulate}
+use Rattle.noc_router.specs.Counts.{counts_in}
+use Rattle.noc_router.specs.Settled.{finding_by}
+use Rattle.noc_router.specs.Tally.{IsPlanOf, TallyContents}
+use Rattle.noc_router.specs.declared.verdict.Finding.{Finding}
 use Rattle.noc_router.proofs.tally.Tally.show.Goals as goal
 
--- Empty is found of a channel that holds nothing
-pub show_all-requires-clause-others : goal.show_all-requires-clause-others
-show_all-requires-clause-others c = λ k l e.
-    let q = c.args.plan.now in
-    let vcs = c.args.indices.now.vcs in
-    let input = nth_input c.args.channels.now.inputs.items k in
-    let t = c.args.self.now in
-    let f = c.forget.new.self in
-    let low : k < vec_len t.counts = omega (arith, l, f.one_each, t.one_each, c.forget.ensures.size) in
-    let inside : k < c.args.channels.now.size = omega (arith, c.requires.channels, low) in
-    let nothing = sym (c.occupied-occupied.ensures.members k inside) ∙ e in
-    let empty = empty_is (planned_verdict q k) (sym (c.requires.occupied k low) ∙ nothing) in
-    c.forget.ensures.findings k e ∙ sym (vacant-found vcs input (buffer_at c.args.channels.now.bank k) (get_or q.asks k None) nothing (c.occupied-occupied.ensures.vacant k inside e))
-    ∙ ap (λ v. finding_with vcs input v (get_or q.asks k None)) empty
+pub show-requires-clause-plan : goal.show-requires-clause-plan
+show-requires-clause-plan c =
+    let t = c.self.inside in
+    let n : length c.args.self.now.counts ≡ length t.findings =
+    sym (ap (λ (x : TallyContents). length x.counts) c.self.view_is) ∙ length-map t.others (counts_in t.cycles) ∙ sym c.self.invariant.size in
+    subst (λ m. IsPlanOf c.args.channels.now m c.args.plan.now) n c.requires.plan
 
-pub returns-clause-findings : goal.returns-clause-findings
-returns-clause-findings c =
-    let t = c.args.self.now in
-    let f = c.forget.new.self in
-    let s = c.show_all.new.self in
-    tabulate-from_each (vec_len t.counts) (finding_by c.args.plan.now c.args.indices.now.vcs c.args.channels.now.inputs.items) s.findings.items empty_finding
-    (omega (arith, s.findings.ok.0, s.one_each, f.one_each, t.one_each, c.forget.ensures.size, c.show_all.ensures.size))
-    (λ i l. c.show_all.ensures.findings i (omega (arith, l, f.one_each, t.one_each, c.forget.ensures.size)))
+pub show-requires-clause-indices : goal.show-requires-clause-indices
+show-requires-clause-indices c =
+    let t = c.self.inside in
+    c.requires.indices ∙ sym (ap (λ (x : TallyContents). length x.counts) c.self.view_is) ∙ length-map t.others (counts_in t.cycles) ∙ sym c.self.invariant.size
+
+pub invariant_of-self : goal.invariant_of-self
+invariant_of-self c =
+    let f : ℕ → Finding = finding_by c.args.plan.now c.args.indices.now.vcs c.args.channels.now.inputs.items in
+    record {
+      counted = c.self.invariant.counted;
+      size = ap length c.show.ensures ∙ length-tabulate (length c.self.inside.findings) f ∙ c.self.invariant.size;
+    }
+
+pub returns : goal.returns
+returns c =
+    let t = c.self.inside in
+    let f : ℕ → Finding = finding_by c.args.plan.now c.args.indices.now.vcs c.args.channels.now.inputs.items in
+    let n : length t.findings ≡ length c.args.self.now.counts =
+    c.self.invariant.size ∙ sym (length-map t.others (counts_in t.cycles)) ∙ ap (λ (x : TallyContents). length x.counts) c.self.view_is in
+    ap (λ (xs : List Finding). record { counts = map (counts_in t.cycles) t.others; findings = xs }) (c.show.ensures ∙ ap (λ m. tabulate m f) n)
+    ∙ ap (λ (x : TallyContents). record x { findings = tabulate (length c.args.self.now.counts) f }) c.self.view_is

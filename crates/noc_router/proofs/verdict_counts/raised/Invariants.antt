@@ -1,6 +1,6 @@
 use Rattle.std.proofs.Common.{◌≡◌, ℕ, ◌+◌, ◌*◌, ◌<◌, ◌≤◌, length, get_or}
 use Rattle.noc_router.specs.Counts.{one_at}
-use Rattle.noc_router.proofs.tally.raised.Given as goal
+use Rattle.noc_router.proofs.verdict_counts.raised.Given as goal
 
 -- the verdicts before this one have 512 more, the others are as they were
 abbrev pub invariant-loop-verdict : goal.invariant-loop-verdict
