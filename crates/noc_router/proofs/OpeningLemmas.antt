@@ -13,6 +13,7 @@ use Rattle.noc_router.specs.declared.arbiters.Arbiters.{Arbiters}
 use Rattle.noc_router.specs.declared.arrivals.Arrivals.{Arrivals}
 use Rattle.noc_router.specs.declared.channels.Channels.{Channels}
 use Rattle.noc_router.specs.declared.indices.Indices.{Indices}
+use Rattle.noc_router.specs.declared.leads.Leads.{Leads}
 use Rattle.noc_router.specs.declared.links.Links.{Links}
 use Rattle.noc_router.specs.declared.source.Source.{Source}
 use Rattle.noc_router.specs.declared.tally.Tally.{Tally}
@@ -27,7 +28,7 @@ last_port : (d vcs : ℕ) → (2 * d + 1) * vcs - 2 * d * vcs ≡ vcs
 last_port d vcs = let e : (2 * d + 1) * vcs ≡ 2 * d * vcs + 1 * vcs = add-mul (2 * d) 1 vcs in omega arith
 
 -- the view of a router none of whose parts has done anything
-pub opening-is : (node p vcs places : ℕ) (shape : Grid) (source : Source) (channels : Channels) (links : Links) (tally : Tally) (arbiters : Arbiters) (arrivals : Arrivals) (indices : Indices) (starts : List (ℕ × Packet)) (ends : List ℕ)
+pub opening-is : (node p vcs places : ℕ) (shape : Grid) (source : Source) (channels : Channels) (leads : Leads) (links : Links) (tally : Tally) (arbiters : Arbiters) (arrivals : Arrivals) (indices : Indices) (starts : List (ℕ × Packet)) (ends : List ℕ)
     → IsGrid shape → p ≡ ports shape → queue_of source ≡ starts → source.vc ≡ None
     → states_in channels ≡ opening_states (p * vcs) ((p - 1) * vcs) places
     → links.beats ≡ replicate 6 idle_beat
@@ -45,6 +46,7 @@ pub opening-is : (node p vcs places : ℕ) (shape : Grid) (source : Source) (cha
       misfits = 0;
       source = source;
       channels = channels;
+      leads = leads;
       links = links;
       tally = tally;
       arbiters = arbiters;
@@ -52,7 +54,7 @@ pub opening-is : (node p vcs places : ℕ) (shape : Grid) (source : Source) (cha
       indices = indices;
       shape = shape;
     }) ≡ opening_view (record { grid = shape; node = node; vcs = vcs; places = places }) starts ends
-opening-is node p vcs places shape source channels links tally arbiters arrivals indices starts ends grid ps queue vc opened beats counts begun turns ended =
+opening-is node p vcs places shape source channels leads links tally arbiters arrivals indices starts ends grid ps queue vc opened beats counts begun turns ended =
     let d : ℕ = length shape.radix in
     let before : p - 1 ≡ 2 * d = omega arith in
     let bank_is : channels.bank ≡ empty_buffers (ports shape * vcs) places = ap (λ (s : ChannelStates). s.bank) opened ∙ ap (λ n. empty_buffers (n * vcs) places) ps in

@@ -20,7 +20,7 @@ for_some P Q o f h = λ x e. f x (h x e)
 -- where the parts keep their sizes, and the input channels that await a flit still do
 pub IsRouter-kept : (r s : Inside) → IsRouter r → s.shape ≡ r.shape → s.node ≡ r.node → s.ports ≡ r.ports → s.vcs ≡ r.vcs → s.places ≡ r.places
     → s.source.vc ≡ r.source.vc → s.channels.size ≡ r.channels.size → s.channels.bank.capacity ≡ r.channels.bank.capacity
-    → KeepsAwaiting r.channels.inputs.items s.channels.inputs.items → s.links.leads ≡ r.links.leads → AreBelow (local_port r.shape) s.links.loaded
+    → KeepsAwaiting r.channels.inputs.items s.channels.inputs.items → s.leads.places ≡ r.leads.places → AreBelow (local_port r.shape) s.links.loaded
     → vec_len s.tally.counts ≡ vec_len r.tally.counts → s.arbiters.ports ≡ r.arbiters.ports → s.arbiters.vcs ≡ r.arbiters.vcs → s.indices.size ≡ r.indices.size → s.indices.vcs ≡ r.indices.vcs → IsRouter s
 IsRouter-kept r s is shape node ports_same vcs places vc size capacity keeps leads loaded counts arbiter_ports arbiter_vcs indices index_vcs =
     let all : r.ports * r.vcs ≡ s.ports * s.vcs = ap (λ n. n * r.vcs) (sym ports_same) ∙ ap (λ n. s.ports * n) (sym vcs) in

@@ -9,6 +9,7 @@ mod channels;
 mod counters;
 mod digit;
 mod indices;
+mod leads;
 mod links;
 mod places;
 mod plan;

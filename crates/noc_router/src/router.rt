@@ -32,6 +32,7 @@ use crate::arbiters::Arbiters;
 use crate::arrivals::Arrivals;
 use crate::channels::{Channels, Standing};
 use crate::indices::Indices;
+use crate::leads::Leads;
 use crate::links::Links;
 use crate::plan::Plan;
 use crate::requests::Requests;
@@ -64,6 +65,7 @@ pub struct Router {
     misfits: u64,
     source: Source,
     channels: Channels,
+    leads: Leads,
     links: Links,
     tally: Tally,
     arbiters: Arbiters,
@@ -118,7 +120,8 @@ impl Router {
             misfits: 0,
             source: Source::new(starts),
             channels: Channels::new(alloc, ports * vcs, (ports - 1) * vcs, places)?,
-            links: Links::new(&shape, node),
+            leads: Leads::new(&shape, node),
+            links: Links::new(),
             tally: Tally::new(alloc, ports * vcs)?,
             arbiters: Arbiters::new(alloc, ports, vcs)?,
             arrivals: Arrivals::new(alloc, ends)?,
@@ -150,7 +153,7 @@ impl Router {
         ensures { self.new ≡ with_flit relation.now port (Some (vc, flit.now)) self.old }
     {
         if vc < self.vcs
-            && self.links.neighbour(port).is_some()
+            && self.leads.neighbour(port).is_some()
             && self
                 .channels
                 .land(port * self.vcs + vc, relation, self.node, port, vc, flit)
@@ -168,7 +171,7 @@ impl Router {
         ensures { self.new ≡ with_credit port (Some vc) self.old }
     {
         if vc < self.vcs
-            && self.links.neighbour(port).is_some()
+            && self.leads.neighbour(port).is_some()
             && self.channels.credit_back(port * self.vcs + vc)
         {
             self.had_event = true;
@@ -713,7 +716,7 @@ impl Router {
         requires { port < local_port self.now.site.grid }
         ensures { result ≡ neighbour_of self.now.site.grid self.now.site.node port }
     {
-        self.links.neighbour(port)
+        self.leads.neighbour(port)
     }
 
     /// What was found in the last cycle that ended with `commit` or `step`, by input channel (port * V + virtual channel):
