@@ -1,20 +1,18 @@
 -- The source injects a flit.
-use Rattle.std.proofs.Common.{◌≡◌, ℕ, suc, ◌+◌, ◌<◌, ◌≤◌, Bool, true, false, List, [], ◌∷◌, length, drop, Option, Some, None, refl, ap, sym, ◌∙◌, slice_set, arith}
+use Rattle.std.proofs.Common.{◌≡◌, ℕ, suc, ◌+◌, ◌<◌, ◌≤◌, Bool, true, false, List, [], ◌∷◌, length, drop, Option, Some, None, refl, ap, sym, ◌∙◌, arith}
 use Rattle.std.specs.Prelude.{if◌then◌else◌, is_none, is_some, nat_lt, nat_le, slice_get}
 use Rattle.std.proofs.lemmas.Bool.{false≢true, le-leb, lt-leb}
 use Rattle.std.proofs.lemmas.List.{drop_all}
 use Rattle.noc_packet.specs.declared.packet.Packet.{Packet}
 use Rattle.noc_packet.specs.declared.packet.Flit.{Flit}
 use Rattle.noc_packet.specs.Packet.{flit_at}
-use Rattle.noc_ring.specs.Buffers.{buffers_after_push}
-use Rattle.noc_vc.specs.Input.{input_after_land}
 use Rattle.noc_router.specs.declared.channels.Channels.{Channels}
 use Rattle.noc_router.specs.declared.source.Source.{Source}
 use Rattle.noc_router.specs.declared.router.Router.TheInside.{Inside}
 use Rattle.noc_router.specs.Inside.{IsRouter, view_of, queue_of, sending_of}
 use Rattle.noc_router.specs.Injection.{index_in, vc_from, vacant_vc, next_vc}
 use Rattle.noc_router.specs.Queue.{queue_from, sending_from, next_due_of, next_flit_of, is_next_last, is_due_by}
-use Rattle.noc_router.specs.Sound.{nth_input}
+use Rattle.noc_router.specs.Parts.{ChannelStates, states_after_land, states_in}
 use Rattle.noc_router.specs.View.{View, begun_on, view_buffer, local_channel, with_injected, view_after_inject_from, view_after_inject}
 
 -- ---- by the view
@@ -169,13 +167,11 @@ module _ (r : Inside) (due : ℕ) (is : IsRouter r) (e : next_due_of r.source.fr
 pub goes-view : (r : Inside) (n vc i : ℕ) (flit : Flit) (channels : Channels) (source : Source)
     → (is_none r.source.vc ≡ true → r.source.index ≡ 0) → next_flit_of r.source.front r.source.index ≡ Some flit
     → next_vc (view_of (record r { cycle = n })) ≡ Some vc → i ≡ local_channel (view_of r).site vc
-    → channels.bank ≡ buffers_after_push r.channels.bank i flit
-    → channels.inputs.items ≡ slice_set r.channels.inputs.items i (input_after_land (nth_input r.channels.inputs.items i) flit)
-    → channels.outputs.items ≡ r.channels.outputs.items
+    → states_in channels ≡ states_after_land i flit (states_in r.channels)
     → queue_of source ≡ (if is_next_last r.source.front r.source.index then drop 1 (queue_of r.source) else queue_of r.source)
     → sending_of source ≡ (if is_next_last r.source.front r.source.index then None else Some (vc, r.source.index + 1))
     → view_of (record r { cycle = n; had_event = true; source = source; channels = channels }) ≡ view_after_inject n (view_of r)
-goes-view r n vc i flit channels source at_head some next at bank inputs outputs queue sending = by r.source.front refl some
+goes-view r n vc i flit channels source at_head some next at states queue sending = by r.source.front refl some
   where
     by : (front : Option (ℕ × Packet)) → r.source.front ≡ front → next_flit_of front r.source.index ≡ Some flit
         → view_of (record r { cycle = n; had_event = true; source = source; channels = channels }) ≡ view_after_inject n (view_of r)
@@ -187,16 +183,15 @@ goes-view r n vc i flit channels source at_head some next at bank inputs outputs
         let v : View = record (view_of r) { given = n } in
         let is : flit ≡ f = cc in
         let whole : queue_of r.source ≡ (number, p) ∷ rest = ap (λ front. queue_from front r.source.begun r.source.packets.items) there in
-        let bank_is : channels.bank ≡ buffers_after_push r.channels.bank here f = bank ∙ ap (λ k. buffers_after_push r.channels.bank k flit) at ∙ ap (buffers_after_push r.channels.bank here) is in
-        let inputs_is : channels.inputs.items ≡ slice_set r.channels.inputs.items here (input_after_land (nth_input r.channels.inputs.items here) f) =
-        inputs ∙ ap (λ k. slice_set r.channels.inputs.items k (input_after_land (nth_input r.channels.inputs.items k) flit)) at ∙ ap (λ x. slice_set r.channels.inputs.items here (input_after_land (nth_input r.channels.inputs.items here) x)) is in
+        let states_are : states_in channels ≡ states_after_land here f (states_in r.channels) =
+        states ∙ ap (λ k. states_after_land k flit (states_in r.channels)) at ∙ ap (λ x. states_after_land here x (states_in r.channels)) is in
         let queue_is : queue_of source ≡ (if f.last then rest else queue_of r.source) =
         queue ∙ ap (λ front. if is_next_last front r.source.index then drop 1 (queue_of r.source) else queue_of r.source) there
         ∙ ap (λ xs. if f.last then drop 1 xs else queue_of r.source) whole in
         let sending_is : sending_of source ≡ (if f.last then None else Some (vc, r.source.index + 1)) =
         sending ∙ ap (λ front. if is_next_last front r.source.index then None else Some (vc, r.source.index + 1)) there in
         let view_is : view_of (record r { cycle = n; had_event = true; source = source; channels = channels }) ≡ with_injected vc r.source.index number p rest v =
-        rw (bank_is, inputs_is, outputs, queue_is, sending_is) in
+        rw (ap (λ (s : ChannelStates). s.bank) states_are, ap (λ (s : ChannelStates). s.inputs) states_are, ap (λ (s : ChannelStates). s.outputs) states_are, queue_is, sending_is) in
         view_is
         ∙ ap (λ k. with_injected vc k number p rest v) (sym (index-is r.source.vc r.source.index at_head))
         ∙ sym (injected-front n number p rest (view_of r) (Some vc) whole next)

@@ -21,7 +21,7 @@ use Rattle.noc_router.specs.declared.router.Router.TheInside.{Inside}
 use Rattle.noc_router.specs.declared.verdict.Verdict.{Verdict}
 use Rattle.noc_router.specs.declared.verdict.Verdict.TheVariants.{Empty, Routed, Granted, Moved, NoFlit, NoIdleChannel, LostChannel, NoCredit, LostInput, LostSwitch}
 use Rattle.noc_router.specs.Inside.{IsRouter, view_of}
-use Rattle.noc_router.specs.Settled.{CanGrant, CanMove, CanTakeEffect, AreContentsFor, decisions_by, effect_of, planned_verdict, granted_by, moved_by, moved_in_phase, passed_by, passed_in_phase, view_after_verdicts, switch_past, arbiters_past}
+use Rattle.noc_router.specs.Settled.{CanGrant, CanMove, CanTakeEffect, AreContentsFor, decisions_by, effect_of, planned_verdict, granted_by, moved_by, moved_in_phase, passed_by, passed_in_phase, view_after_verdicts, states_past, switch_past, arbiters_past}
 use Rattle.noc_router.specs.Verdict.{ArbiterStates, arbiters_after, is_event, is_moved, ready_of}
 use Rattle.noc_router.specs.View.{Decisions, PlanContents, Site, View, decided_verdict, first_flit, mover, size_of, view_input, view_stands}
 use Rattle.noc_router.proofs.FindLemmas.{find-at, find-none, find-same}
@@ -89,7 +89,7 @@ module _ (d : Decisions) (v w : View) (rest rest' index : ℕ) (turns : ArbiterS
     to_in = port_below v mv.out whole.some_vc (whole.within index mv.out (so_far.below index member) mv.phase)
 
     abbrev past : ArbiterStates
-    past = record turns { inputs = arbiters_past (index / v.site.vcs) (index % v.site.vcs) turns.inputs; outputs = arbiters_past (mv.out / v.site.vcs) (index / v.site.vcs) turns.outputs }
+    past = states_past (index / v.site.vcs) (index % v.site.vcs) (mv.out / v.site.vcs) turns
 
     input-past : (q : ℕ) → q < ports v.site.grid → arbiter_at (arbiters_past (index / v.site.vcs) (index % v.site.vcs) turns.inputs) q ≡ arbiter_after (arbiter_at v.arbiters.inputs q) (credit_by d v rest' q)
     input-past q l = at (cases_eq q (index / v.site.vcs))
@@ -361,10 +361,9 @@ module _ (p : PlanContents) (v w : View) (rest rest' index : ℕ) (whole : IsWho
       first = ap (λ flits. slice_get flits 0) (buffer-here (decisions_by p v) v (with_turns v.arbiters w) rest rest' index whole lists members member so_far) ∙ flit.1
 
       past_at : Site → ArbiterStates
-      past_at s = record w.arbiters { inputs = arbiters_past (index / s.vcs) (index % s.vcs) w.arbiters.inputs; outputs = arbiters_past (mv.out / s.vcs) (index / s.vcs) w.arbiters.outputs }
+      past_at s = states_past (index / s.vcs) (index % s.vcs) (mv.out / s.vcs) w.arbiters
 
-      turns-are : (passed_in_phase index (view_input w index).phase (moved_in_phase index (view_input w index).phase w)).arbiters
-          ≡ record w.arbiters { inputs = arbiters_past (index / v.site.vcs) (index % v.site.vcs) w.arbiters.inputs; outputs = arbiters_past (mv.out / v.site.vcs) (index / v.site.vcs) w.arbiters.outputs }
+      turns-are : (passed_in_phase index (view_input w index).phase (moved_in_phase index (view_input w index).phase w)).arbiters ≡ past_at v.site
       turns-are =
           ap (λ phase. (passed_in_phase index phase (moved_in_phase index phase w)).arbiters) phase_is
           ∙ ap (λ m. (switch_past index mv.out (moved_by index mv.out m w)).arbiters) first

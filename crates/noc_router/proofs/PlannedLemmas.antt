@@ -1,18 +1,19 @@
 -- What a router plans, put together.
-use Rattle.std.proofs.Common.{◌≡◌, ℕ, ◌*◌, ◌<◌, true, List, length, get_or, replicate, Option, None, ap, arith, sym, ◌∙◌}
+use Rattle.std.proofs.Common.{◌≡◌, ℕ, ◌*◌, ◌<◌, true, List, length, get_or, replicate, Option, ap, arith, sym, ◌∙◌}
 use Rattle.noc_topo.specs.Words.{tabulate}
 use Rattle.noc_topo.specs.Shape.{ports}
 use Rattle.noc_topo.proofs.WordLemmas.{length-tabulate, tabulate-from_each}
 use Rattle.std.proofs.lemmas.Bool.{false≢true}
 use Rattle.std.proofs.lemmas.List.{ext_get_or, get_or-replicate, length-replicate}
 use Rattle.noc_route.specs.Routes.{Routes}
+use Rattle.noc_router.specs.declared.requests.Requests.{Requests}
 use Rattle.noc_router.specs.declared.router.Router.TheInside.{Inside}
 use Rattle.noc_router.specs.declared.verdict.Verdict.{Verdict}
 use Rattle.noc_router.specs.declared.verdict.Verdict.TheVariants.{Empty}
-use Rattle.noc_router.specs.Asked.{grants_on, no_round, picks_on, arbiter_states_in, wins_on}
+use Rattle.noc_router.specs.Asked.{RequestLists, arbiter_states_in, grants_on, lists_in, no_requests, round_in}
 use Rattle.noc_router.specs.Decided.{IsDecidedFor, empty_plan_contents}
 use Rattle.noc_router.specs.Inside.{IsRouter, view_of}
-use Rattle.noc_router.specs.Verdict.{Round, asks_of, is_event, ready_of}
+use Rattle.noc_router.specs.Verdict.{Round, asks_of, is_event}
 use Rattle.noc_router.specs.View.{PlanContents, View, finding_of, plan_contents, route_of, size_of, view_round, view_stands}
 use Rattle.noc_router.proofs.StandLemmas.{asks_of-stands}
 
@@ -34,15 +35,10 @@ same_round a b f g x y grants picks wins = cc
 
 -- what has each part of the round of a view is that round
 pub round-made : (v : View) (asks : List (Option ℕ)) (round : Round) → asks ≡ asks_of (view_stands v) → round.grants ≡ grants_on (ports v.site.grid) v.site.vcs asks v.arbiters
-    → round.picks ≡ picks_on (ports v.site.grid) v.site.vcs (ready_of v.site.vcs (view_stands v)) v.arbiters
-    → round.wins ≡ wins_on (ports v.site.grid) v.site.vcs (ready_of v.site.vcs (view_stands v)) round.picks v.arbiters → round ≡ view_round v
+    → round.picks ≡ (view_round v).picks → round.wins ≡ (view_round v).wins → round ≡ view_round v
 unfolding rounds view_round
 round-made v asks round asked grants picks wins =
-    let m = ports v.site.grid in
-    let ready = ready_of v.site.vcs (view_stands v) in
-    same_round round.grants (grants_on m v.site.vcs (asks_of (view_stands v)) v.arbiters) round.picks (picks_on m v.site.vcs ready v.arbiters) round.wins
-    (wins_on m v.site.vcs ready (picks_on m v.site.vcs ready v.arbiters) v.arbiters) (grants ∙ ap (λ xs. grants_on m v.site.vcs xs v.arbiters) asked) picks
-    (wins ∙ ap (λ xs. wins_on m v.site.vcs ready xs v.arbiters) picks)
+    same_round round.grants (view_round v).grants round.picks (view_round v).picks round.wins (view_round v).wins (grants ∙ ap (λ xs. grants_on (ports v.site.grid) v.site.vcs xs v.arbiters) asked) picks wins
 
 -- outcomes by their parts
 parts : Round → List (Option ℕ) → List Verdict → List ℕ → PlanContents
@@ -74,12 +70,15 @@ outcome-lengths relation v = record {
 
 -- ---- no request
 -- what has no request, and every channel empty
-pub no_outcome-parts : (m vcs : ℕ) (p : PlanContents) → p.round ≡ no_round m (m * vcs) → p.asks ≡ replicate (m * vcs) None → length p.verdicts ≡ m * vcs
-    → ((k : ℕ) → k < m * vcs → get_or p.verdicts k Empty ≡ Empty) → p.routes ≡ replicate (m * vcs) 0 → p ≡ empty_plan_contents m vcs
-unfolding parts
-no_outcome-parts m vcs p round asks long verdicts routes =
-    same_parts p.round _ p.asks _ p.verdicts _ p.routes _ round asks
-    (ext_get_or Empty p.verdicts (replicate (m * vcs) Empty) (long ∙ sym (length-replicate (m * vcs) Empty)) (λ k l. verdicts k (omega arith) ∙ sym (get_or-replicate (m * vcs) k Empty Empty (omega arith)))) routes
+pub no_outcome-parts : (m vcs : ℕ) (r : Requests) (p : PlanContents) → lists_in r ≡ no_requests m (m * vcs) → p.round ≡ round_in r → p.asks ≡ r.asks → p.routes ≡ r.routes.items → length p.verdicts ≡ m * vcs
+    → ((k : ℕ) → k < m * vcs → get_or p.verdicts k Empty ≡ Empty) → p ≡ empty_plan_contents m vcs
+unfolding parts rounds
+no_outcome-parts m vcs r p none round asks routes long verdicts =
+    same_parts p.round _ p.asks _ p.verdicts _ p.routes _
+    (round ∙ same_round r.grants _ r.picks _ r.wins _ (ap (λ (x : RequestLists). x.grants) none) (ap (λ (x : RequestLists). x.picks) none) (ap (λ (x : RequestLists). x.wins) none))
+    (asks ∙ ap (λ (x : RequestLists). x.asks) none)
+    (ext_get_or Empty p.verdicts (replicate (m * vcs) Empty) (long ∙ sym (length-replicate (m * vcs) Empty)) (λ k l. verdicts k (omega arith) ∙ sym (get_or-replicate (m * vcs) k Empty Empty (omega arith))))
+    (routes ∙ ap (λ (x : RequestLists). x.routes) none)
 
 -- an outcome without requests is as long as it should be
 pub no_outcome-lengths : (m vcs : ℕ) → IsDecidedFor m vcs (empty_plan_contents m vcs)

@@ -1,5 +1,5 @@
 -- The beats that are still to be put.
-use Rattle.std.proofs.Common.{◌≡◌, ℕ, zero, suc, ◌<◌, ◌≤◌, Bool, true, false, List, [], ◌∷◌, get_or, set, take, Some, None, refl, ap, sym, ◌∙◌, arith}
+use Rattle.std.proofs.Common.{◌≡◌, ℕ, zero, suc, ◌<◌, ◌≤◌, Bool, true, false, List, [], ◌∷◌, get_or, set, take, Some, refl, ap, sym, ◌∙◌, arith}
 use Rattle.std.specs.Prelude.{◌&&◌, ◌||◌, not, nat_eq}
 use Rattle.std.proofs.lemmas.Bool.{eqb-true, false≢true, and_parts}
 use Rattle.std.proofs.lemmas.List.{get_or-take}
@@ -35,8 +35,8 @@ take-flit n port vc f beats new e l =
     ∙ ap (λ (beat : Beat). set (take n beats) port (record beat { flit = Some (vc, f) })) (sym (get_or-take n beats port idle_beat l))
 
 -- a router with other beats on its links
-pub relinked : (r : Inside) (l : Links) → IsRouter r → l.leads ≡ r.links.leads → AreBelow (local_port r.shape) l.loaded → IsRouter (record r { links = l })
-relinked r l h same below = record {
+pub relinked : (r : Inside) (l : Links) → IsRouter r → AreBelow (local_port r.shape) l.loaded → IsRouter (record r { links = l })
+relinked r l h below = record {
   grid = h.grid;
   node = h.node;
   ports = h.ports;
@@ -44,7 +44,7 @@ relinked r l h same below = record {
   few_vcs = h.few_vcs;
   channels = h.channels;
   places = h.places;
-  leads = λ port u. ap (λ leads. get_or leads port None) same ∙ h.leads port u;
+  leads = h.leads;
   loaded = below;
   sending = h.sending;
   awaiting = h.awaiting;

@@ -1,10 +1,11 @@
 -- What is true of a router stays true.
-use Rattle.std.proofs.Common.{◌≡◌, ℕ, ◌+◌, ◌-◌, ◌*◌, ◌<◌, Bool, true, List, Option, None, refl, ap, sym, ◌∙◌, subst, arith, length, slice_index_or, slice_set}
+use Rattle.std.proofs.Common.{◌≡◌, ℕ, ◌+◌, ◌-◌, ◌*◌, ◌<◌, Bool, true, List, Option, None, refl, ap, sym, ◌∙◌, subst, arith, length, slice_index_or, slice_set, vec_len}
 use Rattle.std.specs.Prelude.{is_some}
 use Rattle.std.proofs.lemmas.List.{get_or-set_other}
 use Rattle.std.specs.Option.{ForSome}
 use Rattle.noc_topo.specs.Shape.{Grid, IsGrid, ports, local_port, neighbour}
-use Rattle.noc_vc.specs.Input.{Input, idle_input}
+use Rattle.noc_packet.specs.declared.packet.Flit.{Flit}
+use Rattle.noc_vc.specs.Input.{Input, idle_input, input_after_land}
 use Rattle.noc_router.specs.declared.channels.Channels.{Channels}
 use Rattle.noc_router.specs.declared.links.Links.{Links}
 use Rattle.noc_router.specs.declared.router.Router.TheInside.{Inside}
@@ -12,7 +13,8 @@ use Rattle.noc_router.specs.Inside.{IsRouter, view_of}
 use Rattle.noc_router.specs.Tally.{TallyContents}
 use Rattle.noc_router.specs.View.{local_channel}
 use Rattle.noc_router.specs.Members.{AreBelow}
-use Rattle.noc_router.specs.Sound.{is_awaiting, KeepsAwaiting}
+use Rattle.noc_router.specs.Parts.{ChannelStates, states_after_land, states_in}
+use Rattle.noc_router.specs.Sound.{is_awaiting, nth_input, KeepsAwaiting}
 
 for_some : (P Q : ℕ → Type 0) (o : Option ℕ) → ((x : ℕ) → P x → Q x) → ForSome o P → ForSome o Q
 for_some P Q o f h = λ x e. f x (h x e)
@@ -20,7 +22,7 @@ for_some P Q o f h = λ x e. f x (h x e)
 -- where the parts keep their sizes, and the input channels that await a flit still do
 pub IsRouter-kept : (r s : Inside) → IsRouter r → s.shape ≡ r.shape → s.node ≡ r.node → s.ports ≡ r.ports → s.vcs ≡ r.vcs → s.places ≡ r.places
     → s.source.vc ≡ r.source.vc → s.channels.size ≡ r.channels.size → s.channels.bank.capacity ≡ r.channels.bank.capacity
-    → KeepsAwaiting r.channels.inputs.items s.channels.inputs.items → s.links.leads ≡ r.links.leads → AreBelow (local_port r.shape) s.links.loaded
+    → KeepsAwaiting r.channels.inputs.items s.channels.inputs.items → s.leads.places ≡ r.leads.places → AreBelow (local_port r.shape) s.links.loaded
     → length s.tally.counts ≡ length r.tally.counts → s.arbiters.ports ≡ r.arbiters.ports → s.arbiters.vcs ≡ r.arbiters.vcs → s.indices.size ≡ r.indices.size → s.indices.vcs ≡ r.indices.vcs → IsRouter s
 IsRouter-kept r s is shape node ports_same vcs places vc size capacity keeps leads loaded counts arbiter_ports arbiter_vcs indices index_vcs =
     let all : r.ports * r.vcs ≡ s.ports * s.vcs = ap (λ n. n * r.vcs) (sym ports_same) ∙ ap (λ n. s.ports * n) (sym vcs) in
@@ -52,11 +54,10 @@ local-index r vc is =
     ap (λ n. n * r.vcs + vc) e
 
 -- a router of which only channels and misfits change, and no input channel, is one still
-pub IsRouter-misfit : (r : Inside) (channels : Channels) (n : ℕ) → IsRouter r → channels.size ≡ r.channels.size → channels.bank.capacity ≡ r.channels.bank.capacity
-    → channels.inputs.items ≡ r.channels.inputs.items → IsRouter (record r { channels = channels; misfits = n })
-IsRouter-misfit r channels n is size capacity inputs =
-    IsRouter-kept r (record r { channels = channels; misfits = n }) is refl refl refl refl refl refl size capacity
-    (λ i h. ap (λ (xs : List Input). is_awaiting xs i) inputs ∙ h) refl is.loaded refl refl refl refl refl
+pub IsRouter-misfit : (r : Inside) (channels : Channels) (n : ℕ) → IsRouter r → states_in channels ≡ states_in r.channels → IsRouter (record r { channels = channels; misfits = n })
+IsRouter-misfit r channels n is states =
+    IsRouter-kept r (record r { channels = channels; misfits = n }) is refl refl refl refl refl refl (ap (λ (s : ChannelStates). s.size) states) (ap (λ (s : ChannelStates). s.bank.capacity) states)
+    (λ i h. ap (λ (s : ChannelStates). is_awaiting s.inputs i) states ∙ h) refl is.loaded refl refl refl refl refl
 
 -- a router of which only channels change, and whether it had an event, is one still
 pub IsRouter-channels : (r : Inside) (channels : Channels) (happened : Bool) → IsRouter r → channels.size ≡ r.channels.size → channels.bank.capacity ≡ r.channels.bank.capacity
@@ -65,22 +66,21 @@ IsRouter-channels r channels happened is size capacity keeps =
     IsRouter-kept r (record r { channels = channels; had_event = happened }) is refl refl refl refl refl refl size capacity keeps refl is.loaded refl refl refl refl refl
 
 -- a router where a flit has come to an input channel of a link port is one still
-pub IsRouter-landed : (r : Inside) (channels : Channels) (i : ℕ) (x : Input) → IsRouter r → channels.size ≡ r.channels.size → channels.bank.capacity ≡ r.channels.bank.capacity
-    → channels.inputs.items ≡ slice_set r.channels.inputs.items i x → i < (r.ports - 1) * r.vcs → IsRouter (record r { channels = channels; had_event = true })
-IsRouter-landed r channels i x is size capacity inputs link = record {
+pub IsRouter-landed : (r : Inside) (channels : Channels) (i : ℕ) (flit : Flit) → IsRouter r → states_in channels ≡ states_after_land i flit (states_in r.channels) → i < (r.ports - 1) * r.vcs → IsRouter (record r { channels = channels; had_event = true })
+IsRouter-landed r channels i flit is states link = record {
   grid = is.grid;
   node = is.node;
   ports = is.ports;
   some_vc = is.some_vc;
   few_vcs = is.few_vcs;
-  channels = size ∙ is.channels;
-  places = capacity ∙ is.places;
+  channels = ap (λ (s : ChannelStates). s.size) states ∙ is.channels;
+  places = ap (λ (s : ChannelStates). s.bank.capacity) states ∙ is.places;
   leads = is.leads;
   loaded = is.loaded;
   sending = is.sending;
   awaiting = for_some (λ v. is_awaiting r.channels.inputs.items ((r.ports - 1) * r.vcs + v) ≡ true) (λ v. is_awaiting channels.inputs.items ((r.ports - 1) * r.vcs + v) ≡ true) r.source.vc
-      (λ v h. ap (λ (xs : List Input). is_awaiting xs ((r.ports - 1) * r.vcs + v)) inputs
-      ∙ ap (λ (input : Input). is_some input.awaited) (get_or-set_other r.channels.inputs.items i ((r.ports - 1) * r.vcs + v) x idle_input (λ same. omega arith)) ∙ h) is.awaiting;
+      (λ v h. ap (λ (s : ChannelStates). is_awaiting s.inputs ((r.ports - 1) * r.vcs + v)) states
+      ∙ ap (λ (input : Input). is_some input.awaited) (get_or-set_other r.channels.inputs.items i ((r.ports - 1) * r.vcs + v) (input_after_land (nth_input r.channels.inputs.items i) flit) idle_input (λ same. omega arith)) ∙ h) is.awaiting;
   counts = is.counts;
   arbiter_ports = is.arbiter_ports;
   arbiter_vcs = is.arbiter_vcs;

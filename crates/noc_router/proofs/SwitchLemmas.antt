@@ -1,5 +1,5 @@
 -- The allocation of the switch, input port by input port.
-use Rattle.std.proofs.Common.{◌≡◌, ◌≢◌, ℕ, ◌+◌, ◌*◌, ◌/◌, ◌%◌, ◌<◌, ◌≤◌, Bool, true, false, List, length, get_or, set, replicate, Option, Some, None, refl, ap, sym, ◌∙◌, arith, inl, inr, subst}
+use Rattle.std.proofs.Common.{◌≡◌, ◌≢◌, ℕ, ◌+◌, ◌*◌, ◌/◌, ◌%◌, ◌<◌, ◌≤◌, Bool, true, false, List, length, get_or, set, replicate, Option, Some, None, refl, ap, sym, ◌∙◌, arith, inl, inr, subst, ltb-true}
 use Rattle.std.specs.Prelude.{All, nat_eq, nat_le, nat_lt, not, ◌&&◌, ◌||◌, ◌⊎◌, is_some, option_and_then, option_map, slice_index, if◌then◌else◌}
 use Rattle.std.proofs.lemmas.Bool.{and_parts, cases_eq, cases_lt, eq-eqb, eqb-true, false≢true, le-leb, lt-leb, leb-true, lt-ltb, le-ltb, ne_eqb, false_from_ne_true}
 use Rattle.std.proofs.lemmas.Nat.{le-div, mul-add-lt, mod-mul-add, div-mul-add, div-add-mod'}
@@ -19,14 +19,14 @@ use Rattle.noc_router.specs.Offers.{farther, nearer, firsts_after_request}
 use Rattle.noc_alloc.proofs.ArbiterLemmas.{first_in_turn-none, first_in_turn-picks, IsNearest, nearest-is}
 use Rattle.noc_router.proofs.OfferLemmas.{AllNearest, both_lacks, nearest-none, nearest-offered, nearest-up_to}
 use Rattle.noc_alloc.proofs.WordLemmas.{is_some_of-true, is_some_of-some}
-use Rattle.noc_router.specs.Asked.{picks_on, arbiter_states_in, wins_on}
+use Rattle.noc_router.specs.Asked.{RequestLists}
 use Rattle.noc_router.specs.declared.router.Router.TheInside.{Inside}
 use Rattle.noc_router.specs.Inside.{IsRouter, view_of}
-use Rattle.noc_router.specs.Members.{AreBelow}
+use Rattle.noc_router.specs.Members.{AreBelow, is_within}
 use Rattle.noc_router.specs.Requests.{AllBelow, AreAmong, pick_in}
 use Rattle.noc_router.specs.Standing.{AreReady, IsPickedIn, way_in, way_of}
 use Rattle.noc_router.specs.Verdict.{ready_of}
-use Rattle.noc_router.specs.View.{View, size_of, view_input, view_stands}
+use Rattle.noc_router.specs.View.{View, size_of, view_input, view_round, view_stands}
 use Rattle.noc_router.proofs.PickedLemmas.{at_pick, off_pick, below-more}
 use Rattle.noc_router.proofs.QuietLemmas.{at_replicate, least_member, none_left}
 use Rattle.noc_router.proofs.WayLemmas.{ready-members, ready-way}
@@ -491,7 +491,7 @@ allocated-last v ready rest picks wins picked lost are least but = allocated-to 
         off k a = sym (ap (λ x. x && has_bit ready k) (le-leb (but.next * v.site.vcs) k a)) ∙ sym (but.left k) ∙ none_left rest least k
 
 -- the rest is smaller where it has lost a member
-pub rest-smaller : (rest more from first : ℕ) → IsLeast (in_both rest rest) (Some first) → first < from → more ≤ rest → ((k : ℕ) → has_bit more k ≡ has_from from rest k) → more < rest
+rest-smaller : (rest more from first : ℕ) → IsLeast (in_both rest rest) (Some first) → first < from → more ≤ rest → ((k : ℕ) → has_bit more k ≡ has_from from rest k) → more < rest
 rest-smaller rest more from first least l fewer members = at (cases_eq more rest)
   where
     at : (more ≡ rest) ⊎ (more ≢ rest) → more < rest
@@ -518,19 +518,19 @@ picked-among v ready picks wins picked lost are some so_far k e =
     ap (has_bit ready) (sym (div-add-mod' k v.site.vcs)) ∙ (pick-ready v ready (k / v.site.vcs) (k % v.site.vcs) are pick).1
 
 -- all picks
-pub allocated-picks : (v : View) (picks wins : List (Option ℕ)) (picked lost : ℕ) → length picks ≡ ports v.site.grid → IsAllocated v (ports v.site.grid) picks wins picked lost
-    → picks ≡ picks_on (ports v.site.grid) v.site.vcs (ready_of v.site.vcs (view_stands v)) v.arbiters
+pub allocated-picks : (v : View) (picks wins : List (Option ℕ)) (picked lost : ℕ) → length picks ≡ ports v.site.grid → IsAllocated v (ports v.site.grid) picks wins picked lost → picks ≡ (view_round v).picks
+unfolding view_round
 allocated-picks v picks wins picked lost long so_far =
     tabulate-from_each (ports v.site.grid) (pick_on v) picks None long
     (λ q l. so_far.picks_are q l ∙ ap (λ b. if b then pick_on v q else None) (lt-ltb q (ports v.site.grid) l))
 
 -- all winners
-pub allocated-wins : (v : View) (picks wins : List (Option ℕ)) (picked lost : ℕ) → length picks ≡ ports v.site.grid → length wins ≡ ports v.site.grid → length v.arbiters.outputs ≡ ports v.site.grid
-    → IsAllocated v (ports v.site.grid) picks wins picked lost → wins ≡ wins_on (ports v.site.grid) v.site.vcs (ready_of v.site.vcs (view_stands v)) picks v.arbiters
-allocated-wins v picks wins picked lost long as_long outs so_far =
+pub allocated-wins : (v : View) (picks wins : List (Option ℕ)) (picked lost : ℕ) → length wins ≡ ports v.site.grid → length v.arbiters.outputs ≡ ports v.site.grid → IsAllocated v (ports v.site.grid) picks wins picked lost
+    → wins ≡ (view_round v).wins
+unfolding view_round
+allocated-wins v picks wins picked lost as_long outs so_far =
     tabulate-from_each (ports v.site.grid) (winner_of (ready_of v.site.vcs (view_stands v)) v.site.vcs (ports v.site.grid) (tabulate (ports v.site.grid) (pick_on v)) (pointers_of v.arbiters.outputs)) wins None as_long
     (λ o l. nearest-is (ports v.site.grid) (get_or (pointers_of v.arbiters.outputs) o 0) (λ q. is_some_of (way_on v q) o) (get_or wins o None) (so_far.wins_are o (omega arith)))
-    ∙ ap (λ xs. wins_on (ports v.site.grid) v.site.vcs (ready_of v.site.vcs (view_stands v)) xs v.arbiters) (sym (allocated-picks v picks wins picked lost long so_far))
 
 -- those that were picked and have not lost have won
 pub kept-won : (lost picked won less : Bool) → lost ≡ (picked && not won) → less ≡ (not lost && picked) → less ≡ (picked && won)
@@ -556,20 +556,21 @@ sized-view r v view is =
     })
 
 -- the input port of the first of the rest
-pub record AtPort (r : Inside) (v : View) (ready rest first q : ℕ) (picks wins : List (Option ℕ)) (picked lost : ℕ) : Type 0 where
+pub record AtPort (r : Inside) (v : View) (ready rest q : ℕ) (picks wins : List (Option ℕ)) (picked lost : ℕ) : Type 0 where
   pub inside : q < ports v.site.grid
   pub fits : (q + 1) * r.vcs ≤ 56
-  pub past : first < (q + 1) * r.vcs
+  pub smaller : (more : ℕ) → more ≤ rest → ((k : ℕ) → has_bit more k ≡ has_from ((q + 1) * r.vcs) rest k) → more < rest
   pub so_far : IsAllocated v q picks wins picked lost
   pub behind : (more : ℕ) (ps ws : List (Option ℕ)) (p l : ℕ) → ((k : ℕ) → has_bit more k ≡ has_from ((q + 1) * r.vcs) rest k) → IsAllocated v (q + 1) ps ws p l → IsAllocatedBut v ready more ps ws p l
 
-pub at-port : (r : Inside) (v : View) (ready rest first q : ℕ) (picks wins : List (Option ℕ)) (picked lost : ℕ) → view_of r ≡ v → IsRouter r → q ≡ first / r.indices.vcs → AreReady v ready
-    → IsLeast (in_both rest rest) (Some first) → IsAllocatedBut v ready rest picks wins picked lost → AtPort r v ready rest first q picks wins picked lost
-at-port r v ready rest first q picks wins picked lost view is place are least but =
+pub at-port : (r : Inside) (v : View) (ready rest first : ℕ) (place : ℕ × ℕ) (picks wins : List (Option ℕ)) (picked lost : ℕ) → view_of r ≡ v → IsRouter r → place ≡ (first / r.indices.vcs, first % r.indices.vcs)
+    → AreReady v ready → IsLeast (in_both rest rest) (Some first) → IsAllocatedBut v ready rest picks wins picked lost → AtPort r v ready rest place.0 picks wins picked lost
+at-port r v ready rest first place picks wins picked lost view is at are least but =
+    let q = place.0 in
     let vcs : r.vcs ≡ v.site.vcs = ap (λ (w : View). w.site.vcs) view in
     let grid : r.ports ≡ ports v.site.grid = is.ports ∙ ap (λ (w : View). ports w.site.grid) view in
     let some : 0 < v.site.vcs = (sized-view r v view is).some in
-    let same : first / v.site.vcs ≡ q = ap (λ n. first / n) (sym (is.index_vcs ∙ vcs)) ∙ sym place in
+    let same : first / v.site.vcs ≡ q = ap (λ n. first / n) (sym (is.index_vcs ∙ vcs)) ∙ sym (ap (λ (p : ℕ × ℕ). p.0) at) in
     let next : IsNext v q (but.next * v.site.vcs) picks wins picked lost =
     subst (λ p. IsNext v p (but.next * v.site.vcs) picks wins picked lost) same (allocated-up v ready rest first picks wins picked lost are some least but) in
     let inside : q < ports v.site.grid = next.inside in
@@ -578,9 +579,9 @@ at-port r v ready rest first q picks wins picked lost view is place are least bu
     record {
       inside = inside;
       fits = omega (arith, most, is.channels, r.channels.few);
-      past =
+      smaller = λ more fewer members.
           let l : first < (q + 1) * v.site.vcs = (div-lt_iff_lt-mul some).0 (omega (arith, same)) in
-          omega arith;
+          rest-smaller rest more ((q + 1) * r.vcs) first least (omega arith) fewer members;
       so_far = next.so_far;
       behind = λ more ps ws p l members.
           allocated-past v ready rest more q ps ws p l (but.next * v.site.vcs) inside next.behind but.left (λ k. members k ∙ ap (λ n. has_from n rest k) end);
@@ -595,49 +596,68 @@ pub record AtPick (r : Inside) (v : View) (q vc : ℕ) : Type 0 where
   pub active : is_active (view_input v (q * r.vcs + vc)).phase ≡ true
   pub out : ℕ
   pub goes : way_of v (q * v.site.vcs + vc) ≡ Some out
+  pub below : out < ports v.site.grid
 
-active_way : (vcs : ℕ) (phase : InputState) → is_active phase ≡ true → (o : ℕ) × (way_in vcs phase ≡ Some o)
-active_way vcs Idle e = absurd (false≢true e)
-active_way vcs (Waiting set) e = absurd (false≢true e)
-active_way vcs (Active o) e = (o / vcs, refl)
+active_way : (vcs n : ℕ) (phase : InputState) → is_active phase ≡ true → is_within n phase ≡ true → (o : ℕ) × (way_in vcs phase ≡ Some (o / vcs)) × (o < n)
+active_way vcs n Idle e within = absurd (false≢true e)
+active_way vcs n (Waiting set) e within = absurd (false≢true e)
+active_way vcs n (Active o) e within = (o, refl, ltb-true o n within)
 
-pub pick-view : (r : Inside) (v : View) (q : ℕ) (pick : Option ℕ) → view_of r ≡ v → IsRouter r
-    → pick ≡ pick_of (ready_of v.site.vcs (view_stands v)) r.arbiters.vcs (pointers_of (arbiter_states_in r.arbiters).inputs) q → pick ≡ pick_on v q
-pick-view r v q pick view is e =
+-- what the arbiters of a router pick, of the channels that are ready
+abbrev pub IsPick : Inside → ℕ → ℕ → Option ℕ → Type 0
+IsPick r ready q pick = (asked : List (Option ℕ)) → ((k : ℕ) → has_bit ready k ≡ is_some (get_or asked k None)) → pick ≡ pick_of asked r.arbiters.vcs (pointers_of r.arbiters.inputs.items) q
+
+pub pick-view : (r : Inside) (v : View) (ready q : ℕ) (pick : Option ℕ) → view_of r ≡ v → IsRouter r → AreReady v ready → IsPick r ready q pick → pick ≡ pick_on v q
+pick-view r v ready q pick view is are by =
     let vcs : r.arbiters.vcs ≡ v.site.vcs = is.arbiter_vcs ∙ ap (λ (w : View). w.site.vcs) view in
-    e ∙ ap (λ n. pick_of (ready_of v.site.vcs (view_stands v)) n (pointers_of (arbiter_states_in r.arbiters).inputs) q) vcs
+    by (ready_of v.site.vcs (view_stands v)) (ready-members v ready are) ∙ ap (λ n. pick_of (ready_of v.site.vcs (view_stands v)) n (pointers_of r.arbiters.inputs.items) q) vcs
     ∙ ap (λ (w : View). pick_of (ready_of v.site.vcs (view_stands v)) v.site.vcs (pointers_of w.arbiters.inputs) q) view
 
-pub at-pick : (r : Inside) (v : View) (ready q vc : ℕ) → view_of r ≡ v → IsRouter r → AreReady v ready → pick_on v q ≡ Some vc → AtPick r v q vc
-at-pick r v ready q vc view is are pick =
+pub at-pick : (r : Inside) (v : View) (ready q : ℕ) (one : Option ℕ) (vc : ℕ) → view_of r ≡ v → IsRouter r → AreReady v ready → IsPick r ready q one → one ≡ Some vc → AtPick r v q vc
+at-pick r v ready q one vc view is are by e =
+    let pick : pick_on v q ≡ Some vc = sym (pick-view r v ready q one view is are by) ∙ e in
     let same : q * r.vcs + vc ≡ q * v.site.vcs + vc = ap (λ (w : View). q * w.site.vcs + vc) view in
     let here : has_bit ready (q * v.site.vcs + vc) ≡ true = (pick-ready v ready q vc are pick).1 in
     let inside : q * v.site.vcs + vc < size_of v.site = are.below (q * v.site.vcs + vc) here in
     let active : is_active (view_input v (q * v.site.vcs + vc)).phase ≡ true = (and_parts _ _ (sym (are.each (q * v.site.vcs + vc) inside) ∙ here)).0 in
-    let way = active_way v.site.vcs (view_input v (q * v.site.vcs + vc)).phase active in
     let size : r.channels.size ≡ size_of v.site = is.channels ∙ ap (λ p. p * r.vcs) is.ports ∙ ap (λ (w : View). size_of w.site) view in
+    let within : is_within r.channels.size (view_input (view_of r) (q * v.site.vcs + vc)).phase ≡ true = r.channels.sound.owned_below (q * v.site.vcs + vc) (omega arith) in
+    let way = active_way v.site.vcs (size_of v.site) (view_input v (q * v.site.vcs + vc)).phase active
+    (ap (λ n. is_within n (view_input v (q * v.site.vcs + vc)).phase) (sym size) ∙ ap (λ (w : View). is_within r.channels.size (view_input w (q * v.site.vcs + vc)).phase) (sym view) ∙ within) in
     record {
       pick = pick;
       same = same;
       inside = omega arith;
       fits = omega (arith, r.channels.few);
       active = ap (λ j. is_active (view_input v j).phase) same ∙ active;
-      out = way.0;
+      out = way.0 / v.site.vcs;
       goes = way.1;
+      below = (div-lt_iff_lt-mul (sized-view r v view is).some).1 way.2;
     }
 
 -- its output port is offered to the input port, and one of two picks loses it
-pub allocated-offered : (r : Inside) (v : View) (ready q c : ℕ) (picks wins before ps ws : List (Option ℕ)) (picked more lost less : ℕ) (result : Option ℕ) → view_of r ≡ v → IsRouter r → AreReady v ready → q < ports v.site.grid
-    → length picks ≡ ports v.site.grid → length wins ≡ ports v.site.grid → (at : AtPick r v q c) → at.out < ports v.site.grid
-    → before ≡ set picks q (Some c) → ps ≡ before → ws ≡ firsts_after_request v.arbiters.outputs at.out q wins
-    → result ≡ option_and_then (pick_in v.site.vcs before) (farther (arbiter_at v.arbiters.outputs at.out).pointer (get_or wins at.out None) q)
+pub allocated-offered : (r : Inside) (v : View) (ready q c : ℕ) (old mid new : RequestLists) (picked more lost less : ℕ) (pick result : Option ℕ) → view_of r ≡ v → IsRouter r → AreReady v ready → q < ports v.site.grid
+    → length old.picks ≡ ports v.site.grid → length old.wins ≡ ports v.site.grid → (at : AtPick r v q c) → pick ≡ Some c → mid ≡ record old { picks = set old.picks q pick }
+    → ((o : ℕ) → way_of v (q * r.vcs + c) ≡ Some o → new ≡ record mid { wins = firsts_after_request v.arbiters.outputs o q mid.wins })
+    → ((o : ℕ) → way_of v (q * r.vcs + c) ≡ Some o → result ≡ option_and_then (pick_in v.site.vcs mid.picks) (farther (arbiter_at v.arbiters.outputs o).pointer (get_or mid.wins o None) q))
     → ((k : ℕ) → has_bit more k ≡ (nat_eq k (q * r.vcs + c) || has_bit picked k)) → ((k : ℕ) → has_bit less k ≡ (is_loser result k || has_bit lost k))
-    → IsAllocated v q picks wins picked lost → IsAllocated v (q + 1) ps ws more less
-allocated-offered r v ready q c picks wins before ps ws picked more lost less result view is are l long as_long at inside now later won loses members losers so_far =
+    → IsAllocated v q old.picks old.wins picked lost → IsAllocated v (q + 1) new.picks new.wins more less
+allocated-offered r v ready q c old mid new picked more lost less pick result view is are l long as_long at some pick_is offer_is loser_is members losers so_far =
+    let picks = old.picks in
+    let wins = old.wins in
+    let before = mid.picks in
     let sized = sized-view r v view is in
+    let goes : way_of v (q * r.vcs + c) ≡ Some at.out = ap (way_of v) at.same ∙ at.goes in
+    let offered = offer_is at.out goes in
+    let same_wins : mid.wins ≡ wins = ap (λ (x : RequestLists). x.wins) pick_is in
+    let now : before ≡ set picks q (Some c) = ap (λ (x : RequestLists). x.picks) pick_is ∙ ap (set picks q) some in
+    let later : new.picks ≡ before = ap (λ (x : RequestLists). x.picks) offered in
+    let won : new.wins ≡ firsts_after_request v.arbiters.outputs at.out q wins = ap (λ (x : RequestLists). x.wins) offered ∙ ap (firsts_after_request v.arbiters.outputs at.out q) same_wins in
+    let loses : result ≡ option_and_then (pick_in v.site.vcs before) (farther (arbiter_at v.arbiters.outputs at.out).pointer (get_or wins at.out None) q) =
+    loser_is at.out goes ∙ ap (λ ws. option_and_then (pick_in v.site.vcs before) (farther (arbiter_at v.arbiters.outputs at.out).pointer (get_or ws at.out None) q)) same_wins in
     let same_loser : result ≡ option_and_then (pick_in v.site.vcs (set picks q (Some c))) (farther (arbiter_at v.arbiters.outputs at.out).pointer (get_or wins at.out None) q) =
     loses ∙ ap (λ xs. option_and_then (pick_in v.site.vcs xs) (farther (arbiter_at v.arbiters.outputs at.out).pointer (get_or wins at.out None) q)) now in
     let after : IsAllocated v (q + 1) (set picks q (Some c)) (firsts_after_request v.arbiters.outputs at.out q wins) more less =
-    allocated-next v ready q c at.out picks wins picked more lost less are sized.some l long (as_long ∙ sym sized.each) sized.sizes (omega (arith, inside, sized.each)) at.pick at.goes
+    allocated-next v ready q c at.out picks wins picked more lost less are sized.some l long (as_long ∙ sym sized.each) sized.sizes (omega (arith, at.below, sized.each)) at.pick at.goes
     (λ k. members k ∙ ap (λ i. nat_eq k i || has_bit picked k) at.same) (λ k. losers k ∙ ap (λ x. is_loser x k || has_bit lost k) same_loser) so_far in
-    subst (λ xs. IsAllocated v (q + 1) xs ws more less) (sym (later ∙ now)) (subst (λ xs. IsAllocated v (q + 1) (set picks q (Some c)) xs more less) (sym won) after)
+    subst (λ xs. IsAllocated v (q + 1) xs new.wins more less) (sym (later ∙ now)) (subst (λ xs. IsAllocated v (q + 1) (set picks q (Some c)) xs more less) (sym won) after)

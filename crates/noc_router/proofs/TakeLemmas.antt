@@ -4,14 +4,14 @@ use Rattle.std.specs.Prelude.{◌&&◌, nat_lt, slice_index_or, if◌then◌else
 use Rattle.std.proofs.lemmas.List.{take_more, length-take}
 use Rattle.noc_packet.specs.declared.packet.Flit.{Flit}
 use Rattle.noc_packet.specs.declared.packet.Beat.{Beat}
-use Rattle.noc_ring.specs.Buffers.{buffers_after_push}
 use Rattle.noc_route.specs.Routes.{Routes}
-use Rattle.noc_vc.specs.Input.{fits, input_after_land}
+use Rattle.noc_vc.specs.Input.{fits}
 use Rattle.noc_vc.specs.Output.{credit_fits, output_after_credit}
 use Rattle.noc_router.specs.declared.channels.Channels.{Channels}
 use Rattle.noc_router.specs.declared.router.Router.TheInside.{Inside}
 use Rattle.noc_router.specs.Inside.{view_of}
-use Rattle.noc_router.specs.Sound.{nth_input, nth_output}
+use Rattle.noc_router.specs.Parts.{ChannelStates, states_after_credit, states_after_land, states_in}
+use Rattle.noc_router.specs.Sound.{nth_output}
 use Rattle.noc_router.specs.View.{View, has_link, view_buffer, view_input, view_output, saturating_next, with_flit, with_landed, with_misfit, with_credit, view_after_take, view_after_takes_from}
 
 -- whether a flit lands
@@ -64,16 +64,13 @@ no_fit relation port vc f v e =
     not_third (has_link v.site port) (nat_lt vc v.site.vcs) (fits relation v.site.node port vc v.site.places (view_buffer v (port * v.site.vcs + vc)) (view_input v (port * v.site.vcs + vc)) f) e
 
 -- the view once a flit has landed
-pub landed-view : (r : Inside) (channels : Channels) (i : ℕ) (f : Flit) → channels.bank ≡ buffers_after_push r.channels.bank i f
-    → channels.inputs.items ≡ slice_set r.channels.inputs.items i (input_after_land (nth_input r.channels.inputs.items i) f) → channels.outputs.items ≡ r.channels.outputs.items
-    → view_of (record r { channels = channels; had_event = true }) ≡ with_landed i f (view_of r)
-landed-view r channels i f bank inputs outputs = rw (bank, inputs, outputs)
+pub landed-view : (r : Inside) (channels : Channels) (i : ℕ) (f : Flit) → states_in channels ≡ states_after_land i f (states_in r.channels) → view_of (record r { channels = channels; had_event = true }) ≡ with_landed i f (view_of r)
+landed-view r channels i f states = ap (λ (s : ChannelStates). record (view_of r) { buffers = s.bank.rings; inputs = s.inputs; outputs = s.outputs; had_event = true }) states
 
 -- the view once a flit was turned away
-pub misfit-view : (r : Inside) (channels : Channels) (n : ℕ) → channels.bank ≡ r.channels.bank
-    → channels.inputs.items ≡ r.channels.inputs.items → channels.outputs.items ≡ r.channels.outputs.items → n ≡ saturating_next r.misfits
-    → view_of (record r { channels = channels; misfits = n }) ≡ with_misfit (view_of r)
-misfit-view r channels n bank inputs outputs more = rw (bank, inputs, outputs, more)
+pub misfit-view : (r : Inside) (channels : Channels) (n : ℕ) → states_in channels ≡ states_in r.channels → n ≡ saturating_next r.misfits → view_of (record r { channels = channels; misfits = n }) ≡ with_misfit (view_of r)
+misfit-view r channels n states more =
+    ap (λ (s : ChannelStates). record (view_of r) { buffers = s.bank.rings; inputs = s.inputs; outputs = s.outputs; misfits = n }) states ∙ ap (λ k. record (view_of r) { misfits = k }) more
 
 -- a credit arrives where it fits
 pub with_credit-fits : (port vc : ℕ) (v : View) → has_link v.site port ≡ true → nat_lt vc v.site.vcs ≡ true → credit_fits (view_output v (port * v.site.vcs + vc)) ≡ true
@@ -84,11 +81,10 @@ with_credit-fits port vc v link small fit =
     ap (λ b. if b then arrived else with_misfit v) (three (has_link v.site port) (nat_lt vc v.site.vcs) (credit_fits (view_output v o)) link small fit)
 
 -- the view once a credit has arrived
-pub credited-view : (r : Inside) (channels : Channels) (o : ℕ) → channels.bank ≡ r.channels.bank → channels.inputs.items ≡ r.channels.inputs.items
-    → channels.outputs.items ≡ slice_set r.channels.outputs.items o (output_after_credit (nth_output r.channels.outputs.items o))
+pub credited-view : (r : Inside) (channels : Channels) (o : ℕ) → states_in channels ≡ states_after_credit o (states_in r.channels)
     → view_of (record r { channels = channels; had_event = true })
     ≡ record (view_of r) { outputs = slice_set r.channels.outputs.items o (output_after_credit (nth_output r.channels.outputs.items o)); had_event = true }
-credited-view r channels o bank inputs outputs = rw (bank, inputs, outputs)
+credited-view r channels o states = ap (λ (s : ChannelStates). record (view_of r) { buffers = s.bank.rings; inputs = s.inputs; outputs = s.outputs; had_event = true }) states
 
 -- ---- one beat more
 

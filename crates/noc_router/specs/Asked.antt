@@ -1,14 +1,23 @@
 -- The requests of one router's input channels, and what is decided on them.
-use Rattle.std.specs.Prelude.{ℕ, ◌*◌, List, Option, None, replicate}
+use Rattle.std.specs.Prelude.{◌≡◌, ℕ, ◌*◌, List, Option, None, replicate}
 use Rattle.noc_topo.specs.Words.{tabulate}
-use Rattle.noc_alloc.specs.Allocation.{grant_of, pick_of, winner_of}
-use Rattle.noc_router.specs.Verdict.{ArbiterStates, Round, pointers_of}
+use Rattle.noc_alloc.specs.Allocation.{grant_of}
+use Rattle.noc_router.specs.Verdict.{ArbiterStates, Round, arbiters_after, pointers_of}
 use Rattle.noc_router.specs.declared.arbiters.Arbiters.{Arbiters}
 use Rattle.noc_router.specs.declared.requests.Requests.{Requests}
 
 -- the arbiters, as one record
 abbrev pub arbiter_states_in : Arbiters → ArbiterStates
 arbiter_states_in a = record { channels = a.channels.items; inputs = a.inputs.items; outputs = a.outputs.items }
+
+-- the arbiters of a router with so many ports and virtual channels
+pub record Turns : Type 0 where
+  pub ports : ℕ
+  pub vcs : ℕ
+  pub states : ArbiterStates
+
+abbrev pub turns_in : Arbiters → Turns
+turns_in a = record { ports = a.ports; vcs = a.vcs; states = arbiter_states_in a }
 
 -- what the arbiters have decided
 abbrev pub round_in : Requests → Round
@@ -18,6 +27,40 @@ round_in r = record {
   wins = r.wins;
 }
 
+-- what is asked for in a router with so many ports and channels, and who gets it
+pub record RequestLists : Type 0 where
+  pub ports : ℕ
+  pub size : ℕ
+  pub routes : List ℕ  -- by input channel, the set for its head
+  pub asks : List (Option ℕ)  -- by input channel, the output channel that it asks for
+  pub grants : List (Option ℕ)
+  pub picks : List (Option ℕ)
+  pub wins : List (Option ℕ)
+
+abbrev pub lists_in : Requests → RequestLists
+lists_in r = record { ports = r.ports; size = r.size; routes = r.routes.items; asks = r.asks; grants = r.grants; picks = r.picks; wins = r.wins }
+
+-- nobody asks for anything
+abbrev pub no_requests : ℕ → ℕ → RequestLists
+no_requests ports size = record {
+  ports = ports;
+  size = size;
+  routes = replicate size 0;
+  asks = replicate size None;
+  grants = replicate size None;
+  picks = replicate ports None;
+  wins = replicate ports None;
+}
+
+-- the arbiters and the requests are of one router
+pub record AreOfOneSize (a : Arbiters) (r : Requests) : Type 0 where
+  pub ports : a.ports ≡ r.ports
+  pub size : a.ports * a.vcs ≡ r.size
+
+-- the pointers of the output channels go on past the input channels that they were granted to
+abbrev pub channels_past : Round → ArbiterStates → ArbiterStates
+channels_past round turns = record turns { channels = (arbiters_after round turns).channels }
+
 -- a round that nobody has asked for, with so many ports and output channels
 abbrev pub no_round : ℕ → ℕ → Round
 no_round ports size = record { grants = replicate size None; picks = replicate ports None; wins = replicate ports None }
@@ -25,11 +68,3 @@ no_round ports size = record { grants = replicate size None; picks = replicate p
 -- the input channel that each output channel goes to
 abbrev pub grants_on : ℕ → ℕ → List (Option ℕ) → ArbiterStates → List (Option ℕ)
 grants_on ports vcs asks arbiters = tabulate (ports * vcs) (grant_of asks (ports * vcs) (pointers_of arbiters.channels))
-
--- the virtual channel that each input port picks
-abbrev pub picks_on : ℕ → ℕ → List (Option ℕ) → ArbiterStates → List (Option ℕ)
-picks_on ports vcs ready arbiters = tabulate ports (pick_of ready vcs (pointers_of arbiters.inputs))
-
--- the input port that wins each output port
-abbrev pub wins_on : ℕ → ℕ → List (Option ℕ) → List (Option ℕ) → ArbiterStates → List (Option ℕ)
-wins_on ports vcs ready picks arbiters = tabulate ports (winner_of ready vcs ports picks (pointers_of arbiters.outputs))

@@ -48,7 +48,7 @@ pub record IsRouter (r : Inside) : Type 0 where
   pub few_vcs : r.vcs ≤ MAX_CHANNELS
   pub channels : r.channels.size ≡ r.ports * r.vcs
   pub places : r.channels.bank.capacity ≡ r.places
-  pub leads : (port : ℕ) → port < 6 → slice_index_or r.links.leads port None ≡ neighbour r.shape r.node port
+  pub leads : (port : ℕ) → port < 6 → slice_index_or r.leads.places port None ≡ neighbour r.shape r.node port
   pub loaded : AreBelow (local_port r.shape) r.links.loaded
   pub sending : ForSome r.source.vc (λ vc. vc < r.vcs)
   -- the local channel that the source sends on awaits the next flit

@@ -8,6 +8,7 @@ pub mod Inside
 pub mod Links
 pub mod Members
 pub mod Offers
+pub mod Parts
 pub mod Places
 pub mod Planned
 pub mod Queue

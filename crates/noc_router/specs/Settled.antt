@@ -14,7 +14,7 @@ use Rattle.noc_router.specs.Sound.{nth_input, finding_with}
 use Rattle.noc_router.specs.declared.verdict.Verdict.{Verdict}
 use Rattle.noc_router.specs.declared.verdict.Verdict.TheVariants.{Empty, Routed, Granted, Moved}
 use Rattle.noc_router.specs.declared.verdict.Finding.{Finding}
-use Rattle.noc_router.specs.Verdict.{out_of}
+use Rattle.noc_router.specs.Verdict.{ArbiterStates, out_of}
 use Rattle.noc_router.specs.View.{View, Decisions, PlanContents, IsRelationOf, plan_contents, port_and_vc, view_claim, idle_beat, idle_beats, counts_after, size_of, view_buffer, view_input, view_output, first_flit, flit_out, tail_packet, with_arrival, decided_verdict, buffer_after, input_after, output_after, has_event, beat_out}
 
 -- the outcome of this very view
@@ -133,14 +133,13 @@ CanTakeEffect p v i _ = Unit {0}
 abbrev pub arbiters_past : ℕ → ℕ → List RoundRobin → List RoundRobin
 arbiters_past k winner turns = slice_set turns k (arbiter_after (arbiter_at turns k) (Some winner))
 
+-- those of an input port and an output port go on past the virtual channel and the input port that won
+abbrev pub states_past : ℕ → ℕ → ℕ → ArbiterStates → ArbiterStates
+states_past port vc output turns = record turns { inputs = arbiters_past port vc turns.inputs; outputs = arbiters_past output port turns.outputs }
+
 -- those of the ports of input channel i and output channel o go on past this input channel, which has sent to it
 abbrev pub switch_past : ℕ → ℕ → View → View
-switch_past i o v = record v {
-  arbiters = record v.arbiters {
-    inputs = arbiters_past (i / v.site.vcs) (i % v.site.vcs) v.arbiters.inputs;
-    outputs = arbiters_past (o / v.site.vcs) (i / v.site.vcs) v.arbiters.outputs;
-  };
-}
+switch_past i o v = record v { arbiters = states_past (i / v.site.vcs) (i % v.site.vcs) (o / v.site.vcs) v.arbiters }
 
 -- the pointers go on past input channel i, which was in this state and has sent
 abbrev pub passed_in_phase : ℕ → InputState → View → View

@@ -1,5 +1,6 @@
 -- What the input channels of a router can go on with, by sets.
 use Rattle.std.specs.Prelude.{◌≡◌, ℕ, ◌<◌, ◌≤◌, ◌/◌, ◌%◌, Bool, true, ◌&&◌, List, Option, Some, None, not, option_and_then, slice_index_or}
+use Rattle.noc_topo.specs.Shape.{ports}
 use Rattle.noc_topo.specs.Words.{is_some_of}
 use Rattle.noc_packet.specs.Set.{has_bit}
 use Rattle.noc_alloc.specs.Allocation.{is_won_by}
@@ -13,8 +14,9 @@ use Rattle.noc_router.specs.Requests.{pick_in}
 use Rattle.noc_router.specs.Sound.{AreStanding, is_supplied}
 use Rattle.noc_router.specs.Verdict.{Round, is_event}
 use Rattle.noc_router.specs.VerdictSets.{sets_with, verdict_by}
-use Rattle.noc_router.specs.View.{View, finding_of, size_of, view_buffer, view_input}
+use Rattle.noc_router.specs.View.{Site, View, finding_of, size_of, view_buffer, view_input}
 use Rattle.noc_router.specs.declared.channels.Standing.{Standing}
+use Rattle.noc_router.specs.declared.requests.Requests.{Requests}
 use Rattle.noc_router.specs.declared.verdict_sets.VerdictSets.{VerdictSets}
 
 -- the set has just the channels that hold a head which is not routed
@@ -35,6 +37,11 @@ pub record AreReady (v : View) (set : ℕ) : Type 0 where
 -- the set has just the channels that their input ports picked
 abbrev pub IsPickedIn : View → List (Option ℕ) → ℕ → Type 0
 IsPickedIn v picks set = (k : ℕ) → k < size_of v.site → has_bit set k ≡ is_some_of (slice_index_or picks (k / v.site.vcs) None) (k % v.site.vcs)
+
+-- the requests are of this router
+pub record AreRequestsOf (site : Site) (r : Requests) : Type 0 where
+  pub ports : r.ports ≡ ports site.grid
+  pub size : r.size ≡ size_of site
 
 -- the sets of all channels of a view
 abbrev pub IsStanding : View → Standing → Type 0

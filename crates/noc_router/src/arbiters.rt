@@ -7,7 +7,6 @@
 
 ghost use Rattle.std.specs.Prelude.{◌≡◌, ◌*◌, ◌<◌, ◌≤◌, All, IfOk, vec_len};
 ghost use Rattle.noc_packet.specs.declared.limits.TheConstants.{MAX_CHANNELS, MAX_PORTS};
-ghost use Rattle.noc_router.specs.Settled.{arbiters_past};
 ghost use Rattle.noc_router.specs.Verdict.{opening_arbiters};
 
 use noc_alloc::Arbiter;
@@ -32,15 +31,15 @@ pub(crate) struct Arbiters {
 }
 
 impl Arbiters {
+    ghost use Rattle.noc_router.specs.Asked.{arbiter_states_in, turns_in};
+    ghost use Rattle.noc_router.specs.Settled.{states_past};
+
     pub(crate) fn new(alloc: Global, ports: usize, vcs: usize) -> Result<Arbiters, Memory>
         requires some_port { 0 < ports }
         requires ports { ports ≤ MAX_PORTS }
         requires some_vc { 0 < vcs }
         requires vcs { vcs ≤ MAX_CHANNELS }
-        ensures sizes { IfOk result (λ arbiters. (arbiters.ports ≡ ports) × (arbiters.vcs ≡ vcs)) }
-        ensures channels { IfOk result (λ arbiters. arbiters.channels.items ≡ (opening_arbiters ports vcs).channels) }
-        ensures inputs { IfOk result (λ arbiters. arbiters.inputs.items ≡ (opening_arbiters ports vcs).inputs) }
-        ensures outputs { IfOk result (λ arbiters. arbiters.outputs.items ≡ (opening_arbiters ports vcs).outputs) }
+        ensures { IfOk result (λ arbiters. turns_in arbiters ≡ record { ports = ports; vcs = vcs; states = opening_arbiters ports vcs }) }
     {
         let size = ports * vcs;
         Ok(Arbiters {
@@ -57,11 +56,7 @@ impl Arbiters {
         requires port { port < self.old.ports }
         requires vc { vc < self.old.vcs }
         requires output { output < self.old.ports }
-        ensures ports { self.new.ports ≡ self.old.ports }
-        ensures vcs { self.new.vcs ≡ self.old.vcs }
-        ensures channels { self.new.channels.items ≡ self.old.channels.items }
-        ensures inputs { self.new.inputs.items ≡ arbiters_past port vc self.old.inputs.items }
-        ensures outputs { self.new.outputs.items ≡ arbiters_past output port self.old.outputs.items }
+        ensures { turns_in self.new ≡ record (turns_in self.old) { states = states_past port vc output (arbiter_states_in self.old) } }
     {
         self.inputs[port].advance(Some(vc));
         self.outputs[output].advance(Some(port));

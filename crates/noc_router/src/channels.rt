@@ -11,8 +11,8 @@ ghost use Rattle.noc_topo.specs.Shape.{nodes as nodes_of, ports as ports_of};
 ghost use Rattle.noc_topo.specs.Words.{below};
 ghost use Rattle.noc_packet.specs.Set.{has_bit};
 ghost use Rattle.noc_packet.specs.declared.limits.TheConstants.{INDICES};
-ghost use Rattle.noc_ring.specs.Buffers.{empty_buffers, buffer_at, buffers_after_push, buffers_after_pop};
-ghost use Rattle.noc_vc.specs.Input.{idle_input, is_idle_phase, is_waiting, is_empty, fits, input_after_land, input_after_route, input_after_grant, input_after_send};
+ghost use Rattle.noc_ring.specs.Buffers.{empty_buffers, buffer_at, buffers_after_pop};
+ghost use Rattle.noc_vc.specs.Input.{idle_input, is_idle_phase, is_waiting, is_empty, fits, input_after_route, input_after_grant, input_after_send};
 ghost use Rattle.noc_vc.specs.Output.{ejection_output, link_output, is_free, is_owned, has_credit, credit_fits, output_after_credit, output_after_hold, output_after_spend};
 ghost use Rattle.noc_router.specs.Members.{AreBelow, is_within};
 ghost use Rattle.noc_router.specs.Sound.{nth_input, nth_output, is_occupied, is_awaiting, KeepsAwaiting, AreSound, AreStanding, asked_in, finding_with};
@@ -68,6 +68,8 @@ pub(crate) struct Channels {
 }
 
 impl Channels {
+    ghost use Rattle.noc_router.specs.Parts.{opening_states, states_after_credit, states_after_grant, states_after_land, states_after_route, states_after_send, states_in};
+
     // Empty channels, with so many places in each buffer: the first `links` output channels go on links, the
     // others are ejection channels.
     pub(crate) fn new(
@@ -81,10 +83,7 @@ impl Channels {
         requires links { links ≤ size }
         requires some_place { 0 < places }
         requires places { places ≤ MAX_BUFFER }
-        ensures size { IfOk result (λ channels. channels.size ≡ size) }
-        ensures bank { IfOk result (λ channels. channels.bank ≡ empty_buffers size places) }
-        ensures inputs { IfOk result (λ channels. channels.inputs.items ≡ replicate size idle_input) }
-        ensures outputs { IfOk result (λ channels. channels.outputs.items ≡ replicate links (link_output places) ++ replicate (size - links) ejection_output) }
+        ensures { IfOk result (λ channels. states_in channels ≡ opening_states size links places) }
     {
         let bank = Bank::new(alloc, size, places)?;
         let mut inputs = Vec::new(alloc);
@@ -152,11 +151,7 @@ impl Channels {
         requires port { port < ports_of relation.now.grid }
         requires vc { vc < relation.now.vcs }
         ensures fits { result ≡ fits relation.now router port vc self.old.bank.capacity (buffer_at self.old.bank index) (nth_input self.old.inputs.items index) flit.now }
-        ensures bank { self.new.bank ≡ (if result then buffers_after_push self.old.bank index flit.now else self.old.bank) }
-        ensures inputs { self.new.inputs.items ≡ (if result then slice_set self.old.inputs.items index (input_after_land (nth_input self.old.inputs.items index) flit.now) else self.old.inputs.items) }
-        ensures outputs { self.new.outputs.items ≡ self.old.outputs.items }
-        ensures size { self.new.size ≡ self.old.size }
-        ensures places { self.new.bank.capacity ≡ self.old.bank.capacity }
+        ensures states { states_in self.new ≡ (if result then states_after_land index flit.now (states_in self.old) else states_in self.old) }
     {
         let input = &mut self.inputs[index];
         match input.land_from(&mut self.bank, index, relation, router, port, vc, flit) {
@@ -174,11 +169,7 @@ impl Channels {
         requires exists { index < self.old.size }
         requires room { length (buffer_at self.old.bank index) < self.old.bank.capacity }
         requires next { is_empty (buffer_at self.old.bank index) ≡ true ⊎ is_awaiting self.old.inputs.items index ≡ true }
-        ensures bank { self.new.bank ≡ buffers_after_push self.old.bank index flit }
-        ensures inputs { self.new.inputs.items ≡ slice_set self.old.inputs.items index (input_after_land (nth_input self.old.inputs.items index) flit) }
-        ensures outputs { self.new.outputs.items ≡ self.old.outputs.items }
-        ensures size { self.new.size ≡ self.old.size }
-        ensures places { self.new.bank.capacity ≡ self.old.bank.capacity }
+        ensures { states_in self.new ≡ states_after_land index flit (states_in self.old) }
     {
         self.inputs[index].inject(&mut self.bank, index, flit);
         self.filled = self.filled.with(index);
@@ -188,11 +179,7 @@ impl Channels {
     pub(crate) fn credit_back(&mut self, index: usize) -> bool
         requires { index < self.old.size }
         ensures fits { result ≡ credit_fits (nth_output self.old.outputs.items index) }
-        ensures outputs { self.new.outputs.items ≡ (if result then slice_set self.old.outputs.items index (output_after_credit (nth_output self.old.outputs.items index)) else self.old.outputs.items) }
-        ensures bank { self.new.bank ≡ self.old.bank }
-        ensures inputs { self.new.inputs.items ≡ self.old.inputs.items }
-        ensures size { self.new.size ≡ self.old.size }
-        ensures places { self.new.bank.capacity ≡ self.old.bank.capacity }
+        ensures states { states_in self.new ≡ (if result then states_after_credit index (states_in self.old) else states_in self.old) }
     {
         let output = &mut self.outputs[index];
         if output.credit_back().is_err() {
@@ -282,11 +269,7 @@ impl Channels {
         requires exists { index < self.old.size }
         requires idle { (nth_input self.old.inputs.items index).phase ≡ InputState.Idle }
         requires head { 0 < length (buffer_at self.old.bank index) }
-        ensures inputs { self.new.inputs.items ≡ slice_set self.old.inputs.items index (input_after_route (nth_input self.old.inputs.items index) set) }
-        ensures bank { self.new.bank ≡ self.old.bank }
-        ensures outputs { self.new.outputs.items ≡ self.old.outputs.items }
-        ensures size { self.new.size ≡ self.old.size }
-        ensures places { self.new.bank.capacity ≡ self.old.bank.capacity }
+        ensures states { states_in self.new ≡ states_after_route index set (states_in self.old) }
         ensures awaits { KeepsAwaiting self.old.inputs.items self.new.inputs.items }
     {
         self.inputs[index].route(set);
@@ -299,11 +282,7 @@ impl Channels {
         requires output { next < self.old.size }
         requires waits { is_waiting (nth_input self.old.inputs.items index).phase ≡ true }
         requires free { is_free (nth_output self.old.outputs.items next).holder ≡ true }
-        ensures inputs { self.new.inputs.items ≡ slice_set self.old.inputs.items index (input_after_grant (nth_input self.old.inputs.items index) next) }
-        ensures outputs { self.new.outputs.items ≡ slice_set self.old.outputs.items next (output_after_hold (nth_output self.old.outputs.items next) index (unwrap_or (nth_input self.old.inputs.items index).packet 0)) }
-        ensures bank { self.new.bank ≡ self.old.bank }
-        ensures size { self.new.size ≡ self.old.size }
-        ensures places { self.new.bank.capacity ≡ self.old.bank.capacity }
+        ensures states { states_in self.new ≡ states_after_grant index next (states_in self.old) }
         ensures awaits { KeepsAwaiting self.old.inputs.items self.new.inputs.items }
     {
         let input = &mut self.inputs[index];
@@ -324,11 +303,7 @@ impl Channels {
         requires some { 0 < length (buffer_at self.old.bank index) }
         requires credit { has_credit (nth_output self.old.outputs.items next) ≡ true }
         ensures value { slice_get (buffer_at self.old.bank index) 0 ≡ Some result }
-        ensures bank { self.new.bank ≡ buffers_after_pop self.old.bank index }
-        ensures inputs { self.new.inputs.items ≡ slice_set self.old.inputs.items index (input_after_send (nth_input self.old.inputs.items index) result) }
-        ensures outputs { self.new.outputs.items ≡ slice_set self.old.outputs.items next (output_after_spend result.last (nth_output self.old.outputs.items next)) }
-        ensures size { self.new.size ≡ self.old.size }
-        ensures places { self.new.bank.capacity ≡ self.old.bank.capacity }
+        ensures states { states_in self.new ≡ states_after_send index next result (states_in self.old) }
         ensures awaits { KeepsAwaiting self.old.inputs.items self.new.inputs.items }
     {
         let flit = self.inputs[index].send(&mut self.bank, index);

@@ -10,6 +10,7 @@ mod counters;
 mod digit;
 mod findings;
 mod indices;
+mod leads;
 mod links;
 mod places;
 mod plan;

@@ -1,20 +1,17 @@
-//! The links of a router, and the beats that are still to be put on them.
+//! The beats that are still to be put on the links of a router.
 
-ghost use Rattle.std.specs.Prelude.{◌≡◌, ℕ, ◌<◌, ◌==◌, ◌||◌, ◌&&◌, not, false, IsTrue, ◌↔◌, Some, None, replicate, slice_index_or, slice_set};
+ghost use Rattle.std.specs.Prelude.{◌≡◌, ℕ, ◌<◌, ◌==◌, ◌||◌, ◌&&◌, not, false, Some, replicate, slice_index_or, slice_set};
 ghost use Rattle.noc_packet.specs.Set.{has_bit};
 ghost use Rattle.noc_topo.specs.declared.limits.TheConstants.{LINKS};
-ghost use Rattle.noc_topo.specs.Shape.{nodes as nodes_of, ports as ports_of, neighbour as neighbour_of};
 ghost use Rattle.noc_router.specs.Links.{AreLoaded};
 ghost use Rattle.noc_router.specs.View.{idle_beat};
 
 use noc_packet::{Beat, ChannelSet, Flit};
-use noc_topo::{LINKS, Shape};
+use noc_topo::LINKS;
 
-/// Where each link port leads, and the beat that leaves by it.
+/// The beat that leaves by each link port.
 #[derive(Drop)]
 pub(crate) struct Links {
-    // The neighbour at a port, and the port by which a flit enters there, in a byte each.
-    leads: [Option<(u8, u8)>; LINKS],
     beats: [Beat; LINKS],
     // The ports whose beat is not idle.
     loaded: ChannelSet,
@@ -22,40 +19,19 @@ pub(crate) struct Links {
 }
 
 impl Links {
-    pub(crate) fn new(shape: &Shape, node: usize) -> Links
-        requires { node < nodes_of shape.now }
-        ensures leads { (port : ℕ) → port < LINKS → slice_index_or result.leads port None ≡ neighbour_of shape.now node port }
+    pub(crate) fn new() -> Links
         ensures beats { result.beats ≡ replicate LINKS idle_beat }
         ensures loaded { result.loaded ≡ 0 }
     {
-        let mut leads = [None; LINKS];
-        for port in 0..LINKS {
-            if port < shape.ports() {
-                leads[port] = lead(shape, node, port);
-            }
-        }
         Links {
-            leads,
             beats: [Beat::idle(); LINKS],
             loaded: ChannelSet::empty(),
-        }
-    }
-
-    // The neighbour at a port, and the port by which a flit enters there.
-    pub(crate) fn neighbour(&self, port: usize) -> Option<(usize, usize)>
-        requires { port < LINKS }
-        ensures { result ≡ slice_index_or self.now.leads port None }
-    {
-        match self.leads[port] {
-            Some((node, entry)) => Some((usize::from(node), usize::from(entry))),
-            None => None,
         }
     }
 
     // Every beat is idle again. Mostly all of them are: each was put on its link.
     #[inline(always)]
     pub(crate) fn clear(&mut self)
-        ensures leads { self.new.leads ≡ self.old.leads }
         ensures beats { self.new.beats ≡ replicate LINKS idle_beat }
         ensures loaded { (k : ℕ) → has_bit self.new.loaded k ≡ false }
     {
@@ -67,7 +43,6 @@ impl Links {
     // Every beat is idle again, where some are not.
     #[inline(never)]
     fn clear_loaded(&mut self)
-        ensures leads { self.new.leads ≡ self.old.leads }
         ensures beats { self.new.beats ≡ replicate LINKS idle_beat }
         ensures loaded { (k : ℕ) → has_bit self.new.loaded k ≡ false }
     {
@@ -85,7 +60,6 @@ impl Links {
     // A flit leaves by a link port.
     pub(crate) fn load_flit(&mut self, port: usize, vc: u8, flit: Flit)
         requires { port < LINKS }
-        ensures leads { self.new.leads ≡ self.old.leads }
         ensures beats { self.new.beats ≡ slice_set self.old.beats port (record (slice_index_or self.old.beats port idle_beat) { flit = Some (vc, flit) }) }
         ensures loaded { (k : ℕ) → has_bit self.new.loaded k ≡ (k == port || has_bit self.old.loaded k) }
     {
@@ -96,7 +70,6 @@ impl Links {
     // A credit returns by a link port.
     pub(crate) fn load_credit(&mut self, port: usize, vc: u8)
         requires { port < LINKS }
-        ensures leads { self.new.leads ≡ self.old.leads }
         ensures beats { self.new.beats ≡ slice_set self.old.beats port (record (slice_index_or self.old.beats port idle_beat) { credit = Some vc }) }
         ensures loaded { (k : ℕ) → has_bit self.new.loaded k ≡ (k == port || has_bit self.old.loaded k) }
     {
@@ -115,7 +88,6 @@ impl Links {
     pub(crate) fn unload(&mut self, port: usize) -> Beat
         requires { port < LINKS }
         ensures beat { result ≡ slice_index_or self.old.beats port idle_beat }
-        ensures leads { self.new.leads ≡ self.old.leads }
         ensures beats { self.new.beats ≡ slice_set self.old.beats port idle_beat }
         ensures loaded { (k : ℕ) → has_bit self.new.loaded k ≡ (not (k == port) && has_bit self.old.loaded k) }
     {
@@ -124,14 +96,4 @@ impl Links {
         self.loaded = self.loaded.without(port);
         beat
     }
-}
-
-// Where a port leads, in a byte each: there are at most 256 nodes.
-fn lead(shape: &Shape, node: usize, port: usize) -> Option<(u8, u8)>
-    requires node { node < nodes_of shape.now }
-    requires port { port < ports_of shape.now }
-    ensures { result ≡ neighbour_of shape.now node port }
-{
-    let (neighbour, entry) = shape.neighbour(node, port)?;
-    Some((neighbour as u8, entry as u8))
 }

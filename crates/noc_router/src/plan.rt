@@ -8,10 +8,10 @@
 ghost use Rattle.std.specs.Prelude.{◌≡◌, ℕ, ◌<◌, IfOk, IfSome, length, slice_index, slice_index_or, None};
 ghost use Rattle.noc_topo.specs.Shape.{ports as ports_of};
 ghost use Rattle.noc_packet.specs.Set.{has_bit};
-ghost use Rattle.noc_router.specs.Asked.{arbiter_states_in};
+ghost use Rattle.noc_router.specs.Asked.{arbiter_states_in, channels_past, turns_in};
 ghost use Rattle.noc_router.specs.Decided.{IsDecidedFor, empty_plan_contents};
 ghost use Rattle.noc_router.specs.declared.verdict.Verdict.TheVariants.{Empty};
-ghost use Rattle.noc_router.specs.Verdict.{arbiters_after, is_event, is_granted, is_moved};
+ghost use Rattle.noc_router.specs.Verdict.{is_event, is_granted, is_moved};
 
 use crate::arbiters::Arbiters;
 use crate::requests::Requests;
@@ -60,9 +60,7 @@ impl Plan {
     // The pointers of the output channels go on past the input channels that they were granted to.
     pub(crate) fn advance(&self, arbiters: &mut Arbiters)
         requires lengths { IsDecidedFor arbiters.old.ports arbiters.old.vcs self.now }
-        ensures ports { arbiters.new.ports ≡ arbiters.old.ports }
-        ensures vcs { arbiters.new.vcs ≡ arbiters.old.vcs }
-        ensures turns { arbiter_states_in arbiters.new ≡ record (arbiter_states_in arbiters.old) { channels = (arbiters_after self.now.round (arbiter_states_in arbiters.old)).channels } }
+        ensures { turns_in arbiters.new ≡ record (turns_in arbiters.old) { states = channels_past self.now.round (arbiter_states_in arbiters.old) } }
     {
         self.requests.advance(arbiters);
     }

@@ -45,18 +45,14 @@ pub(crate) struct Requests {
 }
 
 impl Requests {
-    ghost use Rattle.noc_router.specs.Asked.{grants_on, no_round, round_in, arbiter_states_in};
-    ghost use Rattle.noc_router.specs.Verdict.{arbiters_after, pointers_of};
+    ghost use Rattle.noc_router.specs.Asked.{AreOfOneSize, arbiter_states_in, channels_past, grants_on, lists_in, no_requests, round_in, turns_in};
+    ghost use Rattle.noc_router.specs.Verdict.{pointers_of};
 
     // No requests, for routers with so many ports, and so many channels in and out.
     pub(crate) fn new(alloc: Global, ports: usize, size: usize) -> Result<Requests, Memory>
         requires ports { ports ≤ MAX_PORTS }
         requires size { size ≤ INDICES }
-        ensures ports { IfOk result (λ requests. requests.ports ≡ ports) }
-        ensures size { IfOk result (λ requests. requests.size ≡ size) }
-        ensures routes { IfOk result (λ requests. requests.routes.items ≡ replicate size 0) }
-        ensures asks { IfOk result (λ requests. requests.asks ≡ replicate size None) }
-        ensures round { IfOk result (λ requests. round_in requests ≡ no_round ports size) }
+        ensures { IfOk result (λ requests. lists_in requests ≡ no_requests ports size) }
     {
         Ok(Requests {
             ports,
@@ -72,10 +68,7 @@ impl Requests {
 
     // No channel has a request.
     pub(crate) fn clear(&mut self)
-        ensures ports { self.new.ports ≡ self.old.ports }
-        ensures size { self.new.size ≡ self.old.size }
-        ensures routes { self.new.routes.items ≡ replicate self.old.size 0 }
-        ensures asks { self.new.asks ≡ replicate self.old.size None }
+        ensures { lists_in self.new ≡ record (lists_in self.old) { routes = replicate self.old.size 0; asks = replicate self.old.size None } }
     {
         while let Some(index) = self.routed.least_common(&self.routed) {
             self.forget(index);
@@ -86,8 +79,7 @@ impl Requests {
     // The head of an input channel gets no set.
     fn forget(&mut self, index: usize)
         requires { index < self.old.size }
-        ensures ports { self.new.ports ≡ self.old.ports }
-        ensures size { self.new.size ≡ self.old.size }
+        ensures lists { lists_in self.new ≡ record (lists_in self.old) { routes = slice_set self.old.routes.items index 0 } }
         ensures fewer { has_bit self.old.routed index ≡ true → self.new.routed < self.old.routed }
     {
         self.routes[index] = ChannelSet::empty();
@@ -97,10 +89,7 @@ impl Requests {
     // The head of an input channel is to get this set.
     pub(crate) fn add_route(&mut self, index: usize, set: ChannelSet)
         requires { index < self.old.size }
-        ensures ports { self.new.ports ≡ self.old.ports }
-        ensures size { self.new.size ≡ self.old.size }
-        ensures routes { self.new.routes.items ≡ slice_set self.old.routes.items index set }
-        ensures asks { self.new.asks ≡ self.old.asks }
+        ensures { lists_in self.new ≡ record (lists_in self.old) { routes = slice_set self.old.routes.items index set } }
     {
         self.routed = self.routed.with(index);
         self.routes[index] = set;
@@ -110,35 +99,22 @@ impl Requests {
     pub(crate) fn set_ask(&mut self, index: usize, output: Option<usize>)
         requires input { index < self.old.size }
         requires output { IfSome output (λ o. o < self.old.size) }
-        ensures ports { self.new.ports ≡ self.old.ports }
-        ensures size { self.new.size ≡ self.old.size }
-        ensures routes { self.new.routes.items ≡ self.old.routes.items }
-        ensures asks { self.new.asks ≡ slice_set self.old.asks index output }
+        ensures { lists_in self.new ≡ record (lists_in self.old) { asks = slice_set self.old.asks index output } }
     {
         self.asks.set(index, output);
     }
 
     // The arbiters of the output channels decide on the requests.
     pub(crate) fn grant_all(&mut self, arbiters: &Arbiters)
-        requires size { arbiters.now.ports * arbiters.now.vcs ≡ self.old.size }
-        ensures ports { self.new.ports ≡ self.old.ports }
-        ensures size { self.new.size ≡ self.old.size }
-        ensures routes { self.new.routes.items ≡ self.old.routes.items }
-        ensures asks { self.new.asks ≡ self.old.asks }
-        ensures grants { (round_in self.new).grants ≡ grants_on arbiters.now.ports arbiters.now.vcs self.old.asks (arbiter_states_in arbiters.now) }
+        requires { AreOfOneSize arbiters.now self.old }
+        ensures { lists_in self.new ≡ record (lists_in self.old) { grants = grants_on arbiters.now.ports arbiters.now.vcs self.old.asks (arbiter_states_in arbiters.now) } }
     {
         allocate_channels(&self.asks, &arbiters.channels, &mut self.grants);
     }
 
     // No input port has picked a channel, and no output port is won.
     pub(crate) fn clear_switch(&mut self)
-        ensures ports { self.new.ports ≡ self.old.ports }
-        ensures size { self.new.size ≡ self.old.size }
-        ensures routes { self.new.routes.items ≡ self.old.routes.items }
-        ensures asks { self.new.asks ≡ self.old.asks }
-        ensures grants { (round_in self.new).grants ≡ (round_in self.old).grants }
-        ensures picks { (round_in self.new).picks ≡ replicate self.old.ports None }
-        ensures wins { (round_in self.new).wins ≡ replicate self.old.ports None }
+        ensures { lists_in self.new ≡ record (lists_in self.old) { picks = replicate self.old.ports None; wins = replicate self.old.ports None } }
     {
         self.picks.clear();
         self.wins.clear();
@@ -151,16 +127,9 @@ impl Requests {
         port: usize,
         arbiters: &Arbiters,
     ) -> Option<usize>
+        requires size { AreOfOneSize arbiters.now self.old }
         requires port { port < self.old.ports }
-        requires ports { arbiters.now.ports ≡ self.old.ports }
-        requires size { arbiters.now.ports * arbiters.now.vcs ≡ self.old.size }
-        ensures ports { self.new.ports ≡ self.old.ports }
-        ensures size { self.new.size ≡ self.old.size }
-        ensures routes { self.new.routes.items ≡ self.old.routes.items }
-        ensures asks { self.new.asks ≡ self.old.asks }
-        ensures grants { (round_in self.new).grants ≡ (round_in self.old).grants }
-        ensures wins { (round_in self.new).wins ≡ (round_in self.old).wins }
-        ensures picks { (round_in self.new).picks ≡ slice_set (round_in self.old).picks port result }
+        ensures picks { lists_in self.new ≡ record (lists_in self.old) { picks = slice_set self.old.picks port result } }
         ensures pick { (asked : List (Option ℕ)) → ((k : ℕ) → has_bit ready k ≡ is_some (slice_index_or asked k None)) → result ≡ pick_of asked arbiters.now.vcs (pointers_of (arbiter_states_in arbiters.now).inputs) port }
         ensures within { IfSome result (λ vc. vc < arbiters.now.vcs) }
     {
@@ -172,19 +141,12 @@ impl Requests {
     // The pick of an input port goes to an output port, which is won by the nearer of this input port and of the one that
     // has won it so far. The input channel that the other has picked is given back.
     pub(crate) fn offer(&mut self, port: usize, output: usize, arbiters: &Arbiters) -> Option<usize>
+        requires size { AreOfOneSize arbiters.now self.old }
         requires input { port < self.old.ports }
         requires output { output < self.old.ports }
-        requires ports { arbiters.now.ports ≡ self.old.ports }
-        requires size { arbiters.now.ports * arbiters.now.vcs ≡ self.old.size }
-        requires picks { AllBelow arbiters.now.vcs (round_in self.old).picks }
-        ensures ports { self.new.ports ≡ self.old.ports }
-        ensures size { self.new.size ≡ self.old.size }
-        ensures routes { self.new.routes.items ≡ self.old.routes.items }
-        ensures asks { self.new.asks ≡ self.old.asks }
-        ensures grants { (round_in self.new).grants ≡ (round_in self.old).grants }
-        ensures picks { (round_in self.new).picks ≡ (round_in self.old).picks }
-        ensures wins { (round_in self.new).wins ≡ firsts_after_request (arbiter_states_in arbiters.now).outputs output port (round_in self.old).wins }
-        ensures loser { result ≡ option_and_then (pick_in arbiters.now.vcs (round_in self.old).picks) (farther (arbiter_at (arbiter_states_in arbiters.now).outputs output).pointer (slice_index_or (round_in self.old).wins output None) port) }
+        requires picks { AllBelow arbiters.now.vcs self.old.picks }
+        ensures wins { lists_in self.new ≡ record (lists_in self.old) { wins = firsts_after_request arbiters.now.outputs.items output port self.old.wins } }
+        ensures loser { result ≡ option_and_then (pick_in arbiters.now.vcs self.old.picks) (farther (arbiter_at arbiters.now.outputs.items output).pointer (slice_index_or self.old.wins output None) port) }
         ensures within { IfSome result (λ index. index < self.new.size) }
     {
         let loser = offer(&arbiters.outputs, output, port, &mut self.wins)?;
@@ -194,12 +156,8 @@ impl Requests {
 
     // The pointers of the output channels go on past the input channels that they were granted to.
     pub(crate) fn advance(&self, arbiters: &mut Arbiters)
-        requires size { arbiters.old.ports * arbiters.old.vcs ≡ self.now.size }
-        ensures ports { arbiters.new.ports ≡ arbiters.old.ports }
-        ensures vcs { arbiters.new.vcs ≡ arbiters.old.vcs }
-        ensures channels { arbiters.new.channels.items ≡ (arbiters_after (round_in self.now) (arbiter_states_in arbiters.old)).channels }
-        ensures inputs { arbiters.new.inputs.items ≡ arbiters.old.inputs.items }
-        ensures outputs { arbiters.new.outputs.items ≡ arbiters.old.outputs.items }
+        requires { AreOfOneSize arbiters.old self.now }
+        ensures { turns_in arbiters.new ≡ record (turns_in arbiters.old) { states = channels_past (round_in self.now) (arbiter_states_in arbiters.old) } }
     {
         advance_channels(&self.grants, &mut arbiters.channels);
     }
@@ -213,7 +171,7 @@ impl Requests {
 
     // The input channels that get the output channel that they ask for.
     pub(crate) fn granted(&self) -> ChannelSet
-        ensures { (k : ℕ) → has_bit result k ≡ is_given (round_in self.now).grants (slice_index_or self.now.asks k None) k }
+        ensures { (k : ℕ) → has_bit result k ≡ is_given self.now.grants (slice_index_or self.now.asks k None) k }
     {
         let mut granted = ChannelSet::empty();
         let mut rest = self.asks.filled();
@@ -227,7 +185,7 @@ impl Requests {
     // Whether an input channel gets the output channel that it asks for.
     fn is_granted(&self, index: usize) -> bool
         requires { index < self.now.size }
-        ensures { result ≡ is_given (round_in self.now).grants (slice_index_or self.now.asks index None) index }
+        ensures { result ≡ is_given self.now.grants (slice_index_or self.now.asks index None) index }
     {
         match self.asks.get(index) {
             Some(output) => self.grants.get(output) == Some(index),

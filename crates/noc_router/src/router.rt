@@ -9,7 +9,7 @@ ghost use Rattle.noc_router.specs.Members.{AreBelow};
 ghost use Rattle.noc_vc.specs.Input.{is_active, is_empty};
 ghost use Rattle.noc_vc.specs.Output.{has_credit};
 ghost use Rattle.noc_router.specs.Arrivals.{noted_arrival};
-ghost use Rattle.noc_router.specs.Asked.{no_round, picks_on, round_in, wins_on};
+ghost use Rattle.noc_router.specs.Asked.{channels_past, lists_in, round_in};
 ghost use Rattle.noc_router.specs.Decided.{IsDecidedFor};
 ghost use Rattle.noc_router.specs.Found.{empty_finding};
 ghost use Rattle.noc_router.specs.Injection.{next_vc, vacant_vc};
@@ -17,20 +17,21 @@ ghost use Rattle.noc_router.specs.Links.{is_idle_beat};
 ghost use Rattle.noc_router.specs.Requests.{AllBelow, AreAmong};
 ghost use Rattle.noc_router.specs.Settled.{AreContentsFor, CanGrant, CanTakeEffect, decisions_by, effect_of, planned_verdict, passed_by, switch_past, view_after_tally, view_after_verdicts, view_after_route, view_after_grant, moved_by, credit_put, flit_put};
 ghost use Rattle.noc_router.specs.Sound.{is_awaiting, is_occupied};
-ghost use Rattle.noc_router.specs.Standing.{AreHeads, AreReady, AreVerdictsOf, AreWaiting, HaveWon, IsPickedIn, IsStanding, loser_of, way_of};
+ghost use Rattle.noc_router.specs.Standing.{AreHeads, AreReady, AreRequestsOf, AreVerdictsOf, AreWaiting, HaveWon, IsPickedIn, IsStanding, loser_of, way_of};
 ghost use Rattle.noc_route.specs.Routes.{Routes};
 ghost use Rattle.noc_packet.specs.Set.{has_bit};
 ghost use Rattle.noc_router.specs.Start.{IsNumberedPacket};
 ghost use Rattle.noc_router.specs.Still.{IsHeldBefore, takes_effect, view_after_waiting};
 ghost use Rattle.noc_router.specs.Tally.{finding_at};
-ghost use Rattle.noc_router.specs.Verdict.{asks_of, is_event, ready_of, arbiters_after};
-ghost use Rattle.noc_router.specs.View.{IsRelationOf, local_channel, size_of, view_buffer, opening_view, with_flit, with_credit, view_after_take, view_after_takes, view_after_inject, decisions_of, plan_contents, view_after_commit, beat_to_put, view_after_put, idle_beats, local_step, finding_of, route_for, route_of, view_claim, view_output, view_stands, first_flit, view_input, port_and_vc, with_arrival, counts_after};
+ghost use Rattle.noc_router.specs.Verdict.{arbiters_after, asks_of, is_event};
+ghost use Rattle.noc_router.specs.View.{IsRelationOf, local_channel, size_of, view_buffer, opening_view, with_flit, with_credit, view_after_take, view_after_takes, view_after_inject, decisions_of, plan_contents, view_after_commit, beat_to_put, view_after_put, idle_beats, local_step, finding_of, route_for, route_of, view_claim, view_output, view_round, view_stands, first_flit, view_input, port_and_vc, with_arrival, counts_after};
 ghost use Rattle.noc_router.specs.declared.verdict.Verdict.TheVariants.{Empty};
 
 use crate::arbiters::Arbiters;
 use crate::arrivals::Arrivals;
 use crate::channels::{Channels, Standing};
 use crate::indices::Indices;
+use crate::leads::Leads;
 use crate::links::Links;
 use crate::plan::Plan;
 use crate::requests::Requests;
@@ -63,6 +64,7 @@ pub struct Router {
     misfits: u64,
     source: Source,
     channels: Channels,
+    leads: Leads,
     links: Links,
     tally: Tally,
     arbiters: Arbiters,
@@ -117,7 +119,8 @@ impl Router {
             misfits: 0,
             source: Source::new(starts),
             channels: Channels::new(alloc, ports * vcs, (ports - 1) * vcs, places)?,
-            links: Links::new(&shape, node),
+            leads: Leads::new(&shape, node),
+            links: Links::new(),
             tally: Tally::new(alloc, ports * vcs)?,
             arbiters: Arbiters::new(alloc, ports, vcs)?,
             arrivals: Arrivals::new(alloc, ends)?,
@@ -149,7 +152,7 @@ impl Router {
         ensures { self.new ≡ with_flit relation.now port (Some (vc, flit.now)) self.old }
     {
         if vc < self.vcs
-            && self.links.neighbour(port).is_some()
+            && self.leads.neighbour(port).is_some()
             && self
                 .channels
                 .land(port * self.vcs + vc, relation, self.node, port, vc, flit)
@@ -167,7 +170,7 @@ impl Router {
         ensures { self.new ≡ with_credit port (Some vc) self.old }
     {
         if vc < self.vcs
-            && self.links.neighbour(port).is_some()
+            && self.leads.neighbour(port).is_some()
             && self.channels.credit_back(port * self.vcs + vc)
         {
             self.had_event = true;
@@ -246,10 +249,7 @@ impl Router {
         requires heads { AreHeads self.now heads }
         requires size { requests.old.size ≡ size_of self.now.site }
         requires none { requests.old.routes.items ≡ replicate (size_of self.now.site) 0 }
-        ensures ports { requests.new.ports ≡ requests.old.ports }
-        ensures size { requests.new.size ≡ requests.old.size }
-        ensures routes { requests.new.routes.items ≡ tabulate (size_of self.now.site) (route_of relation.now self.now) }
-        ensures asks { requests.new.asks ≡ requests.old.asks }
+        ensures { lists_in requests.new ≡ record (lists_in requests.old) { routes = tabulate (size_of self.now.site) (route_of relation.now self.now) } }
     {
         let mut rest = heads;
         while let Some(index) = rest.least_common(&rest) {
@@ -275,10 +275,7 @@ impl Router {
         requires waiting { AreWaiting self.now waiting }
         requires size { requests.old.size ≡ size_of self.now.site }
         requires none { requests.old.asks ≡ replicate (size_of self.now.site) None }
-        ensures ports { requests.new.ports ≡ requests.old.ports }
-        ensures size { requests.new.size ≡ requests.old.size }
-        ensures routes { requests.new.routes.items ≡ requests.old.routes.items }
-        ensures asks { requests.new.asks ≡ asks_of (view_stands self.now) }
+        ensures { lists_in requests.new ≡ record (lists_in requests.old) { asks = asks_of (view_stands self.now) } }
     {
         let mut rest = waiting;
         while let Some(index) = rest.least_common(&rest) {
@@ -295,18 +292,11 @@ impl Router {
         requests: &mut Requests,
     ) -> (ChannelSet, ChannelSet)
         requires ready { AreReady self.now ready }
-        requires ports { requests.old.ports ≡ ports_of self.now.site.grid }
-        requires size { requests.old.size ≡ size_of self.now.site }
-        ensures ports { requests.new.ports ≡ requests.old.ports }
-        ensures size { requests.new.size ≡ requests.old.size }
-        ensures routes { requests.new.routes.items ≡ requests.old.routes.items }
-        ensures asks { requests.new.asks ≡ requests.old.asks }
-        ensures grants { (round_in requests.new).grants ≡ (round_in requests.old).grants }
-        ensures picks { (round_in requests.new).picks ≡ picks_on (ports_of self.now.site.grid) self.now.site.vcs (ready_of self.now.site.vcs (view_stands self.now)) self.now.arbiters }
-        ensures wins { (round_in requests.new).wins ≡ wins_on (ports_of self.now.site.grid) self.now.site.vcs (ready_of self.now.site.vcs (view_stands self.now)) (round_in requests.new).picks self.now.arbiters }
-        ensures within { AllBelow self.now.site.vcs (round_in requests.new).picks }
+        requires size { AreRequestsOf self.now.site requests.old }
+        ensures lists { lists_in requests.new ≡ record (lists_in requests.old) { picks = (view_round self.now).picks; wins = (view_round self.now).wins } }
+        ensures within { AllBelow self.now.site.vcs requests.new.picks }
         ensures among { AreAmong ready result.0 }
-        ensures picked { IsPickedIn self.now (round_in requests.new).picks result.0 }
+        ensures picked { IsPickedIn self.now requests.new.picks result.0 }
         ensures moved { HaveWon self.now (round_in requests.new) result.0 result.1 }
     {
         let mut picked = ChannelSet::empty();
@@ -333,17 +323,9 @@ impl Router {
         requires port { port < ports_of self.now.site.grid }
         requires index { index < size_of self.now.site }
         requires active { is_active (view_input self.now index).phase ≡ true }
-        requires ports { requests.old.ports ≡ ports_of self.now.site.grid }
-        requires size { requests.old.size ≡ size_of self.now.site }
-        requires picks { AllBelow self.now.site.vcs (round_in requests.old).picks }
-        ensures ports { requests.new.ports ≡ requests.old.ports }
-        ensures size { requests.new.size ≡ requests.old.size }
-        ensures routes { requests.new.routes.items ≡ requests.old.routes.items }
-        ensures asks { requests.new.asks ≡ requests.old.asks }
-        ensures grants { (round_in requests.new).grants ≡ (round_in requests.old).grants }
-        ensures picks { (round_in requests.new).picks ≡ (round_in requests.old).picks }
-        ensures way { IfSome (way_of self.now index) (λ output. output < ports_of self.now.site.grid) }
-        ensures wins { (output : ℕ) → way_of self.now index ≡ Some output → (round_in requests.new).wins ≡ firsts_after_request self.now.arbiters.outputs output port (round_in requests.old).wins }
+        requires size { AreRequestsOf self.now.site requests.old }
+        requires picks { AllBelow self.now.site.vcs requests.old.picks }
+        ensures wins { (output : ℕ) → way_of self.now index ≡ Some output → lists_in requests.new ≡ record (lists_in requests.old) { wins = firsts_after_request self.now.arbiters.outputs output port requests.old.wins } }
         ensures loser { (output : ℕ) → way_of self.now index ≡ Some output → result ≡ loser_of self.now (round_in requests.old) output port }
         ensures within { IfSome result (λ loser. loser < size_of self.now.site) }
     {
@@ -367,7 +349,7 @@ impl Router {
         requires size { requests.now.size ≡ size_of self.now.site }
         requires asks { requests.now.asks ≡ asks_of (view_stands self.now) }
         requires ready { AreAmong standing.now.ready picked }
-        requires picked { IsPickedIn self.now (round_in requests.now).picks picked }
+        requires picked { IsPickedIn self.now requests.now.picks picked }
         requires moved { HaveWon self.now (round_in requests.now) picked moved }
         ensures { AreVerdictsOf self.now (round_in requests.now) result }
     {
@@ -534,7 +516,7 @@ impl Router {
     // The pointers of the output channels go on past the input channels that they were granted to.
     fn advance_channel_pointers(&mut self, plan: &Plan)
         requires lengths { IsDecidedFor (ports_of self.old.site.grid) self.old.site.vcs plan.now }
-        ensures { self.new ≡ record self.old { arbiters = record self.old.arbiters { channels = (arbiters_after plan.now.round self.old.arbiters).channels } } }
+        ensures { self.new ≡ record self.old { arbiters = channels_past plan.now.round self.old.arbiters } }
     {
         plan.advance(&mut self.arbiters);
     }
@@ -731,7 +713,7 @@ impl Router {
         requires { port < local_port self.now.site.grid }
         ensures { result ≡ neighbour_of self.now.site.grid self.now.site.node port }
     {
-        self.links.neighbour(port)
+        self.leads.neighbour(port)
     }
 
     /// What was found in the last cycle that ended with `commit` or `step`, by input channel (port * V + virtual channel):

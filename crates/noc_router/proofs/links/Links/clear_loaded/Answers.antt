@@ -1,4 +1,4 @@
-use Rattle.std.proofs.Common.{◌≡◌, ℕ, ◌<◌, ◌+◌, false, set, refl, ap, sym, subst, ◌∙◌, arith}
+use Rattle.std.proofs.Common.{◌≡◌, ℕ, ◌<◌, ◌+◌, false, set, ap, sym, subst, ◌∙◌, arith}
 use Rattle.noc_packet.specs.declared.packet.Beat.{Beat}
 use Rattle.noc_router.specs.Links.{AreLoaded}
 use Rattle.noc_packet.specs.Set.{has_bit}
@@ -10,12 +10,12 @@ use Rattle.noc_router.proofs.links.Links.clear_loaded.Goals.{then-port-lt-LINKS,
 pub returns-after-loop-clause-beats : goal.returns-after-loop-clause-beats
 returns-after-loop-clause-beats c =
     let l = c.loop.self in
-    all_idle 6 l.beats l.loaded l.marked (none_below 6 l.beats l.loaded l.marked (λ k h. c.loop.invariant.1 k (omega arith)))
+    all_idle 6 l.beats l.loaded l.marked (none_below 6 l.beats l.loaded l.marked (λ k h. c.loop.invariant k (omega arith)))
 
 pub returns-after-loop-clause-loaded : goal.returns-after-loop-clause-loaded
 returns-after-loop-clause-loaded c =
     let l = c.loop.self in
-    none_below 6 l.beats l.loaded l.marked (λ k h. c.loop.invariant.1 k (omega arith))
+    none_below 6 l.beats l.loaded l.marked (λ k h. c.loop.invariant k (omega arith))
 
 pub returns-in_default-clause-beats : goal.returns-in_default-clause-beats
 returns-in_default-clause-beats c =
@@ -24,14 +24,14 @@ returns-in_default-clause-beats c =
 
 pub loop-preserved : goal.loop-preserved
 loop-preserved c =
-    let none : (k : ℕ) → k < c.loop.counter + 1 → has_bit c.without-self.result k ≡ false = none_below-more c.loop.counter c.in-Some.port c.loop.self.loaded c.without-self.result c.in-Some.ensures.least c.without-self.ensures.members c.loop.invariant.1 in
+    let none : (k : ℕ) → k < c.loop.counter + 1 → has_bit c.without-self.result k ≡ false = none_below-more c.loop.counter c.in-Some.port c.loop.self.loaded c.without-self.result c.in-Some.ensures.least c.without-self.ensures.members c.loop.invariant in
     elim c.if-port-lt-LINKS.branch [
-      | then-port-lt-LINKS w ↦ (ap (λ (x : Links). x.leads) w.self-is ∙ c.loop.invariant.0, λ k h. ap (λ (x : Links). has_bit x.loaded k) w.self-is ∙ none k h)
-      | else-port-lt-LINKS w ↦ (ap (λ (x : Links). x.leads) w.self-is ∙ c.loop.invariant.0, λ k h. ap (λ (x : Links). has_bit x.loaded k) w.self-is ∙ none k h)
+      | then-port-lt-LINKS w ↦ λ k h. ap (λ (x : Links). has_bit x.loaded k) w.self-is ∙ none k h
+      | else-port-lt-LINKS w ↦ λ k h. ap (λ (x : Links). has_bit x.loaded k) w.self-is ∙ none k h
     ]
 
 pub loop-init : goal.loop-init
-loop-init c = (refl, λ k l. absurd (omega arith))
+loop-init c = λ k l. absurd (omega arith)
 
 pub invariant_of-self : goal.invariant_of-self
 invariant_of-self c =
@@ -49,9 +49,3 @@ without-self-requires c = c.in-Some.ensures.within
 
 pub returns-in_default-clause-loaded : goal.returns-in_default-clause-loaded
 returns-in_default-clause-loaded c = none_from_search c.loop.self.loaded c.in_default.ensures.least
-
-pub returns-in_default-clause-leads : goal.returns-in_default-clause-leads
-returns-in_default-clause-leads c = c.loop.invariant.0
-
-pub returns-after-loop-clause-leads : goal.returns-after-loop-clause-leads
-returns-after-loop-clause-leads c = c.loop.invariant.0

@@ -1,7 +1,8 @@
-use Rattle.std.proofs.Common.{◌≡◌, ◌*◌, ◌∙◌, ap, arith, length, sym, subst}
+use Rattle.std.proofs.Common.{◌≡◌, ◌*◌, ◌∙◌, ap, arith, length, refl, sym, subst}
 use Rattle.noc_topo.specs.Shape.{ports}
 use Rattle.noc_topo.specs.Words.{tabulate}
 use Rattle.noc_topo.proofs.WordLemmas.{get_or-tabulate, length-tabulate}
+use Rattle.noc_router.specs.Asked.{RequestLists}
 use Rattle.noc_router.specs.Decided.{IsDecidedFor, empty_plan_contents}
 use Rattle.noc_router.specs.VerdictSets.{verdict_by}
 use Rattle.noc_router.specs.declared.verdict.Verdict.TheVariants.{Empty}
@@ -19,9 +20,9 @@ returns-clause-value c =
     let r = c.in_ok-new.field-0 in
     let m = c.ports-ports.result in
     let vcs = c.vcs.result in
-    let long : length (tabulate r.size (verdict_by c.empty.result)) ≡ m * vcs = length-tabulate r.size (verdict_by c.empty.result) ∙ c.in_ok-new.ensures.size in
-    no_outcome-parts m vcs _ c.in_ok-new.ensures.round c.in_ok-new.ensures.asks long
-    (λ k l. get_or-tabulate r.size k (verdict_by c.empty.result) Empty (omega (arith, c.in_ok-new.ensures.size)) ∙ c.empty.ensures.verdicts k) c.in_ok-new.ensures.routes
+    let size : r.size ≡ m * vcs = ap (λ (x : RequestLists). x.size) c.in_ok-new.ensures in
+    let long : length (tabulate r.size (verdict_by c.empty.result)) ≡ m * vcs = length-tabulate r.size (verdict_by c.empty.result) ∙ size in
+    no_outcome-parts m vcs r _ c.in_ok-new.ensures refl refl refl long (λ k l. get_or-tabulate r.size k (verdict_by c.empty.result) Empty (omega arith) ∙ c.empty.ensures.verdicts k)
     ∙ ap (λ n. empty_plan_contents n vcs) (c.ports-ports.ensures.value ∙ ap ports c.shape.ensures.value) ∙ ap (empty_plan_contents (ports c.args.relation.now.grid)) c.vcs.ensures.value
 
 pub returns-clause-lengths : goal.returns-clause-lengths

@@ -1,4 +1,5 @@
 use Rattle.std.proofs.Common.{◌≡◌, None}
+use Rattle.noc_router.specs.Asked.{lists_in}
 use Rattle.noc_router.specs.Requests.{AreAmong, IsFilled}
 use Rattle.noc_router.specs.Verdict.{ask_of}
 use Rattle.noc_router.specs.View.{size_of, view_claim}
@@ -8,9 +9,7 @@ use Rattle.noc_router.proofs.router.Router.ask_for_channels.Given as goal
 abbrev pub invariant-loop-index : goal.invariant-loop-index
 invariant-loop-index l = record {
   among : AreAmong l.fn.waiting l.rest;
-  ports : l.requests.ports ≡ l.initial.requests.ports;
-  size : l.requests.size ≡ l.initial.requests.size;
-  routes : l.requests.routes.items ≡ l.initial.requests.routes.items;
+  lists : lists_in l.requests ≡ record (lists_in l.initial.requests) { asks = l.requests.asks };
   asks : IsFilled (size_of l.self.site) l.rest None (λ k. ask_of (view_claim l.self k)) l.requests.asks;
 }
 

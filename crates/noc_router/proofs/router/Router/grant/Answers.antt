@@ -1,6 +1,7 @@
-use Rattle.std.proofs.Common.{true}
+use Rattle.std.proofs.Common.{true, ap}
+use Rattle.noc_router.specs.Parts.{ChannelStates}
 use Rattle.noc_router.proofs.RouterLemmas.{IsRouter-channels}
 use Rattle.noc_router.proofs.router.Router.grant.Goals as goal
 
 pub invariant_of-self : goal.invariant_of-self
-invariant_of-self c = IsRouter-channels c.self.inside c.grant.new.self true c.self.invariant c.grant.ensures.size c.grant.ensures.places c.grant.ensures.awaits
+invariant_of-self c = IsRouter-channels c.self.inside c.grant.new.self true c.self.invariant (ap (λ (s : ChannelStates). s.size) c.grant.ensures.states) (ap (λ (s : ChannelStates). s.bank.capacity) c.grant.ensures.states) c.grant.ensures.awaits

@@ -21,5 +21,5 @@ returns c =
     let r = c.self.inside in
     goes-view r c.args.cycle c.in-Some.vc _ c.in-Some-next_flit.flit c.inject.new.self c.sent.new.self r.source.at_head
     (sym c.next_flit.ensures ∙ c.in-Some-next_flit.is) (sym c.next_channel.ensures.value ∙ c.in-Some.is) (local-index r c.in-Some.vc c.self.invariant)
-    c.inject.ensures.bank c.inject.ensures.inputs c.inject.ensures.outputs c.sent.ensures.queue c.sent.ensures.sending
+    c.inject.ensures c.sent.ensures.queue c.sent.ensures.sending
     ∙ ap (λ (v : View). view_after_inject c.args.cycle v) c.self.view_is

@@ -1,12 +1,13 @@
 use Rattle.std.proofs.Common.{◌≡◌, ◌<◌, true, ap, ◌∙◌, arith, rules}
 use Rattle.noc_topo.specs.Shape.{ports}
+use Rattle.noc_router.specs.Parts.{ChannelStates}
 use Rattle.noc_router.specs.View.{Site, View}
 use Rattle.noc_router.proofs.RouterLemmas.{IsRouter-channels}
 use Rattle.noc_router.proofs.SiteLemmas.{put-site}
 use Rattle.noc_router.proofs.router.Router.move_flit.Goals as goal
 
 pub invariant_of-self : goal.invariant_of-self
-invariant_of-self c = IsRouter-channels c.self.inside c.send-flit.new.self true c.self.invariant c.send-flit.ensures.size c.send-flit.ensures.places c.send-flit.ensures.awaits
+invariant_of-self c = IsRouter-channels c.self.inside c.send-flit.new.self true c.self.invariant (ap (λ (s : ChannelStates). s.size) c.send-flit.ensures.states) (ap (λ (s : ChannelStates). s.bank.capacity) c.send-flit.ensures.states) c.send-flit.ensures.awaits
 
 pub advance_switch_pointers-requires-clause-port : goal.advance_switch_pointers-requires-clause-port
 advance_switch_pointers-requires-clause-port c =

@@ -6,11 +6,10 @@ use Rattle.noc_router.proofs.router.Router.new.Goals as goal
 
 pub returns : goal.returns
 returns c =
-    opening-is c.args.node c.ports-ports.result c.vcs-vcs.result c.args.places c.shape.result.now c.new.result c.in_ok-new.field-0 c.new-3.result c.in_ok-new-2.field-0 c.in_ok-new-3.field-0 c.in_ok-new-4.field-0 c.in_ok-new-5.field-0 c.args.starts.items c.args.ends.items
+    opening-is c.args.node c.ports-ports.result c.vcs-vcs.result c.args.places c.shape.result.now c.new.result c.in_ok-new.field-0 c.new-3.result c.new-4.result c.in_ok-new-2.field-0 c.in_ok-new-3.field-0 c.in_ok-new-4.field-0 c.in_ok-new-5.field-0 c.args.starts.items c.args.ends.items
     c.ports-ports.ensures.grid c.ports-ports.ensures.value c.new.ensures.queue c.new.ensures.vc
-    c.in_ok-new.ensures.bank c.in_ok-new.ensures.inputs c.in_ok-new.ensures.outputs c.new-3.ensures.beats
+    c.in_ok-new.ensures c.new-4.ensures.beats
     c.in_ok-new-2.ensures
-    c.in_ok-new-3.ensures.channels c.in_ok-new-3.ensures.inputs c.in_ok-new-3.ensures.outputs
-    c.in_ok-new-4.ensures
+    c.in_ok-new-3.ensures c.in_ok-new-4.ensures
     ∙ ap (λ (g : Grid). opening_view (record { grid = g; node = c.args.node; vcs = c.vcs-vcs.result; places = c.args.places }) c.args.starts.items c.args.ends.items) c.shape.ensures.value
     ∙ ap (λ n. opening_view (record { grid = c.args.relation.now.grid; node = c.args.node; vcs = n; places = c.args.places }) c.args.starts.items c.args.ends.items) c.vcs-vcs.ensures.value

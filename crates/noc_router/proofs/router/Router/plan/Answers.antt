@@ -1,11 +1,13 @@
 use Rattle.std.proofs.Common.{◌≡◌, ℕ, List, Option, ap, arith, length, subst, sym, ◌∙◌}
 use Rattle.noc_topo.specs.Shape.{ports}
+use Rattle.noc_topo.specs.Words.{tabulate}
 use Rattle.noc_topo.proofs.WordLemmas.{get_or-tabulate, length-tabulate}
-use Rattle.noc_router.specs.Asked.{grants_on, round_in}
+use Rattle.noc_router.specs.Asked.{RequestLists, arbiter_states_in, grants_on, round_in}
 use Rattle.noc_router.specs.Decided.{IsDecidedFor}
 use Rattle.noc_router.specs.Standing.{IsStanding}
 use Rattle.noc_router.specs.VerdictSets.{verdict_by}
-use Rattle.noc_router.specs.View.{PlanContents, size_of}
+use Rattle.noc_router.specs.Verdict.{asks_of}
+use Rattle.noc_router.specs.View.{PlanContents, route_of, size_of, view_stands}
 use Rattle.noc_router.specs.declared.verdict.Verdict.TheVariants.{Empty}
 use Rattle.noc_router.proofs.PlannedLemmas.{grants-view, outcome-lengths, outcome-parts, round-made}
 use Rattle.noc_router.proofs.StandLemmas.{standing-view}
@@ -30,14 +32,19 @@ returns-clause-value c =
     let sets = c.verdicts-plan-inside.result in
     let before : c.plan.inside.requests.size ≡ size_of v.site =
     sym c.plan.inside.requests.an_ask_each ∙ ap (λ (o : PlanContents). length o.asks) c.plan.view_is ∙ c.requires.plan.asks in
-    let size : n.size ≡ size_of v.site = c.allocate_switch.ensures.size ∙ c.grant_all.ensures.size ∙ c.ask_for_channels.ensures.size ∙ c.route_heads.ensures.size ∙ c.clear.ensures.size ∙ before in
-    let grants : n.grants ≡ grants_on (ports v.site.grid) v.site.vcs asked v.arbiters =
-    c.allocate_switch.ensures.grants ∙ c.grant_all.ensures.grants ∙ grants-view r v asked c.self.view_is c.self.invariant in
+    let own : grants_on r.arbiters.ports r.arbiters.vcs asked (arbiter_states_in r.arbiters) ≡ grants_on (ports v.site.grid) v.site.vcs asked v.arbiters = grants-view r v asked c.self.view_is c.self.invariant in
+    let size_in = λ (x : RequestLists). x.size in
+    let asks_in = λ (x : RequestLists). x.asks in
+    let routes_in = λ (x : RequestLists). x.routes in
+    let grants_in = λ (x : RequestLists). x.grants in
+    let size : n.size ≡ size_of v.site = ap size_in c.allocate_switch.ensures.lists ∙ ap size_in c.grant_all.ensures ∙ ap size_in c.ask_for_channels.ensures ∙ ap size_in c.route_heads.ensures ∙ ap size_in c.clear.ensures ∙ before in
+    let asks : n.asks ≡ asks_of (view_stands v) = ap asks_in c.allocate_switch.ensures.lists ∙ ap asks_in c.grant_all.ensures ∙ ap asks_in c.ask_for_channels.ensures in
+    let routes : n.routes.items ≡ tabulate (size_of v.site) (route_of c.args.relation.now v) =
+    ap routes_in c.allocate_switch.ensures.lists ∙ ap routes_in c.grant_all.ensures ∙ ap routes_in c.ask_for_channels.ensures ∙ ap routes_in c.route_heads.ensures in
+    let grants : n.grants ≡ grants_on (ports v.site.grid) v.site.vcs asked v.arbiters = ap grants_in c.allocate_switch.ensures.lists ∙ ap grants_in c.grant_all.ensures ∙ own in
     outcome-parts c.args.relation.now v _
-    (round-made v asked (round_in n) c.ask_for_channels.ensures.asks grants c.allocate_switch.ensures.picks c.allocate_switch.ensures.wins)
-    (c.allocate_switch.ensures.asks ∙ c.grant_all.ensures.asks ∙ c.ask_for_channels.ensures.asks) (length-tabulate n.size (verdict_by sets) ∙ size)
-    (λ k l. get_or-tabulate n.size k (verdict_by sets) Empty (omega arith) ∙ c.verdicts-plan-inside.ensures.verdicts k l)
-    (c.allocate_switch.ensures.routes ∙ c.grant_all.ensures.routes ∙ c.ask_for_channels.ensures.routes ∙ c.route_heads.ensures.routes)
+    (round-made v asked (round_in n) (ap (λ (x : RequestLists). x.asks) c.ask_for_channels.ensures) grants (ap (λ (x : RequestLists). x.picks) c.allocate_switch.ensures.lists) (ap (λ (x : RequestLists). x.wins) c.allocate_switch.ensures.lists))
+    asks (length-tabulate n.size (verdict_by sets) ∙ size) (λ k l. get_or-tabulate n.size k (verdict_by sets) Empty (omega arith) ∙ c.verdicts-plan-inside.ensures.verdicts k l) routes
 
 pub returns-clause-lengths : goal.returns-clause-lengths
 returns-clause-lengths c =
@@ -49,7 +56,8 @@ invariant_of-plan c =
     let n = c.allocate_switch.new.requests in
     let before : c.plan.inside.requests.size ≡ size_of v.site =
     sym c.plan.inside.requests.an_ask_each ∙ ap (λ (o : PlanContents). length o.asks) c.plan.view_is ∙ c.requires.plan.asks in
-    let size : n.size ≡ size_of v.site = c.allocate_switch.ensures.size ∙ c.grant_all.ensures.size ∙ c.ask_for_channels.ensures.size ∙ c.route_heads.ensures.size ∙ c.clear.ensures.size ∙ before in
+    let size_in = λ (x : RequestLists). x.size in
+    let size : n.size ≡ size_of v.site = ap size_in c.allocate_switch.ensures.lists ∙ ap size_in c.grant_all.ensures ∙ ap size_in c.ask_for_channels.ensures ∙ ap size_in c.route_heads.ensures ∙ ap size_in c.clear.ensures ∙ before in
     record {
       events = λ k e. let l = c.verdicts-plan-inside.ensures.events k e in omega arith;
       apart = λ k l. c.verdicts-plan-inside.ensures.apart k (omega arith);

@@ -8,7 +8,7 @@ use Rattle.noc_router.proofs.router.Router.put.Goals as goal
 pub invariant_of-self : goal.invariant_of-self
 invariant_of-self c =
     let r = c.self.inside in
-    relinked r c.unload.new.self c.self.invariant c.unload.ensures.leads (below-without (local_port r.shape) c.args.port r.links.loaded c.unload.new.self.loaded c.unload.ensures.loaded c.self.invariant.loaded)
+    relinked r c.unload.new.self c.self.invariant (below-without (local_port r.shape) c.args.port r.links.loaded c.unload.new.self.loaded c.unload.ensures.loaded c.self.invariant.loaded)
 
 pub returns-clause-view : goal.returns-clause-view
 returns-clause-view c =

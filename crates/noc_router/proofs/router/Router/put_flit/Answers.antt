@@ -11,7 +11,7 @@ use Rattle.noc_router.proofs.router.Router.put_flit.Goals as goal
 pub invariant_of-self : goal.invariant_of-self
 invariant_of-self c =
     let r = c.self.inside in
-    relinked r c.load_flit.new.self c.self.invariant c.load_flit.ensures.leads
+    relinked r c.load_flit.new.self c.self.invariant
     (below-with (local_port r.shape) c.args.port r.links.loaded c.load_flit.new.self.loaded c.load_flit.ensures.loaded (omega arith) c.self.invariant.loaded)
 
 pub returns-then-port-self : goal.returns-then-port-self

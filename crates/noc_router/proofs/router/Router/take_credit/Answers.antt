@@ -16,18 +16,18 @@ invariant_of-self-else-vc-self c =
     elim c.else-vc-self.branch [
       | else-vc-self-via-then-vc-self+then-is_some+else-credit_back w ↦
           subst (λ (i : Inside). IsRouter (record i { misfits = n })) (sym w.self-inside-is)
-          (IsRouter-misfit r w.credit_back.new.self n c.self.invariant w.if-credit_back.ensures.size w.if-credit_back.ensures.places w.if-credit_back.ensures.inputs)
+          (IsRouter-misfit r w.credit_back.new.self n c.self.invariant w.if-credit_back.ensures.states)
       | else-vc-self-via-then-vc-self+else-is_some w ↦
-          subst (λ (i : Inside). IsRouter (record i { misfits = n })) (sym w.self-inside-is) (IsRouter-misfit r r.channels n c.self.invariant refl refl refl)
+          subst (λ (i : Inside). IsRouter (record i { misfits = n })) (sym w.self-inside-is) (IsRouter-misfit r r.channels n c.self.invariant refl)
       | else-vc-self-via-else-vc-self w ↦
-          subst (λ (i : Inside). IsRouter (record i { misfits = n })) (sym w.self-inside-is) (IsRouter-misfit r r.channels n c.self.invariant refl refl refl)
+          subst (λ (i : Inside). IsRouter (record i { misfits = n })) (sym w.self-inside-is) (IsRouter-misfit r r.channels n c.self.invariant refl)
     ]
 
 pub returns-then-credit_back : goal.returns-then-credit_back
 returns-then-credit_back c =
     let r = c.self.inside in
     let small : c.args.port < 6 = search rules in
-    credited-view r c.credit_back.new.self (c.args.port * r.vcs + c.args.vc) c.if-credit_back.ensures.bank c.if-credit_back.ensures.inputs c.if-credit_back.ensures.outputs
+    credited-view r c.credit_back.new.self (c.args.port * r.vcs + c.args.vc) c.if-credit_back.ensures.states
     ∙ sym (with_credit-fits c.args.port c.args.vc (view_of r)
     (ap is_some (sym (c.neighbour.ensures ∙ c.self.invariant.leads c.args.port small)) ∙ sym c.if-is_some.ensures)
     (lt-ltb c.args.vc r.vcs c.if-vc-self.true)

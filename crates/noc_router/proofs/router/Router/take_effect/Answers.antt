@@ -1,5 +1,6 @@
 use Rattle.std.proofs.Common.{◌≡◌, ap, sym, ◌∙◌, subst}
 use Rattle.noc_topo.specs.Shape.{ports}
+use Rattle.noc_router.specs.Asked.{channels_past}
 use Rattle.noc_router.specs.Decided.{IsDecidedFor}
 use Rattle.noc_router.specs.Settled.{AreContentsFor, decisions_by, view_after_verdicts}
 use Rattle.noc_router.specs.Verdict.{arbiters_after}
@@ -29,7 +30,7 @@ returns c = λ relation is.
     let d = decisions_by p v in
     c.end_cycle.ensures
     ∙ ap (λ (x : View). closed_with x.arbiters x) c.advance_channel_pointers.ensures
-    ∙ ap (λ (x : View). closed_with (record x.arbiters { channels = (arbiters_after d.round x.arbiters).channels }) x)
+    ∙ ap (λ (x : View). closed_with (channels_past d.round x.arbiters) x)
     (c.apply_verdicts.ensures ∙ ap (λ (x : View). record (view_after_verdicts (decisions_by p x) x) { arbiters = record (arbiters_after p.round x.arbiters) { channels = x.arbiters.channels } }) c.count.ensures)
     ∙ committed-is d v
     ∙ ap (λ x. record (view_after_commit x v) { findings = v.findings }) (decisions-are relation p v is)

@@ -17,7 +17,7 @@ pub returns-then-land : goal.returns-then-land
 returns-then-land c =
     let r = c.self.inside in
     let small : c.args.port < 6 = search rules in
-    landed-view r c.land.new.self (c.args.port * r.vcs + c.args.vc) c.args.flit.now c.if-land.ensures.bank c.if-land.ensures.inputs c.if-land.ensures.outputs
+    landed-view r c.land.new.self (c.args.port * r.vcs + c.args.vc) c.args.flit.now c.if-land.ensures.states
     ∙ sym (with_flit-lands c.args.relation.now c.args.port c.args.vc c.args.flit.now (view_of r)
     (ap is_some (sym (c.neighbour.ensures ∙ c.self.invariant.leads c.args.port small)) ∙ sym c.if-is_some.ensures)
     (lt-ltb c.args.vc r.vcs c.if-vc-self.true)
@@ -33,7 +33,7 @@ returns-else-vc-self c =
     elim c.else-vc-self.branch [
       | else-vc-self-via-then-vc-self+then-is_some+else-land w ↦
           ap (λ (i : Inside). view_of (record i { misfits = n })) w.self-inside-is
-          ∙ misfit-view r w.land.new.self n w.if-land.ensures.bank w.if-land.ensures.inputs w.if-land.ensures.outputs
+          ∙ misfit-view r w.land.new.self n w.if-land.ensures.states
           (c.saturating_add-self-inside.ensures ∙ ap (λ (i : Inside). saturating_next i.misfits) w.self-inside-is)
           ∙ sym (with_flit-turned c.args.relation.now c.args.port c.args.vc c.args.flit.now (view_of r)
           (no_fit c.args.relation.now c.args.port c.args.vc c.args.flit.now (view_of r)
@@ -43,14 +43,14 @@ returns-else-vc-self c =
       | else-vc-self-via-then-vc-self+else-is_some w ↦
           let small : c.args.port < 6 = search rules in
           ap (λ (i : Inside). view_of (record i { misfits = n })) w.self-inside-is
-          ∙ misfit-view r r.channels n refl refl refl (c.saturating_add-self-inside.ensures ∙ ap (λ (i : Inside). saturating_next i.misfits) w.self-inside-is)
+          ∙ misfit-view r r.channels n refl (c.saturating_add-self-inside.ensures ∙ ap (λ (i : Inside). saturating_next i.misfits) w.self-inside-is)
           ∙ sym (with_flit-turned c.args.relation.now c.args.port c.args.vc c.args.flit.now (view_of r)
           (no_link c.args.relation.now c.args.port c.args.vc c.args.flit.now (view_of r)
           (ap is_some (sym (w.neighbour.ensures ∙ c.self.invariant.leads c.args.port small)) ∙ sym w.if-is_some.ensures)))
           ∙ whole
       | else-vc-self-via-else-vc-self w ↦
           ap (λ (i : Inside). view_of (record i { misfits = n })) w.self-inside-is
-          ∙ misfit-view r r.channels n refl refl refl (c.saturating_add-self-inside.ensures ∙ ap (λ (i : Inside). saturating_next i.misfits) w.self-inside-is)
+          ∙ misfit-view r r.channels n refl (c.saturating_add-self-inside.ensures ∙ ap (λ (i : Inside). saturating_next i.misfits) w.self-inside-is)
           ∙ sym (with_flit-turned c.args.relation.now c.args.port c.args.vc c.args.flit.now (view_of r)
           (no_channel c.args.relation.now c.args.port c.args.vc c.args.flit.now (view_of r) (le-ltb _ _ w.if-vc-self.false)))
           ∙ whole
@@ -63,16 +63,16 @@ invariant_of-self-else-vc-self c =
     elim c.else-vc-self.branch [
       | else-vc-self-via-then-vc-self+then-is_some+else-land w ↦
           subst (λ (i : Inside). IsRouter (record i { misfits = n })) (sym w.self-inside-is)
-          (IsRouter-misfit r w.land.new.self n c.self.invariant w.if-land.ensures.size w.if-land.ensures.places w.if-land.ensures.inputs)
+          (IsRouter-misfit r w.land.new.self n c.self.invariant w.if-land.ensures.states)
       | else-vc-self-via-then-vc-self+else-is_some w ↦
-          subst (λ (i : Inside). IsRouter (record i { misfits = n })) (sym w.self-inside-is) (IsRouter-misfit r r.channels n c.self.invariant refl refl refl)
+          subst (λ (i : Inside). IsRouter (record i { misfits = n })) (sym w.self-inside-is) (IsRouter-misfit r r.channels n c.self.invariant refl)
       | else-vc-self-via-else-vc-self w ↦
-          subst (λ (i : Inside). IsRouter (record i { misfits = n })) (sym w.self-inside-is) (IsRouter-misfit r r.channels n c.self.invariant refl refl refl)
+          subst (λ (i : Inside). IsRouter (record i { misfits = n })) (sym w.self-inside-is) (IsRouter-misfit r r.channels n c.self.invariant refl)
     ]
 
 pub invariant_of-self : goal.invariant_of-self
 invariant_of-self c =
     let r = c.self.inside in
     let port : c.args.port < r.ports - 1 = search rules in
-    IsRouter-landed r c.land.new.self (c.args.port * r.vcs + c.args.vc) _ c.self.invariant c.if-land.ensures.size c.if-land.ensures.places c.if-land.ensures.inputs
+    IsRouter-landed r c.land.new.self (c.args.port * r.vcs + c.args.vc) c.args.flit.now c.self.invariant c.if-land.ensures.states
     (in_ready (r.ports - 1) r.vcs c.args.port c.args.vc port c.if-vc-self.true)
