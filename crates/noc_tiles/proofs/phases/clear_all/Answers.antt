@@ -12,7 +12,7 @@ pub loop-k-init : goal.loop-k-init
 loop-k-init c = record {
   size = refl;
   rows = λ i l. search rules;
-  marks = c.requires.marks;
+  marks = c.requires.index.marked;
   beats = λ r q. inr (λ o l. absurd (omega arith), refl);
 }
 
@@ -27,7 +27,7 @@ note-requires-clause-node c =
     let w = c.requires.within k l' in
     let r_in : end.router < length c.args.beats.now = let e = ap (λ (z : ℕ × ℕ). z.0) at in omega (arith, w.0, e) in
     let p_in : end.port < 6 = let e = ap (λ (z : ℕ × ℕ). z.1) at in omega (arith, w.1, e) in
-    omega (arith, r_in, c.requires.few)
+    omega (arith, r_in, c.requires.index.few)
 
 pub note-requires-clause-port : goal.note-requires-clause-port
 note-requires-clause-port c =
