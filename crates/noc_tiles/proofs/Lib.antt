@@ -17,7 +17,6 @@ pub mod PhaseLemmas
 pub mod RingLemmas
 pub mod RunLemmas
 pub mod SentLemmas
-pub mod SingleLemmas
 pub mod StartLemmas
 pub mod StartsLemmas
 pub mod TileStepLemmas

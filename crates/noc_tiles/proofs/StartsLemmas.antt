@@ -18,6 +18,12 @@ module _ (nodes workers : ℕ) (some : 0 < workers) where
       let more : w * nodes ≤ (w + 1) * nodes = mul-le w nodes (w + 1) nodes (omega arith) (omega arith) in
       le-div (w * nodes / workers) ((w + 1) * nodes) workers some (omega arith)
 
+  pub start-none : tile_start nodes workers 0 ≡ 0
+  start-none =
+      let none : 0 * nodes ≤ workers * 0 = omega arith in
+      let low : tile_start nodes workers 0 ≤ 0 = div-le_of_le-mul workers none in
+      omega arith
+
   pub start-end : tile_start nodes workers workers ≡ nodes
   start-end =
       let high = start-within workers (omega arith) in

@@ -4,7 +4,7 @@ use Rattle.noc_topo.specs.Shape.{Grid, nodes, ports, neighbour}
 use Rattle.noc_packet.specs.declared.packet.Beat.{Beat}
 use Rattle.noc_route.specs.Routes.{Routes}
 use Rattle.noc_router.specs.Decided.{IsDecidedFor}
-use Rattle.noc_router.specs.View.{View, IsRelationOf, idle_beat}
+use Rattle.noc_router.specs.View.{PlanContents, View, IsRelationOf, idle_beat}
 use Rattle.noc_net.specs.Halves.{beat_at, view_after_puts}
 use Rattle.noc_net.specs.Takes.{view_after_conclude}
 use Rattle.noc_net.specs.Unseen.{without_findings}
@@ -26,6 +26,14 @@ put_from first i j sent (Some from) beat = if is_own (first + i) (j - i) from.0 
 -- what routers that have taken their beats put at the end of cycle n
 abbrev pub to_send : Routes → ℕ → List View → List (List Beat)
 to_send relation n views = map (λ (v : View). (view_after_conclude relation n v).to_put) views
+
+-- a router that has taken its beats can finish a cycle: it is that of its node, and the wires that leave it are idle
+pub record RouterCanFinish (relation : Routes) (p : PlanContents) (router : View) (b : List (List Beat)) : Type 0 where
+  pub plan : IsDecidedFor (ports relation.grid) relation.vcs p
+  pub built : IsRelationOf relation router
+  pub node : router.site.node < nodes relation.grid
+  pub count : length b ≡ nodes relation.grid
+  pub idle : (r q port : ℕ) → neighbour relation.grid r q ≡ Some (router.site.node, port) → beat_at b r q ≡ idle_beat
 
 -- the routers of a tile from index i to before j can finish a cycle: they are those of their nodes, and the wires that leave them are idle
 pub record CanFinish (relation : Routes) (i j : ℕ) (t : Tile) : Type 0 where

@@ -1,5 +1,5 @@
 -- All tiles of a network, and the network again.
-use Rattle.std.specs.Prelude.{ℕ, true, false, ◌≡◌, ◌⊎◌, ◌+◌, ◌*◌, ◌<◌, ◌≤◌, List, [], ◌∷◌, take, drop, map, length, get_or, Option, Some, None, vec_len}
+use Rattle.std.specs.Prelude.{ℕ, true, false, ◌≡◌, ◌⊎◌, ◌+◌, ◌-◌, ◌*◌, ◌^◌, ◌<◌, ◌≤◌, List, [], ◌∷◌, take, drop, map, length, get_or, Option, Some, None, vec_len}
 use Rattle.std.specs.List.{flat_map}
 use Rattle.noc_topo.specs.Shape.{IsGrid, nodes, ports, neighbour}
 use Rattle.noc_packet.specs.declared.packet.Beat.{Beat}
@@ -11,10 +11,13 @@ use Rattle.noc_net.specs.Lockstep.{lockstep_at}
 use Rattle.noc_net.specs.Network.{Setup}
 use Rattle.noc_tiles.specs.Ends.{End, inlet, outlet}
 use Rattle.noc_tiles.specs.TileStep.{arrival_places, is_from, is_inside}
-use Rattle.noc_tiles.specs.Rings.{AreLeftOut, AreSlots}
+use Rattle.noc_tiles.specs.Rings.{AreLeftOut, AreSlots, in_slots, out_slots}
+use Rattle.noc_tiles.specs.Starts.{tile_start}
 use Rattle.noc_tiles.specs.Tiles.{CanRun, inlets, outlets}
 use Rattle.noc_tiles.specs.declared.kept.Kept.{Kept}
 use Rattle.noc_tiles.specs.declared.kept.Gathered.{Gathered}
+use Rattle.noc_tiles.specs.declared.limits.TheConstants.{MAX_WORKERS}
+use Rattle.noc_tiles.specs.declared.partition.Uncut.{Uncut}
 use Rattle.noc_tiles.specs.declared.tile.Tile.{Tile}
 use Rattle.noc_tiles.specs.declared.tile.Outcome.TheVariants.{Whole}
 
@@ -97,3 +100,35 @@ pub record AreUnassigned (net : Setup) (workers first : ℕ) (B : List (List Bea
 -- the beats are those in flight
 abbrev pub InFlight : Setup → ℕ → List (List Beat) → Type 0
 InFlight net n B = (r q : ℕ) → beat_at B r q ≡ beat_at (lockstep_at net n).wires r q
+
+-- a network that can be cut into tiles: the setup is good, and the beats are those in flight
+pub record CanCut (f : Kept) (B : List (List Beat)) : Type 0 where
+  pub good : IsGoodSetup (setup_of f)
+  pub some : 0 < f.workers
+  pub few : f.workers ≤ MAX_WORKERS
+  pub size : length B ≡ nodes f.relation.grid
+  pub flight : InFlight (setup_of f) f.count B
+  pub end : f.count + f.cycles < 2 ^ 64
+
+-- the first router of a worker's tile
+abbrev pub first_of : Kept → ℕ → ℕ
+first_of f worker = tile_start (nodes f.relation.grid) f.workers worker
+
+-- the routers that the network has at its count
+abbrev pub views_of : Kept → List View
+views_of f = (lockstep_at (setup_of f) f.count).views
+
+-- what is left when the workers before this one have their tiles: I0 and O0 are the slots when all ends were there
+pub record IsUncut (f : Kept) (B : List (List Beat)) (I0 O0 : List (Option End)) (worker : ℕ) (rest : Uncut) : Type 0 where
+  pub first : rest.first ≡ first_of f worker
+  pub routers : rest.routers.items ≡ drop rest.first (views_of f)
+  pub size_in : vec_len rest.ins ≡ nodes f.relation.grid * 6
+  pub size_out : vec_len rest.outs ≡ nodes f.relation.grid * 6
+  pub unassigned : AreUnassigned (setup_of f) f.workers rest.first B I0 O0 (in_slots rest.ins.items) (out_slots rest.outs.items)
+
+-- the tile of this worker
+pub record IsTileOf (f : Kept) (I0 O0 : List (Option End)) (w : ℕ) (t : Tile) : Type 0 where
+  pub tile : IsTile (setup_of f) f.count f.cycles I0 O0 t
+  pub worker : t.worker ≡ w
+  pub first : t.first ≡ first_of f w
+  pub routers : t.routers.items ≡ take (first_of f (w + 1) - first_of f w) (drop (first_of f w) (views_of f))

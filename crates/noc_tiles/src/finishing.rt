@@ -4,15 +4,15 @@
 //! once. It is handed over while the inner routers work, so a neighbour seldom waits for it. A tile that is all
 //! edge gains nothing, as two rows of a mesh with a neighbour on each side.
 
-ghost use Rattle.std.specs.Prelude.{ℕ, ◌≡◌, ◌<◌, true, length, Some};
+ghost use Rattle.std.specs.Prelude.{ℕ, ◌≡◌, ◌<◌, true};
 ghost use Rattle.noc_topo.specs.Shape.{nodes as nodes_of, ports as ports_of, neighbour as neighbour_of};
 ghost use Rattle.noc_router.specs.Decided.{IsDecidedFor};
-ghost use Rattle.noc_router.specs.View.{IsRelationOf, idle_beat};
 ghost use Rattle.noc_net.specs.Halves.{beat_at, view_after_puts, wire_after_puts};
 ghost use Rattle.noc_net.specs.Marks.{AreMarked};
 ghost use Rattle.noc_net.specs.Takes.{view_after_conclude};
 ghost use Rattle.noc_net.specs.Unseen.{without_findings};
-ghost use Rattle.noc_tiles.specs.Inner.{CanFinish, HaveFinished};
+ghost use Rattle.noc_tiles.specs.Inner.{CanFinish, HaveFinished, RouterCanFinish};
+ghost use Rattle.noc_tiles.specs.Phases.{IsIndexOf};
 
 use crate::tile::Tile;
 use noc_net::{Marks, conclude, deliver, move_on};
@@ -32,8 +32,8 @@ pub(crate) fn finish_some(
     to: usize,
 )
     requires can { CanFinish relation.now from to tile.old }
-    requires marks { AreMarked marks.old tile.old.beats.items }
-    ensures marks { AreMarked marks.new tile.new.beats.items }
+    requires index { IsIndexOf marks.old tile.old.beats.items }
+    ensures index { IsIndexOf marks.new tile.new.beats.items }
     ensures finished { HaveFinished relation.now cycle seen from to tile.old tile.new }
 {
     for i in from..to {
@@ -60,11 +60,7 @@ fn finish(
     beats: &mut [[Beat; LINKS]],
     marks: &mut Marks,
 )
-    requires plan { IsDecidedFor (ports_of relation.now.grid) relation.now.vcs plan.old }
-    requires router { IsRelationOf relation.now router.old }
-    requires node { router.old.site.node < nodes_of relation.now.grid }
-    requires count { length beats.old ≡ nodes_of relation.now.grid }
-    requires idle { (r q p : ℕ) → neighbour_of relation.now.grid r q ≡ Some (router.old.site.node, p) → beat_at beats.old r q ≡ idle_beat }
+    requires { RouterCanFinish relation.now plan.old router.old beats.old }
     ensures plan { IsDecidedFor (ports_of relation.now.grid) relation.now.vcs plan.new }
     ensures marks { AreMarked marks.old beats.old → AreMarked marks.new beats.new }
     ensures router { without_findings router.new ≡ without_findings (view_after_puts (view_after_conclude relation.now cycle router.old)) }

@@ -4,18 +4,12 @@
 //! Beats that leave the tile go into the table too, are then put, and their places made idle. One function
 //! carries beats for networks and tiles.
 
-ghost use Rattle.std.specs.Prelude.{ℕ, List, Option, ◌≡◌, ◌+◌, ◌*◌, ◌/◌, ◌%◌, ◌<◌, ◌≤◌, ◌^◌, Some, None, true, false, get_or, is_some, drop, length, take, vec_len, IfOk, IsOk, OnOk};
-ghost use Rattle.noc_topo.specs.Shape.{nodes as nodes_of, neighbour as neighbour_of};
-ghost use Rattle.noc_router.specs.View.{View, idle_beat};
-ghost use Rattle.noc_net.specs.Halves.{HasItsBeats, beat_at};
-ghost use Rattle.noc_net.specs.Network.{Setup};
-ghost use Rattle.noc_net.specs.Lockstep.{lockstep_at};
+ghost use Rattle.std.specs.Prelude.{ℕ, List, Option, ◌≡◌, ◌+◌, ◌<◌, ◌≤◌, true, false, length, vec_len, IfOk};
+ghost use Rattle.noc_router.specs.View.{idle_beat};
+ghost use Rattle.noc_net.specs.Halves.{beat_at};
 ghost use Rattle.noc_tiles.specs.Ends.{End};
-ghost use Rattle.noc_tiles.specs.Starts.{tile_start};
-ghost use Rattle.noc_tiles.specs.TileStep.{is_inside, is_own};
-ghost use Rattle.noc_tiles.specs.Rings.{AreLeftOut, AreSlots, GoesOutTo, in_slots, out_slots};
-ghost use Rattle.noc_tiles.specs.Partition.{AreNumbered, InFlight, IsPartition, IsTile, AreUnassigned, setup_of};
-ghost use Rattle.noc_tiles.specs.declared.limits.TheConstants.{MAX_WORKERS};
+ghost use Rattle.noc_tiles.specs.TileStep.{is_own};
+ghost use Rattle.noc_tiles.specs.Partition.{AreNumbered, CanCut, IsPartition, IsTileOf, IsUncut, setup_of, views_of};
 
 use crate::kept::Kept;
 use crate::rings::{WireEnds, make_rings, take_ins, take_outs};
@@ -26,6 +20,15 @@ use noc_packet::{Beat, Memory};
 use noc_router::{Plan, Router};
 use noc_topo::LINKS;
 use std::alloc::{AllocError, Global};
+
+// What is left of a network while tiles are cut from it: the routers from `first` on, and the ends that no tile has.
+#[derive(Drop)]
+pub(crate) struct Uncut {
+    pub first: usize,
+    pub routers: Vec<Router>,
+    pub ins: Vec<Option<Inlet>>,
+    pub outs: Vec<Option<Outlet>>,
+}
 
 // The wires of a network but for the routers from `first` to before `end`, where the beats are those in flight.
 fn own_beats(
@@ -46,45 +49,34 @@ fn own_beats(
     Ok(all)
 }
 
-// A tile with the routers from `first` on, and the ends of the rings on the wires to other tiles.
-fn new_tile(
+// Cuts the tile of a worker from what is left, with the ends of the rings on its wires to other tiles.
+fn cut_tile(
     alloc: Global,
     frame: &Kept,
-    worker: usize,
-    first: usize,
-    routers: Vec<Router>,
     beats: &[[Beat; LINKS]],
-    ins: &mut Vec<Option<Inlet>>,
-    outs: &mut Vec<Option<Outlet>>,
-) -> Result<Tile, Memory>
-    requires size_in { vec_len ins.old ≡ nodes_of frame.now.relation.grid * 6 }
-    requires size_out { vec_len outs.old ≡ nodes_of frame.now.relation.grid * 6 }
-    requires workers { frame.now.workers ≤ MAX_WORKERS }
-    requires wide { first + vec_len routers ≤ nodes_of frame.now.relation.grid }
+    worker: usize,
+    rest: Uncut,
+) -> Result<(Tile, Uncut), Memory>
+    requires can { CanCut frame.now beats.now }
     requires worker { worker < frame.now.workers }
-    requires first { first ≡ tile_start (nodes_of frame.now.relation.grid) frame.now.workers worker }
-    requires last { first + vec_len routers ≡ tile_start (nodes_of frame.now.relation.grid) frame.now.workers (worker + 1) }
-    requires beats { length beats.now ≡ nodes_of frame.now.relation.grid }
-    requires flight { InFlight (setup_of frame.now) frame.now.count beats.now }
-    requires views { routers.items ≡ take (vec_len routers) (drop first (lockstep_at (setup_of frame.now) frame.now.count).views) }
-    requires end { frame.now.count + frame.now.cycles < 2 ^ 64 }
-    requires partition { (I0 : List (Option End)) × (O0 : List (Option End)) × AreUnassigned (setup_of frame.now) frame.now.workers first beats.now I0 O0 (in_slots ins.old.items) (out_slots outs.old.items) }
-    ensures size_in { vec_len ins.new ≡ vec_len ins.old }
-    ensures size_out { vec_len outs.new ≡ vec_len outs.old }
-    ensures worker { IfOk result (λ t. t.worker ≡ worker) }
-    ensures first { IfOk result (λ t. t.first ≡ first) }
-    ensures routers { IfOk result (λ t. t.routers.items ≡ routers.items) }
-    ensures tile { IfOk result (λ t. (I0 O0 : List (Option End)) → AreUnassigned (setup_of frame.now) frame.now.workers first beats.now I0 O0 (in_slots ins.old.items) (out_slots outs.old.items) → IsTile (setup_of frame.now) frame.now.count frame.now.cycles I0 O0 t) }
-    ensures left { IsOk result → (I0 O0 : List (Option End)) → AreUnassigned (setup_of frame.now) frame.now.workers first beats.now I0 O0 (in_slots ins.old.items) (out_slots outs.old.items) → AreUnassigned (setup_of frame.now) frame.now.workers (first + vec_len routers) beats.now I0 O0 (in_slots ins.new.items) (out_slots outs.new.items) }
+    requires rest { (I : List (Option End)) × (O : List (Option End)) × IsUncut frame.now beats.now I O worker rest }
+    ensures { IfOk result (λ r. (I O : List (Option End)) → IsUncut frame.now beats.now I O worker rest → IsTileOf frame.now I O worker r.0 × IsUncut frame.now beats.now I O (worker + 1) r.1) }
 {
+    let Uncut {
+        first,
+        mut routers,
+        mut ins,
+        mut outs,
+    } = rest;
     let shape = frame.relation.shape();
-    let _nodes = shape.nodes();
-    let count = routers.len();
+    let end = tile_start(shape.nodes(), frame.workers, worker + 1);
+    let count = end - first;
+    let tail = routers.split_off(count)?;
     let plan = Plan::new(alloc, &frame.relation)?;
-    let beats = own_beats(alloc, beats, first, count)?;
-    let ins = take_ins(alloc, shape, first, count, ins)?;
-    let outs = take_outs(alloc, shape, first, count, outs)?;
-    Ok(Tile {
+    let own = own_beats(alloc, beats, first, count)?;
+    let own_ins = take_ins(alloc, shape, first, count, &mut ins)?;
+    let own_outs = take_outs(alloc, shape, first, count, &mut outs)?;
+    let tile = Tile {
         worker,
         first,
         start: frame.count,
@@ -93,10 +85,17 @@ fn new_tile(
         outcome: Outcome::Whole,
         routers,
         plan,
-        beats,
+        beats: own,
+        ins: own_ins,
+        outs: own_outs,
+    };
+    let left = Uncut {
+        first: end,
+        routers: tail,
         ins,
         outs,
-    })
+    };
+    Ok((tile, left))
 }
 
 /// As many tiles as there are workers, with a ring on each wire between two of them.
@@ -106,29 +105,23 @@ pub(crate) fn partition(
     routers: Vec<Router>,
     beats: &[[Beat; LINKS]],
 ) -> Result<Vec<Tile>, Memory>
-    requires workers { (0 < frame.now.workers) × (frame.now.workers ≤ MAX_WORKERS) }
-    requires beats { length beats.now ≡ nodes_of frame.now.relation.grid }
-    requires flight { InFlight (setup_of frame.now) frame.now.count beats.now }
-    requires views { routers.items ≡ (lockstep_at (setup_of frame.now) frame.now.count).views }
-    requires end { frame.now.count + frame.now.cycles < 2 ^ 64 }
+    requires can { CanCut frame.now beats.now }
+    requires views { routers.items ≡ views_of frame.now }
     ensures numbered { IfOk result (λ v. AreNumbered frame.now.workers v.items) }
     ensures partition { IfOk result (λ v. (I : List (Option End)) × (O : List (Option End)) × IsPartition (setup_of frame.now) frame.now.count frame.now.cycles I O v.items) }
 {
-    let shape = frame.relation.shape();
-    let nodes = shape.nodes();
-    let WireEnds { mut ins, mut outs } = make_rings(alloc, shape, frame.workers, beats)?;
+    let WireEnds { ins, outs } = make_rings(alloc, frame.relation.shape(), frame.workers, beats)?;
+    let mut rest = Uncut {
+        first: 0,
+        routers,
+        ins,
+        outs,
+    };
     let mut tiles = Vec::new(alloc);
-    let mut rest = routers;
-    let mut first = 0;
     for worker in 0..frame.workers {
-        let end = tile_start(nodes, frame.workers, worker + 1);
-        let tail = rest.split_off(end - first)?;
-        let tile = new_tile(
-            alloc, frame, worker, first, rest, beats, &mut ins, &mut outs,
-        )?;
+        let (tile, left) = cut_tile(alloc, frame, beats, worker, rest)?;
         tiles.push(tile)?;
-        rest = tail;
-        first = end;
+        rest = left;
     }
     Ok(tiles)
 }

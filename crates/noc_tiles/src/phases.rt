@@ -1,15 +1,12 @@
 //! The phases of a tile's cycle.
 
-ghost use Rattle.std.specs.Prelude.{ℕ, List, ◌≡◌, ◌≤◌, true, map, length, vec_len, IsTrue, IsFalse};
-ghost use Rattle.noc_topo.specs.declared.limits.TheConstants.{MAX_NODES};
-ghost use Rattle.noc_topo.specs.Shape.{nodes as nodes_of};
+ghost use Rattle.std.specs.Prelude.{ℕ, List, ◌≡◌, true, map, length, vec_len, IsTrue, IsFalse};
 ghost use Rattle.noc_packet.specs.declared.packet.Beat.{Beat as beat_value};
 ghost use Rattle.noc_net.specs.Halves.{beat_at};
-ghost use Rattle.noc_net.specs.Marks.{AreMarked};
 ghost use Rattle.noc_tiles.specs.Ends.{inlet, outlet};
-ghost use Rattle.noc_tiles.specs.Phases.{TileHasSent, TileHasTaken, IsCleared};
+ghost use Rattle.noc_tiles.specs.Phases.{CanCycle, IsCleared, IsIndexOf, TileHasSent, TileHasTaken};
 ghost use Rattle.noc_tiles.specs.TileStep.{ends_after_beats, with_row, names, arrival_places};
-ghost use Rattle.noc_tiles.specs.Tiles.{AreLinkPorts, IsReady, inlets, outlets};
+ghost use Rattle.noc_tiles.specs.Tiles.{AreLinkPorts, inlets, outlets};
 
 use crate::stop::Stop;
 use crate::tile::Tile;
@@ -29,10 +26,8 @@ pub(crate) fn take(
     marks: &mut Marks,
     stop: &Stop,
 ) -> bool
-    requires ready { IsReady relation.now tile.old }
-    requires few { nodes_of relation.now.grid ≤ MAX_NODES }
-    requires marks { AreMarked marks.old tile.old.beats.items }
-    ensures marks { IsTrue result → AreMarked marks.new tile.new.beats.items }
+    requires { CanCycle relation.now marks.old tile.old }
+    ensures index { IsTrue result → IsIndexOf marks.new tile.new.beats.items }
     ensures rest { tile.new ≡ record tile.old { routers = tile.new.routers; beats = tile.new.beats; ins = tile.new.ins } }
     ensures routers { vec_len tile.new.routers ≡ vec_len tile.old.routers }
     ensures beats { vec_len tile.new.beats ≡ vec_len tile.old.beats }
@@ -56,9 +51,8 @@ pub(crate) fn take(
 // Puts a beat on each wire that goes to another tile, and leaves idle ones. False where the flag was seen raised.
 pub(crate) fn send(rt: &impl Wait, tile: &mut Tile, marks: &mut Marks, stop: &Stop) -> bool
     requires within { AreLinkPorts (length tile.old.beats.items) 6 (arrival_places (outlets tile.old)) }
-    requires few { length tile.old.beats.items ≤ MAX_NODES }
-    requires marks { AreMarked marks.old tile.old.beats.items }
-    ensures marks { IsTrue result → AreMarked marks.new tile.new.beats.items }
+    requires index { IsIndexOf marks.old tile.old.beats.items }
+    ensures index { IsTrue result → IsIndexOf marks.new tile.new.beats.items }
     ensures rest { tile.new ≡ record tile.old { beats = tile.new.beats; outs = tile.new.outs } }
     ensures beats { vec_len tile.new.beats ≡ vec_len tile.old.beats }
     ensures outs { names (outlets tile.new) ≡ names (outlets tile.old) }
@@ -81,9 +75,8 @@ fn take_all(
     stop: &Stop,
 ) -> bool
     requires within { AreLinkPorts (length beats.old) 6 (arrival_places (map inlet ins.old.items)) }
-    requires few { length beats.old ≤ MAX_NODES }
-    requires marks { AreMarked marks.old beats.old }
-    ensures marks { AreMarked marks.new beats.new }
+    requires index { IsIndexOf marks.old beats.old }
+    ensures index { IsIndexOf marks.new beats.new }
     ensures ends { names (map inlet ins.new.items) ≡ names (map inlet ins.old.items) }
     ensures count { length beats.new ≡ length beats.old }
     ensures taken { IsTrue result → (row : List beat_value) × (length row ≡ vec_len ins.old) × (map inlet ins.new.items ≡ ends_after_beats (map inlet ins.old.items) row) × ((r q : ℕ) → beat_at beats.new r q ≡ with_row (beat_at beats.old) (arrival_places (map inlet ins.old.items)) row r q) }
@@ -118,9 +111,8 @@ fn put_all(rt: &impl Wait, ends: &mut Vec<Outlet>, beats: &[[Beat; LINKS]], stop
 // The beats that went to other tiles are idle again.
 fn clear_all(ends: &Vec<Outlet>, beats: &mut [[Beat; LINKS]], marks: &mut Marks)
     requires within { AreLinkPorts (length beats.old) 6 (arrival_places (map outlet ends.now.items)) }
-    requires few { length beats.old ≤ MAX_NODES }
-    requires marks { AreMarked marks.old beats.old }
-    ensures marks { AreMarked marks.new beats.new }
+    requires index { IsIndexOf marks.old beats.old }
+    ensures index { IsIndexOf marks.new beats.new }
     ensures count { length beats.new ≡ length beats.old }
     ensures beats { (r q : ℕ) → IsCleared (arrival_places (map outlet ends.now.items)) beats.old beats.new (length (arrival_places (map outlet ends.now.items))) r q }
 {

@@ -1,12 +1,11 @@
 //! The run of a tile.
 
-ghost use Rattle.std.specs.Prelude.{ℕ, List, ◌≡◌, ◌+◌, ◌<◌, ◌≤◌, ◌^◌, ◌↔◌, true, false, vec_len, IsTrue, IsFalse};
+ghost use Rattle.std.specs.Prelude.{ℕ, List, ◌≡◌, ◌+◌, ◌<◌, ◌^◌, ◌↔◌, true, false, vec_len, IsTrue, IsFalse};
 ghost use Rattle.noc_packet.specs.declared.packet.Beat.{Beat as beat_value};
-ghost use Rattle.noc_topo.specs.declared.limits.TheConstants.{MAX_NODES};
-ghost use Rattle.noc_topo.specs.Shape.{nodes as nodes_of, ports as ports_of};
+ghost use Rattle.noc_topo.specs.Shape.{ports as ports_of};
 ghost use Rattle.noc_router.specs.Decided.{IsDecidedFor};
-ghost use Rattle.noc_net.specs.Marks.{AreMarked};
 ghost use Rattle.noc_tiles.specs.Inner.{AreInner};
+ghost use Rattle.noc_tiles.specs.Phases.{CanCycle, KeepsTile};
 ghost use Rattle.noc_tiles.specs.TileStep.{arrival_places};
 ghost use Rattle.noc_tiles.specs.Tiles.{IsReady, IsSameTile, Cycles, Runs, outlets};
 ghost use Rattle.noc_tiles.specs.declared.tile.Outcome.TheVariants.{Whole, Closed, Stopped};
@@ -32,16 +31,10 @@ fn cycle(
     seen: bool,
     stop: &Stop,
 ) -> bool
-    requires ready { IsReady relation.now tile.old }
+    requires can { CanCycle relation.now marks.old tile.old }
     requires inner { AreInner relation.now.grid tile.old.first (vec_len tile.old.routers) (arrival_places (outlets tile.old)) inner }
-    requires few { nodes_of relation.now.grid ≤ MAX_NODES }
-    requires marks { AreMarked marks.old tile.old.beats.items }
-    ensures same { IsSameTile tile.old tile.new }
-    ensures count { vec_len tile.new.routers ≡ vec_len tile.old.routers }
-    ensures plan { IsDecidedFor (ports_of relation.now.grid) relation.now.vcs tile.new.plan }
-    ensures done { (tile.new.done ≡ tile.old.done) × (tile.new.outcome ≡ tile.old.outcome) }
-    ensures ready { IsTrue result → IsReady relation.now tile.new }
-    ensures marks { IsTrue result → AreMarked marks.new tile.new.beats.items }
+    ensures kept { KeepsTile relation.now tile.old tile.new }
+    ensures can { IsTrue result → CanCycle relation.now marks.new tile.new }
     ensures ran { IsTrue result → (row : List beat_value) × Cycles relation.now seen cycle tile.old tile.new row }
     ensures stopped { IsFalse result → stop.now ≡ true }
 {

@@ -36,7 +36,7 @@ pub fn run_tiles<R: Threads + Wait + Sync, G: Gate>(
     ensures one_fault { workers ≡ 1 → IfErr result (λ e. e ≡ LostWorker) }
 {
     if workers == 1 {
-        return run_single(rt, alloc, network, cycles, gate);
+        return run_single(network, cycles, gate);
     }
     let Parts {
         relation,

@@ -12,7 +12,7 @@ pub deliver-requires-clause-router : goal.deliver-requires-clause-router
 deliver-requires-clause-router c =
     let same : without_findings c.if-seen.router ≡ without_findings (view_after_conclude c.args.relation.now c.args.cycle c.args.router.now) =
     elim c.if-seen.branch [ then-seen w ↦ ap without_findings (w.router-is ∙ w.conclude.ensures.router) | else-seen w ↦ ap without_findings (w.router-is ∙ w.move_on.ensures.router) ] in
-    placed-half c.args.relation.now c.args.cycle c.args.router.now c.if-seen.router same c.requires.router
+    placed-half c.args.relation.now c.args.cycle c.args.router.now c.if-seen.router same c.requires.built
 
 pub deliver-requires-clause-node : goal.deliver-requires-clause-node
 deliver-requires-clause-node c =

@@ -12,7 +12,7 @@ use Rattle.noc_tiles.proofs.finishing.finish_some.Goals as goal
 
 pub loop-i-init : goal.loop-i-init
 loop-i-init c = record {
-  marks = c.requires.marks;
+  index = c.requires.index;
   finished = finished-none c.args.relation.now c.args.cycle c.args.seen c.args.from c.args.to c.args.tile.now c.requires.can;
 }
 
@@ -21,22 +21,20 @@ index_mut-requires c =
     let l : c.loop-i.i < length c.loop-i.tile.routers.items = omega (arith, c.loop-i.invariant.finished.count, c.requires.can.within) in
     search (rules, arith)
 
-pub finish-requires-clause-router : goal.finish-requires-clause-router
-finish-requires-clause-router c =
-    next-built c.args.relation.now c.args.cycle c.args.seen c.args.from c.args.to c.args.tile.now c.requires.can c.loop-i.tile c.loop-i.i c.loop-i.invariant.finished c.loop-i.auto.i c.loop-i-test.true c.index_mut.result.now c.index_mut.ensures.value
-
-pub finish-requires-clause-node : goal.finish-requires-clause-node
-finish-requires-clause-node c =
-    let node = next-node c.args.relation.now c.args.cycle c.args.seen c.args.from c.args.to c.args.tile.now c.requires.can c.loop-i.tile c.loop-i.i c.loop-i.invariant.finished c.loop-i.auto.i c.loop-i-test.true c.index_mut.result.now c.index_mut.ensures.value in
-    omega (arith, node, c.requires.can.within, c.requires.can.wide, c.loop-i-test.true)
-
-pub finish-requires-clause-count : goal.finish-requires-clause-count
-finish-requires-clause-count c = ap length c.deref_mut.ensures.value ∙ c.loop-i.invariant.finished.size ∙ c.requires.can.count
-
-pub finish-requires-clause-idle : goal.finish-requires-clause-idle
-finish-requires-clause-idle c = λ r q p e.
-    ap (λ b. beat_at b r q) c.deref_mut.ensures.value
-    ∙ next-idle c.args.relation.now c.args.cycle c.args.seen c.args.from c.args.to c.args.tile.now c.requires.can c.loop-i.tile c.loop-i.i c.loop-i.invariant.finished c.loop-i.auto.i c.loop-i-test.true c.index_mut.result.now c.index_mut.ensures.value r q p e
+pub finish-requires : goal.finish-requires
+finish-requires c =
+    let relation = c.args.relation.now in
+    let v = c.loop-i.invariant.finished in
+    let at = c.index_mut.result.now in
+    let node = next-node relation c.args.cycle c.args.seen c.args.from c.args.to c.args.tile.now c.requires.can c.loop-i.tile c.loop-i.i v c.loop-i.auto.i c.loop-i-test.true at c.index_mut.ensures.value in
+    record {
+      plan = v.plan;
+      built = next-built relation c.args.cycle c.args.seen c.args.from c.args.to c.args.tile.now c.requires.can c.loop-i.tile c.loop-i.i v c.loop-i.auto.i c.loop-i-test.true at c.index_mut.ensures.value;
+      node = omega (arith, node, c.requires.can.within, c.requires.can.wide, c.loop-i-test.true);
+      count = ap length c.deref_mut.ensures.value ∙ v.size ∙ c.requires.can.count;
+      idle = λ r q p e. ap (λ b. beat_at b r q) c.deref_mut.ensures.value
+          ∙ next-idle relation c.args.cycle c.args.seen c.args.from c.args.to c.args.tile.now c.requires.can c.loop-i.tile c.loop-i.i v c.loop-i.auto.i c.loop-i-test.true at c.index_mut.ensures.value r q p e;
+    }
 
 pub loop-i-preserved : goal.loop-i-preserved
 loop-i-preserved c =
@@ -45,7 +43,10 @@ loop-i-preserved c =
     let now : (with_items b.beats c.finish.new.beats).items ≡ c.finish.new.beats = with_items_is b.beats c.finish.new.beats (search (rules, arith)) in
     let old = c.deref_mut.ensures.value in
     record {
-      marks = subst (AreMarked c.finish.new.marks) (sym now) (c.finish.ensures.marks (subst (AreMarked c.loop-i.marks) (sym old) c.loop-i.invariant.marks));
+      index = record {
+        few = omega (arith, ap length now, size, c.loop-i.invariant.index.few);
+        marked = subst (AreMarked c.finish.new.marks) (sym now) (c.finish.ensures.marks (subst (AreMarked c.loop-i.marks) (sym old) c.loop-i.invariant.index.marked));
+      };
       finished = finished-more c.args.relation.now c.args.cycle c.args.seen c.args.from c.args.to c.args.tile.now c.requires.can b c.loop-i.i c.loop-i.invariant.finished c.loop-i.auto.i c.loop-i-test.true
           c.index_mut.result.now c.index_mut.ensures.value _ c.finish.new.router c.finish.ensures.router c.finish.ensures.seen refl refl c.finish.ensures.plan
           (ap length now ∙ size)

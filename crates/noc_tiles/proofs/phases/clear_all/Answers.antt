@@ -5,116 +5,63 @@ use Rattle.noc_tiles.specs.Ends.{End, outlet}
 use Rattle.noc_tiles.specs.Phases.{IsCleared}
 use Rattle.noc_tiles.specs.TileStep.{arrival_places}
 use Rattle.noc_tiles.specs.declared.wires.Outlet.{Outlet}
-use Rattle.noc_tiles.proofs.ClearLemmas.{place-of, cleared-more}
+use Rattle.noc_tiles.proofs.ClearLemmas.{cleared-at, cleared-more}
 use Rattle.noc_tiles.proofs.phases.clear_all.Goals as goal
 
 pub loop-k-init : goal.loop-k-init
 loop-k-init c = record {
   size = refl;
   rows = λ i l. search rules;
-  marks = c.requires.marks;
+  marks = c.requires.index.marked;
   beats = λ r q. inr (λ o l. absurd (omega arith), refl);
 }
 
 pub note-requires-clause-node : goal.note-requires-clause-node
 note-requires-clause-node c =
-    let k = c.loop-k.k in
-    let end = c.index-end.result.now in
-    let os = c.args.ends.now.items in
-    let l : k < length os = search (rules, arith) in
-    let l' : k < length (arrival_places (map outlet os)) = rw (length-map, length-map) l in
-    let at : get_or (arrival_places (map outlet os)) k (0, 0) ≡ (end.router, end.port) = place-of outlet os k end (0, 0) l ∙ ap (λ (o : Outlet). (outlet o).at) (sym c.index-end.ensures) in
-    let w = c.requires.within k l' in
-    let r_in : end.router < length c.args.beats.now = let e = ap (λ (z : ℕ × ℕ). z.0) at in omega (arith, w.0, e) in
-    let p_in : end.port < 6 = let e = ap (λ (z : ℕ × ℕ). z.1) at in omega (arith, w.1, e) in
-    omega (arith, r_in, c.requires.few)
+    let p = cleared-at c.args.ends.now.items (length c.args.beats.now) c.loop-k.k c.index-end.result.now c.requires.within (search (rules, arith)) c.index-end.ensures in
+    omega (arith, p.1, c.requires.index.few)
 
 pub note-requires-clause-port : goal.note-requires-clause-port
 note-requires-clause-port c =
-    let k = c.loop-k.k in
-    let end = c.index-end.result.now in
-    let os = c.args.ends.now.items in
-    let l : k < length os = search (rules, arith) in
-    let l' : k < length (arrival_places (map outlet os)) = rw (length-map, length-map) l in
-    let at : get_or (arrival_places (map outlet os)) k (0, 0) ≡ (end.router, end.port) = place-of outlet os k end (0, 0) l ∙ ap (λ (o : Outlet). (outlet o).at) (sym c.index-end.ensures) in
-    let w = c.requires.within k l' in
-    let r_in : end.router < length c.args.beats.now = let e = ap (λ (z : ℕ × ℕ). z.0) at in omega (arith, w.0, e) in
-    let p_in : end.port < 6 = let e = ap (λ (z : ℕ × ℕ). z.1) at in omega (arith, w.1, e) in
-    p_in
+    let p = cleared-at c.args.ends.now.items (length c.args.beats.now) c.loop-k.k c.index-end.result.now c.requires.within (search (rules, arith)) c.index-end.ensures in
+    p.2
 
 pub bounds-beats-end : goal.bounds-beats-end
 bounds-beats-end c =
-    let k = c.loop-k.k in
-    let end = c.index-end.result.now in
-    let os = c.args.ends.now.items in
-    let l : k < length os = search (rules, arith) in
-    let l' : k < length (arrival_places (map outlet os)) = rw (length-map, length-map) l in
-    let at : get_or (arrival_places (map outlet os)) k (0, 0) ≡ (end.router, end.port) = place-of outlet os k end (0, 0) l ∙ ap (λ (o : Outlet). (outlet o).at) (sym c.index-end.ensures) in
-    let w = c.requires.within k l' in
-    let r_in : end.router < length c.args.beats.now = let e = ap (λ (z : ℕ × ℕ). z.0) at in omega (arith, w.0, e) in
-    let p_in : end.port < 6 = let e = ap (λ (z : ℕ × ℕ). z.1) at in omega (arith, w.1, e) in
-    omega (arith, r_in, c.loop-k.invariant.size)
+    let p = cleared-at c.args.ends.now.items (length c.args.beats.now) c.loop-k.k c.index-end.result.now c.requires.within (search (rules, arith)) c.index-end.ensures in
+    omega (arith, p.1, c.loop-k.invariant.size)
 
 pub offset_bounds-beats-end : goal.offset_bounds-beats-end
 offset_bounds-beats-end c =
-    let k = c.loop-k.k in
-    let end = c.index-end.result.now in
-    let os = c.args.ends.now.items in
-    let l : k < length os = search (rules, arith) in
-    let l' : k < length (arrival_places (map outlet os)) = rw (length-map, length-map) l in
-    let at : get_or (arrival_places (map outlet os)) k (0, 0) ≡ (end.router, end.port) = place-of outlet os k end (0, 0) l ∙ ap (λ (o : Outlet). (outlet o).at) (sym c.index-end.ensures) in
-    let w = c.requires.within k l' in
-    let r_in : end.router < length c.args.beats.now = let e = ap (λ (z : ℕ × ℕ). z.0) at in omega (arith, w.0, e) in
-    let p_in : end.port < 6 = let e = ap (λ (z : ℕ × ℕ). z.1) at in omega (arith, w.1, e) in
-    let b : end.router < length c.loop-k.beats = omega (arith, r_in, c.loop-k.invariant.size) in
+    let p = cleared-at c.args.ends.now.items (length c.args.beats.now) c.loop-k.k c.index-end.result.now c.requires.within (search (rules, arith)) c.index-end.ensures in
+    let b : c.index-end.result.now.router < length c.loop-k.beats = omega (arith, p.1, c.loop-k.invariant.size) in
     search (rules, arith)
 
 pub bounds-beats-end-in-loop-k : goal.bounds-beats-end-in-loop-k
 bounds-beats-end-in-loop-k c =
-    let k = c.loop-k.k in
-    let end = c.index-end.result.now in
-    let os = c.args.ends.now.items in
-    let l : k < length os = search (rules, arith) in
-    let l' : k < length (arrival_places (map outlet os)) = rw (length-map, length-map) l in
-    let at : get_or (arrival_places (map outlet os)) k (0, 0) ≡ (end.router, end.port) = place-of outlet os k end (0, 0) l ∙ ap (λ (o : Outlet). (outlet o).at) (sym c.index-end.ensures) in
-    let w = c.requires.within k l' in
-    let r_in : end.router < length c.args.beats.now = let e = ap (λ (z : ℕ × ℕ). z.0) at in omega (arith, w.0, e) in
-    let p_in : end.port < 6 = let e = ap (λ (z : ℕ × ℕ). z.1) at in omega (arith, w.1, e) in
-    p_in
+    let p = cleared-at c.args.ends.now.items (length c.args.beats.now) c.loop-k.k c.index-end.result.now c.requires.within (search (rules, arith)) c.index-end.ensures in
+    p.2
 
 pub offset_bounds-beats-end-in-loop-k : goal.offset_bounds-beats-end-in-loop-k
 offset_bounds-beats-end-in-loop-k c =
-    let k = c.loop-k.k in
-    let end = c.index-end.result.now in
-    let os = c.args.ends.now.items in
-    let l : k < length os = search (rules, arith) in
-    let l' : k < length (arrival_places (map outlet os)) = rw (length-map, length-map) l in
-    let at : get_or (arrival_places (map outlet os)) k (0, 0) ≡ (end.router, end.port) = place-of outlet os k end (0, 0) l ∙ ap (λ (o : Outlet). (outlet o).at) (sym c.index-end.ensures) in
-    let w = c.requires.within k l' in
-    let r_in : end.router < length c.args.beats.now = let e = ap (λ (z : ℕ × ℕ). z.0) at in omega (arith, w.0, e) in
-    let p_in : end.port < 6 = let e = ap (λ (z : ℕ × ℕ). z.1) at in omega (arith, w.1, e) in
+    let p = cleared-at c.args.ends.now.items (length c.args.beats.now) c.loop-k.k c.index-end.result.now c.requires.within (search (rules, arith)) c.index-end.ensures in
+    let b : c.index-end.result.now.port < 6 = p.2 in
     search (rules, arith)
 
 pub loop-k-preserved : goal.loop-k-preserved
 loop-k-preserved c =
+    let p = cleared-at c.args.ends.now.items (length c.args.beats.now) c.loop-k.k c.index-end.result.now c.requires.within (search (rules, arith)) c.index-end.ensures in
     let k = c.loop-k.k in
     let end = c.index-end.result.now in
-    let os = c.args.ends.now.items in
-    let l : k < length os = search (rules, arith) in
-    let l' : k < length (arrival_places (map outlet os)) = rw (length-map, length-map) l in
-    let at : get_or (arrival_places (map outlet os)) k (0, 0) ≡ (end.router, end.port) = place-of outlet os k end (0, 0) l ∙ ap (λ (o : Outlet). (outlet o).at) (sym c.index-end.ensures) in
-    let w = c.requires.within k l' in
-    let r_in : end.router < length c.args.beats.now = let e = ap (λ (z : ℕ × ℕ). z.0) at in omega (arith, w.0, e) in
-    let p_in : end.port < 6 = let e = ap (λ (z : ℕ × ℕ). z.1) at in omega (arith, w.1, e) in
     let bs = c.loop-k.beats in
     let v = c.loop-k.invariant in
-    let b : end.router < length bs = omega (arith, r_in, v.size) in
-    let long : end.port < length (get_or bs end.router []) = omega (arith, p_in, v.rows end.router b) in
+    let b : end.router < length bs = omega (arith, p.1, v.size) in
+    let long : end.port < length (get_or bs end.router []) = omega (arith, p.2, v.rows end.router b) in
     record {
       size = length-set bs end.router (set (get_or bs end.router []) end.port c.idle-beat.result) ∙ v.size;
       rows = rows_kept bs (Some (end.router, end.port)) c.idle-beat.result v.rows;
       marks = c.note.ensures.marks bs b long v.marks;
-      beats = λ r q. cleared-more (arrival_places (map outlet os)) c.args.beats.now bs k end.router end.port c.idle-beat.result c.idle-beat.ensures at b long r q (v.beats r q);
+      beats = λ r q. cleared-more (arrival_places (map outlet c.args.ends.now.items)) c.args.beats.now bs k end.router end.port c.idle-beat.result c.idle-beat.ensures p.0 b long r q (v.beats r q);
     }
 
 pub returns-clause-beats : goal.returns-clause-beats

@@ -3,9 +3,8 @@ use Rattle.std.specs.Vec.{with_items}
 use Rattle.std.proofs.lemmas.List.{with_items_is}
 use Rattle.noc_packet.specs.declared.packet.Beat.{Beat}
 use Rattle.noc_net.specs.Halves.{beat_at}
-use Rattle.noc_net.specs.Marks.{AreMarked}
 use Rattle.noc_tiles.specs.Ends.{outlet}
-use Rattle.noc_tiles.specs.Phases.{IsCleared}
+use Rattle.noc_tiles.specs.Phases.{IsCleared, IsIndexOf}
 use Rattle.noc_tiles.specs.TileStep.{ends_after_beats, arrival_places}
 use Rattle.noc_tiles.specs.Tiles.{AreLinkPorts, outlets}
 use Rattle.noc_tiles.proofs.TileStepLemmas.{places-names}
@@ -17,10 +16,10 @@ clear_all-requires-clause-within g c =
     let same : arrival_places (map outlet c.put_all.new.ends.items) ≡ arrival_places (outlets a) = places-names (map outlet c.put_all.new.ends.items) (outlets a) c.put_all.ensures.ends in
     subst (λ (k : ℕ). AreLinkPorts k 6 (arrival_places (map outlet c.put_all.new.ends.items))) (sym (ap length c.deref_mut.ensures.value)) (subst (AreLinkPorts (length a.beats.items) 6) (sym same) c.requires.within)
 
-pub returns-clause-marks : goal.returns-clause-marks
-returns-clause-marks g c h =
+pub returns-clause-index : goal.returns-clause-index
+returns-clause-index g c h =
     let after = with_items_is c.args.tile.now.beats c.clear_all.new.beats (search (rules, arith)) in
-    subst (AreMarked c.clear_all.new.marks) (sym after) c.clear_all.ensures.marks
+    subst (IsIndexOf c.clear_all.new.marks) (sym after) c.clear_all.ensures.index
 
 pub returns-clause-sent : goal.returns-clause-sent
 returns-clause-sent g c h =

@@ -5,8 +5,8 @@ use Rattle.noc_topo.specs.Words.{map_indexed}
 use Rattle.noc_packet.specs.declared.packet.Beat.{Beat}
 use Rattle.noc_router.specs.View.{View, view_after_takes}
 use Rattle.noc_net.specs.Halves.{IsLinked, beat_at, incoming}
-use Rattle.noc_net.specs.Marks.{AreMarked}
 use Rattle.noc_tiles.specs.Ends.{inlet}
+use Rattle.noc_tiles.specs.Phases.{IsIndexOf}
 use Rattle.noc_tiles.specs.TileStep.{arrival_places}
 use Rattle.noc_tiles.specs.Tiles.{inlets, outlets}
 use Rattle.noc_tiles.proofs.CycleLemmas.{linked-taken, idle-taken, all-took}
@@ -36,11 +36,12 @@ take_all-requires-2-clause-others g c =
     (took-as (arrival_places (inlets a)) t.0 c.deref_mut.result.now c.take_all.new.beats a.beats.items b1 c.deref_mut.ensures.value after t.3) r port
     (own-false a.first (length a.routers.items) r (subst (λ (k : ℕ). (r < a.first) ⊎ (a.first + k ≤ r)) (ap length c.deref_mut-2.ensures.value) out))
 
-pub returns-clause-marks : goal.returns-clause-marks
-returns-clause-marks g c h =
+pub returns-clause-index : goal.returns-clause-index
+returns-clause-index g c h =
     let w = with_items c.args.tile.now.beats c.take_all.new.beats in
     let end = with_items_is w c.take_all-2.new.beats (search (rules, arith)) in
-    subst (AreMarked c.take_all-2.new.marks) (sym end) c.take_all-2.ensures.marks
+    let size : length c.take_all-2.new.beats ≡ length c.take_all.new.beats = search (rules, arith) in
+    subst (IsIndexOf c.take_all-2.new.marks) (sym end) (record { few = omega (arith, size, c.take_all.ensures.index.few); marked = c.take_all-2.ensures.marks })
 
 pub returns-clause-taken : goal.returns-clause-taken
 returns-clause-taken g c h =

@@ -13,7 +13,7 @@ loop-one-init g c = record {
   width = refl;
   ends = sym (fed-nil _);
   beats = λ r q. sym (filled-nil (beat_at c.args.beats.now) (arrival_places (map inlet c.deref_mut-one-items.result.now)) r q);
-  marks = c.requires.marks;
+  marks = c.requires.index.marked;
   size = refl;
   rows = λ i l. search rules;
 }
@@ -24,7 +24,7 @@ note-requires-clause-node g c =
     let v = c.loop-one.invariant in
     let p = within-at inlet (length c.args.beats.now) 6 c.args.ins.now.items items0 c.loop-one.one-items v.row c.loop-one.one-index c.one-item.result c.requires.within c.deref_mut-one-items.ensures.value v.ends (search rules) in
     let e = ap (λ (w : End). w.at.0) c.in-Some.ensures.took in
-    omega (arith, p.0, e, c.requires.few)
+    omega (arith, p.0, e, c.requires.index.few)
 
 pub note-requires-clause-port : goal.note-requires-clause-port
 note-requires-clause-port g c =
