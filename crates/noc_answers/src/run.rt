@@ -46,6 +46,7 @@ pub(crate) fn run<W: Sink>(
 }
 
 // Runs the network by two or more workers for its cycles, and writes a report; ranks are checked before, if there are any.
+// Only a network that does not fit rows is run in threads.
 pub(crate) fn run_by_workers<R: Threads + Wait + Sync, W: Sink>(
     rt: &R,
     alloc: Global,
