@@ -199,10 +199,13 @@ both_ranks before after = detail.Rank before ∷ detail.NextRank after ∷ []
 abbrev pub fall_details : Grid → Entry → ℕ → ℕ → ℕ → ℕ → List Detail
 fall_details g entry port vc before after = hop_details g (step_of entry port vc) ++ both_ranks before after
 
+abbrev pub channel_details : Grid → ℕ → ℕ → ℕ → List Detail
+channel_details g router port vc = detail.Router router ∷ detail.Port g port ∷ detail.Vc vc ∷ []
+
 -- two link channels and their ranks
 abbrev pub descent_details : Grid → LinkChannel → LinkChannel → ℕ → ℕ → List Detail
 descent_details g e o before after =
-    detail.Router e.router ∷ detail.Port g e.port ∷ detail.Vc e.vc ∷ detail.ToRouter o.router ∷ detail.Port g o.port ∷ detail.Vc o.vc ∷ both_ranks before after
+    channel_details g e.router e.port e.vc ++ detail.ToRouter o.router ∷ detail.Port g o.port ∷ detail.Vc o.vc ∷ both_ranks before after
 
 abbrev pub rank_details : Grid → RankFault → List Detail
 rank_details g (rank.NotRising entry port vc before after) = fall_details g entry port vc before after
@@ -210,7 +213,7 @@ rank_details g (rank.NotRisingTo e o before after) = descent_details g e o befor
 rank_details g (rank.NoEscape entry) = entry_details g entry
 rank_details g (rank.UnknownChannel row) = detail.Row row ∷ []
 rank_details g (rank.DoubleChannel row) = detail.Row row ∷ []
-rank_details g (rank.MissingChannel router port vc) = detail.Router router ∷ detail.Port g port ∷ detail.Vc vc ∷ []
+rank_details g (rank.MissingChannel router port vc) = channel_details g router port vc
 rank_details g (rank.BadRank row) = detail.Row row ∷ []
 rank_details g _ = []
 

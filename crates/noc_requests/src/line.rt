@@ -2,7 +2,7 @@
 
 ghost use Rattle.std.specs.Prelude.{◌≡◌, ◌≤◌, codes, length};
 ghost use Rattle.noc_files.specs.Writing.{Wrote};
-ghost use Rattle.noc_requests.specs.Line.{descent_details, entry_details, fall_details, hop_details, input_details, input_title, line_of, line_with, net_details, net_title, option_title, port_word, rank_details, rank_title, route_details, route_title, run_title, shape_title, value_of, word_of};
+ghost use Rattle.noc_requests.specs.Line.{channel_details, descent_details, entry_details, fall_details, hop_details, input_details, input_title, line_of, line_with, net_details, net_title, option_title, port_word, rank_details, rank_title, route_details, route_title, run_title, shape_title, value_of, word_of};
 
 use crate::fault::{Fault, OptionFault};
 use arrayvec::ArrayString;
@@ -298,25 +298,16 @@ fn rank_line(fault: &RankFault, shape: &Shape) -> Line
             rank,
             next,
         } => {
-            line_with(
-                "rank",
-                title,
-                &descent_details(shape, from, to, *rank, *next),
-            )
+            let details = descent_details(shape, from, to, *rank, *next);
+            line_with("rank", title, &details)
         }
         RankFault::NoEscape(entry) => line_with("rank", title, &entry_details(shape, entry)),
         RankFault::UnknownChannel { row }
         | RankFault::DoubleChannel { row }
         | RankFault::BadRank { row } => line_with("rank", title, &[Detail::Row(*row)]),
-        RankFault::MissingChannel { router, port, vc } => line_with(
-            "rank",
-            title,
-            &[
-                Detail::Router(*router),
-                Detail::Port(*shape, *port),
-                Detail::Vc(*vc),
-            ],
-        ),
+        RankFault::MissingChannel { router, port, vc } => {
+            line_with("rank", title, &channel_details(shape, *router, *port, *vc))
+        }
         RankFault::NoGenerated | RankFault::Memory => line_with("rank", title, &[]),
     }
 }
@@ -342,6 +333,17 @@ fn fall_details(
         Detail::Vc(out_vc),
         Detail::Rank(rank),
         Detail::NextRank(next),
+    ]
+}
+
+// A link channel.
+fn channel_details(shape: &Shape, router: usize, port: usize, vc: usize) -> [Detail; 3]
+    ensures { result ≡ channel_details shape.now router port vc }
+{
+    [
+        Detail::Router(router),
+        Detail::Port(*shape, port),
+        Detail::Vc(vc),
     ]
 }
 
