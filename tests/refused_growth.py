@@ -50,10 +50,13 @@ FILES = {
     "tabled": config("mesh", 2, 2, 2, "table", 8),
     "rows": TABLE_HEADER + "0,0,local,0,1,+0,0\n0,0,local,1,1,+0,0\n0,1,local,0,0,-0,0\n0,1,local,1,0,-0,0\n0,1,-0,0,1,local,0\n0,0,+0,0,0,local,0\n",
     "line": config("mesh", 3, 1, 2, "dor", 20), "two": TRAFFIC_HEADER + "0,2,0,1,0\n1,2,0,1,0\n",
+    # Five ports with eight channels each are too many for rows, so workers run this network in threads.
+    "wide": config("mesh", "3, 2", 8, 2, "dor", 20),
 }
 PAIR_REPORT = report(("0,1,0,1,0", 5))
 RING_REPORT = report(("0,2,0,4,0", 24), ("1,3,0,4,0", 14), ("2,0,0,4,0", 44), ("3,1,0,4,0", 34))
 LINE_REPORT = report(("0,2,0,1,0", 10), ("1,2,0,1,0", 5))
+WIDE_REPORT = report(("0,2,0,1,0", 8), ("1,2,0,1,0", 5))
 # Words with the text on standard input, the answer, and the families of which want of memory is told: of all that is read and made.
 ANSWERED = [
     ([], FILES["pair"] + "---\n" + FILES["one"], PAIR_REPORT, "joined config relation traffic network"),
@@ -63,8 +66,9 @@ ANSWERED = [
     (["run", "tabled", "one", "--table", "rows"], "", PAIR_REPORT, "config table relation traffic network"),
     (["ranks", "line"], "", "router,port,vc,rank\n0,+0,0,1\n1,+0,0,2\n1,-0,0,2\n2,-0,0,1\n", "config relation rank"),
     (["run", "line", "two"], "", LINE_REPORT, "config relation traffic network"),
-    (["run", "line", "two", "--workers", "2"], "", LINE_REPORT, "config relation traffic network run"),
-    (["run", "line", "two", "--workers", "3"], "", LINE_REPORT, "config relation traffic network run"),
+    (["run", "line", "two", "--workers", "3"], "", LINE_REPORT, "config relation traffic network"),
+    (["run", "wide", "two", "--workers", "2"], "", WIDE_REPORT, "config relation traffic network run"),
+    (["run", "wide", "two", "--workers", "3"], "", WIDE_REPORT, "config relation traffic network run"),
 ]
 REPORTS = [["--report", kind] for kind in ("summary", "latency", "stalls")]
 
@@ -105,7 +109,8 @@ def each_growth_refused(growths):
 
 def no_growth_after_building(growths):
     """The program asks for memory as often for one cycle as for a thousand, and for each report."""
-    for name, traffic, more in (("pair", "one", []), ("ring", "round", []), ("line", "two", ["--workers", "2"])):
+    for name, traffic, more in (("pair", "one", []), ("ring", "round", []), ("line", "two", ["--workers", "2"]),
+                                ("wide", "two", ["--workers", "2"])):
         short, long = (FILES[name][:FILES[name].index("cycles")] + f"cycles = {cycles}\n" for cycles in (1, 1000))
         growths.calls.put(short=short.encode(), long=long.encode())
         asked = set()

@@ -359,9 +359,12 @@ def bounded_memory(calls):
     """
     traffic, report = late_packets(20000)
     square = PLAIN.replace(b"[2]", b"[8, 8]")
-    calls.put(late=traffic, short=PLAIN.replace(b" 8", b" 1"), square=square, rising=rising_ranks(8))
+    # Too many channels for rows, so that two workers are two threads.
+    many = PLAIN.replace(b"[2]", b"[2, 2]").replace(b"channels = 1", b"channels = 8")
+    calls.put(late=traffic, short=PLAIN.replace(b" 8", b" 1"), square=square, rising=rising_ranks(8), many=many)
     wanted = [([], REPORT), (COMMANDS["run"][0], REPORT), (["run", "short", "late"], report),
-              (["run", "plain", "traffic", "--workers", "2"], REPORT), (["check", "square", "--ranks", "rising"], b"accepted\n")]
+              (["run", "plain", "traffic", "--workers", "2"], REPORT), (["run", "many", "traffic", "--workers", "2"], REPORT),
+              (["check", "square", "--ranks", "rising"], b"accepted\n")]
     for megabytes in (3, 3.1, 3.3, 3.6, 4, 5, 6, 8, 11, 16, 24, 40, 100, AMPLE):
         bound = (int(megabytes * 2**20), int(megabytes * 2**20))
         for words, answer in wanted:

@@ -1,5 +1,5 @@
 -- What is answered to a request: the text that is asked for and how it ended, or the first fault.
-use Rattle.std.specs.Prelude.{◌≡◌, ◌⊎◌, ℕ, ◌<◌, Bool, true, false, List, length, codes, is_some, Option, Some, None, Ok, Err}
+use Rattle.std.specs.Prelude.{◌≡◌, ◌⊎◌, ℕ, ◌<◌, Bool, true, false, List, length, codes, is_some, Option, Some, None, Result, Ok, Err}
 use Rattle.noc_route.specs.Routes.{Routes}
 use Rattle.noc_net.specs.Limit.{are_all_out}
 use Rattle.noc_net.specs.Network.{Run, Setup, state_at}
@@ -10,10 +10,12 @@ use Rattle.noc_files.specs.Findings.{findings_text}
 use Rattle.noc_files.specs.Joined.{line_at}
 use Rattle.noc_files.specs.Ranks.{ranks_text}
 use Rattle.noc_files.specs.Trace.{trace_text}
+use Rattle.noc_files.specs.Writing.{Wrote}
 use Rattle.noc_files.specs.declared.trace.Traced.{Traced}
 use Rattle.noc_files.specs.declared.fault.InputFault.{InputFault}
 use Rattle.noc_files.specs.declared.fault.InputFault.TheVariants as input
 use Rattle.noc_requests.specs.Asked.{Asked, TextValue, ReadsAs, is_joined, owned_text}
+use Rattle.noc_requests.specs.Ending.{Ends}
 use Rattle.noc_requests.specs.Options.{first_cycle, packet_option_fault}
 use Rattle.noc_requests.specs.Settings.{AsksForRelation, SettingsFault}
 use Rattle.noc_requests.specs.declared.request.Command.{Command}
@@ -28,7 +30,7 @@ use Rattle.noc_requests.specs.declared.fault.OptionFault.{OptionFault}
 use Rattle.noc_answers.specs.Check.{AsksForChecked, RanksFault, checked_ranks}
 use Rattle.noc_answers.specs.Formula.{HasRanks, IsFormulaFault}
 use Rattle.noc_answers.specs.Reports.{report_text}
-use Rattle.noc_answers.specs.Run.{AsksForRun, IsNetworkOf, PacketsFault, ending, report_of}
+use Rattle.noc_answers.specs.Run.{AsksForRun, IsNetworkOf, PacketsFault, ending, report_of, workers_of}
 
 -- ---- the texts of a request
 
@@ -55,6 +57,10 @@ pub data TextsFault (a : Asked) : Fault → Type 0 where
   in_packets : {s : Settings} {routes : Routes} {f : Fault} → runs a.command ≡ true → AsksForChecked a s routes → PacketsFault routes a.traffic f → TextsFault a f
   no_packet : {s : Settings} {routes : Routes} {net : Setup} {f : OptionFault} → AsksForChecked a s routes → IsNetworkOf routes s.buffer a.traffic net
       → packet_option_fault a.command (length net.packets) ≡ Some f → TextsFault a (fault.Option f)
+
+-- what these texts ask for is written into a sink, or their first fault is answered and nothing is written
+abbrev pub IsAnswered : {S : Type 0} → (S → Option (List ℕ)) → (S → Bool) → S → S → Asked → Result Status Fault → Type 0
+IsAnswered contents failed old new a result = Ends (workers_of a.command) (Wrote contents failed old new) (new ≡ old) (AsksFor a) (TextsFault a) result
 
 -- ---- a request
 

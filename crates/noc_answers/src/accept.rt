@@ -5,12 +5,10 @@ ghost use Rattle.noc_route.specs.Routes.{Routes};
 ghost use Rattle.noc_files.specs.Configuration.{Settings};
 ghost use Rattle.noc_files.specs.Gives.{Gives};
 ghost use Rattle.noc_files.specs.Ranks.{ranks_of};
-ghost use Rattle.noc_files.specs.Writing.{Wrote};
 ghost use Rattle.noc_requests.specs.Asked.{lent_files, lent_text, read_by};
-ghost use Rattle.noc_requests.specs.Ending.{Ends, Refuses};
-ghost use Rattle.noc_answers.specs.Answer.{AsksFor, TextsFault};
+ghost use Rattle.noc_requests.specs.Ending.{Refuses};
+ghost use Rattle.noc_answers.specs.Answer.{IsAnswered, TextsFault};
 ghost use Rattle.noc_answers.specs.Check.{Accepts, AsksForChecked, HasRanking, RanksFault};
-ghost use Rattle.noc_answers.specs.Run.{workers_of};
 
 use noc_files::{InputFault, Sink, read_ranks, write_pieces};
 use noc_rank::{RankRow, Ranks, check};
@@ -28,7 +26,7 @@ pub(crate) fn answer_check<W: Sink>(
     sink: &mut W,
 ) -> Result<Status, Fault>
     requires { files.now.command ≡ Command.Check }
-    ensures { Ends (workers_of files.now.command) (Wrote W.contents W.has_failed sink.old sink.new) (sink.new ≡ sink.old) (AsksFor (lent_files files.now)) (TextsFault (lent_files files.now)) result }
+    ensures { IsAnswered W.contents W.has_failed sink.old sink.new (lent_files files.now) result }
 {
     accept_files(rt, alloc, files)?;
     match write_pieces(&["accepted\n"], sink) {

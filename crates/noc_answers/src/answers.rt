@@ -5,7 +5,7 @@ ghost use Rattle.noc_files.specs.Writing.{Wrote};
 ghost use Rattle.noc_requests.specs.Asked.{ReadsAs, lent_files};
 ghost use Rattle.noc_requests.specs.Ending.{Ends, Refuses};
 ghost use Rattle.noc_requests.specs.declared.status.Status.TheVariants.{Done as done};
-ghost use Rattle.noc_answers.specs.Answer.{Asks, AsksFor, AsksForArrivals, FirstFault, IsRankedDrain, IsRankedRun, TextsFault};
+ghost use Rattle.noc_answers.specs.Answer.{Asks, AsksForArrivals, FirstFault, IsAnswered, IsRankedDrain, IsRankedRun};
 ghost use Rattle.noc_answers.specs.Run.{HasWorkers, workers_of};
 
 use crate::accept::answer_check;
@@ -24,6 +24,9 @@ use std::thread::Threads;
 /// network, packet to be traced, run, report. `explain`, `trace` and `ranks` look at no rank file, `check` and `ranks` at no traffic.
 ///
 /// A `run` with a rank file that ends without a fault is done, and never stuck. Where it is to drain, every packet has arrived.
+///
+/// A `run` by two or more workers starts threads only where the network does not fit rows (`Network::fits_rows`). Workers change
+/// no report.
 pub fn answer<R: Threads + Wait + Sync, W: Sink>(
     rt: &R,
     alloc: Global,
@@ -88,7 +91,7 @@ fn answer_files<W: Sink>(
     files: &Files<'_>,
     sink: &mut W,
 ) -> Result<Status, Fault>
-    ensures { Ends (workers_of files.now.command) (Wrote W.contents W.has_failed sink.old sink.new) (sink.new ≡ sink.old) (AsksFor (lent_files files.now)) (TextsFault (lent_files files.now)) result }
+    ensures { IsAnswered W.contents W.has_failed sink.old sink.new (lent_files files.now) result }
 {
     match files.command {
         Command::Joined => run(rt, alloc, files, Report::Latency, false, sink),

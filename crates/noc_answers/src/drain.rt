@@ -32,11 +32,12 @@ pub(crate) fn run_to_end(network: &mut Network, cycles: u64, drain: bool)
     }
 }
 
-// Runs a network by two or more workers that has not run for so many cycles, and on where it is to drain.
+// Runs a network by two or more workers that has not run for so many cycles, and on where it is to drain. A network that
+// fits rows is run by the caller alone, and no thread is started: one thread runs rows faster than several run routers.
 pub(crate) fn run_to_end_by_workers<R: Threads + Wait + Sync>(
     rt: &R,
     alloc: Global,
-    network: Network,
+    mut network: Network,
     cycles: u64,
     workers: usize,
     drain: bool,
@@ -48,6 +49,10 @@ pub(crate) fn run_to_end_by_workers<R: Threads + Wait + Sync>(
     ensures end { IfOk result (λ n. RunsTo drain n.net cycles n.count) }
     ensures lost { IfErr result (λ e. e ≢ LostWorker) }
 {
+    if network.fits_rows() {
+        run_to_end(&mut network, cycles, drain);
+        return Ok(network);
+    }
     let network = run_stretches(rt, alloc, network, cycles, workers)?;
     if drain {
         run_on_by_workers(rt, alloc, network, workers)

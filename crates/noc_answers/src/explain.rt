@@ -2,11 +2,10 @@
 
 ghost use Rattle.std.specs.Prelude.{◌≡◌, ◌<◌, IfErr, IfOk};
 ghost use Rattle.noc_topo.specs.Shape.{nodes};
-ghost use Rattle.noc_files.specs.Writing.{Wrote};
 ghost use Rattle.noc_requests.specs.Asked.{lent_files};
-ghost use Rattle.noc_requests.specs.Ending.{Ends, Refuses};
-ghost use Rattle.noc_answers.specs.Answer.{AsksFor, TextsFault};
-ghost use Rattle.noc_answers.specs.Run.{AsksForRun, workers_of};
+ghost use Rattle.noc_requests.specs.Ending.{Refuses};
+ghost use Rattle.noc_answers.specs.Answer.{IsAnswered, TextsFault};
+ghost use Rattle.noc_answers.specs.Run.{AsksForRun};
 
 use crate::run::network_of;
 use noc_files::{Sink, write_findings};
@@ -23,7 +22,7 @@ pub(crate) fn explain<W: Sink>(
     sink: &mut W,
 ) -> Result<Status, Fault>
     requires { files.now.command ≡ Command.Explain cycle router }
-    ensures { Ends (workers_of files.now.command) (Wrote W.contents W.has_failed sink.old sink.new) (sink.new ≡ sink.old) (AsksFor (lent_files files.now)) (TextsFault (lent_files files.now)) result }
+    ensures { IsAnswered W.contents W.has_failed sink.old sink.new (lent_files files.now) result }
 {
     let network = network_after(alloc, files, cycle, router)?;
     match write_findings(&network, router, sink) {

@@ -2,12 +2,9 @@
 
 ghost use Rattle.std.specs.Prelude.{◌≡◌, IfErr, IfOk};
 ghost use Rattle.noc_files.specs.Configuration.{settings};
-ghost use Rattle.noc_files.specs.Writing.{Wrote};
 ghost use Rattle.noc_requests.specs.Asked.{lent_files};
-ghost use Rattle.noc_requests.specs.Ending.{Ends, Refuses};
-ghost use Rattle.noc_answers.specs.Answer.{AsksFor, TextsFault};
+ghost use Rattle.noc_answers.specs.Answer.{IsAnswered};
 ghost use Rattle.noc_answers.specs.Formula.{HasRanks, IsFormulaFault};
-ghost use Rattle.noc_answers.specs.Run.{workers_of};
 
 use noc_files::{Config, Sink, write_ranks};
 use noc_rank::{RankFault, Ranks};
@@ -22,7 +19,7 @@ pub(crate) fn answer_ranks<W: Sink>(
     sink: &mut W,
 ) -> Result<Status, Fault>
     requires { files.now.command ≡ Command.Ranks }
-    ensures { Ends (workers_of files.now.command) (Wrote W.contents W.has_failed sink.old sink.new) (sink.new ≡ sink.old) (AsksFor (lent_files files.now)) (TextsFault (lent_files files.now)) result }
+    ensures { IsAnswered W.contents W.has_failed sink.old sink.new (lent_files files.now) result }
 {
     let (config, relation) = relation_of(alloc, files)?;
     let shape = relation.shape();

@@ -5,9 +5,9 @@ ghost use Rattle.noc_files.specs.Gives.{Gives};
 ghost use Rattle.noc_files.specs.Traffic.{traffic_of};
 ghost use Rattle.noc_files.specs.Writing.{Wrote};
 ghost use Rattle.noc_requests.specs.Asked.{lent_files, lent_text, read_by};
-ghost use Rattle.noc_requests.specs.Ending.{Ends, IsWriteFault, Refuses};
+ghost use Rattle.noc_requests.specs.Ending.{IsWriteFault, Refuses};
 ghost use Rattle.noc_requests.specs.declared.request.Report.{Report as ReportValue};
-ghost use Rattle.noc_answers.specs.Answer.{AsksFor, TextsFault};
+ghost use Rattle.noc_answers.specs.Answer.{IsAnswered, TextsFault};
 ghost use Rattle.noc_answers.specs.Drain.{RunsTo};
 ghost use Rattle.noc_answers.specs.Reports.{report_text};
 ghost use Rattle.noc_answers.specs.Run.{AsksForRun, IsNetworkOf, PacketsFault, ending, runs_until_out, report_of, workers_of};
@@ -38,7 +38,7 @@ pub(crate) fn run<W: Sink>(
 ) -> Result<Status, Fault>
     requires report { report_of files.now.command ≡ Some report }
     requires drain { runs_until_out files.now.command ≡ drain }
-    ensures { Ends (workers_of files.now.command) (Wrote W.contents W.has_failed sink.old sink.new) (sink.new ≡ sink.old) (AsksFor (lent_files files.now)) (TextsFault (lent_files files.now)) result }
+    ensures { IsAnswered W.contents W.has_failed sink.old sink.new (lent_files files.now) result }
 {
     let (mut network, cycles) = opening_network(rt, alloc, files)?;
     run_to_end(&mut network, cycles, drain);
@@ -46,6 +46,7 @@ pub(crate) fn run<W: Sink>(
 }
 
 // Runs the network by two or more workers for its cycles, and writes a report; ranks are checked before, if there are any.
+// Only a network that does not fit rows is run in threads.
 pub(crate) fn run_by_workers<R: Threads + Wait + Sync, W: Sink>(
     rt: &R,
     alloc: Global,
@@ -59,7 +60,7 @@ pub(crate) fn run_by_workers<R: Threads + Wait + Sync, W: Sink>(
     requires drain { runs_until_out files.now.command ≡ drain }
     requires workers { workers_of files.now.command ≡ workers }
     requires number { (1 < workers) × (workers ≤ MAX_WORKERS) }
-    ensures { Ends (workers_of files.now.command) (Wrote W.contents W.has_failed sink.old sink.new) (sink.new ≡ sink.old) (AsksFor (lent_files files.now)) (TextsFault (lent_files files.now)) result }
+    ensures { IsAnswered W.contents W.has_failed sink.old sink.new (lent_files files.now) result }
 {
     let (network, cycles) = opening_network(rt, alloc, files)?;
     match run_to_end_by_workers(rt, alloc, network, cycles, workers, drain) {

@@ -2,12 +2,11 @@
 
 ghost use Rattle.std.specs.Prelude.{◌≡◌, ◌+◌, ◌<◌, ◌≤◌, IfErr, IfOk, IfSome, None, false, length};
 ghost use Rattle.noc_topo.specs.Shape.{nodes};
-ghost use Rattle.noc_files.specs.Writing.{Wrote};
 ghost use Rattle.noc_requests.specs.Asked.{lent_files};
 ghost use Rattle.noc_requests.specs.Options.{first_cycle, is_bad_span, last_cycle, packet_option_fault};
-ghost use Rattle.noc_requests.specs.Ending.{Ends, Refuses};
-ghost use Rattle.noc_answers.specs.Answer.{AsksFor, TextsFault};
-ghost use Rattle.noc_answers.specs.Run.{AsksForRun, workers_of};
+ghost use Rattle.noc_requests.specs.Ending.{Refuses};
+ghost use Rattle.noc_answers.specs.Answer.{IsAnswered, TextsFault};
+ghost use Rattle.noc_answers.specs.Run.{AsksForRun};
 
 use crate::run::network_of;
 use noc_files::{MAX_CYCLES, Sink, Trace, Traced, write_trace};
@@ -27,7 +26,7 @@ pub(crate) fn trace<W: Sink>(
     sink: &mut W,
 ) -> Result<Status, Fault>
     requires { files.now.command ≡ Command.Trace from to traced }
-    ensures { Ends (workers_of files.now.command) (Wrote W.contents W.has_failed sink.old sink.new) (sink.new ≡ sink.old) (AsksFor (lent_files files.now)) (TextsFault (lent_files files.now)) result }
+    ensures { IsAnswered W.contents W.has_failed sink.old sink.new (lent_files files.now) result }
 {
     let (mut network, cycles) = network_to_trace(alloc, files, from, to, traced)?;
     let trace = match Trace::new(alloc, &network, traced) {

@@ -36,6 +36,9 @@ use noc_topo::LINKS;
 use std::alloc::Global;
 use std::marker::Model;
 
+/// The most input channels of a router, ports times virtual channels, that fit into rows.
+pub const MAX_ROW_CHANNELS: usize = 31;
+
 /// A network of routers with one wire in each direction of each link, run in lockstep.
 ///
 /// It is seen as four values: its relation, the places in each buffer, its packets, and the count of the
@@ -127,6 +130,16 @@ impl Network {
             rows: None,
             count,
         }
+    }
+
+    /// Whether a network of this relation and these places is made with rows (`Network::new`). One thread runs rows faster
+    /// than several run routers.
+    pub fn fits_rows(&self) -> bool
+        ensures { result ≡ (nat_le (ports_of self.now.net.relation.grid * self.now.net.relation.vcs) MAX_ROW_CHANNELS && nat_le self.now.net.places MAX_BUFFER) }
+    {
+        let relation = &self.parts.relation;
+        relation.shape().ports() * relation.vcs() <= MAX_ROW_CHANNELS
+            && self.parts.buffer <= MAX_BUFFER
     }
 
     /// Runs one cycle: each router takes its beats, injects, decides and commits, and then all put. A network whose relation

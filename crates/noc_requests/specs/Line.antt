@@ -1,10 +1,11 @@
 -- The line that tells a fault (docs/FORMATS.md, "Fault lines").
 use Rattle.std.specs.Prelude.{ℕ, List, [], ◌∷◌, ◌++◌, codes, decimal, nat_lt, if◌then◌else◌}
+use Rattle.std.specs.List.{flat_map}
 use Rattle.noc_topo.specs.Shape.{Grid, ports}
 use Rattle.noc_topo.specs.declared.shape.ShapeFault.TheVariants as shape
 use Rattle.noc_files.specs.Keys.{key_name}
 use Rattle.noc_files.specs.Ports.{name_of_port}
-use Rattle.noc_files.specs.Writing.{text_of_pieces, line_end}
+use Rattle.noc_files.specs.Writing.{line_end}
 use Rattle.noc_files.specs.declared.fault.InputFault.{InputFault}
 use Rattle.noc_files.specs.declared.fault.InputFault.TheVariants as input
 use Rattle.noc_net.specs.declared.fault.NetFault.{NetFault}
@@ -24,10 +25,51 @@ use Rattle.noc_requests.specs.declared.fault.OptionFault.{OptionFault}
 use Rattle.noc_requests.specs.declared.fault.OptionFault.TheVariants as option
 use Rattle.noc_requests.specs.declared.fault.Fault.{Fault}
 use Rattle.noc_requests.specs.declared.fault.Fault.TheVariants as fault
+use Rattle.noc_requests.specs.declared.line.Detail.{Detail}
+use Rattle.noc_requests.specs.declared.line.Detail.TheVariants as detail
 
--- `fault`, a family, a number with its name, and the pieces of the details
-unfoldable pub line_with : List ℕ → List ℕ → List (List ℕ) → List ℕ
-line_with family title details = text_of_pieces (codes "fault " ∷ family ∷ codes " " ∷ title ∷ (details ++ line_end ∷ []))
+-- ---- a detail: a word and a value
+
+abbrev pub word_of : Detail → List ℕ
+word_of (detail.Key k) = codes " key "
+word_of (detail.Row n) = codes " row "
+word_of (detail.Column n) = codes " column "
+word_of (detail.Class n) = codes " class "
+word_of (detail.Router n) = codes " router "
+word_of (detail.Port g port) = codes " port "
+word_of (detail.Vc n) = codes " vc "
+word_of (detail.Dst n) = codes " dst "
+word_of (detail.Out g port) = codes " out "
+word_of (detail.ToRouter n) = codes " to router "
+word_of (detail.Rank n) = codes " ranks "
+word_of (detail.NextRank n) = codes " "
+word_of (detail.Written n) = codes " written "
+
+-- the name of a port, or its number where the shape has no such port
+abbrev pub port_word : Grid → ℕ → List ℕ
+port_word g port = if nat_lt port (ports g) then name_of_port g port else decimal port
+
+abbrev pub value_of : Detail → List ℕ
+value_of (detail.Key k) = key_name k
+value_of (detail.Row n) = decimal n
+value_of (detail.Column n) = decimal n
+value_of (detail.Class n) = decimal n
+value_of (detail.Router n) = decimal n
+value_of (detail.Port g port) = port_word g port
+value_of (detail.Vc n) = decimal n
+value_of (detail.Dst n) = decimal n
+value_of (detail.Out g port) = port_word g port
+value_of (detail.ToRouter n) = decimal n
+value_of (detail.Rank n) = decimal n
+value_of (detail.NextRank n) = decimal n
+value_of (detail.Written n) = decimal n
+
+abbrev pub detail_text : Detail → List ℕ
+detail_text d = word_of d ++ value_of d
+
+-- `fault`, a family, a number with its name, and details
+unfoldable pub line_with : List ℕ → List ℕ → List Detail → List ℕ
+line_with family title details = codes "fault " ++ family ++ codes " " ++ title ++ flat_map detail_text details ++ line_end
 
 -- ---- families
 
@@ -125,36 +167,24 @@ title_of (fault.Write f) = codes "1 WriteFailed"
 
 -- ---- details
 
-abbrev pub row_details : ℕ → List (List ℕ)
-row_details row = codes " row " ∷ decimal row ∷ []
-
-abbrev pub field_details : ℕ → ℕ → List (List ℕ)
-field_details row column = codes " row " ∷ decimal row ∷ codes " column " ∷ decimal column ∷ []
-
-abbrev pub input_details : InputFault → List (List ℕ)
-input_details (input.MissingKey k) = codes " key " ∷ key_name k ∷ []
-input_details (input.WrongType k) = codes " key " ∷ key_name k ∷ []
-input_details (input.BadValue k) = codes " key " ∷ key_name k ∷ []
-input_details (input.BadCount row) = row_details row
-input_details (input.BadNumber row column) = field_details row column
-input_details (input.BadPort row column) = field_details row column
+abbrev pub input_details : InputFault → List Detail
+input_details (input.MissingKey k) = detail.Key k ∷ []
+input_details (input.WrongType k) = detail.Key k ∷ []
+input_details (input.BadValue k) = detail.Key k ∷ []
+input_details (input.BadCount row) = detail.Row row ∷ []
+input_details (input.BadNumber row column) = detail.Row row ∷ detail.Column column ∷ []
+input_details (input.BadPort row column) = detail.Row row ∷ detail.Column column ∷ []
 input_details _ = []
 
--- the name of a port, or its number where the shape has no such port
-abbrev pub port_word : Grid → ℕ → List ℕ
-port_word g port = if nat_lt port (ports g) then name_of_port g port else decimal port
+abbrev pub entry_details : Grid → Entry → List Detail
+entry_details g e = detail.Class e.class ∷ detail.Router e.router ∷ detail.Port g e.in_port ∷ detail.Vc e.in_vc ∷ detail.Dst e.dst ∷ []
 
-abbrev pub entry_details : Grid → Entry → List (List ℕ)
-entry_details g e =
-    codes " class " ∷ decimal e.class ∷ codes " router " ∷ decimal e.router ∷ codes " port " ∷ port_word g e.in_port ∷ codes " vc " ∷ decimal e.in_vc
-    ∷ codes " dst " ∷ decimal e.dst ∷ []
-
-abbrev pub hop_details : Grid → RouteRow → List (List ℕ)
+abbrev pub hop_details : Grid → RouteRow → List Detail
 hop_details g row =
-    codes " class " ∷ decimal row.class ∷ codes " router " ∷ decimal row.router ∷ codes " port " ∷ port_word g row.in_port ∷ codes " vc " ∷ decimal row.in_vc
-    ∷ codes " dst " ∷ decimal row.dst ∷ codes " out " ∷ port_word g row.out_port ∷ codes " vc " ∷ decimal row.out_vc ∷ []
+    detail.Class row.class ∷ detail.Router row.router ∷ detail.Port g row.in_port ∷ detail.Vc row.in_vc ∷ detail.Dst row.dst ∷ detail.Out g row.out_port
+    ∷ detail.Vc row.out_vc ∷ []
 
-abbrev pub route_details : Grid → RouteFault → List (List ℕ)
+abbrev pub route_details : Grid → RouteFault → List Detail
 route_details g (route.NoLink row) = hop_details g row
 route_details g (route.NotMinimal row) = hop_details g row
 route_details g (route.EarlyEject row) = hop_details g row
@@ -162,40 +192,40 @@ route_details g (route.LateHop row) = hop_details g row
 route_details g (route.NoWay entry) = entry_details g entry
 route_details g _ = []
 
-abbrev pub both_ranks : ℕ → ℕ → List (List ℕ)
-both_ranks before after = codes " ranks " ∷ decimal before ∷ codes " " ∷ decimal after ∷ []
+abbrev pub both_ranks : ℕ → ℕ → List Detail
+both_ranks before after = detail.Rank before ∷ detail.NextRank after ∷ []
 
 -- a step, and the ranks before and after it
-abbrev pub fall_details : Grid → RouteRow → ℕ → ℕ → List (List ℕ)
-fall_details g step before after = hop_details g step ++ both_ranks before after
+abbrev pub fall_details : Grid → Entry → ℕ → ℕ → ℕ → ℕ → List Detail
+fall_details g entry port vc before after = hop_details g (step_of entry port vc) ++ both_ranks before after
 
-abbrev pub channel_details : Grid → ℕ → ℕ → ℕ → List (List ℕ)
-channel_details g router port vc = codes " router " ∷ decimal router ∷ codes " port " ∷ port_word g port ∷ codes " vc " ∷ decimal vc ∷ []
+abbrev pub channel_details : Grid → ℕ → ℕ → ℕ → List Detail
+channel_details g router port vc = detail.Router router ∷ detail.Port g port ∷ detail.Vc vc ∷ []
 
 -- two link channels and their ranks
-abbrev pub descent_details : Grid → LinkChannel → LinkChannel → ℕ → ℕ → List (List ℕ)
+abbrev pub descent_details : Grid → LinkChannel → LinkChannel → ℕ → ℕ → List Detail
 descent_details g e o before after =
-    channel_details g e.router e.port e.vc ++ (codes " to router " ∷ decimal o.router ∷ codes " port " ∷ port_word g o.port ∷ codes " vc " ∷ decimal o.vc ∷ both_ranks before after)
+    channel_details g e.router e.port e.vc ++ detail.ToRouter o.router ∷ detail.Port g o.port ∷ detail.Vc o.vc ∷ both_ranks before after
 
-abbrev pub rank_details : Grid → RankFault → List (List ℕ)
-rank_details g (rank.NotRising entry port vc before after) = fall_details g (step_of entry port vc) before after
+abbrev pub rank_details : Grid → RankFault → List Detail
+rank_details g (rank.NotRising entry port vc before after) = fall_details g entry port vc before after
 rank_details g (rank.NotRisingTo e o before after) = descent_details g e o before after
 rank_details g (rank.NoEscape entry) = entry_details g entry
-rank_details g (rank.UnknownChannel row) = row_details row
-rank_details g (rank.DoubleChannel row) = row_details row
+rank_details g (rank.UnknownChannel row) = detail.Row row ∷ []
+rank_details g (rank.DoubleChannel row) = detail.Row row ∷ []
 rank_details g (rank.MissingChannel router port vc) = channel_details g router port vc
-rank_details g (rank.BadRank row) = row_details row
+rank_details g (rank.BadRank row) = detail.Row row ∷ []
 rank_details g _ = []
 
-abbrev pub net_details : NetFault → List (List ℕ)
-net_details (net.SelfPacket row) = row_details row
-net_details (net.BadNode row) = row_details row
-net_details (net.BadClass row) = row_details row
-net_details (net.BadLength row) = row_details row
-net_details (net.BadDue row) = row_details row
+abbrev pub net_details : NetFault → List Detail
+net_details (net.SelfPacket row) = detail.Row row ∷ []
+net_details (net.BadNode row) = detail.Row row ∷ []
+net_details (net.BadClass row) = detail.Row row ∷ []
+net_details (net.BadLength row) = detail.Row row ∷ []
+net_details (net.BadDue row) = detail.Row row ∷ []
 net_details _ = []
 
-abbrev pub details_of : Fault → List (List ℕ)
+abbrev pub details_of : Fault → List Detail
 details_of (fault.Joined f) = input_details f
 details_of (fault.Config f) = input_details f
 details_of (fault.Table f) = input_details f
@@ -207,7 +237,7 @@ details_of (fault.Relation f g) = route_details g f
 details_of (fault.Rank f g) = rank_details g f
 details_of (fault.Network f) = net_details f
 details_of (fault.Run f) = []
-details_of (fault.Write f) = codes " written " ∷ decimal f.written ∷ []
+details_of (fault.Write f) = detail.Written f.written ∷ []
 
 -- ---- the line of a fault
 

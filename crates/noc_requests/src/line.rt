@@ -1,12 +1,11 @@
 //! The line that tells a fault.
 
-ghost use Rattle.std.specs.Prelude.{◌≡◌, ◌≤◌, [], ◌∷◌, codes, decimal, length};
-ghost use Rattle.noc_files.specs.Keys.{key_name};
+ghost use Rattle.std.specs.Prelude.{◌≡◌, ◌≤◌, codes, length};
 ghost use Rattle.noc_files.specs.Writing.{Wrote};
-ghost use Rattle.noc_rank.specs.Faults.{step_of};
-ghost use Rattle.noc_requests.specs.Line.{entry_details, field_details, hop_details, input_details, input_title, line_of, line_with, channel_details, descent_details, fall_details, net_details, net_title, option_title, port_word, rank_details, rank_title, run_title, route_details, route_title, row_details, shape_title};
+ghost use Rattle.noc_requests.specs.Line.{channel_details, descent_details, entry_details, fall_details, hop_details, input_details, input_title, line_of, line_with, net_details, net_title, option_title, port_word, rank_details, rank_title, route_details, route_title, run_title, shape_title, value_of, word_of};
 
 use crate::fault::{Fault, OptionFault};
+use arrayvec::ArrayString;
 use itoa::Buffer;
 use noc_files::{InputFault, Key, Sink, WriteFault, port_name, write_pieces};
 use noc_net::NetFault;
@@ -15,293 +14,122 @@ use noc_route::{Entry, RouteFault, RouteRow};
 use noc_tiles::RunFault;
 use noc_topo::{Shape, ShapeFault};
 
+// A detail of a fault: a word and its value. A port comes with the shape that names it.
+#[derive(Clone, Copy)]
+enum Detail {
+    Key(Key),
+    Row(usize),
+    Column(usize),
+    Class(usize),
+    Router(usize),
+    Port(Shape, usize),
+    Vc(usize),
+    Dst(usize),
+    Out(Shape, usize),
+    ToRouter(usize),
+    Rank(u32),
+    NextRank(u32),
+    Written(u64),
+}
+
+impl Detail {
+    // The word before the value.
+    fn word(self) -> &'static str
+        ensures word { result.now ≡ word_of self }
+        ensures short { length result.now ≤ 20 }
+    {
+        match self {
+            Detail::Key(_) => " key ",
+            Detail::Row(_) => " row ",
+            Detail::Column(_) => " column ",
+            Detail::Class(_) => " class ",
+            Detail::Router(_) => " router ",
+            Detail::Port(_, _) => " port ",
+            Detail::Vc(_) => " vc ",
+            Detail::Dst(_) => " dst ",
+            Detail::Out(_, _) => " out ",
+            Detail::ToRouter(_) => " to router ",
+            Detail::Rank(_) => " ranks ",
+            Detail::NextRank(_) => " ",
+            Detail::Written(_) => " written ",
+        }
+    }
+
+    // The value as a text.
+    fn value(self, buffer: &mut Buffer) -> &str
+        ensures value { result.now ≡ value_of self }
+        ensures short { length result.now ≤ 20 }
+    {
+        match self {
+            Detail::Key(key) => key.name(),
+            Detail::Port(shape, port) | Detail::Out(shape, port) => port_text(&shape, port, buffer),
+            Detail::Row(number)
+            | Detail::Column(number)
+            | Detail::Class(number)
+            | Detail::Router(number)
+            | Detail::Vc(number)
+            | Detail::Dst(number)
+            | Detail::ToRouter(number) => buffer.format(number),
+            Detail::Rank(rank) | Detail::NextRank(rank) => buffer.format(rank),
+            Detail::Written(bytes) => buffer.format(bytes),
+        }
+    }
+}
+
+// A line of 47 bytes up to its title, 40 for each of up to 9 details, and its end.
+type Line = ArrayString<512>;
+
 /// Writes the line of a fault: `fault`, its family, its number, its name and its details (docs/FORMATS.md, "Fault lines").
 pub fn fault_line<W: Sink>(fault: &Fault, sink: &mut W) -> Result<(), WriteFault>
     ensures { Wrote W.contents W.has_failed sink.old sink.new (line_of fault.now) result }
 {
+    let line = line_of(fault);
+    write_pieces(&[line.as_str()], sink)
+}
+
+// The line of a fault.
+fn line_of(fault: &Fault) -> Line
+    ensures { result.bytes ≡ line_of fault.now }
+{
     match fault {
-        Fault::Joined(fault) => input_line("joined", *fault, sink),
-        Fault::Config(fault) => input_line("config", *fault, sink),
-        Fault::Table(fault) => input_line("table", *fault, sink),
-        Fault::RankFile(fault) => input_line("ranks", *fault, sink),
-        Fault::Traffic(fault) => input_line("traffic", *fault, sink),
-        Fault::Option(fault) => plain_line("option", option_name(*fault), sink),
-        Fault::Shape(fault) => plain_line("shape", shape_name(*fault), sink),
-        Fault::Relation(fault, shape) => relation_line(fault, shape, sink),
-        Fault::Rank(fault, shape) => rank_line(fault, shape, sink),
-        Fault::Network(fault) => network_line(*fault, sink),
-        Fault::Run(fault) => plain_line("run", run_name(*fault), sink),
-        Fault::Write(fault) => counted_line(
+        Fault::Joined(fault) => input_line("joined", *fault),
+        Fault::Config(fault) => input_line("config", *fault),
+        Fault::Table(fault) => input_line("table", *fault),
+        Fault::RankFile(fault) => input_line("ranks", *fault),
+        Fault::Traffic(fault) => input_line("traffic", *fault),
+        Fault::Option(fault) => line_with("option", option_title(*fault), &[]),
+        Fault::Shape(fault) => line_with("shape", shape_title(*fault), &[]),
+        Fault::Relation(fault, shape) => relation_line(fault, shape),
+        Fault::Rank(fault, shape) => rank_line(fault, shape),
+        Fault::Network(fault) => network_line(*fault),
+        Fault::Run(fault) => line_with("run", run_title(*fault), &[]),
+        Fault::Write(fault) => line_with(
             "write",
             "1 WriteFailed",
-            " written ",
-            fault.written,
-            sink,
+            &[Detail::Written(fault.written)],
         ),
     }
 }
 
-// A fault without details.
-#[tactic(auto, unfolding(crate::specs::Line::line_with))]
-fn plain_line<W: Sink>(
-    family: &'static str,
-    name: &'static str,
-    sink: &mut W,
-) -> Result<(), WriteFault>
+// `fault`, a family, a number with its name, and details.
+fn line_with(family: &str, title: &str, details: &[Detail]) -> Line
     requires family { length family.now ≤ 20 }
-    requires title { length name.now ≤ 20 }
-    ensures { Wrote W.contents W.has_failed sink.old sink.new (line_with family.now name.now []) result }
+    requires title { length title.now ≤ 20 }
+    requires details { length details.now ≤ 9 }
+    ensures { result.bytes ≡ line_with family.now title.now details.now }
 {
-    write_pieces(&["fault ", family, " ", name, "\n"], sink)
-}
-
-// A fault whose only detail is a number.
-#[tactic(auto, unfolding(crate::specs::Line::line_with))]
-fn counted_line<W: Sink>(
-    family: &'static str,
-    name: &'static str,
-    word: &'static str,
-    number: u64,
-    sink: &mut W,
-) -> Result<(), WriteFault>
-    requires family { length family.now ≤ 20 }
-    requires title { length name.now ≤ 20 }
-    requires word { length word.now ≤ 20 }
-    ensures { Wrote W.contents W.has_failed sink.old sink.new (line_with family.now name.now (word.now ∷ decimal number ∷ [])) result }
-{
-    let mut buffer = Buffer::new();
-    write_pieces(
-        &[
-            "fault ",
-            family,
-            " ",
-            name,
-            word,
-            buffer.format(number),
-            "\n",
-        ],
-        sink,
-    )
-}
-
-// A fault of a text.
-fn input_line<W: Sink>(
-    family: &'static str,
-    fault: InputFault,
-    sink: &mut W,
-) -> Result<(), WriteFault>
-    requires { length family.now ≤ 20 }
-    ensures { Wrote W.contents W.has_failed sink.old sink.new (line_with family.now (input_title fault) (input_details fault)) result }
-{
-    match fault {
-        InputFault::ReadFailed => plain_line(family, "1 ReadFailed", sink),
-        InputFault::TooLong => plain_line(family, "2 TooLong", sink),
-        InputFault::Memory => plain_line(family, "3 Memory", sink),
-        InputFault::BadToml => plain_line(family, "4 BadToml", sink),
-        InputFault::UnknownKey => plain_line(family, "5 UnknownKey", sink),
-        InputFault::MissingKey(key) => key_line(family, "6 MissingKey", key, sink),
-        InputFault::WrongType(key) => key_line(family, "7 WrongType", key, sink),
-        InputFault::BadValue(key) => key_line(family, "8 BadValue", key, sink),
-        InputFault::BadHeader => plain_line(family, "9 BadHeader", sink),
-        InputFault::BadCount { row } => counted_line(
-            family,
-            "10 BadCount",
-            " row ",
-            row as u64,
-            sink,
-        ),
-        InputFault::BadNumber { row, column } => field_line(
-            family,
-            "11 BadNumber",
-            row,
-            column,
-            sink,
-        ),
-        InputFault::BadPort { row, column } => field_line(family, "12 BadPort", row, column, sink),
-        InputFault::NoSplit => plain_line(family, "13 NoSplit", sink),
+    let mut line = Line::new();
+    line.push_str("fault ");
+    line.push_str(family);
+    line.push_str(" ");
+    line.push_str(title);
+    for detail in details {
+        let mut buffer = Buffer::new();
+        line.push_str(detail.word());
+        line.push_str(detail.value(&mut buffer));
     }
-}
-
-// A fault of a key.
-#[tactic(auto, unfolding(crate::specs::Line::line_with))]
-fn key_line<W: Sink>(
-    family: &'static str,
-    name: &'static str,
-    key: Key,
-    sink: &mut W,
-) -> Result<(), WriteFault>
-    requires family { length family.now ≤ 20 }
-    requires title { length name.now ≤ 20 }
-    ensures { Wrote W.contents W.has_failed sink.old sink.new (line_with family.now name.now (codes " key " ∷ key_name key ∷ [])) result }
-{
-    write_pieces(
-        &["fault ", family, " ", name, " key ", key.name(), "\n"],
-        sink,
-    )
-}
-
-// A fault of a field.
-#[tactic(auto, unfolding(crate::specs::Line::line_with))]
-fn field_line<W: Sink>(
-    family: &'static str,
-    name: &'static str,
-    row: usize,
-    column: usize,
-    sink: &mut W,
-) -> Result<(), WriteFault>
-    requires family { length family.now ≤ 20 }
-    requires title { length name.now ≤ 20 }
-    ensures { Wrote W.contents W.has_failed sink.old sink.new (line_with family.now name.now (field_details row column)) result }
-{
-    let mut first = Buffer::new();
-    let mut second = Buffer::new();
-    write_pieces(
-        &[
-            "fault ",
-            family,
-            " ",
-            name,
-            " row ",
-            first.format(row),
-            " column ",
-            second.format(column),
-            "\n",
-        ],
-        sink,
-    )
-}
-
-fn option_name(fault: OptionFault) -> &'static str
-    ensures title { result.now ≡ option_title fault }
-    ensures short { length result.now ≤ 20 }
-{
-    match fault {
-        OptionFault::BadCycle => "1 BadCycle",
-        OptionFault::BadRouter => "2 BadRouter",
-        OptionFault::BadWorkers => "3 BadWorkers",
-        OptionFault::NoTable => "4 NoTable",
-        OptionFault::SpareTable => "5 SpareTable",
-        OptionFault::BadPacket => "6 BadPacket",
-    }
-}
-
-fn shape_name(fault: ShapeFault) -> &'static str
-    ensures title { result.now ≡ shape_title fault }
-    ensures short { length result.now ≤ 20 }
-{
-    match fault {
-        ShapeFault::BadDimensions => "1 BadDimensions",
-        ShapeFault::BadRadix => "2 BadRadix",
-        ShapeFault::TooManyNodes => "3 TooManyNodes",
-    }
-}
-
-fn run_name(fault: RunFault) -> &'static str
-    ensures title { result.now ≡ run_title fault }
-    ensures short { length result.now ≤ 20 }
-{
-    match fault {
-        RunFault::Memory => "1 Memory",
-        RunFault::NoWorker => "2 NoWorker",
-        RunFault::LostWorker => "3 LostWorker",
-    }
-}
-
-// A fault of a relation.
-fn relation_line<W: Sink>(fault: &RouteFault, shape: &Shape, sink: &mut W) -> Result<(), WriteFault>
-    ensures { Wrote W.contents W.has_failed sink.old sink.new (line_with (codes "relation") (route_title fault.now) (route_details shape.now fault.now)) result }
-{
-    match fault {
-        RouteFault::WrongShape => plain_line("relation", "1 WrongShape", sink),
-        RouteFault::NoLink(row) => row_line("2 NoLink", row, shape, sink),
-        RouteFault::NotMinimal(row) => row_line("3 NotMinimal", row, shape, sink),
-        RouteFault::EarlyEject(row) => row_line("4 EarlyEject", row, shape, sink),
-        RouteFault::LateHop(row) => row_line("5 LateHop", row, shape, sink),
-        RouteFault::NoWay(entry) => entry_line("relation", "6 NoWay", entry, shape, sink),
-        RouteFault::Memory => plain_line("relation", "7 Memory", sink),
-    }
-}
-
-// A fault of a table's row.
-#[tactic(auto, unfolding(crate::specs::Line::line_with))]
-fn row_line<W: Sink>(
-    name: &'static str,
-    row: &RouteRow,
-    shape: &Shape,
-    sink: &mut W,
-) -> Result<(), WriteFault>
-    requires { length name.now ≤ 20 }
-    ensures { Wrote W.contents W.has_failed sink.old sink.new (line_with (codes "relation") name.now (hop_details shape.now row.now)) result }
-{
-    let mut class = Buffer::new();
-    let mut router = Buffer::new();
-    let mut in_port = Buffer::new();
-    let mut in_vc = Buffer::new();
-    let mut dst = Buffer::new();
-    let mut out_port = Buffer::new();
-    let mut out_vc = Buffer::new();
-    write_pieces(
-        &[
-            "fault relation ",
-            name,
-            " class ",
-            class.format(row.class),
-            " router ",
-            router.format(row.router),
-            " port ",
-            port_text(shape, row.in_port, &mut in_port),
-            " vc ",
-            in_vc.format(row.in_vc),
-            " dst ",
-            dst.format(row.dst),
-            " out ",
-            port_text(shape, row.out_port, &mut out_port),
-            " vc ",
-            out_vc.format(row.out_vc),
-            "\n",
-        ],
-        sink,
-    )
-}
-
-// A fault of an entry of a relation.
-#[tactic(auto, unfolding(crate::specs::Line::line_with))]
-fn entry_line<W: Sink>(
-    family: &'static str,
-    name: &'static str,
-    entry: &Entry,
-    shape: &Shape,
-    sink: &mut W,
-) -> Result<(), WriteFault>
-    requires family { length family.now ≤ 20 }
-    requires title { length name.now ≤ 20 }
-    ensures { Wrote W.contents W.has_failed sink.old sink.new (line_with family.now name.now (entry_details shape.now entry.now)) result }
-{
-    let mut class = Buffer::new();
-    let mut router = Buffer::new();
-    let mut port = Buffer::new();
-    let mut vc = Buffer::new();
-    let mut dst = Buffer::new();
-    write_pieces(
-        &[
-            "fault ",
-            family,
-            " ",
-            name,
-            " class ",
-            class.format(entry.class),
-            " router ",
-            router.format(entry.router),
-            " port ",
-            port_text(shape, entry.in_port, &mut port),
-            " vc ",
-            vc.format(entry.in_vc),
-            " dst ",
-            dst.format(entry.dst),
-            "\n",
-        ],
-        sink,
-    )
+    line.push_str("\n");
+    line
 }
 
 // The name of a port, or its number where the shape has no such port.
@@ -315,202 +143,274 @@ fn port_text<'a>(shape: &Shape, port: usize, buffer: &'a mut Buffer) -> &'a str
     }
 }
 
-// A fault of ranks.
-fn rank_line<W: Sink>(fault: &RankFault, shape: &Shape, sink: &mut W) -> Result<(), WriteFault>
-    ensures { Wrote W.contents W.has_failed sink.old sink.new (line_with (codes "rank") (rank_title fault.now) (rank_details shape.now fault.now)) result }
+// A fault of a text.
+fn input_line(family: &str, fault: InputFault) -> Line
+    requires { length family.now ≤ 20 }
+    ensures { result.bytes ≡ line_with family.now (input_title fault) (input_details fault) }
+{
+    let title = input_title(fault);
+    match fault {
+        InputFault::MissingKey(key) | InputFault::WrongType(key) | InputFault::BadValue(key) => {
+            line_with(family, title, &[Detail::Key(key)])
+        }
+        InputFault::BadCount { row } => line_with(family, title, &[Detail::Row(row)]),
+        InputFault::BadNumber { row, column } | InputFault::BadPort { row, column } => {
+            line_with(family, title, &[Detail::Row(row), Detail::Column(column)])
+        }
+        _ => line_with(family, title, &[]),
+    }
+}
+
+fn input_title(fault: InputFault) -> &'static str
+    ensures title { result.now ≡ input_title fault }
+    ensures short { length result.now ≤ 20 }
 {
     match fault {
-        RankFault::NoGenerated => plain_line("rank", "1 NoGenerated", sink),
+        InputFault::ReadFailed => "1 ReadFailed",
+        InputFault::TooLong => "2 TooLong",
+        InputFault::Memory => "3 Memory",
+        InputFault::BadToml => "4 BadToml",
+        InputFault::UnknownKey => "5 UnknownKey",
+        InputFault::MissingKey(_) => "6 MissingKey",
+        InputFault::WrongType(_) => "7 WrongType",
+        InputFault::BadValue(_) => "8 BadValue",
+        InputFault::BadHeader => "9 BadHeader",
+        InputFault::BadCount { row: _ } => "10 BadCount",
+        InputFault::BadNumber { row: _, column: _ } => "11 BadNumber",
+        InputFault::BadPort { row: _, column: _ } => "12 BadPort",
+        InputFault::NoSplit => "13 NoSplit",
+    }
+}
+
+fn option_title(fault: OptionFault) -> &'static str
+    ensures title { result.now ≡ option_title fault }
+    ensures short { length result.now ≤ 20 }
+{
+    match fault {
+        OptionFault::BadCycle => "1 BadCycle",
+        OptionFault::BadRouter => "2 BadRouter",
+        OptionFault::BadWorkers => "3 BadWorkers",
+        OptionFault::NoTable => "4 NoTable",
+        OptionFault::SpareTable => "5 SpareTable",
+        OptionFault::BadPacket => "6 BadPacket",
+    }
+}
+
+fn shape_title(fault: ShapeFault) -> &'static str
+    ensures title { result.now ≡ shape_title fault }
+    ensures short { length result.now ≤ 20 }
+{
+    match fault {
+        ShapeFault::BadDimensions => "1 BadDimensions",
+        ShapeFault::BadRadix => "2 BadRadix",
+        ShapeFault::TooManyNodes => "3 TooManyNodes",
+    }
+}
+
+fn run_title(fault: RunFault) -> &'static str
+    ensures title { result.now ≡ run_title fault }
+    ensures short { length result.now ≤ 20 }
+{
+    match fault {
+        RunFault::Memory => "1 Memory",
+        RunFault::NoWorker => "2 NoWorker",
+        RunFault::LostWorker => "3 LostWorker",
+    }
+}
+
+// A fault of a relation.
+fn relation_line(fault: &RouteFault, shape: &Shape) -> Line
+    ensures { result.bytes ≡ line_with (codes "relation") (route_title fault.now) (route_details shape.now fault.now) }
+{
+    let title = route_title(fault);
+    match fault {
+        RouteFault::NoLink(row)
+        | RouteFault::NotMinimal(row)
+        | RouteFault::EarlyEject(row)
+        | RouteFault::LateHop(row) => line_with("relation", title, &hop_details(shape, row)),
+        RouteFault::NoWay(entry) => line_with("relation", title, &entry_details(shape, entry)),
+        RouteFault::WrongShape | RouteFault::Memory => line_with("relation", title, &[]),
+    }
+}
+
+fn route_title(fault: &RouteFault) -> &'static str
+    ensures title { result.now ≡ route_title fault.now }
+    ensures short { length result.now ≤ 20 }
+{
+    match fault {
+        RouteFault::WrongShape => "1 WrongShape",
+        RouteFault::NoLink(_) => "2 NoLink",
+        RouteFault::NotMinimal(_) => "3 NotMinimal",
+        RouteFault::EarlyEject(_) => "4 EarlyEject",
+        RouteFault::LateHop(_) => "5 LateHop",
+        RouteFault::NoWay(_) => "6 NoWay",
+        RouteFault::Memory => "7 Memory",
+    }
+}
+
+// An entry of a relation.
+fn entry_details(shape: &Shape, entry: &Entry) -> [Detail; 5]
+    ensures { result ≡ entry_details shape.now entry.now }
+{
+    [
+        Detail::Class(entry.class),
+        Detail::Router(entry.router),
+        Detail::Port(*shape, entry.in_port),
+        Detail::Vc(entry.in_vc),
+        Detail::Dst(entry.dst),
+    ]
+}
+
+// A row of a table.
+fn hop_details(shape: &Shape, row: &RouteRow) -> [Detail; 7]
+    ensures { result ≡ hop_details shape.now row.now }
+{
+    [
+        Detail::Class(row.class),
+        Detail::Router(row.router),
+        Detail::Port(*shape, row.in_port),
+        Detail::Vc(row.in_vc),
+        Detail::Dst(row.dst),
+        Detail::Out(*shape, row.out_port),
+        Detail::Vc(row.out_vc),
+    ]
+}
+
+// A fault of ranks.
+fn rank_line(fault: &RankFault, shape: &Shape) -> Line
+    ensures { result.bytes ≡ line_with (codes "rank") (rank_title fault.now) (rank_details shape.now fault.now) }
+{
+    let title = rank_title(fault);
+    match fault {
         RankFault::NotRising {
             entry,
             out_port,
             out_vc,
             rank,
             next,
-        } => fall_line(
-            &step_of(entry, *out_port, *out_vc),
-            *rank,
-            *next,
-            shape,
-            sink,
-        ),
+        } => {
+            let details = fall_details(shape, entry, *out_port, *out_vc, *rank, *next);
+            line_with("rank", title, &details)
+        }
         RankFault::NotRisingTo {
             from,
             to,
             rank,
             next,
-        } => descent_line(from, to, *rank, *next, shape, sink),
-        RankFault::Memory => plain_line("rank", "3 Memory", sink),
-        RankFault::NoEscape(entry) => entry_line("rank", "4 NoEscape", entry, shape, sink),
-        RankFault::UnknownChannel { row } => rank_row_line("5 UnknownChannel", *row, sink),
-        RankFault::DoubleChannel { row } => rank_row_line("6 DoubleChannel", *row, sink),
-        RankFault::MissingChannel { router, port, vc } => {
-            channel_line(*router, *port, *vc, shape, sink)
+        } => {
+            let details = descent_details(shape, from, to, *rank, *next);
+            line_with("rank", title, &details)
         }
-        RankFault::BadRank { row } => rank_row_line("8 BadRank", *row, sink),
+        RankFault::NoEscape(entry) => line_with("rank", title, &entry_details(shape, entry)),
+        RankFault::UnknownChannel { row }
+        | RankFault::DoubleChannel { row }
+        | RankFault::BadRank { row } => line_with("rank", title, &[Detail::Row(*row)]),
+        RankFault::MissingChannel { router, port, vc } => {
+            line_with("rank", title, &channel_details(shape, *router, *port, *vc))
+        }
+        RankFault::NoGenerated | RankFault::Memory => line_with("rank", title, &[]),
     }
 }
 
-// The step from an entry by an output channel.
-fn step_of(entry: &Entry, out_port: usize, out_vc: usize) -> RouteRow
-    ensures { result ≡ step_of entry.now out_port out_vc }
-{
-    RouteRow {
-        class: entry.class,
-        router: entry.router,
-        in_port: entry.in_port,
-        in_vc: entry.in_vc,
-        dst: entry.dst,
-        out_port,
-        out_vc,
-    }
-}
-
-// The fault of ranks that do not rise.
-#[tactic(auto, unfolding(crate::specs::Line::line_with))]
-fn fall_line<W: Sink>(
-    step: &RouteRow,
+// A step of a packet, and the ranks before and after it.
+fn fall_details(
+    shape: &Shape,
+    entry: &Entry,
+    out_port: usize,
+    out_vc: usize,
     rank: u32,
     next: u32,
-    shape: &Shape,
-    sink: &mut W,
-) -> Result<(), WriteFault>
-    ensures { Wrote W.contents W.has_failed sink.old sink.new (line_with (codes "rank") (codes "2 NotRising") (fall_details shape.now step.now rank next)) result }
+) -> [Detail; 9]
+    ensures { result ≡ fall_details shape.now entry.now out_port out_vc rank next }
 {
-    let mut class = Buffer::new();
-    let mut router = Buffer::new();
-    let mut in_port = Buffer::new();
-    let mut in_vc = Buffer::new();
-    let mut dst = Buffer::new();
-    let mut out_port = Buffer::new();
-    let mut out_vc = Buffer::new();
-    let mut before = Buffer::new();
-    let mut after = Buffer::new();
-    write_pieces(
-        &[
-            "fault rank 2 NotRising class ",
-            class.format(step.class),
-            " router ",
-            router.format(step.router),
-            " port ",
-            port_text(shape, step.in_port, &mut in_port),
-            " vc ",
-            in_vc.format(step.in_vc),
-            " dst ",
-            dst.format(step.dst),
-            " out ",
-            port_text(shape, step.out_port, &mut out_port),
-            " vc ",
-            out_vc.format(step.out_vc),
-            " ranks ",
-            before.format(rank),
-            " ",
-            after.format(next),
-            "\n",
-        ],
-        sink,
-    )
+    [
+        Detail::Class(entry.class),
+        Detail::Router(entry.router),
+        Detail::Port(*shape, entry.in_port),
+        Detail::Vc(entry.in_vc),
+        Detail::Dst(entry.dst),
+        Detail::Out(*shape, out_port),
+        Detail::Vc(out_vc),
+        Detail::Rank(rank),
+        Detail::NextRank(next),
+    ]
 }
 
-// The fault of ranks that do not rise from one channel to another.
-#[tactic(auto, unfolding(crate::specs::Line::line_with))]
-fn descent_line<W: Sink>(
+// A link channel.
+fn channel_details(shape: &Shape, router: usize, port: usize, vc: usize) -> [Detail; 3]
+    ensures { result ≡ channel_details shape.now router port vc }
+{
+    [
+        Detail::Router(router),
+        Detail::Port(*shape, port),
+        Detail::Vc(vc),
+    ]
+}
+
+// Two link channels and their ranks.
+fn descent_details(
+    shape: &Shape,
     from: &LinkChannel,
     to: &LinkChannel,
     rank: u32,
     next: u32,
-    shape: &Shape,
-    sink: &mut W,
-) -> Result<(), WriteFault>
-    ensures { Wrote W.contents W.has_failed sink.old sink.new (line_with (codes "rank") (codes "2 NotRising") (descent_details shape.now from.now to.now rank next)) result }
+) -> [Detail; 8]
+    ensures { result ≡ descent_details shape.now from.now to.now rank next }
 {
-    let mut router = Buffer::new();
-    let mut port = Buffer::new();
-    let mut vc = Buffer::new();
-    let mut to_router = Buffer::new();
-    let mut to_port = Buffer::new();
-    let mut to_vc = Buffer::new();
-    let mut before = Buffer::new();
-    let mut after = Buffer::new();
-    write_pieces(
-        &[
-            "fault rank 2 NotRising router ",
-            router.format(from.router),
-            " port ",
-            port_text(shape, from.port, &mut port),
-            " vc ",
-            vc.format(from.vc),
-            " to router ",
-            to_router.format(to.router),
-            " port ",
-            port_text(shape, to.port, &mut to_port),
-            " vc ",
-            to_vc.format(to.vc),
-            " ranks ",
-            before.format(rank),
-            " ",
-            after.format(next),
-            "\n",
-        ],
-        sink,
-    )
+    [
+        Detail::Router(from.router),
+        Detail::Port(*shape, from.port),
+        Detail::Vc(from.vc),
+        Detail::ToRouter(to.router),
+        Detail::Port(*shape, to.port),
+        Detail::Vc(to.vc),
+        Detail::Rank(rank),
+        Detail::NextRank(next),
+    ]
 }
 
-// A fault of a rank file's row.
-fn rank_row_line<W: Sink>(name: &'static str, row: usize, sink: &mut W) -> Result<(), WriteFault>
-    requires { length name.now ≤ 20 }
-    ensures { Wrote W.contents W.has_failed sink.old sink.new (line_with (codes "rank") name.now (row_details row)) result }
-{
-    counted_line("rank", name, " row ", row as u64, sink)
-}
-
-// The fault of a channel without a rank.
-#[tactic(auto, unfolding(crate::specs::Line::line_with))]
-fn channel_line<W: Sink>(
-    router: usize,
-    port: usize,
-    vc: usize,
-    shape: &Shape,
-    sink: &mut W,
-) -> Result<(), WriteFault>
-    ensures { Wrote W.contents W.has_failed sink.old sink.new (line_with (codes "rank") (codes "7 MissingChannel") (channel_details shape.now router port vc)) result }
-{
-    let mut first = Buffer::new();
-    let mut second = Buffer::new();
-    let mut last = Buffer::new();
-    write_pieces(
-        &[
-            "fault rank 7 MissingChannel router ",
-            first.format(router),
-            " port ",
-            port_text(shape, port, &mut second),
-            " vc ",
-            last.format(vc),
-            "\n",
-        ],
-        sink,
-    )
-}
-
-// A fault of a network.
-fn network_line<W: Sink>(fault: NetFault, sink: &mut W) -> Result<(), WriteFault>
-    ensures { Wrote W.contents W.has_failed sink.old sink.new (line_with (codes "network") (net_title fault) (net_details fault)) result }
+fn rank_title(fault: &RankFault) -> &'static str
+    ensures title { result.now ≡ rank_title fault.now }
+    ensures short { length result.now ≤ 20 }
 {
     match fault {
-        NetFault::SelfPacket { row } => packet_line("1 SelfPacket", row, sink),
-        NetFault::BadNode { row } => packet_line("2 BadNode", row, sink),
-        NetFault::BadClass { row } => packet_line("3 BadClass", row, sink),
-        NetFault::BadLength { row } => packet_line("4 BadLength", row, sink),
-        NetFault::TooMany => plain_line("network", "5 TooMany", sink),
-        NetFault::Memory => plain_line("network", "6 Memory", sink),
-        NetFault::BadDue { row } => packet_line("7 BadDue", row, sink),
+        RankFault::NoGenerated => "1 NoGenerated",
+        RankFault::NotRising { .. } | RankFault::NotRisingTo { .. } => "2 NotRising",
+        RankFault::Memory => "3 Memory",
+        RankFault::NoEscape(_) => "4 NoEscape",
+        RankFault::UnknownChannel { .. } => "5 UnknownChannel",
+        RankFault::DoubleChannel { .. } => "6 DoubleChannel",
+        RankFault::MissingChannel { .. } => "7 MissingChannel",
+        RankFault::BadRank { .. } => "8 BadRank",
     }
 }
 
-// A fault of a packet.
-fn packet_line<W: Sink>(name: &'static str, row: usize, sink: &mut W) -> Result<(), WriteFault>
-    requires { length name.now ≤ 20 }
-    ensures { Wrote W.contents W.has_failed sink.old sink.new (line_with (codes "network") name.now (row_details row)) result }
+// A fault of a network.
+fn network_line(fault: NetFault) -> Line
+    ensures { result.bytes ≡ line_with (codes "network") (net_title fault) (net_details fault) }
 {
-    counted_line("network", name, " row ", row as u64, sink)
+    let title = net_title(fault);
+    match fault {
+        NetFault::SelfPacket { row }
+        | NetFault::BadNode { row }
+        | NetFault::BadClass { row }
+        | NetFault::BadLength { row }
+        | NetFault::BadDue { row } => line_with("network", title, &[Detail::Row(row)]),
+        NetFault::TooMany | NetFault::Memory => line_with("network", title, &[]),
+    }
+}
+
+fn net_title(fault: NetFault) -> &'static str
+    ensures title { result.now ≡ net_title fault }
+    ensures short { length result.now ≤ 20 }
+{
+    match fault {
+        NetFault::SelfPacket { .. } => "1 SelfPacket",
+        NetFault::BadNode { .. } => "2 BadNode",
+        NetFault::BadClass { .. } => "3 BadClass",
+        NetFault::BadLength { .. } => "4 BadLength",
+        NetFault::TooMany => "5 TooMany",
+        NetFault::Memory => "6 Memory",
+        NetFault::BadDue { .. } => "7 BadDue",
+    }
 }
