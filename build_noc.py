@@ -1,8 +1,10 @@
 #!/usr/bin/env python3
-"""Proves and builds the program crates/noc/out/noc. ./noc calls this where there is no program, or an old one.
+"""Proves and builds a program of crates/noc/out: noc_avx2 for processors with AVX2, or noc for all.
 
-`rt lib` makes each library and `rt run` the program, side by side as far as processors and memory go. Where the
-processor has AVX2, the program is compiled for that, and else as rt does by itself; the libraries are the same for both.
+    build_noc.py PROGRAM
+
+./noc calls this where the program for its processor is not there, or is old. `rt lib` makes each library and `rt run` the
+program, side by side as far as processors and memory go. The libraries are the same for both programs.
 rt lets no two runs into one crate, nor into one that a crate stands on; so each crate is made in a room: a folder with
 its sources, and with links to what was made of the libraries below. What is made goes back to the crate and is kept, so
 a build that was stopped goes on where it was.
@@ -22,18 +24,18 @@ from pathlib import Path
 
 TOP = Path(__file__).resolve().parent
 OUT = TOP / "crates/noc/out"
-PROGRAM, LOG, ROOMS = OUT / "noc", OUT / "build.log", OUT / "rooms"
+LOG, ROOMS = OUT / "build.log", OUT / "rooms"
 KITS = ("rattle-kit-13b", "rattle-kit-13f")
 PARTS = ("src", "specs", "proofs")
+# What rt run is told for each program.
+PROGRAMS = {"noc": [], "noc_avx2": ["--cpu", "x86-64-v3"]}
 DISK, MEMORY = 4 << 30, 2 << 30
-# A processor with these flags runs what is compiled for CPU. LZCNT is called abm by Linux.
-CPUINFO, CPU = Path("/proc/cpuinfo"), "x86-64-v3"
-FLAGS = {"avx2", "bmi1", "bmi2", "f16c", "fma", "movbe"}
 # The seconds that each crate took beside the others on four processors, once. Only their shares count.
 SECONDS = {
     "noc_topo": 35, "noc_packet": 30, "noc_ring": 40, "noc_route": 150, "noc_rank": 180, "noc_alloc": 50, "noc_vc": 50,
     "noc_router": 240, "noc_model": 80, "noc_row_words": 100, "noc_row_blocks": 140, "noc_rows": 140, "noc_net": 130,
-    "noc_files": 340, "noc_tiles": 240, "noc_requests": 90, "noc_answers": 180, "noc": 240,
+    "noc_files": 340, "noc_tiles": 240, "noc_requests": 90, "noc_answers": 180,
+    "noc_command": 240, "noc": 120,
 }
 
 
@@ -42,12 +44,12 @@ class Failed(Exception):
 
 
 class Crate:
-    """A crate of the repository, and those that it stands on."""
+    """A crate of the repository, what is to be made of it, and the crates that it stands on."""
 
-    def __init__(self, name, line, on):
-        self.name, self.line, self.on = name, line, on
+    def __init__(self, name, line, on, makes):
+        self.name, self.line, self.on, self.makes = name, line, on, makes
         self.folder, self.room = TOP / "crates" / name, ROOMS / name
-        self.made = self.folder / ("out/rlib/stamp" if name != "noc" else "out/noc")
+        self.made = self.folder / "out" / makes
         self.seconds = SECONDS.get(name, 30)
 
     @cache
@@ -81,7 +83,9 @@ class Crate:
         """Moves what was made out of the room, and says whether anything was."""
         here, there = self.room / "crates" / self.name / "out", self.folder / "out"
         there.mkdir(exist_ok=True)
-        if not (here / self.made.relative_to(there)).exists():
+        if self.makes in PROGRAMS and (here / self.name).exists():
+            (here / self.name).rename(here / self.makes)
+        if not (here / self.makes).exists():
             return False
         for made in here.iterdir():
             shutil.rmtree(there / made.name, ignore_errors=True)
@@ -90,13 +94,14 @@ class Crate:
         return True
 
 
-def crates_of(program):
-    """The program and all that it stands on, lowest first."""
+def crates_for(program):
+    """The crate of the programs, and all that it stands on, lowest first."""
     known = {}
     for line in (TOP / "crates.txt").read_text().splitlines():
         if found := re.match(r"(\w+)[^:#]*:(.*)", line):
-            known[found[1]] = Crate(found[1], line, [known[it] for it in found[2].split() if it in known])
-    return [*known[program].below(), known[program]]
+            on = [known[it] for it in found[2].split() if it in known]
+            known[found[1]] = Crate(found[1], line, on, program if found[1] == "noc" else "rlib/stamp")
+    return [*known["noc"].below(), known["noc"]]
 
 
 def look_round():
@@ -118,13 +123,6 @@ def look_round():
 
 def free_memory():
     return 1024 * int(re.search(r"MemAvailable:\s+(\d+)", Path("/proc/meminfo").read_text())[1])
-
-
-def has_avx2():
-    """Whether the machine's first processor has AVX2, and what comes with it in CPU."""
-    found = re.search(r"^flags\s*:(.*)", CPUINFO.read_text() if CPUINFO.exists() else "", re.M)
-    flags = set(found[1].split()) if found else set()
-    return FLAGS <= flags and not flags.isdisjoint({"abm", "lzcnt"})
 
 
 def in_minutes(seconds):
@@ -162,9 +160,7 @@ class Build:
 
     def begin(self, crate, jobs):
         crate.enter()
-        words = [self.rt, "run" if crate.made == PROGRAM else "lib", "--jobs", str(jobs)]
-        if crate.made == PROGRAM and has_avx2():
-            words += ["--cpu", CPU]
+        words = [self.rt, "run" if crate.makes in PROGRAMS else "lib", "--jobs", str(jobs), *PROGRAMS.get(crate.makes, [])]
         with LOG.open("a") as log:
             run = subprocess.Popen(words, cwd=crate.room / "crates" / crate.name, stdin=subprocess.DEVNULL, stdout=log, stderr=log)
         self.running[crate] = run, time.time()
@@ -214,14 +210,14 @@ def last_messages():
     return "\n".join(it[:300] for it in lines[-12:])
 
 
-def main():
+def main(program):
     OUT.mkdir(parents=True, exist_ok=True)
     with (OUT / "build.lock").open("w") as lock:
         fcntl.flock(lock, fcntl.LOCK_EX)
-        build = Build(look_round(), crates_of("noc"))
+        build = Build(look_round(), crates_for(program))
         if not build.left:
-            return PROGRAM.touch()
-        print(f"noc: proving and building the program, {len(build.left)} crates (messages: {LOG})", file=sys.stderr)
+            return build.crates[-1].made.touch()
+        print(f"noc: proving and building {program}, {len(build.left)} crates (messages: {LOG})", file=sys.stderr)
         LOG.write_text("")
         build.run()
         shutil.rmtree(ROOMS, ignore_errors=True)
@@ -229,9 +225,11 @@ def main():
 
 
 if __name__ == "__main__":
+    if len(sys.argv) != 2 or sys.argv[1] not in PROGRAMS:
+        sys.exit(__doc__)
     signal.signal(signal.SIGTERM, lambda *_: sys.exit(1))
     try:
-        main()
+        main(sys.argv[1])
     except Failed as why:
         sys.exit(f"noc: {why}")
     except OSError as why:

@@ -7,7 +7,7 @@ A fenced block whose first line begins with '$ ' is a transcript: a line '$ COMM
 and then what the command prints, standard error included. A block opened with four backticks may hold lines of three.
 The command must print exactly that. A status other than 0 must be shown by a command '$ echo $?' right after it.
 
-Each page has a folder of its own, with a copy of examples/ and with PROGRAM as ./noc and as crates/noc/out/noc, so a
+Each page has a folder of its own, with a copy of examples/ and with PROGRAM as ./noc and as crates/noc/out/noc_avx2, so a
 command may write files there. Each command that fails is shown with the difference, and the last line is 'N passed, M
 failed'. The exit status is 0 where there are commands and all passed, else 1.
 """
@@ -83,7 +83,7 @@ def run_page(program, page, seconds):
         folder = Path(name)
         shutil.copytree(TOP / "examples", folder / "examples")
         (folder / "crates/noc/out").mkdir(parents=True)
-        for place in ("noc", "crates/noc/out/noc"):
+        for place in ("noc", "crates/noc/out/noc_avx2"):
             (folder / place).symlink_to(program)
         status = 0
         for command in commands:

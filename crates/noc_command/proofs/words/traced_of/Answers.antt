@@ -1,0 +1,11 @@
+use Rattle.std.proofs.Common.{rules}
+use Rattle.std.specs.Str.Parse.{ExplainsUnsignedError, HasUnsignedDigitsIfOk}
+use Rattle.noc_command.proofs.SaidFacts.{said_if_any}
+use Rattle.noc_command.proofs.words.traced_of.Goals as goal
+
+pub returns : goal.returns
+returns c = record {
+  router = said_if_any (λ bs r. ExplainsUnsignedError 10 bs r) (λ bs r. HasUnsignedDigitsIfOk bs r) _ c.get_one.result c.get_one.ensures.none c.get_one.ensures.value;
+  packet = said_if_any (λ bs r. ExplainsUnsignedError 10 bs r) (λ bs r. HasUnsignedDigitsIfOk bs r) _ c.get_one-2.result c.get_one-2.ensures.none c.get_one-2.ensures.value;
+  changes = search rules;
+}
