@@ -5,7 +5,7 @@ ghost use Rattle.noc_net.specs.Network.{Run};
 ghost use Rattle.noc_topo.specs.Shape.{nodes, ports};
 ghost use Rattle.noc_files.specs.Channels.{AreInputs};
 ghost use Rattle.noc_files.specs.Findings.{finding_header, finding_line, findings_text, found_line, out_name, verdict_text, verdict_word};
-ghost use Rattle.noc_files.specs.Writing.{Wrote};
+ghost use Rattle.noc_files.specs.Writing.{Wrote, dash_or};
 ghost use Rattle.noc_files.specs.declared.page.TheConstants.{PAGE};
 
 use crate::inputs::{Inputs, inputs_of};
@@ -13,31 +13,26 @@ use crate::listing::{Lines, write_router};
 use crate::page::Page;
 use crate::ports::{known_name, port_name};
 use crate::sink::Sink;
-use crate::writing::{WriteFault, shown};
-use itoa::Buffer;
+use crate::writing::WriteFault;
 use noc_net::Network;
 use noc_route::Relation;
 use noc_router::{Finding, Verdict};
 use noc_topo::Shape;
 
-// Adds an output channel, or a dash where there is none, and what comes after it.
-pub(crate) fn add_out(
-    shape: &Shape,
-    out: Option<(usize, usize)>,
-    after: &'static str,
-    page: &mut Page,
-)
-    requires after { length after.now ≤ 1 }
-    requires room { length page.old + 27 ≤ PAGE }
-    ensures added { page.new ≡ page.old ++ out_name shape.now out ++ after.now }
-    ensures short { length page.new ≤ length page.old + 27 }
+// Adds an output channel, or a dash where there is none.
+pub(crate) fn add_out(shape: &Shape, out: Option<(usize, usize)>, page: &mut Page)
+    requires room { length page.old + 26 ≤ PAGE }
+    ensures added { page.new ≡ page.old ++ out_name shape.now out }
+    ensures short { length page.new ≤ length page.old + 26 }
 {
-    let Some((port, vc)) = out else {
-        return page.add_all(&["-", after]);
-    };
-    let name = port_name(shape, port).unwrap_or("-");
-    let mut digits = Buffer::new();
-    page.add_all(&[name, ".", digits.format(vc), after]);
+    match out {
+        Some((port, vc)) => {
+            page.add(port_name(shape, port).unwrap_or("-"));
+            page.add_byte(b'.');
+            page.add_number(vc as u64);
+        }
+        None => page.add_byte(b'-'),
+    }
 }
 
 // The name of a verdict.
@@ -59,13 +54,15 @@ fn verdict_name(verdict: Verdict) -> &'static str
     }
 }
 
-// A number of 32 bits in 64.
-fn wide(number: Option<u32>) -> Option<u64>
-    ensures { result ≡ number }
+// Adds the number of a packet, or a dash where there is none.
+fn add_packet(packet: Option<u32>, page: &mut Page)
+    requires room { length page.old + 20 ≤ PAGE }
+    ensures added { page.new ≡ page.old ++ dash_or packet }
+    ensures short { length page.new ≤ length page.old + 20 }
 {
-    match number {
-        Some(number) => Some(u64::from(number)),
-        None => None,
+    match packet {
+        Some(number) => page.add_number(u64::from(number)),
+        None => page.add_byte(b'-'),
     }
 }
 
@@ -76,18 +73,14 @@ pub(crate) fn add_verdict(shape: &Shape, port: usize, vc: usize, finding: &Findi
     ensures added { page.new ≡ page.old ++ verdict_text shape.now port vc finding.now }
     ensures short { length page.new ≤ length page.old + 62 }
 {
-    let mut number = Buffer::new();
-    let mut holder = Buffer::new();
-    page.add_all(&[
-        known_name(shape, port),
-        ",",
-        number.format(vc),
-        ",",
-        verdict_name(finding.verdict),
-        ",",
-        shown(&mut holder, wide(finding.packet)),
-        ",",
-    ]);
+    page.add(known_name(shape, port));
+    page.add_byte(b',');
+    page.add_number(vc as u64);
+    page.add_byte(b',');
+    page.add(verdict_name(finding.verdict));
+    page.add_byte(b',');
+    add_packet(finding.packet, page);
+    page.add_byte(b',');
 }
 
 // Adds the line of an input channel.
@@ -98,7 +91,8 @@ fn add_finding(shape: &Shape, port: usize, vc: usize, finding: &Finding, page: &
     ensures short { length page.new ≤ length page.old + 89 }
 {
     add_verdict(shape, port, vc, finding, page);
-    add_out(shape, finding.out, "\n", page);
+    add_out(shape, finding.out, page);
+    page.add_byte(b'\n');
 }
 
 // What a router found of its input channels, by their indices.

@@ -1,6 +1,6 @@
 //! The lines on a port, which are put together before they go into a sink.
 
-ghost use Rattle.std.specs.Prelude.{◌≡◌, ◌+◌, ◌≤◌, ◌++◌, [], ℕ, List, decimal, length, take};
+ghost use Rattle.std.specs.Prelude.{◌≡◌, ◌+◌, ◌<◌, ◌≤◌, ◌++◌, [], ◌∷◌, ℕ, List, decimal, length, take};
 ghost use Rattle.std.specs.List.{flat_map};
 
 use itoa::Buffer;
@@ -54,11 +54,38 @@ impl Page {
     #[inline]
     pub(crate) fn add(&mut self, piece: &str)
         requires { length self.old + length piece.now ≤ PAGE }
-        ensures { self.new ≡ self.old ++ piece.now }
+        ensures added { self.new ≡ self.old ++ piece.now }
+        ensures long { length self.new ≡ length self.old + length piece.now }
     {
         let end = self.length + piece.len();
         self.bytes[self.length..end].copy_from_slice(piece.as_bytes());
         self.length = end;
+    }
+
+    /// Adds a byte.
+    #[inline]
+    pub(crate) fn add_byte(&mut self, byte: u8)
+        requires { length self.old < PAGE }
+        ensures added { self.new ≡ self.old ++ byte ∷ [] }
+        ensures long { length self.new ≡ length self.old + 1 }
+    {
+        self.bytes[self.length] = byte;
+        self.length += 1;
+    }
+
+    /// Adds a number in decimal.
+    #[inline]
+    pub(crate) fn add_number(&mut self, number: u64)
+        requires { length self.old + 20 ≤ PAGE }
+        ensures added { self.new ≡ self.old ++ decimal number }
+        ensures short { length self.new ≤ length self.old + 20 }
+    {
+        if number < 10 {
+            self.add_byte(b'0' + number as u8);
+        } else {
+            let mut digits = Buffer::new();
+            self.add(digits.format(number));
+        }
     }
 
     /// Adds the pieces of a line, one after the other.
@@ -70,15 +97,5 @@ impl Page {
         for piece in pieces {
             self.add(piece);
         }
-    }
-
-    /// Adds a number.
-    #[inline]
-    pub(crate) fn add_number(&mut self, number: u64)
-        requires { length self.old + 20 ≤ PAGE }
-        ensures { self.new ≡ self.old ++ decimal number }
-    {
-        let mut digits = Buffer::new();
-        self.add(digits.format(number));
     }
 }

@@ -277,15 +277,17 @@ fn add_permitted(relation: &Relation, set: Option<ChannelSet>, page: &mut Page)
     }
 }
 
-// Adds a cycle and a router.
-fn add_when(cycle: u64, router: usize, page: &mut Page)
+// Adds a cycle, whose digits are these, and a router.
+fn add_when(digits: &str, router: usize, page: &mut Page)
+    requires digits { length digits.now ≤ 20 }
     requires room { length page.old + 42 ≤ PAGE }
-    ensures added { page.new ≡ page.old ++ when_text cycle router }
+    ensures added { page.new ≡ page.old ++ text_of_pieces (digits.now ∷ comma ∷ decimal router ∷ comma ∷ []) }
     ensures short { length page.new ≤ length page.old + 42 }
 {
-    let mut first = Buffer::new();
-    let mut last = Buffer::new();
-    page.add_all(&[first.format(cycle), ",", last.format(router), ","]);
+    page.add(digits);
+    page.add_byte(b',');
+    page.add_number(router as u64);
+    page.add_byte(b',');
 }
 
 // Adds what is told of an input channel.
@@ -306,19 +308,23 @@ fn add_told(
 {
     let relation = network.relation();
     add_verdict(relation.shape(), port, vc, finding, page);
-    add_out(relation.shape(), finding.out, ",", page);
+    add_out(relation.shape(), finding.out, page);
+    page.add_byte(b',');
     let set = permitted_to(network, router, port, vc, finding);
     add_permitted(relation, set, page);
 }
 
-// The lines of a trace in the last cycle of a network, which has this number.
+// The lines of a trace in the last cycle of a network, which has this number and these digits.
 #[derive(Drop)]
 struct CycleLines<'a> {
     network: &'a Network,
     inputs: &'a Inputs,
     trace: &'a Trace,
     cycle: u64,
+    digits: &'a str,
     ghost known: { AreInputs network.now.net.relation.grid inputs.now },
+    ghost written: { digits.now ≡ decimal cycle },
+    ghost short: { length digits.now ≤ 20 },
 }
 
 impl<'a> Lines for CycleLines<'a> {
@@ -360,7 +366,7 @@ impl<'a> Lines for CycleLines<'a> {
             return;
         }
         let finding = now.unwrap_or(NOTHING);
-        add_when(self.cycle, router, page);
+        add_when(self.digits, router, page);
         add_told(self.network, router, port, vc, &finding, page);
     }
 }
@@ -382,11 +388,13 @@ fn put_cycle<W: Sink>(
     ensures puts { Puts W.contents W.has_failed sink.old sink.new before (over_traced network.now.net.relation trace.now.0.router (kept_line network.now trace.now.0 trace.now.1 cycle)) result }
     ensures short { IfOk result (λ n. n ≤ before + LONGEST_LISTING) }
 {
+    let mut digits = Buffer::new();
     let lines = CycleLines {
         network,
         inputs,
         trace,
         cycle,
+        digits: digits.format(cycle),
     };
     match trace.traced.router {
         Some(router) => put_router(&lines, router, page, sink, before),

@@ -9,5 +9,5 @@ returns-clause-added c =
     let page = c.args.page.now in
     let verdict = verdict_text g c.args.port c.args.vc c.args.finding.now in
     let out = out_name g c.args.finding.now.out in
-    c.add_out.ensures.added ∙ ap (λ (t : List ℕ). t ++ out ++ line_end) c.add_verdict.ensures.added ∙ append_assoc (page ++ verdict) out line_end ∙ append_assoc page verdict (out ++ line_end)
-    ∙ ap (λ (t : List ℕ). page ++ t) (sym (append_assoc verdict out line_end))
+    c.add_byte.ensures.added ∙ ap (λ (t : List ℕ). t ++ line_end) (c.add_out.ensures.added ∙ ap (λ (t : List ℕ). t ++ out) c.add_verdict.ensures.added) ∙ append_assoc (page ++ verdict) out line_end
+    ∙ append_assoc page verdict (out ++ line_end) ∙ ap (λ (t : List ℕ). page ++ t) (sym (append_assoc verdict out line_end))
