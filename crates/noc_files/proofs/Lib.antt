@@ -25,3 +25,5 @@ pub mod FindingFacts
 pub mod GreatestFacts
 pub mod TraceFacts
 pub mod TraceLaws
+pub mod ListFacts
+pub mod PageFacts

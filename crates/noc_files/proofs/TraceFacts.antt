@@ -21,20 +21,9 @@ use Rattle.noc_files.specs.Channels.{is_input, lines_of_port, over_router}
 use Rattle.noc_files.specs.Trace.{AreRows, cycle_text, has_below, is_same, kept_at, kept_line, line_if_new, nothing_found, over_traced, traced_finding, told_at, told_before, trace_line, traced_line}
 use Rattle.noc_files.specs.declared.trace.Traced.{Traced}
 use Rattle.noc_files.proofs.BelowFacts.{below_more, each_same}
+use Rattle.noc_files.proofs.ListFacts.{slice_get-set_other, slice_get-set_same}
 
 -- ---- lists
-
-slice_get-set_same : {X : Type 0} (xs : List X) (i : ℕ) (x : X) → i < length xs → slice_get (set xs i x) i ≡ Some x
-slice_get-set_same [] i x l = absurd (omega (arith, l))
-slice_get-set_same (y ∷ xs) zero x l = refl
-slice_get-set_same (y ∷ xs) (suc i) x l = slice_get-set_same xs i x (omega (arith, l))
-
-slice_get-set_other : {X : Type 0} (xs : List X) (i k : ℕ) (x : X) → (k ≡ i → ⊥) → slice_get (set xs i x) k ≡ slice_get xs k
-slice_get-set_other [] i k x other = refl
-slice_get-set_other (y ∷ xs) zero zero x other = absurd (other refl)
-slice_get-set_other (y ∷ xs) zero (suc k) x other = refl
-slice_get-set_other (y ∷ xs) (suc i) zero x other = refl
-slice_get-set_other (y ∷ xs) (suc i) (suc k) x other = slice_get-set_other xs i k x (λ e. other (ap suc e))
 
 -- what is seen of a list in which one element was set
 module _ {V X : Type 0} (f : V → X) (xs : List V) (i : ℕ) (v : V) where

@@ -16,32 +16,16 @@ use Rattle.noc_router.specs.declared.verdict.Verdict.{Verdict}
 use Rattle.noc_router.specs.declared.verdict.Verdict.TheVariants.{Empty, Granted, LostChannel, LostInput, LostSwitch, Moved, NoCredit, NoFlit, NoIdleChannel, Routed}
 use Rattle.noc_net.specs.Lockstep.{finding_in, findings_in_cycle}
 use Rattle.noc_net.specs.Network.{Run, Setup, arriving, frozen_at, size, verdict_in_cycle}
-use Rattle.noc_files.specs.Findings.{finding_line, found_line, line_if_found, out_text, verdict_text}
-use Rattle.noc_files.specs.Ports.{port_text}
+use Rattle.noc_files.specs.Findings.{found_line, line_if_found, out_name, verdict_text}
 use Rattle.noc_files.specs.Stalls.{channel_counts}
-use Rattle.noc_files.specs.Trace.{finds_empty, is_same, is_same_channel, is_same_number, line_if_new, out_field, out_name, permitted_text, permitted_to, said_by_both, traced_finding, told_at, told_counts, told_verdict, trace_line, traced_line, when_text, whole}
+use Rattle.noc_files.specs.Trace.{finds_empty, is_same, is_same_channel, is_same_number, line_if_new, permitted_text, permitted_to, said_by_both, traced_finding, told_at, told_counts, told_verdict, trace_line, traced_line, when_text, whole}
 use Rattle.noc_files.specs.Writing.{comma, text_of_pieces, line_end}
 
 -- ---- the line of a channel
 
--- pieces with one more behind them
-joined_more : (pieces : List (List ℕ)) (last : List ℕ) → text_of_pieces (pieces ++ last ∷ []) ≡ text_of_pieces pieces ++ last
-joined_more pieces last = flat_map-append (λ (piece : List ℕ). piece) pieces (last ∷ []) ∙ ap (λ (t : List ℕ). text_of_pieces pieces ++ t) (append-nil last)
-
-out_parts : (g : Grid) (out : Option (ℕ × ℕ)) → out_text g out ≡ out_name g out ++ line_end
-out_parts g None = refl
-out_parts g (Some (port, vc)) = joined_more (unwrap_or (port_text g port) (codes "-") ∷ codes "." ∷ decimal vc ∷ []) line_end
-
-field_parts : (g : Grid) (out : Option (ℕ × ℕ)) → out_field g out ≡ out_name g out ++ comma
-field_parts g None = refl
-field_parts g (Some (port, vc)) = joined_more (unwrap_or (port_text g port) (codes "-") ∷ codes "." ∷ decimal vc ∷ []) comma
-
-line_parts : (g : Grid) (port vc : ℕ) (f : Finding) → finding_line g port vc f ≡ said_by_both g port vc f ++ line_end
-line_parts g port vc f = ap (λ (t : List ℕ). verdict_text g port vc f ++ t) (out_parts g f.out) ∙ sym (append_assoc (verdict_text g port vc f) (out_name g f.out) line_end)
-
 pub explained : (relation : Routes) (findings : List Finding) (port vc : ℕ) (f : Finding) → slice_get findings (port * relation.vcs + vc) ≡ Some f
     → found_line relation findings port vc ≡ said_by_both relation.grid port vc f ++ line_end
-explained relation findings port vc f found = ap (line_if_found relation.grid port vc) found ∙ line_parts relation.grid port vc f
+explained relation findings port vc f found = ap (line_if_found relation.grid port vc) found
 
 trace_parts : (net : Setup) (n r port vc : ℕ) (f : Finding)
     → trace_line net n r port vc f ≡ when_text n r ++ said_by_both net.relation.grid port vc f ++ comma ++ permitted_text net.relation (permitted_to net r port vc f)
@@ -51,7 +35,7 @@ trace_parts net n r port vc f =
     let verdict = verdict_text g port vc f in
     let out = out_name g f.out in
     let permitted = permitted_text net.relation (permitted_to net r port vc f) in
-    ap (λ (t : List ℕ). when ++ (verdict ++ (t ++ permitted))) (field_parts g f.out) ∙ ap (λ (t : List ℕ). when ++ (verdict ++ t)) (append_assoc out comma permitted)
+    ap (λ (t : List ℕ). when ++ (verdict ++ t)) (append_assoc out comma permitted)
     ∙ ap (λ (t : List ℕ). when ++ t) (sym (append_assoc verdict out (comma ++ permitted))) ∙ sym (append_assoc when (verdict ++ out) (comma ++ permitted))
     ∙ sym (append_assoc (when ++ (verdict ++ out)) comma permitted)
 

@@ -1,13 +1,18 @@
 -- The input channels of a network, in the order of its reports.
-use Rattle.std.specs.Prelude.{ℕ, ◌==◌, Bool, ◌||◌, List, [], is_some, if◌then◌else◌}
+use Rattle.std.specs.Prelude.{◌≡◌, ℕ, ◌+◌, ◌*◌, ◌<◌, ◌==◌, Bool, ◌||◌, List, [], Some, is_some, slice_get, if◌then◌else◌}
 use Rattle.std.specs.List.{flat_map}
 use Rattle.noc_topo.specs.Shape.{Grid, local_port, neighbour, nodes, ports}
 use Rattle.noc_topo.specs.Words.{below}
+use Rattle.noc_packet.specs.declared.limits.TheConstants.{MAX_PORTS}
 use Rattle.noc_route.specs.Routes.{Routes}
 
 -- an input port is local or has a link
 abbrev pub is_input : Grid → ℕ → ℕ → Bool
 is_input g router port = port == local_port g || is_some (neighbour g router port)
+
+-- a table says of each router and port, MAX_PORTS places to a router, whether it is an input port
+abbrev pub AreInputs : Grid → List Bool → Type 0
+AreInputs g table = (router port : ℕ) → router < nodes g → port < ports g → slice_get table (router * MAX_PORTS + port) ≡ Some (is_input g router port)
 
 module _ {X : Type 0} (g : Grid) where
   -- what is said of the channels of an input port, one after the other

@@ -14,10 +14,10 @@ use Rattle.noc_files.specs.Writing.{comma, dash_or, text_of_pieces, line_end}
 unfoldable pub finding_header : List ℕ
 finding_header = codes "port,vc,verdict,packet,out\n"
 
--- an output channel as port, full stop and number, or a dash, and the end of the line
-abbrev pub out_text : Grid → Option (ℕ × ℕ) → List ℕ
-out_text g None = text_of_pieces (codes "-" ∷ line_end ∷ [])
-out_text g (Some (port, vc)) = text_of_pieces (unwrap_or (port_text g port) (codes "-") ∷ codes "." ∷ decimal vc ∷ line_end ∷ [])
+-- an output channel as port, full stop and number, or a dash
+abbrev pub out_name : Grid → Option (ℕ × ℕ) → List ℕ
+out_name g None = codes "-"
+out_name g (Some (port, vc)) = text_of_pieces (unwrap_or (port_text g port) (codes "-") ∷ codes "." ∷ decimal vc ∷ [])
 
 -- the name of a verdict
 abbrev pub verdict_word : Verdict → List ℕ
@@ -38,7 +38,7 @@ verdict_text g port vc f = text_of_pieces (name_of_port g port ∷ comma ∷ dec
 
 -- the line of an input channel: its verdict, its packet, and the output channel that the verdict speaks of
 abbrev pub finding_line : Grid → ℕ → ℕ → Finding → List ℕ
-finding_line g port vc f = verdict_text g port vc f ++ out_text g f.out
+finding_line g port vc f = verdict_text g port vc f ++ out_name g f.out ++ line_end
 
 -- the line of an input channel, if something was found of it
 abbrev pub line_if_found : Grid → ℕ → ℕ → Option Finding → List ℕ

@@ -14,8 +14,8 @@ use Rattle.noc_router.specs.declared.verdict.Verdict.TheVariants.{Empty, Granted
 use Rattle.noc_net.specs.Network.{Run, Setup, size}
 use Rattle.noc_net.specs.Lockstep.{findings_before, findings_in_cycle}
 use Rattle.noc_files.specs.Channels.{over_router, over_routers}
-use Rattle.noc_files.specs.Findings.{verdict_text}
-use Rattle.noc_files.specs.Ports.{name_of_port, port_text}
+use Rattle.noc_files.specs.Findings.{out_name, verdict_text}
+use Rattle.noc_files.specs.Ports.{name_of_port}
 use Rattle.noc_files.specs.Writing.{comma, text_of_pieces, line_end}
 use Rattle.noc_files.specs.declared.trace.Traced.{Traced}
 
@@ -64,11 +64,6 @@ is_same _ _ = false
 
 -- ---- the line of a channel
 
--- an output channel as port, full stop and number, or a dash; then a comma
-abbrev pub out_field : Grid → Option (ℕ × ℕ) → List ℕ
-out_field g None = text_of_pieces (codes "-" ∷ comma ∷ [])
-out_field g (Some (port, vc)) = text_of_pieces (unwrap_or (port_text g port) (codes "-") ∷ codes "." ∷ decimal vc ∷ comma ∷ [])
-
 -- whether a packet of this verdict asked for an output channel, or found none to ask for
 abbrev pub is_asking : Verdict → Bool
 is_asking Granted = true
@@ -107,7 +102,7 @@ permitted_text relation (Some set) = set_text relation set ++ line_end
 
 -- the output channel of a finding, and what was permitted
 abbrev pub way_text : Setup → ℕ → ℕ → ℕ → Finding → List ℕ
-way_text net r port vc f = out_field net.relation.grid f.out ++ permitted_text net.relation (permitted_to net r port vc f)
+way_text net r port vc f = out_name net.relation.grid f.out ++ comma ++ permitted_text net.relation (permitted_to net r port vc f)
 
 -- what is told of an input channel
 abbrev pub told_text : Setup → ℕ → ℕ → ℕ → Finding → List ℕ
@@ -170,11 +165,6 @@ kept_line u traced rows n r port vc =
 -- a trace of all channels, with a line in each cycle
 abbrev pub whole : Traced
 whole = record { router = None; packet = None; changes = false }
-
--- an output channel as port, full stop and number, or a dash
-abbrev pub out_name : Grid → Option (ℕ × ℕ) → List ℕ
-out_name g None = codes "-"
-out_name g (Some (port, vc)) = text_of_pieces (unwrap_or (port_text g port) (codes "-") ∷ codes "." ∷ decimal vc ∷ [])
 
 -- what a trace and `explain` both say of an input channel
 abbrev pub said_by_both : Grid → ℕ → ℕ → Finding → List ℕ

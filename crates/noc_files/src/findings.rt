@@ -1,38 +1,38 @@
 //! The report of a router's findings in one cycle (docs/FORMATS.md).
 
-ghost use Rattle.std.specs.Prelude.{ℕ, ◌≡◌, ◌+◌, ◌^◌, ◌<◌, ◌≤◌, length, IfOk};
+ghost use Rattle.std.specs.Prelude.{ℕ, ◌≡◌, ◌+◌, ◌<◌, ◌≤◌, ◌++◌, length};
 ghost use Rattle.noc_net.specs.Network.{Run};
 ghost use Rattle.noc_topo.specs.Shape.{nodes, ports};
-ghost use Rattle.noc_files.specs.Findings.{finding_header, finding_line, findings_text, found_line, out_text, verdict_text, verdict_word};
-ghost use Rattle.noc_files.specs.Writing.{Puts, Wrote};
+ghost use Rattle.noc_files.specs.Channels.{AreInputs};
+ghost use Rattle.noc_files.specs.Findings.{finding_header, finding_line, findings_text, found_line, out_name, verdict_text, verdict_word};
+ghost use Rattle.noc_files.specs.Writing.{Wrote, dash_or};
+ghost use Rattle.noc_files.specs.declared.page.TheConstants.{PAGE};
 
+use crate::inputs::{Inputs, inputs_of};
 use crate::listing::{Lines, write_router};
+use crate::page::Page;
 use crate::ports::{known_name, port_name};
 use crate::sink::Sink;
-use crate::writing::{WriteFault, put_pieces, shown};
-use itoa::Buffer;
+use crate::writing::WriteFault;
 use noc_net::Network;
 use noc_route::Relation;
 use noc_router::{Finding, Verdict};
 use noc_topo::Shape;
 
-// Puts an output channel, or a dash where there is none, and ends the line.
-fn put_out<W: Sink>(
-    shape: &Shape,
-    out: Option<(usize, usize)>,
-    sink: &mut W,
-    before: u64,
-) -> Result<u64, WriteFault>
-    requires { before + 27 < 2 ^ 64 }
-    ensures short { length (out_text shape.now out) ≤ 27 }
-    ensures puts { Puts W.contents W.has_failed sink.old sink.new before (out_text shape.now out) result }
+// Adds an output channel, or a dash where there is none.
+pub(crate) fn add_out(shape: &Shape, out: Option<(usize, usize)>, page: &mut Page)
+    requires room { length page.old + 26 ≤ PAGE }
+    ensures added { page.new ≡ page.old ++ out_name shape.now out }
+    ensures short { length page.new ≤ length page.old + 26 }
 {
-    let Some((port, vc)) = out else {
-        return put_pieces(sink, &["-", "\n"], before);
-    };
-    let name = port_name(shape, port).unwrap_or("-");
-    let mut number = Buffer::new();
-    put_pieces(sink, &[name, ".", number.format(vc), "\n"], before)
+    match out {
+        Some((port, vc)) => {
+            page.add(port_name(shape, port).unwrap_or("-"));
+            page.add_byte(b'.');
+            page.add_number(vc as u64);
+        }
+        None => page.add_byte(b'-'),
+    }
 }
 
 // The name of a verdict.
@@ -54,64 +54,45 @@ fn verdict_name(verdict: Verdict) -> &'static str
     }
 }
 
-// A number of 32 bits in 64.
-fn wide(number: Option<u32>) -> Option<u64>
-    ensures { result ≡ number }
+// Adds the number of a packet, or a dash where there is none.
+fn add_packet(packet: Option<u32>, page: &mut Page)
+    requires room { length page.old + 20 ≤ PAGE }
+    ensures added { page.new ≡ page.old ++ dash_or packet }
+    ensures short { length page.new ≤ length page.old + 20 }
 {
-    match number {
-        Some(number) => Some(u64::from(number)),
-        None => None,
+    match packet {
+        Some(number) => page.add_number(u64::from(number)),
+        None => page.add_byte(b'-'),
     }
 }
 
-// Puts an input channel by its port and its number, its verdict and its packet.
-pub(crate) fn put_verdict<W: Sink>(
-    shape: &Shape,
-    port: usize,
-    vc: usize,
-    finding: &Finding,
-    sink: &mut W,
-    before: u64,
-) -> Result<u64, WriteFault>
+// Adds an input channel by its port and its number, its verdict and its packet.
+pub(crate) fn add_verdict(shape: &Shape, port: usize, vc: usize, finding: &Finding, page: &mut Page)
     requires port { port < ports shape.now }
-    requires room { before + 62 < 2 ^ 64 }
-    ensures short { length (verdict_text shape.now port vc finding.now) ≤ 62 }
-    ensures puts { Puts W.contents W.has_failed sink.old sink.new before (verdict_text shape.now port vc finding.now) result }
+    requires room { length page.old + 62 ≤ PAGE }
+    ensures added { page.new ≡ page.old ++ verdict_text shape.now port vc finding.now }
+    ensures short { length page.new ≤ length page.old + 62 }
 {
-    let mut number = Buffer::new();
-    let mut holder = Buffer::new();
-    put_pieces(
-        sink,
-        &[
-            known_name(shape, port),
-            ",",
-            number.format(vc),
-            ",",
-            verdict_name(finding.verdict),
-            ",",
-            shown(&mut holder, wide(finding.packet)),
-            ",",
-        ],
-        before,
-    )
+    page.add(known_name(shape, port));
+    page.add_byte(b',');
+    page.add_number(vc as u64);
+    page.add_byte(b',');
+    page.add(verdict_name(finding.verdict));
+    page.add_byte(b',');
+    add_packet(finding.packet, page);
+    page.add_byte(b',');
 }
 
-// Puts the line of an input channel.
-fn put_finding<W: Sink>(
-    shape: &Shape,
-    port: usize,
-    vc: usize,
-    finding: &Finding,
-    sink: &mut W,
-    before: u64,
-) -> Result<u64, WriteFault>
+// Adds the line of an input channel.
+fn add_finding(shape: &Shape, port: usize, vc: usize, finding: &Finding, page: &mut Page)
     requires port { port < ports shape.now }
-    requires room { before + 89 < 2 ^ 64 }
-    ensures puts { Puts W.contents W.has_failed sink.old sink.new before (finding_line shape.now port vc finding.now) result }
-    ensures short { IfOk result (λ n. n ≤ before + 89) }
+    requires room { length page.old + 89 ≤ PAGE }
+    ensures added { page.new ≡ page.old ++ finding_line shape.now port vc finding.now }
+    ensures short { length page.new ≤ length page.old + 89 }
 {
-    let judged = put_verdict(shape, port, vc, finding, sink, before)?;
-    put_out(shape, finding.out, sink, judged)
+    add_verdict(shape, port, vc, finding, page);
+    add_out(shape, finding.out, page);
+    page.add_byte(b'\n');
 }
 
 // What a router found of its input channels, by their indices.
@@ -119,6 +100,8 @@ fn put_finding<W: Sink>(
 struct Found<'a> {
     relation: &'a Relation,
     findings: &'a [Finding],
+    inputs: Inputs,
+    ghost known: { AreInputs relation.now.grid inputs },
 }
 
 impl<'a> Lines for Found<'a> {
@@ -138,21 +121,18 @@ impl<'a> Lines for Found<'a> {
         self.relation.shape().ports()
     }
 
+    fn inputs(&self) -> &Inputs {
+        &self.inputs
+    }
+
     fn vcs(&self) -> usize {
         self.relation.vcs()
     }
 
-    fn put_line<W: Sink>(
-        &self,
-        _: usize,
-        port: usize,
-        vc: usize,
-        sink: &mut W,
-        before: u64,
-    ) -> Result<u64, WriteFault> {
+    fn add_line(&self, _: usize, port: usize, vc: usize, page: &mut Page) {
         match self.findings.get(port * self.relation.vcs() + vc) {
-            Some(finding) => put_finding(self.relation.shape(), port, vc, finding, sink, before),
-            None => Ok(before),
+            Some(finding) => add_finding(self.relation.shape(), port, vc, finding, page),
+            None => {}
         }
     }
 }
@@ -169,9 +149,11 @@ pub fn write_findings<W: Sink>(
     requires { router < nodes network.now.net.relation.grid }
     ensures { Wrote W.contents W.has_failed sink.old sink.new (findings_text network.now router) result }
 {
+    let relation = network.relation();
     let found = Found {
-        relation: network.relation(),
+        relation,
         findings: network.findings(router),
+        inputs: inputs_of(relation.shape()),
     };
     write_router("port,vc,verdict,packet,out\n", &found, router, sink)
 }

@@ -4,9 +4,11 @@
 mod configuration;
 mod fault;
 mod findings;
+mod inputs;
 mod joined;
 mod latency;
 mod listing;
+mod page;
 mod ports;
 mod ranks;
 mod rows;

@@ -4,11 +4,13 @@ ghost use Rattle.std.specs.Prelude.{◌≡◌, ◌+◌, ◌^◌, ◌<◌, ◌≤
 ghost use Rattle.std.specs.List.{flat_map};
 ghost use Rattle.noc_topo.specs.Shape.{Grid, nodes, ports};
 ghost use Rattle.noc_topo.specs.Words.{below};
-ghost use Rattle.noc_files.specs.Channels.{is_input, lines_of_port, lines_of_router, lines_of_routers};
+ghost use Rattle.noc_files.specs.Channels.{AreInputs, is_input, lines_of_port, lines_of_router, lines_of_routers};
 ghost use Rattle.noc_files.specs.Writing.{Puts, Wrote};
-ghost use Rattle.noc_files.specs.declared.listing.TheConstants.{LONGEST_LINE};
+ghost use Rattle.noc_files.specs.declared.listing.TheConstants.{LONGEST_LINE, LONGEST_PORT};
+ghost use Rattle.noc_files.specs.declared.page.TheConstants.{PAGE};
 
-use crate::ports::has_inputs;
+use crate::inputs::{Inputs, has_input};
+use crate::page::Page;
 use crate::sink::Sink;
 use crate::writing::{WriteFault, put_all};
 use noc_packet::{MAX_CHANNELS, MAX_NODES, MAX_PORTS};
@@ -45,6 +47,10 @@ pub(crate) trait Lines {
         ensures known { result ≤ ports (grid self.now) }
         ensures few { result ≤ MAX_PORTS };
 
+    // The input ports of the shape.
+    fn inputs(&self) -> &Inputs
+        ensures { AreInputs (grid self.now) result.now };
+
     // How many channels of each port there are lines on.
     fn vcs(&self) -> usize
         ensures value { result ≡ vcs self.now }
@@ -58,44 +64,29 @@ pub(crate) trait Lines {
         false
     }
 
-    // Puts the lines on a channel of an input port that is local or has a link.
-    fn put_line<W: Sink>(
-        &self,
-        router: usize,
-        port: usize,
-        vc: usize,
-        sink: &mut W,
-        before: u64,
-    ) -> Result<u64, WriteFault>
+    // Adds the lines on a channel of an input port that is local or has a link.
+    fn add_line(&self, router: usize, port: usize, vc: usize, page: &mut Page)
         requires router { router < nodes (grid self.now) }
         requires port { port < listed self.now }
         requires vc { vc < vcs self.now }
         requires input { is_input (grid self.now) router port ≡ true }
-        requires room { before + LONGEST_LINE < 2 ^ 64 }
-        ensures puts { Puts W.contents W.has_failed sink.old sink.new before (said self.now router port vc) result }
-        ensures short { IfOk result (λ n. n ≤ before + LONGEST_LINE) };
+        requires room { length page.old + LONGEST_LINE ≤ PAGE }
+        ensures said { page.new ≡ page.old ++ said self.now router port vc }
+        ensures short { length page.new ≤ length page.old + LONGEST_LINE };
 }
 
-// Puts the lines on the channels of an input port that is local or has a link.
-fn put_channels<L: Lines, W: Sink>(
-    lines: &L,
-    router: usize,
-    port: usize,
-    sink: &mut W,
-    before: u64,
-) -> Result<u64, WriteFault>
+// Fills a page with the lines on the channels of an input port that is local or has a link.
+fn fill<L: Lines>(lines: &L, router: usize, port: usize, page: &mut Page)
     requires router { router < nodes (L.grid lines.now) }
     requires port { port < L.listed lines.now }
     requires input { is_input (L.grid lines.now) router port ≡ true }
-    requires room { before + LONGEST_PORT < 2 ^ 64 }
-    ensures puts { Puts W.contents W.has_failed sink.old sink.new before (flat_map (L.said lines.now router port) (below (L.vcs lines.now))) result }
-    ensures short { IfOk result (λ n. n ≤ before + LONGEST_PORT) }
+    ensures said { page.new ≡ flat_map (L.said lines.now router port) (below (L.vcs lines.now)) }
+    ensures short { length page.new ≤ LONGEST_PORT }
 {
-    let mut written = before;
+    page.clear();
     for vc in 0..lines.vcs() {
-        written = lines.put_line(router, port, vc, sink, written)?;
+        lines.add_line(router, port, vc, page);
     }
-    Ok(written)
 }
 
 // Puts the lines on an input port, if it is local or has a link.
@@ -103,27 +94,28 @@ fn put_port<L: Lines, W: Sink>(
     lines: &L,
     router: usize,
     port: usize,
+    page: &mut Page,
     sink: &mut W,
     before: u64,
 ) -> Result<u64, WriteFault>
     requires router { router < nodes (L.grid lines.now) }
-    requires port { port < L.listed lines.now }
-    requires known { port < ports (L.grid lines.now) }
+    requires port { (port < L.listed lines.now) × (port < ports (L.grid lines.now)) }
     requires room { before + LONGEST_PORT < 2 ^ 64 }
     ensures puts { Puts W.contents W.has_failed sink.old sink.new before (lines_of_port (L.grid lines.now) (L.vcs lines.now) router (L.said lines.now router) port) result }
     ensures short { IfOk result (λ n. n ≤ before + LONGEST_PORT) }
 {
-    if has_inputs(lines.shape(), router, port) {
-        put_channels(lines, router, port, sink, before)
-    } else {
-        Ok(before)
+    if !has_input(lines.shape(), lines.inputs(), router, port) {
+        return Ok(before);
     }
+    fill(lines, router, port, page);
+    put_all(sink, page.text(), before)
 }
 
 // Puts the lines on a router.
 pub(crate) fn put_router<L: Lines, W: Sink>(
     lines: &L,
     router: usize,
+    page: &mut Page,
     sink: &mut W,
     before: u64,
 ) -> Result<u64, WriteFault>
@@ -137,7 +129,7 @@ pub(crate) fn put_router<L: Lines, W: Sink>(
     }
     let mut written = before;
     for port in 0..lines.listed() {
-        written = put_port(lines, router, port, sink, written)?;
+        written = put_port(lines, router, port, page, sink, written)?;
     }
     Ok(written)
 }
@@ -145,6 +137,7 @@ pub(crate) fn put_router<L: Lines, W: Sink>(
 // Puts the lines on all routers.
 pub(crate) fn put_routers<L: Lines, W: Sink>(
     lines: &L,
+    page: &mut Page,
     sink: &mut W,
     before: u64,
 ) -> Result<u64, WriteFault>
@@ -154,7 +147,7 @@ pub(crate) fn put_routers<L: Lines, W: Sink>(
 {
     let mut written = before;
     for router in 0..lines.shape().nodes() {
-        written = put_router(lines, router, sink, written)?;
+        written = put_router(lines, router, page, sink, written)?;
     }
     Ok(written)
 }
@@ -171,7 +164,7 @@ pub(crate) fn write_router<L: Lines, W: Sink>(
     ensures { Wrote W.contents W.has_failed sink.old sink.new (header.now ++ lines_of_router (L.grid lines.now) (L.listed lines.now) (L.vcs lines.now) router (L.said lines.now router)) result }
 {
     let written = put_all(sink, header.as_bytes(), 0)?;
-    put_router(lines, router, sink, written)?;
+    put_router(lines, router, &mut Page::new(), sink, written)?;
     Ok(())
 }
 
@@ -185,6 +178,6 @@ pub(crate) fn write_routers<L: Lines, W: Sink>(
     ensures { Wrote W.contents W.has_failed sink.old sink.new (header.now ++ lines_of_routers (L.grid lines.now) (L.listed lines.now) (L.vcs lines.now) (L.said lines.now)) result }
 {
     let written = put_all(sink, header.as_bytes(), 0)?;
-    put_routers(lines, sink, written)?;
+    put_routers(lines, &mut Page::new(), sink, written)?;
     Ok(())
 }

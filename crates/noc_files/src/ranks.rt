@@ -1,6 +1,6 @@
 //! Rank files (docs/FORMATS.md).
 
-ghost use Rattle.std.specs.Prelude.{◌≡◌, ◌↔◌, ◌+◌, ◌^◌, ◌<◌, ◌≤◌, true, ℕ, List, Ok, Err, IfOk, IsSome, length};
+ghost use Rattle.std.specs.Prelude.{◌≡◌, ◌↔◌, ◌+◌, ◌^◌, ◌<◌, ◌≤◌, ◌++◌, true, ℕ, List, Ok, Err, IfOk, IsSome, length};
 ghost use Rattle.std.specs.List.{flat_map};
 ghost use Rattle.csv.specs.Records.{fields_of};
 ghost use Rattle.noc_packet.specs.declared.limits.TheConstants.{MAX_CHANNELS as FEW};
@@ -10,18 +10,22 @@ ghost use Rattle.noc_rank.specs.declared.rows.RankRow.{RankRow as RowValue};
 ghost use Rattle.noc_topo.specs.Shape.{Grid, IsGrid, local_port, neighbour, nodes};
 ghost use Rattle.noc_topo.specs.Words.{below};
 ghost use Rattle.noc_files.specs.declared.fault.InputFault.{InputFault as Fault};
+ghost use Rattle.noc_files.specs.Channels.{AreInputs};
 ghost use Rattle.noc_files.specs.Gives.{Gives};
 ghost use Rattle.noc_files.specs.Plain.{row_line};
 ghost use Rattle.noc_files.specs.Ranks.{rank_header, rank_field, rank_line, rank_of, rank_row, rank_row_of, rank_rows, rank_text, ranks_of, ranks_text, port_rows, router_rows, IsRankFile, IsRankFileFault, ListsRanks};
-ghost use Rattle.noc_files.specs.Writing.{Puts, Wrote};
+ghost use Rattle.noc_files.specs.Writing.{Wrote};
+ghost use Rattle.noc_files.specs.declared.page.TheConstants.{PAGE};
 
 use crate::fault::InputFault;
+use crate::inputs::{Inputs, inputs_of};
 use crate::listing::{Lines, write_routers};
+use crate::page::Page;
 use crate::ports::known_name;
 use crate::rows::{number, number_in, port_in};
 use crate::sheet::read_sheet;
 use crate::sink::Sink;
-use crate::writing::{WriteFault, put_pieces};
+use crate::writing::WriteFault;
 use csv::ByteRecord;
 use itoa::Buffer;
 use noc_packet::MAX_CHANNELS;
@@ -116,22 +120,17 @@ fn shown_rank(buffer: &mut Buffer, rank: Option<usize>) -> &str
     }
 }
 
-// Puts the line of a row, whose port the shape has.
-fn put_row<W: Sink>(
-    shape: &Shape,
-    row: &RankRow,
-    sink: &mut W,
-    before: u64,
-) -> Result<u64, WriteFault>
+// Adds the line of a row, whose port the shape has.
+fn add_row(shape: &Shape, row: &RankRow, page: &mut Page)
     requires port { row.now.port < local_port shape.now }
-    requires room { before + 69 < 2 ^ 64 }
-    ensures puts { Puts W.contents W.has_failed sink.old sink.new before (rank_line shape.now row.now) result }
-    ensures short { IfOk result (λ n. n ≤ before + 69) }
+    requires room { length page.old + 69 ≤ PAGE }
+    ensures added { page.new ≡ page.old ++ rank_line shape.now row.now }
+    ensures short { length page.new ≤ length page.old + 69 }
 {
     let mut router = Buffer::new();
     let mut vc = Buffer::new();
     let mut rank = Buffer::new();
-    let pieces = [
+    page.add_all(&[
         router.format(row.router),
         ",",
         known_name(shape, row.port),
@@ -140,8 +139,7 @@ fn put_row<W: Sink>(
         ",",
         shown_rank(&mut rank, row.rank),
         "\n",
-    ];
-    put_pieces(sink, &pieces, before)
+    ]);
 }
 
 // Some ranks with their shape and how many channels each link has.
@@ -150,6 +148,8 @@ struct Listed<'a> {
     ranks: &'a Ranks,
     shape: &'a Shape,
     vcs: usize,
+    inputs: Inputs,
+    ghost known: { AreInputs shape.now inputs },
     ghost same: { ranks.now.grid ≡ shape.now },
     ghost count: { ranks.now.vcs ≡ vcs },
     ghost few: { vcs ≤ FEW },
@@ -172,18 +172,15 @@ impl<'a> Lines for Listed<'a> {
         self.shape.ports() - 1
     }
 
+    fn inputs(&self) -> &Inputs {
+        &self.inputs
+    }
+
     fn vcs(&self) -> usize {
         self.vcs
     }
 
-    fn put_line<W: Sink>(
-        &self,
-        router: usize,
-        port: usize,
-        vc: usize,
-        sink: &mut W,
-        before: u64,
-    ) -> Result<u64, WriteFault> {
+    fn add_line(&self, router: usize, port: usize, vc: usize, page: &mut Page) {
         let rank = match self.ranks.rank(router, port, vc) {
             Some(rank) => Some(rank as usize),
             None => None,
@@ -194,7 +191,7 @@ impl<'a> Lines for Listed<'a> {
             vc,
             rank,
         };
-        put_row(self.shape, &row, sink, before)
+        add_row(self.shape, &row, page);
     }
 }
 
@@ -212,6 +209,11 @@ pub fn write_ranks<W: Sink>(
     requires few { vcs ≤ MAX_CHANNELS }
     ensures { Wrote W.contents W.has_failed sink.old sink.new (ranks_text ranks.now) result }
 {
-    let listed = Listed { ranks, shape, vcs };
+    let listed = Listed {
+        ranks,
+        shape,
+        vcs,
+        inputs: inputs_of(shape),
+    };
     write_routers("router,port,vc,rank\n", &listed, sink)
 }

@@ -1,6 +1,6 @@
 //! The trace: what each input channel did in each cycle of a span (docs/FORMATS.md).
 
-ghost use Rattle.std.specs.Prelude.{◌≡◌, ℕ, ◌+◌, ◌*◌, ◌-◌, ◌^◌, ◌<◌, ◌≤◌, ◌++◌, [], ◌∷◌, IfOk, IfSome, List, None, Option, Some, codes, decimal, if◌then◌else◌, is_some, length, map, option_and_then, replicate, slice_get, true};
+ghost use Rattle.std.specs.Prelude.{◌≡◌, ℕ, ◌+◌, ◌*◌, ◌/◌, ◌%◌, ◌-◌, ◌^◌, ◌<◌, ◌≤◌, ◌++◌, [], ◌∷◌, IfOk, IfSome, List, None, Option, Some, codes, decimal, if◌then◌else◌, is_some, length, map, option_and_then, replicate, slice_get, true};
 ghost use Rattle.std.specs.List.{flat_map};
 ghost use Rattle.noc_topo.specs.Shape.{nodes, ports};
 ghost use Rattle.noc_topo.specs.Words.{below};
@@ -10,17 +10,22 @@ ghost use Rattle.noc_router.specs.Found.{empty_finding};
 ghost use Rattle.noc_router.specs.declared.verdict.Finding.{Finding as FindingValue};
 ghost use Rattle.noc_net.specs.Lockstep.{findings_before, findings_in_cycle};
 ghost use Rattle.noc_net.specs.Network.{Run as RunValue, Setup as SetupValue, size};
+ghost use Rattle.noc_files.specs.Channels.{AreInputs};
 ghost use Rattle.noc_files.specs.Findings.{found_line};
+ghost use Rattle.noc_files.specs.Ports.{name_of_port};
 ghost use Rattle.noc_files.specs.Stalls.{channel_counts};
-ghost use Rattle.noc_files.specs.Trace.{AreRows, cycle_text, has_below, finds_empty, is_same, is_traced, kept_at, kept_line, member_text, nothing_found, out_field, over_traced, permitted_text, permitted_to, said_by_both, set_text, traced_finding, told_counts, told_text, trace_line, trace_text, traced_line, way_text, when_text, whole};
+ghost use Rattle.noc_files.specs.Trace.{AreRows, cycle_text, has_below, finds_empty, is_same, is_traced, kept_at, kept_line, member_text, nothing_found, over_traced, permitted_text, permitted_to, said_by_both, set_text, traced_finding, told_counts, told_text, trace_line, trace_text, traced_line, way_text, when_text, whole};
 ghost use Rattle.noc_files.specs.Writing.{Puts, Wrote, comma, text_of_pieces, line_end};
 ghost use Rattle.noc_files.specs.declared.listing.TheConstants.{LONGEST_LINE, LONGEST_LISTING};
+ghost use Rattle.noc_files.specs.declared.page.TheConstants.{PAGE};
 
-use crate::findings::put_verdict;
+use crate::findings::{add_out, add_verdict};
+use crate::inputs::{Inputs, inputs_of};
 use crate::listing::{Lines, put_router, put_routers};
-use crate::ports::{known_name, port_name};
+use crate::page::Page;
+use crate::ports::known_name;
 use crate::sink::Sink;
-use crate::writing::{WriteFault, put_all, put_pieces};
+use crate::writing::{WriteFault, put_all};
 use itoa::Buffer;
 use noc_net::{CYCLE_LIMIT, Network};
 use noc_packet::{ChannelSet, Memory};
@@ -204,25 +209,6 @@ fn is_same(before: &Option<Finding>, now: &Option<Finding>) -> bool
     }
 }
 
-// Puts an output channel, or a dash where there is none, and a comma.
-fn put_out<W: Sink>(
-    shape: &Shape,
-    out: Option<(usize, usize)>,
-    sink: &mut W,
-    before: u64,
-) -> Result<u64, WriteFault>
-    requires { before + 27 < 2 ^ 64 }
-    ensures short { length (out_field shape.now out) ≤ 27 }
-    ensures puts { Puts W.contents W.has_failed sink.old sink.new before (out_field shape.now out) result }
-{
-    let Some((port, vc)) = out else {
-        return put_pieces(sink, &["-", ","], before);
-    };
-    let name = port_name(shape, port).unwrap_or("-");
-    let mut number = Buffer::new();
-    put_pieces(sink, &[name, ".", number.format(vc), ","], before)
-}
-
 // The output channels that the relation permits to the packet of a finding, where it asks.
 fn permitted_to(
     network: &Network,
@@ -248,158 +234,97 @@ fn permitted_to(
     }
 }
 
-// Puts the output channels of a set, by rising index, with a space between.
-fn put_set<W: Sink>(
-    relation: &Relation,
-    set: ChannelSet,
-    sink: &mut W,
-    before: u64,
-) -> Result<u64, WriteFault>
-    requires room { before + 1512 < 2 ^ 64 }
-    ensures puts { Puts W.contents W.has_failed sink.old sink.new before (set_text relation.now set) result }
-    ensures short { IfOk result (λ n. n ≤ before + 1512) }
+// Adds the output channels of a set, by rising index, with a space between.
+fn add_set(relation: &Relation, set: ChannelSet, page: &mut Page)
+    requires room { length page.old + 1512 ≤ PAGE }
+    ensures added { page.new ≡ page.old ++ set_text relation.now set }
+    ensures short { length page.new ≤ length page.old + 1512 }
 {
-    let mut written = before;
     let mut has_some = false;
     for index in 0..relation.shape().ports() * relation.vcs() {
-        written = put_member(relation, set, index, has_some, sink, written)?;
-        has_some = has_some || set.contains(index);
+        if set.contains(index) {
+            add_member(relation, index, has_some, page);
+            has_some = true;
+        }
     }
-    Ok(written)
 }
 
-// Puts an output channel if it is a member of the set, with a space before it where the set has some before.
-fn put_member<W: Sink>(
-    relation: &Relation,
-    set: ChannelSet,
-    index: usize,
-    has_some: bool,
-    sink: &mut W,
-    before: u64,
-) -> Result<u64, WriteFault>
+// Adds an output channel, with a space before it where there are some before.
+fn add_member(relation: &Relation, index: usize, has_some: bool, page: &mut Page)
     requires index { index < ports relation.now.grid * relation.now.vcs }
-    requires few { index < INDICES }
-    requires some { has_some ≡ has_below set index }
-    requires room { before + 27 < 2 ^ 64 }
-    ensures puts { Puts W.contents W.has_failed sink.old sink.new before (member_text relation.now.grid relation.now.vcs set index) result }
-    ensures short { IfOk result (λ n. n ≤ before + 27) }
+    requires room { length page.old + 27 ≤ PAGE }
+    ensures added { page.new ≡ page.old ++ text_of_pieces ((if has_some then codes " " else []) ∷ name_of_port relation.now.grid (index / relation.now.vcs) ∷ codes "." ∷ decimal (index % relation.now.vcs) ∷ []) }
+    ensures short { length page.new ≤ length page.old + 27 }
 {
-    if !set.contains(index) {
-        return Ok(before);
-    }
     let gap = if has_some { " " } else { "" };
     let name = known_name(relation.shape(), index / relation.vcs());
-    put_channel(gap, name, index % relation.vcs(), sink, before)
+    let mut digits = Buffer::new();
+    page.add_all(&[gap, name, ".", digits.format(index % relation.vcs())]);
 }
 
-// Puts a channel by the name of its port and its number, behind a gap.
-fn put_channel<W: Sink>(
-    gap: &'static str,
-    name: &'static str,
-    vc: usize,
-    sink: &mut W,
-    before: u64,
-) -> Result<u64, WriteFault>
-    requires gap { length gap.now ≤ 1 }
-    requires name { length name.now ≤ 5 }
-    requires room { before + 27 < 2 ^ 64 }
-    ensures puts { Puts W.contents W.has_failed sink.old sink.new before (text_of_pieces (gap.now ∷ name.now ∷ codes "." ∷ decimal vc ∷ [])) result }
-    ensures short { IfOk result (λ n. n ≤ before + 27) }
+// Adds the output channels that were permitted, or a dash, and the end of the line.
+fn add_permitted(relation: &Relation, set: Option<ChannelSet>, page: &mut Page)
+    requires room { length page.old + 1513 ≤ PAGE }
+    ensures added { page.new ≡ page.old ++ permitted_text relation.now set }
+    ensures short { length page.new ≤ length page.old + 1513 }
 {
-    let mut number = Buffer::new();
-    put_pieces(sink, &[gap, name, ".", number.format(vc)], before)
+    match set {
+        Some(set) => {
+            add_set(relation, set, page);
+            page.add("\n");
+        }
+        None => page.add("-\n"),
+    }
 }
 
-// Puts the output channels that were permitted, or a dash, and ends the line.
-fn put_permitted<W: Sink>(
-    relation: &Relation,
-    set: Option<ChannelSet>,
-    sink: &mut W,
-    before: u64,
-) -> Result<u64, WriteFault>
-    requires room { before + 1513 < 2 ^ 64 }
-    ensures puts { Puts W.contents W.has_failed sink.old sink.new before (permitted_text relation.now set) result }
-    ensures short { IfOk result (λ n. n ≤ before + 1513) }
+// Adds a cycle, whose digits are these, and a router.
+fn add_when(digits: &str, router: usize, page: &mut Page)
+    requires digits { length digits.now ≤ 20 }
+    requires room { length page.old + 42 ≤ PAGE }
+    ensures added { page.new ≡ page.old ++ text_of_pieces (digits.now ∷ comma ∷ decimal router ∷ comma ∷ []) }
+    ensures short { length page.new ≤ length page.old + 42 }
 {
-    let Some(set) = set else {
-        return put_pieces(sink, &["-", "\n"], before);
-    };
-    let listed = put_set(relation, set, sink, before)?;
-    put_all(sink, b"\n", listed)
+    page.add(digits);
+    page.add_byte(b',');
+    page.add_number(router as u64);
+    page.add_byte(b',');
 }
 
-// Puts what is told of an input channel.
-fn put_told<W: Sink>(
+// Adds what is told of an input channel.
+fn add_told(
     network: &Network,
     router: usize,
     port: usize,
     vc: usize,
     finding: &Finding,
-    sink: &mut W,
-    before: u64,
-) -> Result<u64, WriteFault>
+    page: &mut Page,
+)
     requires router { router < nodes network.now.net.relation.grid }
     requires port { port < ports network.now.net.relation.grid }
     requires vc { vc < network.now.net.relation.vcs }
-    requires room { before + 1602 < 2 ^ 64 }
-    ensures puts { Puts W.contents W.has_failed sink.old sink.new before (told_text network.now.net router port vc finding.now) result }
-    ensures short { IfOk result (λ n. n ≤ before + 1602) }
+    requires room { length page.old + 1602 ≤ PAGE }
+    ensures added { page.new ≡ page.old ++ told_text network.now.net router port vc finding.now }
+    ensures short { length page.new ≤ length page.old + 1602 }
 {
     let relation = network.relation();
-    let judged = put_verdict(relation.shape(), port, vc, finding, sink, before)?;
-    let named = put_out(relation.shape(), finding.out, sink, judged)?;
+    add_verdict(relation.shape(), port, vc, finding, page);
+    add_out(relation.shape(), finding.out, page);
+    page.add_byte(b',');
     let set = permitted_to(network, router, port, vc, finding);
-    put_permitted(relation, set, sink, named)
+    add_permitted(relation, set, page);
 }
 
-// Puts a cycle and a router.
-fn put_when<W: Sink>(
-    cycle: u64,
-    router: usize,
-    sink: &mut W,
-    before: u64,
-) -> Result<u64, WriteFault>
-    requires { before + 42 < 2 ^ 64 }
-    ensures short { length (when_text cycle router) ≤ 42 }
-    ensures puts { Puts W.contents W.has_failed sink.old sink.new before (when_text cycle router) result }
-{
-    let mut first = Buffer::new();
-    let mut last = Buffer::new();
-    put_pieces(
-        sink,
-        &[first.format(cycle), ",", last.format(router), ","],
-        before,
-    )
-}
-
-// Puts the line of an input channel.
-fn put_trace_line<W: Sink>(
-    network: &Network,
-    cycle: u64,
-    router: usize,
-    port: usize,
-    vc: usize,
-    finding: &Finding,
-    sink: &mut W,
-    before: u64,
-) -> Result<u64, WriteFault>
-    requires router { router < nodes network.now.net.relation.grid }
-    requires port { port < ports network.now.net.relation.grid }
-    requires vc { vc < network.now.net.relation.vcs }
-    requires room { before + LONGEST_LINE < 2 ^ 64 }
-    ensures puts { Puts W.contents W.has_failed sink.old sink.new before (trace_line network.now.net cycle router port vc finding.now) result }
-    ensures short { IfOk result (λ n. n ≤ before + LONGEST_LINE) }
-{
-    let begun = put_when(cycle, router, sink, before)?;
-    put_told(network, router, port, vc, finding, sink, begun)
-}
-
-// The lines of a trace in the last cycle of a network, which has this number.
+// The lines of a trace in the last cycle of a network, which has this number and these digits.
 #[derive(Drop)]
 struct CycleLines<'a> {
     network: &'a Network,
+    inputs: &'a Inputs,
     trace: &'a Trace,
     cycle: u64,
+    digits: &'a str,
+    ghost known: { AreInputs network.now.net.relation.grid inputs.now },
+    ghost written: { digits.now ≡ decimal cycle },
+    ghost short: { length digits.now ≤ 20 },
 }
 
 impl<'a> Lines for CycleLines<'a> {
@@ -419,6 +344,10 @@ impl<'a> Lines for CycleLines<'a> {
         self.network.relation().shape().ports()
     }
 
+    fn inputs(&self) -> &Inputs {
+        self.inputs
+    }
+
     fn vcs(&self) -> usize {
         self.network.relation().vcs()
     }
@@ -429,56 +358,47 @@ impl<'a> Lines for CycleLines<'a> {
             && tells_nothing(trace.traced.packet, self.network.findings(router))
     }
 
-    fn put_line<W: Sink>(
-        &self,
-        router: usize,
-        port: usize,
-        vc: usize,
-        sink: &mut W,
-        before: u64,
-    ) -> Result<u64, WriteFault> {
+    fn add_line(&self, router: usize, port: usize, vc: usize, page: &mut Page) {
         let index = port * self.network.relation().vcs() + vc;
         let before_it = self.trace.before(router, index);
         let now = self.trace.now(self.network, router, index);
         if is_same(&before_it, &now) {
-            return Ok(before);
+            return;
         }
         let finding = now.unwrap_or(NOTHING);
-        put_trace_line(
-            self.network,
-            self.cycle,
-            router,
-            port,
-            vc,
-            &finding,
-            sink,
-            before,
-        )
+        add_when(self.digits, router, page);
+        add_told(self.network, router, port, vc, &finding, page);
     }
 }
 
 // Puts the lines of a trace in the last cycle of a network.
 fn put_cycle<W: Sink>(
     network: &Network,
+    inputs: &Inputs,
     trace: &Trace,
     cycle: u64,
+    page: &mut Page,
     sink: &mut W,
     before: u64,
 ) -> Result<u64, WriteFault>
+    requires inputs { AreInputs network.now.net.relation.grid inputs.now }
     requires last { network.now.count ≡ cycle + 1 }
     requires router { IfSome trace.now.0.router (λ router. router < nodes network.now.net.relation.grid) }
     requires room { before + LONGEST_LISTING < 2 ^ 64 }
     ensures puts { Puts W.contents W.has_failed sink.old sink.new before (over_traced network.now.net.relation trace.now.0.router (kept_line network.now trace.now.0 trace.now.1 cycle)) result }
     ensures short { IfOk result (λ n. n ≤ before + LONGEST_LISTING) }
 {
+    let mut digits = Buffer::new();
     let lines = CycleLines {
         network,
+        inputs,
         trace,
         cycle,
+        digits: digits.format(cycle),
     };
     match trace.traced.router {
-        Some(router) => put_router(&lines, router, sink, before),
-        None => put_routers(&lines, sink, before),
+        Some(router) => put_router(&lines, router, page, sink, before),
+        None => put_routers(&lines, page, sink, before),
     }
 }
 
@@ -498,10 +418,12 @@ fn put_cycles<W: Sink>(
     ensures puts { Puts W.contents W.has_failed sink.old sink.new before (flat_map (λ k. cycle_text network.old.net trace.old.0 network.old.count (network.old.count + k)) (below cycles)) result }
 {
     let first = network.count();
+    let inputs = inputs_of(network.relation().shape());
+    let mut page = Page::new();
     let mut written = before;
     for turn in 0..cycles {
         network.cycle();
-        written = put_cycle(network, trace, first + turn, sink, written)?;
+        written = put_cycle(network, &inputs, trace, first + turn, &mut page, sink, written)?;
         sink.hand_on();
         trace.keep(network);
     }

@@ -1,0 +1,26 @@
+-- Texts that are put together on a page.
+use Rattle.std.proofs.Common.{◌≡◌, ◌∙◌, ℕ, ◌+◌, List, [], ◌∷◌, ◌++◌, flat_map, ap, sym, append_assoc, append-nil}
+use Rattle.noc_topo.specs.Words.{below}
+use Rattle.noc_files.specs.Writing.{text_of_pieces}
+use Rattle.noc_files.proofs.BelowFacts.{each_more}
+
+module _ (f : ℕ → List ℕ) (old : List ℕ) where
+  -- nothing is said of no number
+  pub added_none : old ≡ old ++ flat_map f (below 0)
+  unfolding below
+  added_none = sym (append-nil old)
+
+  -- what is said of one number more is added
+  pub added_more : (n : ℕ) (page next : List ℕ) → page ≡ old ++ flat_map f (below n) → next ≡ page ++ f n → next ≡ old ++ flat_map f (below (n + 1))
+  added_more n page next so_far more =
+      more ∙ ap (λ (t : List ℕ). t ++ f n) so_far ∙ append_assoc old (flat_map f (below n)) (f n) ∙ ap (λ (t : List ℕ). old ++ t) (sym (each_more f n))
+
+-- pieces that are added one after another
+pub three_pieces : (old a b c : List ℕ) → old ++ a ++ b ++ c ≡ old ++ text_of_pieces (a ∷ b ∷ c ∷ [])
+three_pieces old a b c = simp (append_assoc, append-nil)
+
+pub four_pieces : (old a b c d : List ℕ) → old ++ a ++ b ++ c ++ d ≡ old ++ text_of_pieces (a ∷ b ∷ c ∷ d ∷ [])
+four_pieces old a b c d = simp (append_assoc, append-nil)
+
+pub eight_pieces : (old a b c d e f g h : List ℕ) → old ++ a ++ b ++ c ++ d ++ e ++ f ++ g ++ h ≡ old ++ text_of_pieces (a ∷ b ∷ c ∷ d ∷ e ∷ f ∷ g ∷ h ∷ [])
+eight_pieces old a b c d e f g h = simp (append_assoc, append-nil)
