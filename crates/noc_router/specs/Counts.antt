@@ -5,6 +5,7 @@ use Rattle.noc_packet.specs.Set.{has_bit}
 use Rattle.noc_packet.specs.declared.limits.TheConstants.{INDICES}
 use Rattle.noc_topo.specs.Words.{map_indexed}
 use Rattle.noc_router.specs.declared.counters.Counters.{Counters}
+use Rattle.noc_router.specs.declared.digit.Bits.{Bits}
 use Rattle.noc_router.specs.declared.digit.Digit.{Digit}
 
 -- 1 where it is true
@@ -20,13 +21,13 @@ abbrev pub carried_at : Option (List ℕ) → ℕ → ℕ → ℕ
 carried_at None j k = 0
 carried_at (Some sets) j k = one_at sets j k
 
--- the digit of the verdict in place j and channel k, 0 to 7
-abbrev pub added_at : Digit → ℕ → ℕ → ℕ
-added_at d j k = one_at d.ones j k + 2 * one_at d.twos j k + 4 * one_at d.fours j k
+-- the number of the verdict in place j and channel k, 0 to 7
+abbrev pub added_at : Bits → ℕ → ℕ → ℕ
+added_at b j k = one_at b.ones j k + 2 * one_at b.twos j k + 4 * one_at b.fours j k
 
 -- the digit of the verdict in place j and channel k, with what is to be added to it
 abbrev pub digit_at : Digit → ℕ → ℕ → ℕ
-digit_at d j k = added_at d j k + sum_by (λ sets. one_at sets j k) (take d.kept d.recent)
+digit_at d j k = added_at d.bits j k + sum_by (λ sets. one_at sets j k) (take d.kept d.recent)
 
 -- the count of the verdict in place j and channel k
 abbrev pub count_at : Counters → ℕ → ℕ → ℕ

@@ -14,6 +14,45 @@ pub(crate) type Sets = [ChannelSet; VERDICTS];
 // How many cycles are kept before they are added.
 const KEPT: usize = 7;
 
+/// For each verdict and channel a number, 0 to 7: of each of its bits the channels whose number has it.
+#[derive(Clone, Copy)]
+pub(crate) struct Bits {
+    ones: Sets,
+    twos: Sets,
+    fours: Sets,
+    ghost ten_ones: { length ones ≡ 10 },
+    ghost ten_twos: { length twos ≡ 10 },
+    ghost ten_fours: { length fours ≡ 10 },
+}
+
+impl Bits {
+    ghost use Rattle.std.specs.Prelude.{sum_by, take};
+    ghost use Rattle.noc_router.specs.Counts.{added_at, one_at, one_if};
+
+    // The sets of seven cycles and one more set are added to the numbers of one verdict. The answer is the channels whose
+    // number went past 7.
+    #[inline(always)]
+    fn add(&mut self, recent: &[Sets; KEPT], verdict: usize, set: ChannelSet) -> ChannelSet
+        requires seven { length recent.now ≡ 7 }
+        requires ten { (n : ℕ) → n < 7 → length (slice_index_or recent.now n []) ≡ 10 }
+        requires verdict { verdict < 10 }
+        ensures here { (k : ℕ) → added_at self.new verdict k + 8 * one_if (has_bit result k) ≡ added_at self.old verdict k + sum_by (λ sets. one_at sets verdict k) (take 7 recent.now) + one_if (has_bit set k) }
+        ensures others { (j k : ℕ) → j ≢ verdict → added_at self.new j k ≡ added_at self.old j k }
+    {
+        let (ones, two_0) = full_adder(self.ones[verdict], recent[0][verdict], recent[1][verdict]);
+        let (ones, two_1) = full_adder(ones, recent[2][verdict], recent[3][verdict]);
+        let (ones, two_2) = full_adder(ones, recent[4][verdict], recent[5][verdict]);
+        let (ones, two_3) = full_adder(ones, recent[6][verdict], set);
+        let (twos, four_0) = full_adder(self.twos[verdict], two_0, two_1);
+        let (twos, four_1) = full_adder(twos, two_2, two_3);
+        let (fours, eight) = full_adder(self.fours[verdict], four_0, four_1);
+        self.ones[verdict] = ones;
+        self.twos[verdict] = twos;
+        self.fours[verdict] = fours;
+        eight
+    }
+}
+
 /// For each verdict and channel one digit, 0 to 7, of a count, and the sets of up to seven cycles that are still to be added to it.
 ///
 /// The sets of eight cycles are added at once, by a few operations on words and with no branch for what they hold.
@@ -21,20 +60,14 @@ const KEPT: usize = 7;
 pub(crate) struct Digit {
     recent: [Sets; KEPT],
     pub(crate) kept: usize,
-    // Of each bit of the digit, the channels whose digit has it.
-    ones: Sets,
-    twos: Sets,
-    fours: Sets,
+    bits: Bits,
     ghost few: { kept ≤ 7 },
     ghost seven: { length recent ≡ 7 },
     ghost ten_each: { (n : ℕ) → n < 7 → length (slice_index_or recent n []) ≡ 10 },
-    ghost ten_ones: { length ones ≡ 10 },
-    ghost ten_twos: { length twos ≡ 10 },
-    ghost ten_fours: { length fours ≡ 10 },
 }
 
 impl Digit {
-    ghost use Rattle.noc_router.specs.Counts.{added_at, carried_at, digit_at, one_at, one_if};
+    ghost use Rattle.noc_router.specs.Counts.{carried_at, digit_at, one_at};
 
     // No counts.
     pub(crate) fn new() -> Digit
@@ -44,9 +77,11 @@ impl Digit {
         Digit {
             recent: [none; KEPT],
             kept: 0,
-            ones: none,
-            twos: none,
-            fours: none,
+            bits: Bits {
+                ones: none,
+                twos: none,
+                fours: none,
+            },
         }
     }
 
@@ -87,37 +122,10 @@ impl Digit {
         let last = *sets;
         let mut carry = [ChannelSet::empty(); VERDICTS];
         for verdict in 0..VERDICTS {
-            carry[verdict] = self.fold_one(verdict, last[verdict]);
+            carry[verdict] = self.bits.add(&self.recent, verdict, last[verdict]);
         }
         self.kept = 0;
         carry
-    }
-
-    // The eight sets of one verdict are added.
-    #[inline(always)]
-    fn fold_one(&mut self, verdict: usize, set: ChannelSet) -> ChannelSet
-        requires kept { self.old.kept ≡ 7 }
-        requires verdict { verdict < 10 }
-        ensures kept { self.new.kept ≡ 7 }
-        ensures recent { self.new.recent ≡ self.old.recent }
-        ensures here { (k : ℕ) → added_at self.new verdict k + 8 * one_if (has_bit result k) ≡ digit_at self.old verdict k + one_if (has_bit set k) }
-        ensures others { (j k : ℕ) → j ≢ verdict → added_at self.new j k ≡ added_at self.old j k }
-    {
-        let (ones, two_0) = full_adder(
-            self.ones[verdict],
-            self.recent[0][verdict],
-            self.recent[1][verdict],
-        );
-        let (ones, two_1) = full_adder(ones, self.recent[2][verdict], self.recent[3][verdict]);
-        let (ones, two_2) = full_adder(ones, self.recent[4][verdict], self.recent[5][verdict]);
-        let (ones, two_3) = full_adder(ones, self.recent[6][verdict], set);
-        let (twos, four_0) = full_adder(self.twos[verdict], two_0, two_1);
-        let (twos, four_1) = full_adder(twos, two_2, two_3);
-        let (fours, eight) = full_adder(self.fours[verdict], four_0, four_1);
-        self.ones[verdict] = ones;
-        self.twos[verdict] = twos;
-        self.fours[verdict] = fours;
-        eight
     }
 
     // The digit of a verdict and a channel, with what is to be added to it.
@@ -127,9 +135,9 @@ impl Digit {
         ensures value { result ≡ digit_at self.now verdict index }
         ensures small { result ≤ 14 }
     {
-        let mut count = u64::from(self.ones[verdict].contains(index))
-            + 2 * u64::from(self.twos[verdict].contains(index))
-            + 4 * u64::from(self.fours[verdict].contains(index));
+        let mut count = u64::from(self.bits.ones[verdict].contains(index))
+            + 2 * u64::from(self.bits.twos[verdict].contains(index))
+            + 4 * u64::from(self.bits.fours[verdict].contains(index));
         for cycle in 0..self.kept {
             count += u64::from(self.recent[cycle][verdict].contains(index));
         }

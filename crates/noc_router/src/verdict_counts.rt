@@ -61,7 +61,7 @@ impl VerdictCounts {
         }
     }
 
-    // The same, where counters may run over into what is written down.
+    // One more of each channel's verdict in this plan, where counters may run over into what is written down.
     #[inline(never)]
     fn carry(&mut self, plan: &Plan)
         requires verdicts { length plan.now.verdicts ≡ length self.old }

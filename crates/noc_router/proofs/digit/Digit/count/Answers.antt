@@ -10,7 +10,7 @@ overflow_add-count-in-loop-cycle c =
     let d = c.args.self.now in
     let j = c.args.verdict in
     let k = c.args.index in
-    let bits : added_at d j k ≤ 7 = omega (arith, one-small (has_bit (get_or d.ones j 0) k), one-small (has_bit (get_or d.twos j 0) k), one-small (has_bit (get_or d.fours j 0) k)) in
+    let bits : added_at d.bits j k ≤ 7 = omega (arith, one-small (has_bit (get_or d.bits.ones j 0) k), one-small (has_bit (get_or d.bits.twos j 0) k), one-small (has_bit (get_or d.bits.fours j 0) k)) in
     let kept : sum_by (λ sets. one_at sets j k) (take c.loop-cycle.cycle d.recent) ≤ c.loop-cycle.cycle =
     sum-below (λ sets. one_at sets j k) d.recent c.loop-cycle.cycle (omega (arith, c.loop-cycle-test.true, d.seven, d.few)) (λ sets. one-small (has_bit (get_or sets j 0) k)) in
     omega (arith, bits, kept, c.loop-cycle.invariant, c.loop-cycle-test.true, d.few, c.from-count.ensures, byte-small c.contains-in-loop-cycle.result)
@@ -20,7 +20,7 @@ returns-clause-small c =
     let d = c.args.self.now in
     let j = c.args.verdict in
     let k = c.args.index in
-    let bits : added_at d j k ≤ 7 = omega (arith, one-small (has_bit (get_or d.ones j 0) k), one-small (has_bit (get_or d.twos j 0) k), one-small (has_bit (get_or d.fours j 0) k)) in
+    let bits : added_at d.bits j k ≤ 7 = omega (arith, one-small (has_bit (get_or d.bits.ones j 0) k), one-small (has_bit (get_or d.bits.twos j 0) k), one-small (has_bit (get_or d.bits.fours j 0) k)) in
     let kept : sum_by (λ sets. one_at sets j k) (take c.loop-cycle.cycle d.recent) ≤ c.loop-cycle.cycle =
     sum-below (λ sets. one_at sets j k) d.recent c.loop-cycle.cycle (omega (arith, c.loop-cycle.auto.cycle-end, d.seven, d.few)) (λ sets. one-small (has_bit (get_or sets j 0) k)) in
     omega (arith, bits, kept, c.loop-cycle.invariant, c.loop-cycle.auto.cycle-end, d.few)

@@ -8,6 +8,6 @@ invariant-loop-verdict l = record {
   kept : l.self.kept ≡ 7;
   recent : l.self.recent ≡ l.fn.self.recent;
   ten : length l.carry ≡ 10;
-  done : (j k : ℕ) → j < l.verdict → added_at l.self j k + 8 * one_at l.carry j k ≡ digit_at l.fn.self j k + one_at l.sets j k;
-  ahead : (j k : ℕ) → l.verdict ≤ j → added_at l.self j k ≡ added_at l.fn.self j k;
+  done : (j k : ℕ) → j < l.verdict → added_at l.self.bits j k + 8 * one_at l.carry j k ≡ digit_at l.fn.self j k + one_at l.sets j k;
+  ahead : (j k : ℕ) → l.verdict ≤ j → added_at l.self.bits j k ≡ added_at l.fn.self.bits j k;
 }

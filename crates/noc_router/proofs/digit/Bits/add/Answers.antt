@@ -1,32 +1,33 @@
-use Rattle.std.proofs.Common.{ℕ, ◌<◌, [], get_or, take, refl, ap, ◌∙◌, arith, length}
+use Rattle.std.proofs.Common.{ℕ, ◌<◌, [], get_or, take, refl, arith, length}
 use Rattle.std.specs.List.{sum_by}
 use Rattle.noc_packet.specs.Set.{has_bit}
 use Rattle.noc_router.specs.Counts.{one_at, one_if}
 use Rattle.noc_router.proofs.DigitLemmas.{added-eight, one-read, one-written, same-three, sum-seven}
-use Rattle.noc_router.proofs.digit.Digit.fold_one.Goals as goal
+use Rattle.noc_router.proofs.digit.Bits.add.Goals as goal
 
 pub returns-clause-here : goal.returns-clause-here
 returns-clause-here c = λ k.
     let d = c.args.self.now in
+    let r = c.args.recent.now in
     let j = c.args.verdict in
     let here : j < 10 = c.requires.verdict in
     let one : ℕ → ℕ = λ set. one_if (has_bit set k) in
-    let row : ℕ → ℕ = λ n. one_at (get_or d.recent n []) j k in
-    let ten : (n : ℕ) → n < 7 → j < length (get_or d.recent n []) = λ n l. omega (arith, d.ten_each n l, here) in
+    let row : ℕ → ℕ = λ n. one_at (get_or r n []) j k in
+    let ten : (n : ℕ) → n < 7 → j < length (get_or r n []) = λ n l. omega (arith, c.requires.ten n l, here) in
     let x = one-read d.ones j c.index-self-verdict.result k (omega (arith, d.ten_ones, here)) c.index-self-verdict.is in
     let t = one-read d.twos j c.index-self-verdict-2.result k (omega (arith, d.ten_twos, here)) c.index-self-verdict-2.is in
     let f = one-read d.fours j c.index-self-verdict-3.result k (omega (arith, d.ten_fours, here)) c.index-self-verdict-3.is in
-    let r0 = one-read (get_or d.recent 0 []) j c.index-self-0.result k (ten 0 (omega arith)) c.index-self-0.is in
-    let r1 = one-read (get_or d.recent 1 []) j c.index-self-1.result k (ten 1 (omega arith)) c.index-self-1.is in
-    let r2 = one-read (get_or d.recent 2 []) j c.index-self-2.result k (ten 2 (omega arith)) c.index-self-2.is in
-    let r3 = one-read (get_or d.recent 3 []) j c.index-self-3.result k (ten 3 (omega arith)) c.index-self-3.is in
-    let r4 = one-read (get_or d.recent 4 []) j c.index-self-4.result k (ten 4 (omega arith)) c.index-self-4.is in
-    let r5 = one-read (get_or d.recent 5 []) j c.index-self-5.result k (ten 5 (omega arith)) c.index-self-5.is in
-    let r6 = one-read (get_or d.recent 6 []) j c.index-self-6.result k (ten 6 (omega arith)) c.index-self-6.is in
+    let r0 = one-read (get_or r 0 []) j c.index-recent-0.result k (ten 0 (omega arith)) c.index-recent-0.is in
+    let r1 = one-read (get_or r 1 []) j c.index-recent-1.result k (ten 1 (omega arith)) c.index-recent-1.is in
+    let r2 = one-read (get_or r 2 []) j c.index-recent-2.result k (ten 2 (omega arith)) c.index-recent-2.is in
+    let r3 = one-read (get_or r 3 []) j c.index-recent-3.result k (ten 3 (omega arith)) c.index-recent-3.is in
+    let r4 = one-read (get_or r 4 []) j c.index-recent-4.result k (ten 4 (omega arith)) c.index-recent-4.is in
+    let r5 = one-read (get_or r 5 []) j c.index-recent-5.result k (ten 5 (omega arith)) c.index-recent-5.is in
+    let r6 = one-read (get_or r 6 []) j c.index-recent-6.result k (ten 6 (omega arith)) c.index-recent-6.is in
     added-eight (one_at d.ones j k) (row 0) (row 1) (row 2) (row 3) (row 4) (row 5) (row 6) (one c.args.set) (one_at d.twos j k) (one_at d.fours j k)
     (one c.full_adder-ones.result.0) (one c.full_adder-ones.result.1) (one c.full_adder-ones-2.result.0) (one c.full_adder-ones-2.result.1) (one c.full_adder-ones-3.result.0) (one c.full_adder-ones-3.result.1)
     (one c.full_adder-ones-4.result.0) (one c.full_adder-ones-4.result.1) (one c.full_adder-twos.result.0) (one c.full_adder-twos.result.1) (one c.full_adder-twos-2.result.0) (one c.full_adder-twos-2.result.1)
-    (one c.full_adder-fours.result.0) (one c.full_adder-fours.result.1) _ _ _ (sum_by (λ sets. one_at sets j k) (take d.kept d.recent))
+    (one c.full_adder-fours.result.0) (one c.full_adder-fours.result.1) _ _ _ (sum_by (λ sets. one_at sets j k) (take 7 r))
     (same-three _ _ _ _ _ _ _ (c.full_adder-ones.ensures k) x r0 r1)
     (same-three _ _ _ _ _ _ _ (c.full_adder-ones-2.ensures k) refl r2 r3)
     (same-three _ _ _ _ _ _ _ (c.full_adder-ones-3.ensures k) refl r4 r5)
@@ -37,4 +38,4 @@ returns-clause-here c = λ k.
     (one-written d.ones j c.full_adder-ones-4.result.0 k (omega (arith, d.ten_ones, here)))
     (one-written d.twos j c.full_adder-twos-2.result.0 k (omega (arith, d.ten_twos, here)))
     (one-written d.fours j c.full_adder-fours.result.0 k (omega (arith, d.ten_fours, here)))
-    (ap (λ n. sum_by (λ sets. one_at sets j k) (take n d.recent)) c.requires.kept ∙ sum-seven (λ sets. one_at sets j k) d.recent d.seven)
+    (sum-seven (λ sets. one_at sets j k) r c.requires.seven)
