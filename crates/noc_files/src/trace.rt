@@ -423,7 +423,15 @@ fn put_cycles<W: Sink>(
     let mut written = before;
     for turn in 0..cycles {
         network.cycle();
-        written = put_cycle(network, &inputs, trace, first + turn, &mut page, sink, written)?;
+        written = put_cycle(
+            network,
+            &inputs,
+            trace,
+            first + turn,
+            &mut page,
+            sink,
+            written,
+        )?;
         sink.hand_on();
         trace.keep(network);
     }

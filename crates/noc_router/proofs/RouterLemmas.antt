@@ -88,8 +88,8 @@ IsRouter-landed r channels i flit is states link = record {
   index_vcs = is.index_vcs;
 }
 
--- a router of which as many channels are counted as before, and whose links lead where they led, is one still
-pub IsRouter-counted : (r : Inside) (cycle : ℕ) (tally : TallyContents) (links : Links) → IsRouter r → length tally.counts ≡ length r.tally.counts → links.leads ≡ r.links.leads
+-- a router of which as many channels are counted as before is one still
+pub IsRouter-counted : (r : Inside) (cycle : ℕ) (tally : TallyContents) (links : Links) → IsRouter r → length tally.counts ≡ length r.tally.counts
     → AreBelow (local_port r.shape) links.loaded → IsRouter (record r { cycle = cycle; tally = tally; links = links })
-IsRouter-counted r cycle tally links is counts leads loaded =
-    IsRouter-kept r (record r { cycle = cycle; tally = tally; links = links }) is refl refl refl refl refl refl refl refl (λ i h. h) leads loaded counts refl refl refl refl
+IsRouter-counted r cycle tally links is counts loaded =
+    IsRouter-kept r (record r { cycle = cycle; tally = tally; links = links }) is refl refl refl refl refl refl refl refl (λ i h. h) refl loaded counts refl refl refl refl

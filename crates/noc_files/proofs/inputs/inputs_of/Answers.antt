@@ -17,11 +17,11 @@ loop-place-preserved c =
     record {
       long = length-set xs place found ∙ c.loop-place.invariant.long;
       known = λ k l p.
-        elim (cases_eq k place) [
-          | inl same ↦ (
-              ap (slice_get (slice_set xs place found)) same ∙ slice_get-set_same xs place found inside ∙ ap Some (c.is_input_place.ensures (subst (λ m. m % 7 < ports shape) same p))
-              ∙ ap (λ m. Some (is_input shape (m / 7) (m % 7))) (sym same)
-              )
-          | inr other ↦ slice_get-set_other xs place k found other ∙ c.loop-place.invariant.known k (omega (arith, l, other)) p
-        ];
+          elim (cases_eq k place) [
+            | inl same ↦ (
+                ap (slice_get (slice_set xs place found)) same ∙ slice_get-set_same xs place found inside ∙ ap Some (c.is_input_place.ensures (subst (λ m. m % 7 < ports shape) same p))
+                ∙ ap (λ m. Some (is_input shape (m / 7) (m % 7))) (sym same)
+                )
+            | inr other ↦ slice_get-set_other xs place k found other ∙ c.loop-place.invariant.known k (omega (arith, l, other)) p
+          ];
     }

@@ -15,7 +15,7 @@ pub invariant_of-self : goal.invariant_of-self
 invariant_of-self c =
     let r = c.self.inside in
     IsRouter-counted r r.cycle c.count.new.self c.clear.new.self c.self.invariant (ap (λ (x : TallyContents). length x.counts) c.count.ensures ∙ length-map_indexed (λ i xs. counts_after (planned_verdict c.args.plan.now i) xs) r.tally.counts)
-    c.clear.ensures.leads (λ k e. absurd (false≢true (sym (c.clear.ensures.loaded k) ∙ e)))
+    (λ k e. absurd (false≢true (sym (c.clear.ensures.loaded k) ∙ e)))
 
 pub returns : goal.returns
 returns c =

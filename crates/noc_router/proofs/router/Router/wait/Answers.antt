@@ -44,7 +44,7 @@ invariant_of-self-else-holds_nothing-2 c =
     let r = c.self.inside in
     let cycles = c.args.end - c.args.first in
     IsRouter-counted r (c.args.end - 1) c.count_more.new.self r.links c.self.invariant
-    (ap (λ (x : TallyContents). length x.counts) c.count_more.ensures ∙ length-map_indexed (λ i xs. counted_times cycles (planned_verdict c.plan.new.plan i) xs) r.tally.counts) refl c.self.invariant.loaded
+    (ap (λ (x : TallyContents). length x.counts) c.count_more.ensures ∙ length-map_indexed (λ i xs. counted_times cycles (planned_verdict c.plan.new.plan i) xs) r.tally.counts) c.self.invariant.loaded
 
 pub returns-then-holds_nothing-clause-view : goal.returns-then-holds_nothing-clause-view
 unfolding view_after_waiting
