@@ -4,7 +4,8 @@
     workers.py PROGRAM [--workers W..] [--repeat N] [--only NAME..]
 
 For workloads of make_workloads.py on 64 and on 256 routers the program runs with 1, 2 and 4 workers, or those that are named, in
-turn: once for the workload's cycles and once for one cycle. What the first takes longer is the time of the cycle loop. Of each,
+turn: once for the workload's cycles and once for one cycle. The networks have eight channels here, so that they do not fit into
+rows: one thread runs those that do, whatever the number of workers. What the first takes longer is the time of the cycle loop. Of each,
 the least of N runs counts (5 by default). A table in Markdown goes to standard output: router-cycles per second of the first
 number of workers, and how many times as fast the others are. Reports that differ are an error.
 
@@ -14,12 +15,14 @@ import argparse
 import os
 import sys
 import tempfile
+from dataclasses import replace
 from pathlib import Path
 
 sys.dont_write_bytecode = True
 from make_workloads import workloads  # noqa: E402
 from measure import timed_run  # noqa: E402
 
+WIDE = 8
 WORKLOADS = ["a_long", "b_long", "d_transpose16", "h_torus16"]
 
 
@@ -67,6 +70,7 @@ def main():
         for load in workloads():
             if load.name not in options.only:
                 continue
+            load = replace(load, channels=WIDE)
             sides = [Workers(options.program, workers) for workers in options.workers]
             for side in sides:
                 side.start(load, Path(folder))
