@@ -160,7 +160,8 @@ class Build:
 
     def begin(self, crate, jobs):
         crate.enter()
-        words = [self.rt, "run" if crate.makes in PROGRAMS else "lib", "--jobs", str(jobs), *PROGRAMS.get(crate.makes, [])]
+        verb = "run" if crate.makes in PROGRAMS else "lib"
+        words = [sys.executable, TOP / "rt_once.py", self.rt, verb, "--jobs", str(jobs), *PROGRAMS.get(crate.makes, [])]
         with LOG.open("a") as log:
             run = subprocess.Popen(words, cwd=crate.room / "crates" / crate.name, stdin=subprocess.DEVNULL, stdout=log, stderr=log)
         self.running[crate] = run, time.time()
