@@ -27,13 +27,12 @@ pub(crate) fn run_to_end(network: &mut Network, cycles: u64, drain: bool)
     ensures end { RunsTo drain network.new.net cycles network.new.count }
 {
     network.run(cycles);
-    if drain {
-        run_on(network);
-    }
+    run_on_if(network, drain);
 }
 
 // Runs a network by two or more workers that has not run for so many cycles, and on where it is to drain. A network that
 // fits rows is run by the caller alone, and no thread is started: one thread runs rows faster than several run routers.
+// What is left to drain is run by the caller too: to start threads for each look whether every packet is out takes longer.
 pub(crate) fn run_to_end_by_workers<R: Threads + Wait + Sync>(
     rt: &R,
     alloc: Global,
@@ -53,11 +52,18 @@ pub(crate) fn run_to_end_by_workers<R: Threads + Wait + Sync>(
         run_to_end(&mut network, cycles, drain);
         return Ok(network);
     }
-    let network = run_stretches(rt, alloc, network, cycles, workers)?;
+    let mut network = run_stretches(rt, alloc, network, cycles, workers)?;
+    run_on_if(&mut network, drain);
+    Ok(network)
+}
+
+// Runs a network on where it is to drain.
+fn run_on_if(network: &mut Network, drain: bool)
+    ensures net { network.new.net ≡ network.old.net }
+    ensures end { RunsTo drain network.new.net network.old.count network.new.count }
+{
     if drain {
-        run_on_by_workers(rt, alloc, network, workers)
-    } else {
-        Ok(network)
+        run_on(network);
     }
 }
 
@@ -70,25 +76,6 @@ fn run_on(network: &mut Network)
     while let Some(cycles) = next_piece(network, limit) {
         network.run(cycles);
     }
-}
-
-// Runs a network on by two or more workers until every packet is out, or to its limit.
-fn run_on_by_workers<R: Threads + Wait + Sync>(
-    rt: &R,
-    alloc: Global,
-    mut network: Network,
-    workers: usize,
-) -> Result<Network, RunFault>
-    requires workers { (1 < workers) × (workers ≤ MAX_WORKERS) }
-    ensures net { IfOk result (λ n. n.net ≡ network.net) }
-    ensures end { IfOk result (λ n. DrainsAt n.net network.count n.count) }
-    ensures lost { IfErr result (λ e. e ≢ LostWorker) }
-{
-    let limit = network.limit();
-    while let Some(cycles) = next_piece(&network, limit) {
-        network = run_stretch(rt, alloc, network, cycles, workers)?;
-    }
-    Ok(network)
 }
 
 // Runs so many cycles of a network by two or more workers, stretch by stretch.
