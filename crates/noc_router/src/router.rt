@@ -14,10 +14,10 @@ ghost use Rattle.noc_router.specs.Decided.{IsDecidedFor};
 ghost use Rattle.noc_router.specs.Found.{empty_finding};
 ghost use Rattle.noc_router.specs.Injection.{next_vc, vacant_vc};
 ghost use Rattle.noc_router.specs.Links.{is_idle_beat};
-ghost use Rattle.noc_router.specs.Requests.{AllBelow, AreAmong};
+ghost use Rattle.noc_router.specs.Requests.{AllBelow};
 ghost use Rattle.noc_router.specs.Settled.{AreContentsFor, CanGrant, CanTakeEffect, decisions_by, effect_of, planned_verdict, passed_by, switch_past, view_after_tally, view_after_verdicts, view_after_route, view_after_grant, moved_by, credit_put, flit_put};
-ghost use Rattle.noc_router.specs.Sound.{is_awaiting, is_occupied};
-ghost use Rattle.noc_router.specs.Standing.{AreHeads, AreReady, AreRequestsOf, AreVerdictsOf, AreWaiting, HaveWon, IsPickedIn, IsStanding, IsSwitchFree, loser_of, way_of};
+ghost use Rattle.noc_router.specs.Sound.{CanRoute, CanSend, is_awaiting, is_occupied};
+ghost use Rattle.noc_router.specs.Standing.{AreHeads, AreReady, AreRequestsOf, AreVerdictsOf, AreWaiting, IsStanding, IsSwitchFree, IsSwitched, loser_of, way_of};
 ghost use Rattle.noc_route.specs.Routes.{Routes};
 ghost use Rattle.noc_packet.specs.Set.{has_bit};
 ghost use Rattle.noc_packet.specs.declared.limits.TheConstants.{INDICES};
@@ -292,13 +292,9 @@ impl Router {
         requests: &mut Requests,
     ) -> (ChannelSet, ChannelSet)
         requires ready { AreReady self.now ready }
-        requires size { AreRequestsOf self.now.site requests.old }
-        requires none { IsSwitchFree requests.old }
+        requires free { IsSwitchFree self.now.site requests.old }
         ensures lists { lists_in requests.new ≡ record (lists_in requests.old) { picks = (view_round self.now).picks; wins = (view_round self.now).wins } }
-        ensures within { AllBelow self.now.site.vcs requests.new.picks }
-        ensures among { AreAmong ready result.0 }
-        ensures picked { IsPickedIn self.now requests.new.picks result.0 }
-        ensures moved { HaveWon self.now (round_in requests.new) result.0 result.1 }
+        ensures switch { IsSwitched self.now ready requests.new result.0 result.1 }
     {
         let mut picked = ChannelSet::empty();
         let mut lost = ChannelSet::empty();
@@ -317,12 +313,11 @@ impl Router {
         (picked, picked.less(lost))
     }
 
-    // The pick of an input port, an active channel, goes to the output port of its output channel. Gives the pick that
+    // The pick of an input port goes to the output port of its output channel. Gives the pick that
     // loses that output port, if it is not the only one that goes there so far.
     fn offer_way(&self, port: usize, index: usize, requests: &mut Requests) -> Option<usize>
         requires port { port < ports_of self.now.site.grid }
         requires index { index < size_of self.now.site }
-        requires active { is_active (view_input self.now index).phase ≡ true }
         requires size { AreRequestsOf self.now.site requests.old }
         requires picks { AllBelow self.now.site.vcs requests.old.picks }
         ensures wins { (output : ℕ) → way_of self.now index ≡ Some output → lists_in requests.new ≡ record (lists_in requests.old) { wins = firsts_after_request self.now.arbiters.outputs output port requests.old.wins } }
@@ -348,9 +343,7 @@ impl Router {
         requires standing { IsStanding self.now standing.now }
         requires size { requests.now.size ≡ size_of self.now.site }
         requires asks { requests.now.asks ≡ asks_of (view_stands self.now) }
-        requires ready { AreAmong standing.now.ready picked }
-        requires picked { IsPickedIn self.now requests.now.picks picked }
-        requires moved { HaveWon self.now (round_in requests.now) picked moved }
+        requires switch { IsSwitched self.now standing.now.ready requests.now picked moved }
         ensures { AreVerdictsOf self.now (round_in requests.now) result }
     {
         let asking = requests.asking();
@@ -561,9 +554,7 @@ impl Router {
 
     // The head of an idle input channel gets its set of output channels.
     fn route_head(&mut self, index: usize, set: ChannelSet)
-        requires index { index < size_of self.old.site }
-        requires idle { (view_input self.old index).phase ≡ InputState.Idle }
-        requires head { 0 < length (view_buffer self.old index) }
+        requires { CanRoute (size_of self.old.site) self.old.buffers self.old.inputs index }
         ensures { self.new ≡ view_after_route index set self.old }
     {
         self.channels.route(index, set);
@@ -583,11 +574,7 @@ impl Router {
     // The first flit of an input channel leaves by its output channel, a credit goes back, and the pointers of the switch go on
     // past that input channel.
     fn move_flit(&mut self, index: usize, next: usize)
-        requires index { index < size_of self.old.site }
-        requires next { next < size_of self.old.site }
-        requires active { (view_input self.old index).phase ≡ InputState.Active next }
-        requires credit { has_credit (view_output self.old next) ≡ true }
-        requires some { 0 < length (view_buffer self.old index) }
+        requires { CanSend (size_of self.old.site) self.old.buffers self.old.inputs self.old.outputs index next }
         ensures { self.new ≡ switch_past index next (moved_by index next (first_flit self.old index) self.old) }
     {
         let flit = self.channels.send(index, next);

@@ -8,7 +8,7 @@ use Rattle.noc_router.specs.Settled.{decisions_by, planned_verdict, view_after_t
 use Rattle.noc_router.specs.Tally.{TallyContents}
 use Rattle.noc_router.specs.View.{counts_after, idle_beat, size_of}
 use Rattle.noc_router.proofs.OutcomeLemmas.{counted-outcome, outcome-decided}
-use Rattle.noc_router.proofs.SettleLemmas.{size_view}
+use Rattle.noc_router.proofs.WholeLemmas.{size_view}
 use Rattle.noc_router.proofs.RouterLemmas.{IsRouter-counted}
 use Rattle.noc_router.proofs.router.Router.count.Goals as goal
 

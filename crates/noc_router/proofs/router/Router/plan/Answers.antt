@@ -10,7 +10,7 @@ use Rattle.noc_router.specs.View.{route_of, size_of, view_stands}
 use Rattle.noc_router.specs.declared.verdict.Verdict.TheVariants.{Empty}
 use Rattle.noc_router.proofs.PlannedLemmas.{grants-view, outcome-parts, round-made}
 use Rattle.noc_router.proofs.StandLemmas.{standing-view}
-use Rattle.noc_router.proofs.SettleLemmas.{size_view}
+use Rattle.noc_router.proofs.WholeLemmas.{size_view}
 use Rattle.noc_router.proofs.router.Router.plan.Goals as goal
 
 pub route_heads-requires-clause-heads : goal.route_heads-requires-clause-heads

@@ -8,7 +8,7 @@ use Rattle.noc_router.specs.Tally.{TallyContents}
 use Rattle.noc_router.specs.View.{View, plan_contents, size_of, view_round}
 use Rattle.noc_router.proofs.OutcomeLemmas.{outcome-decided, outcome-occupied}
 use Rattle.noc_router.proofs.RouterLemmas.{IsRouter-counted}
-use Rattle.noc_router.proofs.SettleLemmas.{size_view}
+use Rattle.noc_router.proofs.WholeLemmas.{size_view}
 use Rattle.noc_router.proofs.StillLemmas.{counted-planned}
 use Rattle.noc_router.proofs.VacantLemmas.{vacant-counted}
 use Rattle.noc_router.proofs.router.Router.wait.Goals as goal
