@@ -2,11 +2,13 @@ pub mod ArrivalLemmas
 pub mod ChannelLemmas
 pub mod CountLemmas
 pub mod DigitLemmas
+pub mod EffectLemmas
 pub mod FilledLemmas
 pub mod FindLemmas
 pub mod InjectLemmas
 pub mod LinkLemmas
 pub mod Members
+pub mod MoveLemmas
 pub mod OfferLemmas
 pub mod OpeningLemmas
 pub mod OutcomeLemmas
@@ -32,3 +34,4 @@ pub mod VerdictRows
 pub mod VerdictSetLemmas
 pub mod WaitLemmas
 pub mod WayLemmas
+pub mod WholeLemmas

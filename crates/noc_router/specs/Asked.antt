@@ -1,10 +1,19 @@
 -- The requests of one router's input channels, and what is decided on them.
-use Rattle.std.specs.Prelude.{◌≡◌, ℕ, ◌*◌, List, Option, None, replicate}
+use Rattle.std.specs.Prelude.{◌≡◌, ℕ, ◌*◌, ◌<◌, ◌≤◌, List, Option, None, replicate}
+use Rattle.noc_packet.specs.declared.limits.TheConstants.{MAX_CHANNELS, MAX_PORTS}
 use Rattle.noc_topo.specs.Words.{tabulate}
 use Rattle.noc_alloc.specs.Allocation.{grant_of}
+use Rattle.noc_router.specs.Places.{sets_of}
 use Rattle.noc_router.specs.Verdict.{ArbiterStates, Round, arbiters_after, pointers_of}
 use Rattle.noc_router.specs.declared.arbiters.Arbiters.{Arbiters}
 use Rattle.noc_router.specs.declared.requests.Requests.{Requests}
+
+-- a router has 1 to 7 ports, each with 1 to 8 virtual channels
+pub record IsSizedRouter (ports vcs : ℕ) : Type 0 where
+  pub some_port : 0 < ports
+  pub few_ports : ports ≤ MAX_PORTS
+  pub some_vc : 0 < vcs
+  pub few_vcs : vcs ≤ MAX_CHANNELS
 
 -- the arbiters, as one record
 abbrev pub arbiter_states_in : Arbiters → ArbiterStates
@@ -37,8 +46,12 @@ pub record RequestLists : Type 0 where
   pub picks : List (Option ℕ)
   pub wins : List (Option ℕ)
 
+-- by input channel, the set for its head
+abbrev pub routes_in : Requests → List ℕ
+routes_in r = sets_of r.size r.routed r.routes
+
 abbrev pub lists_in : Requests → RequestLists
-lists_in r = record { ports = r.ports; size = r.size; routes = r.routes.items; asks = r.asks; grants = r.grants; picks = r.picks; wins = r.wins }
+lists_in r = record { ports = r.ports; size = r.size; routes = routes_in r; asks = r.asks; grants = r.grants; picks = r.picks; wins = r.wins }
 
 -- nobody asks for anything
 abbrev pub no_requests : ℕ → ℕ → RequestLists

@@ -1,5 +1,5 @@
 -- What is true of the channels of one router: what its sets of channels have, and which input channel owns which output channel.
-use Rattle.std.specs.Prelude.{◌≡◌, ℕ, ◌<◌, ◌/◌, ◌%◌, Bool, true, false, ◌&&◌, not, List, [], ◌∷◌, find, Option, Some, None, is_some, option_map, nat_eq, slice_index_or, if◌then◌else◌}
+use Rattle.std.specs.Prelude.{◌≡◌, ℕ, ◌<◌, ◌/◌, ◌%◌, ◌⊎◌, Bool, true, false, ◌&&◌, not, length, List, [], ◌∷◌, find, Option, Some, None, is_some, option_map, nat_eq, slice_index_or, if◌then◌else◌}
 use Rattle.noc_topo.specs.Words.{below}
 use Rattle.noc_packet.specs.Set.{has_bit}
 use Rattle.noc_packet.specs.declared.packet.Flit.{Flit}
@@ -79,6 +79,35 @@ out_in (Active output) ask = Some output
 abbrev pub finding_with : ℕ → Input → Verdict → Option ℕ → Finding
 finding_with vcs input verdict ask = record { verdict = verdict; packet = input.packet; out = option_map (λ o. (o / vcs, o % vcs)) (out_in input.phase ask) }
 
+-- ---- what input channel i can do, in a router with so many channels
+-- it is idle and holds a head, which can be routed
+pub record CanRoute (size : ℕ) (buffers : List (List Flit)) (inputs : List Input) (i : ℕ) : Type 0 where
+  pub exists : i < size
+  pub idle : (nth_input inputs i).phase ≡ Idle
+  pub head : 0 < length (slice_index_or buffers i [])
+
+-- it waits, and output channel o is idle, so that it can be granted
+pub record CanHold (size : ℕ) (inputs : List Input) (outputs : List Output) (i o : ℕ) : Type 0 where
+  pub input : i < size
+  pub output : o < size
+  pub waits : is_waiting (nth_input inputs i).phase ≡ true
+  pub free : is_free (nth_output outputs o).holder ≡ true
+
+-- its packet owns output channel o, which has a credit, and its next flit is there
+pub record CanSend (size : ℕ) (buffers : List (List Flit)) (inputs : List Input) (outputs : List Output) (i o : ℕ) : Type 0 where
+  pub input : i < size
+  pub output : o < size
+  pub owned : (nth_input inputs i).phase ≡ Active o
+  pub some : 0 < length (slice_index_or buffers i [])
+  pub credit : has_credit (nth_output outputs o) ≡ true
+
+-- the source can put its next flit into it: its buffer has room, and it is empty or awaits that flit
+pub record CanInject (size places : ℕ) (buffers : List (List Flit)) (inputs : List Input) (i : ℕ) : Type 0 where
+  pub exists : i < size
+  pub room : length (slice_index_or buffers i []) < places
+  pub next : is_empty (slice_index_or buffers i []) ≡ true ⊎ is_awaiting inputs i ≡ true
+
+-- ---- all channels
 -- the sets that a router keeps of its channels
 pub record Sets : Type 0 where
   pub filled : ℕ  -- the input channels whose buffer holds a flit

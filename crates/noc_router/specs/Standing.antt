@@ -1,5 +1,5 @@
 -- What the input channels of a router can go on with, by sets.
-use Rattle.std.specs.Prelude.{◌≡◌, ℕ, ◌<◌, ◌≤◌, ◌/◌, ◌%◌, Bool, true, ◌&&◌, List, Option, Some, None, not, option_and_then, slice_index_or}
+use Rattle.std.specs.Prelude.{◌≡◌, ℕ, ◌<◌, ◌≤◌, ◌/◌, ◌%◌, Bool, true, ◌&&◌, List, Option, Some, None, not, option_and_then, replicate, slice_index_or}
 use Rattle.noc_topo.specs.Shape.{ports}
 use Rattle.noc_topo.specs.Words.{is_some_of}
 use Rattle.noc_packet.specs.Set.{has_bit}
@@ -9,8 +9,9 @@ use Rattle.noc_router.specs.Offers.{farther}
 use Rattle.noc_vc.specs.Input.{is_active, is_empty, is_idle_phase, is_waiting}
 use Rattle.noc_vc.specs.declared.input.InputState.{InputState}
 use Rattle.noc_vc.specs.declared.input.InputState.TheVariants.{Idle, Waiting, Active}
+use Rattle.noc_router.specs.Asked.{round_in}
 use Rattle.noc_router.specs.Members.{AreBelow}
-use Rattle.noc_router.specs.Requests.{pick_in}
+use Rattle.noc_router.specs.Requests.{AllBelow, AreAmong, pick_in}
 use Rattle.noc_router.specs.Sound.{AreStanding, is_supplied}
 use Rattle.noc_router.specs.Verdict.{Round, is_event}
 use Rattle.noc_router.specs.VerdictSets.{sets_with, verdict_by}
@@ -43,6 +44,12 @@ pub record AreRequestsOf (site : Site) (r : Requests) : Type 0 where
   pub ports : r.ports ≡ ports site.grid
   pub size : r.size ≡ size_of site
 
+-- the requests are of this router, no input port has picked a channel, and no output port is won
+pub record IsSwitchFree (site : Site) (r : Requests) : Type 0 where
+  pub of_router : AreRequestsOf site r
+  pub picks : r.picks ≡ replicate r.ports None
+  pub wins : r.wins ≡ replicate r.ports None
+
 -- the sets of all channels of a view
 abbrev pub IsStanding : View → Standing → Type 0
 IsStanding v s = AreStanding (size_of v.site) v.buffers v.inputs v.outputs s
@@ -64,6 +71,13 @@ is_won_from v round i phase = is_won_by round.wins (i / v.site.vcs) (way_in v.si
 -- the set has just those of the picked channels whose input port won
 abbrev pub HaveWon : View → Round → ℕ → ℕ → Type 0
 HaveWon v round picked set = (k : ℕ) → has_bit set k ≡ (has_bit picked k && is_won_from v round k (view_input v k).phase)
+
+-- the set of channels that their input ports picked, of those that are ready, and the set of those of them that move
+pub record IsSwitched (v : View) (ready : ℕ) (r : Requests) (picked moved : ℕ) : Type 0 where
+  pub within : AllBelow v.site.vcs r.picks
+  pub among : AreAmong ready picked
+  pub picked_is : IsPickedIn v r.picks picked
+  pub moved_is : HaveWon v (round_in r) picked moved
 
 -- of the input port that has won an output port so far and a later one, the pick of the one that loses it
 abbrev pub loser_of : View → Round → ℕ → ℕ → Option ℕ

@@ -5,8 +5,7 @@
 //! chooses between two sets, the requests at or after its pointer and all requests, and then looks for the
 //! least member, so it looks once.
 
-ghost use Rattle.std.specs.Prelude.{◌≡◌, ◌*◌, ◌<◌, ◌≤◌, All, IfOk, vec_len};
-ghost use Rattle.noc_packet.specs.declared.limits.TheConstants.{MAX_CHANNELS, MAX_PORTS};
+ghost use Rattle.std.specs.Prelude.{◌≡◌, ◌*◌, ◌<◌, All, IfOk, vec_len};
 ghost use Rattle.noc_router.specs.Verdict.{opening_arbiters};
 
 use noc_alloc::Arbiter;
@@ -31,14 +30,11 @@ pub(crate) struct Arbiters {
 }
 
 impl Arbiters {
-    ghost use Rattle.noc_router.specs.Asked.{arbiter_states_in, turns_in};
+    ghost use Rattle.noc_router.specs.Asked.{IsSizedRouter, arbiter_states_in, turns_in};
     ghost use Rattle.noc_router.specs.Settled.{states_past};
 
     pub(crate) fn new(alloc: Global, ports: usize, vcs: usize) -> Result<Arbiters, Memory>
-        requires some_port { 0 < ports }
-        requires ports { ports ≤ MAX_PORTS }
-        requires some_vc { 0 < vcs }
-        requires vcs { vcs ≤ MAX_CHANNELS }
+        requires { IsSizedRouter ports vcs }
         ensures { IfOk result (λ arbiters. turns_in arbiters ≡ record { ports = ports; vcs = vcs; states = opening_arbiters ports vcs }) }
     {
         let size = ports * vcs;

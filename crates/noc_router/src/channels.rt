@@ -15,7 +15,7 @@ ghost use Rattle.noc_ring.specs.Buffers.{empty_buffers, buffer_at, buffers_after
 ghost use Rattle.noc_vc.specs.Input.{idle_input, is_idle_phase, is_waiting, is_empty, fits, input_after_route, input_after_grant, input_after_send};
 ghost use Rattle.noc_vc.specs.Output.{ejection_output, link_output, is_free, is_owned, has_credit, credit_fits, output_after_credit, output_after_hold, output_after_spend};
 ghost use Rattle.noc_router.specs.Members.{AreBelow, is_within};
-ghost use Rattle.noc_router.specs.Sound.{nth_input, nth_output, is_occupied, is_awaiting, KeepsAwaiting, AreSound, AreStanding, asked_in, finding_with};
+ghost use Rattle.noc_router.specs.Sound.{nth_input, nth_output, is_occupied, CanHold, CanInject, CanRoute, CanSend, KeepsAwaiting, AreSound, AreStanding, asked_in, finding_with};
 
 use crate::indices::Indices;
 use crate::plan::Plan;
@@ -166,9 +166,7 @@ impl Channels {
     // The source puts its next flit into the buffer of a local channel that has room: the head into an empty one, and
     // then the flits that the channel awaits.
     pub(crate) fn inject(&mut self, index: usize, flit: Flit)
-        requires exists { index < self.old.size }
-        requires room { length (buffer_at self.old.bank index) < self.old.bank.capacity }
-        requires next { is_empty (buffer_at self.old.bank index) ≡ true ⊎ is_awaiting self.old.inputs.items index ≡ true }
+        requires { CanInject self.old.size self.old.bank.capacity self.old.bank.rings self.old.inputs.items index }
         ensures { states_in self.new ≡ states_after_land index flit (states_in self.old) }
     {
         self.inputs[index].inject(&mut self.bank, index, flit);
@@ -266,9 +264,7 @@ impl Channels {
 
     // The head in the buffer of an idle input channel gets its set of output channels.
     pub(crate) fn route(&mut self, index: usize, set: ChannelSet)
-        requires exists { index < self.old.size }
-        requires idle { (nth_input self.old.inputs.items index).phase ≡ InputState.Idle }
-        requires head { 0 < length (buffer_at self.old.bank index) }
+        requires { CanRoute self.old.size self.old.bank.rings self.old.inputs.items index }
         ensures states { states_in self.new ≡ states_after_route index set (states_in self.old) }
         ensures awaits { KeepsAwaiting self.old.inputs.items self.new.inputs.items }
     {
@@ -278,10 +274,7 @@ impl Channels {
 
     // A waiting input channel gets an idle output channel.
     pub(crate) fn grant(&mut self, index: usize, next: usize)
-        requires input { index < self.old.size }
-        requires output { next < self.old.size }
-        requires waits { is_waiting (nth_input self.old.inputs.items index).phase ≡ true }
-        requires free { is_free (nth_output self.old.outputs.items next).holder ≡ true }
+        requires { CanHold self.old.size self.old.inputs.items self.old.outputs.items index next }
         ensures states { states_in self.new ≡ states_after_grant index next (states_in self.old) }
         ensures awaits { KeepsAwaiting self.old.inputs.items self.new.inputs.items }
     {
@@ -297,11 +290,7 @@ impl Channels {
 
     // The first flit of an input channel leaves by the output channel that its packet owns, which has a credit.
     pub(crate) fn send(&mut self, index: usize, next: usize) -> Flit
-        requires input { index < self.old.size }
-        requires output { next < self.old.size }
-        requires owned { (nth_input self.old.inputs.items index).phase ≡ InputState.Active next }
-        requires some { 0 < length (buffer_at self.old.bank index) }
-        requires credit { has_credit (nth_output self.old.outputs.items next) ≡ true }
+        requires { CanSend self.old.size self.old.bank.rings self.old.inputs.items self.old.outputs.items index next }
         ensures value { slice_get (buffer_at self.old.bank index) 0 ≡ Some result }
         ensures states { states_in self.new ≡ states_after_send index next result (states_in self.old) }
         ensures awaits { KeepsAwaiting self.old.inputs.items self.new.inputs.items }

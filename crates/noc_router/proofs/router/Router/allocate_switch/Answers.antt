@@ -1,4 +1,4 @@
-use Rattle.std.proofs.Common.{◌≡◌, ◌+◌, ◌<◌, Some, None, length, set, ap, sym, ◌∙◌, arith, subst, replicate}
+use Rattle.std.proofs.Common.{◌≡◌, ◌+◌, ◌<◌, Some, None, length, set, ap, sym, ◌∙◌, arith, refl, subst, replicate}
 use Rattle.std.specs.Prelude.{◌||◌}
 use Rattle.noc_topo.specs.Shape.{ports as ports_of}
 use Rattle.noc_packet.specs.Set.{has_bit}
@@ -12,11 +12,11 @@ use Rattle.noc_router.proofs.router.Router.allocate_switch.Goals as goal
 
 pub loop-first-init : goal.loop-first-init
 loop-first-init c = record {
-  lists = ap (λ (x : RequestLists). record x { picks = c.clear_switch.new.self.picks; wins = c.clear_switch.new.self.wins }) c.clear_switch.ensures;
+  lists = refl;
   allocated =
-      allocated-first c.args.self.now c.args.ready c.clear_switch.new.self.picks c.clear_switch.new.self.wins c.empty-picked.result c.empty-lost.result
-      (ap (λ (x : RequestLists). x.picks) c.clear_switch.ensures ∙ ap (λ n. replicate n None) c.requires.size.ports)
-      (ap (λ (x : RequestLists). x.wins) c.clear_switch.ensures ∙ ap (λ n. replicate n None) c.requires.size.ports) c.empty-picked.ensures.members c.empty-lost.ensures.members;
+      allocated-first c.args.self.now c.args.ready c.args.requests.now.picks c.args.requests.now.wins c.empty-picked.result c.empty-lost.result
+      (c.requires.free.picks ∙ ap (λ n. replicate n None) c.requires.free.of_router.ports)
+      (c.requires.free.wins ∙ ap (λ n. replicate n None) c.requires.free.of_router.ports) c.empty-picked.ensures.members c.empty-lost.ensures.members;
 }
 
 pub from-rest-requires : goal.from-rest-requires
@@ -28,7 +28,7 @@ pub pick-requires-clause-port : goal.pick-requires-clause-port
 pick-requires-clause-port c =
     let l = c.loop-first in
     let at = at-port c.self.inside c.args.self.now c.args.ready l.rest c.in-Some.first c.place-port.result l.requests.picks l.requests.wins l.picked l.lost c.self.view_is c.self.invariant c.place-port.ensures c.requires.ready c.in-Some.ensures.least l.invariant.allocated in
-    omega (arith, at.inside, ap (λ (x : RequestLists). x.ports) l.invariant.lists, c.requires.size.ports)
+    omega (arith, at.inside, ap (λ (x : RequestLists). x.ports) l.invariant.lists, c.requires.free.of_router.ports)
 
 pub with-picked-requires : goal.with-picked-requires
 with-picked-requires c =
@@ -43,17 +43,13 @@ pub offer_way-requires-clause-index : goal.offer_way-requires-clause-index
 offer_way-requires-clause-index c =
     (at-pick c.self.inside c.args.self.now c.args.ready c.place-port.result.0 c.pick.result c.in-Some-pick.vc c.self.view_is c.self.invariant c.requires.ready c.pick.ensures.pick c.in-Some-pick.is).inside
 
-pub offer_way-requires-clause-active : goal.offer_way-requires-clause-active
-offer_way-requires-clause-active c =
-    (at-pick c.self.inside c.args.self.now c.args.ready c.place-port.result.0 c.pick.result c.in-Some-pick.vc c.self.view_is c.self.invariant c.requires.ready c.pick.ensures.pick c.in-Some-pick.is).active
-
 pub offer_way-requires-clause-picks : goal.offer_way-requires-clause-picks
 offer_way-requires-clause-picks c =
     let v = c.args.self.now in
     let r = c.self.inside in
     let q = c.place-port.result.0 in
     let l = c.loop-first in
-    let long : length l.requests.picks ≡ ports_of v.site.grid = l.requests.a_pick_each ∙ ap (λ (x : RequestLists). x.ports) l.invariant.lists ∙ c.requires.size.ports in
+    let long : length l.requests.picks ≡ ports_of v.site.grid = l.requests.a_pick_each ∙ ap (λ (x : RequestLists). x.ports) l.invariant.lists ∙ c.requires.free.of_router.ports in
     let at = at-port r v c.args.ready l.rest c.in-Some.first c.place-port.result l.requests.picks l.requests.wins l.picked l.lost c.self.view_is c.self.invariant c.place-port.ensures c.requires.ready c.in-Some.ensures.least l.invariant.allocated in
     let vcs : r.arbiters.vcs ≡ v.site.vcs = c.self.invariant.arbiter_vcs ∙ ap (λ (w : View). w.site.vcs) c.self.view_is in
     let few : c.in-Some-pick.vc < r.arbiters.vcs = c.in-Some-pick.ensures.within in
@@ -84,7 +80,7 @@ loop-first-preserved c =
     let r = c.self.inside in
     let q = c.place-port.result.0 in
     let l = c.loop-first in
-    let long : length l.requests.picks ≡ ports_of v.site.grid = l.requests.a_pick_each ∙ ap (λ (x : RequestLists). x.ports) l.invariant.lists ∙ c.requires.size.ports in
+    let long : length l.requests.picks ≡ ports_of v.site.grid = l.requests.a_pick_each ∙ ap (λ (x : RequestLists). x.ports) l.invariant.lists ∙ c.requires.free.of_router.ports in
     let at = at-port r v c.args.ready l.rest c.in-Some.first c.place-port.result l.requests.picks l.requests.wins l.picked l.lost c.self.view_is c.self.invariant c.place-port.ensures c.requires.ready c.in-Some.ensures.least l.invariant.allocated in
     let pick = pick-view r v c.args.ready q c.pick.result c.self.view_is c.self.invariant c.requires.ready c.pick.ensures.pick in
     let kept = λ (x : RequestLists). record x { picks = c.pick.new.self.picks; wins = c.pick.new.self.wins } in
@@ -105,7 +101,7 @@ loop-first-preserved-in-Some-offer_way c =
     let q = c.place-port.result.0 in
     let vc = c.in-Some-pick.vc in
     let l = c.loop-first in
-    let ports : l.requests.ports ≡ ports_of v.site.grid = ap (λ (x : RequestLists). x.ports) l.invariant.lists ∙ c.requires.size.ports in
+    let ports : l.requests.ports ≡ ports_of v.site.grid = ap (λ (x : RequestLists). x.ports) l.invariant.lists ∙ c.requires.free.of_router.ports in
     let here = at-port r v c.args.ready l.rest c.in-Some.first c.place-port.result l.requests.picks l.requests.wins l.picked l.lost c.self.view_is c.self.invariant c.place-port.ensures c.requires.ready c.in-Some.ensures.least l.invariant.allocated in
     let at = at-pick r v c.args.ready q c.pick.result vc c.self.view_is c.self.invariant c.requires.ready c.pick.ensures.pick c.in-Some-pick.is in
     let kept = λ (x : RequestLists). record x { picks = c.offer_way.new.requests.picks; wins = c.offer_way.new.requests.wins } in
@@ -126,7 +122,7 @@ loop-first-preserved-in_default-offer_way c =
     let q = c.place-port.result.0 in
     let vc = c.in-Some-pick.vc in
     let l = c.loop-first in
-    let ports : l.requests.ports ≡ ports_of v.site.grid = ap (λ (x : RequestLists). x.ports) l.invariant.lists ∙ c.requires.size.ports in
+    let ports : l.requests.ports ≡ ports_of v.site.grid = ap (λ (x : RequestLists). x.ports) l.invariant.lists ∙ c.requires.free.of_router.ports in
     let here = at-port r v c.args.ready l.rest c.in-Some.first c.place-port.result l.requests.picks l.requests.wins l.picked l.lost c.self.view_is c.self.invariant c.place-port.ensures c.requires.ready c.in-Some.ensures.least l.invariant.allocated in
     let at = at-pick r v c.args.ready q c.pick.result vc c.self.view_is c.self.invariant c.requires.ready c.pick.ensures.pick c.in-Some-pick.is in
     let kept = λ (x : RequestLists). record x { picks = c.offer_way.new.requests.picks; wins = c.offer_way.new.requests.wins } in
@@ -145,15 +141,17 @@ returns c =
     let v = c.args.self.now in
     let l = c.loop-first in
     let sized = sized-view c.self.inside v c.self.view_is c.self.invariant in
-    let ports : l.requests.ports ≡ ports_of v.site.grid = ap (λ (x : RequestLists). x.ports) l.invariant.lists ∙ c.requires.size.ports in
+    let ports : l.requests.ports ≡ ports_of v.site.grid = ap (λ (x : RequestLists). x.ports) l.invariant.lists ∙ c.requires.free.of_router.ports in
     let all = allocated-last v c.args.ready l.rest l.requests.picks l.requests.wins l.picked l.lost c.requires.ready c.in_default.ensures.least l.invariant.allocated in
     record {
       lists =
           l.invariant.lists
           ∙ ap (λ xs. record (lists_in c.args.requests.now) { picks = xs; wins = l.requests.wins }) (allocated-picks v l.requests.picks l.requests.wins l.picked l.lost (l.requests.a_pick_each ∙ ports) all)
           ∙ ap (λ xs. record (lists_in c.args.requests.now) { picks = (view_round v).picks; wins = xs }) (allocated-wins v l.requests.picks l.requests.wins l.picked l.lost (l.requests.a_win_each ∙ ports) sized.each all);
-      within = picks-below v c.args.ready (ports_of v.site.grid) l.requests.picks l.requests.wins l.picked l.lost c.requires.ready (l.requests.a_pick_each ∙ ports) all;
-      among = picked-among v c.args.ready l.requests.picks l.requests.wins l.picked l.lost c.requires.ready sized.some all;
-      picked = all.picked_are;
-      moved = λ k. kept-won (has_bit l.lost k) (has_bit l.picked k) _ (has_bit c.less.result k) (all.lost_are k) (c.less.ensures k);
+      switch = record {
+        within = picks-below v c.args.ready (ports_of v.site.grid) l.requests.picks l.requests.wins l.picked l.lost c.requires.ready (l.requests.a_pick_each ∙ ports) all;
+        among = picked-among v c.args.ready l.requests.picks l.requests.wins l.picked l.lost c.requires.ready sized.some all;
+        picked_is = all.picked_are;
+        moved_is = λ k. kept-won (has_bit l.lost k) (has_bit l.picked k) _ (has_bit c.less.result k) (all.lost_are k) (c.less.ensures k);
+      };
     }

@@ -19,9 +19,9 @@ returns c =
     let ask : (k : ℕ) → k < size_of v.site → get_or r.asks k None ≡ ask_of (view_claim v k) = λ k l. ask_of-stand v r.asks k c.requires.asks l in
     let are : (k : ℕ) → k < size_of v.site → AreVerdicts v round s c.asking-asking.result c.args.picked _ k = λ k l. record {
       asks = c.asking-asking.ensures k ∙ ap is_some (ask k l);
-      draws = c.requires.picked k l;
-      picks = among-both s.ready c.args.picked k c.requires.ready;
-      moved = c.requires.moved k;
+      draws = c.requires.switch.picked_is k l;
+      picks = among-both s.ready c.args.picked k c.requires.switch.among;
+      moved = c.requires.switch.moved_is k;
       granted = c.granted-granted.ensures k ∙ ap (λ o. is_given round.grants o k) (ask k l);
       routed = refl;
       no_flit = refl;
@@ -32,7 +32,7 @@ returns c =
       lost_switch = c.less-4.ensures k;
     } in
     let moved : (k : ℕ) → has_bit c.args.moved k ≡ true → k < size_of v.site =
-    λ k is. c.requires.standing.ready_below k (c.requires.ready k (member-passes c.args.picked c.args.moved k (is_won_from v round k (view_input v k).phase) (c.requires.moved k) is)) in
+    λ k is. c.requires.standing.ready_below k (c.requires.switch.among k (member-passes c.args.picked c.args.moved k (is_won_from v round k (view_input v k).phase) (c.requires.switch.moved_is k) is)) in
     let granted : (k : ℕ) → has_bit c.granted-granted.result k ≡ true → k < size_of v.site =
     λ k is. let l : k < length r.asks = given-below round.grants r.asks k (sym (c.granted-granted.ensures k) ∙ is) in omega (arith, r.an_ask_each, c.requires.size) in
     record {

@@ -1,0 +1,33 @@
+-- The channels of a router are whole.
+use Rattle.std.proofs.Common.{◌≡◌, ℕ, ◌*◌, ◌<◌, true, ap, sym, ◌∙◌, subst}
+use Rattle.std.proofs.lemmas.Bool.{ltb-true}
+use Rattle.noc_vc.specs.declared.input.InputState.{InputState}
+use Rattle.noc_vc.specs.declared.input.InputState.TheVariants.{Active}
+use Rattle.noc_router.specs.declared.router.Router.TheInside.{Inside}
+use Rattle.noc_router.specs.Inside.{IsRouter, view_of}
+use Rattle.noc_router.specs.Members.{is_within}
+use Rattle.noc_router.specs.View.{View, size_of, view_input}
+use Rattle.noc_router.proofs.SettleLemmas.{IsWhole}
+
+-- ---- a router is whole
+within_bound : (n : ℕ) (p : InputState) (o : ℕ) → is_within n p ≡ true → p ≡ Active o → o < n
+within_bound n p o e is = ltb-true o n (sym (ap (is_within n) is) ∙ e)
+
+pub whole_of : (r : Inside) → IsRouter r → IsWhole (view_of r)
+whole_of r h =
+    let c = r.channels in
+    let n : c.size ≡ size_of (view_of r).site = h.channels ∙ ap (λ p. p * r.vcs) h.ports in
+    record {
+      some_vc = h.some_vc;
+      buffers = c.a_ring_each ∙ n;
+      inputs = sym c.inputs.ok.0 ∙ c.an_input_each ∙ n;
+      outputs = sym c.outputs.ok.0 ∙ c.an_output_each ∙ n;
+      within = λ i o l p. subst (λ k. o < k) n (within_bound c.size (view_input (view_of r) i).phase o (c.sound.owned_below i (subst (λ k. i < k) (sym n) l)) p);
+      owners = λ i o li lo. c.sound.owners i o (subst (λ k. i < k) (sym n) li) (subst (λ k. o < k) (sym n) lo);
+    }
+
+pub whole_view : (r : Inside) (v : View) → view_of r ≡ v → IsRouter r → IsWhole v
+whole_view r v e h = let P : View → Type 0 = λ x. IsWhole x in subst P e (whole_of r h)
+
+pub size_view : (r : Inside) (v : View) → view_of r ≡ v → IsRouter r → size_of v.site ≡ r.ports * r.vcs
+size_view r v e h = sym (ap (λ (x : View). size_of x.site) e) ∙ ap (λ p. p * r.vcs) (sym h.ports)
