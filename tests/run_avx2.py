@@ -29,7 +29,7 @@ def programs(kit, room):
     """Proves main over the libraries, and yields what each compiler makes of it."""
     rattle, checked = kit / "bin/rattle", room / "checked"
     words = ["--crate-name", "noc", "src/main.rt", "--cpu", CPU, "--antt-project", kit / "rattle/logic/antt-project.json"]
-    words += ["--extern", f"std={kit}/rlibs/std.rlib", "--extern", f"noc_command={TOP}/crates/noc_command/out/rlib/noc_command.rlib"]
+    words += ["--extern", f"std={kit}/rlibs/std.rlib", "--extern", f"noc_program={TOP}/crates/noc_program/out/rlib/noc_program.rlib"]
     words += [word for it in [kit / "rlibs", *TOP.glob("crates/*/out/rlib")] for word in ("-L", f"dependency={it}")]
     called(rattle, "check", *words, "--logic-built", kit / "logic_built", "-o", checked)
     for backend in ("llvm", "rattle"):

@@ -1,7 +1,7 @@
-//! The simulator. All that it does stands in the library `noc_command`.
+//! The simulator. All that it does stands in the library `noc_program`.
 #![tactic(auto)]
 
-use noc_command::run;
+use noc_program::run;
 use std::process::ExitCode;
 
 fn main(rt: HostRuntime) -> ExitCode {

@@ -14,23 +14,24 @@ use Rattle.noc_files.specs.Writing.{Wrote}
 use Rattle.noc_files.specs.declared.trace.Traced.{Traced}
 use Rattle.noc_files.specs.declared.fault.InputFault.{InputFault}
 use Rattle.noc_files.specs.declared.fault.InputFault.TheVariants as input
-use Rattle.noc_requests.specs.Asked.{Asked, TextValue, ReadsAs, is_joined, owned_text}
-use Rattle.noc_requests.specs.Ending.{Ends}
-use Rattle.noc_requests.specs.Options.{first_cycle, packet_option_fault}
-use Rattle.noc_requests.specs.Settings.{AsksForRelation, SettingsFault}
-use Rattle.noc_requests.specs.declared.request.Command.{Command}
-use Rattle.noc_requests.specs.declared.request.Command.TheVariants as command
-use Rattle.noc_requests.specs.declared.request.Report.{Report}
-use Rattle.noc_requests.specs.declared.request.Request.{Request}
-use Rattle.noc_requests.specs.declared.status.Status.{Status}
-use Rattle.noc_requests.specs.declared.status.Status.TheVariants.{Done}
-use Rattle.noc_requests.specs.declared.fault.Fault.{Fault}
-use Rattle.noc_requests.specs.declared.fault.Fault.TheVariants as fault
-use Rattle.noc_requests.specs.declared.fault.OptionFault.{OptionFault}
+use Rattle.noc_answers.specs.Asked.{Asked, TextValue, ReadsAs, is_joined, owned_text}
+use Rattle.noc_answers.specs.Ending.{Ends}
+use Rattle.noc_commands.specs.Workers.{workers_of}
+use Rattle.noc_answers.specs.Options.{first_cycle, packet_option_fault, trace_of}
+use Rattle.noc_answers.specs.Settings.{AsksForRelation, SettingsFault}
+use Rattle.noc_commands.specs.declared.command.Command.{Command}
+use Rattle.noc_commands.specs.declared.command.Command.TheVariants as command
+use Rattle.noc_commands.specs.declared.report.Report.{Report}
+use Rattle.noc_answers.specs.declared.request.Request.{Request}
+use Rattle.noc_faults.specs.declared.status.Status.{Status}
+use Rattle.noc_faults.specs.declared.status.Status.TheVariants.{Done}
+use Rattle.noc_faults.specs.declared.fault.Fault.{Fault}
+use Rattle.noc_faults.specs.declared.fault.Fault.TheVariants as fault
+use Rattle.noc_faults.specs.declared.fault.OptionFault.{OptionFault}
 use Rattle.noc_answers.specs.Check.{AsksForChecked, RanksFault, checked_ranks}
 use Rattle.noc_answers.specs.Formula.{HasRanks, IsFormulaFault}
 use Rattle.noc_answers.specs.Reports.{report_text}
-use Rattle.noc_answers.specs.Run.{AsksForRun, IsNetworkOf, PacketsFault, ending, report_of, workers_of}
+use Rattle.noc_answers.specs.Run.{AsksForRun, IsNetworkOf, PacketsFault, ending, report_of}
 
 -- ---- the texts of a request
 
@@ -38,7 +39,7 @@ use Rattle.noc_answers.specs.Run.{AsksForRun, IsNetworkOf, PacketsFault, ending,
 pub data AsksFor (a : Asked) : List ℕ → Status → Type 0 where
   a_report : {report : Report} {run : Run} → report_of a.command ≡ Some report → AsksForRun a run → AsksFor a (report_text report run) (ending run)
   findings : {cycle router : ℕ} {run : Run} → a.command ≡ command.Explain cycle router → AsksForRun a run → AsksFor a (findings_text run router) Done
-  traces : {from to : Option ℕ} {traced : Traced} {run : Run} → a.command ≡ command.Trace from to traced → AsksForRun a run → packet_option_fault a.command (length run.net.packets) ≡ None
+  traces : {from to : Option ℕ} {traced : Traced} {run : Run} → a.command ≡ trace_of from to traced → AsksForRun a run → packet_option_fault a.command (length run.net.packets) ≡ None
       → AsksFor a (trace_text run (first_cycle from) traced) Done
   accepted : {s : Settings} {routes : Routes} → a.command ≡ command.Check → AsksForChecked a s routes → AsksFor a (codes "accepted\n") Done
   ranks : {s : Settings} {routes : Routes} {ranking : Ranking} → a.command ≡ command.Ranks → AsksForRelation a s routes → HasRanks s routes.grid ranking → AsksFor a (ranks_text ranking) Done

@@ -10,12 +10,12 @@ use Rattle.noc_rank.specs.declared.rows.RankRow.{RankRow}
 use Rattle.noc_files.specs.Configuration.{Settings}
 use Rattle.noc_files.specs.Ranks.{ranks_of}
 use Rattle.noc_files.specs.declared.fault.InputFault.{InputFault}
-use Rattle.noc_requests.specs.Asked.{Asked, IsUnread, TextValue, read_by}
-use Rattle.noc_requests.specs.Settings.{AsksForRelation}
-use Rattle.noc_requests.specs.declared.fault.Fault.{Fault}
-use Rattle.noc_requests.specs.declared.fault.Fault.TheVariants as fault
-use Rattle.noc_requests.specs.declared.request.Command.{Command}
-use Rattle.noc_requests.specs.declared.request.Command.TheVariants.{Joined, Run, Check}
+use Rattle.noc_answers.specs.Asked.{Asked, IsUnread, TextValue, read_by}
+use Rattle.noc_answers.specs.Settings.{AsksForRelation}
+use Rattle.noc_faults.specs.declared.fault.Fault.{Fault}
+use Rattle.noc_faults.specs.declared.fault.Fault.TheVariants as fault
+use Rattle.noc_commands.specs.declared.command.Command.{Command}
+use Rattle.noc_commands.specs.declared.command.Command.TheVariants.{Joined, Run, Check}
 
 -- the ranks of a rank file, for the channels of the relation
 pub record HasRanking (routes : Routes) (text : TextValue) (ranking : Ranking) : Type 0 where
@@ -23,7 +23,7 @@ pub record HasRanking (routes : Routes) (text : TextValue) (ranking : Ranking) :
   pub read : read_by (ranks_of routes.grid) text ≡ Ok rows
   pub given : IsRankingOf routes.grid routes.vcs rows ranking
 
--- they rise along the relation
+-- the ranks of a rank file rise along the relation
 pub record Accepts (routes : Routes) (text : TextValue) : Type 0 where
   pub ranking : Ranking
   pub ranks : HasRanking routes text ranking

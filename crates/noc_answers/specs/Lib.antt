@@ -1,3 +1,7 @@
+pub mod Asked
+pub mod Ending
+pub mod Options
+pub mod Settings
 pub mod Check
 pub mod Drain
 pub mod Formula

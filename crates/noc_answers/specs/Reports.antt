@@ -4,8 +4,8 @@ use Rattle.noc_net.specs.Network.{Run}
 use Rattle.noc_files.specs.Latency.{latency_text}
 use Rattle.noc_files.specs.Stalls.{stalls_text}
 use Rattle.noc_files.specs.Summary.{summary_text}
-use Rattle.noc_requests.specs.declared.request.Report.{Report}
-use Rattle.noc_requests.specs.declared.request.Report.TheVariants as report
+use Rattle.noc_commands.specs.declared.report.Report.{Report}
+use Rattle.noc_commands.specs.declared.report.Report.TheVariants as report
 
 -- a report of a run
 abbrev pub report_text : Report → Run → List ℕ

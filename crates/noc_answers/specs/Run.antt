@@ -11,19 +11,18 @@ use Rattle.noc_net.specs.Progress.{is_stuck}
 use Rattle.noc_files.specs.Configuration.{Settings}
 use Rattle.noc_files.specs.Traffic.{traffic_of}
 use Rattle.noc_files.specs.declared.fault.InputFault.{InputFault}
-use Rattle.noc_requests.specs.Asked.{Asked, IsUnread, TextValue, read_by}
-use Rattle.noc_requests.specs.Options.{last_cycle}
-use Rattle.noc_requests.specs.declared.request.Command.{Command}
-use Rattle.noc_requests.specs.declared.request.Command.TheVariants as command
-use Rattle.noc_requests.specs.declared.request.Report.{Report}
-use Rattle.noc_requests.specs.declared.request.Report.TheVariants.{Latency}
-use Rattle.noc_requests.specs.declared.fault.Fault.{Fault}
-use Rattle.noc_requests.specs.declared.fault.Fault.TheVariants as fault
-use Rattle.noc_requests.specs.declared.status.Status.{Status}
-use Rattle.noc_requests.specs.declared.status.Status.TheVariants.{Done, Stuck}
+use Rattle.noc_answers.specs.Asked.{Asked, IsUnread, TextValue, read_by}
+use Rattle.noc_answers.specs.Options.{last_cycle}
+use Rattle.noc_commands.specs.declared.command.Command.{Command}
+use Rattle.noc_commands.specs.declared.command.Command.TheVariants as command
+use Rattle.noc_commands.specs.declared.report.Report.{Report}
+use Rattle.noc_commands.specs.declared.report.Report.TheVariants.{Latency}
+use Rattle.noc_faults.specs.declared.fault.Fault.{Fault}
+use Rattle.noc_faults.specs.declared.fault.Fault.TheVariants as fault
+use Rattle.noc_faults.specs.declared.status.Status.{Status}
+use Rattle.noc_faults.specs.declared.status.Status.TheVariants.{Done, Stuck}
 use Rattle.noc_answers.specs.Check.{AsksForChecked}
 use Rattle.noc_answers.specs.Drain.{RunsTo}
-use Rattle.noc_tiles.specs.declared.limits.TheConstants.{MAX_WORKERS}
 
 -- the report of a run that a command asks for
 abbrev pub report_of : Command → Option Report
@@ -31,19 +30,10 @@ report_of command.Joined = Some Latency
 report_of (command.Run workers report drain) = Some report
 report_of _ = None
 
--- how many workers a command has
-abbrev pub workers_of : Command → ℕ
-workers_of (command.Run workers report drain) = workers
-workers_of _ = 1
-
--- 1 to 16 workers
-abbrev pub HasWorkers : Command → Type 0
-HasWorkers x = (0 < workers_of x) × (workers_of x ≤ MAX_WORKERS)
-
 -- how many cycles are run at least: those of the configuration, or up to the one that is to be explained, or traced last
 abbrev pub cycles_asked : Command → Settings → ℕ
 cycles_asked (command.Explain cycle router) s = cycle + 1
-cycles_asked (command.Trace from to traced) s = last_cycle to s.cycles + 1
+cycles_asked (command.Trace from to router packet changes) s = last_cycle to s.cycles + 1
 cycles_asked _ s = s.cycles
 
 -- whether a command runs on until every packet is out
@@ -68,7 +58,7 @@ pub data PacketsFault (routes : Routes) (traffic : TextValue) : Fault → Type 0
   bad_traffic : {f : InputFault} → IsUnread traffic_of traffic f → PacketsFault routes traffic (fault.Traffic f)
   bad_network : {packets : List Packet} {f : NetFault} → read_by traffic_of traffic ≡ Ok packets → IsUnmade routes packets f → PacketsFault routes traffic (fault.Network f)
 
--- that network after the cycles that are asked for, or where it has drained
+-- the network that is asked for, after the cycles that are asked for or where it has drained
 pub record AsksForRun (a : Asked) (run : Run) : Type 0 where
   pub settings : Settings
   pub routes : Routes

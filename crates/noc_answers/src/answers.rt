@@ -2,19 +2,21 @@
 
 ghost use Rattle.std.specs.Prelude.{◌≡◌, ℕ, IfErr, IfOk, List, Ok};
 ghost use Rattle.noc_files.specs.Writing.{Wrote};
-ghost use Rattle.noc_requests.specs.Asked.{ReadsAs, lent_files};
-ghost use Rattle.noc_requests.specs.Ending.{Ends, Refuses};
-ghost use Rattle.noc_requests.specs.declared.status.Status.TheVariants.{Done as done};
+ghost use Rattle.noc_answers.specs.Asked.{ReadsAs, lent_files};
+ghost use Rattle.noc_answers.specs.Ending.{Ends, Refuses};
+ghost use Rattle.noc_faults.specs.declared.status.Status.TheVariants.{Done as done};
 ghost use Rattle.noc_answers.specs.Answer.{Asks, AsksForArrivals, FirstFault, IsAnswered, IsRankedDrain, IsRankedRun};
-ghost use Rattle.noc_answers.specs.Run.{HasWorkers, workers_of};
+ghost use Rattle.noc_commands.specs.Workers.{HasWorkers, workers_of};
 
 use crate::accept::answer_check;
 use crate::explain::explain;
 use crate::formula::answer_ranks;
+use crate::request::{Files, Request, files_of, parts};
 use crate::run::{run, run_by_workers};
 use crate::trace::trace;
-use noc_files::{InputFault, Sink, split_joined};
-use noc_requests::{Command, Fault, Files, Report, Request, Status, files_of, parts};
+use noc_commands::{Command, Report};
+use noc_faults::{Fault, Status};
+use noc_files::{InputFault, Sink, Traced, split_joined};
 use std::alloc::Global;
 use std::sync::Wait;
 use std::thread::Threads;
@@ -101,7 +103,20 @@ fn answer_files<W: Sink>(
             drain,
         } => run(rt, alloc, files, report, drain, sink),
         Command::Explain { cycle, router } => explain(alloc, files, cycle, router, sink),
-        Command::Trace { from, to, traced } => trace(alloc, files, from, to, traced, sink),
+        Command::Trace {
+            from,
+            to,
+            router,
+            packet,
+            changes,
+        } => {
+            let traced = Traced {
+                router,
+                packet,
+                changes,
+            };
+            trace(alloc, files, from, to, traced, sink)
+        }
         Command::Check => answer_check(rt, alloc, files, sink),
         Command::Ranks => answer_ranks(alloc, files, sink),
     }

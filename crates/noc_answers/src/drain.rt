@@ -13,6 +13,9 @@ use std::alloc::Global;
 use std::sync::Wait;
 use std::thread::Threads;
 
+// A command asks for as many workers as run.
+const _: () = prove!(noc_commands::MAX_WORKERS == noc_tiles::MAX_WORKERS);
+
 // After how many cycles a run that is to drain looks again whether every packet is out.
 const DRAIN_CHECK_INTERVAL: u64 = 64;
 

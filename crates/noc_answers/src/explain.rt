@@ -2,15 +2,18 @@
 
 ghost use Rattle.std.specs.Prelude.{◌≡◌, ◌<◌, IfErr, IfOk};
 ghost use Rattle.noc_topo.specs.Shape.{nodes};
-ghost use Rattle.noc_requests.specs.Asked.{lent_files};
-ghost use Rattle.noc_requests.specs.Ending.{Refuses};
+ghost use Rattle.noc_answers.specs.Asked.{lent_files};
+ghost use Rattle.noc_answers.specs.Ending.{Refuses};
 ghost use Rattle.noc_answers.specs.Answer.{IsAnswered, TextsFault};
 ghost use Rattle.noc_answers.specs.Run.{AsksForRun};
 
+use crate::request::Files;
 use crate::run::network_of;
+use crate::settings::relation_of;
+use noc_commands::Command;
+use noc_faults::{Fault, Status};
 use noc_files::{Sink, write_findings};
 use noc_net::Network;
-use noc_requests::{Command, Fault, Files, Status, relation_of};
 use std::alloc::Global;
 
 // Runs the network up to the end of a cycle, and writes what a router found in it.

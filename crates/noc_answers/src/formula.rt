@@ -2,13 +2,16 @@
 
 ghost use Rattle.std.specs.Prelude.{◌≡◌, IfErr, IfOk};
 ghost use Rattle.noc_files.specs.Configuration.{settings};
-ghost use Rattle.noc_requests.specs.Asked.{lent_files};
+ghost use Rattle.noc_answers.specs.Asked.{lent_files};
 ghost use Rattle.noc_answers.specs.Answer.{IsAnswered};
 ghost use Rattle.noc_answers.specs.Formula.{HasRanks, IsFormulaFault};
 
+use crate::request::Files;
+use crate::settings::{named_rule, relation_of};
+use noc_commands::Command;
+use noc_faults::{Fault, Status};
 use noc_files::{Config, Sink, write_ranks};
 use noc_rank::{RankFault, Ranks};
-use noc_requests::{Command, Fault, Files, Status, named_rule, relation_of};
 use noc_topo::Shape;
 use std::alloc::Global;
 

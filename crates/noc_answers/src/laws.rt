@@ -5,11 +5,11 @@ ghost use Rattle.noc_net.specs.Limit.{are_all_out};
 ghost use Rattle.noc_net.specs.Network.{Run, arrival_in, packet_at, state_at};
 ghost use Rattle.noc_files.specs.Latency.{latency_line, packet_start};
 ghost use Rattle.noc_files.specs.Writing.{comma, text_of_pieces, line_end};
-ghost use Rattle.noc_requests.specs.Status.{is_memory};
-ghost use Rattle.noc_requests.specs.declared.fault.Fault.{Fault as FaultValue};
-ghost use Rattle.noc_requests.specs.declared.request.Request.{Request as RequestValue};
-ghost use Rattle.noc_requests.specs.declared.status.Status.{Status as StatusValue};
-ghost use Rattle.noc_requests.specs.declared.request.Report.{Report as ReportValue};
+ghost use Rattle.noc_faults.specs.Status.{is_memory};
+ghost use Rattle.noc_faults.specs.declared.fault.Fault.{Fault as FaultValue};
+ghost use Rattle.noc_answers.specs.declared.request.Request.{Request as RequestValue};
+ghost use Rattle.noc_faults.specs.declared.status.Status.{Status as StatusValue};
+ghost use Rattle.noc_commands.specs.declared.report.Report.{Report as ReportValue};
 ghost use Rattle.noc_answers.specs.Answer.{Asks, FirstFault, by_workers};
 
 /// A request has one answer: two texts that it asks for are the same, and so is how they end; where it asks for a text

@@ -4,24 +4,28 @@ ghost use Rattle.std.specs.Prelude.{◌≡◌, ℕ, ◌<◌, ◌≤◌, Ok, Some
 ghost use Rattle.noc_files.specs.Gives.{Gives};
 ghost use Rattle.noc_files.specs.Traffic.{traffic_of};
 ghost use Rattle.noc_files.specs.Writing.{Wrote};
-ghost use Rattle.noc_requests.specs.Asked.{lent_files, lent_text, read_by};
-ghost use Rattle.noc_requests.specs.Ending.{IsWriteFault, Refuses};
-ghost use Rattle.noc_requests.specs.declared.request.Report.{Report as ReportValue};
+ghost use Rattle.noc_answers.specs.Asked.{lent_files, lent_text, read_by};
+ghost use Rattle.noc_answers.specs.Ending.{IsWriteFault, Refuses};
+ghost use Rattle.noc_commands.specs.Workers.{workers_of};
+ghost use Rattle.noc_commands.specs.declared.report.Report.{Report as ReportValue};
 ghost use Rattle.noc_answers.specs.Answer.{IsAnswered, TextsFault};
 ghost use Rattle.noc_answers.specs.Drain.{RunsTo};
 ghost use Rattle.noc_answers.specs.Reports.{report_text};
-ghost use Rattle.noc_answers.specs.Run.{AsksForRun, IsNetworkOf, PacketsFault, ending, runs_until_out, report_of, workers_of};
+ghost use Rattle.noc_answers.specs.Run.{AsksForRun, IsNetworkOf, PacketsFault, ending, runs_until_out, report_of};
 ghost use Rattle.noc_tiles.specs.declared.limits.TheConstants.{MAX_WORKERS};
 
 use crate::accept::accept_if_given;
 use crate::drain::{run_to_end, run_to_end_by_workers};
+use crate::request::{Bytes, Files};
+use crate::settings::relation_of;
+use noc_commands::Report;
+use noc_faults::{Fault, Status};
 use noc_files::{
     InputFault, MAX_CYCLES, Sink, WriteFault, read_traffic, write_latency, write_stalls,
     write_summary,
 };
 use noc_net::Network;
 use noc_packet::{MAX_BUFFER, Packet};
-use noc_requests::{Bytes, Fault, Files, Report, Status, relation_of};
 use noc_route::Relation;
 use std::alloc::Global;
 use std::sync::Wait;

@@ -2,18 +2,18 @@
 
 ghost use Rattle.std.specs.Prelude.{◌≡◌, ◌+◌, ◌<◌, ◌≤◌, IfErr, IfOk, IfSome, None, false, length};
 ghost use Rattle.noc_topo.specs.Shape.{nodes};
-ghost use Rattle.noc_requests.specs.Asked.{lent_files};
-ghost use Rattle.noc_requests.specs.Options.{first_cycle, is_bad_span, last_cycle, packet_option_fault};
-ghost use Rattle.noc_requests.specs.Ending.{Refuses};
+ghost use Rattle.noc_answers.specs.Asked.{lent_files};
+ghost use Rattle.noc_answers.specs.Options.{first_cycle, is_bad_span, last_cycle, packet_option_fault, trace_of};
+ghost use Rattle.noc_answers.specs.Ending.{Refuses};
 ghost use Rattle.noc_answers.specs.Answer.{IsAnswered, TextsFault};
 ghost use Rattle.noc_answers.specs.Run.{AsksForRun};
 
+use crate::request::Files;
 use crate::run::network_of;
+use crate::settings::{first_cycle, last_cycle, packet_fault, relation_of};
+use noc_faults::{Fault, Status};
 use noc_files::{MAX_CYCLES, Sink, Trace, Traced, write_trace};
 use noc_net::{NetFault, Network};
-use noc_requests::{
-    Command, Fault, Files, Status, first_cycle, last_cycle, packet_fault, relation_of,
-};
 use std::alloc::Global;
 
 // Runs the network up to the first cycle of a span, and then cycle by cycle, and writes what its input channels did in each.
@@ -25,7 +25,7 @@ pub(crate) fn trace<W: Sink>(
     traced: Traced,
     sink: &mut W,
 ) -> Result<Status, Fault>
-    requires { files.now.command ≡ Command.Trace from to traced }
+    requires { files.now.command ≡ trace_of from to traced }
     ensures { IsAnswered W.contents W.has_failed sink.old sink.new (lent_files files.now) result }
 {
     let (mut network, cycles) = network_to_trace(alloc, files, from, to, traced)?;
@@ -51,7 +51,7 @@ fn network_to_trace(
     to: Option<u64>,
     traced: Traced,
 ) -> Result<(Network, u64), Fault>
-    requires { files.now.command ≡ Command.Trace from to traced }
+    requires { files.now.command ≡ trace_of from to traced }
     ensures opening { IfOk result (λ r. r.0.count ≡ 0) }
     ensures cycles { IfOk result (λ r. r.1 ≤ MAX_CYCLES) }
     ensures span { IfOk result (λ r. is_bad_span (first_cycle from) (last_cycle to r.1) r.1 ≡ false) }

@@ -1,13 +1,13 @@
 use Rattle.std.proofs.Common.{◌≡◌, ◌∙◌, [], Option, Some, Ok, ap, sym, option_map, unwrap_or}
 use Rattle.std.proofs.lemmas.Result.{err_from_is_err_and}
-use Rattle.noc_requests.specs.Asked.{TextValue, lent_files, lent_text}
-use Rattle.noc_requests.specs.Settings.{SettingsFault}
-use Rattle.noc_requests.specs.declared.request.Command.{Command}
-use Rattle.noc_requests.specs.declared.request.Command.TheVariants as command
+use Rattle.noc_answers.specs.Asked.{TextValue, lent_files, lent_text}
+use Rattle.noc_answers.specs.Settings.{SettingsFault}
+use Rattle.noc_commands.specs.declared.command.Command.{Command}
+use Rattle.noc_commands.specs.declared.command.Command.TheVariants as command
 use Rattle.noc_answers.specs.Answer.{TextsFault, in_ranks, in_settings}
 use Rattle.noc_answers.specs.Check.{RanksFault, checked_by, checked_ranks}
-use Rattle.noc_requests.proofs.AskedFacts.{lent-unwrap_or}
-use Rattle.noc_requests.proofs.OutcomeFacts.{if_err_more, refuses_more}
+use Rattle.noc_answers.proofs.AskedLemmas.{lent-unwrap_or}
+use Rattle.noc_answers.proofs.EndingLemmas.{if_err_more, refuses_more}
 use Rattle.noc_answers.proofs.accept.accept_files.Goals as goal
 
 pub returns-in_err-relation-clause-fault : goal.returns-in_err-relation-clause-fault

@@ -1,5 +1,5 @@
 use Rattle.std.proofs.Common.{codes}
-use Rattle.noc_requests.specs.declared.status.Status.TheVariants.{Done}
+use Rattle.noc_faults.specs.declared.status.Status.TheVariants.{Done}
 use Rattle.noc_answers.specs.Answer.{accepted}
 use Rattle.noc_answers.proofs.accept.answer_check.Goals as goal
 

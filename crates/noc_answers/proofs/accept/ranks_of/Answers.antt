@@ -1,6 +1,6 @@
 use Rattle.std.proofs.Common.{◌≡◌, Ok, refl, subst}
 use Rattle.noc_files.specs.Ranks.{ranks_of}
-use Rattle.noc_requests.specs.Asked.{IsUnread, lent_text, read_by}
+use Rattle.noc_answers.specs.Asked.{IsUnread, lent_text, read_by}
 use Rattle.noc_answers.specs.Check.{bad_file, bad_rows}
 use Rattle.noc_answers.proofs.accept.ranks_of.Goals as goal
 

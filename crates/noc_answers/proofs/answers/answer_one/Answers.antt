@@ -1,12 +1,12 @@
 use Rattle.std.proofs.Common.{◌≡◌, ℕ, subst}
 use Rattle.noc_files.specs.Writing.{Wrote}
-use Rattle.noc_requests.specs.Asked.{lent_files}
-use Rattle.noc_requests.specs.Ending.{Ends}
+use Rattle.noc_answers.specs.Asked.{lent_files}
+use Rattle.noc_answers.specs.Ending.{Ends}
 use Rattle.noc_answers.specs.Answer.{Asks, AsksFor, FirstFault, TextsFault, in_texts}
-use Rattle.noc_answers.specs.Run.{workers_of}
-use Rattle.noc_requests.proofs.OutcomeFacts.{ends_more}
-use Rattle.noc_answers.proofs.RequestFacts.{same-workers}
-use Rattle.noc_answers.proofs.RankedFacts.{ends-done, ends-drained}
+use Rattle.noc_commands.specs.Workers.{workers_of}
+use Rattle.noc_answers.proofs.EndingLemmas.{ends_more}
+use Rattle.noc_answers.proofs.RequestLemmas.{same-workers}
+use Rattle.noc_answers.proofs.RankedLemmas.{ends-done, ends-drained}
 use Rattle.noc_answers.proofs.answers.answer_one.Goals as goal
 
 pub returns-clause-ends : goal.returns-clause-ends

@@ -1,6 +1,6 @@
 use Rattle.std.proofs.Common.{ap, ◌∙◌}
 use Rattle.noc_net.specs.Network.{Run}
-use Rattle.noc_answers.proofs.DrainFacts.{goes-on, goes-to}
+use Rattle.noc_answers.proofs.DrainLemmas.{goes-on, goes-to}
 use Rattle.noc_answers.proofs.drain.run_on.Goals as goal
 
 pub loop-cycles-preserved : goal.loop-cycles-preserved

@@ -1,5 +1,5 @@
 use Rattle.noc_files.specs.Findings.{findings_text}
-use Rattle.noc_requests.specs.declared.status.Status.TheVariants.{Done}
+use Rattle.noc_faults.specs.declared.status.Status.TheVariants.{Done}
 use Rattle.noc_answers.specs.Answer.{findings}
 use Rattle.noc_answers.proofs.explain.explain.Goals as goal
 

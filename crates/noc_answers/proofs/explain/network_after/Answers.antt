@@ -4,18 +4,18 @@ use Rattle.std.proofs.lemmas.Bool.{leb-false}
 use Rattle.std.specs.Option.{IfSome}
 use Rattle.std.proofs.lemmas.Result.{err_from_is_err_and}
 use Rattle.noc_files.specs.Configuration.{Settings, settings}
-use Rattle.noc_requests.specs.Asked.{lent_files}
-use Rattle.noc_requests.specs.Options.{early_fault, or_option_fault, table_fault}
-use Rattle.noc_requests.specs.declared.fault.OptionFault.{OptionFault}
-use Rattle.noc_requests.specs.declared.fault.OptionFault.TheVariants.{BadCycle}
-use Rattle.noc_requests.specs.declared.request.Command.{Command}
-use Rattle.noc_requests.specs.declared.request.Command.TheVariants.{Explain}
-use Rattle.noc_requests.specs.Settings.{SettingsFault}
+use Rattle.noc_answers.specs.Asked.{lent_files}
+use Rattle.noc_answers.specs.Options.{early_fault, or_option_fault, table_fault}
+use Rattle.noc_faults.specs.declared.fault.OptionFault.{OptionFault}
+use Rattle.noc_faults.specs.declared.fault.OptionFault.TheVariants.{BadCycle}
+use Rattle.noc_commands.specs.declared.command.Command.{Command}
+use Rattle.noc_commands.specs.declared.command.Command.TheVariants.{Explain}
+use Rattle.noc_answers.specs.Settings.{SettingsFault}
 use Rattle.noc_answers.specs.Answer.{TextsFault, in_packets, in_settings, runs}
 use Rattle.noc_answers.specs.Check.{Accepts, AsksForChecked, checked_by, checked_ranks}
 use Rattle.noc_answers.specs.Drain.{RunsTo}
 use Rattle.noc_answers.specs.Run.{PacketsFault, cycles_asked, runs_until_out}
-use Rattle.noc_requests.proofs.OutcomeFacts.{refuses_more}
+use Rattle.noc_answers.proofs.EndingLemmas.{refuses_more}
 use Rattle.noc_answers.proofs.explain.network_after.Goals as goal
 
 pub returns-in_err-config-clause-fault : goal.returns-in_err-config-clause-fault

@@ -3,13 +3,13 @@ use Rattle.std.proofs.lemmas.Result.{err_from_is_err_and}
 use Rattle.noc_files.specs.Configuration.{settings}
 use Rattle.noc_files.specs.Ranks.{ranks_text}
 use Rattle.noc_files.specs.Writing.{Wrote}
-use Rattle.noc_requests.specs.Asked.{lent_files}
-use Rattle.noc_requests.specs.Settings.{SettingsFault}
-use Rattle.noc_requests.specs.declared.status.Status.TheVariants.{Done}
+use Rattle.noc_answers.specs.Asked.{lent_files}
+use Rattle.noc_answers.specs.Settings.{SettingsFault}
+use Rattle.noc_faults.specs.declared.status.Status.TheVariants.{Done}
 use Rattle.noc_answers.specs.Answer.{AsksFor, TextsFault, in_formula, in_settings, ranks}
 use Rattle.noc_answers.specs.Formula.{HasRanks, IsFormulaFault}
-use Rattle.noc_answers.specs.Run.{workers_of}
-use Rattle.noc_requests.proofs.OutcomeFacts.{ends_refused, refuses_more}
+use Rattle.noc_commands.specs.Workers.{workers_of}
+use Rattle.noc_answers.proofs.EndingLemmas.{ends_refused, refuses_more}
 use Rattle.noc_answers.proofs.formula.answer_ranks.Goals as goal
 
 pub returns-in_err-config : goal.returns-in_err-config

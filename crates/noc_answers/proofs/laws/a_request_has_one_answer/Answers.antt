@@ -1,5 +1,5 @@
-use Rattle.noc_answers.proofs.OneAnswerFacts.{one_answer}
-use Rattle.noc_answers.proofs.OneFaultFacts.{text_or_fault, one_first_fault}
+use Rattle.noc_answers.proofs.OneAnswerLemmas.{one_answer}
+use Rattle.noc_answers.proofs.OneFaultLemmas.{text_or_fault, one_first_fault}
 use Rattle.noc_answers.proofs.laws.a_request_has_one_answer.Goals as goal
 
 pub returns-clause-text : goal.returns-clause-text

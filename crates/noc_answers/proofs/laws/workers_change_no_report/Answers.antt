@@ -1,4 +1,4 @@
-use Rattle.noc_answers.proofs.WorkersFacts.{fewer, same-report}
+use Rattle.noc_answers.proofs.WorkersLemmas.{fewer, same-report}
 use Rattle.noc_answers.proofs.laws.workers_change_no_report.Goals as goal
 
 pub returns-clause-same : goal.returns-clause-same

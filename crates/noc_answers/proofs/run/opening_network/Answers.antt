@@ -2,14 +2,14 @@ use Rattle.std.proofs.Common.{option_map, subst, sym}
 use Rattle.std.specs.Option.{IfSome, IsSomeAnd}
 use Rattle.std.proofs.lemmas.Result.{err_from_is_err_and}
 use Rattle.noc_files.specs.Configuration.{settings}
-use Rattle.noc_requests.specs.Asked.{lent_files, lent_text}
-use Rattle.noc_requests.specs.Settings.{SettingsFault}
+use Rattle.noc_answers.specs.Asked.{lent_files, lent_text}
+use Rattle.noc_answers.specs.Settings.{SettingsFault}
 use Rattle.noc_answers.specs.Answer.{TextsFault, in_packets, in_settings}
 use Rattle.noc_answers.specs.Check.{Accepts, AsksForChecked, RanksFault}
 use Rattle.noc_answers.specs.Drain.{RunsTo}
 use Rattle.noc_answers.specs.Run.{PacketsFault, runs_until_out}
-use Rattle.noc_requests.proofs.OutcomeFacts.{refuses_more}
-use Rattle.noc_answers.proofs.RequestFacts.{checked-report, cycles-report, in_checked_ranks, runs-report}
+use Rattle.noc_answers.proofs.EndingLemmas.{refuses_more}
+use Rattle.noc_answers.proofs.RequestLemmas.{checked-report, cycles-report, in_checked_ranks, runs-report}
 use Rattle.noc_answers.proofs.run.opening_network.Goals as goal
 
 pub returns-in_err-config-clause-fault : goal.returns-in_err-config-clause-fault

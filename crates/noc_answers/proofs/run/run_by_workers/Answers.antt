@@ -1,13 +1,14 @@
 use Rattle.std.proofs.Common.{◌≡◌, ◌<◌, refl, subst, sym}
 use Rattle.noc_net.specs.Network.{Run}
 use Rattle.noc_files.specs.Writing.{Wrote}
-use Rattle.noc_requests.specs.Asked.{lent_files}
+use Rattle.noc_answers.specs.Asked.{lent_files}
 use Rattle.noc_answers.specs.Answer.{AsksFor, TextsFault, a_report}
 use Rattle.noc_answers.specs.Reports.{report_text}
-use Rattle.noc_answers.specs.Run.{AsksForRun, ending, workers_of}
-use Rattle.noc_requests.proofs.OutcomeFacts.{ends_reported}
-use Rattle.noc_answers.proofs.DrainFacts.{ends-some}
-use Rattle.noc_answers.proofs.RequestFacts.{ran}
+use Rattle.noc_answers.specs.Run.{AsksForRun, ending}
+use Rattle.noc_commands.specs.Workers.{workers_of}
+use Rattle.noc_answers.proofs.EndingLemmas.{ends_reported}
+use Rattle.noc_answers.proofs.DrainLemmas.{ends-some}
+use Rattle.noc_answers.proofs.RequestLemmas.{ran}
 use Rattle.noc_answers.proofs.run.run_by_workers.Goals as goal
 
 pub returns-in-Err : goal.returns-in-Err

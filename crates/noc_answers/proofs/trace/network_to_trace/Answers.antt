@@ -7,18 +7,17 @@ use Rattle.noc_topo.specs.Shape.{Grid, nodes}
 use Rattle.noc_route.specs.Routes.{Routes}
 use Rattle.noc_files.specs.Configuration.{Settings, settings}
 use Rattle.noc_files.specs.declared.trace.Traced.{Traced}
-use Rattle.noc_requests.specs.Asked.{lent_files}
-use Rattle.noc_requests.specs.Options.{early_fault, first_cycle, is_bad_span, last_cycle, late_fault, or_option_fault, packet_option_fault, router_fault, table_fault}
-use Rattle.noc_requests.specs.declared.fault.OptionFault.{OptionFault}
-use Rattle.noc_requests.specs.declared.fault.OptionFault.TheVariants.{BadCycle, BadRouter}
-use Rattle.noc_requests.specs.declared.request.Command.{Command}
-use Rattle.noc_requests.specs.declared.request.Command.TheVariants.{Trace}
-use Rattle.noc_requests.specs.Settings.{SettingsFault}
+use Rattle.noc_answers.specs.Asked.{lent_files}
+use Rattle.noc_answers.specs.Options.{early_fault, first_cycle, is_bad_span, last_cycle, late_fault, or_option_fault, packet_option_fault, router_fault, table_fault, trace_of}
+use Rattle.noc_faults.specs.declared.fault.OptionFault.{OptionFault}
+use Rattle.noc_faults.specs.declared.fault.OptionFault.TheVariants.{BadCycle, BadRouter}
+use Rattle.noc_commands.specs.declared.command.Command.{Command}
+use Rattle.noc_answers.specs.Settings.{SettingsFault}
 use Rattle.noc_answers.specs.Answer.{TextsFault, in_packets, in_settings, no_packet, runs}
 use Rattle.noc_answers.specs.Check.{Accepts, AsksForChecked, checked_by, checked_ranks}
 use Rattle.noc_answers.specs.Drain.{RunsTo}
 use Rattle.noc_answers.specs.Run.{PacketsFault, cycles_asked, runs_until_out}
-use Rattle.noc_requests.proofs.OutcomeFacts.{refuses_more}
+use Rattle.noc_answers.proofs.EndingLemmas.{refuses_more}
 use Rattle.noc_answers.proofs.trace.network_to_trace.Goals as goal
 
 pub returns-in_err-config-clause-fault : goal.returns-in_err-config-clause-fault
@@ -39,7 +38,7 @@ returns-in_err-network-clause-fault c =
     rw (p.1, p.2) (refuses_more (PacketsFault c.in_ok-config.relation a.traffic) (TextsFault a) _ (λ first. in_packets (ap runs c.requires) checked first) c.in_err-network.ensures.fault)
 
 -- a span that passed is one of the run
-span : (has : Bool) (s : Settings) (command : Command) (from to : Option ℕ) (traced : Traced) → command ≡ Trace from to traced → early_fault command has s ≡ None
+span : (has : Bool) (s : Settings) (command : Command) (from to : Option ℕ) (traced : Traced) → command ≡ trace_of from to traced → early_fault command has s ≡ None
     → is_bad_span (first_cycle from) (last_cycle to s.cycles) s.cycles ≡ false
 span has s command from to traced e none =
     passes (table_fault s.rule has) (is_bad_span (first_cycle from) (last_cycle to s.cycles) s.cycles) (subst (λ c. early_fault c has s ≡ None) e none)

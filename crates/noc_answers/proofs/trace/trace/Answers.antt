@@ -4,9 +4,9 @@ use Rattle.std.proofs.lemmas.Bool.{leb-false, ltb-false, or_parts}
 use Rattle.noc_net.specs.Network.{Run, Setup}
 use Rattle.noc_files.specs.Trace.{trace_text}
 use Rattle.noc_files.specs.declared.trace.Traced.{Traced}
-use Rattle.noc_requests.specs.Asked.{lent_files}
-use Rattle.noc_requests.specs.Options.{first_cycle, is_bad_span, last_cycle}
-use Rattle.noc_requests.specs.declared.status.Status.TheVariants.{Done}
+use Rattle.noc_answers.specs.Asked.{lent_files}
+use Rattle.noc_answers.specs.Options.{first_cycle, is_bad_span, last_cycle}
+use Rattle.noc_faults.specs.declared.status.Status.TheVariants.{Done}
 use Rattle.noc_answers.specs.Answer.{AsksFor, in_packets, runs, traces}
 use Rattle.noc_answers.specs.Run.{bad_network}
 use Rattle.noc_answers.proofs.trace.trace.Goals as goal

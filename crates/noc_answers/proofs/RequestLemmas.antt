@@ -1,0 +1,72 @@
+-- What a command checks and runs, and which fault of its texts comes first.
+use Rattle.std.proofs.Common.{◌≡◌, ℕ, Bool, true, Option, Some, None, refl, sym, subst}
+use Rattle.std.specs.Option.{IsSomeAnd}
+use Rattle.std.proofs.lemmas.Bool.{false≢true}
+use Rattle.noc_files.specs.Configuration.{Settings}
+use Rattle.noc_net.specs.Network.{Run, Setup}
+use Rattle.noc_route.specs.Routes.{Routes}
+use Rattle.noc_answers.specs.Asked.{Asked, TextValue, ReadsAs, as_files, as_joined, is_joined}
+use Rattle.noc_answers.specs.Settings.{AsksForRelation}
+use Rattle.noc_faults.specs.declared.fault.Fault.{Fault}
+use Rattle.noc_commands.specs.declared.command.Command.{Command}
+use Rattle.noc_commands.specs.declared.command.Command.TheVariants as command
+use Rattle.noc_commands.specs.declared.report.Report.{Report}
+use Rattle.noc_answers.specs.declared.request.Request.{Request}
+use Rattle.noc_answers.specs.Answer.{TextsFault, in_ranks, runs}
+use Rattle.noc_answers.specs.Drain.{RunsTo}
+use Rattle.noc_answers.specs.Check.{RanksFault, checked_by, checked_ranks}
+use Rattle.noc_answers.specs.Run.{AsksForRun, cycles_asked, runs_until_out, report_of}
+use Rattle.noc_commands.specs.Workers.{workers_of}
+
+-- a command with a report checks the ranks that it is given, and runs
+pub checked-report : (x : Command) (report : Report) (ranks : Option TextValue) → report_of x ≡ Some report → checked_by x ranks ≡ ranks
+checked-report command.Joined report ranks h = refl
+checked-report (command.Run workers other drain) report ranks h = refl
+checked-report (command.Explain cycle router) report ranks h = cc
+checked-report (command.Trace from to router packet changes) report ranks h = cc
+checked-report command.Check report ranks h = cc
+checked-report command.Ranks report ranks h = cc
+
+pub runs-report : (x : Command) (report : Report) → report_of x ≡ Some report → runs x ≡ true
+runs-report command.Joined report h = refl
+runs-report (command.Run workers other drain) report h = refl
+runs-report (command.Explain cycle router) report h = refl
+runs-report (command.Trace from to router packet changes) report h = refl
+runs-report command.Check report h = cc
+runs-report command.Ranks report h = cc
+
+-- a command that asks for a report runs for the cycles of the configuration
+pub cycles-report : (x : Command) (report : Report) (s : Settings) → report_of x ≡ Some report → s.cycles ≡ cycles_asked x s
+cycles-report command.Joined report s h = refl
+cycles-report (command.Run workers other drain) report s h = refl
+cycles-report (command.Explain cycle router) report s h = cc
+cycles-report (command.Trace from to router packet changes) report s h = cc
+cycles-report command.Check report s h = cc
+cycles-report command.Ranks report s h = cc
+
+-- the network that is asked for has run to its end
+pub ran : (a : Asked) (drain : Bool) (before after : Run) (n : ℕ) → runs_until_out a.command ≡ drain
+    → ((end : ℕ) → RunsTo (runs_until_out a.command) before.net n end → AsksForRun a (record { net = before.net; count = end })) → after.net ≡ before.net → RunsTo drain after.net n after.count → AsksForRun a after
+ran a drain before after n drains asks same ends =
+    let P : Bool → Setup → Type 0 = λ b net. RunsTo b net n after.count in
+    let Q : Setup → Type 0 = λ net. AsksForRun a (record { net = net; count = after.count }) in
+    subst Q (sym same) (asks after.count (subst (λ b. P b before.net) (sym drains) (subst (P drain) same ends)))
+
+-- the fault of ranks that are checked
+pub in_checked_ranks : (a : Asked) (s : Settings) (routes : Routes) (f : Fault) (ranks : Option TextValue) → AsksForRelation a s routes → checked_ranks a ≡ ranks
+    → IsSomeAnd ranks (λ text. RanksFault routes text f) → TextsFault a f
+in_checked_ranks a s routes f (Some text) asks checked bad = in_ranks asks checked bad
+in_checked_ranks a s routes f None asks checked bad = absurd bad
+
+-- a request has the workers of the texts as which it is read
+one-worker : (x : Command) → is_joined x ≡ true → 1 ≡ workers_of x
+one-worker command.Joined h = refl
+one-worker (command.Run workers report drain) h = absurd (false≢true h)
+one-worker (command.Explain cycle router) h = refl
+one-worker (command.Trace from to router packet changes) h = refl
+one-worker command.Check h = refl
+one-worker command.Ranks h = refl
+
+pub same-workers : (r : Request) (a : Asked) → ReadsAs r a → workers_of a.command ≡ workers_of r.command
+same-workers r a (as_files h) = refl
+same-workers r a (as_joined h e s) = one-worker r.command h

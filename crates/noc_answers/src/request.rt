@@ -1,0 +1,79 @@
+//! Requests: commands with the texts of their files.
+
+ghost use Rattle.std.specs.Prelude.{◌≡◌};
+ghost use Rattle.noc_answers.specs.Asked.{files_of, given_text, lent_files, lent_text, owned_text, parts};
+
+use noc_commands::Command;
+use noc_files::InputFault;
+
+/// The bytes of one file, or the fault of reading it.
+pub type Text = Result<Vec<u8>, InputFault>;
+
+// The bytes of one file, lent, or the fault of reading it.
+pub(crate) type Bytes<'a> = Result<&'a [u8], InputFault>;
+
+/// A command with the texts of its files: the configuration, or a joined text; a routing table; ranks; traffic.
+#[derive(Drop)]
+pub struct Request {
+    pub config: Text,
+    pub table: Option<Text>,
+    pub ranks: Option<Text>,
+    pub traffic: Option<Text>,
+    pub command: Command,
+}
+
+// A command with the texts that it looks at: a joined text is parted here.
+#[derive(Clone, Copy)]
+pub(crate) struct Files<'a> {
+    pub(crate) config: Bytes<'a>,
+    pub(crate) table: Option<Bytes<'a>>,
+    pub(crate) ranks: Option<Bytes<'a>>,
+    pub(crate) traffic: Bytes<'a>,
+    pub(crate) command: Command,
+}
+
+// The texts of a request as they stand.
+pub(crate) fn files_of(request: &Request) -> Files<'_>
+    ensures { lent_files result ≡ files_of request.now }
+{
+    Files {
+        config: bytes_of(&request.config),
+        table: request.table.as_ref().map(bytes_of),
+        ranks: request.ranks.as_ref().map(bytes_of),
+        traffic: traffic_bytes(&request.traffic),
+        command: request.command,
+    }
+}
+
+// The bytes of a text.
+pub(crate) fn bytes_of(text: &Text) -> Bytes<'_>
+    ensures { lent_text result ≡ owned_text text.now }
+{
+    match text {
+        Ok(bytes) => Ok(bytes.as_slice()),
+        Err(fault) => Err(*fault),
+    }
+}
+
+// The bytes of a traffic text. One that is not given is not read.
+fn traffic_bytes(text: &Option<Text>) -> Bytes<'_>
+    ensures { lent_text result ≡ given_text text.now }
+{
+    match text {
+        Some(text) => bytes_of(text),
+        None => Err(InputFault::ReadFailed),
+    }
+}
+
+// The two texts of a joined text.
+pub(crate) fn parts<'a>(config: &'a [u8], traffic: &'a [u8]) -> Files<'a>
+    ensures { lent_files result ≡ parts config.entry.now traffic.entry.now }
+{
+    Files {
+        config: Ok(config),
+        table: None,
+        ranks: None,
+        traffic: Ok(traffic),
+        command: Command::Joined,
+    }
+}

@@ -1,3 +1,0 @@
-pub mod CommandLine
-pub mod Ending
-pub mod Words

@@ -1,0 +1,20 @@
+use Rattle.std.proofs.Common.{append_assoc}
+use Rattle.std.proofs.lemmas.List.{take_all}
+use Rattle.noc_faults.specs.Line.{line_with}
+use Rattle.noc_faults.proofs.line.line_with.Goals as goal
+
+pub returns : goal.returns
+unfolding line_with
+returns c =
+    let all = take_all c.loop-detail.detail-index c.args.details.now c.loop-detail-test.false in
+    rw (
+      c.push_str-5.ensures.bytes,
+      c.loop-detail.invariant.text,
+      all,
+      c.push_str-4.ensures.bytes,
+      c.push_str-3.ensures.bytes,
+      c.push_str-2.ensures.bytes,
+      c.push_str.ensures.bytes,
+      c.new-line.ensures,
+    )
+    (simp append_assoc)

@@ -1,0 +1,59 @@
+//! The way of an answer onto a device.
+
+ghost use Rattle.std.specs.Prelude.{◌≡◌, [], IsErr};
+ghost use Rattle.std.specs.Io.Buffered.{writer_buffer, writer_contents, writer_inner};
+ghost use Rattle.std.specs.Io.KnownBytes.{Keeps};
+ghost use Rattle.noc_answers.specs.Ending.{Ends};
+ghost use Rattle.noc_answers.specs.Answer.{Asks, ToldFault};
+ghost use Rattle.noc_commands.specs.Workers.{HasWorkers, workers_of};
+ghost use Rattle.noc_program.specs.Ending.{EndsAs, IsOnDevice, IsUntouched};
+
+use crate::counted::Counted;
+use noc_answers::{Request, answer};
+use noc_faults::{Fault, Status};
+use noc_files::{InputFault, Out, WriteFault};
+use std::alloc::Global;
+use std::io::{BufWriter, Write};
+use std::sync::Wait;
+use std::thread::Threads;
+
+/// Writes the answer to a device, through a buffer, and gives the device back: none where there is no memory for the buffer.
+pub fn write_answer<R: Threads + Wait + Sync, W: Write + Drop>(
+    rt: &R,
+    alloc: Global,
+    request: &Request,
+    device: W,
+) -> (Result<Status, Fault>, Option<W>)
+    requires { HasWorkers request.now.command }
+    ensures { Ends (workers_of request.now.command) (IsOnDevice W.contents device result.1) (IsUntouched device result.1) (Asks request.now) (ToldFault request.now) result.0 }
+{
+    let writer = match BufWriter::new(alloc, Counted::new(device)) {
+        Ok(writer) => writer,
+        Err(_) => return (Err(Fault::Config(InputFault::Memory)), None),
+    };
+    let mut out = Out::new(writer);
+    let answered = answer(rt, alloc, request, &mut out);
+    let mut writer = out.into_inner();
+    let ended = finished(answered, &mut writer);
+    // What a fault left in the buffer goes nowhere.
+    let (counted, _) = writer.into_parts();
+    (ended, Some(counted.into_inner()))
+}
+
+// How an answer ends: a whole one goes out to its last byte, and a fault of writing has the number that was counted below the buffer.
+fn finished<W: Write + Drop>(
+    answered: Result<Status, Fault>,
+    writer: &mut BufWriter<Counted<W>>,
+) -> Result<Status, Fault>
+    ensures ends { EndsAs (writer_buffer writer.new ≡ []) (writer_inner writer.new).taken answered result }
+    ensures bytes { Keeps (writer_contents (λ device. W.contents device.writer) writer.old) (writer_contents (λ device. W.contents device.writer) writer.new) }
+    ensures still { IsErr answered → writer.new ≡ writer.old }
+{
+    match answered {
+        Ok(status) if writer.flush().is_ok() => Ok(status),
+        Ok(_) | Err(Fault::Write(_)) => Err(Fault::Write(WriteFault {
+            written: writer.get_ref().taken(),
+        })),
+        Err(fault) => Err(fault),
+    }
+}

@@ -1,0 +1,12 @@
+//! What the program does, from its words to its exit status: the files that the words name, and the way of an answer out of the program.
+#![tactic(auto)]
+
+mod counted;
+mod device;
+mod faults;
+mod program;
+mod request;
+
+pub use device::write_answer;
+pub use program::run;
+pub use request::request_of;

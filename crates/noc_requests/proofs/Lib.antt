@@ -1,4 +1,0 @@
-pub mod MemoryFacts
-pub mod OutcomeFacts
-pub mod AskedFacts
-pub mod OneSettingsFacts

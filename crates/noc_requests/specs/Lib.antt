@@ -1,6 +1,0 @@
-pub mod Asked
-pub mod Status
-pub mod Line
-pub mod Ending
-pub mod Options
-pub mod Settings

@@ -1,0 +1,69 @@
+-- The command line of the program, as clap parses it.
+use Rattle.std.proofs.Common.{◌≡◌, ◌∙◌, ◌++◌, ◌∷◌, [], List, Option, Some, None, ap, ap₂, inl, inr, refl, subst, true}
+use Rattle.std.specs.Prelude.{◌||◌, option_map}
+use Rattle.clap.proofs.OnLiterals.{clap_on_literals}
+use Rattle.clap.specs.Faults.{fault_of, is_simple_and_free}
+use Rattle.clap.specs.Kinds.{HasKind, IsAmong}
+use Rattle.clap.specs.Values.{kind_of}
+use Rattle.clap.specs.Matches.{found_of, subcommand_name_of}
+use Rattle.clap.specs.Walk.{Row, Rule, Text, rows_of}
+use Rattle.clap.specs.Built.{AddsArg, AddsSubcommand}
+use Rattle.clap.specs.Simple.{App, Shape, app_of, is_simple, subcommand_rows_of, with_rule, with_subcommand}
+use Rattle.clap.specs.declared.builder.arg.Arg.{Arg}
+use Rattle.clap.specs.declared.builder.command.Command.{Command}
+use Rattle.clap.specs.declared.builder.value_parser.ValueParser.{ValueParser}
+use Rattle.clap.specs.declared.error.Error.{Error}
+use Rattle.clap.specs.declared.parser.matches.ArgMatches.{ArgMatches}
+use Rattle.clap.specs.declared.parser.matches.ArgMatches.TheViews.{out-ArgMatches, out-SubCommand}
+use Rattle.std.specs.Box.{box_value}
+use Rattle.noc_words.specs.CommandLine.{IsLeaf, IsWord, TakesReports, command_line}
+use Rattle.noc_words.specs.Words.{IsRefusal, by_rules, no_memory}
+
+-- clap's words tell its matches exactly
+pub line_is_simple : (names : ValueParser) → is_simple (command_line names) ≡ true
+unfolding clap_on_literals
+line_is_simple names = refl
+
+-- clap's words tell the faults exactly, since no word has a rule on another one
+pub line_is_free : (names : ValueParser) → is_simple_and_free (command_line names) ≡ true
+unfolding clap_on_literals
+line_is_free names = refl
+
+-- two parts of what may be there, together
+both : {B X Y : Type 0} (f : B → X) (g : B → Y) (o : Option B) (x : X) (y : Y) → Some x ≡ option_map f o
+    → Some y ≡ option_map (λ (p : X × Y). p.1) (option_map {U = X × Y} (λ b. (f b, g b)) o) → option_map {U = X × Y} (λ b. (f b, g b)) o ≡ Some (x, y)
+both f g None x y first second = absurd cc
+both f g (Some b) x y first second = cc
+
+-- the subcommand that was met, with its rows
+pub met : (m : ArgMatches) (name : Text) (rows : List Row) → Some name ≡ subcommand_name_of m
+    → Some rows ≡ option_map (λ p. p.1) (subcommand_rows_of m) → subcommand_rows_of m ≡ Some (name, rows)
+met m name rows first second =
+    both (λ b. (out-SubCommand (box_value b)).name.now) (λ b. rows_of (found_of (out-SubCommand (box_value b)).matches)) (out-ArgMatches m).subcommand name rows first second
+
+-- where no subcommand was met, there are no rows of one
+pub none-met : (m : ArgMatches) → None ≡ option_map (λ p. p.1) (subcommand_rows_of m) → subcommand_rows_of m ≡ None
+none-met m rows = unmapped (subcommand_rows_of m) rows
+  where
+    unmapped : (o : Option (Text × List Row)) → None ≡ option_map (λ p. p.1) o → o ≡ None
+    unmapped None none = refl
+    unmapped (Some p) none = absurd cc
+
+-- why clap refuses the words of the program
+pub refused-by : (names : ValueParser) → TakesReports names → (app : App) → app ≡ command_line names → (texts : List Text) (error : Error)
+    → HasKind (fault_of app texts) error → IsRefusal texts error
+refused-by names reports app same texts error (inl memory) = no_memory memory
+refused-by names reports app same texts error (inr kind) = by_rules names reports (subst (λ (a : App). IsAmong (kind_of error) (fault_of a texts)) same kind)
+
+-- a command with one more word
+pub with_word : (old : Command) (arg : Arg) (new : Command) (shape : Shape) (rule : Rule) → IsLeaf shape old → IsWord rule arg → AddsArg old arg new
+    → IsLeaf (record shape { rules = shape.rules ++ rule ∷ [] }) new
+with_word old arg new shape rule leaf word adds = (
+  adds.shape word.1 ∙ ap₂ with_rule leaf.0 word.0,
+  adds.globals ∙ ap₂ (λ a b. a || b) leaf.1 word.1,
+)
+
+-- a program with one more command
+pub with_command : (old sub new : Command) (app : App) (shape : Shape) → app_of old ≡ app → IsLeaf shape sub → AddsSubcommand old sub new
+    → app_of new ≡ with_subcommand app shape
+with_command old sub new app shape so_far leaf adds = adds.shape leaf.1 ∙ ap₂ with_subcommand so_far (ap (λ (a : App). a.top) leaf.0)

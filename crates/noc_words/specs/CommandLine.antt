@@ -1,0 +1,82 @@
+-- The command line of the program as data: its commands, with the words that each takes.
+use Rattle.std.specs.Prelude.{◌≡◌, List, [], ◌∷◌, true, false, Some, codes, map}
+use Rattle.clap.specs.Simple.{new_shape}
+use Rattle.clap.specs.Words.{App, Rule, Shape, Text, app_of, new_rule, rule_of}
+use Rattle.clap.specs.declared.builder.arg.Arg.{Arg}
+use Rattle.clap.specs.declared.builder.action.ArgAction.TheVariants.{SetTrue}
+use Rattle.clap.specs.declared.builder.command.Command.{Command}
+use Rattle.clap.specs.declared.builder.command.Command.TheViews.{out-Command}
+use Rattle.clap.specs.declared.builder.value_parser.ValueParser.{ValueParser}
+use Rattle.clap.specs.declared.builder.value_parser.ValueParser.TheVariants as value
+use Rattle.noc_commands.specs.Reports.{report_words}
+
+-- a file that has to be named
+abbrev pub file_word : Text → Rule
+file_word id = record (new_rule id) { required = true }
+
+-- an option with a value
+abbrev pub option_word : Text → Rule
+option_word id = record (new_rule id) { long = Some id; value_names = 1 }
+
+-- whose value is a number of 64 bits
+abbrev pub number_word : Text → Rule
+number_word id = record (option_word id) { parser = Some (value.Unsigned 0 18446744073709551615) }
+
+abbrev pub required_word : Rule → Rule
+required_word rule = record rule { required = true }
+
+abbrev pub workers_word : Rule
+workers_word = record (number_word (codes "workers")) { defaults = codes "1" ∷ [] }
+
+-- an option without a value
+abbrev pub flag_word : Text → Rule
+flag_word id = record (new_rule id) { long = Some id; action = Some SetTrue }
+
+abbrev pub drain_word : Rule
+drain_word = flag_word (codes "drain")
+
+-- the parser takes the names of the reports
+abbrev pub TakesReports : ValueParser → Type 0
+TakesReports (value.Names names) = map (λ name. name.now) names.now ≡ report_words
+TakesReports _ = ⊥
+
+abbrev pub report_word : ValueParser → Rule
+report_word names = record (option_word (codes "report")) { parser = Some names; defaults = codes "latency" ∷ [] }
+
+abbrev pub command_shape : Text → List Rule → Shape
+command_shape name rules = record (new_shape name) { rules = rules }
+
+abbrev pub run_shape : ValueParser → Shape
+run_shape names = command_shape (codes "run") (file_word (codes "CONFIG") ∷ file_word (codes "TRAFFIC") ∷ option_word (codes "table") ∷ option_word (codes "ranks") ∷ workers_word ∷ drain_word ∷ report_word names ∷ [])
+
+abbrev pub explain_shape : Shape
+explain_shape = command_shape (codes "explain") (file_word (codes "CONFIG") ∷ file_word (codes "TRAFFIC") ∷ required_word (number_word (codes "cycle")) ∷ required_word (number_word (codes "router")) ∷ option_word (codes "table") ∷ [])
+
+abbrev pub trace_shape : Shape
+trace_shape = command_shape (codes "trace") (file_word (codes "CONFIG") ∷ file_word (codes "TRAFFIC") ∷ number_word (codes "from") ∷ number_word (codes "to") ∷ number_word (codes "router") ∷ number_word (codes "packet") ∷ flag_word (codes "changes") ∷ option_word (codes "table") ∷ [])
+
+abbrev pub check_shape : Shape
+check_shape = command_shape (codes "check") (file_word (codes "CONFIG") ∷ required_word (option_word (codes "ranks")) ∷ option_word (codes "table") ∷ [])
+
+abbrev pub ranks_shape : Shape
+ranks_shape = command_shape (codes "ranks") (file_word (codes "CONFIG") ∷ option_word (codes "table") ∷ [])
+
+abbrev pub command_line : ValueParser → App
+command_line names = record {
+  top = record (new_shape (codes "noc")) { is_leaf = false };
+  subs = run_shape names ∷ explain_shape ∷ trace_shape ∷ check_shape ∷ ranks_shape ∷ [];
+}
+
+-- ---- what clap holds of them
+
+-- the argument has these rules, in its own command
+abbrev pub IsWord : Rule → Arg → Type 0
+IsWord rule arg = (rule_of arg ≡ rule) × (arg.global ≡ false)
+
+-- the command has these words and no command below it
+abbrev pub IsLeaf : Shape → Command → Type 0
+IsLeaf shape command = (app_of command ≡ record { top = shape; subs = [] }) × ((out-Command command).has_globals ≡ false)
+
+-- the command is the program's
+abbrev pub IsProgram : Command → Type 0
+IsProgram command = (names : ValueParser) × TakesReports names × (app_of command ≡ command_line names)

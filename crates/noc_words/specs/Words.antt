@@ -1,0 +1,93 @@
+-- What the words of the command line say.
+use Rattle.std.specs.Prelude.{◌≡◌, ◌≢◌, ◌⊎◌, ◌<◌, ◌≤◌, ◌^◌, ℕ, All, Bool, true, false, List, [], Option, Some, None, codes, option_map, unwrap_or}
+use Rattle.std.specs.Str.Parse.{IsNumeral, digits_value, without_leading_plus}
+use Rattle.clap.specs.Kinds.{IsAmong}
+use Rattle.clap.specs.Words.{Text, fault_of, first_value, kind_of, one_text, rows_of, subcommand_of}
+use Rattle.clap.specs.declared.builder.value_parser.ValueParser.{ValueParser}
+use Rattle.clap.specs.declared.error.Error.{Error}
+use Rattle.clap.specs.declared.error.kind.ErrorKind.TheVariants.{MissingSubcommand, OutOfMemory, ValueValidation}
+use Rattle.clap.specs.declared.parser.matches.Found.{Found}
+use Rattle.noc_commands.specs.declared.command.Command.{Command}
+use Rattle.noc_commands.specs.declared.command.Command.TheVariants.{Joined, Run, Explain, Trace, Check, Ranks}
+use Rattle.noc_commands.specs.declared.report.Report.{Report}
+use Rattle.noc_commands.specs.declared.report.Report.TheVariants.{Latency}
+use Rattle.noc_commands.specs.declared.command.TheConstants.{MAX_WORKERS}
+use Rattle.noc_commands.specs.Reports.{report_words, word_of}
+use Rattle.noc_words.specs.CommandLine.{TakesReports, command_line}
+use Rattle.noc_words.specs.declared.words.Words.{Words}
+
+-- a number of 64 bits in decimal digits, with or without a plus before them
+abbrev pub IsNumber : List ℕ → Type 0
+IsNumber text = IsNumeral 10 (without_leading_plus text) × (digits_value 10 (without_leading_plus text) < 2 ^ 64)
+
+-- the number that a word says, and the other one where there is no word. (A word that is no number stands for the other one too, so that
+-- this holds of some number whatever is found; `clap`'s rules refuse such a word before anything is asked for.)
+abbrev pub IsSaid : Option (List ℕ) → ℕ → ℕ → Type 0
+IsSaid None other n = n ≡ other
+IsSaid (Some text) other n = (IsNumber text × (n ≡ digits_value 10 (without_leading_plus text))) ⊎ ((IsNumber text → ⊥) × (n ≡ other))
+
+-- the number that a word says, if there is a word and it is a number (no other word comes through `clap`'s rules)
+abbrev pub IsSaidIfAny : Option (List ℕ) → Option ℕ → Type 0
+IsSaidIfAny None n = n ≡ None
+IsSaidIfAny (Some text) (Some n) = IsNumber text × (n ≡ digits_value 10 (without_leading_plus text))
+IsSaidIfAny (Some text) None = IsNumber text → ⊥
+
+-- this number of workers, if it is 1 to 16
+abbrev pub IsWorkers : ℕ → Option ℕ → Type 0
+IsWorkers n (Some workers) = workers ≡ n
+IsWorkers n None = (n < 1) ⊎ (MAX_WORKERS < n)
+
+-- the number of workers that the words say, which is 1 where they say none
+abbrev pub SaysWorkers : Found → ℕ → Type 0
+SaysWorkers found workers = IsSaid (one_text found (codes "workers")) 1 workers
+
+-- the report that a word names, and the latency report where it names none
+abbrev pub IsReport : Option Text → Report → Type 0
+IsReport word report = (word ≡ Some (word_of report)) ⊎ (All (λ other. word ≢ Some other) report_words × (report ≡ Latency))
+
+-- whether a flag is up
+pub record IsFlag (word : Option Text) (is_up : Bool) : Type 0 where
+  pub none : word ≡ None → is_up ≡ false
+  pub up : word ≡ Some (codes "true") → is_up ≡ true
+  pub down : word ≡ Some (codes "false") → is_up ≡ false
+
+-- the command of a name, by what is found of its words
+abbrev pub IsCommand : Found → Text → Command → Type 0
+IsCommand found name Joined = ⊥
+IsCommand found name (Run workers report drain) = (name ≡ codes "run") × SaysWorkers found workers × (0 < workers) × (workers ≤ MAX_WORKERS) × IsReport (first_value found (codes "report")) report × IsFlag (one_text found (codes "drain")) drain
+IsCommand found name (Explain cycle router) = (name ≡ codes "explain") × IsSaid (one_text found (codes "cycle")) 0 cycle × IsSaid (one_text found (codes "router")) 0 router
+IsCommand found name (Trace from to router packet changes) = (name ≡ codes "trace") × IsSaidIfAny (one_text found (codes "from")) from × IsSaidIfAny (one_text found (codes "to")) to
+    × IsSaidIfAny (one_text found (codes "router")) router × IsSaidIfAny (one_text found (codes "packet")) packet × IsFlag (one_text found (codes "changes")) changes
+IsCommand found name Check = name ≡ codes "check"
+IsCommand found name Ranks = name ≡ codes "ranks"
+
+-- no command has the name, or it is `run` with no worker or more than MAX_WORKERS
+abbrev pub IsNoCommand : Found → Text → Type 0
+IsNoCommand found name = ((name ≡ codes "run") × ((n : ℕ) × SaysWorkers found n × ((n < 1) ⊎ (MAX_WORKERS < n))))
+    ⊎ ((name ≢ codes "run") × (name ≢ codes "explain") × (name ≢ codes "trace") × (name ≢ codes "check") × (name ≢ codes "ranks"))
+
+-- the names of a command's files
+pub record NamesFiles (found : Found) (words : Words) : Type 0 where
+  pub config : words.config.now ≡ unwrap_or (first_value found (codes "CONFIG")) []
+  pub table : option_map (λ name. name.now) words.table ≡ first_value found (codes "table")
+  pub ranks : option_map (λ name. name.now) words.ranks ≡ first_value found (codes "ranks")
+  pub traffic : option_map (λ name. name.now) words.traffic ≡ first_value found (codes "TRAFFIC")
+
+-- the words behind the program's name name a command, and this is what they say of it
+pub record IsAskedBy (texts : List Text) (words : Words) : Type 0 where
+  pub names : ValueParser
+  pub reports : TakesReports names
+  pub name : Text
+  pub found : Found
+  pub said : subcommand_of (command_line names) texts ≡ Some (name, rows_of found)
+  pub command : IsCommand found name words.command
+  pub files : NamesFiles found words
+
+-- why the words are refused: memory ran out; clap's rules find this fault in them, or a request for help; they name no
+-- command; they ask for no worker, or for more than MAX_WORKERS
+pub data IsRefusal (texts : List Text) (error : Error) : Type 0 where
+  no_memory : kind_of error ≡ OutOfMemory → IsRefusal texts error
+  by_rules : (names : ValueParser) → TakesReports names → IsAmong (kind_of error) (fault_of (command_line names) texts) → IsRefusal texts error
+  no_command : (names : ValueParser) → TakesReports names → subcommand_of (command_line names) texts ≡ None → kind_of error ≡ MissingSubcommand → IsRefusal texts error
+  by_workers : (names : ValueParser) (name : Text) (found : Found) → TakesReports names → subcommand_of (command_line names) texts ≡ Some (name, rows_of found)
+      → IsNoCommand found name → kind_of error ≡ ValueValidation → IsRefusal texts error
