@@ -1,5 +1,5 @@
 -- What a trace keeps of the cycle before, and the lines that follow from it.
-use Rattle.std.proofs.Common.{◌≡◌, ◌∙◌, ℕ, zero, suc, ◌+◌, ◌-◌, ◌*◌, ◌<◌, ◌≤◌, Bool, true, false, List, [], ◌∷◌, length, map, option_map, set, Option, Some, None, refl, ap, ap₂, sym, subst, arith, add-one, get_or, replicate}
+use Rattle.std.proofs.Common.{◌≡◌, ◌∙◌, ℕ, zero, suc, ◌+◌, ◌-◌, ◌*◌, ◌<◌, ◌≤◌, Bool, true, false, List, [], ◌∷◌, length, map, option_map, set, Option, Some, None, refl, ap, ap₂, sym, subst, arith, add-one, get_or, replicate, ◌++◌, add-zero, append-nil, flat_map}
 use Rattle.std.specs.Prelude.{◌||◌, nat_lt, option_and_then, slice_get, unwrap_or, if◌then◌else◌}
 use Rattle.std.specs.List.{list_any}
 use Rattle.std.specs.Option.{IfSome}
@@ -8,7 +8,7 @@ use Rattle.std.proofs.lemmas.List.{get_or-replicate, length-replicate}
 use Rattle.std.proofs.lemmas.List.Folds.{list_any-append}
 use Rattle.std.proofs.lemmas.Option.{slice_get-get_or, slice_get-map, slice_get_past, slice_get_within}
 use Rattle.noc_topo.proofs.WordLemmas.{length-tabulate}
-use Rattle.noc_topo.specs.Shape.{nodes, ports}
+use Rattle.noc_topo.specs.Shape.{Grid, nodes, ports}
 use Rattle.noc_topo.specs.Words.{below}
 use Rattle.noc_packet.specs.Set.{has_bit}
 use Rattle.noc_route.specs.Routes.{Routes}
@@ -18,9 +18,9 @@ use Rattle.noc_router.specs.declared.verdict.Finding.{Finding}
 use Rattle.noc_net.specs.Lockstep.{findings_before, findings_in_cycle, finding_in}
 use Rattle.noc_net.specs.Network.{Run, Setup, arriving, frozen_at, size}
 use Rattle.noc_files.specs.Channels.{is_input, lines_of_port, over_router}
-use Rattle.noc_files.specs.Trace.{AreRows, cycle_text, has_below, is_same, kept_at, kept_line, line_if_new, nothing_found, over_traced, traced_finding, told_at, told_before, trace_line, traced_line}
+use Rattle.noc_files.specs.Trace.{AreRows, cycle_text, has_below, is_same, kept_at, kept_line, line_if_new, member_text, nothing_found, over_traced, traced_finding, told_at, told_before, trace_line, traced_line}
 use Rattle.noc_files.specs.declared.trace.Traced.{Traced}
-use Rattle.noc_files.proofs.BelowFacts.{below_more, each_same}
+use Rattle.noc_files.proofs.BelowFacts.{below_more, each_more, each_same}
 use Rattle.noc_files.proofs.ListFacts.{slice_get-set_other, slice_get-set_same}
 
 -- ---- lists
@@ -201,3 +201,47 @@ line_is u traced rows n r port vc i before now f place was is other shown =
   where
     new_line : (b a : Option Finding) → is_same b a ≡ false → line_if_new u.net n r port vc b a ≡ trace_line u.net n r port vc (unwrap_or a empty_finding)
     new_line b a e = ap (λ same. if same then [] else trace_line u.net n r port vc (unwrap_or a empty_finding)) e
+
+-- ---- indices that are passed by
+
+or_false : (b : Bool) → (b || false) ≡ b
+or_false true = refl
+or_false false = refl
+
+or_true : (b : Bool) → (b || true) ≡ true
+or_true true = refl
+or_true false = refl
+
+has_as_many : (set m d : ℕ) → ((k : ℕ) → m ≤ k → k < m + d → has_bit set k ≡ false) → has_below set (m + d) ≡ has_below set m
+has_as_many set m zero none = ap (has_below set) (add-zero m)
+has_as_many set m (suc d) none =
+    let next : m + suc d ≡ m + d + 1 = omega arith in
+    ap (has_below set) next ∙ has_more set (m + d) ∙ ap (λ b. has_below set (m + d) || b) (none (m + d) (omega arith) (omega arith)) ∙ or_false (has_below set (m + d))
+    ∙ has_as_many set m d (λ k low high. none k low (omega (arith, high)))
+
+says_as_much : (text : ℕ → List ℕ) (m d : ℕ) → ((k : ℕ) → m ≤ k → k < m + d → text k ≡ []) → flat_map text (below (m + d)) ≡ flat_map text (below m)
+says_as_much text m zero none = ap (λ n. flat_map text (below n)) (add-zero m)
+says_as_much text m (suc d) none =
+    let next : m + suc d ≡ m + d + 1 = omega arith in
+    ap (λ n. flat_map text (below n)) next ∙ each_more text (m + d) ∙ ap (λ (t : List ℕ). flat_map text (below (m + d)) ++ t) (none (m + d) (omega arith) (omega arith))
+    ∙ append-nil (flat_map text (below (m + d))) ∙ says_as_much text m d (λ k low high. none k low (omega (arith, high)))
+
+module _ (g : Grid) (vcs set : ℕ) where
+  -- where an index is no member, nothing is said of it
+  no_member : (k : ℕ) → has_bit set k ≡ false → member_text g vcs set k ≡ []
+  no_member k other = rw other refl
+
+  pub passed_some : (m n : ℕ) → m ≤ n → ((k : ℕ) → m ≤ k → k < n → has_bit set k ≡ false) → has_below set n ≡ has_below set m
+  passed_some m n order none =
+      let whole : n ≡ m + (n - m) = omega (arith, order) in
+      ap (has_below set) whole ∙ has_as_many set m (n - m) (λ k low high. none k low (omega (arith, high, order)))
+
+  pub passed_text : (m n : ℕ) → m ≤ n → ((k : ℕ) → m ≤ k → k < n → has_bit set k ≡ false) → flat_map (member_text g vcs set) (below n) ≡ flat_map (member_text g vcs set) (below m)
+  passed_text m n order none =
+      let whole : n ≡ m + (n - m) = omega (arith, order) in
+      ap (λ j. flat_map (member_text g vcs set) (below j)) whole
+      ∙ says_as_much (member_text g vcs set) m (n - m) (λ k low high. no_member k (none k low (omega (arith, high, order))))
+
+  -- once a member is on the page, it is so up to the next one
+  pub member_more : (i n : ℕ) → has_bit set i ≡ true → i + 1 ≤ n → ((k : ℕ) → i + 1 ≤ k → k < n → has_bit set k ≡ false) → has_below set n ≡ true
+  member_more i n member order none = passed_some (i + 1) n order none ∙ has_more set i ∙ ap (λ m. has_below set i || m) member ∙ or_true (has_below set i)

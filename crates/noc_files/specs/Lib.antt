@@ -18,3 +18,4 @@ pub mod Plain
 pub mod Channels
 pub mod Columns
 pub mod Ranks
+pub mod Word

@@ -1,42 +1,40 @@
 //! The report of a router's findings in one cycle (docs/FORMATS.md).
 
-ghost use Rattle.std.specs.Prelude.{ℕ, ◌≡◌, ◌+◌, ◌<◌, ◌≤◌, ◌++◌, length};
+ghost use Rattle.std.specs.Prelude.{ℕ, ◌≡◌, ◌+◌, ◌<◌, ◌≤◌, ◌++◌, length, Some};
 ghost use Rattle.noc_net.specs.Network.{Run};
 ghost use Rattle.noc_topo.specs.Shape.{nodes, ports};
 ghost use Rattle.noc_files.specs.Channels.{AreInputs};
-ghost use Rattle.noc_files.specs.Findings.{finding_header, finding_line, findings_text, found_line, out_name, verdict_text, verdict_word};
+ghost use Rattle.noc_files.specs.Findings.{finding_header, finding_line, findings_text, found_line, out_name, verdict_word};
+ghost use Rattle.noc_files.specs.Word.{AreWords};
 ghost use Rattle.noc_files.specs.Writing.{Wrote, dash_or};
+ghost use Rattle.noc_packet.specs.declared.limits.TheConstants.{MAX_CHANNELS};
 ghost use Rattle.noc_files.specs.declared.page.TheConstants.{PAGE};
 
 use crate::inputs::{Inputs, inputs_of};
 use crate::listing::{Lines, write_router};
 use crate::page::Page;
-use crate::ports::{known_name, port_name};
+use crate::ports::port_name;
 use crate::sink::Sink;
+use crate::words::Words;
 use crate::writing::WriteFault;
 use noc_net::Network;
 use noc_route::Relation;
 use noc_router::{Finding, Verdict};
 use noc_topo::Shape;
 
-// Adds an output channel, or a dash where there is none.
-pub(crate) fn add_out(shape: &Shape, out: Option<(usize, usize)>, page: &mut Page)
+// Adds an output channel.
+pub(crate) fn add_out(shape: &Shape, port: usize, vc: usize, page: &mut Page)
     requires room { length page.old + 26 ≤ PAGE }
-    ensures added { page.new ≡ page.old ++ out_name shape.now out }
+    ensures added { page.new ≡ page.old ++ out_name shape.now (Some (port, vc)) }
     ensures short { length page.new ≤ length page.old + 26 }
 {
-    match out {
-        Some((port, vc)) => {
-            page.add(port_name(shape, port).unwrap_or("-"));
-            page.add_byte(b'.');
-            page.add_number(vc as u64);
-        }
-        None => page.add_byte(b'-'),
-    }
+    page.add(port_name(shape, port).unwrap_or("-"));
+    page.add_byte(b'.');
+    page.add_number(vc as u64);
 }
 
 // The name of a verdict.
-fn verdict_name(verdict: Verdict) -> &'static str
+pub(crate) fn verdict_name(verdict: Verdict) -> &'static str
     ensures text { result.now ≡ verdict_word verdict }
     ensures short { length result.now ≤ 13 }
 {
@@ -55,7 +53,8 @@ fn verdict_name(verdict: Verdict) -> &'static str
 }
 
 // Adds the number of a packet, or a dash where there is none.
-fn add_packet(packet: Option<u32>, page: &mut Page)
+#[inline]
+pub(crate) fn add_packet(packet: Option<u32>, page: &mut Page)
     requires room { length page.old + 20 ≤ PAGE }
     ensures added { page.new ≡ page.old ++ dash_or packet }
     ensures short { length page.new ≤ length page.old + 20 }
@@ -66,32 +65,24 @@ fn add_packet(packet: Option<u32>, page: &mut Page)
     }
 }
 
-// Adds an input channel by its port and its number, its verdict and its packet.
-pub(crate) fn add_verdict(shape: &Shape, port: usize, vc: usize, finding: &Finding, page: &mut Page)
-    requires port { port < ports shape.now }
-    requires room { length page.old + 62 ≤ PAGE }
-    ensures added { page.new ≡ page.old ++ verdict_text shape.now port vc finding.now }
-    ensures short { length page.new ≤ length page.old + 62 }
-{
-    page.add(known_name(shape, port));
-    page.add_byte(b',');
-    page.add_number(vc as u64);
-    page.add_byte(b',');
-    page.add(verdict_name(finding.verdict));
-    page.add_byte(b',');
-    add_packet(finding.packet, page);
-    page.add_byte(b',');
-}
-
 // Adds the line of an input channel.
-fn add_finding(shape: &Shape, port: usize, vc: usize, finding: &Finding, page: &mut Page)
-    requires port { port < ports shape.now }
-    requires room { length page.old + 89 ≤ PAGE }
-    ensures added { page.new ≡ page.old ++ finding_line shape.now port vc finding.now }
-    ensures short { length page.new ≤ length page.old + 89 }
+fn add_finding(
+    relation: &Relation,
+    words: &Words,
+    port: usize,
+    vc: usize,
+    finding: &Finding,
+    page: &mut Page,
+)
+    requires words { AreWords relation.now words.now }
+    requires port { port < ports relation.now.grid }
+    requires vc { vc < MAX_CHANNELS }
+    requires room { length page.old + 118 ≤ PAGE }
+    ensures added { page.new ≡ page.old ++ finding_line relation.now.grid port vc finding.now }
+    ensures short { length page.new ≤ length page.old + 118 }
 {
-    add_verdict(shape, port, vc, finding, page);
-    add_out(shape, finding.out, page);
+    words.add_verdict(relation, port, vc, finding, page);
+    words.add_out(relation, finding.out, page);
     page.add_byte(b'\n');
 }
 
@@ -101,7 +92,9 @@ struct Found<'a> {
     relation: &'a Relation,
     findings: &'a [Finding],
     inputs: Inputs,
+    words: Words,
     ghost known: { AreInputs relation.now.grid inputs },
+    ghost named: { AreWords relation.now words },
 }
 
 impl<'a> Lines for Found<'a> {
@@ -131,7 +124,7 @@ impl<'a> Lines for Found<'a> {
 
     fn add_line(&self, _: usize, port: usize, vc: usize, page: &mut Page) {
         match self.findings.get(port * self.relation.vcs() + vc) {
-            Some(finding) => add_finding(self.relation.shape(), port, vc, finding, page),
+            Some(finding) => add_finding(self.relation, &self.words, port, vc, finding, page),
             None => {}
         }
     }
@@ -154,6 +147,7 @@ pub fn write_findings<W: Sink>(
         relation,
         findings: network.findings(router),
         inputs: inputs_of(relation.shape()),
+        words: Words::of(relation),
     };
     write_router("port,vc,verdict,packet,out\n", &found, router, sink)
 }

@@ -20,6 +20,8 @@ mod summary;
 mod table;
 mod trace;
 mod traffic;
+mod word;
+mod words;
 mod writing;
 
 pub use configuration::{

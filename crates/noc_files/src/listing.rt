@@ -6,7 +6,7 @@ ghost use Rattle.noc_topo.specs.Shape.{Grid, nodes, ports};
 ghost use Rattle.noc_topo.specs.Words.{below};
 ghost use Rattle.noc_files.specs.Channels.{AreInputs, is_input, lines_of_port, lines_of_router, lines_of_routers};
 ghost use Rattle.noc_files.specs.Writing.{Puts, Wrote};
-ghost use Rattle.noc_files.specs.declared.listing.TheConstants.{LONGEST_LINE, LONGEST_PORT};
+ghost use Rattle.noc_files.specs.declared.listing.TheConstants.{LONGEST_LINE, LONGEST_PORT, LONGEST_ROUTER};
 ghost use Rattle.noc_files.specs.declared.page.TheConstants.{PAGE};
 
 use crate::inputs::{Inputs, has_input};
@@ -17,7 +17,7 @@ use noc_packet::{MAX_CHANNELS, MAX_NODES, MAX_PORTS};
 use noc_topo::Shape;
 
 // The most bytes of the line on a channel, and of the lines on a port, a router and all routers.
-pub(crate) const LONGEST_LINE: u64 = 1644;
+pub(crate) const LONGEST_LINE: u64 = 2048;
 
 const LONGEST_PORT: u64 = LONGEST_LINE * MAX_CHANNELS as u64;
 
@@ -56,14 +56,6 @@ pub(crate) trait Lines {
         ensures value { result ≡ vcs self.now }
         ensures few { result ≤ MAX_CHANNELS };
 
-    // Whether a look at a router shows that there are no lines on any of its channels.
-    fn is_silent(&self, router: usize) -> bool
-        requires { router < nodes (grid self.now) }
-        ensures { result ≡ true → (port vc : ℕ) → said self.now router port vc ≡ [] }
-    {
-        false
-    }
-
     // Adds the lines on a channel of an input port that is local or has a link.
     fn add_line(&self, router: usize, port: usize, vc: usize, page: &mut Page)
         requires router { router < nodes (grid self.now) }
@@ -75,40 +67,43 @@ pub(crate) trait Lines {
         ensures short { length page.new ≤ length page.old + LONGEST_LINE };
 }
 
-// Fills a page with the lines on the channels of an input port that is local or has a link.
-fn fill<L: Lines>(lines: &L, router: usize, port: usize, page: &mut Page)
+// Adds the lines on the channels of an input port that is local or has a link.
+fn add_channels<L: Lines>(lines: &L, router: usize, port: usize, page: &mut Page)
     requires router { router < nodes (L.grid lines.now) }
     requires port { port < L.listed lines.now }
     requires input { is_input (L.grid lines.now) router port ≡ true }
-    ensures said { page.new ≡ flat_map (L.said lines.now router port) (below (L.vcs lines.now)) }
-    ensures short { length page.new ≤ LONGEST_PORT }
+    requires room { length page.old + LONGEST_PORT ≤ PAGE }
+    ensures said { page.new ≡ page.old ++ flat_map (L.said lines.now router port) (below (L.vcs lines.now)) }
+    ensures short { length page.new ≤ length page.old + LONGEST_PORT }
 {
-    page.clear();
     for vc in 0..lines.vcs() {
         lines.add_line(router, port, vc, page);
     }
 }
 
-// Puts the lines on an input port, if it is local or has a link.
-fn put_port<L: Lines, W: Sink>(
-    lines: &L,
-    router: usize,
-    port: usize,
-    page: &mut Page,
-    sink: &mut W,
-    before: u64,
-) -> Result<u64, WriteFault>
+// Adds the lines on a port, if it is local or has a link.
+fn add_port<L: Lines>(lines: &L, router: usize, port: usize, page: &mut Page)
     requires router { router < nodes (L.grid lines.now) }
     requires port { (port < L.listed lines.now) × (port < ports (L.grid lines.now)) }
-    requires room { before + LONGEST_PORT < 2 ^ 64 }
-    ensures puts { Puts W.contents W.has_failed sink.old sink.new before (lines_of_port (L.grid lines.now) (L.vcs lines.now) router (L.said lines.now router) port) result }
-    ensures short { IfOk result (λ n. n ≤ before + LONGEST_PORT) }
+    requires room { length page.old + LONGEST_PORT ≤ PAGE }
+    ensures said { page.new ≡ page.old ++ lines_of_port (L.grid lines.now) (L.vcs lines.now) router (L.said lines.now router) port }
+    ensures short { length page.new ≤ length page.old + LONGEST_PORT }
 {
-    if !has_input(lines.shape(), lines.inputs(), router, port) {
-        return Ok(before);
+    if has_input(lines.shape(), lines.inputs(), router, port) {
+        add_channels(lines, router, port, page);
     }
-    fill(lines, router, port, page);
-    put_all(sink, page.text(), before)
+}
+
+// Fills a page with the lines on a router.
+fn fill<L: Lines>(lines: &L, router: usize, page: &mut Page)
+    requires { router < nodes (L.grid lines.now) }
+    ensures said { page.new ≡ lines_of_router (L.grid lines.now) (L.listed lines.now) (L.vcs lines.now) router (L.said lines.now router) }
+    ensures short { length page.new ≤ LONGEST_ROUTER }
+{
+    page.clear();
+    for port in 0..lines.listed() {
+        add_port(lines, router, port, page);
+    }
 }
 
 // Puts the lines on a router.
@@ -124,14 +119,8 @@ pub(crate) fn put_router<L: Lines, W: Sink>(
     ensures puts { Puts W.contents W.has_failed sink.old sink.new before (lines_of_router (L.grid lines.now) (L.listed lines.now) (L.vcs lines.now) router (L.said lines.now router)) result }
     ensures short { IfOk result (λ n. n ≤ before + LONGEST_ROUTER) }
 {
-    if lines.is_silent(router) {
-        return Ok(before);
-    }
-    let mut written = before;
-    for port in 0..lines.listed() {
-        written = put_port(lines, router, port, page, sink, written)?;
-    }
-    Ok(written)
+    fill(lines, router, page);
+    put_all(sink, page.text(), before)
 }
 
 // Puts the lines on all routers.

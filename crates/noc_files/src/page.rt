@@ -1,13 +1,16 @@
-//! The lines on a port, which are put together before they go into a sink.
+//! The lines on a router, which are put together before they go into a sink.
 
 ghost use Rattle.std.specs.Prelude.{◌≡◌, ◌+◌, ◌<◌, ◌≤◌, ◌++◌, [], ◌∷◌, ℕ, List, decimal, length, take};
 ghost use Rattle.std.specs.List.{flat_map};
+ghost use Rattle.noc_files.specs.Word.{word_text};
+ghost use Rattle.noc_files.specs.declared.word.TheConstants.{WORD};
 
+use crate::word::{WORD, Word};
 use itoa::Buffer;
 use std::marker::Model;
 
-/// The most bytes of a page: the lines on all channels of a port.
-pub(crate) const PAGE: usize = 13_152;
+/// The most bytes of a page: the lines on all channels of a router.
+pub(crate) const PAGE: usize = 114_688;
 
 /// Bytes that are put together, as many as there is room for.
 #[derive(Drop)]
@@ -22,7 +25,7 @@ impl Model for Page {
 
     ghost view = { λ s. take s.length s.bytes };
 
-    ghost invariant = { λ s. s.length ≤ 13152 };
+    ghost invariant = { λ s. s.length ≤ 114688 };
 }
 
 impl Page {
@@ -62,6 +65,17 @@ impl Page {
         self.length = end;
     }
 
+    /// Adds a word, and leaves bytes behind it that are not on the page.
+    #[inline]
+    pub(crate) fn add_word(&mut self, word: &Word)
+        requires { length self.old + WORD ≤ PAGE }
+        ensures added { self.new ≡ self.old ++ word_text word.now }
+        ensures short { length self.new ≤ length self.old + WORD }
+    {
+        self.bytes[self.length..self.length + WORD].copy_from_slice(&word.bytes);
+        self.length += word.length;
+    }
+
     /// Adds a byte.
     #[inline]
     pub(crate) fn add_byte(&mut self, byte: u8)
@@ -80,11 +94,86 @@ impl Page {
         ensures added { self.new ≡ self.old ++ decimal number }
         ensures short { length self.new ≤ length self.old + 20 }
     {
-        if number < 10 {
-            self.add_byte(b'0' + number as u8);
+        if number < 100_000 {
+            self.add_five(number as u32);
         } else {
             let mut digits = Buffer::new();
             self.add(digits.format(number));
+        }
+    }
+
+    // Adds a number of one digit.
+    #[inline]
+    fn add_digit(&mut self, number: u32)
+        requires number { number < 10 }
+        requires room { length self.old < PAGE }
+        ensures added { self.new ≡ self.old ++ (48 + number) ∷ [] }
+        ensures long { length self.new ≡ length self.old + 1 }
+    {
+        self.add_byte(b'0' + number as u8);
+    }
+
+    // Adds a number of at most two digits.
+    #[inline]
+    fn add_two(&mut self, number: u32)
+        requires number { number < 100 }
+        requires room { length self.old + 2 ≤ PAGE }
+        ensures added { self.new ≡ self.old ++ decimal number }
+        ensures short { length self.new ≤ length self.old + 2 }
+    {
+        if number < 10 {
+            self.add_digit(number);
+        } else {
+            self.add_digit(number / 10);
+            self.add_digit(number % 10);
+        }
+    }
+
+    // Adds a number of at most three digits.
+    #[inline]
+    fn add_three(&mut self, number: u32)
+        requires number { number < 1000 }
+        requires room { length self.old + 3 ≤ PAGE }
+        ensures added { self.new ≡ self.old ++ decimal number }
+        ensures short { length self.new ≤ length self.old + 3 }
+    {
+        if number < 10 {
+            self.add_digit(number);
+        } else {
+            self.add_two(number / 10);
+            self.add_digit(number % 10);
+        }
+    }
+
+    // Adds a number of at most four digits.
+    #[inline]
+    fn add_four(&mut self, number: u32)
+        requires number { number < 10_000 }
+        requires room { length self.old + 4 ≤ PAGE }
+        ensures added { self.new ≡ self.old ++ decimal number }
+        ensures short { length self.new ≤ length self.old + 4 }
+    {
+        if number < 10 {
+            self.add_digit(number);
+        } else {
+            self.add_three(number / 10);
+            self.add_digit(number % 10);
+        }
+    }
+
+    // Adds a number of at most five digits.
+    #[inline]
+    fn add_five(&mut self, number: u32)
+        requires number { number < 100_000 }
+        requires room { length self.old + 5 ≤ PAGE }
+        ensures added { self.new ≡ self.old ++ decimal number }
+        ensures short { length self.new ≤ length self.old + 5 }
+    {
+        if number < 10 {
+            self.add_digit(number);
+        } else {
+            self.add_four(number / 10);
+            self.add_digit(number % 10);
         }
     }
 

@@ -1,9 +1,10 @@
 //! The trace: what each input channel did in each cycle of a span (docs/FORMATS.md).
 
-ghost use Rattle.std.specs.Prelude.{◌≡◌, ℕ, ◌+◌, ◌*◌, ◌/◌, ◌%◌, ◌-◌, ◌^◌, ◌<◌, ◌≤◌, ◌++◌, [], ◌∷◌, IfOk, IfSome, List, None, Option, Some, codes, decimal, if◌then◌else◌, is_some, length, map, option_and_then, replicate, slice_get, true};
+ghost use Rattle.std.specs.Prelude.{◌≡◌, ℕ, ◌+◌, ◌*◌, ◌/◌, ◌%◌, ◌-◌, ◌^◌, ◌<◌, ◌≤◌, ◌++◌, [], ◌∷◌, IfOk, IfSome, List, None, Option, Some, codes, decimal, false, if◌then◌else◌, length, map, option_and_then, option_map, replicate, slice_get, true};
 ghost use Rattle.std.specs.List.{flat_map};
 ghost use Rattle.noc_topo.specs.Shape.{nodes, ports};
 ghost use Rattle.noc_topo.specs.Words.{below};
+ghost use Rattle.noc_packet.specs.Set.{has_bit};
 ghost use Rattle.noc_packet.specs.declared.limits.TheConstants.{INDICES};
 ghost use Rattle.noc_route.specs.Routes.{Routes as RoutesValue};
 ghost use Rattle.noc_router.specs.Found.{empty_finding};
@@ -15,18 +16,18 @@ ghost use Rattle.noc_files.specs.Findings.{found_line};
 ghost use Rattle.noc_files.specs.Ports.{name_of_port};
 ghost use Rattle.noc_files.specs.Stalls.{channel_counts};
 ghost use Rattle.noc_files.specs.Trace.{AreRows, cycle_text, has_below, finds_empty, is_same, is_traced, kept_at, kept_line, member_text, nothing_found, over_traced, permitted_text, permitted_to, said_by_both, set_text, traced_finding, told_counts, told_text, trace_line, trace_text, traced_line, way_text, when_text, whole};
+ghost use Rattle.noc_files.specs.Word.{AreWords, word_text};
 ghost use Rattle.noc_files.specs.Writing.{Puts, Wrote, comma, text_of_pieces, line_end};
 ghost use Rattle.noc_files.specs.declared.listing.TheConstants.{LONGEST_LINE, LONGEST_LISTING};
 ghost use Rattle.noc_files.specs.declared.page.TheConstants.{PAGE};
 
-use crate::findings::{add_out, add_verdict};
 use crate::inputs::{Inputs, inputs_of};
 use crate::listing::{Lines, put_router, put_routers};
 use crate::page::Page;
-use crate::ports::known_name;
 use crate::sink::Sink;
+use crate::word::Word;
+use crate::words::Words;
 use crate::writing::{WriteFault, put_all};
-use itoa::Buffer;
 use noc_net::{CYCLE_LIMIT, Network};
 use noc_packet::{ChannelSet, Memory};
 use noc_route::Relation;
@@ -77,30 +78,20 @@ impl Trace {
     }
 
     // What was told of an input channel in the cycle before.
-    fn before(&self, router: usize, index: usize) -> Option<Finding>
-        ensures { result ≡ option_and_then (traced_finding self.now.0.packet) (kept_at self.now.1 router index) }
+    fn before(&self, router: usize, index: usize) -> Option<&Finding>
+        ensures { option_map (λ finding. finding.now) result ≡ option_and_then (traced_finding self.now.0.packet) (kept_at self.now.1 router index) }
     {
         let found = self.rows.get(router)?.get(index)?;
         told(self.traced.packet, found)
     }
 
     // What is told of it in the last cycle of a network.
-    fn now(&self, network: &Network, router: usize, index: usize) -> Option<Finding>
+    fn now<'a>(&self, network: &'a Network, router: usize, index: usize) -> Option<&'a Finding>
         requires { router < nodes network.now.net.relation.grid }
-        ensures { result ≡ option_and_then (traced_finding self.now.0.packet) (slice_get (findings_before network.now.net network.now.count router) index) }
+        ensures { option_map (λ finding. finding.now) result ≡ option_and_then (traced_finding self.now.0.packet) (slice_get (findings_before network.now.net network.now.count router) index) }
     {
         let found = network.findings(router).get(index)?;
         told(self.traced.packet, found)
-    }
-
-    // Whether nothing was told of any input channel of a router in the cycle before.
-    fn told_nothing(&self, router: usize) -> bool
-        ensures { result ≡ true → (index : ℕ) → option_and_then (traced_finding self.now.0.packet) (kept_at self.now.1 router index) ≡ None }
-    {
-        match self.rows.get(router) {
-            Some(row) => tells_nothing(self.traced.packet, row),
-            None => true,
-        }
     }
 
     // Keeps what the routers found in the last cycle, in a trace of changes.
@@ -169,38 +160,19 @@ fn is_traced(packet: Option<u64>, held: Option<u32>) -> bool
 }
 
 // What a trace tells of a channel: nothing where it is Empty or not one of those that are traced.
-fn told(packet: Option<u64>, finding: &Finding) -> Option<Finding>
-    ensures { result ≡ traced_finding packet finding.now }
+fn told(packet: Option<u64>, finding: &Finding) -> Option<&Finding>
+    ensures { option_map (λ finding. finding.now) result ≡ traced_finding packet finding.now }
 {
-    if is_told(packet, finding) {
-        Some(*finding)
+    if !matches!(finding.verdict, Verdict::Empty) && is_traced(packet, finding.packet) {
+        Some(finding)
     } else {
         None
     }
 }
 
-// Whether anything is told of it.
-fn is_told(packet: Option<u64>, finding: &Finding) -> bool
-    ensures { result ≡ is_some (traced_finding packet finding.now) }
-{
-    !matches!(finding.verdict, Verdict::Empty) && is_traced(packet, finding.packet)
-}
-
-// Whether nothing is told of any of these channels.
-fn tells_nothing(packet: Option<u64>, findings: &[Finding]) -> bool
-    ensures { result ≡ true → (index : ℕ) → option_and_then (traced_finding packet) (slice_get findings.now index) ≡ None }
-{
-    for finding in findings {
-        if is_told(packet, finding) {
-            return false;
-        }
-    }
-    true
-}
-
 // Whether the same is told.
-fn is_same(before: &Option<Finding>, now: &Option<Finding>) -> bool
-    ensures { result ≡ is_same before.now now.now }
+fn is_same(before: Option<&Finding>, now: Option<&Finding>) -> bool
+    ensures { result ≡ is_same (option_map (λ finding. finding.now) before.entry) (option_map (λ finding. finding.now) now.entry) }
 {
     match (before, now) {
         (None, None) => true,
@@ -234,97 +206,137 @@ fn permitted_to(
     }
 }
 
-// Adds the output channels of a set, by rising index, with a space between.
-fn add_set(relation: &Relation, set: ChannelSet, page: &mut Page)
-    requires room { length page.old + 1512 ≤ PAGE }
-    ensures added { page.new ≡ page.old ++ set_text relation.now set }
-    ensures short { length page.new ≤ length page.old + 1512 }
+// The least member of a set that is no less than an index, of those below a count; the count where there is none.
+#[inline]
+fn next_member(set: ChannelSet, from: usize, count: usize) -> usize
+    requires from { from ≤ count }
+    requires count { count ≤ INDICES }
+    ensures within { (from ≤ result) × (result ≤ count) }
+    ensures least { (k : ℕ) → from ≤ k → k < result → has_bit set k ≡ false }
+    ensures member { result < count → has_bit set result ≡ true }
 {
+    if from == count {
+        return count;
+    }
+    match set.least_from(from) {
+        Some(index) if index < count => index,
+        _ => count,
+    }
+}
+
+// Adds the output channels of a set, by rising index, with a space between.
+fn add_set(relation: &Relation, words: &Words, set: ChannelSet, page: &mut Page)
+    requires words { AreWords relation.now words.now }
+    requires room { length page.old + 1848 ≤ PAGE }
+    ensures added { page.new ≡ page.old ++ set_text relation.now set }
+    ensures short { length page.new ≤ length page.old + 1848 }
+{
+    let count = relation.shape().ports() * relation.vcs();
     let mut has_some = false;
-    for index in 0..relation.shape().ports() * relation.vcs() {
-        if set.contains(index) {
-            add_member(relation, index, has_some, page);
-            has_some = true;
-        }
+    let mut index = next_member(set, 0, count);
+    while index < count {
+        add_member(relation, words, index, has_some, page);
+        has_some = true;
+        index = next_member(set, index + 1, count);
     }
 }
 
 // Adds an output channel, with a space before it where there are some before.
-fn add_member(relation: &Relation, index: usize, has_some: bool, page: &mut Page)
+#[inline]
+fn add_member(relation: &Relation, words: &Words, index: usize, has_some: bool, page: &mut Page)
+    requires words { AreWords relation.now words.now }
     requires index { index < ports relation.now.grid * relation.now.vcs }
-    requires room { length page.old + 27 ≤ PAGE }
+    requires few { index < INDICES }
+    requires room { length page.old + 33 ≤ PAGE }
     ensures added { page.new ≡ page.old ++ text_of_pieces ((if has_some then codes " " else []) ∷ name_of_port relation.now.grid (index / relation.now.vcs) ∷ codes "." ∷ decimal (index % relation.now.vcs) ∷ []) }
-    ensures short { length page.new ≤ length page.old + 27 }
+    ensures short { length page.new ≤ length page.old + 33 }
 {
-    let gap = if has_some { " " } else { "" };
-    let name = known_name(relation.shape(), index / relation.vcs());
-    let mut digits = Buffer::new();
-    page.add_all(&[gap, name, ".", digits.format(index % relation.vcs())]);
+    add_gap(has_some, page);
+    page.add_word(words.channel(relation, index));
 }
 
-// Adds the output channels that were permitted, or a dash, and the end of the line.
-fn add_permitted(relation: &Relation, set: Option<ChannelSet>, page: &mut Page)
-    requires room { length page.old + 1513 ≤ PAGE }
-    ensures added { page.new ≡ page.old ++ permitted_text relation.now set }
-    ensures short { length page.new ≤ length page.old + 1513 }
+// Adds a space where there are some before.
+#[inline]
+fn add_gap(has_some: bool, page: &mut Page)
+    requires room { length page.old < PAGE }
+    ensures added { page.new ≡ page.old ++ (if has_some then codes " " else []) }
+    ensures short { length page.new ≤ length page.old + 1 }
 {
-    match set {
-        Some(set) => {
-            add_set(relation, set, page);
-            page.add("\n");
-        }
-        None => page.add("-\n"),
+    if has_some {
+        page.add_byte(b' ');
     }
 }
 
-// Adds a cycle, whose digits are these, and a router.
-fn add_when(digits: &str, router: usize, page: &mut Page)
-    requires digits { length digits.now ≤ 20 }
-    requires room { length page.old + 42 ≤ PAGE }
-    ensures added { page.new ≡ page.old ++ text_of_pieces (digits.now ∷ comma ∷ decimal router ∷ comma ∷ []) }
-    ensures short { length page.new ≤ length page.old + 42 }
+// Adds the output channels that were permitted, or a dash, and the end of the line.
+#[inline]
+fn add_permitted(relation: &Relation, words: &Words, set: Option<ChannelSet>, page: &mut Page)
+    requires words { AreWords relation.now words.now }
+    requires room { length page.old + 1849 ≤ PAGE }
+    ensures added { page.new ≡ page.old ++ permitted_text relation.now set }
+    ensures short { length page.new ≤ length page.old + 1849 }
 {
-    page.add(digits);
-    page.add_byte(b',');
-    page.add_number(router as u64);
-    page.add_byte(b',');
+    match set {
+        Some(set) => add_set(relation, words, set, page),
+        None => page.add_byte(b'-'),
+    }
+    page.add_byte(b'\n');
 }
 
 // Adds what is told of an input channel.
+#[inline]
 fn add_told(
     network: &Network,
+    words: &Words,
     router: usize,
     port: usize,
     vc: usize,
     finding: &Finding,
     page: &mut Page,
 )
+    requires words { AreWords network.now.net.relation words.now }
     requires router { router < nodes network.now.net.relation.grid }
     requires port { port < ports network.now.net.relation.grid }
     requires vc { vc < network.now.net.relation.vcs }
-    requires room { length page.old + 1602 ≤ PAGE }
+    requires room { length page.old + 1967 ≤ PAGE }
     ensures added { page.new ≡ page.old ++ told_text network.now.net router port vc finding.now }
-    ensures short { length page.new ≤ length page.old + 1602 }
+    ensures short { length page.new ≤ length page.old + 1967 }
 {
     let relation = network.relation();
-    add_verdict(relation.shape(), port, vc, finding, page);
-    add_out(relation.shape(), finding.out, page);
+    // (the count says that there are no more than eight)
+    prove!(vc < relation.vcs());
+    words.add_verdict(relation, port, vc, finding, page);
+    words.add_out(relation, finding.out, page);
     page.add_byte(b',');
     let set = permitted_to(network, router, port, vc, finding);
-    add_permitted(relation, set, page);
+    add_permitted(relation, words, set, page);
 }
 
-// The lines of a trace in the last cycle of a network, which has this number and these digits.
+// The lines of a trace in the last cycle of a network, which has this number.
 #[derive(Drop)]
 struct CycleLines<'a> {
     network: &'a Network,
     inputs: &'a Inputs,
+    words: &'a Words,
     trace: &'a Trace,
     cycle: u64,
-    digits: &'a str,
+    number: Word,
     ghost known: { AreInputs network.now.net.relation.grid inputs.now },
-    ghost written: { digits.now ≡ decimal cycle },
-    ghost short: { length digits.now ≤ 20 },
+    ghost named: { AreWords network.now.net.relation words.now },
+    ghost numbered: { word_text number ≡ decimal cycle ++ comma },
+}
+
+impl<'a> CycleLines<'a> {
+    // Adds the cycle and a router.
+    #[inline]
+    fn add_when(&self, router: usize, page: &mut Page)
+        requires room { length page.old + 53 ≤ PAGE }
+        ensures added { page.new ≡ page.old ++ when_text self.now.cycle router }
+        ensures short { length page.new ≤ length page.old + 53 }
+    {
+        page.add_word(&self.number);
+        page.add_number(router as u64);
+        page.add_byte(b',');
+    }
 }
 
 impl<'a> Lines for CycleLines<'a> {
@@ -352,29 +364,35 @@ impl<'a> Lines for CycleLines<'a> {
         self.network.relation().vcs()
     }
 
-    fn is_silent(&self, router: usize) -> bool {
-        let trace = self.trace;
-        trace.told_nothing(router)
-            && tells_nothing(trace.traced.packet, self.network.findings(router))
-    }
-
     fn add_line(&self, router: usize, port: usize, vc: usize, page: &mut Page) {
         let index = port * self.network.relation().vcs() + vc;
         let before_it = self.trace.before(router, index);
         let now = self.trace.now(self.network, router, index);
-        if is_same(&before_it, &now) {
+        if is_same(before_it, now) {
             return;
         }
-        let finding = now.unwrap_or(NOTHING);
-        add_when(self.digits, router, page);
-        add_told(self.network, router, port, vc, &finding, page);
+        let nothing = NOTHING;
+        let finding = now.unwrap_or(&nothing);
+        self.add_when(router, page);
+        add_told(self.network, self.words, router, port, vc, finding, page);
     }
+}
+
+// The word of a cycle, with a comma behind its number.
+fn number_word(cycle: u64, page: &mut Page) -> Word
+    ensures { word_text result ≡ decimal cycle ++ comma }
+{
+    page.clear();
+    page.add_number(cycle);
+    page.add_byte(b',');
+    Word::of(page.text())
 }
 
 // Puts the lines of a trace in the last cycle of a network.
 fn put_cycle<W: Sink>(
     network: &Network,
     inputs: &Inputs,
+    words: &Words,
     trace: &Trace,
     cycle: u64,
     page: &mut Page,
@@ -382,19 +400,20 @@ fn put_cycle<W: Sink>(
     before: u64,
 ) -> Result<u64, WriteFault>
     requires inputs { AreInputs network.now.net.relation.grid inputs.now }
+    requires words { AreWords network.now.net.relation words.now }
     requires last { network.now.count ≡ cycle + 1 }
     requires router { IfSome trace.now.0.router (λ router. router < nodes network.now.net.relation.grid) }
     requires room { before + LONGEST_LISTING < 2 ^ 64 }
     ensures puts { Puts W.contents W.has_failed sink.old sink.new before (over_traced network.now.net.relation trace.now.0.router (kept_line network.now trace.now.0 trace.now.1 cycle)) result }
     ensures short { IfOk result (λ n. n ≤ before + LONGEST_LISTING) }
 {
-    let mut digits = Buffer::new();
     let lines = CycleLines {
         network,
         inputs,
+        words,
         trace,
         cycle,
-        digits: digits.format(cycle),
+        number: number_word(cycle, page),
     };
     match trace.traced.router {
         Some(router) => put_router(&lines, router, page, sink, before),
@@ -419,6 +438,7 @@ fn put_cycles<W: Sink>(
 {
     let first = network.count();
     let inputs = inputs_of(network.relation().shape());
+    let words = Words::of(network.relation());
     let mut page = Page::new();
     let mut written = before;
     for turn in 0..cycles {
@@ -426,6 +446,7 @@ fn put_cycles<W: Sink>(
         written = put_cycle(
             network,
             &inputs,
+            &words,
             trace,
             first + turn,
             &mut page,

@@ -1,10 +1,11 @@
 use Rattle.std.proofs.Common.{◌≡◌, ◌≤◌, ◌*◌, flat_map, length}
 use Rattle.noc_topo.specs.Words.{below}
-use Rattle.noc_files.specs.declared.listing.TheConstants.{LONGEST_LINE}
+use Rattle.noc_files.specs.Channels.{lines_of_port}
+use Rattle.noc_files.specs.declared.listing.TheConstants.{LONGEST_PORT}
 use Rattle.noc_files.proofs.listing.fill.Given as goal
 
-abbrev pub invariant-loop-vc : goal.invariant-loop-vc
-invariant-loop-vc g l = record {
-  said : l.page ≡ flat_map (g.L.Lines.said l.lines l.router l.port) (below l.vc);
-  short : length l.page ≤ LONGEST_LINE * l.vc;
+abbrev pub invariant-loop-port : goal.invariant-loop-port
+invariant-loop-port g l = record {
+  said : l.page ≡ flat_map (lines_of_port (g.L.Lines.grid l.lines) (g.L.Lines.vcs l.lines) l.router (g.L.Lines.said l.lines l.router)) (below l.port);
+  short : length l.page ≤ LONGEST_PORT * l.port;
 }
