@@ -34,8 +34,8 @@ DISK, MEMORY = 4 << 30, 2 << 30
 SECONDS = {
     "noc_topo": 35, "noc_packet": 30, "noc_ring": 40, "noc_route": 150, "noc_rank": 180, "noc_alloc": 50, "noc_vc": 50,
     "noc_router": 240, "noc_model": 80, "noc_row_words": 100, "noc_row_blocks": 140, "noc_rows": 140, "noc_net": 130,
-    "noc_files": 340, "noc_tiles": 240, "noc_commands": 15, "noc_words": 200, "noc_faults": 60, "noc_answers": 210,
-    "noc_program": 60, "noc": 120,
+    "noc_files": 340, "noc_tiles": 240, "noc_commands": 15, "noc_words": 160, "noc_faults": 50, "noc_answers": 210,
+    "noc_program": 80, "noc": 120,
 }
 
 
