@@ -56,6 +56,14 @@ pub(crate) trait Lines {
         ensures value { result ≡ vcs self.now }
         ensures few { result ≤ MAX_CHANNELS };
 
+    // Whether a look at a router shows that there are no lines on any of its channels.
+    fn is_silent(&self, router: usize) -> bool
+        requires { router < nodes (grid self.now) }
+        ensures { result ≡ true → (port vc : ℕ) → said self.now router port vc ≡ [] }
+    {
+        false
+    }
+
     // Adds the lines on a channel of an input port that is local or has a link.
     fn add_line(&self, router: usize, port: usize, vc: usize, page: &mut Page)
         requires router { router < nodes (grid self.now) }
@@ -101,6 +109,9 @@ fn fill<L: Lines>(lines: &L, router: usize, page: &mut Page)
     ensures short { length page.new ≤ LONGEST_ROUTER }
 {
     page.clear();
+    if lines.is_silent(router) {
+        return;
+    }
     for port in 0..lines.listed() {
         add_port(lines, router, port, page);
     }

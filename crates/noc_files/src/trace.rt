@@ -1,6 +1,6 @@
 //! The trace: what each input channel did in each cycle of a span (docs/FORMATS.md).
 
-ghost use Rattle.std.specs.Prelude.{◌≡◌, ℕ, ◌+◌, ◌*◌, ◌/◌, ◌%◌, ◌-◌, ◌^◌, ◌<◌, ◌≤◌, ◌++◌, [], ◌∷◌, IfOk, IfSome, List, None, Option, Some, codes, decimal, false, if◌then◌else◌, length, map, option_and_then, option_map, replicate, slice_get, true};
+ghost use Rattle.std.specs.Prelude.{◌≡◌, ℕ, ◌+◌, ◌*◌, ◌/◌, ◌%◌, ◌-◌, ◌^◌, ◌<◌, ◌≤◌, ◌++◌, [], ◌∷◌, IfOk, IfSome, List, None, Option, Some, codes, decimal, false, if◌then◌else◌, is_some, length, map, option_and_then, option_map, replicate, slice_get, true};
 ghost use Rattle.std.specs.List.{flat_map};
 ghost use Rattle.noc_topo.specs.Shape.{nodes, ports};
 ghost use Rattle.noc_topo.specs.Words.{below};
@@ -94,6 +94,16 @@ impl Trace {
         told(self.traced.packet, found)
     }
 
+    // Whether nothing was told of any input channel of a router in the cycle before.
+    fn told_nothing(&self, router: usize) -> bool
+        ensures { result ≡ true → (index : ℕ) → option_and_then (traced_finding self.now.0.packet) (kept_at self.now.1 router index) ≡ None }
+    {
+        match self.rows.get(router) {
+            Some(row) => tells_nothing(self.traced.packet, row),
+            None => true,
+        }
+    }
+
     // Keeps what the routers found in the last cycle, in a trace of changes.
     fn keep(&mut self, network: &Network)
         requires some { 1 ≤ network.now.count }
@@ -163,11 +173,30 @@ fn is_traced(packet: Option<u64>, held: Option<u32>) -> bool
 fn told(packet: Option<u64>, finding: &Finding) -> Option<&Finding>
     ensures { option_map (λ finding. finding.now) result ≡ traced_finding packet finding.now }
 {
-    if !matches!(finding.verdict, Verdict::Empty) && is_traced(packet, finding.packet) {
+    if is_told(packet, finding) {
         Some(finding)
     } else {
         None
     }
+}
+
+// Whether anything is told of it.
+fn is_told(packet: Option<u64>, finding: &Finding) -> bool
+    ensures { result ≡ is_some (traced_finding packet finding.now) }
+{
+    !matches!(finding.verdict, Verdict::Empty) && is_traced(packet, finding.packet)
+}
+
+// Whether nothing is told of any of these channels.
+fn tells_nothing(packet: Option<u64>, findings: &[Finding]) -> bool
+    ensures { result ≡ true → (index : ℕ) → option_and_then (traced_finding packet) (slice_get findings.now index) ≡ None }
+{
+    for finding in findings {
+        if is_told(packet, finding) {
+            return false;
+        }
+    }
+    true
 }
 
 // Whether the same is told.
@@ -362,6 +391,12 @@ impl<'a> Lines for CycleLines<'a> {
 
     fn vcs(&self) -> usize {
         self.network.relation().vcs()
+    }
+
+    fn is_silent(&self, router: usize) -> bool {
+        let trace = self.trace;
+        trace.told_nothing(router)
+            && tells_nothing(trace.traced.packet, self.network.findings(router))
     }
 
     fn add_line(&self, router: usize, port: usize, vc: usize, page: &mut Page) {

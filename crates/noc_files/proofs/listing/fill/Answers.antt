@@ -1,7 +1,25 @@
-use Rattle.std.proofs.Common.{◌∙◌, [], ap, arith, length}
-use Rattle.noc_files.specs.Channels.{lines_of_port}
+use Rattle.std.proofs.Common.{◌≡◌, ◌∙◌, ℕ, Bool, true, false, List, [], ap, arith, flat_map, length, refl, sym}
+use Rattle.std.specs.Prelude.{if◌then◌else◌}
+use Rattle.noc_topo.specs.Shape.{Grid}
+use Rattle.noc_topo.specs.Words.{below}
+use Rattle.noc_files.specs.Channels.{is_input, lines_of_port, lines_of_router}
+use Rattle.noc_files.proofs.BelowFacts.{each_none}
 use Rattle.noc_files.proofs.PageFacts.{added_more, added_none}
 use Rattle.noc_files.proofs.listing.fill.Goals as goal
+
+-- a router of whose channels nothing is said has no lines
+no_lines : (g : Grid) (listed vcs r : ℕ) (said : ℕ → ℕ → List ℕ) → ((port vc : ℕ) → said port vc ≡ []) → lines_of_router g listed vcs r said ≡ []
+no_lines g listed vcs r said none = each_none (lines_of_port g vcs r said) (below listed) (λ port. either port (is_input g r port))
+  where
+    either : (port : ℕ) (b : Bool) → (if b then flat_map (said port) (below vcs) else []) ≡ []
+    either port true = each_none (said port) (below vcs) (none port)
+    either port false = refl
+
+pub returns-then-is_silent-clause-said : goal.returns-then-is_silent-clause-said
+returns-then-is_silent-clause-said g c =
+    let l = g.L.Lines in
+    let lines = c.args.lines.now in
+    c.clear.ensures ∙ sym (no_lines (l.grid lines) (l.listed lines) (l.vcs lines) c.args.router (l.said lines c.args.router) (c.is_silent.ensures c.if-is_silent.true))
 
 pub loop-port-init : goal.loop-port-init
 loop-port-init g c =
