@@ -10,15 +10,16 @@
 ghost use Rattle.std.specs.Prelude.{◌≡◌, ◌↔◌, ℕ, ◌+◌, ◌-◌, ◌<◌, ◌≤◌, All, IsTrue, length, map, false};
 ghost use Rattle.noc_topo.specs.Shape.{nodes as nodes_of, ports as ports_of};
 ghost use Rattle.noc_router.specs.Decided.{IsDecidedFor};
-ghost use Rattle.noc_router.specs.Links.{AreLoaded, is_idle_beat};
 ghost use Rattle.noc_router.specs.Still.{IsHeldBefore, view_after_waiting};
 ghost use Rattle.noc_router.specs.View.{IsRelationOf};
+ghost use Rattle.noc_router.specs.declared.verdict.Findings.TheVariants.{Leave};
 ghost use Rattle.noc_model.specs.Halves.{IsSilent};
 ghost use Rattle.noc_model.specs.Network.{Setup};
-ghost use Rattle.noc_model.specs.Unseen.{AreInStepUnseen};
+ghost use Rattle.noc_model.specs.Unseen.{AreInStep};
 ghost use Rattle.noc_net.specs.Jump.{AreStill, had_event_in};
 
-use noc_packet::{Beat, ChannelSet};
+use crate::takes::arrived;
+use noc_packet::Beat;
 use noc_route::Relation;
 use noc_router::{Plan, Router};
 use noc_topo::LINKS;
@@ -38,9 +39,8 @@ pub(crate) fn jump(
     requires routers { All (λ v. IsRelationOf relation.now v) routers.old }
     requires count { length beats.now ≡ nodes_of relation.now.grid }
     ensures plan { IsDecidedFor (ports_of relation.now.grid) relation.now.vcs plan.new }
-    ensures later { last < result }
-    ensures within { result ≤ end }
-    ensures in_step { (net : Setup) → net.relation ≡ relation.now → AreInStepUnseen net (last + 1) routers.old beats.now → AreInStepUnseen net result routers.new beats.now }
+    ensures within { (last < result) × (result ≤ end) }
+    ensures in_step { (net : Setup) → net.relation ≡ relation.now → AreInStep net Leave (last + 1) routers.old beats.now → AreInStep net Leave result routers.new beats.now }
     ensures far { (n : ℕ) → n ≤ end → had_event_in last routers.old ≡ false → All IsSilent beats.now → AreStill relation.now routers.old → All (IsHeldBefore n) routers.old → n ≤ result }
 {
     let first = last + 1;
@@ -98,26 +98,6 @@ fn all_silent(beats: &[[Beat; LINKS]]) -> bool
         }
     }
     true
-}
-
-// The ports with a beat that carries something.
-fn arrived(beats: &[Beat; LINKS]) -> ChannelSet
-    ensures { AreLoaded LINKS beats.now result }
-{
-    let mut ports = ChannelSet::empty();
-    for port in 0..LINKS {
-        if !is_idle(&beats[port]) {
-            ports = ports.with(port);
-        }
-    }
-    ports
-}
-
-// Whether a beat carries nothing.
-fn is_idle(beat: &Beat) -> bool
-    ensures { result ≡ is_idle_beat beat.now }
-{
-    beat.flit.is_none() & beat.credit.is_none()
 }
 
 // Whether no verdict takes effect in any router.

@@ -314,8 +314,7 @@ fn new_state(
     requires sendable { All IsSendable packets.now }
     ensures routers { IfOk result (λ s. s.0.items ≡ tabulate (nodes_of relation.now.grid) (λ node. opening_view (record { grid = relation.now.grid; node = node; vcs = relation.now.vcs; places = places }) (starts_of packets.now node) (ends_of packets.now node))) }
     ensures plan { IfOk result (λ s. IsDecidedFor (ports_of relation.now.grid) relation.now.vcs s.1) }
-    ensures beats { IfOk result (λ s. vec_len s.2 ≡ nodes_of relation.now.grid) }
-    ensures idle { IfOk result (λ s. All IsSilent s.2.items) }
+    ensures beats { IfOk result (λ s. (vec_len s.2 ≡ nodes_of relation.now.grid) × All IsSilent s.2.items) }
     ensures room { IfOk result (λ s. vec_len s.3 ≡ nodes_of relation.now.grid) }
 {
     let nodes = relation.shape().nodes();
