@@ -3,8 +3,7 @@
 ghost use Rattle.std.specs.Prelude.{◌≡◌, ℕ, ◌+◌, ◌<◌, ◌≤◌, All, IfSome, Some, length, map};
 ghost use Rattle.noc_topo.specs.declared.limits.TheConstants.{MAX_NODES};
 ghost use Rattle.noc_topo.specs.Words.{map_indexed};
-ghost use Rattle.noc_topo.specs.Shape.{nodes as nodes_of, ports as ports_of, neighbour as neighbour_of};
-ghost use Rattle.noc_router.specs.Decided.{IsDecidedFor};
+ghost use Rattle.noc_topo.specs.Shape.{nodes as nodes_of, neighbour as neighbour_of};
 ghost use Rattle.noc_router.specs.declared.verdict.Findings.TheVariants.{Leave, Record};
 ghost use Rattle.noc_router.specs.View.{IsRelationOf, idle_beat};
 ghost use Rattle.noc_model.specs.Halves.{ArePlaced, IsLinked, HasItsBeats, IsSilent, beat_at, view_after_decide, view_after_puts, incoming, wire_after_puts, sent_on};
@@ -28,12 +27,10 @@ pub(crate) fn run_all(
     routers: &mut [Router],
     beats: &mut [[Beat; LINKS]],
 )
-    requires plan { IsDecidedFor (ports_of relation.now.grid) relation.now.vcs plan.old }
     requires order { first ≤ last }
     requires in_step { (net : Setup) × (net.relation ≡ relation.now) × AreInStep net Leave first routers.old beats.old }
     requires count { length beats.old ≡ nodes_of relation.now.grid }
-    ensures plan { IsDecidedFor (ports_of relation.now.grid) relation.now.vcs plan.new }
-    ensures in_step { (net : Setup) → net.relation ≡ relation.now → AreInStep net Leave first routers.old beats.old → AreInStep net Record (last + 1) routers.new beats.new }
+    ensures { (net : Setup) → net.relation ≡ relation.now → AreInStep net Leave first routers.old beats.old → AreInStep net Record (last + 1) routers.new beats.new }
 {
     skip(relation, plan, first, last, routers, beats);
     cycle(relation, plan, last, Findings::Record, routers, beats);
@@ -48,12 +45,10 @@ fn skip(
     routers: &mut [Router],
     beats: &mut [[Beat; LINKS]],
 )
-    requires plan { IsDecidedFor (ports_of relation.now.grid) relation.now.vcs plan.old }
     requires order { first ≤ end }
     requires in_step { (net : Setup) × (net.relation ≡ relation.now) × AreInStep net Leave first routers.old beats.old }
     requires count { length beats.old ≡ nodes_of relation.now.grid }
-    ensures plan { IsDecidedFor (ports_of relation.now.grid) relation.now.vcs plan.new }
-    ensures in_step { (net : Setup) → net.relation ≡ relation.now → AreInStep net Leave first routers.old beats.old → AreInStep net Leave end routers.new beats.new }
+    ensures { (net : Setup) → net.relation ≡ relation.now → AreInStep net Leave first routers.old beats.old → AreInStep net Leave end routers.new beats.new }
 {
     let mut now = first;
     while now < end {
@@ -71,10 +66,8 @@ fn cycle(
     routers: &mut [Router],
     beats: &mut [[Beat; LINKS]],
 )
-    requires plan { IsDecidedFor (ports_of relation.now.grid) relation.now.vcs plan.old }
     requires in_step { (net : Setup) × (net.relation ≡ relation.now) × AreInStep net Leave cycle routers.old beats.old }
     requires count { length beats.old ≡ nodes_of relation.now.grid }
-    ensures plan { IsDecidedFor (ports_of relation.now.grid) relation.now.vcs plan.new }
     ensures in_step { (net : Setup) → net.relation ≡ relation.now → AreInStep net Leave cycle routers.old beats.old → AreInStep net findings (cycle + 1) routers.new beats.new }
     ensures routers { All (λ v. IsRelationOf relation.now v) routers.new }
 {
@@ -91,11 +84,9 @@ fn decide_all(
     routers: &mut [Router],
     beats: &mut [[Beat; LINKS]],
 )
-    requires plan { IsDecidedFor (ports_of relation.now.grid) relation.now.vcs plan.old }
     requires routers { All (λ v. IsRelationOf relation.now v) routers.old }
     requires beats { All (IsLinked relation.now.grid) beats.old }
     requires count { length beats.old ≡ length routers.old }
-    ensures plan { IsDecidedFor (ports_of relation.now.grid) relation.now.vcs plan.new }
     ensures routers { routers.new ≡ map_indexed (λ r v. view_after_decide relation.now cycle findings (incoming relation.now.grid (beats_at beats.old r)) v) routers.old }
     ensures beats { All IsSilent beats.new }
 {
@@ -120,10 +111,8 @@ fn decide(
     router: &mut Router,
     beats: &mut [Beat; LINKS],
 )
-    requires plan { IsDecidedFor (ports_of relation.now.grid) relation.now.vcs plan.old }
     requires router { IsRelationOf relation.now router.old }
     requires beats { IsLinked relation.now.grid beats.old }
-    ensures plan { IsDecidedFor (ports_of relation.now.grid) relation.now.vcs plan.new }
     ensures router { router.new ≡ view_after_decide relation.now cycle findings (incoming relation.now.grid beats.old) router.old }
     ensures beats { IsSilent beats.new }
 {

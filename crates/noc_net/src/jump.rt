@@ -8,8 +8,7 @@
 //! others.
 
 ghost use Rattle.std.specs.Prelude.{◌≡◌, ◌↔◌, ℕ, ◌+◌, ◌-◌, ◌<◌, ◌≤◌, All, IsTrue, length, map, false};
-ghost use Rattle.noc_topo.specs.Shape.{nodes as nodes_of, ports as ports_of};
-ghost use Rattle.noc_router.specs.Decided.{IsDecidedFor};
+ghost use Rattle.noc_topo.specs.Shape.{nodes as nodes_of};
 ghost use Rattle.noc_router.specs.Still.{IsHeldBefore, view_after_waiting};
 ghost use Rattle.noc_router.specs.View.{IsRelationOf};
 ghost use Rattle.noc_router.specs.declared.verdict.Findings.TheVariants.{Leave};
@@ -35,10 +34,8 @@ pub(crate) fn jump(
     beats: &[[Beat; LINKS]],
 ) -> u64
     requires order { last < end }
-    requires plan { IsDecidedFor (ports_of relation.now.grid) relation.now.vcs plan.old }
     requires routers { All (λ v. IsRelationOf relation.now v) routers.old }
     requires count { length beats.now ≡ nodes_of relation.now.grid }
-    ensures plan { IsDecidedFor (ports_of relation.now.grid) relation.now.vcs plan.new }
     ensures within { (last < result) × (result ≤ end) }
     ensures in_step { (net : Setup) → net.relation ≡ relation.now → AreInStep net Leave (last + 1) routers.old beats.now → AreInStep net Leave result routers.new beats.now }
     ensures far { (n : ℕ) → n ≤ end → had_event_in last routers.old ≡ false → All IsSilent beats.now → AreStill relation.now routers.old → All (IsHeldBefore n) routers.old → n ≤ result }
@@ -102,10 +99,8 @@ fn all_silent(beats: &[[Beat; LINKS]]) -> bool
 
 // Whether no verdict takes effect in any router.
 fn all_still(relation: &Relation, plan: &mut Plan, routers: &[Router]) -> bool
-    requires plan { IsDecidedFor (ports_of relation.now.grid) relation.now.vcs plan.old }
-    requires routers { All (λ v. IsRelationOf relation.now v) routers.now }
-    ensures plan { IsDecidedFor (ports_of relation.now.grid) relation.now.vcs plan.new }
-    ensures still { IsTrue result ↔ AreStill relation.now routers.now }
+    requires { All (λ v. IsRelationOf relation.now v) routers.now }
+    ensures { IsTrue result ↔ AreStill relation.now routers.now }
 {
     for router in routers {
         if !router.is_still(relation, plan) {
@@ -118,10 +113,8 @@ fn all_still(relation: &Relation, plan: &mut Plan, routers: &[Router]) -> bool
 // Each router makes the cycles from `first` to before `end`, in which nothing happens.
 fn wait_all(relation: &Relation, plan: &mut Plan, first: u64, end: u64, routers: &mut [Router])
     requires order { first < end }
-    requires plan { IsDecidedFor (ports_of relation.now.grid) relation.now.vcs plan.old }
     requires routers { All (λ v. IsRelationOf relation.now v) routers.old }
-    ensures plan { IsDecidedFor (ports_of relation.now.grid) relation.now.vcs plan.new }
-    ensures routers { routers.new ≡ map (view_after_waiting relation.now (end - first) (end - 1)) routers.old }
+    ensures { routers.new ≡ map (view_after_waiting relation.now (end - first) (end - 1)) routers.old }
 {
     for node in 0..routers.len() {
         routers[node].wait(relation, plan, first, end);

@@ -10,7 +10,7 @@ use Rattle.noc_router.specs.declared.requests.Requests.{Requests}
 use Rattle.noc_router.specs.declared.router.Router.TheInside.{Inside}
 use Rattle.noc_router.specs.declared.verdict.Verdict.{Verdict}
 use Rattle.noc_router.specs.declared.verdict.Verdict.TheVariants.{Empty}
-use Rattle.noc_router.specs.Asked.{RequestLists, arbiter_states_in, grants_on, lists_in, no_requests, round_in}
+use Rattle.noc_router.specs.Asked.{RequestLists, arbiter_states_in, grants_on, lists_in, no_requests, round_in, routes_in}
 use Rattle.noc_router.specs.Decided.{IsDecidedFor, empty_plan_contents}
 use Rattle.noc_router.specs.Inside.{IsRouter, view_of}
 use Rattle.noc_router.specs.Verdict.{Round, asks_of, is_event}
@@ -70,7 +70,7 @@ outcome-lengths relation v = record {
 
 -- ---- no request
 -- what has no request, and every channel empty
-pub no_outcome-parts : (m vcs : ℕ) (r : Requests) (p : PlanContents) → lists_in r ≡ no_requests m (m * vcs) → p.round ≡ round_in r → p.asks ≡ r.asks → p.routes ≡ r.routes.items → length p.verdicts ≡ m * vcs
+pub no_outcome-parts : (m vcs : ℕ) (r : Requests) (p : PlanContents) → lists_in r ≡ no_requests m (m * vcs) → p.round ≡ round_in r → p.asks ≡ r.asks → p.routes ≡ routes_in r → length p.verdicts ≡ m * vcs
     → ((k : ℕ) → k < m * vcs → get_or p.verdicts k Empty ≡ Empty) → p ≡ empty_plan_contents m vcs
 unfolding parts rounds
 no_outcome-parts m vcs r p none round asks routes long verdicts =
@@ -79,17 +79,6 @@ no_outcome-parts m vcs r p none round asks routes long verdicts =
     (asks ∙ ap (λ (x : RequestLists). x.asks) none)
     (ext_get_or Empty p.verdicts (replicate (m * vcs) Empty) (long ∙ sym (length-replicate (m * vcs) Empty)) (λ k l. verdicts k (omega arith) ∙ sym (get_or-replicate (m * vcs) k Empty Empty (omega arith))))
     (routes ∙ ap (λ (x : RequestLists). x.routes) none)
-
--- an outcome without requests is as long as it should be
-pub no_outcome-lengths : (m vcs : ℕ) → IsDecidedFor m vcs (empty_plan_contents m vcs)
-no_outcome-lengths m vcs = record {
-  grants = length-replicate _ _;
-  picks = length-replicate _ _;
-  wins = length-replicate _ _;
-  asks = length-replicate _ _;
-  verdicts = length-replicate _ _;
-  routes = length-replicate _ _;
-}
 
 empty_event : (x : Verdict) → x ≡ Empty → is_event x ≡ true → ⊥
 empty_event x e h = false≢true (sym (ap is_event e) ∙ h)

@@ -1,5 +1,5 @@
 -- What is true of a router stays true.
-use Rattle.std.proofs.Common.{◌≡◌, ℕ, ◌+◌, ◌-◌, ◌*◌, ◌<◌, Bool, true, List, Option, None, refl, ap, sym, ◌∙◌, subst, arith, length, slice_index_or, slice_set, vec_len}
+use Rattle.std.proofs.Common.{◌≡◌, ℕ, ◌+◌, ◌-◌, ◌*◌, ◌<◌, Bool, true, Option, None, refl, ap, sym, ◌∙◌, subst, arith, length, slice_index_or}
 use Rattle.std.specs.Prelude.{is_some}
 use Rattle.std.proofs.lemmas.List.{get_or-set_other}
 use Rattle.std.specs.Option.{ForSome}

@@ -11,7 +11,7 @@ use Rattle.noc_vc.specs.Output.{has_credit}
 use Rattle.noc_vc.specs.declared.input.InputState.{InputState}
 use Rattle.noc_vc.specs.declared.input.InputState.TheVariants.{Idle, Waiting, Active}
 use Rattle.noc_router.specs.Counts.{one_at, one_if}
-use Rattle.noc_router.specs.Planned.{plan_contents_in}
+use Rattle.noc_router.specs.Planned.{IsPlan, plan_contents_in}
 use Rattle.noc_router.specs.Requests.{AreAmong, is_given}
 use Rattle.noc_router.specs.Sound.{is_supplied}
 use Rattle.noc_router.specs.Standing.{IsStanding, is_won_from}
@@ -187,17 +187,59 @@ given-below grants asks k e = at (cases_lt k (length asks))
     at (inr u) = absurd (false≢true (sym (ap (λ o. is_given grants o k) (get_or_past asks k None u)) ∙ e))
 
 -- ---- the verdicts of a plan
+-- whether the verdict of a plan on any channel passes a test that events alone pass
+test-at : (n : ℕ) (test : Verdict → Bool) (sets : VerdictSets) (k : ℕ) → test Empty ≡ false → ((x : Verdict) → test x ≡ true → is_event x ≡ true) → (is_event (verdict_by sets k) ≡ true → k < n)
+    → test (verdict_by sets k) ≡ test (get_or (tabulate n (verdict_by sets)) k Empty)
+test-at n test sets k empty event below = at (cases_lt k n)
+  where
+    none : (b : Bool) → test (verdict_by sets k) ≡ b → n ≤ k → test (verdict_by sets k) ≡ false
+    none false e u = e
+    none true e u = let l : k < n = below (event (verdict_by sets k) e) in absurd (omega arith)
+
+    at : (k < n) ⊎ (n ≤ k) → test (verdict_by sets k) ≡ test (get_or (tabulate n (verdict_by sets)) k Empty)
+    at (inl l) = ap test (sym (get_or-tabulate n k (verdict_by sets) Empty l))
+    at (inr u) =
+        none (test (verdict_by sets k)) refl u ∙ sym empty
+        ∙ sym (ap test (get_or_past (tabulate n (verdict_by sets)) k Empty (omega (arith, length-tabulate n (verdict_by sets)))))
+
 -- whether a channel of a plan has an event
 pub event-at : (n : ℕ) (sets : VerdictSets) (k : ℕ) → (is_event (verdict_by sets k) ≡ true → k < n) → is_event (verdict_by sets k) ≡ is_event (get_or (tabulate n (verdict_by sets)) k Empty)
-event-at n sets k below = at (cases_lt k n)
-  where
-    none : (b : Bool) → is_event (verdict_by sets k) ≡ b → n ≤ k → is_event (verdict_by sets k) ≡ false
-    none false e u = e
-    none true e u = let l : k < n = below e in absurd (omega arith)
+event-at n sets k below = test-at n is_event sets k refl (λ x e. e) below
 
-    at : (k < n) ⊎ (n ≤ k) → is_event (verdict_by sets k) ≡ is_event (get_or (tabulate n (verdict_by sets)) k Empty)
-    at (inl l) = ap is_event (sym (get_or-tabulate n k (verdict_by sets) Empty l))
-    at (inr u) = none (is_event (verdict_by sets k)) refl u ∙ sym (ap is_event (get_or_past (tabulate n (verdict_by sets)) k Empty (omega (arith, length-tabulate n (verdict_by sets)))))
+moved_event : (x : Verdict) → is_moved x ≡ true → is_event x ≡ true
+moved_event Empty e = absurd (false≢true e)
+moved_event Routed e = refl
+moved_event Granted e = refl
+moved_event Moved e = refl
+moved_event NoFlit e = absurd (false≢true e)
+moved_event NoIdleChannel e = absurd (false≢true e)
+moved_event LostChannel e = absurd (false≢true e)
+moved_event NoCredit e = absurd (false≢true e)
+moved_event LostInput e = absurd (false≢true e)
+moved_event LostSwitch e = absurd (false≢true e)
+
+granted_event : (x : Verdict) → is_granted x ≡ true → is_event x ≡ true
+granted_event Empty e = absurd (false≢true e)
+granted_event Routed e = refl
+granted_event Granted e = refl
+granted_event Moved e = refl
+granted_event NoFlit e = absurd (false≢true e)
+granted_event NoIdleChannel e = absurd (false≢true e)
+granted_event LostChannel e = absurd (false≢true e)
+granted_event NoCredit e = absurd (false≢true e)
+granted_event LostInput e = absurd (false≢true e)
+granted_event LostSwitch e = absurd (false≢true e)
+
+-- whether it is Moved
+pub plan-moved : (p : Inside) (o : PlanContents) (k : ℕ) → plan_contents_in p ≡ o → IsPlan p → has_bit p.verdicts.moved k ≡ is_moved (get_or o.verdicts k Empty)
+plan-moved p o k view is =
+    sym (moved-by p.verdicts k) ∙ test-at p.requests.size is_moved p.verdicts k refl moved_event (is.events k) ∙ ap (λ (x : PlanContents). is_moved (get_or x.verdicts k Empty)) view
+
+-- whether it is Granted
+pub plan-granted : (p : Inside) (o : PlanContents) (k : ℕ) → plan_contents_in p ≡ o → IsPlan p
+    → (not (has_bit p.verdicts.moved k) && has_bit p.verdicts.granted k) ≡ is_granted (get_or o.verdicts k Empty)
+plan-granted p o k view is =
+    sym (granted-by p.verdicts k) ∙ test-at p.requests.size is_granted p.verdicts k refl granted_event (is.events k) ∙ ap (λ (x : PlanContents). is_granted (get_or x.verdicts k Empty)) view
 
 -- the verdict of a plan on one of its channels
 pub plan-verdict : (p : Inside) (o : PlanContents) (i : ℕ) → plan_contents_in p ≡ o → i < length o.verdicts → (i < p.requests.size) × (get_or o.verdicts i Empty ≡ verdict_by p.verdicts i)

@@ -2,6 +2,7 @@
 use Rattle.std.specs.Prelude.{◌≡◌, ℕ, ◌*◌, List, Option, None, replicate}
 use Rattle.noc_topo.specs.Words.{tabulate}
 use Rattle.noc_alloc.specs.Allocation.{grant_of}
+use Rattle.noc_router.specs.Places.{sets_of}
 use Rattle.noc_router.specs.Verdict.{ArbiterStates, Round, arbiters_after, pointers_of}
 use Rattle.noc_router.specs.declared.arbiters.Arbiters.{Arbiters}
 use Rattle.noc_router.specs.declared.requests.Requests.{Requests}
@@ -37,8 +38,12 @@ pub record RequestLists : Type 0 where
   pub picks : List (Option ℕ)
   pub wins : List (Option ℕ)
 
+-- by input channel, the set for its head
+abbrev pub routes_in : Requests → List ℕ
+routes_in r = sets_of r.size r.routed r.routes
+
 abbrev pub lists_in : Requests → RequestLists
-lists_in r = record { ports = r.ports; size = r.size; routes = r.routes.items; asks = r.asks; grants = r.grants; picks = r.picks; wins = r.wins }
+lists_in r = record { ports = r.ports; size = r.size; routes = routes_in r; asks = r.asks; grants = r.grants; picks = r.picks; wins = r.wins }
 
 -- nobody asks for anything
 abbrev pub no_requests : ℕ → ℕ → RequestLists

@@ -2,7 +2,7 @@
 use Rattle.std.specs.Prelude.{◌≡◌, ℕ, ◌<◌, ◌≤◌, true}
 use Rattle.noc_topo.specs.Words.{tabulate}
 use Rattle.noc_router.specs.declared.plan.Plan.TheInside.{Inside}
-use Rattle.noc_router.specs.Asked.{round_in}
+use Rattle.noc_router.specs.Asked.{round_in, routes_in}
 use Rattle.noc_router.specs.Verdict.{is_event}
 use Rattle.noc_router.specs.VerdictSets.{sets_with, verdict_by}
 use Rattle.noc_router.specs.View.{PlanContents}
@@ -12,7 +12,7 @@ plan_contents_in p = record {
   round = round_in p.requests;
   asks = p.requests.asks;
   verdicts = tabulate p.requests.size (verdict_by p.verdicts);
-  routes = p.requests.routes.items;
+  routes = routes_in p.requests;
 }
 
 -- a verdict that takes effect is that of an input channel, and each of these is in one of the sets at most

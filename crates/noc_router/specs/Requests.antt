@@ -9,10 +9,6 @@ use Rattle.noc_packet.specs.Set.{has_bit}
 abbrev pub AllBelow : ℕ → List (Option ℕ) → Type 0
 AllBelow n xs = All (λ one. ForSome one (λ k. k < n)) xs
 
--- a channel that is not in the set has this in the list
-abbrev pub AreQuiet : {X : Type 0} → ℕ → X → List X → Type 0
-AreQuiet set quiet xs = (k : ℕ) → has_bit set k ≡ false → slice_index_or xs k quiet ≡ quiet
-
 -- whether input channel i gets the output channel that it asks for
 abbrev pub is_given : List (Option ℕ) → Option ℕ → ℕ → Bool
 is_given grants None i = false

@@ -1,5 +1,5 @@
 -- What the input channels of a router can go on with, by sets.
-use Rattle.std.specs.Prelude.{◌≡◌, ℕ, ◌<◌, ◌≤◌, ◌/◌, ◌%◌, Bool, true, ◌&&◌, List, Option, Some, None, not, option_and_then, slice_index_or}
+use Rattle.std.specs.Prelude.{◌≡◌, ℕ, ◌<◌, ◌≤◌, ◌/◌, ◌%◌, Bool, true, ◌&&◌, List, Option, Some, None, not, option_and_then, replicate, slice_index_or}
 use Rattle.noc_topo.specs.Shape.{ports}
 use Rattle.noc_topo.specs.Words.{is_some_of}
 use Rattle.noc_packet.specs.Set.{has_bit}
@@ -42,6 +42,11 @@ IsPickedIn v picks set = (k : ℕ) → k < size_of v.site → has_bit set k ≡ 
 pub record AreRequestsOf (site : Site) (r : Requests) : Type 0 where
   pub ports : r.ports ≡ ports site.grid
   pub size : r.size ≡ size_of site
+
+-- no input port has picked a channel, and no output port is won
+pub record IsSwitchFree (r : Requests) : Type 0 where
+  pub picks : r.picks ≡ replicate r.ports None
+  pub wins : r.wins ≡ replicate r.ports None
 
 -- the sets of all channels of a view
 abbrev pub IsStanding : View → Standing → Type 0

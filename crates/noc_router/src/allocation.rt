@@ -7,7 +7,7 @@
 //! another look at the winners. The pass goes over the state of the channels, so it is a method of the router
 //! (`Router::allocate_switch`).
 
-ghost use Rattle.std.specs.Prelude.{◌≡◌, ℕ, ◌*◌, ◌<◌, ◌≤◌, List, Option, length, All, IfSome, Some, None, is_some, slice_index_or};
+ghost use Rattle.std.specs.Prelude.{◌≡◌, ℕ, ◌*◌, ◌<◌, ◌≤◌, List, Option, length, All, IfSome, Some, None, is_some, replicate, slice_index_or};
 ghost use Rattle.noc_topo.specs.Words.{tabulate};
 ghost use Rattle.noc_packet.specs.Set.{has_bit};
 ghost use Rattle.noc_alloc.specs.Arbiter.{RoundRobin, pointers_of, arbiter_at};
@@ -21,16 +21,16 @@ use noc_packet::{ChannelSet, INDICES};
 
 // For each input channel `asks` has the output channel that it asks for, and `arbiters` has an arbiter over the input
 // channels for each output channel. Each output channel that is asked for is granted to the input channel that its
-// arbiter puts first; `grants` gets that input channel.
+// arbiter puts first; `grants`, which holds nothing before, gets that input channel.
 pub(crate) fn allocate_channels(asks: &Places, arbiters: &[Arbiter], grants: &mut Places)
-    requires lengths { length grants.old ≡ length arbiters.now }
+    requires none { grants.old ≡ replicate (length arbiters.now) None }
+    requires few { length arbiters.now ≤ INDICES }
     requires sizes { All (λ (t : RoundRobin). t.size ≡ length asks.now) arbiters.now }
     requires asks { All (λ ask. IfSome ask (λ o. o < length arbiters.now)) asks.now }
     ensures grants { grants.new ≡ tabulate (length arbiters.now) (grant_of asks.now (length asks.now) (pointers_of arbiters.now)) }
     ensures count { length grants.new ≡ length arbiters.now }
     ensures inputs { All (λ grant. IfSome grant (λ i. i < length asks.now)) grants.new }
 {
-    grants.clear();
     let mut rest = asks.filled();
     while let Some(input) = rest.least_common(&rest) {
         rest = rest.without(input);
@@ -61,6 +61,7 @@ pub(crate) fn offer(
     requester: usize,
     held: &mut Places,
 ) -> Option<usize>
+    requires few { length held.old ≤ INDICES }
     requires lengths { length held.old ≡ length arbiters.now }
     requires asked { asked < length arbiters.now }
     ensures held { held.new ≡ firsts_after_request arbiters.now asked requester held.old }

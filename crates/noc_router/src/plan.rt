@@ -8,6 +8,7 @@
 ghost use Rattle.std.specs.Prelude.{◌≡◌, ℕ, ◌<◌, IfOk, IfSome, length, slice_index, slice_index_or, None};
 ghost use Rattle.noc_topo.specs.Shape.{ports as ports_of};
 ghost use Rattle.noc_packet.specs.Set.{has_bit};
+ghost use Rattle.noc_packet.specs.declared.limits.TheConstants.{INDICES};
 ghost use Rattle.noc_router.specs.Asked.{arbiter_states_in, channels_past, turns_in};
 ghost use Rattle.noc_router.specs.Decided.{IsDecidedFor, empty_plan_contents};
 ghost use Rattle.noc_router.specs.declared.verdict.Verdict.TheVariants.{Empty};
@@ -24,7 +25,7 @@ use std::marker::Model;
 
 /// What one router's arbiters decide in one cycle, the sets for its heads, and the verdict on each input channel.
 ///
-/// One plan serves all routers of a network, one after the other.
+/// One plan serves all routers, one after the other: it has room for any router.
 #[derive(Drop)]
 pub struct Plan {
     pub(crate) requests: Requests,
@@ -44,22 +45,23 @@ impl Model for Plan {
 }
 
 impl Plan {
-    /// A plan without requests, for the routers of this relation's network.
+    /// A plan without requests, of a router of this relation's network. It takes no memory from `alloc`.
     pub fn new(alloc: Global, relation: &Relation) -> Result<Plan, Memory>
-        ensures value { IfOk result (λ plan. plan ≡ empty_plan_contents (ports_of relation.now.grid) relation.now.vcs) }
-        ensures lengths { IfOk result (IsDecidedFor (ports_of relation.now.grid) relation.now.vcs) }
+        ensures { IfOk result (λ plan. plan ≡ empty_plan_contents (ports_of relation.now.grid) relation.now.vcs) }
     {
+        let _ = alloc;
         let ports = relation.shape().ports();
-        let size = ports * relation.vcs();
+        let mut requests = Requests::new();
+        requests.clear(ports, ports * relation.vcs());
         Ok(Plan {
-            requests: Requests::new(alloc, ports, size)?,
+            requests,
             verdicts: VerdictSets::empty(),
         })
     }
 
     // The pointers of the output channels go on past the input channels that they were granted to.
     pub(crate) fn advance(&self, arbiters: &mut Arbiters)
-        requires lengths { IsDecidedFor arbiters.old.ports arbiters.old.vcs self.now }
+        requires { IsDecidedFor arbiters.old.ports arbiters.old.vcs self.now }
         ensures { turns_in arbiters.new ≡ record (turns_in arbiters.old) { states = channels_past self.now.round (arbiter_states_in arbiters.old) } }
     {
         self.requests.advance(arbiters);
@@ -74,7 +76,7 @@ impl Plan {
 
     // Whether the verdict on an input channel is Moved.
     pub(crate) fn is_moved(&self, index: usize) -> bool
-        requires { index < length self.now.verdicts }
+        requires { index < INDICES }
         ensures { result ≡ is_moved (slice_index_or self.now.verdicts index Empty) }
     {
         self.verdicts.moved.contains(index)
@@ -82,7 +84,7 @@ impl Plan {
 
     // Whether the verdict on an input channel is Granted.
     pub(crate) fn is_granted(&self, index: usize) -> bool
-        requires { index < length self.now.verdicts }
+        requires { index < INDICES }
         ensures { result ≡ is_granted (slice_index_or self.now.verdicts index Empty) }
     {
         !self.verdicts.moved.contains(index) && self.verdicts.granted.contains(index)
@@ -98,7 +100,7 @@ impl Plan {
 
     // The output channel that an input channel asks for.
     pub(crate) fn ask(&self, index: usize) -> Option<usize>
-        requires { index < length self.now.asks }
+        requires { index < INDICES }
         ensures value { result ≡ slice_index_or self.now.asks index None }
         ensures within { IfSome result (λ output. output < length self.now.asks) }
     {
@@ -107,7 +109,7 @@ impl Plan {
 
     // The set for the head of an input channel.
     pub(crate) fn route(&self, index: usize) -> ChannelSet
-        requires { index < length self.now.routes }
+        requires { index < INDICES }
         ensures { result ≡ slice_index self.now.routes index }
     {
         self.requests.route(index)

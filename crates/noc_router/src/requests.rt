@@ -1,29 +1,28 @@
 //! The requests of one router's input channels in one cycle, and what its arbiters decide on them.
 
-ghost use Rattle.std.specs.Prelude.{◌≡◌, ℕ, ◌*◌, ◌<◌, ◌≤◌, IfOk, IfSome, List, Option, true, Some, None, is_some, length, option_and_then, replicate, slice_index_or, slice_set, vec_len};
+ghost use Rattle.std.specs.Prelude.{◌≡◌, ℕ, ◌<◌, ◌≤◌, IfSome, List, Option, None, is_some, length, option_and_then, replicate, slice_index_or, slice_set};
 ghost use Rattle.noc_alloc.specs.Allocation.{pick_of};
 ghost use Rattle.noc_alloc.specs.Arbiter.{arbiter_at};
 ghost use Rattle.noc_router.specs.Offers.{farther, firsts_after_request};
 ghost use Rattle.noc_packet.specs.Set.{has_bit};
 ghost use Rattle.noc_packet.specs.declared.limits.TheConstants.{INDICES, MAX_PORTS};
 ghost use Rattle.noc_router.specs.Members.{AreBelow};
-ghost use Rattle.noc_router.specs.Requests.{AllBelow, AreQuiet, is_given, pick_in};
+ghost use Rattle.noc_router.specs.Requests.{AllBelow, is_given, pick_in};
 
 use crate::allocation::{advance_channels, allocate_channels, offer, pick_channel};
 use crate::arbiters::Arbiters;
 use crate::channels::marked;
 use crate::places::Places;
-use noc_packet::{ChannelSet, Memory};
-use std::alloc::Global;
+use noc_packet::{ChannelSet, INDICES};
 
-/// What the input channels of one router ask for, and who gets it.
+/// What the input channels of one router ask for, and who gets it. There is room for those of any router.
 #[derive(Drop)]
 pub(crate) struct Requests {
     ports: usize,
     size: usize,
     // The input channels whose head may get a set, and by input channel that set.
     routed: ChannelSet,
-    routes: Vec<ChannelSet>,
+    routes: [ChannelSet; INDICES],
     // By input channel the output channel that it asks for.
     asks: Places,
     // By output channel the input channel, by input port the virtual channel, by output port the input port.
@@ -32,64 +31,54 @@ pub(crate) struct Requests {
     wins: Places,
     ghost few_ports: { ports ≤ MAX_PORTS },
     ghost few: { size ≤ INDICES },
-    ghost a_route_each: { vec_len routes ≡ size },
+    ghost room: { length routes ≡ INDICES },
     ghost an_ask_each: { length asks ≡ size },
     ghost a_grant_each: { length grants ≡ size },
     ghost a_pick_each: { length picks ≡ ports },
     ghost a_win_each: { length wins ≡ ports },
     ghost routed_below: { AreBelow size routed },
-    ghost quiet_routes: { AreQuiet routed 0 routes.items },
     ghost asks_for_channels: { AllBelow size asks },
     ghost granted_to_channels: { AllBelow size grants },
     ghost won_by_ports: { AllBelow ports wins },
 }
 
 impl Requests {
-    ghost use Rattle.noc_router.specs.Asked.{AreOfOneSize, arbiter_states_in, channels_past, grants_on, lists_in, no_requests, round_in, turns_in};
+    ghost use Rattle.noc_router.specs.Asked.{AreOfOneSize, arbiter_states_in, channels_past, grants_on, lists_in, no_requests, round_in, routes_in, turns_in};
     ghost use Rattle.noc_router.specs.Verdict.{pointers_of};
 
-    // No requests, for routers with so many ports, and so many channels in and out.
-    pub(crate) fn new(alloc: Global, ports: usize, size: usize) -> Result<Requests, Memory>
+    // No requests, for routers without channels.
+    pub(crate) fn new() -> Requests {
+        Requests {
+            ports: 0,
+            size: 0,
+            routed: ChannelSet::empty(),
+            routes: [ChannelSet::empty(); INDICES],
+            asks: Places::new(),
+            grants: Places::new(),
+            picks: Places::new(),
+            wins: Places::new(),
+        }
+    }
+
+    // No requests, for a router with so many ports, and so many channels in and out.
+    pub(crate) fn clear(&mut self, ports: usize, size: usize)
         requires ports { ports ≤ MAX_PORTS }
         requires size { size ≤ INDICES }
-        ensures { IfOk result (λ requests. lists_in requests ≡ no_requests ports size) }
+        ensures { lists_in self.new ≡ no_requests ports size }
     {
-        Ok(Requests {
-            ports,
-            size,
-            routed: ChannelSet::empty(),
-            routes: vec![in alloc; ChannelSet::empty(); size]?,
-            asks: Places::new(alloc, size)?,
-            grants: Places::new(alloc, size)?,
-            picks: Places::new(alloc, ports)?,
-            wins: Places::new(alloc, ports)?,
-        })
-    }
-
-    // No channel has a request.
-    pub(crate) fn clear(&mut self)
-        ensures { lists_in self.new ≡ record (lists_in self.old) { routes = replicate self.old.size 0; asks = replicate self.old.size None } }
-    {
-        while let Some(index) = self.routed.least_common(&self.routed) {
-            self.forget(index);
-        }
-        self.asks.clear();
-    }
-
-    // The head of an input channel gets no set.
-    fn forget(&mut self, index: usize)
-        requires { index < self.old.size }
-        ensures lists { lists_in self.new ≡ record (lists_in self.old) { routes = slice_set self.old.routes.items index 0 } }
-        ensures fewer { has_bit self.old.routed index ≡ true → self.new.routed < self.old.routed }
-    {
-        self.routes[index] = ChannelSet::empty();
-        self.routed = self.routed.without(index);
+        self.ports = ports;
+        self.size = size;
+        self.routed = ChannelSet::empty();
+        self.asks.clear(size);
+        self.grants.clear(size);
+        self.picks.clear(ports);
+        self.wins.clear(ports);
     }
 
     // The head of an input channel is to get this set.
     pub(crate) fn add_route(&mut self, index: usize, set: ChannelSet)
         requires { index < self.old.size }
-        ensures { lists_in self.new ≡ record (lists_in self.old) { routes = slice_set self.old.routes.items index set } }
+        ensures { lists_in self.new ≡ record (lists_in self.old) { routes = slice_set (routes_in self.old) index set } }
     {
         self.routed = self.routed.with(index);
         self.routes[index] = set;
@@ -104,20 +93,13 @@ impl Requests {
         self.asks.set(index, output);
     }
 
-    // The arbiters of the output channels decide on the requests.
+    // The arbiters of the output channels decide on the requests, where none is granted yet.
     pub(crate) fn grant_all(&mut self, arbiters: &Arbiters)
-        requires { AreOfOneSize arbiters.now self.old }
+        requires size { AreOfOneSize arbiters.now self.old }
+        requires none { self.old.grants ≡ replicate self.old.size None }
         ensures { lists_in self.new ≡ record (lists_in self.old) { grants = grants_on arbiters.now.ports arbiters.now.vcs self.old.asks (arbiter_states_in arbiters.now) } }
     {
         allocate_channels(&self.asks, &arbiters.channels, &mut self.grants);
-    }
-
-    // No input port has picked a channel, and no output port is won.
-    pub(crate) fn clear_switch(&mut self)
-        ensures { lists_in self.new ≡ record (lists_in self.old) { picks = replicate self.old.ports None; wins = replicate self.old.ports None } }
-    {
-        self.picks.clear();
-        self.wins.clear();
     }
 
     // An input port picks one of its channels that are ready to send, if it has one: its virtual channel.
@@ -193,17 +175,21 @@ impl Requests {
         }
     }
 
-    // The set for the head of an input channel.
+    // The set for the head of an input channel: the empty one where there is none.
     pub(crate) fn route(&self, index: usize) -> ChannelSet
-        requires { index < self.now.size }
-        ensures { result ≡ slice_index_or self.now.routes.items index 0 }
+        requires { index < INDICES }
+        ensures { result ≡ slice_index_or (routes_in self.now) index 0 }
     {
-        self.routes[index]
+        if self.routed.contains(index) {
+            self.routes[index]
+        } else {
+            ChannelSet::empty()
+        }
     }
 
     // The output channel that a waiting input channel asks for.
     pub(crate) fn ask(&self, index: usize) -> Option<usize>
-        requires { index < self.now.size }
+        requires { index < INDICES }
         ensures value { result ≡ slice_index_or self.now.asks index None }
         ensures within { IfSome result (λ output. output < self.now.size) }
     {

@@ -9,7 +9,7 @@ ghost use Rattle.noc_router.specs.Members.{AreBelow};
 ghost use Rattle.noc_vc.specs.Input.{is_active, is_empty};
 ghost use Rattle.noc_vc.specs.Output.{has_credit};
 ghost use Rattle.noc_router.specs.Arrivals.{noted_arrival};
-ghost use Rattle.noc_router.specs.Asked.{channels_past, lists_in, round_in};
+ghost use Rattle.noc_router.specs.Asked.{channels_past, lists_in, round_in, routes_in};
 ghost use Rattle.noc_router.specs.Decided.{IsDecidedFor};
 ghost use Rattle.noc_router.specs.Finish.{view_after_finish};
 ghost use Rattle.noc_router.specs.Found.{empty_finding};
@@ -18,9 +18,10 @@ ghost use Rattle.noc_router.specs.Links.{is_idle_beat};
 ghost use Rattle.noc_router.specs.Requests.{AllBelow, AreAmong};
 ghost use Rattle.noc_router.specs.Settled.{AreContentsFor, CanGrant, CanTakeEffect, decisions_by, effect_of, planned_verdict, passed_by, switch_past, view_after_tally, view_after_verdicts, view_after_route, view_after_grant, moved_by, credit_put, flit_put};
 ghost use Rattle.noc_router.specs.Sound.{is_awaiting, is_occupied};
-ghost use Rattle.noc_router.specs.Standing.{AreHeads, AreReady, AreRequestsOf, AreVerdictsOf, AreWaiting, HaveWon, IsPickedIn, IsStanding, loser_of, way_of};
+ghost use Rattle.noc_router.specs.Standing.{AreHeads, AreReady, AreRequestsOf, AreVerdictsOf, AreWaiting, HaveWon, IsPickedIn, IsStanding, IsSwitchFree, loser_of, way_of};
 ghost use Rattle.noc_route.specs.Routes.{Routes};
 ghost use Rattle.noc_packet.specs.Set.{has_bit};
+ghost use Rattle.noc_packet.specs.declared.limits.TheConstants.{INDICES};
 ghost use Rattle.noc_router.specs.Start.{IsNumberedPacket};
 ghost use Rattle.noc_router.specs.Still.{IsHeldBefore, takes_effect, view_after_waiting};
 ghost use Rattle.noc_router.specs.Tally.{finding_at};
@@ -229,14 +230,12 @@ impl Router {
 
     /// Writes into `plan` what every input channel asks for and what the arbiters decide. Nothing changes here.
     pub fn plan(&self, relation: &Relation, plan: &mut Plan)
-        requires relation { IsRelationOf relation.now self.now }
-        requires plan { IsDecidedFor (ports_of self.now.site.grid) self.now.site.vcs plan.old }
+        requires { IsRelationOf relation.now self.now }
         ensures value { plan.new ≡ plan_contents relation.now self.now }
-        ensures lengths { IsDecidedFor (ports_of self.now.site.grid) self.now.site.vcs plan.new }
         ensures picks { AllBelow self.now.site.vcs plan.new.round.picks }
     {
         let standing = self.channels.standing();
-        plan.requests.clear();
+        plan.requests.clear(self.ports, self.ports * self.vcs);
         self.route_heads(relation, standing.heads, &mut plan.requests);
         self.ask_for_channels(standing.waiting, &mut plan.requests);
         plan.requests.grant_all(&self.arbiters);
@@ -248,8 +247,8 @@ impl Router {
     fn route_heads(&self, relation: &Relation, heads: ChannelSet, requests: &mut Requests)
         requires relation { IsRelationOf relation.now self.now }
         requires heads { AreHeads self.now heads }
-        requires size { requests.old.size ≡ size_of self.now.site }
-        requires none { requests.old.routes.items ≡ replicate (size_of self.now.site) 0 }
+        requires size { AreRequestsOf self.now.site requests.old }
+        requires none { routes_in requests.old ≡ replicate (size_of self.now.site) 0 }
         ensures { lists_in requests.new ≡ record (lists_in requests.old) { routes = tabulate (size_of self.now.site) (route_of relation.now self.now) } }
     {
         let mut rest = heads;
@@ -274,7 +273,7 @@ impl Router {
     // What the waiting channels ask for, where nothing is asked for yet.
     fn ask_for_channels(&self, waiting: ChannelSet, requests: &mut Requests)
         requires waiting { AreWaiting self.now waiting }
-        requires size { requests.old.size ≡ size_of self.now.site }
+        requires size { AreRequestsOf self.now.site requests.old }
         requires none { requests.old.asks ≡ replicate (size_of self.now.site) None }
         ensures { lists_in requests.new ≡ record (lists_in requests.old) { asks = asks_of (view_stands self.now) } }
     {
@@ -285,8 +284,9 @@ impl Router {
         }
     }
 
-    // The switch is allocated to channels that are ready to send: each input port picks one of them, and each output port is
-    // won by one of the picks that go to it. Gives the channels that were picked, and those of them that won.
+    // The switch, which nobody has, is allocated to channels that are ready to send: each input port picks one of them, and
+    // each output port is won by one of the picks that go to it. Gives the channels that were picked, and those of them that
+    // won.
     fn allocate_switch(
         &self,
         ready: ChannelSet,
@@ -294,6 +294,7 @@ impl Router {
     ) -> (ChannelSet, ChannelSet)
         requires ready { AreReady self.now ready }
         requires size { AreRequestsOf self.now.site requests.old }
+        requires none { IsSwitchFree requests.old }
         ensures lists { lists_in requests.new ≡ record (lists_in requests.old) { picks = (view_round self.now).picks; wins = (view_round self.now).wins } }
         ensures within { AllBelow self.now.site.vcs requests.new.picks }
         ensures among { AreAmong ready result.0 }
@@ -303,7 +304,6 @@ impl Router {
         let mut picked = ChannelSet::empty();
         let mut lost = ChannelSet::empty();
         let mut rest = ready;
-        requests.clear_switch();
         while let Some(first) = rest.least_common(&rest) {
             let (port, _) = self.indices.place(first);
             rest = rest.from((port + 1) * self.vcs);
@@ -397,10 +397,8 @@ impl Router {
     /// Ends a cycle of a router that has taken its beats: it injects what is due by cycle `cycle` (from 0), decides and
     /// commits. Its findings are recorded, or stay those of the last cycle in which they were.
     pub fn finish(&mut self, relation: &Relation, plan: &mut Plan, cycle: u64, findings: Findings)
-        requires relation { IsRelationOf relation.now self.old }
-        requires plan { IsDecidedFor (ports_of self.old.site.grid) self.old.site.vcs plan.old }
-        ensures plan { IsDecidedFor (ports_of self.old.site.grid) self.old.site.vcs plan.new }
-        ensures view { self.new ≡ view_after_finish relation.now cycle findings self.old }
+        requires { IsRelationOf relation.now self.old }
+        ensures { self.new ≡ view_after_finish relation.now cycle findings self.old }
     {
         self.inject(cycle);
         match findings {
@@ -414,10 +412,8 @@ impl Router {
 
     // Plans and commits, and leaves the findings as they were. A router that holds nothing needs no plan.
     fn advance(&mut self, relation: &Relation, plan: &mut Plan)
-        requires relation { IsRelationOf relation.now self.old }
-        requires plan { IsDecidedFor (ports_of self.old.site.grid) self.old.site.vcs plan.old }
-        ensures plan { IsDecidedFor (ports_of self.old.site.grid) self.old.site.vcs plan.new }
-        ensures view { self.new ≡ record (view_after_commit (decisions_of relation.now self.old) self.old) { findings = self.old.findings } }
+        requires { IsRelationOf relation.now self.old }
+        ensures { self.new ≡ record (view_after_commit (decisions_of relation.now self.old) self.old) { findings = self.old.findings } }
     {
         if self.holds_nothing() {
             self.idle_cycle();
@@ -429,10 +425,8 @@ impl Router {
 
     /// Whether no verdict takes effect in a cycle in which nothing comes and nothing is injected.
     pub fn is_still(&self, relation: &Relation, plan: &mut Plan) -> bool
-        requires relation { IsRelationOf relation.now self.now }
-        requires plan { IsDecidedFor (ports_of self.now.site.grid) self.now.site.vcs plan.old }
-        ensures value { result ≡ not (takes_effect relation.now self.now) }
-        ensures plan { IsDecidedFor (ports_of self.now.site.grid) self.now.site.vcs plan.new }
+        requires { IsRelationOf relation.now self.now }
+        ensures { result ≡ not (takes_effect relation.now self.now) }
     {
         if self.holds_nothing() {
             return true;
@@ -462,10 +456,8 @@ impl Router {
     /// no verdict takes effect, so that the same verdicts are counted in each. `findings` stay.
     pub fn wait(&mut self, relation: &Relation, plan: &mut Plan, first: u64, end: u64)
         requires relation { IsRelationOf relation.now self.old }
-        requires plan { IsDecidedFor (ports_of self.old.site.grid) self.old.site.vcs plan.old }
         requires order { first < end }
-        ensures view { self.new ≡ view_after_waiting relation.now (end - first) (end - 1) self.old }
-        ensures plan { IsDecidedFor (ports_of self.old.site.grid) self.old.site.vcs plan.new }
+        ensures { self.new ≡ view_after_waiting relation.now (end - first) (end - 1) self.old }
     {
         self.cycle = end - 1;
         if self.holds_nothing() {
@@ -494,8 +486,7 @@ impl Router {
 
     // The verdicts of the plan of this state take effect; the findings stay.
     fn take_effect(&mut self, plan: &Plan)
-        requires lengths { IsDecidedFor (ports_of self.old.site.grid) self.old.site.vcs plan.now }
-        requires plan { AreContentsFor plan.now self.old }
+        requires { AreContentsFor plan.now self.old }
         ensures { (relation : Routes) → plan.now ≡ plan_contents relation self.old → self.new ≡ record (view_after_commit (decisions_of relation self.old) self.old) { findings = self.old.findings } }
     {
         self.count(plan);
@@ -506,8 +497,7 @@ impl Router {
 
     // The findings are those of this plan.
     fn show(&mut self, plan: &Plan)
-        requires lengths { IsDecidedFor (ports_of self.old.site.grid) self.old.site.vcs plan.now }
-        requires plan { AreContentsFor plan.now self.old }
+        requires { AreContentsFor plan.now self.old }
         ensures { self.new ≡ record self.old { findings = (decisions_by plan.now self.old).findings } }
     {
         self.tally.show(&self.channels, &self.indices, plan);
@@ -515,8 +505,7 @@ impl Router {
 
     // The verdicts are counted, and every beat is idle again.
     fn count(&mut self, plan: &Plan)
-        requires lengths { IsDecidedFor (ports_of self.old.site.grid) self.old.site.vcs plan.now }
-        requires plan { AreContentsFor plan.now self.old }
+        requires { AreContentsFor plan.now self.old }
         ensures { self.new ≡ view_after_tally (decisions_by plan.now self.old) self.old }
     {
         self.tally.count(plan);
@@ -533,7 +522,7 @@ impl Router {
 
     // The pointers of the output channels go on past the input channels that they were granted to.
     fn advance_channel_pointers(&mut self, plan: &Plan)
-        requires lengths { IsDecidedFor (ports_of self.old.site.grid) self.old.site.vcs plan.now }
+        requires { IsDecidedFor (ports_of self.old.site.grid) self.old.site.vcs plan.now }
         ensures { self.new ≡ record self.old { arbiters = channels_past plan.now.round self.old.arbiters } }
     {
         plan.advance(&mut self.arbiters);
@@ -551,7 +540,6 @@ impl Router {
 
     // The verdict of every input channel takes effect, and the pointers of the switch go on past the winners.
     fn apply_verdicts(&mut self, plan: &Plan)
-        requires lengths { IsDecidedFor (ports_of self.old.site.grid) self.old.site.vcs plan.now }
         requires plan { AreContentsFor plan.now self.old }
         requires beats { self.old.to_put ≡ idle_beats self.old.site }
         ensures { self.new ≡ record (view_after_verdicts (decisions_by plan.now self.old) self.old) { arbiters = record (arbiters_after plan.now.round self.old.arbiters) { channels = self.old.arbiters.channels } } }
@@ -568,8 +556,8 @@ impl Router {
 
     // The verdict of one input channel takes effect, and the pointers of the switch go on past it, if it moves.
     fn apply_verdict(&mut self, plan: &Plan, index: usize)
-        requires lengths { IsDecidedFor (ports_of self.old.site.grid) self.old.site.vcs plan.now }
         requires index { index < size_of self.old.site }
+        requires few { index < INDICES }
         requires event { is_event (planned_verdict plan.now index) ≡ true }
         requires can { CanTakeEffect plan.now self.old index (planned_verdict plan.now index) }
         ensures { self.new ≡ passed_by index (view_input self.old index).phase (planned_verdict plan.now index) (effect_of plan.now index self.old (planned_verdict plan.now index)) }
@@ -689,13 +677,11 @@ impl Router {
         beats_out: &mut [Beat],
     )
         requires relation { IsRelationOf relation.now self.old }
-        requires plan { IsDecidedFor (ports_of self.old.site.grid) self.old.site.vcs plan.old }
         requires beats_in { length beats_in.now ≡ local_port self.old.site.grid }
         requires beats_out { length beats_out.old ≡ local_port self.old.site.grid }
         ensures view { self.new ≡ (local_step relation.now self.old beats_in.now cycle).0 }
         ensures site { self.new.site ≡ self.old.site }
         ensures beats { beats_out.new ≡ (local_step relation.now self.old beats_in.now cycle).1 }
-        ensures plan { IsDecidedFor (ports_of self.old.site.grid) self.old.site.vcs plan.new }
     {
         self.take_all(relation, beats_in);
         self.inject(cycle);

@@ -4,11 +4,10 @@ use Rattle.std.specs.Prelude.{nat_eq, ◌&&◌, if◌then◌else◌}
 use Rattle.std.proofs.lemmas.Bool.{cases_lt, false≢true, le-ltb}
 use Rattle.std.proofs.lemmas.List.{get_or-map, length-map, length-replicate, map-id, same_lists}
 use Rattle.noc_topo.specs.Words.{tabulate, map_indexed}
-use Rattle.noc_topo.specs.Shape.{local_port, neighbour, nodes, ports}
+use Rattle.noc_topo.specs.Shape.{local_port, neighbour, nodes}
 use Rattle.noc_topo.proofs.WordLemmas.{length-tabulate, get_or-tabulate, tabulate-from_each, length-map_indexed, get_or-map_indexed}
 use Rattle.noc_packet.specs.declared.packet.Beat.{Beat}
 use Rattle.noc_route.specs.Routes.{Routes}
-use Rattle.noc_router.specs.Decided.{IsDecidedFor}
 use Rattle.noc_router.specs.declared.verdict.Findings.{Findings}
 use Rattle.noc_router.specs.declared.verdict.Findings.TheVariants.{Record, Leave}
 use Rattle.noc_router.specs.Finish.{view_after_finish}
@@ -144,10 +143,9 @@ module _ (relation : Routes) (first : ℕ) (ins outs : List (ℕ × ℕ)) (views
           ∙ sym (made-sent d)
 
       -- all routers of the tile can finish
-      pub can1 : (t : Tile) → t.first ≡ first → t.routers.items ≡ views1 → IsDecidedFor (ports relation.grid) relation.vcs t.plan → length t.beats.items ≡ nodes relation.grid
+      pub can1 : (t : Tile) → t.first ≡ first → t.routers.items ≡ views1 → length t.beats.items ≡ nodes relation.grid
           → ((r q : ℕ) → beat_at t.beats.items r q ≡ idle_beat) → CanFinish relation 0 (length views) t
-      can1 t same routers plan count silent = record {
-        plan = plan;
+      can1 t same routers count silent = record {
         order = omega arith;
         within = omega (arith, ap length routers, count1);
         wide = omega (arith, ap length routers, count1, same, set.wide);

@@ -3,10 +3,9 @@ use Rattle.std.proofs.Common.{◌≡◌, ◌⊎◌, inl, inr, ℕ, ◌+◌, ◌-
 use Rattle.std.specs.Prelude.{if◌then◌else◌}
 use Rattle.std.proofs.lemmas.Bool.{cases_lt, false≢true}
 use Rattle.std.proofs.lemmas.List.{get_or-map}
-use Rattle.noc_topo.specs.Shape.{neighbour, nodes, ports}
+use Rattle.noc_topo.specs.Shape.{neighbour, nodes}
 use Rattle.noc_packet.specs.declared.packet.Beat.{Beat}
 use Rattle.noc_route.specs.Routes.{Routes}
-use Rattle.noc_router.specs.Decided.{IsDecidedFor}
 use Rattle.noc_router.specs.declared.verdict.Findings.{Findings}
 use Rattle.noc_router.specs.declared.verdict.Findings.TheVariants.{Record}
 use Rattle.noc_router.specs.Finish.{view_after_finish}
@@ -111,7 +110,6 @@ whole-wire first a b n sent (Some (s, q)) l m =
 
 pub can-part : (relation : Routes) (i j i' j' : ℕ) (t : Tile) → CanFinish relation i j t → i ≤ i' → i' ≤ j' → j' ≤ j → CanFinish relation i' j' t
 can-part relation i j i' j' t can l m n = record {
-  plan = can.plan;
   order = m;
   within = omega (arith, can.within);
   wide = can.wide;
@@ -127,7 +125,6 @@ can-after relation n findings i j i' j' a b done can l apart =
     let first : b.first ≡ a.first = ap (λ (t : Tile). t.first) done.rest in
     let other : (k : ℕ) → i' ≤ k → k < j' → (k < i) ⊎ (j ≤ k) = λ k u v. ⊎_elim (λ (x : j ≤ i'). inr (omega arith)) (λ (y : j' ≤ i). inl (omega arith)) apart in
     record {
-      plan = done.plan;
       order = can.order;
       within = omega (arith, can.within, done.count);
       wide = omega (arith, can.wide, done.count, first);
@@ -148,7 +145,6 @@ can-cleared relation i j k outs a b can rest size cleared =
     let first : b.first ≡ a.first = ap (λ (t : Tile). t.first) rest in
     let routers : b.routers.items ≡ a.routers.items = ap (λ (t : Tile). t.routers.items) rest in
     record {
-      plan = subst (IsDecidedFor (ports relation.grid) relation.vcs) (sym (ap (λ (t : Tile). t.plan) rest)) can.plan;
       order = can.order;
       within = omega (arith, can.within, ap length routers);
       wide = omega (arith, can.wide, ap length routers, first);

@@ -4,10 +4,9 @@ use Rattle.std.specs.Prelude.{if◌then◌else◌}
 use Rattle.std.proofs.lemmas.Bool.{cases_eq, cases_lt}
 use Rattle.std.proofs.lemmas.Bool.Decides.{eqb_tells}
 use Rattle.std.proofs.lemmas.List.{get_or-map, get_or-set_same, get_or-set_other, get_or_read, length-set}
-use Rattle.noc_topo.specs.Shape.{local_port, neighbour, nodes, ports}
+use Rattle.noc_topo.specs.Shape.{local_port, neighbour, nodes}
 use Rattle.noc_packet.specs.declared.packet.Beat.{Beat}
 use Rattle.noc_route.specs.Routes.{Routes}
-use Rattle.noc_router.specs.Decided.{IsDecidedFor}
 use Rattle.noc_router.specs.declared.verdict.Findings.{Findings}
 use Rattle.noc_router.specs.declared.verdict.Findings.TheVariants.{Record, Leave}
 use Rattle.noc_router.specs.Finish.{view_after_finish}
@@ -83,7 +82,6 @@ module _ (relation : Routes) (n : ℕ) (findings : Findings) (i j : ℕ) (a : Ti
   pub finished-none : HaveFinished relation n findings i i a a
   finished-none = record {
     rest = refl;
-    plan = can.plan;
     count = refl;
     size = refl;
     views = λ k d l m. absurd (omega (arith, l, m));
@@ -124,12 +122,11 @@ module _ (relation : Routes) (n : ℕ) (findings : Findings) (i j : ℕ) (a : Ti
       first-at : (d : View) → v ≡ get_or a.routers.items k d
       first-at d = get_or_read a.routers.items k v (omega (arith, short, so_far.count)) is-first d
 
-      pub finished-more : c ≡ record b { plan = c.plan; routers = c.routers; beats = c.beats } → IsDecidedFor (ports relation.grid) relation.vcs c.plan → length c.beats.items ≡ length b.beats.items
+      pub finished-more : c ≡ record b { plan = c.plan; routers = c.routers; beats = c.beats } → length c.beats.items ≡ length b.beats.items
           → ((r q : ℕ) → r < nodes relation.grid → beat_at c.beats.items r q ≡ wire_after_puts (view_after_finish relation n findings v) (neighbour relation.grid r q) (beat_at b.beats.items r q))
           → HaveFinished relation n findings i (k + 1) a c
-      finished-more rest plan size wires = record {
+      finished-more rest size wires = record {
         rest = rest ∙ ap (λ (t : Tile). record t { plan = c.plan; routers = c.routers; beats = c.beats }) so_far.rest;
-        plan = plan;
         count = ap length set_is ∙ length-set b.routers.items k w ∙ so_far.count;
         size = size ∙ so_far.size;
         views = λ m d l u.

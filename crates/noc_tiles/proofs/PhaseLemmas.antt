@@ -1,18 +1,16 @@
 -- A cycle of a tile, phase by phase: what was taken, the routers at the edge that finish, what was sent, the inner routers that finish.
-use Rattle.std.proofs.Common.{◌≡◌, ℕ, ◌+◌, ◌-◌, ◌<◌, ◌≤◌, false, List, [], length, get_or, map, vec_len, inl, inr, refl, ap, sym, ◌∙◌, subst, arith, rules, ⊎_elim}
+use Rattle.std.proofs.Common.{◌≡◌, ℕ, ◌+◌, ◌-◌, ◌<◌, ◌≤◌, false, List, [], length, get_or, map, vec_len, inl, inr, refl, ap, sym, ◌∙◌, subst, arith, rules}
 use Rattle.std.specs.List.{All}
-use Rattle.std.proofs.lemmas.Bool.{cases_lt}
 use Rattle.std.proofs.lemmas.List.{get_or_default}
-use Rattle.noc_topo.specs.Shape.{neighbour, nodes, ports}
+use Rattle.noc_topo.specs.Shape.{neighbour, nodes}
 use Rattle.noc_topo.proofs.WordLemmas.{length-map_indexed}
 use Rattle.noc_packet.specs.declared.packet.Beat.{Beat}
 use Rattle.noc_route.specs.Routes.{Routes}
-use Rattle.noc_router.specs.Decided.{IsDecidedFor}
 use Rattle.noc_router.specs.declared.verdict.Findings.{Findings}
 use Rattle.noc_router.specs.declared.verdict.Findings.TheVariants.{Record}
 use Rattle.noc_router.specs.Finish.{view_after_finish}
 use Rattle.noc_router.specs.View.{View, idle_beat}
-use Rattle.noc_net.specs.Halves.{IsSilent, beat_at, view_after_puts}
+use Rattle.noc_net.specs.Halves.{beat_at, view_after_puts}
 use Rattle.noc_net.specs.Unseen.{without_findings}
 use Rattle.noc_tiles.specs.Ends.{End}
 use Rattle.noc_tiles.specs.Inner.{AreInner, CanFinish, HaveFinished, to_send}
@@ -24,16 +22,12 @@ use Rattle.noc_tiles.specs.declared.tile.Tile.{Tile}
 use Rattle.noc_tiles.proofs.CycleLemmas.{all-views, can1, wires5, put5, set5, set-as, some_view}
 use Rattle.noc_tiles.proofs.EdgeLemmas.{can-part, can-after, can-cleared, count5, views5, edge3, whole5, kept5}
 use Rattle.noc_tiles.proofs.FinishLemmas.{finish-unseen}
-use Rattle.noc_tiles.proofs.SentLemmas.{past-rows}
 use Rattle.noc_tiles.proofs.TileStepLemmas.{names-fed, places-names}
 
 -- ---- what is taken
 
 pub at_index : (P : List Beat → Type 0) (bs : List (List Beat)) → ((r : ℕ) → P (get_or bs r [])) → All P bs
 at_index P bs each k d l = subst P (get_or_default bs k [] d l) (each k)
-
-pub silent_at : (bs : List (List Beat)) → All IsSilent bs → (r q : ℕ) → beat_at bs r q ≡ idle_beat
-silent_at bs all r q = ⊎_elim (λ (l : r < length bs). all r [] l q) (λ (u : length bs ≤ r). past-rows bs r q u) (cases_lt r (length bs))
 
 -- what is taken, where the beats before and after have another name
 pub took-as : (ins : List (ℕ × ℕ)) (row : List Beat) (old new b0 b1 : List (List Beat)) → old ≡ b0 → b1 ≡ new → ((r q : ℕ) → beat_at new r q ≡ with_row (beat_at old) ins row r q)
@@ -74,7 +68,7 @@ module _ (relation : Routes) (n : ℕ) (findings : Findings) (inner : Inner) (ro
   can : CanFinish relation 0 (length views) t1
   can =
       can1 relation a.first ins outs views a.beats.items ready.parts row n views1 took.views t1 first1 refl
-      (subst (IsDecidedFor (ports relation.grid) relation.vcs) (sym (ap (λ (t : Tile). t.plan) rest1)) ready.plan) rows1 took.silent
+      rows1 took.silent
 
   pub edge-can : CanFinish relation 0 inner.from t1
   edge-can = can-part relation 0 (length views) 0 inner.from t1 can (omega arith) (omega arith) (omega (arith, fits.order, fits.within))
@@ -175,7 +169,6 @@ module _ (relation : Routes) (n : ℕ) (findings : Findings) (inner : Inner) (ro
           -- the tile is ready for the next cycle
           pub ready-again : IsReady relation t5
           ready-again = record {
-            plan = three.plan;
             few_links = ready.few_links;
             parts = set-as relation a.first t5.first ins (arrival_places (inlets t5)) outs (arrival_places (outlets t5)) views' views' t5.beats.items t5.beats.items (sym first5) (sym same-ins) (sym same-outs) refl refl
                 (set5 relation a.first ins outs views a.beats.items ready.parts row n views1 took.views d views' n5 did t3.beats.items t4.beats.items t5.beats.items inner fits cleared edge whole kept rows5);

@@ -1,10 +1,8 @@
 -- The phases of a tile's cycle: what came is taken, and what leaves the tile is sent.
 use Rattle.std.specs.Prelude.{ℕ, ◌≡◌, ◌≢◌, ◌⊎◌, ◌<◌, List, map, length, get_or, vec_len}
-use Rattle.noc_topo.specs.Shape.{ports}
 use Rattle.noc_topo.specs.Words.{map_indexed}
 use Rattle.noc_packet.specs.declared.packet.Beat.{Beat}
 use Rattle.noc_route.specs.Routes.{Routes}
-use Rattle.noc_router.specs.Decided.{IsDecidedFor}
 use Rattle.noc_router.specs.View.{View, view_after_takes, idle_beat}
 use Rattle.noc_net.specs.Halves.{beat_at}
 use Rattle.noc_tiles.specs.TileStep.{beats_arriving, ends_after_beats, arrival_places}
@@ -12,10 +10,9 @@ use Rattle.noc_tiles.specs.Tiles.{IsSameTile, inlets, outlets, layout_of, state_
 use Rattle.noc_tiles.specs.declared.tile.Tile.{Tile}
 
 -- what a cycle leaves alone, also one that was broken off
-pub record KeepsTile (relation : Routes) (a b : Tile) : Type 0 where
+pub record KeepsTile (a b : Tile) : Type 0 where
   pub same : IsSameTile a b
   pub count : vec_len b.routers ≡ vec_len a.routers
-  pub plan : IsDecidedFor (ports relation.grid) relation.vcs b.plan
   pub done : b.done ≡ a.done
   pub outcome : b.outcome ≡ a.outcome
 

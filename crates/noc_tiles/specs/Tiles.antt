@@ -1,9 +1,8 @@
 -- What a run of a tile does.
 use Rattle.std.specs.Prelude.{ℕ, Bool, true, false, ◌≡◌, ◌↔◌, ◌+◌, ◌<◌, ◌≤◌, ◌^◌, List, [], ◌∷◌, map, length, get_or, vec_len}
-use Rattle.noc_topo.specs.Shape.{nodes, ports, local_port, neighbour}
+use Rattle.noc_topo.specs.Shape.{nodes, local_port, neighbour}
 use Rattle.noc_packet.specs.declared.packet.Beat.{Beat}
 use Rattle.noc_route.specs.Routes.{Routes}
-use Rattle.noc_router.specs.Decided.{IsDecidedFor}
 use Rattle.noc_router.specs.declared.verdict.Findings.{Findings}
 use Rattle.noc_router.specs.View.{View, idle_beat}
 use Rattle.noc_net.specs.Halves.{HasItsBeats, beat_at}
@@ -46,7 +45,6 @@ pub record PartsFit (relation : Routes) (first : ℕ) (ins outs : List (ℕ × �
 
 -- its parts fit each other and the relation
 pub record IsReady (relation : Routes) (t : Tile) : Type 0 where
-  pub plan : IsDecidedFor (ports relation.grid) relation.vcs t.plan
   pub few_links : local_port relation.grid ≤ 6
   pub parts : PartsFit relation t.first (arrival_places (inlets t)) (arrival_places (outlets t)) t.routers.items t.beats.items
 

@@ -5,8 +5,7 @@
 //! edge gains nothing, as two rows of a mesh with a neighbour on each side.
 
 ghost use Rattle.std.specs.Prelude.{ℕ, ◌≡◌, ◌<◌};
-ghost use Rattle.noc_topo.specs.Shape.{nodes as nodes_of, ports as ports_of, neighbour as neighbour_of};
-ghost use Rattle.noc_router.specs.Decided.{IsDecidedFor};
+ghost use Rattle.noc_topo.specs.Shape.{nodes as nodes_of, neighbour as neighbour_of};
 ghost use Rattle.noc_router.specs.Finish.{view_after_finish};
 ghost use Rattle.noc_net.specs.Halves.{beat_at, view_after_puts, wire_after_puts};
 ghost use Rattle.noc_tiles.specs.Inner.{CanFinish, HaveFinished, RouterCanFinish};
@@ -51,8 +50,7 @@ fn finish(
     router: &mut Router,
     beats: &mut [[Beat; LINKS]],
 )
-    requires { RouterCanFinish relation.now plan.old router.old beats.old }
-    ensures plan { IsDecidedFor (ports_of relation.now.grid) relation.now.vcs plan.new }
+    requires { RouterCanFinish relation.now router.old beats.old }
     ensures router { router.new ≡ view_after_puts (view_after_finish relation.now cycle findings router.old) }
     ensures beats { (r q : ℕ) → r < nodes_of relation.now.grid → beat_at beats.new r q ≡ wire_after_puts (view_after_finish relation.now cycle findings router.old) (neighbour_of relation.now.grid r q) (beat_at beats.old r q) }
 {

@@ -26,7 +26,7 @@ use std::sync::Wait;
 pub(crate) fn take(rt: &impl Wait, relation: &Relation, tile: &mut Tile, stop: &Stop) -> bool
     requires { IsReady relation.now tile.old }
     ensures rest { tile.new ≡ record tile.old { routers = tile.new.routers; beats = tile.new.beats; ins = tile.new.ins } }
-    ensures kept { KeepsTile relation.now tile.old tile.new }
+    ensures kept { KeepsTile tile.old tile.new }
     ensures taken { IsTrue result → (row : List beat_value) × TileHasTaken relation.now row tile.old tile.new }
     ensures stopped { IsFalse result → stop.now ≡ true }
 {

@@ -2,8 +2,6 @@
 
 ghost use Rattle.std.specs.Prelude.{ℕ, List, ◌≡◌, ◌+◌, ◌<◌, ◌^◌, ◌↔◌, true, false, vec_len, IsTrue, IsFalse};
 ghost use Rattle.noc_packet.specs.declared.packet.Beat.{Beat as beat_value};
-ghost use Rattle.noc_topo.specs.Shape.{ports as ports_of};
-ghost use Rattle.noc_router.specs.Decided.{IsDecidedFor};
 ghost use Rattle.noc_router.specs.declared.verdict.Findings.TheVariants.{Record};
 ghost use Rattle.noc_tiles.specs.Inner.{AreInner};
 ghost use Rattle.noc_tiles.specs.Phases.{KeepsTile};
@@ -33,7 +31,7 @@ fn cycle(
 ) -> bool
     requires ready { IsReady relation.now tile.old }
     requires inner { AreInner relation.now.grid tile.old.first (vec_len tile.old.routers) (arrival_places (outlets tile.old)) inner }
-    ensures kept { KeepsTile relation.now tile.old tile.new }
+    ensures kept { KeepsTile tile.old tile.new }
     ensures ready { IsTrue result → IsReady relation.now tile.new }
     ensures ran { IsTrue result → (row : List beat_value) × Cycles relation.now findings cycle tile.old tile.new row }
     ensures stopped { IsFalse result → stop.now ≡ true }
@@ -76,7 +74,6 @@ pub fn run_tile<G: Gate>(
     requires done { tile.done ≡ 0 }
     requires end { tile.start + tile.cycles < 2 ^ 64 }
     ensures same { IsSameTile tile result }
-    ensures plan { IsDecidedFor (ports_of relation.now.grid) relation.now.vcs result.plan }
     ensures whole { (result.outcome ≡ Whole) ↔ (result.done ≡ tile.cycles) }
     ensures ran { result.outcome ≡ Whole → Runs relation.now tile.cycles tile result }
     ensures asked { result.outcome ≡ Whole → (k : ℕ) → k < tile.cycles → G.shuts gate.now tile.worker (tile.start + k) ≡ false }

@@ -8,7 +8,6 @@ cycle-requires-clause-in_step c =
 
 pub loop-now-preserved : goal.loop-now-preserved
 loop-now-preserved c = record {
-  plan = c.jump-now.ensures.plan;
   order = c.jump-now.ensures.within.1;
   in_step = λ net is first. c.jump-now.ensures.in_step net is (c.cycle.ensures.in_step net is (c.loop-now.invariant.in_step net is first));
   count = omega (arith, c.cycle.auto.beats, c.loop-now.invariant.count);

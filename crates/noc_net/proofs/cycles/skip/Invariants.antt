@@ -1,6 +1,5 @@
 use Rattle.std.proofs.Common.{◌≡◌, ◌-◌, ◌≤◌, length}
-use Rattle.noc_topo.specs.Shape.{nodes, ports}
-use Rattle.noc_router.specs.Decided.{IsDecidedFor}
+use Rattle.noc_topo.specs.Shape.{nodes}
 use Rattle.noc_router.specs.declared.verdict.Findings.TheVariants.{Leave}
 use Rattle.noc_model.specs.Network.{Setup}
 use Rattle.noc_model.specs.Unseen.{AreInStep}
@@ -9,7 +8,6 @@ use Rattle.noc_net.proofs.cycles.skip.Given as goal
 -- the cycles before this one have run
 abbrev pub invariant-loop-now : goal.invariant-loop-now
 invariant-loop-now l = record {
-  plan : IsDecidedFor (ports l.relation.grid) l.relation.vcs l.plan;
   order : l.now ≤ l.end;
   in_step : (net : Setup) → net.relation ≡ l.relation → AreInStep net Leave l.first l.initial.routers l.initial.beats → AreInStep net Leave l.now l.routers l.beats;
   count : length l.beats ≡ nodes l.relation.grid;

@@ -14,6 +14,6 @@ returns-clause-in_step c = λ net is in_step.
     let less : c.args.last + 1 < until = omega (arith, c.if-until-first.false) in
     let waited = still-wait here (c.args.last + 1) until c.args.routers.now beats less
     (to_relation (λ net. AreInStep net Leave (c.args.last + 1) c.args.routers.now beats) c.args.relation.now net is in_step)
-    (c.all_silent.ensures.0 c.if-not-all_silent.false) c.requires.count (c.all_still.ensures.still.0 c.if-not-all_still.false) c.first_injection-until.ensures.held in
+    (c.all_silent.ensures.0 c.if-not-all_silent.false) c.requires.count (c.all_still.ensures.0 c.if-not-all_still.false) c.first_injection-until.ensures.held in
     from_relation (λ net. AreInStep net Leave until c.wait_all.new.routers beats) c.args.relation.now net is
-    (subst (λ vs. AreInStep here Leave until vs beats) (sym c.wait_all.ensures.routers) waited)
+    (subst (λ vs. AreInStep here Leave until vs beats) (sym c.wait_all.ensures) waited)

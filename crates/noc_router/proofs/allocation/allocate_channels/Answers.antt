@@ -1,6 +1,6 @@
-use Rattle.std.proofs.Common.{◌<◌, None, length, get_or, arith, sym, ◌∙◌, subst, ap}
+use Rattle.std.proofs.Common.{◌<◌, List, Option, ℕ, None, length, get_or, sym, ◌∙◌, subst, ap}
 use Rattle.std.specs.Prelude.{IfSome}
-use Rattle.std.proofs.lemmas.List.{get_or-replicate, get_or_past}
+use Rattle.std.proofs.lemmas.List.{get_or-replicate, get_or_past, length-replicate}
 use Rattle.noc_alloc.specs.Arbiter.{pointers_of}
 use Rattle.noc_alloc.specs.Allocation.{grant_of}
 use Rattle.noc_topo.specs.Words.{is_some_of}
@@ -12,10 +12,10 @@ use Rattle.noc_router.proofs.allocation.allocate_channels.Goals as goal
 
 pub loop-input-init : goal.loop-input-init
 loop-input-init c = (
-  offered-first (length c.args.asks.now) c.args.arbiters.now (λ i. get_or c.args.asks.now i None) (λ i. get_or c.args.asks.now i None) c.filled-rest.result c.clear.new.self
-      (λ o l. ap (λ xs. get_or xs o None) c.clear.ensures.value ∙ get_or-replicate (length c.args.grants.now) o None None (omega arith)) c.filled-rest.ensures.members
+  offered-first (length c.args.asks.now) c.args.arbiters.now (λ i. get_or c.args.asks.now i None) (λ i. get_or c.args.asks.now i None) c.filled-rest.result c.args.grants.now
+      (λ o l. ap (λ xs. get_or xs o None) c.requires.none ∙ get_or-replicate (length c.args.arbiters.now) o None None l) c.filled-rest.ensures.members
       (λ k l. get_or_past c.args.asks.now k None l) (λ k e. e),
-  c.clear.ensures.count ∙ c.requires.lengths,
+  ap (λ (xs : List (Option ℕ)). length xs) c.requires.none ∙ length-replicate (length c.args.arbiters.now) None,
 )
 
 pub offer-requires-clause-asked : goal.offer-requires-clause-asked
@@ -39,9 +39,6 @@ loop-input-preserved c = (
       (sym c.get.ensures ∙ c.in_default-get.is) c.in-Some.ensures.least c.without-rest.ensures.members c.loop-input.invariant.0,
   c.loop-input.invariant.1,
 )
-
-pub get-requires : goal.get-requires
-get-requires c = c.loop-input.invariant.0.below c.in-Some.input (both_has _ _ c.in-Some.ensures.least.0)
 
 pub returns-clause-grants : goal.returns-clause-grants
 returns-clause-grants c =

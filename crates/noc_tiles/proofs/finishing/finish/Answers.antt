@@ -1,35 +1,25 @@
-use Rattle.std.proofs.Common.{◌≡◌, ℕ, ◌<◌, Some, ap, subst, sym, ◌∙◌}
-use Rattle.noc_topo.specs.Shape.{neighbour, nodes, ports}
-use Rattle.noc_router.specs.Decided.{IsDecidedFor}
-use Rattle.noc_router.specs.View.{PlanContents, Site, View}
+use Rattle.std.proofs.Common.{◌<◌, Some, ap, subst, sym, ◌∙◌}
+use Rattle.noc_topo.specs.Shape.{neighbour, nodes}
+use Rattle.noc_router.specs.View.{Site, View}
 use Rattle.noc_net.specs.Halves.{HasItsBeats, beat_at, view_after_puts, wire_after_puts}
 use Rattle.noc_tiles.proofs.FinishLemmas.{finish-placed, finish-site}
 use Rattle.noc_tiles.proofs.finishing.finish.Goals as goal
 
-decided-as : (ports-of ports-at vcs-of vcs-at : ℕ) (p : PlanContents) → ports-of ≡ ports-at → vcs-of ≡ vcs-at → IsDecidedFor ports-of vcs-of p → IsDecidedFor ports-at vcs-at p
-decided-as ports-of ports-at vcs-of vcs-at p same vcs fits = subst (λ (v : ℕ). IsDecidedFor ports-at v p) vcs (subst (λ (n : ℕ). IsDecidedFor n vcs-of p) same fits)
-
-pub finish-requires-clause-plan : goal.finish-requires-clause-plan
-finish-requires-clause-plan c = decided-as _ _ _ _ c.args.plan.now (ap ports c.requires.built.grid) c.requires.built.vcs c.requires.plan
-
-pub returns-clause-plan : goal.returns-clause-plan
-returns-clause-plan c = decided-as _ _ _ _ c.finish.new.plan (sym (ap ports c.requires.built.grid)) (sym c.requires.built.vcs) c.finish.ensures.plan
-
 pub deliver-requires-clause-router : goal.deliver-requires-clause-router
 deliver-requires-clause-router c =
-    subst (λ (v : View). HasItsBeats c.args.relation.now v.site.node v) (sym c.finish.ensures.view) (finish-placed c.args.relation.now c.args.cycle c.args.findings c.args.router.now c.requires.built)
+    subst (λ (v : View). HasItsBeats c.args.relation.now v.site.node v) (sym c.finish.ensures) (finish-placed c.args.relation.now c.args.cycle c.args.findings c.args.router.now c.requires.built)
 
 pub deliver-requires-clause-node : goal.deliver-requires-clause-node
 deliver-requires-clause-node c =
-    subst (λ (s : Site). s.node < nodes c.args.relation.now.grid) (sym (ap (λ (v : View). v.site) c.finish.ensures.view ∙ finish-site c.args.relation.now c.args.cycle c.args.findings c.args.router.now)) c.requires.node
+    subst (λ (s : Site). s.node < nodes c.args.relation.now.grid) (sym (ap (λ (v : View). v.site) c.finish.ensures ∙ finish-site c.args.relation.now c.args.cycle c.args.findings c.args.router.now)) c.requires.node
 
 pub deliver-requires-clause-idle : goal.deliver-requires-clause-idle
 deliver-requires-clause-idle c = λ r q p e.
-    c.requires.idle r q p (e ∙ ap (λ (s : Site). Some (s.node, p)) (ap (λ (v : View). v.site) c.finish.ensures.view ∙ finish-site c.args.relation.now c.args.cycle c.args.findings c.args.router.now))
+    c.requires.idle r q p (e ∙ ap (λ (s : Site). Some (s.node, p)) (ap (λ (v : View). v.site) c.finish.ensures ∙ finish-site c.args.relation.now c.args.cycle c.args.findings c.args.router.now))
 
 pub returns-clause-router : goal.returns-clause-router
-returns-clause-router c = c.deliver.ensures.router ∙ ap view_after_puts c.finish.ensures.view
+returns-clause-router c = c.deliver.ensures.router ∙ ap view_after_puts c.finish.ensures
 
 pub returns-clause-beats : goal.returns-clause-beats
 returns-clause-beats c = λ r q l.
-    c.deliver.ensures.beats r q l ∙ ap (λ (v : View). wire_after_puts v (neighbour c.args.relation.now.grid r q) (beat_at c.args.beats.now r q)) c.finish.ensures.view
+    c.deliver.ensures.beats r q l ∙ ap (λ (v : View). wire_after_puts v (neighbour c.args.relation.now.grid r q) (beat_at c.args.beats.now r q)) c.finish.ensures

@@ -24,7 +24,6 @@ finish-requires c =
     let at = c.index_mut.result.now in
     let node = next-node relation c.args.cycle c.args.findings c.args.from c.args.to c.args.tile.now c.requires c.loop-i.tile c.loop-i.i v c.loop-i.auto.i c.loop-i-test.true at c.index_mut.ensures.value in
     record {
-      plan = v.plan;
       built = next-built relation c.args.cycle c.args.findings c.args.from c.args.to c.args.tile.now c.requires c.loop-i.tile c.loop-i.i v c.loop-i.auto.i c.loop-i-test.true at c.index_mut.ensures.value;
       node = omega (arith, node, c.requires.within, c.requires.wide, c.loop-i-test.true);
       count = ap length c.deref_mut.ensures.value ∙ v.size ∙ c.requires.count;
@@ -39,7 +38,7 @@ loop-i-preserved c =
     let now : (with_items b.beats c.finish.new.beats).items ≡ c.finish.new.beats = with_items_is b.beats c.finish.new.beats (search (rules, arith)) in
     let old = c.deref_mut.ensures.value in
     finished-more c.args.relation.now c.args.cycle c.args.findings c.args.from c.args.to c.args.tile.now c.requires b c.loop-i.i c.loop-i.invariant c.loop-i.auto.i c.loop-i-test.true
-    c.index_mut.result.now c.index_mut.ensures.value _ c.finish.new.router c.finish.ensures.router refl refl c.finish.ensures.plan
+    c.index_mut.result.now c.index_mut.ensures.value _ c.finish.new.router c.finish.ensures.router refl refl
     (ap length now ∙ size)
     (λ r q l. ap (λ (w : List (List Beat)). beat_at w r q) now ∙ c.finish.ensures.beats r q l
     ∙ ap (λ (w : List (List Beat)). wire_after_puts (view_after_finish c.args.relation.now c.args.cycle c.args.findings c.index_mut.result.now) (neighbour c.args.relation.now.grid r q) (beat_at w r q)) old)

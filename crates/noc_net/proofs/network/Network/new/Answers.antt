@@ -22,10 +22,9 @@ invariant_of-result c =
       parts = parts-in_step _ good (omega arith)
           (record {
             views = views ∙ sym (opening_views net);
-            wires = opening_wires net c.in_ok-routers.beats.items (silent_at c.in_ok-routers.beats.items c.in_ok-routers.ensures.beats.1);
+            wires = opening_wires net c.in_ok-routers.beats.items (silent_at c.in_ok-routers.beats.items c.in_ok-routers.ensures.idle);
           })
-          c.in_ok-routers.ensures.beats.0
-          c.in_ok-routers.ensures.plan
+          c.in_ok-routers.ensures.beats
           c.in_ok-routers.ensures.room;
       behind = omega arith;
       within = omega arith;

@@ -32,10 +32,10 @@ returns-clause-parts c =
     } in
     let count : parts.count + c.args.cycles - 1 + 1 ≡ parts.count + c.args.cycles = omega (arith, c.if-cycles-eq0.false) in
     let end : AreInStep net Record (parts.count + c.args.cycles) c.run_all.new.routers c.run_all.new.beats =
-    subst (λ (k : ℕ). AreInStep net Record k c.run_all.new.routers c.run_all.new.beats) count (c.run_all.ensures.in_step net refl (to_unseen net parts.count c.deref_mut.result.now c.deref_mut-2.result.now first)) in
+    subst (λ (k : ℕ). AreInStep net Record k c.run_all.new.routers c.run_all.new.beats) count (c.run_all.ensures net refl (to_unseen net parts.count c.deref_mut.result.now c.deref_mut-2.result.now first)) in
     parts-in_step _ sound.good c.requires.within
     (record {
       views = with_items_is parts.routers c.run_all.new.routers (omega (arith, c.run_all.auto.routers, c.deref_mut.ensures.len)) ∙ end.views;
       wires = λ r port. ap (λ (beats : List (List Beat)). beat_at beats r port) (with_items_is parts.beats c.run_all.new.beats (omega (arith, c.run_all.auto.beats, c.deref_mut-2.ensures.len))) ∙ end.wires r port;
     })
-    sound.beats c.run_all.ensures.plan sound.room
+    sound.beats sound.room

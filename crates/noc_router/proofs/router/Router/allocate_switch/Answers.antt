@@ -1,4 +1,4 @@
-use Rattle.std.proofs.Common.{◌≡◌, ◌+◌, ◌<◌, Some, None, length, set, ap, sym, ◌∙◌, arith, subst, replicate}
+use Rattle.std.proofs.Common.{◌≡◌, ◌+◌, ◌<◌, Some, None, length, set, ap, sym, ◌∙◌, arith, refl, subst, replicate}
 use Rattle.std.specs.Prelude.{◌||◌}
 use Rattle.noc_topo.specs.Shape.{ports as ports_of}
 use Rattle.noc_packet.specs.Set.{has_bit}
@@ -12,11 +12,11 @@ use Rattle.noc_router.proofs.router.Router.allocate_switch.Goals as goal
 
 pub loop-first-init : goal.loop-first-init
 loop-first-init c = record {
-  lists = ap (λ (x : RequestLists). record x { picks = c.clear_switch.new.self.picks; wins = c.clear_switch.new.self.wins }) c.clear_switch.ensures;
+  lists = refl;
   allocated =
-      allocated-first c.args.self.now c.args.ready c.clear_switch.new.self.picks c.clear_switch.new.self.wins c.empty-picked.result c.empty-lost.result
-      (ap (λ (x : RequestLists). x.picks) c.clear_switch.ensures ∙ ap (λ n. replicate n None) c.requires.size.ports)
-      (ap (λ (x : RequestLists). x.wins) c.clear_switch.ensures ∙ ap (λ n. replicate n None) c.requires.size.ports) c.empty-picked.ensures.members c.empty-lost.ensures.members;
+      allocated-first c.args.self.now c.args.ready c.args.requests.now.picks c.args.requests.now.wins c.empty-picked.result c.empty-lost.result
+      (c.requires.none.picks ∙ ap (λ n. replicate n None) c.requires.size.ports)
+      (c.requires.none.wins ∙ ap (λ n. replicate n None) c.requires.size.ports) c.empty-picked.ensures.members c.empty-lost.ensures.members;
 }
 
 pub from-rest-requires : goal.from-rest-requires

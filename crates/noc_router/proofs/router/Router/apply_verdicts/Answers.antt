@@ -4,7 +4,7 @@ use Rattle.std.proofs.lemmas.Bool.{and_parts}
 use Rattle.noc_packet.specs.Set.{has_bit}
 use Rattle.noc_router.specs.Settled.{decisions_by, planned_verdict}
 use Rattle.noc_router.proofs.LinkLemmas.{none_below-more, none_from_search}
-use Rattle.noc_router.proofs.OutcomeLemmas.{can_take, effect_first, effect_more}
+use Rattle.noc_router.proofs.OutcomeLemmas.{can_take, outcome-decided, effect_first, effect_more}
 use Rattle.noc_router.proofs.PassedLemmas.{can_take-turns, each-view, effect-turns, passed-all, passing-more, passing_first, with_turns}
 use Rattle.noc_router.proofs.QuietLemmas.{least_member}
 use Rattle.noc_router.proofs.SettleLemmas.{none_left, whole_view, size_view}
@@ -19,7 +19,7 @@ loop-init c =
     record {
       whole = whole;
       each = each;
-      settling = effect_first c.args.plan.now v c.events-rest.result whole c.requires.plan c.requires.lengths.verdicts c.events-rest.ensures c.requires.beats;
+      settling = effect_first c.args.plan.now v c.events-rest.result whole c.requires.plan (outcome-decided c.args.plan.now v c.requires.plan).verdicts c.events-rest.ensures c.requires.beats;
       passing = passing_first c.args.plan.now v c.events-rest.result whole c.requires.plan each c.events-rest.ensures;
       below = λ k l. absurd (omega arith);
       events = λ k e. sym (c.events-rest.ensures k) ∙ e;

@@ -16,7 +16,7 @@ loop-index-preserved c =
     let after = c.set_ask.new.self in
     let kept = λ (x : RequestLists). record x { asks = after.asks } in
     let l : i < size_of v.site = c.requires.waiting.below i (c.loop-index.invariant.among i (least_member _ _ c.in-Some.ensures.least)) in
-    let size : before.size ≡ size_of v.site = ap (λ (x : RequestLists). x.size) c.loop-index.invariant.lists ∙ c.requires.size in
+    let size : before.size ≡ size_of v.site = ap (λ (x : RequestLists). x.size) c.loop-index.invariant.lists ∙ c.requires.size.size in
     let asked : c.asked.result ≡ ask_of (view_claim v i) = asked-view c.self.inside v i c.asked.result c.self.view_is c.self.invariant c.asked.ensures.value in
     record {
       among = λ k is. c.loop-index.invariant.among k (without-member c.loop-index.rest c.without-rest.result i k c.without-rest.ensures.members is);
@@ -30,7 +30,7 @@ pub returns : goal.returns
 returns c =
     let v = c.args.self.now in
     let l = c.loop-index in
-    let size : l.requests.size ≡ size_of v.site = ap (λ (x : RequestLists). x.size) l.invariant.lists ∙ c.requires.size in
+    let size : l.requests.size ≡ size_of v.site = ap (λ (x : RequestLists). x.size) l.invariant.lists ∙ c.requires.size.size in
     l.invariant.lists
     ∙ ap (λ xs. record (lists_in c.args.requests.now) { asks = xs })
     (filled-last (size_of v.site) l.rest None (λ k. ask_of (view_claim v k)) l.requests.asks l.invariant.asks (none_left _ c.in_default.ensures.least) (omega arith) ∙ sym (asks_of-stands v))

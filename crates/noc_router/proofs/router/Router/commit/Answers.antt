@@ -1,22 +1,12 @@
 use Rattle.std.proofs.Common.{ap, sym, ◌∙◌, subst}
-use Rattle.noc_topo.specs.Shape.{ports}
-use Rattle.noc_router.specs.Decided.{IsDecidedFor}
 use Rattle.noc_router.specs.Settled.{AreContentsFor, decisions_by}
 use Rattle.noc_router.specs.View.{Decisions, View, view_after_commit, plan_contents, decisions_of}
-use Rattle.noc_router.proofs.OutcomeLemmas.{committed-from-shown, decisions-are, outcome-decided, outcome-shown, outcome_of-shown}
+use Rattle.noc_router.proofs.OutcomeLemmas.{committed-from-shown, decisions-are, outcome-shown, outcome_of-shown}
 use Rattle.noc_router.proofs.SiteLemmas.{committed-shown}
 use Rattle.noc_router.proofs.router.Router.commit.Goals as goal
 
-pub show-requires-clause-lengths : goal.show-requires-clause-lengths
-show-requires-clause-lengths c = outcome-decided c.args.plan.now c.args.self.now c.requires
-
-pub take_effect-requires-clause-lengths : goal.take_effect-requires-clause-lengths
-take_effect-requires-clause-lengths c =
-    let P : View → Type 0 = λ x. IsDecidedFor (ports x.site.grid) x.site.vcs c.args.plan.now in
-    subst P (sym c.show.ensures) (outcome-decided c.args.plan.now c.args.self.now c.requires)
-
-pub take_effect-requires-clause-plan : goal.take_effect-requires-clause-plan
-take_effect-requires-clause-plan c =
+pub take_effect-requires : goal.take_effect-requires
+take_effect-requires c =
     let p = c.args.plan.now in
     let v = c.args.self.now in
     let P : View → Type 0 = λ x. AreContentsFor p x in

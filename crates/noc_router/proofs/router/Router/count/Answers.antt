@@ -7,9 +7,16 @@ use Rattle.noc_router.specs.Inside.{view_of}
 use Rattle.noc_router.specs.Settled.{decisions_by, planned_verdict, view_after_tally}
 use Rattle.noc_router.specs.Tally.{TallyContents}
 use Rattle.noc_router.specs.View.{counts_after, idle_beat, size_of}
-use Rattle.noc_router.proofs.OutcomeLemmas.{counted-outcome}
+use Rattle.noc_router.proofs.OutcomeLemmas.{counted-outcome, outcome-decided}
+use Rattle.noc_router.proofs.SettleLemmas.{size_view}
 use Rattle.noc_router.proofs.RouterLemmas.{IsRouter-counted}
 use Rattle.noc_router.proofs.router.Router.count.Goals as goal
+
+pub count-requires : goal.count-requires
+count-requires c =
+    let r = c.self.inside in
+    let size : size_of c.args.self.now.site ≡ r.ports * r.vcs = size_view r c.args.self.now c.self.view_is c.self.invariant in
+    (outcome-decided c.args.plan.now c.args.self.now c.requires).verdicts ∙ size ∙ sym c.self.invariant.counts
 
 pub invariant_of-self : goal.invariant_of-self
 invariant_of-self c =

@@ -1,24 +1,15 @@
-use Rattle.std.proofs.Common.{◌≡◌, ap, sym, ◌∙◌, subst}
-use Rattle.noc_topo.specs.Shape.{ports, local_port}
-use Rattle.noc_router.specs.Decided.{IsDecidedFor}
+use Rattle.std.proofs.Common.{◌≡◌, ap, sym, ◌∙◌}
+use Rattle.noc_topo.specs.Shape.{local_port}
 use Rattle.noc_router.specs.View.{View, Site, local_step, view_after_inject, decisions_of, view_after_commit, idle_beats}
 use Rattle.noc_router.proofs.SiteLemmas.{all_taken-site, injected-site, committed-site}
 use Rattle.noc_router.proofs.router.Router.step.Goals as goal
 
-pub plan-requires-clause-relation : goal.plan-requires-clause-relation
-plan-requires-clause-relation c =
+pub plan-requires : goal.plan-requires
+plan-requires c =
     let v = c.args.self.now in
     let site : c.inject.new.self.site ≡ v.site =
     ap (λ (x : View). x.site) c.inject.ensures ∙ injected-site c.args.cycle c.take_all.new.self ∙ ap (λ (x : View). x.site) c.take_all.ensures ∙ all_taken-site c.args.relation.now c.args.beats_in.now v in
     record { grid = c.requires.relation.grid ∙ ap (λ (s : Site). s.grid) (sym site); vcs = c.requires.relation.vcs ∙ ap (λ (s : Site). s.vcs) (sym site) }
-
-pub plan-requires-clause-plan : goal.plan-requires-clause-plan
-plan-requires-clause-plan c =
-    let v = c.args.self.now in
-    let site : c.inject.new.self.site ≡ v.site =
-    ap (λ (x : View). x.site) c.inject.ensures ∙ injected-site c.args.cycle c.take_all.new.self ∙ ap (λ (x : View). x.site) c.take_all.ensures ∙ all_taken-site c.args.relation.now c.args.beats_in.now v in
-    let P : Site → Type 0 = λ s. IsDecidedFor (ports s.grid) s.vcs c.args.plan.now in
-    subst P (sym site) c.requires.plan
 
 pub commit-requires : goal.commit-requires
 commit-requires c =
@@ -57,14 +48,6 @@ returns-clause-beats c =
     ∙ ap (λ (x : View). x.to_put)
     (c.commit.ensures relation c.plan.ensures.value
     ∙ ap (λ (x : View). view_after_commit (decisions_of relation x) x) (c.inject.ensures ∙ ap (view_after_inject c.args.cycle) c.take_all.ensures))
-
-pub returns-clause-plan : goal.returns-clause-plan
-returns-clause-plan c =
-    let v = c.args.self.now in
-    let site : c.inject.new.self.site ≡ v.site =
-    ap (λ (x : View). x.site) c.inject.ensures ∙ injected-site c.args.cycle c.take_all.new.self ∙ ap (λ (x : View). x.site) c.take_all.ensures ∙ all_taken-site c.args.relation.now c.args.beats_in.now v in
-    let P : Site → Type 0 = λ s. IsDecidedFor (ports s.grid) s.vcs c.plan.new.plan in
-    subst P site c.plan.ensures.lengths
 
 pub returns-clause-site : goal.returns-clause-site
 returns-clause-site c =
