@@ -15,13 +15,14 @@ use Rattle.noc_router.specs.Still.{IsHeldBefore, counted_times, takes_effect, vi
 use Rattle.noc_router.specs.View.{View, Decisions, view_after_takes, begun_on, view_after_commit, counts_after, decided_verdict, flit_out, idle_beat, idle_beats, view_after_inject, view_after_inject_from, is_vacant, local_channel, local_step, opening_view, decisions_of, tail_packet, view_buffer, view_round, with_arrival, with_injected}
 use Rattle.noc_router.proofs.QuietLemmas.{at_replicate}
 use Rattle.noc_router.proofs.StillLemmas.{map_indexed-same, still-committed}
+use Rattle.noc_router.specs.declared.verdict.Findings.TheVariants.{Record, Leave}
 use Rattle.noc_model.specs.Halves.{IsSilent, view_after_decide, view_after_puts, incoming}
 use Rattle.noc_model.specs.Lockstep.{lockstep_at, lockstep_cycle, opening_lockstep, beats_at, beat_from, site_at, starts_at, ends_at}
 use Rattle.noc_model.specs.Network.{Setup}
-use Rattle.noc_model.specs.Unseen.{AreInStepUnseen, unseen_after_decide, without_findings}
+use Rattle.noc_model.specs.Unseen.{AreInStep, without_findings}
 use Rattle.noc_model.proofs.RunLemmas.{count_views, silent_at}
 use Rattle.noc_model.proofs.StepLemmas.{local_step-view, taken_end}
-use Rattle.noc_model.proofs.UnseenLemmas.{next-unseen, unseen-count}
+use Rattle.noc_model.proofs.UnseenLemmas.{next-in_step, unseen-count}
 
 -- ---- one router
 -- one more cycle n in which nothing happens
@@ -119,21 +120,21 @@ event-committed : (d : Decisions) (v : View) → (view_after_commit d v).had_eve
 unfolding view_after_commit
 event-committed d v = event-with_arrival (tail_packet (flit_out v d.round (local_port v.site.grid))) _ refl
 
-between-decided : (relation : Routes) (n : ℕ) (beats : List Beat) (v : View) → IsBetween (view_after_puts (view_after_decide relation n beats v))
+between-decided : (relation : Routes) (n : ℕ) (beats : List Beat) (v : View) → IsBetween (view_after_puts (view_after_decide relation n Record beats v))
 unfolding view_after_decide
 between-decided relation n beats v = let frozen = view_after_inject n (view_after_takes relation beats v) in record { no_event = event-committed (decisions_of relation frozen) frozen; beats = refl }
 
 -- after the first half of a cycle in which nothing happens
 still-half : (relation : Routes) (n : ℕ) (beats : List Beat) (v : View) → IsSilent beats → takes_effect relation v ≡ false → view_after_inject n v ≡ record v { given = n } → IsBetween v
-    → unseen_after_decide relation n (incoming relation.grid beats) v ≡ once relation n v
-unfolding unseen_after_decide view_after_decide
+    → view_after_decide relation n Leave (incoming relation.grid beats) v ≡ once relation n v
+unfolding view_after_decide
 still-half relation n beats v silent off held between =
     let w = record v { given = n } in
     let frozen : view_after_inject n (view_after_takes relation (incoming relation.grid beats) v) ≡ w = ap (view_after_inject n) (taken_end relation relation.grid beats v silent) ∙ held in
     let same : decisions_of relation w ≡ decisions_of relation v = planned-counts relation v.counts n v in
     let still : takes_effect relation w ≡ false = rw same off in
     let counts = map_indexed (λ i counts. counts_after (decided_verdict (decisions_of relation v) i) counts) v.counts in
-    ap (λ (x : View). record (view_after_commit (decisions_of relation x) x) { findings = v.findings }) frozen
+    ap (λ (x : View). record (view_after_commit (decisions_of relation x) x) { findings = x.findings }) frozen
     ∙ ap (λ (x : View). record x { findings = v.findings }) (still-committed relation w still)
     ∙ ap (λ (d : Decisions). record v {
       given = n;
@@ -168,7 +169,7 @@ module _ (net : Setup) where
       subst IsBetween (sym now) (between-decided net.relation n (beats_at (lockstep_at net n).wires r) old)
 
   -- routers in step with the lockstep run are between their cycles
-  between-unseen : (n : ℕ) (routers : List View) (beats : List (List Beat)) → AreInStepUnseen net n routers beats → All IsBetween routers
+  between-unseen : (n : ℕ) (routers : List View) (beats : List (List Beat)) → AreInStep net Leave n routers beats → All IsBetween routers
   between-unseen n routers beats in_step r d l =
       let views = (lockstep_at net n).views in
       let in_net : r < nodes net.relation.grid = omega (arith, unseen-count net n routers beats in_step) in
@@ -194,18 +195,18 @@ module _ (net : Setup) where
       at (inr u) = ap (λ row. get_or row from.1 idle_beat) (get_or_past sent from.0 [] (omega (arith, length-map half (λ (v : View). v.to_put))))
 
   -- one more cycle in which nothing happens
-  still-next : (n : ℕ) (routers : List View) (beats : List (List Beat)) → AreInStepUnseen net n routers beats → All IsSilent beats → length beats ≡ nodes net.relation.grid
+  still-next : (n : ℕ) (routers : List View) (beats : List (List Beat)) → AreInStep net Leave n routers beats → All IsSilent beats → length beats ≡ nodes net.relation.grid
       → All (λ v. takes_effect net.relation v ≡ false) routers → All (λ v. view_after_inject n v ≡ record v { given = n }) routers
-      → AreInStepUnseen net (n + 1) (map (once net.relation n) routers) beats
+      → AreInStep net Leave (n + 1) (map (once net.relation n) routers) beats
   still-next n routers beats in_step silent count still held =
-      next-unseen net n routers half (map (once net.relation n) routers) beats beats in_step refl after count
+      next-in_step net Leave n routers half (map (once net.relation n) routers) beats beats in_step refl after count
       (λ r port l. silent_at beats silent r port ∙ sym (silent-put half between (neighbour net.relation.grid r port)))
     where
       half : List View
-      half = map_indexed (λ r v. unseen_after_decide net.relation n (incoming net.relation.grid (beats_at beats r)) v) routers
+      half = map_indexed (λ r v. view_after_decide net.relation n Leave (incoming net.relation.grid (beats_at beats r)) v) routers
 
       long : length half ≡ length routers
-      long = length-map_indexed (λ r v. unseen_after_decide net.relation n (incoming net.relation.grid (beats_at beats r)) v) routers
+      long = length-map_indexed (λ r v. view_after_decide net.relation n Leave (incoming net.relation.grid (beats_at beats r)) v) routers
 
       -- no beat arrives at a router
       row : (r : ℕ) → IsSilent (beats_at beats r)
@@ -213,7 +214,7 @@ module _ (net : Setup) where
 
       each : (r : ℕ) (d : View) → r < length routers → get_or half r d ≡ once net.relation n (get_or routers r d)
       each r d l =
-          get_or-map_indexed (λ r v. unseen_after_decide net.relation n (incoming net.relation.grid (beats_at beats r)) v) routers r d d l
+          get_or-map_indexed (λ r v. view_after_decide net.relation n Leave (incoming net.relation.grid (beats_at beats r)) v) routers r d d l
           ∙ still-half net.relation n (beats_at beats r) (get_or routers r d) (row r) (still r d l) (held r d l) (between-unseen n routers beats in_step r d l)
 
       between : All IsBetween half
@@ -233,13 +234,13 @@ module _ (net : Setup) where
           ∙ sym (get_or-map view_after_puts half i e e (omega (arith, long)) ∙ ap view_after_puts (each i e in_routers)))
 
   -- k more of them
-  still-run : (k n : ℕ) (routers : List View) (beats : List (List Beat)) → AreInStepUnseen net n routers beats → All IsSilent beats → length beats ≡ nodes net.relation.grid
+  still-run : (k n : ℕ) (routers : List View) (beats : List (List Beat)) → AreInStep net Leave n routers beats → All IsSilent beats → length beats ≡ nodes net.relation.grid
       → All (λ v. takes_effect net.relation v ≡ false) routers → All (IsHeldBefore (n + k)) routers
-      → AreInStepUnseen net (n + k) (map (waiting net.relation n k) routers) beats
+      → AreInStep net Leave (n + k) (map (waiting net.relation n k) routers) beats
   unfolding waiting
   still-run zero n routers beats in_step silent count still held =
       let same : n ≡ n + 0 = omega arith in
-      subst (λ m. AreInStepUnseen net m (map (λ (v : View). v) routers) beats) same (subst (λ vs. AreInStepUnseen net n vs beats) (sym (map-id routers)) in_step)
+      subst (λ m. AreInStep net Leave m (map (λ (v : View). v) routers) beats) same (subst (λ vs. AreInStep net Leave n vs beats) (sym (map-id routers)) in_step)
   still-run (suc k) n routers beats in_step silent count still held =
       let w = waiting net.relation n k in
       let more : n + k + 1 ≡ n + suc k = omega arith in
@@ -250,16 +251,16 @@ module _ (net : Setup) where
       (λ r d l. let i : r < length routers = omega (arith, length-map routers w) in
       subst (λ (v : View). view_after_inject (n + k) v ≡ record v { given = n + k }) (sym (get_or_default (map w routers) r d (w d) l ∙ get_or-map w routers r d (w d) i))
       (waiting-held net.relation n k (n + k) (get_or routers r d) (held r d i (n + k) (omega arith)))) in
-      subst (λ m. AreInStepUnseen net m (map (waiting net.relation n (suc k)) routers) beats) more
-      (subst (λ vs. AreInStepUnseen net (n + k + 1) vs beats) (map-map (once net.relation (n + k)) w routers) next)
+      subst (λ m. AreInStep net Leave m (map (waiting net.relation n (suc k)) routers) beats) more
+      (subst (λ vs. AreInStep net Leave (n + k + 1) vs beats) (map-map (once net.relation (n + k)) w routers) next)
 
   -- where no beat is in flight, and no router does anything by itself before the end, all cycles up to there are those that wait
-  pub still-wait : (first end : ℕ) (routers : List View) (beats : List (List Beat)) → first < end → AreInStepUnseen net first routers beats → All IsSilent beats → length beats ≡ nodes net.relation.grid
+  pub still-wait : (first end : ℕ) (routers : List View) (beats : List (List Beat)) → first < end → AreInStep net Leave first routers beats → All IsSilent beats → length beats ≡ nodes net.relation.grid
       → All (λ v. takes_effect net.relation v ≡ false) routers → All (IsHeldBefore end) routers
-      → AreInStepUnseen net end (map (view_after_waiting net.relation (end - first) (end - 1)) routers) beats
+      → AreInStep net Leave end (map (view_after_waiting net.relation (end - first) (end - 1)) routers) beats
   still-wait first end routers beats less in_step silent count still held = at (end - first) refl
     where
-      at : (k : ℕ) → end - first ≡ k → AreInStepUnseen net end (map (view_after_waiting net.relation (end - first) (end - 1)) routers) beats
+      at : (k : ℕ) → end - first ≡ k → AreInStep net Leave end (map (view_after_waiting net.relation (end - first) (end - 1)) routers) beats
       at zero e = absurd (omega arith)
       at (suc k) e =
           let there : first + suc k ≡ end = omega arith in
@@ -273,4 +274,4 @@ module _ (net : Setup) where
           get_or-map w routers i d d inside ∙ waiting-is net.relation first k (get_or routers i d)
           ∙ ap (λ cycles. view_after_waiting net.relation cycles (first + k) (get_or routers i d)) (sym e) ∙ ap (λ m. view_after_waiting net.relation (end - first) m (get_or routers i d)) last
           ∙ sym (get_or-map v routers i d d inside)) in
-          subst (λ vs. AreInStepUnseen net end vs beats) same (subst (λ m. AreInStepUnseen net m (map w routers) beats) there run)
+          subst (λ vs. AreInStep net Leave end vs beats) same (subst (λ m. AreInStep net Leave m (map w routers) beats) there run)

@@ -15,10 +15,12 @@ use Rattle.noc_vc.specs.Input.{fits}
 use Rattle.noc_vc.specs.Output.{credit_fits, output_after_credit}
 use Rattle.noc_router.specs.View.{View, IsRelationOf, has_link, view_buffer, view_input, view_output, local_channel, with_landed, with_misfit, with_injected, view_after_take, view_after_takes_from, view_after_takes, view_after_inject, view_after_inject_from, begun_on, is_vacant, view_round, decisions_of, view_after_commit, local_step, with_flit, with_credit, idle_beat, opening_view}
 use Rattle.noc_router.specs.declared.verdict.Finding.{Finding}
+use Rattle.noc_router.specs.declared.verdict.Findings.{Findings}
+use Rattle.noc_router.specs.declared.verdict.Findings.TheVariants.{Record, Leave}
 use Rattle.noc_model.specs.Halves.{ArePlaced, IsLinked, HasItsBeats, beat_at, view_after_decide, view_after_puts, incoming}
 use Rattle.noc_model.specs.Lockstep.{lockstep_at, beats_at, beat_from, site_at}
 use Rattle.noc_model.specs.Network.{Setup}
-use Rattle.noc_model.specs.Unseen.{AreInStep, AreInStepUnseen, unseen_after_decide, without_findings}
+use Rattle.noc_model.specs.Unseen.{AreInStep, AreSameViews, without_findings}
 use Rattle.noc_model.proofs.RunLemmas.{count_views, map_map_indexed, halfway, linked_wires, next_views, next_wires, placed_halfway, relation_views}
 use Rattle.noc_model.proofs.StepLemmas.{IsRelationOf-same_site}
 
@@ -78,16 +80,12 @@ findings-frozen findings relation n beats v =
     ap (view_after_inject n) (findings-taken_from findings relation 0 beats v)
     ∙ (let w = view_after_takes_from relation 0 beats v in findings-injected_from findings n w.queue w.sending (record w { given = n }))
 
--- the view from which all is decided has the findings that were there before
-pub frozen-findings : (relation : Routes) (n : ℕ) (beats : List Beat) (v : View) → (view_after_inject n (view_after_takes relation beats v)).findings ≡ v.findings
-frozen-findings relation n beats v = ap (λ (w : View). w.findings) (findings-frozen v.findings relation n beats v)
-
 findings-committed : (findings : List Finding) (relation : Routes) (v : View) → view_after_commit (decisions_of relation (with_findings findings v)) (with_findings findings v) ≡ view_after_commit (decisions_of relation v) v
 unfolding view_after_commit decisions_of view_round
 findings-committed findings relation v = refl
 
 -- what a router decides is the same whatever it found before
-pub findings-decided : (findings : List Finding) (relation : Routes) (n : ℕ) (beats : List Beat) (v : View) → view_after_decide relation n beats (with_findings findings v) ≡ view_after_decide relation n beats v
+pub findings-decided : (findings : List Finding) (relation : Routes) (n : ℕ) (beats : List Beat) (v : View) → view_after_decide relation n Record beats (with_findings findings v) ≡ view_after_decide relation n Record beats v
 unfolding view_after_decide
 findings-decided findings relation n beats v =
     ap (λ w. view_after_commit (decisions_of relation w) w) (findings-frozen findings relation n beats v)
@@ -130,19 +128,15 @@ module _ (net : Setup) where
   abbrev some_view : View
   some_view = opening_view (site_at net 0) [] []
 
-  -- the first half of cycle n of router r over these beats, with its findings
-  abbrev seen_half : ℕ → List (List Beat) → ℕ → View → View
-  seen_half n beats r v = view_after_decide net.relation n (incoming net.relation.grid (beats_at beats r)) v
+  -- the first half of cycle n of router r over these beats
+  abbrev half_with : Findings → ℕ → List (List Beat) → ℕ → View → View
+  half_with findings n beats r v = view_after_decide net.relation n findings (incoming net.relation.grid (beats_at beats r)) v
 
-  -- the first half of cycle n of router r over these beats, without its findings
-  abbrev unseen_half : ℕ → List (List Beat) → ℕ → View → View
-  unseen_half n beats r v = unseen_after_decide net.relation n (incoming net.relation.grid (beats_at beats r)) v
-
-  pub unseen-count : (n : ℕ) (routers : List View) (beats : List (List Beat)) → AreInStepUnseen net n routers beats → length routers ≡ nodes net.relation.grid
+  pub unseen-count : (n : ℕ) (routers : List View) (beats : List (List Beat)) → AreInStep net Leave n routers beats → length routers ≡ nodes net.relation.grid
   unseen-count n routers beats in_step = sym (length-map routers without_findings) ∙ ap length in_step.views ∙ length-map (lockstep_at net n).views without_findings ∙ count_views net n
 
   -- the routers are of the relation
-  pub unseen-relation : (n : ℕ) (routers : List View) (beats : List (List Beat)) → AreInStepUnseen net n routers beats → All (λ (v : View). IsRelationOf net.relation v) routers
+  pub unseen-relation : (n : ℕ) (routers : List View) (beats : List (List Beat)) → AreInStep net Leave n routers beats → All (λ (v : View). IsRelationOf net.relation v) routers
   unseen-relation n routers beats in_step r d l =
       let views = (lockstep_at net n).views in
       let in_views : r < length views = omega (arith, unseen-count n routers beats in_step, count_views net n) in
@@ -151,33 +145,38 @@ module _ (net : Setup) where
       IsRelationOf-same_site net.relation (get_or views r d) (get_or routers r d) site (relation_views net n r d in_views)
 
   -- the wires past the link ports are idle
-  pub unseen-linked : (n : ℕ) (routers : List View) (beats : List (List Beat)) → AreInStepUnseen net n routers beats → All (IsLinked net.relation.grid) beats
+  pub unseen-linked : (n : ℕ) (routers : List View) (beats : List (List Beat)) → AreInStep net Leave n routers beats → All (IsLinked net.relation.grid) beats
   unseen-linked n routers beats in_step r d l port past =
       ap (λ row. get_or row port idle_beat) (get_or_default beats r d [] l) ∙ in_step.wires r port ∙ linked_wires net n r port past
 
   -- in step the routers decide what those of the lockstep run do
-  pub unseen-halfway : (n : ℕ) (routers : List View) (beats : List (List Beat)) → AreInStepUnseen net n routers beats → map_indexed (seen_half n beats) routers ≡ halfway net n beats
+  pub unseen-halfway : (n : ℕ) (routers : List View) (beats : List (List Beat)) → AreInStep net Leave n routers beats → map_indexed (half_with Record n beats) routers ≡ halfway net n beats
   unseen-halfway n routers beats in_step =
-      let as_unseen = λ (vs : List View). map_indexed-of (seen_half n beats) without_findings (seen_half n beats) vs some_view (λ r v. sym (findings-decided [] net.relation n (incoming net.relation.grid (beats_at beats r)) v)) in
-      as_unseen routers ∙ ap (map_indexed (seen_half n beats)) in_step.views ∙ sym (as_unseen (lockstep_at net n).views)
+      let as_unseen = λ (vs : List View). map_indexed-of (half_with Record n beats) without_findings (half_with Record n beats) vs some_view (λ r v. sym (findings-decided [] net.relation n (incoming net.relation.grid (beats_at beats r)) v)) in
+      as_unseen routers ∙ ap (map_indexed (half_with Record n beats)) in_step.views ∙ sym (as_unseen (lockstep_at net n).views)
 
-  -- the routers halfway are at their places
-  pub unseen-placed : (n : ℕ) (routers : List View) (beats : List (List Beat)) → AreInStepUnseen net n routers beats → ArePlaced net.relation (map_indexed (unseen_half n beats) routers)
-  unfolding unseen_after_decide
+  seen-placed : (n : ℕ) (routers : List View) (beats : List (List Beat)) → AreInStep net Leave n routers beats → ArePlaced net.relation (map_indexed (half_with Record n beats) routers)
+  seen-placed n routers beats in_step = subst (ArePlaced net.relation) (sym (unseen-halfway n routers beats in_step)) (placed_halfway net n beats)
+
+  unseen-placed : (n : ℕ) (routers : List View) (beats : List (List Beat)) → AreInStep net Leave n routers beats → ArePlaced net.relation (map_indexed (half_with Leave n beats) routers)
+  unfolding view_after_decide
   unseen-placed n routers beats in_step r d l =
-      let in_routers : r < length routers = omega (arith, length-map_indexed (unseen_half n beats) routers) in
-      let seen : HasItsBeats net.relation r (get_or (map_indexed (seen_half n beats) routers) r d) =
-      subst (λ (vs : List View). HasItsBeats net.relation r (get_or vs r d)) (sym (unseen-halfway n routers beats in_step))
-      (placed_halfway net n beats r d (omega (arith, ap length (unseen-halfway n routers beats in_step), length-map_indexed (seen_half n beats) routers))) in
-      let here : HasItsBeats net.relation r (seen_half n beats r (get_or routers r d)) = subst (HasItsBeats net.relation r) (get_or-map_indexed (seen_half n beats) routers r d d in_routers) seen in
-      subst (HasItsBeats net.relation r) (sym (get_or-map_indexed (unseen_half n beats) routers r d d in_routers))
+      let in_routers : r < length routers = omega (arith, length-map_indexed (half_with Leave n beats) routers) in
+      let seen = seen-placed n routers beats in_step r d (omega (arith, in_routers, length-map_indexed (half_with Record n beats) routers)) in
+      let here : HasItsBeats net.relation r (half_with Record n beats r (get_or routers r d)) = subst (HasItsBeats net.relation r) (get_or-map_indexed (half_with Record n beats) routers r d d in_routers) seen in
+      subst (HasItsBeats net.relation r) (sym (get_or-map_indexed (half_with Leave n beats) routers r d d in_routers))
       (record { built_for = record { grid = here.built_for.grid; vcs = here.built_for.vcs }; site = here.site; beats = here.beats })
 
-  -- a cycle whose findings are read
-  pub next-seen : (n : ℕ) (routers half after : List View) (beats beats_after : List (List Beat)) → AreInStepUnseen net n routers beats
-      → half ≡ map_indexed (seen_half n beats) routers → after ≡ map view_after_puts half → length beats_after ≡ nodes net.relation.grid
+  -- the routers halfway are at their places
+  pub in_step-placed : (findings : Findings) (n : ℕ) (routers : List View) (beats : List (List Beat)) → AreInStep net Leave n routers beats → ArePlaced net.relation (map_indexed (half_with findings n beats) routers)
+  in_step-placed Record = seen-placed
+  in_step-placed Leave = unseen-placed
+
+  -- routers and wires one cycle later
+  next-seen : (n : ℕ) (routers half after : List View) (beats beats_after : List (List Beat)) → AreInStep net Leave n routers beats
+      → half ≡ map_indexed (half_with Record n beats) routers → after ≡ map view_after_puts half → length beats_after ≡ nodes net.relation.grid
       → ((r port : ℕ) → r < nodes net.relation.grid → beat_at beats_after r port ≡ beat_from (map (λ (v : View). v.to_put) half) (neighbour net.relation.grid r port))
-      → AreInStep net (n + 1) after beats_after
+      → AreInStep net Record (n + 1) after beats_after
   next-seen n routers half after beats beats_after in_step is_half is_after count put =
       let is_halfway : half ≡ halfway net n beats = is_half ∙ unseen-halfway n routers beats in_step in
       record {
@@ -185,18 +184,17 @@ module _ (net : Setup) where
         wires = next_wires net n beats beats_after in_step.wires count (λ r port l. put r port l ∙ ap (λ (vs : List View). beat_from (map (λ (v : View). v.to_put) vs) (neighbour net.relation.grid r port)) is_halfway);
       }
 
-  -- a cycle whose findings nobody reads
-  pub next-unseen : (n : ℕ) (routers half after : List View) (beats beats_after : List (List Beat)) → AreInStepUnseen net n routers beats
-      → half ≡ map_indexed (unseen_half n beats) routers → after ≡ map view_after_puts half → length beats_after ≡ nodes net.relation.grid
+  next-unseen : (n : ℕ) (routers half after : List View) (beats beats_after : List (List Beat)) → AreInStep net Leave n routers beats
+      → half ≡ map_indexed (half_with Leave n beats) routers → after ≡ map view_after_puts half → length beats_after ≡ nodes net.relation.grid
       → ((r port : ℕ) → r < nodes net.relation.grid → beat_at beats_after r port ≡ beat_from (map (λ (v : View). v.to_put) half) (neighbour net.relation.grid r port))
-      → AreInStepUnseen net (n + 1) after beats_after
-  unfolding unseen_after_decide
+      → AreInStep net Leave (n + 1) after beats_after
+  unfolding view_after_decide
   next-unseen n routers half after beats beats_after in_step is_half is_after count put =
-      let seen = map_indexed (seen_half n beats) routers in
+      let seen = map_indexed (half_with Record n beats) routers in
       let left : map (λ (v : View). without_findings (view_after_puts v)) half ≡ map (λ (v : View). without_findings (view_after_puts v)) seen =
-      ap (map (λ (v : View). without_findings (view_after_puts v))) is_half ∙ map-map_indexed (λ (v : View). without_findings (view_after_puts v)) (unseen_half n beats) (seen_half n beats) routers some_view some_view (λ r v. refl) in
+      ap (map (λ (v : View). without_findings (view_after_puts v))) is_half ∙ map-map_indexed (λ (v : View). without_findings (view_after_puts v)) (half_with Leave n beats) (half_with Record n beats) routers some_view some_view (λ r v. refl) in
       let sent : map (λ (v : View). v.to_put) half ≡ map (λ (v : View). v.to_put) seen =
-      ap (map (λ (v : View). v.to_put)) is_half ∙ map-map_indexed (λ (v : View). v.to_put) (unseen_half n beats) (seen_half n beats) routers some_view some_view (λ r v. refl) in
+      ap (map (λ (v : View). v.to_put)) is_half ∙ map-map_indexed (λ (v : View). v.to_put) (half_with Leave n beats) (half_with Record n beats) routers some_view some_view (λ r v. refl) in
       record {
         views = ap (map without_findings) is_after ∙ map-map without_findings view_after_puts half ∙ left ∙ sym (map-map without_findings view_after_puts seen)
             ∙ ap (λ vs. map without_findings (map view_after_puts vs)) (unseen-halfway n routers beats in_step) ∙ ap (map without_findings) (next_views net n beats in_step.wires);
@@ -205,6 +203,22 @@ module _ (net : Setup) where
             ∙ ap (λ (vs : List View). beat_from (map (λ (v : View). v.to_put) vs) (neighbour net.relation.grid r port)) (unseen-halfway n routers beats in_step));
       }
 
+  -- one more cycle
+  pub next-in_step : (findings : Findings) (n : ℕ) (routers half after : List View) (beats beats_after : List (List Beat)) → AreInStep net Leave n routers beats
+      → half ≡ map_indexed (half_with findings n beats) routers → after ≡ map view_after_puts half → length beats_after ≡ nodes net.relation.grid
+      → ((r port : ℕ) → r < nodes net.relation.grid → beat_at beats_after r port ≡ beat_from (map (λ (v : View). v.to_put) half) (neighbour net.relation.grid r port))
+      → AreInStep net findings (n + 1) after beats_after
+  next-in_step Record = next-seen
+  next-in_step Leave = next-unseen
+
+-- views that are the same are so without findings
+pub same-unseen : (findings : Findings) (views others : List View) → AreSameViews findings views others → map without_findings views ≡ map without_findings others
+same-unseen Record views others same = ap (map without_findings) same
+same-unseen Leave views others same = same
+
 -- in step with all findings is in step without
-pub to_unseen : (net : Setup) (n : ℕ) (routers : List View) (beats : List (List Beat)) → AreInStep net n routers beats → AreInStepUnseen net n routers beats
+pub to_unseen : (net : Setup) (n : ℕ) (routers : List View) (beats : List (List Beat)) → AreInStep net Record n routers beats → AreInStep net Leave n routers beats
 to_unseen net n routers beats in_step = record { views = ap (map without_findings) in_step.views; wires = in_step.wires }
+
+pub as-unseen : (net : Setup) (findings : Findings) (n : ℕ) (routers : List View) (beats : List (List Beat)) → AreInStep net findings n routers beats → AreInStep net Leave n routers beats
+as-unseen net findings n routers beats in_step = record { views = same-unseen findings routers (lockstep_at net n).views in_step.views; wires = in_step.wires }

@@ -4,7 +4,9 @@ use Rattle.noc_topo.specs.Words.{tabulate}
 use Rattle.noc_topo.specs.Shape.{Grid, local_port}
 use Rattle.noc_packet.specs.declared.packet.Beat.{Beat}
 use Rattle.noc_route.specs.Routes.{Routes}
-use Rattle.noc_router.specs.View.{View, IsRelationOf, view_after_takes, view_after_inject, decisions_of, view_after_commit, idle_beat, idle_beats, beat_to_put}
+use Rattle.noc_router.specs.declared.verdict.Findings.{Findings}
+use Rattle.noc_router.specs.Finish.{view_after_finish}
+use Rattle.noc_router.specs.View.{View, IsRelationOf, view_after_takes, idle_beat, idle_beats, beat_to_put}
 use Rattle.noc_model.specs.Lockstep.{beats_at}
 
 -- the beat on the wire that arrives at a port of router r
@@ -15,11 +17,9 @@ beat_at wires r port = slice_index_or (beats_at wires r) port idle_beat
 unfoldable pub incoming : Grid → List Beat → List Beat
 incoming grid beats = tabulate (local_port grid) (λ port. slice_index_or beats port idle_beat)
 
--- a router after the first half of cycle n over these beats
-unfoldable pub view_after_decide : Routes → ℕ → List Beat → View → View
-view_after_decide relation n beats v =
-    let frozen = view_after_inject n (view_after_takes relation beats v) in
-    view_after_commit (decisions_of relation frozen) frozen
+-- a router after the first half of cycle n over these beats, in which its findings are recorded, or stay as they were
+unfoldable pub view_after_decide : Routes → ℕ → Findings → List Beat → View → View
+view_after_decide relation n findings beats v = view_after_finish relation n findings (view_after_takes relation beats v)
 
 -- a router that has put all its beats
 abbrev pub view_after_puts : View → View

@@ -1,10 +1,8 @@
 pub mod FaultLemmas
 pub mod LimitLemmas
-pub mod MarkLemmas
 pub mod NetworkLemmas
 pub mod PacketLemmas
 pub mod PartsLemmas
 pub mod ReaderLemmas
 pub mod RoomLemmas
 pub mod StoredLemmas
-pub mod TakesLemmas

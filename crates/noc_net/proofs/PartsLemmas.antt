@@ -1,12 +1,12 @@
 -- Parts of a network are those of its routers in lockstep.
 use Rattle.std.proofs.Common.{◌≡◌, ℕ, ◌≤◌, List, ap, sym, ◌∙◌, vec_len}
-use Rattle.noc_topo.specs.Shape.{nodes, ports}
-use Rattle.noc_router.specs.Decided.{IsDecidedFor}
+use Rattle.noc_topo.specs.Shape.{nodes}
 use Rattle.noc_packet.specs.declared.packet.Beat.{Beat}
 use Rattle.noc_model.specs.declared.limits.TheConstants.{CYCLE_LIMIT}
 use Rattle.noc_model.specs.Good.{IsGoodSetup}
 use Rattle.noc_model.specs.Halves.{beat_at}
 use Rattle.noc_model.specs.Lockstep.{lockstep_at}
+use Rattle.noc_router.specs.declared.verdict.Findings.TheVariants.{Record}
 use Rattle.noc_model.specs.Unseen.{AreInStep}
 use Rattle.noc_net.specs.declared.parts.Parts.{Parts}
 use Rattle.noc_net.specs.Parts.{AreParts, setup_in}
@@ -20,9 +20,9 @@ wires-in_step parts sound r port =
     sound.wires r port ∙ ap (λ (wires : List (List Beat)). beat_at wires r port) (sym (lockstep-is_state (setup_in parts) sound.good parts.count sound.within).wires)
 
 -- and routers in lockstep make parts
-pub parts-in_step : (parts : Parts) → IsGoodSetup (setup_in parts) → parts.count ≤ CYCLE_LIMIT → AreInStep (setup_in parts) parts.count parts.routers.items parts.beats.items
-    → vec_len parts.beats ≡ nodes parts.relation.grid → IsDecidedFor (ports parts.relation.grid) parts.relation.vcs parts.plan → vec_len parts.room ≡ nodes parts.relation.grid → AreParts parts
-parts-in_step parts good within in_step beats plan room =
+pub parts-in_step : (parts : Parts) → IsGoodSetup (setup_in parts) → parts.count ≤ CYCLE_LIMIT → AreInStep (setup_in parts) Record parts.count parts.routers.items parts.beats.items
+    → vec_len parts.beats ≡ nodes parts.relation.grid → vec_len parts.room ≡ nodes parts.relation.grid → AreParts parts
+parts-in_step parts good within in_step beats room =
     let seen = lockstep-is_state (setup_in parts) good parts.count within in
     record {
       good = good;
@@ -30,6 +30,5 @@ parts-in_step parts good within in_step beats plan room =
       views = in_step.views ∙ seen.views;
       wires = λ r port. in_step.wires r port ∙ ap (λ (wires : List (List Beat)). beat_at wires r port) seen.wires;
       beats = beats;
-      plan = plan;
       room = room;
     }

@@ -3,11 +3,9 @@ pub mod Inside
 pub mod Jump
 pub mod Latest
 pub mod Limit
-pub mod Marks
 pub mod Parts
 pub mod Room
 pub mod Stored
-pub mod Takes
 pub use Rattle.noc_model.specs.Core
 pub use Rattle.noc_model.specs.Good
 pub use Rattle.noc_model.specs.Halves

@@ -1,8 +1,7 @@
 -- A network taken apart (docs/MODEL.md, "One router and the whole network").
 use Rattle.std.specs.Prelude.{◌≡◌, ℕ, ◌≤◌, vec_len}
-use Rattle.noc_topo.specs.Shape.{nodes, ports}
+use Rattle.noc_topo.specs.Shape.{nodes}
 use Rattle.noc_topo.specs.Words.{tabulate}
-use Rattle.noc_router.specs.Decided.{IsDecidedFor}
 use Rattle.noc_model.specs.declared.limits.TheConstants.{CYCLE_LIMIT}
 use Rattle.noc_model.specs.Good.{IsGoodSetup}
 use Rattle.noc_model.specs.Halves.{beat_at}
@@ -18,12 +17,11 @@ abbrev pub run_in : Parts → Run
 run_in parts = record { net = setup_in parts; count = parts.count }
 
 -- the setup is good; each router has its view of the network's state at that count, with its findings; the beats in flight are those
--- of that state, idle where there is no link; the plan is of that relation; and there is room for each router
+-- of that state, idle where there is no link; and there is room for each router
 pub record AreParts (parts : Parts) : Type 0 where
   pub good : IsGoodSetup (setup_in parts)
   pub within : parts.count ≤ CYCLE_LIMIT
   pub views : parts.routers.items ≡ tabulate (nodes parts.relation.grid) (view_at (setup_in parts) parts.count)
   pub wires : (r port : ℕ) → beat_at parts.beats.items r port ≡ beat_at (beats_in (setup_in parts) (state_at (setup_in parts) parts.count)) r port
   pub beats : vec_len parts.beats ≡ nodes parts.relation.grid
-  pub plan : IsDecidedFor (ports parts.relation.grid) parts.relation.vcs parts.plan
   pub room : vec_len parts.room ≡ nodes parts.relation.grid

@@ -1,7 +1,6 @@
 -- What a core's fields are seen as, and what is true of them.
 use Rattle.std.specs.Prelude.{◌≡◌, vec_len}
-use Rattle.noc_topo.specs.Shape.{local_port, nodes, ports}
-use Rattle.noc_router.specs.Decided.{IsDecidedFor}
+use Rattle.noc_topo.specs.Shape.{local_port, nodes}
 use Rattle.noc_net.specs.declared.event_core.Core.TheInside.{Inside}
 use Rattle.noc_model.specs.declared.limits.TheConstants.{CYCLE_LIMIT}
 use Rattle.noc_net.specs.declared.parts.Parts.{Parts}
@@ -26,4 +25,3 @@ pub record IsCore (c : Inside) : Type 0 where
   pub routers : vec_len c.parts.routers ≡ nodes c.parts.relation.grid
   pub beats : vec_len c.parts.beats ≡ nodes c.parts.relation.grid
   pub room : vec_len c.parts.room ≡ nodes c.parts.relation.grid
-  pub plan : IsDecidedFor (ports c.parts.relation.grid) c.parts.relation.vcs c.parts.plan

@@ -4,7 +4,6 @@ ghost use Rattle.std.specs.Prelude.{◌≡◌, ℕ, [], take, slice_index_or, �
 ghost use Rattle.std.specs.List.{list_all, slice_get};
 ghost use Rattle.noc_topo.specs.Shape.{local_port, neighbour as neighbour_of, nodes as nodes_of, ports as ports_of};
 ghost use Rattle.noc_topo.specs.Words.{map_indexed};
-ghost use Rattle.noc_router.specs.Decided.{IsDecidedFor};
 ghost use Rattle.noc_router.specs.View.{IsRelationOf, View};
 ghost use Rattle.noc_model.specs.Core.{after_event, are_between, deciding, happens, is_linked, is_ready, opening_core, post_at, steps_at, view_of_post, wire_at};
 ghost use Rattle.noc_model.specs.Halves.{beat_at};
@@ -246,10 +245,8 @@ fn open_all(
 // One router makes its cycle over the beats that it has taken.
 fn decide(relation: &Relation, plan: &mut Plan, router: &mut Router, room: &mut Room)
     requires relation { IsRelationOf relation.now router.old }
-    requires plan { IsDecidedFor (ports_of router.old.site.grid) router.old.site.vcs plan.old }
     requires steps { room.old.steps < CYCLE_LIMIT }
-    ensures plan { IsDecidedFor (ports_of router.old.site.grid) router.old.site.vcs plan.new }
-    ensures post { (net : Setup) → net.relation ≡ relation.now → let links = local_port relation.now.grid in post_of links router.new room.new ≡ deciding net router.old.site.node (post_of links router.old room.old) }
+    ensures { (net : Setup) → net.relation ≡ relation.now → let links = local_port relation.now.grid in post_of links router.new room.new ≡ deciding net router.old.site.node (post_of links router.old room.old) }
 {
     let links = relation.shape().ports() - 1;
     let taken = room.beats_taken();

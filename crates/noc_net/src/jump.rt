@@ -8,17 +8,17 @@
 //! others.
 
 ghost use Rattle.std.specs.Prelude.{◌≡◌, ◌↔◌, ℕ, ◌+◌, ◌-◌, ◌<◌, ◌≤◌, All, IsTrue, length, map, false};
-ghost use Rattle.noc_topo.specs.Shape.{nodes as nodes_of, ports as ports_of};
-ghost use Rattle.noc_router.specs.Decided.{IsDecidedFor};
-ghost use Rattle.noc_router.specs.Links.{AreLoaded, is_idle_beat};
+ghost use Rattle.noc_topo.specs.Shape.{nodes as nodes_of};
 ghost use Rattle.noc_router.specs.Still.{IsHeldBefore, view_after_waiting};
 ghost use Rattle.noc_router.specs.View.{IsRelationOf};
+ghost use Rattle.noc_router.specs.declared.verdict.Findings.TheVariants.{Leave};
 ghost use Rattle.noc_model.specs.Halves.{IsSilent};
 ghost use Rattle.noc_model.specs.Network.{Setup};
-ghost use Rattle.noc_model.specs.Unseen.{AreInStepUnseen};
+ghost use Rattle.noc_model.specs.Unseen.{AreInStep};
 ghost use Rattle.noc_net.specs.Jump.{AreStill, had_event_in};
 
-use noc_packet::{Beat, ChannelSet};
+use crate::takes::arrived;
+use noc_packet::Beat;
 use noc_route::Relation;
 use noc_router::{Plan, Router};
 use noc_topo::LINKS;
@@ -34,13 +34,10 @@ pub(crate) fn jump(
     beats: &[[Beat; LINKS]],
 ) -> u64
     requires order { last < end }
-    requires plan { IsDecidedFor (ports_of relation.now.grid) relation.now.vcs plan.old }
     requires routers { All (λ v. IsRelationOf relation.now v) routers.old }
     requires count { length beats.now ≡ nodes_of relation.now.grid }
-    ensures plan { IsDecidedFor (ports_of relation.now.grid) relation.now.vcs plan.new }
-    ensures later { last < result }
-    ensures within { result ≤ end }
-    ensures in_step { (net : Setup) → net.relation ≡ relation.now → AreInStepUnseen net (last + 1) routers.old beats.now → AreInStepUnseen net result routers.new beats.now }
+    ensures within { (last < result) × (result ≤ end) }
+    ensures in_step { (net : Setup) → net.relation ≡ relation.now → AreInStep net Leave (last + 1) routers.old beats.now → AreInStep net Leave result routers.new beats.now }
     ensures far { (n : ℕ) → n ≤ end → had_event_in last routers.old ≡ false → All IsSilent beats.now → AreStill relation.now routers.old → All (IsHeldBefore n) routers.old → n ≤ result }
 {
     let first = last + 1;
@@ -100,32 +97,10 @@ fn all_silent(beats: &[[Beat; LINKS]]) -> bool
     true
 }
 
-// The ports with a beat that carries something.
-fn arrived(beats: &[Beat; LINKS]) -> ChannelSet
-    ensures { AreLoaded LINKS beats.now result }
-{
-    let mut ports = ChannelSet::empty();
-    for port in 0..LINKS {
-        if !is_idle(&beats[port]) {
-            ports = ports.with(port);
-        }
-    }
-    ports
-}
-
-// Whether a beat carries nothing.
-fn is_idle(beat: &Beat) -> bool
-    ensures { result ≡ is_idle_beat beat.now }
-{
-    beat.flit.is_none() & beat.credit.is_none()
-}
-
 // Whether no verdict takes effect in any router.
 fn all_still(relation: &Relation, plan: &mut Plan, routers: &[Router]) -> bool
-    requires plan { IsDecidedFor (ports_of relation.now.grid) relation.now.vcs plan.old }
-    requires routers { All (λ v. IsRelationOf relation.now v) routers.now }
-    ensures plan { IsDecidedFor (ports_of relation.now.grid) relation.now.vcs plan.new }
-    ensures still { IsTrue result ↔ AreStill relation.now routers.now }
+    requires { All (λ v. IsRelationOf relation.now v) routers.now }
+    ensures { IsTrue result ↔ AreStill relation.now routers.now }
 {
     for router in routers {
         if !router.is_still(relation, plan) {
@@ -138,10 +113,8 @@ fn all_still(relation: &Relation, plan: &mut Plan, routers: &[Router]) -> bool
 // Each router makes the cycles from `first` to before `end`, in which nothing happens.
 fn wait_all(relation: &Relation, plan: &mut Plan, first: u64, end: u64, routers: &mut [Router])
     requires order { first < end }
-    requires plan { IsDecidedFor (ports_of relation.now.grid) relation.now.vcs plan.old }
     requires routers { All (λ v. IsRelationOf relation.now v) routers.old }
-    ensures plan { IsDecidedFor (ports_of relation.now.grid) relation.now.vcs plan.new }
-    ensures routers { routers.new ≡ map (view_after_waiting relation.now (end - first) (end - 1)) routers.old }
+    ensures { routers.new ≡ map (view_after_waiting relation.now (end - first) (end - 1)) routers.old }
 {
     for node in 0..routers.len() {
         routers[node].wait(relation, plan, first, end);

@@ -10,7 +10,6 @@ ghost use Rattle.std.specs.List.{slice_get};
 ghost use Rattle.noc_topo.specs.Words.{tabulate};
 ghost use Rattle.noc_topo.specs.Shape.{nodes as nodes_of, ports as ports_of};
 ghost use Rattle.noc_route.specs.Ranks.{IsRankedBy, Ranking};
-ghost use Rattle.noc_router.specs.Decided.{IsDecidedFor};
 ghost use Rattle.noc_router.specs.View.{opening_view};
 ghost use Rattle.noc_net.specs.declared.fault.NetFault.TheVariants.{Memory as memory_fault};
 ghost use Rattle.noc_net.specs.declared.fault.NetFault.{NetFault as NetFaultValue};
@@ -313,7 +312,6 @@ fn new_state(
     requires few { length packets.now ≤ MAX_PACKETS }
     requires sendable { All IsSendable packets.now }
     ensures routers { IfOk result (λ s. s.0.items ≡ tabulate (nodes_of relation.now.grid) (λ node. opening_view (record { grid = relation.now.grid; node = node; vcs = relation.now.vcs; places = places }) (starts_of packets.now node) (ends_of packets.now node))) }
-    ensures plan { IfOk result (λ s. IsDecidedFor (ports_of relation.now.grid) relation.now.vcs s.1) }
     ensures beats { IfOk result (λ s. vec_len s.2 ≡ nodes_of relation.now.grid) }
     ensures idle { IfOk result (λ s. All IsSilent s.2.items) }
     ensures room { IfOk result (λ s. vec_len s.3 ≡ nodes_of relation.now.grid) }

@@ -1,8 +1,7 @@
 //! One router alone, over beats whose outcome is worked out by hand.
 
 ghost use Rattle.std.specs.Prelude.{◌≡◌, ◌<◌, ◌≤◌, All};
-ghost use Rattle.noc_topo.specs.Shape.{ports as ports_of, local_port};
-ghost use Rattle.noc_router.specs.Decided.{IsDecidedFor};
+ghost use Rattle.noc_topo.specs.Shape.{local_port};
 ghost use Rattle.noc_router.specs.Start.{IsNumberedPacket};
 ghost use Rattle.noc_router.specs.View.{IsRelationOf};
 
@@ -49,9 +48,7 @@ fn first_router(
 }
 
 // A plan for the routers of a network.
-fn plan_for(rt: &impl Abort, alloc: Global, relation: &Relation) -> Plan
-    ensures { IsDecidedFor (ports_of relation.now.grid) relation.now.vcs result }
-{
+fn plan_for(rt: &impl Abort, alloc: Global, relation: &Relation) -> Plan {
     match Plan::new(alloc, relation) {
         Ok(plan) => plan,
         Err(_) => panic!(rt; "no plan"),
@@ -62,9 +59,7 @@ fn plan_for(rt: &impl Abort, alloc: Global, relation: &Relation) -> Plan
 fn cycle(router: &mut Router, relation: &Relation, plan: &mut Plan, number: u64, beat: Beat)
     requires relation { IsRelationOf relation.now router.old }
     requires links { local_port relation.now.grid ≡ 2 }
-    requires plan { IsDecidedFor (ports_of relation.now.grid) relation.now.vcs plan.old }
-    ensures relation { IsRelationOf relation.now router.new }
-    ensures plan { IsDecidedFor (ports_of relation.now.grid) relation.now.vcs plan.new }
+    ensures { IsRelationOf relation.now router.new }
 {
     let mut out = [Beat::idle(); 2];
     router.step(relation, plan, number, &[beat, Beat::idle()], &mut out);
@@ -74,7 +69,6 @@ fn cycle(router: &mut Router, relation: &Relation, plan: &mut Plan, number: u64,
 fn run_idle(router: &mut Router, relation: &Relation, plan: &mut Plan, cycles: u64)
     requires relation { IsRelationOf relation.now router.old }
     requires links { local_port relation.now.grid ≡ 2 }
-    requires plan { IsDecidedFor (ports_of relation.now.grid) relation.now.vcs plan.old }
     ensures { IsRelationOf relation.now router.new }
 {
     for number in 0..cycles {

@@ -2,6 +2,7 @@ pub mod Arrivals
 pub mod Asked
 pub mod Counts
 pub mod Decided
+pub mod Finish
 pub mod Found
 pub mod Injection
 pub mod Inside

@@ -24,4 +24,4 @@ mod verdict_sets;
 
 pub use plan::Plan;
 pub use router::Router;
-pub use verdict::{Finding, VERDICTS, Verdict};
+pub use verdict::{Finding, Findings, VERDICTS, Verdict};

@@ -11,6 +11,7 @@ ghost use Rattle.noc_vc.specs.Output.{has_credit};
 ghost use Rattle.noc_router.specs.Arrivals.{noted_arrival};
 ghost use Rattle.noc_router.specs.Asked.{channels_past, lists_in, round_in, routes_in};
 ghost use Rattle.noc_router.specs.Decided.{IsDecidedFor};
+ghost use Rattle.noc_router.specs.Finish.{view_after_finish};
 ghost use Rattle.noc_router.specs.Found.{empty_finding};
 ghost use Rattle.noc_router.specs.Injection.{next_vc, vacant_vc};
 ghost use Rattle.noc_router.specs.Links.{is_idle_beat};
@@ -38,7 +39,7 @@ use crate::plan::Plan;
 use crate::requests::Requests;
 use crate::source::Source;
 use crate::tally::Tally;
-use crate::verdict::{Finding, VERDICTS};
+use crate::verdict::{Finding, Findings, VERDICTS};
 use crate::verdict_sets::VerdictSets;
 use noc_packet::{Beat, ChannelSet, Flit, MAX_BUFFER, Memory, Packet};
 use noc_route::Relation;
@@ -386,9 +387,24 @@ impl Router {
         self.take_effect(plan);
     }
 
-    /// Plans and commits a cycle whose findings nobody reads: `findings` stay those of the last cycle that ended with
-    /// `commit` or `step`.
-    pub fn advance(&mut self, relation: &Relation, plan: &mut Plan)
+    /// Ends a cycle of a router that has taken its beats: it injects what is due by cycle `cycle` (from 0), decides and
+    /// commits. Its findings are recorded, or stay those of the last cycle in which they were.
+    pub fn finish(&mut self, relation: &Relation, plan: &mut Plan, cycle: u64, findings: Findings)
+        requires { IsRelationOf relation.now self.old }
+        ensures { self.new ≡ view_after_finish relation.now cycle findings self.old }
+    {
+        self.inject(cycle);
+        match findings {
+            Findings::Record => {
+                self.plan(relation, plan);
+                self.commit(plan);
+            }
+            Findings::Leave => self.advance(relation, plan),
+        }
+    }
+
+    // Plans and commits, and leaves the findings as they were. A router that holds nothing needs no plan.
+    fn advance(&mut self, relation: &Relation, plan: &mut Plan)
         requires { IsRelationOf relation.now self.old }
         ensures { self.new ≡ record (view_after_commit (decisions_of relation.now self.old) self.old) { findings = self.old.findings } }
     {
@@ -691,8 +707,8 @@ impl Router {
         self.leads.neighbour(port)
     }
 
-    /// What was found in the last cycle that ended with `commit` or `step`, by input channel (port * V + virtual channel):
-    /// none before the first. `advance` leaves it as it is.
+    /// What was found in the last cycle that recorded it (`commit`, `step`, `finish` with `Findings::Record`), by input channel
+    /// (port * V + virtual channel): none before the first.
     pub fn findings(&self) -> &[Finding]
         ensures { result.now ≡ self.now.findings }
     {

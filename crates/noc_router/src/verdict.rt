@@ -41,6 +41,15 @@ pub struct Finding {
     pub out: Option<(usize, usize)>,
 }
 
+/// Whether a router records what it finds in a cycle (`Router::finish`).
+#[derive(Clone, Copy, Debug, PartialEq, Eq)]
+pub enum Findings {
+    /// Its findings are those of this cycle.
+    Record,
+    /// Its findings stay as they were.
+    Leave,
+}
+
 impl Finding {
     ghost use Rattle.std.specs.Prelude.{◌≡◌};
     ghost use Rattle.noc_router.specs.Found.{empty_finding};

@@ -7,13 +7,14 @@ use Rattle.noc_topo.specs.Shape.{nodes}
 use Rattle.noc_topo.proofs.WordLemmas.{get_or-tabulate, length-tabulate}
 use Rattle.noc_router.specs.Still.{IsHeldBefore, takes_effect, view_after_waiting}
 use Rattle.noc_router.specs.View.{View}
+use Rattle.noc_router.specs.declared.verdict.Findings.TheVariants.{Leave}
 use Rattle.noc_model.specs.declared.limits.TheConstants.{CYCLE_LIMIT}
 use Rattle.noc_model.specs.Good.{IsGoodSetup}
 use Rattle.noc_model.specs.Halves.{IsSilent, beat_at}
 use Rattle.noc_model.specs.Lockstep.{beats_at, beats_in, view_at}
 use Rattle.noc_model.specs.Network.{Setup, state_at}
 use Rattle.noc_model.specs.Seen.{AreSeen}
-use Rattle.noc_model.specs.Unseen.{AreInStepUnseen, without_findings}
+use Rattle.noc_model.specs.Unseen.{AreInStep, without_findings}
 use Rattle.noc_model.proofs.StillRun.{still-wait}
 use Rattle.noc_model.proofs.Theorem.{lockstep-is_state}
 
@@ -36,7 +37,7 @@ module _ (net : Setup) (setup : IsGoodSetup net) (n end : ℕ) (less : n < end) 
   then_seen : AreSeen net end
   then_seen = lockstep-is_state net setup end limit
 
-  in_step : AreInStepUnseen net n views (beats_in net (state_at net n))
+  in_step : AreInStep net Leave n views (beats_in net (state_at net n))
   in_step = record { views = ap (map without_findings) (sym now.views); wires = λ s port. ap (λ ws. beat_at ws s port) (sym now.wires) }
 
   each : (P : View → Type 0) → ((s : ℕ) → s < nodes net.relation.grid → P (view_at net n s)) → All P views
@@ -51,7 +52,7 @@ module _ (net : Setup) (setup : IsGoodSetup net) (n end : ℕ) (less : n < end) 
       let low : s < nodes net.relation.grid = omega (arith, u, rows) in
       subst IsSilent (get_or_default (beats_in net (state_at net n)) s [] d u) (silent s low)
 
-  waits : AreInStepUnseen net end (map w views) (beats_in net (state_at net n))
+  waits : AreInStep net Leave end (map w views) (beats_in net (state_at net n))
   waits =
       still-wait net n end views (beats_in net (state_at net n)) less in_step quiet rows
       (each (λ v. takes_effect net.relation v ≡ false) effect) (each (IsHeldBefore end) held)

@@ -3,14 +3,14 @@ use Rattle.std.proofs.Common.{◌≡◌, ◌⊎◌, inl, inr, ℕ, ◌+◌, ◌-
 use Rattle.std.specs.Prelude.{if◌then◌else◌}
 use Rattle.std.proofs.lemmas.Bool.{cases_lt, false≢true}
 use Rattle.std.proofs.lemmas.List.{get_or-map}
-use Rattle.noc_topo.specs.Shape.{neighbour, nodes, ports}
+use Rattle.noc_topo.specs.Shape.{neighbour, nodes}
 use Rattle.noc_packet.specs.declared.packet.Beat.{Beat}
 use Rattle.noc_route.specs.Routes.{Routes}
-use Rattle.noc_router.specs.Decided.{IsDecidedFor}
+use Rattle.noc_router.specs.declared.verdict.Findings.{Findings}
+use Rattle.noc_router.specs.declared.verdict.Findings.TheVariants.{Record}
+use Rattle.noc_router.specs.Finish.{view_after_finish}
 use Rattle.noc_router.specs.View.{View, IsRelationOf, idle_beat}
 use Rattle.noc_net.specs.Halves.{beat_at, view_after_puts}
-use Rattle.noc_net.specs.Takes.{view_after_conclude}
-use Rattle.noc_net.specs.Unseen.{without_findings}
 use Rattle.noc_tiles.specs.Inner.{CanFinish, HaveFinished, put_from, to_send}
 use Rattle.noc_tiles.specs.Phases.{IsCleared}
 use Rattle.noc_tiles.specs.TileStep.{is_own, is_from, beat_among}
@@ -110,7 +110,6 @@ whole-wire first a b n sent (Some (s, q)) l m =
 
 pub can-part : (relation : Routes) (i j i' j' : ℕ) (t : Tile) → CanFinish relation i j t → i ≤ i' → i' ≤ j' → j' ≤ j → CanFinish relation i' j' t
 can-part relation i j i' j' t can l m n = record {
-  plan = can.plan;
   order = m;
   within = omega (arith, can.within);
   wide = can.wide;
@@ -121,12 +120,11 @@ can-part relation i j i' j' t can l m n = record {
 }
 
 -- those that are not among the ones that have finished still can
-pub can-after : (relation : Routes) (n : ℕ) (seen : Bool) (i j i' j' : ℕ) (a b : Tile) → HaveFinished relation n seen i j a b → CanFinish relation i' j' a → i ≤ j → (j ≤ i') ⊎ (j' ≤ i) → CanFinish relation i' j' b
-can-after relation n seen i j i' j' a b done can l apart =
+pub can-after : (relation : Routes) (n : ℕ) (findings : Findings) (i j i' j' : ℕ) (a b : Tile) → HaveFinished relation n findings i j a b → CanFinish relation i' j' a → i ≤ j → (j ≤ i') ⊎ (j' ≤ i) → CanFinish relation i' j' b
+can-after relation n findings i j i' j' a b done can l apart =
     let first : b.first ≡ a.first = ap (λ (t : Tile). t.first) done.rest in
     let other : (k : ℕ) → i' ≤ k → k < j' → (k < i) ⊎ (j ≤ k) = λ k u v. ⊎_elim (λ (x : j ≤ i'). inr (omega arith)) (λ (y : j' ≤ i). inl (omega arith)) apart in
     record {
-      plan = done.plan;
       order = can.order;
       within = omega (arith, can.within, done.count);
       wide = omega (arith, can.wide, done.count, first);
@@ -147,7 +145,6 @@ can-cleared relation i j k outs a b can rest size cleared =
     let first : b.first ≡ a.first = ap (λ (t : Tile). t.first) rest in
     let routers : b.routers.items ≡ a.routers.items = ap (λ (t : Tile). t.routers.items) rest in
     record {
-      plan = subst (IsDecidedFor (ports relation.grid) relation.vcs) (sym (ap (λ (t : Tile). t.plan) rest)) can.plan;
       order = can.order;
       within = omega (arith, can.within, ap length routers);
       wide = omega (arith, can.wide, ap length routers, first);
@@ -165,12 +162,12 @@ can-cleared relation i j k outs a b can rest size cleared =
 
 sent-same : (relation : Routes) (n : ℕ) (vs ws : List View) (k : ℕ) (d : View) → k < length vs → k < length ws → get_or vs k d ≡ get_or ws k d → get_or (to_send relation n vs) k [] ≡ get_or (to_send relation n ws) k []
 sent-same relation n vs ws k d l m same =
-    let put = λ (v : View). (view_after_conclude relation n v).to_put in
+    let put = λ (v : View). (view_after_finish relation n Record v).to_put in
     get_or-map put vs k d [] l ∙ ap put same ∙ sym (get_or-map put ws k d [] m)
 
 -- the tile before all, after the routers at its edge below the inner ones and after those above them, with some wires idle, and after the inner ones
-module _ (relation : Routes) (n : ℕ) (seen : Bool) (i j : ℕ) (t1 t2 t3 t4 t5 : Tile) (order : i ≤ j) (within : j ≤ length t1.routers.items) (one : HaveFinished relation n seen 0 i t1 t2) (two : HaveFinished relation n seen j (length t1.routers.items) t2 t3)
-    (rest : t4 ≡ record t3 { beats = t4.beats; outs = t4.outs }) (three : HaveFinished relation n seen i j t4 t5) where
+module _ (relation : Routes) (n : ℕ) (findings : Findings) (i j : ℕ) (t1 t2 t3 t4 t5 : Tile) (order : i ≤ j) (within : j ≤ length t1.routers.items) (one : HaveFinished relation n findings 0 i t1 t2) (two : HaveFinished relation n findings j (length t1.routers.items) t2 t3)
+    (rest : t4 ≡ record t3 { beats = t4.beats; outs = t4.outs }) (three : HaveFinished relation n findings i j t4 t5) where
   abbrev pub sent : List (List Beat)
   sent = to_send relation n t1.routers.items
 
@@ -199,23 +196,14 @@ module _ (relation : Routes) (n : ℕ) (seen : Bool) (i j : ℕ) (t1 t2 t3 t4 t5
   above5 k d l = three.others k d (inr l) ∙ ap (λ vs. get_or vs k d) routers4
 
   abbrev finished : View → View
-  finished v = view_after_puts (view_after_conclude relation n v)
+  finished v = view_after_puts (view_after_finish relation n findings v)
 
-  pub views5 : (k : ℕ) (d : View) → k < length t1.routers.items → without_findings (get_or t5.routers.items k d) ≡ without_findings (finished (get_or t1.routers.items k d))
+  pub views5 : (k : ℕ) (d : View) → k < length t1.routers.items → get_or t5.routers.items k d ≡ finished (get_or t1.routers.items k d)
   views5 k d l =
-      ⊎_elim (λ (x : k < i). ap without_findings (below5 k d x) ∙ one.views k d (omega arith) x)
+      ⊎_elim (λ (x : k < i). below5 k d x ∙ one.views k d (omega arith) x)
       (λ (x : i ≤ k).
-      ⊎_elim (λ (y : k < j). three.views k d x y ∙ ap (λ v. without_findings (finished v)) (still4 k d x y))
-      (λ (y : j ≤ k). ap without_findings (above5 k d y) ∙ two.views k d y l ∙ ap (λ v. without_findings (finished v)) (still2 k d x))
-      (cases_lt k j))
-      (cases_lt k i)
-
-  pub seen5 : seen ≡ true → (k : ℕ) (d : View) → k < length t1.routers.items → get_or t5.routers.items k d ≡ finished (get_or t1.routers.items k d)
-  seen5 e k d l =
-      ⊎_elim (λ (x : k < i). below5 k d x ∙ one.seen_views e k d (omega arith) x)
-      (λ (x : i ≤ k).
-      ⊎_elim (λ (y : k < j). three.seen_views e k d x y ∙ ap finished (still4 k d x y))
-      (λ (y : j ≤ k). above5 k d y ∙ two.seen_views e k d y l ∙ ap finished (still2 k d x))
+      ⊎_elim (λ (y : k < j). three.views k d x y ∙ ap finished (still4 k d x y))
+      (λ (y : j ≤ k). above5 k d y ∙ two.views k d y l ∙ ap finished (still2 k d x))
       (cases_lt k j))
       (cases_lt k i)
 

@@ -1,18 +1,19 @@
 -- Routers of a tile finish a cycle, one after another.
-use Rattle.std.proofs.Common.{◌≡◌, ◌≢◌, inl, inr, ℕ, ◌+◌, ◌-◌, ◌<◌, ◌≤◌, Bool, true, List, [], length, get_or, set, Option, Some, None, refl, ap, sym, ◌∙◌, ⊎_elim, subst, arith}
+use Rattle.std.proofs.Common.{◌≡◌, ◌≢◌, inl, inr, ℕ, ◌+◌, ◌-◌, ◌<◌, ◌≤◌, true, List, [], length, get_or, set, Option, Some, None, refl, ap, sym, ◌∙◌, ⊎_elim, subst, arith}
 use Rattle.std.specs.Prelude.{if◌then◌else◌}
 use Rattle.std.proofs.lemmas.Bool.{cases_eq, cases_lt}
 use Rattle.std.proofs.lemmas.Bool.Decides.{eqb_tells}
 use Rattle.std.proofs.lemmas.List.{get_or-map, get_or-set_same, get_or-set_other, get_or_read, length-set}
-use Rattle.noc_topo.specs.Shape.{local_port, neighbour, nodes, ports}
+use Rattle.noc_topo.specs.Shape.{local_port, neighbour, nodes}
 use Rattle.noc_packet.specs.declared.packet.Beat.{Beat}
 use Rattle.noc_route.specs.Routes.{Routes}
-use Rattle.noc_router.specs.Decided.{IsDecidedFor}
+use Rattle.noc_router.specs.declared.verdict.Findings.{Findings}
+use Rattle.noc_router.specs.declared.verdict.Findings.TheVariants.{Record, Leave}
+use Rattle.noc_router.specs.Finish.{view_after_finish}
 use Rattle.noc_router.specs.View.{Site, View, IsRelationOf, idle_beat, beat_to_put, view_after_inject, decisions_of}
 use Rattle.noc_router.proofs.SiteLemmas.{injected-site, committed-site}
 use Rattle.noc_model.proofs.StepLemmas.{IsRelationOf-same_site, count-committed}
 use Rattle.noc_net.specs.Halves.{HasItsBeats, beat_at, view_after_puts, wire_after_puts}
-use Rattle.noc_net.specs.Takes.{view_after_conclude}
 use Rattle.noc_net.specs.Unseen.{without_findings}
 use Rattle.noc_tiles.specs.Inner.{CanFinish, HaveFinished, put_from, to_send}
 use Rattle.noc_tiles.specs.TileStep.{is_own, is_from}
@@ -20,32 +21,31 @@ use Rattle.noc_tiles.specs.declared.tile.Tile.{Tile}
 use Rattle.noc_tiles.proofs.SentLemmas.{own-true, own-false, own-same, past-rows}
 use Rattle.noc_tiles.proofs.TileStepLemmas.{Tells}
 
--- ---- one router, which has concluded but for what it found
+-- ---- one router that has finished
 
-pub concluded-site : (relation : Routes) (n : ℕ) (v : View) → (view_after_conclude relation n v).site ≡ v.site
-concluded-site relation n v = committed-site (decisions_of relation (view_after_inject n v)) (view_after_inject n v) ∙ injected-site n v
+pub finish-site : (relation : Routes) (n : ℕ) (findings : Findings) (v : View) → (view_after_finish relation n findings v).site ≡ v.site
+finish-site relation n Record v = committed-site (decisions_of relation (view_after_inject n v)) (view_after_inject n v) ∙ injected-site n v
+finish-site relation n Leave v = committed-site (decisions_of relation (view_after_inject n v)) (view_after_inject n v) ∙ injected-site n v
 
-pub received-unseen : (v : View) (from : Option (ℕ × ℕ)) (beat : Beat) → wire_after_puts v from beat ≡ wire_after_puts (without_findings v) from beat
-received-unseen v None beat = refl
-received-unseen v (Some from) beat = refl
+-- whether findings are recorded makes no difference to anything else
+pub finish-put : (relation : Routes) (n : ℕ) (findings : Findings) (v : View) → (view_after_finish relation n findings v).to_put ≡ (view_after_finish relation n Record v).to_put
+finish-put relation n Record v = refl
+finish-put relation n Leave v = refl
 
-module _ (relation : Routes) (n : ℕ) (v w : View) (same : without_findings w ≡ without_findings (view_after_conclude relation n v)) where
-  pub site-half : w.site ≡ v.site
-  site-half = ap (λ (u : View). u.site) same ∙ concluded-site relation n v
+pub finish-unseen : (relation : Routes) (n : ℕ) (findings : Findings) (v : View)
+    → without_findings (view_after_puts (view_after_finish relation n findings v)) ≡ without_findings (view_after_puts (view_after_finish relation n Record v))
+finish-unseen relation n Record v = refl
+finish-unseen relation n Leave v = refl
 
-  pub placed-half : IsRelationOf relation v → HasItsBeats relation w.site.node w
-  placed-half fits = record {
-    built_for = IsRelationOf-same_site relation v w site-half fits;
-    site = refl;
-    beats = ap (λ (u : View). length u.to_put) same
-        ∙ count-committed (decisions_of relation (view_after_inject n v)) (view_after_inject n v)
-        ∙ ap (λ (s : Site). local_port s.grid) (injected-site n v)
-        ∙ ap local_port (sym fits.grid);
-  }
-
-  pub received-half : (from : Option (ℕ × ℕ)) (beat : Beat) → wire_after_puts w from beat ≡ wire_after_puts (view_after_conclude relation n v) from beat
-  received-half from beat =
-      received-unseen w from beat ∙ ap (λ (u : View). wire_after_puts u from beat) same ∙ sym (received-unseen (view_after_conclude relation n v) from beat)
+pub finish-placed : (relation : Routes) (n : ℕ) (findings : Findings) (v : View) → IsRelationOf relation v → HasItsBeats relation (view_after_finish relation n findings v).site.node (view_after_finish relation n findings v)
+finish-placed relation n findings v fits = record {
+  built_for = IsRelationOf-same_site relation v (view_after_finish relation n findings v) (finish-site relation n findings v) fits;
+  site = refl;
+  beats = ap length (finish-put relation n findings v)
+      ∙ count-committed (decisions_of relation (view_after_inject n v)) (view_after_inject n v)
+      ∙ ap (λ (s : Site). local_port s.grid) (injected-site n v)
+      ∙ ap local_port (sym fits.grid);
+}
 
 -- ---- the wires
 
@@ -78,20 +78,18 @@ from-more first i k sent w (Some (a, q)) beat l e g = at (eqb_tells a w.site.nod
 
 -- ---- the tile
 
-module _ (relation : Routes) (n : ℕ) (seen : Bool) (i j : ℕ) (a : Tile) (can : CanFinish relation i j a) where
-  pub finished-none : HaveFinished relation n seen i i a a
+module _ (relation : Routes) (n : ℕ) (findings : Findings) (i j : ℕ) (a : Tile) (can : CanFinish relation i j a) where
+  pub finished-none : HaveFinished relation n findings i i a a
   finished-none = record {
     rest = refl;
-    plan = can.plan;
     count = refl;
     size = refl;
     views = λ k d l m. absurd (omega (arith, l, m));
-    seen_views = λ e k d l m. absurd (omega (arith, l, m));
     others = λ k d h. refl;
     wires = λ r q l. sym (from-none a.first i (to_send relation n a.routers.items) (neighbour relation.grid r q) (beat_at a.beats.items r q));
   }
 
-  module _ (b : Tile) (k : ℕ) (so_far : HaveFinished relation n seen i k a b) (from : i ≤ k) (below : k < j) (v : View) (is : v ≡ get_or b.routers.items k v) where
+  module _ (b : Tile) (k : ℕ) (so_far : HaveFinished relation n findings i k a b) (from : i ≤ k) (below : k < j) (v : View) (is : v ≡ get_or b.routers.items k v) where
     is-first : v ≡ get_or a.routers.items k v
     is-first = is ∙ so_far.others k v (inr (omega arith))
 
@@ -111,7 +109,7 @@ module _ (relation : Routes) (n : ℕ) (seen : Bool) (i j : ℕ) (a : Tile) (can
         (λ (past : nodes relation.grid ≤ r). past-rows b.beats.items r q (omega (arith, so_far.size, can.count, past)))
         (cases_lt r (nodes relation.grid))
 
-    module _ (c : Tile) (w : View) (same : without_findings w ≡ without_findings (view_after_puts (view_after_conclude relation n v))) (sees : seen ≡ true → w ≡ view_after_puts (view_after_conclude relation n v)) (set_is : c.routers.items ≡ set b.routers.items k w) where
+    module _ (c : Tile) (w : View) (same : w ≡ view_after_puts (view_after_finish relation n findings v)) (set_is : c.routers.items ≡ set b.routers.items k w) where
       short : k < length b.routers.items
       short = omega (arith, so_far.count, can.within, below)
 
@@ -124,25 +122,23 @@ module _ (relation : Routes) (n : ℕ) (seen : Bool) (i j : ℕ) (a : Tile) (can
       first-at : (d : View) → v ≡ get_or a.routers.items k d
       first-at d = get_or_read a.routers.items k v (omega (arith, short, so_far.count)) is-first d
 
-      pub finished-more : c ≡ record b { plan = c.plan; routers = c.routers; beats = c.beats } → IsDecidedFor (ports relation.grid) relation.vcs c.plan → length c.beats.items ≡ length b.beats.items
-          → ((r q : ℕ) → r < nodes relation.grid → beat_at c.beats.items r q ≡ wire_after_puts (view_after_conclude relation n v) (neighbour relation.grid r q) (beat_at b.beats.items r q))
-          → HaveFinished relation n seen i (k + 1) a c
-      finished-more rest plan size wires = record {
+      pub finished-more : c ≡ record b { plan = c.plan; routers = c.routers; beats = c.beats } → length c.beats.items ≡ length b.beats.items
+          → ((r q : ℕ) → r < nodes relation.grid → beat_at c.beats.items r q ≡ wire_after_puts (view_after_finish relation n findings v) (neighbour relation.grid r q) (beat_at b.beats.items r q))
+          → HaveFinished relation n findings i (k + 1) a c
+      finished-more rest size wires = record {
         rest = rest ∙ ap (λ (t : Tile). record t { plan = c.plan; routers = c.routers; beats = c.beats }) so_far.rest;
-        plan = plan;
         count = ap length set_is ∙ length-set b.routers.items k w ∙ so_far.count;
         size = size ∙ so_far.size;
         views = λ m d l u.
-            ⊎_elim (λ (e : m ≡ k). rw e (ap without_findings (here d) ∙ same ∙ ap (λ (x : View). without_findings (view_after_puts (view_after_conclude relation n x))) (first-at d)))
-            (λ (ne : m ≢ k). ap without_findings (elsewhere m d ne) ∙ so_far.views m d l (omega arith)) (cases_eq m k);
-        seen_views = λ s m d l u.
-            ⊎_elim (λ (e : m ≡ k). rw e (here d ∙ sees s ∙ ap (λ (x : View). view_after_puts (view_after_conclude relation n x)) (first-at d)))
-            (λ (ne : m ≢ k). elsewhere m d ne ∙ so_far.seen_views s m d l (omega arith)) (cases_eq m k);
+            ⊎_elim (λ (e : m ≡ k). rw e (here d ∙ same ∙ ap (λ (x : View). view_after_puts (view_after_finish relation n findings x)) (first-at d)))
+            (λ (ne : m ≢ k). elsewhere m d ne ∙ so_far.views m d l (omega arith)) (cases_eq m k);
         others = λ m d h. elsewhere m d (omega arith) ∙ so_far.others m d (⊎_elim (λ (l : m < i). inl l) (λ (u : k + 1 ≤ m). inr (omega arith)) h);
         wires = λ r q l.
+            let out = view_after_finish relation n findings v in
             wires r q l
-            ∙ ap (wire_after_puts (view_after_conclude relation n v) (neighbour relation.grid r q)) (so_far.wires r q l)
-            ∙ from-more a.first i k (to_send relation n a.routers.items) (view_after_conclude relation n v) (neighbour relation.grid r q) (beat_at a.beats.items r q) from
-            (ap (λ (s : Site). s.node) (concluded-site relation n v) ∙ next-node)
-            (get_or-map (λ (x : View). (view_after_conclude relation n x).to_put) a.routers.items k v [] (omega (arith, short, so_far.count)) ∙ ap (λ (x : View). (view_after_conclude relation n x).to_put) (sym is-first));
+            ∙ ap (wire_after_puts out (neighbour relation.grid r q)) (so_far.wires r q l)
+            ∙ from-more a.first i k (to_send relation n a.routers.items) out (neighbour relation.grid r q) (beat_at a.beats.items r q) from
+            (ap (λ (s : Site). s.node) (finish-site relation n findings v) ∙ next-node)
+            (get_or-map (λ (x : View). (view_after_finish relation n Record x).to_put) a.routers.items k v [] (omega (arith, short, so_far.count))
+            ∙ ap (λ (x : View). (view_after_finish relation n Record x).to_put) (sym is-first) ∙ sym (finish-put relation n findings v));
       }

@@ -5,10 +5,9 @@ use Rattle.std.specs.List.{flat_map}
 use Rattle.std.proofs.lemmas.Bool.{cases_lt}
 use Rattle.std.proofs.lemmas.List.{append-nil, drop-drop, get_or_append_left, get_or_push, get_or-take, length-drop, length-map, length_push, length-take-le, take_all}
 use Rattle.std.proofs.Math.Seq.{take-add}
-use Rattle.noc_topo.specs.Shape.{Grid, neighbour, nodes, ports}
+use Rattle.noc_topo.specs.Shape.{Grid, neighbour, nodes}
 use Rattle.noc_packet.specs.declared.packet.Beat.{Beat}
 use Rattle.noc_model.proofs.RunLemmas.{count_views}
-use Rattle.noc_router.specs.Decided.{IsDecidedFor}
 use Rattle.noc_router.specs.View.{idle_beat}
 use Rattle.noc_net.specs.Halves.{beat_at}
 use Rattle.noc_tiles.specs.Ends.{End}
@@ -69,14 +68,14 @@ module _ {f : Kept} {B : List (List Beat)} {I0 O0 : List (Option End)} {w : ℕ}
       all-out (setup_of f) A.can.good.relation.table.grid f.workers rest.first count wide B I0 O0 I O A.uncut.unassigned w A.worker A.uncut.first end-is k at l h
       (subst (λ (g : Grid). GoesOutTo g rest.first count k at) A.same goes)
 
-  pub tile-of : (t : Tile) → t.worker ≡ w → t.first ≡ rest.first → t.start ≡ f.count → t.cycles ≡ f.cycles → t.done ≡ 0 → IsDecidedFor (ports f.relation.grid) f.relation.vcs t.plan
+  pub tile-of : (t : Tile) → t.worker ≡ w → t.first ≡ rest.first → t.start ≡ f.count → t.cycles ≡ f.cycles → t.done ≡ 0
       → t.routers.items ≡ take count rest.routers.items → vec_len t.beats ≡ length B
       → ((r q : ℕ) → is_own rest.first count r ≡ true → beat_at t.beats.items r q ≡ beat_at B r q) → ((r q : ℕ) → is_own rest.first count r ≡ false → beat_at t.beats.items r q ≡ idle_beat)
       → AreTakenIn grid rest.first count ((rest.first + count) * 6) I (inlets t) → AreTakenOut grid rest.first count ((rest.first + count) * 6) O (outlets t) → IsTileOf f I0 O0 w t
-  tile-of t worker first start cycles done plan routers size own idle ins outs =
+  tile-of t worker first start cycles done routers size own idle ins outs =
       let views : t.routers.items ≡ take count (drop rest.first (views_of f)) = routers ∙ ap (take count) A.uncut.routers in
       record {
-        tile = new-tile (setup_of f) A.can.good.relation.table.grid f.workers rest.first count wide B I0 O0 I O A.uncut.unassigned w A.worker A.uncut.first end-is f.count f.cycles A.can.flight t first start cycles done A.can.end plan views
+        tile = new-tile (setup_of f) A.can.good.relation.table.grid f.workers rest.first count wide B I0 O0 I O A.uncut.unassigned w A.worker A.uncut.first end-is f.count f.cycles A.can.flight t first start cycles done A.can.end views
             (sym (vec-length t.beats) ∙ (size ∙ A.can.size)) own idle
             (subst (λ (g : Grid). AreTakenIn g rest.first count ((rest.first + count) * 6) I (inlets t)) A.same ins)
             (subst (λ (g : Grid). AreTakenOut g rest.first count ((rest.first + count) * 6) O (outlets t)) A.same outs);

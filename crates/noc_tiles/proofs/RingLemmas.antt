@@ -2,7 +2,7 @@
 use Rattle.std.proofs.Common.{◌≡◌, ◌≢◌, ◌⊎◌, inl, inr, ℕ, ◌+◌, ◌*◌, ◌/◌, ◌%◌, ◌<◌, ◌≤◌, Bool, true, false, List, [], ◌∷◌, ◌++◌, map, length, get_or, Option, Some, None, refl, ap, ap₂, sym, ◌∙◌, arith, subst, ⊎_elim}
 use Rattle.std.specs.Prelude.{option_map, is_some, IfSome, IfNone}
 use Rattle.std.proofs.lemmas.Bool.{cases_lt, false≢true}
-use Rattle.std.proofs.lemmas.List.{append-nil, length_push, length-map, map-append, get_or-map, get_or_append_left, get_or_push, get_or-set_other, get_or_past}
+use Rattle.std.proofs.lemmas.List.{append-nil, length_push, length-map, map-append, get_or-map, get_or_append_left, get_or_push, get_or-set_other, get_or_past, length-set}
 use Rattle.noc_topo.specs.Shape.{Grid, IsGrid, neighbour, nodes}
 use Rattle.noc_topo.proofs.LinkLemmas.{link_back}
 use Rattle.noc_packet.specs.declared.packet.Beat.{Beat}
@@ -12,6 +12,11 @@ use Rattle.noc_tiles.specs.Ends.{End}
 use Rattle.noc_tiles.specs.TileStep.{is_own, is_from, is_inside}
 use Rattle.noc_tiles.specs.Rings.{AreLeftOut, AreSlots, AreTakenIn, AreTakenOut, GoesOutTo, IsSlot, item_at, one_of, without}
 use Rattle.noc_tiles.proofs.SentLemmas.{own-true}
+
+-- as many slots are left
+pub length-without : {X : Type 0} (at : Option ℕ) (slots : List (Option X)) → length (without at slots) ≡ length slots
+length-without None slots = refl
+length-without (Some k) slots = length-set slots k None
 
 -- the views of slots, after one was emptied
 module _ {X : Type 0} (f : X → End) where

@@ -1,5 +1,5 @@
 -- One more cycle of a tile's run.
-use Rattle.std.proofs.Common.{◌≡◌, ℕ, suc, ◌+◌, ◌<◌, ◌≤◌, Bool, true, List, [], ◌∷◌, ◌++◌, map, length, get_or, refl, ap, ap₂, sym, ◌∙◌, arith, below_more}
+use Rattle.std.proofs.Common.{◌≡◌, ℕ, suc, ◌+◌, ◌<◌, ◌≤◌, List, [], ◌∷◌, ◌++◌, map, length, get_or, refl, ap, ap₂, sym, ◌∙◌, subst, arith, below_more}
 use Rattle.std.proofs.lemmas.List.{length_push, get_or_append_left, get_or_push, length-map, get_or-map, same_lists}
 use Rattle.noc_topo.specs.Words.{map_indexed}
 use Rattle.noc_topo.specs.Shape.{local_port, nodes}
@@ -7,9 +7,11 @@ use Rattle.noc_topo.proofs.WordLemmas.{length-map_indexed, get_or-map_indexed}
 use Rattle.noc_packet.specs.declared.packet.Beat.{Beat}
 use Rattle.noc_route.specs.Routes.{Routes}
 use Rattle.noc_router.specs.View.{View, local_step, idle_beat}
+use Rattle.noc_router.specs.declared.verdict.Findings.{Findings}
+use Rattle.noc_router.specs.declared.verdict.Findings.TheVariants.{Record}
 use Rattle.noc_net.specs.Halves.{beat_at}
-use Rattle.noc_net.specs.Unseen.{without_findings}
-use Rattle.noc_model.proofs.UnseenLemmas.{findings-local_step}
+use Rattle.noc_net.specs.Unseen.{AreSameViews, without_findings}
+use Rattle.noc_model.proofs.UnseenLemmas.{findings-local_step, same-unseen}
 use Rattle.noc_tiles.specs.RingEnd.{WireEnd}
 use Rattle.noc_tiles.specs.TileStep.{Layout, TileState, ends_after_beats, ends_after_rows, arrival_places, with_row, beats_arriving, steps, after_steps, put_by, tile_after_cycle, put_in, after, beats_put}
 use Rattle.noc_tiles.specs.Tiles.{IsReady, IsSameTile, Cycles, Runs, inlets, outlets, layout_of, state_of}
@@ -83,9 +85,9 @@ place-same a b s =
     let mk : ℕ → List (ℕ × ℕ) → List (ℕ × ℕ) → Layout = λ v p q. record { first = v; ins = p; outs = q } in
     ap₂ (λ v p. mk v p (arrival_places (outlets b))) s.first (places-names (inlets b) (inlets a) s.ins) ∙ ap (mk a.first (arrival_places (inlets a))) (places-names (outlets b) (outlets a) s.outs)
 
-pub runs-more : (relation : Routes) (k : ℕ) (a b b' : Tile) (seen : Bool) (row : List Beat) → IsSameTile a b → IsReady relation b → (k + 1 ≡ a.cycles → seen ≡ true)
-    → RunsSoFar relation k a b → Cycles relation seen (a.start + k) b b' row → RunsSoFar relation (k + 1) a b'
-runs-more relation k a b b' seen row s ready last r c =
+pub runs-more : (relation : Routes) (k : ℕ) (a b b' : Tile) (findings : Findings) (row : List Beat) → IsSameTile a b → IsReady relation b → (k + 1 ≡ a.cycles → findings ≡ Record)
+    → RunsSoFar relation k a b → Cycles relation findings (a.start + k) b b' row → RunsSoFar relation (k + 1) a b'
+runs-more relation k a b b' findings row s ready last r c =
     let P = layout_of a in
     let T = state_of a in
     let U = after relation P a.start T r.rows in
@@ -104,8 +106,8 @@ runs-more relation k a b b' seen row s ready last r c =
       width = below_more (λ i. length (get_or (r.rows ++ row ∷ []) i []) ≡ length (inlets a)) k
           (λ i l. let l' : i < length r.rows = let q = r.count in omega arith in ap length (get_or_append_left r.rows (row ∷ []) [] i l') ∙ r.width i l)
           (ap length (get_or_push r.rows row [] k r.count) ∙ w);
-      views = c.views ∙ ap (λ (z : TileState). map without_findings z.views) next;
-      seen = λ h. c.seen_views (last h) ∙ ap (λ (z : TileState). z.views) next;
+      views = same-unseen findings b'.routers.items (after_steps relation (layout_of b) (steps relation (layout_of b) (a.start + k) (state_of b) row)).views c.views ∙ ap (λ (z : TileState). map without_findings z.views) next;
+      seen = λ h. subst (λ (f : Findings). AreSameViews f b'.routers.items (after_steps relation (layout_of b) (steps relation (layout_of b) (a.start + k) (state_of b) row)).views) (last h) c.views ∙ ap (λ (z : TileState). z.views) next;
       wires = λ i q l. c.wires i q l ∙ ap (λ (z : TileState). z.wires i q) next;
       ins = c.ins ∙ (ap (λ ws. ends_after_beats ws row) r.ins ∙ sym (fed_all-more (inlets a) r.rows row));
       outs =

@@ -3,10 +3,9 @@ use Rattle.std.proofs.Common.{◌≡◌, ◌⊎◌, inl, inr, ℕ, ◌+◌, ◌*
 use Rattle.std.specs.Prelude.{is_some}
 use Rattle.std.proofs.lemmas.Bool.{cases_lt, false≢true}
 use Rattle.std.proofs.lemmas.List.{get_or_past}
-use Rattle.noc_topo.specs.Shape.{IsGrid, neighbour, nodes, ports}
+use Rattle.noc_topo.specs.Shape.{IsGrid, neighbour, nodes}
 use Rattle.noc_topo.proofs.LinkLemmas.{link_back}
 use Rattle.noc_packet.specs.declared.packet.Beat.{Beat}
-use Rattle.noc_router.specs.Decided.{IsDecidedFor}
 use Rattle.noc_router.specs.View.{View, idle_beat}
 use Rattle.noc_net.specs.Halves.{beat_at}
 use Rattle.noc_net.specs.Lockstep.{lockstep_at}
@@ -59,7 +58,6 @@ module _ (net : Setup) (sound : IsGrid net.relation.grid) (workers first count :
   }
 
   module _ (n k : ℕ) (flight : InFlight net n B) (t : Tile) (is-first : t.first ≡ first) (is-start : t.start ≡ n) (is-cycles : t.cycles ≡ k) (is-done : t.done ≡ 0) (end : n + k < 2 ^ 64)
-      (plan : IsDecidedFor (ports net.relation.grid) net.relation.vcs t.plan)
       (views : t.routers.items ≡ take count (drop first (lockstep_at net n).views))
       (size : length t.beats.items ≡ nodes net.relation.grid)
       (own : (r q : ℕ) → is_own first count r ≡ true → beat_at t.beats.items r q ≡ beat_at B r q)
@@ -78,7 +76,7 @@ module _ (net : Setup) (sound : IsGrid net.relation.grid) (workers first count :
         let ff : (x : Option (ℕ × ℕ)) → is_from t.first (length t.routers.items) x ≡ is_from first count x = λ x. ap₂ (λ u v. is_from u v x) is-first vc in
         record {
           can = record {
-            ready = record { plan = plan; few_links = omega arith; parts = subst Q (sym views) (subst P (sym is-first) S) };
+            ready = record { few_links = omega arith; parts = subst Q (sym views) (subst P (sym is-first) S) };
             done = is-done;
             end = omega arith;
           };

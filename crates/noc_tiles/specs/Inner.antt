@@ -1,13 +1,13 @@
 -- The routers of a tile in two parts: those at its edge finish a cycle first, and the inner ones while what the others put is on its way.
-use Rattle.std.specs.Prelude.{ℕ, Bool, true, false, ◌≡◌, ◌⊎◌, ◌+◌, ◌-◌, ◌<◌, ◌≤◌, List, map, length, get_or, Option, Some, None, if◌then◌else◌}
-use Rattle.noc_topo.specs.Shape.{Grid, nodes, ports, neighbour}
+use Rattle.std.specs.Prelude.{ℕ, true, false, ◌≡◌, ◌⊎◌, ◌+◌, ◌-◌, ◌<◌, ◌≤◌, List, map, length, get_or, Option, Some, None, if◌then◌else◌}
+use Rattle.noc_topo.specs.Shape.{Grid, nodes, neighbour}
 use Rattle.noc_packet.specs.declared.packet.Beat.{Beat}
 use Rattle.noc_route.specs.Routes.{Routes}
-use Rattle.noc_router.specs.Decided.{IsDecidedFor}
-use Rattle.noc_router.specs.View.{PlanContents, View, IsRelationOf, idle_beat}
+use Rattle.noc_router.specs.declared.verdict.Findings.{Findings}
+use Rattle.noc_router.specs.declared.verdict.Findings.TheVariants.{Record}
+use Rattle.noc_router.specs.Finish.{view_after_finish}
+use Rattle.noc_router.specs.View.{View, IsRelationOf, idle_beat}
 use Rattle.noc_net.specs.Halves.{beat_at, view_after_puts}
-use Rattle.noc_net.specs.Takes.{view_after_conclude}
-use Rattle.noc_net.specs.Unseen.{without_findings}
 use Rattle.noc_tiles.specs.TileStep.{is_own, is_from}
 use Rattle.noc_tiles.specs.declared.inner.Inner.{Inner}
 use Rattle.noc_tiles.specs.declared.tile.Tile.{Tile}
@@ -25,11 +25,10 @@ put_from first i j sent (Some from) beat = if is_own (first + i) (j - i) from.0 
 
 -- what routers that have taken their beats put at the end of cycle n
 abbrev pub to_send : Routes → ℕ → List View → List (List Beat)
-to_send relation n views = map (λ (v : View). (view_after_conclude relation n v).to_put) views
+to_send relation n views = map (λ (v : View). (view_after_finish relation n Record v).to_put) views
 
 -- a router that has taken its beats can finish a cycle: it is that of its node, and the wires that leave it are idle
-pub record RouterCanFinish (relation : Routes) (p : PlanContents) (router : View) (b : List (List Beat)) : Type 0 where
-  pub plan : IsDecidedFor (ports relation.grid) relation.vcs p
+pub record RouterCanFinish (relation : Routes) (router : View) (b : List (List Beat)) : Type 0 where
   pub built : IsRelationOf relation router
   pub node : router.site.node < nodes relation.grid
   pub count : length b ≡ nodes relation.grid
@@ -37,7 +36,6 @@ pub record RouterCanFinish (relation : Routes) (p : PlanContents) (router : View
 
 -- the routers of a tile from index i to before j can finish a cycle: they are those of their nodes, and the wires that leave them are idle
 pub record CanFinish (relation : Routes) (i j : ℕ) (t : Tile) : Type 0 where
-  pub plan : IsDecidedFor (ports relation.grid) relation.vcs t.plan
   pub order : i ≤ j
   pub within : j ≤ length t.routers.items
   pub wide : t.first + length t.routers.items ≤ nodes relation.grid
@@ -46,14 +44,12 @@ pub record CanFinish (relation : Routes) (i j : ℕ) (t : Tile) : Type 0 where
   pub site : (k : ℕ) (d : View) → i ≤ k → k < j → (get_or t.routers.items k d).site.node ≡ t.first + k
   pub idle : (r q : ℕ) → r < nodes relation.grid → is_from (t.first + i) (j - i) (neighbour relation.grid r q) ≡ true → beat_at t.beats.items r q ≡ idle_beat
 
--- the routers of a tile from index i to before j have finished cycle n; where nobody has seen what was found, the findings are others
-pub record HaveFinished (relation : Routes) (n : ℕ) (seen : Bool) (i j : ℕ) (a b : Tile) : Type 0 where
+-- the routers of a tile from index i to before j have finished cycle n
+pub record HaveFinished (relation : Routes) (n : ℕ) (findings : Findings) (i j : ℕ) (a b : Tile) : Type 0 where
   pub rest : b ≡ record a { plan = b.plan; routers = b.routers; beats = b.beats }
-  pub plan : IsDecidedFor (ports relation.grid) relation.vcs b.plan
   pub count : length b.routers.items ≡ length a.routers.items
   pub size : length b.beats.items ≡ length a.beats.items
-  pub views : (k : ℕ) (d : View) → i ≤ k → k < j → without_findings (get_or b.routers.items k d) ≡ without_findings (view_after_puts (view_after_conclude relation n (get_or a.routers.items k d)))
-  pub seen_views : seen ≡ true → (k : ℕ) (d : View) → i ≤ k → k < j → get_or b.routers.items k d ≡ view_after_puts (view_after_conclude relation n (get_or a.routers.items k d))
+  pub views : (k : ℕ) (d : View) → i ≤ k → k < j → get_or b.routers.items k d ≡ view_after_puts (view_after_finish relation n findings (get_or a.routers.items k d))
   pub others : (k : ℕ) (d : View) → (k < i) ⊎ (j ≤ k) → get_or b.routers.items k d ≡ get_or a.routers.items k d
   pub wires : (r q : ℕ) → r < nodes relation.grid
       → beat_at b.beats.items r q ≡ put_from a.first i j (to_send relation n a.routers.items) (neighbour relation.grid r q) (beat_at a.beats.items r q)

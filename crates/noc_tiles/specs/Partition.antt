@@ -3,7 +3,6 @@ use Rattle.std.specs.Prelude.{ℕ, true, false, ◌≡◌, ◌⊎◌, ◌+◌, �
 use Rattle.std.specs.List.{flat_map}
 use Rattle.noc_topo.specs.Shape.{IsGrid, nodes, ports, neighbour}
 use Rattle.noc_packet.specs.declared.packet.Beat.{Beat}
-use Rattle.noc_router.specs.Decided.{IsDecidedFor}
 use Rattle.noc_router.specs.View.{View}
 use Rattle.noc_net.specs.Good.{IsGoodSetup}
 use Rattle.noc_net.specs.Halves.{beat_at}
@@ -26,7 +25,6 @@ setup_of f = record { relation = f.relation; places = f.buffer; packets = f.pack
 
 -- what a network keeps while its tiles run
 pub record IsFrame (f : Kept) : Type 0 where
-  pub plan : IsDecidedFor (ports f.relation.grid) f.relation.vcs f.plan
   pub room : vec_len f.room ≡ nodes f.relation.grid
   pub good : IsGoodSetup (setup_of f)
 

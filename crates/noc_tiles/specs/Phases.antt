@@ -1,33 +1,18 @@
 -- The phases of a tile's cycle: what came is taken, and what leaves the tile is sent.
-use Rattle.std.specs.Prelude.{ℕ, ◌≡◌, ◌≢◌, ◌⊎◌, ◌<◌, ◌≤◌, List, map, length, get_or, vec_len}
-use Rattle.noc_topo.specs.declared.limits.TheConstants.{MAX_NODES}
-use Rattle.noc_topo.specs.Shape.{ports}
+use Rattle.std.specs.Prelude.{ℕ, ◌≡◌, ◌≢◌, ◌⊎◌, ◌<◌, List, map, length, get_or, vec_len}
 use Rattle.noc_topo.specs.Words.{map_indexed}
 use Rattle.noc_packet.specs.declared.packet.Beat.{Beat}
 use Rattle.noc_route.specs.Routes.{Routes}
-use Rattle.noc_router.specs.Decided.{IsDecidedFor}
 use Rattle.noc_router.specs.View.{View, view_after_takes, idle_beat}
 use Rattle.noc_net.specs.Halves.{beat_at}
-use Rattle.noc_net.specs.Marks.{AreMarked, Marked}
 use Rattle.noc_tiles.specs.TileStep.{beats_arriving, ends_after_beats, arrival_places}
-use Rattle.noc_tiles.specs.Tiles.{IsReady, IsSameTile, inlets, outlets, layout_of, state_of}
+use Rattle.noc_tiles.specs.Tiles.{IsSameTile, inlets, outlets, layout_of, state_of}
 use Rattle.noc_tiles.specs.declared.tile.Tile.{Tile}
 
--- the marks say where the beats are that are not idle, of at most as many routers as they have room for
-pub record IsIndexOf (marks : Marked) (beats : List (List Beat)) : Type 0 where
-  pub few : length beats ≤ MAX_NODES
-  pub marked : AreMarked marks beats
-
--- a tile can make a cycle: it is ready, and its beats have an index
-pub record CanCycle (relation : Routes) (marks : Marked) (t : Tile) : Type 0 where
-  pub ready : IsReady relation t
-  pub index : IsIndexOf marks t.beats.items
-
 -- what a cycle leaves alone, also one that was broken off
-pub record KeepsTile (relation : Routes) (a b : Tile) : Type 0 where
+pub record KeepsTile (a b : Tile) : Type 0 where
   pub same : IsSameTile a b
   pub count : vec_len b.routers ≡ vec_len a.routers
-  pub plan : IsDecidedFor (ports relation.grid) relation.vcs b.plan
   pub done : b.done ≡ a.done
   pub outcome : b.outcome ≡ a.outcome
 

@@ -1,12 +1,12 @@
 -- What a run of a tile does.
 use Rattle.std.specs.Prelude.{ℕ, Bool, true, false, ◌≡◌, ◌↔◌, ◌+◌, ◌<◌, ◌≤◌, ◌^◌, List, [], ◌∷◌, map, length, get_or, vec_len}
-use Rattle.noc_topo.specs.Shape.{nodes, ports, local_port, neighbour}
+use Rattle.noc_topo.specs.Shape.{nodes, local_port, neighbour}
 use Rattle.noc_packet.specs.declared.packet.Beat.{Beat}
 use Rattle.noc_route.specs.Routes.{Routes}
-use Rattle.noc_router.specs.Decided.{IsDecidedFor}
+use Rattle.noc_router.specs.declared.verdict.Findings.{Findings}
 use Rattle.noc_router.specs.View.{View, idle_beat}
 use Rattle.noc_net.specs.Halves.{HasItsBeats, beat_at}
-use Rattle.noc_net.specs.Unseen.{without_findings}
+use Rattle.noc_net.specs.Unseen.{AreSameViews}
 use Rattle.noc_tiles.specs.Ends.{End, inlet, outlet}
 use Rattle.noc_tiles.specs.TileStep.{Layout, TileState, arrival_places, is_own, is_from, ends_after_beats, ends_after_rows, steps, after_steps, put_by, after, beats_put}
 use Rattle.noc_tiles.specs.declared.tile.Tile.{Tile}
@@ -45,7 +45,6 @@ pub record PartsFit (relation : Routes) (first : ℕ) (ins outs : List (ℕ × �
 
 -- its parts fit each other and the relation
 pub record IsReady (relation : Routes) (t : Tile) : Type 0 where
-  pub plan : IsDecidedFor (ports relation.grid) relation.vcs t.plan
   pub few_links : local_port relation.grid ≤ 6
   pub parts : PartsFit relation t.first (arrival_places (inlets t)) (arrival_places (outlets t)) t.routers.items t.beats.items
 
@@ -59,11 +58,10 @@ pub record IsSameTile (a b : Tile) : Type 0 where
   pub ins : Rattle.noc_tiles.specs.TileStep.names (inlets b) ≡ Rattle.noc_tiles.specs.TileStep.names (inlets a)
   pub outs : Rattle.noc_tiles.specs.TileStep.names (outlets b) ≡ Rattle.noc_tiles.specs.TileStep.names (outlets a)
 
--- cycle n, with the beats of a row; where nobody has seen what was found, the findings are others
-pub record Cycles (relation : Routes) (seen : Bool) (n : ℕ) (a b : Tile) (row : List Beat) : Type 0 where
+-- cycle n, with the beats of a row
+pub record Cycles (relation : Routes) (findings : Findings) (n : ℕ) (a b : Tile) (row : List Beat) : Type 0 where
   pub width : length row ≡ length (inlets a)
-  pub views : map without_findings b.routers.items ≡ map without_findings (after_steps relation (layout_of a) (steps relation (layout_of a) n (state_of a) row)).views
-  pub seen_views : seen ≡ true → b.routers.items ≡ (after_steps relation (layout_of a) (steps relation (layout_of a) n (state_of a) row)).views
+  pub views : AreSameViews findings b.routers.items (after_steps relation (layout_of a) (steps relation (layout_of a) n (state_of a) row)).views
   pub wires : (r q : ℕ) → r < nodes relation.grid → beat_at b.beats.items r q ≡ (after_steps relation (layout_of a) (steps relation (layout_of a) n (state_of a) row)).wires r q
   pub ins : inlets b ≡ ends_after_beats (inlets a) row
   pub outs : outlets b ≡ ends_after_beats (outlets a) (put_by relation (layout_of a) (steps relation (layout_of a) n (state_of a) row))

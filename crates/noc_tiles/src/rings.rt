@@ -173,7 +173,6 @@ fn move_end<T: Drop>(
     ends: &mut Vec<T>,
 ) -> Result<(), AllocError>
     requires { IfSome at (λ k. k < vec_len slots.old) }
-    ensures size { vec_len slots.new ≡ vec_len slots.old }
     ensures slots { OnOk result (slots.new.items ≡ without at slots.old.items) }
     ensures ends { OnOk result (ends.new.items ≡ ends.old.items ++ item_at at slots.old.items) }
 {
@@ -198,9 +197,8 @@ pub(crate) fn take_ins(
     requires within { first + count ≤ nodes_of shape.now }
     requires size { vec_len slots.old ≡ nodes_of shape.now * 6 }
     requires all { (m : ℕ) → first * 6 ≤ m → m < (first + count) * 6 → is_inside first count (neighbour_of shape.now (m / 6) (m % 6)) ≡ false → is_some (get_or (in_slots slots.old.items) m None) ≡ true }
-    ensures size { vec_len slots.new ≡ vec_len slots.old }
     ensures taken { IfOk result (λ v. AreTakenIn shape.now first count ((first + count) * 6) (in_slots slots.old.items) (map inlet v.items)) }
-    ensures rest { IsOk result → (m : ℕ) → (first + count) * 6 ≤ m → get_or (in_slots slots.new.items) m None ≡ get_or (in_slots slots.old.items) m None }
+    ensures rest { IsOk result → (vec_len slots.new ≡ vec_len slots.old) × ((m : ℕ) → (first + count) * 6 ≤ m → get_or (in_slots slots.new.items) m None ≡ get_or (in_slots slots.old.items) m None) }
 {
     let mut ins = Vec::new(alloc);
     for k in first * LINKS..(first + count) * LINKS {
@@ -220,9 +218,8 @@ pub(crate) fn take_outs(
     requires within { first + count ≤ nodes_of shape.now }
     requires size { vec_len slots.old ≡ nodes_of shape.now * 6 }
     requires all { (k at : ℕ) → first * 6 ≤ k → k < (first + count) * 6 → GoesOutTo shape.now first count k at → is_some (get_or (out_slots slots.old.items) at None) ≡ true }
-    ensures size { vec_len slots.new ≡ vec_len slots.old }
     ensures taken { IfOk result (λ v. AreTakenOut shape.now first count ((first + count) * 6) (out_slots slots.old.items) (map outlet v.items)) }
-    ensures rest { IsOk result → AreLeftOut shape.now ((first + count) * 6) (out_slots slots.old.items) (out_slots slots.new.items) }
+    ensures rest { IsOk result → (vec_len slots.new ≡ vec_len slots.old) × AreLeftOut shape.now ((first + count) * 6) (out_slots slots.old.items) (out_slots slots.new.items) }
 {
     let mut outs = Vec::new(alloc);
     for k in first * LINKS..(first + count) * LINKS {

@@ -2,10 +2,9 @@
 
 ghost use Rattle.std.specs.Prelude.{ℕ, List, ◌≡◌, ◌+◌, ◌<◌, ◌^◌, ◌↔◌, true, false, vec_len, IsTrue, IsFalse};
 ghost use Rattle.noc_packet.specs.declared.packet.Beat.{Beat as beat_value};
-ghost use Rattle.noc_topo.specs.Shape.{ports as ports_of};
-ghost use Rattle.noc_router.specs.Decided.{IsDecidedFor};
+ghost use Rattle.noc_router.specs.declared.verdict.Findings.TheVariants.{Record};
 ghost use Rattle.noc_tiles.specs.Inner.{AreInner};
-ghost use Rattle.noc_tiles.specs.Phases.{CanCycle, KeepsTile};
+ghost use Rattle.noc_tiles.specs.Phases.{KeepsTile};
 ghost use Rattle.noc_tiles.specs.TileStep.{arrival_places};
 ghost use Rattle.noc_tiles.specs.Tiles.{IsReady, IsSameTile, Cycles, Runs, outlets};
 ghost use Rattle.noc_tiles.specs.declared.tile.Outcome.TheVariants.{Whole, Closed, Stopped};
@@ -16,8 +15,8 @@ use crate::inner::{Inner, inner_of};
 use crate::phases::{send, take};
 use crate::stop::Stop;
 use crate::tile::{Outcome, Tile};
-use noc_net::Marks;
 use noc_route::Relation;
+use noc_router::Findings;
 use std::sync::Wait;
 
 // One cycle of a tile. What leaves the tile is put before the inner routers finish. False where the flag was seen raised.
@@ -26,29 +25,40 @@ fn cycle(
     relation: &Relation,
     inner: Inner,
     tile: &mut Tile,
-    marks: &mut Marks,
     cycle: u64,
-    seen: bool,
+    findings: Findings,
     stop: &Stop,
 ) -> bool
-    requires can { CanCycle relation.now marks.old tile.old }
+    requires ready { IsReady relation.now tile.old }
     requires inner { AreInner relation.now.grid tile.old.first (vec_len tile.old.routers) (arrival_places (outlets tile.old)) inner }
-    ensures kept { KeepsTile relation.now tile.old tile.new }
-    ensures can { IsTrue result → CanCycle relation.now marks.new tile.new }
-    ensures ran { IsTrue result → (row : List beat_value) × Cycles relation.now seen cycle tile.old tile.new row }
+    ensures kept { KeepsTile tile.old tile.new }
+    ensures ready { IsTrue result → IsReady relation.now tile.new }
+    ensures ran { IsTrue result → (row : List beat_value) × Cycles relation.now findings cycle tile.old tile.new row }
     ensures stopped { IsFalse result → stop.now ≡ true }
 {
-    if !take(rt, relation, tile, marks, stop) {
+    if !take(rt, relation, tile, stop) {
         return false;
     }
     let count = tile.routers.len();
-    finish_some(relation, tile, marks, cycle, seen, 0, inner.from);
-    finish_some(relation, tile, marks, cycle, seen, inner.to, count);
-    if !send(rt, tile, marks, stop) {
+    finish_some(relation, tile, cycle, findings, 0, inner.from);
+    finish_some(relation, tile, cycle, findings, inner.to, count);
+    if !send(rt, tile, stop) {
         return false;
     }
-    finish_some(relation, tile, marks, cycle, seen, inner.from, inner.to);
+    finish_some(relation, tile, cycle, findings, inner.from, inner.to);
     true
+}
+
+// What is found is recorded in the last of so many cycles alone, since nobody reads what is found before.
+fn findings_in(cycle: u64, cycles: u64) -> Findings
+    requires { cycle < cycles }
+    ensures { cycle + 1 ≡ cycles → result ≡ Record }
+{
+    if cycle + 1 == cycles {
+        Findings::Record
+    } else {
+        Findings::Leave
+    }
 }
 
 /// Runs a tile's cycles as the beats come. Before each one the gate is asked, with the network's count; where it does not let
@@ -64,16 +74,13 @@ pub fn run_tile<G: Gate>(
     requires done { tile.done ≡ 0 }
     requires end { tile.start + tile.cycles < 2 ^ 64 }
     ensures same { IsSameTile tile result }
-    ensures plan { IsDecidedFor (ports_of relation.now.grid) relation.now.vcs result.plan }
     ensures whole { (result.outcome ≡ Whole) ↔ (result.done ≡ tile.cycles) }
     ensures ran { result.outcome ≡ Whole → Runs relation.now tile.cycles tile result }
     ensures asked { result.outcome ≡ Whole → (k : ℕ) → k < tile.cycles → G.shuts gate.now tile.worker (tile.start + k) ≡ false }
     ensures closed { result.outcome ≡ Closed → G.opens gate.now ≡ false }
     ensures stopped { result.outcome ≡ Stopped → stop.now ≡ true }
 {
-    let _nodes = relation.shape().nodes();
     let inner = inner_of(relation, tile.first, tile.routers.len(), &tile.outs);
-    let mut marks = Marks::of(&tile.beats);
     let mut tile = tile;
     for c in 0..tile.cycles {
         let now = tile.start + c;
@@ -82,8 +89,8 @@ pub fn run_tile<G: Gate>(
             tile.outcome = Outcome::Closed;
             return tile;
         }
-        let seen = c + 1 == tile.cycles;
-        if !cycle(rt, relation, inner, &mut tile, &mut marks, now, seen, stop) {
+        let findings = findings_in(c, tile.cycles);
+        if !cycle(rt, relation, inner, &mut tile, now, findings, stop) {
             tile.outcome = Outcome::Stopped;
             return tile;
         }

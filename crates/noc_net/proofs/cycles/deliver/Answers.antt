@@ -23,7 +23,6 @@ loop-port-init c =
       left = left-first v.to_put c.loaded-rest.result none;
       beats = λ r port l. received-first v c.loaded-rest.result none (neighbour c.args.relation.now.grid r port) (beat_at c.args.beats.now r port) (λ q e. c.requires.idle r port q e);
       rows = λ i l. search rules;
-      marks = λ same. same;
     }
 
 pub send-requires-clause-few : goal.send-requires-clause-few
@@ -53,7 +52,7 @@ loop-port-preserved c =
     let beat : c.put-beat.result ≡ beat_to_put v port =
     c.put-beat.ensures.beat ∙ left-at c.loop-port.rest port v.to_put c.loop-port.router.to_put c.loop-port.invariant.left member in
     let sent : c.send.new.beats ≡ sent_on c.loop-port.beats c.neighbour.result (beat_to_put v port) =
-    c.send.ensures.beats ∙ ap (sent_on c.loop-port.beats c.neighbour.result) beat in
+    c.send.ensures ∙ ap (sent_on c.loop-port.beats c.neighbour.result) beat in
     let after : c.put-beat.new.self.to_put ≡ set c.loop-port.router.to_put port idle_beat = ap (λ (w : View). w.to_put) c.put-beat.ensures.view in
     record {
       router = c.put-beat.ensures.view ∙ ap (view_after_put port) c.loop-port.invariant.router ∙ ap (λ (beats : List Beat). record v { to_put = beats }) (sym after);
@@ -65,7 +64,6 @@ loop-port-preserved c =
       beats = λ r p l. ap (λ wires. beat_at wires r p) sent
           ∙ received_more c.args.relation.now.grid sound v c.loop-port.rest c.without-rest.result port c.without-rest.ensures.members c.args.beats.now c.loop-port.beats c.requires.node (omega arith)
           c.loop-port.invariant.rows c.loop-port.invariant.beats c.neighbour.result to r p l;
-      marks = λ same. c.send.ensures.marks (c.loop-port.invariant.marks same);
       rows = subst (λ (wires : List (List Beat)). (i : ℕ) → i < length wires → length (get_or wires i []) ≡ 6) (sym sent)
           (rows_kept c.loop-port.beats c.neighbour.result (beat_to_put v port) c.loop-port.invariant.rows);
     }

@@ -3,7 +3,6 @@ use Rattle.noc_topo.specs.Shape.{local_port, nodes, neighbour}
 use Rattle.noc_packet.specs.Set.{has_bit}
 use Rattle.noc_model.specs.Halves.{beat_at}
 use Rattle.noc_model.proofs.WireLemmas.{AreLeft, received_but}
-use Rattle.noc_net.specs.Marks.{AreMarked}
 use Rattle.noc_net.proofs.cycles.deliver.Given as goal
 
 -- the beats of the ports that are not left are put
@@ -14,7 +13,6 @@ invariant-loop-port l = record {
   count : length l.router.to_put ≡ local_port l.relation.grid;
   left : AreLeft l.rest l.initial.router.to_put l.router.to_put;
   beats : (r port : ℕ) → r < nodes l.relation.grid → beat_at l.beats r port ≡ received_but l.rest l.initial.router (neighbour l.relation.grid r port) (beat_at l.initial.beats r port);
-  marks : AreMarked l.initial.marks l.initial.beats → AreMarked l.marks l.beats;
   rows : (i : ℕ) → i < length l.beats → length (get_or l.beats i []) ≡ 6;
 }
 

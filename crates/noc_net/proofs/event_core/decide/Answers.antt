@@ -15,8 +15,8 @@ decide-requires-clause-links c =
     let site : c.step.new.self.site ≡ c.args.router.now.site = ap (λ (v : View). v.site) c.step.ensures.view ∙ site-local_step c.args.relation.now c.args.router.now _ _ in
     omega (arith, c.ports-links.ensures.local, ap local_port c.shape.ensures.value, ap local_port c.requires.relation.grid, ap (λ (s : Site). local_port s.grid) site)
 
-pub returns-clause-post : goal.returns-clause-post
-returns-clause-post c = λ net same.
+pub returns : goal.returns
+returns c = λ net same.
     let relation = c.args.relation.now in
     let router = c.args.router.now in
     let room = c.args.room.now in

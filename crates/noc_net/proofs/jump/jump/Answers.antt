@@ -1,6 +1,7 @@
 use Rattle.std.proofs.Common.{◌+◌, ◌<◌, arith, subst, sym}
 use Rattle.noc_model.specs.Network.{Setup}
-use Rattle.noc_model.specs.Unseen.{AreInStepUnseen}
+use Rattle.noc_router.specs.declared.verdict.Findings.TheVariants.{Leave}
+use Rattle.noc_model.specs.Unseen.{AreInStep}
 use Rattle.noc_model.proofs.StillRun.{still-wait}
 use Rattle.noc_model.proofs.UnseenLemmas.{of_relation, to_relation, from_relation}
 use Rattle.noc_net.proofs.jump.jump.Goals as goal
@@ -12,7 +13,7 @@ returns-clause-in_step c = λ net is in_step.
     let here : Setup = of_relation c.args.relation.now net in
     let less : c.args.last + 1 < until = omega (arith, c.if-until-first.false) in
     let waited = still-wait here (c.args.last + 1) until c.args.routers.now beats less
-    (to_relation (λ net. AreInStepUnseen net (c.args.last + 1) c.args.routers.now beats) c.args.relation.now net is in_step)
-    (c.all_silent.ensures.0 c.if-not-all_silent.false) c.requires.count (c.all_still.ensures.still.0 c.if-not-all_still.false) c.first_injection-until.ensures.held in
-    from_relation (λ net. AreInStepUnseen net until c.wait_all.new.routers beats) c.args.relation.now net is
-    (subst (λ vs. AreInStepUnseen here until vs beats) (sym c.wait_all.ensures.routers) waited)
+    (to_relation (λ net. AreInStep net Leave (c.args.last + 1) c.args.routers.now beats) c.args.relation.now net is in_step)
+    (c.all_silent.ensures.0 c.if-not-all_silent.false) c.requires.count (c.all_still.ensures.0 c.if-not-all_still.false) c.first_injection-until.ensures.held in
+    from_relation (λ net. AreInStep net Leave until c.wait_all.new.routers beats) c.args.relation.now net is
+    (subst (λ vs. AreInStep here Leave until vs beats) (sym c.wait_all.ensures) waited)

@@ -4,9 +4,9 @@ use Rattle.noc_router.specs.View.{View}
 use Rattle.noc_model.proofs.ListLemmas.{IsDoneTo, done_all-map}
 use Rattle.noc_net.proofs.jump.wait_all.Goals as goal
 
-pub returns-clause-routers : goal.returns-clause-routers
-returns-clause-routers c =
+pub returns : goal.returns
+returns c =
     let wait : View → View = view_after_waiting c.args.relation.now (c.args.end - c.args.first) (c.args.end - 1) in
     let end : c.loop-node.node ≡ length c.args.routers.now = omega (arith, c.loop-node.auto.node-end) in
     done_all-map wait c.args.routers.now c.loop-node.routers
-    (subst (λ (k : ℕ). IsDoneTo (λ (r : ℕ) (v : View). wait v) c.args.routers.now c.loop-node.routers k) end c.loop-node.invariant.routers)
+    (subst (λ (k : ℕ). IsDoneTo (λ (r : ℕ) (v : View). wait v) c.args.routers.now c.loop-node.routers k) end c.loop-node.invariant)

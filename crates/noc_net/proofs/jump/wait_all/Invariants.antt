@@ -1,6 +1,4 @@
 use Rattle.std.proofs.Common.{ℕ, ◌-◌}
-use Rattle.noc_topo.specs.Shape.{ports}
-use Rattle.noc_router.specs.Decided.{IsDecidedFor}
 use Rattle.noc_router.specs.Still.{view_after_waiting}
 use Rattle.noc_router.specs.View.{View}
 use Rattle.noc_model.proofs.ListLemmas.{IsDoneTo}
@@ -8,7 +6,4 @@ use Rattle.noc_net.proofs.jump.wait_all.Given as goal
 
 -- the routers before this node have waited
 abbrev pub invariant-loop-node : goal.invariant-loop-node
-invariant-loop-node l = record {
-  plan : IsDecidedFor (ports l.relation.grid) l.relation.vcs l.plan;
-  routers : IsDoneTo (λ (r : ℕ) (v : View). view_after_waiting l.relation (l.end - l.first) (l.end - 1) v) l.initial.routers l.routers l.node;
-}
+invariant-loop-node l = IsDoneTo (λ (r : ℕ) (v : View). view_after_waiting l.relation (l.end - l.first) (l.end - 1) v) l.initial.routers l.routers l.node

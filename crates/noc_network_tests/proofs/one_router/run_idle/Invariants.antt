@@ -1,7 +1,5 @@
-use Rattle.noc_topo.specs.Shape.{ports}
-use Rattle.noc_router.specs.Decided.{IsDecidedFor}
 use Rattle.noc_router.specs.View.{IsRelationOf}
 use Rattle.noc_network_tests.proofs.one_router.run_idle.Given as goal
 
 abbrev pub invariant-loop-number : goal.invariant-loop-number
-invariant-loop-number l = IsRelationOf l.relation l.router × IsDecidedFor (ports l.relation.grid) l.relation.vcs l.plan
+invariant-loop-number l = IsRelationOf l.relation l.router

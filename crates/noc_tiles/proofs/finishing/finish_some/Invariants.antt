@@ -1,10 +1,6 @@
 use Rattle.noc_tiles.specs.Inner.{HaveFinished}
-use Rattle.noc_tiles.specs.Phases.{IsIndexOf}
 use Rattle.noc_tiles.proofs.finishing.finish_some.Given as goal
 
 -- the routers before this one have finished
 abbrev pub invariant-loop-i : goal.invariant-loop-i
-invariant-loop-i l = record {
-  index : IsIndexOf l.marks l.tile.beats.items;
-  finished : HaveFinished l.relation l.cycle l.seen l.from l.i l.initial.tile l.tile;
-}
+invariant-loop-i l = HaveFinished l.relation l.cycle l.findings l.from l.i l.initial.tile l.tile

@@ -37,6 +37,6 @@ take_outs-requires-clause-all c =
 pub returns : goal.returns
 returns c = λ I O U.
     let A = cut-at I O (goal.at.returns c).After-tile_start-end U in (
-      tile-of A _ refl refl refl refl refl c.in_ok-plan.ensures.lengths c.in_ok-tail.ensures.items c.in_ok-own.ensures.size c.in_ok-own.ensures.own c.in_ok-own.ensures.idle c.in_ok-own_ins.ensures.taken c.in_ok-own_outs.ensures.taken,
-      uncut-more A _ refl c.in_ok-tail.ensures.tail c.take_ins.ensures.size c.take_outs.ensures.size (c.in_ok-own_ins.ensures.rest refl) (c.in_ok-own_outs.ensures.rest refl),
+      tile-of A _ refl refl refl refl refl c.in_ok-tail.ensures.items c.in_ok-own.ensures.size c.in_ok-own.ensures.own c.in_ok-own.ensures.idle c.in_ok-own_ins.ensures.taken c.in_ok-own_outs.ensures.taken,
+      uncut-more A _ refl c.in_ok-tail.ensures.tail (c.in_ok-own_ins.ensures.rest refl).0 (c.in_ok-own_outs.ensures.rest refl).0 (c.in_ok-own_ins.ensures.rest refl).1 (c.in_ok-own_outs.ensures.rest refl).1,
     )

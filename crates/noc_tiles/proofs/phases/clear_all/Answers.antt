@@ -12,45 +12,34 @@ pub loop-k-init : goal.loop-k-init
 loop-k-init c = record {
   size = refl;
   rows = λ i l. search rules;
-  marks = c.requires.index.marked;
   beats = λ r q. inr (λ o l. absurd (omega arith), refl);
 }
 
-pub note-requires-clause-node : goal.note-requires-clause-node
-note-requires-clause-node c =
-    let p = cleared-at c.args.ends.now.items (length c.args.beats.now) c.loop-k.k c.index-end.result.now c.requires.within (search (rules, arith)) c.index-end.ensures in
-    omega (arith, p.1, c.requires.index.few)
-
-pub note-requires-clause-port : goal.note-requires-clause-port
-note-requires-clause-port c =
-    let p = cleared-at c.args.ends.now.items (length c.args.beats.now) c.loop-k.k c.index-end.result.now c.requires.within (search (rules, arith)) c.index-end.ensures in
-    p.2
-
 pub bounds-beats-end : goal.bounds-beats-end
 bounds-beats-end c =
-    let p = cleared-at c.args.ends.now.items (length c.args.beats.now) c.loop-k.k c.index-end.result.now c.requires.within (search (rules, arith)) c.index-end.ensures in
+    let p = cleared-at c.args.ends.now.items (length c.args.beats.now) c.loop-k.k c.index-end.result.now c.requires (search (rules, arith)) c.index-end.ensures in
     omega (arith, p.1, c.loop-k.invariant.size)
 
 pub offset_bounds-beats-end : goal.offset_bounds-beats-end
 offset_bounds-beats-end c =
-    let p = cleared-at c.args.ends.now.items (length c.args.beats.now) c.loop-k.k c.index-end.result.now c.requires.within (search (rules, arith)) c.index-end.ensures in
+    let p = cleared-at c.args.ends.now.items (length c.args.beats.now) c.loop-k.k c.index-end.result.now c.requires (search (rules, arith)) c.index-end.ensures in
     let b : c.index-end.result.now.router < length c.loop-k.beats = omega (arith, p.1, c.loop-k.invariant.size) in
     search (rules, arith)
 
 pub bounds-beats-end-in-loop-k : goal.bounds-beats-end-in-loop-k
 bounds-beats-end-in-loop-k c =
-    let p = cleared-at c.args.ends.now.items (length c.args.beats.now) c.loop-k.k c.index-end.result.now c.requires.within (search (rules, arith)) c.index-end.ensures in
+    let p = cleared-at c.args.ends.now.items (length c.args.beats.now) c.loop-k.k c.index-end.result.now c.requires (search (rules, arith)) c.index-end.ensures in
     p.2
 
 pub offset_bounds-beats-end-in-loop-k : goal.offset_bounds-beats-end-in-loop-k
 offset_bounds-beats-end-in-loop-k c =
-    let p = cleared-at c.args.ends.now.items (length c.args.beats.now) c.loop-k.k c.index-end.result.now c.requires.within (search (rules, arith)) c.index-end.ensures in
+    let p = cleared-at c.args.ends.now.items (length c.args.beats.now) c.loop-k.k c.index-end.result.now c.requires (search (rules, arith)) c.index-end.ensures in
     let b : c.index-end.result.now.port < 6 = p.2 in
     search (rules, arith)
 
 pub loop-k-preserved : goal.loop-k-preserved
 loop-k-preserved c =
-    let p = cleared-at c.args.ends.now.items (length c.args.beats.now) c.loop-k.k c.index-end.result.now c.requires.within (search (rules, arith)) c.index-end.ensures in
+    let p = cleared-at c.args.ends.now.items (length c.args.beats.now) c.loop-k.k c.index-end.result.now c.requires (search (rules, arith)) c.index-end.ensures in
     let k = c.loop-k.k in
     let end = c.index-end.result.now in
     let bs = c.loop-k.beats in
@@ -58,14 +47,13 @@ loop-k-preserved c =
     let b : end.router < length bs = omega (arith, p.1, v.size) in
     let long : end.port < length (get_or bs end.router []) = omega (arith, p.2, v.rows end.router b) in
     record {
-      size = length-set bs end.router (set (get_or bs end.router []) end.port c.idle-beat.result) ∙ v.size;
-      rows = rows_kept bs (Some (end.router, end.port)) c.idle-beat.result v.rows;
-      marks = c.note.ensures.marks bs b long v.marks;
-      beats = λ r q. cleared-more (arrival_places (map outlet c.args.ends.now.items)) c.args.beats.now bs k end.router end.port c.idle-beat.result c.idle-beat.ensures p.0 b long r q (v.beats r q);
+      size = length-set bs end.router (set (get_or bs end.router []) end.port c.idle.result) ∙ v.size;
+      rows = rows_kept bs (Some (end.router, end.port)) c.idle.result v.rows;
+      beats = λ r q. cleared-more (arrival_places (map outlet c.args.ends.now.items)) c.args.beats.now bs k end.router end.port c.idle.result c.idle.ensures p.0 b long r q (v.beats r q);
     }
 
-pub returns-clause-beats : goal.returns-clause-beats
-returns-clause-beats c =
+pub returns : goal.returns
+returns c =
     let ps = arrival_places (map outlet c.args.ends.now.items) in
     let end : c.loop-k.k ≡ length ps =
     let q : c.loop-k.k ≡ length c.args.ends.now.items = search (rules, arith) in

@@ -4,22 +4,17 @@ use Rattle.std.proofs.lemmas.List.{with_items_is}
 use Rattle.noc_packet.specs.declared.packet.Beat.{Beat}
 use Rattle.noc_net.specs.Halves.{beat_at}
 use Rattle.noc_tiles.specs.Ends.{outlet}
-use Rattle.noc_tiles.specs.Phases.{IsCleared, IsIndexOf}
+use Rattle.noc_tiles.specs.Phases.{IsCleared}
 use Rattle.noc_tiles.specs.TileStep.{ends_after_beats, arrival_places}
 use Rattle.noc_tiles.specs.Tiles.{AreLinkPorts, outlets}
 use Rattle.noc_tiles.proofs.TileStepLemmas.{places-names}
 use Rattle.noc_tiles.proofs.phases.send.Goals as goal
 
-pub clear_all-requires-clause-within : goal.clear_all-requires-clause-within
-clear_all-requires-clause-within g c =
+pub clear_all-requires : goal.clear_all-requires
+clear_all-requires g c =
     let a = c.args.tile.now in
     let same : arrival_places (map outlet c.put_all.new.ends.items) ≡ arrival_places (outlets a) = places-names (map outlet c.put_all.new.ends.items) (outlets a) c.put_all.ensures.ends in
-    subst (λ (k : ℕ). AreLinkPorts k 6 (arrival_places (map outlet c.put_all.new.ends.items))) (sym (ap length c.deref_mut.ensures.value)) (subst (AreLinkPorts (length a.beats.items) 6) (sym same) c.requires.within)
-
-pub returns-clause-index : goal.returns-clause-index
-returns-clause-index g c h =
-    let after = with_items_is c.args.tile.now.beats c.clear_all.new.beats (search (rules, arith)) in
-    subst (IsIndexOf c.clear_all.new.marks) (sym after) c.clear_all.ensures.index
+    subst (λ (k : ℕ). AreLinkPorts k 6 (arrival_places (map outlet c.put_all.new.ends.items))) (sym (ap length c.deref_mut.ensures.value)) (subst (AreLinkPorts (length a.beats.items) 6) (sym same) c.requires)
 
 pub returns-clause-sent : goal.returns-clause-sent
 returns-clause-sent g c h =
@@ -33,6 +28,6 @@ returns-clause-sent g c h =
       cleared = λ r q.
           subst (λ (b : List (List Beat)). IsCleared (arrival_places (outlets a)) a.beats.items b (length (arrival_places (outlets a))) r q) (sym after)
           (subst (λ (b : List (List Beat)). IsCleared (arrival_places (outlets a)) b c.clear_all.new.beats (length (arrival_places (outlets a))) r q) before
-          (subst (λ (ps : List (ℕ × ℕ)). IsCleared ps c.deref_mut.result.now c.clear_all.new.beats (length ps) r q) same (c.clear_all.ensures.beats r q)));
-      size = ap length after ∙ (c.clear_all.ensures.count ∙ ap length before);
+          (subst (λ (ps : List (ℕ × ℕ)). IsCleared ps c.deref_mut.result.now c.clear_all.new.beats (length ps) r q) same (c.clear_all.ensures r q)));
+      size = ap length after ∙ (c.clear_all.auto.beats ∙ ap length before);
     }

@@ -1,19 +1,15 @@
-use Rattle.std.proofs.Common.{ℕ, List, ◌≡◌, ◌<◌, [], map, length, get_or}
+use Rattle.std.proofs.Common.{◌≡◌, ◌⊎◌, ℕ, ◌+◌, ◌<◌, ◌≤◌, List, [], length, get_or}
 use Rattle.noc_packet.specs.declared.packet.Beat.{Beat}
-use Rattle.noc_net.specs.Halves.{beat_at}
-use Rattle.noc_net.specs.Marks.{AreMarked}
-use Rattle.noc_tiles.specs.Ends.{inlet}
-use Rattle.noc_tiles.specs.TileStep.{ends_after_beats, with_row, arrival_places}
+use Rattle.noc_router.specs.View.{View, idle_beat, view_after_takes}
+use Rattle.noc_net.specs.Halves.{beat_at, incoming}
+use Rattle.noc_model.proofs.ListLemmas.{IsDoneTo}
 use Rattle.noc_tiles.proofs.phases.take_all.Given as goal
 
--- a beat came by each end before this one
-abbrev pub invariant-loop-one : goal.invariant-loop-one
-invariant-loop-one g l = record {
-  row : List Beat;
-  width : length row ≡ l.one-index;
-  ends : map inlet l.one-items ≡ ends_after_beats (map inlet l.initial.one-items) row;
-  beats : (r q : ℕ) → beat_at l.beats r q ≡ with_row (beat_at l.initial.beats) (arrival_places (map inlet l.initial.one-items)) row r q;
-  marks : AreMarked l.marks l.beats;
+-- the routers before this one have taken their beats
+abbrev pub invariant-loop-i : goal.invariant-loop-i
+invariant-loop-i l = record {
+  routers : IsDoneTo (λ (k : ℕ) (v : View). view_after_takes l.relation (incoming l.relation.grid (get_or l.initial.beats (l.first + k) [])) v) l.initial.routers l.routers l.i;
   size : length l.beats ≡ length l.initial.beats;
-  rows : (i : ℕ) → i < length l.beats → length (get_or l.beats i []) ≡ 6;
+  silent : (r q : ℕ) → l.first ≤ r → r < l.first + l.i → beat_at l.beats r q ≡ idle_beat;
+  others : (r : ℕ) (d : List Beat) → (r < l.first) ⊎ (l.first + l.i ≤ r) → get_or l.beats r d ≡ get_or l.initial.beats r d;
 }

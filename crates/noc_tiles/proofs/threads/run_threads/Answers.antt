@@ -90,7 +90,7 @@ from_parts-requires g c =
       room = c.args.frame.room;
     } in
     parts-again Q c.requires.frame.good c.requires.end (G.routers ∙ views-done net n k I O xs ys W r d C.left)
-    (λ s q. ap (λ (b : List (List Beat)). beat_at b s q) now ∙ wires-done net n k I O xs ys W r d C.left c.empty_all.new.beats C s q) (vec-length all.beats ∙ rows) c.requires.frame.plan c.requires.frame.room
+    (λ s q. ap (λ (b : List (List Beat)). beat_at b s q) now ∙ wires-done net n k I O xs ys W r d C.left c.empty_all.new.beats C s q) (vec-length all.beats ∙ rows) c.requires.frame.room
 
 pub returns-clause-asked : goal.returns-clause-asked
 returns-clause-asked g c = λ w k low within.

@@ -1,6 +1,5 @@
 use Rattle.std.proofs.Common.{◌<◌, refl, ap, sym, subst, ◌∙◌, arith}
-use Rattle.noc_topo.specs.Shape.{local_port, ports}
-use Rattle.noc_router.specs.Decided.{IsDecidedFor}
+use Rattle.noc_topo.specs.Shape.{local_port}
 use Rattle.noc_router.specs.View.{Site}
 use Rattle.noc_model.specs.declared.event.Event.TheVariants.{Decide}
 use Rattle.noc_model.specs.declared.limits.TheConstants.{CYCLE_LIMIT}
@@ -34,17 +33,6 @@ decide-requires-clause-relation c =
     let at_room = read_room parts sound c.self.invariant.room c.args.router ready.0 ready.1 c.index_mut-2.result.now c.index_mut-2.ensures.value in
     router_relation parts c.args.router c.index_mut.result.now (router_site parts sound c.args.router c.index_mut.result.now c.index_mut-2.result.now at_router at_room)
 
-pub decide-requires-clause-plan : goal.decide-requires-clause-plan
-decide-requires-clause-plan c =
-    let parts = c.self.inside.parts in
-    let own = core_in parts in
-    let sound = c.self.invariant.in_step in
-    let ready = ready_decide own c.args.router (ready_here c.args.self.now own (Decide c.args.router) c.self.view_is c.requires) in
-    let at_router = read_router parts sound c.self.invariant.routers c.args.router ready.0 ready.1 c.index_mut.result.now c.index_mut.ensures.value in
-    let at_room = read_room parts sound c.self.invariant.room c.args.router ready.0 ready.1 c.index_mut-2.result.now c.index_mut-2.ensures.value in
-    let site = router_site parts sound c.args.router c.index_mut.result.now c.index_mut-2.result.now at_router at_room in
-    subst (λ (s : Site). IsDecidedFor (ports s.grid) s.vcs parts.plan) (sym site) c.self.invariant.plan
-
 pub decide-requires-clause-steps : goal.decide-requires-clause-steps
 decide-requires-clause-steps c =
     let parts = c.self.inside.parts in
@@ -74,15 +62,14 @@ invariant_of-self c =
       in_step = in_step_after own _ (Decide c.args.router) sound here
           (router_changed parts c.args.router c.index_mut.result.now c.decide.new.router c.index_mut-2.result.now c.decide.new.room (deciding own.net c.args.router)
           c.index_mut.ensures.value c.index_mut-2.ensures.value
-          (c.decide.ensures.post own.net refl ∙ ap (λ (s : Site). deciding own.net s.node post) site));
+          (c.decide.ensures own.net refl ∙ ap (λ (s : Site). deciding own.net s.node post) site));
       within = within_after own _ (Decide c.args.router) sound c.self.invariant.within here
           (router_changed parts c.args.router c.index_mut.result.now c.decide.new.router c.index_mut-2.result.now c.decide.new.room (deciding own.net c.args.router)
           c.index_mut.ensures.value c.index_mut-2.ensures.value
-          (c.decide.ensures.post own.net refl ∙ ap (λ (s : Site). deciding own.net s.node post) site));
+          (c.decide.ensures own.net refl ∙ ap (λ (s : Site). deciding own.net s.node post) site));
       routers = c.self.invariant.routers;
       beats = c.self.invariant.beats;
       room = c.self.invariant.room;
-      plan = subst (λ (s : Site). IsDecidedFor (ports s.grid) s.vcs c.decide.new.plan) site c.decide.ensures.plan;
     }
 
 pub returns : goal.returns
@@ -99,5 +86,5 @@ returns c =
     let post = post_of (local_port parts.relation.grid) c.index_mut.result.now c.index_mut-2.result.now in
     router_changed parts c.args.router c.index_mut.result.now c.decide.new.router c.index_mut-2.result.now c.decide.new.room (deciding own.net c.args.router)
     c.index_mut.ensures.value c.index_mut-2.ensures.value
-    (c.decide.ensures.post own.net refl ∙ ap (λ (s : Site). deciding own.net s.node post) site)
+    (c.decide.ensures own.net refl ∙ ap (λ (s : Site). deciding own.net s.node post) site)
     ∙ ap (λ (k : CoreState). happens k (Decide c.args.router)) c.self.view_is

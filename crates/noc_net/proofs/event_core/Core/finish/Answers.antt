@@ -99,4 +99,4 @@ from_parts-requires c =
           (λ r one port at. c.land_all.ensures r one port (ap (λ (rooms : List Room). slice_get rooms r) c.deref-2.ensures.value ∙ at)
           ∙ ap (λ n. front_of (get_or (take n (wires_in one)) port [])) links) r port;
     })
-    sound.beats sound.plan sound.room
+    sound.beats sound.room

@@ -62,7 +62,6 @@ invariant_of-result c =
       routers = omega (arith, parts.routers.ok.0, ap length (views-in_step parts sound), count_views (setup_in parts) parts.count);
       beats = sound.beats;
       room = sound.room;
-      plan = sound.plan;
     }
 
 pub returns-clause-core : goal.returns-clause-core

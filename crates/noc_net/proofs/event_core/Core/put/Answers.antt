@@ -138,7 +138,6 @@ invariant_of-self c =
       routers = c.self.invariant.routers;
       beats = c.self.invariant.beats;
       room = c.self.invariant.room;
-      plan = c.self.invariant.plan;
     }
 
 pub returns-in-Some : goal.returns-in-Some

@@ -38,7 +38,6 @@ invariant_of-self c =
       routers = c.self.invariant.routers;
       beats = c.self.invariant.beats;
       room = c.self.invariant.room;
-      plan = c.self.invariant.plan;
     }
 
 pub returns : goal.returns

@@ -25,7 +25,6 @@ invariant_of-result c =
             wires = opening_wires net c.in_ok-routers.beats.items (silent_at c.in_ok-routers.beats.items c.in_ok-routers.ensures.idle);
           })
           c.in_ok-routers.ensures.beats
-          c.in_ok-routers.ensures.plan
           c.in_ok-routers.ensures.room;
       behind = omega arith;
       within = omega arith;

@@ -2,7 +2,9 @@ use Rattle.std.proofs.Common.{◌≡◌, ℕ, ◌+◌, ◌-◌, List, ap, ◌∙
 use Rattle.std.proofs.lemmas.List.{with_items_is}
 use Rattle.noc_packet.specs.declared.packet.Beat.{Beat}
 use Rattle.noc_model.specs.Halves.{beat_at}
+use Rattle.noc_router.specs.declared.verdict.Findings.TheVariants.{Record}
 use Rattle.noc_model.specs.Unseen.{AreInStep}
+use Rattle.noc_model.proofs.UnseenLemmas.{to_unseen}
 use Rattle.noc_net.specs.Parts.{setup_in}
 use Rattle.noc_net.proofs.PartsLemmas.{parts-in_step, views-in_step, wires-in_step}
 use Rattle.noc_net.proofs.parts.Parts.run.Goals as goal
@@ -12,10 +14,11 @@ run_all-requires-clause-in_step c =
     let parts = c.args.self.now in (
       setup_in parts,
       refl,
-      record {
-        views = c.deref_mut.ensures.value ∙ views-in_step parts c.requires.parts;
-        wires = λ r port. ap (λ (beats : List (List Beat)). beat_at beats r port) c.deref_mut-2.ensures.value ∙ wires-in_step parts c.requires.parts r port;
-      },
+      to_unseen (setup_in parts) parts.count c.deref_mut.result.now c.deref_mut-2.result.now
+          (record {
+            views = c.deref_mut.ensures.value ∙ views-in_step parts c.requires.parts;
+            wires = λ r port. ap (λ (beats : List (List Beat)). beat_at beats r port) c.deref_mut-2.ensures.value ∙ wires-in_step parts c.requires.parts r port;
+          }),
     )
 
 pub returns-clause-parts : goal.returns-clause-parts
@@ -23,16 +26,16 @@ returns-clause-parts c =
     let parts = c.args.self.now in
     let sound = c.requires.parts in
     let net = setup_in parts in
-    let first : AreInStep net parts.count c.deref_mut.result.now c.deref_mut-2.result.now = record {
+    let first : AreInStep net Record parts.count c.deref_mut.result.now c.deref_mut-2.result.now = record {
       views = c.deref_mut.ensures.value ∙ views-in_step parts sound;
       wires = λ r port. ap (λ (beats : List (List Beat)). beat_at beats r port) c.deref_mut-2.ensures.value ∙ wires-in_step parts sound r port;
     } in
     let count : parts.count + c.args.cycles - 1 + 1 ≡ parts.count + c.args.cycles = omega (arith, c.if-cycles-eq0.false) in
-    let end : AreInStep net (parts.count + c.args.cycles) c.run_all.new.routers c.run_all.new.beats =
-    subst (λ (k : ℕ). AreInStep net k c.run_all.new.routers c.run_all.new.beats) count (c.run_all.ensures.in_step net refl first) in
+    let end : AreInStep net Record (parts.count + c.args.cycles) c.run_all.new.routers c.run_all.new.beats =
+    subst (λ (k : ℕ). AreInStep net Record k c.run_all.new.routers c.run_all.new.beats) count (c.run_all.ensures net refl (to_unseen net parts.count c.deref_mut.result.now c.deref_mut-2.result.now first)) in
     parts-in_step _ sound.good c.requires.within
     (record {
       views = with_items_is parts.routers c.run_all.new.routers (omega (arith, c.run_all.auto.routers, c.deref_mut.ensures.len)) ∙ end.views;
       wires = λ r port. ap (λ (beats : List (List Beat)). beat_at beats r port) (with_items_is parts.beats c.run_all.new.beats (omega (arith, c.run_all.auto.beats, c.deref_mut-2.ensures.len))) ∙ end.wires r port;
     })
-    sound.beats c.run_all.ensures.plan sound.room
+    sound.beats sound.room

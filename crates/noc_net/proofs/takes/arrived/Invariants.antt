@@ -3,7 +3,7 @@ use Rattle.std.specs.Prelude.{not}
 use Rattle.noc_packet.specs.Set.{has_bit}
 use Rattle.noc_router.specs.Links.{is_idle_beat}
 use Rattle.noc_router.specs.View.{idle_beat}
-use Rattle.noc_net.proofs.jump.arrived.Given as goal
+use Rattle.noc_net.proofs.takes.arrived.Given as goal
 
 -- the ports so far
 abbrev pub invariant-loop-port : goal.invariant-loop-port
