@@ -26,23 +26,11 @@ use Rattle.noc_router.specs.declared.verdict.Finding.{Finding}
 use Rattle.noc_router.proofs.FindLemmas.{find-none, find-same}
 use Rattle.noc_router.proofs.TallyLemmas.{verdict-at}
 use Rattle.noc_router.proofs.PlanFacts.{Lists, verdict_in, holds_flit, decided-is, granted-asks, is-granted, mover-is, Moves, moves-is, claim-waits, claim-unrouted, verdict-granted, verdict-routed}
-use Rattle.noc_router.proofs.SettleLemmas.{IsSettling, IsWhole, arrival-is, arrived_by, buffer-here, credit_by, flit_by, input-here, left, left-here, left_verdict, mover_to-from, mover_to-is, not_both, port_below, sink_ends, sink_misfits, step-granted, step-plain, step-routed}
-use Rattle.noc_router.proofs.MoveLemmas.{flit-first, moved-parts, site-kept, step-moved}
+use Rattle.noc_router.proofs.SettleLemmas.{IsSettling, IsWhole, arrival-is, arrived_by, buffer-here, credit_by, flit_by, input-here, left, left-here, left_verdict, mover_to-from, mover_to-is, not_both, port_below, sink_ends, sink_misfits, step-granted, step-plain, step-routed, flit-first, quiet-moved}
+use Rattle.noc_router.proofs.MoveLemmas.{moved-parts, site-kept, step-moved}
 
 -- ---- before the first channel
--- a verdict that does not take effect changes nothing
-pub quiet-moved : (x : Verdict) → is_event x ≡ false → is_moved x ≡ false
-quiet-moved Empty e = refl
-quiet-moved Routed e = absurd (false≢true (sym e))
-quiet-moved Granted e = absurd (false≢true (sym e))
-quiet-moved Moved e = absurd (false≢true (sym e))
-quiet-moved NoFlit e = refl
-quiet-moved NoIdleChannel e = refl
-quiet-moved LostChannel e = refl
-quiet-moved NoCredit e = refl
-quiet-moved LostInput e = refl
-quiet-moved LostSwitch e = refl
-
+-- a verdict that does not take effect changes no input channel
 pub quiet-input : (d : Decisions) (v : View) (i : ℕ) (input : Input) (x : Verdict) → is_event x ≡ false → input_after d v i input x ≡ input
 quiet-input d v i input Empty e = refl
 quiet-input d v i input Routed e = absurd (false≢true (sym e))

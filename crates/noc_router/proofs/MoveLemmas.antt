@@ -1,6 +1,6 @@
 -- The verdicts take effect one by one: a channel sends its first flit.
-use Rattle.std.proofs.Common.{◌≡◌, ◌≢◌, ℕ, ◌+◌, ◌*◌, ◌/◌, ◌%◌, ◌<◌, ◌≤◌, Bool, true, false, List, [], ◌∷◌, length, drop, get_or, set, Option, Some, None, refl, ap, sym, ◌∙◌, arith, inl, inr}
-use Rattle.std.specs.Prelude.{◌⊎◌, ◌&&◌, not, option_and_then, option_map, nat_eq, nat_lt, if◌then◌else◌, slice_get}
+use Rattle.std.proofs.Common.{◌≡◌, ◌≢◌, ℕ, ◌+◌, ◌*◌, ◌/◌, ◌%◌, ◌<◌, ◌≤◌, Bool, true, false, List, [], length, drop, get_or, set, Option, Some, None, refl, ap, sym, ◌∙◌, arith, inl, inr}
+use Rattle.std.specs.Prelude.{◌⊎◌, ◌&&◌, not, option_and_then, option_map, nat_eq, nat_lt, if◌then◌else◌}
 use Rattle.std.proofs.lemmas.Bool.{cases_eq, cases_lt, false≢true, lt-ltb, le-ltb}
 use Rattle.std.proofs.lemmas.Nat.{mul-add-lt, div-mul-add, mod-mul-add, div-add-mod'}
 use Rattle.std.proofs.Math.Nat.{mod-lt}
@@ -9,26 +9,18 @@ use Rattle.noc_topo.specs.Shape.{ports, local_port}
 use Rattle.noc_packet.specs.Set.{has_bit}
 use Rattle.noc_packet.specs.declared.packet.Flit.{Flit}
 use Rattle.noc_packet.specs.declared.packet.Beat.{Beat}
-use Rattle.noc_vc.specs.Input.{Input, idle_input, is_empty, input_after_send}
+use Rattle.noc_vc.specs.Input.{Input, idle_input, input_after_send}
 use Rattle.noc_vc.specs.Output.{ejection_output, output_after_spend}
 use Rattle.noc_router.specs.Settled.{with_flit_at, with_credit_at, ejected_packet, moved_by}
 use Rattle.noc_router.specs.Verdict.{Holds, out_of, is_moved, is_event}
 use Rattle.noc_router.specs.View.{View, Decisions, size_of, view_buffer, view_input, view_output, first_flit, mover, mover_to, held_by, spent_by, is_tail, tail_packet, decided_verdict, input_after, buffer_after, sent_from, idle_beat}
 use Rattle.noc_router.specs.declared.verdict.Verdict.{Verdict}
-use Rattle.noc_router.specs.declared.verdict.Verdict.TheVariants.{Empty, Routed, Granted, Moved, NoFlit, NoIdleChannel, LostChannel, NoCredit, LostInput, LostSwitch}
+use Rattle.noc_router.specs.declared.verdict.Verdict.TheVariants.{Empty, Granted, Moved}
 use Rattle.noc_router.proofs.FindLemmas.{find-same, find-at}
-use Rattle.noc_router.proofs.PlanFacts.{Lists, verdict_in, holds_flit, decided-is, mover-is, Moves, one_pick}
-use Rattle.noc_router.proofs.SettleLemmas.{IsSettling, IsWhole, arrival-is, arrived_by, below-step, buffer-here, buffers-step, credit_by, flit_by, input-here, inputs-step, left, left-gone, left-here, left-kept, left_verdict, mover_to-from, mover_to-is, not_both, not_granted, output_by, outputs-step, port_below, sink_ends, sink_misfits, verdict-gone, verdict-kept}
+use Rattle.noc_router.proofs.PlanFacts.{Lists, verdict_in, decided-is, mover-is, Moves, one_pick}
+use Rattle.noc_router.proofs.SettleLemmas.{IsSettling, IsWhole, arrival-is, arrived_by, below-step, buffer-here, buffers-step, credit_by, flit_by, input-here, inputs-step, left, left-gone, left-here, left-kept, left_verdict, mover_to-from, mover_to-is, not_both, not_granted, output_by, outputs-step, port_below, sink_ends, sink_misfits, verdict-gone, verdict-kept, is_moved-true}
 
 -- ---- a flit moves
--- the first of some flits
-some_first : (flits : List Flit) → not (is_empty flits) ≡ true → (f : Flit) × (slice_get flits 0 ≡ Some f)
-some_first [] e = absurd (false≢true e)
-some_first (f ∷ rest) e = (f, refl)
-
-pub flit-first : (v : View) (i : ℕ) → holds_flit v i ≡ true → (f : Flit) × (first_flit v i ≡ Some f)
-flit-first v i e = some_first (view_buffer v i) e
-
 -- a list of beats with a credit at one port and a flit at one
 credit_at : (beats : List Beat) (from back p : ℕ) → p < length beats → (from ≡ p → get_or (with_credit_at from back beats) p idle_beat ≡ record (get_or beats p idle_beat) { credit = Some back })
     × (p ≢ from → get_or (with_credit_at from back beats) p idle_beat ≡ get_or beats p idle_beat)
@@ -105,18 +97,6 @@ site-kept d v w rest so_far = ap (λ (x : View). x.site) so_far.others
 
 pub given-kept : (d : Decisions) (v w : View) (rest : ℕ) → IsSettling d v rest w → w.given ≡ v.given
 given-kept d v w rest so_far = ap (λ (x : View). x.given) so_far.others
-
-pub is_moved-true : (x : Verdict) → is_moved x ≡ true → x ≡ Moved
-is_moved-true Empty e = absurd (false≢true e)
-is_moved-true Routed e = absurd (false≢true e)
-is_moved-true Granted e = absurd (false≢true e)
-is_moved-true Moved e = refl
-is_moved-true NoFlit e = absurd (false≢true e)
-is_moved-true NoIdleChannel e = absurd (false≢true e)
-is_moved-true LostChannel e = absurd (false≢true e)
-is_moved-true NoCredit e = absurd (false≢true e)
-is_moved-true LostInput e = absurd (false≢true e)
-is_moved-true LostSwitch e = absurd (false≢true e)
 
 not_left_moved : (b : Bool) (x : Verdict) → is_moved (if b then Empty else x) ≡ true → x ≡ Moved
 not_left_moved true x e = absurd (false≢true e)

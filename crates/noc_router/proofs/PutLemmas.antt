@@ -51,7 +51,6 @@ relinked r l h below = record {
   counts = h.counts;
   arbiter_ports = h.arbiter_ports;
   arbiter_vcs = h.arbiter_vcs;
-  indices = h.indices;
   index_vcs = h.index_vcs;
 }
 

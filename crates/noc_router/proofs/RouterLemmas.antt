@@ -23,8 +23,8 @@ for_some P Q o f h = λ x e. f x (h x e)
 pub IsRouter-kept : (r s : Inside) → IsRouter r → s.shape ≡ r.shape → s.node ≡ r.node → s.ports ≡ r.ports → s.vcs ≡ r.vcs → s.places ≡ r.places
     → s.source.vc ≡ r.source.vc → s.channels.size ≡ r.channels.size → s.channels.bank.capacity ≡ r.channels.bank.capacity
     → KeepsAwaiting r.channels.inputs.items s.channels.inputs.items → s.leads.places ≡ r.leads.places → AreBelow (local_port r.shape) s.links.loaded
-    → length s.tally.counts ≡ length r.tally.counts → s.arbiters.ports ≡ r.arbiters.ports → s.arbiters.vcs ≡ r.arbiters.vcs → s.indices.size ≡ r.indices.size → s.indices.vcs ≡ r.indices.vcs → IsRouter s
-IsRouter-kept r s is shape node ports_same vcs places vc size capacity keeps leads loaded counts arbiter_ports arbiter_vcs indices index_vcs =
+    → length s.tally.counts ≡ length r.tally.counts → s.arbiters.ports ≡ r.arbiters.ports → s.arbiters.vcs ≡ r.arbiters.vcs → s.indices.vcs ≡ r.indices.vcs → IsRouter s
+IsRouter-kept r s is shape node ports_same vcs places vc size capacity keeps leads loaded counts arbiter_ports arbiter_vcs index_vcs =
     let all : r.ports * r.vcs ≡ s.ports * s.vcs = ap (λ n. n * r.vcs) (sym ports_same) ∙ ap (λ n. s.ports * n) (sym vcs) in
     let first : (r.ports - 1) * r.vcs ≡ (s.ports - 1) * s.vcs = ap (λ n. (n - 1) * r.vcs) (sym ports_same) ∙ ap (λ n. (s.ports - 1) * n) (sym vcs) in
     record {
@@ -43,7 +43,6 @@ IsRouter-kept r s is shape node ports_same vcs places vc size capacity keeps lea
       counts = counts ∙ is.counts ∙ all;
       arbiter_ports = arbiter_ports ∙ is.arbiter_ports ∙ sym ports_same;
       arbiter_vcs = arbiter_vcs ∙ is.arbiter_vcs ∙ sym vcs;
-      indices = indices ∙ is.indices ∙ all;
       index_vcs = index_vcs ∙ is.index_vcs ∙ sym vcs;
     }
 
@@ -57,13 +56,13 @@ local-index r vc is =
 pub IsRouter-misfit : (r : Inside) (channels : Channels) (n : ℕ) → IsRouter r → states_in channels ≡ states_in r.channels → IsRouter (record r { channels = channels; misfits = n })
 IsRouter-misfit r channels n is states =
     IsRouter-kept r (record r { channels = channels; misfits = n }) is refl refl refl refl refl refl (ap (λ (s : ChannelStates). s.size) states) (ap (λ (s : ChannelStates). s.bank.capacity) states)
-    (λ i h. ap (λ (s : ChannelStates). is_awaiting s.inputs i) states ∙ h) refl is.loaded refl refl refl refl refl
+    (λ i h. ap (λ (s : ChannelStates). is_awaiting s.inputs i) states ∙ h) refl is.loaded refl refl refl refl
 
 -- a router of which only channels change, and whether it had an event, is one still
 pub IsRouter-channels : (r : Inside) (channels : Channels) (happened : Bool) → IsRouter r → channels.size ≡ r.channels.size → channels.bank.capacity ≡ r.channels.bank.capacity
     → KeepsAwaiting r.channels.inputs.items channels.inputs.items → IsRouter (record r { channels = channels; had_event = happened })
 IsRouter-channels r channels happened is size capacity keeps =
-    IsRouter-kept r (record r { channels = channels; had_event = happened }) is refl refl refl refl refl refl size capacity keeps refl is.loaded refl refl refl refl refl
+    IsRouter-kept r (record r { channels = channels; had_event = happened }) is refl refl refl refl refl refl size capacity keeps refl is.loaded refl refl refl refl
 
 -- a router where a flit has come to an input channel of a link port is one still
 pub IsRouter-landed : (r : Inside) (channels : Channels) (i : ℕ) (flit : Flit) → IsRouter r → states_in channels ≡ states_after_land i flit (states_in r.channels) → i < (r.ports - 1) * r.vcs → IsRouter (record r { channels = channels; had_event = true })
@@ -84,7 +83,6 @@ IsRouter-landed r channels i flit is states link = record {
   counts = is.counts;
   arbiter_ports = is.arbiter_ports;
   arbiter_vcs = is.arbiter_vcs;
-  indices = is.indices;
   index_vcs = is.index_vcs;
 }
 
@@ -92,4 +90,4 @@ IsRouter-landed r channels i flit is states link = record {
 pub IsRouter-counted : (r : Inside) (cycle : ℕ) (tally : TallyContents) (links : Links) → IsRouter r → length tally.counts ≡ length r.tally.counts
     → AreBelow (local_port r.shape) links.loaded → IsRouter (record r { cycle = cycle; tally = tally; links = links })
 IsRouter-counted r cycle tally links is counts loaded =
-    IsRouter-kept r (record r { cycle = cycle; tally = tally; links = links }) is refl refl refl refl refl refl refl refl (λ i h. h) refl loaded counts refl refl refl refl
+    IsRouter-kept r (record r { cycle = cycle; tally = tally; links = links }) is refl refl refl refl refl refl refl refl (λ i h. h) refl loaded counts refl refl refl

@@ -1,6 +1,6 @@
 -- The verdicts take effect one by one: what holds while some channels are left, and what a channel that sends no flit changes.
-use Rattle.std.proofs.Common.{◌≡◌, ◌≢◌, ℕ, ◌+◌, ◌*◌, ◌/◌, ◌%◌, ◌<◌, Bool, true, false, List, [], length, drop, get_or, set, Option, Some, None, refl, ap, sym, ◌∙◌, arith, inl, inr}
-use Rattle.std.specs.Prelude.{◌⊎◌, ◌&&◌, not, option_and_then, option_map, unwrap_or, nat_eq, if◌then◌else◌, find, slice_index}
+use Rattle.std.proofs.Common.{◌≡◌, ◌≢◌, ℕ, ◌+◌, ◌*◌, ◌/◌, ◌%◌, ◌<◌, Bool, true, false, List, [], length, drop, get_or, set, Option, Some, None, refl, ap, sym, ◌∙◌, arith, inl, inr, ◌∷◌}
+use Rattle.std.specs.Prelude.{◌⊎◌, ◌&&◌, not, option_and_then, option_map, unwrap_or, nat_eq, if◌then◌else◌, find, slice_index, slice_get}
 use Rattle.std.proofs.lemmas.Bool.{cases_eq, eq-eqb, ne_eqb, false≢true, and_parts}
 use Rattle.std.proofs.Math.Nat.{div-lt_iff_lt-mul}
 use Rattle.std.proofs.lemmas.List.{length-set, get_or-set_same, get_or-set_other}
@@ -9,7 +9,7 @@ use Rattle.noc_topo.specs.Shape.{ports, local_port}
 use Rattle.noc_packet.specs.Set.{has_bit}
 use Rattle.noc_packet.specs.declared.packet.Flit.{Flit}
 use Rattle.noc_packet.specs.declared.packet.Beat.{Beat}
-use Rattle.noc_vc.specs.Input.{Input, idle_input, input_after_route, input_after_grant}
+use Rattle.noc_vc.specs.Input.{Input, idle_input, input_after_route, input_after_grant, is_empty}
 use Rattle.noc_vc.specs.Output.{Output, ejection_output, is_free, output_after_hold}
 use Rattle.noc_vc.specs.declared.input.InputState.TheVariants.{Active}
 use Rattle.noc_vc.specs.declared.output.OutputState.{OutputState}
@@ -21,9 +21,9 @@ use Rattle.noc_router.specs.Sound.{owns, is_owned_from}
 use Rattle.noc_router.specs.Verdict.{Waits, ask_of, out_of, is_moved, is_event}
 use Rattle.noc_router.specs.View.{View, Decisions, size_of, view_claim, view_buffer, view_input, view_output, first_flit, mover, mover_to, held_by, spent_by, tail_packet, with_arrival, saturating_next, decided_verdict, input_after, buffer_after, granted_to, idle_beat}
 use Rattle.noc_router.specs.declared.verdict.Verdict.{Verdict}
-use Rattle.noc_router.specs.declared.verdict.Verdict.TheVariants.{Empty, Routed, Granted, Moved}
+use Rattle.noc_router.specs.declared.verdict.Verdict.TheVariants.{Empty, Routed, Granted, Moved, NoFlit, NoIdleChannel, LostChannel, NoCredit, LostInput, LostSwitch}
 use Rattle.noc_router.proofs.FindLemmas.{find-same}
-use Rattle.noc_router.proofs.PlanFacts.{Lists, verdict_in, decided-is, granted-asks, is-granted, mover-is, claim-waits, claim-holds}
+use Rattle.noc_router.proofs.PlanFacts.{Lists, verdict_in, decided-is, granted-asks, is-granted, mover-is, claim-waits, claim-holds, holds_flit}
 
 -- ---- the sink
 -- the arrivals and the misfits after a packet has arrived
@@ -374,3 +374,37 @@ module _ (d : Decisions) (v w : View) (rest rest' index : ℕ) (whole : IsWhole 
         where
           claim_is : view_claim v index ≡ Waits (Some o)
           claim_is = claim
+
+-- ---- flits and verdicts
+-- the first of some flits
+some_first : (flits : List Flit) → not (is_empty flits) ≡ true → (f : Flit) × (slice_get flits 0 ≡ Some f)
+some_first [] e = absurd (false≢true e)
+some_first (f ∷ rest) e = (f, refl)
+
+pub flit-first : (v : View) (i : ℕ) → holds_flit v i ≡ true → (f : Flit) × (first_flit v i ≡ Some f)
+flit-first v i e = some_first (view_buffer v i) e
+
+pub is_moved-true : (x : Verdict) → is_moved x ≡ true → x ≡ Moved
+is_moved-true Empty e = absurd (false≢true e)
+is_moved-true Routed e = absurd (false≢true e)
+is_moved-true Granted e = absurd (false≢true e)
+is_moved-true Moved e = refl
+is_moved-true NoFlit e = absurd (false≢true e)
+is_moved-true NoIdleChannel e = absurd (false≢true e)
+is_moved-true LostChannel e = absurd (false≢true e)
+is_moved-true NoCredit e = absurd (false≢true e)
+is_moved-true LostInput e = absurd (false≢true e)
+is_moved-true LostSwitch e = absurd (false≢true e)
+
+-- a verdict that does not take effect moves no flit
+pub quiet-moved : (x : Verdict) → is_event x ≡ false → is_moved x ≡ false
+quiet-moved Empty e = refl
+quiet-moved Routed e = absurd (false≢true (sym e))
+quiet-moved Granted e = absurd (false≢true (sym e))
+quiet-moved Moved e = absurd (false≢true (sym e))
+quiet-moved NoFlit e = refl
+quiet-moved NoIdleChannel e = refl
+quiet-moved LostChannel e = refl
+quiet-moved NoCredit e = refl
+quiet-moved LostInput e = refl
+quiet-moved LostSwitch e = refl

@@ -30,7 +30,8 @@ use Rattle.noc_router.proofs.PlanFacts.{Lists, decided-is, granted-asks, is-gran
 use Rattle.noc_router.proofs.SiteLemmas.{committed-parts}
 use Rattle.noc_router.proofs.StandLemmas.{map-tabulate}
 use Rattle.noc_router.proofs.TallyLemmas.{verdict-at}
-use Rattle.noc_router.proofs.EffectLemmas.{quiet-input, quiet-moved}
+use Rattle.noc_router.proofs.SettleLemmas.{quiet-moved}
+use Rattle.noc_router.proofs.EffectLemmas.{quiet-input}
 use Rattle.noc_router.proofs.LinkLemmas.{beat_of}
 
 -- a list of which each element stays

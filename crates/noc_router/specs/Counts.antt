@@ -1,5 +1,5 @@
 -- The ten counts of each channel.
-use Rattle.std.specs.Prelude.{◌≡◌, ℕ, ◌+◌, ◌*◌, ◌-◌, ◌<◌, ◌≤◌, Bool, List, [], ◌∷◌, Option, None, Some, drop, sum, take, length, slice_index_or, if◌then◌else◌}
+use Rattle.std.specs.Prelude.{◌≡◌, ℕ, ◌+◌, ◌*◌, ◌-◌, ◌<◌, ◌≤◌, Bool, List, [], ◌∷◌, Option, None, Some, drop, sum, take, length, slice_index, slice_index_or, if◌then◌else◌}
 use Rattle.std.specs.List.{sum_by}
 use Rattle.noc_packet.specs.Set.{has_bit}
 use Rattle.noc_packet.specs.declared.limits.TheConstants.{INDICES}
@@ -49,3 +49,9 @@ counts_in cycles others = (cycles - sum others) ∷ others
 pub record AreRows (written : List (List ℕ)) : Type 0 where
   pub few : length written ≤ INDICES
   pub ten : (i : ℕ) → i < length written → length (slice_index_or written i []) ≡ 10
+
+-- as many rows as before, with 512 more of each verdict for the channels in its set
+pub record AreWrittenDown (full : List ℕ) (before after : List (List ℕ)) : Type 0 where
+  pub as_many : length after ≡ length before
+  pub rows : AreRows after
+  pub each : (i j : ℕ) → i < length before → 0 < j → j < 10 → slice_index (slice_index_or after i []) j ≡ slice_index (slice_index_or before i []) j + 512 * one_at full j i

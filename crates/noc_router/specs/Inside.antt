@@ -56,5 +56,4 @@ pub record IsRouter (r : Inside) : Type 0 where
   pub counts : length r.tally.counts ≡ r.ports * r.vcs
   pub arbiter_ports : r.arbiters.ports ≡ r.ports
   pub arbiter_vcs : r.arbiters.vcs ≡ r.vcs
-  pub indices : r.indices.size ≡ r.ports * r.vcs
   pub index_vcs : r.indices.vcs ≡ r.vcs

@@ -27,9 +27,7 @@ pub(crate) fn allocate_channels(asks: &Places, arbiters: &[Arbiter], grants: &mu
     requires few { length arbiters.now ≤ INDICES }
     requires sizes { All (λ (t : RoundRobin). t.size ≡ length asks.now) arbiters.now }
     requires asks { All (λ ask. IfSome ask (λ o. o < length arbiters.now)) asks.now }
-    ensures grants { grants.new ≡ tabulate (length arbiters.now) (grant_of asks.now (length asks.now) (pointers_of arbiters.now)) }
-    ensures count { length grants.new ≡ length arbiters.now }
-    ensures inputs { All (λ grant. IfSome grant (λ i. i < length asks.now)) grants.new }
+    ensures { grants.new ≡ tabulate (length arbiters.now) (grant_of asks.now (length asks.now) (pointers_of arbiters.now)) }
 {
     let mut rest = asks.filled();
     while let Some(input) = rest.least_common(&rest) {
@@ -65,10 +63,7 @@ pub(crate) fn offer(
     requires lengths { length held.old ≡ length arbiters.now }
     requires asked { asked < length arbiters.now }
     ensures held { held.new ≡ firsts_after_request arbiters.now asked requester held.old }
-    ensures count { length held.new ≡ length held.old }
     ensures other { result ≡ farther (arbiter_at arbiters.now asked).pointer (slice_index_or held.old asked None) requester }
-    ensures within { (n : ℕ) → requester < n → All (λ one. IfSome one (λ r. r < n)) held.old → All (λ one. IfSome one (λ r. r < n)) held.new }
-    ensures other_within { (n : ℕ) → requester < n → All (λ one. IfSome one (λ r. r < n)) held.old → IfSome result (λ r. r < n) }
 {
     let Some(before) = held.get(asked) else {
         held.set(asked, Some(requester));

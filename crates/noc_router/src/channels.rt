@@ -221,7 +221,6 @@ impl Channels {
         verdict: Verdict,
     ) -> Finding
         requires index { index < self.now.size }
-        requires indices { indices.now.size ≡ self.now.size }
         requires asks { length plan.now.asks ≡ self.now.size }
         ensures { result ≡ finding_with indices.now.vcs (nth_input self.now.inputs.items index) verdict (slice_index_or plan.now.asks index None) }
     {

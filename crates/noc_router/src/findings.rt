@@ -50,8 +50,7 @@ impl Findings {
 
     // Records the plan's findings. Unoccupied channels are Empty.
     pub(crate) fn show(&mut self, channels: &Channels, indices: &Indices, plan: &Plan)
-        requires plan { IsPlanOf channels.now (length self.old) plan.now }
-        requires indices { indices.now.size ≡ length self.old }
+        requires { IsPlanOf channels.now (length self.old) plan.now }
         ensures { self.new ≡ tabulate (length self.old) (finding_by plan.now indices.now.vcs channels.now.inputs.items) }
     {
         let occupied = channels.occupied();
@@ -77,7 +76,6 @@ fn show_all(
     shown: ChannelSet,
 )
     requires plan { IsPlanOf channels.now (length findings.old) plan.now }
-    requires indices { indices.now.size ≡ length findings.old }
     requires shown { AreBelow (length findings.old) shown }
     requires others { (k : ℕ) → k < length findings.old → has_bit shown k ≡ false → finding_at findings.old k ≡ finding_by plan.now indices.now.vcs channels.now.inputs.items k }
     ensures { findings.new ≡ tabulate (length findings.old) (finding_by plan.now indices.now.vcs channels.now.inputs.items) }
@@ -111,7 +109,6 @@ fn show_each(
     verdict: Verdict,
 ) -> ChannelSet
     requires plan { IsPlanOf channels.now (length findings.old) plan.now }
-    requires indices { indices.now.size ≡ length findings.old }
     requires left { AreBelow (length findings.old) left }
     ensures left { (k : ℕ) → has_bit result k ≡ (not (has_bit set k) && has_bit left k) }
     ensures length { length findings.new ≡ length findings.old }

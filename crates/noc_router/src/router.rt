@@ -126,7 +126,7 @@ impl Router {
             tally: Tally::new(alloc, ports * vcs)?,
             arbiters: Arbiters::new(alloc, ports, vcs)?,
             arrivals: Arrivals::new(alloc, ends)?,
-            indices: Indices::new(alloc, ports * vcs, vcs)?,
+            indices: Indices::new(vcs),
             shape,
         })
     }

@@ -90,8 +90,7 @@ impl Tally {
 
     // Records the plan's findings. Unoccupied channels are Empty.
     pub(crate) fn show(&mut self, channels: &Channels, indices: &Indices, plan: &Plan)
-        requires plan { IsPlanOf channels.now (length self.old.counts) plan.now }
-        requires indices { indices.now.size ≡ length self.old.counts }
+        requires { IsPlanOf channels.now (length self.old.counts) plan.now }
         ensures { self.new ≡ record self.old { findings = tabulate (length self.old.counts) (finding_by plan.now indices.now.vcs channels.now.inputs.items) } }
     {
         self.begun = true;

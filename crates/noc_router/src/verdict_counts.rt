@@ -2,7 +2,7 @@
 
 ghost use Rattle.std.specs.Prelude.{◌≡◌, ℕ, ◌+◌, ◌-◌, ◌*◌, ◌^◌, ◌<◌, ◌≤◌, IfOk, [], length, sum, replicate, slice_index, slice_index_or, slice_set};
 ghost use Rattle.noc_packet.specs.declared.limits.TheConstants.{INDICES};
-ghost use Rattle.noc_router.specs.Counts.{AreRows, counts_in, one_at};
+ghost use Rattle.noc_router.specs.Counts.{AreRows, AreWrittenDown, counts_in, one_at};
 ghost use Rattle.noc_router.specs.Tally.{IsPlanOf, others_after, risen_by};
 ghost use Rattle.noc_router.specs.Verdict.{column};
 
@@ -117,9 +117,7 @@ impl VerdictCounts {
 fn write_down(counts: &mut [[u64; VERDICTS]], full: &Sets)
     requires rows { AreRows counts.old }
     requires room { (k j : ℕ) → k < length counts.old → 0 < j → j < 10 → slice_index (slice_index_or counts.old k []) j + 512 * one_at full.now j k < 2 ^ 64 }
-    ensures length { length counts.new ≡ length counts.old }
-    ensures rows { AreRows counts.new }
-    ensures each { (k j : ℕ) → k < length counts.old → 0 < j → j < 10 → slice_index (slice_index_or counts.new k []) j ≡ slice_index (slice_index_or counts.old k []) j + 512 * one_at full.now j k }
+    ensures { AreWrittenDown full.now counts.old counts.new }
 {
     for index in 0..counts.len() {
         counts[index] = raised(counts[index], full, index);

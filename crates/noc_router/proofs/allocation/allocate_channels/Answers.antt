@@ -1,13 +1,12 @@
 use Rattle.std.proofs.Common.{◌<◌, List, Option, ℕ, None, length, get_or, sym, ◌∙◌, subst, ap}
 use Rattle.std.specs.Prelude.{IfSome}
-use Rattle.std.proofs.lemmas.List.{get_or-replicate, get_or_past, length-replicate}
+use Rattle.std.proofs.lemmas.List.{get_or-replicate, get_or_past, length-replicate, length-set}
 use Rattle.noc_alloc.specs.Arbiter.{pointers_of}
 use Rattle.noc_alloc.specs.Allocation.{grant_of}
 use Rattle.noc_topo.specs.Words.{is_some_of}
 use Rattle.noc_alloc.proofs.WordLemmas.{tabulate-from_each}
 use Rattle.noc_alloc.proofs.ArbiterLemmas.{nearest-is}
 use Rattle.noc_router.proofs.OfferLemmas.{AreOffered, both_has, offered-first, offered-next, offered-skip, offered-last}
-use Rattle.noc_alloc.proofs.SwitchLemmas.{first_in_turn-below, tabulate-inside}
 use Rattle.noc_router.proofs.allocation.allocate_channels.Goals as goal
 
 pub loop-input-init : goal.loop-input-init
@@ -30,7 +29,7 @@ loop-input-preserved-in-Some-get c =
       subst (AreOffered (length c.args.asks.now) c.args.arbiters.now (λ i. get_or c.args.asks.now i None) c.without-rest.result) (sym c.offer.ensures.held)
           (offered-next (length c.args.asks.now) c.args.arbiters.now (λ i. get_or c.args.asks.now i None) c.loop-input.rest c.without-rest.result c.in-Some.input c.loop-input.grants c.in-Some-get.output
           (sym c.get.ensures ∙ c.in-Some-get.is) c.loop-input.invariant.1 c.requires.sizes inside c.in-Some.ensures.least c.without-rest.ensures.members c.loop-input.invariant.0),
-      c.offer.ensures.count ∙ c.loop-input.invariant.1,
+      ap (λ (xs : List (Option ℕ)). length xs) c.offer.ensures.held ∙ length-set c.loop-input.grants c.in-Some-get.output _ ∙ c.loop-input.invariant.1,
     )
 
 pub loop-input-preserved : goal.loop-input-preserved
@@ -40,13 +39,8 @@ loop-input-preserved c = (
   c.loop-input.invariant.1,
 )
 
-pub returns-clause-grants : goal.returns-clause-grants
-returns-clause-grants c =
+pub returns : goal.returns
+returns c =
     tabulate-from_each (length c.args.arbiters.now) (grant_of c.args.asks.now (length c.args.asks.now) (pointers_of c.args.arbiters.now)) c.loop-input.grants None c.loop-input.invariant.1
     (λ o l. nearest-is (length c.args.asks.now) (get_or (pointers_of c.args.arbiters.now) o 0) (λ i. is_some_of (get_or c.args.asks.now i None) o) _
     (offered-last (length c.args.asks.now) c.args.arbiters.now (λ i. get_or c.args.asks.now i None) c.loop-input.rest c.loop-input.grants c.in_default.ensures.least c.loop-input.invariant.0 o l))
-
-pub returns-clause-inputs : goal.returns-clause-inputs
-returns-clause-inputs c =
-    tabulate-inside (length c.args.arbiters.now) (length c.args.asks.now) (grant_of c.args.asks.now (length c.args.asks.now) (pointers_of c.args.arbiters.now)) c.loop-input.grants
-    (λ k. first_in_turn-below (length c.args.asks.now) (get_or (pointers_of c.args.arbiters.now) k 0) (λ i. is_some_of (get_or c.args.asks.now i None) k)) (returns-clause-grants c)

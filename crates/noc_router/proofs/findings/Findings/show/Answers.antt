@@ -13,10 +13,7 @@ use Rattle.noc_router.proofs.findings.Findings.show.Goals as goal
 pub show_all-requires-clause-plan : goal.show_all-requires-clause-plan
 show_all-requires-clause-plan c =
     let n : length c.deref_mut.result.now ≡ length c.args.self.now = ap length c.deref_mut.ensures.value ∙ ap length c.self.view_is in
-    subst (λ m. IsPlanOf c.args.channels.now m c.args.plan.now) (sym n) c.requires.plan
-
-pub show_all-requires-clause-indices : goal.show_all-requires-clause-indices
-show_all-requires-clause-indices c = c.requires.indices ∙ sym (ap length c.deref_mut.ensures.value ∙ ap length c.self.view_is)
+    subst (λ m. IsPlanOf c.args.channels.now m c.args.plan.now) (sym n) c.requires
 
 pub show_all-requires-clause-shown : goal.show_all-requires-clause-shown
 show_all-requires-clause-shown c = λ k e.
@@ -25,11 +22,11 @@ show_all-requires-clause-shown c = λ k e.
   where
     at : (k : ℕ) → length c.deref_mut.result.now ≡ length c.args.self.now → (has_bit c.self.inside.shown k ≡ true) ⊎ (has_bit c.occupied-occupied.result k ≡ true) → k < length c.deref_mut.result.now
     at k n (inl e) = omega (arith, c.self.invariant.within k e, ap length c.self.view_is)
-    at k n (inr e) = omega (arith, c.occupied-occupied.ensures.below k e, c.requires.plan.channels)
+    at k n (inr e) = omega (arith, c.occupied-occupied.ensures.below k e, c.requires.channels)
 
 pub show_all-requires-clause-others : goal.show_all-requires-clause-others
 show_all-requires-clause-others c = λ k l e.
-    let p = c.requires.plan in
+    let p = c.requires in
     let low : k < length c.args.self.now = omega (arith, l, ap length c.deref_mut.ensures.value, ap length c.self.view_is) in
     let inside : k < c.args.channels.now.size = omega (arith, p.channels) in
     let off = either-none (has_bit c.self.inside.shown k) (has_bit c.occupied-occupied.result k) (sym (c.either-shown.ensures k) ∙ e) in
@@ -39,7 +36,7 @@ show_all-requires-clause-others c = λ k l e.
 
 pub invariant_of-self : goal.invariant_of-self
 invariant_of-self c =
-    let p = c.requires.plan in
+    let p = c.requires in
     let f : ℕ → Finding = finding_by c.args.plan.now c.args.indices.now.vcs c.args.channels.now.inputs.items in
     let old = c.self.inside.findings in
     let new = c.show_all.new.findings in

@@ -1,12 +1,33 @@
-use Rattle.std.proofs.Common.{ap, ◌∙◌}
+use Rattle.std.proofs.Common.{◌*◌, ap, arith, length, replicate, rules, ◌∙◌}
+use Rattle.std.proofs.lemmas.List.{length-replicate}
 use Rattle.noc_topo.specs.Shape.{Grid}
+use Rattle.noc_router.specs.Tally.{TallyContents}
 use Rattle.noc_router.specs.View.{opening_view}
 use Rattle.noc_router.proofs.OpeningLemmas.{opening-is}
 use Rattle.noc_router.proofs.router.Router.new.Goals as goal
 
+pub invariant_of-result : goal.invariant_of-result
+invariant_of-result c = record {
+  grid = search (rules, arith);
+  node = search (rules, arith);
+  ports = search (rules, arith);
+  some_vc = search (rules, arith);
+  few_vcs = search (rules, arith);
+  channels = search (rules, arith);
+  places = search (rules, arith);
+  leads = c.new-3.ensures;
+  loaded = search (rules, arith);
+  sending = search (rules, arith);
+  awaiting = search (rules, arith);
+  counts = ap (λ (t : TallyContents). length t.counts) c.in_ok-new-2.ensures ∙ length-replicate (c.ports-ports.result * c.vcs-vcs.result) (replicate 10 0);
+  arbiter_ports = search (rules, arith);
+  arbiter_vcs = search (rules, arith);
+  index_vcs = c.new-8.ensures;
+}
+
 pub returns : goal.returns
 returns c =
-    opening-is c.args.node c.ports-ports.result c.vcs-vcs.result c.args.places c.shape.result.now c.new.result c.in_ok-new.field-0 c.new-3.result c.new-4.result c.in_ok-new-2.field-0 c.in_ok-new-3.field-0 c.in_ok-new-4.field-0 c.in_ok-new-5.field-0 c.args.starts.items c.args.ends.items
+    opening-is c.args.node c.ports-ports.result c.vcs-vcs.result c.args.places c.shape.result.now c.new.result c.in_ok-new.field-0 c.new-3.result c.new-4.result c.in_ok-new-2.field-0 c.in_ok-new-3.field-0 c.in_ok-new-4.field-0 c.new-8.result c.args.starts.items c.args.ends.items
     c.ports-ports.ensures.grid c.ports-ports.ensures.value c.new.ensures.queue c.new.ensures.vc
     c.in_ok-new.ensures c.new-4.ensures.beats
     c.in_ok-new-2.ensures

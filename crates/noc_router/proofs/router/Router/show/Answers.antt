@@ -7,8 +7,8 @@ use Rattle.noc_router.specs.View.{View, size_of}
 use Rattle.noc_router.proofs.OutcomeLemmas.{found-outcome, outcome-decided, outcome-occupied}
 use Rattle.noc_router.proofs.router.Router.show.Goals as goal
 
-pub show-requires-clause-plan : goal.show-requires-clause-plan
-show-requires-clause-plan c =
+pub show-requires : goal.show-requires
+show-requires c =
     let r = c.self.inside in
     let h = c.self.invariant in
     let P : View → Type 0 = λ v. AreContentsFor c.args.plan.now v in

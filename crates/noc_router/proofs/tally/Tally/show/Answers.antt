@@ -8,17 +8,12 @@ use Rattle.noc_router.specs.Tally.{IsPlanOf, TallyContents}
 use Rattle.noc_router.specs.declared.verdict.Finding.{Finding}
 use Rattle.noc_router.proofs.tally.Tally.show.Goals as goal
 
-pub show-requires-clause-plan : goal.show-requires-clause-plan
-show-requires-clause-plan c =
+pub show-requires : goal.show-requires
+show-requires c =
     let t = c.self.inside in
     let n : length c.args.self.now.counts ≡ length t.findings =
     sym (ap (λ (x : TallyContents). length x.counts) c.self.view_is) ∙ length-map t.others (counts_in t.cycles) ∙ sym c.self.invariant.size in
-    subst (λ m. IsPlanOf c.args.channels.now m c.args.plan.now) n c.requires.plan
-
-pub show-requires-clause-indices : goal.show-requires-clause-indices
-show-requires-clause-indices c =
-    let t = c.self.inside in
-    c.requires.indices ∙ sym (ap (λ (x : TallyContents). length x.counts) c.self.view_is) ∙ length-map t.others (counts_in t.cycles) ∙ sym c.self.invariant.size
+    subst (λ m. IsPlanOf c.args.channels.now m c.args.plan.now) n c.requires
 
 pub invariant_of-self : goal.invariant_of-self
 invariant_of-self c =

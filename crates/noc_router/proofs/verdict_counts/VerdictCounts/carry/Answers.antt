@@ -39,7 +39,7 @@ pub invariant_of-self : goal.invariant_of-self
 invariant_of-self c =
     let t = c.self.inside in
     let written = c.write_down.new.counts in
-    subst (λ xs. AreRows xs) (sym (written-back t.written.len written t.written.items (omega (arith, c.write_down.ensures.length, ap length c.deref_mut.ensures.value, t.written.ok.0)))) c.write_down.ensures.rows
+    subst (λ xs. AreRows xs) (sym (written-back t.written.len written t.written.items (omega (arith, c.write_down.ensures.as_many, ap length c.deref_mut.ensures.value, t.written.ok.0)))) c.write_down.ensures.rows
 
 pub returns-in-Some : goal.returns-in-Some
 returns-in-Some c =
@@ -49,7 +49,7 @@ returns-in-Some c =
     let written = c.write_down.new.counts in
     let same = c.deref_mut.ensures.value in
     let n : length t.written.items ≡ length c.args.self.now = sym (others-length t.counters t.written.items) ∙ ap length c.self.view_is in
-    let long : length written ≡ length t.written.items = c.write_down.ensures.length ∙ ap length same in
+    let long : length written ≡ length t.written.items = c.write_down.ensures.as_many ∙ ap length same in
     let within : (k : ℕ) → k < length t.written.items → k < length c.deref_mut.result.now = λ k l. omega (arith, l, ap length same) in
     ap (others_of c.add.new.self) (written-back t.written.len written t.written.items (omega (arith, long, t.written.ok.0)))
     ∙ counted-others t.counters t.written.items column_of c.add.new.self written c.self.invariant
