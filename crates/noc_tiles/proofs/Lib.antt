@@ -2,6 +2,7 @@ pub mod BoundaryLemmas
 pub mod ClearLemmas
 pub mod ClosingLaw
 pub mod CycleLemmas
+pub mod DoneLemmas
 pub mod EdgeLemmas
 pub mod EndedLemmas
 pub mod EndsLemmas

@@ -40,13 +40,16 @@ module _ {f : Kept} {B : List (List Beat)} {I0 O0 : List (Option End)} {w : ℕ}
   abbrev O : List (Option End)
   O = out_slots rest.outs.items
 
+  pub forward : rest.first ≤ end
+  forward = let e = A.end_is in let b = A.uncut.first in let l = start-step (nodes f.relation.grid) f.workers A.can.some w in omega arith
+
   sum : rest.first + count ≡ end
-  sum = let e = A.end_is in let b = A.uncut.first in let l = start-step (nodes f.relation.grid) f.workers A.can.some w in omega arith
+  sum = let l = forward in omega arith
 
   end-is : rest.first + count ≡ first_of f (w + 1)
   end-is = sum ∙ A.end_is
 
-  wide : rest.first + count ≤ nodes f.relation.grid
+  pub wide : rest.first + count ≤ nodes f.relation.grid
   wide = subst (λ z. z ≤ nodes f.relation.grid) (sym end-is) (start-within (nodes f.relation.grid) f.workers A.can.some (w + 1) (let l = A.worker in omega arith))
 
   pub wide-here : rest.first + count ≤ nodes grid

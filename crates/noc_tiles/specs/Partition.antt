@@ -1,5 +1,5 @@
 -- All tiles of a network, and the network again.
-use Rattle.std.specs.Prelude.{ℕ, true, false, ◌≡◌, ◌⊎◌, ◌+◌, ◌-◌, ◌*◌, ◌^◌, ◌<◌, ◌≤◌, List, [], ◌∷◌, take, drop, map, length, get_or, Option, Some, None, vec_len}
+use Rattle.std.specs.Prelude.{ℕ, Bool, true, false, ◌≡◌, ◌⊎◌, ◌+◌, ◌-◌, ◌*◌, ◌^◌, ◌<◌, ◌≤◌, List, [], ◌∷◌, take, drop, map, length, get_or, Option, Some, None, vec_len}
 use Rattle.std.specs.List.{flat_map}
 use Rattle.noc_topo.specs.Shape.{IsGrid, nodes, ports, neighbour}
 use Rattle.noc_packet.specs.declared.packet.Beat.{Beat}
@@ -12,7 +12,7 @@ use Rattle.noc_tiles.specs.Ends.{End, inlet, outlet}
 use Rattle.noc_tiles.specs.TileStep.{arrival_places, is_from, is_inside}
 use Rattle.noc_tiles.specs.Rings.{AreLeftOut, AreSlots, in_slots, out_slots}
 use Rattle.noc_tiles.specs.Starts.{tile_start}
-use Rattle.noc_tiles.specs.Tiles.{CanRun, inlets, outlets}
+use Rattle.noc_tiles.specs.Tiles.{AllEnded, CanRun, Gating, inlets, outlets}
 use Rattle.noc_tiles.specs.declared.kept.Kept.{Kept}
 use Rattle.noc_tiles.specs.declared.kept.Gathered.{Gathered}
 use Rattle.noc_tiles.specs.declared.limits.TheConstants.{MAX_WORKERS}
@@ -116,6 +116,11 @@ first_of f worker = tile_start (nodes f.relation.grid) f.workers worker
 abbrev pub views_of : Kept → List View
 views_of f = (lockstep_at (setup_of f) f.count).views
 
+-- these are its routers, and it can be cut into tiles
+pub record IsToCut (f : Kept) (routers : List View) (B : List (List Beat)) : Type 0 where
+  pub can : CanCut f B
+  pub views : routers ≡ views_of f
+
 -- what is left when the workers before this one have their tiles: I0 and O0 are the slots when all ends were there
 pub record IsUncut (f : Kept) (B : List (List Beat)) (I0 O0 : List (Option End)) (worker : ℕ) (rest : Uncut) : Type 0 where
   pub first : rest.first ≡ first_of f worker
@@ -130,3 +135,14 @@ pub record IsTileOf (f : Kept) (I0 O0 : List (Option End)) (w : ℕ) (t : Tile) 
   pub worker : t.worker ≡ w
   pub first : t.first ≡ first_of f w
   pub routers : t.routers.items ≡ take (first_of f (w + 1) - first_of f w) (drop (first_of f w) (views_of f))
+
+-- tiles that have made all their cycles, each of them from one that was cut from the network
+pub record AreDone (f : Kept) (ts : List Tile) : Type 0 where
+  pub ins : List (Option End)
+  pub outs : List (Option End)
+  pub cut : List Tile
+  pub partition : IsPartition (setup_of f) f.count f.cycles ins outs cut
+  pub stop : Bool
+  pub gate : Gating
+  pub ended : AllEnded f.relation stop gate cut ts
+  pub whole : AllWhole ts

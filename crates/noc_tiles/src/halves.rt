@@ -24,22 +24,16 @@ fn run_last<G: Gate>(
     tiles: Vec<Tile>,
     stop: &Stop,
     gate: &G,
-) -> Result<Vec<Tile>, RunFault>
+) -> Vec<Tile>
     requires can { AllCanRun relation.now tiles.items }
     requires one { vec_len tiles ≤ 1 }
-    ensures ended { IfOk result (λ v. AllEnded relation.now stop.now (record { opens = G.opens gate.now; shuts = G.shuts gate.now }) tiles.items v.items) }
-    ensures fault { IfErr result (λ e. e ≢ LostWorker) }
+    ensures { AllEnded relation.now stop.now (record { opens = G.opens gate.now; shuts = G.shuts gate.now }) tiles.items result.items }
 {
     let mut tiles = tiles;
-    let Some(tile) = tiles.pop() else {
-        return Ok(tiles);
-    };
-    let tile = run_tile(rt, relation, tile, stop, gate);
-    if tiles.push(tile).is_err() {
-        stop.raise();
-        return Err(RunFault::Memory);
+    if let Some(tile) = tiles.pop() {
+        tiles.push_reserved(run_tile(rt, relation, tile, stop, gate));
     }
-    Ok(tiles)
+    tiles
 }
 
 // The fault with the lower number.
@@ -103,7 +97,7 @@ pub(crate) fn run_all<R: Threads + Wait + Sync, G: Gate>(
 {
     let count = tiles.len();
     if count <= 1 {
-        return run_last(rt, relation, tiles, stop, gate);
+        return Ok(run_last(rt, relation, tiles, stop, gate));
     }
     let mut first = tiles;
     let Ok(second) = first.split_off(count / 2) else {

@@ -20,6 +20,7 @@ use noc_packet::{Beat, Memory};
 use noc_router::{Plan, Router};
 use noc_topo::LINKS;
 use std::alloc::{AllocError, Global};
+use std::mem;
 
 // What is left of a network while tiles are cut from it: the routers from `first` on, and the ends that no tile has.
 #[derive(Drop)]
@@ -55,28 +56,25 @@ fn cut_tile(
     frame: &Kept,
     beats: &[[Beat; LINKS]],
     worker: usize,
-    rest: Uncut,
-) -> Result<(Tile, Uncut), Memory>
+    rest: &mut Uncut,
+) -> Result<Tile, Memory>
     requires can { CanCut frame.now beats.now }
     requires worker { worker < frame.now.workers }
-    requires rest { (I : List (Option End)) × (O : List (Option End)) × IsUncut frame.now beats.now I O worker rest }
-    ensures { IfOk result (λ r. (I O : List (Option End)) → IsUncut frame.now beats.now I O worker rest → IsTileOf frame.now I O worker r.0 × IsUncut frame.now beats.now I O (worker + 1) r.1) }
+    requires rest { (I : List (Option End)) × (O : List (Option End)) × IsUncut frame.now beats.now I O worker rest.old }
+    ensures { IfOk result (λ tile. (I O : List (Option End)) → IsUncut frame.now beats.now I O worker rest.old → IsTileOf frame.now I O worker tile × IsUncut frame.now beats.now I O (worker + 1) rest.new) }
 {
-    let Uncut {
-        first,
-        mut routers,
-        mut ins,
-        mut outs,
-    } = rest;
     let shape = frame.relation.shape();
+    let first = rest.first;
     let end = tile_start(shape.nodes(), frame.workers, worker + 1);
     let count = end - first;
-    let tail = routers.split_off(count)?;
-    let plan = Plan::new(alloc, &frame.relation)?;
     let own = own_beats(alloc, beats, first, count)?;
-    let own_ins = take_ins(alloc, shape, first, count, &mut ins)?;
-    let own_outs = take_outs(alloc, shape, first, count, &mut outs)?;
-    let tile = Tile {
+    let ins = take_ins(alloc, shape, first, count, &mut rest.ins)?;
+    let outs = take_outs(alloc, shape, first, count, &mut rest.outs)?;
+    let tail = rest.routers.split_off(count)?;
+    let routers = mem::replace(&mut rest.routers, tail);
+    rest.first = end;
+    let plan = Plan::new(alloc, &frame.relation)?;
+    Ok(Tile {
         worker,
         first,
         start: frame.count,
@@ -86,16 +84,9 @@ fn cut_tile(
         routers,
         plan,
         beats: own,
-        ins: own_ins,
-        outs: own_outs,
-    };
-    let left = Uncut {
-        first: end,
-        routers: tail,
         ins,
         outs,
-    };
-    Ok((tile, left))
+    })
 }
 
 /// As many tiles as there are workers, with a ring on each wire between two of them.
@@ -119,9 +110,8 @@ pub(crate) fn partition(
     };
     let mut tiles = Vec::new(alloc);
     for worker in 0..frame.workers {
-        let (tile, left) = cut_tile(alloc, frame, beats, worker, rest)?;
+        let tile = cut_tile(alloc, frame, beats, worker, &mut rest)?;
         tiles.push(tile)?;
-        rest = left;
     }
     Ok(tiles)
 }

@@ -5,7 +5,7 @@ ghost use Rattle.noc_model.specs.declared.limits.TheConstants.{CYCLE_LIMIT as cy
 ghost use Rattle.noc_tiles.specs.Ends.{End, inlet, outlet};
 ghost use Rattle.noc_tiles.specs.declared.fault.RunFault.TheVariants.{LostWorker};
 ghost use Rattle.noc_tiles.specs.Tiles.{inlets, outlets};
-ghost use Rattle.noc_tiles.specs.Partition.{AllWhole, AreNumbered, IsPartition, IsFrame, IsGathered, wire_rows_of, setup_of};
+ghost use Rattle.noc_tiles.specs.Partition.{AllWhole, AreDone, AreNumbered, IsPartition, IsFrame, IsGathered, wire_rows_of, setup_of};
 ghost use Rattle.noc_tiles.specs.declared.tile.Tile.{Tile as tile_value};
 
 use crate::emptying::empty_all;
@@ -20,32 +20,21 @@ use std::alloc::{AllocError, Global};
 use std::sync::Wait;
 use std::thread::Threads;
 
-// What a tile held is behind what the tiles before it held.
-fn add(all: &mut Gathered, tile: Tile) -> Result<(), AllocError>
-    requires { tile.first + vec_len tile.routers ≤ vec_len tile.beats }
-    ensures routers { OnOk result (all.new.routers.items ≡ all.old.routers.items ++ tile.routers.items) }
-    ensures beats { OnOk result (all.new.beats.items ≡ all.old.beats.items ++ wire_rows_of tile) }
-    ensures ins { OnOk result (map inlet all.new.ins.items ≡ map inlet all.old.ins.items ++ inlets tile) }
-    ensures outs { OnOk result (map outlet all.new.outs.items ≡ map outlet all.old.outs.items ++ outlets tile) }
+// What a tile held goes behind what the tiles before it held.
+fn add(all: &mut Gathered, tile: &mut Tile) -> Result<(), AllocError>
+    requires { tile.old.first + vec_len tile.old.routers ≤ vec_len tile.old.beats }
+    ensures routers { OnOk result (all.new.routers.items ≡ all.old.routers.items ++ tile.old.routers.items) }
+    ensures beats { OnOk result (all.new.beats.items ≡ all.old.beats.items ++ wire_rows_of tile.old) }
+    ensures ins { OnOk result (map inlet all.new.ins.items ≡ map inlet all.old.ins.items ++ inlets tile.old) }
+    ensures outs { OnOk result (map outlet all.new.outs.items ≡ map outlet all.old.outs.items ++ outlets tile.old) }
 {
-    let Tile {
-        worker: _,
-        first,
-        start: _,
-        cycles: _,
-        done: _,
-        outcome: _,
-        mut routers,
-        plan: _,
-        beats,
-        mut ins,
-        mut outs,
-    } = tile;
-    let count = routers.len();
-    all.routers.append(&mut routers)?;
-    all.beats.extend_from_slice(&beats[first..first + count])?;
-    all.ins.append(&mut ins)?;
-    all.outs.append(&mut outs)
+    let first = tile.first;
+    let count = tile.routers.len();
+    all.beats
+        .extend_from_slice(&tile.beats[first..first + count])?;
+    all.routers.append(&mut tile.routers)?;
+    all.ins.append(&mut tile.ins)?;
+    all.outs.append(&mut tile.outs)
 }
 
 // What all tiles held, one tile after another.
@@ -59,8 +48,11 @@ fn gather(alloc: Global, tiles: Vec<Tile>) -> Result<Gathered, AllocError>
         ins: Vec::new(alloc),
         outs: Vec::new(alloc),
     };
-    for tile in tiles {
-        add(&mut all, tile)?;
+    for mut tile in tiles {
+        let added = add(&mut all, &mut tile);
+        // (by name, and before the way out: else each of its fields would be let go at both, one by one)
+        drop(tile);
+        added?;
     }
     Ok(all)
 }
@@ -78,20 +70,18 @@ fn all_whole(tiles: &Vec<Tile>) -> bool
     true
 }
 
-// Runs the tiles of a network in threads, and puts it together again.
+// Runs the tiles of a network in threads, and gives what they held then.
 pub(crate) fn run_threads<R: Threads + Wait + Sync, G: Gate>(
     rt: &R,
     alloc: Global,
-    frame: Kept,
+    frame: &Kept,
     tiles: Vec<Tile>,
     gate: &G,
-) -> Result<Network, RunFault>
-    requires frame { IsFrame frame }
-    requires partition { (I : List (Option End)) × (O : List (Option End)) × IsPartition (setup_of frame) frame.count frame.cycles I O tiles.items }
-    requires numbered { AreNumbered frame.workers tiles.items }
-    requires end { frame.count + frame.cycles ≤ cycle_limit }
-    ensures asked { IfOk result (λ _. (worker k : ℕ) → worker < frame.workers → k < frame.cycles → G.shuts gate.now worker (frame.count + k) ≡ false) }
-    ensures net { IfOk result (λ v. v ≡ record { net = setup_of frame; count = frame.count + frame.cycles }) }
+) -> Result<Gathered, RunFault>
+    requires partition { (I : List (Option End)) × (O : List (Option End)) × IsPartition (setup_of frame.now) frame.now.count frame.now.cycles I O tiles.items }
+    requires numbered { AreNumbered frame.now.workers tiles.items }
+    ensures asked { IfOk result (λ _. (worker k : ℕ) → worker < frame.now.workers → k < frame.now.cycles → G.shuts gate.now worker (frame.now.count + k) ≡ false) }
+    ensures done { IfOk result (λ all. (done : List tile_value) × AreDone frame.now done × IsGathered all done) }
     ensures lost { IfErr result (λ e. e ≡ LostWorker → G.opens gate.now ≡ false) }
 {
     let stop = Stop::new();
@@ -109,6 +99,16 @@ pub(crate) fn run_threads<R: Threads + Wait + Sync, G: Gate>(
     let Ok(all) = gather(alloc, tiles) else {
         return Err(RunFault::Memory);
     };
+    Ok(all)
+}
+
+/// The network of what the tiles held, when they have made all their cycles.
+pub(crate) fn network_of(frame: Kept, all: Gathered) -> Network
+    requires frame { IsFrame frame }
+    requires done { (tiles : List tile_value) × AreDone frame tiles × IsGathered all tiles }
+    requires end { frame.count + frame.cycles ≤ cycle_limit }
+    ensures { result ≡ record { net = setup_of frame; count = frame.count + frame.cycles } }
+{
     let Gathered {
         routers,
         mut beats,
@@ -116,7 +116,7 @@ pub(crate) fn run_threads<R: Threads + Wait + Sync, G: Gate>(
         mut outs,
     } = all;
     empty_all(&mut ins, &mut outs, &mut beats);
-    Ok(Network::from_parts(Parts {
+    Network::from_parts(Parts {
         relation: frame.relation,
         buffer: frame.buffer,
         packets: frame.packets,
@@ -125,5 +125,5 @@ pub(crate) fn run_threads<R: Threads + Wait + Sync, G: Gate>(
         plan: frame.plan,
         beats,
         room: frame.room,
-    }))
+    })
 }

@@ -1,17 +1,22 @@
 //! A network run by workers.
 
-ghost use Rattle.std.specs.Prelude.{ℕ, ◌≡◌, ◌+◌, ◌<◌, ◌≤◌, true, false, IfErr, IfOk, IsOk};
+ghost use Rattle.std.specs.Prelude.{ℕ, List, ◌≡◌, ◌+◌, ◌<◌, ◌≤◌, true, false, IfErr, IfOk, IsOk};
 ghost use Rattle.noc_model.specs.declared.limits.TheConstants.{CYCLE_LIMIT as cycle_limit};
 ghost use Rattle.noc_tiles.specs.declared.fault.RunFault.TheVariants.{LostWorker};
+ghost use Rattle.noc_tiles.specs.Partition.{AreDone, IsGathered, IsToCut};
+ghost use Rattle.noc_tiles.specs.declared.tile.Tile.{Tile as tile_value};
 ghost use Rattle.noc_tiles.specs.declared.limits.TheConstants.{MAX_WORKERS};
 
 use crate::fault::RunFault;
 use crate::gate::Gate;
-use crate::kept::Kept;
+use crate::kept::{Gathered, Kept};
 use crate::partition::partition;
 use crate::single::run_single;
-use crate::threads::run_threads;
+use crate::threads::{network_of, run_threads};
 use noc_net::{Network, Parts};
+use noc_packet::Beat;
+use noc_router::Router;
+use noc_topo::LINKS;
 use std::alloc::Global;
 use std::sync::Wait;
 use std::thread::Threads;
@@ -38,6 +43,23 @@ pub fn run_tiles<R: Threads + Wait + Sync, G: Gate>(
     if workers == 1 {
         return run_single(network, cycles, gate);
     }
+    run_many(rt, alloc, network, cycles, workers, gate)
+}
+
+// Cuts a network into tiles, runs them in threads, and puts it together again.
+fn run_many<R: Threads + Wait + Sync, G: Gate>(
+    rt: &R,
+    alloc: Global,
+    network: Network,
+    cycles: u64,
+    workers: usize,
+    gate: &G,
+) -> Result<Network, RunFault>
+    requires { (0 < workers) × (workers ≤ MAX_WORKERS) × (network.count + cycles ≤ cycle_limit) }
+    ensures net { IfOk result (λ v. v ≡ record network { count = network.count + cycles }) }
+    ensures asked { IfOk result (λ _. (worker k : ℕ) → worker < workers → k < cycles → G.shuts gate.now worker (network.count + k) ≡ false) }
+    ensures lost { IfErr result (λ e. e ≡ LostWorker → G.opens gate.now ≡ false) }
+{
     let Parts {
         relation,
         buffer,
@@ -58,7 +80,31 @@ pub fn run_tiles<R: Threads + Wait + Sync, G: Gate>(
         cycles,
         workers,
     };
-    let Ok(tiles) = partition(alloc, &frame, routers, &beats) else {
+    match run_cut(rt, alloc, &frame, routers, &beats, gate) {
+        Ok(all) => Ok(network_of(frame, all)),
+        Err(fault) => {
+            // (by name it is one call; else each of its fields would be let go here, one by one)
+            drop(frame);
+            Err(fault)
+        }
+    }
+}
+
+// Cuts a network into tiles, runs them in threads, and gives what they held then.
+fn run_cut<R: Threads + Wait + Sync, G: Gate>(
+    rt: &R,
+    alloc: Global,
+    frame: &Kept,
+    routers: Vec<Router>,
+    beats: &[[Beat; LINKS]],
+    gate: &G,
+) -> Result<Gathered, RunFault>
+    requires { IsToCut frame.now routers.items beats.now }
+    ensures asked { IfOk result (λ _. (worker k : ℕ) → worker < frame.now.workers → k < frame.now.cycles → G.shuts gate.now worker (frame.now.count + k) ≡ false) }
+    ensures done { IfOk result (λ all. (done : List tile_value) × AreDone frame.now done × IsGathered all done) }
+    ensures lost { IfErr result (λ e. e ≡ LostWorker → G.opens gate.now ≡ false) }
+{
+    let Ok(tiles) = partition(alloc, frame, routers, beats) else {
         return Err(RunFault::Memory);
     };
     run_threads(rt, alloc, frame, tiles, gate)

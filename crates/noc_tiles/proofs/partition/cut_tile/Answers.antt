@@ -1,16 +1,17 @@
-use Rattle.std.proofs.Common.{◌+◌, List, Option, ap, ◌∙◌, refl, arith}
+use Rattle.std.proofs.Common.{◌+◌, List, Option, Vec, Global, ap, ◌∙◌, refl, arith}
 use Rattle.noc_topo.specs.Shape.{nodes}
+use Rattle.noc_router.specs.View.{View}
 use Rattle.noc_tiles.specs.Ends.{End}
 use Rattle.noc_tiles.specs.Partition.{IsUncut}
 use Rattle.noc_tiles.specs.Starts.{tile_start}
 use Rattle.noc_tiles.proofs.BoundaryLemmas.{vec-length}
-use Rattle.noc_tiles.proofs.PartitionLoop.{IsCutAt, enough, next-in, next-out, tile-of, uncut-more}
+use Rattle.noc_tiles.proofs.PartitionLoop.{IsCutAt, enough, forward, next-in, next-out, tile-of, uncut-more, wide, wide-here}
 use Rattle.noc_tiles.proofs.partition.cut_tile.Goals as goal
 use Rattle.noc_tiles.proofs.partition.cut_tile.Goals.{After-tile_start-end}
 
 -- where the tile is cut
-cut-at : (I O : List (Option End)) (c : After-tile_start-end) → IsUncut c.args.frame.now c.args.beats.now I O c.args.worker c.args.rest
-    → IsCutAt c.args.frame.now c.args.beats.now I O c.args.worker c.args.rest c.shape-shape.result.now c.tile_start-end.result
+cut-at : (I O : List (Option End)) (c : After-tile_start-end) → IsUncut c.args.frame.now c.args.beats.now I O c.args.worker c.args.rest.now
+    → IsCutAt c.args.frame.now c.args.beats.now I O c.args.worker c.args.rest.now c.shape-shape.result.now c.tile_start-end.result
 cut-at I O c uncut = record {
   can = c.requires.can;
   worker = c.requires.worker;
@@ -19,10 +20,30 @@ cut-at I O c uncut = record {
   end_is = c.tile_start-end.ensures.start ∙ ap (λ n. tile_start n c.args.frame.now.workers (c.args.worker + 1)) (c.nodes.ensures.value ∙ ap nodes c.shape-shape.ensures.value);
 }
 
+pub overflow_sub-count : goal.overflow_sub-count
+overflow_sub-count c =
+    let U = c.requires.rest in
+    forward (cut-at U.0 U.1 (goal.at.overflow_sub-count c).After-tile_start-end U.2)
+
+pub own_beats-requires : goal.own_beats-requires
+own_beats-requires c =
+    let U = c.requires.rest in
+    omega (arith, wide (cut-at U.0 U.1 (goal.at.own_beats-requires c).After-tile_start-end U.2), c.requires.can.size)
+
+pub take_ins-requires-clause-within : goal.take_ins-requires-clause-within
+take_ins-requires-clause-within c =
+    let U = c.requires.rest in
+    wide-here (cut-at U.0 U.1 (goal.at.take_ins-requires-clause-within c).After-tile_start-end U.2)
+
+pub take_outs-requires-clause-within : goal.take_outs-requires-clause-within
+take_outs-requires-clause-within c =
+    let U = c.requires.rest in
+    wide-here (cut-at U.0 U.1 (goal.at.take_outs-requires-clause-within c).After-tile_start-end U.2)
+
 pub split_off-requires : goal.split_off-requires
 split_off-requires c =
     let U = c.requires.rest in
-    omega (arith, enough (cut-at U.0 U.1 (goal.at.split_off-requires c).After-tile_start-end U.2), vec-length c.args.rest.routers)
+    omega (arith, enough (cut-at U.0 U.1 (goal.at.split_off-requires c).After-tile_start-end U.2), vec-length c.args.rest.now.routers)
 
 pub take_ins-requires-clause-all : goal.take_ins-requires-clause-all
 take_ins-requires-clause-all c =
@@ -36,7 +57,9 @@ take_outs-requires-clause-all c =
 
 pub returns : goal.returns
 returns c = λ I O U.
-    let A = cut-at I O (goal.at.returns c).After-tile_start-end U in (
-      tile-of A _ refl refl refl refl refl c.in_ok-tail.ensures.items c.in_ok-own.ensures.size c.in_ok-own.ensures.own c.in_ok-own.ensures.idle c.in_ok-own_ins.ensures.taken c.in_ok-own_outs.ensures.taken,
-      uncut-more A _ refl c.in_ok-tail.ensures.tail (c.in_ok-own_ins.ensures.rest refl).0 (c.in_ok-own_outs.ensures.rest refl).0 (c.in_ok-own_ins.ensures.rest refl).1 (c.in_ok-own_outs.ensures.rest refl).1,
+    let A = cut-at I O (goal.at.returns c).After-tile_start-end U in
+    let routers = ap (λ (v : Vec View Global). v.items) c.replace-routers.ensures.value ∙ c.in_ok-tail.ensures.items in
+    let left = ap (λ (v : Vec View Global). v.items) c.replace-routers.ensures.after ∙ c.in_ok-tail.ensures.tail in (
+      tile-of A _ refl refl refl refl refl routers c.in_ok-own.ensures.size c.in_ok-own.ensures.own c.in_ok-own.ensures.idle c.in_ok-ins.ensures.taken c.in_ok-outs.ensures.taken,
+      uncut-more A _ refl left c.take_ins.ensures.size c.take_outs.ensures.size (c.in_ok-ins.ensures.rest refl) (c.in_ok-outs.ensures.rest refl),
     )

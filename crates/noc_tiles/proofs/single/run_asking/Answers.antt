@@ -9,10 +9,10 @@ loop-k-preserved g c =
     let v = c.loop-k.invariant in
     let k = c.loop-k.k in
     let free : shuts (c.count-first.result + k) ≡ false = false_from_ne_true (shuts (c.count-first.result + k)) (λ shut. false≢true (sym (c.if-not-pass.ensures.shut shut))) in
-    let sum : c.args.network.count + k + 1 ≡ c.args.network.count + (k + 1) = omega arith in
+    let sum : c.args.network.now.count + k + 1 ≡ c.args.network.now.count + (k + 1) = omega arith in
     record {
-      run = c.cycle.ensures.value ∙ (ap (λ (u : Run). record u { count = u.count + 1 }) v.run ∙ ap (λ (m : ℕ). record c.args.network { count = m }) sum);
-      asked = below_more (λ (m : ℕ). shuts (c.args.network.count + m) ≡ false) k v.asked (ap (λ n. shuts (n + k)) (sym c.count-first.ensures.value) ∙ free);
+      run = c.cycle.ensures.value ∙ (ap (λ (u : Run). record u { count = u.count + 1 }) v.run ∙ ap (λ (m : ℕ). record c.args.network.now { count = m }) sum);
+      asked = below_more (λ (m : ℕ). shuts (c.args.network.now.count + m) ≡ false) k v.asked (ap (λ n. shuts (n + k)) (sym c.count-first.ensures.value) ∙ free);
     }
 
 pub returns-clause-asked : goal.returns-clause-asked

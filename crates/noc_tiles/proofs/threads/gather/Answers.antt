@@ -14,7 +14,7 @@ with_one held done tile before after so_far more = more ∙ ap (λ xs. xs ++ hel
 pub loop-tile-preserved : goal.loop-tile-preserved
 loop-tile-preserved c =
     let so_far = c.loop-tile.invariant in
-    let more = c.in_ok-add.ensures in
+    let more = c.in_ok-added.ensures in
     record {
       routers = with_one routers_of c.loop-tile.yielded c.in-Some.tile _ _ so_far.routers more.routers;
       beats = with_one wire_rows_of c.loop-tile.yielded c.in-Some.tile _ _ so_far.beats more.beats;

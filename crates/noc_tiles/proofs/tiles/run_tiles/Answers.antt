@@ -1,23 +1,5 @@
 use Rattle.std.proofs.Common.{rules, arith, ℕ, ◌≡◌, ◌+◌, ◌<◌, false, Result, Ok, Err, IfOk, ap, ◌∙◌}
-use Rattle.noc_net.specs.Network.{Run}
-use Rattle.noc_tiles.proofs.PartsLemmas.{parts-beats, parts-flight, parts-views}
 use Rattle.noc_tiles.proofs.tiles.run_tiles.Goals as goal
-
-pub partition-requires-clause-can : goal.partition-requires-clause-can
-partition-requires-clause-can g c =
-    let P = c.into_parts-relation.result in
-    let A = c.into_parts-relation.ensures.parts in
-    record {
-      good = A.good;
-      some = c.requires.workers.0;
-      few = c.requires.workers.1;
-      size = rw c.deref.ensures.value (parts-beats P A);
-      flight = rw c.deref.ensures.value (parts-flight P A);
-      end = omega (arith, c.requires.end, ap (λ (u : Run). u.count) c.into_parts-relation.ensures.network);
-    }
-
-pub partition-requires-clause-views : goal.partition-requires-clause-views
-partition-requires-clause-views g c = parts-views c.into_parts-relation.result c.into_parts-relation.ensures.parts
 
 -- what follows from what is known of a result
 lift-ok : {A E : Type 0} (P Q : Type 0) (result : Result A E) → (P → Q) → IfOk result (λ _. P) → IfOk result (λ _. Q)
