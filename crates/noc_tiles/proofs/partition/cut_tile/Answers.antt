@@ -61,5 +61,5 @@ returns c = λ I O U.
     let routers = ap (λ (v : Vec View Global). v.items) c.replace-routers.ensures.value ∙ c.in_ok-tail.ensures.items in
     let left = ap (λ (v : Vec View Global). v.items) c.replace-routers.ensures.after ∙ c.in_ok-tail.ensures.tail in (
       tile-of A _ refl refl refl refl refl routers c.in_ok-own.ensures.size c.in_ok-own.ensures.own c.in_ok-own.ensures.idle c.in_ok-ins.ensures.taken c.in_ok-outs.ensures.taken,
-      uncut-more A _ refl left c.take_ins.ensures.size c.take_outs.ensures.size (c.in_ok-ins.ensures.rest refl) (c.in_ok-outs.ensures.rest refl),
+      uncut-more A _ refl left (c.in_ok-ins.ensures.rest refl).0 (c.in_ok-outs.ensures.rest refl).0 (c.in_ok-ins.ensures.rest refl).1 (c.in_ok-outs.ensures.rest refl).1,
     )
