@@ -152,7 +152,8 @@ pub(crate) fn put_routers<L: Lines, W: Sink>(
     Ok(written)
 }
 
-// Writes a header, and below it the lines on a router.
+// Writes a header, and below it the lines on a router. It stays a call, so that a report without a page needs no stack for one.
+#[inline(never)]
 pub(crate) fn write_router<L: Lines, W: Sink>(
     header: &str,
     lines: &L,
@@ -168,7 +169,8 @@ pub(crate) fn write_router<L: Lines, W: Sink>(
     Ok(())
 }
 
-// Writes a header, and below it the lines on all routers.
+// Writes a header, and below it the lines on all routers. It stays a call, so that a report without a page needs no stack for one.
+#[inline(never)]
 pub(crate) fn write_routers<L: Lines, W: Sink>(
     header: &str,
     lines: &L,

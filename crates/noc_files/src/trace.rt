@@ -456,7 +456,9 @@ fn put_cycle<W: Sink>(
     }
 }
 
-// Runs a network for so many cycles more, and puts the lines of a trace in each, which are handed on before the next one.
+// Runs a network for so many cycles more, and puts the lines of a trace in each, which are handed on before the next one. It stays
+// a call, so that a report without a page needs no stack for one.
+#[inline(never)]
 fn put_cycles<W: Sink>(
     network: &mut Network,
     cycles: u64,

@@ -32,7 +32,8 @@ pub(crate) struct Words {
 }
 
 impl Words {
-    /// The words of a relation.
+    /// The words of a relation. It stays a call, so that a report without a page needs no stack for one.
+    #[inline(never)]
     pub(crate) fn of(relation: &Relation) -> Words
         ensures { AreWords relation.now result }
     {
