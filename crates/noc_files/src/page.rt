@@ -54,7 +54,7 @@ impl Page {
     }
 
     /// Adds a piece of a line.
-    #[inline]
+    #[inline(always)]
     pub(crate) fn add(&mut self, piece: &str)
         requires { length self.old + length piece.now ≤ PAGE }
         ensures added { self.new ≡ self.old ++ piece.now }
@@ -66,7 +66,7 @@ impl Page {
     }
 
     /// Adds a word, and leaves bytes behind it that are not on the page.
-    #[inline]
+    #[inline(always)]
     pub(crate) fn add_word(&mut self, word: &Word)
         requires { length self.old + WORD ≤ PAGE }
         ensures added { self.new ≡ self.old ++ word_text word.now }
@@ -77,7 +77,7 @@ impl Page {
     }
 
     /// Adds a byte.
-    #[inline]
+    #[inline(always)]
     pub(crate) fn add_byte(&mut self, byte: u8)
         requires { length self.old < PAGE }
         ensures added { self.new ≡ self.old ++ byte ∷ [] }
@@ -88,7 +88,7 @@ impl Page {
     }
 
     /// Adds a number in decimal.
-    #[inline]
+    #[inline(always)]
     pub(crate) fn add_number(&mut self, number: u64)
         requires { length self.old + 20 ≤ PAGE }
         ensures added { self.new ≡ self.old ++ decimal number }
@@ -103,7 +103,7 @@ impl Page {
     }
 
     // Adds a number of one digit.
-    #[inline]
+    #[inline(always)]
     fn add_digit(&mut self, number: u32)
         requires number { number < 10 }
         requires room { length self.old < PAGE }
@@ -114,7 +114,7 @@ impl Page {
     }
 
     // Adds a number of at most two digits.
-    #[inline]
+    #[inline(always)]
     fn add_two(&mut self, number: u32)
         requires number { number < 100 }
         requires room { length self.old + 2 ≤ PAGE }
@@ -130,7 +130,7 @@ impl Page {
     }
 
     // Adds a number of at most three digits.
-    #[inline]
+    #[inline(always)]
     fn add_three(&mut self, number: u32)
         requires number { number < 1000 }
         requires room { length self.old + 3 ≤ PAGE }
@@ -146,7 +146,7 @@ impl Page {
     }
 
     // Adds a number of at most four digits.
-    #[inline]
+    #[inline(always)]
     fn add_four(&mut self, number: u32)
         requires number { number < 10_000 }
         requires room { length self.old + 4 ≤ PAGE }
@@ -162,7 +162,7 @@ impl Page {
     }
 
     // Adds a number of at most five digits.
-    #[inline]
+    #[inline(always)]
     fn add_five(&mut self, number: u32)
         requires number { number < 100_000 }
         requires room { length self.old + 5 ≤ PAGE }
@@ -178,7 +178,7 @@ impl Page {
     }
 
     /// Adds the pieces of a line, one after the other.
-    #[inline]
+    #[inline(always)]
     pub(crate) fn add_all(&mut self, pieces: &[&str])
         requires { length self.old + length (flat_map (λ p. p.now) pieces.now) ≤ PAGE }
         ensures { self.new ≡ self.old ++ flat_map (λ p. p.now) pieces.now }
