@@ -2,4 +2,4 @@ pub mod WordLemmas
 pub mod ArbiterLemmas
 pub mod AskingLemmas
 pub mod SwitchLemmas
-pub mod Rounds
+pub mod RoundRows

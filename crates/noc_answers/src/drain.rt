@@ -3,7 +3,7 @@
 ghost use Rattle.std.specs.Prelude.{◌≡◌, ◌≢◌, ◌⊎◌, ◌+◌, ◌-◌, ◌<◌, ◌≤◌, min, true, false, IfErr, IfNone, IfOk, IfSome};
 ghost use Rattle.noc_tiles.specs.declared.fault.RunFault.TheVariants.{LostWorker};
 ghost use Rattle.noc_answers.specs.Drain.{DrainsAt, RunsTo, is_out_at};
-ghost use Rattle.noc_model.specs.declared.limits.TheConstants.{CYCLE_LIMIT};
+ghost use Rattle.noc_theory.specs.declared.limits.TheConstants.{CYCLE_LIMIT};
 ghost use Rattle.noc_tiles.specs.declared.limits.TheConstants.{MAX_WORKERS};
 
 use noc_files::MAX_CYCLES;

@@ -177,7 +177,7 @@ fn lengths(alloc: Global, values: &[Value]) -> Result<Vec<usize>, InputFault>
     Ok(lengths)
 }
 
-#[tactic(auto, using(crate::proofs::KeyFacts::all_integers_values), unfolding(crate::specs::Configuration::radix_at))]
+#[tactic(auto, using(crate::proofs::KeyLemmas::all_integers_values), unfolding(crate::specs::Configuration::radix_at))]
 fn radix_in(alloc: Global, table: &Table) -> Result<Vec<usize>, InputFault>
     ensures { Gives (λ v. v.items) result (radix_at (table_view table.now)) }
 {

@@ -11,10 +11,10 @@ use Rattle.noc_topo.specs.Words.{below}
 use Rattle.noc_topo.proofs.WordLemmas.{length-below, get_or-below}
 use Rattle.noc_packet.specs.declared.packet.Packet.{Packet}
 use Rattle.noc_route.specs.Ranks.{IsRankedBy, Ranking}
-use Rattle.noc_model.specs.Good.{IsGoodPacket, IsGoodSetup}
-use Rattle.noc_model.specs.Network.{Setup, arrival_in, packet_at, state_at}
-use Rattle.noc_model.specs.Progress.{budget, is_pending}
-use Rattle.noc_model.proofs.Theorems.{each-arrives, each-idle}
+use Rattle.noc_theory.specs.Good.{IsGoodPacket, IsGoodSetup}
+use Rattle.noc_theory.specs.Network.{Setup, arrival_in, packet_at, state_at}
+use Rattle.noc_theory.specs.Progress.{budget, is_pending}
+use Rattle.noc_theory.proofs.budget.ProgressTheoremLemmas.{each-arrives, each-idle}
 use Rattle.noc_net.specs.Limit.{are_all_out, IsLastDue, IsLimit}
 
 -- ---- the last due time

@@ -1,8 +1,8 @@
 -- A network by rows, or by its routers.
 use Rattle.std.proofs.Common.{◌≡◌, ℕ, ◌+◌, ◌≤◌, Option, Some, None, ap, sym, ◌∙◌, subst, arith}
 use Rattle.std.specs.Prelude.{IfSome}
-use Rattle.noc_model.specs.declared.limits.TheConstants.{CYCLE_LIMIT}
-use Rattle.noc_model.specs.Network.{Run}
+use Rattle.noc_theory.specs.declared.limits.TheConstants.{CYCLE_LIMIT}
+use Rattle.noc_theory.specs.Network.{Run}
 use Rattle.noc_rows.specs.Whole.{ShowsNetwork}
 use Rattle.noc_rows.specs.declared.rows.Rows.{Rows}
 use Rattle.noc_net.specs.declared.network.Network.TheInside.{Inside}

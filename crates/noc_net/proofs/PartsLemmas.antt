@@ -2,15 +2,15 @@
 use Rattle.std.proofs.Common.{◌≡◌, ℕ, ◌≤◌, List, ap, sym, ◌∙◌, vec_len}
 use Rattle.noc_topo.specs.Shape.{nodes}
 use Rattle.noc_packet.specs.declared.packet.Beat.{Beat}
-use Rattle.noc_model.specs.declared.limits.TheConstants.{CYCLE_LIMIT}
-use Rattle.noc_model.specs.Good.{IsGoodSetup}
-use Rattle.noc_model.specs.Halves.{beat_at}
-use Rattle.noc_model.specs.Lockstep.{lockstep_at}
+use Rattle.noc_theory.specs.declared.limits.TheConstants.{CYCLE_LIMIT}
+use Rattle.noc_theory.specs.Good.{IsGoodSetup}
+use Rattle.noc_theory.specs.Halves.{beat_at}
+use Rattle.noc_theory.specs.Lockstep.{lockstep_at}
 use Rattle.noc_router.specs.declared.verdict.Findings.TheVariants.{Record}
-use Rattle.noc_model.specs.Unseen.{AreInStep}
+use Rattle.noc_theory.specs.Unseen.{AreInStep}
 use Rattle.noc_net.specs.declared.parts.Parts.{Parts}
 use Rattle.noc_net.specs.Parts.{AreParts, setup_in}
-use Rattle.noc_model.proofs.Theorem.{lockstep-is_state}
+use Rattle.noc_theory.proofs.join.LockstepTheoremLemmas.{lockstep-is_state}
 
 pub views-in_step : (parts : Parts) → AreParts parts → parts.routers.items ≡ (lockstep_at (setup_in parts) parts.count).views
 views-in_step parts sound = sound.views ∙ sym (lockstep-is_state (setup_in parts) sound.good parts.count sound.within).views

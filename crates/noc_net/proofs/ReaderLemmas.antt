@@ -13,13 +13,13 @@ use Rattle.noc_router.specs.View.{View}
 use Rattle.noc_net.specs.declared.parts.Parts.{Parts}
 use Rattle.noc_net.specs.Parts.{AreParts, run_in, setup_in}
 use Rattle.noc_net.specs.Latest.{later_of, latest_of}
-use Rattle.noc_model.specs.Lockstep.{last_event_at, site_at, view_at, view_in}
-use Rattle.noc_model.specs.Network.{Run, Setup}
-use Rattle.noc_model.specs.Progress.{last_event_before}
-use Rattle.noc_model.proofs.GrantLemmas.{Has-below}
-use Rattle.noc_model.proofs.Members.{Has-map, Has-mapped}
-use Rattle.noc_model.proofs.OpeningLemmas.{below-has}
-use Rattle.noc_model.proofs.LastEvent.{last-is}
+use Rattle.noc_theory.specs.Lockstep.{last_event_at, site_at, view_at, view_in}
+use Rattle.noc_theory.specs.Network.{Run, Setup}
+use Rattle.noc_theory.specs.Progress.{last_event_before}
+use Rattle.noc_theory.proofs.worms.GrantLemmas.{Has-below}
+use Rattle.noc_theory.proofs.worms.MemberLemmas.{Has-map, Has-mapped}
+use Rattle.noc_theory.proofs.worms.OpeningLemmas.{below-has}
+use Rattle.noc_theory.proofs.join.LastEventLemmas.{last-is}
 
 pub count_routers : (parts : Parts) → AreParts parts → vec_len parts.routers ≡ nodes parts.relation.grid
 count_routers parts sound =

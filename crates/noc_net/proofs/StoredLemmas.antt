@@ -13,27 +13,27 @@ use Rattle.noc_packet.specs.declared.packet.Beat.{Beat}
 use Rattle.noc_topo.specs.Shape.{local_port, neighbour, nodes}
 use Rattle.noc_route.proofs.OptionLemmas.{no-value, some-value}
 use Rattle.noc_router.specs.View.{Site, View, IsRelationOf, idle_beat}
-use Rattle.noc_model.specs.declared.event.Event.{Event}
-use Rattle.noc_model.specs.declared.event.Event.TheVariants.{Take, Decide, Put}
-use Rattle.noc_model.specs.declared.limits.TheConstants.{CYCLE_LIMIT}
+use Rattle.noc_theory.specs.declared.event.Event.{Event}
+use Rattle.noc_theory.specs.declared.event.Event.TheVariants.{Take, Decide, Put}
+use Rattle.noc_theory.specs.declared.limits.TheConstants.{CYCLE_LIMIT}
 use Rattle.noc_net.specs.declared.parts.Parts.{Parts}
 use Rattle.noc_net.specs.declared.room.Room.{Room}
-use Rattle.noc_model.specs.Core.{CoreState, Post, are_between, resting_post, beat_to_send, changed_at, happens, has_beat, holds_at, onto_wire, putting, receiving, is_linked, is_ready, may_decide, may_put, may_take, post_at, with_post}
-use Rattle.noc_model.specs.InStep.{AreWithin, IsInStep, cycle_of, lockstep_core, lockstep_wires}
-use Rattle.noc_model.specs.Halves.{beat_at}
-use Rattle.noc_model.specs.Lockstep.{lockstep_at, site_at}
-use Rattle.noc_model.specs.Network.{Run, Setup}
-use Rattle.noc_model.proofs.RunLemmas.{count_views, linked_wires, past_wires}
+use Rattle.noc_theory.specs.Core.{CoreState, Post, are_between, resting_post, beat_to_send, changed_at, happens, has_beat, holds_at, onto_wire, putting, receiving, is_linked, is_ready, may_decide, may_put, may_take, post_at, with_post}
+use Rattle.noc_theory.specs.InStep.{AreWithin, IsInStep, cycle_of, lockstep_core, lockstep_wires}
+use Rattle.noc_theory.specs.Halves.{beat_at}
+use Rattle.noc_theory.specs.Lockstep.{lockstep_at, site_at}
+use Rattle.noc_theory.specs.Network.{Run, Setup}
+use Rattle.noc_theory.proofs.runs.RunLemmas.{count_views, linked_wires, past_wires}
 use Rattle.noc_net.specs.Parts.{AreParts, run_in, setup_in}
 use Rattle.noc_net.specs.Room.{front_of, opened_post, opening_wires, post_of, posts_of, rests_at, wires_in}
 use Rattle.noc_net.specs.Stored.{core_in}
-use Rattle.noc_model.proofs.CoreLemmas.{get_some, happens_in_step, kept_wire, router_there, router_within}
-use Rattle.noc_model.proofs.EventLemmas.{finished-wires, put_post}
-use Rattle.noc_model.proofs.LimitLemmas.{happens-within}
-use Rattle.noc_model.proofs.OrderLemmas.{between-cycle, here_between, room_for_beat, wire_there}
+use Rattle.noc_theory.proofs.runs.CoreLemmas.{get_some, happens_in_step, kept_wire, router_there, router_within}
+use Rattle.noc_theory.proofs.runs.EventLemmas.{finished-wires, put_post}
+use Rattle.noc_theory.proofs.runs.LimitLemmas.{happens-within}
+use Rattle.noc_theory.proofs.runs.OrderLemmas.{between-cycle, here_between, room_for_beat, wire_there}
 use Rattle.noc_net.proofs.PartsLemmas.{views-in_step, wires-in_step}
-use Rattle.noc_model.proofs.PostLemmas.{router_when}
-use Rattle.noc_model.proofs.SentLemmas.{unlinked_beat, view_site}
+use Rattle.noc_theory.proofs.runs.PostLemmas.{router_when}
+use Rattle.noc_theory.proofs.runs.SentLemmas.{unlinked_beat, view_site}
 
 -- ---- each router with its room
 

@@ -1,7 +1,7 @@
 -- What a network's fields are seen as, and what is true of them.
 use Rattle.std.specs.Prelude.{◌≡◌, ◌≤◌, IfSome, None}
-use Rattle.noc_model.specs.declared.limits.TheConstants.{CYCLE_LIMIT}
-use Rattle.noc_model.specs.Network.{Run}
+use Rattle.noc_theory.specs.declared.limits.TheConstants.{CYCLE_LIMIT}
+use Rattle.noc_theory.specs.Network.{Run}
 use Rattle.noc_rows.specs.Whole.{ShowsNetwork}
 use Rattle.noc_net.specs.declared.network.Network.TheInside.{Inside}
 use Rattle.noc_net.specs.Parts.{AreParts, setup_in}

@@ -6,10 +6,10 @@ pub mod Limit
 pub mod Parts
 pub mod Room
 pub mod Stored
-pub use Rattle.noc_model.specs.Core
-pub use Rattle.noc_model.specs.Good
-pub use Rattle.noc_model.specs.Halves
-pub use Rattle.noc_model.specs.Lockstep
-pub use Rattle.noc_model.specs.Network
-pub use Rattle.noc_model.specs.Progress
-pub use Rattle.noc_model.specs.Unseen
+pub use Rattle.noc_theory.specs.Core
+pub use Rattle.noc_theory.specs.Good
+pub use Rattle.noc_theory.specs.Halves
+pub use Rattle.noc_theory.specs.Lockstep
+pub use Rattle.noc_theory.specs.Network
+pub use Rattle.noc_theory.specs.Progress
+pub use Rattle.noc_theory.specs.Unseen

@@ -3,8 +3,8 @@ use Rattle.std.specs.Prelude.{◌≡◌, ◌⊎◌, ℕ, ◌+◌, ◌≤◌, Boo
 use Rattle.std.specs.List.{list_all}
 use Rattle.noc_topo.specs.Words.{below}
 use Rattle.noc_packet.specs.declared.packet.Packet.{Packet}
-use Rattle.noc_model.specs.Network.{Setup, State, arrival_in}
-use Rattle.noc_model.specs.Progress.{budget}
+use Rattle.noc_theory.specs.Network.{Setup, State, arrival_in}
+use Rattle.noc_theory.specs.Progress.{budget}
 
 -- the last due time of some packets: none is due later, and one is due then; 0 where there are none
 pub record IsLastDue (packets : List Packet) (last : ℕ) : Type 0 where

@@ -2,11 +2,11 @@
 use Rattle.std.specs.Prelude.{◌≡◌, ℕ, ◌≤◌, vec_len}
 use Rattle.noc_topo.specs.Shape.{nodes}
 use Rattle.noc_topo.specs.Words.{tabulate}
-use Rattle.noc_model.specs.declared.limits.TheConstants.{CYCLE_LIMIT}
-use Rattle.noc_model.specs.Good.{IsGoodSetup}
-use Rattle.noc_model.specs.Halves.{beat_at}
-use Rattle.noc_model.specs.Lockstep.{beats_in, view_at}
-use Rattle.noc_model.specs.Network.{Setup, Run, state_at}
+use Rattle.noc_theory.specs.declared.limits.TheConstants.{CYCLE_LIMIT}
+use Rattle.noc_theory.specs.Good.{IsGoodSetup}
+use Rattle.noc_theory.specs.Halves.{beat_at}
+use Rattle.noc_theory.specs.Lockstep.{beats_in, view_at}
+use Rattle.noc_theory.specs.Network.{Setup, Run, state_at}
 use Rattle.noc_net.specs.declared.parts.Parts.{Parts}
 
 abbrev pub setup_in : Parts → Setup

@@ -7,8 +7,8 @@ use Rattle.noc_router.specs.View.{View, idle_beat}
 use Rattle.noc_net.specs.declared.room.Room.{Room}
 use Rattle.noc_net.specs.declared.wire.Wire.{Wire}
 use Rattle.noc_net.specs.declared.wire.Wire.TheVariants.{Empty, One, Two}
-use Rattle.noc_model.specs.Core.{Post, is_linked, none_has}
-use Rattle.noc_model.specs.Network.{Setup}
+use Rattle.noc_theory.specs.Core.{Post, is_linked, none_has}
+use Rattle.noc_theory.specs.Network.{Setup}
 
 -- the beats on a wire, the oldest first
 abbrev pub wire_beats : Wire → List Beat

@@ -2,11 +2,11 @@
 use Rattle.std.specs.Prelude.{◌≡◌, vec_len}
 use Rattle.noc_topo.specs.Shape.{local_port, nodes}
 use Rattle.noc_net.specs.declared.event_core.Core.TheInside.{Inside}
-use Rattle.noc_model.specs.declared.limits.TheConstants.{CYCLE_LIMIT}
+use Rattle.noc_theory.specs.declared.limits.TheConstants.{CYCLE_LIMIT}
 use Rattle.noc_net.specs.declared.parts.Parts.{Parts}
-use Rattle.noc_model.specs.Core.{CoreState}
-use Rattle.noc_model.specs.Good.{IsGoodSetup}
-use Rattle.noc_model.specs.InStep.{AreWithin, IsInStep}
+use Rattle.noc_theory.specs.Core.{CoreState}
+use Rattle.noc_theory.specs.Good.{IsGoodSetup}
+use Rattle.noc_theory.specs.InStep.{AreWithin, IsInStep}
 use Rattle.noc_net.specs.Parts.{setup_in}
 use Rattle.noc_net.specs.Room.{posts_of}
 

@@ -6,10 +6,10 @@ ghost use Rattle.noc_topo.specs.Words.{map_indexed};
 ghost use Rattle.noc_topo.specs.Shape.{nodes as nodes_of, neighbour as neighbour_of};
 ghost use Rattle.noc_router.specs.declared.verdict.Findings.TheVariants.{Leave, Record};
 ghost use Rattle.noc_router.specs.View.{IsRelationOf, idle_beat};
-ghost use Rattle.noc_model.specs.Halves.{ArePlaced, IsLinked, HasItsBeats, IsSilent, beat_at, view_after_decide, view_after_puts, incoming, wire_after_puts, sent_on};
-ghost use Rattle.noc_model.specs.Lockstep.{beat_from, beats_at};
-ghost use Rattle.noc_model.specs.Network.{Setup};
-ghost use Rattle.noc_model.specs.Unseen.{AreInStep};
+ghost use Rattle.noc_theory.specs.Halves.{ArePlaced, IsLinked, HasItsBeats, IsSilent, beat_at, view_after_decide, view_after_puts, incoming, wire_after_puts, sent_on};
+ghost use Rattle.noc_theory.specs.Lockstep.{beat_from, beats_at};
+ghost use Rattle.noc_theory.specs.Network.{Setup};
+ghost use Rattle.noc_theory.specs.Unseen.{AreInStep};
 
 use crate::jump::jump;
 use crate::takes::take_beats;

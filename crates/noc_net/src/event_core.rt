@@ -5,19 +5,19 @@ ghost use Rattle.std.specs.List.{list_all, slice_get};
 ghost use Rattle.noc_topo.specs.Shape.{local_port, neighbour as neighbour_of, nodes as nodes_of, ports as ports_of};
 ghost use Rattle.noc_topo.specs.Words.{map_indexed};
 ghost use Rattle.noc_router.specs.View.{IsRelationOf, View};
-ghost use Rattle.noc_model.specs.Core.{after_event, are_between, deciding, happens, is_linked, is_ready, opening_core, post_at, steps_at, view_of_post, wire_at};
-ghost use Rattle.noc_model.specs.Halves.{beat_at};
-ghost use Rattle.noc_model.specs.Network.{Setup};
+ghost use Rattle.noc_theory.specs.Core.{after_event, are_between, deciding, happens, is_linked, is_ready, opening_core, post_at, steps_at, view_of_post, wire_at};
+ghost use Rattle.noc_theory.specs.Halves.{beat_at};
+ghost use Rattle.noc_theory.specs.Network.{Setup};
 ghost use Rattle.noc_net.specs.declared.room.Room.{Room};
 ghost use Rattle.noc_net.specs.Room.{front_of, opened_post, post_of, rests_at, wires_in};
 
 use crate::network::Network;
 use crate::parts::Parts;
 use crate::room::Room;
-use noc_model::{CYCLE_LIMIT, Event, NotReady};
 use noc_packet::Beat;
 use noc_route::Relation;
 use noc_router::{Finding, Plan, Router};
+use noc_theory::{CYCLE_LIMIT, Event, NotReady};
 use noc_topo::LINKS;
 use std::marker::Model;
 
@@ -31,7 +31,7 @@ pub struct Core {
 }
 
 impl Model for Core {
-    ghost use Rattle.noc_model.specs.Core.{CoreState};
+    ghost use Rattle.noc_theory.specs.Core.{CoreState};
 
     ghost Value = { CoreState };
 

@@ -18,7 +18,7 @@ pub use event_core::Core;
 pub use fault::NetFault;
 pub use limit::MAX_LIMIT;
 pub use network::{MAX_ROW_CHANNELS, Network};
-pub use noc_model::{CYCLE_LIMIT, Event, NotReady};
+pub use noc_theory::{CYCLE_LIMIT, Event, NotReady};
 pub use parts::Parts;
 pub use room::Room;
 pub use takes::take_beats;

@@ -2,9 +2,9 @@
 
 ghost use Rattle.std.specs.Prelude.{◌≡◌, ℕ, ◌+◌, ◌*◌, ◌<◌, ◌≤◌, length, true};
 ghost use Rattle.noc_route.specs.Ranks.{IsRankedBy, Ranking};
-ghost use Rattle.noc_model.specs.Good.{IsGoodSetup};
-ghost use Rattle.noc_model.specs.Network.{packet_at, state_at};
-ghost use Rattle.noc_model.specs.Progress.{budget, hops};
+ghost use Rattle.noc_theory.specs.Good.{IsGoodSetup};
+ghost use Rattle.noc_theory.specs.Network.{packet_at, state_at};
+ghost use Rattle.noc_theory.specs.Progress.{budget, hops};
 ghost use Rattle.noc_net.specs.Limit.{are_all_out, IsLastDue, IsLimit};
 
 use crate::network::Network;

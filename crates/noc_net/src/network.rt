@@ -14,11 +14,11 @@ ghost use Rattle.noc_router.specs.View.{opening_view};
 ghost use Rattle.noc_net.specs.declared.fault.NetFault.TheVariants.{Memory as memory_fault};
 ghost use Rattle.noc_net.specs.declared.fault.NetFault.{NetFault as NetFaultValue};
 ghost use Rattle.noc_net.specs.Faults.{IsSendable, fault_of};
-ghost use Rattle.noc_model.specs.Halves.{IsSilent};
-ghost use Rattle.noc_model.specs.Lockstep.{counts_before, ends_of, findings_before, starts_of};
-ghost use Rattle.noc_model.specs.Good.{IsGoodSetup};
-ghost use Rattle.noc_model.specs.Network.{arrival_in, packet_at, state_at};
-ghost use Rattle.noc_model.specs.Progress.{is_pending, is_stuck, last_event_before};
+ghost use Rattle.noc_theory.specs.Halves.{IsSilent};
+ghost use Rattle.noc_theory.specs.Lockstep.{counts_before, ends_of, findings_before, starts_of};
+ghost use Rattle.noc_theory.specs.Good.{IsGoodSetup};
+ghost use Rattle.noc_theory.specs.Network.{arrival_in, packet_at, state_at};
+ghost use Rattle.noc_theory.specs.Progress.{is_pending, is_stuck, last_event_before};
 ghost use Rattle.noc_net.specs.Parts.{AreParts, run_in};
 ghost use Rattle.noc_net.specs.Limit.{IsLimit};
 
@@ -26,11 +26,11 @@ use crate::fault::NetFault;
 use crate::packets::{ends_at, first_fault, starts_at};
 use crate::parts::Parts;
 use crate::room::Room;
-use noc_model::CYCLE_LIMIT;
 use noc_packet::{Beat, MAX_BUFFER, MAX_PACKETS, Memory, Packet};
 use noc_route::Relation;
 use noc_router::{Finding, Plan, Router, VERDICTS};
 use noc_rows::Rows;
+use noc_theory::CYCLE_LIMIT;
 use noc_topo::LINKS;
 use std::alloc::Global;
 use std::marker::Model;
@@ -51,7 +51,7 @@ pub struct Network {
 }
 
 impl Model for Network {
-    ghost use Rattle.noc_model.specs.Network.{Run};
+    ghost use Rattle.noc_theory.specs.Network.{Run};
 
     ghost Value = { Run };
 
@@ -244,7 +244,7 @@ impl Network {
     }
 
     /// In how many of the cycles each verdict was that of an input channel, in the order of `Verdict`. The ten counts add up to
-    /// the cycles (`noc_model::counts_add_up`).
+    /// the cycles (`noc_theory::counts_add_up`).
     pub fn counts(&self, router: usize, port: usize, vc: usize) -> [u64; VERDICTS]
         requires router { router < nodes_of self.now.net.relation.grid }
         requires port { port < ports_of self.now.net.relation.grid }

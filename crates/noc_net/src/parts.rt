@@ -2,18 +2,18 @@
 
 ghost use Rattle.std.specs.Prelude.{◌≡◌, ◌+◌, ◌*◌, ◌<◌, ◌≤◌, All, length};
 ghost use Rattle.noc_topo.specs.Shape.{nodes as nodes_of, ports as ports_of};
-ghost use Rattle.noc_model.specs.Lockstep.{counts_before, findings_before};
-ghost use Rattle.noc_model.specs.Network.{arrival_in, state_at};
-ghost use Rattle.noc_model.specs.Progress.{last_event_before};
+ghost use Rattle.noc_theory.specs.Lockstep.{counts_before, findings_before};
+ghost use Rattle.noc_theory.specs.Network.{arrival_in, state_at};
+ghost use Rattle.noc_theory.specs.Progress.{last_event_before};
 ghost use Rattle.noc_net.specs.Parts.{AreParts, run_in, setup_in};
 ghost use Rattle.noc_net.specs.Latest.{later_of, latest_of};
 
 use crate::cycles::run_all;
 use crate::room::Room;
-use noc_model::CYCLE_LIMIT;
 use noc_packet::{Beat, Packet};
 use noc_route::Relation;
 use noc_router::{Finding, Plan, Router, VERDICTS};
+use noc_theory::CYCLE_LIMIT;
 use noc_topo::LINKS;
 
 /// What a network is made of, so that others can run its routers (`Network::into_parts`, `Network::from_parts`).

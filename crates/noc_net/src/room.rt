@@ -3,14 +3,14 @@
 ghost use Rattle.std.specs.Prelude.{◌≡◌, ℕ, ◌<◌, ◌≤◌, ◌&&◌, ◌++◌, ◌∷◌, [], None, false, is_none, is_some, length, map, replicate, slice_index_or, take, true, unwrap_or};
 ghost use Rattle.noc_topo.specs.Shape.{local_port, neighbour as neighbour_of};
 ghost use Rattle.noc_router.specs.View.{View, idle_beat, local_step};
-ghost use Rattle.noc_model.specs.Core.{all_have, post_after_last_put, is_between, may_decide, may_put, may_take, none_has, putting, receiving, taking, wire_of};
-ghost use Rattle.noc_model.specs.Network.{Setup};
+ghost use Rattle.noc_theory.specs.Core.{all_have, post_after_last_put, is_between, may_decide, may_put, may_take, none_has, putting, receiving, taking, wire_of};
+ghost use Rattle.noc_theory.specs.Network.{Setup};
 ghost use Rattle.noc_net.specs.Room.{front_of, opened_post, post_of, rests_at, unput_for, wires_in};
 
 use crate::wire::Wire;
-use noc_model::CYCLE_LIMIT;
 use noc_packet::Beat;
 use noc_router::Router;
+use noc_theory::CYCLE_LIMIT;
 use noc_topo::LINKS;
 
 /// The storage of a core for one router: the wires that arrive there, and what the router has done of its cycle.

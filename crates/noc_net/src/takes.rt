@@ -3,7 +3,7 @@
 ghost use Rattle.std.specs.Prelude.{◌≡◌};
 ghost use Rattle.noc_router.specs.Links.{AreLoaded, is_idle_beat};
 ghost use Rattle.noc_router.specs.View.{IsRelationOf, view_after_takes};
-ghost use Rattle.noc_model.specs.Halves.{IsLinked, IsSilent, incoming};
+ghost use Rattle.noc_theory.specs.Halves.{IsLinked, IsSilent, incoming};
 
 use noc_packet::{Beat, ChannelSet};
 use noc_route::Relation;

@@ -1,7 +1,7 @@
 //! Runs in which time jumps, with the counts that are worked out by hand.
 
 ghost use Rattle.std.specs.Prelude.{◌≡◌, ◌+◌, ◌<◌, ◌≤◌, IfOk};
-ghost use Rattle.noc_model.specs.declared.limits.TheConstants.{CYCLE_LIMIT as cycle_limit};
+ghost use Rattle.noc_theory.specs.declared.limits.TheConstants.{CYCLE_LIMIT as cycle_limit};
 ghost use Rattle.noc_topo.specs.Shape.{nodes as nodes_of, ports as ports_of};
 
 use noc_net::Network;

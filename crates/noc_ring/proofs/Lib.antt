@@ -1,5 +1,5 @@
 pub mod HeldLemmas
 pub mod PlaceLemmas
 pub mod RingLemmas
-pub mod Rows
-pub mod Sends
+pub mod BankRows
+pub mod SendLemmas

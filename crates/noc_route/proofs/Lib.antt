@@ -18,4 +18,4 @@ pub mod RisingLemmas
 pub mod PinnedLemmas
 pub mod OneFaultLemmas
 pub mod AlikeLemmas
-mod Examples
+mod RuleRows

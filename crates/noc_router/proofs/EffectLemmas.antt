@@ -25,7 +25,7 @@ use Rattle.noc_router.specs.declared.verdict.Verdict.TheVariants.{Empty, Routed,
 use Rattle.noc_router.specs.declared.verdict.Finding.{Finding}
 use Rattle.noc_router.proofs.FindLemmas.{find-none, find-same}
 use Rattle.noc_router.proofs.TallyLemmas.{verdict-at}
-use Rattle.noc_router.proofs.PlanFacts.{Lists, verdict_in, holds_flit, decided-is, granted-asks, is-granted, mover-is, Moves, moves-is, claim-waits, claim-unrouted, verdict-granted, verdict-routed}
+use Rattle.noc_router.proofs.PlanLemmas.{Lists, verdict_in, holds_flit, decided-is, granted-asks, is-granted, mover-is, Moves, moves-is, claim-waits, claim-unrouted, verdict-granted, verdict-routed}
 use Rattle.noc_router.proofs.SettleLemmas.{IsSettling, IsWhole, arrival-is, arrived_by, buffer-here, credit_by, flit_by, input-here, left, left-here, left_verdict, mover_to-from, mover_to-is, not_both, port_below, sink_ends, sink_misfits, step-granted, step-plain, step-routed, flit-first, quiet-moved}
 use Rattle.noc_router.proofs.MoveLemmas.{moved-parts, site-kept, step-moved}
 

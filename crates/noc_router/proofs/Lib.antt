@@ -7,7 +7,7 @@ pub mod FilledLemmas
 pub mod FindLemmas
 pub mod InjectLemmas
 pub mod LinkLemmas
-pub mod Members
+pub mod MemberLemmas
 pub mod MoveLemmas
 pub mod OfferLemmas
 pub mod OpeningLemmas
@@ -15,7 +15,7 @@ pub mod OutcomeLemmas
 pub mod PassedLemmas
 pub mod PickedLemmas
 pub mod PlaceLemmas
-pub mod PlanFacts
+pub mod PlanLemmas
 pub mod PlannedLemmas
 pub mod PutLemmas
 pub mod QuietLemmas

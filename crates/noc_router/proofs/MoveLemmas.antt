@@ -17,7 +17,7 @@ use Rattle.noc_router.specs.View.{View, Decisions, size_of, view_buffer, view_in
 use Rattle.noc_router.specs.declared.verdict.Verdict.{Verdict}
 use Rattle.noc_router.specs.declared.verdict.Verdict.TheVariants.{Empty, Granted, Moved}
 use Rattle.noc_router.proofs.FindLemmas.{find-same, find-at}
-use Rattle.noc_router.proofs.PlanFacts.{Lists, verdict_in, decided-is, mover-is, Moves, one_pick}
+use Rattle.noc_router.proofs.PlanLemmas.{Lists, verdict_in, decided-is, mover-is, Moves, one_pick}
 use Rattle.noc_router.proofs.SettleLemmas.{IsSettling, IsWhole, arrival-is, arrived_by, below-step, buffer-here, buffers-step, credit_by, flit_by, input-here, inputs-step, left, left-gone, left-here, left-kept, left_verdict, mover_to-from, mover_to-is, not_both, not_granted, output_by, outputs-step, port_below, sink_ends, sink_misfits, verdict-gone, verdict-kept, is_moved-true}
 
 -- ---- a flit moves

@@ -21,7 +21,7 @@ use Rattle.noc_router.specs.declared.verdict.Verdict.{Verdict}
 use Rattle.noc_router.specs.declared.verdict.Verdict.TheVariants.{Empty, Granted, Moved, LostChannel, LostInput, LostSwitch}
 use Rattle.noc_router.specs.declared.verdict.Finding.{Finding}
 use Rattle.noc_router.proofs.PlannedLemmas.{outcome-lengths}
-use Rattle.noc_router.proofs.PlanFacts.{asks-at, decided-is, holds_flit, Lists, lists_of_round}
+use Rattle.noc_router.proofs.PlanLemmas.{asks-at, decided-is, holds_flit, Lists, lists_of_round}
 use Rattle.noc_router.proofs.SettleLemmas.{IsSettling, IsWhole}
 use Rattle.noc_router.proofs.EffectLemmas.{can_settle, settling_first, settling_more}
 use Rattle.noc_router.proofs.TallyLemmas.{verdict-at}

@@ -26,7 +26,7 @@ use Rattle.noc_router.specs.Verdict.{ArbiterStates, arbiters_after, is_event, is
 use Rattle.noc_router.specs.View.{Decisions, PlanContents, Site, View, decided_verdict, first_flit, mover, size_of, view_input, view_stands}
 use Rattle.noc_router.proofs.FindLemmas.{find-at, find-none, find-same}
 use Rattle.noc_router.proofs.OutcomeLemmas.{decided-outcome, lists_of}
-use Rattle.noc_router.proofs.PlanFacts.{Lists, Moves, decided-is, mover-is, moves-is, one_pick, verdict_in}
+use Rattle.noc_router.proofs.PlanLemmas.{Lists, Moves, decided-is, mover-is, moves-is, one_pick, verdict_in}
 use Rattle.noc_router.proofs.SettleLemmas.{IsSettling, IsWhole, buffer-here, credit_by, credit-kept, input-here, left, left-gone, left-kept, left_verdict, not_mover, port_below, flit-first, is_moved-true}
 use Rattle.noc_router.proofs.MoveLemmas.{credit-elsewhere, credit-from, flit-elsewhere, moved-parts, site-kept}
 use Rattle.noc_router.proofs.EffectLemmas.{mover_left, no_credit, settling_last}

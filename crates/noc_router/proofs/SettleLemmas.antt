@@ -23,7 +23,7 @@ use Rattle.noc_router.specs.View.{View, Decisions, size_of, view_claim, view_buf
 use Rattle.noc_router.specs.declared.verdict.Verdict.{Verdict}
 use Rattle.noc_router.specs.declared.verdict.Verdict.TheVariants.{Empty, Routed, Granted, Moved, NoFlit, NoIdleChannel, LostChannel, NoCredit, LostInput, LostSwitch}
 use Rattle.noc_router.proofs.FindLemmas.{find-same}
-use Rattle.noc_router.proofs.PlanFacts.{Lists, verdict_in, decided-is, granted-asks, is-granted, mover-is, claim-waits, claim-holds, holds_flit}
+use Rattle.noc_router.proofs.PlanLemmas.{Lists, verdict_in, decided-is, granted-asks, is-granted, mover-is, claim-waits, claim-holds, holds_flit}
 
 -- ---- the sink
 -- the arrivals and the misfits after a packet has arrived

@@ -26,7 +26,7 @@ use Rattle.noc_router.specs.declared.verdict.Verdict.{Verdict}
 use Rattle.noc_router.specs.declared.verdict.Verdict.TheVariants.{Empty, Granted, Moved}
 use Rattle.noc_router.specs.declared.verdict.Finding.{Finding}
 use Rattle.noc_router.proofs.FindLemmas.{find-none}
-use Rattle.noc_router.proofs.PlanFacts.{Lists, decided-is, granted-asks, is-granted, lists_of_round, mover-is, verdict_in}
+use Rattle.noc_router.proofs.PlanLemmas.{Lists, decided-is, granted-asks, is-granted, lists_of_round, mover-is, verdict_in}
 use Rattle.noc_router.proofs.SiteLemmas.{committed-parts}
 use Rattle.noc_router.proofs.StandLemmas.{map-tabulate}
 use Rattle.noc_router.proofs.TallyLemmas.{verdict-at}

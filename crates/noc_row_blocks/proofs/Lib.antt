@@ -6,11 +6,11 @@ pub mod TailLemmas
 pub mod PushLemmas
 pub mod ComposeLemmas
 pub mod RouteLemmas
-pub mod CarryLaws
+pub mod CarryLemmas
 pub mod StepLemmas
 pub mod SendLemmas
 pub mod NotedLemmas
 pub mod MovedLemmas
 pub mod PortLemmas
-pub mod ReleaseLaws
-pub mod ChosenIn
+pub mod ReleaseLemmas
+pub mod ChosenInLemmas

@@ -13,7 +13,7 @@ use Rattle.noc_row_words.specs.Wires.{room_of}
 use Rattle.noc_row_words.specs.declared.marks.Marks.{Marks}
 use Rattle.noc_row_words.specs.declared.wires.Wires.{Wires}
 use Rattle.noc_row_words.proofs.BitLemmas.{and_fits, least_is, lowest_members, zero_members}
-use Rattle.noc_row_blocks.proofs.CarryLaws.{gone-same}
+use Rattle.noc_row_blocks.proofs.CarryLemmas.{gone-same}
 use Rattle.noc_row_blocks.proofs.LaneLemmas.{least-zeros}
 use Rattle.noc_row_blocks.proofs.StepLemmas.{moved-same}
 use Rattle.noc_row_blocks.proofs.UnionLemmas.{some-same}

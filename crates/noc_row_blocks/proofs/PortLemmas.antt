@@ -13,7 +13,7 @@ use Rattle.noc_row_words.specs.declared.room.Room.{Room}
 use Rattle.noc_row_words.specs.declared.wires.Inbox.{Inbox}
 use Rattle.noc_row_words.specs.declared.wires.Tails.{Tails}
 use Rattle.noc_row_words.specs.declared.wires.Wires.{Wires}
-use Rattle.noc_row_blocks.proofs.CarryLaws.{gone-none}
+use Rattle.noc_row_blocks.proofs.CarryLemmas.{gone-none}
 use Rattle.noc_row_blocks.proofs.StepLemmas.{moved-same}
 use Rattle.noc_row_blocks.proofs.TailLemmas.{some-more}
 use Rattle.noc_row_blocks.proofs.UnionLemmas.{some-none, union-members}

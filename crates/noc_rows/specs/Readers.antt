@@ -2,7 +2,7 @@
 use Rattle.std.specs.Prelude.{◌≡◌, ◌⊎◌, ℕ, ◌<◌, ◌≤◌, Bool, List, Some, is_some, length, slice_get}
 use Rattle.std.specs.List.{list_all}
 use Rattle.noc_topo.specs.Words.{below}
-use Rattle.noc_model.specs.Network.{Setup, State, arrival_in}
+use Rattle.noc_theory.specs.Network.{Setup, State, arrival_in}
 use Rattle.noc_row_words.specs.Rows.{word}
 use Rattle.noc_row_words.specs.declared.block.Block.{Block}
 use Rattle.noc_rows.specs.declared.rows.Rows.{Rows}

@@ -1,8 +1,8 @@
 -- What rows are as a whole: they show the state of a network at a count of cycles, block by block.
 use Rattle.std.specs.Prelude.{◌≡◌, ◌⊎◌, ℕ, ◌+◌, ◌*◌, ◌/◌, ◌<◌, ◌≤◌, false, not, List, length, Option, Some, None, min, nat_eq, slice_get, slice_index, slice_index_or}
 use Rattle.noc_topo.specs.Shape.{nodes}
-use Rattle.noc_model.specs.Lockstep.{beats_at, beats_in, findings_before, view_at}
-use Rattle.noc_model.specs.Network.{Setup, arrival_in, state_at}
+use Rattle.noc_theory.specs.Lockstep.{beats_at, beats_in, findings_before, view_at}
+use Rattle.noc_theory.specs.Network.{Setup, arrival_in, state_at}
 use Rattle.noc_rows.specs.Blank.{IsBlank}
 use Rattle.noc_row_words.specs.Column.{place_of}
 use Rattle.noc_rows.specs.Found.{finding_at}

@@ -23,7 +23,7 @@ use std::alloc::Global;
 
 /// A network whose routers are in rows.
 ///
-/// It is proved to be the network of `noc_model` at its count of cycles (`IsRows` of `specs/Whole.antt`): rows that
+/// It is proved to be the network of `noc_theory` at its count of cycles (`IsRows` of `specs/Whole.antt`): rows that
 /// show a network at count n show it at count n + cycles once they have run, and the readers answer what the network's
 /// own readers answer.
 #[derive(Drop)]
@@ -40,16 +40,16 @@ pub struct Rows {
 
 impl Rows {
     ghost use Rattle.std.specs.Prelude.{◌*◌, ◌&&◌, IfOk, IfSome, is_some, nat_le};
-    ghost use Rattle.noc_model.specs.Good.{IsGoodSetup};
-    ghost use Rattle.noc_model.specs.Lockstep.{counts_before, findings_before};
-    ghost use Rattle.noc_model.specs.Network.{Setup, arrival_in, state_at};
-    ghost use Rattle.noc_model.specs.Progress.{last_event_before};
+    ghost use Rattle.noc_theory.specs.Good.{IsGoodSetup};
+    ghost use Rattle.noc_theory.specs.Lockstep.{counts_before, findings_before};
+    ghost use Rattle.noc_theory.specs.Network.{Setup, arrival_in, state_at};
+    ghost use Rattle.noc_theory.specs.Progress.{last_event_before};
     ghost use Rattle.noc_topo.specs.Shape.{nodes as nodes_of, ports as ports_of};
     ghost use Rattle.noc_rows.specs.Readers.{are_all_out};
     ghost use Rattle.noc_rows.specs.Steps.{HasArrivedRows, HasConcludedRows, HasDecidedRows};
     ghost use Rattle.noc_row_words.specs.Still.{HaveCounted};
     ghost use Rattle.noc_rows.specs.Whole.{HasPlaces, IsRows, IsWoken, ShowsNetwork};
-    ghost use Rattle.noc_model.specs.declared.limits.TheConstants.{CYCLE_LIMIT};
+    ghost use Rattle.noc_theory.specs.declared.limits.TheConstants.{CYCLE_LIMIT};
 
     /// The network of a relation, `places` (1 to 16 flits) in each buffer and these packets, before its first cycle.
     /// None where a router has more than 31 channels, or there are more places.

@@ -3,7 +3,7 @@ use Rattle.std.proofs.Common.{◌≡◌, ℕ, ◌≤◌, List, [], map, length, 
 use Rattle.noc_topo.specs.Shape.{IsGrid, nodes}
 use Rattle.noc_packet.specs.declared.packet.Beat.{Beat}
 use Rattle.noc_router.specs.View.{View}
-use Rattle.noc_model.proofs.RunLemmas.{count_views, linked_wires, past_wires}
+use Rattle.noc_theory.proofs.runs.RunLemmas.{count_views, linked_wires, past_wires}
 use Rattle.noc_net.specs.Halves.{HasItsBeats, beat_at}
 use Rattle.noc_net.specs.Lockstep.{lockstep_at}
 use Rattle.noc_net.specs.Network.{Setup}

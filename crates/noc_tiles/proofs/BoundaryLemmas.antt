@@ -10,7 +10,7 @@ use Rattle.noc_route.specs.Routes.{Routes}
 use Rattle.noc_router.specs.View.{View, idle_beat}
 use Rattle.noc_net.specs.Halves.{beat_at}
 use Rattle.noc_net.specs.Network.{Setup}
-use Rattle.noc_model.proofs.RunLemmas.{count_views}
+use Rattle.noc_theory.proofs.runs.RunLemmas.{count_views}
 use Rattle.noc_tiles.specs.Ends.{End}
 use Rattle.noc_tiles.specs.TileStep.{Layout, TileState, is_own, is_from, is_inside, arrival_places, ends_after_rows, tile_after_cycle, after, beats_put}
 use Rattle.noc_tiles.specs.Tiles.{IsReady, IsSameTile, AllEnded, Gating, Runs, inlets, outlets, layout_of, state_of}
@@ -20,7 +20,7 @@ use Rattle.noc_tiles.proofs.FlatLemmas.{offset, flat-at, offset-lt, apart, Found
 use Rattle.noc_tiles.proofs.RunLemmas.{length-fed_all}
 use Rattle.noc_tiles.proofs.SentLemmas.{own-true, own-false, own-within}
 use Rattle.noc_tiles.specs.Together.{Trace, beat_carried, in_flight}
-use Rattle.noc_tiles.proofs.ClosingLaw.{steps-count, views-after}
+use Rattle.noc_tiles.proofs.ClosingLemmas.{steps-count, views-after}
 
 -- ---- the runs of the tiles, one by one
 

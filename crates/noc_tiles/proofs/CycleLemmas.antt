@@ -15,8 +15,8 @@ use Rattle.noc_router.specs.View.{Site, View, IsRelationOf, view_after_takes, id
 use Rattle.noc_router.proofs.SiteLemmas.{all_taken-site}
 use Rattle.noc_net.specs.Halves.{HasItsBeats, beat_at, view_after_decide, view_after_puts, incoming}
 use Rattle.noc_net.specs.Unseen.{AreSameViews, without_findings}
-use Rattle.noc_model.proofs.RunLemmas.{map_map_indexed}
-use Rattle.noc_model.proofs.StepLemmas.{IsRelationOf-same_site, local_step-view, local_step-beats}
+use Rattle.noc_theory.proofs.runs.RunLemmas.{map_map_indexed}
+use Rattle.noc_theory.proofs.runs.StepLemmas.{IsRelationOf-same_site, local_step-view, local_step-beats}
 use Rattle.noc_tiles.specs.Inner.{AreInner, CanFinish, to_send}
 use Rattle.noc_tiles.specs.Phases.{IsCleared}
 use Rattle.noc_tiles.specs.TileStep.{Layout, TileState, Beats, with_beat, with_row, is_own, is_from, beat_among, beat_of, beats_arriving, steps, sent_of, out_at, after_steps, put_by}

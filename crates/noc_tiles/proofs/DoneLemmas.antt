@@ -6,7 +6,7 @@ use Rattle.std.proofs.lemmas.List.{length-map, with_items_is}
 use Rattle.noc_topo.specs.Shape.{nodes}
 use Rattle.noc_packet.specs.declared.packet.Beat.{Beat}
 use Rattle.noc_net.specs.Halves.{beat_at}
-use Rattle.noc_model.specs.declared.limits.TheConstants.{CYCLE_LIMIT}
+use Rattle.noc_theory.specs.declared.limits.TheConstants.{CYCLE_LIMIT}
 use Rattle.noc_net.specs.Network.{Setup}
 use Rattle.noc_net.specs.Parts.{AreParts}
 use Rattle.noc_tiles.specs.Emptying.{CanEmpty, Empties}

@@ -11,7 +11,7 @@ use Rattle.noc_router.specs.View.{idle_beat}
 use Rattle.noc_net.specs.Halves.{beat_at}
 use Rattle.noc_net.specs.Lockstep.{lockstep_at}
 use Rattle.noc_net.specs.Network.{Setup}
-use Rattle.noc_model.proofs.RunLemmas.{count_views, past_wires}
+use Rattle.noc_theory.proofs.runs.RunLemmas.{count_views, past_wires}
 use Rattle.noc_tiles.specs.Ends.{End}
 use Rattle.noc_tiles.specs.TileStep.{TileState, arrival_places, after, beats_put, put_in}
 use Rattle.noc_tiles.specs.Tiles.{CanRun, AllCanRun, inlets, outlets, layout_of, state_of}
@@ -23,7 +23,7 @@ use Rattle.noc_tiles.proofs.SentLemmas.{past-rows}
 use Rattle.noc_tiles.proofs.EndsLemmas.{some_item}
 use Rattle.noc_tiles.proofs.BoundaryLemmas.{AllRuns, RunsBy, received_of, runs_at, same_count, offset-same, flat-same, offset-two, flat-two, Moved, inlet-at, outlet-at, length-inlets, length-outlets, vec-length, found-get, place-get, stream, stream-last, length-after, set_at, owner, far_end-flat, wire-of, Carries}
 use Rattle.noc_tiles.specs.Together.{Trace, TilesRan, Agrees, beat_carried, tile_at, in_flight}
-use Rattle.noc_tiles.proofs.ClosingLaw.{closing, together, carried-right}
+use Rattle.noc_tiles.proofs.ClosingLemmas.{closing, together, carried-right}
 
 module _ (net : Setup) (n k : ℕ) (I O : List (Option End)) (xs ys : List Tile) (W : IsPartition net n k I O xs) (r : AllRuns net.relation k xs ys) (d : Tile) where
   abbrev rows_at : ℕ → List (List Beat)

@@ -1,6 +1,6 @@
 pub mod BoundaryLemmas
 pub mod ClearLemmas
-pub mod ClosingLaw
+pub mod ClosingLemmas
 pub mod CycleLemmas
 pub mod DoneLemmas
 pub mod EdgeLemmas
@@ -12,7 +12,7 @@ pub mod FlatLemmas
 pub mod GatherLemmas
 pub mod InnerLemmas
 pub mod PartitionLemmas
-pub mod PartitionLoop
+pub mod PartitionLoopLemmas
 pub mod PartsLemmas
 pub mod PhaseLemmas
 pub mod RingLemmas

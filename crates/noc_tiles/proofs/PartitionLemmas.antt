@@ -9,7 +9,7 @@ use Rattle.noc_router.specs.View.{View, idle_beat}
 use Rattle.noc_net.specs.Halves.{HasItsBeats, beat_at}
 use Rattle.noc_net.specs.Lockstep.{lockstep_at}
 use Rattle.noc_net.specs.Network.{Setup}
-use Rattle.noc_model.proofs.RunLemmas.{count_views, linked_wires}
+use Rattle.noc_theory.proofs.runs.RunLemmas.{count_views, linked_wires}
 use Rattle.noc_tiles.specs.Ends.{End}
 use Rattle.noc_tiles.specs.TileStep.{is_own, is_from, is_inside, arrival_places}
 use Rattle.noc_tiles.specs.Tiles.{PartsFit}

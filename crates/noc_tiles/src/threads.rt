@@ -1,7 +1,7 @@
 //! The tiles of a network, run in threads and put together again.
 
 ghost use Rattle.std.specs.Prelude.{ℕ, List, ◌≡◌, ◌+◌, ◌<◌, ◌≤◌, ◌++◌, ◌↔◌, get_or, map, length, drop, take, IfOk, IfErr, false, OnOk, IsTrue, vec_len, Option};
-ghost use Rattle.noc_model.specs.declared.limits.TheConstants.{CYCLE_LIMIT as cycle_limit};
+ghost use Rattle.noc_theory.specs.declared.limits.TheConstants.{CYCLE_LIMIT as cycle_limit};
 ghost use Rattle.noc_tiles.specs.Ends.{End, inlet, outlet};
 ghost use Rattle.noc_tiles.specs.declared.fault.RunFault.TheVariants.{LostWorker};
 ghost use Rattle.noc_tiles.specs.Tiles.{inlets, outlets};

@@ -1,7 +1,7 @@
 //! A network run by workers.
 
 ghost use Rattle.std.specs.Prelude.{ℕ, List, ◌≡◌, ◌+◌, ◌<◌, ◌≤◌, true, false, IfErr, IfOk, IsOk};
-ghost use Rattle.noc_model.specs.declared.limits.TheConstants.{CYCLE_LIMIT as cycle_limit};
+ghost use Rattle.noc_theory.specs.declared.limits.TheConstants.{CYCLE_LIMIT as cycle_limit};
 ghost use Rattle.noc_tiles.specs.declared.fault.RunFault.TheVariants.{LostWorker};
 ghost use Rattle.noc_tiles.specs.Partition.{AreDone, IsGathered, IsToCut};
 ghost use Rattle.noc_tiles.specs.declared.tile.Tile.{Tile as tile_value};

@@ -2,4 +2,4 @@ pub mod ShapeLemmas
 pub mod LinkLemmas
 pub mod WordLemmas
 pub mod DistanceLemmas
-mod Examples
+mod ShapeRows

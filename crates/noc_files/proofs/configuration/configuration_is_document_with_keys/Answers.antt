@@ -1,4 +1,4 @@
-use Rattle.noc_files.proofs.ConfigurationLaws.{configuration_is, is_configuration}
+use Rattle.noc_files.proofs.ConfigurationLemmas.{configuration_is, is_configuration}
 use Rattle.noc_files.proofs.configuration.configuration_is_document_with_keys.Goals as goal
 
 pub returns : goal.returns

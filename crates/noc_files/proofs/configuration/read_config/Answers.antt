@@ -1,7 +1,7 @@
 use Rattle.std.proofs.Common.{◌≡◌, ◌∙◌, sym, true, false}
 use Rattle.toml.specs.View.{table_view}
 use Rattle.noc_files.specs.Configuration.{all_known}
-use Rattle.noc_files.proofs.KeyFacts.{all_known_keys}
+use Rattle.noc_files.proofs.KeyLemmas.{all_known_keys}
 use Rattle.noc_files.proofs.configuration.read_config.Goals as goal
 
 pub returns-then-not-has_known_keys-clause-value : goal.returns-then-not-has_known_keys-clause-value

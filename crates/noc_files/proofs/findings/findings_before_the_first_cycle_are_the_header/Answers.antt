@@ -1,4 +1,4 @@
-use Rattle.noc_files.proofs.FindingFacts.{header_alone}
+use Rattle.noc_files.proofs.FindingLemmas.{header_alone}
 use Rattle.noc_files.proofs.findings.findings_before_the_first_cycle_are_the_header.Goals as goal
 
 pub returns : goal.returns

@@ -4,7 +4,7 @@ use Rattle.std.proofs.lemmas.Bool.{cases_eq}
 use Rattle.std.proofs.lemmas.List.{length-set}
 use Rattle.noc_topo.specs.Shape.{ports}
 use Rattle.noc_files.specs.Channels.{is_input}
-use Rattle.noc_files.proofs.ListFacts.{slice_get-set_other, slice_get-set_same}
+use Rattle.noc_files.proofs.ListLemmas.{slice_get-set_other, slice_get-set_same}
 use Rattle.noc_files.proofs.inputs.inputs_of.Goals as goal
 
 pub loop-place-preserved : goal.loop-place-preserved

@@ -1,5 +1,5 @@
 use Rattle.noc_files.specs.Latency.{packet_end, packet_start}
-use Rattle.noc_files.proofs.SinkFacts.{puts_then}
+use Rattle.noc_files.proofs.SinkLemmas.{puts_then}
 use Rattle.noc_files.proofs.latency.put_packet.Goals as goal
 
 pub returns-clause-puts : goal.returns-clause-puts

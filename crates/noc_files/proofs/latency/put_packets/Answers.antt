@@ -1,7 +1,7 @@
 use Rattle.std.proofs.Common.{◌<◌, Ok, arith, length}
 use Rattle.std.proofs.lemmas.Result.{err_from_is_err_and}
 use Rattle.noc_files.specs.Latency.{latency_line}
-use Rattle.noc_files.proofs.BelowFacts.{fault_at_number, puts_no_number, puts_number}
+use Rattle.noc_files.proofs.BelowLemmas.{fault_at_number, puts_no_number, puts_number}
 use Rattle.noc_files.proofs.latency.put_packets.Goals as goal
 
 pub loop-number-init : goal.loop-number-init

@@ -2,7 +2,7 @@ use Rattle.std.proofs.Common.{Err, flat_map, length}
 use Rattle.std.proofs.lemmas.Result.{err_from_is_err_and}
 use Rattle.noc_topo.specs.Words.{below}
 use Rattle.noc_files.specs.Latency.{latency_header, latency_line, latency_text}
-use Rattle.noc_files.proofs.SinkFacts.{puts_fault, puts_front, puts_then}
+use Rattle.noc_files.proofs.SinkLemmas.{puts_fault, puts_front, puts_then}
 use Rattle.noc_files.proofs.latency.write_latency.Goals as goal
 
 pub returns-in_err-written : goal.returns-in_err-written

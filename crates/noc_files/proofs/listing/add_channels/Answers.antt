@@ -1,5 +1,5 @@
 use Rattle.std.proofs.Common.{arith}
-use Rattle.noc_files.proofs.PageFacts.{added_more, added_none}
+use Rattle.noc_files.proofs.PageLemmas.{added_more, added_none}
 use Rattle.noc_files.proofs.listing.add_channels.Goals as goal
 
 pub loop-vc-init : goal.loop-vc-init

@@ -3,8 +3,8 @@ use Rattle.std.specs.Prelude.{if◌then◌else◌}
 use Rattle.noc_topo.specs.Shape.{Grid}
 use Rattle.noc_topo.specs.Words.{below}
 use Rattle.noc_files.specs.Channels.{is_input, lines_of_port, lines_of_router}
-use Rattle.noc_files.proofs.BelowFacts.{each_none}
-use Rattle.noc_files.proofs.PageFacts.{added_more, added_none}
+use Rattle.noc_files.proofs.BelowLemmas.{each_none}
+use Rattle.noc_files.proofs.PageLemmas.{added_more, added_none}
 use Rattle.noc_files.proofs.listing.fill.Goals as goal
 
 -- a router of whose channels nothing is said has no lines

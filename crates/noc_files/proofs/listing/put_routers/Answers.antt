@@ -2,7 +2,7 @@ use Rattle.std.proofs.Common.{ℕ, ◌<◌, Ok, ap, arith}
 use Rattle.std.proofs.lemmas.Result.{err_from_is_err_and}
 use Rattle.noc_topo.specs.Shape.{Grid, nodes}
 use Rattle.noc_files.specs.Channels.{lines_of_router}
-use Rattle.noc_files.proofs.BelowFacts.{fault_at_number, puts_no_number, puts_number}
+use Rattle.noc_files.proofs.BelowLemmas.{fault_at_number, puts_no_number, puts_number}
 use Rattle.noc_files.proofs.listing.put_routers.Goals as goal
 
 pub loop-router-init : goal.loop-router-init

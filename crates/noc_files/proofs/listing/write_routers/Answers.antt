@@ -2,7 +2,7 @@ use Rattle.std.proofs.Common.{◌++◌, Err, Ok}
 use Rattle.std.proofs.lemmas.Result.{err_from_is_err_and}
 use Rattle.noc_files.specs.Channels.{lines_of_routers}
 use Rattle.noc_files.specs.Writing.{Puts}
-use Rattle.noc_files.proofs.SinkFacts.{puts_fault, puts_front, puts_then}
+use Rattle.noc_files.proofs.SinkLemmas.{puts_fault, puts_front, puts_then}
 use Rattle.noc_files.proofs.listing.write_routers.Goals as goal
 
 pub returns-in_err-written : goal.returns-in_err-written

@@ -1,5 +1,5 @@
 use Rattle.std.proofs.Common.{◌≡◌, arith}
-use Rattle.noc_files.proofs.PortFacts.{digit_0, digit_1, digit_2, link_name}
+use Rattle.noc_files.proofs.PortNameLemmas.{digit_0, digit_1, digit_2, link_name}
 use Rattle.noc_files.proofs.ports.known_name.Goals as goal
 
 pub returns-in-0-clause-text : goal.returns-in-0-clause-text

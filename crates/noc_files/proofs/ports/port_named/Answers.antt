@@ -1,6 +1,6 @@
 use Rattle.std.proofs.Common.{◌∙◌, ap, sym, arith}
 use Rattle.std.specs.Str.{bytes_eq}
-use Rattle.noc_files.proofs.PortFacts.{port_found, port_none}
+use Rattle.noc_files.proofs.PortNameLemmas.{port_found, port_none}
 use Rattle.noc_files.proofs.ports.port_named.Goals as goal
 
 pub returns-then-eq : goal.returns-then-eq

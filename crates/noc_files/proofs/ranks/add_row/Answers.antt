@@ -2,7 +2,7 @@ use Rattle.std.proofs.Common.{◌≡◌, ◌++◌, [], ◌∷◌, decimal, rules
 use Rattle.noc_files.specs.Ports.{name_of_port}
 use Rattle.noc_files.specs.Ranks.{rank_text}
 use Rattle.noc_files.specs.Writing.{comma, text_of_pieces, line_end}
-use Rattle.noc_files.proofs.RankFacts.{line_is}
+use Rattle.noc_files.proofs.RankListingLemmas.{line_is}
 use Rattle.noc_files.proofs.ranks.add_row.Goals as goal
 
 pub returns-clause-added : goal.returns-clause-added

@@ -1,4 +1,4 @@
-use Rattle.noc_files.proofs.RankLaws.{is_rank_file, rank_file_is}
+use Rattle.noc_files.proofs.RankLemmas.{is_rank_file, rank_file_is}
 use Rattle.noc_files.proofs.ranks.rank_file_is_header_and_rows.Goals as goal
 
 pub returns : goal.returns

@@ -1,4 +1,4 @@
-use Rattle.noc_files.proofs.RankFaults.{fault_rank_file, rank_file_fault}
+use Rattle.noc_files.proofs.RankFaultLemmas.{fault_rank_file, rank_file_fault}
 use Rattle.noc_files.proofs.ranks.rank_file_is_refused_with_its_first_fault.Goals as goal
 
 pub returns : goal.returns

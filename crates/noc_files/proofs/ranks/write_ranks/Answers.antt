@@ -1,4 +1,4 @@
-use Rattle.noc_files.proofs.RankFacts.{all_lines}
+use Rattle.noc_files.proofs.RankListingLemmas.{all_lines}
 use Rattle.noc_files.proofs.ranks.write_ranks.Goals as goal
 
 pub returns : goal.returns

@@ -1,5 +1,5 @@
 use Rattle.std.proofs.Common.{arith}
-use Rattle.noc_files.proofs.ListingFacts.{ranks_back, ranks_listed}
+use Rattle.noc_files.proofs.ListingLemmas.{ranks_back, ranks_listed}
 use Rattle.noc_files.proofs.ranks.written_ranks_are_read_back.Goals as goal
 
 pub returns : goal.returns

@@ -1,6 +1,6 @@
 use Rattle.std.proofs.Common.{[], arith}
 use Rattle.csv.specs.Records.{fields_of}
-use Rattle.noc_files.proofs.NameFacts.{field_there, name_goes, name_stops}
+use Rattle.noc_files.proofs.NameLemmas.{field_there, name_goes, name_stops}
 use Rattle.noc_files.proofs.rows.has_fields.Goals as goal
 
 pub returns-in_default : goal.returns-in_default

@@ -1,6 +1,6 @@
 use Rattle.std.proofs.Common.{◌∙◌}
 use Rattle.csv.specs.Records.{fields_of}
-use Rattle.noc_files.proofs.RowFacts.{left_row, no_row}
+use Rattle.noc_files.proofs.RowLemmas.{left_row, no_row}
 use Rattle.noc_files.proofs.rows.next_row.Goals as goal
 
 pub returns-in-Ok-clause-ready : goal.returns-in-Ok-clause-ready

@@ -2,7 +2,7 @@ use Rattle.std.proofs.Common.{◌≡◌, true, sym, ◌∙◌, arith, get_or, ap
 use Rattle.std.specs.Str.{all_ascii_digits}
 use Rattle.std.specs.Str.Parse.{digits_value_after}
 use Rattle.std.proofs.lemmas.List.{drop_all}
-use Rattle.noc_files.proofs.NumberFacts.{digits_stop, digits_go, digit_is, value_go, small_go, room, number_found, some_from_test}
+use Rattle.noc_files.proofs.NumberLemmas.{digits_stop, digits_go, digit_is, value_go, small_go, room, number_found, some_from_test}
 use Rattle.noc_files.proofs.rows.number.Goals as goal
 
 pub returns-then-not-is_ascii_digit : goal.returns-then-not-is_ascii_digit

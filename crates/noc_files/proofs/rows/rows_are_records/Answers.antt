@@ -1,7 +1,7 @@
 use Rattle.std.proofs.Common.{◌+◌, length, refl, arith}
 use Rattle.csv.specs.Reading.{strip_bom}
 use Rattle.csv.specs.declared.parser.State.TheVariants as st
-use Rattle.noc_files.proofs.RowFacts.{are_all}
+use Rattle.noc_files.proofs.RowLemmas.{are_all}
 use Rattle.noc_files.proofs.rows.rows_are_records.Goals as goal
 
 pub returns : goal.returns

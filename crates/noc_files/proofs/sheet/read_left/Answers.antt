@@ -4,7 +4,7 @@ use Rattle.std.proofs.lemmas.Result.{err_from_is_err_and}
 use Rattle.csv.specs.Records.{fields_of}
 use Rattle.noc_files.specs.Rows.{rows_left}
 use Rattle.noc_files.specs.Sheet.{sheet}
-use Rattle.noc_files.proofs.SheetFacts.{goes_on, stops, ends, no_header, wrong_header, under_header}
+use Rattle.noc_files.proofs.SheetRowLemmas.{goes_on, stops, ends, no_header, wrong_header, under_header}
 use Rattle.noc_files.proofs.sheet.read_left.Goals as goal
 
 pub returns-then-not-branch : goal.returns-then-not-branch

@@ -2,7 +2,7 @@ use Rattle.std.proofs.Common.{◌≡◌, ℕ, Result, length, map, vec_len}
 use Rattle.noc_files.specs.declared.fault.InputFault.{InputFault}
 use Rattle.noc_files.specs.Rows.{Fields, IsBetweenRows, rows_left}
 use Rattle.noc_files.specs.Sheet.{ReadsRows, each_from, sheet}
-use Rattle.noc_files.proofs.SheetFacts.{after}
+use Rattle.noc_files.proofs.SheetRowLemmas.{after}
 use Rattle.noc_files.proofs.sheet.read_left.Given as goal
 
 abbrev pub invariant-rows : goal.invariant-rows

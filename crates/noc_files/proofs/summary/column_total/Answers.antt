@@ -1,7 +1,7 @@
 use Rattle.std.proofs.Common.{ℕ, arith}
 use Rattle.noc_files.specs.Channels.{over_router}
 use Rattle.noc_files.specs.Summary.{column_entry}
-use Rattle.noc_files.proofs.BelowFacts.{sum_more, sum_none}
+use Rattle.noc_files.proofs.BelowLemmas.{sum_more, sum_none}
 use Rattle.noc_files.proofs.summary.column_total.Goals as goal
 
 pub loop-router-init : goal.loop-router-init

@@ -3,7 +3,7 @@ use Rattle.std.specs.List.{filter_map}
 use Rattle.std.proofs.lemmas.List.Sums.{fold_push, sum_by_push}
 use Rattle.noc_topo.specs.Words.{below}
 use Rattle.noc_files.specs.Summary.{greater_of, greatest_of, latency_at}
-use Rattle.noc_files.proofs.BelowFacts.{found_no_more, found_nothing, found_one}
+use Rattle.noc_files.proofs.BelowLemmas.{found_no_more, found_nothing, found_one}
 use Rattle.noc_files.proofs.summary.latencies.Goals as goal
 use Rattle.noc_files.proofs.summary.latencies.Goals.{in-Some, in_default}
 

@@ -1,6 +1,6 @@
 use Rattle.std.proofs.Common.{◌≡◌, ◌∙◌, ap, arith, sum, sym, zero-add}
 use Rattle.noc_files.specs.Summary.{column_entry}
-use Rattle.noc_files.proofs.BelowFacts.{sum_more, sum_none}
+use Rattle.noc_files.proofs.BelowLemmas.{sum_more, sum_none}
 use Rattle.noc_files.proofs.summary.port_total.Goals as goal
 
 pub loop-vc-init : goal.loop-vc-init

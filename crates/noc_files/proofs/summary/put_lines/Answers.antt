@@ -1,7 +1,7 @@
 use Rattle.std.proofs.Common.{Bor, List, ℕ, [], None, Option}
 use Rattle.std.proofs.lemmas.Result.{err_from_is_err_and}
 use Rattle.noc_files.specs.Summary.{entry_value, summary_line}
-use Rattle.noc_files.proofs.SinkFacts.{fault_at_piece}
+use Rattle.noc_files.proofs.SinkLemmas.{fault_at_piece}
 use Rattle.noc_files.proofs.summary.put_lines.Goals as goal
 
 pub returns-in_err-written : goal.returns-in_err-written

@@ -1,7 +1,7 @@
 use Rattle.std.proofs.Common.{arith}
 use Rattle.noc_files.specs.Channels.{over_port}
 use Rattle.noc_files.specs.Summary.{column_entry}
-use Rattle.noc_files.proofs.BelowFacts.{sum_more, sum_none}
+use Rattle.noc_files.proofs.BelowLemmas.{sum_more, sum_none}
 use Rattle.noc_files.proofs.summary.router_total.Goals as goal
 
 pub loop-port-init : goal.loop-port-init

@@ -1,4 +1,4 @@
-use Rattle.noc_files.proofs.GreatestFacts.{greatest_is, greatest_none}
+use Rattle.noc_files.proofs.GreatestLemmas.{greatest_is, greatest_none}
 use Rattle.noc_files.proofs.summary.the_greatest_is_one_of_them.Goals as goal
 
 pub returns-clause-greatest : goal.returns-clause-greatest

@@ -1,6 +1,6 @@
 use Rattle.std.proofs.lemmas.Result.{err_from_is_err_and}
 use Rattle.noc_files.specs.Summary.{summary_lines}
-use Rattle.noc_files.proofs.SinkFacts.{puts_fault}
+use Rattle.noc_files.proofs.SinkLemmas.{puts_fault}
 use Rattle.noc_files.proofs.summary.write_lines.Goals as goal
 
 pub returns-in_err-put_summary : goal.returns-in_err-put_summary

@@ -1,4 +1,4 @@
-use Rattle.noc_files.proofs.TableLaws.{is_table, table_is}
+use Rattle.noc_files.proofs.TableLemmas.{is_table, table_is}
 use Rattle.noc_files.proofs.table.table_is_header_and_rows.Goals as goal
 
 pub returns : goal.returns

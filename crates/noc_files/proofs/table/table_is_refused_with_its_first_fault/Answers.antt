@@ -1,4 +1,4 @@
-use Rattle.noc_files.proofs.TableFaults.{fault_table, table_fault}
+use Rattle.noc_files.proofs.TableFaultLemmas.{fault_table, table_fault}
 use Rattle.noc_files.proofs.table.table_is_refused_with_its_first_fault.Goals as goal
 
 pub returns : goal.returns

@@ -1,4 +1,4 @@
-use Rattle.noc_files.proofs.TableLaws.{table_back}
+use Rattle.noc_files.proofs.TableLemmas.{table_back}
 use Rattle.noc_files.proofs.table.written_table_is_read_back.Goals as goal
 
 pub returns : goal.returns

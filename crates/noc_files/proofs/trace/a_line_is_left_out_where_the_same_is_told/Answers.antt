@@ -1,4 +1,4 @@
-use Rattle.noc_files.proofs.TraceLaws.{is_itself, same_is}
+use Rattle.noc_files.proofs.TraceLemmas.{is_itself, same_is}
 use Rattle.noc_files.proofs.trace.a_line_is_left_out_where_the_same_is_told.Goals as goal
 
 pub returns-clause-same : goal.returns-clause-same

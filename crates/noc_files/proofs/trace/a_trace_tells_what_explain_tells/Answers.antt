@@ -1,4 +1,4 @@
-use Rattle.noc_files.proofs.TraceLaws.{explained, traced}
+use Rattle.noc_files.proofs.TraceLemmas.{explained, traced}
 use Rattle.noc_files.proofs.trace.a_trace_tells_what_explain_tells.Goals as goal
 
 pub returns-clause-explained : goal.returns-clause-explained

@@ -6,7 +6,7 @@ use Rattle.noc_router.specs.declared.verdict.Finding.{Finding}
 use Rattle.noc_net.specs.Lockstep.{findings_before}
 use Rattle.noc_net.specs.Network.{size}
 use Rattle.noc_files.specs.Trace.{AreRows}
-use Rattle.noc_files.proofs.TraceFacts.{length-before, seen_before, seen_here, seen_there}
+use Rattle.noc_files.proofs.TraceCycleLemmas.{length-before, seen_before, seen_here, seen_there}
 use Rattle.noc_files.proofs.trace.keep_rows.Goals as goal
 
 pub keep_row-requires : goal.keep_row-requires

@@ -5,9 +5,9 @@ use Rattle.noc_net.specs.Lockstep.{findings_before}
 use Rattle.noc_net.specs.Network.{Run, Setup}
 use Rattle.noc_files.specs.Trace.{cycle_text}
 use Rattle.noc_files.specs.Writing.{Puts}
-use Rattle.noc_files.proofs.BelowFacts.{fault_at_number, puts_no_number, puts_number}
-use Rattle.noc_files.proofs.SinkFacts.{puts_kept}
-use Rattle.noc_files.proofs.TraceFacts.{IsKept, cycle_written, next_kept, opening_kept}
+use Rattle.noc_files.proofs.BelowLemmas.{fault_at_number, puts_no_number, puts_number}
+use Rattle.noc_files.proofs.SinkLemmas.{puts_kept}
+use Rattle.noc_files.proofs.TraceCycleLemmas.{IsKept, cycle_written, next_kept, opening_kept}
 use Rattle.noc_files.proofs.trace.put_cycles.Goals as goal
 
 pub loop-turn-init : goal.loop-turn-init

@@ -3,7 +3,7 @@ use Rattle.noc_topo.specs.Words.{below}
 use Rattle.noc_files.specs.Trace.{cycle_text}
 use Rattle.noc_files.specs.Writing.{Puts}
 use Rattle.noc_files.specs.declared.listing.TheConstants.{LONGEST_LISTING}
-use Rattle.noc_files.proofs.TraceFacts.{IsKept}
+use Rattle.noc_files.proofs.TraceCycleLemmas.{IsKept}
 use Rattle.noc_files.proofs.trace.put_cycles.Given as goal
 
 abbrev pub invariant-loop-turn : goal.invariant-loop-turn

@@ -5,7 +5,7 @@ use Rattle.noc_net.specs.Network.{Run, Setup}
 use Rattle.noc_files.specs.Trace.{cycle_text, trace_header, trace_text}
 use Rattle.noc_files.specs.Writing.{Puts, Wrote}
 use Rattle.noc_files.specs.declared.trace.Traced.{Traced}
-use Rattle.noc_files.proofs.SinkFacts.{puts_fault, puts_front, puts_then}
+use Rattle.noc_files.proofs.SinkLemmas.{puts_fault, puts_front, puts_then}
 use Rattle.noc_files.proofs.trace.write_trace.Goals as goal
 
 -- the lines of so many cycles

@@ -1,4 +1,4 @@
-use Rattle.noc_files.proofs.TrafficLaws.{is_traffic, traffic_is}
+use Rattle.noc_files.proofs.TrafficLemmas.{is_traffic, traffic_is}
 use Rattle.noc_files.proofs.traffic.traffic_is_header_and_numerals.Goals as goal
 
 pub returns : goal.returns

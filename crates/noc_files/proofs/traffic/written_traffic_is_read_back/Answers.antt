@@ -1,4 +1,4 @@
-use Rattle.noc_files.proofs.TrafficLaws.{traffic_back}
+use Rattle.noc_files.proofs.TrafficLemmas.{traffic_back}
 use Rattle.noc_files.proofs.traffic.written_traffic_is_read_back.Goals as goal
 
 pub returns : goal.returns

@@ -3,7 +3,7 @@ use Rattle.std.specs.Prelude.{slice_get, slice_set}
 use Rattle.std.proofs.lemmas.Bool.{cases_eq}
 use Rattle.std.proofs.lemmas.List.{length-set}
 use Rattle.noc_files.specs.Word.{word_text}
-use Rattle.noc_files.proofs.ListFacts.{slice_get-set_other, slice_get-set_same}
+use Rattle.noc_files.proofs.ListLemmas.{slice_get-set_other, slice_get-set_same}
 use Rattle.noc_files.proofs.words.table_of.Goals as goal
 
 pub loop-place-preserved : goal.loop-place-preserved

@@ -1,5 +1,5 @@
 use Rattle.std.proofs.Common.{arith}
-use Rattle.noc_files.proofs.SinkFacts.{put_more}
+use Rattle.noc_files.proofs.SinkLemmas.{put_more}
 use Rattle.noc_files.proofs.writing.put_all.Goals as goal
 
 pub loop-at-preserved : goal.loop-at-preserved

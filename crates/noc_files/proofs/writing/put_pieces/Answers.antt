@@ -1,6 +1,6 @@
 use Rattle.std.proofs.Common.{◌++◌, ◌+◌, Err, Bor, List, ℕ, take, drop, flat_map, []}
 use Rattle.std.proofs.lemmas.Result.{err_from_is_err_and}
-use Rattle.noc_files.proofs.SinkFacts.{puts_then, puts_front, pieces_split, piece_fits}
+use Rattle.noc_files.proofs.SinkLemmas.{puts_then, puts_front, pieces_split, piece_fits}
 use Rattle.noc_files.proofs.writing.put_pieces.Goals as goal
 
 pub put_all-requires : goal.put_all-requires

@@ -1,10 +1,10 @@
 use Rattle.std.proofs.Common.{◌≡◌, ◌+◌, length, subst, sym, arith}
 use Rattle.noc_topo.specs.Shape.{nodes}
 use Rattle.noc_router.specs.declared.verdict.Findings.TheVariants.{Leave}
-use Rattle.noc_model.specs.Halves.{ArePlaced}
-use Rattle.noc_model.specs.Network.{Setup}
-use Rattle.noc_model.specs.Unseen.{AreInStep}
-use Rattle.noc_model.proofs.UnseenLemmas.{of_relation, to_relation, from_relation, as-unseen, unseen-count, unseen-relation, unseen-linked, in_step-placed, next-in_step}
+use Rattle.noc_theory.specs.Halves.{ArePlaced}
+use Rattle.noc_theory.specs.Network.{Setup}
+use Rattle.noc_theory.specs.Unseen.{AreInStep}
+use Rattle.noc_theory.proofs.runs.UnseenLemmas.{of_relation, to_relation, from_relation, as-unseen, unseen-count, unseen-relation, unseen-linked, in_step-placed, next-in_step}
 use Rattle.noc_net.proofs.cycles.cycle.Goals as goal
 
 pub decide_all-requires-clause-routers : goal.decide_all-requires-clause-routers

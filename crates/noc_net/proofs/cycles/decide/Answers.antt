@@ -2,8 +2,8 @@ use Rattle.std.proofs.Common.{ap, ◌∙◌}
 use Rattle.noc_router.specs.Finish.{view_after_finish}
 use Rattle.noc_router.specs.View.{View}
 use Rattle.noc_router.proofs.SiteLemmas.{all_taken-site}
-use Rattle.noc_model.specs.Halves.{view_after_decide}
-use Rattle.noc_model.proofs.StepLemmas.{IsRelationOf-same_site}
+use Rattle.noc_theory.specs.Halves.{view_after_decide}
+use Rattle.noc_theory.proofs.runs.StepLemmas.{IsRelationOf-same_site}
 use Rattle.noc_net.proofs.cycles.decide.Goals as goal
 
 pub finish-requires : goal.finish-requires

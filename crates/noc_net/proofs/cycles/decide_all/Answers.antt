@@ -1,7 +1,7 @@
 use Rattle.std.proofs.Common.{◌≡◌, ℕ, [], length, get_or, subst, arith}
 use Rattle.noc_router.specs.View.{View}
-use Rattle.noc_model.specs.Halves.{incoming, view_after_decide}
-use Rattle.noc_model.proofs.ListLemmas.{IsDoneTo, done_all}
+use Rattle.noc_theory.specs.Halves.{incoming, view_after_decide}
+use Rattle.noc_theory.proofs.runs.ListLemmas.{IsDoneTo, done_all}
 use Rattle.noc_net.proofs.cycles.decide_all.Goals as goal
 
 pub returns-clause-routers : goal.returns-clause-routers

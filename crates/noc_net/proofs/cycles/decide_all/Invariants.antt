@@ -2,8 +2,8 @@ use Rattle.std.proofs.Common.{◌≡◌, ℕ, ◌≤◌, List, [], get_or}
 use Rattle.std.specs.List.{AllWithin}
 use Rattle.noc_packet.specs.declared.packet.Beat.{Beat}
 use Rattle.noc_router.specs.View.{View}
-use Rattle.noc_model.specs.Halves.{IsSilent, incoming, view_after_decide}
-use Rattle.noc_model.proofs.ListLemmas.{IsDoneTo}
+use Rattle.noc_theory.specs.Halves.{IsSilent, incoming, view_after_decide}
+use Rattle.noc_theory.proofs.runs.ListLemmas.{IsDoneTo}
 use Rattle.noc_net.proofs.cycles.decide_all.Given as goal
 
 -- the routers before this node have decided

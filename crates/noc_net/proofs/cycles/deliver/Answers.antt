@@ -4,10 +4,10 @@ use Rattle.noc_topo.specs.Shape.{Grid, IsGrid, local_port, neighbour}
 use Rattle.noc_packet.specs.Set.{has_bit}
 use Rattle.noc_packet.specs.declared.packet.Beat.{Beat}
 use Rattle.noc_router.specs.View.{Site, View, view_after_put, beat_to_put, idle_beat}
-use Rattle.noc_model.specs.Halves.{beat_at, sent_on}
+use Rattle.noc_theory.specs.Halves.{beat_at, sent_on}
 use Rattle.std.specs.Prelude.{◌&&◌, not, nat_eq}
 use Rattle.std.proofs.lemmas.Bool.{false≢true}
-use Rattle.noc_model.proofs.WireLemmas.{AreLeft, left-at, left-first, left-more, left-none, received-first, received-last, received_more, unloaded, link_within, rows_kept}
+use Rattle.noc_theory.proofs.runs.WireLemmas.{AreLeft, left-at, left-first, left-more, left-none, received-first, received-last, received_more, unloaded, link_within, rows_kept}
 use Rattle.noc_router.proofs.QuietLemmas.{least_member, none_left}
 use Rattle.noc_net.proofs.cycles.deliver.Goals as goal
 

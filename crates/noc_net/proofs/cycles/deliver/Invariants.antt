@@ -1,8 +1,8 @@
 use Rattle.std.proofs.Common.{◌≡◌, ℕ, ◌<◌, [], length, get_or, true}
 use Rattle.noc_topo.specs.Shape.{local_port, nodes, neighbour}
 use Rattle.noc_packet.specs.Set.{has_bit}
-use Rattle.noc_model.specs.Halves.{beat_at}
-use Rattle.noc_model.proofs.WireLemmas.{AreLeft, received_but}
+use Rattle.noc_theory.specs.Halves.{beat_at}
+use Rattle.noc_theory.proofs.runs.WireLemmas.{AreLeft, received_but}
 use Rattle.noc_net.proofs.cycles.deliver.Given as goal
 
 -- the beats of the ports that are not left are put

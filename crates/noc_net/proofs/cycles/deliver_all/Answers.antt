@@ -1,7 +1,7 @@
 use Rattle.std.proofs.Common.{◌≡◌, ℕ, length, subst, arith}
 use Rattle.noc_router.specs.View.{View}
-use Rattle.noc_model.specs.Halves.{view_after_puts}
-use Rattle.noc_model.proofs.ListLemmas.{IsDoneTo, done_all-map}
+use Rattle.noc_theory.specs.Halves.{view_after_puts}
+use Rattle.noc_theory.proofs.runs.ListLemmas.{IsDoneTo, done_all-map}
 use Rattle.noc_net.proofs.cycles.deliver_all.Goals as goal
 
 pub returns-clause-routers : goal.returns-clause-routers

@@ -1,9 +1,9 @@
 use Rattle.std.proofs.Common.{◌≡◌, ℕ, ◌<◌, map}
 use Rattle.noc_topo.specs.Shape.{nodes, neighbour}
 use Rattle.noc_router.specs.View.{View}
-use Rattle.noc_model.specs.Halves.{beat_at, view_after_puts}
-use Rattle.noc_model.proofs.ListLemmas.{IsDoneTo}
-use Rattle.noc_model.proofs.WireLemmas.{put_by}
+use Rattle.noc_theory.specs.Halves.{beat_at, view_after_puts}
+use Rattle.noc_theory.proofs.runs.ListLemmas.{IsDoneTo}
+use Rattle.noc_theory.proofs.runs.WireLemmas.{put_by}
 use Rattle.noc_net.proofs.cycles.deliver_all.Given as goal
 
 -- the routers before this node have put their beats

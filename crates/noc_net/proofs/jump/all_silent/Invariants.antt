@@ -1,6 +1,6 @@
 use Rattle.std.proofs.Common.{ℕ, ◌<◌, List, get_or}
 use Rattle.noc_packet.specs.declared.packet.Beat.{Beat}
-use Rattle.noc_model.specs.Halves.{IsSilent}
+use Rattle.noc_theory.specs.Halves.{IsSilent}
 use Rattle.noc_net.proofs.jump.all_silent.Given as goal
 
 -- no beat so far carries anything

@@ -1,9 +1,9 @@
 use Rattle.std.proofs.Common.{◌+◌, ◌<◌, arith, subst, sym}
-use Rattle.noc_model.specs.Network.{Setup}
+use Rattle.noc_theory.specs.Network.{Setup}
 use Rattle.noc_router.specs.declared.verdict.Findings.TheVariants.{Leave}
-use Rattle.noc_model.specs.Unseen.{AreInStep}
-use Rattle.noc_model.proofs.StillRun.{still-wait}
-use Rattle.noc_model.proofs.UnseenLemmas.{of_relation, to_relation, from_relation}
+use Rattle.noc_theory.specs.Unseen.{AreInStep}
+use Rattle.noc_theory.proofs.runs.StillRunLemmas.{still-wait}
+use Rattle.noc_theory.proofs.runs.UnseenLemmas.{of_relation, to_relation, from_relation}
 use Rattle.noc_net.proofs.jump.jump.Goals as goal
 
 pub returns-clause-in_step : goal.returns-clause-in_step

@@ -2,8 +2,8 @@ use Rattle.std.proofs.Common.{◌≡◌, ℕ, List, [], ◌∷◌, ◌++◌, ap,
 use Rattle.noc_topo.specs.Words.{tabulate}
 use Rattle.noc_packet.specs.declared.packet.Packet.{Packet}
 use Rattle.noc_router.specs.View.{Site, View, opening_view}
-use Rattle.noc_model.specs.Lockstep.{starts_of, ends_of}
-use Rattle.noc_model.proofs.RunLemmas.{tabulate_none, tabulate_more}
+use Rattle.noc_theory.specs.Lockstep.{starts_of, ends_of}
+use Rattle.noc_theory.proofs.runs.RunLemmas.{tabulate_none, tabulate_more}
 use Rattle.noc_net.proofs.network.new_routers.Goals as goal
 
 pub loop-node-init : goal.loop-node-init

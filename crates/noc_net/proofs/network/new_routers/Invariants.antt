@@ -1,7 +1,7 @@
 use Rattle.std.proofs.Common.{◌≡◌, ℕ}
 use Rattle.noc_topo.specs.Words.{tabulate}
 use Rattle.noc_router.specs.View.{opening_view}
-use Rattle.noc_model.specs.Lockstep.{starts_of, ends_of}
+use Rattle.noc_theory.specs.Lockstep.{starts_of, ends_of}
 use Rattle.noc_net.proofs.network.new_routers.Given as goal
 
 -- a router for each node so far

@@ -9,10 +9,10 @@ use Rattle.noc_router.specs.Links.{is_idle_beat}
 use Rattle.noc_router.specs.View.{View, view_after_takes, idle_beat}
 use Rattle.noc_router.proofs.QuietLemmas.{least_member, none_left}
 use Rattle.noc_router.proofs.SiteLemmas.{taken-site}
-use Rattle.noc_model.specs.Halves.{incoming}
-use Rattle.noc_model.proofs.StepLemmas.{taken_end, IsRelationOf-same_site}
-use Rattle.noc_model.proofs.TakeAhead.{taken_ahead}
-use Rattle.noc_model.proofs.WireLemmas.{AreLeft, left-first, left-more, unloaded}
+use Rattle.noc_theory.specs.Halves.{incoming}
+use Rattle.noc_theory.proofs.runs.StepLemmas.{taken_end, IsRelationOf-same_site}
+use Rattle.noc_theory.proofs.runs.TakeAheadLemmas.{taken_ahead}
+use Rattle.noc_theory.proofs.runs.WireLemmas.{AreLeft, left-first, left-more, unloaded}
 use Rattle.noc_net.proofs.takes.take_beats.Goals as goal
 
 pub loop-port-init : goal.loop-port-init

@@ -11,7 +11,7 @@ use Rattle.noc_row_words.specs.Wires.{room_of}
 use Rattle.noc_row_words.specs.declared.marks.Marks.{Marks}
 use Rattle.noc_row_words.specs.declared.wires.Inbox.{Inbox}
 use Rattle.noc_row_blocks.proofs.SendLemmas.{IsGiving, IsSending}
-use Rattle.noc_row_blocks.proofs.CarryLaws.{carrying-next, carrying-none, carried-all}
+use Rattle.noc_row_blocks.proofs.CarryLemmas.{carrying-next, carrying-none, carried-all}
 use Rattle.noc_row_words.proofs.EachLemmas.{each-is, each-next, each-none}
 use Rattle.noc_row_blocks.proofs.LaneLemmas.{is-zero, least-zeros, not-zero, or-zero}
 use Rattle.noc_row_blocks.proofs.moves.carry_all.Goals as goal

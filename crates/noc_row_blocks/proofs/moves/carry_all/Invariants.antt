@@ -3,7 +3,7 @@ use Rattle.std.specs.Prelude.{bit_or}
 use Rattle.noc_row_words.specs.Bits.{less}
 use Rattle.noc_row_blocks.specs.Moves.{dry_by, of_one, taken_in, turn_in, turned_by}
 use Rattle.noc_row_words.specs.Rows.{word}
-use Rattle.noc_row_blocks.proofs.CarryLaws.{IsCarrying}
+use Rattle.noc_row_blocks.proofs.CarryLemmas.{IsCarrying}
 use Rattle.noc_row_words.proofs.EachLemmas.{IsEach}
 use Rattle.noc_row_blocks.proofs.moves.carry_all.Given as goal
 

@@ -11,7 +11,7 @@ use Rattle.noc_row_words.specs.declared.cycle.DecidedRows.{DecidedRows}
 use Rattle.noc_row_words.specs.declared.marks.Marks.{Marks}
 use Rattle.noc_row_words.specs.declared.wires.Wires.{Wires}
 use Rattle.noc_row_blocks.proofs.PortLemmas.{moves-then}
-use Rattle.noc_row_blocks.proofs.ReleaseLaws.{IsLone, first-lone, freed-is, gone-is, left-is, out-none, out-some}
+use Rattle.noc_row_blocks.proofs.ReleaseLemmas.{IsLone, first-lone, freed-is, gone-is, left-is, out-none, out-some}
 use Rattle.noc_row_blocks.proofs.moves.move_block.Goals as goal
 
 pub returns : goal.returns

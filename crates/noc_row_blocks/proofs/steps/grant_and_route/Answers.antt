@@ -3,7 +3,7 @@ use Rattle.std.proofs.lemmas.List.{get_or_default}
 use Rattle.noc_row_blocks.specs.Decided.{HasChosenIn}
 use Rattle.noc_row_words.specs.Wires.{inbox_at, room_of}
 use Rattle.noc_row_words.specs.declared.wires.Inbox.{Inbox}
-use Rattle.noc_row_blocks.proofs.ChosenIn.{chosen-in, chosen_block}
+use Rattle.noc_row_blocks.proofs.ChosenInLemmas.{chosen-in, chosen_block}
 use Rattle.noc_row_blocks.proofs.steps.grant_and_route.Goals as goal
 
 pub returns-then-number-len : goal.returns-then-number-len

@@ -7,8 +7,8 @@ use Rattle.noc_router.specs.declared.verdict.Finding.{Finding}
 use Rattle.noc_rows.specs.Found.{IsClaimed, finding_at, is_held}
 use Rattle.noc_row_words.specs.Wires.{in_row, room_of}
 use Rattle.noc_row_words.proofs.EachLemmas.{each-all, each-next, each-none}
-use Rattle.noc_rows.proofs.FoundNotes.{unnoted}
-use Rattle.noc_rows.proofs.FoundPasses.{keeps-both, keeps-more, keeps-none}
+use Rattle.noc_rows.proofs.found.FoundNoteLemmas.{unnoted}
+use Rattle.noc_rows.proofs.found.FoundPassLemmas.{keeps-both, keeps-more, keeps-none}
 use Rattle.noc_rows.proofs.findings.claim_all.Goals as goal
 
 pub loop-rest-init : goal.loop-rest-init

@@ -3,7 +3,7 @@ use Rattle.std.specs.Prelude.{◌⊎◌}
 use Rattle.std.proofs.lemmas.Bool.{cases_eq}
 use Rattle.noc_router.specs.Found.{empty_finding}
 use Rattle.noc_rows.specs.Found.{KeepsOthers, finding_at}
-use Rattle.noc_rows.proofs.FoundPasses.{keeps-more, keeps-none}
+use Rattle.noc_rows.proofs.found.FoundPassLemmas.{keeps-more, keeps-none}
 use Rattle.noc_rows.proofs.findings.empty.Goals as goal
 
 pub loop-place-init : goal.loop-place-init

@@ -5,7 +5,7 @@ use Rattle.noc_router.specs.Found.{empty_finding}
 use Rattle.noc_router.specs.declared.verdict.Finding.{Finding}
 use Rattle.noc_rows.specs.Found.{finding_at, given_to}
 use Rattle.noc_row_words.proofs.EachLemmas.{each-all, each-next, each-none}
-use Rattle.noc_rows.proofs.FoundPasses.{keeps-more, keeps-none}
+use Rattle.noc_rows.proofs.found.FoundPassLemmas.{keeps-more, keeps-none}
 use Rattle.noc_rows.proofs.findings.give.Goals as goal
 
 pub loop-rest-init : goal.loop-rest-init

@@ -1,5 +1,5 @@
 use Rattle.std.proofs.Common.{◌+◌, ◌*◌}
-use Rattle.noc_rows.proofs.FoundNotes.{noted-asleep, noted-members}
+use Rattle.noc_rows.proofs.found.FoundNoteLemmas.{noted-asleep, noted-members}
 use Rattle.noc_rows.proofs.findings.holding.Goals as goal
 
 pub returns-then-not-block : goal.returns-then-not-block

@@ -1,6 +1,6 @@
 use Rattle.std.proofs.Common.{◌+◌}
-use Rattle.noc_rows.proofs.FoundNotes.{given-none, given-over}
-use Rattle.noc_rows.proofs.FoundPasses.{keeps-both}
+use Rattle.noc_rows.proofs.found.FoundNoteLemmas.{given-none, given-over}
+use Rattle.noc_rows.proofs.found.FoundPassLemmas.{keeps-both}
 use Rattle.noc_rows.specs.Found.{finding_at}
 use Rattle.noc_rows.proofs.findings.judge_all.Goals as goal
 

@@ -1,5 +1,5 @@
 use Rattle.noc_row_words.specs.Wires.{room_of}
-use Rattle.noc_rows.proofs.FoundPasses.{AreClaimedTo}
+use Rattle.noc_rows.proofs.found.FoundPassLemmas.{AreClaimedTo}
 use Rattle.noc_rows.proofs.findings.note_claims.Given as goal
 
 abbrev pub invariant-loop-router : goal.invariant-loop-router

@@ -1,4 +1,4 @@
-use Rattle.noc_rows.proofs.FoundPasses.{HaveVerdictsTo}
+use Rattle.noc_rows.proofs.found.FoundPassLemmas.{HaveVerdictsTo}
 use Rattle.noc_rows.proofs.findings.note_verdicts.Given as goal
 
 abbrev pub invariant-loop-router : goal.invariant-loop-router

@@ -1,5 +1,5 @@
 use Rattle.std.proofs.Common.{◌+◌, arith, refl, sym, subst}
-use Rattle.noc_rows.proofs.ReaderLaws.{IsGreatestTo, greatest-all, greatest-more, greatest-none}
+use Rattle.noc_rows.proofs.blocks.ReaderLemmas.{IsGreatestTo, greatest-all, greatest-more, greatest-none}
 use Rattle.noc_rows.proofs.latest.greatest.Goals as goal
 
 pub loop-lane-init : goal.loop-lane-init

@@ -1,4 +1,4 @@
-use Rattle.noc_rows.proofs.ReaderLaws.{IsGreatestTo}
+use Rattle.noc_rows.proofs.blocks.ReaderLemmas.{IsGreatestTo}
 use Rattle.noc_rows.proofs.latest.greatest.Given as goal
 
 abbrev pub invariant-loop-lane : goal.invariant-loop-lane

@@ -1,5 +1,5 @@
 use Rattle.std.proofs.Common.{◌+◌, arith, sym, subst}
-use Rattle.noc_rows.proofs.ReaderLaws.{IsLatestTo, latest-all, latest-more, latest-none}
+use Rattle.noc_rows.proofs.blocks.ReaderLemmas.{IsLatestTo, latest-all, latest-more, latest-none}
 use Rattle.noc_rows.proofs.latest.latest.Goals as goal
 
 pub loop-number-init : goal.loop-number-init

@@ -1,4 +1,4 @@
-use Rattle.noc_rows.proofs.ReaderLaws.{IsLatestTo}
+use Rattle.noc_rows.proofs.blocks.ReaderLemmas.{IsLatestTo}
 use Rattle.noc_rows.proofs.latest.latest.Given as goal
 
 abbrev pub invariant-loop-number : goal.invariant-loop-number

@@ -2,7 +2,7 @@ use Rattle.std.proofs.Common.{◌≡◌, ◌+◌, ◌*◌, ◌/◌, ◌%◌, ◌
 use Rattle.noc_packet.specs.Set.{has_bit}
 use Rattle.noc_topo.specs.Shape.{neighbour}
 use Rattle.noc_rows.specs.Opened.{LeadsOut}
-use Rattle.noc_rows.proofs.OpenLemmas.{entry-more, new-member, still-member}
+use Rattle.noc_rows.proofs.opening.OpenLemmas.{entry-more, new-member, still-member}
 use Rattle.noc_rows.proofs.open.lead_out.Goals as goal
 
 pub loop-port-preserved : goal.loop-port-preserved

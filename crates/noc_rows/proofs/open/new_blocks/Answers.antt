@@ -1,7 +1,7 @@
 use Rattle.std.proofs.Common.{◌≡◌, ◌+◌, ◌<◌, ◌/◌, List, length, replicate, get_or, set, length-set, ap, sym, subst, ◌∙◌, rules, arith}
 use Rattle.std.proofs.lemmas.List.{length-replicate}
 use Rattle.noc_row_words.specs.declared.block.Block.{Block}
-use Rattle.noc_rows.proofs.BlockLaws.{ArePlaced, all-open, blocks-for, in-blocks, none-placed, placed-next}
+use Rattle.noc_rows.proofs.opening.BlockLemmas.{ArePlaced, all-open, blocks-for, in-blocks, none-placed, placed-next}
 use Rattle.noc_rows.proofs.open.new_blocks.Goals as goal
 use Rattle.noc_rows.proofs.open.new_blocks.Goals.{then-node-len, else-node-len}
 

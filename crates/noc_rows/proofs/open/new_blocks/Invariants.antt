@@ -1,7 +1,7 @@
 use Rattle.std.proofs.Common.{◌≡◌, List, length}
 use Rattle.noc_packet.specs.declared.packet.Packet.{Packet}
 use Rattle.noc_rows.specs.Opened.{AreStartsOf}
-use Rattle.noc_rows.proofs.BlockLaws.{ArePlaced}
+use Rattle.noc_rows.proofs.opening.BlockLemmas.{ArePlaced}
 use Rattle.noc_rows.proofs.open.new_blocks.Given as goal
 
 -- the routers so far are in their lanes

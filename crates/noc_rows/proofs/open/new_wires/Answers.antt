@@ -4,7 +4,7 @@ use Rattle.std.proofs.lemmas.List.{get_or-replicate, length-replicate}
 use Rattle.noc_rows.specs.Opened.{IsOpenInbox}
 use Rattle.noc_row_words.specs.Wires.{inbox_at}
 use Rattle.noc_row_words.specs.declared.wires.Inbox.{Inbox}
-use Rattle.noc_rows.proofs.OpenLemmas.{none-at, zeros}
+use Rattle.noc_rows.proofs.opening.OpenLemmas.{none-at, zeros}
 use Rattle.noc_rows.proofs.open.new_wires.Goals as goal
 
 none : Inbox

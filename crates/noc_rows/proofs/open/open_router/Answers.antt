@@ -5,7 +5,7 @@ use Rattle.noc_topo.specs.Shape.{neighbour}
 use Rattle.noc_rows.specs.Opened.{LeadsOut}
 use Rattle.noc_row_words.specs.Source.{source_at}
 use Rattle.noc_row_words.specs.declared.starts.Start.{Start}
-use Rattle.noc_rows.proofs.OpenLemmas.{also-member, block-of, source-other, source-put, still-member}
+use Rattle.noc_rows.proofs.opening.OpenLemmas.{also-member, block-of, source-other, source-put, still-member}
 use Rattle.noc_rows.proofs.open.open_router.Goals as goal
 
 pub returns : goal.returns

@@ -2,7 +2,7 @@ use Rattle.std.proofs.Common.{◌+◌, List, arith, set, sym, subst}
 use Rattle.noc_row_words.specs.declared.block.Block.{Block}
 use Rattle.noc_row_words.specs.declared.wires.Inbox.{Inbox}
 use Rattle.noc_row_words.specs.Wires.{room_of}
-use Rattle.noc_rows.proofs.PassAll.{HaveFrozenTo, frozen-all, frozen-more, frozen-none, frozen-skip, frozen-without}
+use Rattle.noc_rows.proofs.blocks.PassAllLemmas.{HaveFrozenTo, frozen-all, frozen-more, frozen-none, frozen-skip, frozen-without}
 use Rattle.noc_rows.proofs.passes.arrive_all.Goals as goal
 use Rattle.noc_rows.proofs.passes.arrive_all.Goals.{then-number-inboxes+then-blocks-number, else-number-inboxes, else-number-inboxes-via-then-number-inboxes+else-blocks-number, else-number-inboxes-via-else-number-inboxes}
 

@@ -1,5 +1,5 @@
 use Rattle.noc_row_words.specs.Wires.{room_of}
-use Rattle.noc_rows.proofs.PassAll.{HaveFrozenTo}
+use Rattle.noc_rows.proofs.blocks.PassAllLemmas.{HaveFrozenTo}
 use Rattle.noc_rows.proofs.passes.arrive_all.Given as goal
 
 abbrev pub invariant-loop-number : goal.invariant-loop-number

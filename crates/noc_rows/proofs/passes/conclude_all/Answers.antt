@@ -1,5 +1,5 @@
 use Rattle.std.proofs.Common.{◌+◌, bit_or, arith, set, subst, sym}
-use Rattle.noc_rows.proofs.PassAll.{HaveConcludedTo, concluded-all, concluded-more, concluded-none, concluded-skip, concluded-without}
+use Rattle.noc_rows.proofs.blocks.PassAllLemmas.{HaveConcludedTo, concluded-all, concluded-more, concluded-none, concluded-skip, concluded-without}
 use Rattle.noc_rows.proofs.passes.conclude_all.Goals as goal
 use Rattle.noc_rows.proofs.passes.conclude_all.Goals.{then-number-sheets+then-blocks-number, else-number-sheets, else-number-sheets-via-then-number-sheets+else-blocks-number, else-number-sheets-via-else-number-sheets}
 

@@ -1,4 +1,4 @@
-use Rattle.noc_rows.proofs.PassAll.{HaveConcludedTo}
+use Rattle.noc_rows.proofs.blocks.PassAllLemmas.{HaveConcludedTo}
 use Rattle.noc_rows.proofs.passes.conclude_all.Given as goal
 
 abbrev pub invariant-loop-number : goal.invariant-loop-number

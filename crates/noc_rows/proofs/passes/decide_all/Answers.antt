@@ -2,7 +2,7 @@ use Rattle.std.proofs.Common.{ℕ, ◌+◌, ◌^◌, ◌<◌, arith, set, subst,
 use Rattle.noc_row_blocks.specs.Decided.{HasDecided}
 use Rattle.noc_row_words.specs.Rows.{word}
 use Rattle.noc_row_words.specs.Wires.{inbox_at}
-use Rattle.noc_rows.proofs.DecideAll.{HaveDecidedTo, decided-all, decided-more, decided-none, decided-skip}
+use Rattle.noc_rows.proofs.blocks.DecideAllLemmas.{HaveDecidedTo, decided-all, decided-more, decided-none, decided-skip}
 use Rattle.noc_rows.proofs.passes.decide_all.Goals as goal
 use Rattle.noc_rows.proofs.passes.decide_all.Goals.{then-blocks-number, else-blocks-number}
 

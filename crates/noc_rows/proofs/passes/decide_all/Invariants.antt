@@ -1,5 +1,5 @@
 use Rattle.noc_row_blocks.specs.Decided.{HasDecided}
-use Rattle.noc_rows.proofs.DecideAll.{HaveDecidedTo}
+use Rattle.noc_rows.proofs.blocks.DecideAllLemmas.{HaveDecidedTo}
 use Rattle.noc_rows.proofs.passes.decide_all.Given as goal
 
 abbrev pub invariant-loop-number : goal.invariant-loop-number

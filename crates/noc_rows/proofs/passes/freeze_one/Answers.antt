@@ -2,8 +2,8 @@ use Rattle.std.proofs.Common.{ℕ, ◌<◌, ap, ◌∙◌}
 use Rattle.noc_row_words.specs.Rows.{word}
 use Rattle.noc_row_blocks.specs.Stages.{IsUndecided}
 use Rattle.noc_row_words.specs.declared.cycle.DecidedRows.{DecidedRows}
-use Rattle.noc_rows.proofs.OpenLemmas.{none-at}
-use Rattle.noc_rows.proofs.StageLemmas.{frozen-stands}
+use Rattle.noc_rows.proofs.opening.OpenLemmas.{none-at}
+use Rattle.noc_rows.proofs.blocks.StageLemmas.{frozen-stands}
 use Rattle.noc_rows.proofs.passes.freeze_one.Goals as goal
 
 pub returns : goal.returns

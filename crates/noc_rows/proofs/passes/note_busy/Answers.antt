@@ -2,7 +2,7 @@ use Rattle.std.proofs.Common.{◌≡◌, ◌≢◌, inl, inr, ap, sym, ◌∙◌
 use Rattle.std.specs.Prelude.{◌⊎◌}
 use Rattle.std.proofs.lemmas.Bool.{cases_eq}
 use Rattle.noc_packet.specs.Set.{has_bit}
-use Rattle.noc_rows.proofs.PassAll.{write-elsewhere, write-there}
+use Rattle.noc_rows.proofs.blocks.PassAllLemmas.{write-elsewhere, write-there}
 use Rattle.noc_rows.proofs.passes.note_busy.Goals as goal
 
 pub loop-number-preserved : goal.loop-number-preserved

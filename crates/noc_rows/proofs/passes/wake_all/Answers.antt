@@ -1,5 +1,5 @@
 use Rattle.std.proofs.Common.{◌+◌, arith, set, subst, sym}
-use Rattle.noc_rows.proofs.PassAll.{AreWokenTo, woken-all, woken-more, woken-none}
+use Rattle.noc_rows.proofs.blocks.PassAllLemmas.{AreWokenTo, woken-all, woken-more, woken-none}
 use Rattle.noc_rows.proofs.passes.wake_all.Goals as goal
 
 pub loop-number-init : goal.loop-number-init

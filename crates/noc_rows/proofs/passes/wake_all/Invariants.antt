@@ -1,4 +1,4 @@
-use Rattle.noc_rows.proofs.PassAll.{AreWokenTo}
+use Rattle.noc_rows.proofs.blocks.PassAllLemmas.{AreWokenTo}
 use Rattle.noc_rows.proofs.passes.wake_all.Given as goal
 
 abbrev pub invariant-loop-number : goal.invariant-loop-number

@@ -1,5 +1,5 @@
 use Rattle.std.proofs.Common.{arith}
-use Rattle.noc_rows.proofs.StillLemmas.{quiet-more}
+use Rattle.noc_rows.proofs.stuck.StillLemmas.{quiet-more}
 use Rattle.noc_rows.proofs.still.has_happened.Goals as goal
 
 pub loop-number-preserved : goal.loop-number-preserved

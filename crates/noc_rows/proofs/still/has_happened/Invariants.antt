@@ -1,4 +1,4 @@
-use Rattle.noc_rows.proofs.StillLemmas.{WereQuietTo}
+use Rattle.noc_rows.proofs.stuck.StillLemmas.{WereQuietTo}
 use Rattle.noc_rows.proofs.still.has_happened.Given as goal
 
 abbrev pub invariant-loop-number : goal.invariant-loop-number

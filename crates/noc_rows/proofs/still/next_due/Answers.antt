@@ -1,5 +1,5 @@
 use Rattle.std.proofs.Common.{◌+◌, arith, sym, subst}
-use Rattle.noc_rows.proofs.StillLemmas.{IsNextTo, next-all, next-more, next-none}
+use Rattle.noc_rows.proofs.stuck.StillLemmas.{IsNextTo, next-all, next-more, next-none}
 use Rattle.noc_rows.proofs.still.next_due.Goals as goal
 
 pub loop-number-init : goal.loop-number-init

@@ -1,4 +1,4 @@
-use Rattle.noc_rows.proofs.StillLemmas.{IsNextTo}
+use Rattle.noc_rows.proofs.stuck.StillLemmas.{IsNextTo}
 use Rattle.noc_rows.proofs.still.next_due.Given as goal
 
 abbrev pub invariant-loop-number : goal.invariant-loop-number

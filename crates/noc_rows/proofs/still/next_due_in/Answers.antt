@@ -1,5 +1,5 @@
 use Rattle.std.proofs.Common.{◌+◌, ◌∙◌, arith, sym, subst}
-use Rattle.noc_rows.proofs.StillLemmas.{IsNextInTo, next-in-all, next-in-more, next-in-none, next-in-skip}
+use Rattle.noc_rows.proofs.stuck.StillLemmas.{IsNextInTo, next-in-all, next-in-more, next-in-none, next-in-skip}
 use Rattle.noc_rows.proofs.still.next_due_in.Goals as goal
 use Rattle.noc_rows.proofs.still.next_due_in.Goals.{then-due-lane, else-due-lane}
 

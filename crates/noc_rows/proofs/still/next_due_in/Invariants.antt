@@ -1,4 +1,4 @@
-use Rattle.noc_rows.proofs.StillLemmas.{IsNextInTo}
+use Rattle.noc_rows.proofs.stuck.StillLemmas.{IsNextInTo}
 use Rattle.noc_rows.proofs.still.next_due_in.Given as goal
 
 abbrev pub invariant-loop-lane : goal.invariant-loop-lane

@@ -1,5 +1,5 @@
 use Rattle.std.proofs.Common.{◌+◌, arith, sym, subst}
-use Rattle.noc_rows.proofs.StillLemmas.{HaveWaitedTo, waited-all, waited-more, waited-none, waited-skip, waited-without}
+use Rattle.noc_rows.proofs.stuck.StillLemmas.{HaveWaitedTo, waited-all, waited-more, waited-none, waited-skip, waited-without}
 use Rattle.noc_rows.proofs.still.wait_all.Goals as goal
 use Rattle.noc_rows.proofs.still.wait_all.Goals.{then-number-blocks+then-blocks-number, else-number-blocks, else-number-blocks-via-then-number-blocks+else-blocks-number, else-number-blocks-via-else-number-blocks}
 

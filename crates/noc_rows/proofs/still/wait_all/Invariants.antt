@@ -1,4 +1,4 @@
-use Rattle.noc_rows.proofs.StillLemmas.{HaveWaitedTo}
+use Rattle.noc_rows.proofs.stuck.StillLemmas.{HaveWaitedTo}
 use Rattle.noc_rows.proofs.still.wait_all.Given as goal
 
 abbrev pub invariant-loop-number : goal.invariant-loop-number

@@ -1,6 +1,6 @@
 use Rattle.std.proofs.Common.{rules, arith, ◌≡◌, ◌+◌, ◌<◌, [], map, length, get_or, set, Some, ap, sym, ◌∙◌, subst, refl}
 use Rattle.std.proofs.lemmas.List.{length-map, get_or-set_other, map-set, set-get_or}
-use Rattle.noc_model.proofs.WireLemmas.{rows_kept}
+use Rattle.noc_theory.proofs.runs.WireLemmas.{rows_kept}
 use Rattle.noc_tiles.specs.Ends.{End, inlet, outlet}
 use Rattle.noc_tiles.specs.declared.wires.Outlet.{Outlet}
 use Rattle.noc_tiles.proofs.EndsLemmas.{empties-more, view-rest, view-at, length-views, meets, leaves}

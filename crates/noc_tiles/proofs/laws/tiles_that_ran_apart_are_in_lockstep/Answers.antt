@@ -1,4 +1,4 @@
-use Rattle.noc_tiles.proofs.ClosingLaw.{closing, closing-puts}
+use Rattle.noc_tiles.proofs.ClosingLemmas.{closing, closing-puts}
 use Rattle.noc_tiles.proofs.laws.tiles_that_ran_apart_are_in_lockstep.Goals as goal
 
 pub returns-clause-lockstep : goal.returns-clause-lockstep

@@ -5,7 +5,7 @@ use Rattle.noc_tiles.specs.Ends.{End}
 use Rattle.noc_tiles.specs.Partition.{IsUncut}
 use Rattle.noc_tiles.specs.Starts.{tile_start}
 use Rattle.noc_tiles.proofs.BoundaryLemmas.{vec-length}
-use Rattle.noc_tiles.proofs.PartitionLoop.{IsCutAt, enough, forward, next-in, next-out, tile-of, uncut-more, wide, wide-here}
+use Rattle.noc_tiles.proofs.PartitionLoopLemmas.{IsCutAt, enough, forward, next-in, next-out, tile-of, uncut-more, wide, wide-here}
 use Rattle.noc_tiles.proofs.partition.cut_tile.Goals as goal
 use Rattle.noc_tiles.proofs.partition.cut_tile.Goals.{After-tile_start-end}
 

@@ -3,7 +3,7 @@ use Rattle.std.proofs.lemmas.List.{length_push}
 use Rattle.noc_topo.specs.Shape.{Grid, nodes}
 use Rattle.noc_tiles.specs.Rings.{AreSlots, in_slots, out_slots}
 use Rattle.noc_tiles.specs.Partition.{IsTileOf}
-use Rattle.noc_tiles.proofs.PartitionLoop.{AreTilesOf, tiles-all, tiles-more, uncut-all}
+use Rattle.noc_tiles.proofs.PartitionLoopLemmas.{AreTilesOf, tiles-all, tiles-more, uncut-all}
 use Rattle.noc_tiles.proofs.partition.partition.Goals as goal
 
 pub loop-worker-init : goal.loop-worker-init

@@ -1,7 +1,7 @@
 use Rattle.std.proofs.Common.{◌≡◌, length}
 use Rattle.noc_tiles.specs.Rings.{in_slots, out_slots}
 use Rattle.noc_tiles.specs.Partition.{IsUncut}
-use Rattle.noc_tiles.proofs.PartitionLoop.{AreTilesOf}
+use Rattle.noc_tiles.proofs.PartitionLoopLemmas.{AreTilesOf}
 use Rattle.noc_tiles.proofs.partition.partition.Given as goal
 
 -- the workers before this one have their tiles

@@ -1,6 +1,6 @@
 use Rattle.std.proofs.Common.{◌≡◌, inr, ℕ, ◌<◌, [], map, length, get_or, set, Some, refl, ap, sym, ◌∙◌, subst, arith, rules}
 use Rattle.std.proofs.lemmas.List.{length-map, length-set}
-use Rattle.noc_model.proofs.WireLemmas.{rows_kept}
+use Rattle.noc_theory.proofs.runs.WireLemmas.{rows_kept}
 use Rattle.noc_tiles.specs.Ends.{End, outlet}
 use Rattle.noc_tiles.specs.Phases.{IsCleared}
 use Rattle.noc_tiles.specs.TileStep.{arrival_places}

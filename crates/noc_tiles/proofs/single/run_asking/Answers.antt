@@ -1,6 +1,6 @@
 use Rattle.std.proofs.Common.{◌≡◌, ℕ, ◌+◌, false, below_more, ap, sym, ◌∙◌, arith}
 use Rattle.std.proofs.lemmas.Bool.{false_from_ne_true, false≢true}
-use Rattle.noc_model.specs.Network.{Run}
+use Rattle.noc_theory.specs.Network.{Run}
 use Rattle.noc_tiles.proofs.single.run_asking.Goals as goal
 
 pub loop-k-preserved : goal.loop-k-preserved

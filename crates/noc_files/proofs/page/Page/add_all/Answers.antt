@@ -1,5 +1,5 @@
 use Rattle.std.proofs.Common.{◌++◌, ◌+◌, Bor, get_or, List, ℕ, [], take, drop, flat_map, length, ap, arith, length-append}
-use Rattle.noc_files.proofs.SinkFacts.{pieces_split}
+use Rattle.noc_files.proofs.SinkLemmas.{pieces_split}
 use Rattle.noc_files.proofs.page.Page.add_all.Goals as goal
 
 pub add-requires : goal.add-requires

@@ -1,5 +1,5 @@
 use Rattle.std.proofs.Common.{◌/◌, arith}
-use Rattle.noc_files.proofs.PageFacts.{first_digit, last_digit}
+use Rattle.noc_files.proofs.PageLemmas.{first_digit, last_digit}
 use Rattle.noc_files.proofs.page.Page.add_two.Goals as goal
 
 pub returns-then-number-lt10-clause-added : goal.returns-then-number-lt10-clause-added

@@ -1,7 +1,7 @@
 use Rattle.std.proofs.Common.{ap, ◌∙◌}
-use Rattle.noc_model.specs.declared.event.Event.TheVariants.{Take, Decide, Put}
-use Rattle.noc_model.specs.Core.{CoreState}
-use Rattle.noc_model.proofs.OrderLemmas.{net-happens}
+use Rattle.noc_theory.specs.declared.event.Event.TheVariants.{Take, Decide, Put}
+use Rattle.noc_theory.specs.Core.{CoreState}
+use Rattle.noc_theory.proofs.runs.OrderLemmas.{net-happens}
 use Rattle.noc_net.proofs.event_core.Core.apply.Goals as goal
 
 pub returns-in-Take-clause-net : goal.returns-in-Take-clause-net

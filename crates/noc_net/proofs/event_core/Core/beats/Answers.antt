@@ -1,11 +1,11 @@
 use Rattle.std.proofs.Common.{◌≡◌, ◌<◌, ◌≤◌, [], Option, length, unwrap_or, option_map, ap, sym, subst, ◌∙◌, arith}
 use Rattle.std.proofs.lemmas.List.{get_or-take, get_or_past}
 use Rattle.noc_topo.specs.Shape.{local_port, nodes}
-use Rattle.noc_model.specs.declared.limits.TheConstants.{CYCLE_LIMIT}
-use Rattle.noc_model.specs.Core.{CoreState, Post, wire_at, wire_of}
+use Rattle.noc_theory.specs.declared.limits.TheConstants.{CYCLE_LIMIT}
+use Rattle.noc_theory.specs.Core.{CoreState, Post, wire_at, wire_of}
 use Rattle.noc_net.specs.Room.{wires_in}
 use Rattle.noc_net.specs.Stored.{core_in}
-use Rattle.noc_model.proofs.CoreLemmas.{router_there}
+use Rattle.noc_theory.proofs.runs.CoreLemmas.{router_there}
 use Rattle.noc_net.proofs.StoredLemmas.{post_of_room}
 use Rattle.noc_net.proofs.event_core.Core.beats.Goals as goal
 

@@ -1,13 +1,13 @@
 use Rattle.std.proofs.Common.{◌<◌, refl, ap, sym, subst, ◌∙◌, arith}
 use Rattle.noc_topo.specs.Shape.{local_port}
 use Rattle.noc_router.specs.View.{Site}
-use Rattle.noc_model.specs.declared.event.Event.TheVariants.{Decide}
-use Rattle.noc_model.specs.declared.limits.TheConstants.{CYCLE_LIMIT}
-use Rattle.noc_model.specs.Core.{CoreState, Post, deciding, happens}
+use Rattle.noc_theory.specs.declared.event.Event.TheVariants.{Decide}
+use Rattle.noc_theory.specs.declared.limits.TheConstants.{CYCLE_LIMIT}
+use Rattle.noc_theory.specs.Core.{CoreState, Post, deciding, happens}
 use Rattle.noc_net.specs.Room.{post_of}
 use Rattle.noc_net.specs.Stored.{core_in}
-use Rattle.noc_model.proofs.CoreLemmas.{router_within}
-use Rattle.noc_model.proofs.EventLemmas.{may_decide-parts}
+use Rattle.noc_theory.proofs.runs.CoreLemmas.{router_within}
+use Rattle.noc_theory.proofs.runs.EventLemmas.{may_decide-parts}
 use Rattle.noc_net.proofs.StoredLemmas.{within_after, in_step_after, read_post, read_room, read_router, ready_decide, ready_here, router_changed, router_relation, router_site}
 use Rattle.noc_net.proofs.event_core.Core.decide.Goals as goal
 

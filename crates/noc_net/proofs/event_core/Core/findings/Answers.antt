@@ -2,7 +2,7 @@ use Rattle.std.proofs.Common.{◌≡◌, ◌<◌, Option, Some, option_map, ap, 
 use Rattle.std.proofs.lemmas.Option.{same_Some}
 use Rattle.noc_topo.specs.Shape.{nodes}
 use Rattle.noc_router.specs.View.{View}
-use Rattle.noc_model.specs.Core.{CoreState, Post, view_of_post}
+use Rattle.noc_theory.specs.Core.{CoreState, Post, view_of_post}
 use Rattle.noc_net.specs.Stored.{core_in}
 use Rattle.noc_net.proofs.StoredLemmas.{post_of_router}
 use Rattle.noc_net.proofs.event_core.Core.findings.Goals as goal

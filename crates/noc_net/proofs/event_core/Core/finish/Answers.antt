@@ -3,14 +3,14 @@ use Rattle.std.specs.List.{list_all}
 use Rattle.std.proofs.lemmas.List.{with_items_is}
 use Rattle.noc_topo.specs.Shape.{local_port, nodes}
 use Rattle.noc_packet.specs.declared.packet.Beat.{Beat}
-use Rattle.noc_model.specs.declared.limits.TheConstants.{CYCLE_LIMIT}
+use Rattle.noc_theory.specs.declared.limits.TheConstants.{CYCLE_LIMIT}
 use Rattle.noc_net.specs.declared.room.Room.{Room}
-use Rattle.noc_model.specs.Core.{CoreState, Post, are_between, opening_core, steps_at}
-use Rattle.noc_model.specs.Halves.{beat_at}
+use Rattle.noc_theory.specs.Core.{CoreState, Post, are_between, opening_core, steps_at}
+use Rattle.noc_theory.specs.Halves.{beat_at}
 use Rattle.noc_net.specs.Room.{front_of, rests_at, wires_in}
 use Rattle.noc_net.specs.Stored.{core_in}
-use Rattle.noc_model.proofs.OrderLemmas.{whole_core}
-use Rattle.noc_model.proofs.Opening.{opening-is}
+use Rattle.noc_theory.proofs.runs.OrderLemmas.{whole_core}
+use Rattle.noc_theory.proofs.join.CoreOpeningLemmas.{opening-is}
 use Rattle.noc_net.specs.Parts.{setup_in}
 use Rattle.noc_net.proofs.PartsLemmas.{parts-in_step}
 use Rattle.noc_net.proofs.StoredLemmas.{steps-within, all_rest, post_of_room, run_of_core, some_node, rested_views, rested_wires}

@@ -1,9 +1,9 @@
 use Rattle.std.proofs.Common.{◌≡◌, ◌<◌, ap, sym, ◌∙◌, arith}
 use Rattle.noc_topo.specs.Shape.{local_port, nodes}
 use Rattle.noc_router.specs.View.{Site}
-use Rattle.noc_model.specs.declared.event.Event.TheVariants.{Decide}
-use Rattle.noc_model.specs.declared.limits.TheConstants.{CYCLE_LIMIT}
-use Rattle.noc_model.specs.Core.{CoreState, holds_at, is_ready, may_decide}
+use Rattle.noc_theory.specs.declared.event.Event.TheVariants.{Decide}
+use Rattle.noc_theory.specs.declared.limits.TheConstants.{CYCLE_LIMIT}
+use Rattle.noc_theory.specs.Core.{CoreState, holds_at, is_ready, may_decide}
 use Rattle.noc_net.specs.Room.{post_of}
 use Rattle.noc_net.specs.Stored.{core_in}
 use Rattle.noc_net.proofs.StoredLemmas.{no_router, post_of_room, read_there, router_site}

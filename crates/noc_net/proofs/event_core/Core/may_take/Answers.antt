@@ -1,11 +1,11 @@
 use Rattle.std.proofs.Common.{◌≡◌, true, false, ◌&&◌, is_some, ap, sym, ◌∙◌, arith}
 use Rattle.std.proofs.lemmas.Bool.{and_parts}
 use Rattle.noc_topo.specs.Shape.{local_port}
-use Rattle.noc_model.specs.declared.event.Event.TheVariants.{Take}
-use Rattle.noc_model.specs.declared.limits.TheConstants.{CYCLE_LIMIT}
-use Rattle.noc_model.specs.Core.{CoreState, holds_at, is_linked, is_ready, may_take, post_at}
+use Rattle.noc_theory.specs.declared.event.Event.TheVariants.{Take}
+use Rattle.noc_theory.specs.declared.limits.TheConstants.{CYCLE_LIMIT}
+use Rattle.noc_theory.specs.Core.{CoreState, holds_at, is_linked, is_ready, may_take, post_at}
 use Rattle.noc_net.specs.Stored.{core_in}
-use Rattle.noc_model.proofs.EventLemmas.{linked_port}
+use Rattle.noc_theory.proofs.runs.EventLemmas.{linked_port}
 use Rattle.noc_net.proofs.StoredLemmas.{few_links, post_of_room, router_exists, unready}
 use Rattle.noc_net.proofs.event_core.Core.may_take.Goals as goal
 

@@ -5,14 +5,14 @@ use Rattle.noc_topo.specs.Shape.{local_port}
 use Rattle.noc_topo.proofs.LinkLemmas.{link_back}
 use Rattle.noc_packet.specs.declared.packet.Beat.{Beat}
 use Rattle.noc_router.specs.View.{Site, idle_beat}
-use Rattle.noc_model.specs.declared.event.Event.TheVariants.{Put}
-use Rattle.noc_model.specs.declared.limits.TheConstants.{CYCLE_LIMIT}
-use Rattle.noc_model.specs.Core.{CoreState, Post, beat_to_send, happens, post_at, putting}
+use Rattle.noc_theory.specs.declared.event.Event.TheVariants.{Put}
+use Rattle.noc_theory.specs.declared.limits.TheConstants.{CYCLE_LIMIT}
+use Rattle.noc_theory.specs.Core.{CoreState, Post, beat_to_send, happens, post_at, putting}
 use Rattle.noc_net.specs.Parts.{setup_in}
 use Rattle.noc_net.specs.Room.{post_of}
 use Rattle.noc_net.specs.Stored.{core_in}
-use Rattle.noc_model.proofs.CoreLemmas.{get_some, router_within}
-use Rattle.noc_model.proofs.EventLemmas.{linked_port}
+use Rattle.noc_theory.proofs.runs.CoreLemmas.{get_some, router_within}
+use Rattle.noc_theory.proofs.runs.EventLemmas.{linked_port}
 use Rattle.noc_net.proofs.StoredLemmas.{few_links, in_step_after, within_after, place_of_link, put_changed, read_post, read_room, read_router, ready_here, ready_put, room_at_end, router_site}
 use Rattle.noc_net.proofs.event_core.Core.put.Goals as goal
 

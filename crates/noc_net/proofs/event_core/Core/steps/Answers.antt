@@ -1,7 +1,7 @@
 use Rattle.std.proofs.Common.{◌<◌, ◌≤◌, ◌+◌, ℕ, Option, unwrap_or, option_map, ap, sym, subst, ◌∙◌, arith}
 use Rattle.noc_topo.specs.Shape.{nodes}
-use Rattle.noc_model.specs.declared.limits.TheConstants.{CYCLE_LIMIT}
-use Rattle.noc_model.specs.Core.{CoreState, Post, steps_at}
+use Rattle.noc_theory.specs.declared.limits.TheConstants.{CYCLE_LIMIT}
+use Rattle.noc_theory.specs.Core.{CoreState, Post, steps_at}
 use Rattle.noc_net.proofs.StoredLemmas.{post_of_room}
 use Rattle.noc_net.proofs.event_core.Core.steps.Goals as goal
 

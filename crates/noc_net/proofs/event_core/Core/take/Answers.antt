@@ -1,11 +1,11 @@
 use Rattle.std.proofs.Common.{ap, ◌∙◌, arith}
 use Rattle.noc_topo.specs.Shape.{local_port}
-use Rattle.noc_model.specs.declared.event.Event.TheVariants.{Take}
-use Rattle.noc_model.specs.declared.limits.TheConstants.{CYCLE_LIMIT}
-use Rattle.noc_model.specs.Core.{CoreState, happens, taking}
+use Rattle.noc_theory.specs.declared.event.Event.TheVariants.{Take}
+use Rattle.noc_theory.specs.declared.limits.TheConstants.{CYCLE_LIMIT}
+use Rattle.noc_theory.specs.Core.{CoreState, happens, taking}
 use Rattle.noc_net.specs.Stored.{core_in}
-use Rattle.noc_model.proofs.CoreLemmas.{router_within}
-use Rattle.noc_model.proofs.EventLemmas.{linked_port}
+use Rattle.noc_theory.proofs.runs.CoreLemmas.{router_within}
+use Rattle.noc_theory.proofs.runs.EventLemmas.{linked_port}
 use Rattle.noc_net.proofs.StoredLemmas.{few_links, in_step_after, within_after, ready_here, ready_take, room_changed}
 use Rattle.noc_net.proofs.event_core.Core.take.Goals as goal
 

@@ -1,5 +1,5 @@
 use Rattle.std.proofs.Common.{◌≡◌, ℕ, Bool, false, length, not, Option, Some, None, is_some, ap, refl, sym, ◌∙◌, arith}
-use Rattle.noc_model.specs.Network.{Run, arrival_in, state_at}
+use Rattle.noc_theory.specs.Network.{Run, arrival_in, state_at}
 use Rattle.noc_net.proofs.LimitLemmas.{all_more, one_not, all_all}
 use Rattle.noc_net.proofs.network.Network.all_out.Goals as goal
 

@@ -2,7 +2,7 @@ use Rattle.std.proofs.Common.{◌≡◌, true, take, length}
 use Rattle.std.specs.Prelude.{is_some}
 use Rattle.std.specs.List.{list_all}
 use Rattle.noc_topo.specs.Words.{below}
-use Rattle.noc_model.specs.Network.{arrival_in, state_at}
+use Rattle.noc_theory.specs.Network.{arrival_in, state_at}
 use Rattle.noc_net.proofs.network.Network.all_out.Given as goal
 
 -- every packet so far is out

@@ -1,7 +1,7 @@
 use Rattle.std.proofs.Common.{◌≡◌, ℕ, ◌<◌, ◌≤◌, Option, Some, length, ap, sym, ◌∙◌, subst}
 use Rattle.noc_route.specs.Ranks.{IsRankedBy, Ranking}
-use Rattle.noc_model.specs.Good.{IsGoodSetup}
-use Rattle.noc_model.specs.Network.{Run, arrival_in, state_at}
+use Rattle.noc_theory.specs.Good.{IsGoodSetup}
+use Rattle.noc_theory.specs.Network.{Run, arrival_in, state_at}
 use Rattle.noc_net.specs.Limit.{IsLimit}
 use Rattle.noc_net.specs.Parts.{setup_in}
 use Rattle.noc_net.proofs.LimitLemmas.{arrives}

@@ -1,6 +1,6 @@
 use Rattle.std.proofs.Common.{ℕ, ◌+◌, ◌*◌, length, ap₂, sym, ◌∙◌, arith}
-use Rattle.noc_model.specs.Network.{Run, packet_at}
-use Rattle.noc_model.specs.Progress.{hops}
+use Rattle.noc_theory.specs.Network.{Run, packet_at}
+use Rattle.noc_theory.specs.Progress.{hops}
 use Rattle.noc_net.proofs.LimitLemmas.{sum_more, sum_all}
 use Rattle.noc_net.proofs.network.Network.budget.Goals as goal
 

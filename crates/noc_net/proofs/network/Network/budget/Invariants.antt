@@ -1,8 +1,8 @@
 use Rattle.std.proofs.Common.{◌≡◌, ◌≤◌, ◌+◌, ◌*◌, take, length}
 use Rattle.std.specs.List.{sum_by}
 use Rattle.noc_topo.specs.Words.{below}
-use Rattle.noc_model.specs.Network.{packet_at}
-use Rattle.noc_model.specs.Progress.{hops}
+use Rattle.noc_theory.specs.Network.{packet_at}
+use Rattle.noc_theory.specs.Progress.{hops}
 use Rattle.noc_net.specs.declared.limit.TheConstants.{MAX_EVENTS}
 use Rattle.noc_net.proofs.network.Network.budget.Given as goal
 

@@ -3,8 +3,8 @@ use Rattle.std.proofs.lemmas.Nat.{mul-le}
 use Rattle.noc_topo.specs.Shape.{Grid, distance}
 use Rattle.noc_packet.specs.declared.packet.Packet.{Packet}
 use Rattle.noc_route.specs.Routes.{Routes}
-use Rattle.noc_model.specs.Network.{packet_at}
-use Rattle.noc_model.specs.Progress.{hops}
+use Rattle.noc_theory.specs.Network.{packet_at}
+use Rattle.noc_theory.specs.Progress.{hops}
 use Rattle.noc_net.proofs.LimitLemmas.{packet-good, packet-here}
 use Rattle.noc_net.proofs.network.Network.events_of.Goals as goal
 

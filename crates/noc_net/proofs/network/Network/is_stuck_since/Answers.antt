@@ -2,10 +2,10 @@ use Rattle.std.proofs.Common.{◌≡◌, ℕ, suc, ◌+◌, true, false, Option,
 use Rattle.std.specs.Prelude.{◌&&◌, nat_eq, not}
 use Rattle.std.specs.Option.{option_eq}
 use Rattle.noc_topo.specs.Words.{is_some_of}
-use Rattle.noc_model.specs.Good.{IsGoodSetup}
-use Rattle.noc_model.specs.Network.{Setup, state_at}
-use Rattle.noc_model.specs.Progress.{is_pending, is_stuck, last_event_before}
-use Rattle.noc_model.proofs.StuckLemmas.{stuck-after}
+use Rattle.noc_theory.specs.Good.{IsGoodSetup}
+use Rattle.noc_theory.specs.Network.{Setup, state_at}
+use Rattle.noc_theory.specs.Progress.{is_pending, is_stuck, last_event_before}
+use Rattle.noc_theory.proofs.budget.StuckLemmas.{stuck-after}
 use Rattle.noc_net.proofs.network.Network.is_stuck_since.Goals as goal
 
 -- at the count behind the last cycle

@@ -1,6 +1,6 @@
 use Rattle.std.proofs.Common.{ℕ, Bool, length, sym, arith}
 use Rattle.std.specs.Prelude.{◌&&◌, is_none, nat_le}
-use Rattle.noc_model.specs.Network.{Run, arrival_in, packet_at, state_at}
+use Rattle.noc_theory.specs.Network.{Run, arrival_in, packet_at, state_at}
 use Rattle.noc_net.proofs.ReaderLemmas.{none_more, some_here, none_all}
 use Rattle.noc_net.proofs.network.Network.is_waiting_by.Goals as goal
 

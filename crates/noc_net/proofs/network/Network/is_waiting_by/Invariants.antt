@@ -2,7 +2,7 @@ use Rattle.std.proofs.Common.{◌≡◌, false, take, length}
 use Rattle.std.specs.Prelude.{◌&&◌, is_none, nat_le}
 use Rattle.std.specs.List.{list_any}
 use Rattle.noc_topo.specs.Words.{below}
-use Rattle.noc_model.specs.Network.{arrival_in, packet_at, state_at}
+use Rattle.noc_theory.specs.Network.{arrival_in, packet_at, state_at}
 use Rattle.noc_net.proofs.network.Network.is_waiting_by.Given as goal
 
 -- no packet so far waits

@@ -3,10 +3,10 @@ use Rattle.noc_topo.specs.Words.{tabulate}
 use Rattle.noc_topo.specs.Shape.{nodes}
 use Rattle.noc_packet.specs.declared.packet.Packet.{Packet}
 use Rattle.noc_router.specs.View.{opening_view}
-use Rattle.noc_model.specs.Good.{IsGoodSetup}
-use Rattle.noc_model.specs.Lockstep.{starts_of, ends_of}
-use Rattle.noc_model.specs.Network.{Setup}
-use Rattle.noc_model.proofs.RunLemmas.{opening_views, opening_wires, silent_at}
+use Rattle.noc_theory.specs.Good.{IsGoodSetup}
+use Rattle.noc_theory.specs.Lockstep.{starts_of, ends_of}
+use Rattle.noc_theory.specs.Network.{Setup}
+use Rattle.noc_theory.proofs.runs.RunLemmas.{opening_views, opening_wires, silent_at}
 use Rattle.noc_net.proofs.PartsLemmas.{parts-in_step}
 use Rattle.noc_net.proofs.network.Network.new.Goals as goal
 

@@ -1,7 +1,7 @@
 use Rattle.std.proofs.Common.{ap, ◌∙◌, subst}
-use Rattle.noc_model.specs.Good.{IsGoodSetup}
-use Rattle.noc_model.specs.Network.{Run, state_at}
-use Rattle.noc_model.specs.Progress.{is_pending}
+use Rattle.noc_theory.specs.Good.{IsGoodSetup}
+use Rattle.noc_theory.specs.Network.{Run, state_at}
+use Rattle.noc_theory.specs.Progress.{is_pending}
 use Rattle.noc_net.proofs.LimitLemmas.{idle}
 use Rattle.noc_net.proofs.network.Network.pending.Goals as goal
 

@@ -1,7 +1,7 @@
 use Rattle.std.proofs.Common.{◌+◌, ◌≤◌, refl, sym, subst}
-use Rattle.noc_model.specs.declared.limits.TheConstants.{CYCLE_LIMIT}
-use Rattle.noc_model.specs.Network.{Run}
-use Rattle.noc_model.proofs.Theorems.{not-stuck}
+use Rattle.noc_theory.specs.declared.limits.TheConstants.{CYCLE_LIMIT}
+use Rattle.noc_theory.specs.Network.{Run}
+use Rattle.noc_theory.proofs.budget.ProgressTheoremLemmas.{not-stuck}
 use Rattle.noc_net.specs.declared.network.Network.TheInside.{Inside}
 use Rattle.noc_net.specs.Inside.{IsNetwork}
 use Rattle.noc_net.specs.Parts.{setup_in}

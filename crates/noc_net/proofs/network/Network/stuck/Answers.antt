@@ -1,7 +1,7 @@
 use Rattle.std.proofs.Common.{◌∙◌, subst}
-use Rattle.noc_model.specs.Good.{IsGoodSetup}
-use Rattle.noc_model.specs.Network.{Run}
-use Rattle.noc_model.proofs.Theorems.{not-stuck}
+use Rattle.noc_theory.specs.Good.{IsGoodSetup}
+use Rattle.noc_theory.specs.Network.{Run}
+use Rattle.noc_theory.proofs.budget.ProgressTheoremLemmas.{not-stuck}
 use Rattle.noc_net.proofs.network.Network.stuck.Goals as goal
 
 pub is_stuck_since-requires-clause-good : goal.is_stuck_since-requires-clause-good

@@ -3,10 +3,10 @@ use Rattle.std.proofs.Common.{◌≡◌, ℕ, refl, ap, sym, ◌∙◌, subst, a
 use Rattle.std.proofs.lemmas.List.{get_or_default}
 use Rattle.noc_packet.specs.declared.packet.Packet.{Packet}
 use Rattle.noc_router.specs.View.{View}
-use Rattle.noc_model.specs.Good.{IsGoodPacket}
-use Rattle.noc_model.specs.Network.{packet_at}
-use Rattle.noc_model.specs.Lockstep.{view_at}
-use Rattle.noc_model.proofs.Arrivals.{arrival-noted}
+use Rattle.noc_theory.specs.Good.{IsGoodPacket}
+use Rattle.noc_theory.specs.Network.{packet_at}
+use Rattle.noc_theory.specs.Lockstep.{view_at}
+use Rattle.noc_theory.proofs.join.ArrivalLemmas.{arrival-noted}
 use Rattle.noc_net.specs.Parts.{run_in, setup_in}
 use Rattle.noc_net.proofs.ReaderLemmas.{count_routers, router_at}
 use Rattle.noc_net.proofs.parts.Parts.arrival.Goals as goal

@@ -5,8 +5,8 @@ use Rattle.noc_topo.specs.Shape.{ports}
 use Rattle.noc_router.specs.View.{Site, View}
 use Rattle.noc_net.specs.Parts.{run_in, setup_in}
 use Rattle.noc_topo.proofs.WordLemmas.{get_or-tabulate}
-use Rattle.noc_model.specs.Lockstep.{counts_before, view_at}
-use Rattle.noc_model.specs.Network.{Setup, size}
+use Rattle.noc_theory.specs.Lockstep.{counts_before, view_at}
+use Rattle.noc_theory.specs.Network.{Setup, size}
 use Rattle.noc_net.proofs.ReaderLemmas.{count_routers, router_at, router_site}
 use Rattle.noc_net.proofs.parts.Parts.counts.Goals as goal
 

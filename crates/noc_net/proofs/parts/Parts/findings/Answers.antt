@@ -1,7 +1,7 @@
 use Rattle.std.proofs.Common.{◌≡◌, ℕ, refl, ap, ◌∙◌, arith}
 use Rattle.noc_router.specs.View.{View}
-use Rattle.noc_model.specs.Lockstep.{findings_before, view_at}
-use Rattle.noc_model.specs.Network.{Setup}
+use Rattle.noc_theory.specs.Lockstep.{findings_before, view_at}
+use Rattle.noc_theory.specs.Network.{Setup}
 use Rattle.noc_net.specs.Parts.{run_in, setup_in}
 use Rattle.noc_net.proofs.ReaderLemmas.{count_routers, router_at}
 use Rattle.noc_net.proofs.parts.Parts.findings.Goals as goal

@@ -1,10 +1,10 @@
 use Rattle.std.proofs.Common.{◌≡◌, ℕ, ◌+◌, ◌-◌, List, ap, ◌∙◌, subst, refl, arith}
 use Rattle.std.proofs.lemmas.List.{with_items_is}
 use Rattle.noc_packet.specs.declared.packet.Beat.{Beat}
-use Rattle.noc_model.specs.Halves.{beat_at}
+use Rattle.noc_theory.specs.Halves.{beat_at}
 use Rattle.noc_router.specs.declared.verdict.Findings.TheVariants.{Record}
-use Rattle.noc_model.specs.Unseen.{AreInStep}
-use Rattle.noc_model.proofs.UnseenLemmas.{to_unseen}
+use Rattle.noc_theory.specs.Unseen.{AreInStep}
+use Rattle.noc_theory.proofs.runs.UnseenLemmas.{to_unseen}
 use Rattle.noc_net.specs.Parts.{setup_in}
 use Rattle.noc_net.proofs.PartsLemmas.{parts-in_step, views-in_step, wires-in_step}
 use Rattle.noc_net.proofs.parts.Parts.run.Goals as goal

@@ -6,9 +6,9 @@ use Rattle.noc_topo.proofs.WordLemmas.{map_indexed-from_each}
 use Rattle.noc_packet.specs.declared.packet.Beat.{Beat}
 use Rattle.noc_router.specs.View.{idle_beat}
 use Rattle.noc_net.specs.declared.wire.Wire.{Wire}
-use Rattle.noc_model.specs.Core.{post_after_last_put, is_linked}
+use Rattle.noc_theory.specs.Core.{post_after_last_put, is_linked}
 use Rattle.noc_net.specs.Room.{unput_for, wire_beats, wires_in}
-use Rattle.noc_model.proofs.PostLemmas.{same_post}
+use Rattle.noc_theory.proofs.runs.PostLemmas.{same_post}
 use Rattle.noc_net.proofs.RoomLemmas.{each_more, then_some_is}
 use Rattle.noc_net.proofs.room.Room.decide.Goals as goal
 

@@ -2,7 +2,7 @@ use Rattle.std.proofs.Common.{◌≡◌, ℕ, ◌+◌, List, take, replicate, Op
 use Rattle.std.specs.Prelude.{if◌then◌else◌}
 use Rattle.noc_packet.specs.declared.packet.Beat.{Beat}
 use Rattle.noc_net.specs.declared.room.Room.{Room}
-use Rattle.noc_model.specs.Core.{resting_post}
+use Rattle.noc_theory.specs.Core.{resting_post}
 use Rattle.noc_net.specs.Room.{post_of, wires_in}
 use Rattle.noc_net.proofs.RoomLemmas.{take_replicate}
 use Rattle.noc_net.proofs.room.Room.finish.Goals as goal

@@ -5,7 +5,7 @@ use Rattle.noc_packet.specs.declared.packet.Beat.{Beat}
 use Rattle.noc_router.specs.View.{idle_beat}
 use Rattle.noc_net.specs.Room.{front_of, wire_beats, wires_in}
 use Rattle.noc_net.proofs.RoomLemmas.{each_more}
-use Rattle.noc_model.proofs.WireLemmas.{get_or-idle}
+use Rattle.noc_theory.proofs.runs.WireLemmas.{get_or-idle}
 use Rattle.noc_net.proofs.room.Room.front.Goals as goal
 
 pub loop-port-init : goal.loop-port-init

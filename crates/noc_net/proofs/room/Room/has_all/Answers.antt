@@ -1,7 +1,7 @@
 use Rattle.std.proofs.Common.{◌≡◌, ℕ, true, false, not, ◌&&◌, ◌||◌, None, is_none, is_some, take, get_or, ap, sym, ◌∙◌, arith}
 use Rattle.std.proofs.lemmas.List.{get_or-take}
 use Rattle.noc_topo.specs.Shape.{Grid, neighbour, local_port}
-use Rattle.noc_model.specs.Core.{has_beat, is_linked, link_ports}
+use Rattle.noc_theory.specs.Core.{has_beat, is_linked, link_ports}
 use Rattle.noc_net.proofs.RoomLemmas.{all_none, all_more, all_end, one_fails, lacks_one}
 use Rattle.noc_net.proofs.room.Room.has_all.Goals as goal
 

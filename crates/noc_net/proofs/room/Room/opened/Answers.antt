@@ -8,7 +8,7 @@ use Rattle.noc_packet.specs.declared.packet.Beat.{Beat}
 use Rattle.noc_router.specs.View.{idle_beat}
 use Rattle.noc_net.specs.declared.room.Room.{Room}
 use Rattle.noc_net.specs.Room.{opening_wires, wire_beats, wires_in}
-use Rattle.noc_model.proofs.PostLemmas.{same_post}
+use Rattle.noc_theory.proofs.runs.PostLemmas.{same_post}
 use Rattle.noc_net.proofs.RoomLemmas.{each_more, take_replicate}
 use Rattle.noc_net.proofs.room.Room.opened.Goals as goal
 

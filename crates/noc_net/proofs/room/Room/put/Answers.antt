@@ -1,6 +1,6 @@
 use Rattle.std.proofs.Common.{ap, ◌∙◌, None, Option, List}
 use Rattle.noc_packet.specs.declared.packet.Beat.{Beat}
-use Rattle.noc_model.specs.Core.{post_after_last_put}
+use Rattle.noc_theory.specs.Core.{post_after_last_put}
 use Rattle.noc_net.specs.Room.{post_of}
 use Rattle.noc_net.proofs.RoomLemmas.{take_set}
 use Rattle.noc_net.proofs.room.Room.put.Goals as goal

@@ -1,7 +1,7 @@
 use denote.Param.Send.{IsSend, view_send, owning_send, struct_send, AllSend}
 use denote.Struct.Struct.{exits_of}
 use denote.Struct.Owning.{shape, fields, to}
-use Rattle.noc_ring.proofs.Sends.{Block-send, quiet}
+use Rattle.noc_ring.proofs.SendLemmas.{Block-send, quiet}
 use Rattle.noc_ring.specs.contracts.store.Store.{the_row}
 use Rattle.noc_ring.specs.contracts.store.Store.TheInside.{the_row as Inside, the_type as Holder}
 

@@ -1,6 +1,6 @@
 use denote.Param.Send.{IsSync, view_sync, struct_sync}
 use denote.Struct.Owning.{shape, to}
-use Rattle.noc_ring.proofs.Sends.{Block-sync}
+use Rattle.noc_ring.proofs.SendLemmas.{Block-sync}
 use Rattle.noc_ring.specs.contracts.store.Store.{the_row}
 use Rattle.noc_ring.specs.contracts.store.Store.TheInside.{the_row as Inside, the_type as Holder}
 

@@ -2,7 +2,7 @@ use Rattle.std.proofs.Common.{None, get_or, ◌∙◌}
 use Rattle.noc_router.specs.Asked.{round_in}
 use Rattle.noc_router.specs.Requests.{is_given}
 use Rattle.noc_router.proofs.FilledLemmas.{marked-next}
-use Rattle.noc_router.proofs.Members.{AreBelow-without}
+use Rattle.noc_router.proofs.MemberLemmas.{AreBelow-without}
 use Rattle.noc_router.proofs.requests.Requests.granted.Goals as goal
 
 pub loop-index-preserved : goal.loop-index-preserved

@@ -3,7 +3,7 @@ use Rattle.noc_packet.specs.Set.{has_bit}
 use Rattle.noc_router.specs.Asked.{RequestLists, lists_in, routes_in}
 use Rattle.noc_router.specs.View.{route_of, size_of}
 use Rattle.noc_router.proofs.FilledLemmas.{filled-last, filled-next}
-use Rattle.noc_router.proofs.Members.{without-member}
+use Rattle.noc_router.proofs.MemberLemmas.{without-member}
 use Rattle.noc_router.proofs.PlaceLemmas.{length-sets}
 use Rattle.noc_router.proofs.QuietLemmas.{least_member, none_left}
 use Rattle.noc_router.proofs.StandLemmas.{head-route}

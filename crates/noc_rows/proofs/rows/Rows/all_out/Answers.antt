@@ -3,7 +3,7 @@ use Rattle.std.specs.Prelude.{◌⊎◌}
 use Rattle.std.proofs.lemmas.Bool.{cases_lt}
 use Rattle.std.proofs.lemmas.List.{get_or_default}
 use Rattle.noc_row_words.specs.declared.starts.TheConstants.{NEVER}
-use Rattle.noc_rows.proofs.ReaderLaws.{all-out, one-left}
+use Rattle.noc_rows.proofs.blocks.ReaderLemmas.{all-out, one-left}
 use Rattle.noc_rows.proofs.rows.Rows.all_out.Goals as goal
 
 pub loop-past-preserved : goal.loop-past-preserved

@@ -1,5 +1,5 @@
 use Rattle.std.proofs.Common.{◌/◌, ◌<◌, length, arith, ◌∙◌}
-use Rattle.noc_rows.proofs.ReaderLaws.{counted-is}
+use Rattle.noc_rows.proofs.blocks.ReaderLemmas.{counted-is}
 use Rattle.noc_rows.proofs.rows.Rows.counts.Goals as goal
 
 pub returns : goal.returns

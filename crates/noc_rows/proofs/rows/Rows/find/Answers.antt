@@ -6,7 +6,7 @@ use Rattle.noc_rows.specs.Steps.{HasDecidedRows}
 use Rattle.noc_rows.specs.Whole.{ShowsNetwork}
 use Rattle.noc_row_words.specs.Wires.{room_of}
 use Rattle.noc_rows.specs.declared.rows.Rows.{Rows}
-use Rattle.noc_rows.proofs.FoundSteps.{find-shows, whole-found}
+use Rattle.noc_rows.proofs.found.FoundStepLemmas.{find-shows, whole-found}
 use Rattle.noc_rows.proofs.rows.Rows.find.Goals as goal
 
 pub returns : goal.returns

@@ -2,7 +2,7 @@ use Rattle.std.proofs.Common.{◌-◌, None, Some, ap, sym, subst, ◌∙◌}
 use Rattle.std.specs.Prelude.{if◌then◌else◌}
 use Rattle.std.proofs.lemmas.Bool.{eq-eqb, ne_eqb}
 use Rattle.noc_rows.specs.Readers.{IsLatest}
-use Rattle.noc_rows.proofs.ReaderLaws.{event-is}
+use Rattle.noc_rows.proofs.blocks.ReaderLemmas.{event-is}
 use Rattle.noc_rows.proofs.rows.Rows.last_event.Goals as goal
 
 pub returns-then-last-eq0 : goal.returns-then-last-eq0

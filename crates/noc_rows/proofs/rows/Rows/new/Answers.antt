@@ -1,12 +1,12 @@
 use Rattle.std.proofs.Common.{◌≡◌, ◌+◌, ◌*◌, ◌/◌, length, replicate, refl, ap, sym, subst, ◌∙◌, arith, rules}
-use Rattle.noc_model.specs.Good.{IsGoodSetup}
-use Rattle.noc_model.specs.Network.{Setup}
+use Rattle.noc_theory.specs.Good.{IsGoodSetup}
+use Rattle.noc_theory.specs.Network.{Setup}
 use Rattle.noc_topo.specs.Shape.{nodes}
 use Rattle.noc_rows.specs.Opened.{AreOpenBlocks, AreOpenWires}
 use Rattle.noc_rows.specs.Whole.{IsRows, ShowsNetwork}
 use Rattle.noc_rows.specs.declared.rows.Rows.{Rows}
-use Rattle.noc_rows.proofs.FirstRowsLaws.{first-rows, same-setup}
-use Rattle.noc_rows.proofs.OpenedLaws.{good-limits, good-starts}
+use Rattle.noc_rows.proofs.opening.FirstRowLemmas.{first-rows, same-setup}
+use Rattle.noc_rows.proofs.opening.OpenedLemmas.{good-limits, good-starts}
 use Rattle.noc_rows.proofs.rows.Rows.new.Goals as goal
 
 pub returns-clause-rows : goal.returns-clause-rows

@@ -3,9 +3,9 @@ use Rattle.noc_rows.specs.Steps.{HasDecidedRows}
 use Rattle.noc_row_words.specs.Still.{HaveCounted}
 use Rattle.noc_rows.specs.Whole.{IsRows}
 use Rattle.noc_rows.specs.declared.rows.Rows.{Rows}
-use Rattle.noc_rows.proofs.StillLemmas.{counted-all}
-use Rattle.noc_rows.proofs.StepMoves.{shows-moves}
-use Rattle.noc_rows.proofs.StepParts.{step-shows, whole-step}
+use Rattle.noc_rows.proofs.stuck.StillLemmas.{counted-all}
+use Rattle.noc_rows.proofs.wiring.StepMoveLemmas.{shows-moves}
+use Rattle.noc_rows.proofs.blocks.StepPartLemmas.{step-shows, whole-step}
 use Rattle.noc_rows.proofs.rows.Rows.step.Goals as goal
 
 pub returns-clause-rows : goal.returns-clause-rows

@@ -3,7 +3,7 @@ use Rattle.std.specs.Vec.{with_items}
 use Rattle.std.proofs.lemmas.List.{with_items_is}
 use Rattle.noc_row_words.specs.Still.{HaveWaited, IsStillFor}
 use Rattle.noc_rows.specs.Whole.{IsRows}
-use Rattle.noc_rows.proofs.WaitLaws.{wait-rows}
+use Rattle.noc_rows.proofs.stuck.WaitLemmas.{wait-rows}
 use Rattle.noc_rows.proofs.rows.Rows.wait.Goals as goal
 
 pub returns-then-times-gt0-clause-rows : goal.returns-then-times-gt0-clause-rows

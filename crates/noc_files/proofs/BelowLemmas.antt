@@ -1,0 +1,96 @@
+-- Texts and sums over the numbers below a count.
+use Rattle.std.proofs.Common.{◌≡◌, ℕ, zero, suc, ◌+◌, ◌-◌, ◌<◌, Bool, List, [], ◌∷◌, ◌++◌, flat_map, Option, Some, None, Result, Ok, Err, refl, sym, ap, ◌∙◌, arith, append_assoc, append-nil, zero-add, add-zero, sum}
+use Rattle.std.proofs.lemmas.Grind.{flat_map-append}
+use Rattle.std.proofs.lemmas.List.Elements.{filter_map-append}
+use Rattle.std.proofs.lemmas.List.Sums.{sum_by-append}
+use Rattle.std.proofs.KnownBytes.{Appends-nil}
+use Rattle.std.specs.List.{cons_option, filter_map, range_with_len}
+use Rattle.noc_topo.specs.Words.{below}
+use Rattle.noc_files.specs.declared.writing.WriteFault.{WriteFault}
+use Rattle.noc_files.specs.Writing.{Puts}
+use Rattle.noc_files.proofs.SinkLemmas.{puts_front, puts_then}
+
+range_split : (a m n : ℕ) → range_with_len a (m + n) ≡ range_with_len a m ++ range_with_len (a + m) n
+range_split a zero n = rw (zero-add n, add-zero a)
+range_split a (suc m) n =
+    let count : suc m + n ≡ suc (m + n) = omega arith in
+    let start : a + 1 + m ≡ a + suc m = omega arith in
+    rw count (ap (λ (ks : List ℕ). a ∷ ks) (range_split (a + 1) m n ∙ ap (λ k. range_with_len (a + 1) m ++ range_with_len k n) start))
+
+-- the numbers after n and below the count
+abbrev pub later : ℕ → ℕ → List ℕ
+later n count = range_with_len (n + 1) (count - (n + 1))
+
+pub below_split : (n count : ℕ) → n < count → below count ≡ below n ++ n ∷ later n count
+unfolding below
+below_split n count h =
+    let parts : count ≡ n + suc (count - (n + 1)) = omega arith in
+    ap (λ k. range_with_len 0 k) parts ∙ range_split 0 n (suc (count - (n + 1))) ∙ ap (λ k. range_with_len 0 n ++ range_with_len k (suc (count - (n + 1)))) (zero-add n)
+
+pub below_more : (n : ℕ) → below (n + 1) ≡ below n ++ n ∷ []
+unfolding below
+below_more n = range_split 0 n 1 ∙ ap (λ k. range_with_len 0 n ++ range_with_len k 1) (zero-add n)
+
+pub each_more : {X : Type 0} (f : ℕ → List X) (n : ℕ) → flat_map f (below (n + 1)) ≡ flat_map f (below n) ++ f n
+each_more f n = ap (flat_map f) (below_more n) ∙ flat_map-append f (below n) (n ∷ []) ∙ ap (λ (t : List _). flat_map f (below n) ++ t) (append-nil (f n))
+
+pub each_split : {X : Type 0} (f : ℕ → List X) (n count : ℕ) → n < count → flat_map f (below count) ≡ (flat_map f (below n) ++ f n) ++ flat_map f (later n count)
+each_split f n count h =
+    ap (flat_map f) (below_split n count h) ∙ flat_map-append f (below n) (n ∷ later n count) ∙ sym (append_assoc (flat_map f (below n)) (f n) (flat_map f (later n count)))
+
+-- what is said of each number alike is alike
+pub each_same : {X : Type 0} (f h : ℕ → List X) (n : ℕ) → ((k : ℕ) → k < n → f k ≡ h k) → flat_map f (below n) ≡ flat_map h (below n)
+unfolding below
+each_same f h zero same = refl
+each_same {X} f h (suc n) same =
+    let next : suc n ≡ n + 1 = omega arith in
+    let before : flat_map f (below n) ≡ flat_map h (below n) = each_same f h n (λ k less. same k (omega arith)) in
+    ap (λ k. flat_map f (below k)) next ∙ each_more f n ∙ ap (λ (t : List X). t ++ f n) before ∙ ap (λ (t : List X). flat_map h (below n) ++ t) (same n (omega arith)) ∙ sym (each_more h n) ∙ ap (λ k. flat_map h (below k)) (sym next)
+
+-- nothing said of each number is nothing
+pub each_none : {X : Type 0} (f : ℕ → List X) (ks : List ℕ) → ((k : ℕ) → f k ≡ []) → flat_map f ks ≡ []
+each_none f [] none = refl
+each_none f (k ∷ ks) none = rw (none k) (each_none f ks none)
+
+-- ---- what is found of the numbers
+
+found_more : {X : Type 0} (f : ℕ → Option X) (n : ℕ) → filter_map f (below (n + 1)) ≡ filter_map f (below n) ++ filter_map f (n ∷ [])
+found_more f n = ap (filter_map f) (below_more n) ∙ filter_map-append f (below n) (n ∷ [])
+
+-- one number more, of which x is found
+pub found_one : {X : Type 0} (f : ℕ → Option X) (n : ℕ) (x : X) → Some x ≡ f n → filter_map f (below (n + 1)) ≡ filter_map f (below n) ++ x ∷ []
+found_one {X} f n x e = found_more f n ∙ ap (λ (o : Option X). filter_map f (below n) ++ cons_option o []) (sym e)
+
+-- one number more, of which nothing is found
+pub found_no_more : {X : Type 0} (f : ℕ → Option X) (n : ℕ) → None ≡ f n → filter_map f (below (n + 1)) ≡ filter_map f (below n)
+found_no_more {X} f n e = found_more f n ∙ ap (λ (o : Option X). filter_map f (below n) ++ cons_option o []) (sym e) ∙ append-nil (filter_map f (below n))
+
+pub found_nothing : {X : Type 0} (f : ℕ → Option X) → filter_map f (below 0) ≡ []
+unfolding below
+found_nothing f = refl
+
+-- ---- sums of what is said of each number
+
+pub sum_more : (f : ℕ → List ℕ) (n total one : ℕ) → total ≡ sum (flat_map f (below n)) → one ≡ sum (f n) → total + one ≡ sum (flat_map f (below (n + 1)))
+sum_more f n total one so_far next =
+    let more : sum (flat_map f (below (n + 1))) ≡ sum (flat_map f (below n)) + sum (f n) = ap sum (each_more f n) ∙ sum_by-append (λ k. k) (flat_map f (below n)) (f n) in
+    rw (so_far, next) (sym more)
+
+pub sum_none : (f : ℕ → List ℕ) → 0 ≡ sum (flat_map f (below 0))
+unfolding below
+sum_none f = refl
+
+module _ {S : Type 0} (contents : S → Option (List ℕ)) (failed : S → Bool) (f : ℕ → List ℕ) where
+  -- one number more
+  pub puts_number : (n before w : ℕ) (a m b : S) (r : Result ℕ WriteFault) → Puts contents failed a m before (flat_map f (below n)) (Ok w) → Puts contents failed m b w (f n) r → Puts contents failed a b before (flat_map f (below (n + 1))) r
+  puts_number n before w a m b r first next = rw (each_more f n) (puts_then contents failed a m b before w (flat_map f (below n)) (f n) r first next)
+
+  -- a fault at one of the numbers is a fault of them all
+  pub fault_at_number : (n count before w : ℕ) (a m b : S) (e : WriteFault) → n < count → Puts contents failed a m before (flat_map f (below n)) (Ok w) → Puts contents failed m b w (f n) (Err e) → Puts contents failed a b before (flat_map f (below count)) (Err e)
+  fault_at_number n count before w a m b e h first next =
+      let both = puts_then contents failed a m b before w (flat_map f (below n)) (f n) (Err e) first next in
+      rw (each_split f n count h) (puts_front contents failed a b before (flat_map f (below n) ++ f n) (flat_map f (later n count)) e both)
+
+  pub puts_no_number : (before : ℕ) (a : S) → Puts contents failed a a before (flat_map f (below 0)) (Ok before)
+  unfolding below
+  puts_no_number before a = (omega arith, Appends-nil (contents a))

@@ -1,0 +1,38 @@
+-- Texts that are put together on a page.
+use Rattle.std.proofs.Common.{◌≡◌, ◌∙◌, ℕ, ◌+◌, ◌/◌, ◌%◌, ◌^◌, ◌<◌, ◌≤◌, List, arith, decimal, [], ◌∷◌, ◌++◌, flat_map, ap, sym, append_assoc, append-nil}
+use Rattle.std.proofs.lemmas.Fmt.{decimal_digit, decimal_step}
+use Rattle.noc_topo.specs.Words.{below}
+use Rattle.noc_files.specs.Writing.{text_of_pieces}
+use Rattle.noc_files.proofs.BelowLemmas.{each_more}
+
+module _ (f : ℕ → List ℕ) (old : List ℕ) where
+  -- nothing is said of no number
+  pub added_none : old ≡ old ++ flat_map f (below 0)
+  unfolding below
+  added_none = sym (append-nil old)
+
+  -- what is said of one number more is added
+  pub added_more : (n : ℕ) (page next : List ℕ) → page ≡ old ++ flat_map f (below n) → next ≡ page ++ f n → next ≡ old ++ flat_map f (below (n + 1))
+  added_more n page next so_far more =
+      more ∙ ap (λ (t : List ℕ). t ++ f n) so_far ∙ append_assoc old (flat_map f (below n)) (f n) ∙ ap (λ (t : List ℕ). old ++ t) (sym (each_more f n))
+
+-- pieces that are added one after another
+pub three_pieces : (old a b c : List ℕ) → old ++ a ++ b ++ c ≡ old ++ text_of_pieces (a ∷ b ∷ c ∷ [])
+three_pieces old a b c = simp (append_assoc, append-nil)
+
+pub four_pieces : (old a b c d : List ℕ) → old ++ a ++ b ++ c ++ d ≡ old ++ text_of_pieces (a ∷ b ∷ c ∷ d ∷ [])
+four_pieces old a b c d = simp (append_assoc, append-nil)
+
+pub eight_pieces : (old a b c d e f g h : List ℕ) → old ++ a ++ b ++ c ++ d ++ e ++ f ++ g ++ h ≡ old ++ text_of_pieces (a ∷ b ∷ c ∷ d ∷ e ∷ f ∷ g ∷ h ∷ [])
+eight_pieces old a b c d e f g h = simp (append_assoc, append-nil)
+
+-- ---- digits
+
+-- a number of one digit
+pub first_digit : (page next : List ℕ) (n : ℕ) → n < 10 → next ≡ page ++ (48 + n) ∷ [] → next ≡ page ++ decimal n
+first_digit page next n small added = added ∙ ap (λ (t : List ℕ). page ++ t) (sym (decimal_digit n small))
+
+-- the digits of a number but its last, and then the last
+pub last_digit : (page all next : List ℕ) (n : ℕ) → 10 ≤ n → n < 2 ^ 32 → all ≡ page ++ decimal (n / 10) → next ≡ all ++ (48 + n % 10) ∷ [] → next ≡ page ++ decimal n
+last_digit page all next n more fits before added =
+    added ∙ ap (λ (t : List ℕ). t ++ (48 + n % 10) ∷ []) before ∙ append_assoc page (decimal (n / 10)) ((48 + n % 10) ∷ []) ∙ ap (λ (t : List ℕ). page ++ t) (sym (decimal_step n more (omega (arith, fits))))

@@ -1,5 +1,0 @@
-use Rattle.noc_model.proofs.UnseenLemmas.{findings-local_step}
-use Rattle.noc_model.proofs.laws.findings_change_nothing.Goals as goal
-
-pub returns : goal.returns
-returns c = λ relation view findings beats n. findings-local_step findings relation view beats n

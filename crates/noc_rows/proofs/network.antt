@@ -1,0 +1,13 @@
+pub mod SteadyLemmas
+pub mod PresentLemmas
+pub mod TidyLemmas
+pub mod PointerLemmas
+pub mod NetworkLemmas
+pub mod FlitLemmas
+pub mod MoveLemmas
+pub mod GiveBackLemmas
+pub mod PutLemmas
+pub mod CanMoveLemmas
+pub mod FitLemmas
+pub mod NetworkMoveLemmas
+pub mod ArrivalLemmas

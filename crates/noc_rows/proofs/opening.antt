@@ -1,0 +1,8 @@
+pub mod OpeningLemmas
+pub mod OpeningWireLemmas
+pub mod StartLemmas
+pub mod ListedLemmas
+pub mod OpenLemmas
+pub mod BlockLemmas
+pub mod OpenedLemmas
+pub mod FirstRowLemmas

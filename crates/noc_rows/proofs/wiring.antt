@@ -1,0 +1,11 @@
+pub mod WireLemmas
+pub mod FrozenWireLemmas
+pub mod LinkLemmas
+pub mod NextWireLemmas
+pub mod LaneWireLemmas
+pub mod LaneTargetLemmas
+pub mod DecidedWireLemmas
+pub mod QuietLemmas
+pub mod QuietListLemmas
+pub mod StepQuietLemmas
+pub mod StepMoveLemmas

@@ -1,0 +1,15 @@
+pub mod ArrivalLemmas
+pub mod JoinLemmas
+pub mod JoinedLemmas
+pub mod KeyLemmas
+pub mod LastEventLemmas
+pub mod CoreOpeningLemmas
+pub mod OpeningStateLemmas
+pub mod OpeningViewLemmas
+pub mod OrderedLemmas
+pub mod OrderedStateLemmas
+pub mod PhaseLemmas
+pub mod PlaceViewLemmas
+pub mod LockstepStepLemmas
+pub mod LockstepTheoremLemmas
+pub mod ViewLemmas

@@ -1,0 +1,25 @@
+-- The lockstep run shows the run of the network: all phases together.
+use Rattle.std.proofs.Common.{ℕ, ◌≤◌}
+use Rattle.noc_theory.specs.declared.limits.TheConstants.{CYCLE_LIMIT}
+use Rattle.noc_theory.specs.Network.{Setup, state_at, frozen_at}
+use Rattle.noc_theory.proofs.verdicts.CommitLemmas.{commits}
+use Rattle.noc_theory.proofs.injection.InjectLemmas.{injects}
+use Rattle.noc_theory.proofs.join.JoinLemmas.{all-seen}
+use Rattle.noc_theory.proofs.join.OpeningViewLemmas.{opens}
+use Rattle.noc_theory.proofs.join.OrderedLemmas.{IsGood, IsOrdered, IsOrderedFrozen}
+use Rattle.noc_theory.proofs.join.PhaseLemmas.{ArePhases, mid}
+use Rattle.noc_theory.proofs.landing.TakeAllLemmas.{takes}
+use Rattle.noc_theory.specs.Seen.{AreSeen}
+
+pub phases : (net : Setup) → IsGood net → ArePhases net
+phases net good = record {
+  takes = λ S x r l v seen had. takes net good S x r l v seen had;
+  injects = λ M x n r l v seen. injects net good M x n r l v seen;
+  commits = λ F x n r l v seen given counts. commits net good F x n r l v seen given counts;
+  opens = λ r l. opens net good r l;
+}
+
+-- at every count that a run can have, each router has the view that the state gives it, and each wire its beat
+pub joined : (net : Setup) → IsGood net → ((n : ℕ) → IsOrdered net (state_at net n)) → ((n : ℕ) → IsOrderedFrozen net (mid net (state_at net n))) → ((n : ℕ) → IsOrderedFrozen net (frozen_at net n))
+    → (n : ℕ) → n ≤ CYCLE_LIMIT → AreSeen net n
+joined net good ordered middle last n l = all-seen net (phases net good) good ordered middle last n l

@@ -1,0 +1,16 @@
+pub mod AfterLemmas
+pub mod AfterHolderLemmas
+pub mod AfterInputLemmas
+pub mod AfterNextLemmas
+pub mod AfterOutputLemmas
+pub mod CommitEndLemmas
+pub mod CommitGrantLemmas
+pub mod CommitInputLemmas
+pub mod CommitLemmas
+pub mod CommitOutputLemmas
+pub mod CommitRestLemmas
+pub mod CountLemmas
+pub mod MoverLemmas
+pub mod NextViewLemmas
+pub mod PortLemmas
+pub mod StandLemmas

@@ -1,0 +1,126 @@
+-- What is known of every network that was made, at the start of each cycle (_at), after its landings and credits (_mid_at), and in
+-- its frozen state (_frozen_at).
+use Rattle.std.proofs.Common.{◌≡◌, ◌≢◌, ℕ, zero, suc, ◌+◌, ◌-◌, ◌≤◌, ◌<◌, Bool, true, false, List, length, Some, ap, sym, ◌∙◌, arith}
+use Rattle.std.specs.Prelude.{if◌then◌else◌}
+use Rattle.noc_topo.specs.Words.{Has}
+use Rattle.noc_topo.specs.Shape.{nodes, neighbour}
+use Rattle.noc_route.specs.Channel.{Channel, Link, Eject}
+use Rattle.noc_route.specs.Routes.{set_at}
+use Rattle.noc_theory.specs.Network.{Setup, count_in, count_on, credit_of, State, Source, On, place_of_flit, has_channel, after_landing, after_credits, network_cycle, frozen_at, state_at}
+use Rattle.noc_theory.specs.Good.{IsGoodSetup, places_taken}
+use Rattle.noc_theory.proofs.worms.StateWordLemmas.{IsValid, class_of, goal}
+use Rattle.noc_theory.proofs.worms.BuiltRecordLemmas.{IsBuilt}
+use Rattle.noc_theory.proofs.worms.BuiltLemmas.{good-built, good-wired, good-covering}
+use Rattle.noc_theory.proofs.worms.CameLemmas.{IsLed, led-mid, led-frozen, led-state, leads-further, ejects-home, eject-low}
+use Rattle.noc_theory.proofs.worms.FirstOfNodeLemmas.{IsQueued, queued-mid, queued-frozen_state, queued-state}
+use Rattle.noc_theory.proofs.worms.GrantLemmas.{IsWired}
+use Rattle.noc_theory.proofs.worms.OneBackLemmas.{one-back-state, back-link-state, arbiters-mid, arbiters-frozen, arbiters-state, no-back-mid, no-back-frozen}
+use Rattle.noc_theory.proofs.worms.OneOnLinkLemmas.{one-on-link}
+use Rattle.noc_theory.proofs.worms.OpeningLemmas.{at-source}
+use Rattle.noc_theory.proofs.worms.OutOrderLemmas.{IsOutInOrder, out-state}
+use Rattle.noc_theory.proofs.worms.RoutedStateLemmas.{IsWholeFrozen, whole-mid}
+use Rattle.noc_theory.proofs.worms.VerdictRoomLemmas.{none-on}
+pub use Rattle.noc_theory.proofs.worms.WormOrderLemmas.{whole-at, whole-frozen_at, worm_order-at, worm_order-frozen_at, held-at, credit-at}
+
+module _ (net : Setup) (good : IsGoodSetup net) where
+  abbrev built : IsBuilt net
+  built = good-built net good
+
+  abbrev wired : IsWired net
+  wired = good-wired net good
+
+  -- the state after the landings and the credits of cycle n
+  abbrev pub mid_at : ℕ → State
+  mid_at n = after_credits net (after_landing net (state_at net n))
+
+  -- ---- the worms, the room and what is routed
+
+  pub whole-mid_at : (n : ℕ) → IsWholeFrozen net (mid_at n)
+  whole-mid_at n = whole-mid net built wired (good-covering net good) (state_at net n) (whole-at net good n)
+
+  -- no buffer holds more than its places, and nothing is on a wire
+  pub room-frozen_at : (n : ℕ) (c : Channel) → count_in net (frozen_at net n) c ≤ net.places
+  room-frozen_at n c = (whole-frozen_at net good n).sound.room c
+
+  pub still-frozen_at : (n p i : ℕ) → IsValid net p i → (c : Channel) → place_of_flit net (frozen_at net n) p i ≢ On c
+  still-frozen_at n p i v c = (whole-frozen_at net good n).sound.still p i v c
+
+  -- ---- who has begun is the first of its node
+
+  pub queued-at : (n : ℕ) → IsQueued net (state_at net n)
+  queued-at n = queued-state net built wired n
+
+  pub queued-mid_at : (n : ℕ) → IsQueued net (mid_at n)
+  queued-mid_at n = queued-mid net built wired (state_at net n) (whole-at net good n).sound (queued-at n)
+
+  pub queued-frozen_at : (n : ℕ) → IsQueued net (frozen_at net n)
+  queued-frozen_at n = queued-frozen_state net built wired n
+
+  -- ---- each owned link and ejection channel is one that the relation permits to its packet
+
+  pub led-at : (n : ℕ) → IsLed net (state_at net n)
+  led-at n = led-state net built wired n
+
+  pub led-mid_at : (n : ℕ) → IsLed net (mid_at n)
+  led-mid_at n = led-mid net (state_at net n) (led-at n)
+
+  pub led-frozen_at : (n : ℕ) → IsLed net (frozen_at net n)
+  led-frozen_at n = led-frozen net built wired n (state_at net n) (whole-at net good n).sound (led-at n)
+
+  -- so, in a state of which that is true: where a link channel of a packet ends, the relation leads the packet on
+  pub leads-on : (S : State) → IsLed net S → (r a v p : ℕ) (to : ℕ × ℕ) → Has (Link r a v, p) S.own → neighbour net.relation.grid r a ≡ Some to
+      → set_at net.relation (class_of net p) to.0 to.1 v (goal net p) ≢ 0
+  leads-on = leads-further net good.relation
+
+  -- an ejection channel of a packet is one at its destination
+  pub ejects-at_goal : (S : State) → IsLed net S → (n v p : ℕ) → Has (Eject n v, p) S.own → n ≡ goal net p
+  ejects-at_goal = ejects-home net good.relation
+
+  pub ejects-low : (S : State) → IsLed net S → (n v p : ℕ) → Has (Eject n v, p) S.own → v < net.relation.vcs
+  ejects-low = eject-low net good.relation
+
+  -- ---- one flit and one credit on each link
+
+  pub one_on_link-at : (n p i q j r a v u : ℕ) → IsValid net p i → IsValid net q j → place_of_flit net (state_at net n) p i ≡ On (Link r a v) → place_of_flit net (state_at net n) q j ≡ On (Link r a u) → (p ≡ q) × (i ≡ j)
+  unfolding state_at network_cycle
+  one_on_link-at zero p i q j r a v u x y e f = let z : Source ≡ On (Link r a v) = sym (at-source net p i x) ∙ e in absurd (cc z)
+  one_on_link-at (suc n) p i q j r a v u x y e f = one-on-link net built wired (frozen_at net n) (whole-frozen_at net good n) n p i q j r a v u x y e f
+
+  pub one_back-at : (n r a v u : ℕ) → has_channel (state_at net n).back (Link r a v) ≡ true → has_channel (state_at net n).back (Link r a u) ≡ true → v ≡ u
+  one_back-at = one-back-state net wired
+
+  pub links_back-at : (n : ℕ) (c : Channel) → has_channel (state_at net n).back c ≡ true → (r : ℕ) × (a : ℕ) × (v : ℕ) × (c ≡ Link r a v)
+  links_back-at = back-link-state net wired
+
+  -- no credit is on its way in the middle of a cycle
+  pub none_back-mid_at : (n : ℕ) (c : Channel) → has_channel (mid_at n).back c ≡ false
+  none_back-mid_at n c = ap (λ (cs : List Channel). has_channel cs c) (no-back-mid net (state_at net n))
+
+  pub none_back-frozen_at : (n : ℕ) (c : Channel) → has_channel (frozen_at net n).back c ≡ false
+  none_back-frozen_at n c = ap (λ (cs : List Channel). has_channel cs c) (no-back-frozen net n (state_at net n))
+
+  -- so the credits of a frozen state are the places that are left too
+  pub frozen_credit-at : (n : ℕ) (c : Channel) → credit_of net (frozen_at net n) c + places_taken net (frozen_at net n) c ≡ net.places
+  frozen_credit-at n c =
+      let on = none-on net built (frozen_at net n) (whole-frozen_at net good n).sound.keyed (whole-frozen_at net good n).sound.worm n (whole-frozen_at net good n).sound.still c in
+      let back = ap (λ (b : Bool). if b then 1 else 0) (none_back-frozen_at n c) in
+      rest (count_on net (frozen_at net n) c) (count_in net (frozen_at net n) c) (if has_channel (frozen_at net n).back c then 1 else 0) on back (room-frozen_at n c)
+    where
+      rest : (a b k : ℕ) → a ≡ 0 → k ≡ 0 → b ≤ net.places → (net.places - a - b - k) + (a + b + k) ≡ net.places
+      rest a b k x y l = omega arith
+
+  -- ---- as many arbiters as routers
+
+  pub arbiters-at : (n : ℕ) → length (state_at net n).arbiters ≡ nodes net.relation.grid
+  arbiters-at n = arbiters-state net n
+
+  pub arbiters-mid_at : (n : ℕ) → length (mid_at n).arbiters ≡ nodes net.relation.grid
+  arbiters-mid_at n = ap length (arbiters-mid net (state_at net n)) ∙ arbiters-state net n
+
+  pub arbiters-frozen_at : (n : ℕ) → length (frozen_at net n).arbiters ≡ nodes net.relation.grid
+  arbiters-frozen_at n = ap length (arbiters-frozen net n (state_at net n)) ∙ arbiters-state net n
+
+  -- ---- flits go out in order
+
+  pub out-at : (n : ℕ) → IsOutInOrder net n (state_at net n)
+  out-at n = out-state net built wired n

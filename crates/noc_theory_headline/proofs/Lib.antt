@@ -1,0 +1,16 @@
+pub mod SearchLemmas
+pub mod TurnLemmas
+pub mod ClaimLemmas
+pub mod RoundLemmas
+pub mod SaysLemmas
+pub mod CycleLemmas
+pub mod CountLemmas
+pub mod StepLemmas
+pub mod EffectLemmas
+pub mod ArbiterEffectLemmas
+pub mod SourceEffectLemmas
+pub mod EffectStepLemmas
+pub mod ReleaseLemmas
+pub mod RoutedLemmas
+pub mod StartLemmas
+pub mod PendingLemmas
