@@ -7,7 +7,7 @@
 //! never, is refused before any proof.
 //!
 //! A struct that holds a `Slots` may go to another thread only by a proof of its author's
-//! (`proofs/Sends.antt`). So one function with a proof by hand makes a `Store`, `Store::of`. `reserve` takes
+//! (`proofs/SendLemmas.antt`). So one function with a proof by hand makes a `Store`, `Store::of`. `reserve` takes
 //! the number of places from the length of a list: `Store::new` gives it a part of a constant list of blank
 //! flits, and only its length is read.
 
