@@ -25,7 +25,7 @@ from pathlib import Path
 TOP = Path(__file__).resolve().parent
 OUT = TOP / "crates/noc/out"
 LOG, ROOMS = OUT / "build.log", OUT / "rooms"
-KITS = ("rattle-kit-13b", "rattle-kit-13f")
+KIT = "rattle-kit-13f"
 PARTS = ("src", "specs", "proofs")
 # What rt run is told for each program.
 PROGRAMS = {"noc": [], "noc_avx2": ["--cpu", "x86-64-v3"]}
@@ -111,9 +111,8 @@ def look_round():
     if rt is None:
         raise Failed(f"{wanted} is not there: put rt of the Rattle kit on PATH, or its path into RT")
     version = subprocess.run([rt, "version"], stdin=subprocess.DEVNULL, capture_output=True, text=True).stdout
-    if not set(KITS) & set(version.split()):
-        kit, known = version.strip() or "another kit", " and ".join(KITS)
-        print(f"noc: {wanted} is of {kit}, and this is proved with {known}: the build may fail", file=sys.stderr)
+    if KIT not in version.split():
+        print(f"noc: {wanted} is of {version.strip() or 'another kit'}, and this is proved with {KIT}: the build may fail", file=sys.stderr)
     if shutil.disk_usage(OUT).free < DISK:
         raise Failed(f"a build takes some {DISK >> 30} GB of disk, and {OUT} has {shutil.disk_usage(OUT).free >> 20} MB left")
     if free_memory() < MEMORY:
@@ -161,7 +160,7 @@ class Build:
     def begin(self, crate, jobs):
         crate.enter()
         verb = "run" if crate.makes in PROGRAMS else "lib"
-        words = [sys.executable, TOP / "rt_once.py", self.rt, verb, "--jobs", str(jobs), *PROGRAMS.get(crate.makes, [])]
+        words = [self.rt, verb, "--jobs", str(jobs), *PROGRAMS.get(crate.makes, [])]
         with LOG.open("a") as log:
             run = subprocess.Popen(words, cwd=crate.room / "crates" / crate.name, stdin=subprocess.DEVNULL, stdout=log, stderr=log)
         self.running[crate] = run, time.time()
