@@ -3,14 +3,14 @@
 
     build_noc.py PROGRAM
 
-./noc calls this where the program for its processor is not there, or is old. `rt lib` makes each library and `rt run` the
-program, side by side as far as processors and memory go. The libraries are the same for both programs.
-rt lets no two runs into one crate, nor into one that a crate stands on; so each crate is made in a room: a folder with
-its sources, and with links to what was made of the libraries below. What is made goes back to the crate and is kept, so
-a build that was stopped goes on where it was.
+./noc calls this where the program for its processor is not there, or is old. Each library is proved from nothing, and what the crates
+above it can cite is kept in crates/noc/out/libs: its statements, without its proofs. Then the program is proved over the libraries,
+compiled and linked. Crates run side by side as far as processors and memory go. The libraries are the same for both programs. A build
+that was stopped goes on with the crates that it had not ended.
 Standard error tells how far the build is: on a terminal in one line that is written anew, elsewhere in a line for each crate.
-The toolchain's command is $RT, or else rt on PATH. The exit status is 0 where the program is built, else 1.
+The toolchain is the kit of $RT, or else of rt on PATH. The exit status is 0 where the program is built, else 1.
 """
+import contextlib
 import fcntl
 import os
 import re
@@ -24,12 +24,12 @@ from pathlib import Path
 
 TOP = Path(__file__).resolve().parent
 OUT = TOP / "crates/noc/out"
-LOG, ROOMS = OUT / "build.log", OUT / "rooms"
+LOG, LIBRARIES = OUT / "build.log", OUT / "libs"
 KIT = "rattle-kit-13f"
 PARTS = ("src", "specs", "proofs")
-# What rt run is told for each program.
+# What the compiler is told for each program.
 PROGRAMS = {"noc": [], "noc_avx2": ["--cpu", "x86-64-v3"]}
-DISK, MEMORY = 4 << 30, 2 << 30
+DISK, MEMORY = 2 << 30, 2 << 30
 # The seconds that each crate took beside the others on four processors, once. Only their shares count.
 SECONDS = {
     "noc_topo": 30, "noc_packet": 10, "noc_ring": 30, "noc_route": 50, "noc_rank": 150, "noc_alloc": 20, "noc_vc": 45,
@@ -44,12 +44,12 @@ class Failed(Exception):
 
 
 class Crate:
-    """A crate of the repository, what is to be made of it, and the crates that it stands on."""
+    """A crate of the repository, what is made of it, and the libraries that it stands on: those of the repository, and those of the kit."""
 
-    def __init__(self, name, line, on, makes):
-        self.name, self.line, self.on, self.makes = name, line, on, makes
-        self.folder, self.room = TOP / "crates" / name, ROOMS / name
-        self.made = self.folder / "out" / makes
+    def __init__(self, name, on, of_kit, program):
+        self.name, self.on, self.of_kit, self.program = name, on, of_kit, program
+        self.folder = TOP / "crates" / name
+        self.made = OUT / program if program else LIBRARIES / f"{name}.rlib"
         self.seconds = SECONDS.get(name, 30)
 
     @cache
@@ -65,33 +65,21 @@ class Crate:
         files = [it for part in PARTS for it in (self.folder / part).rglob("*")] + [it.made for it in self.on] + [TOP / "crates.txt"]
         return max(it.stat().st_mtime for it in files) <= self.made.stat().st_mtime
 
-    def enter(self):
-        """Fits the room out, with the sources as they are now. What a stopped run kept there stays."""
-        for crate in [*self.below(), self]:
-            for part in PARTS if crate is self else [*PARTS, "out/rlib"]:
-                there = self.room / "crates" / crate.name / part
-                shutil.rmtree(there, ignore_errors=True)
-                if (crate.folder / part).is_dir():
-                    shutil.copytree(crate.folder / part, there, copy_function=os.link if part == "out/rlib" else shutil.copy2)
-        (self.room / "crates.txt").write_text("".join(it.line + "\n" for it in [*self.below(), self]))
-        kept, here = self.folder / "out/incremental", self.room / "crates" / self.name / "out"
-        here.mkdir(exist_ok=True)
-        if kept.exists() and not (here / "incremental").exists():
-            kept.rename(here / "incremental")
+    def build(self, kit, jobs):
+        """The command that proves it and makes its library, or the object file of the program."""
+        words = [kit / "bin/rattle", "build", "--crate-name", self.name, "src/main.rt" if self.program else "src/lib.rt"]
+        uses = [(it, kit / f"rlibs/{it}.rlib") for it in ["std", *self.of_kit]] + [(it.name, it.made) for it in self.on]
+        words += [word for name, library in uses for word in ("--extern", f"{name}={library}")]
+        words += ["-L", f"dependency={kit / 'rlibs'}", "-L", f"dependency={LIBRARIES}", "--jobs", str(jobs)]
+        words += ["--antt-project", kit / "rattle/logic/antt-project.json", "--logic-built", kit / "logic_built"]
+        if self.program:
+            return [*words, *PROGRAMS[self.program], "--backend", "llvm", "--toolchain", kit / "toolchain", "-o", f"{self.made}.o"]
+        return [*words, "--statements", "-o", self.made]
 
-    def leave(self):
-        """Moves what was made out of the room, and says whether anything was."""
-        here, there = self.room / "crates" / self.name / "out", self.folder / "out"
-        there.mkdir(exist_ok=True)
-        if self.makes in PROGRAMS and (here / self.name).exists():
-            (here / self.name).rename(here / self.makes)
-        if not (here / self.makes).exists():
-            return False
-        for made in here.iterdir():
-            shutil.rmtree(there / made.name, ignore_errors=True)
-            made.replace(there / made.name)
-        shutil.rmtree(self.room)
-        return True
+    def link(self, kit):
+        """The command that links the program."""
+        words = [kit / "bin/rattle-link", "--target", "x86_64-unknown-linux-gnu", "--toolchain", kit / "toolchain", "-o", self.made]
+        return [*words, f"{self.made}.o", kit / "c/libos_c.a", kit / "c/liblibc_c.a"]
 
 
 def crates_for(program):
@@ -99,13 +87,14 @@ def crates_for(program):
     known = {}
     for line in (TOP / "crates.txt").read_text().splitlines():
         if found := re.match(r"(\w+)[^:#]*:(.*)", line):
-            on = [known[it] for it in found[2].split() if it in known]
-            known[found[1]] = Crate(found[1], line, on, program if found[1] == "noc" else "rlib/stamp")
+            words = found[2].split()
+            on, of_kit = [known[it] for it in words if it in known], [it for it in words if it not in known]
+            known[found[1]] = Crate(found[1], on, of_kit, program if found[1] == "noc" else None)
     return [*known["noc"].below(), known["noc"]]
 
 
 def look_round():
-    """The toolchain's command, once it is sure that a build can begin."""
+    """The toolchain's folder, once it is sure that a build can begin."""
     wanted = os.environ.get("RT", "rt")
     rt = shutil.which(wanted)
     if rt is None:
@@ -117,7 +106,7 @@ def look_round():
         raise Failed(f"a build takes some {DISK >> 30} GB of disk, and {OUT} has {shutil.disk_usage(OUT).free >> 20} MB left")
     if free_memory() < MEMORY:
         raise Failed(f"a build takes at least {MEMORY >> 30} GB of memory, and {free_memory() >> 20} MB are free")
-    return os.path.abspath(rt)
+    return Path(rt).resolve().parent.parent
 
 
 def free_memory():
@@ -131,8 +120,8 @@ def in_minutes(seconds):
 class Build:
     """A build under way."""
 
-    def __init__(self, rt, crates):
-        self.rt, self.crates, self.start = rt, crates, time.time()
+    def __init__(self, kit, crates):
+        self.kit, self.crates, self.start = kit, crates, time.time()
         self.left = [it for it in crates if not it.is_made()]
         self.whole, self.running = sum(it.seconds for it in self.left), {}
         self.is_terminal = sys.stderr.isatty()
@@ -158,11 +147,9 @@ class Build:
             print(self.progress(), file=sys.stderr, flush=True)
 
     def begin(self, crate, jobs):
-        crate.enter()
-        verb = "run" if crate.makes in PROGRAMS else "lib"
-        words = [self.rt, verb, "--jobs", str(jobs), *PROGRAMS.get(crate.makes, [])]
         with LOG.open("a") as log:
-            run = subprocess.Popen(words, cwd=crate.room / "crates" / crate.name, stdin=subprocess.DEVNULL, stdout=log, stderr=log)
+            run = subprocess.Popen(
+                crate.build(self.kit, jobs), cwd=crate.folder, stdin=subprocess.DEVNULL, stdout=log, stderr=log, start_new_session=True)
         self.running[crate] = run, time.time()
 
     def begin_what_can(self):
@@ -177,9 +164,14 @@ class Build:
             self.begin(crate, jobs if self.chain[crate] == longest else max(1, jobs // 2))
 
     def end(self, crate):
-        """Takes over what was made, or tells why nothing was."""
-        del self.running[crate]
-        if not crate.leave():
+        """Links a program, or tells why nothing was made. A check that was killed, most likely for memory, runs once more by one job."""
+        run, _ = self.running.pop(crate)
+        if run.returncode == -signal.SIGKILL and "1" not in run.args:
+            return self.begin(crate, 1)
+        if run.returncode == 0 and crate.program:
+            with LOG.open("a") as log:
+                run = subprocess.run(crate.link(self.kit), stdin=subprocess.DEVNULL, stdout=log, stderr=log)
+        if run.returncode:
             if shutil.disk_usage(OUT).free < 64 << 20:
                 raise Failed(f"the disk is full, so {crate.name} could not be built")
             raise Failed(f"{crate.name} could not be proved and built; {LOG} has all messages, of which the last are:\n{last_messages()}")
@@ -198,20 +190,20 @@ class Build:
                 self.tell(is_news=False)
         finally:
             for run, _ in self.running.values():
-                run.terminate()
-            for run, _ in self.running.values():
+                with contextlib.suppress(ProcessLookupError):
+                    os.killpg(run.pid, signal.SIGKILL)
                 run.wait()
             if self.is_terminal:
                 print(file=sys.stderr)
 
 
 def last_messages():
-    lines = [it for it in LOG.read_text(errors="replace").splitlines() if re.search(r"error|not proved|^rt:", it)]
+    lines = [it for it in LOG.read_text(errors="replace").splitlines() if re.search(r"error|not proved|^rattle", it)]
     return "\n".join(it[:300] for it in lines[-12:])
 
 
 def main(program):
-    OUT.mkdir(parents=True, exist_ok=True)
+    LIBRARIES.mkdir(parents=True, exist_ok=True)
     with (OUT / "build.lock").open("w") as lock:
         fcntl.flock(lock, fcntl.LOCK_EX)
         build = Build(look_round(), crates_for(program))
@@ -220,7 +212,6 @@ def main(program):
         print(f"noc: proving and building {program}, {len(build.left)} crates (messages: {LOG})", file=sys.stderr)
         LOG.write_text("")
         build.run()
-        shutil.rmtree(ROOMS, ignore_errors=True)
         print(f"noc: built in {in_minutes(time.time() - build.start)}", file=sys.stderr)
 
 
