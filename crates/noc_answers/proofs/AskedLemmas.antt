@@ -1,11 +1,8 @@
 -- What follows from a request's command, and from how its texts are lent.
 use Rattle.std.proofs.Common.{◌≡◌, ℕ, false, List, Option, Some, None, Result, refl, is_some, option_map, unwrap_or}
 use Rattle.std.specs.Borrow.{Bor}
-use Rattle.noc_files.specs.declared.configuration.RuleName.{RuleName}
-use Rattle.noc_files.specs.declared.configuration.RuleName.TheVariants as word
 use Rattle.noc_files.specs.declared.fault.InputFault.{InputFault}
 use Rattle.noc_answers.specs.Asked.{is_joined, lent_text}
-use Rattle.noc_answers.specs.Settings.{rule_named}
 use Rattle.noc_commands.specs.declared.command.Command.{Command}
 use Rattle.noc_commands.specs.declared.command.Command.TheVariants as command
 
@@ -16,14 +13,6 @@ not_joined (command.Explain cycle router) other = refl
 not_joined (command.Trace from to router packet changes) other = refl
 not_joined command.Check other = refl
 not_joined command.Ranks other = refl
-
--- only the rule `table` stands in a file
-pub only_table : (name : RuleName) → rule_named name ≡ None → name ≡ word.Table
-only_table word.Dor h = cc
-only_table word.Dateline h = cc
-only_table word.WestFirst h = cc
-only_table word.Adaptive h = cc
-only_table word.Table h = refl
 
 -- a text is there whether it is lent or not
 pub is_some-lent : (text : Option (Result (Bor (List ℕ)) InputFault)) → is_some (option_map lent_text text) ≡ is_some text

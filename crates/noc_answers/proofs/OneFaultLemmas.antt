@@ -27,7 +27,8 @@ use Rattle.noc_answers.specs.Formula.{HasRanks, IsFormulaFault}
 use Rattle.noc_net.specs.declared.fault.NetFault.{NetFault}
 use Rattle.noc_net.specs.declared.fault.NetFault.TheVariants as net
 use Rattle.noc_packet.specs.declared.packet.Packet.{Packet}
-use Rattle.noc_answers.specs.Settings.{AsksForRelation, rule_named}
+use Rattle.noc_answers.specs.Settings.{AsksForRelation}
+use Rattle.noc_route.specs.Names.{rule_named}
 use Rattle.noc_faults.specs.Status.{is_memory}
 use Rattle.noc_faults.specs.declared.fault.Fault.{Fault}
 use Rattle.noc_faults.specs.declared.fault.Fault.TheVariants as fault

@@ -14,7 +14,7 @@ use Rattle.noc_route.proofs.OneFaultLemmas.{only-memory, one-fault}
 use Rattle.noc_route.proofs.PinnedLemmas.{one-relation}
 use Rattle.noc_files.specs.Configuration.{Settings, config_of}
 use Rattle.noc_files.specs.Table.{table_of}
-use Rattle.noc_files.specs.declared.configuration.RuleName.{RuleName}
+use Rattle.noc_route.specs.declared.rule.RuleName.{RuleName}
 use Rattle.noc_files.specs.declared.fault.InputFault.{InputFault}
 use Rattle.noc_answers.specs.Asked.{Asked, TextValue, read_by}
 use Rattle.noc_answers.specs.Options.{early_fault, late_fault}

@@ -2,13 +2,13 @@
 use Rattle.std.specs.Prelude.{◌≡◌, Some}
 use Rattle.std.specs.Option.{MatchOption}
 use Rattle.noc_topo.specs.Shape.{Grid}
+use Rattle.noc_route.specs.Names.{rule_named}
 use Rattle.noc_route.specs.declared.rule.Rule.{Rule}
 use Rattle.noc_rank.specs.Formulas.{IsGenerated, IsFaultOfFormula}
 use Rattle.noc_route.specs.Ranks.{Ranking}
 use Rattle.noc_rank.specs.declared.fault.RankFault.{RankFault}
 use Rattle.noc_rank.specs.declared.fault.RankFault.TheVariants.{NoGenerated}
 use Rattle.noc_files.specs.Configuration.{Settings}
-use Rattle.noc_answers.specs.Settings.{rule_named}
 
 -- the ranks by formula of the rule that settings name
 pub record HasRanks (s : Settings) (g : Grid) (k : Ranking) : Type 0 where

@@ -2,8 +2,8 @@
 use Rattle.std.specs.Prelude.{ℕ, ◌-◌, Bool, true, false, ◌&&◌, ◌||◌, not, Option, Some, None, nat_le, nat_lt, unwrap_or, if◌then◌else◌}
 use Rattle.noc_topo.specs.Shape.{Grid, nodes}
 use Rattle.noc_files.specs.Configuration.{Settings}
-use Rattle.noc_files.specs.declared.configuration.RuleName.{RuleName}
-use Rattle.noc_files.specs.declared.configuration.RuleName.TheVariants as word
+use Rattle.noc_route.specs.declared.rule.RuleName.{RuleName}
+use Rattle.noc_route.specs.declared.rule.RuleName.TheVariants as word
 use Rattle.noc_files.specs.declared.trace.Traced.{Traced}
 use Rattle.noc_faults.specs.declared.fault.OptionFault.{OptionFault}
 use Rattle.noc_faults.specs.declared.fault.OptionFault.TheVariants.{BadCycle, BadPacket, BadRouter, BadWorkers, NoTable, SpareTable}

@@ -4,30 +4,23 @@ use Rattle.std.specs.declared.alloc.Global.{Global}
 use Rattle.noc_topo.specs.Shape.{Grid, shape_of}
 use Rattle.noc_topo.specs.declared.shape.ShapeFault.{ShapeFault}
 use Rattle.noc_route.specs.Built.{IsRelationOfRule, routing_of}
+use Rattle.noc_route.specs.Names.{rule_named}
 use Rattle.noc_route.specs.Relation.{IsFaultOf}
 use Rattle.noc_route.specs.Routes.{Routes}
 use Rattle.noc_route.specs.declared.rule.RouteFault.{RouteFault}
 use Rattle.noc_route.specs.declared.rule.RouteRow.{RouteRow}
 use Rattle.noc_route.specs.declared.rule.Rule.{Rule}
 use Rattle.noc_route.specs.declared.rule.Rule.TheVariants as rule
+use Rattle.noc_route.specs.declared.rule.RuleName.{RuleName}
+use Rattle.noc_route.specs.declared.rule.RuleName.TheVariants as word
 use Rattle.noc_files.specs.Configuration.{Settings, config_of}
 use Rattle.noc_files.specs.Table.{table_of}
-use Rattle.noc_files.specs.declared.configuration.RuleName.{RuleName}
-use Rattle.noc_files.specs.declared.configuration.RuleName.TheVariants as word
 use Rattle.noc_files.specs.declared.fault.InputFault.{InputFault}
 use Rattle.noc_answers.specs.Asked.{Asked, IsUnread, TextValue, read_by}
 use Rattle.noc_answers.specs.Options.{early_fault, late_fault}
 use Rattle.noc_faults.specs.declared.fault.Fault.{Fault}
 use Rattle.noc_faults.specs.declared.fault.Fault.TheVariants as fault
 use Rattle.noc_faults.specs.declared.fault.OptionFault.{OptionFault}
-
--- the rule of a rule word, but for `table`, whose rows stand in a file of their own
-abbrev pub rule_named : RuleName → Option Rule
-rule_named word.Dor = Some rule.Dor
-rule_named word.Dateline = Some rule.Dateline
-rule_named word.WestFirst = Some rule.WestFirst
-rule_named word.Adaptive = Some rule.Adaptive
-rule_named word.Table = None
 
 -- the settings of a configuration, whose options are sound as far as they need no shape
 pub record AsksForSettings (a : Asked) (s : Settings) : Type 0 where

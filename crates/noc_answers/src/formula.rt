@@ -7,7 +7,7 @@ ghost use Rattle.noc_answers.specs.Answer.{IsAnswered};
 ghost use Rattle.noc_answers.specs.Formula.{HasRanks, IsFormulaFault};
 
 use crate::request::Files;
-use crate::settings::{named_rule, relation_of};
+use crate::settings::relation_of;
 use noc_commands::Command;
 use noc_faults::{Fault, Status};
 use noc_files::{Config, Sink, write_ranks};
@@ -41,7 +41,7 @@ fn ranks_by_formula(alloc: Global, config: &Config, shape: &Shape) -> Result<Ran
     ensures ranks { IfOk result (HasRanks (settings config.now) shape.now) }
     ensures fault { IfErr result (IsFormulaFault (settings config.now) shape.now) }
 {
-    match named_rule(config.rule) {
+    match config.rule.rule() {
         Some(rule) => Ranks::generated(alloc, shape, config.channels, config.classes, &rule),
         None => Err(RankFault::NoGenerated),
     }

@@ -7,7 +7,7 @@ ghost use Rattle.noc_files.specs.Table.{table_of};
 ghost use Rattle.noc_answers.specs.Ending.{Refuses};
 ghost use Rattle.noc_answers.specs.Asked.{lent_files, lent_text, read_by};
 ghost use Rattle.noc_answers.specs.Options.{cycle_fault, early_fault, first_cycle, is_bad_span, last_cycle, late_fault, packet_option_fault, router_fault, table_fault};
-ghost use Rattle.noc_answers.specs.Settings.{rule_named, AsksForRelation, AsksForShape, IsRuleOf, RefusesTable, SettingsFault};
+ghost use Rattle.noc_answers.specs.Settings.{AsksForRelation, AsksForShape, IsRuleOf, RefusesTable, SettingsFault};
 
 use crate::request::{Bytes, Files};
 use noc_commands::Command;
@@ -173,26 +173,13 @@ fn rule_of(
     ensures rule { IfOk result (IsRuleOf (option_map lent_text table.entry) shape.now name) }
     ensures fault { IfErr result (Refuses (RefusesTable (option_map lent_text table.entry) shape.now name)) }
 {
-    match (named_rule(name), table) {
+    match (name.rule(), table) {
         (Some(rule), _) => Ok(rule),
         (None, Some(text)) => match rows_in(alloc, shape, text) {
             Ok(rows) => Ok(Rule::Rows(rows)),
             Err(fault) => Err(Fault::Table(fault)),
         },
         (None, None) => unreachable!(),
-    }
-}
-
-// The routing rule of a rule word that needs no table file.
-pub(crate) fn named_rule(name: RuleName) -> Option<Rule>
-    ensures { result ≡ rule_named name }
-{
-    match name {
-        RuleName::Dor => Some(Rule::Dor),
-        RuleName::Dateline => Some(Rule::Dateline),
-        RuleName::WestFirst => Some(Rule::WestFirst),
-        RuleName::Adaptive => Some(Rule::Adaptive),
-        RuleName::Table => None,
     }
 }
 

@@ -9,17 +9,19 @@ use Rattle.toml.specs.Data.{Data, Items, no_items, item, Members, as_array, as_i
 use Rattle.toml.specs.Parse.{parse_document}
 use Rattle.noc_topo.specs.Words.{Each}
 use Rattle.noc_topo.specs.declared.shape.Kind.{Kind}
-use Rattle.noc_files.specs.declared.configuration.RuleName.{RuleName}
+use Rattle.noc_route.specs.Names.{rule_of, rule_word}
+use Rattle.noc_route.specs.declared.rule.RuleName.{RuleName}
+use Rattle.noc_route.proofs.NameLemmas.{rule-of_word}
 use Rattle.noc_files.specs.declared.fault.InputFault.{InputFault}
 use Rattle.noc_files.specs.declared.fault.InputFault.TheVariants.{BadToml, BadValue, MissingKey, UnknownKey, WrongType}
 use Rattle.noc_files.specs.declared.fault.Key.{Key}
 use Rattle.noc_files.specs.declared.fault.Key.TheVariants as key
 use Rattle.noc_files.specs.declared.configuration.TheConstants.{MAX_CYCLES}
 use Rattle.noc_packet.specs.declared.limits.TheConstants.{MAX_BUFFER, MAX_CHANNELS, MAX_CLASSES}
-use Rattle.noc_files.specs.Configuration.{AreIntegers, HasAllowed, HasBadKey, HasValue, IsAllowed, IsConfigurationFault, IsDocument, IsIntegerIn, IsKeyFault, IsNoDocument, IsOfType, Settings, all_integers, all_known, config_at, config_of, document_of, integers, kind_at, kind_of, kind_word, lengths_of, number_in, radix_at, rule_setting, rule_of, rule_word, typed_at, within}
+use Rattle.noc_files.specs.Configuration.{AreIntegers, HasAllowed, HasBadKey, HasValue, IsAllowed, IsConfigurationFault, IsDocument, IsIntegerIn, IsKeyFault, IsNoDocument, IsOfType, Settings, all_integers, all_known, config_at, config_of, document_of, integers, kind_at, kind_of, kind_word, lengths_of, number_in, radix_at, rule_setting, typed_at, within}
 use Rattle.noc_files.specs.Gives.{◌>>=◌}
 use Rattle.noc_files.specs.Keys.{key_name}
-use Rattle.noc_files.proofs.ConfigurationLemmas.{are_keys, are_lengths, array_is, document_is, integer_is, is_kind, is_rule, is_within, keys_are, kind_at_is, number_is, radix_is, rule_at_is, string_is, typed_is}
+use Rattle.noc_files.proofs.ConfigurationLemmas.{are_keys, are_lengths, array_is, document_is, integer_is, is_kind, is_within, keys_are, kind_at_is, number_is, radix_is, rule_at_is, string_is, typed_is}
 use Rattle.noc_files.proofs.SheetLemmas.{bind_ok}
 use Rattle.noc_files.proofs.TrafficLemmas.{found_in}
 
@@ -72,7 +74,7 @@ rule_fault ms fault e =
             value = string found.0;
             there = typed_is as_str string string_is key.Rule ms found.0 found.1;
             of_type = (found.0, refl);
-            not_allowed = λ h. let same : found.0 ≡ rule_word h.0 = cc in none-some h.0 (sym none.0 ∙ ap rule_of same ∙ is_rule h.0);
+            not_allowed = λ h. let same : found.0 ≡ rule_word h.0 = cc in none-some h.0 (sym none.0 ∙ ap rule_of same ∙ rule-of_word h.0);
             fault_is = none.1;
           }))
     ]

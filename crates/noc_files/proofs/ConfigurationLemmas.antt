@@ -12,13 +12,14 @@ use Rattle.toml.specs.Parse.{parse_document}
 use Rattle.noc_topo.specs.Words.{Each}
 use Rattle.noc_topo.specs.declared.shape.Kind.{Kind}
 use Rattle.noc_topo.specs.declared.shape.Kind.TheVariants.{Mesh, Torus}
-use Rattle.noc_files.specs.declared.configuration.RuleName.{RuleName}
-use Rattle.noc_files.specs.declared.configuration.RuleName.TheVariants as rule
+use Rattle.noc_route.specs.Names.{rule_of, rule_word}
+use Rattle.noc_route.specs.declared.rule.RuleName.{RuleName}
+use Rattle.noc_route.proofs.NameLemmas.{word-of_rule, rule-of_word}
 use Rattle.noc_files.specs.declared.fault.InputFault.{InputFault}
 use Rattle.noc_files.specs.declared.fault.InputFault.TheVariants.{BadToml, BadValue, MissingKey, UnknownKey, WrongType}
 use Rattle.noc_files.specs.declared.fault.Key.{Key}
 use Rattle.noc_files.specs.declared.fault.Key.TheVariants as key
-use Rattle.noc_files.specs.Configuration.{HasKnownKeys, HasNumber, HasValue, IsConfiguration, Settings, all_integers, all_known, config_at, config_of, document_of, integers, is_key, kind_at, kind_of, kind_word, lengths_of, number_in, radix_at, rule_setting, rule_of, rule_word, typed_at, within}
+use Rattle.noc_files.specs.Configuration.{HasKnownKeys, HasNumber, HasValue, IsConfiguration, Settings, all_integers, all_known, config_at, config_of, document_of, integers, is_key, kind_at, kind_of, kind_word, lengths_of, number_in, radix_at, rule_setting, typed_at, within}
 use Rattle.noc_files.specs.declared.configuration.TheConstants.{MAX_CYCLES}
 use Rattle.noc_packet.specs.declared.limits.TheConstants.{MAX_BUFFER, MAX_CHANNELS, MAX_CLASSES}
 use Rattle.noc_files.specs.Keys.{key_name}
@@ -60,25 +61,6 @@ kind_is w k e = by (bytes_eq w (codes "mesh")) refl (bytes_eq w (codes "torus"))
 pub is_kind : (k : Kind) → kind_of (kind_word k) ≡ Some k
 is_kind Mesh = refl
 is_kind Torus = refl
-
-rule_is : (w : List ℕ) (r : RuleName) → rule_of w ≡ Some r → w ≡ rule_word r
-rule_is w r e = by (bytes_eq w (codes "dor")) refl (bytes_eq w (codes "dateline")) refl (bytes_eq w (codes "west-first")) refl (bytes_eq w (codes "adaptive")) refl (bytes_eq w (codes "table")) refl
-  where
-    by : (a : Bool) → bytes_eq w (codes "dor") ≡ a → (b : Bool) → bytes_eq w (codes "dateline") ≡ b → (c : Bool) → bytes_eq w (codes "west-first") ≡ c → (d : Bool) → bytes_eq w (codes "adaptive") ≡ d
-        → (k : Bool) → bytes_eq w (codes "table") ≡ k → w ≡ rule_word r
-    by true is b f c g d h k i = let one : Some rule.Dor ≡ Some r = rw is at e in rw (← same_Some rule.Dor r one) (same_text w (codes "dor") (sym is))
-    by false not_so true is c g d h k i = let one : Some rule.Dateline ≡ Some r = rw (not_so, is) at e in rw (← same_Some rule.Dateline r one) (same_text w (codes "dateline") (sym is))
-    by false not_so false f true is d h k i = let one : Some rule.WestFirst ≡ Some r = rw (not_so, f, is) at e in rw (← same_Some rule.WestFirst r one) (same_text w (codes "west-first") (sym is))
-    by false not_so false f false g true is k i = let one : Some rule.Adaptive ≡ Some r = rw (not_so, f, g, is) at e in rw (← same_Some rule.Adaptive r one) (same_text w (codes "adaptive") (sym is))
-    by false not_so false f false g false h true is = let one : Some rule.Table ≡ Some r = rw (not_so, f, g, h, is) at e in rw (← same_Some rule.Table r one) (same_text w (codes "table") (sym is))
-    by false not_so false f false g false h false none = let one : None ≡ Some r = rw (not_so, f, g, h, none) at e in absurd (none-some r one)
-
-pub is_rule : (r : RuleName) → rule_of (rule_word r) ≡ Some r
-is_rule rule.Dor = refl
-is_rule rule.Dateline = refl
-is_rule rule.WestFirst = refl
-is_rule rule.Adaptive = refl
-is_rule rule.Table = refl
 
 -- ---- numbers
 
@@ -206,11 +188,11 @@ pub rule_at_is : (ms : Members) (r : RuleName) → rule_setting ms ≡ Ok r → 
 unfolding rule_setting
 rule_at_is ms r e =
     let first = bind_ok (typed_at as_str key.Rule ms) (λ w. ok_or (rule_of w) (BadValue key.Rule)) r e in
-    rw (← rule_is first.0 r (found_in (rule_of first.0) (BadValue key.Rule) r first.2)) (typed_is as_str string string_is key.Rule ms first.0 first.1)
+    rw (← word-of_rule first.0 r (found_in (rule_of first.0) (BadValue key.Rule) r first.2)) (typed_is as_str string string_is key.Rule ms first.0 first.1)
 
 is_rule_at : (ms : Members) (r : RuleName) → HasValue ms key.Rule (string (rule_word r)) → rule_setting ms ≡ Ok r
 unfolding rule_setting
-is_rule_at ms r value = rw value (rw (is_rule r))
+is_rule_at ms r value = rw value (rw (rule-of_word r))
 
 pub document_is : (text : List ℕ) (ms : Members) → document_of text ≡ Ok ms → IsUtf8 text × (parse_document text ≡ Some ms)
 document_is text ms e = by (is_utf8 text) refl

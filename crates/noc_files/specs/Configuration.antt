@@ -11,8 +11,8 @@ use Rattle.noc_files.specs.declared.fault.Key.TheVariants as key
 use Rattle.noc_files.specs.declared.configuration.Config.{Config}
 use Rattle.noc_topo.specs.declared.shape.Kind.{Kind}
 use Rattle.noc_topo.specs.declared.shape.Kind.TheVariants.{Mesh, Torus}
-use Rattle.noc_files.specs.declared.configuration.RuleName.{RuleName}
-use Rattle.noc_files.specs.declared.configuration.RuleName.TheVariants as rule
+use Rattle.noc_route.specs.Names.{rule_of, rule_word}
+use Rattle.noc_route.specs.declared.rule.RuleName.{RuleName}
 use Rattle.noc_files.specs.declared.configuration.TheConstants.{MAX_CYCLES}
 use Rattle.noc_files.specs.Gives.{◌>>=◌}
 use Rattle.noc_files.specs.Keys.{key_name}
@@ -65,15 +65,6 @@ number_in k low high ms = typed_at as_integer k ms >>= λ z. ok_or (within low h
 abbrev pub kind_of : List ℕ → Option Kind
 kind_of w = if bytes_eq w (codes "mesh") then Some Mesh else if bytes_eq w (codes "torus") then Some Torus else None
 
-abbrev pub rule_of : List ℕ → Option RuleName
-rule_of w =
-    if bytes_eq w (codes "dor") then Some rule.Dor
-    else if bytes_eq w (codes "dateline") then Some rule.Dateline
-    else if bytes_eq w (codes "west-first") then Some rule.WestFirst
-    else if bytes_eq w (codes "adaptive") then Some rule.Adaptive
-    else if bytes_eq w (codes "table") then Some rule.Table
-    else None
-
 unfoldable pub kind_at : Members → Result Kind InputFault
 kind_at ms = word_at key.Kind ms >>= λ w. ok_or (kind_of w) (BadValue key.Kind)
 
@@ -124,13 +115,6 @@ config_of text = document_of text >>= λ ms. if all_known ms then config_at ms e
 abbrev pub kind_word : Kind → List ℕ
 kind_word Mesh = codes "mesh"
 kind_word Torus = codes "torus"
-
-abbrev pub rule_word : RuleName → List ℕ
-rule_word rule.Dor = codes "dor"
-rule_word rule.Dateline = codes "dateline"
-rule_word rule.WestFirst = codes "west-first"
-rule_word rule.Adaptive = codes "adaptive"
-rule_word rule.Table = codes "table"
 
 -- these numbers as the integers of an array
 abbrev pub integers : List ℕ → Items

@@ -15,6 +15,7 @@ ghost use Rattle.noc_files.specs.declared.fault.Key.TheVariants as key;
 
 use crate::fault::{InputFault, Key};
 use noc_packet::{MAX_BUFFER, MAX_CHANNELS, MAX_CLASSES};
+pub use noc_route::RuleName;
 use noc_topo::Kind;
 use std::alloc::Global;
 use toml::{Table, Value};
@@ -24,16 +25,6 @@ pub const MAX_CYCLES: u64 = 2_000_000;
 
 // The greatest radix that a configuration may name; the shape decides further.
 const MAX_RADIX: u64 = 1000;
-
-/// A routing rule by its word (Dally and Towles, chapters 8 to 11; docs/FORMATS.md).
-#[derive(Clone, Copy, Debug, PartialEq, Eq)]
-pub enum RuleName {
-    Dor,
-    Dateline,
-    WestFirst,
-    Adaptive,
-    Table,
-}
 
 /// A configuration (docs/FORMATS.md).
 #[derive(Drop)]
@@ -143,14 +134,7 @@ fn kind_in(table: &Table) -> Result<Kind, InputFault>
 fn rule_in(table: &Table) -> Result<RuleName, InputFault>
     ensures { result ≡ rule_setting (table_view table.now) }
 {
-    match word(table, Key::Rule)? {
-        "dor" => Ok(RuleName::Dor),
-        "dateline" => Ok(RuleName::Dateline),
-        "west-first" => Ok(RuleName::WestFirst),
-        "adaptive" => Ok(RuleName::Adaptive),
-        "table" => Ok(RuleName::Table),
-        _ => Err(InputFault::BadValue(Key::Rule)),
-    }
+    RuleName::named(word(table, Key::Rule)?).ok_or(InputFault::BadValue(Key::Rule))
 }
 
 // Whether each value is an integer.

@@ -9,10 +9,11 @@ use Rattle.noc_topo.proofs.ShapeLemmas.{length-coordinates}
 use Rattle.noc_topo.proofs.LinkLemmas.{IsWithin-at, IsWithin-coordinates, AreRadices, AreRadices-from_test, Hop, hop_of}
 use Rattle.noc_topo.proofs.DistanceLemmas.{hop-coordinates}
 use Rattle.noc_route.specs.Channel.{Link}
-use Rattle.noc_route.specs.Relation.{leads, takes_port, is_in_block, resource_class}
+use Rattle.noc_route.specs.Relation.{leads, takes_port, is_nearer, is_in_block, resource_class}
 use Rattle.noc_route.specs.Routes.{Routes}
 use Rattle.noc_route.specs.Built.{IsRelationOfRule, routing_of}
 use Rattle.noc_route.specs.Ranks.{Ranking, is_channel, rank_count, rank_at, AreAllRanked, IsRankedBy, IsRising}
+use Rattle.noc_route.proofs.AdaptiveLemmas.{nearer-link}
 use Rattle.noc_route.specs.declared.rule.Rule.{Rule}
 use Rattle.noc_route.specs.declared.rule.Rule.TheVariants.{Dor, Dateline, WestFirst, Adaptive, Rows}
 use Rattle.noc_route.proofs.PermitsLemmas.{PermitsLink-from_test}
@@ -76,14 +77,16 @@ module _ (grid : Grid) (vcs classes m t a o w r q p v : ℕ) (sound : IsGrid gri
   west-step flat two first next =
       let here = IsWithin-coordinates grid.radix a radices in
       let there = IsWithin-coordinates grid.radix t radices in
-      let way = west-ways xs ts o first.port in
+      let four : o < 4 = omega (arith, two, nearer-link grid a t o (and_parts (is_nearer grid xs ts o) _ first.port).0) in
+      let few : p < 4 = omega (arith, two, nearer-link grid r t p (and_parts (is_nearer grid (coordinates grid.radix r) ts p) _ next.port).0) in
+      let way = west-ways grid xs ts o flat four first.port in
       let M : Bool → Type 0 = λ b. moved_in b (get_or grid.radix (o / 2) 0) (is_plus o) (get_or xs (o / 2) 0) ≡ Some hop.coordinate in
       let P : List ℕ → Type 0 = λ ys. takes_port grid WestFirst ys ts p ≡ true → rank_over grid.radix xs o < rank_over grid.radix ys p in
       let core : P (set xs (o / 2) hop.coordinate)
       = λ e. west-rises grid.radix xs ts p hop.coordinate (length-coordinates grid.radix a ∙ two) (IsWithin-at grid.radix xs 0 here (omega (arith, two))) (IsWithin-at grid.radix xs 1 here (omega (arith, two)))
-      (IsWithin-at grid.radix ts 1 there (omega (arith, two))) o way (west-ways (set xs (o / 2) hop.coordinate) ts p e) (subst M flat hop.moved) in
+      (IsWithin-at grid.radix ts 1 there (omega (arith, two))) o way (west-ways grid (set xs (o / 2) hop.coordinate) ts p flat few e) (subst M flat hop.moved) in
       let l = subst P (sym changed) core next.port in
-      omega (arith, l, west-formula a o way, west-formula r p (west-ways (coordinates grid.radix r) ts p next.port))
+      omega (arith, l, west-formula a o way, west-formula r p (west-ways grid (coordinates grid.radix r) ts p flat few next.port))
 
   -- the ranks rise from a channel to which the rule leads to the next
   step-rises : (rule : Rule) → rule ≢ Adaptive → has_ranks grid vcs classes rule ≡ true → (i j : ℕ) → leads (routing_of grid vcs classes rule) m (a, i) j t o w ≡ true → o < local_port grid

@@ -1,10 +1,12 @@
 -- Ranks by formula rise along west first, by coordinates.
-use Rattle.std.proofs.Common.{◌≡◌, ℕ, ◌+◌, ◌-◌, ◌*◌, ◌/◌, ◌<◌, ◌≤◌, Bool, true, false, List, length, get_or, set, Some, refl, sym, ap, subst, ◌∙◌, arith, inl, inr}
+use Rattle.std.proofs.Common.{◌≡◌, ◌≢◌, ℕ, zero, suc, ◌+◌, ◌-◌, ◌*◌, ◌/◌, ◌<◌, ◌≤◌, Bool, true, false, List, length, get_or, set, Some, refl, sym, ap, subst, ◌∙◌, arith, inl, inr}
 use Rattle.std.specs.Prelude.{◌⊎◌, ◌&&◌, ◌||◌, nat_eq, nat_lt, if◌then◌else◌}
-use Rattle.std.proofs.lemmas.Bool.{eqb-true, ltb-true, ltb-false, and_parts, or_cases, false≢true}
+use Rattle.std.proofs.lemmas.Bool.{eqb-true, ltb-true, ltb-false, leb-true, and_parts, false≢true}
 use Rattle.std.proofs.lemmas.List.{get_or-set_same, get_or-set_other}
-use Rattle.noc_topo.specs.Shape.{is_plus, moved_in}
-use Rattle.noc_route.specs.Relation.{is_west_first}
+use Rattle.noc_topo.specs.Shape.{Grid, is_plus, moved_in}
+use Rattle.noc_route.specs.Relation.{goes_up, is_nearer, is_west_first, takes_port}
+use Rattle.noc_route.specs.declared.rule.Rule.TheVariants.{WestFirst}
+use Rattle.noc_route.proofs.AdaptiveLemmas.{Nearer, Nearer-from_test}
 use Rattle.noc_rank.proofs.StepLemmas.{moved-up, moved-down}
 
 -- the rank by west first of a channel of this port at column x and row y, of so many columns and rows
@@ -22,26 +24,22 @@ pub data IsWest : ℕ → ℕ → ℕ → ℕ → ℕ → Type 0 where
   north : {x y a b p : ℕ} → p ≡ 2 → x ≤ a → y < b → IsWest x y a b p
   south : {x y a b p : ℕ} → p ≡ 3 → x ≤ a → b < y → IsWest x y a b p
 
-pub west-ways : (xs ts : List ℕ) (p : ℕ) → is_west_first xs ts p ≡ true → IsWest (get_or xs 0 0) (get_or xs 1 0) (get_or ts 0 0) (get_or ts 1 0) p
-west-ways xs ts p e = at (nat_lt (get_or ts 0 0) (get_or xs 0 0)) refl
+pub west-ways : (g : Grid) (xs ts : List ℕ) (p : ℕ) → g.wraps ≡ false → p < 4 → takes_port g WestFirst xs ts p ≡ true → IsWest (get_or xs 0 0) (get_or xs 1 0) (get_or ts 0 0) (get_or ts 1 0) p
+west-ways g xs ts p flat few e = at p few nearer.differ (sym (ap (λ w. goes_up w (get_or g.radix (p / 2) 0) (get_or xs (p / 2) 0) (get_or ts (p / 2) 0)) flat) ∙ nearer.way) parts.1
   where
-    at : (b : Bool) → nat_lt (get_or ts 0 0) (get_or xs 0 0) ≡ b → IsWest (get_or xs 0 0) (get_or xs 1 0) (get_or ts 0 0) (get_or ts 1 0) p
-    at true f =
-        let port : nat_eq p 1 ≡ true = sym (rw f refl) ∙ e in
-        west (eqb-true p 1 port) (ltb-true _ _ f)
-    at false f = pick (or_cases _ _ (sym (rw f refl) ∙ e))
-      where
-        level : get_or xs 0 0 ≤ get_or ts 0 0
-        level = ltb-false _ _ f
+    parts : (is_nearer g xs ts p ≡ true) × (is_west_first xs ts p ≡ true)
+    parts = and_parts (is_nearer g xs ts p) (is_west_first xs ts p) e
 
-        more : ((nat_eq p 0 && nat_lt (get_or xs 0 0) (get_or ts 0 0)) ≡ true) ⊎ ((nat_eq p 2 && nat_lt (get_or xs 1 0) (get_or ts 1 0)) ≡ true) → IsWest (get_or xs 0 0) (get_or xs 1 0) (get_or ts 0 0) (get_or ts 1 0) p
-        more (inl s) = let parts = and_parts (nat_eq p 0) _ s in east (eqb-true p 0 parts.0) (ltb-true _ _ parts.1)
-        more (inr s) = let parts = and_parts (nat_eq p 2) _ s in north (eqb-true p 2 parts.0) level (ltb-true _ _ parts.1)
+    nearer : Nearer g xs ts p
+    nearer = Nearer-from_test g xs ts p parts.0
 
-        pick : (((nat_eq p 0 && nat_lt (get_or xs 0 0) (get_or ts 0 0)) || (nat_eq p 2 && nat_lt (get_or xs 1 0) (get_or ts 1 0))) ≡ true) ⊎ ((nat_eq p 3 && nat_lt (get_or ts 1 0) (get_or xs 1 0)) ≡ true)
-            → IsWest (get_or xs 0 0) (get_or xs 1 0) (get_or ts 0 0) (get_or ts 1 0) p
-        pick (inl q) = more (or_cases _ _ q)
-        pick (inr q) = let parts = and_parts (nat_eq p 3) _ q in south (eqb-true p 3 parts.0) level (ltb-true _ _ parts.1)
+    at : (p : ℕ) → p < 4 → get_or xs (p / 2) 0 ≢ get_or ts (p / 2) 0 → nat_lt (get_or xs (p / 2) 0) (get_or ts (p / 2) 0) ≡ is_plus p → is_west_first xs ts p ≡ true
+        → IsWest (get_or xs 0 0) (get_or xs 1 0) (get_or ts 0 0) (get_or ts 1 0) p
+    at zero few differ way on = east refl (ltb-true _ _ way)
+    at (suc zero) few differ way on = west refl (omega (arith, ltb-false _ _ way, differ))
+    at (suc (suc zero)) few differ way on = north refl (leb-true _ _ on) (ltb-true _ _ way)
+    at (suc (suc (suc zero))) few differ way on = south refl (leb-true _ _ on) (omega (arith, ltb-false _ _ way, differ))
+    at (suc (suc (suc (suc p)))) few differ way on = absurd (omega (arith, few))
 
 -- the ranks at each port
 rank-west : (c r x y p : ℕ) → p ≡ 1 → west_rank c r x y p ≡ c - x

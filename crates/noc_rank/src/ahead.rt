@@ -148,11 +148,8 @@ impl<'a> Search<'a> {
 pub(crate) fn lesser(a: Option<u32>, b: Option<u32>) -> Option<u32>
     ensures { result ≡ lesser a b }
 {
-    let Some(x) = a else {
-        return b;
-    };
-    let Some(y) = b else {
-        return a;
-    };
-    Some(x.min(y))
+    match (a, b) {
+        (Some(x), Some(y)) => Some(x.min(y)),
+        _ => a.or(b),
+    }
 }

@@ -109,13 +109,7 @@ fn start_in(list: &RankList, least: &[Option<u32>]) -> Option<u32>
 fn falls(rank: Option<u32>, ahead: Option<u32>) -> bool
     ensures { result ≡ falls rank ahead }
 {
-    let Some(rank) = rank else {
-        return false;
-    };
-    let Some(ahead) = ahead else {
-        return false;
-    };
-    ahead <= rank
+    matches!((rank, ahead), (Some(rank), Some(ahead)) if ahead <= rank)
 }
 
 // Marks each place whose rank is no greater than that of the place `start` with its number.

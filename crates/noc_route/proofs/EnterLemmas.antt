@@ -1,5 +1,5 @@
 -- Writing a rule's sets.
-use Rattle.std.proofs.Common.{◌≡◌, ◌≢◌, ℕ, ◌+◌, ◌*◌, ◌/◌, ◌%◌, ◌<◌, ◌≤◌, Bool, true, false, List, [], length, get_or, set, take, refl, sym, subst, ap, ◌∙◌, arith, inl, inr, Vec, Global}
+use Rattle.std.proofs.Common.{◌≡◌, ◌≢◌, ℕ, ◌+◌, ◌*◌, ◌/◌, ◌%◌, ◌<◌, ◌≤◌, Bool, true, false, List, length, get_or, set, take, Some, None, refl, sym, subst, ap, ◌∙◌, arith, inl, inr, Vec, Global}
 use Rattle.std.specs.Prelude.{◌⊎◌, ◌&&◌, ◌||◌, nat_eq, nat_lt, nat_le, slice_index, is_some, if◌then◌else◌}
 use Rattle.std.proofs.lemmas.Bool.{cases_lt, cases_eq, eq-eqb, eqb-true, and_parts, lt-ltb, le-ltb, le-leb, leb-true, ltb-true, false≢true, or_cases}
 use Rattle.std.proofs.lemmas.List.{get_or-set_same, get_or-set_other}
@@ -8,7 +8,7 @@ use Rattle.std.proofs.lemmas.List.Folds.{list_any_more}
 use Rattle.std.proofs.Math.Bool.{or-false, or-true, and-false}
 use Rattle.noc_packet.specs.Set.{has_bit}
 use Rattle.noc_topo.specs.Shape.{Grid, nodes, ports, local_port, neighbour}
-use Rattle.noc_route.specs.Relation.{RelationParts, names_entry, is_open, is_real_row, table_rows_of, leads, is_led}
+use Rattle.noc_route.specs.Relation.{RelationParts, names_entry, is_open, is_real_row, has_route_row, rows_of, leads, is_led}
 use Rattle.noc_route.specs.Routes.{Routes, width, pages, page_of, page_class, page_router, page_dst, entry_place}
 use Rattle.noc_route.specs.Trimming.{page_set}
 use Rattle.noc_packet.proofs.SetLemmas.{has_bit-zero}
@@ -285,13 +285,11 @@ HasRows-none routes sets rows empty = λ b i k m o.
 
 -- ---- the rule
 
-pub leads-named : (grid : Grid) (vcs classes : ℕ) (rule : Rule) (m r p v t q w : ℕ) → ((rows : Vec RouteRow Global) → rule ≡ Rows rows → ⊥)
-    → leads (record { grid = grid; vcs = vcs; classes = classes; rule = rule }) m (r, p) v t q w ≡ is_led (record { grid = grid; vcs = vcs; classes = classes; rule = rule }) m r t q w
-leads-named grid vcs classes Dor m r p v t q w other = refl
-leads-named grid vcs classes Dateline m r p v t q w other = refl
-leads-named grid vcs classes WestFirst m r p v t q w other = refl
-leads-named grid vcs classes Adaptive m r p v t q w other = refl
-leads-named grid vcs classes (Rows rows) m r p v t q w other = absurd (other rows refl)
+pub leads-named : (g : RelationParts) (m r p v t q w : ℕ) → rows_of g.rule ≡ None → leads g m (r, p) v t q w ≡ is_led g m r t q w
+leads-named g m r p v t q w none = rw (none, leads) refl
+
+pub leads-rows : (g : RelationParts) (rows : List RouteRow) (m r p v t q w : ℕ) → rows_of g.rule ≡ Some rows → leads g m (r, p) v t q w ≡ has_route_row rows m (r, p) v t q w
+leads-rows g rows m r p v t q w table = rw (table, leads) refl
 
 -- the sets of all places, by those of all pages
 pub IsEntered-from_pages : (g : RelationParts) (routes : Routes)
@@ -306,9 +304,9 @@ IsEntered-from_pages g routes h m r t i k place l =
     ∙ ap (λ x. led m x (page_dst routes.grid b)) (page-sender routes.grid routes.classes m r t place.dst place.class)
     ∙ ap (led m r) (page-dst routes.grid routes.classes m r t place.dst)
 
-pub rows_of-named : (rule : Rule) → ((rows : Vec RouteRow Global) → rule ≡ Rows rows → ⊥) → table_rows_of rule ≡ []
-rows_of-named Dor other = refl
-rows_of-named Dateline other = refl
-rows_of-named WestFirst other = refl
-rows_of-named Adaptive other = refl
-rows_of-named (Rows rows) other = absurd (other rows refl)
+pub rows_of-none : (rule : Rule) → ((rows : Vec RouteRow Global) → rule ≡ Rows rows → ⊥) → rows_of rule ≡ None
+rows_of-none Dor other = refl
+rows_of-none Dateline other = refl
+rows_of-none WestFirst other = refl
+rows_of-none Adaptive other = refl
+rows_of-none (Rows rows) other = absurd (other rows refl)

@@ -3,6 +3,7 @@ pub mod RankLemmas
 pub mod BoolLemmas
 pub mod WayLemmas
 pub mod OptionLemmas
+pub mod NameLemmas
 pub mod OrderLemmas
 pub mod RowLemmas
 pub mod TrimLemmas

@@ -1,7 +1,7 @@
 -- The rules by coordinates.
 use Rattle.std.proofs.Common.{◌≡◌, ◌≢◌, ℕ, zero, suc, ◌+◌, ◌-◌, ◌*◌, ◌/◌, ◌%◌, ◌<◌, ◌≤◌, Bool, true, false, List, [], ◌∷◌, length, get_or, Option, Some, None, refl, sym, subst, ap, ◌∙◌, arith, inl, inr}
 use Rattle.std.specs.Prelude.{◌⊎◌, ◌&&◌, ◌||◌, option_map, nat_eq, nat_lt, nat_le, if◌then◌else◌}
-use Rattle.std.proofs.lemmas.Bool.{cases_lt, cases_eq, eq-eqb, ne_eqb, eqb-true, lt-ltb, le-ltb, ltb-true, ltb-false, leb-true, leb-false, and_parts, or_cases, false≢true}
+use Rattle.std.proofs.lemmas.Bool.{cases_lt, cases_eq, eq-eqb, ne_eqb, eqb-true, lt-ltb, le-ltb, ltb-true, ltb-false, leb-true, leb-false, false≢true}
 use Rattle.std.proofs.Math.Nat.{add-mul-mod_self_left, mod-eq_of_lt}
 use Rattle.std.proofs.Math.Bool.{or-true, or-false, and-false}
 use Rattle.noc_topo.specs.Shape.{Grid, IsGrid, coordinates, three_coordinates, nodes, local_port, neighbour, moved_in, is_plus, distance, distance_in}
@@ -9,7 +9,7 @@ use Rattle.noc_topo.proofs.ShapeLemmas.{length-coordinates}
 use Rattle.noc_topo.proofs.LinkLemmas.{AreRadices-from_test, AreRadices-at, get_or-padded, get_or-past, corner-at, IsWithin-at, IsWithin-coordinates, hop_of, led}
 use Rattle.noc_topo.proofs.DistanceLemmas.{hop-distance}
 use Rattle.noc_topo.specs.Words.{is_some_of}
-use Rattle.noc_route.specs.Relation.{goes_up, dor_port, dor_port_from, is_west_first}
+use Rattle.noc_route.specs.Relation.{goes_up, dor_port, dor_port_from}
 
 -- ---- the port of dimension order
 
@@ -229,75 +229,3 @@ NearerHop-dor g r p t sound l e =
     let P : ℕ → Type 0 = λ i. Step g.wraps (get_or g.radix i 0) (get_or (coordinates g.radix r) i 0) (get_or (coordinates g.radix t) i 0) (is_plus p) in
     let Q : Bool → Type 0 = λ b. Step g.wraps (get_or g.radix i 0) (get_or (coordinates g.radix r) i 0) (get_or (coordinates g.radix t) i 0) b in
     NearerHop-from_step g r p t sound l (subst P (sym port.0) (subst Q (sym port.1) step))
-
--- ---- west first
-
--- the port leads along a dimension of a mesh towards the destination
-towards-step : (g : Grid) (r p t i : ℕ) (up : Bool) → IsGrid g → g.wraps ≡ false → i < length g.radix → p / 2 ≡ i → is_plus p ≡ up
-    → get_or (coordinates g.radix r) i 0 ≢ get_or (coordinates g.radix t) i 0 → nat_lt (get_or (coordinates g.radix r) i 0) (get_or (coordinates g.radix t) i 0) ≡ up
-    → Step g.wraps (get_or g.radix (p / 2) 0) (get_or (coordinates g.radix r) (p / 2) 0) (get_or (coordinates g.radix t) (p / 2) 0) (is_plus p)
-towards-step g r p t i up sound flat l half way differ e =
-    let radices = AreRadices-from_test g.radix sound.sizes in
-    let here = IsWithin-at g.radix (coordinates g.radix r) i (IsWithin-coordinates g.radix r radices) l in
-    let there = IsWithin-at g.radix (coordinates g.radix t) i (IsWithin-coordinates g.radix t radices) l in
-    let step = step-mesh (get_or g.radix i 0) (get_or (coordinates g.radix r) i 0) (get_or (coordinates g.radix t) i 0) up here there differ e in
-    let P : ℕ → Type 0 = λ i. Step g.wraps (get_or g.radix i 0) (get_or (coordinates g.radix r) i 0) (get_or (coordinates g.radix t) i 0) (is_plus p) in
-    let Q : Bool → Type 0 = λ b. Step g.wraps (get_or g.radix i 0) (get_or (coordinates g.radix r) i 0) (get_or (coordinates g.radix t) i 0) b in
-    let R : Bool → Type 0 = λ b. Step b (get_or g.radix i 0) (get_or (coordinates g.radix r) i 0) (get_or (coordinates g.radix t) i 0) up in
-    subst P (sym half) (subst Q (sym way) (subst R (sym flat) step))
-
--- towards a destination above, and below
-above-step : (g : Grid) (r p t i : ℕ) → IsGrid g → g.wraps ≡ false → i < length g.radix → p / 2 ≡ i → is_plus p ≡ true → get_or (coordinates g.radix r) i 0 < get_or (coordinates g.radix t) i 0
-    → Step g.wraps (get_or g.radix (p / 2) 0) (get_or (coordinates g.radix r) (p / 2) 0) (get_or (coordinates g.radix t) (p / 2) 0) (is_plus p)
-above-step g r p t i sound flat l half way above = towards-step g r p t i true sound flat l half way (λ e. omega (arith, e, above)) (lt-ltb _ _ above)
-
-below-step : (g : Grid) (r p t i : ℕ) → IsGrid g → g.wraps ≡ false → i < length g.radix → p / 2 ≡ i → is_plus p ≡ false → get_or (coordinates g.radix t) i 0 < get_or (coordinates g.radix r) i 0
-    → Step g.wraps (get_or g.radix (p / 2) 0) (get_or (coordinates g.radix r) (p / 2) 0) (get_or (coordinates g.radix t) (p / 2) 0) (is_plus p)
-below-step g r p t i sound flat l half way below = towards-step g r p t i false sound flat l half way (λ e. omega (arith, e, below)) (le-ltb _ _ (omega (arith, below)))
-
-pub NearerHop-west_first : (g : Grid) (r p t : ℕ) → IsGrid g → g.wraps ≡ false → length g.radix ≡ 2 → p < local_port g
-    → is_west_first (coordinates g.radix r) (coordinates g.radix t) p ≡ true → NearerHop g r p t
-NearerHop-west_first g r p t sound flat two l e = NearerHop-from_step g r p t sound l (at (nat_lt (get_or (coordinates g.radix t) 0 0) (get_or (coordinates g.radix r) 0 0)) refl)
-  where
-    first : 0 < length g.radix
-    first = omega (arith, two)
-
-    second : 1 < length g.radix
-    second = omega (arith, two)
-
-    choose : ((nat_eq p 0 && nat_lt (get_or (coordinates g.radix r) 0 0) (get_or (coordinates g.radix t) 0 0)) || (nat_eq p 2 && nat_lt (get_or (coordinates g.radix r) 1 0) (get_or (coordinates g.radix t) 1 0))) ≡ true
-        → Step g.wraps (get_or g.radix (p / 2) 0) (get_or (coordinates g.radix r) (p / 2) 0) (get_or (coordinates g.radix t) (p / 2) 0) (is_plus p)
-    choose f = pick (or_cases _ _ f)
-      where
-        pick : ((nat_eq p 0 && nat_lt (get_or (coordinates g.radix r) 0 0) (get_or (coordinates g.radix t) 0 0)) ≡ true) ⊎ ((nat_eq p 2 && nat_lt (get_or (coordinates g.radix r) 1 0) (get_or (coordinates g.radix t) 1 0)) ≡ true)
-            → Step g.wraps (get_or g.radix (p / 2) 0) (get_or (coordinates g.radix r) (p / 2) 0) (get_or (coordinates g.radix t) (p / 2) 0) (is_plus p)
-        pick (inl q) =
-            let parts = and_parts (nat_eq p 0) _ q in
-            let port : p ≡ 0 = eqb-true p 0 parts.0 in
-            above-step g r p t 0 sound flat first (ap (λ p. p / 2) port) (ap is_plus port) (ltb-true _ _ parts.1)
-        pick (inr q) =
-            let parts = and_parts (nat_eq p 2) _ q in
-            let port : p ≡ 2 = eqb-true p 2 parts.0 in
-            above-step g r p t 1 sound flat second (ap (λ p. p / 2) port) (ap is_plus port) (ltb-true _ _ parts.1)
-
-    other : (((nat_eq p 0 && nat_lt (get_or (coordinates g.radix r) 0 0) (get_or (coordinates g.radix t) 0 0)) || (nat_eq p 2 && nat_lt (get_or (coordinates g.radix r) 1 0) (get_or (coordinates g.radix t) 1 0)))
-        || (nat_eq p 3 && nat_lt (get_or (coordinates g.radix t) 1 0) (get_or (coordinates g.radix r) 1 0))) ≡ true
-        → Step g.wraps (get_or g.radix (p / 2) 0) (get_or (coordinates g.radix r) (p / 2) 0) (get_or (coordinates g.radix t) (p / 2) 0) (is_plus p)
-    other f = pick (or_cases _ _ f)
-      where
-        pick : (((nat_eq p 0 && nat_lt (get_or (coordinates g.radix r) 0 0) (get_or (coordinates g.radix t) 0 0)) || (nat_eq p 2 && nat_lt (get_or (coordinates g.radix r) 1 0) (get_or (coordinates g.radix t) 1 0))) ≡ true)
-            ⊎ ((nat_eq p 3 && nat_lt (get_or (coordinates g.radix t) 1 0) (get_or (coordinates g.radix r) 1 0)) ≡ true)
-            → Step g.wraps (get_or g.radix (p / 2) 0) (get_or (coordinates g.radix r) (p / 2) 0) (get_or (coordinates g.radix t) (p / 2) 0) (is_plus p)
-        pick (inl q) = choose q
-        pick (inr q) =
-            let parts = and_parts (nat_eq p 3) _ q in
-            let port : p ≡ 3 = eqb-true p 3 parts.0 in
-            below-step g r p t 1 sound flat second (ap (λ p. p / 2) port) (ap is_plus port) (ltb-true _ _ parts.1)
-
-    at : (b : Bool) → nat_lt (get_or (coordinates g.radix t) 0 0) (get_or (coordinates g.radix r) 0 0) ≡ b
-        → Step g.wraps (get_or g.radix (p / 2) 0) (get_or (coordinates g.radix r) (p / 2) 0) (get_or (coordinates g.radix t) (p / 2) 0) (is_plus p)
-    at true f =
-        let here : nat_eq p 1 ≡ true = sym (rw f refl) ∙ e in
-        let port : p ≡ 1 = eqb-true p 1 here in
-        below-step g r p t 0 sound flat first (ap (λ p. p / 2) port) (ap is_plus port) (ltb-true _ _ f)
-    at false f = other (sym (rw f refl) ∙ e)

@@ -1,5 +1,5 @@
 -- Places in the table.
-use Rattle.std.proofs.Common.{◌≡◌, ℕ, zero, suc, ◌+◌, ◌*◌, ◌<◌, ◌≤◌, ◌/◌, ◌%◌, true, List, [], ◌∷◌, ◌++◌, length, get_or, arith, inl, inr, refl, sym, subst, ◌∙◌, zero-add}
+use Rattle.std.proofs.Common.{◌≡◌, ℕ, zero, suc, ◌+◌, ◌*◌, ◌<◌, ◌≤◌, ◌/◌, ◌%◌, true, List, [], ◌∷◌, ◌++◌, length, get_or, arith, inl, inr, refl, sym, subst, ap, ◌∙◌, zero-add}
 use Rattle.std.specs.Prelude.{nat_lt, nat_le, nat_eq, ◌&&◌, ◌⊎◌, slice_index, replicate}
 use Rattle.std.proofs.Math.Nat.{div-lt_iff_lt-mul, mul-le-mul_right, add-mul-div_right, add-mul-mod_self_right, mod-eq_of_lt, div-eq_of_lt, add_comm, mod-lt}
 use Rattle.std.proofs.lemmas.Bool.{lt-ltb, and_parts, leb-true, ltb-true, eqb-true, cases_lt}
@@ -101,6 +101,13 @@ same-at d n k = at (cases_lt k n)
     at : (k < n) ⊎ (n ≤ k) → get_or (replicate n d) k d ≡ d
     at (inl l) = get_or-replicate n k d d l
     at (inr u) = get_or-eq_default (replicate n d) d (omega (arith, length-replicate n d))
+
+-- the length of a list of zeros, and its elements
+pub zeros-length : (xs : List ℕ) (n : ℕ) → xs ≡ replicate n 0 → length xs ≡ n
+zeros-length xs n e = ap length e ∙ length-replicate n 0
+
+pub zeros-at : (xs : List ℕ) (n : ℕ) → xs ≡ replicate n 0 → (j : ℕ) → get_or xs j 0 ≡ 0
+zeros-at xs n e j = ap (λ (xs : List ℕ). get_or xs j 0) e ∙ same-at 0 n j
 
 -- what holds of each element so far, by its place, and of one more
 pub each-push : {X : Type 0} (d : X) (P : ℕ → X → Type 0) (xs : List X) (x : X) → ((k : ℕ) → k < length xs → P k (get_or xs k d)) → P (length xs) x → (k : ℕ) → k < length xs + 1 → P k (get_or (xs ++ x ∷ []) k d)

@@ -1,6 +1,6 @@
 -- What a rule leads to.
 use Rattle.std.proofs.Common.{◌≡◌, ◌≢◌, ℕ, suc, ◌+◌, ◌*◌, ◌/◌, ◌%◌, ◌<◌, ◌≤◌, Bool, true, false, List, [], ◌∷◌, length, get_or, Option, Some, None, refl, sym, subst, ap, ◌∙◌, arith, inl, inr}
-use Rattle.std.specs.Prelude.{◌⊎◌, ◌&&◌, ◌||◌, not, nat_eq, nat_lt, nat_le, is_some, All, if◌then◌else◌}
+use Rattle.std.specs.Prelude.{◌⊎◌, ◌&&◌, not, nat_eq, nat_lt, nat_le, is_some, unwrap_or, All, if◌then◌else◌}
 use Rattle.std.specs.List.{list_any}
 use Rattle.std.proofs.Math.Nat.{mul-le-mul_right, div-lt_iff_lt-mul}
 use Rattle.std.proofs.lemmas.Bool.{eq-eqb, eqb-true, false≢true, and_parts, or_cases, ltb-true, leb-true, le-ltb}
@@ -8,15 +8,15 @@ use Rattle.noc_topo.specs.Words.{is_some_of}
 use Rattle.noc_topo.specs.Shape.{Grid, IsGrid, local_port, neighbour, distance, coordinates}
 use Rattle.noc_topo.proofs.DistanceLemmas.{hop-by_one}
 use Rattle.noc_packet.specs.declared.limits.TheConstants.{MAX_CHANNELS, MAX_CLASSES}
-use Rattle.noc_route.specs.Relation.{RelationParts, is_right, escapes, is_in_block, takes_port, takes_channel, names_entry, has_route_row, table_rows_of, is_real_row, hop_fault, row_fault, leads, is_led, dor_port, is_west_first, goes_up}
+use Rattle.noc_route.specs.Relation.{RelationParts, is_right, fits, is_in_block, takes_port, takes_channel, takes_of_class, names_entry, has_route_row, rows_of, table_rows_of, is_real_row, hop_fault, row_fault, leads, is_led, dor_port, is_nearer, goes_up}
 use Rattle.noc_route.specs.declared.rule.Rule.{Rule}
 use Rattle.noc_route.specs.declared.rule.Rule.TheVariants.{Dor, Dateline, WestFirst, Adaptive, Rows}
 use Rattle.noc_route.specs.declared.rule.RouteRow.{RouteRow}
 use Rattle.noc_route.specs.declared.rule.RouteFault.{RouteFault}
 use Rattle.noc_route.specs.declared.rule.RouteFault.TheVariants.{NoLink, NotMinimal, EarlyEject, LateHop}
-use Rattle.noc_route.proofs.EnterLemmas.{NamesIt, is_row_of-parts, IsRealRow, IsRealRow-from_test}
+use Rattle.noc_route.proofs.EnterLemmas.{NamesIt, is_row_of-parts, IsRealRow, IsRealRow-from_test, leads-named, leads-rows}
 use Rattle.noc_route.proofs.AdaptiveLemmas.{nearer-link, NearerHop-adaptive}
-use Rattle.noc_route.proofs.NamedLemmas.{NearerHop, NearerHop-dor, NearerHop-west_first, dor_port_from-some, some_of-true}
+use Rattle.noc_route.proofs.NamedLemmas.{NearerHop, NearerHop-dor, dor_port_from-some, some_of-true}
 use Rattle.noc_route.specs.Built.{routing_of}
 
 -- ---- rows without a fault
@@ -92,7 +92,7 @@ pub record IsRight (vcs classes : ℕ) : Type 0 where
 
 pub IsRight-from_test : (g : Grid) (vcs classes : ℕ) (rule : Rule) → is_right g vcs classes rule ≡ true → IsRight vcs classes
 IsRight-from_test g vcs classes rule e =
-    let a = and_parts _ (elim rule [ Dor ↦ true | Dateline ↦ g.wraps && nat_eq (vcs % (2 * classes)) 0 | WestFirst ↦ not g.wraps && nat_eq (length g.radix) 2 | Adaptive ↦ nat_lt (escapes g) (vcs / classes) | Rows rows ↦ true ]) e in
+    let a = and_parts _ (fits g vcs classes rule) e in
     let b = and_parts _ (nat_eq (vcs % classes) 0) a.0 in
     let c = and_parts _ (nat_le classes MAX_CLASSES) b.0 in
     let d = and_parts _ (nat_le 1 classes) c.0 in
@@ -109,13 +109,6 @@ page-channel vcs classes m v some l e =
     below_next : (a b c : ℕ) → 1 ≤ c → a * b ≤ c * b → a * b < (b + 1) * c
     below_next a b c some h = omega (arith, h, some)
 
-channel-in_block : (g : Grid) (vcs classes : ℕ) (rule : Rule) (m : ℕ) (xs ts : List ℕ) (port v : ℕ) → takes_channel g vcs classes rule m xs ts port v ≡ true → is_in_block vcs classes m v ≡ true
-channel-in_block g vcs classes Dor m xs ts port v e = e
-channel-in_block g vcs classes Dateline m xs ts port v e = (and_parts (is_in_block vcs classes m v) _ e).0
-channel-in_block g vcs classes WestFirst m xs ts port v e = e
-channel-in_block g vcs classes Adaptive m xs ts port v e = (and_parts (is_in_block vcs classes m v) _ e).0
-channel-in_block g vcs classes (Rows rows) m xs ts port v e = e
-
 -- at the destination a rule by coordinates leads to the local port, and elsewhere along a port that it takes
 pub record IsLedBy (g : RelationParts) (m r t p v : ℕ) : Type 0 where
   pub page : is_in_block g.vcs g.classes m v ≡ true
@@ -129,9 +122,11 @@ is_led-parts g m r t p v e = at (nat_eq r t) refl
         let parts = and_parts (nat_eq p (local_port g.grid)) (is_in_block g.vcs g.classes m v) (sym (rw f refl) ∙ e) in
         record { page = parts.1; way = inl (eqb-true r t f, eqb-true p (local_port g.grid) parts.0) }
     at false f =
-        let parts = and_parts (takes_port g.grid g.rule (coordinates g.grid.radix r) (coordinates g.grid.radix t) p) _ (sym (rw f refl) ∙ e) in
+        let xs = coordinates g.grid.radix r in
+        let ts = coordinates g.grid.radix t in
+        let parts = and_parts (takes_port g.grid g.rule xs ts p) (takes_channel g.grid g.vcs g.classes g.rule m xs ts p v) (sym (rw f refl) ∙ e) in
         record {
-          page = channel-in_block g.grid g.vcs g.classes g.rule m (coordinates g.grid.radix r) (coordinates g.grid.radix t) p v parts.1;
+          page = (and_parts (is_in_block g.vcs g.classes m v) (takes_of_class g.grid g.vcs g.classes g.rule xs ts p v) parts.1).0;
           way = inr ((λ same. false≢true (sym f ∙ eq-eqb r t same)), parts.0);
         }
 
@@ -155,50 +150,44 @@ west-shape g vcs classes e =
     flat true f = absurd (false≢true f)
     flat false f = refl
 
-west-link : (g : Grid) (vcs classes : ℕ) (xs ts : List ℕ) (p : ℕ) → is_right g vcs classes WestFirst ≡ true → is_west_first xs ts p ≡ true → p < local_port g
-west-link g vcs classes xs ts p right e = at (nat_lt (get_or ts 0 0) (get_or xs 0 0)) refl
-  where
-    two : length g.radix ≡ 2
-    two = (west-shape g vcs classes right).1
-
-    at : (b : Bool) → nat_lt (get_or ts 0 0) (get_or xs 0 0) ≡ b → p < local_port g
-    at true f =
-        let here : nat_eq p 1 ≡ true = sym (rw f refl) ∙ e in
-        omega (arith, two, eqb-true p 1 here)
-    at false f = pick (or_cases _ _ (sym (rw f refl) ∙ e))
-      where
-        pick : (((nat_eq p 0 && nat_lt (get_or xs 0 0) (get_or ts 0 0)) || (nat_eq p 2 && nat_lt (get_or xs 1 0) (get_or ts 1 0))) ≡ true) ⊎ ((nat_eq p 3 && nat_lt (get_or ts 1 0) (get_or xs 1 0)) ≡ true) → p < local_port g
-        pick (inl q) = more (or_cases _ _ q)
-          where
-            more : ((nat_eq p 0 && nat_lt (get_or xs 0 0) (get_or ts 0 0)) ≡ true) ⊎ ((nat_eq p 2 && nat_lt (get_or xs 1 0) (get_or ts 1 0)) ≡ true) → p < local_port g
-            more (inl s) = omega (arith, two, eqb-true p 0 (and_parts (nat_eq p 0) _ s).0)
-            more (inr s) = omega (arith, two, eqb-true p 2 (and_parts (nat_eq p 2) _ s).0)
-        pick (inr q) = omega (arith, two, eqb-true p 3 (and_parts (nat_eq p 3) _ q).0)
-
 -- a rule by coordinates takes no local port away from the destination
 takes_port-link : (g : Grid) (vcs classes : ℕ) (rule : Rule) (r t p : ℕ) → is_right g vcs classes rule ≡ true → takes_port g rule (coordinates g.radix r) (coordinates g.radix t) p ≡ true → p < local_port g
 takes_port-link g vcs classes Dor r t p right e = dor-link g (coordinates g.radix r) (coordinates g.radix t) p e
 takes_port-link g vcs classes Dateline r t p right e = dor-link g (coordinates g.radix r) (coordinates g.radix t) p e
-takes_port-link g vcs classes WestFirst r t p right e = west-link g vcs classes (coordinates g.radix r) (coordinates g.radix t) p right e
+takes_port-link g vcs classes WestFirst r t p right e = nearer-link g r t p (and_parts (is_nearer g (coordinates g.radix r) (coordinates g.radix t) p) _ e).0
 takes_port-link g vcs classes Adaptive r t p right e = nearer-link g r t p e
 takes_port-link g vcs classes (Rows rows) r t p right e = absurd (false≢true e)
 
-leads-vc_at : (grid : Grid) (vcs classes : ℕ) (rule : Rule) (m r p v t q w : ℕ) → IsWellMade (routing_of grid vcs classes rule) → m < classes → leads (routing_of grid vcs classes rule) m (r, p) v t q w ≡ true → w < vcs
-leads-vc_at grid vcs classes Dor m r p v t q w good l e =
-    page-channel vcs classes m w (IsRight-from_test grid vcs classes Dor good.right).some_classes l (is_led-parts (routing_of grid vcs classes Dor) m r t q w e).page
-leads-vc_at grid vcs classes Dateline m r p v t q w good l e =
-    page-channel vcs classes m w (IsRight-from_test grid vcs classes Dateline good.right).some_classes l (is_led-parts (routing_of grid vcs classes Dateline) m r t q w e).page
-leads-vc_at grid vcs classes WestFirst m r p v t q w good l e =
-    page-channel vcs classes m w (IsRight-from_test grid vcs classes WestFirst good.right).some_classes l (is_led-parts (routing_of grid vcs classes WestFirst) m r t q w e).page
-leads-vc_at grid vcs classes Adaptive m r p v t q w good l e =
-    page-channel vcs classes m w (IsRight-from_test grid vcs classes Adaptive good.right).some_classes l (is_led-parts (routing_of grid vcs classes Adaptive) m r t q w e).page
-leads-vc_at grid vcs classes (Rows rows) m r p v t q w good l e =
-    let row = leading-row (routing_of grid vcs classes (Rows rows)) rows.items m r p v t q w good.rows e in
-    let real = IsRealRow-from_test grid vcs classes row.row (row_fault-none grid vcs classes row.row row.faultless).0 in
-    omega (arith, real.out_vc, row.names.out_vc)
+-- a rule leads by coordinates, or by a row of its table
+leads-cases : (g : RelationParts) (m r p v t q w : ℕ) → IsWellMade g → leads g m (r, p) v t q w ≡ true → (is_led g m r t q w ≡ true) ⊎ LeadingRow g m r p v t q w
+leads-cases g m r p v t q w good e = at (rows_of g.rule) refl
+  where
+    at : (o : Option (List RouteRow)) → rows_of g.rule ≡ o → (is_led g m r t q w ≡ true) ⊎ LeadingRow g m r p v t q w
+    at None none = inl (sym (leads-named g m r p v t q w none) ∙ e)
+    at (Some rows) table =
+        let P : Option (List RouteRow) → Type 0 = λ o. All (λ row. row_fault g.grid g.vcs g.classes row ≡ None) (unwrap_or o []) in
+        inr (leading-row g rows m r p v t q w (subst P table good.rows) (sym (leads-rows g rows m r p v t q w table) ∙ e))
 
 pub leads-vc : (g : RelationParts) (m r p v t q w : ℕ) → IsWellMade g → m < g.classes → leads g m (r, p) v t q w ≡ true → w < g.vcs
-leads-vc g m r p v t q w good l e = leads-vc_at g.grid g.vcs g.classes g.rule m r p v t q w good l e
+leads-vc g m r p v t q w good l e = at (leads-cases g m r p v t q w good e)
+  where
+    at : (is_led g m r t q w ≡ true) ⊎ LeadingRow g m r p v t q w → w < g.vcs
+    at (inl led) = page-channel g.vcs g.classes m w (IsRight-from_test g.grid g.vcs g.classes g.rule good.right).some_classes l (is_led-parts g m r t q w led).page
+    at (inr lead) =
+        let real = IsRealRow-from_test g.grid g.vcs g.classes lead.row (row_fault-none g.grid g.vcs g.classes lead.row lead.faultless).0 in
+        omega (arith, real.out_vc, lead.names.out_vc)
+
+-- a rule by coordinates leads along no port past its links, away from the destination
+pub is_led-past : (g : RelationParts) (m r t p v : ℕ) → is_right g.grid g.vcs g.classes g.rule ≡ true → nat_eq r t ≡ false → local_port g.grid ≤ p → is_led g m r t p v ≡ false
+is_led-past g m r t p v right away past = at (is_led g m r t p v) refl
+  where
+    at : (b : Bool) → is_led g m r t p v ≡ b → is_led g m r t p v ≡ false
+    at false e = e
+    at true e = by (is_led-parts g m r t p v e).way
+      where
+        by : ((r ≡ t) × (p ≡ local_port g.grid)) ⊎ ((r ≢ t) × (takes_port g.grid g.rule (coordinates g.grid.radix r) (coordinates g.grid.radix t) p ≡ true)) → is_led g m r t p v ≡ false
+        by (inl home) = absurd (false≢true (sym away ∙ eq-eqb r t home.0))
+        by (inr way) = absurd (omega (arith, past, takes_port-link g.grid g.vcs g.classes g.rule r t p right way.1))
 
 -- ---- the hop
 
@@ -210,7 +199,7 @@ named-hop grid vcs classes rule m r t p v sound right l e = at rule right (is_le
     at rule right (inl home) = absurd (omega (arith, home.1, l))
     at Dor right (inr way) = NearerHop-dor grid r p t sound l way.1
     at Dateline right (inr way) = NearerHop-dor grid r p t sound l way.1
-    at WestFirst right (inr way) = let shape = west-shape grid vcs classes right in NearerHop-west_first grid r p t sound shape.0 shape.1 l way.1
+    at WestFirst right (inr way) = NearerHop-adaptive grid r p t sound l (and_parts (is_nearer grid (coordinates grid.radix r) (coordinates grid.radix t) p) _ way.1).0
     at Adaptive right (inr way) = NearerHop-adaptive grid r p t sound l way.1
     at (Rows rows) right (inr way) = absurd (false≢true way.1)
 
@@ -239,17 +228,13 @@ row-hop g m r q v t p w sound l lead = at (neighbour g.grid r p) refl
         let closer : distance g.grid to.0 t < distance g.grid r t = subst Q lead.names.router (subst P lead.names.dst nearer) in
         record { to = to; link = e; nearer = hop-by_one g.grid r p to.0 to.1 t sound e closer }
 
-leads-hop_at : (grid : Grid) (vcs classes : ℕ) (rule : Rule) (m r q v t p w : ℕ) → IsWellMade (routing_of grid vcs classes rule) → p < local_port grid → leads (routing_of grid vcs classes rule) m (r, q) v t p w ≡ true → NearerHop grid r p t
-leads-hop_at grid vcs classes Dor m r q v t p w good l e = named-hop grid vcs classes Dor m r t p w good.grid good.right l e
-leads-hop_at grid vcs classes Dateline m r q v t p w good l e = named-hop grid vcs classes Dateline m r t p w good.grid good.right l e
-leads-hop_at grid vcs classes WestFirst m r q v t p w good l e = named-hop grid vcs classes WestFirst m r t p w good.grid good.right l e
-leads-hop_at grid vcs classes Adaptive m r q v t p w good l e = named-hop grid vcs classes Adaptive m r t p w good.grid good.right l e
-leads-hop_at grid vcs classes (Rows rows) m r q v t p w good l e =
-    row-hop (routing_of grid vcs classes (Rows rows)) m r q v t p w good.grid l (leading-row (routing_of grid vcs classes (Rows rows)) rows.items m r q v t p w good.rows e)
-
 -- a link to which a rule leads comes nearer by one
 pub leads-hop : (g : RelationParts) (m r q v t p w : ℕ) → IsWellMade g → p < local_port g.grid → leads g m (r, q) v t p w ≡ true → NearerHop g.grid r p t
-leads-hop g m r q v t p w good l e = leads-hop_at g.grid g.vcs g.classes g.rule m r q v t p w good l e
+leads-hop g m r q v t p w good l e = at (leads-cases g m r q v t p w good e)
+  where
+    at : (is_led g m r t p w ≡ true) ⊎ LeadingRow g m r q v t p w → NearerHop g.grid r p t
+    at (inl led) = named-hop g.grid g.vcs g.classes g.rule m r t p w good.grid good.right l led
+    at (inr lead) = row-hop g m r q v t p w good.grid l lead
 
 -- the local port has no link
 pub local-none : (g : Grid) (r : ℕ) → neighbour g r (local_port g) ≡ None
@@ -264,17 +249,13 @@ named-home grid vcs classes rule m r t v right e = at (is_led-parts (routing_of 
     at (inl home) = home.0
     at (inr way) = absurd (omega (arith, takes_port-link grid vcs classes rule r t (local_port grid) right way.1))
 
-leads-home_at : (grid : Grid) (vcs classes : ℕ) (rule : Rule) (m r q v t w : ℕ) → IsWellMade (routing_of grid vcs classes rule) → leads (routing_of grid vcs classes rule) m (r, q) v t (local_port grid) w ≡ true → r ≡ t
-leads-home_at grid vcs classes Dor m r q v t w good e = named-home grid vcs classes Dor m r t w good.right e
-leads-home_at grid vcs classes Dateline m r q v t w good e = named-home grid vcs classes Dateline m r t w good.right e
-leads-home_at grid vcs classes WestFirst m r q v t w good e = named-home grid vcs classes WestFirst m r t w good.right e
-leads-home_at grid vcs classes Adaptive m r q v t w good e = named-home grid vcs classes Adaptive m r t w good.right e
-leads-home_at grid vcs classes (Rows rows) m r q v t w good e =
-    let lead = leading-row (routing_of grid vcs classes (Rows rows)) rows.items m r q v t (local_port grid) w good.rows e in
-    let right = row_fault-none grid vcs classes lead.row lead.faultless in
-    let none : neighbour grid lead.row.router lead.row.out_port ≡ None = ap (neighbour grid lead.row.router) lead.names.out_port ∙ local-none grid lead.row.router in
-    sym lead.names.router ∙ hop_fault-home grid lead.row (sym (ap (hop_fault grid lead.row) none) ∙ right.1) ∙ lead.names.dst
-
 -- a rule leads to the local port at the destination alone
 pub leads-home : (g : RelationParts) (m r q v t w : ℕ) → IsWellMade g → leads g m (r, q) v t (local_port g.grid) w ≡ true → r ≡ t
-leads-home g m r q v t w good e = leads-home_at g.grid g.vcs g.classes g.rule m r q v t w good e
+leads-home g m r q v t w good e = at (leads-cases g m r q v t (local_port g.grid) w good e)
+  where
+    at : (is_led g m r t (local_port g.grid) w ≡ true) ⊎ LeadingRow g m r q v t (local_port g.grid) w → r ≡ t
+    at (inl led) = named-home g.grid g.vcs g.classes g.rule m r t w good.right led
+    at (inr lead) =
+        let right = row_fault-none g.grid g.vcs g.classes lead.row lead.faultless in
+        let none : neighbour g.grid lead.row.router lead.row.out_port ≡ None = ap (neighbour g.grid lead.row.router) lead.names.out_port ∙ local-none g.grid lead.row.router in
+        sym lead.names.router ∙ hop_fault-home g.grid lead.row (sym (ap (hop_fault g.grid lead.row) none) ∙ right.1) ∙ lead.names.dst

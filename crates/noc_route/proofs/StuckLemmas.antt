@@ -168,6 +168,26 @@ pub record AreTrimmed (routes : Routes) (sets outs : List ℕ) (page : ℕ) (fir
   pub later : (b i : ℕ) → page ≤ b → i < width routes.grid routes.vcs → page_set (record routes { sets = sets }) b i ≡ page_set routes b i
   pub stuck : IsFirstStuck (record routes { sets = sets }) outs (page * width routes.grid routes.vcs) first
 
+-- ---- steps of a count
+
+not-below : (i n : ℕ) → i ≡ n → i < n → ⊥
+not-below i n e l = omega (arith, e)
+
+not-past : (i n : ℕ) → i ≡ n → n + 1 ≤ i → ⊥
+not-past i n e l = omega (arith, e)
+
+none-below : (i w : ℕ) → i < 0 * w → ⊥
+none-below i w l = omega arith
+
+level : (n : ℕ) → n ≤ n
+level n = omega arith
+
+past : (n i : ℕ) → n + 1 ≤ i → n ≤ i
+past n i l = omega arith
+
+last-one : (n i : ℕ) → n ≤ i → i < n + 1 → n ≡ i
+last-one n i l u = omega arith
+
 entry_set-other : (c : Bool) (sets : List ℕ) (p j : ℕ) → j ≢ p → get_or (if c then sets else set sets p 0) j 0 ≡ get_or sets j 0
 entry_set-other true sets p j other = refl
 entry_set-other false sets p j other = get_or-set_other sets p j 0 0 other
@@ -183,13 +203,14 @@ pub IsBlockTrimmed-more : (routes : Routes) (sets new outs : List ℕ) (page inp
     → IsBlockTrimmed routes sets outs page input first → IsBlockTrimmed routes new outs page (input + 1) next
 IsBlockTrimmed-more routes sets new outs page input first next m l long is stuck h =
     let w = width routes.grid routes.vcs in
-    let here : page * w + input < length sets = omega (arith, long, flat-below page (pages routes.grid routes.classes) input w m l) in
+    let within : ℕ → Type 0 = λ n. page * w + input < n in
+    let here : within (length sets) = subst within (sym long) (flat-below page (pages routes.grid routes.classes) input w m l) in
     let P : List ℕ → Type 0 = λ new. IsFirstStuck (record routes { sets = new }) outs (page * w + input + 1) next → IsBlockTrimmed routes new outs page (input + 1) next in
     let at : (b i : ℕ) → b * w + i ≢ page * w + input → get_or new (b * w + i) 0 ≡ get_or sets (b * w + i) 0
     = λ b i other. ap (λ s. get_or s (b * w + i) 0) is ∙ entry_set-other (comes_at routes outs page input) sets (page * w + input) (b * w + i) other in
     record {
       left = λ i n k. front here at i k (cases_lt i input) n;
-      later = λ i n k. at page i (λ e. omega (arith, (same_place w page input page i l k e).1, n)) ∙ h.later i (omega (arith, n)) k;
+      later = λ i n k. at page i (λ e. not-past i input (same_place w page input page i l k e).1 n) ∙ h.later i (past input i n) k;
       others = λ b i k other. at b i (λ e. other (same_place w page input b i l k e).0) ∙ h.others b i k other;
       stuck = let Q : ℕ → Type 0 = λ n. IsFirstStuck (record routes { sets = new }) outs n next in subst Q (add_assoc (page * w) input 1) stuck;
     }
@@ -197,14 +218,14 @@ IsBlockTrimmed-more routes sets new outs page input first next m l long is stuck
     front : page * width routes.grid routes.vcs + input < length sets
         → ((b i : ℕ) → b * width routes.grid routes.vcs + i ≢ page * width routes.grid routes.vcs + input → get_or new (b * width routes.grid routes.vcs + i) 0 ≡ get_or sets (b * width routes.grid routes.vcs + i) 0)
         → (i : ℕ) → i < width routes.grid routes.vcs → (i < input) ⊎ (input ≤ i) → i < input + 1 → page_set (record routes { sets = new }) page i ≡ left_at routes outs page i
-    front here at i k (inl f) n = at page i (λ e. omega (arith, (same_place (width routes.grid routes.vcs) page input page i l k e).1, f)) ∙ h.left i f k
+    front here at i k (inl f) n = at page i (λ e. not-below i input (same_place (width routes.grid routes.vcs) page input page i l k e).1 f) ∙ h.left i f k
     front here at i k (inr g) n =
-        let last : input ≡ i = omega arith in
+        let last = last-one input i g n in
         let P : ℕ → Type 0 = λ i. page_set (record routes { sets = new }) page i ≡ left_at routes outs page i in
         subst P last
         (ap (λ s. get_or s (page * width routes.grid routes.vcs + input) 0) is
         ∙ entry_set-here (comes_at routes outs page input) sets (page * width routes.grid routes.vcs + input) here
-        ∙ ap (λ s. if comes_at routes outs page input then s else 0) (h.later input (omega arith) l))
+        ∙ ap (λ s. if comes_at routes outs page input then s else 0) (h.later input (level input) l))
 
 pub IsBlockTrimmed-none : (routes : Routes) (outs : List ℕ) (page : ℕ) (first : Option Entry) → IsFirstStuck routes outs (page * width routes.grid routes.vcs) first → IsBlockTrimmed routes routes.sets outs page 0 first
 IsBlockTrimmed-none routes outs page first h = record {
@@ -218,7 +239,7 @@ pub AreTrimmed-none : (routes : Routes) (outs : List ℕ) → AreTrimmed routes 
 AreTrimmed-none routes outs = record {
   left = λ b i n m l. absurd (omega arith);
   later = λ b i n l. refl;
-  stuck = λ b i m l n. absurd (omega arith);
+  stuck = λ b i m l n. absurd (none-below (b * width routes.grid routes.vcs + i) (width routes.grid routes.vcs) n);
 }
 
 pub AreTrimmed-more : (routes : Routes) (sets new outs : List ℕ) (page : ℕ) (first next : Option Entry) → page < pages routes.grid routes.classes
@@ -228,13 +249,13 @@ pub AreTrimmed-more : (routes : Routes) (sets new outs : List ℕ) (page : ℕ) 
     → AreTrimmed routes sets outs page first → AreTrimmed routes new outs (page + 1) next
 AreTrimmed-more routes sets new outs page first next m here others stuck h = record {
   left = λ b i n k l. front b i k l (cases_lt b page) n;
-  later = λ b i n l. others b i l (λ e. omega (arith, e, n)) ∙ h.later b i (omega (arith, n)) l;
+  later = λ b i n l. others b i l (λ e. not-past b page e n) ∙ h.later b i (past page b n) l;
   stuck = stuck;
 }
   where
     front : (b i : ℕ) → b < pages routes.grid routes.classes → i < width routes.grid routes.vcs → (b < page) ⊎ (page ≤ b) → b < page + 1 → page_set (record routes { sets = new }) b i ≡ left_at routes outs b i
-    front b i k l (inl f) n = others b i l (λ e. omega (arith, e, f)) ∙ h.left b i f k l
+    front b i k l (inl f) n = others b i l (λ e. not-below b page e f) ∙ h.left b i f k l
     front b i k l (inr g) n =
-        let last : page ≡ b = omega arith in
+        let last = last-one page b g n in
         let P : ℕ → Type 0 = λ b. page_set (record routes { sets = new }) b i ≡ left_at routes outs b i in
-        subst P last (here i l ∙ ap (λ s. if comes_at routes outs page i then s else 0) (h.later page i (omega arith) l))
+        subst P last (here i l ∙ ap (λ s. if comes_at routes outs page i then s else 0) (h.later page i (level page) l))

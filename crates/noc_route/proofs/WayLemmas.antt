@@ -1,13 +1,13 @@
 -- One step of a rule at a time: what it leads to, by the tests that the code makes.
-use Rattle.std.proofs.Common.{◌≡◌, ℕ, Bool, true, false, List, Some, None, refl, sym, ap, ◌∙◌}
+use Rattle.std.proofs.Common.{◌≡◌, ℕ, Bool, true, false, Some, None, refl, sym, ap, ◌∙◌}
 use Rattle.std.specs.Prelude.{◌&&◌, nat_eq}
+use Rattle.std.proofs.Math.Bool.{and-false}
 use Rattle.noc_topo.specs.Shape.{Grid, coordinates, local_port}
 use Rattle.noc_route.specs.Built.{routing_of}
 use Rattle.noc_route.specs.Entered.{routing_in}
-use Rattle.noc_route.specs.Relation.{RelationParts, is_led, is_in_block, takes_port, takes_channel, is_real_row, row_fault}
+use Rattle.noc_route.specs.Relation.{RelationParts, is_led, is_in_block, takes_port, takes_channel, takes_of_class, is_real_row, row_fault}
 use Rattle.noc_route.specs.declared.sizes.Sizes.{Sizes}
 use Rattle.noc_route.specs.declared.rule.Rule.{Rule}
-use Rattle.noc_route.specs.declared.rule.Rule.TheVariants.{Dor, Dateline, WestFirst, Adaptive, Rows}
 use Rattle.noc_route.specs.declared.rule.RouteRow.{RouteRow}
 use Rattle.noc_route.specs.declared.rule.RouteFault.TheVariants.{NoLink}
 
@@ -21,23 +21,17 @@ pub is_led-away : (g : RelationParts) (m r t port v : ℕ) → nat_eq r t ≡ fa
     && takes_channel g.grid g.vcs g.classes g.rule m (coordinates g.grid.radix r) (coordinates g.grid.radix t) port v)
 is_led-away g m r t port v e = rw e refl
 
--- a channel of another class is not taken
-pub takes_channel-outside : (g : Grid) (vcs classes : ℕ) (rule : Rule) (m : ℕ) (xs ts : List ℕ) (port v : ℕ) → is_in_block vcs classes m v ≡ false
-    → takes_channel g vcs classes rule m xs ts port v ≡ false
-takes_channel-outside g vcs classes Dor m xs ts port v e = e
-takes_channel-outside g vcs classes Dateline m xs ts port v e = rw e refl
-takes_channel-outside g vcs classes WestFirst m xs ts port v e = e
-takes_channel-outside g vcs classes Adaptive m xs ts port v e = rw e refl
-takes_channel-outside g vcs classes (Rows rows) m xs ts port v e = e
-
--- each channel of a class is taken by a rule with one sort of channel
-pub takes_channel-inside : (g : Grid) (vcs classes : ℕ) (rule : Rule) (m : ℕ) (xs ts : List ℕ) (port v : ℕ) → (rule ≡ Dateline → ⊥) → (rule ≡ Adaptive → ⊥)
-    → is_in_block vcs classes m v ≡ true → takes_channel g vcs classes rule m xs ts port v ≡ true
-takes_channel-inside g vcs classes Dor m xs ts port v a b e = e
-takes_channel-inside g vcs classes Dateline m xs ts port v a b e = absurd (a refl)
-takes_channel-inside g vcs classes WestFirst m xs ts port v a b e = e
-takes_channel-inside g vcs classes Adaptive m xs ts port v a b e = absurd (b refl)
-takes_channel-inside g vcs classes (Rows rows) m xs ts port v a b e = e
+-- no channel of another class is taken
+pub is_led-outside : (g : RelationParts) (m r t port v : ℕ) → is_in_block g.vcs g.classes m v ≡ false → is_led g m r t port v ≡ false
+is_led-outside g m r t port v out = at (nat_eq r t) refl
+  where
+    at : (b : Bool) → nat_eq r t ≡ b → is_led g m r t port v ≡ false
+    at true e = is_led-home g m r t port v e ∙ ap (λ b. nat_eq port (local_port g.grid) && b) out ∙ and-false (nat_eq port (local_port g.grid))
+    at false e =
+        let xs = coordinates g.grid.radix r in
+        let ts = coordinates g.grid.radix t in
+        is_led-away g m r t port v e ∙ ap (λ b. takes_port g.grid g.rule xs ts port && (b && takes_of_class g.grid g.vcs g.classes g.rule xs ts port v)) out
+        ∙ and-false (takes_port g.grid g.rule xs ts port)
 
 -- what a row without a fault names exists
 pub real-from_none : (g : Grid) (vcs classes : ℕ) (row : RouteRow) → row_fault g vcs classes row ≡ None → is_real_row g vcs classes row ≡ true

@@ -9,10 +9,14 @@ use Rattle.noc_route.specs.declared.sizes.Sizes.{Sizes}
 use Rattle.noc_route.specs.declared.rule.RouteRow.{RouteRow}
 use Rattle.noc_route.specs.declared.rule.Rule.{Rule}
 use Rattle.noc_route.specs.declared.named.Way.{Way}
+use Rattle.noc_route.specs.declared.routing.Routing.{Routing}
 
 -- a rule over the numbers of a frame
 abbrev pub routing_in : Sizes → Rule → RelationParts
 routing_in f rule = record { grid = f.shape; vcs = f.vcs; classes = f.classes; rule = rule }
+
+abbrev pub parts_of : Routing → RelationParts
+parts_of routing = routing_in routing.map.now.frame routing.rule.now
 
 -- what is known of the way from router r to destination t
 pub record IsWay (g : Grid) (way : Way) (r t : ℕ) : Type 0 where

@@ -1,5 +1,5 @@
 -- How the channels by which packets leave routers are found.
-use Rattle.std.specs.Prelude.{◌≡◌, ℕ, ◌*◌, ◌<◌, ◌≤◌, List, length}
+use Rattle.std.specs.Prelude.{◌≡◌, ℕ, ◌*◌, ◌<◌, ◌≤◌, List, length, replicate}
 use Rattle.noc_topo.specs.Shape.{distance}
 use Rattle.noc_route.specs.Routes.{Routes, width, pages}
 use Rattle.noc_route.specs.Trimming.{IsPlace, IsSoundOut, IsFullOut}
@@ -8,6 +8,10 @@ use Rattle.noc_route.specs.declared.sizes.Sizes.{Sizes}
 -- a list has as many sets as a table over these numbers
 abbrev pub IsTable : Sizes → List ℕ → Type 0
 IsTable f sets = length sets ≡ pages f.shape f.classes * width f.shape f.vcs
+
+-- a table over these numbers without members
+abbrev pub IsBlank : Sizes → List ℕ → Type 0
+IsBlank f sets = sets ≡ replicate (pages f.shape f.classes * width f.shape f.vcs) 0
 
 -- one list of channels for each router, class and destination, and packets leave by each of them
 pub record AreOuts (routes : Routes) (outs : List ℕ) : Type 0 where

@@ -8,3 +8,4 @@ pub mod Trimming
 pub mod Entered
 pub mod Built
 pub mod Gathering
+pub mod Names

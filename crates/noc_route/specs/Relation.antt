@@ -1,5 +1,5 @@
 -- Routing rules, the entries that packets reach, and the routing relation.
-use Rattle.std.specs.Prelude.{◌≡◌, ◌≢◌, ℕ, ◌+◌, ◌-◌, ◌*◌, ◌/◌, ◌%◌, ◌<◌, Bool, true, false, ◌&&◌, ◌||◌, not, IsTrue, List, [], ◌∷◌, Option, Some, None, is_some, nat_eq, nat_lt, nat_le, slice_index, if◌then◌else◌, All, Contains, ◌⊎◌}
+use Rattle.std.specs.Prelude.{◌≡◌, ◌≢◌, ℕ, ◌+◌, ◌-◌, ◌*◌, ◌/◌, ◌%◌, ◌<◌, Bool, true, false, ◌&&◌, ◌||◌, not, IsTrue, List, [], ◌∷◌, Option, Some, None, is_some, nat_eq, nat_lt, nat_le, slice_index, if◌then◌else◌, unwrap_or, All, Contains, ◌⊎◌}
 use Rattle.std.specs.List.{list_any}
 use Rattle.noc_topo.specs.Words.{is_some_of}
 use Rattle.noc_topo.specs.Shape.{Grid, coordinates, nodes, dimensions, is_plus, local_port, neighbour, distance}
@@ -24,17 +24,19 @@ pub record RelationParts : Type 0 where
 abbrev pub escapes : Grid → ℕ
 escapes g = if g.wraps then 2 else 1
 
+-- whether a rule fits the shape and the numbers of channels and classes
+abbrev pub fits : Grid → ℕ → ℕ → Rule → Bool
+fits g vcs classes Dor = true
+fits g vcs classes Dateline = g.wraps && nat_eq (vcs % (2 * classes)) 0
+fits g vcs classes WestFirst = not g.wraps && nat_eq (dimensions g) 2
+fits g vcs classes Adaptive = nat_lt (escapes g) (vcs / classes)
+fits g vcs classes (Rows rows) = true
+
 -- whether the numbers of channels and classes are within their limits, and the rule fits them and the shape
 abbrev pub is_right : Grid → ℕ → ℕ → Rule → Bool
 is_right g vcs classes rule =
     nat_le 1 vcs && nat_le vcs MAX_CHANNELS && nat_le 1 classes && nat_le classes MAX_CLASSES && nat_eq (vcs % classes) 0
-    && (elim rule [
-      | Dor ↦ true
-      | Dateline ↦ g.wraps && nat_eq (vcs % (2 * classes)) 0
-      | WestFirst ↦ not g.wraps && nat_eq (dimensions g) 2
-      | Adaptive ↦ nat_lt (escapes g) (vcs / classes)
-      | Rows rows ↦ true
-    ])
+    && fits g vcs classes rule
 
 -- ---- ports
 
@@ -55,13 +57,6 @@ dor_port_from wraps i (k ∷ ks) (x ∷ xs) (t ∷ ts) =
 abbrev pub dor_port : Grid → List ℕ → List ℕ → Option ℕ
 dor_port g xs ts = dor_port_from g.wraps 0 g.radix xs ts
 
--- down dimension 0 alone while the destination is there, and else along each port that comes nearer
-abbrev pub is_west_first : List ℕ → List ℕ → ℕ → Bool
-is_west_first xs ts port =
-    if nat_lt (slice_index ts 0) (slice_index xs 0)
-    then nat_eq port 1
-    else (nat_eq port 0 && nat_lt (slice_index xs 0) (slice_index ts 0)) || (nat_eq port 2 && nat_lt (slice_index xs 1) (slice_index ts 1)) || (nat_eq port 3 && nat_lt (slice_index ts 1) (slice_index xs 1))
-
 -- a port along the shorter way in its dimension, and up where both are equally long
 abbrev pub is_nearer : Grid → List ℕ → List ℕ → ℕ → Bool
 is_nearer g xs ts port =
@@ -69,11 +64,15 @@ is_nearer g xs ts port =
     not (nat_eq (slice_index xs i) (slice_index ts i))
     && (if goes_up g.wraps (slice_index g.radix i) (slice_index xs i) (slice_index ts i) then is_plus port else not (is_plus port))
 
+-- down dimension 0 alone while the destination is there, and else any port
+abbrev pub is_west_first : List ℕ → List ℕ → ℕ → Bool
+is_west_first xs ts port = nat_eq port 1 || nat_le (slice_index xs 0) (slice_index ts 0)
+
 -- whether a rule by coordinates leads along this port, from a router at xs towards a destination at ts
 abbrev pub takes_port : Grid → Rule → List ℕ → List ℕ → ℕ → Bool
 takes_port g Dor xs ts port = is_some_of (dor_port g xs ts) port
 takes_port g Dateline xs ts port = is_some_of (dor_port g xs ts) port
-takes_port g WestFirst xs ts port = is_west_first xs ts port
+takes_port g WestFirst xs ts port = is_nearer g xs ts port && is_west_first xs ts port
 takes_port g Adaptive xs ts port = is_nearer g xs ts port
 takes_port g (Rows rows) xs ts port = false
 
@@ -106,20 +105,29 @@ is_escape_taken g vcs classes xs ts port v =
     is_some_of (dor_port g xs ts) port
     && nat_eq (place_in_class vcs classes v) (if g.wraps then dateline_class port (slice_index xs (port / 2)) (slice_index ts (port / 2)) else 0)
 
+-- whether a rule by coordinates takes a channel of a port that it takes, among those of the packet's class
+abbrev pub takes_of_class : Grid → ℕ → ℕ → Rule → List ℕ → List ℕ → ℕ → ℕ → Bool
+takes_of_class g vcs classes Dor xs ts port v = true
+takes_of_class g vcs classes Dateline xs ts port v =
+    nat_eq (resource_class vcs classes v) (dateline_class port (slice_index xs (port / 2)) (slice_index ts (port / 2)))
+takes_of_class g vcs classes WestFirst xs ts port v = true
+takes_of_class g vcs classes Adaptive xs ts port v = not (is_escape g vcs classes v) || is_escape_taken g vcs classes xs ts port v
+takes_of_class g vcs classes (Rows rows) xs ts port v = true
+
 -- whether a rule by coordinates may take this channel of a port that it takes
 abbrev pub takes_channel : Grid → ℕ → ℕ → Rule → ℕ → List ℕ → List ℕ → ℕ → ℕ → Bool
-takes_channel g vcs classes Dateline m xs ts port v =
-    is_in_block vcs classes m v && nat_eq (resource_class vcs classes v) (dateline_class port (slice_index xs (port / 2)) (slice_index ts (port / 2)))
-takes_channel g vcs classes Adaptive m xs ts port v =
-    is_in_block vcs classes m v && (not (is_escape g vcs classes v) || is_escape_taken g vcs classes xs ts port v)
-takes_channel g vcs classes _ m xs ts port v = is_in_block vcs classes m v
+takes_channel g vcs classes rule m xs ts port v = is_in_block vcs classes m v && takes_of_class g vcs classes rule xs ts port v
 
 -- ---- rows
 
+-- the rows of a rule that is a table
+abbrev pub rows_of : Rule → Option (List RouteRow)
+rows_of (Rows rows) = Some rows.items
+rows_of _ = None
+
 -- the rows of a table, none of another rule
 abbrev pub table_rows_of : Rule → List RouteRow
-table_rows_of (Rows rows) = rows.items
-table_rows_of _ = []
+table_rows_of rule = unwrap_or (rows_of rule) []
 
 -- whether a row names this entry and this output channel
 abbrev pub names_entry : ℕ → ℕ × ℕ → ℕ → ℕ → ℕ → ℕ → RouteRow → Bool
@@ -176,7 +184,7 @@ is_led g m r t port v =
 -- whether the rule leads a packet of class m, that came to this place (a router and an input port) on channel in_vc and is
 -- bound for t, on to channel v of this output port
 abbrev pub leads : RelationParts → ℕ → ℕ × ℕ → ℕ → ℕ → ℕ → ℕ → Bool
-leads g m place in_vc t port v = elim g.rule [ Rows rows ↦ has_route_row rows.items m place in_vc t port v | _ ↦ is_led g m place.0 t port v ]
+leads g m place in_vc t port v = elim (rows_of g.rule) [ Some rows ↦ has_route_row rows m place in_vc t port v | None ↦ is_led g m place.0 t port v ]
 
 abbrev pub rule_offers : RelationParts → ℕ → Option (ℕ × ℕ) → ℕ → ℕ → Channel → Bool
 rule_offers g m None in_vc t o = false

@@ -2,27 +2,28 @@
 
 ghost use Rattle.std.specs.Prelude.{◌≡◌, ℕ, ◌+◌, ◌*◌, ◌/◌, ◌%◌, ◌<◌, ◌≤◌, ◌&&◌, if◌then◌else◌, length, slice_index, nat_lt, nat_le, All, true};
 ghost use Rattle.noc_packet.specs.Set.{has_bit};
-ghost use Rattle.noc_route.specs.Entered.{routing_in, has_row_at};
-ghost use Rattle.noc_route.specs.Relation.{is_real_row, is_right, is_led};
+ghost use Rattle.noc_route.specs.Entered.{parts_of, has_row_at};
+ghost use Rattle.noc_route.specs.Relation.{is_real_row, is_led};
 ghost use Rattle.noc_route.specs.Routes.{width, pages, page_class, page_router, page_dst};
-ghost use Rattle.noc_route.specs.Gathering.{IsTable};
+ghost use Rattle.noc_route.specs.Gathering.{IsTable, IsBlank};
 ghost use Rattle.noc_route.specs.Trimming.{routes_in, page_set};
 
 use crate::map::Map;
 use crate::named::named_set;
-use crate::rule::{RouteRow, Rule};
+use crate::routing::Routing;
+use crate::rule::RouteRow;
 use noc_packet::ChannelSet;
 
 // Writes the sets of a rule by coordinates.
-pub(crate) fn enter_named(map: &Map, rule: &Rule, sets: &mut [ChannelSet])
-    requires right { is_right map.now.frame.shape map.now.frame.vcs map.now.frame.classes rule.now ≡ true }
-    requires long { IsTable map.now.frame sets.old }
-    ensures { let f = map.now.frame in (b i k : ℕ) → b < pages f.shape f.classes → i < width f.shape f.vcs → has_bit (page_set (routes_in f sets.new) b i) k ≡ (nat_lt k (width f.shape f.vcs) && is_led (routing_in f rule.now) (page_class f.shape f.classes b) (page_router f.shape f.classes b) (page_dst f.shape b) (k / f.vcs) (k % f.vcs)) }
+pub(crate) fn enter_named(routing: &Routing, sets: &mut [ChannelSet])
+    requires { IsTable routing.now.map.now.frame sets.old }
+    ensures { let f = routing.now.map.now.frame in (b i k : ℕ) → b < pages f.shape f.classes → i < width f.shape f.vcs → has_bit (page_set (routes_in f sets.new) b i) k ≡ (nat_lt k (width f.shape f.vcs) && is_led (parts_of routing.now) (page_class f.shape f.classes b) (page_router f.shape f.classes b) (page_dst f.shape b) (k / f.vcs) (k % f.vcs)) }
 {
-    let width = map.frame.width();
-    for page in 0..map.frame.pages() {
-        let (class, router, dst) = map.frame.page_parts(page);
-        let set = named_set(map, rule, class, router, dst);
+    let frame = &routing.map.frame;
+    let width = frame.width();
+    for page in 0..frame.pages() {
+        let (class, router, dst) = frame.page_parts(page);
+        let set = named_set(routing, class, router, dst);
         fill(sets, page * width, width, set);
     }
 }
@@ -39,9 +40,8 @@ fn fill(sets: &mut [ChannelSet], from: usize, count: usize, set: ChannelSet)
 
 // Writes the sets of a table's rows, each of which names what exists, over sets without members.
 pub(crate) fn enter_rows(map: &Map, rows: &[RouteRow], sets: &mut [ChannelSet])
-    requires long { IsTable map.now.frame sets.old }
+    requires blank { IsBlank map.now.frame sets.old }
     requires rows { All (λ row. is_real_row map.now.frame.shape map.now.frame.vcs map.now.frame.classes row ≡ true) rows.now }
-    requires empty { (j : ℕ) → slice_index sets.old j ≡ 0 }
     ensures { let f = map.now.frame in (b i k : ℕ) → b < pages f.shape f.classes → i < width f.shape f.vcs → has_bit (page_set (routes_in f sets.new) b i) k ≡ (nat_lt k (width f.shape f.vcs) && has_row_at (routes_in f sets.new) rows.now b i k) }
 {
     for row in rows {

@@ -70,12 +70,16 @@ impl<'a> Table<'a> {
         requires dst { dst < nodes self.now.map.now.frame.shape }
         ensures { let routes = routes_in self.now.map.now.frame self.now.sets.now in (k : ℕ) → k < width routes.grid routes.vcs → has_bit result k ≡ any_below (width routes.grid routes.vcs) (λ i. comes_in routes outs.now class router dst i && has_bit (set_in routes class router dst i) k) }
     {
-        let (map, sets) = (self.map, self.sets);
-        let page = map.frame.page(class, router, dst);
+        let frame = &self.map.frame;
+        let before = Departures {
+            map: self.map,
+            outs,
+        };
+        let page = frame.page(class, router, dst);
         let mut all = ChannelSet::empty();
-        for input in 0..map.frame.width() {
-            let reached = is_reached(map, outs, class, router, dst, input);
-            all = either_if(all, sets[map.frame.slot(page, input)], reached);
+        for input in 0..frame.width() {
+            let reached = before.reach(class, router, dst, input);
+            all = either_if(all, self.sets[frame.slot(page, input)], reached);
         }
         all
     }
@@ -88,34 +92,36 @@ fn either_if(set: ChannelSet, other: ChannelSet, is_added: bool) -> ChannelSet
     if is_added { set.either(other) } else { set }
 }
 
-// Whether packets of a class, bound for `dst`, come to an input channel of a router, where `outs` has the channels by
-// which they leave the routers before it.
-pub(crate) fn is_reached(
-    map: &Map,
-    outs: &[ChannelSet],
-    class: usize,
-    router: usize,
-    dst: usize,
-    input: usize,
-) -> bool
-    requires outs { length outs.now ≡ pages map.now.frame.shape map.now.frame.classes }
-    requires class { class < map.now.frame.classes }
-    requires router { router < nodes map.now.frame.shape }
-    requires dst { dst < nodes map.now.frame.shape }
-    requires input { input < width map.now.frame.shape map.now.frame.vcs }
-    ensures { (sets : List ℕ) → result ≡ comes_in (routes_in map.now.frame sets) outs.now class router dst input }
-{
-    let vcs = map.frame.vcs;
-    let port = input / vcs;
-    if port + 1 == map.frame.port_count {
-        return router != dst;
-    }
-    match map.link(router, port) {
-        None => false,
-        Some((sender, out_port)) => {
-            outs[map.frame.page(class, sender, dst)].contains(
-                map.frame.index(out_port, input % vcs),
-            )
+// The channels by which packets leave each router, by class and destination.
+#[derive(Drop)]
+pub(crate) struct Departures<'a> {
+    pub(crate) map: &'a Map,
+    pub(crate) outs: &'a [ChannelSet],
+    ghost long: { length outs.now ≡ pages map.now.frame.shape map.now.frame.classes },
+}
+
+impl<'a> Departures<'a> {
+    // Whether packets of a class, bound for `dst`, come to an input channel of a router.
+    pub(crate) fn reach(&self, class: usize, router: usize, dst: usize, input: usize) -> bool
+        requires class { class < self.now.map.now.frame.classes }
+        requires router { router < nodes self.now.map.now.frame.shape }
+        requires dst { dst < nodes self.now.map.now.frame.shape }
+        requires input { input < width self.now.map.now.frame.shape self.now.map.now.frame.vcs }
+        ensures { (sets : List ℕ) → result ≡ comes_in (routes_in self.now.map.now.frame sets) self.now.outs.now class router dst input }
+    {
+        let frame = &self.map.frame;
+        let port = input / frame.vcs;
+        if port + 1 == frame.port_count {
+            return router != dst;
+        }
+        match self.map.link(router, port) {
+            None => false,
+            Some((sender, out_port)) => {
+                self.outs[frame.page(class, sender, dst)].contains(frame.index(
+                    out_port,
+                    input % frame.vcs,
+                ))
+            }
         }
     }
 }

@@ -7,6 +7,7 @@ mod laws;
 mod map;
 mod named;
 mod relation;
+mod routing;
 mod rows;
 mod rule;
 mod sizes;
@@ -17,5 +18,5 @@ pub use laws::{
     ranks_of_all_channels_need_only_rise,
 };
 pub use relation::Relation;
-pub use rule::{Entry, RouteFault, RouteRow, Rule};
+pub use rule::{Entry, RouteFault, RouteRow, Rule, RuleName};
 pub use sizes::{escapes, is_right, resource_class};

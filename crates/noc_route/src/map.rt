@@ -2,7 +2,7 @@
 
 ghost use Rattle.std.specs.Prelude.{◌≡◌, ℕ, Option, Some, None, ◌+◌, ◌-◌, ◌*◌, ◌/◌, ◌%◌, ◌<◌, ◌≤◌, IfOk, IfSome, EachIndex, slice_index, slice_index_or, vec_len};
 ghost use Rattle.noc_topo.specs.declared.limits.TheConstants.{MAX_RADIX};
-ghost use Rattle.noc_topo.specs.Shape.{Grid, IsGrid, nodes, ports, local_port, neighbour, distance, coordinates, three_coordinates};
+ghost use Rattle.noc_topo.specs.Shape.{Grid, nodes, ports, local_port, neighbour, distance, coordinates, three_coordinates};
 ghost use Rattle.noc_route.specs.Relation.{goes_up};
 
 use crate::sizes::Sizes;
@@ -45,7 +45,6 @@ impl Map {
         requires port { port < ports self.now.frame.shape }
         ensures value { result ≡ neighbour self.now.frame.shape router port }
         ensures range { IfSome result (λ to. (to.0 < nodes self.now.frame.shape) × (to.1 < local_port self.now.frame.shape)) }
-        ensures grid { IsGrid self.now.frame.shape }
     {
         self.links[router * self.frame.port_count + port]
     }
@@ -54,8 +53,7 @@ impl Map {
     pub(crate) fn distance(&self, from: usize, to: usize) -> usize
         requires from { from < nodes self.now.frame.shape }
         requires to { to < nodes self.now.frame.shape }
-        ensures value { result ≡ distance self.now.frame.shape from to }
-        ensures grid { IsGrid self.now.frame.shape }
+        ensures { result ≡ distance self.now.frame.shape from to }
     {
         self.apart[from * self.frame.node_count + to]
     }

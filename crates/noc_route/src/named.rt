@@ -1,13 +1,14 @@
 //! The rules by coordinates: dimension order, dateline, west first and adaptive (Dally and Towles, chapters 8 to 10 and 14).
 
-ghost use Rattle.std.specs.Prelude.{◌≡◌, ℕ, ◌/◌, ◌%◌, ◌<◌, ◌≤◌, ◌&&◌, IfSome, slice_index, slice_index_or, EachIndex, IsTrue, nat_lt, true, false};
+ghost use Rattle.std.specs.Prelude.{◌≡◌, ℕ, ◌/◌, ◌%◌, ◌<◌, ◌≤◌, ◌&&◌, slice_index, slice_index_or, EachIndex, nat_lt, false};
 ghost use Rattle.noc_packet.specs.Set.{has_bit};
-ghost use Rattle.noc_topo.specs.Shape.{Grid, nodes, ports, coordinates, three_coordinates};
-ghost use Rattle.noc_route.specs.Entered.{routing_in, IsWay};
-ghost use Rattle.noc_route.specs.Relation.{is_right, is_led, dor_port, is_nearer, takes_port, takes_channel, place_in_class, is_escape_taken, dateline_class, is_west_first};
+ghost use Rattle.noc_topo.specs.Shape.{Grid, nodes, coordinates, three_coordinates};
+ghost use Rattle.noc_route.specs.Entered.{parts_of, IsWay};
+ghost use Rattle.noc_route.specs.Relation.{is_led, dor_port, is_nearer, takes_port, takes_of_class, place_in_class, is_escape_taken, dateline_class, is_west_first};
 ghost use Rattle.noc_route.specs.Routes.{width};
 
 use crate::map::Map;
+use crate::routing::Routing;
 use crate::rule::Rule;
 use crate::sizes::{Sizes, escapes, resource_class};
 use noc_packet::ChannelSet;
@@ -15,24 +16,17 @@ use noc_topo::{Kind, LINKS};
 
 // The output channels by which a rule by coordinates leads a packet of this class, at this router and bound for `dst`;
 // none by a table.
-pub(crate) fn named_set(
-    map: &Map,
-    rule: &Rule,
-    class: usize,
-    router: usize,
-    dst: usize,
-) -> ChannelSet
-    requires class { class < map.now.frame.classes }
-    requires router { router < nodes map.now.frame.shape }
-    requires dst { dst < nodes map.now.frame.shape }
-    requires right { is_right map.now.frame.shape map.now.frame.vcs map.now.frame.classes rule.now ≡ true }
-    ensures { let vcs = map.now.frame.vcs in (k : ℕ) → has_bit result k ≡ (nat_lt k (width map.now.frame.shape vcs) && is_led (routing_in map.now.frame rule.now) class router dst (k / vcs) (k % vcs)) }
+pub(crate) fn named_set(routing: &Routing, class: usize, router: usize, dst: usize) -> ChannelSet
+    requires class { class < routing.now.map.now.frame.classes }
+    requires router { router < nodes routing.now.map.now.frame.shape }
+    requires dst { dst < nodes routing.now.map.now.frame.shape }
+    ensures { let f = routing.now.map.now.frame in (k : ℕ) → has_bit result k ≡ (nat_lt k (width f.shape f.vcs) && is_led (parts_of routing.now) class router dst (k / f.vcs) (k % f.vcs)) }
 {
-    let vcs = map.frame.vcs;
-    let way = Way::of(map, router, dst);
+    let vcs = routing.map.frame.vcs;
+    let way = Way::of(routing.map, router, dst);
     let mut set = ChannelSet::empty();
-    for channel in 0..map.frame.width() {
-        if way.leads(&map.frame, rule, class, channel / vcs, channel % vcs) {
+    for channel in 0..routing.map.frame.width() {
+        if way.leads(routing, class, channel / vcs, channel % vcs) {
             set = set.with(channel);
         }
     }
@@ -53,8 +47,7 @@ impl Way {
     fn of(map: &Map, router: usize, dst: usize) -> Way
         requires router { router < nodes map.now.frame.shape }
         requires dst { dst < nodes map.now.frame.shape }
-        ensures way { IsWay map.now.frame.shape result router dst }
-        ensures towards { IfSome result.towards (λ port. port < LINKS) }
+        ensures { IsWay map.now.frame.shape result router dst }
     {
         let here = map.frame.shape.coordinates(router);
         let there = map.frame.shape.coordinates(dst);
@@ -68,51 +61,44 @@ impl Way {
     }
 
     // Whether a rule leads along this port and channel.
-    fn leads(&self, frame: &Sizes, rule: &Rule, class: usize, port: usize, vc: usize) -> bool
-        requires class { class < frame.now.classes }
-        requires port { port < ports frame.now.shape }
-        requires right { is_right frame.now.shape frame.now.vcs frame.now.classes rule.now ≡ true }
-        requires towards { IfSome self.now.towards (λ port. port < LINKS) }
-        ensures { (r t : ℕ) → IsWay frame.now.shape self.now r t → result ≡ is_led (routing_in frame.now rule.now) class r t port vc }
+    fn leads(&self, routing: &Routing, class: usize, port: usize, vc: usize) -> bool
+        requires { class < routing.now.map.now.frame.classes }
+        ensures { (r t : ℕ) → IsWay routing.now.map.now.frame.shape self.now r t → result ≡ is_led (parts_of routing.now) class r t port vc }
     {
-        if self.arrived {
-            return frame.port_count == port + 1 && frame.is_in_block(class, vc);
+        let frame = &routing.map.frame;
+        if !frame.is_in_block(class, vc) {
+            return false;
         }
-        self.takes_port(rule, port) && self.takes_channel(frame, rule, class, port, vc)
+        if self.arrived {
+            return port == frame.port_count - 1;
+        }
+        if port >= LINKS {
+            return false;
+        }
+        self.takes_port(routing.rule, port) && self.takes_of_class(routing, port, vc)
     }
 
     // Whether a rule leads along this port, away from the destination.
     fn takes_port(&self, rule: &Rule, port: usize) -> bool
-        requires towards { IfSome self.now.towards (λ port. port < LINKS) }
-        ensures link { IsTrue result → port < LINKS }
-        ensures value { (g : Grid) (r t : ℕ) → IsWay g self.now r t → result ≡ takes_port g rule.now (coordinates g.radix r) (coordinates g.radix t) port }
+        requires { port < LINKS }
+        ensures { (g : Grid) (r t : ℕ) → IsWay g self.now r t → result ≡ takes_port g rule.now (coordinates g.radix r) (coordinates g.radix t) port }
     {
         match rule {
             Rule::Dor | Rule::Dateline => self.towards == Some(port),
-            Rule::WestFirst => self.is_west_first(port),
-            Rule::Adaptive => port < LINKS && self.nearer[port],
+            Rule::WestFirst => self.nearer[port] && self.is_west_first(port),
+            Rule::Adaptive => self.nearer[port],
             Rule::Rows(_) => false,
         }
     }
 
-    // Whether a rule takes this channel of a port that it takes.
-    fn takes_channel(
-        &self,
-        frame: &Sizes,
-        rule: &Rule,
-        class: usize,
-        port: usize,
-        vc: usize,
-    ) -> bool
-        requires class { class < frame.now.classes }
-        requires port { port < LINKS }
-        requires right { is_right frame.now.shape frame.now.vcs frame.now.classes rule.now ≡ true }
-        ensures { let f = frame.now in (r t : ℕ) → IsWay f.shape self.now r t → result ≡ takes_channel f.shape f.vcs f.classes rule.now class (coordinates f.shape.radix r) (coordinates f.shape.radix t) port vc }
+    // Whether a rule takes a channel of a port that it takes, among those of the packet's class.
+    fn takes_of_class(&self, routing: &Routing, port: usize, vc: usize) -> bool
+        requires { port < LINKS }
+        ensures { let f = routing.now.map.now.frame in (r t : ℕ) → IsWay f.shape self.now r t → result ≡ takes_of_class f.shape f.vcs f.classes routing.now.rule.now (coordinates f.shape.radix r) (coordinates f.shape.radix t) port vc }
     {
-        if !frame.is_in_block(class, vc) {
-            return false;
-        }
-        match rule {
+        let frame = &routing.map.frame;
+        match routing.rule {
+            Rule::Dor | Rule::WestFirst | Rule::Rows(_) => true,
             Rule::Dateline => {
                 resource_class(frame.vcs, frame.classes, vc) == self.dateline_class(port)
             }
@@ -120,7 +106,6 @@ impl Way {
                 let place = vc % (frame.vcs / frame.classes);
                 place >= escapes(&frame.shape) || self.takes_escape(frame, port, place)
             }
-            _ => true,
         }
     }
 
@@ -150,20 +135,11 @@ impl Way {
         if crosses { 0 } else { 1 }
     }
 
-    // Whether west first takes a port.
+    // Whether west first takes a port, if it comes nearer.
     fn is_west_first(&self, port: usize) -> bool
-        ensures link { IsTrue result → port < LINKS }
-        ensures value { result ≡ is_west_first self.now.here self.now.there port }
+        ensures { result ≡ is_west_first self.now.here self.now.there port }
     {
-        if self.there[0] < self.here[0] {
-            return port == 1;
-        }
-        match port {
-            0 => self.here[0] < self.there[0],
-            2 => self.here[1] < self.there[1],
-            3 => self.there[1] < self.here[1],
-            _ => false,
-        }
+        port == 1 || self.here[0] <= self.there[0]
     }
 }
 
@@ -202,8 +178,7 @@ fn is_nearer(map: &Map, here: &[usize; 3], there: &[usize; 3], port: usize) -> b
 fn dor_port(map: &Map, here: &[usize; 3], there: &[usize; 3]) -> Option<usize>
     requires here { EachIndex here.now (λ i. slice_index here.now i ≤ slice_index map.now.last i) }
     requires there { EachIndex there.now (λ i. slice_index there.now i ≤ slice_index map.now.last i) }
-    ensures range { IfSome result (λ port. port < LINKS) }
-    ensures value { let g = map.now.frame.shape in (r t : ℕ) → here.now ≡ three_coordinates (coordinates g.radix r) → there.now ≡ three_coordinates (coordinates g.radix t) → result ≡ dor_port g (coordinates g.radix r) (coordinates g.radix t) }
+    ensures { let g = map.now.frame.shape in (r t : ℕ) → here.now ≡ three_coordinates (coordinates g.radix r) → there.now ≡ three_coordinates (coordinates g.radix t) → result ≡ dor_port g (coordinates g.radix r) (coordinates g.radix t) }
 {
     for i in 0..3usize {
         if here[i] != there[i] {

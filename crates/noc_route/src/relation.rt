@@ -1,17 +1,18 @@
 //! The routing relation.
 
-ghost use Rattle.std.specs.Prelude.{◌≡◌, ◌<◌, MatchResult, IfOk, IfErr, OnOk, All, None, true, length, ◌*◌, ℕ, slice_index};
+ghost use Rattle.std.specs.Prelude.{◌≡◌, ◌<◌, MatchResult, IfOk, IfErr, OnOk, All, None, replicate};
 ghost use Rattle.noc_topo.specs.Shape.{nodes, ports};
 ghost use Rattle.noc_route.specs.Built.{routing_of, IsRelationOfRule};
-ghost use Rattle.noc_route.specs.Entered.{routing_in, IsEntered};
-ghost use Rattle.noc_route.specs.Relation.{is_right, table_rows_of, row_fault, IsFirstFault, IsFaultOf};
-ghost use Rattle.noc_route.specs.Routes.{set_at, IsRelation, pages, width};
-ghost use Rattle.noc_route.specs.Gathering.{IsTable};
+ghost use Rattle.noc_route.specs.Entered.{parts_of, IsEntered};
+ghost use Rattle.noc_route.specs.Relation.{table_rows_of, row_fault, IsFirstFault, IsFaultOf};
+ghost use Rattle.noc_route.specs.Routes.{set_at, IsRelation, pages};
+ghost use Rattle.noc_route.specs.Gathering.{IsBlank};
 ghost use Rattle.noc_route.specs.Trimming.{routes_in};
 
 use crate::enter::{enter_named, enter_rows};
-use crate::gather::gather;
+use crate::gather::{Departures, gather};
 use crate::map::Map;
+use crate::routing::Routing;
 use crate::rows::first_fault;
 use crate::rule::{RouteFault, Rule};
 use crate::sizes::Sizes;
@@ -59,9 +60,13 @@ impl Relation {
             return Err(RouteFault::WrongShape);
         };
         let map = Map::new(alloc, frame)?;
+        let routing = Routing {
+            map: &map,
+            rule: &rule,
+        };
         Ok(Relation {
             frame,
-            sets: sets_of(alloc, &map, &rule)?,
+            sets: sets_of(alloc, &routing)?,
         })
     }
 
@@ -112,56 +117,54 @@ impl Relation {
 }
 
 // A rule's sets at the entries that packets reach, or the first fault.
-fn sets_of(alloc: Global, map: &Map, rule: &Rule) -> Result<Vec<ChannelSet>, RouteFault>
-    requires { is_right map.now.frame.shape map.now.frame.vcs map.now.frame.classes rule.now ≡ true }
-    ensures { MatchResult result (λ sets. IsRelationOfRule (routing_in map.now.frame rule.now) (routes_in map.now.frame sets.items)) (IsFaultOf (routing_in map.now.frame rule.now)) }
+fn sets_of(alloc: Global, routing: &Routing) -> Result<Vec<ChannelSet>, RouteFault>
+    ensures { MatchResult result (λ sets. IsRelationOfRule (parts_of routing.now) (routes_in routing.now.map.now.frame sets.items)) (IsFaultOf (parts_of routing.now)) }
 {
-    let pages = map.frame.pages();
-    let mut sets = vec![in alloc; ChannelSet::empty(); pages * map.frame.width()]?;
+    let frame = &routing.map.frame;
+    let pages = frame.pages();
+    let mut sets = vec![in alloc; ChannelSet::empty(); pages * frame.width()]?;
     let mut outs = vec![in alloc; ChannelSet::empty(); pages]?;
-    fill(map, rule, &mut sets, &mut outs)?;
+    fill(routing, &mut sets, &mut outs)?;
     Ok(sets)
 }
 
 // Writes a rule's sets at the entries that packets reach, or answers the first fault; `outs` is room.
 fn fill(
-    map: &Map,
-    rule: &Rule,
+    routing: &Routing,
     sets: &mut [ChannelSet],
     outs: &mut [ChannelSet],
 ) -> Result<(), RouteFault>
-    requires right { is_right map.now.frame.shape map.now.frame.vcs map.now.frame.classes rule.now ≡ true }
-    requires sets { IsTable map.now.frame sets.old }
-    requires outs { length outs.old ≡ pages map.now.frame.shape map.now.frame.classes }
-    requires empty { (j : ℕ) → slice_index sets.old j ≡ 0 }
-    requires unused { (j : ℕ) → slice_index outs.old j ≡ 0 }
-    ensures { MatchResult result (λ _. IsRelationOfRule (routing_in map.now.frame rule.now) (routes_in map.now.frame sets.new)) (IsFaultOf (routing_in map.now.frame rule.now)) }
+    requires sets { IsBlank routing.now.map.now.frame sets.old }
+    requires outs { outs.old ≡ replicate (pages routing.now.map.now.frame.shape routing.now.map.now.frame.classes) 0 }
+    ensures { MatchResult result (λ _. IsRelationOfRule (parts_of routing.now) (routes_in routing.now.map.now.frame sets.new)) (IsFaultOf (parts_of routing.now)) }
 {
-    enter(map, rule, sets)?;
-    gather(map, sets, outs);
-    match trim(map, sets, outs) {
+    enter(routing, sets)?;
+    gather(routing.map, sets, outs);
+    let leaving = Departures {
+        map: routing.map,
+        outs,
+    };
+    match trim(&leaving, sets) {
         Some(entry) => Err(RouteFault::NoWay(entry)),
         None => Ok(()),
     }
 }
 
 // Writes a rule's sets, or answers the fault of the first bad row.
-fn enter(map: &Map, rule: &Rule, sets: &mut [ChannelSet]) -> Result<(), RouteFault>
-    requires right { is_right map.now.frame.shape map.now.frame.vcs map.now.frame.classes rule.now ≡ true }
-    requires long { IsTable map.now.frame sets.old }
-    requires empty { (j : ℕ) → slice_index sets.old j ≡ 0 }
-    ensures err { IfErr result (IsFirstFault map.now.frame.shape map.now.frame.vcs map.now.frame.classes (table_rows_of rule.now)) }
-    ensures ok { OnOk result (All (λ row. row_fault map.now.frame.shape map.now.frame.vcs map.now.frame.classes row ≡ None) (table_rows_of rule.now)) }
-    ensures entered { OnOk result (IsEntered (routing_in map.now.frame rule.now) (routes_in map.now.frame sets.new)) }
+fn enter(routing: &Routing, sets: &mut [ChannelSet]) -> Result<(), RouteFault>
+    requires { IsBlank routing.now.map.now.frame sets.old }
+    ensures err { let g = parts_of routing.now in IfErr result (IsFirstFault g.grid g.vcs g.classes (table_rows_of g.rule)) }
+    ensures ok { let g = parts_of routing.now in OnOk result (All (λ row. row_fault g.grid g.vcs g.classes row ≡ None) (table_rows_of g.rule)) }
+    ensures entered { OnOk result (IsEntered (parts_of routing.now) (routes_in routing.now.map.now.frame sets.new)) }
 {
-    match rule {
+    match routing.rule {
         Rule::Rows(rows) => {
-            if let Some(fault) = first_fault(map, rows) {
+            if let Some(fault) = first_fault(routing.map, rows) {
                 return Err(fault);
             }
-            enter_rows(map, rows, sets);
+            enter_rows(routing.map, rows, sets);
         }
-        _ => enter_named(map, rule, sets),
+        _ => enter_named(routing, sets),
     }
     Ok(())
 }

@@ -6,7 +6,7 @@ ghost use Rattle.noc_route.specs.Order.{row_before};
 ghost use Rattle.noc_route.specs.Relation.{IsFirstFault, earlier_fault, row_fault, is_real_row, is_open};
 
 use crate::map::Map;
-use crate::rule::{RouteFault, RouteRow, comes_before};
+use crate::rule::{RouteFault, RouteRow};
 
 // The first fault of a row.
 pub(crate) fn row_fault(map: &Map, row: &RouteRow) -> Option<RouteFault>
@@ -83,6 +83,6 @@ fn is_before(row: &RouteRow, other: &Option<RouteRow>) -> bool
 {
     match other {
         None => true,
-        Some(other) => comes_before(&row.numbers(), &other.numbers()),
+        Some(other) => row.numbers() < other.numbers(),
     }
 }

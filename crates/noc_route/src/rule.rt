@@ -1,7 +1,8 @@
 //! Routing rules, table rows and what can be wrong with them.
 
-ghost use Rattle.std.specs.Prelude.{◌≡◌, length};
-ghost use Rattle.noc_route.specs.Order.{numbers_before, row_numbers, entry_numbers};
+ghost use Rattle.std.specs.Prelude.{◌≡◌};
+ghost use Rattle.noc_route.specs.Names.{rule_of, rule_named};
+ghost use Rattle.noc_route.specs.Order.{row_numbers, entry_numbers};
 
 use std::alloc::AllocError;
 
@@ -22,6 +23,46 @@ pub enum Rule {
     Rows(Vec<RouteRow>),
 }
 
+/// A routing rule by its name, as configurations have it (docs/FORMATS.md).
+#[derive(Clone, Copy, Debug, PartialEq, Eq)]
+pub enum RuleName {
+    Dor,
+    Dateline,
+    WestFirst,
+    Adaptive,
+    /// The rule of a table's rows.
+    Table,
+}
+
+impl RuleName {
+    /// The rule that a word names, if it names one.
+    pub fn named(word: &str) -> Option<RuleName>
+        ensures { result ≡ rule_of word.now }
+    {
+        match word {
+            "dor" => Some(RuleName::Dor),
+            "dateline" => Some(RuleName::Dateline),
+            "west-first" => Some(RuleName::WestFirst),
+            "adaptive" => Some(RuleName::Adaptive),
+            "table" => Some(RuleName::Table),
+            _ => None,
+        }
+    }
+
+    /// The rule of this name; None of `Table`, whose rows stand elsewhere.
+    pub fn rule(self) -> Option<Rule>
+        ensures { result ≡ rule_named self }
+    {
+        match self {
+            RuleName::Dor => Some(Rule::Dor),
+            RuleName::Dateline => Some(Rule::Dateline),
+            RuleName::WestFirst => Some(Rule::WestFirst),
+            RuleName::Adaptive => Some(Rule::Adaptive),
+            RuleName::Table => None,
+        }
+    }
+}
+
 /// A packet of class `class`, bound for node `dst`, that came to `router` on channel `in_vc` of input port `in_port`, may
 /// go on by channel `out_vc` of output port `out_port`.
 #[derive(Clone, Copy, Debug, PartialEq, Eq)]
@@ -36,8 +77,8 @@ pub struct RouteRow {
 }
 
 impl RouteRow {
-    /// The numbers of a row, by which rows are in order.
-    pub fn numbers(&self) -> [usize; 7]
+    // The numbers of a row, by which rows are in order.
+    pub(crate) fn numbers(&self) -> [usize; 7]
         ensures { result ≡ row_numbers self.now }
     {
         [
@@ -64,25 +105,12 @@ pub struct Entry {
 }
 
 impl Entry {
-    /// The numbers of an entry, by which entries are in order.
-    pub fn numbers(&self) -> [usize; 5]
+    // The numbers of an entry, by which entries are in order.
+    pub(crate) fn numbers(&self) -> [usize; 5]
         ensures { result ≡ entry_numbers self.now }
     {
         [self.class, self.router, self.in_port, self.in_vc, self.dst]
     }
-}
-
-// Whether numbers come before others as many, where the first pair that differs decides.
-pub(crate) fn comes_before(these: &[usize], others: &[usize]) -> bool
-    requires { length these.now ≡ length others.now }
-    ensures { result ≡ numbers_before these.now others.now }
-{
-    for i in 0..these.len() {
-        if these[i] != others[i] {
-            return these[i] < others[i];
-        }
-    }
-    false
 }
 
 /// Why a rule makes no relation.

@@ -1,7 +1,7 @@
 use Rattle.std.proofs.Common.{option_map, ap, refl, sym}
 use Rattle.noc_answers.specs.Asked.{lent_text}
 use Rattle.noc_answers.specs.Settings.{bad_table, named, tabled}
-use Rattle.noc_answers.proofs.AskedLemmas.{only_table}
+use Rattle.noc_route.proofs.NameLemmas.{only_table}
 use Rattle.noc_answers.proofs.settings.rule_of.Goals as goal
 
 pub returns-in-Some-default-clause-rule : goal.returns-in-Some-default-clause-rule

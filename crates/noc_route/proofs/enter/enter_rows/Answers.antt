@@ -7,6 +7,7 @@ use Rattle.noc_packet.specs.Set.{has_bit}
 use Rattle.noc_route.specs.Trimming.{routes_in}
 use Rattle.noc_route.specs.declared.rule.RouteRow.{RouteRow}
 use Rattle.noc_route.proofs.EnterLemmas.{HasRows, HasRows-none, HasRows-more, IsWithinTable-real, row_place}
+use Rattle.noc_route.proofs.PlaceLemmas.{zeros-length, zeros-at}
 use Rattle.noc_route.proofs.enter.enter_rows.Goals as goal
 
 abbrev no_row : RouteRow
@@ -37,12 +38,12 @@ pub loop-row-preserved : goal.loop-row-preserved
 loop-row-preserved c =
     let routes = routes_in c.args.map.now.frame c.loop-row.sets in
     let row = get_or c.args.rows.now c.loop-row.row-index no_row in
-    let within : c.place-place.result < length c.loop-row.sets = omega (arith, c.place-place.ensures.within, c.loop-row.auto.sets, c.requires.long) in
+    let within : c.place-place.result < length c.loop-row.sets = omega (arith, c.place-place.ensures.within, c.loop-row.auto.sets, zeros-length _ _ c.requires.blank) in
     let had : c.index-sets-place.result ≡ get_or c.loop-row.sets (row_place routes row) 0
     = c.index-sets-place.is ∙ get_or_default c.loop-row.sets c.place-place.result c.index-sets-place.result 0 within ∙ ap (λ j. get_or c.loop-row.sets j 0) c.place-place.ensures.value in
     let P : ℕ → Type 0 = λ place. HasRows routes (set c.loop-row.sets place c.with.result) c.args.rows.now (c.loop-row.row-index + 1) in
     subst P (sym c.place-place.ensures.value)
-    (HasRows-more routes c.loop-row.sets c.args.rows.now c.loop-row.row-index row c.with.result (c.loop-row.auto.sets ∙ c.requires.long) c.loop-row-test.true
+    (HasRows-more routes c.loop-row.sets c.args.rows.now c.loop-row.row-index row c.with.result (c.loop-row.auto.sets ∙ zeros-length _ _ c.requires.blank) c.loop-row-test.true
     (λ d. get_or_default c.args.rows.now c.loop-row.row-index d no_row c.loop-row-test.true)
     (IsWithinTable-real routes row (c.requires.rows c.loop-row.row-index no_row c.loop-row-test.true))
     (λ k. c.with.ensures.members k ∙ ap (λ x. nat_eq k x || has_bit c.index-sets-place.result k) c.index.ensures.value
@@ -50,13 +51,13 @@ loop-row-preserved c =
     c.loop-row.invariant)
 
 pub loop-row-init : goal.loop-row-init
-loop-row-init c = HasRows-none (routes_in c.args.map.now.frame c.args.sets.now) c.args.sets.now c.args.rows.now c.requires.empty
+loop-row-init c = HasRows-none (routes_in c.args.map.now.frame c.args.sets.now) c.args.sets.now c.args.rows.now (zeros-at _ _ c.requires.blank)
 
 pub with-requires : goal.with-requires
 with-requires c = c.index.ensures.few
 
 pub bounds-sets-place : goal.bounds-sets-place
-bounds-sets-place c = let P : ℕ → Type 0 = λ n. c.place-place.result < n in subst P (sym (c.loop-row.auto.sets ∙ c.requires.long)) c.place-place.ensures.within
+bounds-sets-place c = let P : ℕ → Type 0 = λ n. c.place-place.result < n in subst P (sym (c.loop-row.auto.sets ∙ zeros-length _ _ c.requires.blank)) c.place-place.ensures.within
 
 pub returns : goal.returns
 returns c = λ b i k m o.

@@ -1,10 +1,10 @@
 use Rattle.std.proofs.Common.{◌≡◌, ℕ, ◌/◌, ◌%◌}
 use Rattle.std.specs.Prelude.{◌&&◌, nat_lt}
 use Rattle.noc_packet.specs.Set.{has_bit}
-use Rattle.noc_route.specs.Entered.{routing_in}
+use Rattle.noc_route.specs.Entered.{parts_of}
 use Rattle.noc_route.specs.Relation.{is_led}
 use Rattle.noc_route.proofs.named.named_set.Given as goal
 
 abbrev pub invariant-loop-channel : goal.invariant-loop-channel
 invariant-loop-channel l =
-    (k : ℕ) → has_bit l.set k ≡ (nat_lt k l.channel && is_led (routing_in l.map.frame l.rule) l.fn.class l.fn.router l.fn.dst (k / l.vcs) (k % l.vcs))
+    (k : ℕ) → has_bit l.set k ≡ (nat_lt k l.channel && is_led (parts_of l.routing) l.fn.class l.fn.router l.fn.dst (k / l.vcs) (k % l.vcs))

@@ -12,84 +12,84 @@ use Rattle.noc_route.proofs.PlaceLemmas.{page-router, pair-second}
 use Rattle.noc_route.proofs.StuckLemmas.{IsFirstStuck-passed, IsStuckFirst-earlier, IsFirstStuck-emptied}
 use Rattle.noc_route.proofs.trim.trim_entry.Goals as goal
 
-pub is_reached-requires-clause-class : goal.is_reached-requires-clause-class
-is_reached-requires-clause-class c =
-    let P : Entry → Type 0 = λ e. e.class < c.args.map.now.frame.classes in
-    subst P (sym c.requires.entry) (mod-lt _ c.args.map.now.frame.some_classes)
+pub reach-requires-clause-class : goal.reach-requires-clause-class
+reach-requires-clause-class c =
+    let P : Entry → Type 0 = λ e. e.class < c.args.leaving.now.map.now.frame.classes in
+    subst P (sym c.requires.entry) (mod-lt _ c.args.leaving.now.map.now.frame.some_classes)
 
-pub is_reached-requires-clause-dst : goal.is_reached-requires-clause-dst
-is_reached-requires-clause-dst c =
-    let P : Entry → Type 0 = λ e. e.dst < nodes c.args.map.now.frame.shape in
-    subst P (sym c.requires.entry) (pair-second (nodes c.args.map.now.frame.shape) _ c.args.page refl (omega (arith, c.args.map.now.frame.all_nodes, c.args.map.now.frame.some_nodes)))
+pub reach-requires-clause-dst : goal.reach-requires-clause-dst
+reach-requires-clause-dst c =
+    let P : Entry → Type 0 = λ e. e.dst < nodes c.args.leaving.now.map.now.frame.shape in
+    subst P (sym c.requires.entry) (pair-second (nodes c.args.leaving.now.map.now.frame.shape) _ c.args.page refl (omega (arith, c.args.leaving.now.map.now.frame.all_nodes, c.args.leaving.now.map.now.frame.some_nodes)))
 
-pub is_reached-requires-clause-router : goal.is_reached-requires-clause-router
-is_reached-requires-clause-router c =
-    let P : Entry → Type 0 = λ e. e.router < nodes c.args.map.now.frame.shape in
+pub reach-requires-clause-router : goal.reach-requires-clause-router
+reach-requires-clause-router c =
+    let P : Entry → Type 0 = λ e. e.router < nodes c.args.leaving.now.map.now.frame.shape in
     subst P (sym c.requires.entry)
-    (page-router c.args.page (nodes c.args.map.now.frame.shape) c.args.map.now.frame.classes (omega (arith, c.args.map.now.frame.all_nodes, c.args.map.now.frame.some_nodes)) c.args.map.now.frame.some_classes c.requires.page)
+    (page-router c.args.page (nodes c.args.leaving.now.map.now.frame.shape) c.args.leaving.now.map.now.frame.classes (omega (arith, c.args.leaving.now.map.now.frame.all_nodes, c.args.leaving.now.map.now.frame.some_nodes)) c.args.leaving.now.map.now.frame.some_classes c.requires.page)
 
-pub returns-then-not-is_reached-clause-sets : goal.returns-then-not-is_reached-clause-sets
-returns-then-not-is_reached-clause-sets c =
-    let routes = routes_in c.args.map.now.frame c.args.sets.now in
-    let w = width c.args.map.now.frame.shape c.args.map.now.frame.vcs in
-    let none : comes_at routes c.args.outs.now c.args.page c.args.input ≡ false
-    = ap (λ (e : Entry). comes_in routes c.args.outs.now e.class e.router e.dst c.args.input) (sym c.requires.entry) ∙ sym (c.is_reached.ensures c.args.sets.now) ∙ c.if-not-is_reached.true in
+pub returns-then-not-reach-clause-sets : goal.returns-then-not-reach-clause-sets
+returns-then-not-reach-clause-sets c =
+    let routes = routes_in c.args.leaving.now.map.now.frame c.args.sets.now in
+    let w = width c.args.leaving.now.map.now.frame.shape c.args.leaving.now.map.now.frame.vcs in
+    let none : comes_at routes c.args.leaving.now.outs.now c.args.page c.args.input ≡ false
+    = ap (λ (e : Entry). comes_in routes c.args.leaving.now.outs.now e.class e.router e.dst c.args.input) (sym c.requires.entry) ∙ sym (c.reach.ensures c.args.sets.now) ∙ c.if-not-reach.true in
     ap (λ place. set c.args.sets.now place c.empty.result) c.slot-place.ensures.value
     ∙ ap (λ s. set c.args.sets.now (c.args.page * w + c.args.input) s) c.empty.ensures.bits
     ∙ sym (ap (λ b. if b then c.args.sets.now else set c.args.sets.now (c.args.page * w + c.args.input) 0) none)
 
 pub returns-then-is_empty-clause-sets : goal.returns-then-is_empty-clause-sets
 returns-then-is_empty-clause-sets c =
-    let routes = routes_in c.args.map.now.frame c.args.sets.now in
-    let w = width c.args.map.now.frame.shape c.args.map.now.frame.vcs in
-    let comes : comes_at routes c.args.outs.now c.args.page c.args.input ≡ true
-    = ap (λ (e : Entry). comes_in routes c.args.outs.now e.class e.router e.dst c.args.input) (sym c.requires.entry) ∙ sym (c.is_reached.ensures c.args.sets.now) ∙ c.if-not-is_reached.false in
+    let routes = routes_in c.args.leaving.now.map.now.frame c.args.sets.now in
+    let w = width c.args.leaving.now.map.now.frame.shape c.args.leaving.now.map.now.frame.vcs in
+    let comes : comes_at routes c.args.leaving.now.outs.now c.args.page c.args.input ≡ true
+    = ap (λ (e : Entry). comes_in routes c.args.leaving.now.outs.now e.class e.router e.dst c.args.input) (sym c.requires.entry) ∙ sym (c.reach.ensures c.args.sets.now) ∙ c.if-not-reach.false in
     sym (ap (λ b. if b then c.args.sets.now else set c.args.sets.now (c.args.page * w + c.args.input) 0) comes)
 
 pub returns-clause-sets : goal.returns-clause-sets
 returns-clause-sets c =
-    let routes = routes_in c.args.map.now.frame c.args.sets.now in
-    let w = width c.args.map.now.frame.shape c.args.map.now.frame.vcs in
-    let comes : comes_at routes c.args.outs.now c.args.page c.args.input ≡ true
-    = ap (λ (e : Entry). comes_in routes c.args.outs.now e.class e.router e.dst c.args.input) (sym c.requires.entry) ∙ sym (c.is_reached.ensures c.args.sets.now) ∙ c.if-not-is_reached.false in
+    let routes = routes_in c.args.leaving.now.map.now.frame c.args.sets.now in
+    let w = width c.args.leaving.now.map.now.frame.shape c.args.leaving.now.map.now.frame.vcs in
+    let comes : comes_at routes c.args.leaving.now.outs.now c.args.page c.args.input ≡ true
+    = ap (λ (e : Entry). comes_in routes c.args.leaving.now.outs.now e.class e.router e.dst c.args.input) (sym c.requires.entry) ∙ sym (c.reach.ensures c.args.sets.now) ∙ c.if-not-reach.false in
     sym (ap (λ b. if b then c.args.sets.now else set c.args.sets.now (c.args.page * w + c.args.input) 0) comes)
 
-pub returns-then-not-is_reached-clause-first : goal.returns-then-not-is_reached-clause-first
-returns-then-not-is_reached-clause-first c =
-    let routes = routes_in c.args.map.now.frame c.args.sets.now in
-    let w = width c.args.map.now.frame.shape c.args.map.now.frame.vcs in
-    let none : comes_at routes c.args.outs.now c.args.page c.args.input ≡ false
-    = ap (λ (e : Entry). comes_in routes c.args.outs.now e.class e.router e.dst c.args.input) (sym c.requires.entry) ∙ sym (c.is_reached.ensures c.args.sets.now) ∙ c.if-not-is_reached.true in
-    let P : ℕ → Type 0 = λ place. IsFirstStuck (routes_in c.args.map.now.frame (set c.args.sets.now place c.empty.result)) c.args.outs.now (c.args.page * w + c.args.input + 1) c.args.first in
-    let Q : ℕ → Type 0 = λ s. IsFirstStuck (routes_in c.args.map.now.frame (set c.args.sets.now (c.args.page * w + c.args.input) s)) c.args.outs.now (c.args.page * w + c.args.input + 1) c.args.first in
-    let free : is_stuck_at routes c.args.outs.now c.args.page c.args.input ≡ false = ap (λ b. b && nat_eq (page_set routes c.args.page c.args.input) 0) none in
+pub returns-then-not-reach-clause-first : goal.returns-then-not-reach-clause-first
+returns-then-not-reach-clause-first c =
+    let routes = routes_in c.args.leaving.now.map.now.frame c.args.sets.now in
+    let w = width c.args.leaving.now.map.now.frame.shape c.args.leaving.now.map.now.frame.vcs in
+    let none : comes_at routes c.args.leaving.now.outs.now c.args.page c.args.input ≡ false
+    = ap (λ (e : Entry). comes_in routes c.args.leaving.now.outs.now e.class e.router e.dst c.args.input) (sym c.requires.entry) ∙ sym (c.reach.ensures c.args.sets.now) ∙ c.if-not-reach.true in
+    let P : ℕ → Type 0 = λ place. IsFirstStuck (routes_in c.args.leaving.now.map.now.frame (set c.args.sets.now place c.empty.result)) c.args.leaving.now.outs.now (c.args.page * w + c.args.input + 1) c.args.first in
+    let Q : ℕ → Type 0 = λ s. IsFirstStuck (routes_in c.args.leaving.now.map.now.frame (set c.args.sets.now (c.args.page * w + c.args.input) s)) c.args.leaving.now.outs.now (c.args.page * w + c.args.input + 1) c.args.first in
+    let free : is_stuck_at routes c.args.leaving.now.outs.now c.args.page c.args.input ≡ false = ap (λ b. b && nat_eq (page_set routes c.args.page c.args.input) 0) none in
     subst P (sym c.slot-place.ensures.value)
     (subst Q (sym c.empty.ensures.bits)
-    (IsFirstStuck-emptied routes c.args.outs.now (c.args.page * w + c.args.input + 1) c.args.page c.args.input c.args.first c.requires.input none
-    (IsFirstStuck-passed routes c.args.outs.now c.args.page c.args.input c.args.first c.requires.input free c.requires.first)))
+    (IsFirstStuck-emptied routes c.args.leaving.now.outs.now (c.args.page * w + c.args.input + 1) c.args.page c.args.input c.args.first c.requires.input none
+    (IsFirstStuck-passed routes c.args.leaving.now.outs.now c.args.page c.args.input c.args.first c.requires.input free c.requires.first)))
 
 pub returns-then-is_empty-clause-first : goal.returns-then-is_empty-clause-first
 returns-then-is_empty-clause-first c =
-    let routes = routes_in c.args.map.now.frame c.args.sets.now in
-    let w = width c.args.map.now.frame.shape c.args.map.now.frame.vcs in
-    let comes : comes_at routes c.args.outs.now c.args.page c.args.input ≡ true
-    = ap (λ (e : Entry). comes_in routes c.args.outs.now e.class e.router e.dst c.args.input) (sym c.requires.entry) ∙ sym (c.is_reached.ensures c.args.sets.now) ∙ c.if-not-is_reached.false in
+    let routes = routes_in c.args.leaving.now.map.now.frame c.args.sets.now in
+    let w = width c.args.leaving.now.map.now.frame.shape c.args.leaving.now.map.now.frame.vcs in
+    let comes : comes_at routes c.args.leaving.now.outs.now c.args.page c.args.input ≡ true
+    = ap (λ (e : Entry). comes_in routes c.args.leaving.now.outs.now e.class e.router e.dst c.args.input) (sym c.requires.entry) ∙ sym (c.reach.ensures c.args.sets.now) ∙ c.if-not-reach.false in
     let within : c.slot-place.result < length c.args.sets.now = omega (arith, c.slot-place.ensures.within, c.requires.sets) in
     let empty : nat_eq (page_set routes c.args.page c.args.input) 0 ≡ true
     = ap (λ place. nat_eq (get_or c.args.sets.now place 0) 0) (sym c.slot-place.ensures.value)
     ∙ ap (λ s. nat_eq s 0) (get_or_default c.args.sets.now c.slot-place.result 0 _ within) ∙ sym c.is_empty.ensures.bits ∙ c.if-is_empty.true in
-    let stuck : is_stuck_at routes c.args.outs.now c.args.page c.args.input ≡ true = rw (comes, empty) refl in
-    let P : Entry → Type 0 = λ e. IsStuckFirst routes c.args.outs.now (c.args.page * w + c.args.input + 1) e in
+    let stuck : is_stuck_at routes c.args.leaving.now.outs.now c.args.page c.args.input ≡ true = rw (comes, empty) refl in
+    let P : Entry → Type 0 = λ e. IsStuckFirst routes c.args.leaving.now.outs.now (c.args.page * w + c.args.input + 1) e in
     subst P (sym (c.earlier.ensures ∙ ap (λ e. earlier_entry e c.args.first) c.requires.entry))
-    (IsStuckFirst-earlier routes c.args.outs.now c.args.page c.args.input c.args.first c.requires.page c.requires.input stuck c.requires.first)
+    (IsStuckFirst-earlier routes c.args.leaving.now.outs.now c.args.page c.args.input c.args.first c.requires.page c.requires.input stuck c.requires.first)
 
 pub returns-clause-first : goal.returns-clause-first
 returns-clause-first c =
-    let routes = routes_in c.args.map.now.frame c.args.sets.now in
+    let routes = routes_in c.args.leaving.now.map.now.frame c.args.sets.now in
     let within : c.slot-place.result < length c.args.sets.now = omega (arith, c.slot-place.ensures.within, c.requires.sets) in
     let some : nat_eq (page_set routes c.args.page c.args.input) 0 ≡ false
     = ap (λ place. nat_eq (get_or c.args.sets.now place 0) 0) (sym c.slot-place.ensures.value)
     ∙ ap (λ s. nat_eq s 0) (get_or_default c.args.sets.now c.slot-place.result 0 _ within) ∙ sym c.is_empty.ensures.bits ∙ c.if-is_empty.false in
-    let free : is_stuck_at routes c.args.outs.now c.args.page c.args.input ≡ false
-    = ap (λ b. comes_at routes c.args.outs.now c.args.page c.args.input && b) some ∙ and-false (comes_at routes c.args.outs.now c.args.page c.args.input) in
-    IsFirstStuck-passed routes c.args.outs.now c.args.page c.args.input c.args.first c.requires.input free c.requires.first
+    let free : is_stuck_at routes c.args.leaving.now.outs.now c.args.page c.args.input ≡ false
+    = ap (λ b. comes_at routes c.args.leaving.now.outs.now c.args.page c.args.input && b) some ∙ and-false (comes_at routes c.args.leaving.now.outs.now c.args.page c.args.input) in
+    IsFirstStuck-passed routes c.args.leaving.now.outs.now c.args.page c.args.input c.args.first c.requires.input free c.requires.first

@@ -25,7 +25,7 @@ pub gather_pair-requires-clause-outs : goal.gather_pair-requires-clause-outs
 gather_pair-requires-clause-outs c = c.loop-pair.invariant.lists
 
 pub gather_pair-requires-clause-farther : goal.gather_pair-requires-clause-farther
-gather_pair-requires-clause-farther c = λ m r place l. c.loop-pair.invariant.farther m r _ place (omega (arith, l, c.distance.ensures.value, c.if-distance.true))
+gather_pair-requires-clause-farther c = λ m r place l. c.loop-pair.invariant.farther m r _ place (omega (arith, l, c.distance.ensures, c.if-distance.true))
 
 pub loop-pair-preserved : goal.loop-pair-preserved
 loop-pair-preserved c =
@@ -35,7 +35,7 @@ loop-pair-preserved c =
     elim c.if-distance.branch [
       | then-distance w ↦ subst P (sym w.outs-is) (IsRingDone-more routes c.loop-pair.outs w.gather_pair.new.outs c.args.distance c.loop-pair.pair f.node_count f.all_nodes c.loop-pair.invariant w.gather_pair.ensures)
       | else-distance w ↦ subst P (sym w.outs-is)
-          (IsRingDone-passed routes c.loop-pair.outs c.args.distance c.loop-pair.pair (λ e. w.if-distance.false (c.distance.ensures.value ∙ ap (λ n. distance f.shape (c.loop-pair.pair / n) (c.loop-pair.pair % n)) f.all_nodes ∙ e)) c.loop-pair.invariant)
+          (IsRingDone-passed routes c.loop-pair.outs c.args.distance c.loop-pair.pair (λ e. w.if-distance.false (c.distance.ensures ∙ ap (λ n. distance f.shape (c.loop-pair.pair / n) (c.loop-pair.pair % n)) f.all_nodes ∙ e)) c.loop-pair.invariant)
     ]
 
 pub returns : goal.returns

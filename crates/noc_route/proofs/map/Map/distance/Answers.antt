@@ -4,8 +4,8 @@ use Rattle.noc_topo.specs.Shape.{nodes}
 use Rattle.noc_route.proofs.PlaceLemmas.{flat-div, flat-mod, flat-below}
 use Rattle.noc_route.proofs.map.Map.distance.Goals as goal
 
-pub returns-clause-value : goal.returns-clause-value
-returns-clause-value c =
+pub returns : goal.returns
+returns c =
     let count = nodes c.args.self.now.frame.shape in
     let place = c.args.from * count + c.args.to in
     let within : place < count * count = flat-below c.args.from count c.args.to count c.requires.from c.requires.to in

@@ -18,11 +18,11 @@ pub nearer_ports-requires-clause-there : goal.nearer_ports-requires-clause-there
 nearer_ports-requires-clause-there c =
     rw (c.coordinates-there.ensures.value, c.args.map.now.corner) (λ i l. padded-below c.args.map.now.frame.shape c.args.dst i c.coordinates-there.ensures.grid l)
 
-pub returns-clause-way : goal.returns-clause-way
-returns-clause-way c = record {
+pub returns : goal.returns
+returns c = record {
   here = c.coordinates-here.ensures.value;
   there = c.coordinates-there.ensures.value;
   arrived = refl;
-  towards = c.dor_port.ensures.value c.args.router c.args.dst c.coordinates-here.ensures.value c.coordinates-there.ensures.value;
+  towards = c.dor_port.ensures c.args.router c.args.dst c.coordinates-here.ensures.value c.coordinates-there.ensures.value;
   nearer = c.nearer_ports.ensures c.args.router c.args.dst c.coordinates-here.ensures.value c.coordinates-there.ensures.value;
 }

@@ -9,12 +9,12 @@ use Rattle.noc_route.specs.declared.sizes.Sizes.{Sizes}
 use Rattle.noc_route.proofs.WayLemmas.{routing_in-frame}
 use Rattle.noc_route.proofs.relation.Relation.build.Goals as goal
 
-pub sets_of-requires : goal.sets_of-requires
-sets_of-requires c =
+pub invariant_of-routing : goal.invariant_of-routing
+invariant_of-routing c =
     let s = c.in-Some.ensures.some in
     let P : Sizes → Type 0 = λ f. is_right f.shape f.vcs f.classes c.args.rule ≡ true in
     let Q : RelationParts → Type 0 = λ g. is_right g.grid g.vcs g.classes g.rule ≡ true in
-    subst P (sym c.in_ok-map.ensures) (subst Q (sym (routing_in-frame c.in-Some.frame c.args.shape.now c.args.vcs c.args.classes c.args.rule s.1 s.2 s.3)) s.0)
+    record { right = subst P (sym c.in_ok-map.ensures) (subst Q (sym (routing_in-frame c.in-Some.frame c.args.shape.now c.args.vcs c.args.classes c.args.rule s.1 s.2 s.3)) s.0) }
 
 pub returns-in_default-clause-exact : goal.returns-in_default-clause-exact
 returns-in_default-clause-exact c = c.in_default.ensures.none

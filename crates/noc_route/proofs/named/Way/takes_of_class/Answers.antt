@@ -1,0 +1,34 @@
+use Rattle.std.proofs.Common.{◌≡◌, ℕ, ◌/◌, ◌<◌, List, get_or, ap, sym, ◌∙◌, arith}
+use Rattle.std.specs.Prelude.{nat_eq}
+use Rattle.noc_topo.specs.Shape.{coordinates}
+use Rattle.noc_topo.proofs.LinkLemmas.{get_or-padded}
+use Rattle.noc_route.specs.Relation.{is_right, dateline_class, resource_class, takes_of_class}
+use Rattle.noc_route.proofs.PlaceLemmas.{half-some, adaptive-some}
+use Rattle.noc_route.proofs.named.Way.takes_of_class.Goals as goal
+
+pub resource_class-requires : goal.resource_class-requires
+resource_class-requires c =
+    let f = c.args.routing.now.map.now.frame in
+    half-some f.shape f.vcs f.classes (sym (ap (is_right f.shape f.vcs f.classes) c.in-Dateline.is) ∙ c.args.routing.now.right)
+
+pub nonzero_div-place : goal.nonzero_div-place
+nonzero_div-place c = c.args.routing.now.map.now.frame.some_classes
+
+pub nonzero_rem-place : goal.nonzero_rem-place
+nonzero_rem-place c =
+    let f = c.args.routing.now.map.now.frame in
+    adaptive-some f.shape f.vcs f.classes (sym (ap (is_right f.shape f.vcs f.classes) c.in-Adaptive.is) ∙ c.args.routing.now.right)
+
+pub returns-in-Dateline : goal.returns-in-Dateline
+returns-in-Dateline c = λ r t w.
+    let f = c.args.routing.now.map.now.frame in
+    let i = c.args.port / 2 in
+    let xs = coordinates f.shape.radix r in
+    let ts = coordinates f.shape.radix t in
+    let low : i < 3 = omega (arith, c.requires) in
+    let here : get_or c.args.self.now.here i 0 ≡ get_or xs i 0 = ap (λ (l : List ℕ). get_or l i 0) w.here ∙ get_or-padded xs i low in
+    let there : get_or c.args.self.now.there i 0 ≡ get_or ts i 0 = ap (λ (l : List ℕ). get_or l i 0) w.there ∙ get_or-padded ts i low in
+    let half = c.dateline_class.ensures ∙ ap (λ x. dateline_class c.args.port x (get_or c.args.self.now.there i 0)) here ∙ ap (λ y. dateline_class c.args.port (get_or xs i 0) y) there in
+    ap (λ a. nat_eq a c.dateline_class.result) c.resource_class.ensures.value
+    ∙ ap (λ b. nat_eq (resource_class f.vcs f.classes c.args.vc) b) half
+    ∙ ap (λ rule. takes_of_class f.shape f.vcs f.classes rule xs ts c.args.port c.args.vc) (sym c.in-Dateline.is)

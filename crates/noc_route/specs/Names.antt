@@ -1,0 +1,30 @@
+-- Rules by their names.
+use Rattle.std.specs.Prelude.{ℕ, List, [], ◌∷◌, codes, find, Option, Some, None}
+use Rattle.std.specs.Str.{bytes_eq}
+use Rattle.noc_route.specs.declared.rule.RuleName.{RuleName}
+use Rattle.noc_route.specs.declared.rule.RuleName.TheVariants as name
+use Rattle.noc_route.specs.declared.rule.Rule.{Rule}
+use Rattle.noc_route.specs.declared.rule.Rule.TheVariants as rule
+
+abbrev pub rule_names : List RuleName
+rule_names = name.Dor ∷ name.Dateline ∷ name.WestFirst ∷ name.Adaptive ∷ name.Table ∷ []
+
+-- the word of a rule
+abbrev pub rule_word : RuleName → List ℕ
+rule_word name.Dor = codes "dor"
+rule_word name.Dateline = codes "dateline"
+rule_word name.WestFirst = codes "west-first"
+rule_word name.Adaptive = codes "adaptive"
+rule_word name.Table = codes "table"
+
+-- the rule that a word names, if it names one
+abbrev pub rule_of : List ℕ → Option RuleName
+rule_of word = find (λ r. bytes_eq word (rule_word r)) rule_names
+
+-- the rule of a name, but for `table`, whose rows stand elsewhere
+abbrev pub rule_named : RuleName → Option Rule
+rule_named name.Dor = Some rule.Dor
+rule_named name.Dateline = Some rule.Dateline
+rule_named name.WestFirst = Some rule.WestFirst
+rule_named name.Adaptive = Some rule.Adaptive
+rule_named name.Table = None
