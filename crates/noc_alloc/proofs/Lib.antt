@@ -2,4 +2,7 @@ pub mod WordLemmas
 pub mod ArbiterLemmas
 pub mod AskingLemmas
 pub mod SwitchLemmas
+pub mod OfferLemmas
+pub mod PlaceLemmas
+pub mod RequestLemmas
 pub mod RoundRows

@@ -1,5 +1,5 @@
 -- Round-robin arbiters.
-use Rattle.std.specs.Prelude.{ℕ, ◌+◌, ◌-◌, ◌%◌, Bool, List, map, filter, Option, Some, None, slice_index_or}
+use Rattle.std.specs.Prelude.{ℕ, ◌+◌, ◌-◌, ◌%◌, ◌||◌, Bool, List, map, filter, Option, Some, None, nat_le, nat_lt, slice_index_or, if◌then◌else◌}
 use Rattle.noc_topo.specs.Words.{below, least_by}
 
 -- an arbiter: how many requesters it is over, and the one that comes first
@@ -14,6 +14,11 @@ distance_in_turn size pointer x = (x + (size - pointer)) % size
 -- of the requesters below the size that ask, the one that stands least far behind the pointer
 unfoldable pub first_in_turn : ℕ → ℕ → (ℕ → Bool) → Option ℕ
 first_in_turn size pointer asks = least_by (distance_in_turn size pointer) (filter asks (below size))
+
+-- of the one that came first so far, if any, and a later number, the one that comes first
+abbrev pub nearer : ℕ → Option ℕ → ℕ → ℕ
+nearer pointer None next = next
+nearer pointer (Some held) next = if nat_le pointer held || nat_lt next pointer then held else next
 
 -- a pointer goes to one past the winner, modulo the size, and stays where there is no winner
 abbrev pub pointer_after : ℕ → ℕ → Option ℕ → ℕ

@@ -1,3 +1,5 @@
 pub mod Arbiter
 pub mod Allocation
 pub mod Steps
+pub mod Places
+pub mod Requests

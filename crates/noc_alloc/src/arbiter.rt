@@ -2,7 +2,7 @@
 
 ghost use Rattle.std.specs.Prelude.{◌≡◌, ℕ, ◌<◌, ◌≤◌, true, IfSome};
 ghost use Rattle.noc_packet.specs.Set.{has_bit};
-ghost use Rattle.noc_alloc.specs.Arbiter.{first_in_turn, arbiter_after};
+ghost use Rattle.noc_alloc.specs.Arbiter.{first_in_turn, nearer, arbiter_after};
 
 use noc_packet::{ChannelSet, INDICES};
 use std::marker::Model;
@@ -66,6 +66,18 @@ impl Arbiter {
         let ahead = asking.from(self.pointer as usize);
         let first = if ahead.is_empty() { asking } else { ahead };
         first.least_common(&first)
+    }
+
+    /// Of the requester that came first so far, if there is one, and a requester with a higher number, the one that comes
+    /// first. So the first of some requesters is found one by one, the least number first.
+    pub fn nearer(&self, held: Option<usize>, next: usize) -> usize
+        ensures { result ≡ nearer self.now.pointer held next }
+    {
+        let pointer = self.pointer();
+        match held {
+            Some(held) if (pointer <= held) | (next < pointer) => held,
+            _ => next,
+        }
     }
 
     /// Moves the pointer to one past the winner, modulo the size. Without a winner it stays. The winner is below the size.

@@ -1,13 +1,12 @@
 //! The allocation of output channels (Dally and Towles, chapter 19).
 
-ghost use Rattle.std.specs.Prelude.{◌≡◌, ℕ, ◌<◌, ◌≤◌, length, All, IfSome, slice_index_or, None};
-ghost use Rattle.noc_topo.specs.Words.{is_some_of, tabulate};
-ghost use Rattle.noc_packet.specs.Set.{has_bit};
-ghost use Rattle.noc_alloc.specs.Arbiter.{RoundRobin, first_in_turn, pointers_of, arbiter_at};
+ghost use Rattle.std.specs.Prelude.{◌≡◌, ℕ, ◌<◌, length, All, IfSome, slice_index_or, None};
+ghost use Rattle.noc_topo.specs.Words.{tabulate};
+ghost use Rattle.noc_alloc.specs.Arbiter.{RoundRobin, pointers_of, arbiter_at};
 ghost use Rattle.noc_alloc.specs.Allocation.{grant_of, arbiters_after_winners};
+ghost use Rattle.noc_alloc.specs.Steps.{firsts_after_request};
 
 use crate::arbiter::Arbiter;
-use noc_packet::ChannelSet;
 
 /// For each input channel `asks` has the output channel that it asks for, and `arbiters` has an arbiter over the input
 /// channels for each output channel. Each output channel that is asked for is granted to the input channel that its
@@ -18,23 +17,28 @@ pub fn allocate_channels(asks: &[Option<usize>], arbiters: &[Arbiter], grants: &
     ensures grants { grants.new ≡ tabulate (length arbiters.now) (grant_of asks.now (length asks.now) (pointers_of arbiters.now)) }
     ensures inputs { All (λ grant. IfSome grant (λ i. i < length asks.now)) grants.new }
 {
-    for output in 0..arbiters.len() {
-        grants[output] = first_of_those_asking(asks, &arbiters[output], output);
+    grants.fill(None);
+    for input in 0..asks.len() {
+        offer(arbiters, asks[input], input, grants);
     }
 }
 
-// The input channel that the arbiter of an output channel puts first, of those that ask for it.
-fn first_of_those_asking(asks: &[Option<usize>], arbiter: &Arbiter, output: usize) -> Option<usize>
-    requires size { arbiter.now.size ≡ length asks.now }
-    ensures { result ≡ first_in_turn (length asks.now) arbiter.now.pointer (λ i. is_some_of (slice_index_or asks.now i None) output) }
+// Offers a requester, whose number is higher than those of all before, to the arbiter that it asks for, if there is one.
+// `held` has the requester that each arbiter puts first so far.
+pub(crate) fn offer(
+    arbiters: &[Arbiter],
+    asked: Option<usize>,
+    requester: usize,
+    held: &mut [Option<usize>],
+)
+    requires { length held.old ≡ length arbiters.now }
+    ensures { held.new ≡ firsts_after_request arbiters.now asked requester held.old }
 {
-    let mut asking = ChannelSet::empty();
-    for input in 0..arbiter.size() {
-        if asks[input] == Some(output) {
-            asking = asking.with(input);
+    if let Some(asked) = asked {
+        if asked < arbiters.len() {
+            held[asked] = Some(arbiters[asked].nearer(held[asked], requester));
         }
     }
-    arbiter.pick(asking)
 }
 
 /// Moves the pointer of each output channel's arbiter past the input channel that was granted.

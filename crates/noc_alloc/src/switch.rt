@@ -1,12 +1,13 @@
 //! The allocation of the switch, input ports first (Dally and Towles, chapter 19).
 
 ghost use Rattle.std.specs.Prelude.{◌≡◌, ℕ, ◌+◌, ◌*◌, ◌<◌, ◌≤◌, List, Option, length, All, IfSome, is_some, slice_index_or, None};
-ghost use Rattle.noc_topo.specs.Words.{is_some_of, tabulate};
+ghost use Rattle.noc_topo.specs.Words.{tabulate};
 ghost use Rattle.noc_alloc.specs.Arbiter.{RoundRobin, first_in_turn, pointers_of, arbiter_at};
-ghost use Rattle.noc_alloc.specs.Allocation.{pick_of, picked_port, winner_of, winning_pick, moving_pick, arbiters_after_winners, AreWins};
+ghost use Rattle.noc_alloc.specs.Allocation.{pick_of, winner_of, winning_pick, moving_pick, arbiters_after_winners, AreWins};
 ghost use Rattle.noc_alloc.specs.Steps.{arbiters_after_winner};
 
 use crate::arbiter::Arbiter;
+use crate::channels::offer;
 use noc_packet::ChannelSet;
 
 /// For each input channel that is ready, `ready` has the output port of its output channel; input port `port` has the
@@ -31,24 +32,13 @@ pub fn allocate_switch(
     ensures vcs { All (λ pick. IfSome pick (λ v. v < vcs)) picks.new }
     ensures inputs { All (λ win. IfSome win (λ q. q < length inputs.now)) wins.new }
 {
-    pick_channels(ready, vcs, inputs, picks);
-    win_ports(ready, vcs, picks, outputs, wins);
-}
-
-// Each input port picks one of its ready virtual channels.
-fn pick_channels(
-    ready: &[Option<usize>],
-    vcs: usize,
-    inputs: &[Arbiter],
-    picks: &mut [Option<usize>],
-)
-    requires ready { length ready.now ≡ length inputs.now * vcs }
-    requires picks { length picks.old ≡ length inputs.now }
-    requires sizes { All (λ (t : RoundRobin). t.size ≡ vcs) inputs.now }
-    ensures { picks.new ≡ tabulate (length inputs.now) (pick_of ready.now vcs (pointers_of inputs.now)) }
-{
+    wins.fill(None);
     for port in 0..inputs.len() {
-        picks[port] = first_of_those_ready(ready, port * vcs, &inputs[port]);
+        let pick = first_of_those_ready(ready, port * vcs, &inputs[port]);
+        picks[port] = pick;
+        if let Some(vc) = pick {
+            offer(outputs, ready[port * vcs + vc], port, wins);
+        }
     }
 }
 
@@ -56,7 +46,8 @@ fn pick_channels(
 // first input channel of the port.
 fn first_of_those_ready(ready: &[Option<usize>], first: usize, arbiter: &Arbiter) -> Option<usize>
     requires within { first + arbiter.now.size ≤ length ready.now }
-    ensures { result ≡ first_in_turn arbiter.now.size arbiter.now.pointer (λ v. is_some (slice_index_or ready.now (first + v) None)) }
+    ensures within { IfSome result (λ v. v < arbiter.now.size) }
+    ensures first { result ≡ first_in_turn arbiter.now.size arbiter.now.pointer (λ v. is_some (slice_index_or ready.now (first + v) None)) }
 {
     let mut asking = ChannelSet::empty();
     for vc in 0..arbiter.size() {
@@ -65,65 +56,6 @@ fn first_of_those_ready(ready: &[Option<usize>], first: usize, arbiter: &Arbiter
         }
     }
     arbiter.pick(asking)
-}
-
-// Each output port is won by one of the input ports whose pick goes to it.
-fn win_ports(
-    ready: &[Option<usize>],
-    vcs: usize,
-    picks: &[Option<usize>],
-    outputs: &[Arbiter],
-    wins: &mut [Option<usize>],
-)
-    requires ready { length ready.now ≡ length picks.now * vcs }
-    requires wins { length wins.old ≡ length outputs.now }
-    requires sizes { All (λ (t : RoundRobin). t.size ≡ length picks.now) outputs.now }
-    requires picks { All (λ pick. IfSome pick (λ v. v < vcs)) picks.now }
-    ensures { wins.new ≡ tabulate (length outputs.now) (winner_of ready.now vcs (length picks.now) picks.now (pointers_of outputs.now)) }
-{
-    for output in 0..outputs.len() {
-        wins[output] = first_of_those_going(ready, vcs, picks, &outputs[output], output);
-    }
-}
-
-// The input port that the arbiter of an output port puts first, of those whose pick goes to it.
-fn first_of_those_going(
-    ready: &[Option<usize>],
-    vcs: usize,
-    picks: &[Option<usize>],
-    arbiter: &Arbiter,
-    output: usize,
-) -> Option<usize>
-    requires ready { length ready.now ≡ length picks.now * vcs }
-    requires size { arbiter.now.size ≡ length picks.now }
-    requires picks { All (λ pick. IfSome pick (λ v. v < vcs)) picks.now }
-    ensures { result ≡ first_in_turn (length picks.now) arbiter.now.pointer (λ q. is_some_of (picked_port ready.now vcs picks.now q) output) }
-{
-    let mut asking = ChannelSet::empty();
-    for port in 0..arbiter.size() {
-        if picked_port(ready, vcs, picks, port) == Some(output) {
-            asking = asking.with(port);
-        }
-    }
-    arbiter.pick(asking)
-}
-
-// The output port to which an input port's pick goes.
-fn picked_port(
-    ready: &[Option<usize>],
-    vcs: usize,
-    picks: &[Option<usize>],
-    port: usize,
-) -> Option<usize>
-    requires port { port < length picks.now }
-    requires ready { length ready.now ≡ length picks.now * vcs }
-    requires picks { All (λ pick. IfSome pick (λ v. v < vcs)) picks.now }
-    ensures { result ≡ picked_port ready.now vcs picks.now port }
-{
-    match picks[port] {
-        Some(vc) => ready[port * vcs + vc],
-        None => None,
-    }
 }
 
 /// Moves the pointers past the winners: those of the output ports that were won, and those of the input ports whose pick

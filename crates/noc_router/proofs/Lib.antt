@@ -9,7 +9,6 @@ pub mod InjectLemmas
 pub mod LinkLemmas
 pub mod MemberLemmas
 pub mod MoveLemmas
-pub mod OfferLemmas
 pub mod OpeningLemmas
 pub mod OutcomeLemmas
 pub mod PassedLemmas

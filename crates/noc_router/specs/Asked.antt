@@ -31,9 +31,9 @@ turns_in a = record { ports = a.ports; vcs = a.vcs; states = arbiter_states_in a
 -- what the arbiters have decided
 abbrev pub round_in : Requests → Round
 round_in r = record {
-  grants = r.grants;
+  grants = r.channels.grants;
   picks = r.picks;
-  wins = r.wins;
+  wins = r.switch.grants;
 }
 
 -- what is asked for in a router with so many ports and channels, and who gets it
@@ -44,6 +44,7 @@ pub record RequestLists : Type 0 where
   pub asks : List (Option ℕ)  -- by input channel, the output channel that it asks for
   pub grants : List (Option ℕ)
   pub picks : List (Option ℕ)
+  pub ways : List (Option ℕ)  -- by input port, the output port that it asks for
   pub wins : List (Option ℕ)
 
 -- by input channel, the set for its head
@@ -51,7 +52,16 @@ abbrev pub routes_in : Requests → List ℕ
 routes_in r = sets_of r.size r.routed r.routes
 
 abbrev pub lists_in : Requests → RequestLists
-lists_in r = record { ports = r.ports; size = r.size; routes = routes_in r; asks = r.asks; grants = r.grants; picks = r.picks; wins = r.wins }
+lists_in r = record {
+  ports = r.ports;
+  size = r.size;
+  routes = routes_in r;
+  asks = r.channels.asks;
+  grants = r.channels.grants;
+  picks = r.picks;
+  ways = r.switch.asks;
+  wins = r.switch.grants;
+}
 
 -- nobody asks for anything
 abbrev pub no_requests : ℕ → ℕ → RequestLists
@@ -62,6 +72,7 @@ no_requests ports size = record {
   asks = replicate size None;
   grants = replicate size None;
   picks = replicate ports None;
+  ways = replicate ports None;
   wins = replicate ports None;
 }
 
@@ -81,3 +92,7 @@ no_round ports size = record { grants = replicate size None; picks = replicate p
 -- the input channel that each output channel goes to
 abbrev pub grants_on : ℕ → ℕ → List (Option ℕ) → ArbiterStates → List (Option ℕ)
 grants_on ports vcs asks arbiters = tabulate (ports * vcs) (grant_of asks (ports * vcs) (pointers_of arbiters.channels))
+
+-- the input port that each output port goes to
+abbrev pub wins_on : ℕ → List (Option ℕ) → ArbiterStates → List (Option ℕ)
+wins_on ports ways arbiters = tabulate ports (grant_of ways ports (pointers_of arbiters.outputs))

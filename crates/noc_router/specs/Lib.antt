@@ -8,7 +8,6 @@ pub mod Injection
 pub mod Inside
 pub mod Links
 pub mod Members
-pub mod Offers
 pub mod Parts
 pub mod Places
 pub mod Planned

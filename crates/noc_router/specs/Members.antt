@@ -1,12 +1,8 @@
--- Sets and states of channels of a router with n channels.
-use Rattle.std.specs.Prelude.{◌≡◌, ℕ, ◌<◌, Bool, true, nat_lt}
+-- States of channels of a router with n channels.
+use Rattle.std.specs.Prelude.{ℕ, Bool, true, nat_lt}
 use Rattle.noc_vc.specs.declared.input.InputState.{InputState}
 use Rattle.noc_vc.specs.declared.input.InputState.TheVariants.{Idle, Waiting, Active}
-use Rattle.noc_packet.specs.Set.{has_bit}
-
--- each member of the set is below n
-abbrev pub AreBelow : ℕ → ℕ → Type 0
-AreBelow n set = (k : ℕ) → has_bit set k ≡ true → k < n
+pub use Rattle.noc_alloc.specs.Places.{AreBelow}
 
 -- the output channel that a packet owns, if it owns one, is below n
 abbrev pub is_within : ℕ → InputState → Bool

@@ -1,24 +1,7 @@
--- How a list of places is kept: how many they are, the set of those that hold something, and room for 56.
-use Rattle.std.specs.Prelude.{◌≡◌, ℕ, ◌≤◌, List, Option, Some, None, length, slice_index_or, if◌then◌else◌}
-use Rattle.noc_topo.specs.Words.{tabulate}
-use Rattle.noc_packet.specs.Set.{has_bit}
-use Rattle.noc_packet.specs.declared.limits.TheConstants.{INDICES}
-use Rattle.noc_router.specs.Members.{AreBelow}
+-- Places for sets of channels.
+use Rattle.std.specs.Prelude.{ℕ, List, slice_index_or}
+use Rattle.noc_alloc.specs.Places.{kept_in}
 
--- so many places: those in the set hold the entry of that place, the others nothing
-abbrev pub kept_in : {X : Type 0} → ℕ → X → ℕ → (ℕ → X) → List X
-kept_in count nothing filled entry = tabulate count (λ i. if has_bit filled i then entry i else nothing)
-
--- places for numbers
-abbrev pub places_of : ℕ → ℕ → List ℕ → List (Option ℕ)
-places_of count filled values = kept_in count None filled (λ i. Some (slice_index_or values i 0))
-
--- places for sets of channels: one that holds nothing has the empty set
+-- so many places: one that is not filled has the empty set
 abbrev pub sets_of : ℕ → ℕ → List ℕ → List ℕ
 sets_of count filled sets = kept_in count 0 filled (λ i. slice_index_or sets i 0)
-
--- all that hold something are among them, and there is room for 56
-pub record ArePlaces (count filled : ℕ) (values : List ℕ) : Type 0 where
-  pub few : count ≤ INDICES
-  pub room : length values ≡ INDICES
-  pub within : AreBelow count filled

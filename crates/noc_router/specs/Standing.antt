@@ -1,21 +1,18 @@
 -- What the input channels of a router can go on with, by sets.
-use Rattle.std.specs.Prelude.{◌≡◌, ℕ, ◌<◌, ◌≤◌, ◌/◌, ◌%◌, Bool, true, ◌&&◌, List, Option, Some, None, not, option_and_then, replicate, slice_index_or}
+use Rattle.std.specs.Prelude.{◌≡◌, ℕ, ◌<◌, ◌≤◌, ◌/◌, Bool, true, ◌&&◌, Option, Some, None, not}
 use Rattle.noc_topo.specs.Shape.{ports}
-use Rattle.noc_topo.specs.Words.{is_some_of}
+use Rattle.noc_topo.specs.Words.{tabulate}
 use Rattle.noc_packet.specs.Set.{has_bit}
-use Rattle.noc_alloc.specs.Allocation.{is_won_by}
-use Rattle.noc_alloc.specs.Arbiter.{arbiter_at}
-use Rattle.noc_router.specs.Offers.{farther}
+use Rattle.noc_alloc.specs.Allocation.{is_won_by, pick_of, picked_port}
+use Rattle.noc_alloc.specs.Arbiter.{pointers_of}
 use Rattle.noc_vc.specs.Input.{is_active, is_empty, is_idle_phase, is_waiting}
 use Rattle.noc_vc.specs.declared.input.InputState.{InputState}
 use Rattle.noc_vc.specs.declared.input.InputState.TheVariants.{Idle, Waiting, Active}
-use Rattle.noc_router.specs.Asked.{round_in}
 use Rattle.noc_router.specs.Members.{AreBelow}
-use Rattle.noc_router.specs.Requests.{AllBelow, AreAmong, pick_in}
 use Rattle.noc_router.specs.Sound.{AreStanding, is_supplied}
-use Rattle.noc_router.specs.Verdict.{Round, is_event}
+use Rattle.noc_router.specs.Verdict.{Round, asks_of, is_event, ready_of}
 use Rattle.noc_router.specs.VerdictSets.{sets_with, verdict_by}
-use Rattle.noc_router.specs.View.{Site, View, finding_of, size_of, view_buffer, view_input}
+use Rattle.noc_router.specs.View.{Site, View, finding_of, size_of, view_buffer, view_input, view_stands}
 use Rattle.noc_router.specs.declared.channels.Standing.{Standing}
 use Rattle.noc_router.specs.declared.requests.Requests.{Requests}
 use Rattle.noc_router.specs.declared.verdict_sets.VerdictSets.{VerdictSets}
@@ -35,20 +32,10 @@ pub record AreReady (v : View) (set : ℕ) : Type 0 where
   pub below : AreBelow (size_of v.site) set
   pub each : (i : ℕ) → i < size_of v.site → has_bit set i ≡ (is_active (view_input v i).phase && (not (is_empty (view_buffer v i)) && is_supplied v.outputs (view_input v i).phase))
 
--- the set has just the channels that their input ports picked
-abbrev pub IsPickedIn : View → List (Option ℕ) → ℕ → Type 0
-IsPickedIn v picks set = (k : ℕ) → k < size_of v.site → has_bit set k ≡ is_some_of (slice_index_or picks (k / v.site.vcs) None) (k % v.site.vcs)
-
 -- the requests are of this router
 pub record AreRequestsOf (site : Site) (r : Requests) : Type 0 where
   pub ports : r.ports ≡ ports site.grid
   pub size : r.size ≡ size_of site
-
--- the requests are of this router, no input port has picked a channel, and no output port is won
-pub record IsSwitchFree (site : Site) (r : Requests) : Type 0 where
-  pub of_router : AreRequestsOf site r
-  pub picks : r.picks ≡ replicate r.ports None
-  pub wins : r.wins ≡ replicate r.ports None
 
 -- the sets of all channels of a view
 abbrev pub IsStanding : View → Standing → Type 0
@@ -68,21 +55,25 @@ way_of v i = way_in v.site.vcs (view_input v i).phase
 abbrev pub is_won_from : View → Round → ℕ → InputState → Bool
 is_won_from v round i phase = is_won_by round.wins (i / v.site.vcs) (way_in v.site.vcs phase)
 
--- the set has just those of the picked channels whose input port won
-abbrev pub HaveWon : View → Round → ℕ → ℕ → Type 0
-HaveWon v round picked set = (k : ℕ) → has_bit set k ≡ (has_bit picked k && is_won_from v round k (view_input v k).phase)
+-- the virtual channel that an input port picks
+abbrev pub picked_vc : View → ℕ → Option ℕ
+picked_vc v q = pick_of (ready_of v.site.vcs (view_stands v)) v.site.vcs (pointers_of v.arbiters.inputs) q
 
--- the set of channels that their input ports picked, of those that are ready, and the set of those of them that move
-pub record IsSwitched (v : View) (ready : ℕ) (r : Requests) (picked moved : ℕ) : Type 0 where
-  pub within : AllBelow v.site.vcs r.picks
-  pub among : AreAmong ready picked
-  pub picked_is : IsPickedIn v r.picks picked
-  pub moved_is : HaveWon v (round_in r) picked moved
+-- the output port to which its pick goes
+abbrev pub picked_way : View → ℕ → Option ℕ
+picked_way v q = picked_port (ready_of v.site.vcs (view_stands v)) v.site.vcs (tabulate (ports v.site.grid) (picked_vc v)) q
 
--- of the input port that has won an output port so far and a later one, the pick of the one that loses it
-abbrev pub loser_of : View → Round → ℕ → ℕ → Option ℕ
-loser_of v round output port =
-    option_and_then (pick_in v.site.vcs round.picks) (farther (arbiter_at v.arbiters.outputs output).pointer (slice_index_or round.wins output None) port)
+-- the pick of an input port, and where it goes
+abbrev pub IsPick : View → ℕ → Option (ℕ × ℕ) → Type 0
+IsPick v q None = picked_vc v q ≡ None
+IsPick v q (Some pick) = (picked_vc v q ≡ Some pick.0) × (picked_way v q ≡ Some pick.1)
+
+-- the requests are those of the input channels and input ports of this view
+pub record AreAsked (v : View) (r : Requests) : Type 0 where
+  pub of_router : AreRequestsOf v.site r
+  pub asks : r.channels.asks ≡ asks_of (view_stands v)
+  pub picks : r.picks ≡ tabulate (ports v.site.grid) (picked_vc v)
+  pub ways : r.switch.asks ≡ tabulate (ports v.site.grid) (picked_way v)
 
 -- the sets give each input channel its verdict in this round, and have each once at most
 pub record AreVerdictsOf (v : View) (round : Round) (sets : VerdictSets) : Type 0 where

@@ -5,11 +5,15 @@
 //! chooses between two sets, the requests at or after its pointer and all requests, and then looks for the
 //! least member, so it looks once.
 
-ghost use Rattle.std.specs.Prelude.{◌≡◌, ◌*◌, ◌<◌, All, IfOk, vec_len};
+ghost use Rattle.std.specs.Prelude.{◌≡◌, ℕ, ◌*◌, ◌<◌, ◌≤◌, All, IfOk, IfSome, List, Option, None, is_some, length, slice_index_or, vec_len};
+ghost use Rattle.noc_packet.specs.Set.{has_bit};
+ghost use Rattle.noc_packet.specs.declared.limits.TheConstants.{INDICES};
+ghost use Rattle.noc_alloc.specs.Allocation.{pick_of};
+ghost use Rattle.noc_alloc.specs.Arbiter.{RoundRobin, pointers_of};
 ghost use Rattle.noc_router.specs.Verdict.{opening_arbiters};
 
 use noc_alloc::Arbiter;
-use noc_packet::Memory;
+use noc_packet::{ChannelSet, Memory};
 use std::alloc::Global;
 
 /// An arbiter over all input channels for each output channel, one over its virtual channels for each
@@ -47,6 +51,16 @@ impl Arbiters {
         })
     }
 
+    // The one of its virtual channels that are ready which an input port picks: that which its arbiter puts first.
+    pub(crate) fn pick(&self, ready: ChannelSet, port: usize) -> Option<usize>
+        requires port { port < self.now.ports }
+        requires few { self.now.ports * self.now.vcs ≤ INDICES }
+        ensures vc { IfSome result (λ vc. vc < self.now.vcs) }
+        ensures pick { (asked : List (Option ℕ)) → ((k : ℕ) → has_bit ready k ≡ is_some (slice_index_or asked k None)) → result ≡ pick_of asked self.now.vcs (pointers_of (arbiter_states_in self.now).inputs) port }
+    {
+        pick_channel(ready, self.vcs, &self.inputs, port)
+    }
+
     // The pointers of an input port and an output port go on past the virtual channel and the input port that won.
     pub(crate) fn advance_switch_pointers(&mut self, port: usize, vc: usize, output: usize)
         requires port { port < self.old.ports }
@@ -57,4 +71,16 @@ impl Arbiters {
         self.inputs[port].advance(Some(vc));
         self.outputs[output].advance(Some(port));
     }
+}
+
+// The one of its `vcs` virtual channels that are ready which an input port picks. Input port `port` has the input channels
+// from `port * vcs` on.
+fn pick_channel(ready: ChannelSet, vcs: usize, inputs: &[Arbiter], port: usize) -> Option<usize>
+    requires few { length inputs.now * vcs ≤ INDICES }
+    requires port { port < length inputs.now }
+    requires sizes { All (λ (t : RoundRobin). t.size ≡ vcs) inputs.now }
+    ensures vc { IfSome result (λ vc. vc < vcs) }
+    ensures pick { (asked : List (Option ℕ)) → ((k : ℕ) → has_bit ready k ≡ is_some (slice_index_or asked k None)) → result ≡ pick_of asked vcs (pointers_of inputs.now) port }
+{
+    inputs[port].pick(ready.part(port * vcs, vcs))
 }

@@ -2,7 +2,6 @@
 #![tactic(auto)]
 
 mod adder;
-mod allocation;
 mod arbiters;
 mod arrivals;
 mod channels;
@@ -12,7 +11,6 @@ mod findings;
 mod indices;
 mod leads;
 mod links;
-mod places;
 mod plan;
 mod requests;
 mod router;

@@ -1,18 +1,17 @@
 //! The requests of one router's input channels in one cycle, and what its arbiters decide on them.
+//!
+//! Input channels ask for output channels. Input ports, each with the channel that it has picked, ask for output
+//! ports.
 
-ghost use Rattle.std.specs.Prelude.{◌≡◌, ℕ, ◌<◌, ◌≤◌, IfSome, List, Option, None, is_some, length, option_and_then, replicate, slice_index_or, slice_set};
-ghost use Rattle.noc_alloc.specs.Allocation.{pick_of};
-ghost use Rattle.noc_alloc.specs.Arbiter.{arbiter_at};
-ghost use Rattle.noc_router.specs.Offers.{farther, firsts_after_request};
+ghost use Rattle.std.specs.Prelude.{◌≡◌, ℕ, ◌*◌, ◌/◌, ◌%◌, ◌<◌, ◌≤◌, ◌&&◌, IfSome, Some, None, is_some, length, slice_index_or, slice_set};
+ghost use Rattle.noc_topo.specs.Words.{is_some_of};
 ghost use Rattle.noc_packet.specs.Set.{has_bit};
 ghost use Rattle.noc_packet.specs.declared.limits.TheConstants.{INDICES, MAX_PORTS};
-ghost use Rattle.noc_router.specs.Members.{AreBelow};
-ghost use Rattle.noc_router.specs.Requests.{AllBelow, is_given, pick_in};
+ghost use Rattle.noc_alloc.specs.Places.{AreBelow};
+ghost use Rattle.noc_alloc.specs.Requests.{AllBelow, is_given};
 
-use crate::allocation::{advance_channels, allocate_channels, offer, pick_channel};
 use crate::arbiters::Arbiters;
-use crate::channels::marked;
-use crate::places::Places;
+use noc_alloc::{Allocation, Places};
 use noc_packet::{ChannelSet, INDICES};
 
 /// What the input channels of one router ask for, and who gets it. There is room for those of any router.
@@ -23,28 +22,25 @@ pub(crate) struct Requests {
     // The input channels whose head may get a set, and by input channel that set.
     routed: ChannelSet,
     routes: [ChannelSet; INDICES],
-    // By input channel the output channel that it asks for.
-    asks: Places,
-    // By output channel the input channel, by input port the virtual channel, by output port the input port.
-    grants: Places,
+    // The output channels, to input channels.
+    channels: Allocation,
+    // By input port, the virtual channel that it has picked.
     picks: Places,
-    wins: Places,
+    // The output ports, to input ports.
+    switch: Allocation,
     ghost few_ports: { ports ≤ MAX_PORTS },
     ghost few: { size ≤ INDICES },
     ghost room: { length routes ≡ INDICES },
-    ghost an_ask_each: { length asks ≡ size },
-    ghost a_grant_each: { length grants ≡ size },
+    ghost an_ask_each: { length channels.asks ≡ size },
+    ghost a_grant_each: { length channels.grants ≡ size },
     ghost a_pick_each: { length picks ≡ ports },
-    ghost a_win_each: { length wins ≡ ports },
+    ghost a_way_each: { length switch.asks ≡ ports },
+    ghost a_win_each: { length switch.grants ≡ ports },
     ghost routed_below: { AreBelow size routed },
-    ghost asks_for_channels: { AllBelow size asks },
-    ghost granted_to_channels: { AllBelow size grants },
-    ghost won_by_ports: { AllBelow ports wins },
 }
 
 impl Requests {
-    ghost use Rattle.noc_router.specs.Asked.{AreOfOneSize, arbiter_states_in, channels_past, grants_on, lists_in, no_requests, round_in, routes_in, turns_in};
-    ghost use Rattle.noc_router.specs.Verdict.{pointers_of};
+    ghost use Rattle.noc_router.specs.Asked.{AreOfOneSize, arbiter_states_in, channels_past, grants_on, lists_in, no_requests, round_in, routes_in, turns_in, wins_on};
 
     // No requests, for routers without channels.
     pub(crate) fn new() -> Requests {
@@ -53,10 +49,9 @@ impl Requests {
             size: 0,
             routed: ChannelSet::empty(),
             routes: [ChannelSet::empty(); INDICES],
-            asks: Places::new(),
-            grants: Places::new(),
+            channels: Allocation::new(),
             picks: Places::new(),
-            wins: Places::new(),
+            switch: Allocation::new(),
         }
     }
 
@@ -69,10 +64,9 @@ impl Requests {
         self.ports = ports;
         self.size = size;
         self.routed = ChannelSet::empty();
-        self.asks.clear(size);
-        self.grants.clear(size);
+        self.channels.clear(size, size);
         self.picks.clear(ports);
-        self.wins.clear(ports);
+        self.switch.clear(ports, ports);
     }
 
     // The head of an input channel is to get this set.
@@ -84,56 +78,32 @@ impl Requests {
         self.routes[index] = set;
     }
 
-    // An input channel asks for this output channel, if there is one.
-    pub(crate) fn set_ask(&mut self, index: usize, output: Option<usize>)
+    // An input channel asks for this output channel.
+    pub(crate) fn ask_for_channel(&mut self, index: usize, output: usize)
         requires input { index < self.old.size }
-        requires output { IfSome output (λ o. o < self.old.size) }
-        ensures { lists_in self.new ≡ record (lists_in self.old) { asks = slice_set self.old.asks index output } }
+        requires output { output < self.old.size }
+        ensures { lists_in self.new ≡ record (lists_in self.old) { asks = slice_set self.old.channels.asks index (Some output) } }
     {
-        self.asks.set(index, output);
+        self.channels.ask(index, output);
     }
 
-    // The arbiters of the output channels decide on the requests, where none is granted yet.
-    pub(crate) fn grant_all(&mut self, arbiters: &Arbiters)
-        requires size { AreOfOneSize arbiters.now self.old }
-        requires none { self.old.grants ≡ replicate self.old.size None }
-        ensures { lists_in self.new ≡ record (lists_in self.old) { grants = grants_on arbiters.now.ports arbiters.now.vcs self.old.asks (arbiter_states_in arbiters.now) } }
-    {
-        allocate_channels(&self.asks, &arbiters.channels, &mut self.grants);
-    }
-
-    // An input port picks one of its channels that are ready to send, if it has one: its virtual channel.
-    pub(crate) fn pick(
-        &mut self,
-        ready: ChannelSet,
-        port: usize,
-        arbiters: &Arbiters,
-    ) -> Option<usize>
-        requires size { AreOfOneSize arbiters.now self.old }
+    // An input port has picked one of its virtual channels, and asks for the output port to which this one sends.
+    pub(crate) fn ask_for_port(&mut self, port: usize, vc: usize, output: usize)
         requires port { port < self.old.ports }
-        ensures picks { lists_in self.new ≡ record (lists_in self.old) { picks = slice_set self.old.picks port result } }
-        ensures pick { (asked : List (Option ℕ)) → ((k : ℕ) → has_bit ready k ≡ is_some (slice_index_or asked k None)) → result ≡ pick_of asked arbiters.now.vcs (pointers_of (arbiter_states_in arbiters.now).inputs) port }
-        ensures within { IfSome result (λ vc. vc < arbiters.now.vcs) }
+        requires output { output < self.old.ports }
+        ensures { lists_in self.new ≡ record (lists_in self.old) { picks = slice_set self.old.picks port (Some vc); ways = slice_set self.old.switch.asks port (Some output) } }
     {
-        let pick = pick_channel(ready, arbiters.vcs, &arbiters.inputs, port);
-        self.picks.set(port, pick);
-        pick
+        self.picks.fill(port, vc);
+        self.switch.ask(port, output);
     }
 
-    // The pick of an input port goes to an output port, which is won by the nearer of this input port and of the one that
-    // has won it so far. The input channel that the other has picked is given back.
-    pub(crate) fn offer(&mut self, port: usize, output: usize, arbiters: &Arbiters) -> Option<usize>
-        requires size { AreOfOneSize arbiters.now self.old }
-        requires input { port < self.old.ports }
-        requires output { output < self.old.ports }
-        requires picks { AllBelow arbiters.now.vcs self.old.picks }
-        ensures wins { lists_in self.new ≡ record (lists_in self.old) { wins = firsts_after_request arbiters.now.outputs.items output port self.old.wins } }
-        ensures loser { result ≡ option_and_then (pick_in arbiters.now.vcs self.old.picks) (farther (arbiter_at arbiters.now.outputs.items output).pointer (slice_index_or self.old.wins output None) port) }
-        ensures within { IfSome result (λ index. index < self.new.size) }
+    // The arbiters of the output channels and of the output ports decide on the requests.
+    pub(crate) fn grant(&mut self, arbiters: &Arbiters)
+        requires { AreOfOneSize arbiters.now self.old }
+        ensures { lists_in self.new ≡ record (lists_in self.old) { grants = grants_on arbiters.now.ports arbiters.now.vcs self.old.channels.asks (arbiter_states_in arbiters.now); wins = wins_on arbiters.now.ports self.old.switch.asks (arbiter_states_in arbiters.now) } }
     {
-        let loser = offer(&arbiters.outputs, output, port, &mut self.wins)?;
-        let vc = self.picks.get(loser)?;
-        Some(loser * arbiters.vcs + vc)
+        self.channels.grant(&arbiters.channels);
+        self.switch.grant(&arbiters.outputs);
     }
 
     // The pointers of the output channels go on past the input channels that they were granted to.
@@ -141,38 +111,59 @@ impl Requests {
         requires { AreOfOneSize arbiters.old self.now }
         ensures { turns_in arbiters.new ≡ record (turns_in arbiters.old) { states = channels_past (round_in self.now) (arbiter_states_in arbiters.old) } }
     {
-        advance_channels(&self.grants, &mut arbiters.channels);
+        self.channels.advance(&mut arbiters.channels);
     }
 
     // The input channels that ask for an output channel.
     pub(crate) fn asking(&self) -> ChannelSet
-        ensures { (k : ℕ) → has_bit result k ≡ is_some (slice_index_or self.now.asks k None) }
+        ensures { (k : ℕ) → has_bit result k ≡ is_some (slice_index_or self.now.channels.asks k None) }
     {
-        self.asks.filled()
+        self.channels.asking()
     }
 
     // The input channels that get the output channel that they ask for.
     pub(crate) fn granted(&self) -> ChannelSet
-        ensures { (k : ℕ) → has_bit result k ≡ is_given self.now.grants (slice_index_or self.now.asks k None) k }
+        ensures { (k : ℕ) → has_bit result k ≡ is_given self.now.channels.grants (slice_index_or self.now.channels.asks k None) k }
     {
-        let mut granted = ChannelSet::empty();
-        let mut rest = self.asks.filled();
-        while let Some(index) = rest.least_common(&rest) {
-            rest = rest.without(index);
-            granted = marked(granted, index, self.is_granted(index));
-        }
-        granted
+        self.channels.granted()
     }
 
-    // Whether an input channel gets the output channel that it asks for.
-    fn is_granted(&self, index: usize) -> bool
-        requires { index < self.now.size }
-        ensures { result ≡ is_given self.now.grants (slice_index_or self.now.asks index None) index }
+    // The input channels that are picked, of input ports with so many virtual channels.
+    pub(crate) fn picked(&self, vcs: usize) -> ChannelSet
+        requires some { 0 < vcs }
+        requires size { self.now.ports * vcs ≡ self.now.size }
+        requires picks { AllBelow vcs self.now.picks }
+        ensures { (k : ℕ) → has_bit result k ≡ is_some_of (slice_index_or self.now.picks (k / vcs) None) (k % vcs) }
     {
-        match self.asks.get(index) {
-            Some(output) => self.grants.get(output) == Some(index),
-            None => false,
+        self.picked_by(self.picks.filled(), vcs)
+    }
+
+    // The input channels that are picked by an input port that gets the output port that it asks for.
+    pub(crate) fn moved(&self, vcs: usize) -> ChannelSet
+        requires some { 0 < vcs }
+        requires size { self.now.ports * vcs ≡ self.now.size }
+        requires picks { AllBelow vcs self.now.picks }
+        ensures { (k : ℕ) → has_bit result k ≡ (is_given self.now.switch.grants (slice_index_or self.now.switch.asks (k / vcs) None) (k / vcs) && is_some_of (slice_index_or self.now.picks (k / vcs) None) (k % vcs)) }
+    {
+        self.picked_by(self.switch.granted(), vcs)
+    }
+
+    // The input channels that these input ports have picked.
+    fn picked_by(&self, ports: ChannelSet, vcs: usize) -> ChannelSet
+        requires some { 0 < vcs }
+        requires size { self.now.ports * vcs ≡ self.now.size }
+        requires picks { AllBelow vcs self.now.picks }
+        ensures { (k : ℕ) → has_bit result k ≡ (has_bit ports (k / vcs) && is_some_of (slice_index_or self.now.picks (k / vcs) None) (k % vcs)) }
+    {
+        let mut picked = ChannelSet::empty();
+        let mut rest = ports;
+        while let Some(port) = rest.least_common(&rest) {
+            rest = rest.without(port);
+            if let Some(vc) = self.picks.get(port) {
+                picked = picked.with(port * vcs + vc);
+            }
         }
+        picked
     }
 
     // The set for the head of an input channel: the empty one where there is none.
@@ -190,9 +181,9 @@ impl Requests {
     // The output channel that a waiting input channel asks for.
     pub(crate) fn ask(&self, index: usize) -> Option<usize>
         requires { index < INDICES }
-        ensures value { result ≡ slice_index_or self.now.asks index None }
+        ensures value { result ≡ slice_index_or self.now.channels.asks index None }
         ensures within { IfSome result (λ output. output < self.now.size) }
     {
-        self.asks.get(index)
+        self.channels.asked(index)
     }
 }

@@ -4,7 +4,6 @@ ghost use Rattle.std.specs.List.Sorted.{IsStrictlyIncreasing};
 ghost use Rattle.std.specs.Prelude.{◌≡◌, ◌+◌, ◌-◌, ◌*◌, ◌<◌, ◌≤◌, All, IfOk, IfSome, Some, map, true, ◌⊎◌, length, ℕ, Bool, not, ◌&&◌, None, replicate, slice_index_or, [], false, if◌then◌else◌};
 ghost use Rattle.noc_topo.specs.Shape.{IsGrid, nodes as nodes_of, ports as ports_of, local_port, neighbour as neighbour_of};
 ghost use Rattle.noc_topo.specs.Words.{tabulate};
-ghost use Rattle.noc_router.specs.Offers.{firsts_after_request};
 ghost use Rattle.noc_router.specs.Members.{AreBelow};
 ghost use Rattle.noc_vc.specs.Input.{is_active, is_empty};
 ghost use Rattle.noc_vc.specs.Output.{has_credit};
@@ -18,7 +17,7 @@ ghost use Rattle.noc_router.specs.Links.{is_idle_beat};
 ghost use Rattle.noc_router.specs.Requests.{AllBelow};
 ghost use Rattle.noc_router.specs.Settled.{AreContentsFor, CanGrant, CanTakeEffect, decisions_by, effect_of, planned_verdict, passed_by, switch_past, view_after_tally, view_after_verdicts, view_after_route, view_after_grant, moved_by, credit_put, flit_put};
 ghost use Rattle.noc_router.specs.Sound.{CanRoute, CanSend, is_awaiting, is_occupied};
-ghost use Rattle.noc_router.specs.Standing.{AreHeads, AreReady, AreRequestsOf, AreVerdictsOf, AreWaiting, IsStanding, IsSwitchFree, IsSwitched, loser_of, way_of};
+ghost use Rattle.noc_router.specs.Standing.{AreAsked, AreHeads, AreReady, AreRequestsOf, AreVerdictsOf, AreWaiting, IsPick, IsStanding, picked_vc, picked_way};
 ghost use Rattle.noc_route.specs.Routes.{Routes};
 ghost use Rattle.noc_packet.specs.Set.{has_bit};
 ghost use Rattle.noc_packet.specs.declared.limits.TheConstants.{INDICES};
@@ -238,9 +237,9 @@ impl Router {
         plan.requests.clear(self.ports, self.ports * self.vcs);
         self.route_heads(relation, standing.heads, &mut plan.requests);
         self.ask_for_channels(standing.waiting, &mut plan.requests);
-        plan.requests.grant_all(&self.arbiters);
-        let (picked, moved) = self.allocate_switch(standing.ready, &mut plan.requests);
-        plan.verdicts = self.verdicts(&standing, picked, moved, &plan.requests);
+        self.ask_for_ports(standing.ready, &mut plan.requests);
+        plan.requests.grant(&self.arbiters);
+        plan.verdicts = self.verdicts(&standing, &plan.requests);
     }
 
     // The sets for the heads that are not routed, where there are none yet.
@@ -274,81 +273,58 @@ impl Router {
     fn ask_for_channels(&self, waiting: ChannelSet, requests: &mut Requests)
         requires waiting { AreWaiting self.now waiting }
         requires size { AreRequestsOf self.now.site requests.old }
-        requires none { requests.old.asks ≡ replicate (size_of self.now.site) None }
+        requires none { requests.old.channels.asks ≡ replicate (size_of self.now.site) None }
         ensures { lists_in requests.new ≡ record (lists_in requests.old) { asks = asks_of (view_stands self.now) } }
     {
         let mut rest = waiting;
         while let Some(index) = rest.least_common(&rest) {
             rest = rest.without(index);
-            requests.set_ask(index, self.channels.asked(index));
+            if let Some(output) = self.channels.asked(index) {
+                requests.ask_for_channel(index, output);
+            }
         }
     }
 
-    // The switch, which nobody has, is allocated to channels that are ready to send: each input port picks one of them, and
-    // each output port is won by one of the picks that go to it. Gives the channels that were picked, and those of them that
-    // won.
-    fn allocate_switch(
-        &self,
-        ready: ChannelSet,
-        requests: &mut Requests,
-    ) -> (ChannelSet, ChannelSet)
+    // Each input port picks one of its channels that are ready to send, if it has one, and asks for the output port to
+    // which this channel sends. Nobody has picked or asked before.
+    fn ask_for_ports(&self, ready: ChannelSet, requests: &mut Requests)
         requires ready { AreReady self.now ready }
-        requires free { IsSwitchFree self.now.site requests.old }
-        ensures lists { lists_in requests.new ≡ record (lists_in requests.old) { picks = (view_round self.now).picks; wins = (view_round self.now).wins } }
-        ensures switch { IsSwitched self.now ready requests.new result.0 result.1 }
+        requires size { AreRequestsOf self.now.site requests.old }
+        requires picks { requests.old.picks ≡ replicate (ports_of self.now.site.grid) None }
+        requires ways { requests.old.switch.asks ≡ replicate (ports_of self.now.site.grid) None }
+        ensures { lists_in requests.new ≡ record (lists_in requests.old) { picks = tabulate (ports_of self.now.site.grid) (picked_vc self.now); ways = tabulate (ports_of self.now.site.grid) (picked_way self.now) } }
     {
-        let mut picked = ChannelSet::empty();
-        let mut lost = ChannelSet::empty();
-        let mut rest = ready;
-        while let Some(first) = rest.least_common(&rest) {
-            let (port, _) = self.indices.place(first);
-            rest = rest.from((port + 1) * self.vcs);
-            if let Some(vc) = requests.pick(ready, port, &self.arbiters) {
-                let index = port * self.vcs + vc;
-                picked = picked.with(index);
-                if let Some(loser) = self.offer_way(port, index, requests) {
-                    lost = lost.with(loser);
-                }
+        for port in 0..self.ports {
+            if let Some((vc, output)) = self.pick(ready, port) {
+                requests.ask_for_port(port, vc, output);
             }
         }
-        (picked, picked.less(lost))
     }
 
-    // The pick of an input port goes to the output port of its output channel. Gives the pick that
-    // loses that output port, if it is not the only one that goes there so far.
-    fn offer_way(&self, port: usize, index: usize, requests: &mut Requests) -> Option<usize>
+    // The virtual channel that an input port picks, of those that are ready to send, and the output port to which it sends.
+    fn pick(&self, ready: ChannelSet, port: usize) -> Option<(usize, usize)>
+        requires ready { AreReady self.now ready }
         requires port { port < ports_of self.now.site.grid }
-        requires index { index < size_of self.now.site }
-        requires size { AreRequestsOf self.now.site requests.old }
-        requires picks { AllBelow self.now.site.vcs requests.old.picks }
-        ensures wins { (output : ℕ) → way_of self.now index ≡ Some output → lists_in requests.new ≡ record (lists_in requests.old) { wins = firsts_after_request self.now.arbiters.outputs output port requests.old.wins } }
-        ensures loser { (output : ℕ) → way_of self.now index ≡ Some output → result ≡ loser_of self.now (round_in requests.old) output port }
-        ensures within { IfSome result (λ loser. loser < size_of self.now.site) }
+        ensures pick { IsPick self.now port result }
+        ensures within { IfSome result (λ pick. pick.1 < ports_of self.now.site.grid) }
     {
-        match self.channels.state(index) {
-            InputState::Active(next) => {
-                requests.offer(port, self.indices.place(next).0, &self.arbiters)
-            }
+        let vc = self.arbiters.pick(ready, port)?;
+        match self.channels.state(port * self.vcs + vc) {
+            InputState::Active(next) => Some((vc, self.indices.place(next).0)),
             _ => None,
         }
     }
 
     // The verdict on every input channel, once the arbiters have decided.
-    fn verdicts(
-        &self,
-        standing: &Standing,
-        picked: ChannelSet,
-        moved: ChannelSet,
-        requests: &Requests,
-    ) -> VerdictSets
+    fn verdicts(&self, standing: &Standing, requests: &Requests) -> VerdictSets
         requires standing { IsStanding self.now standing.now }
-        requires size { requests.now.size ≡ size_of self.now.site }
-        requires asks { requests.now.asks ≡ asks_of (view_stands self.now) }
-        requires switch { IsSwitched self.now standing.now.ready requests.now picked moved }
+        requires requests { AreAsked self.now requests.now }
         ensures { AreVerdictsOf self.now (round_in requests.now) result }
     {
         let asking = requests.asking();
         let granted = requests.granted();
+        let picked = requests.picked(self.vcs);
+        let moved = requests.moved(self.vcs);
         VerdictSets {
             moved,
             granted,

@@ -9,8 +9,8 @@ use Rattle.noc_router.proofs.router.Router.ask_for_channels.Given as goal
 abbrev pub invariant-loop-index : goal.invariant-loop-index
 invariant-loop-index l = record {
   among : AreAmong l.fn.waiting l.rest;
-  lists : lists_in l.requests ≡ record (lists_in l.initial.requests) { asks = l.requests.asks };
-  asks : IsFilled (size_of l.self.site) l.rest None (λ k. ask_of (view_claim l.self k)) l.requests.asks;
+  lists : lists_in l.requests ≡ record (lists_in l.initial.requests) { asks = l.requests.channels.asks };
+  asks : IsFilled (size_of l.self.site) l.rest None (λ k. ask_of (view_claim l.self k)) l.requests.channels.asks;
 }
 
 abbrev pub decreases-loop-index : goal.decreases-loop-index

@@ -1,14 +1,27 @@
-use Rattle.std.proofs.Common.{◌≡◌, ℕ, ◌<◌, true, None, get_or, length, refl, ap, arith, sym, ◌∙◌}
-use Rattle.std.specs.Prelude.{is_some}
+use Rattle.std.proofs.Common.{◌≡◌, ℕ, ◌/◌, ◌%◌, ◌<◌, true, None, get_or, length, refl, ap, arith, subst, sym, ◌∙◌}
+use Rattle.std.specs.Prelude.{◌&&◌, is_some}
+use Rattle.noc_topo.specs.Words.{is_some_of}
 use Rattle.noc_packet.specs.Set.{has_bit}
+use Rattle.noc_alloc.specs.Requests.{AllBelow, is_given}
 use Rattle.noc_router.specs.Asked.{round_in}
-use Rattle.noc_router.specs.Requests.{is_given}
-use Rattle.noc_router.specs.Standing.{is_won_from}
+use Rattle.noc_router.specs.Requests.{AreAmong}
+use Rattle.noc_router.specs.Standing.{AreReady, is_won_from}
 use Rattle.noc_router.specs.Verdict.{ask_of}
-use Rattle.noc_router.specs.View.{size_of, view_claim, view_input}
+use Rattle.noc_router.specs.View.{View, size_of, view_claim, view_input}
 use Rattle.noc_router.proofs.StandLemmas.{ask_of-stand}
+use Rattle.noc_router.proofs.SwitchLemmas.{picked-moves, picked-ready, picks-below}
 use Rattle.noc_router.proofs.VerdictSetLemmas.{AreVerdicts, among-both, apart-on, event-below, given-below, member-passes, verdict-on}
 use Rattle.noc_router.proofs.router.Router.verdicts.Goals as goal
+
+pub picked-picked-requires-clause-picks : goal.picked-picked-requires-clause-picks
+picked-picked-requires-clause-picks c =
+    let vcs : c.self.inside.vcs ≡ c.args.self.now.site.vcs = ap (λ (w : View). w.site.vcs) c.self.view_is in
+    subst (λ n. AllBelow n c.args.requests.now.picks) (sym vcs) (picks-below c.args.self.now c.args.requests.now.picks c.requires.requests.picks)
+
+pub moved-moved-requires-clause-picks : goal.moved-moved-requires-clause-picks
+moved-moved-requires-clause-picks c =
+    let vcs : c.self.inside.vcs ≡ c.args.self.now.site.vcs = ap (λ (w : View). w.site.vcs) c.self.view_is in
+    subst (λ n. AllBelow n c.args.requests.now.picks) (sym vcs) (picks-below c.args.self.now c.args.requests.now.picks c.requires.requests.picks)
 
 pub returns : goal.returns
 returns c =
@@ -16,12 +29,21 @@ returns c =
     let r = c.args.requests.now in
     let s = c.args.standing.now in
     let round = round_in r in
-    let ask : (k : ℕ) → k < size_of v.site → get_or r.asks k None ≡ ask_of (view_claim v k) = λ k l. ask_of-stand v r.asks k c.requires.asks l in
-    let are : (k : ℕ) → k < size_of v.site → AreVerdicts v round s c.asking-asking.result c.args.picked _ k = λ k l. record {
+    let picked = c.picked-picked.result in
+    let moved = c.moved-moved.result in
+    let vcs : c.self.inside.vcs ≡ v.site.vcs = ap (λ (w : View). w.site.vcs) c.self.view_is in
+    let ready : AreReady v s.ready = record { below = c.requires.standing.ready_below; each = c.requires.standing.ready } in
+    let draws : (k : ℕ) → has_bit picked k ≡ is_some_of (get_or r.picks (k / v.site.vcs) None) (k % v.site.vcs) = λ k. c.picked-picked.ensures k ∙ ap (λ n. is_some_of (get_or r.picks (k / n) None) (k % n)) vcs in
+    let moves : (k : ℕ) → has_bit moved k ≡ (has_bit picked k && is_won_from v round k (view_input v k).phase) = λ k.
+    c.moved-moved.ensures k ∙ ap (λ n. is_given r.switch.grants (get_or r.switch.asks (k / n) None) (k / n) && is_some_of (get_or r.picks (k / n) None) (k % n)) vcs
+    ∙ picked-moves v s.ready k r.picks r.switch.asks r.switch.grants ready c.requires.requests.picks c.requires.requests.ways ∙ ap (λ b. b && is_won_from v round k (view_input v k).phase) (sym (draws k)) in
+    let among : AreAmong s.ready picked = λ k e. picked-ready v s.ready k r.picks ready c.requires.requests.picks (sym (draws k) ∙ e) in
+    let ask : (k : ℕ) → k < size_of v.site → get_or r.channels.asks k None ≡ ask_of (view_claim v k) = λ k l. ask_of-stand v r.channels.asks k c.requires.requests.asks l in
+    let are : (k : ℕ) → k < size_of v.site → AreVerdicts v round s c.asking-asking.result picked _ k = λ k l. record {
       asks = c.asking-asking.ensures k ∙ ap is_some (ask k l);
-      draws = c.requires.switch.picked_is k l;
-      picks = among-both s.ready c.args.picked k c.requires.switch.among;
-      moved = c.requires.switch.moved_is k;
+      draws = draws k;
+      picks = among-both s.ready picked k among;
+      moved = moves k;
       granted = c.granted-granted.ensures k ∙ ap (λ o. is_given round.grants o k) (ask k l);
       routed = refl;
       no_flit = refl;
@@ -31,12 +53,12 @@ returns c =
       lost_input = c.less-3.ensures k;
       lost_switch = c.less-4.ensures k;
     } in
-    let moved : (k : ℕ) → has_bit c.args.moved k ≡ true → k < size_of v.site =
-    λ k is. c.requires.standing.ready_below k (c.requires.switch.among k (member-passes c.args.picked c.args.moved k (is_won_from v round k (view_input v k).phase) (c.requires.switch.moved_is k) is)) in
+    let moved_below : (k : ℕ) → has_bit moved k ≡ true → k < size_of v.site =
+    λ k is. c.requires.standing.ready_below k (among k (member-passes picked moved k (is_won_from v round k (view_input v k).phase) (moves k) is)) in
     let granted : (k : ℕ) → has_bit c.granted-granted.result k ≡ true → k < size_of v.site =
-    λ k is. let l : k < length r.asks = given-below round.grants r.asks k (sym (c.granted-granted.ensures k) ∙ is) in omega (arith, r.an_ask_each, c.requires.size) in
+    λ k is. let l : k < length r.channels.asks = given-below round.grants r.channels.asks k (sym (c.granted-granted.ensures k) ∙ is) in omega (arith, r.an_ask_each, c.requires.requests.of_router.size) in
     record {
-      verdicts = λ k l. verdict-on v round s c.asking-asking.result c.args.picked _ k l c.requires.standing (are k l);
-      events = λ k e. event-below _ k (size_of v.site) (moved k) (granted k) (c.requires.standing.heads_below k) e;
-      apart = λ k l. apart-on v round s c.asking-asking.result c.args.picked _ k l c.requires.standing (are k l);
+      verdicts = λ k l. verdict-on v round s c.asking-asking.result picked _ k l c.requires.standing (are k l);
+      events = λ k e. event-below _ k (size_of v.site) (moved_below k) (granted k) (c.requires.standing.heads_below k) e;
+      apart = λ k l. apart-on v round s c.asking-asking.result picked _ k l c.requires.standing (are k l);
     }
