@@ -23,7 +23,7 @@ use Rattle.noc_faults.specs.declared.status.Status.{Status}
 use Rattle.noc_answers.specs.Answer.{Asks, AsksFor, a_report, findings, traces, accepted, ranks}
 use Rattle.noc_answers.specs.Drain.{RunsTo}
 use Rattle.noc_answers.specs.Formula.{HasRanks}
-use Rattle.noc_answers.specs.Reports.{report_text}
+use Rattle.noc_files.specs.Reports.{report_text}
 use Rattle.noc_answers.specs.Run.{AsksForRun, IsNetworkOf, cycles_asked, ending, runs_until_out, report_of}
 use Rattle.noc_answers.proofs.OneSettingsLemmas.{one_relation_asked}
 use Rattle.noc_answers.proofs.DrainLemmas.{ends-once}

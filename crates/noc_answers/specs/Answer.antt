@@ -30,7 +30,7 @@ use Rattle.noc_faults.specs.declared.fault.Fault.TheVariants as fault
 use Rattle.noc_faults.specs.declared.fault.OptionFault.{OptionFault}
 use Rattle.noc_answers.specs.Check.{AsksForChecked, RanksFault, checked_ranks}
 use Rattle.noc_answers.specs.Formula.{HasRanks, IsFormulaFault}
-use Rattle.noc_answers.specs.Reports.{report_text}
+use Rattle.noc_files.specs.Reports.{report_text}
 use Rattle.noc_answers.specs.Run.{AsksForRun, IsNetworkOf, PacketsFault, ending, report_of}
 
 -- ---- the texts of a request

@@ -10,7 +10,7 @@ ghost use Rattle.noc_commands.specs.Workers.{workers_of};
 ghost use Rattle.noc_commands.specs.declared.report.Report.{Report as ReportValue};
 ghost use Rattle.noc_answers.specs.Answer.{IsAnswered, TextsFault};
 ghost use Rattle.noc_answers.specs.Drain.{RunsTo};
-ghost use Rattle.noc_answers.specs.Reports.{report_text};
+ghost use Rattle.noc_files.specs.Reports.{report_text};
 ghost use Rattle.noc_answers.specs.Run.{AsksForRun, IsNetworkOf, PacketsFault, ending, runs_until_out, report_of};
 ghost use Rattle.noc_tiles.specs.declared.limits.TheConstants.{MAX_WORKERS};
 
@@ -20,10 +20,7 @@ use crate::request::{Bytes, Files};
 use crate::settings::relation_of;
 use noc_commands::Report;
 use noc_faults::{Fault, Status};
-use noc_files::{
-    InputFault, MAX_CYCLES, Sink, WriteFault, read_traffic, write_latency, write_stalls,
-    write_summary,
-};
+use noc_files::{InputFault, MAX_CYCLES, Sink, read_traffic, write_report};
 use noc_net::Network;
 use noc_packet::{MAX_BUFFER, Packet};
 use noc_route::Relation;
@@ -134,15 +131,4 @@ fn packets_in(alloc: Global, text: Bytes<'_>) -> Result<Vec<Packet>, InputFault>
     ensures { Gives (λ v. v.items) result (read_by traffic_of (lent_text text.entry)) }
 {
     read_traffic(alloc, text?)
-}
-
-// Writes a report of a network.
-fn write_report<W: Sink>(network: &Network, report: Report, sink: &mut W) -> Result<(), WriteFault>
-    ensures { Wrote W.contents W.has_failed sink.old sink.new (report_text report network.now) result }
-{
-    match report {
-        Report::Summary => write_summary(network, sink),
-        Report::Latency => write_latency(network, sink),
-        Report::Stalls => write_stalls(network, sink),
-    }
 }

@@ -1,14 +1,15 @@
 -- Texts and sums over the numbers below a count.
-use Rattle.std.proofs.Common.{◌≡◌, ℕ, zero, suc, ◌+◌, ◌-◌, ◌<◌, Bool, List, [], ◌∷◌, ◌++◌, flat_map, Option, Some, None, Result, Ok, Err, refl, sym, ap, ◌∙◌, arith, append_assoc, append-nil, zero-add, add-zero, sum}
+use Rattle.std.proofs.Common.{◌≡◌, ℕ, zero, suc, ◌+◌, ◌-◌, ◌<◌, Bool, List, [], ◌∷◌, ◌++◌, flat_map, Option, Some, None, Result, Ok, Err, refl, sym, ap, ◌∙◌, arith, append_assoc, append-nil, zero-add, add-zero, sum, length, length-append, subst}
 use Rattle.std.proofs.lemmas.Grind.{flat_map-append}
 use Rattle.std.proofs.lemmas.List.Elements.{filter_map-append}
 use Rattle.std.proofs.lemmas.List.Sums.{sum_by-append}
-use Rattle.std.proofs.KnownBytes.{Appends-nil}
+use Rattle.std.proofs.KnownBytes.{Appends-trans}
+use Rattle.std.specs.Io.KnownBytes.{Appends}
 use Rattle.std.specs.List.{cons_option, filter_map, range_with_len}
 use Rattle.noc_topo.specs.Words.{below}
 use Rattle.noc_files.specs.declared.writing.WriteFault.{WriteFault}
-use Rattle.noc_files.specs.Writing.{Puts}
-use Rattle.noc_files.proofs.SinkLemmas.{puts_front, puts_then}
+use Rattle.noc_files.specs.Writing.{Wrote}
+use Rattle.noc_files.proofs.SinkLemmas.{fault_within}
 
 range_split : (a m n : ℕ) → range_with_len a (m + n) ≡ range_with_len a m ++ range_with_len (a + m) n
 range_split a zero n = rw (zero-add n, add-zero a)
@@ -80,17 +81,25 @@ pub sum_none : (f : ℕ → List ℕ) → 0 ≡ sum (flat_map f (below 0))
 unfolding below
 sum_none f = refl
 
-module _ {S : Type 0} (contents : S → Option (List ℕ)) (failed : S → Bool) (f : ℕ → List ℕ) where
-  -- one number more
-  pub puts_number : (n before w : ℕ) (a m b : S) (r : Result ℕ WriteFault) → Puts contents failed a m before (flat_map f (below n)) (Ok w) → Puts contents failed m b w (f n) r → Puts contents failed a b before (flat_map f (below (n + 1))) r
-  puts_number n before w a m b r first next = rw (each_more f n) (puts_then contents failed a m b before w (flat_map f (below n)) (f n) r first next)
+-- ---- what a sink took of what is said of each number, below a header
 
-  -- a fault at one of the numbers is a fault of them all
-  pub fault_at_number : (n count before w : ℕ) (a m b : S) (e : WriteFault) → n < count → Puts contents failed a m before (flat_map f (below n)) (Ok w) → Puts contents failed m b w (f n) (Err e) → Puts contents failed a b before (flat_map f (below count)) (Err e)
-  fault_at_number n count before w a m b e h first next =
-      let both = puts_then contents failed a m b before w (flat_map f (below n)) (f n) (Err e) first next in
-      rw (each_split f n count h) (puts_front contents failed a b before (flat_map f (below n) ++ f n) (flat_map f (later n count)) e both)
+module _ (f : ℕ → List ℕ) (head : List ℕ) where
+  parts : (a b c d : List ℕ) → a ++ ((b ++ c) ++ d) ≡ ((a ++ b) ++ c) ++ d
+  parts a b c d = simp append_assoc
 
-  pub puts_no_number : (before : ℕ) (a : S) → Puts contents failed a a before (flat_map f (below 0)) (Ok before)
-  unfolding below
-  puts_no_number before a = (omega arith, Appends-nil (contents a))
+  text_more : (n : ℕ) → (head ++ flat_map f (below n)) ++ f n ≡ head ++ flat_map f (below (n + 1))
+  text_more n = append_assoc head (flat_map f (below n)) (f n) ∙ ap (λ (t : List ℕ). head ++ t) (sym (each_more f n))
+
+  pub long_more : (n written more : ℕ) → written ≡ length (head ++ flat_map f (below n)) → more ≡ length (f n) → written + more ≡ length (head ++ flat_map f (below (n + 1)))
+  long_more n written more so_far next = omega (arith, so_far, next, length-append (head ++ flat_map f (below n)) (f n), ap length (text_more n))
+
+  module _ {S : Type 0} (contents : S → Option (List ℕ)) (failed : S → Bool) where
+    pub took_more : (n : ℕ) (a m b : S) → Appends (contents a) (contents m) (head ++ flat_map f (below n)) → Appends (contents m) (contents b) (f n) → Appends (contents a) (contents b) (head ++ flat_map f (below (n + 1)))
+    took_more n a m b first next = subst (Appends (contents a) (contents b)) (text_more n) (Appends-trans (contents a) (contents m) (contents b) (head ++ flat_map f (below n)) (f n) first next)
+
+    -- a fault at one of the numbers
+    pub fault_at_number : (n count written : ℕ) (a m b : S) (e g : WriteFault) → n < count → Appends (contents a) (contents m) (head ++ flat_map f (below n)) → written ≡ length (head ++ flat_map f (below n))
+        → Wrote contents failed m b (f n) (Err e) → g.written ≡ written + e.written → Wrote contents failed a b (head ++ flat_map f (below count)) (Err g)
+    fault_at_number n count written a m b e g inside first so_far next is =
+        fault_within contents failed a m b (head ++ flat_map f (below n)) (f n) (flat_map f (later n count)) (head ++ flat_map f (below count)) e g
+        (ap (λ (t : List ℕ). head ++ t) (each_split f n count inside) ∙ parts head (flat_map f (below n)) (f n) (flat_map f (later n count))) first next (omega (arith, so_far, is))

@@ -1,8 +1,9 @@
 -- Texts that are put together on a page.
-use Rattle.std.proofs.Common.{◌≡◌, ◌∙◌, ℕ, ◌+◌, ◌/◌, ◌%◌, ◌^◌, ◌<◌, ◌≤◌, List, arith, decimal, [], ◌∷◌, ◌++◌, flat_map, ap, sym, append_assoc, append-nil}
+use Rattle.std.proofs.Common.{◌≡◌, ◌∙◌, ℕ, ◌+◌, ◌/◌, ◌%◌, ◌^◌, ◌<◌, ◌≤◌, List, arith, decimal, [], ◌∷◌, ◌++◌, flat_map, ap, sym, append_assoc, append-nil, Option, Some, None, refl}
 use Rattle.std.proofs.lemmas.Fmt.{decimal_digit, decimal_step}
 use Rattle.noc_topo.specs.Words.{below}
-use Rattle.noc_files.specs.Writing.{text_of_pieces}
+use Rattle.noc_topo.specs.Shape.{Grid}
+use Rattle.noc_files.specs.Channels.{lines_listed, lines_of_router, page_router, router_pages}
 use Rattle.noc_files.proofs.BelowLemmas.{each_more}
 
 module _ (f : ℕ → List ℕ) (old : List ℕ) where
@@ -16,15 +17,12 @@ module _ (f : ℕ → List ℕ) (old : List ℕ) where
   added_more n page next so_far more =
       more ∙ ap (λ (t : List ℕ). t ++ f n) so_far ∙ append_assoc old (flat_map f (below n)) (f n) ∙ ap (λ (t : List ℕ). old ++ t) (sym (each_more f n))
 
--- pieces that are added one after another
-pub three_pieces : (old a b c : List ℕ) → old ++ a ++ b ++ c ≡ old ++ text_of_pieces (a ∷ b ∷ c ∷ [])
-three_pieces old a b c = simp (append_assoc, append-nil)
-
-pub four_pieces : (old a b c d : List ℕ) → old ++ a ++ b ++ c ++ d ≡ old ++ text_of_pieces (a ∷ b ∷ c ∷ d ∷ [])
-four_pieces old a b c d = simp (append_assoc, append-nil)
-
-pub eight_pieces : (old a b c d e f g h : List ℕ) → old ++ a ++ b ++ c ++ d ++ e ++ f ++ g ++ h ≡ old ++ text_of_pieces (a ∷ b ∷ c ∷ d ∷ e ∷ f ∷ g ∷ h ∷ [])
-eight_pieces old a b c d e f g h = simp (append_assoc, append-nil)
+-- a page for each router
+pub listing_is : (g : Grid) (listed vcs : ℕ) (router : Option ℕ) (said : ℕ → ℕ → ℕ → List ℕ)
+    → flat_map (λ n. lines_of_router g listed vcs (page_router router n) (said (page_router router n))) (below (router_pages g router)) ≡ lines_listed g listed vcs router said
+unfolding below
+listing_is g listed vcs None said = refl
+listing_is g listed vcs (Some r) said = append-nil (lines_of_router g listed vcs r (said r))
 
 -- ---- digits
 

@@ -11,20 +11,20 @@ use Rattle.noc_topo.specs.Words.{below}
 use Rattle.noc_files.specs.Channels.{lines_of_port, lines_of_router, lines_of_routers}
 use Rattle.noc_files.specs.Ports.{name_of_port}
 use Rattle.noc_files.specs.Ranks.{port_rows, rank_line, rank_row, rank_rows, rank_text, router_rows}
-use Rattle.noc_files.specs.Writing.{comma, text_of_pieces, line_end}
+use Rattle.noc_files.specs.Writing.{comma, line_end}
 use Rattle.noc_files.proofs.BelowLemmas.{each_same}
 
 pub nested : {X Y Z : Type 0} (f : Y → List Z) (h : X → List Y) (xs : List X) → flat_map f (flat_map h xs) ≡ flat_map (λ x. flat_map f (h x)) xs
 nested f h [] = refl
 nested {Z = Z} f h (x ∷ xs) = flat_map-append f (h x) (flat_map h xs) ∙ ap (λ (t : List Z). flat_map f (h x) ++ t) (nested f h xs)
 
-pieces_of_row : (a b v k c e : List ℕ) → (a ++ ((c ++ b) ++ ((c ++ v) ++ ((c ++ k) ++ [])))) ++ e ≡ a ++ (c ++ (b ++ (c ++ (v ++ (c ++ (k ++ (e ++ [])))))))
-pieces_of_row a b v k c e = simp (append_assoc, append-nil)
+pieces_of_row : (page a b v k c e : List ℕ) → page ++ a ++ c ++ b ++ c ++ v ++ c ++ k ++ e ≡ page ++ ((a ++ ((c ++ b) ++ ((c ++ v) ++ ((c ++ k) ++ [])))) ++ e)
+pieces_of_row page a b v k c e = simp (append_assoc, append-nil)
 
--- the pieces of a line
-pub line_is : (g : Grid) (r : RankRow) → rank_line g r ≡ text_of_pieces (decimal r.router ∷ comma ∷ name_of_port g r.port ∷ comma ∷ decimal r.vc ∷ comma ∷ rank_text r.rank ∷ line_end ∷ [])
+-- a line that is added piece by piece
+pub line_is : (page : List ℕ) (g : Grid) (r : RankRow) → page ++ decimal r.router ++ comma ++ name_of_port g r.port ++ comma ++ decimal r.vc ++ comma ++ rank_text r.rank ++ line_end ≡ page ++ rank_line g r
 unfolding rank_line
-line_is g r = pieces_of_row (decimal r.router) (name_of_port g r.port) (decimal r.vc) (rank_text r.rank) comma line_end
+line_is page g r = pieces_of_row page (decimal r.router) (name_of_port g r.port) (decimal r.vc) (rank_text r.rank) comma line_end
 
 -- the lines of a port
 port_lines : (k : Ranking) (router port : ℕ) → port < local_port k.grid

@@ -1,5 +1,5 @@
 -- The input channels of a network, in the order of its reports.
-use Rattle.std.specs.Prelude.{◌≡◌, ℕ, ◌+◌, ◌*◌, ◌<◌, ◌==◌, Bool, ◌||◌, List, [], Some, is_some, slice_get, if◌then◌else◌}
+use Rattle.std.specs.Prelude.{◌≡◌, ℕ, ◌+◌, ◌*◌, ◌<◌, ◌==◌, Bool, ◌||◌, List, [], Option, Some, None, is_some, slice_get, unwrap_or, if◌then◌else◌}
 use Rattle.std.specs.List.{flat_map}
 use Rattle.noc_topo.specs.Shape.{Grid, local_port, neighbour, nodes, ports}
 use Rattle.noc_topo.specs.Words.{below}
@@ -26,6 +26,19 @@ module _ {X : Type 0} (g : Grid) where
   -- what is said of the input channels of all routers, router by router
   abbrev pub lines_of_routers : ℕ → ℕ → (ℕ → ℕ → ℕ → List X) → List X
   lines_of_routers listed vcs said = flat_map (λ router. lines_of_router listed vcs router (said router)) (below (nodes g))
+
+  -- what is said of those of one router or of all
+  abbrev pub lines_listed : ℕ → ℕ → Option ℕ → (ℕ → ℕ → ℕ → List X) → List X
+  lines_listed listed vcs None said = lines_of_routers listed vcs said
+  lines_listed listed vcs (Some router) said = lines_of_router listed vcs router (said router)
+
+-- how many pages they take, one for each router, and the router of a page
+abbrev pub router_pages : Grid → Option ℕ → ℕ
+router_pages g None = nodes g
+router_pages g (Some router) = 1
+
+abbrev pub page_router : Option ℕ → ℕ → ℕ
+page_router router page = unwrap_or router page
 
 -- what is said of the input channels of an input port, of a router and of all routers of a relation
 abbrev pub over_port : {X : Type 0} → Routes → ℕ → (ℕ → ℕ → List X) → ℕ → List X

@@ -7,6 +7,7 @@ pub mod Joined
 pub mod Source
 pub mod Writing
 pub mod Latency
+pub mod Reports
 pub mod Ports
 pub mod Stalls
 pub mod Summary

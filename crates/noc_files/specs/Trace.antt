@@ -13,7 +13,7 @@ use Rattle.noc_router.specs.declared.verdict.Verdict.{Verdict}
 use Rattle.noc_router.specs.declared.verdict.Verdict.TheVariants.{Empty, Granted, LostChannel, NoIdleChannel}
 use Rattle.noc_net.specs.Network.{Run, Setup, size}
 use Rattle.noc_net.specs.Lockstep.{findings_before, findings_in_cycle}
-use Rattle.noc_files.specs.Channels.{over_router, over_routers}
+use Rattle.noc_files.specs.Channels.{lines_listed}
 use Rattle.noc_files.specs.Findings.{out_name, verdict_text}
 use Rattle.noc_files.specs.Ports.{name_of_port}
 use Rattle.noc_files.specs.Writing.{comma, text_of_pieces, line_end}
@@ -124,8 +124,7 @@ line_if_new net n r port vc before now = if is_same before now then [] else trac
 
 -- what is said of the channels of one router or of all
 abbrev pub over_traced : Routes → Option ℕ → (ℕ → ℕ → ℕ → List ℕ) → List ℕ
-over_traced relation None said = over_routers relation said
-over_traced relation (Some r) said = over_router relation r (said r)
+over_traced relation router said = lines_listed relation.grid (ports relation.grid) relation.vcs router said
 
 -- the line of an input channel in cycle n of a trace that begins with cycle `first`, if it has one
 abbrev pub traced_line : Setup → Traced → ℕ → ℕ → ℕ → ℕ → ℕ → List ℕ

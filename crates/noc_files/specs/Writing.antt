@@ -1,19 +1,23 @@
 -- What a sink took of a text, and the small texts of which reports are made.
-use Rattle.std.specs.Prelude.{◌≡◌, ℕ, ◌+◌, ◌<◌, Bool, true, List, length, take, codes, decimal, Option, Some, None, Result, Ok, Err}
+use Rattle.std.specs.Prelude.{◌≡◌, ℕ, ◌<◌, Bool, true, List, length, take, codes, decimal, Option, Some, None, Result, Ok, Err}
 use Rattle.std.specs.Io.KnownBytes.{Appends}
 use Rattle.std.specs.List.{flat_map}
 use Rattle.noc_files.specs.declared.writing.WriteFault.{WriteFault}
-
--- A sink was given a piece of a text of which `before` bytes were taken. It took all of it, and n bytes are taken now,
--- or it took a front of it, failed, and the fault says how many bytes of the text are taken.
-abbrev pub Puts : {S : Type 0} → (S → Option (List ℕ)) → (S → Bool) → S → S → ℕ → List ℕ → Result ℕ WriteFault → Type 0
-Puts contents failed old new before piece (Ok n) = (n ≡ before + length piece) × Appends (contents old) (contents new) piece
-Puts contents failed old new before piece (Err f) = (k : ℕ) × (k < length piece) × (f.written ≡ before + k) × Appends (contents old) (contents new) (take k piece) × (failed new ≡ true)
 
 -- a sink took all of a text, or failed after just the bytes that the fault counts
 abbrev pub Wrote : {S : Type 0} → (S → Option (List ℕ)) → (S → Bool) → S → S → List ℕ → Result (Unit {0}) WriteFault → Type 0
 Wrote contents failed old new text (Ok _) = Appends (contents old) (contents new) text
 Wrote contents failed old new text (Err f) = (f.written < length text) × Appends (contents old) (contents new) (take f.written text) × (failed new ≡ true)
+
+-- the same, where the bytes of the whole text are counted too
+abbrev pub Puts : {S : Type 0} → (S → Option (List ℕ)) → (S → Bool) → S → S → List ℕ → Result ℕ WriteFault → Type 0
+Puts contents failed old new text (Ok n) = (n ≡ length text) × Wrote contents failed old new text (Ok tt)
+Puts contents failed old new text (Err f) = Wrote contents failed old new text (Err f)
+
+-- how many bytes a sink took
+abbrev pub taken : Result ℕ WriteFault → ℕ
+taken (Ok n) = n
+taken (Err f) = f.written
 
 -- pieces one after the other
 abbrev pub text_of_pieces : List (List ℕ) → List ℕ

@@ -6,12 +6,14 @@ ghost use Rattle.noc_topo.specs.Shape.{nodes, ports};
 ghost use Rattle.noc_files.specs.Channels.{AreInputs};
 ghost use Rattle.noc_files.specs.Findings.{finding_header, finding_line, findings_text, found_line, out_name, verdict_word};
 ghost use Rattle.noc_files.specs.Word.{AreWords};
-ghost use Rattle.noc_files.specs.Writing.{Wrote, dash_or};
+ghost use Rattle.noc_files.specs.Writing.{Wrote};
 ghost use Rattle.noc_packet.specs.declared.limits.TheConstants.{MAX_CHANNELS};
+ghost use Rattle.noc_files.specs.declared.listing.TheConstants.{LONGEST_LINE};
 ghost use Rattle.noc_files.specs.declared.page.TheConstants.{PAGE};
+ghost use Rattle.noc_files.specs.declared.word.TheConstants.{WORD};
 
 use crate::inputs::{Inputs, inputs_of};
-use crate::listing::{Lines, write_router};
+use crate::listing::{Lines, write_lines};
 use crate::page::Page;
 use crate::ports::port_name;
 use crate::sink::Sink;
@@ -24,9 +26,9 @@ use noc_topo::Shape;
 
 // Adds an output channel.
 pub(crate) fn add_out(shape: &Shape, port: usize, vc: usize, page: &mut Page)
-    requires room { length page.old + 26 ≤ PAGE }
+    requires room { length page.old + WORD ≤ PAGE }
     ensures added { page.new ≡ page.old ++ out_name shape.now (Some (port, vc)) }
-    ensures short { length page.new ≤ length page.old + 26 }
+    ensures short { length page.new ≤ length page.old + WORD }
 {
     page.add(port_name(shape, port).unwrap_or("-"));
     page.add_byte(b'.');
@@ -36,7 +38,7 @@ pub(crate) fn add_out(shape: &Shape, port: usize, vc: usize, page: &mut Page)
 // The name of a verdict.
 pub(crate) fn verdict_name(verdict: Verdict) -> &'static str
     ensures text { result.now ≡ verdict_word verdict }
-    ensures short { length result.now ≤ 13 }
+    ensures short { length result.now < WORD }
 {
     match verdict {
         Verdict::Empty => "Empty",
@@ -52,19 +54,6 @@ pub(crate) fn verdict_name(verdict: Verdict) -> &'static str
     }
 }
 
-// Adds the number of a packet, or a dash where there is none.
-#[inline]
-pub(crate) fn add_packet(packet: Option<u32>, page: &mut Page)
-    requires room { length page.old + 20 ≤ PAGE }
-    ensures added { page.new ≡ page.old ++ dash_or packet }
-    ensures short { length page.new ≤ length page.old + 20 }
-{
-    match packet {
-        Some(number) => page.add_number(u64::from(number)),
-        None => page.add_byte(b'-'),
-    }
-}
-
 // Adds the line of an input channel.
 fn add_finding(
     relation: &Relation,
@@ -77,9 +66,9 @@ fn add_finding(
     requires words { AreWords relation.now words.now }
     requires port { port < ports relation.now.grid }
     requires vc { vc < MAX_CHANNELS }
-    requires room { length page.old + 118 ≤ PAGE }
+    requires room { length page.old + LONGEST_LINE ≤ PAGE }
     ensures added { page.new ≡ page.old ++ finding_line relation.now.grid port vc finding.now }
-    ensures short { length page.new ≤ length page.old + 118 }
+    ensures short { length page.new ≤ length page.old + LONGEST_LINE }
 {
     words.add_verdict(relation, port, vc, finding, page);
     words.add_out(relation, finding.out, page);
@@ -149,7 +138,7 @@ pub fn write_findings<W: Sink>(
         inputs: inputs_of(relation.shape()),
         words: Words::of(relation),
     };
-    write_router("port,vc,verdict,packet,out\n", &found, router, sink)
+    write_lines("port,vc,verdict,packet,out\n", &found, Some(router), sink)
 }
 
 /// Before its first cycle a network has found nothing, and the report of each router is the header alone.

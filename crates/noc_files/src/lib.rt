@@ -9,8 +9,10 @@ mod joined;
 mod latency;
 mod listing;
 mod page;
+mod pages;
 mod ports;
 mod ranks;
+mod reports;
 mod rows;
 mod sheet;
 mod sink;
@@ -37,6 +39,7 @@ pub use ranks::{
     rank_file_is_header_and_rows, rank_file_is_refused_with_its_first_fault, read_ranks,
     write_ranks, written_ranks_are_read_back,
 };
+pub use reports::write_report;
 pub use rows::{plain_rows_are_read_back, rows_are_records};
 pub use sink::{Out, Sink};
 pub use source::read_all;

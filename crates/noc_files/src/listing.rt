@@ -1,29 +1,26 @@
 //! Lines on channels: router by router, port by port and channel by channel.
 
-ghost use Rattle.std.specs.Prelude.{◌≡◌, ◌+◌, ◌^◌, ◌<◌, ◌≤◌, ◌++◌, [], true, ℕ, List, length, IfOk};
+ghost use Rattle.std.specs.Prelude.{◌≡◌, ◌+◌, ◌<◌, ◌≤◌, ◌++◌, [], true, ℕ, List, Option, length, IfSome};
+ghost use Rattle.std.proofs.Props.{props};
 ghost use Rattle.std.specs.List.{flat_map};
 ghost use Rattle.noc_topo.specs.Shape.{Grid, nodes, ports};
 ghost use Rattle.noc_topo.specs.Words.{below};
-ghost use Rattle.noc_files.specs.Channels.{AreInputs, is_input, lines_of_port, lines_of_router, lines_of_routers};
-ghost use Rattle.noc_files.specs.Writing.{Puts, Wrote};
-ghost use Rattle.noc_files.specs.declared.listing.TheConstants.{LONGEST_LINE, LONGEST_PORT, LONGEST_ROUTER};
-ghost use Rattle.noc_files.specs.declared.page.TheConstants.{PAGE};
+ghost use Rattle.noc_files.specs.Channels.{AreInputs, is_input, lines_listed, lines_of_port, lines_of_router, page_router, router_pages};
+ghost use Rattle.noc_files.specs.Writing.{Wrote};
+ghost use Rattle.noc_files.specs.declared.listing.TheConstants.{LONGEST_LINE, LONGEST_PORT};
 
 use crate::inputs::{Inputs, has_input};
-use crate::page::Page;
+use crate::page::{PAGE, Page};
+use crate::pages::{Pages, write_pages};
 use crate::sink::Sink;
-use crate::writing::{WriteFault, put_all};
-use noc_packet::{MAX_CHANNELS, MAX_NODES, MAX_PORTS};
+use crate::writing::WriteFault;
+use noc_packet::{INDICES, MAX_CHANNELS, MAX_PORTS};
 use noc_topo::Shape;
 
-// The most bytes of the line on a channel, and of the lines on a port, a router and all routers.
-pub(crate) const LONGEST_LINE: u64 = 2048;
+// The most bytes of the line on a channel, and of the lines on a port. Those on a router fit a page.
+pub(crate) const LONGEST_LINE: usize = PAGE / INDICES;
 
-const LONGEST_PORT: u64 = LONGEST_LINE * MAX_CHANNELS as u64;
-
-pub(crate) const LONGEST_ROUTER: u64 = LONGEST_PORT * MAX_PORTS as u64;
-
-pub(crate) const LONGEST_LISTING: u64 = LONGEST_ROUTER * MAX_NODES as u64;
+const LONGEST_PORT: usize = LONGEST_LINE * MAX_CHANNELS;
 
 // Some lines on each of the channels of a shape.
 pub(crate) trait Lines {
@@ -103,10 +100,9 @@ fn add_port<L: Lines>(lines: &L, router: usize, port: usize, page: &mut Page)
 }
 
 // Fills a page with the lines on a router.
-fn fill<L: Lines>(lines: &L, router: usize, page: &mut Page)
+fn fill_router<L: Lines>(lines: &L, router: usize, page: &mut Page)
     requires { router < nodes (L.grid lines.now) }
-    ensures said { page.new ≡ lines_of_router (L.grid lines.now) (L.listed lines.now) (L.vcs lines.now) router (L.said lines.now router) }
-    ensures short { length page.new ≤ LONGEST_ROUTER }
+    ensures { page.new ≡ lines_of_router (L.grid lines.now) (L.listed lines.now) (L.vcs lines.now) router (L.said lines.now router) }
 {
     page.clear();
     if lines.is_silent(router) {
@@ -117,69 +113,40 @@ fn fill<L: Lines>(lines: &L, router: usize, page: &mut Page)
     }
 }
 
-// Puts the lines on a router.
-pub(crate) fn put_router<L: Lines, W: Sink>(
-    lines: &L,
-    router: usize,
-    page: &mut Page,
-    sink: &mut W,
-    before: u64,
-) -> Result<u64, WriteFault>
-    requires router { router < nodes (L.grid lines.now) }
-    requires room { before + LONGEST_ROUTER < 2 ^ 64 }
-    ensures puts { Puts W.contents W.has_failed sink.old sink.new before (lines_of_router (L.grid lines.now) (L.listed lines.now) (L.vcs lines.now) router (L.said lines.now router)) result }
-    ensures short { IfOk result (λ n. n ≤ before + LONGEST_ROUTER) }
-{
-    fill(lines, router, page);
-    put_all(sink, page.text(), before)
+// The lines on one router or on all, a page for each router.
+#[derive(Drop)]
+pub(crate) struct Listing<'a, L: Lines> {
+    pub(crate) lines: &'a L,
+    pub(crate) router: Option<usize>,
+    ghost known: { IfSome router (λ r. r < nodes (L.grid lines.now)) } by { Prim.hlevel props },
 }
 
-// Puts the lines on all routers.
-pub(crate) fn put_routers<L: Lines, W: Sink>(
-    lines: &L,
-    page: &mut Page,
-    sink: &mut W,
-    before: u64,
-) -> Result<u64, WriteFault>
-    requires { before + LONGEST_LISTING < 2 ^ 64 }
-    ensures puts { Puts W.contents W.has_failed sink.old sink.new before (lines_of_routers (L.grid lines.now) (L.listed lines.now) (L.vcs lines.now) (L.said lines.now)) result }
-    ensures short { IfOk result (λ n. n ≤ before + LONGEST_LISTING) }
-{
-    let mut written = before;
-    for router in 0..lines.shape().nodes() {
-        written = put_router(lines, router, page, sink, written)?;
+impl<'a, L: Lines> Pages for Listing<'a, L> {
+    ghost pages = { λ s. router_pages (L.grid s.lines.now) s.router };
+
+    ghost text = { λ s number. lines_of_router (L.grid s.lines.now) (L.listed s.lines.now) (L.vcs s.lines.now) (page_router s.router number) (L.said s.lines.now (page_router s.router number)) };
+
+    fn pages(&self) -> usize {
+        match self.router {
+            Some(_) => 1,
+            None => self.lines.shape().nodes(),
+        }
     }
-    Ok(written)
+
+    fn fill(&self, number: usize, page: &mut Page) {
+        fill_router(self.lines, self.router.unwrap_or(number), page);
+    }
 }
 
-// Writes a header, and below it the lines on a router. It stays a call, so that a report without a page needs no stack for one.
-#[inline(never)]
-pub(crate) fn write_router<L: Lines, W: Sink>(
+// Writes a header, and below it the lines on one router or on all.
+pub(crate) fn write_lines<L: Lines, W: Sink>(
     header: &str,
     lines: &L,
-    router: usize,
+    router: Option<usize>,
     sink: &mut W,
 ) -> Result<(), WriteFault>
-    requires header { length header.now ≤ LONGEST_LINE }
-    requires router { router < nodes (L.grid lines.now) }
-    ensures { Wrote W.contents W.has_failed sink.old sink.new (header.now ++ lines_of_router (L.grid lines.now) (L.listed lines.now) (L.vcs lines.now) router (L.said lines.now router)) result }
+    requires { IfSome router (λ r. r < nodes (L.grid lines.now)) }
+    ensures { Wrote W.contents W.has_failed sink.old sink.new (header.now ++ lines_listed (L.grid lines.now) (L.listed lines.now) (L.vcs lines.now) router (L.said lines.now)) result }
 {
-    let written = put_all(sink, header.as_bytes(), 0)?;
-    put_router(lines, router, &mut Page::new(), sink, written)?;
-    Ok(())
-}
-
-// Writes a header, and below it the lines on all routers. It stays a call, so that a report without a page needs no stack for one.
-#[inline(never)]
-pub(crate) fn write_routers<L: Lines, W: Sink>(
-    header: &str,
-    lines: &L,
-    sink: &mut W,
-) -> Result<(), WriteFault>
-    requires header { length header.now ≤ LONGEST_LINE }
-    ensures { Wrote W.contents W.has_failed sink.old sink.new (header.now ++ lines_of_routers (L.grid lines.now) (L.listed lines.now) (L.vcs lines.now) (L.said lines.now)) result }
-{
-    let written = put_all(sink, header.as_bytes(), 0)?;
-    put_routers(lines, &mut Page::new(), sink, written)?;
-    Ok(())
+    write_pages(header, &Listing { lines, router }, sink)
 }

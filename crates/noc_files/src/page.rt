@@ -1,8 +1,8 @@
 //! The lines on a router, which are put together before they go into a sink.
 
 ghost use Rattle.std.specs.Prelude.{◌≡◌, ◌+◌, ◌<◌, ◌≤◌, ◌++◌, [], ◌∷◌, ℕ, List, decimal, length, take};
-ghost use Rattle.std.specs.List.{flat_map};
 ghost use Rattle.noc_files.specs.Word.{word_text};
+ghost use Rattle.noc_files.specs.Writing.{comma, dash_or};
 ghost use Rattle.noc_files.specs.declared.word.TheConstants.{WORD};
 
 use crate::word::{WORD, Word};
@@ -11,6 +11,11 @@ use std::marker::Model;
 
 /// The most bytes of a page: the lines on all channels of a router.
 pub(crate) const PAGE: usize = 114_688;
+
+/// The most bytes of a number of 64 bits, and of one with a comma behind it.
+pub(crate) const NUMBER: usize = 20;
+
+pub(crate) const COLUMN: usize = NUMBER + 1;
 
 /// Bytes that are put together, as many as there is room for.
 #[derive(Drop)]
@@ -48,7 +53,8 @@ impl Page {
 
     /// The bytes.
     pub(crate) fn text(&self) -> &[u8]
-        ensures { result.now ≡ self.now }
+        ensures value { result.now ≡ self.now }
+        ensures short { length self.now ≤ PAGE }
     {
         &self.bytes[..self.length]
     }
@@ -90,15 +96,39 @@ impl Page {
     /// Adds a number in decimal.
     #[inline(always)]
     pub(crate) fn add_number(&mut self, number: u64)
-        requires { length self.old + 20 ≤ PAGE }
+        requires { length self.old + NUMBER ≤ PAGE }
         ensures added { self.new ≡ self.old ++ decimal number }
-        ensures short { length self.new ≤ length self.old + 20 }
+        ensures short { length self.new ≤ length self.old + NUMBER }
     {
         if number < 100_000 {
             self.add_five(number as u32);
         } else {
             let mut digits = Buffer::new();
             self.add(digits.format(number));
+        }
+    }
+
+    /// Adds a number in decimal, and a comma behind it.
+    #[inline(always)]
+    pub(crate) fn add_column(&mut self, number: u64)
+        requires { length self.old + COLUMN ≤ PAGE }
+        ensures added { self.new ≡ self.old ++ decimal number ++ comma }
+        ensures short { length self.new ≤ length self.old + COLUMN }
+    {
+        self.add_number(number);
+        self.add_byte(b',');
+    }
+
+    /// Adds a number in decimal, or a dash where there is none.
+    #[inline(always)]
+    pub(crate) fn add_or_dash(&mut self, number: Option<u64>)
+        requires { length self.old + NUMBER ≤ PAGE }
+        ensures added { self.new ≡ self.old ++ dash_or number }
+        ensures short { length self.new ≤ length self.old + NUMBER }
+    {
+        match number {
+            Some(number) => self.add_number(number),
+            None => self.add_byte(b'-'),
         }
     }
 
@@ -174,17 +204,6 @@ impl Page {
         } else {
             self.add_four(number / 10);
             self.add_digit(number % 10);
-        }
-    }
-
-    /// Adds the pieces of a line, one after the other.
-    #[inline(always)]
-    pub(crate) fn add_all(&mut self, pieces: &[&str])
-        requires { length self.old + length (flat_map (λ p. p.now) pieces.now) ≤ PAGE }
-        ensures { self.new ≡ self.old ++ flat_map (λ p. p.now) pieces.now }
-    {
-        for piece in pieces {
-            self.add(piece);
         }
     }
 }

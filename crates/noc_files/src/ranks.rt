@@ -15,19 +15,19 @@ ghost use Rattle.noc_files.specs.Gives.{Gives};
 ghost use Rattle.noc_files.specs.Plain.{row_line};
 ghost use Rattle.noc_files.specs.Ranks.{rank_header, rank_field, rank_line, rank_of, rank_row, rank_row_of, rank_rows, rank_text, ranks_of, ranks_text, port_rows, router_rows, IsRankFile, IsRankFileFault, ListsRanks};
 ghost use Rattle.noc_files.specs.Writing.{Wrote};
+ghost use Rattle.noc_files.specs.declared.listing.TheConstants.{LONGEST_LINE};
 ghost use Rattle.noc_files.specs.declared.page.TheConstants.{PAGE};
 
 use crate::fault::InputFault;
 use crate::inputs::{Inputs, inputs_of};
-use crate::listing::{Lines, write_routers};
-use crate::page::Page;
+use crate::listing::{Lines, write_lines};
+use crate::page::{NUMBER, Page};
 use crate::ports::known_name;
 use crate::rows::{number, number_in, port_in};
 use crate::sheet::read_sheet;
 use crate::sink::Sink;
 use crate::writing::WriteFault;
 use csv::ByteRecord;
-use itoa::Buffer;
 use noc_packet::MAX_CHANNELS;
 use noc_rank::{RankRow, Ranks};
 use noc_topo::Shape;
@@ -109,37 +109,31 @@ pub fn written_ranks_are_read_back()
     ensures { (k : Ranking) → IsRanking k → k.vcs ≤ MAX_CHANNELS → (ranks_of k.grid (ranks_text k) ≡ Ok (rank_rows k)) × ListsRanks k (rank_rows k) }
 {}
 
-// A rank, or the word where there is none.
-fn shown_rank(buffer: &mut Buffer, rank: Option<usize>) -> &str
-    ensures text { result.now ≡ rank_text rank }
-    ensures short { length result.now ≤ 20 }
+// Adds a rank, or the word where there is none.
+fn add_rank(rank: Option<usize>, page: &mut Page)
+    requires room { length page.old + NUMBER ≤ PAGE }
+    ensures added { page.new ≡ page.old ++ rank_text rank }
+    ensures short { length page.new ≤ length page.old + NUMBER }
 {
     match rank {
-        Some(rank) => buffer.format(rank),
-        None => ADAPTIVE,
+        Some(rank) => page.add_number(rank as u64),
+        None => page.add(ADAPTIVE),
     }
 }
 
 // Adds the line of a row, whose port the shape has.
 fn add_row(shape: &Shape, row: &RankRow, page: &mut Page)
     requires port { row.now.port < local_port shape.now }
-    requires room { length page.old + 69 ≤ PAGE }
+    requires room { length page.old + LONGEST_LINE ≤ PAGE }
     ensures added { page.new ≡ page.old ++ rank_line shape.now row.now }
-    ensures short { length page.new ≤ length page.old + 69 }
+    ensures short { length page.new ≤ length page.old + LONGEST_LINE }
 {
-    let mut router = Buffer::new();
-    let mut vc = Buffer::new();
-    let mut rank = Buffer::new();
-    page.add_all(&[
-        router.format(row.router),
-        ",",
-        known_name(shape, row.port),
-        ",",
-        vc.format(row.vc),
-        ",",
-        shown_rank(&mut rank, row.rank),
-        "\n",
-    ]);
+    page.add_column(row.router as u64);
+    page.add(known_name(shape, row.port));
+    page.add_byte(b',');
+    page.add_column(row.vc as u64);
+    add_rank(row.rank, page);
+    page.add_byte(b'\n');
 }
 
 // Some ranks with their shape and how many channels each link has.
@@ -215,5 +209,5 @@ pub fn write_ranks<W: Sink>(
         vcs,
         inputs: inputs_of(shape),
     };
-    write_routers("router,port,vc,rank\n", &listed, sink)
+    write_lines("router,port,vc,rank\n", &listed, None, sink)
 }

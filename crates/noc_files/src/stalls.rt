@@ -5,52 +5,34 @@ ghost use Rattle.std.specs.List.{flat_map};
 ghost use Rattle.noc_topo.specs.Shape.{ports};
 ghost use Rattle.noc_net.specs.Network.{Run as RunValue};
 ghost use Rattle.noc_files.specs.Channels.{AreInputs};
-ghost use Rattle.noc_files.specs.Stalls.{channel_counts, channel_line, count_text, place_text, stalls_text};
+ghost use Rattle.noc_files.specs.Stalls.{channel_counts, channel_line, count_text, stalls_text};
 ghost use Rattle.noc_files.specs.Writing.{Wrote};
 ghost use Rattle.noc_files.specs.declared.page.TheConstants.{PAGE};
+ghost use Rattle.noc_files.specs.declared.stalls.TheConstants.{COUNTS};
 
 use crate::inputs::{Inputs, inputs_of};
-use crate::listing::{Lines, write_routers};
-use crate::page::Page;
+use crate::listing::{Lines, write_lines};
+use crate::page::{COLUMN, Page};
 use crate::ports::known_name;
 use crate::sink::Sink;
 use crate::writing::WriteFault;
-use itoa::Buffer;
 use noc_net::Network;
+use noc_router::VERDICTS;
 use noc_topo::Shape;
 
+// The most bytes of the counts of a channel.
+const COUNTS: usize = VERDICTS * COLUMN;
+
 // Adds counts, each after a comma.
-fn add_counts(counts: &[u64], page: &mut Page)
-    requires few { length counts.now ≤ 10 }
-    requires room { length page.old + 210 ≤ PAGE }
+fn add_counts(counts: &[u64; VERDICTS], page: &mut Page)
+    requires room { length page.old + COUNTS ≤ PAGE }
     ensures added { page.new ≡ page.old ++ flat_map count_text counts.now }
-    ensures short { length page.new ≤ length page.old + 210 }
+    ensures short { length page.new ≤ length page.old + COUNTS }
 {
     for count in counts {
-        add_count(*count, page);
+        page.add_byte(b',');
+        page.add_number(*count);
     }
-}
-
-// Adds a comma and a number.
-fn add_count(count: u64, page: &mut Page)
-    requires room { length page.old + 21 ≤ PAGE }
-    ensures added { page.new ≡ page.old ++ count_text count }
-    ensures short { length page.new ≤ length page.old + 21 }
-{
-    let mut digits = Buffer::new();
-    page.add_all(&[",", digits.format(count)]);
-}
-
-// Adds an input channel by its router, its port and its number.
-fn add_place(router: usize, port: &str, vc: usize, page: &mut Page)
-    requires name { length port.now ≤ 5 }
-    requires room { length page.old + 47 ≤ PAGE }
-    ensures added { page.new ≡ page.old ++ place_text router port.now vc }
-    ensures short { length page.new ≤ length page.old + 47 }
-{
-    let mut first = Buffer::new();
-    let mut last = Buffer::new();
-    page.add_all(&[first.format(router), ",", port, ",", last.format(vc)]);
 }
 
 // The lines of a stall report, of a network whose shape has these input ports.
@@ -88,11 +70,13 @@ impl<'a> Lines for StallLines<'a> {
 
     #[tactic(auto, unfolding(crate::specs::Stalls::channel_line, crate::specs::Stalls::channel_counts))]
     fn add_line(&self, router: usize, port: usize, vc: usize, page: &mut Page) {
-        let name = known_name(self.network.relation().shape(), port);
-        add_place(router, name, vc, page);
+        page.add_column(router as u64);
+        page.add(known_name(self.network.relation().shape(), port));
+        page.add_byte(b',');
+        page.add_number(vc as u64);
         let counts = self.network.counts(router, port, vc);
         add_counts(&counts, page);
-        page.add("\n");
+        page.add_byte(b'\n');
     }
 }
 
@@ -106,7 +90,7 @@ pub fn write_stalls<W: Sink>(network: &Network, sink: &mut W) -> Result<(), Writ
         "router,port,vc,empty,routed,granted,moved,no_flit,no_idle_channel,lost_channel,no_credit,lost_input,lost_switch\n";
     let inputs = inputs_of(network.relation().shape());
     let lines = StallLines { network, inputs };
-    write_routers(header, &lines, sink)
+    write_lines(header, &lines, None, sink)
 }
 
 /// The ten counts of a line of the stall report add up to the cycles of the run.

@@ -1,19 +1,33 @@
 //! The summary report (docs/FORMATS.md).
 
-ghost use Rattle.std.specs.Prelude.{◌+◌, ◌*◌, ◌^◌, ◌<◌, ◌≤◌, [], ◌∷◌, length, nat_le, sum, true, ◌≡◌, ℕ, List, Some, None};
+ghost use Rattle.std.specs.Prelude.{◌+◌, ◌*◌, ◌^◌, ◌<◌, ◌≤◌, ◌++◌, [], ◌∷◌, length, nat_le, sum, true, ◌≡◌, ℕ, List, Some, None};
 ghost use Rattle.std.specs.List.{flat_map, list_all};
 ghost use Rattle.noc_topo.specs.Shape.{nodes, ports};
 ghost use Rattle.noc_files.specs.Channels.{over_port, over_router};
 ghost use Rattle.noc_files.specs.Summary.{IsGreatest, column_entry, column_total, entry_value, greatest_of, latencies, latency_at, summary_line, summary_lines, summary_of, summary_text};
-ghost use Rattle.noc_files.specs.Writing.{Puts, Wrote};
+ghost use Rattle.noc_files.specs.Writing.{Wrote, dash_or};
+ghost use Rattle.noc_files.specs.declared.page.TheConstants.{PAGE};
+ghost use Rattle.noc_files.specs.declared.summary.TheConstants.{ENTRIES, LINE, LONGEST_NAME, WIDE};
 
 use crate::latency::latency_of;
+use crate::page::Page;
 use crate::ports::has_inputs;
 use crate::sink::Sink;
-use crate::writing::{WriteFault, put_pieces, shown_wide};
+use crate::writing::{WriteFault, put_all};
 use itoa::Buffer;
 use noc_net::Network;
 use noc_packet::{INDICES, MAX_CHANNELS};
+use noc_router::VERDICTS;
+
+// The most lines of a summary.
+const ENTRIES: usize = 8 + VERDICTS;
+
+// The most bytes of a name, of a number of 128 bits, and of a line of both.
+const LONGEST_NAME: usize = 15;
+
+const WIDE: usize = 40;
+
+const LINE: usize = LONGEST_NAME + WIDE + 2;
 
 // What the summary says of a network.
 #[derive(Clone, Copy)]
@@ -26,7 +40,7 @@ struct Summary {
     latency_max: Option<u128>,
     last_event: Option<u128>,
     misfits: u128,
-    totals: [u128; 10],
+    totals: [u128; VERDICTS],
 }
 
 // How many latencies there are, their sum, and the greatest of them.
@@ -37,48 +51,50 @@ struct LatencyTotals {
     greatest: Option<u64>,
 }
 
-// Puts a line of a name of at most 15 bytes, and a number or a dash.
-fn put_line<W: Sink>(
-    sink: &mut W,
-    name: &str,
-    number: Option<u128>,
-    before: u64,
-) -> Result<u64, WriteFault>
-    requires name { length name.now ≤ 15 }
-    requires room { before + 57 < 2 ^ 64 }
-    ensures short { length (summary_line (name.now, number)) ≤ 57 }
-    ensures puts { Puts W.contents W.has_failed sink.old sink.new before (summary_line (name.now, number)) result }
+// Adds a line of a name, and a number or a dash.
+fn add_line(name: &str, number: Option<u128>, page: &mut Page)
+    requires name { length name.now ≤ LONGEST_NAME }
+    requires room { length page.old + LINE ≤ PAGE }
+    ensures added { page.new ≡ page.old ++ summary_line (name.now, number) }
+    ensures short { length page.new ≤ length page.old + LINE }
 {
-    let mut buffer = Buffer::new();
-    put_pieces(
-        sink,
-        &[name, " ", shown_wide(&mut buffer, number), "\n"],
-        before,
-    )
+    page.add(name);
+    page.add_byte(b' ');
+    add_number(number, page);
+    page.add_byte(b'\n');
 }
 
-// Puts lines of names and numbers.
-fn put_lines<W: Sink>(
-    sink: &mut W,
-    entries: &[(&str, Option<u128>)],
-    before: u64,
-) -> Result<u64, WriteFault>
-    requires names { list_all (λ entry. nat_le (length entry.0.now) 15) entries.now ≡ true }
-    requires few { length entries.now ≤ 18 }
-    requires room { before + 1026 < 2 ^ 64 }
-    ensures { Puts W.contents W.has_failed sink.old sink.new before (flat_map (λ entry. summary_line (entry_value entry)) entries.now) result }
+// Adds a number, or a dash where there is none.
+fn add_number(number: Option<u128>, page: &mut Page)
+    requires room { length page.old + WIDE ≤ PAGE }
+    ensures added { page.new ≡ page.old ++ dash_or number }
+    ensures short { length page.new ≤ length page.old + WIDE }
 {
-    let mut written = before;
-    for entry in entries {
-        written = put_line(sink, entry.0, entry.1, written)?;
+    match number {
+        Some(number) => {
+            let mut digits = Buffer::new();
+            page.add(digits.format(number));
+        }
+        None => page.add_byte(b'-'),
     }
-    Ok(written)
 }
 
-// Puts a summary.
+// Fills a page with lines of names and numbers.
+fn fill(entries: &[(&str, Option<u128>)], page: &mut Page)
+    requires names { list_all (λ entry. nat_le (length entry.0.now) LONGEST_NAME) entries.now ≡ true }
+    requires few { length entries.now ≤ ENTRIES }
+    ensures { page.new ≡ flat_map (λ entry. summary_line (entry_value entry)) entries.now }
+{
+    page.clear();
+    for entry in entries {
+        add_line(entry.0, entry.1, page);
+    }
+}
+
+// Fills a page with a summary.
 #[tactic(auto, unfolding(crate::specs::Summary::summary_entries))]
-fn put_summary<W: Sink>(sink: &mut W, s: &Summary) -> Result<u64, WriteFault>
-    ensures { Puts W.contents W.has_failed sink.old sink.new 0 (summary_lines s.now) result }
+fn fill_summary(s: &Summary, page: &mut Page)
+    ensures { page.new ≡ summary_lines s.now }
 {
     let entries = [
         ("cycles", Some(s.cycles)),
@@ -100,7 +116,7 @@ fn put_summary<W: Sink>(sink: &mut W, s: &Summary) -> Result<u64, WriteFault>
         ("lost_input", Some(s.totals[8])),
         ("lost_switch", Some(s.totals[9])),
     ];
-    put_lines(sink, &entries, 0)
+    fill(&entries, page);
 }
 
 // The latency of the packet with this number, if its tail is out.
@@ -233,12 +249,14 @@ fn summary_of(network: &Network) -> Summary
     }
 }
 
-// Writes a summary.
-fn write_lines<W: Sink>(sink: &mut W, s: &Summary) -> Result<(), WriteFault>
+// Writes a summary. It stays a call, so that its callers need no stack for a page.
+#[inline(never)]
+fn write_page<W: Sink>(s: &Summary, sink: &mut W) -> Result<(), WriteFault>
     ensures { Wrote W.contents W.has_failed sink.old sink.new (summary_lines s.now) result }
 {
-    put_summary(sink, s)?;
-    Ok(())
+    let mut page = Page::new();
+    fill_summary(s, &mut page);
+    put_all(sink, page.text())
 }
 
 /// Writes the summary: eighteen lines of a name and a number, over the packets and the input channels of the network.
@@ -246,5 +264,5 @@ fn write_lines<W: Sink>(sink: &mut W, s: &Summary) -> Result<(), WriteFault>
 pub fn write_summary<W: Sink>(network: &Network, sink: &mut W) -> Result<(), WriteFault>
     ensures { Wrote W.contents W.has_failed sink.old sink.new (summary_text network.now) result }
 {
-    write_lines(sink, &summary_of(network))
+    write_page(&summary_of(network), sink)
 }

@@ -5,7 +5,6 @@ ghost use Rattle.std.specs.List.{flat_map};
 ghost use Rattle.noc_topo.specs.Shape.{nodes, ports};
 ghost use Rattle.noc_topo.specs.Words.{below};
 ghost use Rattle.noc_packet.specs.Set.{has_bit};
-ghost use Rattle.noc_packet.specs.declared.limits.TheConstants.{INDICES};
 ghost use Rattle.noc_route.specs.Routes.{Routes as RoutesValue};
 ghost use Rattle.noc_router.specs.Found.{empty_finding};
 ghost use Rattle.noc_router.specs.declared.verdict.Finding.{Finding as FindingValue};
@@ -15,21 +14,23 @@ ghost use Rattle.noc_files.specs.Channels.{AreInputs};
 ghost use Rattle.noc_files.specs.Findings.{found_line};
 ghost use Rattle.noc_files.specs.Ports.{name_of_port};
 ghost use Rattle.noc_files.specs.Stalls.{channel_counts};
-ghost use Rattle.noc_files.specs.Trace.{AreRows, cycle_text, has_below, finds_empty, is_same, is_traced, kept_at, kept_line, member_text, nothing_found, over_traced, permitted_text, permitted_to, said_by_both, set_text, traced_finding, told_counts, told_text, trace_line, trace_text, traced_line, way_text, when_text, whole};
+ghost use Rattle.noc_files.specs.Trace.{AreRows, cycle_text, has_below, finds_empty, is_asking, is_same, is_traced, kept_at, kept_line, member_text, nothing_found, over_traced, permitted_text, permitted_to, said_by_both, set_text, traced_finding, told_counts, told_text, trace_header, trace_line, trace_text, traced_line, way_text, when_text, whole};
 ghost use Rattle.noc_files.specs.Word.{AreWords, word_text};
-ghost use Rattle.noc_files.specs.Writing.{Puts, Wrote, comma, text_of_pieces, line_end};
-ghost use Rattle.noc_files.specs.declared.listing.TheConstants.{LONGEST_LINE, LONGEST_LISTING};
+ghost use Rattle.noc_files.specs.Writing.{Puts, Wrote, comma, taken, text_of_pieces, line_end};
 ghost use Rattle.noc_files.specs.declared.page.TheConstants.{PAGE};
+ghost use Rattle.noc_files.specs.declared.pages.TheConstants.{LONGEST_TEXT};
+ghost use Rattle.noc_files.specs.declared.trace.TheConstants.{MEMBER, SET, TOLD};
 
 use crate::inputs::{Inputs, inputs_of};
-use crate::listing::{Lines, put_router, put_routers};
+use crate::listing::{Lines, Listing};
 use crate::page::Page;
+use crate::pages::put_pages;
 use crate::sink::Sink;
-use crate::word::Word;
-use crate::words::Words;
+use crate::word::{WORD, Word};
+use crate::words::{LONGEST_VERDICT, Words};
 use crate::writing::{WriteFault, put_all};
 use noc_net::{CYCLE_LIMIT, Network};
-use noc_packet::{ChannelSet, Memory};
+use noc_packet::{ChannelSet, INDICES, Memory};
 use noc_route::Relation;
 use noc_router::{Finding, Verdict};
 use noc_topo::Shape;
@@ -210,6 +211,16 @@ fn is_same(before: Option<&Finding>, now: Option<&Finding>) -> bool
     }
 }
 
+// Whether a packet of this verdict asked for an output channel, or found none to ask for.
+fn is_asking(verdict: Verdict) -> bool
+    ensures { result ≡ is_asking verdict }
+{
+    matches!(
+        verdict,
+        Verdict::Granted | Verdict::NoIdleChannel | Verdict::LostChannel
+    )
+}
+
 // The output channels that the relation permits to the packet of a finding, where it asks.
 fn permitted_to(
     network: &Network,
@@ -223,9 +234,11 @@ fn permitted_to(
     requires vc { vc < network.now.net.relation.vcs }
     ensures { result ≡ permitted_to network.now.net router port vc finding.now }
 {
-    match (finding.verdict, finding.packet) {
-        (Verdict::Granted | Verdict::NoIdleChannel | Verdict::LostChannel, Some(number))
-            if (number as usize) < network.packets() => {
+    if !is_asking(finding.verdict) {
+        return None;
+    }
+    match finding.packet {
+        Some(number) if (number as usize) < network.packets() => {
             let packet = network.packet(number as usize);
             let class = packet.class as usize;
             let dst = packet.destination as usize;
@@ -253,12 +266,19 @@ fn next_member(set: ChannelSet, from: usize, count: usize) -> usize
     }
 }
 
+// The most bytes of an output channel with a space before it, of a set of them, and of what is told of an input channel.
+const MEMBER: usize = WORD + 1;
+
+const SET: usize = INDICES * MEMBER;
+
+const TOLD: usize = LONGEST_VERDICT + WORD + SET + 2;
+
 // Adds the output channels of a set, by rising index, with a space between.
 fn add_set(relation: &Relation, words: &Words, set: ChannelSet, page: &mut Page)
     requires words { AreWords relation.now words.now }
-    requires room { length page.old + 1848 ≤ PAGE }
+    requires room { length page.old + SET ≤ PAGE }
     ensures added { page.new ≡ page.old ++ set_text relation.now set }
-    ensures short { length page.new ≤ length page.old + 1848 }
+    ensures short { length page.new ≤ length page.old + SET }
 {
     let count = relation.shape().ports() * relation.vcs();
     let mut has_some = false;
@@ -276,9 +296,9 @@ fn add_member(relation: &Relation, words: &Words, index: usize, has_some: bool, 
     requires words { AreWords relation.now words.now }
     requires index { index < ports relation.now.grid * relation.now.vcs }
     requires few { index < INDICES }
-    requires room { length page.old + 33 ≤ PAGE }
+    requires room { length page.old + MEMBER ≤ PAGE }
     ensures added { page.new ≡ page.old ++ text_of_pieces ((if has_some then codes " " else []) ∷ name_of_port relation.now.grid (index / relation.now.vcs) ∷ codes "." ∷ decimal (index % relation.now.vcs) ∷ []) }
-    ensures short { length page.new ≤ length page.old + 33 }
+    ensures short { length page.new ≤ length page.old + MEMBER }
 {
     add_gap(has_some, page);
     page.add_word(words.channel(relation, index));
@@ -300,9 +320,9 @@ fn add_gap(has_some: bool, page: &mut Page)
 #[inline]
 fn add_permitted(relation: &Relation, words: &Words, set: Option<ChannelSet>, page: &mut Page)
     requires words { AreWords relation.now words.now }
-    requires room { length page.old + 1849 ≤ PAGE }
+    requires room { length page.old + SET + 1 ≤ PAGE }
     ensures added { page.new ≡ page.old ++ permitted_text relation.now set }
-    ensures short { length page.new ≤ length page.old + 1849 }
+    ensures short { length page.new ≤ length page.old + SET + 1 }
 {
     match set {
         Some(set) => add_set(relation, words, set, page),
@@ -326,9 +346,9 @@ fn add_told(
     requires router { router < nodes network.now.net.relation.grid }
     requires port { port < ports network.now.net.relation.grid }
     requires vc { vc < network.now.net.relation.vcs }
-    requires room { length page.old + 1967 ≤ PAGE }
+    requires room { length page.old + TOLD ≤ PAGE }
     ensures added { page.new ≡ page.old ++ told_text network.now.net router port vc finding.now }
-    ensures short { length page.new ≤ length page.old + 1967 }
+    ensures short { length page.new ≤ length page.old + TOLD }
 {
     let relation = network.relation();
     // (the count says that there are no more than eight)
@@ -352,20 +372,6 @@ struct CycleLines<'a> {
     ghost known: { AreInputs network.now.net.relation.grid inputs.now },
     ghost named: { AreWords network.now.net.relation words.now },
     ghost numbered: { word_text number ≡ decimal cycle ++ comma },
-}
-
-impl<'a> CycleLines<'a> {
-    // Adds the cycle and a router.
-    #[inline]
-    fn add_when(&self, router: usize, page: &mut Page)
-        requires room { length page.old + 53 ≤ PAGE }
-        ensures added { page.new ≡ page.old ++ when_text self.now.cycle router }
-        ensures short { length page.new ≤ length page.old + 53 }
-    {
-        page.add_word(&self.number);
-        page.add_number(router as u64);
-        page.add_byte(b',');
-    }
 }
 
 impl<'a> Lines for CycleLines<'a> {
@@ -408,7 +414,8 @@ impl<'a> Lines for CycleLines<'a> {
         }
         let nothing = NOTHING;
         let finding = now.unwrap_or(&nothing);
-        self.add_when(router, page);
+        page.add_word(&self.number);
+        page.add_column(router as u64);
         add_told(self.network, self.words, router, port, vc, finding, page);
     }
 }
@@ -418,12 +425,11 @@ fn number_word(cycle: u64, page: &mut Page) -> Word
     ensures { word_text result ≡ decimal cycle ++ comma }
 {
     page.clear();
-    page.add_number(cycle);
-    page.add_byte(b',');
+    page.add_column(cycle);
     Word::of(page.text())
 }
 
-// Puts the lines of a trace in the last cycle of a network.
+// Puts the lines of a trace in the last cycle of a network, and says how many bytes they have.
 fn put_cycle<W: Sink>(
     network: &Network,
     inputs: &Inputs,
@@ -432,15 +438,13 @@ fn put_cycle<W: Sink>(
     cycle: u64,
     page: &mut Page,
     sink: &mut W,
-    before: u64,
 ) -> Result<u64, WriteFault>
     requires inputs { AreInputs network.now.net.relation.grid inputs.now }
     requires words { AreWords network.now.net.relation words.now }
     requires last { network.now.count ≡ cycle + 1 }
     requires router { IfSome trace.now.0.router (λ router. router < nodes network.now.net.relation.grid) }
-    requires room { before + LONGEST_LISTING < 2 ^ 64 }
-    ensures puts { Puts W.contents W.has_failed sink.old sink.new before (over_traced network.now.net.relation trace.now.0.router (kept_line network.now trace.now.0 trace.now.1 cycle)) result }
-    ensures short { IfOk result (λ n. n ≤ before + LONGEST_LISTING) }
+    ensures puts { Puts W.contents W.has_failed sink.old sink.new (over_traced network.now.net.relation trace.now.0.router (kept_line network.now trace.now.0 trace.now.1 cycle)) result }
+    ensures few { taken result ≤ LONGEST_TEXT }
 {
     let lines = CycleLines {
         network,
@@ -450,37 +454,38 @@ fn put_cycle<W: Sink>(
         cycle,
         number: number_word(cycle, page),
     };
-    match trace.traced.router {
-        Some(router) => put_router(&lines, router, page, sink, before),
-        None => put_routers(&lines, page, sink, before),
-    }
+    let listing = Listing {
+        lines: &lines,
+        router: trace.traced.router,
+    };
+    put_pages(&listing, page, sink)
 }
 
-// Runs a network for so many cycles more, and puts the lines of a trace in each, which are handed on before the next one. It stays
-// a call, so that a report without a page needs no stack for one.
+// Puts the header of a trace, runs a network for so many cycles more, and puts the lines of each, which are handed on before the
+// next one. It stays a call, so that its callers need no stack for a page.
 #[inline(never)]
 fn put_cycles<W: Sink>(
     network: &mut Network,
     cycles: u64,
     trace: &mut Trace,
     sink: &mut W,
-    before: u64,
-) -> Result<u64, WriteFault>
+) -> Result<(), WriteFault>
     requires cycles { network.old.count + cycles ≤ CYCLE_LIMIT }
     requires router { IfSome trace.old.0.router (λ router. router < nodes network.old.net.relation.grid) }
     requires opening { trace.old.1 ≡ nothing_found network.old.net trace.old.0.changes }
-    requires room { before ≤ LONGEST_LINE }
     ensures run { IfOk result (λ _. network.new ≡ record network.old { count = network.old.count + cycles }) }
-    ensures puts { Puts W.contents W.has_failed sink.old sink.new before (flat_map (λ k. cycle_text network.old.net trace.old.0 network.old.count (network.old.count + k)) (below cycles)) result }
+    ensures text { Wrote W.contents W.has_failed sink.old sink.new (trace_header ++ flat_map (λ k. cycle_text network.old.net trace.old.0 network.old.count (network.old.count + k)) (below cycles)) result }
 {
+    let header = "cycle,router,port,vc,verdict,packet,out,permitted\n";
+    put_all(sink, header.as_bytes())?;
+    let mut written = header.len() as u64;
     let first = network.count();
     let inputs = inputs_of(network.relation().shape());
     let words = Words::of(network.relation());
     let mut page = Page::new();
-    let mut written = before;
     for turn in 0..cycles {
         network.cycle();
-        written = put_cycle(
+        match put_cycle(
             network,
             &inputs,
             &words,
@@ -488,12 +493,14 @@ fn put_cycles<W: Sink>(
             first + turn,
             &mut page,
             sink,
-            written,
-        )?;
+        ) {
+            Ok(more) => written += more,
+            Err(fault) => return Err(fault.after(written)),
+        }
         sink.hand_on();
         trace.keep(network);
     }
-    Ok(written)
+    Ok(())
 }
 
 /// Runs a network for so many cycles more, and writes the trace of them as it goes: for each cycle, each router and each of its
@@ -511,10 +518,7 @@ pub fn write_trace<W: Sink>(
     ensures run { IfOk result (λ _. network.new ≡ record network.old { count = network.old.count + cycles }) }
     ensures text { Wrote W.contents W.has_failed sink.old sink.new (trace_text (record network.old { count = network.old.count + cycles }) network.old.count trace.0) result }
 {
-    let header = "cycle,router,port,vc,verdict,packet,out,permitted\n";
-    let written = put_all(sink, header.as_bytes(), 0)?;
-    put_cycles(network, cycles, &mut trace, sink, written)?;
-    Ok(())
+    put_cycles(network, cycles, &mut trace, sink)
 }
 
 /// A line of a trace is what `explain` says of the channel in that cycle, with the cycle and the router before it and what was

@@ -10,16 +10,19 @@ ghost use Rattle.noc_files.specs.Word.{AreWords, HasTexts, channel_text, input_t
 ghost use Rattle.noc_files.specs.Ports.{name_of_port};
 ghost use Rattle.noc_files.specs.Writing.{comma, text_of_pieces};
 ghost use Rattle.noc_files.specs.declared.page.TheConstants.{PAGE};
-ghost use Rattle.noc_files.specs.declared.word.TheConstants.{WORD};
+ghost use Rattle.noc_files.specs.declared.words.TheConstants.{LONGEST_VERDICT};
 
-use crate::findings::{add_out, add_packet, verdict_name};
-use crate::page::Page;
+use crate::findings::{add_out, verdict_name};
+use crate::page::{COLUMN, Page};
 use crate::ports::port_name;
-use crate::word::{EMPTY, Word};
+use crate::word::{EMPTY, WORD, Word};
 use noc_packet::{INDICES, MAX_CHANNELS, MAX_PORTS};
 use noc_route::Relation;
 use noc_router::{Finding, VERDICTS, Verdict};
 use noc_topo::Shape;
+
+/// The most bytes of an input channel with its verdict and its packet.
+pub(crate) const LONGEST_VERDICT: usize = 2 * WORD + COLUMN;
 
 /// The words of a relation: for each port and number its input channel and its output channel, for each index its output
 /// channel, and for each verdict its name.
@@ -32,7 +35,7 @@ pub(crate) struct Words {
 }
 
 impl Words {
-    /// The words of a relation. It stays a call, so that a report without a page needs no stack for one.
+    /// The words of a relation. It stays a call, so that its callers need no stack for a page.
     #[inline(never)]
     pub(crate) fn of(relation: &Relation) -> Words
         ensures { AreWords relation.now result }
@@ -71,13 +74,13 @@ impl Words {
         requires words { AreWords relation.now self.now }
         requires port { port < ports relation.now.grid }
         requires vc { vc < MAX_CHANNELS }
-        requires room { length page.old + 85 ≤ PAGE }
+        requires room { length page.old + LONGEST_VERDICT ≤ PAGE }
         ensures added { page.new ≡ page.old ++ verdict_text relation.now.grid port vc finding.now }
-        ensures short { length page.new ≤ length page.old + 85 }
+        ensures short { length page.new ≤ length page.old + LONGEST_VERDICT }
     {
         page.add_word(self.input(relation, port, vc));
         page.add_word(self.verdict(relation, finding.verdict));
-        add_packet(finding.packet, page);
+        page.add_or_dash(finding.packet.map(u64::from));
         page.add_byte(b',');
     }
 
@@ -178,8 +181,7 @@ impl<'a> Texts for InputTexts<'a> {
     fn add(&self, place: usize, page: &mut Page) {
         page.add(port_name(self.shape, place / MAX_CHANNELS).unwrap_or("-"));
         page.add_byte(b',');
-        page.add_number((place % MAX_CHANNELS) as u64);
-        page.add_byte(b',');
+        page.add_column((place % MAX_CHANNELS) as u64);
     }
 }
 

@@ -2,7 +2,7 @@ use Rattle.std.proofs.Common.{◌≡◌}
 use Rattle.noc_files.specs.Writing.{Wrote}
 use Rattle.noc_answers.specs.Asked.{lent_files}
 use Rattle.noc_answers.specs.Answer.{AsksFor, TextsFault, a_report}
-use Rattle.noc_answers.specs.Reports.{report_text}
+use Rattle.noc_files.specs.Reports.{report_text}
 use Rattle.noc_answers.specs.Run.{AsksForRun, ending}
 use Rattle.noc_commands.specs.Workers.{workers_of}
 use Rattle.noc_answers.proofs.EndingLemmas.{ends_reported}

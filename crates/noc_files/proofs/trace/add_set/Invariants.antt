@@ -2,6 +2,7 @@ use Rattle.std.proofs.Common.{◌≡◌, ◌≤◌, ◌<◌, ◌+◌, ◌*◌, �
 use Rattle.noc_topo.specs.Words.{below}
 use Rattle.noc_packet.specs.Set.{has_bit}
 use Rattle.noc_files.specs.Trace.{has_below, member_text}
+use Rattle.noc_files.specs.declared.trace.TheConstants.{MEMBER}
 use Rattle.noc_files.proofs.trace.add_set.Given as goal
 
 -- the members below the index are on the page
@@ -11,7 +12,7 @@ invariant-loop-index l = record {
   member : l.index < l.count → has_bit l.set l.index ≡ true;
   some : l.has_some ≡ has_below l.set l.index;
   added : l.page ≡ l.fn.page ++ flat_map (member_text l.relation.grid l.relation.vcs l.set) (below l.index);
-  short : length l.page ≤ length l.fn.page + 33 * l.index;
+  short : length l.page ≤ length l.fn.page + MEMBER * l.index;
 }
 
 abbrev pub decreases-loop-index : goal.decreases-loop-index

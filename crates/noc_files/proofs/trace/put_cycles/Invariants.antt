@@ -1,8 +1,8 @@
-use Rattle.std.proofs.Common.{◌≡◌, ◌≤◌, ◌+◌, ◌*◌, Ok, flat_map}
+use Rattle.std.proofs.Common.{◌≡◌, ◌≤◌, ◌+◌, ◌*◌, ◌++◌, flat_map, length}
+use Rattle.std.specs.Io.KnownBytes.{Appends}
 use Rattle.noc_topo.specs.Words.{below}
-use Rattle.noc_files.specs.Trace.{cycle_text}
-use Rattle.noc_files.specs.Writing.{Puts}
-use Rattle.noc_files.specs.declared.listing.TheConstants.{LONGEST_LISTING}
+use Rattle.noc_files.specs.Trace.{cycle_text, trace_header}
+use Rattle.noc_files.specs.declared.pages.TheConstants.{LONGEST_TEXT}
 use Rattle.noc_files.proofs.TraceCycleLemmas.{IsKept}
 use Rattle.noc_files.proofs.trace.put_cycles.Given as goal
 
@@ -12,6 +12,7 @@ invariant-loop-turn g l = record {
   count : l.network.count ≡ l.fn.network.count + l.turn;
   traced : l.trace.0 ≡ l.fn.trace.0;
   kept : IsKept l.fn.network.net l.fn.trace.0 l.fn.network.count (l.fn.network.count + l.turn) l.trace.1;
-  puts : Puts g.W.Sink.contents g.W.Sink.has_failed l.fn.sink l.sink l.before (flat_map (λ k. cycle_text l.fn.network.net l.fn.trace.0 l.fn.network.count (l.fn.network.count + k)) (below l.turn)) (Ok l.written);
-  short : l.written ≤ l.before + LONGEST_LISTING * l.turn;
+  took : Appends (g.W.Sink.contents l.fn.sink) (g.W.Sink.contents l.sink) (trace_header ++ flat_map (λ k. cycle_text l.fn.network.net l.fn.trace.0 l.fn.network.count (l.fn.network.count + k)) (below l.turn));
+  counted : l.written ≡ length (trace_header ++ flat_map (λ k. cycle_text l.fn.network.net l.fn.trace.0 l.fn.network.count (l.fn.network.count + k)) (below l.turn));
+  short : l.written ≤ LONGEST_TEXT * (l.turn + 1);
 }

@@ -2,7 +2,7 @@ use Rattle.std.proofs.Common.{◌≡◌, ◌≤◌, ◌*◌, flat_map, length}
 use Rattle.noc_topo.specs.Words.{below}
 use Rattle.noc_files.specs.Channels.{lines_of_port}
 use Rattle.noc_files.specs.declared.listing.TheConstants.{LONGEST_PORT}
-use Rattle.noc_files.proofs.listing.fill.Given as goal
+use Rattle.noc_files.proofs.listing.fill_router.Given as goal
 
 abbrev pub invariant-loop-port : goal.invariant-loop-port
 invariant-loop-port g l = record {

@@ -5,7 +5,7 @@ use Rattle.noc_topo.specs.Words.{below}
 use Rattle.noc_files.specs.Channels.{is_input, lines_of_port, lines_of_router}
 use Rattle.noc_files.proofs.BelowLemmas.{each_none}
 use Rattle.noc_files.proofs.PageLemmas.{added_more, added_none}
-use Rattle.noc_files.proofs.listing.fill.Goals as goal
+use Rattle.noc_files.proofs.listing.fill_router.Goals as goal
 
 -- a router of whose channels nothing is said has no lines
 no_lines : (g : Grid) (listed vcs r : ℕ) (said : ℕ → ℕ → List ℕ) → ((port vc : ℕ) → said port vc ≡ []) → lines_of_router g listed vcs r said ≡ []
@@ -15,8 +15,8 @@ no_lines g listed vcs r said none = each_none (lines_of_port g vcs r said) (belo
     either port true = each_none (said port) (below vcs) (none port)
     either port false = refl
 
-pub returns-then-is_silent-clause-said : goal.returns-then-is_silent-clause-said
-returns-then-is_silent-clause-said g c =
+pub returns-then-is_silent : goal.returns-then-is_silent
+returns-then-is_silent g c =
     let l = g.L.Lines in
     let lines = c.args.lines.now in
     c.clear.ensures ∙ sym (no_lines (l.grid lines) (l.listed lines) (l.vcs lines) c.args.router (l.said lines c.args.router) (c.is_silent.ensures c.if-is_silent.true))
