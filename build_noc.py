@@ -33,6 +33,7 @@ DISK, MEMORY = 2 << 30, 2 << 30
 # The seconds that each crate took beside the others on four processors, once. Only their shares count.
 SECONDS = {
     "noc_topo": 30, "noc_packet": 10, "noc_ring": 30, "noc_route": 50, "noc_rank": 150, "noc_alloc": 20, "noc_vc": 45,
+    "noc_counts": 20,
     "noc_router": 200, "noc_theory": 65, "noc_row_words": 85, "noc_row_blocks": 70, "noc_rows": 80, "noc_net": 180,
     "noc_files": 360, "noc_tiles": 380, "noc_commands": 15, "noc_words": 240, "noc_faults": 60, "noc_answers": 250,
     "noc_program": 120, "noc": 240,

@@ -1,7 +1,6 @@
 pub mod ArrivalLemmas
 pub mod ChannelLemmas
 pub mod CountLemmas
-pub mod DigitLemmas
 pub mod EffectLemmas
 pub mod FilledLemmas
 pub mod FindLemmas

@@ -54,22 +54,7 @@ AreLoaded-unloaded n beats all port rest loaded here members = record {
         members k ∙ ap (λ b. not b && has_bit all k) (ne_eqb k port other) ∙ loaded.each k l
         ∙ sym (ap (λ beat. not (is_idle_beat beat)) (get_or-set_other beats port k idle_beat idle_beat other))
 
--- a number that is no port's was no member
-pub AreLoaded-passed : (n : ℕ) (beats : List Beat) (all port rest : ℕ) → AreLoaded n beats all → n ≤ port → ((k : ℕ) → has_bit rest k ≡ (not (nat_eq k port) && has_bit all k)) → AreLoaded n beats rest
-AreLoaded-passed n beats all port rest loaded past members = record {
-  count = loaded.count;
-  within = λ k e. loaded.within k (and_parts (not (nat_eq k port)) (has_bit all k) (sym (members k) ∙ e)).1;
-  each = λ k l. members k ∙ ap (λ b. not b && has_bit all k) (ne_eqb k port (λ same. omega (arith, l, past, same))) ∙ loaded.each k l;
-}
-
--- no member below n, and none above
-pub none_below : (n : ℕ) (beats : List Beat) (set : ℕ) → AreLoaded n beats set → ((k : ℕ) → k < n → has_bit set k ≡ false) → (k : ℕ) → has_bit set k ≡ false
-none_below n beats set loaded none k = at (has_bit set k) refl
-  where
-    at : (b : Bool) → has_bit set k ≡ b → has_bit set k ≡ false
-    at false e = e
-    at true e = none k (loaded.within k e)
-
+-- ---- the members of a set, one by one
 -- the least member is gone, so none is left below one more index
 pub none_below-more : (n least set rest : ℕ) → IsLeast (in_both set set) (Some least) → ((k : ℕ) → has_bit rest k ≡ (not (nat_eq k least) && has_bit set k))
     → ((k : ℕ) → k < n → has_bit set k ≡ false) → (k : ℕ) → k < n + 1 → has_bit rest k ≡ false

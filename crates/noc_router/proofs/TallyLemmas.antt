@@ -11,76 +11,25 @@ use Rattle.noc_topo.proofs.WordLemmas.{get_or-tabulate, length-tabulate, map_ind
 use Rattle.noc_vc.specs.Input.{Input, is_empty, is_idle_phase}
 use Rattle.noc_vc.specs.declared.input.InputState.{InputState}
 use Rattle.noc_vc.specs.declared.input.InputState.TheVariants.{Idle, Waiting, Active}
-use Rattle.noc_router.specs.declared.counters.Counters.{Counters}
 use Rattle.noc_router.specs.declared.plan.Plan.TheInside.{Inside}
 use Rattle.noc_router.specs.Planned.{IsPlan, plan_contents_in}
 use Rattle.noc_router.specs.VerdictSets.{sets_with, verdict_by, first_verdict_in}
 use Rattle.noc_router.specs.declared.verdict.Verdict.{Verdict}
 use Rattle.noc_router.specs.declared.verdict.Verdict.TheVariants.{Empty, Routed, Granted, Moved, NoFlit, NoIdleChannel, LostChannel, NoCredit, LostInput, LostSwitch}
 use Rattle.noc_router.specs.declared.verdict.Finding.{Finding}
-use Rattle.noc_router.specs.Counts.{AreRows, carried_at, count_at, one_at, one_if, others_of, whole_counts}
+use Rattle.noc_counts.specs.Counts.{one_at, one_if, with_sets}
 use Rattle.noc_router.specs.Members.{AreBelow}
 use Rattle.noc_router.specs.Settled.{finding_by, planned_verdict}
 use Rattle.noc_router.specs.Sound.{is_occupied, finding_with, nth_input, out_in}
-use Rattle.noc_router.specs.Tally.{AreFindings, empty_finding, finding_at, is_empty_verdict, risen_by}
+use Rattle.noc_router.specs.Tally.{AreCounted, AreFindings, empty_finding, finding_at, is_empty_verdict}
 use Rattle.noc_router.specs.Verdict.{column}
 use Rattle.noc_router.specs.View.{Decisions, PlanContents, decided_verdict}
-use Rattle.noc_router.proofs.CountLemmas.{others-at, others-length, whole-below, whole-risen}
-use Rattle.noc_router.proofs.DigitLemmas.{one-small}
-
--- ---- a verdict is counted of each channel
--- the counters count one more of the verdict of each channel, or have some written down with it
-pub record IsCounted (counters : Counters) (written : List (List ℕ)) (column_of : ℕ → ℕ) (counters' : Counters) (written' : List (List ℕ)) : Type 0 where
-  pub size : length written' ≡ length written
-  pub ten : (k : ℕ) → k < length written → length (get_or written' k []) ≡ 10
-  pub each : (k j : ℕ) → k < length written → 0 < j → j < 10 → get_or (get_or written' k []) j 0 + count_at counters' j k ≡ get_or (get_or written k []) j 0 + count_at counters j k + one_if (nat_eq (column_of k) j)
-
--- the counters count one more, by sets of channels, of which some may have 512 written down
-pub counted-by : (counters : Counters) (written : List (List ℕ)) (column_of : ℕ → ℕ) (counters' : Counters) (written' : List (List ℕ)) (sets : List ℕ) (carry : Option (List ℕ))
-    → ((j k : ℕ) → j < 10 → count_at counters' j k + 512 * carried_at carry j k ≡ count_at counters j k + one_at sets j k)
-    → ((j k : ℕ) → k < length written → 0 < j → j < 10 → one_at sets j k ≡ one_if (nat_eq (column_of k) j))
-    → length written' ≡ length written → ((k : ℕ) → k < length written → length (get_or written' k []) ≡ 10)
-    → ((k j : ℕ) → k < length written → 0 < j → j < 10 → get_or (get_or written' k []) j 0 ≡ get_or (get_or written k []) j 0 + 512 * carried_at carry j k)
-    → IsCounted counters written column_of counters' written'
-counted-by counters written column_of counters' written' sets carry added verdicts size ten more = record {
-  size = size;
-  ten = ten;
-  each = λ k j l some few. sum_of _ _ _ _ _ _ _ (added j k few) (verdicts j k l some few) (more k j l some few);
-}
-  where
-    sum_of : (now had now_c had_c carried one one' : ℕ) → now_c + 512 * carried ≡ had_c + one → one ≡ one' → now ≡ had + 512 * carried → now + now_c ≡ had + had_c + one'
-    sum_of now had now_c had_c carried one one' a b d = omega arith
-
--- the nine counts of all channels after one more
-pub counted-others : (counters : Counters) (written : List (List ℕ)) (column_of : ℕ → ℕ) (counters' : Counters) (written' : List (List ℕ))
-    → AreRows written → IsCounted counters written column_of counters' written' → others_of counters' written' ≡ map_indexed (λ k xs. risen_by 1 (column_of k) xs) (others_of counters written)
-counted-others counters written column_of counters' written' rows are =
-    map_indexed-from_each (λ k xs. risen_by 1 (column_of k) xs) (others_of counters written) (others_of counters' written') [] []
-    (others-length counters' written' ∙ are.size ∙ sym (others-length counters written))
-    (λ k l. let small : k < length written = omega (arith, others-length counters written) in
-    others-at counters' written' k (omega (arith, are.size))
-    ∙ whole-risen counters counters' k (column_of k) (get_or written k []) (get_or written' k []) (rows.ten k small) (are.ten k small) (λ j some few. are.each k j small some few)
-    ∙ ap (risen_by 1 (column_of k)) (sym (others-at counters written k small)))
-
--- the rows stay rows of ten
-pub counted-rows : (counters : Counters) (written : List (List ℕ)) (column_of : ℕ → ℕ) (counters' : Counters) (written' : List (List ℕ))
-    → AreRows written → IsCounted counters written column_of counters' written' → AreRows written'
-counted-rows counters written column_of counters' written' rows are = record {
-  few = omega (arith, are.size, rows.few);
-  ten = λ i l. are.ten i (omega (arith, are.size));
-}
+use Rattle.noc_router.proofs.CountLemmas.{sets-risen}
+use Rattle.noc_router.proofs.WaitLemmas.{others_with}
 
 -- a list that is written back as a whole
 pub written-back : {X : Type 0} (n : ℕ) (new old : List X) → n ≡ length new → take n (new ++ drop (length new) old) ≡ new
 written-back n new old e = ap (λ m. take m (new ++ drop (length new) old)) e ∙ take-append_seam new (drop (length new) old)
-
--- there is room for what is written down
-pub carried-fits : (counters : Counters) (written : List (List ℕ)) (k j now more : ℕ) (one : Bool) → AreRows written → sum (get_or (others_of counters written) k []) < 2 ^ 64 - 1
-    → k < length written → 0 < j → j < 10 → now + more ≡ count_at counters j k + one_if one → get_or (get_or written k []) j 0 + more < 2 ^ 64
-carried-fits counters written k j now more one rows room l some few is =
-    let le : get_or (get_or written k []) j 0 + count_at counters j k ≤ sum (drop 1 (whole_counts counters k (get_or written k []))) =
-    whole-below counters k j (get_or written k []) some (omega (arith, rows.ten k l)) in
-    omega (arith, le, ap sum (others-at counters written k l), is, one-small one)
 
 -- ---- the channels of one set
 -- of the channels that were left, those are left that are not in the set
@@ -155,11 +104,6 @@ empty_is NoCredit e = absurd (false≢true (sym e))
 empty_is LostInput e = absurd (false≢true (sym e))
 empty_is LostSwitch e = absurd (false≢true (sym e))
 
--- another verdict than Empty has a place behind it
-pub some-column : (v : Verdict) → not (is_empty_verdict v) ≡ true → 0 < column v
-some-column Empty e = absurd (false≢true e)
-some-column _ e = omega arith
-
 -- what is found of the n channels: the verdict of each that is left is that of the first of these sets, and of each other one its verdict is noted
 pub record IsNoting (note : ℕ → Verdict → Finding) (verdict : ℕ → Verdict) (n : ℕ) (sets : List (ℕ × Verdict)) (rest : ℕ) (now : List Finding) : Type 0 where
   pub left : (k : ℕ) → has_bit rest k ≡ true → verdict k ≡ first_verdict_in sets k
@@ -213,10 +157,16 @@ plan_apart p q n k e plan long l =
 
 -- by sets in which each channel is in that of its verdict
 pub plan-each : (p : Inside) (q : PlanContents) (n : ℕ) (sets : List ℕ) → plan_contents_in p ≡ q → IsPlan p → length q.verdicts ≡ n
-    → ((j k : ℕ) → sets_with p.verdicts k ≤ 1 → 0 < j → j < 10 → one_at sets j k ≡ one_if (nat_eq (column (verdict_by p.verdicts k)) j))
-    → (j k : ℕ) → k < n → 0 < j → j < 10 → one_at sets j k ≡ one_if (nat_eq (column (planned_verdict q k)) j)
-plan-each p q n sets e plan long each j k l some few =
-    each j k (plan_apart p q n k e plan long l) some few ∙ ap (λ (v : Verdict). one_if (nat_eq (column v) j)) (sym (plan_verdict p q n k e long l))
+    → ((j k : ℕ) → sets_with p.verdicts k ≤ 1 → j < 9 → one_at sets j k ≡ one_if (nat_eq (column (verdict_by p.verdicts k)) (j + 1)))
+    → (j k : ℕ) → k < n → j < 9 → one_at sets j k ≡ one_if (nat_eq (column (planned_verdict q k)) (j + 1))
+plan-each p q n sets e plan long each j k l few =
+    each j k (plan_apart p q n k e plan long l) few ∙ ap (λ (v : Verdict). one_if (nat_eq (column v) (j + 1))) (sym (plan_verdict p q n k e long l))
+
+-- the nine counts after so many cycles with this plan
+pub plan-risen : (m : ℕ) (p : Inside) (q : PlanContents) (sets : List ℕ) (cycles : ℕ) (others : List (List ℕ)) → plan_contents_in p ≡ q → IsPlan p → AreCounted cycles others → length q.verdicts ≡ length others
+    → ((j k : ℕ) → sets_with p.verdicts k ≤ 1 → j < 9 → one_at sets j k ≡ one_if (nat_eq (column (verdict_by p.verdicts k)) (j + 1)))
+    → with_sets m sets others ≡ others_with m (planned_verdict q) others
+plan-risen m p q sets cycles others e plan counted long each = sets-risen m (λ k. column (planned_verdict q k)) sets others counted.nine (λ j k l few. plan-each p q (length others) sets e plan long each j k l few)
 
 -- what is found of a channel without a packet that asks for nothing
 pub vacant-found : (vcs : ℕ) (input : Input) (flits : List Flit) (ask : Option ℕ) → is_occupied input flits ≡ false → input.packet ≡ None → finding_with vcs input Empty ask ≡ empty_finding

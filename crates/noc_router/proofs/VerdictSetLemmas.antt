@@ -10,12 +10,11 @@ use Rattle.noc_vc.specs.Input.{is_active, is_empty, is_idle_phase, is_waiting}
 use Rattle.noc_vc.specs.Output.{has_credit}
 use Rattle.noc_vc.specs.declared.input.InputState.{InputState}
 use Rattle.noc_vc.specs.declared.input.InputState.TheVariants.{Idle, Waiting, Active}
-use Rattle.noc_router.specs.Counts.{one_at, one_if}
+use Rattle.noc_counts.specs.Counts.{one_at, one_if}
 use Rattle.noc_router.specs.Planned.{IsPlan, plan_contents_in}
 use Rattle.noc_router.specs.Requests.{AreAmong, is_given}
 use Rattle.noc_router.specs.Sound.{is_supplied}
 use Rattle.noc_router.specs.Standing.{IsStanding, is_won_from}
-use Rattle.noc_router.specs.Tally.{risen_at}
 use Rattle.noc_router.specs.Verdict.{Round, Unrouted, Waits, Holds, ask_of, column, is_event, is_granted, is_moved, verdict_of}
 use Rattle.noc_router.specs.VerdictSets.{sets_with, verdict_by}
 use Rattle.noc_router.specs.View.{PlanContents, View, asked_for, claim_in, finding_of, size_of, view_buffer, view_claim, view_input, view_output}
@@ -24,6 +23,7 @@ use Rattle.noc_router.specs.declared.plan.Plan.TheInside.{Inside}
 use Rattle.noc_router.specs.declared.verdict.Verdict.{Verdict}
 use Rattle.noc_router.specs.declared.verdict.Verdict.TheVariants.{Empty, Routed, Granted, Moved, NoFlit, NoIdleChannel, LostChannel, NoCredit, LostInput, LostSwitch}
 use Rattle.noc_router.specs.declared.verdict_sets.VerdictSets.{VerdictSets}
+use Rattle.noc_router.proofs.CountLemmas.{risen_at}
 
 -- the first verdict in whose set a channel is, by whether it is in each
 first : Bool → Bool → Bool → Bool → Bool → Bool → Bool → Bool → Bool → Verdict
@@ -90,11 +90,11 @@ first_granted false false false false false false false false false = refl
 
 -- whether a channel is in each of the sets, 1 or 0 by the place of the verdict, where it is in one set at most
 nine_same : (x1 x2 x3 x4 x5 x6 x7 x8 x9 y1 y2 y3 y4 y5 y6 y7 y8 y9 : ℕ) → x1 ≡ y1 → x2 ≡ y2 → x3 ≡ y3 → x4 ≡ y4 → x5 ≡ y5 → x6 ≡ y6 → x7 ≡ y7 → x8 ≡ y8 → x9 ≡ y9
-    → 0 ∷ x1 ∷ x2 ∷ x3 ∷ x4 ∷ x5 ∷ x6 ∷ x7 ∷ x8 ∷ x9 ∷ [] ≡ 0 ∷ y1 ∷ y2 ∷ y3 ∷ y4 ∷ y5 ∷ y6 ∷ y7 ∷ y8 ∷ y9 ∷ []
+    → x1 ∷ x2 ∷ x3 ∷ x4 ∷ x5 ∷ x6 ∷ x7 ∷ x8 ∷ x9 ∷ [] ≡ y1 ∷ y2 ∷ y3 ∷ y4 ∷ y5 ∷ y6 ∷ y7 ∷ y8 ∷ y9 ∷ []
 nine_same x1 x2 x3 x4 x5 x6 x7 x8 x9 y1 y2 y3 y4 y5 y6 y7 y8 y9 e1 e2 e3 e4 e5 e6 e7 e8 e9 = cc
 
 one_set : (m g r a b c d e f : Bool) → one_if m + one_if g + one_if r + one_if a + one_if b + one_if c + one_if d + one_if e + one_if f ≤ 1
-    → 0 ∷ one_if r ∷ one_if g ∷ one_if m ∷ one_if a ∷ one_if b ∷ one_if c ∷ one_if d ∷ one_if e ∷ one_if f ∷ [] ≡ 0 ∷ risen_at (column (first m g r a b c d e f)) (replicate 9 0)
+    → one_if r ∷ one_if g ∷ one_if m ∷ one_if a ∷ one_if b ∷ one_if c ∷ one_if d ∷ one_if e ∷ one_if f ∷ [] ≡ risen_at (column (first m g r a b c d e f)) (replicate 9 0)
 unfolding first
 one_set true g r a b c d e f s = nine_same (one_if r) (one_if g) (one_if true) (one_if a) (one_if b) (one_if c) (one_if d) (one_if e) (one_if f) 0 0 1 0 0 0 0 0 0 (omega (arith, s)) (omega (arith, s)) refl (omega (arith, s)) (omega (arith, s)) (omega (arith, s)) (omega (arith, s)) (omega (arith, s)) (omega (arith, s))
 one_set false true r a b c d e f s = nine_same (one_if r) (one_if true) (one_if false) (one_if a) (one_if b) (one_if c) (one_if d) (one_if e) (one_if f) 0 1 0 0 0 0 0 0 0 (omega (arith, s)) refl refl (omega (arith, s)) (omega (arith, s)) (omega (arith, s)) (omega (arith, s)) (omega (arith, s)) (omega (arith, s))
@@ -108,39 +108,37 @@ one_set false false false false false false false false true s = nine_same (one_
 one_set false false false false false false false false false s = refl
 
 -- one more of none
-one-risen : (n j : ℕ) → 0 < j → j < 10 → get_or (0 ∷ risen_at n (replicate 9 0)) j 0 ≡ one_if (nat_eq n j)
-one-risen n zero some l = absurd (omega arith)
-one-risen zero (suc m) some l = get_or-replicate 9 m 0 0 (omega arith) ∙ ap one_if (sym (ne_eqb zero (suc m) (λ e. absurd (omega arith))))
-one-risen (suc k) (suc m) some l = at (cases_eq m k)
+one-risen : (n j : ℕ) → j < 9 → get_or (risen_at n (replicate 9 0)) j 0 ≡ one_if (nat_eq n (j + 1))
+one-risen zero j l = get_or-replicate 9 j 0 0 l ∙ ap one_if (sym (ne_eqb zero (j + 1) (λ e. absurd (omega arith))))
+one-risen (suc k) j l = at (cases_eq j k)
   where
-    at : (m ≡ k) ⊎ (m ≡ k → ⊥) → get_or (set (replicate 9 0) k (get_or (replicate 9 0) k 0 + 1)) m 0 ≡ one_if (nat_eq (suc k) (suc m))
+    at : (j ≡ k) ⊎ (j ≡ k → ⊥) → get_or (set (replicate 9 0) k (get_or (replicate 9 0) k 0 + 1)) j 0 ≡ one_if (nat_eq (suc k) (j + 1))
     at (inl same) =
         let small : k < 9 = omega arith in
         let none : get_or (replicate 9 0) k 0 + 1 ≡ 1 = ap (λ n. n + 1) (get_or-replicate 9 k 0 0 small) in
         ap (λ i. get_or (set (replicate 9 0) k (get_or (replicate 9 0) k 0 + 1)) i 0) same
         ∙ get_or-set_same (replicate 9 0) k (get_or (replicate 9 0) k 0 + 1) 0 (omega (arith, length-replicate {A = ℕ} 9 0))
         ∙ none
-        ∙ ap one_if (sym (eq-eqb (suc k) (suc m) (ap suc (sym same))))
+        ∙ ap one_if (sym (eq-eqb (suc k) (j + 1) (omega arith)))
     at (inr other) =
-        get_or-set_other (replicate 9 0) k m (get_or (replicate 9 0) k 0 + 1) 0 other
-        ∙ get_or-replicate 9 m 0 0 (omega arith)
-        ∙ ap one_if (sym (ne_eqb (suc k) (suc m) (λ e. other (sym (omega arith)))))
+        get_or-set_other (replicate 9 0) k j (get_or (replicate 9 0) k 0 + 1) 0 other
+        ∙ get_or-replicate 9 j 0 0 l
+        ∙ ap one_if (sym (ne_eqb (suc k) (j + 1) (λ e. other (omega arith))))
 
 -- the channels that have a verdict
-pub one-each : (sets : VerdictSets) (none k j : ℕ) → sets_with sets k ≤ 1 → 0 < j → j < 10 → has_bit none k ≡ false
-    → one_at (none ∷ sets.routed ∷ sets.granted ∷ sets.moved ∷ sets.no_flit ∷ sets.no_idle_channel ∷ sets.lost_channel ∷ sets.no_credit ∷ sets.lost_input ∷ sets.lost_switch ∷ []) j k
-    ≡ one_if (nat_eq (column (verdict_by sets k)) j)
-one-each sets none k j apart some few no_member =
-    let rows = none ∷ sets.routed ∷ sets.granted ∷ sets.moved ∷ sets.no_flit ∷ sets.no_idle_channel ∷ sets.lost_channel ∷ sets.no_credit ∷ sets.lost_input ∷ sets.lost_switch ∷ [] in
+pub one-each : (sets : VerdictSets) (j k : ℕ) → sets_with sets k ≤ 1 → j < 9
+    → one_at (sets.routed ∷ sets.granted ∷ sets.moved ∷ sets.no_flit ∷ sets.no_idle_channel ∷ sets.lost_channel ∷ sets.no_credit ∷ sets.lost_input ∷ sets.lost_switch ∷ []) j k
+    ≡ one_if (nat_eq (column (verdict_by sets k)) (j + 1))
+one-each sets j k apart few =
+    let rows = sets.routed ∷ sets.granted ∷ sets.moved ∷ sets.no_flit ∷ sets.no_idle_channel ∷ sets.lost_channel ∷ sets.no_credit ∷ sets.lost_input ∷ sets.lost_switch ∷ [] in
     sym (get_or-map (λ s. one_if (has_bit s k)) rows j 0 0 few)
-    ∙ ap (λ b. get_or (one_if b ∷ map (λ s. one_if (has_bit s k)) (drop 1 rows)) j 0) no_member
     ∙ ap (λ (xs : List ℕ). get_or xs j 0)
     (one_set (has_bit sets.moved k) (has_bit sets.granted k) (has_bit sets.routed k) (has_bit sets.no_flit k) (has_bit sets.no_idle_channel k) (has_bit sets.lost_channel k) (has_bit sets.no_credit k) (has_bit sets.lost_input k) (has_bit sets.lost_switch k) apart)
-    ∙ one-risen _ j some few
-    ∙ ap (λ (v : Verdict). one_if (nat_eq (column v) j)) (sym (first_by sets k))
+    ∙ one-risen _ j few
+    ∙ ap (λ (v : Verdict). one_if (nat_eq (column v) (j + 1))) (sym (first_by sets k))
 
 -- whether a verdict is an event, by the sets
-event-by : (sets : VerdictSets) (k : ℕ) → is_event (verdict_by sets k) ≡ (has_bit sets.moved k || (has_bit sets.granted k || has_bit sets.routed k))
+pub event-by : (sets : VerdictSets) (k : ℕ) → is_event (verdict_by sets k) ≡ (has_bit sets.moved k || (has_bit sets.granted k || has_bit sets.routed k))
 event-by sets k = ap is_event (first_by sets k) ∙ first_event _ _ _ _ _ _ _ _ _
 
 -- whether it is Moved

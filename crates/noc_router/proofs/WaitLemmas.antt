@@ -4,17 +4,15 @@ use Rattle.std.specs.Prelude.{◌⊎◌, min, nat_lt, if◌then◌else◌}
 use Rattle.std.proofs.lemmas.Bool.{cases_eq, cases_lt, ltb-true, ltb-false}
 use Rattle.std.proofs.lemmas.List.{length-set, get_or-set_same, get_or-set_other, get_or-replicate, length-replicate, ext_get_or, get_or-map, length-map, set-get_or, set-set, set_past}
 use Rattle.std.proofs.lemmas.List.Sums.{sum_by-set}
-use Rattle.noc_router.specs.declared.counters.Counters.{Counters}
 use Rattle.noc_router.specs.declared.verdict.Verdict.{Verdict}
 use Rattle.noc_router.specs.declared.verdict.Finding.{Finding}
-use Rattle.noc_router.specs.Counts.{AreRows, counts_in, others_of, whole_counts}
 use Rattle.noc_router.specs.Still.{counted_times}
-use Rattle.noc_router.specs.Tally.{AreCounted, IsTally, risen_at, risen_by}
+use Rattle.noc_router.specs.Tally.{AreCounted, IsTally, counts_in}
 use Rattle.noc_router.specs.Verdict.{column}
 use Rattle.noc_router.specs.View.{counts_after, saturating_next}
 use Rattle.noc_topo.specs.Words.{map_indexed}
 use Rattle.noc_topo.proofs.WordLemmas.{get_or-map_indexed, length-map_indexed, map_indexed-from_each}
-use Rattle.noc_router.proofs.CountLemmas.{column-small, counted-is, counter_has, drop-more, more-here, more-length, more-there, more_at, others-at, others-length, whole-at, whole-below, whole-length}
+use Rattle.noc_router.proofs.CountLemmas.{column-small, counted-is, risen_at, risen_by}
 
 -- ---- the nine counts behind Empty
 risen_by-none : (n : ℕ) (xs : List ℕ) → risen_by 0 n xs ≡ xs
@@ -149,79 +147,3 @@ first-counted size others is = record {
   where
     at : (i : ℕ) → i < length others → get_or others i [] ≡ replicate 9 0
     at i l = ap (λ (xs : List (List ℕ)). get_or xs i []) is ∙ get_or-replicate size i (replicate 9 0) [] (let h : length others ≡ size = ap length is ∙ length-replicate size (replicate 9 0) in omega arith)
-
--- ---- so many more of a verdict for one channel
-whole-more : (counters : Counters) (i a j : ℕ) (counts : List ℕ) → j < length counts
-    → whole_counts counters i (set counts j (get_or counts j 0 + a)) ≡ set (whole_counts counters i counts) j (get_or (whole_counts counters i counts) j 0 + a)
-whole-more counters i a j counts ten =
-    let now = whole_counts counters i (more_at true a j counts) in
-    let later = more_at true a j (whole_counts counters i counts) in
-    let now_long : length now ≡ length counts = whole-length counters i (more_at true a j counts) ∙ more-length true a j counts in
-    let later_long : length later ≡ length counts = more-length true a j (whole_counts counters i counts) ∙ whole-length counters i counts in
-    ext_get_or 0 now later (now_long ∙ sym later_long) (λ m l. at m (omega arith) (cases_eq m j))
-  where
-    at : (m : ℕ) → m < length counts → (m ≡ j) ⊎ (m ≡ j → ⊥) → get_or (whole_counts counters i (more_at true a j counts)) m 0 ≡ get_or (more_at true a j (whole_counts counters i counts)) m 0
-    at m l (inl same) =
-        subst (λ n. get_or (whole_counts counters i (more_at true a j counts)) n 0 ≡ get_or (more_at true a j (whole_counts counters i counts)) n 0) (sym same)
-        (let at_now = whole-at counters i j (more_at true a j counts) (omega (arith, more-length true a j counts)) in
-        let at_later = more-here true a j (whole_counts counters i counts) (omega (arith, whole-length counters i counts)) in
-        omega (arith, at_now, at_later, more-here true a j counts ten, whole-at counters i j counts ten))
-    at m l (inr other) =
-        let at_now = whole-at counters i m (more_at true a j counts) (omega (arith, more-length true a j counts)) in
-        let at_later = more-there true a j m (whole_counts counters i counts) other in
-        omega (arith, at_now, at_later, more-there true a j m counts other, whole-at counters i m counts l)
-
--- the nine counts of all channels, where channel `index` has so many more
-pub added-others : (counters : Counters) (written : List (List ℕ)) (index a j : ℕ) → 0 < j → j < length (get_or written index []) → index < length written
-    → others_of counters (set written index (set (get_or written index []) j (get_or (get_or written index []) j 0 + a)))
-    ≡ set (others_of counters written) index (risen_by a j (get_or (others_of counters written) index []))
-added-others counters written index a j some ten l =
-    ext_get_or [] (others_of counters (set written index more)) (set (others_of counters written) index risen)
-    (others-length counters (set written index more) ∙ length-set written index more ∙ sym (others-length counters written) ∙ sym (length-set (others_of counters written) index risen))
-    (λ k m. let small : k < length written = omega (arith, others-length counters (set written index more), length-set written index more) in
-    others-at counters (set written index more) k (omega (arith, length-set written index more)) ∙ at k small (cases_eq k index))
-  where
-    here : List ℕ
-    here = get_or written index []
-
-    more : List ℕ
-    more = set here j (get_or here j 0 + a)
-
-    risen : List ℕ
-    risen = risen_by a j (get_or (others_of counters written) index [])
-
-    at : (k : ℕ) → k < length written → (k ≡ index) ⊎ (k ≡ index → ⊥) → drop 1 (whole_counts counters k (get_or (set written index more) k [])) ≡ get_or (set (others_of counters written) index risen) k []
-    at k m (inl same) =
-        ap (λ i. drop 1 (whole_counts counters i (get_or (set written index more) i []))) same
-        ∙ ap (λ xs. drop 1 (whole_counts counters index xs)) (get_or-set_same written index more [] l)
-        ∙ ap (drop 1) (whole-more counters index a j here ten)
-        ∙ drop-more true a j (whole_counts counters index here) some
-        ∙ ap (risen_by a j) (sym (others-at counters written index l))
-        ∙ sym (get_or-set_same (others_of counters written) index risen [] (omega (arith, others-length counters written)))
-        ∙ ap (λ i. get_or (set (others_of counters written) index risen) i []) (sym same)
-    at k m (inr other) =
-        ap (λ xs. drop 1 (whole_counts counters k xs)) (get_or-set_other written index k more [] other)
-        ∙ sym (others-at counters written k m)
-        ∙ sym (get_or-set_other (others_of counters written) index k risen [] other)
-
--- the rows stay rows of ten
-pub added-rows : (written : List (List ℕ)) (index j x : ℕ) → AreRows written → index < length written → AreRows (set written index (set (get_or written index []) j x))
-added-rows written index j x are l = record {
-  few = omega (arith, length-set written index more, are.few);
-  ten = λ i m. ten_at i (omega (arith, length-set written index more)) (cases_eq i index);
-}
-  where
-    more : List ℕ
-    more = set (get_or written index []) j x
-
-    ten_at : (i : ℕ) → i < length written → (i ≡ index) ⊎ (i ≡ index → ⊥) → length (get_or (set written index more) i []) ≡ 10
-    ten_at i m (inl same) = ap (λ k. length (get_or (set written index more) k [])) same ∙ ap length (get_or-set_same written index more [] l) ∙ length-set (get_or written index []) j x ∙ are.ten index l
-    ten_at i m (inr other) = ap length (get_or-set_other written index i more [] other) ∙ are.ten i m
-
--- there is room for so many more in what is written down
-pub added-fits : (counters : Counters) (written : List (List ℕ)) (index a j : ℕ) → AreRows written → 0 < j → j < 10 → index < length written
-    → sum (get_or (others_of counters written) index []) + a < 2 ^ 64 → get_or (get_or written index []) j 0 + a < 2 ^ 64
-added-fits counters written index a j are some small l room =
-    let le : get_or (get_or written index []) j 0 + counter_has counters index j ≤ sum (drop 1 (whole_counts counters index (get_or written index []))) =
-    whole-below counters index j (get_or written index []) some (omega (arith, are.ten index l)) in
-    omega (arith, ap sum (others-at counters written index l))

@@ -1,6 +1,5 @@
 pub mod Arrivals
 pub mod Asked
-pub mod Counts
 pub mod Decided
 pub mod Finish
 pub mod Found

@@ -1,5 +1,5 @@
 -- What a router counts of its input channels, and what it finds of them.
-use Rattle.std.specs.Prelude.{◌≡◌, ℕ, zero, suc, ◌+◌, ◌^◌, ◌<◌, ◌≤◌, Bool, true, false, not, List, [], sum, length, replicate, slice_index, slice_index_or, slice_set}
+use Rattle.std.specs.Prelude.{◌≡◌, ℕ, zero, suc, ◌+◌, ◌-◌, ◌^◌, ◌<◌, ◌≤◌, Bool, true, false, not, List, [], ◌∷◌, sum, length, replicate, slice_index, slice_index_or, slice_set}
 use Rattle.noc_packet.specs.Set.{has_bit}
 use Rattle.noc_topo.specs.Words.{map_indexed}
 use Rattle.noc_ring.specs.Buffers.{buffer_at}
@@ -23,18 +23,9 @@ pub record AreFindings (shown : ℕ) (findings : List Finding) : Type 0 where
   pub within : AreBelow (length findings) shown
   pub plain : (k : ℕ) → has_bit shown k ≡ false → finding_at findings k ≡ empty_finding
 
--- the counts of the nine verdicts behind Empty, with n more for the verdict with this place in the order
-abbrev pub risen_by : ℕ → ℕ → List ℕ → List ℕ
-risen_by n zero others = others
-risen_by n (suc k) others = slice_set others k (slice_index others k + n)
-
--- the counts of the nine verdicts behind Empty, with one more for the verdict with this place in the order
-abbrev pub risen_at : ℕ → List ℕ → List ℕ
-risen_at = risen_by 1
-
--- the nine counts of each channel, with n more for its verdict in this plan
-abbrev pub others_after : ℕ → PlanContents → List (List ℕ) → List (List ℕ)
-others_after n p others = map_indexed (λ i xs. risen_by n (column (planned_verdict p i)) xs) others
+-- the ten counts of a channel after so many cycles: it was empty in those that have no other verdict
+abbrev pub counts_in : ℕ → List ℕ → List ℕ
+counts_in cycles others = (cycles - sum others) ∷ others
 
 -- the ten counts of each channel, and what was found of each when findings were last shown: none before the first time
 pub record TallyContents : Type 0 where

@@ -88,17 +88,17 @@ impl Channels {
         let bank = Bank::new(alloc, size, places)?;
         let mut inputs = Vec::new(alloc);
         inputs.resize(size, InputChannel::new())?;
-        let mut outputs = Vec::new(alloc);
-        outputs.resize(links, OutputChannel::link(places))?;
-        outputs.resize(size, OutputChannel::ejection())?;
+        let outputs = idle_outputs(alloc, size, links, places)?;
+        let none = ChannelSet::empty();
+        let every = all_channels(size);
         Ok(Channels {
             size,
-            filled: ChannelSet::empty(),
-            waiting: ChannelSet::empty(),
-            active: ChannelSet::empty(),
-            supplied: ChannelSet::empty(),
-            idle: all_channels(size),
-            every: all_channels(size),
+            filled: none,
+            waiting: none,
+            active: none,
+            supplied: none,
+            idle: every,
+            every,
             bank,
             inputs,
             outputs,
@@ -368,6 +368,24 @@ pub(crate) fn marked(set: ChannelSet, index: usize, is_member: bool) -> ChannelS
     } else {
         set.without(index)
     }
+}
+
+// Idle output channels, of which the first `links` go on links.
+fn idle_outputs(
+    alloc: Global,
+    size: usize,
+    links: usize,
+    places: usize,
+) -> Result<Vec<OutputChannel>, Memory>
+    requires links { links ≤ size }
+    requires some_place { 0 < places }
+    requires places { places ≤ MAX_BUFFER }
+    ensures { IfOk result (λ outputs. outputs.items ≡ replicate links (link_output places) ++ replicate (size - links) ejection_output) }
+{
+    let mut outputs = Vec::new(alloc);
+    outputs.resize(links, OutputChannel::link(places))?;
+    outputs.resize(size, OutputChannel::ejection())?;
+    Ok(outputs)
 }
 
 // The set of the first `size` channels.

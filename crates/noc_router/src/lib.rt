@@ -1,12 +1,9 @@
 //! One router: its channels, its source and its sink, and one cycle of it over all beats.
 #![tactic(auto)]
 
-mod adder;
 mod arbiters;
 mod arrivals;
 mod channels;
-mod counters;
-mod digit;
 mod findings;
 mod indices;
 mod leads;
@@ -17,7 +14,6 @@ mod router;
 mod source;
 mod tally;
 mod verdict;
-mod verdict_counts;
 mod verdict_sets;
 
 pub use plan::Plan;

@@ -21,7 +21,7 @@ pub(crate) struct Links {
 impl Links {
     pub(crate) fn new() -> Links
         ensures beats { result.beats ≡ replicate LINKS idle_beat }
-        ensures loaded { result.loaded ≡ 0 }
+        ensures loaded { (k : ℕ) → has_bit result.loaded k ≡ false }
     {
         Links {
             beats: [Beat::idle(); LINKS],
@@ -36,24 +36,7 @@ impl Links {
         ensures loaded { (k : ℕ) → has_bit self.new.loaded k ≡ false }
     {
         if !self.loaded.is_empty() {
-            self.clear_loaded();
-        }
-    }
-
-    // Every beat is idle again, where some are not.
-    #[inline(never)]
-    fn clear_loaded(&mut self)
-        ensures beats { self.new.beats ≡ replicate LINKS idle_beat }
-        ensures loaded { (k : ℕ) → has_bit self.new.loaded k ≡ false }
-    {
-        for _ in 0..LINKS {
-            let Some(port) = self.loaded.least_common(&self.loaded) else {
-                break;
-            };
-            self.loaded = self.loaded.without(port);
-            if port < LINKS {
-                self.beats[port] = Beat::idle();
-            }
+            *self = Links::new();
         }
     }
 

@@ -109,6 +109,10 @@ impl Router {
         let shape = *relation.shape();
         let ports = shape.ports();
         let vcs = relation.vcs();
+        let channels = Channels::new(alloc, ports * vcs, (ports - 1) * vcs, places)?;
+        let tally = Tally::new(alloc, ports * vcs)?;
+        let arbiters = Arbiters::new(alloc, ports, vcs)?;
+        let arrivals = Arrivals::new(alloc, ends)?;
         Ok(Router {
             node,
             ports,
@@ -119,12 +123,12 @@ impl Router {
             last_event: None,
             misfits: 0,
             source: Source::new(starts),
-            channels: Channels::new(alloc, ports * vcs, (ports - 1) * vcs, places)?,
+            channels,
             leads: Leads::new(&shape, node),
             links: Links::new(),
-            tally: Tally::new(alloc, ports * vcs)?,
-            arbiters: Arbiters::new(alloc, ports, vcs)?,
-            arrivals: Arrivals::new(alloc, ends)?,
+            tally,
+            arbiters,
+            arrivals,
             indices: Indices::new(vcs),
             shape,
         })
@@ -433,7 +437,7 @@ impl Router {
             self.tally.count_empty(end - first);
         } else {
             self.plan(relation, plan);
-            self.tally.count_more(&self.channels, plan, end - first);
+            self.tally.count_more(plan, end - first);
         }
     }
 

@@ -14,7 +14,8 @@ use crate::findings::Findings;
 use crate::indices::Indices;
 use crate::plan::Plan;
 use crate::verdict::{Finding, VERDICTS};
-use crate::verdict_counts::VerdictCounts;
+use crate::verdict_sets::OTHERS;
+use noc_counts::Counts;
 use noc_packet::Memory;
 use std::alloc::Global;
 use std::marker::Model;
@@ -28,14 +29,14 @@ pub(crate) struct Tally {
     cycles: u64,
     // Whether findings were shown.
     begun: bool,
-    others: VerdictCounts,
+    // Of the verdicts but Empty.
+    others: Counts<OTHERS>,
     findings: Findings,
 }
 
 impl Model for Tally {
     ghost use Rattle.std.specs.Prelude.{[], map, if◌then◌else◌};
-    ghost use Rattle.noc_router.specs.Counts.{counts_in};
-    ghost use Rattle.noc_router.specs.Tally.{IsTally, TallyContents};
+    ghost use Rattle.noc_router.specs.Tally.{IsTally, TallyContents, counts_in};
 
     ghost Value = { TallyContents };
 
@@ -53,7 +54,7 @@ impl Tally {
         Ok(Tally {
             cycles: 0,
             begun: false,
-            others: VerdictCounts::new(alloc, size)?,
+            others: Counts::new(alloc, size)?,
             findings: Findings::new(alloc, size)?,
         })
     }
@@ -68,17 +69,17 @@ impl Tally {
             return;
         }
         self.cycles += 1;
-        self.others.count(plan);
+        self.others.count(&plan.verdicts.each());
     }
 
     // Counts so many more cycles with this plan.
-    pub(crate) fn count_more(&mut self, channels: &Channels, plan: &Plan, cycles: u64)
-        requires { IsPlanOf channels.now (length self.old.counts) plan.now }
+    pub(crate) fn count_more(&mut self, plan: &Plan, cycles: u64)
+        requires { length plan.now.verdicts ≡ length self.old.counts }
         ensures { self.new ≡ record self.old { counts = map_indexed (λ i counts. counted_times cycles (planned_verdict plan.now i) counts) self.old.counts } }
     {
         let more = cycles.min(u64::MAX - self.cycles);
         self.cycles += more;
-        self.others.count_more(channels, plan, more);
+        self.others.count_more(&plan.verdicts.each(), more);
     }
 
     // Counts so many more cycles in which every channel is empty.
@@ -102,7 +103,15 @@ impl Tally {
         requires { index < length self.now.counts }
         ensures { result ≡ slice_index_or self.now.counts index [] }
     {
-        self.others.of(index, self.cycles)
+        let others = self.others.of(index);
+        let mut counts = [0; VERDICTS];
+        let mut empty = self.cycles;
+        for place in 0..OTHERS {
+            counts[place + 1] = others[place];
+            empty -= others[place];
+        }
+        counts[0] = empty;
+        counts
     }
 
     // The findings that were shown last, by input channel: none before the first.

@@ -1,13 +1,15 @@
 //! The verdicts of one router as sets of input channels.
 
-ghost use Rattle.std.specs.Prelude.{◌≡◌, ℕ, ◌<◌, ◌≤◌, ◌==◌, length};
+ghost use Rattle.std.specs.Prelude.{◌≡◌, ℕ, ◌+◌, ◌<◌, ◌≤◌, ◌==◌, length};
 ghost use Rattle.noc_packet.specs.Set.{has_bit};
-ghost use Rattle.noc_router.specs.Counts.{one_at, one_if};
+ghost use Rattle.noc_counts.specs.Counts.{one_at, one_if};
 ghost use Rattle.noc_router.specs.Verdict.{column, is_event};
 
-use crate::digit::Sets;
-use crate::verdict::Verdict;
+use crate::verdict::{VERDICTS, Verdict};
 use noc_packet::{ChannelSet, INDICES};
+
+/// How many verdicts there are but Empty.
+pub(crate) const OTHERS: usize = VERDICTS - 1;
 
 /// For each verdict but Empty the input channels that have it. A channel has the first verdict in whose set it is, and
 /// Empty where it is in none. No channel of a plan is in two of them.
@@ -47,13 +49,12 @@ impl VerdictSets {
         }
     }
 
-    // The channels with each verdict but Empty, by its place in the order of the verdicts.
+    // The channels with each verdict but Empty, in the order of the verdicts.
     #[inline(always)]
-    pub(crate) fn each(&self) -> Sets
-        ensures { (j k : ℕ) → sets_with self.now k ≤ 1 → 0 < j → j < 10 → one_at result j k ≡ one_if (column (verdict_by self.now k) == j) }
+    pub(crate) fn each(&self) -> [ChannelSet; OTHERS]
+        ensures { (j k : ℕ) → sets_with self.now k ≤ 1 → j < 9 → one_at result j k ≡ one_if (column (verdict_by self.now k) == j + 1) }
     {
         [
-            ChannelSet::empty(),
             self.routed,
             self.granted,
             self.moved,
@@ -67,7 +68,7 @@ impl VerdictSets {
     }
 
     // The channels with each verdict but Empty, and that verdict. A channel in several sets has the verdict of the first.
-    pub(crate) fn with_verdicts(&self) -> [(ChannelSet, Verdict); 9]
+    pub(crate) fn with_verdicts(&self) -> [(ChannelSet, Verdict); OTHERS]
         ensures count { length result ≡ 9 }
         ensures verdicts { (k : ℕ) → first_verdict_in result k ≡ verdict_by self.now k }
     {
@@ -90,6 +91,7 @@ impl VerdictSets {
     {
         self.moved.either(self.granted).either(self.routed)
     }
+
     // The verdict of a channel.
     pub(crate) fn verdict(&self, index: usize) -> Verdict
         requires { index < INDICES }

@@ -9,7 +9,7 @@ use Rattle.noc_vc.specs.declared.input.InputState.{InputState}
 use Rattle.noc_vc.specs.declared.input.InputState.TheVariants.{Idle, Waiting, Active}
 use Rattle.noc_vc.specs.declared.output.OutputState.{OutputState}
 use Rattle.noc_vc.specs.declared.output.OutputState.TheVariants.{Idle as Free, Owned, Draining}
-use Rattle.noc_router.specs.Counts.{one_if}
+use Rattle.noc_counts.specs.Counts.{one_if}
 use Rattle.noc_router.specs.Sound.{is_supplied, owns, is_owned_from}
 use Rattle.noc_router.specs.View.{View, size_of, view_input, view_output}
 use Rattle.noc_row_words.specs.Bits.{differ}

@@ -11,8 +11,8 @@ use Rattle.noc_packet.specs.Set.{has_bit, IsLeast}
 use Rattle.noc_packet.proofs.SetLemmas.{both_members, either_members, has_bit-below, has_bit-above, has_bit-zero, has_bit-none, zero_from_none, bit_at-true, bit_at-false}
 use Rattle.noc_alloc.specs.Arbiter.{first_in_turn}
 use Rattle.noc_alloc.proofs.ArbiterLemmas.{first_in_turn-at, first_in_turn-before, first_in_turn-none}
-use Rattle.noc_router.specs.Counts.{one_if}
-use Rattle.noc_router.proofs.DigitLemmas.{one-small}
+use Rattle.noc_counts.specs.Counts.{one_if}
+use Rattle.noc_counts.proofs.DigitLemmas.{one-small}
 use Rattle.noc_row_words.specs.Bits.{less, minus, plus, up_by, down_by}
 use Rattle.noc_row_words.specs.Fields.{field, spread, lows, highs, rests, Fields, IsFields, lane_some, lane_whole, lane_turn, lane_least, lane_pick, lane_past, ShowsPointer}
 use Rattle.noc_row_words.proofs.BitLemmas.{less_members, or_fits, pred_members, least_is}

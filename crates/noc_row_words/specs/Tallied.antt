@@ -2,7 +2,7 @@
 use Rattle.std.specs.Prelude.{◌≡◌, ℕ, zero, suc, ◌+◌, ◌-◌, ◌*◌, ◌/◌, ◌%◌, ◌^◌, ◌<◌, ◌≤◌, List, [], ◌∷◌, Option, Some, None, slice_index, slice_index_or, sum}
 use Rattle.noc_router.specs.View.{View, size_of}
 use Rattle.noc_packet.specs.Set.{has_bit}
-use Rattle.noc_router.specs.Counts.{one_if}
+use Rattle.noc_counts.specs.Counts.{one_if}
 use Rattle.noc_row_words.specs.Column.{place_of}
 use Rattle.noc_row_words.specs.Rows.{verdicts_at, word}
 use Rattle.noc_row_words.specs.Sheet.{counted_at}

@@ -2,7 +2,7 @@
 
 ghost use Rattle.std.specs.Prelude.{◌≡◌, ◌+◌, ◌*◌, ◌/◌, ◌%◌, ◌^◌, ◌<◌, ℕ, slice_index};
 ghost use Rattle.noc_packet.specs.Set.{has_bit};
-ghost use Rattle.noc_router.specs.Counts.{one_if};
+ghost use Rattle.noc_counts.specs.Counts.{one_if};
 ghost use Rattle.noc_row_words.specs.Rows.{word};
 ghost use Rattle.noc_row_words.specs.Tallied.{CountsAreBelow, HaveRisen, with_waits};
 

@@ -6,7 +6,7 @@ use Rattle.std.proofs.lemmas.Bool.{eqb-true}
 use Rattle.noc_topo.specs.Words.{tabulate}
 use Rattle.noc_topo.specs.Shape.{nodes}
 use Rattle.noc_topo.proofs.WordLemmas.{length-tabulate, get_or-tabulate}
-use Rattle.noc_router.specs.Counts.{one_if}
+use Rattle.noc_counts.specs.Counts.{one_if}
 use Rattle.noc_theory.specs.declared.event.Event.{Event}
 use Rattle.noc_theory.specs.declared.event.Event.TheVariants.{Take, Decide, Put}
 use Rattle.noc_theory.specs.Core.{CoreState, Post, after_events, happens, is_linked, is_ready, link_ports, opening_core, post_at, resting_post, wires_in_flight}

@@ -9,7 +9,7 @@ use Rattle.noc_route.specs.Channel.{Channel, Link, Inject, Eject, sending_router
 use Rattle.noc_route.proofs.BuiltLemmas.{linked-port}
 use Rattle.noc_vc.specs.declared.input.InputState.TheVariants.{Idle, Waiting, Active}
 use Rattle.noc_vc.specs.declared.output.OutputState.TheVariants.{Owned, Draining}
-use Rattle.noc_router.specs.Counts.{one_if}
+use Rattle.noc_counts.specs.Counts.{one_if}
 use Rattle.noc_router.specs.Verdict.{is_moved}
 use Rattle.noc_theory.specs.Good.{places_taken}
 use Rattle.noc_theory.specs.Lockstep.{has_come, seen_phase, seen_phase_with, seen_holder, seen_source, seen_set}

@@ -14,7 +14,7 @@ use Rattle.noc_alloc.specs.Arbiter.{RoundRobin, arbiter_at}
 use Rattle.noc_vc.specs.Input.{Input, idle_input, is_idle_phase}
 use Rattle.noc_vc.specs.Output.{Output, link_output, ejection_output}
 use Rattle.noc_vc.specs.declared.output.OutputState.TheVariants.{Idle as Free}
-use Rattle.noc_router.specs.Counts.{one_if}
+use Rattle.noc_counts.specs.Counts.{one_if}
 use Rattle.noc_router.specs.Sound.{is_supplied}
 use Rattle.noc_router.specs.View.{Site, View, size_of, view_buffer, view_input, view_output, opening_view}
 use Rattle.noc_router.proofs.QuietLemmas.{at_replicate}

@@ -10,7 +10,7 @@ use Rattle.noc_topo.specs.Words.{below}
 use Rattle.noc_route.specs.Routes.{Routes}
 use Rattle.noc_packet.specs.Set.{has_bit}
 use Rattle.noc_router.specs.Arrivals.{is_expected_in, arrivals_after}
-use Rattle.noc_router.specs.Counts.{one_if}
+use Rattle.noc_counts.specs.Counts.{one_if}
 use Rattle.noc_router.specs.Verdict.{column}
 use Rattle.noc_router.specs.VerdictSets.{verdict_by, sets_with}
 use Rattle.noc_router.specs.View.{Site, View, Decisions, size_of, counts_after, view_after_commit, decisions_of, view_after_inject, view_after_inject_from, with_injected, begun_on, is_vacant, local_channel, view_buffer, view_after_takes, local_step, decided_verdict, has_event, with_arrival, with_misfit, tail_packet, flit_out}

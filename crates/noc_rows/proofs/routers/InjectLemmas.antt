@@ -14,7 +14,7 @@ use Rattle.noc_packet.proofs.SetLemmas.{both_members, either_members, has_bit-be
 use Rattle.noc_vc.specs.Input.{is_active, is_empty, is_idle_phase, is_waiting}
 use Rattle.noc_vc.specs.declared.input.InputState.{InputState}
 use Rattle.noc_vc.specs.declared.input.InputState.TheVariants.{Idle, Waiting, Active}
-use Rattle.noc_router.specs.Counts.{one_if}
+use Rattle.noc_counts.specs.Counts.{one_if}
 use Rattle.noc_router.specs.View.{View, size_of, local_channel, view_buffer, view_input, is_vacant, with_injected, begun_on, view_after_inject_from}
 use Rattle.noc_row_words.specs.Bits.{lowest}
 use Rattle.noc_row_words.specs.Column.{Column, AreWords, ShowsSending}

@@ -2,7 +2,7 @@
 use Rattle.std.proofs.Common.{◌≡◌, ℕ, zero, suc, ◌+◌, ◌-◌, ◌*◌, ◌^◌, ◌<◌, ◌≤◌, Bool, true, false, List, sum, refl, ap, sym, ◌∙◌, arith}
 use Rattle.std.specs.Prelude.{nat_lt, slice_index, if◌then◌else◌}
 use Rattle.std.proofs.lemmas.Bool.{lt-ltb, true≢false}
-use Rattle.noc_router.specs.Counts.{one_if}
+use Rattle.noc_counts.specs.Counts.{one_if}
 use Rattle.noc_router.specs.Still.{counted_times}
 use Rattle.noc_router.specs.Verdict.{is_event}
 use Rattle.noc_router.specs.View.{counts_after}

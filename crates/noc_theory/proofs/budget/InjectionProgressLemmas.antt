@@ -10,7 +10,7 @@ use Rattle.noc_theory.proofs.runs.PostLemmas.{some_of_map}
 use Rattle.noc_route.specs.Channel.{Channel, Eject, Inject, Link, same_channel}
 use Rattle.noc_topo.specs.Shape.{distance, nodes}
 use Rattle.noc_topo.specs.Words.{Has, below}
-use Rattle.noc_router.specs.Counts.{one_if}
+use Rattle.noc_counts.specs.Counts.{one_if}
 use Rattle.noc_theory.proofs.worms.BufferLemmas.{same_flit, IsDistinct}
 use Rattle.noc_theory.proofs.worms.OptionLemmas.{and_then-some}
 use Rattle.noc_theory.proofs.worms.MemberLemmas.{Has-filter, Has-filter_map, find-some, list_any-has}

@@ -8,7 +8,7 @@ use Rattle.noc_route.specs.Channel.{Channel, Link, Inject, Eject, same_channel, 
 use Rattle.noc_vc.specs.Output.{Output, output_after_credit, credit_fits, holder_at}
 use Rattle.noc_vc.specs.declared.output.OutputState.{OutputState}
 use Rattle.noc_vc.specs.declared.output.OutputState.TheVariants.{Idle as Free, Owned, Draining}
-use Rattle.noc_router.specs.Counts.{one_if}
+use Rattle.noc_counts.specs.Counts.{one_if}
 use Rattle.noc_theory.specs.Lockstep.{has_come, seen_output, seen_holder, seen_source}
 use Rattle.noc_theory.specs.Network.{Setup, State, Located, Place, Source, On, In, Out, leaving, place_of_flit, tail_place, is_on, is_in, is_past, owner_of, leads_from, has_channel, credit_of, count_in, count_on, landed_place, after_credits}
 use Rattle.noc_theory.specs.Progress.{weight, hops}

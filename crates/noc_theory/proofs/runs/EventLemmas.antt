@@ -8,7 +8,7 @@ use Rattle.noc_topo.specs.Shape.{neighbour}
 use Rattle.noc_topo.proofs.WordLemmas.{get_or-map_indexed}
 use Rattle.noc_packet.specs.declared.packet.Beat.{Beat}
 use Rattle.noc_router.specs.View.{local_step, idle_beat}
-use Rattle.noc_router.specs.Counts.{one_if}
+use Rattle.noc_counts.specs.Counts.{one_if}
 use Rattle.noc_theory.specs.declared.event.Event.{Event}
 use Rattle.noc_theory.specs.declared.event.Event.TheVariants.{Take, Decide, Put}
 use Rattle.noc_theory.specs.Core.{Post, all_have, deciding, post_after_last_put, has_beat, is_linked, link_ports, may_decide, may_put, may_take, none_has, putting, resting_post, taking, wire_of}

@@ -12,7 +12,7 @@ use Rattle.noc_topo.proofs.WordLemmas.{length-map_indexed}
 use Rattle.noc_packet.specs.declared.packet.Beat.{Beat}
 use Rattle.noc_route.proofs.OptionLemmas.{no-value}
 use Rattle.noc_router.specs.View.{local_step, idle_beat}
-use Rattle.noc_router.specs.Counts.{one_if}
+use Rattle.noc_counts.specs.Counts.{one_if}
 use Rattle.noc_theory.specs.Core.{Post, all_have, post_after_last_put, has_beat, is_linked, link_ports, may_decide, no_beats, none_has, receiving, resting_post, taking, wire_of}
 use Rattle.noc_theory.specs.Halves.{beat_at}
 use Rattle.noc_theory.specs.InStep.{HoldsCycles, IsPostInStep, beats_of_cycles, cycle_of}

@@ -14,7 +14,7 @@ use Rattle.noc_topo.proofs.WordLemmas.{length-tabulate, get_or-tabulate, tabulat
 use Rattle.noc_packet.specs.declared.packet.Beat.{Beat}
 use Rattle.noc_route.proofs.OptionLemmas.{no-value}
 use Rattle.noc_router.specs.View.{View}
-use Rattle.noc_router.specs.Counts.{one_if}
+use Rattle.noc_counts.specs.Counts.{one_if}
 use Rattle.noc_theory.specs.declared.event.Event.{Event}
 use Rattle.noc_theory.specs.declared.event.Event.TheVariants.{Take, Decide, Put}
 use Rattle.noc_theory.specs.Core.{CoreState, Post, after_event, after_events, are_between, happens, has_beat, is_between, is_linked, is_ready, link_ports, no_beats, none_has, onto_wire, post_at, resting_post, wire_of}

@@ -1,4 +1,5 @@
-use Rattle.std.proofs.Common.{◌*◌, ap, arith, length, replicate, rules, ◌∙◌}
+use Rattle.std.proofs.Common.{◌*◌, ap, arith, length, replicate, rules, sym, ◌∙◌}
+use Rattle.std.proofs.lemmas.Bool.{false≢true}
 use Rattle.std.proofs.lemmas.List.{length-replicate}
 use Rattle.noc_topo.specs.Shape.{Grid}
 use Rattle.noc_router.specs.Tally.{TallyContents}
@@ -15,11 +16,11 @@ invariant_of-result c = record {
   few_vcs = search (rules, arith);
   channels = search (rules, arith);
   places = search (rules, arith);
-  leads = c.new-3.ensures;
-  loaded = search (rules, arith);
+  leads = c.new-6.ensures;
+  loaded = λ k e. absurd (false≢true (sym (c.new-7.ensures.loaded k) ∙ e));
   sending = search (rules, arith);
   awaiting = search (rules, arith);
-  counts = ap (λ (t : TallyContents). length t.counts) c.in_ok-new-2.ensures ∙ length-replicate (c.ports-ports.result * c.vcs-vcs.result) (replicate 10 0);
+  counts = ap (λ (t : TallyContents). length t.counts) c.in_ok-tally.ensures ∙ length-replicate (c.ports-ports.result * c.vcs-vcs.result) (replicate 10 0);
   arbiter_ports = search (rules, arith);
   arbiter_vcs = search (rules, arith);
   index_vcs = c.new-8.ensures;
@@ -27,10 +28,10 @@ invariant_of-result c = record {
 
 pub returns : goal.returns
 returns c =
-    opening-is c.args.node c.ports-ports.result c.vcs-vcs.result c.args.places c.shape.result.now c.new.result c.in_ok-new.field-0 c.new-3.result c.new-4.result c.in_ok-new-2.field-0 c.in_ok-new-3.field-0 c.in_ok-new-4.field-0 c.new-8.result c.args.starts.items c.args.ends.items
-    c.ports-ports.ensures.grid c.ports-ports.ensures.value c.new.ensures.queue c.new.ensures.vc
-    c.in_ok-new.ensures c.new-4.ensures.beats
-    c.in_ok-new-2.ensures
-    c.in_ok-new-3.ensures c.in_ok-new-4.ensures
+    opening-is c.args.node c.ports-ports.result c.vcs-vcs.result c.args.places c.shape.result.now c.new-5.result c.in_ok-channels.channels c.new-6.result c.new-7.result c.in_ok-tally.tally c.in_ok-arbiters.arbiters c.in_ok-arrivals.arrivals c.new-8.result c.args.starts.items c.args.ends.items
+    c.ports-ports.ensures.grid c.ports-ports.ensures.value c.new-5.ensures.queue c.new-5.ensures.vc
+    c.in_ok-channels.ensures c.new-7.ensures.beats
+    c.in_ok-tally.ensures
+    c.in_ok-arbiters.ensures c.in_ok-arrivals.ensures
     ∙ ap (λ (g : Grid). opening_view (record { grid = g; node = c.args.node; vcs = c.vcs-vcs.result; places = c.args.places }) c.args.starts.items c.args.ends.items) c.shape.ensures.value
     ∙ ap (λ n. opening_view (record { grid = c.args.relation.now.grid; node = c.args.node; vcs = n; places = c.args.places }) c.args.starts.items c.args.ends.items) c.vcs-vcs.ensures.value

@@ -6,7 +6,7 @@ use Rattle.noc_router.specs.Settled.{AreContentsFor, planned_verdict}
 use Rattle.noc_router.specs.Still.{counted_times, view_after_waiting}
 use Rattle.noc_router.specs.Tally.{TallyContents}
 use Rattle.noc_router.specs.View.{View, plan_contents, size_of, view_round}
-use Rattle.noc_router.proofs.OutcomeLemmas.{outcome-decided, outcome-occupied}
+use Rattle.noc_router.proofs.OutcomeLemmas.{outcome-decided}
 use Rattle.noc_router.proofs.RouterLemmas.{IsRouter-counted}
 use Rattle.noc_router.proofs.WholeLemmas.{size_view}
 use Rattle.noc_router.proofs.StillLemmas.{counted-planned}
@@ -32,13 +32,7 @@ count_more-requires c =
       };
       is = c.plan.ensures.value ∙ outcome-given c.args.relation.now v (c.args.end - 1);
     } in
-    let decided = outcome-decided c.plan.new.plan v is in
-    record {
-      channels = h.channels ∙ sym h.counts;
-      asks = decided.asks ∙ size ∙ sym h.counts;
-      verdicts = decided.verdicts ∙ size ∙ sym h.counts;
-      occupied = λ k l. outcome-occupied c.plan.new.plan v k is (omega (arith, l, size, h.counts));
-    }
+    (outcome-decided c.plan.new.plan v is).verdicts ∙ size ∙ sym h.counts
 
 pub invariant_of-self-else-holds_nothing-2 : goal.invariant_of-self-else-holds_nothing-2
 invariant_of-self-else-holds_nothing-2 c =

@@ -3,9 +3,8 @@ use Rattle.std.specs.Prelude.{min, if◌then◌else◌}
 use Rattle.std.proofs.lemmas.List.{get_or-map, length-map}
 use Rattle.noc_topo.specs.Words.{map_indexed}
 use Rattle.noc_topo.proofs.WordLemmas.{map_indexed-from_each}
-use Rattle.noc_router.specs.Counts.{counts_in}
 use Rattle.noc_router.specs.Still.{counted_times}
-use Rattle.noc_router.specs.Tally.{IsTally, TallyContents}
+use Rattle.noc_router.specs.Tally.{IsTally, TallyContents, counts_in}
 use Rattle.noc_router.specs.declared.verdict.Verdict.TheVariants.{Empty}
 use Rattle.noc_router.specs.declared.verdict.Finding.{Finding}
 use Rattle.noc_router.proofs.WaitLemmas.{AreWaited, others-none, waiting-counts, waiting-tally}

@@ -2,9 +2,8 @@ use Rattle.std.proofs.Common.{◌≡◌, List, ℕ, length, map, ap, sym, ◌∙
 use Rattle.std.proofs.lemmas.List.{length-map}
 use Rattle.noc_topo.specs.Words.{tabulate}
 use Rattle.noc_topo.proofs.WordLemmas.{length-tabulate}
-use Rattle.noc_router.specs.Counts.{counts_in}
 use Rattle.noc_router.specs.Settled.{finding_by}
-use Rattle.noc_router.specs.Tally.{IsPlanOf, TallyContents}
+use Rattle.noc_router.specs.Tally.{IsPlanOf, TallyContents, counts_in}
 use Rattle.noc_router.specs.declared.verdict.Finding.{Finding}
 use Rattle.noc_router.proofs.tally.Tally.show.Goals as goal
 

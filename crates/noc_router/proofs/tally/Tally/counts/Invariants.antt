@@ -1,0 +1,10 @@
+use Rattle.std.proofs.Common.{◌≡◌, ℕ, ◌+◌, ◌<◌, length, get_or, sum, take}
+use Rattle.noc_router.proofs.tally.Tally.counts.Given as goal
+
+-- the verdicts before this one are in their places, and the cycles that they have are no longer empty ones
+abbrev pub invariant-loop-place : goal.invariant-loop-place
+invariant-loop-place l = record {
+  ten : length l.counts ≡ 10;
+  done : (k : ℕ) → k < l.place → get_or l.counts (k + 1) 0 ≡ get_or l.others k 0;
+  so_far : l.empty + sum (take l.place l.others) ≡ l.initial.empty;
+}
