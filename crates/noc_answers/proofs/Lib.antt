@@ -6,6 +6,7 @@ pub mod ArrivalLemmas
 pub mod DrainLemmas
 pub mod RankedLemmas
 pub mod RequestLemmas
+pub mod OptionLemmas
 pub mod OneRankingLemmas
 pub mod OneCheckLemmas
 pub mod OneAnswerLemmas

@@ -90,11 +90,13 @@ module _ (a : Asked) where
 
   one_run : (u v : Run) → AsksForRun a u → AsksForRun a v → u ≡ v
   one_run u v x y =
-      let same = one_relation_asked a x.settings y.settings x.routes y.routes x.before.relation y.before.relation in
-      let net = same_net x.routes y.routes x.settings y.settings u.net v.net same.1 same.0 x.network y.network in
+      let m = x.opens in
+      let n = y.opens in
+      let same = one_relation_asked a m.settings n.settings m.routes n.routes m.before.relation n.before.relation in
+      let net = same_net m.routes n.routes m.settings n.settings u.net v.net same.1 same.0 m.network n.network in
       let P : Setup → Settings → Type 0 = λ z s. RunsTo (runs_until_out a.command) z (cycles_asked a.command s) v.count in
-      let other : P u.net x.settings = subst (λ s. P u.net s) (sym same.0) (subst (λ z. P z y.settings) (sym net) y.cycles) in
-      let count : u.count ≡ v.count = ends-once u.net (runs_until_out a.command) (cycles_asked a.command x.settings) u.count v.count x.cycles other in
+      let other : P u.net m.settings = subst (λ s. P u.net s) (sym same.0) (subst (λ z. P z n.settings) (sym net) y.cycles) in
+      let count : u.count ≡ v.count = ends-once u.net (runs_until_out a.command) (cycles_asked a.command m.settings) u.count v.count x.cycles other in
       λ i. record { net = net i; count = count i }
 
   one_formula : (s t : Settings) (g h : Grid) (k j : Ranking) → s ≡ t → g ≡ h → HasRanks s g k → HasRanks t h j → k ≡ j

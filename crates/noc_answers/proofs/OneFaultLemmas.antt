@@ -8,7 +8,7 @@ use Rattle.noc_topo.specs.Shape.{Grid, IsGrid}
 use Rattle.noc_route.specs.Routes.{Routes}
 use Rattle.noc_route.specs.declared.rule.Rule.{Rule}
 use Rattle.noc_net.specs.Faults.{fault_of}
-use Rattle.noc_net.specs.Network.{Run, Setup}
+use Rattle.noc_net.specs.Network.{Setup}
 use Rattle.noc_rank.specs.Formulas.{IsFaultOfFormula}
 use Rattle.noc_route.specs.Ranks.{Ranking}
 use Rattle.noc_rank.specs.Faults.{IsFaultOfCheck}
@@ -38,7 +38,7 @@ use Rattle.noc_commands.specs.declared.command.Command.{Command}
 use Rattle.noc_commands.specs.declared.command.Command.TheVariants as command
 use Rattle.noc_answers.specs.declared.request.Request.{Request}
 use Rattle.noc_faults.specs.declared.status.Status.{Status}
-use Rattle.noc_answers.specs.Run.{AsksForRun, IsNetworkOf, IsUnmade, PacketsFault, bad_traffic, bad_network}
+use Rattle.noc_answers.specs.Run.{IsNetworkOf, IsUnmade, Opens, PacketsFault, bad_traffic, bad_network}
 use Rattle.noc_answers.proofs.MemoryLemmas.{network_not_memory, ranks_not_memory, traffic_not_memory}
 use Rattle.noc_answers.proofs.OneSettingsLemmas.{one_relation_asked, no_settings_fault, one_settings_fault}
 use Rattle.noc_answers.proofs.OneAnswerLemmas.{kind, reports, explains, checks, ranked, is_trace, has_packet, has_no_packet, one_reading}
@@ -177,10 +177,10 @@ module _ (a : Asked) where
       let Q : Routes → Type 0 = λ z. RanksFault z text f in
       accepts_none x text f p (subst P e h.accepted) (subst Q (sym (one_relation_asked a s t x y h.relation asks).1) bad)
 
-  no_packets_fault : (run : Run) (t : Settings) (y : Routes) (f : Fault) → is_memory f ≡ false → AsksForRun a run → AsksForRelation a t y → PacketsFault y a.traffic f → ⊥
-  no_packets_fault run t y f p h asks bad =
+  no_packets_fault : (net : Setup) (t : Settings) (y : Routes) (f : Fault) → is_memory f ≡ false → Opens a net → AsksForRelation a t y → PacketsFault y a.traffic f → ⊥
+  no_packets_fault net t y f p h asks bad =
       let Q : Routes → Type 0 = λ z. PacketsFault z a.traffic f in
-      network_none h.routes h.settings.buffer a.traffic run.net f p h.network (subst Q (sym (one_relation_asked a h.settings t h.routes y h.before.relation asks).1) bad)
+      network_none h.routes h.settings.buffer a.traffic net f p h.network (subst Q (sym (one_relation_asked a h.settings t h.routes y h.before.relation asks).1) bad)
 
   no_network_fault : (s t : Settings) (x y : Routes) (net : Setup) (f : Fault) → is_memory f ≡ false → AsksForChecked a s x → AsksForChecked a t y → IsNetworkOf x s.buffer a.traffic net
       → PacketsFault y a.traffic f → ⊥
@@ -209,18 +209,18 @@ module _ (a : Asked) where
       let never : None ≡ Some f = sym none ∙ ap (λ (ps : List Packet). packet_option_fault a.command (length ps)) (same_packets x y s t m n h u) ∙ bad in
       cc never
 
-  -- a run that is asked for has no fault
-  run_none : (run : Run) (f : Fault) → is_memory f ≡ false → (a.command ≡ command.Ranks → ⊥) → AsksForRun a run → packet_option_fault a.command (length run.net.packets) ≡ None → TextsFault a f → ⊥
-  run_none run f p other h none (no_packet {s = t} {routes = y} {net = n} {f = i} x u bad) = no_missing_packet h.routes y h.settings t run.net n i h.network u none bad
-  run_none run f p other h none (in_settings bad) = no_settings_fault a h.settings h.routes f p h.before.relation bad
-  run_none run f p other h none (in_formula e x bad) = other e
-  run_none run f p other h none (in_ranks {s = t} {routes = y} {text = text} x e bad) = no_ranks_fault h.settings t h.routes y text f p h.before x e bad
-  run_none run f p other h none (in_packets {s = t} {routes = y} e x bad) = no_packets_fault run t y f p h x.relation bad
+  -- a network that is asked for has no fault
+  open_none : (net : Setup) (f : Fault) → is_memory f ≡ false → (a.command ≡ command.Ranks → ⊥) → Opens a net → packet_option_fault a.command (length net.packets) ≡ None → TextsFault a f → ⊥
+  open_none net f p other h none (no_packet {s = t} {routes = y} {net = n} {f = i} x u bad) = no_missing_packet h.routes y h.settings t net n i h.network u none bad
+  open_none net f p other h none (in_settings bad) = no_settings_fault a h.settings h.routes f p h.before.relation bad
+  open_none net f p other h none (in_formula e x bad) = other e
+  open_none net f p other h none (in_ranks {s = t} {routes = y} {text = text} x e bad) = no_ranks_fault h.settings t h.routes y text f p h.before x e bad
+  open_none net f p other h none (in_packets {s = t} {routes = y} e x bad) = no_packets_fault net t y f p h x.relation bad
 
   text_none : (text : List ℕ) (status : Status) (f : Fault) → is_memory f ≡ false → AsksFor a text status → TextsFault a f → ⊥
-  text_none text status f p (a_report {report = m} {run = u} e x) bad = run_none u f p (λ d. omega (arith, reports a.command m e, ranked a.command d)) x (has_no_packet a.command (length u.net.packets) (λ d. omega (arith, reports a.command m e, d))) bad
-  text_none text status f p (findings {cycle = c} {router = n} {run = u} e x) bad = run_none u f p (λ d. omega (arith, explains a.command c n e, ranked a.command d)) x (has_no_packet a.command (length u.net.packets) (λ d. omega (arith, explains a.command c n e, d))) bad
-  text_none text status f p (traces {from = b} {to = c} {traced = t} {run = u} e x none) bad = run_none u f p (λ d. omega (arith, is_trace a.command b c t e, ranked a.command d)) x none bad
+  text_none text status f p (a_report {report = m} {run = u} e x) bad = open_none u.net f p (λ d. omega (arith, reports a.command m e, ranked a.command d)) x.opens (has_no_packet a.command (length u.net.packets) (λ d. omega (arith, reports a.command m e, d))) bad
+  text_none text status f p (findings {cycle = c} {router = n} {run = u} e x) bad = open_none u.net f p (λ d. omega (arith, explains a.command c n e, ranked a.command d)) x.opens (has_no_packet a.command (length u.net.packets) (λ d. omega (arith, explains a.command c n e, d))) bad
+  text_none text status f p (traces {from = b} {to = c} {traced = t} {run = u} e x none) bad = open_none u.net f p (λ d. omega (arith, is_trace a.command b c t e, ranked a.command d)) x.opens none bad
   text_none text status f p (accepted {s = s} {routes = x} e h) (in_settings bad) = no_settings_fault a s x f p h.relation bad
   text_none text status f p (accepted e h) (in_formula d x bad) = omega (arith, checks a.command e, ranked a.command d)
   text_none text status f p (accepted {s = s} {routes = x} e h) (in_ranks {s = t} {routes = y} {text = given} asks d bad) = no_ranks_fault s t x y given f p h asks d bad

@@ -1,5 +1,5 @@
 -- A run whose ranks were accepted is never stuck, and where it is to drain every packet has arrived.
-use Rattle.std.proofs.Common.{◌≡◌, ℕ, true, false, cond, List, Option, Some, None, Ok, Err, Result, is_some, option_map, refl, ap, sym, ◌∙◌, subst}
+use Rattle.std.proofs.Common.{◌≡◌, ℕ, true, false, cond, List, Option, Some, None, Ok, Result, is_some, option_map, refl, ap, sym, ◌∙◌, subst}
 use Rattle.std.specs.Option.{IfSome}
 use Rattle.std.specs.Result.{IfOk}
 use Rattle.noc_route.specs.Routes.{Routes}
@@ -9,7 +9,7 @@ use Rattle.noc_net.specs.Network.{Run, state_at}
 use Rattle.noc_theory.proofs.budget.ProgressTheoremLemmas.{not-stuck}
 use Rattle.noc_files.specs.declared.writing.WriteFault.{WriteFault}
 use Rattle.noc_answers.specs.Asked.{Asked, TextValue, ReadsAs, as_files, as_joined, is_joined, owned_text}
-use Rattle.noc_answers.specs.Ending.{Ends}
+use Rattle.noc_answers.specs.Ending.{Ends, at_fault, cut_off, in_full, unstarted}
 use Rattle.noc_commands.specs.declared.command.Command.{Command}
 use Rattle.noc_commands.specs.declared.command.Command.TheVariants as command
 use Rattle.noc_commands.specs.declared.report.Report.{Report}
@@ -27,9 +27,9 @@ use Rattle.noc_answers.proofs.DrainLemmas.{drained-out}
 -- a run whose ranks are checked ends done
 run-done : (a : Asked) (run : Run) (text : TextValue) → checked_ranks a ≡ Some text → AsksForRun a run → ending run ≡ Done
 run-done a run text checked asks =
-    let accepts : Accepts asks.routes text = subst (λ (o : Option TextValue). IfSome o (Accepts asks.routes)) checked asks.before.accepted in
-    let rising : IsRankedBy run.net.relation accepts.ranking = subst (λ (routes : Routes). IsRankedBy routes accepts.ranking) (sym asks.network.relation) accepts.rising in
-    ap (λ b. cond b Stuck Done) (not-stuck run.net asks.network.good accepts.ranking rising run.count)
+    let accepts : Accepts asks.opens.routes text = subst (λ (o : Option TextValue). IfSome o (Accepts asks.opens.routes)) checked asks.opens.before.accepted in
+    let rising : IsRankedBy run.net.relation accepts.ranking = subst (λ (routes : Routes). IsRankedBy routes accepts.ranking) (sym asks.opens.network.relation) accepts.rising in
+    ap (λ b. cond b Stuck Done) (not-stuck run.net asks.opens.network.good accepts.ranking rising run.count)
 
 asked-done : (a : Asked) (out : List ℕ) (status : Status) (text : TextValue) → checked_ranks a ≡ Some text → AsksFor a out status → status ≡ Done
 asked-done a out status text checked (a_report {run = run} is asks) = run-done a run text checked asks
@@ -56,16 +56,18 @@ asks-done r out status ranked (a, as_joined joined text splits, asks) = (let nev
 
 pub ends-done : (workers : ℕ) (r : Request) (Wrote : List ℕ → Result (Unit {0}) WriteFault → Type 0) (IsUnwritten : Type 0) (IsFirst : Fault → Type 0) (result : Result Status Fault)
     → Ends workers Wrote IsUnwritten (Asks r) IsFirst result → IsRankedRun r → IfOk result (λ status. status ≡ Done)
-ends-done workers r Wrote IsUnwritten IsFirst (Ok status) e ranked = asks-done r e.0 status ranked e.1
-ends-done workers r Wrote IsUnwritten IsFirst (Err f) e ranked = tt
+ends-done workers r Wrote IsUnwritten IsFirst result (in_full {text = text} {status = status} asks wrote) ranked = asks-done r text status ranked asks
+ends-done workers r Wrote IsUnwritten IsFirst result (cut_off asks wrote) ranked = tt
+ends-done workers r Wrote IsUnwritten IsFirst result (unstarted none many lost asks) ranked = tt
+ends-done workers r Wrote IsUnwritten IsFirst result (at_fault none refuses) ranked = tt
 
 -- a request for a ranked run that is to drain ends with every packet arrived
 run-drained : (a : Asked) (run : Run) (text : TextValue) → checked_ranks a ≡ Some text → runs_until_out a.command ≡ true → AsksForRun a run → are_all_out run.net (state_at run.net run.count) ≡ true
 run-drained a run text checked drains asks =
-    let accepts : Accepts asks.routes text = subst (λ (o : Option TextValue). IfSome o (Accepts asks.routes)) checked asks.before.accepted in
-    let rising : IsRankedBy run.net.relation accepts.ranking = subst (λ (routes : Routes). IsRankedBy routes accepts.ranking) (sym asks.network.relation) accepts.rising in
-    let n = cycles_asked a.command asks.settings in
-    drained-out run.net asks.network.good accepts.ranking rising n run.count (subst (λ b. RunsTo b run.net n run.count) drains asks.cycles)
+    let accepts : Accepts asks.opens.routes text = subst (λ (o : Option TextValue). IfSome o (Accepts asks.opens.routes)) checked asks.opens.before.accepted in
+    let rising : IsRankedBy run.net.relation accepts.ranking = subst (λ (routes : Routes). IsRankedBy routes accepts.ranking) (sym asks.opens.network.relation) accepts.rising in
+    let n = cycles_asked a.command asks.opens.settings in
+    drained-out run.net asks.opens.network.good accepts.ranking rising n run.count (subst (λ b. RunsTo b run.net n run.count) drains asks.cycles)
 
 -- a text that is asked for where a run is to drain is a report of one in which every packet has arrived
 asked-drained : (r : Request) (a : Asked) (out : List ℕ) (status : Status) (workers : ℕ) (report : Report) (text : TextValue) → a.command ≡ command.Run workers report true → ReadsAs r a
@@ -90,5 +92,7 @@ asks-drained r out status ranked (a, as_joined joined text splits, asks) = (let 
 
 pub ends-drained : (workers : ℕ) (r : Request) (Wrote : List ℕ → Result (Unit {0}) WriteFault → Type 0) (IsUnwritten : Type 0) (IsFirst : Fault → Type 0) (result : Result Status Fault)
     → Ends workers Wrote IsUnwritten (Asks r) IsFirst result → IsRankedDrain r → IfOk result (λ _. (text : List ℕ) × AsksForArrivals r text × Wrote text (Ok tt))
-ends-drained workers r Wrote IsUnwritten IsFirst (Ok status) e ranked = (e.0, asks-drained r e.0 status ranked e.1, e.2)
-ends-drained workers r Wrote IsUnwritten IsFirst (Err f) e ranked = tt
+ends-drained workers r Wrote IsUnwritten IsFirst result (in_full {text = text} {status = status} asks wrote) ranked = (text, asks-drained r text status ranked asks, wrote)
+ends-drained workers r Wrote IsUnwritten IsFirst result (cut_off asks wrote) ranked = tt
+ends-drained workers r Wrote IsUnwritten IsFirst result (unstarted none many lost asks) ranked = tt
+ends-drained workers r Wrote IsUnwritten IsFirst result (at_fault none refuses) ranked = tt

@@ -1,5 +1,5 @@
 -- What a command checks and runs, and which fault of its texts comes first.
-use Rattle.std.proofs.Common.{◌≡◌, ℕ, Bool, true, Option, Some, None, refl, sym, subst}
+use Rattle.std.proofs.Common.{◌≡◌, ℕ, Bool, true, Option, Some, None, refl, sym, subst, ◌∙◌}
 use Rattle.std.specs.Option.{IsSomeAnd}
 use Rattle.std.proofs.lemmas.Bool.{false≢true}
 use Rattle.noc_files.specs.Configuration.{Settings}
@@ -14,19 +14,11 @@ use Rattle.noc_commands.specs.declared.report.Report.{Report}
 use Rattle.noc_answers.specs.declared.request.Request.{Request}
 use Rattle.noc_answers.specs.Answer.{TextsFault, in_ranks, runs}
 use Rattle.noc_answers.specs.Drain.{RunsTo}
-use Rattle.noc_answers.specs.Check.{RanksFault, checked_by, checked_ranks}
-use Rattle.noc_answers.specs.Run.{AsksForRun, cycles_asked, runs_until_out, report_of}
+use Rattle.noc_answers.specs.Check.{RanksFault, checked_ranks}
+use Rattle.noc_answers.specs.Run.{AsksForRun, Opens, cycles_asked, runs_until_out, report_of}
 use Rattle.noc_commands.specs.Workers.{workers_of}
 
--- a command with a report checks the ranks that it is given, and runs
-pub checked-report : (x : Command) (report : Report) (ranks : Option TextValue) → report_of x ≡ Some report → checked_by x ranks ≡ ranks
-checked-report command.Joined report ranks h = refl
-checked-report (command.Run workers other drain) report ranks h = refl
-checked-report (command.Explain cycle router) report ranks h = cc
-checked-report (command.Trace from to router packet changes) report ranks h = cc
-checked-report command.Check report ranks h = cc
-checked-report command.Ranks report ranks h = cc
-
+-- a command with a report runs
 pub runs-report : (x : Command) (report : Report) → report_of x ≡ Some report → runs x ≡ true
 runs-report command.Joined report h = refl
 runs-report (command.Run workers other drain) report h = refl
@@ -36,7 +28,7 @@ runs-report command.Check report h = cc
 runs-report command.Ranks report h = cc
 
 -- a command that asks for a report runs for the cycles of the configuration
-pub cycles-report : (x : Command) (report : Report) (s : Settings) → report_of x ≡ Some report → s.cycles ≡ cycles_asked x s
+cycles-report : (x : Command) (report : Report) (s : Settings) → report_of x ≡ Some report → s.cycles ≡ cycles_asked x s
 cycles-report command.Joined report s h = refl
 cycles-report (command.Run workers other drain) report s h = refl
 cycles-report (command.Explain cycle router) report s h = cc
@@ -45,12 +37,20 @@ cycles-report command.Check report s h = cc
 cycles-report command.Ranks report s h = cc
 
 -- the network that is asked for has run to its end
-pub ran : (a : Asked) (drain : Bool) (before after : Run) (n : ℕ) → runs_until_out a.command ≡ drain
-    → ((end : ℕ) → RunsTo (runs_until_out a.command) before.net n end → AsksForRun a (record { net = before.net; count = end })) → after.net ≡ before.net → RunsTo drain after.net n after.count → AsksForRun a after
-ran a drain before after n drains asks same ends =
-    let P : Bool → Setup → Type 0 = λ b net. RunsTo b net n after.count in
+pub ran : (a : Asked) (before after : Run) (opens : Opens a before.net) → after.net ≡ before.net
+    → RunsTo (runs_until_out a.command) before.net (cycles_asked a.command opens.settings) after.count → AsksForRun a after
+ran a before after opens same ends =
     let Q : Setup → Type 0 = λ net. AsksForRun a (record { net = net; count = after.count }) in
-    subst Q (sym same) (asks after.count (subst (λ b. P b before.net) (sym drains) (subst (P drain) same ends)))
+    subst Q (sym same) (record { opens = opens; cycles = ends })
+
+-- and that of a command that asks for a report has run for the cycles of the configuration
+pub ran-report : (a : Asked) (report : Report) (drain : Bool) (before after : Run) (opens : Opens a before.net) (n : ℕ) → report_of a.command ≡ Some report
+    → runs_until_out a.command ≡ drain → n ≡ opens.settings.cycles → after.net ≡ before.net → RunsTo drain after.net n after.count → AsksForRun a after
+ran-report a report drain before after opens n reports drains is same ends =
+    let P : Bool → Setup → ℕ → Type 0 = λ b net k. RunsTo b net k after.count in
+    let from = subst (λ net. P drain net n) same ends in
+    let cycles = subst (λ k. P drain before.net k) (is ∙ cycles-report a.command report opens.settings reports) from in
+    ran a before after opens same (subst (λ b. P b before.net (cycles_asked a.command opens.settings)) (sym drains) cycles)
 
 -- the fault of ranks that are checked
 pub in_checked_ranks : (a : Asked) (s : Settings) (routes : Routes) (f : Fault) (ranks : Option TextValue) → AsksForRelation a s routes → checked_ranks a ≡ ranks

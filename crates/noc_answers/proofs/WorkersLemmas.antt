@@ -42,10 +42,12 @@ module _ (r : Request) (report : Report) (drain : Bool) (many few : ℕ) (less :
   asked : (text : List ℕ) (status : Status) → AsksFor (files_of (by_workers r many report drain)) text status → AsksFor (files_of (by_workers r few report drain)) text status
   asked text status (a_report {run = run} e x) =
       a_report e (record {
-        settings = x.settings;
-        routes = x.routes;
-        before = record { relation = relation x.settings x.routes x.before.relation; accepted = x.before.accepted };
-        network = x.network;
+        opens = record {
+          settings = x.opens.settings;
+          routes = x.opens.routes;
+          before = record { relation = relation x.opens.settings x.opens.routes x.opens.before.relation; accepted = x.opens.before.accepted };
+          network = x.opens.network;
+        };
         cycles = x.cycles;
       })
   asked text status (findings {cycle = cycle} {router = router} e x) = (let never : command.Run many report drain ≡ command.Explain cycle router = e in absurd (cc never))

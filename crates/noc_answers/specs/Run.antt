@@ -1,5 +1,5 @@
 -- The run that is asked for.
-use Rattle.std.specs.Prelude.{◌≡◌, ◌⊎◌, ℕ, ◌+◌, ◌<◌, ◌≤◌, Bool, false, List, Option, Some, None, Ok, if◌then◌else◌}
+use Rattle.std.specs.Prelude.{◌≡◌, ◌⊎◌, ℕ, ◌+◌, Bool, false, List, Option, Some, None, Ok, if◌then◌else◌}
 use Rattle.noc_packet.specs.declared.packet.Packet.{Packet}
 use Rattle.noc_route.specs.Routes.{Routes}
 use Rattle.noc_net.specs.declared.fault.NetFault.{NetFault}
@@ -58,13 +58,17 @@ pub data PacketsFault (routes : Routes) (traffic : TextValue) : Fault → Type 0
   bad_traffic : {f : InputFault} → IsUnread traffic_of traffic f → PacketsFault routes traffic (fault.Traffic f)
   bad_network : {packets : List Packet} {f : NetFault} → read_by traffic_of traffic ≡ Ok packets → IsUnmade routes packets f → PacketsFault routes traffic (fault.Network f)
 
--- the network that is asked for, after the cycles that are asked for or where it has drained
-pub record AsksForRun (a : Asked) (run : Run) : Type 0 where
+-- the network that is asked for, once the ranks are checked that are to be
+pub record Opens (a : Asked) (net : Setup) : Type 0 where
   pub settings : Settings
   pub routes : Routes
   pub before : AsksForChecked a settings routes
-  pub network : IsNetworkOf routes settings.buffer a.traffic run.net
-  pub cycles : RunsTo (runs_until_out a.command) run.net (cycles_asked a.command settings) run.count
+  pub network : IsNetworkOf routes settings.buffer a.traffic net
+
+-- that network after the cycles that are asked for, or where it has drained
+pub record AsksForRun (a : Asked) (run : Run) : Type 0 where
+  pub opens : Opens a run.net
+  pub cycles : RunsTo (runs_until_out a.command) run.net (cycles_asked a.command opens.settings) run.count
 
 -- how a run has ended
 abbrev pub ending : Run → Status

@@ -1,20 +1,20 @@
 //! Reading ranks, and checking that they rise along a routing relation.
 
 ghost use Rattle.std.specs.Prelude.{◌≡◌, IfErr, IfOk, OnOk, IfSome, IsSomeAnd, option_map};
-ghost use Rattle.noc_route.specs.Routes.{Routes};
-ghost use Rattle.noc_files.specs.Configuration.{Settings};
+ghost use Rattle.noc_files.specs.Configuration.{KeepsLimits, settings};
 ghost use Rattle.noc_files.specs.Gives.{Gives};
 ghost use Rattle.noc_files.specs.Ranks.{ranks_of};
 ghost use Rattle.noc_answers.specs.Asked.{lent_files, lent_text, read_by};
 ghost use Rattle.noc_answers.specs.Ending.{Refuses};
 ghost use Rattle.noc_answers.specs.Answer.{IsAnswered, TextsFault};
-ghost use Rattle.noc_answers.specs.Check.{Accepts, AsksForChecked, HasRanking, RanksFault};
+ghost use Rattle.noc_answers.specs.Check.{Accepts, AsksForChecked, HasRanking, RanksFault, checked_ranks};
 
+use crate::ending::ended;
 use crate::request::{Bytes, Files};
 use crate::settings::relation_of;
 use noc_commands::Command;
 use noc_faults::{Fault, Status};
-use noc_files::{InputFault, Sink, read_ranks, write_pieces};
+use noc_files::{Config, InputFault, Sink, read_ranks, write_pieces};
 use noc_rank::{RankRow, Ranks, check};
 use noc_route::Relation;
 use noc_topo::Shape;
@@ -31,26 +31,39 @@ pub(crate) fn answer_check<W: Sink>(
     requires { files.now.command ≡ Command.Check }
     ensures { IsAnswered W.contents W.has_failed sink.old sink.new (lent_files files.now) result }
 {
-    accept_files(rt, alloc, files)?;
-    match write_pieces(&["accepted\n"], sink) {
-        Ok(()) => Ok(Status::Done),
-        Err(fault) => Err(Fault::Write(fault)),
-    }
+    checked_relation(rt, alloc, files)?;
+    ended(write_pieces(&["accepted\n"], sink), Status::Done)
 }
 
-// Whether the ranks of the rank file rise along the relation.
-fn accept_files(rt: &(impl Threads + Sync), alloc: Global, files: &Files<'_>) -> Result<(), Fault>
-    requires { files.now.command ≡ Command.Check }
-    ensures accepted { OnOk result ((s : Settings) × (routes : Routes) × AsksForChecked (lent_files files.now) s routes) }
+// The configuration and the relation, once the ranks are checked at which the command looks.
+pub(crate) fn checked_relation(
+    rt: &(impl Threads + Sync),
+    alloc: Global,
+    files: &Files<'_>,
+) -> Result<(Config, Relation), Fault>
+    ensures limits { IfOk result (λ r. KeepsLimits r.0) }
+    ensures checked { IfOk result (λ r. AsksForChecked (lent_files files.now) (settings r.0) r.1) }
     ensures fault { IfErr result (Refuses (TextsFault (lent_files files.now))) }
 {
-    let (_, relation) = relation_of(alloc, files)?;
-    accept(rt, alloc, files.ranks.unwrap_or(Ok(&[])), &relation)
+    let (config, relation) = relation_of(alloc, files)?;
+    accept_if_given(rt, alloc, checked_ranks(files), &relation)?;
+    Ok((config, relation))
+}
+
+// The ranks that are checked: those of a run if there are any, and those of `check`, where none are an empty text.
+fn checked_ranks<'a>(files: &Files<'a>) -> Option<Bytes<'a>>
+    ensures { option_map lent_text result ≡ checked_ranks (lent_files files.now) }
+{
+    match files.command {
+        Command::Joined | Command::Run { .. } => files.ranks,
+        Command::Check => Some(files.ranks.unwrap_or(Ok(&[]))),
+        _ => None,
+    }
 }
 
 // Whether the ranks of a rank file rise along a relation, if there is one: the first fault of the file, of its rows, or of
 // the check.
-pub(crate) fn accept_if_given(
+fn accept_if_given(
     rt: &(impl Threads + Sync),
     alloc: Global,
     text: Option<Bytes<'_>>,

@@ -102,7 +102,7 @@ fn answer_files<W: Sink>(
             report,
             drain,
         } => run(rt, alloc, files, report, drain, sink),
-        Command::Explain { cycle, router } => explain(alloc, files, cycle, router, sink),
+        Command::Explain { cycle, router } => explain(rt, alloc, files, cycle, router, sink),
         Command::Trace {
             from,
             to,
@@ -115,7 +115,7 @@ fn answer_files<W: Sink>(
                 packet,
                 changes,
             };
-            trace(alloc, files, from, to, traced, sink)
+            trace(rt, alloc, files, from, to, traced, sink)
         }
         Command::Check => answer_check(rt, alloc, files, sink),
         Command::Ranks => answer_ranks(alloc, files, sink),

@@ -33,13 +33,12 @@ pub(crate) fn run_to_end(network: &mut Network, cycles: u64, drain: bool)
     run_on_if(network, drain);
 }
 
-// Runs a network by two or more workers that has not run for so many cycles, and on where it is to drain. A network that
-// fits rows is run by the caller alone, and no thread is started: one thread runs rows faster than several run routers.
-// What is left to drain is run by the caller too: to start threads for each look whether every packet is out takes longer.
+// Runs a network by two or more workers that has not run for so many cycles, and on where it is to drain. What is left to
+// drain is run by the caller alone: to start threads for each look whether every packet is out takes longer.
 pub(crate) fn run_to_end_by_workers<R: Threads + Wait + Sync>(
     rt: &R,
     alloc: Global,
-    mut network: Network,
+    network: Network,
     cycles: u64,
     workers: usize,
     drain: bool,
@@ -51,10 +50,6 @@ pub(crate) fn run_to_end_by_workers<R: Threads + Wait + Sync>(
     ensures end { IfOk result (λ n. RunsTo drain n.net cycles n.count) }
     ensures lost { IfErr result (λ e. e ≢ LostWorker) }
 {
-    if network.fits_rows() {
-        run_to_end(&mut network, cycles, drain);
-        return Ok(network);
-    }
     let mut network = run_stretches(rt, alloc, network, cycles, workers)?;
     run_on_if(&mut network, drain);
     Ok(network)
@@ -103,7 +98,8 @@ fn run_stretches<R: Threads + Wait + Sync>(
     Ok(network)
 }
 
-// Runs a stretch of cycles: by workers, or by one where nothing happened in the last cycle, since its time jumps.
+// Runs a stretch of cycles by workers. The caller runs it alone, and no thread is started, where the network fits rows, since
+// one thread runs rows faster than several run routers, and where nothing happened in the last cycle, since its time jumps.
 fn run_stretch<R: Threads + Wait + Sync>(
     rt: &R,
     alloc: Global,
@@ -116,7 +112,7 @@ fn run_stretch<R: Threads + Wait + Sync>(
     ensures net { IfOk result (λ n. n ≡ record network { count = network.count + cycles }) }
     ensures lost { IfErr result (λ e. e ≢ LostWorker) }
 {
-    if is_at_rest(&network) {
+    if network.fits_rows() || is_at_rest(&network) {
         network.run(cycles);
         Ok(network)
     } else {

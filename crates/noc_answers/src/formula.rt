@@ -6,6 +6,7 @@ ghost use Rattle.noc_answers.specs.Asked.{lent_files};
 ghost use Rattle.noc_answers.specs.Answer.{IsAnswered};
 ghost use Rattle.noc_answers.specs.Formula.{HasRanks, IsFormulaFault};
 
+use crate::ending::ended;
 use crate::request::Files;
 use crate::settings::relation_of;
 use noc_commands::Command;
@@ -30,10 +31,10 @@ pub(crate) fn answer_ranks<W: Sink>(
         Ok(ranks) => ranks,
         Err(fault) => return Err(Fault::Rank(fault, *shape)),
     };
-    match write_ranks(&ranks, shape, config.channels, sink) {
-        Ok(()) => Ok(Status::Done),
-        Err(fault) => Err(Fault::Write(fault)),
-    }
+    ended(
+        write_ranks(&ranks, shape, config.channels, sink),
+        Status::Done,
+    )
 }
 
 // The ranks by formula of a configuration's rule. A table has none.

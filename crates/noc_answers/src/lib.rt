@@ -5,6 +5,7 @@
 mod accept;
 mod answers;
 mod drain;
+mod ending;
 mod explain;
 mod formula;
 mod laws;

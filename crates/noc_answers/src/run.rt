@@ -1,23 +1,21 @@
 //! Running the network that is asked for.
 
-ghost use Rattle.std.specs.Prelude.{◌≡◌, ℕ, ◌<◌, ◌≤◌, Ok, Some, IfErr, IfOk};
+ghost use Rattle.std.specs.Prelude.{◌≡◌, ◌<◌, ◌≤◌, Some, true, IfErr, IfOk};
 ghost use Rattle.noc_files.specs.Gives.{Gives};
 ghost use Rattle.noc_files.specs.Traffic.{traffic_of};
 ghost use Rattle.noc_files.specs.Writing.{Wrote};
 ghost use Rattle.noc_answers.specs.Asked.{lent_files, lent_text, read_by};
-ghost use Rattle.noc_answers.specs.Ending.{IsWriteFault, Refuses};
+ghost use Rattle.noc_answers.specs.Ending.{Refuses};
 ghost use Rattle.noc_commands.specs.Workers.{workers_of};
-ghost use Rattle.noc_commands.specs.declared.report.Report.{Report as ReportValue};
-ghost use Rattle.noc_answers.specs.Answer.{IsAnswered, TextsFault};
-ghost use Rattle.noc_answers.specs.Drain.{RunsTo};
+ghost use Rattle.noc_answers.specs.Answer.{IsAnswered, TextsFault, runs};
 ghost use Rattle.noc_files.specs.Reports.{report_text};
-ghost use Rattle.noc_answers.specs.Run.{AsksForRun, IsNetworkOf, PacketsFault, ending, runs_until_out, report_of};
+ghost use Rattle.noc_answers.specs.Run.{IsNetworkOf, Opens, PacketsFault, runs_until_out, report_of};
 ghost use Rattle.noc_tiles.specs.declared.limits.TheConstants.{MAX_WORKERS};
 
-use crate::accept::accept_if_given;
+use crate::accept::checked_relation;
 use crate::drain::{run_to_end, run_to_end_by_workers};
+use crate::ending::{ended, ending};
 use crate::request::{Bytes, Files};
-use crate::settings::relation_of;
 use noc_commands::Report;
 use noc_faults::{Fault, Status};
 use noc_files::{InputFault, MAX_CYCLES, Sink, read_traffic, write_report};
@@ -43,7 +41,7 @@ pub(crate) fn run<W: Sink>(
 {
     let (mut network, cycles) = opening_network(rt, alloc, files)?;
     run_to_end(&mut network, cycles, drain);
-    report_on(&network, report, sink)
+    ended(write_report(&network, report, sink), ending(&network))
 }
 
 // Runs the network by two or more workers for its cycles, and writes a report; ranks are checked before, if there are any.
@@ -65,46 +63,30 @@ pub(crate) fn run_by_workers<R: Threads + Wait + Sync, W: Sink>(
 {
     let (network, cycles) = opening_network(rt, alloc, files)?;
     match run_to_end_by_workers(rt, alloc, network, cycles, workers, drain) {
-        Ok(network) => report_on(&network, report, sink),
+        Ok(network) => ended(write_report(&network, report, sink), ending(&network)),
         Err(fault) => Err(Fault::Run(fault)),
     }
 }
 
-// The network before its first cycle, and how many cycles it is to run at least.
-fn opening_network(
+// The network before its first cycle, and the cycles of the configuration, once the ranks are checked at which the command looks.
+pub(crate) fn opening_network(
     rt: &(impl Threads + Sync),
     alloc: Global,
     files: &Files<'_>,
 ) -> Result<(Network, u64), Fault>
-    requires { (report : ReportValue) × (report_of files.now.command ≡ Some report) }
+    requires { runs files.now.command ≡ true }
     ensures opening { IfOk result (λ r. r.0.count ≡ 0) }
     ensures cycles { IfOk result (λ r. r.1 ≤ MAX_CYCLES) }
-    ensures run { IfOk result (λ r. (end : ℕ) → RunsTo (runs_until_out files.now.command) r.0.net r.1 end → AsksForRun (lent_files files.now) (record { net = r.0.net; count = end })) }
+    ensures network { IfOk result (λ r. (opens : Opens (lent_files files.now) r.0.net) × (r.1 ≡ opens.settings.cycles)) }
     ensures fault { IfErr result (Refuses (TextsFault (lent_files files.now))) }
 {
-    let (config, relation) = relation_of(alloc, files)?;
-    accept_if_given(rt, alloc, files.ranks, &relation)?;
+    let (config, relation) = checked_relation(rt, alloc, files)?;
     let network = network_of(alloc, relation, config.buffer, files.traffic)?;
     Ok((network, config.cycles))
 }
 
-// Writes a report of a network that has run, and says how the run has ended.
-fn report_on<W: Sink>(network: &Network, report: Report, sink: &mut W) -> Result<Status, Fault>
-    ensures status { IfOk result (λ status. (status ≡ ending network.now) × Wrote W.contents W.has_failed sink.old sink.new (report_text report network.now) (Ok tt)) }
-    ensures fault { IfErr result (IsWriteFault (Wrote W.contents W.has_failed sink.old sink.new (report_text report network.now))) }
-{
-    if let Err(fault) = write_report(network, report, sink) {
-        return Err(Fault::Write(fault));
-    }
-    if network.stuck() {
-        Ok(Status::Stuck)
-    } else {
-        Ok(Status::Done)
-    }
-}
-
 // The network of a relation and a traffic text, before its first cycle, with `places` (1 to 16 flits) in each buffer.
-pub(crate) fn network_of(
+fn network_of(
     alloc: Global,
     relation: Relation,
     places: usize,

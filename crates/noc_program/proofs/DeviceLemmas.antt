@@ -1,10 +1,10 @@
 -- How an answer ends that goes out through a buffer, and what the device then holds.
-use Rattle.std.proofs.Common.{◌≡◌, ◌∙◌, ℕ, ◌++◌, Bool, List, [], Option, Some, None, Result, Ok, Err, ap, inl, inr, refl, subst, sym}
+use Rattle.std.proofs.Common.{◌≡◌, ◌∙◌, ℕ, ◌++◌, Bool, false, List, [], Option, Some, None, Result, Ok, Err, ap, inl, inr, refl, subst, sym}
 use Rattle.std.specs.Prelude.{IsErr, drop, take}
 use Rattle.std.specs.Io.KnownBytes.{Appends, Keeps, append_known}
 use Rattle.std.proofs.lemmas.List.{append_assoc, append-nil, take-append-drop}
 use Rattle.noc_files.specs.Writing.{Wrote}
-use Rattle.noc_answers.specs.Ending.{Ends}
+use Rattle.noc_answers.specs.Ending.{Ends, at_fault, cut_off, in_full, is_late, unstarted}
 use Rattle.noc_faults.specs.declared.fault.Fault.{Fault}
 use Rattle.noc_faults.specs.declared.fault.Fault.TheVariants as fault
 use Rattle.noc_answers.specs.declared.request.Request.{Request}
@@ -35,6 +35,21 @@ front (Some xs) (Some ys) (Some ws) sent more text buffer parts appends keeps = 
       ∙ ap (λ rest. xs ++ rest) parts,
 )
 
+-- a fault that is none of writing stays
+unchanged : (IsOut : Type 0) (taken : ℕ) (f end : Fault) → is_late f ≡ false → EndsAs IsOut taken (Err f) (Err end) → end ≡ f
+unchanged IsOut taken (fault.Joined f) end early same = same
+unchanged IsOut taken (fault.Config f) end early same = same
+unchanged IsOut taken (fault.Table f) end early same = same
+unchanged IsOut taken (fault.RankFile f) end early same = same
+unchanged IsOut taken (fault.Traffic f) end early same = same
+unchanged IsOut taken (fault.Option f) end early same = same
+unchanged IsOut taken (fault.Shape f) end early same = same
+unchanged IsOut taken (fault.Relation f g) end early same = same
+unchanged IsOut taken (fault.Rank f g) end early same = same
+unchanged IsOut taken (fault.Network f) end early same = same
+unchanged IsOut taken (fault.Run f) end early same = same
+unchanged IsOut taken (fault.Write f) end early same = cc
+
 module _ {W S : Type 0} (contents : W → Option (List ℕ)) (seen : S → Option (List ℕ)) (failed : S → Bool) (workers taken : ℕ) (r : Request)
     (before after : W) (buffer : List ℕ) (first last : S) where
   abbrev Told : Result Status Fault → Type 0
@@ -48,33 +63,16 @@ module _ {W S : Type 0} (contents : W → Option (List ℕ)) (seen : S → Optio
   pub told : (answered end : Result Status Fault) → Ends workers (Wrote seen failed first last) (last ≡ first) (Asks r) (FirstFault r) answered
       → EndsAs (buffer ≡ []) taken answered end → seen first ≡ append_known (contents before) [] → Keeps (seen last) (append_known (contents after) buffer)
       → (IsErr answered → last ≡ first → after ≡ before) → Told end
-  told (Ok status) (Ok end) e a opens keeps still = (
-    e.0,
-    subst (Asks r e.0) (sym a.0) e.1,
-    whole (contents before) (contents after) (seen last) e.0 buffer (subst (λ known. Appends known (seen last) e.0) opens e.2) keeps a.1,
-  )
-  told (Err f) (Ok end) e a opens keeps still = absurd a
-  told (Ok status) (Err end) e a opens keeps still = told_as _ end a (
-    e.0,
-    status,
-    e.1,
-    front (contents before) (contents after) (seen last) e.0 [] e.0 buffer (append-nil e.0) (subst (λ known. Appends known (seen last) e.0) opens e.2) keeps,
-  )
-  told (Err (fault.Write f)) (Err end) e a opens keeps still = told_as _ end a (
-    e.0,
-    e.1,
-    e.2,
-    front (contents before) (contents after) (seen last) (take f.written e.0) (drop f.written e.0) e.0 buffer (take-append-drop f.written e.0)
-        (subst (λ known. Appends known (seen last) (take f.written e.0)) opens e.3.1) keeps,
-  )
-  told (Err (fault.Run f)) (Err end) e a opens keeps still = told_as _ end a (inr (ap Some (still refl e.0)), e.1, e.2, e.3, e.4, e.5)
-  told (Err (fault.Joined f)) (Err end) e a opens keeps still = told_as _ end a (inr (ap Some (still refl e.0)), inl e.1)
-  told (Err (fault.Config f)) (Err end) e a opens keeps still = told_as _ end a (inr (ap Some (still refl e.0)), inl e.1)
-  told (Err (fault.Table f)) (Err end) e a opens keeps still = told_as _ end a (inr (ap Some (still refl e.0)), inl e.1)
-  told (Err (fault.RankFile f)) (Err end) e a opens keeps still = told_as _ end a (inr (ap Some (still refl e.0)), inl e.1)
-  told (Err (fault.Traffic f)) (Err end) e a opens keeps still = told_as _ end a (inr (ap Some (still refl e.0)), inl e.1)
-  told (Err (fault.Option f)) (Err end) e a opens keeps still = told_as _ end a (inr (ap Some (still refl e.0)), inl e.1)
-  told (Err (fault.Shape f)) (Err end) e a opens keeps still = told_as _ end a (inr (ap Some (still refl e.0)), inl e.1)
-  told (Err (fault.Relation f g)) (Err end) e a opens keeps still = told_as _ end a (inr (ap Some (still refl e.0)), inl e.1)
-  told (Err (fault.Rank f g)) (Err end) e a opens keeps still = told_as _ end a (inr (ap Some (still refl e.0)), inl e.1)
-  told (Err (fault.Network f)) (Err end) e a opens keeps still = told_as _ end a (inr (ap Some (still refl e.0)), inl e.1)
+  told answered (Ok end) (in_full {text = text} asks wrote) a opens keeps still = in_full (subst (Asks r text) (sym a.0) asks)
+      (whole (contents before) (contents after) (seen last) text buffer (subst (λ known. Appends known (seen last) text) opens wrote) keeps a.1)
+  told answered (Err end) (in_full {text = text} asks wrote) a opens keeps still = told_as _ end a
+      (cut_off asks (front (contents before) (contents after) (seen last) text [] text buffer (append-nil text) (subst (λ known. Appends known (seen last) text) opens wrote) keeps))
+  told answered (Ok end) (cut_off asks wrote) a opens keeps still = absurd a
+  told answered (Err end) (cut_off {text = text} {f = f} asks wrote) a opens keeps still = told_as _ end a
+      (cut_off asks (front (contents before) (contents after) (seen last) (take f.written text) (drop f.written text) text buffer (take-append-drop f.written text)
+      (subst (λ known. Appends known (seen last) (take f.written text)) opens wrote.1) keeps))
+  told answered (Ok end) (unstarted none many lost asks) a opens keeps still = absurd a
+  told answered (Err end) (unstarted none many lost asks) a opens keeps still = told_as _ end a (unstarted (inr (ap Some (still refl none))) many lost asks)
+  told answered (Ok end) (at_fault none refuses) a opens keeps still = absurd a
+  told answered (Err end) (at_fault {f = f} none refuses) a opens keeps still =
+      told_as f end (unchanged (buffer ≡ []) taken f end refuses.0 a) (at_fault (inr (ap Some (still refl none))) (refuses.0, inl refuses.1))

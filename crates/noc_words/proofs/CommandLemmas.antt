@@ -1,14 +1,16 @@
 -- The command line of the program, as clap parses it.
-use Rattle.std.proofs.Common.{◌≡◌, ◌∙◌, ◌++◌, ◌∷◌, [], List, Option, Some, None, ap, ap₂, inl, inr, refl, subst, true}
-use Rattle.std.specs.Prelude.{◌||◌, option_map}
+use Rattle.std.proofs.Common.{◌≡◌, ◌∙◌, ◌++◌, ◌∷◌, [], List, Option, Some, None, Result, Ok, Err, append-nil, append_assoc, ap, ap₂, inl, inr, refl, subst, sym, true}
+use Rattle.std.specs.Prelude.{◌||◌, ◌⊎◌, option_map}
+use Rattle.std.specs.Result.{IfOk}
+use Rattle.std.specs.declared.alloc.AllocError.{AllocError}
 use Rattle.clap.proofs.OnLiterals.{clap_on_literals}
 use Rattle.clap.specs.Faults.{fault_of, is_simple_and_free}
 use Rattle.clap.specs.Kinds.{HasKind, IsAmong}
 use Rattle.clap.specs.Values.{kind_of}
 use Rattle.clap.specs.Matches.{found_of, subcommand_name_of}
 use Rattle.clap.specs.Walk.{Row, Rule, Text, rows_of}
-use Rattle.clap.specs.Built.{AddsArg, AddsSubcommand}
-use Rattle.clap.specs.Simple.{App, Shape, app_of, is_simple, subcommand_rows_of, with_rule, with_subcommand}
+use Rattle.clap.specs.Built.{AddsArg, AddsInTurn, AddsSubcommand}
+use Rattle.clap.specs.Simple.{App, Shape, app_of, is_simple, subcommand_of, subcommand_rows_of, with_rule, with_subcommand}
 use Rattle.clap.specs.declared.builder.arg.Arg.{Arg}
 use Rattle.clap.specs.declared.builder.command.Command.{Command}
 use Rattle.clap.specs.declared.builder.value_parser.ValueParser.{ValueParser}
@@ -16,8 +18,9 @@ use Rattle.clap.specs.declared.error.Error.{Error}
 use Rattle.clap.specs.declared.parser.matches.ArgMatches.{ArgMatches}
 use Rattle.clap.specs.declared.parser.matches.ArgMatches.TheViews.{out-ArgMatches, out-SubCommand}
 use Rattle.std.specs.Box.{box_value}
-use Rattle.noc_words.specs.CommandLine.{IsLeaf, IsWord, TakesReports, command_line}
-use Rattle.noc_words.specs.Words.{IsRefusal, by_rules, no_memory}
+use Rattle.noc_words.specs.CommandLine.{AddsIfMade, AreWords, IsLeaf, IsWord, TakesReports, command_line, required_word, run_shape}
+use Rattle.clap.specs.declared.error.kind.ErrorKind.TheVariants.{OutOfMemory}
+use Rattle.noc_words.specs.Words.{IsNoRequest, IsRefusal, by_rules, no_memory, no_request}
 
 -- clap's words tell its matches exactly
 pub line_is_simple : (names : ValueParser) → is_simple (command_line names) ≡ true
@@ -55,15 +58,54 @@ pub refused-by : (names : ValueParser) → TakesReports names → (app : App) �
 refused-by names reports app same texts error (inl memory) = no_memory memory
 refused-by names reports app same texts error (inr kind) = by_rules names reports (subst (λ (a : App). IsAmong (kind_of error) (fault_of a texts)) same kind)
 
+-- why the words of the program are refused that clap's rules let through
+pub refused-in : (names : ValueParser) → TakesReports names → (texts : List Text) (error : Error)
+    → (kind_of error ≡ OutOfMemory) ⊎ IsNoRequest (subcommand_of (command_line names) texts) (kind_of error) → IsRefusal texts error
+refused-in names reports texts error (inl memory) = no_memory memory
+refused-in names reports texts error (inr none) = no_request names reports none
+
 -- a command with one more word
-pub with_word : (old : Command) (arg : Arg) (new : Command) (shape : Shape) (rule : Rule) → IsLeaf shape old → IsWord rule arg → AddsArg old arg new
+with_word : (old : Command) (arg : Arg) (new : Command) (shape : Shape) (rule : Rule) → IsLeaf shape old → IsWord rule arg → AddsArg old arg new
     → IsLeaf (record shape { rules = shape.rules ++ rule ∷ [] }) new
 with_word old arg new shape rule leaf word adds = (
   adds.shape word.1 ∙ ap₂ with_rule leaf.0 word.0,
   adds.globals ∙ ap₂ (λ a b. a || b) leaf.1 word.1,
 )
 
+-- a command with more words
+pub with_words : (args : List Arg) (rules : List Rule) (old new : Command) (shape : Shape) → IsLeaf shape old → AreWords rules args
+    → AddsInTurn AddsArg old args new → IsLeaf (record shape { rules = shape.rules ++ rules }) new
+with_words [] [] old new shape leaf words adds =
+    subst (λ rules. IsLeaf (record shape { rules = rules }) new) (sym (append-nil shape.rules)) (subst (IsLeaf shape) adds leaf)
+with_words [] (rule ∷ rules) old new shape leaf words adds = absurd words
+with_words (arg ∷ args) [] old new shape leaf words adds = absurd words
+with_words (arg ∷ args) (rule ∷ rules) old new shape leaf words adds =
+    subst (λ all. IsLeaf (record shape { rules = all }) new) (append_assoc shape.rules (rule ∷ []) rules)
+    (with_words args rules adds.0 new (record shape { rules = shape.rules ++ rule ∷ [] }) (with_word old arg adds.0 shape rule leaf words.0 adds.1) words.1 adds.2)
+
+-- a word that has to be given
+pub required : (rule : Rule) (arg given : Arg) → given ≡ record arg { required = true } → IsWord rule arg → IsWord (required_word rule) given
+required rule arg given is word = subst (IsWord (required_word rule)) (sym is) (ap required_word word.0, word.1)
+
 -- a program with one more command
-pub with_command : (old sub new : Command) (app : App) (shape : Shape) → app_of old ≡ app → IsLeaf shape sub → AddsSubcommand old sub new
+adds : (old sub new : Command) (app : App) (shape : Shape) → app_of old ≡ app → IsLeaf shape sub → AddsSubcommand old sub new
     → app_of new ≡ with_subcommand app shape
-with_command old sub new app shape so_far leaf adds = adds.shape leaf.1 ∙ ap₂ with_subcommand so_far (ap (λ (a : App). a.top) leaf.0)
+adds old sub new app shape so_far leaf more = more.shape leaf.1 ∙ ap₂ with_subcommand so_far (ap (λ (a : App). a.top) leaf.0)
+
+-- the program with the command `run`, if there was memory for both
+pub with_run : (old sub new : Result Command AllocError) (app : App) → IfOk old (λ c. app_of c ≡ app)
+    → IfOk sub (λ c. (names : ValueParser) × TakesReports names × IsLeaf (run_shape names) c) → IfOk new (AddsIfMade old sub)
+    → IfOk new (λ c. (names : ValueParser) × TakesReports names × (app_of c ≡ with_subcommand app (run_shape names)))
+with_run old sub (Err e) app so_far leaf more = tt
+with_run (Err e) sub (Ok new) app so_far leaf more = absurd more
+with_run (Ok old) (Err e) (Ok new) app so_far leaf more = absurd more
+with_run (Ok old) (Ok sub) (Ok new) app so_far leaf more = (leaf.0, leaf.1, adds old sub new app (run_shape leaf.0) so_far leaf.2 more)
+
+-- and with another one
+pub with_another : (old sub new : Result Command AllocError) (app : ValueParser → App) (shape : Shape)
+    → IfOk old (λ c. (names : ValueParser) × TakesReports names × (app_of c ≡ app names)) → IfOk sub (IsLeaf shape) → IfOk new (AddsIfMade old sub)
+    → IfOk new (λ c. (names : ValueParser) × TakesReports names × (app_of c ≡ with_subcommand (app names) shape))
+with_another old sub (Err e) app shape so_far leaf more = tt
+with_another (Err e) sub (Ok new) app shape so_far leaf more = absurd more
+with_another (Ok old) (Err e) (Ok new) app shape so_far leaf more = absurd more
+with_another (Ok old) (Ok sub) (Ok new) app shape so_far leaf more = (so_far.0, so_far.1, adds old sub new (app so_far.0) shape so_far.2 leaf more)

@@ -1,7 +1,8 @@
 -- The command line of the program as data: its commands, with the words that each takes.
-use Rattle.std.specs.Prelude.{◌≡◌, List, [], ◌∷◌, true, false, Some, codes, map}
+use Rattle.std.specs.Prelude.{◌≡◌, ⊤, List, [], ◌∷◌, true, false, Some, Result, Ok, codes, map}
 use Rattle.clap.specs.Simple.{new_shape}
-use Rattle.clap.specs.Words.{App, Rule, Shape, Text, app_of, new_rule, rule_of}
+use Rattle.std.specs.declared.alloc.AllocError.{AllocError}
+use Rattle.clap.specs.Words.{AddsSubcommand, App, Rule, Shape, Text, app_of, new_rule, rule_of}
 use Rattle.clap.specs.declared.builder.arg.Arg.{Arg}
 use Rattle.clap.specs.declared.builder.action.ArgAction.TheVariants.{SetTrue}
 use Rattle.clap.specs.declared.builder.command.Command.{Command}
@@ -25,15 +26,13 @@ number_word id = record (option_word id) { parser = Some (value.Unsigned 0 18446
 abbrev pub required_word : Rule → Rule
 required_word rule = record rule { required = true }
 
-abbrev pub workers_word : Rule
-workers_word = record (number_word (codes "workers")) { defaults = codes "1" ∷ [] }
+-- a word with the text that stands for it where it is not given
+abbrev pub with_default : Text → Rule → Rule
+with_default text rule = record rule { defaults = text ∷ [] }
 
 -- an option without a value
 abbrev pub flag_word : Text → Rule
 flag_word id = record (new_rule id) { long = Some id; action = Some SetTrue }
-
-abbrev pub drain_word : Rule
-drain_word = flag_word (codes "drain")
 
 -- the parser takes the names of the reports
 abbrev pub TakesReports : ValueParser → Type 0
@@ -41,13 +40,13 @@ TakesReports (value.Names names) = map (λ name. name.now) names.now ≡ report_
 TakesReports _ = ⊥
 
 abbrev pub report_word : ValueParser → Rule
-report_word names = record (option_word (codes "report")) { parser = Some names; defaults = codes "latency" ∷ [] }
+report_word names = with_default (codes "latency") (record (option_word (codes "report")) { parser = Some names })
 
 abbrev pub command_shape : Text → List Rule → Shape
 command_shape name rules = record (new_shape name) { rules = rules }
 
 abbrev pub run_shape : ValueParser → Shape
-run_shape names = command_shape (codes "run") (file_word (codes "CONFIG") ∷ file_word (codes "TRAFFIC") ∷ option_word (codes "table") ∷ option_word (codes "ranks") ∷ workers_word ∷ drain_word ∷ report_word names ∷ [])
+run_shape names = command_shape (codes "run") (file_word (codes "CONFIG") ∷ file_word (codes "TRAFFIC") ∷ option_word (codes "table") ∷ option_word (codes "ranks") ∷ with_default (codes "1") (number_word (codes "workers")) ∷ flag_word (codes "drain") ∷ report_word names ∷ [])
 
 abbrev pub explain_shape : Shape
 explain_shape = command_shape (codes "explain") (file_word (codes "CONFIG") ∷ file_word (codes "TRAFFIC") ∷ required_word (number_word (codes "cycle")) ∷ required_word (number_word (codes "router")) ∷ option_word (codes "table") ∷ [])
@@ -73,9 +72,20 @@ command_line names = record {
 abbrev pub IsWord : Rule → Arg → Type 0
 IsWord rule arg = (rule_of arg ≡ rule) × (arg.global ≡ false)
 
+-- arguments with these rules, one after another
+abbrev pub AreWords : List Rule → List Arg → Type 0
+AreWords [] [] = ⊤
+AreWords (rule ∷ rules) (arg ∷ args) = IsWord rule arg × AreWords rules args
+AreWords _ _ = ⊥
+
 -- the command has these words and no command below it
 abbrev pub IsLeaf : Shape → Command → Type 0
 IsLeaf shape command = (app_of command ≡ record { top = shape; subs = [] }) × ((out-Command command).has_globals ≡ false)
+
+-- the command is the program with one more command, which could both be made
+abbrev pub AddsIfMade : Result Command AllocError → Result Command AllocError → Command → Type 0
+AddsIfMade (Ok program) (Ok command) more = AddsSubcommand program command more
+AddsIfMade _ _ more = ⊥
 
 -- the command is the program's
 abbrev pub IsProgram : Command → Type 0

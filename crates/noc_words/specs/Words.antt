@@ -2,9 +2,10 @@
 use Rattle.std.specs.Prelude.{◌≡◌, ◌≢◌, ◌⊎◌, ◌<◌, ◌≤◌, ◌^◌, ℕ, All, Bool, true, false, List, [], Option, Some, None, codes, option_map, unwrap_or}
 use Rattle.std.specs.Str.Parse.{IsNumeral, digits_value, without_leading_plus}
 use Rattle.clap.specs.Kinds.{IsAmong}
-use Rattle.clap.specs.Words.{Text, fault_of, first_value, kind_of, one_text, rows_of, subcommand_of}
+use Rattle.clap.specs.Words.{Row, Text, fault_of, first_value, kind_of, one_text, rows_of, subcommand_of}
 use Rattle.clap.specs.declared.builder.value_parser.ValueParser.{ValueParser}
 use Rattle.clap.specs.declared.error.Error.{Error}
+use Rattle.clap.specs.declared.error.kind.ErrorKind.{ErrorKind}
 use Rattle.clap.specs.declared.error.kind.ErrorKind.TheVariants.{MissingSubcommand, OutOfMemory, ValueValidation}
 use Rattle.clap.specs.declared.parser.matches.Found.{Found}
 use Rattle.noc_commands.specs.declared.command.Command.{Command}
@@ -73,21 +74,25 @@ pub record NamesFiles (found : Found) (words : Words) : Type 0 where
   pub ranks : option_map (λ name. name.now) words.ranks ≡ first_value found (codes "ranks")
   pub traffic : option_map (λ name. name.now) words.traffic ≡ first_value found (codes "TRAFFIC")
 
--- the words behind the program's name name a command, and this is what they say of it
-pub record IsAskedBy (texts : List Text) (words : Words) : Type 0 where
-  pub names : ValueParser
-  pub reports : TakesReports names
+-- the command that was met among words, with the rows that were found of its own, says this
+pub record IsRequestIn (met : Option (Text × List Row)) (words : Words) : Type 0 where
   pub name : Text
   pub found : Found
-  pub said : subcommand_of (command_line names) texts ≡ Some (name, rows_of found)
+  pub said : met ≡ Some (name, rows_of found)
   pub command : IsCommand found name words.command
   pub files : NamesFiles found words
 
--- why the words are refused: memory ran out; clap's rules find this fault in them, or a request for help; they name no
--- command; they ask for no worker, or for more than MAX_WORKERS
+-- no command was met among words, or it asks for no worker or for more than MAX_WORKERS: what is told of that
+abbrev pub IsNoRequest : Option (Text × List Row) → ErrorKind → Type 0
+IsNoRequest None kind = kind ≡ MissingSubcommand
+IsNoRequest (Some met) kind = (found : Found) × (met.1 ≡ rows_of found) × IsNoCommand found met.0 × (kind ≡ ValueValidation)
+
+-- the words behind the program's name name a command, and this is what they say of it
+abbrev pub IsAskedBy : List Text → Words → Type 0
+IsAskedBy texts words = (names : ValueParser) × TakesReports names × IsRequestIn (subcommand_of (command_line names) texts) words
+
+-- why the words are refused: memory ran out; clap's rules find this fault in them, or a request for help; they make no request
 pub data IsRefusal (texts : List Text) (error : Error) : Type 0 where
   no_memory : kind_of error ≡ OutOfMemory → IsRefusal texts error
   by_rules : (names : ValueParser) → TakesReports names → IsAmong (kind_of error) (fault_of (command_line names) texts) → IsRefusal texts error
-  no_command : (names : ValueParser) → TakesReports names → subcommand_of (command_line names) texts ≡ None → kind_of error ≡ MissingSubcommand → IsRefusal texts error
-  by_workers : (names : ValueParser) (name : Text) (found : Found) → TakesReports names → subcommand_of (command_line names) texts ≡ Some (name, rows_of found)
-      → IsNoCommand found name → kind_of error ≡ ValueValidation → IsRefusal texts error
+  no_request : (names : ValueParser) → TakesReports names → IsNoRequest (subcommand_of (command_line names) texts) (kind_of error) → IsRefusal texts error

@@ -1,12 +1,12 @@
 //! The words of the command line.
 
-ghost use Rattle.std.specs.Prelude.{◌≡◌, ◌<◌, ◌≤◌, ℕ, codes, map, string_bytes, IfErr, IfNone, IfOk, IfSome};
-ghost use Rattle.clap.specs.Words.{first_value, found_of, one_text};
+ghost use Rattle.std.specs.Prelude.{◌≡◌, ◌⊎◌, ◌<◌, ◌≤◌, ℕ, List, codes, map, string_bytes, IfErr, IfNone, IfOk, IfSome};
+ghost use Rattle.clap.specs.Words.{Rule, first_value, found_of, kind_of, one_text, subcommand_rows_of};
 ghost use Rattle.clap.specs.declared.builder.value_parser.ValueParser.{ValueParser};
 ghost use Rattle.noc_commands.specs.Workers.{HasWorkers};
 ghost use Rattle.noc_commands.specs.declared.command.TheConstants.{MAX_WORKERS};
-ghost use Rattle.noc_words.specs.CommandLine.{IsLeaf, IsProgram, IsWord, TakesReports, check_shape, drain_word, explain_shape, file_word, flag_word, number_word, option_word, ranks_shape, report_word, required_word, run_shape, trace_shape, workers_word};
-ghost use Rattle.noc_words.specs.Words.{IsAskedBy, IsCommand, IsNoCommand, IsRefusal, IsReport, IsSaid, IsWorkers, NamesFiles, SaysWorkers};
+ghost use Rattle.noc_words.specs.CommandLine.{AddsIfMade, AreWords, IsLeaf, IsProgram, IsWord, TakesReports, check_shape, command_shape, explain_shape, file_word, flag_word, number_word, option_word, ranks_shape, report_word, run_shape, trace_shape};
+ghost use Rattle.noc_words.specs.Words.{IsAskedBy, IsCommand, IsNoCommand, IsNoRequest, IsRefusal, IsReport, IsRequestIn, IsWorkers, NamesFiles, SaysWorkers};
 
 use clap::error::ErrorKind;
 use clap::{Arg, ArgAction, ArgMatches, Error, value_parser};
@@ -76,6 +76,15 @@ Examples:
   noc trace mesh.toml traffic.csv --packet 3
   noc trace mesh.toml traffic.csv --from 100 --to 199 --router 2 --changes";
 
+const CONFIG_HELP: &str = "The configuration (TOML)";
+
+const TRAFFIC_HELP: &str = "The packets (CSV; header: source,destination,class,length,due)";
+
+const WORKERS_HELP: &str =
+    "How many threads run the routers: 1 to 16, and at most one for each router";
+
+const TABLE_HELP: &str = "The routing table (CSV) of the rule 'table'";
+
 /// The words behind the program's name, which is the first word, or clap's text on why they make no sense.
 pub fn read_words<'a>(alloc: Global, words: &'a [String]) -> Result<Words<'a>, Error>
     ensures workers { IfOk result (λ asked. HasWorkers asked.command) }
@@ -83,16 +92,33 @@ pub fn read_words<'a>(alloc: Global, words: &'a [String]) -> Result<Words<'a>, E
     ensures refused { IfErr result (IsRefusal (map string_bytes words.entry.now)) }
 {
     let matches = program(alloc)?.try_get_matches_from(words)?;
+    request_in(alloc, &matches)
+}
+
+// What words ask for that clap's rules let through.
+fn request_in<'a>(alloc: Global, matches: &ArgMatches<'a>) -> Result<Words<'a>, Error>
+    ensures workers { IfOk result (λ asked. HasWorkers asked.command) }
+    ensures said { IfOk result (IsRequestIn (subcommand_rows_of matches.now)) }
+    ensures refused { IfErr result (λ error. (kind_of error ≡ ErrorKind.OutOfMemory) ⊎ IsNoRequest (subcommand_rows_of matches.now) (kind_of error)) }
+{
     let Some((name, of)) = matches.subcommand() else {
-        return Err(program(alloc)?.error(ErrorKind::MissingSubcommand, "a command is missing")?);
+        return Err(refusal(alloc, ErrorKind::MissingSubcommand, "a command is missing")?);
     };
     match command_of(name, of) {
         Some(command) => Ok(words_of(of, command)),
-        None => Err(program(alloc)?.error(
+        None => Err(refusal(
+            alloc,
             ErrorKind::ValueValidation,
             "--workers is a number from 1 to 16",
         )?),
     }
+}
+
+// clap's text on words of this fault.
+fn refusal(alloc: Global, kind: ErrorKind, message: &str) -> Result<Error, AllocError>
+    ensures { IfOk result (λ error. kind_of error ≡ kind) }
+{
+    program(alloc)?.error(kind, message)
 }
 
 // The command of a name, or none where its workers are not 1 to 16. clap lets no other name through.
@@ -177,217 +203,198 @@ fn trace_of(matches: &ArgMatches<'_>) -> Command
 fn program<'a>(alloc: Global) -> Result<clap::Command<'a>, AllocError>
     ensures { IfOk result IsProgram }
 {
-    clap::Command::new(alloc, "noc")
+    let program = clap::Command::new(alloc, "noc")
         .about("Simulates a wormhole network-on-chip with virtual channels, cycle by cycle.")
         .override_usage(USAGE)
-        .after_help(AFTER_HELP)
-        .subcommand(run_words(alloc)?)?
-        .subcommand(explain_words(alloc)?)?
-        .subcommand(trace_words(alloc)?)?
-        .subcommand(check_words(alloc)?)?
-        .subcommand(ranks_words(alloc)?)
+        .after_help(AFTER_HELP);
+    let program = with_command(Ok(program), run_words(alloc));
+    let program = with_command(program, explain_words(alloc));
+    let program = with_command(program, trace_words(alloc));
+    let program = with_command(program, check_words(alloc));
+    with_command(program, ranks_words(alloc))
+}
+
+// A program with one more command, if there was memory for both.
+fn with_command<'a>(
+    program: Result<clap::Command<'a>, AllocError>,
+    command: Result<clap::Command<'a>, AllocError>,
+) -> Result<clap::Command<'a>, AllocError>
+    ensures { IfOk result (AddsIfMade program.entry command.entry) }
+{
+    program?.subcommand(command?)
 }
 
 fn run_words<'a>(alloc: Global) -> Result<clap::Command<'a>, AllocError>
     ensures { IfOk result (λ command. (names : ValueParser) × TakesReports names × IsLeaf (run_shape names) command) }
 {
-    clap::Command::new(alloc, "run")
-        .about("Runs the network for the configuration's cycles, and writes a report")
-        .after_help(AFTER_RUN_HELP)
-        .arg(config_word(alloc))?
-        .arg(traffic_word(alloc))?
-        .arg(table_word(alloc))?
-        .arg(ranks_word(alloc).help("Check these ranks before the run"))?
-        .arg(workers_word(alloc))?
-        .arg(drain_word(alloc))?
-        .arg(report_word(alloc))
+    let words = vec![in alloc;
+        file_word(alloc, "CONFIG", CONFIG_HELP),
+        file_word(alloc, "TRAFFIC", TRAFFIC_HELP),
+        option_word(alloc, "table", "F", TABLE_HELP),
+        option_word(alloc, "ranks", "F", "Check these ranks before the run"),
+        number_word(alloc, "workers", "N", WORKERS_HELP).default_value("1"),
+        flag_word(
+            alloc,
+            "drain",
+            "Run on until every packet is out, or to the network's limit, see below"
+        ),
+        report_word(alloc),
+    ]?;
+    command_with(
+        alloc,
+        "run",
+        "Runs the network for the configuration's cycles, and writes a report",
+        AFTER_RUN_HELP,
+        words,
+    )
 }
 
 fn explain_words<'a>(alloc: Global) -> Result<clap::Command<'a>, AllocError>
     ensures { IfOk result (IsLeaf explain_shape) }
 {
-    clap::Command::new(alloc, "explain")
-        .about("Writes what each input channel of a router did in one cycle, and why it waited")
-        .after_help("Example: noc explain mesh.toml traffic.csv --cycle 5 --router 2")
-        .arg(config_word(alloc))?
-        .arg(traffic_word(alloc))?
-        .arg(cycle_word(alloc))?
-        .arg(router_word(alloc))?
-        .arg(table_word(alloc))
+    let words = vec![in alloc;
+        file_word(alloc, "CONFIG", CONFIG_HELP),
+        file_word(alloc, "TRAFFIC", TRAFFIC_HELP),
+        number_word(
+            alloc,
+            "cycle",
+            "N",
+            "The cycle, from 0 to one less than the configuration's cycles"
+        )
+        .required(true),
+        number_word(alloc, "router", "R", "The number of the router, from 0").required(true),
+        option_word(alloc, "table", "F", TABLE_HELP),
+    ]?;
+    command_with(
+        alloc,
+        "explain",
+        "Writes what each input channel of a router did in one cycle, and why it waited",
+        "Example: noc explain mesh.toml traffic.csv --cycle 5 --router 2",
+        words,
+    )
 }
 
 fn trace_words<'a>(alloc: Global) -> Result<clap::Command<'a>, AllocError>
     ensures { IfOk result (IsLeaf trace_shape) }
 {
-    clap::Command::new(alloc, "trace")
-        .about("Writes what the input channels did in each cycle of a span, and why they waited")
-        .after_help(AFTER_TRACE_HELP)
-        .arg(config_word(alloc))?
-        .arg(traffic_word(alloc))?
-        .arg(from_word(alloc))?
-        .arg(to_word(alloc))?
-        .arg(traced_router_word(alloc))?
-        .arg(packet_word(alloc))?
-        .arg(changes_word(alloc))?
-        .arg(table_word(alloc))
+    let words = vec![in alloc;
+        file_word(alloc, "CONFIG", CONFIG_HELP),
+        file_word(alloc, "TRAFFIC", TRAFFIC_HELP),
+        number_word(alloc, "from", "A", "The first cycle; without it 0"),
+        number_word(
+            alloc,
+            "to",
+            "B",
+            "The last cycle; without it the last of the configuration"
+        ),
+        number_word(
+            alloc,
+            "router",
+            "R",
+            "Only this router, by its number, from 0"
+        ),
+        number_word(
+            alloc,
+            "packet",
+            "P",
+            "Only channels that hold this packet, by its number, from 0"
+        ),
+        flag_word(alloc, "changes", "Only what is new since the cycle before"),
+        option_word(alloc, "table", "F", TABLE_HELP),
+    ]?;
+    command_with(
+        alloc,
+        "trace",
+        "Writes what the input channels did in each cycle of a span, and why they waited",
+        AFTER_TRACE_HELP,
+        words,
+    )
 }
 
 fn check_words<'a>(alloc: Global) -> Result<clap::Command<'a>, AllocError>
     ensures { IfOk result (IsLeaf check_shape) }
 {
-    clap::Command::new(alloc, "check")
-        .about(
-            "Writes 'accepted' if the ranks rise with each hop that the routing relation permits",
-        )
-        .after_help("Example: noc check torus.toml --ranks ranks.csv")
-        .arg(config_word(alloc))?
-        .arg(
-            ranks_word(alloc)
-                .required(true)
-                .help("The ranks of the channels (CSV)"),
-        )?
-        .arg(table_word(alloc))
+    let words = vec![in alloc;
+        file_word(alloc, "CONFIG", CONFIG_HELP),
+        option_word(alloc, "ranks", "F", "The ranks of the channels (CSV)").required(true),
+        option_word(alloc, "table", "F", TABLE_HELP),
+    ]?;
+    command_with(
+        alloc,
+        "check",
+        "Writes 'accepted' if the ranks rise with each hop that the routing relation permits",
+        "Example: noc check torus.toml --ranks ranks.csv",
+        words,
+    )
 }
 
 fn ranks_words<'a>(alloc: Global) -> Result<clap::Command<'a>, AllocError>
     ensures { IfOk result (IsLeaf ranks_shape) }
 {
-    clap::Command::new(alloc, "ranks")
-        .about("Writes the ranks by formula of the routing rule, as a rank file")
-        .after_help("Example: noc ranks torus.toml > ranks.csv")
-        .arg(config_word(alloc))?
-        .arg(table_word(alloc))
-}
-
-fn config_word<'a>(alloc: Global) -> Arg<'a>
-    ensures { IsWord (file_word (codes "CONFIG")) result }
-{
-    Arg::new(alloc, "CONFIG")
-        .required(true)
-        .help("The configuration (TOML)")
-}
-
-fn traffic_word<'a>(alloc: Global) -> Arg<'a>
-    ensures { IsWord (file_word (codes "TRAFFIC")) result }
-{
-    Arg::new(alloc, "TRAFFIC").required(true).help(
-        "The packets (CSV; header: source,destination,class,length,due)",
+    let words = vec![in alloc;
+        file_word(alloc, "CONFIG", CONFIG_HELP),
+        option_word(alloc, "table", "F", TABLE_HELP),
+    ]?;
+    command_with(
+        alloc,
+        "ranks",
+        "Writes the ranks by formula of the routing rule, as a rank file",
+        "Example: noc ranks torus.toml > ranks.csv",
+        words,
     )
 }
 
-fn table_word<'a>(alloc: Global) -> Arg<'a>
-    ensures { IsWord (option_word (codes "table")) result }
+// A command with these words, and with no command below it.
+fn command_with<'a>(
+    alloc: Global,
+    name: &'a str,
+    about: &'a str,
+    after_help: &'a str,
+    words: Vec<Arg<'a>>,
+) -> Result<clap::Command<'a>, AllocError>
+    ensures { (rules : List Rule) → AreWords rules words.entry.items → IfOk result (IsLeaf (command_shape name.entry.now rules)) }
 {
-    Arg::new(alloc, "table")
-        .long("table")
-        .value_name("F")
-        .help("The routing table (CSV) of the rule 'table'")
+    clap::Command::new(alloc, name)
+        .about(about)
+        .after_help(after_help)
+        .args(words)
 }
 
-fn ranks_word<'a>(alloc: Global) -> Arg<'a>
-    ensures { IsWord (option_word (codes "ranks")) result }
+// A file that has to be named.
+fn file_word<'a>(alloc: Global, id: &'a str, help: &'a str) -> Arg<'a>
+    ensures { IsWord (file_word id.entry.now) result }
 {
-    Arg::new(alloc, "ranks").long("ranks").value_name("F")
+    Arg::new(alloc, id).required(true).help(help)
+}
+
+// An option with a value, which help calls `value`.
+fn option_word<'a>(alloc: Global, id: &'a str, value: &'a str, help: &'a str) -> Arg<'a>
+    ensures { IsWord (option_word id.entry.now) result }
+{
+    Arg::new(alloc, id).long(id).value_name(value).help(help)
+}
+
+// An option whose value is a number of 64 bits.
+fn number_word<'a>(alloc: Global, id: &'a str, value: &'a str, help: &'a str) -> Arg<'a>
+    ensures { IsWord (number_word id.entry.now) result }
+{
+    option_word(alloc, id, value, help).value_parser(value_parser!(u64))
+}
+
+// An option without a value.
+fn flag_word<'a>(alloc: Global, id: &'a str, help: &'a str) -> Arg<'a>
+    ensures { IsWord (flag_word id.entry.now) result }
+{
+    Arg::new(alloc, id)
+        .long(id)
+        .action(ArgAction::SetTrue)
+        .help(help)
 }
 
 fn report_word<'a>(alloc: Global) -> Arg<'a>
     ensures { (names : ValueParser) × TakesReports names × IsWord (report_word names) result }
 {
-    Arg::new(alloc, "report")
-        .long("report")
-        .value_name("REPORT")
+    option_word(alloc, "report", "REPORT", REPORT_HELP)
         .value_parser(REPORT_WORDS.as_slice())
         .default_value("latency")
-        .help(REPORT_HELP)
-}
-
-fn workers_word<'a>(alloc: Global) -> Arg<'a>
-    ensures { IsWord workers_word result }
-{
-    Arg::new(alloc, "workers")
-        .long("workers")
-        .value_name("N")
-        .value_parser(value_parser!(usize))
-        .default_value("1")
-        .help("How many threads run the routers: 1 to 16, and at most one for each router")
-}
-
-fn drain_word<'a>(alloc: Global) -> Arg<'a>
-    ensures { IsWord drain_word result }
-{
-    Arg::new(alloc, "drain")
-        .long("drain")
-        .action(ArgAction::SetTrue)
-        .help("Run on until every packet is out, or to the network's limit, see below")
-}
-
-fn cycle_word<'a>(alloc: Global) -> Arg<'a>
-    ensures { IsWord (required_word (number_word (codes "cycle"))) result }
-{
-    Arg::new(alloc, "cycle")
-        .long("cycle")
-        .value_name("N")
-        .required(true)
-        .value_parser(value_parser!(u64))
-        .help("The cycle, from 0 to one less than the configuration's cycles")
-}
-
-fn router_word<'a>(alloc: Global) -> Arg<'a>
-    ensures { IsWord (required_word (number_word (codes "router"))) result }
-{
-    Arg::new(alloc, "router")
-        .long("router")
-        .value_name("R")
-        .required(true)
-        .value_parser(value_parser!(usize))
-        .help("The number of the router, from 0")
-}
-
-fn from_word<'a>(alloc: Global) -> Arg<'a>
-    ensures { IsWord (number_word (codes "from")) result }
-{
-    Arg::new(alloc, "from")
-        .long("from")
-        .value_name("A")
-        .value_parser(value_parser!(u64))
-        .help("The first cycle; without it 0")
-}
-
-fn to_word<'a>(alloc: Global) -> Arg<'a>
-    ensures { IsWord (number_word (codes "to")) result }
-{
-    Arg::new(alloc, "to")
-        .long("to")
-        .value_name("B")
-        .value_parser(value_parser!(u64))
-        .help("The last cycle; without it the last of the configuration")
-}
-
-fn traced_router_word<'a>(alloc: Global) -> Arg<'a>
-    ensures { IsWord (number_word (codes "router")) result }
-{
-    Arg::new(alloc, "router")
-        .long("router")
-        .value_name("R")
-        .value_parser(value_parser!(usize))
-        .help("Only this router, by its number, from 0")
-}
-
-fn packet_word<'a>(alloc: Global) -> Arg<'a>
-    ensures { IsWord (number_word (codes "packet")) result }
-{
-    Arg::new(alloc, "packet")
-        .long("packet")
-        .value_name("P")
-        .value_parser(value_parser!(u64))
-        .help("Only channels that hold this packet, by its number, from 0")
-}
-
-fn changes_word<'a>(alloc: Global) -> Arg<'a>
-    ensures { IsWord (flag_word (codes "changes")) result }
-{
-    Arg::new(alloc, "changes")
-        .long("changes")
-        .action(ArgAction::SetTrue)
-        .help("Only what is new since the cycle before")
 }

@@ -1,13 +1,19 @@
-use Rattle.std.proofs.Common.{◌≡◌, ℕ, subst}
+use Rattle.std.proofs.Common.{◌≡◌, ℕ, refl, subst}
+use Rattle.std.proofs.lemmas.Result.{err_from_is_err_and}
 use Rattle.noc_files.specs.Writing.{Wrote}
 use Rattle.noc_answers.specs.Asked.{lent_files}
-use Rattle.noc_answers.specs.Ending.{Ends}
+use Rattle.noc_answers.specs.Ending.{Ends, at_fault}
 use Rattle.noc_answers.specs.Answer.{Asks, AsksFor, FirstFault, TextsFault, in_texts}
 use Rattle.noc_commands.specs.Workers.{workers_of}
 use Rattle.noc_answers.proofs.EndingLemmas.{ends_more}
 use Rattle.noc_answers.proofs.RequestLemmas.{same-workers}
 use Rattle.noc_answers.proofs.RankedLemmas.{ends-done, ends-drained}
 use Rattle.noc_answers.proofs.answers.answer_one.Goals as goal
+
+pub returns-in_err-files-clause-ends : goal.returns-in_err-files-clause-ends
+returns-in_err-files-clause-ends g c =
+    let p = err_from_is_err_and c.from_residual.result c.from_residual.ensures.1 in
+    rw (p.1, p.2) (at_fault refl c.in_err-files.ensures.fault)
 
 pub returns-clause-ends : goal.returns-clause-ends
 returns-clause-ends g c =

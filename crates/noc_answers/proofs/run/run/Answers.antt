@@ -1,18 +1,27 @@
-use Rattle.std.proofs.Common.{◌≡◌}
-use Rattle.noc_files.specs.Writing.{Wrote}
+use Rattle.std.proofs.Common.{refl, rules}
+use Rattle.std.proofs.lemmas.Result.{err_from_is_err_and}
 use Rattle.noc_answers.specs.Asked.{lent_files}
-use Rattle.noc_answers.specs.Answer.{AsksFor, TextsFault, a_report}
-use Rattle.noc_files.specs.Reports.{report_text}
+use Rattle.noc_answers.specs.Answer.{a_report}
+use Rattle.noc_answers.specs.Ending.{at_fault}
 use Rattle.noc_answers.specs.Run.{AsksForRun, ending}
-use Rattle.noc_commands.specs.Workers.{workers_of}
-use Rattle.noc_answers.proofs.EndingLemmas.{ends_reported}
-use Rattle.noc_answers.proofs.RequestLemmas.{ran}
+use Rattle.noc_answers.proofs.EndingLemmas.{answered}
+use Rattle.noc_answers.proofs.RequestLemmas.{ran-report, runs-report}
 use Rattle.noc_answers.proofs.run.run.Goals as goal
+
+pub opening_network-requires : goal.opening_network-requires
+opening_network-requires g c = (search rules, runs-report _ c.args.report c.requires.report)
+
+pub returns-in_err-network : goal.returns-in_err-network
+returns-in_err-network g c =
+    let p = err_from_is_err_and c.from_residual.result c.from_residual.ensures.1 in
+    rw (p.1, p.2) (at_fault refl c.in_err-network.ensures.fault)
 
 pub returns : goal.returns
 returns g c =
     let a = lent_files c.args.files.now in
     let net = c.run_to_end.new.network in
-    let asks : AsksForRun a net = ran a c.args.drain c.in_ok-network.network net c.in_ok-network.cycles c.requires.drain c.in_ok-network.ensures.run c.run_to_end.ensures.net c.run_to_end.ensures.end in
-    ends_reported (workers_of c.args.files.now.command) (Wrote g.W.Sink.contents g.W.Sink.has_failed c.args.sink.now c.report_on.new.sink) (c.report_on.new.sink ≡ c.args.sink.now) (AsksFor a) (TextsFault a)
-    (report_text c.args.report net) (ending net) c.report_on.result (a_report c.requires.report asks) c.report_on.ensures.status c.report_on.ensures.fault
+    let opened = c.in_ok-network.ensures.network in
+    let asks : AsksForRun a net =
+        ran-report a c.args.report c.args.drain c.in_ok-network.network net opened.0 c.in_ok-network.cycles c.requires.report c.requires.drain opened.1 c.run_to_end.ensures.net c.run_to_end.ensures.end in
+    answered g.W.Sink.contents g.W.Sink.has_failed c.args.sink.now c.write_report.new.sink a _ (ending net) c.write_report.result c.ended.result
+    (a_report c.requires.report asks) c.write_report.ensures (rw (← c.ending.ensures) c.ended.ensures)

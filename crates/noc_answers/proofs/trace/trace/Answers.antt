@@ -1,87 +1,82 @@
-use Rattle.std.proofs.Common.{◌≡◌, ◌∙◌, ◌<◌, ◌≤◌, ◌+◌, ◌-◌, ℕ, Option, ap, arith, false, inr, refl, subst, sym}
-use Rattle.std.specs.Prelude.{◌||◌, nat_le, nat_lt}
-use Rattle.std.proofs.lemmas.Bool.{leb-false, ltb-false, or_parts}
+use Rattle.std.proofs.Common.{◌≡◌, ◌+◌, ◌-◌, ap, ap₂, arith, length, None, refl, subst, sym}
+use Rattle.std.proofs.lemmas.Result.{err_from_is_err_and}
 use Rattle.noc_net.specs.Network.{Run, Setup}
 use Rattle.noc_files.specs.Trace.{trace_text}
-use Rattle.noc_files.specs.declared.trace.Traced.{Traced}
+use Rattle.noc_files.specs.Writing.{Wrote}
 use Rattle.noc_answers.specs.Asked.{lent_files}
-use Rattle.noc_answers.specs.Options.{first_cycle, is_bad_span, last_cycle}
-use Rattle.noc_faults.specs.declared.status.Status.TheVariants.{Done}
-use Rattle.noc_answers.specs.Answer.{AsksFor, in_packets, runs, traces}
-use Rattle.noc_answers.specs.Run.{bad_network}
+use Rattle.noc_answers.specs.Options.{first_cycle, last_cycle, packet_option_fault}
+use Rattle.noc_answers.specs.Answer.{runs, traces}
+use Rattle.noc_answers.specs.Drain.{RunsTo}
+use Rattle.noc_answers.specs.Ending.{at_fault}
+use Rattle.noc_answers.specs.Run.{cycles_asked, runs_until_out}
+use Rattle.noc_answers.proofs.EndingLemmas.{answered}
+use Rattle.noc_answers.proofs.OptionLemmas.{traced-router, traced-span}
+use Rattle.noc_answers.proofs.RequestLemmas.{ran}
 use Rattle.noc_answers.proofs.trace.trace.Goals as goal
 
--- a span that is not bad lies in the run
-record Lies (first last cycles : ℕ) : Type 0 where
-  pub order : first ≤ last
-  pub inside : last < cycles
+pub trace_for-requires : goal.trace_for-requires
+trace_for-requires g c = record { opens = c.in_ok-network.ensures.network.0; runs = ap runs c.requires }
 
-lies : (first last cycles : ℕ) → is_bad_span first last cycles ≡ false → Lies first last cycles
-lies first last cycles e =
-    let parts = or_parts (nat_le cycles first || nat_le cycles last) (nat_lt last first) e in
-    let ends = or_parts (nat_le cycles first) (nat_le cycles last) parts.0 in
-    record { order = ltb-false last first parts.1; inside = leb-false cycles last ends.1 }
+pub returns-in_err-network : goal.returns-in_err-network
+returns-in_err-network g c =
+    let p = err_from_is_err_and c.from_residual.result c.from_residual.ensures.1 in
+    rw (p.1, p.2) (at_fault refl c.in_err-network.ensures.fault)
 
--- the text that is written of a run that goes on is that of the run that is asked for
-same_text : (u : Run) (net : Setup) (first cycles end : ℕ) (t traced : Traced) → u.net ≡ net → u.count ≡ first → first + cycles ≡ end → t ≡ traced
-    → trace_text (record u { count = u.count + cycles }) u.count t ≡ trace_text (record { net = net; count = end }) first traced
-same_text u net first cycles end t traced same count ends as_asked =
-    ap (λ (z : Setup). trace_text (record { net = z; count = u.count + cycles }) u.count t) same ∙ ap (λ k. trace_text (record { net = net; count = k + cycles }) k t) count
-    ∙ ap (λ k. trace_text (record { net = net; count = k }) first t) ends ∙ ap (trace_text (record { net = net; count = end }) first) as_asked
-
--- the text of a run that was asked for by a span
-asked_text : (u : Run) (net : Setup) (from to : Option ℕ) (cycles opening first end : ℕ) (t traced : Traced) → is_bad_span (first_cycle from) (last_cycle to cycles) cycles ≡ false → opening ≡ 0
-    → u.net ≡ net → u.count ≡ opening + first → first ≡ first_cycle from → end ≡ last_cycle to cycles → t ≡ traced
-    → trace_text (record u { count = u.count + (end + 1 - first) }) u.count t ≡ trace_text (record { net = net; count = last_cycle to cycles + 1 }) (first_cycle from) traced
-asked_text u net from to cycles opening first end t traced good none same counted begins ends as_asked =
-    let l = lies (first_cycle from) (last_cycle to cycles) cycles good in
-    same_text u net (first_cycle from) (end + 1 - first) (last_cycle to cycles + 1) t traced same (omega (arith, counted, none, begins)) (omega (arith, l.order, begins, ends)) as_asked
+pub returns-in_err-trace : goal.returns-in_err-trace
+returns-in_err-trace g c =
+    let p = err_from_is_err_and c.from_residual-in_err-trace.result c.from_residual-in_err-trace.ensures.1 in
+    rw (p.1, p.2) (at_fault refl c.in_err-trace.ensures.fault)
 
 pub overflow_add-end : goal.overflow_add-end
 overflow_add-end g c =
-    let l = lies (first_cycle c.args.from) (last_cycle c.args.to c.in_ok-network.cycles) c.in_ok-network.cycles c.in_ok-network.ensures.span in
-    omega (arith, l.inside, c.last_cycle-end.ensures, c.in_ok-network.ensures.cycles)
+    let opened = c.in_ok-network.ensures in
+    let l = traced-span (lent_files c.args.files.now) _ opened.network.0 c.args.from c.args.to c.args.traced c.in_ok-network.cycles c.requires opened.network.1 in
+    omega (arith, l.inside, c.last_cycle-end.ensures, opened.cycles)
 
 pub overflow_sub-span : goal.overflow_sub-span
 overflow_sub-span g c =
-    let l = lies (first_cycle c.args.from) (last_cycle c.args.to c.in_ok-network.cycles) c.in_ok-network.cycles c.in_ok-network.ensures.span in
+    let opened = c.in_ok-network.ensures in
+    let l = traced-span (lent_files c.args.files.now) _ opened.network.0 c.args.from c.args.to c.args.traced c.in_ok-network.cycles c.requires opened.network.1 in
     omega (arith, l.order, c.last_cycle-end.ensures, c.first_cycle-first.ensures)
 
 pub run-requires : goal.run-requires
 run-requires g c =
-    let l = lies (first_cycle c.args.from) (last_cycle c.args.to c.in_ok-network.cycles) c.in_ok-network.cycles c.in_ok-network.ensures.span in
-    omega (arith, l.order, l.inside, c.first_cycle-first.ensures, c.in_ok-network.ensures.opening, c.in_ok-network.ensures.cycles)
-
-pub returns-in-Err : goal.returns-in-Err
-returns-in-Err g c =
-    let asks = c.in_ok-network.ensures.run in
-    (refl, in_packets (ap runs c.requires) asks.before (bad_network asks.network.packets (inr (refl, asks.network.sound))))
+    let opened = c.in_ok-network.ensures in
+    let l = traced-span (lent_files c.args.files.now) _ opened.network.0 c.args.from c.args.to c.args.traced c.in_ok-network.cycles c.requires opened.network.1 in
+    omega (arith, l.order, l.inside, c.first_cycle-first.ensures, opened.opening, opened.cycles)
 
 pub write_trace-requires-clause-cycles : goal.write_trace-requires-clause-cycles
 write_trace-requires-clause-cycles g c =
-    let l = lies (first_cycle c.args.from) (last_cycle c.args.to c.in_ok-network.cycles) c.in_ok-network.cycles c.in_ok-network.ensures.span in
+    let opened = c.in_ok-network.ensures in
+    let l = traced-span (lent_files c.args.files.now) _ opened.network.0 c.args.from c.args.to c.args.traced c.in_ok-network.cycles c.requires opened.network.1 in
     let count : c.run.new.self.count ≡ c.in_ok-network.network.count + c.first_cycle-first.result = ap (λ (u : Run). u.count) c.run.ensures.value in
-    omega (arith, l.order, l.inside, count, c.first_cycle-first.ensures, c.last_cycle-end.ensures, c.in_ok-network.ensures.opening, c.in_ok-network.ensures.cycles)
+    omega (arith, l.order, l.inside, count, c.first_cycle-first.ensures, c.last_cycle-end.ensures, opened.opening, opened.cycles)
 
-pub returns-in-Ok-write_trace : goal.returns-in-Ok-write_trace
-returns-in-Ok-write_trace g c =
-    let given = c.in_ok-network in
-    let u = c.run.new.self in
-    let same = asked_text u given.network.net c.args.from c.args.to given.cycles given.network.count c.first_cycle-first.result c.last_cycle-end.result c.in-Ok.trace.0 c.args.traced given.ensures.span
-    given.ensures.opening (ap (λ (x : Run). x.net) c.run.ensures.value) (ap (λ (x : Run). x.count) c.run.ensures.value) c.first_cycle-first.ensures c.last_cycle-end.ensures (ap (λ t. t.0) c.in-Ok.ensures) in (
-      trace_text (record u { count = u.count + (c.last_cycle-end.result + 1 - c.first_cycle-first.result) }) u.count c.in-Ok.trace.0,
-      subst (λ x. AsksFor (lent_files c.args.files.now) x Done) (sym same) (traces c.requires given.ensures.run given.ensures.packet),
-      c.in-Ok-write_trace.ensures.text,
-    )
+pub write_trace-requires-clause-router : goal.write_trace-requires-clause-router
+write_trace-requires-clause-router g c =
+    rw (c.in_ok-trace.ensures.trace, c.run.ensures.value)
+    (traced-router (lent_files c.args.files.now) _ c.in_ok-network.ensures.network.0 c.args.from c.args.to c.args.traced c.requires)
+
+pub write_trace-requires-clause-opening : goal.write_trace-requires-clause-opening
+write_trace-requires-clause-opening g c = rw (c.in_ok-trace.ensures.trace, c.run.ensures.value) refl
 
 pub returns : goal.returns
 returns g c =
-    let given = c.in_ok-network in
+    let a = lent_files c.args.files.now in
+    let before = c.in_ok-network.network in
+    let opened = c.in_ok-network.ensures in
+    let opens = opened.network.0 in
     let u = c.run.new.self in
-    let same = asked_text u given.network.net c.args.from c.args.to given.cycles given.network.count c.first_cycle-first.result c.last_cycle-end.result c.in-Ok.trace.0 c.args.traced given.ensures.span
-    given.ensures.opening (ap (λ (x : Run). x.net) c.run.ensures.value) (ap (λ (x : Run). x.count) c.run.ensures.value) c.first_cycle-first.ensures c.last_cycle-end.ensures (ap (λ t. t.0) c.in-Ok.ensures) in (
-      trace_text (record u { count = u.count + (c.last_cycle-end.result + 1 - c.first_cycle-first.result) }) u.count c.in-Ok.trace.0,
-      Done,
-      subst (λ x. AsksFor (lent_files c.args.files.now) x Done) (sym same) (traces c.requires given.ensures.run given.ensures.packet),
-      c.in-Err-write_trace.ensures.text,
-    )
+    let run : Run = record u { count = u.count + (c.last_cycle-end.result + 1 - c.first_cycle-first.result) } in
+    let l = traced-span a _ opens c.args.from c.args.to c.args.traced c.in_ok-network.cycles c.requires opened.network.1 in
+    let same : u.net ≡ before.net = ap (λ (x : Run). x.net) c.run.ensures.value in
+    let count : u.count ≡ before.count + c.first_cycle-first.result = ap (λ (x : Run). x.count) c.run.ensures.value in
+    let first : u.count ≡ first_cycle c.args.from = omega (arith, count, opened.opening, c.first_cycle-first.ensures) in
+    let last : run.count ≡ last_cycle c.args.to c.in_ok-network.cycles + 1 = omega (arith, l.order, count, opened.opening, c.first_cycle-first.ensures, c.last_cycle-end.ensures) in
+    let end = subst (λ n. run.count ≡ last_cycle c.args.to n + 1) opened.network.1 last in
+    let ends = subst (λ x. RunsTo (runs_until_out x) before.net (cycles_asked x opens.settings) run.count) (sym c.requires) end in
+    let packet = subst (λ (n : Setup). packet_option_fault a.command (length n.packets) ≡ None) (sym same) c.in_ok-trace.ensures.packet in
+    let kept = ap (λ t. t.0) c.in_ok-trace.ensures.trace in
+    let text = ap₂ (trace_text run) first kept in
+    answered g.W.Sink.contents g.W.Sink.has_failed c.args.sink.now c.write_trace.new.sink a _ _ c.write_trace.result c.ended.result (traces c.requires (ran a before run opens same ends) packet)
+    (subst (λ t. Wrote g.W.Sink.contents g.W.Sink.has_failed c.args.sink.now c.write_trace.new.sink t c.write_trace.result) text c.write_trace.ensures.text) c.ended.ensures

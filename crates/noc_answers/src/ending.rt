@@ -1,0 +1,30 @@
+//! How an answer ends.
+
+ghost use Rattle.std.specs.Prelude.{◌≡◌};
+ghost use Rattle.noc_answers.specs.Ending.{ended};
+ghost use Rattle.noc_answers.specs.Run.{ending};
+
+use noc_faults::{Fault, Status};
+use noc_files::WriteFault;
+use noc_net::Network;
+
+// How an answer ends whose text was written, or could not be.
+pub(crate) fn ended(written: Result<(), WriteFault>, status: Status) -> Result<Status, Fault>
+    ensures { result ≡ ended written status }
+{
+    match written {
+        Ok(()) => Ok(status),
+        Err(fault) => Err(Fault::Write(fault)),
+    }
+}
+
+// How a run has ended.
+pub(crate) fn ending(network: &Network) -> Status
+    ensures { result ≡ ending network.now }
+{
+    if network.stuck() {
+        Status::Stuck
+    } else {
+        Status::Done
+    }
+}
