@@ -8,7 +8,6 @@ ghost use Rattle.noc_answers.specs.Asked.{lent_files, lent_text, read_by};
 ghost use Rattle.noc_answers.specs.Ending.{Refuses};
 ghost use Rattle.noc_commands.specs.Workers.{workers_of};
 ghost use Rattle.noc_answers.specs.Answer.{IsAnswered, TextsFault, runs};
-ghost use Rattle.noc_files.specs.Reports.{report_text};
 ghost use Rattle.noc_answers.specs.Run.{IsNetworkOf, Opens, PacketsFault, runs_until_out, report_of};
 ghost use Rattle.noc_tiles.specs.declared.limits.TheConstants.{MAX_WORKERS};
 
