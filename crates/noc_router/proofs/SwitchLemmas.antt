@@ -1,7 +1,7 @@
 -- The switch: which channels the input ports pick, where the picks go, and which of them move.
 use Rattle.std.proofs.Common.{◌≡◌, ℕ, ◌+◌, ◌*◌, ◌/◌, ◌%◌, ◌<◌, ◌≤◌, Bool, true, false, List, length, get_or, set, subst, Option, Some, None, refl, ap, sym, ◌∙◌, arith, inl, inr}
 use Rattle.std.specs.Prelude.{◌&&◌, ◌⊎◌, is_some, nat_lt, option_and_then, slice_index}
-use Rattle.std.proofs.lemmas.Bool.{and_parts, cases_lt, false≢true}
+use Rattle.std.proofs.lemmas.Bool.{and_parts, cases_lt}
 use Rattle.std.proofs.lemmas.Nat.{div-add-mod'}
 use Rattle.std.proofs.lemmas.List.{get_or_past}
 use Rattle.noc_topo.specs.Shape.{ports}
@@ -9,8 +9,7 @@ use Rattle.noc_topo.specs.Words.{is_some_of, tabulate}
 use Rattle.noc_topo.proofs.WordLemmas.{get_or-tabulate, length-tabulate}
 use Rattle.noc_packet.specs.Set.{has_bit}
 use Rattle.noc_vc.specs.Input.{is_active}
-use Rattle.noc_vc.specs.declared.input.InputState.{InputState}
-use Rattle.noc_vc.specs.declared.input.InputState.TheVariants.{Idle, Waiting, Active}
+use Rattle.noc_vc.specs.declared.input.InputState.TheVariants.{Active}
 use Rattle.noc_alloc.specs.Allocation.{is_won_by, pick_of}
 use Rattle.noc_alloc.specs.Arbiter.{pointers_of}
 use Rattle.noc_alloc.specs.Requests.{AllBelow, is_given}

@@ -1,4 +1,4 @@
-use Rattle.std.proofs.Common.{List, length, ap, arith, ◌∙◌}
+use Rattle.std.proofs.Common.{length, ap, arith, ◌∙◌}
 use Rattle.noc_topo.proofs.WordLemmas.{length-tabulate}
 use Rattle.noc_alloc.specs.Requests.{Requested}
 use Rattle.noc_router.proofs.requests.Requests.grant.Goals as goal

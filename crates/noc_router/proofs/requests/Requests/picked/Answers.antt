@@ -1,4 +1,4 @@
-use Rattle.std.proofs.Common.{◌≡◌, ◌/◌, ◌%◌, ℕ, Bool, Option, Some, None, get_or, refl, ap, ◌∙◌}
+use Rattle.std.proofs.Common.{◌≡◌, ◌/◌, ◌%◌, ℕ, Option, Some, None, get_or, refl, ap, ◌∙◌}
 use Rattle.std.specs.Prelude.{◌&&◌, is_some}
 use Rattle.noc_topo.specs.Words.{is_some_of}
 use Rattle.noc_router.proofs.requests.Requests.picked.Goals as goal

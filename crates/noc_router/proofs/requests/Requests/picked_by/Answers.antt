@@ -1,4 +1,4 @@
-use Rattle.std.proofs.Common.{◌≡◌, ◌+◌, ◌*◌, ◌<◌, ℕ, Some, None, get_or, sym, ◌∙◌, arith}
+use Rattle.std.proofs.Common.{◌≡◌, Some, None, get_or, sym, ◌∙◌, arith}
 use Rattle.noc_router.proofs.MemberLemmas.{without-member}
 use Rattle.noc_router.proofs.PickedLemmas.{picks-first, picks-last, picks-next, picks-skip, pick-below}
 use Rattle.noc_router.proofs.QuietLemmas.{least_member, none_left}

@@ -1,4 +1,4 @@
-use Rattle.std.proofs.Common.{◌≡◌, ◌*◌, ℕ, ap, arith, refl, ◌∙◌}
+use Rattle.std.proofs.Common.{◌≡◌, ap, arith, refl, ◌∙◌}
 use Rattle.noc_topo.proofs.WordLemmas.{get_or-tabulate, length-tabulate}
 use Rattle.noc_router.specs.Asked.{RequestLists, lists_in}
 use Rattle.noc_router.specs.Standing.{IsStanding}
