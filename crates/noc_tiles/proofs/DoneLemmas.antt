@@ -6,7 +6,6 @@ use Rattle.std.proofs.lemmas.List.{length-map, with_items_is}
 use Rattle.noc_topo.specs.Shape.{nodes}
 use Rattle.noc_packet.specs.declared.packet.Beat.{Beat}
 use Rattle.noc_net.specs.Halves.{beat_at}
-use Rattle.noc_theory.specs.declared.limits.TheConstants.{CYCLE_LIMIT}
 use Rattle.noc_net.specs.Network.{Setup}
 use Rattle.noc_net.specs.Parts.{AreParts}
 use Rattle.noc_tiles.specs.Emptying.{CanEmpty, Empties}
@@ -45,7 +44,7 @@ module _ {f : Kept} {ts : List Tile} (D : AreDone f ts) where
         can-empty-as (nodes net.relation.grid) (length held) (flat_map inlets ts) (map inlet all.ins.items) (flat_map outlets ts) (map outlet all.outs.items)
         (sym (ap length was ∙ rows)) (sym G.ins) (sym G.outs) (can_empty net f.count f.cycles D.ins D.outs D.cut ts D.partition runs first)
 
-    pub parts-done : IsFrame f → f.count + f.cycles ≤ CYCLE_LIMIT → (new : List (List Beat)) → Empties (map inlet all.ins.items) (map outlet all.outs.items) (vec_len all.ins) held new
+    pub parts-done : IsFrame f → (new : List (List Beat)) → Empties (map inlet all.ins.items) (map outlet all.outs.items) (vec_len all.ins) held new
         → AreParts (record {
           relation = f.relation;
           buffer = f.buffer;
@@ -56,13 +55,13 @@ module _ {f : Kept} {ts : List Tile} (D : AreDone f ts) where
           beats = with_items all.beats new;
           room = f.room;
         })
-    parts-done frame end new emptied =
+    parts-done frame new emptied =
         let i : vec_len all.ins ≡ length (flat_map inlets ts) = vec-length all.ins ∙ (sym (length-map all.ins.items inlet) ∙ ap length G.ins) in
         let C =
         empties-as (map inlet all.ins.items) (flat_map inlets ts) (map outlet all.outs.items) (flat_map outlets ts) (vec_len all.ins) (length (flat_map inlets ts)) held
         (flat_map wire_rows_of ts) new G.ins G.outs i (was ∙ G.beats) emptied in
         let now : (with_items all.beats new).items ≡ new = with_items_is all.beats new (emptied.same ∙ (ap length was ∙ sym (vec-length all.beats))) in
-        parts-again _ frame.good end (G.routers ∙ views-done net f.count f.cycles D.ins D.outs D.cut ts D.partition runs first C.left)
+        parts-again _ frame.good frame.end (G.routers ∙ views-done net f.count f.cycles D.ins D.outs D.cut ts D.partition runs first C.left)
         (λ s q. ap (λ (b : List (List Beat)). beat_at b s q) now ∙ wires-done net f.count f.cycles D.ins D.outs D.cut ts D.partition runs first C.left new C s q)
         (vec-length all.beats ∙ rows) frame.room
 

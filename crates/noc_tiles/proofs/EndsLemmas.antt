@@ -1,48 +1,46 @@
 -- One more ring is emptied.
-use Rattle.std.proofs.Common.{◌≡◌, ◌≢◌, ◌⊎◌, inl, inr, ℕ, ◌+◌, ◌<◌, Bool, List, [], ◌∷◌, ◌++◌, map, length, get_or, set, ap, ap₂, sym, ◌∙◌, arith, subst, below_more}
+use Rattle.std.proofs.Common.{◌≡◌, ◌≢◌, ◌⊎◌, inl, inr, ℕ, ◌+◌, ◌<◌, Bool, List, [], ◌∷◌, ◌++◌, map, length, get_or, ap, ap₂, sym, ◌∙◌, arith, subst, below_more}
 use Rattle.std.specs.Prelude.{nat_eq, ◌&&◌, if◌then◌else◌}
 use Rattle.std.proofs.lemmas.Bool.Decides.{eqb_tells}
-use Rattle.std.proofs.lemmas.List.{length-set, get_or-map, length-map}
+use Rattle.std.proofs.lemmas.List.{get_or-map, length-map}
 use Rattle.noc_packet.specs.declared.packet.Beat.{Beat}
 use Rattle.noc_net.specs.Halves.{beat_at}
 use Rattle.noc_tiles.specs.RingEnd.{WireEnd}
 use Rattle.noc_tiles.specs.Ends.{End}
-use Rattle.noc_tiles.specs.Emptying.{CanEmpty, Empties, Left}
+use Rattle.noc_tiles.specs.Emptying.{AreEnds, CanEmpty, Empties, Left}
 use Rattle.noc_tiles.proofs.ClearLemmas.{place_at}
-use Rattle.noc_tiles.proofs.TileStepLemmas.{Tells, beat_at-set}
+use Rattle.noc_tiles.specs.TileStep.{with_beat}
+use Rattle.noc_tiles.proofs.TileStepLemmas.{Tells}
 
-module _ (I O : List End) (i : ℕ) (old new : List (List Beat)) (a p : ℕ) (x : Beat) (place : (d : End) → (get_or I i d).at ≡ (a, p)) (l : a < length new) (m : p < length (get_or new a [])) (left : Left I O i x) where
-  abbrev pub closed : List (List Beat)
-  closed = set new a (set (get_or new a []) p x)
-
+module _ (I O : List End) (i : ℕ) (old bs new : List (List Beat)) (a p : ℕ) (x : Beat) (place : (d : End) → (get_or I i d).at ≡ (a, p)) (size : length new ≡ length bs) (now : (r q : ℕ) → beat_at new r q ≡ with_beat (beat_at bs) (a, p) x r q) (left : Left I O i x) where
   abbrev Case : List (List Beat) → ℕ → ℕ → ℕ → Type 0
   Case now n r q =
       ((j : ℕ) × (j < n) × ((d : End) → (get_or I j d).at ≡ (r, q)) × Left I O j (beat_at now r q))
       ⊎ (((j : ℕ) (d : End) → j < n → (get_or I j d).at ≢ (r, q)) × (beat_at now r q ≡ beat_at old r q))
 
   abbrev test : ℕ → ℕ → Bool → Bool → Beat
-  test r q s t = if s && t then x else beat_at new r q
+  test r q s t = if s && t then x else beat_at bs r q
 
-  kept : (r q : ℕ) → beat_at closed r q ≡ beat_at new r q → place_at r q ≢ place_at a p → Case new i r q → Case closed (i + 1) r q
+  kept : (r q : ℕ) → beat_at new r q ≡ beat_at bs r q → place_at r q ≢ place_at a p → Case bs i r q → Case new (i + 1) r q
   kept r q same ne (inl h) =
       let P : Beat → Type 0 = Left I O h.0 in
       inl (h.0, (let z = h.1 in omega arith), h.2, subst P (sym same) h.3)
   kept r q same ne (inr h) =
       inr ((λ j d k. let Q : ℕ → Type 0 = λ j. (get_or I j d).at ≢ (r, q) in below_more Q i (λ j' k'. h.0 j' d k') (λ e. ne (sym e ∙ place d)) j k), same ∙ h.1)
 
-  one-wire : (r q : ℕ) → Case new i r q → Case closed (i + 1) r q
+  one-wire : (r q : ℕ) → Case bs i r q → Case new (i + 1) r q
   one-wire r q = at (eqb_tells r a) (eqb_tells q p)
     where
-      at : Tells r a → Tells q p → Case new i r q → Case closed (i + 1) r q
+      at : Tells r a → Tells q p → Case bs i r q → Case new (i + 1) r q
       at (inl e) (inl f) h =
           let P : Beat → Type 0 = Left I O i in
-          inl (i, omega arith, (λ d. place d ∙ ap₂ place_at (sym e.1) (sym f.1)), subst P (sym (beat_at-set new a p x l m r q ∙ ap₂ (test r q) e.0 f.0)) left)
-      at (inl e) (inr f) h = kept r q (beat_at-set new a p x l m r q ∙ ap₂ (test r q) e.0 f.0) (λ z. f.1 (ap (λ (w : ℕ × ℕ). w.1) z)) h
-      at (inr e) f h = kept r q (beat_at-set new a p x l m r q ∙ ap (λ s. test r q s (nat_eq q p)) e.0) (λ z. e.1 (ap (λ (w : ℕ × ℕ). w.0) z)) h
+          inl (i, omega arith, (λ d. place d ∙ ap₂ place_at (sym e.1) (sym f.1)), subst P (sym (now r q ∙ ap₂ (test r q) e.0 f.0)) left)
+      at (inl e) (inr f) h = kept r q (now r q ∙ ap₂ (test r q) e.0 f.0) (λ z. f.1 (ap (λ (w : ℕ × ℕ). w.1) z)) h
+      at (inr e) f h = kept r q (now r q ∙ ap (λ s. test r q s (nat_eq q p)) e.0) (λ z. e.1 (ap (λ (w : ℕ × ℕ). w.0) z)) h
 
-  pub empties-more : Empties I O i old new → Empties I O (i + 1) old closed
+  pub empties-more : Empties I O i old bs → Empties I O (i + 1) old new
   empties-more c = record {
-    same = length-set new a (set (get_or new a []) p x) ∙ c.same;
+    same = size ∙ c.same;
     left = λ j h. let Q : ℕ → Type 0 = λ j. (y : Beat) × Left I O j y in below_more Q i c.left (x, left) j h;
     wires = λ r q. one-wire r q (c.wires r q);
   }
@@ -58,12 +56,10 @@ pub length-views : {X A : Type 0} (f : X → WireEnd A) (xs xs0 : List X) → ma
 length-views f xs xs0 h = sym (length-map xs f) ∙ (ap length h ∙ length-map xs0 f)
 
 pub meets : (rows : ℕ) (I O : List End) → CanEmpty rows I O → (i o : ℕ) (v w : End) → i < length I → o < length O → get_or I i w ≡ v → get_or O o w ≡ w → w.at ≡ v.at
-    → (w.ring ≡ v.ring) × (length w.past ≡ length v.past + 1)
+    → AreEnds v w
 meets rows I O c i o v w il ol vi wo a =
-    let r = c.rings i o w il ol (ap (λ (q : End). q.at) wo ∙ (a ∙ ap (λ (q : End). q.at) (sym vi))) in (
-      sym (ap (λ (q : End). q.ring) wo) ∙ (r.0 ∙ ap (λ (q : End). q.ring) vi),
-      sym (ap (λ (q : End). length q.past) wo) ∙ (r.1 ∙ ap (λ (q : End). length q.past + 1) vi),
-    )
+    let r = c.rings i o w il ol (ap (λ (q : End). q.at) wo ∙ (a ∙ ap (λ (q : End). q.at) (sym vi))) in
+    subst (λ (q : End). AreEnds v q) wo (subst (λ (q : End). AreEnds q (get_or O o w)) vi r)
 
 pub leaves : (I O : List End) (i o : ℕ) (x : Beat) (v w : End) → o < length O → ((d : End) → get_or I i d ≡ v) → ((d : End) → get_or O o d ≡ w) → w.at ≡ v.at → w.past ≡ v.past ++ x ∷ [] → Left I O i x
 leaves I O i o x v w ol vi wo a f = (

@@ -126,7 +126,7 @@ module _ (net : Setup) (n k : ℕ) (I O : List (Option End)) (xs ys : List Tile)
             let q = wire-of net n k I O xs W d i o e (omega arith) (omega arith) (sym w.at ∙ (a ∙ v.at)) in
             let vl : length (get_or (flat_map inlets ys) i e).past ≡ k = ap length (v.past ∙ ap (λ p. p ++ v.more) q.fresh) ∙ v.count in
             let wl : length (get_or (flat_map outlets ys) o e).past ≡ k + 1 = ap length (w.past ∙ ap (λ p. p ++ w.more) q.beat) ∙ (ap suc w.count ∙ (omega arith)) in
-            (w.ring ∙ (q.ring ∙ sym v.ring), wl ∙ ap (λ m. m + 1) (sym vl));
+            record { ring = w.ring ∙ (q.ring ∙ sym v.ring); one = wl ∙ ap (λ m. m + 1) (sym vl) };
       }
 
   abbrev pub traces : ℕ → Trace

@@ -1,6 +1,6 @@
 -- Tile after tile is cut from a network.
 use Rattle.std.proofs.Common.{◌≡◌, ℕ, suc, ◌+◌, ◌-◌, ◌*◌, ◌/◌, ◌%◌, ◌<◌, ◌≤◌, true, false, List, [], ◌∷◌, ◌++◌, length, get_or, take, drop, vec_len, Option, None, refl, ap, ap₂, sym, ◌∙◌, append_assoc, arith, subst, ⊎_elim}
-use Rattle.std.specs.Prelude.{is_some}
+use Rattle.std.specs.Prelude.{is_some, if◌then◌else◌}
 use Rattle.std.specs.List.{flat_map}
 use Rattle.std.proofs.lemmas.Bool.{cases_lt}
 use Rattle.std.proofs.lemmas.List.{append-nil, drop-drop, get_or_append_left, get_or_push, get_or-take, length-drop, length-map, length_push, length-take-le, take_all}
@@ -14,7 +14,7 @@ use Rattle.noc_tiles.specs.Ends.{End}
 use Rattle.noc_tiles.specs.TileStep.{is_inside, is_own}
 use Rattle.noc_tiles.specs.Tiles.{inlets, outlets}
 use Rattle.noc_tiles.specs.Rings.{AreLeftOut, AreSlots, AreTakenIn, AreTakenOut, GoesOutTo, in_slots, out_slots}
-use Rattle.noc_tiles.specs.Partition.{CanCut, IsPartition, IsTileOf, IsUncut, first_of, routers_of, setup_of, views_of}
+use Rattle.noc_tiles.specs.Partition.{CanCut, IsPartition, IsTileOf, IsUncut, first_of, own_beat, routers_of, setup_of, views_of}
 use Rattle.noc_tiles.specs.declared.kept.Kept.{Kept}
 use Rattle.noc_tiles.specs.declared.partition.Uncut.{Uncut}
 use Rattle.noc_tiles.specs.declared.tile.Tile.{Tile}
@@ -73,9 +73,11 @@ module _ {f : Kept} {B : List (List Beat)} {I0 O0 : List (Option End)} {w : ℕ}
 
   pub tile-of : (t : Tile) → t.worker ≡ w → t.first ≡ rest.first → t.start ≡ f.count → t.cycles ≡ f.cycles → t.done ≡ 0
       → t.routers.items ≡ take count rest.routers.items → vec_len t.beats ≡ length B
-      → ((r q : ℕ) → is_own rest.first count r ≡ true → beat_at t.beats.items r q ≡ beat_at B r q) → ((r q : ℕ) → is_own rest.first count r ≡ false → beat_at t.beats.items r q ≡ idle_beat)
+      → ((r q : ℕ) → beat_at t.beats.items r q ≡ own_beat rest.first count B r q)
       → AreTakenIn grid rest.first count ((rest.first + count) * 6) I (inlets t) → AreTakenOut grid rest.first count ((rest.first + count) * 6) O (outlets t) → IsTileOf f I0 O0 w t
-  tile-of t worker first start cycles done routers size own idle ins outs =
+  tile-of t worker first start cycles done routers size beats ins outs =
+      let own : (r q : ℕ) → is_own rest.first count r ≡ true → beat_at t.beats.items r q ≡ beat_at B r q = λ r q h. beats r q ∙ ap (λ b. if b then beat_at B r q else idle_beat) h in
+      let idle : (r q : ℕ) → is_own rest.first count r ≡ false → beat_at t.beats.items r q ≡ idle_beat = λ r q h. beats r q ∙ ap (λ b. if b then beat_at B r q else idle_beat) h in
       let views : t.routers.items ≡ take count (drop rest.first (views_of f)) = routers ∙ ap (take count) A.uncut.routers in
       record {
         tile = new-tile (setup_of f) A.can.good.relation.table.grid f.workers rest.first count wide B I0 O0 I O A.uncut.unassigned w A.worker A.uncut.first end-is f.count f.cycles A.can.flight t first start cycles done A.can.end views
@@ -87,13 +89,11 @@ module _ {f : Kept} {B : List (List Beat)} {I0 O0 : List (Option End)} {w : ℕ}
         routers = views ∙ ap₂ (λ a b. take (b - a) (drop a (views_of f))) A.uncut.first A.end_is;
       }
 
-  pub uncut-more : (left : Uncut) → left.first ≡ end → left.routers.items ≡ drop count rest.routers.items → vec_len left.ins ≡ vec_len rest.ins → vec_len left.outs ≡ vec_len rest.outs
+  pub uncut-more : (left : Uncut) → left.first ≡ end → left.routers.items ≡ drop count rest.routers.items
       → ((m : ℕ) → (rest.first + count) * 6 ≤ m → get_or (in_slots left.ins.items) m None ≡ get_or I m None) → AreLeftOut grid ((rest.first + count) * 6) O (out_slots left.outs.items) → IsUncut f B I0 O0 (w + 1) left
-  uncut-more left first routers size_in size_out ins outs = record {
+  uncut-more left first routers ins outs = record {
     first = first ∙ A.end_is;
     routers = routers ∙ (ap (drop count) A.uncut.routers ∙ (drop-drop count rest.first (views_of f) ∙ ap (λ z. drop z (views_of f)) (sum ∙ sym first)));
-    size_in = size_in ∙ A.uncut.size_in;
-    size_out = size_out ∙ A.uncut.size_out;
     unassigned = subst (λ z. Rattle.noc_tiles.specs.Partition.AreUnassigned (setup_of f) f.workers z B I0 O0 (in_slots left.ins.items) (out_slots left.outs.items)) (sum ∙ sym first)
         (unassigned-more (setup_of f) A.can.good.relation.table.grid f.workers rest.first count wide B I0 O0 I O A.uncut.unassigned w A.worker A.uncut.first end-is (in_slots left.ins.items) (out_slots left.outs.items) ins
         (subst (λ (g : Grid). AreLeftOut g ((rest.first + count) * 6) O (out_slots left.outs.items)) A.same outs));
@@ -106,8 +106,6 @@ pub uncut-all : (f : Kept) (B : List (List Beat)) (rest : Uncut) → CanCut f B 
 uncut-all f B rest can first routers slots = record {
   first = first ∙ sym (start-none (nodes f.relation.grid) f.workers can.some);
   routers = routers ∙ ap (λ z. drop z (views_of f)) (sym first);
-  size_in = let n : length rest.ins.items ≡ nodes f.relation.grid * 6 = rw length-map at slots.ins in vec-length rest.ins ∙ n;
-  size_out = let n : length rest.outs.items ≡ nodes f.relation.grid * 6 = rw length-map at slots.outs in vec-length rest.outs ∙ n;
   unassigned = record { slots = slots; left_in = λ m l. refl; left_out = λ s p r q sl pl to l. refl };
 }
 

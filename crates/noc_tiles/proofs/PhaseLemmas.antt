@@ -37,7 +37,7 @@ took-as ins row old new b0 b1 before after took r q = ap (λ (b : List (List Bea
 -- ---- a whole cycle
 
 module _ (relation : Routes) (n : ℕ) (findings : Findings) (inner : Inner) (row : List Beat) (a t1 : Tile) (ready : IsReady relation a) (within : AreInner relation.grid a.first (vec_len a.routers) (arrival_places (outlets a)) inner)
-    (rest1 : t1 ≡ record a { routers = t1.routers; beats = t1.beats; ins = t1.ins }) (took : TileHasTaken relation row a t1) where
+    (took : TileHasTaken relation row a t1) where
   abbrev ins : List (ℕ × ℕ)
   ins = arrival_places (inlets a)
 
@@ -57,7 +57,7 @@ module _ (relation : Routes) (n : ℕ) (findings : Findings) (inner : Inner) (ro
   fits = subst (λ k. AreInner relation.grid a.first k outs inner) len within
 
   first1 : t1.first ≡ a.first
-  first1 = ap (λ (t : Tile). t.first) rest1
+  first1 = ap (λ (t : Tile). t.first) took.rest
 
   rows1 : length t1.beats.items ≡ nodes relation.grid
   rows1 = took.size ∙ ready.parts.count
@@ -84,7 +84,7 @@ module _ (relation : Routes) (n : ℕ) (findings : Findings) (inner : Inner) (ro
 
     module _ (t3 : Tile) (two : HaveFinished relation n findings inner.to count t2 t3) where
       outs3 : outlets t3 ≡ outlets a
-      outs3 = ap outlets two.rest ∙ ap outlets one.rest ∙ ap outlets rest1
+      outs3 = ap outlets two.rest ∙ ap outlets one.rest ∙ ap outlets took.rest
 
       rows3 : length t3.beats.items ≡ nodes relation.grid
       rows3 = two.size ∙ one.size ∙ rows1
@@ -98,7 +98,10 @@ module _ (relation : Routes) (n : ℕ) (findings : Findings) (inner : Inner) (ro
           (can-after relation n findings 0 inner.from inner.from inner.to t1 t2 one (can-part relation 0 (length views) inner.from inner.to t1 can (omega arith) fits.order fits.within) (omega arith) (inl (omega arith)))
           (omega (arith, all1, n1, fits.within)) (inr (omega arith))
 
-      module _ (t4 : Tile) (rest4 : t4 ≡ record t3 { beats = t4.beats; outs = t4.outs }) (sent : TileHasSent t3 t4) where
+      module _ (t4 : Tile) (sent : TileHasSent t3 t4) where
+        rest4 : t4 ≡ record t3 { beats = t4.beats; outs = t4.outs }
+        rest4 = sent.rest
+
         cleared : (r q : ℕ) → IsCleared outs t3.beats.items t4.beats.items (length outs) r q
         cleared r q = subst (λ ps. IsCleared ps t3.beats.items t4.beats.items (length ps) r q) (ap arrival_places outs3) (sent.cleared r q)
 

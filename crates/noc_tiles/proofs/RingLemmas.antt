@@ -1,8 +1,8 @@
 -- The ends of rings go from the slots to the tiles.
-use Rattle.std.proofs.Common.{◌≡◌, ◌≢◌, ◌⊎◌, inl, inr, ℕ, ◌+◌, ◌*◌, ◌/◌, ◌%◌, ◌<◌, ◌≤◌, Bool, true, false, List, [], ◌∷◌, ◌++◌, map, length, get_or, Option, Some, None, refl, ap, ap₂, sym, ◌∙◌, arith, subst, ⊎_elim}
-use Rattle.std.specs.Prelude.{option_map, is_some, IfSome, IfNone}
+use Rattle.std.proofs.Common.{◌≡◌, ◌≢◌, ◌⊎◌, inl, inr, ℕ, ◌+◌, ◌*◌, ◌/◌, ◌%◌, ◌<◌, ◌≤◌, Bool, true, false, List, [], ◌∷◌, ◌++◌, map, length, get_or, Option, Some, None, Vec, Global, vec_len, refl, ap, ap₂, sym, ◌∙◌, arith, subst, ⊎_elim}
+use Rattle.std.specs.Prelude.{option_map, is_some, IfSome, MatchOption}
 use Rattle.std.proofs.lemmas.Bool.{cases_lt, false≢true}
-use Rattle.std.proofs.lemmas.List.{append-nil, length_push, length-map, map-append, get_or-map, get_or_append_left, get_or_push, get_or-set_other, get_or_past, length-set}
+use Rattle.std.proofs.lemmas.List.{append-nil, length_push, length-map, map-append, get_or-map, get_or_append_left, get_or_push, get_or-set_other, get_or_past}
 use Rattle.noc_topo.specs.Shape.{Grid, IsGrid, neighbour, nodes}
 use Rattle.noc_topo.proofs.LinkLemmas.{link_back}
 use Rattle.noc_packet.specs.declared.packet.Beat.{Beat}
@@ -12,11 +12,6 @@ use Rattle.noc_tiles.specs.Ends.{End}
 use Rattle.noc_tiles.specs.TileStep.{is_own, is_from, is_inside}
 use Rattle.noc_tiles.specs.Rings.{AreLeftOut, AreSlots, AreTakenIn, AreTakenOut, GoesOutTo, IsSlot, item_at, one_of, without}
 use Rattle.noc_tiles.proofs.SentLemmas.{own-true}
-
--- as many slots are left
-pub length-without : {X : Type 0} (at : Option ℕ) (slots : List (Option X)) → length (without at slots) ≡ length slots
-length-without None slots = refl
-length-without (Some k) slots = length-set slots k None
 
 -- the views of slots, after one was emptied
 module _ {X : Type 0} (f : X → End) where
@@ -45,6 +40,11 @@ module _ {X : Type 0} (f : X → End) where
 pub some-of : (s : Option End) → is_some s ≡ true → (e : End) × (s ≡ Some e)
 some-of None h = absurd (false≢true h)
 some-of (Some e) h = (e, refl)
+
+-- a slot with an end is there
+there : {X : Type 0} (f : X → End) (slots : List (Option X)) (k : ℕ) → is_some (get_or (seen f slots) k None) ≡ true → k < length slots
+there f slots k some =
+    ⊎_elim (λ (l : k < length slots). l) (λ (past : length slots ≤ k). absurd (false≢true (sym (ap (λ (s : Option End). is_some s) (seen-at f slots k ∙ ap (option_map f) (get_or_past slots k None past))) ∙ some))) (cases_lt k (length slots))
 
 last-of : {X : Type 0} (xs : List X) (x : X) (j : ℕ) → j < length (xs ++ x ∷ []) → (j < length xs) ⊎ (j ≡ length xs)
 last-of xs x j l = let n = length_push xs x in grind arith
@@ -145,16 +145,16 @@ module _ {X : Type 0} (f : X → End) (grid : Grid) (first count k : ℕ) (I : L
   abbrev Rest : ℕ → List (Option X) → Type 0
   Rest from now = (m : ℕ) → from ≤ m → get_or (seen f now) m None ≡ get_or I m None
 
-  pub in-step : (at : Option ℕ) → IfSome at (λ a. (a ≡ k) × (is_inside first count (neighbour grid (k / 6) (k % 6)) ≡ false)) → IfNone at (is_inside first count (neighbour grid (k / 6) (k % 6)) ≡ true)
+  pub in-step : (at : Option ℕ) → MatchOption at (is_inside first count (neighbour grid (k / 6) (k % 6)) ≡ true) (λ a. (a ≡ k) × (is_inside first count (neighbour grid (k / 6) (k % 6)) ≡ false))
       → first * 6 ≤ k → (is_inside first count (neighbour grid (k / 6) (k % 6)) ≡ false → is_some (get_or I k None) ≡ true)
       → AreTakenIn grid first count k I (map f ends) → ((m : ℕ) → k ≤ m → get_or (seen f slots) m None ≡ get_or I m None) → slots' ≡ without at slots → ends' ≡ ends ++ item_at at slots
       → AreTakenIn grid first count (k + 1) I (map f ends') × ((m : ℕ) → k + 1 ≤ m → get_or (seen f slots') m None ≡ get_or I m None)
-  in-step None s n low some taken rest e h =
+  in-step None n low some taken rest e h =
       let same : ends ≡ ends' = sym (append-nil ends) ∙ sym h in (
         subst (λ (v : List X). AreTakenIn grid first count (k + 1) I (map f v)) same (in-none grid first count k I (map f ends) n taken),
         λ m l. ap (λ (v : List (Option X)). get_or (seen f v) m None) e ∙ rest m (omega arith),
       )
-  in-step (Some a) s n low some taken rest e h =
+  in-step (Some a) s low some taken rest e h =
       let x = some-of (get_or I k None) (some s.1) in
       let here : get_or (seen f slots) k None ≡ Some x.0 = rest k (omega arith) ∙ x.1 in
       let one : map f (item_at (Some a) slots) ≡ x.0 ∷ [] = ap (λ z. map f (item_at (Some z) slots)) s.0 ∙ held-seen f slots k x.0 here in
@@ -162,6 +162,22 @@ module _ {X : Type 0} (f : X → End) (grid : Grid) (first count k : ℕ) (I : L
         subst (AreTakenIn grid first count (k + 1) I) all (in-more grid first count k I (map f ends) x.0 low s.1 x.1 taken),
         λ m l. ap (λ (v : List (Option X)). get_or (seen f v) m None) e ∙ (ap (λ z. get_or (seen f (without (Some z) slots)) m None) s.0 ∙ (seen-without f slots k m (λ z. absurd (omega arith)) ∙ rest m (omega arith))),
       )
+
+-- the slot from which an end is taken is there
+pub in-there : {X : Type 0} (f : X → End) (grid : Grid) (first count k : ℕ) (I : List (Option End)) (slots : Vec (Option X) Global) (at : Option ℕ)
+    → MatchOption at (is_inside first count (neighbour grid (k / 6) (k % 6)) ≡ true) (λ a. (a ≡ k) × (is_inside first count (neighbour grid (k / 6) (k % 6)) ≡ false)) → (is_inside first count (neighbour grid (k / 6) (k % 6)) ≡ false → is_some (get_or I k None) ≡ true)
+    → ((m : ℕ) → k ≤ m → get_or (seen f slots.items) m None ≡ get_or I m None) → IfSome at (λ a. a < vec_len slots)
+in-there f grid first count k I slots None s some rest = tt
+in-there f grid first count k I slots (Some a) s some rest =
+    let l = there f slots.items k (ap (λ (s : Option End). is_some s) (rest k (omega arith)) ∙ some s.1) in omega (arith, l, s.0, slots.ok.0)
+
+pub out-there : {X : Type 0} (f : X → End) (grid : Grid) (first count k : ℕ) (O : List (Option End)) (slots : Vec (Option X) Global) (k_in : k < nodes grid * 6) (at : Option ℕ)
+    → MatchOption at (is_inside first count (neighbour grid (k / 6) (k % 6)) ≡ true) (GoesOutTo grid first count k) → ((a : ℕ) → GoesOutTo grid first count k a → is_some (get_or O a None) ≡ true)
+    → AreLeftOut grid k O (seen f slots.items) → IfSome at (λ a. a < vec_len slots)
+out-there f grid first count k O slots k_in None s some rest = tt
+out-there f grid first count k O slots k_in (Some a) s some rest =
+    let now : get_or (seen f slots.items) a None ≡ get_or O a None = ap (λ z. get_or (seen f slots.items) z None) s.is ∙ (rest (k / 6) (k % 6) s.r s.q (omega arith) (omega arith) s.to (omega arith) ∙ ap (λ z. get_or O z None) (sym s.is)) in
+    let l = there f slots.items a (ap (λ (s : Option End). is_some s) now ∙ some a s) in omega (arith, l, slots.ok.0)
 
 module _ {X : Type 0} (f : X → End) (grid : Grid) (sound : IsGrid grid) (first count k : ℕ) (O : List (Option End)) (slots slots' : List (Option X)) (ends ends' : List X) (k_in : k < nodes grid * 6) where
   -- a place to which two ports go
@@ -180,16 +196,16 @@ module _ {X : Type 0} (f : X → End) (grid : Grid) (sound : IsGrid grid) (first
       let z1 = z.1 in
       omega arith
 
-  pub out-step : (at : Option ℕ) → IfSome at (λ a. GoesOutTo grid first count k a) → IfNone at (is_inside first count (neighbour grid (k / 6) (k % 6)) ≡ true)
+  pub out-step : (at : Option ℕ) → MatchOption at (is_inside first count (neighbour grid (k / 6) (k % 6)) ≡ true) (GoesOutTo grid first count k)
       → first * 6 ≤ k → k < (first + count) * 6 → ((a : ℕ) → GoesOutTo grid first count k a → is_some (get_or O a None) ≡ true)
       → AreTakenOut grid first count k O (map f ends) → AreLeftOut grid k O (seen f slots) → slots' ≡ without at slots → ends' ≡ ends ++ item_at at slots
       → AreTakenOut grid first count (k + 1) O (map f ends') × AreLeftOut grid (k + 1) O (seen f slots')
-  out-step None s n low high some taken rest e h =
+  out-step None n low high some taken rest e h =
       let same : ends ≡ ends' = sym (append-nil ends) ∙ sym h in (
         subst (λ (v : List X). AreTakenOut grid first count (k + 1) O (map f v)) same (out-none grid sound first count k O (map f ends) k_in n taken),
         λ u p r q ul pl to l. ap (λ (v : List (Option X)). get_or (seen f v) (r * 6 + q) None) e ∙ rest u p r q ul pl to (omega arith),
       )
-  out-step (Some a) s n low high some taken rest e h =
+  out-step (Some a) s low high some taken rest e h =
       let x = some-of (get_or O a None) (some a s) in
       let now : get_or (seen f slots) a None ≡ get_or O a None = ap (λ z. get_or (seen f slots) z None) s.is ∙ (rest (k / 6) (k % 6) s.r s.q (omega arith) (omega arith) s.to (omega arith) ∙ ap (λ z. get_or O z None) (sym s.is)) in
       let one : map f (item_at (Some a) slots) ≡ x.0 ∷ [] = held-seen f slots a x.0 (now ∙ x.1) in

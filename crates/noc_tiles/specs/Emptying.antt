@@ -4,12 +4,16 @@ use Rattle.noc_packet.specs.declared.packet.Beat.{Beat}
 use Rattle.noc_net.specs.Halves.{beat_at}
 use Rattle.noc_tiles.specs.Ends.{End}
 
+-- the two ends of one ring, which holds one beat
+pub record AreEnds (i o : End) : Type 0 where
+  pub ring : o.ring ≡ i.ring
+  pub one : length o.past ≡ length i.past + 1
+
 -- each inlet has an outlet of the same place, and those are the two ends of one ring, which holds one beat
 pub record CanEmpty (rows : ℕ) (I O : List End) : Type 0 where
   pub placed : (i : ℕ) (d : End) → i < length I → ((get_or I i d).at.0 < rows) × ((get_or I i d).at.1 < 6)
   pub found : (i : ℕ) → i < length I → (o : ℕ) × (o < length O) × ((d : End) → (get_or O o d).at ≡ (get_or I i d).at)
-  pub rings : (i o : ℕ) (d : End) → i < length I → o < length O → (get_or O o d).at ≡ (get_or I i d).at
-      → ((get_or O o d).ring ≡ (get_or I i d).ring) × (length (get_or O o d).past ≡ length (get_or I i d).past + 1)
+  pub rings : (i o : ℕ) (d : End) → i < length I → o < length O → (get_or O o d).at ≡ (get_or I i d).at → AreEnds (get_or I i d) (get_or O o d)
 
 -- x is the beat that is left in the ring of inlet i
 abbrev pub Left : List End → List End → ℕ → Beat → Type 0

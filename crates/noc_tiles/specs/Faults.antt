@@ -1,10 +1,9 @@
--- The faults of a run by workers, in order.
+-- The faults of tiles that are run in threads, in order.
 use Rattle.std.specs.Prelude.{ℕ}
-use Rattle.noc_tiles.specs.declared.fault.RunFault.{RunFault}
-use Rattle.noc_tiles.specs.declared.fault.RunFault.TheVariants.{Memory, NoWorker, LostWorker}
+use Rattle.noc_tiles.specs.declared.fault.StartFault.{StartFault}
+use Rattle.noc_tiles.specs.declared.fault.StartFault.TheVariants.{Memory, NoWorker}
 
 -- of several faults the one with the least number is told
-abbrev pub fault_number : RunFault → ℕ
+abbrev pub fault_number : StartFault → ℕ
 fault_number Memory = 1
 fault_number NoWorker = 2
-fault_number LostWorker = 3

@@ -1,15 +1,16 @@
 -- All tiles of a network, and the network again.
-use Rattle.std.specs.Prelude.{ℕ, Bool, true, false, ◌≡◌, ◌⊎◌, ◌+◌, ◌-◌, ◌*◌, ◌^◌, ◌<◌, ◌≤◌, List, [], ◌∷◌, take, drop, map, length, get_or, Option, Some, None, vec_len}
+use Rattle.std.specs.Prelude.{ℕ, Bool, true, false, ◌≡◌, ◌⊎◌, ◌+◌, ◌-◌, ◌*◌, ◌^◌, ◌<◌, ◌≤◌, List, [], ◌∷◌, ◌++◌, take, drop, map, length, get_or, Option, Some, None, vec_len, if◌then◌else◌}
 use Rattle.std.specs.List.{flat_map}
 use Rattle.noc_topo.specs.Shape.{IsGrid, nodes, ports, neighbour}
 use Rattle.noc_packet.specs.declared.packet.Beat.{Beat}
-use Rattle.noc_router.specs.View.{View}
+use Rattle.noc_router.specs.View.{View, idle_beat}
 use Rattle.noc_net.specs.Good.{IsGoodSetup}
 use Rattle.noc_net.specs.Halves.{beat_at}
 use Rattle.noc_net.specs.Lockstep.{lockstep_at}
 use Rattle.noc_net.specs.Network.{Setup}
+use Rattle.noc_theory.specs.declared.limits.TheConstants.{CYCLE_LIMIT}
 use Rattle.noc_tiles.specs.Ends.{End, inlet, outlet}
-use Rattle.noc_tiles.specs.TileStep.{arrival_places, is_from, is_inside}
+use Rattle.noc_tiles.specs.TileStep.{arrival_places, is_from, is_inside, is_own}
 use Rattle.noc_tiles.specs.Rings.{AreLeftOut, AreSlots, in_slots, out_slots}
 use Rattle.noc_tiles.specs.Starts.{tile_start}
 use Rattle.noc_tiles.specs.Tiles.{AllEnded, CanRun, Gating, inlets, outlets}
@@ -27,6 +28,7 @@ setup_of f = record { relation = f.relation; places = f.buffer; packets = f.pack
 pub record IsFrame (f : Kept) : Type 0 where
   pub room : vec_len f.room ≡ nodes f.relation.grid
   pub good : IsGoodSetup (setup_of f)
+  pub end : f.count + f.cycles ≤ CYCLE_LIMIT
 
 abbrev pub routers_of : Tile → List View
 routers_of t = t.routers.items
@@ -41,6 +43,17 @@ pub record IsGathered (g : Gathered) (ts : List Tile) : Type 0 where
   pub beats : g.beats.items ≡ flat_map wire_rows_of ts
   pub ins : map inlet g.ins.items ≡ flat_map inlets ts
   pub outs : map outlet g.outs.items ≡ flat_map outlets ts
+
+-- the beat on a wire that arrives at one of `count` routers from `first` on, idle where it is another one
+abbrev pub own_beat : ℕ → ℕ → List (List Beat) → ℕ → ℕ → Beat
+own_beat first count beats r q = if is_own first count r then beat_at beats r q else idle_beat
+
+-- what one tile held is behind what was gathered before
+pub record AddsTile (t : Tile) (before after : Gathered) : Type 0 where
+  pub routers : after.routers.items ≡ before.routers.items ++ routers_of t
+  pub beats : after.beats.items ≡ before.beats.items ++ wire_rows_of t
+  pub ins : map inlet after.ins.items ≡ map inlet before.ins.items ++ inlets t
+  pub outs : map outlet after.outs.items ≡ map outlet before.outs.items ++ outlets t
 
 -- every tile has made its cycles
 abbrev pub AllWhole : List Tile → Type 0
@@ -89,6 +102,13 @@ pub record AreNumbered (workers : ℕ) (ts : List Tile) : Type 0 where
   pub count : length ts ≡ workers
   pub worker : (t : ℕ) (d : Tile) → t < length ts → (get_or ts t d).worker ≡ t
 
+-- the tiles of all workers, cut from the network
+pub record AreCut (f : Kept) (ts : List Tile) : Type 0 where
+  pub ins : List (Option End)
+  pub outs : List (Option End)
+  pub partition : IsPartition (setup_of f) f.count f.cycles ins outs ts
+  pub numbered : AreNumbered f.workers ts
+
 -- the ends of the rings of the routers from `first` on are still in their slots: I0 and O0 are the slots when all were there
 pub record AreUnassigned (net : Setup) (workers first : ℕ) (B : List (List Beat)) (I0 O0 I O : List (Option End)) : Type 0 where
   pub slots : AreSlots net.relation.grid workers B (nodes net.relation.grid * 6) I0 O0
@@ -125,8 +145,6 @@ pub record IsToCut (f : Kept) (routers : List View) (B : List (List Beat)) : Typ
 pub record IsUncut (f : Kept) (B : List (List Beat)) (I0 O0 : List (Option End)) (worker : ℕ) (rest : Uncut) : Type 0 where
   pub first : rest.first ≡ first_of f worker
   pub routers : rest.routers.items ≡ drop rest.first (views_of f)
-  pub size_in : vec_len rest.ins ≡ nodes f.relation.grid * 6
-  pub size_out : vec_len rest.outs ≡ nodes f.relation.grid * 6
   pub unassigned : AreUnassigned (setup_of f) f.workers rest.first B I0 O0 (in_slots rest.ins.items) (out_slots rest.outs.items)
 
 -- the tile of this worker

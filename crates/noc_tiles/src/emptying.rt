@@ -1,18 +1,18 @@
 //! The rings, when all workers have come back.
 
-ghost use Rattle.std.specs.Prelude.{ℕ, ◌≡◌, ◌+◌, ◌<◌, ◌++◌, [], ◌∷◌, map, length, get_or, vec_len};
+ghost use Rattle.std.specs.Prelude.{ℕ, ◌≡◌, ◌<◌, ◌++◌, [], ◌∷◌, map, length, get_or, vec_len};
 ghost use Rattle.noc_tiles.specs.Ends.{inlet, outlet};
-ghost use Rattle.noc_tiles.specs.Emptying.{CanEmpty, Empties};
+ghost use Rattle.noc_tiles.specs.Emptying.{AreEnds, CanEmpty, Empties};
 ghost use Rattle.noc_tiles.specs.declared.wires.Outlet.{Outlet as outlet_value};
 
+use crate::table::set_beat;
 use crate::wires::{Inlet, Outlet};
 use noc_packet::Beat;
 use noc_topo::LINKS;
 
 // The beat that is left in the ring of the two ends.
 fn empty_ring(i: &mut Inlet, o: &mut Outlet) -> Beat
-    requires ring { (outlet o.old).ring ≡ (inlet i.old).ring }
-    requires one { length (outlet o.old).past ≡ length (inlet i.old).past + 1 }
+    requires { AreEnds (inlet i.old) (outlet o.old) }
     ensures fifo { (outlet o.old).past ≡ (inlet i.old).past ++ result ∷ [] }
     ensures outlet { outlet o.new ≡ outlet o.old }
 {
@@ -44,6 +44,6 @@ pub(crate) fn empty_all(ins: &mut Vec<Inlet>, outs: &mut Vec<Outlet>, beats: &mu
         let port = one.port;
         let o = find_outlet(outs, router, port);
         let beat = empty_ring(one, &mut outs[o]);
-        beats[router][port] = beat;
+        set_beat(beats, router, port, beat);
     }
 }

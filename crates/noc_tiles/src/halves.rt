@@ -1,12 +1,11 @@
 //! The tiles in threads of their own.
 
-ghost use Rattle.std.specs.Prelude.{◌≡◌, ◌≢◌, ◌⊎◌, ◌++◌, IfErr, IfOk, IsOk, ◌<◌, ◌≤◌, vec_len};
+ghost use Rattle.std.specs.Prelude.{◌≡◌, ◌⊎◌, ◌++◌, IfErr, IfOk, IsOkAnd, ◌<◌, ◌≤◌, vec_len};
 ghost use Rattle.std.specs.Thread.{IsSync};
 ghost use Rattle.noc_tiles.specs.Faults.{fault_number};
 ghost use Rattle.noc_tiles.specs.Tiles.{AllCanRun, AllEnded};
-ghost use Rattle.noc_tiles.specs.declared.fault.RunFault.TheVariants.{LostWorker};
 
-use crate::fault::RunFault;
+use crate::fault::StartFault;
 use crate::gate::Gate;
 use crate::run::run_tile;
 use crate::stop::Stop;
@@ -30,38 +29,37 @@ fn run_last<G: Gate>(
     ensures { AllEnded relation.now stop.now (record { opens = G.opens gate.now; shuts = G.shuts gate.now }) tiles.items result.items }
 {
     let mut tiles = tiles;
-    if let Some(tile) = tiles.pop() {
-        tiles.push_reserved(run_tile(rt, relation, tile, stop, gate));
-    }
+    let Some(tile) = tiles.pop() else {
+        return tiles;
+    };
+    let ended = run_tile(rt, relation, tile, stop, gate);
+    tiles.push_reserved(ended);
     tiles
 }
 
 // The fault with the lower number.
-fn lower_fault(first: RunFault, second: RunFault) -> RunFault
+fn lower_fault(first: StartFault, second: StartFault) -> StartFault
     ensures one { (result ≡ first) ⊎ (result ≡ second) }
     ensures least { (fault_number result ≤ fault_number first) × (fault_number result ≤ fault_number second) }
 {
     match (first, second) {
-        (RunFault::Memory, _) | (_, RunFault::Memory) => RunFault::Memory,
-        (RunFault::NoWorker, _) | (_, RunFault::NoWorker) => RunFault::NoWorker,
-        (RunFault::LostWorker, RunFault::LostWorker) => RunFault::LostWorker,
+        (StartFault::Memory, _) | (_, StartFault::Memory) => StartFault::Memory,
+        (StartFault::NoWorker, StartFault::NoWorker) => StartFault::NoWorker,
     }
 }
 
-// Both lists in one.
+// Both lists in one, or the fault with the lower number.
 fn joined(
-    first: Result<Vec<Tile>, RunFault>,
-    second: Result<Vec<Tile>, RunFault>,
-) -> Result<Vec<Tile>, RunFault>
-    ensures items { IfOk result (λ v. IfOk first (λ a. IfOk second (λ b. v.items ≡ a.items ++ b.items))) }
-    ensures firsts { IfOk result (λ _. IsOk first × IsOk second) }
+    first: Result<Vec<Tile>, StartFault>,
+    second: Result<Vec<Tile>, StartFault>,
+) -> Result<Vec<Tile>, StartFault>
+    ensures items { IfOk result (λ v. IsOkAnd first (λ a. IsOkAnd second (λ b. v.items ≡ a.items ++ b.items))) }
     ensures least { IfErr result (λ e. IfErr first (λ f. fault_number e ≤ fault_number f) × IfErr second (λ f. fault_number e ≤ fault_number f)) }
-    ensures fault { IfErr first (λ e. e ≢ LostWorker) → IfErr second (λ e. e ≢ LostWorker) → IfErr result (λ e. e ≢ LostWorker) }
 {
     match (first, second) {
         (Ok(mut first), Ok(mut second)) => {
             if first.append(&mut second).is_err() {
-                return Err(RunFault::Memory);
+                return Err(StartFault::Memory);
             }
             Ok(first)
         }
@@ -80,8 +78,8 @@ struct RunsOf<'a, G> {
     gate: &'a G,
 }
 
-impl<'a, G: Gate> Promise<Result<Vec<Tile>, RunFault>> for RunsOf<'a, G> {
-    ghost kept_by = { λ p r. IfOk r (λ v. AllEnded p.relation.now p.stop.now (record { opens = G.opens p.gate.now; shuts = G.shuts p.gate.now }) p.before.value.items v.items) × IfErr r (λ e. e ≢ LostWorker) };
+impl<'a, G: Gate> Promise<Result<Vec<Tile>, StartFault>> for RunsOf<'a, G> {
+    ghost kept_by = { λ p r. IfOk r (λ v. AllEnded p.relation.now p.stop.now (record { opens = G.opens p.gate.now; shuts = G.shuts p.gate.now }) p.before.value.items v.items) };
 }
 
 // Runs each tile, the second half of them in a thread of its own.
@@ -91,9 +89,9 @@ pub(crate) fn run_all<R: Threads + Wait + Sync, G: Gate>(
     tiles: Vec<Tile>,
     stop: &Stop,
     gate: &G,
-) -> Result<Vec<Tile>, RunFault>
+) -> Result<Vec<Tile>, StartFault>
     requires { AllCanRun relation.now tiles.items }
-    ensures { IfOk result (λ v. AllEnded relation.now stop.now (record { opens = G.opens gate.now; shuts = G.shuts gate.now }) tiles.items v.items) × IfErr result (λ e. e ≢ LostWorker) }
+    ensures { IfOk result (λ v. AllEnded relation.now stop.now (record { opens = G.opens gate.now; shuts = G.shuts gate.now }) tiles.items v.items) }
 {
     let count = tiles.len();
     if count <= 1 {
@@ -102,14 +100,14 @@ pub(crate) fn run_all<R: Threads + Wait + Sync, G: Gate>(
     let mut first = tiles;
     let Ok(second) = first.split_off(count / 2) else {
         stop.raise();
-        return Err(RunFault::Memory);
+        return Err(StartFault::Memory);
     };
     thread::scope(
         thread::scope_env(),
         rt,
-        |scope| -> Result<Vec<Tile>, RunFault>
+        |scope| -> Result<Vec<Tile>, StartFault>
             requires { AllCanRun relation.now first.items × AllCanRun relation.now second.items × (0 < vec_len first) × (0 < vec_len second) × IsSync R.row × IsSync G.row }
-            ensures { IfOk result (λ v. AllEnded relation.entry.now stop.entry.now (record { opens = G.opens gate.entry.now; shuts = G.shuts gate.entry.now }) (first.items ++ second.items) v.items) × IfErr result (λ e. e ≢ LostWorker) }
+            ensures { IfOk result (λ v. AllEnded relation.entry.now stop.entry.now (record { opens = G.opens gate.entry.now; shuts = G.shuts gate.entry.now }) (first.items ++ second.items) v.items) }
         {
             let before = Snapshot::of(&second);
             let promise = RunsOf {
@@ -120,14 +118,14 @@ pub(crate) fn run_all<R: Threads + Wait + Sync, G: Gate>(
             };
             let child = scope.spawn_with(
                 promise,
-                move || -> Result<Vec<Tile>, RunFault>
+                move || -> Result<Vec<Tile>, StartFault>
                     requires { AllCanRun relation.now second.items × IsSync R.row × IsSync G.row }
-                    ensures { IfOk result (λ v. AllEnded relation.entry.now stop.entry.now (record { opens = G.opens gate.entry.now; shuts = G.shuts gate.entry.now }) second.items v.items) × IfErr result (λ e. e ≢ LostWorker) }
+                    ensures { IfOk result (λ v. AllEnded relation.entry.now stop.entry.now (record { opens = G.opens gate.entry.now; shuts = G.shuts gate.entry.now }) second.items v.items) }
                 { run_all(rt, relation, second, stop, gate) },
             );
             let Ok(child) = child else {
                 stop.raise();
-                return Err(RunFault::NoWorker);
+                return Err(StartFault::NoWorker);
             };
             let first = run_all(rt, relation, first, stop, gate);
             let second = child.join(rt);

@@ -4,16 +4,14 @@
 //! Beats that leave the tile go into the table too, are then put, and their places made idle. One function
 //! carries beats for networks and tiles.
 
-ghost use Rattle.std.specs.Prelude.{ℕ, List, Option, ◌≡◌, ◌+◌, ◌<◌, ◌≤◌, true, false, length, vec_len, IfOk};
-ghost use Rattle.noc_router.specs.View.{idle_beat};
+ghost use Rattle.std.specs.Prelude.{ℕ, List, Option, ◌≡◌, ◌+◌, ◌<◌, ◌≤◌, length, vec_len, IfOk};
 ghost use Rattle.noc_net.specs.Halves.{beat_at};
 ghost use Rattle.noc_tiles.specs.Ends.{End};
-ghost use Rattle.noc_tiles.specs.TileStep.{is_own};
-ghost use Rattle.noc_tiles.specs.Partition.{AreNumbered, CanCut, IsPartition, IsTileOf, IsUncut, setup_of, views_of};
+ghost use Rattle.noc_tiles.specs.Partition.{AreCut, CanCut, IsTileOf, IsToCut, IsUncut, own_beat};
 
 use crate::kept::Kept;
-use crate::rings::{WireEnds, make_rings, take_ins, take_outs};
-use crate::starts::tile_start;
+use crate::rings::{WireEnds, make_rings};
+use crate::starts::{Sharing, Span};
 use crate::tile::{Outcome, Tile};
 use crate::wires::{Inlet, Outlet};
 use noc_packet::{Beat, Memory};
@@ -40,8 +38,7 @@ fn own_beats(
 ) -> Result<Vec<[Beat; LINKS]>, AllocError>
     requires { first + count ≤ length beats.now }
     ensures size { IfOk result (λ v. vec_len v ≡ length beats.now) }
-    ensures own { IfOk result (λ v. (r q : ℕ) → is_own first count r ≡ true → beat_at v.items r q ≡ beat_at beats.now r q) }
-    ensures idle { IfOk result (λ v. (r q : ℕ) → is_own first count r ≡ false → beat_at v.items r q ≡ idle_beat) }
+    ensures beats { IfOk result (λ v. (r q : ℕ) → beat_at v.items r q ≡ own_beat first count beats.now r q) }
 {
     let mut all = vec![in alloc; [Beat::idle(); LINKS]; beats.len()]?;
     for r in first..first + count {
@@ -64,12 +61,21 @@ fn cut_tile(
     ensures { IfOk result (λ tile. (I O : List (Option End)) → IsUncut frame.now beats.now I O worker rest.old → IsTileOf frame.now I O worker tile × IsUncut frame.now beats.now I O (worker + 1) rest.new) }
 {
     let shape = frame.relation.shape();
+    let sharing = Sharing {
+        shape,
+        workers: frame.workers,
+    };
     let first = rest.first;
-    let end = tile_start(shape.nodes(), frame.workers, worker + 1);
+    let end = sharing.start(worker + 1);
     let count = end - first;
+    let span = Span {
+        shape,
+        first,
+        count,
+    };
     let own = own_beats(alloc, beats, first, count)?;
-    let ins = take_ins(alloc, shape, first, count, &mut rest.ins)?;
-    let outs = take_outs(alloc, shape, first, count, &mut rest.outs)?;
+    let ins = span.take_ins(alloc, &mut rest.ins)?;
+    let outs = span.take_outs(alloc, &mut rest.outs)?;
     let tail = rest.routers.split_off(count)?;
     let routers = mem::replace(&mut rest.routers, tail);
     rest.first = end;
@@ -96,22 +102,24 @@ pub(crate) fn partition(
     routers: Vec<Router>,
     beats: &[[Beat; LINKS]],
 ) -> Result<Vec<Tile>, Memory>
-    requires can { CanCut frame.now beats.now }
-    requires views { routers.items ≡ views_of frame.now }
-    ensures numbered { IfOk result (λ v. AreNumbered frame.now.workers v.items) }
-    ensures partition { IfOk result (λ v. (I : List (Option End)) × (O : List (Option End)) × IsPartition (setup_of frame.now) frame.now.count frame.now.cycles I O v.items) }
+    requires { IsToCut frame.now routers.items beats.now }
+    ensures { IfOk result (λ v. AreCut frame.now v.items) }
 {
-    let WireEnds { ins, outs } = make_rings(alloc, frame.relation.shape(), frame.workers, beats)?;
+    let mut tiles = Vec::with_capacity(alloc, frame.workers)?;
+    let sharing = Sharing {
+        shape: frame.relation.shape(),
+        workers: frame.workers,
+    };
+    let WireEnds { ins, outs } = make_rings(alloc, &sharing, beats)?;
     let mut rest = Uncut {
         first: 0,
         routers,
         ins,
         outs,
     };
-    let mut tiles = Vec::new(alloc);
     for worker in 0..frame.workers {
         let tile = cut_tile(alloc, frame, beats, worker, &mut rest)?;
-        tiles.push(tile)?;
+        tiles.push_reserved(tile);
     }
     Ok(tiles)
 }

@@ -1,17 +1,18 @@
 //! The phases of a tile's cycle.
 
-ghost use Rattle.std.specs.Prelude.{ℕ, List, All, ◌≡◌, ◌+◌, ◌≤◌, false, true, map, length, vec_len, IsTrue, IsFalse};
+ghost use Rattle.std.specs.Prelude.{ℕ, List, ◌≡◌, ◌+◌, true, map, length, vec_len, IsTrue, IsFalse};
 ghost use Rattle.noc_topo.specs.Words.{map_indexed};
 ghost use Rattle.noc_packet.specs.declared.packet.Beat.{Beat as beat_value};
-ghost use Rattle.noc_router.specs.View.{IsRelationOf, idle_beat, view_after_takes};
-ghost use Rattle.noc_net.specs.Halves.{IsLinked, beat_at, incoming};
+ghost use Rattle.noc_router.specs.View.{idle_beat, view_after_takes};
+ghost use Rattle.noc_net.specs.Halves.{beat_at, incoming};
 ghost use Rattle.noc_net.specs.Lockstep.{beats_at};
 ghost use Rattle.noc_tiles.specs.Ends.{inlet, outlet};
-ghost use Rattle.noc_tiles.specs.Phases.{IsCleared, KeepsTile, TileHasSent, TileHasTaken};
-ghost use Rattle.noc_tiles.specs.TileStep.{ends_after_beats, is_own, with_row, names, arrival_places};
-ghost use Rattle.noc_tiles.specs.Tiles.{AreLinkPorts, IsReady, IsSameTile, outlets};
+ghost use Rattle.noc_tiles.specs.Phases.{CanTake, IsCleared, KeepsTile, TileHasSent, TileHasTaken};
+ghost use Rattle.noc_tiles.specs.TileStep.{ends_after_beats, with_row, names, arrival_places};
+ghost use Rattle.noc_tiles.specs.Tiles.{AreLinkPorts, IsReady, outlets};
 
 use crate::stop::Stop;
+use crate::table::set_beat;
 use crate::tile::Tile;
 use crate::wires::{Inlet, Outlet};
 use noc_net::take_beats;
@@ -25,7 +26,6 @@ use std::sync::Wait;
 // raised.
 pub(crate) fn take(rt: &impl Wait, relation: &Relation, tile: &mut Tile, stop: &Stop) -> bool
     requires { IsReady relation.now tile.old }
-    ensures rest { tile.new ≡ record tile.old { routers = tile.new.routers; beats = tile.new.beats; ins = tile.new.ins } }
     ensures kept { KeepsTile tile.old tile.new }
     ensures taken { IsTrue result → (row : List beat_value) × TileHasTaken relation.now row tile.old tile.new }
     ensures stopped { IsFalse result → stop.now ≡ true }
@@ -39,10 +39,7 @@ pub(crate) fn take(rt: &impl Wait, relation: &Relation, tile: &mut Tile, stop: &
 
 // Each of the routers from `first` on takes the beats that came to it, and leaves idle ones. No beat came to others.
 fn take_all(relation: &Relation, first: usize, routers: &mut [Router], beats: &mut [[Beat; LINKS]])
-    requires within { first + length routers.old ≤ length beats.old }
-    requires routers { All (λ v. IsRelationOf relation.now v) routers.old }
-    requires beats { All (IsLinked relation.now.grid) beats.old }
-    requires others { (r q : ℕ) → is_own first (length routers.old) r ≡ false → beat_at beats.old r q ≡ idle_beat }
+    requires { CanTake relation.now first routers.old beats.old }
     ensures routers { routers.new ≡ map_indexed (λ i v. view_after_takes relation.now (incoming relation.now.grid (beats_at beats.old (first + i))) v) routers.old }
     ensures silent { (r q : ℕ) → beat_at beats.new r q ≡ idle_beat }
 {
@@ -54,8 +51,7 @@ fn take_all(relation: &Relation, first: usize, routers: &mut [Router], beats: &m
 // Puts a beat on each wire that goes to another tile, and leaves idle ones. False where the flag was seen raised.
 pub(crate) fn send(rt: &impl Wait, tile: &mut Tile, stop: &Stop) -> bool
     requires { AreLinkPorts (length tile.old.beats.items) 6 (arrival_places (outlets tile.old)) }
-    ensures rest { tile.new ≡ record tile.old { beats = tile.new.beats; outs = tile.new.outs } }
-    ensures same { IsSameTile tile.old tile.new }
+    ensures kept { KeepsTile tile.old tile.new }
     ensures sent { IsTrue result → TileHasSent tile.old tile.new }
     ensures stopped { IsFalse result → stop.now ≡ true }
 {
@@ -82,7 +78,7 @@ fn receive_all(
         let Some(beat) = one.take(rt, stop) else {
             return false;
         };
-        beats[one.router][one.port] = beat;
+        set_beat(beats, one.router, one.port, beat);
     }
     true
 }
@@ -110,6 +106,6 @@ fn clear_all(ends: &Vec<Outlet>, beats: &mut [[Beat; LINKS]])
 {
     for k in 0..ends.len() {
         let end = &ends[k];
-        beats[end.router][end.port] = Beat::idle();
+        set_beat(beats, end.router, end.port, Beat::idle());
     }
 }

@@ -1,12 +1,12 @@
 //! The run of a tile.
 
-ghost use Rattle.std.specs.Prelude.{ℕ, List, ◌≡◌, ◌+◌, ◌<◌, ◌^◌, ◌↔◌, true, false, vec_len, IsTrue, IsFalse};
+ghost use Rattle.std.specs.Prelude.{ℕ, List, ◌≡◌, ◌+◌, ◌<◌, ◌↔◌, true, false, vec_len, IsTrue, IsFalse};
 ghost use Rattle.noc_packet.specs.declared.packet.Beat.{Beat as beat_value};
 ghost use Rattle.noc_router.specs.declared.verdict.Findings.TheVariants.{Record};
 ghost use Rattle.noc_tiles.specs.Inner.{AreInner};
 ghost use Rattle.noc_tiles.specs.Phases.{KeepsTile};
 ghost use Rattle.noc_tiles.specs.TileStep.{arrival_places};
-ghost use Rattle.noc_tiles.specs.Tiles.{IsReady, IsSameTile, Cycles, Runs, outlets};
+ghost use Rattle.noc_tiles.specs.Tiles.{CanRun, IsReady, IsSameTile, Cycles, Runs, outlets};
 ghost use Rattle.noc_tiles.specs.declared.tile.Outcome.TheVariants.{Whole, Closed, Stopped};
 
 use crate::finishing::finish_some;
@@ -32,8 +32,7 @@ fn cycle(
     requires ready { IsReady relation.now tile.old }
     requires inner { AreInner relation.now.grid tile.old.first (vec_len tile.old.routers) (arrival_places (outlets tile.old)) inner }
     ensures kept { KeepsTile tile.old tile.new }
-    ensures ready { IsTrue result → IsReady relation.now tile.new }
-    ensures ran { IsTrue result → (row : List beat_value) × Cycles relation.now findings cycle tile.old tile.new row }
+    ensures ran { IsTrue result → IsReady relation.now tile.new × ((row : List beat_value) × Cycles relation.now findings cycle tile.old tile.new row) }
     ensures stopped { IsFalse result → stop.now ≡ true }
 {
     if !take(rt, relation, tile, stop) {
@@ -70,9 +69,7 @@ pub fn run_tile<G: Gate>(
     stop: &Stop,
     gate: &G,
 ) -> Tile
-    requires ready { IsReady relation.now tile }
-    requires done { tile.done ≡ 0 }
-    requires end { tile.start + tile.cycles < 2 ^ 64 }
+    requires { CanRun relation.now tile }
     ensures same { IsSameTile tile result }
     ensures whole { (result.outcome ≡ Whole) ↔ (result.done ≡ tile.cycles) }
     ensures ran { result.outcome ≡ Whole → Runs relation.now tile.cycles tile result }

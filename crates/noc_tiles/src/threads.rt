@@ -1,11 +1,8 @@
 //! The tiles of a network, run in threads and put together again.
 
-ghost use Rattle.std.specs.Prelude.{ℕ, List, ◌≡◌, ◌+◌, ◌<◌, ◌≤◌, ◌++◌, ◌↔◌, get_or, map, length, drop, take, IfOk, IfErr, false, OnOk, IsTrue, vec_len, Option};
-ghost use Rattle.noc_theory.specs.declared.limits.TheConstants.{CYCLE_LIMIT as cycle_limit};
-ghost use Rattle.noc_tiles.specs.Ends.{End, inlet, outlet};
+ghost use Rattle.std.specs.Prelude.{ℕ, List, ◌≡◌, ◌+◌, ◌<◌, ◌≤◌, ◌↔◌, get_or, IfOk, IfErr, false, OnOk, IsTrue, vec_len};
 ghost use Rattle.noc_tiles.specs.declared.fault.RunFault.TheVariants.{LostWorker};
-ghost use Rattle.noc_tiles.specs.Tiles.{inlets, outlets};
-ghost use Rattle.noc_tiles.specs.Partition.{AllWhole, AreDone, AreNumbered, IsPartition, IsFrame, IsGathered, wire_rows_of, setup_of};
+ghost use Rattle.noc_tiles.specs.Partition.{AddsTile, AllWhole, AreDone, IsFrame, IsGathered, IsToCut, setup_of};
 ghost use Rattle.noc_tiles.specs.declared.tile.Tile.{Tile as tile_value};
 
 use crate::emptying::empty_all;
@@ -13,9 +10,13 @@ use crate::fault::RunFault;
 use crate::gate::Gate;
 use crate::halves::run_all;
 use crate::kept::{Gathered, Kept};
+use crate::partition::partition;
 use crate::stop::Stop;
 use crate::tile::{Outcome, Tile};
 use noc_net::{Network, Parts};
+use noc_packet::Beat;
+use noc_router::Router;
+use noc_topo::LINKS;
 use std::alloc::{AllocError, Global};
 use std::sync::Wait;
 use std::thread::Threads;
@@ -23,10 +24,7 @@ use std::thread::Threads;
 // What a tile held goes behind what the tiles before it held.
 fn add(all: &mut Gathered, tile: &mut Tile) -> Result<(), AllocError>
     requires { tile.old.first + vec_len tile.old.routers ≤ vec_len tile.old.beats }
-    ensures routers { OnOk result (all.new.routers.items ≡ all.old.routers.items ++ tile.old.routers.items) }
-    ensures beats { OnOk result (all.new.beats.items ≡ all.old.beats.items ++ wire_rows_of tile.old) }
-    ensures ins { OnOk result (map inlet all.new.ins.items ≡ map inlet all.old.ins.items ++ inlets tile.old) }
-    ensures outs { OnOk result (map outlet all.new.outs.items ≡ map outlet all.old.outs.items ++ outlets tile.old) }
+    ensures { OnOk result (AddsTile tile.old all.old all.new) }
 {
     let first = tile.first;
     let count = tile.routers.len();
@@ -70,25 +68,25 @@ fn all_whole(tiles: &Vec<Tile>) -> bool
     true
 }
 
-// Runs the tiles of a network in threads, and gives what they held then.
+// Cuts a network into tiles, runs them in threads, and gives what they held then.
 pub(crate) fn run_threads<R: Threads + Wait + Sync, G: Gate>(
     rt: &R,
     alloc: Global,
     frame: &Kept,
-    tiles: Vec<Tile>,
+    routers: Vec<Router>,
+    beats: &[[Beat; LINKS]],
     gate: &G,
 ) -> Result<Gathered, RunFault>
-    requires partition { (I : List (Option End)) × (O : List (Option End)) × IsPartition (setup_of frame.now) frame.now.count frame.now.cycles I O tiles.items }
-    requires numbered { AreNumbered frame.now.workers tiles.items }
+    requires { IsToCut frame.now routers.items beats.now }
     ensures asked { IfOk result (λ _. (worker k : ℕ) → worker < frame.now.workers → k < frame.now.cycles → G.shuts gate.now worker (frame.now.count + k) ≡ false) }
     ensures done { IfOk result (λ all. (done : List tile_value) × AreDone frame.now done × IsGathered all done) }
     ensures lost { IfErr result (λ e. e ≡ LostWorker → G.opens gate.now ≡ false) }
 {
-    let stop = Stop::new();
-    let tiles = match run_all(rt, &frame.relation, tiles, &stop, gate) {
-        Ok(tiles) => tiles,
-        Err(fault) => return Err(fault),
+    let Ok(tiles) = partition(alloc, frame, routers, beats) else {
+        return Err(RunFault::Memory);
     };
+    let stop = Stop::new();
+    let tiles = run_all(rt, &frame.relation, tiles, &stop, gate)?;
     if !all_whole(&tiles) {
         return Err(if gate.always() {
             RunFault::NoWorker
@@ -106,7 +104,6 @@ pub(crate) fn run_threads<R: Threads + Wait + Sync, G: Gate>(
 pub(crate) fn network_of(frame: Kept, all: Gathered) -> Network
     requires frame { IsFrame frame }
     requires done { (tiles : List tile_value) × AreDone frame tiles × IsGathered all tiles }
-    requires end { frame.count + frame.cycles ≤ cycle_limit }
     ensures { result ≡ record { net = setup_of frame; count = frame.count + frame.cycles } }
 {
     let Gathered {

@@ -1,29 +1,22 @@
 //! A network run by workers.
 
-ghost use Rattle.std.specs.Prelude.{ℕ, List, ◌≡◌, ◌+◌, ◌<◌, ◌≤◌, true, false, IfErr, IfOk, IsOk};
+ghost use Rattle.std.specs.Prelude.{ℕ, ◌≡◌, ◌+◌, ◌<◌, ◌≤◌, true, false, IfErr, IfOk, IsOk};
 ghost use Rattle.noc_theory.specs.declared.limits.TheConstants.{CYCLE_LIMIT as cycle_limit};
 ghost use Rattle.noc_tiles.specs.declared.fault.RunFault.TheVariants.{LostWorker};
-ghost use Rattle.noc_tiles.specs.Partition.{AreDone, IsGathered, IsToCut};
-ghost use Rattle.noc_tiles.specs.declared.tile.Tile.{Tile as tile_value};
 ghost use Rattle.noc_tiles.specs.declared.limits.TheConstants.{MAX_WORKERS};
 
 use crate::fault::RunFault;
 use crate::gate::Gate;
-use crate::kept::{Gathered, Kept};
-use crate::partition::partition;
-use crate::single::run_single;
+use crate::kept::Kept;
 use crate::threads::{network_of, run_threads};
 use noc_net::{Network, Parts};
-use noc_packet::Beat;
-use noc_router::Router;
-use noc_topo::LINKS;
 use std::alloc::Global;
 use std::sync::Wait;
 use std::thread::Threads;
 
 /// Runs so many cycles, with 1 to 16 workers that each have a tile of the routers. Each worker asks the gate before each cycle, with
-/// the network's count. One worker needs no memory and no thread, so all that it can answer beside the network is that the gate did
-/// not let it pass.
+/// the network's count; one worker does so where the gate is not always open. One worker needs no memory and no thread, so all that
+/// it can answer beside the network is that the gate did not let it pass.
 pub fn run_tiles<R: Threads + Wait + Sync, G: Gate>(
     rt: &R,
     alloc: Global,
@@ -44,6 +37,29 @@ pub fn run_tiles<R: Threads + Wait + Sync, G: Gate>(
         return run_single(network, cycles, gate);
     }
     run_many(rt, alloc, network, cycles, workers, gate)
+}
+
+// Runs all routers of a network, in the caller.
+fn run_single<G: Gate>(network: Network, cycles: u64, gate: &G) -> Result<Network, RunFault>
+    requires { network.count + cycles ≤ cycle_limit }
+    ensures net { IfOk result (λ v. v ≡ record network { count = network.count + cycles }) }
+    ensures asked { IfOk result (λ _. (k : ℕ) → k < cycles → G.shuts gate.now 0 (network.count + k) ≡ false) }
+    ensures fault { IfErr result (λ e. (e ≡ LostWorker) × (G.opens gate.now ≡ false)) }
+{
+    let mut network = network;
+    if gate.always() {
+        network.run(cycles);
+        return Ok(network);
+    }
+    let first = network.count();
+    for k in 0..cycles {
+        if !gate.pass(0, first + k) {
+            drop(network);
+            return Err(RunFault::LostWorker);
+        }
+        network.cycle();
+    }
+    Ok(network)
 }
 
 // Cuts a network into tiles, runs them in threads, and puts it together again.
@@ -80,7 +96,7 @@ fn run_many<R: Threads + Wait + Sync, G: Gate>(
         cycles,
         workers,
     };
-    match run_cut(rt, alloc, &frame, routers, &beats, gate) {
+    match run_threads(rt, alloc, &frame, routers, &beats, gate) {
         Ok(all) => Ok(network_of(frame, all)),
         Err(fault) => {
             // (by name it is one call; else each of its fields would be let go here, one by one)
@@ -88,24 +104,4 @@ fn run_many<R: Threads + Wait + Sync, G: Gate>(
             Err(fault)
         }
     }
-}
-
-// Cuts a network into tiles, runs them in threads, and gives what they held then.
-fn run_cut<R: Threads + Wait + Sync, G: Gate>(
-    rt: &R,
-    alloc: Global,
-    frame: &Kept,
-    routers: Vec<Router>,
-    beats: &[[Beat; LINKS]],
-    gate: &G,
-) -> Result<Gathered, RunFault>
-    requires { IsToCut frame.now routers.items beats.now }
-    ensures asked { IfOk result (λ _. (worker k : ℕ) → worker < frame.now.workers → k < frame.now.cycles → G.shuts gate.now worker (frame.now.count + k) ≡ false) }
-    ensures done { IfOk result (λ all. (done : List tile_value) × AreDone frame.now done × IsGathered all done) }
-    ensures lost { IfErr result (λ e. e ≡ LostWorker → G.opens gate.now ≡ false) }
-{
-    let Ok(tiles) = partition(alloc, frame, routers, beats) else {
-        return Err(RunFault::Memory);
-    };
-    run_threads(rt, alloc, frame, tiles, gate)
 }

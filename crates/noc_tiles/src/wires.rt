@@ -5,9 +5,7 @@
 //! 8000 looks, about half a millisecond, it sleeps for 50 microseconds, and again after every 500 looks:
 //! another program then has a neighbour's processor, and sleeping frees this one for it. It sleeps on a word of
 //! its own (`park_timeout`), since a sleep by the clock would need a clock, and nobody wakes it.
-
-ghost use Rattle.std.specs.Prelude.{◌≡◌, ◌++◌, [], ◌∷◌, true, IfSome, IfNone, IsTrue, IsFalse};
-ghost use Rattle.rtrb.specs.Ring.{sent, received, SameProducer, SameConsumer};
+//! `crossbeam_utils::Backoff` does not serve: it yields after 127 rests, and never sleeps.
 
 use crate::stop::Stop;
 use noc_packet::Beat;
@@ -65,54 +63,27 @@ fn rested(rt: &impl Wait, looks: u32) -> u32 {
     looks + 1
 }
 
-// Waits for a beat. `None` where the flag was seen raised.
-fn pop_waiting(rt: &impl Wait, end: &mut Consumer<Beat>, stop: &Stop) -> Option<Beat>
-    ensures ring { SameConsumer end.old end.new }
-    ensures some { IfSome result (λ x. received end.new ≡ received end.old ++ x ∷ []) }
-    ensures none { IfNone result ((received end.new ≡ received end.old) × (stop.now ≡ true)) }
-{
-    let mut looks = 0u32;
-    for _ in rt.forever() {
-        if let Ok(beat) = end.pop() {
-            return Some(beat);
-        }
-        if stop.raised() {
-            return None;
-        }
-        looks = rested(rt, looks);
-    }
-    unreachable!()
-}
-
-// Waits until the beat is pushed. False where the flag was seen raised.
-fn push_waiting(rt: &impl Wait, end: &mut Producer<Beat>, beat: Beat, stop: &Stop) -> bool
-    ensures ring { SameProducer end.old end.new }
-    ensures pushed { IsTrue result → sent end.new ≡ sent end.old ++ beat ∷ [] }
-    ensures stopped { IsFalse result → (sent end.new ≡ sent end.old) × (stop.now ≡ true) }
-{
-    let mut looks = 0u32;
-    for _ in rt.forever() {
-        if end.push(beat).is_ok() {
-            return true;
-        }
-        if stop.raised() {
-            return false;
-        }
-        looks = rested(rt, looks);
-    }
-    unreachable!()
-}
-
 impl Inlet {
     ghost use Rattle.std.specs.Prelude.{◌≡◌, true, MatchOption};
     ghost use Rattle.noc_tiles.specs.RingEnd.{end_after_beat};
     ghost use Rattle.noc_tiles.specs.Ends.{inlet};
 
+    // Waits for a beat. `None` where the flag was seen raised.
     pub(crate) fn take(&mut self, rt: &impl Wait, stop: &Stop) -> Option<Beat>
         ensures same { ((inlet self.new).at ≡ (inlet self.old).at) × ((inlet self.new).ring ≡ (inlet self.old).ring) }
         ensures took { MatchOption result (stop.now ≡ true) (λ x. inlet self.new ≡ end_after_beat (inlet self.old) x) }
     {
-        pop_waiting(rt, &mut self.end, stop)
+        let mut looks = 0u32;
+        for _ in rt.forever() {
+            if let Ok(beat) = self.end.pop() {
+                return Some(beat);
+            }
+            if stop.raised() {
+                return None;
+            }
+            looks = rested(rt, looks);
+        }
+        unreachable!()
     }
 }
 
@@ -121,11 +92,22 @@ impl Outlet {
     ghost use Rattle.noc_tiles.specs.RingEnd.{end_after_beat};
     ghost use Rattle.noc_tiles.specs.Ends.{outlet};
 
+    // Waits until the beat is put. False where the flag was seen raised.
     pub(crate) fn put(&mut self, rt: &impl Wait, beat: Beat, stop: &Stop) -> bool
         ensures same { ((outlet self.new).at ≡ (outlet self.old).at) × ((outlet self.new).ring ≡ (outlet self.old).ring) }
         ensures put { IsTrue result → outlet self.new ≡ end_after_beat (outlet self.old) beat }
         ensures stopped { IsFalse result → stop.now ≡ true }
     {
-        push_waiting(rt, &mut self.end, beat, stop)
+        let mut looks = 0u32;
+        for _ in rt.forever() {
+            if self.end.push(beat).is_ok() {
+                return true;
+            }
+            if stop.raised() {
+                return false;
+            }
+            looks = rested(rt, looks);
+        }
+        unreachable!()
     }
 }

@@ -1,6 +1,5 @@
-use Rattle.std.proofs.Common.{rules, arith, ◌≡◌, ◌+◌, ◌<◌, [], map, length, get_or, set, Some, ap, sym, ◌∙◌, subst, refl}
+use Rattle.std.proofs.Common.{rules, arith, ◌≡◌, ◌<◌, map, length, get_or, set, ap, sym, ◌∙◌, subst, refl}
 use Rattle.std.proofs.lemmas.List.{length-map, get_or-set_other, map-set, set-get_or}
-use Rattle.noc_theory.proofs.runs.WireLemmas.{rows_kept}
 use Rattle.noc_tiles.specs.Ends.{End, inlet, outlet}
 use Rattle.noc_tiles.specs.declared.wires.Outlet.{Outlet}
 use Rattle.noc_tiles.proofs.EndsLemmas.{empties-more, view-rest, view-at, length-views, meets, leaves}
@@ -41,15 +40,6 @@ found c =
 same-place : (c : After-index_mut) → (outlet c.index_mut.result.now).at ≡ (inlet (get_or c.loop-one.one-items c.loop-one.one-index c.one-item.result)).at
 same-place c = ap (λ (q : Outlet). (outlet q).at) c.index_mut.ensures.value ∙ c.find_outlet-o.ensures.at c.index_mut.result.now
 
--- the two are the ends of one ring, which holds one beat
-met : (c : After-index_mut)
-    → ((outlet c.index_mut.result.now).ring ≡ (inlet (get_or c.loop-one.one-items c.loop-one.one-index c.one-item.result)).ring)
-    × (length (outlet c.index_mut.result.now).past ≡ length (inlet (get_or c.loop-one.one-items c.loop-one.one-index c.one-item.result)).past + 1)
-met c =
-    let one = (goal.at.empty_ring-beat-requires-clause-ring c).After-one-item in
-    let w = outlet c.index_mut.result.now in
-    meets (length c.args.beats.now) (map inlet c.args.ins.now.items) (map outlet c.args.outs.now.items) c.requires c.loop-one.one-index c.find_outlet-o.result (inlet (get_or c.loop-one.one-items c.loop-one.one-index c.one-item.result)) w (within one) (found c) (inlet-is one w) (outlet-is c w) (same-place c)
-
 pub find_outlet-o-requires : goal.find_outlet-o-requires
 find_outlet-o-requires c =
     let n = length-views outlet c.loop-one.outs.items c.args.outs.now.items c.loop-one.invariant.outs in
@@ -63,27 +53,17 @@ find_outlet-o-requires c =
           ap (λ (q : End). q.at) (sym w) ∙ (f.2 (outlet d) ∙ ap (λ (q : End). q.at) (inlet-is c (outlet d))),
     )
 
-pub empty_ring-beat-requires-clause-ring : goal.empty_ring-beat-requires-clause-ring
-empty_ring-beat-requires-clause-ring c = (met c).0
+pub empty_ring-beat-requires : goal.empty_ring-beat-requires
+empty_ring-beat-requires c =
+    let at = goal.at.empty_ring-beat-requires c in
+    let w = outlet c.index_mut.result.now in
+    meets (length c.args.beats.now) (map inlet c.args.ins.now.items) (map outlet c.args.outs.now.items) c.requires c.loop-one.one-index c.find_outlet-o.result (inlet (get_or c.loop-one.one-items c.loop-one.one-index c.one-item.result)) w
+    (within at.After-one-item) (found at.After-index_mut) (inlet-is at.After-one-item w) (outlet-is at.After-index_mut w) (same-place at.After-index_mut)
 
-pub empty_ring-beat-requires-clause-one : goal.empty_ring-beat-requires-clause-one
-empty_ring-beat-requires-clause-one c = (met c).1
-
-pub bounds-beats-router : goal.bounds-beats-router
-bounds-beats-router c = omega (arith, (placed (goal.at.bounds-beats-router c).After-one-item).0, c.loop-one.invariant.done.same)
-
-pub offset_bounds-beats-router : goal.offset_bounds-beats-router
-offset_bounds-beats-router c =
-    let b : (get_or c.loop-one.one-items c.loop-one.one-index c.one-item.result).router < length c.loop-one.beats = omega (arith, (placed (goal.at.offset_bounds-beats-router c).After-one-item).0, c.loop-one.invariant.done.same) in
-    search (rules, arith)
-
-pub bounds-beats-port : goal.bounds-beats-port
-bounds-beats-port c = (placed (goal.at.bounds-beats-port c).After-one-item).1
-
-pub offset_bounds-beats-port : goal.offset_bounds-beats-port
-offset_bounds-beats-port c =
-    let b : (get_or c.loop-one.one-items c.loop-one.one-index c.one-item.result).port < 6 = (placed (goal.at.offset_bounds-beats-port c).After-one-item).1 in
-    search (rules, arith)
+pub set_beat-requires : goal.set_beat-requires
+set_beat-requires c =
+    let p = placed (goal.at.set_beat-requires c).After-one-item in
+    (omega (arith, p.0, c.loop-one.invariant.done.same), p.1)
 
 pub loop-one-preserved : goal.loop-one-preserved
 loop-one-preserved c =
@@ -92,7 +72,6 @@ loop-one-preserved c =
     let one = get_or c.loop-one.one-items i x in
     let v = inlet one in
     let O = map outlet c.args.outs.now.items in
-    let w = placed (goal.at.loop-one-preserved c).After-one-item in
     let at = (goal.at.loop-one-preserved c).After-index_mut in
     let o = c.find_outlet-o.result in
     let y = c.index_mut.result.now in
@@ -100,14 +79,10 @@ loop-one-preserved c =
     let I0 = map inlet items0 in
     let e : (d : End) → get_or I0 i d ≡ v = λ d. view-rest inlet c.loop-one.one-items items0 items0 i x d refl (c.loop-one.invariant.rest i x (omega arith)) (search rules) in
     let left = leaves I0 O i o c.empty_ring-beat.result v (outlet y) (found at) e (outlet-is at) (same-place at) c.empty_ring-beat.ensures.fifo in
-    let bs = c.loop-one.beats in
-    let b : one.router < length bs = omega (arith, w.0, c.loop-one.invariant.done.same) in
-    let long : one.port < length (get_or bs one.router []) = omega (arith, w.1, c.loop-one.invariant.rows one.router b) in
     record {
       outs = map-set outlet c.loop-one.outs.items o c.empty_ring-beat.new.o
           ∙ (ap (λ q. set (map outlet c.loop-one.outs.items) o q) (c.empty_ring-beat.ensures.outlet ∙ sym (outlet-is at (outlet y)))
           ∙ (ap (λ q. set q o (get_or O o (outlet y))) c.loop-one.invariant.outs ∙ set-get_or O o (outlet y)));
       rest = λ j d h. let ne : j ≡ i → ⊥ = λ q. absurd (omega arith) in get_or-set_other c.loop-one.one-items i j c.empty_ring-beat.new.i d ne ∙ c.loop-one.invariant.rest j d (omega arith);
-      rows = rows_kept bs (Some (one.router, one.port)) c.empty_ring-beat.result c.loop-one.invariant.rows;
-      done = empties-more I0 O i c.args.beats.now bs one.router one.port c.empty_ring-beat.result (λ d. ap (λ (q : End). q.at) (e d)) b long left c.loop-one.invariant.done;
+      done = empties-more I0 O i c.args.beats.now c.loop-one.beats c.set_beat.new.beats one.router one.port c.empty_ring-beat.result (λ d. ap (λ (q : End). q.at) (e d)) c.set_beat.auto.beats c.set_beat.ensures left c.loop-one.invariant.done;
     }

@@ -1,4 +1,4 @@
-use Rattle.std.proofs.Common.{ℕ, ◌≡◌, ◌<◌, ◌≤◌, [], get_or, map, length}
+use Rattle.std.proofs.Common.{ℕ, ◌≡◌, ◌≤◌, get_or, map}
 use Rattle.noc_tiles.specs.Ends.{inlet, outlet}
 use Rattle.noc_tiles.specs.Emptying.{Empties}
 use Rattle.noc_tiles.specs.declared.wires.Inlet.{Inlet}
@@ -9,6 +9,5 @@ abbrev pub invariant-loop-one : goal.invariant-loop-one
 invariant-loop-one l = record {
   outs : map outlet l.outs.items ≡ map outlet l.initial.outs.items;
   rest : (j : ℕ) (d : Inlet) → l.one-index ≤ j → get_or l.one-items j d ≡ get_or l.initial.one-items j d;
-  rows : (i : ℕ) → i < length l.beats → length (get_or l.beats i []) ≡ 6;
   done : Empties (map inlet l.initial.one-items) (map outlet l.initial.outs.items) l.one-index l.initial.beats l.beats;
 }

@@ -7,13 +7,11 @@ use Rattle.noc_tiles.proofs.halves.+fn-run_all-fn-scope-spawn_with+fn-run_all-sc
 
 pub scope-returns : goal.scope-returns
 scope-returns g t c =
-    let p = c.in-Ok.ensures.ok in (
-      both_ended c.captures.relation.now c.in-Ok.child.promise.relation.now c.captures.stop.now (record { opens = g.G.Gate.opens c.captures.gate.now; shuts = g.G.Gate.shuts c.captures.gate.now }) c.in-Ok.child.promise.stop.now (record { opens = g.G.Gate.opens c.in-Ok.child.promise.gate.now; shuts = g.G.Gate.shuts c.in-Ok.child.promise.gate.now }) c.captures.first.items c.captures.second.items c.in-Ok.child.promise.before.value.items
-          c.run_all-first.result c.join-second.result c.joined.result
-          (ap (λ (p : RunsOf g.row.G.Denot). p.relation.now) p) (ap (λ (p : RunsOf g.row.G.Denot). p.stop.now) p) (ap (λ (p : RunsOf g.row.G.Denot). (let know : Gating = record { opens = g.G.Gate.opens p.gate.now; shuts = g.G.Gate.shuts p.gate.now } in know)) p) (ap (λ (p : RunsOf g.row.G.Denot). p.before.value.items) p ∙ ap (λ (v : Vec Tile Global). v.items) c.of-before.ensures)
-          c.run_all-first.ensures.0 c.join-second.ensures.0 c.joined.ensures.items c.joined.ensures.firsts,
-      c.joined.ensures.fault c.run_all-first.ensures.1 c.join-second.ensures.1,
-    )
+    let p = c.in-Ok.ensures.ok in
+    both_ended c.captures.relation.now c.in-Ok.child.promise.relation.now c.captures.stop.now (record { opens = g.G.Gate.opens c.captures.gate.now; shuts = g.G.Gate.shuts c.captures.gate.now }) c.in-Ok.child.promise.stop.now (record { opens = g.G.Gate.opens c.in-Ok.child.promise.gate.now; shuts = g.G.Gate.shuts c.in-Ok.child.promise.gate.now }) c.captures.first.items c.captures.second.items c.in-Ok.child.promise.before.value.items
+    c.run_all-first.result c.join-second.result c.joined.result
+    (ap (λ (p : RunsOf g.row.G.Denot). p.relation.now) p) (ap (λ (p : RunsOf g.row.G.Denot). p.stop.now) p) (ap (λ (p : RunsOf g.row.G.Denot). (let know : Gating = record { opens = g.G.Gate.opens p.gate.now; shuts = g.G.Gate.shuts p.gate.now } in know)) p) (ap (λ (p : RunsOf g.row.G.Denot). p.before.value.items) p ∙ ap (λ (v : Vec Tile Global). v.items) c.of-before.ensures)
+    c.run_all-first.ensures c.join-second.ensures c.joined.ensures.items
 
 pub scoped-requires : goal.scoped-requires
 scoped-requires g t c =

@@ -1,4 +1,5 @@
-use Rattle.std.proofs.Common.{◌≡◌, length}
+use Rattle.std.proofs.Common.{◌≡◌, ◌≤◌, length}
+use Rattle.std.specs.Prelude.{vec_capacity}
 use Rattle.noc_tiles.specs.Rings.{in_slots, out_slots}
 use Rattle.noc_tiles.specs.Partition.{IsUncut}
 use Rattle.noc_tiles.proofs.PartitionLoopLemmas.{AreTilesOf}
@@ -8,6 +9,7 @@ use Rattle.noc_tiles.proofs.partition.partition.Given as goal
 abbrev pub invariant-loop-worker : goal.invariant-loop-worker
 invariant-loop-worker l = record {
   count : length l.tiles.items ≡ l.worker;
+  room : l.frame.workers ≤ vec_capacity l.tiles;
   rest : IsUncut l.frame l.beats (in_slots l.initial.rest.ins.items) (out_slots l.initial.rest.outs.items) l.worker l.rest;
   tiles : AreTilesOf l.frame (in_slots l.initial.rest.ins.items) (out_slots l.initial.rest.outs.items) l.tiles.items;
 }

@@ -1,10 +1,9 @@
-use Rattle.std.proofs.Common.{ℕ, ◌≡◌, ◌+◌, ◌<◌, [], ◌∷◌, ◌++◌, map, length, get_or, set, drop, sym, ◌∙◌, ap, arith, refl, rules, Some}
+use Rattle.std.proofs.Common.{ℕ, ◌≡◌, ◌+◌, ◌<◌, [], ◌∷◌, ◌++◌, map, length, get_or, set, drop, sym, ◌∙◌, ap, arith, refl, rules}
 use Rattle.std.proofs.lemmas.List.{length_push, length-map, take_at, length-set}
 use Rattle.noc_net.specs.Halves.{beat_at}
-use Rattle.noc_theory.proofs.runs.WireLemmas.{rows_kept}
 use Rattle.noc_tiles.specs.Ends.{End, inlet}
 use Rattle.noc_tiles.specs.TileStep.{arrival_places, with_row, names}
-use Rattle.noc_tiles.proofs.TileStepLemmas.{names-fed, names-set, fed-nil, filled-nil, length-same, place-at, within-at, one-more, filled-more, beat_at-set, with_beat-same}
+use Rattle.noc_tiles.proofs.TileStepLemmas.{names-fed, names-set, fed-nil, filled-nil, length-same, place-at, within-at, one-more, filled-more, with_beat-same}
 use Rattle.noc_tiles.proofs.phases.receive_all.Goals as goal
 
 pub loop-one-init : goal.loop-one-init
@@ -14,42 +13,15 @@ loop-one-init g c = record {
   ends = sym (fed-nil _);
   beats = λ r q. sym (filled-nil (beat_at c.args.beats.now) (arrival_places (map inlet c.deref_mut-one-items.result.now)) r q);
   size = refl;
-  rows = λ i l. search rules;
 }
 
-pub bounds-beats-one : goal.bounds-beats-one
-bounds-beats-one g c =
+pub set_beat-requires : goal.set_beat-requires
+set_beat-requires g c =
     let items0 = c.deref_mut-one-items.result.now in
     let v = c.loop-one.invariant in
     let p = within-at inlet (length c.args.beats.now) 6 c.args.ins.now.items items0 c.loop-one.one-items v.row c.loop-one.one-index c.one-item.result c.requires c.deref_mut-one-items.ensures.value v.ends (search rules) in
-    let e = ap (λ (w : End). w.at.0) c.in-Some.ensures.took in
-    omega (arith, p.0, e, v.size)
-
-pub offset_bounds-beats-one : goal.offset_bounds-beats-one
-offset_bounds-beats-one g c =
-    let items0 = c.deref_mut-one-items.result.now in
-    let v = c.loop-one.invariant in
-    let p = within-at inlet (length c.args.beats.now) 6 c.args.ins.now.items items0 c.loop-one.one-items v.row c.loop-one.one-index c.one-item.result c.requires c.deref_mut-one-items.ensures.value v.ends (search rules) in
-    let e = ap (λ (w : End). w.at.0) c.in-Some.ensures.took in
-    let b : c.take.new.self.router < length c.loop-one.beats = omega (arith, p.0, e, v.size) in
-    search (rules, arith)
-
-pub bounds-beats-one-in-Some : goal.bounds-beats-one-in-Some
-bounds-beats-one-in-Some g c =
-    let items0 = c.deref_mut-one-items.result.now in
-    let v = c.loop-one.invariant in
-    let p = within-at inlet (length c.args.beats.now) 6 c.args.ins.now.items items0 c.loop-one.one-items v.row c.loop-one.one-index c.one-item.result c.requires c.deref_mut-one-items.ensures.value v.ends (search rules) in
-    let e = ap (λ (w : End). w.at.1) c.in-Some.ensures.took in
-    omega (arith, p.1, e)
-
-pub offset_bounds-beats-one-in-loop-one : goal.offset_bounds-beats-one-in-loop-one
-offset_bounds-beats-one-in-loop-one g c =
-    let items0 = c.deref_mut-one-items.result.now in
-    let v = c.loop-one.invariant in
-    let p = within-at inlet (length c.args.beats.now) 6 c.args.ins.now.items items0 c.loop-one.one-items v.row c.loop-one.one-index c.one-item.result c.requires c.deref_mut-one-items.ensures.value v.ends (search rules) in
-    let e = ap (λ (w : End). w.at.1) c.in-Some.ensures.took in
-    let b : c.take.new.self.port < 6 = omega (arith, p.1, e) in
-    search (rules, arith)
+    let at = ap (λ (w : End). w.at) c.in-Some.ensures.took in
+    (omega (arith, p.0, ap (λ (w : ℕ × ℕ). w.0) at, v.size), omega (arith, p.1, ap (λ (w : ℕ × ℕ). w.1) at))
 
 pub loop-one-preserved : goal.loop-one-preserved
 loop-one-preserved g c =
@@ -61,11 +33,7 @@ loop-one-preserved g c =
     let x = c.in-Some.beat in
     let l : i < length c.loop-one.one-items = search rules in
     let took = c.in-Some.ensures.took in
-    let p = within-at inlet (length c.args.beats.now) 6 c.args.ins.now.items items0 c.loop-one.one-items v.row i c.one-item.result c.requires c.deref_mut-one-items.ensures.value v.ends l in
     let at : (new.router, new.port) ≡ (inlet (get_or c.loop-one.one-items i c.one-item.result)).at = ap (λ (w : End). w.at) took in
-    let r_in : new.router < length bs = let e = ap (λ (w : ℕ × ℕ). w.0) at in let s = v.size in search (rules, arith) in
-    let p_in : new.port < 6 = let e = ap (λ (w : ℕ × ℕ). w.1) at in omega (arith, p.1, e) in
-    let long : new.port < length (get_or bs new.router []) = omega (arith, p_in, v.rows new.router r_in) in
     let place : (new.router, new.port) ≡ get_or (arrival_places (map inlet items0)) (length v.row) (0, 0) =
     at ∙ sym (place-at inlet items0 c.loop-one.one-items v.row i c.one-item.result (0, 0) v.ends l) ∙ ap (λ k. get_or (arrival_places (map inlet items0)) k (0, 0)) (sym v.width) in
     let n = length-same inlet items0 c.loop-one.one-items v.row v.ends in
@@ -75,11 +43,10 @@ loop-one-preserved g c =
       width = length_push v.row x ∙ ap (λ n. n + 1) v.width;
       ends = one-more inlet items0 c.loop-one.one-items v.row i x c.one-item.result new v.ends l v.width took;
       beats = λ r q.
-          beat_at-set bs new.router new.port x r_in long r q
+          c.set_beat.ensures r q
           ∙ with_beat-same (beat_at bs) (with_row (beat_at c.args.beats.now) (arrival_places (map inlet items0)) v.row) (new.router, new.port) (get_or (arrival_places (map inlet items0)) (length v.row) (0, 0)) x r q place (v.beats r q)
           ∙ filled-more (beat_at c.args.beats.now) (arrival_places (map inlet items0)) v.row x (0, 0) r q l0;
-      size = length-set bs new.router (set (get_or bs new.router []) new.port x) ∙ v.size;
-      rows = rows_kept bs (Some (new.router, new.port)) x v.rows;
+      size = c.set_beat.auto.beats ∙ v.size;
     }
 
 pub returns-in_default-clause-ends : goal.returns-in_default-clause-ends

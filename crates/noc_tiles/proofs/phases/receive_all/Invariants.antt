@@ -1,4 +1,4 @@
-use Rattle.std.proofs.Common.{ℕ, List, ◌≡◌, ◌<◌, [], map, length, get_or}
+use Rattle.std.proofs.Common.{ℕ, List, ◌≡◌, map, length}
 use Rattle.noc_packet.specs.declared.packet.Beat.{Beat}
 use Rattle.noc_net.specs.Halves.{beat_at}
 use Rattle.noc_tiles.specs.Ends.{inlet}
@@ -13,5 +13,4 @@ invariant-loop-one g l = record {
   ends : map inlet l.one-items ≡ ends_after_beats (map inlet l.initial.one-items) row;
   beats : (r q : ℕ) → beat_at l.beats r q ≡ with_row (beat_at l.initial.beats) (arrival_places (map inlet l.initial.one-items)) row r q;
   size : length l.beats ≡ length l.initial.beats;
-  rows : (i : ℕ) → i < length l.beats → length (get_or l.beats i []) ≡ 6;
 }

@@ -24,6 +24,7 @@ returns-clause-sent g c h =
     let w = with_items a.beats c.clear_all.new.beats in
     let after : w.items ≡ c.clear_all.new.beats = with_items_is a.beats c.clear_all.new.beats (search (rules, arith)) in
     record {
+      rest = refl;
       outs = c.if-not-put_all.ensures.put refl ∙ ap (λ (b : List (List Beat)). ends_after_beats (outlets a) (map (λ (p : ℕ × ℕ). beat_at b p.0 p.1) (arrival_places (outlets a)))) c.deref.ensures.value;
       cleared = λ r q.
           subst (λ (b : List (List Beat)). IsCleared (arrival_places (outlets a)) a.beats.items b (length (arrival_places (outlets a))) r q) (sym after)

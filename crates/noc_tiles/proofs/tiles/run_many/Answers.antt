@@ -5,8 +5,8 @@ use Rattle.noc_tiles.specs.declared.kept.Kept.{Kept}
 use Rattle.noc_tiles.proofs.PartsLemmas.{parts-beats, parts-flight, parts-views}
 use Rattle.noc_tiles.proofs.tiles.run_many.Goals as goal
 
-pub run_cut-requires-after_bounds : goal.run_cut-requires-after_bounds
-run_cut-requires-after_bounds g c =
+pub run_threads-requires-after_bounds : goal.run_threads-requires-after_bounds
+run_threads-requires-after_bounds g c =
     let P = c.into_parts-relation.result in
     let A = c.into_parts-relation.ensures.parts in
     let f : Kept = record {

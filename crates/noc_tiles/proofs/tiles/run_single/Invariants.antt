@@ -1,5 +1,5 @@
 use Rattle.std.proofs.Common.{◌≡◌, ℕ, ◌+◌, ◌<◌, false}
-use Rattle.noc_tiles.proofs.single.run_asking.Given as goal
+use Rattle.noc_tiles.proofs.tiles.run_single.Given as goal
 
 -- the cycles before this one have run, and the gate was not shut in them
 abbrev pub invariant-loop-k : goal.invariant-loop-k
