@@ -3,9 +3,9 @@ use Rattle.std.proofs.Common.{◌≡◌, ℕ, zero, suc, ◌+◌, ◌-◌, ◌<�
 use Rattle.std.specs.Prelude.{◌⊎◌}
 use Rattle.std.proofs.lemmas.Bool.{cases_lt, cases_order, false≢true}
 use Rattle.noc_route.specs.Ranks.{IsRankedBy, Ranking}
-use Rattle.noc_net.specs.Good.{IsGoodSetup}
+use Rattle.noc_theory.specs.Good.{IsGoodSetup}
 use Rattle.noc_net.specs.Limit.{IsLimit}
-use Rattle.noc_net.specs.Network.{Run, Setup}
+use Rattle.noc_theory.specs.Network.{Run, Setup}
 use Rattle.noc_net.proofs.LimitLemmas.{all-out, limit-once, limit-some}
 use Rattle.noc_answers.specs.Drain.{DrainsAt, DrainsBy, RunsTo, at_limit, at_once, is_out_at, look, once_out}
 

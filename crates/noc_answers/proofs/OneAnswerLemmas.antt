@@ -3,7 +3,7 @@ use Rattle.std.proofs.Common.{◌≡◌, ℕ, List, Option, Some, None, Ok, refl
 use Rattle.std.proofs.lemmas.Bool.{cases_order, false≢true}
 use Rattle.noc_topo.specs.Shape.{Grid}
 use Rattle.noc_route.specs.Routes.{Routes}
-use Rattle.noc_net.specs.Network.{Run, Setup}
+use Rattle.noc_theory.specs.Network.{Run, Setup}
 use Rattle.noc_rank.specs.Formulas.{IsGenerated}
 use Rattle.noc_route.specs.Ranks.{Ranking}
 use Rattle.noc_files.specs.Configuration.{Settings}

@@ -8,7 +8,7 @@ use Rattle.noc_topo.specs.Shape.{Grid, IsGrid}
 use Rattle.noc_route.specs.Routes.{Routes}
 use Rattle.noc_route.specs.declared.rule.Rule.{Rule}
 use Rattle.noc_net.specs.Faults.{fault_of}
-use Rattle.noc_net.specs.Network.{Setup}
+use Rattle.noc_theory.specs.Network.{Setup}
 use Rattle.noc_rank.specs.Formulas.{IsFaultOfFormula}
 use Rattle.noc_route.specs.Ranks.{Ranking}
 use Rattle.noc_rank.specs.Faults.{IsFaultOfCheck}

@@ -5,7 +5,7 @@ use Rattle.std.specs.Option.{IfSome}
 use Rattle.std.proofs.lemmas.Bool.{leb-false, ltb-false, or_parts}
 use Rattle.noc_topo.specs.Shape.{Grid, nodes}
 use Rattle.noc_route.specs.Routes.{Routes}
-use Rattle.noc_net.specs.Network.{Setup}
+use Rattle.noc_theory.specs.Network.{Setup}
 use Rattle.noc_files.specs.declared.trace.Traced.{Traced}
 use Rattle.noc_answers.specs.Asked.{Asked}
 use Rattle.noc_answers.specs.Options.{early_fault, first_cycle, is_bad_span, last_cycle, late_fault, or_option_fault, router_fault, table_fault, trace_of}

@@ -5,7 +5,7 @@ use Rattle.std.specs.Result.{IfOk}
 use Rattle.noc_route.specs.Routes.{Routes}
 use Rattle.noc_route.specs.Ranks.{IsRankedBy}
 use Rattle.noc_net.specs.Limit.{are_all_out}
-use Rattle.noc_net.specs.Network.{Run, state_at}
+use Rattle.noc_theory.specs.Network.{Run, state_at}
 use Rattle.noc_theory.proofs.budget.ProgressTheoremLemmas.{not-stuck}
 use Rattle.noc_files.specs.declared.writing.WriteFault.{WriteFault}
 use Rattle.noc_answers.specs.Asked.{Asked, TextValue, ReadsAs, as_files, as_joined, is_joined, owned_text}

@@ -3,7 +3,7 @@ use Rattle.std.proofs.Common.{◌≡◌, ℕ, Bool, true, Option, Some, None, re
 use Rattle.std.specs.Option.{IsSomeAnd}
 use Rattle.std.proofs.lemmas.Bool.{false≢true}
 use Rattle.noc_files.specs.Configuration.{Settings}
-use Rattle.noc_net.specs.Network.{Run, Setup}
+use Rattle.noc_theory.specs.Network.{Run, Setup}
 use Rattle.noc_route.specs.Routes.{Routes}
 use Rattle.noc_answers.specs.Asked.{Asked, TextValue, ReadsAs, as_files, as_joined, is_joined}
 use Rattle.noc_answers.specs.Settings.{AsksForRelation}

@@ -2,7 +2,7 @@
 use Rattle.std.specs.Prelude.{◌≡◌, ◌⊎◌, ℕ, ◌<◌, Bool, true, false, List, length, codes, is_some, Option, Some, None, Result, Ok, Err}
 use Rattle.noc_route.specs.Routes.{Routes}
 use Rattle.noc_net.specs.Limit.{are_all_out}
-use Rattle.noc_net.specs.Network.{Run, Setup, state_at}
+use Rattle.noc_theory.specs.Network.{Run, Setup, state_at}
 use Rattle.noc_route.specs.Ranks.{Ranking}
 use Rattle.noc_rank.specs.declared.fault.RankFault.{RankFault}
 use Rattle.noc_files.specs.Configuration.{Settings}

@@ -1,7 +1,7 @@
 -- Where a run ends that goes on until every packet is out (docs/MODEL.md, "Runs that drain").
 use Rattle.std.specs.Prelude.{◌≡◌, ℕ, ◌+◌, ◌*◌, ◌<◌, ◌≤◌, Bool, true, false}
 use Rattle.noc_net.specs.Limit.{are_all_out, IsLimit}
-use Rattle.noc_net.specs.Network.{Setup, state_at}
+use Rattle.noc_theory.specs.Network.{Setup, state_at}
 use Rattle.noc_answers.specs.declared.drain.TheConstants.{DRAIN_CHECK_INTERVAL}
 
 -- whether every packet is out at a count

@@ -5,9 +5,9 @@ use Rattle.noc_route.specs.Routes.{Routes}
 use Rattle.noc_net.specs.declared.fault.NetFault.{NetFault}
 use Rattle.noc_net.specs.declared.fault.NetFault.TheVariants as net
 use Rattle.noc_net.specs.Faults.{fault_of}
-use Rattle.noc_net.specs.Good.{IsGoodSetup}
-use Rattle.noc_net.specs.Network.{Run, Setup}
-use Rattle.noc_net.specs.Progress.{is_stuck}
+use Rattle.noc_theory.specs.Good.{IsGoodSetup}
+use Rattle.noc_theory.specs.Network.{Run, Setup}
+use Rattle.noc_theory.specs.Progress.{is_stuck}
 use Rattle.noc_files.specs.Configuration.{Settings}
 use Rattle.noc_files.specs.Traffic.{traffic_of}
 use Rattle.noc_files.specs.declared.fault.InputFault.{InputFault}

@@ -2,7 +2,7 @@
 
 ghost use Rattle.std.specs.Prelude.{ℕ, Bool, List, [], ◌∷◌, ◌++◌, Some, length, decimal, ◌≡◌, ◌-◌, ◌<◌, ◌≤◌, false, true};
 ghost use Rattle.noc_net.specs.Limit.{are_all_out};
-ghost use Rattle.noc_net.specs.Network.{Run, arrival_in, packet_at, state_at};
+ghost use Rattle.noc_theory.specs.Network.{Run, arrival_in, packet_at, state_at};
 ghost use Rattle.noc_files.specs.Latency.{latency_line, packet_start};
 ghost use Rattle.noc_files.specs.Writing.{comma, text_of_pieces, line_end};
 ghost use Rattle.noc_faults.specs.Status.{is_memory};

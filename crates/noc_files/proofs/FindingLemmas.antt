@@ -3,8 +3,8 @@ use Rattle.std.proofs.Common.{◌≡◌, ℕ, Bool, true, false, List, [], ◌�
 use Rattle.noc_topo.specs.Shape.{ports}
 use Rattle.noc_topo.specs.Words.{below}
 use Rattle.noc_route.specs.Routes.{Routes}
-use Rattle.noc_net.specs.Network.{Run}
-use Rattle.noc_net.specs.Lockstep.{findings_before}
+use Rattle.noc_theory.specs.Network.{Run}
+use Rattle.noc_theory.specs.Lockstep.{findings_before}
 use Rattle.noc_files.specs.Channels.{is_input, over_port, over_router}
 use Rattle.noc_files.specs.Findings.{finding_header, finding_report, findings_text, found_line}
 

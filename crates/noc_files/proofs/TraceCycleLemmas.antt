@@ -15,8 +15,8 @@ use Rattle.noc_route.specs.Routes.{Routes}
 use Rattle.noc_route.proofs.PlaceLemmas.{flat-below}
 use Rattle.noc_router.specs.Found.{empty_finding}
 use Rattle.noc_router.specs.declared.verdict.Finding.{Finding}
-use Rattle.noc_net.specs.Lockstep.{findings_before, findings_in_cycle, finding_in}
-use Rattle.noc_net.specs.Network.{Run, Setup, arriving, frozen_at, size}
+use Rattle.noc_theory.specs.Lockstep.{findings_before, findings_in_cycle, finding_in}
+use Rattle.noc_theory.specs.Network.{Run, Setup, arriving, frozen_at, size}
 use Rattle.noc_files.specs.Channels.{is_input, lines_of_port, over_router}
 use Rattle.noc_files.specs.Trace.{AreRows, cycle_text, has_below, is_same, kept_at, kept_line, line_if_new, member_text, nothing_found, over_traced, traced_finding, told_at, told_before, trace_line, traced_line}
 use Rattle.noc_files.specs.declared.trace.Traced.{Traced}

@@ -14,8 +14,8 @@ use Rattle.noc_router.specs.Verdict.{column}
 use Rattle.noc_router.specs.declared.verdict.Finding.{Finding}
 use Rattle.noc_router.specs.declared.verdict.Verdict.{Verdict}
 use Rattle.noc_router.specs.declared.verdict.Verdict.TheVariants.{Empty, Granted, LostChannel, LostInput, LostSwitch, Moved, NoCredit, NoFlit, NoIdleChannel, Routed}
-use Rattle.noc_net.specs.Lockstep.{finding_in, findings_in_cycle}
-use Rattle.noc_net.specs.Network.{Run, Setup, arriving, frozen_at, size, verdict_in_cycle}
+use Rattle.noc_theory.specs.Lockstep.{finding_in, findings_in_cycle}
+use Rattle.noc_theory.specs.Network.{Run, Setup, arriving, frozen_at, size, verdict_in_cycle}
 use Rattle.noc_files.specs.Findings.{found_line, line_if_found, out_name, verdict_text}
 use Rattle.noc_files.specs.Stalls.{channel_counts}
 use Rattle.noc_files.specs.Trace.{finds_empty, is_same, is_same_channel, is_same_number, line_if_new, permitted_text, permitted_to, said_by_both, traced_finding, told_at, told_counts, told_verdict, trace_line, traced_line, when_text, whole}

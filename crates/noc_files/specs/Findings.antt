@@ -1,7 +1,7 @@
 -- The report of a router's findings in one cycle.
 use Rattle.std.specs.Prelude.{ℕ, ◌+◌, ◌*◌, slice_get, List, [], ◌∷◌, ◌++◌, decimal, codes, Option, Some, None, unwrap_or}
-use Rattle.noc_net.specs.Network.{Run}
-use Rattle.noc_net.specs.Lockstep.{findings_before}
+use Rattle.noc_theory.specs.Network.{Run}
+use Rattle.noc_theory.specs.Lockstep.{findings_before}
 use Rattle.noc_topo.specs.Shape.{Grid}
 use Rattle.noc_route.specs.Routes.{Routes}
 use Rattle.noc_router.specs.declared.verdict.Finding.{Finding}

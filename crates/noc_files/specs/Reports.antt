@@ -1,6 +1,6 @@
 -- The texts of reports.
 use Rattle.std.specs.Prelude.{ℕ, List}
-use Rattle.noc_net.specs.Network.{Run}
+use Rattle.noc_theory.specs.Network.{Run}
 use Rattle.noc_files.specs.Latency.{latency_text}
 use Rattle.noc_files.specs.Stalls.{stalls_text}
 use Rattle.noc_files.specs.Summary.{summary_text}

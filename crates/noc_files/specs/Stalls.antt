@@ -1,8 +1,8 @@
 -- The stall report.
 use Rattle.std.specs.Prelude.{ℕ, ◌+◌, ◌*◌, List, [], ◌∷◌, ◌++◌, decimal, codes}
 use Rattle.std.specs.List.{flat_map}
-use Rattle.noc_net.specs.Network.{Run}
-use Rattle.noc_net.specs.Lockstep.{counts_before}
+use Rattle.noc_theory.specs.Network.{Run}
+use Rattle.noc_theory.specs.Lockstep.{counts_before}
 use Rattle.noc_files.specs.Channels.{over_routers}
 use Rattle.noc_files.specs.Ports.{name_of_port}
 use Rattle.noc_files.specs.Writing.{comma, text_of_pieces, line_end}

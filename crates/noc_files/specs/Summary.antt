@@ -3,8 +3,8 @@ use Rattle.std.specs.Prelude.{ℕ, ◌-◌, ◌≤◌, length, max, sum, fold, L
 use Rattle.std.specs.Borrow.{Bor}
 use Rattle.std.specs.List.{filter_map, flat_map}
 use Rattle.noc_topo.specs.Words.{below, Each, Has}
-use Rattle.noc_net.specs.Network.{Run, arrival_in, packet_at, state_at}
-use Rattle.noc_net.specs.Progress.{last_event_before}
+use Rattle.noc_theory.specs.Network.{Run, arrival_in, packet_at, state_at}
+use Rattle.noc_theory.specs.Progress.{last_event_before}
 use Rattle.noc_files.specs.Channels.{over_routers}
 use Rattle.noc_files.specs.Latency.{packet_latency}
 use Rattle.noc_files.specs.Stalls.{channel_counts}

@@ -11,8 +11,8 @@ use Rattle.noc_router.specs.Verdict.{column}
 use Rattle.noc_router.specs.declared.verdict.Finding.{Finding}
 use Rattle.noc_router.specs.declared.verdict.Verdict.{Verdict}
 use Rattle.noc_router.specs.declared.verdict.Verdict.TheVariants.{Empty, Granted, LostChannel, NoIdleChannel}
-use Rattle.noc_net.specs.Network.{Run, Setup, size}
-use Rattle.noc_net.specs.Lockstep.{findings_before, findings_in_cycle}
+use Rattle.noc_theory.specs.Network.{Run, Setup, size}
+use Rattle.noc_theory.specs.Lockstep.{findings_before, findings_in_cycle}
 use Rattle.noc_files.specs.Channels.{lines_listed}
 use Rattle.noc_files.specs.Findings.{out_name, verdict_text}
 use Rattle.noc_files.specs.Ports.{name_of_port}

@@ -1,7 +1,7 @@
 //! The report of a router's findings in one cycle (docs/FORMATS.md).
 
 ghost use Rattle.std.specs.Prelude.{ℕ, ◌≡◌, ◌+◌, ◌<◌, ◌≤◌, ◌++◌, length, Some};
-ghost use Rattle.noc_net.specs.Network.{Run};
+ghost use Rattle.noc_theory.specs.Network.{Run};
 ghost use Rattle.noc_topo.specs.Shape.{nodes, ports};
 ghost use Rattle.noc_files.specs.Channels.{AreInputs};
 ghost use Rattle.noc_files.specs.Findings.{finding_header, finding_line, findings_text, found_line, out_name, verdict_word};

@@ -3,7 +3,7 @@
 ghost use Rattle.std.specs.Prelude.{◌≡◌, ◌+◌, ◌≤◌, ◌++◌, ℕ, length, sum};
 ghost use Rattle.std.specs.List.{flat_map};
 ghost use Rattle.noc_topo.specs.Shape.{ports};
-ghost use Rattle.noc_net.specs.Network.{Run as RunValue};
+ghost use Rattle.noc_theory.specs.Network.{Run as RunValue};
 ghost use Rattle.noc_files.specs.Channels.{AreInputs};
 ghost use Rattle.noc_files.specs.Stalls.{channel_counts, channel_line, count_text, stalls_text};
 ghost use Rattle.noc_files.specs.Writing.{Wrote};

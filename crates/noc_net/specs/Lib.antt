@@ -6,10 +6,3 @@ pub mod Limit
 pub mod Parts
 pub mod Room
 pub mod Stored
-pub use Rattle.noc_theory.specs.Core
-pub use Rattle.noc_theory.specs.Good
-pub use Rattle.noc_theory.specs.Halves
-pub use Rattle.noc_theory.specs.Lockstep
-pub use Rattle.noc_theory.specs.Network
-pub use Rattle.noc_theory.specs.Progress
-pub use Rattle.noc_theory.specs.Unseen

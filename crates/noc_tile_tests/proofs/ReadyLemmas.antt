@@ -4,9 +4,9 @@ use Rattle.noc_topo.specs.Shape.{IsGrid, nodes}
 use Rattle.noc_packet.specs.declared.packet.Beat.{Beat}
 use Rattle.noc_router.specs.View.{View}
 use Rattle.noc_theory.proofs.runs.RunLemmas.{count_views, linked_wires, past_wires}
-use Rattle.noc_net.specs.Halves.{HasItsBeats, beat_at}
-use Rattle.noc_net.specs.Lockstep.{lockstep_at}
-use Rattle.noc_net.specs.Network.{Setup}
+use Rattle.noc_theory.specs.Halves.{HasItsBeats, beat_at}
+use Rattle.noc_theory.specs.Lockstep.{lockstep_at}
+use Rattle.noc_theory.specs.Network.{Setup}
 use Rattle.noc_net.specs.Parts.{AreParts, setup_in}
 use Rattle.noc_net.specs.declared.parts.Parts.{Parts}
 use Rattle.noc_tiles.specs.Ends.{inlet, outlet}

@@ -8,8 +8,8 @@ use Rattle.noc_topo.proofs.LinkLemmas.{neighbour-range}
 use Rattle.noc_packet.specs.declared.packet.Beat.{Beat}
 use Rattle.noc_route.specs.Routes.{Routes}
 use Rattle.noc_router.specs.View.{View, idle_beat}
-use Rattle.noc_net.specs.Halves.{beat_at}
-use Rattle.noc_net.specs.Network.{Setup}
+use Rattle.noc_theory.specs.Halves.{beat_at}
+use Rattle.noc_theory.specs.Network.{Setup}
 use Rattle.noc_theory.proofs.runs.RunLemmas.{count_views}
 use Rattle.noc_tiles.specs.Ends.{End}
 use Rattle.noc_tiles.specs.TileStep.{Layout, TileState, is_own, is_from, is_inside, arrival_places, ends_after_rows, tile_after_cycle, after, beats_put}

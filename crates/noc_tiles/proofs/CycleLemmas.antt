@@ -13,8 +13,8 @@ use Rattle.noc_router.specs.declared.verdict.Findings.TheVariants.{Record, Leave
 use Rattle.noc_router.specs.Finish.{view_after_finish}
 use Rattle.noc_router.specs.View.{Site, View, IsRelationOf, view_after_takes, idle_beat, local_step, opening_view}
 use Rattle.noc_router.proofs.SiteLemmas.{all_taken-site}
-use Rattle.noc_net.specs.Halves.{HasItsBeats, beat_at, view_after_decide, view_after_puts, incoming}
-use Rattle.noc_net.specs.Unseen.{AreSameViews, without_findings}
+use Rattle.noc_theory.specs.Halves.{HasItsBeats, beat_at, view_after_decide, view_after_puts, incoming}
+use Rattle.noc_theory.specs.Unseen.{AreSameViews, without_findings}
 use Rattle.noc_theory.proofs.runs.RunLemmas.{map_map_indexed}
 use Rattle.noc_theory.proofs.runs.StepLemmas.{IsRelationOf-same_site, local_step-view, local_step-beats}
 use Rattle.noc_tiles.specs.Inner.{AreInner, CanFinish, to_send}

@@ -10,7 +10,7 @@ use Rattle.noc_router.specs.declared.verdict.Findings.{Findings}
 use Rattle.noc_router.specs.declared.verdict.Findings.TheVariants.{Record}
 use Rattle.noc_router.specs.Finish.{view_after_finish}
 use Rattle.noc_router.specs.View.{View, IsRelationOf, idle_beat}
-use Rattle.noc_net.specs.Halves.{beat_at, view_after_puts}
+use Rattle.noc_theory.specs.Halves.{beat_at, view_after_puts}
 use Rattle.noc_tiles.specs.Inner.{CanFinish, HaveFinished, put_from, to_send}
 use Rattle.noc_tiles.specs.Phases.{IsCleared}
 use Rattle.noc_tiles.specs.TileStep.{is_own, is_from, beat_among}

@@ -4,7 +4,7 @@ use Rattle.std.specs.Prelude.{nat_eq, ◌&&◌, if◌then◌else◌}
 use Rattle.std.proofs.lemmas.Bool.Decides.{eqb_tells}
 use Rattle.std.proofs.lemmas.List.{get_or-map, length-map}
 use Rattle.noc_packet.specs.declared.packet.Beat.{Beat}
-use Rattle.noc_net.specs.Halves.{beat_at}
+use Rattle.noc_theory.specs.Halves.{beat_at}
 use Rattle.noc_tiles.specs.RingEnd.{WireEnd}
 use Rattle.noc_tiles.specs.Ends.{End}
 use Rattle.noc_tiles.specs.Emptying.{AreEnds, CanEmpty, Empties, Left}

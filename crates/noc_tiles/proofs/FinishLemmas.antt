@@ -13,8 +13,8 @@ use Rattle.noc_router.specs.Finish.{view_after_finish}
 use Rattle.noc_router.specs.View.{Site, View, IsRelationOf, idle_beat, beat_to_put, view_after_inject, decisions_of}
 use Rattle.noc_router.proofs.SiteLemmas.{injected-site, committed-site}
 use Rattle.noc_theory.proofs.runs.StepLemmas.{IsRelationOf-same_site, count-committed}
-use Rattle.noc_net.specs.Halves.{HasItsBeats, beat_at, view_after_puts, wire_after_puts}
-use Rattle.noc_net.specs.Unseen.{without_findings}
+use Rattle.noc_theory.specs.Halves.{HasItsBeats, beat_at, view_after_puts, wire_after_puts}
+use Rattle.noc_theory.specs.Unseen.{without_findings}
 use Rattle.noc_tiles.specs.Inner.{CanFinish, HaveFinished, put_from, to_send}
 use Rattle.noc_tiles.specs.TileStep.{is_own, is_from}
 use Rattle.noc_tiles.specs.declared.tile.Tile.{Tile}

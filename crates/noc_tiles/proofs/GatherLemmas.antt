@@ -8,9 +8,9 @@ use Rattle.noc_topo.proofs.LinkLemmas.{nodes-some}
 use Rattle.noc_route.specs.Routes.{Routes}
 use Rattle.noc_packet.specs.declared.packet.Beat.{Beat}
 use Rattle.noc_router.specs.View.{idle_beat}
-use Rattle.noc_net.specs.Halves.{beat_at}
-use Rattle.noc_net.specs.Lockstep.{lockstep_at}
-use Rattle.noc_net.specs.Network.{Setup}
+use Rattle.noc_theory.specs.Halves.{beat_at}
+use Rattle.noc_theory.specs.Lockstep.{lockstep_at}
+use Rattle.noc_theory.specs.Network.{Setup}
 use Rattle.noc_theory.proofs.runs.RunLemmas.{count_views, past_wires}
 use Rattle.noc_tiles.specs.Ends.{End}
 use Rattle.noc_tiles.specs.TileStep.{TileState, arrival_places, after, beats_put, put_in}

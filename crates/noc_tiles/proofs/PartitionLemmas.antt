@@ -6,9 +6,9 @@ use Rattle.noc_topo.specs.Shape.{IsGrid, neighbour, nodes, local_port}
 use Rattle.noc_topo.proofs.LinkLemmas.{link_back}
 use Rattle.noc_packet.specs.declared.packet.Beat.{Beat}
 use Rattle.noc_router.specs.View.{View, idle_beat}
-use Rattle.noc_net.specs.Halves.{HasItsBeats, beat_at}
-use Rattle.noc_net.specs.Lockstep.{lockstep_at}
-use Rattle.noc_net.specs.Network.{Setup}
+use Rattle.noc_theory.specs.Halves.{HasItsBeats, beat_at}
+use Rattle.noc_theory.specs.Lockstep.{lockstep_at}
+use Rattle.noc_theory.specs.Network.{Setup}
 use Rattle.noc_theory.proofs.runs.RunLemmas.{count_views, linked_wires}
 use Rattle.noc_tiles.specs.Ends.{End}
 use Rattle.noc_tiles.specs.TileStep.{is_own, is_from, is_inside, arrival_places}

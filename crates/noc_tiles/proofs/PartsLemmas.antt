@@ -1,10 +1,10 @@
 -- The parts of a network and the lockstep run, both ways. Nothing else in this crate uses what the parts of a network promise.
 use Rattle.std.proofs.Common.{◌≡◌, ◌≤◌, length, vec_len, sym, ◌∙◌}
 use Rattle.noc_topo.specs.Shape.{nodes}
-use Rattle.noc_net.specs.Good.{IsGoodSetup}
+use Rattle.noc_theory.specs.Good.{IsGoodSetup}
 use Rattle.noc_net.proofs.PartsLemmas.{parts-in_step, views-in_step, wires-in_step}
 use Rattle.noc_theory.specs.declared.limits.TheConstants.{CYCLE_LIMIT}
-use Rattle.noc_net.specs.Lockstep.{lockstep_at}
+use Rattle.noc_theory.specs.Lockstep.{lockstep_at}
 use Rattle.noc_net.specs.Parts.{AreParts, setup_in}
 use Rattle.noc_net.specs.declared.parts.Parts.{Parts}
 use Rattle.noc_tiles.specs.Partition.{InFlight}

@@ -9,8 +9,8 @@ use Rattle.noc_route.specs.Routes.{Routes}
 use Rattle.noc_router.specs.View.{View, local_step, idle_beat}
 use Rattle.noc_router.specs.declared.verdict.Findings.{Findings}
 use Rattle.noc_router.specs.declared.verdict.Findings.TheVariants.{Record}
-use Rattle.noc_net.specs.Halves.{beat_at}
-use Rattle.noc_net.specs.Unseen.{AreSameViews, without_findings}
+use Rattle.noc_theory.specs.Halves.{beat_at}
+use Rattle.noc_theory.specs.Unseen.{AreSameViews, without_findings}
 use Rattle.noc_theory.proofs.runs.UnseenLemmas.{findings-local_step, same-unseen}
 use Rattle.noc_tiles.specs.RingEnd.{WireEnd}
 use Rattle.noc_tiles.specs.TileStep.{Layout, TileState, ends_after_beats, ends_after_rows, arrival_places, with_row, beats_arriving, steps, after_steps, put_by, tile_after_cycle, put_in, after, beats_put}

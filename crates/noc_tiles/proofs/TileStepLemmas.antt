@@ -5,7 +5,7 @@ use Rattle.std.proofs.lemmas.Bool.Decides.{eqb_tells}
 use Rattle.std.proofs.lemmas.List.{set-get_or, length-map, get_or-map, map-set, get_or-set_same, get_or-set_other}
 use Rattle.noc_packet.specs.declared.packet.Beat.{Beat}
 use Rattle.noc_router.specs.View.{idle_beat}
-use Rattle.noc_net.specs.Halves.{beat_at}
+use Rattle.noc_theory.specs.Halves.{beat_at}
 use Rattle.noc_tiles.specs.RingEnd.{WireEnd, Ring, end_after_beat}
 use Rattle.noc_tiles.specs.TileStep.{names, ends_after_beats, arrival_places, with_row, with_beat, Beats}
 use Rattle.noc_tiles.specs.Tiles.{AreLinkPorts}

@@ -7,9 +7,9 @@ use Rattle.noc_topo.specs.Shape.{IsGrid, neighbour, nodes}
 use Rattle.noc_topo.proofs.LinkLemmas.{link_back}
 use Rattle.noc_packet.specs.declared.packet.Beat.{Beat}
 use Rattle.noc_router.specs.View.{View, idle_beat}
-use Rattle.noc_net.specs.Halves.{beat_at}
-use Rattle.noc_net.specs.Lockstep.{lockstep_at}
-use Rattle.noc_net.specs.Network.{Setup}
+use Rattle.noc_theory.specs.Halves.{beat_at}
+use Rattle.noc_theory.specs.Lockstep.{lockstep_at}
+use Rattle.noc_theory.specs.Network.{Setup}
 use Rattle.noc_tiles.specs.Ends.{End}
 use Rattle.noc_tiles.specs.TileStep.{is_own, is_from, is_inside, arrival_places}
 use Rattle.noc_tiles.specs.Tiles.{PartsFit, inlets, outlets}

@@ -1,7 +1,7 @@
 -- The ends of all wires between tiles, back in one thread.
 use Rattle.std.specs.Prelude.{ℕ, ◌≡◌, ◌≢◌, ◌⊎◌, ◌+◌, ◌<◌, List, [], ◌∷◌, ◌++◌, length, get_or}
 use Rattle.noc_packet.specs.declared.packet.Beat.{Beat}
-use Rattle.noc_net.specs.Halves.{beat_at}
+use Rattle.noc_theory.specs.Halves.{beat_at}
 use Rattle.noc_tiles.specs.Ends.{End}
 
 -- the two ends of one ring, which holds one beat

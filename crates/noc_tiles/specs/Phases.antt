@@ -5,7 +5,7 @@ use Rattle.noc_topo.specs.Words.{map_indexed}
 use Rattle.noc_packet.specs.declared.packet.Beat.{Beat}
 use Rattle.noc_route.specs.Routes.{Routes}
 use Rattle.noc_router.specs.View.{View, IsRelationOf, view_after_takes, idle_beat}
-use Rattle.noc_net.specs.Halves.{IsLinked, beat_at}
+use Rattle.noc_theory.specs.Halves.{IsLinked, beat_at}
 use Rattle.noc_tiles.specs.TileStep.{beats_arriving, ends_after_beats, arrival_places, is_own}
 use Rattle.noc_tiles.specs.Tiles.{IsSameTile, inlets, outlets, layout_of, state_of}
 use Rattle.noc_tiles.specs.declared.tile.Tile.{Tile}

@@ -2,7 +2,7 @@
 use Rattle.std.specs.Prelude.{ℕ, true, false, ◌≡◌, ◌⊎◌, ◌+◌, ◌*◌, ◌/◌, ◌%◌, ◌<◌, ◌≤◌, List, [], ◌∷◌, map, length, get_or, Option, Some, None, option_map, is_some, slice_set}
 use Rattle.noc_topo.specs.Shape.{Grid, nodes, neighbour}
 use Rattle.noc_packet.specs.declared.packet.Beat.{Beat}
-use Rattle.noc_net.specs.Halves.{beat_at}
+use Rattle.noc_theory.specs.Halves.{beat_at}
 use Rattle.noc_tiles.specs.Ends.{End, inlet, outlet}
 use Rattle.noc_tiles.specs.Starts.{AreApart}
 use Rattle.noc_tiles.specs.TileStep.{is_own, is_from, is_inside}

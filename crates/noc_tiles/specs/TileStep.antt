@@ -5,7 +5,7 @@ use Rattle.noc_topo.specs.Shape.{local_port, neighbour}
 use Rattle.noc_packet.specs.declared.packet.Beat.{Beat}
 use Rattle.noc_route.specs.Routes.{Routes}
 use Rattle.noc_router.specs.View.{View, local_step, idle_beat}
-use Rattle.noc_net.specs.Halves.{beat_at}
+use Rattle.noc_theory.specs.Halves.{beat_at}
 use Rattle.noc_tiles.specs.RingEnd.{WireEnd, Ring, end_after_beat}
 
 module _ {A : Type 0} where

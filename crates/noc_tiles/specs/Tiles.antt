@@ -5,8 +5,8 @@ use Rattle.noc_packet.specs.declared.packet.Beat.{Beat}
 use Rattle.noc_route.specs.Routes.{Routes}
 use Rattle.noc_router.specs.declared.verdict.Findings.{Findings}
 use Rattle.noc_router.specs.View.{View, idle_beat}
-use Rattle.noc_net.specs.Halves.{HasItsBeats, beat_at}
-use Rattle.noc_net.specs.Unseen.{AreSameViews}
+use Rattle.noc_theory.specs.Halves.{HasItsBeats, beat_at}
+use Rattle.noc_theory.specs.Unseen.{AreSameViews}
 use Rattle.noc_tiles.specs.Ends.{End, inlet, outlet}
 use Rattle.noc_tiles.specs.TileStep.{Layout, TileState, arrival_places, is_own, is_from, ends_after_beats, ends_after_rows, steps, after_steps, put_by, after, beats_put}
 use Rattle.noc_tiles.specs.declared.tile.Tile.{Tile}

@@ -7,7 +7,7 @@
 ghost use Rattle.std.specs.Prelude.{ℕ, ◌≡◌, ◌<◌};
 ghost use Rattle.noc_topo.specs.Shape.{nodes as nodes_of, neighbour as neighbour_of};
 ghost use Rattle.noc_router.specs.Finish.{view_after_finish};
-ghost use Rattle.noc_net.specs.Halves.{beat_at, view_after_puts, wire_after_puts};
+ghost use Rattle.noc_theory.specs.Halves.{beat_at, view_after_puts, wire_after_puts};
 ghost use Rattle.noc_tiles.specs.Inner.{CanFinish, HaveFinished, RouterCanFinish};
 
 use crate::tile::Tile;

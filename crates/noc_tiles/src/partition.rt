@@ -5,7 +5,7 @@
 //! carries beats for networks and tiles.
 
 ghost use Rattle.std.specs.Prelude.{ℕ, List, Option, ◌≡◌, ◌+◌, ◌<◌, ◌≤◌, length, vec_len, IfOk};
-ghost use Rattle.noc_net.specs.Halves.{beat_at};
+ghost use Rattle.noc_theory.specs.Halves.{beat_at};
 ghost use Rattle.noc_tiles.specs.Ends.{End};
 ghost use Rattle.noc_tiles.specs.Partition.{AreCut, CanCut, IsTileOf, IsToCut, IsUncut, own_beat};
 

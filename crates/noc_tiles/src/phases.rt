@@ -4,8 +4,8 @@ ghost use Rattle.std.specs.Prelude.{ℕ, List, ◌≡◌, ◌+◌, true, map, le
 ghost use Rattle.noc_topo.specs.Words.{map_indexed};
 ghost use Rattle.noc_packet.specs.declared.packet.Beat.{Beat as beat_value};
 ghost use Rattle.noc_router.specs.View.{idle_beat, view_after_takes};
-ghost use Rattle.noc_net.specs.Halves.{beat_at, incoming};
-ghost use Rattle.noc_net.specs.Lockstep.{beats_at};
+ghost use Rattle.noc_theory.specs.Halves.{beat_at, incoming};
+ghost use Rattle.noc_theory.specs.Lockstep.{beats_at};
 ghost use Rattle.noc_tiles.specs.Ends.{inlet, outlet};
 ghost use Rattle.noc_tiles.specs.Phases.{CanTake, IsCleared, KeepsTile, TileHasSent, TileHasTaken};
 ghost use Rattle.noc_tiles.specs.TileStep.{ends_after_beats, with_row, names, arrival_places};

@@ -1,7 +1,7 @@
 //! The table of the beats on a tile's wires, by the router and the link port where they arrive.
 
 ghost use Rattle.std.specs.Prelude.{ℕ, ◌≡◌, ◌<◌, length};
-ghost use Rattle.noc_net.specs.Halves.{beat_at};
+ghost use Rattle.noc_theory.specs.Halves.{beat_at};
 ghost use Rattle.noc_tiles.specs.TileStep.{with_beat};
 
 use noc_packet::Beat;

@@ -1,5 +1,5 @@
 use Rattle.std.proofs.Common.{ap, ◌∙◌}
-use Rattle.noc_net.specs.Network.{Run}
+use Rattle.noc_theory.specs.Network.{Run}
 use Rattle.noc_answers.proofs.DrainLemmas.{goes-on, goes-to}
 use Rattle.noc_answers.proofs.drain.run_on.Goals as goal
 

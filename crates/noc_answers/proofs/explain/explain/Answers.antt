@@ -1,6 +1,6 @@
 use Rattle.std.proofs.Common.{◌≡◌, ◌+◌, ap, arith, refl, subst, sym}
 use Rattle.std.proofs.lemmas.Result.{err_from_is_err_and}
-use Rattle.noc_net.specs.Network.{Run}
+use Rattle.noc_theory.specs.Network.{Run}
 use Rattle.noc_answers.specs.Answer.{findings}
 use Rattle.noc_answers.specs.Asked.{lent_files}
 use Rattle.noc_answers.specs.Drain.{RunsTo}

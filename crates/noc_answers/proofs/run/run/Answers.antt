@@ -22,6 +22,6 @@ returns g c =
     let net = c.run_to_end.new.network in
     let opened = c.in_ok-network.ensures.network in
     let asks : AsksForRun a net =
-        ran-report a c.args.report c.args.drain c.in_ok-network.network net opened.0 c.in_ok-network.cycles c.requires.report c.requires.drain opened.1 c.run_to_end.ensures.net c.run_to_end.ensures.end in
+    ran-report a c.args.report c.args.drain c.in_ok-network.network net opened.0 c.in_ok-network.cycles c.requires.report c.requires.drain opened.1 c.run_to_end.ensures.net c.run_to_end.ensures.end in
     answered g.W.Sink.contents g.W.Sink.has_failed c.args.sink.now c.write_report.new.sink a _ (ending net) c.write_report.result c.ended.result
     (a_report c.requires.report asks) c.write_report.ensures (rw (← c.ending.ensures) c.ended.ensures)

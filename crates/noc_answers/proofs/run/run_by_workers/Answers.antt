@@ -1,6 +1,6 @@
 use Rattle.std.proofs.Common.{◌<◌, refl, rules, subst, sym}
 use Rattle.std.proofs.lemmas.Result.{err_from_is_err_and}
-use Rattle.noc_net.specs.Network.{Run}
+use Rattle.noc_theory.specs.Network.{Run}
 use Rattle.noc_answers.specs.Asked.{lent_files}
 use Rattle.noc_answers.specs.Answer.{a_report}
 use Rattle.noc_answers.specs.Ending.{at_fault, unstarted}
@@ -34,6 +34,6 @@ returns-in-Ok g c =
     let net = c.in-Ok.network in
     let opened = c.in_ok-network.ensures.network in
     let asks : AsksForRun a net =
-        ran-report a c.args.report c.args.drain c.in_ok-network.network net opened.0 c.in_ok-network.cycles c.requires.report c.requires.drain opened.1 c.in-Ok.ensures.net c.in-Ok.ensures.end in
+    ran-report a c.args.report c.args.drain c.in_ok-network.network net opened.0 c.in_ok-network.cycles c.requires.report c.requires.drain opened.1 c.in-Ok.ensures.net c.in-Ok.ensures.end in
     answered g.W.Sink.contents g.W.Sink.has_failed c.args.sink.now c.write_report.new.sink a _ (ending net) c.write_report.result c.ended.result
     (a_report c.requires.report asks) c.write_report.ensures (rw (← c.ending.ensures) c.ended.ensures)

@@ -1,6 +1,6 @@
 use Rattle.std.proofs.Common.{◌≡◌, ◌+◌, ◌-◌, ap, ap₂, arith, length, None, refl, subst, sym}
 use Rattle.std.proofs.lemmas.Result.{err_from_is_err_and}
-use Rattle.noc_net.specs.Network.{Run, Setup}
+use Rattle.noc_theory.specs.Network.{Run, Setup}
 use Rattle.noc_files.specs.Trace.{trace_text}
 use Rattle.noc_files.specs.Writing.{Wrote}
 use Rattle.noc_answers.specs.Asked.{lent_files}

@@ -1,5 +1,5 @@
 use Rattle.std.proofs.Common.{◌≡◌, ◌+◌, ◌*◌, ℕ, sum}
-use Rattle.noc_net.specs.Network.{Run}
+use Rattle.noc_theory.specs.Network.{Run}
 use Rattle.noc_theory.proofs.join.CoreOpeningLemmas.{counts-sum}
 use Rattle.noc_files.specs.Stalls.{channel_counts}
 use Rattle.noc_files.proofs.stalls.the_counts_of_a_line_add_up.Goals as goal

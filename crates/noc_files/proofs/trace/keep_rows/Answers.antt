@@ -3,8 +3,8 @@ use Rattle.std.specs.Prelude.{slice_get}
 use Rattle.std.proofs.lemmas.Bool.{cases_eq}
 use Rattle.std.proofs.lemmas.List.{length-set}
 use Rattle.noc_router.specs.declared.verdict.Finding.{Finding}
-use Rattle.noc_net.specs.Lockstep.{findings_before}
-use Rattle.noc_net.specs.Network.{size}
+use Rattle.noc_theory.specs.Lockstep.{findings_before}
+use Rattle.noc_theory.specs.Network.{size}
 use Rattle.noc_files.specs.Trace.{AreRows}
 use Rattle.noc_files.proofs.TraceCycleLemmas.{length-before, seen_before, seen_here, seen_there}
 use Rattle.noc_files.proofs.trace.keep_rows.Goals as goal

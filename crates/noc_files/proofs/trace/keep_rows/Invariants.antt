@@ -1,7 +1,7 @@
 use Rattle.std.proofs.Common.{◌≡◌, ◌<◌, ℕ, Some, length, map}
 use Rattle.std.specs.Prelude.{slice_get}
-use Rattle.noc_net.specs.Lockstep.{findings_before}
-use Rattle.noc_net.specs.Network.{size}
+use Rattle.noc_theory.specs.Lockstep.{findings_before}
+use Rattle.noc_theory.specs.Network.{size}
 use Rattle.noc_files.specs.Trace.{AreRows}
 use Rattle.noc_files.proofs.trace.keep_rows.Given as goal
 

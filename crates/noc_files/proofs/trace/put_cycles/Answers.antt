@@ -3,8 +3,8 @@ use Rattle.std.specs.Prelude.{slice_get}
 use Rattle.std.specs.Io.KnownBytes.{Appends}
 use Rattle.std.proofs.lemmas.Result.{err_from_is_err_and}
 use Rattle.noc_topo.specs.Words.{below}
-use Rattle.noc_net.specs.Lockstep.{findings_before}
-use Rattle.noc_net.specs.Network.{Run, Setup}
+use Rattle.noc_theory.specs.Lockstep.{findings_before}
+use Rattle.noc_theory.specs.Network.{Run, Setup}
 use Rattle.noc_files.specs.Trace.{cycle_text, trace_header}
 use Rattle.noc_files.specs.Writing.{Wrote}
 use Rattle.noc_files.proofs.BelowLemmas.{fault_at_number, long_more, took_more}

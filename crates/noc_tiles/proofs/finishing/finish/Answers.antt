@@ -1,7 +1,7 @@
 use Rattle.std.proofs.Common.{◌<◌, Some, ap, subst, sym, ◌∙◌}
 use Rattle.noc_topo.specs.Shape.{neighbour, nodes}
 use Rattle.noc_router.specs.View.{Site, View}
-use Rattle.noc_net.specs.Halves.{HasItsBeats, beat_at, view_after_puts, wire_after_puts}
+use Rattle.noc_theory.specs.Halves.{HasItsBeats, beat_at, view_after_puts, wire_after_puts}
 use Rattle.noc_tiles.proofs.FinishLemmas.{finish-placed, finish-site}
 use Rattle.noc_tiles.proofs.finishing.finish.Goals as goal
 

@@ -4,7 +4,7 @@ use Rattle.std.proofs.lemmas.List.{with_items_is}
 use Rattle.noc_topo.specs.Shape.{neighbour}
 use Rattle.noc_packet.specs.declared.packet.Beat.{Beat}
 use Rattle.noc_router.specs.Finish.{view_after_finish}
-use Rattle.noc_net.specs.Halves.{beat_at, wire_after_puts}
+use Rattle.noc_theory.specs.Halves.{beat_at, wire_after_puts}
 use Rattle.noc_tiles.specs.Inner.{HaveFinished}
 use Rattle.noc_tiles.proofs.FinishLemmas.{finished-none, finished-more, next-built, next-node, next-idle}
 use Rattle.noc_tiles.proofs.finishing.finish_some.Goals as goal

@@ -1,7 +1,7 @@
 use Rattle.std.proofs.Common.{ℕ, ◌≡◌, ◌<◌, [], ◌∷◌, ◌++◌, map, take, drop, length, get_or, set, sym, ◌∙◌, ap, arith, refl, rules}
 use Rattle.std.proofs.lemmas.List.{length-map, length-take-le, take_more, take_at, take_all, get_or-map, length-set}
 use Rattle.noc_router.specs.View.{idle_beat}
-use Rattle.noc_net.specs.Halves.{beat_at}
+use Rattle.noc_theory.specs.Halves.{beat_at}
 use Rattle.noc_tiles.specs.Ends.{End, outlet}
 use Rattle.noc_tiles.specs.TileStep.{ends_after_beats, arrival_places, names}
 use Rattle.noc_tiles.proofs.TileStepLemmas.{names-fed, names-set, fed-nil, place-at, within-at, one-more}

@@ -1,6 +1,6 @@
 use Rattle.std.proofs.Common.{ℕ, ◌≡◌, ◌+◌, ◌<◌, [], ◌∷◌, ◌++◌, map, length, get_or, set, drop, sym, ◌∙◌, ap, arith, refl, rules}
 use Rattle.std.proofs.lemmas.List.{length_push, length-map, take_at, length-set}
-use Rattle.noc_net.specs.Halves.{beat_at}
+use Rattle.noc_theory.specs.Halves.{beat_at}
 use Rattle.noc_tiles.specs.Ends.{End, inlet}
 use Rattle.noc_tiles.specs.TileStep.{arrival_places, with_row, names}
 use Rattle.noc_tiles.proofs.TileStepLemmas.{names-fed, names-set, fed-nil, filled-nil, length-same, place-at, within-at, one-more, filled-more, with_beat-same}

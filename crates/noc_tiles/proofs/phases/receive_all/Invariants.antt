@@ -1,6 +1,6 @@
 use Rattle.std.proofs.Common.{ℕ, List, ◌≡◌, map, length}
 use Rattle.noc_packet.specs.declared.packet.Beat.{Beat}
-use Rattle.noc_net.specs.Halves.{beat_at}
+use Rattle.noc_theory.specs.Halves.{beat_at}
 use Rattle.noc_tiles.specs.Ends.{inlet}
 use Rattle.noc_tiles.specs.TileStep.{ends_after_beats, with_row, arrival_places}
 use Rattle.noc_tiles.proofs.phases.receive_all.Given as goal

@@ -5,7 +5,7 @@ use Rattle.std.proofs.lemmas.List.{with_items_is, length-map}
 use Rattle.noc_topo.specs.Words.{map_indexed}
 use Rattle.noc_packet.specs.declared.packet.Beat.{Beat}
 use Rattle.noc_router.specs.View.{View, IsRelationOf, view_after_takes}
-use Rattle.noc_net.specs.Halves.{IsLinked, beat_at, incoming}
+use Rattle.noc_theory.specs.Halves.{IsLinked, beat_at, incoming}
 use Rattle.noc_tiles.specs.Ends.{inlet}
 use Rattle.noc_tiles.specs.TileStep.{arrival_places, is_own}
 use Rattle.noc_tiles.specs.Tiles.{inlets, outlets}

@@ -2,7 +2,7 @@ use Rattle.std.proofs.Common.{◌≡◌, ◌⊎◌, inl, inr, ℕ, ◌+◌, ◌<
 use Rattle.std.proofs.lemmas.Bool.{cases_lt}
 use Rattle.noc_packet.specs.declared.packet.Beat.{Beat}
 use Rattle.noc_router.specs.View.{View, idle_beat, view_after_takes}
-use Rattle.noc_net.specs.Halves.{beat_at, incoming}
+use Rattle.noc_theory.specs.Halves.{beat_at, incoming}
 use Rattle.noc_theory.proofs.runs.ListLemmas.{IsDoneTo, done_all}
 use Rattle.noc_tiles.proofs.SentLemmas.{own-false}
 use Rattle.noc_tiles.proofs.phases.take_all.Goals as goal

@@ -1,5 +1,5 @@
 use Rattle.std.proofs.Common.{rules, arith, ap}
-use Rattle.noc_net.specs.Network.{Run}
+use Rattle.noc_theory.specs.Network.{Run}
 use Rattle.noc_tiles.specs.Partition.{IsToCut}
 use Rattle.noc_tiles.specs.declared.kept.Kept.{Kept}
 use Rattle.noc_tiles.proofs.PartsLemmas.{parts-beats, parts-flight, parts-views}
