@@ -5,6 +5,26 @@ use noc_topo::Kind;
 use std::alloc::Global;
 use std::test::Fail;
 
+// The first lines of a configuration.
+const LINES: [&[u8]; 6] = [
+    b"kind = \"mesh\"\n",
+    b"radix = [2]\n",
+    b"channels = 1\n",
+    b"buffer = 1\n",
+    b"classes = 1\n",
+    b"rule = \"dor\"\n",
+];
+
+// The cycles of a configuration of so many of these lines, and one more.
+fn cycles_after(alloc: Global, lines: usize, last: &[u8]) -> Result<u64, InputFault> {
+    let mut text = Vec::new(alloc);
+    for line in LINES.iter().take(lines) {
+        text.extend_from_slice(line)?;
+    }
+    text.extend_from_slice(last)?;
+    cycles(alloc, &text)
+}
+
 // The cycles of a configuration.
 fn cycles(alloc: Global, text: &[u8]) -> Result<u64, InputFault> {
     let config = read_config(alloc, text)?;
@@ -24,13 +44,9 @@ fn a_configuration_with_every_key(rt: HostRuntime) -> Result<(), Fail> {
         rule,
         cycles,
     } = read_config(rt.alloc(), text)?;
-    assert_eq!(rt; kind, Kind::Torus);
     assert_eq!(rt; radix.as_slice(), [2, 0, 1000].as_slice());
-    assert_eq!(rt; channels, 4);
-    assert_eq!(rt; buffer, 16);
-    assert_eq!(rt; classes, 3);
-    assert_eq!(rt; rule, RuleName::WestFirst);
-    assert_eq!(rt; cycles, 2_000_000);
+    assert_eq!(rt; (kind, rule), (Kind::Torus, RuleName::WestFirst));
+    assert_eq!(rt; (channels, buffer, classes, cycles), (4, 16, 3, 2_000_000));
     Ok(())
 }
 
@@ -67,29 +83,37 @@ fn texts_that_are_no_document(rt: HostRuntime) -> Result<(), Fail> {
 #[test]
 fn keys_that_are_missing_or_unknown(rt: HostRuntime) -> Result<(), Fail> {
     let a = rt.alloc();
-    for (text, fault) in [
-        (b"".as_slice(), InputFault::MissingKey(Key::Kind)),
+    for (lines, last, fault) in [
+        (0, b"".as_slice(), InputFault::MissingKey(Key::Kind)),
         (
+            0,
             b"\xEF\xBB\xBF".as_slice(),
             InputFault::MissingKey(Key::Kind),
         ),
-        (b"kind = 1\nkinds = 2".as_slice(), InputFault::UnknownKey),
-        (b"Kind = \"mesh\"".as_slice(), InputFault::UnknownKey),
-        (b"cycles = 0".as_slice(), InputFault::MissingKey(Key::Kind)),
+        (0, b"kind = 1\nkinds = 2".as_slice(), InputFault::UnknownKey),
+        (0, b"Kind = \"mesh\"".as_slice(), InputFault::UnknownKey),
         (
-            b"kind = \"mesh\"\ncycles = 0".as_slice(),
+            0,
+            b"cycles = 0".as_slice(),
+            InputFault::MissingKey(Key::Kind),
+        ),
+        (
+            1,
+            b"cycles = 0".as_slice(),
             InputFault::MissingKey(Key::Radix),
         ),
         (
-            b"kind = \"mesh\"\nradix = [2]\nbuffer = 0".as_slice(),
+            2,
+            b"buffer = 0".as_slice(),
             InputFault::MissingKey(Key::Channels),
         ),
         (
-            b"kind = \"mesh\"\nradix = [2]\nchannels = 1\nbuffer = 1\nclasses = 1\nrule = \"dor\"".as_slice(),
+            5,
+            b"rule = \"dor\"".as_slice(),
             InputFault::MissingKey(Key::Cycles),
         ),
     ] {
-        assert_eq!(rt; cycles(a, text), Err(fault));
+        assert_eq!(rt; cycles_after(a, lines, last), Err(fault));
     }
     Ok(())
 }
@@ -97,81 +121,44 @@ fn keys_that_are_missing_or_unknown(rt: HostRuntime) -> Result<(), Fail> {
 #[test]
 fn values_of_another_type(rt: HostRuntime) -> Result<(), Fail> {
     let a = rt.alloc();
-    for (text, key) in [
-        (b"kind = 1".as_slice(), Key::Kind),
-        (b"kind.x = 1".as_slice(), Key::Kind),
-        (b"[kind]".as_slice(), Key::Kind),
-        (b"kind = \"mesh\"\nradix = 2".as_slice(), Key::Radix),
-        (
-            b"kind = \"mesh\"\nradix = [2000, 1.5]".as_slice(),
-            Key::Radix,
-        ),
-        (b"kind = \"mesh\"\nradix = [[2]]".as_slice(), Key::Radix),
-        (
-            b"kind = \"mesh\"\nradix = [2]\nchannels = 1.0".as_slice(),
-            Key::Channels,
-        ),
-        (
-            b"kind = \"mesh\"\nradix = [2]\nchannels = \"1\"".as_slice(),
-            Key::Channels,
-        ),
+    for (lines, last, key) in [
+        (0, b"kind = 1".as_slice(), Key::Kind),
+        (0, b"kind.x = 1".as_slice(), Key::Kind),
+        (0, b"[kind]".as_slice(), Key::Kind),
+        (1, b"radix = 2".as_slice(), Key::Radix),
+        (1, b"radix = [2000, 1.5]".as_slice(), Key::Radix),
+        (1, b"radix = [[2]]".as_slice(), Key::Radix),
+        (2, b"channels = 1.0".as_slice(), Key::Channels),
+        (2, b"channels = \"1\"".as_slice(), Key::Channels),
     ] {
-        assert_eq!(rt; cycles(a, text), Err(InputFault::WrongType(key)));
+        assert_eq!(rt;
+            cycles_after(a, lines, last),
+            Err(InputFault::WrongType(key))
+        );
     }
     Ok(())
 }
 
 #[test]
-fn words_and_radices_out_of_range(rt: HostRuntime) -> Result<(), Fail> {
+fn words_and_numbers_out_of_range(rt: HostRuntime) -> Result<(), Fail> {
     let a = rt.alloc();
-    for (text, key) in [
-        (b"kind = \"Mesh\"".as_slice(), Key::Kind),
-        (b"kind = \"\"".as_slice(), Key::Kind),
-        (
-            b"kind = \"mesh\"\nradix = [2000, -1]".as_slice(),
-            Key::Radix,
-        ),
-        (b"kind = \"mesh\"\nradix = [2, 1001]".as_slice(), Key::Radix),
+    for (lines, last, key) in [
+        (0, b"kind = \"Mesh\"".as_slice(), Key::Kind),
+        (0, b"kind = \"\"".as_slice(), Key::Kind),
+        (1, b"radix = [2000, -1]".as_slice(), Key::Radix),
+        (1, b"radix = [2, 1001]".as_slice(), Key::Radix),
+        (2, b"channels = 9".as_slice(), Key::Channels),
+        (2, b"channels = 0".as_slice(), Key::Channels),
+        (2, b"channels = -1".as_slice(), Key::Channels),
+        (3, b"buffer = 17".as_slice(), Key::Buffer),
+        (4, b"classes = 5".as_slice(), Key::Classes),
+        (5, b"rule = \"odd-even\"".as_slice(), Key::Rule),
+        (6, b"cycles = 2000001".as_slice(), Key::Cycles),
     ] {
-        assert_eq!(rt; cycles(a, text), Err(InputFault::BadValue(key)));
-    }
-    Ok(())
-}
-
-#[test]
-fn numbers_out_of_range(rt: HostRuntime) -> Result<(), Fail> {
-    let a = rt.alloc();
-    for (text, key) in [
-        (
-            b"kind = \"mesh\"\nradix = [2]\nchannels = 9".as_slice(),
-            Key::Channels,
-        ),
-        (
-            b"kind = \"mesh\"\nradix = [2]\nchannels = 0".as_slice(),
-            Key::Channels,
-        ),
-        (
-            b"kind = \"mesh\"\nradix = [2]\nchannels = -1".as_slice(),
-            Key::Channels,
-        ),
-        (
-            b"kind = \"mesh\"\nradix = [2]\nchannels = 1\nbuffer = 17".as_slice(),
-            Key::Buffer,
-        ),
-        (
-            b"kind = \"mesh\"\nradix = [2]\nchannels = 1\nbuffer = 1\nclasses = 5".as_slice(),
-            Key::Classes,
-        ),
-        (
-            b"kind = \"mesh\"\nradix = [2]\nchannels = 1\nbuffer = 1\nclasses = 1\nrule = \"odd-even\"".as_slice(),
-            Key::Rule,
-        ),
-        (
-            b"kind = \"mesh\"\nradix = [2]\nchannels = 1\nbuffer = 1\nclasses = 1\nrule = \"dor\"\ncycles = 2000001".as_slice(),
-            Key::Cycles,
-        ),
-    ] {
-        assert_eq!(rt; cycles(a, text), Err(InputFault::BadValue(key)));
+        assert_eq!(rt;
+            cycles_after(a, lines, last),
+            Err(InputFault::BadValue(key))
+        );
     }
     Ok(())
 }

@@ -63,7 +63,7 @@ fn bytes_one_by_one_up_to_the_limit(rt: HostRuntime) -> Result<(), Fail> {
     };
     let bytes = read_all(rt.alloc(), &mut reader, 10)?;
     assert_eq!(rt; bytes.as_slice(), b"0123456789".as_slice());
-    assert_eq!(rt; reader.reads, 11);
+    assert!(rt; reader.reads == 11);
     Ok(())
 }
 
@@ -77,13 +77,13 @@ fn one_byte_above_the_limit(rt: HostRuntime) {
         read_all(rt.alloc(), &mut reader, 10).err(),
         Some(InputFault::TooLong)
     );
-    assert_eq!(rt; reader.reads, 11);
+    assert!(rt; reader.reads == 11);
     let mut none = Drip {
         rest: b"",
         reads: 0,
     };
     assert!(rt; read_all(rt.alloc(), &mut none, 0).is_ok());
-    assert_eq!(rt; none.reads, 1);
+    assert!(rt; none.reads == 1);
 }
 
 #[test]
@@ -94,20 +94,18 @@ fn a_reader_that_fails_is_read_no_more(rt: HostRuntime) {
             read_all(rt.alloc(), &mut reader, 10).err(),
             Some(InputFault::ReadFailed)
         );
-        assert_eq!(rt; reader.reads, fails_at);
+        assert!(rt; reader.reads == fails_at);
     }
 }
 
 #[test]
 fn a_reader_without_an_end(rt: HostRuntime) {
-    assert_eq!(rt;
-        read_all(rt.alloc(), &mut Endless, 10).err(),
-        Some(InputFault::TooLong)
-    );
-    assert_eq!(rt;
-        read_all(rt.alloc(), &mut Endless, 10_000).err(),
-        Some(InputFault::TooLong)
-    );
+    for limit in [10, 10_000] {
+        assert_eq!(rt;
+            read_all(rt.alloc(), &mut Endless, limit).err(),
+            Some(InputFault::TooLong)
+        );
+    }
 }
 
 #[test]
@@ -122,18 +120,21 @@ fn more_bytes_than_one_read_gives(rt: HostRuntime) -> Result<(), Fail> {
 
 #[test]
 fn a_joined_text_is_split_at_its_first_line_of_dashes(rt: HostRuntime) {
-    assert_eq!(rt;
-        split_joined(b"a = 1\n---\nb\n---\n"),
-        Some((b"a = 1\n".as_slice(), b"b\n---\n".as_slice()))
-    );
-    assert_eq!(rt;
-        split_joined(b"---\r\nb"),
-        Some((b"".as_slice(), b"b".as_slice()))
-    );
-    assert_eq!(rt;
-        split_joined(b"a\n----\n---\n"),
-        Some((b"a\n----\n".as_slice(), b"".as_slice()))
-    );
+    for (text, first, second) in [
+        (
+            b"a = 1\n---\nb\n---\n".as_slice(),
+            b"a = 1\n".as_slice(),
+            b"b\n---\n".as_slice(),
+        ),
+        (b"---\r\nb".as_slice(), b"".as_slice(), b"b".as_slice()),
+        (
+            b"a\n----\n---\n".as_slice(),
+            b"a\n----\n".as_slice(),
+            b"".as_slice(),
+        ),
+    ] {
+        assert_eq!(rt; split_joined(text), Some((first, second)));
+    }
     for text in [
         b"".as_slice(),
         b"a\n---".as_slice(),

@@ -9,8 +9,6 @@ mod cycles;
 #[cfg(test)]
 mod inputs;
 #[cfg(test)]
-mod networks;
-#[cfg(test)]
 mod rank_files;
 #[cfg(test)]
 mod reports;
@@ -20,5 +18,7 @@ mod sinks;
 mod stuck;
 #[cfg(test)]
 mod table_files;
+#[cfg(test)]
+mod texts;
 #[cfg(test)]
 mod traffic_files;

@@ -3,6 +3,7 @@
 ghost use Rattle.std.specs.Prelude.{◌≡◌, ◌≤◌};
 ghost use Rattle.noc_packet.specs.declared.limits.TheConstants.{MAX_CHANNELS};
 
+use crate::texts::below;
 use noc_files::{InputFault, Out, WriteFault, read_ranks, write_ranks};
 use noc_rank::{RankRow, Ranks};
 use noc_route::Rule;
@@ -10,10 +11,18 @@ use noc_topo::{Kind, Shape};
 use std::alloc::Global;
 use std::test::Fail;
 
+const HEADER: &[u8] = b"router,port,vc,rank\n";
+
 // How many rows a text has.
 fn count(alloc: Global, shape: &Shape, text: &[u8]) -> Result<usize, InputFault> {
     let rows = read_ranks(alloc, shape, text)?;
     Ok(rows.len())
+}
+
+// How many rows the header with these lines below it has.
+fn count_below(alloc: Global, shape: &Shape, lines: &[u8]) -> Result<usize, InputFault> {
+    let text = below(alloc, HEADER, lines)?;
+    count(alloc, shape, &text)
 }
 
 // The rank file of some ranks.
@@ -91,23 +100,24 @@ fn rank_files_of_every_written_form(rt: HostRuntime) -> Result<(), Fail> {
 fn rank_files_with_another_header_or_count(rt: HostRuntime) -> Result<(), Fail> {
     let a = rt.alloc();
     let line = Shape::new(Kind::Mesh, &[2])?;
-    for (text, fault) in [
-        (b"".as_slice(), InputFault::BadHeader),
-        (b"\r\n".as_slice(), InputFault::BadHeader),
-        (b"0,+0,0,1\n".as_slice(), InputFault::BadHeader),
-        (b"router,port,vc\n".as_slice(), InputFault::BadHeader),
-        (b"router,port,vc,rank,\n".as_slice(), InputFault::BadHeader),
-        (b"router,vc,port,rank\n".as_slice(), InputFault::BadHeader),
-        (
-            b"router,port,vc,rank\n0,+0,0\n".as_slice(),
-            InputFault::BadCount { row: 0 },
-        ),
-        (
-            b"router,port,vc,rank\n0,+0,0,1\n0,+0,0,1,\n".as_slice(),
-            InputFault::BadCount { row: 1 },
-        ),
+    for text in [
+        b"".as_slice(),
+        b"\r\n".as_slice(),
+        b"0,+0,0,1\n".as_slice(),
+        b"router,port,vc\n".as_slice(),
+        b"router,port,vc,rank,\n".as_slice(),
+        b"router,vc,port,rank\n".as_slice(),
     ] {
-        assert_eq!(rt; count(a, &line, text), Err(fault));
+        assert_eq!(rt; count(a, &line, text), Err(InputFault::BadHeader));
+    }
+    for (lines, row) in [
+        (b"0,+0,0\n".as_slice(), 0),
+        (b"0,+0,0,1\n0,+0,0,1,\n".as_slice(), 1),
+    ] {
+        assert_eq!(rt;
+            count_below(a, &line, lines),
+            Err(InputFault::BadCount { row })
+        );
     }
     Ok(())
 }
@@ -116,49 +126,49 @@ fn rank_files_with_another_header_or_count(rt: HostRuntime) -> Result<(), Fail> 
 fn rank_files_with_bad_fields(rt: HostRuntime) -> Result<(), Fail> {
     let a = rt.alloc();
     let line = Shape::new(Kind::Mesh, &[2])?;
-    for (text, fault) in [
+    for (lines, fault) in [
         (
-            b"router,port,vc,rank\nx,+1,0,1\n".as_slice(),
+            b"x,+1,0,1\n".as_slice(),
             InputFault::BadNumber { row: 0, column: 0 },
         ),
         (
-            b"router,port,vc,rank\n0,+1,x,1\n".as_slice(),
+            b"0,+1,x,1\n".as_slice(),
             InputFault::BadPort { row: 0, column: 1 },
         ),
         (
-            b"router,port,vc,rank\n0,0,0,1\n".as_slice(),
+            b"0,0,0,1\n".as_slice(),
             InputFault::BadPort { row: 0, column: 1 },
         ),
         (
-            b"router,port,vc,rank\n0,+0,0,1\n0,+0,,1\n".as_slice(),
+            b"0,+0,0,1\n0,+0,,1\n".as_slice(),
             InputFault::BadNumber { row: 1, column: 2 },
         ),
         (
-            b"router,port,vc,rank\n0,+0,0,+1\n".as_slice(),
+            b"0,+0,0,+1\n".as_slice(),
             InputFault::BadNumber { row: 0, column: 3 },
         ),
         (
-            b"router,port,vc,rank\n0,+0,0,00000000001\n".as_slice(),
+            b"0,+0,0,00000000001\n".as_slice(),
             InputFault::BadNumber { row: 0, column: 3 },
         ),
         (
-            b"router,port,vc,rank\n0,+0,0,4294967296\n".as_slice(),
+            b"0,+0,0,4294967296\n".as_slice(),
             InputFault::BadNumber { row: 0, column: 3 },
         ),
         (
-            b"router,port,vc,rank\n0,+0,adaptive,1\n".as_slice(),
+            b"0,+0,adaptive,1\n".as_slice(),
             InputFault::BadNumber { row: 0, column: 2 },
         ),
         (
-            b"router,port,vc,rank\n0,+0,0,99999999999999999999\n".as_slice(),
+            b"0,+0,0,99999999999999999999\n".as_slice(),
             InputFault::BadNumber { row: 0, column: 3 },
         ),
         (
-            b"router,port,vc,rank\n0,+0,0,Adaptive\n".as_slice(),
+            b"0,+0,0,Adaptive\n".as_slice(),
             InputFault::BadNumber { row: 0, column: 3 },
         ),
     ] {
-        assert_eq!(rt; count(a, &line, text), Err(fault));
+        assert_eq!(rt; count_below(a, &line, lines), Err(fault));
     }
     Ok(())
 }

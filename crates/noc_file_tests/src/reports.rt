@@ -1,46 +1,15 @@
 //! Reports of worked networks, byte by byte.
 
-ghost use Rattle.std.specs.Prelude.{◌<◌, ◌≤◌};
-
-use crate::networks::{network, relation};
-use noc_files::{Out, read_table, write_findings, write_latency, write_stalls, write_summary};
+use crate::texts::{assert_latency, assert_stalls};
+use noc_files::{Out, read_table, write_findings, write_summary};
+use noc_fixtures::{
+    dateline_ring, line_of_three, line_of_two, network, packet, relation, stuck_ring,
+};
 use noc_net::Network;
-use noc_route::{Relation, Rule};
+use noc_route::Rule;
 use noc_topo::{Kind, Shape};
-use std::alloc::Global;
 use std::process::Abort;
 use std::test::Fail;
-
-// A network of this relation after so many cycles of this traffic.
-fn ran(
-    alloc: Global,
-    relation: Relation,
-    places: usize,
-    traffic: &[u8],
-    cycles: u64,
-) -> Result<Network, Fail>
-    requires some_place { 0 < places }
-    requires places { places ≤ 16 }
-    requires cycles { cycles ≤ 1000 }
-{
-    let mut network = network(alloc, relation, places, traffic)?;
-    network.run(cycles);
-    Ok(network)
-}
-
-// The latency report of a network is this text.
-fn assert_latency(rt: &(impl AllocGlobal + Abort), network: &Network, report: &[u8]) {
-    let mut out = Out::new(Vec::new(rt.alloc()));
-    assert_eq!(rt; write_latency(network, &mut out), Ok(()));
-    assert_eq!(rt; out.into_inner().as_slice(), report);
-}
-
-// The stall report of a network is this text.
-fn assert_stalls(rt: &(impl AllocGlobal + Abort), network: &Network, report: &[u8]) {
-    let mut out = Out::new(Vec::new(rt.alloc()));
-    assert_eq!(rt; write_stalls(network, &mut out), Ok(()));
-    assert_eq!(rt; out.into_inner().as_slice(), report);
-}
 
 // The summary of a network.
 fn summary(rt: &(impl AllocGlobal + Abort), network: &Network) -> Vec<u8> {
@@ -70,9 +39,8 @@ fn assert_findings(
 // Two nodes in a line, no packets, one cycle.
 #[test]
 fn a_network_without_packets(rt: HostRuntime) -> Result<(), Fail> {
-    let a = rt.alloc();
-    let relation = relation(a, Kind::Mesh, 2, 1, Rule::Dor)?;
-    let network = ran(a, relation, 2, b"source,destination,class,length,due\n", 1)?;
+    let mut network = line_of_two(rt.alloc(), 2, &[])?;
+    network.run(1);
     let report = b"packet,source,destination,class,length,due,out,latency\n";
     assert_latency(&rt, &network, report);
     let report =
@@ -109,10 +77,8 @@ lost_switch 0
 // One packet of one flit from one node of a line to the other, eight cycles.
 #[test]
 fn a_packet_over_one_link(rt: HostRuntime) -> Result<(), Fail> {
-    let a = rt.alloc();
-    let relation = relation(a, Kind::Mesh, 2, 1, Rule::Dor)?;
-    let traffic = b"source,destination,class,length,due\n0,1,0,1,0\n";
-    let network = ran(a, relation, 2, traffic, 8)?;
+    let mut network = line_of_two(rt.alloc(), 2, &[packet(0, 1, 1, 0)])?;
+    network.run(8);
     let report = b"packet,source,destination,class,length,due,out,latency\n0,0,1,0,1,0,5,5\n";
     assert_latency(&rt, &network, report);
     let report = b"cycles 8
@@ -141,10 +107,8 @@ lost_switch 0
 // Two packets to the end of a line of three nodes, twenty cycles.
 #[test]
 fn two_packets_to_one_node(rt: HostRuntime) -> Result<(), Fail> {
-    let a = rt.alloc();
-    let relation = relation(a, Kind::Mesh, 3, 1, Rule::Dor)?;
-    let traffic = b"source,destination,class,length,due\n0,2,0,1,0\n1,2,0,1,0\n";
-    let network = ran(a, relation, 2, traffic, 20)?;
+    let mut network = line_of_three(rt.alloc())?;
+    network.run(20);
     let report = b"packet,source,destination,class,length,due,out,latency
 0,0,2,0,1,0,10,10
 1,1,2,0,1,0,5,5
@@ -167,15 +131,8 @@ fn two_packets_to_one_node(rt: HostRuntime) -> Result<(), Fail> {
 // Four packets that wait for each other around a ring of four nodes, twenty cycles.
 #[test]
 fn packets_that_never_come_out(rt: HostRuntime) -> Result<(), Fail> {
-    let a = rt.alloc();
-    let relation = relation(a, Kind::Torus, 4, 1, Rule::Dor)?;
-    let traffic = b"source,destination,class,length,due
-0,2,0,4,0
-1,3,0,4,0
-2,0,0,4,0
-3,1,0,4,0
-";
-    let network = ran(a, relation, 1, traffic, 20)?;
+    let mut network = stuck_ring(rt.alloc())?;
+    network.run(20);
     let report = b"packet,source,destination,class,length,due,out,latency
 0,0,2,0,4,0,-,-
 1,1,3,0,4,0,-,-
@@ -225,15 +182,8 @@ lost_switch 0
 // Four packets around a ring with a dateline all come out, and the last event is the credit behind the last of them.
 #[test]
 fn a_ring_with_a_dateline_comes_to_rest(rt: HostRuntime) -> Result<(), Fail> {
-    let a = rt.alloc();
-    let relation = relation(a, Kind::Torus, 4, 2, Rule::Dateline)?;
-    let traffic = b"source,destination,class,length,due
-0,2,0,4,0
-1,3,0,4,0
-2,0,0,4,0
-3,1,0,4,0
-";
-    let network = ran(a, relation, 1, traffic, 60)?;
+    let mut network = dateline_ring(rt.alloc())?;
+    network.run(60);
     let top = b"cycles 60
 packets 4
 delivered 4
@@ -250,15 +200,8 @@ misfits 0
 // Four packets around a ring with two channels by resource class: what router 2 finds in cycle 5.
 #[test]
 fn findings_of_a_router(rt: HostRuntime) -> Result<(), Fail> {
-    let a = rt.alloc();
-    let relation = relation(a, Kind::Torus, 4, 2, Rule::Dateline)?;
-    let traffic = b"source,destination,class,length,due
-0,2,0,4,0
-1,3,0,4,0
-2,0,0,4,0
-3,1,0,4,0
-";
-    let network = ran(a, relation, 1, traffic, 6)?;
+    let mut network = dateline_ring(rt.alloc())?;
+    network.run(6);
     let report = b"port,vc,verdict,packet,out
 +0,0,Empty,-,-
 +0,1,Empty,-,-
@@ -274,7 +217,6 @@ local,1,Empty,-,-
 // A table of two nodes, before its first cycle.
 #[test]
 fn findings_before_the_first_cycle(rt: HostRuntime) -> Result<(), Fail> {
-    let a = rt.alloc();
     let line = Shape::new(Kind::Mesh, &[2])?;
     let table = b"class,router,in_port,in_vc,dst,out_port,out_vc
 0,0,local,0,1,+0,0
@@ -284,10 +226,9 @@ fn findings_before_the_first_cycle(rt: HostRuntime) -> Result<(), Fail> {
 0,1,-0,0,1,local,0
 0,0,+0,0,0,local,0
 ";
-    let rows = read_table(a, &line, table)?;
-    let relation = Relation::build(a, &line, 2, 1, Rule::Rows(rows))?;
-    let network = ran(a, relation, 2, b"source,destination,class,length,due\n", 0)?;
-    let report = b"port,vc,verdict,packet,out\n";
-    assert_findings(&rt, &network, 1, report);
+    let rows = read_table(rt.alloc(), &line, table)?;
+    let relation = relation(rt.alloc(), Kind::Mesh, &[2], 2, Rule::Rows(rows))?;
+    let network = network(rt.alloc(), relation, 2, &[])?;
+    assert_findings(&rt, &network, 1, b"port,vc,verdict,packet,out\n");
     Ok(())
 }

@@ -1,5 +1,7 @@
 //! Devices that take some bytes and then no more.
 
+ghost use Rattle.std.specs.Prelude.{◌≤◌};
+
 use noc_files::{Out, Sink, WriteFault, write_pieces};
 use std::io;
 use std::io::Write;
@@ -43,6 +45,19 @@ fn pieces_go_out_in_order(rt: HostRuntime) -> Result<(), Fail> {
     Ok(())
 }
 
+// What comes of the pieces where a device takes so many of their 16 bytes: the answer, whether the sink has failed, how many bytes
+// were taken, and by how many calls.
+fn narrowed(count: usize) -> (Result<(), WriteFault>, bool, usize, usize)
+    requires { count ≤ 16 }
+{
+    if count < 16 {
+        let written = count as u64;
+        (Err(WriteFault { written }), true, count, count + 1)
+    } else {
+        (Ok(()), false, count, count)
+    }
+}
+
 #[test]
 fn a_sink_that_takes_some_bytes_and_then_nothing(rt: HostRuntime) -> Result<(), Fail> {
     let text = b"fault network 4\n".as_slice();
@@ -54,17 +69,12 @@ fn a_sink_that_takes_some_bytes_and_then_nothing(rt: HostRuntime) -> Result<(), 
             calls: 0,
         });
         let answer = write_pieces(&PIECES, &mut out);
-        assert_eq!(rt; out.failed(), count < 16);
+        let failed = out.failed();
         let narrow = out.into_inner();
-        assert_eq!(rt; narrow.count, count);
-        if count < 16 {
-            let written = count as u64;
-            assert_eq!(rt; answer, Err(WriteFault { written }));
-            assert_eq!(rt; narrow.calls, count + 1);
-        } else {
-            assert_eq!(rt; answer, Ok(()));
-            assert_eq!(rt; narrow.calls, count);
-        }
+        assert_eq!(rt;
+            (answer, failed, narrow.count, narrow.calls),
+            narrowed(count)
+        );
         assert!(rt; text.starts_with(room.as_slice()));
     }
     Ok(())

@@ -1,10 +1,13 @@
 //! Routing tables: rows that are read, the first fault of tables that are refused, and the names of ports.
 
+use crate::texts::below;
 use noc_files::{InputFault, port_name, read_table};
 use noc_route::RouteRow;
 use noc_topo::{Kind, Shape};
 use std::alloc::Global;
 use std::test::Fail;
+
+const HEADER: &[u8] = b"class,router,in_port,in_vc,dst,out_port,out_vc\n";
 
 // How many rows a text has.
 fn count(alloc: Global, shape: &Shape, text: &[u8]) -> Result<usize, InputFault> {
@@ -12,12 +15,19 @@ fn count(alloc: Global, shape: &Shape, text: &[u8]) -> Result<usize, InputFault>
     Ok(rows.len())
 }
 
+// How many rows the header with these lines below it has.
+fn count_below(alloc: Global, shape: &Shape, lines: &[u8]) -> Result<usize, InputFault> {
+    let text = below(alloc, HEADER, lines)?;
+    count(alloc, shape, &text)
+}
+
 #[test]
 fn the_rows_of_a_table(rt: HostRuntime) -> Result<(), Fail> {
     let shape = Shape::new(Kind::Mesh, &[2])?;
-    let text =
-        b"class,router,in_port,in_vc,dst,out_port,out_vc\n0,0,local,0,1,+0,0\n0,0,local,1,1,+0,0\n0,1,local,0,0,-0,0\n0,1,local,1,0,-0,0\n0,1,-0,0,1,local,0\n0,0,+0,0,0,local,0\n";
-    let rows = read_table(rt.alloc(), &shape, text)?;
+    let lines =
+        b"0,0,local,0,1,+0,0\n0,0,local,1,1,+0,0\n0,1,local,0,0,-0,0\n0,1,local,1,0,-0,0\n0,1,-0,0,1,local,0\n0,0,+0,0,0,local,0\n";
+    let text = below(rt.alloc(), HEADER, lines)?;
+    let rows = read_table(rt.alloc(), &shape, &text)?;
     let out = RouteRow {
         class: 0,
         router: 0,
@@ -68,23 +78,17 @@ fn the_rows_of_a_table(rt: HostRuntime) -> Result<(), Fail> {
 fn tables_with_another_header_or_count(rt: HostRuntime) -> Result<(), Fail> {
     let a = rt.alloc();
     let shape = Shape::new(Kind::Torus, &[3, 3])?;
-    for (text, fault) in [
-        (b"".as_slice(), InputFault::BadHeader),
-        (
-            b"class,router,in_port,in_vc,dst,out_port\n".as_slice(),
-            InputFault::BadHeader,
-        ),
-        (
-            b"source,destination,class,length,due\n".as_slice(),
-            InputFault::BadHeader,
-        ),
-        (
-            b"class,router,in_port,in_vc,dst,out_port,out_vc\n0,0,local,0,1,+0\n".as_slice(),
-            InputFault::BadCount { row: 0 },
-        ),
+    for text in [
+        b"".as_slice(),
+        b"class,router,in_port,in_vc,dst,out_port\n".as_slice(),
+        b"source,destination,class,length,due\n".as_slice(),
     ] {
-        assert_eq!(rt; count(a, &shape, text), Err(fault));
+        assert_eq!(rt; count(a, &shape, text), Err(InputFault::BadHeader));
     }
+    assert_eq!(rt;
+        count_below(a, &shape, b"0,0,local,0,1,+0\n"),
+        Err(InputFault::BadCount { row: 0 })
+    );
     for text in [
         b"class,router,in_port,in_vc,dst,out_port,out_vc\r\n\r\n0,0,\"-1\",0,1,local,0".as_slice(),
         b"\xEF\xBB\xBF\"class\",router,in_port,in_vc,dst,out_port,out_vc\n0,0,-1,0000000000,1,local,0\n".as_slice(),
@@ -98,41 +102,41 @@ fn tables_with_another_header_or_count(rt: HostRuntime) -> Result<(), Fail> {
 fn tables_with_bad_fields(rt: HostRuntime) -> Result<(), Fail> {
     let a = rt.alloc();
     let shape = Shape::new(Kind::Torus, &[3, 3])?;
-    for (text, fault) in [
+    for (lines, fault) in [
         (
-            b"class,router,in_port,in_vc,dst,out_port,out_vc\n0,0,local,0,1,+1,0\n0,0,+2,x,1,+0,0\n".as_slice(),
+            b"0,0,local,0,1,+1,0\n0,0,+2,x,1,+0,0\n".as_slice(),
             InputFault::BadPort { row: 1, column: 2 },
         ),
         (
-            b"class,router,in_port,in_vc,dst,out_port,out_vc\n0,x,+2,0,1,+0,0\n".as_slice(),
+            b"0,x,+2,0,1,+0,0\n".as_slice(),
             InputFault::BadNumber { row: 0, column: 1 },
         ),
         (
-            b"class,router,in_port,in_vc,dst,out_port,out_vc\n0,0,+1,0,1,Local,0\n".as_slice(),
+            b"0,0,+1,0,1,Local,0\n".as_slice(),
             InputFault::BadPort { row: 0, column: 5 },
         ),
         (
-            b"class,router,in_port,in_vc,dst,out_port,out_vc\n0,0,+1 ,0,1,local,0\n".as_slice(),
+            b"0,0,+1 ,0,1,local,0\n".as_slice(),
             InputFault::BadPort { row: 0, column: 2 },
         ),
         (
-            b"class,router,in_port,in_vc,dst,out_port,out_vc\n0,0,,0,1,local,0\n".as_slice(),
+            b"0,0,,0,1,local,0\n".as_slice(),
             InputFault::BadPort { row: 0, column: 2 },
         ),
         (
-            b"class,router,in_port,in_vc,dst,out_port,out_vc\n0,0,4,0,1,local,0\n".as_slice(),
+            b"0,0,4,0,1,local,0\n".as_slice(),
             InputFault::BadPort { row: 0, column: 2 },
         ),
         (
-            b"class,router,in_port,in_vc,dst,out_port,out_vc\n0,0,-1,0,1,local,4294967296\n".as_slice(),
+            b"0,0,-1,0,1,local,4294967296\n".as_slice(),
             InputFault::BadNumber { row: 0, column: 6 },
         ),
         (
-            b"class,router,in_port,in_vc,dst,out_port,out_vc\n0,0,-1,0,18446744073709551617,local,0\n".as_slice(),
+            b"0,0,-1,0,18446744073709551617,local,0\n".as_slice(),
             InputFault::BadNumber { row: 0, column: 4 },
         ),
     ] {
-        assert_eq!(rt; count(a, &shape, text), Err(fault));
+        assert_eq!(rt; count_below(a, &shape, lines), Err(fault));
     }
     Ok(())
 }

@@ -1,30 +1,28 @@
 //! One router alone, over beats whose outcome is worked out by hand.
 
-ghost use Rattle.std.specs.Prelude.{◌≡◌, ◌<◌, ◌≤◌, All};
+ghost use Rattle.std.specs.Prelude.{◌≡◌, ◌<◌, ◌≤◌, All, IfOk};
 ghost use Rattle.noc_topo.specs.Shape.{local_port};
 ghost use Rattle.noc_router.specs.Start.{IsNumberedPacket};
 ghost use Rattle.noc_router.specs.View.{IsRelationOf};
 
+use crate::same::are_empty;
+use noc_fixtures::relation;
 use noc_packet::{Beat, Flit, Packet};
 use noc_route::{Relation, Rule};
-use noc_router::{Plan, Router, Verdict};
-use noc_topo::{Kind, Shape};
+use noc_router::{Plan, Router};
+use noc_topo::Kind;
 use std::alloc::Global;
 use std::process::Abort;
+use std::test::Fail;
 
 // Dimension order on a line of two routers, in one class.
-fn line_of_two(rt: &impl Abort, alloc: Global, vcs: usize) -> Relation
-    ensures links { local_port result.grid ≡ 2 }
-    ensures vcs { result.vcs ≡ vcs }
+fn line_of_two(rt: &impl Abort, alloc: Global, vcs: usize) -> Result<Relation, Fail>
+    ensures links { IfOk result (λ r. local_port r.grid ≡ 2) }
+    ensures vcs { IfOk result (λ r. r.vcs ≡ vcs) }
 {
-    let Ok(shape) = Shape::new(Kind::Mesh, &[2]) else {
-        panic!(rt; "no shape");
-    };
-    assert!(rt; shape.ports() == 3);
-    match Relation::build(alloc, &shape, vcs, 1, Rule::Dor) {
-        Ok(relation) => relation,
-        Err(_) => panic!(rt; "no relation"),
-    }
+    let line = relation(alloc, Kind::Mesh, &[2], vcs, Rule::Dor)?;
+    assert!(rt; line.shape().ports() == 3);
+    Ok(line)
 }
 
 // Router 0 of a network, with the packets that start there.
@@ -95,9 +93,9 @@ const STRAY: Flit = Flit {
 };
 
 #[test]
-fn two_packets_of_one_node_start_in_two_cycles(rt: HostRuntime) {
+fn two_packets_of_one_node_start_in_two_cycles(rt: HostRuntime) -> Result<(), Fail> {
     let alloc = rt.alloc();
-    let relation = line_of_two(&rt, alloc, 2);
+    let relation = line_of_two(&rt, alloc, 2)?;
     let Ok(starts) = vec![in alloc; (0, SHORT), (1, SHORT)] else {
         panic!(&rt; "no list");
     };
@@ -107,12 +105,13 @@ fn two_packets_of_one_node_start_in_two_cycles(rt: HostRuntime) {
     for vc in 0..2usize {
         assert_eq!(rt; router.counts(2, vc), [9, 1, 1, 1, 0, 0, 0, 0, 0, 0]);
     }
+    Ok(())
 }
 
 #[test]
-fn each_half_of_a_beat_that_does_not_fit_is_one_misfit(rt: HostRuntime) {
+fn each_half_of_a_beat_that_does_not_fit_is_one_misfit(rt: HostRuntime) -> Result<(), Fail> {
     let alloc = rt.alloc();
-    let relation = line_of_two(&rt, alloc, 1);
+    let relation = line_of_two(&rt, alloc, 1)?;
     let mut router = first_router(&rt, alloc, &relation, 1, Vec::new(alloc));
     let mut plan = plan_for(&rt, alloc, &relation);
     let beat = Beat {
@@ -120,17 +119,13 @@ fn each_half_of_a_beat_that_does_not_fit_is_one_misfit(rt: HostRuntime) {
         credit: Some(0),
     };
     cycle(&mut router, &relation, &mut plan, 0, beat);
-    assert_eq!(rt; router.misfits(), 2);
-    assert!(rt;
-        router
-            .findings()
-            .iter()
-            .all(|finding| finding.verdict == Verdict::Empty)
-    );
+    assert!(rt; router.misfits() == 2);
+    assert!(rt; are_empty(router.findings()));
     let beat = Beat {
         flit: Some((1, STRAY)),
         credit: None,
     };
     cycle(&mut router, &relation, &mut plan, 1, beat);
-    assert_eq!(rt; router.misfits(), 3);
+    assert!(rt; router.misfits() == 3);
+    Ok(())
 }

@@ -1,55 +1,14 @@
 //! Ranks and relations whose answers are known.
-ghost use Rattle.std.specs.Prelude.{◌≡◌, IfOk};
+ghost use Rattle.std.specs.Prelude.{◌≡◌};
 
+use noc_fixtures::relation;
 use noc_rank::{Accepted, LinkChannel, RankFault, RankRow, Ranks, check};
 use noc_route::{Entry, Relation, Rule};
 use noc_topo::{Kind, Shape};
 use std::alloc::Global;
 use std::process::Abort;
-
-// A shape that exists.
-fn shape(rt: &impl Abort, kind: Kind, radix: &[usize]) -> Shape {
-    match Shape::new(kind, radix) {
-        Ok(shape) => shape,
-        Err(_) => panic!(rt; "no shape"),
-    }
-}
-
-// A relation that can be made.
-fn relation(
-    rt: &impl Abort,
-    alloc: Global,
-    shape: &Shape,
-    vcs: usize,
-    classes: usize,
-    rule: Rule,
-) -> Relation
-    ensures grid { result.grid ≡ shape.now }
-    ensures vcs { result.vcs ≡ vcs }
-{
-    match Relation::build(alloc, shape, vcs, classes, rule) {
-        Ok(relation) => relation,
-        Err(_) => panic!(rt; "no relation"),
-    }
-}
-
-// The rank of a link channel that exists.
-fn rank(
-    rt: &impl Abort,
-    shape: &Shape,
-    vcs: usize,
-    ranks: &Ranks,
-    router: usize,
-    port: usize,
-    vc: usize,
-) -> Option<u32>
-    requires grid { ranks.now.grid ≡ shape.now }
-    requires vcs { ranks.now.vcs ≡ vcs }
-{
-    assert!(rt; router < shape.nodes() && port < shape.ports() - 1 && vc < vcs);
-    assert!(rt; shape.neighbour(router, port).is_some());
-    ranks.rank(router, port, vc)
-}
+use std::test::Fail;
+use std::thread::Threads;
 
 fn row(router: usize, port: usize, vc: usize, rank: usize) -> RankRow {
     RankRow {
@@ -69,76 +28,139 @@ fn adaptive(router: usize, port: usize, vc: usize) -> RankRow {
     }
 }
 
-// The fault of rows on a line of two nodes with one channel per link.
-fn fault_on_a_line(alloc: Global, rows: &[RankRow]) -> Option<RankFault> {
+// The fault of rows on a line of two nodes with so many channels per link.
+fn fault_on_a_line(alloc: Global, vcs: usize, rows: &[RankRow]) -> Option<RankFault> {
     let line = Shape::new(Kind::Mesh, &[2]).ok()?;
-    Ranks::from_rows(alloc, &line, 1, rows).err()
+    Ranks::from_rows(alloc, &line, vcs, rows).err()
+}
+
+// What the check answers of dimension order on a line or a ring of so many nodes, with ranks by these rows.
+fn answer<R: Threads + Sync>(
+    rt: &R,
+    alloc: Global,
+    kind: Kind,
+    nodes: usize,
+    vcs: usize,
+    rows: &[RankRow],
+) -> Result<Result<Accepted, RankFault>, Fail> {
+    let dor = relation(alloc, kind, &[nodes], vcs, Rule::Dor)?;
+    Ok(answer_to(rt, alloc, &dor, rows))
+}
+
+// What the check answers of a relation with ranks by these rows, or why they are no ranks.
+fn answer_to<R: Threads + Sync>(
+    rt: &R,
+    alloc: Global,
+    relation: &Relation,
+    rows: &[RankRow],
+) -> Result<Accepted, RankFault> {
+    let ranks = Ranks::from_rows(alloc, relation.shape(), relation.vcs(), rows)?;
+    check(rt, alloc, relation, &ranks)
+}
+
+// What the check answers of a relation with the ranks by formula of its rule, or why there are none.
+fn answer_by_formula<R: Threads + Sync>(
+    rt: &R,
+    alloc: Global,
+    relation: &Relation,
+    rule: &Rule,
+) -> Result<Accepted, RankFault> {
+    let ranks = Ranks::generated(
+        alloc,
+        relation.shape(),
+        relation.vcs(),
+        relation.classes(),
+        rule,
+    )?;
+    check(rt, alloc, relation, &ranks)
+}
+
+// The ranks of link channels, which exist, by router, port and virtual channel.
+fn assert_ranks(
+    rt: &impl Abort,
+    shape: &Shape,
+    vcs: usize,
+    ranks: &Ranks,
+    wanted: &[(usize, usize, usize, Option<u32>)],
+)
+    requires grid { ranks.now.grid ≡ shape.now }
+    requires vcs { ranks.now.vcs ≡ vcs }
+{
+    for (router, port, vc, rank) in wanted {
+        assert_eq!(rt; rank_at(rt, shape, vcs, ranks, *router, *port, *vc), *rank);
+    }
+}
+
+// The rank of a link channel, which exists.
+fn rank_at(
+    rt: &impl Abort,
+    shape: &Shape,
+    vcs: usize,
+    ranks: &Ranks,
+    router: usize,
+    port: usize,
+    vc: usize,
+) -> Option<u32>
+    requires grid { ranks.now.grid ≡ shape.now }
+    requires vcs { ranks.now.vcs ≡ vcs }
+{
+    assert!(rt; router < shape.nodes() && port < shape.ports() - 1 && vc < vcs);
+    assert!(rt; shape.neighbour(router, port).is_some());
+    ranks.rank(router, port, vc)
 }
 
 #[test]
 fn rows_that_are_refused(rt: HostRuntime) {
-    assert_eq!(rt;
-        fault_on_a_line(rt.alloc(), &[row(0, 1, 0, 1)]),
-        Some(RankFault::UnknownChannel { row: 0 }),
-        "a port at the border"
-    );
-    assert_eq!(rt;
-        fault_on_a_line(rt.alloc(), &[row(0, 2, 0, 1)]),
-        Some(RankFault::UnknownChannel { row: 0 }),
-        "the local port"
-    );
-    assert_eq!(rt;
-        fault_on_a_line(rt.alloc(), &[row(0, 0, 0, 0)]),
-        Some(RankFault::BadRank { row: 0 })
-    );
-    assert_eq!(rt;
-        fault_on_a_line(rt.alloc(), &[row(0, 0, 0, 1_000_001)]),
-        Some(RankFault::BadRank { row: 0 })
-    );
-    assert_eq!(rt;
-        fault_on_a_line(rt.alloc(), &[row(0, 0, 0, 1), row(0, 0, 0, 1)]),
-        Some(RankFault::DoubleChannel { row: 1 })
-    );
-    assert_eq!(rt;
-        fault_on_a_line(rt.alloc(), &[row(0, 0, 0, 1)]),
-        Some(RankFault::MissingChannel {
-            router: 1,
-            port: 1,
-            vc: 0
-        })
-    );
-    let line = shape(&rt, Kind::Mesh, &[2]);
-    assert_eq!(rt;
-        Ranks::from_rows(rt.alloc(), &line, usize::MAX, &[]).err(),
-        Some(RankFault::Memory),
-        "more channels than memory has room for"
-    );
+    let a = rt.alloc();
+    let border = [row(0, 1, 0, 1)];
+    let local = [row(0, 2, 0, 1)];
+    let low = [row(0, 0, 0, 0)];
+    let high = [row(0, 0, 0, 1_000_001)];
+    let twice = [row(0, 0, 0, 1), row(0, 0, 0, 1)];
+    let one = [row(0, 0, 0, 1)];
+    let none: [RankRow; 0] = [];
+    let missing = RankFault::MissingChannel {
+        router: 1,
+        port: 1,
+        vc: 0,
+    };
+    for (vcs, rows, fault) in [
+        (1, border.as_slice(), RankFault::UnknownChannel { row: 0 }),
+        (1, local.as_slice(), RankFault::UnknownChannel { row: 0 }),
+        (1, low.as_slice(), RankFault::BadRank { row: 0 }),
+        (1, high.as_slice(), RankFault::BadRank { row: 0 }),
+        (1, twice.as_slice(), RankFault::DoubleChannel { row: 1 }),
+        (1, one.as_slice(), missing),
+        // more channels than memory has room for
+        (usize::MAX, none.as_slice(), RankFault::Memory),
+    ] {
+        assert_eq!(rt; fault_on_a_line(a, vcs, rows), Some(fault));
+    }
 }
 
 #[test]
-fn equal_ranks_where_no_link_leads_on(rt: HostRuntime) -> Result<(), RankFault> {
-    let line = shape(&rt, Kind::Mesh, &[2]);
-    let rows = [row(0, 0, 0, 1), row(1, 1, 0, 1)];
-    let ranks = Ranks::from_rows(rt.alloc(), &line, 1, &rows)?;
-    let dor = relation(&rt, rt.alloc(), &line, 1, 1, Rule::Dor);
-    assert_eq!(rt; check(&rt, rt.alloc(), &dor, &ranks), Ok(Accepted));
-    let circle = shape(&rt, Kind::Torus, &[2]);
-    let rows = [
+fn equal_ranks_where_no_link_leads_on(rt: HostRuntime) -> Result<(), Fail> {
+    let line = [row(0, 0, 0, 1), row(1, 1, 0, 1)];
+    assert_eq!(rt;
+        answer(&rt, rt.alloc(), Kind::Mesh, 2, 1, &line)?,
+        Ok(Accepted)
+    );
+    let circle = [
         row(0, 0, 0, 1),
         row(0, 1, 0, 1),
         row(1, 0, 0, 1),
         row(1, 1, 0, 1),
     ];
-    let ranks = Ranks::from_rows(rt.alloc(), &circle, 1, &rows)?;
-    let dor = relation(&rt, rt.alloc(), &circle, 1, 1, Rule::Dor);
-    assert_eq!(rt; check(&rt, rt.alloc(), &dor, &ranks), Ok(Accepted));
+    assert_eq!(rt;
+        answer(&rt, rt.alloc(), Kind::Torus, 2, 1, &circle)?,
+        Ok(Accepted)
+    );
     Ok(())
 }
 
 #[test]
-fn a_circle_of_four_falls_where_it_closes(rt: HostRuntime) -> Result<(), RankFault> {
-    let circle = shape(&rt, Kind::Torus, &[4]);
-    let rows = [
+fn a_circle_of_four_falls_where_it_closes(rt: HostRuntime) -> Result<(), Fail> {
+    let circle = [
         row(0, 0, 0, 1),
         row(1, 0, 0, 2),
         row(2, 0, 0, 3),
@@ -148,8 +170,6 @@ fn a_circle_of_four_falls_where_it_closes(rt: HostRuntime) -> Result<(), RankFau
         row(2, 1, 0, 2),
         row(3, 1, 0, 1),
     ];
-    let ranks = Ranks::from_rows(rt.alloc(), &circle, 1, &rows)?;
-    let dor = relation(&rt, rt.alloc(), &circle, 1, 1, Rule::Dor);
     let entry = Entry {
         class: 0,
         router: 0,
@@ -158,7 +178,7 @@ fn a_circle_of_four_falls_where_it_closes(rt: HostRuntime) -> Result<(), RankFau
         dst: 1,
     };
     assert_eq!(rt;
-        check(&rt, rt.alloc(), &dor, &ranks),
+        answer(&rt, rt.alloc(), Kind::Torus, 4, 1, &circle)?,
         Err(RankFault::NotRising {
             entry,
             out_port: 0,
@@ -171,19 +191,29 @@ fn a_circle_of_four_falls_where_it_closes(rt: HostRuntime) -> Result<(), RankFau
 }
 
 #[test]
-fn ranks_by_formula(rt: HostRuntime) -> Result<(), RankFault> {
-    let line = shape(&rt, Kind::Mesh, &[3]);
-    let ranks = Ranks::generated(rt.alloc(), &line, 1, 1, &Rule::Dor)?;
-    assert_eq!(rt; rank(&rt, &line, 1, &ranks, 0, 0, 0), Some(1));
-    assert_eq!(rt; rank(&rt, &line, 1, &ranks, 1, 0, 0), Some(2));
-    assert_eq!(rt; rank(&rt, &line, 1, &ranks, 1, 1, 0), Some(2));
-    assert_eq!(rt; rank(&rt, &line, 1, &ranks, 2, 1, 0), Some(1));
-    let square = shape(&rt, Kind::Mesh, &[3, 3]);
-    let ranks = Ranks::generated(rt.alloc(), &square, 1, 1, &Rule::WestFirst)?;
-    assert_eq!(rt; rank(&rt, &square, 1, &ranks, 2, 1, 0), Some(1));
-    assert_eq!(rt; rank(&rt, &square, 1, &ranks, 3, 2, 0), Some(5));
-    assert_eq!(rt; rank(&rt, &square, 1, &ranks, 0, 0, 0), Some(7));
-    let circle = shape(&rt, Kind::Torus, &[3]);
+fn ranks_by_formula(rt: HostRuntime) -> Result<(), Fail> {
+    let line = Shape::new(Kind::Mesh, &[3])?;
+    assert_ranks(
+        &rt,
+        &line,
+        1,
+        &Ranks::generated(rt.alloc(), &line, 1, 1, &Rule::Dor)?,
+        &[
+            (0, 0, 0, Some(1)),
+            (1, 0, 0, Some(2)),
+            (1, 1, 0, Some(2)),
+            (2, 1, 0, Some(1)),
+        ],
+    );
+    let square = Shape::new(Kind::Mesh, &[3, 3])?;
+    assert_ranks(
+        &rt,
+        &square,
+        1,
+        &Ranks::generated(rt.alloc(), &square, 1, 1, &Rule::WestFirst)?,
+        &[(2, 1, 0, Some(1)), (3, 2, 0, Some(5)), (0, 0, 0, Some(7))],
+    );
+    let circle = Shape::new(Kind::Torus, &[3])?;
     assert_eq!(rt;
         Ranks::generated(rt.alloc(), &circle, 1, 1, &Rule::Dor).err(),
         Some(RankFault::NoGenerated)
@@ -192,58 +222,70 @@ fn ranks_by_formula(rt: HostRuntime) -> Result<(), RankFault> {
 }
 
 #[test]
-fn dateline_rises_round_a_circle(rt: HostRuntime) -> Result<(), RankFault> {
-    let circle = shape(&rt, Kind::Torus, &[4]);
-    let ranks = Ranks::generated(rt.alloc(), &circle, 2, 1, &Rule::Dateline)?;
-    assert_eq!(rt; rank(&rt, &circle, 2, &ranks, 3, 0, 0), Some(4));
-    assert_eq!(rt; rank(&rt, &circle, 2, &ranks, 0, 0, 1), Some(5));
-    let dateline = relation(&rt, rt.alloc(), &circle, 2, 1, Rule::Dateline);
-    assert_eq!(rt; check(&rt, rt.alloc(), &dateline, &ranks), Ok(Accepted));
-    Ok(())
-}
-
-#[test]
-fn a_mesh_of_256_with_four_channels_and_classes(rt: HostRuntime) -> Result<(), RankFault> {
-    let mesh = shape(&rt, Kind::Mesh, &[16, 16]);
-    let ranks = Ranks::generated(rt.alloc(), &mesh, 4, 4, &Rule::Dor)?;
-    let dor = relation(&rt, rt.alloc(), &mesh, 4, 4, Rule::Dor);
-    assert_eq!(rt; check(&rt, rt.alloc(), &dor, &ranks), Ok(Accepted));
-    Ok(())
-}
-
-#[test]
-fn adaptive_channels_have_no_rank(rt: HostRuntime) -> Result<(), RankFault> {
-    assert_eq!(rt;
-        fault_on_a_line(rt.alloc(), &[adaptive(0, 0, 0), row(0, 0, 0, 1)]),
-        Some(RankFault::DoubleChannel { row: 1 })
+fn dateline_rises_round_a_circle(rt: HostRuntime) -> Result<(), Fail> {
+    let circle = Shape::new(Kind::Torus, &[4])?;
+    assert_ranks(
+        &rt,
+        &circle,
+        2,
+        &Ranks::generated(rt.alloc(), &circle, 2, 1, &Rule::Dateline)?,
+        &[(3, 0, 0, Some(4)), (0, 0, 1, Some(5))],
     );
+    let dateline = relation(rt.alloc(), Kind::Torus, &[4], 2, Rule::Dateline)?;
     assert_eq!(rt;
-        fault_on_a_line(rt.alloc(), &[adaptive(0, 0, 0)]),
+        answer_by_formula(&rt, rt.alloc(), &dateline, &Rule::Dateline),
+        Ok(Accepted)
+    );
+    Ok(())
+}
+
+#[test]
+fn a_mesh_of_256_with_four_channels_and_classes(rt: HostRuntime) -> Result<(), Fail> {
+    let mesh = Shape::new(Kind::Mesh, &[16, 16])?;
+    let dor = Relation::build(rt.alloc(), &mesh, 4, 4, Rule::Dor)?;
+    assert_eq!(rt;
+        answer_by_formula(&rt, rt.alloc(), &dor, &Rule::Dor),
+        Ok(Accepted)
+    );
+    Ok(())
+}
+
+#[test]
+fn adaptive_channels_have_no_rank(rt: HostRuntime) -> Result<(), Fail> {
+    let one = [adaptive(0, 0, 0)];
+    assert_eq!(rt;
+        fault_on_a_line(rt.alloc(), 1, &one),
         Some(RankFault::MissingChannel {
             router: 1,
             port: 1,
             vc: 0
         })
     );
-    let line = shape(&rt, Kind::Mesh, &[2]);
-    let rows = [adaptive(0, 0, 0), row(1, 1, 0, 7)];
-    let ranks = Ranks::from_rows(rt.alloc(), &line, 1, &rows)?;
-    assert_eq!(rt; rank(&rt, &line, 1, &ranks, 0, 0, 0), None);
-    assert_eq!(rt; rank(&rt, &line, 1, &ranks, 1, 1, 0), Some(7));
+    let twice = [adaptive(0, 0, 0), row(0, 0, 0, 1)];
+    assert_eq!(rt;
+        fault_on_a_line(rt.alloc(), 1, &twice),
+        Some(RankFault::DoubleChannel { row: 1 })
+    );
+    let line = Shape::new(Kind::Mesh, &[2])?;
+    let both = [adaptive(0, 0, 0), row(1, 1, 0, 7)];
+    assert_ranks(
+        &rt,
+        &line,
+        1,
+        &Ranks::from_rows(rt.alloc(), &line, 1, &both)?,
+        &[(0, 0, 0, None), (1, 1, 0, Some(7))],
+    );
     Ok(())
 }
 
 #[test]
-fn no_escape_where_all_are_adaptive(rt: HostRuntime) -> Result<(), RankFault> {
-    let line = shape(&rt, Kind::Mesh, &[2]);
+fn no_escape_where_all_are_adaptive(rt: HostRuntime) -> Result<(), Fail> {
     let rows = [
         adaptive(0, 0, 0),
         adaptive(0, 0, 1),
         adaptive(1, 1, 0),
         adaptive(1, 1, 1),
     ];
-    let ranks = Ranks::from_rows(rt.alloc(), &line, 2, &rows)?;
-    let dor = relation(&rt, rt.alloc(), &line, 2, 1, Rule::Dor);
     let entry = Entry {
         class: 0,
         router: 0,
@@ -252,7 +294,7 @@ fn no_escape_where_all_are_adaptive(rt: HostRuntime) -> Result<(), RankFault> {
         dst: 1,
     };
     assert_eq!(rt;
-        check(&rt, rt.alloc(), &dor, &ranks),
+        answer(&rt, rt.alloc(), Kind::Mesh, 2, 2, &rows)?,
         Err(RankFault::NoEscape(entry))
     );
     Ok(())
@@ -260,10 +302,8 @@ fn no_escape_where_all_are_adaptive(rt: HostRuntime) -> Result<(), RankFault> {
 
 // Ranks on a line of three nodes with two channels per link, of which channel 1 is adaptive; `second` is the rank of the
 // channel from node 1 up to node 2.
-fn ranks_on_a_line(alloc: Global, shape: &Shape, second: usize) -> Result<Ranks, RankFault>
-    ensures { IfOk result (λ ranks. (ranks.grid ≡ shape.now) × (ranks.vcs ≡ 2)) }
-{
-    let rows = [
+fn rows_on_a_line(second: usize) -> [RankRow; 8] {
+    [
         row(0, 0, 0, 2),
         adaptive(0, 0, 1),
         row(1, 0, 0, second),
@@ -272,17 +312,15 @@ fn ranks_on_a_line(alloc: Global, shape: &Shape, second: usize) -> Result<Ranks,
         adaptive(1, 1, 1),
         row(2, 1, 0, 1),
         adaptive(2, 1, 1),
-    ];
-    Ranks::from_rows(alloc, shape, 2, &rows)
+    ]
 }
 
 #[test]
-fn equal_ranks_beside_adaptive_channels(rt: HostRuntime) -> Result<(), RankFault> {
-    let line = shape(&rt, Kind::Mesh, &[3]);
-    let dor = relation(&rt, rt.alloc(), &line, 2, 1, Rule::Dor);
-    let rising = ranks_on_a_line(rt.alloc(), &line, 3)?;
-    assert_eq!(rt; check(&rt, rt.alloc(), &dor, &rising), Ok(Accepted));
-    let level = ranks_on_a_line(rt.alloc(), &line, 2)?;
+fn equal_ranks_beside_adaptive_channels(rt: HostRuntime) -> Result<(), Fail> {
+    assert_eq!(rt;
+        answer(&rt, rt.alloc(), Kind::Mesh, 3, 2, &rows_on_a_line(3))?,
+        Ok(Accepted)
+    );
     let from = LinkChannel {
         router: 0,
         port: 0,
@@ -294,7 +332,7 @@ fn equal_ranks_beside_adaptive_channels(rt: HostRuntime) -> Result<(), RankFault
         vc: 0,
     };
     assert_eq!(rt;
-        check(&rt, rt.alloc(), &dor, &level),
+        answer(&rt, rt.alloc(), Kind::Mesh, 3, 2, &rows_on_a_line(2))?,
         Err(RankFault::NotRisingTo {
             from,
             to,

@@ -1,47 +1,28 @@
 //! Small relations.
 
+use noc_fixtures::relation;
 use noc_packet::INDICES;
 use noc_route::{Entry, Relation, RouteFault, RouteRow, Rule};
 use noc_topo::{Kind, Shape};
-use std::alloc::{AllocError, Global};
+use std::alloc::Global;
 use std::process::Abort;
+use std::test::Fail;
 
-// A shape that exists.
-fn shape(rt: &impl Abort, kind: Kind, radix: &[usize]) -> Shape {
-    match Shape::new(kind, radix) {
-        Ok(shape) => shape,
-        Err(_) => panic!(rt; "no shape"),
-    }
+// The fault of these rows on a line of so many nodes, if they make no relation.
+fn fault_of(
+    alloc: Global,
+    nodes: usize,
+    vcs: usize,
+    rows: &[RouteRow],
+) -> Result<Option<RouteFault>, Fail> {
+    let line = Shape::new(Kind::Mesh, &[nodes])?;
+    let rule = Rule::Rows(rows.to_vec(alloc)?);
+    Ok(Relation::build(alloc, &line, vcs, 1, rule).err())
 }
 
-// A relation that is built.
-fn built(
-    rt: &impl Abort,
-    alloc: Global,
-    shape: &Shape,
-    vcs: usize,
-    classes: usize,
-    rule: Rule,
-) -> Relation {
-    match Relation::build(alloc, shape, vcs, classes, rule) {
-        Ok(relation) => relation,
-        Err(_) => panic!(rt; "no relation"),
-    }
-}
-
-// The fault of a rule that makes no relation.
-fn fault(
-    rt: &impl Abort,
-    alloc: Global,
-    shape: &Shape,
-    vcs: usize,
-    classes: usize,
-    rule: Rule,
-) -> RouteFault {
-    match Relation::build(alloc, shape, vcs, classes, rule) {
-        Ok(_) => panic!(rt; "no fault"),
-        Err(fault) => fault,
-    }
+// Whether the numbers of channels and classes are out of their limits, or the rule does not fit the shape.
+fn is_wrong(alloc: Global, shape: &Shape, vcs: usize, classes: usize, rule: Rule) -> bool {
+    Relation::build(alloc, shape, vcs, classes, rule).err() == Some(RouteFault::WrongShape)
 }
 
 // Whether exactly these output channels are permitted at an entry.
@@ -91,162 +72,133 @@ fn row(from: (usize, usize, usize), dst: usize, to: (usize, usize)) -> RouteRow 
 }
 
 #[test]
-fn two_nodes_in_a_row(rt: HostRuntime) {
-    let mesh = shape(&rt, Kind::Mesh, &[2]);
-    let relation = built(&rt, rt.alloc(), &mesh, 1, 1, Rule::Dor);
-    assert_eq!(rt; relation.shape().nodes(), 2);
-    assert_eq!(rt; relation.vcs(), 1);
-    assert_eq!(rt; relation.classes(), 1);
-    assert!(rt; permits(&rt, &relation, entry(0, 2, 0, 1), &[0]));
-    assert!(rt; permits(&rt, &relation, entry(1, 1, 0, 1), &[2]));
-    assert!(rt; permits(&rt, &relation, entry(0, 0, 0, 1), &[]));
-    assert!(rt; permits(&rt, &relation, entry(1, 2, 0, 1), &[]));
+fn two_nodes_in_a_row(rt: HostRuntime) -> Result<(), Fail> {
+    let line = relation(rt.alloc(), Kind::Mesh, &[2], 1, Rule::Dor)?;
+    assert_eq!(rt;
+        [line.shape().nodes(), line.vcs(), line.classes()],
+        [2, 1, 1]
+    );
+    assert!(rt; permits(&rt, &line, entry(0, 2, 0, 1), &[0]));
+    assert!(rt; permits(&rt, &line, entry(1, 1, 0, 1), &[2]));
+    assert!(rt; permits(&rt, &line, entry(0, 0, 0, 1), &[]));
+    assert!(rt; permits(&rt, &line, entry(1, 2, 0, 1), &[]));
+    Ok(())
 }
 
 #[test]
-fn ring_of_four_with_a_dateline(rt: HostRuntime) {
-    let torus = shape(&rt, Kind::Torus, &[4]);
-    let relation = built(&rt, rt.alloc(), &torus, 2, 1, Rule::Dateline);
-    assert!(rt; permits(&rt, &relation, entry(3, 2, 0, 1), &[0]));
-    assert!(rt; permits(&rt, &relation, entry(0, 1, 0, 1), &[1]));
-    assert!(rt; permits(&rt, &relation, entry(0, 1, 1, 1), &[]));
+fn ring_of_four_with_a_dateline(rt: HostRuntime) -> Result<(), Fail> {
+    let ring = relation(rt.alloc(), Kind::Torus, &[4], 2, Rule::Dateline)?;
+    assert!(rt; permits(&rt, &ring, entry(3, 2, 0, 1), &[0]));
+    assert!(rt; permits(&rt, &ring, entry(0, 1, 0, 1), &[1]));
+    assert!(rt; permits(&rt, &ring, entry(0, 1, 1, 1), &[]));
+    Ok(())
 }
 
 #[test]
-fn square_of_nine_goes_west_first(rt: HostRuntime) {
-    let mesh = shape(&rt, Kind::Mesh, &[3, 3]);
-    let relation = built(&rt, rt.alloc(), &mesh, 1, 1, Rule::WestFirst);
-    assert!(rt; permits(&rt, &relation, entry(4, 4, 0, 8), &[0, 2]));
-    assert!(rt; permits(&rt, &relation, entry(4, 4, 0, 6), &[1]));
+fn square_of_nine_goes_west_first(rt: HostRuntime) -> Result<(), Fail> {
+    let square = relation(rt.alloc(), Kind::Mesh, &[3, 3], 1, Rule::WestFirst)?;
+    assert!(rt; permits(&rt, &square, entry(4, 4, 0, 8), &[0, 2]));
+    assert!(rt; permits(&rt, &square, entry(4, 4, 0, 6), &[1]));
+    Ok(())
 }
 
 #[test]
-fn square_of_nine_keeps_an_escape_channel(rt: HostRuntime) {
-    let mesh = shape(&rt, Kind::Mesh, &[3, 3]);
-    let relation = built(&rt, rt.alloc(), &mesh, 2, 1, Rule::Adaptive);
-    assert!(rt; permits(&rt, &relation, entry(0, 4, 0, 8), &[0, 1, 5]));
-    assert!(rt; permits(&rt, &relation, entry(1, 1, 1, 8), &[0, 1, 5]));
-    assert!(rt; permits(&rt, &relation, entry(2, 1, 0, 8), &[4, 5]));
-    assert!(rt; permits(&rt, &relation, entry(1, 3, 0, 8), &[]));
-    assert!(rt; permits(&rt, &relation, entry(8, 3, 1, 8), &[8, 9]));
+fn square_of_nine_keeps_an_escape_channel(rt: HostRuntime) -> Result<(), Fail> {
+    let square = relation(rt.alloc(), Kind::Mesh, &[3, 3], 2, Rule::Adaptive)?;
+    assert!(rt; permits(&rt, &square, entry(0, 4, 0, 8), &[0, 1, 5]));
+    assert!(rt; permits(&rt, &square, entry(1, 1, 1, 8), &[0, 1, 5]));
+    assert!(rt; permits(&rt, &square, entry(2, 1, 0, 8), &[4, 5]));
+    assert!(rt; permits(&rt, &square, entry(1, 3, 0, 8), &[]));
+    assert!(rt; permits(&rt, &square, entry(8, 3, 1, 8), &[8, 9]));
+    Ok(())
 }
 
 #[test]
-fn ring_of_four_keeps_two_escape_channels(rt: HostRuntime) {
-    let torus = shape(&rt, Kind::Torus, &[4]);
-    let relation = built(&rt, rt.alloc(), &torus, 3, 1, Rule::Adaptive);
-    assert!(rt; permits(&rt, &relation, entry(3, 2, 0, 1), &[0, 2]));
-    assert!(rt; permits(&rt, &relation, entry(0, 1, 0, 1), &[1, 2]));
-    assert!(rt; permits(&rt, &relation, entry(0, 2, 0, 2), &[1, 2]));
-    assert!(rt; permits(&rt, &relation, entry(0, 2, 0, 3), &[3, 5]));
+fn ring_of_four_keeps_two_escape_channels(rt: HostRuntime) -> Result<(), Fail> {
+    let ring = relation(rt.alloc(), Kind::Torus, &[4], 3, Rule::Adaptive)?;
+    assert!(rt; permits(&rt, &ring, entry(3, 2, 0, 1), &[0, 2]));
+    assert!(rt; permits(&rt, &ring, entry(0, 1, 0, 1), &[1, 2]));
+    assert!(rt; permits(&rt, &ring, entry(0, 2, 0, 2), &[1, 2]));
+    assert!(rt; permits(&rt, &ring, entry(0, 2, 0, 3), &[3, 5]));
+    Ok(())
 }
 
-#[test]
-fn table_needs_no_rows_that_are_not_reached(rt: HostRuntime) -> Result<(), AllocError> {
-    let mesh = shape(&rt, Kind::Mesh, &[2]);
+// A table of two nodes with two channels; `second` is its second row, and its first row comes again at its end.
+fn two_node_rows(second: RouteRow) -> [RouteRow; 7] {
     let first = row((0, 2, 0), 1, (0, 0));
-    let second = row((0, 2, 1), 1, (0, 0));
-    let third = row((1, 2, 0), 0, (1, 0));
-    let fourth = row((1, 2, 1), 0, (1, 0));
-    let fifth = row((1, 1, 0), 1, (2, 0));
-    let sixth = row((0, 0, 0), 0, (2, 0));
-    let rows = vec![in rt.alloc(); first, second, third, fourth, fifth, sixth, first]?;
-    let relation = built(&rt, rt.alloc(), &mesh, 2, 1, Rule::Rows(rows));
-    assert!(rt; permits(&rt, &relation, entry(0, 2, 1, 1), &[0]));
-    assert!(rt; permits(&rt, &relation, entry(1, 1, 0, 1), &[4]));
-    assert!(rt; permits(&rt, &relation, entry(1, 1, 1, 1), &[]));
-    let other = row((0, 2, 1), 1, (0, 1));
-    let rows = vec![in rt.alloc(); first, other, third, fourth, fifth, sixth]?;
+    [
+        first,
+        second,
+        row((1, 2, 0), 0, (1, 0)),
+        row((1, 2, 1), 0, (1, 0)),
+        row((1, 1, 0), 1, (2, 0)),
+        row((0, 0, 0), 0, (2, 0)),
+        first,
+    ]
+}
+
+#[test]
+fn table_needs_no_rows_that_are_not_reached(rt: HostRuntime) -> Result<(), Fail> {
+    let rows = two_node_rows(row((0, 2, 1), 1, (0, 0)));
+    let rule = Rule::Rows(rows.to_vec(rt.alloc())?);
+    let table = relation(rt.alloc(), Kind::Mesh, &[2], 2, rule)?;
+    assert!(rt; permits(&rt, &table, entry(0, 2, 1, 1), &[0]));
+    assert!(rt; permits(&rt, &table, entry(1, 1, 0, 1), &[4]));
+    assert!(rt; permits(&rt, &table, entry(1, 1, 1, 1), &[]));
+    Ok(())
+}
+
+#[test]
+fn table_needs_rows_that_are_reached(rt: HostRuntime) -> Result<(), Fail> {
+    let rows = two_node_rows(row((0, 2, 1), 1, (0, 1)));
     assert_eq!(rt;
-        fault(&rt, rt.alloc(), &mesh, 2, 1, Rule::Rows(rows)),
-        RouteFault::NoWay(entry(1, 1, 1, 1))
+        fault_of(rt.alloc(), 2, 2, &rows[..6])?,
+        Some(RouteFault::NoWay(entry(1, 1, 1, 1)))
     );
     Ok(())
 }
 
 #[test]
-fn bad_rows_are_refused_by_their_fault(rt: HostRuntime) -> Result<(), AllocError> {
-    let mesh = shape(&rt, Kind::Mesh, &[3]);
-    let bad = row((0, 2, 0), 1, (1, 0));
-    let rows = vec![in rt.alloc(); bad]?;
-    assert_eq!(rt;
-        fault(&rt, rt.alloc(), &mesh, 1, 1, Rule::Rows(rows)),
-        RouteFault::NoLink(bad)
-    );
-    let bad = row((1, 2, 0), 2, (1, 0));
-    let rows = vec![in rt.alloc(); bad]?;
-    assert_eq!(rt;
-        fault(&rt, rt.alloc(), &mesh, 1, 1, Rule::Rows(rows)),
-        RouteFault::NotMinimal(bad)
-    );
-    let bad = row((0, 2, 0), 1, (2, 0));
-    let rows = vec![in rt.alloc(); bad]?;
-    assert_eq!(rt;
-        fault(&rt, rt.alloc(), &mesh, 1, 1, Rule::Rows(rows)),
-        RouteFault::EarlyEject(bad)
-    );
-    let bad = row((0, 0, 0), 0, (0, 0));
-    let rows = vec![in rt.alloc(); bad]?;
-    assert_eq!(rt;
-        fault(&rt, rt.alloc(), &mesh, 1, 1, Rule::Rows(rows)),
-        RouteFault::LateHop(bad)
-    );
+fn bad_rows_are_refused_by_their_fault(rt: HostRuntime) -> Result<(), Fail> {
+    let unlinked = row((0, 2, 0), 1, (1, 0));
+    let farther = row((1, 2, 0), 2, (1, 0));
+    let early = row((0, 2, 0), 1, (2, 0));
+    let late = row((0, 0, 0), 0, (0, 0));
     let good = row((0, 2, 0), 1, (0, 0));
-    let rows = vec![in rt.alloc(); good]?;
-    assert_eq!(rt;
-        fault(&rt, rt.alloc(), &mesh, 1, 1, Rule::Rows(rows)),
-        RouteFault::NoWay(entry(0, 2, 0, 2))
-    );
+    for (row, fault) in [
+        (unlinked, RouteFault::NoLink(unlinked)),
+        (farther, RouteFault::NotMinimal(farther)),
+        (early, RouteFault::EarlyEject(early)),
+        (late, RouteFault::LateHop(late)),
+        (good, RouteFault::NoWay(entry(0, 2, 0, 2))),
+    ] {
+        assert_eq!(rt; fault_of(rt.alloc(), 3, 1, &[row])?, Some(fault));
+    }
     Ok(())
 }
 
 #[test]
-fn numbers_and_shapes_that_do_not_fit_are_refused(rt: HostRuntime) {
-    let row = shape(&rt, Kind::Mesh, &[3]);
-    let ring = shape(&rt, Kind::Torus, &[3]);
-    assert_eq!(rt;
-        fault(&rt, rt.alloc(), &row, 4, 3, Rule::Dor),
-        RouteFault::WrongShape
-    );
-    assert_eq!(rt;
-        fault(&rt, rt.alloc(), &row, 9, 1, Rule::Dor),
-        RouteFault::WrongShape
-    );
-    assert_eq!(rt;
-        fault(&rt, rt.alloc(), &row, 0, 1, Rule::Dor),
-        RouteFault::WrongShape
-    );
-    assert_eq!(rt;
-        fault(&rt, rt.alloc(), &row, 1, 1, Rule::WestFirst),
-        RouteFault::WrongShape
-    );
-    assert_eq!(rt;
-        fault(&rt, rt.alloc(), &row, 2, 1, Rule::Dateline),
-        RouteFault::WrongShape
-    );
-    assert_eq!(rt;
-        fault(&rt, rt.alloc(), &ring, 3, 1, Rule::Dateline),
-        RouteFault::WrongShape
-    );
-    assert_eq!(rt;
-        fault(&rt, rt.alloc(), &row, 1, 1, Rule::Adaptive),
-        RouteFault::WrongShape
-    );
-    assert_eq!(rt;
-        fault(&rt, rt.alloc(), &row, 2, 2, Rule::Adaptive),
-        RouteFault::WrongShape
-    );
-    let circle = shape(&rt, Kind::Torus, &[4]);
-    assert_eq!(rt;
-        fault(&rt, rt.alloc(), &circle, 2, 1, Rule::Adaptive),
-        RouteFault::WrongShape
-    );
+fn numbers_and_shapes_that_do_not_fit_are_refused(rt: HostRuntime) -> Result<(), Fail> {
+    let a = rt.alloc();
+    let line = Shape::new(Kind::Mesh, &[3])?;
+    let ring = Shape::new(Kind::Torus, &[3])?;
+    let circle = Shape::new(Kind::Torus, &[4])?;
+    assert!(rt; is_wrong(a, &line, 4, 3, Rule::Dor));
+    assert!(rt; is_wrong(a, &line, 9, 1, Rule::Dor));
+    assert!(rt; is_wrong(a, &line, 0, 1, Rule::Dor));
+    assert!(rt; is_wrong(a, &line, 1, 1, Rule::WestFirst));
+    assert!(rt; is_wrong(a, &line, 2, 1, Rule::Dateline));
+    assert!(rt; is_wrong(a, &ring, 3, 1, Rule::Dateline));
+    assert!(rt; is_wrong(a, &line, 1, 1, Rule::Adaptive));
+    assert!(rt; is_wrong(a, &line, 2, 2, Rule::Adaptive));
+    assert!(rt; is_wrong(a, &circle, 2, 1, Rule::Adaptive));
+    Ok(())
 }
 
 #[test]
-fn largest_mesh_with_four_channels_and_classes(rt: HostRuntime) {
-    let mesh = shape(&rt, Kind::Mesh, &[16, 16]);
-    let relation = built(&rt, rt.alloc(), &mesh, 4, 4, Rule::Dor);
+fn largest_mesh_with_four_channels_and_classes(rt: HostRuntime) -> Result<(), Fail> {
+    let mesh = Shape::new(Kind::Mesh, &[16, 16])?;
+    let dor = Relation::build(rt.alloc(), &mesh, 4, 4, Rule::Dor)?;
     let last = Entry {
         class: 3,
         router: 0,
@@ -254,5 +206,6 @@ fn largest_mesh_with_four_channels_and_classes(rt: HostRuntime) {
         in_vc: 1,
         dst: 255,
     };
-    assert!(rt; permits(&rt, &relation, last, &[3]));
+    assert!(rt; permits(&rt, &dor, last, &[3]));
+    Ok(())
 }

@@ -2,67 +2,101 @@
 
 use noc_alloc::{Arbiter, advance_channels, advance_switch, allocate_channels, allocate_switch};
 use noc_packet::ChannelSet;
+use std::alloc::Global;
 use std::test::Fail;
 
-#[test]
-fn an_arbiter_goes_round(rt: HostRuntime) -> Result<(), Fail> {
-    let asking = ChannelSet::empty().with(0).with(2).with(4);
-    let mut arbiter = Arbiter::new(5);
-    arbiter.advance(Some(2));
-    assert_eq!(rt; arbiter.pointer(), 3);
-    assert_eq!(rt; arbiter.pick(asking), Some(4));
-    arbiter.advance(Some(4));
-    assert_eq!(rt; arbiter.pointer(), 0);
-    assert_eq!(rt; arbiter.pick(asking), Some(0));
-    assert_eq!(rt; arbiter.pick(ChannelSet::empty()), None);
-    arbiter.advance(None);
-    assert_eq!(rt; arbiter.pointer(), 0);
-    Ok(())
+// What three arbiters, or three requests, have or get.
+type Three = [Option<usize>; 3];
+
+// The pointers of the first three arbiters.
+fn pointers(arbiters: &[Arbiter]) -> Three {
+    [
+        pointer(arbiters, 0),
+        pointer(arbiters, 1),
+        pointer(arbiters, 2),
+    ]
+}
+
+// The pointer of an arbiter, if there is one.
+fn pointer(arbiters: &[Arbiter], index: usize) -> Option<usize> {
+    match arbiters.get(index) {
+        Some(arbiter) => Some(arbiter.pointer()),
+        None => None,
+    }
 }
 
 #[test]
-fn the_largest_arbiter_begins_again_at_0(rt: HostRuntime) -> Result<(), Fail> {
+fn an_arbiter_goes_round(rt: HostRuntime) {
+    let asking = ChannelSet::empty().with(0).with(2).with(4);
+    let mut arbiter = Arbiter::new(5);
+    arbiter.advance(Some(2));
+    let behind_two = (arbiter.pointer(), arbiter.pick(asking));
+    arbiter.advance(Some(4));
+    let behind_four = (arbiter.pointer(), arbiter.pick(asking));
+    arbiter.advance(None);
+    let behind_none = (arbiter.pointer(), arbiter.pick(ChannelSet::empty()));
+    assert_eq!(rt;
+        [behind_two, behind_four, behind_none],
+        [(3, Some(4)), (0, Some(0)), (0, None)]
+    );
+}
+
+#[test]
+fn the_largest_arbiter_begins_again_at_0(rt: HostRuntime) {
     let mut arbiter = Arbiter::new(56);
     arbiter.advance(Some(54));
-    assert_eq!(rt; arbiter.size(), 56);
-    assert_eq!(rt; arbiter.pointer(), 55);
-    assert_eq!(rt; arbiter.pick(ChannelSet::empty().with(0).with(54)), Some(0));
-    Ok(())
+    let pick = arbiter.pick(ChannelSet::empty().with(0).with(54));
+    assert_eq!(rt;
+        (arbiter.size(), arbiter.pointer(), pick),
+        (56, 55, Some(0))
+    );
+}
+
+// The grants of three channels in one round, and the pointers of their arbiters after it.
+fn channel_round(alloc: Global) -> Result<[Three; 2], Fail> {
+    let asks = [None, Some(1), None, Some(1), Some(0)];
+    let mut arbiters = vec![in alloc; Arbiter::new(5); 3]?;
+    let mut grants = [None; 3];
+    allocate_channels(&asks, &arbiters, &mut grants);
+    advance_channels(&grants, &mut arbiters);
+    Ok([grants, pointers(&arbiters)])
 }
 
 #[test]
 fn a_channel_that_two_ask_for_goes_round(rt: HostRuntime) -> Result<(), Fail> {
-    let asks = [None, Some(1), None, Some(1), Some(0)];
-    let mut arbiters = vec![in rt.alloc(); Arbiter::new(5); 3]?;
-    let mut grants = [None; 3];
-    allocate_channels(&asks, &arbiters, &mut grants);
-    assert_eq!(rt; grants, [Some(4), Some(1), None]);
-    advance_channels(&grants, &mut arbiters);
-    assert_eq!(rt; arbiters[0].pointer(), 0);
-    assert_eq!(rt; arbiters[1].pointer(), 2);
-    assert_eq!(rt; arbiters[2].pointer(), 0);
+    assert_eq!(rt;
+        channel_round(rt.alloc())?,
+        [[Some(4), Some(1), None], [Some(0), Some(2), Some(0)]]
+    );
     Ok(())
 }
 
-// Three ports of two virtual channels: (0, 0) and (1, 0) go to output port 2, and (0, 1) to output port 1.
-#[test]
-fn an_input_port_that_loses_the_switch_keeps_its_turn(rt: HostRuntime) -> Result<(), Fail> {
+// Three ports of two virtual channels: (0, 0) and (1, 0) go to output port 2, and (0, 1) to output port 1. The pointers of the outputs
+// before the round, the picks, the wins, and the pointers of the inputs and of the outputs after it.
+fn switch_round(alloc: Global) -> Result<[Three; 5], Fail> {
     let ready = [Some(2), Some(1), Some(2), None, None, None];
-    let mut inputs = vec![in rt.alloc(); Arbiter::new(2); 3]?;
-    let mut outputs = vec![in rt.alloc(); Arbiter::new(3); 3]?;
+    let mut outputs = vec![in alloc; Arbiter::new(3); 3]?;
     outputs[2].advance(Some(0));
-    assert_eq!(rt; outputs[2].pointer(), 1);
+    let before = pointers(&outputs);
+    let mut inputs = vec![in alloc; Arbiter::new(2); 3]?;
     let mut picks = [None; 3];
     let mut wins = [None; 3];
     allocate_switch(&ready, 2, &inputs, &outputs, &mut picks, &mut wins);
-    assert_eq!(rt; picks, [Some(0), Some(0), None]);
-    assert_eq!(rt; wins, [None, None, Some(1)]);
     advance_switch(&picks, &wins, &mut inputs, &mut outputs);
-    assert_eq!(rt; inputs[0].pointer(), 0);
-    assert_eq!(rt; inputs[1].pointer(), 1);
-    assert_eq!(rt; inputs[2].pointer(), 0);
-    assert_eq!(rt; outputs[0].pointer(), 0);
-    assert_eq!(rt; outputs[1].pointer(), 0);
-    assert_eq!(rt; outputs[2].pointer(), 2);
+    Ok([before, picks, wins, pointers(&inputs), pointers(&outputs)])
+}
+
+#[test]
+fn an_input_port_that_loses_the_switch_keeps_its_turn(rt: HostRuntime) -> Result<(), Fail> {
+    assert_eq!(rt;
+        switch_round(rt.alloc())?,
+        [
+            [Some(0), Some(0), Some(1)],
+            [Some(0), Some(0), None],
+            [None, None, Some(1)],
+            [Some(0), Some(1), Some(0)],
+            [Some(0), Some(0), Some(2)],
+        ]
+    );
     Ok(())
 }

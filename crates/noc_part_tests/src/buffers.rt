@@ -1,6 +1,5 @@
 //! Rings that wrap, banks of every size that is allowed, and banks that go to a thread and come back.
 ghost use Rattle.std.specs.Prelude.{◌≡◌, ◌<◌, length};
-ghost use Rattle.noc_ring.specs.Buffers.{buffer_at, buffers_after_push, buffers_after_pop};
 
 use noc_packet::Flit;
 use noc_ring::Bank;
@@ -17,36 +16,80 @@ fn flit(packet: u32) -> Flit {
     }
 }
 
+// Puts a flit behind the others of a ring, if there is room.
+fn put(bank: &mut Bank, ring: usize, flit: Flit) -> bool
+    requires { ring < length bank.old.rings }
+    ensures { length bank.new.rings ≡ length bank.old.rings }
+{
+    if bank.is_full(ring) {
+        return false;
+    }
+    bank.push(ring, flit);
+    true
+}
+
+// Takes the first flit of a ring, if there is one.
+fn take(bank: &mut Bank, ring: usize) -> Option<Flit>
+    requires { ring < length bank.old.rings }
+    ensures { length bank.new.rings ≡ length bank.old.rings }
+{
+    if bank.len(ring) == 0 {
+        return None;
+    }
+    Some(bank.pop(ring))
+}
+
+// What a ring shows: its first flit, how many it holds, and whether it is full.
+fn shown(bank: &Bank, ring: usize) -> (Option<Flit>, usize, bool)
+    requires { ring < length bank.now.rings }
+{
+    (bank.front(ring), bank.len(ring), bank.is_full(ring))
+}
+
+// A ring of two turns round the end of its memory: packets 1 and 2 come in, 1 goes, 3 comes in, 2 and 3 go.
 #[test]
 fn a_ring_of_two_wraps_and_leaves_its_neighbour_empty(rt: HostRuntime) -> Result<(), Fail> {
-    let (a, b, c) = (flit(1), flit(2), flit(3));
     let mut bank = Bank::new(rt.alloc(), 2, 2)?;
-    bank.push(0, a);
-    bank.push(0, b);
-    assert_eq!(rt; bank.len(1), 0);
-    assert_eq!(rt; bank.pop(0), a);
-    bank.push(0, c);
-    assert!(rt; bank.is_full(0));
-    assert_eq!(rt; bank.front(0), Some(b));
-    assert_eq!(rt; bank.len(1), 0);
-    assert_eq!(rt; bank.pop(0), b);
-    assert_eq!(rt; bank.pop(0), c);
-    assert_eq!(rt; bank.len(0), 0);
-    assert_eq!(rt; bank.front(0), None);
-    assert_eq!(rt; bank.len(1), 0);
+    let first_in = put(&mut bank, 0, flit(1));
+    let second_in = put(&mut bank, 0, flit(2));
+    let beside_two = bank.len(1);
+    let first = take(&mut bank, 0);
+    let third_in = put(&mut bank, 0, flit(3));
+    let wrapped = shown(&bank, 0);
+    let beside_wrapped = bank.len(1);
+    let second = take(&mut bank, 0);
+    let third = take(&mut bank, 0);
+    let emptied = shown(&bank, 0);
+    assert_eq!(rt; [first_in, second_in, third_in], [true; 3]);
+    assert_eq!(rt;
+        [first, second, third],
+        [Some(flit(1)), Some(flit(2)), Some(flit(3))]
+    );
+    assert_eq!(rt;
+        [wrapped, emptied],
+        [(Some(flit(2)), 2, true), (None, 0, false)]
+    );
+    assert_eq!(rt; [beside_two, beside_wrapped, bank.len(1)], [0; 3]);
     Ok(())
 }
 
 #[test]
 fn the_largest_bank_keeps_each_ring_apart(rt: HostRuntime) -> Result<(), Fail> {
     let mut bank = Bank::new(rt.alloc(), 56, 16)?;
-    bank.push(0, flit(5));
-    bank.push(55, flit(6));
-    bank.push(55, flit(7));
-    assert_eq!(rt; bank.len(0), 1);
-    assert_eq!(rt; bank.len(54), 0);
-    assert_eq!(rt; bank.front(55), Some(flit(6)));
-    assert!(rt; !bank.is_full(55));
+    let puts = [
+        put(&mut bank, 0, flit(5)),
+        put(&mut bank, 55, flit(6)),
+        put(&mut bank, 55, flit(7)),
+    ];
+    assert_eq!(rt; puts, [true; 3]);
+    assert_eq!(rt;
+        [shown(&bank, 0), shown(&bank, 54), shown(&bank, 55)],
+        [
+            (Some(flit(5)), 1, false),
+            (None, 0, false),
+            (Some(flit(6)), 2, false),
+        ]
+    );
     Ok(())
 }
 
@@ -54,56 +97,71 @@ fn the_largest_bank_keeps_each_ring_apart(rt: HostRuntime) -> Result<(), Fail> {
 #[test]
 fn a_ring_of_one_place_is_full_with_one_flit(rt: HostRuntime) -> Result<(), Fail> {
     let mut bank = Bank::new(rt.alloc(), 1, 1)?;
-    assert!(rt; !bank.is_full(0));
-    bank.push(0, flit(9));
-    assert!(rt; bank.is_full(0));
-    assert_eq!(rt; bank.pop(0), flit(9));
-    assert!(rt; !bank.is_full(0));
-    bank.push(0, flit(10));
-    assert_eq!(rt; bank.front(0), Some(flit(10)));
-    assert_eq!(rt; bank.pop(0), flit(10));
-    assert_eq!(rt; bank.front(0), None);
+    let opened = shown(&bank, 0);
+    let first_in = put(&mut bank, 0, flit(9));
+    let filled = shown(&bank, 0);
+    let first = take(&mut bank, 0);
+    let emptied = shown(&bank, 0);
+    let second_in = put(&mut bank, 0, flit(10));
+    let filled_again = shown(&bank, 0);
+    let second = take(&mut bank, 0);
+    assert_eq!(rt; [first_in, second_in], [true; 2]);
+    assert_eq!(rt; [first, second], [Some(flit(9)), Some(flit(10))]);
+    assert_eq!(rt;
+        [opened, filled, emptied, filled_again, shown(&bank, 0)],
+        [
+            (None, 0, false),
+            (Some(flit(9)), 1, true),
+            (None, 0, false),
+            (Some(flit(10)), 1, true),
+            (None, 0, false),
+        ]
+    );
     Ok(())
 }
 
 #[test]
 fn a_bank_is_dropped_with_a_flit(rt: HostRuntime) -> Result<(), Fail> {
     let mut bank = Bank::new(rt.alloc(), 1, 1)?;
-    bank.push(0, flit(11));
+    assert!(rt; put(&mut bank, 0, flit(11)));
     assert_eq!(rt; bank.front(0), Some(flit(11)));
     Ok(())
+}
+
+// Whether the last ring of 28, which is full, gives this flit and takes another one, beside a ring that holds one.
+fn turns(bank: &mut Bank, first: u32, next: u32) -> bool
+    requires { length bank.old.rings ≡ 28 }
+    ensures { length bank.new.rings ≡ 28 }
+{
+    let gone = take(bank, 27);
+    let has_room = !bank.is_full(27);
+    let is_in = put(bank, 27, flit(next));
+    gone == Some(flit(first)) && has_room && is_in && bank.len(27) == 16 && bank.len(26) == 1
 }
 
 // One growth is all that a bank takes: `rt try --test --fail-alloc 2` leaves this test as it is.
 #[test]
 fn a_full_ring_turns_a_thousand_times(rt: HostRuntime) -> Result<(), Fail> {
     let mut bank = Bank::new(rt.alloc(), 28, 16)?;
-    bank.push(26, flit(5000));
+    assert!(rt; put(&mut bank, 26, flit(5000)));
     for n in 0..16u32 {
-        assert!(rt; !bank.is_full(27));
-        bank.push(27, flit(n));
+        assert!(rt; put(&mut bank, 27, flit(n)));
     }
     assert!(rt; bank.is_full(27));
     for n in 0..1000u32 {
-        assert!(rt; bank.len(27) > 0);
-        assert_eq!(rt; bank.pop(27), flit(n));
-        assert!(rt; !bank.is_full(27));
-        bank.push(27, flit(n + 16));
-        assert_eq!(rt; bank.len(27), 16);
-        assert_eq!(rt; bank.len(26), 1);
+        assert!(rt; turns(&mut bank, n, n + 16));
     }
     assert_eq!(rt; bank.front(26), Some(flit(5000)));
     Ok(())
 }
 
+// The first flit of a bank's first ring makes way for another one.
 fn turned(mut bank: Bank, flit: Flit) -> Bank
-    requires ring { 0 < length bank.rings }
-    requires some { 0 < length (buffer_at bank 0) }
-    requires room { length (buffer_at (buffers_after_pop bank 0) 0) < bank.capacity }
-    ensures { result ≡ buffers_after_push (buffers_after_pop bank 0) 0 flit }
+    requires { 0 < length bank.rings }
+    ensures { length result.rings ≡ length bank.rings }
 {
-    let _first = bank.pop(0);
-    bank.push(0, flit);
+    let _first = take(&mut bank, 0);
+    let _is_in = put(&mut bank, 0, flit);
     bank
 }
 
@@ -111,17 +169,23 @@ fn turned(mut bank: Bank, flit: Flit) -> Bank
 fn banks_go_to_a_thread_and_come_back_with_their_flits(rt: HostRuntime) -> Result<(), Fail> {
     let mut one = Bank::new(rt.alloc(), 2, 2)?;
     let mut other = Bank::new(rt.alloc(), 1, 1)?;
-    one.push(0, flit(1));
-    one.push(0, flit(2));
-    other.push(0, flit(4));
+    let puts = [
+        put(&mut one, 0, flit(1)),
+        put(&mut one, 0, flit(2)),
+        put(&mut other, 0, flit(4)),
+    ];
+    assert_eq!(rt; puts, [true; 3]);
     let (mut one, mut other) = thread::join(
         &rt,
         move || turned(one, flit(3)),
         move || turned(other, flit(5)),
     );
-    assert_eq!(rt; one.pop(0), flit(2));
-    assert_eq!(rt; one.pop(0), flit(3));
-    assert_eq!(rt; other.pop(0), flit(5));
-    assert_eq!(rt; other.front(0), None);
+    let taken = [
+        take(&mut one, 0),
+        take(&mut one, 0),
+        take(&mut other, 0),
+        other.front(0),
+    ];
+    assert_eq!(rt; taken, [Some(flit(2)), Some(flit(3)), Some(flit(5)), None]);
     Ok(())
 }

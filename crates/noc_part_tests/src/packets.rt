@@ -2,7 +2,6 @@
 
 use noc_packet::{Beat, ChannelSet, Flit, Memory, Packet, flit_of};
 use std::alloc::AllocError;
-use std::test::Fail;
 
 const THREE_FLITS: Packet = Packet {
     source: 0,
@@ -12,65 +11,45 @@ const THREE_FLITS: Packet = Packet {
     due: 1_000_000,
 };
 
-#[test]
-fn a_packet_has_a_head_a_body_and_a_tail(rt: HostRuntime) -> Result<(), Fail> {
-    let head = flit_of(&THREE_FLITS, 19_999, 0);
-    let body = flit_of(&THREE_FLITS, 19_999, 1);
-    let tail = flit_of(&THREE_FLITS, 19_999, 2);
-    assert_eq!(rt;
-        head,
-        Flit {
-            packet: 19_999,
-            index: 0,
-            last: false,
-            dst: 255,
-            class: 3
-        }
-    );
-    assert_eq!(rt;
-        body,
-        Flit {
-            packet: 19_999,
-            index: 1,
-            last: false,
-            dst: 255,
-            class: 3
-        }
-    );
-    assert_eq!(rt;
-        tail,
-        Flit {
-            packet: 19_999,
-            index: 2,
-            last: true,
-            dst: 255,
-            class: 3
-        }
-    );
-    Ok(())
+// A flit of a packet to node 255 in class 3.
+fn flit(packet: u32, index: u8, last: bool) -> Flit {
+    Flit {
+        packet,
+        index,
+        last,
+        dst: 255,
+        class: 3,
+    }
 }
 
 #[test]
-fn the_one_flit_of_a_short_packet_is_head_and_tail(rt: HostRuntime) -> Result<(), Fail> {
+fn a_packet_has_a_head_a_body_and_a_tail(rt: HostRuntime) {
+    let flits = [
+        flit_of(&THREE_FLITS, 19_999, 0),
+        flit_of(&THREE_FLITS, 19_999, 1),
+        flit_of(&THREE_FLITS, 19_999, 2),
+    ];
+    assert_eq!(rt;
+        flits,
+        [
+            flit(19_999, 0, false),
+            flit(19_999, 1, false),
+            flit(19_999, 2, true),
+        ]
+    );
+}
+
+#[test]
+fn the_one_flit_of_a_short_packet_is_head_and_tail(rt: HostRuntime) {
     let short = Packet {
         length: 1,
         ..THREE_FLITS
     };
-    assert_eq!(rt;
-        flit_of(&short, 0, 0),
-        Flit {
-            packet: 0,
-            index: 0,
-            last: true,
-            dst: 255,
-            class: 3
-        }
-    );
-    Ok(())
+    assert_eq!(rt; flit_of(&short, 0, 0), flit(0, 0, true));
 }
 
 #[test]
-fn an_idle_beat_carries_nothing(rt: HostRuntime) -> Result<(), Fail> {
+fn an_idle_beat_carries_nothing(rt: HostRuntime) {
     assert_eq!(rt;
         Beat::idle(),
         Beat {
@@ -78,38 +57,48 @@ fn an_idle_beat_carries_nothing(rt: HostRuntime) -> Result<(), Fail> {
             credit: None
         }
     );
-    Ok(())
 }
 
 #[test]
-fn a_set_keeps_its_first_and_its_last_index(rt: HostRuntime) -> Result<(), Fail> {
-    let ends = ChannelSet::empty().with(0).with(55);
-    assert!(rt; ChannelSet::empty().is_empty());
-    assert!(rt; !ends.is_empty());
-    assert!(rt; ends.contains(0));
-    assert!(rt; ends.contains(55));
-    assert!(rt; !ends.contains(54));
-    assert_eq!(rt; ends.with(55), ends);
-    assert_eq!(rt; ends.without(0).without(55), ChannelSet::empty());
-    assert_eq!(rt; ends.without(7), ends);
-    Ok(())
+fn a_set_keeps_its_first_and_its_last_index(rt: HostRuntime) {
+    let none = ChannelSet::empty();
+    let ends = none.with(0).with(55);
+    assert_eq!(rt; [none.is_empty(), ends.is_empty()], [true, false]);
+    assert_eq!(rt;
+        [ends.contains(0), ends.contains(54), ends.contains(55)],
+        [true, false, true]
+    );
+    assert_eq!(rt;
+        [ends.with(55), ends.without(7), ends.without(0).without(55)],
+        [ends, ends, none]
+    );
 }
 
 #[test]
-fn the_least_index_of_two_sets_is_in_both(rt: HostRuntime) -> Result<(), Fail> {
+fn the_least_index_of_two_sets_is_in_both(rt: HostRuntime) {
     let low = ChannelSet::empty().with(1).with(4).with(55);
     let high = ChannelSet::empty().with(2).with(4).with(55);
-    assert_eq!(rt; low.least_common(&high), Some(4));
-    assert_eq!(rt; low.least_common(&high.without(4)), Some(55));
-    assert_eq!(rt; low.least_common(&ChannelSet::empty().with(2)), None);
-    assert_eq!(rt; low.both(high), ChannelSet::empty().with(4).with(55));
-    assert_eq!(rt; low.either(high), low.with(2));
-    assert_eq!(rt; low.least_from(2), Some(4));
-    assert_eq!(rt; low.least_from(55), Some(55));
-    assert_eq!(rt; low.without(55).least_from(5), None);
-    assert_eq!(rt; low.from(4), ChannelSet::empty().with(4).with(55));
-    assert_eq!(rt; low.from(56), ChannelSet::empty());
-    Ok(())
+    assert_eq!(rt;
+        [
+            low.least_common(&high),
+            low.least_common(&high.without(4)),
+            low.least_common(&ChannelSet::empty().with(2)),
+        ],
+        [Some(4), Some(55), None]
+    );
+    assert_eq!(rt;
+        [
+            low.least_from(2),
+            low.least_from(55),
+            low.without(55).least_from(5),
+        ],
+        [Some(4), Some(55), None]
+    );
+    let both = ChannelSet::empty().with(4).with(55);
+    assert_eq!(rt;
+        [low.both(high), low.either(high), low.from(4), low.from(56)],
+        [both, low.with(2), both, ChannelSet::empty()]
+    );
 }
 
 fn refused() -> Result<u8, AllocError> {
@@ -122,7 +111,6 @@ fn passed_on() -> Result<u8, Memory> {
 }
 
 #[test]
-fn refused_memory_is_passed_on(rt: HostRuntime) -> Result<(), Fail> {
+fn refused_memory_is_passed_on(rt: HostRuntime) {
     assert_eq!(rt; passed_on(), Err(Memory));
-    Ok(())
 }

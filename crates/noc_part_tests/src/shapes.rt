@@ -11,54 +11,77 @@ fn shape(rt: &impl Abort, kind: Kind, radix: &[usize]) -> Shape {
     }
 }
 
+// How many nodes, ports and dimensions a shape has, and the radix of its first two dimensions, 1 where there is no second one.
+fn numbers(shape: &Shape) -> [usize; 5] {
+    let second = if shape.dimensions() > 1 {
+        shape.radix(1)
+    } else {
+        1
+    };
+    [
+        shape.nodes(),
+        shape.ports(),
+        shape.dimensions(),
+        shape.radix(0),
+        second,
+    ]
+}
+
+// Where a port of a node leads, if both exist.
+fn leads(shape: &Shape, node: usize, port: usize) -> Option<(usize, usize)> {
+    if node < shape.nodes() && port < shape.ports() {
+        shape.neighbour(node, port)
+    } else {
+        None
+    }
+}
+
 #[test]
 fn torus_of_two_by_three_leads_round(rt: HostRuntime) {
     let torus = shape(&rt, Kind::Torus, &[2, 3]);
-    assert_eq!(rt; torus.nodes(), 6);
-    assert_eq!(rt; torus.dimensions(), 2);
-    assert_eq!(rt; torus.kind(), Kind::Torus);
-    assert_eq!(rt; torus.radix(0), 2);
-    assert_eq!(rt; torus.radix(1), 3);
-    assert_eq!(rt; torus.ports(), 5);
-    assert_eq!(rt; torus.neighbour(5, 0), Some((4, 1)));
-    assert_eq!(rt; torus.neighbour(5, 1), Some((4, 0)));
-    assert_eq!(rt; torus.neighbour(5, 2), Some((1, 3)));
-    assert_eq!(rt; torus.neighbour(5, 4), None);
-    assert_eq!(rt; torus.distance(0, 5), 2);
+    assert!(rt; torus.kind() == Kind::Torus);
+    assert_eq!(rt; numbers(&torus), [6, 5, 2, 2, 3]);
+    assert_eq!(rt;
+        [
+            leads(&torus, 5, 0),
+            leads(&torus, 5, 1),
+            leads(&torus, 5, 2),
+            leads(&torus, 5, 4),
+        ],
+        [Some((4, 1)), Some((4, 0)), Some((1, 3)), None]
+    );
+    assert!(rt; torus.nodes() == 6);
+    assert!(rt; torus.distance(0, 5) == 2);
 }
 
 #[test]
 fn mesh_of_four_by_three_has_borders(rt: HostRuntime) {
     let mesh = shape(&rt, Kind::Mesh, &[4, 3]);
-    assert_eq!(rt; mesh.nodes(), 12);
-    assert_eq!(rt; mesh.kind(), Kind::Mesh);
-    assert_eq!(rt; mesh.coordinates(11), [3, 2, 0]);
-    assert_eq!(rt; mesh.neighbour(3, 0), None);
-    assert_eq!(rt; mesh.neighbour(3, 2), Some((7, 3)));
-    assert_eq!(rt; mesh.distance(0, 11), 5);
+    assert!(rt; mesh.kind() == Kind::Mesh);
+    assert!(rt; mesh.nodes() == 12);
+    assert_eq!(rt;
+        [leads(&mesh, 3, 0), leads(&mesh, 3, 2)],
+        [None, Some((7, 3))]
+    );
+    assert!(rt; mesh.coordinates(11) == [3, 2, 0]);
+    assert!(rt; mesh.distance(0, 11) == 5);
 }
 
 #[test]
 fn faults_come_in_their_order(rt: HostRuntime) {
-    assert_eq!(rt;
+    let dimensions = [
         Shape::new(Kind::Mesh, &[17, 2, 2, 2]).err(),
-        Some(ShapeFault::BadDimensions)
-    );
-    assert_eq!(rt;
         Shape::new(Kind::Torus, &[]).err(),
-        Some(ShapeFault::BadDimensions)
-    );
-    assert_eq!(rt;
+    ];
+    assert_eq!(rt; dimensions, [Some(ShapeFault::BadDimensions); 2]);
+    let radices = [
         Shape::new(Kind::Mesh, &[1]).err(),
-        Some(ShapeFault::BadRadix)
-    );
-    assert_eq!(rt;
         Shape::new(Kind::Mesh, &[17]).err(),
-        Some(ShapeFault::BadRadix)
-    );
-    assert_eq!(rt;
+    ];
+    assert_eq!(rt; radices, [Some(ShapeFault::BadRadix); 2]);
+    let nodes = [
         Shape::new(Kind::Torus, &[16, 16, 2]).err(),
-        Some(ShapeFault::TooManyNodes)
-    );
-    assert!(rt; Shape::new(Kind::Mesh, &[16, 16]).is_ok());
+        Shape::new(Kind::Mesh, &[16, 16]).err(),
+    ];
+    assert_eq!(rt; nodes, [Some(ShapeFault::TooManyNodes), None]);
 }

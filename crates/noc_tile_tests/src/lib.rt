@@ -5,10 +5,10 @@
 #[cfg(test)]
 mod gates;
 #[cfg(test)]
-mod networks;
-#[cfg(test)]
-mod reports;
+mod texts;
 #[cfg(test)]
 mod threads;
 #[cfg(test)]
 mod tile;
+#[cfg(test)]
+mod workers;

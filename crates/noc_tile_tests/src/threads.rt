@@ -1,11 +1,12 @@
-// What no clause says of threads: that two of them run, that none waits for all others in a cycle, and that a flag that was raised
-// is seen.
+//! What no clause says of threads: that two of them run, that none waits for all others in a cycle, and that a flag that was raised
+//! is seen.
 
 ghost use Rattle.std.specs.Prelude.{◌<◌, ◌≤◌};
 ghost use Rattle.noc_tiles.specs.declared.limits.TheConstants.{MAX_WORKERS};
 
 use crate::gates::{Closing, HeadStart, Meeting};
-use crate::networks::{LINE_STALLS, RING_LATENCY, Reports, dateline_ring, line_of_three, run_by};
+use crate::texts::{LINE_LATENCY, LINE_STALLS, RING_LATENCY, assert_latency, assert_reports};
+use noc_fixtures::{dateline_ring, line_of_three};
 use noc_net::Network;
 use noc_tiles::{AllOpen, Gate, RunFault, Stop, run_tiles};
 use std::alloc::Global;
@@ -17,8 +18,8 @@ use std::thread::Threads;
 #[test]
 fn two_workers_meet(rt: HostRuntime) -> Result<(), Fail> {
     let a = rt.alloc();
-    let reports = run_by(&rt, a, line_of_three(a)?, 20, 2, &Meeting::new())?;
-    assert_eq!(rt; reports.stalls.as_slice(), LINE_STALLS);
+    let line = run_tiles(&rt, a, line_of_three(a)?, 20, 2, &Meeting::new())?;
+    assert_reports(&rt, line, LINE_STALLS, LINE_LATENCY);
     Ok(())
 }
 
@@ -26,8 +27,8 @@ fn two_workers_meet(rt: HostRuntime) -> Result<(), Fail> {
 #[test]
 fn tiles_run_free(rt: HostRuntime) -> Result<(), Fail> {
     let a = rt.alloc();
-    let reports = run_by(&rt, a, line_of_three(a)?, 20, 3, &HeadStart::new())?;
-    assert_eq!(rt; reports.stalls.as_slice(), LINE_STALLS);
+    let line = run_tiles(&rt, a, line_of_three(a)?, 20, 3, &HeadStart::new())?;
+    assert_reports(&rt, line, LINE_STALLS, LINE_LATENCY);
     Ok(())
 }
 
@@ -64,8 +65,8 @@ fn a_gate_that_closes(rt: HostRuntime) -> Result<(), Fail> {
         },
     )?;
     assert_eq!(rt; fault, Some(RunFault::LostWorker));
-    let reports: Reports = run_by(&rt, a, dateline_ring(a)?, 60, 2, &AllOpen)?;
-    assert_eq!(rt; reports.latency.as_slice(), RING_LATENCY);
+    let ring = run_tiles(&rt, a, dateline_ring(a)?, 60, 2, &AllOpen)?;
+    assert_latency(&rt, &ring, RING_LATENCY);
     Ok(())
 }
 

@@ -1,8 +1,8 @@
-// One tile, run alone.
+//! One tile, run alone.
 
 ghost use Rattle.std.specs.Prelude.{◌≡◌, ◌≤◌};
 
-use crate::networks::line_of_two;
+use noc_fixtures::{line_of_two, packet};
 use noc_net::{Network, Parts};
 use noc_router::Router;
 use noc_tiles::{AllOpen, Outcome, Stop, Tile, run_tile};
@@ -46,9 +46,10 @@ fn run_whole(rt: &impl Wait, alloc: Global, network: Network, cycles: u64) -> Ti
 #[test]
 fn a_tile_of_all_routers(rt: HostRuntime) -> Result<(), Fail> {
     let a = rt.alloc();
-    let tile = run_whole(&rt, a, line_of_two(a)?, 8);
-    assert_eq!(rt; tile.done, 8);
-    assert_eq!(rt; tile.outcome, Outcome::Whole);
+    let line = line_of_two(a, 2, &[packet(0, 1, 1, 0)])?;
+    let tile = run_whole(&rt, a, line, 8);
+    assert!(rt; tile.done == 8);
+    assert!(rt; tile.outcome == Outcome::Whole);
     let arrival = tile
         .routers
         .get(1)

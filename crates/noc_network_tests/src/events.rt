@@ -1,61 +1,29 @@
 //! Worked networks: parts taken and put together again, and events one by one.
 
-ghost use Rattle.std.specs.Prelude.{◌≡◌, ◌∷◌, [], IfOk, false, length};
+ghost use Rattle.std.specs.Prelude.{◌≡◌, ◌∷◌, [], IfOk, false};
 
+use noc_fixtures::{arrival, line_of_three, network};
 use noc_net::{Core, Event, Network};
-use noc_packet::Packet;
 use noc_route::{Relation, Rule};
 use noc_topo::{Kind, Shape};
 use std::alloc::Global;
-use std::process::Abort;
 use std::test::Fail;
 
-// A line of routers with one virtual channel and two places in each buffer, routed in dimension order.
-fn line(rt: &impl Abort, alloc: Global, routers: usize, packets: Vec<Packet>) -> Network
-    ensures grid { result.net.relation.grid ≡ record { wraps = false; radix = routers ∷ [] } }
-    ensures packets { result.net.packets ≡ packets.items }
-    ensures count { result.count ≡ 0 }
+// The line of three routers after four cycles, in which one packet waits for the other.
+fn waiting(alloc: Global) -> Result<Network, Fail>
+    ensures { IfOk result (λ n. n.count ≡ 4) }
 {
-    let Ok(shape) = Shape::new(Kind::Mesh, &[routers]) else {
-        panic!(rt; "no shape")
-    };
-    let Ok(relation) = Relation::build(alloc, &shape, 1, 1, Rule::Dor) else {
-        panic!(rt; "no relation")
-    };
-    match Network::new(alloc, relation, 2, packets) {
-        Ok(network) => network,
-        Err(_) => panic!(rt; "no network"),
-    }
-}
-
-// A packet of one flit that is due at once.
-fn packet(source: u32, destination: u32) -> Packet {
-    Packet {
-        source,
-        destination,
-        class: 0,
-        length: 1,
-        due: 0,
-    }
-}
-
-// Two packets on a line of three routers, of which one waits for the other: after four cycles.
-fn waiting(rt: &impl Abort, alloc: Global) -> Result<Network, Fail>
-    ensures { IfOk result (λ u. (length u.net.packets ≡ 2) × (u.count ≡ 4)) }
-{
-    let packets = Vec::from_array(alloc, [packet(0, 2), packet(1, 2)])?;
-    let mut network = line(rt, alloc, 3, packets);
-    network.run(4);
-    Ok(network)
+    let mut line = line_of_three(alloc)?;
+    line.run(4);
+    Ok(line)
 }
 
 #[test]
 fn parts_make_the_network_again(rt: HostRuntime) -> Result<(), Fail> {
-    let network = waiting(&rt, rt.alloc())?;
-    let mut network = Network::from_parts(network.into_parts());
-    network.run(16);
-    assert_eq!(rt; network.arrival(0), Some(10));
-    assert_eq!(rt; network.arrival(1), Some(5));
+    let line = waiting(rt.alloc())?;
+    let mut line = Network::from_parts(line.into_parts());
+    line.run(16);
+    assert_eq!(rt; [arrival(&line, 0), arrival(&line, 1)], [Some(10), Some(5)]);
     Ok(())
 }
 
@@ -78,28 +46,26 @@ fn backwards(core: &mut Core) {
 
 #[test]
 fn cycles_from_the_last_router_to_the_first(rt: HostRuntime) -> Result<(), Fail> {
-    let network = waiting(&rt, rt.alloc())?;
-    let mut core = Core::new(network);
+    let mut core = Core::new(waiting(rt.alloc())?);
     for _ in 0..16 {
         backwards(&mut core);
     }
-    let Ok(network) = core.finish() else {
+    let Ok(line) = core.finish() else {
         panic!(rt; "not finished")
     };
-    assert_eq!(rt; network.count(), 20);
-    assert_eq!(rt; network.packets(), 2);
-    assert_eq!(rt; arrival(&network, 0), Some(10));
-    assert_eq!(rt; arrival(&network, 1), Some(5));
+    assert!(rt; line.count() == 20);
+    assert!(rt; line.packets() == 2);
+    assert_eq!(rt; [arrival(&line, 0), arrival(&line, 1)], [Some(10), Some(5)]);
     Ok(())
 }
 
-// When a packet was out, where it exists.
-fn arrival(network: &Network, number: usize) -> Option<u64> {
-    if number < network.packets() {
-        network.arrival(number)
-    } else {
-        None
-    }
+// The core of a line of two routers without packets.
+fn two_routers(alloc: Global) -> Result<Core, Fail>
+    ensures { IfOk result (λ core. core.net.relation.grid ≡ record { wraps = false; radix = 2 ∷ [] }) }
+{
+    let shape = Shape::new(Kind::Mesh, &[2])?;
+    let relation = Relation::build(alloc, &shape, 1, 1, Rule::Dor)?;
+    Ok(Core::new(network(alloc, relation, 2, &[])?))
 }
 
 // Whether each event is ready or not, as it should be.
@@ -127,8 +93,8 @@ fn stand(core: &Core) -> [u64; 4]
 }
 
 #[test]
-fn a_router_waits_for_its_neighbour(rt: HostRuntime) {
-    let mut core = Core::new(line(&rt, rt.alloc(), 2, Vec::new(rt.alloc())));
+fn a_router_waits_for_its_neighbour(rt: HostRuntime) -> Result<(), Fail> {
+    let mut core = two_routers(rt.alloc())?;
     let first = [
         (Event::Take(0, 0), true),
         (Event::Take(0, 0), false),
@@ -155,14 +121,15 @@ fn a_router_waits_for_its_neighbour(rt: HostRuntime) {
     assert!(rt; agree(&mut core, &second));
     assert_eq!(rt; stand(&core), [1, 1, 1, 1]);
     match core.finish() {
-        Ok(network) => assert_eq!(rt; network.count(), 1),
+        Ok(line) => assert!(rt; line.count() == 1),
         Err(_) => panic!(rt; "not finished"),
     }
+    Ok(())
 }
 
 #[test]
-fn nothing_is_found_before_a_decide(rt: HostRuntime) {
-    let mut core = Core::new(line(&rt, rt.alloc(), 2, Vec::new(rt.alloc())));
+fn nothing_is_found_before_a_decide(rt: HostRuntime) -> Result<(), Fail> {
+    let mut core = two_routers(rt.alloc())?;
     assert!(rt; core.findings(0).is_empty());
     assert!(rt;
         agree(
@@ -170,5 +137,6 @@ fn nothing_is_found_before_a_decide(rt: HostRuntime) {
             &[(Event::Take(0, 0), true), (Event::Decide(0), true)]
         )
     );
-    assert_eq!(rt; core.findings(0).len(), 3);
+    assert!(rt; core.findings(0).len() == 3);
+    Ok(())
 }

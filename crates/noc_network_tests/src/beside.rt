@@ -5,13 +5,14 @@ ghost use Rattle.noc_theory.specs.declared.limits.TheConstants.{CYCLE_LIMIT as c
 ghost use Rattle.noc_topo.specs.Shape.{nodes as nodes_of, ports as ports_of};
 
 use crate::chance::Chance;
-use crate::networks::{Pair, pair_of, stuck_ring, stuck_ring_beside_another};
+use crate::mixed::{Pair, pair_of, stuck_ring, stuck_ring_beside_another};
 use noc_net::Network;
 use noc_route::{Relation, Rule};
 use noc_rows::Rows;
 use noc_topo::{Kind, Shape};
 use std::alloc::Global;
 use std::ops::Range;
+use std::process::Abort;
 use std::test::Fail;
 
 /// Whether an input port has the same counts in both.
@@ -93,6 +94,19 @@ struct Tally {
     unlike: Option<(usize, usize)>,
 }
 
+/// Networks of the shapes with these numbers, so many of each, run alike, at least `least` of them.
+fn assert_alike(
+    rt: &(impl AllocGlobal + Abort),
+    shapes: Range<usize>,
+    turns: usize,
+    least: usize,
+) -> Result<(), Fail> {
+    let tally = run_all(rt.alloc(), shapes, turns)?;
+    assert_eq!(rt; tally.unlike, None);
+    assert!(rt; tally.alike >= least);
+    Ok(())
+}
+
 /// Networks of the shapes with these numbers are run, so many of each.
 fn run_all(alloc: Global, shapes: Range<usize>, turns: usize) -> Result<Tally, Fail> {
     let mut chance = Chance::new(shapes.start);
@@ -129,86 +143,56 @@ fn run_shape(
 
 #[test]
 fn two_routers_run_in_rows_as_in_routers(rt: HostRuntime) -> Result<(), Fail> {
-    let tally = run_all(rt.alloc(), 0..2, 60)?;
-    assert_eq!(rt; tally.unlike, None);
-    assert!(rt; tally.alike >= 60);
-    Ok(())
+    assert_alike(&rt, 0..2, 60, 60)
 }
 
 #[test]
 fn a_line_and_a_ring_run_in_rows_as_in_routers(rt: HostRuntime) -> Result<(), Fail> {
-    let tally = run_all(rt.alloc(), 2..4, 60)?;
-    assert_eq!(rt; tally.unlike, None);
-    assert!(rt; tally.alike >= 60);
-    Ok(())
+    assert_alike(&rt, 2..4, 60, 60)
 }
 
 #[test]
 fn squares_of_four_run_in_rows_as_in_routers(rt: HostRuntime) -> Result<(), Fail> {
-    let tally = run_all(rt.alloc(), 4..6, 60)?;
-    assert_eq!(rt; tally.unlike, None);
-    assert!(rt; tally.alike >= 65);
-    Ok(())
+    assert_alike(&rt, 4..6, 60, 65)
 }
 
 #[test]
 fn networks_of_twelve_run_in_rows_as_in_routers(rt: HostRuntime) -> Result<(), Fail> {
-    let tally = run_all(rt.alloc(), 6..8, 25)?;
-    assert_eq!(rt; tally.unlike, None);
-    assert!(rt; tally.alike >= 26);
-    Ok(())
+    assert_alike(&rt, 6..8, 25, 26)
 }
 
 #[test]
 fn a_mesh_of_36_runs_in_rows_as_in_routers(rt: HostRuntime) -> Result<(), Fail> {
-    let tally = run_all(rt.alloc(), 8..9, 20)?;
-    assert_eq!(rt; tally.unlike, None);
-    assert!(rt; tally.alike >= 15);
-    Ok(())
+    assert_alike(&rt, 8..9, 20, 15)
 }
 
 #[test]
 fn a_torus_of_35_runs_in_rows_as_in_routers(rt: HostRuntime) -> Result<(), Fail> {
-    let tally = run_all(rt.alloc(), 9..10, 20)?;
-    assert_eq!(rt; tally.unlike, None);
-    assert!(rt; tally.alike >= 11);
-    Ok(())
+    assert_alike(&rt, 9..10, 20, 11)
 }
 
 #[test]
 fn a_cube_of_eight_runs_in_rows_as_in_routers(rt: HostRuntime) -> Result<(), Fail> {
-    let tally = run_all(rt.alloc(), 10..11, 50)?;
-    assert_eq!(rt; tally.unlike, None);
-    assert!(rt; tally.alike >= 24);
-    Ok(())
+    assert_alike(&rt, 10..11, 50, 24)
 }
 
 #[test]
 fn a_torus_of_three_dimensions_runs_in_rows_as_in_routers(rt: HostRuntime) -> Result<(), Fail> {
-    let tally = run_all(rt.alloc(), 11..12, 30)?;
-    assert_eq!(rt; tally.unlike, None);
-    assert!(rt; tally.alike >= 15);
-    Ok(())
+    assert_alike(&rt, 11..12, 30, 15)
 }
 
 #[test]
 fn a_mesh_of_18_in_three_dimensions_runs_in_rows_as_in_routers(
     rt: HostRuntime,
 ) -> Result<(), Fail> {
-    let tally = run_all(rt.alloc(), 12..13, 20)?;
-    assert_eq!(rt; tally.unlike, None);
-    assert!(rt; tally.alike >= 11);
-    Ok(())
+    assert_alike(&rt, 12..13, 20, 11)
 }
 
 #[test]
 fn a_mesh_of_12_in_three_dimensions_runs_in_rows_as_in_routers(
     rt: HostRuntime,
 ) -> Result<(), Fail> {
-    let tally = run_all(rt.alloc(), 13..14, 30)?;
-    assert_eq!(rt; tally.unlike, None);
-    assert!(rt; tally.alike >= 14);
-    Ok(())
+    assert_alike(&rt, 13..14, 30, 14)
 }
 
 #[test]

@@ -1,5 +1,5 @@
 use Rattle.std.proofs.Common.{◌≡◌}
-use Rattle.noc_network_tests.proofs.networks.agree.Given as goal
+use Rattle.noc_network_tests.proofs.events.agree.Given as goal
 
 -- the network stays
 abbrev pub invariant-loop-event : goal.invariant-loop-event

@@ -1,5 +1,5 @@
 use Rattle.std.proofs.Common.{◌≡◌}
-use Rattle.noc_tile_tests.proofs.reports.run_by_calls.Given as goal
+use Rattle.noc_tile_tests.proofs.workers.run_by_calls.Given as goal
 
 -- one cycle a call
 abbrev pub invariant-loop-call : goal.invariant-loop-call
