@@ -1,11 +1,10 @@
 -- What the lines of a trace say, beside those of the other reports.
-use Rattle.std.proofs.Common.{◌≡◌, ◌∙◌, ℕ, ◌+◌, ◌*◌, ◌<◌, true, List, [], ◌∷◌, ◌++◌, Option, Some, None, refl, ap, sym, arith, append_assoc, append-nil}
-use Rattle.std.specs.Prelude.{◌==◌, ◌&&◌, codes, count_by, decimal, nat_eq, option_and_then, slice_get, unwrap_or, if◌then◌else◌}
+use Rattle.std.proofs.Common.{◌≡◌, ◌∙◌, ℕ, ◌+◌, ◌*◌, ◌<◌, true, List, [], ◌++◌, Option, Some, None, refl, ap, sym, arith, append_assoc}
+use Rattle.std.specs.Prelude.{◌==◌, ◌&&◌, count_by, nat_eq, option_and_then, slice_get, if◌then◌else◌}
 use Rattle.std.proofs.lemmas.Bool.{and_from, and_parts, eq-eqb, eqb-true, false≢true}
-use Rattle.std.proofs.lemmas.Grind.{flat_map-append}
 use Rattle.std.proofs.lemmas.Option.{slice_get-get_or}
 use Rattle.noc_topo.proofs.WordLemmas.{get_or-tabulate, length-tabulate}
-use Rattle.noc_topo.specs.Shape.{Grid, ports}
+use Rattle.noc_topo.specs.Shape.{ports}
 use Rattle.noc_topo.specs.Words.{below, tabulate}
 use Rattle.noc_route.specs.Channel.{Channel}
 use Rattle.noc_route.specs.Routes.{Routes}
@@ -19,7 +18,7 @@ use Rattle.noc_theory.specs.Network.{Run, Setup, arriving, frozen_at, size, verd
 use Rattle.noc_files.specs.Findings.{found_line, line_if_found, out_name, verdict_text}
 use Rattle.noc_files.specs.Stalls.{channel_counts}
 use Rattle.noc_files.specs.Trace.{finds_empty, is_same, is_same_channel, is_same_number, line_if_new, permitted_text, permitted_to, said_by_both, traced_finding, told_at, told_counts, told_verdict, trace_line, traced_line, when_text, whole}
-use Rattle.noc_files.specs.Writing.{comma, text_of_pieces, line_end}
+use Rattle.noc_files.specs.Writing.{comma, line_end}
 
 -- ---- the line of a channel
 

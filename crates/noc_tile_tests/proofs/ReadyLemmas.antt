@@ -1,5 +1,5 @@
 -- A tile of all routers of a network can be run.
-use Rattle.std.proofs.Common.{◌≡◌, ℕ, ◌≤◌, List, [], map, length, get_or, ap, refl, sym, ◌∙◌, subst, arith, ⊎_elim}
+use Rattle.std.proofs.Common.{◌≡◌, ℕ, List, [], map, length, get_or, ap, refl, sym, ◌∙◌, subst, arith, ⊎_elim}
 use Rattle.noc_topo.specs.Shape.{IsGrid, nodes}
 use Rattle.noc_packet.specs.declared.packet.Beat.{Beat}
 use Rattle.noc_router.specs.View.{View}

@@ -11,7 +11,6 @@ pub mod FinishLemmas
 pub mod FlatLemmas
 pub mod GatherLemmas
 pub mod InnerLemmas
-pub mod OwnLemmas
 pub mod PartitionLemmas
 pub mod PartitionLoopLemmas
 pub mod PartsLemmas

@@ -3,7 +3,7 @@ use Rattle.std.proofs.Common.{◌≡◌, ℕ, suc, ◌+◌, ◌-◌, ◌*◌, �
 use Rattle.std.specs.Prelude.{is_some, if◌then◌else◌}
 use Rattle.std.specs.List.{flat_map}
 use Rattle.std.proofs.lemmas.Bool.{cases_lt}
-use Rattle.std.proofs.lemmas.List.{append-nil, drop-drop, get_or_append_left, get_or_push, get_or-take, length-drop, length-map, length_push, length-take-le, take_all}
+use Rattle.std.proofs.lemmas.List.{append-nil, drop-drop, get_or_append_left, get_or_push, get_or-take, length-drop, length_push, length-take-le, take_all}
 use Rattle.std.proofs.Math.Seq.{take-add}
 use Rattle.noc_topo.specs.Shape.{Grid, neighbour, nodes}
 use Rattle.noc_packet.specs.declared.packet.Beat.{Beat}

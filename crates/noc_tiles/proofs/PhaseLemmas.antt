@@ -9,7 +9,7 @@ use Rattle.noc_route.specs.Routes.{Routes}
 use Rattle.noc_router.specs.declared.verdict.Findings.{Findings}
 use Rattle.noc_router.specs.declared.verdict.Findings.TheVariants.{Record}
 use Rattle.noc_router.specs.Finish.{view_after_finish}
-use Rattle.noc_router.specs.View.{View, idle_beat}
+use Rattle.noc_router.specs.View.{View}
 use Rattle.noc_theory.specs.Halves.{beat_at, view_after_puts}
 use Rattle.noc_theory.specs.Unseen.{without_findings}
 use Rattle.noc_tiles.specs.Ends.{End}

@@ -31,7 +31,7 @@ use Rattle.noc_theory.proofs.verdicts.AfterHolderLemmas.{unowned-verdict}
 use Rattle.noc_theory.proofs.verdicts.AfterLemmas.{owned-kept}
 use Rattle.noc_theory.proofs.join.OrderedLemmas.{IsGood, IsOrdered, IsOrderedFrozen}
 use Rattle.noc_theory.proofs.join.OrderedStateLemmas.{ordered-frozen}
-use Rattle.noc_theory.proofs.join.PlaceViewLemmas.{IsAt, IsFrom, arriving-at, input-at, leaving-from, eject-from, link-from, mod-below, OutputCase, ejects, links, output-case}
+use Rattle.noc_theory.proofs.join.PlaceViewLemmas.{IsAt, IsFrom, input-at, eject-from, link-from, mod-below}
 use Rattle.noc_theory.proofs.injection.SourceLemmas.{same-owner, next-owner, at-router, source-is, not-end}
 
 -- equal where each follows from the other

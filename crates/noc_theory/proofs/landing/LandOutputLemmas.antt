@@ -3,7 +3,6 @@ use Rattle.std.proofs.Common.{◌≡◌, ◌≢◌, ℕ, zero, suc, ◌+◌, ◌
 use Rattle.std.specs.Prelude.{◌⊎◌, ◌&&◌, ◌||◌}
 use Rattle.std.proofs.lemmas.Bool.{false≢true, true≢false, lt-ltb, ltb-true, le-ltb, le-leb, ne_eqb, eq-eqb, or_left, or_right}
 use Rattle.noc_topo.specs.Words.{Has}
-use Rattle.noc_topo.specs.Shape.{nodes}
 use Rattle.noc_route.specs.Channel.{Channel, Link, Inject, Eject, same_channel, is_link}
 use Rattle.noc_vc.specs.Output.{Output, output_after_credit, credit_fits, holder_at}
 use Rattle.noc_vc.specs.declared.output.OutputState.{OutputState}

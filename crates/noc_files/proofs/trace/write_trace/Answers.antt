@@ -1,4 +1,4 @@
-use Rattle.std.proofs.Common.{◌≡◌, ◌++◌, ◌+◌, ◌-◌, ℕ, List, ap, arith, flat_map, subst}
+use Rattle.std.proofs.Common.{◌≡◌, ◌++◌, ◌+◌, ◌-◌, ℕ, List, arith, flat_map, subst}
 use Rattle.noc_topo.specs.Words.{below}
 use Rattle.noc_files.specs.Trace.{cycle_text, trace_header}
 use Rattle.noc_files.specs.Writing.{Wrote}

@@ -1,4 +1,4 @@
-use Rattle.std.proofs.Common.{◌≡◌, ◌+◌, ◌^◌, ◌<◌, Bor, List, ℕ, [], take, drop, flat_map, get_or, length, arith, ap}
+use Rattle.std.proofs.Common.{◌≡◌, ◌+◌, ◌^◌, ◌<◌, Bor, List, ℕ, [], take, drop, flat_map, get_or, length, arith}
 use Rattle.noc_files.proofs.SinkLemmas.{fault_within, pieces_split, piece_fits}
 use Rattle.noc_files.proofs.writing.write_pieces.Goals as goal
 

@@ -1,4 +1,4 @@
-use Rattle.std.proofs.Common.{◌≡◌, ℕ, ◌-◌, ◌*◌, length, refl, ap, sym, ◌∙◌, arith}
+use Rattle.std.proofs.Common.{◌≡◌, ℕ, ◌-◌, ◌*◌, length, refl, ap, sym, ◌∙◌}
 use Rattle.noc_topo.proofs.WordLemmas.{length-map_indexed}
 use Rattle.noc_route.specs.Routes.{Routes}
 use Rattle.noc_router.specs.Inside.{view_of}

@@ -1,4 +1,4 @@
-use Rattle.std.proofs.Common.{◌≡◌, ◌+◌, ◌<◌, ◌≤◌, List, ℕ, [], length, get_or, sum, take, refl, ap, sym, ◌∙◌, arith}
+use Rattle.std.proofs.Common.{◌≡◌, ◌+◌, ◌<◌, ◌≤◌, List, ℕ, [], length, get_or, sum, refl, ap, sym, ◌∙◌, arith}
 use Rattle.std.proofs.lemmas.List.{get_or-map, length-map, length-set}
 use Rattle.noc_router.specs.Tally.{AreCounted, TallyContents, counts_in}
 use Rattle.noc_router.proofs.CountLemmas.{nine-placed, sum-least, sum-next, sum-whole, ten-made}
